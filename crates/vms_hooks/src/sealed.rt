@@ -1,0 +1,22 @@
+// Keeps the steps of other crates out.
+use crate::fault::HookFault;
+use crate::pass::Pass;
+use vms_kinds::DevCells;
+
+/// What can be called to save a device.
+pub trait CallsToSave<D> {
+    fn is_called(&self);
+}
+
+impl<D, F: Fn(&Pass, &D) -> DevCells> CallsToSave<D> for F {
+    fn is_called(&self) {}
+}
+
+/// What can be called to load a device.
+pub trait CallsToLoad<D> {
+    fn is_called(&self);
+}
+
+impl<D, F: Fn(&Pass, &DevCells) -> Result<D, HookFault>> CallsToLoad<D> for F {
+    fn is_called(&self) {}
+}

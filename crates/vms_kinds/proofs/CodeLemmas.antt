@@ -1,0 +1,209 @@
+-- The bytes of a number and back, kind by kind.
+use Rattle.std.proofs.Common.{◌≡◌, ℕ, ◌^◌, ◌<◌, List, [], ◌∷◌, length, ℤ, pos, negsuc, get_or, slice_index, arith, refl, ap, ◌∙◌, sym, subst, Bool as Truth, if◌then◌else◌, true, false, ◌++◌, drop}
+use Rattle.std.specs.Int.{w64, w128}
+use Rattle.std.proofs.lemmas.Nat.{be_bytes_2, be_bytes_4, be_bytes_8}
+use Rattle.std.proofs.lemmas.Int.{ints, to_z-of_z}
+use mir.Val.{SFits, to_z, of_z}
+use lib.IntN.{nat_abs}
+use Rattle.byteorder.specs.Endian.{big_bytes, big_number, low_bytes, twos_complement}
+use Rattle.vms_kinds.specs.declared.Kind.{Kind}
+use Rattle.vms_kinds.specs.declared.Kind.TheVariants.{U8, U16, U32, U64, I8, I16, I32, I64, Bool, Timer}
+use Rattle.vms_kinds.specs.Codes.{width, residue, code, InRange, IsBadBool, is_signed, value_of}
+
+abbrev pub IsBytes : List ℕ → Type 0
+IsBytes bs = (i : ℕ) → get_or bs i 0 < 256
+
+again_1 : (bs : List ℕ) → length bs ≡ 1 → IsBytes bs → big_bytes 1 (big_number 1 bs) ≡ bs
+again_1 [] len ok = absurd (omega arith)
+again_1 (b ∷ []) len ok = ap (λ n. n ∷ []) (omega (arith, ok 0))
+again_1 (b ∷ d ∷ r) len ok = absurd (omega arith)
+
+again_2 : (bs : List ℕ) → length bs ≡ 2 → IsBytes bs → big_bytes 2 (big_number 2 bs) ≡ bs
+again_2 bs len ok = be_bytes_2 bs (big_number 2 bs) len ok (omega arith)
+
+again_4 : (bs : List ℕ) → length bs ≡ 4 → IsBytes bs → big_bytes 4 (big_number 4 bs) ≡ bs
+again_4 bs len ok = be_bytes_4 bs (big_number 4 bs) len ok (omega arith)
+
+again_8 : (bs : List ℕ) → length bs ≡ 8 → IsBytes bs → big_bytes 8 (big_number 8 bs) ≡ bs
+again_8 bs len ok = be_bytes_8 bs (big_number 8 bs) len ok (omega arith)
+
+-- the bytes of a width are those of the number in them
+pub again : (kind : Kind) (bs : List ℕ) → length bs ≡ width kind → IsBytes bs → big_bytes (width kind) (big_number (width kind) bs) ≡ bs
+again U8 bs len ok = again_1 bs len ok
+again U16 bs len ok = again_2 bs len ok
+again U32 bs len ok = again_4 bs len ok
+again U64 bs len ok = again_8 bs len ok
+again I8 bs len ok = again_1 bs len ok
+again I16 bs len ok = again_2 bs len ok
+again I32 bs len ok = again_4 bs len ok
+again I64 bs len ok = again_8 bs len ok
+again Bool bs len ok = again_1 bs len ok
+again Timer bs len ok = again_8 bs len ok
+
+low_8 : (z : ℤ) → InRange I8 z → low_bytes w64 1 z ≡ residue 1 z
+low_8 (pos n) h = omega (arith, ints)
+low_8 (negsuc n) h = omega (arith, ints)
+
+low_16 : (z : ℤ) → InRange I16 z → low_bytes w64 2 z ≡ residue 2 z
+low_16 (pos n) h = omega (arith, ints)
+low_16 (negsuc n) h = omega (arith, ints)
+
+low_32 : (z : ℤ) → InRange I32 z → low_bytes w64 4 z ≡ residue 4 z
+low_32 (pos n) h = omega (arith, ints)
+low_32 (negsuc n) h = omega (arith, ints)
+
+low_64 : (z : ℤ) → InRange I64 z → low_bytes w64 8 z ≡ residue 8 z
+low_64 (pos n) h = omega (arith, ints)
+low_64 (negsuc n) h = omega (arith, ints)
+
+two_8 : (n : ℕ) → n < 2 ^ 8 → residue 1 (twos_complement 1 n) ≡ n
+two_8 n h = grind (arith, ints)
+
+two_16 : (n : ℕ) → n < 2 ^ 16 → residue 2 (twos_complement 2 n) ≡ n
+two_16 n h = grind (arith, ints)
+
+two_32 : (n : ℕ) → n < 2 ^ 32 → residue 4 (twos_complement 4 n) ≡ n
+two_32 n h = grind (arith, ints)
+
+two_64 : (n : ℕ) → n < 2 ^ 64 → residue 8 (twos_complement 8 n) ≡ n
+two_64 n h = grind (arith, ints)
+
+range_8 : (n : ℕ) → n < 2 ^ 8 → InRange I8 (twos_complement 1 n)
+range_8 n h = grind (arith, ints)
+
+range_16 : (n : ℕ) → n < 2 ^ 16 → InRange I16 (twos_complement 2 n)
+range_16 n h = grind (arith, ints)
+
+range_32 : (n : ℕ) → n < 2 ^ 32 → InRange I32 (twos_complement 4 n)
+range_32 n h = grind (arith, ints)
+
+range_64 : (n : ℕ) → n < 2 ^ 64 → InRange I64 (twos_complement 8 n)
+range_64 n h = grind (arith, ints)
+
+below_1 : (bs : List ℕ) → IsBytes bs → big_number 1 bs < 2 ^ 8
+below_1 bs ok = omega (arith, ok 0)
+
+below_2 : (bs : List ℕ) → IsBytes bs → big_number 2 bs < 2 ^ 16
+below_2 bs ok = omega (arith, ok 0, ok 1)
+
+below_4 : (bs : List ℕ) → IsBytes bs → big_number 4 bs < 2 ^ 32
+below_4 bs ok = omega (arith, ok 0, ok 1, ok 2, ok 3)
+
+below_8 : (bs : List ℕ) → IsBytes bs → big_number 8 bs < 2 ^ 64
+below_8 bs ok = omega (arith, ok 0, ok 1, ok 2, ok 3, ok 4, ok 5, ok 6, ok 7)
+
+-- a signed number's bytes
+pub signed_code : (kind : Kind) (z : ℤ) → is_signed kind ≡ true → InRange kind z → big_bytes (width kind) (low_bytes w64 (width kind) z) ≡ code kind z
+unfolding code
+signed_code I8 z s h = ap (big_bytes 1) (low_8 z h)
+signed_code I16 z s h = ap (big_bytes 2) (low_16 z h)
+signed_code I32 z s h = ap (big_bytes 4) (low_32 z h)
+signed_code I64 z s h = ap (big_bytes 8) (low_64 z h)
+signed_code U8 z s h = cc
+signed_code U16 z s h = cc
+signed_code U32 z s h = cc
+signed_code U64 z s h = cc
+signed_code Bool z s h = cc
+signed_code Timer z s h = cc
+
+-- another number's bytes
+pub plain_code : (kind : Kind) (n : ℕ) → is_signed kind ≡ false → InRange kind (pos n) → big_bytes (width kind) n ≡ code kind (pos n)
+unfolding code
+plain_code U8 n s h = ap (big_bytes 1) (omega (arith, ints))
+plain_code U16 n s h = ap (big_bytes 2) (omega (arith, ints))
+plain_code U32 n s h = ap (big_bytes 4) (omega (arith, ints))
+plain_code U64 n s h = ap (big_bytes 8) (omega (arith, ints))
+plain_code Bool n s h = ap (big_bytes 1) (omega (arith, ints))
+plain_code Timer n s h = ap (big_bytes 8) (omega (arith, ints))
+plain_code I8 z s h = cc
+plain_code I16 z s h = cc
+plain_code I32 z s h = cc
+plain_code I64 z s h = cc
+
+-- what the bytes of a signed number give
+pub signed_take : (kind : Kind) (bs : List ℕ) → is_signed kind ≡ true → length bs ≡ width kind → IsBytes bs
+    → InRange kind (twos_complement (width kind) (big_number (width kind) bs)) × (bs ≡ code kind (twos_complement (width kind) (big_number (width kind) bs)))
+unfolding code
+signed_take I8 bs s len ok = (range_8 _ (below_1 bs ok), sym (ap (big_bytes 1) (two_8 _ (below_1 bs ok)) ∙ again_1 bs len ok))
+signed_take I16 bs s len ok = (range_16 _ (below_2 bs ok), sym (ap (big_bytes 2) (two_16 _ (below_2 bs ok)) ∙ again_2 bs len ok))
+signed_take I32 bs s len ok = (range_32 _ (below_4 bs ok), sym (ap (big_bytes 4) (two_32 _ (below_4 bs ok)) ∙ again_4 bs len ok))
+signed_take I64 bs s len ok = (range_64 _ (below_8 bs ok), sym (ap (big_bytes 8) (two_64 _ (below_8 bs ok)) ∙ again_8 bs len ok))
+signed_take U8 z s len ok = cc
+signed_take U16 z s len ok = cc
+signed_take U32 z s len ok = cc
+signed_take U64 z s len ok = cc
+signed_take Bool z s len ok = cc
+signed_take Timer z s len ok = cc
+
+-- what the bytes of another number give
+pub plain_take : (kind : Kind) (bs : List ℕ) → is_signed kind ≡ false → length bs ≡ width kind → IsBytes bs → (IsBadBool kind bs → ⊥)
+    → InRange kind (pos (big_number (width kind) bs)) × (bs ≡ code kind (pos (big_number (width kind) bs)))
+plain_take kind bs s len ok bad = let r = in_range kind bs s ok bad in (r, sym (sym (plain_code kind _ s r) ∙ again kind bs len ok)) where
+  in_range : (kind : Kind) (bs : List ℕ) → is_signed kind ≡ false → IsBytes bs → (IsBadBool kind bs → ⊥) → InRange kind (pos (big_number (width kind) bs))
+  in_range U8 bs s ok bad = let h = below_1 bs ok in omega (arith, ints)
+  in_range U16 bs s ok bad = let h = below_2 bs ok in omega (arith, ints)
+  in_range U32 bs s ok bad = let h = below_4 bs ok in omega (arith, ints)
+  in_range U64 bs s ok bad = let h = below_8 bs ok in omega (arith, ints)
+  in_range Timer bs s ok bad = let h = below_8 bs ok in omega (arith, ints)
+  in_range Bool bs s ok bad = let no : 1 < slice_index bs 0 → ⊥ = λ x. bad (refl, x) in omega (arith, ints)
+  in_range I8 bs s ok bad = cc
+  in_range I16 bs s ok bad = cc
+  in_range I32 bs s ok bad = cc
+  in_range I64 bs s ok bad = cc
+
+fits_64 : (kind : Kind) (z : ℤ) → is_signed kind ≡ true → InRange kind z → SFits w64 z
+fits_64 I8 z s h = omega (arith, ints)
+fits_64 I16 z s h = omega (arith, ints)
+fits_64 I32 z s h = omega (arith, ints)
+fits_64 I64 z s h = omega (arith, ints)
+fits_64 U8 z s h = cc
+fits_64 U16 z s h = cc
+fits_64 U32 z s h = cc
+fits_64 U64 z s h = cc
+fits_64 Bool z s h = cc
+fits_64 Timer z s h = cc
+
+-- what a write of a signed number leaves
+pub written_signed : (kind : Kind) (z : ℤ) (w : ℕ) (old new : List ℕ) → w ≡ width kind → is_signed kind ≡ true → InRange kind z → SFits w128 z
+    → new ≡ big_bytes w (low_bytes w64 w (to_z w64 (of_z w64 (to_z w128 (of_z w128 z))))) ++ drop w old
+    → new ≡ code kind z ++ drop (width kind) old
+written_signed kind z w old new ew s h f e =
+    let g : SFits w64 z = fits_64 kind z s h in
+    e ∙ ap (λ (v : ℤ). big_bytes w (low_bytes w64 w (to_z w64 (of_z w64 v))) ++ drop w old) (to_z-of_z w128 z f)
+    ∙ ap (λ (v : ℤ). big_bytes w (low_bytes w64 w v) ++ drop w old) (to_z-of_z w64 z g)
+    ∙ ap (λ (v : ℕ). big_bytes v (low_bytes w64 v z) ++ drop v old) ew
+    ∙ ap (λ (v : List ℕ). v ++ drop (width kind) old) (signed_code kind z s h)
+
+not_negative : (kind : Kind) (n : ℕ) → is_signed kind ≡ false → InRange kind (negsuc n) → ⊥
+not_negative U8 n s h = omega (arith, ints)
+not_negative U16 n s h = omega (arith, ints)
+not_negative U32 n s h = omega (arith, ints)
+not_negative U64 n s h = omega (arith, ints)
+not_negative Bool n s h = omega (arith, ints)
+not_negative Timer n s h = omega (arith, ints)
+not_negative I8 n s h = cc
+not_negative I16 n s h = cc
+not_negative I32 n s h = cc
+not_negative I64 n s h = cc
+
+-- what a write of another number leaves
+pub written_plain : (kind : Kind) (z : ℤ) (w : ℕ) (old new : List ℕ) → w ≡ width kind → is_signed kind ≡ false → InRange kind z → SFits w128 z
+    → new ≡ big_bytes w (nat_abs (to_z w128 (of_z w128 z))) ++ drop w old
+    → new ≡ code kind z ++ drop (width kind) old
+written_plain kind (pos n) w old new ew s h f e =
+    e ∙ ap (λ (v : ℤ). big_bytes w (nat_abs v) ++ drop w old) (to_z-of_z w128 (pos n) f)
+    ∙ ap (λ (v : ℕ). big_bytes v n ++ drop v old) ew
+    ∙ ap (λ (v : List ℕ). v ++ drop (width kind) old) (plain_code kind n s h)
+written_plain kind (negsuc n) w old new ew s h f e = absurd (not_negative kind n s h)
+
+-- what a reading gives, at the number that stands for it
+pub taken : (kind : Kind) (bs : List ℕ) (y z : ℤ) → z ≡ y → InRange kind y × (bs ≡ code kind y) → InRange kind z × (bs ≡ code kind z)
+taken kind bs y z e h = let P : ℤ → Type 0 = λ v. InRange kind v × (bs ≡ code kind v) in subst P (sym e) h
+
+pub signed_value : (kind : Kind) (bs : List ℕ) (w : ℕ) (z : ℤ) → w ≡ width kind → is_signed kind ≡ true → z ≡ twos_complement w (big_number w bs) → z ≡ value_of kind bs
+signed_value kind bs w z ew s e =
+    e ∙ ap (λ (k : ℕ). twos_complement k (big_number k bs)) ew ∙ ap (λ (b : Truth). if b then twos_complement (width kind) (big_number (width kind) bs) else pos (big_number (width kind) bs)) (sym s)
+
+pub plain_value : (kind : Kind) (bs : List ℕ) (w : ℕ) (z : ℤ) → w ≡ width kind → is_signed kind ≡ false → z ≡ pos (big_number w bs) → z ≡ value_of kind bs
+plain_value kind bs w z ew s e =
+    e ∙ ap (λ (k : ℕ). pos (big_number k bs)) ew ∙ ap (λ (b : Truth). if b then twos_complement (width kind) (big_number (width kind) bs) else pos (big_number (width kind) bs)) (sym s)

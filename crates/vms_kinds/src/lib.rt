@@ -1,0 +1,157 @@
+//! The kinds of number that stand in a device section, and their bytes.
+//!
+//! The names follow VMState's number fields: each kind has a width in bytes, a range, and one code, its
+//! two's complement with the highest byte first.
+#![tactic(auto)]
+
+ghost use Rattle.std.specs.Prelude.{◌++◌, drop, ◌≡◌, ◌<◌, ◌≤◌, ◌↔◌, ◌*◌, ◌^◌, length, IsTrue, IfSome, IsNone};
+ghost use Rattle.vms_kinds.specs.Codes.{width, lowest, highest, InRange, is_signed, code, value_of, IsBadBool};
+
+use arrayvec::ArrayVec;
+use byteorder::{BigEndian, ByteOrder};
+
+/// The kind of one number, as VMState's `VMSTATE_UINT8` to `VMSTATE_INT64`, `VMSTATE_BOOL` and
+/// `VMSTATE_TIMER`.
+#[derive(Clone, Copy, Debug, PartialEq, Eq)]
+pub enum Kind {
+    U8,
+    U16,
+    U32,
+    U64,
+    I8,
+    I16,
+    I32,
+    I64,
+    /// One byte, 0 or 1; no other byte is read.
+    Bool,
+    /// A moment in nanoseconds, 8 bytes; 2^64 - 1 where the timer isn't pending.
+    Timer,
+}
+
+/// What one field of a description puts into a section.
+#[derive(Clone, Copy, Debug, PartialEq, Eq)]
+pub enum Item {
+    /// A number, held in one cell.
+    Num(Kind),
+    /// A number that must be `value`, as `VMSTATE_UINT8_EQUAL`; it has no cell.
+    Equal { kind: Kind, value: i128 },
+    /// Bytes that are written as zeros and skipped, as `VMSTATE_UNUSED`; they have no cell.
+    Unused { bytes: u16 },
+    /// The structure of this number in the set.
+    Struct(u32),
+}
+
+/// The numbers of one device's state, in the order of its description, at most 64.
+pub type DevCells = ArrayVec<i128, 64>;
+
+impl Kind {
+    /// The number of bytes, 1, 2, 4 or 8.
+    pub fn width(self) -> usize
+        ensures { result ≡ width self }
+    {
+        match self {
+            Kind::U8 | Kind::I8 | Kind::Bool => 1,
+            Kind::U16 | Kind::I16 => 2,
+            Kind::U32 | Kind::I32 => 4,
+            Kind::U64 | Kind::I64 | Kind::Timer => 8,
+        }
+    }
+
+    // The least number of this kind.
+    fn lowest(self) -> i128
+        ensures { result ≡ lowest self }
+    {
+        match self {
+            Kind::I8 => i8::MIN as i128,
+            Kind::I16 => i16::MIN as i128,
+            Kind::I32 => i32::MIN as i128,
+            Kind::I64 => i64::MIN as i128,
+            _ => 0,
+        }
+    }
+
+    // The greatest number of this kind.
+    fn highest(self) -> i128
+        ensures { result ≡ highest self }
+    {
+        match self {
+            Kind::U8 => u8::MAX as i128,
+            Kind::U16 => u16::MAX as i128,
+            Kind::U32 => u32::MAX as i128,
+            Kind::U64 | Kind::Timer => u64::MAX as i128,
+            Kind::I8 => i8::MAX as i128,
+            Kind::I16 => i16::MAX as i128,
+            Kind::I32 => i32::MAX as i128,
+            Kind::I64 => i64::MAX as i128,
+            Kind::Bool => 1,
+        }
+    }
+
+    /// Tells whether the kind holds this number.
+    pub fn in_range(self, value: i128) -> bool
+        ensures { IsTrue result ↔ InRange self value }
+    {
+        self.lowest() <= value && value <= self.highest()
+    }
+
+    /// The code of a number in range: its bytes, the highest first.
+    pub fn put(self, value: i128) -> ArrayVec<u8, 8>
+        requires { InRange self value }
+        ensures { result.items ≡ code self value }
+    {
+        let width = self.width();
+        let mut bytes = [0; 8];
+        self.write(value, &mut bytes);
+        let mut out = ArrayVec::new();
+        let _fits = out.try_extend_from_slice(&bytes[..width]);
+        out
+    }
+
+    // Tells whether the kind has negative numbers.
+    fn is_signed(self) -> bool
+        ensures { result ≡ is_signed self }
+    {
+        matches!(self, Kind::I8 | Kind::I16 | Kind::I32 | Kind::I64)
+    }
+
+    // Puts the code into the front of `bytes`.
+    fn write(self, value: i128, bytes: &mut [u8])
+        requires range { InRange self value }
+        requires room { 8 ≤ length bytes.old }
+        ensures { bytes.new ≡ code self value ++ drop (width self) bytes.old }
+    {
+        let width = self.width();
+        if self.is_signed() {
+            BigEndian::write_int(bytes, value as i64, width);
+        } else {
+            BigEndian::write_uint(bytes, value as u64, width);
+        }
+    }
+
+    // Tells whether this byte is no truth value.
+    fn is_bad_bool(self, byte: u8) -> bool
+        ensures { IsTrue result ↔ ((self ≡ Kind.Bool) × (1 < byte)) }
+    {
+        self == Kind::Bool && byte > 1
+    }
+
+    /// The number whose code the bytes are, or `None` exactly for a `Bool` byte above 1.
+    pub fn take(self, bytes: &[u8]) -> Option<i128>
+        requires { length bytes.now ≡ width self }
+        ensures some { IfSome result (λ value. InRange self value × (bytes.now ≡ code self value)) }
+        ensures value { IfSome result (λ value. value ≡ value_of self bytes.now) }
+        ensures none { IsNone result ↔ IsBadBool self bytes.now }
+    {
+        let width = self.width();
+        if self.is_signed() {
+            return Some(BigEndian::read_int(bytes, width) as i128);
+        }
+        if self.is_bad_bool(bytes[0]) {
+            return None;
+        }
+        Some(BigEndian::read_uint(bytes, width) as i128)
+    }
+}
+
+#[cfg(test)]
+mod tests;
