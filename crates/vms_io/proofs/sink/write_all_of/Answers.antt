@@ -1,0 +1,12 @@
+use Rattle.std.proofs.Common.{rules, arith, ◌∙◌}
+use Rattle.std.proofs.lemmas.List.{take_rest}
+use Rattle.vms_io.proofs.Filling.{written_more}
+use Rattle.vms_io.proofs.sink.write_all_of.Goals as goal
+
+pub loop-done-preserved : goal.loop-done-preserved
+loop-done-preserved g c = record {
+  within = search rules;
+  bytes = written_more _ _ _ c.loop-done.done c.in_ok-done.field-0 c.args.piece.now c.loop-done.invariant.bytes (rw (take_rest c.args.piece.now c.loop-done.done) at c.in_ok-done.ensures.bytes);
+  later = omega (arith, c.in_ok-done.ensures.cause);
+  promise = c.in_ok-done.ensures.promise ∙ c.loop-done.invariant.promise;
+}

@@ -1,0 +1,28 @@
+-- A shelf in memory: its entries, the numbers of the calls that fail, the calls so far and the faults.
+use Rattle.std.specs.Prelude.{ℕ, List, Option}
+use Rattle.std.specs.Option.{option_map}
+use Rattle.std.specs.Ordering.{nat_cmp}
+use Rattle.std.specs.Cmp.Lexicographic.{slice_cmp}
+use Rattle.std.specs.String.{string_bytes}
+use Rattle.std.specs.BTreeMap.{is_at}
+use Rattle.std.specs.Map.{lookup}
+use Rattle.std.specs.declared.string.String.{String}
+use Rattle.std.specs.declared.vec.Vec.{Vec}
+use Rattle.std.specs.declared.alloc.Global.{Global}
+use Rattle.vms_io.specs.declared.memory.shelf.MemShelf.{MemShelf}
+
+abbrev pub Entries : Type 0
+Entries = List (String Global × Vec ℕ Global)
+
+pub record Cabinet : Type 0 where
+  pub entries : Entries
+  pub failing : List ℕ
+  pub calls : ℕ
+  pub faults : ℕ
+
+abbrev pub cabinet : MemShelf → Cabinet
+cabinet s = record { entries = s.entries.entries; failing = s.failing.items; calls = s.calls; faults = s.faults }
+
+-- what is held under a name
+abbrev pub held_in : Entries → List ℕ → Option (List ℕ)
+held_in entries name = option_map (λ bytes. bytes.items) (lookup (is_at (λ k. slice_cmp nat_cmp name (string_bytes k))) entries)

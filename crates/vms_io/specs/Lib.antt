@@ -1,0 +1,5 @@
+pub mod Cabinets
+pub mod Causes
+pub mod Memory
+pub mod Shelves
+pub mod Supplies

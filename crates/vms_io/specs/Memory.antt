@@ -1,0 +1,57 @@
+-- What the objects in memory hold, and what they promise.
+use Rattle.std.specs.Prelude.{◌≡◌, ℕ, ◌+◌, ◌<◌, ◌⊎◌, min, max, List, [], ◌∷◌, length, drop, slice_get, Bool, true, false, Option, Some, None, unwrap_or, Contains, IsTrue, refl}
+use Rattle.std.proofs.Common.{subst, sym}
+use Rattle.std.proofs.lemmas.List.{get_or-drop}
+use Rattle.vms_io.specs.Causes.{KeepsPromise, IsBytes, capped}
+
+-- a source in memory: the bytes left, the greatest piece of each read, the numbers of the reads that fail, the
+-- reads so far, the bytes given and the faults
+pub record Supply : Type 0 where
+  pub left : List ℕ
+  pub pieces : List ℕ
+  pub failing : List ℕ
+  pub calls : ℕ
+  pub given : ℕ
+  pub faults : ℕ
+
+-- a sink in memory: the bytes written, the room for them, the numbers of the writes that fail, the writes so far
+-- and the faults
+pub record Store : Type 0 where
+  pub bytes : List ℕ
+  pub room : ℕ
+  pub failing : List ℕ
+  pub calls : ℕ
+  pub faults : ℕ
+
+-- the greatest piece of the read after so many: 0 counts as 1, and reads past the list aren't cut
+abbrev pub piece_of : List ℕ → ℕ → ℕ
+piece_of pieces calls = max (unwrap_or (slice_get pieces calls) 0xffff_ffff_ffff_ffff) 1
+
+-- how many bytes a read into so much room takes
+abbrev pub taken_of : Supply → ℕ → ℕ
+taken_of s room = min (min (piece_of s.pieces s.calls) room) (length s.left)
+
+-- a write of a piece of this length fails
+abbrev pub WriteFails : Store → ℕ → Type 0
+WriteFails s long = Contains s.failing (capped (s.calls + 1)) ⊎ ((s.room ≡ length s.bytes) × (0 < long))
+
+abbrev pub is_empty : List ℕ → Bool
+is_empty [] = true
+is_empty (x ∷ xs) = false
+
+pub empty_is : (xs : List ℕ) → IsTrue (is_empty xs) → xs ≡ []
+empty_is [] h = refl
+empty_is (x ∷ xs) h = cc
+
+-- what is left of bytes are bytes
+pub bytes_left : (bytes : List ℕ) (at : ℕ) → IsBytes bytes → IsBytes (drop at bytes)
+bytes_left bytes at h i = subst (λ (n : ℕ). n < 256) (sym (get_or-drop at bytes i 0)) (h (at + i))
+
+-- the room, where no call is to fail
+abbrev pub promise_of : List ℕ → ℕ → Option ℕ
+promise_of [] room = Some room
+promise_of (x ∷ xs) room = None
+
+pub promise_kept : (failing : List ℕ) (room : ℕ) (bytes : List ℕ) (faults : ℕ) → (failing ≡ [] → length bytes < room → faults ≡ 0) → KeepsPromise (promise_of failing room) (Some bytes) faults
+promise_kept [] room bytes faults h = h refl
+promise_kept (x ∷ xs) room bytes faults h = tt

@@ -1,0 +1,99 @@
+// A shelf in memory.
+ghost use Rattle.std.specs.Prelude.{◌≡◌, ◌+◌, ◌≤◌, ◌↔◌, None, List, ℕ, length, IfOk, IfErr, IfSome, OnOk, OnErr, IsErr, Some, Contains};
+ghost use Rattle.vms_io.specs.Causes.{capped};
+ghost use Rattle.vms_io.specs.Cabinets.{cabinet, held_in};
+ghost use Rattle.vms_io.specs.Shelves.{FetchRefuses, PutsUnder, KeepsOthers, IfToldBoth, HasFetchCause, HasStoreCause};
+
+use super::is_listed;
+use crate::{FetchFault, NoMemory, Shelf, StoreFault};
+use std::alloc::Global;
+use std::collections::BTreeMap;
+
+/// Bytes under names, where the calls of some numbers fail.
+#[derive(Drop)]
+pub struct MemShelf {
+    alloc: Global,
+    entries: BTreeMap<String, Vec<u8>>,
+    failing: Vec<u32>,
+    calls: u64,
+    faults: u64,
+}
+
+impl MemShelf {
+    /// An empty shelf. The calls of `fetch` and `store` whose numbers, counted from 1, are `failing` fail,
+    /// and no other.
+    pub fn new(alloc: Global, failing: Vec<u32>) -> MemShelf
+        ensures empty { (name : List ℕ) → held_in (cabinet result).entries name ≡ None }
+        ensures counts { cabinet result ≡ record { entries = (cabinet result).entries; failing = failing.items; calls = 0; faults = 0 } }
+    {
+        MemShelf {
+            alloc: alloc,
+            entries: BTreeMap::new(alloc),
+            failing,
+            calls: 0,
+            faults: 0,
+        }
+    }
+
+    /// Holds these bytes under the name from now on.
+    pub fn put(&mut self, name: &str, bytes: Vec<u8>) -> Result<(), NoMemory>
+        ensures ok { OnOk result (PutsUnder (held_in (cabinet self.old).entries) (held_in (cabinet self.new).entries) name.now bytes.items) }
+        ensures err { OnErr result (cabinet self.new ≡ cabinet self.old) }
+        ensures counts { cabinet self.new ≡ record (cabinet self.old) { entries = (cabinet self.new).entries } }
+    {
+        let name = String::from_str(self.alloc, name)?;
+        self.entries.insert(name, bytes)?;
+        Ok(())
+    }
+}
+
+impl Shelf for MemShelf {
+    ghost held = { λ s. Some (held_in (cabinet s).entries) };
+
+    ghost faults = { λ s. (cabinet s).faults };
+
+    fn fetch(&mut self, alloc: Global, name: &str, limit: u32) -> Result<Vec<u8>, FetchFault>
+        ensures fits { IfOk result (λ bytes. length bytes.items ≤ limit) }
+        ensures bytes { IfOk result (λ bytes. held_in (cabinet self.old).entries name.now ≡ Some bytes.items) }
+        ensures refused { IfErr result (λ fault. FetchRefuses (held_in (cabinet self.old).entries name.now) limit fault) }
+        ensures kept { (cabinet self.new).entries ≡ (cabinet self.old).entries }
+        ensures cause { HasFetchCause (cabinet self.old).faults (cabinet self.new).faults result }
+        ensures fails { (result ≡ Err FetchFault.Failed) ↔ Contains (cabinet self.old).failing (capped ((cabinet self.old).calls + 1)) }
+        ensures calls { (cabinet self.new).calls ≡ capped ((cabinet self.old).calls + 1) }
+    {
+        self.calls = self.calls.saturating_add(1);
+        if is_listed(&self.failing, self.calls) {
+            self.faults = self.faults.saturating_add(1);
+            return Err(FetchFault::Failed);
+        }
+        let Some(bytes) = self.entries.get(name) else {
+            return Err(FetchFault::NotThere);
+        };
+        if bytes.len() > limit as usize {
+            return Err(FetchFault::TooLarge);
+        }
+        bytes
+            .as_slice()
+            .to_vec(alloc)
+            .map_err(|_| FetchFault::NoMemory)
+    }
+
+    fn store(&mut self, name: &str, piece: &[u8]) -> Result<(), StoreFault>
+        ensures stored { OnOk result (PutsUnder (held_in (cabinet self.old).entries) (held_in (cabinet self.new).entries) name.now piece.now) }
+        ensures others { OnErr result (KeepsOthers (held_in (cabinet self.old).entries) (held_in (cabinet self.new).entries) name.now) }
+        ensures unchanged { OnErr result ((cabinet self.new).entries ≡ (cabinet self.old).entries) }
+        ensures cause { HasStoreCause (cabinet self.old).faults (cabinet self.new).faults result }
+        ensures fails { (result ≡ Err StoreFault.Failed) ↔ Contains (cabinet self.old).failing (capped ((cabinet self.old).calls + 1)) }
+        ensures calls { (cabinet self.new).calls ≡ capped ((cabinet self.old).calls + 1) }
+    {
+        self.calls = self.calls.saturating_add(1);
+        if is_listed(&self.failing, self.calls) {
+            self.faults = self.faults.saturating_add(1);
+            return Err(StoreFault::Failed);
+        }
+        let Ok(bytes) = piece.to_vec(self.alloc) else {
+            return Err(StoreFault::NoMemory);
+        };
+        self.put(name, bytes).map_err(|_| StoreFault::NoMemory)
+    }
+}

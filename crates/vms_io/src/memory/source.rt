@@ -1,0 +1,100 @@
+// A source over bytes in memory.
+ghost use Rattle.std.specs.Prelude.{◌≡◌, ◌+◌, ◌^◌, ◌<◌, ◌≤◌, ◌↔◌, [], length, drop, IfOk, IsErr, Some, Contains};
+ghost use Rattle.std.specs.Io.{ReadsAtMost};
+ghost use Rattle.std.specs.Io.KnownBytes.{ReadConsumes};
+ghost use Rattle.vms_io.specs.Causes.{HasCause, Gives, IsBytes, capped};
+ghost use Rattle.vms_io.specs.Memory.{is_empty, empty_is, piece_of, taken_of, bytes_left};
+
+use super::is_listed;
+use crate::{Failed, Source};
+
+/// Bytes that come in pieces, where the reads of some numbers fail.
+#[derive(Drop)]
+pub struct MemSource {
+    bytes: Vec<u8>,
+    at: usize,
+    pieces: Vec<u32>,
+    failing: Vec<u32>,
+    calls: u64,
+    given: u64,
+    faults: u64,
+    ghost within: { at ≤ length bytes.items },
+    ghost octets: { IsBytes bytes.items },
+    ghost counted: { given < 2 ^ 64 },
+    ghost quiet: { failing.items ≡ [] → faults ≡ 0 },
+}
+
+impl MemSource {
+    ghost use Rattle.vms_io.specs.Supplies.{supply};
+
+    /// A source of these bytes. Read k, counted from 1, gives at most the k-th of `pieces`, where 0 counts
+    /// as 1, and reads past that list aren't cut; the reads whose numbers are `failing` fail, and no other.
+    pub fn new(bytes: Vec<u8>, pieces: Vec<u32>, failing: Vec<u32>) -> Self
+        ensures { supply result ≡ record { left = bytes.items; pieces = pieces.items; failing = failing.items; calls = 0; given = 0; faults = 0 } }
+    {
+        MemSource {
+            bytes,
+            at: 0,
+            pieces,
+            failing,
+            calls: 0,
+            given: 0,
+            faults: 0,
+        }
+    }
+
+    // The greatest piece of the next read.
+    fn piece(&self) -> usize
+        ensures { result ≡ piece_of (supply self.now).pieces (supply self.now).calls }
+    {
+        let next = match self.pieces.get(self.calls as usize) {
+            Some(piece) => *piece as usize,
+            None => usize::MAX,
+        };
+        next.max(1)
+    }
+}
+
+impl Source for MemSource {
+    ghost use Rattle.vms_io.specs.Supplies.{supply};
+
+    ghost left = { λ s. Some (supply s).left };
+
+    ghost given = { λ s. (supply s).given };
+
+    ghost faults = { λ s. (supply s).faults };
+
+    ghost promise = { λ s. is_empty (supply s).failing };
+
+    ghost counted = { λ s. s.counted };
+
+    ghost promised = { λ s h. s.quiet (empty_is s.failing.items h) };
+
+    ghost octets = { λ s. bytes_left s.bytes.items s.at s.octets };
+
+    fn read(&mut self, buf: &mut [u8]) -> Result<usize, Failed>
+        ensures bound { ReadsAtMost result buf.new }
+        ensures bytes { ReadConsumes (Some (supply self.old).left) (Some (supply self.new).left) result buf.new }
+        ensures rest { IfOk result (λ n. drop n buf.new ≡ drop n buf.old) }
+        ensures given { Gives (supply self.old).given (supply self.new).given result }
+        ensures cause { HasCause (supply self.old).faults (supply self.new).faults result }
+        ensures promise { is_empty (supply self.new).failing ≡ is_empty (supply self.old).failing }
+        ensures piece { IfOk result (λ n. n ≡ taken_of (supply self.old) (length buf.old)) }
+        ensures fails { IsErr result ↔ Contains (supply self.old).failing (capped ((supply self.old).calls + 1)) }
+        ensures calls { (supply self.new).calls ≡ capped ((supply self.old).calls + 1) }
+        ensures lists { ((supply self.new).pieces ≡ (supply self.old).pieces) × ((supply self.new).failing ≡ (supply self.old).failing) }
+    {
+        let piece = self.piece();
+        self.calls = self.calls.saturating_add(1);
+        if is_listed(&self.failing, self.calls) {
+            self.faults = self.faults.saturating_add(1);
+            return Err(Failed);
+        }
+        let rest = self.bytes.len() - self.at;
+        let count = piece.min(buf.len()).min(rest);
+        buf[..count].copy_from_slice(&self.bytes[self.at..self.at + count]);
+        self.at += count;
+        self.given = self.given.saturating_add(count as u64);
+        Ok(count)
+    }
+}

@@ -1,0 +1,91 @@
+// The real outside: a reader and a writer of std, with a count of their errors.
+ghost use Rattle.std.specs.Prelude.{◌≡◌, ◌+◌, ◌-◌, ◌^◌, ◌<◌, ℕ, min, None, Some, false};
+ghost use Rattle.std.proofs.Common.{arith};
+
+use crate::{Failed, Sink, Source};
+use std::io::{Read, Write};
+
+#[derive(Drop)]
+pub struct StdSource<R: Read + Drop> {
+    reader: R,
+    given: u64,
+    faults: u64,
+}
+
+impl<R: Read + Drop> StdSource<R> {
+    pub fn new(reader: R) -> Self
+        ensures { result.faults ≡ 0 }
+    {
+        StdSource {
+            reader,
+            given: 0,
+            faults: 0,
+        }
+    }
+}
+
+impl<R: Read + Drop> Source for StdSource<R> {
+    ghost left = { λ s. None };
+
+    ghost given = { λ s. min s.given (2 ^ 64 - 1) };
+
+    ghost faults = { λ s. s.faults };
+
+    ghost promise = { λ s. false };
+
+    ghost counted = { λ s. Prim.omega arith };
+
+    ghost promised = { λ s h. Prim.cc };
+
+    ghost octets = { λ s. tt };
+
+    fn read(&mut self, buf: &mut [u8]) -> Result<usize, Failed> {
+        let mut staged = [0; 4096];
+        let room = buf.len().min(staged.len());
+        match self.reader.read(&mut staged[..room]) {
+            Ok(count) => {
+                buf[..count].copy_from_slice(&staged[..count]);
+                self.given = self.given.saturating_add(count as u64);
+                Ok(count)
+            }
+            Err(_) => {
+                self.faults = self.faults.saturating_add(1);
+                Err(Failed)
+            }
+        }
+    }
+}
+
+#[derive(Drop)]
+pub struct StdSink<W: Write + Drop> {
+    writer: W,
+    faults: u64,
+}
+
+impl<W: Write + Drop> StdSink<W> {
+    pub fn new(writer: W) -> Self
+        ensures { result.faults ≡ 0 }
+    {
+        StdSink { writer, faults: 0 }
+    }
+}
+
+impl<W: Write + Drop> Sink for StdSink<W> {
+    ghost written = { λ s. W.contents s.writer };
+
+    ghost faults = { λ s. s.faults };
+
+    ghost promise = { λ s. None };
+
+    ghost promised = { λ s. tt };
+
+    fn write(&mut self, piece: &[u8]) -> Result<usize, Failed> {
+        match self.writer.write(piece) {
+            Ok(count) if count > 0 || piece.is_empty() => Ok(count),
+            _ => {
+                self.faults = self.faults.saturating_add(1);
+                Err(Failed)
+            }
+        }
+    }
+}
