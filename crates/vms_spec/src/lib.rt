@@ -1,0 +1,92 @@
+//! The definitions of the format: what a description set means, which bytes are a stream of it, what the
+//! writer gives and where an input is refused.
+//!
+//! The definitions stand in `specs/`, one module a subject. The crate's code is the few enums without
+//! pointers that the definitions and the public types of the crates above share.
+#![tactic(auto)]
+
+/// How a masked number is compared with a value in a test.
+#[derive(Clone, Copy, Debug, PartialEq, Eq)]
+pub enum Rel {
+    Eq,
+    Ne,
+    Lt,
+    Ge,
+}
+
+/// Whose field a test asks: the description's own, or the device's where a subsection's needed test asks.
+#[derive(Clone, Copy, Debug, PartialEq, Eq)]
+pub enum Whose {
+    Own,
+    Parent,
+}
+
+/// How many elements a field has.
+#[derive(Clone, Copy, Debug, PartialEq, Eq)]
+pub enum Count {
+    /// A single item, which is no array.
+    One,
+    /// An array of this fixed length, as `VMSTATE_ARRAY`.
+    Fixed(u32),
+    /// An array whose length is the number of the field `by`, at most `capacity`, as `VMSTATE_VARRAY`.
+    Counted { by: u32, capacity: u32 },
+}
+
+/// Why a stream is refused, in the order in which the reasons are tried within one unit.
+#[derive(Clone, Copy, Debug, PartialEq, Eq)]
+pub enum Reason {
+    /// What this stage of the program doesn't read yet.
+    Unbuilt,
+    /// The input ends inside the unit.
+    Truncated,
+    /// The magic is other bytes.
+    BadMagic,
+    /// The stream's version is 2.
+    OldStream,
+    /// The stream's version is neither 2 nor 3.
+    BadVersion,
+    /// Between sections, a mark that no other reason takes.
+    BadMark,
+    /// A RAM section starts.
+    Ram,
+    /// Another section that is sent in parts.
+    Iterative,
+    /// A command of the return path.
+    Command,
+    /// A subsection of the configuration.
+    ConfigurationExtra,
+    /// The configuration names no accepted machine.
+    WrongMachine,
+    /// No device has this name and instance id.
+    UnknownSection,
+    /// This device's section came already.
+    RepeatedSection,
+    /// The version id is above the description's version.
+    TooNew,
+    /// The version id is below the description's minimum version.
+    TooOld,
+    /// A bool byte is above 1.
+    BadBool,
+    /// A constant's number is another.
+    NotEqual,
+    /// A number is above the capacity of an array that it counts.
+    CountTooLarge,
+    /// The device has no subsection of this name.
+    UnknownSubsection,
+    /// This subsection came already in this section.
+    RepeatedSubsection,
+    /// A validation of a description fails.
+    Invalid,
+    /// A device's rule of this number fails.
+    Unsound(u8),
+    /// No footer where one must stand, or one of another id.
+    BadFooter,
+    /// The end mark comes before this device's section.
+    MissingSection,
+    /// The interrupt lines of the devices disagree.
+    LinesDisagree,
+    /// After the end mark, a byte that begins no description section.
+    Trailing,
+    /// The description's length is above 16,777,216.
+    DescriptionTooLong,
+}
