@@ -1,0 +1,7 @@
+pub mod Rows
+pub mod Boxes
+mod StreamRows
+mod FirstRows
+mod SetRows
+mod PlaceRows
+mod ShippedRows
