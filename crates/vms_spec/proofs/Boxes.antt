@@ -1,9 +1,9 @@
 -- The sets of the worked rows: device box 0 with a few fields, and one set that has everything.
-use Rattle.std.proofs.Common.{ℕ, List, [], ◌∷◌, Option, Some, None, pos, negsuc, codes}
+use Rattle.std.proofs.Common.{ℕ, List, [], ◌∷◌, Some, None, pos, negsuc, codes}
 use Rattle.vms_kinds.specs.declared.Kind.{Kind}
 use Rattle.vms_kinds.specs.declared.Kind.TheVariants.{U8, U16, U32, I8, Bool as Truth}
 use Rattle.vms_kinds.specs.declared.Item.TheVariants.{Num, Equal, Unused, Struct}
-use Rattle.vms_spec.specs.declared.Count.TheVariants.{One, Fixed, Counted}
+use Rattle.vms_spec.specs.declared.Count.TheVariants.{One, Counted}
 use Rattle.vms_spec.specs.declared.Rel.TheVariants.{Eq, Ne, Lt, Ge}
 use Rattle.vms_spec.specs.declared.Whose.TheVariants.{Own, Parent}
 use Rattle.vms_spec.specs.Sets.{Set, Device, Desc, Field, Sub, Formula, AtLeast, Below, Cell, And, Or}
@@ -59,7 +59,9 @@ empty_set = record { machines = []; structs = []; devices = [] }
 -- a structure of version 3: y came at 3, z is to come at 4
 abbrev pub point : Desc
 point = record {
-  name = codes "pt"; version = 3; minimum = 1;
+  name = codes "pt";
+  version = 3;
+  minimum = 1;
   fields = number U8 (codes "x") ∷ record (number U16 (codes "y")) { since = 3 } ∷ record (number U8 (codes "z")) { since = 4; default = pos 9 } ∷ [];
   validate = Cell Own 0 255 Lt 200 ∷ [];
 }
@@ -75,14 +77,16 @@ mixed_set = record {
       ∷ number Truth (codes "flag")
       ∷ record (number U16 (codes "t")) { test = Some (And (Cell Own 2 1 Eq 1) (AtLeast 2)); since = 7 }
       ∷ record (number I8 (codes "w")) { since = 2; default = negsuc 2 } ∷ [])
-    (Cell Own 0 255 Lt 3 ∷ [])
-    (record {
-      desc = record {
-        name = codes "box/s"; version = 2; minimum = 1;
-        fields = record (number U32 (codes "a")) { default = pos 7 } ∷ record (number U8 (codes "b")) { since = 2; default = pos 1 } ∷ [];
-        validate = Or (Below 2) (Cell Own 1 255 Ge 1) ∷ [];
-      };
-      needed = Cell Parent 0 255 Ge 2;
-    } ∷ [])
-    ∷ [];
+      (Cell Own 0 255 Lt 3 ∷ [])
+      (record {
+        desc = record {
+          name = codes "box/s";
+          version = 2;
+          minimum = 1;
+          fields = record (number U32 (codes "a")) { default = pos 7 } ∷ record (number U8 (codes "b")) { since = 2; default = pos 1 } ∷ [];
+          validate = Or (Below 2) (Cell Own 1 255 Ge 1) ∷ [];
+        };
+        needed = Cell Parent 0 255 Ge 2;
+      } ∷ [])
+      ∷ [];
 }

@@ -1,7 +1,10 @@
+pub mod KindLaws
 pub mod Rows
 pub mod Boxes
+pub mod DueSizes
 mod StreamRows
 mod FirstRows
 mod SetRows
 mod PlaceRows
 mod ShippedRows
+mod FaultRows

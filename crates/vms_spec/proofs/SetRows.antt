@@ -1,5 +1,5 @@
 -- Streams of sets with arrays, constants, tests, validations, structures and subsections.
-use Rattle.std.proofs.Common.{◌≡◌, ℕ, List, [], ◌∷◌, ◌++◌, take, drop, Option, Some, None, pos, negsuc, refl, codes}
+use Rattle.std.proofs.Common.{◌≡◌, ℕ, List, [], ◌∷◌, ◌++◌, Some, None, pos, negsuc, refl, codes}
 use Rattle.std.specs.Fmt.{digits}
 use Rattle.vms_kinds.specs.Codes.{code}
 use Rattle.vms_spec.specs.declared.Reason.TheVariants as reasons
@@ -169,18 +169,21 @@ reads_structures_at_their_own_version = refl
 
 shows_structures : values_text mixed_set (Some (codes "lab")) (mixed ∷ [])
     ≡ lines (codes "machine lab" ∷ codes "section box 0 v2" ∷ codes "n = 2" ∷ codes "ps[0].x = 1" ∷ codes "ps[0].y = 515" ∷ codes "ps[0].z = 9"
-        ∷ codes "ps[1].x = 4" ∷ codes "ps[1].y = 5" ∷ codes "ps[1].z = 9" ∷ codes "flag = 1" ∷ codes "t = 1543" ∷ codes "w = -1"
-        ∷ codes "sub box/s v1" ∷ codes "a = 8" ∷ codes "b = 1" ∷ [])
+    ∷ codes "ps[1].x = 4" ∷ codes "ps[1].y = 5" ∷ codes "ps[1].z = 9" ∷ codes "flag = 1" ∷ codes "t = 1543" ∷ codes "w = -1"
+    ∷ codes "sub box/s v1" ∷ codes "a = 8" ∷ codes "b = 1" ∷ [])
 unfolding first digits
 shows_structures = refl
 
 -- at version 1 neither t nor w is there
 reads_an_older_version : read mixed_set (head ++ hex (codes "040000000903626f780000000000000001") ++ hex (codes "0001") ++ hex (codes "7e0000000900"))
-    ≡ Some (Accepted 33 (None, record {
-      version = 1;
-      came = None ∷ [];
-      numbers = pos 0 ∷ pos 0 ∷ pos 0 ∷ pos 9 ∷ pos 0 ∷ pos 0 ∷ pos 9 ∷ pos 0 ∷ pos 0 ∷ pos 9 ∷ pos 1 ∷ pos 0 ∷ negsuc 2 ∷ pos 7 ∷ pos 1 ∷ [];
-    } ∷ []))
+    ≡ Some (Accepted 33 (
+      None,
+      record {
+        version = 1;
+        came = None ∷ [];
+        numbers = pos 0 ∷ pos 0 ∷ pos 0 ∷ pos 9 ∷ pos 0 ∷ pos 0 ∷ pos 9 ∷ pos 0 ∷ pos 0 ∷ pos 9 ∷ pos 1 ∷ pos 0 ∷ negsuc 2 ∷ pos 7 ∷ pos 1 ∷ [];
+      } ∷ [],
+    ))
 unfolding read first
 reads_an_older_version = refl
 

@@ -1,5 +1,5 @@
 -- The default streams of the boards' sets: their lengths, the serial section, and that they are read again.
-use Rattle.std.proofs.Common.{◌≡◌, ℕ, List, [], ◌∷◌, ◌++◌, length, map, take, drop, Option, Some, None, refl, codes}
+use Rattle.std.proofs.Common.{◌≡◌, ℕ, List, ◌++◌, length, map, drop, Some, None, refl, codes}
 use Rattle.vms_kinds.specs.Codes.{code}
 use Rattle.vms_spec.specs.Layout.{first}
 use Rattle.vms_spec.specs.Sets.{Set}

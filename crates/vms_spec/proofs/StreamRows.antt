@@ -1,5 +1,5 @@
 -- Streams of the shipped set 0: what is shown, and every reason that it can be refused for.
-use Rattle.std.proofs.Common.{◌≡◌, ℕ, List, [], ◌∷◌, ◌++◌, take, drop, Option, Some, None, pos, refl, codes}
+use Rattle.std.proofs.Common.{◌≡◌, ℕ, List, [], ◌∷◌, ◌++◌, take, drop, Some, None, pos, refl, codes}
 use Rattle.std.specs.Fmt.{digits}
 use Rattle.vms_kinds.specs.Codes.{code}
 use Rattle.vms_spec.specs.declared.Reason.TheVariants as reasons

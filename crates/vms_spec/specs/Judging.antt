@@ -1,7 +1,7 @@
 -- The judge: how an input is read, one unit after the other, with what was read so far as its state. It computes, and
 -- the loader is proved against it. What it means is said without it: the module Streams says which streams an input
 -- takes, and the module Faults where an input is refused and why. Laws tie the judge to both.
-use Rattle.std.specs.Prelude.{ℕ, zero, suc, ◌+◌, Bool, true, false, not, ◌&&◌, ◌||◌, ◌==◌, nat_lt, if◌then◌else◌, List, [], ◌∷◌, length, get_or, map, take, drop, slice_set, Option, Some, None, ℤ}
+use Rattle.std.specs.Prelude.{ℕ, zero, suc, ◌+◌, Bool, true, false, not, ◌&&◌, ◌||◌, ◌==◌, nat_lt, if◌then◌else◌, List, [], ◌∷◌, length, get_or, map, take, drop, slice_set, Option, Some, None}
 use Rattle.std.specs.Str.{bytes_eq}
 use Rattle.byteorder.specs.Endian.{big_number}
 use Rattle.vms_kinds.specs.declared.Kind.{Kind}

@@ -1,5 +1,5 @@
 -- The cells of a description, which are its numbers, and the slots of its bytes.
-use Rattle.std.specs.Prelude.{ℕ, zero, suc, min, ◌+◌, Bool, true, ◌&&◌, ◌==◌, if◌then◌else◌, List, [], ◌∷◌, ◌++◌, length, get_or, map, ℤ, pos, Option, None}
+use Rattle.std.specs.Prelude.{ℕ, zero, suc, min, ◌+◌, Bool, true, ◌&&◌, ◌==◌, if◌then◌else◌, List, [], ◌∷◌, ◌++◌, length, get_or, map, ℤ, pos, None}
 use Rattle.std.specs.List.{flat_map}
 use Rattle.vms_kinds.specs.declared.Kind.{Kind}
 use Rattle.vms_kinds.specs.declared.Kind.TheVariants.{U8}

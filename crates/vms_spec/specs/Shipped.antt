@@ -1,6 +1,6 @@
 -- The shipped sets 0 to 3. Set 0 has the timer alone; set s of the others describes the boards isa-1 to isa-s. Defaults
 -- and `since` are 0 where nothing else is said, and there are no validations.
-use Rattle.std.specs.Prelude.{ℕ, List, [], ◌∷◌, ◌++◌, Option, Some, None, ℤ, pos, negsuc, codes}
+use Rattle.std.specs.Prelude.{ℕ, List, [], ◌∷◌, ◌++◌, Some, None, pos, negsuc, codes}
 use Rattle.vms_kinds.specs.declared.Kind.{Kind}
 use Rattle.vms_kinds.specs.declared.Kind.TheVariants.{U8, U16, U64, I8, Bool as Truth, Timer}
 use Rattle.vms_kinds.specs.declared.Item.{Item}

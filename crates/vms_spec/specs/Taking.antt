@@ -1,7 +1,6 @@
 -- Reading the bytes of a description, field by field and structure by structure, as the judge reads them slot by slot.
 -- Readers of bodies are proved against this form.
-use Rattle.std.specs.Prelude.{ℕ, zero, suc, ◌+◌, Bool, if◌then◌else◌, nat_lt, List, [], ◌∷◌, ◌++◌, length, get_or, map, take, drop, slice_set, ℤ, pos, Result, Ok, Err}
-use Rattle.byteorder.specs.Endian.{big_number}
+use Rattle.std.specs.Prelude.{ℕ, zero, suc, ◌+◌, Bool, if◌then◌else◌, nat_lt, List, [], ◌∷◌, length, get_or, map, take, drop, slice_set, ℤ, Result, Ok, Err}
 use Rattle.vms_kinds.specs.declared.Kind.{Kind}
 use Rattle.vms_kinds.specs.declared.Item.{Item}
 use Rattle.vms_kinds.specs.declared.Item.TheVariants.{Num, Equal, Unused, Struct}
