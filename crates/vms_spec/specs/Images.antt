@@ -52,12 +52,12 @@ abbrev pub image_slots : Set → Device → Image → List Slot
 image_slots set d image = own_slots set d image.version image.numbers ++ came_slots set d image.numbers (own_cells set d) d.subs image.came
 
 -- whether the number of this cell stands in the bytes
-abbrev pub names : List Slot → ℕ → Bool
-names [] k = false
-names (Number c kind capacities ∷ slots) k = c == k || names slots k
-names (Constant kind z ∷ slots) k = names slots k
-names (Filler n ∷ slots) k = names slots k
-names (Rule b ∷ slots) k = names slots k
+abbrev pub has_cell : List Slot → ℕ → Bool
+has_cell [] k = false
+has_cell (Number c kind capacities ∷ slots) k = c == k || has_cell slots k
+has_cell (Constant kind z ∷ slots) k = has_cell slots k
+has_cell (Filler n ∷ slots) k = has_cell slots k
+has_cell (Rule b ∷ slots) k = has_cell slots k
 
 -- ---- normal and valid
 
@@ -87,7 +87,7 @@ pub record IsNormal (set : Set) (d : Device) (image : Image) : Type 0 where
   pub subs : AreVersionsOf d.subs image.came
   pub cells : FitCells (device_cells set d) image.numbers
   -- a cell of a field that isn't there, of an element past a count or of a subsection that didn't come
-  pub absent : (c : ℕ) → c < length image.numbers → names (image_slots set d image) c ≡ false → get_or image.numbers c (pos 0) ≡ (get_or (device_cells set d) c no_cell).default
+  pub absent : (c : ℕ) → c < length image.numbers → has_cell (image_slots set d image) c ≡ false → get_or image.numbers c (pos 0) ≡ (get_or (device_cells set d) c no_cell).default
 
 abbrev pub RulesHold : List Slot → Type 0
 RulesHold [] = Unit {0}

@@ -1,0 +1,7 @@
+pub mod Cells
+pub mod Fronts
+pub mod Good
+pub mod Laws
+pub mod Sound
+pub mod Units
+pub mod Whole

@@ -1,0 +1,53 @@
+//! Each law is the contract of a function without a body. The statements stand in `specs/Laws.antt`; a set is good
+//! where `specs/Good.antt` says so, which each well-formed set is meant to be.
+ghost use Rattle.vms_laws.specs.Laws.{FoundLaw, OnlyLaw, OneStreamLaw, ToldLaw, LocalLaw, ZeroedLaw, SectionLaw, WrittenLaw};
+
+/// What the judge accepts is a stream of the set at the front of the input, of just the bytes that were read, with the
+/// machine and the images that the judge ends with: for every good set, every list of accepted machines and every input.
+#[tactic(auto, using(crate::proofs::Stated::found_holds))]
+pub fn found_law()
+    ensures { FoundLaw }
+{}
+
+/// A stream of the set at the front of an input is accepted by the judge, with its length, its machine and its images.
+#[tactic(auto, using(crate::proofs::Stated::only_holds))]
+pub fn only_law()
+    ensures { OnlyLaw }
+{}
+
+/// An input takes one stream at most: length, machine and images are determined by its bytes.
+pub fn one_stream_law()
+    ensures { OneStreamLaw }
+{}
+
+/// The judge ends on every input, for every set: it accepts or it refuses.
+#[tactic(auto, using(crate::proofs::Stated::told_holds))]
+pub fn told_law()
+    ensures { ToldLaw }
+{}
+
+/// What the judge says of a unit that it goes on by depends on the bytes of that unit alone, and each unit has a byte.
+/// So nothing after a unit needs to be read to judge it.
+#[tactic(auto, using(crate::proofs::Stated::local_holds))]
+pub fn local_law()
+    ensures { LocalLaw }
+{}
+
+/// The bytes that the writer gives for the fields of a description, unused bytes being 0, are bytes of these fields.
+#[tactic(auto, using(crate::proofs::Stated::zeroed_holds))]
+pub fn zeroed_law()
+    ensures { ZeroedLaw }
+{}
+
+/// The section that the writer gives for a ready image is a section of that image, for every set.
+#[tactic(auto, using(crate::proofs::Stated::section_holds))]
+pub fn section_law()
+    ensures { SectionLaw }
+{}
+
+/// What the writer gives for ready images is a stream with this machine and these images, and an input that begins with
+/// it takes exactly that, for every set.
+#[tactic(auto, using(crate::proofs::Stated::written_holds))]
+pub fn written_law()
+    ensures { WrittenLaw }
+{}
