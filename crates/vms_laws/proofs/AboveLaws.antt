@@ -57,7 +57,7 @@ items_above ms h item caps numbers (suc n) at step =
     above_append at (item_slots ms item caps numbers at) (times n (item_slots ms item caps numbers) (at + step) step) (item_above ms h item caps numbers at)
     (above_less at (at + step) _ (omega arith) (items_above ms h item caps numbers n (at + step) step))
 
-field_above : (ms : List Meaning) → MeanAbove ms → (fields : List Field) (v : ℕ) (own : ℕ → ℕ) (numbers : List ℤ) (i at : ℕ) (f : Field) → IsAbove at (field_slots ms fields v own numbers i at f)
+pub field_above : (ms : List Meaning) → MeanAbove ms → (fields : List Field) (v : ℕ) (own : ℕ → ℕ) (numbers : List ℤ) (i at : ℕ) (f : Field) → IsAbove at (field_slots ms fields v own numbers i at f)
 field_above ms h fields v own numbers i at f =
     either (is_there f.test f.since v own no_parent) _ (items_above ms h f.item (counted i fields) numbers (elements_of f.count own) at (item_size (map (λ (m : Meaning). m.cells) ms) f.item))
   where

@@ -43,7 +43,7 @@ is_bytes_drop zero xs h i = h i
 is_bytes_drop (suc n) [] h i = h i
 is_bytes_drop (suc n) (x ∷ xs) h i = is_bytes_drop n xs (λ j. h (suc j)) i
 
-four_low : (xs : List ℕ) → IsBytes xs → big_number 4 xs < 4294967296
+pub four_low : (xs : List ℕ) → IsBytes xs → big_number 4 xs < 4294967296
 four_low xs ok = omega (arith, ok 0, ok 1, ok 2, ok 3)
 
 pub split_one : (xs : List ℕ) → 1 ≤ length xs → xs ≡ get_or xs 0 0 ∷ drop 1 xs

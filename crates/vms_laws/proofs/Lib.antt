@@ -5,7 +5,15 @@ pub mod BodyOnly
 pub mod CellLaws
 pub mod ConstantLaws
 pub mod EndsFound
+pub mod FaultEnds
+pub mod FaultFields
+pub mod FaultFrame
+pub mod FaultHeads
 pub mod FaultLaws
+pub mod FaultMarks
+pub mod FaultNames
+pub mod FaultOnce
+pub mod FaultUnits
 pub mod FineLaws
 pub mod FoundLaws
 pub mod FrameLaws
@@ -23,6 +31,7 @@ pub mod SectionsOnly
 pub mod SettledLaws
 pub mod SpellLaws
 pub mod Stated
+pub mod StaysLaws
 pub mod StepLaws
 pub mod StreamFound
 pub mod StreamOnly

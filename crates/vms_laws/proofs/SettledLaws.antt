@@ -30,7 +30,7 @@ abbrev pub MeanSettled : List Meaning → Type 0
 MeanSettled [] = Unit {0}
 MeanSettled (m ∷ ms) = MeansSettled m × MeanSettled ms
 
-abbrev cells_in : List Meaning → List (List Cell)
+abbrev pub cells_in : List Meaning → List (List Cell)
 cells_in ms = map (λ m. m.cells) ms
 
 settled_at : (ms : List Meaning) (j : ℕ) → MeanSettled ms → MeansSettled (get_or ms j no_meaning)
@@ -47,7 +47,7 @@ get_cells [] j = refl
 get_cells (m ∷ ms) zero = refl
 get_cells (m ∷ ms) (suc j) = get_cells ms j
 
-item_settled : (ms : List Meaning) → MeanSettled ms → (item : Item) (caps : List ℕ) (at low end : ℕ) (n k : List ℤ) → low ≤ at → at + item_size (cells_in ms) item ≤ end → SameIn low end n k
+pub item_settled : (ms : List Meaning) → MeanSettled ms → (item : Item) (caps : List ℕ) (at low end : ℕ) (n k : List ℤ) → low ≤ at → at + item_size (cells_in ms) item ≤ end → SameIn low end n k
     → item_slots ms item caps k at ≡ item_slots ms item caps n at
 item_settled ms h (Num kind) caps at low end n k up le s = refl
 item_settled ms h (Equal kind z) caps at low end n k up le s = refl
@@ -63,7 +63,7 @@ items_settled ms h item caps (suc c) at low end n k up le s =
     ap (λ (xs : List Slot). xs ++ times c (item_slots ms item caps k) (at + size) size) (item_settled ms h item caps at low end n k up (omega arith) s)
     ∙ ap (λ (xs : List Slot). item_slots ms item caps n at ++ xs) (items_settled ms h item caps c (at + size) low end n k (omega arith) (omega arith) s)
 
-field_settled : (ms : List Meaning) → MeanSettled ms → (d : Desc) (v base i cell low end : ℕ) (f : Field) (n k : List ℤ) → IsSoundField d.fields i f → low ≤ base → cell ≡ place_of (cells_in ms) d.fields 0 base d.fields i
+pub field_settled : (ms : List Meaning) → MeanSettled ms → (d : Desc) (v base i cell low end : ℕ) (f : Field) (n k : List ℤ) → IsSoundField d.fields i f → low ≤ base → cell ≡ place_of (cells_in ms) d.fields 0 base d.fields i
     → cell + length (field_cells (cells_in ms) d.fields i f) ≤ end → SameIn low end n k
     → field_slots ms d.fields v (numbers_of (cells_in ms) d k base) k i cell f ≡ field_slots ms d.fields v (numbers_of (cells_in ms) d n base) n i cell f
 field_settled ms h d v base i cell low end f n k sound up here le s =

@@ -1,0 +1,98 @@
+-- The judge's verdicts on the stream head, by the relation.
+use Rattle.std.proofs.Common.{◌≡◌, ◌⊎◌, inl, inr, ℕ, zero, suc, ◌+◌, ◌<◌, ◌≤◌, List, [], ◌∷◌, ◌++◌, length, get_or, take, drop, slice_set, Option, Some, None, ℤ, pos, refl, sym, ap, ◌∙◌, subst, arith, length-append, length-drop, append_assoc, Bool, true, false, not, nat_lt, ◌==◌, ◌||◌, ◌&&◌, if◌then◌else◌}
+use Rattle.std.specs.Str.{bytes_eq}
+use Rattle.std.proofs.lemmas.List.{drop-drop, take-append-drop, length-take-le}
+use Rattle.std.proofs.lemmas.Bool.{ltb-true, ltb-false, eqb-true}
+use Rattle.byteorder.specs.Endian.{big_number}
+use Rattle.vms_spec.specs.Numbers.{IsBytes}
+use Rattle.vms_spec.specs.declared.Reason.{Reason}
+use Rattle.vms_spec.specs.declared.Reason.TheVariants as reasons
+use Rattle.vms_spec.specs.Sets.{Set}
+use Rattle.vms_spec.specs.Streams.{magic, be32, longest_text, is_one_of, configuration}
+use Rattle.vms_spec.specs.Readings.{Verdict, Goes, Faulty, Over}
+use Rattle.vms_spec.specs.Judging.{State, Spot, Magic as MagicSpot, Version as VersionSpot, First as FirstSpot, Configured as ConfiguredSpot, Later as LaterSpot, Fields as FieldsSpot, Ended as EndedSpot, Described as DescribedSpot, whole, number_at, bytes_at, judge, judge_magic, judge_version, judge_configuration, judge_trailer, judge_description, judge_text, at_start, goes_to}
+use Rattle.vms_spec.specs.Units.{Piece, Magic, Version, Configuration, Long, Head, Number, Constant, Filler, SubHead, Foot, End, Description, Start, Mark, spell, spelled}
+use Rattle.vms_spec.specs.Dues.{Due, AMagic, AVersion, Between, Field, AfterFields, AfterEnd, Nothing, May, AtMagic, AtVersion, AtConfiguration, AtLongName, AtStart, AtHead, AtEnd, AtMark, AtNumber, AtConstant, AtFiller, AtSubHead, AtFoot, AtOther, AtDescription, AtLongText, AtTrailing, due, holds}
+use Rattle.vms_spec.specs.Faults.{Front, IsWhole, Why, Fails, Cut, Wrong, Fault, Owes}
+use Rattle.vms_spec.specs.Table.{reason_of}
+use Rattle.vms_spec.specs.SoFar.{opened, come}
+use Rattle.vms_laws.proofs.HeadFound.{is_bytes_drop, split_one, split_four, four_low}
+use Rattle.vms_laws.proofs.BodyOnly.{if_false, if_true}
+use Rattle.vms_spec.proofs.DueSizes.{too_few}
+use Rattle.vms_laws.proofs.FaultFrame.{Judged, Passes}
+
+-- a spot of the judge at what is due (sections are still to write: their slots by StepLaws)
+abbrev pub MirrorsSpot : Due → Spot → Type 0
+MirrorsSpot AMagic MagicSpot = Unit {0}
+MirrorsSpot AVersion VersionSpot = Unit {0}
+MirrorsSpot (Between true false) FirstSpot = Unit {0}
+MirrorsSpot (Between false true) ConfiguredSpot = Unit {0}
+MirrorsSpot (Between false false) LaterSpot = Unit {0}
+MirrorsSpot AfterEnd EndedSpot = Unit {0}
+MirrorsSpot Nothing DescribedSpot = Unit {0}
+MirrorsSpot _ _ = ⊥
+
+pub record Mirrors (set : Set) (names : List (List ℕ)) (u : List Piece) (state : State) : Type 0 where
+  pub spot : MirrorsSpot (due set u) state.spot
+  pub came : state.came ≡ come set u
+
+-- at the start they do
+pub start_mirrors : (set : Set) (names : List (List ℕ)) → Mirrors set names [] (at_start set)
+start_mirrors set names = record { spot = tt; came = refl }
+
+version_rows : Bool → Bool → Option (Option ℕ × Reason)
+version_rows a b = if a then Some (None, reasons.OldStream) else if not (a || b) then Some (None, reasons.BadVersion) else None
+
+module _ (set : Set) (names : List (List ℕ)) where
+  abbrev Says : List Piece → List ℕ → Verdict State → Type 0
+  Says = Judged set names (Mirrors set names)
+
+  by_test : (u : List Piece) (rest : List ℕ) (b : Bool) (v w : Verdict State) → (b ≡ true → Says u rest v) → (b ≡ false → Says u rest w) → Says u rest (if b then v else w)
+  by_test u rest true v w f g = f refl
+  by_test u rest false v w f g = g refl
+
+  pub magic_judged : (state : State) (rest : List ℕ) → Mirrors set names [] state → Says [] rest (judge_magic set names state rest)
+  magic_judged state rest m =
+      let bytes = take 4 rest in
+      let is : 4 ≤ length rest → IsWhole set [] rest (Magic bytes) = λ le.
+      record { may = AtMagic bytes (length-take-le 4 rest le); more = drop 4 rest; there = sym (take-append-drop 4 rest) } in
+      by_test [] rest (nat_lt (length rest) 4) (Faulty None reasons.Truncated) (if bytes_eq bytes magic then goes_to set names state 4 VersionSpot else Faulty None reasons.BadMagic)
+      (λ e. Cut refl tt (λ x w. too_few set [] rest x (ltb-true (length rest) 4 e) w))
+      (λ e. by_test [] rest (bytes_eq bytes magic) (goes_to set names state 4 VersionSpot) (Faulty None reasons.BadMagic)
+      (λ t. record {
+        unit = Magic bytes;
+        whole = is (ltb-false (length rest) 4 e);
+        long = length-take-le 4 rest (ltb-false (length rest) 4 e);
+        held = refl;
+        none = if_false (not (bytes_eq bytes magic)) (Some (None, reasons.BadMagic)) None (ap not t);
+        mirrors = record { spot = tt; came = m.came };
+      })
+      (λ f. Wrong (Magic bytes) None reasons.BadMagic refl (is (ltb-false (length rest) 4 e)) (if_true (not (bytes_eq bytes magic)) (Some (None, reasons.BadMagic)) None (ap not f))))
+
+  pub version_judged : (bytes : List ℕ) (u : List Piece) (state : State) (rest : List ℕ) → IsBytes rest → Mirrors set names (Magic bytes ∷ u) state → Says (Magic bytes ∷ u) rest (judge_version set names state rest)
+  unfolding version_rows
+  version_judged bytes u state rest ok m =
+      let w = Magic bytes ∷ u in
+      let n = number_at 4 0 rest in
+      let is : 4 ≤ length rest → IsWhole set w rest (Version n) = λ le.
+      record { may = AtVersion n (four_low rest ok); more = drop 4 rest; there = split_four rest ok le } in
+      let other : Verdict State = if n == 2 then Faulty None reasons.OldStream else Faulty None reasons.BadVersion in
+      by_test w rest (nat_lt (length rest) 4) (Faulty None reasons.Truncated) (if n == 3 then goes_to set names state 4 FirstSpot else other)
+      (λ e. Cut refl tt (λ x i. too_few set w rest x (ltb-true (length rest) 4 e) i))
+      (λ e. by_test w rest (n == 3) (goes_to set names state 4 FirstSpot) other
+      (λ t. record {
+        unit = Version n;
+        whole = is (ltb-false (length rest) 4 e);
+        long = refl;
+        held = refl;
+        none = ap (λ (k : ℕ). reason_of set names w (Version k)) (eqb-true n 3 t);
+        mirrors = record { spot = tt; came = m.came };
+      })
+      (λ f. by_test w rest (n == 2) (Faulty None reasons.OldStream) (Faulty None reasons.BadVersion)
+      (λ t. Wrong (Version n) None reasons.OldStream refl (is (ltb-false (length rest) 4 e)) (ap (λ (k : ℕ). reason_of set names w (Version k)) (eqb-true n 2 t)))
+      (λ g. Wrong (Version n) None reasons.BadVersion refl (is (ltb-false (length rest) 4 e))
+      (ap (λ (a : Bool). version_rows a (n == 3)) g ∙ ap (λ (b : Bool). version_rows false b) f))))
+
+  -- after the end mark
+  pub over_judged : (state : State) (u : List Piece) → Says (End ∷ u) [] (judge_trailer set names state [])
+  over_judged state u = (refl, λ x. x)
