@@ -20,39 +20,21 @@ use Rattle.vms_laws.proofs.HeadFound.{is_bytes_drop, split_one, split_four, four
 use Rattle.vms_laws.proofs.BodyOnly.{if_false, if_true}
 use Rattle.vms_spec.proofs.DueSizes.{too_few}
 use Rattle.vms_laws.proofs.FaultFrame.{Judged, Passes}
-
--- a spot of the judge at what is due (sections are still to write: their slots by StepLaws)
-abbrev pub MirrorsSpot : Due → Spot → Type 0
-MirrorsSpot AMagic MagicSpot = Unit {0}
-MirrorsSpot AVersion VersionSpot = Unit {0}
-MirrorsSpot (Between true false) FirstSpot = Unit {0}
-MirrorsSpot (Between false true) ConfiguredSpot = Unit {0}
-MirrorsSpot (Between false false) LaterSpot = Unit {0}
-MirrorsSpot AfterEnd EndedSpot = Unit {0}
-MirrorsSpot Nothing DescribedSpot = Unit {0}
-MirrorsSpot _ _ = ⊥
-
-pub record Mirrors (set : Set) (names : List (List ℕ)) (u : List Piece) (state : State) : Type 0 where
-  pub spot : MirrorsSpot (due set u) state.spot
-  pub came : state.came ≡ come set u
-
--- at the start they do
-pub start_mirrors : (set : Set) (names : List (List ℕ)) → Mirrors set names [] (at_start set)
-start_mirrors set names = record { spot = tt; came = refl }
+use Rattle.vms_laws.proofs.Mirrors.{Mirrors}
 
 version_rows : Bool → Bool → Option (Option ℕ × Reason)
 version_rows a b = if a then Some (None, reasons.OldStream) else if not (a || b) then Some (None, reasons.BadVersion) else None
 
 module _ (set : Set) (names : List (List ℕ)) where
   abbrev Says : List Piece → List ℕ → Verdict State → Type 0
-  Says = Judged set names (Mirrors set names)
+  Says = Judged set names (Mirrors set)
 
   by_test : (u : List Piece) (rest : List ℕ) (b : Bool) (v w : Verdict State) → (b ≡ true → Says u rest v) → (b ≡ false → Says u rest w) → Says u rest (if b then v else w)
   by_test u rest true v w f g = f refl
   by_test u rest false v w f g = g refl
 
-  pub magic_judged : (state : State) (rest : List ℕ) → Mirrors set names [] state → Says [] rest (judge_magic set names state rest)
-  magic_judged state rest m =
+  pub magic_judged : (state : State) (rest : List ℕ) → state.came ≡ come set [] → length state.images ≡ length set.devices → Says [] rest (judge_magic set names state rest)
+  magic_judged state rest came long =
       let bytes = take 4 rest in
       let is : 4 ≤ length rest → IsWhole set [] rest (Magic bytes) = λ le.
       record { may = AtMagic bytes (length-take-le 4 rest le); more = drop 4 rest; there = sym (take-append-drop 4 rest) } in
@@ -65,13 +47,13 @@ module _ (set : Set) (names : List (List ℕ)) where
         long = length-take-le 4 rest (ltb-false (length rest) 4 e);
         held = refl;
         none = if_false (not (bytes_eq bytes magic)) (Some (None, reasons.BadMagic)) None (ap not t);
-        mirrors = record { spot = tt; came = m.came };
+        mirrors = record { came = came; long = long; stands = (bytes, [], refl) };
       })
       (λ f. Wrong (Magic bytes) None reasons.BadMagic refl (is (ltb-false (length rest) 4 e)) (if_true (not (bytes_eq bytes magic)) (Some (None, reasons.BadMagic)) None (ap not f))))
 
-  pub version_judged : (bytes : List ℕ) (u : List Piece) (state : State) (rest : List ℕ) → IsBytes rest → Mirrors set names (Magic bytes ∷ u) state → Says (Magic bytes ∷ u) rest (judge_version set names state rest)
+  pub version_judged : (bytes : List ℕ) (u : List Piece) (state : State) (rest : List ℕ) → IsBytes rest → state.came ≡ come set u → length state.images ≡ length set.devices → Says (Magic bytes ∷ u) rest (judge_version set names state rest)
   unfolding version_rows
-  version_judged bytes u state rest ok m =
+  version_judged bytes u state rest ok came long =
       let w = Magic bytes ∷ u in
       let n = number_at 4 0 rest in
       let is : 4 ≤ length rest → IsWhole set w rest (Version n) = λ le.
@@ -86,13 +68,9 @@ module _ (set : Set) (names : List (List ℕ)) where
         long = refl;
         held = refl;
         none = ap (λ (k : ℕ). reason_of set names w (Version k)) (eqb-true n 3 t);
-        mirrors = record { spot = tt; came = m.came };
+        mirrors = record { came = came; long = long; stands = record { due_is = refl; held = refl; none = refl } };
       })
       (λ f. by_test w rest (n == 2) (Faulty None reasons.OldStream) (Faulty None reasons.BadVersion)
       (λ t. Wrong (Version n) None reasons.OldStream refl (is (ltb-false (length rest) 4 e)) (ap (λ (k : ℕ). reason_of set names w (Version k)) (eqb-true n 2 t)))
       (λ g. Wrong (Version n) None reasons.BadVersion refl (is (ltb-false (length rest) 4 e))
       (ap (λ (a : Bool). version_rows a (n == 3)) g ∙ ap (λ (b : Bool). version_rows false b) f))))
-
-  -- after the end mark
-  pub over_judged : (state : State) (u : List Piece) → Says (End ∷ u) [] (judge_trailer set names state [])
-  over_judged state u = (refl, λ x. x)

@@ -5,6 +5,8 @@ pub mod BodyOnly
 pub mod CellLaws
 pub mod ConstantLaws
 pub mod EndsFound
+pub mod FaultAfter
+pub mod FaultBody
 pub mod FaultEnds
 pub mod FaultFields
 pub mod FaultFrame
@@ -13,6 +15,7 @@ pub mod FaultLaws
 pub mod FaultMarks
 pub mod FaultNames
 pub mod FaultOnce
+pub mod FaultTells
 pub mod FaultUnits
 pub mod FineLaws
 pub mod FoundLaws
@@ -21,6 +24,7 @@ pub mod FrontLaws
 pub mod HeadFound
 pub mod HeadLaws
 pub mod JudgeLaws
+pub mod Mirrors
 pub mod Names
 pub mod NormalFound
 pub mod PartLaws

@@ -19,7 +19,7 @@ use Rattle.vms_laws.proofs.SettledLaws.{SameIn, MeanSettled, cells_in, item_sett
 pub record Stay (c : ℕ) (xs ys : List Slot) : Type 0 where
   pub stays : (kind : Kind) (caps : List ℕ) (before after : List Slot) → xs ≡ before ++ (Number c kind caps ∷ after) → (more : List Slot) × (ys ≡ before ++ (Number c kind caps ∷ more))
 
-stay_same : (c : ℕ) (xs ys : List Slot) → ys ≡ xs → Stay c xs ys
+pub stay_same : (c : ℕ) (xs ys : List Slot) → ys ≡ xs → Stay c xs ys
 stay_same c xs ys e = record { stays = λ kind caps before after f. (after, e ∙ f) }
 
 -- where joined lists are split: in the first or in the second
