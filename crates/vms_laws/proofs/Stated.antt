@@ -1,13 +1,20 @@
 -- The laws as they are stated.
-use Rattle.std.proofs.Common.{refl}
+use Rattle.std.proofs.Common.{◌≡◌, ℕ, List, ◌++◌, length, Option, Some, refl, sym, ◌∙◌}
 use Rattle.vms_spec.specs.Streams.{written}
-use Rattle.vms_spec.specs.Judging.{judge, reading, at_start}
-use Rattle.vms_laws.specs.Laws.{FoundLaw, OnlyLaw, OneStreamLaw, ToldLaw, LocalLaw, ZeroedLaw, SectionLaw, WrittenLaw}
+use Rattle.vms_spec.specs.Judging.{State, judge, reading, at_start}
+use Rattle.vms_laws.specs.Laws.{FoundLaw, OnlyLaw, OneStreamLaw, ToldLaw, LocalLaw, ZeroedLaw, SectionLaw, WrittenLaw, RefusedLaw, FaultLaw, Answer, Taken, Faulty, EitherLaw, NeverBothLaw, AreOneFault, OneFaultLaw}
+use Rattle.vms_laws.proofs.FaultTells.{refused_is_fault, fault_is_refused}
+use Rattle.vms_spec.specs.Readings.{Reading, Accepted, Refused}
+use Rattle.vms_spec.specs.declared.Reason.{Reason}
+use Rattle.vms_spec.specs.Faults.{Fault}
 use Rattle.vms_laws.proofs.StreamFound.{found}
 use Rattle.vms_laws.proofs.StreamOnly.{only, one_stream}
 use Rattle.vms_laws.proofs.JudgeLaws.{judge_local}
 use Rattle.vms_laws.proofs.FaultLaws.{told}
 use Rattle.vms_laws.proofs.WrittenLaws.{zeroed_spells, written_section_is, written_is_stream}
+
+abbrev refusal : ℕ → Option ℕ → Reason → Reading State
+refusal place section reason = Refused place section reason
 
 pub found_holds : FoundLaw
 found_holds set names good input n end ok e = found set names good input n end ok e
@@ -45,3 +52,38 @@ written_holds set names few machine text images configured described ready rest 
   long = refl;
   all = all;
 }
+
+-- ---- refusals
+
+pub refused_holds : RefusedLaw
+refused_holds set names good input ok place section reason e = refused_is_fault set names good input place section reason ok e
+
+pub fault_holds : FaultLaw
+fault_holds set names good input ok place section reason f = fault_is_refused set names good input place section reason ok f
+
+pub either_holds : EitherLaw
+either_holds set names good input ok = by_reading (told_holds set names input).0 (told_holds set names input).1
+  where
+    by_reading : (r : Reading State) → reading set names input ≡ Some r → Answer set names input
+    by_reading (Accepted n end) e = Taken n end.machine end.images (found set names good input n end ok e)
+    by_reading (Refused place section reason) e = Faulty place section reason (refused_is_fault set names good input place section reason ok e)
+
+pub never_both_holds : NeverBothLaw
+never_both_holds set names good input ok n machine images place section reason t f =
+    let o = only set names good input n machine images t in
+    let e = sym o.is ∙ fault_is_refused set names good input place section reason ok f in
+    cc
+
+-- one refusal
+same_refusal : (place other_place : ℕ) (section other_section : Option ℕ) (reason other_reason : Reason) → Some (refusal place section reason) ≡ Some (refusal other_place other_section other_reason)
+    → AreOneFault place other_place section other_section reason other_reason
+same_refusal place other_place section other_section reason other_reason e =
+    let a : place ≡ other_place = cc in
+    let b : section ≡ other_section = cc in
+    let c : reason ≡ other_reason = cc in
+    record { places = a; sections = b; reasons = c }
+
+pub one_fault_holds : OneFaultLaw
+one_fault_holds set names good input ok place other_place section other_section reason other_reason f g =
+    same_refusal place other_place section other_section reason other_reason
+      (sym (fault_is_refused set names good input place section reason ok f) ∙ fault_is_refused set names good input other_place other_section other_reason ok g)

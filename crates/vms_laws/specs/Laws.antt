@@ -6,7 +6,9 @@ use Rattle.vms_spec.specs.Sets.{Device, Set}
 use Rattle.vms_spec.specs.Layout.{Slot}
 use Rattle.vms_spec.specs.Images.{Image, Spells, zeroed}
 use Rattle.vms_spec.specs.Streams.{IsSection, IsConfiguration, IsTrailer, Takes, IsReady, optional, configuration, trailer, written_section, written}
-use Rattle.vms_spec.specs.Readings.{Reading, Accepted}
+use Rattle.vms_spec.specs.declared.Reason.{Reason}
+use Rattle.vms_spec.specs.Readings.{Reading, Accepted, Refused}
+use Rattle.vms_spec.specs.Faults.{Fault}
 use Rattle.vms_spec.specs.Judging.{State, judge, reading}
 use Rattle.vms_laws.specs.Good.{IsGood}
 use Rattle.vms_laws.specs.Units.{IsLocal}
@@ -62,3 +64,43 @@ WrittenLaw = (set : Set) (names : List (List ℕ)) → length set.devices ≤ 42
     → IsConfiguration names machine (optional configuration machine) → IsTrailer text (optional trailer text) → AreReady set images
     → (rest : List ℕ) → (text ≡ None → rest ≡ [])
     → Takes set names (written set machine images text ++ rest) (length (written set machine images text)) machine images
+
+-- ---- refusals
+
+-- what the judge refuses is at fault there, for that device and that reason
+abbrev pub RefusedLaw : Type 0
+RefusedLaw = (set : Set) (names : List (List ℕ)) → IsGood set → (input : List ℕ) → IsBytes input → (place : ℕ) (section : Option ℕ) (reason : Reason)
+    → reading set names input ≡ Some (Refused place section reason) → Fault set names input place section reason
+
+-- what is at fault the judge refuses so
+abbrev pub FaultLaw : Type 0
+FaultLaw = (set : Set) (names : List (List ℕ)) → IsGood set → (input : List ℕ) → IsBytes input → (place : ℕ) (section : Option ℕ) (reason : Reason)
+    → Fault set names input place section reason → reading set names input ≡ Some (Refused place section reason)
+
+-- a stream is taken, or there is a fault
+pub data Answer (set : Set) (names : List (List ℕ)) (input : List ℕ) : Type 0 where
+  Taken : (n : ℕ) (machine : Option (List ℕ)) (images : List Image) → Takes set names input n machine images → Answer set names input
+  Faulty : (place : ℕ) (section : Option ℕ) (reason : Reason) → Fault set names input place section reason → Answer set names input
+
+-- every input has one of the two
+abbrev pub EitherLaw : Type 0
+EitherLaw = (set : Set) (names : List (List ℕ)) → IsGood set → (input : List ℕ) → IsBytes input → Answer set names input
+
+-- and never both
+abbrev pub NeverBothLaw : Type 0
+NeverBothLaw = (set : Set) (names : List (List ℕ)) → IsGood set → (input : List ℕ) → IsBytes input
+    → (n : ℕ) (machine : Option (List ℕ)) (images : List Image) (place : ℕ) (section : Option ℕ) (reason : Reason)
+    → Takes set names input n machine images → Fault set names input place section reason → ⊥
+
+-- two faults of an input are at one place, for one device and of one reason
+pub record AreOneFault (place other_place : ℕ) (section other_section : Option ℕ) (reason other_reason : Reason) : Type 0 where
+  pub places : place ≡ other_place
+  pub sections : section ≡ other_section
+  pub reasons : reason ≡ other_reason
+
+-- an input has one fault at most
+abbrev pub OneFaultLaw : Type 0
+OneFaultLaw = (set : Set) (names : List (List ℕ)) → IsGood set → (input : List ℕ) → IsBytes input
+    → (place other_place : ℕ) (section other_section : Option ℕ) (reason other_reason : Reason)
+    → Fault set names input place section reason → Fault set names input other_place other_section other_reason
+    → AreOneFault place other_place section other_section reason other_reason

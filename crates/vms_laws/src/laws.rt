@@ -1,6 +1,7 @@
 //! Each law is the contract of a function without a body. The statements stand in `specs/Laws.antt`; a set is good
 //! where `specs/Good.antt` says so, which each well-formed set is meant to be.
 ghost use Rattle.vms_laws.specs.Laws.{FoundLaw, OnlyLaw, OneStreamLaw, ToldLaw, LocalLaw, ZeroedLaw, SectionLaw, WrittenLaw};
+ghost use Rattle.vms_laws.specs.Laws.{RefusedLaw, FaultLaw, EitherLaw, NeverBothLaw, OneFaultLaw};
 
 /// What the judge accepts is a stream of the set at the front of the input, of just the bytes that were read, with the
 /// machine and the images that the judge ends with: for every good set, every list of accepted machines and every input.
@@ -50,4 +51,31 @@ pub fn section_law()
 #[tactic(auto, using(crate::proofs::Stated::written_holds))]
 pub fn written_law()
     ensures { WrittenLaw }
+{}
+
+/// What the judge refuses is at fault at that place, for that device and that reason, by the units before it and the table
+/// of reasons: for every good set and every input of bytes.
+#[tactic(auto, using(crate::proofs::Stated::refused_holds))]
+pub fn refused_law()
+    ensures { RefusedLaw }
+{}
+
+/// What is at fault the judge refuses at that place, for that device and that reason.
+pub fn fault_law()
+    ensures { FaultLaw }
+{}
+
+/// Every input of bytes has a stream that it takes, or a fault.
+pub fn either_law()
+    ensures { EitherLaw }
+{}
+
+/// No input has both a stream that it takes and a fault.
+pub fn never_both_law()
+    ensures { NeverBothLaw }
+{}
+
+/// An input has one fault at most: place, device and reason are determined by its bytes.
+pub fn one_fault_law()
+    ensures { OneFaultLaw }
 {}
