@@ -13,7 +13,7 @@ use Rattle.vms_spec.specs.Judging.{State, Fields, index, is_bad_bool, exceeds, s
 use Rattle.vms_spec.specs.Taking.{Taken, Progress, Refusal, refuse, on, take_number, take_constant, take_filler, take_desc, takers, cells_of}
 use Rattle.vms_laws.specs.Whole.{reading_on}
 use Rattle.vms_laws.proofs.FrameLaws.{one_unit}
-use Rattle.vms_laws.proofs.FaultLaws.{advances}
+use Rattle.vms_laws.proofs.ReadingLaws.{advances}
 use Rattle.vms_laws.proofs.JudgeLaws.{judge_local}
 use Rattle.vms_laws.proofs.StepLaws.{after, step, Walks, Is, Refuses, steps_keep}
 use Rattle.vms_laws.proofs.WalkLaws.{Comes, drop_next, set_desc_comes}

@@ -1,5 +1,5 @@
 -- The judge counts slots, the relation counts units: how the two stand to each other. And what bytes say as a number.
-use Rattle.std.proofs.Common.{◌≡◌, ℕ, zero, suc, ◌+◌, ◌<◌, List, [], ◌∷◌, ◌++◌, length, get_or, take, Option, Some, None, ℤ, refl, sym, ap, ◌∙◌, subst, arith, Bool, true, false, ◌&&◌}
+use Rattle.std.proofs.Common.{◌≡◌, ℕ, zero, suc, List, [], ◌∷◌, ◌++◌, length, Option, Some, None, ℤ, refl, ap, Bool, ◌&&◌}
 use Rattle.vms_kinds.specs.declared.Kind.{Kind}
 use Rattle.vms_kinds.specs.declared.Kind.TheVariants.{U8, U16, U32, U64, I8, I16, I32, I64, Bool as Truth, Timer}
 use Rattle.vms_kinds.specs.Codes.{width, code, value_of, InRange}
@@ -12,7 +12,7 @@ use Rattle.vms_spec.specs.Images.{Image}
 use Rattle.vms_spec.specs.Judging.{is_bad_bool, slots_of, index}
 use Rattle.vms_spec.specs.Units.{Piece, Magic as MagicPiece, Version, Configuration, Long, Head, Number as NumberPiece, Constant as ConstantPiece, Filler as FillerPiece, SubHead, Foot, End, Description, Start, Mark}
 use Rattle.vms_spec.specs.SoFar.{done, opened, slots, part_slots, slots_of_sub}
-use Rattle.vms_spec.specs.Dues.{left, rules_hold, due_field, due, raw}
+use Rattle.vms_spec.specs.Dues.{left, due_field, due, raw}
 
 -- how many of these slots are units
 pub units : List Slot → ℕ

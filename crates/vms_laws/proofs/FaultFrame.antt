@@ -1,20 +1,18 @@
 -- Refused is Fault, by one law for each unit.
-use Rattle.std.proofs.Common.{◌≡◌, ◌⊎◌, inl, inr, ℕ, zero, suc, ◌+◌, ◌<◌, ◌≤◌, List, [], ◌∷◌, ◌++◌, length, drop, Option, Some, None, refl, sym, ap, ◌∙◌, subst, arith, length-append, append_assoc, append-nil, Bool, true, false}
+use Rattle.std.proofs.Common.{◌≡◌, ℕ, zero, suc, ◌+◌, List, [], ◌∷◌, ◌++◌, length, drop, Option, Some, None, refl, sym, ap, ◌∙◌, subst, length-append, append_assoc, true}
 use Rattle.vms_spec.specs.Numbers.{IsBytes}
 use Rattle.vms_spec.specs.declared.Reason.{Reason}
-use Rattle.vms_spec.specs.declared.Reason.TheVariants as reasons
 use Rattle.vms_spec.specs.Sets.{Set}
-use Rattle.vms_spec.specs.Readings.{Verdict, Goes, Faulty, Over, Reading, Accepted, Refused, reading_from, reading_after}
+use Rattle.vms_spec.specs.Readings.{Verdict, Goes, Faulty, Over, Refused, reading_from, reading_after}
 use Rattle.vms_spec.specs.Judging.{State, judge, at_start}
 use Rattle.vms_laws.specs.Whole.{reading_on}
 use Rattle.vms_spec.specs.Units.{Piece, spell, spelled}
-use Rattle.vms_spec.specs.Dues.{Due, AMagic, AVersion, Between, Field, AfterFields, AfterEnd, Nothing, May, due, holds}
+use Rattle.vms_spec.specs.Dues.{due, holds}
 use Rattle.vms_spec.specs.Faults.{Front, IsWhole, Why, Fails, Cut, Wrong, Fault, Owes}
 use Rattle.vms_spec.specs.Table.{reason_of}
-use Rattle.vms_spec.specs.SoFar.{opened}
 use Rattle.vms_laws.proofs.HeadFound.{is_bytes_drop}
 use Rattle.vms_laws.proofs.HeadLaws.{unit_read}
-use Rattle.vms_laws.proofs.FaultLaws.{advances}
+use Rattle.vms_laws.proofs.ReadingLaws.{advances}
 use Rattle.vms_laws.proofs.JudgeLaws.{judge_local}
 use Rattle.vms_laws.proofs.BodyOnly.{front_drop}
 

@@ -1,25 +1,24 @@
 -- The judge's verdict on a section's head, by the relation.
-use Rattle.std.proofs.Common.{◌≡◌, ◌⊎◌, inl, inr, ℕ, zero, suc, ◌+◌, ◌<◌, ◌≤◌, List, [], ◌∷◌, ◌++◌, length, get_or, take, drop, slice_set, Option, Some, None, ℤ, pos, refl, sym, ap, ◌∙◌, subst, arith, length-append, length-drop, append_assoc, Bool, true, false, not, nat_lt, ◌==◌, ◌||◌, ◌&&◌, if◌then◌else◌}
-use Rattle.std.specs.Str.{bytes_eq}
-use Rattle.std.proofs.lemmas.Bool.{ltb-true, ltb-false, eqb-true}
+use Rattle.std.proofs.Common.{◌≡◌, ℕ, zero, suc, ◌+◌, ◌<◌, ◌≤◌, List, [], ◌∷◌, ◌++◌, length, get_or, drop, Option, Some, None, refl, sym, ap, ◌∙◌, subst, arith, length-append, length-drop, Bool, true, false, nat_lt, ◌==◌, ◌||◌, ◌&&◌, if◌then◌else◌}
+use Rattle.std.proofs.lemmas.Bool.{ltb-true, ltb-false}
 use Rattle.std.proofs.lemmas.List.{length-take-le}
 use Rattle.vms_spec.specs.Numbers.{IsBytes}
 use Rattle.vms_spec.specs.declared.Reason.{Reason}
 use Rattle.vms_spec.specs.declared.Reason.TheVariants as reasons
-use Rattle.vms_spec.specs.Sets.{Set, Device, Desc}
+use Rattle.vms_spec.specs.Sets.{Set, Device}
 use Rattle.vms_spec.specs.Streams.{at, be32}
-use Rattle.vms_spec.specs.Readings.{Verdict, Goes, Faulty, Over}
-use Rattle.vms_spec.specs.Judging.{State, Spot, whole, number_at, bytes_at, judge, judge_head, judge_device, find_device, index}
-use Rattle.vms_spec.specs.Units.{Piece, Magic, Version, Configuration, Long, Head, Number, Constant, Filler, SubHead, Foot, End, Description, Start, Mark, spell, spelled}
-use Rattle.vms_spec.specs.Dues.{Due, AMagic, AVersion, Between, Field, AfterFields, AfterEnd, Nothing, May, AtMagic, AtVersion, AtConfiguration, AtLongName, AtStart, AtHead, AtEnd, AtMark, AtNumber, AtConstant, AtFiller, AtSubHead, AtFoot, AtOther, AtDescription, AtLongText, AtTrailing, due, holds}
-use Rattle.vms_spec.specs.Faults.{Front, IsWhole, Why, Fails, Cut, Wrong, Fault, Owes}
+use Rattle.vms_spec.specs.Readings.{Verdict, Goes, Faulty}
+use Rattle.vms_spec.specs.Judging.{State, whole, number_at, bytes_at, judge_head, judge_device, find_device, index}
+use Rattle.vms_spec.specs.Units.{Piece, Head, spell}
+use Rattle.vms_spec.specs.Dues.{Due, Between, May, AtMagic, AtVersion, AtConfiguration, AtLongName, AtStart, AtHead, AtEnd, AtMark, AtNumber, AtConstant, AtFiller, AtSubHead, AtFoot, AtOther, AtDescription, AtLongText, AtTrailing, due, holds}
+use Rattle.vms_spec.specs.Faults.{IsWhole, Why, Cut, Wrong, Owes}
 use Rattle.vms_spec.specs.Table.{reason_of, test_some, is_none, table, first_row}
 use Rattle.vms_spec.specs.SoFar.{opened, come, device_named}
-use Rattle.vms_spec.specs.Lists.{position, at_option}
-use Rattle.vms_laws.proofs.HeadFound.{is_bytes_drop, split_one, split_four, four_low, head_bytes, found_is}
+use Rattle.vms_spec.specs.Lists.{at_option}
+use Rattle.vms_laws.proofs.HeadFound.{is_bytes_drop, four_low, head_bytes, found_is}
 use Rattle.vms_laws.proofs.HeadLaws.{opened as open_state}
 use Rattle.vms_laws.proofs.BodyOnly.{if_false, if_true}
-use Rattle.vms_laws.proofs.FaultFrame.{Judged, Passes}
+use Rattle.vms_laws.proofs.FaultFrame.{Judged}
 
 -- a unit must come where one is whole
 pub owes : (d : Due) (x : Piece) (more : List ℕ) → May d x → Owes d (spell x ++ more)

@@ -1,22 +1,21 @@
 -- The judge's verdict between sections, by the relation.
-use Rattle.std.proofs.Common.{◌≡◌, ◌⊎◌, inl, inr, ℕ, zero, suc, ◌+◌, ◌<◌, ◌≤◌, List, [], ◌∷◌, ◌++◌, length, get_or, take, drop, Option, Some, None, refl, sym, ap, ◌∙◌, subst, arith, length-append, length-drop, append_assoc, Bool, true, false, not, nat_lt, ◌==◌, ◌||◌, ◌&&◌, if◌then◌else◌}
+use Rattle.std.proofs.Common.{◌≡◌, ◌⊎◌, inl, inr, ℕ, ◌<◌, ◌≤◌, List, ◌∷◌, length, get_or, drop, Option, Some, None, refl, sym, ap, ◌∙◌, subst, Bool, true, false, not, nat_lt, ◌==◌, ◌||◌, ◌&&◌, if◌then◌else◌}
 use Rattle.std.proofs.lemmas.Bool.{ltb-true, ltb-false, eqb-true}
-use Rattle.vms_spec.specs.Numbers.{IsBytes}
 use Rattle.vms_spec.specs.declared.Reason.{Reason}
 use Rattle.vms_spec.specs.declared.Reason.TheVariants as reasons
 use Rattle.vms_spec.specs.Sets.{Set}
-use Rattle.vms_spec.specs.Readings.{Verdict, Goes, Faulty, Over}
-use Rattle.vms_spec.specs.Judging.{State, Ended as EndedSpot, whole, judge_mark, judge_end, judge_start, judge_head, judge_configuration, first_missing, goes_to}
-use Rattle.vms_spec.specs.Units.{Piece, End, Mark, Start, spell}
-use Rattle.vms_spec.specs.Dues.{Due, Between, May, AtEnd, AtMark, due, holds, is_start}
-use Rattle.vms_spec.specs.Faults.{IsWhole, Why, Cut, Wrong}
-use Rattle.vms_spec.specs.Table.{reason_of, table, first_row, missing, is_none}
+use Rattle.vms_spec.specs.Readings.{Verdict, Faulty}
+use Rattle.vms_spec.specs.Judging.{State, Ended as EndedSpot, judge_mark, judge_end, judge_start, judge_head, judge_configuration, first_missing}
+use Rattle.vms_spec.specs.Units.{Piece, End, Mark}
+use Rattle.vms_spec.specs.Dues.{Due, Between, May, AtEnd, AtMark, is_start}
+use Rattle.vms_spec.specs.Faults.{IsWhole, Wrong}
+use Rattle.vms_spec.specs.Table.{reason_of, table, first_row, is_none}
 use Rattle.vms_spec.specs.Lists.{position}
 use Rattle.vms_spec.specs.SoFar.{come}
 use Rattle.vms_laws.proofs.HeadFound.{split_one}
-use Rattle.vms_laws.proofs.BodyOnly.{if_false, if_true}
+use Rattle.vms_laws.proofs.BodyOnly.{if_true}
 use Rattle.vms_spec.proofs.DueSizes.{too_few, least}
-use Rattle.vms_laws.proofs.FaultFrame.{Judged, Passes}
+use Rattle.vms_laws.proofs.FaultFrame.{Judged}
 use Rattle.vms_laws.proofs.FaultHeads.{IsBetween, cut_here, by_test}
 
 or_true : (a b : Bool) → (a || b) ≡ true → (a ≡ true) ⊎ (b ≡ true)

@@ -1,23 +1,21 @@
 -- The judge's verdict on a configuration, by the relation.
-use Rattle.std.proofs.Common.{◌≡◌, ◌⊎◌, inl, inr, ℕ, zero, suc, ◌+◌, ◌<◌, ◌≤◌, List, [], ◌∷◌, ◌++◌, length, get_or, take, drop, Option, Some, None, refl, sym, ap, ◌∙◌, subst, arith, length-append, length-drop, append_assoc, Bool, true, false, not, nat_lt, ◌==◌, ◌||◌, ◌&&◌, if◌then◌else◌}
-use Rattle.std.proofs.lemmas.Bool.{ltb-true, ltb-false, eqb-true}
+use Rattle.std.proofs.Common.{◌≡◌, ℕ, suc, ◌+◌, ◌<◌, ◌≤◌, List, ◌∷◌, ◌++◌, length, get_or, drop, Option, Some, None, refl, sym, ap, ◌∙◌, subst, arith, length-append, length-drop, Bool, true, false, not, nat_lt, ◌==◌, ◌||◌, ◌&&◌, if◌then◌else◌}
+use Rattle.std.proofs.lemmas.Bool.{ltb-true, ltb-false}
 use Rattle.std.proofs.lemmas.List.{length-take-le, drop-drop, take-append-drop}
-use Rattle.byteorder.specs.Endian.{big_number}
 use Rattle.vms_spec.specs.Numbers.{IsBytes}
 use Rattle.vms_spec.specs.declared.Reason.{Reason}
 use Rattle.vms_spec.specs.declared.Reason.TheVariants as reasons
 use Rattle.vms_spec.specs.Sets.{Set}
-use Rattle.vms_spec.specs.Streams.{be32, configuration, is_one_of}
-use Rattle.vms_spec.specs.Readings.{Verdict, Goes, Faulty, Over}
+use Rattle.vms_spec.specs.Streams.{be32, is_one_of}
+use Rattle.vms_spec.specs.Readings.{Verdict, Goes, Faulty}
 use Rattle.vms_spec.specs.Judging.{State, Configured as ConfiguredSpot, whole, number_at, bytes_at, judge_configuration}
-use Rattle.vms_spec.specs.Units.{Piece, Magic, Version, Configuration, Long, Head, Number, Constant, Filler, SubHead, Foot, End, Description, Start, Mark, spell}
-use Rattle.vms_spec.specs.Dues.{Due, AMagic, AVersion, Between, Field, AfterFields, AfterEnd, Nothing, May, AtMagic, AtVersion, AtConfiguration, AtLongName, AtStart, AtHead, AtEnd, AtMark, AtNumber, AtConstant, AtFiller, AtSubHead, AtFoot, AtOther, AtDescription, AtLongText, AtTrailing, due, holds}
-use Rattle.vms_spec.specs.Faults.{IsWhole, Why, Cut, Wrong}
+use Rattle.vms_spec.specs.Units.{Piece, Configuration, Long, spell}
+use Rattle.vms_spec.specs.Dues.{Due, Between, May, AtMagic, AtVersion, AtConfiguration, AtLongName, AtStart, AtHead, AtEnd, AtMark, AtNumber, AtConstant, AtFiller, AtSubHead, AtFoot, AtOther, AtDescription, AtLongText, AtTrailing, due}
+use Rattle.vms_spec.specs.Faults.{IsWhole, Wrong}
 use Rattle.vms_spec.specs.Table.{reason_of, table, first_row}
 use Rattle.vms_laws.proofs.HeadFound.{is_bytes_drop, split_one, split_four, four_low}
 use Rattle.vms_spec.proofs.KindLaws.{be32_read}
-use Rattle.vms_laws.proofs.BodyOnly.{if_false, if_true}
-use Rattle.vms_laws.proofs.FaultFrame.{Judged, Passes}
+use Rattle.vms_laws.proofs.FaultFrame.{Judged}
 use Rattle.vms_laws.proofs.FaultHeads.{IsBetween, cut_here, by_test}
 
 -- the bytes that a configuration wants

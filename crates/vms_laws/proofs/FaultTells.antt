@@ -1,5 +1,5 @@
 -- Each verdict of the judge, by the relation; and so: refused is at fault, and at fault is refused.
-use Rattle.std.proofs.Common.{◌≡◌, ℕ, zero, suc, ◌<◌, List, [], ◌∷◌, ◌++◌, length, get_or, drop, drop_at, slice_set, map, Option, Some, None, refl, sym, ap, ◌∙◌, subst, arith, Bool, true, false}
+use Rattle.std.proofs.Common.{◌≡◌, ℕ, ◌<◌, List, [], ◌∷◌, ◌++◌, length, get_or, drop, drop_at, slice_set, Option, Some, None, refl, sym, ap, ◌∙◌, subst, arith, Bool, true, false}
 use Rattle.std.proofs.lemmas.List.{length-set, length-map}
 use Rattle.vms_spec.specs.declared.Reason.{Reason}
 use Rattle.vms_spec.specs.Lists.{at, at_option}
@@ -8,10 +8,10 @@ use Rattle.vms_spec.specs.Sets.{Set, Device, Sub}
 use Rattle.vms_spec.specs.Layout.{Slot}
 use Rattle.vms_spec.specs.Images.{Image, default_image}
 use Rattle.vms_spec.specs.Readings.{Verdict, Refused}
-use Rattle.vms_spec.specs.Judging.{judge_configuration, State, Spot, Magic as MagicSpot, Version as VersionSpot, First as FirstSpot, Configured as ConfiguredSpot, Later as LaterSpot, Fields as FieldsSpot, Ended as EndedSpot, Described as DescribedSpot, slots_of, index, judge, judge_at, judge_mark, judge_fields, judge_slots, judge_trailer, at_start, reading}
-use Rattle.vms_spec.specs.Units.{Piece, Magic, Head, Configuration, End, Description}
-use Rattle.vms_spec.specs.SoFar.{mark_come, fresh, device_named, device, come, opened, done, part, image, slots, part_slots}
-use Rattle.vms_spec.specs.Dues.{Due, due_field, due, left, rules_hold}
+use Rattle.vms_spec.specs.Judging.{judge_configuration, State, Spot, Magic as MagicSpot, Version as VersionSpot, First as FirstSpot, Configured as ConfiguredSpot, Later as LaterSpot, Fields as FieldsSpot, Ended as EndedSpot, Described as DescribedSpot, slots_of, index, judge_at, judge_mark, judge_fields, judge_slots, at_start, reading}
+use Rattle.vms_spec.specs.Units.{Piece, Head, End}
+use Rattle.vms_spec.specs.SoFar.{mark_come, fresh, device_named, device, come, done, part, image, slots, part_slots}
+use Rattle.vms_spec.specs.Dues.{due_field, left, rules_hold}
 use Rattle.vms_spec.specs.Faults.{Fault}
 use Rattle.vms_laws.specs.Good.{IsGood}
 use Rattle.vms_laws.proofs.BodyLaws.{at_set}
@@ -48,7 +48,11 @@ module _ (set : Set) (names : List (List ℕ)) (good : IsGood set) where
         came = ap (λ (l : List Bool). slice_set l k true) came ∙ sym (ap (mark_come (come set u)) e);
         long = length-set state.images k y ∙ long;
         stands = record {
-          d = d; there = there; open_is = e; id_is = refl; part_is = refl;
+          d = d;
+          there = there;
+          open_is = e;
+          id_is = refl;
+          part_is = refl;
           image_is = at_set state.images k y inside ∙ ap (λ (i : Image). Some i) (sym is);
           came_long = ap (λ (i : Image). length i.came) is ∙ length-map d.subs (λ (s : Sub). not_come);
           before = [];
@@ -66,10 +70,10 @@ module _ (set : Set) (names : List (List ℕ)) (good : IsGood set) where
   between_said u directly after state rest ok came long s =
       let b : IsBetween set names (Mirrors set) u directly after state = record { due_is = s.due_is; held = s.held; none = s.none; came = came } in
       mark_judged set names (Mirrors set) u directly after state rest b
-        (record { came = came; long = long; stands = (u, refl) })
-        (λ mark. start_judged set names (Mirrors set) u directly after state rest ok b mark)
-        (λ mark. head_judged_by set names (Mirrors set) u directly after state rest ok b mark (λ id name instance v k d e there. after_section_head u state came long id name instance v k d e there))
-        (λ mark first. configured directly first b mark)
+      (record { came = came; long = long; stands = (u, refl) })
+      (λ mark. start_judged set names (Mirrors set) u directly after state rest ok b mark)
+      (λ mark. head_judged_by set names (Mirrors set) u directly after state rest ok b mark (λ id name instance v k d e there. after_section_head u state came long id name instance v k d e there))
+      (λ mark first. configured directly first b mark)
     where
       configured : (directly : Bool) → directly ≡ true → IsBetween set names (Mirrors set) u directly after state → get_or rest 0 0 ≡ 7 → Says u rest (judge_configuration set names state rest)
       configured true first b mark = configuration_judged set names (Mirrors set) u after state rest ok b mark (λ name. record { came = came; long = long; stands = record { due_is = refl; held = refl; none = refl } })
@@ -82,34 +86,44 @@ module _ (set : Set) (names : List (List ℕ)) (good : IsGood set) where
       let i = image set u in
       let device_is : device set u ≡ Some m.d = ap (at_option set.devices) m.open_is ∙ m.there in
       let all : slots_of set names m.d i p (at m.d.subs (index p)) (at i.came (index p)) ≡ m.before ++ m.after =
-        same_slots set names m.d i p ∙ ap (part_slots set (Some m.d) i) (sym m.part_is) ∙ ap (λ (o : Option Device). part_slots set o i (part set u)) (sym device_is) ∙ m.slots_are in
+      same_slots set names m.d i p ∙ ap (part_slots set (Some m.d) i) (sym m.part_is) ∙ ap (λ (o : Option Device). part_slots set o i (part set u)) (sym device_is) ∙ m.slots_are in
       let rest_is = ap (drop passed) all ∙ drop_at m.before m.after passed m.passed_is in
       let a : AtSlots set names good u state m.d k id p passed m.after = record {
-        there = m.there; open_is = m.open_is; id_is = m.id_is; part_is = m.part_is; image_is = m.image_is; came_long = m.came_long;
-        before = m.before; slots_are = m.slots_are; counted = m.counted; passed_is = m.passed_is; came = came; long = long;
+        there = m.there;
+        open_is = m.open_is;
+        id_is = m.id_is;
+        part_is = m.part_is;
+        image_is = m.image_is;
+        came_long = m.came_long;
+        before = m.before;
+        slots_are = m.slots_are;
+        counted = m.counted;
+        passed_is = m.passed_is;
+        came = came;
+        long = long;
         due_is = due_open set u k m.open_is ∙ ap (λ (o : Option ℕ). due_field o (left (done u) (slots set u))) m.open_is ∙ ap (due_field (Some k)) m.left_is;
         held = ap rules_hold m.left_is;
       } in
       let said = slots_said set names good u state rest ok m.d k id p passed m.after a (λ passed a. after_said set names good u state rest ok m.d k id p passed a) in
       subst (λ (o : Option Device). Says u rest (judge_fields set names state k id p passed o (at state.images k) rest)) (sym m.there)
-        (subst (λ (o : Option Image). Says u rest (judge_fields set names state k id p passed (Some m.d) o rest)) (sym m.image_is)
-          (subst (λ (l : List Slot). Says u rest (judge_slots set names state m.d i k id p passed l rest)) (sym rest_is) said))
+      (subst (λ (o : Option Image). Says u rest (judge_fields set names state k id p passed (Some m.d) o rest)) (sym m.image_is)
+      (subst (λ (l : List Slot). Says u rest (judge_slots set names state m.d i k id p passed l rest)) (sym rest_is) said))
 
   at_spot : (spot : Spot) (u : List Piece) (state : State) (rest : List ℕ) → IsBytes rest → state.came ≡ come set u → length state.images ≡ length set.devices → StandsAt set u state.images spot
       → Says u rest (judge_at set names spot state rest)
   at_spot MagicSpot u state rest ok came long e =
       subst (λ (u : List Piece). Says u rest (judge_at set names MagicSpot state rest)) (sym e)
-        (magic_judged set names state rest (came ∙ ap (come set) e) long)
+      (magic_judged set names state rest (came ∙ ap (come set) e) long)
   at_spot VersionSpot u state rest ok came long (bytes, v, e) =
       subst (λ (u : List Piece). Says u rest (judge_at set names VersionSpot state rest)) (sym e)
-        (version_judged set names bytes v state rest ok (came ∙ ap (come set) e) long)
+      (version_judged set names bytes v state rest ok (came ∙ ap (come set) e) long)
   at_spot FirstSpot u state rest ok came long s = between_said u true false state rest ok came long s
   at_spot ConfiguredSpot u state rest ok came long s = between_said u false true state rest ok came long s
   at_spot LaterSpot u state rest ok came long s = between_said u false false state rest ok came long s
   at_spot (FieldsSpot k id p passed) u state rest ok came long m = fields_said u state rest ok k id p passed came long m
   at_spot EndedSpot u state rest ok came long (v, e) =
       subst (λ (u : List Piece). Says u rest (judge_at set names EndedSpot state rest)) (sym e)
-        (trailer_judged set names (Mirrors set) v state rest ok (λ text. record { came = came ∙ ap (come set) e; long = long; stands = (text, End ∷ v, refl) }))
+      (trailer_judged set names (Mirrors set) v state rest ok (λ text. record { came = came ∙ ap (come set) e; long = long; stands = (text, End ∷ v, refl) }))
   at_spot DescribedSpot u state rest ok came long (text, v, e) =
       subst (λ (u : List Piece). Says u rest (judge_at set names DescribedSpot state rest)) (sym e) (refl, λ x. x)
 

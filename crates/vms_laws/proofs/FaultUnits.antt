@@ -1,25 +1,24 @@
 -- The judge's verdicts on the stream head, by the relation.
-use Rattle.std.proofs.Common.{◌≡◌, ◌⊎◌, inl, inr, ℕ, zero, suc, ◌+◌, ◌<◌, ◌≤◌, List, [], ◌∷◌, ◌++◌, length, get_or, take, drop, slice_set, Option, Some, None, ℤ, pos, refl, sym, ap, ◌∙◌, subst, arith, length-append, length-drop, append_assoc, Bool, true, false, not, nat_lt, ◌==◌, ◌||◌, ◌&&◌, if◌then◌else◌}
+use Rattle.std.proofs.Common.{◌≡◌, ℕ, ◌≤◌, List, [], ◌∷◌, length, take, drop, Option, Some, None, refl, sym, ap, ◌∙◌, Bool, true, false, not, nat_lt, ◌==◌, ◌||◌, if◌then◌else◌}
 use Rattle.std.specs.Str.{bytes_eq}
-use Rattle.std.proofs.lemmas.List.{drop-drop, take-append-drop, length-take-le}
+use Rattle.std.proofs.lemmas.List.{take-append-drop, length-take-le}
 use Rattle.std.proofs.lemmas.Bool.{ltb-true, ltb-false, eqb-true}
-use Rattle.byteorder.specs.Endian.{big_number}
 use Rattle.vms_spec.specs.Numbers.{IsBytes}
 use Rattle.vms_spec.specs.declared.Reason.{Reason}
 use Rattle.vms_spec.specs.declared.Reason.TheVariants as reasons
 use Rattle.vms_spec.specs.Sets.{Set}
-use Rattle.vms_spec.specs.Streams.{magic, be32, longest_text, is_one_of, configuration}
-use Rattle.vms_spec.specs.Readings.{Verdict, Goes, Faulty, Over}
-use Rattle.vms_spec.specs.Judging.{State, Spot, Magic as MagicSpot, Version as VersionSpot, First as FirstSpot, Configured as ConfiguredSpot, Later as LaterSpot, Fields as FieldsSpot, Ended as EndedSpot, Described as DescribedSpot, whole, number_at, bytes_at, judge, judge_magic, judge_version, judge_configuration, judge_trailer, judge_description, judge_text, at_start, goes_to}
-use Rattle.vms_spec.specs.Units.{Piece, Magic, Version, Configuration, Long, Head, Number, Constant, Filler, SubHead, Foot, End, Description, Start, Mark, spell, spelled}
-use Rattle.vms_spec.specs.Dues.{Due, AMagic, AVersion, Between, Field, AfterFields, AfterEnd, Nothing, May, AtMagic, AtVersion, AtConfiguration, AtLongName, AtStart, AtHead, AtEnd, AtMark, AtNumber, AtConstant, AtFiller, AtSubHead, AtFoot, AtOther, AtDescription, AtLongText, AtTrailing, due, holds}
-use Rattle.vms_spec.specs.Faults.{Front, IsWhole, Why, Fails, Cut, Wrong, Fault, Owes}
+use Rattle.vms_spec.specs.Streams.{magic}
+use Rattle.vms_spec.specs.Readings.{Verdict, Faulty}
+use Rattle.vms_spec.specs.Judging.{State, Version as VersionSpot, First as FirstSpot, number_at, judge_magic, judge_version, goes_to}
+use Rattle.vms_spec.specs.Units.{Piece, Magic, Version}
+use Rattle.vms_spec.specs.Dues.{AtMagic, AtVersion}
+use Rattle.vms_spec.specs.Faults.{IsWhole, Cut, Wrong}
 use Rattle.vms_spec.specs.Table.{reason_of}
-use Rattle.vms_spec.specs.SoFar.{opened, come}
-use Rattle.vms_laws.proofs.HeadFound.{is_bytes_drop, split_one, split_four, four_low}
+use Rattle.vms_spec.specs.SoFar.{come}
+use Rattle.vms_laws.proofs.HeadFound.{split_four, four_low}
 use Rattle.vms_laws.proofs.BodyOnly.{if_false, if_true}
 use Rattle.vms_spec.proofs.DueSizes.{too_few}
-use Rattle.vms_laws.proofs.FaultFrame.{Judged, Passes}
+use Rattle.vms_laws.proofs.FaultFrame.{Judged}
 use Rattle.vms_laws.proofs.Mirrors.{Mirrors}
 
 version_rows : Bool → Bool → Option (Option ℕ × Reason)

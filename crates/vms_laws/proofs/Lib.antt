@@ -11,7 +11,6 @@ pub mod FaultEnds
 pub mod FaultFields
 pub mod FaultFrame
 pub mod FaultHeads
-pub mod FaultLaws
 pub mod FaultMarks
 pub mod FaultNames
 pub mod FaultOnce
@@ -20,7 +19,6 @@ pub mod FaultUnits
 pub mod FineLaws
 pub mod FoundLaws
 pub mod FrameLaws
-pub mod FrontLaws
 pub mod HeadFound
 pub mod HeadLaws
 pub mod JudgeLaws
@@ -29,6 +27,7 @@ pub mod Names
 pub mod NormalFound
 pub mod PartLaws
 pub mod Places
+pub mod ReadingLaws
 pub mod SectionFound
 pub mod SectionLaws
 pub mod SectionsOnly

@@ -10,7 +10,7 @@ use Rattle.vms_spec.specs.Streams.{section_head, foot, be32}
 use Rattle.vms_spec.specs.Readings.{Goes, Faulty}
 use Rattle.vms_spec.specs.Judging.{State, Ended, Later, judge, judge_mark, judge_end, first_missing}
 use Rattle.vms_laws.specs.Whole.{reading_on}
-use Rattle.vms_laws.proofs.FaultLaws.{advances}
+use Rattle.vms_laws.proofs.ReadingLaws.{advances}
 use Rattle.vms_laws.proofs.JudgeLaws.{judge_local}
 use Rattle.vms_laws.proofs.BodyLaws.{at_set}
 use Rattle.vms_laws.proofs.HeadLaws.{unit_read}

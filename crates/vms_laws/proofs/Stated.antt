@@ -1,16 +1,15 @@
 -- The laws as they are stated.
-use Rattle.std.proofs.Common.{◌≡◌, ℕ, List, ◌++◌, length, Option, Some, refl, sym, ◌∙◌}
+use Rattle.std.proofs.Common.{◌≡◌, ℕ, Option, Some, refl, sym, ◌∙◌}
 use Rattle.vms_spec.specs.Streams.{written}
 use Rattle.vms_spec.specs.Judging.{State, judge, reading, at_start}
 use Rattle.vms_laws.specs.Laws.{FoundLaw, OnlyLaw, OneStreamLaw, ToldLaw, LocalLaw, ZeroedLaw, SectionLaw, WrittenLaw, RefusedLaw, FaultLaw, Answer, Taken, Faulty, EitherLaw, NeverBothLaw, AreOneFault, OneFaultLaw}
 use Rattle.vms_laws.proofs.FaultTells.{refused_is_fault, fault_is_refused}
 use Rattle.vms_spec.specs.Readings.{Reading, Accepted, Refused}
 use Rattle.vms_spec.specs.declared.Reason.{Reason}
-use Rattle.vms_spec.specs.Faults.{Fault}
 use Rattle.vms_laws.proofs.StreamFound.{found}
 use Rattle.vms_laws.proofs.StreamOnly.{only, one_stream}
 use Rattle.vms_laws.proofs.JudgeLaws.{judge_local}
-use Rattle.vms_laws.proofs.FaultLaws.{told}
+use Rattle.vms_laws.proofs.ReadingLaws.{told}
 use Rattle.vms_laws.proofs.WrittenLaws.{zeroed_spells, written_section_is, written_is_stream}
 
 abbrev refusal : ℕ → Option ℕ → Reason → Reading State
@@ -86,4 +85,4 @@ same_refusal place other_place section other_section reason other_reason e =
 pub one_fault_holds : OneFaultLaw
 one_fault_holds set names good input ok place other_place section other_section reason other_reason f g =
     same_refusal place other_place section other_section reason other_reason
-      (sym (fault_is_refused set names good input place section reason ok f) ∙ fault_is_refused set names good input other_place other_section other_reason ok g)
+    (sym (fault_is_refused set names good input place section reason ok f) ∙ fault_is_refused set names good input other_place other_section other_reason ok g)

@@ -5,12 +5,11 @@ use Rattle.vms_spec.specs.declared.Reason.{Reason}
 use Rattle.vms_spec.specs.Sets.{Device, Set}
 use Rattle.vms_spec.specs.Images.{Image, default_image}
 use Rattle.vms_spec.specs.Streams
-use Rattle.vms_spec.specs.Readings.{Verdict, Faulty, Reading, Accepted, Refused, reading_after}
+use Rattle.vms_spec.specs.Readings.{Verdict, Faulty, Reading, Accepted, reading_after}
 use Rattle.vms_spec.specs.Judging.{State, Version, First, Configured, Ended, Later, judge_trailer, whole, bytes_at, judge, judge_mark, judge_end, judge_start, judge_head, judge_configuration, reading, first_missing, at_start}
-use Rattle.vms_laws.specs.Fronts.{IsFault}
 use Rattle.vms_laws.specs.Whole.{reading_on}
 use Rattle.vms_laws.proofs.JudgeLaws.{judge_local}
-use Rattle.vms_laws.proofs.FaultLaws.{fault_read, read_fault, advances}
+use Rattle.vms_laws.proofs.ReadingLaws.{advances}
 use Rattle.vms_laws.specs.Good.{IsGood}
 use Rattle.vms_laws.proofs.FineLaws.{fine_normal, fine_valid}
 use Rattle.vms_laws.proofs.EndsFound.{magic_found, version_found, first_found, trailer_found}
@@ -26,17 +25,6 @@ use Rattle.vms_laws.proofs.HeadFound.{Opens, Reads, not_faulty, either, split_on
 use Rattle.std.proofs.lemmas.Bool.{ltb-false, eqb-true}
 use Rattle.std.specs.Str.{bytes_eq}
 use Rattle.vms_spec.specs.declared.Reason.TheVariants as reasons
-
--- refused is a fault, and a fault is refused: for every set
-pub refused : (set : Set) (names : List (List ℕ)) (input : List ℕ) (at : ℕ) (section : Option ℕ) (reason : Reason)
-    → reading set names input ≡ Some (Refused at section reason) → IsFault (judge set names) (at_start set) input at section reason
-unfolding reading
-refused set names input at section reason e = read_fault (judge set names) (judge_local set names) (at_start set) input at section reason e
-
-pub fault : (set : Set) (names : List (List ℕ)) (input : List ℕ) (at : ℕ) (section : Option ℕ) (reason : Reason)
-    → IsFault (judge set names) (at_start set) input at section reason → reading set names input ≡ Some (Refused at section reason)
-unfolding reading
-fault set names input at section reason f = fault_read (judge set names) (judge_local set names) (at_start set) input at section reason f
 
 never_read : (go : State → ℕ → List ℕ → Option (Reading State)) (place : ℕ) (rest : List ℕ) (n : ℕ) (end : State) (section : Option ℕ) (reason : Reason) → Reads go place rest n end (Faulty section reason) → ⊥
 never_read go place rest n end section reason h = cc

@@ -1,25 +1,22 @@
 -- What is taken is accepted, and for every input exactly one: a stream that it takes, or a fault.
-use Rattle.std.proofs.Common.{◌≡◌, ◌⊎◌, inl, inr, sym, ◌∙◌, refl, ap, arith, if◌then◌else◌, nat_lt, ℕ, zero, suc, ◌+◌, ◌≤◌, List, [], ◌∷◌, ◌++◌, length, map, Option, Some, None, Bool, true, false, append_assoc, length-append}
+use Rattle.std.proofs.Common.{◌≡◌, sym, ◌∙◌, refl, ap, arith, if◌then◌else◌, nat_lt, ℕ, zero, suc, ◌+◌, ◌≤◌, List, [], ◌∷◌, ◌++◌, length, map, Option, Some, None, Bool, true, false, append_assoc, length-append}
 use Rattle.std.proofs.lemmas.Bool.{le-ltb}
-use Rattle.vms_spec.specs.Numbers.{IsBytes}
-use Rattle.vms_spec.specs.declared.Reason.{Reason}
 use Rattle.vms_spec.specs.declared.Reason.TheVariants as reasons
 use Rattle.vms_spec.specs.Sets.{Device, Set}
 use Rattle.vms_spec.specs.Images.{Image}
 use Rattle.vms_spec.specs.Streams
 use Rattle.vms_spec.specs.Streams.{be32, magic, configuration, trailer, longest_text, is_one_of, end_mark, stream_head}
-use Rattle.vms_spec.specs.Readings.{Verdict, Goes, Faulty, Reading, Accepted, Refused}
+use Rattle.vms_spec.specs.Readings.{Verdict, Goes, Faulty, Reading, Accepted}
 use Rattle.vms_spec.specs.Judging.{State, Spot, Version, First, Configured, Ended, Described, number_at, bytes_at, whole, judge, judge_magic, judge_version, judge_mark, judge_configuration, judge_text, judge_description, reading, at_start}
-use Rattle.vms_laws.specs.Fronts.{IsFault}
 use Rattle.vms_laws.specs.Whole.{reading_on}
-use Rattle.vms_laws.proofs.FaultLaws.{advances, told}
+use Rattle.vms_laws.proofs.ReadingLaws.{advances}
 use Rattle.vms_laws.proofs.JudgeLaws.{judge_local}
 use Rattle.vms_laws.proofs.HeadLaws.{unit_read}
 use Rattle.vms_spec.proofs.KindLaws.{be32_read}
 use Rattle.vms_laws.proofs.BodyOnly.{if_false, if_true, front_take}
 use Rattle.vms_laws.proofs.SectionsOnly.{sections_only}
 use Rattle.vms_laws.specs.Good.{IsGood}
-use Rattle.vms_laws.proofs.StreamFound.{falses, defaults_of, found, refused, fault}
+use Rattle.vms_laws.proofs.StreamFound.{falses, defaults_of}
 
 -- the text of a unit of a mark, a length and a text
 text_at : (mark : ℕ) (text rest : List ℕ) → bytes_at (length text) 5 ((mark ∷ be32 (length text) ++ text) ++ rest) ≡ text
@@ -187,28 +184,6 @@ only set names good input n machine images t =
           ∙ unit_read J a s1 s2 4 (be32 3) (s.named ++ more) (version_read set names s1 (s.named ++ more))
           ∙ go.is;
     }
-
--- for every input exactly one: a stream that it takes, or a fault
-pub one_of : (set : Set) (names : List (List ℕ)) → IsGood set → (input : List ℕ) → IsBytes input
-    → ((n : ℕ) × (machine : Option (List ℕ)) × (images : List Image) × Streams.Takes set names input n machine images)
-    ⊎ ((at : ℕ) × (section : Option ℕ) × (reason : Reason) × IsFault (judge set names) (at_start set) input at section reason)
-unfolding reading
-one_of set names good input ok =
-    let t = told (judge set names) (judge_local set names) (at_start set) 0 input in
-    which t.0 t.1
-  where
-    which : (x : Reading State) → reading set names input ≡ Some x
-        → ((n : ℕ) × (machine : Option (List ℕ)) × (images : List Image) × Streams.Takes set names input n machine images)
-        ⊎ ((at : ℕ) × (section : Option ℕ) × (reason : Reason) × IsFault (judge set names) (at_start set) input at section reason)
-    which (Accepted n end) e = inl (n, end.machine, end.images, found set names good input n end ok e)
-    which (Refused at section reason) e = inr (at, section, reason, refused set names input at section reason e)
-
-pub never_both : (set : Set) (names : List (List ℕ)) → IsGood set → (input : List ℕ) (n at : ℕ) (machine : Option (List ℕ)) (images : List Image) (section : Option ℕ) (reason : Reason)
-    → Streams.Takes set names input n machine images → IsFault (judge set names) (at_start set) input at section reason → ⊥
-never_both set names good input n at machine images section reason t f =
-    let o = only set names good input n machine images t in
-    let e = sym o.is ∙ fault set names input at section reason f in
-    cc
 
 -- an input takes one stream at most
 pub one_stream : (set : Set) (names : List (List ℕ)) → IsGood set → (input : List ℕ) (n m : ℕ) (machine other : Option (List ℕ)) (images others : List Image)

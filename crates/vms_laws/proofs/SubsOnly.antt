@@ -12,7 +12,7 @@ use Rattle.vms_spec.specs.Readings.{Goes, reading_after}
 use Rattle.vms_spec.specs.Judging.{State, Fields, Later, judge_mark, judge_after, slots_of, judge}
 use Rattle.vms_spec.specs.Taking.{Progress, take_desc, takers}
 use Rattle.vms_laws.specs.Whole.{reading_on}
-use Rattle.vms_laws.proofs.FaultLaws.{advances}
+use Rattle.vms_laws.proofs.ReadingLaws.{advances}
 use Rattle.vms_laws.proofs.JudgeLaws.{judge_local}
 use Rattle.vms_laws.proofs.Names.{or_false, names_append}
 use Rattle.vms_laws.proofs.BodyLaws.{in_body, read_body, body_read, at_set, set_twice}

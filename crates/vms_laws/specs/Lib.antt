@@ -1,5 +1,4 @@
 pub mod Cells
-pub mod Fronts
 pub mod Good
 pub mod Laws
 pub mod Sound

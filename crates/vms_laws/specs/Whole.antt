@@ -1,7 +1,6 @@
 -- Readings with as many units as there can be.
-use Rattle.std.specs.Prelude.{◌≡◌, ℕ, suc, ◌<◌, ◌≤◌, List, ◌++◌, length, Option}
-use Rattle.vms_spec.specs.Readings.{Verdict, Goes, Over, Reading, reading_from}
-use Rattle.vms_laws.specs.Fronts.{Leads, spelled}
+use Rattle.std.specs.Prelude.{◌≡◌, ℕ, suc, ◌<◌, ◌≤◌, List, length, Option}
+use Rattle.vms_spec.specs.Readings.{Verdict, Goes, Reading, reading_from}
 
 abbrev pub reading_on : {S : Type 0} → (S → List ℕ → Verdict S) → S → ℕ → List ℕ → Option (Reading S)
 reading_on judge state at rest = reading_from judge (suc (length rest)) state at rest
@@ -9,13 +8,3 @@ reading_on judge state at rest = reading_from judge (suc (length rest)) state at
 -- each unit has a byte, and all its bytes are there
 pub record Advances {S : Type 0} (judge : S → List ℕ → Verdict S) : Type 0 where
   pub goes : (state : S) (rest : List ℕ) (n : ℕ) (next : S) → judge state rest ≡ Goes n next → (0 < n) × (n ≤ length rest)
-
--- a front of the input is units without a fault, and what is read ends after them
-pub record IsTaken {S : Type 0} (judge : S → List ℕ → Verdict S) (start : S) (input : List ℕ) (at : ℕ) (end : S) : Type 0 where
-  pub units : List (List ℕ)
-  pub state : S
-  pub rest : List ℕ
-  pub front : Leads judge start units state
-  pub whole : input ≡ spelled judge units ++ rest
-  pub place : length (spelled judge units) ≡ at
-  pub over : judge state rest ≡ Over end
