@@ -84,7 +84,7 @@ mixed_set = record {
           version = 2;
           minimum = 1;
           fields = record (number U32 (codes "a")) { default = pos 7 } ∷ record (number U8 (codes "b")) { since = 2; default = pos 1 } ∷ [];
-          validate = Or (Below 2) (Cell Own 1 255 Ge 1) ∷ [];
+          validate = Or (Below 2) (Cell Own 0 255 Ge 1) ∷ [];
         };
         needed = Cell Parent 0 255 Ge 2;
       } ∷ [])

@@ -8,3 +8,4 @@ mod SetRows
 mod PlaceRows
 mod ShippedRows
 mod FaultRows
+mod WellFormedRows

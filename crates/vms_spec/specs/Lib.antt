@@ -15,5 +15,8 @@ pub mod Readings
 pub mod Judging
 pub mod Taking
 pub mod Values
+pub mod Names
+pub mod Rules
+pub mod WellFormed
 pub mod Shipped
 pub mod First

@@ -8,16 +8,22 @@
 /// How a masked number is compared with a value in a test.
 #[derive(Clone, Copy, Debug, PartialEq, Eq)]
 pub enum Rel {
+    /// Equal.
     Eq,
+    /// Not equal.
     Ne,
+    /// Less than the value.
     Lt,
+    /// The value or more.
     Ge,
 }
 
 /// Whose field a test asks: the description's own, or the device's where a subsection's needed test asks.
 #[derive(Clone, Copy, Debug, PartialEq, Eq)]
 pub enum Whose {
+    /// The description's own field.
     Own,
+    /// The device's field.
     Parent,
 }
 
@@ -32,10 +38,31 @@ pub enum Count {
     Counted { by: u32, capacity: u32 },
 }
 
+/// A part of a description set, by its numbers.
+#[derive(Clone, Copy, Debug, PartialEq, Eq)]
+pub enum Part {
+    /// The set itself.
+    Set,
+    /// A structure.
+    Struct(u32),
+    /// A device.
+    Device(u32),
+    /// A device's subsection.
+    Sub(u32, u32),
+}
+
+/// A place in a description set: a part, or a field of a structure, a device or a subsection.
+#[derive(Clone, Copy, Debug, PartialEq, Eq)]
+pub struct Place {
+    pub part: Part,
+    /// The number of the field; none where the part itself is meant.
+    pub field: Option<u32>,
+}
+
 /// Why a stream is refused, in the order in which the reasons are tried within one unit.
 #[derive(Clone, Copy, Debug, PartialEq, Eq)]
 pub enum Reason {
-    /// What this stage of the program doesn't read yet.
+    /// What the loader doesn't read yet.
     Unbuilt,
     /// The input ends inside the unit.
     Truncated,
@@ -51,7 +78,7 @@ pub enum Reason {
     Ram,
     /// Another section that is sent in parts.
     Iterative,
-    /// A command of the return path.
+    /// A command section.
     Command,
     /// A subsection of the configuration.
     ConfigurationExtra,
