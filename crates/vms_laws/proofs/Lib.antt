@@ -43,5 +43,6 @@ pub mod SubsFound
 pub mod SubsOnly
 pub mod UnitLaws
 pub mod WalkLaws
+pub mod WellFormedLaws
 pub mod Witness
 pub mod WrittenLaws

@@ -2,7 +2,9 @@
 use Rattle.std.proofs.Common.{◌≡◌, ℕ, Option, Some, refl, sym, ◌∙◌}
 use Rattle.vms_spec.specs.Streams.{written}
 use Rattle.vms_spec.specs.Judging.{State, judge, reading, at_start}
-use Rattle.vms_laws.specs.Laws.{FoundLaw, OnlyLaw, OneStreamLaw, ToldLaw, LocalLaw, ZeroedLaw, SectionLaw, WrittenLaw, RefusedLaw, FaultLaw, Answer, Taken, Faulty, EitherLaw, NeverBothLaw, AreOneFault, OneFaultLaw}
+use Rattle.vms_laws.proofs.WellFormedLaws.{well_good}
+use Rattle.vms_laws.proofs.Witness.{good_0, good_1, good_2, good_3}
+use Rattle.vms_laws.specs.Laws.{GoodLaw, ShippedLaw, FoundLaw, OnlyLaw, OneStreamLaw, ToldLaw, LocalLaw, ZeroedLaw, SectionLaw, WrittenLaw, RefusedLaw, FaultLaw, Answer, Taken, Faulty, EitherLaw, NeverBothLaw, AreOneFault, OneFaultLaw}
 use Rattle.vms_laws.proofs.FaultTells.{refused_is_fault, fault_is_refused}
 use Rattle.vms_spec.specs.Readings.{Reading, Accepted, Refused}
 use Rattle.vms_spec.specs.declared.Reason.{Reason}
@@ -14,6 +16,12 @@ use Rattle.vms_laws.proofs.WrittenLaws.{zeroed_spells, written_section_is, writt
 
 abbrev refusal : ℕ → Option ℕ → Reason → Reading State
 refusal place section reason = Refused place section reason
+
+pub good_holds : GoodLaw
+good_holds set well heads = well_good set well heads
+
+pub shipped_holds : ShippedLaw
+shipped_holds = (good_0, good_1, good_2, good_3)
 
 pub found_holds : FoundLaw
 found_holds set names good input n end ok e = found set names good input n end ok e

@@ -1,4 +1,4 @@
--- What the laws want of a set. Each part follows from well-formedness and from the types of the parts.
+-- What the laws want of a set. It follows from well-formedness and from the types of the parts.
 use Rattle.std.specs.Prelude.{◌≡◌, ℕ, ◌^◌, ◌<◌, List, [], ◌∷◌, length, get_or, Some}
 use Rattle.vms_kinds.specs.declared.Item.{Item}
 use Rattle.vms_kinds.specs.declared.Item.TheVariants.{Equal}
@@ -37,5 +37,10 @@ pub record IsGood (set : Set) : Type 0 where
   pub constants : (k : ℕ) (d : Device) → at set.devices k ≡ Some d → ConstantsFit d.desc.fields
   pub sub_constants : (k j : ℕ) (d : Device) (s : Sub) → at set.devices k ≡ Some d → at d.subs j ≡ Some s → ConstantsFit s.desc.fields
   -- what stands in four bytes
+  pub instance : (k : ℕ) (d : Device) → at set.devices k ≡ Some d → (d.instance < 2 ^ 32) × (d.desc.version < 2 ^ 32)
+  pub sub_version : (k j : ℕ) (d : Device) (s : Sub) → at set.devices k ≡ Some d → at d.subs j ≡ Some s → s.desc.version < 2 ^ 32
+
+-- the numbers that a section head and a subsection head have for them are of four bytes
+pub record FitsHeads (set : Set) : Type 0 where
   pub instance : (k : ℕ) (d : Device) → at set.devices k ≡ Some d → (d.instance < 2 ^ 32) × (d.desc.version < 2 ^ 32)
   pub sub_version : (k j : ℕ) (d : Device) (s : Sub) → at set.devices k ≡ Some d → at d.subs j ≡ Some s → s.desc.version < 2 ^ 32

@@ -10,8 +10,18 @@ use Rattle.vms_spec.specs.declared.Reason.{Reason}
 use Rattle.vms_spec.specs.Readings.{Reading, Accepted, Refused}
 use Rattle.vms_spec.specs.Faults.{Fault}
 use Rattle.vms_spec.specs.Judging.{State, judge, reading}
-use Rattle.vms_laws.specs.Good.{IsGood}
+use Rattle.vms_spec.specs.WellFormed.{WellFormed}
+use Rattle.vms_spec.specs.Shipped.{set_0, set_1, set_2, set_3}
+use Rattle.vms_laws.specs.Good.{FitsHeads, IsGood}
 use Rattle.vms_laws.specs.Units.{IsLocal}
+
+-- a set that is well formed and whose numbers fit their four bytes is good
+abbrev pub GoodLaw : Type 0
+GoodLaw = (set : Set) → WellFormed set → FitsHeads set → IsGood set
+
+-- so is each shipped set
+abbrev pub ShippedLaw : Type 0
+ShippedLaw = IsGood set_0 × IsGood set_1 × IsGood set_2 × IsGood set_3
 
 -- what the judge accepts, the input takes
 abbrev pub FoundLaw : Type 0

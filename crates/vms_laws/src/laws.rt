@@ -1,7 +1,19 @@
-//! Each law is the contract of a function without a body. The statements stand in `specs/Laws.antt`; a set is good
-//! where `specs/Good.antt` says so, which each well-formed set is meant to be.
-ghost use Rattle.vms_laws.specs.Laws.{FoundLaw, OnlyLaw, OneStreamLaw, ToldLaw, LocalLaw, ZeroedLaw, SectionLaw, WrittenLaw};
+//! Each law is the contract of a function without a body. The statements stand in `specs/Laws.antt`. Most are about good
+//! sets, which `specs/Good.antt` defines: the first two laws say which sets are good.
+ghost use Rattle.vms_laws.specs.Laws.{GoodLaw, ShippedLaw, FoundLaw, OnlyLaw, OneStreamLaw, ToldLaw, LocalLaw, ZeroedLaw, SectionLaw, WrittenLaw};
 ghost use Rattle.vms_laws.specs.Laws.{RefusedLaw, FaultLaw, EitherLaw, NeverBothLaw, OneFaultLaw};
+
+/// A well-formed set is good, where instance ids and versions are below 2^32, as the heads of sections have them.
+#[tactic(auto, using(crate::proofs::Stated::good_holds))]
+pub fn good_law()
+    ensures { GoodLaw }
+{}
+
+/// Each shipped set is good.
+#[tactic(auto, using(crate::proofs::Stated::shipped_holds))]
+pub fn shipped_law()
+    ensures { ShippedLaw }
+{}
 
 /// What the judge accepts is a stream of the set at the front of the input, of just the bytes that were read, with the
 /// machine and the images that the judge ends with: for every good set, every list of accepted machines and every input.
