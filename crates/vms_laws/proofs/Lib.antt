@@ -26,8 +26,10 @@ pub mod Mirrors
 pub mod Names
 pub mod NormalFound
 pub mod PartLaws
+pub mod PathLaws
 pub mod Places
 pub mod ReadingLaws
+pub mod ReadyLaws
 pub mod SectionFound
 pub mod SectionLaws
 pub mod SectionsOnly

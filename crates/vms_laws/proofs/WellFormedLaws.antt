@@ -1,5 +1,5 @@
 -- A set that is well formed is good.
-use Rattle.std.proofs.Common.{◌≡◌, ℕ, zero, suc, ◌+◌, ◌<◌, ◌^◌, List, [], ◌∷◌, ◌++◌, length, get_or, map, take, Option, Some, None, ℤ, pos, negsuc, ◌≤ℤ◌, refl, sym, ap, ◌∙◌, subst, arith, Bool, true, false, not, ◌&&◌, ◌||◌, ◌==◌, nat_lt, nat_le, if◌then◌else◌}
+use Rattle.std.proofs.Common.{◌≡◌, ℕ, zero, suc, ◌+◌, ◌<◌, List, [], ◌∷◌, ◌++◌, length, get_or, map, take, Option, Some, None, ℤ, pos, negsuc, ◌≤ℤ◌, refl, sym, ap, ◌∙◌, subst, arith, Bool, true, false, ◌&&◌, ◌||◌, ◌==◌, nat_lt, nat_le, if◌then◌else◌}
 use Rattle.std.specs.List.{AllByRecursion, flat_map}
 use Rattle.std.specs.Str.{bytes_eq}
 use Rattle.std.proofs.lemmas.Bool.{and_parts, not-true, ltb-true, leb-true, eq-eqb}
@@ -15,15 +15,15 @@ use Rattle.vms_spec.specs.declared.Whose.TheVariants.{Own, Parent}
 use Rattle.vms_spec.specs.declared.Part.{Part}
 use Rattle.vms_spec.specs.declared.Part.TheVariants as parts
 use Rattle.vms_spec.specs.declared.Place.{Place}
-use Rattle.vms_spec.specs.Lists.{at, position, every, some, or_else, first_answer}
+use Rattle.vms_spec.specs.Lists.{at, position, some, or_else, first_answer}
 use Rattle.vms_spec.specs.Sets.{Formula, AtLeast, Below, Cell, Not, And, Or, Field, Desc, Sub, Device, Set}
-use Rattle.vms_spec.specs.Layout.{Cell as OneCell, no_cell, no_field, no_desc, times, counted, capacity_of, item_cells, field_cells, cells_from, desc_cells, struct_cells, device_cells, first}
+use Rattle.vms_spec.specs.Layout.{Cell as OneCell, no_field, no_desc, times, counted, capacity_of, item_cells, field_cells, cells_from, desc_cells, struct_cells, device_cells, first}
 use Rattle.vms_spec.specs.Images.{FitsCell}
 use Rattle.vms_spec.specs.Streams.{is_one_of}
 use Rattle.vms_spec.specs.Judging.{find_device, find_sub}
 use Rattle.vms_spec.specs.Rules.{is_num, is_one, has_no_test, is_steady, is_steady_in, is_earlier_in, names_well, nobody, test_names_well, count_names_well, is_counting, defaults_well, counts_well, int_le, in_range, field_rules, validation_rules}
-use Rattle.vms_spec.specs.WellFormed.{SetFault, failing, here, in_field, fields_fault, validations_fault, desc_fault, struct_fault, struct_rules, sub_fault, sub_rules, device_fault, device_rules, is_same_device, set_rules, size_rules, first_fault, WellFormed}
-use Rattle.vms_laws.specs.Sound.{IsNumber, IsOne, IsEarlier, NamesEarlier, IsSoundTest, IsSoundCount, IsSoundField, AreSoundFields, IsSound, AreSound}
+use Rattle.vms_spec.specs.WellFormed.{failing, here, in_field, fields_fault, validations_fault, desc_fault, struct_fault, struct_rules, sub_fault, sub_rules, device_fault, device_rules, is_same_device, set_rules, size_rules, first_fault, WellFormed}
+use Rattle.vms_laws.specs.Sound.{IsNumber, IsOne, IsEarlier, NamesEarlier, IsSoundTest, IsSoundCount, IsSoundField, AreSoundFields, IsSound}
 use Rattle.vms_laws.specs.Good.{DefaultsFit, ConstantFits, ConstantsFit, FitsHeads, IsGood}
 use Rattle.vms_laws.proofs.PartLaws.{at_inside}
 
@@ -162,14 +162,16 @@ sound : (k : ℕ) (d : Desc) (rules : List Bool) → Clean k d rules → IsSound
 sound k d rules c = record {
   fields = sound_fields d.fields 0 d.fields (λ j f e. at_zero j f (field j f e));
   validate = sound_validations d.fields d.validate (λ i t e.
-    names_earlier d.fields (length d.fields) (is_steady_in d) (λ j h. earlier d (length d.fields) j (inside j h) h) t (c.validations i t e).1.1.1.0);
+      names_earlier d.fields (length d.fields) (is_steady_in d) (λ j h. earlier d (length d.fields) j (inside j h) h) t (c.validations i t e).1.1.1.0);
 } where
   field : (j : ℕ) (f : Field) → at d.fields j ≡ Some f → IsSoundField d.fields j f
   field j f e =
       let p = and_parts (test_names_well d j f.test) (count_names_well d j f.count) (c.fields j f e).1.1.1.0 in
       record { test = sound_test d j f.test p.0; count = sound_count d j f.count p.1 }
+
   at_zero : (j : ℕ) (f : Field) → IsSoundField d.fields j f → IsSoundField d.fields (0 + j) f
   at_zero j f s = let plus : j ≡ 0 + j = omega arith in subst (λ (k : ℕ). IsSoundField d.fields k f) plus s
+
   inside : (j : ℕ) → is_steady_in d j ≡ true → j < length d.fields
   inside j h = by_field (at d.fields j) refl h
     where
@@ -179,16 +181,16 @@ sound k d rules c = record {
 
 -- ---- defaults and constants
 
-int_below : (z u : ℤ) → int_le z u ≡ true → z ≤ℤ u
+pub int_below : (z u : ℤ) → int_le z u ≡ true → z ≤ℤ u
 int_below (pos a) (pos b) h = omega (arith, ints, leb-true a b h)
 int_below (pos a) (negsuc b) h = cc
 int_below (negsuc a) (pos b) h = omega (arith, ints)
 int_below (negsuc a) (negsuc b) h = omega (arith, ints, leb-true b a h)
 
-ranges : (kind : Kind) (z : ℤ) → in_range kind z ≡ true → InRange kind z
+pub ranges : (kind : Kind) (z : ℤ) → in_range kind z ≡ true → InRange kind z
 ranges kind z e = let p = and_parts (int_le (lowest kind) z) (int_le z (highest kind)) e in (int_below (lowest kind) z p.0, int_below z (highest kind) p.1)
 
-within : (caps : List ℕ) (z : ℤ) → counts_well caps z ≡ true → AllByRecursion (λ most. z ≤ℤ pos most) caps
+pub within : (caps : List ℕ) (z : ℤ) → counts_well caps z ≡ true → AllByRecursion (λ most. z ≤ℤ pos most) caps
 within [] z e = tt
 within (m ∷ caps) z e = let p = and_parts (int_le z (pos m)) (counts_well caps z) e in (int_below z (pos m) p.0, within caps z p.1)
 
@@ -246,17 +248,19 @@ fit_fields structs all fields i (f ∷ fs) h =
     let caps = counted i fields in
     let counts : counts_well caps f.default ≡ true = subst (λ (k : ℕ). counts_well (counted k fields) f.default ≡ true) plus a.1 in
     fit_append (field_cells structs fields i f) (cells_from structs fields (suc i) fs)
-      (fit_times (capacity_of f.count) (item_cells structs f.item caps f.default) 0 0 (fit_item structs all f.item caps f.default a.0 counts))
-      (fit_fields structs all fields (suc i) fs (record { fit = λ j g e. next j g (h.fit (suc j) g e) }))
+    (fit_times (capacity_of f.count) (item_cells structs f.item caps f.default) 0 0 (fit_item structs all f.item caps f.default a.0 counts))
+    (fit_fields structs all fields (suc i) fs (record { fit = λ j g e. next j g (h.fit (suc j) g e) }))
   where
     next : (j : ℕ) (g : Field) → (defaults_well g.item g.default ≡ true) × (counts_well (counted (i + suc j) fields) g.default ≡ true)
         → (defaults_well g.item g.default ≡ true) × (counts_well (counted (suc i + j) fields) g.default ≡ true)
     next j g p = let plus : i + suc j ≡ suc i + j = omega arith in (p.0, subst (λ (k : ℕ). counts_well (counted k fields) g.default ≡ true) plus p.1)
 
 fields_fit : (k : ℕ) (d : Desc) (rules : List Bool) → Clean k d rules → FieldsFit d.fields 0 d.fields
-fields_fit k d rules c = record { fit = λ j f e.
-  let p = and_parts (defaults_well f.item f.default) (counts_well (counted j d.fields) f.default) (c.fields j f e).1.1.1.1.1.0 in
-  (p.0, at_zero j f p.1) } where
+fields_fit k d rules c = record {
+  fit = λ j f e.
+      let p = and_parts (defaults_well f.item f.default) (counts_well (counted j d.fields) f.default) (c.fields j f e).1.1.1.1.1.0 in
+      (p.0, at_zero j f p.1);
+} where
   at_zero : (j : ℕ) (f : Field) → counts_well (counted j d.fields) f.default ≡ true → counts_well (counted (0 + j) d.fields) f.default ≡ true
   at_zero j f e = let plus : j ≡ 0 + j = omega arith in subst (λ (k : ℕ). counts_well (counted k d.fields) f.default ≡ true) plus e
 
@@ -316,7 +320,7 @@ module _ (set : Set) (well : WellFormed set) where
   struct_clean j d e =
       let plus : 0 + j ≡ j = omega arith in
       clean j d (parts.Struct j) (struct_rules set.structs j d)
-        (subst (λ (i : ℕ). struct_fault set.structs i d ≡ None) plus (no_answer (struct_fault set.structs) 0 set.structs parts_clean.0 j d e))
+      (subst (λ (i : ℕ). struct_fault set.structs i d ≡ None) plus (no_answer (struct_fault set.structs) 0 set.structs parts_clean.0 j d e))
 
   -- the device's own part, and its subsections
   device_parts : (k : ℕ) (d : Device) → at set.devices k ≡ Some d
@@ -331,14 +335,14 @@ module _ (set : Set) (well : WellFormed set) where
   sub_clean k j d s e f =
       let plus : 0 + j ≡ j = omega arith in
       clean (length set.structs) s.desc (parts.Sub k j) (sub_rules d j s)
-        (subst (λ (i : ℕ). sub_fault (length set.structs) k d i s ≡ None) plus (no_answer (sub_fault (length set.structs) k d) 0 d.subs (device_parts k d e).1 j s f))
+      (subst (λ (i : ℕ). sub_fault (length set.structs) k d i s ≡ None) plus (no_answer (sub_fault (length set.structs) k d) 0 d.subs (device_parts k d e).1 j s f))
 
   -- structure m, of which there may be none
   struct_fits : (structs : List (List OneCell)) → AllFit structs → (m : ℕ) (o : Option Desc) → at set.structs m ≡ o → Fit (desc_cells structs (get_or set.structs m no_desc))
   struct_fits structs all m None e = subst (λ (d : Desc). Fit (desc_cells structs d)) (sym (get_none set.structs m no_desc e)) tt
   struct_fits structs all m (Some d) e =
       subst (λ (d : Desc). Fit (desc_cells structs d)) (sym (get_at set.structs m no_desc d e))
-        (fit_fields structs all d.fields 0 d.fields (fields_fit m d (struct_rules set.structs m d) (struct_clean m d e)))
+      (fit_fields structs all d.fields 0 d.fields (fields_fit m d (struct_rules set.structs m d) (struct_clean m d e)))
 
   structs_fit : (m : ℕ) → AllFit (first desc_cells set.structs m)
   unfolding first
@@ -346,7 +350,7 @@ module _ (set : Set) (well : WellFormed set) where
   structs_fit (suc m) =
       let all = structs_fit m in
       all_append (first desc_cells set.structs m) (desc_cells (first desc_cells set.structs m) (get_or set.structs m no_desc)) all
-        (struct_fits (first desc_cells set.structs m) all m (at set.structs m) refl)
+      (struct_fits (first desc_cells set.structs m) all m (at set.structs m) refl)
 
   part_fits : (d : Desc) (rules : List Bool) → Clean (length set.structs) d rules → Fit (desc_cells (struct_cells set) d)
   part_fits d rules c = fit_fields (struct_cells set) (structs_fit (length set.structs)) d.fields 0 d.fields (fields_fit (length set.structs) d rules c)
@@ -359,15 +363,15 @@ module _ (set : Set) (well : WellFormed set) where
   device_fits : (k : ℕ) (d : Device) → at set.devices k ≡ Some d → Fit (device_cells set d)
   device_fits k d e =
       fit_append (desc_cells (struct_cells set) d.desc) (flat_map (λ (s : Sub). desc_cells (struct_cells set) s.desc) d.subs)
-        (part_fits d.desc (device_rules set k d) (device_parts k d e).0)
-        (subs_fit d.subs (λ j s f. part_fits s.desc (sub_rules d j s) (sub_clean k j d s e f)))
+      (part_fits d.desc (device_rules set k d) (device_parts k d e).0)
+      (subs_fit d.subs (λ j s f. part_fits s.desc (sub_rules d j s) (sub_clean k j d s e f)))
 
   device_found : (k : ℕ) (d : Device) → at set.devices k ≡ Some d → find_device 0 set.devices d.desc.name d.instance ≡ Some k
   device_found k d e =
       let new = not-true (some (is_same_device d.desc.name d.instance) (take k set.devices)) (device_parts k d e).0.own.1.0 in
       let plus : 0 + k ≡ k = omega arith in
       first_of (is_same_device d.desc.name d.instance) 0 set.devices k d e
-        (both (bytes_eq d.desc.name d.desc.name) (d.instance == d.instance) (same_bytes d.desc.name) (eq-eqb d.instance d.instance refl)) new
+      (both (bytes_eq d.desc.name d.desc.name) (d.instance == d.instance) (same_bytes d.desc.name) (eq-eqb d.instance d.instance refl)) new
       ∙ ap (λ (k : ℕ). Some k) plus
 
   sub_found : (k j : ℕ) (d : Device) (s : Sub) → at set.devices k ≡ Some d → at d.subs j ≡ Some s → find_sub 0 d.subs s.desc.name ≡ Some j

@@ -1,5 +1,5 @@
 -- The laws of the format, each as a statement.
-use Rattle.std.specs.Prelude.{◌≡◌, ℕ, ◌≤◌, ◌<◌, List, [], ◌++◌, length, Option, Some, None, ℤ}
+use Rattle.std.specs.Prelude.{◌≡◌, Bool, true, ℕ, ◌≤◌, ◌<◌, List, [], ◌++◌, length, Option, Some, None, ℤ}
 use Rattle.vms_spec.specs.Lists.{at}
 use Rattle.vms_spec.specs.Numbers.{IsBytes}
 use Rattle.vms_spec.specs.Sets.{Device, Set}
@@ -10,6 +10,8 @@ use Rattle.vms_spec.specs.declared.Reason.{Reason}
 use Rattle.vms_spec.specs.Readings.{Reading, Accepted, Refused}
 use Rattle.vms_spec.specs.Faults.{Fault}
 use Rattle.vms_spec.specs.Judging.{State, judge, reading}
+use Rattle.vms_spec.specs.Places.{cell_at, cell_count}
+use Rattle.vms_spec.specs.Readiness.{is_ready}
 use Rattle.vms_spec.specs.WellFormed.{WellFormed}
 use Rattle.vms_spec.specs.Shipped.{set_0, set_1, set_2, set_3}
 use Rattle.vms_laws.specs.Good.{FitsHeads, IsGood}
@@ -22,6 +24,19 @@ GoodLaw = (set : Set) → WellFormed set → FitsHeads set → IsGood set
 -- so is each shipped set
 abbrev pub ShippedLaw : Type 0
 ShippedLaw = IsGood set_0 × IsGood set_1 × IsGood set_2 × IsGood set_3
+
+-- the cell of a path is one of the device's
+abbrev pub CellLaw : Type 0
+CellLaw = (set : Set) (k : ℕ) (part : Option ℕ) (path : List (ℕ × ℕ)) (c : ℕ) → cell_at set k part path ≡ Some c → c < cell_count set k
+
+-- a test is true exactly where a fact holds
+pub record Decided (test : Bool) (P : Type 0) : Type 0 where
+  pub holds : test ≡ true → P
+  pub passes : P → test ≡ true
+
+-- the test of readiness is the relation
+abbrev pub ReadyLaw : Type 0
+ReadyLaw = (set : Set) (d : Device) (image : Image) → Decided (is_ready set d image) (IsReady set d image)
 
 -- what the judge accepts, the input takes
 abbrev pub FoundLaw : Type 0

@@ -1,6 +1,6 @@
 //! Each law is the contract of a function without a body. The statements stand in `specs/Laws.antt`. Most are about good
 //! sets, which `specs/Good.antt` defines: the first two laws say which sets are good.
-ghost use Rattle.vms_laws.specs.Laws.{GoodLaw, ShippedLaw, FoundLaw, OnlyLaw, OneStreamLaw, ToldLaw, LocalLaw, ZeroedLaw, SectionLaw, WrittenLaw};
+ghost use Rattle.vms_laws.specs.Laws.{GoodLaw, ShippedLaw, CellLaw, ReadyLaw, FoundLaw, OnlyLaw, OneStreamLaw, ToldLaw, LocalLaw, ZeroedLaw, SectionLaw, WrittenLaw};
 ghost use Rattle.vms_laws.specs.Laws.{RefusedLaw, FaultLaw, EitherLaw, NeverBothLaw, OneFaultLaw};
 
 /// A well-formed set is good, where instance ids and versions are below 2^32, as the heads of sections have them.
@@ -13,6 +13,19 @@ pub fn good_law()
 #[tactic(auto, using(crate::proofs::Stated::shipped_holds))]
 pub fn shipped_law()
     ensures { ShippedLaw }
+{}
+
+/// The cell that a path names is one of the device's cells, for every set.
+#[tactic(auto, using(crate::proofs::Stated::cell_holds))]
+pub fn cell_law()
+    ensures { CellLaw }
+{}
+
+/// The test of readiness, which computes, is true exactly where an image is ready: normal, valid, at the set's versions, and
+/// with exactly the needed subsections.
+#[tactic(auto, using(crate::proofs::Stated::ready_holds))]
+pub fn ready_law()
+    ensures { ReadyLaw }
 {}
 
 /// What the judge accepts is a stream of the set at the front of the input, of just the bytes that were read, with the

@@ -9,3 +9,4 @@ mod PlaceRows
 mod ShippedRows
 mod FaultRows
 mod WellFormedRows
+mod ReadyRows

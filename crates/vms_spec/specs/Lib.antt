@@ -18,5 +18,6 @@ pub mod Values
 pub mod Names
 pub mod Rules
 pub mod WellFormed
+pub mod Readiness
 pub mod Shipped
 pub mod First
