@@ -10,3 +10,4 @@ mod ShippedRows
 mod FaultRows
 mod WellFormedRows
 mod ReadyRows
+mod ValuesRows

@@ -15,6 +15,8 @@ pub mod Readings
 pub mod Judging
 pub mod Taking
 pub mod Values
+pub mod Spelling
+pub mod ValuesReading
 pub mod Names
 pub mod Rules
 pub mod WellFormed

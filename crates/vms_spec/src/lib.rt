@@ -117,3 +117,20 @@ pub enum Reason {
     /// The description's length is above 16,777,216.
     DescriptionTooLong,
 }
+
+/// Why a values text is refused at a line, in the order in which the reasons are tried there.
+#[derive(Clone, Copy, Debug, PartialEq, Eq)]
+pub enum ValuesReason {
+    /// The line isn't the one that must stand there, or is one too many or too few.
+    Form,
+    /// The number is misspelled or out of its kind's range.
+    Number,
+    /// The number is above the capacity of an array that it counts.
+    Count,
+    /// The cell isn't there at the set's version and not at its default.
+    Absent,
+    /// A validation fails in this section or subsection.
+    Invalid,
+    /// The subsection's line doesn't say whether it is needed, or a cell that isn't needed is not at its default.
+    Needed,
+}
