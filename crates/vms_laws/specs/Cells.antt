@@ -1,0 +1,17 @@
+-- Slots beside cells.
+use Rattle.std.specs.Prelude.{◌≡◌, ℕ, ◌<◌, List, [], ◌∷◌, length, get_or}
+use Rattle.vms_kinds.specs.declared.Kind.{Kind}
+use Rattle.vms_spec.specs.Layout.{Slot, Number, Constant, Filler, Rule, Cell, no_cell}
+
+pub record IsCell (all : List Cell) (c : ℕ) (k : Kind) (caps : List ℕ) : Type 0 where
+  pub within : c < length all
+  pub kind : (get_or all c no_cell).kind ≡ k
+  pub capacities : (get_or all c no_cell).capacities ≡ caps
+
+-- each number of the slots is a cell of this list
+abbrev pub AreCells : List Cell → List Slot → Type 0
+AreCells all [] = Unit {0}
+AreCells all (Number c kind caps ∷ slots) = IsCell all c kind caps × AreCells all slots
+AreCells all (Constant kind z ∷ slots) = AreCells all slots
+AreCells all (Filler n ∷ slots) = AreCells all slots
+AreCells all (Rule b ∷ slots) = AreCells all slots

@@ -1,0 +1,131 @@
+-- The laws of the format, each as a statement.
+use Rattle.std.specs.Prelude.{◌≡◌, Bool, true, ℕ, ◌≤◌, ◌<◌, List, [], ◌++◌, length, Option, Some, None, ℤ}
+use Rattle.vms_spec.specs.Lists.{at}
+use Rattle.vms_spec.specs.Numbers.{IsBytes}
+use Rattle.vms_spec.specs.Sets.{Device, Set}
+use Rattle.vms_spec.specs.Layout.{Slot}
+use Rattle.vms_spec.specs.Images.{Image, Spells, zeroed}
+use Rattle.vms_spec.specs.Streams.{IsSection, IsConfiguration, IsTrailer, Takes, IsReady, optional, configuration, trailer, written_section, written}
+use Rattle.vms_spec.specs.declared.Reason.{Reason}
+use Rattle.vms_spec.specs.Readings.{Reading, Accepted, Refused}
+use Rattle.vms_spec.specs.Faults.{Fault}
+use Rattle.vms_spec.specs.Judging.{State, judge, reading}
+use Rattle.vms_spec.specs.Places.{cell_at, cell_count}
+use Rattle.vms_spec.specs.Readiness.{is_ready}
+use Rattle.vms_spec.specs.WellFormed.{WellFormed}
+use Rattle.vms_spec.specs.Shipped.{set_0, set_1, set_2, set_3}
+use Rattle.vms_laws.specs.Good.{FitsHeads, IsGood}
+use Rattle.vms_laws.specs.Units.{IsLocal}
+
+-- a set that is well formed and whose numbers fit their four bytes is good
+abbrev pub GoodLaw : Type 0
+GoodLaw = (set : Set) → WellFormed set → FitsHeads set → IsGood set
+
+-- so is each shipped set
+abbrev pub ShippedLaw : Type 0
+ShippedLaw = IsGood set_0 × IsGood set_1 × IsGood set_2 × IsGood set_3
+
+-- the cell of a path is one of the device's
+abbrev pub CellLaw : Type 0
+CellLaw = (set : Set) (k : ℕ) (part : Option ℕ) (path : List (ℕ × ℕ)) (c : ℕ) → cell_at set k part path ≡ Some c → c < cell_count set k
+
+-- a test is true exactly where a fact holds
+pub record Decided (test : Bool) (P : Type 0) : Type 0 where
+  pub holds : test ≡ true → P
+  pub passes : P → test ≡ true
+
+-- the test of readiness is the relation
+abbrev pub ReadyLaw : Type 0
+ReadyLaw = (set : Set) (d : Device) (image : Image) → Decided (is_ready set d image) (IsReady set d image)
+
+-- what the judge accepts, the input takes
+abbrev pub FoundLaw : Type 0
+FoundLaw = (set : Set) (names : List (List ℕ)) → IsGood set → (input : List ℕ) (n : ℕ) (end : State) → IsBytes input
+    → reading set names input ≡ Some (Accepted n end) → Takes set names input n end.machine end.images
+
+-- what an input takes, the judge accepts, with the same machine and images
+abbrev pub OnlyLaw : Type 0
+OnlyLaw = (set : Set) (names : List (List ℕ)) → IsGood set → (input : List ℕ) (n : ℕ) (machine : Option (List ℕ)) (images : List Image)
+    → Takes set names input n machine images
+    → (end : State) × (reading set names input ≡ Some (Accepted n end)) × (end.machine ≡ machine) × (end.images ≡ images)
+
+-- two streams that an input takes are of one length, name one machine, if any, and have the same images
+pub record AreSame (n m : ℕ) (machine other : Option (List ℕ)) (images others : List Image) : Type 0 where
+  pub lengths : n ≡ m
+  pub machines : machine ≡ other
+  pub states : images ≡ others
+
+-- an input takes one stream at most
+abbrev pub OneStreamLaw : Type 0
+OneStreamLaw = (set : Set) (names : List (List ℕ)) → IsGood set → (input : List ℕ) (n m : ℕ) (machine other : Option (List ℕ)) (images others : List Image)
+    → Takes set names input n machine images → Takes set names input m other others → AreSame n m machine other images others
+
+-- the judge accepts or refuses every input
+abbrev pub ToldLaw : Type 0
+ToldLaw = (set : Set) (names : List (List ℕ)) (input : List ℕ) → (told : Reading State) × (reading set names input ≡ Some told)
+
+-- a verdict on a unit is one on its bytes alone, of which there is one at least
+abbrev pub LocalLaw : Type 0
+LocalLaw = (set : Set) (names : List (List ℕ)) → IsLocal (judge set names)
+
+-- the bytes whose unused ones are 0 are bytes of the slots
+abbrev pub ZeroedLaw : Type 0
+ZeroedLaw = (numbers : List ℤ) (slots : List Slot) → Spells numbers slots (zeroed numbers slots)
+
+-- what the writer gives of a ready image is a section of it
+abbrev pub SectionLaw : Type 0
+SectionLaw = (set : Set) (d : Device) (image : Image) (id : ℕ) → id < 4294967296 → IsReady set d image
+    → IsSection set d image id (written_section set d image id)
+
+-- a ready image for each device
+pub record AreReady (set : Set) (images : List Image) : Type 0 where
+  pub one_each : length images ≡ length set.devices
+  pub ready : (k : ℕ) (d : Device) (image : Image) → at set.devices k ≡ Some d → at images k ≡ Some image → IsReady set d image
+
+-- An input that begins with what the writer gives takes that, where the machine is accepted and the text fits. Where there is
+-- no text, nothing may follow.
+abbrev pub WrittenLaw : Type 0
+WrittenLaw = (set : Set) (names : List (List ℕ)) → length set.devices ≤ 4294967296 → (machine text : Option (List ℕ)) (images : List Image)
+    → IsConfiguration names machine (optional configuration machine) → IsTrailer text (optional trailer text) → AreReady set images
+    → (rest : List ℕ) → (text ≡ None → rest ≡ [])
+    → Takes set names (written set machine images text ++ rest) (length (written set machine images text)) machine images
+
+-- ---- refusals
+
+-- what the judge refuses is at fault there, for that device and that reason
+abbrev pub RefusedLaw : Type 0
+RefusedLaw = (set : Set) (names : List (List ℕ)) → IsGood set → (input : List ℕ) → IsBytes input → (place : ℕ) (section : Option ℕ) (reason : Reason)
+    → reading set names input ≡ Some (Refused place section reason) → Fault set names input place section reason
+
+-- what is at fault the judge refuses so
+abbrev pub FaultLaw : Type 0
+FaultLaw = (set : Set) (names : List (List ℕ)) → IsGood set → (input : List ℕ) → IsBytes input → (place : ℕ) (section : Option ℕ) (reason : Reason)
+    → Fault set names input place section reason → reading set names input ≡ Some (Refused place section reason)
+
+-- a stream is taken, or there is a fault
+pub data Answer (set : Set) (names : List (List ℕ)) (input : List ℕ) : Type 0 where
+  Taken : (n : ℕ) (machine : Option (List ℕ)) (images : List Image) → Takes set names input n machine images → Answer set names input
+  Faulty : (place : ℕ) (section : Option ℕ) (reason : Reason) → Fault set names input place section reason → Answer set names input
+
+-- every input has one of the two
+abbrev pub EitherLaw : Type 0
+EitherLaw = (set : Set) (names : List (List ℕ)) → IsGood set → (input : List ℕ) → IsBytes input → Answer set names input
+
+-- and never both
+abbrev pub NeverBothLaw : Type 0
+NeverBothLaw = (set : Set) (names : List (List ℕ)) → IsGood set → (input : List ℕ) → IsBytes input
+    → (n : ℕ) (machine : Option (List ℕ)) (images : List Image) (place : ℕ) (section : Option ℕ) (reason : Reason)
+    → Takes set names input n machine images → Fault set names input place section reason → ⊥
+
+-- two faults of an input are at one place, for one device and of one reason
+pub record AreOneFault (place other_place : ℕ) (section other_section : Option ℕ) (reason other_reason : Reason) : Type 0 where
+  pub places : place ≡ other_place
+  pub sections : section ≡ other_section
+  pub reasons : reason ≡ other_reason
+
+-- an input has one fault at most
+abbrev pub OneFaultLaw : Type 0
+OneFaultLaw = (set : Set) (names : List (List ℕ)) → IsGood set → (input : List ℕ) → IsBytes input
+    → (place other_place : ℕ) (section other_section : Option ℕ) (reason other_reason : Reason)
+    → Fault set names input place section reason → Fault set names input other_place other_section other_reason
+    → AreOneFault place other_place section other_section reason other_reason

@@ -1,0 +1,106 @@
+//! Each law is the contract of a function without a body. The statements stand in `specs/Laws.antt`. Most are about good
+//! sets, which `specs/Good.antt` defines: the first two laws say which sets are good.
+ghost use Rattle.vms_laws.specs.Laws.{GoodLaw, ShippedLaw, CellLaw, ReadyLaw, FoundLaw, OnlyLaw, OneStreamLaw, ToldLaw, LocalLaw, ZeroedLaw, SectionLaw, WrittenLaw};
+ghost use Rattle.vms_laws.specs.Laws.{RefusedLaw, FaultLaw, EitherLaw, NeverBothLaw, OneFaultLaw};
+
+/// A well-formed set is good, where instance ids and versions are below 2^32, as the heads of sections have them.
+#[tactic(auto, using(crate::proofs::Stated::good_holds))]
+pub fn good_law()
+    ensures { GoodLaw }
+{}
+
+/// Each shipped set is good.
+#[tactic(auto, using(crate::proofs::Stated::shipped_holds))]
+pub fn shipped_law()
+    ensures { ShippedLaw }
+{}
+
+/// The cell that a path names is one of the device's cells, for every set.
+#[tactic(auto, using(crate::proofs::Stated::cell_holds))]
+pub fn cell_law()
+    ensures { CellLaw }
+{}
+
+/// The test of readiness, which computes, is true exactly where an image is ready: normal, valid, at the set's versions, and
+/// with exactly the needed subsections.
+#[tactic(auto, using(crate::proofs::Stated::ready_holds))]
+pub fn ready_law()
+    ensures { ReadyLaw }
+{}
+
+/// What the judge accepts is a stream of the set at the front of the input, of just the bytes that were read, with the
+/// machine and the images that the judge ends with: for every good set, every list of accepted machines and every input.
+#[tactic(auto, using(crate::proofs::Stated::found_holds))]
+pub fn found_law()
+    ensures { FoundLaw }
+{}
+
+/// A stream of the set at the front of an input is accepted by the judge, with its length, its machine and its images.
+#[tactic(auto, using(crate::proofs::Stated::only_holds))]
+pub fn only_law()
+    ensures { OnlyLaw }
+{}
+
+/// An input takes one stream at most: length, machine and images are determined by its bytes.
+pub fn one_stream_law()
+    ensures { OneStreamLaw }
+{}
+
+/// The judge ends on every input, for every set: it accepts or it refuses.
+#[tactic(auto, using(crate::proofs::Stated::told_holds))]
+pub fn told_law()
+    ensures { ToldLaw }
+{}
+
+/// What the judge says of a unit that it goes on by depends on the bytes of that unit alone, and each unit has a byte.
+/// So nothing after a unit needs to be read to judge it.
+#[tactic(auto, using(crate::proofs::Stated::local_holds))]
+pub fn local_law()
+    ensures { LocalLaw }
+{}
+
+/// The bytes that the writer gives for the fields of a description, unused bytes being 0, are bytes of these fields.
+#[tactic(auto, using(crate::proofs::Stated::zeroed_holds))]
+pub fn zeroed_law()
+    ensures { ZeroedLaw }
+{}
+
+/// The section that the writer gives for a ready image is a section of that image, for every set.
+#[tactic(auto, using(crate::proofs::Stated::section_holds))]
+pub fn section_law()
+    ensures { SectionLaw }
+{}
+
+/// What the writer gives for ready images is a stream with this machine and these images, and an input that begins with
+/// it takes exactly that, for every set.
+#[tactic(auto, using(crate::proofs::Stated::written_holds))]
+pub fn written_law()
+    ensures { WrittenLaw }
+{}
+
+/// What the judge refuses is at fault at that place, for that device and that reason, by the units before it and the table
+/// of reasons: for every good set and every input of bytes.
+#[tactic(auto, using(crate::proofs::Stated::refused_holds))]
+pub fn refused_law()
+    ensures { RefusedLaw }
+{}
+
+/// What is at fault the judge refuses at that place, for that device and that reason.
+pub fn fault_law()
+    ensures { FaultLaw }
+{}
+
+/// Every input of bytes has a stream that it takes, or a fault.
+pub fn either_law()
+    ensures { EitherLaw }
+{}
+
+/// No input has both a stream that it takes and a fault.
+pub fn never_both_law()
+    ensures { NeverBothLaw }
+{}
+
+/// An input has one fault at most: place, device and reason are determined by its bytes.
+pub fn one_fault_law()
+    ensures { OneFaultLaw }
+{}

@@ -1,0 +1,13 @@
+pub mod KindLaws
+pub mod Rows
+pub mod Boxes
+pub mod DueSizes
+mod StreamRows
+mod FirstRows
+mod SetRows
+mod PlaceRows
+mod ShippedRows
+mod FaultRows
+mod WellFormedRows
+mod ReadyRows
+mod ValuesRows

@@ -1,0 +1,144 @@
+-- The shipped sets 0 to 3. Set 0 has the timer alone; set s of the others describes the boards isa-1 to isa-s. Defaults
+-- and `since` are 0 where nothing else is said, and there are no validations.
+use Rattle.std.specs.Prelude.{ℕ, List, [], ◌∷◌, ◌++◌, Some, None, pos, negsuc, codes}
+use Rattle.vms_kinds.specs.declared.Kind.{Kind}
+use Rattle.vms_kinds.specs.declared.Kind.TheVariants.{U8, U16, U64, I8, Bool as Truth, Timer}
+use Rattle.vms_kinds.specs.declared.Item.{Item}
+use Rattle.vms_kinds.specs.declared.Item.TheVariants.{Num, Equal, Unused, Struct}
+use Rattle.vms_spec.specs.declared.Count.TheVariants.{One, Fixed, Counted}
+use Rattle.vms_spec.specs.declared.Rel.TheVariants.{Eq, Ne, Ge}
+use Rattle.vms_spec.specs.declared.Whose.TheVariants.{Own}
+use Rattle.vms_spec.specs.Sets.{Set, Device, Sub, Desc, Field, Formula, Cell, Or}
+
+-- ---- words for tables of fields
+
+abbrev pub field : List ℕ → Item → Field
+field name item = record { name = name; former = []; item = item; count = One; since = 0; test = None; default = pos 0 }
+
+abbrev pub number : Kind → List ℕ → Field
+number kind name = field name (Num kind)
+
+abbrev pub numbers : Kind → List (List ℕ) → List Field
+numbers kind [] = []
+numbers kind (name ∷ names) = number kind name ∷ numbers kind names
+
+-- the moment of a timer that isn't pending, and the mask of all bits
+abbrev pub never : ℕ
+never = 0xffff_ffff_ffff_ffff
+
+abbrev pub desc : List ℕ → ℕ → List Field → Desc
+desc name version fields = record { name = name; version = version; minimum = 1; fields = fields; validate = [] }
+
+abbrev pub device : ℕ → Desc → List Sub → Device
+device instance d subs = record { instance = instance; desc = d; subs = subs }
+
+-- ---- timer
+
+abbrev pub now : Field
+now = number U64 (codes "now")
+
+abbrev pub timer : Device
+timer = device 0 (desc (codes "timer") 1 (now ∷ [])) []
+
+-- ---- i8259
+
+abbrev pub i8259_fields : List Field
+i8259_fields =
+    numbers U8 (codes "irr" ∷ codes "isr" ∷ codes "imr" ∷ codes "lines" ∷ codes "lowest" ∷ codes "base" ∷ codes "init_state" ∷ [])
+    ++ numbers Truth (codes "icw4" ∷ codes "single" ∷ codes "read_isr" ∷ codes "poll" ∷ codes "special_mask" ∷ codes "auto_eoi" ∷ codes "rotate" ∷ codes "nested" ∷ [])
+
+abbrev pub elcr : Field
+elcr = record (number U8 (codes "elcr")) { since = 2 }
+
+abbrev pub i8259_at_1 : ℕ → Device
+i8259_at_1 instance = device instance (desc (codes "i8259") 1 i8259_fields) []
+
+abbrev pub i8259_at_2 : ℕ → Device
+i8259_at_2 instance = device instance (desc (codes "i8259") 2 (i8259_fields ++ elcr ∷ [])) []
+
+-- ---- i8254
+
+-- one counter, whose last item has changed since
+abbrev pub pit_channel : Item → Desc
+pit_channel gate = desc (codes "pit_channel") 1 (
+    number U16 (codes "count") ∷ number U8 (codes "mode") ∷ number U8 (codes "rw")
+    ∷ number Truth (codes "bcd") ∷ number Truth (codes "loaded") ∷ number U64 (codes "load_time")
+    ∷ number Truth (codes "read_high") ∷ number Truth (codes "wlow_held")
+    ∷ record (number U8 (codes "wlow")) { test = Some (Cell Own 7 1 Eq 1) }
+    ∷ number Truth (codes "latched")
+    ∷ record (number U16 (codes "latch")) { test = Some (Cell Own 9 1 Eq 1) }
+    ∷ field (codes "gate") gate ∷ [])
+
+abbrev pub channels : Field
+channels = record (field (codes "channels") (Struct 0)) { count = Fixed 3 }
+
+abbrev pub i8254_at_1 : Device
+i8254_at_1 = device 0 (desc (codes "i8254") 1 (channels ∷ [])) []
+
+abbrev pub i8254_at_2 : Device
+i8254_at_2 = device 0 (desc (codes "i8254") 2 (
+    channels
+    ∷ record (number Truth (codes "status_latched")) { count = Fixed 3; since = 2 }
+    ∷ record (number U8 (codes "status")) { count = Fixed 3; since = 2 } ∷ [])) []
+
+-- ---- serial
+
+abbrev pub serial_fields : List Field
+serial_fields =
+    numbers U8 (codes "ier" ∷ codes "iir" ∷ codes "lcr" ∷ codes "mcr" ∷ codes "lsr" ∷ codes "scr" ∷ codes "rbr" ∷ codes "thr" ∷ codes "tsr" ∷ [])
+    ++ record (number Timer (codes "tx_due")) { default = pos never } ∷ []
+
+abbrev pub divider : Field
+divider = number U16 (codes "divider")
+
+abbrev pub divisor : Field
+divisor = record (number U16 (codes "divisor")) { former = codes "divider" ∷ [] }
+
+abbrev pub fcr : Field
+fcr = record (number U8 (codes "fcr")) { since = 2 }
+
+abbrev pub sub : List ℕ → List Field → Formula → Sub
+sub name fields needed = record { desc = desc name 1 fields; needed = needed }
+
+abbrev pub thr_ipending : Sub
+thr_ipending = sub (codes "serial/thr_ipending") (record (number I8 (codes "thr_ipending")) { default = negsuc 0 } ∷ []) (Cell Own 0 255 Ne 255)
+
+abbrev pub fifo : Sub
+fifo = sub (codes "serial/fifo") (
+    number U8 (codes "rx_count") ∷ record (number U8 (codes "rx")) { count = Counted 0 16 }
+    ∷ number U8 (codes "tx_count") ∷ record (number U8 (codes "tx")) { count = Counted 2 16 } ∷ [])
+    (Or (Cell Own 0 255 Ge 1) (Cell Own 2 255 Ge 1))
+
+abbrev pub timeout : Sub
+timeout = sub (codes "serial/timeout") (record (number Timer (codes "timeout_at")) { default = pos never } ∷ []) (Cell Own 0 never Ne never)
+
+abbrev pub serial : ℕ → List Field → List Sub → Device
+serial version fields subs = device 0 (desc (codes "serial") version fields) subs
+
+-- ---- the sets
+
+abbrev pub set_0 : Set
+set_0 = record { machines = codes "isa-0" ∷ []; structs = []; devices = timer ∷ [] }
+
+abbrev pub set_1 : Set
+set_1 = record {
+  machines = codes "isa-1" ∷ [];
+  structs = pit_channel (Equal U8 (pos 1)) ∷ [];
+  devices = timer ∷ i8259_at_1 0 ∷ i8259_at_1 1 ∷ i8254_at_1 ∷ serial 1 (divider ∷ serial_fields) (thr_ipending ∷ []) ∷ [];
+}
+
+abbrev pub set_2 : Set
+set_2 = record {
+  machines = codes "isa-1" ∷ codes "isa-2" ∷ [];
+  structs = pit_channel (Unused 1) ∷ [];
+  devices = timer ∷ i8259_at_2 0 ∷ i8259_at_2 1 ∷ i8254_at_2
+      ∷ serial 2 (divider ∷ serial_fields ++ fcr ∷ []) (thr_ipending ∷ fifo ∷ []) ∷ [];
+}
+
+abbrev pub set_3 : Set
+set_3 = record {
+  machines = codes "isa-1" ∷ codes "isa-2" ∷ codes "isa-3" ∷ [];
+  structs = pit_channel (Unused 1) ∷ [];
+  devices = timer ∷ i8259_at_2 0 ∷ i8259_at_2 1 ∷ i8254_at_2
+      ∷ serial 3 (divisor ∷ serial_fields ++ fcr ∷ []) (thr_ipending ∷ fifo ∷ timeout ∷ []) ∷ [];
+}

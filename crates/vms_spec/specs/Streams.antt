@@ -1,0 +1,192 @@
+-- Streams: which bytes are a stream of a set, what an input takes, and which stream the writer gives. Bytes are numbers
+-- below 256; the definitions don't ask it, since an input has no others.
+use Rattle.std.specs.Prelude.{◌≡◌, ℕ, suc, ◌+◌, ◌<◌, ◌≤◌, Bool, true, false, List, [], ◌∷◌, ◌++◌, length, Option, Some, None, ◌||◌, map, slice_set}
+use Rattle.std.specs.Str.{bytes_eq}
+use Rattle.byteorder.specs.Endian.{big_bytes}
+use Rattle.vms_spec.specs.Sets.{Sub, Device, Set}
+pub use Rattle.vms_spec.specs.Lists.{at}
+use Rattle.vms_spec.specs.Layout.{desc_cells, struct_cells, numbers_of}
+use Rattle.vms_spec.specs.Tests.{truth}
+use Rattle.vms_spec.specs.Images.{Image, IsNormal, IsValid, Spells, zeroed, own_slots, sub_slots, sub_place, own_cells}
+
+-- ---- the pieces of a stream
+
+abbrev pub be32 : ℕ → List ℕ
+be32 n = big_bytes 4 n
+
+abbrev pub magic : List ℕ
+magic = 0x51 ∷ 0x45 ∷ 0x56 ∷ 0x4d ∷ []
+
+abbrev pub stream_head : List ℕ
+stream_head = magic ++ be32 3
+
+abbrev pub configuration : List ℕ → List ℕ
+configuration name = 0x07 ∷ be32 (length name) ++ name
+
+abbrev pub section_head : ℕ → List ℕ → ℕ → ℕ → List ℕ
+section_head id name instance version = 0x04 ∷ be32 id ++ (length name ∷ name) ++ be32 instance ++ be32 version
+
+abbrev pub sub_head : List ℕ → ℕ → List ℕ
+sub_head name version = 0x05 ∷ (length name ∷ name) ++ be32 version
+
+abbrev pub foot : ℕ → List ℕ
+foot id = 0x7e ∷ be32 id
+
+abbrev pub end_mark : List ℕ
+end_mark = 0x00 ∷ []
+
+-- a description section has at most so many bytes of text
+abbrev pub longest_text : ℕ
+longest_text = 16777216
+
+abbrev pub trailer : List ℕ → List ℕ
+trailer text = 0x06 ∷ be32 (length text) ++ text
+
+-- ---- sections
+
+-- subsection j, which came at a version, has these bytes: its head and a body
+abbrev pub SubSpells : Set → Device → Image → ℕ → Option Sub → Option (Option ℕ) → List ℕ → Type 0
+SubSpells set d image j (Some s) (Some (Some v)) bytes =
+    (body : List ℕ) × Spells image.numbers (sub_slots set s v image.numbers (sub_place set (own_cells set d) d.subs j)) body × (bytes ≡ sub_head s.desc.name v ++ body)
+SubSpells set d image j _ _ bytes = ⊥
+
+-- none is left to come
+abbrev pub AreAll : List (Option ℕ) → Type 0
+AreAll [] = Unit {0}
+AreAll (None ∷ left) = AreAll left
+AreAll (Some v ∷ left) = ⊥
+
+-- the order names each subsection that is left to come, and each once: what came is taken out of what is left
+abbrev pub ComesOnce : List (Option ℕ) → List ℕ → Type 0
+ComesOnce left [] = AreAll left
+ComesOnce left (j ∷ order) = ((v : ℕ) × (at left j ≡ Some (Some v))) × ComesOnce (slice_set left j None) order
+
+-- the subsections, in this order, have these bytes
+abbrev pub SubsSpell : Set → Device → Image → List ℕ → List ℕ → Type 0
+SubsSpell set d image [] bytes = bytes ≡ []
+SubsSpell set d image (j ∷ order) bytes =
+    (front rest : List ℕ) × SubSpells set d image j (at d.subs j) (at image.came j) front × SubsSpell set d image order rest × (bytes ≡ front ++ rest)
+
+-- a section of a device: its head, its fields, the subsections that came in some order, and its footer
+pub record IsSection (set : Set) (d : Device) (image : Image) (id : ℕ) (bytes : List ℕ) : Type 0 where
+  pub fits : id < 4294967296
+  pub normal : IsNormal set d image
+  pub valid : IsValid set d image
+  pub body : List ℕ
+  pub own : Spells image.numbers (own_slots set d image.version image.numbers) body
+  pub order : List ℕ
+  pub each_once : ComesOnce image.came order
+  pub tail : List ℕ
+  pub subs : SubsSpell set d image order tail
+  pub whole : bytes ≡ section_head id d.desc.name d.instance image.version ++ body ++ tail ++ foot id
+
+-- ---- whole streams
+
+-- these bytes are a section of device k, with some id
+abbrev pub HasSection : Set → ℕ → Option Device → Option Image → List ℕ → Type 0
+HasSection set k (Some d) (Some image) bytes = (id : ℕ) × IsSection set d image id bytes
+HasSection set k _ _ bytes = ⊥
+
+-- the devices of these numbers, in this order, have these bytes
+abbrev pub SectionsSpell : Set → List Image → List ℕ → List ℕ → Type 0
+SectionsSpell set images [] bytes = bytes ≡ []
+SectionsSpell set images (k ∷ order) bytes =
+    (front rest : List ℕ) × HasSection set k (at set.devices k) (at images k) front × SectionsSpell set images order rest × (bytes ≡ front ++ rest)
+
+abbrev pub AllCame : List Bool → Type 0
+AllCame [] = Unit {0}
+AllCame (true ∷ came) = AllCame came
+AllCame (false ∷ came) = ⊥
+
+-- the order names each device that has not come, and each once
+abbrev pub EachOnce : List Bool → List ℕ → Type 0
+EachOnce came [] = AllCame came
+EachOnce came (k ∷ order) = (at came k ≡ Some false) × EachOnce (slice_set came k true) order
+
+abbrev pub is_one_of : List (List ℕ) → List ℕ → Bool
+is_one_of [] name = false
+is_one_of (n ∷ names) name = bytes_eq n name || is_one_of names name
+
+-- nothing, or a configuration that names one of these machines. A name above 255 bytes, which no well-formed set has,
+-- is never accepted
+abbrev pub IsConfiguration : List (List ℕ) → Option (List ℕ) → List ℕ → Type 0
+IsConfiguration names None bytes = bytes ≡ []
+IsConfiguration names (Some name) bytes = (is_one_of names name ≡ true) × (length name ≤ 255) × (bytes ≡ configuration name)
+
+-- nothing, or a description section
+abbrev pub IsTrailer : Option (List ℕ) → List ℕ → Type 0
+IsTrailer None bytes = bytes ≡ []
+IsTrailer (Some text) bytes = (length text ≤ longest_text) × (bytes ≡ trailer text)
+
+-- a stream of the set: one that names a machine of these or none, has a section for each device in any order, and ends with
+-- a description or without one
+pub record IsStream (set : Set) (names : List (List ℕ)) (bytes : List ℕ) (machine : Option (List ℕ)) (images : List Image) (text : Option (List ℕ)) : Type 0 where
+  pub named : List ℕ
+  pub configured : IsConfiguration names machine named
+  pub one_each : length images ≡ length set.devices
+  pub order : List ℕ
+  pub each_once : EachOnce (map (λ d. false) set.devices) order
+  pub sections : List ℕ
+  pub spelled : SectionsSpell set images order sections
+  pub tail : List ℕ
+  pub described : IsTrailer text tail
+  pub whole : bytes ≡ stream_head ++ named ++ sections ++ end_mark ++ tail
+
+-- an input takes the stream at its front: one with a description, or one that is all of the input
+pub record Takes (set : Set) (names : List (List ℕ)) (input : List ℕ) (taken : ℕ) (machine : Option (List ℕ)) (images : List Image) : Type 0 where
+  pub bytes : List ℕ
+  pub text : Option (List ℕ)
+  pub stream : IsStream set names bytes machine images text
+  pub rest : List ℕ
+  pub prefix : input ≡ bytes ++ rest
+  pub long : length bytes ≡ taken
+  pub all : text ≡ None → rest ≡ []
+
+-- ---- what the writer gives
+
+-- whether a device's subsection j is needed, its test being judged at its version in the set
+abbrev pub is_needed : Set → Device → Image → Sub → ℕ → Bool
+is_needed set d image s j =
+    truth s.needed s.desc.version (numbers_of (struct_cells set) s.desc image.numbers (sub_place set (own_cells set d) d.subs j)) (numbers_of (struct_cells set) d.desc image.numbers 0)
+
+-- from subsection j on, each has come, at its version in the set, exactly where it is needed
+abbrev pub ComeAsNeeded : Set → Device → Image → ℕ → List Sub → List (Option ℕ) → Type 0
+ComeAsNeeded set d image j [] came = came ≡ []
+ComeAsNeeded set d image j (s ∷ subs) [] = ⊥
+ComeAsNeeded set d image j (s ∷ subs) (None ∷ came) = (is_needed set d image s j ≡ false) × ComeAsNeeded set d image (suc j) subs came
+ComeAsNeeded set d image j (s ∷ subs) (Some v ∷ came) = (is_needed set d image s j ≡ true) × (v ≡ s.desc.version) × ComeAsNeeded set d image (suc j) subs came
+
+-- an image that may be written
+pub record IsReady (set : Set) (d : Device) (image : Image) : Type 0 where
+  pub normal : IsNormal set d image
+  pub valid : IsValid set d image
+  pub version : image.version ≡ d.desc.version
+  pub needed : ComeAsNeeded set d image 0 d.subs image.came
+
+-- the subsections that came, in the description's order, where the cells of the first of these begin at a place
+abbrev pub written_subs : Set → Device → Image → ℕ → List Sub → List (Option ℕ) → List ℕ
+written_subs set d image at [] came = []
+written_subs set d image at (s ∷ subs) [] = []
+written_subs set d image at (s ∷ subs) (None ∷ came) = written_subs set d image (at + length (desc_cells (struct_cells set) s.desc)) subs came
+written_subs set d image at (s ∷ subs) (Some v ∷ came) =
+    sub_head s.desc.name v ++ zeroed image.numbers (sub_slots set s v image.numbers at) ++ written_subs set d image (at + length (desc_cells (struct_cells set) s.desc)) subs came
+
+abbrev pub written_section : Set → Device → Image → ℕ → List ℕ
+written_section set d image id =
+    section_head id d.desc.name d.instance image.version ++ zeroed image.numbers (own_slots set d image.version image.numbers)
+    ++ written_subs set d image (own_cells set d) d.subs image.came ++ foot id
+
+-- the devices in the set's order, with ids from `id` on
+abbrev pub written_sections : Set → ℕ → List Device → List Image → List ℕ
+written_sections set id [] images = []
+written_sections set id (d ∷ devices) [] = []
+written_sections set id (d ∷ devices) (image ∷ images) = written_section set d image id ++ written_sections set (suc id) devices images
+
+abbrev pub optional : (List ℕ → List ℕ) → Option (List ℕ) → List ℕ
+optional spell None = []
+optional spell (Some text) = spell text
+
+-- the stream of these images, one for each device, with a configuration where a machine is named and a description where a
+-- text is given
+abbrev pub written : Set → Option (List ℕ) → List Image → Option (List ℕ) → List ℕ
+written set machine images text = stream_head ++ optional configuration machine ++ written_sections set 0 set.devices images ++ end_mark ++ optional trailer text

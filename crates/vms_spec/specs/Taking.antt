@@ -1,0 +1,114 @@
+-- Reading the bytes of a description, field by field and structure by structure, as the judge reads them slot by slot.
+-- Readers of bodies are proved against this form.
+use Rattle.std.specs.Prelude.{ℕ, zero, suc, ◌+◌, Bool, if◌then◌else◌, nat_lt, List, [], ◌∷◌, length, get_or, map, take, drop, slice_set, ℤ, Result, Ok, Err}
+use Rattle.vms_kinds.specs.declared.Kind.{Kind}
+use Rattle.vms_kinds.specs.declared.Item.{Item}
+use Rattle.vms_kinds.specs.declared.Item.TheVariants.{Num, Equal, Unused, Struct}
+use Rattle.vms_kinds.specs.Codes.{width, value_of}
+use Rattle.vms_spec.specs.declared.Reason.{Reason}
+use Rattle.vms_spec.specs.declared.Reason.TheVariants as reasons
+use Rattle.vms_spec.specs.Sets.{Field, Desc}
+use Rattle.vms_spec.specs.Tests.{is_there}
+use Rattle.vms_spec.specs.Layout.{Cell, counted, item_size, field_cells, desc_cells, numbers_of, elements_of, all_hold, no_parent, first}
+use Rattle.vms_spec.specs.Numbers.{same_number, exceeds}
+use Rattle.vms_spec.specs.Judging.{is_bad_bool}
+
+-- the numbers of all cells so far, the place, and the bytes that are left
+pub record Progress : Type 0 where
+  pub numbers : List ℤ
+  pub place : ℕ
+  pub rest : List ℕ
+
+-- where and why a body is refused
+pub record Refusal : Type 0 where
+  pub place : ℕ
+  pub reason : Reason
+
+-- what reading gives: the progress, or the first refusal
+abbrev pub Taken : Type 0
+Taken = Result Progress Refusal
+
+infixl 10 ◌>>=◌
+abbrev pub ◌>>=◌ : Taken → (Progress → Taken) → Taken
+(Ok p) >>= f = f p
+(Err e) >>= f = Err e
+
+abbrev pub refuse : Progress → Reason → Taken
+refuse p reason = Err (record { place = p.place; reason = reason })
+
+-- n bytes further, with these numbers
+abbrev pub on : ℕ → List ℤ → Progress → Taken
+on n numbers p = Ok (record { numbers = numbers; place = p.place + n; rest = drop n p.rest })
+
+-- a unit of n bytes, or Truncated
+abbrev pub if_whole : ℕ → Progress → Taken → Taken
+if_whole n p t = if nat_lt (length p.rest) n then refuse p reasons.Truncated else t
+
+-- a structure: its cells, and how its bytes are taken, from its first cell on
+pub record Taker : Type 0 where
+  pub cells : List Cell
+  pub takes : ℕ → Progress → Taken
+
+abbrev pub no_taker : Taker
+no_taker = record { cells = []; takes = λ at p. Ok p }
+
+abbrev pub cells_of : List Taker → List (List Cell)
+cells_of structs = map (λ t. t.cells) structs
+
+abbrev pub take_number : Kind → List ℕ → ℕ → Progress → Taken
+take_number kind capacities cell p = if_whole (width kind) p (
+    if is_bad_bool kind (take (width kind) p.rest) then refuse p reasons.BadBool
+    else if exceeds capacities (value_of kind (take (width kind) p.rest)) then refuse p reasons.CountTooLarge
+    else on (width kind) (slice_set p.numbers cell (value_of kind (take (width kind) p.rest))) p)
+
+abbrev pub take_constant : Kind → ℤ → Progress → Taken
+take_constant kind z p = if_whole (width kind) p (
+    if is_bad_bool kind (take (width kind) p.rest) then refuse p reasons.BadBool
+    else if same_number (value_of kind (take (width kind) p.rest)) z then on (width kind) p.numbers p
+    else refuse p reasons.NotEqual)
+
+abbrev pub take_filler : ℕ → Progress → Taken
+take_filler zero p = Ok p
+take_filler n p = if_whole n p (on n p.numbers p)
+
+abbrev pub take_item : List Taker → Item → List ℕ → ℕ → Progress → Taken
+take_item structs (Num kind) capacities cell p = take_number kind capacities cell p
+take_item structs (Equal kind z) capacities cell p = take_constant kind z p
+take_item structs (Unused n) capacities cell p = take_filler n p
+take_item structs (Struct j) capacities cell p = (get_or structs j no_taker).takes cell p
+
+-- n items, each `step` cells further
+abbrev pub take_items : List Taker → Item → List ℕ → ℕ → ℕ → ℕ → Progress → Taken
+take_items structs item capacities step zero cell p = Ok p
+take_items structs item capacities step (suc n) cell p = take_item structs item capacities cell p >>= λ q. take_items structs item capacities step n (cell + step) q
+
+-- a field whose first cell is `cell`, of a description whose first cell is `base`
+abbrev pub take_field : List Taker → Desc → ℕ → ℕ → ℕ → ℕ → Field → Progress → Taken
+take_field structs d v base i cell f p =
+    let own = numbers_of (cells_of structs) d p.numbers base in
+    if is_there f.test f.since v own no_parent
+    then take_items structs f.item (counted i d.fields) (item_size (cells_of structs) f.item) (elements_of f.count own) cell p
+    else Ok p
+
+abbrev pub take_fields : List Taker → Desc → ℕ → ℕ → ℕ → ℕ → List Field → Progress → Taken
+take_fields structs d v base i cell [] p = Ok p
+take_fields structs d v base i cell (f ∷ fs) p =
+    take_field structs d v base i cell f p >>= λ q. take_fields structs d v base (suc i) (cell + length (field_cells (cells_of structs) d.fields i f)) fs q
+
+abbrev pub take_rule : Bool → Progress → Taken
+take_rule b p = if b then Ok p else refuse p reasons.Invalid
+
+-- the validations of a description whose first cell is `base`
+abbrev pub check_rules : List Taker → Desc → ℕ → ℕ → Progress → Taken
+check_rules structs d v base p = take_rule (all_hold d.validate v (numbers_of (cells_of structs) d p.numbers base)) p
+
+-- the bytes of a description at a version, whose cells begin at `base`
+unfoldable pub take_desc : List Taker → Desc → ℕ → ℕ → Progress → Taken
+take_desc structs d v base p = take_fields structs d v base 0 base d.fields p >>= check_rules structs d v base
+
+abbrev pub taker_of : List Taker → Desc → Taker
+taker_of structs d = record { cells = desc_cells (cells_of structs) d; takes = take_desc structs d d.version }
+
+-- the first k structures, each by the earlier ones
+abbrev pub takers : List Desc → ℕ → List Taker
+takers structs k = first taker_of structs k
