@@ -1,5 +1,5 @@
 // The files of one folder.
-ghost use Rattle.std.specs.Prelude.{None};
+ghost use Rattle.std.specs.Prelude.{◌≡◌, None};
 
 use crate::{FetchFault, Shelf, StoreFault};
 use std::alloc::Global;
@@ -17,7 +17,9 @@ pub struct FileShelf<R: Files + Drop> {
 
 impl<R: Files + Drop> FileShelf<R> {
     /// The shelf over this folder, without a fault so far.
-    pub fn new(rt: R, folder: String) -> Self {
+    pub fn new(rt: R, folder: String) -> Self
+        ensures { result.faults ≡ 0 }
+    {
         FileShelf {
             rt,
             folder,

@@ -1,10 +1,12 @@
-// The real outside: a reader and a writer of std, with a count of their errors.
+// The outside over a reader and a writer of std, with a count of their errors.
 ghost use Rattle.std.specs.Prelude.{◌≡◌, ◌+◌, ◌-◌, ◌^◌, ◌<◌, ℕ, min, None, Some, false};
 ghost use Rattle.std.proofs.Common.{arith};
+ghost use Rattle.vms_io.specs.Causes.{HasCause};
 
 use crate::{Failed, Sink, Source};
 use std::io::{Read, Write};
 
+/// The bytes of a reader, as a file or a terminal. It tells of them nothing.
 #[derive(Drop)]
 pub struct StdSource<R: Read + Drop> {
     reader: R,
@@ -13,6 +15,7 @@ pub struct StdSource<R: Read + Drop> {
 }
 
 impl<R: Read + Drop> StdSource<R> {
+    /// The source over this reader, without a fault so far.
     pub fn new(reader: R) -> Self
         ensures { result.faults ≡ 0 }
     {
@@ -56,6 +59,7 @@ impl<R: Read + Drop> Source for StdSource<R> {
     }
 }
 
+/// A writer, as a file or a terminal. It tells what the writer tells.
 #[derive(Drop)]
 pub struct StdSink<W: Write + Drop> {
     writer: W,
@@ -63,10 +67,24 @@ pub struct StdSink<W: Write + Drop> {
 }
 
 impl<W: Write + Drop> StdSink<W> {
+    /// The sink over this writer, without a fault so far.
     pub fn new(writer: W) -> Self
         ensures { result.faults ≡ 0 }
     {
         StdSink { writer, faults: 0 }
+    }
+
+    /// Hands on what the writer holds back.
+    pub fn flush(&mut self) -> Result<(), Failed>
+        ensures { HasCause self.old.faults self.new.faults result }
+    {
+        match self.writer.flush() {
+            Ok(()) => Ok(()),
+            Err(_) => {
+                self.faults = self.faults.saturating_add(1);
+                Err(Failed)
+            }
+        }
     }
 }
 

@@ -1,0 +1,7 @@
+use Rattle.std.proofs.Common.{◌≡◌, drop, map}
+use Rattle.vms_spec.specs.Judging.{find_device}
+use Rattle.vms_desc.specs.Views.{device_of}
+use Rattle.vms_desc.proofs.set.find_from.Given as goal
+
+abbrev pub invariant-loop-i : goal.invariant-loop-i
+invariant-loop-i l = find_device l.i (map device_of (drop l.i l.devices)) l.name l.instance ≡ find_device 0 (map device_of l.devices) l.name l.instance

@@ -1,0 +1,7 @@
+-- Whether a set is well formed, as a test.
+use Rattle.std.specs.Prelude.{Bool, is_none}
+use Rattle.vms_spec.specs.Sets.{Set}
+use Rattle.vms_spec.specs.WellFormed.{first_fault}
+
+abbrev pub is_well_formed : Set → Bool
+is_well_formed set = is_none (first_fault set)

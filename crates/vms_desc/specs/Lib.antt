@@ -1,0 +1,3 @@
+pub mod Described
+pub mod Formed
+pub mod Views

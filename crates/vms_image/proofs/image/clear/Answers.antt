@@ -1,0 +1,6 @@
+use Rattle.std.proofs.Common.{arith}
+use Rattle.vms_image.proofs.Filled.{cleared}
+use Rattle.vms_image.proofs.image.clear.Goals as goal
+
+pub returns : goal.returns
+returns c = cleared _ _ c.loop-sub.sub c.loop-sub.invariant.long (omega (arith, c.len-sub-end.ensures, c.loop-sub-test.false)) c.loop-sub.invariant.none

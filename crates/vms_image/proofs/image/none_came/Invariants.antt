@@ -1,0 +1,5 @@
+use Rattle.std.proofs.Common.{◌≡◌, replicate, None}
+use Rattle.vms_image.proofs.image.none_came.Given as goal
+
+abbrev pub invariant-loop : goal.invariant-loop
+invariant-loop l = l.came.items ≡ replicate l.counter None

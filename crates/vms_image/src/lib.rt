@@ -1,0 +1,9 @@
+//! Images: the state of one device as a stream carries it.
+#![tactic(auto)]
+
+mod image;
+
+pub use image::Image;
+
+#[cfg(test)]
+mod tests;
