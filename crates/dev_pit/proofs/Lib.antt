@@ -1,0 +1,2 @@
+pub mod CounterSteps
+pub mod Moments

@@ -1,0 +1,6 @@
+pub mod Control
+pub mod Count
+pub mod Counter
+pub mod GoesOn
+pub mod Mode
+pub mod Pit
