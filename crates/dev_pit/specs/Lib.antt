@@ -1,3 +1,5 @@
+pub mod Cells
+pub mod Channel
 pub mod Control
 pub mod Count
 pub mod Counter

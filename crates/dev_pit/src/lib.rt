@@ -1,5 +1,7 @@
 #![tactic(auto)]
 
+mod cells;
+mod channel;
 mod control;
 mod counter;
 mod limits;

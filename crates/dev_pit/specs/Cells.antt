@@ -1,0 +1,85 @@
+-- The cells of the chip.
+use Rattle.std.specs.Prelude.{◌≡◌, ℕ, ℤ, pos, negsuc, ◌+◌, ◌*◌, ◌<◌, ◌≤◌, ◌==◌, Bool, true, false, not, ◌&&◌, nat_le, if◌then◌else◌, List, [], ◌∷◌, ◌++◌, length, slice_index_or, Result, Ok, Err}
+use Rattle.vms_kinds.specs.Codes.{InRange}
+use Rattle.vms_kinds.specs.declared.Kind.{Kind}
+use Rattle.vms_kinds.specs.declared.Kind.TheVariants as kinds
+use Rattle.dev_pit.specs.Channel.{channel_of, counter_from, registers_hold, moment_holds, status_holds, toggles_hold}
+use Rattle.dev_pit.specs.Counter.{flag_number}
+use Rattle.dev_pit.specs.declared.channel.Channel.{Channel}
+use Rattle.dev_pit.specs.declared.limits.TheConstants.{STATUS_SET, CELLS, CHANNEL_CELLS}
+use Rattle.dev_pit.specs.declared.pit.Pit.{Pit}
+
+-- the number of a cell that is not negative
+abbrev pub nat_of : ℤ → ℕ
+nat_of (pos n) = n
+nat_of (negsuc n) = 0
+
+abbrev pub cell_at : List ℤ → ℕ → ℤ
+cell_at cells place = slice_index_or cells place (pos 0)
+
+abbrev pub number_at : List ℤ → ℕ → ℕ
+number_at cells place = nat_of (cell_at cells place)
+
+abbrev pub flag_at : List ℤ → ℕ → Bool
+flag_at cells place = number_at cells place == 1
+
+-- the cells of one channel, in the order of its description
+unfoldable pub channel_cells : Channel → List ℤ
+channel_cells channel =
+    pos channel.count ∷ pos channel.mode ∷ pos channel.rw ∷ pos (flag_number channel.bcd) ∷ pos (flag_number channel.loaded) ∷ pos channel.load_time
+    ∷ pos (flag_number channel.read_high) ∷ pos (flag_number channel.wlow_held) ∷ pos channel.wlow ∷ pos (flag_number channel.latched) ∷ pos channel.latch ∷ []
+
+-- the cells that later sets have beside the channels
+unfoldable pub status_cells : Channel → Channel → Channel → List ℤ
+status_cells first second third =
+    pos (flag_number first.status_latched) ∷ pos (flag_number second.status_latched) ∷ pos (flag_number third.status_latched)
+    ∷ pos first.status ∷ pos second.status ∷ pos third.status ∷ []
+
+-- the cells of three channels under a set
+unfoldable pub three_cells : ℕ → Channel → Channel → Channel → List ℤ
+three_cells set first second third =
+    channel_cells first ++ channel_cells second ++ channel_cells third ++ (if nat_le STATUS_SET set then status_cells first second third else [])
+
+-- the cells of a chip under a set
+unfoldable pub pit_cells : ℕ → Pit → List ℤ
+pit_cells set pit = three_cells set (channel_of pit.counter0) (channel_of pit.counter1) (channel_of pit.counter2)
+
+-- the cells of a set at their places in the newest one, with defaults elsewhere
+unfoldable pub carried : ℕ → List ℤ → List ℤ
+carried set cells = if nat_le STATUS_SET set then cells else cells ++ (pos 0 ∷ pos 0 ∷ pos 0 ∷ pos 0 ∷ pos 0 ∷ pos 0 ∷ [])
+
+-- the channel whose cells begin at `first`, with its status
+unfoldable pub channel_at : ℕ → ℕ → ℕ → List ℤ → Channel
+channel_at first latched_place status_place cells = record {
+  count = number_at cells first;
+  mode = number_at cells (first + 1);
+  rw = number_at cells (first + 2);
+  bcd = flag_at cells (first + 3);
+  loaded = flag_at cells (first + 4);
+  load_time = number_at cells (first + 5);
+  read_high = flag_at cells (first + 6);
+  wlow_held = flag_at cells (first + 7);
+  wlow = number_at cells (first + 8);
+  latched = flag_at cells (first + 9);
+  latch = number_at cells (first + 10);
+  status_latched = flag_at cells latched_place;
+  status = number_at cells status_place;
+}
+
+-- each cell of a channel is in its kind's range
+pub record IsChannelAt (first latched_place status_place : ℕ) (cells : List ℤ) : Type 0 where
+  pub length_of : length cells ≡ CELLS
+  pub within : (first + CHANNEL_CELLS ≤ CELLS) × (latched_place < CELLS) × (status_place < CELLS)
+  pub count : InRange kinds.U16 (cell_at cells first)
+  pub mode : InRange kinds.U8 (cell_at cells (first + 1))
+  pub rw : InRange kinds.U8 (cell_at cells (first + 2))
+  pub bcd : InRange kinds.Bool (cell_at cells (first + 3))
+  pub loaded : InRange kinds.Bool (cell_at cells (first + 4))
+  pub load_time : InRange kinds.U64 (cell_at cells (first + 5))
+  pub read_high : InRange kinds.Bool (cell_at cells (first + 6))
+  pub wlow_held : InRange kinds.Bool (cell_at cells (first + 7))
+  pub wlow : InRange kinds.U8 (cell_at cells (first + 8))
+  pub latched : InRange kinds.Bool (cell_at cells (first + 9))
+  pub latch : InRange kinds.U16 (cell_at cells (first + 10))
+  pub status_latched : InRange kinds.Bool (cell_at cells latched_place)
+  pub status : InRange kinds.U8 (cell_at cells status_place)
