@@ -1,2 +1,3 @@
+pub mod CellCounts
 pub mod CounterSteps
 pub mod Moments

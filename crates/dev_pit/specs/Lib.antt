@@ -6,3 +6,4 @@ pub mod Counter
 pub mod GoesOn
 pub mod Mode
 pub mod Pit
+pub mod Saved

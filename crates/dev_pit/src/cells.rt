@@ -4,7 +4,7 @@ ghost use Rattle.vms_kinds.specs.Codes.{InRange};
 ghost use Rattle.dev_pit.specs.Cells.{cell_at, number_at, flag_at as flag_at_of, channel_cells, status_cells, three_cells, channel_at, IsChannelAt};
 
 use crate::channel::Channel;
-use crate::limits::{CHANNEL_CELLS, STATUS_SET};
+use crate::limits::{CELLS, CHANNEL_CELLS, STATUS_SET};
 use vms_kinds::{DevCells, Kind};
 
 // A cell of eight bits.
@@ -111,9 +111,10 @@ impl Channel {
     }
 
     /// The cells of three channels, and of their statuses in a set that has them.
-    #[tactic(auto, unfolding(crate::specs::Cells::three_cells))]
+    #[tactic(auto, using(crate::proofs::CellCounts::three_cells_fit), unfolding(crate::specs::Cells::three_cells))]
     pub fn cells_of(set: u8, first: &Channel, second: &Channel, third: &Channel) -> DevCells
-        ensures { result.items ≡ three_cells set first.now second.now third.now }
+        ensures cells { result.items ≡ three_cells set first.now second.now third.now }
+        ensures count { length result.items ≤ CELLS }
     {
         let mut cells = DevCells::new();
         append(&mut cells, &first.cells());

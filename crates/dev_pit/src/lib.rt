@@ -7,6 +7,7 @@ mod counter;
 mod limits;
 mod mode;
 mod pit;
+mod saved;
 mod ticks;
 
 pub use pit::Pit;
