@@ -1,3 +1,5 @@
 pub mod CellCounts
 pub mod CounterSteps
+pub mod EdgeMeaning
+pub mod Edges
 pub mod Moments
