@@ -1,3 +1,4 @@
+pub mod CallLaws
 pub mod CellCounts
 pub mod CounterSteps
 pub mod EdgeMeaning

@@ -1,6 +1,5 @@
 -- The calls that change a chip, and what each does to a counter.
-use Rattle.std.specs.Prelude.{ℕ, ◌+◌, ◌<◌, ◌==◌, Bool, true, false, not, ◌&&◌, ◌||◌, nat_eq}
-use Rattle.dev_pit.specs.Channel.{is_held}
+use Rattle.std.specs.Prelude.{ℕ, ◌+◌, ◌<◌, ◌==◌, Bool, true, false, not, ◌&&◌, is_some}
 use Rattle.dev_pit.specs.Control.{control_word}
 use Rattle.dev_pit.specs.Pit.{IsPort, counter_of, pit_read, pit_written}
 use Rattle.dev_pit.specs.declared.control.ControlWord.{ControlWord}
@@ -40,7 +39,7 @@ programs k (writes port value) = (port == 0x43) && sets_mode_of k (control_word 
 abbrev pub completes : Access → Counter → Bool
 completes LowByte counter = true
 completes HighByte counter = true
-completes LowThenHigh counter = is_held counter.held_low
+completes LowThenHigh counter = is_some counter.held_low
 
 -- whether a call loads counter k
 unfoldable pub loads : ℕ → Call → Pit → Bool
@@ -55,5 +54,5 @@ is_last LowThenHigh counter = counter.read_high
 
 -- whether a call reads the last byte of a latched count of counter k; a latched status is read before
 unfoldable pub reads_latch : ℕ → Call → Pit → Bool
-reads_latch k (reads counter) pit = (counter == k) && (not (is_held (counter_of k pit).status) && is_last (counter_of k pit).access (counter_of k pit))
+reads_latch k (reads counter) pit = (counter == k) && (not (is_some (counter_of k pit).status) && is_last (counter_of k pit).access (counter_of k pit))
 reads_latch k (writes port value) pit = false

@@ -1,15 +1,10 @@
 -- A counter as its fields travel, and the rules of these fields.
-use Rattle.std.specs.Prelude.{ℕ, ◌==◌, Bool, true, false, not, ◌&&◌, ◌||◌, nat_le, Option, Some, None, if◌then◌else◌}
+use Rattle.std.specs.Prelude.{ℕ, ◌==◌, Bool, true, false, not, ◌&&◌, ◌||◌, nat_le, Option, Some, None, is_some, if◌then◌else◌}
 use Rattle.dev_pit.specs.Counter.{held_or}
 use Rattle.dev_pit.specs.Mode.{mode_number, mode_of, access_number, access_of}
 use Rattle.dev_pit.specs.declared.channel.Channel.{Channel}
 use Rattle.dev_pit.specs.declared.counter.Counter.{Counter}
 use Rattle.dev_pit.specs.declared.limits.TheConstants.{READ_BACK_LEVEL}
-
--- whether something is held
-abbrev pub is_held : Option ℕ → Bool
-is_held None = false
-is_held (Some held) = true
 
 -- a number that is held or not
 abbrev pub held_if : Bool → ℕ → Option ℕ
@@ -23,14 +18,14 @@ channel_of counter = record {
   mode = mode_number counter.mode;
   rw = access_number counter.access;
   bcd = counter.bcd;
-  loaded = is_held counter.loaded_at;
+  loaded = is_some counter.loaded_at;
   load_time = held_or counter.loaded_at 0;
   read_high = counter.read_high;
-  wlow_held = is_held counter.held_low;
+  wlow_held = is_some counter.held_low;
   wlow = held_or counter.held_low 0;
-  latched = is_held counter.latch;
+  latched = is_some counter.latch;
   latch = held_or counter.latch 0;
-  status_latched = is_held counter.status;
+  status_latched = is_some counter.status;
   status = held_or counter.status 0;
 }
 
