@@ -42,7 +42,7 @@ at_counter P (suc zero) (suc (suc (suc j))) counter pit h l here there = absurd 
 at_counter P (suc (suc zero)) (suc (suc (suc j))) counter pit h l here there = absurd (omega arith)
 
 -- the counter of a control word is one that there is
-pub IsWord : ControlWord → Type 0
+unfoldable pub IsWord : ControlWord → Type 0
 IsWord (LatchCount j) = j < 3
 IsWord (SetMode j access mode bcd) = j < 3
 IsWord (ReadBack count status first second third) = Unit {0}
@@ -50,7 +50,7 @@ IsWord (ReadBack count status first second third) = Unit {0}
 chosen : (value : ℕ) → value < 256 → (value / 64 == 3) ≡ false → value / 64 < 3
 chosen value h e = grind (arith, nat_tests)
 
-control_word-is_word : (value : ℕ) → value < 256 → IsWord (control_word value)
+pub control_word-is_word : (value : ℕ) → value < 256 → IsWord (control_word value)
 unfolding control_word IsWord
 control_word-is_word value h =
     ⊎_elim (λ e. rw e tt)
@@ -95,7 +95,7 @@ unfolding written
 written-goes_on value now counter e = by-goes_on counter.access value now counter e
 
 -- a port's counter
-counter_port : (port : ℕ) → 0x40 ≤ port → port ≤ 0x43 → (port == 0x43) ≡ false → port - 0x40 < 3
+pub counter_port : (port : ℕ) → 0x40 ≤ port → port ≤ 0x43 → (port == 0x43) ≡ false → port - 0x40 < 3
 counter_port port low high e = grind (arith, nat_tests)
 
 completing : (port k : ℕ) (b : Bool) → 0x40 ≤ port → k ≡ port - 0x40 → ((port == 0x40 + k) && b) ≡ false → b ≡ false
