@@ -5,3 +5,7 @@ pub mod EdgeMeaning
 pub mod Edges
 pub mod LatchLaws
 pub mod Moments
+pub mod PlainSound
+pub mod RestoredLaw
+pub mod SoundLaws
+pub mod SoundSteps
