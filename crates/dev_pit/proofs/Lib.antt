@@ -7,5 +7,6 @@ pub mod LatchLaws
 pub mod Moments
 pub mod PlainSound
 pub mod RestoredLaw
+pub mod SavedLaw
 pub mod SoundLaws
 pub mod SoundSteps

@@ -93,3 +93,70 @@ word (negsuc n) h = omega arith
 moment : (z : ℤ) → InRange kinds.U64 z → nat_of z < 2 ^ 64
 moment (pos n) h = omega (arith, ints)
 moment (negsuc n) h = omega arith
+
+first-ranges : (cells : List ℤ) → IsPitCells cells → HasRanges (channel_at 0 33 36 cells)
+unfolding channel_at
+first-ranges cells h = record {
+  count = word (cell_at cells 0) (h.in_range 0 (omega arith));
+  load_time = moment (cell_at cells 5) (h.in_range 5 (omega arith));
+  wlow = byte (cell_at cells 8) (h.in_range 8 (omega arith));
+  latch = word (cell_at cells 10) (h.in_range 10 (omega arith));
+  status = byte (cell_at cells 36) (h.in_range 36 (omega arith));
+}
+
+second-ranges : (cells : List ℤ) → IsPitCells cells → HasRanges (channel_at 11 34 37 cells)
+unfolding channel_at
+second-ranges cells h = record {
+  count = word (cell_at cells 11) (h.in_range 11 (omega arith));
+  load_time = moment (cell_at cells 16) (h.in_range 16 (omega arith));
+  wlow = byte (cell_at cells 19) (h.in_range 19 (omega arith));
+  latch = word (cell_at cells 21) (h.in_range 21 (omega arith));
+  status = byte (cell_at cells 37) (h.in_range 37 (omega arith));
+}
+
+third-ranges : (cells : List ℤ) → IsPitCells cells → HasRanges (channel_at 22 35 38 cells)
+unfolding channel_at
+third-ranges cells h = record {
+  count = word (cell_at cells 22) (h.in_range 22 (omega arith));
+  load_time = moment (cell_at cells 27) (h.in_range 27 (omega arith));
+  wlow = byte (cell_at cells 30) (h.in_range 30 (omega arith));
+  latch = word (cell_at cells 32) (h.in_range 32 (omega arith));
+  status = byte (cell_at cells 38) (h.in_range 38 (omega arith));
+}
+
+-- what a chain of four rules answers
+rules_hold : (pit found : Pit) (a b c d : Bool) → cond {A = Result Pit ℕ} (not a) (Err 1) (cond (not b) (Err 2) (cond (not c) (Err 3) (cond (not d) (Err 4) (Ok found)))) ≡ Ok pit → (a ≡ true) × (b ≡ true) × (c ≡ true) × (d ≡ true) × (found ≡ pit)
+rules_hold pit found true true true true e = (refl, refl, refl, refl, cc)
+rules_hold pit found false b c d e = cc
+rules_hold pit found true false c d e = cc
+rules_hold pit found true true false d e = cc
+rules_hold pit found true true true false e = cc
+
+-- a rule of three channels is one of each
+record Each (rule : Channel → Bool) (cells : List ℤ) : Type 0 where
+  first : rule (channel_at 0 33 36 cells) ≡ true
+  second : rule (channel_at 11 34 37 cells) ≡ true
+  third : rule (channel_at 22 35 38 cells) ≡ true
+
+each : (rule : Channel → Bool) (cells : List ℤ) → three_hold rule cells ≡ true → Each rule cells
+each rule cells e =
+    let a : (rule (channel_at 0 33 36 cells) ≡ true) × ((rule (channel_at 11 34 37 cells) && rule (channel_at 22 35 38 cells)) ≡ true) = both-true _ _ e in
+    let b : (rule (channel_at 11 34 37 cells) ≡ true) × (rule (channel_at 22 35 38 cells) ≡ true) = both-true _ _ a.1 in
+    record { first = a.0; second = b.0; third = b.1 }
+
+pit_of-sound : (level now : ℕ) (cells : List ℤ) → IsLevel level → now ≤ LAST_MOMENT → IsPitCells cells → Each (moment_holds now) cells → Each (status_holds level) cells → Each toggles_hold cells → PlainPit now (pit_of level cells)
+unfolding pit_of
+pit_of-sound level now cells l m h moments statuses toggles = record {
+  level = l;
+  moment = m;
+  counter0 = counter-sound level now (channel_at 0 33 36 cells) (first-ranges cells h) moments.first statuses.first toggles.first;
+  counter1 = counter-sound level now (channel_at 11 34 37 cells) (second-ranges cells h) moments.second statuses.second toggles.second;
+  counter2 = counter-sound level now (channel_at 22 35 38 cells) (third-ranges cells h) moments.third statuses.third toggles.third;
+}
+
+pub restored_is_sound : RestoredIsSound
+unfolding restored_pit
+restored_is_sound level now cells pit l m h e =
+    let r = rules_hold pit (pit_of level cells) (three_hold registers_hold cells) (three_hold (moment_holds now) cells) (three_hold (status_holds level) cells) (three_hold toggles_hold cells) e in
+    let plain : PlainPit now pit = subst (PlainPit now) r.4 (pit_of-sound level now cells l m h (each (moment_holds now) cells r.1) (each (status_holds level) cells r.2) (each toggles_hold cells r.3)) in
+    pit-from_plain now pit plain
