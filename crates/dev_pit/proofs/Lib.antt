@@ -5,6 +5,7 @@ pub mod EdgeMeaning
 pub mod Edges
 pub mod LatchLaws
 pub mod Moments
+pub mod NormalLaw
 pub mod PlainSound
 pub mod RestoredLaw
 pub mod SavedLaw

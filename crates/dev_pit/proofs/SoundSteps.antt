@@ -44,16 +44,16 @@ live-word : (counter : Counter) (now : ℕ) → HasWidths counter → live_of co
 unfolding live_of
 live-word counter now h = (since-word counter.loaded_at counter.mode counter.count now (record { fits = h.count })).fits
 
-held-below : (limit value : ℕ) (held : Option ℕ) → HeldBelow limit held → value < limit → held_or held value < limit
+pub held-below : (limit value : ℕ) (held : Option ℕ) → HeldBelow limit held → value < limit → held_or held value < limit
 held-below limit value None h l = l
 held-below limit value (Some held) h l = h
 
 -- the status byte
-flag-small : (b : Bool) → flag_number b ≤ 1
+pub flag-small : (b : Bool) → flag_number b ≤ 1
 flag-small true = omega arith
 flag-small false = omega arith
 
-mode-small : (mode : Mode) → mode_number mode ≤ 5
+pub mode-small : (mode : Mode) → mode_number mode ≤ 5
 mode-small TerminalCount = omega arith
 mode-small OneShot = omega arith
 mode-small RateGenerator = omega arith
@@ -61,7 +61,7 @@ mode-small SquareWave = omega arith
 mode-small SoftwareStrobe = omega arith
 mode-small HardwareStrobe = omega arith
 
-access-small : (access : Access) → access_number access ≤ 3
+pub access-small : (access : Access) → access_number access ≤ 3
 access-small LowByte = omega arith
 access-small HighByte = omega arith
 access-small LowThenHigh = omega arith
