@@ -11,7 +11,7 @@ use Rattle.dev_pit.specs.Channel.{channel_of}
 use Rattle.dev_pit.specs.Counter.{flag_number, held_or}
 use Rattle.dev_pit.specs.Laws.{SavedIsNormal}
 use Rattle.dev_pit.specs.Mode.{mode_number, access_number}
-use Rattle.dev_pit.specs.Saved.{IsPitCells, channel_kinds, cell_kinds, kind_at}
+use Rattle.dev_pit.specs.Saved.{HasDefaults, IsPitCells, channel_kinds, cell_kinds, kind_at}
 use Rattle.dev_pit.specs.Sound.{HasWidths, HeldBelow, IsSoundPit}
 use Rattle.dev_pit.specs.declared.channel.Channel.{Channel}
 use Rattle.dev_pit.specs.declared.counter.Counter.{Counter}
@@ -107,19 +107,16 @@ total : (first second third : Counter) (late : List ℤ) → length late ≡ 6 �
 unfolding channel_cells
 total first second third late six = omega arith
 
-no_wlow : (first second third : Counter) (late : List ℤ) (k : ℕ) → k < 3 → flag_at (all_cells first second third late) (11 * k + 7) ≡ false → number_at (all_cells first second third late) (11 * k + 8) ≡ 0
+absent : (first second third : Counter) (late : List ℤ) → HasDefaults (all_cells first second third late)
 unfolding channel_cells channel_of
-no_wlow first second third late zero h e = no_held first.held_low e
-no_wlow first second third late (suc zero) h e = no_held second.held_low e
-no_wlow first second third late (suc (suc zero)) h e = no_held third.held_low e
-no_wlow first second third late (suc (suc (suc k))) h e = absurd (omega arith)
-
-no_latch : (first second third : Counter) (late : List ℤ) (k : ℕ) → k < 3 → flag_at (all_cells first second third late) (11 * k + 9) ≡ false → number_at (all_cells first second third late) (11 * k + 10) ≡ 0
-unfolding channel_cells channel_of
-no_latch first second third late zero h e = no_held first.latch e
-no_latch first second third late (suc zero) h e = no_held second.latch e
-no_latch first second third late (suc (suc zero)) h e = no_held third.latch e
-no_latch first second third late (suc (suc (suc k))) h e = absurd (omega arith)
+absent first second third late = record {
+  wlow0 = no_held first.held_low;
+  wlow1 = no_held second.held_low;
+  wlow2 = no_held third.held_low;
+  latch0 = no_held first.latch;
+  latch1 = no_held second.latch;
+  latch2 = no_held third.latch;
+}
 
 -- these are normal
 all_in : (first second third : Counter) (late : List ℤ) → HasWidths first → HasWidths second → HasWidths third → AllIn late_kinds late → AllIn cell_kinds (all_cells first second third late)
@@ -131,8 +128,7 @@ normal : (first second third : Counter) (late : List ℤ) → HasWidths first �
 normal first second third late a b c l six = record {
   count = total first second third late six;
   in_range = λ place h. all_in-at cell_kinds _ (all_in first second third late a b c l) place h;
-  no_wlow = no_wlow first second third late;
-  no_latch = no_latch first second third late;
+  defaults = absent first second third late;
 }
 
 six-status : (first second third : Channel) → length (status_cells first second third) ≡ 6

@@ -30,12 +30,24 @@ cell_kinds = channel_kinds ++ channel_kinds ++ channel_kinds ++ (kinds.Bool ∷ 
 abbrev pub kind_at : ℕ → Kind
 kind_at place = slice_index_or cell_kinds place kinds.U8
 
--- normal cells of the newest set: as many as it has, each in its kind's range, and an absent cell at its default
+-- the number at `place` is at its default where the flag at `flag` is clear, since it is absent there
+abbrev pub HasDefault : ℕ → ℕ → List ℤ → Type 0
+HasDefault flag place cells = flag_at cells flag ≡ false → number_at cells place ≡ 0
+
+-- wlow and latch of each channel are absent where wlow_held and latched are clear
+pub record HasDefaults (cells : List ℤ) : Type 0 where
+  pub wlow0 : HasDefault 7 8 cells
+  pub wlow1 : HasDefault 18 19 cells
+  pub wlow2 : HasDefault 29 30 cells
+  pub latch0 : HasDefault 9 10 cells
+  pub latch1 : HasDefault 20 21 cells
+  pub latch2 : HasDefault 31 32 cells
+
+-- normal cells of the newest set: as many as it has, each in its kind's range, and an absent one at its default
 pub record IsPitCells (cells : List ℤ) : Type 0 where
   pub count : length cells ≡ CELLS
   pub in_range : (place : ℕ) → place < CELLS → InRange (kind_at place) (cell_at cells place)
-  pub no_wlow : (k : ℕ) → k < 3 → flag_at cells (11 * k + 7) ≡ false → number_at cells (11 * k + 8) ≡ 0
-  pub no_latch : (k : ℕ) → k < 3 → flag_at cells (11 * k + 9) ≡ false → number_at cells (11 * k + 10) ≡ 0
+  pub defaults : HasDefaults cells
 
 -- the cells of the newest set may be restored at a level
 pub record CanRestore (numbers : Numbers) (cells : List ℤ) : Type 0 where

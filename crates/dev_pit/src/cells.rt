@@ -8,7 +8,7 @@ use crate::limits::{CELLS, CHANNEL_CELLS, STATUS_SET};
 use vms_kinds::{DevCells, Kind};
 
 // A cell of eight bits.
-fn byte_at(cells: &DevCells, place: usize) -> u8
+pub(crate) fn byte_at(cells: &DevCells, place: usize) -> u8
     requires within { place < length cells.now.items }
     requires in_range { InRange Kind.U8 (cell_at cells.now.items place) }
     ensures { result ≡ number_at cells.now.items place }
@@ -17,7 +17,7 @@ fn byte_at(cells: &DevCells, place: usize) -> u8
 }
 
 // A cell of sixteen bits.
-fn word_at(cells: &DevCells, place: usize) -> u16
+pub(crate) fn word_at(cells: &DevCells, place: usize) -> u16
     requires within { place < length cells.now.items }
     requires in_range { InRange Kind.U16 (cell_at cells.now.items place) }
     ensures { result ≡ number_at cells.now.items place }
@@ -35,7 +35,7 @@ fn moment_at(cells: &DevCells, place: usize) -> u64
 }
 
 // A cell of a truth value.
-fn flag_at(cells: &DevCells, place: usize) -> bool
+pub(crate) fn flag_at(cells: &DevCells, place: usize) -> bool
     requires within { place < length cells.now.items }
     requires in_range { InRange Kind.Bool (cell_at cells.now.items place) }
     ensures { result ≡ flag_at_of cells.now.items place }

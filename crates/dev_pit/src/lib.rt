@@ -12,6 +12,7 @@ mod counter;
 mod laws;
 mod limits;
 mod mode;
+mod normal;
 mod pit;
 mod saved;
 mod ticks;
