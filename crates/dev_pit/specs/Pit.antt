@@ -11,6 +11,10 @@ use Rattle.dev_pit.specs.declared.pit.Pit.{Pit}
 abbrev pub IsLevel : ℕ → Type 0
 IsLevel level = (1 ≤ level) × (level ≤ NEWEST_LEVEL)
 
+-- the level of a chip, which no call changes
+abbrev pub level_of : Pit → ℕ
+level_of pit = pit.level
+
 -- three ports of counters, and the control port
 abbrev pub IsPort : ℕ → Type 0
 IsPort port = (0x40 ≤ port) × (port ≤ 0x43)

@@ -23,3 +23,6 @@ pub use laws::{
 };
 pub use limits::{CELLS, LAST_MOMENT, NEWEST_LEVEL, NEWEST_SET, READ_BACK_LEVEL, STATUS_SET};
 pub use pit::Pit;
+
+#[cfg(test)]
+mod tests;

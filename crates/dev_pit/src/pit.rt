@@ -18,7 +18,7 @@ pub struct Pit {
 }
 
 impl Pit {
-    ghost use Rattle.dev_pit.specs.Pit.{IsLevel, IsPort, IsLoadedBy, new_pit, pit_read, pit_written, controlled, pit_out, pit_edge};
+    ghost use Rattle.dev_pit.specs.Pit.{level_of, IsLevel, IsPort, IsLoadedBy, new_pit, pit_read, pit_written, controlled, pit_out, pit_edge};
 
     /// The chip at power on.
     #[tactic(auto, unfolding(crate::specs::Pit::new_pit, crate::specs::Counter::powered_on))]
@@ -40,6 +40,13 @@ impl Pit {
         ensures { IsTrue result ↔ IsLevel level }
     {
         1 <= level && level <= NEWEST_LEVEL
+    }
+
+    /// The level of the chip, from 1 to `NEWEST_LEVEL`.
+    pub fn level(&self) -> u8
+        ensures { result ≡ level_of self.now }
+    {
+        self.level
     }
 
     /// Tells whether a port is one of the chip's: 0x40 to 0x42 for the counters, 0x43 for control words.
@@ -65,6 +72,7 @@ impl Pit {
         requires moment { now ≤ LAST_MOMENT }
         requires loaded { IsLoadedBy now self.old }
         ensures step { (result, self.new) ≡ pit_read counter now self.old }
+        ensures level { level_of self.new ≡ level_of self.old }
         ensures keeps { (later : ℕ) → now ≤ later → IsLoadedBy later self.new }
     {
         match counter {
@@ -81,6 +89,7 @@ impl Pit {
         requires moment { now ≤ LAST_MOMENT }
         requires loaded { IsLoadedBy now self.old }
         ensures step { self.new ≡ pit_written port value now self.old }
+        ensures level { level_of self.new ≡ level_of self.old }
         ensures keeps { (later : ℕ) → now ≤ later → IsLoadedBy later self.new }
     {
         match port {
@@ -127,7 +136,8 @@ impl Pit {
     fn control(&mut self, word: ControlWord, now: u64)
         requires moment { now ≤ LAST_MOMENT }
         requires loaded { IsLoadedBy now self.old }
-        ensures { self.new ≡ controlled word now self.old }
+        ensures step { self.new ≡ controlled word now self.old }
+        ensures level { level_of self.new ≡ level_of self.old }
     {
         match word {
             ControlWord::LatchCount { counter: 0 } => self.counter0.latch_count(now),

@@ -23,4 +23,4 @@ returns-in-66-clause-keeps c = λ later l. record {
 }
 
 pub returns-in_default-clause-keeps : goal.returns-in_default-clause-keeps
-returns-in_default-clause-keeps c = λ later l. controlled-later _ c.args.now later c.args.self.now _ c.control.ensures c.requires.loaded l
+returns-in_default-clause-keeps c = λ later l. controlled-later _ c.args.now later c.args.self.now _ c.control.ensures.step c.requires.loaded l
