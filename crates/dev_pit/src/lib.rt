@@ -25,4 +25,6 @@ pub use limits::{CELLS, LAST_MOMENT, NEWEST_LEVEL, NEWEST_SET, READ_BACK_LEVEL, 
 pub use pit::Pit;
 
 #[cfg(test)]
+mod restore_tests;
+#[cfg(test)]
 mod tests;
