@@ -105,11 +105,11 @@ write-goes_on : (k now port value : ℕ) (pit : Pit) → k < 3 → (0x40 ≤ por
 unfolding pit_written
 write-goes_on k now port value pit h c programs loads =
     ⊎_elim (λ control. let unset : sets_mode_of k (control_word value) ≡ false = rw control at programs in
-      rw control (control-goes_on (control_word value) k now pit h (control_word-is_word value c.2) unset))
+    rw control (control-goes_on (control_word value) k now pit h (control_word-is_word value c.2) unset))
     (λ data_port. let j : ℕ = port - 0x40 in
-      rw data_port (at_counter (GoesOn (counter_of k pit)) k j _ pit h (counter_port port c.0 c.1 data_port)
-      (λ here. subst (λ (i : ℕ). GoesOn (counter_of k pit) (written value now (counter_of i pit))) here (written-goes_on value now (counter_of k pit) (completing port k _ c.0 here loads)))
-      (λ there. same (counter_of k pit))))
+    rw data_port (at_counter (GoesOn (counter_of k pit)) k j _ pit h (counter_port port c.0 c.1 data_port)
+    (λ here. subst (λ (i : ℕ). GoesOn (counter_of k pit) (written value now (counter_of i pit))) here (written-goes_on value now (counter_of k pit) (completing port k _ c.0 here loads)))
+    (λ there. same (counter_of k pit))))
     (either_way (port == 0x43))
 
 pub counting_goes_on : CountingGoesOn
@@ -139,5 +139,5 @@ unfolding pit_out
 terminal_count_stays = record {
   in_time = λ k now later pit m h e. out-later (counter_of k pit) now later m h e;
   in_calls = λ k now later moment call pit small valid p l m h e.
-    rw (out-goes_on (counter_of k pit) (counter_of k (called call moment pit)) later (counting_goes_on k moment call pit small valid p l)) (out-later (counter_of k pit) now later m h e);
+      rw (out-goes_on (counter_of k pit) (counter_of k (called call moment pit)) later (counting_goes_on k moment call pit small valid p l)) (out-later (counter_of k pit) now later m h e);
 }

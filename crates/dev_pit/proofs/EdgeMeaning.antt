@@ -129,9 +129,9 @@ square-grown count before after one t =
     let low : high_part n ≤ (t.tick - 1) % n = square-above count (t.tick - 1) one t.low in
     let high : t.tick % n < high_part n = square-below count t.tick one t.high in
     let last : (t.tick - 1) % n ≡ n - 1 =
-      ⊎_elim (λ small. let next : t.tick % n ≡ (t.tick - 1) % n + 1 = next_place n t.tick some small in absurd (omega arith))
-      (λ large. omega arith)
-      (cases_lt ((t.tick - 1) % n + 1) n) in
+    ⊎_elim (λ small. let next : t.tick % n ≡ (t.tick - 1) % n + 1 = next_place n t.tick some small in absurd (omega arith))
+    (λ large. omega arith)
+    (cases_lt ((t.tick - 1) % n + 1) n) in
     grown-from_last n before after t.tick h t.above t.within last
 
 either_way : (b : Bool) → (b ≡ true) ⊎ (b ≡ false)
@@ -251,6 +251,6 @@ pub edge_turns_high : EdgeTurnsHigh
 unfolding edge_of
 edge_turns_high counter from to = (
   λ e. let found : (start : ℕ) × (counter.loaded_at ≡ Some start) × Turns counter.mode counter.count (ticks start from) (ticks start to) = since-turns counter.loaded_at counter.mode counter.count from to e in
-    record { load = found.0; is_loaded = found.1; tick = found.2.tick; after = found.2.above; not_after = found.2.within; low = found.2.low; high = found.2.high },
+      record { load = found.0; is_loaded = found.1; tick = found.2.tick; after = found.2.above; not_after = found.2.within; low = found.2.low; high = found.2.high },
   λ t. turns-since counter.loaded_at counter.mode counter.count from to t.load t.is_loaded (record { tick = t.tick; above = t.after; within = t.not_after; low = t.low; high = t.high }),
 )

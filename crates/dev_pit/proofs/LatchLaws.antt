@@ -97,11 +97,11 @@ write-holds : (k held now port value : ℕ) (pit : Pit) → k < 3 → (0x40 ≤ 
 unfolding pit_written
 write-holds k held now port value pit l c e h =
     ⊎_elim (λ control. let unset : sets_mode_of k (control_word value) ≡ false = rw control at e in
-      rw control (control-holds (control_word value) k held now pit l (control_word-is_word value c.2) unset h))
+    rw control (control-holds (control_word value) k held now pit l (control_word-is_word value c.2) unset h))
     (λ data_port. let j : ℕ = port - 0x40 in
-      rw data_port (at_counter (Holds held) k j _ pit l (counter_port port c.0 c.1 data_port)
-      (λ here. subst (λ (i : ℕ). Holds held (written value now (counter_of i pit))) here (written-holds value held now (counter_of k pit) h))
-      (λ there. h)))
+    rw data_port (at_counter (Holds held) k j _ pit l (counter_port port c.0 c.1 data_port)
+    (λ here. subst (λ (i : ℕ). Holds held (written value now (counter_of i pit))) here (written-holds value held now (counter_of k pit) h))
+    (λ there. h)))
     (either_way (port == 0x43))
 
 call-holds : (k held now : ℕ) (call : Call) (pit : Pit) → k < 3 → IsCall call → programs k call ≡ false → reads_latch k call pit ≡ false → Holds held (counter_of k pit) → Holds held (counter_of k (called call now pit))
@@ -109,8 +109,8 @@ unfolding called programs reads_latch pit_read
 call-holds k held now (reads j) pit l c p r h =
     at_counter (Holds held) k j _ pit l c
     (λ here. let t : (j == k) ≡ true = grind (arith, nat_tests) in
-      let unread : (not (is_some (counter_of k pit).status) && is_last (counter_of k pit).access (counter_of k pit)) ≡ false = rw t at r in
-      subst (λ (i : ℕ). Holds held (read_of now (counter_of i pit)).1) here (read-holds held now (counter_of k pit) unread h))
+    let unread : (not (is_some (counter_of k pit).status) && is_last (counter_of k pit).access (counter_of k pit)) ≡ false = rw t at r in
+    subst (λ (i : ℕ). Holds held (read_of now (counter_of i pit)).1) here (read-holds held now (counter_of k pit) unread h))
     (λ there. h)
 call-holds k held now (writes port value) pit l c p r h = write-holds k held now port value pit l (c.0.0, c.0.1, c.1) p h
 

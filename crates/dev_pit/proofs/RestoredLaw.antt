@@ -94,7 +94,7 @@ moment : (z : ℤ) → InRange kinds.U64 z → nat_of z < 2 ^ 64
 moment (pos n) h = omega (arith, ints)
 moment (negsuc n) h = omega arith
 
-first-ranges : (cells : List ℤ) → IsPitCells cells → HasRanges (channel_at 0 33 36 cells)
+first-ranges : (cells : List ℤ) → IsPitCells cells → HasRanges (channel_at 0 cells)
 unfolding channel_at
 first-ranges cells h = record {
   count = word (cell_at cells 0) (h.in_range 0 (omega arith));
@@ -104,7 +104,7 @@ first-ranges cells h = record {
   status = byte (cell_at cells 36) (h.in_range 36 (omega arith));
 }
 
-second-ranges : (cells : List ℤ) → IsPitCells cells → HasRanges (channel_at 11 34 37 cells)
+second-ranges : (cells : List ℤ) → IsPitCells cells → HasRanges (channel_at 1 cells)
 unfolding channel_at
 second-ranges cells h = record {
   count = word (cell_at cells 11) (h.in_range 11 (omega arith));
@@ -114,7 +114,7 @@ second-ranges cells h = record {
   status = byte (cell_at cells 37) (h.in_range 37 (omega arith));
 }
 
-third-ranges : (cells : List ℤ) → IsPitCells cells → HasRanges (channel_at 22 35 38 cells)
+third-ranges : (cells : List ℤ) → IsPitCells cells → HasRanges (channel_at 2 cells)
 unfolding channel_at
 third-ranges cells h = record {
   count = word (cell_at cells 22) (h.in_range 22 (omega arith));
@@ -134,14 +134,14 @@ rules_hold pit found true true true false e = cc
 
 -- a rule of three channels is one of each
 record Each (rule : Channel → Bool) (cells : List ℤ) : Type 0 where
-  first : rule (channel_at 0 33 36 cells) ≡ true
-  second : rule (channel_at 11 34 37 cells) ≡ true
-  third : rule (channel_at 22 35 38 cells) ≡ true
+  first : rule (channel_at 0 cells) ≡ true
+  second : rule (channel_at 1 cells) ≡ true
+  third : rule (channel_at 2 cells) ≡ true
 
 each : (rule : Channel → Bool) (cells : List ℤ) → three_hold rule cells ≡ true → Each rule cells
 each rule cells e =
-    let a : (rule (channel_at 0 33 36 cells) ≡ true) × ((rule (channel_at 11 34 37 cells) && rule (channel_at 22 35 38 cells)) ≡ true) = both-true _ _ e in
-    let b : (rule (channel_at 11 34 37 cells) ≡ true) × (rule (channel_at 22 35 38 cells) ≡ true) = both-true _ _ a.1 in
+    let a : (rule (channel_at 0 cells) ≡ true) × ((rule (channel_at 1 cells) && rule (channel_at 2 cells)) ≡ true) = both-true _ _ e in
+    let b : (rule (channel_at 1 cells) ≡ true) × (rule (channel_at 2 cells) ≡ true) = both-true _ _ a.1 in
     record { first = a.0; second = b.0; third = b.1 }
 
 pit_of-sound : (level now : ℕ) (cells : List ℤ) → IsLevel level → now ≤ LAST_MOMENT → IsPitCells cells → Each (moment_holds now) cells → Each (status_holds level) cells → Each toggles_hold cells → PlainPit now (pit_of level cells)
@@ -149,9 +149,9 @@ unfolding pit_of
 pit_of-sound level now cells l m h moments statuses toggles = record {
   level = l;
   moment = m;
-  counter0 = counter-sound level now (channel_at 0 33 36 cells) (first-ranges cells h) moments.first statuses.first toggles.first;
-  counter1 = counter-sound level now (channel_at 11 34 37 cells) (second-ranges cells h) moments.second statuses.second toggles.second;
-  counter2 = counter-sound level now (channel_at 22 35 38 cells) (third-ranges cells h) moments.third statuses.third toggles.third;
+  counter0 = counter-sound level now (channel_at 0 cells) (first-ranges cells h) moments.first statuses.first toggles.first;
+  counter1 = counter-sound level now (channel_at 1 cells) (second-ranges cells h) moments.second statuses.second toggles.second;
+  counter2 = counter-sound level now (channel_at 2 cells) (third-ranges cells h) moments.third statuses.third toggles.third;
 }
 
 pub restored_is_sound : RestoredIsSound

@@ -47,15 +47,15 @@ unfolding counter_from channel_of
 counter-back counter = simp (mode-back, access-back, held-back)
 
 -- the channels of the cells that they gave, in the newest set
-first-back : (first second third : Channel) → channel_at 0 33 36 (three_cells NEWEST_SET first second third) ≡ first
+first-back : (first second third : Channel) → channel_at 0 (three_cells NEWEST_SET first second third) ≡ first
 unfolding channel_at three_cells channel_cells status_cells
 first-back first second third = simp flag-back
 
-second-back : (first second third : Channel) → channel_at 11 34 37 (three_cells NEWEST_SET first second third) ≡ second
+second-back : (first second third : Channel) → channel_at 1 (three_cells NEWEST_SET first second third) ≡ second
 unfolding channel_at three_cells channel_cells status_cells
 second-back first second third = simp flag-back
 
-third-back : (first second third : Channel) → channel_at 22 35 38 (three_cells NEWEST_SET first second third) ≡ third
+third-back : (first second third : Channel) → channel_at 2 (three_cells NEWEST_SET first second third) ≡ third
 unfolding channel_at three_cells channel_cells status_cells
 third-back first second third = simp flag-back
 
@@ -71,10 +71,14 @@ rule-saved rule first second third a b c =
 pit_of-saved : (pit : Pit) → pit_of pit.level (pit_cells NEWEST_SET pit) ≡ pit
 unfolding pit_of pit_cells
 pit_of-saved pit =
-    rw (first-back (channel_of pit.counter0) (channel_of pit.counter1) (channel_of pit.counter2),
-    second-back (channel_of pit.counter0) (channel_of pit.counter1) (channel_of pit.counter2),
-    third-back (channel_of pit.counter0) (channel_of pit.counter1) (channel_of pit.counter2),
-    counter-back pit.counter0, counter-back pit.counter1, counter-back pit.counter2)
+    rw (
+      first-back (channel_of pit.counter0) (channel_of pit.counter1) (channel_of pit.counter2),
+      second-back (channel_of pit.counter0) (channel_of pit.counter1) (channel_of pit.counter2),
+      third-back (channel_of pit.counter0) (channel_of pit.counter1) (channel_of pit.counter2),
+      counter-back pit.counter0,
+      counter-back pit.counter1,
+      counter-back pit.counter2,
+    )
 
 restored-newest : (now : ℕ) (pit : Pit) → IsSoundPit now pit → restored_pit pit.level now (pit_cells NEWEST_SET pit) ≡ Ok pit
 unfolding pit_cells
@@ -112,6 +116,6 @@ unfolding pit_cells
 saved_is_restored set now pit s low high =
     ⊎_elim (λ e. rw (carried-later set (channel_of pit.counter0) (channel_of pit.counter1) (channel_of pit.counter2) e) (restored-newest now pit s))
     (λ e. let h : pit.level < READ_BACK_LEVEL = grind (arith, nat_tests) in
-      rw (carried-first set (channel_of pit.counter0) (channel_of pit.counter1) (channel_of pit.counter2) e (zeros pit.counter0 pit.counter1 pit.counter2 (status-zero pit.level now pit.counter0 h s.counter0) (status-zero pit.level now pit.counter1 h s.counter1) (status-zero pit.level now pit.counter2 h s.counter2)))
-      (restored-newest now pit s))
+    rw (carried-first set (channel_of pit.counter0) (channel_of pit.counter1) (channel_of pit.counter2) e (zeros pit.counter0 pit.counter1 pit.counter2 (status-zero pit.level now pit.counter0 h s.counter0) (status-zero pit.level now pit.counter1 h s.counter1) (status-zero pit.level now pit.counter2 h s.counter2)))
+    (restored-newest now pit s))
     (either_way (nat_le STATUS_SET set))

@@ -94,13 +94,13 @@ controlled-plain (LatchCount k) now pit s = with-plain k now _ pit (latched-soun
 controlled-plain (SetMode k access mode bcd) now pit s = with-plain k now _ pit (programmed-sound access mode bcd pit.level now (counter_of k pit) (counter-plain k now pit s)) s
 controlled-plain (ReadBack count status first second third) now pit s =
     ⊎_elim (λ e. let h : READ_BACK_LEVEL ≤ pit.level = grind (arith, nat_tests) in
-      rw e (record {
-        level = s.level;
-        moment = s.moment;
-        counter0 = read_back-sound _ _ pit.level now pit.counter0 h s.counter0;
-        counter1 = read_back-sound _ _ pit.level now pit.counter1 h s.counter1;
-        counter2 = read_back-sound _ _ pit.level now pit.counter2 h s.counter2;
-      }))
+    rw e (record {
+      level = s.level;
+      moment = s.moment;
+      counter0 = read_back-sound _ _ pit.level now pit.counter0 h s.counter0;
+      counter1 = read_back-sound _ _ pit.level now pit.counter1 h s.counter1;
+      counter2 = read_back-sound _ _ pit.level now pit.counter2 h s.counter2;
+    }))
     (λ e. rw e s)
     (either_way (nat_le READ_BACK_LEVEL pit.level))
 

@@ -212,12 +212,14 @@ counted_by-sound LowThenHigh count level now counter e s =
 read_by-sound : (status : Option ℕ) (level now : ℕ) (counter : Counter) → PlainSound level now counter → Sounds level now (read_by status now counter)
 unfolding counted_of
 read_by-sound None level now counter s = counted_by-sound counter.access _ level now counter refl s
-read_by-sound (Some status) level now counter s = record { after = record {
-  widths = record { count = s.widths.count; loaded_at = s.widths.loaded_at; held_low = s.widths.held_low; latch = s.widths.latch; status = tt };
-  loaded = s.loaded;
-  status = tt;
-  toggles = s.toggles;
-} }
+read_by-sound (Some status) level now counter s = record {
+  after = record {
+    widths = record { count = s.widths.count; loaded_at = s.widths.loaded_at; held_low = s.widths.held_low; latch = s.widths.latch; status = tt };
+    loaded = s.loaded;
+    status = tt;
+    toggles = s.toggles;
+  };
+}
 
 pub read-sound : (level now : ℕ) (counter : Counter) → PlainSound level now counter → PlainSound level now (read_of now counter).1
 unfolding read_of

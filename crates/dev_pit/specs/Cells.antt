@@ -48,38 +48,47 @@ pit_cells set pit = three_cells set (channel_of pit.counter0) (channel_of pit.co
 unfoldable pub carried : ℕ → List ℤ → List ℤ
 carried set cells = if nat_le STATUS_SET set then cells else cells ++ (pos 0 ∷ pos 0 ∷ pos 0 ∷ pos 0 ∷ pos 0 ∷ pos 0 ∷ [])
 
--- the channel whose cells begin at `first`, with its status
-unfoldable pub channel_at : ℕ → ℕ → ℕ → List ℤ → Channel
-channel_at first latched_place status_place cells = record {
-  count = number_at cells first;
-  mode = number_at cells (first + 1);
-  rw = number_at cells (first + 2);
-  bcd = flag_at cells (first + 3);
-  loaded = flag_at cells (first + 4);
-  load_time = number_at cells (first + 5);
-  read_high = flag_at cells (first + 6);
-  wlow_held = flag_at cells (first + 7);
-  wlow = number_at cells (first + 8);
-  latched = flag_at cells (first + 9);
-  latch = number_at cells (first + 10);
-  status_latched = flag_at cells latched_place;
-  status = number_at cells status_place;
+-- where the cells of channel k begin, and those of its status
+abbrev pub channel_place : ℕ → ℕ
+channel_place k = CHANNEL_CELLS * k
+
+abbrev pub latched_place : ℕ → ℕ
+latched_place k = CHANNEL_CELLS * 3 + k
+
+abbrev pub status_place : ℕ → ℕ
+status_place k = CHANNEL_CELLS * 3 + 3 + k
+
+-- channel k, 0 to 2, with its status
+unfoldable pub channel_at : ℕ → List ℤ → Channel
+channel_at k cells = record {
+  count = number_at cells (channel_place k);
+  mode = number_at cells (channel_place k + 1);
+  rw = number_at cells (channel_place k + 2);
+  bcd = flag_at cells (channel_place k + 3);
+  loaded = flag_at cells (channel_place k + 4);
+  load_time = number_at cells (channel_place k + 5);
+  read_high = flag_at cells (channel_place k + 6);
+  wlow_held = flag_at cells (channel_place k + 7);
+  wlow = number_at cells (channel_place k + 8);
+  latched = flag_at cells (channel_place k + 9);
+  latch = number_at cells (channel_place k + 10);
+  status_latched = flag_at cells (latched_place k);
+  status = number_at cells (status_place k);
 }
 
--- each cell of a channel is in its kind's range
-pub record IsChannelAt (first latched_place status_place : ℕ) (cells : List ℤ) : Type 0 where
-  pub length_of : length cells ≡ CELLS
-  pub within : (first + CHANNEL_CELLS ≤ CELLS) × (latched_place < CELLS) × (status_place < CELLS)
-  pub count : InRange kinds.U16 (cell_at cells first)
-  pub mode : InRange kinds.U8 (cell_at cells (first + 1))
-  pub rw : InRange kinds.U8 (cell_at cells (first + 2))
-  pub bcd : InRange kinds.Bool (cell_at cells (first + 3))
-  pub loaded : InRange kinds.Bool (cell_at cells (first + 4))
-  pub load_time : InRange kinds.U64 (cell_at cells (first + 5))
-  pub read_high : InRange kinds.Bool (cell_at cells (first + 6))
-  pub wlow_held : InRange kinds.Bool (cell_at cells (first + 7))
-  pub wlow : InRange kinds.U8 (cell_at cells (first + 8))
-  pub latched : InRange kinds.Bool (cell_at cells (first + 9))
-  pub latch : InRange kinds.U16 (cell_at cells (first + 10))
-  pub status_latched : InRange kinds.Bool (cell_at cells latched_place)
-  pub status : InRange kinds.U8 (cell_at cells status_place)
+-- each cell of channel k is in its kind's range
+pub record IsChannelAt (k : ℕ) (cells : List ℤ) : Type 0 where
+  pub within : (k < 3) × (length cells ≡ CELLS)
+  pub count : InRange kinds.U16 (cell_at cells (channel_place k))
+  pub mode : InRange kinds.U8 (cell_at cells (channel_place k + 1))
+  pub rw : InRange kinds.U8 (cell_at cells (channel_place k + 2))
+  pub bcd : InRange kinds.Bool (cell_at cells (channel_place k + 3))
+  pub loaded : InRange kinds.Bool (cell_at cells (channel_place k + 4))
+  pub load_time : InRange kinds.U64 (cell_at cells (channel_place k + 5))
+  pub read_high : InRange kinds.Bool (cell_at cells (channel_place k + 6))
+  pub wlow_held : InRange kinds.Bool (cell_at cells (channel_place k + 7))
+  pub wlow : InRange kinds.U8 (cell_at cells (channel_place k + 8))
+  pub latched : InRange kinds.Bool (cell_at cells (channel_place k + 9))
+  pub latch : InRange kinds.U16 (cell_at cells (channel_place k + 10))
+  pub status_latched : InRange kinds.Bool (cell_at cells (latched_place k))
+  pub status : InRange kinds.U8 (cell_at cells (status_place k))

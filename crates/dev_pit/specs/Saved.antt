@@ -5,7 +5,7 @@ use Rattle.vms_hooks.specs.declared.fault.HookFault.{HookFault}
 use Rattle.vms_kinds.specs.Codes.{InRange}
 use Rattle.vms_kinds.specs.declared.Kind.{Kind}
 use Rattle.vms_kinds.specs.declared.Kind.TheVariants as kinds
-use Rattle.dev_pit.specs.Cells.{cell_at, number_at, flag_at, channel_at}
+use Rattle.dev_pit.specs.Cells.{cell_at, number_at, flag_at, channel_place, channel_at}
 use Rattle.dev_pit.specs.Channel.{counter_from, registers_hold, moment_holds, status_holds, toggles_hold}
 use Rattle.dev_pit.specs.Pit.{IsLevel}
 use Rattle.dev_pit.specs.declared.channel.Channel.{Channel}
@@ -36,12 +36,12 @@ HasDefault flag place cells = flag_at cells flag ≡ false → number_at cells p
 
 -- wlow and latch of each channel are absent where wlow_held and latched are clear
 pub record HasDefaults (cells : List ℤ) : Type 0 where
-  pub wlow0 : HasDefault 7 8 cells
-  pub wlow1 : HasDefault 18 19 cells
-  pub wlow2 : HasDefault 29 30 cells
-  pub latch0 : HasDefault 9 10 cells
-  pub latch1 : HasDefault 20 21 cells
-  pub latch2 : HasDefault 31 32 cells
+  pub wlow0 : HasDefault (channel_place 0 + 7) (channel_place 0 + 8) cells
+  pub wlow1 : HasDefault (channel_place 1 + 7) (channel_place 1 + 8) cells
+  pub wlow2 : HasDefault (channel_place 2 + 7) (channel_place 2 + 8) cells
+  pub latch0 : HasDefault (channel_place 0 + 9) (channel_place 0 + 10) cells
+  pub latch1 : HasDefault (channel_place 1 + 9) (channel_place 1 + 10) cells
+  pub latch2 : HasDefault (channel_place 2 + 9) (channel_place 2 + 10) cells
 
 -- normal cells of the newest set: as many as it has, each in its kind's range, and an absent one at its default
 pub record IsPitCells (cells : List ℤ) : Type 0 where
@@ -58,15 +58,15 @@ pub record CanRestore (numbers : Numbers) (cells : List ℤ) : Type 0 where
 
 -- a rule holds of each of the three channels
 abbrev pub three_hold : (Channel → Bool) → List ℤ → Bool
-three_hold rule cells = rule (channel_at 0 33 36 cells) && (rule (channel_at 11 34 37 cells) && rule (channel_at 22 35 38 cells))
+three_hold rule cells = rule (channel_at 0 cells) && (rule (channel_at 1 cells) && rule (channel_at 2 cells))
 
 -- the chip of these cells
 unfoldable pub pit_of : ℕ → List ℤ → Pit
 pit_of level cells = record {
   level = level;
-  counter0 = counter_from (channel_at 0 33 36 cells);
-  counter1 = counter_from (channel_at 11 34 37 cells);
-  counter2 = counter_from (channel_at 22 35 38 cells);
+  counter0 = counter_from (channel_at 0 cells);
+  counter1 = counter_from (channel_at 1 cells);
+  counter2 = counter_from (channel_at 2 cells);
 }
 
 -- the chip, or the number of the first rule that fails of any channel

@@ -67,12 +67,14 @@ fn statuses_of(first: &Channel, second: &Channel, third: &Channel) -> [i128; 6]
 }
 
 impl Channel {
-    /// The channel whose cells begin at a place, with the status whose cells stand at two others.
+    /// Channel k, 0 to 2, of the cells of the newest set.
     #[tactic(auto, unfolding(crate::specs::Cells::channel_at))]
-    pub fn at(cells: &DevCells, first: usize, latched_place: usize, status_place: usize) -> Channel
-        requires cells { IsChannelAt first latched_place status_place cells.now.items }
-        ensures { result ≡ channel_at first latched_place status_place cells.now.items }
+    pub fn at(cells: &DevCells, k: usize) -> Channel
+        requires { IsChannelAt k cells.now.items }
+        ensures { result ≡ channel_at k cells.now.items }
     {
+        let first = CHANNEL_CELLS * k;
+        let late = CHANNEL_CELLS * 3 + k;
         Channel {
             count: word_at(cells, first),
             mode: byte_at(cells, first + 1),
@@ -85,8 +87,8 @@ impl Channel {
             wlow: byte_at(cells, first + 8),
             latched: flag_at(cells, first + 9),
             latch: word_at(cells, first + 10),
-            status_latched: flag_at(cells, latched_place),
-            status: byte_at(cells, status_place),
+            status_latched: flag_at(cells, late),
+            status: byte_at(cells, late + 3),
         }
     }
 

@@ -88,7 +88,8 @@ impl Channel {
     pub fn has_status(&self, level: u8) -> bool
         ensures { result ≡ status_holds level self.now }
     {
-        (self.status_latched || self.status == 0) && (level >= READ_BACK_LEVEL || !self.status_latched)
+        (self.status_latched || self.status == 0)
+            && (level >= READ_BACK_LEVEL || !self.status_latched)
     }
 
     /// Rule 4: only counts of two bytes, RW 3, are read or written by halves.

@@ -8,7 +8,9 @@ use crate::mode::{Access, Mode};
 #[derive(Clone, Copy, Debug, PartialEq, Eq)]
 pub(crate) enum ControlWord {
     /// "Counter Latch Command": latches the count of one counter.
-    LatchCount { counter: u8 },
+    LatchCount {
+        counter: u8,
+    },
     /// "Control Word Format": sets the mode of one counter.
     SetMode {
         counter: u8,

@@ -1,6 +1,6 @@
 // One counter.
 ghost use Rattle.std.specs.Prelude.{◌≡◌, ℕ, ◌<◌, ◌≤◌, ◌+◌, ◌*◌, ◌/◌, ◌%◌, ◌^◌, IsTrue, ◌↔◌};
-ghost use Rattle.dev_pit.specs.Count.{square as square_of};
+ghost use Rattle.dev_pit.specs.Count.{down as down_of, square as square_of};
 
 use crate::limits::LAST_MOMENT;
 use crate::mode::{Access, Mode};
@@ -74,7 +74,7 @@ impl Counter {
         let k = ticks(load, now);
         let n = period(self.count);
         match self.mode {
-            Mode::TerminalCount | Mode::SoftwareStrobe => ((n + 65_536 - k % 65_536) % 65_536) as u16,
+            Mode::TerminalCount | Mode::SoftwareStrobe => down(n, k),
             Mode::OneShot | Mode::HardwareStrobe => self.count,
             Mode::RateGenerator if n > 1 => ((n - k % n) % 65_536) as u16,
             Mode::SquareWave if n > 1 => square(n, k),
@@ -234,26 +234,31 @@ impl Counter {
     {
         let low = (count % 256) as u8;
         let high = (count / 256) as u8;
-        match self.access {
-            Access::LowByte => {
-                self.latch = None;
-                low
-            }
-            Access::HighByte => {
-                self.latch = None;
-                high
-            }
-            Access::LowThenHigh if !self.read_high => {
-                self.read_high = true;
-                low
-            }
+        let (byte, is_last) = match self.access {
+            Access::LowByte => (low, true),
+            Access::HighByte => (high, true),
             Access::LowThenHigh => {
-                self.read_high = false;
-                self.latch = None;
-                high
+                self.read_high = !self.read_high;
+                if self.read_high {
+                    (low, false)
+                } else {
+                    (high, true)
+                }
             }
+        };
+        if is_last {
+            self.latch = None;
         }
+        byte
     }
+}
+
+/// The live count, modulo 65,536, of a counter that goes on below 0.
+fn down(n: u64, k: u64) -> u16
+    requires { n ≤ 65536 }
+    ensures { result ≡ down_of n k }
+{
+    ((n + 65_536 - k % 65_536) % 65_536) as u16
 }
 
 /// The live count of a square wave.

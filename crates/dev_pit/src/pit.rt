@@ -161,9 +161,12 @@ impl Pit {
                 counter2,
             } => {
                 if self.level >= READ_BACK_LEVEL {
-                    self.counter0.read_back(count && counter0, status && counter0, now);
-                    self.counter1.read_back(count && counter1, status && counter1, now);
-                    self.counter2.read_back(count && counter2, status && counter2, now);
+                    self.counter0
+                        .read_back(count && counter0, status && counter0, now);
+                    self.counter1
+                        .read_back(count && counter1, status && counter1, now);
+                    self.counter2
+                        .read_back(count && counter2, status && counter2, now);
                 }
             }
         }

@@ -11,7 +11,9 @@ fn saved(rt: &impl Abort, pit: &Pit, set: u8, now: u64) -> DevCells {
     assert!(rt; Pit::is_level(level) && level <= set && set <= NEWEST_SET && now <= LAST_MOMENT);
     save_by(
         |pass: &Pass, device: &Pit| device.cells(pass),
-        |pass: &Pass, cells: &DevCells| Pit::of_cells(pass, cells).map_err(|rule| HookFault { rule }),
+        |pass: &Pass, cells: &DevCells| Pit::of_cells(pass, cells).map_err(|rule| HookFault {
+            rule,
+        }),
         level,
         set,
         now,
@@ -24,7 +26,9 @@ fn restored(rt: &impl Abort, cells: &DevCells, level: u8, now: u64) -> Result<Pi
     assert!(rt; Pit::is_level(level) && now <= LAST_MOMENT && Pit::are_normal(cells));
     load_by(
         |pass: &Pass, device: &Pit| device.cells(pass),
-        |pass: &Pass, cells: &DevCells| Pit::of_cells(pass, cells).map_err(|rule| HookFault { rule }),
+        |pass: &Pass, cells: &DevCells| Pit::of_cells(pass, cells).map_err(|rule| HookFault {
+            rule,
+        }),
         level,
         NEWEST_SET,
         now,
@@ -34,8 +38,8 @@ fn restored(rt: &impl Abort, cells: &DevCells, level: u8, now: u64) -> Result<Pi
 
 /// The cells of a chip at power on in the newest set: all 0, but RW, which is 3.
 static POWER_ON: [i128; 39] = [
-    0, 0, 3, 0, 0, 0, 0, 0, 0, 0, 0, 0, 0, 3, 0, 0, 0, 0, 0, 0, 0, 0, 0, 0, 3, 0, 0, 0, 0, 0, 0, 0, 0,
-    0, 0, 0, 0, 0, 0,
+    0, 0, 3, 0, 0, 0, 0, 0, 0, 0, 0, 0, 0, 3, 0, 0, 0, 0, 0, 0, 0, 0, 0, 0, 3, 0, 0, 0, 0, 0, 0, 0,
+    0, 0, 0, 0, 0, 0, 0,
 ];
 
 /// Numbers to be put at places.
@@ -137,8 +141,8 @@ fn busy(rt: &impl Abort, level: u8) -> Pit {
 fn saves_each_field_at_its_place(rt: HostRuntime) {
     // 715 ticks have gone on both loaded counters: 285 of 1,000 are left, and a period of 5 has just begun
     let channels: [i128; 33] = [
-        1000, 2, 3, 0, 1, 7, 1, 1, 0x22, 1, 285, 0, 1, 3, 1, 0, 0, 0, 0, 0, 0, 0, 5, 3, 1, 0, 1, 9, 0,
-        0, 0, 0, 0,
+        1000, 2, 3, 0, 1, 7, 1, 1, 0x22, 1, 285, 0, 1, 3, 1, 0, 0, 0, 0, 0, 0, 0, 5, 3, 1, 0, 1, 9,
+        0, 0, 0, 0, 0,
     ];
     for (level, set, statuses) in [
         (1u8, 1u8, None),

@@ -54,9 +54,9 @@ impl Pit {
     {
         let level = pass.level();
         let now = pass.now();
-        let first = Channel::at(cells, 0, 33, 36);
-        let second = Channel::at(cells, 11, 34, 37);
-        let third = Channel::at(cells, 22, 35, 38);
+        let first = Channel::at(cells, 0);
+        let second = Channel::at(cells, 1);
+        let third = Channel::at(cells, 2);
         if !(first.has_registers() && second.has_registers() && third.has_registers()) {
             return Err(1);
         }
