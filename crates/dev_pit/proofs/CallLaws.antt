@@ -1,13 +1,13 @@
 -- What calls leave as it was in a counter.
-use Rattle.std.proofs.Common.{◌≡◌, ℕ, zero, suc, ◌+◌, ◌-◌, ◌/◌, ◌%◌, ◌<◌, ◌≤◌, ◌==◌, ◌⊎◌, Bool, true, false, cond, not, ◌&&◌, Option, Some, None, refl, ap, inl, inr, arith, subst, sym, ⊎_elim}
+use Rattle.std.proofs.Common.{◌≡◌, ℕ, zero, suc, ◌+◌, ◌-◌, ◌/◌, ◌%◌, ◌<◌, ◌≤◌, ◌==◌, ◌⊎◌, Bool, true, false, ◌&&◌, Option, Some, None, refl, inl, inr, arith, subst, ⊎_elim}
 use Rattle.std.proofs.lemmas.Bool.Decides.{nat_tests}
-use Rattle.std.specs.Prelude.{nat_lt, nat_le, is_some}
-use Rattle.dev_pit.specs.Calls.{Call, reads, writes, IsCall, called, programs, sets_mode_of, loads, completes, reads_latch, is_last}
+use Rattle.std.specs.Prelude.{nat_le, is_some}
+use Rattle.dev_pit.specs.Calls.{reads, writes, called, programs, sets_mode_of, loads, completes}
 use Rattle.dev_pit.specs.Control.{control_word}
-use Rattle.dev_pit.specs.Count.{out_at, period, ticks}
-use Rattle.dev_pit.specs.Counter.{held_or, out_of, out_since, live_of, loaded, written, written_by, written_low_first, programmed, read_of, read_by, counted_of, counted_by, latched, status_latched, read_back}
+use Rattle.dev_pit.specs.Count.{out_at, ticks}
+use Rattle.dev_pit.specs.Counter.{out_of, out_since, written, written_by, written_low_first, read_of, latched, read_back}
 use Rattle.dev_pit.specs.GoesOn.{GoesOn}
-use Rattle.dev_pit.specs.Laws.{CountingGoesOn, TerminalCountStays, LatchStays}
+use Rattle.dev_pit.specs.Laws.{CountingGoesOn, TerminalCountStays}
 use Rattle.dev_pit.specs.Pit.{counter_of, with_counter, pit_read, pit_out, controlled, pit_written}
 use Rattle.dev_pit.specs.declared.control.ControlWord.{ControlWord}
 use Rattle.dev_pit.specs.declared.control.ControlWord.TheVariants.{LatchCount, SetMode, ReadBack}
@@ -15,7 +15,6 @@ use Rattle.dev_pit.specs.declared.counter.Counter.{Counter}
 use Rattle.dev_pit.specs.declared.limits.TheConstants.{READ_BACK_LEVEL}
 use Rattle.dev_pit.specs.declared.mode.Access.{Access}
 use Rattle.dev_pit.specs.declared.mode.Access.TheVariants.{LowByte, HighByte, LowThenHigh}
-use Rattle.dev_pit.specs.declared.mode.Mode.{Mode}
 use Rattle.dev_pit.specs.declared.mode.Mode.TheVariants.{TerminalCount}
 use Rattle.dev_pit.specs.declared.pit.Pit.{Pit}
 use Rattle.dev_pit.proofs.CounterSteps.{either, same, latched-goes_on, read_back-goes_on, read-goes_on}

@@ -1,5 +1,5 @@
 -- How many cells a chip has.
-use Rattle.std.proofs.Common.{◌≡◌, ℕ, ◌≤◌, Bool, true, false, List, ℤ, ◌++◌, length, arith, refl}
+use Rattle.std.proofs.Common.{ℕ, ◌≤◌, List, ℤ, ◌++◌, length, arith}
 use Rattle.std.specs.Prelude.{nat_le}
 use Rattle.dev_pit.specs.Cells.{channel_cells, status_cells, three_cells}
 use Rattle.dev_pit.specs.declared.channel.Channel.{Channel}

@@ -1,5 +1,5 @@
 -- Which steps of a counter leave its counting as it was.
-use Rattle.std.proofs.Common.{◌≡◌, ℕ, Bool, true, false, cond, Option, Some, None, refl, subst}
+use Rattle.std.proofs.Common.{ℕ, Bool, true, false, cond, Option, Some, None, refl}
 use Rattle.dev_pit.specs.Counter.{latched, status_latched, read_back, read_of, read_by, counted_of, counted_by}
 use Rattle.dev_pit.specs.GoesOn.{GoesOn}
 use Rattle.dev_pit.specs.declared.counter.Counter.{Counter}

@@ -1,5 +1,5 @@
 -- An edge is a tick at which OUT turns high.
-use Rattle.std.proofs.Common.{◌≡◌, ℕ, ◌+◌, ◌-◌, ◌*◌, ◌/◌, ◌%◌, ◌<◌, ◌≤◌, ◌==◌, ◌⊎◌, Bool, true, false, not, ◌&&◌, ◌||◌, Option, Some, None, refl, inl, inr, arith, subst, sym, ⊎_elim}
+use Rattle.std.proofs.Common.{◌≡◌, ℕ, ◌+◌, ◌-◌, ◌*◌, ◌/◌, ◌%◌, ◌<◌, ◌≤◌, ◌==◌, ◌⊎◌, Bool, true, false, not, ◌&&◌, Option, Some, None, refl, inl, inr, arith, subst, sym, ⊎_elim}
 use Rattle.std.proofs.lemmas.Bool.{cases_lt}
 use Rattle.std.proofs.lemmas.Bool.Decides.{nat_tests}
 use Rattle.std.proofs.Math.Nat.{div-mul-le_self, div-lt_iff_lt-mul}
@@ -7,8 +7,7 @@ use Rattle.std.proofs.lemmas.Nat.{le-div, mod-mul-add, div-add-mod'}
 use Rattle.std.specs.Prelude.{nat_lt, nat_le}
 use Rattle.dev_pit.specs.Count.{rises, out_at, period, high_part, ticks}
 use Rattle.dev_pit.specs.Counter.{edge_of, edge_since}
-use Rattle.dev_pit.specs.Laws.{TurnsHigh, EdgeTurnsHigh}
-use Rattle.dev_pit.specs.declared.counter.Counter.{Counter}
+use Rattle.dev_pit.specs.Laws.{EdgeTurnsHigh}
 use Rattle.dev_pit.specs.declared.mode.Mode.{Mode}
 use Rattle.dev_pit.specs.declared.mode.Mode.TheVariants.{TerminalCount, OneShot, RateGenerator, SquareWave, SoftwareStrobe, HardwareStrobe}
 use Rattle.dev_pit.proofs.Edges.{period-pos}

@@ -7,7 +7,6 @@ use Rattle.std.specs.Prelude.{nat_lt, nat_le}
 use Rattle.dev_pit.specs.Count.{rises, ticks, period}
 use Rattle.dev_pit.specs.Counter.{edge_of, edge_since}
 use Rattle.dev_pit.specs.Laws.{TicksGoOn, EdgeInParts}
-use Rattle.dev_pit.specs.declared.counter.Counter.{Counter}
 use Rattle.dev_pit.specs.declared.mode.Mode.{Mode}
 use Rattle.dev_pit.specs.declared.mode.Mode.TheVariants.{TerminalCount, OneShot, RateGenerator, SquareWave, SoftwareStrobe, HardwareStrobe}
 

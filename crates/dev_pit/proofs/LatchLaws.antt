@@ -1,12 +1,12 @@
 -- A latched count stays until it is read or the counter is programmed.
-use Rattle.std.proofs.Common.{◌≡◌, ℕ, zero, suc, ◌+◌, ◌-◌, ◌<◌, ◌≤◌, ◌==◌, Bool, true, false, cond, not, ◌&&◌, Option, Some, None, refl, ap, arith, subst, ⊎_elim, ◌∙◌}
+use Rattle.std.proofs.Common.{◌≡◌, ℕ, zero, suc, ◌-◌, ◌<◌, ◌≤◌, ◌==◌, Bool, true, false, not, ◌&&◌, Option, Some, None, refl, arith, subst, ⊎_elim}
 use Rattle.std.proofs.lemmas.Bool.Decides.{nat_tests}
-use Rattle.std.specs.Prelude.{nat_lt, nat_le, is_some}
+use Rattle.std.specs.Prelude.{nat_le, is_some}
 use Rattle.dev_pit.specs.Calls.{Call, reads, writes, IsCall, called, programs, sets_mode_of, reads_latch, is_last}
 use Rattle.dev_pit.specs.Control.{control_word}
-use Rattle.dev_pit.specs.Counter.{held_or, live_of, loaded, written, written_by, written_low_first, read_of, read_by, counted_of, counted_by, latched, status_latched, read_back}
+use Rattle.dev_pit.specs.Counter.{loaded, written, written_by, written_low_first, read_of, read_by, counted_of, counted_by, latched, status_latched, read_back}
 use Rattle.dev_pit.specs.Laws.{LatchStays}
-use Rattle.dev_pit.specs.Pit.{counter_of, with_counter, pit_read, controlled, pit_written}
+use Rattle.dev_pit.specs.Pit.{counter_of, pit_read, controlled, pit_written}
 use Rattle.dev_pit.specs.declared.control.ControlWord.{ControlWord}
 use Rattle.dev_pit.specs.declared.control.ControlWord.TheVariants.{LatchCount, SetMode, ReadBack}
 use Rattle.dev_pit.specs.declared.counter.Counter.{Counter}
@@ -44,7 +44,7 @@ loaded-holds count held now counter h = record { latch = h.latch }
 
 first-holds : (low : Option ℕ) (value held now : ℕ) (counter : Counter) → Holds held counter → Holds held (written_low_first low value now counter)
 first-holds None value held now counter h = record { latch = h.latch }
-first-holds (Some low) value held now counter h = loaded-holds _ held now counter h
+first-holds (Some low) value held now counter h = loaded-holds _ held now _ (record { latch = h.latch })
 
 by-holds : (access : Access) (value held now : ℕ) (counter : Counter) → Holds held counter → Holds held (written_by access value now counter)
 by-holds LowByte value held now counter h = loaded-holds _ held now counter h

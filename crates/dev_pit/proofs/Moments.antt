@@ -1,8 +1,8 @@
 -- A counter that was loaded by a moment was loaded by each later one.
-use Rattle.std.proofs.Common.{◌≡◌, ℕ, zero, suc, ◌≤◌, ◌==◌, ◌-◌, Bool, true, false, cond, Option, Some, None, refl, subst, sym, arith}
+use Rattle.std.proofs.Common.{◌≡◌, ℕ, ◌≤◌, ◌==◌, ◌-◌, Bool, cond, Option, Some, None, subst, sym, arith}
 use Rattle.std.specs.Prelude.{nat_le}
 use Rattle.dev_pit.specs.Control.{control_word}
-use Rattle.dev_pit.specs.Counter.{LoadedBy, loaded, written, written_by, written_low_first, programmed, powered_on, read_of, latched, read_back}
+use Rattle.dev_pit.specs.Counter.{LoadedBy, loaded, written, written_by, written_low_first, programmed, powered_on, read_of}
 use Rattle.dev_pit.specs.GoesOn.{GoesOn}
 use Rattle.dev_pit.specs.Pit.{IsLoadedBy, counter_of, with_counter, pit_read, controlled, pit_written}
 use Rattle.dev_pit.specs.declared.control.ControlWord.{ControlWord}
@@ -42,7 +42,7 @@ loaded-now count now counter = record { by = omega arith }
 
 first-loaded : (held : Option ℕ) (value now : ℕ) (counter : Counter) → Loaded now counter → Loaded now (written_low_first held value now counter)
 first-loaded None value now counter h = record { by = h.by }
-first-loaded (Some low) value now counter h = loaded-now _ now counter
+first-loaded (Some low) value now counter h = loaded-now _ now _
 
 by-loaded : (access : Access) (value now : ℕ) (counter : Counter) → Loaded now counter → Loaded now (written_by access value now counter)
 by-loaded LowByte value now counter h = loaded-now _ now counter

@@ -1,27 +1,22 @@
 -- What is saved of a sound chip are normal cells of the newest set.
-use Rattle.std.proofs.Common.{◌≡◌, ℕ, zero, suc, ◌+◌, ◌*◌, ◌-◌, ◌^◌, ◌<◌, ◌≤◌, ◌==◌, ◌⊎◌, Bool, true, false, cond, not, ◌&&◌, Option, Some, None, List, [], ◌∷◌, ◌++◌, length, ℤ, pos, negsuc, refl, arith, subst, ⊎_elim}
-use Rattle.std.proofs.lemmas.Bool.Decides.{nat_tests}
+use Rattle.std.proofs.Common.{◌≡◌, ℕ, zero, suc, ◌^◌, ◌<◌, ◌==◌, Bool, true, false, Option, Some, None, List, [], ◌∷◌, ◌++◌, length, ℤ, pos, refl, arith, ⊎_elim}
 use Rattle.std.proofs.lemmas.Int.{ints}
 use Rattle.std.specs.Prelude.{nat_le, is_some, slice_index_or, if◌then◌else◌}
 use Rattle.vms_kinds.specs.Codes.{InRange}
 use Rattle.vms_kinds.specs.declared.Kind.{Kind}
 use Rattle.vms_kinds.specs.declared.Kind.TheVariants as kinds
-use Rattle.dev_pit.specs.Cells.{channel_cells, status_cells, three_cells, pit_cells, carried, cell_at, number_at, flag_at}
+use Rattle.dev_pit.specs.Cells.{channel_cells, status_cells, three_cells, pit_cells, carried}
 use Rattle.dev_pit.specs.Channel.{channel_of}
 use Rattle.dev_pit.specs.Counter.{flag_number, held_or}
 use Rattle.dev_pit.specs.Laws.{SavedIsNormal}
-use Rattle.dev_pit.specs.Mode.{mode_number, access_number}
-use Rattle.dev_pit.specs.Saved.{HasDefaults, IsPitCells, channel_kinds, cell_kinds, kind_at}
-use Rattle.dev_pit.specs.Sound.{HasWidths, HeldBelow, IsSoundPit}
+use Rattle.dev_pit.specs.Saved.{HasDefaults, IsPitCells, channel_kinds, cell_kinds}
+use Rattle.dev_pit.specs.Sound.{HasWidths}
 use Rattle.dev_pit.specs.declared.channel.Channel.{Channel}
 use Rattle.dev_pit.specs.declared.counter.Counter.{Counter}
 use Rattle.dev_pit.specs.declared.limits.TheConstants.{STATUS_SET, CELLS}
-use Rattle.dev_pit.specs.declared.mode.Access.{Access}
-use Rattle.dev_pit.specs.declared.mode.Mode.{Mode}
-use Rattle.dev_pit.specs.declared.pit.Pit.{Pit}
 use Rattle.dev_pit.proofs.CallLaws.{either_way}
 use Rattle.dev_pit.proofs.CounterSteps.{either}
-use Rattle.dev_pit.proofs.SoundSteps.{flag-small, mode-small, access-small, held-below}
+use Rattle.dev_pit.proofs.SoundSteps.{mode-small, access-small, held-below}
 
 -- each number of a list is in the range of the kind at its place
 data AllIn : List Kind → List ℤ → Type 0 where

@@ -1,21 +1,20 @@
 -- What is restored is sound.
-use Rattle.std.proofs.Common.{◌≡◌, ℕ, ◌+◌, ◌*◌, ◌^◌, ◌<◌, ◌≤◌, ◌==◌, ◌⊎◌, Bool, true, false, cond, not, ◌&&◌, ◌||◌, Option, Some, None, Result, Ok, Err, List, ℤ, pos, negsuc, refl, arith, subst, ⊎_elim}
+use Rattle.std.proofs.Common.{◌≡◌, ℕ, ◌^◌, ◌<◌, ◌≤◌, ◌==◌, Bool, true, false, cond, not, ◌&&◌, ◌||◌, Result, Ok, Err, List, ℤ, pos, negsuc, refl, arith, subst, ⊎_elim}
 use Rattle.std.proofs.lemmas.Bool.Decides.{nat_tests}
 use Rattle.std.proofs.lemmas.Int.{ints}
-use Rattle.std.specs.Prelude.{nat_le, is_some}
+use Rattle.std.specs.Prelude.{nat_le}
 use Rattle.vms_kinds.specs.Codes.{InRange}
 use Rattle.vms_kinds.specs.declared.Kind.TheVariants as kinds
-use Rattle.dev_pit.specs.Cells.{nat_of, cell_at, number_at, flag_at, channel_at}
+use Rattle.dev_pit.specs.Cells.{nat_of, cell_at, channel_at}
 use Rattle.dev_pit.specs.Channel.{held_if, counter_from, registers_hold, moment_holds, status_holds, toggles_hold}
 use Rattle.dev_pit.specs.Counter.{LoadedBy}
 use Rattle.dev_pit.specs.Laws.{RestoredIsSound}
 use Rattle.dev_pit.specs.Mode.{access_of}
 use Rattle.dev_pit.specs.Pit.{IsLevel}
-use Rattle.dev_pit.specs.Saved.{IsPitCells, kind_at, three_hold, pit_of, restored_pit}
-use Rattle.dev_pit.specs.Sound.{HasWidths, HeldBelow, IsSoundPit}
+use Rattle.dev_pit.specs.Saved.{IsPitCells, three_hold, pit_of, restored_pit}
+use Rattle.dev_pit.specs.Sound.{HeldBelow}
 use Rattle.dev_pit.specs.declared.channel.Channel.{Channel}
-use Rattle.dev_pit.specs.declared.counter.Counter.{Counter}
-use Rattle.dev_pit.specs.declared.limits.TheConstants.{READ_BACK_LEVEL, LAST_MOMENT, CELLS}
+use Rattle.dev_pit.specs.declared.limits.TheConstants.{READ_BACK_LEVEL, LAST_MOMENT}
 use Rattle.dev_pit.specs.declared.mode.Access.{Access}
 use Rattle.dev_pit.specs.declared.mode.Access.TheVariants.{LowByte, HighByte, LowThenHigh}
 use Rattle.dev_pit.specs.declared.pit.Pit.{Pit}

@@ -1,5 +1,5 @@
 -- What was saved is restored as it was.
-use Rattle.std.proofs.Common.{◌≡◌, ℕ, zero, suc, ◌+◌, ◌*◌, ◌^◌, ◌<◌, ◌≤◌, ◌==◌, ◌⊎◌, Bool, true, false, cond, not, ◌&&◌, ◌||◌, Option, Some, None, Result, Ok, List, [], ◌∷◌, ◌++◌, length, ℤ, pos, negsuc, refl, ap, sym, ◌∙◌, arith, subst, ⊎_elim}
+use Rattle.std.proofs.Common.{◌≡◌, ℕ, ◌<◌, ◌==◌, Bool, true, false, Option, Some, None, Ok, List, [], ◌∷◌, ℤ, pos, refl, ap, ◌∙◌, arith, ⊎_elim}
 use Rattle.std.proofs.lemmas.Bool.Decides.{nat_tests}
 use Rattle.std.specs.Prelude.{nat_le, is_some}
 use Rattle.dev_pit.specs.Cells.{channel_cells, status_cells, three_cells, pit_cells, carried, channel_at}
@@ -18,7 +18,7 @@ use Rattle.dev_pit.specs.declared.mode.Mode.{Mode}
 use Rattle.dev_pit.specs.declared.mode.Mode.TheVariants.{TerminalCount, OneShot, RateGenerator, SquareWave, SoftwareStrobe, HardwareStrobe}
 use Rattle.dev_pit.specs.declared.pit.Pit.{Pit}
 use Rattle.dev_pit.proofs.CallLaws.{either_way}
-use Rattle.dev_pit.proofs.PlainSound.{StatusFits, PlainSound, plain-from_sound}
+use Rattle.dev_pit.proofs.PlainSound.{StatusFits, plain-from_sound}
 
 flag-back : (b : Bool) → (flag_number b == 1) ≡ b
 flag-back true = refl

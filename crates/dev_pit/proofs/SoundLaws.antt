@@ -1,10 +1,8 @@
 -- A chip is sound at power on, and time and every call keep it so.
-use Rattle.std.proofs.Common.{◌≡◌, ℕ, ◌+◌, ◌-◌, ◌<◌, ◌≤◌, ◌==◌, ◌⊎◌, Bool, true, false, cond, ◌&&◌, Option, Some, None, refl, arith, ⊎_elim}
+use Rattle.std.proofs.Common.{ℕ, ◌-◌, ◌<◌, ◌≤◌, ◌==◌, cond, arith, ⊎_elim}
 use Rattle.std.proofs.lemmas.Bool.Decides.{nat_tests}
 use Rattle.std.specs.Prelude.{nat_le}
-use Rattle.dev_pit.specs.Calls.{Call, reads, writes, IsCall, called}
 use Rattle.dev_pit.specs.Control.{control_word}
-use Rattle.dev_pit.specs.Counter.{LoadedBy, programmed, read_of, written, latched, read_back, powered_on}
 use Rattle.dev_pit.specs.Laws.{SoundStays}
 use Rattle.dev_pit.specs.Pit.{IsLevel, IsLoadedBy, counter_of, with_counter, new_pit, pit_read, controlled, pit_written}
 use Rattle.dev_pit.specs.Sound.{IsSoundPit}
@@ -110,11 +108,6 @@ written-plain port value now pit v s =
     either (PlainPit now) (port == 0x43) _ _ (controlled-plain (control_word value) now pit s)
     (with-plain (port - 0x40) now _ pit (written-sound value pit.level now (counter_of (port - 0x40) pit) s.moment v (counter-plain (port - 0x40) now pit s)) s)
 
-called-plain : (now : ℕ) (call : Call) (pit : Pit) → IsCall call → PlainPit now pit → PlainPit now (called call now pit)
-unfolding called
-called-plain now (reads k) pit c s = read-plain k now pit s
-called-plain now (writes port value) pit c s = written-plain port value now pit c.1 s
-
 plain-loaded : (now : ℕ) (pit : Pit) → PlainPit now pit → IsLoadedBy now pit
 plain-loaded now pit s = record { counter0 = s.counter0.loaded; counter1 = s.counter1.loaded; counter2 = s.counter2.loaded }
 
@@ -122,6 +115,7 @@ pub sound_stays : SoundStays
 sound_stays = record {
   power_on = λ level now l m. pit-from_plain now (new_pit level) (new-plain level now l m);
   in_time = λ now after pit h m s. pit-from_plain after pit (pit-later now after pit h m (plain-from_pit now pit s));
-  in_calls = λ now call pit c s. pit-from_plain now (called call now pit) (called-plain now call pit c (plain-from_pit now pit s));
+  in_reads = λ k now pit s. pit-from_plain now (pit_read k now pit).1 (read-plain k now pit (plain-from_pit now pit s));
+  in_writes = λ port value now pit v s. pit-from_plain now (pit_written port value now pit) (written-plain port value now pit v (plain-from_pit now pit s));
   loaded = λ now pit s. plain-loaded now pit (plain-from_pit now pit s);
 }

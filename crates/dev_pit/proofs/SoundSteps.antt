@@ -1,10 +1,8 @@
 -- Every step of a counter keeps it sound.
-use Rattle.std.proofs.Common.{◌≡◌, ℕ, zero, ◌+◌, ◌-◌, ◌*◌, ◌/◌, ◌%◌, ◌^◌, ◌<◌, ◌≤◌, ◌==◌, Bool, true, false, cond, not, ◌&&◌, ◌||◌, Option, Some, None, refl, arith, subst, sym}
-use Rattle.std.proofs.lemmas.Bool.Decides.{nat_tests}
-use Rattle.std.proofs.Math.Nat.{mod-lt}
-use Rattle.std.specs.Prelude.{nat_le, nat_lt}
-use Rattle.dev_pit.specs.Count.{live_at, square, period, down, high_part, ticks}
-use Rattle.dev_pit.specs.Counter.{LoadedBy, held_or, flag_number, live_of, live_since, out_of, status_of, loaded, written, written_by, written_low_first, programmed, powered_on, read_of, read_by, counted_of, counted_by, latched, status_latched, read_back}
+use Rattle.std.proofs.Common.{◌≡◌, ℕ, ◌+◌, ◌*◌, ◌%◌, ◌^◌, ◌<◌, ◌≤◌, ◌==◌, Bool, true, false, Option, Some, None, refl, arith, subst, sym}
+use Rattle.std.specs.Prelude.{nat_lt}
+use Rattle.dev_pit.specs.Count.{live_at, square, high_part}
+use Rattle.dev_pit.specs.Counter.{held_or, flag_number, live_of, live_since, out_of, status_of, loaded, written, written_by, written_low_first, programmed, powered_on, read_of, read_by, counted_of, counted_by, latched, status_latched, read_back}
 use Rattle.dev_pit.specs.Mode.{mode_number, access_number}
 use Rattle.dev_pit.specs.Sound.{HasWidths, HeldBelow}
 use Rattle.dev_pit.specs.declared.counter.Counter.{Counter}
@@ -14,7 +12,7 @@ use Rattle.dev_pit.specs.declared.mode.Access.TheVariants.{LowByte, HighByte, Lo
 use Rattle.dev_pit.specs.declared.mode.Mode.{Mode}
 use Rattle.dev_pit.specs.declared.mode.Mode.TheVariants.{TerminalCount, OneShot, RateGenerator, SquareWave, SoftwareStrobe, HardwareStrobe}
 use Rattle.dev_pit.proofs.CounterSteps.{either}
-use Rattle.dev_pit.proofs.PlainSound.{PlainSound, StatusFits, TogglesFit}
+use Rattle.dev_pit.proofs.PlainSound.{PlainSound, TogglesFit}
 
 -- a number of sixteen bits
 record IsWord (n : ℕ) : Type 0 where
@@ -138,40 +136,39 @@ programmed-sound access mode bcd level now counter s = record {
 }
 
 -- loading
-no_held : (access : Access) (read_high : Bool) (held : Option ℕ) → TogglesFit access read_high held → TogglesFit access read_high None
-no_held LowByte read_high held h = (h.0, refl)
-no_held HighByte read_high held h = (h.0, refl)
-no_held LowThenHigh read_high held h = tt
-
 loaded-sound : (count level now : ℕ) (counter : Counter) → now ≤ LAST_MOMENT → count < 2 ^ 16 → PlainSound level now counter → PlainSound level now (loaded count now counter)
 unfolding loaded
 loaded-sound count level now counter m c s = record {
   widths = record {
     count = c;
     loaded_at = omega arith;
-    held_low = tt;
+    held_low = s.widths.held_low;
     latch = s.widths.latch;
     status = s.widths.status;
   };
   loaded = omega arith;
   status = s.status;
-  toggles = no_held counter.access counter.read_high counter.held_low s.toggles;
+  toggles = s.toggles;
 }
 
-first-sound : (low : Option ℕ) (value level now : ℕ) (counter : Counter) → now ≤ LAST_MOMENT → value < 256 → counter.access ≡ LowThenHigh → HeldBelow (2 ^ 8) low → PlainSound level now counter → PlainSound level now (written_low_first low value now counter)
-first-sound None value level now counter m v e h s = record {
+-- a counter of two bytes may hold one or not
+holding : (level now : ℕ) (low : Option ℕ) (counter : Counter) → counter.access ≡ LowThenHigh → HeldBelow (2 ^ 8) low → PlainSound level now counter → PlainSound level now (record counter { held_low = low })
+holding level now low counter e h s = record {
   widths = record {
     count = s.widths.count;
     loaded_at = s.widths.loaded_at;
-    held_low = v;
+    held_low = h;
     latch = s.widths.latch;
     status = s.widths.status;
   };
   loaded = s.loaded;
   status = s.status;
-  toggles = subst (λ (a : Access). TogglesFit a counter.read_high (Some value)) (sym e) tt;
+  toggles = subst (λ (a : Access). TogglesFit a counter.read_high low) (sym e) tt;
 }
-first-sound (Some low) value level now counter m v e h s = loaded-sound (256 * value + low) level now counter m (omega arith) s
+
+first-sound : (low : Option ℕ) (value level now : ℕ) (counter : Counter) → now ≤ LAST_MOMENT → value < 256 → counter.access ≡ LowThenHigh → HeldBelow (2 ^ 8) low → PlainSound level now counter → PlainSound level now (written_low_first low value now counter)
+first-sound None value level now counter m v e h s = holding level now (Some value) counter e v s
+first-sound (Some low) value level now counter m v e h s = loaded-sound (256 * value + low) level now _ m (omega arith) (holding level now None counter e tt s)
 
 by-sound : (access : Access) (value level now : ℕ) (counter : Counter) → now ≤ LAST_MOMENT → value < 256 → counter.access ≡ access → PlainSound level now counter → PlainSound level now (written_by access value now counter)
 by-sound LowByte value level now counter m v e s = loaded-sound value level now counter m (omega arith) s

@@ -1,9 +1,8 @@
 -- The cells of the chip.
-use Rattle.std.specs.Prelude.{◌≡◌, ℕ, ℤ, pos, negsuc, ◌+◌, ◌*◌, ◌<◌, ◌≤◌, ◌==◌, Bool, true, false, not, ◌&&◌, nat_le, if◌then◌else◌, List, [], ◌∷◌, ◌++◌, length, slice_index_or, Result, Ok, Err}
+use Rattle.std.specs.Prelude.{◌≡◌, ℕ, ℤ, pos, negsuc, ◌+◌, ◌*◌, ◌<◌, ◌==◌, Bool, nat_le, if◌then◌else◌, List, [], ◌∷◌, ◌++◌, length, slice_index_or}
 use Rattle.vms_kinds.specs.Codes.{InRange}
-use Rattle.vms_kinds.specs.declared.Kind.{Kind}
 use Rattle.vms_kinds.specs.declared.Kind.TheVariants as kinds
-use Rattle.dev_pit.specs.Channel.{channel_of, counter_from, registers_hold, moment_holds, status_holds, toggles_hold}
+use Rattle.dev_pit.specs.Channel.{channel_of}
 use Rattle.dev_pit.specs.Counter.{flag_number}
 use Rattle.dev_pit.specs.declared.channel.Channel.{Channel}
 use Rattle.dev_pit.specs.declared.limits.TheConstants.{STATUS_SET, CELLS, CHANNEL_CELLS}

@@ -1,5 +1,5 @@
 -- A counter as its fields travel, and the rules of these fields.
-use Rattle.std.specs.Prelude.{ℕ, ◌==◌, Bool, true, false, not, ◌&&◌, ◌||◌, nat_le, Option, Some, None, is_some, if◌then◌else◌}
+use Rattle.std.specs.Prelude.{ℕ, ◌==◌, Bool, true, false, not, ◌&&◌, ◌||◌, nat_le, Option, Some, None, is_some}
 use Rattle.dev_pit.specs.Counter.{held_or}
 use Rattle.dev_pit.specs.Mode.{mode_number, mode_of, access_number, access_of}
 use Rattle.dev_pit.specs.declared.channel.Channel.{Channel}

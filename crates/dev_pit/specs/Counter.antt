@@ -83,12 +83,12 @@ programmed access mode bcd counter = record powered_on { count = counter.count; 
 
 -- a count is loaded
 unfoldable pub loaded : ℕ → ℕ → Counter → Counter
-loaded count now counter = record counter { count = count; held_low = None; loaded_at = Some now }
+loaded count now counter = record counter { count = count; loaded_at = Some now }
 
 -- a byte of a count of two bytes, where a first one is held or not
 abbrev pub written_low_first : Option ℕ → ℕ → ℕ → Counter → Counter
 written_low_first None value now counter = record counter { held_low = Some value }
-written_low_first (Some low) value now counter = loaded (256 * value + low) now counter
+written_low_first (Some low) value now counter = loaded (256 * value + low) now (record counter { held_low = None })
 
 abbrev pub written_by : Access → ℕ → ℕ → Counter → Counter
 written_by LowByte value now counter = loaded value now counter

@@ -1,17 +1,15 @@
 -- Laws of the chip that contracts name.
-use Rattle.std.specs.Prelude.{◌≡◌, ℕ, ◌-◌, ◌<◌, ◌≤◌, Bool, true, false, ◌||◌, Option, Some, None, Ok, List, ℤ}
-use Rattle.vms_hooks.specs.Numbers.{Numbers}
+use Rattle.std.specs.Prelude.{◌≡◌, ℕ, ◌-◌, ◌<◌, ◌≤◌, true, false, ◌||◌, Some, Ok, List, ℤ}
 use Rattle.dev_pit.specs.Calls.{Call, IsCall, called, programs, loads, reads_latch}
 use Rattle.dev_pit.specs.Cells.{pit_cells, carried}
 use Rattle.dev_pit.specs.Count.{ticks, out_at}
-use Rattle.dev_pit.specs.Counter.{out_of, edge_of}
+use Rattle.dev_pit.specs.Counter.{edge_of}
 use Rattle.dev_pit.specs.GoesOn.{GoesOn}
-use Rattle.dev_pit.specs.Pit.{IsLevel, IsLoadedBy, counter_of, new_pit, pit_read, pit_out}
+use Rattle.dev_pit.specs.Pit.{IsLevel, IsLoadedBy, counter_of, new_pit, pit_read, pit_written, pit_out}
 use Rattle.dev_pit.specs.Saved.{IsPitCells, restored_pit}
 use Rattle.dev_pit.specs.Sound.{IsSoundPit}
 use Rattle.dev_pit.specs.declared.counter.Counter.{Counter}
 use Rattle.dev_pit.specs.declared.limits.TheConstants.{LAST_MOMENT, NEWEST_SET}
-use Rattle.dev_pit.specs.declared.mode.Mode.{Mode}
 use Rattle.dev_pit.specs.declared.mode.Mode.TheVariants.{TerminalCount}
 use Rattle.dev_pit.specs.declared.pit.Pit.{Pit}
 
@@ -51,11 +49,12 @@ pub record LatchStays : Type 0 where
   pub in_calls : (k now held : ℕ) (call : Call) (pit : Pit) → k < 3 → IsCall call → programs k call ≡ false → reads_latch k call pit ≡ false → (counter_of k pit).latch ≡ Some held → (counter_of k (called call now pit)).latch ≡ Some held
   pub in_time : (k now later held : ℕ) (pit : Pit) → (counter_of k pit).latch ≡ Some held → pit_read k now pit ≡ pit_read k later pit
 
--- a chip at power on is sound; time and every call keep it so; and a sound chip was loaded by its moment
+-- a chip at power on is sound; time, every read and every write keep it so; and a sound chip was loaded by its moment
 pub record SoundStays : Type 0 where
   pub power_on : (level now : ℕ) → IsLevel level → now ≤ LAST_MOMENT → IsSoundPit now (new_pit level)
   pub in_time : (now later : ℕ) (pit : Pit) → now ≤ later → later ≤ LAST_MOMENT → IsSoundPit now pit → IsSoundPit later pit
-  pub in_calls : (now : ℕ) (call : Call) (pit : Pit) → IsCall call → IsSoundPit now pit → IsSoundPit now (called call now pit)
+  pub in_reads : (k now : ℕ) (pit : Pit) → IsSoundPit now pit → IsSoundPit now (pit_read k now pit).1
+  pub in_writes : (port value now : ℕ) (pit : Pit) → value < 256 → IsSoundPit now pit → IsSoundPit now (pit_written port value now pit)
   pub loaded : (now : ℕ) (pit : Pit) → IsSoundPit now pit → IsLoadedBy now pit
 
 -- what was saved under any set from the level on is restored as it was

@@ -1,5 +1,5 @@
 -- What saving and restoring mean for the chip.
-use Rattle.std.specs.Prelude.{◌≡◌, ℕ, ℤ, ◌+◌, ◌*◌, ◌<◌, ◌≤◌, ◌==◌, Bool, true, false, not, ◌&&◌, if◌then◌else◌, List, [], ◌∷◌, ◌++◌, length, slice_index_or, Result, Ok, Err}
+use Rattle.std.specs.Prelude.{◌≡◌, ℕ, ℤ, ◌+◌, ◌<◌, ◌≤◌, Bool, false, not, ◌&&◌, if◌then◌else◌, List, [], ◌∷◌, ◌++◌, length, slice_index_or, Result, Ok, Err}
 use Rattle.vms_hooks.specs.Numbers.{Numbers}
 use Rattle.vms_hooks.specs.declared.fault.HookFault.{HookFault}
 use Rattle.vms_kinds.specs.Codes.{InRange}

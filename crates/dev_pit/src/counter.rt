@@ -196,7 +196,6 @@ impl Counter {
         ensures { self.new ≡ loaded count now self.old }
     {
         self.count = count;
-        self.held_low = None;
         self.loaded_at = Some(now);
     }
 
@@ -209,7 +208,10 @@ impl Counter {
             (Access::LowByte, _) => self.load(value as u16, now),
             (Access::HighByte, _) => self.load(value as u16 * 256, now),
             (Access::LowThenHigh, None) => self.held_low = Some(value),
-            (Access::LowThenHigh, Some(low)) => self.load(value as u16 * 256 + low as u16, now),
+            (Access::LowThenHigh, Some(low)) => {
+                self.held_low = None;
+                self.load(value as u16 * 256 + low as u16, now);
+            }
         }
     }
 

@@ -1,4 +1,4 @@
-use Rattle.std.proofs.Common.{rules, ℕ, ◌<◌}
+use Rattle.std.proofs.Common.{rules, ℕ}
 use borrow.Author.Count.{below_more}
 use Rattle.vms_kinds.specs.Codes.{InRange}
 use Rattle.dev_pit.specs.Cells.{cell_at}
