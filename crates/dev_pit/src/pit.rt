@@ -20,7 +20,8 @@ pub struct Pit {
 impl Pit {
     ghost use Rattle.dev_pit.specs.Pit.{level_of, IsLevel, IsPort, IsLoadedBy, new_pit, pit_read, pit_written, controlled, pit_out, pit_edge};
 
-    /// The chip at power on.
+    /// The chip at power on, at a level from 1 to `NEWEST_LEVEL`: no counter is loaded, each is in mode 0
+    /// and reads and writes counts of two bytes.
     #[tactic(auto, unfolding(crate::specs::Pit::new_pit, crate::specs::Counter::powered_on))]
     pub fn new(level: u8) -> Pit
         requires { IsLevel level }
@@ -65,7 +66,8 @@ impl Pit {
             && self.counter2.is_loaded_by(now)
     }
 
-    /// Reads from the port of a counter, 0 to 2.
+    /// Reads a byte from the port of a counter, 0 to 2 ("Read Operations" in the data sheet of the 8254):
+    /// a latched status, else a byte of the latched count, else one of the live count.
     #[tactic(auto, unfolding(crate::specs::Pit::pit_read))]
     pub fn read(&mut self, counter: u8, now: u64) -> u8
         requires counter { counter < 3 }
@@ -82,7 +84,8 @@ impl Pit {
         }
     }
 
-    /// Writes to a port: a byte of a count, or a control word.
+    /// Writes to a port ("Write Operations"): a byte of a count to the port of a counter, or a control
+    /// word. A count is loaded as its last byte is written.
     #[tactic(auto, unfolding(crate::specs::Pit::pit_written))]
     pub fn write(&mut self, port: u16, value: u8, now: u64)
         requires port { IsPort port }
@@ -100,7 +103,7 @@ impl Pit {
         }
     }
 
-    /// Tells whether OUT of a counter, 0 to 2, is high.
+    /// Tells whether OUT of a counter, 0 to 2, is high ("Mode Definitions").
     #[tactic(auto, unfolding(crate::specs::Pit::pit_out))]
     pub fn out(&self, counter: u8, now: u64) -> bool
         requires counter { counter < 3 }
@@ -115,7 +118,8 @@ impl Pit {
         }
     }
 
-    /// Tells whether OUT of a counter, 0 to 2, has a rising edge after `from` and not after `to`.
+    /// Tells whether OUT of a counter, 0 to 2, has a rising edge after `from` and not after `to`; an edge
+    /// at `from` itself doesn't count.
     #[tactic(auto, unfolding(crate::specs::Pit::pit_edge))]
     pub fn edge(&self, counter: u8, from: u64, to: u64) -> bool
         requires counter { counter < 3 }
