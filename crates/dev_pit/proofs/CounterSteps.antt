@@ -1,0 +1,49 @@
+-- Which steps of a counter leave its counting as it was.
+use Rattle.std.proofs.Common.{ℕ, Bool, true, false, cond, Option, Some, None, refl}
+use Rattle.dev_pit.specs.Counter.{latched, status_latched, read_back, read_of, read_by, counted_of, counted_by}
+use Rattle.dev_pit.specs.GoesOn.{GoesOn}
+use Rattle.dev_pit.specs.declared.counter.Counter.{Counter}
+use Rattle.dev_pit.specs.declared.mode.Access.{Access}
+use Rattle.dev_pit.specs.declared.mode.Access.TheVariants.{LowByte, HighByte, LowThenHigh}
+
+-- one of two choices
+pub either : {A : Type 0} (P : A → Type 0) (b : Bool) (x y : A) → P x → P y → P (cond b x y)
+either P true x y p q = p
+either P false x y p q = q
+
+pub same : (counter : Counter) → GoesOn counter counter
+same counter = record { count = refl; mode = refl; loaded_at = refl }
+
+pub latched-goes_on : (now : ℕ) (counter : Counter) → GoesOn counter (latched now counter)
+unfolding latched
+latched-goes_on now counter = record { count = refl; mode = refl; loaded_at = refl }
+
+pub status_latched-goes_on : (now : ℕ) (counter : Counter) → GoesOn counter (status_latched now counter)
+unfolding status_latched
+status_latched-goes_on now counter = record { count = refl; mode = refl; loaded_at = refl }
+
+pub read_back-goes_on : (count status : Bool) (now : ℕ) (counter : Counter) → GoesOn counter (read_back count status now counter)
+unfolding read_back latched status_latched
+read_back-goes_on true true now counter = record { count = refl; mode = refl; loaded_at = refl }
+read_back-goes_on true false now counter = record { count = refl; mode = refl; loaded_at = refl }
+read_back-goes_on false true now counter = record { count = refl; mode = refl; loaded_at = refl }
+read_back-goes_on false false now counter = record { count = refl; mode = refl; loaded_at = refl }
+
+-- a counter that goes on, in the shape of an answer
+record Goes (before : Counter) (answer : ℕ × Counter) : Type 0 where
+  after : GoesOn before answer.1
+
+counted_by-goes_on : (access : Access) (count : ℕ) (counter : Counter) → Goes counter (counted_by access count counter)
+counted_by-goes_on LowByte count counter = record { after = record { count = refl; mode = refl; loaded_at = refl } }
+counted_by-goes_on HighByte count counter = record { after = record { count = refl; mode = refl; loaded_at = refl } }
+counted_by-goes_on LowThenHigh count counter =
+    either (Goes counter) counter.read_high _ _ (record { after = record { count = refl; mode = refl; loaded_at = refl } }) (record { after = record { count = refl; mode = refl; loaded_at = refl } })
+
+read_by-goes_on : (status : Option ℕ) (now : ℕ) (counter : Counter) → Goes counter (read_by status now counter)
+unfolding counted_of
+read_by-goes_on None now counter = counted_by-goes_on counter.access _ counter
+read_by-goes_on (Some status) now counter = record { after = record { count = refl; mode = refl; loaded_at = refl } }
+
+pub read-goes_on : (now : ℕ) (counter : Counter) → GoesOn counter (read_of now counter).1
+unfolding read_of
+read-goes_on now counter = (read_by-goes_on counter.status now counter).after

@@ -1,0 +1,56 @@
+-- An edge in a span of time is one in a part of it.
+use Rattle.std.proofs.Common.{◌≡◌, ℕ, ◌+◌, ◌/◌, ◌<◌, ◌≤◌, ◌==◌, Bool, true, false, not, ◌&&◌, ◌||◌, Option, Some, None, refl, arith}
+use Rattle.std.proofs.lemmas.Bool.Decides.{nat_tests}
+use Rattle.std.proofs.Math.Nat.{div-mul-le_self}
+use Rattle.std.proofs.lemmas.Nat.{le-div}
+use Rattle.std.specs.Prelude.{nat_lt, nat_le}
+use Rattle.dev_pit.specs.Count.{rises, ticks, period}
+use Rattle.dev_pit.specs.Counter.{edge_of, edge_since}
+use Rattle.dev_pit.specs.Laws.{TicksGoOn, EdgeInParts}
+use Rattle.dev_pit.specs.declared.mode.Mode.{Mode}
+use Rattle.dev_pit.specs.declared.mode.Mode.TheVariants.{TerminalCount, OneShot, RateGenerator, SquareWave, SoftwareStrobe, HardwareStrobe}
+
+-- ticks never go back
+pub ticks-mono : (load now later : ℕ) → now ≤ later → ticks load now ≤ ticks load later
+unfolding ticks
+ticks-mono load now later h = omega arith
+
+pub ticks_go_on : TicksGoOn
+ticks_go_on = ticks-mono
+
+pub period-pos : (count : ℕ) → 0 < period count
+period-pos count = grind (arith, nat_tests)
+
+-- a threshold is passed in one of two parts
+passed : (n a b c : ℕ) → a ≤ b → b ≤ c → (nat_lt a n && nat_le n c) ≡ ((nat_lt a n && nat_le n b) || (nat_lt b n && nat_le n c))
+passed n a b c h l = grind (arith, nat_tests)
+
+grown : (a b c : ℕ) → a ≤ b → b ≤ c → nat_lt a c ≡ (nat_lt a b || nat_lt b c)
+grown a b c h l = grind (arith, nat_tests)
+
+quotient-mono : (n a b : ℕ) → 0 < n → a ≤ b → a / n ≤ b / n
+quotient-mono n a b p h = le-div (a / n) b n p (omega (arith, div-mul-le_self a n))
+
+both : (x u v w : Bool) → u ≡ (v || w) → (x && u) ≡ ((x && v) || (x && w))
+both true u v w e = e
+both false u v w e = refl
+
+periods : (count a b c : ℕ) → a ≤ b → b ≤ c → (not (count == 1) && nat_lt (a / period count) (c / period count)) ≡ ((not (count == 1) && nat_lt (a / period count) (b / period count)) || (not (count == 1) && nat_lt (b / period count) (c / period count)))
+periods count a b c h l = both (not (count == 1)) _ _ _ (grown (a / period count) (b / period count) (c / period count) (quotient-mono (period count) a b (period-pos count) h) (quotient-mono (period count) b c (period-pos count) l))
+
+rises-parts : (mode : Mode) (count a b c : ℕ) → a ≤ b → b ≤ c → rises mode count a c ≡ (rises mode count a b || rises mode count b c)
+unfolding rises
+rises-parts TerminalCount count a b c h l = passed (period count) a b c h l
+rises-parts OneShot count a b c h l = refl
+rises-parts RateGenerator count a b c h l = periods count a b c h l
+rises-parts SquareWave count a b c h l = periods count a b c h l
+rises-parts SoftwareStrobe count a b c h l = passed (period count + 1) a b c h l
+rises-parts HardwareStrobe count a b c h l = refl
+
+since-parts : (load : Option ℕ) (mode : Mode) (count from between to : ℕ) → from ≤ between → between ≤ to → edge_since load mode count from to ≡ (edge_since load mode count from between || edge_since load mode count between to)
+since-parts None mode count from between to h l = refl
+since-parts (Some load) mode count from between to h l = rises-parts mode count _ _ _ (ticks-mono load from between h) (ticks-mono load between to l)
+
+pub edge_in_parts : EdgeInParts
+unfolding edge_of
+edge_in_parts counter from between to h l = since-parts counter.loaded_at counter.mode counter.count from between to h l

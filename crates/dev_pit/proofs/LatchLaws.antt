@@ -1,0 +1,134 @@
+-- A latched count stays until it is read or the counter is programmed.
+use Rattle.std.proofs.Common.{◌≡◌, ℕ, zero, suc, ◌-◌, ◌<◌, ◌≤◌, ◌==◌, Bool, true, false, not, ◌&&◌, Option, Some, None, refl, arith, subst, ⊎_elim}
+use Rattle.std.proofs.lemmas.Bool.Decides.{nat_tests}
+use Rattle.std.specs.Prelude.{nat_le, is_some}
+use Rattle.dev_pit.specs.Calls.{Call, reads, writes, IsCall, called, programs, sets_mode_of, reads_latch, is_last}
+use Rattle.dev_pit.specs.Control.{control_word}
+use Rattle.dev_pit.specs.Counter.{loaded, written, written_by, written_low_first, read_of, read_by, counted_of, counted_by, latched, status_latched, read_back}
+use Rattle.dev_pit.specs.Laws.{LatchStays}
+use Rattle.dev_pit.specs.Pit.{counter_of, pit_read, controlled, pit_written}
+use Rattle.dev_pit.specs.declared.control.ControlWord.{ControlWord}
+use Rattle.dev_pit.specs.declared.control.ControlWord.TheVariants.{LatchCount, SetMode, ReadBack}
+use Rattle.dev_pit.specs.declared.counter.Counter.{Counter}
+use Rattle.dev_pit.specs.declared.limits.TheConstants.{READ_BACK_LEVEL}
+use Rattle.dev_pit.specs.declared.mode.Access.{Access}
+use Rattle.dev_pit.specs.declared.mode.Access.TheVariants.{LowByte, HighByte, LowThenHigh}
+use Rattle.dev_pit.specs.declared.pit.Pit.{Pit}
+use Rattle.dev_pit.proofs.CallLaws.{either_way, at_counter, IsWord, control_word-is_word, counter_port}
+use Rattle.dev_pit.proofs.CounterSteps.{either}
+
+-- a counter with this latched count
+record Holds (held : ℕ) (counter : Counter) : Type 0 where
+  latch : counter.latch ≡ Some held
+
+-- latching again keeps what is latched
+latched-holds : (held now : ℕ) (counter : Counter) → Holds held counter → Holds held (latched now counter)
+unfolding latched
+latched-holds held now counter h = record { latch = rw h.latch refl }
+
+status_latched-holds : (held now : ℕ) (counter : Counter) → Holds held counter → Holds held (status_latched now counter)
+unfolding status_latched
+status_latched-holds held now counter h = record { latch = h.latch }
+
+read_back-holds : (count status : Bool) (held now : ℕ) (counter : Counter) → Holds held counter → Holds held (read_back count status now counter)
+unfolding read_back
+read_back-holds true true held now counter h = status_latched-holds held now _ (latched-holds held now counter h)
+read_back-holds true false held now counter h = latched-holds held now counter h
+read_back-holds false true held now counter h = status_latched-holds held now counter h
+read_back-holds false false held now counter h = h
+
+-- so does loading
+loaded-holds : (count held now : ℕ) (counter : Counter) → Holds held counter → Holds held (loaded count now counter)
+unfolding loaded
+loaded-holds count held now counter h = record { latch = h.latch }
+
+first-holds : (low : Option ℕ) (value held now : ℕ) (counter : Counter) → Holds held counter → Holds held (written_low_first low value now counter)
+first-holds None value held now counter h = record { latch = h.latch }
+first-holds (Some low) value held now counter h = loaded-holds _ held now _ (record { latch = h.latch })
+
+by-holds : (access : Access) (value held now : ℕ) (counter : Counter) → Holds held counter → Holds held (written_by access value now counter)
+by-holds LowByte value held now counter h = loaded-holds _ held now counter h
+by-holds HighByte value held now counter h = loaded-holds _ held now counter h
+by-holds LowThenHigh value held now counter h = first-holds counter.held_low value held now counter h
+
+written-holds : (value held now : ℕ) (counter : Counter) → Holds held counter → Holds held (written value now counter)
+unfolding written
+written-holds value held now counter h = by-holds counter.access value held now counter h
+
+-- a read that gives a status or a first byte keeps it
+counted_by-holds : (access : Access) (count held : ℕ) (counter : Counter) → is_last access counter ≡ false → Holds held counter → Holds held (counted_by access count counter).1
+counted_by-holds LowByte count held counter e h = cc
+counted_by-holds HighByte count held counter e h = cc
+counted_by-holds LowThenHigh count held counter e h = rw e (record { latch = h.latch })
+
+read_by-holds : (status : Option ℕ) (held now : ℕ) (counter : Counter) → (not (is_some status) && is_last counter.access counter) ≡ false → Holds held counter → Holds held (read_by status now counter).1
+unfolding counted_of
+read_by-holds None held now counter e h = counted_by-holds counter.access _ held counter e h
+read_by-holds (Some status) held now counter e h = record { latch = h.latch }
+
+read-holds : (held now : ℕ) (counter : Counter) → (not (is_some counter.status) && is_last counter.access counter) ≡ false → Holds held counter → Holds held (read_of now counter).1
+unfolding read_of
+read-holds held now counter e h = read_by-holds counter.status held now counter e h
+
+-- the whole chip
+three-hold : (count status first second third : Bool) (k held now : ℕ) (pit : Pit) → k < 3 → Holds held (counter_of k pit) → Holds held (counter_of k (record {
+  level = pit.level;
+  counter0 = read_back (count && first) (status && first) now pit.counter0;
+  counter1 = read_back (count && second) (status && second) now pit.counter1;
+  counter2 = read_back (count && third) (status && third) now pit.counter2;
+}))
+three-hold count status first second third zero held now pit l h = read_back-holds _ _ held now pit.counter0 h
+three-hold count status first second third (suc zero) held now pit l h = read_back-holds _ _ held now pit.counter1 h
+three-hold count status first second third (suc (suc zero)) held now pit l h = read_back-holds _ _ held now pit.counter2 h
+three-hold count status first second third (suc (suc (suc k))) held now pit l h = absurd (omega arith)
+
+control-holds : (word : ControlWord) (k held now : ℕ) (pit : Pit) → k < 3 → IsWord word → sets_mode_of k word ≡ false → Holds held (counter_of k pit) → Holds held (counter_of k (controlled word now pit))
+unfolding controlled IsWord
+control-holds (LatchCount j) k held now pit l w e h =
+    at_counter (Holds held) k j _ pit l w
+    (λ here. subst (λ (i : ℕ). Holds held (latched now (counter_of i pit))) here (latched-holds held now (counter_of k pit) h))
+    (λ there. h)
+control-holds (SetMode j access mode bcd) k held now pit l w e h =
+    at_counter (Holds held) k j _ pit l w (λ here. absurd (grind (arith, nat_tests))) (λ there. h)
+control-holds (ReadBack count status first second third) k held now pit l w e h =
+    either (λ (p : Pit). Holds held (counter_of k p)) (nat_le READ_BACK_LEVEL pit.level) _ pit (three-hold count status first second third k held now pit l h) h
+
+write-holds : (k held now port value : ℕ) (pit : Pit) → k < 3 → (0x40 ≤ port) × (port ≤ 0x43) × (value < 256) → ((port == 0x43) && sets_mode_of k (control_word value)) ≡ false → Holds held (counter_of k pit) → Holds held (counter_of k (pit_written port value now pit))
+unfolding pit_written
+write-holds k held now port value pit l c e h =
+    ⊎_elim (λ control. let unset : sets_mode_of k (control_word value) ≡ false = rw control at e in
+    rw control (control-holds (control_word value) k held now pit l (control_word-is_word value c.2) unset h))
+    (λ data_port. let j : ℕ = port - 0x40 in
+    rw data_port (at_counter (Holds held) k j _ pit l (counter_port port c.0 c.1 data_port)
+    (λ here. subst (λ (i : ℕ). Holds held (written value now (counter_of i pit))) here (written-holds value held now (counter_of k pit) h))
+    (λ there. h)))
+    (either_way (port == 0x43))
+
+call-holds : (k held now : ℕ) (call : Call) (pit : Pit) → k < 3 → IsCall call → programs k call ≡ false → reads_latch k call pit ≡ false → Holds held (counter_of k pit) → Holds held (counter_of k (called call now pit))
+unfolding called programs reads_latch pit_read
+call-holds k held now (reads j) pit l c p r h =
+    at_counter (Holds held) k j _ pit l c
+    (λ here. let t : (j == k) ≡ true = grind (arith, nat_tests) in
+    let unread : (not (is_some (counter_of k pit).status) && is_last (counter_of k pit).access (counter_of k pit)) ≡ false = rw t at r in
+    subst (λ (i : ℕ). Holds held (read_of now (counter_of i pit)).1) here (read-holds held now (counter_of k pit) unread h))
+    (λ there. h)
+call-holds k held now (writes port value) pit l c p r h = write-holds k held now port value pit l (c.0.0, c.0.1, c.1) p h
+
+-- what is read of a latched count is the same at any moment
+read_by-held : (status : Option ℕ) (now later held : ℕ) (counter : Counter) → counter.latch ≡ Some held → read_by status now counter ≡ read_by status later counter
+read_by-held None now later held counter e = rw e refl
+read_by-held (Some status) now later held counter e = refl
+
+read-held : (now later held : ℕ) (counter : Counter) → counter.latch ≡ Some held → read_of now counter ≡ read_of later counter
+unfolding read_of
+read-held now later held counter e = read_by-held counter.status now later held counter e
+
+pit_read-held : (k now later held : ℕ) (pit : Pit) → (counter_of k pit).latch ≡ Some held → pit_read k now pit ≡ pit_read k later pit
+unfolding pit_read
+pit_read-held k now later held pit e = rw (read-held now later held (counter_of k pit) e) refl
+
+pub latch_stays : LatchStays
+latch_stays = record {
+  in_calls = λ k now held call pit l c p r e. (call-holds k held now call pit l c p r (record { latch = e })).latch;
+  in_time = λ k now later held pit e. pit_read-held k now later held pit e;
+}

@@ -1,0 +1,13 @@
+pub mod CallLaws
+pub mod CellCounts
+pub mod CounterSteps
+pub mod EdgeMeaning
+pub mod Edges
+pub mod LatchLaws
+pub mod Moments
+pub mod NormalLaw
+pub mod PlainSound
+pub mod RestoredLaw
+pub mod SavedLaw
+pub mod SoundLaws
+pub mod SoundSteps

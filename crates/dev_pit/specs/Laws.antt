@@ -1,0 +1,70 @@
+-- Laws of the chip that contracts name.
+use Rattle.std.specs.Prelude.{◌≡◌, ℕ, ◌-◌, ◌<◌, ◌≤◌, true, false, ◌||◌, Some, Ok, List, ℤ}
+use Rattle.dev_pit.specs.Calls.{Call, IsCall, called, programs, loads, reads_latch}
+use Rattle.dev_pit.specs.Cells.{pit_cells, carried}
+use Rattle.dev_pit.specs.Count.{ticks, out_at}
+use Rattle.dev_pit.specs.Counter.{edge_of}
+use Rattle.dev_pit.specs.GoesOn.{GoesOn}
+use Rattle.dev_pit.specs.Pit.{IsLevel, IsLoadedBy, counter_of, new_pit, pit_read, pit_written, pit_out}
+use Rattle.dev_pit.specs.Saved.{IsPitCells, restored_pit}
+use Rattle.dev_pit.specs.Sound.{IsSoundPit}
+use Rattle.dev_pit.specs.declared.counter.Counter.{Counter}
+use Rattle.dev_pit.specs.declared.limits.TheConstants.{LAST_MOMENT, NEWEST_SET}
+use Rattle.dev_pit.specs.declared.mode.Mode.TheVariants.{TerminalCount}
+use Rattle.dev_pit.specs.declared.pit.Pit.{Pit}
+
+-- ticks never go back
+abbrev pub TicksGoOn : Type 0
+TicksGoOn = (load now later : ℕ) → now ≤ later → ticks load now ≤ ticks load later
+
+-- an edge comes in a span just where it comes in one of its two parts
+abbrev pub EdgeInParts : Type 0
+EdgeInParts = (counter : Counter) (from between to : ℕ) → from ≤ between → between ≤ to → edge_of counter from to ≡ (edge_of counter from between || edge_of counter between to)
+
+-- OUT of a loaded counter is high at some tick after the moment `from` and not after `to`, and low at the tick before
+pub record TurnsHigh (counter : Counter) (from to : ℕ) : Type 0 where
+  pub load : ℕ
+  pub is_loaded : counter.loaded_at ≡ Some load
+  pub tick : ℕ
+  pub after : ticks load from < tick
+  pub not_after : tick ≤ ticks load to
+  pub low : out_at counter.mode counter.count (tick - 1) ≡ false
+  pub high : out_at counter.mode counter.count tick ≡ true
+
+-- an edge comes in a span just where OUT turns high at a tick of the span
+abbrev pub EdgeTurnsHigh : Type 0
+EdgeTurnsHigh = (counter : Counter) (from to : ℕ) → (edge_of counter from to ≡ true → TurnsHigh counter from to) × (TurnsHigh counter from to → edge_of counter from to ≡ true)
+
+-- a call that neither programs nor loads a counter leaves it counting as before
+abbrev pub CountingGoesOn : Type 0
+CountingGoesOn = (k now : ℕ) (call : Call) (pit : Pit) → k < 3 → IsCall call → programs k call ≡ false → loads k call pit ≡ false → GoesOn (counter_of k pit) (counter_of k (called call now pit))
+
+-- OUT that is high after terminal count stays so as time goes on, through every call that neither programs nor loads the counter
+pub record TerminalCountStays : Type 0 where
+  pub in_time : (k now later : ℕ) (pit : Pit) → (counter_of k pit).mode ≡ TerminalCount → now ≤ later → pit_out k now pit ≡ true → pit_out k later pit ≡ true
+  pub in_calls : (k now later moment : ℕ) (call : Call) (pit : Pit) → k < 3 → IsCall call → programs k call ≡ false → loads k call pit ≡ false → (counter_of k pit).mode ≡ TerminalCount → now ≤ later → pit_out k now pit ≡ true → pit_out k later (called call moment pit) ≡ true
+
+-- a latched count stays through every call that neither reads its last byte nor programs the counter, and what is read of it is the same at any moment
+pub record LatchStays : Type 0 where
+  pub in_calls : (k now held : ℕ) (call : Call) (pit : Pit) → k < 3 → IsCall call → programs k call ≡ false → reads_latch k call pit ≡ false → (counter_of k pit).latch ≡ Some held → (counter_of k (called call now pit)).latch ≡ Some held
+  pub in_time : (k now later held : ℕ) (pit : Pit) → (counter_of k pit).latch ≡ Some held → pit_read k now pit ≡ pit_read k later pit
+
+-- a chip at power on is sound; time, every read and every write keep it so; and a sound chip was loaded by its moment
+pub record SoundStays : Type 0 where
+  pub power_on : (level now : ℕ) → IsLevel level → now ≤ LAST_MOMENT → IsSoundPit now (new_pit level)
+  pub in_time : (now later : ℕ) (pit : Pit) → now ≤ later → later ≤ LAST_MOMENT → IsSoundPit now pit → IsSoundPit later pit
+  pub in_reads : (k now : ℕ) (pit : Pit) → IsSoundPit now pit → IsSoundPit now (pit_read k now pit).1
+  pub in_writes : (port value now : ℕ) (pit : Pit) → value < 256 → IsSoundPit now pit → IsSoundPit now (pit_written port value now pit)
+  pub loaded : (now : ℕ) (pit : Pit) → IsSoundPit now pit → IsLoadedBy now pit
+
+-- what was saved under any set from the level on is restored as it was
+abbrev pub SavedIsRestored : Type 0
+SavedIsRestored = (set now : ℕ) (pit : Pit) → IsSoundPit now pit → pit.level ≤ set → set ≤ NEWEST_SET → restored_pit pit.level now (carried set (pit_cells set pit)) ≡ Ok pit
+
+-- what was saved of a sound chip are normal cells of the newest set
+abbrev pub SavedIsNormal : Type 0
+SavedIsNormal = (set now : ℕ) (pit : Pit) → IsSoundPit now pit → IsPitCells (carried set (pit_cells set pit))
+
+-- what is restored is sound
+abbrev pub RestoredIsSound : Type 0
+RestoredIsSound = (level now : ℕ) (cells : List ℤ) (pit : Pit) → IsLevel level → now ≤ LAST_MOMENT → IsPitCells cells → restored_pit level now cells ≡ Ok pit → IsSoundPit now pit

@@ -1,0 +1,12 @@
+pub mod Calls
+pub mod Cells
+pub mod Channel
+pub mod Control
+pub mod Count
+pub mod Counter
+pub mod GoesOn
+pub mod Laws
+pub mod Mode
+pub mod Pit
+pub mod Saved
+pub mod Sound

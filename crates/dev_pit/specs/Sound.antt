@@ -1,0 +1,36 @@
+-- Which states a chip may be in.
+use Rattle.std.specs.Prelude.{◌≡◌, ℕ, ◌<◌, ◌≤◌, ◌^◌, true, Option, Some, None}
+use Rattle.dev_pit.specs.Channel.{channel_of, registers_hold, moment_holds, status_holds, toggles_hold}
+use Rattle.dev_pit.specs.Pit.{IsLevel}
+use Rattle.dev_pit.specs.declared.counter.Counter.{Counter}
+use Rattle.dev_pit.specs.declared.limits.TheConstants.{LAST_MOMENT}
+use Rattle.dev_pit.specs.declared.pit.Pit.{Pit}
+
+-- what is held, if anything, is below a limit
+abbrev pub HeldBelow : ℕ → Option ℕ → Type 0
+HeldBelow limit None = Unit {0}
+HeldBelow limit (Some held) = held < limit
+
+-- each register of a counter holds a number of its width
+pub record HasWidths (counter : Counter) : Type 0 where
+  pub count : counter.count < 2 ^ 16
+  pub loaded_at : HeldBelow (2 ^ 64) counter.loaded_at
+  pub held_low : HeldBelow (2 ^ 8) counter.held_low
+  pub latch : HeldBelow (2 ^ 16) counter.latch
+  pub status : HeldBelow (2 ^ 8) counter.status
+
+-- every rule holds of the fields that are saved of a counter
+pub record IsSoundCounter (level now : ℕ) (counter : Counter) : Type 0 where
+  pub widths : HasWidths counter
+  pub registers : registers_hold (channel_of counter) ≡ true
+  pub moment : moment_holds now (channel_of counter) ≡ true
+  pub status : status_holds level (channel_of counter) ≡ true
+  pub toggles : toggles_hold (channel_of counter) ≡ true
+
+-- a chip of a known level, at a moment of a board, whose counters are sound
+pub record IsSoundPit (now : ℕ) (pit : Pit) : Type 0 where
+  pub level : IsLevel pit.level
+  pub moment : now ≤ LAST_MOMENT
+  pub counter0 : IsSoundCounter pit.level now pit.counter0
+  pub counter1 : IsSoundCounter pit.level now pit.counter1
+  pub counter2 : IsSoundCounter pit.level now pit.counter2

@@ -1,0 +1,130 @@
+// The cells of the chip.
+ghost use Rattle.std.specs.Prelude.{◌≡◌, ◌++◌, ◌+◌, ◌<◌, ◌≤◌, length, ℕ};
+ghost use Rattle.vms_kinds.specs.Codes.{InRange};
+ghost use Rattle.dev_pit.specs.Cells.{cell_at, number_at, flag_at as flag_at_of, channel_cells, status_cells, three_cells, channel_at, IsChannelAt};
+
+use crate::channel::Channel;
+use crate::limits::{CELLS, CHANNEL_CELLS, STATUS_SET};
+use vms_kinds::{DevCells, Kind};
+
+// A cell of eight bits.
+pub(crate) fn byte_at(cells: &DevCells, place: usize) -> u8
+    requires within { place < length cells.now.items }
+    requires in_range { InRange Kind.U8 (cell_at cells.now.items place) }
+    ensures { result ≡ number_at cells.now.items place }
+{
+    cells[place] as u8
+}
+
+// A cell of sixteen bits.
+pub(crate) fn word_at(cells: &DevCells, place: usize) -> u16
+    requires within { place < length cells.now.items }
+    requires in_range { InRange Kind.U16 (cell_at cells.now.items place) }
+    ensures { result ≡ number_at cells.now.items place }
+{
+    cells[place] as u16
+}
+
+// A cell of a moment.
+fn moment_at(cells: &DevCells, place: usize) -> u64
+    requires within { place < length cells.now.items }
+    requires in_range { InRange Kind.U64 (cell_at cells.now.items place) }
+    ensures { result ≡ number_at cells.now.items place }
+{
+    cells[place] as u64
+}
+
+// A cell of a truth value.
+pub(crate) fn flag_at(cells: &DevCells, place: usize) -> bool
+    requires within { place < length cells.now.items }
+    requires in_range { InRange Kind.Bool (cell_at cells.now.items place) }
+    ensures { result ≡ flag_at_of cells.now.items place }
+{
+    cells[place] == 1
+}
+
+// Appends cells that there is room for.
+fn append(cells: &mut DevCells, more: &[i128])
+    requires { length cells.old.items + length more.now ≤ 64 }
+    ensures { cells.new.items ≡ cells.old.items ++ more.now }
+{
+    let _fits = cells.try_extend_from_slice(more);
+}
+
+// The cells of the statuses of three channels.
+#[tactic(auto, unfolding(crate::specs::Cells::status_cells))]
+fn statuses_of(first: &Channel, second: &Channel, third: &Channel) -> [i128; 6]
+    ensures { result ≡ status_cells first.now second.now third.now }
+{
+    [
+        i128::from(first.status_latched),
+        i128::from(second.status_latched),
+        i128::from(third.status_latched),
+        i128::from(first.status),
+        i128::from(second.status),
+        i128::from(third.status),
+    ]
+}
+
+impl Channel {
+    /// Channel k, 0 to 2, of the cells of the newest set.
+    #[tactic(auto, unfolding(crate::specs::Cells::channel_at))]
+    pub fn at(cells: &DevCells, k: usize) -> Channel
+        requires { IsChannelAt k cells.now.items }
+        ensures { result ≡ channel_at k cells.now.items }
+    {
+        let first = CHANNEL_CELLS * k;
+        let late = CHANNEL_CELLS * 3 + k;
+        Channel {
+            count: word_at(cells, first),
+            mode: byte_at(cells, first + 1),
+            rw: byte_at(cells, first + 2),
+            bcd: flag_at(cells, first + 3),
+            loaded: flag_at(cells, first + 4),
+            load_time: moment_at(cells, first + 5),
+            read_high: flag_at(cells, first + 6),
+            wlow_held: flag_at(cells, first + 7),
+            wlow: byte_at(cells, first + 8),
+            latched: flag_at(cells, first + 9),
+            latch: word_at(cells, first + 10),
+            status_latched: flag_at(cells, late),
+            status: byte_at(cells, late + 3),
+        }
+    }
+
+    /// The cells of the channel, without its status.
+    #[tactic(auto, unfolding(crate::specs::Cells::channel_cells))]
+    pub fn cells(&self) -> [i128; CHANNEL_CELLS]
+        ensures { result ≡ channel_cells self.now }
+    {
+        [
+            i128::from(self.count),
+            i128::from(self.mode),
+            i128::from(self.rw),
+            i128::from(self.bcd),
+            i128::from(self.loaded),
+            i128::from(self.load_time),
+            i128::from(self.read_high),
+            i128::from(self.wlow_held),
+            i128::from(self.wlow),
+            i128::from(self.latched),
+            i128::from(self.latch),
+        ]
+    }
+
+    /// The cells of three channels, and of their statuses in a set that has them.
+    #[tactic(auto, using(crate::proofs::CellCounts::three_cells_fit), unfolding(crate::specs::Cells::three_cells))]
+    pub fn cells_of(set: u8, first: &Channel, second: &Channel, third: &Channel) -> DevCells
+        ensures cells { result.items ≡ three_cells set first.now second.now third.now }
+        ensures count { length result.items ≤ CELLS }
+    {
+        let mut cells = DevCells::new();
+        append(&mut cells, &first.cells());
+        append(&mut cells, &second.cells());
+        append(&mut cells, &third.cells());
+        if set >= STATUS_SET {
+            append(&mut cells, &statuses_of(first, second, third));
+        }
+        cells
+    }
+}

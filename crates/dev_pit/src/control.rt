@@ -1,0 +1,67 @@
+// What a byte at the control port asks for.
+ghost use Rattle.std.specs.Prelude.{◌≡◌, ◌<◌};
+ghost use Rattle.dev_pit.specs.Control.{control_word, is_set};
+
+use crate::mode::{Access, Mode};
+
+/// A byte written to the control word register.
+#[derive(Clone, Copy, Debug, PartialEq, Eq)]
+pub(crate) enum ControlWord {
+    /// "Counter Latch Command": latches the count of one counter.
+    LatchCount {
+        counter: u8,
+    },
+    /// "Control Word Format": sets the mode of one counter.
+    SetMode {
+        counter: u8,
+        access: Access,
+        mode: Mode,
+        bcd: bool,
+    },
+    /// "Read-Back Command", of the 8254 alone: latches counts, statuses or both of the chosen counters.
+    ReadBack {
+        count: bool,
+        status: bool,
+        counter0: bool,
+        counter1: bool,
+        counter2: bool,
+    },
+}
+
+/// Tells whether a bit of a byte is set.
+fn is_bit_set(value: u8, bit: u8) -> bool
+    requires { bit < 8 }
+    ensures { result ≡ is_set value bit }
+{
+    (value >> bit) & 1 == 1
+}
+
+impl ControlWord {
+    /// The meaning of a byte: bits 7 and 6 choose a counter, or at 3 the read-back command, and bits 5 and
+    /// 4 are RW, or at 0 the counter latch command.
+    #[tactic(auto, unfolding(crate::specs::Control::control_word))]
+    pub fn of(value: u8) -> ControlWord
+        ensures { result ≡ control_word value }
+    {
+        let counter = value / 64;
+        let access = value / 16 % 4;
+        if counter == 3 {
+            return ControlWord::ReadBack {
+                count: !is_bit_set(value, 5),
+                status: !is_bit_set(value, 4),
+                counter0: is_bit_set(value, 1),
+                counter1: is_bit_set(value, 2),
+                counter2: is_bit_set(value, 3),
+            };
+        }
+        if access == 0 {
+            return ControlWord::LatchCount { counter };
+        }
+        ControlWord::SetMode {
+            counter,
+            access: Access::of(access),
+            mode: Mode::of(value / 2 % 8),
+            bcd: is_bit_set(value, 0),
+        }
+    }
+}

@@ -1,0 +1,278 @@
+// One counter.
+ghost use Rattle.std.specs.Prelude.{◌≡◌, ℕ, ◌<◌, ◌≤◌, ◌+◌, ◌*◌, ◌/◌, ◌%◌, ◌^◌, IsTrue, ◌↔◌};
+ghost use Rattle.dev_pit.specs.Count.{down as down_of, square as square_of};
+
+use crate::limits::LAST_MOMENT;
+use crate::mode::{Access, Mode};
+use crate::ticks::{period, ticks};
+
+/// The registers of a counter ("Counter" in "Internal Block Diagram of a Counter").
+///
+/// The count that it counts down is not kept: it follows from the written count and the ticks since it
+/// was loaded.
+#[derive(Clone, Copy, Debug, PartialEq, Eq)]
+pub(crate) struct Counter {
+    /// The written count, from the count register; 0 stands for 65,536.
+    pub count: u16,
+    pub mode: Mode,
+    pub access: Access,
+    /// Whether counting in four decades was asked for; it is kept and has no effect.
+    pub bcd: bool,
+    /// The moment at which the count was loaded, in nanoseconds, if it was since the mode was set.
+    pub loaded_at: Option<u64>,
+    /// Whether the next read of two gives the most significant byte.
+    pub read_high: bool,
+    /// The least significant byte of a new count, where the other is still to come.
+    pub held_low: Option<u8>,
+    /// The latched count, in the output latch.
+    pub latch: Option<u16>,
+    /// The latched status byte.
+    pub status: Option<u8>,
+}
+
+impl Counter {
+    ghost use Rattle.dev_pit.specs.Counter.{LoadedBy, live_of, live_since, out_of, out_since, edge_of, edge_since, status_of, powered_on, latched, status_latched, read_back, programmed, loaded, written, written_low_first, read_of, counted_of};
+
+    /// The counter at power on.
+    #[tactic(auto, unfolding(crate::specs::Counter::powered_on))]
+    pub fn new() -> Counter
+        ensures { result ≡ powered_on }
+    {
+        Counter {
+            count: 0,
+            mode: Mode::TerminalCount,
+            access: Access::LowThenHigh,
+            bcd: false,
+            loaded_at: None,
+            read_high: false,
+            held_low: None,
+            latch: None,
+            status: None,
+        }
+    }
+
+    /// Tells whether the counter was not loaded after a moment.
+    pub fn is_loaded_by(&self, now: u64) -> bool
+        ensures { IsTrue result ↔ LoadedBy now self.now.loaded_at }
+    {
+        match self.loaded_at {
+            None => true,
+            Some(load) => load <= now,
+        }
+    }
+
+    /// The live count, as 16 bits.
+    #[tactic(auto, unfolding(crate::specs::Counter::live_of, crate::specs::Count::live_at))]
+    pub fn live(&self, now: u64) -> u16
+        requires loaded { LoadedBy now self.now.loaded_at }
+        requires moment { now ≤ LAST_MOMENT }
+        ensures { result ≡ live_of self.now now }
+    {
+        let Some(load) = self.loaded_at else {
+            return self.count;
+        };
+        let k = ticks(load, now);
+        let n = period(self.count);
+        match self.mode {
+            Mode::TerminalCount | Mode::SoftwareStrobe => down(n, k),
+            Mode::OneShot | Mode::HardwareStrobe => self.count,
+            Mode::RateGenerator if n > 1 => ((n - k % n) % 65_536) as u16,
+            Mode::SquareWave if n > 1 => square(n, k),
+            Mode::RateGenerator | Mode::SquareWave => 1,
+        }
+    }
+
+    /// The level of OUT; true is high.
+    #[tactic(auto, unfolding(crate::specs::Counter::out_of, crate::specs::Count::out_at))]
+    pub fn out(&self, now: u64) -> bool
+        requires loaded { LoadedBy now self.now.loaded_at }
+        requires moment { now ≤ LAST_MOMENT }
+        ensures { result ≡ out_of self.now now }
+    {
+        let Some(load) = self.loaded_at else {
+            return self.mode != Mode::TerminalCount;
+        };
+        let k = ticks(load, now);
+        let n = period(self.count);
+        match self.mode {
+            Mode::TerminalCount => k >= n,
+            Mode::OneShot | Mode::HardwareStrobe => true,
+            Mode::RateGenerator => n == 1 || k % n != n - 1,
+            Mode::SquareWave => n == 1 || k % n < (n + 1) / 2,
+            Mode::SoftwareStrobe => k != n,
+        }
+    }
+
+    /// Tells whether OUT has a rising edge after `from` and not after `to`.
+    #[tactic(auto, unfolding(crate::specs::Counter::edge_of, crate::specs::Count::rises))]
+    pub fn edge(&self, from: u64, to: u64) -> bool
+        requires loaded { LoadedBy from self.now.loaded_at }
+        requires order { from ≤ to }
+        requires moment { to ≤ LAST_MOMENT }
+        ensures { result ≡ edge_of self.now from to }
+    {
+        let Some(load) = self.loaded_at else {
+            return false;
+        };
+        let before = ticks(load, from);
+        let after = ticks(load, to);
+        let n = period(self.count);
+        match self.mode {
+            Mode::TerminalCount => before < n && n <= after,
+            Mode::OneShot | Mode::HardwareStrobe => false,
+            Mode::RateGenerator | Mode::SquareWave => n != 1 && before / n < after / n,
+            Mode::SoftwareStrobe => before < n + 1 && n + 1 <= after,
+        }
+    }
+
+    /// The status byte ("Status Byte"): OUT in bit 7, RW in bits 5 and 4, the mode in bits 3 to 1, BCD in
+    /// bit 0. Bit 6, the null count, is 0, since a count is loaded at once.
+    #[tactic(auto, unfolding(crate::specs::Counter::status_of))]
+    pub fn status_byte(&self, now: u64) -> u8
+        requires loaded { LoadedBy now self.now.loaded_at }
+        requires moment { now ≤ LAST_MOMENT }
+        ensures { result ≡ status_of self.now now }
+    {
+        let out = self.out(now) as u8;
+        128 * out + 16 * self.access.number() + 2 * self.mode.number() + self.bcd as u8
+    }
+
+    /// Latches the live count, unless a count is latched.
+    #[tactic(auto, unfolding(crate::specs::Counter::latched))]
+    pub fn latch_count(&mut self, now: u64)
+        requires loaded { LoadedBy now self.old.loaded_at }
+        requires moment { now ≤ LAST_MOMENT }
+        ensures { self.new ≡ latched now self.old }
+    {
+        if self.latch.is_none() {
+            self.latch = Some(self.live(now));
+        }
+    }
+
+    /// Latches the status, unless one is latched.
+    #[tactic(auto, unfolding(crate::specs::Counter::status_latched))]
+    pub fn latch_status(&mut self, now: u64)
+        requires loaded { LoadedBy now self.old.loaded_at }
+        requires moment { now ≤ LAST_MOMENT }
+        ensures { self.new ≡ status_latched now self.old }
+    {
+        if self.status.is_none() {
+            self.status = Some(self.status_byte(now));
+        }
+    }
+
+    /// Latches the count, the status or both.
+    #[tactic(auto, unfolding(crate::specs::Counter::read_back, crate::specs::Counter::latched))]
+    pub fn read_back(&mut self, count: bool, status: bool, now: u64)
+        requires loaded { LoadedBy now self.old.loaded_at }
+        requires moment { now ≤ LAST_MOMENT }
+        ensures { self.new ≡ read_back count status now self.old }
+    {
+        if count {
+            self.latch_count(now);
+        }
+        if status {
+            self.latch_status(now);
+        }
+    }
+
+    /// Sets the mode; the counter then waits for a count.
+    #[tactic(auto, unfolding(crate::specs::Counter::programmed))]
+    pub fn set_mode(&mut self, access: Access, mode: Mode, bcd: bool)
+        ensures { self.new ≡ programmed access mode bcd self.old }
+    {
+        *self = Counter {
+            count: self.count,
+            mode,
+            access,
+            bcd,
+            ..Counter::new()
+        };
+    }
+
+    /// Loads a count, which is counted down from this moment on in every mode.
+    #[tactic(auto, unfolding(crate::specs::Counter::loaded))]
+    fn load(&mut self, count: u16, now: u64)
+        ensures { self.new ≡ loaded count now self.old }
+    {
+        self.count = count;
+        self.loaded_at = Some(now);
+    }
+
+    /// Takes one byte of a count.
+    #[tactic(auto, unfolding(crate::specs::Counter::written))]
+    pub fn write(&mut self, value: u8, now: u64)
+        ensures { self.new ≡ written value now self.old }
+    {
+        match (self.access, self.held_low) {
+            (Access::LowByte, _) => self.load(value as u16, now),
+            (Access::HighByte, _) => self.load(value as u16 * 256, now),
+            (Access::LowThenHigh, None) => self.held_low = Some(value),
+            (Access::LowThenHigh, Some(low)) => {
+                self.held_low = None;
+                self.load(value as u16 * 256 + low as u16, now);
+            }
+        }
+    }
+
+    /// Gives a latched status, and otherwise a byte of the latched or of the live count.
+    #[tactic(auto, unfolding(crate::specs::Counter::read_of, crate::specs::Counter::counted_of))]
+    pub fn read(&mut self, now: u64) -> u8
+        requires loaded { LoadedBy now self.old.loaded_at }
+        requires moment { now ≤ LAST_MOMENT }
+        ensures { (result, self.new) ≡ read_of now self.old }
+    {
+        if let Some(status) = self.status.take() {
+            return status;
+        }
+        let count = self.latch.unwrap_or(self.live(now));
+        self.read_byte(count)
+    }
+
+    /// Gives the byte of a count that is read next.
+    #[tactic(auto, unfolding(crate::specs::Counter::counted_of))]
+    fn read_byte(&mut self, count: u16) -> u8
+        ensures { (result, self.new) ≡ counted_of count self.old }
+    {
+        let low = (count % 256) as u8;
+        let high = (count / 256) as u8;
+        let (byte, is_last) = match self.access {
+            Access::LowByte => (low, true),
+            Access::HighByte => (high, true),
+            Access::LowThenHigh => {
+                self.read_high = !self.read_high;
+                if self.read_high {
+                    (low, false)
+                } else {
+                    (high, true)
+                }
+            }
+        };
+        if is_last {
+            self.latch = None;
+        }
+        byte
+    }
+}
+
+/// The live count, modulo 65,536, of a counter that goes on below 0.
+fn down(n: u64, k: u64) -> u16
+    requires { n ≤ 65536 }
+    ensures { result ≡ down_of n k }
+{
+    ((n + 65_536 - k % 65_536) % 65_536) as u16
+}
+
+/// The live count of a square wave.
+#[tactic(auto, unfolding(crate::specs::Count::square))]
+fn square(n: u64, k: u64) -> u16
+    requires positive { 1 < n }
+    requires small { n ≤ 65536 }
+    ensures { result ≡ square_of n k }
+{
+    let even = n / 2 * 2;
+    let j = k % n;
+    let high = (n + 1) / 2;
+    let gone = if j < high { j } else { j - high };
+    ((even - 2 * gone) % 65_536) as u16
+}

@@ -1,0 +1,61 @@
+// Laws of the definitions, each stated by a function without a body.
+ghost use Rattle.dev_pit.specs.Laws.{TicksGoOn, EdgeInParts, EdgeTurnsHigh, CountingGoesOn, TerminalCountStays, LatchStays, SoundStays, SavedIsRestored, SavedIsNormal, RestoredIsSound};
+
+/// Ticks never go back.
+#[tactic(auto, using(crate::proofs::Edges::ticks_go_on))]
+pub fn ticks_law()
+    ensures { TicksGoOn }
+{}
+
+/// An edge comes in a span of time just where it comes in one of the span's two parts, in every mode.
+#[tactic(auto, using(crate::proofs::Edges::edge_in_parts))]
+pub fn edge_parts_law()
+    ensures { EdgeInParts }
+{}
+
+/// An edge comes in a span just where OUT is low at one tick and high at the next, in every mode.
+#[tactic(auto, using(crate::proofs::EdgeMeaning::edge_turns_high))]
+pub fn edge_turns_high_law()
+    ensures { EdgeTurnsHigh }
+{}
+
+/// A call that neither programs nor loads a counter leaves it counting as before.
+#[tactic(auto, using(crate::proofs::CallLaws::counting_goes_on))]
+pub fn counting_law()
+    ensures { CountingGoesOn }
+{}
+
+/// In mode 0, OUT that is high stays so until the counter is loaded or programmed.
+#[tactic(auto, using(crate::proofs::CallLaws::terminal_count_stays))]
+pub fn terminal_count_law()
+    ensures { TerminalCountStays }
+{}
+
+/// A latched count stays until its last byte is read or the counter is programmed, and time doesn't change
+/// what is read of it.
+#[tactic(auto, using(crate::proofs::LatchLaws::latch_stays))]
+pub fn latch_law()
+    ensures { LatchStays }
+{}
+
+/// A chip is sound at power on, and time and every call keep it so.
+#[tactic(auto, using(crate::proofs::SoundLaws::sound_stays))]
+pub fn sound_law()
+    ensures { SoundStays }
+{}
+
+/// What was saved of a sound chip, under any set from its level on, is restored as an equal chip.
+#[tactic(auto, using(crate::proofs::SavedLaw::saved_is_restored))]
+pub fn saved_law()
+    ensures { SavedIsRestored }
+{}
+
+/// What was saved of a sound chip may be restored: its cells are normal in the newest set.
+pub fn saved_range_law()
+    ensures { SavedIsNormal }
+{}
+
+/// What is restored is sound.
+pub fn restored_law()
+    ensures { RestoredIsSound }
+{}

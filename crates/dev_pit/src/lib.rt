@@ -1,0 +1,30 @@
+//! The programmable interval timer of a PC: an Intel 8253 at level 1 and an 8254 from level 2 on.
+//!
+//! Three counters count down the ticks of a clock of 1,193,182 Hz. Nothing is counted step by step: a
+//! counter keeps the moment at which it was loaded, and what it shows at a moment follows from the ticks
+//! between the two. Gates are always high, and counting is binary.
+#![tactic(auto)]
+
+mod cells;
+mod channel;
+mod control;
+mod counter;
+mod laws;
+mod limits;
+mod mode;
+mod normal;
+mod pit;
+mod saved;
+mod ticks;
+
+pub use laws::{
+    counting_law, edge_parts_law, edge_turns_high_law, latch_law, restored_law, saved_law,
+    saved_range_law, sound_law, terminal_count_law, ticks_law,
+};
+pub use limits::{CELLS, LAST_MOMENT, NEWEST_LEVEL, NEWEST_SET, READ_BACK_LEVEL, STATUS_SET};
+pub use pit::Pit;
+
+#[cfg(test)]
+mod restore_tests;
+#[cfg(test)]
+mod tests;

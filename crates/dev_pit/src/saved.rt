@@ -1,0 +1,79 @@
+// Saving and restoring the chip.
+ghost use Rattle.std.specs.Prelude.{◌≡◌, ◌≤◌, length, IfErr};
+
+use crate::channel::Channel;
+use crate::limits::CELLS;
+use crate::pit::Pit;
+use vms_hooks::{Hooked, Pass};
+use vms_kinds::DevCells;
+
+impl Hooked for Pit {
+    ghost use Rattle.dev_pit.specs.Saved.{CanSave, CanRestore, hook_restored};
+    ghost use Rattle.dev_pit.specs.Cells.{pit_cells};
+
+    ghost can_save = { CanSave };
+
+    ghost can_restore = { CanRestore };
+
+    ghost saves_as = { λ numbers pit cells. cells ≡ pit_cells numbers.set pit };
+
+    ghost restores_to = { λ numbers cells outcome. outcome ≡ hook_restored numbers cells };
+}
+
+impl Pit {
+    ghost use Rattle.dev_pit.specs.Cells.{pit_cells};
+    ghost use Rattle.dev_pit.specs.Saved.{CanSave, CanRestore, restored_pit};
+
+    /// The cells of the chip under the pass's set, which is at or above its level.
+    #[tactic(auto, unfolding(crate::specs::Cells::pit_cells))]
+    pub fn cells(&self, pass: &Pass) -> DevCells
+        requires { CanSave pass.now self.now }
+        ensures cells { result.items ≡ pit_cells pass.now.set self.now }
+        ensures count { length result.items ≤ CELLS }
+    {
+        Channel::cells_of(
+            pass.set(),
+            &Channel::of(&self.counter0),
+            &Channel::of(&self.counter1),
+            &Channel::of(&self.counter2),
+        )
+    }
+
+    /// The chip of cells of the newest set, at the pass's level and moment, or the number of the first
+    /// rule that fails for any counter:
+    ///
+    /// 1. The mode is at most 5, and RW is 1, 2 or 3.
+    /// 2. The load time is at most now, and is 0 where the counter isn't loaded.
+    /// 3. A status that isn't latched is 0, and an 8253 has none latched.
+    /// 4. Only a counter of RW 3 is between the two bytes of a read or of a write.
+    #[tactic(auto, unfolding(crate::specs::Saved::restored_pit, crate::specs::Saved::pit_of))]
+    pub fn of_cells(pass: &Pass, cells: &DevCells) -> Result<Pit, u8>
+        requires { CanRestore pass.now cells.now.items }
+        ensures restored { result ≡ restored_pit pass.now.level pass.now.moment cells.now.items }
+        ensures rule { IfErr result (λ rule. rule ≤ 4) }
+    {
+        let level = pass.level();
+        let now = pass.now();
+        let first = Channel::at(cells, 0);
+        let second = Channel::at(cells, 1);
+        let third = Channel::at(cells, 2);
+        if !(first.has_registers() && second.has_registers() && third.has_registers()) {
+            return Err(1);
+        }
+        if !(first.has_moment(now) && second.has_moment(now) && third.has_moment(now)) {
+            return Err(2);
+        }
+        if !(first.has_status(level) && second.has_status(level) && third.has_status(level)) {
+            return Err(3);
+        }
+        if !(first.has_toggles() && second.has_toggles() && third.has_toggles()) {
+            return Err(4);
+        }
+        Ok(Pit {
+            level,
+            counter0: first.counter(),
+            counter1: second.counter(),
+            counter2: third.counter(),
+        })
+    }
+}

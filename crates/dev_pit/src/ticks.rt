@@ -1,0 +1,26 @@
+// The ticks of the clock input.
+ghost use Rattle.std.specs.Prelude.{◌≡◌, ◌<◌, ◌≤◌};
+ghost use Rattle.dev_pit.specs.Count.{ticks as ticks_of, period as period_of};
+
+use crate::limits::{CLOCK_HERTZ, LAST_MOMENT, NANOSECONDS};
+
+/// The whole ticks between two moments, which are given in nanoseconds.
+#[tactic(auto, unfolding(crate::specs::Count::ticks))]
+pub(crate) fn ticks(load: u64, now: u64) -> u64
+    requires order { load ≤ now }
+    requires moment { now ≤ LAST_MOMENT }
+    ensures ticks { result ≡ ticks_of load now }
+    ensures small { result < 4800000000000000 }
+{
+    let nanoseconds = u128::from(now - load);
+    (nanoseconds * u128::from(CLOCK_HERTZ) / u128::from(NANOSECONDS)) as u64
+}
+
+/// The number of ticks that a written count stands for, 1 to 65,536: a count of 0 is the greatest.
+pub(crate) fn period(count: u16) -> u64
+    ensures period { result ≡ period_of count }
+    ensures positive { 0 < result }
+    ensures small { result ≤ 65536 }
+{
+    if count == 0 { 65_536 } else { count as u64 }
+}
