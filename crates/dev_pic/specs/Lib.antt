@@ -1,0 +1,6 @@
+pub mod Bits
+pub mod Chip
+pub mod Levels
+pub mod Ocw2
+pub mod Pair
+pub mod Winner
