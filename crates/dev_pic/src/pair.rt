@@ -133,11 +133,12 @@ impl PicPair {
     pub fn settle(&mut self, inputs: u16, edges: u16)
         ensures { self.new ≡ settled_pair inputs edges self.old }
     {
-        self.slave.settle((inputs / 256) as u8, (edges / 256) as u8);
+        let [slave_inputs, inputs] = inputs.to_be_bytes();
+        let [slave_edges, edges] = edges.to_be_bytes();
+        self.slave.settle(slave_inputs, slave_edges);
         let cascade = if self.slave_int() { 1 << CASCADE } else { 0 };
-        let inputs = without_input((inputs % 256) as u8, CASCADE) | cascade;
-        let edges = without_input((edges % 256) as u8, CASCADE);
-        self.master.settle(inputs, edges);
+        let inputs = without_input(inputs, CASCADE) | cascade;
+        self.master.settle(inputs, without_input(edges, CASCADE));
     }
 
     /// The master's interrupt output.
