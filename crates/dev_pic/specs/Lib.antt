@@ -1,4 +1,5 @@
 pub mod Bits
+pub mod Cells
 pub mod Chip
 pub mod Levels
 pub mod Ocw2

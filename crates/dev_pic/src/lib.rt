@@ -2,6 +2,7 @@
 #![tactic(auto)]
 
 mod bits;
+mod cells;
 mod chip;
 mod ocw2;
 mod pair;
