@@ -4,4 +4,5 @@ pub mod Chip
 pub mod Levels
 pub mod Ocw2
 pub mod Pair
+pub mod Saved
 pub mod Winner

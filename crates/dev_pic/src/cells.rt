@@ -1,5 +1,5 @@
 // The cells of a chip.
-ghost use Rattle.std.specs.Prelude.{◌≡◌, ◌<◌, ◌≤◌, length};
+ghost use Rattle.std.specs.Prelude.{◌≡◌, ◌<◌, ◌≤◌, length, IfSome, IfErr};
 ghost use Rattle.vms_kinds.specs.declared.Kind.{Kind};
 ghost use Rattle.dev_pic.specs.Cells.{place_of, cell_count, kind_of, number_at, flag_at as flag_at_of, IsChipCells, state_number as state_number_of, state_of as state_of_number, saved_cells, chip_of as chip_of_cells, registers_hold as registers_hold_of, levels_hold as levels_hold_of, first_fault as first_fault_of, restored};
 
@@ -151,7 +151,8 @@ fn levels_hold(level: u8, role: Role, elcr: u8) -> bool
 #[tactic(auto, unfolding(crate::specs::Cells::first_fault, crate::specs::Cells::requests_hold))]
 fn first_fault(level: u8, role: Role, cells: &DevCells) -> Option<u8>
     requires { IsChipCells cells.now.items }
-    ensures { result ≡ first_fault_of level role cells.now.items }
+    ensures fault { result ≡ first_fault_of level role cells.now.items }
+    ensures rule { IfSome result (λ rule. rule ≤ 3) }
 {
     let elcr = byte_at(cells, Cell::Elcr);
     if !registers_hold(
@@ -174,6 +175,7 @@ fn first_fault(level: u8, role: Role, cells: &DevCells) -> Option<u8>
 pub(crate) fn restore_chip(level: u8, role: Role, cells: &DevCells) -> Result<Chip, u8>
     requires { IsChipCells cells.now.items }
     ensures restored { result ≡ restored level role cells.now.items }
+    ensures rule { IfErr result (λ rule. rule ≤ 3) }
 {
     match first_fault(level, role, cells) {
         None => Ok(chip_of(cells)),

@@ -4,8 +4,11 @@
 mod bits;
 mod cells;
 mod chip;
+mod fault;
 mod ocw2;
 mod pair;
+mod saved;
 mod winner;
 
+pub use fault::ChipFault;
 pub use pair::PicPair;
