@@ -12,3 +12,6 @@ mod winner;
 
 pub use fault::ChipFault;
 pub use pair::PicPair;
+
+#[cfg(test)]
+mod tests;
