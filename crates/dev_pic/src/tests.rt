@@ -1,6 +1,7 @@
 // Rows of calls and answers that were worked out by hand, and each rule of a restore through the hooks.
-ghost use Rattle.std.specs.Prelude.{◌≡◌};
-ghost use Rattle.dev_pic.specs.Cells.{IsChipCells};
+ghost use Rattle.std.specs.Prelude.{◌≡◌, take, drop};
+ghost use Rattle.dev_pic.specs.Cells.{cell_count, IsChipCells};
+ghost use Rattle.dev_pic.specs.Levels.{IsLevel};
 ghost use Rattle.dev_pic.specs.Saved.{CanSave, CanRestore, pair_cells, hook_restored};
 
 use crate::pair::PicPair;
@@ -184,4 +185,171 @@ fn loaded(cells: &DevCells, level: u8, set: u8, moment: u64) -> Result<PicPair, 
         moment,
         cells,
     )
+}
+
+/// The number of the newest set.
+const NEWEST: u8 = 3;
+
+/// The cells of a chip that the rules of a restore speak of.
+#[derive(Clone, Copy)]
+struct Registers {
+    irr: u8,
+    lines: u8,
+    lowest: u8,
+    base: u8,
+    init_state: u8,
+    elcr: u8,
+}
+
+/// A chip that breaks no rule.
+const GOOD: Registers = Registers {
+    irr: 0,
+    lines: 0,
+    lowest: 7,
+    base: 8,
+    init_state: 0,
+    elcr: 0,
+};
+
+// The cells of a chip with these registers, all others 0.
+fn chip_cells(registers: Registers) -> DevCells
+    ensures { IsChipCells result.items }
+{
+    let mut cells = ArrayVec::new();
+    let _fits = cells.try_extend_from_slice(&[
+        i128::from(registers.irr),
+        0,
+        0,
+        i128::from(registers.lines),
+        i128::from(registers.lowest),
+        i128::from(registers.base),
+        i128::from(registers.init_state),
+        0,
+        0,
+        0,
+        0,
+        0,
+        0,
+        0,
+        0,
+        i128::from(registers.elcr),
+    ]);
+    cells
+}
+
+// The cells of both chips.
+fn both_cells(master: Registers, slave: Registers) -> DevCells
+    ensures master { IsChipCells (take cell_count result.items) }
+    ensures slave { IsChipCells (drop cell_count result.items) }
+{
+    let mut cells = chip_cells(master);
+    let _fits = cells.try_extend_from_slice(&chip_cells(slave));
+    cells
+}
+
+// The number of the rule that the pair's hooks answer, if one fails.
+fn failing_rule(level: u8, master: Registers, slave: Registers) -> Option<u8>
+    requires { IsLevel level }
+{
+    let outcome = loaded(&both_cells(master, slave), level, NEWEST, 0);
+    outcome.err().map(|fault| fault.rule)
+}
+
+#[test]
+fn refuses_cells_that_break_a_rule(rt: HostRuntime) -> Result<(), Fail> {
+    // A level, registers, and the rule that they break as the master's and as the slave's.
+    let faults = [
+        (1, Registers { lowest: 8, ..GOOD }, 1, 11),
+        (
+            1,
+            Registers {
+                init_state: 4,
+                ..GOOD
+            },
+            1,
+            11,
+        ),
+        (3, Registers { base: 0x0c, ..GOOD }, 1, 11),
+        (1, Registers { elcr: 0x08, ..GOOD }, 2, 12),
+        (2, Registers { elcr: 0x01, ..GOOD }, 2, 12),
+        (
+            2,
+            Registers {
+                elcr: 0x08,
+                irr: 0x08,
+                ..GOOD
+            },
+            3,
+            13,
+        ),
+        (
+            3,
+            Registers {
+                elcr: 0x08,
+                lines: 0x08,
+                ..GOOD
+            },
+            3,
+            13,
+        ),
+        (
+            2,
+            Registers {
+                lowest: 8,
+                elcr: 0x01,
+                ..GOOD
+            },
+            1,
+            11,
+        ),
+    ];
+    for (level, bad, of_master, of_slave) in faults {
+        assert!(rt; 1 <= level && level <= NEWEST);
+        assert_eq!(rt; failing_rule(level, bad, GOOD), Some(of_master));
+        assert_eq!(rt; failing_rule(level, GOOD, bad), Some(of_slave));
+    }
+    Ok(())
+}
+
+#[test]
+fn restores_up_to_the_limits_of_the_rules(rt: HostRuntime) -> Result<(), Fail> {
+    let all_levels = Registers {
+        elcr: 0xf8,
+        irr: 0xff,
+        lines: 0xf8,
+        ..GOOD
+    };
+    let slave_levels = Registers {
+        elcr: 0xde,
+        irr: 0x21,
+        lines: 0x00,
+        ..GOOD
+    };
+    let third = Registers {
+        init_state: 3,
+        base: 0xf8,
+        lowest: 0,
+        ..GOOD
+    };
+    let rows = [
+        (1, GOOD, third, None),
+        (1, third, GOOD, None),
+        (2, all_levels, slave_levels, None),
+        (2, slave_levels, GOOD, Some(2)),
+        (2, GOOD, all_levels, Some(12)),
+        (
+            2,
+            Registers {
+                irr: 0,
+                ..all_levels
+            },
+            Registers { lowest: 8, ..GOOD },
+            Some(3),
+        ),
+    ];
+    for (level, master, slave, rule) in rows {
+        assert!(rt; 1 <= level && level <= NEWEST);
+        assert_eq!(rt; failing_rule(level, master, slave), rule);
+    }
+    Ok(())
 }
