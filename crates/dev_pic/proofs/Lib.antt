@@ -1,2 +1,9 @@
+pub mod BitLaws
 pub mod CellLemmas
+pub mod ModeLaws
+pub mod PairLaws
+pub mod RestoredLaws
+pub mod SavedLaws
+pub mod StepLaws
+pub mod WinnerLaws
 pub mod WinnerLemmas

@@ -5,12 +5,17 @@ mod bits;
 mod cells;
 mod chip;
 mod fault;
+mod laws;
 mod ocw2;
 mod pair;
 mod saved;
 mod winner;
 
 pub use fault::ChipFault;
+pub use laws::{
+    default_law, eoi_law, lines_law, mask_law, nesting_law, restored_law, rules_law, saved_law,
+    service_law, steps_law, winner_law,
+};
 pub use pair::PicPair;
 
 #[cfg(test)]

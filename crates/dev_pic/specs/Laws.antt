@@ -1,0 +1,99 @@
+-- Laws of the pair in the data sheet's terms, of its steps, and of saving and restoring. Each is named by the
+-- contract of a function.
+use Rattle.std.specs.Prelude.{◌≡◌, ◌≢◌, ℕ, ◌^◌, ◌<◌, ◌≤◌, Bool, true, false, ◌&&◌, ◌||◌, not, if◌then◌else◌, List, ℤ, ◌++◌, Some, None, Ok, ◌↔◌}
+use Rattle.vms_hooks.specs.Numbers.{Numbers}
+use Rattle.dev_pic.specs.Bits.{has}
+use Rattle.dev_pic.specs.Cells.{saved_cells, carried, IsChipCells}
+use Rattle.dev_pic.specs.Chip.{in_service_of, winner_at, taken, settled, commanded, vector_of}
+use Rattle.dev_pic.specs.Levels.{newest, IsLevel}
+use Rattle.dev_pic.specs.Pair.{power_on, is_port, acked, settled_pair, read_pair, written_pair}
+use Rattle.dev_pic.specs.Saved.{IsRestore, CanRestore, restored_pair, hook_restored}
+use Rattle.dev_pic.specs.Sound.{HasRegisters, IsSoundChip, MeetsRules, PairHasRegisters, IsSoundPair}
+use Rattle.dev_pic.specs.Winner.{input_at, winner_of, MeansWinner}
+use Rattle.dev_pic.specs.declared.chip.Chip.{Chip}
+use Rattle.dev_pic.specs.declared.chip.Role.{Role}
+use Rattle.dev_pic.specs.declared.chip.Role.TheVariants.{Master, Slave}
+use Rattle.dev_pic.specs.declared.ocw2.Ocw2.TheVariants.{NonSpecificEoi, RotateOnNonSpecificEoi}
+use Rattle.dev_pic.specs.declared.pair.PicPair.{PicPair}
+
+-- the winner is the requested input of highest priority, where it comes strictly before every input in service
+abbrev pub WinnerIsLeastRequest : Type 0
+WinnerIsLeastRequest =
+    (lowest requests served : ℕ) → MeansWinner lowest requests served (winner_of lowest requests served)
+
+-- a request that is masked never wins
+abbrev pub MaskedNeverWins : Type 0
+MaskedNeverWins =
+    (role : Role) (chip : Chip) (input : ℕ) → chip.imr < 256 → input < 8 → has chip.imr input ≡ true → winner_at role chip ≢ Some input
+
+-- in fully nested mode an input in service blocks itself and each input of lower priority
+abbrev pub ServedBlocksLower : Type 0
+ServedBlocksLower =
+    (role : Role) (chip : Chip) (place lower : ℕ) → chip.special_mask ≡ false → chip.nested ≡ false → place ≤ lower → lower < 8 → has chip.isr (input_at chip.lowest place) ≡ true → winner_at role chip ≢ Some (input_at chip.lowest lower)
+
+-- the input of highest priority that is in service, in special mask mode among those that are not masked
+pub record IsHighestServed (chip : Chip) (input : ℕ) : Type 0 where
+  pub place : ℕ
+  pub in_order : (place < 8) × (input ≡ input_at chip.lowest place)
+  pub served : has (in_service_of chip) input ≡ true
+  pub highest : (other : ℕ) → other < place → has (in_service_of chip) (input_at chip.lowest other) ≡ false
+
+-- only this input's service is ended, and nothing else changes
+pub record EndsService (input : ℕ) (chip after : Chip) : Type 0 where
+  pub ended : has after.isr input ≡ false
+  pub others : (other : ℕ) → other < 8 → other ≢ input → has after.isr other ≡ has chip.isr other
+  pub rest : after ≡ record chip { isr = after.isr; lowest = after.lowest }
+
+-- a non-specific EOI ends the service of highest priority, or does nothing where nothing is in service; a
+-- rotating one gives that input the lowest priority
+pub record EoiEndsHighest : Type 0 where
+  pub highest : (chip : Chip) (input : ℕ) → chip.isr < 256 → IsHighestServed chip input → EndsService input chip (commanded NonSpecificEoi chip) × ((commanded NonSpecificEoi chip).lowest ≡ chip.lowest)
+  pub rotating : (chip : Chip) (input : ℕ) → chip.isr < 256 → IsHighestServed chip input → EndsService input chip (commanded RotateOnNonSpecificEoi chip) × ((commanded RotateOnNonSpecificEoi chip).lowest ≡ input)
+  pub nothing : (chip : Chip) → ((input : ℕ) → input < 8 → has (in_service_of chip) input ≡ false) → (commanded NonSpecificEoi chip ≡ chip) × (commanded RotateOnNonSpecificEoi chip ≡ chip)
+
+-- an acknowledge without a winner answers the vector of input 7 and changes nothing
+abbrev pub AckWithoutWinner : Type 0
+AckWithoutWinner =
+    (pair : PicPair) → winner_at Master pair.master ≡ None → acked pair ≡ (vector_of pair.master 7, pair)
+
+-- a taken edge input loses its request and a level input keeps it; without automatic EOI its service begins
+pub record TakesWinner : Type 0 where
+  pub edge : (chip : Chip) (winner : ℕ) → chip.irr < 256 → winner < 8 → has chip.elcr winner ≡ false → has (taken winner chip).irr winner ≡ false
+  pub level : (chip : Chip) (winner : ℕ) → has chip.elcr winner ≡ true → (taken winner chip).irr ≡ chip.irr
+  pub served : (chip : Chip) (winner : ℕ) → chip.isr < 256 → winner < 8 → chip.auto_eoi ≡ false → has (taken winner chip).isr winner ≡ true
+
+-- whether an input is requested after lines are taken over: a level input by its line; an edge input where it was,
+-- or where its line rises, or where it is in the mask of edges
+abbrev pub requested_after : ℕ → ℕ → Chip → ℕ → Bool
+requested_after inputs edges chip input =
+    if has chip.elcr input then has inputs input
+    else has chip.irr input || ((has inputs input && not (has chip.lines input)) || has edges input)
+
+abbrev pub TakesLinesOver : Type 0
+TakesLinesOver =
+    (inputs edges : ℕ) (chip : Chip) (input : ℕ) → chip.lines < 256 → chip.elcr < 256 → input < 8 → has (settled inputs edges chip).irr input ≡ requested_after inputs edges chip input
+
+-- power on is sound, each step keeps the registers, and once the lines are taken over the pair is sound
+pub record StepsKeepRegisters : Type 0 where
+  pub power : (level : ℕ) → IsLevel level → IsSoundPair (power_on level)
+  pub read : (port : ℕ) (pair : PicPair) → PairHasRegisters pair → PairHasRegisters (read_pair port pair).1
+  pub write : (port value : ℕ) (pair : PicPair) → value < 256 → is_port pair.level port ≡ true → PairHasRegisters pair → PairHasRegisters (written_pair port value pair)
+  pub ack : (pair : PicPair) → PairHasRegisters pair → PairHasRegisters (acked pair).1
+  pub settle : (inputs edges : ℕ) (pair : PicPair) → inputs < 2 ^ 16 → edges < 2 ^ 16 → IsLevel pair.level → PairHasRegisters pair → IsSoundPair (settled_pair inputs edges pair)
+
+-- a chip with its registers is sound exactly where its cells break no rule
+abbrev pub SoundMeetsRules : Type 0
+SoundMeetsRules =
+    (level : ℕ) (role : Role) (chip : Chip) → HasRegisters level role chip → IsSoundChip level role chip ↔ MeetsRules level role chip
+
+-- what was saved under a set from the level to the newest, carried to the newest set, can be restored and is
+-- restored as it was
+pub record SavedIsRestored : Type 0 where
+  pub cells : (set : ℕ) (pair : PicPair) → IsSoundPair pair → pair.level ≤ set → IsChipCells (carried set (saved_cells set pair.master)) × IsChipCells (carried set (saved_cells set pair.slave))
+  pub pair : (set : ℕ) (pair : PicPair) → IsSoundPair pair → pair.level ≤ set → restored_pair pair.level (carried set (saved_cells set pair.master)) (carried set (saved_cells set pair.slave)) ≡ Ok pair
+  pub hooks : (numbers : Numbers) (set : ℕ) (pair : PicPair) → IsRestore numbers → numbers.level ≡ pair.level → IsSoundPair pair → pair.level ≤ set → CanRestore numbers (carried set (saved_cells set pair.master) ++ carried set (saved_cells set pair.slave)) × (hook_restored numbers.level (carried set (saved_cells set pair.master) ++ carried set (saved_cells set pair.slave)) ≡ Ok pair)
+
+-- what is restored is sound and has the level of the restore
+abbrev pub RestoredIsSound : Type 0
+RestoredIsSound =
+    (level : ℕ) (master slave : List ℤ) (pair : PicPair) → IsLevel level → IsChipCells master → IsChipCells slave → restored_pair level master slave ≡ Ok pair → IsSoundPair pair × (pair.level ≡ level)
