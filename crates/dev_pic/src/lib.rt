@@ -5,6 +5,7 @@ mod bits;
 mod cells;
 mod chip;
 mod fault;
+mod hooks;
 mod laws;
 mod ocw2;
 mod pair;
@@ -12,6 +13,7 @@ mod saved;
 mod winner;
 
 pub use fault::ChipFault;
+pub use hooks::{load_pair, save_pair};
 pub use laws::{
     default_law, eoi_law, lines_law, mask_law, nesting_law, restored_law, rules_law, saved_law,
     service_law, steps_law, winner_law,

@@ -4,6 +4,7 @@ ghost use Rattle.dev_pic.specs.Cells.{cell_count, IsChipCells};
 ghost use Rattle.dev_pic.specs.Levels.{IsLevel};
 ghost use Rattle.dev_pic.specs.Saved.{CanSave, CanRestore, pair_cells, hook_restored};
 
+use crate::chip::{Chip, InitState};
 use crate::pair::PicPair;
 use arrayvec::ArrayVec;
 use std::process::Abort;
@@ -170,6 +171,40 @@ fn saved(pair: &PicPair, level: u8, set: u8, moment: u64) -> DevCells
         moment,
         pair,
     )
+}
+
+#[test]
+fn saves_the_registers_in_order(rt: HostRuntime) -> Result<(), Fail> {
+    let master = Chip {
+        irr: 0x11,
+        isr: 0x12,
+        imr: 0x13,
+        lines: 0x14,
+        lowest: 5,
+        base: 0x18,
+        init_state: InitState::Icw3,
+        icw4: true,
+        single: false,
+        read_isr: true,
+        poll: false,
+        special_mask: true,
+        auto_eoi: false,
+        rotate: true,
+        nested: false,
+        elcr: 0x20,
+    };
+    let pair = PicPair {
+        level: 2,
+        master,
+        slave: PicPair::new(2).slave,
+    };
+    let cells = [
+        0x11, 0x12, 0x13, 0x14, 5, 0x18, 2, 1, 0, 1, 0, 1, 0, 1, 0, 0x20, 0, 0, 0, 0, 7, 0, 0, 0,
+        0, 0, 0, 0, 0, 0, 0, 0,
+    ];
+    assert_eq!(rt; saved(&pair, 2, 2, 0).as_slice(), cells.as_slice());
+    assert_eq!(rt; saved(&PicPair { level: 1, ..pair }, 1, 1, 0).len(), 30);
+    Ok(())
 }
 
 // The pair of cells of the newest set, made by stored closures.
