@@ -3,9 +3,10 @@ use Rattle.std.proofs.Common.{◌≡◌, ◌≢◌, ℕ, ◌+◌, ◌%◌, ◌<�
 use Rattle.std.proofs.lemmas.Bool.{false≢true}
 use Rattle.std.specs.Prelude.{bit_and, bit_or}
 use Rattle.dev_pic.specs.Bits.{has, but_not, with_input, without_input}
-use Rattle.dev_pic.specs.Chip.{requests_of, in_service_of, served_of, winner_at, serving, taken, rising, settled, ended, ended_lowest, highest_served, commanded, vector_of, answered}
+use Rattle.dev_pic.specs.Chip.{cascade_input, requests_of, in_service_of, served_of, winner_at, serving, taken, rising, settled, ended, ended_lowest, highest_served, commanded, written_even, vector_of, answered}
 use Rattle.dev_pic.specs.Laws.{MaskedNeverWins, ServedBlocksLower, IsHighestServed, EndsService, EoiEndsHighest, AckWithoutWinner, TakesWinner, requested_after, TakesLinesOver}
 use Rattle.dev_pic.specs.Pair.{acked, acked_for}
+use Rattle.dev_pic.specs.Sound.{HasRegisters, PairHasRegisters}
 use Rattle.dev_pic.specs.Winner.{input_at, highest_of, MeansWinner, IsWinner}
 use Rattle.dev_pic.specs.declared.chip.Chip.{Chip}
 use Rattle.dev_pic.specs.declared.chip.Role.{Role}
@@ -89,12 +90,32 @@ ends_nothing chip none =
     let e = highest_none chip.lowest (in_service_of chip) none in
     (ap (λ o. ended o chip) e, ap (λ o. ended_lowest o chip) e)
 
+eoi_words : (chip : Chip) → (written_even 0x20 chip ≡ commanded NonSpecificEoi chip) × (written_even 0xa0 chip ≡ commanded RotateOnNonSpecificEoi chip)
+unfolding written_even
+eoi_words chip = (refl, refl)
+
 pub eoi_ends_highest : EoiEndsHighest
-eoi_ends_highest = record { highest = ends_highest; rotating = rotates_highest; nothing = ends_nothing }
+eoi_ends_highest = record { words = eoi_words; highest = ends_highest; rotating = rotates_highest; nothing = ends_nothing }
+
+-- the vector of an input is base + that input where base has bits 2 to 0 clear
+plain_vector : (level : ℕ) (role : Role) (chip : Chip) (input : ℕ) → input < 8 → HasRegisters level role chip → vector_of chip input ≡ chip.base + input
+plain_vector level role chip input within h =
+    let base = h.base in
+    let vectors = h.vectors in
+    omega arith
+
+master_unasked : (pair : PicPair) → PairHasRegisters pair → winner_at Master pair.master ≡ None → acked pair ≡ (pair.master.base + 7, pair)
+unfolding acked_for answered
+master_unasked pair h none =
+    rw none (ap (λ n. (n, pair)) (plain_vector pair.level Master pair.master 7 (omega arith) h.master))
+
+slave_unasked : (pair : PicPair) → PairHasRegisters pair → winner_at Master pair.master ≡ Some cascade_input → winner_at Slave pair.slave ≡ None → ((acked pair).0 ≡ pair.slave.base + 7) × ((acked pair).1.slave ≡ pair.slave)
+unfolding acked_for answered
+slave_unasked pair h taken none =
+    rw (taken, none) (plain_vector pair.level Slave pair.slave 7 (omega arith) h.slave, refl)
 
 pub ack_without_winner : AckWithoutWinner
-unfolding acked_for answered
-ack_without_winner pair none = rw none
+ack_without_winner = record { master = master_unasked; slave = slave_unasked }
 
 -- parts of a chip that is taken, by whether the input is a level input
 edge_irr : (chip : Chip) (winner : ℕ) → has chip.elcr winner ≡ false → (taken winner chip).irr ≡ without_input chip.irr winner

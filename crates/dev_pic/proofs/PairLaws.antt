@@ -6,7 +6,7 @@ use Rattle.std.specs.Prelude.{is_some, bit_and, nat_le, ◌||◌, ◌&&◌}
 use Rattle.dev_pic.specs.Bits.{without_input}
 use Rattle.dev_pic.specs.Cells.{levels_hold, requests_hold}
 use Rattle.dev_pic.specs.Chip.{level_inputs, winner_at, settled, elcr_written, cascade_input}
-use Rattle.dev_pic.specs.Laws.{StepsKeepRegisters}
+use Rattle.dev_pic.specs.Laws.{StepsKeepRegisters, StepsKeepLevel}
 use Rattle.dev_pic.specs.Levels.{elcr_since, IsLevel}
 use Rattle.dev_pic.specs.Pair.{chip_on, power_on, is_port, with_cascade, slave_int_of, settled_pair, read_pair, written_pair, acked, acked_for}
 use Rattle.dev_pic.specs.Sound.{HasRegisters, IsSoundChip, PairHasRegisters, IsSoundPair}
@@ -76,15 +76,15 @@ cascade-lt is_high inputs h =
 
 module _ (pair : PicPair) (h : PairHasRegisters pair) where
   with-master : (chip : Chip) → HasRegisters pair.level Master chip → PairHasRegisters (record pair { master = chip })
-  with-master chip k = record { master = k; slave = h.slave }
+  with-master chip k = record { level = h.level; master = k; slave = h.slave }
 
   with-slave : (chip : Chip) → HasRegisters pair.level Slave chip → PairHasRegisters (record pair { slave = chip })
-  with-slave chip k = record { master = h.master; slave = k }
+  with-slave chip k = record { level = h.level; master = h.master; slave = k }
 
-  settle-sound : (inputs edges : ℕ) → inputs < 2 ^ 16 → edges < 2 ^ 16 → IsLevel pair.level → IsSoundPair (settled_pair inputs edges pair)
+  settle-sound : (inputs edges : ℕ) → inputs < 2 ^ 16 → edges < 2 ^ 16 → IsSoundPair (settled_pair inputs edges pair)
   unfolding settled_pair
-  settle-sound inputs edges i e l = record {
-    level = l;
+  settle-sound inputs edges i e = record {
+    level = h.level;
     master = settled-sound pair.level Master pair.master h.master _ _ (cascade-lt _ (inputs % 256) (omega arith)) (without_input-lt _ cascade_input (omega arith));
     slave = settled-sound pair.level Slave pair.slave h.slave _ _ (omega arith) (omega arith);
   }
@@ -94,7 +94,7 @@ module _ (pair : PicPair) (h : PairHasRegisters pair) where
   acked_for-kept None l = record { kept = with-master _ (answered-registers pair.level Master pair.master h.master None tt) }
   acked_for-kept (Some w) l =
       either Kept (w == cascade_input) _ _
-      (record { kept = record { master = cascaded-registers pair.level Master pair.master h.master; slave = answered-registers pair.level Slave pair.slave h.slave (winner_at Slave pair.slave) (winner-lt Slave pair.slave) } })
+      (record { kept = record { level = h.level; master = cascaded-registers pair.level Master pair.master h.master; slave = answered-registers pair.level Slave pair.slave h.slave (winner_at Slave pair.slave) (winner-lt Slave pair.slave) } })
       (record { kept = with-master _ (answered-registers pair.level Master pair.master h.master (Some w) l) })
 
   acked-kept : PairHasRegisters (acked pair).1
@@ -126,5 +126,56 @@ steps_keep_registers = record {
   read = λ port pair h. (read-kept pair h port).kept;
   write = λ port value pair v is h. written-kept pair h port value v is;
   ack = λ pair h. acked-kept pair h;
-  settle = λ inputs edges pair i e l h. settle-sound pair h inputs edges i e l;
+  settle = λ inputs edges pair i e h. settle-sound pair h inputs edges i e;
+  sound = λ pair h. record { level = h.level; master = h.master.registers; slave = h.slave.registers };
+}
+
+-- an answer after which the pair has its level
+record SameLevel (level : ℕ) (answer : ℕ × PicPair) : Type 0 where
+  same : answer.1.level ≡ level
+
+power-level : (level : ℕ) → (power_on level).level ≡ level
+unfolding power_on
+power-level level = refl
+
+read-level : (port : ℕ) (pair : PicPair) → SameLevel pair.level (read_pair port pair)
+unfolding read_pair
+read-level port pair =
+    either (SameLevel pair.level) (port == 0x20) _ _ (record { same = refl })
+    (either (SameLevel pair.level) (port == 0x21) _ _ (record { same = refl })
+    (either (SameLevel pair.level) (port == 0xa0) _ _ (record { same = refl })
+    (either (SameLevel pair.level) (port == 0xa1) _ _ (record { same = refl })
+    (either (SameLevel pair.level) (port == 0x4d0) _ _ (record { same = refl }) (record { same = refl })))))
+
+HasLevel : ℕ → PicPair → Type 0
+HasLevel level pair = pair.level ≡ level
+
+written-level : (port value : ℕ) (pair : PicPair) → HasLevel pair.level (written_pair port value pair)
+unfolding written_pair HasLevel
+written-level port value pair =
+    let keeps = λ (p : PicPair). p.level ≡ pair.level in
+    either keeps (port == 0x20) _ _ refl
+    (either keeps (port == 0x21) _ _ refl
+    (either keeps (port == 0xa0) _ _ refl
+    (either keeps (port == 0xa1) _ _ refl
+    (either keeps (port == 0x4d0) _ _ refl refl))))
+
+acked_for-level : (o : Option ℕ) (pair : PicPair) → SameLevel pair.level (acked_for o pair)
+unfolding acked_for
+acked_for-level None pair = record { same = refl }
+acked_for-level (Some w) pair =
+    either (SameLevel pair.level) (w == cascade_input) _ _ (record { same = refl }) (record { same = refl })
+
+settled-level : (inputs edges : ℕ) (pair : PicPair) → (settled_pair inputs edges pair).level ≡ pair.level
+unfolding settled_pair
+settled-level inputs edges pair = refl
+
+pub steps_keep_level : StepsKeepLevel
+unfolding HasLevel
+steps_keep_level = record {
+  power = power-level;
+  read = λ port pair. (read-level port pair).same;
+  write = written-level;
+  ack = λ pair. (acked_for-level (winner_at Master pair.master) pair).same;
+  settle = settled-level;
 }

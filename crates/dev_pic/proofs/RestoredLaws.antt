@@ -83,10 +83,13 @@ made_of level (Ok master) (Ok slave) pair e = record { same_level = cc; of_maste
 made_of level (Ok master) (Err rule) pair e = cc
 made_of level (Err rule) slave pair e = cc
 
-pub restored_is_sound : RestoredIsSound
-restored_is_sound level master slave pair l m s e =
+pair-sound : (level : ℕ) (master slave : List ℤ) (pair : PicPair) → IsLevel level → IsChipCells master → IsChipCells slave → restored_pair level master slave ≡ Ok pair → IsSoundPair pair × (pair.level ≡ level)
+pair-sound level master slave pair l m s e =
     let made = made_of level (restored level Master master) (restored level Slave slave) pair e in
     let same = made.same_level in
     let at_level : (n : ℕ) → n ≡ level → IsLevel n × IsSoundChip n Master pair.master × IsSoundChip n Slave pair.slave = λ n is. subst (λ (k : ℕ). IsLevel k × IsSoundChip k Master pair.master × IsSoundChip k Slave pair.slave) (sym is) (l, restored-sound level Master master pair.master m made.of_master, restored-sound level Slave slave pair.slave s made.of_slave) in
     let parts = at_level pair.level same in
     (record { level = parts.0; master = parts.1; slave = parts.2 }, same)
+
+pub restored_is_sound : RestoredIsSound
+restored_is_sound = record { pair = pair-sound }

@@ -7,8 +7,8 @@ use Rattle.std.specs.Prelude.{nat_le, ◌↔◌}
 use Rattle.vms_hooks.specs.Numbers.{Numbers}
 use Rattle.vms_kinds.specs.Codes.{InRange}
 use Rattle.vms_kinds.specs.declared.Kind.TheVariants.{U8, Bool as Truth}
-use Rattle.dev_pic.specs.Cells.{cell_count, kind_of, value_at, number_at, flag_number, state_number, state_of, first_cells, saved_cells, carried, IsChipCells, chip_of, registers_hold, levels_hold, requests_hold, first_fault, restored_by, restored}
-use Rattle.dev_pic.specs.Laws.{SoundMeetsRules, SavedIsRestored}
+use Rattle.dev_pic.specs.Cells.{cell_count, count_of, IsCellsOf, place_of, kind_of, value_at, number_at, flag_number, state_number, state_of, first_cells, elcr_cells, saved_cells, carried, IsChipCells, chip_of, registers_hold, levels_hold, requests_hold, first_fault, restored_by, restored}
+use Rattle.dev_pic.specs.Laws.{SoundMeetsRules, SavedAreCells, SavedIsRestored}
 use Rattle.dev_pic.specs.Levels.{newest, elcr_since, IsLevel}
 use Rattle.dev_pic.specs.Saved.{IsRestore, CanRestore, pair_of, restored_pair, hook_result, hook_restored}
 use Rattle.dev_pic.specs.Sound.{HasRegisters, IsSoundChip, MeetsRules, IsSoundPair}
@@ -137,6 +137,57 @@ saved-count chip = refl
 
 saved-cells : (level : ℕ) (role : Role) (chip : Chip) → HasRegisters level role chip → IsChipCells (saved_cells newest chip)
 saved-cells level role chip h = record { count = saved-count chip; in_range = saved-range level role chip h }
+
+-- the same of each set
+first-range : (level : ℕ) (role : Role) (chip : Chip) → HasRegisters level role chip → (cell : Cell) → place_of cell < 15 → InRange (kind_of cell) (value_at (first_cells chip) cell)
+unfolding first_cells
+first-range level role chip h Irr l = byte chip.irr h.irr
+first-range level role chip h Isr l = byte chip.isr h.isr
+first-range level role chip h Imr l = byte chip.imr h.imr
+first-range level role chip h Lines l = byte chip.lines h.lines
+first-range level role chip h Lowest l = byte chip.lowest (omega (arith, h.lowest))
+first-range level role chip h Base l = byte chip.base h.base
+first-range level role chip h State l = byte (state_number chip.init_state) (omega (arith, state-le chip.init_state))
+first-range level role chip h Icw4 l = flag chip.icw4
+first-range level role chip h Single l = flag chip.single
+first-range level role chip h ReadIsr l = flag chip.read_isr
+first-range level role chip h Poll l = flag chip.poll
+first-range level role chip h SpecialMask l = flag chip.special_mask
+first-range level role chip h AutoEoi l = flag chip.auto_eoi
+first-range level role chip h Rotate l = flag chip.rotate
+first-range level role chip h Nested l = flag chip.nested
+first-range level role chip h Elcr l = absurd (omega arith)
+
+first-count : (chip : Chip) → length (first_cells chip) ≡ 15
+unfolding first_cells
+first-count chip = refl
+
+of_count : (set count : ℕ) (cells : List ℤ) → count_of set ≡ count → length cells ≡ count → ((cell : Cell) → place_of cell < count → InRange (kind_of cell) (value_at cells cell)) → IsCellsOf set cells
+of_count set count cells is len range = record {
+  count = len ∙ sym is;
+  in_range = λ cell l. range cell (subst (λ (n : ℕ). place_of cell < n) is l);
+}
+
+early-cells : (level set : ℕ) (role : Role) (chip : Chip) → set < elcr_since → HasRegisters level role chip → IsCellsOf set (saved_cells set chip)
+unfolding saved_cells
+early-cells level set role chip early h =
+    let e : nat_le elcr_since set ≡ false = grind (arith, nat_tests) in
+    let cells : cond (nat_le elcr_since set) (first_cells chip ++ elcr_cells chip) (first_cells chip) ≡ first_cells chip = rw e in
+    subst (IsCellsOf set) (sym cells) (of_count set 15 (first_cells chip) (rw e) (first-count chip) (first-range level role chip h))
+
+late-cells : (level set : ℕ) (role : Role) (chip : Chip) → elcr_since ≤ set → HasRegisters level role chip → IsCellsOf set (saved_cells set chip)
+unfolding saved_cells
+late-cells level set role chip late h =
+    let e : nat_le elcr_since set ≡ true = grind (arith, nat_tests) in
+    let cells : cond (nat_le elcr_since set) (first_cells chip ++ elcr_cells chip) (first_cells chip) ≡ saved_cells newest chip = rw e in
+    subst (IsCellsOf set) (sym cells) (of_count set 16 (saved_cells newest chip) (rw e) (saved-count chip) (λ cell l. saved-range level role chip h cell))
+
+set-cells : (level set : ℕ) (role : Role) (chip : Chip) → HasRegisters level role chip → IsCellsOf set (saved_cells set chip)
+set-cells level set role chip h =
+    ⊎_elim (λ early. early-cells level set role chip early h) (λ late. late-cells level set role chip late h) (cases_lt set elcr_since)
+
+pub saved_are_cells : SavedAreCells
+saved_are_cells = record { chip = set-cells }
 
 module _ (set : ℕ) (pair : PicPair) (sound : IsSoundPair pair) (le : pair.level ≤ set) where
   master-carried : carried set (saved_cells set pair.master) ≡ saved_cells newest pair.master

@@ -1,5 +1,5 @@
 -- The cells of a chip.
-use Rattle.std.specs.Prelude.{◌≡◌, ℕ, ℤ, pos, negsuc, ◌%◌, ◌==◌, Bool, true, false, ◌&&◌, nat_le, not, if◌then◌else◌, List, [], ◌∷◌, ◌++◌, length, slice_index_or, bit_and, Option, Some, None, Result, Ok, Err}
+use Rattle.std.specs.Prelude.{◌≡◌, ℕ, ℤ, pos, negsuc, ◌%◌, ◌<◌, ◌==◌, Bool, true, false, ◌&&◌, nat_le, not, if◌then◌else◌, List, [], ◌∷◌, ◌++◌, length, slice_index_or, bit_and, Option, Some, None, Result, Ok, Err}
 use Rattle.vms_kinds.specs.Codes.{InRange}
 use Rattle.vms_kinds.specs.declared.Kind.{Kind}
 use Rattle.vms_kinds.specs.declared.Kind.TheVariants.{U8, Bool as Truth}
@@ -68,7 +68,16 @@ number_at cells cell = natural (value_at cells cell)
 abbrev pub flag_at : List ℤ → Cell → Bool
 flag_at cells cell = number_at cells cell == 1
 
--- as many cells as a chip has in the newest set, each in its kind's range
+-- how many cells a chip has in a set
+abbrev pub count_of : ℕ → ℕ
+count_of set = if nat_le elcr_since set then 16 else 15
+
+-- as many cells as a chip has in a set, each in its kind's range
+pub record IsCellsOf (set : ℕ) (cells : List ℤ) : Type 0 where
+  pub count : length cells ≡ count_of set
+  pub in_range : (cell : Cell) → place_of cell < count_of set → InRange (kind_of cell) (value_at cells cell)
+
+-- the same of the newest set
 pub record IsChipCells (cells : List ℤ) : Type 0 where
   pub count : length cells ≡ cell_count
   pub in_range : (cell : Cell) → InRange (kind_of cell) (value_at cells cell)

@@ -1,10 +1,10 @@
 -- Laws of the pair in the data sheet's terms, of its steps, and of saving and restoring. Each is named by the
 -- contract of a function.
-use Rattle.std.specs.Prelude.{◌≡◌, ◌≢◌, ℕ, ◌^◌, ◌<◌, ◌≤◌, Bool, true, false, ◌&&◌, ◌||◌, not, if◌then◌else◌, List, ℤ, ◌++◌, Some, None, Ok, ◌↔◌}
+use Rattle.std.specs.Prelude.{◌≡◌, ◌≢◌, ℕ, ◌+◌, ◌^◌, ◌<◌, ◌≤◌, Bool, true, false, ◌&&◌, ◌||◌, not, if◌then◌else◌, List, ℤ, ◌++◌, Some, None, Ok, ◌↔◌}
 use Rattle.vms_hooks.specs.Numbers.{Numbers}
 use Rattle.dev_pic.specs.Bits.{has}
-use Rattle.dev_pic.specs.Cells.{saved_cells, carried, IsChipCells}
-use Rattle.dev_pic.specs.Chip.{in_service_of, winner_at, taken, settled, commanded, vector_of}
+use Rattle.dev_pic.specs.Cells.{saved_cells, carried, IsCellsOf, IsChipCells}
+use Rattle.dev_pic.specs.Chip.{cascade_input, in_service_of, winner_at, taken, settled, commanded, written_even}
 use Rattle.dev_pic.specs.Levels.{newest, IsLevel}
 use Rattle.dev_pic.specs.Pair.{power_on, is_port, acked, settled_pair, read_pair, written_pair}
 use Rattle.dev_pic.specs.Saved.{IsRestore, CanRestore, restored_pair, hook_restored}
@@ -44,17 +44,19 @@ pub record EndsService (input : ℕ) (chip after : Chip) : Type 0 where
   pub others : (other : ℕ) → other < 8 → other ≢ input → has after.isr other ≡ has chip.isr other
   pub rest : after ≡ record chip { isr = after.isr; lowest = after.lowest }
 
--- a non-specific EOI ends the service of highest priority, or does nothing where nothing is in service; a
--- rotating one gives that input the lowest priority
+-- a non-specific EOI, the word 0x20, ends the service of highest priority, or does nothing where nothing is in
+-- service; a rotating one, the word 0xa0, gives that input the lowest priority
 pub record EoiEndsHighest : Type 0 where
+  pub words : (chip : Chip) → (written_even 0x20 chip ≡ commanded NonSpecificEoi chip) × (written_even 0xa0 chip ≡ commanded RotateOnNonSpecificEoi chip)
   pub highest : (chip : Chip) (input : ℕ) → chip.isr < 256 → IsHighestServed chip input → EndsService input chip (commanded NonSpecificEoi chip) × ((commanded NonSpecificEoi chip).lowest ≡ chip.lowest)
   pub rotating : (chip : Chip) (input : ℕ) → chip.isr < 256 → IsHighestServed chip input → EndsService input chip (commanded RotateOnNonSpecificEoi chip) × ((commanded RotateOnNonSpecificEoi chip).lowest ≡ input)
   pub nothing : (chip : Chip) → ((input : ℕ) → input < 8 → has (in_service_of chip) input ≡ false) → (commanded NonSpecificEoi chip ≡ chip) × (commanded RotateOnNonSpecificEoi chip ≡ chip)
 
--- an acknowledge without a winner answers the vector of input 7 and changes nothing
-abbrev pub AckWithoutWinner : Type 0
-AckWithoutWinner =
-    (pair : PicPair) → winner_at Master pair.master ≡ None → acked pair ≡ (vector_of pair.master 7, pair)
+-- an acknowledge without a winner of the master answers the master's base + 7 and changes nothing; where the
+-- slave's output was taken and the slave has no winner, the slave's base + 7 is answered and the slave is unchanged
+pub record AckWithoutWinner : Type 0 where
+  pub master : (pair : PicPair) → PairHasRegisters pair → winner_at Master pair.master ≡ None → acked pair ≡ (pair.master.base + 7, pair)
+  pub slave : (pair : PicPair) → PairHasRegisters pair → winner_at Master pair.master ≡ Some cascade_input → winner_at Slave pair.slave ≡ None → ((acked pair).0 ≡ pair.slave.base + 7) × ((acked pair).1.slave ≡ pair.slave)
 
 -- a taken edge input loses its request and a level input keeps it; without automatic EOI its service begins
 pub record TakesWinner : Type 0 where
@@ -79,12 +81,25 @@ pub record StepsKeepRegisters : Type 0 where
   pub read : (port : ℕ) (pair : PicPair) → PairHasRegisters pair → PairHasRegisters (read_pair port pair).1
   pub write : (port value : ℕ) (pair : PicPair) → value < 256 → is_port pair.level port ≡ true → PairHasRegisters pair → PairHasRegisters (written_pair port value pair)
   pub ack : (pair : PicPair) → PairHasRegisters pair → PairHasRegisters (acked pair).1
-  pub settle : (inputs edges : ℕ) (pair : PicPair) → inputs < 2 ^ 16 → edges < 2 ^ 16 → IsLevel pair.level → PairHasRegisters pair → IsSoundPair (settled_pair inputs edges pair)
+  pub settle : (inputs edges : ℕ) (pair : PicPair) → inputs < 2 ^ 16 → edges < 2 ^ 16 → PairHasRegisters pair → IsSoundPair (settled_pair inputs edges pair)
+  pub sound : (pair : PicPair) → IsSoundPair pair → PairHasRegisters pair
+
+-- no step changes the level
+pub record StepsKeepLevel : Type 0 where
+  pub power : (level : ℕ) → (power_on level).level ≡ level
+  pub read : (port : ℕ) (pair : PicPair) → (read_pair port pair).1.level ≡ pair.level
+  pub write : (port value : ℕ) (pair : PicPair) → (written_pair port value pair).level ≡ pair.level
+  pub ack : (pair : PicPair) → (acked pair).1.level ≡ pair.level
+  pub settle : (inputs edges : ℕ) (pair : PicPair) → (settled_pair inputs edges pair).level ≡ pair.level
 
 -- a chip with its registers is sound exactly where its cells break no rule
 abbrev pub SoundMeetsRules : Type 0
 SoundMeetsRules =
     (level : ℕ) (role : Role) (chip : Chip) → HasRegisters level role chip → IsSoundChip level role chip ↔ MeetsRules level role chip
+
+-- what a chip with its registers saves under a set are cells of that set
+pub record SavedAreCells : Type 0 where
+  pub chip : (level set : ℕ) (role : Role) (chip : Chip) → HasRegisters level role chip → IsCellsOf set (saved_cells set chip)
 
 -- what was saved under a set from the level to the newest, carried to the newest set, can be restored and is
 -- restored as it was
@@ -94,6 +109,5 @@ pub record SavedIsRestored : Type 0 where
   pub hooks : (numbers : Numbers) (set : ℕ) (pair : PicPair) → IsRestore numbers → numbers.level ≡ pair.level → IsSoundPair pair → pair.level ≤ set → CanRestore numbers (carried set (saved_cells set pair.master) ++ carried set (saved_cells set pair.slave)) × (hook_restored numbers.level (carried set (saved_cells set pair.master) ++ carried set (saved_cells set pair.slave)) ≡ Ok pair)
 
 -- what is restored is sound and has the level of the restore
-abbrev pub RestoredIsSound : Type 0
-RestoredIsSound =
-    (level : ℕ) (master slave : List ℤ) (pair : PicPair) → IsLevel level → IsChipCells master → IsChipCells slave → restored_pair level master slave ≡ Ok pair → IsSoundPair pair × (pair.level ≡ level)
+pub record RestoredIsSound : Type 0 where
+  pub pair : (level : ℕ) (master slave : List ℤ) (pair : PicPair) → IsLevel level → IsChipCells master → IsChipCells slave → restored_pair level master slave ≡ Ok pair → IsSoundPair pair × (pair.level ≡ level)

@@ -29,8 +29,9 @@ pub record IsSoundChip (level : ℕ) (role : Role) (chip : Chip) : Type 0 where
 abbrev pub MeetsRules : ℕ → Role → Chip → Type 0
 MeetsRules level role chip = first_fault level role (saved_cells newest chip) ≡ None
 
--- both chips have their registers
+-- there is a pair of this level, and both chips have their registers
 pub record PairHasRegisters (pair : PicPair) : Type 0 where
+  pub level : IsLevel pair.level
   pub master : HasRegisters pair.level Master pair.master
   pub slave : HasRegisters pair.level Slave pair.slave
 

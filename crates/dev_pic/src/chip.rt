@@ -30,7 +30,7 @@ impl Role {
     }
 }
 
-/// Which word a write to the odd port is ("Initialization Command Words").
+/// Which word a write to the odd port is ("Initialization Command Words (ICWs)").
 #[derive(Clone, Copy, Debug, PartialEq, Eq)]
 pub(crate) enum InitState {
     /// Initialized: OCW1, the mask.

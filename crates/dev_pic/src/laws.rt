@@ -1,5 +1,5 @@
 // Laws of the definitions that the contracts of the pair cite. Each function does nothing; its clause is a law.
-ghost use Rattle.dev_pic.specs.Laws.{WinnerIsLeastRequest, MaskedNeverWins, ServedBlocksLower, EoiEndsHighest, AckWithoutWinner, TakesWinner, TakesLinesOver, StepsKeepRegisters, SoundMeetsRules, SavedIsRestored, RestoredIsSound};
+ghost use Rattle.dev_pic.specs.Laws.{WinnerIsLeastRequest, MaskedNeverWins, ServedBlocksLower, EoiEndsHighest, AckWithoutWinner, TakesWinner, TakesLinesOver, StepsKeepRegisters, StepsKeepLevel, SoundMeetsRules, SavedAreCells, SavedIsRestored, RestoredIsSound};
 
 /// The winner is the requested input of highest priority, where it comes strictly before every input in
 /// service ("Interrupt Request Register (IRR) and In-Service Register (ISR)", "Priority Resolver").
@@ -28,8 +28,8 @@ pub fn eoi_law()
     ensures { EoiEndsHighest }
 {}
 
-/// An acknowledge without a winner answers the vector of input 7 and changes nothing ("Edge and Level
-/// Triggered Modes", on the default IR7).
+/// An acknowledge without a winner answers the vector of input 7 and changes nothing, and the same of the
+/// slave where the master's winner is its output ("Edge and Level Triggered Modes", on the default IR7).
 #[tactic(auto, using(crate::proofs::ModeLaws::ack_without_winner))]
 pub fn default_law()
     ensures { AckWithoutWinner }
@@ -53,10 +53,22 @@ pub fn steps_law()
     ensures { StepsKeepRegisters }
 {}
 
+/// No step changes the level.
+#[tactic(auto, using(crate::proofs::PairLaws::steps_keep_level))]
+pub fn level_law()
+    ensures { StepsKeepLevel }
+{}
+
 /// A chip is sound exactly where its cells break no rule.
 #[tactic(auto, using(crate::proofs::SavedLaws::sound_meets_rules))]
 pub fn rules_law()
     ensures { SoundMeetsRules }
+{}
+
+/// What a chip saves under a set are cells of that set, each in its kind's range.
+#[tactic(auto, using(crate::proofs::SavedLaws::saved_are_cells))]
+pub fn cells_law()
+    ensures { SavedAreCells }
 {}
 
 /// What was saved under any set from the level on is restored as it was.

@@ -1,7 +1,7 @@
 // The commands of OCW2.
 ghost use Rattle.std.specs.Prelude.{◌≡◌};
 
-/// A command of OCW2, by its bits R, SL and EOI ("Operation Command Word 2"). Inputs are 0 to 7.
+/// A command of OCW2, by its bits R, SL and EOI ("Operation Control Word 2 (OCW2)"). Inputs are 0 to 7.
 #[derive(Clone, Copy, Debug, PartialEq, Eq)]
 pub(crate) enum Ocw2 {
     /// Ends the service of highest priority.
