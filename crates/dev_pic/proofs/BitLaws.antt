@@ -1,9 +1,8 @@
 -- Sets of inputs, input by input, and their bounds.
-use Rattle.std.proofs.Common.{◌≡◌, ◌≢◌, ℕ, zero, suc, ◌-◌, ◌<◌, ◌^◌, ◌==◌, min, max, Bool, true, false, not, ◌&&◌, ◌||◌, arith, bit_and, bit_or, refl, sym, ◌∙◌, ap}
+use Rattle.std.proofs.Common.{◌≡◌, ◌≢◌, ℕ, zero, suc, ◌-◌, ◌<◌, ◌^◌, ◌==◌, min, max, Bool, true, false, not, ◌&&◌, ◌||◌, arith, bit_and, bit_or, refl, ◌∙◌, ap}
 use Rattle.std.specs.Int.{bit_at, w8}
 use Rattle.std.proofs.lemmas.Nat.{and_le_l, and_le_r, or_of_8, pow_below}
 use Rattle.std.proofs.lemmas.Nat.Bits.{bit_at_and, bit_at_or, bit_at_not, same_from_bits_below, bit_at-lt, bit_at-pow_same, bit_at-pow_other, same_from_bits}
-use Rattle.std.proofs.lemmas.Bool.Decides.{nat_tests}
 use Rattle.dev_pic.specs.Bits.{has, but_not, with_input, without_input}
 
 not_bit : (r i : ℕ) → r < 256 → i < 8 → bit_at (255 - r) i ≡ 1 - bit_at r i

@@ -1,13 +1,13 @@
 -- Laws of the modes in the data sheet's terms.
-use Rattle.std.proofs.Common.{◌≡◌, ◌≢◌, ℕ, ◌+◌, ◌%◌, ◌<◌, ◌≤◌, Bool, true, false, not, cond, ◌&&◌, ◌||◌, Option, Some, None, refl, arith, sym, ◌∙◌, ap, subst}
+use Rattle.std.proofs.Common.{◌≡◌, ℕ, ◌+◌, ◌<◌, Bool, true, false, not, cond, ◌&&◌, ◌||◌, Option, Some, None, refl, arith, sym, ◌∙◌, ap, subst}
 use Rattle.std.proofs.lemmas.Bool.{false≢true}
 use Rattle.std.specs.Prelude.{bit_and, bit_or}
 use Rattle.dev_pic.specs.Bits.{has, but_not, with_input, without_input}
-use Rattle.dev_pic.specs.Chip.{cascade_input, requests_of, in_service_of, served_of, winner_at, serving, taken, rising, settled, ended, ended_lowest, highest_served, commanded, written_even, vector_of, answered}
-use Rattle.dev_pic.specs.Laws.{MaskedNeverWins, ServedBlocksLower, IsHighestServed, EndsService, EoiEndsHighest, AckWithoutWinner, TakesWinner, requested_after, TakesLinesOver}
+use Rattle.dev_pic.specs.Chip.{cascade_input, requests_of, in_service_of, served_of, winner_at, taken, rising, settled, ended, ended_lowest, highest_served, commanded, written_even, vector_of, answered}
+use Rattle.dev_pic.specs.Laws.{MaskedNeverWins, ServedBlocksLower, IsHighestServed, EndsService, EoiEndsHighest, AckWithoutWinner, TakesWinner, TakesLinesOver}
 use Rattle.dev_pic.specs.Pair.{acked, acked_for}
 use Rattle.dev_pic.specs.Sound.{HasRegisters, PairHasRegisters}
-use Rattle.dev_pic.specs.Winner.{input_at, highest_of, MeansWinner, IsWinner}
+use Rattle.dev_pic.specs.Winner.{input_at, MeansWinner, IsWinner}
 use Rattle.dev_pic.specs.declared.chip.Chip.{Chip}
 use Rattle.dev_pic.specs.declared.chip.Role.{Role}
 use Rattle.dev_pic.specs.declared.chip.Role.TheVariants.{Master, Slave}

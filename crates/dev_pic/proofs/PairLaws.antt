@@ -1,21 +1,20 @@
 -- What each step of the pair keeps.
-use Rattle.std.proofs.Common.{◌≡◌, ℕ, ◌/◌, ◌%◌, ◌<◌, ◌≤◌, ◌^◌, ◌==◌, Bool, true, false, cond, Option, Some, None, IfSome, arith, refl}
+use Rattle.std.proofs.Common.{◌≡◌, ℕ, ◌%◌, ◌<◌, ◌≤◌, ◌^◌, ◌==◌, Bool, true, false, cond, Option, Some, None, IfSome, arith, refl}
 use Rattle.std.proofs.lemmas.Bool.Decides.{nat_tests}
 use Rattle.std.proofs.lemmas.Nat.{or_of_8, and_le_l}
-use Rattle.std.specs.Prelude.{is_some, bit_and, nat_le, ◌||◌, ◌&&◌}
-use Rattle.dev_pic.specs.Bits.{without_input}
+use Rattle.std.specs.Prelude.{bit_and, nat_le}
 use Rattle.dev_pic.specs.Cells.{levels_hold, requests_hold}
-use Rattle.dev_pic.specs.Chip.{level_inputs, winner_at, settled, elcr_written, cascade_input}
+use Rattle.dev_pic.specs.Chip.{level_inputs, winner_at, elcr_written, cascade_input}
 use Rattle.dev_pic.specs.Laws.{StepsKeepRegisters, StepsKeepLevel}
 use Rattle.dev_pic.specs.Levels.{elcr_since, IsLevel}
-use Rattle.dev_pic.specs.Pair.{chip_on, power_on, is_port, with_cascade, slave_int_of, settled_pair, read_pair, written_pair, acked, acked_for}
-use Rattle.dev_pic.specs.Sound.{HasRegisters, IsSoundChip, PairHasRegisters, IsSoundPair}
+use Rattle.dev_pic.specs.Pair.{chip_on, power_on, is_port, with_cascade, settled_pair, read_pair, written_pair, acked, acked_for}
+use Rattle.dev_pic.specs.Sound.{HasRegisters, PairHasRegisters, IsSoundPair}
 use Rattle.dev_pic.specs.declared.chip.Chip.{Chip}
 use Rattle.dev_pic.specs.declared.chip.Role.{Role}
 use Rattle.dev_pic.specs.declared.chip.Role.TheVariants.{Master, Slave}
 use Rattle.dev_pic.specs.declared.pair.PicPair.{PicPair}
 use Rattle.dev_pic.proofs.BitLaws.{without_input-lt, and-twice}
-use Rattle.dev_pic.proofs.StepLaws.{either, winner-lt, settled-sound, taken-registers, written_even-registers, written_odd-registers, read-registers, answered-registers, cascaded-registers}
+use Rattle.dev_pic.proofs.StepLaws.{either, winner-lt, settled-sound, written_even-registers, written_odd-registers, read-registers, answered-registers, cascaded-registers}
 
 -- an answer after which the pair has its registers
 record Kept (answer : ℕ × PicPair) : Type 0 where

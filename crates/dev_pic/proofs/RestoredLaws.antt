@@ -1,5 +1,5 @@
 -- What is restored is sound.
-use Rattle.std.proofs.Common.{◌≡◌, ℕ, ◌<◌, ◌≤◌, ◌%◌, Bool, true, false, not, cond, List, ℤ, pos, negsuc, Option, Some, None, Result, Ok, Err, refl, ap, sym, subst, arith}
+use Rattle.std.proofs.Common.{◌≡◌, ℕ, ◌<◌, ◌≤◌, ◌%◌, Bool, true, false, not, cond, List, ℤ, pos, negsuc, Option, Some, None, Result, Ok, Err, refl, sym, subst, arith}
 use Rattle.std.proofs.lemmas.Bool.Decides.{nat_tests}
 use Rattle.std.proofs.lemmas.Int.{ints}
 use Rattle.vms_kinds.specs.Codes.{InRange}
@@ -8,12 +8,11 @@ use Rattle.dev_pic.specs.Cells.{natural, number_at, IsChipCells, chip_of, regist
 use Rattle.dev_pic.specs.Laws.{RestoredIsSound}
 use Rattle.dev_pic.specs.Levels.{IsLevel}
 use Rattle.dev_pic.specs.Saved.{pair_of, restored_pair}
-use Rattle.dev_pic.specs.Sound.{HasRegisters, IsSoundChip, IsSoundPair}
+use Rattle.dev_pic.specs.Sound.{IsSoundChip, IsSoundPair}
 use Rattle.dev_pic.specs.declared.cells.Cell.TheVariants.{Irr, Isr, Imr, Lines, Lowest, Base, InitState as State, Elcr}
 use Rattle.dev_pic.specs.declared.chip.Chip.{Chip}
 use Rattle.dev_pic.specs.declared.chip.Role.{Role}
 use Rattle.dev_pic.specs.declared.chip.Role.TheVariants.{Master, Slave}
-use Rattle.dev_pic.specs.declared.fault.ChipFault.{ChipFault}
 use Rattle.dev_pic.specs.declared.pair.PicPair.{PicPair}
 
 byte-lt : (z : ℤ) → InRange U8 z → natural z < 256

@@ -1,15 +1,15 @@
 -- What was saved is restored as it was.
-use Rattle.std.proofs.Common.{◌≡◌, ℕ, ◌<◌, ◌≤◌, ◌==◌, ◌%◌, Bool, true, false, not, cond, List, ◌++◌, length, Option, Some, None, Ok, refl, ap, sym, subst, ◌∙◌, arith, ℤ, pos, ⊎_elim}
+use Rattle.std.proofs.Common.{◌≡◌, ℕ, ◌<◌, ◌≤◌, ◌==◌, Bool, true, false, not, cond, List, ◌++◌, length, Option, Some, None, Ok, refl, ap, sym, subst, ◌∙◌, arith, ℤ, pos, ⊎_elim}
 use Rattle.std.proofs.lemmas.Bool.{cases_lt}
 use Rattle.std.proofs.lemmas.Bool.Decides.{nat_tests}
 use Rattle.std.proofs.lemmas.Int.{ints}
-use Rattle.std.specs.Prelude.{nat_le, ◌↔◌}
+use Rattle.std.specs.Prelude.{nat_le}
 use Rattle.vms_hooks.specs.Numbers.{Numbers}
 use Rattle.vms_kinds.specs.Codes.{InRange}
 use Rattle.vms_kinds.specs.declared.Kind.TheVariants.{U8, Bool as Truth}
-use Rattle.dev_pic.specs.Cells.{cell_count, count_of, IsCellsOf, place_of, kind_of, value_at, number_at, flag_number, state_number, state_of, first_cells, elcr_cells, saved_cells, carried, IsChipCells, chip_of, registers_hold, levels_hold, requests_hold, first_fault, restored_by, restored}
+use Rattle.dev_pic.specs.Cells.{cell_count, count_of, IsCellsOf, place_of, kind_of, value_at, flag_number, state_number, state_of, first_cells, elcr_cells, saved_cells, carried, IsChipCells, chip_of, registers_hold, levels_hold, requests_hold, first_fault, restored_by, restored}
 use Rattle.dev_pic.specs.Laws.{SoundMeetsRules, SavedAreCells, SavedIsRestored}
-use Rattle.dev_pic.specs.Levels.{newest, elcr_since, IsLevel}
+use Rattle.dev_pic.specs.Levels.{newest, elcr_since}
 use Rattle.dev_pic.specs.Saved.{IsRestore, CanRestore, pair_of, restored_pair, hook_result, hook_restored}
 use Rattle.dev_pic.specs.Sound.{HasRegisters, IsSoundChip, MeetsRules, IsSoundPair}
 use Rattle.dev_pic.specs.declared.cells.Cell.{Cell}

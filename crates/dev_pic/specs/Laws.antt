@@ -5,7 +5,7 @@ use Rattle.vms_hooks.specs.Numbers.{Numbers}
 use Rattle.dev_pic.specs.Bits.{has}
 use Rattle.dev_pic.specs.Cells.{saved_cells, carried, IsCellsOf, IsChipCells}
 use Rattle.dev_pic.specs.Chip.{cascade_input, in_service_of, winner_at, taken, settled, commanded, written_even}
-use Rattle.dev_pic.specs.Levels.{newest, IsLevel}
+use Rattle.dev_pic.specs.Levels.{IsLevel}
 use Rattle.dev_pic.specs.Pair.{power_on, is_port, acked, settled_pair, read_pair, written_pair}
 use Rattle.dev_pic.specs.Saved.{IsRestore, CanRestore, restored_pair, hook_restored}
 use Rattle.dev_pic.specs.Sound.{HasRegisters, IsSoundChip, MeetsRules, PairHasRegisters, IsSoundPair}

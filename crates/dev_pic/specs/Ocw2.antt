@@ -1,5 +1,5 @@
 -- The commands of OCW2.
-use Rattle.std.specs.Prelude.{ℕ, ◌<◌, ◌/◌, ◌%◌, ◌==◌, Bool, true, false, if◌then◌else◌}
+use Rattle.std.specs.Prelude.{ℕ, ◌<◌, ◌/◌, ◌%◌, ◌==◌, true, false, if◌then◌else◌}
 use Rattle.dev_pic.specs.declared.ocw2.Ocw2.{Ocw2}
 use Rattle.dev_pic.specs.declared.ocw2.Ocw2.TheVariants.{NonSpecificEoi, RotateOnNonSpecificEoi, SpecificEoi, RotateOnSpecificEoi, RotateInAutomaticEoi, SetPriority, NoOperation}
 

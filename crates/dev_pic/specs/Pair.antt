@@ -1,6 +1,6 @@
 -- The steps of the pair.
 use Rattle.std.specs.Prelude.{ℕ, ◌+◌, ◌*◌, ◌/◌, ◌%◌, ◌==◌, Bool, true, false, ◌||◌, ◌&&◌, nat_le, if◌then◌else◌, Option, Some, None, bit_or, is_some}
-use Rattle.dev_pic.specs.Bits.{with_input, without_input}
+use Rattle.dev_pic.specs.Bits.{without_input}
 use Rattle.dev_pic.specs.Chip.{cascade_input, winner_at, settled, written_even, written_odd, elcr_written, read_of, answered, cascaded}
 use Rattle.dev_pic.specs.Levels.{elcr_since}
 use Rattle.dev_pic.specs.declared.chip.Chip.{Chip}
