@@ -1,5 +1,6 @@
 pub mod BitLaws
 pub mod CellLemmas
+pub mod InitLaws
 pub mod ModeLaws
 pub mod PairLaws
 pub mod RestoredLaws

@@ -1,16 +1,17 @@
 -- Laws of the pair in the data sheet's terms, of its steps, and of saving and restoring. Each is named by the
 -- contract of a function.
-use Rattle.std.specs.Prelude.{◌≡◌, ◌≢◌, ℕ, ◌+◌, ◌^◌, ◌<◌, ◌≤◌, Bool, true, false, ◌&&◌, ◌||◌, not, if◌then◌else◌, List, ℤ, ◌++◌, Some, None, Ok, ◌↔◌}
+use Rattle.std.specs.Prelude.{◌≡◌, ◌≢◌, ℕ, ◌+◌, ◌-◌, ◌%◌, ◌^◌, ◌<◌, ◌≤◌, Bool, true, false, ◌&&◌, ◌||◌, not, if◌then◌else◌, List, ℤ, ◌++◌, Some, None, Ok, ◌↔◌, bit_and}
 use Rattle.vms_hooks.specs.Numbers.{Numbers}
 use Rattle.dev_pic.specs.Bits.{has}
 use Rattle.dev_pic.specs.Cells.{saved_cells, carried, IsCellsOf, IsChipCells}
-use Rattle.dev_pic.specs.Chip.{cascade_input, in_service_of, winner_at, taken, settled, commanded, written_even}
+use Rattle.dev_pic.specs.Chip.{cascade_input, in_service_of, winner_at, taken, settled, commanded, written_even, written_odd}
 use Rattle.dev_pic.specs.Levels.{IsLevel}
 use Rattle.dev_pic.specs.Pair.{power_on, is_port, acked, settled_pair, read_pair, written_pair}
 use Rattle.dev_pic.specs.Saved.{IsRestore, CanRestore, restored_pair, hook_restored}
 use Rattle.dev_pic.specs.Sound.{HasRegisters, IsSoundChip, MeetsRules, PairHasRegisters, IsSoundPair}
 use Rattle.dev_pic.specs.Winner.{input_at, winner_of, MeansWinner}
 use Rattle.dev_pic.specs.declared.chip.Chip.{Chip}
+use Rattle.dev_pic.specs.declared.chip.InitState.TheVariants.{Ready}
 use Rattle.dev_pic.specs.declared.chip.Role.{Role}
 use Rattle.dev_pic.specs.declared.chip.Role.TheVariants.{Master, Slave}
 use Rattle.dev_pic.specs.declared.ocw2.Ocw2.TheVariants.{NonSpecificEoi, RotateOnNonSpecificEoi}
@@ -51,6 +52,23 @@ pub record EoiEndsHighest : Type 0 where
   pub highest : (chip : Chip) (input : ℕ) → chip.isr < 256 → IsHighestServed chip input → EndsService input chip (commanded NonSpecificEoi chip) × ((commanded NonSpecificEoi chip).lowest ≡ chip.lowest)
   pub rotating : (chip : Chip) (input : ℕ) → chip.isr < 256 → IsHighestServed chip input → EndsService input chip (commanded RotateOnNonSpecificEoi chip) × ((commanded RotateOnNonSpecificEoi chip).lowest ≡ input)
   pub nothing : (chip : Chip) → ((input : ℕ) → input < 8 → has (in_service_of chip) input ≡ false) → (commanded NonSpecificEoi chip ≡ chip) × (commanded RotateOnNonSpecificEoi chip ≡ chip)
+
+-- a chip after its initialization words: OCW1 comes next, the vectors and the modes are those of the words, nothing
+-- is in service or masked, priority is fully nested, and only level inputs are still requested
+pub record IsInitialized (vectors : ℕ) (auto_eoi nested : Bool) (chip after : Chip) : Type 0 where
+  pub ready : after.init_state ≡ Ready
+  pub base : after.base ≡ vectors - vectors % 8
+  pub modes : (after.auto_eoi ≡ auto_eoi) × (after.nested ≡ nested) × (after.special_mask ≡ false) × (after.rotate ≡ false)
+  pub clear : (after.isr ≡ 0) × (after.imr ≡ 0) × (after.lowest ≡ 7)
+  pub shows_irr : (after.poll ≡ false) × (after.read_isr ≡ false)
+  pub kept : (after.irr ≡ bit_and chip.irr chip.elcr) × (after.lines ≡ chip.lines) × (after.elcr ≡ chip.elcr)
+
+-- bit 0 of ICW1 announces ICW4, without which both its modes are off, and bit 1 says that no ICW3 comes
+pub record InitializesByWords : Type 0 where
+  pub all : (chip : Chip) (icw1 icw2 icw3 icw4 : ℕ) → has icw1 4 ≡ true → has icw1 0 ≡ true → has icw1 1 ≡ false → IsInitialized icw2 (has icw4 1) (has icw4 4) chip (written_odd icw4 (written_odd icw3 (written_odd icw2 (written_even icw1 chip))))
+  pub single : (chip : Chip) (icw1 icw2 icw4 : ℕ) → has icw1 4 ≡ true → has icw1 0 ≡ true → has icw1 1 ≡ true → IsInitialized icw2 (has icw4 1) (has icw4 4) chip (written_odd icw4 (written_odd icw2 (written_even icw1 chip)))
+  pub without_icw4 : (chip : Chip) (icw1 icw2 icw3 : ℕ) → has icw1 4 ≡ true → has icw1 0 ≡ false → has icw1 1 ≡ false → IsInitialized icw2 false false chip (written_odd icw3 (written_odd icw2 (written_even icw1 chip)))
+  pub shortest : (chip : Chip) (icw1 icw2 : ℕ) → has icw1 4 ≡ true → has icw1 0 ≡ false → has icw1 1 ≡ true → IsInitialized icw2 false false chip (written_odd icw2 (written_even icw1 chip))
 
 -- an acknowledge without a winner of the master answers the master's base + 7 and changes nothing; where the
 -- slave's output was taken and the slave has no winner, the slave's base + 7 is answered and the slave is unchanged

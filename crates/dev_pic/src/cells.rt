@@ -30,6 +30,7 @@ pub(crate) enum Cell {
 }
 
 impl Cell {
+    /// The cell's place among those of the newest set.
     fn place(self) -> usize
         ensures place { result ≡ place_of self }
         ensures within { result < cell_count }
@@ -38,6 +39,7 @@ impl Cell {
     }
 }
 
+// A cell that holds a byte.
 fn byte_at(cells: &DevCells, cell: Cell) -> u8
     requires cells { IsChipCells cells.now.items }
     requires kind { kind_of cell ≡ Kind.U8 }
@@ -46,6 +48,7 @@ fn byte_at(cells: &DevCells, cell: Cell) -> u8
     cells[cell.place()] as u8
 }
 
+// A cell that holds a truth value.
 fn flag_at(cells: &DevCells, cell: Cell) -> bool
     requires cells { IsChipCells cells.now.items }
     requires kind { kind_of cell ≡ Kind.Bool }
@@ -90,6 +93,7 @@ fn state_number(state: InitState) -> u8
     state as u8
 }
 
+// The state of a number up to 3; rule 1 refuses the others before.
 fn state_of(number: u8) -> InitState
     ensures { result ≡ state_of_number number }
 {

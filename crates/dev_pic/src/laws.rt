@@ -1,5 +1,5 @@
 // Laws of the definitions that the contracts of the pair cite. Each function does nothing; its clause is a law.
-ghost use Rattle.dev_pic.specs.Laws.{WinnerIsLeastRequest, MaskedNeverWins, ServedBlocksLower, EoiEndsHighest, AckWithoutWinner, TakesWinner, TakesLinesOver, StepsKeepRegisters, StepsKeepLevel, SoundMeetsRules, SavedAreCells, SavedIsRestored, RestoredIsSound};
+ghost use Rattle.dev_pic.specs.Laws.{WinnerIsLeastRequest, MaskedNeverWins, ServedBlocksLower, EoiEndsHighest, InitializesByWords, AckWithoutWinner, TakesWinner, TakesLinesOver, StepsKeepRegisters, StepsKeepLevel, SoundMeetsRules, SavedAreCells, SavedIsRestored, RestoredIsSound};
 
 /// The winner is the requested input of highest priority, where it comes strictly before every input in
 /// service ("Interrupt Request Register (IRR) and In-Service Register (ISR)", "Priority Resolver").
@@ -12,6 +12,12 @@ pub fn winner_law()
 #[tactic(auto, using(crate::proofs::ModeLaws::masked_never_wins))]
 pub fn mask_law()
     ensures { MaskedNeverWins }
+{}
+
+/// What the initialization words leave ("Initialization Command Words (ICWs)").
+#[tactic(auto, using(crate::proofs::InitLaws::initializes_by_words))]
+pub fn initialization_law()
+    ensures { InitializesByWords }
 {}
 
 /// In fully nested mode an input in service blocks itself and each input of lower priority ("Fully Nested

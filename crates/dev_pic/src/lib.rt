@@ -15,8 +15,8 @@ mod winner;
 pub use fault::ChipFault;
 pub use hooks::{load_pair, save_pair};
 pub use laws::{
-    cells_law, default_law, eoi_law, level_law, lines_law, mask_law, nesting_law, restored_law,
-    rules_law, saved_law, service_law, steps_law, winner_law,
+    cells_law, default_law, eoi_law, initialization_law, level_law, lines_law, mask_law,
+    nesting_law, restored_law, rules_law, saved_law, service_law, steps_law, winner_law,
 };
 pub use pair::PicPair;
 
