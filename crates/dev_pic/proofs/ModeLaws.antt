@@ -14,13 +14,13 @@ use Rattle.dev_pic.specs.declared.chip.Role.TheVariants.{Master, Slave}
 use Rattle.dev_pic.specs.declared.ocw2.Ocw2.TheVariants.{NonSpecificEoi, RotateOnNonSpecificEoi}
 use Rattle.dev_pic.specs.declared.pair.PicPair.{PicPair}
 use Rattle.dev_pic.proofs.BitLaws.{has-and, has-or, has-but_not, has-without_same, has-without_other, has-with_same}
-use Rattle.dev_pic.proofs.WinnerLaws.{winner_is_least_request, highest_at, highest_none}
+use Rattle.dev_pic.proofs.WinnerLaws.{winner_of-means, highest_at, highest_none}
 
 -- the winner of a chip meets the relation
 won : (role : Role) (chip : Chip) (input : ℕ) → winner_at role chip ≡ Some input → IsWinner chip.lowest (requests_of chip) (served_of role chip) input
 unfolding winner_at
 won role chip input e =
-    subst (MeansWinner chip.lowest (requests_of chip) (served_of role chip)) e (winner_is_least_request chip.lowest (requests_of chip) (served_of role chip))
+    subst (MeansWinner chip.lowest (requests_of chip) (served_of role chip)) e (winner_of-means chip.lowest (requests_of chip) (served_of role chip))
 
 and_not_true : (b : Bool) → (b && not true) ≡ false
 and_not_true true = refl

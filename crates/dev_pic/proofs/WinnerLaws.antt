@@ -1,10 +1,10 @@
 -- The search for a winner finds what the relation says.
-use Rattle.std.proofs.Common.{◌≡◌, ℕ, zero, suc, ◌<◌, ◌≤◌, Bool, true, false, cond, List, [], ◌∷◌, Option, Some, None, refl, arith, find, length, get_or, sym, MatchOption, subst, ◌∙◌, ap}
-use Rattle.std.proofs.lemmas.Bool.{false≢true}
+use Rattle.std.proofs.Common.{◌≡◌, ℕ, zero, suc, ◌<◌, ◌≤◌, Bool, true, false, cond, List, [], ◌∷◌, Option, Some, None, refl, arith, find, length, get_or, sym, MatchOption, subst, ◌∙◌, ap, ⊎_elim}
+use Rattle.std.proofs.lemmas.Bool.{cases_lt, false≢true}
 use Rattle.std.proofs.lemmas.List.FromFn.{get_or-map-range_with_len}
 use Rattle.dev_pic.specs.Bits.{has}
 use Rattle.dev_pic.specs.Laws.{WinnerIsLeastRequest}
-use Rattle.dev_pic.specs.Winner.{input_at, order, before, ready_among, winner_of, highest_of, MeansWinner}
+use Rattle.dev_pic.specs.Winner.{input_at, order, before, ready_among, winner_of, highest_of, IsWinner, MeansWinner}
 
 -- what a search means, by places of the list
 record FoundAt (p q : ℕ → Bool) (xs : List ℕ) (w : ℕ) : Type 0 where
@@ -83,10 +83,31 @@ turned lowest requests served (Some w) m = record {
   before_served = λ k h. subst (λ (i : ℕ). has served i ≡ false) (at lowest k (omega (arith, m.within))) (m.clear k h);
 }
 
-pub winner_is_least_request : WinnerIsLeastRequest
+pub winner_of-means : (lowest requests served : ℕ) → MeansWinner lowest requests served (winner_of lowest requests served)
 unfolding winner_of ready_among
-winner_is_least_request lowest requests served =
+winner_of-means lowest requests served =
     turned lowest requests served _ (means (has served) (has requests) (order lowest))
+
+-- no two inputs meet the relation, and none does where there is no winner
+only_for : (lowest requests served winner : ℕ) (o : Option ℕ) → MeansWinner lowest requests served o → IsWinner lowest requests served winner → o ≡ Some winner
+only_for lowest requests served winner None none w =
+    let here = subst (λ (i : ℕ). has requests i ≡ true) w.in_order.1 w.requested in
+    let blocked = none w.place w.in_order.0 here in
+    absurd (false≢true (sym (w.before_served blocked.0 blocked.1) ∙ blocked.2))
+only_for lowest requests served winner (Some found) f w =
+    let asked = subst (λ (i : ℕ). has requests i ≡ true) w.in_order.1 w.requested in
+    let found_asked = subst (λ (i : ℕ). has requests i ≡ true) f.in_order.1 f.requested in
+    ⊎_elim (λ less. absurd (false≢true (sym (w.least f.place less) ∙ found_asked)))
+    (λ le. ⊎_elim (λ more. absurd (false≢true (sym (f.least w.place more) ∙ asked)))
+    (λ ge. let same : f.place ≡ w.place = omega arith in
+    ap Some (f.in_order.1 ∙ ap (input_at lowest) same ∙ sym w.in_order.1)) (cases_lt w.place f.place))
+    (cases_lt f.place w.place)
+
+pub winner_is_least_request : WinnerIsLeastRequest
+winner_is_least_request = record {
+  means = winner_of-means;
+  only = λ lowest requests served winner w. only_for lowest requests served winner (winner_of lowest requests served) (winner_of-means lowest requests served) w;
+}
 
 -- the first of a list that passes
 find_at : (q : ℕ → Bool) (xs : List ℕ) (k : ℕ) → k < length xs → q (get_or xs k 0) ≡ true → ((j : ℕ) → j < k → q (get_or xs j 0) ≡ false) → find q xs ≡ Some (get_or xs k 0)

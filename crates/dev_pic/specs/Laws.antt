@@ -9,7 +9,7 @@ use Rattle.dev_pic.specs.Levels.{IsLevel}
 use Rattle.dev_pic.specs.Pair.{power_on, is_port, acked, settled_pair, read_pair, written_pair}
 use Rattle.dev_pic.specs.Saved.{IsRestore, CanRestore, restored_pair, hook_restored}
 use Rattle.dev_pic.specs.Sound.{HasRegisters, IsSoundChip, MeetsRules, PairHasRegisters, IsSoundPair}
-use Rattle.dev_pic.specs.Winner.{input_at, winner_of, MeansWinner}
+use Rattle.dev_pic.specs.Winner.{input_at, winner_of, IsWinner, MeansWinner}
 use Rattle.dev_pic.specs.declared.chip.Chip.{Chip}
 use Rattle.dev_pic.specs.declared.chip.InitState.TheVariants.{Ready}
 use Rattle.dev_pic.specs.declared.chip.Role.{Role}
@@ -18,9 +18,9 @@ use Rattle.dev_pic.specs.declared.ocw2.Ocw2.TheVariants.{NonSpecificEoi, RotateO
 use Rattle.dev_pic.specs.declared.pair.PicPair.{PicPair}
 
 -- the winner is the requested input of highest priority, where it comes strictly before every input in service
-abbrev pub WinnerIsLeastRequest : Type 0
-WinnerIsLeastRequest =
-    (lowest requests served : ℕ) → MeansWinner lowest requests served (winner_of lowest requests served)
+pub record WinnerIsLeastRequest : Type 0 where
+  pub means : (lowest requests served : ℕ) → MeansWinner lowest requests served (winner_of lowest requests served)
+  pub only : (lowest requests served winner : ℕ) → IsWinner lowest requests served winner → winner_of lowest requests served ≡ Some winner
 
 -- a request that is masked never wins
 abbrev pub MaskedNeverWins : Type 0

@@ -2,7 +2,8 @@
 ghost use Rattle.dev_pic.specs.Laws.{WinnerIsLeastRequest, MaskedNeverWins, ServedBlocksLower, EoiEndsHighest, InitializesByWords, AckWithoutWinner, TakesWinner, TakesLinesOver, StepsKeepRegisters, StepsKeepLevel, SoundMeetsRules, SavedAreCells, SavedIsRestored, RestoredIsSound};
 
 /// The winner is the requested input of highest priority, where it comes strictly before every input in
-/// service ("Interrupt Request Register (IRR) and In-Service Register (ISR)", "Priority Resolver").
+/// service, and no other input is one ("Interrupt Request Register (IRR) and In-Service Register (ISR)",
+/// "Priority Resolver").
 #[tactic(auto, using(crate::proofs::WinnerLaws::winner_is_least_request))]
 pub fn winner_law()
     ensures { WinnerIsLeastRequest }
