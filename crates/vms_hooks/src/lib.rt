@@ -15,3 +15,6 @@ pub use fault::HookFault;
 pub use hooks::{Hooked, Hooks, load_by, save_by};
 pub use pass::Pass;
 pub use steps::{LoadStep, SaveStep};
+
+#[cfg(test)]
+mod tests;

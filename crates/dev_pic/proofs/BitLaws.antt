@@ -1,0 +1,106 @@
+-- Sets of inputs, input by input, and their bounds.
+use Rattle.std.proofs.Common.{◌≡◌, ◌≢◌, ℕ, zero, suc, ◌-◌, ◌<◌, ◌^◌, ◌==◌, min, max, Bool, true, false, not, ◌&&◌, ◌||◌, arith, bit_and, bit_or, refl, ◌∙◌, ap}
+use Rattle.std.specs.Int.{bit_at, w8}
+use Rattle.std.proofs.lemmas.Nat.{and_le_l, and_le_r, or_of_8, pow_below}
+use Rattle.std.proofs.lemmas.Nat.Bits.{bit_at_and, bit_at_or, bit_at_not, same_from_bits_below, bit_at-lt, bit_at-pow_same, bit_at-pow_other, same_from_bits}
+use Rattle.dev_pic.specs.Bits.{has, but_not, with_input, without_input}
+
+not_bit : (r i : ℕ) → r < 256 → i < 8 → bit_at (255 - r) i ≡ 1 - bit_at r i
+not_bit r i h l = bit_at_not w8 r i h l
+
+pow_lt : (i : ℕ) → i < 8 → 2 ^ i < 256
+pow_lt i h = pow_below i 8 h
+
+-- tests of bits
+min_test : (a b : ℕ) → a < 2 → b < 2 → (min a b == 1) ≡ ((a == 1) && (b == 1))
+min_test zero zero h l = refl
+min_test zero (suc zero) h l = refl
+min_test (suc zero) zero h l = refl
+min_test (suc zero) (suc zero) h l = refl
+min_test (suc (suc a)) b h l = absurd (omega arith)
+min_test a (suc (suc b)) h l = absurd (omega arith)
+
+max_test : (a b : ℕ) → a < 2 → b < 2 → (max a b == 1) ≡ ((a == 1) || (b == 1))
+max_test zero zero h l = refl
+max_test zero (suc zero) h l = refl
+max_test (suc zero) zero h l = refl
+max_test (suc zero) (suc zero) h l = refl
+max_test (suc (suc a)) b h l = absurd (omega arith)
+max_test a (suc (suc b)) h l = absurd (omega arith)
+
+not_test : (a : ℕ) → a < 2 → ((1 - a) == 1) ≡ not (a == 1)
+not_test zero h = refl
+not_test (suc zero) h = refl
+not_test (suc (suc a)) h = absurd (omega arith)
+
+pub has-and : (a b i : ℕ) → has (bit_and a b) i ≡ (has a i && has b i)
+has-and a b i =
+    ap (λ n. n == 1) (bit_at_and a b i) ∙ min_test (bit_at a i) (bit_at b i) (bit_at-lt a i) (bit_at-lt b i)
+
+pub has-or : (a b i : ℕ) → has (bit_or a b) i ≡ (has a i || has b i)
+has-or a b i =
+    ap (λ n. n == 1) (bit_at_or a b i) ∙ max_test (bit_at a i) (bit_at b i) (bit_at-lt a i) (bit_at-lt b i)
+
+pub has-but_not : (a b i : ℕ) → b < 256 → i < 8 → has (but_not a b) i ≡ (has a i && not (has b i))
+unfolding but_not
+has-but_not a b i h l =
+    has-and a (255 - b) i ∙ ap (λ t. has a i && t) (ap (λ n. n == 1) (not_bit b i h l) ∙ not_test (bit_at b i) (bit_at-lt b i))
+
+-- a set of one input
+pub has-one : (i : ℕ) → has (2 ^ i) i ≡ true
+has-one i = ap (λ n. n == 1) (bit_at-pow_same i)
+
+pub has-one_other : (i other : ℕ) → other ≢ i → has (2 ^ i) other ≡ false
+has-one_other i other h = ap (λ n. n == 1) (bit_at-pow_other i other h)
+
+and_not_true : (b : Bool) → (b && not true) ≡ false
+and_not_true true = refl
+and_not_true false = refl
+
+and_not_false : (b : Bool) → (b && not false) ≡ b
+and_not_false true = refl
+and_not_false false = refl
+
+or_true : (b : Bool) → (b || true) ≡ true
+or_true true = refl
+or_true false = refl
+
+-- an input that is taken out or put in
+pub has-without_same : (r i : ℕ) → i < 8 → has (without_input r i) i ≡ false
+unfolding without_input
+has-without_same r i h =
+    has-but_not r (2 ^ i) i (pow_lt i h) h ∙ ap (λ t. has r i && not t) (has-one i) ∙ and_not_true (has r i)
+
+pub has-without_other : (r i other : ℕ) → i < 8 → other < 8 → other ≢ i → has (without_input r i) other ≡ has r other
+unfolding without_input
+has-without_other r i other h l n =
+    has-but_not r (2 ^ i) other (pow_lt i h) l ∙ ap (λ t. has r other && not t) (has-one_other i other n) ∙ and_not_false (has r other)
+
+pub has-with_same : (r i : ℕ) → has (with_input r i) i ≡ true
+unfolding with_input
+has-with_same r i =
+    has-or r (2 ^ i) i ∙ ap (λ t. has r i || t) (has-one i) ∙ or_true (has r i)
+
+-- bounds
+pub but_not-lt : (a b : ℕ) → a < 256 → but_not a b < 256
+unfolding but_not
+but_not-lt a b h = omega (arith, and_le_l a (255 - b))
+
+pub without_input-lt : (r i : ℕ) → r < 256 → without_input r i < 256
+unfolding without_input
+without_input-lt r i h = but_not-lt r (2 ^ i) h
+
+pub with_input-lt : (r i : ℕ) → r < 256 → i < 8 → with_input r i < 256
+unfolding with_input
+with_input-lt r i h l = or_of_8 r (2 ^ i) h (pow_lt i l)
+
+-- where requests of level inputs are made their lines, they agree
+pub level-lines : (x i e : ℕ) → x < 256 → i < 256 → e < 256 → bit_and (bit_or (bit_and x (255 - e)) (bit_and i e)) e ≡ bit_and i e
+level-lines x i e hx hi he =
+    same_from_bits_below 8 _ _ (omega (arith, and_le_r (bit_or (bit_and x (255 - e)) (bit_and i e)) e)) (omega (arith, and_le_r i e))
+    (λ k h. simp (bit_at_and, bit_at_or, not_bit e k he h) (omega (arith, bit_at-lt x k, bit_at-lt i k, bit_at-lt e k)))
+
+-- to mask twice is to mask once
+pub and-twice : (v m : ℕ) → bit_and (bit_and v m) m ≡ bit_and v m
+and-twice v m =
+    same_from_bits _ _ (λ k. simp bit_at_and (omega arith))

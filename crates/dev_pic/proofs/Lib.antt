@@ -1,0 +1,10 @@
+pub mod BitLaws
+pub mod CellLemmas
+pub mod InitLaws
+pub mod ModeLaws
+pub mod PairLaws
+pub mod RestoredLaws
+pub mod SavedLaws
+pub mod StepLaws
+pub mod WinnerLaws
+pub mod WinnerLemmas

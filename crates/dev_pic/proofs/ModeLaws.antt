@@ -1,0 +1,169 @@
+-- Laws of the modes in the data sheet's terms.
+use Rattle.std.proofs.Common.{◌≡◌, ℕ, ◌+◌, ◌<◌, Bool, true, false, not, cond, ◌&&◌, ◌||◌, Option, Some, None, refl, arith, sym, ◌∙◌, ap, subst}
+use Rattle.std.proofs.lemmas.Bool.{false≢true}
+use Rattle.std.specs.Prelude.{bit_and, bit_or}
+use Rattle.dev_pic.specs.Bits.{has, but_not, with_input, without_input}
+use Rattle.dev_pic.specs.Chip.{cascade_input, requests_of, in_service_of, served_of, winner_at, taken, rising, settled, ended, ended_lowest, highest_served, commanded, written_even, vector_of, answered}
+use Rattle.dev_pic.specs.Laws.{MaskedNeverWins, ServedBlocksLower, IsHighestServed, EndsService, EoiEndsHighest, AckWithoutWinner, TakesWinner, TakesLinesOver}
+use Rattle.dev_pic.specs.Pair.{acked, acked_for}
+use Rattle.dev_pic.specs.Sound.{HasRegisters, PairHasRegisters}
+use Rattle.dev_pic.specs.Winner.{input_at, MeansWinner, IsWinner}
+use Rattle.dev_pic.specs.declared.chip.Chip.{Chip}
+use Rattle.dev_pic.specs.declared.chip.Role.{Role}
+use Rattle.dev_pic.specs.declared.chip.Role.TheVariants.{Master, Slave}
+use Rattle.dev_pic.specs.declared.ocw2.Ocw2.TheVariants.{NonSpecificEoi, RotateOnNonSpecificEoi}
+use Rattle.dev_pic.specs.declared.pair.PicPair.{PicPair}
+use Rattle.dev_pic.proofs.BitLaws.{has-and, has-or, has-but_not, has-without_same, has-without_other, has-with_same}
+use Rattle.dev_pic.proofs.WinnerLaws.{winner_of-means, highest_at, highest_none}
+
+-- the winner of a chip meets the relation
+won : (role : Role) (chip : Chip) (input : ℕ) → winner_at role chip ≡ Some input → IsWinner chip.lowest (requests_of chip) (served_of role chip) input
+unfolding winner_at
+won role chip input e =
+    subst (MeansWinner chip.lowest (requests_of chip) (served_of role chip)) e (winner_of-means chip.lowest (requests_of chip) (served_of role chip))
+
+and_not_true : (b : Bool) → (b && not true) ≡ false
+and_not_true true = refl
+and_not_true false = refl
+
+pub masked_never_wins : MaskedNeverWins
+masked_never_wins role chip input bound within masked e =
+    let requested = (won role chip input e).requested in
+    let unmasked = has-but_not chip.irr chip.imr input bound within ∙ ap (λ t. has chip.irr input && not t) masked ∙ and_not_true (has chip.irr input) in
+    false≢true (sym unmasked ∙ requested)
+
+-- outside special mask and special fully nested mode all of isr counts
+plain_service : (role : Role) (chip : Chip) → chip.special_mask ≡ false → chip.nested ≡ false → served_of role chip ≡ chip.isr
+unfolding served_of
+plain_service Master chip mask nested = simp (mask, nested)
+plain_service Slave chip mask nested = simp mask
+
+same_place : (lowest place other : ℕ) → place < 8 → other < 8 → input_at lowest place ≡ input_at lowest other → place ≡ other
+same_place lowest place other h l e = omega arith
+
+pub served_blocks_lower : ServedBlocksLower
+served_blocks_lower role chip place lower mask nested le within served e =
+    let w = won role chip (input_at chip.lowest lower) e in
+    let same = same_place chip.lowest lower w.place within w.in_order.0 w.in_order.1 in
+    let clear = w.before_served place (omega (arith, same)) in
+    false≢true (sym (rw (plain_service role chip mask nested) at clear) ∙ served)
+
+-- what an end of the service of an input means
+ends : (chip : Chip) (input : ℕ) → input < 8 → EndsService input chip (ended (Some input) chip)
+unfolding ended
+ends chip input within = record {
+  ended = has-without_same chip.isr input within;
+  others = λ other h n. has-without_other chip.isr input other within h n;
+  rest = refl;
+}
+
+ends_lowest : (chip : Chip) (input : ℕ) → input < 8 → EndsService input chip (ended_lowest (Some input) chip)
+unfolding ended_lowest
+ends_lowest chip input within = record {
+  ended = has-without_same chip.isr input within;
+  others = λ other h n. has-without_other chip.isr input other within h n;
+  rest = refl;
+}
+
+found : (chip : Chip) (input : ℕ) → IsHighestServed chip input → highest_served chip ≡ Some input
+found chip input h =
+    let e = h.in_order.1 in
+    highest_at chip.lowest (in_service_of chip) h.place h.in_order.0 (subst (λ (i : ℕ). has (in_service_of chip) i ≡ true) e h.served) h.highest
+    ∙ ap Some (sym e)
+
+is_input : (chip : Chip) (input : ℕ) → IsHighestServed chip input → input < 8
+is_input chip input h = let e = h.in_order.1 in omega arith
+
+ends_highest : (chip : Chip) (input : ℕ) → chip.isr < 256 → IsHighestServed chip input → EndsService input chip (commanded NonSpecificEoi chip) × ((commanded NonSpecificEoi chip).lowest ≡ chip.lowest)
+unfolding commanded ended
+ends_highest chip input bound h =
+    subst (λ (o : Option ℕ). EndsService input chip (ended o chip) × ((ended o chip).lowest ≡ chip.lowest)) (sym (found chip input h)) (ends chip input (is_input chip input h), refl)
+
+rotates_highest : (chip : Chip) (input : ℕ) → chip.isr < 256 → IsHighestServed chip input → EndsService input chip (commanded RotateOnNonSpecificEoi chip) × ((commanded RotateOnNonSpecificEoi chip).lowest ≡ input)
+unfolding commanded ended_lowest
+rotates_highest chip input bound h =
+    subst (λ (o : Option ℕ). EndsService input chip (ended_lowest o chip) × ((ended_lowest o chip).lowest ≡ input)) (sym (found chip input h)) (ends_lowest chip input (is_input chip input h), refl)
+
+ends_nothing : (chip : Chip) → ((input : ℕ) → input < 8 → has (in_service_of chip) input ≡ false) → (commanded NonSpecificEoi chip ≡ chip) × (commanded RotateOnNonSpecificEoi chip ≡ chip)
+unfolding commanded ended ended_lowest
+ends_nothing chip none =
+    let e = highest_none chip.lowest (in_service_of chip) none in
+    (ap (λ o. ended o chip) e, ap (λ o. ended_lowest o chip) e)
+
+eoi_words : (chip : Chip) → (written_even 0x20 chip ≡ commanded NonSpecificEoi chip) × (written_even 0xa0 chip ≡ commanded RotateOnNonSpecificEoi chip)
+unfolding written_even
+eoi_words chip = (refl, refl)
+
+pub eoi_ends_highest : EoiEndsHighest
+eoi_ends_highest = record { words = eoi_words; highest = ends_highest; rotating = rotates_highest; nothing = ends_nothing }
+
+-- the vector of an input is base + that input where base has bits 2 to 0 clear
+plain_vector : (level : ℕ) (role : Role) (chip : Chip) (input : ℕ) → input < 8 → HasRegisters level role chip → vector_of chip input ≡ chip.base + input
+plain_vector level role chip input within h =
+    let base = h.base in
+    let vectors = h.vectors in
+    omega arith
+
+master_unasked : (pair : PicPair) → PairHasRegisters pair → winner_at Master pair.master ≡ None → acked pair ≡ (pair.master.base + 7, pair)
+unfolding acked_for answered
+master_unasked pair h none =
+    rw none (ap (λ n. (n, pair)) (plain_vector pair.level Master pair.master 7 (omega arith) h.master))
+
+slave_unasked : (pair : PicPair) → PairHasRegisters pair → winner_at Master pair.master ≡ Some cascade_input → winner_at Slave pair.slave ≡ None → ((acked pair).0 ≡ pair.slave.base + 7) × ((acked pair).1.slave ≡ pair.slave)
+unfolding acked_for answered
+slave_unasked pair h taken none =
+    rw (taken, none) (plain_vector pair.level Slave pair.slave 7 (omega arith) h.slave, refl)
+
+pub ack_without_winner : AckWithoutWinner
+ack_without_winner = record { master = master_unasked; slave = slave_unasked }
+
+-- parts of a chip that is taken, by whether the input is a level input
+edge_irr : (chip : Chip) (winner : ℕ) → has chip.elcr winner ≡ false → (taken winner chip).irr ≡ without_input chip.irr winner
+unfolding taken
+edge_irr chip winner e = rw e
+
+level_irr : (chip : Chip) (winner : ℕ) → has chip.elcr winner ≡ true → (taken winner chip).irr ≡ chip.irr
+unfolding taken
+level_irr chip winner e = rw e (serving_irr chip.auto_eoi chip.rotate) where
+  serving_irr : (auto rotate : Bool) → (cond auto (cond rotate (record chip { lowest = winner }) chip) (record chip { isr = with_input chip.isr winner })).irr ≡ chip.irr
+  serving_irr true true = refl
+  serving_irr true false = refl
+  serving_irr false rotate = refl
+
+isr_by : (chip : Chip) (winner : ℕ) (auto level : Bool) → auto ≡ false → (let after = cond auto (cond chip.rotate (record chip { lowest = winner }) chip) (record chip { isr = with_input chip.isr winner }) in (cond level after (record after { irr = without_input chip.irr winner })).isr) ≡ with_input chip.isr winner
+isr_by chip winner true level e = absurd (false≢true (sym e))
+isr_by chip winner false true e = refl
+isr_by chip winner false false e = refl
+
+served_isr : (chip : Chip) (winner : ℕ) → chip.auto_eoi ≡ false → (taken winner chip).isr ≡ with_input chip.isr winner
+unfolding taken
+served_isr chip winner e = isr_by chip winner chip.auto_eoi (has chip.elcr winner) e
+
+pub takes_winner : TakesWinner
+takes_winner = record {
+  edge = λ chip winner bound within e. ap (λ r. has r winner) (edge_irr chip winner e) ∙ has-without_same chip.irr winner within;
+  level = level_irr;
+  served = λ chip winner bound within e. ap (λ r. has r winner) (served_isr chip winner e) ∙ has-with_same chip.isr winner;
+}
+
+-- a level input by its line, another by its request
+by_mode : (requested line level : Bool) → ((requested && not level) || (line && level)) ≡ cond level line requested
+by_mode true true true = refl
+by_mode true true false = refl
+by_mode true false true = refl
+by_mode true false false = refl
+by_mode false true true = refl
+by_mode false true false = refl
+by_mode false false true = refl
+by_mode false false false = refl
+
+pub takes_lines_over : TakesLinesOver
+unfolding settled
+takes_lines_over inputs edges chip input lines elcr within =
+    let rises = has-or (but_not inputs chip.lines) edges input ∙ ap (λ t. t || has edges input) (has-but_not inputs chip.lines input lines within) in
+    let kept = has-or chip.irr (rising inputs edges chip) input ∙ ap (λ t. has chip.irr input || t) rises in
+    let edge = has-but_not (bit_or chip.irr (rising inputs edges chip)) chip.elcr input elcr within ∙ ap (λ t. t && not (has chip.elcr input)) kept in
+    has-or (but_not (bit_or chip.irr (rising inputs edges chip)) chip.elcr) (bit_and inputs chip.elcr) input
+    ∙ ap (λ t. t || has (bit_and inputs chip.elcr) input) edge
+    ∙ ap (λ t. ((has chip.irr input || ((has inputs input && not (has chip.lines input)) || has edges input)) && not (has chip.elcr input)) || t) (has-and inputs chip.elcr input)
+    ∙ by_mode (has chip.irr input || ((has inputs input && not (has chip.lines input)) || has edges input)) (has inputs input) (has chip.elcr input)

@@ -1,0 +1,180 @@
+-- What each step of the pair keeps.
+use Rattle.std.proofs.Common.{◌≡◌, ℕ, ◌%◌, ◌<◌, ◌≤◌, ◌^◌, ◌==◌, Bool, true, false, cond, Option, Some, None, IfSome, arith, refl}
+use Rattle.std.proofs.lemmas.Bool.Decides.{nat_tests}
+use Rattle.std.proofs.lemmas.Nat.{or_of_8, and_le_l}
+use Rattle.std.specs.Prelude.{bit_and, nat_le}
+use Rattle.dev_pic.specs.Cells.{levels_hold, requests_hold}
+use Rattle.dev_pic.specs.Chip.{level_inputs, winner_at, elcr_written, cascade_input}
+use Rattle.dev_pic.specs.Laws.{StepsKeepRegisters, StepsKeepLevel}
+use Rattle.dev_pic.specs.Levels.{elcr_since, IsLevel}
+use Rattle.dev_pic.specs.Pair.{chip_on, power_on, is_port, with_cascade, settled_pair, read_pair, written_pair, acked, acked_for}
+use Rattle.dev_pic.specs.Sound.{HasRegisters, PairHasRegisters, IsSoundPair}
+use Rattle.dev_pic.specs.declared.chip.Chip.{Chip}
+use Rattle.dev_pic.specs.declared.chip.Role.{Role}
+use Rattle.dev_pic.specs.declared.chip.Role.TheVariants.{Master, Slave}
+use Rattle.dev_pic.specs.declared.pair.PicPair.{PicPair}
+use Rattle.dev_pic.proofs.BitLaws.{without_input-lt, and-twice}
+use Rattle.dev_pic.proofs.StepLaws.{either, winner-lt, settled-sound, written_even-registers, written_odd-registers, read-registers, answered-registers, cascaded-registers}
+
+-- an answer after which the pair has its registers
+record Kept (answer : ℕ × PicPair) : Type 0 where
+  kept : PairHasRegisters answer.1
+
+-- the same as `either`, where each branch may use that it is taken
+by_test : {A : Type 0} (P : A → Type 0) (b : Bool) (x y : A) → (b ≡ true → P x) → (b ≡ false → P y) → P (cond b x y)
+by_test P true x y p q = p refl
+by_test P false x y p q = q refl
+
+-- no level input at power on
+levels_off : (level : ℕ) (role : Role) → levels_hold level role 0 ≡ true
+unfolding levels_hold
+levels_off level Master = either (λ (b : Bool). b ≡ true) (nat_le elcr_since level) _ _ refl refl
+levels_off level Slave = either (λ (b : Bool). b ≡ true) (nat_le elcr_since level) _ _ refl refl
+
+-- rule 2 holds of what is kept of a write, at a level with edge/level registers
+levels_written : (level : ℕ) (role : Role) (value : ℕ) → elcr_since ≤ level → levels_hold level role (bit_and value (level_inputs role)) ≡ true
+unfolding levels_hold
+levels_written level role value h =
+    let twice = and-twice value (level_inputs role) in
+    grind (arith, nat_tests)
+
+has_elcr : (level port : ℕ) → is_port level port ≡ true → (port == 0x20) ≡ false → (port == 0x21) ≡ false → (port == 0xa0) ≡ false → (port == 0xa1) ≡ false → elcr_since ≤ level
+has_elcr level port h a b c d = grind (arith, nat_tests)
+
+power-sound : (level : ℕ) → IsLevel level → IsSoundPair (power_on level)
+unfolding power_on chip_on requests_hold
+power-sound level l = record {
+  level = l;
+  master = record {
+    registers = record { irr = omega arith; isr = omega arith; imr = omega arith; lines = omega arith; lowest = omega arith; base = omega arith; vectors = refl; elcr = omega arith; levels = levels_off level Master };
+    requests = refl;
+  };
+  slave = record {
+    registers = record { irr = omega arith; isr = omega arith; imr = omega arith; lines = omega arith; lowest = omega arith; base = omega arith; vectors = refl; elcr = omega arith; levels = levels_off level Slave };
+    requests = refl;
+  };
+}
+
+elcr-written : (level : ℕ) (role : Role) (chip : Chip) (value : ℕ) → elcr_since ≤ level → value < 256 → HasRegisters level role chip → HasRegisters level role (elcr_written role value chip)
+unfolding elcr_written
+elcr-written level role chip value l v h = record {
+  irr = h.irr;
+  isr = h.isr;
+  imr = h.imr;
+  lines = h.lines;
+  lowest = h.lowest;
+  base = h.base;
+  vectors = h.vectors;
+  elcr = omega (arith, and_le_l value (level_inputs role));
+  levels = levels_written level role value l;
+}
+
+cascade-lt : (is_high : Bool) (inputs : ℕ) → inputs < 256 → with_cascade is_high inputs < 256
+cascade-lt is_high inputs h =
+    or_of_8 _ _ (without_input-lt inputs cascade_input h) (either (λ (n : ℕ). n < 256) is_high 4 0 (omega arith) (omega arith))
+
+module _ (pair : PicPair) (h : PairHasRegisters pair) where
+  with-master : (chip : Chip) → HasRegisters pair.level Master chip → PairHasRegisters (record pair { master = chip })
+  with-master chip k = record { level = h.level; master = k; slave = h.slave }
+
+  with-slave : (chip : Chip) → HasRegisters pair.level Slave chip → PairHasRegisters (record pair { slave = chip })
+  with-slave chip k = record { level = h.level; master = h.master; slave = k }
+
+  settle-sound : (inputs edges : ℕ) → inputs < 2 ^ 16 → edges < 2 ^ 16 → IsSoundPair (settled_pair inputs edges pair)
+  unfolding settled_pair
+  settle-sound inputs edges i e = record {
+    level = h.level;
+    master = settled-sound pair.level Master pair.master h.master _ _ (cascade-lt _ (inputs % 256) (omega arith)) (without_input-lt _ cascade_input (omega arith));
+    slave = settled-sound pair.level Slave pair.slave h.slave _ _ (omega arith) (omega arith);
+  }
+
+  acked_for-kept : (o : Option ℕ) → IfSome o (λ w. w < 8) → Kept (acked_for o pair)
+  unfolding acked_for
+  acked_for-kept None l = record { kept = with-master _ (answered-registers pair.level Master pair.master h.master None tt) }
+  acked_for-kept (Some w) l =
+      either Kept (w == cascade_input) _ _
+      (record { kept = record { level = h.level; master = cascaded-registers pair.level Master pair.master h.master; slave = answered-registers pair.level Slave pair.slave h.slave (winner_at Slave pair.slave) (winner-lt Slave pair.slave) } })
+      (record { kept = with-master _ (answered-registers pair.level Master pair.master h.master (Some w) l) })
+
+  acked-kept : PairHasRegisters (acked pair).1
+  acked-kept = (acked_for-kept (winner_at Master pair.master) (winner-lt Master pair.master)).kept
+
+  read-kept : (port : ℕ) → Kept (read_pair port pair)
+  unfolding read_pair
+  read-kept port =
+      either Kept (port == 0x20) _ _ (record { kept = with-master _ (read-registers pair.level Master pair.master h.master false) })
+      (either Kept (port == 0x21) _ _ (record { kept = with-master _ (read-registers pair.level Master pair.master h.master true) })
+      (either Kept (port == 0xa0) _ _ (record { kept = with-slave _ (read-registers pair.level Slave pair.slave h.slave false) })
+      (either Kept (port == 0xa1) _ _ (record { kept = with-slave _ (read-registers pair.level Slave pair.slave h.slave true) })
+      (either Kept (port == 0x4d0) _ _ (record { kept = h }) (record { kept = h })))))
+
+  written-kept : (port value : ℕ) → value < 256 → is_port pair.level port ≡ true → PairHasRegisters (written_pair port value pair)
+  unfolding written_pair
+  written-kept port value v is =
+      by_test PairHasRegisters (port == 0x20) _ _ (λ _. with-master _ (written_even-registers pair.level Master pair.master h.master value)) (λ a.
+      by_test PairHasRegisters (port == 0x21) _ _ (λ _. with-master _ (written_odd-registers pair.level Master pair.master h.master pair.master.init_state value v)) (λ b.
+      by_test PairHasRegisters (port == 0xa0) _ _ (λ _. with-slave _ (written_even-registers pair.level Slave pair.slave h.slave value)) (λ c.
+      by_test PairHasRegisters (port == 0xa1) _ _ (λ _. with-slave _ (written_odd-registers pair.level Slave pair.slave h.slave pair.slave.init_state value v)) (λ d.
+      let since = has_elcr pair.level port is a b c d in
+      either PairHasRegisters (port == 0x4d0) _ _ (with-master _ (elcr-written pair.level Master pair.master value since v h.master))
+      (with-slave _ (elcr-written pair.level Slave pair.slave value since v h.slave))))))
+
+pub steps_keep_registers : StepsKeepRegisters
+steps_keep_registers = record {
+  power = power-sound;
+  read = λ port pair h. (read-kept pair h port).kept;
+  write = λ port value pair v is h. written-kept pair h port value v is;
+  ack = λ pair h. acked-kept pair h;
+  settle = λ inputs edges pair i e h. settle-sound pair h inputs edges i e;
+  sound = λ pair h. record { level = h.level; master = h.master.registers; slave = h.slave.registers };
+}
+
+-- an answer after which the pair has its level
+record SameLevel (level : ℕ) (answer : ℕ × PicPair) : Type 0 where
+  same : answer.1.level ≡ level
+
+power-level : (level : ℕ) → (power_on level).level ≡ level
+unfolding power_on
+power-level level = refl
+
+read-level : (port : ℕ) (pair : PicPair) → SameLevel pair.level (read_pair port pair)
+unfolding read_pair
+read-level port pair =
+    either (SameLevel pair.level) (port == 0x20) _ _ (record { same = refl })
+    (either (SameLevel pair.level) (port == 0x21) _ _ (record { same = refl })
+    (either (SameLevel pair.level) (port == 0xa0) _ _ (record { same = refl })
+    (either (SameLevel pair.level) (port == 0xa1) _ _ (record { same = refl })
+    (either (SameLevel pair.level) (port == 0x4d0) _ _ (record { same = refl }) (record { same = refl })))))
+
+HasLevel : ℕ → PicPair → Type 0
+HasLevel level pair = pair.level ≡ level
+
+written-level : (port value : ℕ) (pair : PicPair) → HasLevel pair.level (written_pair port value pair)
+unfolding written_pair HasLevel
+written-level port value pair =
+    let keeps = λ (p : PicPair). p.level ≡ pair.level in
+    either keeps (port == 0x20) _ _ refl
+    (either keeps (port == 0x21) _ _ refl
+    (either keeps (port == 0xa0) _ _ refl
+    (either keeps (port == 0xa1) _ _ refl
+    (either keeps (port == 0x4d0) _ _ refl refl))))
+
+acked_for-level : (o : Option ℕ) (pair : PicPair) → SameLevel pair.level (acked_for o pair)
+unfolding acked_for
+acked_for-level None pair = record { same = refl }
+acked_for-level (Some w) pair =
+    either (SameLevel pair.level) (w == cascade_input) _ _ (record { same = refl }) (record { same = refl })
+
+settled-level : (inputs edges : ℕ) (pair : PicPair) → (settled_pair inputs edges pair).level ≡ pair.level
+unfolding settled_pair
+settled-level inputs edges pair = refl
+
+pub steps_keep_level : StepsKeepLevel
+unfolding HasLevel
+steps_keep_level = record {
+  power = power-level;
+  read = λ port pair. (read-level port pair).same;
+  write = written-level;
+  ack = λ pair. (acked_for-level (winner_at Master pair.master) pair).same;
+  settle = settled-level;
+}

@@ -1,0 +1,181 @@
+-- What each step of a chip keeps.
+use Rattle.std.proofs.Common.{◌≡◌, ℕ, ◌-◌, ◌/◌, ◌%◌, ◌<◌, ◌≤◌, ◌==◌, Bool, true, false, cond, List, [], ◌∷◌, Option, Some, None, IfSome, find, arith}
+use Rattle.std.proofs.lemmas.Bool.Decides.{nat_tests}
+use Rattle.std.proofs.lemmas.Nat.{or_of_8, and_le_l}
+use Rattle.std.specs.Prelude.{bit_and}
+use Rattle.dev_pic.specs.Bits.{has, but_not, with_input, without_input}
+use Rattle.dev_pic.specs.Cells.{requests_hold}
+use Rattle.dev_pic.specs.Chip.{in_service_of, requests_of, served_of, winner_at, taken, settled, ended, ended_lowest, highest_served, commanded, started, selected, written_even, written_odd_in, polled_by, read_of, answered, cascaded}
+use Rattle.dev_pic.specs.Ocw2.{HasInput, command_of}
+use Rattle.dev_pic.specs.Sound.{HasRegisters, IsSoundChip}
+use Rattle.dev_pic.specs.Winner.{order, before, ready_among, winner_of, highest_of}
+use Rattle.dev_pic.specs.declared.chip.Chip.{Chip}
+use Rattle.dev_pic.specs.declared.chip.InitState.{InitState}
+use Rattle.dev_pic.specs.declared.chip.InitState.TheVariants.{Ready, Icw2, Icw3, Icw4}
+use Rattle.dev_pic.specs.declared.chip.Role.{Role}
+use Rattle.dev_pic.specs.declared.ocw2.Ocw2.{Ocw2}
+use Rattle.dev_pic.specs.declared.ocw2.Ocw2.TheVariants.{NonSpecificEoi, RotateOnNonSpecificEoi, SpecificEoi, RotateOnSpecificEoi, RotateInAutomaticEoi, SetPriority, NoOperation}
+use Rattle.dev_pic.proofs.BitLaws.{level-lines, but_not-lt, without_input-lt, with_input-lt}
+
+-- a fact of both branches is one of the choice
+pub either : {A : Type 0} (P : A → Type 0) (b : Bool) (x y : A) → P x → P y → P (cond b x y)
+either P true x y p q = p
+either P false x y p q = q
+
+-- each of a list is an input
+Inputs : List ℕ → Type 0
+Inputs [] = Unit {0}
+Inputs (x ∷ xs) = (x < 8) × Inputs xs
+
+-- what a search finds is one of the list
+find-inputs : (q : ℕ → Bool) (xs : List ℕ) → Inputs xs → IfSome (find q xs) (λ w. w < 8)
+unfolding Inputs
+find-inputs q [] a = tt
+find-inputs q (x ∷ xs) a = either (λ o. IfSome o (λ w. w < 8)) (q x) (Some x) (find q xs) a.0 (find-inputs q xs a.1)
+
+before-inputs : (q : ℕ → Bool) (xs : List ℕ) → Inputs xs → Inputs (before q xs)
+unfolding Inputs
+before-inputs q [] a = tt
+before-inputs q (x ∷ xs) a = either Inputs (q x) [] (x ∷ before q xs) tt (a.0, before-inputs q xs a.1)
+
+order-inputs : (lowest : ℕ) → Inputs (order lowest)
+unfolding Inputs
+order-inputs lowest =
+    (omega arith, (omega arith, (omega arith, (omega arith, (omega arith, (omega arith, (omega arith, (omega arith, tt))))))))
+
+pub winner-lt : (role : Role) (chip : Chip) → IfSome (winner_at role chip) (λ w. w < 8)
+unfolding winner_at winner_of ready_among
+winner-lt role chip =
+    find-inputs (has (requests_of chip)) _ (before-inputs (has (served_of role chip)) (order chip.lowest) (order-inputs chip.lowest))
+
+highest-lt : (chip : Chip) → IfSome (highest_served chip) (λ w. w < 8)
+unfolding highest_of
+highest-lt chip = find-inputs (has (in_service_of chip)) (order chip.lowest) (order-inputs chip.lowest)
+
+command-input : (value : ℕ) → HasInput (command_of value)
+command-input value =
+    let bits = value / 32 in
+    let input : value % 8 < 8 = omega arith in
+    either HasInput (bits == 0b001) _ _ tt
+    (either HasInput (bits == 0b101) _ _ tt
+    (either HasInput (bits == 0b011) _ _ input
+    (either HasInput (bits == 0b111) _ _ input
+    (either HasInput (bits == 0b100) _ _ tt
+    (either HasInput (bits == 0b000) _ _ tt
+    (either HasInput (bits == 0b110) _ _ input tt))))))
+
+module _ (level : ℕ) (role : Role) (chip : Chip) (h : HasRegisters level role chip) where
+  with-irr : (v : ℕ) → v < 256 → HasRegisters level role (record chip { irr = v })
+  with-irr v l = search
+
+  with-isr : (v : ℕ) → v < 256 → HasRegisters level role (record chip { isr = v })
+  with-isr v l = search
+
+  with-lowest : (v : ℕ) → v ≤ 7 → HasRegisters level role (record chip { lowest = v })
+  with-lowest v l = search
+
+  with-inputs : (requests lines : ℕ) → requests < 256 → lines < 256 → HasRegisters level role (record chip { irr = requests; lines = lines })
+  with-inputs requests lines l m = search
+
+module _ (level : ℕ) (role : Role) (chip : Chip) (h : HasRegisters level role chip) where
+  pub settled-registers : (inputs edges : ℕ) → inputs < 256 → edges < 256 → HasRegisters level role (settled inputs edges chip)
+  unfolding settled
+  settled-registers inputs edges i e =
+      let risen = or_of_8 chip.irr _ h.irr (or_of_8 _ edges (but_not-lt inputs chip.lines i) e) in
+      with-inputs level role chip h _ inputs (or_of_8 _ _ (but_not-lt _ chip.elcr risen) (omega (arith, and_le_l inputs chip.elcr))) i
+
+  pub taken-registers : (w : ℕ) → w < 8 → HasRegisters level role (taken w chip)
+  unfolding taken
+  taken-registers w l =
+      let served = either (HasRegisters level role) chip.auto_eoi _ _
+      (either (HasRegisters level role) chip.rotate _ _ (with-lowest level role chip h w (omega arith)) h)
+      (with-isr level role chip h (with_input chip.isr w) (with_input-lt chip.isr w h.isr l)) in
+      either (HasRegisters level role) (has chip.elcr w) _ _ served (with-irr level role _ served (without_input chip.irr w) (without_input-lt chip.irr w h.irr))
+
+  ended-registers : (o : Option ℕ) → HasRegisters level role (ended o chip)
+  unfolding ended
+  ended-registers None = h
+  ended-registers (Some w) = with-isr level role chip h _ (without_input-lt chip.isr w h.isr)
+
+  ended_lowest-registers : (o : Option ℕ) → IfSome o (λ w. w < 8) → HasRegisters level role (ended_lowest o chip)
+  unfolding ended_lowest
+  ended_lowest-registers None l = h
+  ended_lowest-registers (Some w) l =
+      with-lowest level role _ (with-isr level role chip h _ (without_input-lt chip.isr w h.isr)) w (omega arith)
+
+  commanded-registers : (command : Ocw2) → HasInput command → HasRegisters level role (commanded command chip)
+  unfolding commanded
+  commanded-registers NonSpecificEoi i = ended-registers (highest_served chip)
+  commanded-registers RotateOnNonSpecificEoi i = ended_lowest-registers (highest_served chip) (highest-lt chip)
+  commanded-registers (SpecificEoi input) i = ended-registers (Some input)
+  commanded-registers (RotateOnSpecificEoi input) i = ended_lowest-registers (Some input) i
+  commanded-registers (RotateInAutomaticEoi rotate) i = search
+  commanded-registers (SetPriority input) i = with-lowest level role chip h input (omega arith)
+  commanded-registers NoOperation i = h
+
+  started-registers : (value : ℕ) → HasRegisters level role (started value chip)
+  unfolding started
+  started-registers value =
+      let irr : bit_and chip.irr chip.elcr < 256 = omega (arith, and_le_l chip.irr chip.elcr, h.irr) in
+      record { irr = irr; isr = omega arith; imr = omega arith; lines = h.lines; lowest = omega arith; base = h.base; vectors = h.vectors; elcr = h.elcr; levels = h.levels }
+
+  selected-registers : (value : ℕ) → HasRegisters level role (selected value chip)
+  unfolding selected
+  selected-registers value = search
+
+  pub written_even-registers : (value : ℕ) → HasRegisters level role (written_even value chip)
+  unfolding written_even
+  written_even-registers value =
+      either (HasRegisters level role) (has value 4) _ _ (started-registers value)
+      (either (HasRegisters level role) (has value 3) _ _ (selected-registers value) (commanded-registers (command_of value) (command-input value)))
+
+  pub written_odd-registers : (s : InitState) (value : ℕ) → value < 256 → HasRegisters level role (written_odd_in s value chip)
+  unfolding written_odd_in
+  written_odd-registers Ready value v = search
+  written_odd-registers Icw2 value v =
+      let below : value - value % 8 < 256 = omega arith in
+      let clear : (value - value % 8) % 8 ≡ 0 = omega arith in
+      search
+  written_odd-registers Icw3 value v = search
+  written_odd-registers Icw4 value v = search
+
+module _ (level : ℕ) (role : Role) (chip : Chip) (h : HasRegisters level role chip) where
+  polled-registers : (o : Option ℕ) → IfSome o (λ w. w < 8) → HasRegisters level role (polled_by o chip).1
+  unfolding polled_by
+  polled-registers None l = search
+  polled-registers (Some w) l =
+      let unpolled : HasRegisters level role (record chip { poll = false }) = search in
+      taken-registers level role _ unpolled w l
+
+  pub read-registers : (is_odd : Bool) → HasRegisters level role (read_of role is_odd chip).1
+  unfolding read_of
+  read-registers is_odd = by_poll chip.poll where
+    by_poll : (poll : Bool) → HasRegisters level role (cond poll (polled_by (winner_at role chip) chip) (cond is_odd chip.imr (cond chip.read_isr chip.isr chip.irr), chip)).1
+    by_poll true = polled-registers (winner_at role chip) (winner-lt role chip)
+    by_poll false = h
+
+  pub answered-registers : (o : Option ℕ) → IfSome o (λ w. w < 8) → HasRegisters level role (answered o chip).1
+  unfolding answered
+  answered-registers None l = h
+  answered-registers (Some w) l = taken-registers level role chip h w l
+
+  pub cascaded-registers : HasRegisters level role (cascaded chip)
+  unfolding cascaded
+  cascaded-registers =
+      let k = taken-registers level role chip h 2 (omega arith) in
+      record { irr = k.irr; isr = k.isr; imr = k.imr; lines = without_input-lt _ 2 k.lines; lowest = k.lowest; base = k.base; vectors = k.vectors; elcr = k.elcr; levels = k.levels }
+
+  agreed : (irr lines elcr : ℕ) → bit_and irr elcr ≡ bit_and lines elcr → requests_hold irr lines elcr ≡ true
+  unfolding requests_hold
+  agreed irr lines elcr e = grind (arith, nat_tests)
+
+  settled-requests : (inputs edges : ℕ) → inputs < 256 → edges < 256 → requests_hold (settled inputs edges chip).irr (settled inputs edges chip).lines (settled inputs edges chip).elcr ≡ true
+  unfolding settled but_not
+  settled-requests inputs edges i e =
+      agreed _ inputs chip.elcr (level-lines _ inputs chip.elcr (or_of_8 chip.irr _ h.irr (or_of_8 _ edges (but_not-lt inputs chip.lines i) e)) i h.elcr)
+
+  pub settled-sound : (inputs edges : ℕ) → inputs < 256 → edges < 256 → IsSoundChip level role (settled inputs edges chip)
+  settled-sound inputs edges i e = record {
+    registers = settled-registers level role chip h inputs edges i e;
+    requests = settled-requests inputs edges i e;
+  }

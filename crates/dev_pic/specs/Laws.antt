@@ -1,0 +1,131 @@
+-- Laws of the pair in the data sheet's terms, of its steps, and of saving and restoring. Each is named by the
+-- contract of a function.
+use Rattle.std.specs.Prelude.{◌≡◌, ◌≢◌, ℕ, ◌+◌, ◌-◌, ◌%◌, ◌^◌, ◌<◌, ◌≤◌, Bool, true, false, ◌&&◌, ◌||◌, not, if◌then◌else◌, List, ℤ, ◌++◌, Some, None, Ok, ◌↔◌, bit_and}
+use Rattle.vms_hooks.specs.Numbers.{Numbers}
+use Rattle.dev_pic.specs.Bits.{has}
+use Rattle.dev_pic.specs.Cells.{saved_cells, carried, IsCellsOf, IsChipCells}
+use Rattle.dev_pic.specs.Chip.{cascade_input, in_service_of, winner_at, taken, settled, commanded, written_even, written_odd}
+use Rattle.dev_pic.specs.Levels.{IsLevel}
+use Rattle.dev_pic.specs.Pair.{power_on, is_port, acked, settled_pair, read_pair, written_pair}
+use Rattle.dev_pic.specs.Saved.{IsRestore, CanRestore, restored_pair, hook_restored}
+use Rattle.dev_pic.specs.Sound.{HasRegisters, IsSoundChip, MeetsRules, PairHasRegisters, IsSoundPair}
+use Rattle.dev_pic.specs.Winner.{input_at, winner_of, IsWinner, MeansWinner}
+use Rattle.dev_pic.specs.declared.chip.Chip.{Chip}
+use Rattle.dev_pic.specs.declared.chip.InitState.TheVariants.{Ready}
+use Rattle.dev_pic.specs.declared.chip.Role.{Role}
+use Rattle.dev_pic.specs.declared.chip.Role.TheVariants.{Master, Slave}
+use Rattle.dev_pic.specs.declared.ocw2.Ocw2.TheVariants.{NonSpecificEoi, RotateOnNonSpecificEoi}
+use Rattle.dev_pic.specs.declared.pair.PicPair.{PicPair}
+
+-- the winner is the requested input of highest priority, where it comes strictly before every input in service
+pub record WinnerIsLeastRequest : Type 0 where
+  pub means : (lowest requests served : ℕ) → MeansWinner lowest requests served (winner_of lowest requests served)
+  pub only : (lowest requests served winner : ℕ) → IsWinner lowest requests served winner → winner_of lowest requests served ≡ Some winner
+
+-- a request that is masked never wins
+abbrev pub MaskedNeverWins : Type 0
+MaskedNeverWins =
+    (role : Role) (chip : Chip) (input : ℕ) → chip.imr < 256 → input < 8 → has chip.imr input ≡ true → winner_at role chip ≢ Some input
+
+-- in fully nested mode an input in service blocks itself and each input of lower priority
+abbrev pub ServedBlocksLower : Type 0
+ServedBlocksLower =
+    (role : Role) (chip : Chip) (place lower : ℕ) → chip.special_mask ≡ false → chip.nested ≡ false → place ≤ lower → lower < 8 → has chip.isr (input_at chip.lowest place) ≡ true → winner_at role chip ≢ Some (input_at chip.lowest lower)
+
+-- the input of highest priority that is in service, in special mask mode among those that are not masked
+pub record IsHighestServed (chip : Chip) (input : ℕ) : Type 0 where
+  pub place : ℕ
+  pub in_order : (place < 8) × (input ≡ input_at chip.lowest place)
+  pub served : has (in_service_of chip) input ≡ true
+  pub highest : (other : ℕ) → other < place → has (in_service_of chip) (input_at chip.lowest other) ≡ false
+
+-- only this input's service is ended, and nothing else changes
+pub record EndsService (input : ℕ) (chip after : Chip) : Type 0 where
+  pub ended : has after.isr input ≡ false
+  pub others : (other : ℕ) → other < 8 → other ≢ input → has after.isr other ≡ has chip.isr other
+  pub rest : after ≡ record chip { isr = after.isr; lowest = after.lowest }
+
+-- a non-specific EOI, the word 0x20, ends the service of highest priority, or does nothing where nothing is in
+-- service; a rotating one, the word 0xa0, gives that input the lowest priority
+pub record EoiEndsHighest : Type 0 where
+  pub words : (chip : Chip) → (written_even 0x20 chip ≡ commanded NonSpecificEoi chip) × (written_even 0xa0 chip ≡ commanded RotateOnNonSpecificEoi chip)
+  pub highest : (chip : Chip) (input : ℕ) → chip.isr < 256 → IsHighestServed chip input → EndsService input chip (commanded NonSpecificEoi chip) × ((commanded NonSpecificEoi chip).lowest ≡ chip.lowest)
+  pub rotating : (chip : Chip) (input : ℕ) → chip.isr < 256 → IsHighestServed chip input → EndsService input chip (commanded RotateOnNonSpecificEoi chip) × ((commanded RotateOnNonSpecificEoi chip).lowest ≡ input)
+  pub nothing : (chip : Chip) → ((input : ℕ) → input < 8 → has (in_service_of chip) input ≡ false) → (commanded NonSpecificEoi chip ≡ chip) × (commanded RotateOnNonSpecificEoi chip ≡ chip)
+
+-- a chip after its initialization words: OCW1 comes next, the vectors and the modes are those of the words, nothing
+-- is in service or masked, priority is fully nested, and only level inputs are still requested
+pub record IsInitialized (vectors : ℕ) (auto_eoi nested : Bool) (chip after : Chip) : Type 0 where
+  pub ready : after.init_state ≡ Ready
+  pub base : after.base ≡ vectors - vectors % 8
+  pub modes : (after.auto_eoi ≡ auto_eoi) × (after.nested ≡ nested) × (after.special_mask ≡ false) × (after.rotate ≡ false)
+  pub clear : (after.isr ≡ 0) × (after.imr ≡ 0) × (after.lowest ≡ 7)
+  pub shows_irr : (after.poll ≡ false) × (after.read_isr ≡ false)
+  pub kept : (after.irr ≡ bit_and chip.irr chip.elcr) × (after.lines ≡ chip.lines) × (after.elcr ≡ chip.elcr)
+
+-- bit 0 of ICW1 announces ICW4, without which both its modes are off, and bit 1 says that no ICW3 comes
+pub record InitializesByWords : Type 0 where
+  pub all : (chip : Chip) (icw1 icw2 icw3 icw4 : ℕ) → has icw1 4 ≡ true → has icw1 0 ≡ true → has icw1 1 ≡ false → IsInitialized icw2 (has icw4 1) (has icw4 4) chip (written_odd icw4 (written_odd icw3 (written_odd icw2 (written_even icw1 chip))))
+  pub single : (chip : Chip) (icw1 icw2 icw4 : ℕ) → has icw1 4 ≡ true → has icw1 0 ≡ true → has icw1 1 ≡ true → IsInitialized icw2 (has icw4 1) (has icw4 4) chip (written_odd icw4 (written_odd icw2 (written_even icw1 chip)))
+  pub without_icw4 : (chip : Chip) (icw1 icw2 icw3 : ℕ) → has icw1 4 ≡ true → has icw1 0 ≡ false → has icw1 1 ≡ false → IsInitialized icw2 false false chip (written_odd icw3 (written_odd icw2 (written_even icw1 chip)))
+  pub shortest : (chip : Chip) (icw1 icw2 : ℕ) → has icw1 4 ≡ true → has icw1 0 ≡ false → has icw1 1 ≡ true → IsInitialized icw2 false false chip (written_odd icw2 (written_even icw1 chip))
+
+-- an acknowledge without a winner of the master answers the master's base + 7 and changes nothing; where the
+-- slave's output was taken and the slave has no winner, the slave's base + 7 is answered and the slave is unchanged
+pub record AckWithoutWinner : Type 0 where
+  pub master : (pair : PicPair) → PairHasRegisters pair → winner_at Master pair.master ≡ None → acked pair ≡ (pair.master.base + 7, pair)
+  pub slave : (pair : PicPair) → PairHasRegisters pair → winner_at Master pair.master ≡ Some cascade_input → winner_at Slave pair.slave ≡ None → ((acked pair).0 ≡ pair.slave.base + 7) × ((acked pair).1.slave ≡ pair.slave)
+
+-- a taken edge input loses its request and a level input keeps it; without automatic EOI its service begins
+pub record TakesWinner : Type 0 where
+  pub edge : (chip : Chip) (winner : ℕ) → chip.irr < 256 → winner < 8 → has chip.elcr winner ≡ false → has (taken winner chip).irr winner ≡ false
+  pub level : (chip : Chip) (winner : ℕ) → has chip.elcr winner ≡ true → (taken winner chip).irr ≡ chip.irr
+  pub served : (chip : Chip) (winner : ℕ) → chip.isr < 256 → winner < 8 → chip.auto_eoi ≡ false → has (taken winner chip).isr winner ≡ true
+
+-- whether an input is requested after lines are taken over: a level input by its line; an edge input where it was,
+-- or where its line rises, or where it is in the mask of edges
+abbrev pub requested_after : ℕ → ℕ → Chip → ℕ → Bool
+requested_after inputs edges chip input =
+    if has chip.elcr input then has inputs input
+    else has chip.irr input || ((has inputs input && not (has chip.lines input)) || has edges input)
+
+abbrev pub TakesLinesOver : Type 0
+TakesLinesOver =
+    (inputs edges : ℕ) (chip : Chip) (input : ℕ) → chip.lines < 256 → chip.elcr < 256 → input < 8 → has (settled inputs edges chip).irr input ≡ requested_after inputs edges chip input
+
+-- power on is sound, each step keeps the registers, and once the lines are taken over the pair is sound
+pub record StepsKeepRegisters : Type 0 where
+  pub power : (level : ℕ) → IsLevel level → IsSoundPair (power_on level)
+  pub read : (port : ℕ) (pair : PicPair) → PairHasRegisters pair → PairHasRegisters (read_pair port pair).1
+  pub write : (port value : ℕ) (pair : PicPair) → value < 256 → is_port pair.level port ≡ true → PairHasRegisters pair → PairHasRegisters (written_pair port value pair)
+  pub ack : (pair : PicPair) → PairHasRegisters pair → PairHasRegisters (acked pair).1
+  pub settle : (inputs edges : ℕ) (pair : PicPair) → inputs < 2 ^ 16 → edges < 2 ^ 16 → PairHasRegisters pair → IsSoundPair (settled_pair inputs edges pair)
+  pub sound : (pair : PicPair) → IsSoundPair pair → PairHasRegisters pair
+
+-- no step changes the level
+pub record StepsKeepLevel : Type 0 where
+  pub power : (level : ℕ) → (power_on level).level ≡ level
+  pub read : (port : ℕ) (pair : PicPair) → (read_pair port pair).1.level ≡ pair.level
+  pub write : (port value : ℕ) (pair : PicPair) → (written_pair port value pair).level ≡ pair.level
+  pub ack : (pair : PicPair) → (acked pair).1.level ≡ pair.level
+  pub settle : (inputs edges : ℕ) (pair : PicPair) → (settled_pair inputs edges pair).level ≡ pair.level
+
+-- a chip with its registers is sound exactly where its cells break no rule
+abbrev pub SoundMeetsRules : Type 0
+SoundMeetsRules =
+    (level : ℕ) (role : Role) (chip : Chip) → HasRegisters level role chip → IsSoundChip level role chip ↔ MeetsRules level role chip
+
+-- what a chip with its registers saves under a set are cells of that set
+pub record SavedAreCells : Type 0 where
+  pub chip : (level set : ℕ) (role : Role) (chip : Chip) → HasRegisters level role chip → IsCellsOf set (saved_cells set chip)
+
+-- what was saved under a set from the level to the newest, carried to the newest set, can be restored and is
+-- restored as it was
+pub record SavedIsRestored : Type 0 where
+  pub cells : (set : ℕ) (pair : PicPair) → IsSoundPair pair → pair.level ≤ set → IsChipCells (carried set (saved_cells set pair.master)) × IsChipCells (carried set (saved_cells set pair.slave))
+  pub pair : (set : ℕ) (pair : PicPair) → IsSoundPair pair → pair.level ≤ set → restored_pair pair.level (carried set (saved_cells set pair.master)) (carried set (saved_cells set pair.slave)) ≡ Ok pair
+  pub hooks : (numbers : Numbers) (set : ℕ) (pair : PicPair) → IsRestore numbers → numbers.level ≡ pair.level → IsSoundPair pair → pair.level ≤ set → CanRestore numbers (carried set (saved_cells set pair.master) ++ carried set (saved_cells set pair.slave)) × (hook_restored numbers.level (carried set (saved_cells set pair.master) ++ carried set (saved_cells set pair.slave)) ≡ Ok pair)
+
+-- what is restored is sound and has the level of the restore
+pub record RestoredIsSound : Type 0 where
+  pub pair : (level : ℕ) (master slave : List ℤ) (pair : PicPair) → IsLevel level → IsChipCells master → IsChipCells slave → restored_pair level master slave ≡ Ok pair → IsSoundPair pair × (pair.level ≡ level)

@@ -1,0 +1,10 @@
+pub mod Bits
+pub mod Cells
+pub mod Chip
+pub mod Laws
+pub mod Levels
+pub mod Ocw2
+pub mod Pair
+pub mod Saved
+pub mod Sound
+pub mod Winner

@@ -1,0 +1,106 @@
+-- The steps of the pair.
+use Rattle.std.specs.Prelude.{ℕ, ◌+◌, ◌*◌, ◌/◌, ◌%◌, ◌==◌, Bool, true, false, ◌||◌, ◌&&◌, nat_le, if◌then◌else◌, Option, Some, None, bit_or, is_some}
+use Rattle.dev_pic.specs.Bits.{without_input}
+use Rattle.dev_pic.specs.Chip.{cascade_input, winner_at, settled, written_even, written_odd, elcr_written, read_of, answered, cascaded}
+use Rattle.dev_pic.specs.Levels.{elcr_since}
+use Rattle.dev_pic.specs.declared.chip.Chip.{Chip}
+use Rattle.dev_pic.specs.declared.chip.InitState.TheVariants.{Ready}
+use Rattle.dev_pic.specs.declared.chip.Role.TheVariants.{Master, Slave}
+use Rattle.dev_pic.specs.declared.pair.PicPair.{PicPair}
+
+-- a chip at power on
+unfoldable pub chip_on : Chip
+chip_on = record {
+  irr = 0;
+  isr = 0;
+  imr = 0;
+  lines = 0;
+  lowest = 7;
+  base = 0;
+  init_state = Ready;
+  icw4 = false;
+  single = false;
+  read_isr = false;
+  poll = false;
+  special_mask = false;
+  auto_eoi = false;
+  rotate = false;
+  nested = false;
+  elcr = 0;
+}
+
+-- the pair at power on
+unfoldable pub power_on : ℕ → PicPair
+power_on level = record { level = level; master = chip_on; slave = chip_on }
+
+-- the ports of a pair of a level
+abbrev pub is_port : ℕ → ℕ → Bool
+is_port level port =
+    (port == 0x20) || (port == 0x21) || (port == 0xa0) || (port == 0xa1) || (nat_le elcr_since level && ((port == 0x4d0) || (port == 0x4d1)))
+
+-- the slave's interrupt output: high where it has a winner
+unfoldable pub slave_int_of : PicPair → Bool
+slave_int_of pair = is_some (winner_at Slave pair.slave)
+
+-- the master's interrupt output: high where it has a winner
+unfoldable pub int_of : PicPair → Bool
+int_of pair = is_some (winner_at Master pair.master)
+
+-- the remembered lines, the slave's above the master's
+unfoldable pub lines_of : PicPair → ℕ
+lines_of pair = pair.slave.lines * 256 + pair.master.lines
+
+-- what the master or the slave answers, as an answer of the pair
+abbrev pub from_master : PicPair → ℕ × Chip → ℕ × PicPair
+from_master pair answer = (answer.0, record pair { master = answer.1 })
+
+abbrev pub from_slave : PicPair → ℕ × Chip → ℕ × PicPair
+from_slave pair answer = (answer.0, record pair { slave = answer.1 })
+
+-- the answer to an acknowledge where the slave's output is the master's winner, and the pair after it
+abbrev pub acked_by_slave : PicPair → ℕ × PicPair
+acked_by_slave pair =
+    from_slave (record pair { master = cascaded pair.master }) (answered (winner_at Slave pair.slave) pair.slave)
+
+-- the answer to an acknowledge for a winner of the master, or for none, and the pair after it
+unfoldable pub acked_for : Option ℕ → PicPair → ℕ × PicPair
+acked_for None pair = from_master pair (answered None pair.master)
+acked_for (Some winner) pair =
+    if winner == cascade_input then acked_by_slave pair
+    else from_master pair (answered (Some winner) pair.master)
+
+abbrev pub acked : PicPair → ℕ × PicPair
+acked pair = acked_for (winner_at Master pair.master) pair
+
+-- a number of inputs of the master with the cascade input as it is given
+abbrev pub with_cascade : Bool → ℕ → ℕ
+with_cascade is_high inputs =
+    bit_or (without_input inputs cascade_input) (if is_high then 4 else 0)
+
+-- the pair after new lines are taken over, the slave's first: bits 8 to 15 are the slave's, bits 0 to 7 the master's
+unfoldable pub settled_pair : ℕ → ℕ → PicPair → PicPair
+settled_pair inputs edges pair =
+    let after = record pair { slave = settled (inputs / 256) (edges / 256) pair.slave } in
+    record after {
+      master = settled (with_cascade (slave_int_of after) (inputs % 256)) (without_input (edges % 256) cascade_input) pair.master;
+    }
+
+-- the answer to a read of a port of the pair, and the pair after it
+unfoldable pub read_pair : ℕ → PicPair → ℕ × PicPair
+read_pair port pair =
+    if port == 0x20 then from_master pair (read_of Master false pair.master)
+    else (if port == 0x21 then from_master pair (read_of Master true pair.master)
+    else (if port == 0xa0 then from_slave pair (read_of Slave false pair.slave)
+    else (if port == 0xa1 then from_slave pair (read_of Slave true pair.slave)
+    else (if port == 0x4d0 then (pair.master.elcr, pair)
+    else (pair.slave.elcr, pair)))))
+
+-- the pair after a write to a port of the pair
+unfoldable pub written_pair : ℕ → ℕ → PicPair → PicPair
+written_pair port value pair =
+    if port == 0x20 then record pair { master = written_even value pair.master }
+    else (if port == 0x21 then record pair { master = written_odd value pair.master }
+    else (if port == 0xa0 then record pair { slave = written_even value pair.slave }
+    else (if port == 0xa1 then record pair { slave = written_odd value pair.slave }
+    else (if port == 0x4d0 then record pair { master = elcr_written Master value pair.master }
+    else record pair { slave = elcr_written Slave value pair.slave }))))

@@ -1,0 +1,188 @@
+// The cells of a chip.
+ghost use Rattle.std.specs.Prelude.{◌≡◌, ◌<◌, ◌≤◌, length, IfSome, IfErr};
+ghost use Rattle.vms_kinds.specs.declared.Kind.{Kind};
+ghost use Rattle.dev_pic.specs.Cells.{place_of, cell_count, kind_of, number_at, flag_at as flag_at_of, IsChipCells, state_number as state_number_of, state_of as state_of_number, saved_cells, chip_of as chip_of_cells, registers_hold as registers_hold_of, levels_hold as levels_hold_of, first_fault as first_fault_of, restored};
+
+use crate::chip::{Chip, InitState, Role};
+use crate::pair::ELCR_SINCE;
+use arrayvec::ArrayVec;
+use vms_kinds::DevCells;
+
+/// A cell of a chip, in the order of the newest set.
+#[derive(Clone, Copy)]
+pub(crate) enum Cell {
+    Irr,
+    Isr,
+    Imr,
+    Lines,
+    Lowest,
+    Base,
+    InitState,
+    Icw4,
+    Single,
+    ReadIsr,
+    Poll,
+    SpecialMask,
+    AutoEoi,
+    Rotate,
+    Nested,
+    Elcr,
+}
+
+impl Cell {
+    /// The cell's place among those of the newest set.
+    fn place(self) -> usize
+        ensures place { result ≡ place_of self }
+        ensures within { result < cell_count }
+    {
+        self as usize
+    }
+}
+
+// A cell that holds a byte.
+fn byte_at(cells: &DevCells, cell: Cell) -> u8
+    requires cells { IsChipCells cells.now.items }
+    requires kind { kind_of cell ≡ Kind.U8 }
+    ensures { result ≡ number_at cells.now.items cell }
+{
+    cells[cell.place()] as u8
+}
+
+// A cell that holds a truth value.
+fn flag_at(cells: &DevCells, cell: Cell) -> bool
+    requires cells { IsChipCells cells.now.items }
+    requires kind { kind_of cell ≡ Kind.Bool }
+    ensures { result ≡ flag_at_of cells.now.items cell }
+{
+    cells[cell.place()] == 1
+}
+
+/// The cells of a chip under a set.
+#[tactic(auto, unfolding(crate::specs::Cells::saved_cells, crate::specs::Cells::first_cells))]
+pub(crate) fn save_chip(set: u8, chip: &Chip) -> DevCells
+    ensures cells { result.items ≡ saved_cells set chip.now }
+    ensures count { length result.items ≤ cell_count }
+{
+    let mut cells = ArrayVec::new();
+    let _fits = cells.try_extend_from_slice(&[
+        i128::from(chip.irr),
+        i128::from(chip.isr),
+        i128::from(chip.imr),
+        i128::from(chip.lines),
+        i128::from(chip.lowest),
+        i128::from(chip.base),
+        i128::from(state_number(chip.init_state)),
+        i128::from(chip.icw4),
+        i128::from(chip.single),
+        i128::from(chip.read_isr),
+        i128::from(chip.poll),
+        i128::from(chip.special_mask),
+        i128::from(chip.auto_eoi),
+        i128::from(chip.rotate),
+        i128::from(chip.nested),
+    ]);
+    if set >= ELCR_SINCE {
+        cells.push(i128::from(chip.elcr));
+    }
+    cells
+}
+
+fn state_number(state: InitState) -> u8
+    ensures { result ≡ state_number_of state }
+{
+    state as u8
+}
+
+// The state of a number up to 3; rule 1 refuses the others before.
+fn state_of(number: u8) -> InitState
+    ensures { result ≡ state_of_number number }
+{
+    match number {
+        0 => InitState::Ready,
+        1 => InitState::Icw2,
+        2 => InitState::Icw3,
+        _ => InitState::Icw4,
+    }
+}
+
+// The chip of cells whose first rule holds.
+#[tactic(auto, unfolding(crate::specs::Cells::chip_of))]
+fn chip_of(cells: &DevCells) -> Chip
+    requires { IsChipCells cells.now.items }
+    ensures { result ≡ chip_of_cells cells.now.items }
+{
+    Chip {
+        irr: byte_at(cells, Cell::Irr),
+        isr: byte_at(cells, Cell::Isr),
+        imr: byte_at(cells, Cell::Imr),
+        lines: byte_at(cells, Cell::Lines),
+        lowest: byte_at(cells, Cell::Lowest),
+        base: byte_at(cells, Cell::Base),
+        init_state: state_of(byte_at(cells, Cell::InitState)),
+        icw4: flag_at(cells, Cell::Icw4),
+        single: flag_at(cells, Cell::Single),
+        read_isr: flag_at(cells, Cell::ReadIsr),
+        poll: flag_at(cells, Cell::Poll),
+        special_mask: flag_at(cells, Cell::SpecialMask),
+        auto_eoi: flag_at(cells, Cell::AutoEoi),
+        rotate: flag_at(cells, Cell::Rotate),
+        nested: flag_at(cells, Cell::Nested),
+        elcr: byte_at(cells, Cell::Elcr),
+    }
+}
+
+// Rule 1 of a restore.
+#[tactic(auto, unfolding(crate::specs::Cells::registers_hold))]
+fn registers_hold(lowest: u8, state: u8, base: u8) -> bool
+    ensures { result ≡ registers_hold_of lowest state base }
+{
+    lowest <= 7 && state <= 3 && base % 8 == 0
+}
+
+// Rule 2 of a restore.
+#[tactic(auto, unfolding(crate::specs::Cells::levels_hold))]
+fn levels_hold(level: u8, role: Role, elcr: u8) -> bool
+    ensures { result ≡ levels_hold_of level role elcr }
+{
+    if level >= ELCR_SINCE {
+        elcr & role.level_inputs() == elcr
+    } else {
+        elcr == 0
+    }
+}
+
+// The number of the first rule that fails.
+#[tactic(auto, unfolding(crate::specs::Cells::first_fault, crate::specs::Cells::requests_hold))]
+fn first_fault(level: u8, role: Role, cells: &DevCells) -> Option<u8>
+    requires { IsChipCells cells.now.items }
+    ensures fault { result ≡ first_fault_of level role cells.now.items }
+    ensures rule { IfSome result (λ rule. rule ≤ 3) }
+{
+    let elcr = byte_at(cells, Cell::Elcr);
+    if !registers_hold(
+        byte_at(cells, Cell::Lowest),
+        byte_at(cells, Cell::InitState),
+        byte_at(cells, Cell::Base),
+    ) {
+        Some(1)
+    } else if !levels_hold(level, role, elcr) {
+        Some(2)
+    } else if byte_at(cells, Cell::Irr) & elcr != byte_at(cells, Cell::Lines) & elcr {
+        Some(3)
+    } else {
+        None
+    }
+}
+
+/// The chip of cells of the newest set, or the number of the first rule that fails, 1 to 3.
+#[tactic(auto, unfolding(crate::specs::Cells::restored_by))]
+pub(crate) fn restore_chip(level: u8, role: Role, cells: &DevCells) -> Result<Chip, u8>
+    requires { IsChipCells cells.now.items }
+    ensures restored { result ≡ restored level role cells.now.items }
+    ensures rule { IfErr result (λ rule. rule ≤ 3) }
+{
+    match first_fault(level, role, cells) {
+        None => Ok(chip_of(cells)),
+        Some(rule) => Err(rule),
+    }
+}

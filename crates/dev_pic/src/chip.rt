@@ -1,0 +1,315 @@
+// One 8259A and its steps.
+ghost use Rattle.std.specs.Prelude.{◌≡◌, ◌<◌, IfSome};
+
+use crate::bits::{but_not, has, with_input, without_input};
+use crate::ocw2::Ocw2;
+use crate::winner::{first_ready, highest};
+
+/// The master's input that has the slave's interrupt output.
+pub(crate) const CASCADE: u8 = 2;
+
+/// Which of the two chips of a pair.
+#[derive(Clone, Copy, Debug, PartialEq, Eq)]
+pub(crate) enum Role {
+    Master,
+    Slave,
+}
+
+impl Role {
+    ghost use Rattle.dev_pic.specs.Chip.{level_inputs as level_inputs_of};
+
+    /// The inputs whose ELCR bit can be set. The others, of the timer, the keyboard, the cascade, the
+    /// clock and the coprocessor, are edge inputs always.
+    pub fn level_inputs(self) -> u8
+        ensures { result ≡ level_inputs_of self }
+    {
+        match self {
+            Role::Master => 0xf8,
+            Role::Slave => 0xde,
+        }
+    }
+}
+
+/// Which word a write to the odd port is ("Initialization Command Words (ICWs)").
+#[derive(Clone, Copy, Debug, PartialEq, Eq)]
+pub(crate) enum InitState {
+    /// Initialized: OCW1, the mask.
+    Ready,
+    Icw2,
+    Icw3,
+    Icw4,
+}
+
+/// The registers of one 8259A.
+#[derive(Clone, Copy, Debug, PartialEq, Eq)]
+pub(crate) struct Chip {
+    /// Interrupt Request Register.
+    pub irr: u8,
+    /// In-Service Register.
+    pub isr: u8,
+    /// Interrupt Mask Register.
+    pub imr: u8,
+    /// The input lines as they were last taken over.
+    pub lines: u8,
+    /// The input of lowest priority, 7 in fully nested mode.
+    pub lowest: u8,
+    /// The vector of input 0, from ICW2.
+    pub base: u8,
+    pub init_state: InitState,
+    /// Whether ICW1 announced ICW4.
+    pub icw4: bool,
+    /// Whether ICW1 said that there is no other chip, so that no ICW3 comes.
+    pub single: bool,
+    /// Whether a read of the even port gives ISR, and not IRR (OCW3, RR and RIS).
+    pub read_isr: bool,
+    /// Whether the next read is a poll (OCW3, P).
+    pub poll: bool,
+    /// Special mask mode (OCW3, ESMM and SMM).
+    pub special_mask: bool,
+    /// Automatic end of interrupt (ICW4, AEOI).
+    pub auto_eoi: bool,
+    /// Rotation in automatic EOI mode (OCW2).
+    pub rotate: bool,
+    /// Special fully nested mode (ICW4, SFNM).
+    pub nested: bool,
+    /// Edge/Level Control Register of the chipset: a set bit makes a level input.
+    pub elcr: u8,
+}
+
+impl Chip {
+    ghost use Rattle.dev_pic.specs.Ocw2.{HasInput};
+    ghost use Rattle.dev_pic.specs.Chip.{in_service_of, served_of, winner_at, taken, settled, commanded, started, selected, written_even, written_odd, after_icw3, elcr_written, read_of, answered, cascaded};
+
+    // What counts as in service for an end of interrupt.
+    fn in_service(&self) -> u8
+        ensures { result ≡ in_service_of self.now }
+    {
+        if self.special_mask {
+            but_not(self.isr, self.imr)
+        } else {
+            self.isr
+        }
+    }
+
+    // What counts as in service for a request.
+    #[tactic(auto, unfolding(crate::specs::Chip::served_of))]
+    fn served(&self, role: Role) -> u8
+        ensures { result ≡ served_of role self.now }
+    {
+        match role {
+            Role::Master if self.nested => without_input(self.in_service(), CASCADE),
+            _ => self.in_service(),
+        }
+    }
+
+    /// The input that is served next, if there is one: then the interrupt output (INT) is high.
+    #[tactic(auto, unfolding(crate::specs::Chip::winner_at))]
+    pub fn winner(&self, role: Role) -> Option<u8>
+        ensures winner { result ≡ winner_at role self.now }
+        ensures input { IfSome result (λ winner. winner < 8) }
+    {
+        let requests = but_not(self.irr, self.imr);
+        first_ready(self.lowest, requests, self.served(role))
+    }
+
+    /// Takes the winner: its service begins, and an edge input's request ends.
+    #[tactic(auto, unfolding(crate::specs::Chip::taken))]
+    pub fn take(&mut self, winner: u8)
+        requires { winner < 8 }
+        ensures { self.new ≡ taken winner self.old }
+    {
+        if !self.auto_eoi {
+            self.isr = with_input(self.isr, winner);
+        } else if self.rotate {
+            self.lowest = winner;
+        }
+        if !has(self.elcr, winner) {
+            self.irr = without_input(self.irr, winner);
+        }
+    }
+
+    /// Takes the input lines over. An input in `edges` has risen since the last time, however it stands.
+    #[tactic(auto, unfolding(crate::specs::Chip::settled))]
+    pub fn settle(&mut self, inputs: u8, edges: u8)
+        ensures { self.new ≡ settled inputs edges self.old }
+    {
+        let rising = but_not(inputs, self.lines) | edges;
+        self.irr = but_not(self.irr | rising, self.elcr) | (inputs & self.elcr);
+        self.lines = inputs;
+    }
+
+    // A command of OCW2.
+    #[tactic(auto, unfolding(crate::specs::Chip::commanded, crate::specs::Chip::ended, crate::specs::Chip::ended_lowest))]
+    fn command(&mut self, command: Ocw2)
+        requires { HasInput command }
+        ensures { self.new ≡ commanded command self.old }
+    {
+        match command {
+            Ocw2::NonSpecificEoi => {
+                if let Some(input) = highest(self.lowest, self.in_service()) {
+                    self.isr = without_input(self.isr, input);
+                }
+            }
+            Ocw2::RotateOnNonSpecificEoi => {
+                if let Some(input) = highest(self.lowest, self.in_service()) {
+                    self.isr = without_input(self.isr, input);
+                    self.lowest = input;
+                }
+            }
+            Ocw2::SpecificEoi { input } => self.isr = without_input(self.isr, input),
+            Ocw2::RotateOnSpecificEoi { input } => {
+                self.isr = without_input(self.isr, input);
+                self.lowest = input;
+            }
+            Ocw2::RotateInAutomaticEoi { rotate } => self.rotate = rotate,
+            Ocw2::SetPriority { input } => self.lowest = input,
+            Ocw2::NoOperation => {}
+        }
+    }
+
+    // ICW1, which begins the initialization.
+    #[tactic(auto, unfolding(crate::specs::Chip::started))]
+    fn start(&mut self, value: u8)
+        ensures { self.new ≡ started value self.old }
+    {
+        let icw4 = has(value, 0);
+        *self = Chip {
+            irr: self.irr & self.elcr,
+            isr: 0,
+            imr: 0,
+            lowest: 7,
+            init_state: InitState::Icw2,
+            icw4,
+            single: has(value, 1),
+            read_isr: false,
+            poll: false,
+            special_mask: false,
+            auto_eoi: icw4 && self.auto_eoi,
+            rotate: false,
+            nested: icw4 && self.nested,
+            ..*self
+        };
+    }
+
+    // OCW3, which selects modes and what a read gives.
+    #[tactic(auto, unfolding(crate::specs::Chip::selected))]
+    fn select(&mut self, value: u8)
+        ensures { self.new ≡ selected value self.old }
+    {
+        if has(value, 6) {
+            self.special_mask = has(value, 5);
+        }
+        if has(value, 2) {
+            self.poll = true;
+        }
+        if has(value, 1) {
+            self.read_isr = has(value, 0);
+        }
+    }
+
+    /// A write with A0 low: ICW1, OCW2 or OCW3, by bits 4 and 3.
+    #[tactic(auto, unfolding(crate::specs::Chip::written_even))]
+    pub fn write_even(&mut self, value: u8)
+        ensures { self.new ≡ written_even value self.old }
+    {
+        if has(value, 4) {
+            self.start(value);
+        } else if has(value, 3) {
+            self.select(value);
+        } else {
+            self.command(Ocw2::of(value));
+        }
+    }
+
+    // The state after ICW3, or after ICW2 where no ICW3 comes.
+    fn after_icw3(&self) -> InitState
+        ensures { result ≡ after_icw3 self.now }
+    {
+        if self.icw4 {
+            InitState::Icw4
+        } else {
+            InitState::Ready
+        }
+    }
+
+    /// A write with A0 high: OCW1, or the next word of an initialization.
+    #[tactic(auto, unfolding(crate::specs::Chip::written_odd_in))]
+    pub fn write_odd(&mut self, value: u8)
+        ensures { self.new ≡ written_odd value self.old }
+    {
+        match self.init_state {
+            InitState::Ready => self.imr = value,
+            InitState::Icw2 => {
+                self.base = value - value % 8;
+                self.init_state = if self.single {
+                    self.after_icw3()
+                } else {
+                    InitState::Icw3
+                };
+            }
+            InitState::Icw3 => self.init_state = self.after_icw3(),
+            InitState::Icw4 => {
+                self.auto_eoi = has(value, 1);
+                self.nested = has(value, 4);
+                self.init_state = InitState::Ready;
+            }
+        }
+    }
+
+    /// A write to the chip's edge/level register, which keeps the inputs that can be level inputs.
+    #[tactic(auto, unfolding(crate::specs::Chip::elcr_written))]
+    pub fn write_elcr(&mut self, role: Role, value: u8)
+        ensures { self.new ≡ elcr_written role value self.old }
+    {
+        self.elcr = value & role.level_inputs();
+    }
+
+    /// A read of the even or the odd port, which is a poll where OCW3 asked for one ("Poll Command").
+    #[tactic(auto, unfolding(crate::specs::Chip::read_of, crate::specs::Chip::polled_by))]
+    pub fn read(&mut self, role: Role, is_odd: bool) -> u8
+        ensures { (result, self.new) ≡ read_of role is_odd self.old }
+    {
+        if self.poll {
+            let winner = self.winner(role);
+            self.poll = false;
+            match winner {
+                None => 0,
+                Some(winner) => {
+                    self.take(winner);
+                    0x80 + winner
+                }
+            }
+        } else if is_odd {
+            self.imr
+        } else if self.read_isr {
+            self.isr
+        } else {
+            self.irr
+        }
+    }
+
+    /// Acknowledges a winner, and gives its vector; without one that of input 7 ("default IR7").
+    #[tactic(auto, unfolding(crate::specs::Chip::answered))]
+    pub fn answer(&mut self, winner: Option<u8>) -> u8
+        requires { IfSome winner (λ winner. winner < 8) }
+        ensures { (result, self.new) ≡ answered winner self.old }
+    {
+        match winner {
+            None => self.base.wrapping_add(7),
+            Some(winner) => {
+                let vector = self.base.wrapping_add(winner);
+                self.take(winner);
+                vector
+            }
+        }
+    }
+
+    /// Takes the cascade input of the master, whose remembered line counts as low from then on.
+    #[tactic(auto, unfolding(crate::specs::Chip::cascaded))]
+    pub fn take_cascade(&mut self)
+        ensures { self.new ≡ cascaded self.old }
+    {
+        self.take(CASCADE);
+        self.lines = without_input(self.lines, CASCADE);
+    }
+}

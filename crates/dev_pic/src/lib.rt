@@ -1,0 +1,24 @@
+//! The pair of Intel 8259A interrupt controllers of a PC.
+#![tactic(auto)]
+
+mod bits;
+mod cells;
+mod chip;
+mod fault;
+mod hooks;
+mod laws;
+mod ocw2;
+mod pair;
+mod saved;
+mod winner;
+
+pub use fault::ChipFault;
+pub use hooks::{load_pair, save_pair};
+pub use laws::{
+    cells_law, default_law, eoi_law, initialization_law, level_law, lines_law, mask_law,
+    nesting_law, restored_law, rules_law, saved_law, service_law, steps_law, winner_law,
+};
+pub use pair::PicPair;
+
+#[cfg(test)]
+mod tests;

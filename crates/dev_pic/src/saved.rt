@@ -1,0 +1,124 @@
+// Saving and restoring the pair.
+ghost use Rattle.std.specs.Prelude.{◌≡◌, ◌<◌, ◌≤◌, length, IfErr};
+ghost use Rattle.dev_pic.specs.Cells.{cell_count};
+ghost use Rattle.dev_pic.specs.Saved.{hook_rule as hook_rule_of};
+
+use crate::cells::{restore_chip, save_chip};
+use crate::chip::Role;
+use crate::fault::ChipFault;
+use crate::pair::PicPair;
+use arrayvec::ArrayVec;
+use vms_hooks::{HookFault, Hooked, Pass};
+use vms_kinds::DevCells;
+
+/// The numbers of the two chips.
+const MASTER: u8 = 0;
+
+const SLAVE: u8 = 1;
+
+/// How many cells a chip has in the newest set.
+const CELL_COUNT: usize = 16;
+
+impl Hooked for PicPair {
+    ghost use Rattle.dev_pic.specs.Saved.{CanSave, CanRestore, pair_cells, hook_restored};
+
+    ghost can_save = { CanSave };
+
+    ghost can_restore = { CanRestore };
+
+    ghost saves_as = { λ numbers pair cells. cells ≡ pair_cells numbers.set pair };
+
+    ghost restores_to = { λ numbers cells outcome. outcome ≡ hook_restored numbers.level cells };
+}
+
+impl PicPair {
+    ghost use Rattle.dev_pic.specs.Cells.{saved_cells, IsChipCells};
+    ghost use Rattle.dev_pic.specs.Saved.{chip_at, CanSave, CanRestore, IsRestore, restored_pair, pair_cells, hook_restored};
+
+    /// The cells of one chip under the pass's set: 0 is the master, 1 the slave.
+    pub fn cells(&self, pass: &Pass, chip: u8) -> DevCells
+        requires pass { CanSave pass.now self.now }
+        requires chip { chip < 2 }
+        ensures cells { result.items ≡ saved_cells pass.now.set (chip_at chip self.now) }
+        ensures count { length result.items ≤ cell_count }
+    {
+        match chip {
+            MASTER => save_chip(pass.set(), &self.master),
+            _ => save_chip(pass.set(), &self.slave),
+        }
+    }
+
+    /// The pair of its chips' cells in the newest set, or the first rule that fails, the master's
+    /// before the slave's:
+    ///
+    /// 1. `lowest` is at most 7, `init_state` at most 3, and `base` has bits 2 to 0 clear.
+    /// 2. `elcr` is 0 at level 1, and from level 2 on within 0xf8 on the master and 0xde on the slave.
+    /// 3. `irr` and `lines` agree on the bits of `elcr`.
+    #[tactic(auto, unfolding(crate::specs::Saved::pair_of))]
+    pub fn of_cells(pass: &Pass, master: &DevCells, slave: &DevCells) -> Result<PicPair, ChipFault>
+        requires pass { IsRestore pass.now }
+        requires master { IsChipCells master.now.items }
+        requires slave { IsChipCells slave.now.items }
+        ensures restored { result ≡ restored_pair pass.now.level master.now.items slave.now.items }
+        ensures rule { IfErr result (λ fault. fault.rule ≤ 3) }
+    {
+        let level = pass.level();
+        let master = match restore_chip(level, Role::Master, master) {
+            Ok(chip) => chip,
+            Err(rule) => return Err(ChipFault { chip: MASTER, rule }),
+        };
+        match restore_chip(level, Role::Slave, slave) {
+            Ok(slave) => Ok(PicPair {
+                level,
+                master,
+                slave,
+            }),
+            Err(rule) => Err(ChipFault { chip: SLAVE, rule }),
+        }
+    }
+
+    /// What the stored closure of the pair's hooks saves: the master's cells and then the slave's.
+    pub fn save(&self, pass: &Pass) -> DevCells
+        requires { CanSave pass.now self.now }
+        ensures { result.items ≡ pair_cells pass.now.set self.now }
+    {
+        let mut cells = self.cells(pass, MASTER);
+        let _fits = cells.try_extend_from_slice(&self.cells(pass, SLAVE));
+        cells
+    }
+
+    /// What the stored closure of the pair's hooks restores. A rule of the slave has 10 added to its
+    /// number.
+    pub fn load(pass: &Pass, cells: &DevCells) -> Result<PicPair, HookFault>
+        requires { CanRestore pass.now cells.now.items }
+        ensures { result ≡ hook_restored pass.now.level cells.now.items }
+    {
+        let (master, slave) = cells.split_at(CELL_COUNT);
+        match PicPair::of_cells(pass, &chip_cells(master), &chip_cells(slave)) {
+            Ok(pair) => Ok(pair),
+            Err(fault) => Err(HookFault {
+                rule: hook_rule(fault),
+            }),
+        }
+    }
+}
+
+// The number of a fault's rule among those of both chips.
+fn hook_rule(fault: ChipFault) -> u8
+    requires { fault.rule ≤ 3 }
+    ensures { result ≡ hook_rule_of fault }
+{
+    match fault.chip {
+        MASTER => fault.rule,
+        _ => 10 + fault.rule,
+    }
+}
+
+fn chip_cells(cells: &[i128]) -> DevCells
+    requires { length cells.now ≤ cell_count }
+    ensures { result.items ≡ cells.now }
+{
+    let mut out = ArrayVec::new();
+    let _fits = out.try_extend_from_slice(cells);
+    out
+}
