@@ -11,3 +11,4 @@ mod FaultRows
 mod WellFormedRows
 mod ReadyRows
 mod ValuesRows
+mod CompareRows

@@ -21,5 +21,8 @@ pub mod Names
 pub mod Rules
 pub mod WellFormed
 pub mod Readiness
+pub mod Reducing
+pub mod Comparing
+pub mod Carrying
 pub mod Shipped
 pub mod First
