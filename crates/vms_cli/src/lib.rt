@@ -1,0 +1,15 @@
+//! The program's top call: it does what the words say over the outside that is handed in.
+#![tactic(auto)]
+
+mod ending;
+mod notes;
+mod show;
+mod top;
+mod words;
+
+pub use top::vmstate;
+pub(crate) use words::Command;
+pub use words::Words;
+
+#[cfg(test)]
+mod tests;

@@ -1,0 +1,115 @@
+// The top call on the smallest stream and on what isn't one.
+use crate::{Words, vmstate};
+use std::alloc::Global;
+use std::test::Fail;
+use vms_io::{MemShelf, MemSink, MemSource};
+
+const SMALLEST: [u8; 41] =
+    *b"QEVM\x00\x00\x00\x03\x04\x00\x00\x00\x00\x05timer\x00\x00\x00\x00\x00\x00\x00\x01\x00\x00\x00\x00\x00\x00\x00\x00\x7e\x00\x00\x00\x00\x00";
+
+const GREATEST: [u8; 41] =
+    *b"QEVM\x00\x00\x00\x03\x04\x00\x00\x00\x00\x05timer\x00\x00\x00\x00\x00\x00\x00\x01\xff\xff\xff\xff\xff\xff\xff\xff\x7e\x00\x00\x00\x00\x00";
+
+const TRAILING: [u8; 42] =
+    *b"QEVM\x00\x00\x00\x03\x04\x00\x00\x00\x00\x05timer\x00\x00\x00\x00\x00\x00\x00\x01\x00\x00\x00\x00\x00\x00\x00\x00\x7e\x00\x00\x00\x00\x00\x00";
+
+#[derive(Drop)]
+struct Seen {
+    status: u8,
+    out: MemSink,
+    notes: MemSink,
+}
+
+// Runs the words on an input in pieces of this length, where these reads and writes to out fail.
+fn run(
+    alloc: Global,
+    given: &[&str],
+    input: &[u8],
+    piece: u32,
+    failing_reads: &[u32],
+    failing_writes: &[u32],
+) -> Result<Seen, Fail> {
+    let mut words = Words::new(alloc);
+    for word in given {
+        words.push(word)?;
+    }
+    let pieces = vec![in alloc; piece; 64]?;
+    let mut input = MemSource::new(input.to_vec(alloc)?, pieces, failing_reads.to_vec(alloc)?);
+    let mut out = MemSink::new(alloc, 200, failing_writes.to_vec(alloc)?)?;
+    let mut notes = MemSink::new(alloc, 200, Vec::new(alloc))?;
+    let mut shelf = MemShelf::new(alloc, Vec::new(alloc));
+    let status = vmstate(alloc, &words, &mut input, &mut out, &mut notes, &mut shelf);
+    Ok(Seen { status, out, notes })
+}
+
+#[test]
+fn shows_and_refuses_whole_inputs(rt: HostRuntime) -> Result<(), Fail> {
+    let alloc = rt.alloc();
+    let show: &[&str] = &["show", "@0"];
+    let cases: [(&[u8], u8, &[u8], &[u8]); 9] = [
+        (&SMALLEST, 0, b"section timer 0 v1\nnow = 0\n", b""),
+        (
+            &GREATEST,
+            0,
+            b"section timer 0 v1\nnow = 18446744073709551615\n",
+            b"",
+        ),
+        (
+            b"QEVN\x00\x00\x00\x03",
+            1,
+            b"",
+            b"refused at 0 in -: BadMagic\n",
+        ),
+        (
+            b"QEVM\x00\x00\x00\x02",
+            1,
+            b"",
+            b"refused at 4 in -: Unbuilt\n",
+        ),
+        (b"", 1, b"", b"refused at 0 in -: Truncated\n"),
+        (
+            b"QEVM\x00\x00\x00",
+            1,
+            b"",
+            b"refused at 4 in -: Truncated\n",
+        ),
+        (
+            &SMALLEST[..30],
+            1,
+            b"",
+            b"refused at 27 in timer/0: Truncated\n",
+        ),
+        (&SMALLEST[..40], 1, b"", b"refused at 40 in -: Truncated\n"),
+        (&TRAILING, 1, b"", b"refused at 41 in -: Unbuilt\n"),
+    ];
+    for piece in [1, 64] {
+        for (bytes, status, text, line) in cases {
+            let seen = run(alloc, show, bytes, piece, &[], &[])?;
+            assert_eq!(rt; seen.status, status);
+            assert_eq!(rt; seen.out.bytes(), text);
+            assert_eq!(rt; seen.notes.bytes(), line);
+        }
+    }
+    Ok(())
+}
+
+#[test]
+fn names_failing_calls_and_bad_words(rt: HostRuntime) -> Result<(), Fail> {
+    let alloc = rt.alloc();
+    let show: &[&str] = &["show", "@0"];
+    let cases: [(&[&str], &[u32], &[u32], u8, &[u8]); 6] = [
+        (show, &[1], &[], 5, b"read fault\n"),
+        (show, &[], &[1], 6, b"write fault\n"),
+        (&[], &[], &[], 2, b"bad words\n"),
+        (&["show"], &[], &[], 2, b"bad words\n"),
+        (&["show", "@9"], &[], &[], 2, b"bad words\n"),
+        (&["show", "@0", ""], &[], &[], 2, b"bad words\n"),
+    ];
+    for (words, failing_reads, failing_writes, status, line) in cases {
+        let seen = run(alloc, words, &SMALLEST, 9, failing_reads, failing_writes)?;
+        assert_eq!(rt; seen.status, status);
+        assert_eq!(rt; seen.out.bytes(), b"".as_slice());
+        assert_eq!(rt; seen.notes.bytes(), line);
+    }
+    Ok(())
+}

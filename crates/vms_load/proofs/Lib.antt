@@ -1,0 +1,2 @@
+pub mod TimerImages
+pub mod UnitLemmas

@@ -1,0 +1,15 @@
+//! The loader: takes one stream of a set from a source, unit by unit, each judged when it is whole.
+//!
+//! At this stage it knows one form of input, the smallest stream of the first shipped set.
+#![tactic(auto)]
+
+mod fault;
+mod loader;
+mod units;
+
+pub use fault::{LoadFault, Refusal};
+pub use loader::Loader;
+pub use vms_spec::Reason;
+
+#[cfg(test)]
+mod tests;

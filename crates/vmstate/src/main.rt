@@ -1,0 +1,62 @@
+//! The program: it makes the real outside, calls `vmstate` once and ends with its status.
+#![tactic(auto)]
+
+ghost use Rattle.std.specs.Prelude.{◌≡◌, ◌⊎◌, IsTrue};
+
+use std::alloc::Global;
+use std::env;
+use std::io::{BufReader, BufWriter, ErrorKind};
+use std::process::ExitCode;
+use vms_cli::{Words, vmstate};
+use vms_io::{MemShelf, NoMemory, Sink, StdSink, StdSource, write_all_of};
+
+const OUT_OF_MEMORY: u8 = 10;
+
+const WRITE_FAULT: u8 = 6;
+
+fn main(rt: HostRuntime) -> ExitCode {
+    let alloc = rt.alloc();
+    let Ok(words) = words(&rt, alloc) else {
+        return ExitCode::from(OUT_OF_MEMORY);
+    };
+    let Ok(reader) = BufReader::new(alloc, rt.stdin()) else {
+        return ExitCode::from(OUT_OF_MEMORY);
+    };
+    let Ok(writer) = BufWriter::new(alloc, rt.stdout()) else {
+        return ExitCode::from(OUT_OF_MEMORY);
+    };
+    let mut input = StdSource::new(reader);
+    let mut out = StdSink::new(writer);
+    let mut notes = StdSink::new(rt.stderr());
+    let mut shelf = MemShelf::new(alloc, Vec::new(alloc));
+    let status = vmstate(alloc, &words, &mut input, &mut out, &mut notes, &mut shelf);
+    let flushed = out.flush().is_ok();
+    ExitCode::from(late_status(status, flushed, &mut notes))
+}
+
+// The words after the program's name; one empty word where one of them isn't UTF-8.
+fn words(rt: &HostRuntime, alloc: Global) -> Result<Words, NoMemory> {
+    let mut words = Words::new(alloc);
+    match env::args(rt) {
+        Ok(args) => {
+            for word in args.skip(1) {
+                words.push(word.as_str())?;
+            }
+        }
+        Err(error) if error.kind() == ErrorKind::OutOfMemory => return Err(NoMemory),
+        Err(_) => words.push("")?,
+    }
+    Ok(words)
+}
+
+// The status, or that of a write fault where the last bytes of out weren't taken.
+fn late_status<N: Sink>(status: u8, flushed: bool, notes: &mut N) -> u8
+    ensures kept { IsTrue flushed → result ≡ status }
+    ensures late { result ≡ status ⊎ result ≡ WRITE_FAULT }
+{
+    if flushed || status == WRITE_FAULT {
+        return status;
+    }
+    let _told = write_all_of(notes, b"write fault\n");
+    WRITE_FAULT
+}
