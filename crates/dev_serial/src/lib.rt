@@ -1,0 +1,15 @@
+//! A serial port: the 16450 and the 16550A, without and with the character timeout.
+//!
+//! Registers, bits and identifications have the names of the National Semiconductor data sheets
+//! "NS16450 Universal Asynchronous Receiver/Transmitter" and "NS16550A .. with FIFOs". Moments are
+//! nanoseconds from power on.
+#![tactic(auto)]
+
+mod mode;
+mod receiver;
+mod registers;
+mod shift;
+mod transmitter;
+mod trigger;
+
+pub use trigger::Trigger;
