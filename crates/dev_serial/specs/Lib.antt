@@ -1,8 +1,11 @@
+pub mod Access
 pub mod Bits
 pub mod Fifo
 pub mod Line
 pub mod Parts
+pub mod Port
 pub mod Receive
 pub mod ReceiverView
 pub mod Transmit
 pub mod TransmitterView
+pub mod View

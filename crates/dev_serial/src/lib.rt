@@ -5,11 +5,13 @@
 //! nanoseconds from power on.
 #![tactic(auto)]
 
+mod interrupt;
 mod mode;
 mod receiver;
 mod registers;
+mod serial;
 mod shift;
 mod transmitter;
 mod trigger;
 
-pub use trigger::Trigger;
+pub use serial::{NEWEST_LEVEL, Serial};

@@ -1,5 +1,5 @@
 // The receiving part of a port.
-ghost use Rattle.std.specs.Prelude.{◌≡◌, ◌≤◌, length, []};
+ghost use Rattle.std.specs.Prelude.{◌≡◌, ◌≤◌, length, [], false};
 
 use crate::mode::{LONGEST_CHARACTER, Mode};
 use arrayvec::ArrayVec;
@@ -42,7 +42,9 @@ impl Receiver {
     pub fn receive(&mut self, mode: Mode, byte: u8, at: u64)
         requires longest { mode.character ≤ LONGEST_CHARACTER }
         requires moment { at ≤ 4000000000000000000 }
-        ensures { self.new ≡ received mode byte at self.old }
+        ensures state { self.new ≡ received mode byte at self.old }
+        ensures short { length self.old.held ≤ 16 → length self.new.held ≤ 16 }
+        ensures one { mode.has_fifos ≡ false → length self.new.held ≤ 1 }
     {
         if mode.has_fifos {
             if self.held.is_full() {
@@ -67,7 +69,8 @@ impl Receiver {
     pub fn take(&mut self, mode: Mode, at: u64) -> u8
         requires longest { mode.character ≤ LONGEST_CHARACTER }
         requires moment { at ≤ 4000000000000000000 }
-        ensures { (result, self.new) ≡ taken mode at self.old }
+        ensures state { (result, self.new) ≡ taken mode at self.old }
+        ensures fewer { length self.new.held ≤ length self.old.held }
     {
         if self.held.is_empty() {
             return 0;

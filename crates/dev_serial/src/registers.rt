@@ -35,6 +35,19 @@ pub(crate) const OUT1: u8 = 2;
 pub(crate) const OUT2: u8 = 3;
 pub(crate) const LOOP: u8 = 4;
 
+/// Line Status Register: data ready, overrun error, transmitter holding register empty, transmitter
+/// empty.
+pub(crate) const DATA_READY: u8 = 0x01;
+pub(crate) const OVERRUN_ERROR: u8 = 0x02;
+pub(crate) const THR_EMPTY: u8 = 0x20;
+pub(crate) const TRANSMITTER_EMPTY: u8 = 0x40;
+
+/// Modem Status Register: the modem's four lines.
+pub(crate) const CLEAR_TO_SEND: u8 = 0x10;
+pub(crate) const DATA_SET_READY: u8 = 0x20;
+pub(crate) const RING_INDICATOR: u8 = 0x40;
+pub(crate) const CARRIER_DETECT: u8 = 0x80;
+
 /// Whether a register has the bit of this number, counted from 0, the least.
 pub(crate) fn has(register: u8, bit: u8) -> bool
     requires { bit < 8 }

@@ -1,6 +1,7 @@
 // The sending part of a port.
-ghost use Rattle.std.specs.Prelude.{◌≡◌, ◌≤◌, ◌+◌, ◌++◌, length, Some, [], ◌∷◌, map};
+ghost use Rattle.std.specs.Prelude.{◌≡◌, ◌≤◌, ◌+◌, ◌++◌, length, Some, [], ◌∷◌, false};
 ghost use Rattle.dev_serial.specs.Transmit.{gone, staying, holding, on_line, looped_in, departures};
+ghost use Rattle.dev_serial.specs.Parts.{IsShort};
 
 use crate::mode::{LONGEST_CHARACTER, Mode};
 use crate::receiver::Receiver;
@@ -40,7 +41,9 @@ impl Transmitter {
     /// at the moment `due`.
     #[tactic(auto, unfolding(crate::specs::Transmit::queued, crate::specs::Transmit::loaded))]
     pub fn write(&mut self, has_fifos: bool, byte: u8, due: u64)
-        ensures { self.new ≡ loaded due self.old.shift (queued has_fifos byte self.old.waiting) }
+        ensures state { self.new ≡ loaded due self.old.shift (queued has_fifos byte self.old.waiting) }
+        ensures short { length self.old.waiting ≤ 16 → length self.new.waiting ≤ 16 }
+        ensures one { has_fifos ≡ false → length self.new.waiting ≤ 1 }
     {
         if !has_fifos {
             self.waiting.clear();
@@ -87,9 +90,12 @@ impl Transmitter {
         requires longest { mode.character ≤ LONGEST_CHARACTER }
         requires moment { to ≤ 4000000000000000000 }
         requires few { length self.old.waiting ≤ 16 }
+        requires few_held { IsShort mode.has_fifos receiver.old.held }
         ensures state { self.new ≡ run_until mode.character to self.old.shift self.old.waiting }
         ensures line { result.items ≡ on_line mode (gone_by mode.character to self.old.shift self.old.waiting) }
         ensures looped { receiver.new ≡ looped_in mode (gone_by mode.character to self.old.shift self.old.waiting) receiver.old }
+        ensures fewer { length self.new.waiting ≤ length self.old.waiting }
+        ensures still_few { IsShort mode.has_fifos receiver.new.held }
     {
         let Some(first) = self.shift else {
             return ArrayVec::new();
@@ -111,9 +117,12 @@ fn send_due(
     requires longest { mode.character ≤ LONGEST_CHARACTER }
     requires moment { to ≤ 4000000000000000000 }
     requires few { length waiting.old.items ≤ 16 }
+    requires few_held { IsShort mode.has_fifos receiver.old.held }
     ensures left { record { waiting = waiting.new.items; shift = result.1 } ≡ holding (staying to (departures mode.character (Some first) waiting.old.items)) }
     ensures line { result.0.items ≡ on_line mode (gone to (departures mode.character (Some first) waiting.old.items)) }
     ensures looped { receiver.new ≡ looped_in mode (gone to (departures mode.character (Some first) waiting.old.items)) receiver.old }
+    ensures fewer { length waiting.new.items ≤ length waiting.old.items }
+    ensures still_few { IsShort mode.has_fifos receiver.new.held }
 {
     let mut line = ArrayVec::new();
     let mut shift = first;
@@ -138,9 +147,11 @@ fn leave(mode: Mode, shift: Shift, line: &mut ArrayVec<u8, 17>, receiver: &mut R
     requires longest { mode.character ≤ LONGEST_CHARACTER }
     requires moment { shift.due ≤ 4000000000000000000 }
     requires room { length line.old.items ≤ 16 }
+    requires few_held { IsShort mode.has_fifos receiver.old.held }
     ensures line { line.new.items ≡ line.old.items ++ on_line mode (shift ∷ []) }
     ensures looped { receiver.new ≡ looped_in mode (shift ∷ []) receiver.old }
     ensures more { length line.new.items ≤ length line.old.items + 1 }
+    ensures still_few { IsShort mode.has_fifos receiver.new.held }
 {
     if mode.is_looped {
         receiver.receive(mode, shift.byte, shift.due);

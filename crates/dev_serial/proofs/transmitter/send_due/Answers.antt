@@ -10,6 +10,8 @@ returns-then-shift-to c =
       left = stays-left c.args.mode _ _ h _ _ c.bytes.invariant.left;
       line = stays-line c.args.mode _ _ h _ _ _ c.bytes.invariant.line;
       looped = stays-looped c.args.mode _ _ h _ _ _ c.bytes.invariant.looped;
+      fewer = c.bytes.invariant.few;
+      still_few = c.bytes.invariant.few_held;
     }
 
 pub returns-then-is_empty : goal.returns-then-is_empty
@@ -19,12 +21,16 @@ returns-then-is_empty c =
       left = ends-left c.args.mode _ _ h _ _ c.bytes.invariant.left (grind (arith, nat_tests));
       line = ends-line c.args.mode _ _ h _ _ _ _ c.leave.ensures.line c.bytes.invariant.line (grind (arith, nat_tests));
       looped = ends-looped c.args.mode _ _ h _ _ _ _ c.leave.ensures.looped c.bytes.invariant.looped (grind (arith, nat_tests));
+      fewer = c.bytes.invariant.few;
+      still_few = c.leave.ensures.still_few;
     }
 
 pub bytes-preserved : goal.bytes-preserved
 bytes-preserved c =
     let h = c.if-shift-to.false in
     record {
+      few = omega (arith, c.remove.ensures.len, c.bytes.invariant.few);
+      few_held = c.leave.ensures.still_few;
       room = omega (arith, c.leave.ensures.more, c.remove.ensures.len, c.bytes.invariant.room);
       left = moves-left c.args.mode _ _ h _ _ _ _ c.remove.ensures.value c.remove.ensures.items c.bytes.invariant.left (grind (arith, nat_tests));
       line = moves-line c.args.mode _ _ h _ _ _ _ _ _ c.remove.ensures.value c.remove.ensures.items c.leave.ensures.line c.bytes.invariant.line (grind (arith, nat_tests));
