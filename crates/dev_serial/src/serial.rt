@@ -194,6 +194,109 @@ impl Serial {
             | bits_where(is_empty && self.transmitter.shift().is_none(), TRANSMITTER_EMPTY)
     }
 
+    /// Writes the register at an offset from 0 to 7, at a moment in nanoseconds.
+    #[tactic(auto, unfolding(crate::specs::Access::written))]
+    pub fn write(&mut self, offset: u8, value: u8, now: u64)
+        requires offset { offset ≤ 7 }
+        requires moment { now ≤ 4000000000000000000 }
+        ensures { self.new ≡ written offset value now self.old }
+    {
+        match offset {
+            RBR_THR if has(self.lcr, DLAB) => {
+                self.divisor = self.divisor / 256 * 256 + u16::from(value);
+            }
+            RBR_THR => self.write_byte(value, now),
+            IER if has(self.lcr, DLAB) => {
+                self.divisor = u16::from(value) * 256 + self.divisor % 256;
+            }
+            IER => self.write_enable(value),
+            IIR_FCR => {
+                if self.level >= FIFO_LEVEL {
+                    self.write_fifo_control(value);
+                }
+            }
+            LCR => self.lcr = value,
+            MCR => self.mcr = value & 0x1f,
+            LSR | MSR => {}
+            _ => self.scr = value,
+        }
+    }
+
+    // "Transmitter Holding Register". The latch is cleared, and set again where the byte goes on into
+    // the shift register at once.
+    #[tactic(auto, unfolding(crate::specs::Access::thr_written))]
+    fn write_byte(&mut self, byte: u8, now: u64)
+        requires { now ≤ 4000000000000000000 }
+        ensures { self.new ≡ thr_written byte now self.old }
+    {
+        let due = now + character_time(self.divisor, self.lcr);
+        self.transmitter.write(self.fifos.is_some(), byte, due);
+        self.thr_empty = self.transmitter.waiting().is_empty();
+    }
+
+    // "Interrupt Enable Register". Enabling the interrupt of an empty transmit list samples the list.
+    #[tactic(auto, unfolding(crate::specs::Access::ier_written))]
+    fn write_enable(&mut self, value: u8)
+        ensures { self.new ≡ ier_written value self.old }
+    {
+        let enabled = value & 0x0f;
+        if !has(self.ier, ETBEI) && has(enabled, ETBEI) {
+            self.thr_empty = self.transmitter.waiting().is_empty();
+        }
+        self.ier = enabled;
+    }
+
+    // "FIFO Control Register". A change of the switch clears both lists.
+    #[tactic(auto, unfolding(crate::specs::Access::fcr_written))]
+    fn write_fifo_control(&mut self, value: u8)
+        ensures { self.new ≡ fcr_written value self.old }
+    {
+        let is_on = has(value, FIFO_ENABLE);
+        let changes = is_on != self.fifos.is_some();
+        if changes || (is_on && has(value, RCVR_RESET)) {
+            self.receiver.empty();
+        }
+        if changes || (is_on && has(value, XMIT_RESET)) {
+            if !self.transmitter.waiting().is_empty() {
+                self.thr_empty = true;
+            }
+            self.transmitter.empty();
+        }
+        self.fifos = if is_on {
+            Some(Trigger::of_bits(value / 64))
+        } else {
+            None
+        };
+    }
+
+    /// A byte comes on the line at a moment in nanoseconds. In loop mode it is ignored.
+    #[tactic(auto, unfolding(crate::specs::Access::came_in))]
+    pub fn byte_in(&mut self, value: u8, now: u64)
+        requires { now ≤ 4000000000000000000 }
+        ensures { self.new ≡ came_in value now self.old }
+    {
+        let mode = self.mode();
+        if !mode.is_looped {
+            self.receiver.receive(mode, value, now);
+        }
+    }
+
+    /// Lets time pass up to a moment in nanoseconds, and answers the bytes that left for the line, first
+    /// out first, at most 17. In loop mode what leaves the shift register comes in again at its moment.
+    #[tactic(auto, unfolding(crate::specs::Access::advanced))]
+    pub fn advance(&mut self, to: u64) -> ArrayVec<u8, 17>
+        requires { to ≤ 4000000000000000000 }
+        ensures { (result.items, self.new) ≡ advanced to self.old }
+    {
+        let mode = self.mode();
+        let was_empty = self.transmitter.waiting().is_empty();
+        let sent = self.transmitter.advance(mode, to, &mut self.receiver);
+        if self.transmitter.waiting().is_empty() && !was_empty {
+            self.thr_empty = true;
+        }
+        sent
+    }
+
     /// The interrupt line at a moment: it is high exactly where an interrupt is identified.
     #[tactic(auto, unfolding(crate::specs::Port::line_of))]
     pub fn line(&self, now: u64) -> bool
