@@ -1,11 +1,15 @@
 pub mod Access
 pub mod Bits
+pub mod Cells
 pub mod Fifo
+pub mod Image
+pub mod ImageView
 pub mod Line
 pub mod Parts
 pub mod Port
 pub mod Receive
 pub mod ReceiverView
+pub mod Rules
 pub mod Transmit
 pub mod TransmitterView
 pub mod View

@@ -5,6 +5,8 @@
 //! nanoseconds from power on.
 #![tactic(auto)]
 
+mod cells;
+mod image;
 mod interrupt;
 mod mode;
 mod receiver;
