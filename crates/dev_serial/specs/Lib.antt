@@ -10,6 +10,7 @@ pub mod Port
 pub mod Receive
 pub mod ReceiverView
 pub mod Rules
+pub mod Saved
 pub mod Transmit
 pub mod TransmitterView
 pub mod View

@@ -11,6 +11,7 @@ mod interrupt;
 mod mode;
 mod receiver;
 mod registers;
+mod saved;
 mod serial;
 mod shift;
 mod transmitter;
