@@ -11,6 +11,7 @@ pub mod Receive
 pub mod ReceiverView
 pub mod Rules
 pub mod Saved
+pub mod Sound
 pub mod Transmit
 pub mod TransmitterView
 pub mod View

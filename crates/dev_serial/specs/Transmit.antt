@@ -1,5 +1,5 @@
 -- The transmitter's steps, and the timetable by which bytes leave.
-use Rattle.std.specs.Prelude.{ℕ, ◌+◌, Bool, nat_le, nat_lt, if◌then◌else◌, List, [], ◌∷◌, ◌++◌, length, map, Option, Some, None}
+use Rattle.std.specs.Prelude.{ℕ, ◌+◌, ◌<◌, Bool, nat_le, nat_lt, if◌then◌else◌, List, [], ◌∷◌, ◌++◌, length, map, Option, Some, None}
 use Rattle.dev_serial.specs.Parts.{ReceiverState, TransmitterState}
 use Rattle.dev_serial.specs.Receive.{received}
 use Rattle.dev_serial.specs.declared.mode.Mode.{Mode}
@@ -69,3 +69,8 @@ run_until character to (Some shift) waiting = holding (staying to (departures ch
 -- the bytes that leave the shift register up to a moment, each with its own
 abbrev pub gone_by : ℕ → ℕ → Option Shift → List ℕ → List Shift
 gone_by character to shift waiting = gone to (departures character shift waiting)
+
+-- what a shift register holds is sent after a moment
+abbrev pub IsSentAfter : ℕ → Option Shift → Type 0
+IsSentAfter to None = Unit {0}
+IsSentAfter to (Some shift) = to < shift.due

@@ -6,7 +6,7 @@ use crate::cells::{byte_at, fifo_at, moment_at, signed_at, word_at};
 use crate::interrupt::Interrupt;
 use crate::mode::LONGEST_CHARACTER;
 use crate::receiver::Receiver;
-use crate::registers::has;
+use crate::registers::{DR, OE, TEMT, THRE, has};
 use crate::serial::{FIFO_LEVEL, Serial, TIMEOUT_LEVEL};
 use crate::shift::Shift;
 use crate::transmitter::Transmitter;
@@ -119,8 +119,8 @@ impl Image {
     fn status_holds(&self) -> bool
         ensures { result ≡ status_holds self.now }
     {
-        let is_ready = has(self.lsr, 0);
-        let is_empty = has(self.lsr, 5);
+        let is_ready = has(self.lsr, DR);
+        let is_empty = has(self.lsr, THRE);
         if self.fcr == 0 {
             (is_ready || self.rbr == 0) && (!is_empty || self.thr == 0)
         } else {
@@ -134,8 +134,8 @@ impl Image {
         requires { now ≤ 4000000000000000000 }
         ensures { result ≡ shift_holds now self.now }
     {
-        if has(self.lsr, 6) {
-            self.tx_due == NEVER && has(self.lsr, 5) && self.tsr == 0
+        if has(self.lsr, TEMT) {
+            self.tx_due == NEVER && has(self.lsr, THRE) && self.tsr == 0
         } else {
             self.tx_due != NEVER && self.tx_due > now && self.tx_due <= now + LONGEST_CHARACTER
         }
@@ -171,7 +171,7 @@ impl Image {
         ensures { result ≡ latch_holds self.now }
     {
         let is_known = self.thr_ipending == -1 || self.thr_ipending == 0 || self.thr_ipending == 1;
-        is_known && (!self.latch() || has(self.lsr, 5))
+        is_known && (!self.latch() || has(self.lsr, THRE))
     }
 
     // The port of these numbers.
@@ -180,8 +180,8 @@ impl Image {
         ensures { result ≡ port_of level self }
     {
         let thr_empty = self.latch();
-        let held = bytes_held(self.fcr, has(self.lsr, 0), self.rbr, self.rx);
-        let waiting = bytes_held(self.fcr, !has(self.lsr, 5), self.thr, self.tx);
+        let held = bytes_held(self.fcr, has(self.lsr, DR), self.rbr, self.rx);
+        let waiting = bytes_held(self.fcr, !has(self.lsr, THRE), self.thr, self.tx);
         Serial {
             level,
             divisor: self.divisor,
@@ -190,7 +190,7 @@ impl Image {
             mcr: self.mcr,
             scr: self.scr,
             fifos: fifos_of(self.fcr),
-            receiver: Receiver::new(held, has(self.lsr, 1), moment_of(self.timeout_at)),
+            receiver: Receiver::new(held, has(self.lsr, OE), moment_of(self.timeout_at)),
             transmitter: Transmitter::new(waiting, shift_of(self.tsr, self.tx_due)),
             thr_empty,
         }

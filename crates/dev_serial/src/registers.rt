@@ -1,5 +1,5 @@
 // The registers' offsets, and their bits by number.
-ghost use Rattle.std.specs.Prelude.{◌≡◌, ◌<◌};
+ghost use Rattle.std.specs.Prelude.{◌≡◌, ◌<◌, ◌^◌};
 ghost use Rattle.dev_serial.specs.Bits.{has as has_bit, bits_where};
 
 /// Offsets from the port's base. RBR and THR stand at offset 0, IIR and FCR at offset 2; while DLAB is
@@ -37,16 +37,22 @@ pub(crate) const LOOP: u8 = 4;
 
 /// Line Status Register: data ready, overrun error, transmitter holding register empty, transmitter
 /// empty.
-pub(crate) const DATA_READY: u8 = 0x01;
-pub(crate) const OVERRUN_ERROR: u8 = 0x02;
-pub(crate) const THR_EMPTY: u8 = 0x20;
-pub(crate) const TRANSMITTER_EMPTY: u8 = 0x40;
+pub(crate) const DR: u8 = 0;
+pub(crate) const OE: u8 = 1;
+pub(crate) const THRE: u8 = 5;
+pub(crate) const TEMT: u8 = 6;
 
-/// Modem Status Register: the modem's four lines.
-pub(crate) const CLEAR_TO_SEND: u8 = 0x10;
-pub(crate) const DATA_SET_READY: u8 = 0x20;
-pub(crate) const RING_INDICATOR: u8 = 0x40;
-pub(crate) const CARRIER_DETECT: u8 = 0x80;
+/// Modem Status Register: clear to send, data set ready, ring indicator, data carrier detect.
+pub(crate) const CTS: u8 = 4;
+pub(crate) const DSR: u8 = 5;
+pub(crate) const RI: u8 = 6;
+pub(crate) const DCD: u8 = 7;
+
+/// What the Modem Status Register reads outside of loop mode: CTS, DSR and DCD.
+pub(crate) const MODEM_READY: u8 = 0xb0;
+
+/// Interrupt Identification Register: the two bits that tell that FIFOs are on.
+pub(crate) const FIFOS_ENABLED: u8 = 0xc0;
 
 /// Whether a register has the bit of this number, counted from 0, the least.
 pub(crate) fn has(register: u8, bit: u8) -> bool
@@ -61,4 +67,12 @@ pub(crate) fn bits_where(condition: bool, bits: u8) -> u8
     ensures { result ≡ bits_where condition bits }
 {
     if condition { bits } else { 0 }
+}
+
+/// The bit of this number where the condition holds, else none.
+pub(crate) fn bit_where(condition: bool, bit: u8) -> u8
+    requires { bit < 8 }
+    ensures { result ≡ bits_where condition (2 ^ bit) }
+{
+    bits_where(condition, 1 << bit)
 }

@@ -52,6 +52,7 @@ impl Model for Serial {
 }
 
 impl Serial {
+    ghost use Rattle.dev_serial.specs.Transmit.{IsSentAfter};
     ghost use Rattle.dev_serial.specs.Receive.{taken, taken_at};
     ghost use Rattle.dev_serial.specs.Port.{power_on, mode_of, is_data_ready, has_come, timeout_level, interrupt, line_of};
     ghost use Rattle.dev_serial.specs.Access.{lsr_of, with_taken, id_read, lsr_read, read_of, thr_written, ier_written, fcr_written, written, came_in, advanced};
@@ -170,7 +171,7 @@ impl Serial {
         if interrupt.is_thr_empty() {
             self.thr_empty = false;
         }
-        interrupt.number() | bits_where(self.fifos.is_some(), 0xc0)
+        interrupt.number() | bits_where(self.fifos.is_some(), FIFOS_ENABLED)
     }
 
     // "Line Status Register". Reading it clears the overrun flag.
@@ -188,10 +189,10 @@ impl Serial {
         ensures { result ≡ lsr_of self.now }
     {
         let is_empty = self.transmitter.waiting().is_empty();
-        bits_where(!self.receiver.held().is_empty(), DATA_READY)
-            | bits_where(self.receiver.has_overrun(), OVERRUN_ERROR)
-            | bits_where(is_empty, THR_EMPTY)
-            | bits_where(is_empty && self.transmitter.shift().is_none(), TRANSMITTER_EMPTY)
+        bit_where(!self.receiver.held().is_empty(), DR)
+            | bit_where(self.receiver.has_overrun(), OE)
+            | bit_where(is_empty, THRE)
+            | bit_where(is_empty && self.transmitter.shift().is_none(), TEMT)
     }
 
     /// Writes the register at an offset from 0 to 7, at a moment in nanoseconds.
@@ -286,7 +287,9 @@ impl Serial {
     #[tactic(auto, unfolding(crate::specs::Access::advanced))]
     pub fn advance(&mut self, to: u64) -> ArrayVec<u8, 17>
         requires { to ≤ 4000000000000000000 }
-        ensures { (result.items, self.new) ≡ advanced to self.old }
+        ensures state { (result.items, self.new) ≡ advanced to self.old }
+        ensures few { length result.items ≤ 17 }
+        ensures none_due { IsSentAfter to self.new.transmitter.shift }
     {
         let mode = self.mode();
         let was_empty = self.transmitter.waiting().is_empty();
@@ -312,11 +315,11 @@ fn modem_status(mcr: u8) -> u8
     ensures { result ≡ msr_of mcr }
 {
     if has(mcr, LOOP) {
-        bits_where(has(mcr, RTS), CLEAR_TO_SEND)
-            | bits_where(has(mcr, DTR), DATA_SET_READY)
-            | bits_where(has(mcr, OUT1), RING_INDICATOR)
-            | bits_where(has(mcr, OUT2), CARRIER_DETECT)
+        bit_where(has(mcr, RTS), CTS)
+            | bit_where(has(mcr, DTR), DSR)
+            | bit_where(has(mcr, OUT1), RI)
+            | bit_where(has(mcr, OUT2), DCD)
     } else {
-        CLEAR_TO_SEND | DATA_SET_READY | CARRIER_DETECT
+        MODEM_READY
     }
 }

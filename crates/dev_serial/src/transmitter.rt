@@ -1,6 +1,6 @@
 // The sending part of a port.
 ghost use Rattle.std.specs.Prelude.{◌≡◌, ◌≤◌, ◌+◌, ◌++◌, length, Some, [], ◌∷◌, false};
-ghost use Rattle.dev_serial.specs.Transmit.{gone, staying, holding, on_line, looped_in, departures};
+ghost use Rattle.dev_serial.specs.Transmit.{gone, staying, holding, on_line, looped_in, departures, IsSentAfter};
 ghost use Rattle.dev_serial.specs.Parts.{IsShort};
 
 use crate::mode::{LONGEST_CHARACTER, Mode};
@@ -94,6 +94,8 @@ impl Transmitter {
         ensures state { self.new ≡ run_until mode.character to self.old.shift self.old.waiting }
         ensures line { result.items ≡ on_line mode (gone_by mode.character to self.old.shift self.old.waiting) }
         ensures looped { receiver.new ≡ looped_in mode (gone_by mode.character to self.old.shift self.old.waiting) receiver.old }
+        ensures few_sent { length result.items ≤ 17 }
+        ensures none_due { IsSentAfter to self.new.shift }
         ensures fewer { length self.new.waiting ≤ length self.old.waiting }
         ensures still_few { IsShort mode.has_fifos receiver.new.held }
     {
@@ -121,6 +123,8 @@ fn send_due(
     ensures left { record { waiting = waiting.new.items; shift = result.1 } ≡ holding (staying to (departures mode.character (Some first) waiting.old.items)) }
     ensures line { result.0.items ≡ on_line mode (gone to (departures mode.character (Some first) waiting.old.items)) }
     ensures looped { receiver.new ≡ looped_in mode (gone to (departures mode.character (Some first) waiting.old.items)) receiver.old }
+    ensures few_sent { length result.0.items ≤ 17 }
+    ensures none_due { IsSentAfter to result.1 }
     ensures fewer { length waiting.new.items ≤ length waiting.old.items }
     ensures still_few { IsShort mode.has_fifos receiver.new.held }
 {

@@ -10,6 +10,8 @@ returns-then-shift-to c =
       left = stays-left c.args.mode _ _ h _ _ c.bytes.invariant.left;
       line = stays-line c.args.mode _ _ h _ _ _ c.bytes.invariant.line;
       looped = stays-looped c.args.mode _ _ h _ _ _ c.bytes.invariant.looped;
+      few_sent = omega (arith, c.bytes.invariant.room);
+      none_due = h;
       fewer = c.bytes.invariant.few;
       still_few = c.bytes.invariant.few_held;
     }
@@ -21,6 +23,8 @@ returns-then-is_empty c =
       left = ends-left c.args.mode _ _ h _ _ c.bytes.invariant.left (grind (arith, nat_tests));
       line = ends-line c.args.mode _ _ h _ _ _ _ c.leave.ensures.line c.bytes.invariant.line (grind (arith, nat_tests));
       looped = ends-looped c.args.mode _ _ h _ _ _ _ c.leave.ensures.looped c.bytes.invariant.looped (grind (arith, nat_tests));
+      few_sent = omega (arith, c.leave.ensures.more, c.bytes.invariant.room);
+      none_due = tt;
       fewer = c.bytes.invariant.few;
       still_few = c.leave.ensures.still_few;
     }
