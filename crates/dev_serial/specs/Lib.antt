@@ -4,6 +4,7 @@ pub mod Cells
 pub mod Fifo
 pub mod Image
 pub mod ImageView
+pub mod Laws
 pub mod Line
 pub mod Parts
 pub mod Port
