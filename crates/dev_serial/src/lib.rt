@@ -8,6 +8,7 @@
 mod cells;
 mod image;
 mod interrupt;
+mod laws;
 mod mode;
 mod receiver;
 mod registers;
@@ -17,4 +18,5 @@ mod shift;
 mod transmitter;
 mod trigger;
 
+pub use laws::saved_law;
 pub use serial::{NEWEST_LEVEL, Serial};

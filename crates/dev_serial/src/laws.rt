@@ -1,0 +1,9 @@
+// Laws of the definitions.
+ghost use Rattle.dev_serial.specs.Laws.{SavedIsRestored};
+
+/// What is saved of a sound port under any set from its level on is restored as a port like it,
+/// whichever subsections weren't needed.
+#[tactic(auto, using(crate::proofs::SavedLaw::saved_is_restored))]
+pub fn saved_law()
+    ensures { SavedIsRestored }
+{}
