@@ -18,5 +18,5 @@ mod shift;
 mod transmitter;
 mod trigger;
 
-pub use laws::saved_law;
+pub use laws::{restored_law, saved_law};
 pub use serial::{NEWEST_LEVEL, Serial};
