@@ -1,3 +1,4 @@
+pub mod AlikeLaws
 pub mod CarriedLaw
 pub mod CellLemmas
 pub mod RestoredLaw
@@ -5,4 +6,5 @@ pub mod RestoredParts
 pub mod SavedLaw
 pub mod SavedParts
 pub mod SendLemmas
+pub mod Timetables
 pub mod TruthTables

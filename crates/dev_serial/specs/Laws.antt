@@ -1,8 +1,9 @@
 -- Laws that contracts name.
 use Rattle.std.specs.Prelude.{◌≡◌, ℕ, ℤ, ◌≤◌, List, Ok}
 use Rattle.vms_hooks.specs.Numbers.{Numbers}
+use Rattle.dev_serial.specs.Access.{read_of, written, came_in, advanced}
 use Rattle.dev_serial.specs.Cells.{IsPortCells, carried, image_of}
-use Rattle.dev_serial.specs.Port.{Port}
+use Rattle.dev_serial.specs.Port.{Port, line_of}
 use Rattle.dev_serial.specs.Rules.{restored}
 use Rattle.dev_serial.specs.Saved.{CanSave, CanRestore, cells_at, restored_cells}
 use Rattle.dev_serial.specs.Sound.{IsSound, Alike}
@@ -17,3 +18,26 @@ SavedIsRestored =
 abbrev pub RestoredIsSound : Type 0
 RestoredIsSound =
     (numbers : Numbers) (cells : List ℤ) (port : Port) → CanRestore numbers cells → restored_cells numbers cells ≡ Ok port → IsSound numbers.moment port
+
+-- two answers of ports are equal, and the ports after them alike
+pub record AnswersAlike {A : Type 0} (first second : A × Port) : Type 0 where
+  pub value : second.0 ≡ first.0
+  pub alike : Alike first.1 second.1
+
+-- ports that are alike answer each call alike, and are alike after it
+abbrev pub ReadsAlike : Type 0
+ReadsAlike =
+    (offset now : ℕ) (port other : Port) → Alike port other → AnswersAlike (read_of offset now port) (read_of offset now other)
+
+abbrev pub WritesAlike : Type 0
+WritesAlike =
+    (offset value now : ℕ) (port other : Port) → Alike port other → Alike (written offset value now port) (written offset value now other)
+
+abbrev pub BytesInAlike : Type 0
+BytesInAlike = (byte now : ℕ) (port other : Port) → Alike port other → Alike (came_in byte now port) (came_in byte now other)
+
+abbrev pub AdvancesAlike : Type 0
+AdvancesAlike = (to : ℕ) (port other : Port) → Alike port other → AnswersAlike (advanced to port) (advanced to other)
+
+abbrev pub LinesAlike : Type 0
+LinesAlike = (now : ℕ) (port other : Port) → Alike port other → line_of now other ≡ line_of now port

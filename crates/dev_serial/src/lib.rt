@@ -18,5 +18,8 @@ mod shift;
 mod transmitter;
 mod trigger;
 
-pub use laws::{restored_law, saved_law};
+pub use laws::{
+    advances_alike_law, bytes_in_alike_law, lines_alike_law, reads_alike_law, restored_law, saved_law,
+    writes_alike_law,
+};
 pub use serial::{NEWEST_LEVEL, Serial};
