@@ -74,3 +74,8 @@ gone_by character to shift waiting = gone to (departures character shift waiting
 abbrev pub IsSentAfter : ℕ → Option Shift → Type 0
 IsSentAfter to None = Unit {0}
 IsSentAfter to (Some shift) = to < shift.due
+
+-- the bytes that a transmitter holds, first out first
+abbrev pub pending_of : Option Shift → List ℕ → List ℕ
+pending_of None waiting = waiting
+pending_of (Some shift) waiting = shift.byte ∷ waiting
