@@ -1,10 +1,12 @@
 pub mod AlikeLaws
 pub mod CarriedLaw
 pub mod CellLemmas
+pub mod KeepParts
 pub mod RestoredLaw
 pub mod RestoredParts
 pub mod SavedLaw
 pub mod SavedParts
 pub mod SendLemmas
+pub mod SendingLaws
 pub mod Timetables
 pub mod TruthTables

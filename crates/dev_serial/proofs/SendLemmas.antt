@@ -32,7 +32,7 @@ unfolding arrived
 looped_more true mode shift later receiver = refl
 looped_more false mode shift later receiver = refl
 
-looped_none : (looped : Bool) (mode : Mode) (receiver : ReceiverState) → cond looped (arrived mode [] receiver) receiver ≡ receiver
+pub looped_none : (looped : Bool) (mode : Mode) (receiver : ReceiverState) → cond looped (arrived mode [] receiver) receiver ≡ receiver
 unfolding arrived
 looped_none true mode receiver = refl
 looped_none false mode receiver = refl

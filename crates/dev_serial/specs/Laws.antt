@@ -1,11 +1,11 @@
 -- Laws that contracts name.
-use Rattle.std.specs.Prelude.{◌≡◌, ℕ, ℤ, ◌≤◌, List, Ok}
+use Rattle.std.specs.Prelude.{◌≡◌, ℕ, ℤ, ◌<◌, ◌≤◌, List, Ok}
 use Rattle.vms_hooks.specs.Numbers.{Numbers}
 use Rattle.dev_serial.specs.Access.{read_of, written, came_in, advanced}
 use Rattle.dev_serial.specs.Cells.{IsPortCells, carried, image_of}
-use Rattle.dev_serial.specs.Port.{Port, line_of}
+use Rattle.dev_serial.specs.Port.{Port, power_on, line_of}
 use Rattle.dev_serial.specs.Rules.{restored}
-use Rattle.dev_serial.specs.Saved.{CanSave, CanRestore, cells_at, restored_cells}
+use Rattle.dev_serial.specs.Saved.{newest_level, CanSave, CanRestore, cells_at, restored_cells}
 use Rattle.dev_serial.specs.Sound.{IsSound, Alike}
 
 -- what is saved of a sound port under any set from its level on, carried to the newest one, is restored as a
@@ -41,3 +41,19 @@ AdvancesAlike = (to : ℕ) (port other : Port) → Alike port other → AnswersA
 
 abbrev pub LinesAlike : Type 0
 LinesAlike = (now : ℕ) (port other : Port) → Alike port other → line_of now other ≡ line_of now port
+
+-- a port is sound at power on, and stays so over each call
+abbrev pub PowerOnIsSound : Type 0
+PowerOnIsSound = (level now : ℕ) → 1 ≤ level → level ≤ newest_level → IsSound now (power_on level)
+
+abbrev pub ReadsKeepSound : Type 0
+ReadsKeepSound = (offset now : ℕ) (port : Port) → IsSound now port → IsSound now (read_of offset now port).1
+
+abbrev pub WritesKeepSound : Type 0
+WritesKeepSound = (offset value now : ℕ) (port : Port) → value < 256 → IsSound now port → IsSound now (written offset value now port)
+
+abbrev pub BytesInKeepSound : Type 0
+BytesInKeepSound = (byte now : ℕ) (port : Port) → byte < 256 → IsSound now port → IsSound now (came_in byte now port)
+
+abbrev pub AdvancesKeepSound : Type 0
+AdvancesKeepSound = (now to : ℕ) (port : Port) → now ≤ to → IsSound now port → IsSound to (advanced to port).1

@@ -12,6 +12,7 @@ pub mod Receive
 pub mod ReceiverView
 pub mod Rules
 pub mod Saved
+pub mod Sending
 pub mod Sound
 pub mod Transmit
 pub mod TransmitterView

@@ -1,5 +1,6 @@
 // Laws of the definitions.
 ghost use Rattle.dev_serial.specs.Laws.{SavedIsRestored, RestoredIsSound, ReadsAlike, WritesAlike, BytesInAlike, AdvancesAlike, LinesAlike};
+ghost use Rattle.dev_serial.specs.Sending.{SendsInOrder, ReplacesOne, LeavesForLine, AdvancesInParts, WaitsUntilDue, LoopsAtMoment};
 
 /// What is saved of a sound port under any set from its level on is restored as a port like it,
 /// whichever subsections weren't needed.
@@ -36,4 +37,35 @@ pub fn advances_alike_law()
 /// Ports that are alike have the same interrupt line.
 pub fn lines_alike_law()
     ensures { LinesAlike }
+{}
+
+/// Bytes leave in the order in which they were written, none twice, and none is lost but those written
+/// to full FIFOs or replaced without FIFOs.
+pub fn sends_in_order_law()
+    ensures { SendsInOrder }
+{}
+
+/// Without FIFOs a byte that is written replaces the one that waits, and none other.
+pub fn replaces_one_law()
+    ensures { ReplacesOne }
+{}
+
+/// What leaves the shift register goes to the line but in loop mode.
+pub fn leaves_for_line_law()
+    ensures { LeavesForLine }
+{}
+
+/// Letting time pass in two parts is letting it pass at once.
+pub fn advances_in_parts_law()
+    ensures { AdvancesInParts }
+{}
+
+/// No byte is sent before its moment.
+pub fn waits_until_due_law()
+    ensures { WaitsUntilDue }
+{}
+
+/// In loop mode a byte comes in at the moment at which it is sent.
+pub fn loops_at_moment_law()
+    ensures { LoopsAtMoment }
 {}
