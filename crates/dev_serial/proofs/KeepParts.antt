@@ -40,7 +40,7 @@ character-longest divisor lcr h =
     omega arith
 
 -- a moment that a character after now starts anew
-abbrev mode_at : ℕ → Bool → Bool → Bool → Mode
+abbrev pub mode_at : ℕ → Bool → Bool → Bool → Mode
 mode_at character on has_timeout looped = record { character = character; has_fifos = on; times_out = has_timeout && on; is_looped = looped }
 
 module _ (now at character byte : ℕ) (looped : Bool) (receiver : ReceiverState) (early : at ≤ now) (quick : character ≤ longest_character) where
@@ -94,7 +94,7 @@ module _ (now at character : ℕ) (looped : Bool) (early : at ≤ now) (quick : 
   taken-timeout false true byte rest timeout s = s
   taken-timeout false false byte rest timeout s = s
 
-  taken-held : (level : ℕ) (on : Bool) (held : List ℕ) (receiver : ReceiverState) → receiver.held ≡ held → IsReceiver now level on receiver → IsReceiver now level on (taken_at (mode_at character on (nat_le 3 level) looped) at held receiver).1
+  pub taken-held : (level : ℕ) (on : Bool) (held : List ℕ) (receiver : ReceiverState) → receiver.held ≡ held → IsReceiver now level on receiver → IsReceiver now level on (taken_at (mode_at character on (nat_le 3 level) looped) at held receiver).1
   unfolding taken_at
   taken-held level on [] receiver e s = s
   taken-held level on (byte ∷ rest) receiver e s =

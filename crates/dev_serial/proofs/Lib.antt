@@ -1,6 +1,8 @@
 pub mod AlikeLaws
 pub mod CarriedLaw
 pub mod CellLemmas
+pub mod KeepAdvance
+pub mod KeepLaws
 pub mod KeepParts
 pub mod RestoredLaw
 pub mod RestoredParts

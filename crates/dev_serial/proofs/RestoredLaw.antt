@@ -60,19 +60,19 @@ implied true b h e = h
 implied false b h e = absurd (false≢true e)
 
 module _ (level now : ℕ) (image : Image) (first : 1 ≤ level) (newest : level ≤ newest_level) (ranges : HasRanges image) (rules : Hold level now image) where
-  registers : HasRegisters (port_of level image)
-  unfolding port_of registers_hold fcr_holds
+  registers : HasRegisters level image.divisor image.ier image.lcr image.mcr image.scr (is_some (fifos_of image.fcr))
+  unfolding registers_hold fcr_holds
   registers =
       let low = and_parts _ _ rules.registers in
       let high = and_parts _ _ low.1 in
       record {
         first = first;
         newest = newest;
-        divisor = ranges.divisor;
-        ier = leb-true _ _ low.0;
-        lcr = ranges.lcr;
-        mcr = leb-true _ _ high.0;
-        scr = ranges.scr;
+        divisor_range = ranges.divisor;
+        ier_range = leb-true _ _ low.0;
+        lcr_range = ranges.lcr;
+        mcr_range = leb-true _ _ high.0;
+        scr_range = ranges.scr;
         fifos = level-on level image.fcr rules.fcr;
       }
 

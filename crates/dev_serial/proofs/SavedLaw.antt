@@ -45,7 +45,7 @@ module _ (now : ℕ) (port : Port) (early : now ≤ last_moment) (sound : IsSoun
 
   registers : registers_hold (saved now port) ≡ true
   unfolding registers_hold saved
-  registers = and_from _ _ (le-leb _ _ sound.registers.ier) (and_from _ _ (le-leb _ _ sound.registers.mcr) (eq-eqb _ _ lsr.mask))
+  registers = and_from _ _ (le-leb _ _ sound.registers.ier_range) (and_from _ _ (le-leb _ _ sound.registers.mcr_range) (eq-eqb _ _ lsr.mask))
 
   fcr : fcr_holds port.level (saved now port) ≡ true
   unfolding fcr_holds saved

@@ -175,7 +175,7 @@ waits_until_due to port shift e h =
     still
     (rw still (no_change (is_empty port.transmitter.waiting) port.thr_empty))
 
-character-positive : (divisor lcr : ℕ) → 1 ≤ character_time divisor lcr
+pub character-positive : (divisor lcr : ℕ) → 1 ≤ character_time divisor lcr
 unfolding character_time
 character-positive divisor lcr = le-div 1 _ 115200 (omega arith) (omega (arith, le-max_right divisor 1))
 

@@ -14,15 +14,15 @@ AreBytes [] = Unit {0}
 AreBytes (byte ∷ bytes) = (byte < 256) × AreBytes bytes
 
 -- the registers have their bits alone, and FIFOs are on at a level that has them
-pub record HasRegisters (port : Port) : Type 0 where
-  pub first : 1 ≤ port.level
-  pub newest : port.level ≤ newest_level
-  pub divisor : port.divisor < 65536
-  pub ier : port.ier ≤ 15
-  pub lcr : port.lcr < 256
-  pub mcr : port.mcr ≤ 31
-  pub scr : port.scr < 256
-  pub fifos : is_some port.fifos ≡ true → fifo_level ≤ port.level
+pub record HasRegisters (level divisor ier lcr mcr scr : ℕ) (has_fifos : Bool) : Type 0 where
+  pub first : 1 ≤ level
+  pub newest : level ≤ newest_level
+  pub divisor_range : divisor < 65536
+  pub ier_range : ier ≤ 15
+  pub lcr_range : lcr < 256
+  pub mcr_range : mcr ≤ 31
+  pub scr_range : scr < 256
+  pub fifos : has_fifos ≡ true → fifo_level ≤ level
 
 -- a timeout runs exactly where it has to, and ends at most four of the longest characters later
 pub record EndsInTime (now : ℕ) (runs : Bool) (timeout : ℕ) : Type 0 where
@@ -60,7 +60,7 @@ pub record IsTransmitter (now : ℕ) (has_fifos : Bool) (transmitter : Transmitt
 
 -- a port is sound at a moment
 pub record IsSound (now : ℕ) (port : Port) : Type 0 where
-  pub registers : HasRegisters port
+  pub registers : HasRegisters port.level port.divisor port.ier port.lcr port.mcr port.scr (is_some port.fifos)
   pub receiver : IsReceiver now port.level (is_some port.fifos) port.receiver
   pub transmitter : IsTransmitter now (is_some port.fifos) port.transmitter port.thr_empty
 

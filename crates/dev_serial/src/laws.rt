@@ -1,5 +1,5 @@
 // Laws of the definitions.
-ghost use Rattle.dev_serial.specs.Laws.{SavedIsRestored, RestoredIsSound, ReadsAlike, WritesAlike, BytesInAlike, AdvancesAlike, LinesAlike};
+ghost use Rattle.dev_serial.specs.Laws.{SavedIsRestored, RestoredIsSound, ReadsAlike, WritesAlike, BytesInAlike, AdvancesAlike, LinesAlike, PowerOnIsSound, ReadsKeepSound, WritesKeepSound, BytesInKeepSound, AdvancesKeepSound};
 ghost use Rattle.dev_serial.specs.Sending.{SendsInOrder, ReplacesOne, LeavesForLine, AdvancesInParts, WaitsUntilDue, LoopsAtMoment};
 
 /// What is saved of a sound port under any set from its level on is restored as a port like it,
@@ -68,4 +68,29 @@ pub fn waits_until_due_law()
 /// In loop mode a byte comes in at the moment at which it is sent.
 pub fn loops_at_moment_law()
     ensures { LoopsAtMoment }
+{}
+
+/// A new port is sound at any moment.
+pub fn power_on_is_sound_law()
+    ensures { PowerOnIsSound }
+{}
+
+/// A sound port is sound after each read.
+pub fn reads_keep_sound_law()
+    ensures { ReadsKeepSound }
+{}
+
+/// A sound port is sound after each write.
+pub fn writes_keep_sound_law()
+    ensures { WritesKeepSound }
+{}
+
+/// A sound port is sound after each byte that comes in.
+pub fn bytes_in_keep_sound_law()
+    ensures { BytesInKeepSound }
+{}
+
+/// A sound port is sound at a later moment, after it advanced to it.
+pub fn advances_keep_sound_law()
+    ensures { AdvancesKeepSound }
 {}
