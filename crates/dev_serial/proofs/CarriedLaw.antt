@@ -13,18 +13,18 @@ list-back : (bytes : List ℕ) (cells : List ℤ) → map nat_of (take (length b
 list-back [] cells = refl
 list-back (byte ∷ bytes) cells = ap (λ (xs : List ℕ). byte ∷ xs) (list-back bytes cells)
 
-length-padded : (bytes : List ℕ) → length bytes ≤ 16 → length (padded bytes) ≡ 16
+pub length-padded : (bytes : List ℕ) → length bytes ≤ 16 → length (padded bytes) ≡ 16
 length-padded bytes h = simp (length-append, length-map, length-replicate) (omega arith)
 
 -- what stands behind a padded array
-behind : (bytes : List ℕ) (cells : List ℤ) (k : ℕ) → length bytes ≤ 16 → get_or (padded bytes ++ cells) (16 + k) (pos 0) ≡ get_or cells k (pos 0)
+pub behind : (bytes : List ℕ) (cells : List ℤ) (k : ℕ) → length bytes ≤ 16 → get_or (padded bytes ++ cells) (16 + k) (pos 0) ≡ get_or cells k (pos 0)
 behind bytes cells k h = ap (λ (n : ℕ). get_or (padded bytes ++ cells) (n + k) (pos 0)) (sym (length-padded bytes h)) ∙ get_or-append-add (padded bytes) cells k (pos 0)
 
 drop-behind : (bytes : List ℕ) (cells : List ℤ) (k : ℕ) → length bytes ≤ 16 → drop (16 + k) (padded bytes ++ cells) ≡ drop k cells
 drop-behind bytes cells k h = ap (λ (n : ℕ). drop (n + k) (padded bytes ++ cells)) (sym (length-padded bytes h)) ∙ drop-append-add (padded bytes) cells k
 
 -- the newest set's cells, with the arrays as they stand
-pub newest : (image : Image) → List ℤ
+unfoldable pub newest : (image : Image) → List ℤ
 newest image =
     pos image.divisor ∷ pos image.ier ∷ pos image.iir ∷ pos image.lcr ∷ pos image.mcr ∷ pos image.lsr ∷ pos image.scr
     ∷ pos image.rbr ∷ pos image.thr ∷ pos image.tsr ∷ pos image.tx_due ∷ pos image.fcr ∷ image.thr_ipending ∷ pos (length image.rx)
@@ -35,7 +35,7 @@ unfolding cells_of field_cells fifo_cells newest
 newest-cells image = simp append_assoc
 
 module _ (image : Image) (short : HasShortLists image) where
-  tx-count : get_or (newest image) 30 (pos 0) ≡ pos (length image.tx)
+  pub tx-count : get_or (newest image) 30 (pos 0) ≡ pos (length image.tx)
   unfolding newest
   tx-count = behind image.rx (pos (length image.tx) ∷ (padded image.tx ++ (pos image.timeout_at ∷ []))) 0 short.rx
 

@@ -6,6 +6,7 @@ pub mod KeepLaws
 pub mod KeepParts
 pub mod RestoredLaw
 pub mod RestoredParts
+pub mod SavedCells
 pub mod SavedLaw
 pub mod SavedParts
 pub mod SendLemmas

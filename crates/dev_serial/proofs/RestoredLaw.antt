@@ -103,7 +103,7 @@ below : (limit : ℕ) (cell : ℤ) → IsBelow limit cell → nat_of cell < limi
 below limit (pos n) h = h
 below limit (negsuc n) h = absurd h
 
-middle : (k : ℕ) → 12 < k → k < 47 → limit_at k ≡ 256
+pub middle : (k : ℕ) → 12 < k → k < 47 → limit_at k ≡ 256
 middle k low high = rw (ne_eqb k 0 (λ e. omega arith), ne_eqb k 10 (λ e. omega arith), ne_eqb k 47 (λ e. omega arith))
 
 bytes_below : (cells : List ℤ) → ((i : ℕ) → i < length cells → IsBelow 256 (get_or cells i (pos 0))) → AreBytes (map nat_of cells)

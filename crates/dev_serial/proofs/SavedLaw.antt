@@ -39,7 +39,7 @@ fifo_bytes-short None bytes s = omega arith
 fifo_bytes-short (Some trigger) bytes s = s.short
 
 module _ (now : ℕ) (port : Port) (early : now ≤ last_moment) (sound : IsSound now port) where
-  lsr : IsStatus (lsr_of port) (not (is_empty port.receiver.held)) port.receiver.overrun (is_empty port.transmitter.waiting) (is_empty port.transmitter.waiting && not (is_some port.transmitter.shift))
+  pub lsr : IsStatus (lsr_of port) (not (is_empty port.receiver.held)) port.receiver.overrun (is_empty port.transmitter.waiting) (is_empty port.transmitter.waiting && not (is_some port.transmitter.shift))
   unfolding lsr_of
   lsr = status _ _ _ _
 
@@ -119,7 +119,7 @@ module _ (now : ℕ) (port : Port) (early : now ≤ last_moment) (sound : IsSoun
     none_at None t = refl
     none_at (Some moment) t = let h = leb-true 3 port.level (and_parts _ _ t.runs_now).0 in absurd (omega arith)
 
-  lacked : (set : ℕ) → port.level ≤ set → IsLacked set (saved now port)
+  pub lacked : (set : ℕ) → port.level ≤ set → IsLacked set (saved now port)
   unfolding saved
   lacked set l = record {
     timeout = λ s. rw (no-timeout set l s);
@@ -128,7 +128,7 @@ module _ (now : ℕ) (port : Port) (early : now ≤ last_moment) (sound : IsSoun
     tx = λ s. off-bytes port.fifos port.transmitter.waiting (off-early set l s);
   }
 
-  short : HasShortLists (saved now port)
+  pub short : HasShortLists (saved now port)
   unfolding saved
   short = record { rx = fifo_bytes-short port.fifos _ sound.receiver.short; tx = fifo_bytes-short port.fifos _ sound.transmitter.short }
 

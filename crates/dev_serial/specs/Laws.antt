@@ -14,6 +14,12 @@ abbrev pub SavedIsRestored : Type 0
 SavedIsRestored =
     (numbers : Numbers) (port : Port) → CanSave numbers port → IsSound numbers.moment port → (other : Port) × (restored port.level numbers.moment (image_of (carried numbers.set (cells_at numbers port))) ≡ Ok other) × Alike port other
 
+-- what is saved may be restored: carried to the newest set, it is as many cells as a port has there, each in
+-- its kind's range, with the arrays as their counts say
+abbrev pub SavedMayBeRestored : Type 0
+SavedMayBeRestored =
+    (numbers : Numbers) (port : Port) → CanSave numbers port → IsSound numbers.moment port → IsPortCells (carried numbers.set (cells_at numbers port))
+
 -- a port that is restored is sound
 abbrev pub RestoredIsSound : Type 0
 RestoredIsSound =
