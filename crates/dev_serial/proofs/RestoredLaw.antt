@@ -3,9 +3,12 @@ use Rattle.std.proofs.Common.{◌≡◌, ℕ, zero, suc, ◌+◌, ◌<◌, ◌�
 use Rattle.std.proofs.lemmas.Bool.{false≢true, leb-true, and_parts, ne_eqb}
 use Rattle.std.proofs.lemmas.List.{length-map, length-take, get_or-take, get_or-drop}
 use Rattle.std.specs.Prelude.{is_some, nat_le}
+use Rattle.std.proofs.lemmas.Int.{ints}
+use Rattle.vms_kinds.specs.Codes.{InRange}
+use Rattle.vms_kinds.specs.declared.Kind.TheVariants.{U8, U16}
 use Rattle.dev_serial.specs.Access.{is_empty}
 use Rattle.dev_serial.specs.Bits.{has}
-use Rattle.dev_serial.specs.Cells.{IsPortCells, IsFifo, IsBelow, limit_at, nat_of, number_at, fifo_at, image_of}
+use Rattle.dev_serial.specs.Cells.{IsPortCells, IsFifo, kind_at, nat_of, number_at, fifo_at, image_of}
 use Rattle.dev_serial.specs.Image.{Image, port_of, latch_of, fifos_of}
 use Rattle.dev_serial.specs.Laws.{RestoredIsSound}
 use Rattle.dev_serial.specs.Port.{Port}
@@ -99,16 +102,20 @@ module _ (level now : ℕ) (image : Image) (first : 1 ≤ level) (newest : level
   sound = record { registers = registers; receiver = receiver; transmitter = transmitter }
 
 -- the ranges of cells
-below : (limit : ℕ) (cell : ℤ) → IsBelow limit cell → nat_of cell < limit
-below limit (pos n) h = h
-below limit (negsuc n) h = absurd h
+byte-below : (cell : ℤ) → InRange U8 cell → nat_of cell < 256
+byte-below (pos n) h = omega (arith, ints)
+byte-below (negsuc n) h = omega arith
 
-pub middle : (k : ℕ) → 12 < k → k < 47 → limit_at k ≡ 256
-middle k low high = rw (ne_eqb k 0 (λ e. omega arith), ne_eqb k 10 (λ e. omega arith), ne_eqb k 47 (λ e. omega arith))
+word-below : (cell : ℤ) → InRange U16 cell → nat_of cell < 65536
+word-below (pos n) h = omega (arith, ints)
+word-below (negsuc n) h = omega arith
 
-bytes_below : (cells : List ℤ) → ((i : ℕ) → i < length cells → IsBelow 256 (get_or cells i (pos 0))) → AreBytes (map nat_of cells)
+pub middle : (k : ℕ) → 12 < k → k < 47 → kind_at k ≡ U8
+middle k low high = rw (ne_eqb k 0 (λ e. omega arith), ne_eqb k 10 (λ e. omega arith), ne_eqb k 47 (λ e. omega arith), ne_eqb k 12 (λ e. omega arith))
+
+bytes_below : (cells : List ℤ) → ((i : ℕ) → i < length cells → InRange U8 (get_or cells i (pos 0))) → AreBytes (map nat_of cells)
 bytes_below [] h = tt
-bytes_below (cell ∷ cells) h = (below 256 cell (h 0 (omega arith)), bytes_below cells (λ i l. h (suc i) (omega arith)))
+bytes_below (cell ∷ cells) h = (byte-below cell (h 0 (omega arith)), bytes_below cells (λ i l. h (suc i) (omega arith)))
 
 module _ (cells : List ℤ) (is : IsPortCells cells) where
   fifo-bytes : (k : ℕ) → 12 < k → k + 17 ≤ 47 → IsFifo cells k → AreBytes (fifo_at cells k)
@@ -116,8 +123,8 @@ module _ (cells : List ℤ) (is : IsPortCells cells) where
       let n : i < number_at cells k = omega (arith, length-take (number_at cells k) (drop (k + 1) cells), l) in
       let fits = fifo.fits in
       let count = is.count in
-      let r = is.unsigned (k + 1 + i) (omega arith) (ne_eqb _ _ (λ e. omega arith)) in
-      rw (get_or-take (number_at cells k) (drop (k + 1) cells) i (pos 0) n, get_or-drop (k + 1) cells i (pos 0), ← middle (k + 1 + i) (omega arith) (omega arith)) r)
+      let r = rw (middle (k + 1 + i) (omega arith) (omega arith)) at (is.in_range (k + 1 + i) (omega arith)) in
+      rw (get_or-take (number_at cells k) (drop (k + 1) cells) i (pos 0) n, get_or-drop (k + 1) cells i (pos 0)) r)
 
   fifo-short : (k : ℕ) → IsFifo cells k → length (fifo_at cells k) ≤ 16
   fifo-short k fifo = let fits = fifo.fits in simp length-map (omega (arith, length-take (number_at cells k) (drop (k + 1) cells)))
@@ -125,12 +132,12 @@ module _ (cells : List ℤ) (is : IsPortCells cells) where
   ranges-of : HasRanges (image_of cells)
   unfolding image_of
   ranges-of = record {
-    divisor = below 65536 _ (is.unsigned 0 (omega arith) refl);
-    lcr = below 256 _ (is.unsigned 3 (omega arith) refl);
-    scr = below 256 _ (is.unsigned 6 (omega arith) refl);
-    rbr = below 256 _ (is.unsigned 7 (omega arith) refl);
-    thr = below 256 _ (is.unsigned 8 (omega arith) refl);
-    tsr = below 256 _ (is.unsigned 9 (omega arith) refl);
+    divisor = word-below _ (is.in_range 0 (omega arith));
+    lcr = byte-below _ (is.in_range 3 (omega arith));
+    scr = byte-below _ (is.in_range 6 (omega arith));
+    rbr = byte-below _ (is.in_range 7 (omega arith));
+    thr = byte-below _ (is.in_range 8 (omega arith));
+    tsr = byte-below _ (is.in_range 9 (omega arith));
     rx = fifo-bytes 13 (omega arith) (omega arith) is.rx;
     tx = fifo-bytes 30 (omega arith) (omega arith) is.tx;
     rx_short = fifo-short 13 is.rx;

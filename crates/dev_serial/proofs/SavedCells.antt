@@ -1,11 +1,13 @@
 -- What is saved are the cells of a port.
 use Rattle.std.proofs.Common.{◌≡◌, ℕ, ℤ, zero, suc, ◌+◌, ◌-◌, ◌*◌, ◌<◌, ◌≤◌, ◌==◌, Bool, true, false, not, ◌&&◌, cond, List, [], ◌∷◌, ◌++◌, length, map, replicate, pos, negsuc, get_or, Option, Some, None, refl, sym, ap, ◌∙◌, subst, arith, append_assoc, length-append}
-use Rattle.std.proofs.lemmas.Bool.{ne_eqb, true≢false}
+use Rattle.std.proofs.lemmas.Int.{ints}
 use Rattle.std.proofs.lemmas.List.{get_or-append-add, get_or_append_left, get_or-append_right, length-map, length-replicate}
 use Rattle.std.proofs.lemmas.Nat.{and_le_r}
+use Rattle.vms_kinds.specs.Codes.{InRange}
+use Rattle.vms_kinds.specs.declared.Kind.TheVariants.{U8, U16, I8, Timer}
 use Rattle.dev_serial.specs.Access.{lsr_of}
 use Rattle.dev_serial.specs.Bits.{has}
-use Rattle.dev_serial.specs.Cells.{IsPortCells, IsFifo, IsBelow, IsSignedByte, limit_at, padded, cells_of, carried}
+use Rattle.dev_serial.specs.Cells.{IsPortCells, IsFifo, kind_at, padded, cells_of, carried}
 use Rattle.dev_serial.specs.Image.{Image, HasShortLists, saved, never, ipending_of, single_byte, fifo_bytes, first_byte, fcr_number, shift_number, due_number, moment_number}
 use Rattle.dev_serial.specs.Laws.{SavedMayBeRestored}
 use Rattle.dev_serial.specs.Port.{Port, interrupt, id_number, is_thr_empty}
@@ -23,32 +25,41 @@ use Rattle.dev_serial.proofs.SavedLaw.{lacked, lsr, short}
 -- the cells from a place on are in their kinds' ranges
 AreIn : ℕ → List ℤ → Type 0
 AreIn k [] = Unit {0}
-AreIn k (cell ∷ cells) = ((k == 12) ≡ false → IsBelow (limit_at k) cell) × AreIn (k + 1) cells
+AreIn k (cell ∷ cells) = InRange (kind_at k) cell × AreIn (k + 1) cells
 
-in-at : (k i : ℕ) (cells : List ℤ) → AreIn k cells → i < length cells → ((k + i) == 12) ≡ false → IsBelow (limit_at (k + i)) (get_or cells i (pos 0))
+in-at : (k i : ℕ) (cells : List ℤ) → AreIn k cells → i < length cells → InRange (kind_at (k + i)) (get_or cells i (pos 0))
 unfolding AreIn
-in-at k i [] h l e = absurd (omega arith)
-in-at k zero (cell ∷ cells) h l e =
+in-at k i [] h l = absurd (omega arith)
+in-at k zero (cell ∷ cells) h l =
     let same : k ≡ k + zero = omega arith in
-    let P : ℕ → Type 0 = λ n. (n == 12) ≡ false → IsBelow (limit_at n) cell in
-    subst P same h.0 e
-in-at k (suc i) (cell ∷ cells) h l e =
+    let P : ℕ → Type 0 = λ n. InRange (kind_at n) cell in
+    subst P same h.0
+in-at k (suc i) (cell ∷ cells) h l =
     let same : (k + 1) + i ≡ k + suc i = omega arith in
-    let P : ℕ → Type 0 = λ n. (n == 12) ≡ false → IsBelow (limit_at n) (get_or cells i (pos 0)) in
-    subst P same (in-at (k + 1) i cells h.1 (omega arith)) e
+    let P : ℕ → Type 0 = λ n. InRange (kind_at n) (get_or cells i (pos 0)) in
+    subst P same (in-at (k + 1) i cells h.1 (omega arith))
 
-in-start : (k : ℕ) (cells : List ℤ) → AreIn 0 cells → k < length cells → (k == 12) ≡ false → IsBelow (limit_at k) (get_or cells k (pos 0))
-in-start k cells h l e =
+in-start : (k : ℕ) (cells : List ℤ) → AreIn 0 cells → k < length cells → InRange (kind_at k) (get_or cells k (pos 0))
+in-start k cells h l =
     let same : 0 + k ≡ k = omega arith in
-    let P : ℕ → Type 0 = λ n. (n == 12) ≡ false → IsBelow (limit_at n) (get_or cells k (pos 0)) in
-    subst P same (in-at 0 k cells h l) e
+    let P : ℕ → Type 0 = λ n. InRange (kind_at n) (get_or cells k (pos 0)) in
+    subst P same (in-at 0 k cells h l)
+
+byte-in : (n : ℕ) → n < 256 → InRange U8 (pos n)
+byte-in n h = (omega (arith, ints), omega (arith, ints))
+
+word-in : (n : ℕ) → n < 65536 → InRange U16 (pos n)
+word-in n h = (omega (arith, ints), omega (arith, ints))
+
+moment-in : (n : ℕ) → n < 18446744073709551616 → InRange Timer (pos n)
+moment-in n h = (omega (arith, ints), omega (arith, ints))
 
 bytes-in : (k : ℕ) (bytes : List ℕ) (cells : List ℤ) → 12 < k → k + length bytes ≤ 47 → AreBytes bytes → AreIn (k + length bytes) cells → AreIn k (map pos bytes ++ cells)
 unfolding AreIn
 bytes-in k [] cells low high b h = subst (λ (n : ℕ). AreIn n cells) (omega arith) h
 bytes-in k (byte ∷ bytes) cells low high b h =
     let same : k + length (byte ∷ bytes) ≡ (k + 1) + length bytes = omega arith in
-    (λ _. rw (middle k low (omega arith)) (b.0), bytes-in (k + 1) bytes cells (omega arith) (omega arith) b.1 (subst (λ (n : ℕ). AreIn n cells) same h))
+    (rw (middle k low (omega arith)) (byte-in byte b.0), bytes-in (k + 1) bytes cells (omega arith) (omega arith) b.1 (subst (λ (n : ℕ). AreIn n cells) same h))
 
 zeros-in : (k n : ℕ) (cells : List ℤ) → 12 < k → k + n ≤ 47 → AreIn (k + n) cells → AreIn k (replicate n (pos 0) ++ cells)
 unfolding AreIn
@@ -56,7 +67,7 @@ zeros-in k zero cells low high h = subst (λ (n : ℕ). AreIn n cells) (omega ar
 zeros-in k (suc n) cells low high h =
     let same : k + suc n ≡ (k + 1) + n = omega arith in
     let small : 0 < 256 = omega arith in
-    (λ _. rw (middle k low (omega arith)) small, zeros-in (k + 1) n cells (omega arith) (omega arith) (subst (λ (m : ℕ). AreIn m cells) same h))
+    (rw (middle k low (omega arith)) (byte-in 0 small), zeros-in (k + 1) n cells (omega arith) (omega arith) (subst (λ (m : ℕ). AreIn m cells) same h))
 
 padded-in : (k : ℕ) (bytes : List ℕ) (cells : List ℤ) → 12 < k → k + 16 ≤ 47 → length bytes ≤ 16 → AreBytes bytes → AreIn (k + 16) cells → AreIn k (padded bytes ++ cells)
 padded-in k bytes cells low high s b h =
@@ -90,7 +101,7 @@ pub record IsInRange (image : Image) : Type 0 where
   pub tsr : image.tsr < 256
   pub tx_due : image.tx_due < 18446744073709551616
   pub fcr : image.fcr < 256
-  pub thr_ipending : IsSignedByte image.thr_ipending
+  pub thr_ipending : InRange I8 image.thr_ipending
   pub rx : AreBytes image.rx
   pub tx : AreBytes image.tx
   pub timeout_at : image.timeout_at < 18446744073709551616
@@ -99,23 +110,23 @@ module _ (image : Image) (range : IsInRange image) (few : HasShortLists image) w
   cells-in : AreIn 0 (newest image)
   unfolding AreIn newest
   cells-in = (
-    (λ _. range.divisor), (
-    (λ _. range.ier), (
-    (λ _. range.iir), (
-    (λ _. range.lcr), (
-    (λ _. range.mcr), (
-    (λ _. range.lsr), (
-    (λ _. range.scr), (
-    (λ _. range.rbr), (
-    (λ _. range.thr), (
-    (λ _. range.tsr), (
-    (λ _. range.tx_due), (
-    (λ _. range.fcr), (
-    (λ h. absurd (true≢false h)), (
-    (λ _. let h = few.rx in omega arith),
+    word-in image.divisor range.divisor, (
+    byte-in image.ier range.ier, (
+    byte-in image.iir range.iir, (
+    byte-in image.lcr range.lcr, (
+    byte-in image.mcr range.mcr, (
+    byte-in image.lsr range.lsr, (
+    byte-in image.scr range.scr, (
+    byte-in image.rbr range.rbr, (
+    byte-in image.thr range.thr, (
+    byte-in image.tsr range.tsr, (
+    moment-in image.tx_due range.tx_due, (
+    byte-in image.fcr range.fcr, (
+    range.thr_ipending, (
+    byte-in (length image.rx) (let h = few.rx in omega arith),
     padded-in 14 image.rx _ (omega arith) (omega arith) few.rx range.rx (
-    (λ _. let h = few.tx in omega arith),
-    padded-in 31 image.tx _ (omega arith) (omega arith) few.tx range.tx ((λ _. range.timeout_at), tt))))))))))))))))
+    byte-in (length image.tx) (let h = few.tx in omega arith),
+    padded-in 31 image.tx _ (omega arith) (omega arith) few.tx range.tx (moment-in image.timeout_at range.timeout_at, tt))))))))))))))))
 
   count : length (newest image) ≡ 48
   unfolding newest
@@ -155,15 +166,10 @@ module _ (image : Image) (range : IsInRange image) (few : HasShortLists image) w
     zeros = λ i l h. tx-behind i ∙ zeros-behind image.tx (pos image.timeout_at ∷ []) i few.tx (rw (tx-count image few) at l) h;
   }
 
-  signed : IsSignedByte (get_or (newest image) 12 (pos 0))
-  unfolding newest
-  signed = range.thr_ipending
-
   pub are-cells : IsPortCells (newest image)
   are-cells = record {
     count = count;
-    unsigned = λ k l e. in-start k (newest image) cells-in (rw count l) e;
-    signed = signed;
+    in_range = λ k l. in-start k (newest image) cells-in (rw count l);
     rx = rx-fifo;
     tx = tx-fifo;
   }
@@ -204,11 +210,11 @@ fcr-range (Some Four) = omega arith
 fcr-range (Some Eight) = omega arith
 fcr-range (Some Fourteen) = omega arith
 
-ipending-range : (enabled latch identified : Bool) → IsSignedByte (ipending_of enabled latch identified)
-ipending-range true true true = omega arith
-ipending-range true true false = omega arith
-ipending-range true false identified = omega arith
-ipending-range false latch identified = omega arith
+ipending-range : (enabled latch identified : Bool) → InRange I8 (ipending_of enabled latch identified)
+ipending-range true true true = (omega (arith, ints), omega (arith, ints))
+ipending-range true true false = (omega (arith, ints), omega (arith, ints))
+ipending-range true false identified = (omega (arith, ints), omega (arith, ints))
+ipending-range false latch identified = (omega (arith, ints), omega (arith, ints))
 
 lsr-range : (now : ℕ) (port : Port) → now ≤ last_moment → IsSound now port → lsr_of port < 256
 lsr-range now port h s = let m = (lsr now port h s).mask in omega (arith, and_le_r (lsr_of port) 0x63)

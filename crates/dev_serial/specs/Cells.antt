@@ -1,5 +1,8 @@
 -- The cells of a port, by their places in each set.
 use Rattle.std.specs.Prelude.{◌≡◌, ℕ, ℤ, pos, negsuc, ◌+◌, ◌-◌, ◌<◌, ◌≤◌, ◌==◌, Bool, true, false, nat_le, nat_lt, ◌&&◌, ◌||◌, if◌then◌else◌, List, [], ◌∷◌, ◌++◌, length, map, take, drop, replicate, slice_index_or}
+use Rattle.vms_kinds.specs.Codes.{InRange}
+use Rattle.vms_kinds.specs.declared.Kind.{Kind}
+use Rattle.vms_kinds.specs.declared.Kind.TheVariants.{U8, U16, I8, Timer}
 use Rattle.dev_serial.specs.Image.{Image, never}
 
 -- the first sets with FIFOs and with the character timeout, and the newest set
@@ -91,29 +94,22 @@ image_of cells = record {
   timeout_at = number_at cells 47;
 }
 
--- how many values the kind of a place has: one number of 16 bits, two moments, and bytes
-abbrev pub limit_at : ℕ → ℕ
-limit_at k = if k == 0 then 65536 else (if (k == 10) || (k == 47) then 18446744073709551616 else 256)
-
--- a cell of an unsigned kind holds less than this
-abbrev pub IsBelow : ℕ → ℤ → Type 0
-IsBelow limit (pos n) = n < limit
-IsBelow limit (negsuc n) = ⊥
-
--- a cell holds a number of eight bits with a sign
-abbrev pub IsSignedByte : ℤ → Type 0
-IsSignedByte (pos n) = n < 128
-IsSignedByte (negsuc n) = n < 128
+-- the kind of each place in the newest set: the divisor, two timers, the signed latch, and bytes
+abbrev pub kind_at : ℕ → Kind
+kind_at k = if k == 0 then U16 else (if (k == 10) || (k == 47) then Timer else (if k == 12 then I8 else U8))
 
 -- the array behind a count is at most its capacity long, and zero past the count
 pub record IsFifo (cells : List ℤ) (k : ℕ) : Type 0 where
   pub fits : number_at cells k ≤ 16
   pub zeros : (i : ℕ) → number_at cells k ≤ i → i < 16 → cell_at cells (k + 1 + i) ≡ pos 0
 
+-- each cell is in its kind's range
+abbrev pub AreInRange : List ℤ → Type 0
+AreInRange cells = (k : ℕ) → k < cell_count → InRange (kind_at k) (cell_at cells k)
+
 -- as many cells as the newest set has, each in its kind's range, with both arrays as their counts say
 pub record IsPortCells (cells : List ℤ) : Type 0 where
   pub count : length cells ≡ cell_count
-  pub unsigned : (k : ℕ) → k < cell_count → (k == 12) ≡ false → IsBelow (limit_at k) (cell_at cells k)
-  pub signed : IsSignedByte (cell_at cells 12)
+  pub in_range : AreInRange cells
   pub rx : IsFifo cells 13
   pub tx : IsFifo cells 30
