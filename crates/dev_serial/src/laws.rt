@@ -1,96 +1,46 @@
-// Laws of the definitions.
-ghost use Rattle.dev_serial.specs.Laws.{SavedIsRestored, RestoredIsSound, ReadsAlike, WritesAlike, BytesInAlike, AdvancesAlike, LinesAlike, PowerOnIsSound, ReadsKeepSound, WritesKeepSound, BytesInKeepSound, AdvancesKeepSound};
+// Laws of the definitions, each in a clause of a function that does nothing.
+ghost use Rattle.dev_serial.specs.Laws.{ReadsAlike, WritesAlike, BytesInAlike, AdvancesAlike, LinesAlike, PowerOnIsSound, ReadsKeepSound, WritesKeepSound, BytesInKeepSound, AdvancesKeepSound, SavedMayBeRestored, SavedIsRestored, RestoredIsSound};
 ghost use Rattle.dev_serial.specs.Sending.{SendsInOrder, ReplacesOne, LeavesForLine, AdvancesInParts, WaitsUntilDue, LoopsAtMoment};
 
-/// What is saved of a sound port under any set from its level on is restored as a port like it,
-/// whichever subsections weren't needed.
-#[tactic(auto, using(crate::proofs::SavedLaw::saved_is_restored))]
-pub fn saved_law()
-    ensures { SavedIsRestored }
+/// Ports that are alike answer each call alike, and are alike after it: reads, writes, bytes that come
+/// in, the passing of time, and the interrupt line.
+pub fn alike_law()
+    ensures reads { ReadsAlike }
+    ensures writes { WritesAlike }
+    ensures bytes_in { BytesInAlike }
+    ensures advances { AdvancesAlike }
+    ensures lines { LinesAlike }
 {}
 
-/// A port that is restored is sound.
-pub fn restored_law()
-    ensures { RestoredIsSound }
-{}
-
-/// Ports that are alike answer each read alike, and are alike after it.
-pub fn reads_alike_law()
-    ensures { ReadsAlike }
-{}
-
-/// Ports that are alike are alike after each write.
-pub fn writes_alike_law()
-    ensures { WritesAlike }
-{}
-
-/// Ports that are alike are alike after each byte that comes in.
-pub fn bytes_in_alike_law()
-    ensures { BytesInAlike }
-{}
-
-/// Of ports that are alike the same bytes leave while time passes, and they are alike after it.
-pub fn advances_alike_law()
-    ensures { AdvancesAlike }
-{}
-
-/// Ports that are alike have the same interrupt line.
-pub fn lines_alike_law()
-    ensures { LinesAlike }
+/// A new port is sound at any moment, and a sound port stays so over each call.
+pub fn sound_law()
+    ensures power_on { PowerOnIsSound }
+    ensures reads { ReadsKeepSound }
+    ensures writes { WritesKeepSound }
+    ensures bytes_in { BytesInKeepSound }
+    ensures advances { AdvancesKeepSound }
 {}
 
 /// Bytes leave in the order in which they were written, none twice, and none is lost but those written
-/// to full FIFOs or replaced without FIFOs.
-pub fn sends_in_order_law()
-    ensures { SendsInOrder }
+/// to full FIFOs or replaced without FIFOs. What leaves goes to the line but in loop mode.
+pub fn sending_law()
+    ensures in_order { SendsInOrder }
+    ensures replaced { ReplacesOne }
+    ensures for_line { LeavesForLine }
 {}
 
-/// Without FIFOs a byte that is written replaces the one that waits, and none other.
-pub fn replaces_one_law()
-    ensures { ReplacesOne }
+/// Letting time pass in two parts is letting it pass at once; no byte is sent before its moment; and in
+/// loop mode a byte comes in at the moment at which it is sent.
+pub fn time_law()
+    ensures in_parts { AdvancesInParts }
+    ensures not_before { WaitsUntilDue }
+    ensures loops { LoopsAtMoment }
 {}
 
-/// What leaves the shift register goes to the line but in loop mode.
-pub fn leaves_for_line_law()
-    ensures { LeavesForLine }
-{}
-
-/// Letting time pass in two parts is letting it pass at once.
-pub fn advances_in_parts_law()
-    ensures { AdvancesInParts }
-{}
-
-/// No byte is sent before its moment.
-pub fn waits_until_due_law()
-    ensures { WaitsUntilDue }
-{}
-
-/// In loop mode a byte comes in at the moment at which it is sent.
-pub fn loops_at_moment_law()
-    ensures { LoopsAtMoment }
-{}
-
-/// A new port is sound at any moment.
-pub fn power_on_is_sound_law()
-    ensures { PowerOnIsSound }
-{}
-
-/// A sound port is sound after each read.
-pub fn reads_keep_sound_law()
-    ensures { ReadsKeepSound }
-{}
-
-/// A sound port is sound after each write.
-pub fn writes_keep_sound_law()
-    ensures { WritesKeepSound }
-{}
-
-/// A sound port is sound after each byte that comes in.
-pub fn bytes_in_keep_sound_law()
-    ensures { BytesInKeepSound }
-{}
-
-/// A sound port is sound at a later moment, after it advanced to it.
-pub fn advances_keep_sound_law()
-    ensures { AdvancesKeepSound }
+/// What is saved of a sound port under any set from its level on may be restored, whichever subsections
+/// weren't needed, and is restored as a port like it. What is restored is sound.
+pub fn saved_law()
+    ensures may_be_restored { SavedMayBeRestored }
+    ensures is_restored { SavedIsRestored }
+    ensures is_sound { RestoredIsSound }
 {}

@@ -18,10 +18,8 @@ mod shift;
 mod transmitter;
 mod trigger;
 
-pub use laws::{
-    advances_alike_law, advances_in_parts_law, advances_keep_sound_law, bytes_in_alike_law,
-    bytes_in_keep_sound_law, leaves_for_line_law, lines_alike_law, loops_at_moment_law,
-    power_on_is_sound_law, reads_alike_law, reads_keep_sound_law, replaces_one_law, restored_law,
-    saved_law, sends_in_order_law, waits_until_due_law, writes_alike_law, writes_keep_sound_law,
-};
+pub use laws::{alike_law, saved_law, sending_law, sound_law, time_law};
 pub use serial::{NEWEST_LEVEL, Serial};
+
+#[cfg(test)]
+mod tests;

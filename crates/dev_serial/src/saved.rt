@@ -1,8 +1,8 @@
 // Saving and restoring a port.
 ghost use Rattle.dev_serial.specs.Image.{single_byte as single_byte_of, fcr_number};
-ghost use Rattle.std.specs.Prelude.{◌≡◌, ◌≤◌, ◌+◌, ◌++◌, length, pos, IfErr};
+ghost use Rattle.std.specs.Prelude.{◌≡◌, ◌≤◌, ◌+◌, ◌++◌, length, IsTrue, ◌↔◌, IfErr};
 
-use crate::cells::push_fifo;
+use crate::cells::{are_port_cells, push_fifo};
 use crate::image::{Image, NEVER};
 use crate::registers::{ETBEI, has};
 use crate::serial::Serial;
@@ -30,7 +30,7 @@ impl Hooked for Serial {
 }
 
 impl Serial {
-    ghost use Rattle.dev_serial.specs.Cells.{field_cells, fcr_cells, latch_cells, both_fifo_cells, timeout_cells, cells_of};
+    ghost use Rattle.dev_serial.specs.Cells.{IsPortCells, field_cells, fcr_cells, latch_cells, both_fifo_cells, timeout_cells, cells_of};
     ghost use Rattle.dev_serial.specs.Image.{saved};
     ghost use Rattle.dev_serial.specs.Saved.{CanSave, CanRestore, cells_at, restored_cells};
 
@@ -134,6 +134,14 @@ impl Serial {
         if set >= TIMEOUT_SET {
             cells.push(i128::from(self.receiver.timeout().unwrap_or(NEVER)));
         }
+    }
+
+    /// Whether these are cells that a port may have in the newest set: as many, each in its kind's range,
+    /// with both counted arrays as their counts say.
+    pub fn are_cells(cells: &DevCells) -> bool
+        ensures { IsTrue result ↔ IsPortCells cells.now.items }
+    {
+        are_port_cells(cells)
     }
 
     /// The port of the newest set's cells, at the pass's level and moment, or the number of the first

@@ -60,7 +60,8 @@ impl Serial {
     /// A port of a level from 1 to 3 at power on: divisor 12, and all else empty or 0.
     #[tactic(auto, unfolding(crate::specs::Port::power_on))]
     pub fn new(level: u8) -> Serial
-        ensures { result ≡ power_on level }
+        ensures state { result ≡ power_on level }
+        ensures level { result.level ≡ level }
     {
         Serial {
             level,
@@ -137,7 +138,8 @@ impl Serial {
     pub fn read(&mut self, offset: u8, now: u64) -> u8
         requires offset { offset ≤ 7 }
         requires moment { now ≤ 4000000000000000000 }
-        ensures { (result, self.new) ≡ read_of offset now self.old }
+        ensures state { (result, self.new) ≡ read_of offset now self.old }
+        ensures level { self.new.level ≡ self.old.level }
     {
         match offset {
             RBR_THR if has(self.lcr, DLAB) => (self.divisor % 256) as u8,
@@ -200,7 +202,8 @@ impl Serial {
     pub fn write(&mut self, offset: u8, value: u8, now: u64)
         requires offset { offset ≤ 7 }
         requires moment { now ≤ 4000000000000000000 }
-        ensures { self.new ≡ written offset value now self.old }
+        ensures state { self.new ≡ written offset value now self.old }
+        ensures level { self.new.level ≡ self.old.level }
     {
         match offset {
             RBR_THR if has(self.lcr, DLAB) => {
@@ -228,7 +231,8 @@ impl Serial {
     #[tactic(auto, unfolding(crate::specs::Access::thr_written))]
     fn write_byte(&mut self, byte: u8, now: u64)
         requires { now ≤ 4000000000000000000 }
-        ensures { self.new ≡ thr_written byte now self.old }
+        ensures state { self.new ≡ thr_written byte now self.old }
+        ensures level { self.new.level ≡ self.old.level }
     {
         let due = now + character_time(self.divisor, self.lcr);
         self.transmitter.write(self.fifos.is_some(), byte, due);
@@ -238,7 +242,8 @@ impl Serial {
     // "Interrupt Enable Register". Enabling the interrupt of an empty transmit list samples the list.
     #[tactic(auto, unfolding(crate::specs::Access::ier_written))]
     fn write_enable(&mut self, value: u8)
-        ensures { self.new ≡ ier_written value self.old }
+        ensures state { self.new ≡ ier_written value self.old }
+        ensures level { self.new.level ≡ self.old.level }
     {
         let enabled = value & 0x0f;
         if !has(self.ier, ETBEI) && has(enabled, ETBEI) {
@@ -250,7 +255,8 @@ impl Serial {
     // "FIFO Control Register". A change of the switch clears both lists.
     #[tactic(auto, unfolding(crate::specs::Access::fcr_written))]
     fn write_fifo_control(&mut self, value: u8)
-        ensures { self.new ≡ fcr_written value self.old }
+        ensures state { self.new ≡ fcr_written value self.old }
+        ensures level { self.new.level ≡ self.old.level }
     {
         let is_on = has(value, FIFO_ENABLE);
         let changes = is_on != self.fifos.is_some();
@@ -274,7 +280,8 @@ impl Serial {
     #[tactic(auto, unfolding(crate::specs::Access::came_in))]
     pub fn byte_in(&mut self, value: u8, now: u64)
         requires { now ≤ 4000000000000000000 }
-        ensures { self.new ≡ came_in value now self.old }
+        ensures state { self.new ≡ came_in value now self.old }
+        ensures level { self.new.level ≡ self.old.level }
     {
         let mode = self.mode();
         if !mode.is_looped {
@@ -288,6 +295,7 @@ impl Serial {
     pub fn advance(&mut self, to: u64) -> ArrayVec<u8, 17>
         requires { to ≤ 4000000000000000000 }
         ensures state { (result.items, self.new) ≡ advanced to self.old }
+        ensures level { self.new.level ≡ self.old.level }
         ensures few { length result.items ≤ 17 }
         ensures none_due { IsSentAfter to self.new.transmitter.shift }
     {

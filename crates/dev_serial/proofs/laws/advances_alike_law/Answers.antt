@@ -1,5 +1,0 @@
-use Rattle.dev_serial.proofs.AlikeLaws.{advances_alike}
-use Rattle.dev_serial.proofs.laws.advances_alike_law.Goals as goal
-
-pub returns : goal.returns
-returns c = advances_alike
