@@ -86,9 +86,9 @@ pub record IsLacked (set : ℕ) (image : Image) : Type 0 where
 pub carried-cells : (set : ℕ) (image : Image) → 1 ≤ set → IsLacked set image → carried set (cells_of set image) ≡ newest image
 carried-cells set image h l =
     ⊎_elim (λ early.
-      let before : set < 3 = omega arith in
-      let e : set ≡ 1 = omega arith in
-      rw e (carried-first image (l.timeout before) (l.fcr early) (l.rx early) (l.tx early)))
+    let before : set < 3 = omega arith in
+    let e : set ≡ 1 = omega arith in
+    rw e (carried-first image (l.timeout before) (l.fcr early) (l.rx early) (l.tx early)))
     (λ late.
-      ⊎_elim (λ second. let e : set ≡ 2 = omega arith in rw e (carried-second image (l.timeout second))) (λ third. carried-later set image third) (cases_lt set 3))
+    ⊎_elim (λ second. let e : set ≡ 2 = omega arith in rw e (carried-second image (l.timeout second))) (λ third. carried-later set image third) (cases_lt set 3))
     (cases_lt set 2)

@@ -48,11 +48,13 @@ module _ (now : ℕ) (port : Port) (sound : IsSound now port) where
   longest = character-longest port.divisor port.lcr sound.registers.divisor_range
 
   id-kept : Kept now (id_read now port)
-  id-kept = record { kept = record {
-    registers = sound.registers;
-    receiver = sound.receiver;
-    transmitter = latched-sound now (is_some port.fifos) port.thr_empty _ port.transmitter (λ e. inl (was (is_thr_empty (interrupt now port)) port.thr_empty e)) sound.transmitter;
-  } } where
+  id-kept = record {
+    kept = record {
+      registers = sound.registers;
+      receiver = sound.receiver;
+      transmitter = latched-sound now (is_some port.fifos) port.thr_empty _ port.transmitter (λ e. inl (was (is_thr_empty (interrupt now port)) port.thr_empty e)) sound.transmitter;
+    };
+  } where
     was : (identified latch : Bool) → cond identified false latch ≡ true → latch ≡ true
     was true latch e = absurd (false≢true e)
     was false latch e = e
@@ -61,18 +63,22 @@ module _ (now : ℕ) (port : Port) (sound : IsSound now port) where
   here answer = record { kept = sound }
 
   byte-kept : Kept now (with_taken port (taken (mode_of port) now port.receiver))
-  byte-kept = record { kept = record {
-    registers = sound.registers;
-    receiver = taken-held now now (character_time port.divisor port.lcr) (has port.mcr 4) (omega arith) longest port.level (is_some port.fifos) port.receiver.held port.receiver refl sound.receiver;
-    transmitter = sound.transmitter;
-  } }
+  byte-kept = record {
+    kept = record {
+      registers = sound.registers;
+      receiver = taken-held now now (character_time port.divisor port.lcr) (has port.mcr 4) (omega arith) longest port.level (is_some port.fifos) port.receiver.held port.receiver refl sound.receiver;
+      transmitter = sound.transmitter;
+    };
+  }
 
   status-kept : Kept now (lsr_read port)
-  status-kept = record { kept = record {
-    registers = sound.registers;
-    receiver = record { short = sound.receiver.short; bytes = sound.receiver.bytes; timeout = sound.receiver.timeout };
-    transmitter = sound.transmitter;
-  } }
+  status-kept = record {
+    kept = record {
+      registers = sound.registers;
+      receiver = record { short = sound.receiver.short; bytes = sound.receiver.bytes; timeout = sound.receiver.timeout };
+      transmitter = sound.transmitter;
+    };
+  }
 
   read-kept : (offset : ℕ) → Kept now (read_of offset now port)
   unfolding read_of
@@ -114,7 +120,14 @@ module _ (now : ℕ) (port : Port) (sound : IsSound now port) where
 
   registers-kept : (divisor ier lcr mcr scr : ℕ) → divisor < 65536 → ier ≤ 15 → lcr < 256 → mcr ≤ 31 → scr < 256 → HasRegisters port.level divisor ier lcr mcr scr (is_some port.fifos)
   registers-kept divisor ier lcr mcr scr a b c d e = record {
-    first = sound.registers.first; newest = sound.registers.newest; divisor_range = a; ier_range = b; lcr_range = c; mcr_range = d; scr_range = e; fifos = sound.registers.fifos;
+    first = sound.registers.first;
+    newest = sound.registers.newest;
+    divisor_range = a;
+    ier_range = b;
+    lcr_range = c;
+    mcr_range = d;
+    scr_range = e;
+    fifos = sound.registers.fifos;
   }
 
   divisor-kept : (divisor : ℕ) → divisor < 65536 → IsSound now (record port { divisor = divisor })
@@ -158,7 +171,14 @@ module _ (now : ℕ) (port : Port) (sound : IsSound now port) where
 
   switched-registers : (fifos : Option Trigger) → (is_some fifos ≡ true → 2 ≤ port.level) → HasRegisters port.level port.divisor port.ier port.lcr port.mcr port.scr (is_some fifos)
   switched-registers fifos h = let r = sound.registers in record {
-    first = r.first; newest = r.newest; divisor_range = r.divisor_range; ier_range = r.ier_range; lcr_range = r.lcr_range; mcr_range = r.mcr_range; scr_range = r.scr_range; fifos = h;
+    first = r.first;
+    newest = r.newest;
+    divisor_range = r.divisor_range;
+    ier_range = r.ier_range;
+    lcr_range = r.lcr_range;
+    mcr_range = r.mcr_range;
+    scr_range = r.scr_range;
+    fifos = h;
   }
 
   -- lists are cleared, and the switch is set

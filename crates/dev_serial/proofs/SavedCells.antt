@@ -110,23 +110,51 @@ module _ (image : Image) (range : IsInRange image) (few : HasShortLists image) w
   cells-in : AreIn 0 (newest image)
   unfolding AreIn newest
   cells-in = (
-    word-in image.divisor range.divisor, (
-    byte-in image.ier range.ier, (
-    byte-in image.iir range.iir, (
-    byte-in image.lcr range.lcr, (
-    byte-in image.mcr range.mcr, (
-    byte-in image.lsr range.lsr, (
-    byte-in image.scr range.scr, (
-    byte-in image.rbr range.rbr, (
-    byte-in image.thr range.thr, (
-    byte-in image.tsr range.tsr, (
-    moment-in image.tx_due range.tx_due, (
-    byte-in image.fcr range.fcr, (
-    range.thr_ipending, (
-    byte-in (length image.rx) (let h = few.rx in omega arith),
-    padded-in 14 image.rx _ (omega arith) (omega arith) few.rx range.rx (
-    byte-in (length image.tx) (let h = few.tx in omega arith),
-    padded-in 31 image.tx _ (omega arith) (omega arith) few.tx range.tx (moment-in image.timeout_at range.timeout_at, tt))))))))))))))))
+    word-in image.divisor range.divisor,
+    (
+      byte-in image.ier range.ier,
+      (
+        byte-in image.iir range.iir,
+        (
+          byte-in image.lcr range.lcr,
+          (
+            byte-in image.mcr range.mcr,
+            (
+              byte-in image.lsr range.lsr,
+              (
+                byte-in image.scr range.scr,
+                (
+                  byte-in image.rbr range.rbr,
+                  (
+                    byte-in image.thr range.thr,
+                    (
+                      byte-in image.tsr range.tsr,
+                      (
+                        moment-in image.tx_due range.tx_due,
+                        (
+                          byte-in image.fcr range.fcr,
+                          (
+                            range.thr_ipending,
+                            (
+                              byte-in (length image.rx) (let h = few.rx in omega arith),
+                              padded-in 14 image.rx _ (omega arith) (omega arith) few.rx range.rx (
+                                byte-in (length image.tx) (let h = few.tx in omega arith),
+                                padded-in 31 image.tx _ (omega arith) (omega arith) few.tx range.tx (moment-in image.timeout_at range.timeout_at, tt),
+                              ),
+                            ),
+                          ),
+                        ),
+                      ),
+                    ),
+                  ),
+                ),
+              ),
+            ),
+          ),
+        ),
+      ),
+    ),
+  )
 
   count : length (newest image) ≡ 48
   unfolding newest

@@ -80,12 +80,15 @@ module _ (now : ℕ) (port : Port) (early : now ≤ last_moment) (sound : IsSoun
   port-back : port_of port.level (saved now port) ≡ back
   unfolding port_of saved interrupt back back_latch
   port-back = rw (
-      lsr.ready_bit, lsr.overrun_bit, lsr.empty_bit,
-      fifos-back port.fifos,
-      bytes-back port.fifos port.receiver.held (not (is_empty port.receiver.held)) sound.receiver.short refl,
-      bytes-back port.fifos port.transmitter.waiting (not (is_empty port.transmitter.waiting)) sound.transmitter.short refl,
-      moment-back now _ port.receiver.timeout early sound.receiver.timeout,
-      shift-back now port.transmitter.shift early sound.transmitter.shift)
+    lsr.ready_bit,
+    lsr.overrun_bit,
+    lsr.empty_bit,
+    fifos-back port.fifos,
+    bytes-back port.fifos port.receiver.held (not (is_empty port.receiver.held)) sound.receiver.short refl,
+    bytes-back port.fifos port.transmitter.waiting (not (is_empty port.transmitter.waiting)) sound.transmitter.short refl,
+    moment-back now _ port.receiver.timeout early sound.receiver.timeout,
+    shift-back now port.transmitter.shift early sound.transmitter.shift,
+  )
 
   latch : latch_holds (saved now port) ≡ true
   unfolding latch_holds saved interrupt

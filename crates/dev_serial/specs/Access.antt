@@ -116,10 +116,11 @@ leaving to port = gone_by (character_time port.divisor port.lcr) to port.transmi
 -- byte that waited leaves the list, the latch is set
 unfoldable pub advanced : ℕ → Port → List ℕ × Port
 advanced to port =
-    let after = run_until (character_time port.divisor port.lcr) to port.transmitter.shift port.transmitter.waiting in
-    (on_line (mode_of port) (leaving to port),
-    record port {
-      receiver = looped_in (mode_of port) (leaving to port) port.receiver;
-      transmitter = after;
-      thr_empty = (if is_empty after.waiting && not (is_empty port.transmitter.waiting) then true else port.thr_empty);
-    })
+    let after = run_until (character_time port.divisor port.lcr) to port.transmitter.shift port.transmitter.waiting in (
+      on_line (mode_of port) (leaving to port),
+      record port {
+        receiver = looped_in (mode_of port) (leaving to port) port.receiver;
+        transmitter = after;
+        thr_empty = (if is_empty after.waiting && not (is_empty port.transmitter.waiting) then true else port.thr_empty);
+      },
+    )

@@ -26,10 +26,7 @@ fn kind_at(k: usize) -> Kind
 pub(crate) fn are_port_cells(cells: &DevCells) -> bool
     ensures { IsTrue result ↔ IsPortCells cells.now.items }
 {
-    cells.len() == CELL_COUNT
-        && are_in_range(cells)
-        && is_fifo(cells, 13)
-        && is_fifo(cells, 30)
+    cells.len() == CELL_COUNT && are_in_range(cells) && is_fifo(cells, 13) && is_fifo(cells, 30)
 }
 
 // Whether a cell is in its kind's range.

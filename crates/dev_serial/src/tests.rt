@@ -9,6 +9,7 @@ use vms_hooks::{HookFault, Pass, load_by, save_by};
 use vms_kinds::DevCells;
 
 const LAST_MOMENT: u64 = 4_000_000_000_000_000_000;
+
 const NEVER: i128 = 0xffff_ffff_ffff_ffff;
 
 /// One call of a port, with what a read answers.
@@ -67,7 +68,14 @@ fn a_byte_replaces_the_one_held_without_fifos(rt: HostRuntime) -> Result<(), Fai
 #[test]
 fn the_seventeenth_byte_is_lost_with_fifos(rt: HostRuntime) -> Result<(), Fail> {
     let mut port = Serial::new(2);
-    run(&rt, &mut port, &[Write { offset: 2, value: 0x01 }]);
+    run(
+        &rt,
+        &mut port,
+        &[Write {
+            offset: 2,
+            value: 0x01,
+        }],
+    );
     for value in 0x01..=0x11 {
         port.byte_in(value, 0);
     }
@@ -80,13 +88,35 @@ fn a_lone_byte_times_out_from_level_3_on(rt: HostRuntime) -> Result<(), Fail> {
     for (level, identified) in [(3, 0xcc), (2, 0xc1)] {
         let mut port = Serial::new(level);
         let steps = [
-            Write { offset: 2, value: 0xc1 },
-            Write { offset: 1, value: 0x01 },
+            Write {
+                offset: 2,
+                value: 0xc1,
+            },
+            Write {
+                offset: 1,
+                value: 0x01,
+            },
             Byte { value: 0x41 },
-            Read { offset: 2, now: 2_916_663, value: 0xc1 },
-            Read { offset: 2, now: 2_916_664, value: identified },
-            Read { offset: 0, now: 2_916_664, value: 0x41 },
-            Read { offset: 2, now: 2_916_664, value: 0xc1 },
+            Read {
+                offset: 2,
+                now: 2_916_663,
+                value: 0xc1,
+            },
+            Read {
+                offset: 2,
+                now: 2_916_664,
+                value: identified,
+            },
+            Read {
+                offset: 0,
+                now: 2_916_664,
+                value: 0x41,
+            },
+            Read {
+                offset: 2,
+                now: 2_916_664,
+                value: 0xc1,
+            },
         ];
         run(&rt, &mut port, &steps);
     }
@@ -155,7 +185,17 @@ const POWER_ON: [i128; 12] = [12, 0, 1, 0, 0, 0x60, 0, 0, 0, 0, NEVER, -1];
 #[test]
 fn a_latch_that_another_interrupt_hides_travels(rt: HostRuntime) -> Result<(), Fail> {
     let mut port = Serial::new(1);
-    run(&rt, &mut port, &[Write { offset: 1, value: 0x03 }, Byte { value: 0x41 }]);
+    run(
+        &rt,
+        &mut port,
+        &[
+            Write {
+                offset: 1,
+                value: 0x03,
+            },
+            Byte { value: 0x41 },
+        ],
+    );
     let cells = save(&port, 1, 1);
     let hidden = [12, 3, 4, 0, 0, 0x61, 0, 0x41, 0, 0, NEVER, 1];
     assert_eq!(rt; cells.as_slice(), hidden.as_slice());
@@ -172,14 +212,24 @@ fn a_latch_that_another_interrupt_hides_travels(rt: HostRuntime) -> Result<(), F
 #[test]
 fn a_byte_in_the_shift_register_travels(rt: HostRuntime) -> Result<(), Fail> {
     let mut port = Serial::new(1);
-    run(&rt, &mut port, &[Write { offset: 0, value: 0x55 }]);
+    run(
+        &rt,
+        &mut port,
+        &[Write {
+            offset: 0,
+            value: 0x55,
+        }],
+    );
     let cells = save(&port, 1, 1);
     let shifting = [12, 0, 1, 0, 0, 32, 0, 0, 0, 85, 729_166, -1];
     assert_eq!(rt; cells.as_slice(), shifting.as_slice());
     let cells = carried(&cells);
     assert!(rt; Serial::are_cells(&cells));
     let steps = [
-        Write { offset: 1, value: 0x02 },
+        Write {
+            offset: 1,
+            value: 0x02,
+        },
         Line { is_high: true },
         read(2, 0x02),
     ];
@@ -200,7 +250,13 @@ fn power_on_travels_and_has_no_fifos(rt: HostRuntime) -> Result<(), Fail> {
     assert_eq!(rt; cells.as_slice(), POWER_ON.as_slice());
     let cells = carried(&cells);
     assert!(rt; Serial::are_cells(&cells));
-    let steps = [Write { offset: 2, value: 0xc1 }, read(2, 0x01)];
+    let steps = [
+        Write {
+            offset: 2,
+            value: 0xc1,
+        },
+        read(2, 0x01),
+    ];
     match load(1, &cells) {
         Ok(mut port) => run(&rt, &mut port, &steps),
         Err(fault) => assert_eq!(rt; fault.rule, 0),
