@@ -1,7 +1,7 @@
 -- Ports that are alike answer each call alike.
-use Rattle.std.proofs.Common.{◌≡◌, ℕ, ◌+◌, ◌/◌, ◌%◌, ◌==◌, Bool, true, false, not, ◌&&◌, ◌||◌, cond, List, Option, Some, None, refl, sym, ap, ◌∙◌, subst}
+use Rattle.std.proofs.Common.{◌≡◌, ℕ, ◌==◌, Bool, true, false, not, ◌&&◌, cond, Option, refl, sym, ap, subst}
 use Rattle.std.proofs.lemmas.Bool.{false≢true}
-use Rattle.std.specs.Prelude.{bit_and, nat_le, is_some}
+use Rattle.std.specs.Prelude.{bit_and, nat_le}
 use Rattle.dev_serial.specs.Access.{is_empty, iir_of, read_of, id_read, lsr_of, thr_written, ier_written, fcr_written, receiver_cleared, transmitter_cleared, written, came_in, advanced}
 use Rattle.dev_serial.specs.Bits.{has}
 use Rattle.dev_serial.specs.Line.{character_time}

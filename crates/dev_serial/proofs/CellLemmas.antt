@@ -1,5 +1,5 @@
 -- Arrays in cells.
-use Rattle.std.proofs.Common.{◌≡◌, ℕ, ◌+◌, ◌<◌, List, ℤ, [], ◌∷◌, ◌++◌, length, take, drop, map, pos, get_or, refl, sym, ap, ◌∙◌, arith}
+use Rattle.std.proofs.Common.{◌≡◌, ℕ, ◌+◌, ◌<◌, List, ℤ, [], ◌∷◌, ◌++◌, length, take, drop, map, pos, get_or, sym, ap, ◌∙◌, arith}
 use Rattle.std.proofs.lemmas.List.{take_more, get_or-drop, map-append, length-drop}
 use Rattle.dev_serial.specs.Cells.{nat_of}
 

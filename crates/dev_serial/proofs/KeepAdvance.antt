@@ -1,13 +1,12 @@
 -- The passing of time keeps a port sound.
-use Rattle.std.proofs.Common.{◌≡◌, ℕ, ◌+◌, ◌-◌, ◌<◌, ◌≤◌, Bool, true, false, not, ◌&&◌, cond, List, [], ◌∷◌, ◌++◌, length, map, Option, Some, None, refl, sym, ap, ◌∙◌, subst, arith}
-use Rattle.std.proofs.lemmas.Bool.{false≢true, leb-true, leb-false, cond_both, eqb-true, eq-eqb, and_parts}
+use Rattle.std.proofs.Common.{◌≡◌, ℕ, ◌+◌, ◌<◌, ◌≤◌, Bool, true, false, not, ◌&&◌, cond, List, [], ◌∷◌, length, Option, Some, None, refl, sym, arith}
+use Rattle.std.proofs.lemmas.Bool.{false≢true, leb-true, leb-false, cond_both, eqb-true, eq-eqb}
 use Rattle.std.specs.Prelude.{nat_le, is_some}
 use Rattle.dev_serial.specs.Access.{is_empty}
 use Rattle.dev_serial.specs.Parts.{ReceiverState, TransmitterState, IsShort}
 use Rattle.dev_serial.specs.Rules.{longest_character}
 use Rattle.dev_serial.specs.Sound.{AreBytes, IsReceiver, IsShift, IsTransmitter}
-use Rattle.dev_serial.specs.Transmit.{timetable, departures, gone, staying, holding, arrived, run_until, gone_by, bytes_of}
-use Rattle.dev_serial.specs.declared.mode.Mode.{Mode}
+use Rattle.dev_serial.specs.Transmit.{timetable, departures, gone, staying, holding, arrived, run_until, gone_by}
 use Rattle.dev_serial.specs.declared.shift.Shift.{Shift}
 use Rattle.dev_serial.proofs.SendLemmas.{bytes_of-timetable}
 use Rattle.dev_serial.proofs.Timetables.{fewer}

@@ -1,16 +1,15 @@
 -- Each step of a part keeps it sound.
-use Rattle.std.proofs.Common.{◌≡◌, ℕ, zero, suc, ◌+◌, ◌-◌, ◌*◌, ◌/◌, ◌%◌, ◌<◌, ◌≤◌, ◌==◌, Bool, true, false, not, ◌&&◌, ◌||◌, cond, List, [], ◌∷◌, ◌++◌, length, Option, Some, None, refl, sym, ap, ◌∙◌, subst, arith, length-append, ◌⊎◌, inl, inr, ⊎_elim}
+use Rattle.std.proofs.Common.{◌≡◌, ℕ, ◌+◌, ◌*◌, ◌<◌, ◌≤◌, ◌==◌, Bool, true, false, not, ◌&&◌, cond, List, [], ◌∷◌, ◌++◌, length, Option, Some, None, refl, sym, ◌∙◌, arith, length-append, ◌⊎◌, ⊎_elim}
 use Rattle.std.proofs.Math.Nat.{mul-le-mul}
-use Rattle.std.proofs.lemmas.Bool.{false≢true, le-leb, leb-true, leb-false, ltb-true, ltb-false, ne_eqb, eq-eqb, eqb-true, cond_both}
-use Rattle.std.proofs.lemmas.Bool.Decides.{nat_tests}
-use Rattle.std.specs.Prelude.{nat_le, nat_lt, is_some, max}
+use Rattle.std.proofs.lemmas.Bool.{false≢true, ltb-true, ltb-false, ne_eqb, cond_both}
+use Rattle.std.specs.Prelude.{nat_le, nat_lt, max}
 use Rattle.dev_serial.specs.Access.{is_empty}
 use Rattle.dev_serial.specs.Bits.{has, bits_where}
 use Rattle.dev_serial.specs.Line.{character_time, character_bits}
 use Rattle.dev_serial.specs.Parts.{ReceiverState, TransmitterState, IsShort}
 use Rattle.dev_serial.specs.Receive.{received, taken_at, emptied}
 use Rattle.dev_serial.specs.Rules.{longest_character, longest_timeout}
-use Rattle.dev_serial.specs.Sound.{AreBytes, IsTimeout, EndsInTime, IsReceiver, IsShift, IsSentInTime, IsTransmitter}
+use Rattle.dev_serial.specs.Sound.{AreBytes, IsTimeout, IsReceiver, IsShift, IsTransmitter}
 use Rattle.dev_serial.specs.Transmit.{queued, loaded}
 use Rattle.dev_serial.specs.declared.mode.Mode.{Mode}
 use Rattle.dev_serial.specs.declared.shift.Shift.{Shift}

@@ -1,15 +1,14 @@
 -- A port that is restored is sound.
-use Rattle.std.proofs.Common.{◌≡◌, ℕ, zero, suc, ◌+◌, ◌<◌, ◌≤◌, ◌==◌, Bool, true, false, not, ◌||◌, cond, List, ℤ, [], ◌∷◌, length, take, drop, map, pos, negsuc, get_or, Result, Ok, Err, refl, sym, ap, ◌∙◌, subst, arith}
+use Rattle.std.proofs.Common.{◌≡◌, ℕ, suc, ◌+◌, ◌<◌, ◌≤◌, ◌==◌, Bool, true, false, not, ◌||◌, cond, List, ℤ, [], ◌∷◌, length, take, drop, map, pos, negsuc, get_or, Result, Ok, Err, refl, subst, arith}
 use Rattle.std.proofs.lemmas.Bool.{false≢true, leb-true, and_parts, ne_eqb}
 use Rattle.std.proofs.lemmas.List.{length-map, length-take, get_or-take, get_or-drop}
 use Rattle.std.specs.Prelude.{is_some, nat_le}
 use Rattle.std.proofs.lemmas.Int.{ints}
 use Rattle.vms_kinds.specs.Codes.{InRange}
 use Rattle.vms_kinds.specs.declared.Kind.TheVariants.{U8, U16}
-use Rattle.dev_serial.specs.Access.{is_empty}
 use Rattle.dev_serial.specs.Bits.{has}
 use Rattle.dev_serial.specs.Cells.{IsPortCells, IsFifo, kind_at, nat_of, number_at, fifo_at, image_of}
-use Rattle.dev_serial.specs.Image.{Image, port_of, latch_of, fifos_of}
+use Rattle.dev_serial.specs.Image.{Image, port_of, fifos_of}
 use Rattle.dev_serial.specs.Laws.{RestoredIsSound}
 use Rattle.dev_serial.specs.Port.{Port}
 use Rattle.dev_serial.specs.Rules.{registers_hold, fcr_holds, unused_hold, status_holds, shift_holds, timeout_holds, latch_holds, id_holds, restored}

@@ -1,5 +1,5 @@
 -- Each part of a restored port is sound.
-use Rattle.std.proofs.Common.{◌≡◌, ℕ, zero, suc, ◌+◌, ◌<◌, ◌≤◌, ◌==◌, Bool, true, false, not, ◌&&◌, ◌||◌, cond, List, [], ◌∷◌, length, Option, Some, None, refl, sym, ap, ◌∙◌, arith, ◌%◌}
+use Rattle.std.proofs.Common.{◌≡◌, ℕ, ◌+◌, ◌<◌, ◌≤◌, ◌==◌, Bool, true, false, not, ◌&&◌, ◌||◌, cond, List, [], ◌∷◌, length, Some, None, refl, sym, ◌∙◌, arith, ◌%◌}
 use Rattle.std.proofs.lemmas.Bool.{false≢true, leb-true, ltb-true, and_parts, not-true}
 use Rattle.std.specs.Prelude.{nat_le, nat_lt, is_some}
 use Rattle.dev_serial.specs.Access.{is_empty}
@@ -7,7 +7,6 @@ use Rattle.dev_serial.specs.Image.{never, moment_of, shift_of, fifos_of}
 use Rattle.dev_serial.specs.Parts.{IsShort}
 use Rattle.dev_serial.specs.Rules.{same, longest_character, longest_timeout}
 use Rattle.dev_serial.specs.Sound.{AreBytes, IsShift, IsTimeout}
-use Rattle.dev_serial.specs.declared.shift.Shift.{Shift}
 use Rattle.dev_serial.specs.declared.trigger.Trigger.{Trigger}
 
 switch : (off : Bool) (trigger : Trigger) → is_some (cond off None (Some trigger)) ≡ not off

@@ -1,5 +1,5 @@
 -- What is saved are the cells of a port.
-use Rattle.std.proofs.Common.{◌≡◌, ℕ, ℤ, zero, suc, ◌+◌, ◌-◌, ◌*◌, ◌<◌, ◌≤◌, ◌==◌, Bool, true, false, not, ◌&&◌, cond, List, [], ◌∷◌, ◌++◌, length, map, replicate, pos, negsuc, get_or, Option, Some, None, refl, sym, ap, ◌∙◌, subst, arith, append_assoc, length-append}
+use Rattle.std.proofs.Common.{◌≡◌, ℕ, ℤ, zero, suc, ◌+◌, ◌-◌, ◌<◌, ◌≤◌, Bool, true, false, List, [], ◌∷◌, ◌++◌, length, map, replicate, pos, get_or, Option, Some, None, refl, ap, ◌∙◌, subst, arith, append_assoc, length-append}
 use Rattle.std.proofs.lemmas.Int.{ints}
 use Rattle.std.proofs.lemmas.List.{get_or-append-add, get_or_append_left, get_or-append_right, length-map, length-replicate}
 use Rattle.std.proofs.lemmas.Nat.{and_le_r}
@@ -7,8 +7,8 @@ use Rattle.vms_kinds.specs.Codes.{InRange}
 use Rattle.vms_kinds.specs.declared.Kind.TheVariants.{U8, U16, I8, Timer}
 use Rattle.dev_serial.specs.Access.{lsr_of}
 use Rattle.dev_serial.specs.Bits.{has}
-use Rattle.dev_serial.specs.Cells.{IsPortCells, IsFifo, kind_at, padded, cells_of, carried}
-use Rattle.dev_serial.specs.Image.{Image, HasShortLists, saved, never, ipending_of, single_byte, fifo_bytes, first_byte, fcr_number, shift_number, due_number, moment_number}
+use Rattle.dev_serial.specs.Cells.{IsPortCells, IsFifo, kind_at, padded}
+use Rattle.dev_serial.specs.Image.{Image, HasShortLists, saved, ipending_of, single_byte, fifo_bytes, fcr_number, shift_number, due_number, moment_number}
 use Rattle.dev_serial.specs.Laws.{SavedMayBeRestored}
 use Rattle.dev_serial.specs.Port.{Port, interrupt, id_number, is_thr_empty}
 use Rattle.dev_serial.specs.Saved.{last_moment}

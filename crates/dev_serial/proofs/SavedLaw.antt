@@ -1,5 +1,5 @@
 -- What was saved is restored as a port like the saved one.
-use Rattle.std.proofs.Common.{◌≡◌, ℕ, ◌<◌, ◌≤◌, ◌==◌, [], length, Some, None, Bool, true, false, not, ◌&&◌, ◌||◌, List, Option, Ok, refl, sym, ap, ◌∙◌, subst, arith}
+use Rattle.std.proofs.Common.{◌≡◌, ℕ, ◌<◌, ◌≤◌, [], length, Some, None, Bool, true, false, not, ◌&&◌, ◌||◌, List, Option, Ok, refl, sym, ap, ◌∙◌, arith}
 use Rattle.std.proofs.lemmas.Bool.{le-leb, leb-true, eq-eqb, and_from, and_parts, false_from_ne_true, false≢true}
 use Rattle.std.specs.Prelude.{nat_le, is_some}
 use Rattle.dev_serial.specs.Access.{is_empty, lsr_of}
@@ -15,7 +15,7 @@ use Rattle.dev_serial.specs.Sound.{IsSound, IsTimeout, Alike}
 use Rattle.dev_serial.specs.declared.trigger.Trigger.{Trigger}
 use Rattle.dev_serial.proofs.CarriedLaw.{IsLacked, carried-cells, image_of-newest}
 use Rattle.dev_serial.proofs.SavedParts.{fifos-back, bytes-back, moment-back, shift-back, fcr-saved, unused-saved, status-saved, shift-saved, timeout-saved}
-use Rattle.dev_serial.proofs.TruthTables.{IsStatus, status, identified, latch_back, IsLatchBack, latch_comes_back}
+use Rattle.dev_serial.proofs.TruthTables.{IsStatus, status, latch_back, IsLatchBack, latch_comes_back}
 
 -- where the rules hold, the port is restored
 restored-holds : (level now : ℕ) (image : Image) → registers_hold image ≡ true → fcr_holds level image ≡ true → unused_hold image ≡ true → status_holds image ≡ true → shift_holds now image ≡ true → timeout_holds level now image ≡ true → latch_holds image ≡ true → id_holds level now image ≡ true → restored level now image ≡ Ok (port_of level image)

@@ -1,10 +1,8 @@
 -- Each part of a port, back from its numbers.
-use Rattle.std.proofs.Common.{◌≡◌, ℕ, zero, suc, ◌+◌, ◌*◌, ◌/◌, ◌%◌, ◌<◌, ◌≤◌, ◌==◌, Bool, true, false, not, ◌&&◌, ◌||◌, cond, List, [], ◌∷◌, length, Option, Some, None, refl, sym, ap, ◌∙◌, arith}
-use Rattle.std.proofs.lemmas.Bool.{false≢true, le-leb, lt-ltb, ne_eqb, eq-eqb, and_from, or_right, cases_cond}
-use Rattle.std.proofs.lemmas.Bool.Decides.{nat_tests}
+use Rattle.std.proofs.Common.{◌≡◌, ℕ, ◌+◌, ◌%◌, ◌≤◌, ◌==◌, Bool, true, false, not, ◌&&◌, ◌||◌, cond, List, [], ◌∷◌, length, Option, Some, None, refl, arith}
+use Rattle.std.proofs.lemmas.Bool.{le-leb, lt-ltb, ne_eqb, and_from, or_right}
 use Rattle.std.specs.Prelude.{nat_le, nat_lt, is_some}
 use Rattle.dev_serial.specs.Access.{is_empty}
-use Rattle.dev_serial.specs.Bits.{has}
 use Rattle.dev_serial.specs.Image.{never, moment_number, due_number, shift_number, single_byte, fifo_bytes, fcr_number, moment_of, shift_of, fifos_of, bytes_held}
 use Rattle.dev_serial.specs.Parts.{IsShort}
 use Rattle.dev_serial.specs.Rules.{same, longest_character, longest_timeout}

@@ -1,8 +1,8 @@
 -- Bytes leave, one at a time.
-use Rattle.std.proofs.Common.{◌≡◌, ℕ, ◌+◌, ◌<◌, ◌≤◌, Bool, true, false, cond, List, [], ◌∷◌, ◌++◌, length, map, Option, Some, None, refl, sym, ap, ◌∙◌, arith, append_assoc, append-nil, get_or}
+use Rattle.std.proofs.Common.{◌≡◌, ℕ, ◌+◌, ◌<◌, ◌≤◌, Bool, true, false, cond, List, [], ◌∷◌, ◌++◌, length, Some, None, refl, sym, ap, ◌∙◌, arith, append_assoc, append-nil, get_or}
 use Rattle.std.proofs.lemmas.Bool.Decides.{nat_tests}
 use Rattle.std.specs.Prelude.{nat_le, remove}
-use Rattle.dev_serial.specs.Parts.{ReceiverState, TransmitterState}
+use Rattle.dev_serial.specs.Parts.{ReceiverState}
 use Rattle.dev_serial.specs.Transmit.{timetable, departures, gone, staying, holding, arrived, on_line, looped_in, bytes_of}
 use Rattle.dev_serial.specs.declared.mode.Mode.{Mode}
 use Rattle.dev_serial.specs.declared.shift.Shift.{Shift}

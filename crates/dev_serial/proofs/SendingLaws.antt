@@ -1,17 +1,17 @@
 -- What leaves, and when.
-use Rattle.std.proofs.Common.{◌≡◌, ℕ, ◌+◌, ◌-◌, ◌*◌, ◌/◌, ◌%◌, ◌<◌, ◌≤◌, Bool, true, false, not, ◌&&◌, cond, List, [], ◌∷◌, ◌++◌, length, map, Option, Some, None, refl, sym, ap, ◌∙◌, subst, arith, append_assoc, append-nil}
+use Rattle.std.proofs.Common.{◌≡◌, ℕ, ◌+◌, ◌<◌, ◌≤◌, Bool, true, false, not, ◌&&◌, cond, List, [], ◌∷◌, ◌++◌, length, Option, Some, None, refl, sym, ap, ◌∙◌, arith, append_assoc, append-nil}
 use Rattle.std.proofs.lemmas.Bool.{false≢true, le-leb, lt-leb, eqb-true, eq-eqb}
 use Rattle.std.proofs.lemmas.List.{map-append}
 use Rattle.std.proofs.Math.Nat.{le-max_right}
 use Rattle.std.proofs.lemmas.Nat.{le-div}
-use Rattle.std.specs.Prelude.{nat_le, nat_lt, is_some, max}
+use Rattle.std.specs.Prelude.{nat_lt, is_some}
 use Rattle.dev_serial.specs.Access.{is_empty, thr_written, advanced, leaving}
 use Rattle.dev_serial.specs.Bits.{has}
-use Rattle.dev_serial.specs.Line.{character_time, character_bits}
+use Rattle.dev_serial.specs.Line.{character_time}
 use Rattle.dev_serial.specs.Parts.{ReceiverState, TransmitterState}
 use Rattle.dev_serial.specs.Port.{Port, mode_of}
 use Rattle.dev_serial.specs.Receive.{received}
-use Rattle.dev_serial.specs.Sending.{Event, Writes, Advances, after, after_all, left_in, left_in_all, accepted_in, accepted_in_all, replaces, ReplacesNone, pending, SendsInOrder, ReplacesOne, LeavesForLine, AdvancesInParts, WaitsUntilDue, LoopsAtMoment}
+use Rattle.dev_serial.specs.Sending.{Event, Writes, Advances, after, after_all, left_in, left_in_all, accepted_in, accepted_in_all, replaces, pending, SendsInOrder, ReplacesOne, LeavesForLine, AdvancesInParts, WaitsUntilDue, LoopsAtMoment}
 use Rattle.dev_serial.specs.Transmit.{timetable, departures, gone, staying, holding, arrived, on_line, looped_in, run_until, gone_by, bytes_of, byte_of, pending_of, queued, loaded}
 use Rattle.dev_serial.specs.declared.mode.Mode.{Mode}
 use Rattle.dev_serial.specs.declared.shift.Shift.{Shift}

@@ -1,11 +1,9 @@
 -- Timetables, and what leaves by them.
-use Rattle.std.proofs.Common.{◌≡◌, ℕ, suc, ◌+◌, ◌-◌, ◌<◌, ◌≤◌, Bool, true, false, not, ◌&&◌, cond, List, [], ◌∷◌, ◌++◌, length, map, Option, Some, None, refl, sym, ap, ◌∙◌, subst, arith, append_assoc, append-nil}
+use Rattle.std.proofs.Common.{◌≡◌, ℕ, suc, ◌+◌, ◌-◌, ◌≤◌, Bool, true, false, cond, List, [], ◌∷◌, ◌++◌, length, Option, Some, None, refl, ap, ◌∙◌, arith}
 use Rattle.std.proofs.lemmas.Bool.{leb-true, le-leb}
 use Rattle.std.proofs.lemmas.List.{map-append, length-map}
 use Rattle.std.specs.Prelude.{nat_le}
-use Rattle.dev_serial.specs.Parts.{ReceiverState, TransmitterState}
-use Rattle.dev_serial.specs.Transmit.{timetable, departures, gone, staying, holding, arrived, on_line, looped_in, run_until, gone_by, bytes_of, byte_of, pending_of}
-use Rattle.dev_serial.specs.declared.mode.Mode.{Mode}
+use Rattle.dev_serial.specs.Transmit.{timetable, departures, gone, staying, holding, run_until, gone_by, bytes_of, byte_of, pending_of}
 use Rattle.dev_serial.specs.declared.shift.Shift.{Shift}
 use Rattle.dev_serial.proofs.SendLemmas.{bytes_of-timetable}
 

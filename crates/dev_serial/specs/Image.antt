@@ -1,9 +1,8 @@
 -- A port as the numbers of a stream, by their names there.
-use Rattle.std.specs.Prelude.{ℕ, ℤ, pos, negsuc, ◌+◌, ◌*◌, ◌/◌, ◌≤◌, ◌==◌, Bool, true, false, ◌&&◌, not, if◌then◌else◌, List, [], ◌∷◌, length, Option, Some, None}
+use Rattle.std.specs.Prelude.{ℕ, ℤ, pos, negsuc, ◌+◌, ◌*◌, ◌/◌, ◌≤◌, ◌==◌, Bool, ◌&&◌, not, if◌then◌else◌, List, [], ◌∷◌, length, Option, Some, None}
 use Rattle.std.specs.Ordering.{int_eq}
 use Rattle.dev_serial.specs.Bits.{has}
 use Rattle.dev_serial.specs.Fifo.{trigger_of, trigger_number}
-use Rattle.dev_serial.specs.Parts.{ReceiverState, TransmitterState}
 use Rattle.dev_serial.specs.Port.{Port, interrupt, id_number, is_thr_empty}
 use Rattle.dev_serial.specs.Access.{lsr_of}
 use Rattle.dev_serial.specs.declared.shift.Shift.{Shift}

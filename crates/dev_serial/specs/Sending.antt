@@ -1,5 +1,5 @@
 -- Runs of writes and of time, and the laws of what leaves.
-use Rattle.std.specs.Prelude.{◌≡◌, ℕ, ◌≤◌, ◌<◌, ◌&&◌, Bool, true, false, not, nat_lt, if◌then◌else◌, List, [], ◌∷◌, ◌++◌, length, Option, Some, None, is_some}
+use Rattle.std.specs.Prelude.{◌≡◌, ℕ, ◌≤◌, ◌<◌, ◌&&◌, Bool, true, false, not, nat_lt, if◌then◌else◌, List, [], ◌∷◌, ◌++◌, length, Some, is_some}
 use Rattle.dev_serial.specs.Access.{is_empty, thr_written, advanced, leaving}
 use Rattle.dev_serial.specs.Bits.{has}
 use Rattle.dev_serial.specs.Port.{Port, mode_of}

@@ -4,9 +4,9 @@ ghost use Rattle.dev_serial.specs.Image.{bytes_held as bytes_held_of, fifos_of a
 
 use crate::cells::{byte_at, fifo_at, moment_at, signed_at, word_at};
 use crate::interrupt::Interrupt;
-use crate::mode::LONGEST_CHARACTER;
+use crate::mode::{LAST_MOMENT, LONGEST_CHARACTER};
 use crate::receiver::Receiver;
-use crate::registers::{DR, OE, TEMT, THRE, has};
+use crate::registers::{DR, IER_BITS, LSR_BITS, MCR_BITS, OE, TEMT, THRE, has};
 use crate::serial::{FIFO_LEVEL, Serial, TIMEOUT_LEVEL};
 use crate::shift::Shift;
 use crate::transmitter::Transmitter;
@@ -91,7 +91,7 @@ impl Image {
     fn registers_hold(&self) -> bool
         ensures { result ≡ registers_hold self.now }
     {
-        self.ier <= 15 && self.mcr <= 31 && self.lsr & 0x63 == self.lsr
+        self.ier <= IER_BITS && self.mcr <= MCR_BITS && self.lsr & LSR_BITS == self.lsr
     }
 
     // 2: a FIFO Control Register of the level.
@@ -131,7 +131,7 @@ impl Image {
     // 5: the line status tells whether the shift register is idle, and its byte is sent in time.
     #[tactic(auto, unfolding(crate::specs::Rules::shift_holds))]
     fn shift_holds(&self, now: u64) -> bool
-        requires { now ≤ 4000000000000000000 }
+        requires { now ≤ LAST_MOMENT }
         ensures { result ≡ shift_holds now self.now }
     {
         if has(self.lsr, TEMT) {
@@ -144,7 +144,7 @@ impl Image {
     // 6: the timeout runs exactly where it has to, and ends in time.
     #[tactic(auto, unfolding(crate::specs::Rules::timeout_holds))]
     fn timeout_holds(&self, level: u8, now: u64) -> bool
-        requires { now ≤ 4000000000000000000 }
+        requires { now ≤ LAST_MOMENT }
         ensures { result ≡ timeout_holds level now self.now }
     {
         if level >= TIMEOUT_LEVEL && self.fcr != 0 && !self.rx.is_empty() {
@@ -199,7 +199,7 @@ impl Image {
     /// The port of these numbers at a level and a moment, or the first rule that fails.
     #[tactic(auto, unfolding(crate::specs::Rules::restored, crate::specs::Rules::id_holds))]
     pub fn restore(self, level: u8, now: u64) -> Result<Serial, u8>
-        requires { now ≤ 4000000000000000000 }
+        requires { now ≤ LAST_MOMENT }
         ensures restored { result ≡ restored level now self }
         ensures rule { IfErr result (λ rule. (1 ≤ rule) × (rule ≤ 8)) }
     {

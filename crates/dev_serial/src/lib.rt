@@ -19,6 +19,8 @@ mod transmitter;
 mod trigger;
 
 pub use laws::{alike_law, saved_law, sending_law, sound_law, time_law};
+pub use mode::LAST_MOMENT;
+pub use saved::NEWEST_SET;
 pub use serial::{NEWEST_LEVEL, Serial};
 
 #[cfg(test)]

@@ -1,7 +1,7 @@
 // The receiving part of a port.
 ghost use Rattle.std.specs.Prelude.{◌≡◌, ◌≤◌, length, [], false};
 
-use crate::mode::{LONGEST_CHARACTER, Mode};
+use crate::mode::{LAST_MOMENT, LONGEST_CHARACTER, Mode};
 use arrayvec::ArrayVec;
 use std::marker::Model;
 
@@ -41,7 +41,7 @@ impl Receiver {
     #[tactic(auto, unfolding(crate::specs::Receive::received))]
     pub fn receive(&mut self, mode: Mode, byte: u8, at: u64)
         requires longest { mode.character ≤ LONGEST_CHARACTER }
-        requires moment { at ≤ 4000000000000000000 }
+        requires moment { at ≤ LAST_MOMENT }
         ensures state { self.new ≡ received mode byte at self.old }
         ensures short { length self.old.held ≤ 16 → length self.new.held ≤ 16 }
         ensures one { mode.has_fifos ≡ false → length self.new.held ≤ 1 }
@@ -68,7 +68,7 @@ impl Receiver {
     #[tactic(auto, unfolding(crate::specs::Receive::taken_at))]
     pub fn take(&mut self, mode: Mode, at: u64) -> u8
         requires longest { mode.character ≤ LONGEST_CHARACTER }
-        requires moment { at ≤ 4000000000000000000 }
+        requires moment { at ≤ LAST_MOMENT }
         ensures state { (result, self.new) ≡ taken mode at self.old }
         ensures fewer { length self.new.held ≤ length self.old.held }
     {

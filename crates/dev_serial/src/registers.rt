@@ -70,6 +70,13 @@ pub(crate) const RI: u8 = 6;
 
 pub(crate) const DCD: u8 = 7;
 
+/// The bits that the Interrupt Enable, Modem Control and Line Status Registers have here.
+pub(crate) const IER_BITS: u8 = 0x0f;
+
+pub(crate) const MCR_BITS: u8 = 0x1f;
+
+pub(crate) const LSR_BITS: u8 = 0x63;
+
 /// What the Modem Status Register reads outside of loop mode: CTS, DSR and DCD.
 pub(crate) const MODEM_READY: u8 = 0xb0;
 

@@ -17,6 +17,9 @@ pub(crate) const FIFO_SET: u8 = 2;
 /// The first set with the character timeout.
 pub(crate) const TIMEOUT_SET: u8 = 3;
 
+/// The newest set, of which restored cells are.
+pub const NEWEST_SET: u8 = 3;
+
 impl Hooked for Serial {
     ghost use Rattle.dev_serial.specs.Saved.{CanSave, CanRestore, cells_at, hook_restored};
 

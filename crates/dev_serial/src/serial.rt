@@ -3,7 +3,7 @@ ghost use Rattle.dev_serial.specs.Access.{msr_of};
 ghost use Rattle.std.specs.Prelude.{◌≡◌, ◌≤◌, ◌+◌, length, nat_le, ◌&&◌};
 
 use crate::interrupt::Interrupt;
-use crate::mode::{LONGEST_CHARACTER, Mode, character_time};
+use crate::mode::{LAST_MOMENT, LONGEST_CHARACTER, Mode, character_time};
 use crate::receiver::Receiver;
 use crate::registers::*;
 use crate::transmitter::Transmitter;
@@ -133,11 +133,11 @@ impl Serial {
             }
     }
 
-    /// Reads the register at an offset from 0 to 7, at a moment in nanoseconds.
+    /// Reads the register at an offset from 0 to 7, at a moment up to `LAST_MOMENT`.
     #[tactic(auto, unfolding(crate::specs::Access::read_of))]
     pub fn read(&mut self, offset: u8, now: u64) -> u8
         requires offset { offset ≤ 7 }
-        requires moment { now ≤ 4000000000000000000 }
+        requires moment { now ≤ LAST_MOMENT }
         ensures state { (result, self.new) ≡ read_of offset now self.old }
         ensures level { self.new.level ≡ self.old.level }
     {
@@ -157,7 +157,7 @@ impl Serial {
 
     // The first received byte leaves, "Receiver Buffer Register".
     fn read_byte(&mut self, now: u64) -> u8
-        requires { now ≤ 4000000000000000000 }
+        requires { now ≤ LAST_MOMENT }
         ensures { (result, self.new) ≡ with_taken self.old (taken (mode_of self.old) now self.old.receiver) }
     {
         let mode = self.mode();
@@ -197,11 +197,11 @@ impl Serial {
             | bit_where(is_empty && self.transmitter.shift().is_none(), TEMT)
     }
 
-    /// Writes the register at an offset from 0 to 7, at a moment in nanoseconds.
+    /// Writes the register at an offset from 0 to 7, at a moment up to `LAST_MOMENT`.
     #[tactic(auto, unfolding(crate::specs::Access::written))]
     pub fn write(&mut self, offset: u8, value: u8, now: u64)
         requires offset { offset ≤ 7 }
-        requires moment { now ≤ 4000000000000000000 }
+        requires moment { now ≤ LAST_MOMENT }
         ensures state { self.new ≡ written offset value now self.old }
         ensures level { self.new.level ≡ self.old.level }
     {
@@ -220,7 +220,7 @@ impl Serial {
                 }
             }
             LCR => self.lcr = value,
-            MCR => self.mcr = value & 0x1f,
+            MCR => self.mcr = value & MCR_BITS,
             LSR | MSR => {}
             _ => self.scr = value,
         }
@@ -230,7 +230,7 @@ impl Serial {
     // the shift register at once.
     #[tactic(auto, unfolding(crate::specs::Access::thr_written))]
     fn write_byte(&mut self, byte: u8, now: u64)
-        requires { now ≤ 4000000000000000000 }
+        requires { now ≤ LAST_MOMENT }
         ensures state { self.new ≡ thr_written byte now self.old }
         ensures level { self.new.level ≡ self.old.level }
     {
@@ -245,7 +245,7 @@ impl Serial {
         ensures state { self.new ≡ ier_written value self.old }
         ensures level { self.new.level ≡ self.old.level }
     {
-        let enabled = value & 0x0f;
+        let enabled = value & IER_BITS;
         if !has(self.ier, ETBEI) && has(enabled, ETBEI) {
             self.thr_empty = self.transmitter.waiting().is_empty();
         }
@@ -276,10 +276,10 @@ impl Serial {
         };
     }
 
-    /// A byte comes on the line at a moment in nanoseconds. In loop mode it is ignored.
+    /// A byte comes on the line at a moment up to `LAST_MOMENT`. In loop mode it is ignored.
     #[tactic(auto, unfolding(crate::specs::Access::came_in))]
     pub fn byte_in(&mut self, value: u8, now: u64)
-        requires { now ≤ 4000000000000000000 }
+        requires { now ≤ LAST_MOMENT }
         ensures state { self.new ≡ came_in value now self.old }
         ensures level { self.new.level ≡ self.old.level }
     {
@@ -289,11 +289,11 @@ impl Serial {
         }
     }
 
-    /// Lets time pass up to a moment in nanoseconds, and answers the bytes that left for the line, first
+    /// Lets time pass up to a moment, at most `LAST_MOMENT`, and answers the bytes that left for the line, first
     /// out first, at most 17. In loop mode what leaves the shift register comes in again at its moment.
     #[tactic(auto, unfolding(crate::specs::Access::advanced))]
     pub fn advance(&mut self, to: u64) -> ArrayVec<u8, 17>
-        requires { to ≤ 4000000000000000000 }
+        requires { to ≤ LAST_MOMENT }
         ensures state { (result.items, self.new) ≡ advanced to self.old }
         ensures level { self.new.level ≡ self.old.level }
         ensures few { length result.items ≤ 17 }

@@ -2,13 +2,13 @@
 ghost use Rattle.std.specs.Prelude.{◌≡◌};
 ghost use Rattle.dev_serial.specs.Saved.{CanSave, CanRestore, hook_restored};
 
-use crate::serial::Serial;
+use crate::mode::LAST_MOMENT;
+use crate::saved::NEWEST_SET;
+use crate::serial::{NEWEST_LEVEL, Serial};
 use std::process::Abort;
 use std::test::Fail;
 use vms_hooks::{HookFault, Pass, load_by, save_by};
 use vms_kinds::DevCells;
-
-const LAST_MOMENT: u64 = 4_000_000_000_000_000_000;
 
 const NEVER: i128 = 0xffff_ffff_ffff_ffff;
 
@@ -156,7 +156,7 @@ fn load(level: u8, cells: &DevCells) -> Result<Serial, HookFault>
         |pass: &Pass, port: &Serial| port.cells(pass),
         |pass: &Pass, cells: &DevCells| restore(pass, cells),
         level,
-        3,
+        NEWEST_SET,
         0,
         cells,
     )
@@ -292,7 +292,7 @@ fn refused(rt: &impl Abort, level: u8, changes: &[(usize, i128)]) -> u8 {
         assert!(rt; *place < cells.len());
         cells.as_mut_slice()[*place] = *value;
     }
-    assert!(rt; 1 <= level && level <= 3);
+    assert!(rt; 1 <= level && level <= NEWEST_LEVEL);
     assert!(rt; Serial::are_cells(&cells));
     match load(level, &cells) {
         Ok(_) => 0,

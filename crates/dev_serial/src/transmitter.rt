@@ -3,7 +3,7 @@ ghost use Rattle.std.specs.Prelude.{◌≡◌, ◌≤◌, ◌+◌, ◌++◌, len
 ghost use Rattle.dev_serial.specs.Transmit.{gone, staying, holding, on_line, looped_in, departures, IsSentAfter};
 ghost use Rattle.dev_serial.specs.Parts.{IsShort};
 
-use crate::mode::{LONGEST_CHARACTER, Mode};
+use crate::mode::{LAST_MOMENT, LONGEST_CHARACTER, Mode};
 use crate::receiver::Receiver;
 use crate::shift::Shift;
 use arrayvec::ArrayVec;
@@ -83,7 +83,7 @@ impl Transmitter {
     #[tactic(auto, unfolding(crate::specs::Transmit::run_until, crate::specs::Transmit::departures, crate::specs::Transmit::gone, crate::specs::Transmit::arrived))]
     pub fn advance(&mut self, mode: Mode, to: u64, receiver: &mut Receiver) -> ArrayVec<u8, 17>
         requires longest { mode.character ≤ LONGEST_CHARACTER }
-        requires moment { to ≤ 4000000000000000000 }
+        requires moment { to ≤ LAST_MOMENT }
         requires few { length self.old.waiting ≤ 16 }
         requires few_held { IsShort mode.has_fifos receiver.old.held }
         ensures state { self.new ≡ run_until mode.character to self.old.shift self.old.waiting }
@@ -112,7 +112,7 @@ fn send_due(
     receiver: &mut Receiver,
 ) -> (ArrayVec<u8, 17>, Option<Shift>)
     requires longest { mode.character ≤ LONGEST_CHARACTER }
-    requires moment { to ≤ 4000000000000000000 }
+    requires moment { to ≤ LAST_MOMENT }
     requires few { length waiting.old.items ≤ 16 }
     requires few_held { IsShort mode.has_fifos receiver.old.held }
     ensures left { record { waiting = waiting.new.items; shift = result.1 } ≡ holding (staying to (departures mode.character (Some first) waiting.old.items)) }
@@ -144,7 +144,7 @@ fn send_due(
 #[tactic(auto, unfolding(crate::specs::Transmit::arrived))]
 fn leave(mode: Mode, shift: Shift, line: &mut ArrayVec<u8, 17>, receiver: &mut Receiver)
     requires longest { mode.character ≤ LONGEST_CHARACTER }
-    requires moment { shift.due ≤ 4000000000000000000 }
+    requires moment { shift.due ≤ LAST_MOMENT }
     requires room { length line.old.items ≤ 16 }
     requires few_held { IsShort mode.has_fifos receiver.old.held }
     ensures line { line.new.items ≡ line.old.items ++ on_line mode (shift ∷ []) }

@@ -1,4 +1,4 @@
-use Rattle.std.proofs.Common.{◌≡◌, ◌+◌, ◌-◌, take, drop, map, length}
+use Rattle.std.proofs.Common.{◌≡◌, ◌+◌, take, drop, map, length}
 use Rattle.dev_serial.specs.Cells.{nat_of}
 use Rattle.dev_serial.proofs.cells.fifo_at.Given as goal
 

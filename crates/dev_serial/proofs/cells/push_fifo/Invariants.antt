@@ -1,4 +1,4 @@
-use Rattle.std.proofs.Common.{◌≡◌, ◌∷◌, [], ◌++◌, ◌+◌, ◌-◌, length, take, pos, map, replicate}
+use Rattle.std.proofs.Common.{◌≡◌, ◌∷◌, ◌++◌, ◌+◌, ◌-◌, length, take, pos, map, replicate}
 use Rattle.dev_serial.proofs.cells.push_fifo.Given as goal
 
 abbrev pub invariant-loop-byte : goal.invariant-loop-byte
