@@ -1,0 +1,125 @@
+-- Ports that are alike answer each call alike.
+use Rattle.std.proofs.Common.{◌≡◌, ℕ, ◌==◌, Bool, true, false, not, ◌&&◌, cond, Option, refl, sym, ap, subst}
+use Rattle.std.proofs.lemmas.Bool.{false≢true}
+use Rattle.std.specs.Prelude.{bit_and, nat_le}
+use Rattle.dev_serial.specs.Access.{is_empty, iir_of, read_of, id_read, lsr_of, thr_written, ier_written, fcr_written, receiver_cleared, transmitter_cleared, written, came_in, advanced}
+use Rattle.dev_serial.specs.Bits.{has}
+use Rattle.dev_serial.specs.Line.{character_time}
+use Rattle.dev_serial.specs.Transmit.{run_until}
+use Rattle.dev_serial.specs.Laws.{AnswersAlike, ReadsAlike, WritesAlike, BytesInAlike, AdvancesAlike, LinesAlike}
+use Rattle.dev_serial.specs.Port.{Port, is_data_ready, has_come, interrupt, is_thr_empty, line_of}
+use Rattle.dev_serial.specs.Sound.{Alike}
+use Rattle.dev_serial.specs.declared.trigger.Trigger.{Trigger}
+use Rattle.dev_serial.proofs.TruthTables.{identified}
+
+-- a relation of two choices by the same test
+both : {A : Type 0} (P : A → A → Type 0) (b : Bool) (x x' y y' : A) → P x x' → P y y' → P (cond b x y) (cond b x' y')
+both P true x x' y y' p q = p
+both P false x x' y y' p q = q
+
+same_identified : (status ready timeout enabled first second : Bool) → (enabled ≡ true → second ≡ first) → identified status ready timeout enabled second ≡ identified status ready timeout enabled first
+same_identified status ready timeout true first second h = rw (h refl)
+same_identified status ready timeout false first second h = refl
+
+sampled : (was is empty first second : Bool) → (was ≡ true → second ≡ first) → is ≡ true → cond (not was && is) empty second ≡ cond (not was && is) empty first
+sampled true is empty first second h e = h refl
+sampled false true empty first second h e = refl
+sampled false false empty first second h e = absurd (false≢true e)
+
+-- the other port is the first with another latch
+module _ (port : Port) (latch : Bool) (h : has port.ier 1 ≡ true → latch ≡ port.thr_empty) where
+  abbrev other : Port
+  other = record port { thr_empty = latch }
+
+  alike : Alike port other
+  alike = record { same = refl; enabled = h }
+
+  same_interrupt : (now : ℕ) → interrupt now other ≡ interrupt now port
+  unfolding interrupt
+  same_interrupt now = same_identified (has port.ier 2 && port.receiver.overrun) (has port.ier 0 && is_data_ready port.fifos port.receiver.held) (has port.ier 0 && (nat_le 3 port.level && has_come now port.receiver.timeout)) (has port.ier 1) port.thr_empty latch h
+
+  same_line : (now : ℕ) → line_of now other ≡ line_of now port
+  unfolding line_of
+  same_line now = rw (same_interrupt now)
+
+  id-alike : (now : ℕ) → AnswersAlike (id_read now port) (id_read now other)
+  unfolding iir_of
+  id-alike now = rw (same_interrupt now) (record {
+    value = refl;
+    alike = record { same = refl; enabled = λ e. ap (λ (b : Bool). cond (is_thr_empty (interrupt now port)) false b) (h e) };
+  })
+
+  -- an answer that is the same, with the port as it was
+  kept : (answer : ℕ) → AnswersAlike (answer, port) (answer, other)
+  kept answer = record { value = refl; alike = alike }
+
+  read-alike : (offset now : ℕ) → AnswersAlike (read_of offset now port) (read_of offset now other)
+  unfolding read_of lsr_of
+  read-alike offset now =
+      both AnswersAlike (offset == 0) _ _ _ _ (both AnswersAlike (has port.lcr 7) _ _ _ _ (kept _) (record { value = refl; alike = record { same = refl; enabled = h } }))
+      (both AnswersAlike (offset == 1) _ _ _ _ (both AnswersAlike (has port.lcr 7) _ _ _ _ (kept _) (kept _))
+      (both AnswersAlike (offset == 2) _ _ _ _ (id-alike now)
+      (both AnswersAlike (offset == 3) _ _ _ _ (kept _)
+      (both AnswersAlike (offset == 4) _ _ _ _ (kept _)
+      (both AnswersAlike (offset == 5) _ _ _ _ (record { value = refl; alike = record { same = refl; enabled = h } })
+      (both AnswersAlike (offset == 6) _ _ _ _ (kept _) (kept _)))))))
+
+  thr-alike : (byte now : ℕ) → Alike (thr_written byte now port) (thr_written byte now other)
+  unfolding thr_written
+  thr-alike byte now = record { same = refl; enabled = λ _. refl }
+
+  ier-alike : (value : ℕ) → Alike (ier_written value port) (ier_written value other)
+  unfolding ier_written
+  ier-alike value = record { same = refl; enabled = sampled (has port.ier 1) (has (bit_and value 0x0f) 1) (is_empty port.transmitter.waiting) port.thr_empty latch h }
+
+  cleared-alike : (clears_sent clears_held : Bool) (fifos : Option Trigger) → Alike (record (transmitter_cleared clears_sent (receiver_cleared clears_held port)) { fifos = fifos }) (record (transmitter_cleared clears_sent (receiver_cleared clears_held other)) { fifos = fifos })
+  cleared-alike true true fifos = record { same = refl; enabled = λ e. ap (λ (b : Bool). cond (is_empty port.transmitter.waiting) b true) (h e) }
+  cleared-alike true false fifos = record { same = refl; enabled = λ e. ap (λ (b : Bool). cond (is_empty port.transmitter.waiting) b true) (h e) }
+  cleared-alike false true fifos = record { same = refl; enabled = h }
+  cleared-alike false false fifos = record { same = refl; enabled = h }
+
+  fcr-alike : (value : ℕ) → Alike (fcr_written value port) (fcr_written value other)
+  unfolding fcr_written
+  fcr-alike value = cleared-alike _ _ _
+
+  write-alike : (offset value now : ℕ) → Alike (written offset value now port) (written offset value now other)
+  unfolding written
+  write-alike offset value now =
+      both Alike (offset == 0) _ _ _ _ (both Alike (has port.lcr 7) _ _ _ _ (record { same = refl; enabled = h }) (thr-alike value now))
+      (both Alike (offset == 1) _ _ _ _ (both Alike (has port.lcr 7) _ _ _ _ (record { same = refl; enabled = h }) (ier-alike value))
+      (both Alike (offset == 2) _ _ _ _ (both Alike (nat_le 2 port.level) _ _ _ _ (fcr-alike value) alike)
+      (both Alike (offset == 3) _ _ _ _ (record { same = refl; enabled = h })
+      (both Alike (offset == 4) _ _ _ _ (record { same = refl; enabled = h })
+      (both Alike (offset == 5) _ _ _ _ alike
+      (both Alike (offset == 6) _ _ _ _ alike (record { same = refl; enabled = h })))))))
+
+  in-alike : (byte now : ℕ) → Alike (came_in byte now port) (came_in byte now other)
+  unfolding came_in
+  in-alike byte now = both Alike (has port.mcr 4) _ _ _ _ alike (record { same = refl; enabled = h })
+
+  advance-alike : (to : ℕ) → AnswersAlike (advanced to port) (advanced to other)
+  unfolding advanced
+  advance-alike to = record {
+    value = refl;
+    alike = record { same = refl; enabled = λ e. ap (λ (b : Bool). cond (is_empty (run_until (character_time port.divisor port.lcr) to port.transmitter.shift port.transmitter.waiting).waiting && not (is_empty port.transmitter.waiting)) true b) (h e) };
+  }
+
+pub reads_alike : ReadsAlike
+reads_alike offset now port other a =
+    subst (λ (p : Port). AnswersAlike (read_of offset now port) (read_of offset now p)) (sym a.same) (read-alike port other.thr_empty a.enabled offset now)
+
+pub writes_alike : WritesAlike
+writes_alike offset value now port other a =
+    subst (λ (p : Port). Alike (written offset value now port) (written offset value now p)) (sym a.same) (write-alike port other.thr_empty a.enabled offset value now)
+
+pub bytes_in_alike : BytesInAlike
+bytes_in_alike byte now port other a =
+    subst (λ (p : Port). Alike (came_in byte now port) (came_in byte now p)) (sym a.same) (in-alike port other.thr_empty a.enabled byte now)
+
+pub advances_alike : AdvancesAlike
+advances_alike to port other a =
+    subst (λ (p : Port). AnswersAlike (advanced to port) (advanced to p)) (sym a.same) (advance-alike port other.thr_empty a.enabled to)
+
+pub lines_alike : LinesAlike
+lines_alike now port other a =
+    subst (λ (p : Port). line_of now p ≡ line_of now port) (sym a.same) (same_line port other.thr_empty a.enabled now)

@@ -1,0 +1,236 @@
+-- Each call keeps a port sound.
+use Rattle.std.proofs.Common.{◌≡◌, ℕ, ◌+◌, ◌*◌, ◌/◌, ◌%◌, ◌<◌, ◌≤◌, ◌==◌, Bool, true, false, not, ◌&&◌, ◌||◌, cond, Option, Some, None, refl, sym, arith, ◌⊎◌, inl, inr}
+use Rattle.std.proofs.lemmas.Bool.{false≢true, leb-true, cond_both}
+use Rattle.std.proofs.lemmas.Nat.{and_le_r}
+use Rattle.std.specs.Prelude.{bit_and, nat_le, is_some}
+use Rattle.dev_serial.specs.Access.{is_empty, with_taken, read_of, id_read, lsr_read, thr_written, ier_written, fcr_written, receiver_cleared, transmitter_cleared, written, came_in, advanced}
+use Rattle.dev_serial.specs.Bits.{has}
+use Rattle.dev_serial.specs.Fifo.{trigger_of}
+use Rattle.dev_serial.specs.Laws.{PowerOnIsSound, ReadsKeepSound, WritesKeepSound, BytesInKeepSound, AdvancesKeepSound}
+use Rattle.dev_serial.specs.Line.{character_time}
+use Rattle.dev_serial.specs.Port.{Port, power_on, mode_of, interrupt, is_thr_empty}
+use Rattle.dev_serial.specs.Receive.{received, taken}
+use Rattle.dev_serial.specs.Rules.{longest_character}
+use Rattle.dev_serial.specs.Sound.{IsSound, HasRegisters}
+use Rattle.dev_serial.specs.declared.trigger.Trigger.{Trigger}
+use Rattle.dev_serial.proofs.KeepParts.{character-longest, taken-held, received-sound, emptied-sound, thr-sound, latched-sound, cleared-sound}
+use Rattle.dev_serial.proofs.KeepAdvance.{advance-transmitter, advance-receiver}
+use Rattle.dev_serial.proofs.SendingLaws.{character-positive}
+
+pub power_on_is_sound : PowerOnIsSound
+unfolding power_on
+power_on_is_sound level now first newest = record {
+  registers = record { first = first; newest = newest; divisor_range = omega arith; ier_range = omega arith; lcr_range = omega arith; mcr_range = omega arith; scr_range = omega arith; fifos = λ e. absurd (false≢true e) };
+  receiver = record { short = record { short = omega arith; one = λ _. omega arith }; bytes = tt; timeout = off (nat_le 3 level) };
+  transmitter = record { short = record { short = omega arith; one = λ _. omega arith }; bytes = tt; shift = tt; idle = λ _. refl; latched = λ e. absurd (false≢true e) };
+} where
+  off : (has_timeout : Bool) → (has_timeout && false) ≡ false
+  off true = refl
+  off false = refl
+
+either : {A : Type 0} (P : A → Type 0) (b : Bool) (x y : A) → P x → P y → P (cond b x y)
+either P true x y p q = p
+either P false x y p q = q
+
+-- where a list isn't cleared the switch stays as it was
+same_switch : (is_on was_on more : Bool) (trigger : Trigger) → (((is_on && not was_on) || (was_on && not is_on)) || more) ≡ false → is_some (cond is_on (Some trigger) None) ≡ was_on
+same_switch true true more trigger e = refl
+same_switch true false more trigger e = absurd (false≢true (sym e))
+same_switch false true more trigger e = absurd (false≢true (sym e))
+same_switch false false more trigger e = refl
+
+-- an answer whose port is sound
+record Kept (now : ℕ) (answer : ℕ × Port) : Type 0 where
+  kept : IsSound now answer.1
+
+module _ (now : ℕ) (port : Port) (sound : IsSound now port) where
+  longest : character_time port.divisor port.lcr ≤ longest_character
+  longest = character-longest port.divisor port.lcr sound.registers.divisor_range
+
+  id-kept : Kept now (id_read now port)
+  id-kept = record {
+    kept = record {
+      registers = sound.registers;
+      receiver = sound.receiver;
+      transmitter = latched-sound now (is_some port.fifos) port.thr_empty _ port.transmitter (λ e. inl (was (is_thr_empty (interrupt now port)) port.thr_empty e)) sound.transmitter;
+    };
+  } where
+    was : (identified latch : Bool) → cond identified false latch ≡ true → latch ≡ true
+    was true latch e = absurd (false≢true e)
+    was false latch e = e
+
+  here : (answer : ℕ) → Kept now (answer, port)
+  here answer = record { kept = sound }
+
+  byte-kept : Kept now (with_taken port (taken (mode_of port) now port.receiver))
+  byte-kept = record {
+    kept = record {
+      registers = sound.registers;
+      receiver = taken-held now now (character_time port.divisor port.lcr) (has port.mcr 4) (omega arith) longest port.level (is_some port.fifos) port.receiver.held port.receiver refl sound.receiver;
+      transmitter = sound.transmitter;
+    };
+  }
+
+  status-kept : Kept now (lsr_read port)
+  status-kept = record {
+    kept = record {
+      registers = sound.registers;
+      receiver = record { short = sound.receiver.short; bytes = sound.receiver.bytes; timeout = sound.receiver.timeout };
+      transmitter = sound.transmitter;
+    };
+  }
+
+  read-kept : (offset : ℕ) → Kept now (read_of offset now port)
+  unfolding read_of
+  read-kept offset =
+      either (Kept now) (offset == 0) _ _ (either (Kept now) (has port.lcr 7) _ _ (here _) byte-kept)
+      (either (Kept now) (offset == 1) _ _ (either (Kept now) (has port.lcr 7) _ _ (here _) (here _))
+      (either (Kept now) (offset == 2) _ _ id-kept
+      (either (Kept now) (offset == 3) _ _ (here _)
+      (either (Kept now) (offset == 4) _ _ (here _)
+      (either (Kept now) (offset == 5) _ _ status-kept
+      (either (Kept now) (offset == 6) _ _ (here _) (here _)))))))
+
+  came-kept : (byte : ℕ) → byte < 256 → IsSound now (record port { receiver = received (mode_of port) byte now port.receiver })
+  came-kept byte b = record {
+    registers = sound.registers;
+    receiver = received-sound now now (character_time port.divisor port.lcr) byte (has port.mcr 4) port.receiver (omega arith) longest port.level (is_some port.fifos) b sound.receiver;
+    transmitter = sound.transmitter;
+  }
+
+  in-kept : (byte : ℕ) → byte < 256 → IsSound now (came_in byte now port)
+  unfolding came_in
+  in-kept byte b = either (IsSound now) (has port.mcr 4) _ _ sound (came-kept byte b)
+
+  advance-kept : (to : ℕ) → now ≤ to → IsSound to (advanced to port).1
+  unfolding advanced
+  advance-kept to l = record {
+    registers = sound.registers;
+    receiver = advance-receiver (character_time port.divisor port.lcr) now to port.level (is_some port.fifos) (has port.mcr 4) port.transmitter.shift port.transmitter.waiting port.receiver longest l sound.transmitter.shift sound.transmitter.bytes sound.receiver;
+    transmitter = advance-transmitter (character_time port.divisor port.lcr) now to (is_some port.fifos) port.thr_empty port.transmitter longest l sound.transmitter;
+  }
+
+  thr-kept : (byte : ℕ) → byte < 256 → IsSound now (thr_written byte now port)
+  unfolding thr_written
+  thr-kept byte b = record {
+    registers = sound.registers;
+    receiver = sound.receiver;
+    transmitter = thr-sound now (character_time port.divisor port.lcr) byte (is_some port.fifos) port.thr_empty port.transmitter (character-positive port.divisor port.lcr) longest b sound.transmitter;
+  }
+
+  registers-kept : (divisor ier lcr mcr scr : ℕ) → divisor < 65536 → ier ≤ 15 → lcr < 256 → mcr ≤ 31 → scr < 256 → HasRegisters port.level divisor ier lcr mcr scr (is_some port.fifos)
+  registers-kept divisor ier lcr mcr scr a b c d e = record {
+    first = sound.registers.first;
+    newest = sound.registers.newest;
+    divisor_range = a;
+    ier_range = b;
+    lcr_range = c;
+    mcr_range = d;
+    scr_range = e;
+    fifos = sound.registers.fifos;
+  }
+
+  divisor-kept : (divisor : ℕ) → divisor < 65536 → IsSound now (record port { divisor = divisor })
+  divisor-kept divisor h = record {
+    registers = let r = sound.registers in registers-kept divisor port.ier port.lcr port.mcr port.scr h r.ier_range r.lcr_range r.mcr_range r.scr_range;
+    receiver = sound.receiver;
+    transmitter = sound.transmitter;
+  }
+
+  lcr-kept : (value : ℕ) → value < 256 → IsSound now (record port { lcr = value })
+  lcr-kept value h = record {
+    registers = let r = sound.registers in registers-kept port.divisor port.ier value port.mcr port.scr r.divisor_range r.ier_range h r.mcr_range r.scr_range;
+    receiver = sound.receiver;
+    transmitter = sound.transmitter;
+  }
+
+  mcr-kept : (value : ℕ) → IsSound now (record port { mcr = bit_and value 0x1f })
+  mcr-kept value = record {
+    registers = let r = sound.registers in registers-kept port.divisor port.ier port.lcr (bit_and value 0x1f) port.scr r.divisor_range r.ier_range r.lcr_range (and_le_r value 0x1f) r.scr_range;
+    receiver = sound.receiver;
+    transmitter = sound.transmitter;
+  }
+
+  scr-kept : (value : ℕ) → value < 256 → IsSound now (record port { scr = value })
+  scr-kept value h = record {
+    registers = let r = sound.registers in registers-kept port.divisor port.ier port.lcr port.mcr value r.divisor_range r.ier_range r.lcr_range r.mcr_range h;
+    receiver = sound.receiver;
+    transmitter = sound.transmitter;
+  }
+
+  ier-kept : (value : ℕ) → IsSound now (ier_written value port)
+  unfolding ier_written
+  ier-kept value = record {
+    registers = let r = sound.registers in registers-kept port.divisor (bit_and value 0x0f) port.lcr port.mcr port.scr r.divisor_range (and_le_r value 0x0f) r.lcr_range r.mcr_range r.scr_range;
+    receiver = sound.receiver;
+    transmitter = latched-sound now (is_some port.fifos) port.thr_empty _ port.transmitter (sampled (not (has port.ier 1) && has (bit_and value 0x0f) 1) (is_empty port.transmitter.waiting) port.thr_empty) sound.transmitter;
+  } where
+    sampled : (samples empty latch : Bool) → cond samples empty latch ≡ true → (latch ≡ true) ⊎ (empty ≡ true)
+    sampled true empty latch e = inr e
+    sampled false empty latch e = inl e
+
+  switched-registers : (fifos : Option Trigger) → (is_some fifos ≡ true → 2 ≤ port.level) → HasRegisters port.level port.divisor port.ier port.lcr port.mcr port.scr (is_some fifos)
+  switched-registers fifos h = let r = sound.registers in record {
+    first = r.first;
+    newest = r.newest;
+    divisor_range = r.divisor_range;
+    ier_range = r.ier_range;
+    lcr_range = r.lcr_range;
+    mcr_range = r.mcr_range;
+    scr_range = r.scr_range;
+    fifos = h;
+  }
+
+  -- lists are cleared, and the switch is set
+  switched : (clears_sent clears_held : Bool) (fifos : Option Trigger) → (is_some fifos ≡ true → 2 ≤ port.level) → (clears_sent ≡ false → is_some fifos ≡ is_some port.fifos) → (clears_held ≡ false → is_some fifos ≡ is_some port.fifos) → IsSound now (record (transmitter_cleared clears_sent (receiver_cleared clears_held port)) { fifos = fifos })
+  switched true true fifos h s t = record {
+    registers = switched-registers fifos h;
+    receiver = emptied-sound now port.level (is_some fifos) port.receiver;
+    transmitter = cleared-sound now (is_some port.fifos) (is_some fifos) port.thr_empty _ port.transmitter sound.transmitter;
+  }
+  switched true false fifos h s t = record {
+    registers = switched-registers fifos h;
+    receiver = rw (t refl) (sound.receiver);
+    transmitter = cleared-sound now (is_some port.fifos) (is_some fifos) port.thr_empty _ port.transmitter sound.transmitter;
+  }
+  switched false true fifos h s t = record {
+    registers = switched-registers fifos h;
+    receiver = emptied-sound now port.level (is_some fifos) port.receiver;
+    transmitter = rw (s refl) (sound.transmitter);
+  }
+  switched false false fifos h s t = record {
+    registers = switched-registers fifos h;
+    receiver = rw (t refl) (sound.receiver);
+    transmitter = rw (s refl) (sound.transmitter);
+  }
+
+  fcr-kept : (value : ℕ) → 2 ≤ port.level → IsSound now (fcr_written value port)
+  unfolding fcr_written
+  fcr-kept value h =
+      switched _ _ _ (λ _. h)
+      (same_switch (has value 0) (is_some port.fifos) (has value 0 && has value 2) (trigger_of (value / 64)))
+      (same_switch (has value 0) (is_some port.fifos) (has value 0 && has value 1) (trigger_of (value / 64)))
+
+  write-kept : (offset value : ℕ) → value < 256 → IsSound now (written offset value now port)
+  unfolding written
+  write-kept offset value v =
+      let d = sound.registers.divisor_range in
+      either (IsSound now) (offset == 0) _ _ (either (IsSound now) (has port.lcr 7) _ _ (divisor-kept (port.divisor / 256 * 256 + value) (omega arith)) (thr-kept value v))
+      (either (IsSound now) (offset == 1) _ _ (either (IsSound now) (has port.lcr 7) _ _ (divisor-kept (value * 256 + port.divisor % 256) (omega arith)) (ier-kept value))
+      (either (IsSound now) (offset == 2) _ _ (cond_both (nat_le 2 port.level) (fcr_written value port) port (IsSound now) (λ e. fcr-kept value (leb-true 2 port.level e)) (λ _. sound))
+      (either (IsSound now) (offset == 3) _ _ (lcr-kept value v)
+      (either (IsSound now) (offset == 4) _ _ (mcr-kept value)
+      (either (IsSound now) (offset == 5) _ _ sound
+      (either (IsSound now) (offset == 6) _ _ sound (scr-kept value v)))))))
+
+pub reads_keep_sound : ReadsKeepSound
+reads_keep_sound offset now port s = (read-kept now port s offset).kept
+
+pub writes_keep_sound : WritesKeepSound
+writes_keep_sound offset value now port v s = write-kept now port s offset value v
+
+pub bytes_in_keep_sound : BytesInKeepSound
+bytes_in_keep_sound byte now port b s = in-kept now port s byte b
+
+pub advances_keep_sound : AdvancesKeepSound
+advances_keep_sound now to port l s = advance-kept now port s to l

@@ -1,0 +1,15 @@
+pub mod AlikeLaws
+pub mod CarriedLaw
+pub mod CellLemmas
+pub mod KeepAdvance
+pub mod KeepLaws
+pub mod KeepParts
+pub mod RestoredLaw
+pub mod RestoredParts
+pub mod SavedCells
+pub mod SavedLaw
+pub mod SavedParts
+pub mod SendLemmas
+pub mod SendingLaws
+pub mod Timetables
+pub mod TruthTables

@@ -1,0 +1,104 @@
+-- Each part of a port, back from its numbers.
+use Rattle.std.proofs.Common.{◌≡◌, ℕ, ◌+◌, ◌%◌, ◌≤◌, ◌==◌, Bool, true, false, not, ◌&&◌, ◌||◌, cond, List, [], ◌∷◌, length, Option, Some, None, refl, arith}
+use Rattle.std.proofs.lemmas.Bool.{le-leb, lt-ltb, ne_eqb, and_from, or_right}
+use Rattle.std.specs.Prelude.{nat_le, nat_lt, is_some}
+use Rattle.dev_serial.specs.Access.{is_empty}
+use Rattle.dev_serial.specs.Image.{never, moment_number, due_number, shift_number, single_byte, fifo_bytes, fcr_number, moment_of, shift_of, fifos_of, bytes_held}
+use Rattle.dev_serial.specs.Parts.{IsShort}
+use Rattle.dev_serial.specs.Rules.{same, longest_character, longest_timeout}
+use Rattle.dev_serial.specs.Saved.{last_moment}
+use Rattle.dev_serial.specs.Sound.{IsShift, IsTimeout}
+use Rattle.dev_serial.specs.declared.shift.Shift.{Shift}
+use Rattle.dev_serial.specs.declared.trigger.Trigger.{Trigger}
+use Rattle.dev_serial.specs.declared.trigger.Trigger.TheVariants.{One, Four, Eight, Fourteen}
+
+-- FIFOs that are on have a number of their own
+on : (trigger : Trigger) → (fcr_number (Some trigger) == 0) ≡ false
+on One = refl
+on Four = refl
+on Eight = refl
+on Fourteen = refl
+
+on_bit : (trigger : Trigger) → (fcr_number (Some trigger) % 64 == 1) ≡ true
+on_bit One = refl
+on_bit Four = refl
+on_bit Eight = refl
+on_bit Fourteen = refl
+
+pub fifos-back : (fifos : Option Trigger) → fifos_of (fcr_number fifos) ≡ fifos
+fifos-back None = refl
+fifos-back (Some One) = refl
+fifos-back (Some Four) = refl
+fifos-back (Some Eight) = refl
+fifos-back (Some Fourteen) = refl
+
+pub fcr-saved : (level : ℕ) (fifos : Option Trigger) → (is_some fifos ≡ true → 2 ≤ level) → ((fcr_number fifos == 0) || (nat_le 2 level && (fcr_number fifos % 64 == 1))) ≡ true
+fcr-saved level None h = refl
+fcr-saved level (Some trigger) h = or_right (fcr_number (Some trigger) == 0) _ (and_from _ _ (le-leb 2 level (h refl)) (on_bit trigger))
+
+pub unused-saved : (fifos : Option Trigger) (held waiting : List ℕ) → cond (fcr_number fifos == 0) (is_empty (fifo_bytes fifos held) && is_empty (fifo_bytes fifos waiting)) ((single_byte fifos held == 0) && (single_byte fifos waiting == 0)) ≡ true
+unused-saved None held waiting = refl
+unused-saved (Some trigger) held waiting = rw (on trigger)
+
+-- the bytes held, where the line status tells whether there are any
+pub bytes-back : (fifos : Option Trigger) (bytes : List ℕ) (is_held : Bool) → IsShort (is_some fifos) bytes → is_held ≡ not (is_empty bytes) → bytes_held (fcr_number fifos) is_held (single_byte fifos bytes) (fifo_bytes fifos bytes) ≡ bytes
+bytes-back None [] is_held s e = rw e
+bytes-back None (x ∷ []) is_held s e = rw e
+bytes-back None (x ∷ (y ∷ bytes)) is_held s e = let h = s.one refl in absurd (omega arith)
+bytes-back (Some trigger) bytes is_held s e = rw (on trigger)
+
+pub not_empty : (byte : ℕ) (bytes : List ℕ) → is_empty (byte ∷ bytes) ≡ false
+not_empty byte bytes = ne_eqb (length (byte ∷ bytes)) 0 (λ e. omega arith)
+
+single-none : (fifos : Option Trigger) (bytes : List ℕ) → (not (is_empty bytes) || (single_byte fifos bytes == 0)) ≡ true
+single-none None [] = refl
+single-none None (x ∷ bytes) = rw (not_empty x bytes)
+single-none (Some trigger) [] = refl
+single-none (Some trigger) (x ∷ bytes) = rw (not_empty x bytes)
+
+same-self : (b : Bool) → same b b ≡ true
+same-self true = refl
+same-self false = refl
+
+status_at : (on : Bool) (h w : Bool) (a b c d : Bool) → (on ≡ true → ((h || a) && (not w || b)) ≡ true) → (on ≡ false → (same h c && same w d) ≡ true) → cond on ((h || a) && (not w || b)) (same h c && same w d) ≡ true
+status_at true h w a b c d p q = p refl
+status_at false h w a b c d p q = q refl
+
+not-not : (b : Bool) → not (not b) ≡ b
+not-not true = refl
+not-not false = refl
+
+pub status-saved : (fifos : Option Trigger) (held waiting : List ℕ) (ready empty : Bool) → ready ≡ not (is_empty held) → empty ≡ is_empty waiting
+    → cond (fcr_number fifos == 0) ((ready || (single_byte fifos held == 0)) && (not empty || (single_byte fifos waiting == 0))) (same ready (not (is_empty (fifo_bytes fifos held))) && same empty (is_empty (fifo_bytes fifos waiting))) ≡ true
+status-saved None held waiting ready empty r e = rw (r, e) (and_from _ _ (single-none None held) (single-none None waiting))
+status-saved (Some trigger) held waiting ready empty r e = rw (on trigger, r, e) (and_from _ _ (same-self (not (is_empty held))) (same-self (is_empty waiting)))
+
+pub moment-back : (now : ℕ) (runs : Bool) (timeout : Option ℕ) → now ≤ last_moment → IsTimeout now runs timeout → moment_of (moment_number timeout) ≡ timeout
+moment-back now runs None h t = refl
+moment-back now runs (Some moment) h t = rw (ne_eqb moment never (λ e. let b = t.in_time in omega arith))
+
+pub shift-back : (now : ℕ) (shift : Option Shift) → now ≤ last_moment → IsShift now shift → shift_of (shift_number shift) (due_number shift) ≡ shift
+shift-back now None h s = refl
+shift-back now (Some shift) h s = rw (ne_eqb shift.due never (λ e. let b = s.in_time in omega arith))
+
+pub shift-saved : (now : ℕ) (shift : Option Shift) (idle empty : Bool) → now ≤ last_moment → IsShift now shift → (is_some shift ≡ false → empty ≡ true) → idle ≡ (empty && not (is_some shift))
+    → (same idle (due_number shift == never) && cond idle (empty && (shift_number shift == 0)) (nat_lt now (due_number shift) && nat_le (due_number shift) (now + longest_character))) ≡ true
+shift-saved now None idle empty h s i e = rw (e, i refl)
+shift-saved now (Some shift) idle true h s i e =
+    rw (e, ne_eqb shift.due never (λ e. let b = s.in_time in omega arith)) (and_from _ _ (lt-ltb now shift.due s.later) (le-leb shift.due _ s.in_time))
+shift-saved now (Some shift) idle false h s i e =
+    rw (e, ne_eqb shift.due never (λ e. let b = s.in_time in omega arith)) (and_from _ _ (lt-ltb now shift.due s.later) (le-leb shift.due _ s.in_time))
+
+-- a timeout that runs just where it may
+timeout_at : (now : ℕ) (runs : Bool) (timeout : Option ℕ) → now ≤ last_moment → IsTimeout now runs timeout → cond runs (not (moment_number timeout == never) && nat_le (moment_number timeout) (now + longest_timeout)) (moment_number timeout == never) ≡ true
+timeout_at now runs None h t = rw t
+timeout_at now runs (Some moment) h t =
+    rw (t.runs_now, ne_eqb moment never (λ e. let b = t.in_time in omega arith)) (le-leb moment _ t.in_time)
+
+runs-same : (fifos : Option Trigger) (held : List ℕ) → (not (fcr_number fifos == 0) && not (is_empty (fifo_bytes fifos held))) ≡ (is_some fifos && not (is_empty held))
+runs-same None held = refl
+runs-same (Some trigger) held = rw (on trigger)
+
+pub timeout-saved : (level now : ℕ) (fifos : Option Trigger) (held : List ℕ) (timeout : Option ℕ) → now ≤ last_moment → IsTimeout now (nat_le 3 level && (is_some fifos && not (is_empty held))) timeout
+    → cond (nat_le 3 level && (not (fcr_number fifos == 0) && not (is_empty (fifo_bytes fifos held)))) (not (moment_number timeout == never) && nat_le (moment_number timeout) (now + longest_timeout)) (moment_number timeout == never) ≡ true
+timeout-saved level now fifos held timeout h t = rw (runs-same fifos held) (timeout_at now _ timeout h t)

@@ -1,0 +1,22 @@
+-- The trigger level of the receive FIFO.
+use Rattle.std.specs.Prelude.{ℕ, ◌==◌, if◌then◌else◌}
+use Rattle.dev_serial.specs.declared.trigger.Trigger.{Trigger}
+use Rattle.dev_serial.specs.declared.trigger.Trigger.TheVariants.{One, Four, Eight, Fourteen}
+
+-- the trigger of two bits
+abbrev pub trigger_of : ℕ → Trigger
+trigger_of bits = if bits == 0 then One else (if bits == 1 then Four else (if bits == 2 then Eight else Fourteen))
+
+-- its two bits
+abbrev pub trigger_number : Trigger → ℕ
+trigger_number One = 0
+trigger_number Four = 1
+trigger_number Eight = 2
+trigger_number Fourteen = 3
+
+-- the number of received bytes that ask for an interrupt
+abbrev pub trigger_bytes : Trigger → ℕ
+trigger_bytes One = 1
+trigger_bytes Four = 4
+trigger_bytes Eight = 8
+trigger_bytes Fourteen = 14

@@ -1,0 +1,105 @@
+-- A serial port.
+use Rattle.std.specs.Prelude.{ℕ, ◌==◌, Bool, true, false, nat_le, ◌&&◌, not, if◌then◌else◌, List, [], length, Option, Some, None, is_some}
+use Rattle.dev_serial.specs.Bits.{has}
+use Rattle.dev_serial.specs.Fifo.{trigger_bytes}
+use Rattle.dev_serial.specs.Line.{character_time}
+use Rattle.dev_serial.specs.Parts.{ReceiverState, TransmitterState, IsShort}
+use Rattle.dev_serial.specs.declared.interrupt.Interrupt.{Interrupt}
+use Rattle.dev_serial.specs.declared.interrupt.Interrupt.TheVariants.{LineStatus, ReceivedData, CharacterTimeout, ThrEmpty, NonePending}
+use Rattle.dev_serial.specs.declared.mode.Mode.{Mode}
+use Rattle.dev_serial.specs.declared.trigger.Trigger.{Trigger}
+
+-- a port: its level, its registers, the FIFO switch with its trigger, its two parts, and the latch that tells
+-- that the transmit list became empty
+pub record Port : Type 0 where
+  pub level : ℕ
+  pub divisor : ℕ
+  pub ier : ℕ
+  pub lcr : ℕ
+  pub mcr : ℕ
+  pub scr : ℕ
+  pub fifos : Option Trigger
+  pub receiver : ReceiverState
+  pub transmitter : TransmitterState
+  pub thr_empty : Bool
+
+-- the first level with FIFOs, and the first with the character timeout
+abbrev pub fifo_level : ℕ
+fifo_level = 2
+
+abbrev pub timeout_level : ℕ
+timeout_level = 3
+
+-- a port at power on
+unfoldable pub power_on : ℕ → Port
+power_on level = record {
+  level = level;
+  divisor = 12;
+  ier = 0;
+  lcr = 0;
+  mcr = 0;
+  scr = 0;
+  fifos = None;
+  receiver = record { held = []; overrun = false; timeout = None };
+  transmitter = record { waiting = []; shift = None };
+  thr_empty = false;
+}
+
+-- how characters go over the line
+abbrev pub mode_of : Port → Mode
+mode_of port = record {
+  character = character_time port.divisor port.lcr;
+  has_fifos = is_some port.fifos;
+  times_out = nat_le timeout_level port.level && is_some port.fifos;
+  is_looped = has port.mcr 4;
+}
+
+-- received bytes ask for an interrupt: without FIFOs one, with FIFOs as many as the trigger
+abbrev pub is_data_ready : Option Trigger → List ℕ → Bool
+is_data_ready None held = not (length held == 0)
+is_data_ready (Some trigger) held = nat_le (trigger_bytes trigger) (length held)
+
+-- a moment has come
+abbrev pub has_come : ℕ → Option ℕ → Bool
+has_come now None = false
+has_come now (Some moment) = nat_le moment now
+
+-- the interrupt that is identified: the first in this order that is enabled and asked for
+unfoldable pub interrupt : ℕ → Port → Interrupt
+interrupt now port =
+    if has port.ier 2 && port.receiver.overrun then LineStatus
+    else (if has port.ier 0 && is_data_ready port.fifos port.receiver.held then ReceivedData
+    else (if has port.ier 0 && (nat_le timeout_level port.level && has_come now port.receiver.timeout) then CharacterTimeout
+    else (if has port.ier 1 && port.thr_empty then ThrEmpty
+    else NonePending)))
+
+-- its number in the identification register
+abbrev pub id_number : Interrupt → ℕ
+id_number LineStatus = 0x06
+id_number ReceivedData = 0x04
+id_number CharacterTimeout = 0x0c
+id_number ThrEmpty = 0x02
+id_number NonePending = 0x01
+
+abbrev pub is_thr_empty : Interrupt → Bool
+is_thr_empty LineStatus = false
+is_thr_empty ReceivedData = false
+is_thr_empty CharacterTimeout = false
+is_thr_empty ThrEmpty = true
+is_thr_empty NonePending = false
+
+abbrev pub is_pending : Interrupt → Bool
+is_pending LineStatus = true
+is_pending ReceivedData = true
+is_pending CharacterTimeout = true
+is_pending ThrEmpty = true
+is_pending NonePending = false
+
+-- the interrupt line is high
+unfoldable pub line_of : ℕ → Port → Bool
+line_of now port = is_pending (interrupt now port)
+
+-- what every port keeps: each list has at most sixteen bytes, and at most one without FIFOs
+pub record IsPort (port : Port) : Type 0 where
+  pub held : IsShort (is_some port.fifos) port.receiver.held
+  pub waiting : IsShort (is_some port.fifos) port.transmitter.waiting

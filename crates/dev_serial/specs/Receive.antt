@@ -1,0 +1,37 @@
+-- The receiver's steps.
+use Rattle.std.specs.Prelude.{ℕ, ◌+◌, ◌*◌, ◌==◌, true, false, nat_lt, if◌then◌else◌, List, [], ◌∷◌, ◌++◌, length, Some, None}
+use Rattle.dev_serial.specs.Parts.{ReceiverState}
+use Rattle.dev_serial.specs.declared.mode.Mode.{Mode}
+
+-- the moment of the timeout that a character at this moment starts anew
+abbrev pub timeout_after : Mode → ℕ → ℕ
+timeout_after mode at = at + 4 * mode.character
+
+-- the receiver after a byte comes at a moment. Without FIFOs it replaces a byte held; with FIFOs it is
+-- lost where sixteen are held. Either sets overrun
+unfoldable pub received : Mode → ℕ → ℕ → ReceiverState → ReceiverState
+received mode byte at receiver =
+    if mode.has_fifos then (
+    let timeout = if mode.times_out then Some (timeout_after mode at) else receiver.timeout in
+    if nat_lt (length receiver.held) 16 then record receiver { held = receiver.held ++ byte ∷ []; timeout = timeout }
+    else record receiver { overrun = true; timeout = timeout }
+    ) else (
+    if length receiver.held == 0 then record receiver { held = byte ∷ [] } else record receiver { held = byte ∷ []; overrun = true }
+    )
+
+-- the first byte held, and the receiver without it. Where none is held the answer is 0
+unfoldable pub taken_at : Mode → ℕ → List ℕ → ReceiverState → ℕ × ReceiverState
+taken_at mode at [] receiver = (0, receiver)
+taken_at mode at (byte ∷ rest) receiver =
+    (byte, record receiver { held = rest; timeout = (if mode.times_out then (if length rest == 0 then None else Some (timeout_after mode at)) else receiver.timeout) })
+
+abbrev pub taken : Mode → ℕ → ReceiverState → ℕ × ReceiverState
+taken mode at receiver = taken_at mode at receiver.held receiver
+
+-- the receiver without its bytes and its timeout
+abbrev pub emptied : ReceiverState → ReceiverState
+emptied receiver = record receiver { held = []; timeout = None }
+
+-- the receiver with the overrun flag clear
+abbrev pub without_overrun : ReceiverState → ReceiverState
+without_overrun receiver = record receiver { overrun = false }

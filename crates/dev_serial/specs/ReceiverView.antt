@@ -1,0 +1,6 @@
+-- What contracts see of a receiver.
+use Rattle.dev_serial.specs.Parts.{ReceiverState}
+use Rattle.dev_serial.specs.declared.receiver.Receiver.TheInside.{Inside}
+
+abbrev pub receiver_view : Inside → ReceiverState
+receiver_view r = record { held = r.held.items; overrun = r.overrun; timeout = r.timeout }

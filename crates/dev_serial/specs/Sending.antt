@@ -1,0 +1,85 @@
+-- Runs of writes and of time, and the laws of what leaves.
+use Rattle.std.specs.Prelude.{◌≡◌, ℕ, ◌≤◌, ◌<◌, ◌&&◌, Bool, true, false, not, nat_lt, if◌then◌else◌, List, [], ◌∷◌, ◌++◌, length, Some, is_some}
+use Rattle.dev_serial.specs.Access.{is_empty, thr_written, advanced, leaving}
+use Rattle.dev_serial.specs.Bits.{has}
+use Rattle.dev_serial.specs.Port.{Port, mode_of}
+use Rattle.dev_serial.specs.Receive.{received}
+use Rattle.dev_serial.specs.Transmit.{bytes_of, pending_of}
+use Rattle.dev_serial.specs.declared.shift.Shift.{Shift}
+
+-- a byte is written to be sent at a moment, or time passes up to one
+pub data Event : Type 0 where
+  Writes : ℕ → ℕ → Event
+  Advances : ℕ → Event
+
+-- the port after an event, and after each of a list
+abbrev pub after : Event → Port → Port
+after (Writes byte now) port = thr_written byte now port
+after (Advances to) port = (advanced to port).1
+
+unfoldable pub after_all : List Event → Port → Port
+after_all [] port = port
+after_all (event ∷ events) port = after_all events (after event port)
+
+-- the bytes that leave the shift register in an event, and in a list of events
+abbrev pub left_in : Event → Port → List ℕ
+left_in (Writes byte now) port = []
+left_in (Advances to) port = bytes_of (leaving to port)
+
+unfoldable pub left_in_all : List Event → Port → List ℕ
+left_in_all [] port = []
+left_in_all (event ∷ events) port = left_in event port ++ left_in_all events (after event port)
+
+-- the bytes that are accepted: a byte that is written, but where FIFOs are on and sixteen wait
+abbrev pub accepted_in : Event → Port → List ℕ
+accepted_in (Writes byte now) port = if is_some port.fifos && not (nat_lt (length port.transmitter.waiting) 16) then [] else byte ∷ []
+accepted_in (Advances to) port = []
+
+unfoldable pub accepted_in_all : List Event → Port → List ℕ
+accepted_in_all [] port = []
+accepted_in_all (event ∷ events) port = accepted_in event port ++ accepted_in_all events (after event port)
+
+-- a byte that is written replaces one that waits
+abbrev pub replaces : Event → Port → Bool
+replaces (Writes byte now) port = not (is_some port.fifos) && not (is_empty port.transmitter.waiting)
+replaces (Advances to) port = false
+
+abbrev pub ReplacesNone : List Event → Port → Type 0
+ReplacesNone [] port = Unit {0}
+ReplacesNone (event ∷ events) port = (replaces event port ≡ false) × ReplacesNone events (after event port)
+
+-- the bytes that a port is still to send, first out first
+abbrev pub pending : Port → List ℕ
+pending port = pending_of port.transmitter.shift port.transmitter.waiting
+
+-- over a list of events in which no byte replaces one that waits, the bytes that left and those still to
+-- send are those to send before and the accepted ones, each once and in this order
+abbrev pub SendsInOrder : Type 0
+SendsInOrder =
+    (events : List Event) (port : Port) → ReplacesNone events port → left_in_all events port ++ pending (after_all events port) ≡ pending port ++ accepted_in_all events port
+
+-- without FIFOs the byte that is written stands in the place of the one that waited, behind the byte in the
+-- shift register
+abbrev pub ReplacesOne : Type 0
+ReplacesOne =
+    (byte now : ℕ) (port : Port) → is_some port.fifos ≡ false → pending (thr_written byte now port) ≡ pending_of port.transmitter.shift (byte ∷ [])
+
+-- the bytes that leave go to the line, or in loop mode none does
+abbrev pub LeavesForLine : Type 0
+LeavesForLine =
+    (to : ℕ) (port : Port) → (advanced to port).0 ≡ (if has port.mcr 4 then [] else bytes_of (leaving to port))
+
+-- time passes up to a moment and then up to a later one as it passes up to the later one
+abbrev pub AdvancesInParts : Type 0
+AdvancesInParts =
+    (first second : ℕ) (port : Port) → first ≤ second → advanced second port ≡ ((advanced first port).0 ++ (advanced second (advanced first port).1).0, (advanced second (advanced first port).1).1)
+
+-- before the byte in the shift register is due, time changes nothing
+abbrev pub WaitsUntilDue : Type 0
+WaitsUntilDue =
+    (to : ℕ) (port : Port) (shift : Shift) → port.transmitter.shift ≡ Some shift → to < shift.due → advanced to port ≡ ([], port)
+
+-- in loop mode a byte comes in at the moment at which it is sent, and none leaves for the line
+abbrev pub LoopsAtMoment : Type 0
+LoopsAtMoment =
+    (port : Port) (shift : Shift) → has port.mcr 4 ≡ true → port.transmitter.shift ≡ Some shift → ((advanced shift.due port).0 ≡ []) × ((advanced shift.due port).1.receiver ≡ received (mode_of port) shift.byte shift.due port.receiver)

@@ -1,0 +1,70 @@
+-- Which states a port may be in at a moment.
+use Rattle.std.specs.Prelude.{◌≡◌, ℕ, ◌+◌, ◌<◌, ◌≤◌, Bool, true, false, nat_le, ◌&&◌, not, List, [], ◌∷◌, Option, Some, None, is_some}
+use Rattle.dev_serial.specs.Access.{is_empty}
+use Rattle.dev_serial.specs.Bits.{has}
+use Rattle.dev_serial.specs.Parts.{ReceiverState, TransmitterState, IsShort}
+use Rattle.dev_serial.specs.Port.{Port, fifo_level, timeout_level}
+use Rattle.dev_serial.specs.Rules.{longest_character, longest_timeout}
+use Rattle.dev_serial.specs.Saved.{newest_level}
+use Rattle.dev_serial.specs.declared.shift.Shift.{Shift}
+
+-- each of a list is a byte
+abbrev pub AreBytes : List ℕ → Type 0
+AreBytes [] = Unit {0}
+AreBytes (byte ∷ bytes) = (byte < 256) × AreBytes bytes
+
+-- the registers have their bits alone, and FIFOs are on at a level that has them
+pub record HasRegisters (level divisor ier lcr mcr scr : ℕ) (has_fifos : Bool) : Type 0 where
+  pub first : 1 ≤ level
+  pub newest : level ≤ newest_level
+  pub divisor_range : divisor < 65536
+  pub ier_range : ier ≤ 15
+  pub lcr_range : lcr < 256
+  pub mcr_range : mcr ≤ 31
+  pub scr_range : scr < 256
+  pub fifos : has_fifos ≡ true → fifo_level ≤ level
+
+-- a timeout runs exactly where it has to, and ends at most four of the longest characters later
+pub record EndsInTime (now : ℕ) (runs : Bool) (timeout : ℕ) : Type 0 where
+  pub runs_now : runs ≡ true
+  pub in_time : timeout ≤ now + longest_timeout
+
+abbrev pub IsTimeout : ℕ → Bool → Option ℕ → Type 0
+IsTimeout now runs None = runs ≡ false
+IsTimeout now runs (Some timeout) = EndsInTime now runs timeout
+
+-- a receiver at a level, with FIFOs or not. The timeout runs at a level that has it, with FIFOs, while a
+-- byte is held
+pub record IsReceiver (now level : ℕ) (has_fifos : Bool) (receiver : ReceiverState) : Type 0 where
+  pub short : IsShort has_fifos receiver.held
+  pub bytes : AreBytes receiver.held
+  pub timeout : IsTimeout now (nat_le timeout_level level && (has_fifos && not (is_empty receiver.held))) receiver.timeout
+
+-- a byte in the shift register is sent after now, and at most the longest character later
+pub record IsSentInTime (now : ℕ) (shift : Shift) : Type 0 where
+  pub byte : shift.byte < 256
+  pub later : now < shift.due
+  pub in_time : shift.due ≤ now + longest_character
+
+abbrev pub IsShift : ℕ → Option Shift → Type 0
+IsShift now None = Unit {0}
+IsShift now (Some shift) = IsSentInTime now shift
+
+-- a transmitter and the latch. An idle shift register and a set latch each mean that no byte waits
+pub record IsTransmitter (now : ℕ) (has_fifos : Bool) (transmitter : TransmitterState) (latch : Bool) : Type 0 where
+  pub short : IsShort has_fifos transmitter.waiting
+  pub bytes : AreBytes transmitter.waiting
+  pub shift : IsShift now transmitter.shift
+  pub idle : is_some transmitter.shift ≡ false → is_empty transmitter.waiting ≡ true
+  pub latched : latch ≡ true → is_empty transmitter.waiting ≡ true
+
+-- a port is sound at a moment
+pub record IsSound (now : ℕ) (port : Port) : Type 0 where
+  pub registers : HasRegisters port.level port.divisor port.ier port.lcr port.mcr port.scr (is_some port.fifos)
+  pub receiver : IsReceiver now port.level (is_some port.fifos) port.receiver
+  pub transmitter : IsTransmitter now (is_some port.fifos) port.transmitter port.thr_empty
+
+-- two ports are alike: they differ at most in the latch, and not while its interrupt is enabled
+pub record Alike (port other : Port) : Type 0 where
+  pub same : other ≡ record port { thr_empty = other.thr_empty }
+  pub enabled : has port.ier 1 ≡ true → other.thr_empty ≡ port.thr_empty

@@ -1,0 +1,46 @@
+// Laws of the definitions, each in a clause of a function that does nothing.
+ghost use Rattle.dev_serial.specs.Laws.{ReadsAlike, WritesAlike, BytesInAlike, AdvancesAlike, LinesAlike, PowerOnIsSound, ReadsKeepSound, WritesKeepSound, BytesInKeepSound, AdvancesKeepSound, SavedMayBeRestored, SavedIsRestored, RestoredIsSound};
+ghost use Rattle.dev_serial.specs.Sending.{SendsInOrder, ReplacesOne, LeavesForLine, AdvancesInParts, WaitsUntilDue, LoopsAtMoment};
+
+/// Ports that are alike answer each call alike, and are alike after it: reads, writes, bytes that come
+/// in, the passing of time, and the interrupt line.
+pub fn alike_law()
+    ensures reads { ReadsAlike }
+    ensures writes { WritesAlike }
+    ensures bytes_in { BytesInAlike }
+    ensures advances { AdvancesAlike }
+    ensures lines { LinesAlike }
+{}
+
+/// A new port is sound at any moment, and a sound port stays so over each call.
+pub fn sound_law()
+    ensures power_on { PowerOnIsSound }
+    ensures reads { ReadsKeepSound }
+    ensures writes { WritesKeepSound }
+    ensures bytes_in { BytesInKeepSound }
+    ensures advances { AdvancesKeepSound }
+{}
+
+/// Bytes leave in the order in which they were written, none twice, and none is lost but those written
+/// to full FIFOs or replaced without FIFOs. What leaves goes to the line but in loop mode.
+pub fn sending_law()
+    ensures in_order { SendsInOrder }
+    ensures replaced { ReplacesOne }
+    ensures for_line { LeavesForLine }
+{}
+
+/// Letting time pass in two parts is letting it pass at once; no byte is sent before its moment; and in
+/// loop mode a byte comes in at the moment at which it is sent.
+pub fn time_law()
+    ensures in_parts { AdvancesInParts }
+    ensures not_before { WaitsUntilDue }
+    ensures loops { LoopsAtMoment }
+{}
+
+/// What is saved of a sound port under any set from its level on may be restored, whichever subsections
+/// weren't needed, and is restored as a port like it. What is restored is sound.
+pub fn saved_law()
+    ensures may_be_restored { SavedMayBeRestored }
+    ensures is_restored { SavedIsRestored }
+    ensures is_sound { RestoredIsSound }
+{}

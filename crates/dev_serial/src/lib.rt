@@ -1,0 +1,27 @@
+//! A serial port: the 16450 and the 16550A, without and with the character timeout.
+//!
+//! Registers, bits and identifications have the names of the National Semiconductor data sheets
+//! "NS16450 Universal Asynchronous Receiver/Transmitter" and "NS16550A .. with FIFOs". Moments are
+//! nanoseconds from power on.
+#![tactic(auto)]
+
+mod cells;
+mod image;
+mod interrupt;
+mod laws;
+mod mode;
+mod receiver;
+mod registers;
+mod saved;
+mod serial;
+mod shift;
+mod transmitter;
+mod trigger;
+
+pub use laws::{alike_law, saved_law, sending_law, sound_law, time_law};
+pub use mode::LAST_MOMENT;
+pub use saved::NEWEST_SET;
+pub use serial::{NEWEST_LEVEL, Serial};
+
+#[cfg(test)]
+mod tests;

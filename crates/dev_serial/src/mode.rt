@@ -1,0 +1,37 @@
+// What the registers say of the characters on the line.
+ghost use Rattle.std.specs.Prelude.{◌≡◌, ◌≤◌};
+ghost use Rattle.dev_serial.specs.Line.{character_time as character_time_of};
+
+use crate::registers::{PEN, STB, has};
+
+/// How characters go over the line, as the registers have it.
+#[derive(Clone, Copy)]
+pub(crate) struct Mode {
+    /// The time of one character, in nanoseconds.
+    pub character: u64,
+    /// The FIFOs are on.
+    pub has_fifos: bool,
+    /// The character timeout runs.
+    pub times_out: bool,
+    /// What is sent comes in again ("Modem Control Register", bit 4).
+    pub is_looped: bool,
+}
+
+/// The last moment that a call may have, in nanoseconds.
+pub const LAST_MOMENT: u64 = 4_000_000_000_000_000_000;
+
+/// The longest time of a character, in nanoseconds: 12 bits at divisor 65,535.
+pub(crate) const LONGEST_CHARACTER: u64 = 6_826_562_500;
+
+/// The time of one character in nanoseconds: a start bit, 5 to 8 data bits, a parity bit where there
+/// is one, and 1 or 2 stop bits ("Line Control Register"), at 115,200 bits a second over the divisor.
+/// A divisor of 0 counts as 1.
+#[tactic(auto, unfolding(crate::specs::Line::character_time))]
+pub(crate) fn character_time(divisor: u16, lcr: u8) -> u64
+    ensures value { result ≡ character_time_of divisor lcr }
+    ensures longest { result ≤ LONGEST_CHARACTER }
+{
+    let data_bits = 5 + u64::from(lcr % 4);
+    let bits = 1 + data_bits + u64::from(has(lcr, PEN)) + 1 + u64::from(has(lcr, STB));
+    bits * u64::from(divisor.max(1)) * 1_000_000_000 / 115_200
+}

@@ -1,0 +1,124 @@
+// The receiving part of a port.
+ghost use Rattle.std.specs.Prelude.{◌≡◌, ◌≤◌, length, [], false};
+
+use crate::mode::{LAST_MOMENT, LONGEST_CHARACTER, Mode};
+use arrayvec::ArrayVec;
+use std::marker::Model;
+
+/// The Receiver Buffer Register or, with FIFOs, the receive FIFO, and what belongs to it.
+#[derive(Drop)]
+pub(crate) struct Receiver {
+    held: ArrayVec<u8, 16>,
+    overrun: bool,
+    timeout: Option<u64>,
+}
+
+impl Model for Receiver {
+    ghost use Rattle.dev_serial.specs.Parts.{ReceiverState};
+
+    ghost Value = { ReceiverState };
+
+    ghost use Rattle.dev_serial.specs.ReceiverView.{receiver_view};
+
+    ghost view = { receiver_view };
+}
+
+impl Receiver {
+    ghost use Rattle.dev_serial.specs.Receive.{received, taken, taken_at, emptied, without_overrun};
+
+    /// A receiver of these bytes, first in first.
+    pub fn new(held: ArrayVec<u8, 16>, overrun: bool, timeout: Option<u64>) -> Receiver
+        ensures { result ≡ record { held = held.items; overrun = overrun; timeout = timeout } }
+    {
+        Receiver {
+            held,
+            overrun,
+            timeout,
+        }
+    }
+
+    /// A byte comes at a moment in nanoseconds.
+    #[tactic(auto, unfolding(crate::specs::Receive::received))]
+    pub fn receive(&mut self, mode: Mode, byte: u8, at: u64)
+        requires longest { mode.character ≤ LONGEST_CHARACTER }
+        requires moment { at ≤ LAST_MOMENT }
+        ensures state { self.new ≡ received mode byte at self.old }
+        ensures short { length self.old.held ≤ 16 → length self.new.held ≤ 16 }
+        ensures one { mode.has_fifos ≡ false → length self.new.held ≤ 1 }
+    {
+        if mode.has_fifos {
+            if self.held.is_full() {
+                self.overrun = true;
+            } else {
+                self.held.push(byte);
+            }
+            if mode.times_out {
+                self.timeout = Some(at + 4 * mode.character);
+            }
+        } else {
+            if !self.held.is_empty() {
+                self.overrun = true;
+            }
+            self.held.clear();
+            self.held.push(byte);
+        }
+    }
+
+    /// The first byte held, which leaves, or 0 where none is held.
+    #[tactic(auto, unfolding(crate::specs::Receive::taken_at))]
+    pub fn take(&mut self, mode: Mode, at: u64) -> u8
+        requires longest { mode.character ≤ LONGEST_CHARACTER }
+        requires moment { at ≤ LAST_MOMENT }
+        ensures state { (result, self.new) ≡ taken mode at self.old }
+        ensures fewer { length self.new.held ≤ length self.old.held }
+    {
+        if self.held.is_empty() {
+            return 0;
+        }
+        let byte = self.held.remove(0);
+        if mode.times_out {
+            self.timeout = if self.held.is_empty() {
+                None
+            } else {
+                Some(at + 4 * mode.character)
+            };
+        }
+        byte
+    }
+
+    /// Lets all bytes go, and the timeout with them. The overrun flag stays.
+    pub fn empty(&mut self)
+        ensures { self.new ≡ emptied self.old }
+    {
+        self.held.clear();
+        self.timeout = None;
+    }
+
+    /// The bytes held, first in first, at most 16.
+    pub fn held(&self) -> &ArrayVec<u8, 16>
+        ensures items { result.now.items ≡ self.now.held }
+    {
+        &self.held
+    }
+
+    /// A byte was lost or replaced since the flag was last cleared.
+    pub fn has_overrun(&self) -> bool
+        ensures { result ≡ self.now.overrun }
+    {
+        self.overrun
+    }
+
+    /// Clears the overrun flag.
+    pub fn clear_overrun(&mut self)
+        ensures { self.new ≡ without_overrun self.old }
+    {
+        self.overrun = false;
+    }
+
+    /// The moment of the character timeout, in nanoseconds.
+    pub fn timeout(&self) -> Option<u64>
+        ensures { result ≡ self.now.timeout }
+    {
+        self.timeout
+    }
+}

@@ -1,0 +1,333 @@
+// A serial port.
+ghost use Rattle.dev_serial.specs.Access.{msr_of};
+ghost use Rattle.std.specs.Prelude.{◌≡◌, ◌≤◌, ◌+◌, length, nat_le, ◌&&◌};
+
+use crate::interrupt::Interrupt;
+use crate::mode::{LAST_MOMENT, LONGEST_CHARACTER, Mode, character_time};
+use crate::receiver::Receiver;
+use crate::registers::*;
+use crate::transmitter::Transmitter;
+use crate::trigger::Trigger;
+use arrayvec::ArrayVec;
+use std::marker::Model;
+
+/// The first level at which a port has FIFOs, and so is a 16550A and no 16450.
+pub(crate) const FIFO_LEVEL: u8 = 2;
+
+/// The first level at which FIFOs have the character timeout.
+pub(crate) const TIMEOUT_LEVEL: u8 = 3;
+
+/// The newest level.
+pub const NEWEST_LEVEL: u8 = 3;
+
+/// A serial port with its registers, its two lists of bytes and its shift register.
+///
+/// Levels go from 1 to 3: a 16450, a 16550A without and one with the character timeout. Parity,
+/// framing and break faults never come, and interrupts aren't gated by OUT2.
+#[derive(Drop)]
+pub struct Serial {
+    pub(crate) level: u8,
+    pub(crate) divisor: u16,
+    pub(crate) ier: u8,
+    pub(crate) lcr: u8,
+    pub(crate) mcr: u8,
+    pub(crate) scr: u8,
+    pub(crate) fifos: Option<Trigger>,
+    pub(crate) receiver: Receiver,
+    pub(crate) transmitter: Transmitter,
+    pub(crate) thr_empty: bool,
+}
+
+impl Model for Serial {
+    ghost use Rattle.dev_serial.specs.Port.{Port};
+
+    ghost Value = { Port };
+
+    ghost use Rattle.dev_serial.specs.View.{port_view};
+    ghost use Rattle.dev_serial.specs.Port.{IsPort};
+
+    ghost view = { port_view };
+
+    ghost invariant = { λ s. IsPort (port_view s) };
+}
+
+impl Serial {
+    ghost use Rattle.dev_serial.specs.Transmit.{IsSentAfter};
+    ghost use Rattle.dev_serial.specs.Receive.{taken, taken_at};
+    ghost use Rattle.dev_serial.specs.Port.{power_on, mode_of, is_data_ready, has_come, timeout_level, interrupt, line_of};
+    ghost use Rattle.dev_serial.specs.Access.{lsr_of, with_taken, id_read, lsr_read, read_of, thr_written, ier_written, fcr_written, written, came_in, advanced};
+
+    /// A port of a level from 1 to 3 at power on: divisor 12, and all else empty or 0.
+    #[tactic(auto, unfolding(crate::specs::Port::power_on))]
+    pub fn new(level: u8) -> Serial
+        ensures state { result ≡ power_on level }
+        ensures level { result.level ≡ level }
+    {
+        Serial {
+            level,
+            divisor: 12,
+            ier: 0,
+            lcr: 0,
+            mcr: 0,
+            scr: 0,
+            fifos: None,
+            receiver: Receiver::new(ArrayVec::new(), false, None),
+            transmitter: Transmitter::new(ArrayVec::new(), None),
+            thr_empty: false,
+        }
+    }
+
+    // How characters go over the line.
+    fn mode(&self) -> Mode
+        ensures mode { result ≡ mode_of self.now }
+        ensures longest { result.character ≤ LONGEST_CHARACTER }
+    {
+        let has_fifos = self.fifos.is_some();
+        Mode {
+            character: character_time(self.divisor, self.lcr),
+            has_fifos,
+            times_out: self.level >= TIMEOUT_LEVEL && has_fifos,
+            is_looped: has(self.mcr, LOOP),
+        }
+    }
+
+    // The interrupt that is identified.
+    #[tactic(auto, unfolding(crate::specs::Port::interrupt))]
+    pub(crate) fn interrupt(&self, now: u64) -> Interrupt
+        ensures { result ≡ interrupt now self.now }
+    {
+        if has(self.ier, ELSI) && self.receiver.has_overrun() {
+            return Interrupt::LineStatus;
+        }
+        if has(self.ier, ERBFI) && self.is_data_ready() {
+            return Interrupt::ReceivedData;
+        }
+        if has(self.ier, ERBFI) && self.has_timed_out(now) {
+            return Interrupt::CharacterTimeout;
+        }
+        if has(self.ier, ETBEI) && self.thr_empty {
+            return Interrupt::ThrEmpty;
+        }
+        Interrupt::NonePending
+    }
+
+    // As many bytes are held as ask for an interrupt.
+    fn is_data_ready(&self) -> bool
+        ensures { result ≡ is_data_ready self.now.fifos self.now.receiver.held }
+    {
+        let held = self.receiver.held().len();
+        match self.fifos {
+            None => held > 0,
+            Some(trigger) => held >= trigger.bytes(),
+        }
+    }
+
+    // The character timeout has come.
+    fn has_timed_out(&self, now: u64) -> bool
+        ensures { result ≡ (nat_le timeout_level self.now.level && has_come now self.now.receiver.timeout) }
+    {
+        self.level >= TIMEOUT_LEVEL
+            && match self.receiver.timeout() {
+                None => false,
+                Some(timeout) => timeout <= now,
+            }
+    }
+
+    /// Reads the register at an offset from 0 to 7, at a moment up to `LAST_MOMENT`.
+    #[tactic(auto, unfolding(crate::specs::Access::read_of))]
+    pub fn read(&mut self, offset: u8, now: u64) -> u8
+        requires offset { offset ≤ 7 }
+        requires moment { now ≤ LAST_MOMENT }
+        ensures state { (result, self.new) ≡ read_of offset now self.old }
+        ensures level { self.new.level ≡ self.old.level }
+    {
+        match offset {
+            RBR_THR if has(self.lcr, DLAB) => (self.divisor % 256) as u8,
+            RBR_THR => self.read_byte(now),
+            IER if has(self.lcr, DLAB) => (self.divisor / 256) as u8,
+            IER => self.ier,
+            IIR_FCR => self.read_id(now),
+            LCR => self.lcr,
+            MCR => self.mcr,
+            LSR => self.read_line_status(),
+            MSR => modem_status(self.mcr),
+            _ => self.scr,
+        }
+    }
+
+    // The first received byte leaves, "Receiver Buffer Register".
+    fn read_byte(&mut self, now: u64) -> u8
+        requires { now ≤ LAST_MOMENT }
+        ensures { (result, self.new) ≡ with_taken self.old (taken (mode_of self.old) now self.old.receiver) }
+    {
+        let mode = self.mode();
+        self.receiver.take(mode, now)
+    }
+
+    // "Interrupt Identification Register". Reading it answers the interrupt of an empty transmit list.
+    #[tactic(auto, unfolding(crate::specs::Access::iir_of))]
+    fn read_id(&mut self, now: u64) -> u8
+        ensures { (result, self.new) ≡ id_read now self.old }
+    {
+        let interrupt = self.interrupt(now);
+        if interrupt.is_thr_empty() {
+            self.thr_empty = false;
+        }
+        interrupt.number() | bits_where(self.fifos.is_some(), FIFOS_ENABLED)
+    }
+
+    // "Line Status Register". Reading it clears the overrun flag.
+    fn read_line_status(&mut self) -> u8
+        ensures { (result, self.new) ≡ lsr_read self.old }
+    {
+        let status = self.line_status();
+        self.receiver.clear_overrun();
+        status
+    }
+
+    // What the Line Status Register reads.
+    #[tactic(auto, unfolding(crate::specs::Access::lsr_of))]
+    pub(crate) fn line_status(&self) -> u8
+        ensures { result ≡ lsr_of self.now }
+    {
+        let is_empty = self.transmitter.waiting().is_empty();
+        bit_where(!self.receiver.held().is_empty(), DR)
+            | bit_where(self.receiver.has_overrun(), OE)
+            | bit_where(is_empty, THRE)
+            | bit_where(is_empty && self.transmitter.shift().is_none(), TEMT)
+    }
+
+    /// Writes the register at an offset from 0 to 7, at a moment up to `LAST_MOMENT`.
+    #[tactic(auto, unfolding(crate::specs::Access::written))]
+    pub fn write(&mut self, offset: u8, value: u8, now: u64)
+        requires offset { offset ≤ 7 }
+        requires moment { now ≤ LAST_MOMENT }
+        ensures state { self.new ≡ written offset value now self.old }
+        ensures level { self.new.level ≡ self.old.level }
+    {
+        match offset {
+            RBR_THR if has(self.lcr, DLAB) => {
+                self.divisor = self.divisor / 256 * 256 + u16::from(value);
+            }
+            RBR_THR => self.write_byte(value, now),
+            IER if has(self.lcr, DLAB) => {
+                self.divisor = u16::from(value) * 256 + self.divisor % 256;
+            }
+            IER => self.write_enable(value),
+            IIR_FCR => {
+                if self.level >= FIFO_LEVEL {
+                    self.write_fifo_control(value);
+                }
+            }
+            LCR => self.lcr = value,
+            MCR => self.mcr = value & MCR_BITS,
+            LSR | MSR => {}
+            _ => self.scr = value,
+        }
+    }
+
+    // "Transmitter Holding Register". The latch is cleared, and set again where the byte goes on into
+    // the shift register at once.
+    #[tactic(auto, unfolding(crate::specs::Access::thr_written))]
+    fn write_byte(&mut self, byte: u8, now: u64)
+        requires { now ≤ LAST_MOMENT }
+        ensures state { self.new ≡ thr_written byte now self.old }
+        ensures level { self.new.level ≡ self.old.level }
+    {
+        let due = now + character_time(self.divisor, self.lcr);
+        self.transmitter.write(self.fifos.is_some(), byte, due);
+        self.thr_empty = self.transmitter.waiting().is_empty();
+    }
+
+    // "Interrupt Enable Register". Enabling the interrupt of an empty transmit list samples the list.
+    #[tactic(auto, unfolding(crate::specs::Access::ier_written))]
+    fn write_enable(&mut self, value: u8)
+        ensures state { self.new ≡ ier_written value self.old }
+        ensures level { self.new.level ≡ self.old.level }
+    {
+        let enabled = value & IER_BITS;
+        if !has(self.ier, ETBEI) && has(enabled, ETBEI) {
+            self.thr_empty = self.transmitter.waiting().is_empty();
+        }
+        self.ier = enabled;
+    }
+
+    // "FIFO Control Register". A change of the switch clears both lists.
+    #[tactic(auto, unfolding(crate::specs::Access::fcr_written))]
+    fn write_fifo_control(&mut self, value: u8)
+        ensures state { self.new ≡ fcr_written value self.old }
+        ensures level { self.new.level ≡ self.old.level }
+    {
+        let is_on = has(value, FIFO_ENABLE);
+        let changes = is_on != self.fifos.is_some();
+        if changes || (is_on && has(value, RCVR_RESET)) {
+            self.receiver.empty();
+        }
+        if changes || (is_on && has(value, XMIT_RESET)) {
+            if !self.transmitter.waiting().is_empty() {
+                self.thr_empty = true;
+            }
+            self.transmitter.empty();
+        }
+        self.fifos = if is_on {
+            Some(Trigger::of_bits(value / 64))
+        } else {
+            None
+        };
+    }
+
+    /// A byte comes on the line at a moment up to `LAST_MOMENT`. In loop mode it is ignored.
+    #[tactic(auto, unfolding(crate::specs::Access::came_in))]
+    pub fn byte_in(&mut self, value: u8, now: u64)
+        requires { now ≤ LAST_MOMENT }
+        ensures state { self.new ≡ came_in value now self.old }
+        ensures level { self.new.level ≡ self.old.level }
+    {
+        let mode = self.mode();
+        if !mode.is_looped {
+            self.receiver.receive(mode, value, now);
+        }
+    }
+
+    /// Lets time pass up to a moment, at most `LAST_MOMENT`, and answers the bytes that left for the line, first
+    /// out first, at most 17. In loop mode what leaves the shift register comes in again at its moment.
+    #[tactic(auto, unfolding(crate::specs::Access::advanced))]
+    pub fn advance(&mut self, to: u64) -> ArrayVec<u8, 17>
+        requires { to ≤ LAST_MOMENT }
+        ensures state { (result.items, self.new) ≡ advanced to self.old }
+        ensures level { self.new.level ≡ self.old.level }
+        ensures few { length result.items ≤ 17 }
+        ensures none_due { IsSentAfter to self.new.transmitter.shift }
+    {
+        let mode = self.mode();
+        let was_empty = self.transmitter.waiting().is_empty();
+        let sent = self.transmitter.advance(mode, to, &mut self.receiver);
+        if self.transmitter.waiting().is_empty() && !was_empty {
+            self.thr_empty = true;
+        }
+        sent
+    }
+
+    /// The interrupt line at a moment: it is high exactly where an interrupt is identified.
+    #[tactic(auto, unfolding(crate::specs::Port::line_of))]
+    pub fn line(&self, now: u64) -> bool
+        ensures { result ≡ line_of now self.now }
+    {
+        self.interrupt(now).is_pending()
+    }
+}
+
+// What the Modem Status Register reads: in loop mode the modem control outputs.
+#[tactic(auto, unfolding(crate::specs::Access::msr_of))]
+fn modem_status(mcr: u8) -> u8
+    ensures { result ≡ msr_of mcr }
+{
+    if has(mcr, LOOP) {
+        bit_where(has(mcr, RTS), CTS)
+            | bit_where(has(mcr, DTR), DSR)
+            | bit_where(has(mcr, OUT1), RI)
+            | bit_where(has(mcr, OUT2), DCD)
+    } else {
+        MODEM_READY
+    }
+}

@@ -1,0 +1,160 @@
+// The sending part of a port.
+ghost use Rattle.std.specs.Prelude.{◌≡◌, ◌≤◌, ◌+◌, ◌++◌, length, Some, [], ◌∷◌, false};
+ghost use Rattle.dev_serial.specs.Transmit.{gone, staying, holding, on_line, looped_in, departures, IsSentAfter};
+ghost use Rattle.dev_serial.specs.Parts.{IsShort};
+
+use crate::mode::{LAST_MOMENT, LONGEST_CHARACTER, Mode};
+use crate::receiver::Receiver;
+use crate::shift::Shift;
+use arrayvec::ArrayVec;
+use std::marker::Model;
+
+/// The Transmitter Holding Register or, with FIFOs, the transmit FIFO, and the shift register behind
+/// it, which may be idle.
+#[derive(Drop)]
+pub(crate) struct Transmitter {
+    waiting: ArrayVec<u8, 16>,
+    shift: Option<Shift>,
+}
+
+impl Model for Transmitter {
+    ghost use Rattle.dev_serial.specs.Parts.{TransmitterState};
+
+    ghost Value = { TransmitterState };
+
+    ghost use Rattle.dev_serial.specs.TransmitterView.{transmitter_view};
+
+    ghost view = { transmitter_view };
+}
+
+impl Transmitter {
+    ghost use Rattle.dev_serial.specs.Transmit.{queued, loaded, run_until, gone_by};
+
+    /// A transmitter of these bytes, first in first, and this shift register.
+    pub fn new(waiting: ArrayVec<u8, 16>, shift: Option<Shift>) -> Transmitter
+        ensures { result ≡ record { waiting = waiting.items; shift = shift } }
+    {
+        Transmitter { waiting, shift }
+    }
+
+    /// A byte is written. Where the shift register is idle it takes the first byte at once, to be sent
+    /// at the moment `due`.
+    #[tactic(auto, unfolding(crate::specs::Transmit::queued, crate::specs::Transmit::loaded))]
+    pub fn write(&mut self, has_fifos: bool, byte: u8, due: u64)
+        ensures state { self.new ≡ loaded due self.old.shift (queued has_fifos byte self.old.waiting) }
+        ensures short { length self.old.waiting ≤ 16 → length self.new.waiting ≤ 16 }
+        ensures one { has_fifos ≡ false → length self.new.waiting ≤ 1 }
+    {
+        if !has_fifos {
+            self.waiting.clear();
+        }
+        if !self.waiting.is_full() {
+            self.waiting.push(byte);
+        }
+        if self.shift.is_none() && !self.waiting.is_empty() {
+            let byte = self.waiting.remove(0);
+            self.shift = Some(Shift { byte, due });
+        }
+    }
+
+    /// Lets all bytes that wait go. The shift register goes on.
+    pub fn empty(&mut self)
+        ensures { self.new ≡ record self.old { waiting = [] } }
+    {
+        self.waiting.clear();
+    }
+
+    /// The bytes that wait behind the shift register, first in first, at most 16.
+    pub fn waiting(&self) -> &ArrayVec<u8, 16>
+        ensures items { result.now.items ≡ self.now.waiting }
+    {
+        &self.waiting
+    }
+
+    /// The shift register.
+    pub fn shift(&self) -> Option<Shift>
+        ensures { result ≡ self.now.shift }
+    {
+        self.shift
+    }
+
+    /// Sends the bytes that are due at or before a moment, each to the line or, in loop mode, to the
+    /// receiver, and answers those that left for the line.
+    #[tactic(auto, unfolding(crate::specs::Transmit::run_until, crate::specs::Transmit::departures, crate::specs::Transmit::gone, crate::specs::Transmit::arrived))]
+    pub fn advance(&mut self, mode: Mode, to: u64, receiver: &mut Receiver) -> ArrayVec<u8, 17>
+        requires longest { mode.character ≤ LONGEST_CHARACTER }
+        requires moment { to ≤ LAST_MOMENT }
+        requires few { length self.old.waiting ≤ 16 }
+        requires few_held { IsShort mode.has_fifos receiver.old.held }
+        ensures state { self.new ≡ run_until mode.character to self.old.shift self.old.waiting }
+        ensures line { result.items ≡ on_line mode (gone_by mode.character to self.old.shift self.old.waiting) }
+        ensures looped { receiver.new ≡ looped_in mode (gone_by mode.character to self.old.shift self.old.waiting) receiver.old }
+        ensures few_sent { length result.items ≤ 17 }
+        ensures none_due { IsSentAfter to self.new.shift }
+        ensures fewer { length self.new.waiting ≤ length self.old.waiting }
+        ensures still_few { IsShort mode.has_fifos receiver.new.held }
+    {
+        let Some(first) = self.shift else {
+            return ArrayVec::new();
+        };
+        let (line, left) = send_due(mode, to, first, &mut self.waiting, receiver);
+        self.shift = left;
+        line
+    }
+}
+
+/// Sends what is due, byte by byte.
+fn send_due(
+    mode: Mode,
+    to: u64,
+    first: Shift,
+    waiting: &mut ArrayVec<u8, 16>,
+    receiver: &mut Receiver,
+) -> (ArrayVec<u8, 17>, Option<Shift>)
+    requires longest { mode.character ≤ LONGEST_CHARACTER }
+    requires moment { to ≤ LAST_MOMENT }
+    requires few { length waiting.old.items ≤ 16 }
+    requires few_held { IsShort mode.has_fifos receiver.old.held }
+    ensures left { record { waiting = waiting.new.items; shift = result.1 } ≡ holding (staying to (departures mode.character (Some first) waiting.old.items)) }
+    ensures line { result.0.items ≡ on_line mode (gone to (departures mode.character (Some first) waiting.old.items)) }
+    ensures looped { receiver.new ≡ looped_in mode (gone to (departures mode.character (Some first) waiting.old.items)) receiver.old }
+    ensures few_sent { length result.0.items ≤ 17 }
+    ensures none_due { IsSentAfter to result.1 }
+    ensures fewer { length waiting.new.items ≤ length waiting.old.items }
+    ensures still_few { IsShort mode.has_fifos receiver.new.held }
+{
+    let mut line = ArrayVec::new();
+    let mut shift = first;
+    'bytes: loop {
+        if shift.due > to {
+            return (line, Some(shift));
+        }
+        leave(mode, shift, &mut line, receiver);
+        if waiting.is_empty() {
+            return (line, None);
+        }
+        shift = Shift {
+            byte: waiting.remove(0),
+            due: shift.due + mode.character,
+        };
+    }
+}
+
+/// A byte leaves the shift register, to the line or to the receiver.
+#[tactic(auto, unfolding(crate::specs::Transmit::arrived))]
+fn leave(mode: Mode, shift: Shift, line: &mut ArrayVec<u8, 17>, receiver: &mut Receiver)
+    requires longest { mode.character ≤ LONGEST_CHARACTER }
+    requires moment { shift.due ≤ LAST_MOMENT }
+    requires room { length line.old.items ≤ 16 }
+    requires few_held { IsShort mode.has_fifos receiver.old.held }
+    ensures line { line.new.items ≡ line.old.items ++ on_line mode (shift ∷ []) }
+    ensures looped { receiver.new ≡ looped_in mode (shift ∷ []) receiver.old }
+    ensures more { length line.new.items ≤ length line.old.items + 1 }
+    ensures still_few { IsShort mode.has_fifos receiver.new.held }
+{
+    if mode.is_looped {
+        receiver.receive(mode, shift.byte, shift.due);
+    } else {
+        line.push(shift.byte);
+    }
+}
