@@ -34,22 +34,22 @@ field_cells image =
     ∷ pos image.rbr ∷ pos image.thr ∷ pos image.tsr ∷ pos image.tx_due ∷ []
 
 -- fcr, the latch, the two FIFOs and the timeout, in the sets that have them
-abbrev pub fcr_cells : ℕ → Image → List ℤ
-fcr_cells set image = if nat_le fifo_set set then pos image.fcr ∷ [] else []
+abbrev pub fcr_cells : ℕ → ℕ → List ℤ
+fcr_cells set fcr = if nat_le fifo_set set then pos fcr ∷ [] else []
 
 abbrev pub latch_cells : Image → List ℤ
 latch_cells image = image.thr_ipending ∷ []
 
-abbrev pub both_fifo_cells : ℕ → Image → List ℤ
-both_fifo_cells set image = if nat_le fifo_set set then fifo_cells image.rx ++ fifo_cells image.tx else []
+abbrev pub both_fifo_cells : ℕ → List ℕ → List ℕ → List ℤ
+both_fifo_cells set rx tx = if nat_le fifo_set set then fifo_cells rx ++ fifo_cells tx else []
 
-abbrev pub timeout_cells : ℕ → Image → List ℤ
-timeout_cells set image = if nat_le timeout_set set then pos image.timeout_at ∷ [] else []
+abbrev pub timeout_cells : ℕ → ℕ → List ℤ
+timeout_cells set timeout_at = if nat_le timeout_set set then pos timeout_at ∷ [] else []
 
 -- the cells of a set: its fields, and then those of each subsection
 unfoldable pub cells_of : ℕ → Image → List ℤ
 cells_of set image =
-    field_cells image ++ fcr_cells set image ++ latch_cells image ++ both_fifo_cells set image ++ timeout_cells set image
+    field_cells image ++ fcr_cells set image.fcr ++ latch_cells image ++ both_fifo_cells set image.rx image.tx ++ timeout_cells set image.timeout_at
 
 -- the cells of a set at their places in the newest one, with defaults elsewhere
 unfoldable pub carried : ℕ → List ℤ → List ℤ

@@ -34,14 +34,14 @@ impl Hooked for Serial {
 
 impl Serial {
     ghost use Rattle.dev_serial.specs.Cells.{IsPortCells, field_cells, fcr_cells, latch_cells, both_fifo_cells, timeout_cells, cells_of};
-    ghost use Rattle.dev_serial.specs.Image.{saved};
+    ghost use Rattle.dev_serial.specs.Image.{saved, fifo_bytes, moment_number};
     ghost use Rattle.dev_serial.specs.Saved.{CanSave, CanRestore, cells_at, restored_cells};
 
     /// The cells of the pass's set, in the order of its description: the registers, then the latch, and
     /// in the sets that have them the FIFOs and the timeout.
     ///
     /// The pass has the port's own level and a set at or above it.
-    #[tactic(auto, unfolding(crate::specs::Cells::cells_of))]
+    #[tactic(auto, unfolding(crate::specs::Cells::cells_of, crate::specs::Image::saved))]
     pub fn cells(&self, pass: &Pass) -> DevCells
         requires { CanSave pass.now self.now }
         ensures cells { result.items ≡ cells_at pass.now self.now }
@@ -50,10 +50,10 @@ impl Serial {
         let set = pass.set();
         let now = pass.now();
         let mut cells = self.field_cells(now);
-        self.push_fifo_control(set, now, &mut cells);
+        self.push_fifo_control(set, &mut cells);
         self.push_latch(now, &mut cells);
-        self.push_fifos(set, now, &mut cells);
-        self.push_timeout(set, now, &mut cells);
+        self.push_fifos(set, &mut cells);
+        self.push_timeout(set, &mut cells);
         cells
     }
 
@@ -83,10 +83,9 @@ impl Serial {
     }
 
     // The FIFO switch with its trigger, in the sets that have them.
-    #[tactic(auto, unfolding(crate::specs::Image::saved))]
-    fn push_fifo_control(&self, set: u8, now: u64, cells: &mut DevCells)
+    fn push_fifo_control(&self, set: u8, cells: &mut DevCells)
         requires room { length cells.old.items ≤ 63 }
-        ensures items { cells.new.items ≡ cells.old.items ++ fcr_cells set (saved now self.now) }
+        ensures items { cells.new.items ≡ cells.old.items ++ fcr_cells set (fcr_number self.now.fifos) }
         ensures more { length cells.new.items ≤ length cells.old.items + 1 }
     {
         if set >= FIFO_SET {
@@ -110,10 +109,9 @@ impl Serial {
     }
 
     // Both FIFOs, in the sets that have them.
-    #[tactic(auto, unfolding(crate::specs::Image::saved))]
-    fn push_fifos(&self, set: u8, now: u64, cells: &mut DevCells)
+    fn push_fifos(&self, set: u8, cells: &mut DevCells)
         requires room { length cells.old.items ≤ 30 }
-        ensures items { cells.new.items ≡ cells.old.items ++ both_fifo_cells set (saved now self.now) }
+        ensures items { cells.new.items ≡ cells.old.items ++ both_fifo_cells set (fifo_bytes self.now.fifos self.now.receiver.held) (fifo_bytes self.now.fifos self.now.transmitter.waiting) }
         ensures more { length cells.new.items ≤ length cells.old.items + 34 }
     {
         if set >= FIFO_SET {
@@ -128,10 +126,9 @@ impl Serial {
     }
 
     // The character timeout, in the sets that have it.
-    #[tactic(auto, unfolding(crate::specs::Image::saved))]
-    fn push_timeout(&self, set: u8, now: u64, cells: &mut DevCells)
+    fn push_timeout(&self, set: u8, cells: &mut DevCells)
         requires room { length cells.old.items ≤ 63 }
-        ensures items { cells.new.items ≡ cells.old.items ++ timeout_cells set (saved now self.now) }
+        ensures items { cells.new.items ≡ cells.old.items ++ timeout_cells set (moment_number self.now.receiver.timeout) }
         ensures more { length cells.new.items ≤ length cells.old.items + 1 }
     {
         if set >= TIMEOUT_SET {
