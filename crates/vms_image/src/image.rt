@@ -52,6 +52,13 @@ impl Image {
         put_defaults(&mut self.numbers, set.cell_forms(device));
     }
 
+    /// The numbers of the cells, in order.
+    pub fn numbers(&self) -> &[i128]
+        ensures { result.now ≡ self.now.numbers }
+    {
+        &self.numbers
+    }
+
     /// The number of a cell.
     pub fn get(&self, cell: u32) -> i128
         requires { cell < length self.now.numbers }
