@@ -2,3 +2,4 @@ pub mod FillLemmas
 pub mod UnitLemmas
 pub mod HeadLemmas
 pub mod JudgedLemmas
+pub mod Steps
