@@ -1,0 +1,50 @@
+-- The head that bytes say has these bytes.
+use Rattle.std.proofs.Common.{◌≡◌, ℕ, zero, suc, ◌+◌, ◌<◌, List, [], ◌∷◌, ◌++◌, length, get_or, take, drop, refl, sym, ap, subst, ◌∙◌, arith, length-drop, take-append-drop, append_assoc}
+use Rattle.std.proofs.lemmas.List.{drop-drop, length-take-le, get_or-drop}
+use Rattle.byteorder.specs.Endian.{big_number}
+use Rattle.vms_kinds.specs.declared.Kind.TheVariants.{U32}
+use Rattle.vms_kinds.proofs.CodeLemmas.{again}
+use Rattle.vms_spec.specs.Streams.{be32}
+use Rattle.vms_spec.specs.Numbers.{IsBytes}
+use Rattle.vms_spec.specs.Judging.{number_at}
+use Rattle.vms_marks.specs.Heads.{head_bytes, head_in}
+
+-- four bytes are those of the number in them
+four : (a b c d : ℕ) (bytes : List ℕ) → a < 256 → b < 256 → c < 256 → d < 256 → be32 (big_number 4 (a ∷ b ∷ c ∷ d ∷ bytes)) ≡ a ∷ b ∷ c ∷ d ∷ []
+four a b c d bytes ha hb hc hd = again U32 (a ∷ b ∷ c ∷ d ∷ []) refl below
+  where
+    below : (i : ℕ) → get_or (a ∷ b ∷ c ∷ d ∷ []) i 0 < 256
+    below zero = ha
+    below (suc zero) = hb
+    below (suc (suc zero)) = hc
+    below (suc (suc (suc zero))) = hd
+    below (suc (suc (suc (suc i)))) = omega arith
+
+-- eight bytes are those of the two numbers in them
+eight : (front bytes : List ℕ) → length bytes ≡ 8 → IsBytes bytes → (front ++ be32 (big_number 4 bytes)) ++ be32 (big_number 4 (drop 4 bytes)) ≡ front ++ bytes
+eight front (a ∷ b ∷ c ∷ d ∷ e ∷ f ∷ g ∷ h ∷ []) long ok =
+    ap (λ (l : List ℕ). (front ++ l) ++ be32 (big_number 4 (e ∷ f ∷ g ∷ h ∷ []))) (four a b c d (e ∷ f ∷ g ∷ h ∷ []) (ok 0) (ok 1) (ok 2) (ok 3))
+    ∙ ap (λ (l : List ℕ). (front ++ a ∷ b ∷ c ∷ d ∷ []) ++ l) (four e f g h [] (ok 4) (ok 5) (ok 6) (ok 7))
+    ∙ append_assoc front (a ∷ b ∷ c ∷ d ∷ []) (e ∷ f ∷ g ∷ h ∷ [])
+eight front _ long ok = absurd (omega arith)
+
+more_than : (n : ℕ) → 10 + n ≡ (6 + n) + 4
+more_than n = omega arith
+
+-- bytes of the right mark and length are those of the head that they say
+pub spells : (bytes : List ℕ) → IsBytes bytes → get_or bytes 0 0 ≡ 4 → length bytes ≡ 14 + get_or bytes 5 0 → head_bytes (head_in bytes) ≡ bytes
+spells (m ∷ a ∷ b ∷ c ∷ d ∷ n ∷ more) ok mark long =
+    let r = m ∷ a ∷ b ∷ c ∷ d ∷ n ∷ more in
+    let six : drop (6 + n) r ≡ drop n more = sym (drop-drop n 6 r) in
+    let ten : drop (10 + n) r ≡ drop 4 (drop n more) = ap (λ (k : ℕ). drop k r) (more_than n) ∙ sym (drop-drop 4 (6 + n) r) ∙ ap (drop 4) six in
+    let named : length (take n more) ≡ n = length-take-le n more (omega arith) in
+    let last : length (drop n more) ≡ 8 = simp length-drop (omega arith) in
+    let bytes : IsBytes (drop n more) = λ i. subst (λ (k : ℕ). k < 256) (sym (get_or-drop n more i 0 ∙ get_or-drop 6 r (n + i) 0)) (ok (6 + (n + i))) in
+    ap (λ (l : List ℕ). 4 ∷ (((l ++ (length (take n more) ∷ take n more)) ++ be32 (number_at 4 (6 + n) r)) ++ be32 (number_at 4 (10 + n) r))) (four a b c d (n ∷ more) (ok 1) (ok 2) (ok 3) (ok 4))
+    ∙ ap (λ (k : ℕ). 4 ∷ a ∷ b ∷ c ∷ d ∷ k ∷ ((take n more ++ be32 (number_at 4 (6 + n) r)) ++ be32 (number_at 4 (10 + n) r))) named
+    ∙ ap (λ (l : List ℕ). 4 ∷ a ∷ b ∷ c ∷ d ∷ n ∷ ((take n more ++ be32 (big_number 4 l)) ++ be32 (number_at 4 (10 + n) r))) six
+    ∙ ap (λ (l : List ℕ). 4 ∷ a ∷ b ∷ c ∷ d ∷ n ∷ ((take n more ++ be32 (big_number 4 (drop n more))) ++ be32 (big_number 4 l))) ten
+    ∙ ap (λ (l : List ℕ). 4 ∷ a ∷ b ∷ c ∷ d ∷ n ∷ l) (eight (take n more) (drop n more) last bytes)
+    ∙ ap (λ (l : List ℕ). 4 ∷ a ∷ b ∷ c ∷ d ∷ n ∷ l) (take-append-drop n more)
+    ∙ ap (λ (k : ℕ). k ∷ a ∷ b ∷ c ∷ d ∷ n ∷ more) (sym mark)
+spells _ ok mark long = absurd (omega arith)

@@ -1,0 +1,28 @@
+-- What the bytes of a section head and of a footer say, and why bytes are no section head.
+use Rattle.std.specs.Prelude.{◌≡◌, ◌≢◌, ℕ, ◌+◌, ◌<◌, ◌⊎◌, List, [], ◌∷◌, length, get_or}
+use Rattle.vms_spec.specs.Streams.{section_head}
+use Rattle.vms_spec.specs.Judging.{number_at, bytes_at}
+use Rattle.vms_marks.specs.declared.head.Head.{Head}
+
+-- the bytes of a head
+abbrev pub head_bytes : Head → List ℕ
+head_bytes head = section_head head.id head.name.items head.instance head.version
+
+-- the head at the front of these bytes: the id from byte 1 on, the name's length in byte 5, the name from byte 6 on, the
+-- instance id and the version after it
+abbrev pub head_in : List ℕ → Head
+head_in bytes = let n = get_or bytes 5 0 in record {
+  id = number_at 4 1 bytes;
+  name = record { items = bytes_at n 6 bytes };
+  instance = number_at 4 (6 + n) bytes;
+  version = number_at 4 (10 + n) bytes;
+}
+
+-- there is a first byte, and it isn't the mark of a head
+abbrev pub HasWrongMark : List ℕ → Type 0
+HasWrongMark [] = ⊥
+HasWrongMark (mark ∷ bytes) = mark ≢ 0x04
+
+-- fewer than the 6 bytes up to the name's length, or another number than that length says
+abbrev pub HasWrongLength : List ℕ → Type 0
+HasWrongLength bytes = (length bytes < 6) ⊎ (length bytes ≢ 14 + get_or bytes 5 0)

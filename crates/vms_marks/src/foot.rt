@@ -1,0 +1,37 @@
+// The footer of a section.
+ghost use Rattle.std.specs.Prelude.{◌≡◌, ◌≢◌, ◌↔◌, slice_index, IfSome, IsNone};
+ghost use Rattle.vms_spec.specs.Streams.{foot};
+
+use crate::Mark;
+use byteorder::{BigEndian, ByteOrder};
+
+/// The footer of a section.
+#[derive(Clone, Copy, Debug, PartialEq, Eq)]
+pub struct Foot {
+    /// The id of the section's head.
+    pub id: u32,
+}
+
+impl Foot {
+    /// The bytes of the footer: its mark and the id.
+    pub fn bytes(&self) -> [u8; 5]
+        ensures { result ≡ foot self.now.id }
+    {
+        let mut bytes = [Mark::Footer.byte(), 0, 0, 0, 0];
+        BigEndian::write_u32(&mut bytes[1..], self.id);
+        bytes
+    }
+
+    /// The footer whose bytes these are, or `None` exactly where the first byte is not the mark of a footer.
+    pub fn read(bytes: [u8; 5]) -> Option<Foot>
+        ensures some { IfSome result (λ footer. foot footer.id ≡ bytes) }
+        ensures none { IsNone result ↔ (slice_index bytes 0 ≢ 0x7e) }
+    {
+        if bytes[0] != Mark::Footer.byte() {
+            return None;
+        }
+        Some(Foot {
+            id: BigEndian::read_u32(&bytes[1..]),
+        })
+    }
+}
