@@ -1,0 +1,55 @@
+-- What a well-formed set has, description by description.
+use Rattle.std.proofs.Common.{◌≡◌, ℕ, zero, suc, ◌<◌, ◌≤◌, List, [], ◌∷◌, length, get_or, Option, Some, None, refl, sym, subst, arith, Bool, true, false, ◌&&◌, nat_le, is_none}
+use Rattle.std.proofs.lemmas.Bool.{and_parts, leb-true}
+use Rattle.vms_spec.specs.declared.Place.{Place}
+use Rattle.vms_spec.specs.declared.Part.TheVariants as parts
+use Rattle.vms_spec.specs.Lists.{at, every, or_else, first_answer}
+use Rattle.vms_spec.specs.Sets.{Set}
+use Rattle.vms_spec.specs.Names.{is_name, is_name_byte}
+use Rattle.vms_spec.specs.WellFormed.{failing, here, set_rules, size_rules, struct_fault, device_fault, first_fault}
+use Rattle.vms_desc.specs.Formed.{is_well_formed}
+
+no_fault : {X : Type 0} (o : Option X) → is_none o ≡ true → o ≡ None
+no_fault None e = refl
+no_fault (Some x) e = cc
+
+or_else_none : {X : Type 0} (x y : Option X) → or_else x y ≡ None → (x ≡ None) × (y ≡ None)
+or_else_none (Some x) y e = cc
+or_else_none None y e = (refl, e)
+
+abbrev AllTrue : List Bool → Type 0
+AllTrue [] = Unit {0}
+AllTrue (b ∷ rules) = (b ≡ true) × AllTrue rules
+
+all_true : (r : ℕ) (rules : List Bool) (p : Place) → failing r rules p ≡ None → AllTrue rules
+all_true r [] p e = tt
+all_true r (true ∷ rules) p e = (refl, all_true (suc r) rules p e)
+all_true r (false ∷ rules) p e = cc
+
+every_at : {X : Type 0} (p : X → Bool) (xs : List X) (i : ℕ) (d : X) → every p xs ≡ true → i < length xs → p (get_or xs i d) ≡ true
+every_at p [] i d e lt = absurd (omega arith)
+every_at p (x ∷ xs) zero d e lt = (and_parts (p x) (every p xs) e).0
+every_at p (x ∷ xs) (suc i) d e lt = every_at p xs i d (and_parts (p x) (every p xs) e).1 (omega arith)
+
+name_short : (most : ℕ) (name : List ℕ) → is_name most name ≡ true → length name ≤ most
+name_short most name e =
+    let p = and_parts (nat_le 1 (length name) && nat_le (length name) most) (every is_name_byte name) e in
+    let q = and_parts (nat_le 1 (length name)) (nat_le (length name) most) p.0 in
+    leb-true (length name) most q.1
+
+-- what stands at a number
+pub at_get : {X : Type 0} (xs : List X) (i : ℕ) (d : X) → i < length xs → at xs i ≡ Some (get_or xs i d)
+at_get [] i d lt = absurd (omega arith)
+at_get (x ∷ xs) zero d lt = refl
+at_get (x ∷ xs) (suc i) d lt = at_get xs i d (omega arith)
+
+module _ (set : Set) (well : is_well_formed set ≡ true) where
+  set_clean : AllTrue (set_rules set)
+  unfolding first_fault
+  set_clean =
+      let devices = or_else (first_answer (device_fault set) 0 set.devices) (failing 1 (size_rules set) (here parts.Set)) in
+      let a = or_else_none (failing 1 (set_rules set) (here parts.Set)) (or_else (first_answer (struct_fault set.structs) 0 set.structs) devices) (no_fault (first_fault set) well) in
+      all_true 1 (set_rules set) (here parts.Set) a.0
+
+  pub machine_short : (m : ℕ) (name : List ℕ) → m < length set.machines → name ≡ get_or set.machines m name → length name ≤ 64
+  machine_short m name lt e = name_short 64 name (subst (λ (n : List ℕ). is_name 64 n ≡ true) (sym e) (every_at (is_name 64) set.machines m name set_clean.0 lt))

@@ -1,0 +1,4 @@
+pub mod Growing
+pub mod Sections
+pub mod Formed
+pub mod First

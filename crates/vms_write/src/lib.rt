@@ -1,0 +1,17 @@
+//! The writer: images as sections and as a whole stream.
+#![tactic(auto)]
+
+mod body;
+mod heads;
+mod pieces;
+mod readiness;
+mod section;
+mod stream;
+
+pub use readiness::ready;
+pub use section::write_section;
+pub use stream::write_stream;
+
+/// The sink failed; its count of faults has risen.
+#[derive(Clone, Copy, Debug, PartialEq, Eq)]
+pub struct WriteFault;

@@ -1,0 +1,104 @@
+// Whole streams.
+ghost use Rattle.std.specs.Prelude.{◌≡◌, ◌<◌, ◌≤◌, true, length, map, IfSome, OnOk, OnErr};
+ghost use Rattle.std.specs.Option.{option_copied};
+ghost use Rattle.std.specs.Io.KnownBytes.{Appends};
+ghost use Rattle.vms_io.specs.Causes.{HasCause, AppendsPrefix};
+ghost use Rattle.vms_spec.specs.Lists.{at_option};
+ghost use Rattle.vms_spec.specs.Streams.{written, written_sections, longest_text, stream_head, optional, configuration, trailer, end_mark};
+ghost use Rattle.vms_spec.specs.Shipped.{set_0};
+ghost use Rattle.vms_desc.specs.Described.{described};
+ghost use Rattle.vms_write.specs.Writing.{AreReady};
+
+use crate::WriteFault;
+use crate::heads::{STREAM_HEAD, configuration, marked};
+use crate::pieces::append;
+use crate::section::write_section;
+use vms_desc::DescSet;
+use vms_image::Image;
+use vms_io::Sink;
+
+/// Appends the stream of these images, one for each device in the set's order: with a configuration where a
+/// machine of the set is named by its number, and with a description section where its text is given, of at
+/// most 16,777,216 bytes. After a fault a prefix of it was appended.
+pub fn write_stream<K: Sink>(
+    set: &DescSet,
+    machine: Option<u32>,
+    images: &[Image],
+    text: Option<&str>,
+    sink: &mut K,
+) -> Result<(), WriteFault>
+    requires first { described set.now ≡ set_0 }
+    requires machine { IfSome machine (λ m. m < length (described set.now).machines) }
+    requires ready { AreReady (described set.now) images.now }
+    requires text { IfSome text (λ t. length t.now ≤ longest_text) }
+    ensures ok { OnOk result (Appends (K.written sink.old) (K.written sink.new) (written (described set.now) (at_option (described set.now).machines machine) images.now (option_copied text.entry))) }
+    ensures err { OnErr result (AppendsPrefix (K.written sink.old) (K.written sink.new) (written (described set.now) (at_option (described set.now).machines machine) images.now (option_copied text.entry))) }
+    ensures cause { HasCause (K.faults sink.old) (K.faults sink.new) result }
+    ensures promise { K.promise sink.new ≡ K.promise sink.old }
+{
+    append(sink, &STREAM_HEAD)?;
+    write_configuration(set, machine, sink)?;
+    write_sections(set, images, sink)?;
+    append(sink, &[0x00])?;
+    write_text(text, sink)
+}
+
+// A configuration, where a machine is named.
+fn write_configuration<K: Sink>(
+    set: &DescSet,
+    machine: Option<u32>,
+    sink: &mut K,
+) -> Result<(), WriteFault>
+    requires { IfSome machine (λ m. m < length (described set.now).machines) }
+    ensures ok { OnOk result (Appends (K.written sink.old) (K.written sink.new) (optional configuration (at_option (described set.now).machines machine))) }
+    ensures err { OnErr result (AppendsPrefix (K.written sink.old) (K.written sink.new) (optional configuration (at_option (described set.now).machines machine))) }
+    ensures cause { HasCause (K.faults sink.old) (K.faults sink.new) result }
+    ensures promise { K.promise sink.new ≡ K.promise sink.old }
+{
+    match machine {
+        Some(number) => {
+            let name = set.parts().machines.as_slice()[number as usize].as_bytes();
+            append(sink, configuration(name).as_slice())
+        }
+        None => Ok(()),
+    }
+}
+
+fn write_sections<K: Sink>(set: &DescSet, images: &[Image], sink: &mut K) -> Result<(), WriteFault>
+    requires first { described set.now ≡ set_0 }
+    requires ready { AreReady (described set.now) images.now }
+    ensures ok { OnOk result (Appends (K.written sink.old) (K.written sink.new) (written_sections (described set.now) 0 (described set.now).devices images.now)) }
+    ensures err { OnErr result (AppendsPrefix (K.written sink.old) (K.written sink.new) (written_sections (described set.now) 0 (described set.now).devices images.now)) }
+    ensures cause { HasCause (K.faults sink.old) (K.faults sink.new) result }
+    ensures promise { K.promise sink.new ≡ K.promise sink.old }
+{
+    for (device, image) in images.iter().enumerate() {
+        write_section(set, device as u32, image, sink)?;
+    }
+    Ok(())
+}
+
+// A description section, where there is a text.
+fn write_text<K: Sink>(text: Option<&str>, sink: &mut K) -> Result<(), WriteFault>
+    requires { IfSome text (λ t. length t.now ≤ longest_text) }
+    ensures ok { OnOk result (Appends (K.written sink.old) (K.written sink.new) (optional trailer (option_copied text.entry))) }
+    ensures err { OnErr result (AppendsPrefix (K.written sink.old) (K.written sink.new) (optional trailer (option_copied text.entry))) }
+    ensures cause { HasCause (K.faults sink.old) (K.faults sink.new) result }
+    ensures promise { K.promise sink.new ≡ K.promise sink.old }
+{
+    match text {
+        Some(text) => write_trailer(text, sink),
+        None => Ok(()),
+    }
+}
+
+fn write_trailer<K: Sink>(text: &str, sink: &mut K) -> Result<(), WriteFault>
+    requires { length text.now ≤ longest_text }
+    ensures ok { OnOk result (Appends (K.written sink.old) (K.written sink.new) (trailer text.now)) }
+    ensures err { OnErr result (AppendsPrefix (K.written sink.old) (K.written sink.new) (trailer text.now)) }
+    ensures cause { HasCause (K.faults sink.old) (K.faults sink.new) result }
+    ensures promise { K.promise sink.new ≡ K.promise sink.old }
+{
+    append(sink, &marked(0x06, text.len() as u32))?;
+    append(sink, text.as_bytes())
+}
