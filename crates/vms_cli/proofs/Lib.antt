@@ -1,1 +1,3 @@
 pub mod EndLemmas
+pub mod PackLemmas
+pub mod ReadyLemmas

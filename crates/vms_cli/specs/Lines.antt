@@ -3,6 +3,8 @@ use Rattle.std.specs.Prelude.{ℕ, Bool, List, [], ◌∷◌, ◌++◌, Option, 
 use Rattle.std.specs.Fmt.{decimal}
 use Rattle.vms_spec.specs.declared.Reason.{Reason}
 use Rattle.vms_spec.specs.declared.Reason.TheVariants as reasons
+use Rattle.vms_spec.specs.declared.ValuesReason.{ValuesReason}
+use Rattle.vms_spec.specs.declared.ValuesReason.TheVariants as values
 use Rattle.vms_spec.specs.Sets.{Device, Set}
 use Rattle.vms_spec.specs.Streams.{at}
 
@@ -72,3 +74,23 @@ write_fault = codes "write fault" ++ 10 ∷ []
 
 abbrev pub out_of_memory : List ℕ
 out_of_memory = codes "out of memory" ++ 10 ∷ []
+
+abbrev pub shelf_fault : List ℕ
+shelf_fault = codes "shelf fault" ++ 10 ∷ []
+
+abbrev pub not_there_line : List ℕ → List ℕ
+not_there_line name = codes "not there: " ++ (name ++ 10 ∷ [])
+
+abbrev pub too_large_line : List ℕ → List ℕ
+too_large_line name = codes "too large: " ++ (name ++ 10 ∷ [])
+
+abbrev pub values_reason_text : ValuesReason → List ℕ
+values_reason_text values.Form = codes "Form"
+values_reason_text values.Number = codes "Number"
+values_reason_text values.Count = codes "Count"
+values_reason_text values.Absent = codes "Absent"
+values_reason_text values.Invalid = codes "Invalid"
+values_reason_text values.Needed = codes "Needed"
+
+abbrev pub values_line : ℕ → ValuesReason → List ℕ
+values_line line reason = codes "values line " ++ (decimal line ++ (codes ": " ++ (values_reason_text reason ++ 10 ∷ [])))

@@ -3,6 +3,7 @@
 
 mod ending;
 mod notes;
+mod pack;
 mod show;
 mod top;
 mod words;

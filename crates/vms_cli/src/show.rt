@@ -18,7 +18,7 @@ use vms_io::{NoMemory, Sink, Source, write_all_of};
 use vms_load::{LoadFault, Loader};
 
 pub(crate) fn show<I: Source, O: Sink>(alloc: Global, input: &mut I, out: &mut O) -> Ending
-    ensures content { IfSome (I.left input.old) (λ bytes. EndsAs (shown (reading bytes)) bytes (I.left input.new) (O.written out.old) (O.written out.new) result) }
+    ensures content { IfSome (I.left input.old) (λ bytes. EndsAs (Some bytes) (I.left input.new) (O.written out.old) (O.written out.new) result (shown (reading bytes))) }
     ensures cause { ShowCause (I.faults input.old) (I.faults input.new) (O.faults out.old) (O.faults out.new) (O.written out.old) (O.written out.new) result }
 {
     let Ok(mut loader) = loader(alloc) else {

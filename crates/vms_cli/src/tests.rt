@@ -113,3 +113,88 @@ fn names_failing_calls_and_bad_words(rt: HostRuntime) -> Result<(), Fail> {
     }
     Ok(())
 }
+
+// Packs the name `v` from a shelf that holds this text under it, where these calls fail.
+fn pack(alloc: Global, name: &str, text: Vec<u8>, failing: &[u32]) -> Result<Seen, Fail> {
+    let mut words = Words::new(alloc);
+    for word in ["pack", "@0", name] {
+        words.push(word)?;
+    }
+    let mut input = MemSource::new(Vec::new(alloc), Vec::new(alloc), Vec::new(alloc));
+    let mut out = MemSink::new(alloc, 200, Vec::new(alloc))?;
+    let mut notes = MemSink::new(alloc, 200, Vec::new(alloc))?;
+    let mut shelf = MemShelf::new(alloc, failing.to_vec(alloc)?);
+    shelf.put("v", text)?;
+    let status = vmstate(alloc, &words, &mut input, &mut out, &mut notes, &mut shelf);
+    Ok(Seen { status, out, notes })
+}
+
+const WITH_MACHINE: [u8; 51] =
+    *b"QEVM\x00\x00\x00\x03\x07\x00\x00\x00\x05isa-0\x04\x00\x00\x00\x00\x05timer\x00\x00\x00\x00\x00\x00\x00\x01\x00\x00\x00\x00\x00\x00\x00\x00\x7e\x00\x00\x00\x00\x00";
+
+#[test]
+fn packs_and_refuses_texts(rt: HostRuntime) -> Result<(), Fail> {
+    let alloc = rt.alloc();
+    let cases: [(&[u8], u8, &[u8], &[u8]); 7] = [
+        (b"section timer 0 v1\nnow = 0\n", 0, &SMALLEST, b""),
+        (
+            b"machine isa-0\nsection timer 0 v1\nnow = 0\n",
+            0,
+            &WITH_MACHINE,
+            b"",
+        ),
+        (
+            b"section timer 0 v1\nnow = 18446744073709551615\n",
+            0,
+            &GREATEST,
+            b"",
+        ),
+        (
+            b"section timer 0 v1\nnow = 18446744073709551616\n",
+            3,
+            b"",
+            b"values line 2: Number\n",
+        ),
+        (
+            b"section timer 0 v1\nnow = 00\n",
+            3,
+            b"",
+            b"values line 2: Number\n",
+        ),
+        (b"section timer 0 v1\n", 3, b"", b"values line 2: Form\n"),
+        (
+            b"section timer 0 v1\nnow = 0\n\n",
+            3,
+            b"",
+            b"values line 3: Form\n",
+        ),
+    ];
+    for (text, status, stream, line) in cases {
+        let seen = pack(alloc, "v", text.to_vec(alloc)?, &[])?;
+        assert_eq!(rt; seen.status, status);
+        assert_eq!(rt; seen.out.bytes(), stream);
+        assert_eq!(rt; seen.notes.bytes(), line);
+    }
+    Ok(())
+}
+
+#[test]
+fn names_what_the_shelf_lacks(rt: HostRuntime) -> Result<(), Fail> {
+    let alloc = rt.alloc();
+    let cases: [(&str, usize, &[u32], u8, &[u8]); 7] = [
+        ("none", 0, &[], 8, b"not there: none\n"),
+        ("v", 0, &[1], 7, b"shelf fault\n"),
+        ("v", 1_048_577, &[], 9, b"too large: v\n"),
+        ("v", 1_048_576, &[], 3, b"values line 1: Form\n"),
+        ("a/b", 0, &[], 2, b"bad words\n"),
+        (".v", 0, &[], 2, b"bad words\n"),
+        ("", 0, &[], 2, b"bad words\n"),
+    ];
+    for (name, long, failing, status, line) in cases {
+        let seen = pack(alloc, name, vec![in alloc; b'x'; long]?, failing)?;
+        assert_eq!(rt; seen.status, status);
+        assert_eq!(rt; seen.out.bytes(), b"".as_slice());
+        assert_eq!(rt; seen.notes.bytes(), line);
+    }
+    Ok(())
+}

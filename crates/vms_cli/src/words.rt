@@ -1,16 +1,22 @@
 // The words after the program's name.
-ghost use Rattle.std.specs.Prelude.{◌≡◌, ◌∷◌, ◌++◌, [], OnOk, OnErr};
-ghost use Rattle.vms_cli.specs.Commands.{command_of};
+ghost use Rattle.std.specs.Prelude.{◌≡◌, ◌==◌, ◌&&◌, ◌∷◌, ◌++◌, [], OnOk, OnErr, Some, None, codes, get_or, nat_le, if◌then◌else◌};
+ghost use Rattle.std.specs.List.{list_all};
+ghost use Rattle.std.specs.Str.{bytes_eq};
+ghost use Rattle.std.specs.Option.{option_map};
+ghost use Rattle.vms_cli.specs.Commands.{Show, Pack, asked_of, is_set_0, is_shelf_name, is_name_byte};
+ghost use Rattle.vms_cli.specs.Asks.{asked};
 
 use std::alloc::Global;
 use std::marker::Model;
 use vms_io::NoMemory;
 
 /// What the words ask for.
-#[derive(Clone, Copy, Debug, PartialEq, Eq)]
-pub(crate) enum Command {
+#[derive(Clone, Copy)]
+pub(crate) enum Command<'a> {
     /// `show @0`
     Show,
+    /// `pack @0 VALUES`
+    Pack { values: &'a str },
 }
 
 /// The words after the program's name, in order.
@@ -50,12 +56,68 @@ impl Words {
     }
 
     // The command that the words name, or none.
-    pub(crate) fn command(&self) -> Option<Command>
-        ensures { result ≡ command_of self.now }
+    pub(crate) fn command(&self) -> Option<Command<'_>>
+        ensures { option_map asked result ≡ asked_of self.now }
     {
         match self.words.as_slice() {
-            [name, set] if name.as_str() == "show" && set.as_str() == "@0" => Some(Command::Show),
+            [name, set] => show_of(name.as_str(), set.as_str()),
+            [name, set, values] => pack_of(name.as_str(), set.as_str(), values.as_str()),
             _ => None,
         }
     }
+}
+
+fn show_of<'a>(name: &str, set: &str) -> Option<Command<'a>>
+    ensures { option_map asked result ≡ (if bytes_eq name.now (codes "show") && is_set_0 set.now then Some Show else None) }
+{
+    if name == "show" && set == "@0" {
+        Some(Command::Show)
+    } else {
+        None
+    }
+}
+
+fn pack_of<'a>(name: &str, set: &str, values: &'a str) -> Option<Command<'a>>
+    ensures { option_map asked result ≡ (if bytes_eq name.now (codes "pack") && is_set_0 set.now && is_shelf_name values.now then Some (Pack values.now) else None) }
+{
+    if name == "pack" && set == "@0" && is_shelf_name(values) {
+        Some(Command::Pack { values })
+    } else {
+        None
+    }
+}
+
+// 1 to 64 letters, digits, `_`, `-` and `.`, not beginning with a dot.
+fn is_shelf_name(name: &str) -> bool
+    ensures { result ≡ is_shelf_name name.now }
+{
+    let bytes = name.as_bytes();
+    is_name_length(bytes.len()) && are_name_bytes(bytes) && !begins_with_dot(bytes)
+}
+
+fn is_name_length(length: usize) -> bool
+    ensures { result ≡ (nat_le 1 length && nat_le length 64) }
+{
+    1 <= length && length <= 64
+}
+
+fn are_name_bytes(bytes: &[u8]) -> bool
+    ensures { result ≡ list_all is_name_byte bytes.now }
+{
+    bytes.iter().all(|b| is_name_byte(*b))
+}
+
+fn begins_with_dot(bytes: &[u8]) -> bool
+    ensures { result ≡ (get_or bytes.now 0 46 == 46) }
+{
+    match bytes.first() {
+        Some(first) => *first == b'.',
+        None => true,
+    }
+}
+
+fn is_name_byte(b: u8) -> bool
+    ensures { result ≡ is_name_byte b }
+{
+    matches!(b, b'a'..=b'z' | b'A'..=b'Z' | b'0'..=b'9' | b'_' | b'-' | b'.')
 }

@@ -8,7 +8,7 @@ use std::env;
 use std::io::{BufReader, BufWriter, ErrorKind};
 use std::process::ExitCode;
 use vms_cli::{Words, vmstate};
-use vms_io::{MemShelf, NoMemory, Sink, StdSink, StdSource, write_all_of};
+use vms_io::{FileShelf, NoMemory, Sink, StdSink, StdSource, write_all_of};
 
 const OUT_OF_MEMORY: u8 = 10;
 
@@ -25,10 +25,12 @@ fn main(rt: HostRuntime) -> ExitCode {
     let Ok(writer) = BufWriter::new(alloc, rt.stdout()) else {
         return ExitCode::from(OUT_OF_MEMORY);
     };
+    let Ok(mut shelf) = shelf(&rt, alloc) else {
+        return ExitCode::from(OUT_OF_MEMORY);
+    };
     let mut input = StdSource::new(reader);
     let mut out = StdSink::new(writer);
     let mut notes = StdSink::new(rt.stderr());
-    let mut shelf = MemShelf::new(alloc, Vec::new(alloc));
     let status = vmstate(alloc, &words, &mut input, &mut out, &mut notes, &mut shelf);
     let flushed = out.flush().is_ok();
     ExitCode::from(late_status(status, flushed, &mut notes))
@@ -47,6 +49,12 @@ fn words(rt: &HostRuntime, alloc: Global) -> Result<Words, NoMemory> {
         Err(_) => words.push("")?,
     }
     Ok(words)
+}
+
+// The files of the current folder.
+fn shelf(rt: &HostRuntime, alloc: Global) -> Result<FileShelf<HostRuntime>, NoMemory> {
+    let folder = String::from_str(alloc, ".")?;
+    Ok(FileShelf::new(rt.clone()?, folder))
 }
 
 // The status, or that of a write fault where the last bytes of out weren't taken.

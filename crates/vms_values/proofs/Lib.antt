@@ -1,0 +1,6 @@
+pub mod DeviceLemmas
+pub mod NumberLemmas
+pub mod PrintLemmas
+pub mod ReadLemmas
+pub mod TextLemmas
+pub mod Writing

@@ -1,0 +1,16 @@
+use Rattle.std.proofs.Common.{◌+◌, drop, refl, ap}
+use Rattle.std.proofs.lemmas.List.{drop_all}
+use Rattle.vms_values.specs.Written.{joined}
+use Rattle.vms_values.proofs.Writing.{joined_at}
+use Rattle.vms_values.proofs.TextLemmas.{joined_on, joined_off}
+use Rattle.vms_values.proofs.text.is_joined.Goals as goal
+
+pub returns-in-None : goal.returns-in-None
+returns-in-None c =
+    joined_off c.loop-piece.rest.now _ _ (joined (drop (c.loop-piece.piece-index + 1) c.args.pieces.now)) _ c.loop-piece.invariant
+    (joined_at c.args.pieces.now c.loop-piece.piece-index _ c.loop-piece-test.true) c.in-None.ensures.cases
+
+pub loop-piece-preserved : goal.loop-piece-preserved
+loop-piece-preserved c =
+    joined_on c.loop-piece.rest.now _ _ _ (joined (drop (c.loop-piece.piece-index + 1) c.args.pieces.now)) _ c.loop-piece.invariant
+    (joined_at c.args.pieces.now c.loop-piece.piece-index _ c.loop-piece-test.true) c.in-Some.ensures.cases.0 c.in-Some.ensures.cases.1

@@ -1,0 +1,9 @@
+pub mod FirstLine
+pub mod Machines
+pub mod Paths
+pub mod Plain
+pub mod Printing
+pub mod Reading
+pub mod Spelled
+pub mod Tables
+pub mod Written

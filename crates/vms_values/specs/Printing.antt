@@ -1,0 +1,34 @@
+-- What is printed, and of which images.
+use Rattle.std.specs.Prelude.{◌≡◌, ℕ, ◌<◌, ◌^◌, List, [], ◌∷◌, ◌++◌, length, get_or, Option, ℤ, pos, codes}
+use Rattle.std.specs.Option.{option_map}
+use Rattle.std.specs.Fmt.{decimal, signed_decimal}
+use Rattle.vms_spec.specs.Sets.{Device, Set}
+use Rattle.vms_spec.specs.Layout.{device_cells}
+use Rattle.vms_spec.specs.Images.{Image}
+use Rattle.vms_spec.specs.Values.{line_end}
+
+-- the name of the machine of a number
+abbrev pub machine_of : Set → Option ℕ → Option (List ℕ)
+machine_of set machine = option_map (λ m. get_or set.machines m []) machine
+
+-- an image of the device: as many numbers as it has cells, and something for each subsection
+pub record IsOf (set : Set) (d : Device) (image : Image) : Type 0 where
+  pub cells : length image.numbers ≡ length (device_cells set d)
+  pub subs : length image.came ≡ length d.subs
+  pub few : length image.numbers < 2 ^ 32
+
+-- one for each device
+abbrev pub AreOf : Set → List Device → List Image → Type 0
+AreOf set [] [] = Unit {0}
+AreOf set [] (image ∷ images) = ⊥
+AreOf set (d ∷ devices) [] = ⊥
+AreOf set (d ∷ devices) (image ∷ images) = IsOf set d image × AreOf set devices images
+
+-- the line of a section
+abbrev pub section_text : Device → ℕ → List ℕ
+section_text d version =
+    codes "section " ++ (d.desc.name ++ (codes " " ++ (decimal d.instance ++ (codes " v" ++ (decimal version ++ line_end)))))
+
+-- the line of a cell
+abbrev pub field_text : List ℕ → List ℤ → ℕ → List ℕ
+field_text path numbers at = path ++ (codes " = " ++ (signed_decimal (get_or numbers at (pos 0)) ++ line_end))

@@ -1,0 +1,30 @@
+// What is read of a text, and what can go wrong.
+use vms_image::Image;
+use vms_io::NoMemory;
+use vms_spec::ValuesReason;
+
+/// The sink failed.
+#[derive(Clone, Copy, Debug, PartialEq, Eq)]
+pub struct WriteFault;
+
+/// What a values text says: the number of the machine that it names, and an image for each device.
+#[derive(Drop)]
+pub struct Values {
+    pub machine: Option<u32>,
+    pub images: Vec<Image>,
+}
+
+/// Why a values text gives no values.
+#[derive(Clone, Copy, Debug, PartialEq, Eq)]
+pub enum ValuesFault {
+    /// The text is refused at this line, counted from 1.
+    Bad { line: u32, reason: ValuesReason },
+    /// Memory is wanting.
+    NoMemory,
+}
+
+impl From<NoMemory> for ValuesFault {
+    fn from(_: NoMemory) -> Self {
+        ValuesFault::NoMemory
+    }
+}

@@ -1,0 +1,17 @@
+//! The values text of a board's images: printed, and read back.
+#![tactic(auto)]
+
+mod cursor;
+mod fault;
+mod lines;
+mod machine;
+mod numbers;
+mod path;
+mod print;
+mod read;
+mod text;
+
+pub use fault::{Values, ValuesFault, WriteFault};
+pub use print::print_values;
+pub use read::read_values;
+pub use vms_spec::ValuesReason;

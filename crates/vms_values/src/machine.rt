@@ -1,0 +1,68 @@
+// The line that names a machine.
+ghost use Rattle.std.specs.Prelude.{◌<◌, length, OnSome};
+ghost use Rattle.vms_spec.specs.Spelling.{first_line};
+ghost use Rattle.vms_spec.specs.ValuesReading.{machine_named};
+ghost use Rattle.vms_values.specs.Machines.{IsMachine, IsMachineLine, StartsAt};
+
+use crate::cursor::Lines;
+use crate::text::next_line;
+use vms_desc::Text;
+
+/// The number of the machine that a text names, and what follows.
+#[derive(Clone, Copy)]
+pub(crate) struct Start<'a> {
+    pub(crate) machine: Option<u32>,
+    pub(crate) lines: Lines<'a>,
+}
+
+/// Reads the line of a machine, if the text begins with one that names a machine of these.
+pub(crate) fn read_machine<'a>(machines: &[Text], text: &'a [u8]) -> Start<'a>
+    requires small { length text.now < 4294967296 }
+    requires few { length machines.now < 4294967296 }
+    ensures { StartsAt machines.now text.now (machine_named machines.now (first_line text.now)) result }
+{
+    if let Some(line) = next_line(text) {
+        if let Some(machine) = machine_in(machines, line.text) {
+            let lines = Lines {
+                rest: line.after,
+                line: 2,
+            };
+            return Start {
+                machine: Some(machine),
+                lines,
+            };
+        }
+    }
+    Start {
+        machine: None,
+        lines: Lines {
+            rest: text,
+            line: 1,
+        },
+    }
+}
+
+/// The number of the machine that a line names, if it does.
+fn machine_in(machines: &[Text], line: &[u8]) -> Option<u32>
+    requires { length machines.now < 4294967296 }
+    ensures named { IsMachineLine machines.now line.now result }
+    ensures long { OnSome result (0 < length line.now) }
+{
+    match line.strip_prefix(b"machine ") {
+        Some(name) => find_machine(machines, name),
+        None => None,
+    }
+}
+
+/// The number of the first machine of this name.
+fn find_machine(machines: &[Text], name: &[u8]) -> Option<u32>
+    requires { length machines.now < 4294967296 }
+    ensures { IsMachine machines.now name.now result }
+{
+    for (i, machine) in machines.iter().enumerate() {
+        if machine.as_bytes() == name {
+            return Some(i as u32);
+        }
+    }
+    None
+}

@@ -1,0 +1,65 @@
+// Numbers as they are spelled.
+ghost use Rattle.std.specs.Prelude.{◌≡◌, ◌&&◌, ◌||◌, ◌==◌, nat_le, not, Some, length, get_or};
+ghost use Rattle.vms_spec.specs.Spelling.{number_spelled};
+ghost use Rattle.vms_values.specs.Spelled.{natural_spelled, with_digit, held};
+
+use vms_kinds::Kind;
+
+/// The number that a text spells, or `None` exactly where it spells none or one that the kind doesn't hold.
+pub(crate) fn read_number(kind: Kind, text: &[u8]) -> Option<i128>
+    ensures { result ≡ held kind (number_spelled text.now) }
+{
+    match text.strip_prefix(b"-") {
+        Some(digits) => match read_natural(digits) {
+            Some(0) | None => None,
+            Some(value) => if_held(kind, -(value as i128)),
+        },
+        None => match read_natural(text) {
+            Some(value) => if_held(kind, value as i128),
+            None => None,
+        },
+    }
+}
+
+/// The number, if the kind holds it.
+fn if_held(kind: Kind, number: i128) -> Option<i128>
+    ensures { result ≡ held kind (Some number) }
+{
+    if kind.in_range(number) {
+        Some(number)
+    } else {
+        None
+    }
+}
+
+/// The number of these digits, or `None` exactly where they are no digits, have a leading zero, or spell
+/// 2^64 or more.
+fn read_natural(digits: &[u8]) -> Option<u64>
+    ensures { result ≡ natural_spelled digits.now }
+{
+    if !is_unpadded(digits) {
+        return None;
+    }
+    let mut value: u64 = 0;
+    for digit in digits {
+        value = next_value(value, *digit)?;
+    }
+    Some(value)
+}
+
+/// Tells whether there is a digit, and no zero before others.
+fn is_unpadded(digits: &[u8]) -> bool
+    ensures { result ≡ (length digits.now == 1 || (nat_le 2 (length digits.now) && not (get_or digits.now 0 48 == 48))) }
+{
+    digits.len() == 1 || digits.len() >= 2 && digits[0] != b'0'
+}
+
+/// A number with one more digit, or `None` exactly where that is no digit, or the number is 2^64 or more.
+fn next_value(value: u64, digit: u8) -> Option<u64>
+    ensures { result ≡ with_digit value digit }
+{
+    if !digit.is_ascii_digit() {
+        return None;
+    }
+    value.checked_mul(10)?.checked_add(u64::from(digit - b'0'))
+}

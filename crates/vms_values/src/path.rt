@@ -1,0 +1,89 @@
+// Where a cell stands in a device.
+ghost use Rattle.std.specs.Prelude.{◌≡◌, ◌++◌, codes};
+ghost use Rattle.std.specs.Fmt.{decimal};
+ghost use Rattle.vms_io.specs.Causes.{HasCause};
+ghost use Rattle.vms_values.specs.Written.{Writes};
+ghost use Rattle.vms_values.specs.Paths.{path_text};
+ghost use Rattle.vms_values.specs.Spelled.{Strips};
+
+use crate::lines::write_pieces;
+use itoa::Buffer;
+use vms_io::{Failed, Sink, write_all_of};
+
+/// The path of a field or of an element: its last part, and what stands before it.
+#[derive(Clone, Copy)]
+pub(crate) enum Path<'a> {
+    /// Nothing: the fields of a device or a subsection stand by their names alone.
+    Top,
+    /// A field of this name.
+    Field {
+        before: &'a Path<'a>,
+        name: &'a [u8],
+    },
+    /// An element of an array.
+    Element {
+        array: &'a Path<'a>,
+        index: u32,
+    },
+    /// The fields of a structure.
+    Inside(&'a Path<'a>),
+}
+
+/// Appends the text of a path.
+pub(crate) fn write_path<K: Sink>(sink: &mut K, path: &Path) -> Result<(), Failed>
+    ensures written { Writes (K.written sink.old) (K.written sink.new) (path_text path.now) result }
+    ensures cause { HasCause (K.faults sink.old) (K.faults sink.new) result }
+    ensures promise { K.promise sink.new ≡ K.promise sink.old }
+{
+    match path {
+        Path::Top => Ok(()),
+        Path::Field { before, name } => {
+            write_path(sink, before)?;
+            write_all_of(sink, name)
+        }
+        Path::Element { array, index } => {
+            write_path(sink, array)?;
+            let mut digits = Buffer::new();
+            write_pieces(sink, &[b"[", digits.format(*index).as_bytes(), b"]"])
+        }
+        Path::Inside(path) => {
+            write_path(sink, path)?;
+            write_all_of(sink, b".")
+        }
+    }
+}
+
+/// What stands in a line after a path, if it begins with it.
+pub(crate) fn strip_path<'a>(path: &Path, line: &'a [u8]) -> Option<&'a [u8]>
+    ensures { Strips (path_text path.now) line.now result }
+{
+    match path {
+        Path::Top => Some(line),
+        Path::Field { before, name } => match strip_path(before, line) {
+            Some(rest) => rest.strip_prefix(*name),
+            None => None,
+        },
+        Path::Element { array, index } => match strip_path(array, line) {
+            Some(rest) => strip_index(rest, *index),
+            None => None,
+        },
+        Path::Inside(path) => match strip_path(path, line) {
+            Some(rest) => rest.strip_prefix(b"."),
+            None => None,
+        },
+    }
+}
+
+/// What stands after an element's number in brackets.
+fn strip_index<'a>(line: &'a [u8], index: u32) -> Option<&'a [u8]>
+    ensures { Strips (codes "[" ++ (decimal index ++ codes "]")) line.now result }
+{
+    let mut digits = Buffer::new();
+    match line.strip_prefix(b"[") {
+        Some(rest) => match rest.strip_prefix(digits.format(index).as_bytes()) {
+            Some(rest) => rest.strip_prefix(b"]"),
+            None => None,
+        },
+        None => None,
+    }
+}
