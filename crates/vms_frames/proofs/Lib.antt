@@ -1,0 +1,5 @@
+pub mod FillLemmas
+pub mod UnitLemmas
+pub mod HeadLemmas
+pub mod JudgedLemmas
+pub mod Steps

@@ -1,0 +1,21 @@
+//! The units of a migration stream, read from any source.
+//!
+//! A [`Cursor`] reads one unit a call and says its place in the stream. It knows the marks and the forms of
+//! the units, and no description set: whether a machine, a device or a version is the wanted one is asked by
+//! its caller. Each unit is judged when it is whole, and no byte behind it is taken.
+#![tactic(auto)]
+
+mod cursor;
+mod fault;
+mod fill;
+pub mod laws;
+mod read;
+mod units;
+
+pub use cursor::Cursor;
+pub use fault::{FrameFault, Refusal};
+pub use units::{After, Between, Step};
+pub use vms_spec::Reason;
+
+#[cfg(test)]
+mod tests;
