@@ -1,7 +1,7 @@
 //! The program: it makes the real outside, calls `vmstate` once and ends with its status.
 #![tactic(auto)]
 
-ghost use Rattle.std.specs.Prelude.{◌≡◌, ◌⊎◌, IsTrue};
+ghost use Rattle.std.specs.Prelude.{◌≡◌, if◌then◌else◌};
 
 use std::alloc::Global;
 use std::env;
@@ -59,12 +59,13 @@ fn shelf(rt: &HostRuntime, alloc: Global) -> Result<FileShelf<HostRuntime>, NoMe
 
 // The status, or that of a write fault where the last bytes of out weren't taken.
 fn late_status<N: Sink>(status: u8, flushed: bool, notes: &mut N) -> u8
-    ensures kept { IsTrue flushed → result ≡ status }
-    ensures late { result ≡ status ⊎ result ≡ WRITE_FAULT }
+    ensures { result ≡ (if flushed then status else WRITE_FAULT) }
 {
-    if flushed || status == WRITE_FAULT {
+    if flushed {
         return status;
     }
-    let _told = write_all_of(notes, b"write fault\n");
+    if status != WRITE_FAULT {
+        let _told = write_all_of(notes, b"write fault\n");
+    }
     WRITE_FAULT
 }
