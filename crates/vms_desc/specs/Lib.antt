@@ -1,3 +1,6 @@
 pub mod Described
 pub mod Formed
-pub mod Views
+pub mod Forms
+pub mod Numbers
+pub mod Parts
+pub mod Scopes

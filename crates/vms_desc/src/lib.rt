@@ -1,18 +1,16 @@
 //! Description sets: which devices a stream has sections of, and what stands in them.
 //!
-//! The types follow VMState's `VMStateDescription` and `VMStateField`. A set is well formed, and so every
-//! layer above takes one `DescSet` and judges nothing of it again.
+//! A set is well formed, and so every layer above takes one `DescSet` and judges nothing of it again.
 #![tactic(auto)]
 
-mod listed;
+mod eval;
+mod forms;
 mod set;
 mod shipped;
-mod types;
 
-pub use listed::{Listed, Text};
+pub use eval::Cells;
 pub use set::DescSet;
-pub use types::{CellForm, Desc, Device, Field, Parts, Sub, Test};
-pub use vms_spec::{Count, Rel, Whose};
+pub use vms_parts::{CellForm, Count, Desc, Device, Field, Listed, Part, Parts, Place, Rel, Sub, Test, Text, Whose};
 
 #[cfg(test)]
 mod tests;

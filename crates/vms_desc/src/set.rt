@@ -1,26 +1,37 @@
 // A well-formed description set.
-ghost use Rattle.std.specs.Prelude.{true, [], get_or, ◌≤◌, ◌<◌, ◌==◌, ◌&&◌, ◌≡◌, ℕ, length, IfOk, map};
+ghost use Rattle.std.specs.Prelude.{true, [], get_or, ◌≤◌, ◌<◌, ◌+◌, ◌==◌, ◌&&◌, ◌≡◌, ℕ, length, IfOk, IfSome, map};
+ghost use Rattle.std.specs.Option.{option_map};
 ghost use Rattle.std.specs.Str.{bytes_eq};
-ghost use Rattle.vms_spec.specs.Layout.{device_cells};
+ghost use Rattle.vms_spec.specs.Layout.{device_cells, struct_cells, numbers_of};
+ghost use Rattle.vms_spec.specs.Places.{own_cell_count};
+ghost use Rattle.vms_spec.specs.Tests.{truth};
 ghost use Rattle.vms_spec.specs.Judging.{find_device};
-ghost use Rattle.vms_spec.specs.Shipped.{set_0};
-ghost use Rattle.vms_desc.specs.Formed.{is_well_formed};
-ghost use Rattle.vms_desc.specs.Views.{set_of, device_of, form_of, layout_of};
+ghost use Rattle.vms_desc.specs.Formed.{is_well_formed, shipped_set};
+ghost use Rattle.vms_desc.specs.Numbers.{sizes_of, fields_in};
+ghost use Rattle.vms_desc.specs.Parts.{HasPart, HasParentCells, desc_at, parent_of, parent_fields, is_placed};
+ghost use Rattle.vms_parts.specs.Sizes.{in_u32};
+ghost use Rattle.vms_parts.specs.Views.{set_of, formula, desc_of, device_of, form_of, layout_of};
 
-use crate::shipped::isa_0;
-use crate::{CellForm, Device, Listed, Parts};
-use std::alloc::Global;
+use crate::eval::{Scope, holds};
+use crate::forms::layout;
+use crate::shipped::shipped_parts;
+use vms_parts::{Measure, size_of_fields, struct_sizes};
+use crate::{CellForm, Cells, Desc, Device, Listed, Part, Parts, Test};
+use std::alloc::{AllocError, Global};
 use vms_io::NoMemory;
-use vms_kinds::Kind;
 
 /// A well-formed set, with the cells of each device laid out beside it.
 #[derive(Drop)]
 pub struct DescSet {
     parts: Parts,
+    // The forms of each device's cells.
     layout: Listed<Listed<CellForm>>,
+    // How many cells each structure has, at most 2^32 - 1.
+    sizes: Listed<u32>,
     ghost well_formed: { is_well_formed (set_of parts) ≡ true },
     ghost few: { length parts.devices ≤ 64 },
     ghost laid: { layout ≡ layout_of (set_of parts) },
+    ghost sized: { sizes ≡ sizes_of (set_of parts) },
     ghost small: { (k : ℕ) → length (get_or layout k []) ≤ 16384 },
 }
 
@@ -29,18 +40,24 @@ impl DescSet {
 
     /// The shipped set of this number, as the newest program of that number writes it.
     pub fn shipped(alloc: Global, s: u8) -> Result<DescSet, NoMemory>
-        requires { s ≡ 0 }
-        ensures { IfOk result (λ set. described set ≡ set_0) }
+        requires { s ≤ 3 }
+        ensures { IfOk result (λ set. described set ≡ shipped_set s) }
     {
-        let _only = s;
-        let parts = isa_0(alloc)?;
-        let now = CellForm {
-            kind: Kind::U64,
-            default: 0,
-        };
-        let timer = Listed::new(vec![in alloc; now]?);
-        let layout = Listed::new(vec![in alloc; timer]?);
-        Ok(DescSet { parts, layout })
+        Ok(Self::assemble(alloc, shipped_parts(alloc, s)?)?)
+    }
+
+    // The set of parts that are well formed, laid out.
+    fn assemble(alloc: Global, parts: Parts) -> Result<DescSet, AllocError>
+        requires { is_well_formed (set_of parts) ≡ true }
+        ensures { IfOk result (λ set. described set ≡ set_of parts) }
+    {
+        let layout = layout(alloc, &parts)?;
+        let sizes = struct_sizes(alloc, Measure::Cells, parts.structs.as_slice())?;
+        Ok(DescSet {
+            parts,
+            layout,
+            sizes: Listed::new(sizes),
+        })
     }
 
     /// The parts that the set is made of.
@@ -80,6 +97,71 @@ impl DescSet {
         ensures few { length result.now ≤ 16384 }
     {
         self.layout.as_slice()[device as usize].as_slice()
+    }
+
+    // The description of a part.
+    fn desc(&self, part: Part) -> &Desc
+        requires { HasPart (described self.now) part }
+        ensures { desc_of result.now ≡ desc_at (described self.now) part }
+    {
+        match part {
+            Part::Set => unreachable!(),
+            Part::Struct(number) => &self.parts.structs.as_slice()[number as usize],
+            Part::Device(number) => &self.device(number).desc,
+            Part::Sub(device, number) => {
+                &self.device(device).subs.as_slice()[number as usize].desc
+            }
+        }
+    }
+
+    /// How many cells the fields of a structure, a device or a subsection have, without those of a device's
+    /// subsections. Of a structure that no device uses it is at most 2^32 - 1.
+    pub fn cells_of(&self, desc: Part) -> u32
+        requires { HasPart (described self.now) desc }
+        ensures { result ≡ in_u32 (own_cell_count (described self.now) (desc_at (described self.now) desc)) }
+    {
+        let fields = self.desc(desc).fields.as_slice();
+        size_of_fields(Measure::Cells, self.sizes.as_slice(), fields)
+    }
+
+    // What a test of a part may ask of its device.
+    fn parent(&self, part: Part) -> Option<Scope<'_>>
+        requires { HasPart (described self.now) part }
+        ensures fields { option_map fields_in result ≡ parent_fields (described self.now) part }
+        ensures base { IfSome result (λ scope. scope.base ≡ 0) }
+    {
+        match part {
+            Part::Sub(device, _) => Some(Scope {
+                fields: self.device(device).desc.fields.as_slice(),
+                base: 0,
+            }),
+            _ => None,
+        }
+    }
+
+    /// Whether a test holds at a version, where `base` is the first cell of the part, or of one element of a
+    /// structure. A needed test may ask its subsection's numbers and its device's.
+    pub fn eval<C: Cells>(
+        &self,
+        desc: Part,
+        base: u32,
+        test: &Test,
+        version: u32,
+        cells: &C,
+    ) -> bool
+        requires part { HasPart (described self.now) desc }
+        requires placed { is_placed (described self.now) desc (formula test.now) ≡ true }
+        requires few { length (C.numbers cells.now) ≤ 16384 }
+        requires own { base + own_cell_count (described self.now) (desc_at (described self.now) desc) ≤ length (C.numbers cells.now) }
+        requires parent { HasParentCells (described self.now) desc (length (C.numbers cells.now)) }
+        ensures { result ≡ truth (formula test.now) version (numbers_of (struct_cells (described self.now)) (desc_at (described self.now) desc) (C.numbers cells.now) base) (parent_of (described self.now) desc (C.numbers cells.now)) }
+    {
+        let own = Scope {
+            fields: self.desc(desc).fields.as_slice(),
+            base,
+        };
+        let parent = self.parent(desc);
+        holds(test, version, self.sizes.as_slice(), own, parent, cells)
     }
 }
 

@@ -1,15 +1,36 @@
 // The shipped sets.
-ghost use Rattle.std.specs.Prelude.{◌≡◌, length, IfOk};
-ghost use Rattle.vms_spec.specs.Shipped.{set_0, timer, now};
-ghost use Rattle.vms_desc.specs.Views.{set_of, device_of, field_of};
+ghost use Rattle.std.specs.Prelude.{◌≡◌, ◌≤◌, IfOk};
+ghost use Rattle.vms_spec.specs.Shipped.{set_0, set_1, set_2, set_3};
+ghost use Rattle.vms_desc.specs.Formed.{shipped_set};
+ghost use Rattle.vms_parts.specs.Views.{set_of};
 
-use crate::{Count, Desc, Device, Field, Listed, Parts, Text};
+mod chips;
+mod serial;
+mod words;
+
+use crate::shipped::chips::{i8254_at_1, i8254_at_2, i8259_at_1, i8259_at_2, pit_channel, timer};
+use crate::shipped::serial::{serial_at_1, serial_at_2, serial_at_3};
+use crate::shipped::words::text;
+use crate::{Listed, Parts};
 use std::alloc::Global;
 use vms_io::NoMemory;
 use vms_kinds::{Item, Kind};
 
-// Set 0: the machine isa-0 with a timer alone.
-pub(crate) fn isa_0(alloc: Global) -> Result<Parts, NoMemory>
+// The shipped set of this number.
+pub(crate) fn shipped_parts(alloc: Global, s: u8) -> Result<Parts, NoMemory>
+    requires { s ≤ 3 }
+    ensures { IfOk result (λ parts. set_of parts ≡ shipped_set s) }
+{
+    match s {
+        0 => isa_0(alloc),
+        1 => isa_1(alloc),
+        2 => isa_2(alloc),
+        _ => isa_3(alloc),
+    }
+}
+
+// The machine isa-0 with a timer alone.
+fn isa_0(alloc: Global) -> Result<Parts, NoMemory>
     ensures { IfOk result (λ parts. set_of parts ≡ set_0) }
 {
     Ok(Parts {
@@ -19,39 +40,55 @@ pub(crate) fn isa_0(alloc: Global) -> Result<Parts, NoMemory>
     })
 }
 
-fn text(alloc: Global, bytes: &str) -> Result<Text, NoMemory>
-    ensures { IfOk result (λ t. t ≡ bytes.now) }
+fn isa_1(alloc: Global) -> Result<Parts, NoMemory>
+    ensures { IfOk result (λ parts. set_of parts ≡ set_1) }
 {
-    Ok(Text::new(String::from_str(alloc, bytes)?))
-}
-
-fn timer(alloc: Global) -> Result<Device, NoMemory>
-    ensures { IfOk result (λ d. device_of d ≡ timer) }
-{
-    let fields = vec![in alloc; now(alloc)?]?;
-    Ok(Device {
-        instance: 0,
-        desc: Desc {
-            name: text(alloc, "timer")?,
-            version: 1,
-            minimum: 1,
-            fields: Listed::new(fields),
-            validate: Listed::new(Vec::new(alloc)),
-        },
-        subs: Listed::new(Vec::new(alloc)),
+    let gate = Item::Equal {
+        kind: Kind::U8,
+        value: 1,
+    };
+    let machines = vec![in alloc; text(alloc, "isa-1")?]?;
+    let structs = vec![in alloc; pit_channel(alloc, gate)?]?;
+    let mut devices = vec![in alloc; timer(alloc)?, i8259_at_1(alloc, 0)?, i8259_at_1(alloc, 1)?]?;
+    devices.push(i8254_at_1(alloc)?)?;
+    devices.push(serial_at_1(alloc)?)?;
+    Ok(Parts {
+        machines: Listed::new(machines),
+        structs: Listed::new(structs),
+        devices: Listed::new(devices),
     })
 }
 
-fn now(alloc: Global) -> Result<Field, NoMemory>
-    ensures { IfOk result (λ f. field_of f ≡ now) }
+fn isa_2(alloc: Global) -> Result<Parts, NoMemory>
+    ensures { IfOk result (λ parts. set_of parts ≡ set_2) }
 {
-    Ok(Field {
-        name: text(alloc, "now")?,
-        former: Listed::new(Vec::new(alloc)),
-        item: Item::Num(Kind::U64),
-        count: Count::One,
-        since: 0,
-        test: None,
-        default: 0,
+    let machines = vec![in alloc; text(alloc, "isa-1")?, text(alloc, "isa-2")?]?;
+    let structs = vec![in alloc; pit_channel(alloc, Item::Unused { bytes: 1 })?]?;
+    let mut devices = vec![in alloc; timer(alloc)?, i8259_at_2(alloc, 0)?, i8259_at_2(alloc, 1)?]?;
+    devices.push(i8254_at_2(alloc)?)?;
+    devices.push(serial_at_2(alloc)?)?;
+    Ok(Parts {
+        machines: Listed::new(machines),
+        structs: Listed::new(structs),
+        devices: Listed::new(devices),
+    })
+}
+
+fn isa_3(alloc: Global) -> Result<Parts, NoMemory>
+    ensures { IfOk result (λ parts. set_of parts ≡ set_3) }
+{
+    let machines = vec![in alloc;
+        text(alloc, "isa-1")?,
+        text(alloc, "isa-2")?,
+        text(alloc, "isa-3")?,
+    ]?;
+    let structs = vec![in alloc; pit_channel(alloc, Item::Unused { bytes: 1 })?]?;
+    let mut devices = vec![in alloc; timer(alloc)?, i8259_at_2(alloc, 0)?, i8259_at_2(alloc, 1)?]?;
+    devices.push(i8254_at_2(alloc)?)?;
+    devices.push(serial_at_3(alloc)?)?;
+    Ok(Parts {
+        machines: Listed::new(machines),
+        structs: Listed::new(structs),
+        devices: Listed::new(devices),
     })
 }

@@ -5,9 +5,9 @@ use Rattle.std.proofs.lemmas.Simd.{map-map}
 use Rattle.vms_spec.specs.Sets as sets
 use Rattle.vms_spec.specs.Images.{Image, default_image}
 use Rattle.vms_spec.specs.Layout.{device_cells}
-use Rattle.vms_desc.specs.Views.{device_of, sub_of, form_of}
-use Rattle.vms_desc.specs.declared.types.Device.{Device}
-use Rattle.vms_desc.specs.declared.types.CellForm.{CellForm}
+use Rattle.vms_parts.specs.Views.{device_of, sub_of, form_of}
+use Rattle.vms_parts.specs.declared.types.Device.{Device}
+use Rattle.vms_parts.specs.declared.types.CellForm.{CellForm}
 
 -- the same in each place
 pub map-same : {X Y : Type 0} (y : Y) (xs : List X) → map (λ x. y) xs ≡ replicate (length xs) y
@@ -25,6 +25,6 @@ module _ (set : sets.Set) (d : sets.Device) (device : Device) (is : device_of de
       → image.numbers ≡ map (λ form. form.default) forms → image ≡ default_image set d
   made image v c n =
       same_image image (default_image set d)
-      (v ∙ ap (λ (x : sets.Device). x.desc.version) is)
-      (c ∙ sym (map-same None device.subs) ∙ sym (map-map (λ s. None) sub_of device.subs) ∙ ap (λ (x : sets.Device). map (λ s. None) x.subs) is)
-      (n ∙ ap (λ (l : List CellForm). map (λ form. form.default) l) laid ∙ map-map (λ form. form.default) form_of (device_cells set d))
+        (v ∙ ap (λ (x : sets.Device). x.desc.version) is)
+        (c ∙ sym (map-same None device.subs) ∙ sym (map-map (λ s. None) sub_of device.subs) ∙ ap (λ (x : sets.Device). map (λ s. None) x.subs) is)
+        (n ∙ ap (λ (l : List CellForm). map (λ form. form.default) l) laid ∙ map-map (λ form. form.default) form_of (device_cells set d))

@@ -6,7 +6,7 @@ ghost use Rattle.vms_spec.specs.Layout.{device_cells};
 
 use std::alloc::{AllocError, Global};
 use std::marker::Model;
-use vms_desc::{CellForm, DescSet};
+use vms_desc::{CellForm, Cells, DescSet};
 use vms_io::NoMemory;
 
 /// The state of one device: the version of its section, the version of each subsection that came, and the
@@ -50,13 +50,6 @@ impl Image {
         self.version = set.device(device).desc.version;
         clear(&mut self.came);
         put_defaults(&mut self.numbers, set.cell_forms(device));
-    }
-
-    /// The numbers of the cells, in order.
-    pub fn numbers(&self) -> &[i128]
-        ensures { result.now ≡ self.now.numbers }
-    {
-        &self.numbers
     }
 
     /// The number of a cell.
@@ -103,6 +96,14 @@ impl Image {
         ensures { self.new ≡ record self.old { came = slice_set self.old.came sub version } }
     {
         self.came[sub as usize] = version;
+    }
+}
+
+impl Cells for Image {
+    ghost numbers = { λ image. image.numbers };
+
+    fn number(&self, cell: u32) -> i128 {
+        self.get(cell)
     }
 }
 

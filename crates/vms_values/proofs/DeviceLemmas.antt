@@ -12,8 +12,8 @@ use Rattle.vms_spec.specs.Readiness.{rules_are_true}
 use Rattle.vms_spec.specs.Shipped.{set_0, timer}
 use Rattle.vms_spec.specs.Spelling.{first_line}
 use Rattle.vms_spec.specs.ValuesReading.{BadLine, Standing, Read, Reader, reader, readers, ReadDevice, ReadSubs, ReadAll, ValuesRead, Values, Bad, bad, read_desc, read_subs, next_line, section_line, is_line, then_subs, with_device, device_read as device_reads, read_device, read_devices, ended, judged, answer_of, judge_devices, judge_device, or_bad, if_bad, values_read, after_machine, machine_named, rest_of}
-use Rattle.vms_desc.specs.Views.{set_of, desc_of}
-use Rattle.vms_desc.specs.declared.types.Desc.{Desc as CodeDesc}
+use Rattle.vms_parts.specs.Views.{set_of, desc_of}
+use Rattle.vms_parts.specs.declared.types.Desc.{Desc as CodeDesc}
 use Rattle.vms_values.specs.declared.cursor.Lines.{Lines}
 use Rattle.vms_values.specs.declared.fault.Values.{Values as Given}
 use Rattle.vms_values.specs.declared.fault.ValuesFault.{ValuesFault}

@@ -10,13 +10,13 @@ use Rattle.vms_spec.specs.declared.Count.TheVariants.{One, Fixed, Counted}
 use Rattle.vms_spec.specs.Sets.{Field, Desc, Sub, Device, Set, Formula}
 use Rattle.std.specs.List.{flat_map}
 use Rattle.vms_io.specs.Causes.{AppendsPrefix}
-use Rattle.vms_desc.specs.declared.types.Field.{Field as CodeField}
-use Rattle.vms_desc.specs.declared.types.Device.{Device as CodeDevice}
+use Rattle.vms_parts.specs.declared.types.Field.{Field as CodeField}
+use Rattle.vms_parts.specs.declared.types.Device.{Device as CodeDevice}
 use Rattle.vms_spec.specs.Layout.{Cell, first, field_cells, cells_from, desc_cells, struct_cells, device_cells}
 use Rattle.vms_spec.specs.Images.{Image, own_cells}
 use Rattle.vms_spec.specs.Values.{Printer, printer, printers, line_end, array_lines, field_lines, desc_lines, sub_lines, device_lines, devices_lines}
-use Rattle.vms_desc.specs.Views.{set_of, desc_of, field_of, device_of}
-use Rattle.vms_desc.specs.declared.types.Parts.{Parts}
+use Rattle.vms_parts.specs.Views.{set_of, desc_of, field_of, device_of}
+use Rattle.vms_parts.specs.declared.types.Parts.{Parts}
 use Rattle.vms_values.specs.Written.{Writes}
 use Rattle.vms_values.specs.Plain.{ArePlain, IsPlainField, IsPlainDevice, IsNumber, IsOne}
 use Rattle.vms_values.specs.Printing.{IsOf, AreOf, section_text, field_text}

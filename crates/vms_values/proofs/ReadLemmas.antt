@@ -22,8 +22,8 @@ use Rattle.vms_spec.specs.Streams.{is_one_of}
 use Rattle.vms_values.specs.Machines.{IsMachine}
 use Rattle.vms_spec.specs.Spelling.{first_line, begins_with, number_spelled}
 use Rattle.vms_spec.specs.ValuesReading.{BadLine, Standing, Read, Reader, reader, readers, cells_of, ReadDevice, ReadSubs, ReadAll, bad, put_line, put_number, read_fields, read_field, read_desc, read_subs, next_line, rest_of, section_line, is_line, then_subs, with_device, device_read as device_reads, read_device, read_devices, ◌>>=◌}
-use Rattle.vms_desc.specs.Views.{set_of, desc_of, field_of}
-use Rattle.vms_desc.specs.declared.types.Desc.{Desc as CodeDesc}
+use Rattle.vms_parts.specs.Views.{set_of, desc_of, field_of}
+use Rattle.vms_parts.specs.declared.types.Desc.{Desc as CodeDesc}
 use Rattle.vms_values.specs.declared.text.Line.{Line}
 use Rattle.vms_values.specs.declared.cursor.Lines.{Lines}
 use Rattle.vms_values.specs.declared.fault.ValuesFault.{ValuesFault}

@@ -4,8 +4,8 @@ use Rattle.vms_spec.specs.Sets.{Desc}
 use Rattle.vms_spec.specs.Layout.{Cell, first, desc_cells}
 use Rattle.vms_spec.specs.Values.{Printer, printer}
 use Rattle.vms_spec.specs.ValuesReading.{Reader, reader}
-use Rattle.vms_desc.specs.Views.{desc_of}
-use Rattle.vms_desc.specs.declared.types.Desc.{Desc as Described}
+use Rattle.vms_parts.specs.Views.{desc_of}
+use Rattle.vms_parts.specs.declared.types.Desc.{Desc as Described}
 
 abbrev pub table : {B : Type 0} → (List B → Desc → B) → List Described → List B
 table f structs = first f (map desc_of structs) (length structs)

@@ -6,7 +6,7 @@ ghost use Rattle.vms_io.specs.Causes.{HasCause};
 ghost use Rattle.vms_spec.specs.Shipped.{set_0};
 ghost use Rattle.vms_spec.specs.Values.{values_text, machine_line, line_end, devices_lines, device_lines, desc_lines};
 ghost use Rattle.vms_desc.specs.Described.{described};
-ghost use Rattle.vms_desc.specs.Views.{set_of, desc_of, device_of, field_of};
+ghost use Rattle.vms_parts.specs.Views.{set_of, desc_of, device_of, field_of};
 ghost use Rattle.vms_values.specs.Written.{Writes};
 ghost use Rattle.vms_values.specs.Paths.{path_text};
 ghost use Rattle.vms_values.specs.Tables.{printers_in};

@@ -7,7 +7,7 @@ ghost use Rattle.vms_spec.specs.Spelling.{first_line};
 ghost use Rattle.vms_spec.specs.Layout.{kind_of, device_cells};
 ghost use Rattle.vms_spec.specs.ValuesReading.{values_read, read_devices as devices_read, section_line, is_line, read_desc};
 ghost use Rattle.vms_desc.specs.Described.{described, device_at};
-ghost use Rattle.vms_desc.specs.Views.{desc_of, device_of, field_of};
+ghost use Rattle.vms_parts.specs.Views.{desc_of, device_of, field_of};
 ghost use Rattle.vms_values.specs.Paths.{path_text};
 ghost use Rattle.vms_values.specs.Tables.{readers_in};
 ghost use Rattle.vms_values.specs.Plain.{IsPlainSet, IsPlainDevice, ArePlain, IsPlainField};

@@ -1,10 +1,10 @@
 use Rattle.std.proofs.Common.{arith, ap, List, []}
 use Rattle.vms_spec.specs.Values.{desc_lines}
-use Rattle.vms_desc.specs.declared.types.Desc.{Desc as CodeDesc}
+use Rattle.vms_parts.specs.declared.types.Desc.{Desc as CodeDesc}
 use Rattle.vms_values.specs.Tables.{printers_in}
 use Rattle.std.proofs.lemmas.Result.{err_from_is_err_and}
 use Rattle.std.proofs.lemmas.List.{length-map}
-use Rattle.vms_desc.specs.Views.{set_of, desc_of, device_of, field_of}
+use Rattle.vms_parts.specs.Views.{set_of, desc_of, device_of, field_of}
 use Rattle.vms_values.proofs.Writing.{writes_more}
 use Rattle.vms_values.proofs.PrintLemmas.{same_text, device_text, device_stops, plain_cells}
 use Rattle.vms_values.proofs.print.print_device.Goals as goal

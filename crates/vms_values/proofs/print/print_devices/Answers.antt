@@ -1,7 +1,7 @@
 use Rattle.std.proofs.Common.{◌≡◌, ◌+◌, ◌<◌, ℕ, List, ◌∷◌, length, map, drop, ap, ◌∙◌, arith, subst}
 use Rattle.std.proofs.lemmas.Result.{err_from_is_err_and}
 use Rattle.std.proofs.lemmas.List.{length-map}
-use Rattle.vms_desc.specs.Views.{set_of, device_of}
+use Rattle.vms_parts.specs.Views.{set_of, device_of}
 use Rattle.vms_values.specs.Plain.{ArePlainDevices}
 use Rattle.vms_values.proofs.Writing.{owes_less, owes_still}
 use Rattle.vms_values.proofs.PrintLemmas.{devices_at, images_at, of_next, of_room, devices_next}

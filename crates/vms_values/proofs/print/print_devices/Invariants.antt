@@ -1,6 +1,6 @@
 use Rattle.std.proofs.Common.{◌≡◌, ◌≤◌, drop, map}
 use Rattle.vms_spec.specs.Values.{devices_lines}
-use Rattle.vms_desc.specs.Views.{set_of, device_of}
+use Rattle.vms_parts.specs.Views.{set_of, device_of}
 use Rattle.vms_values.specs.Plain.{ArePlainDevices}
 use Rattle.vms_values.specs.Printing.{AreOf}
 use Rattle.vms_values.proofs.Writing.{Owes}

@@ -1,7 +1,7 @@
 use Rattle.std.proofs.Common.{◌≡◌, ◌+◌, ◌≤◌, drop, map}
 use Rattle.vms_spec.specs.Layout.{numbers_of}
 use Rattle.vms_spec.specs.Values.{desc_lines, field_lines}
-use Rattle.vms_desc.specs.Views.{desc_of, field_of}
+use Rattle.vms_parts.specs.Views.{desc_of, field_of}
 use Rattle.vms_values.specs.Paths.{path_text}
 use Rattle.vms_values.specs.Plain.{ArePlain}
 use Rattle.vms_values.specs.Tables.{printers_in}

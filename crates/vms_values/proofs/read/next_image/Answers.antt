@@ -5,7 +5,7 @@ use Rattle.vms_spec.specs.Images.{Image}
 use Rattle.vms_spec.specs.Layout.{device_cells}
 use Rattle.vms_spec.specs.ValuesReading.{readers}
 use Rattle.vms_desc.specs.Described.{described, device_at}
-use Rattle.vms_desc.specs.Views.{desc_of, device_of, field_of}
+use Rattle.vms_parts.specs.Views.{desc_of, device_of, field_of}
 use Rattle.vms_values.specs.Reading.{standing, device_read, image_read}
 use Rattle.vms_values.specs.Tables.{readers_in}
 use Rattle.vms_values.proofs.DeviceLemmas.{readers_are}

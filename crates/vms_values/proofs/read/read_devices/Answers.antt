@@ -4,7 +4,7 @@ use Rattle.vms_spec.specs.Sets.{Set, Device}
 use Rattle.vms_spec.specs.Images.{Image}
 use Rattle.vms_spec.specs.ValuesReading.{read_devices}
 use Rattle.vms_desc.specs.Described.{described, device_at}
-use Rattle.vms_desc.specs.Views.{device_of}
+use Rattle.vms_parts.specs.Views.{device_of}
 use Rattle.vms_values.specs.Plain.{ArePlainDevices}
 use Rattle.vms_values.specs.Reading.{image_read}
 use Rattle.vms_values.proofs.DeviceLemmas.{Gathers, gathers_next, gathers_stop, gather_fails, on_true}

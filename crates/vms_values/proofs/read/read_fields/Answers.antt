@@ -2,7 +2,7 @@ use Rattle.std.proofs.Common.{◌≡◌, ◌+◌, ◌<◌, ℕ, List, ◌∷◌,
 use Rattle.std.proofs.lemmas.Result.{err_from_is_err_and}
 use Rattle.vms_spec.specs.Images.{Image}
 use Rattle.vms_spec.specs.ValuesReading.{BadLine}
-use Rattle.vms_desc.specs.Views.{desc_of, field_of}
+use Rattle.vms_parts.specs.Views.{desc_of, field_of}
 use Rattle.vms_values.specs.Paths.{path_text}
 use Rattle.vms_values.specs.Plain.{ArePlain}
 use Rattle.vms_values.specs.Reading.{standing}

@@ -7,7 +7,7 @@ use Rattle.vms_kinds.specs.Codes.{code}
 use Rattle.vms_spec.specs.Sets.{Device}
 use Rattle.vms_spec.specs.Streams.{section_head, foot, written_section}
 use Rattle.vms_desc.specs.Described.{described, device_at}
-use Rattle.vms_desc.specs.Views.{device_of}
+use Rattle.vms_parts.specs.Views.{device_of}
 use Rattle.vms_write.proofs.Growing.{prefix_front, prefix_more, on_fault, last_fails, last_appends}
 use Rattle.vms_write.proofs.First.{section_first, short_first, fits_first}
 use Rattle.vms_write.proofs.section.write_section.Goals as goal

@@ -3,13 +3,13 @@ use Rattle.std.specs.Prelude.{List, map}
 use Rattle.std.specs.Option.{option_map}
 use Rattle.vms_spec.specs.Sets as sets
 use Rattle.vms_spec.specs.Layout.{Cell, device_cells}
-use Rattle.vms_desc.specs.declared.types.CellForm.{CellForm}
-use Rattle.vms_desc.specs.declared.types.Test.{Test, AtLeast, Below, Cell as Number, Not', And', Or'}
-use Rattle.vms_desc.specs.declared.types.Field.{Field}
-use Rattle.vms_desc.specs.declared.types.Desc.{Desc}
-use Rattle.vms_desc.specs.declared.types.Sub.{Sub}
-use Rattle.vms_desc.specs.declared.types.Device.{Device}
-use Rattle.vms_desc.specs.declared.types.Parts.{Parts}
+use Rattle.vms_parts.specs.declared.types.CellForm.{CellForm}
+use Rattle.vms_parts.specs.declared.types.Test.{Test, AtLeast, Below, Cell as Number, Not', And', Or'}
+use Rattle.vms_parts.specs.declared.types.Field.{Field}
+use Rattle.vms_parts.specs.declared.types.Desc.{Desc}
+use Rattle.vms_parts.specs.declared.types.Sub.{Sub}
+use Rattle.vms_parts.specs.declared.types.Device.{Device}
+use Rattle.vms_parts.specs.declared.types.Parts.{Parts}
 
 abbrev pub formula : Test → sets.Formula
 formula (AtLeast n) = sets.AtLeast n

@@ -1,0 +1,70 @@
+-- Numbers by sizes are the numbers of the definition.
+use Rattle.std.proofs.Common.{◌≡◌, ℕ, zero, suc, ◌+◌, ◌*◌, ◌<◌, ◌≤◌, List, [], ◌∷◌, ◌++◌, length, length-append, get_or, take, map, refl, sym, ap, ◌∙◌, arith, Bool, not, ◌&&◌, ◌||◌, bit_and, ℤ, pos}
+use Rattle.std.specs.List.{flat_map}
+use Rattle.std.proofs.lemmas.Simd.{map-map}
+use Rattle.vms_kinds.specs.Codes.{width, residue}
+use Rattle.vms_spec.specs.declared.Whose.TheVariants.{Own, Parent}
+use Rattle.vms_spec.specs.Sets.{Formula, AtLeast, Below, Cell, Not, And, Or, Field, Desc, Sub, Device, Set}
+use Rattle.vms_spec.specs.Tests.{truth, compares}
+use Rattle.vms_spec.specs.Layout.{Cell as OneCell, no_field, kind_of, capacity_of, place_of, field_cells, desc_cells, struct_cells, numbers_of}
+use Rattle.vms_laws.proofs.Places.{field_size}
+use Rattle.vms_parts.specs.declared.sizes.Measure.TheVariants.{Cells}
+use Rattle.vms_parts.specs.Sizes.{in_u32, size_of, fields_size}
+use Rattle.vms_desc.specs.Numbers.{sizes_of, place_in, number_in}
+use Rattle.vms_desc.proofs.CellSizes.{item_sizes, cells_size}
+use Rattle.vms_parts.proofs.SizeLaws.{capped_fields}
+
+pub truth_same : (t : Formula) (v : ℕ) (own now parent then : ℕ → ℕ) → ((k : ℕ) → own k ≡ now k) → ((k : ℕ) → parent k ≡ then k) → truth t v own parent ≡ truth t v now then
+truth_same (AtLeast n) v own now parent then h i = refl
+truth_same (Below n) v own now parent then h i = refl
+truth_same (Cell Own k mask rel value) v own now parent then h i = ap (λ (n : ℕ). compares rel (bit_and n mask) value) (h k)
+truth_same (Cell Parent k mask rel value) v own now parent then h i = ap (λ (n : ℕ). compares rel (bit_and n mask) value) (i k)
+truth_same (Not t) v own now parent then h i = ap not (truth_same t v own now parent then h i)
+truth_same (And s t) v own now parent then h i =
+    ap (λ b. b && truth t v own parent) (truth_same s v own now parent then h i) ∙ ap (λ b. truth s v now then && b) (truth_same t v own now parent then h i)
+truth_same (Or s t) v own now parent then h i =
+    ap (λ b. b || truth t v own parent) (truth_same s v own now parent then h i) ∙ ap (λ b. truth s v now then || b) (truth_same t v own now parent then h i)
+
+pub place_is : (cs : List (List OneCell)) (fields : List Field) (i base : ℕ) (fs : List Field) (k : ℕ) → place_of cs fields i base fs k ≡ base + fields_size Cells (map length cs) (take k fs)
+place_is cs fields i base [] zero = omega arith
+place_is cs fields i base [] (suc k) = omega arith
+place_is cs fields i base (f ∷ fs) zero = omega arith
+place_is cs fields i base (f ∷ fs) (suc k) =
+    let h : length (field_cells cs fields i f) ≡ capacity_of f.count * size_of Cells (map length cs) f.item =
+    field_size cs fields i f ∙ ap (λ (n : ℕ). capacity_of f.count * n) (item_sizes cs f.item) in
+    omega (arith, h, place_is cs fields (suc i) (base + length (field_cells cs fields i f)) fs k)
+
+take_less : (sizes : List ℕ) (fs : List Field) (k : ℕ) → fields_size Cells sizes (take k fs) ≤ fields_size Cells sizes fs
+take_less sizes [] zero = omega arith
+take_less sizes [] (suc k) = omega arith
+take_less sizes (f ∷ fs) zero = omega arith
+take_less sizes (f ∷ fs) (suc k) = omega (arith, take_less sizes fs k)
+
+-- sizes that end at 2 ^ 32 - 1 serve where there are few cells
+pub exact : (cs : List (List OneCell)) (fs : List Field) → fields_size Cells (map length cs) fs ≤ 16384
+    → fields_size Cells (map (λ cells. in_u32 (length cells)) cs) fs ≡ fields_size Cells (map length cs) fs
+exact cs fs few =
+    let e : in_u32 (fields_size Cells (map in_u32 (map length cs)) fs) ≡ in_u32 (fields_size Cells (map length cs) fs) = capped_fields Cells (map length cs) fs in
+    let m : fields_size Cells (map in_u32 (map length cs)) fs ≡ fields_size Cells (map (λ cells. in_u32 (length cells)) cs) fs = ap (λ (l : List ℕ). fields_size Cells l fs) (map-map in_u32 length cs) in
+    omega (arith, e, m, few)
+
+module _ (set : Set) (d : Desc) (few : length (desc_cells (struct_cells set) d) ≤ 16384) where
+  pub inside_is : fields_size Cells (sizes_of set) d.fields ≡ length (desc_cells (struct_cells set) d)
+  inside_is =
+      let c = cells_size (struct_cells set) d.fields 0 d.fields in
+      exact (struct_cells set) d.fields (omega (arith, c, few)) ∙ sym c
+
+  pub number_is : (numbers : List ℤ) (base k : ℕ) → number_in (sizes_of set) d.fields numbers base k ≡ numbers_of (struct_cells set) d numbers base k
+  number_is numbers base k =
+      let c = cells_size (struct_cells set) d.fields 0 d.fields in
+      let t = take_less (map length (struct_cells set)) d.fields k in
+      let x = exact (struct_cells set) (take k d.fields) (omega (arith, c, t, few)) in
+      let p : place_in (sizes_of set) d.fields base k ≡ place_of (struct_cells set) d.fields 0 base d.fields k =
+      ap (λ (n : ℕ). base + n) x ∙ sym (place_is (struct_cells set) d.fields 0 base d.fields k) in
+      ap (λ (n : ℕ). residue (width (kind_of (get_or d.fields k no_field).item)) (get_or numbers n (pos 0))) p
+
+pub capped_cells : (set : Set) (d : Desc) → in_u32 (fields_size Cells (sizes_of set) d.fields) ≡ in_u32 (length (desc_cells (struct_cells set) d))
+capped_cells set d =
+    ap (λ (l : List ℕ). in_u32 (fields_size Cells l d.fields)) (sym (map-map in_u32 length (struct_cells set)))
+    ∙ capped_fields Cells (map length (struct_cells set)) d.fields
+    ∙ ap in_u32 (sym (cells_size (struct_cells set) d.fields 0 d.fields))

@@ -1,0 +1,141 @@
+// The truth of tests.
+ghost use Rattle.std.specs.Prelude.{◌≡◌, ◌+◌, ◌≤◌, ◌<◌, ◌*◌, ◌^◌, true, length, get_or, pos};
+ghost use Rattle.vms_kinds.specs.Codes.{width, residue};
+ghost use Rattle.vms_spec.specs.Layout.{kind_of};
+ghost use Rattle.vms_spec.specs.Rules.{names_well};
+ghost use Rattle.vms_spec.specs.Tests.{truth, compares};
+ghost use Rattle.vms_parts.specs.Views.{formula};
+ghost use Rattle.vms_desc.specs.Numbers.{number_of, number_of_parent};
+ghost use Rattle.vms_desc.specs.Scopes.{may_ask, may_ask_parent, IsInside, IsInsideParent};
+
+use vms_parts::{Measure, size_of_fields};
+use crate::{Field, Rel, Test, Whose};
+use vms_kinds::{Item, Kind};
+
+/// Numbers by cell, as an image has them.
+pub trait Cells {
+    ghost use Rattle.std.specs.Prelude.{◌≡◌, ◌<◌, List, ℤ, length, get_or, pos};
+
+    ghost numbers: { Self → List ℤ };
+
+    /// The number of a cell.
+    fn number(&self, cell: u32) -> i128
+        requires { cell < length (numbers self.now) }
+        ensures { result ≡ get_or (numbers self.now) cell (pos 0) };
+}
+
+// The fields that a test may ask, and the first cell of their description.
+#[derive(Clone, Copy)]
+pub(crate) struct Scope<'a> {
+    pub(crate) fields: &'a [Field],
+    pub(crate) base: u32,
+}
+
+// Whether a test holds at a version, where structures have these sizes.
+pub(crate) fn holds<C: Cells>(
+    test: &Test,
+    version: u32,
+    sizes: &[u32],
+    own: Scope,
+    parent: Option<Scope>,
+    cells: &C,
+) -> bool
+    requires names { names_well (may_ask own) (may_ask_parent parent) (formula test.now) ≡ true }
+    requires own { IsInside sizes.now (C.numbers cells.now) own }
+    requires parent { IsInsideParent sizes.now (C.numbers cells.now) parent }
+    requires few { length (C.numbers cells.now) ≤ 16384 }
+    ensures { result ≡ truth (formula test.now) version (number_of sizes.now (C.numbers cells.now) own.entry) (number_of_parent sizes.now (C.numbers cells.now) parent.entry) }
+{
+    match test {
+        Test::AtLeast(least) => version >= *least,
+        Test::Below(bound) => version < *bound,
+        Test::Cell {
+            whose,
+            field,
+            mask,
+            rel,
+            value,
+        } => {
+            let number = match whose {
+                Whose::Own => number_at(sizes, own, *field, cells),
+                Whose::Parent => parent_number(sizes, parent, *field, cells),
+            };
+            compare(*rel, number & *mask, *value)
+        }
+        Test::Not(inner) => !holds(inner, version, sizes, own, parent, cells),
+        Test::And(first, second) => {
+            holds(first, version, sizes, own, parent, cells)
+                && holds(second, version, sizes, own, parent, cells)
+        }
+        Test::Or(first, second) => {
+            holds(first, version, sizes, own, parent, cells)
+                || holds(second, version, sizes, own, parent, cells)
+        }
+    }
+}
+
+// The number of a field, modulo 2^(8w).
+fn number_at<C: Cells>(sizes: &[u32], scope: Scope, field: u32, cells: &C) -> u64
+    requires asked { may_ask scope field ≡ true }
+    requires inside { IsInside sizes.now (C.numbers cells.now) scope }
+    requires few { length (C.numbers cells.now) ≤ 16384 }
+    ensures { result ≡ number_of sizes.now (C.numbers cells.now) scope.entry field }
+{
+    let before = &scope.fields[..field as usize];
+    let cell = scope.base + size_of_fields(Measure::Cells, sizes, before);
+    unsigned(
+        kind_of(scope.fields[field as usize].item),
+        cells.number(cell),
+    )
+}
+
+fn parent_number<C: Cells>(sizes: &[u32], parent: Option<Scope>, field: u32, cells: &C) -> u64
+    requires asked { may_ask_parent parent field ≡ true }
+    requires inside { IsInsideParent sizes.now (C.numbers cells.now) parent }
+    requires few { length (C.numbers cells.now) ≤ 16384 }
+    ensures { result ≡ number_of_parent sizes.now (C.numbers cells.now) parent.entry field }
+{
+    match parent {
+        None => 0,
+        Some(scope) => number_at(sizes, scope, field, cells),
+    }
+}
+
+// The kind of an item's number; of another item any.
+fn kind_of(item: Item) -> Kind
+    ensures { result ≡ kind_of item }
+{
+    match item {
+        Item::Num(kind) | Item::Equal { kind, .. } => kind,
+        Item::Unused { .. } | Item::Struct(_) => Kind::U8,
+    }
+}
+
+// The number modulo 2^(8w).
+fn unsigned(kind: Kind, number: i128) -> u64
+    ensures { result ≡ residue (width kind) number }
+{
+    number.rem_euclid(modulus(kind)) as u64
+}
+
+fn modulus(kind: Kind) -> i128
+    ensures { result ≡ pos (2 ^ (8 * width kind)) }
+{
+    match kind {
+        Kind::U8 | Kind::I8 | Kind::Bool => 1 << 8,
+        Kind::U16 | Kind::I16 => 1 << 16,
+        Kind::U32 | Kind::I32 => 1 << 32,
+        Kind::U64 | Kind::I64 | Kind::Timer => 1 << 64,
+    }
+}
+
+fn compare(rel: Rel, number: u64, value: u64) -> bool
+    ensures { result ≡ compares rel number value }
+{
+    match rel {
+        Rel::Eq => number == value,
+        Rel::Ne => number != value,
+        Rel::Lt => number < value,
+        Rel::Ge => number >= value,
+    }
+}

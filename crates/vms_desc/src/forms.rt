@@ -1,0 +1,90 @@
+// The cells of a device, laid out.
+ghost use Rattle.std.specs.Prelude.{◌≡◌, ◌++◌, length, map, OnOk, IfOk};
+ghost use Rattle.vms_desc.specs.Forms.{item_forms, field_forms, fields_forms, subs_forms, device_forms, forms_to};
+ghost use Rattle.vms_parts.specs.Views.{desc_of, field_of, sub_of, device_of, set_of, layout_of};
+
+use vms_parts::capacity;
+use crate::{CellForm, Desc, Device, Field, Listed, Parts, Sub};
+use std::alloc::{AllocError, Global};
+use vms_kinds::Item;
+
+// Puts the forms of the cells of these fields after those that are there. `structs` are the structures that
+// they may use.
+#[cycle(forms)]
+pub(crate) fn put_fields(
+    structs: &[Desc],
+    fields: &[Field],
+    forms: &mut Vec<CellForm>,
+) -> Result<(), AllocError>
+    ensures { OnOk result (forms.new.items ≡ forms.old.items ++ fields_forms (forms_to (map desc_of structs.now) (length structs.now)) (map field_of fields.now)) }
+{
+    for field in fields {
+        put_field(structs, field, forms)?;
+    }
+    Ok(())
+}
+
+#[cycle(forms)]
+fn put_field(structs: &[Desc], field: &Field, forms: &mut Vec<CellForm>) -> Result<(), AllocError>
+    ensures { OnOk result (forms.new.items ≡ forms.old.items ++ field_forms (forms_to (map desc_of structs.now) (length structs.now)) (field_of field.now)) }
+{
+    for _element in 0..capacity(field.count) {
+        put_element(structs, field, forms)?;
+    }
+    Ok(())
+}
+
+#[cycle(forms)]
+fn put_element(structs: &[Desc], field: &Field, forms: &mut Vec<CellForm>) -> Result<(), AllocError>
+    ensures { OnOk result (forms.new.items ≡ forms.old.items ++ item_forms (forms_to (map desc_of structs.now) (length structs.now)) field.now.item field.now.default) }
+{
+    match field.item {
+        Item::Num(kind) => forms.push(CellForm {
+            kind,
+            default: field.default,
+        })?,
+        Item::Equal { .. } | Item::Unused { .. } => {}
+        Item::Struct(number) => {
+            let number = number as usize;
+            if number < structs.len() {
+                put_fields(&structs[..number], structs[number].fields.as_slice(), forms)?;
+            }
+        }
+    }
+    Ok(())
+}
+
+fn put_subs(structs: &[Desc], subs: &[Sub], forms: &mut Vec<CellForm>) -> Result<(), AllocError>
+    ensures { OnOk result (forms.new.items ≡ forms.old.items ++ subs_forms (forms_to (map desc_of structs.now) (length structs.now)) (map sub_of subs.now)) }
+{
+    for sub in subs {
+        put_fields(structs, sub.desc.fields.as_slice(), forms)?;
+    }
+    Ok(())
+}
+
+// The forms of a device's cells: its fields', and then each subsection's.
+fn device_cells(
+    alloc: Global,
+    structs: &[Desc],
+    device: &Device,
+) -> Result<Vec<CellForm>, AllocError>
+    ensures { IfOk result (λ forms. forms.items ≡ device_forms (forms_to (map desc_of structs.now) (length structs.now)) (device_of device.now)) }
+{
+    let mut forms = Vec::new(alloc);
+    put_fields(structs, device.desc.fields.as_slice(), &mut forms)?;
+    put_subs(structs, device.subs.as_slice(), &mut forms)?;
+    Ok(forms)
+}
+
+// Those of each device, in order.
+pub(crate) fn layout(alloc: Global, parts: &Parts) -> Result<Listed<Listed<CellForm>>, AllocError>
+    ensures { IfOk result (λ layout. layout ≡ layout_of (set_of parts.now)) }
+{
+    let mut layout = Vec::new(alloc);
+    for device in parts.devices.as_slice() {
+        let forms = device_cells(alloc, parts.structs.as_slice(), device)?;
+        layout.push(Listed::new(forms))?;
+    }
+    Ok(Listed::new(layout))
+}

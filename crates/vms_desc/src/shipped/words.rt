@@ -1,0 +1,78 @@
+// Words for tables of fields.
+ghost use Rattle.std.specs.Prelude.{◌≡◌, ◌++◌, ◌∷◌, [], map, pos, IfOk, OnOk, ℕ, List};
+ghost use Rattle.vms_spec.specs.Sets as sets;
+ghost use Rattle.vms_spec.specs.Shipped.{field, number, numbers, desc, device};
+ghost use Rattle.vms_parts.specs.Views.{field_of, desc_of, device_of, sub_of};
+
+use crate::{Count, Desc, Device, Field, Listed, Sub, Text};
+use std::alloc::Global;
+use vms_io::NoMemory;
+use vms_kinds::{Item, Kind};
+
+pub(crate) fn text(alloc: Global, bytes: &str) -> Result<Text, NoMemory>
+    ensures { IfOk result (λ t. t ≡ bytes.now) }
+{
+    Ok(Text::new(String::from_str(alloc, bytes)?))
+}
+
+pub(crate) fn field(alloc: Global, name: &str, item: Item) -> Result<Field, NoMemory>
+    ensures { IfOk result (λ f. field_of f ≡ field name.now item) }
+{
+    Ok(Field {
+        name: text(alloc, name)?,
+        former: Listed::new(Vec::new(alloc)),
+        item,
+        count: Count::One,
+        since: 0,
+        test: None,
+        default: 0,
+    })
+}
+
+pub(crate) fn number(alloc: Global, kind: Kind, name: &str) -> Result<Field, NoMemory>
+    ensures { IfOk result (λ f. field_of f ≡ number kind name.now) }
+{
+    field(alloc, name, Item::Num(kind))
+}
+
+// Puts a number of this kind for each name after the fields that are there.
+pub(crate) fn put_numbers(
+    alloc: Global,
+    fields: &mut Vec<Field>,
+    kind: Kind,
+    names: &[&str],
+) -> Result<(), NoMemory>
+    ensures { OnOk result (map field_of fields.new.items ≡ map field_of fields.old.items ++ numbers kind (map (λ n. n.now) names.now)) }
+{
+    for name in names {
+        fields.push(number(alloc, kind, name)?)?;
+    }
+    Ok(())
+}
+
+pub(crate) fn desc(
+    alloc: Global,
+    name: &str,
+    version: u32,
+    fields: Vec<Field>,
+) -> Result<Desc, NoMemory>
+    ensures { IfOk result (λ d. desc_of d ≡ desc name.now version (map field_of fields.items)) }
+{
+    Ok(Desc {
+        name: text(alloc, name)?,
+        version,
+        minimum: 1,
+        fields: Listed::new(fields),
+        validate: Listed::new(Vec::new(alloc)),
+    })
+}
+
+pub(crate) fn device(instance: u32, desc: Desc, subs: Vec<Sub>) -> Device
+    ensures { device_of result ≡ device instance (desc_of desc) (map sub_of subs.items) }
+{
+    Device {
+        instance,
+        desc,
+        subs: Listed::new(subs),
+    }
+}

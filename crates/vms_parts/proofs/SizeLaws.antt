@@ -1,0 +1,71 @@
+-- Sums that end at 2 ^ 32 - 1.
+use Rattle.std.proofs.Common.{◌≡◌, ℕ, zero, suc, ◌+◌, ◌-◌, ◌*◌, ◌^◌, ◌<◌, ◌≤◌, min, List, [], ◌∷◌, ◌++◌, length, get_or, drop, map, refl, sym, ap, ◌∙◌, subst, arith, add-one}
+use Rattle.std.proofs.lemmas.List.{drop_all, map-append}
+use Rattle.vms_kinds.specs.declared.Item.{Item}
+use Rattle.vms_kinds.specs.declared.Item.TheVariants.{Num, Equal, Unused, Struct}
+use Rattle.vms_spec.specs.Sets as sets
+use Rattle.vms_spec.specs.Layout.{capacity_of, first, no_desc}
+use Rattle.vms_parts.specs.declared.sizes.Measure.{Measure}
+use Rattle.vms_parts.specs.declared.types.Field.{Field}
+use Rattle.vms_parts.specs.declared.types.Desc.{Desc}
+use Rattle.vms_parts.specs.Sizes.{in_u32, size_of, fields_size, sizes_to}
+use Rattle.vms_parts.specs.Views.{field_of, desc_of}
+use Rattle.vms_parts.proofs.Items.{drop_is, get_map_at}
+
+capped_sum : (s p r : ℕ) → in_u32 (in_u32 (s + in_u32 p) + r) ≡ in_u32 (s + (p + r))
+capped_sum s p r = omega arith
+
+pub sum_goes : (m : Measure) (sizes : List ℕ) (fields : List Field) (i sum whole : ℕ) (f : Field) → i < length fields → f ≡ get_or fields i f
+    → in_u32 (sum + fields_size m sizes (map field_of (drop i fields))) ≡ whole
+    → in_u32 (in_u32 (sum + in_u32 (capacity_of f.count * size_of m sizes f.item)) + fields_size m sizes (map field_of (drop (i + 1) fields))) ≡ whole
+sum_goes m sizes fields i sum whole f lt is e =
+    capped_sum sum (capacity_of f.count * size_of m sizes f.item) (fields_size m sizes (map field_of (drop (i + 1) fields)))
+    ∙ ap (λ (fs : List Field). in_u32 (sum + fields_size m sizes (map field_of fs))) (sym (drop_is fields i f lt is)) ∙ e
+
+pub sum_ends : (m : Measure) (sizes : List ℕ) (fields : List Field) (i sum whole : ℕ) → length fields ≤ i → sum < 2 ^ 32
+    → in_u32 (sum + fields_size m sizes (map field_of (drop i fields))) ≡ whole → sum ≡ whole
+sum_ends m sizes fields i sum whole all small e =
+    let s : sum ≡ in_u32 (sum + 0) = omega arith in
+    s ∙ ap (λ (fs : List Field). in_u32 (sum + fields_size m sizes (map field_of fs))) (sym (drop_all i fields all)) ∙ e
+
+-- sizes of structures that end at 2 ^ 32 - 1 serve as well
+capped_product : (c s : ℕ) → in_u32 (c * in_u32 s) ≡ in_u32 (c * s)
+capped_product zero s = omega arith
+capped_product (suc c) s =
+    let p : suc c * in_u32 s ≡ in_u32 s + c * in_u32 s = grind arith in
+    let q : suc c * s ≡ s + c * s = grind arith in
+    let e : in_u32 (c * in_u32 s) ≡ in_u32 (c * s) = capped_product c s in
+    omega (arith, p, q, e)
+
+capped_at : (sizes : List ℕ) (j : ℕ) → get_or (map in_u32 sizes) j 0 ≡ in_u32 (get_or sizes j 0)
+capped_at [] j = refl
+capped_at (s ∷ sizes) zero = refl
+capped_at (s ∷ sizes) (suc j) = capped_at sizes j
+
+capped_item : (m : Measure) (sizes : List ℕ) (c : ℕ) (item : Item) → in_u32 (c * size_of m (map in_u32 sizes) item) ≡ in_u32 (c * size_of m sizes item)
+capped_item m sizes c (Num kind) = refl
+capped_item m sizes c (Equal kind z) = refl
+capped_item m sizes c (Unused n) = refl
+capped_item m sizes c (Struct j) = ap (λ (s : ℕ). in_u32 (c * s)) (capped_at sizes j) ∙ capped_product c (get_or sizes j 0)
+
+pub capped_fields : (m : Measure) (sizes : List ℕ) (fs : List sets.Field) → in_u32 (fields_size m (map in_u32 sizes) fs) ≡ in_u32 (fields_size m sizes fs)
+capped_fields m sizes [] = refl
+capped_fields m sizes (f ∷ fs) =
+    let e : in_u32 (capacity_of f.count * size_of m (map in_u32 sizes) f.item) ≡ in_u32 (capacity_of f.count * size_of m sizes f.item) = capped_item m sizes (capacity_of f.count) f.item in
+    let r : in_u32 (fields_size m (map in_u32 sizes) fs) ≡ in_u32 (fields_size m sizes fs) = capped_fields m sizes fs in
+    omega (arith, e, r)
+
+-- one structure more
+pub sizes_more : (m : Measure) (structs : List Desc) (sizes : List ℕ) (i : ℕ) (d : Desc) (size : ℕ) → d ≡ get_or structs i d → i < length structs
+    → sizes ≡ map in_u32 (sizes_to m (map desc_of structs) i) → size ≡ in_u32 (fields_size m sizes (map field_of d.fields))
+    → sizes ++ size ∷ [] ≡ map in_u32 (sizes_to m (map desc_of structs) (i + 1))
+unfolding first
+sizes_more m structs sizes i d size is lt e s =
+    let ds = map desc_of structs in
+    let here : get_or ds i no_desc ≡ desc_of d = get_map_at desc_of structs i d no_desc lt is in
+    let more : sizes_to m ds (i + 1) ≡ sizes_to m ds i ++ fields_size m (sizes_to m ds i) (get_or ds i no_desc).fields ∷ [] = ap (λ (k : ℕ). sizes_to m ds k) (add-one i) in
+    let one : size ≡ in_u32 (fields_size m (sizes_to m ds i) (get_or ds i no_desc).fields) =
+    s ∙ ap (λ (l : List ℕ). in_u32 (fields_size m l (map field_of d.fields))) e ∙ capped_fields m (sizes_to m ds i) (map field_of d.fields)
+    ∙ ap (λ (x : sets.Desc). in_u32 (fields_size m (sizes_to m ds i) x.fields)) (sym here) in
+    ap (λ (l : List ℕ). l ++ size ∷ []) e ∙ ap (λ (n : ℕ). map in_u32 (sizes_to m ds i) ++ n ∷ []) one
+    ∙ sym (map-append in_u32 (sizes_to m ds i) (fields_size m (sizes_to m ds i) (get_or ds i no_desc).fields ∷ [])) ∙ ap (map in_u32) (sym more)

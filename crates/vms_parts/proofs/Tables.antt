@@ -1,0 +1,46 @@
+-- Tables by number: what stands at a number is made from the earlier ones alone.
+use Rattle.std.proofs.Common.{◌≡◌, ℕ, zero, suc, ◌+◌, ◌<◌, ◌≤◌, List, [], ◌∷◌, ◌++◌, length, length-append, get_or, take, refl, sym, ap, ◌∙◌, arith, Bool, true, false, nat_lt}
+use Rattle.std.proofs.lemmas.Bool.{ltb-true, ltb-false}
+use Rattle.std.proofs.lemmas.List.{get_or_append_left, get_or-take}
+use Rattle.vms_spec.specs.Sets.{Desc}
+use Rattle.vms_spec.specs.Layout.{first, no_desc}
+
+pub first_long : {B : Type 0} (f : List B → Desc → B) (ds : List Desc) (k : ℕ) → length (first f ds k) ≡ k
+unfolding first
+first_long f ds zero = refl
+first_long f ds (suc k) =
+    let e = first_long f ds k in
+    length-append (first f ds k) (f (first f ds k) (get_or ds k no_desc) ∷ []) ∙ omega (arith, e)
+
+last_is : {B : Type 0} (xs : List B) (x d : B) (k : ℕ) → length xs ≡ k → get_or (xs ++ x ∷ []) k d ≡ x
+last_is [] x d zero e = refl
+last_is [] x d (suc k) e = absurd (omega arith)
+last_is (y ∷ xs) x d zero e = absurd (omega arith)
+last_is (y ∷ xs) x d (suc k) e = last_is xs x d k (omega arith)
+
+at_step : {B : Type 0} (f : List B → Desc → B) (ds : List Desc) (d : B) (k j : ℕ) → j < suc k → (j < k → get_or (first f ds k) j d ≡ f (first f ds j) (get_or ds j no_desc))
+    → (b : Bool) → nat_lt j k ≡ b → get_or (first f ds k ++ f (first f ds k) (get_or ds k no_desc) ∷ []) j d ≡ f (first f ds j) (get_or ds j no_desc)
+at_step f ds d k j lt earlier true e =
+    let l : j < k = ltb-true j k e in
+    let long = first_long f ds k in
+    get_or_append_left (first f ds k) (f (first f ds k) (get_or ds k no_desc) ∷ []) d j (omega (arith, long)) ∙ earlier l
+at_step f ds d k j lt earlier false e =
+    let le : k ≤ j = ltb-false j k e in
+    let same : k ≡ j = omega arith in
+    ap (λ (i : ℕ). get_or (first f ds k ++ f (first f ds k) (get_or ds k no_desc) ∷ []) i d) (sym same)
+    ∙ last_is (first f ds k) (f (first f ds k) (get_or ds k no_desc)) d k (first_long f ds k)
+    ∙ ap (λ (i : ℕ). f (first f ds i) (get_or ds i no_desc)) same
+
+pub first_at : {B : Type 0} (f : List B → Desc → B) (ds : List Desc) (d : B) (k j : ℕ) → j < k → get_or (first f ds k) j d ≡ f (first f ds j) (get_or ds j no_desc)
+unfolding first
+first_at f ds d zero j lt = absurd (omega arith)
+first_at f ds d (suc k) j lt = at_step f ds d k j lt (λ l. first_at f ds d k j l) (nat_lt j k) refl
+
+-- those of the first j descriptions are made from these alone
+pub first_take : {B : Type 0} (f : List B → Desc → B) (ds : List Desc) (j k : ℕ) → k ≤ j → first f (take j ds) k ≡ first f ds k
+unfolding first
+first_take {B = B} f ds j zero le = refl
+first_take {B = B} f ds j (suc k) le =
+    let e : first f (take j ds) k ≡ first f ds k = first_take f ds j k (omega arith) in
+    let h : get_or (take j ds) k no_desc ≡ get_or ds k no_desc = get_or-take j ds k no_desc (omega arith) in
+    ap (λ (l : List B). l ++ f l (get_or (take j ds) k no_desc) ∷ []) e ∙ ap (λ (x : Desc). first f ds k ++ f (first f ds k) x ∷ []) h

@@ -1,0 +1,13 @@
+//! The parts of description sets as plain data, whether well formed or not, and how much their descriptions hold.
+//!
+//! The types follow VMState's `VMStateDescription` and `VMStateField`.
+#![tactic(auto)]
+
+mod listed;
+mod sizes;
+mod types;
+
+pub use listed::{Listed, Text};
+pub use sizes::{Measure, capacity, item_size, size_of_fields, struct_sizes};
+pub use types::{CellForm, Desc, Device, Field, Parts, Sub, Test};
+pub use vms_spec::{Count, Part, Place, Rel, Whose};

@@ -1,0 +1,80 @@
+// How many cells and items descriptions have.
+ghost use Rattle.std.specs.Prelude.{◌≡◌, length, map, get_or, IfOk};
+ghost use Rattle.vms_spec.specs.Layout.{capacity_of};
+ghost use Rattle.vms_parts.specs.Sizes.{in_u32, constant_size, size_of, fields_size, sizes_to};
+ghost use Rattle.vms_parts.specs.Views.{desc_of, field_of};
+
+use crate::{Count, Desc, Field};
+use std::alloc::{AllocError, Global};
+use vms_kinds::Item;
+
+// What is counted. Constants and unused bytes are items and have no cell.
+#[derive(Clone, Copy)]
+pub enum Measure {
+    Cells,
+    Items,
+}
+
+// For how many elements a field has cells.
+pub fn capacity(count: Count) -> u32
+    ensures { result ≡ capacity_of count }
+{
+    match count {
+        Count::One => 1,
+        Count::Fixed(length) => length,
+        Count::Counted { capacity, .. } => capacity,
+    }
+}
+
+// The size of one element.
+pub fn item_size(measure: Measure, sizes: &[u32], item: Item) -> u32
+    ensures { result ≡ size_of measure sizes.now item }
+{
+    match item {
+        Item::Num(_) => 1,
+        Item::Equal { .. } | Item::Unused { .. } => constant_size(measure),
+        Item::Struct(number) => at_or_zero(sizes, number),
+    }
+}
+
+fn constant_size(measure: Measure) -> u32
+    ensures { result ≡ constant_size measure }
+{
+    match measure {
+        Measure::Cells => 0,
+        Measure::Items => 1,
+    }
+}
+
+fn at_or_zero(sizes: &[u32], number: u32) -> u32
+    ensures { result ≡ get_or sizes.now number 0 }
+{
+    sizes.get(number as usize).copied().unwrap_or(0)
+}
+
+// The size of these fields, at most 2^32 - 1.
+pub fn size_of_fields(measure: Measure, sizes: &[u32], fields: &[Field]) -> u32
+    ensures { result ≡ in_u32 (fields_size measure sizes.now (map field_of fields.now)) }
+{
+    let mut sum: u32 = 0;
+    for field in fields {
+        let size = item_size(measure, sizes, field.item);
+        sum = sum.saturating_add(capacity(field.count).saturating_mul(size));
+    }
+    sum
+}
+
+// The size of each structure, at most 2^32 - 1.
+pub fn struct_sizes(
+    alloc: Global,
+    measure: Measure,
+    structs: &[Desc],
+) -> Result<Vec<u32>, AllocError>
+    ensures { IfOk result (λ sizes. sizes.items ≡ map in_u32 (sizes_to measure (map desc_of structs.now) (length structs.now))) }
+{
+    let mut sizes = Vec::with_capacity(alloc, structs.len())?;
+    for desc in structs {
+        sizes.push(size_of_fields(measure, &sizes, desc.fields.as_slice()))?;
+    }
+    Ok(sizes)
+}
