@@ -10,7 +10,9 @@ mod shipped;
 
 pub use eval::Cells;
 pub use set::DescSet;
-pub use vms_parts::{CellForm, Count, Desc, Device, Field, Listed, Part, Parts, Place, Rel, Sub, Test, Text, Whose};
+pub use vms_parts::{
+    CellForm, Count, Desc, Device, Field, Listed, Part, Parts, Place, Rel, Sub, Test, Text, Whose,
+};
 
 #[cfg(test)]
 mod tests;

@@ -15,10 +15,10 @@ ghost use Rattle.vms_parts.specs.Views.{set_of, formula, desc_of, device_of, for
 use crate::eval::{Scope, holds};
 use crate::forms::layout;
 use crate::shipped::shipped_parts;
-use vms_parts::{Measure, size_of_fields, struct_sizes};
 use crate::{CellForm, Cells, Desc, Device, Listed, Part, Parts, Test};
 use std::alloc::{AllocError, Global};
 use vms_io::NoMemory;
+use vms_parts::{Measure, size_of_fields, struct_sizes};
 
 /// A well-formed set, with the cells of each device laid out beside it.
 #[derive(Drop)]
