@@ -8,9 +8,9 @@ ghost use Rattle.vms_parts.specs.Views.{formula};
 ghost use Rattle.vms_desc.specs.Numbers.{number_of, number_of_parent};
 ghost use Rattle.vms_desc.specs.Scopes.{may_ask, may_ask_parent, IsInside, IsInsideParent};
 
-use vms_parts::{Measure, size_of_fields};
 use crate::{Field, Rel, Test, Whose};
 use vms_kinds::{Item, Kind};
+use vms_parts::{Measure, size_of_fields};
 
 /// Numbers by cell, as an image has them.
 pub trait Cells {

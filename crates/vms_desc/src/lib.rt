@@ -5,12 +5,16 @@
 
 mod eval;
 mod forms;
+mod judged;
 mod set;
 mod shipped;
 
 pub use eval::Cells;
 pub use set::DescSet;
-pub use vms_parts::{CellForm, Count, Desc, Device, Field, Listed, Part, Parts, Place, Rel, Sub, Test, Text, Whose};
+pub use vms_parts::{
+    CellForm, Count, Desc, Device, Field, Listed, Part, Parts, Place, Rel, Sub, Test, Text, Whose,
+};
+pub use vms_rules::DescFault;
 
 #[cfg(test)]
 mod tests;

@@ -15,10 +15,10 @@ ghost use Rattle.vms_parts.specs.Views.{set_of, formula, desc_of, device_of, for
 use crate::eval::{Scope, holds};
 use crate::forms::layout;
 use crate::shipped::shipped_parts;
-use vms_parts::{Measure, size_of_fields, struct_sizes};
 use crate::{CellForm, Cells, Desc, Device, Listed, Part, Parts, Test};
 use std::alloc::{AllocError, Global};
 use vms_io::NoMemory;
+use vms_parts::{Measure, size_of_fields, struct_sizes};
 
 /// A well-formed set, with the cells of each device laid out beside it.
 #[derive(Drop)]
@@ -47,7 +47,7 @@ impl DescSet {
     }
 
     // The set of parts that are well formed, laid out.
-    fn assemble(alloc: Global, parts: Parts) -> Result<DescSet, AllocError>
+    pub(crate) fn assemble(alloc: Global, parts: Parts) -> Result<DescSet, AllocError>
         requires { is_well_formed (set_of parts) ≡ true }
         ensures { IfOk result (λ set. described set ≡ set_of parts) }
     {
