@@ -5,6 +5,7 @@
 
 mod eval;
 mod forms;
+mod judged;
 mod set;
 mod shipped;
 
@@ -13,6 +14,7 @@ pub use set::DescSet;
 pub use vms_parts::{
     CellForm, Count, Desc, Device, Field, Listed, Part, Parts, Place, Rel, Sub, Test, Text, Whose,
 };
+pub use vms_rules::DescFault;
 
 #[cfg(test)]
 mod tests;

@@ -47,7 +47,7 @@ impl DescSet {
     }
 
     // The set of parts that are well formed, laid out.
-    fn assemble(alloc: Global, parts: Parts) -> Result<DescSet, AllocError>
+    pub(crate) fn assemble(alloc: Global, parts: Parts) -> Result<DescSet, AllocError>
         requires { is_well_formed (set_of parts) ≡ true }
         ensures { IfOk result (λ set. described set ≡ set_of parts) }
     {
