@@ -1,5 +1,5 @@
 -- What a well-formed set has, part by part.
-use Rattle.std.proofs.Common.{◌≡◌, ℕ, zero, suc, ◌+◌, ◌<◌, ◌≤◌, List, [], ◌∷◌, length, get_or, Option, None, refl, ap, ◌∙◌, subst, arith, Bool, true, false, ◌&&◌}
+use Rattle.std.proofs.Common.{◌≡◌, ℕ, zero, suc, ◌+◌, ◌<◌, ◌≤◌, List, [], ◌∷◌, length, get_or, Option, None, refl, ap, ◌∙◌, subst, arith, Bool, true, false, ◌&&◌, nat_le}
 use Rattle.std.proofs.lemmas.Bool.{leb-true}
 use Rattle.vms_kinds.specs.declared.Item.{Item}
 use Rattle.vms_kinds.specs.declared.Item.TheVariants.{Num, Equal, Unused, Struct}
@@ -11,7 +11,7 @@ use Rattle.vms_spec.specs.Lists.{every, or_else, first_answer}
 use Rattle.vms_spec.specs.Sets.{Formula, AtLeast, Field, Desc, Set}
 use Rattle.vms_spec.specs.Layout.{capacity_of, no_desc, no_field}
 use Rattle.vms_spec.specs.Rules.{is_steady_in, names_well, nobody, test_names_well, count_names_well, uses_below, has_good_count, field_rules, validation_rules}
-use Rattle.vms_spec.specs.WellFormed.{failing, here, in_field, fields_fault, validations_fault, struct_rules, struct_fault, sub_rules, sub_fault, device_rules, device_fault, set_rules, size_rules, desc_fault, first_fault}
+use Rattle.vms_spec.specs.WellFormed.{failing, has_few, here, in_field, fields_fault, validations_fault, struct_rules, struct_fault, sub_rules, sub_fault, device_rules, device_fault, set_rules, size_rules, desc_fault, first_fault}
 use Rattle.vms_parts.specs.Devices.{device_at}
 use Rattle.vms_desc.specs.Formed.{is_well_formed}
 use Rattle.vms_desc.specs.Parts.{HasPart, desc_at, sub_at}
@@ -85,6 +85,10 @@ clean k d part rules e =
         let f = get_or d.fields i no_field in
         clean_field k d part i f (subst (λ (n : ℕ). failing 1 (field_rules k d n f) (in_field part n) ≡ None) plus (no_answer (λ i f. failing 1 (field_rules k d i f) (in_field part i)) 0 d.fields e i no_field lt))
 
+few : (d : Desc) (more : Bool) → has_few d && more ≡ true → length d.fields ≤ 256
+few d more e =
+    leb-true (length d.fields) 256 (both_parts (nat_le (length d.fields) 256) (nat_le (length d.validate) 16) (both_parts (has_few d) more e).0).0
+
 -- ---- the parts of a set
 
 -- the structures that the fields of a part may use have numbers below this
@@ -140,3 +144,9 @@ module _ (set : Set) (well : is_well_formed set ≡ true) where
   validate_clean (parts.Struct j) h = (struct_clean j h).validate
   validate_clean (parts.Device k) h = (device_clean k h).validate
   validate_clean (parts.Sub k j) h = (sub_clean k j h.0 h.1).validate
+
+  pub few_fields : (part : Part) → HasPart set part → length (desc_at set part).fields ≤ 256
+  few_fields parts.Set h = absurd h
+  few_fields (parts.Struct j) h = few (get_or set.structs j no_desc) _ (struct_clean j h).own.1.1.1.1.1.1.0
+  few_fields (parts.Device k) h = few (device_at set k).desc _ (device_clean k h).own.1.1.1.1.1.1.0
+  few_fields (parts.Sub k j) h = few (sub_at (device_at set k) j).desc _ (sub_clean k j h.0 h.1).own.1.1.1.1.1.1.0

@@ -1,18 +1,19 @@
 // What a walk over a set asks of it.
-ghost use Rattle.std.specs.Prelude.{◌≡◌, ◌<◌, ◌≤◌, true, length, map};
-ghost use Rattle.vms_spec.specs.Layout.{elements_of, all_hold, item_size, struct_cells, device_cells, no_parent};
+ghost use Rattle.std.specs.Prelude.{◌≡◌, ◌<◌, ◌≤◌, ◌*◌, length, map, if◌then◌else◌};
+ghost use Rattle.vms_spec.specs.Layout.{capacity_of, elements_of, counted, all_hold, item_size, struct_cells, device_cells, no_parent};
 ghost use Rattle.vms_spec.specs.Tests.{is_there};
 ghost use Rattle.vms_spec.specs.declared.Part.TheVariants as parts;
 ghost use Rattle.vms_parts.specs.Sizes.{in_u32};
+ghost use Rattle.vms_parts.specs.Views.{field_of};
 ghost use Rattle.vms_laws.specs.Good.{IsGood};
-ghost use Rattle.vms_desc.specs.Asks.{first_cell, field_at, own_numbers, needed_at, HasCells};
+ghost use Rattle.vms_desc.specs.Asks.{first_cell, field_at, own_numbers, needed_at, HasCells, lesser, least_of};
 ghost use Rattle.vms_desc.specs.Numbers.{fields_in};
 ghost use Rattle.vms_desc.specs.Parts.{HasPart, desc_at};
 
 use crate::eval::{Scope, all_hold, holds, number_at};
 use crate::{Cells, Count, DescSet, Part};
 use vms_kinds::Item;
-use vms_parts::{Measure, item_size};
+use vms_parts::{Field, Measure, capacity, item_size};
 
 impl DescSet {
     ghost use Rattle.vms_desc.specs.Described.{described, device_at};
@@ -50,6 +51,34 @@ impl DescSet {
         ensures { result ≡ in_u32 (item_size (struct_cells (described self.now)) item) }
     {
         item_size(Measure::Cells, self.sizes(), item)
+    }
+
+    /// How many fields a part has.
+    pub fn field_count(&self, part: Part) -> u32
+        requires { HasPart (described self.now) part }
+        ensures { result ≡ length (desc_at (described self.now) part).fields }
+    {
+        self.desc(part).fields.as_slice().len() as u32
+    }
+
+    /// How many cells the field of this number has, at most 2^32 - 1: of an array those of all elements
+    /// for which there is room.
+    pub fn field_cells(&self, part: Part, field: u32) -> u32
+        requires part { HasPart (described self.now) part }
+        requires field { field < length (desc_at (described self.now) part).fields }
+        ensures { result ≡ in_u32 (capacity_of (field_at (described self.now) part field).count * item_size (struct_cells (described self.now)) (field_at (described self.now) part field).item) }
+    {
+        let field = &self.desc(part).fields.as_slice()[field as usize];
+        capacity(field.count).saturating_mul(self.item_cells(field.item))
+    }
+
+    /// The least of the capacities of the arrays whose elements the field of this number counts, or `None` where it
+    /// counts none.
+    pub fn most(&self, part: Part, field: u32) -> Option<u32>
+        requires { HasPart (described self.now) part }
+        ensures { result ≡ least_of (counted field (desc_at (described self.now) part).fields) }
+    {
+        least_counted(self.desc(part).fields.as_slice(), field)
     }
 
     // The fields of a part, or of one element of a structure, whose first cell is `base`.
@@ -128,5 +157,28 @@ impl DescSet {
         let described = &self.device(device).subs.as_slice()[sub as usize];
         let base = self.first_cell(part);
         self.eval(part, base, &described.needed, described.desc.version, cells)
+    }
+}
+
+// The least of the capacities of the arrays whose elements the field of this number counts.
+fn least_counted(fields: &[Field], number: u32) -> Option<u32>
+    ensures { result ≡ least_of (counted number (map field_of fields.now)) }
+{
+    let mut least = None;
+    for field in fields {
+        if let Count::Counted { by, capacity } = field.count {
+            least = lesser_if(by == number, least, capacity);
+        }
+    }
+    least
+}
+
+fn lesser_if(counts: bool, least: Option<u32>, capacity: u32) -> Option<u32>
+    ensures { result ≡ (if counts then lesser least capacity else least) }
+{
+    match least {
+        _ if !counts => least,
+        None => Some(capacity),
+        Some(least) => Some(least.min(capacity)),
     }
 }
