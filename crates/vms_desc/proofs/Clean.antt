@@ -150,3 +150,8 @@ module _ (set : Set) (well : is_well_formed set ≡ true) where
   few_fields (parts.Struct j) h = few (get_or set.structs j no_desc) _ (struct_clean j h).own.1.1.1.1.1.1.0
   few_fields (parts.Device k) h = few (device_at set k).desc _ (device_clean k h).own.1.1.1.1.1.1.0
   few_fields (parts.Sub k j) h = few (sub_at (device_at set k) j).desc _ (sub_clean k j h.0 h.1).own.1.1.1.1.1.1.0
+
+  pub few_subs : (i : ℕ) → i < length set.devices → length (device_at set i).subs ≤ 32
+  few_subs i h =
+      let d = device_at set i in
+      leb-true (length d.subs) 32 (both_parts (has_few d.desc) (nat_le (length d.subs) 32) (device_clean i h).own.1.1.1.1.1.1.0).1

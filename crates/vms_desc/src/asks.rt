@@ -61,6 +61,14 @@ impl DescSet {
         self.desc(part).fields.as_slice().len() as u32
     }
 
+    /// How many subsections a device has.
+    pub fn sub_count(&self, device: u32) -> u32
+        requires { device < length (described self.now).devices }
+        ensures { result ≡ length (device_at (described self.now) device).subs }
+    {
+        self.device(device).subs.as_slice().len() as u32
+    }
+
     /// How many cells the field of this number has, at most 2^32 - 1: of an array those of all elements
     /// for which there is room.
     pub fn field_cells(&self, part: Part, field: u32) -> u32

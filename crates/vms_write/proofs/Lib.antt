@@ -1,4 +1,3 @@
-pub mod First
 pub mod Formed
 pub mod Growing
 pub mod Prefixes
@@ -6,4 +5,5 @@ pub mod Ranks
 pub mod ReadyImages
 pub mod Sections
 pub mod Spots
+pub mod Subs
 pub mod Walking

@@ -63,7 +63,7 @@ module _ (j : ℕ) (ms Ms : List Meaning) (agree : Agree j ms Ms) where
   field_slots_same fields v own n i at f e =
       ap (λ (s : ℕ). if is_there f.test f.since v own no_parent then times (elements_of f.count own) (item_slots ms f.item (counted i fields) n) at s else []) (ap length (item_cells_same f.item [] (pos 0) e))
       ∙ ap (λ (p : ℕ → List Slot). if is_there f.test f.since v own no_parent then times (elements_of f.count own) p at (item_size (cells_in Ms) f.item) else [])
-        (fun_ext (λ (a : ℕ). item_slots_same f.item (counted i fields) n a e))
+      (fun_ext (λ (a : ℕ). item_slots_same f.item (counted i fields) n a e))
 
   slots_same : (fields : List Field) (v : ℕ) (own : ℕ → ℕ) (n : List ℤ) (i at : ℕ) (fs : List Field) → AllBelow j fs → slots_from ms fields v own n i at fs ≡ slots_from Ms fields v own n i at fs
   slots_same fields v own n i at [] b = refl

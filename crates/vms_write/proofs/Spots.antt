@@ -65,7 +65,7 @@ pub record Next (set : Set) (spot : Spot) (n : List ℤ) (k cell : ℕ) : Type 0
   pub slots : slots_from (table set) (desc_at set spot.part).fields spot.version (spot_numbers set spot n) n k cell (drop k (desc_at set spot.part).fields)
       ≡ slots_at set spot n k cell
       ++ slots_from (table set) (desc_at set spot.part).fields spot.version (spot_numbers set spot n) n (k + 1) (cell + capacity_of (field_at set spot.part k).count * size_in set (field_at set spot.part k).item)
-        (drop (k + 1) (desc_at set spot.part).fields)
+      (drop (k + 1) (desc_at set spot.part).fields)
   pub room : cell + capacity_of (field_at set spot.part k).count * size_in set (field_at set spot.part k).item ≤ length n
   pub later : (cell + capacity_of (field_at set spot.part k).count * size_in set (field_at set spot.part k).item)
       + length (cells_from (cells_in (table set)) (desc_at set spot.part).fields (k + 1) (drop (k + 1) (desc_at set spot.part).fields)) ≤ length n

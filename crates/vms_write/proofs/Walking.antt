@@ -79,7 +79,7 @@ pub room_next : (cs : List (List Cell)) (fields : List Field) (i at size most : 
 room_next cs fields i at size most f left more e s h =
     let one : suc i ≡ i + 1 = omega arith in
     let long = ap (λ (l : List Field). length (cells_from cs fields i l)) e ∙ length-append (field_cells cs fields i f) (cells_from cs fields (suc i) more)
-        ∙ ap (λ (k : ℕ). length (field_cells cs fields i f) + length (cells_from cs fields k more)) one in
+    ∙ ap (λ (k : ℕ). length (field_cells cs fields i f) + length (cells_from cs fields k more)) one in
     let step : length (field_cells cs fields i f) ≡ size = field_size cs fields i f ∙ sym s in
     (omega arith, omega arith)
 

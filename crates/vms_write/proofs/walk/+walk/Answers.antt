@@ -178,7 +178,7 @@ write_fields-returns-in_err-write_field-clause-err g t c =
     let left = slots_from (table set) all spot.version (spot_numbers set spot n) n i cell (drop i all) in
     let whole = slots_from (table set) all spot.version (spot_numbers set spot n) n 0 spot.base all in
     let stops = leaves_prefix _ (g.K.Sink.written c.loop-field.sink) _ (zeroed n whole) (zeroed n left) (zeroed n here) (zeroed n rest)
-        (ap (zeroed n) next.slots ∙ zeroed_append n here rest) c.loop-field.invariant.bytes c.in_err-write_field.ensures.err in
+    (ap (zeroed n) next.slots ∙ zeroed_append n here rest) c.loop-field.invariant.bytes c.in_err-write_field.ensures.err in
     on_fault _ (subst (AppendsPrefix (g.K.Sink.written c.args.sink.now) (g.K.Sink.written c.write_field.new.sink)) (sym (zeroed_rule n whole (all_hold (desc_at set spot.part).validate spot.version (spot_numbers set spot n)))) stops)
 
 pub write_fields-write_field-requires : goal.write_fields-write_field-requires
