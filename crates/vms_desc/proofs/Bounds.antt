@@ -36,7 +36,7 @@ all_true r [] p e = tt
 all_true r (true ∷ rules) p e = (refl, all_true (suc r) rules p e)
 all_true r (false ∷ rules) p e = cc
 
-none_is : {X : Type 0} (o : Option X) → is_none o ≡ true → o ≡ None
+pub none_is : {X : Type 0} (o : Option X) → is_none o ≡ true → o ≡ None
 none_is None h = refl
 none_is (Some x) h = cc
 

@@ -57,7 +57,7 @@ parent_inside set (parts.Sub i j) (Some s) sizes numbers e pis z few h =
     ap (λ (l : List ℕ). fields_size Cells l (fields_in s)) e ∙ ap (λ (l : List Field). fields_size Cells (sizes_of set) l) same in
     omega (arith, c, f, h, z)
 
-own_number : (set : Set) (d : Desc) (own : Scope) (sizes : List ℕ) (numbers : List ℤ) → sizes ≡ sizes_of set → fields_in own ≡ d.fields → length (desc_cells (struct_cells set) d) ≤ 16384
+pub own_number : (set : Set) (d : Desc) (own : Scope) (sizes : List ℕ) (numbers : List ℤ) → sizes ≡ sizes_of set → fields_in own ≡ d.fields → length (desc_cells (struct_cells set) d) ≤ 16384
     → (k : ℕ) → number_of sizes numbers own k ≡ numbers_of (struct_cells set) d numbers own.base k
 own_number set d own sizes numbers e is few k =
     ap (λ (l : List ℕ). number_in l (fields_in own) numbers own.base k) e ∙ ap (λ (l : List Field). number_in (sizes_of set) l numbers own.base k) is ∙ number_is set d few numbers own.base k

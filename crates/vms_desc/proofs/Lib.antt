@@ -6,3 +6,6 @@ pub mod Formed
 pub mod FormLaws
 pub mod NumberLaws
 pub mod TableLaws
+pub mod AskLaws
+pub mod Clean
+pub mod HeadLaws

@@ -1,8 +1,9 @@
 // The truth of tests.
-ghost use Rattle.std.specs.Prelude.{◌≡◌, ◌+◌, ◌≤◌, ◌<◌, ◌*◌, ◌^◌, true, length, get_or, pos};
+ghost use Rattle.std.specs.Prelude.{◌≡◌, ◌+◌, ◌≤◌, ◌<◌, ◌*◌, ◌^◌, true, length, get_or, map, pos};
 ghost use Rattle.vms_kinds.specs.Codes.{width, residue};
-ghost use Rattle.vms_spec.specs.Layout.{kind_of};
-ghost use Rattle.vms_spec.specs.Rules.{names_well};
+ghost use Rattle.vms_spec.specs.Layout.{kind_of, all_hold};
+ghost use Rattle.vms_spec.specs.Lists.{every};
+ghost use Rattle.vms_spec.specs.Rules.{names_well, nobody};
 ghost use Rattle.vms_spec.specs.Tests.{truth, compares};
 ghost use Rattle.vms_parts.specs.Views.{formula};
 ghost use Rattle.vms_desc.specs.Numbers.{number_of, number_of_parent};
@@ -22,6 +23,20 @@ pub trait Cells {
     fn number(&self, cell: u32) -> i128
         requires { cell < length (numbers self.now) }
         ensures { result ≡ get_or (numbers self.now) cell (pos 0) };
+}
+
+/// Numbers that stand in a slice.
+#[derive(Clone, Copy)]
+pub struct Numbers<'a> {
+    pub numbers: &'a [i128],
+}
+
+impl Cells for Numbers<'_> {
+    ghost numbers = { λ cells. cells.numbers.now };
+
+    fn number(&self, cell: u32) -> i128 {
+        self.numbers[cell as usize]
+    }
 }
 
 // The fields that a test may ask, and the first cell of their description.
@@ -74,8 +89,29 @@ pub(crate) fn holds<C: Cells>(
     }
 }
 
+// Whether all tests of a description hold at a version.
+pub(crate) fn all_hold<C: Cells>(
+    tests: &[Test],
+    version: u32,
+    sizes: &[u32],
+    own: Scope,
+    cells: &C,
+) -> bool
+    requires names { every (names_well (may_ask own) nobody) (map formula tests.now) ≡ true }
+    requires own { IsInside sizes.now (C.numbers cells.now) own }
+    requires few { length (C.numbers cells.now) ≤ 16384 }
+    ensures { result ≡ all_hold (map formula tests.now) version (number_of sizes.now (C.numbers cells.now) own.entry) }
+{
+    for test in tests {
+        if !holds(test, version, sizes, own, None, cells) {
+            return false;
+        }
+    }
+    true
+}
+
 // The number of a field, modulo 2^(8w).
-fn number_at<C: Cells>(sizes: &[u32], scope: Scope, field: u32, cells: &C) -> u64
+pub(crate) fn number_at<C: Cells>(sizes: &[u32], scope: Scope, field: u32, cells: &C) -> u64
     requires asked { may_ask scope field ≡ true }
     requires inside { IsInside sizes.now (C.numbers cells.now) scope }
     requires few { length (C.numbers cells.now) ≤ 16384 }

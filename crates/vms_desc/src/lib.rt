@@ -3,13 +3,15 @@
 //! A set is well formed, and so every layer above takes one `DescSet` and judges nothing of it again.
 #![tactic(auto)]
 
+mod asks;
 mod eval;
 mod forms;
 mod judged;
+mod heads;
 mod set;
 mod shipped;
 
-pub use eval::Cells;
+pub use eval::{Cells, Numbers};
 pub use set::DescSet;
 pub use vms_parts::{
     CellForm, Count, Desc, Device, Field, Listed, Part, Parts, Place, Rel, Sub, Test, Text, Whose,

@@ -6,6 +6,7 @@ ghost use Rattle.vms_spec.specs.Layout.{device_cells, struct_cells, numbers_of};
 ghost use Rattle.vms_spec.specs.Places.{own_cell_count};
 ghost use Rattle.vms_spec.specs.Tests.{truth};
 ghost use Rattle.vms_spec.specs.Judging.{find_device};
+ghost use Rattle.vms_laws.specs.Good.{FitsHeads};
 ghost use Rattle.vms_desc.specs.Formed.{is_well_formed, shipped_set};
 ghost use Rattle.vms_desc.specs.Numbers.{sizes_of, fields_in};
 ghost use Rattle.vms_desc.specs.Parts.{HasPart, HasParentCells, desc_at, parent_of, parent_fields, is_placed};
@@ -14,6 +15,7 @@ ghost use Rattle.vms_parts.specs.Views.{set_of, formula, desc_of, device_of, for
 
 use crate::eval::{Scope, holds};
 use crate::forms::layout;
+use crate::heads::fit_heads;
 use crate::shipped::shipped_parts;
 use crate::{CellForm, Cells, Desc, Device, Listed, Part, Parts, Test};
 use std::alloc::{AllocError, Global};
@@ -29,6 +31,7 @@ pub struct DescSet {
     // How many cells each structure has, at most 2^32 - 1.
     sizes: Listed<u32>,
     ghost well_formed: { is_well_formed (set_of parts) ≡ true },
+    ghost heads: { FitsHeads (set_of parts) },
     ghost few: { length parts.devices ≤ 64 },
     ghost laid: { layout ≡ layout_of (set_of parts) },
     ghost sized: { sizes ≡ sizes_of (set_of parts) },
@@ -51,6 +54,7 @@ impl DescSet {
         requires { is_well_formed (set_of parts) ≡ true }
         ensures { IfOk result (λ set. described set ≡ set_of parts) }
     {
+        fit_heads(&parts);
         let layout = layout(alloc, &parts)?;
         let sizes = struct_sizes(alloc, Measure::Cells, parts.structs.as_slice())?;
         Ok(DescSet {
@@ -99,8 +103,8 @@ impl DescSet {
         self.layout.as_slice()[device as usize].as_slice()
     }
 
-    // The description of a part.
-    fn desc(&self, part: Part) -> &Desc
+    /// The description of a part.
+    pub fn desc(&self, part: Part) -> &Desc
         requires { HasPart (described self.now) part }
         ensures { desc_of result.now ≡ desc_at (described self.now) part }
     {
@@ -122,6 +126,13 @@ impl DescSet {
     {
         let fields = self.desc(desc).fields.as_slice();
         size_of_fields(Measure::Cells, self.sizes.as_slice(), fields)
+    }
+
+    // How many cells each structure has, at most 2^32 - 1.
+    pub(crate) fn sizes(&self) -> &[u32]
+        ensures { result.now ≡ sizes_of (described self.now) }
+    {
+        self.sizes.as_slice()
     }
 
     // What a test of a part may ask of its device.

@@ -64,7 +64,7 @@ get_cells [] j = refl
 get_cells (m ∷ ms) zero = refl
 get_cells (m ∷ ms) (suc j) = get_cells ms j
 
-item_are : (ms : List Meaning) → MeanCells ms → (item : Item) (caps : List ℕ) (z : ℤ) (all : List Cell) (at : ℕ) (numbers : List ℤ)
+pub item_are : (ms : List Meaning) → MeanCells ms → (item : Item) (caps : List ℕ) (z : ℤ) (all : List Cell) (at : ℕ) (numbers : List ℤ)
     → Stands all at (item_cells (cells_in ms) item caps z) → AreCells all (item_slots ms item caps numbers at)
 item_are ms h (Num kind) caps z all at numbers s =
     let x = first_is all at (record { kind = kind; capacities = caps; default = z }) s.more s.is in
@@ -73,7 +73,7 @@ item_are ms h (Equal kind y) caps z all at numbers s = tt
 item_are ms h (Unused n) caps z all at numbers s = tt
 item_are ms h (Struct j) caps z all at numbers s = (means_at ms j h).means all at numbers (subst (λ (cs : List Cell). Stands all at cs) (get_cells ms j) s)
 
-items_are : (ms : List Meaning) → MeanCells ms → (item : Item) (caps : List ℕ) (z : ℤ) (all : List Cell) (n k at a step : ℕ) (numbers : List ℤ) → k ≤ n
+pub items_are : (ms : List Meaning) → MeanCells ms → (item : Item) (caps : List ℕ) (z : ℤ) (all : List Cell) (n k at a step : ℕ) (numbers : List ℤ) → k ≤ n
     → Stands all at (times n (λ _. item_cells (cells_in ms) item caps z) a step) → AreCells all (times k (item_slots ms item caps numbers) at (item_size (cells_in ms) item))
 items_are ms h item caps z all n zero at a step numbers le s = tt
 items_are ms h item caps z all zero (suc k) at a step numbers le s = absurd (omega arith)
@@ -85,7 +85,7 @@ items_are ms h item caps z all (suc n) (suc k) at a step numbers le s =
     (items_are ms h item caps z all n k (at + item_size (cells_in ms) item) (a + step) step numbers (omega arith)
     (subst (λ (i : ℕ). Stands all (at + i) later) (size_same (cells_in ms) item caps z) (rest_stands all at cells later s)))
 
-field_are : (ms : List Meaning) → MeanCells ms → (fields : List Field) (v : ℕ) (own : ℕ → ℕ) (numbers : List ℤ) (i at : ℕ) (f : Field) (all : List Cell)
+pub field_are : (ms : List Meaning) → MeanCells ms → (fields : List Field) (v : ℕ) (own : ℕ → ℕ) (numbers : List ℤ) (i at : ℕ) (f : Field) (all : List Cell)
     → Stands all at (field_cells (cells_in ms) fields i f) → AreCells all (field_slots ms fields v own numbers i at f)
 field_are ms h fields v own numbers i at f all s =
     either (is_there f.test f.since v own no_parent) _
@@ -95,7 +95,7 @@ field_are ms h fields v own numbers i at f all s =
     either true xs x = x
     either false xs x = tt
 
-fields_are : (ms : List Meaning) → MeanCells ms → (fields : List Field) (v : ℕ) (own : ℕ → ℕ) (numbers : List ℤ) (i at : ℕ) (fs : List Field) (all : List Cell)
+pub fields_are : (ms : List Meaning) → MeanCells ms → (fields : List Field) (v : ℕ) (own : ℕ → ℕ) (numbers : List ℤ) (i at : ℕ) (fs : List Field) (all : List Cell)
     → Stands all at (cells_from (cells_in ms) fields i fs) → AreCells all (slots_from ms fields v own numbers i at fs)
 fields_are ms h fields v own numbers i at [] all s = tt
 fields_are ms h fields v own numbers i at (f ∷ fs) all s =

@@ -25,32 +25,32 @@ below_int (pos a) (negsuc b) h = absurd (omega (arith, ints))
 below_int (negsuc a) (pos b) h = refl
 below_int (negsuc a) (negsuc b) h = le-leb b a (omega (arith, ints))
 
-same_is : (z u : ℤ) → same_number z u ≡ true → z ≡ u
+pub same_is : (z u : ℤ) → same_number z u ≡ true → z ≡ u
 same_is (pos a) (pos b) h = ap pos (eqb-true a b h)
 same_is (pos a) (negsuc b) h = cc
 same_is (negsuc a) (pos b) h = cc
 same_is (negsuc a) (negsuc b) h = ap negsuc (eqb-true a b h)
 
-is_same : (z u : ℤ) → z ≡ u → same_number z u ≡ true
+pub is_same : (z u : ℤ) → z ≡ u → same_number z u ≡ true
 is_same z u e = subst (λ (u : ℤ). same_number z u ≡ true) e (itself z)
   where
     itself : (z : ℤ) → same_number z z ≡ true
     itself (pos a) = eq-eqb a a refl
     itself (negsuc a) = eq-eqb a a refl
 
-ranged : (kind : Kind) (z : ℤ) → InRange kind z → in_range kind z ≡ true
+pub ranged : (kind : Kind) (z : ℤ) → InRange kind z → in_range kind z ≡ true
 ranged kind z h = both (int_le (lowest kind) z) (int_le z (highest kind)) (below_int (lowest kind) z h.0) (below_int z (highest kind) h.1)
 
-counted_well : (caps : List ℕ) (z : ℤ) → AllByRecursion (λ most. z ≤ℤ pos most) caps → counts_well caps z ≡ true
+pub counted_well : (caps : List ℕ) (z : ℤ) → AllByRecursion (λ most. z ≤ℤ pos most) caps → counts_well caps z ≡ true
 counted_well [] z h = refl
 counted_well (m ∷ caps) z h = both (int_le z (pos m)) (counts_well caps z) (below_int z (pos m) h.0) (counted_well caps z h.1)
 
 -- ---- versions
 
-version_is : (d : Desc) (v : ℕ) → is_version_of d v ≡ true → IsVersionOf d v
+pub version_is : (d : Desc) (v : ℕ) → is_version_of d v ≡ true → IsVersionOf d v
 version_is d v e = let p = and_parts (nat_le d.minimum v) (nat_le v d.version) e in (leb-true d.minimum v p.0, leb-true v d.version p.1)
 
-is_version : (d : Desc) (v : ℕ) → IsVersionOf d v → is_version_of d v ≡ true
+pub is_version : (d : Desc) (v : ℕ) → IsVersionOf d v → is_version_of d v ≡ true
 is_version d v h = both (nat_le d.minimum v) (nat_le v d.version) (le-leb d.minimum v h.0) (le-leb v d.version h.1)
 
 versions_are : (subs : List Sub) (came : List (Option ℕ)) → are_versions_of subs came ≡ true → AreVersionsOf subs came

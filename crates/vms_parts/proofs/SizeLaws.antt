@@ -29,7 +29,7 @@ sum_ends m sizes fields i sum whole all small e =
     s ∙ ap (λ (fs : List Field). in_u32 (sum + fields_size m sizes (map field_of fs))) (sym (drop_all i fields all)) ∙ e
 
 -- sizes of structures that end at 2 ^ 32 - 1 serve as well
-capped_product : (c s : ℕ) → in_u32 (c * in_u32 s) ≡ in_u32 (c * s)
+pub capped_product : (c s : ℕ) → in_u32 (c * in_u32 s) ≡ in_u32 (c * s)
 capped_product zero s = omega arith
 capped_product (suc c) s =
     let p : suc c * in_u32 s ≡ in_u32 s + c * in_u32 s = grind arith in

@@ -1,30 +1,16 @@
--- What a well-formed set has, description by description.
-use Rattle.std.proofs.Common.{◌≡◌, ℕ, zero, suc, ◌<◌, ◌≤◌, List, [], ◌∷◌, length, get_or, Option, Some, None, refl, sym, subst, arith, Bool, true, false, ◌&&◌, nat_le, is_none}
+-- Names of a well-formed set are short.
+use Rattle.std.proofs.Common.{◌≡◌, ℕ, zero, suc, ◌+◌, ◌<◌, ◌≤◌, List, [], ◌∷◌, length, length-drop, get_or, drop, Option, Some, None, refl, sym, subst, arith, Bool, true, ◌&&◌, nat_le}
 use Rattle.std.proofs.lemmas.Bool.{and_parts, leb-true}
-use Rattle.vms_spec.specs.declared.Place.{Place}
 use Rattle.vms_spec.specs.declared.Part.TheVariants as parts
 use Rattle.vms_spec.specs.Lists.{at, every, or_else, first_answer}
 use Rattle.vms_spec.specs.Sets.{Set}
 use Rattle.vms_spec.specs.Names.{is_name, is_name_byte}
 use Rattle.vms_spec.specs.WellFormed.{failing, here, set_rules, size_rules, struct_fault, device_fault, first_fault}
 use Rattle.vms_desc.specs.Formed.{is_well_formed}
-
-no_fault : {X : Type 0} (o : Option X) → is_none o ≡ true → o ≡ None
-no_fault None e = refl
-no_fault (Some x) e = cc
-
-or_else_none : {X : Type 0} (x y : Option X) → or_else x y ≡ None → (x ≡ None) × (y ≡ None)
-or_else_none (Some x) y e = cc
-or_else_none None y e = (refl, e)
-
-abbrev AllTrue : List Bool → Type 0
-AllTrue [] = Unit {0}
-AllTrue (b ∷ rules) = (b ≡ true) × AllTrue rules
-
-all_true : (r : ℕ) (rules : List Bool) (p : Place) → failing r rules p ≡ None → AllTrue rules
-all_true r [] p e = tt
-all_true r (true ∷ rules) p e = (refl, all_true (suc r) rules p e)
-all_true r (false ∷ rules) p e = cc
+use Rattle.vms_desc.specs.Described.{device_at}
+use Rattle.vms_desc.specs.Parts.{sub_at}
+use Rattle.vms_desc.proofs.Bounds.{AllTrue, all_true, or_else_none, none_is}
+use Rattle.vms_desc.proofs.Clean.{device_clean, sub_clean}
 
 every_at : {X : Type 0} (p : X → Bool) (xs : List X) (i : ℕ) (d : X) → every p xs ≡ true → i < length xs → p (get_or xs i d) ≡ true
 every_at p [] i d e lt = absurd (omega arith)
@@ -48,8 +34,19 @@ module _ (set : Set) (well : is_well_formed set ≡ true) where
   unfolding first_fault
   set_clean =
       let devices = or_else (first_answer (device_fault set) 0 set.devices) (failing 1 (size_rules set) (here parts.Set)) in
-      let a = or_else_none (failing 1 (set_rules set) (here parts.Set)) (or_else (first_answer (struct_fault set.structs) 0 set.structs) devices) (no_fault (first_fault set) well) in
+      let a = or_else_none (failing 1 (set_rules set) (here parts.Set)) (or_else (first_answer (struct_fault set.structs) 0 set.structs) devices) (none_is (first_fault set) well) in
       all_true 1 (set_rules set) (here parts.Set) a.0
 
   pub machine_short : (m : ℕ) (name : List ℕ) → m < length set.machines → name ≡ get_or set.machines m name → length name ≤ 64
   machine_short m name lt e = name_short 64 name (subst (λ (n : List ℕ). is_name 64 n ≡ true) (sym e) (every_at (is_name 64) set.machines m name set_clean.0 lt))
+
+  pub device_short : (i : ℕ) → i < length set.devices → length (device_at set i).desc.name ≤ 100
+  device_short i lt = name_short 100 (device_at set i).desc.name (device_clean set well i lt).own.0
+
+  pub sub_short : (i j : ℕ) → i < length set.devices → j < length (device_at set i).subs → length (sub_at (device_at set i) j).desc.name ≤ 165
+  sub_short i j lt lj =
+      let device = (device_at set i).desc.name in
+      let name = (sub_at (device_at set i) j).desc.name in
+      let tail = drop (length device + 1) name in
+      let short = name_short 64 tail (and_parts _ (is_name 64 tail) (sub_clean set well i j lt lj).own.0).1 in
+      omega (arith, short, device_short i lt, length-drop (length device + 1) name)

@@ -1,4 +1,9 @@
-pub mod Growing
-pub mod Sections
 pub mod Formed
-pub mod First
+pub mod Growing
+pub mod Prefixes
+pub mod Ranks
+pub mod ReadyImages
+pub mod Sections
+pub mod Spots
+pub mod Subs
+pub mod Walking

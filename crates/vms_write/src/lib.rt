@@ -7,6 +7,7 @@ mod pieces;
 mod readiness;
 mod section;
 mod stream;
+mod walk;
 
 pub use readiness::ready;
 pub use section::write_section;

@@ -1,20 +1,20 @@
 // Sections.
-ghost use Rattle.std.specs.Prelude.{◌≡◌, ◌<◌, true, length, OnOk, OnErr};
+ghost use Rattle.std.specs.Prelude.{◌≡◌, ◌<◌, true, None, length, get_or, OnOk, OnErr};
 ghost use Rattle.std.specs.Io.KnownBytes.{Appends};
 ghost use Rattle.vms_io.specs.Causes.{HasCause, AppendsPrefix};
+ghost use Rattle.vms_spec.specs.Images.{own_cells};
 ghost use Rattle.vms_spec.specs.Readiness.{is_ready};
-ghost use Rattle.vms_spec.specs.Streams.{written_section};
-ghost use Rattle.vms_spec.specs.Shipped.{set_0};
+ghost use Rattle.vms_spec.specs.Streams.{written_section, written_subs};
 ghost use Rattle.vms_desc.specs.Described.{described, device_at};
+ghost use Rattle.vms_write.specs.Writing.{written_sub};
 
 use crate::WriteFault;
-use crate::body::write_number;
-use crate::heads::{marked, section_head};
+use crate::heads::{marked, section_head, sub_head};
 use crate::pieces::append;
-use vms_desc::DescSet;
+use crate::walk::{Spot, write_fields};
+use vms_desc::{DescSet, Part};
 use vms_image::Image;
 use vms_io::Sink;
-use vms_kinds::Kind;
 
 /// Appends the section of a device that is ready, with the device's number as its id. After a fault a
 /// prefix of it was appended.
@@ -24,7 +24,6 @@ pub fn write_section<K: Sink>(
     image: &Image,
     sink: &mut K,
 ) -> Result<(), WriteFault>
-    requires first { described set.now ≡ set_0 }
     requires is_device { device < length (described set.now).devices }
     requires ready { is_ready (described set.now) (device_at (described set.now) device) image.now ≡ true }
     ensures ok { OnOk result (Appends (K.written sink.old) (K.written sink.new) (written_section (described set.now) (device_at (described set.now) device) image.now device)) }
@@ -32,14 +31,72 @@ pub fn write_section<K: Sink>(
     ensures cause { HasCause (K.faults sink.old) (K.faults sink.new) result }
     ensures promise { K.promise sink.new ≡ K.promise sink.old }
 {
-    let part = set.device(device);
+    let described = set.device(device);
     let head = section_head(
         device,
-        part.desc.name.as_bytes(),
-        part.instance,
+        described.desc.name.as_bytes(),
+        described.instance,
         image.version(),
     );
     append(sink, head.as_slice())?;
-    write_number(Kind::U64, image, 0, sink)?;
+    let own = Spot {
+        part: Part::Device(device),
+        version: image.version(),
+        base: 0,
+    };
+    write_fields(set, own, image, sink)?;
+    write_subs(set, device, image, sink)?;
     append(sink, &marked(0x7e, device))
+}
+
+// The subsections that came, in the description's order.
+fn write_subs<K: Sink>(
+    set: &DescSet,
+    device: u32,
+    image: &Image,
+    sink: &mut K,
+) -> Result<(), WriteFault>
+    requires is_device { device < length (described set.now).devices }
+    requires ready { is_ready (described set.now) (device_at (described set.now) device) image.now ≡ true }
+    ensures ok { OnOk result (Appends (K.written sink.old) (K.written sink.new) (written_subs (described set.now) (device_at (described set.now) device) image.now (own_cells (described set.now) (device_at (described set.now) device)) (device_at (described set.now) device).subs image.now.came)) }
+    ensures err { OnErr result (AppendsPrefix (K.written sink.old) (K.written sink.new) (written_subs (described set.now) (device_at (described set.now) device) image.now (own_cells (described set.now) (device_at (described set.now) device)) (device_at (described set.now) device).subs image.now.came)) }
+    ensures cause { HasCause (K.faults sink.old) (K.faults sink.new) result }
+    ensures promise { K.promise sink.new ≡ K.promise sink.old }
+{
+    for sub in 0..set.sub_count(device) {
+        write_sub(set, device, sub, image, sink)?;
+    }
+    Ok(())
+}
+
+// A subsection, if it came.
+fn write_sub<K: Sink>(
+    set: &DescSet,
+    device: u32,
+    sub: u32,
+    image: &Image,
+    sink: &mut K,
+) -> Result<(), WriteFault>
+    requires is_device { device < length (described set.now).devices }
+    requires is_sub { sub < length (device_at (described set.now) device).subs }
+    requires ready { is_ready (described set.now) (device_at (described set.now) device) image.now ≡ true }
+    ensures ok { OnOk result (Appends (K.written sink.old) (K.written sink.new) (written_sub (described set.now) device image.now sub (get_or image.now.came sub None))) }
+    ensures err { OnErr result (AppendsPrefix (K.written sink.old) (K.written sink.new) (written_sub (described set.now) device image.now sub (get_or image.now.came sub None))) }
+    ensures cause { HasCause (K.faults sink.old) (K.faults sink.new) result }
+    ensures promise { K.promise sink.new ≡ K.promise sink.old }
+{
+    match image.came(sub) {
+        Some(version) => {
+            let part = Part::Sub(device, sub);
+            let head = sub_head(set.desc(part).name.as_bytes(), version);
+            append(sink, head.as_slice())?;
+            let spot = Spot {
+                part,
+                version,
+                base: set.first_cell(part),
+            };
+            write_fields(set, spot, image, sink)
+        }
+        None => Ok(()),
+    }
 }

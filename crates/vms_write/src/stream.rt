@@ -5,7 +5,6 @@ ghost use Rattle.std.specs.Io.KnownBytes.{Appends};
 ghost use Rattle.vms_io.specs.Causes.{HasCause, AppendsPrefix};
 ghost use Rattle.vms_spec.specs.Lists.{at_option};
 ghost use Rattle.vms_spec.specs.Streams.{written, written_sections, longest_text, stream_head, optional, configuration, trailer, end_mark};
-ghost use Rattle.vms_spec.specs.Shipped.{set_0};
 ghost use Rattle.vms_desc.specs.Described.{described};
 ghost use Rattle.vms_write.specs.Writing.{AreReady};
 
@@ -27,7 +26,6 @@ pub fn write_stream<K: Sink>(
     text: Option<&str>,
     sink: &mut K,
 ) -> Result<(), WriteFault>
-    requires first { described set.now ≡ set_0 }
     requires machine { IfSome machine (λ m. m < length (described set.now).machines) }
     requires ready { AreReady (described set.now) images.now }
     requires text { IfSome text (λ t. length t.now ≤ longest_text) }
@@ -65,7 +63,6 @@ fn write_configuration<K: Sink>(
 }
 
 fn write_sections<K: Sink>(set: &DescSet, images: &[Image], sink: &mut K) -> Result<(), WriteFault>
-    requires first { described set.now ≡ set_0 }
     requires ready { AreReady (described set.now) images.now }
     ensures ok { OnOk result (Appends (K.written sink.old) (K.written sink.new) (written_sections (described set.now) 0 (described set.now).devices images.now)) }
     ensures err { OnErr result (AppendsPrefix (K.written sink.old) (K.written sink.new) (written_sections (described set.now) 0 (described set.now).devices images.now)) }

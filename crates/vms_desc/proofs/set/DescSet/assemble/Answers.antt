@@ -13,6 +13,7 @@ invariant_of-result c =
     let set = set_of c.args.parts in
     record {
       well_formed = c.requires;
+      heads = c.fit_heads.ensures;
       few = omega (arith, few_devices set c.requires, length-map c.args.parts.devices device_of);
       laid = c.in_ok-layout.ensures;
       sized = c.new.ensures ∙ c.in_ok-sizes.ensures

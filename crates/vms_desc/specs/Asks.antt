@@ -1,0 +1,46 @@
+-- What a walk over a set asks of it.
+use Rattle.std.specs.Prelude.{ℕ, ◌+◌, ◌≤◌, Bool, min, List, [], ◌∷◌, length, get_or, ℤ, Option, Some, None}
+use Rattle.vms_spec.specs.declared.Part.{Part}
+use Rattle.vms_spec.specs.declared.Part.TheVariants as parts
+use Rattle.vms_spec.specs.Sets.{Field, Set}
+use Rattle.vms_spec.specs.Layout.{no_field, numbers_of, struct_cells}
+use Rattle.vms_spec.specs.Images.{own_cells, sub_place}
+use Rattle.vms_spec.specs.Places.{own_cell_count}
+use Rattle.vms_spec.specs.Streams.{is_needed}
+use Rattle.vms_parts.specs.Devices.{device_at}
+use Rattle.vms_desc.specs.Parts.{desc_at, sub_at}
+
+-- where the cells of a part begin among those of its device; a structure begins wherever it is used
+abbrev pub first_cell : Set → Part → ℕ
+first_cell set (parts.Sub i j) = sub_place set (own_cells set (device_at set i)) (device_at set i).subs j
+first_cell set part = 0
+
+-- field k of a part
+abbrev pub field_at : Set → Part → ℕ → Field
+field_at set part k = get_or (desc_at set part).fields k no_field
+
+-- the numbers of the fields of a part, or of one element of a structure, whose cells begin at a place
+abbrev pub own_numbers : Set → Part → List ℤ → ℕ → ℕ → ℕ
+own_numbers set part numbers base = numbers_of (struct_cells set) (desc_at set part) numbers base
+
+-- its cells are among the numbers
+abbrev pub HasCells : Set → Part → List ℤ → ℕ → Type 0
+HasCells set part numbers base = base + own_cell_count set (desc_at set part) ≤ length numbers
+
+-- whether subsection j of device i is needed, where the device's cells have these numbers
+abbrev pub needed_at : Set → ℕ → ℕ → List ℤ → Bool
+needed_at set i j numbers = is_needed set (device_at set i) (record { version = 0; came = []; numbers = numbers }) (sub_at (device_at set i) j) j
+
+-- ---- the least of the capacities that a number counts
+
+abbrev pub lesser : Option ℕ → ℕ → Option ℕ
+lesser None most = Some most
+lesser (Some least) most = Some (min least most)
+
+abbrev pub least_from : Option ℕ → List ℕ → Option ℕ
+least_from least [] = least
+least_from least (most ∷ capacities) = least_from (lesser least most) capacities
+
+-- none where it counts no array
+abbrev pub least_of : List ℕ → Option ℕ
+least_of capacities = least_from None capacities

@@ -1,0 +1,12 @@
+-- What stands in four bytes of a head.
+use Rattle.std.specs.Prelude.{◌≡◌, ℕ, ◌^◌, ◌<◌, Some}
+use Rattle.vms_spec.specs.Lists.{at}
+use Rattle.vms_spec.specs.Sets.{Sub, Device}
+
+pub record FitsSub (s : Sub) : Type 0 where
+  pub version : s.desc.version < 2 ^ 32
+
+pub record FitsHead (d : Device) : Type 0 where
+  pub instance : d.instance < 2 ^ 32
+  pub version : d.desc.version < 2 ^ 32
+  pub subs : (j : ℕ) (s : Sub) → at d.subs j ≡ Some s → FitsSub s

@@ -1,0 +1,192 @@
+// What a walk over a set asks of it.
+ghost use Rattle.std.specs.Prelude.{◌≡◌, ◌<◌, ◌≤◌, ◌*◌, length, map, if◌then◌else◌};
+ghost use Rattle.vms_spec.specs.Layout.{capacity_of, elements_of, counted, all_hold, item_size, struct_cells, device_cells, no_parent};
+ghost use Rattle.vms_spec.specs.Tests.{is_there};
+ghost use Rattle.vms_spec.specs.declared.Part.TheVariants as parts;
+ghost use Rattle.vms_parts.specs.Sizes.{in_u32};
+ghost use Rattle.vms_parts.specs.Views.{field_of};
+ghost use Rattle.vms_laws.specs.Good.{IsGood};
+ghost use Rattle.vms_desc.specs.Asks.{first_cell, field_at, own_numbers, needed_at, HasCells, lesser, least_of};
+ghost use Rattle.vms_desc.specs.Numbers.{fields_in};
+ghost use Rattle.vms_desc.specs.Parts.{HasPart, desc_at};
+
+use crate::eval::{Scope, all_hold, holds, number_at};
+use crate::{Cells, Count, DescSet, Part};
+use vms_kinds::Item;
+use vms_parts::{Field, Measure, capacity, item_size};
+
+impl DescSet {
+    ghost use Rattle.vms_desc.specs.Described.{described, device_at};
+
+    /// The set is good, as the laws of the format want it.
+    pub fn is_good(&self)
+        ensures { IsGood (described self.now) }
+    {}
+
+    /// Where the cells of a part begin among those of its device: at 0, or after the cells that stand
+    /// before a subsection.
+    pub fn first_cell(&self, part: Part) -> u32
+        requires { HasPart (described self.now) part }
+        ensures { result ≡ first_cell (described self.now) part }
+    {
+        match part {
+            Part::Sub(device, sub) => self.first_cell_of_sub(device, sub),
+            _ => 0,
+        }
+    }
+
+    fn first_cell_of_sub(&self, device: u32, sub: u32) -> u32
+        requires { HasPart (described self.now) (parts.Sub device sub) }
+        ensures { result ≡ first_cell (described self.now) (parts.Sub device sub) }
+    {
+        let mut cell = self.cells_of(Part::Device(device));
+        for earlier in 0..sub {
+            cell += self.cells_of(Part::Sub(device, earlier));
+        }
+        cell
+    }
+
+    /// How many cells one element has, at most 2^32 - 1.
+    pub fn item_cells(&self, item: Item) -> u32
+        ensures { result ≡ in_u32 (item_size (struct_cells (described self.now)) item) }
+    {
+        item_size(Measure::Cells, self.sizes(), item)
+    }
+
+    /// How many fields a part has.
+    pub fn field_count(&self, part: Part) -> u32
+        requires { HasPart (described self.now) part }
+        ensures { result ≡ length (desc_at (described self.now) part).fields }
+    {
+        self.desc(part).fields.as_slice().len() as u32
+    }
+
+    /// How many subsections a device has.
+    pub fn sub_count(&self, device: u32) -> u32
+        requires { device < length (described self.now).devices }
+        ensures { result ≡ length (device_at (described self.now) device).subs }
+    {
+        self.device(device).subs.as_slice().len() as u32
+    }
+
+    /// How many cells the field of this number has, at most 2^32 - 1: of an array those of all elements
+    /// for which there is room.
+    pub fn field_cells(&self, part: Part, field: u32) -> u32
+        requires part { HasPart (described self.now) part }
+        requires field { field < length (desc_at (described self.now) part).fields }
+        ensures { result ≡ in_u32 (capacity_of (field_at (described self.now) part field).count * item_size (struct_cells (described self.now)) (field_at (described self.now) part field).item) }
+    {
+        let field = &self.desc(part).fields.as_slice()[field as usize];
+        capacity(field.count).saturating_mul(self.item_cells(field.item))
+    }
+
+    /// The least of the capacities of the arrays whose elements the field of this number counts, or `None` where it
+    /// counts none.
+    pub fn most(&self, part: Part, field: u32) -> Option<u32>
+        requires { HasPart (described self.now) part }
+        ensures { result ≡ least_of (counted field (desc_at (described self.now) part).fields) }
+    {
+        least_counted(self.desc(part).fields.as_slice(), field)
+    }
+
+    // The fields of a part, or of one element of a structure, whose first cell is `base`.
+    fn scope(&self, part: Part, base: u32) -> Scope<'_>
+        requires { HasPart (described self.now) part }
+        ensures fields { fields_in result ≡ (desc_at (described self.now) part).fields }
+        ensures base { result.base ≡ base }
+    {
+        Scope {
+            fields: self.desc(part).fields.as_slice(),
+            base,
+        }
+    }
+
+    /// Whether the field of this number is there at a version.
+    pub fn is_there<C: Cells>(
+        &self,
+        part: Part,
+        base: u32,
+        field: u32,
+        version: u32,
+        cells: &C,
+    ) -> bool
+        requires part { HasPart (described self.now) part }
+        requires field { field < length (desc_at (described self.now) part).fields }
+        requires few { length (C.numbers cells.now) ≤ 16384 }
+        requires own { HasCells (described self.now) part (C.numbers cells.now) base }
+        ensures { result ≡ is_there (field_at (described self.now) part field).test (field_at (described self.now) part field).since version (own_numbers (described self.now) part (C.numbers cells.now) base) no_parent }
+    {
+        let own = self.scope(part, base);
+        let field = &own.fields[field as usize];
+        match &field.test {
+            None => version >= field.since,
+            Some(test) => holds(test, version, self.sizes(), own, None, cells),
+        }
+    }
+
+    /// How many elements of the field of this number stand in the bytes, where it is there.
+    pub fn elements<C: Cells>(&self, part: Part, base: u32, field: u32, cells: &C) -> u32
+        requires part { HasPart (described self.now) part }
+        requires field { field < length (desc_at (described self.now) part).fields }
+        requires few { length (C.numbers cells.now) ≤ 16384 }
+        requires own { HasCells (described self.now) part (C.numbers cells.now) base }
+        ensures { result ≡ elements_of (field_at (described self.now) part field).count (own_numbers (described self.now) part (C.numbers cells.now) base) }
+    {
+        let own = self.scope(part, base);
+        let field = &own.fields[field as usize];
+        match field.count {
+            Count::One => 1,
+            Count::Fixed(length) => length,
+            Count::Counted { by, capacity } => {
+                number_at(self.sizes(), own, by, cells).min(capacity as u64) as u32
+            }
+        }
+    }
+
+    /// Whether all validations of a part hold.
+    pub fn holds_rules<C: Cells>(&self, part: Part, base: u32, version: u32, cells: &C) -> bool
+        requires part { HasPart (described self.now) part }
+        requires few { length (C.numbers cells.now) ≤ 16384 }
+        requires own { HasCells (described self.now) part (C.numbers cells.now) base }
+        ensures { result ≡ all_hold (desc_at (described self.now) part).validate version (own_numbers (described self.now) part (C.numbers cells.now) base) }
+    {
+        let tests = self.desc(part).validate.as_slice();
+        all_hold(tests, version, self.sizes(), self.scope(part, base), cells)
+    }
+
+    /// Whether a subsection of a device is needed, by the numbers of the device's cells.
+    pub fn is_needed<C: Cells>(&self, device: u32, sub: u32, cells: &C) -> bool
+        requires part { HasPart (described self.now) (parts.Sub device sub) }
+        requires few { length (C.numbers cells.now) ≤ 16384 }
+        requires cells { length (device_cells (described self.now) (device_at (described self.now) device)) ≤ length (C.numbers cells.now) }
+        ensures { result ≡ needed_at (described self.now) device sub (C.numbers cells.now) }
+    {
+        let part = Part::Sub(device, sub);
+        let described = &self.device(device).subs.as_slice()[sub as usize];
+        let base = self.first_cell(part);
+        self.eval(part, base, &described.needed, described.desc.version, cells)
+    }
+}
+
+// The least of the capacities of the arrays whose elements the field of this number counts.
+fn least_counted(fields: &[Field], number: u32) -> Option<u32>
+    ensures { result ≡ least_of (counted number (map field_of fields.now)) }
+{
+    let mut least = None;
+    for field in fields {
+        if let Count::Counted { by, capacity } = field.count {
+            least = lesser_if(by == number, least, capacity);
+        }
+    }
+    least
+}
+
+fn lesser_if(counts: bool, least: Option<u32>, capacity: u32) -> Option<u32>
+    ensures { result ≡ (if counts then lesser least capacity else least) }
+{
+    match least {
+        _ if !counts => least,
+        None => Some(capacity),
+        Some(least) => Some(least.min(capacity)),
+    }
+}

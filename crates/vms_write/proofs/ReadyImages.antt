@@ -1,0 +1,74 @@
+-- What a ready image has.
+use Rattle.std.proofs.Common.{◌≡◌, ℕ, zero, suc, ◌+◌, ◌<◌, ◌≤◌, List, [], ◌∷◌, ◌++◌, length, get_or, drop, Option, Some, None, ℤ, pos, refl, sym, ap, ◌∙◌, subst, arith, true}
+use Rattle.vms_spec.specs.Sets.{Set, Device, Sub, AtLeast}
+use Rattle.vms_spec.specs.Lists.{at}
+use Rattle.vms_spec.specs.Layout.{Cell, Slot, Number, Constant, Filler, Rule, no_cell, no_desc, device_cells}
+use Rattle.vms_spec.specs.Images.{Image, IsNormal, own_cells, own_slots, sub_place, sub_slots, AreVersionsOf}
+use Rattle.vms_spec.specs.Readiness.{is_ready}
+use Rattle.vms_spec.specs.WellFormed.{first_fault}
+use Rattle.vms_laws.specs.Cells.{AreCells}
+use Rattle.vms_laws.specs.Good.{IsGood, FitsHeads}
+use Rattle.vms_laws.proofs.ConstantLaws.{own_constants, part_constants}
+use Rattle.vms_laws.proofs.PartLaws.{sub_are}
+use Rattle.vms_laws.proofs.ReadyLaws.{ready_is}
+use Rattle.vms_laws.proofs.SectionLaws.{fit_slots, own_are}
+use Rattle.vms_laws.proofs.SpellLaws.{FitSlots}
+use Rattle.vms_laws.proofs.WellFormedLaws.{well_good}
+use Rattle.vms_desc.specs.Described.{device_at}
+use Rattle.vms_desc.specs.Formed.{is_well_formed}
+use Rattle.vms_desc.specs.Parts.{sub_at}
+use Rattle.vms_desc.proofs.AskLaws.{few_cells}
+use Rattle.vms_desc.proofs.Bounds.{none_is}
+use Rattle.vms_write.specs.Walks.{CanWrite}
+use Rattle.vms_write.proofs.Formed.{at_get}
+
+pub good_of : (set : Set) → is_well_formed set ≡ true → FitsHeads set → IsGood set
+good_of set well heads = well_good set (none_is (first_fault set) well) heads
+
+can_write : (all : List Cell) (m : List ℤ) (slots : List Slot) → length m ≡ length all → FitSlots m slots → AreCells all slots → CanWrite m slots
+can_write all m [] l f c = tt
+can_write all m (Number a kind caps ∷ slots) l f c =
+    let within = c.0.within in
+    (omega arith, f.0, can_write all m slots l f.2 c.1)
+can_write all m (Constant kind z ∷ slots) l f c = (f.0, can_write all m slots l f.1 c)
+can_write all m (Filler n ∷ slots) l f c = can_write all m slots l f c
+can_write all m (Rule b ∷ slots) l f c = can_write all m slots l f c
+
+versions_long : (subs : List Sub) (came : List (Option ℕ)) → AreVersionsOf subs came → length came ≡ length subs
+versions_long [] [] h = refl
+versions_long [] (o ∷ came) h = absurd h
+versions_long (s ∷ subs) [] h = absurd h
+versions_long (s ∷ subs) (None ∷ came) h = ap suc (versions_long subs came h)
+versions_long (s ∷ subs) (Some v ∷ came) h = ap suc (versions_long subs came h.1)
+
+-- device i of a set has an image whose bytes can be written
+pub record IsWritable (set : Set) (i : ℕ) (image : Image) : Type 0 where
+  pub few : length image.numbers ≤ 16384
+  pub cells : length image.numbers ≡ length (device_cells set (device_at set i))
+  pub came : length image.came ≡ length (device_at set i).subs
+  pub own : CanWrite image.numbers (own_slots set (device_at set i) image.version image.numbers)
+  pub subs : (j v : ℕ) → j < length (device_at set i).subs
+      → CanWrite image.numbers (sub_slots set (sub_at (device_at set i) j) v image.numbers (sub_place set (own_cells set (device_at set i)) (device_at set i).subs j))
+
+pub ready_writable : (set : Set) → is_well_formed set ≡ true → FitsHeads set → (i : ℕ) (image : Image) → i < length set.devices → is_ready set (device_at set i) image ≡ true → IsWritable set i image
+ready_writable set well heads i image lt r =
+    let d = device_at set i in
+    let m = image.numbers in
+    let good = good_of set well heads in
+    let normal = (ready_is set d image r).normal in
+    let here = at_get set.devices i (record { instance = 0; desc = no_desc; subs = [] }) lt in
+    let none : Sub = record { desc = no_desc; needed = AtLeast 0 } in
+    let long : length m ≡ length (device_cells set d) = normal.cells.long in
+    record {
+      few = omega (arith, few_cells set well i);
+      cells = long;
+      came = versions_long d.subs image.came normal.subs;
+      own = let are = own_are set d image.version m in
+          can_write (device_cells set d) m (own_slots set d image.version m) long (fit_slots (device_cells set d) m (own_slots set d image.version m) normal.cells are (own_constants set good i d here image.version 0 m)) are;
+      subs = λ j v lj.
+          let s = sub_at d j in
+          let from = sub_place set (own_cells set d) d.subs j in
+          let there = at_get d.subs j none lj in
+          let are = sub_are set d j s v m there in
+          can_write (device_cells set d) m (sub_slots set s v m from) long (fit_slots (device_cells set d) m (sub_slots set s v m from) normal.cells are (part_constants set good i j d s here there v from m)) are;
+    }
