@@ -18,7 +18,6 @@ section_text set None = codes "-"
 section_text set (Some k) = device_text (at set.devices k)
 
 abbrev pub reason_name : Reason → List ℕ
-reason_name reasons.Unbuilt = codes "Unbuilt"
 reason_name reasons.Truncated = codes "Truncated"
 reason_name reasons.BadMagic = codes "BadMagic"
 reason_name reasons.OldStream = codes "OldStream"

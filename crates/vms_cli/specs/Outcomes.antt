@@ -8,7 +8,7 @@ use Rattle.vms_spec.specs.Shipped.{set_0}
 use Rattle.vms_spec.specs.Streams.{written}
 use Rattle.vms_spec.specs.Values.{values_text}
 use Rattle.vms_spec.specs.ValuesReading.{ValuesRead, Values, Bad, values_read}
-use Rattle.vms_spec.specs.First.{Spot, Ended, reading, timer_image}
+use Rattle.vms_spec.specs.Judging.{State, reading}
 use Rattle.vms_cli.specs.Commands.{Asked, Show, Pack, asked_of}
 use Rattle.vms_cli.specs.Lines.{refused_line, values_line, not_there_line, too_large_line, bad_words, read_fault, write_fault, shelf_fault, out_of_memory}
 
@@ -30,10 +30,11 @@ ended status note = record { status = status; text = []; note = note; taken = 0 
 abbrev pub longest_values : ℕ
 longest_values = 1048576
 
-abbrev pub shown : Option (Reading Spot) → Outcome
-shown (Some (Accepted n (Ended now))) = done (values_text set_0 None (timer_image now ∷ [])) n
+-- the values of a stream that is read, or where and why it is refused
+abbrev pub shown : Option (Reading State) → Outcome
+shown None = done [] 0
+shown (Some (Accepted n end)) = done (values_text set_0 end.machine end.images) n
 shown (Some (Refused at section reason)) = ended 1 (refused_line set_0 at section reason)
-shown _ = done [] 0
 
 abbrev pub packed_of : ValuesRead → Outcome
 packed_of (Values machine images) = done (written set_0 machine images None) 0
@@ -47,7 +48,7 @@ packed name (Some text) = if nat_lt longest_values (length text) then ended 9 (t
 -- the outcome of a command, where what it goes by is told: of `show` the input, of `pack` the shelf
 abbrev pub outcome_of : Option Asked → Option (List ℕ) → Option Held → Option Outcome
 outcome_of None input held = Some (ended 2 bad_words)
-outcome_of (Some Show) (Some bytes) held = Some (shown (reading bytes))
+outcome_of (Some Show) (Some bytes) held = Some (shown (reading set_0 set_0.machines bytes))
 outcome_of (Some (Pack name)) input (Some held) = Some (packed name (held name))
 outcome_of _ input held = None
 

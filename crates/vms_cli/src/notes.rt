@@ -65,7 +65,6 @@ fn reason_name(reason: Reason) -> &'static str
     ensures { result.now ≡ reason_name reason }
 {
     match reason {
-        Reason::Unbuilt => "Unbuilt",
         Reason::Truncated => "Truncated",
         Reason::BadMagic => "BadMagic",
         Reason::OldStream => "OldStream",

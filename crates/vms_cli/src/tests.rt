@@ -10,8 +10,8 @@ const SMALLEST: [u8; 41] =
 const GREATEST: [u8; 41] =
     *b"QEVM\x00\x00\x00\x03\x04\x00\x00\x00\x00\x05timer\x00\x00\x00\x00\x00\x00\x00\x01\xff\xff\xff\xff\xff\xff\xff\xff\x7e\x00\x00\x00\x00\x00";
 
-const TRAILING: [u8; 42] =
-    *b"QEVM\x00\x00\x00\x03\x04\x00\x00\x00\x00\x05timer\x00\x00\x00\x00\x00\x00\x00\x01\x00\x00\x00\x00\x00\x00\x00\x00\x7e\x00\x00\x00\x00\x00\x00";
+const WITH_MACHINE: [u8; 51] =
+    *b"QEVM\x00\x00\x00\x03\x07\x00\x00\x00\x05isa-0\x04\x00\x00\x00\x00\x05timer\x00\x00\x00\x00\x00\x00\x00\x01\x00\x00\x00\x00\x00\x00\x00\x00\x7e\x00\x00\x00\x00\x00";
 
 #[derive(Drop)]
 struct Seen {
@@ -43,52 +43,124 @@ fn run(
 }
 
 #[test]
-fn shows_and_refuses_whole_inputs(rt: HostRuntime) -> Result<(), Fail> {
+fn shows_whole_streams(rt: HostRuntime) -> Result<(), Fail> {
     let alloc = rt.alloc();
-    let show: &[&str] = &["show", "@0"];
-    let cases: [(&[u8], u8, &[u8], &[u8]); 9] = [
-        (&SMALLEST, 0, b"section timer 0 v1\nnow = 0\n", b""),
+    let described: &[u8] = b"QEVM\x00\x00\x00\x03\x04\x00\x00\x00\x00\x05timer\x00\x00\x00\x00\x00\x00\x00\x01\x7e\x00\x00\x00\x00\x00\x00\x00\x7e\x00\x00\x00\x00\x00\x06\x00\x00\x00\x00";
+    let cases: [(&[u8], &[u8]); 4] = [
+        (&SMALLEST, b"section timer 0 v1\nnow = 0\n"),
         (
             &GREATEST,
-            0,
             b"section timer 0 v1\nnow = 18446744073709551615\n",
-            b"",
         ),
         (
-            b"QEVN\x00\x00\x00\x03",
-            1,
-            b"",
-            b"refused at 0 in -: BadMagic\n",
+            described,
+            b"section timer 0 v1\nnow = 9079256848778919936\n",
         ),
         (
-            b"QEVM\x00\x00\x00\x02",
-            1,
-            b"",
-            b"refused at 4 in -: Unbuilt\n",
+            &WITH_MACHINE,
+            b"machine isa-0\nsection timer 0 v1\nnow = 0\n",
         ),
-        (b"", 1, b"", b"refused at 0 in -: Truncated\n"),
-        (
-            b"QEVM\x00\x00\x00",
-            1,
-            b"",
-            b"refused at 4 in -: Truncated\n",
-        ),
-        (
-            &SMALLEST[..30],
-            1,
-            b"",
-            b"refused at 27 in timer/0: Truncated\n",
-        ),
-        (&SMALLEST[..40], 1, b"", b"refused at 40 in -: Truncated\n"),
-        (&TRAILING, 1, b"", b"refused at 41 in -: Unbuilt\n"),
     ];
     for piece in [1, 64] {
-        for (bytes, status, text, line) in cases {
-            let seen = run(alloc, show, bytes, piece, &[], &[])?;
-            assert_eq!(rt; seen.status, status);
+        for (bytes, text) in cases {
+            let seen = run(alloc, &["show", "@0"], bytes, piece, &[], &[])?;
+            assert_eq!(rt; seen.status, 0);
             assert_eq!(rt; seen.out.bytes(), text);
-            assert_eq!(rt; seen.notes.bytes(), line);
         }
+    }
+    Ok(())
+}
+
+// The line on notes where these bytes are shown, if they are refused and out is untouched.
+fn refusal(alloc: Global, bytes: &[u8]) -> Result<Option<MemSink>, Fail> {
+    let seen = run(alloc, &["show", "@0"], bytes, 64, &[], &[])?;
+    if seen.status == 1 && seen.out.bytes().is_empty() {
+        Ok(Some(seen.notes))
+    } else {
+        Ok(None)
+    }
+}
+
+// A stream head, and what follows it.
+fn after_head(alloc: Global, rest: &[u8]) -> Result<Vec<u8>, Fail> {
+    let mut bytes = b"QEVM\x00\x00\x00\x03".to_vec(alloc)?;
+    bytes.extend_from_slice(rest)?;
+    Ok(bytes)
+}
+
+// The smallest stream, with other bytes from a place on, and more behind it.
+fn changed(alloc: Global, at: usize, other: &[u8], more: &[u8]) -> Result<Vec<u8>, Fail> {
+    let mut bytes = SMALLEST.to_vec(alloc)?;
+    for (i, byte) in other.iter().enumerate() {
+        if let Some(place) = bytes.get_mut(at + i) {
+            *place = *byte;
+        }
+    }
+    bytes.extend_from_slice(more)?;
+    Ok(bytes)
+}
+
+#[test]
+fn refuses_marks_and_configurations(rt: HostRuntime) -> Result<(), Fail> {
+    let alloc = rt.alloc();
+    let cases: [(&[u8], &str); 12] = [
+        (b"", "refused at 8 in -: Truncated\n"),
+        (b"\x01\x00\x00\x00\x02\x03ram", "refused at 8 in -: Ram\n"),
+        (b"\x01\x00\x00\x00\x02\x04disk", "refused at 8 in -: Iterative\n"),
+        (b"\x02", "refused at 8 in -: Iterative\n"),
+        (b"\x03", "refused at 8 in -: Iterative\n"),
+        (b"\x08", "refused at 8 in -: Command\n"),
+        (b"\x7e", "refused at 8 in -: BadMark\n"),
+        (b"\x00", "refused at 8 in timer/0: MissingSection\n"),
+        (b"\x07\x00\x00\x00\x05isa-1", "refused at 8 in -: WrongMachine\n"),
+        (b"\x07\x00\x00\x01\x00", "refused at 8 in -: WrongMachine\n"),
+        (b"\x07\x00\x00\x00\x05isa-0\x05", "refused at 18 in -: ConfigurationExtra\n"),
+        (b"\x07\x00\x00\x00\x05isa-0\x07", "refused at 18 in -: BadMark\n"),
+    ];
+    for (rest, line) in cases {
+        let notes = refusal(alloc, &after_head(alloc, rest)?)?.ok_or("refused")?;
+        assert_eq!(rt; notes.bytes(), line.as_bytes());
+    }
+    Ok(())
+}
+
+#[test]
+fn refuses_changed_streams(rt: HostRuntime) -> Result<(), Fail> {
+    let alloc = rt.alloc();
+    let cases: [(usize, &[u8], &[u8], &str); 11] = [
+        (0, b"QEVN", b"", "refused at 0 in -: BadMagic\n"),
+        (7, b"\x02", b"", "refused at 4 in -: OldStream\n"),
+        (7, b"\x04", b"", "refused at 4 in -: BadVersion\n"),
+        (26, b"\x02", b"", "refused at 8 in timer/0: TooNew\n"),
+        (26, b"\x00", b"", "refused at 8 in timer/0: TooOld\n"),
+        (22, b"\x01", b"", "refused at 8 in -: UnknownSection\n"),
+        (39, b"\x01", b"", "refused at 35 in timer/0: BadFooter\n"),
+        (40, b"\x04", &SMALLEST[9..], "refused at 40 in timer/0: RepeatedSection\n"),
+        (0, b"", b"\x00", "refused at 41 in -: Trailing\n"),
+        (0, b"", b"\x06\x00\x00\x00\x01", "refused at 41 in -: Truncated\n"),
+        (0, b"", b"\x06\x01\x00\x00\x01", "refused at 41 in -: DescriptionTooLong\n"),
+    ];
+    for (at, other, more, line) in cases {
+        let notes = refusal(alloc, &changed(alloc, at, other, more)?)?.ok_or("refused")?;
+        assert_eq!(rt; notes.bytes(), line.as_bytes());
+    }
+    Ok(())
+}
+
+#[test]
+fn refuses_cut_streams(rt: HostRuntime) -> Result<(), Fail> {
+    let alloc = rt.alloc();
+    let cases = [
+        (0, "refused at 0 in -: Truncated\n"),
+        (7, "refused at 4 in -: Truncated\n"),
+        (26, "refused at 8 in -: Truncated\n"),
+        (30, "refused at 27 in timer/0: Truncated\n"),
+        (36, "refused at 35 in timer/0: Truncated\n"),
+        (40, "refused at 40 in -: Truncated\n"),
+    ];
+    for (long, line) in cases {
+        let notes = refusal(alloc, &SMALLEST[..long])?.ok_or("refused")?;
+        assert_eq!(rt; notes.bytes(), line.as_bytes());
     }
     Ok(())
 }
@@ -128,9 +200,6 @@ fn pack(alloc: Global, name: &str, text: Vec<u8>, failing: &[u32]) -> Result<See
     let status = vmstate(alloc, &words, &mut input, &mut out, &mut notes, &mut shelf);
     Ok(Seen { status, out, notes })
 }
-
-const WITH_MACHINE: [u8; 51] =
-    *b"QEVM\x00\x00\x00\x03\x07\x00\x00\x00\x05isa-0\x04\x00\x00\x00\x00\x05timer\x00\x00\x00\x00\x00\x00\x00\x01\x00\x00\x00\x00\x00\x00\x00\x00\x7e\x00\x00\x00\x00\x00";
 
 #[test]
 fn packs_and_refuses_texts(rt: HostRuntime) -> Result<(), Fail> {

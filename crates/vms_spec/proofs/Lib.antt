@@ -3,7 +3,6 @@ pub mod Rows
 pub mod Boxes
 pub mod DueSizes
 mod StreamRows
-mod FirstRows
 mod SetRows
 mod PlaceRows
 mod ShippedRows

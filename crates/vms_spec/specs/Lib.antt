@@ -25,4 +25,3 @@ pub mod Reducing
 pub mod Comparing
 pub mod Carrying
 pub mod Shipped
-pub mod First

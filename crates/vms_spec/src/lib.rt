@@ -62,8 +62,6 @@ pub struct Place {
 /// Why a stream is refused, in the order in which the reasons are tried within one unit.
 #[derive(Clone, Copy, Debug, PartialEq, Eq)]
 pub enum Reason {
-    /// What the loader doesn't read yet.
-    Unbuilt,
     /// The input ends inside the unit.
     Truncated,
     /// The magic is other bytes.
