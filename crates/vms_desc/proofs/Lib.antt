@@ -5,4 +5,6 @@ pub mod EvalParts
 pub mod Formed
 pub mod FormLaws
 pub mod NumberLaws
+pub mod PathBegins
+pub mod PathLaws
 pub mod TableLaws

@@ -6,6 +6,7 @@
 mod eval;
 mod forms;
 mod judged;
+mod path;
 mod set;
 mod shipped;
 
