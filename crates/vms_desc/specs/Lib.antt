@@ -5,4 +5,5 @@ pub mod Forms
 pub mod Heads
 pub mod Numbers
 pub mod Parts
+pub mod Paths
 pub mod Scopes

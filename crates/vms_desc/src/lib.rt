@@ -6,8 +6,9 @@
 mod asks;
 mod eval;
 mod forms;
-mod judged;
 mod heads;
+mod judged;
+mod path;
 mod set;
 mod shipped;
 

@@ -29,7 +29,7 @@ pub struct DescSet {
     // The forms of each device's cells.
     layout: Listed<Listed<CellForm>>,
     // How many cells each structure has, at most 2^32 - 1.
-    sizes: Listed<u32>,
+    pub(crate) sizes: Listed<u32>,
     ghost well_formed: { is_well_formed (set_of parts) ≡ true },
     ghost heads: { FitsHeads (set_of parts) },
     ghost few: { length parts.devices ≤ 64 },

@@ -10,7 +10,7 @@ use Rattle.vms_spec.specs.Layout.{Slot, Number, Constant, Filler, Rule, Meaning,
 use Rattle.vms_laws.specs.Good.{IsGood, ConstantFits, ConstantsFit}
 use Rattle.vms_laws.proofs.SectionLaws.{AreConstants}
 
-constants_append : (xs ys : List Slot) → AreConstants xs → AreConstants ys → AreConstants (xs ++ ys)
+pub constants_append : (xs ys : List Slot) → AreConstants xs → AreConstants ys → AreConstants (xs ++ ys)
 constants_append [] ys p q = q
 constants_append (Number c kind caps ∷ xs) ys p q = constants_append xs ys p q
 constants_append (Constant kind z ∷ xs) ys p q = (p.0, constants_append xs ys p.1 q)

@@ -193,7 +193,7 @@ are_rules (Filler n ∷ slots) h = are_rules slots h
 not_false : (b : Bool) → b ≡ false → not b ≡ true
 not_false b e = ap not e
 
-needed_are : (set : Set) (d : Device) (image : Image) (j : ℕ) (subs : List Sub) (came : List (Option ℕ)) → come_as_needed set d image j subs came ≡ true → ComeAsNeeded set d image j subs came
+pub needed_are : (set : Set) (d : Device) (image : Image) (j : ℕ) (subs : List Sub) (came : List (Option ℕ)) → come_as_needed set d image j subs came ≡ true → ComeAsNeeded set d image j subs came
 needed_are set d image j [] [] e = refl
 needed_are set d image j [] (o ∷ came) e = cc
 needed_are set d image j (s ∷ subs) [] e = cc
@@ -205,7 +205,7 @@ needed_are set d image j (s ∷ subs) (Some v ∷ came) e =
     let q = and_parts (is_needed set d image s j) (v == s.desc.version) p.0 in
     (q.0, eqb-true v s.desc.version q.1, needed_are set d image (suc j) subs came p.1)
 
-are_needed : (set : Set) (d : Device) (image : Image) (j : ℕ) (subs : List Sub) (came : List (Option ℕ)) → ComeAsNeeded set d image j subs came → come_as_needed set d image j subs came ≡ true
+pub are_needed : (set : Set) (d : Device) (image : Image) (j : ℕ) (subs : List Sub) (came : List (Option ℕ)) → ComeAsNeeded set d image j subs came → come_as_needed set d image j subs came ≡ true
 are_needed set d image j [] [] h = refl
 are_needed set d image j [] (o ∷ came) h = cc
 are_needed set d image j (s ∷ subs) [] h = absurd h

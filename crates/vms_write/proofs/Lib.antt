@@ -1,3 +1,6 @@
+pub mod FineParts
+pub mod FineReady
+pub mod FineSteps
 pub mod Formed
 pub mod Growing
 pub mod Prefixes

@@ -1,5 +1,5 @@
 -- A structure means the same in each table that reaches it.
-use Rattle.std.proofs.Common.{◌≡◌, ℕ, zero, suc, ◌+◌, ◌<◌, ◌≤◌, List, [], ◌∷◌, ◌++◌, length, get_or, map, ℤ, pos, refl, sym, ap, ◌∙◌, subst, arith, Bool, true, if◌then◌else◌, nat_lt}
+use Rattle.std.proofs.Common.{◌≡◌, ℕ, zero, suc, ◌+◌, ◌<◌, ◌≤◌, List, [], ◌∷◌, ◌++◌, length, get_or, ℤ, pos, refl, sym, ap, ◌∙◌, arith, true, if◌then◌else◌}
 use mathlib.Core.Path.{fun_ext}
 use Rattle.std.proofs.lemmas.Bool.{ltb-true}
 use Rattle.vms_kinds.specs.declared.Item.{Item}
@@ -8,7 +8,7 @@ use Rattle.vms_kinds.specs.Codes.{width, residue}
 use Rattle.vms_spec.specs.Sets.{Field, Desc}
 use Rattle.vms_spec.specs.Tests.{is_there}
 use Rattle.vms_spec.specs.Rules.{uses_below}
-use Rattle.vms_spec.specs.Layout.{Slot, Cell, Rule, Meaning, no_meaning, no_desc, no_field, no_parent, kind_of, item_cells, item_slots, item_size, times, field_slots, slots_from, desc_slots, desc_cells, field_cells, cells_from, place_of, numbers_of, elements_of, capacity_of, counted, all_hold, first, meaning, meanings}
+use Rattle.vms_spec.specs.Layout.{Slot, Cell, Rule, Meaning, no_meaning, no_desc, no_field, no_parent, kind_of, item_cells, item_slots, item_size, times, field_slots, slots_from, desc_slots, desc_cells, field_cells, cells_from, place_of, numbers_of, elements_of, capacity_of, counted, all_hold, meaning, meanings}
 use Rattle.vms_parts.proofs.Tables.{first_at}
 use Rattle.vms_write.specs.Walks.{cells_in}
 

@@ -1,9 +1,8 @@
 -- What a ready image has.
-use Rattle.std.proofs.Common.{◌≡◌, ℕ, zero, suc, ◌+◌, ◌<◌, ◌≤◌, List, [], ◌∷◌, ◌++◌, length, get_or, drop, Option, Some, None, ℤ, pos, refl, sym, ap, ◌∙◌, subst, arith, true}
-use Rattle.vms_spec.specs.Sets.{Set, Device, Sub, AtLeast}
-use Rattle.vms_spec.specs.Lists.{at}
-use Rattle.vms_spec.specs.Layout.{Cell, Slot, Number, Constant, Filler, Rule, no_cell, no_desc, device_cells}
-use Rattle.vms_spec.specs.Images.{Image, IsNormal, own_cells, own_slots, sub_place, sub_slots, AreVersionsOf}
+use Rattle.std.proofs.Common.{◌≡◌, ℕ, suc, ◌<◌, ◌≤◌, List, [], ◌∷◌, length, Option, Some, None, ℤ, refl, ap, arith, true}
+use Rattle.vms_spec.specs.Sets.{Set, Sub, AtLeast}
+use Rattle.vms_spec.specs.Layout.{Cell, Slot, Number, Constant, Filler, Rule, no_desc, device_cells}
+use Rattle.vms_spec.specs.Images.{Image, own_cells, own_slots, sub_place, sub_slots, AreVersionsOf}
 use Rattle.vms_spec.specs.Readiness.{is_ready}
 use Rattle.vms_spec.specs.WellFormed.{first_fault}
 use Rattle.vms_laws.specs.Cells.{AreCells}

@@ -1,13 +1,13 @@
 -- The spots of a walk: where fields and structures stand, and what they have.
-use Rattle.std.proofs.Common.{◌≡◌, ℕ, suc, ◌+◌, ◌*◌, ◌<◌, ◌≤◌, List, [], ◌∷◌, ◌++◌, length, get_or, drop, ℤ, refl, sym, ap, ◌∙◌, subst, arith, Bool, true, if◌then◌else◌}
+use Rattle.std.proofs.Common.{◌≡◌, ℕ, suc, ◌+◌, ◌*◌, ◌<◌, ◌≤◌, List, [], ◌++◌, length, get_or, drop, ℤ, refl, sym, ap, ◌∙◌, subst, arith, Bool, true, if◌then◌else◌}
 use Rattle.vms_kinds.specs.declared.Item.{Item}
 use Rattle.vms_kinds.specs.declared.Item.TheVariants.{Struct}
 use Rattle.vms_spec.specs.declared.Part.TheVariants as parts
-use Rattle.vms_spec.specs.Sets.{Set, Field, Desc}
+use Rattle.vms_spec.specs.Sets.{Set, Field}
 use Rattle.vms_spec.specs.Tests.{is_there}
 use Rattle.vms_spec.specs.Rules.{uses_below}
 use Rattle.vms_spec.specs.Images.{zeroed}
-use Rattle.vms_spec.specs.Layout.{Slot, Cell, no_desc, no_field, no_parent, item_slots, item_size, slots_from, desc_slots, desc_cells, cells_from, struct_cells, numbers_of, elements_of, capacity_of, counted, times}
+use Rattle.vms_spec.specs.Layout.{Cell, no_desc, no_parent, item_slots, item_size, slots_from, desc_slots, desc_cells, cells_from, struct_cells, numbers_of, elements_of, capacity_of, counted, times}
 use Rattle.vms_laws.proofs.CellLaws.{cells_first}
 use Rattle.vms_parts.specs.Sizes.{in_u32}
 use Rattle.vms_desc.specs.Asks.{field_at, own_numbers}

@@ -1,15 +1,13 @@
 -- The bytes of slots, part by part.
-use Rattle.std.proofs.Common.{◌≡◌, ℕ, zero, suc, ◌+◌, ◌*◌, ◌-◌, ◌<◌, ◌≤◌, List, [], ◌∷◌, ◌++◌, length, get_or, map, drop, replicate, ℤ, pos, refl, sym, ap, ◌∙◌, subst, arith, append_assoc, append-nil, length-append, Bool, true, false, if◌then◌else◌}
-use Rattle.vms_kinds.specs.Codes.{code, InRange}
+use Rattle.std.proofs.Common.{◌≡◌, ℕ, zero, suc, ◌+◌, ◌*◌, ◌-◌, ◌<◌, ◌≤◌, List, [], ◌∷◌, ◌++◌, length, get_or, drop, replicate, ℤ, pos, refl, sym, ap, ◌∙◌, arith, append_assoc, append-nil, length-append, Bool, true, false, if◌then◌else◌}
+use Rattle.vms_kinds.specs.Codes.{code}
 use Rattle.vms_kinds.specs.declared.Item.{Item}
 use Rattle.vms_kinds.specs.declared.Item.TheVariants.{Num, Equal, Unused, Struct}
-use Rattle.vms_spec.specs.Sets.{Field, Desc}
+use Rattle.vms_spec.specs.Sets.{Field}
 use Rattle.vms_spec.specs.Tests.{is_there}
 use Rattle.vms_spec.specs.Images.{zeroed}
 use Rattle.vms_spec.specs.Layout.{Slot, Number, Constant, Filler, Rule, Cell, Meaning, item_slots, item_size, times, field_slots, slots_from, field_cells, cells_from, elements_of, capacity_of, counted, no_parent, no_field}
-use Rattle.std.proofs.lemmas.List.{get_or-map, length-map, drop_more}
-use Rattle.vms_parts.specs.declared.types.Field.{Field as CodeField}
-use Rattle.vms_parts.specs.Views.{field_of}
+use Rattle.std.proofs.lemmas.List.{drop_more}
 use Rattle.vms_laws.proofs.Places.{field_size, elements_fit}
 use Rattle.vms_write.specs.Walks.{cells_in, present_of, CanWrite}
 

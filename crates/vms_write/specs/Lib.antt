@@ -1,2 +1,4 @@
+pub mod Fine
+pub mod Judged
 pub mod Walks
 pub mod Writing

@@ -1,11 +1,9 @@
-use Rattle.std.proofs.Common.{◌≡◌, ◌≤◌, ◌+◌, ◌++◌, List, ℕ, ℤ, length, sym, ap, ◌∙◌, subst, arith, OnErr}
+use Rattle.std.proofs.Common.{◌≡◌, ◌++◌, List, ℕ, length, sym, ap, ◌∙◌, subst, arith, OnErr}
 use Rattle.std.proofs.KnownBytes.{Appends-trans}
 use Rattle.std.specs.Io.KnownBytes.{Appends}
 use Rattle.vms_io.specs.Causes.{AppendsPrefix}
-use Rattle.vms_spec.specs.declared.Part.TheVariants as parts
 use Rattle.vms_spec.specs.Images.{zeroed, own_cells, own_slots}
-use Rattle.vms_spec.specs.Layout.{Slot}
-use Rattle.vms_spec.specs.Sets.{Set, Device}
+use Rattle.vms_spec.specs.Sets.{Device}
 use Rattle.vms_spec.specs.Streams.{section_head, written_subs, foot}
 use Rattle.vms_desc.specs.Described.{described, device_at}
 use Rattle.vms_desc.proofs.AskLaws.{own_inside_device}

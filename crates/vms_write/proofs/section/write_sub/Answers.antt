@@ -1,9 +1,9 @@
-use Rattle.std.proofs.Common.{◌≡◌, ◌≤◌, ◌<◌, ◌+◌, ◌++◌, List, ℕ, Option, Some, None, length, get_or, sym, ap, ◌∙◌, subst, arith, OnErr}
+use Rattle.std.proofs.Common.{◌≡◌, List, ℕ, Option, Some, None, length, get_or, sym, ap, ◌∙◌, subst, arith, OnErr}
 use Rattle.std.specs.Io.KnownBytes.{Appends}
 use Rattle.vms_io.specs.Causes.{AppendsPrefix}
 use Rattle.vms_spec.specs.declared.Part.TheVariants as parts
 use Rattle.vms_spec.specs.Images.{zeroed, sub_slots}
-use Rattle.vms_spec.specs.Sets.{Set, Desc}
+use Rattle.vms_spec.specs.Sets.{Desc}
 use Rattle.vms_spec.specs.Streams.{sub_head}
 use Rattle.vms_desc.specs.Asks.{first_cell}
 use Rattle.vms_desc.specs.Described.{described, device_at}
@@ -12,7 +12,7 @@ use Rattle.vms_desc.proofs.AskLaws.{sub_inside}
 use Rattle.vms_write.specs.Walks.{CanWrite}
 use Rattle.vms_write.specs.Writing.{written_sub}
 use Rattle.vms_write.proofs.Formed.{sub_short}
-use Rattle.vms_write.proofs.Growing.{prefix_front, prefix_more, on_fault, last_fails}
+use Rattle.vms_write.proofs.Growing.{prefix_front, on_fault, last_fails}
 use Rattle.vms_write.proofs.ReadyImages.{ready_writable}
 use Rattle.vms_write.proofs.section.write_sub.Goals as goal
 

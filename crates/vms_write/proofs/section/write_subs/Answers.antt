@@ -1,4 +1,4 @@
-use Rattle.std.proofs.Common.{◌≡◌, ◌<◌, ◌+◌, ℕ, length, drop, ap, sym, ◌∙◌, subst, arith, refl, None, get_or}
+use Rattle.std.proofs.Common.{◌<◌, ◌+◌, ℕ, length, drop, sym, ◌∙◌, subst, arith, refl, None, get_or}
 use Rattle.vms_spec.specs.declared.Part.TheVariants as parts
 use Rattle.vms_spec.specs.Images.{own_cells}
 use Rattle.vms_spec.specs.Streams.{written_subs}

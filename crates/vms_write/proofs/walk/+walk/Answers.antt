@@ -1,24 +1,23 @@
-use Rattle.std.proofs.Common.{rules, arith, refl, sym, ap, ◌∙◌, subst, ◌≡◌, ℕ, ℤ, suc, ◌+◌, ◌*◌, ◌-◌, ◌<◌, ◌≤◌, List, [], ◌++◌, length, get_or, map, drop, true}
+use Rattle.std.proofs.Common.{rules, arith, refl, sym, ap, ◌∙◌, subst, ◌≡◌, ℕ, ◌+◌, ◌*◌, ◌-◌, ◌<◌, ◌≤◌, List, [], ◌++◌, length, get_or, map, drop, true}
 use Rattle.std.proofs.lemmas.Bool.{ltb-true}
-use Rattle.std.proofs.lemmas.List.{drop_all, length-map}
+use Rattle.std.proofs.lemmas.List.{drop_all}
 use Rattle.std.specs.Io.KnownBytes.{Appends}
 use Rattle.vms_io.specs.Causes.{AppendsPrefix}
 use Rattle.vms_kinds.specs.declared.Item.{Item}
 use Rattle.vms_spec.specs.declared.Part.TheVariants as parts
-use Rattle.vms_spec.specs.Sets.{Set, Field, Desc}
+use Rattle.vms_spec.specs.Sets.{Field, Desc}
 use Rattle.vms_spec.specs.Rules.{uses_below}
 use Rattle.vms_spec.specs.Images.{zeroed}
-use Rattle.vms_spec.specs.Layout.{Slot, Cell, no_desc, item_slots, slots_from, desc_cells, cells_from, capacity_of, all_hold, struct_cells}
+use Rattle.vms_spec.specs.Layout.{no_desc, item_slots, slots_from, cells_from, capacity_of, all_hold}
 use Rattle.vms_parts.specs.Views.{field_of}
 use Rattle.vms_desc.specs.Asks.{field_at}
 use Rattle.vms_desc.specs.Described.{described}
 use Rattle.vms_desc.specs.Parts.{desc_at}
 use Rattle.vms_desc.proofs.AskLaws.{found_field}
-use Rattle.vms_write.specs.declared.walk.Spot.{Spot}
 use Rattle.vms_write.specs.Walks.{table, cells_in, spot_numbers, spot_slots, slots_at, size_in, elements_slots, HasSpot, CanWrite}
 use Rattle.vms_write.proofs.Growing.{Leaves, leaves_all, leaves_rest, leaves_none, leaves_prefix, on_fault, ok_same, err_same}
-use Rattle.vms_write.proofs.Walking.{zeroed_append, zeroed_rule, can_front, can_rest, one_fits}
-use Rattle.vms_write.proofs.Spots.{Next, next_field, FieldNeeds, field_needs, NextItem, next_item, size_code, width_code, spot_room, struct_spot, struct_size}
+use Rattle.vms_write.proofs.Walking.{zeroed_append, zeroed_rule, can_front, can_rest}
+use Rattle.vms_write.proofs.Spots.{next_field, field_needs, next_item, size_code, width_code, spot_room, struct_spot, struct_size}
 use Rattle.vms_write.proofs.walk.+walk.Goals as goal
 
 -- ---- items

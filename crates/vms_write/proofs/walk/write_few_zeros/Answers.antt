@@ -1,4 +1,4 @@
-use Rattle.std.proofs.Common.{◌≡◌, ℕ, List, replicate, sym, take, ◌∙◌, ap}
+use Rattle.std.proofs.Common.{replicate, sym, take}
 use Rattle.std.proofs.lemmas.List.{take-replicate}
 use Rattle.vms_write.proofs.Growing.{ok_same, err_same}
 use Rattle.vms_write.proofs.walk.write_few_zeros.Goals as goal

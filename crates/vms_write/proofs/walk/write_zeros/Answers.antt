@@ -1,6 +1,6 @@
-use Rattle.std.proofs.Common.{◌≡◌, ◌+◌, ◌-◌, ◌++◌, ℕ, List, replicate, arith, ◌∙◌, sym, ap}
+use Rattle.std.proofs.Common.{◌≡◌, ◌+◌, ◌-◌, ◌++◌, ℕ, replicate, arith, ◌∙◌, sym, ap}
 use Rattle.std.proofs.lemmas.List.{replicate-append-replicate}
-use Rattle.vms_write.proofs.Growing.{leaves_rest, leaves_prefix, leaves_none, on_fault}
+use Rattle.vms_write.proofs.Growing.{leaves_rest, leaves_prefix, on_fault}
 use Rattle.vms_write.proofs.walk.write_zeros.Goals as goal
 
 more_zeros : (n some : ℕ) → some + (n - some) ≡ n → replicate {A = ℕ} n 0 ≡ replicate some 0 ++ replicate (n - some) 0

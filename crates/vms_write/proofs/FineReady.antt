@@ -1,0 +1,288 @@
+-- What the judging walk finds fine is ready, and what is ready it finds fine.
+use Rattle.std.proofs.Common.{◌≡◌, ℕ, zero, suc, ◌+◌, ◌<◌, ◌≤◌, List, [], ◌∷◌, ◌++◌, length, length-append, get_or, map, Option, Some, None, ℤ, pos, refl, sym, ap, ◌∙◌, subst, arith, Bool, true, false, not, ◌&&◌, ◌||◌, ◌==◌}
+use Rattle.std.specs.List.{flat_map}
+use Rattle.std.proofs.lemmas.Bool.{and_parts, leb-true, eqb-true, eq-eqb}
+use Rattle.vms_spec.specs.Lists.{at}
+use Rattle.vms_spec.specs.Numbers.{same_number}
+use Rattle.vms_spec.specs.Sets.{Set, Device, Sub, Desc, AtLeast}
+use Rattle.vms_spec.specs.Layout.{Cell, no_cell, no_desc, Slot, Number, Constant, Filler, Rule, meanings, desc_cells, desc_slots, struct_cells, device_cells}
+use Rattle.vms_spec.specs.Images.{Image, has_cell, own_cells, own_slots, sub_slots, came_slots, image_slots, AreVersionsOf, FitsCell, RulesHold}
+use Rattle.vms_spec.specs.Streams.{is_needed}
+use Rattle.vms_spec.specs.Readiness.{come_as_needed, is_ready, is_normal, is_valid}
+use Rattle.vms_spec.specs.Rules.{in_range, counts_well}
+use Rattle.vms_laws.specs.Cells.{AreCells}
+use Rattle.vms_laws.specs.Good.{IsGood, DefaultsFit}
+use Rattle.vms_laws.proofs.AboveLaws.{IsAbove, above_none, above_append, above_less, desc_above, meanings_above}
+use Rattle.vms_laws.proofs.CellLaws.{cells_first, meanings_are}
+use Rattle.vms_laws.proofs.ConstantLaws.{constants_append, own_constants, part_constants}
+use Rattle.vms_laws.proofs.FineLaws.{image_are}
+use Rattle.vms_laws.proofs.NormalFound.{named_fits}
+use Rattle.vms_laws.proofs.PartLaws.{parts_together}
+use Rattle.vms_laws.proofs.ReadyLaws.{ranged, counted_well, same_is, is_same, needed_are, ready_is, is_ready_all}
+use Rattle.vms_laws.proofs.SectionLaws.{AreConstants, fit_slots}
+use Rattle.vms_laws.proofs.SpellLaws.{FitSlots}
+use Rattle.vms_laws.proofs.WellFormedLaws.{ranges, within}
+use Rattle.vms_parts.specs.Views.{form_of}
+use Rattle.vms_parts.specs.declared.types.CellForm.{CellForm}
+use Rattle.vms_desc.specs.Described.{device_at}
+use Rattle.vms_desc.specs.Formed.{is_well_formed}
+use Rattle.vms_desc.specs.Parts.{sub_at}
+use Rattle.vms_desc.proofs.Clean.{device_clean, sub_clean}
+use Rattle.vms_write.specs.Fine.{no_form, are_fit, settle, is_fine, sub_size, subs_fine}
+use Rattle.vms_write.proofs.FineParts.{IsBelow, fine_parts, desc_below, and_swap}
+use Rattle.vms_write.proofs.Formed.{at_get}
+
+both : (a b : Bool) → a ≡ true → b ≡ true → (a && b) ≡ true
+both a b e f = ap (λ (a : Bool). a && b) e ∙ f
+
+-- ---- slots that fit
+
+fit_true : (n : List ℤ) (slots : List Slot) → are_fit n slots ≡ true → AreConstants slots → FitSlots n slots × RulesHold slots
+fit_true n [] e k = (tt, tt)
+fit_true n (Number c kind caps ∷ slots) e k =
+    let p = and_parts (in_range kind (get_or n c (pos 0)) && counts_well caps (get_or n c (pos 0))) (are_fit n slots) e in
+    let q = and_parts (in_range kind (get_or n c (pos 0))) (counts_well caps (get_or n c (pos 0))) p.0 in
+    let more = fit_true n slots p.1 k in
+    ((ranges kind (get_or n c (pos 0)) q.0, within caps (get_or n c (pos 0)) q.1, more.0), more.1)
+fit_true n (Constant kind z ∷ slots) e k = let more = fit_true n slots e k.1 in ((k.0, more.0), more.1)
+fit_true n (Filler m ∷ slots) e k = fit_true n slots e k
+fit_true n (Rule b ∷ slots) e k =
+    let p = and_parts b (are_fit n slots) e in
+    let more = fit_true n slots p.1 k in
+    (more.0, (p.0, more.1))
+
+fit_all : (n : List ℤ) (slots : List Slot) → FitSlots n slots → RulesHold slots → are_fit n slots ≡ true
+fit_all n [] f r = refl
+fit_all n (Number c kind caps ∷ slots) f r =
+    both (in_range kind (get_or n c (pos 0)) && counts_well caps (get_or n c (pos 0))) (are_fit n slots)
+    (both (in_range kind (get_or n c (pos 0))) (counts_well caps (get_or n c (pos 0))) (ranged kind (get_or n c (pos 0)) f.0) (counted_well caps (get_or n c (pos 0)) f.1))
+    (fit_all n slots f.2 r)
+fit_all n (Constant kind z ∷ slots) f r = fit_all n slots f.1 r
+fit_all n (Filler m ∷ slots) f r = fit_all n slots f r
+fit_all n (Rule b ∷ slots) f r = both b (are_fit n slots) r.0 (fit_all n slots f r.1)
+
+-- ---- cells that stand in the slots or are at their defaults
+
+or_right : (a b : Bool) → (a || b) ≡ true → a ≡ false → b ≡ true
+or_right true b e f = cc
+or_right false b e f = e
+
+settle_at : (slots : List Slot) (forms : List CellForm) (n : List ℤ) (from k : ℕ) → settle slots forms n from k ≡ true
+    → (c : ℕ) → c < k → has_cell slots (from + c) ≡ false → get_or n (from + c) (pos 0) ≡ (get_or forms (from + c) no_form).default
+settle_at slots forms n from zero e c lt bare = absurd (omega arith)
+settle_at slots forms n from (suc k) e zero lt bare =
+    let here : from ≡ from + 0 = omega arith in
+    let p = and_parts (has_cell slots from || same_number (get_or n from (pos 0)) (get_or forms from no_form).default) (settle slots forms n (from + 1) k) e in
+    subst (λ (x : ℕ). get_or n x (pos 0) ≡ (get_or forms x no_form).default) here
+    (same_is (get_or n from (pos 0)) (get_or forms from no_form).default (or_right (has_cell slots from) (same_number (get_or n from (pos 0)) (get_or forms from no_form).default) p.0 (ap (has_cell slots) here ∙ bare)))
+settle_at slots forms n from (suc k) e (suc c) lt bare =
+    let next : (from + 1) + c ≡ from + suc c = omega arith in
+    let p = and_parts (has_cell slots from || same_number (get_or n from (pos 0)) (get_or forms from no_form).default) (settle slots forms n (from + 1) k) e in
+    subst (λ (x : ℕ). get_or n x (pos 0) ≡ (get_or forms x no_form).default) next
+    (settle_at slots forms n (from + 1) k p.1 c (omega arith) (ap (has_cell slots) next ∙ bare))
+
+settle_all : (slots : List Slot) (forms : List CellForm) (n : List ℤ) (from k : ℕ) → ((c : ℕ) → c < from + k → has_cell slots c ≡ false → get_or n c (pos 0) ≡ (get_or forms c no_form).default)
+    → settle slots forms n from k ≡ true
+settle_all slots forms n from zero h = refl
+settle_all slots forms n from (suc k) h =
+    both (has_cell slots from || same_number (get_or n from (pos 0)) (get_or forms from no_form).default) (settle slots forms n (from + 1) k) (here (has_cell slots from) refl)
+    (settle_all slots forms n (from + 1) k (λ c lt bare. h c (omega arith) bare))
+  where
+    here : (b : Bool) → has_cell slots from ≡ b → (b || same_number (get_or n from (pos 0)) (get_or forms from no_form).default) ≡ true
+    here true e = refl
+    here false e = is_same (get_or n from (pos 0)) (get_or forms from no_form).default (h from (omega arith) e)
+
+-- ---- the subsections
+
+abbrev subs_size : Set → List Sub → ℕ
+subs_size set [] = 0
+subs_size set (s ∷ subs) = sub_size set s + subs_size set subs
+
+subs_long : (set : Set) (subs : List Sub) → length (flat_map (λ s. desc_cells (struct_cells set) s.desc) subs) ≡ subs_size set subs
+subs_long set [] = refl
+subs_long set (s ∷ subs) = length-append (desc_cells (struct_cells set) s.desc) (flat_map (λ s. desc_cells (struct_cells set) s.desc) subs) ∙ ap (λ (k : ℕ). sub_size set s + k) (subs_long set subs)
+
+cells_long : (set : Set) (d : Device) → own_cells set d + subs_size set d.subs ≡ length (device_cells set d)
+cells_long set d = sym (length-append (desc_cells (struct_cells set) d.desc) (flat_map (λ s. desc_cells (struct_cells set) s.desc) d.subs) ∙ ap (λ (k : ℕ). own_cells set d + k) (subs_long set d.subs))
+
+sub_above : (set : Set) (s : Sub) (v : ℕ) (n : List ℤ) (at : ℕ) → IsAbove at (sub_slots set s v n at)
+sub_above set s v n at = desc_above (meanings set.structs (length set.structs)) (meanings_above set.structs (length set.structs)) s.desc v n at
+
+part_below : (set : Set) (d : Desc) (v : ℕ) (n : List ℤ) (at : ℕ) → IsBelow (at + length (desc_cells (struct_cells set) d)) (desc_slots (meanings set.structs (length set.structs)) d v n at)
+part_below set d v n at =
+    subst (λ (cs : List (List Cell)). IsBelow (at + length (desc_cells cs d)) (desc_slots (meanings set.structs (length set.structs)) d v n at)) (cells_first set.structs (length set.structs))
+    (desc_below (meanings set.structs (length set.structs)) (meanings_are set.structs (length set.structs)) n d v at)
+
+came_above : (set : Set) (d : Device) (n : List ℤ) (at : ℕ) (subs : List Sub) (came : List (Option ℕ)) → IsAbove at (came_slots set d n at subs came)
+came_above set d n at [] came = above_none at
+came_above set d n at (s ∷ subs) [] = above_none at
+came_above set d n at (s ∷ subs) (None ∷ came) = above_less at (at + sub_size set s) _ (omega arith) (came_above set d n (at + sub_size set s) subs came)
+came_above set d n at (s ∷ subs) (Some v ∷ came) =
+    above_append at (sub_slots set s v n at) (came_slots set d n (at + sub_size set s) subs came) (sub_above set s v n at)
+    (above_less at (at + sub_size set s) _ (omega arith) (came_above set d n (at + sub_size set s) subs came))
+
+-- the subsections are fine and came as needed
+came_fine : (set : Set) (d : Device) (forms : List CellForm) (image : Image) (j at : ℕ) (subs : List Sub) (came : List (Option ℕ)) → length came ≡ length subs
+    → (come_as_needed set d image j subs came && is_fine forms image.numbers (came_slots set d image.numbers at subs came) at (subs_size set subs)) ≡ subs_fine set d forms image j at subs came
+came_fine set d forms image j at [] [] e = refl
+came_fine set d forms image j at [] (o ∷ came) e = absurd (omega arith)
+came_fine set d forms image j at (s ∷ subs) [] e = absurd (omega arith)
+came_fine set d forms image j at (s ∷ subs) (None ∷ came) e =
+    let n = image.numbers in
+    let unneeded = not (is_needed set d image s j) in
+    let later = come_as_needed set d image (suc j) subs came in
+    let rest = came_slots set d n (at + sub_size set s) subs came in
+    let none : IsBelow (at + sub_size set s) [] = record { above = λ c le. refl } in
+    ap (λ (b : Bool). (unneeded && later) && b) (fine_parts forms n [] rest at (sub_size set s) (subs_size set subs) none (came_above set d n (at + sub_size set s) subs came))
+    ∙ and_swap unneeded later (settle [] forms n at (sub_size set s)) (is_fine forms n rest (at + sub_size set s) (subs_size set subs))
+    ∙ ap (λ (b : Bool). (unneeded && settle [] forms n at (sub_size set s)) && b) (came_fine set d forms image (suc j) (at + sub_size set s) subs came (omega arith))
+came_fine set d forms image j at (s ∷ subs) (Some v ∷ came) e =
+    let n = image.numbers in
+    let needed = is_needed set d image s j && v == s.desc.version in
+    let later = come_as_needed set d image (suc j) subs came in
+    let here = sub_slots set s v n at in
+    let rest = came_slots set d n (at + sub_size set s) subs came in
+    ap (λ (b : Bool). (needed && later) && b) (fine_parts forms n here rest at (sub_size set s) (subs_size set subs) (part_below set s.desc v n at) (came_above set d n (at + sub_size set s) subs came))
+    ∙ and_swap needed later (is_fine forms n here at (sub_size set s)) (is_fine forms n rest (at + sub_size set s) (subs_size set subs))
+    ∙ ap (λ (b : Bool). (needed && is_fine forms n here at (sub_size set s)) && b) (came_fine set d forms image (suc j) (at + sub_size set s) subs came (omega arith))
+
+-- what the walk answers for a device
+abbrev pub device_fine : Set → Device → List CellForm → Image → Bool
+device_fine set d forms image =
+    (image.version == d.desc.version && is_fine forms image.numbers (own_slots set d image.version image.numbers) 0 (own_cells set d)) && subs_fine set d forms image 0 (own_cells set d) d.subs image.came
+
+-- in one piece
+whole_fine : (set : Set) (d : Device) (forms : List CellForm) (image : Image) → length image.came ≡ length d.subs
+    → device_fine set d forms image ≡ ((image.version == d.desc.version && come_as_needed set d image 0 d.subs image.came) && is_fine forms image.numbers (image_slots set d image) 0 (length (device_cells set d)))
+whole_fine set d forms image e =
+    let n = image.numbers in
+    let version = image.version == d.desc.version in
+    let come = come_as_needed set d image 0 d.subs image.came in
+    let own = own_slots set d image.version n in
+    let from = own_cells set d in
+    let rest = came_slots set d n from d.subs image.came in
+    let zero_first : from ≡ 0 + from = omega arith in
+    let below : IsBelow (0 + from) own = part_below set d.desc image.version n 0 in
+    let above : IsAbove (0 + from) rest = subst (λ (k : ℕ). IsAbove k rest) zero_first (came_above set d n from d.subs image.came) in
+    let parts = fine_parts forms n own rest 0 from (subs_size set d.subs) below above in
+    ap (λ (b : Bool). (version && is_fine forms n own 0 from) && b) (sym (came_fine set d forms image 0 from d.subs image.came e))
+    ∙ and_swap version (is_fine forms n own 0 from) come (is_fine forms n rest from (subs_size set d.subs))
+    ∙ ap (λ (k : ℕ). (version && come) && (is_fine forms n own 0 from && is_fine forms n rest k (subs_size set d.subs))) zero_first
+    ∙ ap (λ (b : Bool). (version && come) && b) (sym parts ∙ ap (is_fine forms n (own ++ rest) 0) (cells_long set d))
+
+-- ---- readiness
+
+-- subsections came at versions of theirs
+versions_are : (set : Set) (d : Device) (image : Image) (j : ℕ) (subs : List Sub) (came : List (Option ℕ)) → ((k : ℕ) (s : Sub) → at subs k ≡ Some s → s.desc.minimum ≤ s.desc.version)
+    → come_as_needed set d image j subs came ≡ true → AreVersionsOf subs came
+versions_are set d image j [] [] h e = tt
+versions_are set d image j [] (o ∷ came) h e = cc
+versions_are set d image j (s ∷ subs) [] h e = cc
+versions_are set d image j (s ∷ subs) (None ∷ came) h e =
+    versions_are set d image (suc j) subs came (λ k t g. h (suc k) t g) (and_parts (not (is_needed set d image s j)) (come_as_needed set d image (suc j) subs came) e).1
+versions_are set d image j (s ∷ subs) (Some v ∷ came) h e =
+    let p = and_parts (is_needed set d image s j && v == s.desc.version) (come_as_needed set d image (suc j) subs came) e in
+    let same = eqb-true v s.desc.version (and_parts (is_needed set d image s j) (v == s.desc.version) p.0).1 in
+    let low : s.desc.minimum ≤ s.desc.version = h 0 s refl in
+    ((omega arith, omega arith), versions_are set d image (suc j) subs came (λ k t g. h (suc k) t g) p.1)
+
+form_default : (cells : List Cell) (c : ℕ) → (get_or (map form_of cells) c no_form).default ≡ (get_or cells c no_cell).default
+form_default [] c = refl
+form_default (x ∷ cells) zero = refl
+form_default (x ∷ cells) (suc c) = form_default cells c
+
+cell_fits : (all : List Cell) (n : List ℤ) (slots : List Slot) (c : ℕ) → c < length all → DefaultsFit all → AreCells all slots → FitSlots n slots → (has_cell slots c ≡ false → get_or n c (pos 0) ≡ (get_or all c no_cell).default)
+    → (b : Bool) → has_cell slots c ≡ b → FitsCell (get_or all c no_cell) (get_or n c (pos 0))
+cell_fits all n slots c lt fine a f h true e = named_fits all n slots c e f a
+cell_fits all n slots c lt fine a f h false e = subst (λ (z : ℤ). FitsCell (get_or all c no_cell) z) (sym (h e)) (fine c lt)
+
+image_constants : (set : Set) → IsGood set → (k : ℕ) (d : Device) (image : Image) → at set.devices k ≡ Some d → AreConstants (image_slots set d image)
+image_constants set good k d image e =
+    let n = image.numbers in
+    constants_append (own_slots set d image.version n) (came_slots set d n (own_cells set d) d.subs image.came) (own_constants set good k d e image.version 0 n)
+    (parts_together set d n AreConstants tt constants_append (own_cells set d) d.subs image.came (λ j s v h i. part_constants set good k j d s e h v _ n))
+
+same_tests : (a b : Bool) → (a ≡ true → b ≡ true) → (b ≡ true → a ≡ true) → a ≡ b
+same_tests true b f g = sym (f refl)
+same_tests false true f g = g refl
+same_tests false false f g = refl
+
+module _ (set : Set) (well : is_well_formed set ≡ true) (good : IsGood set) (i : ℕ) (lt : i < length set.devices) (image : Image)
+    (cells : length image.numbers ≡ length (device_cells set (device_at set i))) (subs : length image.came ≡ length (device_at set i).subs) (forms : List CellForm) (is : forms ≡ map form_of (device_cells set (device_at set i))) where
+  found : at set.devices i ≡ Some (device_at set i)
+  found = at_get set.devices i (record { instance = 0; desc = no_desc; subs = [] }) lt
+
+  lowest : (k : ℕ) (s : Sub) → at (device_at set i).subs k ≡ Some s → s.desc.minimum ≤ s.desc.version
+  lowest k s e =
+      let d = device_at set i in
+      let inside = within_list d.subs k s e in
+      let same : sub_at d k ≡ s = there d.subs k (record { desc = no_desc; needed = AtLeast 0 }) s e in
+      subst (λ (x : Sub). x.desc.minimum ≤ x.desc.version) same (leb-true (sub_at d k).desc.minimum (sub_at d k).desc.version (sub_clean set well i k lt inside).own.1.1.0)
+    where
+      within_list : (xs : List Sub) (k : ℕ) (s : Sub) → at xs k ≡ Some s → k < length xs
+      within_list [] k s e = cc
+      within_list (x ∷ xs) zero s e = omega arith
+      within_list (x ∷ xs) (suc k) s e = omega (arith, within_list xs k s e)
+
+      there : (xs : List Sub) (k : ℕ) (none s : Sub) → at xs k ≡ Some s → get_or xs k none ≡ s
+      there [] k none s e = cc
+      there (x ∷ xs) zero none s e = cc
+      there (x ∷ xs) (suc k) none s e = there xs k none s e
+
+  default_at : (c : ℕ) → (get_or forms c no_form).default ≡ (get_or (device_cells set (device_at set i)) c no_cell).default
+  default_at c = ap (λ (fs : List CellForm). (get_or fs c no_form).default) is ∙ form_default (device_cells set (device_at set i)) c
+
+  fine_ready : device_fine set (device_at set i) forms image ≡ true → is_ready set (device_at set i) image ≡ true
+  fine_ready e =
+      let d = device_at set i in
+      let n = image.numbers in
+      let all = device_cells set d in
+      let slots = image_slots set d image in
+      let version = image.version == d.desc.version in
+      let come = come_as_needed set d image 0 d.subs image.came in
+      let p = and_parts (version && come) (is_fine forms n slots 0 (length all)) (sym (whole_fine set d forms image subs) ∙ e) in
+      let q = and_parts version come p.0 in
+      let r = and_parts (are_fit n slots) (settle slots forms n 0 (length all)) p.1 in
+      let same : image.version ≡ d.desc.version = eqb-true image.version d.desc.version q.0 in
+      let low : d.desc.minimum ≤ d.desc.version = leb-true d.desc.minimum d.desc.version (device_clean set well i lt).own.1.1.0 in
+      let fits = fit_true n slots r.0 (image_constants set good i d image found) in
+      let absent : (c : ℕ) → c < length all → has_cell slots c ≡ false → get_or n c (pos 0) ≡ (get_or all c no_cell).default =
+      λ c l bare. settled c l bare r.1 in
+      is_ready_all set d image (record {
+        normal = record {
+          version = (omega arith, omega arith);
+          subs = versions_are set d image 0 d.subs image.came lowest q.1;
+          cells = record { long = cells; fits = λ c l. cell_fits all n slots c l (good.defaults i d found) (image_are set d image) fits.0 (absent c l) (has_cell slots c) refl };
+          absent = λ c l bare. absent c (omega arith) bare;
+        };
+        valid = fits.1;
+        version = same;
+        needed = needed_are set d image 0 d.subs image.came q.1;
+      })
+    where
+      settled : (c : ℕ) → c < length (device_cells set (device_at set i)) → has_cell (image_slots set (device_at set i) image) c ≡ false
+          → settle (image_slots set (device_at set i) image) forms image.numbers 0 (length (device_cells set (device_at set i))) ≡ true
+          → get_or image.numbers c (pos 0) ≡ (get_or (device_cells set (device_at set i)) c no_cell).default
+      settled c l bare e =
+          let slots = image_slots set (device_at set i) image in
+          let here : 0 + c ≡ c = omega arith in
+          subst (λ (x : ℕ). get_or image.numbers x (pos 0) ≡ (get_or forms x no_form).default) here
+          (settle_at slots forms image.numbers 0 (length (device_cells set (device_at set i))) e c l (ap (has_cell slots) here ∙ bare)) ∙ default_at c
+
+  ready_fine : is_ready set (device_at set i) image ≡ true → device_fine set (device_at set i) forms image ≡ true
+  ready_fine e =
+      let d = device_at set i in
+      let n = image.numbers in
+      let all = device_cells set d in
+      let slots = image_slots set d image in
+      let ready = ready_is set d image e in
+      let come = (and_parts (is_normal set d image && is_valid set d image && image.version == d.desc.version) (come_as_needed set d image 0 d.subs image.came) e).1 in
+      let fits = fit_slots all n slots ready.normal.cells (image_are set d image) (image_constants set good i d image found) in
+      whole_fine set d forms image subs
+      ∙ both (image.version == d.desc.version && come_as_needed set d image 0 d.subs image.came) (is_fine forms n slots 0 (length all))
+      (both (image.version == d.desc.version) (come_as_needed set d image 0 d.subs image.came) (eq-eqb image.version d.desc.version ready.version) come)
+      (both (are_fit n slots) (settle slots forms n 0 (length all)) (fit_all n slots fits ready.valid)
+      (settle_all slots forms n 0 (length all) (λ c l bare. ready.normal.absent c (omega arith) bare ∙ sym (default_at c))))
+
+  pub fine_is_ready : device_fine set (device_at set i) forms image ≡ is_ready set (device_at set i) image
+  fine_is_ready = same_tests (device_fine set (device_at set i) forms image) (is_ready set (device_at set i) image) fine_ready ready_fine

@@ -1,0 +1,13 @@
+use Rattle.std.proofs.Common.{arith}
+use Rattle.vms_desc.specs.Described.{described}
+use Rattle.vms_desc.proofs.AskLaws.{sub_inside}
+use Rattle.vms_write.proofs.readiness.is_sent_fine.Goals as goal
+
+pub is_part_fine-requires-clause-spot : goal.is_part_fine-requires-clause-spot
+is_part_fine-requires-clause-spot c =
+    let set = described c.args.judged.set.now in
+    record {
+      part = (c.requires.device.is_device, c.requires.is_sub);
+      few = c.requires.device.few;
+      room = omega (arith, c.first_cell.ensures, sub_inside set c.args.device c.args.sub c.requires.is_sub, c.requires.device.cells);
+    }
