@@ -1,5 +1,5 @@
 // The state of a device.
-ghost use Rattle.std.specs.Prelude.{◌≡◌, ◌<◌, ℤ, ℕ, Option, None, pos, length, get_or, slice_set, map, replicate, IfOk};
+ghost use Rattle.std.specs.Prelude.{◌≡◌, ◌==◌, ◌&&◌, ◌<◌, ℤ, ℕ, Option, None, pos, length, get_or, slice_set, map, replicate, IfOk};
 ghost use Rattle.vms_desc.specs.Described.{described, device_at};
 ghost use Rattle.vms_spec.specs.Images.{default_image};
 ghost use Rattle.vms_spec.specs.Layout.{device_cells};
@@ -50,6 +50,15 @@ impl Image {
         self.version = set.device(device).desc.version;
         clear(&mut self.came);
         put_defaults(&mut self.numbers, set.cell_forms(device));
+    }
+
+    /// Whether the image is one of this device: it has its cells, and something for each of its subsections.
+    pub fn is_of(&self, set: &DescSet, device: u32) -> bool
+        requires { device < length (described set.now).devices }
+        ensures { result ≡ (length self.now.came == length (device_at (described set.now) device).subs && length self.now.numbers == length (device_cells (described set.now) (device_at (described set.now) device))) }
+    {
+        self.came.len() == set.device(device).subs.as_slice().len()
+            && self.numbers.len() == set.cells(device) as usize
     }
 
     /// The number of a cell.

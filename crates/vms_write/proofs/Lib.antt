@@ -1,3 +1,4 @@
+pub mod AllReady
 pub mod FineParts
 pub mod FineReady
 pub mod FineSteps

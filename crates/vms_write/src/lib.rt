@@ -9,7 +9,7 @@ mod section;
 mod stream;
 mod walk;
 
-pub use readiness::ready;
+pub use readiness::{are_ready, ready};
 pub use section::write_section;
 pub use stream::write_stream;
 

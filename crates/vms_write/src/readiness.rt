@@ -1,5 +1,6 @@
 // Which images may be written.
 ghost use Rattle.std.specs.Prelude.{◌≡◌, ◌<◌, ◌≤◌, ◌+◌, ◌*◌, ◌&&◌, ◌==◌, true, None, pos, length, get_or, []};
+ghost use Rattle.std.specs.Bool.{OnTrue, OnFalse};
 ghost use Rattle.vms_spec.specs.Images.{own_cells, own_slots, sub_slots};
 ghost use Rattle.vms_spec.specs.Layout.{item_slots, capacity_of, device_cells};
 ghost use Rattle.vms_spec.specs.Places.{own_cell_count};
@@ -13,6 +14,7 @@ ghost use Rattle.vms_desc.specs.Parts.{desc_at, sub_at};
 ghost use Rattle.vms_write.specs.Fine.{no_form, capacities_of, is_within, settle, is_fine, sub_fine, subs_fine};
 ghost use Rattle.vms_write.specs.Judged.{IsJudged, IsOfDevice};
 ghost use Rattle.vms_write.specs.Walks.{table, HasSpot, spot_slots, slots_at, size_in, elements_slots};
+ghost use Rattle.vms_write.specs.Writing.{AreReady};
 
 use crate::walk::{Spot, present};
 use vms_desc::{CellForm, DescSet, Part};
@@ -34,6 +36,30 @@ pub fn ready(set: &DescSet, device: u32, image: &Image) -> bool
         image,
     };
     is_own_fine(judged, device) && are_subs_fine(judged, device)
+}
+
+/// Tells whether these are one image for each device of the set, in its order, each of which may be written.
+pub fn are_ready(set: &DescSet, images: &[Image]) -> bool
+    ensures ready { OnTrue result (AreReady (described set.now) images.now) }
+    ensures other { OnFalse result (AreReady (described set.now) images.now → ⊥) }
+{
+    if images.len() != set.parts().devices.as_slice().len() {
+        return false;
+    }
+    for (device, image) in images.iter().enumerate() {
+        if !may_be_written(set, device as u32, image) {
+            return false;
+        }
+    }
+    true
+}
+
+// Whether an image is one of a device, and may be written.
+fn may_be_written(set: &DescSet, device: u32, image: &Image) -> bool
+    requires { device < length (described set.now).devices }
+    ensures { result ≡ is_ready (described set.now) (device_at (described set.now) device) image.now }
+{
+    image.is_of(set, device) && ready(set, device, image)
 }
 
 // An image that is judged, with the forms of its device's cells.
