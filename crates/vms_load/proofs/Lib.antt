@@ -1,2 +1,14 @@
+pub mod AfterReads
+pub mod BodyLemmas
+pub mod Counting
+pub mod HeadLemmas
+pub mod Kept
+pub mod PartReads
+pub mod ReadLemmas
+pub mod Rules
+pub mod SetFacts
+pub mod Spending
+pub mod Tables
 pub mod TimerImages
 pub mod UnitLemmas
+pub mod WellFit
