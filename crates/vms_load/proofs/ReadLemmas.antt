@@ -114,3 +114,16 @@ module _ (go : State → Onward) {X : Type 0} (section : Option ℕ) (it : X →
       let ahead : long x ≡ to - at = omega (arith, far) in
       subst (λ (o : Option (List ℕ)). Leads (judged found) (behind go at (it x)) at to rest o) (sym a.1)
       (ap judged a.0 ∙ behind_is (it x) (long x) h ∙ ap (λ (k : ℕ). behind go at (it x) k (drop (long x) rest)) (sym far), ap (λ (k : ℕ). drop k rest) ahead)
+
+-- what is settled beside other answers
+pub settles_err : {X Y : Type 0} (v : Verdict State) (at n : ℕ) (next : X → State) (other : Y → State) (e : LoadFault) → Settles v at next n (Err e) → Settles v at other n (Err e)
+settles_err (Goes m s) at n next other e h = h
+settles_err (Faulty section reason) at n next other (faults.Refused r) h = h
+settles_err (Faulty section reason) at n next other faults.ReadFault h = h
+settles_err (Faulty section reason) at n next other faults.NoMemory h = h
+settles_err (Over end) at n next other e h = h
+
+pub settles_ok : {X Y : Type 0} (v : Verdict State) (at n : ℕ) (next : X → State) (other : Y → State) (x : X) (y : Y) → next x ≡ other y → Settles v at next n (Ok x) → Settles v at other n (Ok y)
+settles_ok (Goes m s) at n next other x y e h = (h.0 ∙ e, h.1)
+settles_ok (Faulty section reason) at n next other x y e h = h
+settles_ok (Over end) at n next other x y e h = h

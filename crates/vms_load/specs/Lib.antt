@@ -6,3 +6,4 @@ pub mod Kept
 pub mod Loads
 pub mod Parts
 pub mod Reads
+pub mod Staging

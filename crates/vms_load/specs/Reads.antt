@@ -41,8 +41,19 @@ abbrev pub concerning : Option ℕ → FrameFault → LoadFault
 concerning section (frames.Refused at reason) = faults.Refused (record { section = section; at = at; reason = reason })
 concerning section frames.ReadFault = faults.ReadFault
 
+-- the input is at fault, and not the source
+abbrev pub IsRefused : LoadFault → Type 0
+IsRefused (faults.Refused r) = Unit {0}
+IsRefused faults.ReadFault = ⊥
+IsRefused faults.NoMemory = ⊥
+
 -- How many bytes are given, where so many were due before and are due after: as many as the place has moved, and no more
 -- than were due. A unit at fault that wasn't due has at most 269.
 abbrev pub Gives : {X : Type 0} → ℕ → ℕ → ℕ → ℕ → ℕ → (X → ℕ) → Result X LoadFault → Type 0
 Gives before now from to due after (Ok x) = (from ≤ to) × (to + after x ≤ from + due) × (now ≡ capped (before + (to - from)))
 Gives before now from to due after (Err e) = now ≤ before + due + 269
+
+-- the same behind a head, whose bytes are counted among those that were due before it
+abbrev pub GivesBehind : {X : Type 0} → ℕ → ℕ → ℕ → ℕ → ℕ → (X → ℕ) → Result X LoadFault → Type 0
+GivesBehind before now from to due after (Ok x) = (from ≤ to) × (to + (269 + after x) ≤ from + due) × (now ≡ capped (before + (to - from)))
+GivesBehind before now from to due after (Err e) = now ≤ before + due

@@ -11,6 +11,8 @@ mod items;
 mod loader;
 mod parts;
 mod sizes;
+mod staged;
+mod stream;
 mod units;
 
 pub use fault::LoadFault;
