@@ -60,7 +60,7 @@ few_devices set h =
     let b = c.first.1.1.1.1.1.1.0 in
     leb-true (length set.devices) 64 (and_parts (nat_le (length set.machines) 16 && nat_le (length set.structs) 64) (nat_le (length set.devices) 64) b).1
 
-few_items : (set : Set) → is_well_formed set ≡ true → devices_items (struct_items set.structs) set.devices ≤ 16384
+pub few_items : (set : Set) → is_well_formed set ≡ true → devices_items (struct_items set.structs) set.devices ≤ 16384
 few_items set h =
     let c = set_clean set h in
     leb-true (devices_items (struct_items set.structs) set.devices) 16384 c.last.1.1.1.1.1.1.0

@@ -1,6 +1,6 @@
 -- What stands at the front of an input that is left: a whole unit without a fault of its own; a whole unit that is at fault
 -- by itself; or the beginning of a unit. Whether the description set knows a name isn't asked here.
-use Rattle.std.specs.Prelude.{ℕ, ◌+◌, ◌==◌, nat_lt, if◌then◌else◌, List, [], ◌∷◌, length, get_or, take, Option, Some, ℤ}
+use Rattle.std.specs.Prelude.{ℕ, Bool, true, false, ◌+◌, ◌==◌, nat_lt, if◌then◌else◌, List, [], ◌∷◌, length, get_or, take, Option, Some, ℤ}
 use Rattle.std.specs.Str.{bytes_eq}
 use Rattle.vms_kinds.specs.declared.Kind.{Kind}
 use Rattle.vms_kinds.specs.Codes.{width, value_of}
@@ -49,6 +49,10 @@ abbrev pub step_long : Step → ℕ
 step_long (Configuration name) = 5 + length name.items
 step_long (Section head) = 14 + length head.name.items
 step_long End = 1
+
+abbrev pub is_configuration : Step → Bool
+is_configuration (Configuration name) = true
+is_configuration step = false
 
 -- a length above 255 is at fault before the name comes
 abbrev pub configuration_found : List ℕ → Found Step

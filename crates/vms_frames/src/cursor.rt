@@ -1,7 +1,7 @@
 // Where a stream is read.
-ghost use Rattle.std.specs.Prelude.{◌≡◌, ◌+◌, ◌^◌, ◌≤◌, ℕ, IfOk, OnOk, IfSome};
+ghost use Rattle.std.specs.Prelude.{◌≡◌, true, ◌+◌, ◌^◌, ◌≤◌, ℕ, IfOk, OnOk, IfSome};
 ghost use Rattle.vms_kinds.specs.Codes.{width};
-ghost use Rattle.vms_frames.specs.Found.{between_found, step_long, number_found, skip_found, after_found, after_long, trailer_found};
+ghost use Rattle.vms_frames.specs.Found.{between_found, step_long, is_configuration, number_found, skip_found, after_found, after_long, trailer_found};
 ghost use Rattle.vms_frames.specs.Answers.{Answers, AnswersHead, Closes, HasCause, GivesWithin, GivesPast};
 
 use crate::fill::pass;
@@ -64,7 +64,7 @@ impl Cursor {
 
     /// Reads a unit between sections: a configuration, a section head or the end mark. It is refused as
     /// `Truncated`, `BadMark`, `Ram`, `Iterative`, `Command`, `ConfigurationExtra`, or `WrongMachine` for a
-    /// length above 255.
+    /// length above 255. A configuration comes directly after the stream head alone.
     pub fn between<S: Source>(&mut self, source: &mut S, place: Between) -> Result<Step, FrameFault>
         requires { self.old ≤ 2 ^ 63 }
         ensures content { IfSome (S.left source.old) (λ rest. Answers step_long (between_found place rest) self.old rest (S.left source.new) result) }
@@ -72,6 +72,7 @@ impl Cursor {
         ensures given { GivesWithin step_long 269 (S.given source.old) (S.given source.new) result }
         ensures cause { HasCause (S.faults source.old) (S.faults source.new) result }
         ensures promise { S.promise source.new ≡ S.promise source.old }
+        ensures configuration { IfOk result (λ step. is_configuration step ≡ true → place ≡ Between.First) }
     {
         let step = step(source, self.at, place)?;
         self.at += step.long();

@@ -1,8 +1,8 @@
 // One unit each, from its first byte.
-ghost use Rattle.std.specs.Prelude.{◌≡◌, ◌∷◌, [], ◌++◌, ◌-◌, ◌≤◌, length, get_or, IfOk, IfSome};
+ghost use Rattle.std.specs.Prelude.{◌≡◌, true, false, ◌∷◌, [], ◌++◌, ◌-◌, ◌≤◌, length, get_or, IfOk, IfSome};
 ghost use Rattle.vms_kinds.specs.Codes.{width};
 ghost use Rattle.vms_marks.specs.Marks.{mark_of};
-ghost use Rattle.vms_frames.specs.Found.{magic_found, version_found, step_long, between_found, mark_found, head_found, start_found, start_reason as start_reason_of, sub_reason as sub_reason_of, configuration_found, number_found, after_long, after_found, after_mark_found, sub_found, foot_found, trailer_found, description_found};
+ghost use Rattle.vms_frames.specs.Found.{magic_found, version_found, step_long, is_configuration, between_found, mark_found, head_found, start_found, start_reason as start_reason_of, sub_reason as sub_reason_of, configuration_found, number_found, after_long, after_found, after_mark_found, sub_found, foot_found, trailer_found, description_found};
 ghost use Rattle.vms_frames.specs.Answers.{Answers, HasCause, GivesWithin};
 
 use crate::fault::refused;
@@ -69,6 +69,7 @@ pub(crate) fn step<S: Source>(source: &mut S, at: u64, between: Between) -> Resu
     ensures given { GivesWithin step_long 269 (S.given source.old) (S.given source.new) result }
     ensures cause { HasCause (S.faults source.old) (S.faults source.new) result }
     ensures promise { S.promise source.new ≡ S.promise source.old }
+    ensures place { IfOk result (λ step. is_configuration step ≡ true → between ≡ Between.First) }
 {
     let mut unit = Unit::new();
     grow(source, at, &mut unit, 1)?;
@@ -87,6 +88,7 @@ fn marked<S: Source>(
     ensures given { GivesWithin (λ step. (step_long step) - 1) 268 (S.given source.old) (S.given source.new) result }
     ensures cause { HasCause (S.faults source.old) (S.faults source.new) result }
     ensures promise { S.promise source.new ≡ S.promise source.old }
+    ensures place { IfOk result (λ step. is_configuration step ≡ true → between ≡ Between.First) }
 {
     match Mark::of(unit[0]) {
         Some(Mark::End) => Ok(Step::End),
@@ -120,6 +122,7 @@ fn section<S: Source>(source: &mut S, at: u64, unit: Unit) -> Result<Step, Frame
     ensures given { GivesWithin (λ step. (step_long step) - 1) 268 (S.given source.old) (S.given source.new) result }
     ensures cause { HasCause (S.faults source.old) (S.faults source.new) result }
     ensures promise { S.promise source.new ≡ S.promise source.old }
+    ensures section { IfOk result (λ step. is_configuration step ≡ false) }
 {
     let mut unit = unit;
     grow(source, at, &mut unit, 5)?;
@@ -156,6 +159,7 @@ fn start<S: Source>(source: &mut S, at: u64, unit: Unit) -> Result<Step, FrameFa
     ensures given { GivesWithin (λ step. (step_long step) - 1) 268 (S.given source.old) (S.given source.new) result }
     ensures cause { HasCause (S.faults source.old) (S.faults source.new) result }
     ensures promise { S.promise source.new ≡ S.promise source.old }
+    ensures none { IfOk result (λ step. is_configuration step ≡ false) }
 {
     let mut unit = unit;
     grow(source, at, &mut unit, 5)?;

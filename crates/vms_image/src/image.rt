@@ -77,6 +77,13 @@ impl Image {
         self.numbers[cell as usize] = value;
     }
 
+    /// The numbers of all cells, in order.
+    pub fn numbers(&self) -> &[i128]
+        ensures { result.now ≡ self.now.numbers }
+    {
+        &self.numbers
+    }
+
     /// The version of the section.
     pub fn version(&self) -> u32
         ensures { result ≡ self.now.version }

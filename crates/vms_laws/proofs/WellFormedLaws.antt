@@ -45,7 +45,7 @@ no_answer f i (y ∷ xs) e (suc j) x h =
     let plus : i + suc j ≡ suc i + j = omega arith in
     ap (λ (k : ℕ). f k x) plus ∙ no_answer f (suc i) xs p.1 j x h
 
-abbrev AllTrue : List Bool → Type 0
+abbrev pub AllTrue : List Bool → Type 0
 AllTrue [] = Unit {0}
 AllTrue (b ∷ rules) = (b ≡ true) × AllTrue rules
 
@@ -55,7 +55,7 @@ all_true r (true ∷ rules) p e = (refl, all_true (suc r) rules p e)
 all_true r (false ∷ rules) p e = cc
 
 -- what holds of a description without a fault
-record Clean (k : ℕ) (d : Desc) (rules : List Bool) : Type 0 where
+pub record Clean (k : ℕ) (d : Desc) (rules : List Bool) : Type 0 where
   pub own : AllTrue rules
   pub fields : (i : ℕ) (f : Field) → at d.fields i ≡ Some f → AllTrue (field_rules k d i f)
   pub validations : (i : ℕ) (t : Formula) → at d.validate i ≡ Some t → AllTrue (validation_rules d t)
@@ -77,17 +77,17 @@ clean k d part rules e =
 
 -- ---- tests and counts name earlier single numbers
 
-beyond : {X : Type 0} (xs : List X) (i : ℕ) → i < length xs → at xs i ≡ None → ⊥
+pub beyond : {X : Type 0} (xs : List X) (i : ℕ) → i < length xs → at xs i ≡ None → ⊥
 beyond [] i lt e = absurd (omega arith)
 beyond (y ∷ xs) zero lt e = cc
 beyond (y ∷ xs) (suc i) lt e = beyond xs i (omega arith) e
 
-get_none : {X : Type 0} (xs : List X) (i : ℕ) (d : X) → at xs i ≡ None → get_or xs i d ≡ d
+pub get_none : {X : Type 0} (xs : List X) (i : ℕ) (d : X) → at xs i ≡ None → get_or xs i d ≡ d
 get_none [] i d e = refl
 get_none (y ∷ xs) zero d e = cc
 get_none (y ∷ xs) (suc i) d e = get_none xs i d e
 
-get_at : {X : Type 0} (xs : List X) (i : ℕ) (d x : X) → at xs i ≡ Some x → get_or xs i d ≡ x
+pub get_at : {X : Type 0} (xs : List X) (i : ℕ) (d x : X) → at xs i ≡ Some x → get_or xs i d ≡ x
 get_at [] i d x e = cc
 get_at (y ∷ xs) zero d x e = cc
 get_at (y ∷ xs) (suc i) d x e = get_at xs i d x e
@@ -316,14 +316,14 @@ module _ (set : Set) (well : WellFormed set) where
       let c = or_else_none (first_answer (device_fault set) 0 set.devices) last b.1 in
       (b.0, c.0)
 
-  struct_clean : (j : ℕ) (d : Desc) → at set.structs j ≡ Some d → Clean j d (struct_rules set.structs j d)
+  pub struct_clean : (j : ℕ) (d : Desc) → at set.structs j ≡ Some d → Clean j d (struct_rules set.structs j d)
   struct_clean j d e =
       let plus : 0 + j ≡ j = omega arith in
       clean j d (parts.Struct j) (struct_rules set.structs j d)
       (subst (λ (i : ℕ). struct_fault set.structs i d ≡ None) plus (no_answer (struct_fault set.structs) 0 set.structs parts_clean.0 j d e))
 
   -- the device's own part, and its subsections
-  device_parts : (k : ℕ) (d : Device) → at set.devices k ≡ Some d
+  pub device_parts : (k : ℕ) (d : Device) → at set.devices k ≡ Some d
       → Clean (length set.structs) d.desc (device_rules set k d) × (first_answer (sub_fault (length set.structs) k d) 0 d.subs ≡ None)
   device_parts k d e =
       let plus : 0 + k ≡ k = omega arith in
@@ -331,7 +331,7 @@ module _ (set : Set) (well : WellFormed set) where
       let p = or_else_none (desc_fault (length set.structs) d.desc (parts.Device k) (device_rules set k d)) (first_answer (sub_fault (length set.structs) k d) 0 d.subs) none in
       (clean (length set.structs) d.desc (parts.Device k) (device_rules set k d) p.0, p.1)
 
-  sub_clean : (k j : ℕ) (d : Device) (s : Sub) → at set.devices k ≡ Some d → at d.subs j ≡ Some s → Clean (length set.structs) s.desc (sub_rules d j s)
+  pub sub_clean : (k j : ℕ) (d : Device) (s : Sub) → at set.devices k ≡ Some d → at d.subs j ≡ Some s → Clean (length set.structs) s.desc (sub_rules d j s)
   sub_clean k j d s e f =
       let plus : 0 + j ≡ j = omega arith in
       clean (length set.structs) s.desc (parts.Sub k j) (sub_rules d j s)

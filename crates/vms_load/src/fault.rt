@@ -1,16 +1,9 @@
 // Why a load fails.
-use thiserror::Error;
-use vms_spec::Reason;
+ghost use Rattle.std.specs.Prelude.{◌≡◌};
 
-/// Where and why a stream is refused.
-#[derive(Clone, Copy, Debug, PartialEq, Eq)]
-pub struct Refusal {
-    /// The number of the device concerned, or none.
-    pub section: Option<u32>,
-    /// The place of the first byte of the unit at fault, counted from 0.
-    pub at: u64,
-    pub reason: Reason,
-}
+use thiserror::Error;
+use vms_frames::{FrameFault, Refusal};
+use vms_spec::Reason;
 
 /// Why a load gave no stream.
 #[derive(Debug, Drop, Error)]
@@ -24,4 +17,29 @@ pub enum LoadFault {
     /// Memory is wanting.
     #[error("out of memory")]
     NoMemory,
+}
+
+impl LoadFault {
+    ghost use Rattle.vms_load.specs.Reads.{concerning};
+
+    /// The fault of a unit of this device's section, or of no device's.
+    pub(crate) fn concerning(section: Option<u32>, fault: FrameFault) -> LoadFault
+        ensures { result ≡ concerning section fault }
+    {
+        match fault {
+            FrameFault::Refused { at, reason } => refused(section, at, reason),
+            FrameFault::ReadFault => LoadFault::ReadFault,
+        }
+    }
+}
+
+/// The unit at this place is at fault.
+pub(crate) fn refused(section: Option<u32>, at: u64, reason: Reason) -> LoadFault
+    ensures { result ≡ LoadFault.Refused (record { section = section; at = at; reason = reason }) }
+{
+    LoadFault::Refused(Refusal {
+        section,
+        at,
+        reason,
+    })
 }

@@ -1,0 +1,127 @@
+-- What a reader of a part takes is what the judge reads there.
+use Rattle.std.proofs.Common.{◌≡◌, ℕ, ◌+◌, ◌-◌, ◌<◌, ◌≤◌, List, ◌++◌, length, get_or, drop, drop_at, slice_set, Option, Some, None, Result, Ok, Err, IfSome, ℤ, refl, sym, ap, ◌∙◌, subst, arith}
+use Rattle.vms_spec.specs.Numbers.{IsBytes}
+use Rattle.vms_spec.specs.declared.Reason.{Reason}
+use Rattle.vms_spec.specs.Lists.{at}
+use Rattle.vms_spec.specs.Sets.{Desc, Sub, Device, Set}
+use Rattle.vms_spec.specs.Layout.{meanings, desc_slots, device_cells}
+use Rattle.vms_spec.specs.Images.{Image}
+use Rattle.vms_spec.specs.Readings.{Reading, Refused}
+use Rattle.vms_spec.specs.Judging.{State, slots_of}
+use Rattle.vms_spec.specs.Taking.{Taken, Progress, take_desc, takers}
+use Rattle.vms_laws.specs.Good.{IsGood}
+use Rattle.vms_laws.specs.Sound.{IsSound}
+use Rattle.vms_laws.specs.Cells.{AreCells}
+use Rattle.vms_laws.proofs.BodyLaws.{body_read, body_slots, read_body}
+use Rattle.vms_laws.proofs.FoundLaws.{body_found}
+use Rattle.vms_laws.proofs.PartLaws.{sub_are}
+use Rattle.vms_laws.proofs.SectionLaws.{own_are}
+use Rattle.vms_parts.specs.Devices.{device_at}
+use Rattle.vms_desc.specs.Parts.{sub_at}
+use Rattle.vms_frames.specs.declared.fault.FrameFault.{FrameFault}
+use Rattle.vms_frames.specs.declared.fault.FrameFault.TheVariants as frames
+use Rattle.vms_load.specs.Bodies.{TakesAs}
+use Rattle.vms_load.specs.Reads.{Onward, Reads, concerning}
+use Rattle.vms_load.specs.Parts.{IsShaped, IsIn, IsOpen, part_desc, part_base, in_fields, after_fields}
+use Rattle.vms_load.specs.declared.parts.Section.{Section}
+use Rattle.vms_load.proofs.HeadLemmas.{at_get}
+
+pub open_in : (d : Device) (image : Image) (sub : Option ℕ) (v : ℕ) → IsOpen d image sub v → IsIn d sub
+open_in d image None v h = tt
+open_in d image (Some j) v h = h.0
+
+-- the fault of a body, or none
+abbrev pub concerns : Option ℕ → Result (Unit {0}) FrameFault → Result (Unit {0}) Rattle.vms_load.specs.declared.fault.LoadFault.LoadFault
+concerns section (Ok x) = Ok x
+concerns section (Err fault) = Err (concerning section fault)
+
+module _ (set : Set) (good : IsGood set) (section : Section) (here : section.device < length set.devices) (sub : Option ℕ) (v : ℕ) where
+  abbrev device : Device
+  device = device_at set section.device
+
+  there : at set.devices section.device ≡ Some device
+  there = at_get set.devices section.device _ here
+
+  sub_there : (j : ℕ) → j < length device.subs → at device.subs j ≡ Some (sub_at device j)
+  sub_there j lt = at_get device.subs j _ lt
+
+  part_sound : (o : Option ℕ) → IsIn device o → IsSound (part_desc device o)
+  part_sound None h = good.devices section.device device there
+  part_sound (Some j) h = good.subs section.device j device (sub_at device j) there (sub_there j h)
+
+  part_are : (o : Option ℕ) → IsIn device o → (m : List ℤ) → AreCells (device_cells set device) (desc_slots (meanings set.structs (length set.structs)) (part_desc device o) v m (part_base set device o))
+  part_are None h m = own_are set device v m
+  part_are (Some j) h m = sub_are set device j (sub_at device j) v m (sub_there j h)
+
+  module _ (names : List (List ℕ)) (state : State) (image : Image) where
+    slots_are : (o : Option ℕ) → IsOpen device image o v → (m : List ℤ)
+        → body_slots set names state device image section.device section.id o m ≡ desc_slots (meanings set.structs (length set.structs)) (part_desc device o) v m (part_base set device o)
+    slots_are None h m = ap (λ (w : ℕ). desc_slots (meanings set.structs (length set.structs)) device.desc w m 0) (sym h)
+    slots_are (Some j) h m =
+        ap (λ (s : Option Sub). slots_of set names device (record image { numbers = m }) (Some j) s (at image.came j)) (sub_there j h.0)
+        ∙ ap (λ (came : Option (Option ℕ)). slots_of set names device (record image { numbers = m }) (Some j) (Some (sub_at device j)) came) h.1
+
+    abbrev start : ℕ → List ℕ → Progress
+    start place rest = record { numbers = image.numbers; place = place; rest = rest }
+
+    abbrev taken : ℕ → List ℕ → Taken
+    taken place rest = take_desc (takers set.structs (length set.structs)) (part_desc device sub) v (part_base set device sub) (start place rest)
+
+    fields_are : section.device < length state.images → IsOpen device image sub v → (place : ℕ) (rest : List ℕ)
+        → in_fields set names state section sub image place rest ≡ read_body set names state device image section.device section.id sub (taken place rest)
+    fields_are room open' place rest =
+        body_read set names state device image section.device section.id sub there room good.structs (part_desc device sub) v (part_base set device sub) (part_sound sub (open_in device image sub v open'))
+        (slots_are sub open') (start place rest)
+
+    -- what was taken stood at the front
+    front_taken : IsIn device sub → length image.numbers ≡ length (device_cells set device) → (place : ℕ) (rest : List ℕ) (q : Progress) → IsBytes rest → taken place rest ≡ Ok q → q.rest ≡ drop (q.place - place) rest
+    front_taken inside long place rest q ok e =
+        let b = body_found (device_cells set device) set.structs good.structs (part_desc device sub) v (part_base set device sub) (start place rest) q (part_sound sub inside) ok (omega (arith, long)) (part_are sub inside) e in
+        let n : length b.bytes ≡ q.place - place = omega (arith, b.place) in
+        sym (ap (λ (l : List ℕ). drop (q.place - place) l) b.front ∙ drop_at b.bytes q.rest (q.place - place) n)
+
+    by_taken : IsIn device sub → length image.numbers ≡ length (device_cells set device) → (place : ℕ) (rest : List ℕ) → IsBytes rest → (numbers : List ℤ) (to : ℕ) (left : Option (List ℕ)) (result : Result (Unit {0}) FrameFault)
+        → (t : Taken) → taken place rest ≡ t → TakesAs t numbers to left result
+        → Reads (read_body set names state device image section.device section.id sub t) (λ _. after_fields set names state section sub (record image { numbers = numbers })) place to rest left (concerns (Some section.device) result)
+    by_taken inside long place rest ok numbers to left (Ok x) (Ok q) e h =
+        let P : Option (List ℕ) → Type 0 = λ l. Reads {X = Unit {0}} (read_body set names state device image section.device section.id sub (Ok q)) (λ _. after_fields set names state section sub (record image { numbers = numbers })) place to rest l (Ok x) in
+        subst P (sym h.2) (
+          ap (λ (n : List ℤ). after_fields set names state section sub (record image { numbers = n }) q.place q.rest) (sym h.0)
+              ∙ ap (λ (p : ℕ). after_fields set names state section sub (record image { numbers = numbers }) p q.rest) (sym h.1),
+          front_taken inside long place rest q ok e ∙ ap (λ (p : ℕ). drop (p - place) rest) (sym h.1),
+        )
+    by_taken inside long place rest ok numbers to left (Ok x) (Err r) e h = absurd h
+    by_taken inside long place rest ok numbers to left (Err (frames.Refused p reason)) (Ok q) e h = absurd h
+    by_taken inside long place rest ok numbers to left (Err (frames.Refused p reason)) (Err r) e h =
+        ap (λ (n : ℕ). Some (Refused n (Some section.device) r.reason)) (sym h.0) ∙ ap (λ (w : Reason). Some (Refused p (Some section.device) w)) (sym h.1)
+    by_taken inside long place rest ok numbers to left (Err frames.ReadFault) t e h = tt
+
+    -- the fields of a part are read as they are taken
+    pub fields_read : section.device < length state.images → IsOpen device image sub v → length image.numbers ≡ length (device_cells set device) → (place : ℕ) (numbers : List ℤ) (new : Image) (to : ℕ)
+        (old left : Option (List ℕ)) (result : Result (Unit {0}) FrameFault) → IfSome old IsBytes → new ≡ record image { numbers = numbers }
+        → IfSome old (λ rest. TakesAs (taken place rest) numbers to left result)
+        → IfSome old (λ rest. Reads (in_fields set names state section sub image place rest) (λ _. after_fields set names state section sub new) place to rest left (concerns (Some section.device) result))
+    fields_read room open' long place numbers new to None left result ok is h = tt
+    fields_read room open' long place numbers new to (Some rest) left result ok is h =
+        subst (λ (x : Image). Reads (in_fields set names state section sub image place rest) (λ _. after_fields set names state section sub x) place to rest left (concerns (Some section.device) result)) (sym is)
+        (subst (λ (x : Option (Reading State)). Reads x (λ _. after_fields set names state section sub (record image { numbers = numbers })) place to rest left (concerns (Some section.device) result)) (sym (fields_are room open' place rest))
+        (by_taken (open_in device image sub v open') long place rest ok numbers to left result (taken place rest) refl h))
+
+    same_taken : (structs : List Desc) (n : ℕ) (desc : Desc) (base : ℕ) → structs ≡ set.structs → n ≡ length set.structs → desc ≡ part_desc device sub → base ≡ part_base set device sub
+        → (place : ℕ) (rest : List ℕ) → take_desc (takers structs n) desc v base (start place rest) ≡ taken place rest
+    same_taken structs n desc base a b c d place rest =
+        ap (λ (l : List Desc). take_desc (takers l n) desc v base (start place rest)) a
+        ∙ ap (λ (m : ℕ). take_desc (takers set.structs m) desc v base (start place rest)) b
+        ∙ ap (λ (x : Desc). take_desc (takers set.structs (length set.structs)) x v base (start place rest)) c
+        ∙ ap (λ (m : ℕ). take_desc (takers set.structs (length set.structs)) (part_desc device sub) v m (start place rest)) d
+
+    -- the same by what the code has of the set
+    pub fields_answer : (structs : List Desc) (n : ℕ) (desc : Desc) (base : ℕ) → structs ≡ set.structs → n ≡ length set.structs → desc ≡ part_desc device sub → base ≡ part_base set device sub
+        → section.device < length state.images → IsOpen device image sub v → length image.numbers ≡ length (device_cells set device) → (place : ℕ) (numbers : List ℤ) (new : Image) (to : ℕ)
+        (old left : Option (List ℕ)) (result : Result (Unit {0}) FrameFault) → IfSome old IsBytes → new ≡ record image { numbers = numbers }
+        → IfSome old (λ rest. TakesAs (take_desc (takers structs n) desc v base (start place rest)) numbers to left result)
+        → IfSome old (λ rest. Reads (in_fields set names state section sub image place rest) (λ _. after_fields set names state section sub new) place to rest left (concerns (Some section.device) result))
+    fields_answer structs n desc base a b c d room open' long place numbers new to None left result ok is h = tt
+    fields_answer structs n desc base a b c d room open' long place numbers new to (Some rest) left result ok is h =
+        fields_read room open' long place numbers new to (Some rest) left result ok is
+        (subst (λ (t : Taken). TakesAs t numbers to left result) (same_taken structs n desc base a b c d place rest) h)

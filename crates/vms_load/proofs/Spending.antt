@@ -1,0 +1,32 @@
+-- How many bytes are given by one call after another.
+use Rattle.std.proofs.Common.{◌≡◌, ℕ, suc, zero, ◌+◌, ◌-◌, ◌*◌, ◌≤◌, Result, Ok, Err, arith}
+use Rattle.vms_io.specs.Causes.{capped}
+use Rattle.vms_frames.specs.declared.fault.FrameFault.{FrameFault}
+use Rattle.vms_load.specs.Bodies.{Spends}
+use Rattle.vms_load.specs.Reads.{Gives, GivesBehind}
+use Rattle.vms_load.specs.declared.fault.LoadFault.{LoadFault}
+
+pub one_of : (n m : ℕ) → 1 ≤ n → m ≤ n * m
+one_of zero m h = absurd (omega arith)
+one_of (suc n) m h = let f : suc n * m ≡ m + n * m = grind arith in omega arith
+
+-- a bound may be raised
+pub spends_less : (most more before now from to : ℕ) (result : Result (Unit {0}) FrameFault) → most ≤ more → Spends most before now from to result → Spends more before now from to result
+spends_less most more before now from to (Ok x) le s = (s.0, omega (arith, s.1), s.2)
+spends_less most more before now from to (Err e) le s = omega (arith, s)
+
+-- a call that ends after others
+pub spends_err : (most more before mid now from at to to' : ℕ) (e : FrameFault) → from ≤ at → mid ≡ capped (before + (at - from)) → at + most ≤ from + more
+    → Spends {X = Unit {0}} most mid now at to (Err e) → Spends {X = Unit {0}} more before now from to' (Err e)
+spends_err most more before mid now from at to to' e le given room s = omega (arith, s)
+
+-- one further piece was given
+pub given_on : (before mid now from at to : ℕ) → from ≤ at → at ≤ to → mid ≡ capped (before + (at - from)) → now ≡ capped (mid + (to - at)) → now ≡ capped (before + (to - from))
+given_on before mid now from at to le up first second = omega arith
+
+-- ---- what is due
+
+pub gives_behind : (before now from to due more after : ℕ) (result : Result (Unit {0}) LoadFault) → 269 + (due + after) ≤ more → Gives before now from to due (λ _. 0) result
+    → GivesBehind before now from to more (λ _. after) result
+gives_behind before now from to due more after (Ok x) le s = (s.0, omega (arith, le, s.1), s.2)
+gives_behind before now from to due more after (Err e) le s = omega (arith, le, s)

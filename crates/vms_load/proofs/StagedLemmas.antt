@@ -1,0 +1,151 @@
+-- What is read of a stream so far, device by device.
+use Rattle.std.proofs.Common.{◌≡◌, ℕ, zero, suc, ◌+◌, ◌<◌, ◌≤◌, List, [], ◌∷◌, ◌++◌, length, get_or, map, replicate, drop, slice_set, Option, Some, None, Bool, true, false, ◌||◌, nat_lt, if◌then◌else◌, Result, Ok, Err, IfErr, refl, sym, ap, ◌∙◌, subst, arith}
+use Rattle.std.specs.Str.{bytes_eq}
+use Rattle.std.proofs.lemmas.List.{length-map, length-set, drop_more, ext_get_or, get_or-map}
+use Rattle.std.proofs.lemmas.Slice.Eq.{bytes_eq-Decides}
+use Rattle.vms_spec.specs.Lists.{at}
+use Rattle.vms_spec.specs.Sets.{Device, Set}
+use Rattle.vms_spec.specs.Images.{Image, default_image}
+use Rattle.vms_spec.specs.Streams.{is_one_of}
+use Rattle.vms_spec.specs.declared.Reason.TheVariants as reasons
+use Rattle.vms_spec.specs.Judging.{State, Magic, at_start, find_device}
+use Rattle.vms_parts.specs.Devices.{device_at}
+use Rattle.vms_load.specs.Heads.{unfit, opened_at, opened_unless, reason_against, section_opened}
+use Rattle.vms_load.specs.Parts.{IsShaped}
+use Rattle.vms_load.specs.Staging.{AreShaped, no_image, IsAccepted, section_bytes, sections_due}
+use Rattle.vms_load.proofs.HeadLemmas.{at_get, unknown, known, device_below}
+
+pub get_same : {X : Type 0} (xs : List X) (k : ℕ) (d e : X) → k < length xs → get_or xs k d ≡ get_or xs k e
+get_same [] k d e lt = absurd (omega arith)
+get_same (x ∷ xs) zero d e lt = refl
+get_same (x ∷ xs) (suc k) d e lt = get_same xs k d e (omega arith)
+
+pub get_set : {X : Type 0} (xs : List X) (k : ℕ) (x d : X) → k < length xs → get_or (slice_set xs k x) k d ≡ x
+get_set [] k x d lt = absurd (omega arith)
+get_set (y ∷ xs) zero x d lt = refl
+get_set (y ∷ xs) (suc k) x d lt = get_set xs k x d (omega arith)
+
+pub get_other : {X : Type 0} (xs : List X) (k j : ℕ) (x d : X) → (j ≡ k → ⊥) → get_or (slice_set xs k x) j d ≡ get_or xs j d
+get_other [] k j x d ne = refl
+get_other (y ∷ xs) zero zero x d ne = absurd (ne refl)
+get_other (y ∷ xs) zero (suc j) x d ne = refl
+get_other (y ∷ xs) (suc k) zero x d ne = refl
+get_other (y ∷ xs) (suc k) (suc j) x d ne = get_other xs k j x d (λ e. ne (ap suc e))
+
+same_or_not : (j k : ℕ) (P : Type 0) → (j ≡ k → P) → ((j ≡ k → ⊥) → P) → P
+same_or_not zero zero P h i = h refl
+same_or_not zero (suc k) P h i = i (λ e. absurd (omega (arith, e)))
+same_or_not (suc j) zero P h i = i (λ e. absurd (omega (arith, e)))
+same_or_not (suc j) (suc k) P h i = same_or_not j k P (λ e. h (ap suc e)) (λ ne. i (λ e. ne (omega (arith, e))))
+
+-- an image of each device, one of which is put anew
+pub shaped_put : (set : Set) (images : List Image) (k : ℕ) (image : Image) → AreShaped set images → k < length set.devices → IsShaped set (device_at set k) image → AreShaped set (slice_set images k image)
+shaped_put set images k image s lt here = record {
+  all = length-set images k image ∙ s.all;
+  each = λ j below. same_or_not j k (IsShaped set (device_at set j) (get_or (slice_set images k image) j no_image))
+      (λ e. subst (λ (n : ℕ). IsShaped set (device_at set n) (get_or (slice_set images k image) n no_image)) (sym e)
+      (subst (λ (x : Image). IsShaped set (device_at set k) x) (sym (get_set images k image no_image (omega (arith, s.all, lt)))) here))
+      (λ ne. subst (λ (x : Image). IsShaped set (device_at set j) x) (sym (get_other images k j image no_image ne)) (s.each j below));
+}
+
+pub default_shaped : (set : Set) (d : Device) (v : ℕ) → IsShaped set d (record (default_image set d) { version = v })
+default_shaped set d v = record { came = length-map d.subs (λ s. None); numbers = length-map _ (λ c. c.default) }
+
+-- the image of a device
+pub shape_of : (set : Set) (images : List Image) (k : ℕ) (image : Image) → AreShaped set images → k < length set.devices → image ≡ get_or images k image → IsShaped set (device_at set k) image
+shape_of set images k image s lt is =
+    subst (λ (x : Image). IsShaped set (device_at set k) x) (get_same images k no_image image (omega (arith, s.all, lt)) ∙ sym is) (s.each k lt)
+
+-- the image whose section has begun
+pub image_begun : (images first : List Image) (k : ℕ) (image here : Image) → here ≡ get_or images k here → images ≡ slice_set first k image → k < length first → here ≡ image
+image_begun images first k image here is e lt = is ∙ ap (λ (l : List Image). get_or l k here) e ∙ get_set first k image here lt
+
+-- ---- all at their defaults
+
+pub record Reset (set : Set) (images first : List Image) (done : ℕ) : Type 0 where
+  pub long : length images ≡ length first
+  pub before : (k : ℕ) → k < done → get_or images k no_image ≡ default_image set (device_at set k)
+  pub after : (k : ℕ) → done ≤ k → get_or images k no_image ≡ get_or first k no_image
+
+pub reset_on : (set : Set) (images first : List Image) (done : ℕ) (image : Image) → Reset set images first done → done < length images → image ≡ default_image set (device_at set done)
+    → Reset set (slice_set images done image) first (done + 1)
+reset_on set images first done image r lt is = record {
+  long = length-set images done image ∙ r.long;
+  before = λ k below. same_or_not k done (get_or (slice_set images done image) k no_image ≡ default_image set (device_at set k))
+      (λ e. ap (λ (n : ℕ). get_or (slice_set images done image) n no_image) e ∙ get_set images done image no_image lt ∙ is ∙ ap (λ (n : ℕ). default_image set (device_at set n)) (sym e))
+      (λ ne. get_other images done k image no_image ne ∙ r.before k (apart k done below ne));
+  after = λ k up. get_other images done k image no_image (λ e. absurd (omega (arith, e, up))) ∙ r.after k (omega (arith, up));
+}
+  where
+    apart : (k done : ℕ) → k < done + 1 → (k ≡ done → ⊥) → k < done
+    apart k done below ne = same_or_not k done (k < done) (λ e. absurd (ne e)) (λ no. grind arith)
+
+pub reset_shape : (set : Set) (images first : List Image) (done : ℕ) (image : Image) → Reset set images first done → AreShaped set first → done < length images → image ≡ get_or images done image
+    → IsShaped set (device_at set done) image
+reset_shape set images first done image r s lt is =
+    subst (λ (x : Image). IsShaped set (device_at set done) x) (sym (r.after done (omega arith)) ∙ get_same images done no_image image lt ∙ sym is) (s.each done (omega (arith, lt, r.long, s.all)))
+
+pub reset_all : (set : Set) (images first : List Image) (done : ℕ) → Reset set images first done → AreShaped set first → length images ≤ done → images ≡ map (default_image set) set.devices
+reset_all set images first done r s all =
+    ext_get_or no_image images (map (default_image set) set.devices) (r.long ∙ s.all ∙ sym (length-map set.devices (default_image set)))
+    (λ k lt. r.before k (omega (arith, lt, all)) ∙ sym (get_or-map (default_image set) set.devices k _ no_image (omega (arith, lt, r.long, s.all))))
+
+-- ---- machines
+
+pub machine_found : (machines : List (List ℕ)) (i : ℕ) (name machine : List ℕ) → i < length machines → machine ≡ get_or machines i machine → bytes_eq machine name ≡ true
+    → is_one_of (drop i machines) name ≡ is_one_of machines name → IsAccepted machines None name (Some i)
+machine_found machines i name machine lt is same inv = (
+  sym inv ∙ ap (λ (l : List (List ℕ)). is_one_of l name) (drop_more machines i machine lt)
+      ∙ ap (λ (l : List ℕ). bytes_eq l name || is_one_of (drop (i + 1) machines) name) (sym is)
+      ∙ ap (λ (t : Bool). t || is_one_of (drop (i + 1) machines) name) same,
+  get_same machines i [] machine lt ∙ sym is ∙ (bytes_eq-Decides machine name).0 same,
+  lt,
+)
+
+-- ---- the start
+
+abbrev pub state_at_magic : List Image → List Bool → State
+state_at_magic images came = record { machine = None; images = images; came = came; spot = Magic }
+
+none_came : (devices : List Device) → replicate (length devices) false ≡ map (λ d. false) devices
+none_came [] = refl
+none_came (d ∷ devices) = ap (λ (l : List Bool). false ∷ l) (none_came devices)
+
+pub starts : (set : Set) (images : List Image) (came : List Bool) (n : ℕ) → images ≡ map (default_image set) set.devices → n ≡ length set.devices → came ≡ replicate n false
+    → state_at_magic images came ≡ at_start set
+starts set images came n e f g =
+    ap (λ (l : List Image). state_at_magic l came) e
+    ∙ ap (λ (l : List Bool). state_at_magic (map (default_image set) set.devices) l) (g ∙ ap (λ (m : ℕ). replicate m false) f ∙ none_came set.devices)
+
+-- ---- a device whose section begins hasn't come
+
+unless_came : (k : ℕ) (d : Device) (came : Bool) (v i place : ℕ) → Ok i ≡ opened_at place (opened_unless (Some k) k (reason_against d came v)) → (i ≡ k) × (came ≡ false)
+unless_came k d came v i place e = by_tests came (nat_lt d.desc.version v) (nat_lt v d.desc.minimum) e
+  where
+    by_tests : (came a b : Bool)
+        → Ok i ≡ opened_at place (opened_unless (Some k) k (if came then Some reasons.RepeatedSection else (if a then Some reasons.TooNew else (if b then Some reasons.TooOld else None)))) → (i ≡ k) × (came ≡ false)
+    by_tests true a b e = cc
+    by_tests false true b e = cc
+    by_tests false false true e = cc
+    by_tests false false false e = (cc, refl)
+
+pub section_new : (set : Set) (came : List Bool) (name : List ℕ) (instance v k place : ℕ) → length came ≡ length set.devices → Ok k ≡ opened_at place (section_opened set came name instance v)
+    → (k < length set.devices) × (at came k ≡ Some false)
+section_new set came name instance v k place long e = by_found (find_device 0 set.devices name instance) refl
+  where
+    by_found : (found : Option ℕ) → find_device 0 set.devices name instance ≡ found → (k < length set.devices) × (at came k ≡ Some false)
+    by_found None f = let h : Ok k ≡ opened_at place (unfit None reasons.UnknownSection) = e ∙ ap (opened_at place) (unknown set came name instance v f) in cc
+    by_found (Some i) f =
+        let u = unless_came i (device_at set i) (get_or came i false) v k place (e ∙ ap (opened_at place) (known set came name instance v i f)) in
+        let lt : i < length set.devices = device_below set.devices name instance i f in
+        let new : at came i ≡ Some false = at_get came i false (omega (arith, lt, long)) ∙ ap (λ (b : Bool). Some b) u.1 in
+        (omega (arith, u.0, lt), ap (λ (n : ℕ). at came n) u.0 ∙ new)
+
+pub sections_taken : (set : Set) (devices : List Device) (came : List Bool) (k : ℕ) (none : Device) → length came ≡ length devices → at came k ≡ Some false
+    → sections_due set devices (slice_set came k true) + section_bytes set (get_or devices k none) ≡ sections_due set devices came
+sections_taken set devices [] k none long e = cc
+sections_taken set [] (b ∷ came) k none long e = absurd (omega arith)
+sections_taken set (d ∷ devices) (false ∷ came) zero none long e = omega arith
+sections_taken set (d ∷ devices) (true ∷ came) zero none long e = cc
+sections_taken set (d ∷ devices) (false ∷ came) (suc k) none long e = omega (arith, sections_taken set devices came k none (omega arith) e)
+sections_taken set (d ∷ devices) (true ∷ came) (suc k) none long e = sections_taken set devices came k none (omega arith) e

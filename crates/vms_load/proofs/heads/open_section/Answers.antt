@@ -1,0 +1,31 @@
+use Rattle.std.proofs.Common.{◌≡◌, ◌<◌, sym, ap, ◌∙◌, arith, length, get_or, false, Option, Some, None, ℕ, Err, List}
+use Rattle.vms_spec.specs.declared.Reason.{Reason}
+use Rattle.vms_spec.specs.Sets.{Device}
+use Rattle.vms_spec.specs.Judging.{find_device}
+use Rattle.vms_desc.specs.Described.{described}
+use Rattle.vms_load.specs.Heads.{reason_against}
+use Rattle.vms_load.proofs.HeadLemmas.{opens, device_below}
+use Rattle.vms_load.proofs.heads.open_section.Goals as goal
+
+pub device-requires : goal.device-requires
+device-requires c = device_below (described c.args.set.now).devices c.deref.result.now c.args.head.now.instance c.in-Some.number (sym c.find.ensures ∙ c.in-Some.is)
+
+pub bounds-came-number : goal.bounds-came-number
+bounds-came-number c =
+    let lt : c.in-Some.number < length (described c.args.set.now).devices = device_below (described c.args.set.now).devices c.deref.result.now c.args.head.now.instance c.in-Some.number (sym c.find.ensures ∙ c.in-Some.is) in
+    omega (arith, lt, c.requires)
+
+pub returns-in-None-against_device-clause-opened : goal.returns-in-None-against_device-clause-opened
+returns-in-None-against_device-clause-opened c =
+    let devices = (described c.args.set.now).devices in
+    let found = ap (λ (name : List ℕ). find_device 0 devices name c.args.head.now.instance) (sym c.deref.ensures.0) ∙ sym c.find.ensures ∙ c.in-Some.is in
+    let reason = sym c.in-None-against_device.is ∙ c.against_device.ensures ∙ ap (λ (d : Device). reason_against d (get_or c.args.came.now c.in-Some.number false) c.args.head.now.version) c.device.ensures in
+    opens (described c.args.set.now) c.args.came.now c.args.head.now.name.items c.args.head.now.instance c.args.head.now.version c.args.at c.in-Some.number None found reason
+
+pub returns-in-Some-against_device-clause-opened : goal.returns-in-Some-against_device-clause-opened
+returns-in-Some-against_device-clause-opened c =
+    let devices = (described c.args.set.now).devices in
+    let found = ap (λ (name : List ℕ). find_device 0 devices name c.args.head.now.instance) (sym c.deref.ensures.0) ∙ sym c.find.ensures ∙ c.in-Some.is in
+    let reason = sym c.in-Some-against_device.is ∙ c.against_device.ensures ∙ ap (λ (d : Device). reason_against d (get_or c.args.came.now c.in-Some.number false) c.args.head.now.version) c.device.ensures in
+    ap (λ x. Err x) c.refused-in-Some-against_device.ensures
+    ∙ opens (described c.args.set.now) c.args.came.now c.args.head.now.name.items c.args.head.now.instance c.args.head.now.version c.args.at c.in-Some.number (Some c.in-Some-against_device.reason) found reason

@@ -1,0 +1,9 @@
+use Rattle.std.proofs.Common.{arith, ap, length}
+use Rattle.vms_spec.specs.Sets.{Set}
+use Rattle.vms_desc.specs.Described.{described}
+use Rattle.vms_load.proofs.SetFacts.{few_machines}
+use Rattle.vms_load.proofs.staged.configure.Goals as goal
+
+pub machine_of-requires-clause-few : goal.machine_of-requires-clause-few
+machine_of-requires-clause-few c =
+    omega (arith, few_machines (described c.args.set.now) c.args.set.now.well_formed, ap length c.as_slice.ensures, ap (λ (s : Set). length s.machines) c.parts.ensures)

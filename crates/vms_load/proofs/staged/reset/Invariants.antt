@@ -1,0 +1,6 @@
+use Rattle.vms_desc.specs.Described.{described}
+use Rattle.vms_load.proofs.StagedLemmas.{Reset}
+use Rattle.vms_load.proofs.staged.reset.Given as goal
+
+abbrev pub invariant-loop-device : goal.invariant-loop-device
+invariant-loop-device l = Reset (described l.set) l.images l.initial.images l.device

@@ -1,0 +1,17 @@
+use Rattle.std.proofs.Common.{◌≡◌, ap, ◌∙◌, sym, length}
+use Rattle.std.specs.Vec.{with_items}
+use Rattle.std.proofs.lemmas.List.{length-map, with_items_is}
+use Rattle.vms_spec.specs.Sets.{Set}
+use Rattle.vms_spec.specs.Images.{default_image}
+use Rattle.vms_parts.specs.Views.{device_of}
+use Rattle.vms_desc.specs.Described.{described}
+use Rattle.vms_load.proofs.StagedLemmas.{starts}
+use Rattle.vms_load.proofs.staged.restart.Goals as goal
+
+pub returns-clause-state : goal.returns-clause-state
+returns-clause-state c =
+    let set = described c.args.set.now in
+    let images = c.args.staged.now.images in
+    let n = ap length c.as_slice.ensures ∙ sym (length-map c.parts.result.now.devices device_of) ∙ ap (λ (s : Set). length s.devices) c.parts.ensures in
+    let long = ap length c.reset.ensures ∙ length-map set.devices (default_image set) ∙ sym c.requires.all ∙ sym images.ok.0 in
+    starts set (with_items images c.reset.new.images).items c.none_came-staged.result.items (length c.as_slice.result.now) (with_items_is images c.reset.new.images long ∙ c.reset.ensures) n c.none_came-staged.ensures

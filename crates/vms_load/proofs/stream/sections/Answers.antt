@@ -1,0 +1,42 @@
+use Rattle.std.proofs.Common.{◌≡◌, ◌+◌, ◌≤◌, ℕ, List, Option, Some, None, length, sym, ap, ◌∙◌, arith, refl}
+use Rattle.vms_spec.specs.Judging.{judge}
+use Rattle.vms_laws.specs.Whole.{reading_on}
+use Rattle.vms_desc.specs.Described.{described}
+use Rattle.vms_frames.specs.declared.units.Between.{Between}
+use Rattle.vms_frames.specs.declared.units.Between.TheVariants.{First}
+use Rattle.vms_load.specs.Staging.{accepted_of, state_of, spot_at, stream_due}
+use Rattle.vms_load.proofs.ReadLemmas.{leads_here, leads_on}
+use Rattle.vms_load.proofs.Spending.{given_on}
+use Rattle.vms_load.proofs.stream.sections.Goals as goal
+
+pub loop-place-init : goal.loop-place-init
+loop-place-init g c =
+    let set = described c.args.set.now in
+    record {
+      reads = leads_here (g.S.Source.left c.args.source.now) (reading_on (judge set (accepted_of set c.args.only)) (state_of set c.args.staged.now (spot_at (Some First)))) c.args.cursor.now;
+      whole = c.requires.whole;
+      from = omega arith;
+      due = omega arith;
+      given = omega (arith, g.met.S.Source.counted c.args.source.now);
+      later = omega arith;
+      promise = refl;
+    }
+
+pub loop-place-preserved : goal.loop-place-preserved
+loop-place-preserved g c =
+    let set = described c.args.set.now in
+    let go = reading_on (judge set (accepted_of set c.args.only)) in
+    let loop = c.loop-place in
+    let spent = c.in_ok-place.ensures.given in
+    let due = ap (λ (o : Option Between). stream_due set loop.staged.came.items o) c.in-Some.is in
+    record {
+      reads = leads_on (g.S.Source.left c.args.source.now) (g.S.Source.left loop.source) (g.S.Source.left c.turn.new.source) (go (state_of set c.args.staged.now (spot_at (Some First))) c.args.cursor.now)
+          (go (state_of set loop.staged (spot_at (Some c.in-Some.between)))) (go (state_of set c.turn.new.staged (spot_at c.in_ok-place.place))) c.args.cursor.now loop.cursor c.turn.new.cursor loop.invariant.from spent.0
+          (rw c.in-Some.is at loop.invariant.reads) c.in_ok-place.ensures.reads;
+      whole = c.in_ok-place.ensures.whole;
+      from = omega (arith, loop.invariant.from, spent.0);
+      due = omega (arith, loop.invariant.due, due, spent);
+      given = given_on _ _ _ c.args.cursor.now loop.cursor c.turn.new.cursor loop.invariant.from spent.0 loop.invariant.given spent.2;
+      later = omega (arith, loop.invariant.later, c.in_ok-place.ensures.cause);
+      promise = c.in_ok-place.ensures.promise ∙ loop.invariant.promise;
+    }

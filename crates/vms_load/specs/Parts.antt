@@ -1,0 +1,101 @@
+-- The parts of a section, which are read into an image of its device.
+use Rattle.std.specs.Prelude.{◌≡◌, ℕ, ◌+◌, ◌<◌, List, [], ◌∷◌, length, get_or, slice_set, Option, Some, None, Result, Ok, Err}
+use Rattle.vms_spec.specs.Sets.{Desc, Sub, Device, Set}
+use Rattle.vms_spec.specs.declared.Part.{Part}
+use Rattle.vms_spec.specs.declared.Part.TheVariants as parts
+use Rattle.vms_spec.specs.Lists.{at}
+use Rattle.vms_spec.specs.Layout.{device_cells}
+use Rattle.vms_spec.specs.Images.{Image, sub_place, own_cells}
+use Rattle.vms_spec.specs.Readings.{reading_after}
+use Rattle.vms_spec.specs.Judging.{State, Spot, Fields, Later, judge, judge_after}
+use Rattle.vms_laws.specs.Whole.{reading_on}
+use Rattle.vms_parts.specs.Devices.{device_at}
+use Rattle.vms_desc.specs.Parts.{sub_at}
+use Rattle.vms_load.specs.Bounds.{desc_bytes, struct_bytes}
+use Rattle.vms_load.specs.Reads.{Onward}
+use Rattle.vms_load.specs.declared.parts.Section.{Section}
+use Rattle.vms_load.specs.declared.parts.Open.{Open}
+
+-- an image of this device
+pub record IsShaped (set : Set) (d : Device) (image : Image) : Type 0 where
+  pub came : length image.came ≡ length d.subs
+  pub numbers : length image.numbers ≡ length (device_cells set d)
+
+-- the description of the device's own fields or of a subsection, and where its cells begin
+abbrev pub part_desc : Device → Option ℕ → Desc
+part_desc d None = d.desc
+part_desc d (Some j) = (sub_at d j).desc
+
+abbrev pub part_base : Set → Device → Option ℕ → ℕ
+part_base set d None = 0
+part_base set d (Some j) = sub_place set (own_cells set d) d.subs j
+
+-- the device has this subsection, where one is named
+abbrev pub IsIn : Device → Option ℕ → Type 0
+IsIn d None = Unit {0}
+IsIn d (Some j) = j < length d.subs
+
+-- the number of the part
+abbrev pub part_of : ℕ → Option ℕ → Part
+part_of k None = parts.Device k
+part_of k (Some j) = parts.Sub k j
+
+-- a part that has begun in an image
+abbrev pub IsOpen : Device → Image → Option ℕ → ℕ → Type 0
+IsOpen d image None version = version ≡ image.version
+IsOpen d image (Some j) version = (j < length d.subs) × (at image.came j ≡ Some (Some version))
+
+abbrev pub OpensNext : Device → Image → Option Open → Type 0
+OpensNext d image None = Unit {0}
+OpensNext d image (Some part) = IsOpen d image part.sub part.version
+
+-- ---- how many bytes there may be
+
+abbrev pub bytes_of : Set → Desc → ℕ
+bytes_of set d = desc_bytes (struct_bytes set.structs (length set.structs)) d
+
+abbrev pub bytes_of_part : Set → Device → Option ℕ → ℕ
+bytes_of_part set d part = bytes_of set (part_desc d part)
+
+-- of the subsections that haven't come, with their heads
+abbrev pub subs_due : Set → List Sub → List (Option ℕ) → ℕ
+subs_due set [] came = 0
+subs_due set (s ∷ subs) [] = 0
+subs_due set (s ∷ subs) (None ∷ came) = 261 + bytes_of set s.desc + subs_due set subs came
+subs_due set (s ∷ subs) (Some v ∷ came) = subs_due set subs came
+
+-- from the fields of this part on to the end of the section, with its footer; nothing where it has ended
+abbrev pub part_due : Set → Device → List (Option ℕ) → Option Open → ℕ
+part_due set d came None = 0
+part_due set d came (Some part) = bytes_of_part set d part.sub + (subs_due set d.subs came + 5)
+
+-- ---- where the reading of a section stands
+
+-- before the fields of the part that comes next, or behind the section
+abbrev pub spot_in : Section → Option Open → Spot
+spot_in section None = Later
+spot_in section (Some part) = Fields section.device section.id part.sub 0
+
+-- a state with this image of the section's device
+abbrev pub state_in : State → Section → Image → Spot → State
+state_in state section image spot = record {
+  machine = state.machine;
+  images = slice_set state.images section.device image;
+  came = state.came;
+  spot = spot;
+}
+
+module _ (set : Set) (names : List (List ℕ)) (state : State) (section : Section) where
+  -- before the fields of a part
+  abbrev pub in_fields : Option ℕ → Image → Onward
+  in_fields part image = reading_on (judge set names) (state_in state section image (Fields section.device section.id part 0))
+
+  -- behind the fields of a part
+  abbrev pub after_fields : Option ℕ → Image → Onward
+  after_fields part image place rest =
+      reading_after (reading_on (judge set names)) place rest
+      (judge_after set names (state_in state section image (Fields section.device section.id part 0)) (device_at set section.device) image section.device section.id rest)
+
+  -- before the next part, or behind the section
+  abbrev pub after_part : Image → Option Open → Onward
+  after_part image next = reading_on (judge set names) (state_in state section image (spot_in section next))

@@ -1,0 +1,59 @@
+-- What the calls of the loader read, as the judge of streams has it.
+use Rattle.std.specs.Prelude.{◌≡◌, ℕ, ◌+◌, ◌-◌, ◌≤◌, List, drop, slice_set, Option, Some, None, Result, Ok, Err}
+use Rattle.vms_io.specs.Causes.{capped}
+use Rattle.vms_spec.specs.Readings.{Verdict, Goes, Faulty, Over, Reading, Accepted, Refused}
+use Rattle.vms_spec.specs.Judging.{State}
+use Rattle.vms_frames.specs.declared.fault.FrameFault.{FrameFault}
+use Rattle.vms_frames.specs.declared.fault.FrameFault.TheVariants as frames
+use Rattle.vms_load.specs.declared.fault.LoadFault.{LoadFault}
+use Rattle.vms_load.specs.declared.fault.LoadFault.TheVariants as faults
+
+-- how a reading goes on from a place on, where these bytes are left
+abbrev pub Onward : Type 0
+Onward = ℕ → List ℕ → Option (Reading State)
+
+-- behind a unit that begins at a place, by the judge's verdict on it
+abbrev pub behind : (State → Onward) → ℕ → Verdict State → Onward
+behind go at (Goes n next) to left = go next to left
+behind go at (Faulty section reason) to left = Some (Refused at section reason)
+behind go at (Over end) to left = Some (Accepted at end)
+
+-- the reading goes on so from this place, and all bytes before it were taken
+abbrev pub Leads : Option (Reading State) → Onward → ℕ → ℕ → List ℕ → Option (List ℕ) → Type 0
+Leads reading next at to rest None = ⊥
+Leads reading next at to rest (Some left) = (reading ≡ next to left) × (left ≡ drop (to - at) rest)
+
+-- the reading goes on so by what the call answers, or is refused so
+abbrev pub Reads : {X : Type 0} → Option (Reading State) → (X → Onward) → ℕ → ℕ → List ℕ → Option (List ℕ) → Result X LoadFault → Type 0
+Reads reading next at to rest left (Ok x) = Leads reading (next x) at to rest left
+Reads reading next at to rest left (Err (faults.Refused r)) = reading ≡ Some (Refused r.at r.section r.reason)
+Reads reading next at to rest left (Err faults.ReadFault) = Unit {0}
+Reads reading next at to rest left (Err faults.NoMemory) = ⊥
+
+-- a whole unit of n bytes at a place is judged: the reading goes on in a state, or there is a fault
+abbrev pub Settles : {X : Type 0} → Verdict State → ℕ → (X → State) → ℕ → Result X LoadFault → Type 0
+Settles (Goes n next) at state long (Ok x) = (next ≡ state x) × (n ≡ long)
+Settles (Faulty section reason) at state long (Err (faults.Refused r)) = r ≡ record { section = section; at = at; reason = reason }
+Settles verdict at state long result = ⊥
+
+-- the device concerned beside a fault in the form of a unit
+abbrev pub concerning : Option ℕ → FrameFault → LoadFault
+concerning section (frames.Refused at reason) = faults.Refused (record { section = section; at = at; reason = reason })
+concerning section frames.ReadFault = faults.ReadFault
+
+-- the input is at fault, and not the source
+abbrev pub IsRefused : LoadFault → Type 0
+IsRefused (faults.Refused r) = Unit {0}
+IsRefused faults.ReadFault = ⊥
+IsRefused faults.NoMemory = ⊥
+
+-- How many bytes are given, where so many were due before and are due after: as many as the place has moved, and no more
+-- than were due. A unit at fault that wasn't due has at most 269.
+abbrev pub Gives : {X : Type 0} → ℕ → ℕ → ℕ → ℕ → ℕ → (X → ℕ) → Result X LoadFault → Type 0
+Gives before now from to due after (Ok x) = (from ≤ to) × (to + after x ≤ from + due) × (now ≡ capped (before + (to - from)))
+Gives before now from to due after (Err e) = now ≤ before + due + 269
+
+-- the same behind a head, whose bytes are counted among those that were due before it
+abbrev pub GivesBehind : {X : Type 0} → ℕ → ℕ → ℕ → ℕ → ℕ → (X → ℕ) → Result X LoadFault → Type 0
+GivesBehind before now from to due after (Ok x) = (from ≤ to) × (to + (269 + after x) ≤ from + due) × (now ≡ capped (before + (to - from)))
+GivesBehind before now from to due after (Err e) = now ≤ before + due

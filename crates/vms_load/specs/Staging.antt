@@ -1,0 +1,122 @@
+-- What is read of a stream so far.
+use Rattle.std.specs.Prelude.{◌≡◌, ℕ, ◌+◌, ◌*◌, ◌<◌, ◌≤◌, Bool, true, false, List, [], ◌∷◌, length, get_or, map, drop, Option, Some, None, Result, Ok, Err}
+use Rattle.vms_io.specs.Causes.{capped}
+use Rattle.vms_spec.specs.Sets.{Sub, Device, Set}
+use Rattle.vms_spec.specs.Readings.{Reading, Accepted, Refused}
+use Rattle.vms_spec.specs.Images.{Image, default_image}
+use Rattle.vms_spec.specs.Streams.{is_one_of}
+use Rattle.vms_spec.specs.Judging.{State, Spot}
+use Rattle.vms_spec.specs.Judging as spots
+use Rattle.vms_frames.specs.declared.units.Between.{Between}
+use Rattle.vms_frames.specs.declared.units.Between.TheVariants.{First, AfterConfiguration, Later}
+use Rattle.vms_parts.specs.Devices.{device_at}
+use Rattle.vms_load.specs.Parts.{IsShaped, bytes_of, subs_due}
+use Rattle.vms_load.specs.declared.fault.LoadFault.{LoadFault}
+use Rattle.vms_load.specs.declared.fault.LoadFault.TheVariants as faults
+use Rattle.vms_load.specs.declared.staged.Staged.{Staged}
+
+abbrev pub no_image : Image
+no_image = record { version = 0; came = []; numbers = [] }
+
+-- one image for each device of a set
+pub record AreShaped (set : Set) (images : List Image) : Type 0 where
+  pub all : length images ≡ length set.devices
+  pub each : (k : ℕ) → k < length set.devices → IsShaped set (device_at set k) (get_or images k no_image)
+
+-- what is read so far is of this set
+pub record IsOf (set : Set) (staged : Staged) : Type 0 where
+  pub images : AreShaped set staged.images.items
+  pub came : length staged.came.items ≡ length set.devices
+
+-- the image of device k at a version, before its fields come
+abbrev pub image_at : Set → ℕ → ℕ → Image
+image_at set k version = record (default_image set (device_at set k)) { version = version }
+
+-- ---- as the judge has it
+
+-- the name of the machine of a number
+abbrev pub name_of : Set → Option ℕ → Option (List ℕ)
+name_of set None = None
+name_of set (Some machine) = Some (get_or set.machines machine [])
+
+abbrev pub state_of : Set → Staged → Spot → State
+state_of set staged spot = record { machine = name_of set staged.machine; images = staged.images.items; came = staged.came.items; spot = spot }
+
+abbrev pub spot_of : Between → Spot
+spot_of First = spots.First
+spot_of AfterConfiguration = spots.Configured
+spot_of Later = spots.Later
+
+-- after the end mark there is no further place between sections
+abbrev pub spot_at : Option Between → Spot
+spot_at None = spots.Ended
+spot_at (Some between) = spot_of between
+
+-- the machines of these that are accepted: all, or the one that is named by its number
+abbrev pub accepted : List (List ℕ) → Option ℕ → List (List ℕ)
+accepted machines None = machines
+accepted machines (Some machine) = get_or machines machine [] ∷ []
+
+abbrev pub accepted_of : Set → Option ℕ → List (List ℕ)
+accepted_of set only = accepted set.machines only
+
+abbrev pub IsMachine : List (List ℕ) → Option ℕ → Type 0
+IsMachine machines None = Unit {0}
+IsMachine machines (Some machine) = machine < length machines
+
+-- the number of a machine of this name that is accepted, or none
+abbrev pub IsAccepted : List (List ℕ) → Option ℕ → List ℕ → Option ℕ → Type 0
+IsAccepted machines only name None = is_one_of (accepted machines only) name ≡ false
+IsAccepted machines only name (Some machine) = (is_one_of (accepted machines only) name ≡ true) × (get_or machines machine [] ≡ name) × (machine < length machines)
+
+-- ---- how many bytes there may be
+
+-- of a section: its head, its fields, all subsections with their heads, and its footer
+abbrev pub section_bytes : Set → Device → ℕ
+section_bytes set d = 269 + (bytes_of set d.desc + (subs_due set d.subs (map (λ s. None) d.subs) + 5))
+
+-- of the sections of devices that haven't come
+abbrev pub sections_due : Set → List Device → List Bool → ℕ
+sections_due set [] came = 0
+sections_due set (d ∷ devices) [] = 0
+sections_due set (d ∷ devices) (true ∷ came) = sections_due set devices came
+sections_due set (d ∷ devices) (false ∷ came) = section_bytes set d + sections_due set devices came
+
+-- of a configuration, where one may stand
+abbrev pub configuration_due : Between → ℕ
+configuration_due First = 260
+configuration_due AfterConfiguration = 0
+configuration_due Later = 0
+
+-- from a place between sections on to the end mark; nothing behind it
+abbrev pub stream_due : Set → List Bool → Option Between → ℕ
+stream_due set came None = 0
+stream_due set came (Some between) = configuration_due between + (sections_due set set.devices came + 1)
+
+-- the bytes of all items of these subsections at full capacity
+abbrev pub subs_bytes : Set → List Sub → ℕ
+subs_bytes set [] = 0
+subs_bytes set (s ∷ subs) = bytes_of set s.desc + subs_bytes set subs
+
+abbrev pub devices_most : Set → List Device → ℕ
+devices_most set [] = 0
+devices_most set (d ∷ devices) = (274 + 261 * length d.subs + (bytes_of set d.desc + subs_bytes set d.subs)) + devices_most set devices
+
+-- so many bytes are given to a load at most
+abbrev pub most_given : Set → ℕ
+most_given set = 16777759 + devices_most set set.devices
+
+-- ---- a whole stream
+
+-- a call reads an input as a reading says: at Ok this machine is named, these are the images, and so many bytes were taken
+abbrev pub ReadsAll : Set → Option (Reading State) → Staged → List ℕ → Option (List ℕ) → Result ℕ LoadFault → Type 0
+ReadsAll set (Some (Accepted n end)) staged input left (Ok taken) =
+    (n ≡ taken) × (end.machine ≡ name_of set staged.machine) × (end.images ≡ staged.images.items) × (left ≡ Some (drop taken input))
+ReadsAll set (Some (Refused at section reason)) staged input left (Err (faults.Refused r)) = r ≡ record { section = section; at = at; reason = reason }
+ReadsAll set reading staged input left (Err faults.ReadFault) = Unit {0}
+ReadsAll set reading staged input left result = ⊥
+
+-- as many bytes are given as were taken, and never more than there may be
+abbrev pub GivesAll : Set → ℕ → ℕ → Result ℕ LoadFault → Type 0
+GivesAll set before now (Ok taken) = (now ≡ capped (before + taken)) × (taken ≤ most_given set)
+GivesAll set before now (Err e) = now ≤ before + most_given set

@@ -1,0 +1,110 @@
+// What the heads of sections and subsections open.
+ghost use Rattle.std.specs.Prelude.{◌≡◌, ◌<◌, ◌≤◌, ◌==◌, ◌^◌, length, get_or, map, Some};
+ghost use Rattle.std.specs.Str.{bytes_eq};
+ghost use Rattle.vms_spec.specs.Judging.{find_sub};
+ghost use Rattle.vms_desc.specs.Described.{described};
+ghost use Rattle.vms_parts.specs.Views.{desc_of, device_of, sub_of};
+ghost use Rattle.vms_load.specs.Heads.{section_opened, sub_opened, opened_at, reason_against, reason_against_version, reason_against_sub};
+
+use crate::LoadFault;
+use crate::fault::refused;
+use vms_desc::{Desc, DescSet, Device, Sub};
+use vms_image::Image;
+use vms_marks::{Head, Name};
+use vms_spec::Reason;
+
+/// The device that a section head at this place opens, where these have come.
+pub(crate) fn open_section(
+    set: &DescSet,
+    came: &[bool],
+    head: &Head,
+    at: u64,
+) -> Result<u32, LoadFault>
+    requires { length came.now ≡ length (described set.now).devices }
+    ensures short { length head.now.name.items ≤ 255 }
+    ensures opened { result ≡ opened_at at (section_opened (described set.now) came.now head.now.name.items head.now.instance head.now.version) }
+{
+    let number = match set.find(&head.name, head.instance) {
+        None => return Err(refused(None, at, Reason::UnknownSection)),
+        Some(number) => number,
+    };
+    match against_device(set.device(number), came[number as usize], head.version) {
+        None => Ok(number),
+        Some(reason) => Err(refused(Some(number), at, reason)),
+    }
+}
+
+// The reason against a section of a device that came before or not.
+fn against_device(device: &Device, came: bool, version: u32) -> Option<Reason>
+    ensures { result ≡ reason_against (device_of device.now) came version }
+{
+    if came {
+        Some(Reason::RepeatedSection)
+    } else {
+        against_version(&device.desc, version)
+    }
+}
+
+// The reason against a version of a description.
+fn against_version(desc: &Desc, version: u32) -> Option<Reason>
+    ensures { result ≡ reason_against_version (desc_of desc.now) version }
+{
+    if version > desc.version {
+        Some(Reason::TooNew)
+    } else if version < desc.minimum {
+        Some(Reason::TooOld)
+    } else {
+        None
+    }
+}
+
+/// The subsection that a subsection head at this place opens in an image of a device.
+pub(crate) fn open_sub(
+    number: u32,
+    device: &Device,
+    image: &Image,
+    name: &Name,
+    version: u32,
+    at: u64,
+) -> Result<u32, LoadFault>
+    requires long { length image.now.came ≡ length (device_of device.now).subs }
+    requires few { length (device_of device.now).subs < 2 ^ 32 }
+    ensures short { length name.now.items ≤ 255 }
+    ensures opened { result ≡ opened_at at (sub_opened number (device_of device.now) image.now.came name.now.items version) }
+{
+    let sub = match find_sub(device.subs.as_slice(), name) {
+        None => return Err(refused(Some(number), at, Reason::UnknownSubsection)),
+        Some(sub) => sub,
+    };
+    match against_sub(
+        &device.subs.as_slice()[sub as usize],
+        image.came(sub),
+        version,
+    ) {
+        None => Ok(sub),
+        Some(reason) => Err(refused(Some(number), at, reason)),
+    }
+}
+
+// The reason against a subsection that came before or not.
+fn against_sub(sub: &Sub, came: Option<u32>, version: u32) -> Option<Reason>
+    ensures { result ≡ reason_against_sub (sub_of sub.now) came version }
+{
+    match against_version(&sub.desc, version) {
+        None if came.is_some() => Some(Reason::RepeatedSubsection),
+        reason => reason,
+    }
+}
+
+// The number of the subsection of this full name.
+fn find_sub(subs: &[Sub], name: &[u8]) -> Option<u32>
+    requires { length subs.now < 2 ^ 32 }
+    ensures { result ≡ find_sub 0 (map sub_of subs.now) name.now }
+{
+    for (i, sub) in subs.iter().enumerate() {
+        if sub.desc.name.as_bytes() == name {
+            return Some(i as u32);
+        }
+    }
+    None
+}

@@ -1,0 +1,153 @@
+// The parts of a section: the device's own fields, and subsections.
+ghost use Rattle.std.specs.Prelude.{◌≡◌, ◌+◌, ◌<◌, ◌≤◌, ◌^◌, ℕ, List, Option, Some, None, length, IfSome, IfOk, OnOk};
+ghost use Rattle.vms_spec.specs.Judging.{State};
+ghost use Rattle.vms_desc.specs.Described.{described};
+ghost use Rattle.vms_parts.specs.Devices.{device_at};
+ghost use Rattle.vms_load.specs.Fit.{AreSizes};
+ghost use Rattle.vms_load.specs.Loads.{HasCause};
+ghost use Rattle.vms_load.specs.Reads.{Reads, Gives};
+ghost use Rattle.vms_load.specs.Parts.{IsShaped, IsOpen, OpensNext, part_of, part_due, bytes_of_part, subs_due, in_fields, after_fields, after_part};
+
+use crate::LoadFault;
+use crate::body::body;
+use crate::heads::open_sub;
+use vms_desc::{DescSet, Part};
+use vms_frames::{After, Cursor};
+use vms_image::Image;
+use vms_io::Source;
+
+/// The section that is read: the number of its device, and its id.
+#[derive(Clone, Copy)]
+pub(crate) struct Section {
+    pub(crate) device: u32,
+    pub(crate) id: u32,
+}
+
+/// A part of a section whose fields come next: the device's own or those of a subsection, at a version.
+#[derive(Clone, Copy)]
+pub(crate) struct Open {
+    pub(crate) sub: Option<u32>,
+    pub(crate) version: u32,
+}
+
+// The part of a device's section.
+fn part_of(device: u32, sub: Option<u32>) -> Part
+    ensures { result ≡ part_of device sub }
+{
+    match sub {
+        None => Part::Device(device),
+        Some(sub) => Part::Sub(device, sub),
+    }
+}
+
+// Reads the fields of a part.
+fn fields<S: Source>(
+    set: &DescSet,
+    sizes: &[u32],
+    section: Section,
+    part: Open,
+    image: &mut Image,
+    cursor: &mut Cursor,
+    source: &mut S,
+) -> Result<(), LoadFault>
+    requires device { section.device < length (described set.now).devices }
+    requires sized { AreSizes (described set.now).structs sizes.now }
+    requires shaped { IsShaped (described set.now) (device_at (described set.now) section.device) image.old }
+    requires open { IsOpen (device_at (described set.now) section.device) image.old part.sub part.version }
+    requires place { cursor.old + bytes_of_part (described set.now) (device_at (described set.now) section.device) part.sub ≤ 2 ^ 63 }
+    ensures reads { (names : List (List ℕ)) (state : State) → section.device < length state.images → IfSome (S.left source.old) (λ rest. Reads (in_fields (described set.now) names state section part.sub image.old cursor.old rest) (λ _. after_fields (described set.now) names state section part.sub image.new) cursor.old cursor.new rest (S.left source.new) result) }
+    ensures given { Gives (S.given source.old) (S.given source.new) cursor.old cursor.new (bytes_of_part (described set.now) (device_at (described set.now) section.device) part.sub) (λ _. 0) result }
+    ensures cause { HasCause (S.faults source.old) (S.faults source.new) result }
+    ensures promise { S.promise source.new ≡ S.promise source.old }
+    ensures kept { image.new ≡ record image.old { numbers = image.new.numbers } }
+    ensures long { length image.new.numbers ≡ length image.old.numbers }
+{
+    let structs = set.parts().structs.as_slice();
+    let number = part_of(section.device, part.sub);
+    let base = set.first_cell(number) as usize;
+    match body(
+        cursor,
+        source,
+        structs,
+        sizes,
+        structs.len(),
+        set.desc(number),
+        part.version,
+        image,
+        base,
+    ) {
+        Ok(()) => Ok(()),
+        Err(fault) => Err(LoadFault::concerning(Some(section.device), fault)),
+    }
+}
+
+// Reads what follows the fields of a part: the head of a subsection, which comes next, or the footer.
+fn after<S: Source>(
+    set: &DescSet,
+    section: Section,
+    image: &mut Image,
+    cursor: &mut Cursor,
+    source: &mut S,
+) -> Result<Option<Open>, LoadFault>
+    requires device { section.device < length (described set.now).devices }
+    requires shaped { IsShaped (described set.now) (device_at (described set.now) section.device) image.old }
+    requires place { cursor.old ≤ 2 ^ 63 }
+    ensures reads { (names : List (List ℕ)) (state : State) (part : Option ℕ) → IfSome (S.left source.old) (λ rest. Reads (after_fields (described set.now) names state section part image.old cursor.old rest) (after_part (described set.now) names state section image.new) cursor.old cursor.new rest (S.left source.new) result) }
+    ensures moved { OnOk result (cursor.old < cursor.new) }
+    ensures open { IfOk result (OpensNext (device_at (described set.now) section.device) image.new) }
+    ensures given { Gives (S.given source.old) (S.given source.new) cursor.old cursor.new (subs_due (described set.now) (device_at (described set.now) section.device).subs image.old.came + 5) (part_due (described set.now) (device_at (described set.now) section.device) image.new.came) result }
+    ensures cause { HasCause (S.faults source.old) (S.faults source.new) result }
+    ensures promise { S.promise source.new ≡ S.promise source.old }
+    ensures shaped { IsShaped (described set.now) (device_at (described set.now) section.device) image.new }
+{
+    let at = cursor.at();
+    match cursor.after_fields(source, section.id) {
+        Ok(After::Done) => Ok(None),
+        Ok(After::Sub { name, version }) => {
+            let sub = open_sub(
+                section.device,
+                set.device(section.device),
+                image,
+                &name,
+                version,
+                at,
+            )?;
+            image.mark(sub, Some(version));
+            Ok(Some(Open {
+                sub: Some(sub),
+                version,
+            }))
+        }
+        Err(fault) => Err(LoadFault::concerning(Some(section.device), fault)),
+    }
+}
+
+/// Reads a section behind its head, up to its footer.
+pub(crate) fn read_section<S: Source>(
+    set: &DescSet,
+    sizes: &[u32],
+    section: Section,
+    image: &mut Image,
+    cursor: &mut Cursor,
+    source: &mut S,
+) -> Result<(), LoadFault>
+    requires device { section.device < length (described set.now).devices }
+    requires sized { AreSizes (described set.now).structs sizes.now }
+    requires shaped { IsShaped (described set.now) (device_at (described set.now) section.device) image.old }
+    requires place { cursor.old + part_due (described set.now) (device_at (described set.now) section.device) image.old.came (Some (record { sub = None; version = image.old.version })) ≤ 2 ^ 63 }
+    ensures reads { (names : List (List ℕ)) (state : State) → section.device < length state.images → IfSome (S.left source.old) (λ rest. Reads (in_fields (described set.now) names state section None image.old cursor.old rest) (λ _. after_part (described set.now) names state section image.new None) cursor.old cursor.new rest (S.left source.new) result) }
+    ensures given { Gives (S.given source.old) (S.given source.new) cursor.old cursor.new (part_due (described set.now) (device_at (described set.now) section.device) image.old.came (Some (record { sub = None; version = image.old.version }))) (λ _. 0) result }
+    ensures cause { HasCause (S.faults source.old) (S.faults source.new) result }
+    ensures promise { S.promise source.new ≡ S.promise source.old }
+    ensures shaped { IsShaped (described set.now) (device_at (described set.now) section.device) image.new }
+{
+    let mut next = Some(Open {
+        sub: None,
+        version: image.version(),
+    });
+    while let Some(part) = next {
+        fields(set, sizes, section, part, image, cursor, source)?;
+        next = after(set, section, image, cursor, source)?;
+    }
+    Ok(())
+}

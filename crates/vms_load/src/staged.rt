@@ -1,0 +1,149 @@
+// What is read of a stream so far.
+ghost use Rattle.std.specs.Prelude.{◌≡◌, ◌<◌, ◌≤◌, ◌+◌, ◌^◌, true, false, ℕ, List, length, map, replicate, slice_set, IfErr, IfOk, IfSome, Some, None};
+ghost use Rattle.vms_spec.specs.Sets.{Set};
+ghost use Rattle.vms_spec.specs.Images.{default_image};
+ghost use Rattle.vms_spec.specs.Judging.{Spot, Configured, Magic, Ended, first_missing, at_start};
+ghost use Rattle.vms_desc.specs.Described.{described};
+ghost use Rattle.vms_frames.specs.Judged.{judge_step};
+ghost use Rattle.vms_load.specs.Reads.{Settles, IsRefused};
+ghost use Rattle.vms_load.specs.Staging.{AreShaped, IsOf, IsMachine, IsAccepted, accepted_of, image_at, state_of};
+
+use crate::LoadFault;
+use crate::fault::refused;
+use arrayvec::ArrayVec;
+use vms_desc::{DescSet, Text};
+use vms_frames::Step;
+use vms_image::Image;
+use vms_marks::Name;
+use vms_spec::Reason;
+
+/// What is read of a stream so far.
+#[derive(Drop)]
+pub(crate) struct Staged {
+    /// One image for each device of the set.
+    pub(crate) images: Vec<Image>,
+    /// Which devices' sections came.
+    pub(crate) came: ArrayVec<bool, 64>,
+    /// The machine that was named.
+    pub(crate) machine: Option<u32>,
+}
+
+/// Begins anew: nothing has come.
+pub(crate) fn restart(set: &DescSet, staged: &mut Staged)
+    requires { AreShaped (described set.now) staged.old.images.items }
+    ensures state { state_of (described set.now) staged.new Magic ≡ at_start (described set.now) }
+    ensures whole { IsOf (described set.now) staged.new }
+{
+    reset(set, &mut staged.images);
+    staged.came = none_came(set.parts().devices.as_slice().len());
+    staged.machine = None;
+}
+
+// Makes each image what `Image::new` gives.
+fn reset(set: &DescSet, images: &mut [Image])
+    requires { AreShaped (described set.now) images.old }
+    ensures { images.new ≡ map (default_image (described set.now)) (described set.now).devices }
+{
+    for device in 0..images.len() {
+        images[device].reset(set, device as u32);
+    }
+}
+
+// No device of so many has come.
+fn none_came(devices: usize) -> ArrayVec<bool, 64>
+    requires { devices ≤ 64 }
+    ensures { result.items ≡ replicate devices false }
+{
+    let mut came = ArrayVec::new();
+    for _device in 0..devices {
+        came.push(false);
+    }
+    came
+}
+
+/// Begins the section of a device at a version: it has come, and its image is at its defaults.
+pub(crate) fn begin(set: &DescSet, staged: &mut Staged, device: u32, version: u32)
+    requires device { device < length (described set.now).devices }
+    requires whole { IsOf (described set.now) staged.old }
+    ensures images { staged.new.images.items ≡ slice_set staged.old.images.items device (image_at (described set.now) device version) }
+    ensures came { staged.new.came.items ≡ slice_set staged.old.came.items device true }
+    ensures machine { staged.new.machine ≡ staged.old.machine }
+{
+    staged.came[device as usize] = true;
+    let image = &mut staged.images[device as usize];
+    image.reset(set, device);
+    image.set_version(version);
+}
+
+/// Takes the configuration at this place, which names an accepted machine.
+pub(crate) fn configure(
+    set: &DescSet,
+    only: Option<u32>,
+    staged: &mut Staged,
+    name: &Name,
+    at: u64,
+) -> Result<(), LoadFault>
+    requires { IsMachine (described set.now).machines only }
+    ensures short { length name.now.items ≤ 255 }
+    ensures refused { IfErr result IsRefused }
+    ensures settles { (spot : Spot) → Settles (judge_step (described set.now) (accepted_of (described set.now) only) (state_of (described set.now) staged.old spot) (Step.Configuration name.now)) at (λ _. state_of (described set.now) staged.new Configured) (5 + length name.now.items) result }
+    ensures kept { staged.new ≡ record staged.old { machine = staged.new.machine } }
+{
+    match machine_of(set.parts().machines.as_slice(), only, name) {
+        None => Err(refused(None, at, Reason::WrongMachine)),
+        Some(machine) => {
+            staged.machine = Some(machine);
+            Ok(())
+        }
+    }
+}
+
+// The number of the accepted machine of this name.
+fn machine_of(machines: &[Text], only: Option<u32>, name: &[u8]) -> Option<u32>
+    requires few { length machines.now < 2 ^ 32 }
+    requires machine { IsMachine machines.now only }
+    ensures { IsAccepted machines.now only name.now result }
+{
+    match only {
+        None => find_machine(machines, name),
+        Some(machine) if machines[machine as usize].as_bytes() == name => Some(machine),
+        Some(_) => None,
+    }
+}
+
+// The number of the first machine of this name.
+fn find_machine(machines: &[Text], name: &[u8]) -> Option<u32>
+    requires { length machines.now < 2 ^ 32 }
+    ensures { IsAccepted machines.now None name.now result }
+{
+    for (i, machine) in machines.iter().enumerate() {
+        if machine.as_bytes() == name {
+            return Some(i as u32);
+        }
+    }
+    None
+}
+
+/// Takes the end mark at this place, before which each device's section must have come.
+pub(crate) fn end(staged: &Staged, at: u64) -> Result<(), LoadFault>
+    ensures refused { IfErr result IsRefused }
+    ensures settles { (set : Set) (names : List (List ℕ)) (spot : Spot) → Settles (judge_step set names (state_of set staged.now spot) Step.End) at (λ _. state_of set staged.now Ended) 1 result }
+{
+    match first_missing(&staged.came) {
+        None => Ok(()),
+        Some(device) => Err(refused(Some(device), at, Reason::MissingSection)),
+    }
+}
+
+// The first device that has not come.
+fn first_missing(came: &[bool]) -> Option<u32>
+    requires { length came.now < 2 ^ 32 }
+    ensures { result ≡ first_missing 0 came.now }
+{
+    for (i, here) in came.iter().enumerate() {
+        if !*here {
+            return Some(i as u32);
+        }
+    }
+    None
+}
