@@ -1,3 +1,4 @@
 pub mod EndLemmas
 pub mod PackLemmas
-pub mod ReadyLemmas
+pub mod RoundTrips
+pub mod ShowLemmas

@@ -30,25 +30,26 @@ use Rattle.vms_cli.specs.declared.ending.Ending.{Ending}
 use Rattle.vms_cli.specs.declared.ending.Ending.TheVariants.{Done, Refused, BadWords, BadValues, ReadFault, WriteFault, ShelfFault, NotThere, TooLarge, NoMemory}
 use Rattle.vms_cli.specs.Outcomes.{Outcome, ended, packed_of, packed, longest_values}
 use Rattle.vms_cli.specs.Endings.{EndsAs, WritesAs, WriteCause, PackCause}
-use Rattle.vms_cli.proofs.ReadyLemmas.{IsReadyTimer, AnswersReady, values_ready}
+use Rattle.vms_texts.specs.Texts.{IsTimer}
+use Rattle.vms_texts.proofs.Backs.{read_holds}
 
 at_first : (image : Image) → is_ready set_0 timer image ≡ true → (k : ℕ) → k < 1 → is_ready set_0 (device_at set_0 k) (get_or (image ∷ []) k no_image) ≡ true
 at_first image h zero l = h
 at_first image h (suc k) l = absurd (omega (arith, l))
 
-one_ready : (images : List Image) → IsReadyTimer images → AreReady set_0 images
+one_ready : (images : List Image) → IsTimer images → AreReady set_0 images
 one_ready [] h = absurd h
 one_ready (image ∷ []) h = record { one_each = refl; ready = at_first image h }
 one_ready (image ∷ other ∷ images) h = absurd h
 
-ready_of : (r : ValuesRead) (v : Given) → AnswersReady r → ReadsAs set_0 r (Ok v) → AreReady set_0 v.images.items
-ready_of (Values machine images) v h reads = subst (λ (l : List Image). AreReady set_0 l) (sym reads.0) (one_ready images h)
-ready_of (Bad line reason) v h reads = absurd reads
+ready_of : (text : List ℕ) (r : ValuesRead) (v : Given) → values_read set_0 text ≡ r → ReadsAs set_0 r (Ok v) → AreReady set_0 v.images.items
+ready_of text (Values machine images) v e reads = subst (λ (l : List Image). AreReady set_0 l) (sym reads.0) (one_ready images (read_holds text machine images e).ready)
+ready_of text (Bad line reason) v e reads = absurd reads
 
 -- the images of a text that was read are ready
 pub read_ready : (set : Set) (text : List ℕ) (v : Given) → set ≡ set_0 → ReadsAs set (values_read set text) (Ok v) → AreReady set v.images.items
 read_ready set text v is reads =
-    subst (λ (s : Set). AreReady s v.images.items) (sym is) (ready_of (values_read set_0 text) v (values_ready text) (subst (λ (s : Set). ReadsAs s (values_read s text) (Ok v)) is reads))
+    subst (λ (s : Set). AreReady s v.images.items) (sym is) (ready_of text (values_read set_0 text) v refl (subst (λ (s : Set). ReadsAs s (values_read s text) (Ok v)) is reads))
 
 at_is : {X : Type 0} (xs : List X) (k : ℕ) (d : X) → k < length xs → at xs k ≡ Some (get_or xs k d)
 at_is [] k d l = absurd (omega (arith, l))

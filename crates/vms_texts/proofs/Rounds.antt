@@ -38,7 +38,7 @@ takes machine images m t =
     (written_holds set_0 set_0.machines (omega arith) machine None images (configured machine m) refl
     (record { one_each = one_each images t; ready = ready_at images t }) [] (λ e. refl))
 
-shows : (machine : Option (List ℕ)) (images : List Image) → IsMachine machine → IsTimer images
+pub shows : (machine : Option (List ℕ)) (images : List Image) → IsMachine machine → IsTimer images
     → (end : State) × (reading set_0 set_0.machines (written set_0 machine images None) ≡ Some (Accepted (length (written set_0 machine images None)) end))
     × (end.machine ≡ machine) × (end.images ≡ images)
 shows machine images m t =
