@@ -4,6 +4,7 @@ pub mod Bounding
 pub mod Counting
 pub mod HeadLemmas
 pub mod Kept
+pub mod LoadReads
 pub mod OpenedReads
 pub mod PartReads
 pub mod ReadLemmas
@@ -13,7 +14,5 @@ pub mod Spending
 pub mod StagedLemmas
 pub mod StreamReads
 pub mod Tables
-pub mod TimerImages
 pub mod TurnReads
-pub mod UnitLemmas
 pub mod WellFit
