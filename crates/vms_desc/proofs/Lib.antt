@@ -9,3 +9,4 @@ pub mod TableLaws
 pub mod AskLaws
 pub mod Clean
 pub mod HeadLaws
+pub mod TablesMade

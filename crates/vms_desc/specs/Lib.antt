@@ -6,3 +6,4 @@ pub mod Heads
 pub mod Numbers
 pub mod Parts
 pub mod Scopes
+pub mod Tables

@@ -3,10 +3,10 @@ ghost use Rattle.std.specs.Prelude.{◌≡◌, ◌++◌, length, map, OnOk, IfOk
 ghost use Rattle.vms_desc.specs.Forms.{item_forms, field_forms, fields_forms, subs_forms, device_forms, forms_to};
 ghost use Rattle.vms_parts.specs.Views.{desc_of, field_of, sub_of, device_of, set_of, layout_of};
 
-use vms_parts::capacity;
 use crate::{CellForm, Desc, Device, Field, Listed, Parts, Sub};
 use std::alloc::{AllocError, Global};
 use vms_kinds::Item;
+use vms_parts::capacity;
 
 // Puts the forms of the cells of these fields after those that are there. `structs` are the structures that
 // they may use.

@@ -9,6 +9,7 @@ mod forms;
 mod heads;
 mod set;
 mod shipped;
+mod table;
 
 pub use eval::{Cells, Numbers};
 pub use set::DescSet;
