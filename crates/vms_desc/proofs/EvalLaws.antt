@@ -39,7 +39,7 @@ place_is cs fields i base (f ∷ fs) (suc k) =
     field_size cs fields i f ∙ ap (λ (n : ℕ). capacity_of f.count * n) (item_sizes cs f.item) in
     omega (arith, h, place_is cs fields (suc i) (base + length (field_cells cs fields i f)) fs k)
 
-take_less : (sizes : List ℕ) (fs : List Field) (k : ℕ) → fields_size Cells sizes (take k fs) ≤ fields_size Cells sizes fs
+pub take_less : (sizes : List ℕ) (fs : List Field) (k : ℕ) → fields_size Cells sizes (take k fs) ≤ fields_size Cells sizes fs
 take_less sizes [] zero = omega arith
 take_less sizes [] (suc k) = omega arith
 take_less sizes (f ∷ fs) zero = omega arith

@@ -5,6 +5,8 @@ pub mod EvalParts
 pub mod Formed
 pub mod FormLaws
 pub mod NumberLaws
+pub mod PathBegins
+pub mod PathLaws
 pub mod TableLaws
 pub mod AskLaws
 pub mod Clean

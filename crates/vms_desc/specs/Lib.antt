@@ -5,5 +5,6 @@ pub mod Forms
 pub mod Heads
 pub mod Numbers
 pub mod Parts
+pub mod Paths
 pub mod Scopes
 pub mod Tables

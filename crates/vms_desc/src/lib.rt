@@ -7,6 +7,8 @@ mod asks;
 mod eval;
 mod forms;
 mod heads;
+mod judged;
+mod path;
 mod set;
 mod shipped;
 mod table;
@@ -16,6 +18,7 @@ pub use set::DescSet;
 pub use vms_parts::{
     CellForm, Count, Desc, Device, Field, Listed, Part, Parts, Place, Rel, Sub, Test, Text, Whose,
 };
+pub use vms_rules::DescFault;
 
 #[cfg(test)]
 mod tests;

@@ -11,4 +11,4 @@ pub cleared : (new old : List (Option ℕ)) (i : ℕ) → length new ≡ length 
     → ((k : ℕ) → k < i → get_or new k None ≡ None) → new ≡ replicate (length old) None
 cleared new old i long all written =
     ext_get_or None new (replicate (length old) None) (long ∙ sym (length-replicate (length old) None))
-      (λ k h. written k (omega (arith, long, h)) ∙ sym (get_or-replicate (length old) k None None (omega (arith, long, h))))
+    (λ k h. written k (omega (arith, long, h)) ∙ sym (get_or-replicate (length old) k None None (omega (arith, long, h))))

@@ -25,6 +25,6 @@ module _ (set : sets.Set) (d : sets.Device) (device : Device) (is : device_of de
       → image.numbers ≡ map (λ form. form.default) forms → image ≡ default_image set d
   made image v c n =
       same_image image (default_image set d)
-        (v ∙ ap (λ (x : sets.Device). x.desc.version) is)
-        (c ∙ sym (map-same None device.subs) ∙ sym (map-map (λ s. None) sub_of device.subs) ∙ ap (λ (x : sets.Device). map (λ s. None) x.subs) is)
-        (n ∙ ap (λ (l : List CellForm). map (λ form. form.default) l) laid ∙ map-map (λ form. form.default) form_of (device_cells set d))
+      (v ∙ ap (λ (x : sets.Device). x.desc.version) is)
+      (c ∙ sym (map-same None device.subs) ∙ sym (map-map (λ s. None) sub_of device.subs) ∙ ap (λ (x : sets.Device). map (λ s. None) x.subs) is)
+      (n ∙ ap (λ (l : List CellForm). map (λ form. form.default) l) laid ∙ map-map (λ form. form.default) form_of (device_cells set d))

@@ -6,6 +6,7 @@
 
 mod foot;
 mod head;
+pub mod laws;
 mod mark;
 
 pub use foot::Foot;

@@ -1,18 +1,18 @@
 -- Devices that are read one after the other, and what the whole text says.
-use Rattle.std.proofs.Common.{◌≡◌, ℕ, suc, ◌+◌, ◌<◌, Bool, true, false, not, List, [], ◌∷◌, ◌++◌, length, get_or, drop, map, if◌then◌else◌, nat_le, Option, Some, None, Result, Ok, Err, ℤ, refl, sym, ap, ◌∙◌, subst, arith, rules, append_assoc, append-nil}
+use Rattle.std.proofs.Common.{◌≡◌, ℕ, ◌<◌, Bool, true, false, not, List, [], ◌∷◌, ◌++◌, length, map, if◌then◌else◌, nat_le, Option, Some, None, Result, Ok, Err, refl, sym, ap, ◌∙◌, subst, rules, append_assoc, append-nil}
 use Rattle.std.specs.Option.{ForSome}
 use Rattle.std.specs.Bool.{OnTrue}
 use Rattle.std.proofs.lemmas.List.{length-map, map-append}
 use Rattle.vms_kinds.specs.declared.Kind.TheVariants.{U64}
 use Rattle.vms_spec.specs.declared.ValuesReason.TheVariants as reasons
 use Rattle.vms_spec.specs.Sets.{Desc, Sub, Device, Set}
-use Rattle.vms_spec.specs.Layout.{first, Slot, Number, Rule}
-use Rattle.vms_spec.specs.Images.{Image, default_image, own_cells, own_slots}
+use Rattle.vms_spec.specs.Layout.{first, Number, Rule}
+use Rattle.vms_spec.specs.Images.{Image, default_image, own_cells}
 use Rattle.vms_spec.specs.Readiness.{rules_are_true}
 use Rattle.vms_spec.specs.Shipped.{set_0, timer}
 use Rattle.vms_spec.specs.Spelling.{first_line}
-use Rattle.vms_spec.specs.ValuesReading.{BadLine, Standing, Read, Reader, reader, readers, ReadDevice, ReadSubs, ReadAll, ValuesRead, Values, Bad, bad, read_desc, read_subs, next_line, section_line, is_line, then_subs, with_device, device_read as device_reads, read_device, read_devices, ended, judged, answer_of, judge_devices, judge_device, or_bad, if_bad, values_read, after_machine, machine_named, rest_of}
-use Rattle.vms_parts.specs.Views.{set_of, desc_of}
+use Rattle.vms_spec.specs.ValuesReading.{BadLine, Standing, Read, reader, readers, ReadDevice, ReadAll, ValuesRead, Values, Bad, bad, read_desc, read_subs, next_line, section_line, is_line, then_subs, with_device, device_read as device_reads, read_device, read_devices, ended, judged, answer_of, judge_devices, judge_device, or_bad, if_bad, values_read, after_machine, machine_named, rest_of}
+use Rattle.vms_parts.specs.Views.{desc_of}
 use Rattle.vms_parts.specs.declared.types.Desc.{Desc as CodeDesc}
 use Rattle.vms_values.specs.declared.cursor.Lines.{Lines}
 use Rattle.vms_values.specs.declared.fault.Values.{Values as Given}

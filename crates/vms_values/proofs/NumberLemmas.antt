@@ -1,14 +1,13 @@
 -- Numbers as they are spelled.
-use Rattle.std.proofs.Common.{◌≡◌, ◌⊎◌, inl, inr, ℕ, zero, suc, ◌+◌, ◌-◌, ◌*◌, ◌^◌, ◌<◌, ◌≤◌, Bool, true, false, not, ◌&&◌, ◌||◌, ◌==◌, nat_le, nat_lt, List, [], ◌∷◌, length, get_or, drop, Option, Some, None, ℤ, pos, negsuc, if◌then◌else◌, refl, sym, ap, ◌∙◌, subst, arith}
+use Rattle.std.proofs.Common.{◌≡◌, ℕ, ◌+◌, ◌-◌, ◌*◌, ◌^◌, ◌<◌, ◌≤◌, Bool, true, false, not, ◌&&◌, ◌||◌, ◌==◌, nat_le, nat_lt, List, [], ◌∷◌, length, get_or, drop, Option, Some, None, ℤ, pos, negsuc, if◌then◌else◌, refl, sym, ap, ◌∙◌, arith}
 use Rattle.std.proofs.lemmas.Bool.{ne_eqb, eq-eqb, eqb-true, lt-leb, ltb-true, ltb-false}
 use Rattle.std.proofs.lemmas.List.{drop_more, drop_all}
 use Rattle.std.proofs.lemmas.Bool.Decides.{nat_tests}
 use Rattle.std.specs.Option.{option_and_then}
 use Rattle.vms_kinds.specs.declared.Kind.{Kind}
 use Rattle.vms_kinds.specs.declared.Kind.TheVariants.{U8, U16, U32, U64, I8, I16, I32, I64, Bool as Truth, Timer}
-use Rattle.vms_kinds.specs.Codes.{lowest, highest}
 use Rattle.vms_spec.specs.Lists.{every}
-use Rattle.vms_spec.specs.Rules.{in_range, int_le}
+use Rattle.vms_spec.specs.Rules.{in_range}
 use Rattle.vms_spec.specs.Spelling.{is_digit, are_digits, natural_from, number_spelled, negative, begins_with}
 use Rattle.vms_values.specs.Spelled.{with_digit, natural_spelled, held}
 

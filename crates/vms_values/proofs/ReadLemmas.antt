@@ -1,39 +1,34 @@
 -- A text that is read line by line.
-use Rattle.std.proofs.Common.{◌≡◌, ℕ, zero, suc, ◌+◌, ◌<◌, ◌≤◌, Bool, true, false, not, ◌&&◌, ◌||◌, ◌==◌, nat_le, List, [], ◌∷◌, ◌++◌, length, get_or, take, drop, map, slice_set, if◌then◌else◌, Option, Some, None, Result, Ok, Err, ℤ, pos, codes, refl, sym, ap, ◌∙◌, subst, arith, append_assoc, append-nil, drop-drop, length-append, MatchOption}
-use Rattle.std.proofs.lemmas.List.{drop_more, drop_all, length-map, get_or_read}
-use Rattle.std.proofs.lemmas.Bool.{ne_eqb, eq-eqb, eqb-true}
+use Rattle.std.proofs.Common.{◌≡◌, ℕ, suc, ◌+◌, ◌<◌, Bool, true, false, not, ◌&&◌, ◌||◌, ◌==◌, nat_le, List, [], ◌∷◌, ◌++◌, length, get_or, drop, slice_set, if◌then◌else◌, Option, Some, None, Result, Ok, Err, ℤ, codes, refl, sym, ap, ◌∙◌, subst, arith, append_assoc, drop-drop, length-append, MatchOption}
+use Rattle.std.proofs.lemmas.List.{drop_more, get_or_read}
+use Rattle.std.proofs.lemmas.Bool.{eqb-true}
 use Rattle.std.proofs.lemmas.Bool.Decides.{nat_tests}
 use Rattle.std.proofs.lemmas.Slice.Eq.{bytes_eq-Decides}
 use Rattle.std.specs.Str.{bytes_eq}
 use Rattle.std.specs.Borrow.{Bor}
-use Rattle.std.specs.Fmt.{decimal}
 use Rattle.vms_kinds.specs.declared.Kind.{Kind}
 use Rattle.vms_kinds.specs.declared.Item.{Item}
 use Rattle.vms_kinds.specs.declared.Item.TheVariants.{Num, Equal, Unused, Struct}
 use Rattle.vms_spec.specs.declared.Count.{Count}
 use Rattle.vms_spec.specs.declared.Count.TheVariants.{One, Fixed, Counted}
 use Rattle.vms_spec.specs.declared.ValuesReason.TheVariants as reasons
-use Rattle.vms_spec.specs.Numbers.{exceeds}
-use Rattle.vms_spec.specs.Sets.{Formula, Field, Desc, Sub, Device, Set}
-use Rattle.vms_spec.specs.Layout.{Cell, first, counted, kind_of, field_cells, numbers_of}
-use Rattle.vms_spec.specs.Images.{Image, default_image, own_cells}
+use Rattle.vms_spec.specs.Sets.{Formula, Field, Desc, Device}
+use Rattle.vms_spec.specs.Layout.{first, counted, kind_of, field_cells}
+use Rattle.vms_spec.specs.Images.{Image}
 use Rattle.vms_spec.specs.Rules.{in_range}
 use Rattle.vms_spec.specs.Streams.{is_one_of}
 use Rattle.vms_values.specs.Machines.{IsMachine}
 use Rattle.vms_spec.specs.Spelling.{first_line, begins_with, number_spelled}
-use Rattle.vms_spec.specs.ValuesReading.{BadLine, Standing, Read, Reader, reader, readers, cells_of, ReadDevice, ReadSubs, ReadAll, bad, put_line, put_number, read_fields, read_field, read_desc, read_subs, next_line, rest_of, section_line, is_line, then_subs, with_device, device_read as device_reads, read_device, read_devices, ◌>>=◌}
-use Rattle.vms_parts.specs.Views.{set_of, desc_of, field_of}
-use Rattle.vms_parts.specs.declared.types.Desc.{Desc as CodeDesc}
+use Rattle.vms_spec.specs.ValuesReading.{BadLine, Standing, Read, Reader, cells_of, bad, put_line, put_number, read_fields, read_field, rest_of, is_line, ◌>>=◌}
 use Rattle.vms_values.specs.declared.text.Line.{Line}
 use Rattle.vms_values.specs.declared.cursor.Lines.{Lines}
 use Rattle.vms_values.specs.declared.fault.ValuesFault.{ValuesFault}
 use Rattle.vms_values.specs.declared.fault.ValuesFault.TheVariants as faults
 use Rattle.vms_values.specs.FirstLine.{IsFirstLine}
-use Rattle.vms_values.specs.Plain.{IsPlainField, IsPlainDevice, ArePlain, IsNumber, IsOne, HasNoTest}
+use Rattle.vms_values.specs.Plain.{IsPlainField, ArePlain, IsNumber, IsOne, HasNoTest}
 use Rattle.vms_values.specs.Spelled.{Strips, held}
-use Rattle.vms_values.specs.Tables.{readers_in}
-use Rattle.vms_values.specs.Reading.{standing, IsBad, Reaches, ReachesAll, ImageRead, Passed, cell_read, device_read}
-use Rattle.vms_values.proofs.TextLemmas.{begins-append, equal-append}
+use Rattle.vms_values.specs.Reading.{standing, IsBad, Reaches, ImageRead, Passed, cell_read, device_read}
+use Rattle.vms_values.proofs.TextLemmas.{begins-append}
 
 -- ---- fronts
 

@@ -1,5 +1,5 @@
 -- The machine that a values text names.
-use Rattle.std.specs.Prelude.{◌≡◌, ℕ, ◌<◌, Bool, true, false, ◌&&◌, List, [], length, get_or, drop, Option, Some, None, codes}
+use Rattle.std.specs.Prelude.{◌≡◌, ℕ, ◌<◌, true, false, ◌&&◌, List, [], length, get_or, drop, Option, Some, None, codes}
 use Rattle.vms_spec.specs.Streams.{is_one_of}
 use Rattle.vms_spec.specs.Spelling.{begins_with, first_line}
 use Rattle.vms_spec.specs.ValuesReading.{rest_of}

@@ -1,5 +1,5 @@
 -- What a reading says of the definition's reading.
-use Rattle.std.specs.Prelude.{◌≡◌, ℕ, suc, ◌<◌, Bool, true, false, List, [], ◌∷◌, ◌++◌, length, map, if◌then◌else◌, Option, Some, None, Result, Ok, Err, ℤ}
+use Rattle.std.specs.Prelude.{◌≡◌, ℕ, suc, ◌<◌, Bool, true, false, List, [], length, map, if◌then◌else◌, Result, Ok, Err, ℤ}
 use Rattle.std.specs.Option.{ForSome}
 use Rattle.vms_kinds.specs.declared.Kind.{Kind}
 use Rattle.vms_spec.specs.declared.ValuesReason.TheVariants as reasons
@@ -7,7 +7,7 @@ use Rattle.vms_spec.specs.Sets.{Set, Device}
 use Rattle.vms_spec.specs.Layout.{device_cells}
 use Rattle.vms_spec.specs.Images.{Image, default_image}
 use Rattle.vms_spec.specs.Spelling.{first_line}
-use Rattle.vms_spec.specs.ValuesReading.{BadLine, Standing, Read, Reader, readers, ValuesRead, Values, Bad, ReadDevice, ReadAll, bad, put_line, read_desc, next_line, rest_of, section_line, is_line}
+use Rattle.vms_spec.specs.ValuesReading.{BadLine, Standing, Read, Reader, readers, ValuesRead, Values, Bad, ReadAll, bad, put_line, read_desc, next_line, rest_of, section_line, is_line}
 use Rattle.vms_desc.specs.Described.{device_at}
 use Rattle.vms_values.specs.Printing.{machine_of}
 use Rattle.vms_values.specs.declared.fault.ValuesFault.{ValuesFault}

@@ -1,9 +1,9 @@
 -- Numbers that a text spells, within bounds.
-use Rattle.std.specs.Prelude.{◌≡◌, ℕ, ◌+◌, ◌-◌, ◌*◌, ◌^◌, Bool, true, false, ◌&&◌, nat_lt, List, length, drop, Option, Some, None, ℤ, if◌then◌else◌, MatchOption}
+use Rattle.std.specs.Prelude.{◌≡◌, ℕ, ◌+◌, ◌-◌, ◌*◌, ◌^◌, true, false, ◌&&◌, nat_lt, List, length, drop, Option, Some, None, ℤ, if◌then◌else◌, MatchOption}
 use Rattle.std.specs.Borrow.{Bor}
 use Rattle.vms_kinds.specs.declared.Kind.{Kind}
 use Rattle.vms_spec.specs.Rules.{in_range}
-use Rattle.vms_spec.specs.Spelling.{is_digit, are_digits, natural_from, number_spelled, begins_with}
+use Rattle.vms_spec.specs.Spelling.{is_digit, are_digits, natural_from, begins_with}
 
 -- the number of these digits, if it is below 2 ^ 64
 abbrev pub natural_spelled : List ℕ → Option ℕ

@@ -1,4 +1,6 @@
 // What is read of a text, and what can go wrong.
+ghost use Rattle.std.specs.Prelude.{◌≡◌};
+
 use vms_image::Image;
 use vms_io::NoMemory;
 use vms_spec::ValuesReason;
@@ -24,6 +26,10 @@ pub enum ValuesFault {
 }
 
 impl From<NoMemory> for ValuesFault {
+    ghost use Rattle.vms_values.specs.declared.fault.ValuesFault.TheVariants as faults;
+
+    ghost from_gives = { λ _ fault. fault ≡ faults.NoMemory };
+
     fn from(_: NoMemory) -> Self {
         ValuesFault::NoMemory
     }

@@ -15,3 +15,6 @@ pub use fault::{Values, ValuesFault, WriteFault};
 pub use print::print_values;
 pub use read::read_values;
 pub use vms_spec::ValuesReason;
+
+#[cfg(test)]
+mod tests;

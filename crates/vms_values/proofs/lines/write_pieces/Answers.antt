@@ -1,4 +1,4 @@
-use Rattle.std.proofs.Common.{arith, ◌∙◌, ◌+◌, drop, rules}
+use Rattle.std.proofs.Common.{arith, ◌∙◌, ◌+◌, drop}
 use Rattle.std.proofs.lemmas.Result.{err_from_is_err_and}
 use Rattle.vms_values.specs.Written.{joined}
 use Rattle.vms_values.proofs.Writing.{owes_less, owes_still, joined_at}

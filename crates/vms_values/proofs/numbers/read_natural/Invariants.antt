@@ -1,4 +1,4 @@
-use Rattle.std.proofs.Common.{◌≡◌, ◌<◌, ◌^◌, drop}
+use Rattle.std.proofs.Common.{◌≡◌, drop}
 use Rattle.vms_values.proofs.NumberLemmas.{read_from}
 use Rattle.vms_values.proofs.numbers.read_natural.Given as goal
 

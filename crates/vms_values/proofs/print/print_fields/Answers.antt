@@ -1,8 +1,6 @@
-use Rattle.std.proofs.Common.{◌≡◌, ◌+◌, ◌<◌, ℕ, List, ◌∷◌, length, map, drop, ap, ◌∙◌, arith, subst}
+use Rattle.std.proofs.Common.{◌≡◌, ◌+◌, ◌<◌, ◌∷◌, length, map, drop, ap, ◌∙◌, arith, subst}
 use Rattle.std.proofs.lemmas.Result.{err_from_is_err_and}
-use Rattle.vms_spec.specs.Sets.{Field}
 use Rattle.vms_spec.specs.Layout.{numbers_of}
-use Rattle.vms_spec.specs.Values.{field_lines}
 use Rattle.vms_parts.specs.Views.{desc_of, field_of}
 use Rattle.vms_values.specs.Paths.{path_text}
 use Rattle.vms_values.specs.Plain.{ArePlain}

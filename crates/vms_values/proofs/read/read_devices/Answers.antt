@@ -1,6 +1,6 @@
-use Rattle.std.proofs.Common.{◌≡◌, ◌<◌, ◌+◌, ◌∷◌, [], ◌++◌, List, length, drop, ap, sym, subst, arith, rules}
+use Rattle.std.proofs.Common.{◌≡◌, ◌<◌, ◌+◌, ◌∷◌, [], ◌++◌, List, length, drop, ap, sym, subst, arith}
 use Rattle.std.proofs.lemmas.List.{drop_more, length-map}
-use Rattle.vms_spec.specs.Sets.{Set, Device}
+use Rattle.vms_spec.specs.Sets.{Set}
 use Rattle.vms_spec.specs.Images.{Image}
 use Rattle.vms_spec.specs.ValuesReading.{read_devices}
 use Rattle.vms_desc.specs.Described.{described, device_at}

@@ -1,6 +1,6 @@
-use Rattle.std.proofs.Common.{◌≡◌, ◌+◌, drop, map, true, length}
+use Rattle.std.proofs.Common.{◌≡◌, ◌+◌, drop, true, length}
 use Rattle.vms_spec.specs.ValuesReading.{read_desc, read_fields}
-use Rattle.vms_parts.specs.Views.{desc_of, field_of}
+use Rattle.vms_parts.specs.Views.{desc_of}
 use Rattle.vms_values.specs.Paths.{path_text}
 use Rattle.vms_values.specs.Plain.{ArePlain}
 use Rattle.vms_values.specs.Reading.{standing}

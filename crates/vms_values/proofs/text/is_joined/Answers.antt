@@ -1,5 +1,4 @@
-use Rattle.std.proofs.Common.{◌+◌, drop, refl, ap}
-use Rattle.std.proofs.lemmas.List.{drop_all}
+use Rattle.std.proofs.Common.{◌+◌, drop}
 use Rattle.vms_values.specs.Written.{joined}
 use Rattle.vms_values.proofs.Writing.{joined_at}
 use Rattle.vms_values.proofs.TextLemmas.{joined_on, joined_off}

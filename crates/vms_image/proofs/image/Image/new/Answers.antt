@@ -6,5 +6,5 @@ use Rattle.vms_image.proofs.image.Image.new.Goals as goal
 pub returns : goal.returns
 returns c =
     made (described c.args.set.now) (device_at (described c.args.set.now) c.args.device) c.device-described.result.now c.device-described.ensures
-      c.cell_forms.result.now c.cell_forms.ensures.forms _ refl
-      (c.in_ok-none_came.ensures ∙ ap (λ (n : ℕ). replicate {A = Option ℕ} n None) (ap length c.as_slice.ensures)) c.in_ok-defaults.ensures
+    c.cell_forms.result.now c.cell_forms.ensures.forms _ refl
+    (c.in_ok-none_came.ensures ∙ ap (λ (n : ℕ). replicate {A = Option ℕ} n None) (ap length c.as_slice.ensures)) c.in_ok-defaults.ensures

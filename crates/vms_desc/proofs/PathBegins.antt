@@ -1,0 +1,153 @@
+-- Where paths begin.
+use Rattle.std.proofs.Common.{◌≡◌, ℕ, zero, suc, ◌+◌, ◌<◌, ◌≤◌, List, [], ◌∷◌, length, length-append, get_or, take, drop, map, refl, sym, ap, ◌∙◌, arith, Option, Some, None}
+use Rattle.std.specs.List.{flat_map}
+use Rattle.std.proofs.lemmas.List.{length-map}
+use Rattle.std.proofs.lemmas.Simd.{map-map}
+use Rattle.vms_spec.specs.Lists.{at}
+use Rattle.vms_spec.specs.Sets as sets
+use Rattle.vms_spec.specs.Layout.{Cell, first, desc_cells, struct_cells, device_cells}
+use Rattle.vms_spec.specs.Images.{sub_place, own_cells}
+use Rattle.vms_spec.specs.Places.{path_at, cell_in, desc_of_sub}
+use Rattle.vms_parts.specs.declared.sizes.Measure.TheVariants.{Cells}
+use Rattle.vms_parts.specs.declared.types.Sub.{Sub}
+use Rattle.vms_parts.specs.Sizes.{in_u32, fields_size}
+use Rattle.vms_parts.specs.Views.{field_of, sub_of, desc_of, form_of, layout_of}
+use Rattle.vms_parts.proofs.Items.{drop_is}
+use Rattle.vms_parts.proofs.SizeLaws.{capped_fields}
+use Rattle.vms_parts.proofs.Tables.{first_long}
+use Rattle.vms_desc.specs.declared.path.Placed.{Placed}
+use Rattle.vms_desc.specs.Numbers.{sizes_of}
+use Rattle.vms_desc.specs.Paths.{subs_size, begin_desc, begin_base, Begins, IsPlaced}
+use Rattle.vms_desc.proofs.CellSizes.{cells_size}
+
+-- ---- the sizes of subsections
+
+subs_cells : (cs : List (List Cell)) (subs : List sets.Sub) → length (flat_map (λ s. desc_cells cs s.desc) subs) ≡ subs_size (map length cs) subs
+subs_cells cs [] = refl
+subs_cells cs (s ∷ subs) =
+    length-append (desc_cells cs s.desc) (flat_map (λ s. desc_cells cs s.desc) subs) ∙ omega (arith, cells_size cs s.desc.fields 0 s.desc.fields, subs_cells cs subs)
+
+subs_capped : (sizes : List ℕ) (subs : List sets.Sub) → in_u32 (subs_size (map in_u32 sizes) subs) ≡ in_u32 (subs_size sizes subs)
+subs_capped sizes [] = refl
+subs_capped sizes (s ∷ subs) = omega (arith, capped_fields Cells sizes s.desc.fields, subs_capped sizes subs)
+
+subs_less : (sizes : List ℕ) (subs : List sets.Sub) (j : ℕ) → subs_size sizes (take j subs) ≤ subs_size sizes subs
+subs_less sizes [] zero = omega arith
+subs_less sizes [] (suc j) = omega arith
+subs_less sizes (s ∷ subs) zero = omega arith
+subs_less sizes (s ∷ subs) (suc j) = omega (arith, subs_less sizes subs j)
+
+sub_room : (sizes : List ℕ) (subs : List sets.Sub) (j : ℕ) (s : sets.Sub) → at subs j ≡ Some s → subs_size sizes (take j subs) + fields_size Cells sizes s.desc.fields ≤ subs_size sizes subs
+sub_room sizes [] j s e = cc
+sub_room sizes (r ∷ subs) zero s e =
+    let same : r ≡ s = cc in
+    let size : fields_size Cells sizes r.desc.fields ≡ fields_size Cells sizes s.desc.fields = ap (λ (x : sets.Sub). fields_size Cells sizes x.desc.fields) same in
+    omega (arith, size)
+sub_room sizes (r ∷ subs) (suc j) s e = omega (arith, sub_room sizes subs j s e)
+
+place_of_sub : (set : sets.Set) (base : ℕ) (subs : List sets.Sub) (j : ℕ) → sub_place set base subs j ≡ base + subs_size (map length (struct_cells set)) (take j subs)
+place_of_sub set base [] zero = omega arith
+place_of_sub set base [] (suc j) = omega arith
+place_of_sub set base (s ∷ subs) zero = omega arith
+place_of_sub set base (s ∷ subs) (suc j) =
+    let c = cells_size (struct_cells set) s.desc.fields 0 s.desc.fields in
+    omega (arith, c, place_of_sub set (base + length (desc_cells (struct_cells set) s.desc)) subs j)
+
+-- ---- sums over subsections
+
+sum_of_two : (s p r : ℕ) → in_u32 (in_u32 (s + in_u32 p) + r) ≡ in_u32 (s + (p + r))
+sum_of_two s p r = omega arith
+
+pub subs_more : (sizes : List ℕ) (subs : List Sub) (i sum own whole : ℕ) (s : Sub) → i < length subs → s ≡ get_or subs i s
+    → own ≡ in_u32 (fields_size Cells sizes (map field_of s.desc.fields)) → in_u32 (sum + subs_size sizes (map sub_of (drop i subs))) ≡ whole
+    → in_u32 (in_u32 (sum + own) + subs_size sizes (map sub_of (drop (i + 1) subs))) ≡ whole
+subs_more sizes subs i sum own whole s lt is size e =
+    ap (λ (n : ℕ). in_u32 (in_u32 (sum + n) + subs_size sizes (map sub_of (drop (i + 1) subs)))) size
+    ∙ sum_of_two sum (fields_size Cells sizes (map field_of s.desc.fields)) (subs_size sizes (map sub_of (drop (i + 1) subs)))
+    ∙ ap (λ (l : List Sub). in_u32 (sum + subs_size sizes (map sub_of l))) (sym (drop_is subs i s lt is)) ∙ e
+
+-- ---- where a path begins
+
+pub long_sizes : (set : sets.Set) (sizes : List ℕ) → sizes ≡ sizes_of set → length sizes ≡ length set.structs
+long_sizes set sizes e = ap length e ∙ length-map (struct_cells set) (λ cells. in_u32 (length cells)) ∙ first_long desc_cells set.structs (length set.structs)
+
+-- the first cell
+abbrev pub base_of : sets.Set → sets.Device → Option ℕ → ℕ
+base_of set d None = 0
+base_of set d (Some j) = sub_place set (own_cells set d) d.subs j
+
+pub begins_at : (set : sets.Set) (d : sets.Device) (part : Option ℕ) (path : List (ℕ × ℕ)) → cell_in set (Some d) part path ≡ path_at set path (length set.structs) (begin_desc d part) (base_of set d part)
+begins_at set d None path = refl
+begins_at set d (Some j) path = refl
+
+pub nowhere : (set : sets.Set) (path : List (ℕ × ℕ)) (below base : ℕ) → path_at set path below None base ≡ None
+nowhere set [] below base = refl
+nowhere set (step ∷ path) below base = refl
+
+module _ (set : sets.Set) (d : sets.Device) (few : length (device_cells set d) ≤ 16384) where
+  abbrev lengths : List ℕ
+  lengths = map length (struct_cells set)
+
+  all_few : fields_size Cells lengths d.desc.fields + subs_size lengths d.subs ≤ 16384
+  all_few =
+      omega (
+        arith,
+        few,
+        length-append (desc_cells (struct_cells set) d.desc) (flat_map (λ s. desc_cells (struct_cells set) s.desc) d.subs),
+        cells_size (struct_cells set) d.desc.fields 0 d.desc.fields,
+        subs_cells (struct_cells set) d.subs,
+      )
+
+  pub same_base : (part : Option ℕ) → begin_base (sizes_of set) d part ≡ base_of set d part
+  same_base None = refl
+  same_base (Some j) =
+      let capped : sizes_of set ≡ map in_u32 lengths = sym (map-map in_u32 length (struct_cells set)) in
+      let own : in_u32 (fields_size Cells (sizes_of set) d.desc.fields) ≡ in_u32 (fields_size Cells lengths d.desc.fields) =
+      ap (λ (l : List ℕ). in_u32 (fields_size Cells l d.desc.fields)) capped ∙ capped_fields Cells lengths d.desc.fields in
+      let before : in_u32 (subs_size (sizes_of set) (take j d.subs)) ≡ in_u32 (subs_size lengths (take j d.subs)) =
+      ap (λ (l : List ℕ). in_u32 (subs_size l (take j d.subs))) capped ∙ subs_capped lengths (take j d.subs) in
+      omega (arith, own, before, all_few, subs_less lengths d.subs j, place_of_sub set (own_cells set d) d.subs j, cells_size (struct_cells set) d.desc.fields 0 d.desc.fields)
+
+  sub_has_room : (j : ℕ) (e : sets.Desc) (o : Option sets.Sub) → at d.subs j ≡ o → desc_of_sub o ≡ Some e → base_of set d (Some j) + length (desc_cells (struct_cells set) e) ≤ 16384
+  sub_has_room j e None there is = cc
+  sub_has_room j e (Some s) there is =
+      let same : s.desc ≡ e = cc in
+      let size : length (desc_cells (struct_cells set) s.desc) ≡ length (desc_cells (struct_cells set) e) = ap (λ (x : sets.Desc). length (desc_cells (struct_cells set) x)) same in
+      omega (
+        arith,
+        size,
+        all_few,
+        sub_room lengths d.subs j s there,
+        place_of_sub set (own_cells set d) d.subs j,
+        cells_size (struct_cells set) d.desc.fields 0 d.desc.fields,
+        cells_size (struct_cells set) s.desc.fields 0 s.desc.fields,
+      )
+
+  has_room : (part : Option ℕ) (e : sets.Desc) → begin_desc d part ≡ Some e → base_of set d part + length (desc_cells (struct_cells set) e) ≤ 16384
+  has_room None e is =
+      let same : d.desc ≡ e = cc in
+      let size : length (desc_cells (struct_cells set) d.desc) ≡ length (desc_cells (struct_cells set) e) = ap (λ (x : sets.Desc). length (desc_cells (struct_cells set) x)) same in
+      omega (arith, size, all_few, cells_size (struct_cells set) d.desc.fields 0 d.desc.fields)
+  has_room (Some j) e is = sub_has_room j e (at d.subs j) refl is
+
+  pub begins_placed : (part : Option ℕ) (p : Placed) → Begins (sizes_of set) d part p → IsPlaced set p
+  begins_placed part p begins =
+      let long : length p.sizes.now ≡ length set.structs = long_sizes set p.sizes.now begins.sizes_are in
+      let base : p.base ≡ base_of set d part = begins.base ∙ same_base part in
+      let cells : length (desc_cells (first desc_cells set.structs (length p.sizes.now)) (desc_of p.desc.now)) ≡ length (desc_cells (struct_cells set) (desc_of p.desc.now)) =
+      ap (λ (n : ℕ). length (desc_cells (first desc_cells set.structs n) (desc_of p.desc.now))) long in
+      record {
+        known = omega (arith, long);
+        sized = begins.sizes_are ∙ ap (λ (n : ℕ). map (λ cells. in_u32 (length cells)) (first desc_cells set.structs n)) (sym long);
+        room = omega (arith, base, cells, has_room part (desc_of p.desc.now) begins.desc);
+      }
+
+get_there : {X Y : Type 0} (g : X → Y) (xs : List X) (i : ℕ) (x : X) (d : Y) → at xs i ≡ Some x → get_or (map g xs) i d ≡ g x
+get_there g [] i x d e = cc
+get_there g (y ∷ xs) zero x d e = let same : y ≡ x = cc in ap g same
+get_there g (y ∷ xs) (suc i) x d e = get_there g xs i x d e
+
+pub few_of_device : (set : sets.Set) (k : ℕ) (d : sets.Device) → at set.devices k ≡ Some d → length (get_or (layout_of set) k []) ≤ 16384 → length (device_cells set d) ≤ 16384
+few_of_device set k d there few =
+    let forms : length (get_or (layout_of set) k []) ≡ length (map form_of (device_cells set d)) = ap length (get_there (λ d. map form_of (device_cells set d)) set.devices k d [] there) in
+    omega (arith, few, forms, length-map (device_cells set d) form_of)

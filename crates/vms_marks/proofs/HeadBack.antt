@@ -1,0 +1,56 @@
+-- The bytes of a head say that head.
+use Rattle.std.proofs.Common.{◌≡◌, ℕ, ◌+◌, ◌<◌, ◌^◌, List, [], ◌∷◌, ◌++◌, length, take, drop, refl, sym, ap, ◌∙◌, arith, append_assoc}
+use Rattle.std.proofs.lemmas.List.{drop-drop}
+use Rattle.byteorder.specs.Endian.{big_number}
+use Rattle.vms_spec.specs.Streams.{be32}
+use Rattle.vms_spec.specs.Judging.{number_at, bytes_at}
+use Rattle.vms_spec.proofs.KindLaws.{be32_read}
+use Rattle.vms_marks.specs.declared.head.Head.{Head}
+use Rattle.vms_marks.specs.Heads.{head_bytes, head_in}
+use Rattle.vms_marks.specs.Laws.{HeadLaw}
+
+drop_front : (front rest : List ℕ) → drop (length front) (front ++ rest) ≡ rest
+drop_front [] rest = refl
+drop_front (x ∷ front) rest = drop_front front rest
+
+take_front : (front rest : List ℕ) → take (length front) (front ++ rest) ≡ front
+take_front [] rest = refl
+take_front (x ∷ front) rest = ap (λ (l : List ℕ). x ∷ l) (take_front front rest)
+
+-- what follows the length of the name
+abbrev tail : Head → List ℕ → List ℕ
+tail head rest = be32 head.instance ++ (be32 head.version ++ rest)
+
+-- the bytes of a head, one part after the other
+parts : (head : Head) (rest : List ℕ) → head_bytes head ++ rest ≡ 0x04 ∷ (be32 head.id ++ (length head.name.items ∷ (head.name.items ++ tail head rest)))
+parts head rest =
+    ap (λ (l : List ℕ). 0x04 ∷ (be32 head.id ++ (length head.name.items ∷ l)))
+    (append_assoc (head.name.items ++ be32 head.instance) (be32 head.version) rest ∙ append_assoc head.name.items (be32 head.instance) (be32 head.version ++ rest))
+
+abbrev make : ℕ → List ℕ → ℕ → ℕ → Head
+make id name instance version = record { id = id; name = record { items = name }; instance = instance; version = version }
+
+more_than : (n : ℕ) → 10 + n ≡ (6 + n) + 4
+more_than n = omega arith
+
+-- the head that is said by an id, a name with its length, and what follows
+said : (id : ℕ) (name more : List ℕ) (instance version : ℕ) (rest : List ℕ) → id < 2 ^ 32 → instance < 2 ^ 32 → version < 2 ^ 32
+    → more ≡ be32 instance ++ (be32 version ++ rest)
+    → head_in (0x04 ∷ (be32 id ++ (length name ∷ (name ++ more)))) ≡ make id name instance version
+said id name more instance version rest i j v is =
+    let n = length name in
+    let r = 0x04 ∷ (be32 id ++ (n ∷ (name ++ more))) in
+    let six : drop (6 + n) r ≡ more = sym (drop-drop n 6 r) ∙ drop_front name more in
+    let ten : drop (10 + n) r ≡ drop 4 more = ap (λ (k : ℕ). drop k r) (more_than n) ∙ sym (drop-drop 4 (6 + n) r) ∙ ap (drop 4) six in
+    let first : number_at 4 1 r ≡ id = be32_read id (n ∷ (name ++ more)) i in
+    let named : bytes_at n 6 r ≡ name = take_front name more in
+    let second : number_at 4 (6 + n) r ≡ instance = ap (big_number 4) (six ∙ is) ∙ be32_read instance (be32 version ++ rest) j in
+    let third : number_at 4 (10 + n) r ≡ version = ap (big_number 4) (ten ∙ ap (drop 4) is) ∙ be32_read version rest v in
+    ap (λ (k : ℕ). make k (bytes_at n 6 r) (number_at 4 (6 + n) r) (number_at 4 (10 + n) r)) first
+    ∙ ap (λ (l : List ℕ). make id l (number_at 4 (6 + n) r) (number_at 4 (10 + n) r)) named
+    ∙ ap (λ (k : ℕ). make id name k (number_at 4 (10 + n) r)) second
+    ∙ ap (make id name instance) third
+
+pub head_holds : HeadLaw
+head_holds head h rest =
+    ap head_in (parts head rest) ∙ said head.id head.name.items (tail head rest) head.instance head.version rest h.id h.instance h.version refl

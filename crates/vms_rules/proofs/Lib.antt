@@ -1,0 +1,9 @@
+pub mod CapacityLaws
+pub mod DeviceLaws
+pub mod FieldLaws
+pub mod NameLaws
+pub mod RuleLaws
+pub mod SetLaws
+pub mod SizeLaws
+pub mod StructLaws
+pub mod WalkLaws

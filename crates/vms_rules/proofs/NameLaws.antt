@@ -1,0 +1,126 @@
+-- Names and sets of names.
+use Rattle.std.proofs.Common.{◌≡◌, ℕ, ◌+◌, ◌<◌, ◌≤◌, List, [], ◌∷◌, ◌++◌, length, length-take, length-append, get_or, drop, take, Bool, true, false, refl, sym, ap, subst, ◌∙◌, arith}
+use Rattle.std.specs.Prelude.{◌&&◌, ◌||◌, not, nat_eq}
+use Rattle.std.specs.BTreeSet.{BTreeSet, UpdatesBy}
+use Rattle.std.specs.Set.{KeepsOthers}
+use Rattle.std.specs.Map.{IsKeyTest, AreApart}
+use Rattle.std.specs.Cmp.{eq_by_cmp_equiv}
+use Rattle.std.specs.Cmp.Lexicographic.{unequal, slice_cmp, nat_list_cmp_total, nat_list_eq_equiv}
+use Rattle.std.specs.Ordering.{nat_cmp, is_eq}
+use Rattle.std.specs.List.{list_all, list_any}
+use Rattle.std.specs.Str.{bytes_eq}
+use Rattle.std.proofs.lemmas.List.{take_more}
+use Rattle.std.proofs.lemmas.Map.Text.{is_eq-slice_cmp}
+use Rattle.std.proofs.lemmas.Slice.Eq.{bytes_eq-Decides}
+use denote.Ref.{Bor}
+use Rattle.vms_spec.specs.Lists.{every}
+use Rattle.vms_spec.specs.Names.{is_name_byte, is_name, is_sub_name}
+use Rattle.vms_spec.specs.Streams.{is_one_of}
+use Rattle.vms_parts.proofs.Items.{drop_is}
+use Rattle.vms_rules.specs.NameSets.{has_name, with_name, are_new_to}
+
+-- ---- whole lists
+
+pub all_name_bytes : (bytes : List ℕ) → list_all is_name_byte bytes ≡ every is_name_byte bytes
+all_name_bytes [] = refl
+all_name_bytes (b ∷ bytes) = ap (λ (r : Bool). is_name_byte b && r) (all_name_bytes bytes)
+
+pub all_names_of : (most : ℕ) (names : List (List ℕ)) → list_all (is_name most) names ≡ every (is_name most) names
+all_names_of most [] = refl
+all_names_of most (n ∷ names) = ap (λ (r : Bool). is_name most n && r) (all_names_of most names)
+
+-- ---- sets
+
+apart : (bs cs ks : List ℕ) → bytes_eq bs cs ≡ false → bytes_eq bs ks ≡ true → bytes_eq cs ks ≡ false
+apart bs cs ks n y = nat_list_eq_equiv.symm cs ks ∙ sym (nat_list_eq_equiv.congr bs ks cs y) ∙ n
+
+apart_in_order : (bs cs ks : List ℕ) → bytes_eq bs cs ≡ false → is_eq (slice_cmp nat_cmp bs ks) ≡ true → is_eq (slice_cmp nat_cmp cs ks) ≡ false
+apart_in_order bs cs ks n y = is_eq-slice_cmp cs ks ∙ apart bs cs ks n (sym (is_eq-slice_cmp bs ks) ∙ y)
+
+other_keys : {K : Type 0} (eq : K → K → Bool) (test : K → Bool) (old new : List K) → KeepsOthers eq test old new
+    → (other : K → Bool) → IsKeyTest eq other → AreApart test other → list_any other new ≡ list_any other old
+unfolding KeepsOthers
+other_keys eq test old new h = h
+
+or_is : (b c r : Bool) → (b ≡ true → r ≡ true) → (b ≡ false → r ≡ c) → r ≡ (b || c)
+or_is true c r left right = left refl
+or_is false c r left right = right refl
+
+pub name_added : (names after : BTreeSet (Bor (List ℕ))) (name : List ℕ) → UpdatesBy (λ x y. slice_cmp nat_cmp x.now y.now) (λ k. slice_cmp nat_cmp name k.now) names after true
+    → (n : List ℕ) → has_name after n ≡ with_name (has_name names) name n
+name_added names after name h n =
+    or_is (bytes_eq name n) (has_name names n) (has_name after n)
+    (λ y. subst (λ l. has_name after l ≡ true) ((bytes_eq-Decides name n).0 y) h.1)
+    (λ e. other_keys _ _ _ _ h.3 _ (λ x y. (eq_by_cmp_equiv nat_list_cmp_total).congr n x.now y.now) (λ k. apart_in_order name n k.now e))
+
+-- ---- lists of names that are new to a set
+
+pub same_new : (had have : List ℕ → Bool) (names : List (List ℕ)) → ((n : List ℕ) → had n ≡ have n) → are_new_to had names ≡ are_new_to have names
+same_new had have [] same = refl
+same_new had have (n ∷ names) same =
+    ap (λ (b : Bool). not b && are_new_to (with_name had n) names) (same n)
+    ∙ ap (λ (b : Bool). not (have n) && b) (same_new (with_name had n) (with_name have n) names (λ m. ap (λ (b : Bool). bytes_eq n m || b) (same m)))
+
+-- one more name of a list
+pub is_one_more : (names : List (List ℕ)) (x n : List ℕ) → is_one_of (names ++ x ∷ []) n ≡ (is_one_of names n || bytes_eq x n)
+is_one_more [] x n = or_false (bytes_eq x n) where
+  or_false : (b : Bool) → (b || false) ≡ b
+  or_false true = refl
+  or_false false = refl
+is_one_more (m ∷ names) x n = ap (λ (b : Bool). bytes_eq m n || b) (is_one_more names x n) ∙ or_grouped (bytes_eq m n) (is_one_of names n) (bytes_eq x n) where
+  or_grouped : (a b c : Bool) → (a || (b || c)) ≡ ((a || b) || c)
+  or_grouped true b c = refl
+  or_grouped false b c = refl
+
+or_swap : (a b c : Bool) → (a || (b || c)) ≡ ((b || a) || c)
+or_swap true true c = refl
+or_swap true false c = refl
+or_swap false true c = refl
+or_swap false false c = refl
+
+pub added_more : (list : List (List ℕ)) (i : ℕ) (x : List ℕ) (first had have : List ℕ → Bool) → i < length list → x ≡ get_or list i x
+    → ((n : List ℕ) → had n ≡ (is_one_of (take i list) n || first n)) → ((n : List ℕ) → have n ≡ with_name had x n)
+    → (n : List ℕ) → have n ≡ (is_one_of (take (i + 1) list) n || first n)
+added_more list i x first had have lt is before now n =
+    now n ∙ ap (λ (b : Bool). bytes_eq x n || b) (before n) ∙ or_swap (bytes_eq x n) (is_one_of (take i list) n) (first n)
+    ∙ ap (λ (b : Bool). b || first n) (sym (is_one_more (take i list) x n))
+    ∙ ap (λ (l : List (List ℕ)). is_one_of l n || first n) (sym (take_more list i x lt ∙ ap (λ (y : List ℕ). take i list ++ y ∷ []) (sym is)))
+
+pub new_more : (list : List (List ℕ)) (i : ℕ) (x : List ℕ) (had have : List ℕ → Bool) (so_far whole : Bool) → i < length list → x ≡ get_or list i x
+    → (so_far && are_new_to had (drop i list)) ≡ whole → ((n : List ℕ) → have n ≡ with_name had x n)
+    → ((so_far && not (had x)) && are_new_to have (drop (i + 1) list)) ≡ whole
+new_more list i x had have so_far whole lt is before now =
+    ap (λ (b : Bool). (so_far && not (had x)) && b) (same_new have (with_name had x) (drop (i + 1) list) now)
+    ∙ and_grouped so_far (not (had x)) (are_new_to (with_name had x) (drop (i + 1) list))
+    ∙ ap (λ (l : List (List ℕ)). so_far && are_new_to had l) (sym (drop_is list i x lt is)) ∙ before where
+      and_grouped : (a b c : Bool) → ((a && b) && c) ≡ (a && (b && c))
+      and_grouped true b c = refl
+      and_grouped false b c = refl
+
+-- ---- a subsection's name
+
+equal_push : (xs ys : List ℕ) (x y : ℕ) → length xs ≡ length ys → bytes_eq (xs ++ x ∷ []) (ys ++ y ∷ []) ≡ (bytes_eq xs ys && nat_eq x y)
+equal_push [] [] x y e = and_true (nat_eq x y) where
+  and_true : (b : Bool) → (b && true) ≡ b
+  and_true true = refl
+  and_true false = refl
+equal_push [] (b ∷ ys) x y e = absurd (omega arith)
+equal_push (a ∷ xs) [] x y e = absurd (omega arith)
+equal_push (a ∷ xs) (b ∷ ys) x y e = ap (λ (r : Bool). nat_eq a b && r) (equal_push xs ys x y (omega arith)) ∙ grouped (nat_eq a b) (bytes_eq xs ys) (nat_eq x y) where
+  grouped : (a b c : Bool) → (a && (b && c)) ≡ ((a && b) && c)
+  grouped true b c = refl
+  grouped false b c = refl
+
+pub sub_name_parts : (device name : List ℕ) → length device < length name
+    → is_sub_name device name ≡ ((bytes_eq (take (length device) name) device && nat_eq (get_or name (length device) 0) 47) && is_name 64 (drop (length device + 1) name))
+sub_name_parts device name lt =
+    ap (λ (l : List ℕ). bytes_eq l (device ++ 47 ∷ []) && is_name 64 (drop (length device + 1) name)) (take_more name (length device) 0 lt)
+    ∙ ap (λ (b : Bool). b && is_name 64 (drop (length device + 1) name))
+    (equal_push (take (length device) name) device (get_or name (length device) 0) 47 (omega (arith, length-take (length device) name)))
+
+pub no_sub_name : (device name : List ℕ) → length name ≤ length device → is_sub_name device name ≡ false
+no_sub_name device name le =
+    ap (λ (b : Bool). b && is_name 64 (drop (length device + 1) name))
+    (unequal nat_eq (take (length device + 1) name) (device ++ 47 ∷ []) (λ e. omega (arith, e, length-take (length device + 1) name, length-append device (47 ∷ []))))
+
+pub ruleset sub_name_laws = (sub_name_parts, no_sub_name)

@@ -1,0 +1,118 @@
+-- The machines of a set, and the whole walk.
+use Rattle.std.proofs.Common.{◌≡◌, ℕ, suc, ◌≤◌, List, [], ◌∷◌, length, Bool, true, false, Option, None, refl, ap, ◌∙◌}
+use Rattle.std.specs.Prelude.{◌||◌, ◌&&◌, not, nat_le}
+use Rattle.std.specs.BTreeMap.{is_at}
+use Rattle.std.specs.BTreeSet.{BTreeSet}
+use Rattle.std.specs.Cmp.Lexicographic.{slice_cmp, nat_list_eq_equiv}
+use Rattle.std.specs.List.{list_any}
+use Rattle.std.specs.Ordering.{nat_cmp}
+use denote.Ref.{Bor}
+use Rattle.std.specs.Str.{bytes_eq}
+use Rattle.std.proofs.lemmas.Bool.{and_parts, leb-true}
+use Rattle.vms_spec.specs.declared.Part.TheVariants as parts
+use Rattle.vms_spec.specs.declared.Place.{Place}
+use Rattle.vms_spec.specs.Lists.{or_else}
+use Rattle.vms_spec.specs.Sets as sets
+use Rattle.vms_spec.specs.Streams.{is_one_of}
+use Rattle.vms_spec.specs.WellFormed.{SetFault, failing, here, are_distinct, set_rules, size_rules, first_fault}
+use Rattle.vms_rules.specs.declared.fault.DescFault.{DescFault}
+use Rattle.vms_rules.specs.Judged.{IsFirst}
+use Rattle.vms_rules.specs.Walks.{structs_from, devices_from}
+use Rattle.vms_rules.proofs.WalkLaws.{first_stops, first_good, later_stops}
+use Rattle.vms_rules.specs.NameSets.{has_name, with_name, are_new_to}
+
+-- ---- distinct names
+
+none : (List ℕ → Bool) → List (List ℕ) → Bool
+none had [] = true
+none had (n ∷ names) = not (had n) && none had names
+
+none_with : (had : List ℕ → Bool) (x : List ℕ) (names : List (List ℕ)) → none (with_name had x) names ≡ (not (is_one_of names x) && none had names)
+unfolding none
+none_with had x [] = refl
+none_with had x (n ∷ names) =
+    ap (λ (b : Bool). not (bytes_eq x n || had n) && b) (none_with had x names) ∙ ap (λ (b : Bool). not (b || had n) && (not (is_one_of names x) && none had names)) (nat_list_eq_equiv.symm x n)
+    ∙ regroup (bytes_eq n x) (had n) (is_one_of names x) (none had names) where
+      regroup : (a b c d : Bool) → (not (a || b) && (not c && d)) ≡ (not (a || c) && (not b && d))
+      regroup true b c d = refl
+      regroup false true true d = refl
+      regroup false true false d = refl
+      regroup false false true d = refl
+      regroup false false false d = refl
+
+new_and_distinct : (had : List ℕ → Bool) (names : List (List ℕ)) → are_new_to had names ≡ (none had names && are_distinct names)
+unfolding none
+new_and_distinct had [] = refl
+new_and_distinct had (n ∷ names) =
+    ap (λ (b : Bool). not (had n) && b) (new_and_distinct (with_name had n) names ∙ ap (λ (b : Bool). b && are_distinct names) (none_with had n names))
+    ∙ regroup (not (had n)) (not (is_one_of names n)) (none had names) (are_distinct names) where
+      regroup : (a b c d : Bool) → (a && ((b && c) && d)) ≡ ((a && c) && (b && d))
+      regroup false b c d = refl
+      regroup true true c d = refl
+      regroup true false true d = refl
+      regroup true false false d = refl
+
+none_of_none : (had : List ℕ → Bool) (names : List (List ℕ)) → ((n : List ℕ) → had n ≡ false) → none had names ≡ true
+unfolding none
+none_of_none had [] empty = refl
+none_of_none had (n ∷ names) empty = ap (λ (b : Bool). not b && none had names) (empty n) ∙ none_of_none had names empty
+
+-- what is new to the empty set is distinct
+pub distinct_is : (had : List ℕ → Bool) (names : List (List ℕ)) → ((n : List ℕ) → had n ≡ false) → are_new_to had names ≡ are_distinct names
+distinct_is had names empty = new_and_distinct had names ∙ ap (λ (b : Bool). b && are_distinct names) (none_of_none had names empty)
+
+pub empty_has_none : (names : BTreeSet (Bor (List ℕ))) → names.keys ≡ [] → (n : List ℕ) → has_name names n ≡ false
+empty_has_none names e n = ap (λ (keys : List (Bor (List ℕ))). list_any (is_at (λ k. slice_cmp nat_cmp n k.now)) keys) e
+
+-- ---- the number of parts
+
+abbrev pub AllTrue : List Bool → Type 0
+AllTrue [] = Unit {0}
+AllTrue (b ∷ rules) = (b ≡ true) × AllTrue rules
+
+pub all_true : (r : ℕ) (rules : List Bool) (p : Place) → failing r rules p ≡ None → AllTrue rules
+all_true r [] p e = tt
+all_true r (true ∷ rules) p e = (refl, all_true (suc r) rules p e)
+all_true r (false ∷ rules) p e = cc
+
+pub few_parts : (set : sets.Set) (p : Place) → failing 1 (set_rules set) p ≡ None → (length set.structs ≤ 64) × (length set.devices ≤ 64)
+few_parts set p e =
+    let b = (all_true 1 (set_rules set) p e).1.1.1.1.1.1.0 in
+    let h = and_parts (nat_le (length set.machines) 16 && nat_le (length set.structs) 64) (nat_le (length set.devices) 64) b in
+    let g = and_parts (nat_le (length set.machines) 16) (nat_le (length set.structs) 64) h.0 in
+    (leb-true (length set.structs) 64 g.1, leb-true (length set.devices) 64 h.1)
+
+-- ---- the walk
+
+module _ (set : sets.Set) where
+  own : Option SetFault
+  own = failing 1 (set_rules set) (here parts.Set)
+
+  last : Option SetFault
+  last = failing 1 (size_rules set) (here parts.Set)
+
+  pub set_stops : (e : DescFault) → IsFirst (failing 1 (set_rules set) (here parts.Set)) e → IsFirst (first_fault set) e
+  unfolding first_fault own last
+  set_stops e h = first_stops own (or_else (structs_from set.structs 0 set.structs) (or_else (devices_from set 0 set.devices) last)) e h
+
+  pub structs_stop : (e : DescFault) → failing 1 (set_rules set) (here parts.Set) ≡ None → IsFirst (structs_from set.structs 0 set.structs) e → IsFirst (first_fault set) e
+  unfolding first_fault own last
+  structs_stop e good h =
+      later_stops own (or_else (structs_from set.structs 0 set.structs) (or_else (devices_from set 0 set.devices) last)) e good
+      (first_stops (structs_from set.structs 0 set.structs) (or_else (devices_from set 0 set.devices) last) e h)
+
+  pub devices_stop : (e : DescFault) → failing 1 (set_rules set) (here parts.Set) ≡ None → structs_from set.structs 0 set.structs ≡ None → IsFirst (devices_from set 0 set.devices) e
+      → IsFirst (first_fault set) e
+  unfolding first_fault own last
+  devices_stop e good structs h =
+      later_stops own (or_else (structs_from set.structs 0 set.structs) (or_else (devices_from set 0 set.devices) last)) e good
+      (later_stops (structs_from set.structs 0 set.structs) (or_else (devices_from set 0 set.devices) last) e structs
+      (first_stops (devices_from set 0 set.devices) last e h))
+
+  pub items_left : failing 1 (set_rules set) (here parts.Set) ≡ None → structs_from set.structs 0 set.structs ≡ None → devices_from set 0 set.devices ≡ None
+      → first_fault set ≡ failing 1 (size_rules set) (here parts.Set)
+  unfolding first_fault own last
+  items_left good structs devices =
+      first_good own (or_else (structs_from set.structs 0 set.structs) (or_else (devices_from set 0 set.devices) last)) good
+      ∙ first_good (structs_from set.structs 0 set.structs) (or_else (devices_from set 0 set.devices) last) structs
+      ∙ first_good (devices_from set 0 set.devices) last devices

@@ -1,0 +1,97 @@
+-- How many items a set has, where sums end at 2 ^ 32 - 1.
+use Rattle.std.proofs.Common.{◌≡◌, ℕ, zero, suc, ◌+◌, ◌*◌, ◌^◌, ◌<◌, ◌≤◌, List, [], ◌∷◌, ◌++◌, length, get_or, drop, map, refl, sym, ap, ◌∙◌, arith}
+use Rattle.std.specs.Prelude.{nat_le}
+use Rattle.std.proofs.lemmas.Bool.Decides.{nat_tests}
+use Rattle.std.proofs.lemmas.List.{drop_all}
+use Rattle.vms_kinds.specs.declared.Item.{Item}
+use Rattle.vms_kinds.specs.declared.Item.TheVariants.{Num, Equal, Unused, Struct}
+use Rattle.vms_spec.specs.Layout.{capacity_of, first, no_desc}
+use Rattle.vms_spec.specs.Sets as sets
+use Rattle.vms_spec.specs.WellFormed.{item_count, items_in, struct_items, subs_items, devices_items}
+use Rattle.vms_parts.specs.declared.sizes.Measure.TheVariants.{Items}
+use Rattle.vms_parts.specs.declared.types.Device.{Device}
+use Rattle.vms_parts.specs.declared.types.Sub.{Sub}
+use Rattle.vms_parts.specs.Sizes.{in_u32, size_of, fields_size, sizes_to}
+use Rattle.vms_parts.specs.Views.{field_of, sub_of, device_of}
+use Rattle.vms_parts.proofs.Items.{drop_is}
+use Rattle.vms_parts.proofs.SizeLaws.{capped_fields}
+
+-- ---- items by sizes
+
+item_is : (sizes : List ℕ) (item : Item) → item_count sizes item ≡ size_of Items sizes item
+item_is sizes (Num kind) = refl
+item_is sizes (Equal kind z) = refl
+item_is sizes (Unused n) = refl
+item_is sizes (Struct j) = refl
+
+pub items_are : (sizes : List ℕ) (fs : List sets.Field) → items_in sizes fs ≡ fields_size Items sizes fs
+items_are sizes [] = refl
+items_are sizes (f ∷ fs) = ap (λ (n : ℕ). capacity_of f.count * n + items_in sizes fs) (item_is sizes f.item) ∙ ap (λ (n : ℕ). capacity_of f.count * size_of Items sizes f.item + n) (items_are sizes fs)
+
+items_to : (ds : List sets.Desc) (k : ℕ) → first (λ sizes d. items_in sizes d.fields) ds k ≡ sizes_to Items ds k
+unfolding first
+items_to ds zero = refl
+items_to ds (suc k) =
+    ap (λ (l : List ℕ). l ++ items_in l (get_or ds k no_desc).fields ∷ []) (items_to ds k)
+    ∙ ap (λ (n : ℕ). sizes_to Items ds k ++ n ∷ []) (items_are (sizes_to Items ds k) (get_or ds k no_desc).fields)
+
+-- ---- sizes that end serve as well
+
+capped_items : (sizes : List ℕ) (fs : List sets.Field) → in_u32 (items_in (map in_u32 sizes) fs) ≡ in_u32 (items_in sizes fs)
+capped_items sizes fs = ap in_u32 (items_are (map in_u32 sizes) fs) ∙ capped_fields Items sizes fs ∙ ap in_u32 (sym (items_are sizes fs))
+
+capped_subs : (sizes : List ℕ) (subs : List sets.Sub) → in_u32 (subs_items (map in_u32 sizes) subs) ≡ in_u32 (subs_items sizes subs)
+capped_subs sizes [] = refl
+capped_subs sizes (s ∷ subs) = omega (arith, capped_items sizes s.desc.fields, capped_subs sizes subs)
+
+capped_devices : (sizes : List ℕ) (devices : List sets.Device) → in_u32 (devices_items (map in_u32 sizes) devices) ≡ in_u32 (devices_items sizes devices)
+capped_devices sizes [] = refl
+capped_devices sizes (d ∷ devices) = omega (arith, capped_items sizes d.desc.fields, capped_subs sizes d.subs, capped_devices sizes devices)
+
+same_limit : (n : ℕ) → nat_le (in_u32 n) 16384 ≡ nat_le n 16384
+same_limit n = grind (arith, nat_tests)
+
+pub few_items : (structs : List sets.Desc) (devices : List sets.Device) (sizes : List ℕ) (items : ℕ) → sizes ≡ map in_u32 (sizes_to Items structs (length structs))
+    → items ≡ in_u32 (devices_items sizes devices) → nat_le items 16384 ≡ nat_le (devices_items (struct_items structs) devices) 16384
+few_items structs devices sizes items is e =
+    ap (λ (n : ℕ). nat_le n 16384) (e ∙ ap (λ (l : List ℕ). in_u32 (devices_items l devices)) is ∙ capped_devices (sizes_to Items structs (length structs)) devices)
+    ∙ same_limit (devices_items (sizes_to Items structs (length structs)) devices)
+    ∙ ap (λ (l : List ℕ). nat_le (devices_items l devices) 16384) (sym (items_to structs (length structs)))
+
+-- ---- sums
+
+sum_of_two : (s p r : ℕ) → in_u32 (in_u32 (s + in_u32 p) + r) ≡ in_u32 (s + (p + r))
+sum_of_two s p r = omega arith
+
+sum_of_three : (s p q r : ℕ) → in_u32 (in_u32 (in_u32 (s + in_u32 p) + in_u32 q) + r) ≡ in_u32 (s + (p + (q + r)))
+sum_of_three s p q r = omega arith
+
+pub subs_more : (sizes : List ℕ) (subs : List Sub) (i sum own whole : ℕ) (s : Sub) → i < length subs → s ≡ get_or subs i s
+    → own ≡ in_u32 (fields_size Items sizes (map field_of s.desc.fields)) → in_u32 (sum + subs_items sizes (map sub_of (drop i subs))) ≡ whole
+    → in_u32 (in_u32 (sum + own) + subs_items sizes (map sub_of (drop (i + 1) subs))) ≡ whole
+subs_more sizes subs i sum own whole s lt is size e =
+    ap (λ (n : ℕ). in_u32 (in_u32 (sum + n) + subs_items sizes (map sub_of (drop (i + 1) subs)))) (size ∙ ap in_u32 (sym (items_are sizes (map field_of s.desc.fields))))
+    ∙ sum_of_two sum (items_in sizes (map field_of s.desc.fields)) (subs_items sizes (map sub_of (drop (i + 1) subs)))
+    ∙ ap (λ (l : List Sub). in_u32 (sum + subs_items sizes (map sub_of l))) (sym (drop_is subs i s lt is)) ∙ e
+
+pub subs_end : (sizes : List ℕ) (subs : List Sub) (i sum whole : ℕ) → length subs ≤ i → sum < 2 ^ 32
+    → in_u32 (sum + subs_items sizes (map sub_of (drop i subs))) ≡ whole → sum ≡ whole
+subs_end sizes subs i sum whole all small e =
+    let s : sum ≡ in_u32 (sum + 0) = omega arith in
+    s ∙ ap (λ (l : List Sub). in_u32 (sum + subs_items sizes (map sub_of l))) (sym (drop_all i subs all)) ∙ e
+
+pub devices_more : (sizes : List ℕ) (devices : List Device) (i sum own subs whole : ℕ) (d : Device) → i < length devices → d ≡ get_or devices i d
+    → own ≡ in_u32 (fields_size Items sizes (map field_of d.desc.fields)) → subs ≡ in_u32 (subs_items sizes (map sub_of d.subs))
+    → in_u32 (sum + devices_items sizes (map device_of (drop i devices))) ≡ whole
+    → in_u32 (in_u32 (in_u32 (sum + own) + subs) + devices_items sizes (map device_of (drop (i + 1) devices))) ≡ whole
+devices_more sizes devices i sum own subs whole d lt is size size_of_subs e =
+    ap (λ (n : ℕ). in_u32 (in_u32 (in_u32 (sum + n) + subs) + devices_items sizes (map device_of (drop (i + 1) devices)))) (size ∙ ap in_u32 (sym (items_are sizes (map field_of d.desc.fields))))
+    ∙ ap (λ (n : ℕ). in_u32 (in_u32 (in_u32 (sum + in_u32 (items_in sizes (map field_of d.desc.fields))) + n) + devices_items sizes (map device_of (drop (i + 1) devices)))) size_of_subs
+    ∙ sum_of_three sum (items_in sizes (map field_of d.desc.fields)) (subs_items sizes (map sub_of d.subs)) (devices_items sizes (map device_of (drop (i + 1) devices)))
+    ∙ ap (λ (l : List Device). in_u32 (sum + devices_items sizes (map device_of l))) (sym (drop_is devices i d lt is)) ∙ e
+
+pub devices_end : (sizes : List ℕ) (devices : List Device) (i sum whole : ℕ) → length devices ≤ i → sum < 2 ^ 32
+    → in_u32 (sum + devices_items sizes (map device_of (drop i devices))) ≡ whole → sum ≡ whole
+devices_end sizes devices i sum whole all small e =
+    let s : sum ≡ in_u32 (sum + 0) = omega arith in
+    s ∙ ap (λ (l : List Device). in_u32 (sum + devices_items sizes (map device_of l))) (sym (drop_all i devices all)) ∙ e

@@ -1,0 +1,58 @@
+use Rattle.std.proofs.Common.{◌≡◌, ℕ, List, Bool, Option, [], None, length, get_or, sym, ap, subst, ◌∙◌}
+use Rattle.std.proofs.lemmas.List.{length-map}
+use Rattle.vms_spec.specs.declared.Part.TheVariants as parts
+use Rattle.vms_spec.specs.declared.Place.{Place}
+use Rattle.vms_spec.specs.Layout.{no_desc}
+use Rattle.vms_spec.specs.Lists.{or_else}
+use Rattle.vms_spec.specs.Sets as sets
+use Rattle.vms_spec.specs.WellFormed.{SetFault, failing, here, fields_fault, validations_fault, device_rules, device_fault}
+use Rattle.vms_parts.specs.Devices.{device_at}
+use Rattle.vms_parts.specs.declared.types.Device.{Device}
+use Rattle.vms_parts.specs.Views.{desc_of, device_of, set_of}
+use Rattle.vms_parts.proofs.Items.{get_map_at}
+use Rattle.vms_rules.specs.Judged.{IsFirst, Judges}
+use Rattle.vms_rules.specs.Walks.{subs_from}
+use Rattle.vms_rules.proofs.DeviceLaws.{inside_stops, subs_left}
+use Rattle.vms_rules.proofs.WalkLaws.{stops_by}
+use Rattle.vms_rules.proofs.devices.check_device.Goals as goal
+
+inside : ℕ → sets.Device → ℕ → Option SetFault
+inside k d i = or_else (fields_fault k d.desc (parts.Device i)) (validations_fault d.desc (parts.Device i))
+
+pub returns-in_err-check_inside : goal.returns-in_err-check_inside
+unfolding inside
+returns-in_err-check_inside c =
+    let p = c.args.parts.now in
+    let set = set_of p in
+    let i = c.args.number in
+    let x = c.index-as_slice-number.result in
+    let e = c.in_err-check_inside.field-0.0 in
+    let is : x ≡ get_or p.devices i x = c.index-as_slice-number.is ∙ ap (λ (l : List Device). get_or l i x) c.as_slice-2.ensures in
+    let at : device_at set i ≡ device_of x = get_map_at device_of p.devices i x (record { instance = 0; desc = no_desc; subs = [] }) c.requires.there is in
+    let structs : length c.as_slice.result.now ≡ length set.structs = ap length c.as_slice.ensures ∙ sym (length-map p.structs desc_of) in
+    let good : failing 1 (device_rules set i (device_at set i)) (here (parts.Device i)) ≡ None =
+    ap (λ (q : Place). failing 1 (device_rules set i (device_at set i)) q) (sym c.here.ensures)
+    ∙ ap (λ (r : List Bool). failing 1 r c.here.result) (sym c.device_rules.ensures) ∙ c.in_ok-lowest.ensures in
+    let counted : IsFirst (inside (length set.structs) (device_of x) i) e = subst (λ (k : ℕ). IsFirst (inside k (device_of x) i) e) structs c.in_err-check_inside.ensures in
+    let first : IsFirst (inside (length set.structs) (device_at set i) i) e = subst (λ (d : sets.Device). IsFirst (inside (length set.structs) d i) e) (sym at) counted in
+    stops_by (device_fault set i (device_at set i)) c.from_residual-in_err-check_inside.result e c.from_residual-in_err-check_inside.ensures.1
+    (inside_stops set i (device_at set i) good e first)
+
+pub returns : goal.returns
+unfolding inside
+returns c =
+    let p = c.args.parts.now in
+    let set = set_of p in
+    let i = c.args.number in
+    let x = c.index-as_slice-number.result in
+    let is : x ≡ get_or p.devices i x = c.index-as_slice-number.is ∙ ap (λ (l : List Device). get_or l i x) c.as_slice-2.ensures in
+    let at : device_at set i ≡ device_of x = get_map_at device_of p.devices i x (record { instance = 0; desc = no_desc; subs = [] }) c.requires.there is in
+    let structs : length c.as_slice.result.now ≡ length set.structs = ap length c.as_slice.ensures ∙ sym (length-map p.structs desc_of) in
+    let good : failing 1 (device_rules set i (device_at set i)) (here (parts.Device i)) ≡ None =
+    ap (λ (q : Place). failing 1 (device_rules set i (device_at set i)) q) (sym c.here.ensures)
+    ∙ ap (λ (r : List Bool). failing 1 r c.here.result) (sym c.device_rules.ensures) ∙ c.in_ok-lowest.ensures in
+    let none : inside (length set.structs) (device_at set i) i ≡ None =
+    ap (λ (d : sets.Device). inside (length set.structs) d i) at ∙ ap (λ (k : ℕ). inside k (device_of x) i) (sym structs) ∙ c.in_ok-check_inside.ensures in
+    let left : device_fault set i (device_at set i) ≡ subs_from (length c.as_slice.result.now) i (device_of x) 0 (device_of x).subs =
+    subs_left set i (device_at set i) good none ∙ ap (λ (d : sets.Device). subs_from (length set.structs) i d 0 d.subs) at ∙ ap (λ (k : ℕ). subs_from k i (device_of x) 0 (device_of x).subs) (sym structs) in
+    subst (λ (o : Option SetFault). Judges o c.check_subs.result) (sym left) c.check_subs.ensures

@@ -1,0 +1,48 @@
+use Rattle.std.proofs.Common.{◌≡◌, ◌<◌, List, ℕ, None, length, get_or, sym, ap, subst, ◌∙◌, arith}
+use Rattle.vms_spec.specs.Layout.{no_desc}
+use Rattle.vms_spec.specs.Sets as sets
+use Rattle.vms_spec.specs.Sets.{AtLeast}
+use Rattle.vms_spec.specs.WellFormed.{sub_fault}
+use Rattle.vms_parts.specs.declared.types.Sub.{Sub}
+use Rattle.vms_parts.specs.Views.{sub_of, device_of}
+use Rattle.vms_parts.proofs.Items.{get_map_at}
+use Rattle.vms_rules.specs.Judged.{IsFirst}
+use Rattle.vms_rules.specs.NameSets.{has_name, with_name}
+use Rattle.vms_rules.specs.Walks.{subs_from, sub_at}
+use Rattle.vms_rules.proofs.DeviceLaws.{sub_names_more}
+use Rattle.vms_rules.proofs.WalkLaws.{stops_by, place_good, place_stops}
+use Rattle.vms_rules.proofs.devices.check_subs.Goals as goal
+
+pub returns-in_err-check_sub : goal.returns-in_err-check_sub
+returns-in_err-check_sub c =
+    let w = c.args.within in
+    let subs = w.device.now.subs in
+    let d = device_of w.device.now in
+    let s = c.sub-item.result in
+    let i = c.loop-number.number in
+    let e = c.in_err-check_sub.field-0.0 in
+    let lt : i < length subs = omega (arith, ap length c.as_slice-sub-items.ensures) in
+    let is : s ≡ get_or subs i s = c.sub-item.is ∙ ap (λ (l : List Sub). get_or l i s) c.as_slice-sub-items.ensures in
+    let at : sub_at d i ≡ sub_of s = get_map_at sub_of subs i s (record { desc = no_desc; needed = AtLeast 0 }) lt is in
+    let first : IsFirst (sub_fault w.structs w.number d i (sub_of s)) e = subst (λ (x : sets.Sub). IsFirst (sub_fault w.structs w.number d i x) e) at c.in_err-check_sub.ensures in
+    let whole = subs_from w.structs w.number d 0 d.subs in
+    stops_by whole c.from_residual-in_err-check_sub.result e c.from_residual-in_err-check_sub.ensures.1
+    (place_stops (sub_fault w.structs w.number d) sub_of subs i s whole e lt is first c.loop-number.invariant.good)
+
+pub loop-number-preserved : goal.loop-number-preserved
+loop-number-preserved c =
+    let w = c.args.within in
+    let subs = w.device.now.subs in
+    let d = device_of w.device.now in
+    let s = c.sub-item.result in
+    let i = c.loop-number.number in
+    let lt : i < length subs = omega (arith, ap length c.as_slice-sub-items.ensures) in
+    let is : s ≡ get_or subs i s = c.sub-item.is ∙ ap (λ (l : List Sub). get_or l i s) c.as_slice-sub-items.ensures in
+    let at : sub_at d i ≡ sub_of s = get_map_at sub_of subs i s (record { desc = no_desc; needed = AtLeast 0 }) lt is in
+    let good : sub_fault w.structs w.number d i (sub_of s) ≡ None = ap (λ (x : sets.Sub). sub_fault w.structs w.number d i x) (sym at) ∙ c.in_ok-check_sub.ensures in
+    let after : (n : List ℕ) → has_name c.add_name.new.names n ≡ with_name (has_name c.loop-number.names) s.desc.name n =
+    subst (λ (x : List ℕ). (n : List ℕ) → has_name c.add_name.new.names n ≡ with_name (has_name c.loop-number.names) x n) c.as_str.ensures c.in_ok-is_new.ensures.added in
+    record {
+      names = sub_names_more subs i s (has_name c.loop-number.names) (has_name c.add_name.new.names) lt is c.loop-number.invariant.names after;
+      good = place_good (sub_fault w.structs w.number d) sub_of subs i s (subs_from w.structs w.number d 0 d.subs) lt is good c.loop-number.invariant.good;
+    }

@@ -1,0 +1,48 @@
+use Rattle.std.proofs.Common.{◌≡◌, List, Bool, Option, None, map, sym, ap, subst, ◌∙◌}
+use Rattle.vms_spec.specs.declared.Part.TheVariants as parts
+use Rattle.vms_spec.specs.declared.Place.{Place}
+use Rattle.vms_spec.specs.WellFormed.{SetFault, failing, here, set_rules, first_fault}
+use Rattle.vms_parts.specs.declared.types.Desc.{Desc}
+use Rattle.vms_parts.specs.Views.{desc_of, set_of}
+use Rattle.vms_rules.specs.Judged.{IsFirst, Judges}
+use Rattle.vms_rules.specs.Walks.{structs_from}
+use Rattle.vms_rules.proofs.SetLaws.{set_stops, structs_stop, devices_stop, items_left}
+use Rattle.vms_rules.proofs.WalkLaws.{stops_by}
+use Rattle.vms_rules.proofs.sets.check.Goals as goal
+
+pub returns-in_err-lowest : goal.returns-in_err-lowest
+returns-in_err-lowest c =
+    let set = set_of c.args.parts.now in
+    let e = c.in_err-lowest.field-0.0 in
+    let first : IsFirst (failing 1 (set_rules set) (here parts.Set)) e =
+    subst (λ (q : Place). IsFirst (failing 1 (set_rules set) q) e) c.here-place.ensures (subst (λ (r : List Bool). IsFirst (failing 1 r c.here-place.result) e) c.in_ok-set_rules.ensures c.in_err-lowest.ensures) in
+    stops_by (first_fault set) c.from_residual-in_err-lowest.result e c.from_residual-in_err-lowest.ensures.1 (set_stops set e first)
+
+pub returns-in_err-check_structs : goal.returns-in_err-check_structs
+returns-in_err-check_structs c =
+    let set = set_of c.args.parts.now in
+    let e = c.in_err-check_structs.field-0.0 in
+    let good : failing 1 (set_rules set) (here parts.Set) ≡ None =
+    ap (λ (q : Place). failing 1 (set_rules set) q) (sym c.here-place.ensures) ∙ ap (λ (r : List Bool). failing 1 r c.here-place.result) (sym c.in_ok-set_rules.ensures) ∙ c.in_ok-lowest.ensures in
+    let first : IsFirst (structs_from set.structs 0 set.structs) e = subst (λ (l : List Desc). IsFirst (structs_from (map desc_of l) 0 (map desc_of l)) e) c.as_slice.ensures c.in_err-check_structs.ensures in
+    stops_by (first_fault set) c.from_residual-in_err-check_structs.result e c.from_residual-in_err-check_structs.ensures.1 (structs_stop set e good first)
+
+pub returns-in_err-check_devices : goal.returns-in_err-check_devices
+returns-in_err-check_devices c =
+    let set = set_of c.args.parts.now in
+    let e = c.in_err-check_devices.field-0.0 in
+    let good : failing 1 (set_rules set) (here parts.Set) ≡ None =
+    ap (λ (q : Place). failing 1 (set_rules set) q) (sym c.here-place.ensures) ∙ ap (λ (r : List Bool). failing 1 r c.here-place.result) (sym c.in_ok-set_rules.ensures) ∙ c.in_ok-lowest.ensures in
+    let structs : structs_from set.structs 0 set.structs ≡ None = ap (λ (l : List Desc). structs_from (map desc_of l) 0 (map desc_of l)) (sym c.as_slice.ensures) ∙ c.in_ok-check_structs.ensures in
+    stops_by (first_fault set) c.from_residual-in_err-check_devices.result e c.from_residual-in_err-check_devices.ensures.1 (devices_stop set e good structs c.in_err-check_devices.ensures)
+
+pub returns : goal.returns
+returns c =
+    let set = set_of c.args.parts.now in
+    let good : failing 1 (set_rules set) (here parts.Set) ≡ None =
+    ap (λ (q : Place). failing 1 (set_rules set) q) (sym c.here-place.ensures) ∙ ap (λ (r : List Bool). failing 1 r c.here-place.result) (sym c.in_ok-set_rules.ensures) ∙ c.in_ok-lowest.ensures in
+    let structs : structs_from set.structs 0 set.structs ≡ None = ap (λ (l : List Desc). structs_from (map desc_of l) 0 (map desc_of l)) (sym c.as_slice.ensures) ∙ c.in_ok-check_structs.ensures in
+    let left : first_fault set ≡ failing 1 c.in_ok-size_rules.field-0 c.here-place.result =
+    items_left set good structs c.in_ok-check_devices.ensures ∙ ap (λ (r : List Bool). failing 1 r (here parts.Set)) (sym c.in_ok-size_rules.ensures)
+    ∙ ap (λ (q : Place). failing 1 c.in_ok-size_rules.field-0 q) (sym c.here-place.ensures) in
+    subst (λ (o : Option SetFault). Judges o c.lowest-2.result) (sym left) c.lowest-2.ensures

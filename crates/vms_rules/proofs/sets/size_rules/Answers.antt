@@ -1,0 +1,22 @@
+use Rattle.std.proofs.Common.{◌≡◌, ◌∷◌, [], List, ℕ, Bool, true, length, map, sym, ap, ◌∙◌}
+use Rattle.std.proofs.lemmas.List.{length-map}
+use Rattle.vms_spec.specs.WellFormed.{devices_items}
+use Rattle.vms_parts.specs.declared.sizes.Measure.TheVariants.{Items}
+use Rattle.vms_parts.specs.declared.types.Desc.{Desc}
+use Rattle.vms_parts.specs.declared.types.Device.{Device}
+use Rattle.vms_parts.specs.Sizes.{in_u32, sizes_to}
+use Rattle.vms_parts.specs.Views.{desc_of, device_of, set_of}
+use Rattle.vms_rules.proofs.SizeLaws.{few_items}
+use Rattle.vms_rules.proofs.sets.size_rules.Goals as goal
+
+pub returns : goal.returns
+returns c =
+    let set = set_of c.args.parts.now in
+    let sizes = c.in_ok-sizes.sizes.items in
+    let made : sizes ≡ map in_u32 (sizes_to Items set.structs (length set.structs)) =
+    c.in_ok-sizes.ensures ∙ ap (λ (l : List Desc). map in_u32 (sizes_to Items (map desc_of l) (length l))) c.as_slice.ensures
+    ∙ ap (λ (n : ℕ). map in_u32 (sizes_to Items set.structs n)) (sym (length-map c.args.parts.now.structs desc_of)) in
+    let items : c.devices_items-items.result ≡ in_u32 (devices_items sizes set.devices) =
+    c.devices_items-items.ensures ∙ ap (λ (l : List ℕ). in_u32 (devices_items l (map device_of c.as_slice-3.result.now))) c.as_slice-2.ensures.value
+    ∙ ap (λ (l : List Device). in_u32 (devices_items sizes (map device_of l))) c.as_slice-3.ensures in
+    ap (λ (b : Bool). true ∷ true ∷ true ∷ true ∷ true ∷ true ∷ b ∷ true ∷ []) (few_items set.structs set.devices sizes c.devices_items-items.result made items)

@@ -1,0 +1,7 @@
+use Rattle.std.proofs.Common.{◌≡◌, max, map, drop}
+use Rattle.vms_spec.specs.WellFormed.{deepest}
+use Rattle.vms_parts.specs.Views.{field_of}
+use Rattle.vms_rules.proofs.structs.deepest.Given as goal
+
+abbrev pub invariant-loop-field : goal.invariant-loop-field
+invariant-loop-field l = max l.deepest (deepest l.depths (map field_of (drop l.field-index l.fields))) ≡ deepest l.depths (map field_of l.fields)

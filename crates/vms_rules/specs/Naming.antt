@@ -1,0 +1,19 @@
+-- Which fields a test may name.
+use Rattle.std.specs.Prelude.{ℕ, Bool, ◌&&◌, map, Option, Some, None}
+use Rattle.vms_spec.specs.Lists.{at}
+use Rattle.vms_spec.specs.Sets.{Field}
+use Rattle.vms_spec.specs.Rules.{is_num, is_one, has_no_test, is_steady, nobody}
+use Rattle.vms_parts.specs.Views.{field_of}
+use Rattle.vms_rules.specs.declared.formulas.Scope.{Scope}
+
+-- a single number without a test
+abbrev pub is_single : Field → Bool
+is_single f = is_num f.item && is_one f.count && has_no_test f.test
+
+-- one that is there at every version from the minimum on
+abbrev pub may_name : Scope → ℕ → Bool
+may_name s i = is_steady s.minimum (at (map field_of s.fields.now) i)
+
+abbrev pub may_name_in : Option Scope → ℕ → Bool
+may_name_in None = nobody
+may_name_in (Some s) = may_name s

@@ -1,0 +1,18 @@
+//! Judging description sets: whether one is well formed, or the first place at which one of the eight rules fails.
+//!
+//! The set is walked as its streams are: the set, its structures, its devices, each with its fields, its validations and
+//! its subsections, and the set again for its number of items. Each place has a list of its rules, in their order.
+#![tactic(auto)]
+
+mod capacities;
+mod descs;
+mod devices;
+mod fault;
+mod fields;
+mod formulas;
+mod names;
+mod sets;
+mod structs;
+
+pub use fault::DescFault;
+pub use sets::check;

@@ -1,0 +1,89 @@
+// The rules at a set, and the whole walk.
+ghost use Rattle.std.specs.Prelude.{◌≡◌, ◌&&◌, IfOk, length, map, nat_le};
+ghost use Rattle.vms_spec.specs.WellFormed.{first_fault, set_rules, size_rules, subs_items, devices_items};
+ghost use Rattle.vms_parts.specs.Sizes.{in_u32};
+ghost use Rattle.vms_parts.specs.Views.{sub_of, device_of, set_of};
+ghost use Rattle.vms_rules.specs.Judged.{Judges};
+
+use crate::DescFault;
+use crate::descs::here;
+use crate::devices::check_devices;
+use crate::fault::lowest;
+use crate::names::{add_names, are_names};
+use crate::structs::check_structs;
+use std::alloc::{AllocError, Global};
+use std::collections::BTreeSet;
+use vms_parts::{Device, Measure, Part, Parts, Sub, size_of_fields, struct_sizes};
+
+/// Judges the parts of a description set: `Ok` exactly where they are well formed, and else the first place at which a
+/// rule fails with the lowest rule that fails there, unless memory is wanting.
+pub fn check(alloc: Global, parts: &Parts) -> Result<(), DescFault>
+    ensures { Judges (first_fault (set_of parts.now)) result }
+{
+    let place = here(Part::Set);
+    lowest(set_rules(alloc, parts)?, place)?;
+    check_structs(alloc, parts.structs.as_slice())?;
+    check_devices(alloc, parts)?;
+    lowest(size_rules(alloc, parts)?, place)
+}
+
+// The rules at the set itself, without its number of items.
+fn set_rules(alloc: Global, parts: &Parts) -> Result<[bool; 8], AllocError>
+    ensures { IfOk result (λ rules. rules ≡ set_rules (set_of parts.now)) }
+{
+    let machines = parts.machines.as_slice();
+    let mut names = BTreeSet::new(alloc);
+    let are_new = add_names(&mut names, machines)?;
+    Ok([
+        are_names(64, machines),
+        are_new,
+        true,
+        true,
+        true,
+        true,
+        has_few_parts(parts),
+        true,
+    ])
+}
+
+// Whether a set has at most 16 machines, 64 structures and 64 devices.
+fn has_few_parts(parts: &Parts) -> bool
+    ensures { result ≡ (nat_le (length (set_of parts.now).machines) 16 && nat_le (length (set_of parts.now).structs) 64 && nat_le (length (set_of parts.now).devices) 64) }
+{
+    parts.machines.as_slice().len() <= 16
+        && parts.structs.as_slice().len() <= 64
+        && parts.devices.as_slice().len() <= 64
+}
+
+// The rules at the set at last, for its number of items.
+fn size_rules(alloc: Global, parts: &Parts) -> Result<[bool; 8], AllocError>
+    ensures { IfOk result (λ rules. rules ≡ size_rules (set_of parts.now)) }
+{
+    let sizes = struct_sizes(alloc, Measure::Items, parts.structs.as_slice())?;
+    let items = devices_items(sizes.as_slice(), parts.devices.as_slice());
+    Ok([true, true, true, true, true, true, items <= 16384, true])
+}
+
+// How many items the devices have, at most 2^32 - 1.
+fn devices_items(sizes: &[u32], devices: &[Device]) -> u32
+    ensures { result ≡ in_u32 (devices_items sizes.now (map device_of devices.now)) }
+{
+    let mut sum: u32 = 0;
+    for device in devices {
+        let own = size_of_fields(Measure::Items, sizes, device.desc.fields.as_slice());
+        let subs = subs_items(sizes, device.subs.as_slice());
+        sum = sum.saturating_add(own).saturating_add(subs);
+    }
+    sum
+}
+
+fn subs_items(sizes: &[u32], subs: &[Sub]) -> u32
+    ensures { result ≡ in_u32 (subs_items sizes.now (map sub_of subs.now)) }
+{
+    let mut sum: u32 = 0;
+    for sub in subs {
+        let own = size_of_fields(Measure::Items, sizes, sub.desc.fields.as_slice());
+        sum = sum.saturating_add(own);
+    }
+    sum
+}

@@ -1,0 +1,4 @@
+pub mod Backs
+pub mod Lines
+pub mod Rounds
+pub mod Spells

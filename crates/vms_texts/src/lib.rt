@@ -1,0 +1,4 @@
+//! Laws of the values text.
+#![tactic(auto)]
+
+pub mod laws;
