@@ -24,7 +24,8 @@ use Rattle.vms_parts.proofs.Items.{get_map_at}
 use Rattle.vms_desc.specs.declared.eval.Scope.{Scope}
 use Rattle.vms_desc.specs.Asks.{own_numbers, HasCells}
 use Rattle.vms_desc.specs.Formed.{is_well_formed}
-use Rattle.vms_desc.specs.Numbers.{sizes_of, fields_in, number_of}
+use Rattle.vms_desc.specs.Numbers.{fields_in, number_of}
+use Rattle.vms_desc.specs.Scopes.{IsScope}
 use Rattle.vms_desc.specs.Parts.{HasPart, desc_at, sub_at, is_number, is_number_in, is_placed}
 use Rattle.vms_desc.proofs.Clean.{field_clean, validate_clean, sub_clean}
 use Rattle.vms_desc.proofs.EvalLaws.{truth_same}
@@ -125,15 +126,15 @@ all_hold_same [] v own now h = refl
 all_hold_same (t ∷ ts) v own now h =
     ap (λ (b : Bool). b && all_hold ts v own) (truth_same t v own now no_parent no_parent h (λ k. refl)) ∙ ap (λ (b : Bool). truth t v now no_parent && b) (all_hold_same ts v own now h)
 
-module _ (set : Set) (part : Part) (own : Scope) (sizes : List ℕ) (numbers : List ℤ) (e : sizes ≡ sizes_of set) (is : fields_in own ≡ (desc_at set part).fields) (few : length numbers ≤ 16384) (room : HasCells set part numbers own.base) where
-  pub same_number : (k : ℕ) → number_of sizes numbers own k ≡ own_numbers set part numbers own.base k
-  same_number k = own_number set (desc_at set part) own sizes numbers e is (omega (arith, few, room)) k
+module _ (set : Set) (part : Part) (base : ℕ) (own : Scope) (numbers : List ℤ) (s : IsScope set (desc_at set part) base own) (few : length numbers ≤ 16384) (room : HasCells set part numbers base) where
+  pub same_number : (k : ℕ) → number_of numbers own k ≡ own_numbers set part numbers base k
+  same_number k = own_number set (desc_at set part) base own numbers s few room k
 
-  pub same_truth : (t : Formula) (v : ℕ) → truth t v (number_of sizes numbers own) no_parent ≡ truth t v (own_numbers set part numbers own.base) no_parent
-  same_truth t v = truth_same t v (number_of sizes numbers own) (own_numbers set part numbers own.base) no_parent no_parent same_number (λ k. refl)
+  pub same_truth : (t : Formula) (v : ℕ) → truth t v (number_of numbers own) no_parent ≡ truth t v (own_numbers set part numbers base) no_parent
+  same_truth t v = truth_same t v (number_of numbers own) (own_numbers set part numbers base) no_parent no_parent same_number (λ k. refl)
 
-  pub same_rules : (ts : List Formula) (v : ℕ) → all_hold ts v (number_of sizes numbers own) ≡ all_hold ts v (own_numbers set part numbers own.base)
-  same_rules ts v = all_hold_same ts v (number_of sizes numbers own) (own_numbers set part numbers own.base) same_number
+  pub same_rules : (ts : List Formula) (v : ℕ) → all_hold ts v (number_of numbers own) ≡ all_hold ts v (own_numbers set part numbers base)
+  same_rules ts v = all_hold_same ts v (number_of numbers own) (own_numbers set part numbers base) same_number
 
 -- ---- where subsections begin
 

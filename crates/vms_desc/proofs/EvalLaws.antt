@@ -1,6 +1,8 @@
 -- Numbers by sizes are the numbers of the definition.
-use Rattle.std.proofs.Common.{◌≡◌, ℕ, zero, suc, ◌+◌, ◌*◌, ◌<◌, ◌≤◌, List, [], ◌∷◌, ◌++◌, length, length-append, get_or, take, map, refl, sym, ap, ◌∙◌, arith, Bool, not, ◌&&◌, ◌||◌, bit_and, ℤ, pos}
+use Rattle.std.proofs.Common.{◌≡◌, ℕ, zero, suc, ◌+◌, ◌*◌, ◌<◌, ◌≤◌, List, [], ◌∷◌, ◌++◌, length, length-append, get_or, take, map, refl, sym, ap, ◌∙◌, arith, Bool, not, ◌&&◌, ◌||◌, bit_and, ℤ, pos, min, nat_le, true, false}
 use Rattle.std.specs.List.{flat_map}
+use Rattle.std.proofs.lemmas.Bool.{leb-true, leb-false}
+use Rattle.std.proofs.lemmas.List.{take_all}
 use Rattle.std.proofs.lemmas.Simd.{map-map}
 use Rattle.vms_kinds.specs.Codes.{width, residue}
 use Rattle.vms_spec.specs.declared.Whose.TheVariants.{Own, Parent}
@@ -11,6 +13,9 @@ use Rattle.vms_laws.proofs.Places.{field_size}
 use Rattle.vms_parts.specs.declared.sizes.Measure.TheVariants.{Cells}
 use Rattle.vms_parts.specs.Sizes.{in_u32, size_of, fields_size}
 use Rattle.vms_desc.specs.Numbers.{sizes_of, place_in, number_in}
+use Rattle.vms_desc.specs.Parts.{is_number_in}
+use Rattle.vms_desc.specs.Tables.{AreStarts}
+use Rattle.vms_desc.proofs.NumberLaws.{number_below}
 use Rattle.vms_desc.proofs.CellSizes.{item_sizes, cells_size}
 use Rattle.vms_parts.proofs.SizeLaws.{capped_fields}
 
@@ -40,6 +45,18 @@ take_less sizes [] (suc k) = omega arith
 take_less sizes (f ∷ fs) zero = omega arith
 take_less sizes (f ∷ fs) (suc k) = omega (arith, take_less sizes fs k)
 
+take_min : {X : Type 0} (k : ℕ) (xs : List X) → take (min k (length xs)) xs ≡ take k xs
+take_min k xs = by_test (nat_le k (length xs)) refl
+  where
+    by_test : (b : Bool) → nat_le k (length xs) ≡ b → take (min k (length xs)) xs ≡ take k xs
+    by_test true e =
+        let le : k ≤ length xs = leb-true k (length xs) e in
+        let same : min k (length xs) ≡ k = omega arith in
+        ap (λ (m : ℕ). take m xs) same
+    by_test false e =
+        let lt : length xs < k = leb-false k (length xs) e in
+        take_all (min k (length xs)) xs (omega arith) ∙ sym (take_all k xs (omega arith))
+
 -- sizes that end at 2 ^ 32 - 1 serve where there are few cells
 pub exact : (cs : List (List OneCell)) (fs : List Field) → fields_size Cells (map length cs) fs ≤ 16384
     → fields_size Cells (map (λ cells. in_u32 (length cells)) cs) fs ≡ fields_size Cells (map length cs) fs
@@ -54,14 +71,27 @@ module _ (set : Set) (d : Desc) (few : length (desc_cells (struct_cells set) d) 
       let c = cells_size (struct_cells set) d.fields 0 d.fields in
       exact (struct_cells set) d.fields (omega (arith, c, few)) ∙ sym c
 
-  pub number_is : (numbers : List ℤ) (base k : ℕ) → number_in (sizes_of set) d.fields numbers base k ≡ numbers_of (struct_cells set) d numbers base k
-  number_is numbers base k =
-      let c = cells_size (struct_cells set) d.fields 0 d.fields in
-      let t = take_less (map length (struct_cells set)) d.fields k in
-      let x = exact (struct_cells set) (take k d.fields) (omega (arith, c, t, few)) in
-      let p : place_in (sizes_of set) d.fields base k ≡ place_of (struct_cells set) d.fields 0 base d.fields k =
-      ap (λ (n : ℕ). base + n) x ∙ sym (place_is (struct_cells set) d.fields 0 base d.fields k) in
-      ap (λ (n : ℕ). residue (width (kind_of (get_or d.fields k no_field).item)) (get_or numbers n (pos 0))) p
+  module _ (starts : List ℕ) (h : AreStarts (sizes_of set) d.fields starts) where
+    start_is : (k : ℕ) → get_or starts (min k (length d.fields)) 0 ≡ fields_size Cells (sizes_of set) (take k d.fields)
+    start_is k =
+        let m = min k (length d.fields) in
+        let less = take_less (sizes_of set) d.fields m in
+        let s : get_or starts m 0 ≡ in_u32 (fields_size Cells (sizes_of set) (take m d.fields)) = h.start m (omega arith) in
+        let e : get_or starts m 0 ≡ fields_size Cells (sizes_of set) (take m d.fields) = omega (arith, s, less, inside_is, few) in
+        e ∙ ap (fields_size Cells (sizes_of set)) (take_min k d.fields)
+
+    pub number_is : (numbers : List ℤ) (base k : ℕ) → number_in starts d.fields numbers base k ≡ numbers_of (struct_cells set) d numbers base k
+    number_is numbers base k =
+        let c = cells_size (struct_cells set) d.fields 0 d.fields in
+        let t = take_less (map length (struct_cells set)) d.fields k in
+        let x = exact (struct_cells set) (take k d.fields) (omega (arith, c, t, few)) in
+        let p : place_in starts d.fields base k ≡ place_of (struct_cells set) d.fields 0 base d.fields k =
+        ap (λ (n : ℕ). base + n) (start_is k ∙ x) ∙ sym (place_is (struct_cells set) d.fields 0 base d.fields k) in
+        ap (λ (n : ℕ). residue (width (kind_of (get_or d.fields k no_field).item)) (get_or numbers n (pos 0))) p
+
+    -- the cells that may be asked are among so many
+    pub cells_inside : (base n : ℕ) → base + length (desc_cells (struct_cells set) d) ≤ n → (k : ℕ) → is_number_in d.fields k ≡ true → place_in starts d.fields base k < n
+    cells_inside base n room k number = omega (arith, start_is k, number_below (sizes_of set) d.fields k number, inside_is, room)
 
 pub capped_cells : (set : Set) (d : Desc) → in_u32 (fields_size Cells (sizes_of set) d.fields) ≡ in_u32 (length (desc_cells (struct_cells set) d))
 capped_cells set d =

@@ -14,7 +14,6 @@ use Rattle.vms_parts.specs.declared.sizes.Measure.TheVariants.{Cells}
 use Rattle.vms_parts.specs.declared.types.Field.{Field}
 use Rattle.vms_desc.specs.Parts.{is_number, is_number_in}
 use Rattle.vms_parts.specs.Sizes.{in_u32, size_of, fields_size}
-use Rattle.vms_desc.specs.Numbers.{place_in}
 use Rattle.vms_parts.specs.Views.{field_of}
 
 one_size : (sizes : List ℕ) (item : Item) (c : Count) → is_num item && is_one c ≡ true → capacity_of c * size_of Cells sizes item ≡ 1
@@ -34,15 +33,3 @@ pub number_there : (fields : List Field) (k : ℕ) → is_number (at (map field_
 number_there [] k h = cc
 number_there (f ∷ fields) zero h = omega arith
 number_there (f ∷ fields) (suc k) h = omega (arith, number_there fields k h)
-
-pub record IsAt (sizes : List ℕ) (fields : List Field) (base k cell n : ℕ) : Type 0 where
-  pub place : cell ≡ place_in sizes (map field_of fields) base k
-  pub inside : cell < n
-  pub there : k < length fields
-
-pub number_place : (sizes : List ℕ) (fields : List Field) (base k n size : ℕ) → is_number_in (map field_of fields) k ≡ true → base + fields_size Cells sizes (map field_of fields) ≤ n → n ≤ 16384
-    → size ≡ in_u32 (fields_size Cells sizes (map field_of (take k fields))) → IsAt sizes fields base k (base + size) n
-number_place sizes fields base k n size h room few e =
-    let below = number_below sizes (map field_of fields) k h in
-    let s : size ≡ in_u32 (fields_size Cells sizes (take k (map field_of fields))) = e ∙ ap (λ (fs : List sets.Field). in_u32 (fields_size Cells sizes fs)) (sym (take-map field_of k fields)) in
-    record { place = omega arith; inside = omega arith; there = number_there fields k h }

@@ -7,3 +7,4 @@ pub mod Numbers
 pub mod Parts
 pub mod Paths
 pub mod Scopes
+pub mod Tables

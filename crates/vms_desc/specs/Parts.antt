@@ -50,11 +50,7 @@ is_number_of_parent set part = nobody
 abbrev pub is_placed : Set → Part → Formula → Bool
 is_placed set part t = names_well (is_number_in (desc_at set part).fields) (is_number_of_parent set part) t
 
--- the fields of its device that a needed test may ask, and that their cells are among so many
-abbrev pub parent_fields : Set → Part → Option (List Field)
-parent_fields set (parts.Sub i j) = Some (device_at set i).desc.fields
-parent_fields set part = None
-
+-- the cells of its device are among so many
 abbrev pub HasParentCells : Set → Part → ℕ → Type 0
 HasParentCells set (parts.Sub i j) n = own_cell_count set (device_at set i).desc ≤ n
 HasParentCells set part n = Unit {0}

@@ -1,10 +1,13 @@
 -- What a test may ask in a description, and that its cells are there.
-use Rattle.std.specs.Prelude.{ℕ, ◌+◌, ◌≤◌, Bool, List, length, Option, Some, None, ℤ}
+use Rattle.std.specs.Prelude.{◌≡◌, ℕ, ◌<◌, Bool, true, List, length, Option, Some, None, ℤ}
+use Rattle.vms_spec.specs.declared.Part.{Part}
+use Rattle.vms_spec.specs.declared.Part.TheVariants as parts
+use Rattle.vms_spec.specs.Sets.{Desc, Set}
 use Rattle.vms_spec.specs.Rules.{nobody}
-use Rattle.vms_parts.specs.Sizes.{fields_size}
-use Rattle.vms_desc.specs.Numbers.{fields_in}
+use Rattle.vms_parts.specs.Devices.{device_at}
+use Rattle.vms_desc.specs.Numbers.{sizes_of, fields_in, place_in}
 use Rattle.vms_desc.specs.Parts.{is_number_in}
-use Rattle.vms_parts.specs.declared.sizes.Measure.TheVariants.{Cells}
+use Rattle.vms_desc.specs.Tables.{AreStarts}
 use Rattle.vms_desc.specs.declared.eval.Scope.{Scope}
 
 abbrev pub may_ask : Scope → ℕ → Bool
@@ -14,10 +17,24 @@ abbrev pub may_ask_parent : Option Scope → ℕ → Bool
 may_ask_parent None = nobody
 may_ask_parent (Some s) = may_ask s
 
--- the cells of the description are among the numbers
-abbrev pub IsInside : List ℕ → List ℤ → Scope → Type 0
-IsInside sizes numbers s = s.base + fields_size Cells sizes (fields_in s) ≤ length numbers
+-- it is known where each field begins, and the cells of those that may be asked are among the numbers
+pub record IsInside (numbers : List ℤ) (s : Scope) : Type 0 where
+  pub starts : length (fields_in s) < length s.starts.now
+  pub cells : (k : ℕ) → may_ask s k ≡ true → place_in s.starts.now (fields_in s) s.base k < length numbers
 
-abbrev pub IsInsideParent : List ℕ → List ℤ → Option Scope → Type 0
-IsInsideParent sizes numbers None = Unit {0}
-IsInsideParent sizes numbers (Some s) = IsInside sizes numbers s
+abbrev pub IsInsideParent : List ℤ → Option Scope → Type 0
+IsInsideParent numbers None = Unit {0}
+IsInsideParent numbers (Some s) = IsInside numbers s
+
+-- the scope of a description of a set, whose cells begin at a place
+pub record IsScope (set : Set) (d : Desc) (base : ℕ) (s : Scope) : Type 0 where
+  pub fields : fields_in s ≡ d.fields
+  pub starts : AreStarts (sizes_of set) d.fields s.starts.now
+  pub first : s.base ≡ base
+
+-- what a test of a part may ask of its device: nothing but in a subsection's needed test
+abbrev pub IsParent : Set → Part → Option Scope → Type 0
+IsParent set (parts.Sub i j) None = ⊥
+IsParent set (parts.Sub i j) (Some s) = IsScope set (device_at set i).desc 0 s
+IsParent set part None = Unit {0}
+IsParent set part (Some s) = ⊥

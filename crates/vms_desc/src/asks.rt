@@ -1,19 +1,18 @@
 // What a walk over a set asks of it.
-ghost use Rattle.std.specs.Prelude.{◌≡◌, ◌<◌, ◌≤◌, ◌*◌, length, map, if◌then◌else◌};
+ghost use Rattle.std.specs.Prelude.{◌≡◌, ◌<◌, ◌≤◌, ◌*◌, length};
 ghost use Rattle.vms_spec.specs.Layout.{capacity_of, elements_of, counted, all_hold, item_size, struct_cells, device_cells, no_parent};
 ghost use Rattle.vms_spec.specs.Tests.{is_there};
 ghost use Rattle.vms_spec.specs.declared.Part.TheVariants as parts;
 ghost use Rattle.vms_parts.specs.Sizes.{in_u32};
-ghost use Rattle.vms_parts.specs.Views.{field_of};
 ghost use Rattle.vms_laws.specs.Good.{IsGood};
-ghost use Rattle.vms_desc.specs.Asks.{first_cell, field_at, own_numbers, needed_at, HasCells, lesser, least_of};
-ghost use Rattle.vms_desc.specs.Numbers.{fields_in};
+ghost use Rattle.vms_desc.specs.Asks.{first_cell, field_at, own_numbers, needed_at, HasCells, least_of};
 ghost use Rattle.vms_desc.specs.Parts.{HasPart, desc_at};
+ghost use Rattle.vms_desc.specs.Scopes.{IsScope};
 
 use crate::eval::{Scope, all_hold, holds, number_at};
 use crate::{Cells, Count, DescSet, Part};
 use vms_kinds::Item;
-use vms_parts::{Field, Measure, capacity, item_size};
+use vms_parts::{Measure, capacity, item_size};
 
 impl DescSet {
     ghost use Rattle.vms_desc.specs.Described.{described, device_at};
@@ -83,20 +82,21 @@ impl DescSet {
     /// The least of the capacities of the arrays whose elements the field of this number counts, or `None` where it
     /// counts none.
     pub fn most(&self, part: Part, field: u32) -> Option<u32>
-        requires { HasPart (described self.now) part }
+        requires part { HasPart (described self.now) part }
+        requires field { field < length (desc_at (described self.now) part).fields }
         ensures { result ≡ least_of (counted field (desc_at (described self.now) part).fields) }
     {
-        least_counted(self.desc(part).fields.as_slice(), field)
+        self.table(part).mosts.as_slice()[field as usize]
     }
 
     // The fields of a part, or of one element of a structure, whose first cell is `base`.
-    fn scope(&self, part: Part, base: u32) -> Scope<'_>
+    pub(crate) fn scope(&self, part: Part, base: u32) -> Scope<'_>
         requires { HasPart (described self.now) part }
-        ensures fields { fields_in result ≡ (desc_at (described self.now) part).fields }
-        ensures base { result.base ≡ base }
+        ensures { IsScope (described self.now) (desc_at (described self.now) part) base result }
     {
         Scope {
             fields: self.desc(part).fields.as_slice(),
+            starts: self.table(part).starts.as_slice(),
             base,
         }
     }
@@ -120,7 +120,7 @@ impl DescSet {
         let field = &own.fields[field as usize];
         match &field.test {
             None => version >= field.since,
-            Some(test) => holds(test, version, self.sizes(), own, None, cells),
+            Some(test) => holds(test, version, own, None, cells),
         }
     }
 
@@ -138,7 +138,7 @@ impl DescSet {
             Count::One => 1,
             Count::Fixed(length) => length,
             Count::Counted { by, capacity } => {
-                number_at(self.sizes(), own, by, cells).min(capacity as u64) as u32
+                number_at(own, by, cells).min(capacity as u64) as u32
             }
         }
     }
@@ -151,7 +151,7 @@ impl DescSet {
         ensures { result ≡ all_hold (desc_at (described self.now) part).validate version (own_numbers (described self.now) part (C.numbers cells.now) base) }
     {
         let tests = self.desc(part).validate.as_slice();
-        all_hold(tests, version, self.sizes(), self.scope(part, base), cells)
+        all_hold(tests, version, self.scope(part, base), cells)
     }
 
     /// Whether a subsection of a device is needed, by the numbers of the device's cells.
@@ -165,28 +165,5 @@ impl DescSet {
         let described = &self.device(device).subs.as_slice()[sub as usize];
         let base = self.first_cell(part);
         self.eval(part, base, &described.needed, described.desc.version, cells)
-    }
-}
-
-// The least of the capacities of the arrays whose elements the field of this number counts.
-fn least_counted(fields: &[Field], number: u32) -> Option<u32>
-    ensures { result ≡ least_of (counted number (map field_of fields.now)) }
-{
-    let mut least = None;
-    for field in fields {
-        if let Count::Counted { by, capacity } = field.count {
-            least = lesser_if(by == number, least, capacity);
-        }
-    }
-    least
-}
-
-fn lesser_if(counts: bool, least: Option<u32>, capacity: u32) -> Option<u32>
-    ensures { result ≡ (if counts then lesser least capacity else least) }
-{
-    match least {
-        _ if !counts => least,
-        None => Some(capacity),
-        Some(least) => Some(least.min(capacity)),
     }
 }

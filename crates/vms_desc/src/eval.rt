@@ -11,7 +11,6 @@ ghost use Rattle.vms_desc.specs.Scopes.{may_ask, may_ask_parent, IsInside, IsIns
 
 use crate::{Field, Rel, Test, Whose};
 use vms_kinds::{Item, Kind};
-use vms_parts::{Measure, size_of_fields};
 
 /// Numbers by cell, as an image has them.
 pub trait Cells {
@@ -39,27 +38,27 @@ impl Cells for Numbers<'_> {
     }
 }
 
-// The fields that a test may ask, and the first cell of their description.
+// The fields that a test may ask, where the cells of each begin in their description, and the first cell of that.
 #[derive(Clone, Copy)]
 pub(crate) struct Scope<'a> {
     pub(crate) fields: &'a [Field],
+    pub(crate) starts: &'a [u32],
     pub(crate) base: u32,
 }
 
-// Whether a test holds at a version, where structures have these sizes.
+// Whether a test holds at a version.
 pub(crate) fn holds<C: Cells>(
     test: &Test,
     version: u32,
-    sizes: &[u32],
     own: Scope,
     parent: Option<Scope>,
     cells: &C,
 ) -> bool
     requires names { names_well (may_ask own) (may_ask_parent parent) (formula test.now) ≡ true }
-    requires own { IsInside sizes.now (C.numbers cells.now) own }
-    requires parent { IsInsideParent sizes.now (C.numbers cells.now) parent }
+    requires own { IsInside (C.numbers cells.now) own }
+    requires parent { IsInsideParent (C.numbers cells.now) parent }
     requires few { length (C.numbers cells.now) ≤ 16384 }
-    ensures { result ≡ truth (formula test.now) version (number_of sizes.now (C.numbers cells.now) own.entry) (number_of_parent sizes.now (C.numbers cells.now) parent.entry) }
+    ensures { result ≡ truth (formula test.now) version (number_of (C.numbers cells.now) own.entry) (number_of_parent (C.numbers cells.now) parent.entry) }
 {
     match test {
         Test::AtLeast(least) => version >= *least,
@@ -72,38 +71,30 @@ pub(crate) fn holds<C: Cells>(
             value,
         } => {
             let number = match whose {
-                Whose::Own => number_at(sizes, own, *field, cells),
-                Whose::Parent => parent_number(sizes, parent, *field, cells),
+                Whose::Own => number_at(own, *field, cells),
+                Whose::Parent => parent_number(parent, *field, cells),
             };
             compare(*rel, number & *mask, *value)
         }
-        Test::Not(inner) => !holds(inner, version, sizes, own, parent, cells),
+        Test::Not(inner) => !holds(inner, version, own, parent, cells),
         Test::And(first, second) => {
-            holds(first, version, sizes, own, parent, cells)
-                && holds(second, version, sizes, own, parent, cells)
+            holds(first, version, own, parent, cells) && holds(second, version, own, parent, cells)
         }
         Test::Or(first, second) => {
-            holds(first, version, sizes, own, parent, cells)
-                || holds(second, version, sizes, own, parent, cells)
+            holds(first, version, own, parent, cells) || holds(second, version, own, parent, cells)
         }
     }
 }
 
 // Whether all tests of a description hold at a version.
-pub(crate) fn all_hold<C: Cells>(
-    tests: &[Test],
-    version: u32,
-    sizes: &[u32],
-    own: Scope,
-    cells: &C,
-) -> bool
+pub(crate) fn all_hold<C: Cells>(tests: &[Test], version: u32, own: Scope, cells: &C) -> bool
     requires names { every (names_well (may_ask own) nobody) (map formula tests.now) ≡ true }
-    requires own { IsInside sizes.now (C.numbers cells.now) own }
+    requires own { IsInside (C.numbers cells.now) own }
     requires few { length (C.numbers cells.now) ≤ 16384 }
-    ensures { result ≡ all_hold (map formula tests.now) version (number_of sizes.now (C.numbers cells.now) own.entry) }
+    ensures { result ≡ all_hold (map formula tests.now) version (number_of (C.numbers cells.now) own.entry) }
 {
     for test in tests {
-        if !holds(test, version, sizes, own, None, cells) {
+        if !holds(test, version, own, None, cells) {
             return false;
         }
     }
@@ -111,29 +102,26 @@ pub(crate) fn all_hold<C: Cells>(
 }
 
 // The number of a field, modulo 2^(8w).
-pub(crate) fn number_at<C: Cells>(sizes: &[u32], scope: Scope, field: u32, cells: &C) -> u64
+pub(crate) fn number_at<C: Cells>(scope: Scope, field: u32, cells: &C) -> u64
     requires asked { may_ask scope field ≡ true }
-    requires inside { IsInside sizes.now (C.numbers cells.now) scope }
+    requires inside { IsInside (C.numbers cells.now) scope }
     requires few { length (C.numbers cells.now) ≤ 16384 }
-    ensures { result ≡ number_of sizes.now (C.numbers cells.now) scope.entry field }
+    ensures { result ≡ number_of (C.numbers cells.now) scope.entry field }
 {
-    let before = &scope.fields[..field as usize];
-    let cell = scope.base + size_of_fields(Measure::Cells, sizes, before);
-    unsigned(
-        kind_of(scope.fields[field as usize].item),
-        cells.number(cell),
-    )
+    let field = field as usize;
+    let cell = scope.base + scope.starts[field];
+    unsigned(kind_of(scope.fields[field].item), cells.number(cell))
 }
 
-fn parent_number<C: Cells>(sizes: &[u32], parent: Option<Scope>, field: u32, cells: &C) -> u64
+fn parent_number<C: Cells>(parent: Option<Scope>, field: u32, cells: &C) -> u64
     requires asked { may_ask_parent parent field ≡ true }
-    requires inside { IsInsideParent sizes.now (C.numbers cells.now) parent }
+    requires inside { IsInsideParent (C.numbers cells.now) parent }
     requires few { length (C.numbers cells.now) ≤ 16384 }
-    ensures { result ≡ number_of_parent sizes.now (C.numbers cells.now) parent.entry field }
+    ensures { result ≡ number_of_parent (C.numbers cells.now) parent.entry field }
 {
     match parent {
         None => 0,
-        Some(scope) => number_at(sizes, scope, field, cells),
+        Some(scope) => number_at(scope, field, cells),
     }
 }
 

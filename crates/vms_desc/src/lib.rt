@@ -11,6 +11,7 @@ mod judged;
 mod path;
 mod set;
 mod shipped;
+mod table;
 
 pub use eval::{Cells, Numbers};
 pub use set::DescSet;

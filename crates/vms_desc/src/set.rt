@@ -8,8 +8,10 @@ ghost use Rattle.vms_spec.specs.Tests.{truth};
 ghost use Rattle.vms_spec.specs.Judging.{find_device};
 ghost use Rattle.vms_laws.specs.Good.{FitsHeads};
 ghost use Rattle.vms_desc.specs.Formed.{is_well_formed, shipped_set};
-ghost use Rattle.vms_desc.specs.Numbers.{sizes_of, fields_in};
-ghost use Rattle.vms_desc.specs.Parts.{HasPart, HasParentCells, desc_at, parent_of, parent_fields, is_placed};
+ghost use Rattle.vms_desc.specs.Numbers.{sizes_of};
+ghost use Rattle.vms_desc.specs.Parts.{HasPart, HasParentCells, desc_at, parent_of, is_placed};
+ghost use Rattle.vms_desc.specs.Scopes.{IsParent};
+ghost use Rattle.vms_desc.specs.Tables.{IsTable, AreTables, AreDeviceTables, device_fields};
 ghost use Rattle.vms_parts.specs.Sizes.{in_u32};
 ghost use Rattle.vms_parts.specs.Views.{set_of, formula, desc_of, device_of, form_of, layout_of};
 
@@ -17,10 +19,11 @@ use crate::eval::{Scope, holds};
 use crate::forms::layout;
 use crate::heads::fit_heads;
 use crate::shipped::shipped_parts;
+use crate::table::{Table, device_tables, struct_tables};
 use crate::{CellForm, Cells, Desc, Device, Listed, Part, Parts, Test};
 use std::alloc::{AllocError, Global};
 use vms_io::NoMemory;
-use vms_parts::{Measure, size_of_fields, struct_sizes};
+use vms_parts::{Measure, struct_sizes};
 
 /// A well-formed set, with the cells of each device laid out beside it.
 #[derive(Drop)]
@@ -30,11 +33,16 @@ pub struct DescSet {
     layout: Listed<Listed<CellForm>>,
     // How many cells each structure has, at most 2^32 - 1.
     pub(crate) sizes: Listed<u32>,
+    // What walks ask of each structure, and of each device and its subsections.
+    struct_tables: Listed<Table>,
+    device_tables: Listed<Listed<Table>>,
     ghost well_formed: { is_well_formed (set_of parts) ≡ true },
     ghost heads: { FitsHeads (set_of parts) },
     ghost few: { length parts.devices ≤ 64 },
     ghost laid: { layout ≡ layout_of (set_of parts) },
     ghost sized: { sizes ≡ sizes_of (set_of parts) },
+    ghost structs_tabled: { AreTables (sizes_of (set_of parts)) (map (λ d. d.fields) (set_of parts).structs) struct_tables },
+    ghost devices_tabled: { AreDeviceTables (sizes_of (set_of parts)) (set_of parts).devices device_tables },
     ghost small: { (k : ℕ) → length (get_or layout k []) ≤ 16384 },
 }
 
@@ -57,10 +65,14 @@ impl DescSet {
         fit_heads(&parts);
         let layout = layout(alloc, &parts)?;
         let sizes = struct_sizes(alloc, Measure::Cells, parts.structs.as_slice())?;
+        let structs = struct_tables(alloc, &sizes, parts.structs.as_slice())?;
+        let devices = device_tables(alloc, &sizes, parts.devices.as_slice())?;
         Ok(DescSet {
             parts,
             layout,
             sizes: Listed::new(sizes),
+            struct_tables: Listed::new(structs),
+            device_tables: Listed::new(devices),
         })
     }
 
@@ -124,8 +136,29 @@ impl DescSet {
         requires { HasPart (described self.now) desc }
         ensures { result ≡ in_u32 (own_cell_count (described self.now) (desc_at (described self.now) desc)) }
     {
-        let fields = self.desc(desc).fields.as_slice();
-        size_of_fields(Measure::Cells, self.sizes.as_slice(), fields)
+        let starts = self.table(desc).starts.as_slice();
+        starts[starts.len() - 1]
+    }
+
+    // What walks ask of a part.
+    pub(crate) fn table(&self, part: Part) -> &Table
+        requires { HasPart (described self.now) part }
+        ensures { IsTable (sizes_of (described self.now)) (desc_at (described self.now) part).fields result.now }
+    {
+        match part {
+            Part::Set => unreachable!(),
+            Part::Struct(number) => &self.struct_tables.as_slice()[number as usize],
+            Part::Device(number) => &self.tables_of(number)[0],
+            Part::Sub(device, number) => &self.tables_of(device)[number as usize + 1],
+        }
+    }
+
+    // Of a device and its subsections.
+    fn tables_of(&self, device: u32) -> &[Table]
+        requires { device < length (described self.now).devices }
+        ensures { AreTables (sizes_of (described self.now)) (device_fields (device_at (described self.now) device)) result.now }
+    {
+        self.device_tables.as_slice()[device as usize].as_slice()
     }
 
     /// How many cells each structure has. Of one that no device uses it is at most 2^32 - 1.
@@ -138,14 +171,10 @@ impl DescSet {
     // What a test of a part may ask of its device.
     fn parent(&self, part: Part) -> Option<Scope<'_>>
         requires { HasPart (described self.now) part }
-        ensures fields { option_map fields_in result ≡ parent_fields (described self.now) part }
-        ensures base { IfSome result (λ scope. scope.base ≡ 0) }
+        ensures { IsParent (described self.now) part result }
     {
         match part {
-            Part::Sub(device, _) => Some(Scope {
-                fields: self.device(device).desc.fields.as_slice(),
-                base: 0,
-            }),
+            Part::Sub(device, _) => Some(self.scope(Part::Device(device), 0)),
             _ => None,
         }
     }
@@ -167,12 +196,13 @@ impl DescSet {
         requires parent { HasParentCells (described self.now) desc (length (C.numbers cells.now)) }
         ensures { result ≡ truth (formula test.now) version (numbers_of (struct_cells (described self.now)) (desc_at (described self.now) desc) (C.numbers cells.now) base) (parent_of (described self.now) desc (C.numbers cells.now)) }
     {
-        let own = Scope {
-            fields: self.desc(desc).fields.as_slice(),
-            base,
-        };
-        let parent = self.parent(desc);
-        holds(test, version, self.sizes.as_slice(), own, parent, cells)
+        holds(
+            test,
+            version,
+            self.scope(desc, base),
+            self.parent(desc),
+            cells,
+        )
     }
 }
 

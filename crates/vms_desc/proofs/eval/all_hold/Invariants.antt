@@ -10,6 +10,6 @@ use Rattle.vms_desc.proofs.eval.all_hold.Given as goal
 abbrev pub invariant-loop-test : goal.invariant-loop-test
 invariant-loop-test g l = record {
   names : every (names_well (may_ask l.own) nobody) (map formula (drop l.test-index l.tests)) ≡ true;
-  same : all_hold (map formula (drop l.test-index l.tests)) l.version (number_of l.sizes (g.C.Cells.numbers l.cells) l.own)
-      ≡ all_hold (map formula l.tests) l.version (number_of l.sizes (g.C.Cells.numbers l.cells) l.own);
+  same : all_hold (map formula (drop l.test-index l.tests)) l.version (number_of (g.C.Cells.numbers l.cells) l.own)
+      ≡ all_hold (map formula l.tests) l.version (number_of (g.C.Cells.numbers l.cells) l.own);
 }

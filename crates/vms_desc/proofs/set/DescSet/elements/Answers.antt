@@ -24,8 +24,7 @@ number_at-requires-clause-asked g c =
 pub number_at-requires-clause-inside : goal.number_at-requires-clause-inside
 number_at-requires-clause-inside g c =
     let set = described c.args.self.now in
-    let room : HasCells set c.args.part (g.C.Cells.numbers c.args.cells.now) c.scope-own.result.base = subst (HasCells set c.args.part (g.C.Cells.numbers c.args.cells.now)) (sym c.scope-own.ensures.base) c.requires.own in
-    own_inside set c.args.part c.scope-own.result c.sizes.result.now (g.C.Cells.numbers c.args.cells.now) c.sizes.ensures c.scope-own.ensures.fields c.requires.few room
+    own_inside set (desc_at set c.args.part) c.args.base c.scope-own.result (g.C.Cells.numbers c.args.cells.now) c.scope-own.ensures c.requires.few c.requires.own
 
 pub returns-in-Counted : goal.returns-in-Counted
 returns-in-Counted g c =
@@ -37,9 +36,7 @@ returns-in-Counted g c =
     let most = c.in-Counted.capacity in
     let found = found_field own.fields.now (desc_at set c.args.part).fields c.args.field f c.scope-own.ensures.fields c.requires.field c.index-own-field.is in
     let count : f.count ≡ Counted by most = ap (λ (x : CodeField). x.count) c.index-own-field.is ∙ c.in-Counted.is in
-    let room : HasCells set c.args.part numbers own.base = subst (HasCells set c.args.part numbers) (sym c.scope-own.ensures.base) c.requires.own in
     let number : c.number_at.result ≡ own_numbers set c.args.part numbers c.args.base by =
-    c.number_at.ensures ∙ same_number set c.args.part own c.sizes.result.now numbers c.sizes.ensures c.scope-own.ensures.fields c.requires.few room by
-    ∙ ap (λ (b : ℕ). own_numbers set c.args.part numbers b by) c.scope-own.ensures.base in
+    c.number_at.ensures ∙ same_number set c.args.part c.args.base own numbers c.scope-own.ensures c.requires.few c.requires.own by in
     c.min.ensures ∙ ap (λ (n : ℕ). min n most) number
     ∙ ap (λ (x : Count). elements_of x (own_numbers set c.args.part numbers c.args.base)) (sym count ∙ ap (λ (x : Field). x.count) found)

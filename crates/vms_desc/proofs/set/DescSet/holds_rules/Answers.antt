@@ -18,17 +18,13 @@ all_hold-requires-clause-names g c =
 pub all_hold-requires-clause-own : goal.all_hold-requires-clause-own
 all_hold-requires-clause-own g c =
     let set = described c.args.self.now in
-    let room : HasCells set c.args.part (g.C.Cells.numbers c.args.cells.now) c.scope.result.base = subst (HasCells set c.args.part (g.C.Cells.numbers c.args.cells.now)) (sym c.scope.ensures.base) c.requires.own in
-    own_inside set c.args.part c.scope.result c.sizes.result.now (g.C.Cells.numbers c.args.cells.now) c.sizes.ensures c.scope.ensures.fields c.requires.few room
+    own_inside set (desc_at set c.args.part) c.args.base c.scope.result (g.C.Cells.numbers c.args.cells.now) c.scope.ensures c.requires.few c.requires.own
 
 pub returns : goal.returns
 returns g c =
     let set = described c.args.self.now in
     let numbers = g.C.Cells.numbers c.args.cells.now in
-    let own = c.scope.result in
     let tests : map formula c.as_slice-tests.result.now ≡ (desc_at set c.args.part).validate = ap (map formula) c.as_slice-tests.ensures ∙ ap (λ (d : Desc). d.validate) c.desc.ensures in
-    let room : HasCells set c.args.part numbers own.base = subst (HasCells set c.args.part numbers) (sym c.scope.ensures.base) c.requires.own in
     c.all_hold.ensures
-    ∙ same_rules set c.args.part own c.sizes.result.now numbers c.sizes.ensures c.scope.ensures.fields c.requires.few room (map formula c.as_slice-tests.result.now) c.args.version
-    ∙ ap (λ (b : ℕ). all_hold (map formula c.as_slice-tests.result.now) c.args.version (own_numbers set c.args.part numbers b)) c.scope.ensures.base
+    ∙ same_rules set c.args.part c.args.base c.scope.result numbers c.scope.ensures c.requires.few c.requires.own (map formula c.as_slice-tests.result.now) c.args.version
     ∙ ap (λ (ts : List Formula). all_hold ts c.args.version (own_numbers set c.args.part numbers c.args.base)) tests

@@ -25,8 +25,7 @@ holds-requires-clause-names g c =
 pub holds-requires-clause-own : goal.holds-requires-clause-own
 holds-requires-clause-own g c =
     let set = described c.args.self.now in
-    let room : HasCells set c.args.part (g.C.Cells.numbers c.args.cells.now) c.scope-own.result.base = subst (HasCells set c.args.part (g.C.Cells.numbers c.args.cells.now)) (sym c.scope-own.ensures.base) c.requires.own in
-    own_inside set c.args.part c.scope-own.result c.sizes.result.now (g.C.Cells.numbers c.args.cells.now) c.sizes.ensures c.scope-own.ensures.fields c.requires.few room
+    own_inside set (desc_at set c.args.part) c.args.base c.scope-own.result (g.C.Cells.numbers c.args.cells.now) c.scope-own.ensures c.requires.few c.requires.own
 
 pub returns-in-Some : goal.returns-in-Some
 returns-in-Some g c =
@@ -37,7 +36,5 @@ returns-in-Some g c =
     let found = found_field own.fields.now (desc_at set c.args.part).fields c.args.field f c.scope-own.ensures.fields c.requires.field c.index-own-field.is in
     let test : f.test ≡ Some c.in-Some.test = ap (λ (x : CodeField). x.test) c.index-own-field.is ∙ c.in-Some.is in
     let formulas : Some (formula c.in-Some.test) ≡ (field_at set c.args.part c.args.field).test = sym (ap (option_map formula) test) ∙ ap (λ (x : Field). x.test) found in
-    let room : HasCells set c.args.part numbers own.base = subst (HasCells set c.args.part numbers) (sym c.scope-own.ensures.base) c.requires.own in
-    c.holds.ensures ∙ same_truth set c.args.part own c.sizes.result.now numbers c.sizes.ensures c.scope-own.ensures.fields c.requires.few room (formula c.in-Some.test) c.args.version
-    ∙ ap (λ (b : ℕ). is_there (Some (formula c.in-Some.test)) (field_at set c.args.part c.args.field).since c.args.version (own_numbers set c.args.part numbers b) no_parent) c.scope-own.ensures.base
+    c.holds.ensures ∙ same_truth set c.args.part c.args.base own numbers c.scope-own.ensures c.requires.few c.requires.own (formula c.in-Some.test) c.args.version
     ∙ ap (λ (t : Option Formula). is_there t (field_at set c.args.part c.args.field).since c.args.version (own_numbers set c.args.part numbers c.args.base) no_parent) formulas

@@ -1,0 +1,7 @@
+use Rattle.std.proofs.Common.{map}
+use Rattle.vms_parts.specs.Views.{field_of}
+use Rattle.vms_desc.proofs.TablesMade.{StartsTo}
+use Rattle.vms_desc.proofs.table.starts.Given as goal
+
+abbrev pub invariant-loop-field : goal.invariant-loop-field
+invariant-loop-field l = StartsTo l.sizes (map field_of l.fields) l.field-index l.sum l.starts.items

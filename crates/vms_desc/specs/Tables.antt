@@ -1,0 +1,38 @@
+-- What is worked out once for each description.
+use Rattle.std.specs.Prelude.{◌≡◌, ℕ, suc, ◌<◌, ◌≤◌, List, [], ◌∷◌, length, get_or, take, map, Option, None}
+use Rattle.vms_spec.specs.Layout.{counted, no_desc}
+use Rattle.vms_spec.specs.Sets.{Field, Desc, Sub, Device}
+use Rattle.vms_parts.specs.declared.sizes.Measure.TheVariants.{Cells}
+use Rattle.vms_parts.specs.Sizes.{in_u32, fields_size}
+use Rattle.vms_desc.specs.Asks.{least_of}
+use Rattle.vms_desc.specs.declared.table.Table.{Table}
+
+-- where the cells of each field begin, and last where those of all fields end
+pub record AreStarts (sizes : List ℕ) (fields : List Field) (starts : List ℕ) : Type 0 where
+  pub long : length starts ≡ suc (length fields)
+  pub start : (k : ℕ) → k ≤ length fields → get_or starts k 0 ≡ in_u32 (fields_size Cells sizes (take k fields))
+
+-- the least of the capacities that each field counts
+pub record AreMosts (fields : List Field) (mosts : List (Option ℕ)) : Type 0 where
+  pub long : length mosts ≡ length fields
+  pub most : (k : ℕ) → k < length fields → get_or mosts k None ≡ least_of (counted k fields)
+
+pub record IsTable (sizes : List ℕ) (fields : List Field) (table : Table) : Type 0 where
+  pub starts : AreStarts sizes fields table.starts
+  pub mosts : AreMosts fields table.mosts
+
+abbrev pub no_table : Table
+no_table = record { starts = []; mosts = [] }
+
+-- a table for the fields of each description
+pub record AreTables (sizes : List ℕ) (descs : List (List Field)) (tables : List Table) : Type 0 where
+  pub long : length tables ≡ length descs
+  pub table : (k : ℕ) → k < length descs → IsTable sizes (get_or descs k []) (get_or tables k no_table)
+
+-- the fields of a device's own description, and then those of each subsection
+abbrev pub device_fields : Device → List (List Field)
+device_fields d = d.desc.fields ∷ map (λ s. s.desc.fields) d.subs
+
+pub record AreDeviceTables (sizes : List ℕ) (devices : List Device) (tables : List (List Table)) : Type 0 where
+  pub long : length tables ≡ length devices
+  pub each : (i : ℕ) → i < length devices → AreTables sizes (device_fields (get_or devices i (record { instance = 0; desc = no_desc; subs = [] }))) (get_or tables i [])

@@ -1,0 +1,117 @@
+// What walks ask of descriptions again and again, worked out once.
+ghost use Rattle.std.specs.Prelude.{◌≡◌, ◌∷◌, length, map, if◌then◌else◌, IfOk};
+ghost use Rattle.vms_spec.specs.Layout.{counted};
+ghost use Rattle.vms_parts.specs.Views.{field_of, desc_of, sub_of, device_of};
+ghost use Rattle.vms_desc.specs.Asks.{lesser, least_of};
+ghost use Rattle.vms_desc.specs.Tables.{AreStarts, AreMosts, IsTable, AreTables, AreDeviceTables, device_fields};
+
+use std::alloc::{AllocError, Global};
+use vms_parts::{Count, Desc, Device, Field, Listed, Measure, capacity, item_size};
+
+// Of one description.
+#[derive(Drop)]
+pub(crate) struct Table {
+    // Where the cells of each field begin, and last where those of all fields end, at most 2^32 - 1.
+    pub(crate) starts: Listed<u32>,
+    // The least of the capacities of the arrays whose elements each field counts.
+    pub(crate) mosts: Listed<Option<u32>>,
+}
+
+fn table_of(alloc: Global, sizes: &[u32], fields: &[Field]) -> Result<Table, AllocError>
+    ensures { IfOk result (λ table. IsTable sizes.now (map field_of fields.now) table) }
+{
+    let starts = starts(alloc, sizes, fields)?;
+    let mosts = mosts(alloc, fields)?;
+    Ok(Table {
+        starts: Listed::new(starts),
+        mosts: Listed::new(mosts),
+    })
+}
+
+fn starts(alloc: Global, sizes: &[u32], fields: &[Field]) -> Result<Vec<u32>, AllocError>
+    ensures { IfOk result (λ starts. AreStarts sizes.now (map field_of fields.now) starts.items) }
+{
+    let mut starts = Vec::new(alloc);
+    let mut sum: u32 = 0;
+    starts.push(sum)?;
+    for field in fields {
+        let size = item_size(Measure::Cells, sizes, field.item);
+        sum = sum.saturating_add(capacity(field.count).saturating_mul(size));
+        starts.push(sum)?;
+    }
+    Ok(starts)
+}
+
+fn mosts(alloc: Global, fields: &[Field]) -> Result<Vec<Option<u32>>, AllocError>
+    ensures { IfOk result (λ mosts. AreMosts (map field_of fields.now) mosts.items) }
+{
+    let mut mosts = Vec::new(alloc);
+    for number in 0..fields.len() {
+        mosts.push(least_counted(fields, number))?;
+    }
+    Ok(mosts)
+}
+
+// The least of the capacities of the arrays whose elements the field of this number counts.
+fn least_counted(fields: &[Field], number: usize) -> Option<u32>
+    ensures { result ≡ least_of (counted number (map field_of fields.now)) }
+{
+    let mut least = None;
+    for field in fields {
+        if let Count::Counted { by, capacity } = field.count {
+            least = lesser_if(by as usize == number, least, capacity);
+        }
+    }
+    least
+}
+
+fn lesser_if(counts: bool, least: Option<u32>, capacity: u32) -> Option<u32>
+    ensures { result ≡ (if counts then lesser least capacity else least) }
+{
+    match least {
+        _ if !counts => least,
+        None => Some(capacity),
+        Some(least) => Some(least.min(capacity)),
+    }
+}
+
+// Those of each structure.
+pub(crate) fn struct_tables(
+    alloc: Global,
+    sizes: &[u32],
+    structs: &[Desc],
+) -> Result<Vec<Table>, AllocError>
+    ensures { IfOk result (λ tables. AreTables sizes.now (map (λ d. d.fields) (map desc_of structs.now)) tables.items) }
+{
+    let mut tables = Vec::new(alloc);
+    for desc in structs {
+        tables.push(table_of(alloc, sizes, desc.fields.as_slice())?)?;
+    }
+    Ok(tables)
+}
+
+// Those of a device: its own, and then each subsection's.
+fn part_tables(alloc: Global, sizes: &[u32], device: &Device) -> Result<Vec<Table>, AllocError>
+    ensures { IfOk result (λ tables. AreTables sizes.now (device_fields (device_of device.now)) tables.items) }
+{
+    let mut tables = Vec::new(alloc);
+    tables.push(table_of(alloc, sizes, device.desc.fields.as_slice())?)?;
+    for sub in device.subs.as_slice() {
+        tables.push(table_of(alloc, sizes, sub.desc.fields.as_slice())?)?;
+    }
+    Ok(tables)
+}
+
+pub(crate) fn device_tables(
+    alloc: Global,
+    sizes: &[u32],
+    devices: &[Device],
+) -> Result<Vec<Listed<Table>>, AllocError>
+    ensures { IfOk result (λ tables. AreDeviceTables sizes.now (map device_of devices.now) tables.items) }
+{
+    let mut tables = Vec::new(alloc);
+    for device in devices {
+        tables.push(Listed::new(part_tables(alloc, sizes, device)?))?;
+    }
+    Ok(tables)
+}
