@@ -18,3 +18,6 @@ pub use fault::LoadFault;
 pub use loader::Loader;
 pub use vms_frames::Refusal;
 pub use vms_spec::Reason;
+
+#[cfg(test)]
+mod tests;
