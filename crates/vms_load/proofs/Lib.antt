@@ -11,9 +11,11 @@ pub mod Rules
 pub mod SetFacts
 pub mod Spending
 pub mod StagedLemmas
+pub mod Stopping
 pub mod StreamReads
 pub mod Tables
 pub mod TimerImages
 pub mod TurnReads
 pub mod UnitLemmas
+pub mod UnitsLong
 pub mod WellFit
