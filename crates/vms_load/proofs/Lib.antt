@@ -3,6 +3,7 @@ pub mod BodyLemmas
 pub mod Bounding
 pub mod Counting
 pub mod HeadLemmas
+pub mod HeadStops
 pub mod Kept
 pub mod OpenedReads
 pub mod PartReads
