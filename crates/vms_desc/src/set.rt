@@ -128,8 +128,8 @@ impl DescSet {
         size_of_fields(Measure::Cells, self.sizes.as_slice(), fields)
     }
 
-    // How many cells each structure has, at most 2^32 - 1.
-    pub(crate) fn sizes(&self) -> &[u32]
+    /// How many cells each structure has. Of one that no device uses it is at most 2^32 - 1.
+    pub fn sizes(&self) -> &[u32]
         ensures { result.now ≡ sizes_of (described self.now) }
     {
         self.sizes.as_slice()

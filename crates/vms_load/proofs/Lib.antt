@@ -5,6 +5,7 @@ pub mod Counting
 pub mod HeadLemmas
 pub mod HeadStops
 pub mod Kept
+pub mod LoadReads
 pub mod OpenedReads
 pub mod PartReads
 pub mod ReadLemmas
@@ -15,8 +16,6 @@ pub mod StagedLemmas
 pub mod Stopping
 pub mod StreamReads
 pub mod Tables
-pub mod TimerImages
 pub mod TurnReads
-pub mod UnitLemmas
 pub mod UnitsLong
 pub mod WellFit

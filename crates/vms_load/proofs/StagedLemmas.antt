@@ -1,7 +1,9 @@
 -- What is read of a stream so far, device by device.
-use Rattle.std.proofs.Common.{◌≡◌, ℕ, zero, suc, ◌+◌, ◌<◌, ◌≤◌, List, [], ◌∷◌, ◌++◌, length, get_or, map, replicate, drop, slice_set, Option, Some, None, Bool, true, false, ◌||◌, nat_lt, if◌then◌else◌, Result, Ok, Err, IfErr, refl, sym, ap, ◌∙◌, subst, arith}
+use Rattle.std.proofs.Common.{◌≡◌, ℕ, zero, suc, ◌+◌, ◌<◌, ◌≤◌, List, [], ◌∷◌, ◌++◌, length, length-append, get_or, map, replicate, drop, slice_set, Option, Some, None, Bool, true, false, ◌||◌, nat_lt, if◌then◌else◌, Result, Ok, Err, IfErr, refl, sym, ap, ◌∙◌, subst, arith}
 use Rattle.std.specs.Str.{bytes_eq}
 use Rattle.std.proofs.lemmas.List.{length-map, length-set, drop_more, ext_get_or, get_or-map}
+use Rattle.std.proofs.Math.ListN.{get_or-append}
+use Rattle.std.proofs.Math.Seq.{get_or-append_seam}
 use Rattle.std.proofs.lemmas.Slice.Eq.{bytes_eq-Decides}
 use Rattle.vms_spec.specs.Lists.{at}
 use Rattle.vms_spec.specs.Sets.{Device, Set}
@@ -89,6 +91,27 @@ pub reset_all : (set : Set) (images first : List Image) (done : ℕ) → Reset s
 reset_all set images first done r s all =
     ext_get_or no_image images (map (default_image set) set.devices) (r.long ∙ s.all ∙ sym (length-map set.devices (default_image set)))
     (λ k lt. r.before k (omega (arith, lt, all)) ∙ sym (get_or-map (default_image set) set.devices k _ no_image (omega (arith, lt, r.long, s.all))))
+
+-- those of the first devices
+pub record Made (set : Set) (images : List Image) (done : ℕ) : Type 0 where
+  pub long : length images ≡ done
+  pub each : (k : ℕ) → k < done → get_or images k no_image ≡ default_image set (device_at set k)
+
+pub made_on : (set : Set) (images : List Image) (done : ℕ) (image : Image) → Made set images done → image ≡ default_image set (device_at set done) → Made set (images ++ image ∷ []) (done + 1)
+made_on set images done image m is = record {
+  long = length-append images (image ∷ []) ∙ ap (λ (n : ℕ). n + 1) m.long;
+  each = λ k below. same_or_not k done (get_or (images ++ image ∷ []) k no_image ≡ default_image set (device_at set k))
+      (λ e. ap (λ (n : ℕ). get_or (images ++ image ∷ []) n no_image) (e ∙ sym m.long) ∙ get_or-append_seam images image [] no_image ∙ is ∙ ap (λ (n : ℕ). default_image set (device_at set n)) (sym e))
+      (λ ne. get_or-append images (image ∷ []) no_image k (front k below ne) ∙ m.each k (omega (arith, front k below ne, m.long)));
+}
+  where
+    front : (k : ℕ) → k < done + 1 → (k ≡ done → ⊥) → k < length images
+    front k below ne = same_or_not k done (k < length images) (λ e. absurd (ne e)) (λ no. omega (arith, m.long, below, no))
+
+pub made_all : (set : Set) (images : List Image) (done : ℕ) → Made set images done → done ≡ length set.devices → images ≡ map (default_image set) set.devices
+made_all set images done m all =
+    ext_get_or no_image images (map (default_image set) set.devices) (m.long ∙ all ∙ sym (length-map set.devices (default_image set)))
+    (λ k lt. m.each k (omega (arith, lt, m.long)) ∙ sym (get_or-map (default_image set) set.devices k _ no_image (omega (arith, lt, m.long, all))))
 
 -- ---- machines
 

@@ -23,10 +23,16 @@ pub record AreShaped (set : Set) (images : List Image) : Type 0 where
   pub all : length images ≡ length set.devices
   pub each : (k : ℕ) → k < length set.devices → IsShaped set (device_at set k) (get_or images k no_image)
 
+-- a machine of these, where one is named
+abbrev pub IsMachine : List (List ℕ) → Option ℕ → Type 0
+IsMachine machines None = Unit {0}
+IsMachine machines (Some machine) = machine < length machines
+
 -- what is read so far is of this set
 pub record IsOf (set : Set) (staged : Staged) : Type 0 where
   pub images : AreShaped set staged.images.items
   pub came : length staged.came.items ≡ length set.devices
+  pub machine : IsMachine set.machines staged.machine
 
 -- the image of device k at a version, before its fields come
 abbrev pub image_at : Set → ℕ → ℕ → Image
@@ -59,10 +65,6 @@ accepted machines (Some machine) = get_or machines machine [] ∷ []
 
 abbrev pub accepted_of : Set → Option ℕ → List (List ℕ)
 accepted_of set only = accepted set.machines only
-
-abbrev pub IsMachine : List (List ℕ) → Option ℕ → Type 0
-IsMachine machines None = Unit {0}
-IsMachine machines (Some machine) = machine < length machines
 
 -- the number of a machine of this name that is accepted, or none
 abbrev pub IsAccepted : List (List ℕ) → Option ℕ → List ℕ → Option ℕ → Type 0

@@ -1,6 +1,6 @@
 //! The loader: takes one stream of a set from a source, unit by unit, each judged when it is whole.
 //!
-//! At this stage it knows one form of input, the smallest stream of the first shipped set.
+//! What is read is staged beside the images that are kept, so that a stream that is refused leaves these as they were.
 #![tactic(auto)]
 
 mod body;
@@ -13,12 +13,8 @@ mod parts;
 mod sizes;
 mod staged;
 mod stream;
-mod units;
 
 pub use fault::LoadFault;
 pub use loader::Loader;
 pub use vms_frames::Refusal;
 pub use vms_spec::Reason;
-
-#[cfg(test)]
-mod tests;

@@ -1,11 +1,15 @@
 // The loader of a set's streams.
-ghost use Rattle.std.specs.Prelude.{◌≡◌, ◌<◌, ◌∷◌, [], ℕ, pos, length, get_or, IfSome, IfOk, OnErr};
-ghost use Rattle.vms_spec.specs.Shipped.{set_0};
-ghost use Rattle.vms_spec.specs.First.{reading, timer_image};
+ghost use Rattle.std.specs.Prelude.{◌≡◌, ℕ, List, length, map, IfSome, IfOk, IfErr, OnErr};
+ghost use Rattle.vms_spec.specs.Images.{default_image};
+ghost use Rattle.vms_parts.specs.Views.{set_of};
+ghost use Rattle.vms_load.specs.Staging.{AreShaped};
 
 use crate::LoadFault;
-use crate::units::read_number;
+use crate::staged::{Staged, defaults};
+use crate::stream::stream;
+use arrayvec::ArrayVec;
 use std::alloc::Global;
+use std::mem::swap;
 use vms_desc::DescSet;
 use vms_image::Image;
 use vms_io::{NoMemory, Source};
@@ -14,71 +18,73 @@ use vms_io::{NoMemory, Source};
 #[derive(Drop)]
 pub struct Loader {
     set: DescSet,
+    // The images of the last stream that was taken.
     images: Vec<Image>,
     taken: u64,
-    ghost timer: { length images.items ≡ 1 },
-    ghost no_subsections: { (get_or images.items 0 (timer_image 0)).came ≡ [] },
-    ghost one_cell: { length (get_or images.items 0 (timer_image 0)).numbers ≡ 1 },
+    // What is read of a stream until all of it is taken.
+    staged: Staged,
+    ghost kept: { AreShaped (set_of set.parts) images.items },
+    ghost spare: { AreShaped (set_of set.parts) staged.images.items },
 }
 
 impl Loader {
     ghost use Rattle.vms_desc.specs.Described.{described};
     ghost use Rattle.vms_load.specs.Kept.{loads, kept, taken_by};
-    ghost use Rattle.vms_load.specs.Loads.{HasCause, GivesWithin, IsTimer, Loads};
+    ghost use Rattle.vms_load.specs.Loads.{HasCause, Loads, GivesWithin};
+    ghost use Rattle.vms_load.specs.Staging.{IsMachine, accepted_of};
+    ghost use Rattle.vms_load.specs.Stops.{StopsAt};
 
-    /// A loader that has taken no stream yet: each image is at its defaults.
+    /// A loader that has taken no stream yet: each image is at its defaults. All memory that a load needs is
+    /// taken here.
     pub fn new(alloc: Global, set: DescSet) -> Result<Loader, NoMemory>
-        requires { described set ≡ set_0 }
         ensures set { IfOk result (λ loader. loads loader ≡ described set) }
-        ensures images { IfOk result (λ loader. kept loader ≡ timer_image 0 ∷ []) }
+        ensures images { IfOk result (λ loader. kept loader ≡ map (default_image (described set)) (described set).devices) }
         ensures taken { IfOk result (λ loader. taken_by loader ≡ 0) }
     {
-        let image = Image::new(alloc, &set, 0)?;
+        let images = defaults(alloc, &set)?;
+        let staged = Staged {
+            images: defaults(alloc, &set)?,
+            came: ArrayVec::new(),
+            machine: None,
+        };
         Ok(Loader {
             set,
-            images: vec![in alloc; image]?,
+            images,
             taken: 0,
+            staged,
         })
     }
 
     /// Takes one stream from the source, and answers the machine that it names, or none.
     ///
-    /// `only` names the one machine that is accepted in place of the set's. After an error the loader is as
-    /// it was.
+    /// `only` names the one machine that is accepted in place of the set's. After an error the loader's images
+    /// and what it took are as they were.
     pub fn load<S: Source>(
         &mut self,
         source: &mut S,
         only: Option<u32>,
     ) -> Result<Option<u32>, LoadFault>
-        requires { IfSome only (λ machine. machine < length (loads self.old).machines) }
-        ensures content { IfSome (S.left source.old) (λ input. Loads (reading input) input (S.left source.new) result (kept self.new) (taken_by self.new)) }
-        ensures err { OnErr result (self.new ≡ self.old) }
+        requires { IsMachine (loads self.old).machines only }
+        ensures content { IfSome (S.left source.old) (λ input. Loads (loads self.old) (accepted_of (loads self.old) only) input (S.left source.new) (kept self.new) (taken_by self.new) result) }
+        ensures machine { IfOk result (IsMachine (loads self.old).machines) }
+        ensures images { OnErr result (kept self.new ≡ kept self.old) }
+        ensures taken { OnErr result (taken_by self.new ≡ taken_by self.old) }
         ensures set { loads self.new ≡ loads self.old }
-        ensures given { GivesWithin (S.given source.old) (S.given source.new) result }
+        ensures given { GivesWithin (loads self.old) (S.given source.old) (S.given source.new) (taken_by self.new) result }
         ensures cause { HasCause (S.faults source.old) (S.faults source.new) result }
         ensures promise { S.promise source.new ≡ S.promise source.old }
+        ensures stop { IfSome (S.left source.old) (λ input. IfErr result (StopsAt 0 input (S.left source.new))) }
     {
-        let _accepted = only;
-        let now = read_number(source)?;
-        self.keep(now);
-        Ok(None)
-    }
-
-    fn keep(&mut self, now: u64)
-        ensures images { kept self.new ≡ timer_image now ∷ [] }
-        ensures taken { taken_by self.new ≡ 41 }
-        ensures set { loads self.new ≡ loads self.old }
-    {
-        let image = &mut self.images[0];
-        image.set_version(1);
-        image.set(0, number_of(now));
-        self.taken = 41;
+        let taken = stream(&self.set, only, &mut self.staged, source)?;
+        swap(&mut self.images, &mut self.staged.images);
+        self.taken = taken;
+        Ok(self.staged.machine)
     }
 
     /// The images of the last stream that was taken, or the defaults before the first.
     pub fn images(&self) -> &[Image]
         ensures images { result.now ≡ kept self.now }
-        ensures shape { IsTimer result.now }
+        ensures shape { AreShaped (loads self.now) result.now }
     {
         &self.images
     }
@@ -96,10 +102,4 @@ impl Loader {
     {
         &self.set
     }
-}
-
-fn number_of(now: u64) -> i128
-    ensures { result ≡ pos now }
-{
-    now as i128
 }

@@ -3,7 +3,6 @@ ghost use Rattle.std.specs.Prelude.{◌≡◌, ◌+◌, ◌<◌, ◌≤◌, ◌^
 ghost use Rattle.vms_spec.specs.Judging.{State};
 ghost use Rattle.vms_desc.specs.Described.{described};
 ghost use Rattle.vms_parts.specs.Devices.{device_at};
-ghost use Rattle.vms_load.specs.Fit.{AreSizes};
 ghost use Rattle.vms_load.specs.Loads.{HasCause};
 ghost use Rattle.vms_load.specs.Reads.{Reads, Gives};
 ghost use Rattle.vms_load.specs.Stops.{Stops};
@@ -44,7 +43,6 @@ fn part_of(device: u32, sub: Option<u32>) -> Part
 // Reads the fields of a part.
 fn fields<S: Source>(
     set: &DescSet,
-    sizes: &[u32],
     section: Section,
     part: Open,
     image: &mut Image,
@@ -52,7 +50,6 @@ fn fields<S: Source>(
     source: &mut S,
 ) -> Result<(), LoadFault>
     requires device { section.device < length (described set.now).devices }
-    requires sized { AreSizes (described set.now).structs sizes.now }
     requires shaped { IsShaped (described set.now) (device_at (described set.now) section.device) image.old }
     requires open { IsOpen (device_at (described set.now) section.device) image.old part.sub part.version }
     requires place { cursor.old + bytes_of_part (described set.now) (device_at (described set.now) section.device) part.sub ≤ 2 ^ 63 }
@@ -71,7 +68,7 @@ fn fields<S: Source>(
         cursor,
         source,
         structs,
-        sizes,
+        set.sizes(),
         structs.len(),
         set.desc(number),
         part.version,
@@ -128,14 +125,12 @@ fn after<S: Source>(
 /// Reads a section behind its head, up to its footer.
 pub(crate) fn read_section<S: Source>(
     set: &DescSet,
-    sizes: &[u32],
     section: Section,
     image: &mut Image,
     cursor: &mut Cursor,
     source: &mut S,
 ) -> Result<(), LoadFault>
     requires device { section.device < length (described set.now).devices }
-    requires sized { AreSizes (described set.now).structs sizes.now }
     requires shaped { IsShaped (described set.now) (device_at (described set.now) section.device) image.old }
     requires place { cursor.old + part_due (described set.now) (device_at (described set.now) section.device) image.old.came (Some (record { sub = None; version = image.old.version })) ≤ 2 ^ 63 }
     ensures reads { (names : List (List ℕ)) (state : State) → section.device < length state.images → IfSome (S.left source.old) (λ rest. Reads (in_fields (described set.now) names state section None image.old cursor.old rest) (λ _. after_part (described set.now) names state section image.new None) cursor.old cursor.new rest (S.left source.new) result) }
@@ -150,7 +145,7 @@ pub(crate) fn read_section<S: Source>(
         version: image.version(),
     });
     while let Some(part) = next {
-        fields(set, sizes, section, part, image, cursor, source)?;
+        fields(set, section, part, image, cursor, source)?;
         next = after(set, section, image, cursor, source)?;
     }
     Ok(())

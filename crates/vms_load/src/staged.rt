@@ -11,9 +11,11 @@ ghost use Rattle.vms_load.specs.Staging.{AreShaped, IsOf, IsMachine, IsAccepted,
 use crate::LoadFault;
 use crate::fault::refused;
 use arrayvec::ArrayVec;
+use std::alloc::Global;
 use vms_desc::{DescSet, Text};
 use vms_frames::Step;
 use vms_image::Image;
+use vms_io::NoMemory;
 use vms_marks::Name;
 use vms_spec::Reason;
 
@@ -26,6 +28,18 @@ pub(crate) struct Staged {
     pub(crate) came: ArrayVec<bool, 64>,
     /// The machine that was named.
     pub(crate) machine: Option<u32>,
+}
+
+/// The image of each device at its defaults.
+pub(crate) fn defaults(alloc: Global, set: &DescSet) -> Result<Vec<Image>, NoMemory>
+    ensures { IfOk result (λ images. images.items ≡ map (default_image (described set.now)) (described set.now).devices) }
+{
+    let devices = set.parts().devices.as_slice().len();
+    let mut images = Vec::with_capacity(alloc, devices)?;
+    for device in 0..devices {
+        images.push(Image::new(alloc, set, device as u32)?)?;
+    }
+    Ok(images)
 }
 
 /// Begins anew: nothing has come.
@@ -83,11 +97,14 @@ pub(crate) fn configure(
     name: &Name,
     at: u64,
 ) -> Result<(), LoadFault>
-    requires { IsMachine (described set.now).machines only }
+    requires machine { IsMachine (described set.now).machines only }
+    requires whole { IsOf (described set.now) staged.old }
     ensures short { length name.now.items ≤ 255 }
     ensures refused { IfErr result IsRefused }
     ensures settles { (spot : Spot) → Settles (judge_step (described set.now) (accepted_of (described set.now) only) (state_of (described set.now) staged.old spot) (Step.Configuration name.now)) at (λ _. state_of (described set.now) staged.new Configured) (5 + length name.now.items) result }
-    ensures kept { staged.new ≡ record staged.old { machine = staged.new.machine } }
+    ensures images { staged.new.images.items ≡ staged.old.images.items }
+    ensures came { staged.new.came.items ≡ staged.old.came.items }
+    ensures whole { IsOf (described set.now) staged.new }
 {
     match machine_of(set.parts().machines.as_slice(), only, name) {
         None => Err(refused(None, at, Reason::WrongMachine)),

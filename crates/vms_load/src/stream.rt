@@ -5,7 +5,6 @@ ghost use Rattle.vms_spec.specs.Judging.{State, Spot, Magic, First, Later, judge
 ghost use Rattle.vms_laws.specs.Whole.{reading_on};
 ghost use Rattle.vms_desc.specs.Described.{described};
 ghost use Rattle.vms_frames.specs.Judged.{judge_section};
-ghost use Rattle.vms_load.specs.Fit.{AreSizes};
 ghost use Rattle.vms_load.specs.Loads.{HasCause};
 ghost use Rattle.vms_load.specs.Reads.{Reads, Gives, GivesBehind, behind};
 ghost use Rattle.vms_load.specs.Stops.{StopsAt, Stops, IsBehind};
@@ -23,13 +22,11 @@ use vms_marks::Head;
 /// Reads a stream from its first byte on, and answers how many bytes it has.
 pub(crate) fn stream<S: Source>(
     set: &DescSet,
-    sizes: &[u32],
     only: Option<u32>,
     staged: &mut Staged,
     source: &mut S,
 ) -> Result<u64, LoadFault>
     requires machine { IsMachine (described set.now).machines only }
-    requires sized { AreSizes (described set.now).structs sizes.now }
     requires shaped { AreShaped (described set.now) staged.old.images.items }
     ensures reads { IfSome (S.left source.old) (λ input. ReadsAll (described set.now) (reading (described set.now) (accepted_of (described set.now) only) input) staged.new input (S.left source.new) result) }
     ensures given { GivesAll (described set.now) (S.given source.old) (S.given source.new) result }
@@ -37,11 +34,12 @@ pub(crate) fn stream<S: Source>(
     ensures promise { S.promise source.new ≡ S.promise source.old }
     ensures stop { IfSome (S.left source.old) (λ input. IfErr result (StopsAt 0 input (S.left source.new))) }
     ensures shaped { AreShaped (described set.now) staged.new.images.items }
+    ensures machine { IsMachine (described set.now).machines staged.new.machine }
 {
     restart(set, staged);
     let mut cursor = Cursor::new();
     head(&mut cursor, source)?;
-    sections(set, sizes, only, staged, &mut cursor, source)?;
+    sections(set, only, staged, &mut cursor, source)?;
     match cursor.trailer(source) {
         Ok(()) => Ok(cursor.at()),
         Err(fault) => Err(LoadFault::concerning(None, fault)),
@@ -66,14 +64,12 @@ fn head<S: Source>(cursor: &mut Cursor, source: &mut S) -> Result<(), LoadFault>
 // Reads the sections, with a configuration before them or without one, up to the end mark.
 fn sections<S: Source>(
     set: &DescSet,
-    sizes: &[u32],
     only: Option<u32>,
     staged: &mut Staged,
     cursor: &mut Cursor,
     source: &mut S,
 ) -> Result<(), LoadFault>
     requires machine { IsMachine (described set.now).machines only }
-    requires sized { AreSizes (described set.now).structs sizes.now }
     requires whole { IsOf (described set.now) staged.old }
     requires place { cursor.old + stream_due (described set.now) staged.old.came.items (Some Between.First) ≤ 2 ^ 63 }
     ensures reads { IfSome (S.left source.old) (λ rest. Reads (reading_on (judge (described set.now) (accepted_of (described set.now) only)) (state_of (described set.now) staged.old (spot_at (Some Between.First))) cursor.old rest) (λ _. reading_on (judge (described set.now) (accepted_of (described set.now) only)) (state_of (described set.now) staged.new (spot_at None))) cursor.old cursor.new rest (S.left source.new) result) }
@@ -85,7 +81,7 @@ fn sections<S: Source>(
 {
     let mut place = Some(Between::First);
     while let Some(between) = place {
-        place = turn(set, sizes, only, staged, between, cursor, source)?;
+        place = turn(set, only, staged, between, cursor, source)?;
     }
     Ok(())
 }
@@ -94,7 +90,6 @@ fn sections<S: Source>(
 // after the end mark.
 fn turn<S: Source>(
     set: &DescSet,
-    sizes: &[u32],
     only: Option<u32>,
     staged: &mut Staged,
     between: Between,
@@ -102,7 +97,6 @@ fn turn<S: Source>(
     source: &mut S,
 ) -> Result<Option<Between>, LoadFault>
     requires machine { IsMachine (described set.now).machines only }
-    requires sized { AreSizes (described set.now).structs sizes.now }
     requires whole { IsOf (described set.now) staged.old }
     requires place { cursor.old + stream_due (described set.now) staged.old.came.items (Some between) ≤ 2 ^ 63 }
     ensures reads { IfSome (S.left source.old) (λ rest. Reads (reading_on (judge (described set.now) (accepted_of (described set.now) only)) (state_of (described set.now) staged.old (spot_of between)) cursor.old rest) (λ next. reading_on (judge (described set.now) (accepted_of (described set.now) only)) (state_of (described set.now) staged.new (spot_at next))) cursor.old cursor.new rest (S.left source.new) result) }
@@ -120,7 +114,7 @@ fn turn<S: Source>(
             Ok(Some(Between::AfterConfiguration))
         }
         Ok(Step::Section(head)) => {
-            opened(set, sizes, staged, &head, at, cursor, source)?;
+            opened(set, staged, &head, at, cursor, source)?;
             Ok(Some(Between::Later))
         }
         Ok(Step::End) => {
@@ -134,14 +128,12 @@ fn turn<S: Source>(
 // Reads the section of a head that stood at this place.
 fn opened<S: Source>(
     set: &DescSet,
-    sizes: &[u32],
     staged: &mut Staged,
     head: &Head,
     at: u64,
     cursor: &mut Cursor,
     source: &mut S,
 ) -> Result<(), LoadFault>
-    requires sized { AreSizes (described set.now).structs sizes.now }
     requires whole { IsOf (described set.now) staged.old }
     requires place { cursor.old + sections_due (described set.now) (described set.now).devices staged.old.came.items ≤ 2 ^ 63 + 269 }
     ensures reads { (names : List (List ℕ)) (spot : Spot) → IfSome (S.left source.old) (λ rest. Reads (behind (reading_on (judge (described set.now) names)) at (judge_section (described set.now) names (state_of (described set.now) staged.old spot) head.now) cursor.old rest) (λ _. reading_on (judge (described set.now) names) (state_of (described set.now) staged.new Later)) cursor.old cursor.new rest (S.left source.new) result) }
@@ -159,5 +151,5 @@ fn opened<S: Source>(
         id: head.id,
     };
     let image = &mut staged.images[device as usize];
-    read_section(set, sizes, opened, image, cursor, source)
+    read_section(set, opened, image, cursor, source)
 }

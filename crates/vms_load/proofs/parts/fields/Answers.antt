@@ -8,10 +8,10 @@ use Rattle.vms_desc.specs.Asks.{first_cell}
 use Rattle.vms_desc.proofs.AskLaws.{few_cells}
 use Rattle.vms_parts.specs.Devices.{device_at}
 use Rattle.vms_parts.specs.Views.{desc_of}
-use Rattle.vms_load.specs.Fit.{IsFit, AreFit}
+use Rattle.vms_load.specs.Fit.{IsFit, AreFit, AreSizes}
 use Rattle.vms_load.proofs.PartReads.{open_in, fields_answer}
 use Rattle.vms_load.proofs.SetFacts.{well_of, good_of, desc_is, base_is, structs_are, structs_long}
-use Rattle.vms_load.proofs.WellFit.{structs_fit, part_fits, part_room}
+use Rattle.vms_load.proofs.WellFit.{structs_fit, part_fits, part_room, sizes_fit}
 use Rattle.vms_load.proofs.Stopping.{concerning_stops}
 use Rattle.vms_load.proofs.parts.fields.Goals as goal
 
@@ -31,6 +31,12 @@ body-requires-clause-fit g c =
     let set = described c.args.set.now in
     let structs = structs_are set c.parts.result.now c.as_slice-structs.result.now c.parts.ensures c.as_slice-structs.ensures in
     subst (λ (l : List Desc). AreFit l) (sym structs) (structs_fit set (well_of set c.args.set.now.well_formed))
+
+pub body-requires-clause-sized : goal.body-requires-clause-sized
+body-requires-clause-sized g c =
+    let set = described c.args.set.now in
+    let structs = structs_are set c.parts.result.now c.as_slice-structs.result.now c.parts.ensures c.as_slice-structs.ensures in
+    subst (λ (l : List Desc). AreSizes l c.sizes.result.now) (sym structs) (sizes_fit set c.sizes.result.now c.sizes.ensures)
 
 pub body-requires-clause-room : goal.body-requires-clause-room
 body-requires-clause-room g c =
