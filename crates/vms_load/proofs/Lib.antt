@@ -3,6 +3,7 @@ pub mod BodyLemmas
 pub mod Bounding
 pub mod Counting
 pub mod HeadLemmas
+pub mod HeadStops
 pub mod Kept
 pub mod LoadReads
 pub mod OpenedReads
@@ -12,7 +13,9 @@ pub mod Rules
 pub mod SetFacts
 pub mod Spending
 pub mod StagedLemmas
+pub mod Stopping
 pub mod StreamReads
 pub mod Tables
 pub mod TurnReads
+pub mod UnitsLong
 pub mod WellFit

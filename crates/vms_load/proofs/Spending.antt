@@ -1,5 +1,5 @@
 -- How many bytes are given by one call after another.
-use Rattle.std.proofs.Common.{◌≡◌, ℕ, suc, zero, ◌+◌, ◌-◌, ◌*◌, ◌≤◌, Result, Ok, Err, arith}
+use Rattle.std.proofs.Common.{◌≡◌, ℕ, suc, zero, ◌+◌, ◌-◌, ◌*◌, ◌≤◌, Result, Ok, Err, OnOk, arith}
 use Rattle.vms_io.specs.Causes.{capped}
 use Rattle.vms_frames.specs.declared.fault.FrameFault.{FrameFault}
 use Rattle.vms_load.specs.Bodies.{Spends}
@@ -25,6 +25,10 @@ pub given_on : (before mid now from at to : ℕ) → from ≤ at → at ≤ to �
 given_on before mid now from at to le up first second = omega arith
 
 -- ---- what is due
+
+pub gives_up : {X : Type 0} (before now from to due : ℕ) (after : X → ℕ) (result : Result X LoadFault) → Gives before now from to due after result → OnOk result (from ≤ to)
+gives_up before now from to due after (Ok x) s = s.0
+gives_up before now from to due after (Err e) s = tt
 
 pub gives_behind : (before now from to due more after : ℕ) (result : Result (Unit {0}) LoadFault) → 269 + (due + after) ≤ more → Gives before now from to due (λ _. 0) result
     → GivesBehind before now from to more (λ _. after) result

@@ -7,3 +7,4 @@ pub mod Loads
 pub mod Parts
 pub mod Reads
 pub mod Staging
+pub mod Stops

@@ -1,5 +1,5 @@
 // The loader of a set's streams.
-ghost use Rattle.std.specs.Prelude.{◌≡◌, ℕ, List, length, map, IfSome, IfOk, OnErr};
+ghost use Rattle.std.specs.Prelude.{◌≡◌, ℕ, List, length, map, IfSome, IfOk, IfErr, OnErr};
 ghost use Rattle.vms_spec.specs.Images.{default_image};
 ghost use Rattle.vms_parts.specs.Views.{set_of};
 ghost use Rattle.vms_load.specs.Staging.{AreShaped};
@@ -32,6 +32,7 @@ impl Loader {
     ghost use Rattle.vms_load.specs.Kept.{loads, kept, taken_by};
     ghost use Rattle.vms_load.specs.Loads.{HasCause, Loads, GivesWithin};
     ghost use Rattle.vms_load.specs.Staging.{IsMachine, accepted_of};
+    ghost use Rattle.vms_load.specs.Stops.{StopsAt};
 
     /// A loader that has taken no stream yet: each image is at its defaults. All memory that a load needs is
     /// taken here.
@@ -72,6 +73,7 @@ impl Loader {
         ensures given { GivesWithin (loads self.old) (S.given source.old) (S.given source.new) (taken_by self.new) result }
         ensures cause { HasCause (S.faults source.old) (S.faults source.new) result }
         ensures promise { S.promise source.new ≡ S.promise source.old }
+        ensures stop { IfSome (S.left source.old) (λ input. IfErr result (StopsAt 0 input (S.left source.new))) }
     {
         let taken = stream(&self.set, only, &mut self.staged, source)?;
         swap(&mut self.images, &mut self.staged.images);

@@ -1,6 +1,6 @@
-use Rattle.std.proofs.Common.{◌≡◌, ◌+◌, ◌<◌, ◌≤◌, ℕ, List, Option, Some, Ok, Err, length, map, sym, ap, ◌∙◌, subst, arith}
+use Rattle.std.proofs.Common.{ℕ, List, Some, Ok, Err, length, map, sym, ap, ◌∙◌, subst, arith}
 use Rattle.vms_spec.specs.Sets.{Desc}
-use Rattle.vms_spec.specs.Layout.{device_cells, desc_cells}
+use Rattle.vms_spec.specs.Layout.{desc_cells}
 use Rattle.vms_spec.specs.Taking.{takers, cells_of}
 use Rattle.vms_desc.specs.Described.{described}
 use Rattle.vms_desc.specs.Parts.{desc_at}
@@ -12,6 +12,7 @@ use Rattle.vms_load.specs.Fit.{IsFit, AreFit, AreSizes}
 use Rattle.vms_load.proofs.PartReads.{open_in, fields_answer}
 use Rattle.vms_load.proofs.SetFacts.{well_of, good_of, desc_is, base_is, structs_are, structs_long}
 use Rattle.vms_load.proofs.WellFit.{structs_fit, part_fits, part_room, sizes_fit}
+use Rattle.vms_load.proofs.Stopping.{concerning_stops}
 use Rattle.vms_load.proofs.parts.fields.Goals as goal
 
 pub body-requires-clause-whole : goal.body-requires-clause-whole
@@ -85,3 +86,10 @@ returns-in-Err-clause-reads g c = λ names state room.
     (map desc_of c.as_slice-structs.result.now) (length c.as_slice-structs.result.now) (desc_of c.desc.result.now) c.first_cell-base.result structs n desc base
     room c.requires.open c.requires.shaped.numbers c.args.cursor.now c.body.new.image.numbers c.body.new.image c.body.new.cursor
     (g.S.Source.left c.args.source.now) (g.S.Source.left c.body.new.source) (Err c.in-Err.fault) (g.met.S.Source.octets c.args.source.now) c.body.ensures.kept c.in-Err.ensures.taken)
+
+pub returns-in-Ok-clause-stop : goal.returns-in-Ok-clause-stop
+returns-in-Ok-clause-stop g c = c.in-Ok.ensures.stop
+
+pub returns-in-Err-clause-stop : goal.returns-in-Err-clause-stop
+returns-in-Err-clause-stop g c =
+    rw c.concerning.ensures (concerning_stops (Some c.args.section.device) (g.S.Source.left c.args.source.now) (g.S.Source.left c.body.new.source) c.args.cursor.now c.in-Err.fault c.in-Err.ensures.stop)

@@ -1,7 +1,6 @@
-use Rattle.std.proofs.Common.{◌≡◌, ◌+◌, ◌<◌, ◌≤◌, ℕ, List, [], Option, Some, None, Ok, Err, Bool, length, sym, ap, ◌∙◌, subst, arith, refl}
+use Rattle.std.proofs.Common.{◌<◌, List, [], Some, None, Bool, length, sym, ap, ◌∙◌, subst, arith}
 use Rattle.std.proofs.lemmas.Result.{err_from_is_err_and}
-use Rattle.std.proofs.lemmas.List.{length-set, length-map}
-use Rattle.vms_spec.specs.Sets.{Set}
+use Rattle.std.proofs.lemmas.List.{length-set}
 use Rattle.vms_spec.specs.Images.{Image}
 use Rattle.vms_spec.specs.Layout.{no_desc}
 use Rattle.vms_spec.specs.Judging.{judge, Later}
@@ -13,7 +12,9 @@ use Rattle.vms_load.specs.Parts.{IsShaped, subs_due, part_due}
 use Rattle.vms_load.specs.Staging.{image_at, name_of, state_of, sections_due}
 use Rattle.vms_load.proofs.OpenedReads.{begun, section_refused, section_reads, ends_later}
 use Rattle.vms_load.proofs.StagedLemmas.{image_begun, default_shaped, section_new, sections_taken}
-use Rattle.vms_load.proofs.Spending.{gives_behind}
+use Rattle.vms_load.proofs.Spending.{gives_behind, gives_up}
+use Rattle.vms_load.proofs.Stopping.{stops_on}
+use Rattle.vms_load.proofs.HeadStops.{section_stops, behind_moves}
 use Rattle.vms_load.proofs.stream.opened.Goals as goal
 
 pub returns-in_err-device-clause-reads : goal.returns-in_err-device-clause-reads
@@ -101,3 +102,19 @@ returns-clause-given g c =
     let same = ap (λ (x : Image). subs_due set (device_at set k).subs x.came) image in
     let came = ap (λ (l : List Bool). sections_due set set.devices l) c.begin.ensures.came in
     gives_behind _ _ c.args.cursor.now c.read_section.new.cursor (part_due set (device_at set k) c.index_mut-image.result.now.came (Some (record { sub = None; version = c.index_mut-image.result.now.version }))) _ _ c.read_section.result (omega (arith, due, same, came)) c.read_section.ensures.given
+
+-- ---- where the call stops
+
+pub returns-in_err-device-clause-stop : goal.returns-in_err-device-clause-stop
+returns-in_err-device-clause-stop g c = λ bytes behind.
+    let set = described c.args.set.now in
+    let head = c.args.head.now in
+    let p = err_from_is_err_and c.from_residual.result c.from_residual.ensures.1 in
+    let is = sym (c.in_err-device.was) ∙ c.open_section.ensures.opened ∙ ap (λ (came : List Bool). opened_at c.args.at (section_opened set came head.name.items head.instance head.version)) c.deref.ensures.0 in
+    rw (p.1, p.2) (section_stops head c.args.at c.args.cursor.now bytes (g.S.Source.left c.args.source.now) set c.args.staged.now.came.items c.in_err-device.field-0.0 behind is)
+
+pub returns-clause-stop : goal.returns-clause-stop
+returns-clause-stop g c = λ bytes behind.
+    let moved = behind_moves c.args.head.now c.args.at c.args.cursor.now bytes (g.S.Source.left c.args.source.now) behind in
+    stops_on (Some bytes) (g.S.Source.left c.args.source.now) (g.S.Source.left c.read_section.new.source) c.args.at c.args.cursor.now c.read_section.new.cursor c.read_section.result moved.0
+    (gives_up _ _ c.args.cursor.now c.read_section.new.cursor _ _ c.read_section.result c.read_section.ensures.given) moved.1 c.read_section.ensures.stop

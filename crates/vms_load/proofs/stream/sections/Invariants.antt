@@ -1,4 +1,4 @@
-use Rattle.std.proofs.Common.{◌≡◌, ◌+◌, ◌-◌, ◌<◌, ◌≤◌, ℕ, List, Option, Some, None, length, IfSome}
+use Rattle.std.proofs.Common.{◌≡◌, ◌+◌, ◌-◌, ◌≤◌, Some, IfSome}
 use Rattle.vms_io.specs.Causes.{capped}
 use Rattle.vms_spec.specs.Judging.{judge}
 use Rattle.vms_laws.specs.Whole.{reading_on}
@@ -6,6 +6,7 @@ use Rattle.vms_desc.specs.Described.{described}
 use Rattle.vms_frames.specs.declared.units.Between.TheVariants.{First}
 use Rattle.vms_load.specs.Reads.{Leads}
 use Rattle.vms_load.specs.Staging.{IsOf, accepted_of, state_of, spot_at, stream_due}
+use Rattle.vms_load.proofs.Stopping.{Moves}
 use Rattle.vms_load.proofs.stream.sections.Given as goal
 
 abbrev pub invariant-loop-place : goal.invariant-loop-place
@@ -18,6 +19,7 @@ invariant-loop-place g l =
       from : l.initial.cursor ≤ l.cursor;
       due : l.cursor + stream_due set l.staged.came.items l.place ≤ l.initial.cursor + stream_due set l.initial.staged.came.items (Some First);
       given : g.S.Source.given l.source ≡ capped (g.S.Source.given l.initial.source + (l.cursor - l.initial.cursor));
+      stop : Moves (g.S.Source.left l.initial.source) l.initial.cursor l.cursor (g.S.Source.left l.source);
       later : g.S.Source.faults l.initial.source ≤ g.S.Source.faults l.source;
       promise : g.S.Source.promise l.source ≡ g.S.Source.promise l.initial.source;
     }
