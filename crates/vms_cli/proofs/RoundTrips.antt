@@ -22,7 +22,7 @@ shown_by (Values machine images) text stream n e is =
     let s = packed_holds text machine images e in
     let same : written set_0 machine images None ≡ stream = ap (λ (o : Outcome). o.text) is in
     subst (λ (l : List ℕ). shown (reading set_0 set_0.machines l) ≡ done text (length l)) same
-        (ap shown s.whole ∙ ap (λ (l : List ℕ). done l (length (written set_0 machine images None))) s.printed)
+    (ap shown s.whole ∙ ap (λ (l : List ℕ). done l (length (written set_0 machine images None))) s.printed)
 shown_by (Bad line reason) text stream n e is = absurd (status_apart 3 (values_line line reason) stream n (omega arith) is)
 
 packed_by : (b : Bool) (name text stream : List ℕ) (n : ℕ) → (if b then ended 9 (too_large_line name) else packed_of (values_read set_0 text)) ≡ done stream n

@@ -2,13 +2,11 @@
 ghost use Rattle.vms_cli.specs.Laws.{PackThenShowLaw, ShowThenPackLaw};
 
 /// What `pack` gives for a text, `show` shows as that text.
-#[tactic(auto, using(crate::proofs::RoundTrips::pack_then_show))]
 pub fn pack_then_show_law()
     ensures { PackThenShowLaw }
 {}
 
 /// Of the text that `show` gives for a written stream, with a machine or without one, `pack` gives that stream again.
-#[tactic(auto, using(crate::proofs::RoundTrips::show_then_pack))]
 pub fn show_then_pack_law()
     ensures { ShowThenPackLaw }
 {}

@@ -45,7 +45,8 @@ fn run(
 #[test]
 fn shows_whole_streams(rt: HostRuntime) -> Result<(), Fail> {
     let alloc = rt.alloc();
-    let described: &[u8] = b"QEVM\x00\x00\x00\x03\x04\x00\x00\x00\x00\x05timer\x00\x00\x00\x00\x00\x00\x00\x01\x7e\x00\x00\x00\x00\x00\x00\x00\x7e\x00\x00\x00\x00\x00\x06\x00\x00\x00\x00";
+    let described: &[u8] =
+        b"QEVM\x00\x00\x00\x03\x04\x00\x00\x00\x00\x05timer\x00\x00\x00\x00\x00\x00\x00\x01\x7e\x00\x00\x00\x00\x00\x00\x00\x7e\x00\x00\x00\x00\x00\x06\x00\x00\x00\x00";
     let cases: [(&[u8], &[u8]); 4] = [
         (&SMALLEST, b"section timer 0 v1\nnow = 0\n"),
         (
@@ -106,16 +107,28 @@ fn refuses_marks_and_configurations(rt: HostRuntime) -> Result<(), Fail> {
     let cases: [(&[u8], &str); 12] = [
         (b"", "refused at 8 in -: Truncated\n"),
         (b"\x01\x00\x00\x00\x02\x03ram", "refused at 8 in -: Ram\n"),
-        (b"\x01\x00\x00\x00\x02\x04disk", "refused at 8 in -: Iterative\n"),
+        (
+            b"\x01\x00\x00\x00\x02\x04disk",
+            "refused at 8 in -: Iterative\n",
+        ),
         (b"\x02", "refused at 8 in -: Iterative\n"),
         (b"\x03", "refused at 8 in -: Iterative\n"),
         (b"\x08", "refused at 8 in -: Command\n"),
         (b"\x7e", "refused at 8 in -: BadMark\n"),
         (b"\x00", "refused at 8 in timer/0: MissingSection\n"),
-        (b"\x07\x00\x00\x00\x05isa-1", "refused at 8 in -: WrongMachine\n"),
+        (
+            b"\x07\x00\x00\x00\x05isa-1",
+            "refused at 8 in -: WrongMachine\n",
+        ),
         (b"\x07\x00\x00\x01\x00", "refused at 8 in -: WrongMachine\n"),
-        (b"\x07\x00\x00\x00\x05isa-0\x05", "refused at 18 in -: ConfigurationExtra\n"),
-        (b"\x07\x00\x00\x00\x05isa-0\x07", "refused at 18 in -: BadMark\n"),
+        (
+            b"\x07\x00\x00\x00\x05isa-0\x05",
+            "refused at 18 in -: ConfigurationExtra\n",
+        ),
+        (
+            b"\x07\x00\x00\x00\x05isa-0\x07",
+            "refused at 18 in -: BadMark\n",
+        ),
     ];
     for (rest, line) in cases {
         let notes = refusal(alloc, &after_head(alloc, rest)?)?.ok_or("refused")?;
@@ -135,10 +148,25 @@ fn refuses_changed_streams(rt: HostRuntime) -> Result<(), Fail> {
         (26, b"\x00", b"", "refused at 8 in timer/0: TooOld\n"),
         (22, b"\x01", b"", "refused at 8 in -: UnknownSection\n"),
         (39, b"\x01", b"", "refused at 35 in timer/0: BadFooter\n"),
-        (40, b"\x04", &SMALLEST[9..], "refused at 40 in timer/0: RepeatedSection\n"),
+        (
+            40,
+            b"\x04",
+            &SMALLEST[9..],
+            "refused at 40 in timer/0: RepeatedSection\n",
+        ),
         (0, b"", b"\x00", "refused at 41 in -: Trailing\n"),
-        (0, b"", b"\x06\x00\x00\x00\x01", "refused at 41 in -: Truncated\n"),
-        (0, b"", b"\x06\x01\x00\x00\x01", "refused at 41 in -: DescriptionTooLong\n"),
+        (
+            0,
+            b"",
+            b"\x06\x00\x00\x00\x01",
+            "refused at 41 in -: Truncated\n",
+        ),
+        (
+            0,
+            b"",
+            b"\x06\x01\x00\x00\x01",
+            "refused at 41 in -: DescriptionTooLong\n",
+        ),
     ];
     for (at, other, more, line) in cases {
         let notes = refusal(alloc, &changed(alloc, at, other, more)?)?.ok_or("refused")?;

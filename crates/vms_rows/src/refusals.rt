@@ -53,15 +53,37 @@ fn the_first_offending_unit_is_named(rt: HostRuntime) -> Result<(), Fail> {
         (9, b"\x01\x08", 26, Reason::NotEqual),
         (2, b"\x01\x02", 26, Reason::BadBool),
         (1, b"\x01\x0a", 27, Reason::Invalid),
-        (10, b"\x09\x05\x05box/q\0\0\0\x01\x07\x05\x05box/q\0\0\0\x01\x07", 38, Reason::RepeatedSubsection),
-        (10, b"\x09\x05\x05box/q\0\0\0\x01\x07\x05\x05box/q\0\0\0\x02\x07", 38, Reason::TooNew),
+        (
+            10,
+            b"\x09\x05\x05box/q\0\0\0\x01\x07\x05\x05box/q\0\0\0\x01\x07",
+            38,
+            Reason::RepeatedSubsection,
+        ),
+        (
+            10,
+            b"\x09\x05\x05box/q\0\0\0\x01\x07\x05\x05box/q\0\0\0\x02\x07",
+            38,
+            Reason::TooNew,
+        ),
         (10, b"\x09\x05\x05box/q\0\0\0\x00\x07", 26, Reason::TooOld),
-        (10, b"\x09\x05\x05box/r\0\0\0\x01", 26, Reason::UnknownSubsection),
+        (
+            10,
+            b"\x09\x05\x05box/r\0\0\0\x01",
+            26,
+            Reason::UnknownSubsection,
+        ),
     ];
     for (number, rest, at, reason) in rows {
         let bytes = stream(alloc, rest, END)?;
         let refusal = refusal_of(alloc, set_of(alloc, number)?, bytes)?;
-        assert_eq!(rt; refusal, Some(Refusal { section: Some(0), at, reason }));
+        assert_eq!(rt;
+            refusal,
+            Some(Refusal {
+                section: Some(0),
+                at,
+                reason
+            })
+        );
     }
     Ok(())
 }
@@ -89,8 +111,19 @@ fn every_cut_is_truncated(rt: HostRuntime) -> Result<(), Fail> {
         let cut = whole[..long].to_vec(alloc)?;
         let refusal = refusal_of(alloc, split(alloc)?, cut)?;
         let at = unit_at(long);
-        let section = if (25..55).contains(&at) { Some(0) } else { None };
-        assert_eq!(rt; refusal, Some(Refusal { section, at, reason: Reason::Truncated }));
+        let section = if (25..55).contains(&at) {
+            Some(0)
+        } else {
+            None
+        };
+        assert_eq!(rt;
+            refusal,
+            Some(Refusal {
+                section,
+                at,
+                reason: Reason::Truncated
+            })
+        );
     }
     Ok(())
 }

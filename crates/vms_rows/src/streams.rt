@@ -11,14 +11,22 @@ use vms_write::{are_ready, write_stream};
 
 // The streams of `box` 0 at version 1, from after its section's head on.
 const EMPTY: &[u8] = b"QEVM\0\0\0\x03\x04\0\0\0\0\x03box\0\0\0\0\0\0\0\x01\x00\x7e\0\0\0\0\0";
+
 const TWO: &[u8] =
     b"QEVM\0\0\0\x03\x04\0\0\0\0\x03box\0\0\0\0\0\0\0\x01\x02\x00\x01\xff\xff\x7e\0\0\0\0\0";
+
 const GAP: &[u8] =
     b"QEVM\0\0\0\x03\x04\0\0\0\0\x03box\0\0\0\0\0\0\0\x01\x01\x07\xab\xcd\x7e\0\0\0\0\0";
+
 const ZEROS: &[u8] =
     b"QEVM\0\0\0\x03\x04\0\0\0\0\x03box\0\0\0\0\0\0\0\x01\x01\x07\0\0\x7e\0\0\0\0\0";
-const Q_THEN_P: &[u8] = b"QEVM\0\0\0\x03\x04\0\0\0\0\x03box\0\0\0\0\0\0\0\x01\x09\x05\x05box/q\0\0\0\x01\x07\x05\x05box/p\0\0\0\x01\x08\x7e\0\0\0\0\0";
-const P_THEN_Q: &[u8] = b"QEVM\0\0\0\x03\x04\0\0\0\0\x03box\0\0\0\0\0\0\0\x01\x09\x05\x05box/p\0\0\0\x01\x08\x05\x05box/q\0\0\0\x01\x07\x7e\0\0\0\0\0";
+
+const Q_THEN_P: &[u8] =
+    b"QEVM\0\0\0\x03\x04\0\0\0\0\x03box\0\0\0\0\0\0\0\x01\x09\x05\x05box/q\0\0\0\x01\x07\x05\x05box/p\0\0\0\x01\x08\x7e\0\0\0\0\0";
+
+const P_THEN_Q: &[u8] =
+    b"QEVM\0\0\0\x03\x04\0\0\0\0\x03box\0\0\0\0\0\0\0\x01\x09\x05\x05box/p\0\0\0\x01\x08\x05\x05box/q\0\0\0\x01\x07\x7e\0\0\0\0\0";
+
 const NEITHER: &[u8] = b"QEVM\0\0\0\x03\x04\0\0\0\0\x03box\0\0\0\0\0\0\0\x01\x09\x7e\0\0\0\0\0";
 
 // Loads a stream that comes in pieces of this size, and writes it again into the sink: how many bytes were
@@ -66,7 +74,9 @@ fn streams_are_written_again(rt: HostRuntime) -> Result<(), Fail> {
     ];
     for (number, stream, written) in rows {
         for piece in [1, 2, 3, 7, 100] {
-            let mut sink = MemSink::new(alloc, 100, Vec::new(alloc)).ok().ok_or("room")?;
+            let mut sink = MemSink::new(alloc, 100, Vec::new(alloc))
+                .ok()
+                .ok_or("room")?;
             let taken = again(alloc, set_of(alloc, number)?, stream, piece, &mut sink)?;
             assert_eq!(rt; taken, Some(stream.len() as u64));
             assert_eq!(rt; sink.bytes(), written);
