@@ -2,9 +2,10 @@ pub mod AfterReads
 pub mod BodyLemmas
 pub mod Bounding
 pub mod Counting
+pub mod HeadLeaving
 pub mod HeadLemmas
-pub mod HeadStops
 pub mod Kept
+pub mod Leaving
 pub mod LoadReads
 pub mod OpenedReads
 pub mod PartReads
@@ -13,7 +14,6 @@ pub mod Rules
 pub mod SetFacts
 pub mod Spending
 pub mod StagedLemmas
-pub mod Stopping
 pub mod StreamReads
 pub mod Tables
 pub mod TurnReads

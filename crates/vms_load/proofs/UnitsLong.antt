@@ -21,8 +21,8 @@ use Rattle.vms_frames.specs.declared.units.After.{After}
 use Rattle.vms_frames.specs.declared.units.After.TheVariants.{Sub, Done}
 use Rattle.vms_frames.specs.Found.{Found, Whole, Wrong, Cut, needs, magic_found, version_found, configuration_found, start_found, start_reason, head_found, mark_found, between_found, number_found, skip_found, sub_found, foot_found, after_mark_found, after_found, text_found, trailer_found}
 use Rattle.vms_load.specs.Bodies.{capped_found, constant_found}
-use Rattle.vms_load.specs.Stops.{configuration_long, start_long, unit_long}
-use Rattle.vms_load.proofs.Stopping.{Fits}
+use Rattle.vms_load.specs.Leaving.{configuration_long, start_long, unit_long}
+use Rattle.vms_load.proofs.Leaving.{Fits}
 
 -- a whole unit may be any
 abbrev pub Any : {X : Type 0} → X → Type 0

@@ -3,8 +3,8 @@ pub mod Bounds
 pub mod Fit
 pub mod Heads
 pub mod Kept
+pub mod Leaving
 pub mod Loads
 pub mod Parts
 pub mod Reads
 pub mod Staging
-pub mod Stops

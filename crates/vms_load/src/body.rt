@@ -8,7 +8,7 @@ ghost use Rattle.vms_frames.specs.Answers.{HasCause};
 ghost use Rattle.vms_load.specs.Bodies.{TakesAs, Spends};
 ghost use Rattle.vms_load.specs.Bounds.{item_bytes, field_bytes, desc_bytes, struct_bytes};
 ghost use Rattle.vms_load.specs.Fit.{IsFit, AreFit, IsFitItem, IsFitField, AreSizes};
-ghost use Rattle.vms_load.specs.Stops.{FieldsStop};
+ghost use Rattle.vms_load.specs.Leaving.{FieldsLeave};
 
 use crate::holds::{are_valid, elements, is_there};
 use crate::items::{constant, put_number};
@@ -44,7 +44,7 @@ fn item<S: Source>(
     ensures given { Spends (item_bytes (struct_bytes (map desc_of structs.now) k) item.now) (S.given source.old) (S.given source.new) cursor.old cursor.new result }
     ensures cause { HasCause (S.faults source.old) (S.faults source.new) result }
     ensures promise { S.promise source.new ≡ S.promise source.old }
-    ensures stop { IfSome (S.left source.old) (λ rest. FieldsStop cursor.old rest cursor.new (S.left source.new) result) }
+    ensures leaves { IfSome (S.left source.old) (λ rest. FieldsLeave cursor.old rest cursor.new (S.left source.new) result) }
     ensures kept { image.new ≡ record image.old { numbers = image.new.numbers } }
     ensures long { length image.new.numbers ≡ length image.old.numbers }
 {
@@ -96,7 +96,7 @@ fn items<S: Source>(
     ensures given { Spends (count * item_bytes (struct_bytes (map desc_of structs.now) k) part.now) (S.given source.old) (S.given source.new) cursor.old cursor.new result }
     ensures cause { HasCause (S.faults source.old) (S.faults source.new) result }
     ensures promise { S.promise source.new ≡ S.promise source.old }
-    ensures stop { IfSome (S.left source.old) (λ rest. FieldsStop cursor.old rest cursor.new (S.left source.new) result) }
+    ensures leaves { IfSome (S.left source.old) (λ rest. FieldsLeave cursor.old rest cursor.new (S.left source.new) result) }
     ensures kept { image.new ≡ record image.old { numbers = image.new.numbers } }
     ensures long { length image.new.numbers ≡ length image.old.numbers }
 {
@@ -140,7 +140,7 @@ fn field<S: Source>(
     ensures given { Spends (field_bytes (struct_bytes (map desc_of structs.now) k) (field_of part.now)) (S.given source.old) (S.given source.new) cursor.old cursor.new result }
     ensures cause { HasCause (S.faults source.old) (S.faults source.new) result }
     ensures promise { S.promise source.new ≡ S.promise source.old }
-    ensures stop { IfSome (S.left source.old) (λ rest. FieldsStop cursor.old rest cursor.new (S.left source.new) result) }
+    ensures leaves { IfSome (S.left source.old) (λ rest. FieldsLeave cursor.old rest cursor.new (S.left source.new) result) }
     ensures kept { image.new ≡ record image.old { numbers = image.new.numbers } }
     ensures long { length image.new.numbers ≡ length image.old.numbers }
 {
@@ -196,7 +196,7 @@ fn fields<S: Source>(
     ensures given { Spends (desc_bytes (struct_bytes (map desc_of structs.now) k) (desc_of desc.now)) (S.given source.old) (S.given source.new) cursor.old cursor.new result }
     ensures cause { HasCause (S.faults source.old) (S.faults source.new) result }
     ensures promise { S.promise source.new ≡ S.promise source.old }
-    ensures stop { IfSome (S.left source.old) (λ rest. FieldsStop cursor.old rest cursor.new (S.left source.new) result) }
+    ensures leaves { IfSome (S.left source.old) (λ rest. FieldsLeave cursor.old rest cursor.new (S.left source.new) result) }
     ensures kept { image.new ≡ record image.old { numbers = image.new.numbers } }
     ensures long { length image.new.numbers ≡ length image.old.numbers }
 {
@@ -234,7 +234,7 @@ pub(crate) fn body<S: Source>(
     ensures given { Spends (desc_bytes (struct_bytes (map desc_of structs.now) k) (desc_of desc.now)) (S.given source.old) (S.given source.new) cursor.old cursor.new result }
     ensures cause { HasCause (S.faults source.old) (S.faults source.new) result }
     ensures promise { S.promise source.new ≡ S.promise source.old }
-    ensures stop { IfSome (S.left source.old) (λ rest. FieldsStop cursor.old rest cursor.new (S.left source.new) result) }
+    ensures leaves { IfSome (S.left source.old) (λ rest. FieldsLeave cursor.old rest cursor.new (S.left source.new) result) }
     ensures kept { image.new ≡ record image.old { numbers = image.new.numbers } }
     ensures long { length image.new.numbers ≡ length image.old.numbers }
 {

@@ -7,7 +7,7 @@ ghost use Rattle.vms_spec.specs.Taking.{take_number};
 ghost use Rattle.vms_parts.specs.Views.{field_of};
 ghost use Rattle.vms_frames.specs.Answers.{Answers, HasCause, GivesWithin};
 ghost use Rattle.vms_load.specs.Bodies.{capped_found, constant_found, counted_by, TakesAs, Spends};
-ghost use Rattle.vms_load.specs.Stops.{FieldsStop};
+ghost use Rattle.vms_load.specs.Leaving.{FieldsLeave};
 
 use vms_desc::{Count, Field};
 use vms_frames::{Cursor, FrameFault};
@@ -33,7 +33,7 @@ pub(crate) fn put_number<S: Source>(
     ensures given { Spends (width kind) (S.given source.old) (S.given source.new) cursor.old cursor.new result }
     ensures cause { HasCause (S.faults source.old) (S.faults source.new) result }
     ensures promise { S.promise source.new ≡ S.promise source.old }
-    ensures stop { IfSome (S.left source.old) (λ rest. FieldsStop cursor.old rest cursor.new (S.left source.new) result) }
+    ensures leaves { IfSome (S.left source.old) (λ rest. FieldsLeave cursor.old rest cursor.new (S.left source.new) result) }
     ensures kept { image.new ≡ record image.old { numbers = image.new.numbers } }
     ensures long { length image.new.numbers ≡ length image.old.numbers }
 {
@@ -57,7 +57,7 @@ fn number<S: Source>(
     ensures given { GivesWithin (λ _. width kind) (width kind) (S.given source.old) (S.given source.new) result }
     ensures cause { HasCause (S.faults source.old) (S.faults source.new) result }
     ensures promise { S.promise source.new ≡ S.promise source.old }
-    ensures stop { IfSome (S.left source.old) (λ rest. FieldsStop cursor.old rest cursor.new (S.left source.new) result) }
+    ensures leaves { IfSome (S.left source.old) (λ rest. FieldsLeave cursor.old rest cursor.new (S.left source.new) result) }
 {
     let at = cursor.at();
     let value = cursor.number(source, kind)?;
@@ -83,7 +83,7 @@ pub(crate) fn constant<S: Source>(
     ensures given { GivesWithin (λ _. width kind) (width kind) (S.given source.old) (S.given source.new) result }
     ensures cause { HasCause (S.faults source.old) (S.faults source.new) result }
     ensures promise { S.promise source.new ≡ S.promise source.old }
-    ensures stop { IfSome (S.left source.old) (λ rest. FieldsStop cursor.old rest cursor.new (S.left source.new) result) }
+    ensures leaves { IfSome (S.left source.old) (λ rest. FieldsLeave cursor.old rest cursor.new (S.left source.new) result) }
 {
     let at = cursor.at();
     let found = cursor.number(source, kind)?;

@@ -7,7 +7,7 @@ ghost use Rattle.vms_desc.specs.Described.{described};
 ghost use Rattle.vms_frames.specs.Judged.{judge_section};
 ghost use Rattle.vms_load.specs.Loads.{HasCause};
 ghost use Rattle.vms_load.specs.Reads.{Reads, Gives, GivesBehind, behind};
-ghost use Rattle.vms_load.specs.Stops.{StopsAt, Stops, IsBehind};
+ghost use Rattle.vms_load.specs.Leaving.{LeavesAt, Leaves, IsBehind};
 ghost use Rattle.vms_load.specs.Staging.{AreShaped, IsOf, IsMachine, accepted_of, state_of, spot_of, spot_at, sections_due, stream_due, ReadsAll, GivesAll};
 
 use crate::LoadFault;
@@ -32,7 +32,7 @@ pub(crate) fn stream<S: Source>(
     ensures given { GivesAll (described set.now) (S.given source.old) (S.given source.new) result }
     ensures cause { HasCause (S.faults source.old) (S.faults source.new) result }
     ensures promise { S.promise source.new ≡ S.promise source.old }
-    ensures stop { IfSome (S.left source.old) (λ input. IfErr result (StopsAt 0 input (S.left source.new))) }
+    ensures leaves { IfSome (S.left source.old) (λ input. IfErr result (LeavesAt 0 input (S.left source.new))) }
     ensures shaped { AreShaped (described set.now) staged.new.images.items }
     ensures machine { IsMachine (described set.now).machines staged.new.machine }
 {
@@ -53,7 +53,7 @@ fn head<S: Source>(cursor: &mut Cursor, source: &mut S) -> Result<(), LoadFault>
     ensures given { Gives (S.given source.old) (S.given source.new) cursor.old cursor.new 8 (λ _. 0) result }
     ensures cause { HasCause (S.faults source.old) (S.faults source.new) result }
     ensures promise { S.promise source.new ≡ S.promise source.old }
-    ensures stop { IfSome (S.left source.old) (λ rest. Stops cursor.old rest cursor.new (S.left source.new) result) }
+    ensures leaves { IfSome (S.left source.old) (λ rest. Leaves cursor.old rest cursor.new (S.left source.new) result) }
 {
     match cursor.stream_head(source) {
         Ok(()) => Ok(()),
@@ -76,7 +76,7 @@ fn sections<S: Source>(
     ensures given { Gives (S.given source.old) (S.given source.new) cursor.old cursor.new (stream_due (described set.now) staged.old.came.items (Some Between.First)) (λ _. 0) result }
     ensures cause { HasCause (S.faults source.old) (S.faults source.new) result }
     ensures promise { S.promise source.new ≡ S.promise source.old }
-    ensures stop { IfSome (S.left source.old) (λ rest. Stops cursor.old rest cursor.new (S.left source.new) result) }
+    ensures leaves { IfSome (S.left source.old) (λ rest. Leaves cursor.old rest cursor.new (S.left source.new) result) }
     ensures whole { IsOf (described set.now) staged.new }
 {
     let mut place = Some(Between::First);
@@ -104,7 +104,7 @@ fn turn<S: Source>(
     ensures moved { OnOk result (cursor.old < cursor.new) }
     ensures cause { HasCause (S.faults source.old) (S.faults source.new) result }
     ensures promise { S.promise source.new ≡ S.promise source.old }
-    ensures stop { IfSome (S.left source.old) (λ rest. Stops cursor.old rest cursor.new (S.left source.new) result) }
+    ensures leaves { IfSome (S.left source.old) (λ rest. Leaves cursor.old rest cursor.new (S.left source.new) result) }
     ensures whole { IsOf (described set.now) staged.new }
 {
     let at = cursor.at();
@@ -140,7 +140,7 @@ fn opened<S: Source>(
     ensures given { GivesBehind (S.given source.old) (S.given source.new) cursor.old cursor.new (sections_due (described set.now) (described set.now).devices staged.old.came.items) (λ _. sections_due (described set.now) (described set.now).devices staged.new.came.items) result }
     ensures cause { HasCause (S.faults source.old) (S.faults source.new) result }
     ensures promise { S.promise source.new ≡ S.promise source.old }
-    ensures stop { (bytes : List ℕ) → IsBehind head.now at bytes cursor.old (S.left source.old) → Stops at bytes cursor.new (S.left source.new) result }
+    ensures leaves { (bytes : List ℕ) → IsBehind head.now at bytes cursor.old (S.left source.old) → Leaves at bytes cursor.new (S.left source.new) result }
     ensures whole { IsOf (described set.now) staged.new }
     ensures short { length head.now.name.items ≤ 255 }
 {

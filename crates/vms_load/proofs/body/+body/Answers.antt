@@ -19,7 +19,7 @@ use Rattle.vms_load.proofs.Spending.{one_of, spends_less, spends_err, given_on}
 use Rattle.vms_load.proofs.BodyLemmas.{stops, goes, alike, items_next, items_stop, fit_at, room_at, bytes_at, struct_taken, fields_next, fields_stop, body_ok, body_broken, body_cut, constant_taken}
 use Rattle.vms_frames.specs.Found.{skip_found}
 use Rattle.vms_spec.specs.declared.Reason.TheVariants as reasons
-use Rattle.vms_load.proofs.Stopping.{moves_on, fields_stop_at, refused_after, unit_stops_in}
+use Rattle.vms_load.proofs.Leaving.{moves_on, fields_leave_at, refused_after, unit_leaves_in}
 use Rattle.vms_load.proofs.UnitsLong.{Any, skip_fits}
 use Rattle.vms_load.proofs.body.+body.Goals as goal
 
@@ -160,7 +160,7 @@ fields-loop-i-preserved g t c =
       place = omega (arith, bytes, c.loop-i.invariant.place, spent);
       given = given_on _ _ _ c.args.cursor.now c.loop-i.cursor c.field.new.cursor c.loop-i.invariant.from spent.0 c.loop-i.invariant.given spent.2;
       later = omega (arith, c.loop-i.invariant.later, c.in_ok-field.ensures.cause);
-      stop = moves_on (g.S.Source.left c.args.source.now) (g.S.Source.left c.loop-i.source) (g.S.Source.left c.field.new.source) c.args.cursor.now c.loop-i.cursor c.field.new.cursor c.loop-i.invariant.from spent.0 c.loop-i.invariant.stop c.in_ok-field.ensures.stop;
+      leaves = moves_on (g.S.Source.left c.args.source.now) (g.S.Source.left c.loop-i.source) (g.S.Source.left c.field.new.source) c.args.cursor.now c.loop-i.cursor c.field.new.cursor c.loop-i.invariant.from spent.0 c.loop-i.invariant.leaves c.in_ok-field.ensures.leaves;
       promise = c.in_ok-field.ensures.promise ∙ c.loop-i.invariant.promise;
       kept = kept_on c.args.image.now c.loop-i.image c.field.new.image c.loop-i.invariant.kept c.in_ok-field.ensures.kept;
       long = c.in_ok-field.ensures.long ∙ c.loop-i.invariant.long;
@@ -236,29 +236,29 @@ items-loop-turn-preserved g t c =
       place = omega (arith, places, c.loop-turn.invariant.place, spent);
       given = given_on _ _ _ c.args.cursor.now c.loop-turn.cursor c.item.new.cursor c.loop-turn.invariant.from spent.0 c.loop-turn.invariant.given spent.2;
       later = omega (arith, c.loop-turn.invariant.later, c.in_ok-item.ensures.cause);
-      stop = moves_on (g.S.Source.left c.args.source.now) (g.S.Source.left c.loop-turn.source) (g.S.Source.left c.item.new.source) c.args.cursor.now c.loop-turn.cursor c.item.new.cursor c.loop-turn.invariant.from spent.0 c.loop-turn.invariant.stop c.in_ok-item.ensures.stop;
+      leaves = moves_on (g.S.Source.left c.args.source.now) (g.S.Source.left c.loop-turn.source) (g.S.Source.left c.item.new.source) c.args.cursor.now c.loop-turn.cursor c.item.new.cursor c.loop-turn.invariant.from spent.0 c.loop-turn.invariant.leaves c.in_ok-item.ensures.leaves;
       promise = c.in_ok-item.ensures.promise ∙ c.loop-turn.invariant.promise;
       kept = kept_on c.args.image.now c.loop-turn.image c.item.new.image c.loop-turn.invariant.kept c.in_ok-item.ensures.kept;
       long = c.in_ok-item.ensures.long ∙ c.loop-turn.invariant.long;
     }
 
--- ---- where the calls stop
+-- ---- what the calls leave
 
-pub item-returns-in-Unused-clause-stop : goal.item-returns-in-Unused-clause-stop
-item-returns-in-Unused-clause-stop g t c =
-    unit_stops_in (λ x. c.in-Unused.bytes) (λ rest. Any) (skip_found c.in-Unused.bytes) (g.S.Source.left c.args.source.now) (g.S.Source.left c.skip.new.source) c.args.cursor.now c.skip.new.self c.skip.result
+pub item-returns-in-Unused-clause-leaves : goal.item-returns-in-Unused-clause-leaves
+item-returns-in-Unused-clause-leaves g t c =
+    unit_leaves_in (λ x. c.in-Unused.bytes) (λ rest. Any) (skip_found c.in-Unused.bytes) (g.S.Source.left c.args.source.now) (g.S.Source.left c.skip.new.source) c.args.cursor.now c.skip.new.self c.skip.result
     (skip_fits c.in-Unused.bytes) (search rules) c.skip.ensures.content
 
-pub items-returns-in_err-item-clause-stop : goal.items-returns-in_err-item-clause-stop
-items-returns-in_err-item-clause-stop g t c =
+pub items-returns-in_err-item-clause-leaves : goal.items-returns-in_err-item-clause-leaves
+items-returns-in_err-item-clause-leaves g t c =
     let p = err_from_is_err_and c.from_residual.result c.from_residual.ensures.1 in
-    rw (p.1, p.2) (fields_stop_at (g.S.Source.left c.args.source.now) (g.S.Source.left c.loop-turn.source) (g.S.Source.left c.item.new.source) c.args.cursor.now c.loop-turn.cursor c.in_err-item.field-0.0 c.loop-turn.invariant.from c.loop-turn.invariant.stop c.in_err-item.ensures.stop)
+    rw (p.1, p.2) (fields_leave_at (g.S.Source.left c.args.source.now) (g.S.Source.left c.loop-turn.source) (g.S.Source.left c.item.new.source) c.args.cursor.now c.loop-turn.cursor c.in_err-item.field-0.0 c.loop-turn.invariant.from c.loop-turn.invariant.leaves c.in_err-item.ensures.leaves)
 
-pub fields-returns-in_err-field-clause-stop : goal.fields-returns-in_err-field-clause-stop
-fields-returns-in_err-field-clause-stop g t c =
+pub fields-returns-in_err-field-clause-leaves : goal.fields-returns-in_err-field-clause-leaves
+fields-returns-in_err-field-clause-leaves g t c =
     let p = err_from_is_err_and c.from_residual.result c.from_residual.ensures.1 in
-    rw (p.1, p.2) (fields_stop_at (g.S.Source.left c.args.source.now) (g.S.Source.left c.loop-i.source) (g.S.Source.left c.field.new.source) c.args.cursor.now c.loop-i.cursor c.in_err-field.field-0.0 c.loop-i.invariant.from c.loop-i.invariant.stop c.in_err-field.ensures.stop)
+    rw (p.1, p.2) (fields_leave_at (g.S.Source.left c.args.source.now) (g.S.Source.left c.loop-i.source) (g.S.Source.left c.field.new.source) c.args.cursor.now c.loop-i.cursor c.in_err-field.field-0.0 c.loop-i.invariant.from c.loop-i.invariant.leaves c.in_err-field.ensures.leaves)
 
-pub body-returns-then-not-are_valid-clause-stop : goal.body-returns-then-not-are_valid-clause-stop
-body-returns-then-not-are_valid-clause-stop g t c =
-    refused_after (g.S.Source.left c.args.source.now) (g.S.Source.left c.fields.new.source) c.args.cursor.now c.fields.new.cursor c.at-at.result reasons.Invalid c.in_ok-fields.ensures.given.0 c.at-at.ensures c.in_ok-fields.ensures.stop
+pub body-returns-then-not-are_valid-clause-leaves : goal.body-returns-then-not-are_valid-clause-leaves
+body-returns-then-not-are_valid-clause-leaves g t c =
+    refused_after (g.S.Source.left c.args.source.now) (g.S.Source.left c.fields.new.source) c.args.cursor.now c.fields.new.cursor c.at-at.result reasons.Invalid c.in_ok-fields.ensures.given.0 c.at-at.ensures c.in_ok-fields.ensures.leaves

@@ -6,7 +6,7 @@ use Rattle.vms_parts.specs.Views.{field_of, desc_of}
 use Rattle.vms_load.specs.Bodies.{GoesOn}
 use Rattle.vms_load.specs.Bounds.{item_bytes, fields_bytes, desc_bytes, struct_bytes}
 use Rattle.vms_load.specs.Fit.{AreFitFields}
-use Rattle.vms_load.proofs.Stopping.{Moves}
+use Rattle.vms_load.proofs.Leaving.{Moves}
 use Rattle.vms_load.proofs.body.+body.Given as goal
 
 abbrev pub decreases-item : goal.decreases-item
@@ -38,7 +38,7 @@ invariant-items-loop-turn g l =
       place : l.cursor + (l.count - l._turn) * bytes ≤ l.initial.cursor + l.count * bytes;
       given : g.S.Source.given l.source ≡ capped (g.S.Source.given l.initial.source + (l.cursor - l.initial.cursor));
       later : g.S.Source.faults l.initial.source ≤ g.S.Source.faults l.source;
-      stop : Moves (g.S.Source.left l.initial.source) l.initial.cursor l.cursor (g.S.Source.left l.source);
+      leaves : Moves (g.S.Source.left l.initial.source) l.initial.cursor l.cursor (g.S.Source.left l.source);
       promise : g.S.Source.promise l.source ≡ g.S.Source.promise l.initial.source;
       kept : l.image ≡ record l.initial.image { numbers = l.image.numbers };
       long : length l.image.numbers ≡ length l.initial.image.numbers;
@@ -58,7 +58,7 @@ invariant-fields-loop-i g l =
       place : l.cursor + fields_bytes bytes (drop l.i all) ≤ l.initial.cursor + desc_bytes bytes (desc_of l.desc);
       given : g.S.Source.given l.source ≡ capped (g.S.Source.given l.initial.source + (l.cursor - l.initial.cursor));
       later : g.S.Source.faults l.initial.source ≤ g.S.Source.faults l.source;
-      stop : Moves (g.S.Source.left l.initial.source) l.initial.cursor l.cursor (g.S.Source.left l.source);
+      leaves : Moves (g.S.Source.left l.initial.source) l.initial.cursor l.cursor (g.S.Source.left l.source);
       promise : g.S.Source.promise l.source ≡ g.S.Source.promise l.initial.source;
       kept : l.image ≡ record l.initial.image { numbers = l.image.numbers };
       long : length l.image.numbers ≡ length l.initial.image.numbers;

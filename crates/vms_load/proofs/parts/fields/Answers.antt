@@ -12,7 +12,7 @@ use Rattle.vms_load.specs.Fit.{IsFit, AreFit, AreSizes}
 use Rattle.vms_load.proofs.PartReads.{open_in, fields_answer}
 use Rattle.vms_load.proofs.SetFacts.{well_of, good_of, desc_is, base_is, structs_are, structs_long}
 use Rattle.vms_load.proofs.WellFit.{structs_fit, part_fits, part_room, sizes_fit}
-use Rattle.vms_load.proofs.Stopping.{concerning_stops}
+use Rattle.vms_load.proofs.Leaving.{concerning_leaves}
 use Rattle.vms_load.proofs.parts.fields.Goals as goal
 
 pub body-requires-clause-whole : goal.body-requires-clause-whole
@@ -87,9 +87,9 @@ returns-in-Err-clause-reads g c = λ names state room.
     room c.requires.open c.requires.shaped.numbers c.args.cursor.now c.body.new.image.numbers c.body.new.image c.body.new.cursor
     (g.S.Source.left c.args.source.now) (g.S.Source.left c.body.new.source) (Err c.in-Err.fault) (g.met.S.Source.octets c.args.source.now) c.body.ensures.kept c.in-Err.ensures.taken)
 
-pub returns-in-Ok-clause-stop : goal.returns-in-Ok-clause-stop
-returns-in-Ok-clause-stop g c = c.in-Ok.ensures.stop
+pub returns-in-Ok-clause-leaves : goal.returns-in-Ok-clause-leaves
+returns-in-Ok-clause-leaves g c = c.in-Ok.ensures.leaves
 
-pub returns-in-Err-clause-stop : goal.returns-in-Err-clause-stop
-returns-in-Err-clause-stop g c =
-    rw c.concerning.ensures (concerning_stops (Some c.args.section.device) (g.S.Source.left c.args.source.now) (g.S.Source.left c.body.new.source) c.args.cursor.now c.in-Err.fault c.in-Err.ensures.stop)
+pub returns-in-Err-clause-leaves : goal.returns-in-Err-clause-leaves
+returns-in-Err-clause-leaves g c =
+    rw c.concerning.ensures (concerning_leaves (Some c.args.section.device) (g.S.Source.left c.args.source.now) (g.S.Source.left c.body.new.source) c.args.cursor.now c.in-Err.fault c.in-Err.ensures.leaves)

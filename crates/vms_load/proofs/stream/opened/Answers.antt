@@ -13,8 +13,8 @@ use Rattle.vms_load.specs.Staging.{image_at, name_of, state_of, sections_due}
 use Rattle.vms_load.proofs.OpenedReads.{begun, section_refused, section_reads, ends_later}
 use Rattle.vms_load.proofs.StagedLemmas.{image_begun, default_shaped, section_new, sections_taken}
 use Rattle.vms_load.proofs.Spending.{gives_behind, gives_up}
-use Rattle.vms_load.proofs.Stopping.{stops_on}
-use Rattle.vms_load.proofs.HeadStops.{section_stops, behind_moves}
+use Rattle.vms_load.proofs.Leaving.{leaves_on}
+use Rattle.vms_load.proofs.HeadLeaving.{section_leaves, behind_moves}
 use Rattle.vms_load.proofs.stream.opened.Goals as goal
 
 pub returns-in_err-device-clause-reads : goal.returns-in_err-device-clause-reads
@@ -103,18 +103,18 @@ returns-clause-given g c =
     let came = ap (λ (l : List Bool). sections_due set set.devices l) c.begin.ensures.came in
     gives_behind _ _ c.args.cursor.now c.read_section.new.cursor (part_due set (device_at set k) c.index_mut-image.result.now.came (Some (record { sub = None; version = c.index_mut-image.result.now.version }))) _ _ c.read_section.result (omega (arith, due, same, came)) c.read_section.ensures.given
 
--- ---- where the call stops
+-- ---- what the call leaves
 
-pub returns-in_err-device-clause-stop : goal.returns-in_err-device-clause-stop
-returns-in_err-device-clause-stop g c = λ bytes behind.
+pub returns-in_err-device-clause-leaves : goal.returns-in_err-device-clause-leaves
+returns-in_err-device-clause-leaves g c = λ bytes behind.
     let set = described c.args.set.now in
     let head = c.args.head.now in
     let p = err_from_is_err_and c.from_residual.result c.from_residual.ensures.1 in
     let is = sym (c.in_err-device.was) ∙ c.open_section.ensures.opened ∙ ap (λ (came : List Bool). opened_at c.args.at (section_opened set came head.name.items head.instance head.version)) c.deref.ensures.0 in
-    rw (p.1, p.2) (section_stops head c.args.at c.args.cursor.now bytes (g.S.Source.left c.args.source.now) set c.args.staged.now.came.items c.in_err-device.field-0.0 behind is)
+    rw (p.1, p.2) (section_leaves head c.args.at c.args.cursor.now bytes (g.S.Source.left c.args.source.now) set c.args.staged.now.came.items c.in_err-device.field-0.0 behind is)
 
-pub returns-clause-stop : goal.returns-clause-stop
-returns-clause-stop g c = λ bytes behind.
+pub returns-clause-leaves : goal.returns-clause-leaves
+returns-clause-leaves g c = λ bytes behind.
     let moved = behind_moves c.args.head.now c.args.at c.args.cursor.now bytes (g.S.Source.left c.args.source.now) behind in
-    stops_on (Some bytes) (g.S.Source.left c.args.source.now) (g.S.Source.left c.read_section.new.source) c.args.at c.args.cursor.now c.read_section.new.cursor c.read_section.result moved.0
-    (gives_up _ _ c.args.cursor.now c.read_section.new.cursor _ _ c.read_section.result c.read_section.ensures.given) moved.1 c.read_section.ensures.stop
+    leaves_on (Some bytes) (g.S.Source.left c.args.source.now) (g.S.Source.left c.read_section.new.source) c.args.at c.args.cursor.now c.read_section.new.cursor c.read_section.result moved.0
+    (gives_up _ _ c.args.cursor.now c.read_section.new.cursor _ _ c.read_section.result c.read_section.ensures.given) moved.1 c.read_section.ensures.leaves

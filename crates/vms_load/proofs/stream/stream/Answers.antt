@@ -9,8 +9,8 @@ use Rattle.vms_load.proofs.Bounding.{most_small, all_due}
 use Rattle.vms_load.proofs.ReadLemmas.{leads_on, reads_on}
 use Rattle.vms_load.proofs.Spending.{given_on}
 use Rattle.vms_load.proofs.StreamReads.{refused_before, closed}
-use Rattle.vms_load.proofs.Stopping.{moves_on, stops_at, concerning_stops}
-use Rattle.vms_load.proofs.HeadStops.{from_start, trailer_stops}
+use Rattle.vms_load.proofs.Leaving.{moves_on, leaves_at, concerning_leaves}
+use Rattle.vms_load.proofs.HeadLeaving.{from_start, trailer_leaves}
 use Rattle.vms_load.proofs.stream.stream.Goals as goal
 
 pub returns-in_err-head-clause-reads : goal.returns-in_err-head-clause-reads
@@ -105,31 +105,31 @@ returns-in-Err-clause-given g c =
     let due = ap (λ (l : List Bool). sections_due set set.devices l) came ∙ all_due set set.devices in
     omega (arith, due, c.in_ok-head.ensures.given, c.in_ok-sections.ensures.given, c.in-Err.ensures.given, c.new-cursor.ensures)
 
--- ---- where the call stops
+-- ---- what the call leaves
 
-pub returns-in_err-head-clause-stop : goal.returns-in_err-head-clause-stop
-returns-in_err-head-clause-stop g c =
+pub returns-in_err-head-clause-leaves : goal.returns-in_err-head-clause-leaves
+returns-in_err-head-clause-leaves g c =
     let p = err_from_is_err_and c.from_residual.result c.from_residual.ensures.1 in
-    rw (p.1, p.2) (from_start (g.S.Source.left c.args.source.now) (g.S.Source.left c.head.new.source) c.new-cursor.result c.in_err-head.field-0.0 c.new-cursor.ensures c.in_err-head.ensures.stop)
+    rw (p.1, p.2) (from_start (g.S.Source.left c.args.source.now) (g.S.Source.left c.head.new.source) c.new-cursor.result c.in_err-head.field-0.0 c.new-cursor.ensures c.in_err-head.ensures.leaves)
 
-pub returns-in_err-sections-clause-stop : goal.returns-in_err-sections-clause-stop
-returns-in_err-sections-clause-stop g c =
+pub returns-in_err-sections-clause-leaves : goal.returns-in_err-sections-clause-leaves
+returns-in_err-sections-clause-leaves g c =
     let first = g.S.Source.left c.args.source.now in
     let left = g.S.Source.left c.sections.new.source in
     let e = c.in_err-sections.field-0.0 in
     let p = err_from_is_err_and c.from_residual-in_err-sections.result c.from_residual-in_err-sections.ensures.1 in
     rw (p.1, p.2)
     (from_start first left c.new-cursor.result e c.new-cursor.ensures
-    (stops_at first (g.S.Source.left c.head.new.source) left c.new-cursor.result c.head.new.cursor e c.in_ok-head.ensures.given.0 c.in_ok-head.ensures.stop c.in_err-sections.ensures.stop))
+    (leaves_at first (g.S.Source.left c.head.new.source) left c.new-cursor.result c.head.new.cursor e c.in_ok-head.ensures.given.0 c.in_ok-head.ensures.leaves c.in_err-sections.ensures.leaves))
 
-pub returns-in-Err-clause-stop : goal.returns-in-Err-clause-stop
-returns-in-Err-clause-stop g c =
+pub returns-in-Err-clause-leaves : goal.returns-in-Err-clause-leaves
+returns-in-Err-clause-leaves g c =
     let first = g.S.Source.left c.args.source.now in
     let mid = g.S.Source.left c.sections.new.source in
     let left = g.S.Source.left c.trailer.new.source in
     let h = c.in_ok-head.ensures.given in
     let s = c.in_ok-sections.ensures.given in
-    let moved = moves_on first (g.S.Source.left c.head.new.source) mid c.new-cursor.result c.head.new.cursor c.sections.new.cursor h.0 s.0 c.in_ok-head.ensures.stop c.in_ok-sections.ensures.stop in
-    let stopped = concerning_stops None mid left c.sections.new.cursor c.in-Err.fault (trailer_stops mid left c.sections.new.cursor c.trailer.new.self c.in-Err.fault c.in-Err.ensures.content) in
+    let moved = moves_on first (g.S.Source.left c.head.new.source) mid c.new-cursor.result c.head.new.cursor c.sections.new.cursor h.0 s.0 c.in_ok-head.ensures.leaves c.in_ok-sections.ensures.leaves in
+    let stopped = concerning_leaves None mid left c.sections.new.cursor c.in-Err.fault (trailer_leaves mid left c.sections.new.cursor c.trailer.new.self c.in-Err.fault c.in-Err.ensures.content) in
     rw c.concerning.ensures
-    (from_start first left c.new-cursor.result (concerning None c.in-Err.fault) c.new-cursor.ensures (stops_at first mid left c.new-cursor.result c.sections.new.cursor (concerning None c.in-Err.fault) (omega (arith, h.0, s.0)) moved stopped))
+    (from_start first left c.new-cursor.result (concerning None c.in-Err.fault) c.new-cursor.ensures (leaves_at first mid left c.new-cursor.result c.sections.new.cursor (concerning None c.in-Err.fault) (omega (arith, h.0, s.0)) moved stopped))

@@ -1,4 +1,4 @@
--- Where a call that refuses has stopped: no byte past the unit at fault was taken.
+-- What a call that refuses has left: no byte past the unit at fault was taken.
 use Rattle.std.specs.Prelude.{◌≡◌, ℕ, ◌+◌, ◌-◌, ◌≤◌, ◌==◌, nat_lt, if◌then◌else◌, List, length, get_or, drop, Option, Some, Result, Ok, Err}
 use Rattle.vms_spec.specs.declared.Reason.{Reason}
 use Rattle.vms_spec.specs.declared.Reason.TheVariants as reasons
@@ -56,7 +56,7 @@ unit_long reasons.Trailing bytes = 1
 unit_long reasons.DescriptionTooLong bytes = 5
 unit_long _ bytes = 0
 
--- ---- where a call stops that began at a place, with this rest before it
+-- ---- what a call leaves that began at a place, with this rest before it
 
 -- A unit at this place was refused: it doesn't begin before the call did, and of what came, the bytes before it were taken
 -- and so many of its own, at most all.
@@ -67,24 +67,24 @@ pub record IsWithin (at : ℕ) (rest : List ℕ) (left : Option (List ℕ)) (pla
   pub behind : left ≡ Some (drop (place - at + taken) rest)
 
 -- what is left after a fault of the source is told by no contract
-abbrev pub StopsAt : ℕ → List ℕ → Option (List ℕ) → LoadFault → Type 0
-StopsAt at rest left (faults.Refused r) = IsWithin at rest left r.at r.reason
-StopsAt at rest left faults.ReadFault = Unit {0}
-StopsAt at rest left faults.NoMemory = Unit {0}
+abbrev pub LeavesAt : ℕ → List ℕ → Option (List ℕ) → LoadFault → Type 0
+LeavesAt at rest left (faults.Refused r) = IsWithin at rest left r.at r.reason
+LeavesAt at rest left faults.ReadFault = Unit {0}
+LeavesAt at rest left faults.NoMemory = Unit {0}
 
 -- at Ok the bytes up to the cursor's place were taken
-abbrev pub Stops : {X : Type 0} → ℕ → List ℕ → ℕ → Option (List ℕ) → Result X LoadFault → Type 0
-Stops at rest to left (Ok x) = left ≡ Some (drop (to - at) rest)
-Stops at rest to left (Err fault) = StopsAt at rest left fault
+abbrev pub Leaves : {X : Type 0} → ℕ → List ℕ → ℕ → Option (List ℕ) → Result X LoadFault → Type 0
+Leaves at rest to left (Ok x) = left ≡ Some (drop (to - at) rest)
+Leaves at rest to left (Err fault) = LeavesAt at rest left fault
 
 -- the same of a call that reads fields
-abbrev pub FieldsStopAt : ℕ → List ℕ → Option (List ℕ) → FrameFault → Type 0
-FieldsStopAt at rest left (frames.Refused place reason) = IsWithin at rest left place reason
-FieldsStopAt at rest left frames.ReadFault = Unit {0}
+abbrev pub FieldsLeaveAt : ℕ → List ℕ → Option (List ℕ) → FrameFault → Type 0
+FieldsLeaveAt at rest left (frames.Refused place reason) = IsWithin at rest left place reason
+FieldsLeaveAt at rest left frames.ReadFault = Unit {0}
 
-abbrev pub FieldsStop : {X : Type 0} → ℕ → List ℕ → ℕ → Option (List ℕ) → Result X FrameFault → Type 0
-FieldsStop at rest to left (Ok x) = left ≡ Some (drop (to - at) rest)
-FieldsStop at rest to left (Err fault) = FieldsStopAt at rest left fault
+abbrev pub FieldsLeave : {X : Type 0} → ℕ → List ℕ → ℕ → Option (List ℕ) → Result X FrameFault → Type 0
+FieldsLeave at rest to left (Ok x) = left ≡ Some (drop (to - at) rest)
+FieldsLeave at rest to left (Err fault) = FieldsLeaveAt at rest left fault
 
 -- the call began behind a section head, which stands at this place in front of these bytes
 pub record IsBehind (head : Head) (at : ℕ) (bytes : List ℕ) (to : ℕ) (left : Option (List ℕ)) : Type 0 where

@@ -1,4 +1,4 @@
--- Where a call stops that makes others.
+-- What a call leaves that makes others.
 use Rattle.std.proofs.Common.{◌≡◌, ℕ, ◌+◌, ◌-◌, ◌≤◌, List, length, drop, Option, Some, None, Result, Ok, Err, IfSome, IfOk, OnOk, sym, ap, ◌∙◌, subst, arith}
 use Rattle.std.proofs.lemmas.List.{drop-drop, drop_all}
 use Rattle.vms_spec.specs.declared.Reason.{Reason}
@@ -8,7 +8,7 @@ use Rattle.vms_frames.specs.Answers.{Answers, AnswersAfter, Refuses}
 use Rattle.vms_frames.specs.declared.fault.FrameFault.{FrameFault}
 use Rattle.vms_frames.specs.declared.fault.FrameFault.TheVariants as frames
 use Rattle.vms_load.specs.Reads.{concerning}
-use Rattle.vms_load.specs.Stops.{unit_long, IsWithin, StopsAt, Stops, FieldsStopAt, FieldsStop}
+use Rattle.vms_load.specs.Leaving.{unit_long, IsWithin, LeavesAt, Leaves, FieldsLeaveAt, FieldsLeave}
 use Rattle.vms_load.specs.declared.fault.LoadFault.{LoadFault}
 use Rattle.vms_load.specs.declared.fault.LoadFault.TheVariants as faults
 
@@ -44,36 +44,36 @@ moves_on (Some rest) mid new at to end le up first second =
     then ∙ ap (λ (l : List ℕ). Some l) (drop_on at to (end - to) rest le ∙ ap (λ (k : ℕ). drop k rest) far)
 
 -- a fault of the second call is one of both
-pub fields_stop_at : (old mid new : Option (List ℕ)) (at to : ℕ) (fault : FrameFault) → at ≤ to → Moves old at to mid
-    → IfSome mid (λ rest. FieldsStopAt to rest new fault) → IfSome old (λ rest. FieldsStopAt at rest new fault)
-fields_stop_at None mid new at to fault le first h = tt
-fields_stop_at (Some rest) mid new at to (frames.Refused place reason) le first h =
+pub fields_leave_at : (old mid new : Option (List ℕ)) (at to : ℕ) (fault : FrameFault) → at ≤ to → Moves old at to mid
+    → IfSome mid (λ rest. FieldsLeaveAt to rest new fault) → IfSome old (λ rest. FieldsLeaveAt at rest new fault)
+fields_leave_at None mid new at to fault le first h = tt
+fields_leave_at (Some rest) mid new at to (frames.Refused place reason) le first h =
     within_on at to place rest new reason le (subst (λ (o : Option (List ℕ)). IfSome o (λ rest. IsWithin to rest new place reason)) first h)
-fields_stop_at (Some rest) mid new at to frames.ReadFault le first h = tt
+fields_leave_at (Some rest) mid new at to frames.ReadFault le first h = tt
 
-pub stops_at : (old mid new : Option (List ℕ)) (at to : ℕ) (fault : LoadFault) → at ≤ to → Moves old at to mid
-    → IfSome mid (λ rest. StopsAt to rest new fault) → IfSome old (λ rest. StopsAt at rest new fault)
-stops_at None mid new at to fault le first h = tt
-stops_at (Some rest) mid new at to (faults.Refused r) le first h =
+pub leaves_at : (old mid new : Option (List ℕ)) (at to : ℕ) (fault : LoadFault) → at ≤ to → Moves old at to mid
+    → IfSome mid (λ rest. LeavesAt to rest new fault) → IfSome old (λ rest. LeavesAt at rest new fault)
+leaves_at None mid new at to fault le first h = tt
+leaves_at (Some rest) mid new at to (faults.Refused r) le first h =
     within_on at to r.at rest new r.reason le (subst (λ (o : Option (List ℕ)). IfSome o (λ rest. IsWithin to rest new r.at r.reason)) first h)
-stops_at (Some rest) mid new at to faults.ReadFault le first h = tt
-stops_at (Some rest) mid new at to faults.NoMemory le first h = tt
+leaves_at (Some rest) mid new at to faults.ReadFault le first h = tt
+leaves_at (Some rest) mid new at to faults.NoMemory le first h = tt
 
-pub stops_on : {X : Type 0} (old mid new : Option (List ℕ)) (at to end : ℕ) (result : Result X LoadFault) → at ≤ to → OnOk result (to ≤ end) → Moves old at to mid
-    → IfSome mid (λ rest. Stops to rest end new result) → IfSome old (λ rest. Stops at rest end new result)
-stops_on old mid new at to end (Ok x) le up first h = moves_on old mid new at to end le up first h
-stops_on old mid new at to end (Err fault) le up first h = stops_at old mid new at to fault le first h
+pub leaves_on : {X : Type 0} (old mid new : Option (List ℕ)) (at to end : ℕ) (result : Result X LoadFault) → at ≤ to → OnOk result (to ≤ end) → Moves old at to mid
+    → IfSome mid (λ rest. Leaves to rest end new result) → IfSome old (λ rest. Leaves at rest end new result)
+leaves_on old mid new at to end (Ok x) le up first h = moves_on old mid new at to end le up first h
+leaves_on old mid new at to end (Err fault) le up first h = leaves_at old mid new at to fault le first h
 
-pub fields_stop_on : {X : Type 0} (old mid new : Option (List ℕ)) (at to end : ℕ) (result : Result X FrameFault) → at ≤ to → OnOk result (to ≤ end) → Moves old at to mid
-    → IfSome mid (λ rest. FieldsStop to rest end new result) → IfSome old (λ rest. FieldsStop at rest end new result)
-fields_stop_on old mid new at to end (Ok x) le up first h = moves_on old mid new at to end le up first h
-fields_stop_on old mid new at to end (Err fault) le up first h = fields_stop_at old mid new at to fault le first h
+pub fields_leave_on : {X : Type 0} (old mid new : Option (List ℕ)) (at to end : ℕ) (result : Result X FrameFault) → at ≤ to → OnOk result (to ≤ end) → Moves old at to mid
+    → IfSome mid (λ rest. FieldsLeave to rest end new result) → IfSome old (λ rest. FieldsLeave at rest end new result)
+fields_leave_on old mid new at to end (Ok x) le up first h = moves_on old mid new at to end le up first h
+fields_leave_on old mid new at to end (Err fault) le up first h = fields_leave_at old mid new at to fault le first h
 
 -- a fault of fields beside the device concerned
-pub concerning_stops : (section : Option ℕ) (old left : Option (List ℕ)) (at : ℕ) (fault : FrameFault) → IfSome old (λ rest. FieldsStopAt at rest left fault) → IfSome old (λ rest. StopsAt at rest left (concerning section fault))
-concerning_stops section None left at fault h = tt
-concerning_stops section (Some rest) left at (frames.Refused place reason) h = h
-concerning_stops section (Some rest) left at frames.ReadFault h = tt
+pub concerning_leaves : (section : Option ℕ) (old left : Option (List ℕ)) (at : ℕ) (fault : FrameFault) → IfSome old (λ rest. FieldsLeaveAt at rest left fault) → IfSome old (λ rest. LeavesAt at rest left (concerning section fault))
+concerning_leaves section None left at fault h = tt
+concerning_leaves section (Some rest) left at (frames.Refused place reason) h = h
+concerning_leaves section (Some rest) left at frames.ReadFault h = tt
 
 -- ---- a unit
 
@@ -99,7 +99,7 @@ Fits P bytes (Whole x) = P x
 Fits P bytes (Wrong n reason) = n ≤ unit_long reason bytes
 Fits P bytes Cut = Unit {0}
 
-pub refused_unit : {X : Type 0} (P : X → Type 0) (found : Found X) (at : ℕ) (rest : List ℕ) (left : Option (List ℕ)) (fault : FrameFault) → Fits P rest found → Refuses found at rest left fault → FieldsStopAt at rest left fault
+pub refused_unit : {X : Type 0} (P : X → Type 0) (found : Found X) (at : ℕ) (rest : List ℕ) (left : Option (List ℕ)) (fault : FrameFault) → Fits P rest found → Refuses found at rest left fault → FieldsLeaveAt at rest left fault
 refused_unit P found at rest left frames.ReadFault fit a = tt
 refused_unit P (Whole x) at rest left (frames.Refused place reason) fit a = absurd a.1
 refused_unit P (Wrong n why) at rest left (frames.Refused place reason) fit a =
@@ -108,18 +108,18 @@ refused_unit P Cut at rest left (frames.Refused place reason) fit a =
     let enough : length rest ≤ length rest = omega arith in
     refused_here at rest left place reason (length rest) (subst (λ (r : Reason). length rest ≤ unit_long r rest) (sym a.1.0) (cut_long rest)) a.0 (a.1.1 ∙ ap (λ (l : List ℕ). Some l) (sym (drop_all (length rest) rest enough)))
 
-pub unit_stops : {X : Type 0} (long : X → ℕ) (P : X → Type 0) (found : Found X) (at to : ℕ) (rest : List ℕ) (left : Option (List ℕ)) (result : Result X FrameFault)
-    → Fits P rest found → IfOk result (λ x. to ≡ at + long x) → Answers long found at rest left result → FieldsStop at rest to left result
-unit_stops long P found at to rest left (Ok x) fit far a =
+pub unit_leaves : {X : Type 0} (long : X → ℕ) (P : X → Type 0) (found : Found X) (at to : ℕ) (rest : List ℕ) (left : Option (List ℕ)) (result : Result X FrameFault)
+    → Fits P rest found → IfOk result (λ x. to ≡ at + long x) → Answers long found at rest left result → FieldsLeave at rest to left result
+unit_leaves long P found at to rest left (Ok x) fit far a =
     let ahead : long x ≡ to - at = omega (arith, far) in
     a.1 ∙ ap (λ (n : ℕ). Some (drop n rest)) ahead
-unit_stops long P found at to rest left (Err fault) fit far a = refused_unit P found at rest left fault fit a
+unit_leaves long P found at to rest left (Err fault) fit far a = refused_unit P found at rest left fault fit a
 
 -- the same where it is told what is left
-pub unit_stops_in : {X : Type 0} (long : X → ℕ) (P : List ℕ → X → Type 0) (found : List ℕ → Found X) (old left : Option (List ℕ)) (at to : ℕ) (result : Result X FrameFault)
-    → ((rest : List ℕ) → Fits (P rest) rest (found rest)) → IfOk result (λ x. to ≡ at + long x) → IfSome old (λ rest. Answers long (found rest) at rest left result) → IfSome old (λ rest. FieldsStop at rest to left result)
-unit_stops_in long P found None left at to result fit far a = tt
-unit_stops_in long P found (Some rest) left at to result fit far a = unit_stops long (P rest) (found rest) at to rest left result (fit rest) far a
+pub unit_leaves_in : {X : Type 0} (long : X → ℕ) (P : List ℕ → X → Type 0) (found : List ℕ → Found X) (old left : Option (List ℕ)) (at to : ℕ) (result : Result X FrameFault)
+    → ((rest : List ℕ) → Fits (P rest) rest (found rest)) → IfOk result (λ x. to ≡ at + long x) → IfSome old (λ rest. Answers long (found rest) at rest left result) → IfSome old (λ rest. FieldsLeave at rest to left result)
+unit_leaves_in long P found None left at to result fit far a = tt
+unit_leaves_in long P found (Some rest) left at to result fit far a = unit_leaves long (P rest) (found rest) at to rest left result (fit rest) far a
 
 -- a whole unit is what was found
 pub found_whole : {X : Type 0} (P : X → Type 0) (bytes : List ℕ) (found : Found X) (x : X) → found ≡ Whole x → Fits P bytes found → P x
@@ -132,22 +132,22 @@ cut_whole : {X : Type 0} (x : X) → Cut ≡ Whole x → ⊥
 cut_whole x e = cc
 
 -- two units of four bytes, of which the second is judged where the first is right
-pub two_stop : (P Q : Unit {0} → Type 0) (first second : Found (Unit {0})) (at to : ℕ) (rest : List ℕ) (left : Option (List ℕ)) (result : Result (Unit {0}) FrameFault)
-    → Fits P rest first → Fits Q (drop 4 rest) second → OnOk result (to ≡ at + 8) → AnswersAfter first second at rest left result → FieldsStop at rest to left result
-two_stop P Q (Whole x) second at to rest left (Ok y) fit then far a =
+pub two_leave : (P Q : Unit {0} → Type 0) (first second : Found (Unit {0})) (at to : ℕ) (rest : List ℕ) (left : Option (List ℕ)) (result : Result (Unit {0}) FrameFault)
+    → Fits P rest first → Fits Q (drop 4 rest) second → OnOk result (to ≡ at + 8) → AnswersAfter first second at rest left result → FieldsLeave at rest to left result
+two_leave P Q (Whole x) second at to rest left (Ok y) fit then far a =
     let eight : 4 + 4 ≡ to - at = omega (arith, far) in
     a.1 ∙ ap (λ (l : List ℕ). Some l) (drop-drop 4 4 rest ∙ ap (λ (k : ℕ). drop k rest) eight)
-two_stop P Q (Whole x) second at to rest left (Err fault) fit then far a =
+two_leave P Q (Whole x) second at to rest left (Err fault) fit then far a =
     let four : 4 ≡ at + 4 - at = omega arith in
     let le : at ≤ at + 4 = omega arith in
-    fields_stop_at (Some rest) (Some (drop 4 rest)) left at (at + 4) fault le (ap (λ (k : ℕ). Some (drop k rest)) four) (refused_unit Q second (at + 4) (drop 4 rest) left fault then a)
-two_stop P Q (Wrong n why) second at to rest left (Ok y) fit then far a = absurd (wrong_whole n why y a.0)
-two_stop P Q (Wrong n why) second at to rest left (Err fault) fit then far a = refused_unit P (Wrong n why) at rest left fault fit a
-two_stop P Q Cut second at to rest left (Ok y) fit then far a = absurd (cut_whole y a.0)
-two_stop P Q Cut second at to rest left (Err fault) fit then far a = refused_unit P Cut at rest left fault fit a
+    fields_leave_at (Some rest) (Some (drop 4 rest)) left at (at + 4) fault le (ap (λ (k : ℕ). Some (drop k rest)) four) (refused_unit Q second (at + 4) (drop 4 rest) left fault then a)
+two_leave P Q (Wrong n why) second at to rest left (Ok y) fit then far a = absurd (wrong_whole n why y a.0)
+two_leave P Q (Wrong n why) second at to rest left (Err fault) fit then far a = refused_unit P (Wrong n why) at rest left fault fit a
+two_leave P Q Cut second at to rest left (Ok y) fit then far a = absurd (cut_whole y a.0)
+two_leave P Q Cut second at to rest left (Err fault) fit then far a = refused_unit P Cut at rest left fault fit a
 
 pub unit_refused_in : {X : Type 0} (P : List ℕ → X → Type 0) (found : List ℕ → Found X) (old left : Option (List ℕ)) (at : ℕ) (fault : FrameFault)
-    → ((rest : List ℕ) → Fits (P rest) rest (found rest)) → IfSome old (λ rest. Refuses (found rest) at rest left fault) → IfSome old (λ rest. FieldsStopAt at rest left fault)
+    → ((rest : List ℕ) → Fits (P rest) rest (found rest)) → IfSome old (λ rest. Refuses (found rest) at rest left fault) → IfSome old (λ rest. FieldsLeaveAt at rest left fault)
 unit_refused_in P found None left at fault fit a = tt
 unit_refused_in P found (Some rest) left at fault fit a = refused_unit (P rest) (found rest) at rest left fault (fit rest) a
 
