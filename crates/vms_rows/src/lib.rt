@@ -5,6 +5,8 @@
 #[cfg(test)]
 mod boards;
 #[cfg(test)]
+mod cuts;
+#[cfg(test)]
 mod refusals;
 #[cfg(test)]
 mod sets;
