@@ -21,4 +21,6 @@ pub use vms_parts::{
 pub use vms_rules::DescFault;
 
 #[cfg(test)]
+mod path_tests;
+#[cfg(test)]
 mod tests;

@@ -16,3 +16,6 @@ mod structs;
 
 pub use fault::DescFault;
 pub use sets::check;
+
+#[cfg(test)]
+mod tests;
