@@ -58,7 +58,7 @@ impl Loader {
     /// Takes one stream from the source, and answers the machine that it names, or none.
     ///
     /// `only` names the one machine that is accepted in place of the set's. After an error the loader's images
-    /// and what it took are as they were, and after a refusal no byte past the unit at fault was taken.
+    /// and what it took are as they were.
     pub fn load<S: Source>(
         &mut self,
         source: &mut S,
