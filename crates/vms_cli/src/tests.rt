@@ -93,7 +93,7 @@ fn after_head(alloc: Global, rest: &[u8]) -> Result<Vec<u8>, Fail> {
 fn changed(alloc: Global, at: usize, other: &[u8], more: &[u8]) -> Result<Vec<u8>, Fail> {
     let mut bytes = SMALLEST.to_vec(alloc)?;
     for (i, byte) in other.iter().enumerate() {
-        if let Some(place) = bytes.get_mut(at + i) {
+        if let Some(place) = bytes.get_mut(at.saturating_add(i)) {
             *place = *byte;
         }
     }
