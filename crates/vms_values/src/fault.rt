@@ -5,10 +5,6 @@ use vms_image::Image;
 use vms_io::NoMemory;
 use vms_spec::ValuesReason;
 
-/// The sink failed.
-#[derive(Clone, Copy, Debug, PartialEq, Eq)]
-pub struct WriteFault;
-
 /// What a values text says: the number of the machine that it names, and an image for each device.
 #[derive(Drop)]
 pub struct Values {

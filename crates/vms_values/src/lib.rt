@@ -11,7 +11,7 @@ mod print;
 mod read;
 mod text;
 
-pub use fault::{Values, ValuesFault, WriteFault};
+pub use fault::{Values, ValuesFault};
 pub use print::print_values;
 pub use read::read_values;
 pub use vms_spec::ValuesReason;

@@ -13,7 +13,6 @@ ghost use Rattle.vms_values.specs.Tables.{printers_in};
 ghost use Rattle.vms_values.specs.Plain.{IsPlainSet, IsPlainDevice, ArePlain, IsPlainField};
 ghost use Rattle.vms_values.specs.Printing.{AreOf, IsOf, machine_of, section_text, field_text};
 
-use crate::WriteFault;
 use crate::lines::write_pieces;
 use crate::path::{Path, write_path};
 use itoa::Buffer;
@@ -21,6 +20,7 @@ use vms_desc::{Desc, DescSet, Device, Field, Parts};
 use vms_image::Image;
 use vms_io::{Failed, Sink};
 use vms_kinds::Item;
+use vms_write::WriteFault;
 
 /// Appends the values text of these images, one for each device of the set, with a line for the machine of
 /// this number of the set if one is named. After an error some first bytes of it were appended.
