@@ -2,7 +2,7 @@
 use Rattle.std.proofs.Common.{◌≡◌, ℕ, zero, suc, ◌+◌, ◌*◌, ◌<◌, ◌≤◌, List, [], ◌∷◌, ◌++◌, length, length-append, get_or, take, map, Option, None, refl, sym, ap, ◌∙◌, subst, arith, Bool, true, false, nat_lt}
 use Rattle.std.proofs.lemmas.Bool.{ltb-true, ltb-false}
 use Rattle.std.proofs.lemmas.List.{get_or_append_left, length-map, map-append}
-use Rattle.vms_spec.specs.Layout.{counted, capacity_of, no_field, no_desc}
+use Rattle.vms_spec.specs.Layout.{capacity_of, no_field, no_desc}
 use Rattle.vms_spec.specs.Sets.{Field, Desc, Sub, Device, AtLeast}
 use Rattle.std.proofs.Math.ListN.{get_or-map}
 use Rattle.vms_desc.specs.Parts.{sub_at}
@@ -12,9 +12,8 @@ use Rattle.vms_parts.specs.Sizes.{in_u32, size_of, fields_size}
 use Rattle.vms_parts.specs.declared.types.Device.{Device as CodeDevice}
 use Rattle.vms_parts.specs.Views.{field_of, device_of}
 use Rattle.vms_parts.proofs.Items.{get_map_at}
-use Rattle.vms_desc.specs.Asks.{least_of}
 use Rattle.vms_desc.specs.declared.table.Table.{Table}
-use Rattle.vms_desc.specs.Tables.{AreStarts, AreMosts, IsTable, no_table, AreTables, device_fields, AreDeviceTables}
+use Rattle.vms_desc.specs.Tables.{AreStarts, IsTable, no_table, AreTables, device_fields, AreDeviceTables}
 
 last_of : {X : Type 0} (xs : List X) (x d : X) (k : ℕ) → length xs ≡ k → get_or (xs ++ x ∷ []) k d ≡ x
 last_of [] x d zero e = refl

@@ -1,5 +1,5 @@
 -- What a walk over a set asks of it.
-use Rattle.std.specs.Prelude.{ℕ, ◌+◌, ◌≤◌, Bool, min, List, [], ◌∷◌, length, get_or, ℤ, Option, Some, None}
+use Rattle.std.specs.Prelude.{ℕ, ◌+◌, ◌≤◌, Bool, List, length, get_or, ℤ}
 use Rattle.vms_spec.specs.declared.Part.{Part}
 use Rattle.vms_spec.specs.declared.Part.TheVariants as parts
 use Rattle.vms_spec.specs.Sets.{Field, Set}
@@ -30,17 +30,3 @@ HasCells set part numbers base = base + own_cell_count set (desc_at set part) �
 -- whether subsection j of device i is needed, where the device's cells have these numbers
 abbrev pub needed_at : Set → ℕ → ℕ → List ℤ → Bool
 needed_at set i j numbers = is_needed set (device_at set i) (record { version = 0; came = []; numbers = numbers }) (sub_at (device_at set i) j) j
-
--- ---- the least of the capacities that a number counts
-
-abbrev pub lesser : Option ℕ → ℕ → Option ℕ
-lesser None most = Some most
-lesser (Some least) most = Some (min least most)
-
-abbrev pub least_from : Option ℕ → List ℕ → Option ℕ
-least_from least [] = least
-least_from least (most ∷ capacities) = least_from (lesser least most) capacities
-
--- none where it counts no array
-abbrev pub least_of : List ℕ → Option ℕ
-least_of capacities = least_from None capacities

@@ -1,10 +1,10 @@
 -- What is worked out once for each description.
-use Rattle.std.specs.Prelude.{◌≡◌, ℕ, suc, ◌<◌, ◌≤◌, List, [], ◌∷◌, length, get_or, take, map, Option, None}
-use Rattle.vms_spec.specs.Layout.{counted, no_desc}
+use Rattle.std.specs.Prelude.{◌≡◌, ℕ, suc, ◌<◌, ◌≤◌, List, [], ◌∷◌, length, get_or, take, map}
+use Rattle.vms_spec.specs.Layout.{no_desc}
 use Rattle.vms_spec.specs.Sets.{Field, Desc, Sub, Device}
 use Rattle.vms_parts.specs.declared.sizes.Measure.TheVariants.{Cells}
 use Rattle.vms_parts.specs.Sizes.{in_u32, fields_size}
-use Rattle.vms_desc.specs.Asks.{least_of}
+use Rattle.vms_parts.specs.Capacities.{AreLeast}
 use Rattle.vms_desc.specs.declared.table.Table.{Table}
 
 -- where the cells of each field begin, and last where those of all fields end
@@ -12,14 +12,9 @@ pub record AreStarts (sizes : List ℕ) (fields : List Field) (starts : List ℕ
   pub long : length starts ≡ suc (length fields)
   pub start : (k : ℕ) → k ≤ length fields → get_or starts k 0 ≡ in_u32 (fields_size Cells sizes (take k fields))
 
--- the least of the capacities that each field counts
-pub record AreMosts (fields : List Field) (mosts : List (Option ℕ)) : Type 0 where
-  pub long : length mosts ≡ length fields
-  pub most : (k : ℕ) → k < length fields → get_or mosts k None ≡ least_of (counted k fields)
-
 pub record IsTable (sizes : List ℕ) (fields : List Field) (table : Table) : Type 0 where
   pub starts : AreStarts sizes fields table.starts
-  pub mosts : AreMosts fields table.mosts
+  pub mosts : AreLeast fields table.mosts
 
 abbrev pub no_table : Table
 no_table = record { starts = []; mosts = [] }

@@ -3,9 +3,10 @@ ghost use Rattle.std.specs.Prelude.{◌≡◌, ◌<◌, ◌≤◌, ◌*◌, leng
 ghost use Rattle.vms_spec.specs.Layout.{capacity_of, elements_of, counted, all_hold, item_size, struct_cells, device_cells, no_parent};
 ghost use Rattle.vms_spec.specs.Tests.{is_there};
 ghost use Rattle.vms_spec.specs.declared.Part.TheVariants as parts;
+ghost use Rattle.vms_parts.specs.Capacities.{least_of};
 ghost use Rattle.vms_parts.specs.Sizes.{in_u32};
 ghost use Rattle.vms_laws.specs.Good.{IsGood};
-ghost use Rattle.vms_desc.specs.Asks.{first_cell, field_at, own_numbers, needed_at, HasCells, least_of};
+ghost use Rattle.vms_desc.specs.Asks.{first_cell, field_at, own_numbers, needed_at, HasCells};
 ghost use Rattle.vms_desc.specs.Parts.{HasPart, desc_at};
 ghost use Rattle.vms_desc.specs.Scopes.{IsScope};
 

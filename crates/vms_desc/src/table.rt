@@ -1,12 +1,10 @@
 // What walks ask of descriptions again and again, worked out once.
-ghost use Rattle.std.specs.Prelude.{◌≡◌, ◌∷◌, length, map, if◌then◌else◌, IfOk};
-ghost use Rattle.vms_spec.specs.Layout.{counted};
+ghost use Rattle.std.specs.Prelude.{◌≡◌, ◌∷◌, length, map, IfOk};
 ghost use Rattle.vms_parts.specs.Views.{field_of, desc_of, sub_of, device_of};
-ghost use Rattle.vms_desc.specs.Asks.{lesser, least_of};
-ghost use Rattle.vms_desc.specs.Tables.{AreStarts, AreMosts, IsTable, AreTables, AreDeviceTables, device_fields};
+ghost use Rattle.vms_desc.specs.Tables.{AreStarts, IsTable, AreTables, AreDeviceTables, device_fields};
 
 use std::alloc::{AllocError, Global};
-use vms_parts::{Count, Desc, Device, Field, Listed, Measure, capacity, item_size};
+use vms_parts::{Desc, Device, Field, Listed, Measure, capacity, item_size, least_capacities};
 
 // Of one description.
 #[derive(Drop)]
@@ -21,7 +19,7 @@ fn table_of(alloc: Global, sizes: &[u32], fields: &[Field]) -> Result<Table, All
     ensures { IfOk result (λ table. IsTable sizes.now (map field_of fields.now) table) }
 {
     let starts = starts(alloc, sizes, fields)?;
-    let mosts = mosts(alloc, fields)?;
+    let mosts = least_capacities(alloc, fields)?;
     Ok(Table {
         starts: Listed::new(starts),
         mosts: Listed::new(mosts),
@@ -40,39 +38,6 @@ fn starts(alloc: Global, sizes: &[u32], fields: &[Field]) -> Result<Vec<u32>, Al
         starts.push(sum)?;
     }
     Ok(starts)
-}
-
-fn mosts(alloc: Global, fields: &[Field]) -> Result<Vec<Option<u32>>, AllocError>
-    ensures { IfOk result (λ mosts. AreMosts (map field_of fields.now) mosts.items) }
-{
-    let mut mosts = Vec::new(alloc);
-    for number in 0..fields.len() {
-        mosts.push(least_counted(fields, number))?;
-    }
-    Ok(mosts)
-}
-
-// The least of the capacities of the arrays whose elements the field of this number counts.
-fn least_counted(fields: &[Field], number: usize) -> Option<u32>
-    ensures { result ≡ least_of (counted number (map field_of fields.now)) }
-{
-    let mut least = None;
-    for field in fields {
-        if let Count::Counted { by, capacity } = field.count {
-            least = lesser_if(by as usize == number, least, capacity);
-        }
-    }
-    least
-}
-
-fn lesser_if(counts: bool, least: Option<u32>, capacity: u32) -> Option<u32>
-    ensures { result ≡ (if counts then lesser least capacity else least) }
-{
-    match least {
-        _ if !counts => least,
-        None => Some(capacity),
-        Some(least) => Some(least.min(capacity)),
-    }
 }
 
 // Those of each structure.

@@ -1,3 +1,4 @@
+pub mod Capacities
 pub mod Devices
 pub mod Sizes
 pub mod Views

@@ -3,10 +3,12 @@
 //! The types follow VMState's `VMStateDescription` and `VMStateField`.
 #![tactic(auto)]
 
+mod capacities;
 mod listed;
 mod sizes;
 mod types;
 
+pub use capacities::least_capacities;
 pub use listed::{Listed, Text};
 pub use sizes::{Measure, capacity, item_size, size_of_fields, struct_sizes};
 pub use types::{CellForm, Desc, Device, Field, Parts, Sub, Test};

@@ -2,26 +2,27 @@
 ghost use Rattle.std.specs.Prelude.{◌≡◌, ◌<◌, ◌≤◌, ◌&&◌, ◌||◌, ◌∷◌, ℕ, List, IfOk, OnOk, length, map, take, nat_le};
 ghost use Rattle.std.specs.Option.{option_map};
 ghost use Rattle.vms_spec.specs.Names.{all_names, are_new};
-ghost use Rattle.vms_spec.specs.Rules.{test_names_well, count_names_well, is_counting, uses_below, defaults_well, is_small_item, has_good_count, is_small_optional, is_earlier_in, in_range, field_rules};
+ghost use Rattle.vms_spec.specs.Layout.{counted};
+ghost use Rattle.vms_spec.specs.Rules.{counts_well, test_names_well, count_names_well, is_counting, uses_below, defaults_well, is_small_item, has_good_count, is_small_optional, is_earlier_in, in_range, field_rules};
 ghost use Rattle.vms_spec.specs.Lists.{at, every};
 ghost use Rattle.vms_spec.specs.Names.{is_name};
 ghost use Rattle.vms_spec.specs.WellFormed.{fields_fault};
 ghost use Rattle.vms_spec.specs.Streams.{is_one_of};
+ghost use Rattle.vms_parts.specs.Capacities.{AreLeast};
 ghost use Rattle.vms_parts.specs.Views.{formula, field_of, desc_of};
-ghost use Rattle.vms_rules.specs.Capacities.{AreLeast, fits};
 ghost use Rattle.vms_rules.specs.Judged.{Judges};
 ghost use Rattle.vms_rules.specs.NameSets.{has_name, are_new_to};
 ghost use Rattle.vms_rules.specs.Naming.{may_name};
 
 use crate::DescFault;
-use crate::capacities::{fits, least_capacities};
+use crate::capacities::fits;
 use crate::fault::lowest;
 use crate::formulas::{Scope, is_small_if_any, may_name, names_well};
 use crate::names::{add_name, add_names, are_names, is_name};
 use std::alloc::{AllocError, Global};
 use std::collections::BTreeSet;
 use vms_kinds::{Item, Kind};
-use vms_parts::{Count, Desc, Field, Part, Place, Test};
+use vms_parts::{Count, Desc, Field, Part, Place, Test, least_capacities};
 
 // The fields before the one of this number, which its test and its count may name.
 #[tactic(auto, using(crate::proofs::FieldLaws::earlier_is))]
@@ -144,7 +145,7 @@ struct Judged<'a> {
 fn field_rules(judged: Judged, number: usize, field: &Field, is_new: bool) -> [bool; 8]
     requires there { number < length judged.desc.now.fields }
     requires long { length judged.capacities.now ≡ length judged.desc.now.fields }
-    requires least { AreLeast judged.capacities.now (map field_of judged.desc.now.fields) }
+    requires least { AreLeast (map field_of judged.desc.now.fields) judged.capacities.now }
     requires names { is_new ≡ are_new (all_names (take number (map field_of judged.desc.now.fields))) (field.now.name ∷ field.now.former) }
     ensures { result ≡ field_rules judged.entry.usable (desc_of judged.entry.desc.now) number (field_of field.now) }
 {
@@ -155,17 +156,21 @@ fn field_rules(judged: Judged, number: usize, field: &Field, is_new: bool) -> [b
         true,
         test_names_well(desc, number, &field.test) && count_names_well(desc, number, field.count),
         uses_below(judged.usable, field.item),
-        has_good_default(field) && counts_well(judged.capacities[number], field),
+        has_good_default(field) && counts_well(judged, number, field),
         is_small(field),
         has_good_count(field.item, field.count),
     ]
 }
 
-// Whether a default is at most the least capacity that its number counts.
-fn counts_well(least: Option<u32>, field: &Field) -> bool
-    ensures { result ≡ fits least field.now.default }
+// Whether the default of the field of this number is at most each capacity that it counts.
+#[tactic(auto, using(crate::proofs::CapacityLaws::least_fits))]
+fn counts_well(judged: Judged, number: usize, field: &Field) -> bool
+    requires there { number < length judged.desc.now.fields }
+    requires long { length judged.capacities.now ≡ length judged.desc.now.fields }
+    requires least { AreLeast (map field_of judged.desc.now.fields) judged.capacities.now }
+    ensures { result ≡ counts_well (counted number (map field_of judged.entry.desc.now.fields)) field.now.default }
 {
-    fits(least, field.default)
+    fits(judged.capacities[number], field.default)
 }
 
 // Adds the names of a field, and says whether all are new.

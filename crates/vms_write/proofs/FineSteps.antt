@@ -14,7 +14,8 @@ use Rattle.vms_laws.proofs.AboveLaws.{above_none, meanings_above, items_above, f
 use Rattle.vms_laws.proofs.CellLaws.{meanings_are}
 use Rattle.vms_laws.proofs.Places.{field_size}
 use Rattle.vms_parts.specs.declared.types.CellForm.{CellForm}
-use Rattle.vms_desc.specs.Asks.{field_at, own_numbers, lesser, least_from, least_of}
+use Rattle.vms_desc.specs.Asks.{field_at, own_numbers}
+use Rattle.vms_parts.specs.Capacities.{lesser, least_from, least_of}
 use Rattle.vms_desc.specs.Formed.{is_well_formed}
 use Rattle.vms_desc.specs.Parts.{desc_at}
 use Rattle.vms_desc.proofs.Clean.{reach, field_clean}

@@ -13,7 +13,8 @@ use Rattle.vms_parts.specs.declared.types.Desc.{Desc as CodeDesc}
 use Rattle.vms_parts.specs.declared.types.Field.{Field as CodeField}
 use Rattle.vms_desc.specs.Formed.{is_well_formed}
 use Rattle.vms_write.specs.declared.walk.Spot.{Spot}
-use Rattle.vms_desc.specs.Asks.{field_at, least_of}
+use Rattle.vms_desc.specs.Asks.{field_at}
+use Rattle.vms_parts.specs.Capacities.{least_of}
 use Rattle.vms_desc.specs.Described.{described}
 use Rattle.vms_desc.specs.Parts.{desc_at}
 use Rattle.vms_desc.proofs.AskLaws.{found_field}

@@ -1,11 +1,9 @@
 use Rattle.std.proofs.Common.{◌≡◌, ◌+◌, List, ℕ, Option, None, length, get_or, drop, take, ◌++◌, map, ap, ◌∙◌, arith}
-use Rattle.std.specs.Prelude.{◌&&◌}
 use Rattle.vms_spec.specs.Layout.{counted}
-use Rattle.vms_spec.specs.Rules.{counts_well}
 use Rattle.vms_parts.specs.Views.{field_of}
-use Rattle.vms_rules.specs.Capacities.{fits, counted_in}
-use Rattle.vms_rules.proofs.CapacityLaws.{least_more, counted_long, written_back}
-use Rattle.vms_rules.proofs.capacities.least_capacities.Goals as goal
+use Rattle.vms_parts.specs.Capacities.{least_from, counted_in}
+use Rattle.vms_parts.proofs.CapacityLaws.{least_more, counted_long, written_back}
+use Rattle.vms_parts.proofs.capacities.least_capacities.Goals as goal
 
 pub loop-field-preserved : goal.loop-field-preserved
 loop-field-preserved c =
@@ -17,7 +15,7 @@ loop-field-preserved c =
     written_back items c.count_in.new.table c.loop-field.table.len long c.loop-field.table.ok.0 ∙ new_is in
     record {
       long = ap length whole ∙ counted_long count items ∙ c.loop-field.invariant.long;
-      least = λ i z lt.
-          ap (λ (t : List (Option ℕ)). fits (get_or t i None) z && counts_well (counted i (map field_of (drop (c.loop-field.field-index + 1) c.args.fields.now))) z) whole
-          ∙ least_more c.args.fields.now c.loop-field.field-index c.field-item.result items i z _ c.loop-field-test.true c.field-item.is (omega (arith, c.loop-field.invariant.long, lt)) (c.loop-field.invariant.least i z lt);
+      least = λ i lt.
+          ap (λ (t : List (Option ℕ)). least_from (get_or t i None) (counted i (map field_of (drop (c.loop-field.field-index + 1) c.args.fields.now)))) whole
+          ∙ least_more c.args.fields.now c.loop-field.field-index c.field-item.result items i _ c.loop-field-test.true c.field-item.is (omega (arith, c.loop-field.invariant.long, lt)) (c.loop-field.invariant.least i lt);
     }
