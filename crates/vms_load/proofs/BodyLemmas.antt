@@ -1,6 +1,5 @@
 -- Readings of fields that go on.
-use Rattle.std.proofs.Common.{◌≡◌, ℕ, suc, zero, ◌+◌, ◌*◌, ◌<◌, ◌≤◌, List, [], ◌∷◌, length, get_or, map, take, slice_set, Option, Some, None, Result, Ok, Err, IfSome, OnOk, ℤ, refl, sym, ap, ◌∙◌, subst, arith, Bool, true, false, if◌then◌else◌, nat_lt}
-use Rattle.std.proofs.lemmas.List.{length-map}
+use Rattle.std.proofs.Common.{◌≡◌, ℕ, suc, zero, ◌+◌, ◌*◌, List, [], ◌∷◌, length, take, slice_set, Option, Some, None, Result, Ok, Err, IfSome, OnOk, ℤ, refl, sym, ap, ◌∙◌, subst, arith, Bool, true, false, if◌then◌else◌, nat_lt}
 use Rattle.vms_kinds.specs.declared.Kind.{Kind}
 use Rattle.vms_kinds.specs.Codes.{width, value_of}
 use Rattle.vms_kinds.specs.declared.Item.{Item}
@@ -9,20 +8,14 @@ use Rattle.vms_spec.specs.declared.Reason.TheVariants as reasons
 use Rattle.vms_spec.specs.Numbers.{same_number, exceeds}
 use Rattle.vms_spec.specs.Judging.{is_bad_bool}
 use Rattle.vms_spec.specs.Sets.{Desc, Field}
-use Rattle.vms_spec.specs.Tests.{is_there}
-use Rattle.vms_spec.specs.Layout.{desc_cells, item_size, field_cells, capacity_of, counted, numbers_of, all_hold, elements_of, no_parent}
-use Rattle.vms_spec.specs.Taking.{takers, cells_of, Taker, Taken, Progress, Refusal, refuse, on, take_number, take_constant, take_filler, take_item, take_items, take_desc, take_field, take_fields, take_rule, check_rules, ◌>>=◌}
+use Rattle.vms_spec.specs.Layout.{item_size, field_cells, capacity_of, numbers_of, all_hold}
+use Rattle.vms_spec.specs.Taking.{cells_of, Taker, Taken, Progress, Refusal, refuse, on, take_number, take_constant, take_filler, take_item, take_items, take_desc, take_field, take_fields, take_rule, check_rules, ◌>>=◌}
 use Rattle.vms_laws.proofs.Places.{field_size}
-use Rattle.vms_parts.specs.declared.types.Desc.{Desc as CodeDesc}
-use Rattle.vms_parts.specs.Views.{desc_of}
 use Rattle.vms_frames.specs.Found.{Found, Whole, Wrong, Cut, skip_found}
 use Rattle.vms_frames.specs.Answers.{Answers}
 use Rattle.vms_frames.specs.declared.fault.FrameFault.{FrameFault}
 use Rattle.vms_frames.specs.declared.fault.FrameFault.TheVariants as faults
 use Rattle.vms_load.specs.Bodies.{TakesAs, GoesOn, capped_found, constant_found}
-use Rattle.vms_load.specs.Bounds.{item_bytes, desc_bytes, struct_bytes}
-use Rattle.vms_load.specs.Fit.{AreFit, IsFit}
-use Rattle.vms_load.proofs.Tables.{takers_at, cells_at, desc_at, first_at}
 
 -- ---- one unit
 
@@ -207,48 +200,7 @@ module _ (ts : List Taker) (item : Item) (caps : List ℕ) (size n m cell : ℕ)
 pub items_none : (ts : List Taker) (item : Item) (caps : List ℕ) (size n cell : ℕ) (p : Progress) → n ≡ 0 → Ok p ≡ take_items ts item caps size n cell p
 items_none ts item caps size n cell p e = ap (λ (k : ℕ). take_items ts item caps size k cell p) (sym e)
 
--- ---- structures
-
-pub fit_at : (ds : List CodeDesc) (j : ℕ) (d : CodeDesc) → j < length ds → d ≡ get_or ds j d → AreFit (map desc_of ds) → IsFit j (desc_of d)
-fit_at ds j d lt is fit = subst (IsFit j) (desc_at ds j d lt is) (fit.each j (simp length-map lt))
-
-pub room_at : (ds : List CodeDesc) (k j cell n : ℕ) (d : CodeDesc) (item : Item) → item ≡ Struct j → j < k → j < length ds → d ≡ get_or ds j d
-    → cell + item_size (cells_of (takers (map desc_of ds) k)) item ≤ n
-    → cell + length (desc_cells (cells_of (takers (map desc_of ds) j)) (desc_of d)) ≤ n
-room_at ds k j cell n d item at below lt is room =
-    let e : item_size (cells_of (takers (map desc_of ds) k)) item ≡ length (desc_cells (cells_of (takers (map desc_of ds) j)) (desc_of d)) =
-    ap (λ (i : Item). item_size (cells_of (takers (map desc_of ds) k)) i) at ∙ ap length (cells_at (map desc_of ds) k j below)
-    ∙ ap (λ (x : Desc). length (desc_cells (cells_of (takers (map desc_of ds) j)) x)) (desc_at ds j d lt is) in
-    omega arith
-
-pub bytes_at : (ds : List CodeDesc) (k j : ℕ) (d : CodeDesc) (item : Item) → item ≡ Struct j → j < k → j < length ds → d ≡ get_or ds j d
-    → item_bytes (struct_bytes (map desc_of ds) k) item ≡ desc_bytes (struct_bytes (map desc_of ds) j) (desc_of d)
-bytes_at ds k j d item at below lt is =
-    ap (λ (i : Item). item_bytes (struct_bytes (map desc_of ds) k) i) at ∙ first_at desc_bytes (map desc_of ds) 0 k j below
-    ∙ ap (λ (x : Desc). desc_bytes (struct_bytes (map desc_of ds) j) x) (desc_at ds j d lt is)
-
--- a structure as an item is its description, read at its own version
-pub struct_taken : (ds : List CodeDesc) (k j : ℕ) (d : CodeDesc) (item : Item) (caps : List ℕ) (cell : ℕ) (p : Progress) → item ≡ Struct j → j < k → j < length ds → d ≡ get_or ds j d
-    → take_desc (takers (map desc_of ds) j) (desc_of d) d.version cell p ≡ take_item (takers (map desc_of ds) k) item caps cell p
-struct_taken ds k j d item caps cell p at below lt is =
-    sym (ap (λ (i : Item). take_item (takers (map desc_of ds) k) i caps cell p) at ∙ ap (λ (t : Taker). t.takes cell p) (takers_at (map desc_of ds) k j below)
-    ∙ ap (λ (x : Desc). take_desc (takers (map desc_of ds) j) x x.version cell p) (desc_at ds j d lt is))
-
 -- ---- fields
-
-pub absent : (ts : List Taker) (d : Desc) (v base i cell : ℕ) (f : Field) (p : Progress) → is_there f.test f.since v (numbers_of (cells_of ts) d p.numbers base) no_parent ≡ false
-    → Ok p ≡ take_field ts d v base i cell f p
-absent ts d v base i cell f p e =
-    let own = numbers_of (cells_of ts) d p.numbers base in
-    ap (λ (b : Bool). if b then take_items ts f.item (counted i d.fields) (item_size (cells_of ts) f.item) (elements_of f.count own) cell p else Ok p) (sym e)
-
-pub there : (ts : List Taker) (d : Desc) (v base i cell n : ℕ) (f : Field) (p : Progress) → is_there f.test f.since v (numbers_of (cells_of ts) d p.numbers base) no_parent ≡ true
-    → n ≡ elements_of f.count (numbers_of (cells_of ts) d p.numbers base)
-    → take_items ts f.item (counted i d.fields) (item_size (cells_of ts) f.item) n cell p ≡ take_field ts d v base i cell f p
-there ts d v base i cell n f p e en =
-    let own = numbers_of (cells_of ts) d p.numbers base in
-    ap (λ (n : ℕ). take_items ts f.item (counted i d.fields) (item_size (cells_of ts) f.item) n cell p) en
-    ∙ ap (λ (b : Bool). if b then take_items ts f.item (counted i d.fields) (item_size (cells_of ts) f.item) (elements_of f.count own) cell p else Ok p) (sym e)
 
 module _ (ts : List Taker) (d : Desc) (v base i cell : ℕ) (f : Field) (fs left : List Field) (is_left : left ≡ f ∷ fs) where
   -- the first of the fields that are left
