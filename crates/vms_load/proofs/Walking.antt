@@ -161,17 +161,16 @@ elements_taken set spot n i cell elements place rest is =
     ∙ items_if (table set) f.item caps (size_in set f.item) (elements_of f.count own) cell p (is_there f.test f.since spot.version own no_parent)
     ∙ ap
     (λ (cs : List (List Cell)).
-        if is_there f.test f.since spot.version (numbers_of cs d n spot.base) no_parent
-        then take_items (table set) f.item caps (item_size cs f.item) (elements_of f.count (numbers_of cs d n spot.base)) cell p
-        else Ok p)
+    if is_there f.test f.since spot.version (numbers_of cs d n spot.base) no_parent
+    then take_items (table set) f.item caps (item_size cs f.item) (elements_of f.count (numbers_of cs d n spot.base)) cell p
+    else Ok p)
     (sym (cells_are set.structs (length set.structs))))
 
--- the validations
-pub rules_are : (set : Set) (spot : Spot) (n : List ℤ)
-    → all_hold (desc_at set spot.part).validate spot.version (numbers_of (cells_of (table set)) (desc_at set spot.part) n spot.base)
-    ≡ all_hold (desc_at set spot.part).validate spot.version (own_numbers set spot.part n spot.base)
-rules_are set spot n =
-    ap (λ (cs : List (List Cell)). all_hold (desc_at set spot.part).validate spot.version (numbers_of cs (desc_at set spot.part) n spot.base)) (cells_are set.structs (length set.structs))
+-- whether the validations hold, as the code has it
+pub rules_are : (set : Set) (spot : Spot) (n : List ℤ) (found hold : Bool) → found ≡ all_hold (desc_at set spot.part).validate spot.version (own_numbers set spot.part n spot.base) → found ≡ hold
+    → all_hold (desc_at set spot.part).validate spot.version (numbers_of (cells_of (table set)) (desc_at set spot.part) n spot.base) ≡ hold
+rules_are set spot n found hold e f =
+    ap (λ (cs : List (List Cell)). all_hold (desc_at set spot.part).validate spot.version (numbers_of cs (desc_at set spot.part) n spot.base)) (cells_are set.structs (length set.structs)) ∙ sym e ∙ f
 
 -- ---- structures
 

@@ -41,7 +41,7 @@ read_part-returns-then-not-holds_rules-clause-taken g t c =
     let no : c.holds_rules.result ≡ false = search rules in
     rw c.at-at.ensures
     (body_broken (table set) (desc_at set spot.part) spot.version spot.base (g.S.Source.left c.args.source.now) c.args.image.now.numbers c.args.cursor.now n _ c.read_fields.new.cursor _ (g.S.Source.left c.read_fields.new.source) _
-    c.in_ok-read_fields.ensures.taken (rules_are set spot n ∙ sym c.holds_rules.ensures ∙ no))
+    c.in_ok-read_fields.ensures.taken (rules_are set spot n c.holds_rules.result false c.holds_rules.ensures no))
 
 pub read_part-returns-clause-taken : goal.read_part-returns-clause-taken
 read_part-returns-clause-taken g t c =
@@ -50,7 +50,7 @@ read_part-returns-clause-taken g t c =
     let n = c.read_fields.new.image.numbers in
     let yes : c.holds_rules.result ≡ true = search rules in
     body_ok (table set) (desc_at set spot.part) spot.version spot.base (g.S.Source.left c.args.source.now) c.args.image.now.numbers c.args.cursor.now n c.read_fields.new.cursor (g.S.Source.left c.read_fields.new.source)
-    c.in_ok-read_fields.ensures.taken (rules_are set spot n ∙ sym c.holds_rules.ensures ∙ yes)
+    c.in_ok-read_fields.ensures.taken (rules_are set spot n c.holds_rules.result true c.holds_rules.ensures yes)
 
 pub read_part-returns-then-not-holds_rules-clause-leaves : goal.read_part-returns-then-not-holds_rules-clause-leaves
 read_part-returns-then-not-holds_rules-clause-leaves g t c =
@@ -142,7 +142,7 @@ read_fields-loop-field-preserved g t c =
     record {
       taken = goes _ _ _ _ _ (λ rest. take_elements set elements (record { numbers = n; place = at; rest = rest })) _ c.read_items.new.image.numbers c.read_items.new.cursor c.loop-field.invariant.taken
           (λ rest p same is far. fields_next (table set) d spot.version spot.base i cell (field_at set spot.part i) (drop (i + 1) d.fields) (drop i d.fields) next.at width n c.read_items.new.image.numbers at c.read_items.new.cursor rest p next.width
-              (elements_taken set spot n i cell elements at rest c.present-elements.ensures ∙ same) is far) c.in_ok-read_items.ensures.taken;
+          (elements_taken set spot n i cell elements at rest c.present-elements.ensures ∙ same) is far) c.in_ok-read_items.ensures.taken;
       room = omega (arith, next.later, c.in_ok-read_items.ensures.long);
       from = omega (arith, c.loop-field.invariant.from, spent);
       place = omega (arith, next.most, next.due, c.loop-field.invariant.place, spent);
