@@ -1,5 +1,5 @@
 -- How many bytes the streams of a well-formed set have at most.
-use Rattle.std.proofs.Common.{◌≡◌, ℕ, zero, suc, ◌+◌, ◌*◌, ◌^◌, ◌<◌, ◌≤◌, List, [], ◌∷◌, ◌++◌, length, get_or, map, Option, None, Some, Bool, false, true, nat_le, refl, sym, ap, ◌∙◌, subst, arith}
+use Rattle.std.proofs.Common.{◌≡◌, ℕ, zero, suc, ◌+◌, ◌*◌, ◌^◌, ◌<◌, ◌≤◌, List, [], ◌∷◌, ◌++◌, length, get_or, map, None, Some, false, true, nat_le, refl, sym, ap, ◌∙◌, subst, arith}
 use Rattle.std.proofs.lemmas.Bool.{and_parts, leb-true}
 use Rattle.vms_kinds.specs.declared.Kind.{Kind}
 use Rattle.vms_kinds.specs.declared.Kind.TheVariants as kinds
@@ -12,13 +12,12 @@ use Rattle.vms_spec.specs.Layout.{first, no_desc, capacity_of}
 use Rattle.vms_spec.specs.Rules.{is_small_item}
 use Rattle.vms_spec.specs.WellFormed.{item_count, items_in, struct_items, subs_items, devices_items}
 use Rattle.vms_desc.specs.Formed.{is_well_formed}
-use Rattle.vms_desc.specs.Parts.{sub_at}
 use Rattle.vms_desc.proofs.Bounds.{few_items, few_devices}
 use Rattle.vms_parts.specs.Devices.{device_at}
 use Rattle.vms_parts.proofs.Tables.{first_long}
-use Rattle.vms_load.specs.Bounds.{item_bytes, field_bytes, fields_bytes, desc_bytes, struct_bytes}
-use Rattle.vms_load.specs.Parts.{IsIn, part_desc, bytes_of, subs_due}
-use Rattle.vms_load.specs.Staging.{section_bytes, sections_due, subs_bytes, devices_most, most_given}
+use Rattle.vms_load.specs.Bounds.{item_bytes, fields_bytes, desc_bytes, struct_bytes}
+use Rattle.vms_load.specs.Parts.{bytes_of, subs_due}
+use Rattle.vms_load.specs.Staging.{section_bytes, sections_due, subs_bytes, devices_most}
 use Rattle.vms_load.proofs.SetFacts.{well_of, few_subs}
 use Rattle.vms_laws.proofs.PartLaws.{at_inside}
 use Rattle.vms_load.proofs.HeadLemmas.{get_at}

@@ -1,5 +1,5 @@
 -- A number that counts arrays is within the capacities of all where it is within the least of them.
-use Rattle.std.proofs.Common.{◌≡◌, ℕ, zero, suc, ◌+◌, ◌<◌, ◌≤◌, min, List, [], ◌∷◌, take, slice_set, Option, Some, None, ℤ, pos, negsuc, refl, sym, ap, ◌∙◌, arith, Bool, true, false, ◌||◌, nat_lt, if◌then◌else◌, Ok, Err}
+use Rattle.std.proofs.Common.{◌≡◌, ℕ, zero, suc, ◌+◌, ◌<◌, ◌≤◌, min, List, [], ◌∷◌, take, slice_set, Option, Some, None, ℤ, pos, negsuc, refl, sym, ap, ◌∙◌, arith, Bool, true, false, ◌||◌, nat_lt, if◌then◌else◌}
 use Rattle.std.proofs.lemmas.Bool.{ltb-true, ltb-false, lt-ltb}
 use Rattle.vms_kinds.specs.declared.Item.{Item}
 use Rattle.vms_kinds.specs.declared.Item.TheVariants.{Num, Equal, Unused, Struct}

@@ -1,5 +1,5 @@
 -- What a reader of a part takes is what the judge reads there.
-use Rattle.std.proofs.Common.{◌≡◌, ℕ, ◌+◌, ◌-◌, ◌<◌, ◌≤◌, List, ◌++◌, length, get_or, drop, drop_at, slice_set, Option, Some, None, Result, Ok, Err, IfSome, ℤ, refl, sym, ap, ◌∙◌, subst, arith}
+use Rattle.std.proofs.Common.{◌≡◌, ℕ, ◌-◌, ◌<◌, List, length, drop, drop_at, Option, Some, None, Result, Ok, Err, IfSome, ℤ, refl, sym, ap, ◌∙◌, subst, arith}
 use Rattle.vms_spec.specs.Numbers.{IsBytes}
 use Rattle.vms_spec.specs.declared.Reason.{Reason}
 use Rattle.vms_spec.specs.Lists.{at}
@@ -21,8 +21,8 @@ use Rattle.vms_desc.specs.Parts.{sub_at}
 use Rattle.vms_frames.specs.declared.fault.FrameFault.{FrameFault}
 use Rattle.vms_frames.specs.declared.fault.FrameFault.TheVariants as frames
 use Rattle.vms_load.specs.Bodies.{TakesAs}
-use Rattle.vms_load.specs.Reads.{Onward, Reads, concerning}
-use Rattle.vms_load.specs.Parts.{IsShaped, IsIn, IsOpen, part_desc, part_base, in_fields, after_fields}
+use Rattle.vms_load.specs.Reads.{Reads, concerning}
+use Rattle.vms_load.specs.Parts.{IsIn, IsOpen, part_desc, part_base, in_fields, after_fields}
 use Rattle.vms_load.specs.declared.parts.Section.{Section}
 use Rattle.vms_load.proofs.HeadLemmas.{at_get}
 

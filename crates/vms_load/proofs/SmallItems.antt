@@ -1,5 +1,5 @@
 -- The items of a well-formed set have few unused bytes.
-use Rattle.std.proofs.Common.{◌≡◌, ℕ, zero, suc, ◌<◌, List, [], ◌∷◌, length, get_or, Option, Some, None, Bool, true, ◌&&◌, nat_le, refl}
+use Rattle.std.proofs.Common.{◌≡◌, ℕ, suc, ◌<◌, List, [], ◌∷◌, length, get_or, Option, Some, None, Bool, true, ◌&&◌, nat_le, refl}
 use Rattle.std.proofs.lemmas.Bool.{and_parts}
 use Rattle.vms_spec.specs.Lists.{at}
 use Rattle.vms_spec.specs.Sets.{Field, Desc, Set}

@@ -1,5 +1,5 @@
 -- The spots of the walk: where fields and structures stand, and what they have.
-use Rattle.std.proofs.Common.{◌≡◌, ℕ, suc, ◌+◌, ◌*◌, ◌<◌, ◌≤◌, List, [], ◌∷◌, length, length-append, get_or, drop, ℤ, Ok, refl, sym, ap, ◌∙◌, subst, arith, Bool, true, false, if◌then◌else◌}
+use Rattle.std.proofs.Common.{◌≡◌, ℕ, suc, ◌+◌, ◌*◌, ◌<◌, ◌≤◌, List, ◌∷◌, length, length-append, get_or, drop, ℤ, Ok, refl, sym, ap, ◌∙◌, subst, arith, Bool, true, false, if◌then◌else◌}
 use Rattle.std.proofs.lemmas.Bool.{ltb-true, lt-ltb}
 use Rattle.std.proofs.lemmas.List.{drop_more}
 use Rattle.vms_kinds.specs.declared.Item.{Item}
@@ -7,26 +7,26 @@ use Rattle.vms_kinds.specs.declared.Item.TheVariants.{Num, Equal, Unused, Struct
 use Rattle.vms_spec.specs.declared.Count.{Count}
 use Rattle.vms_spec.specs.declared.Part.{Part}
 use Rattle.vms_spec.specs.declared.Part.TheVariants as parts
-use Rattle.vms_spec.specs.Sets.{Set, Field, Desc}
+use Rattle.vms_spec.specs.Sets.{Set, Field}
 use Rattle.vms_spec.specs.Tests.{is_there}
 use Rattle.vms_spec.specs.Rules.{uses_below}
 use Rattle.vms_spec.specs.Places.{own_cell_count}
-use Rattle.vms_spec.specs.Layout.{Cell, no_desc, no_field, no_parent, item_size, cells_from, field_cells, struct_cells, numbers_of, elements_of, capacity_of, counted, all_hold}
-use Rattle.vms_spec.specs.Taking.{Taker, Taken, Progress, cells_of, take_item, take_items, take_field, take_desc}
+use Rattle.vms_spec.specs.Layout.{Cell, no_field, no_parent, item_size, cells_from, field_cells, struct_cells, numbers_of, elements_of, capacity_of, counted, all_hold}
+use Rattle.vms_spec.specs.Taking.{Taker, Progress, cells_of, take_item, take_items, take_field, take_desc}
 use Rattle.vms_laws.proofs.Places.{elements_fit, field_size}
 use Rattle.vms_laws.proofs.WalkLaws.{mul_less}
 use Rattle.vms_parts.specs.Sizes.{in_u32}
-use Rattle.vms_desc.specs.Asks.{field_at, own_numbers, least_of}
+use Rattle.vms_desc.specs.Asks.{field_at, own_numbers}
 use Rattle.vms_desc.specs.Formed.{is_well_formed}
 use Rattle.vms_desc.specs.Parts.{HasPart, desc_at}
 use Rattle.vms_desc.proofs.Clean.{reach, field_clean, struct_clean}
 use Rattle.vms_load.specs.Bounds.{field_bytes, fields_bytes, struct_bytes}
 use Rattle.vms_load.specs.Parts.{bytes_of}
-use Rattle.vms_load.specs.Walks.{table, HasSpot, size_in, bytes_in, capacities_of, present_of, elements_at, take_elements}
+use Rattle.vms_load.specs.Walks.{table, HasSpot, size_in, bytes_in, present_of, elements_at, take_elements}
 use Rattle.vms_load.specs.declared.body.Elements.{Elements}
 use Rattle.vms_load.specs.declared.body.Spot.{Spot}
 use Rattle.vms_load.proofs.Counting.{items_least}
-use Rattle.vms_load.proofs.Fronts.{AllBelow, all_below, cells_are, struct_taken, struct_long, struct_most}
+use Rattle.vms_load.proofs.Fronts.{all_below, cells_are, struct_taken, struct_long, struct_most}
 use Rattle.vms_load.proofs.Spending.{one_of}
 
 -- ---- how far down the walk over structures may still go

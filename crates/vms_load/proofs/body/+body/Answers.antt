@@ -1,24 +1,20 @@
 use Rattle.std.specs.Int.{w128}
 use Rattle.std.proofs.lemmas.Int.{to_z-of_z}
-use Rattle.std.proofs.Common.{rules, SFits, refl, ℕ, List, length, drop, ap, ◌∙◌, sym, arith, subst, ◌<◌, ◌≤◌, ◌≡◌, ◌+◌, ◌-◌, ◌*◌, suc, true, false}
-use Rattle.std.proofs.lemmas.List.{drop_all}
+use Rattle.std.proofs.Common.{rules, SFits, refl, ℕ, drop, ap, ◌∙◌, arith, subst, ◌≡◌, ◌+◌, ◌-◌, ◌*◌, suc, true, false}
 use Rattle.std.proofs.lemmas.Result.{err_from_is_err_and}
-use Rattle.vms_kinds.specs.declared.Item.{Item}
 use Rattle.vms_spec.specs.declared.Reason.TheVariants as reasons
 use Rattle.vms_spec.specs.Sets.{Desc}
-use Rattle.vms_spec.specs.Taking.{Taken, take_item, take_items, take_fields}
+use Rattle.vms_spec.specs.Taking.{Taken, take_item, take_fields}
 use Rattle.vms_desc.specs.Asks.{field_at}
 use Rattle.vms_desc.specs.Described.{described}
 use Rattle.vms_desc.specs.Parts.{desc_at}
 use Rattle.vms_frames.specs.Found.{skip_found}
 use Rattle.vms_frames.specs.declared.fault.FrameFault.TheVariants.{ReadFault}
 use Rattle.vms_load.specs.Bodies.{TakesAs, Spends}
-use Rattle.vms_load.specs.Bounds.{fields_bytes, struct_bytes}
-use Rattle.vms_load.specs.Parts.{bytes_of}
 use Rattle.vms_load.specs.Walks.{table, size_in, bytes_in, capacities_of, elements_at, take_elements}
 use Rattle.vms_load.proofs.Kept.{kept_on}
-use Rattle.vms_load.proofs.Spending.{spends_less, spends_err, given_on}
-use Rattle.vms_load.proofs.BodyLemmas.{stops, goes, alike, items_next, items_stop, fields_next, fields_stop, fields_none, body_ok, body_broken, body_cut, constant_taken}
+use Rattle.vms_load.proofs.Spending.{spends_err, given_on}
+use Rattle.vms_load.proofs.BodyLemmas.{stops, goes, alike, items_next, items_stop, fields_next, fields_stop, body_ok, body_broken, body_cut, constant_taken}
 use Rattle.vms_load.proofs.Leaving.{moves_on, fields_leave_at, refused_after, unit_leaves_in}
 use Rattle.vms_load.proofs.UnitsLong.{Any, skip_fits}
 use Rattle.vms_load.proofs.Walking.{spot_on, size_code, width_at, next_field, next_struct, elements_taken, rules_are}

@@ -1,4 +1,4 @@
-use Rattle.std.proofs.Common.{ℕ, Some, Ok, Err, ap, ◌∙◌, arith}
+use Rattle.std.proofs.Common.{Some, Ok, Err, ap, ◌∙◌, arith}
 use Rattle.vms_desc.specs.Described.{described}
 use Rattle.vms_desc.specs.Parts.{desc_at}
 use Rattle.vms_desc.specs.Asks.{first_cell}
