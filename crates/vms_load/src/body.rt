@@ -33,7 +33,7 @@ struct Element {
     most: Option<u32>,
 }
 
-// Elements one after the other, of which the first has the first cell `first`.
+// Elements of a field, of which the first has the first cell `first`.
 #[derive(Clone, Copy)]
 struct Elements {
     one: Element,
@@ -59,7 +59,7 @@ fn present(set: &DescSet, spot: Spot, field: u32, cell: u32, image: &Image) -> E
     }
 }
 
-// How many there are.
+// How many elements of a field stand in the bytes.
 fn present_count(set: &DescSet, spot: Spot, field: u32, image: &Image) -> u32
     requires spot { HasSpot (described set.now) spot image.now.numbers }
     requires field { field < length (desc_at (described set.now) spot.part).fields }
@@ -110,6 +110,7 @@ fn read_item<S: Source>(
     }
 }
 
+// Elements one after the other.
 #[cycle(body)]
 fn read_items<S: Source>(
     set: &DescSet,
