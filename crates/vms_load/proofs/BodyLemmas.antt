@@ -1,28 +1,21 @@
 -- Readings of fields that go on.
-use Rattle.std.proofs.Common.{◌≡◌, ℕ, suc, zero, ◌+◌, ◌*◌, ◌<◌, ◌≤◌, List, [], ◌∷◌, length, get_or, map, take, slice_set, Option, Some, None, Result, Ok, Err, IfSome, OnOk, ℤ, refl, sym, ap, ◌∙◌, subst, arith, Bool, true, false, if◌then◌else◌, nat_lt}
-use Rattle.std.proofs.lemmas.List.{length-map}
+use Rattle.std.proofs.Common.{◌≡◌, ℕ, suc, ◌+◌, ◌*◌, List, ◌∷◌, length, take, slice_set, Option, Some, None, Result, Ok, Err, IfSome, OnOk, ℤ, refl, sym, ap, ◌∙◌, subst, arith, Bool, true, false, if◌then◌else◌, nat_lt}
 use Rattle.vms_kinds.specs.declared.Kind.{Kind}
 use Rattle.vms_kinds.specs.Codes.{width, value_of}
 use Rattle.vms_kinds.specs.declared.Item.{Item}
-use Rattle.vms_kinds.specs.declared.Item.TheVariants.{Num, Equal, Unused, Struct}
+use Rattle.vms_kinds.specs.declared.Item.TheVariants.{Num, Equal}
 use Rattle.vms_spec.specs.declared.Reason.TheVariants as reasons
 use Rattle.vms_spec.specs.Numbers.{same_number, exceeds}
 use Rattle.vms_spec.specs.Judging.{is_bad_bool}
 use Rattle.vms_spec.specs.Sets.{Desc, Field}
-use Rattle.vms_spec.specs.Tests.{is_there}
-use Rattle.vms_spec.specs.Layout.{desc_cells, item_size, field_cells, capacity_of, counted, numbers_of, all_hold, elements_of, no_parent}
-use Rattle.vms_spec.specs.Taking.{takers, cells_of, Taker, Taken, Progress, Refusal, refuse, on, take_number, take_constant, take_filler, take_item, take_items, take_desc, take_field, take_fields, take_rule, check_rules, ◌>>=◌}
+use Rattle.vms_spec.specs.Layout.{item_size, field_cells, capacity_of, numbers_of, all_hold}
+use Rattle.vms_spec.specs.Taking.{cells_of, Taker, Taken, Progress, Refusal, refuse, on, take_number, take_constant, take_item, take_items, take_desc, take_field, take_fields, take_rule, check_rules, ◌>>=◌}
 use Rattle.vms_laws.proofs.Places.{field_size}
-use Rattle.vms_parts.specs.declared.types.Desc.{Desc as CodeDesc}
-use Rattle.vms_parts.specs.Views.{desc_of}
-use Rattle.vms_frames.specs.Found.{Found, Whole, Wrong, Cut, skip_found}
+use Rattle.vms_frames.specs.Found.{Found, Whole, Wrong, Cut}
 use Rattle.vms_frames.specs.Answers.{Answers}
 use Rattle.vms_frames.specs.declared.fault.FrameFault.{FrameFault}
 use Rattle.vms_frames.specs.declared.fault.FrameFault.TheVariants as faults
 use Rattle.vms_load.specs.Bodies.{TakesAs, GoesOn, capped_found, constant_found}
-use Rattle.vms_load.specs.Bounds.{item_bytes, desc_bytes, struct_bytes}
-use Rattle.vms_load.specs.Fit.{AreFit, IsFit}
-use Rattle.vms_load.proofs.Tables.{takers_at, cells_at, desc_at, first_at}
 
 -- ---- one unit
 
@@ -77,17 +70,6 @@ constant_is kind z p =
     (choice long f p bad (Wrong w reasons.BadBool) last
     ∙ ap (λ (t : Taken). if bad then refuse p reasons.BadBool else t) (choice long f p same (Whole tt) (Wrong w reasons.NotEqual)))
 
-plus_none : (n : ℕ) → n + 0 ≡ n
-plus_none n = omega arith
-
-filler_is : (n : ℕ) (p : Progress) → taken_by (λ x. n) (λ x. p.numbers) p (skip_found n p.rest) ≡ take_filler n p
-filler_is zero p = choice (λ x. 0) (λ x. p.numbers) p (nat_lt (length p.rest) 0) Cut (Whole tt) ∙ none (nat_lt (length p.rest) 0) (grind arith) ∙ ap (λ (k : ℕ). Ok (record { numbers = p.numbers; place = k; rest = p.rest })) (plus_none p.place)
-  where
-    none : (b : Bool) → b ≡ false → (if b then refuse p reasons.Truncated else on 0 p.numbers p) ≡ on 0 p.numbers p
-    none true e = cc
-    none false e = refl
-filler_is (suc n) p = choice (λ x. suc n) (λ x. p.numbers) p (nat_lt (length p.rest) (suc n)) Cut (Whole tt)
-
 module _ (left new : Option (List ℕ)) (at to : ℕ) (numbers : List ℤ) where
   abbrev from : List ℕ → Progress
   from rest = record { numbers = numbers; place = at; rest = rest }
@@ -107,7 +89,7 @@ module _ (left new : Option (List ℕ)) (at to : ℕ) (numbers : List ℤ) where
     by_left None a = tt
     by_left (Some rest) a = subst (λ (t : Taken). TakesAs t n to new (Err fault)) (e rest) (unit_err long f (from rest) (found rest) n to new fault a)
 
-  -- an item that is a number, a constant or unused bytes
+  -- an item that is a number or a constant
   pub number_ok : (ts : List Taker) (item : Item) (kind : Kind) (caps : List ℕ) (cell : ℕ) (x : ℤ) → item ≡ Num kind → to ≡ at + width kind
       → IfSome left (λ rest. Answers (λ _. width kind) (capped_found kind caps rest) at rest new (Ok x))
       → IfSome left (λ rest. TakesAs (take_item ts item caps cell (from rest)) (slice_set numbers cell x) to new (Ok tt))
@@ -122,7 +104,7 @@ module _ (left new : Option (List ℕ)) (at to : ℕ) (numbers : List ℤ) where
       let P : Item → Type 0 = λ i. IfSome left (λ rest. TakesAs (take_item ts i caps cell (from rest)) n to new (Err fault)) in
       subst P (sym is) (lift_err (λ x. width kind) (λ x. slice_set numbers cell x) (capped_found kind caps) (take_number kind caps cell) (λ rest. number_is kind caps cell (from rest)) n fault a)
 
-  -- these two give no number
+  -- a constant gives no number
   plain : (found : List ℕ → Found (Unit {0})) (long : ℕ) (part : Progress → Taken) → ((rest : List ℕ) → taken_by (λ x. long) (λ x. numbers) (from rest) (found rest) ≡ part (from rest))
       → (result : Result (Unit {0}) FrameFault) → OnOk result (to ≡ at + long) → IfSome left (λ rest. Answers (λ _. long) (found rest) at rest new result)
       → IfSome left (λ rest. TakesAs (part (from rest)) numbers to new result)
@@ -135,13 +117,6 @@ module _ (left new : Option (List ℕ)) (at to : ℕ) (numbers : List ℤ) where
   constant_taken ts item kind z caps cell result is far a =
       let P : Item → Type 0 = λ i. IfSome left (λ rest. TakesAs (take_item ts i caps cell (from rest)) numbers to new result) in
       subst P (sym is) (plain (constant_found kind z) (width kind) (take_constant kind z) (λ rest. constant_is kind z (from rest)) result far a)
-
-  pub filler_taken : (ts : List Taker) (item : Item) (n : ℕ) (caps : List ℕ) (cell : ℕ) (result : Result (Unit {0}) FrameFault) → item ≡ Unused n → OnOk result (to ≡ at + n)
-      → IfSome left (λ rest. Answers (λ _. n) (skip_found n rest) at rest new result)
-      → IfSome left (λ rest. TakesAs (take_item ts item caps cell (from rest)) numbers to new result)
-  filler_taken ts item n caps cell result is far a =
-      let P : Item → Type 0 = λ i. IfSome left (λ rest. TakesAs (take_item ts i caps cell (from rest)) numbers to new result) in
-      subst P (sym is) (plain (skip_found n) n (take_filler n) (λ rest. filler_is n (from rest)) result far a)
 
 -- ---- readings that go on
 
@@ -174,12 +149,6 @@ goes (Some input) (Some rest) new whole from' part next n to g h a =
     let o = onward (from' rest) (part rest) n to new next (λ p same is far. h rest p same is far) a in
     subst (λ (x : Option (List ℕ)). GoesOn (Some input) whole x next) (sym o.1) (o.2 ∙ g)
 
--- nothing is left to do
-pub ends : (initial left : Option (List ℕ)) (whole : List ℕ → Taken) (n : List ℤ) (to : ℕ) → GoesOn initial whole left (λ rest. Ok (record { numbers = n; place = to; rest = rest })) → IfSome initial (λ input. TakesAs (whole input) n to left (Ok tt))
-ends None left whole n to g = tt
-ends (Some input) None whole n to g = absurd g
-ends (Some input) (Some rest) whole n to g = subst (λ (t : Taken). TakesAs t n to (Some rest) (Ok tt)) g (refl, refl, refl)
-
 -- what holds of one reading holds of an equal one
 pub alike : (left : Option (List ℕ)) (a b : List ℕ → Taken) (P : Taken → Type 0) → ((rest : List ℕ) → a rest ≡ b rest) → IfSome left (λ rest. P (a rest)) → IfSome left (λ rest. P (b rest))
 alike None a b P e h = tt
@@ -203,52 +172,7 @@ module _ (ts : List Taker) (item : Item) (caps : List ℕ) (size n m cell : ℕ)
   pub items_stop : (p : Progress) (r : Refusal) → take_item ts item caps cell p ≡ Err r → take_items ts item caps size n cell p ≡ Err r
   items_stop p r same = items_first p ∙ ap (λ (t : Taken). t >>= λ q. take_items ts item caps size m (cell + size) q) same
 
--- none is left
-pub items_none : (ts : List Taker) (item : Item) (caps : List ℕ) (size n cell : ℕ) (p : Progress) → n ≡ 0 → Ok p ≡ take_items ts item caps size n cell p
-items_none ts item caps size n cell p e = ap (λ (k : ℕ). take_items ts item caps size k cell p) (sym e)
-
--- ---- structures
-
-pub fit_at : (ds : List CodeDesc) (j : ℕ) (d : CodeDesc) → j < length ds → d ≡ get_or ds j d → AreFit (map desc_of ds) → IsFit j (desc_of d)
-fit_at ds j d lt is fit = subst (IsFit j) (desc_at ds j d lt is) (fit.each j (simp length-map lt))
-
-pub room_at : (ds : List CodeDesc) (k j cell n : ℕ) (d : CodeDesc) (item : Item) → item ≡ Struct j → j < k → j < length ds → d ≡ get_or ds j d
-    → cell + item_size (cells_of (takers (map desc_of ds) k)) item ≤ n
-    → cell + length (desc_cells (cells_of (takers (map desc_of ds) j)) (desc_of d)) ≤ n
-room_at ds k j cell n d item at below lt is room =
-    let e : item_size (cells_of (takers (map desc_of ds) k)) item ≡ length (desc_cells (cells_of (takers (map desc_of ds) j)) (desc_of d)) =
-    ap (λ (i : Item). item_size (cells_of (takers (map desc_of ds) k)) i) at ∙ ap length (cells_at (map desc_of ds) k j below)
-    ∙ ap (λ (x : Desc). length (desc_cells (cells_of (takers (map desc_of ds) j)) x)) (desc_at ds j d lt is) in
-    omega arith
-
-pub bytes_at : (ds : List CodeDesc) (k j : ℕ) (d : CodeDesc) (item : Item) → item ≡ Struct j → j < k → j < length ds → d ≡ get_or ds j d
-    → item_bytes (struct_bytes (map desc_of ds) k) item ≡ desc_bytes (struct_bytes (map desc_of ds) j) (desc_of d)
-bytes_at ds k j d item at below lt is =
-    ap (λ (i : Item). item_bytes (struct_bytes (map desc_of ds) k) i) at ∙ first_at desc_bytes (map desc_of ds) 0 k j below
-    ∙ ap (λ (x : Desc). desc_bytes (struct_bytes (map desc_of ds) j) x) (desc_at ds j d lt is)
-
--- a structure as an item is its description, read at its own version
-pub struct_taken : (ds : List CodeDesc) (k j : ℕ) (d : CodeDesc) (item : Item) (caps : List ℕ) (cell : ℕ) (p : Progress) → item ≡ Struct j → j < k → j < length ds → d ≡ get_or ds j d
-    → take_desc (takers (map desc_of ds) j) (desc_of d) d.version cell p ≡ take_item (takers (map desc_of ds) k) item caps cell p
-struct_taken ds k j d item caps cell p at below lt is =
-    sym (ap (λ (i : Item). take_item (takers (map desc_of ds) k) i caps cell p) at ∙ ap (λ (t : Taker). t.takes cell p) (takers_at (map desc_of ds) k j below)
-    ∙ ap (λ (x : Desc). take_desc (takers (map desc_of ds) j) x x.version cell p) (desc_at ds j d lt is))
-
 -- ---- fields
-
-pub absent : (ts : List Taker) (d : Desc) (v base i cell : ℕ) (f : Field) (p : Progress) → is_there f.test f.since v (numbers_of (cells_of ts) d p.numbers base) no_parent ≡ false
-    → Ok p ≡ take_field ts d v base i cell f p
-absent ts d v base i cell f p e =
-    let own = numbers_of (cells_of ts) d p.numbers base in
-    ap (λ (b : Bool). if b then take_items ts f.item (counted i d.fields) (item_size (cells_of ts) f.item) (elements_of f.count own) cell p else Ok p) (sym e)
-
-pub there : (ts : List Taker) (d : Desc) (v base i cell n : ℕ) (f : Field) (p : Progress) → is_there f.test f.since v (numbers_of (cells_of ts) d p.numbers base) no_parent ≡ true
-    → n ≡ elements_of f.count (numbers_of (cells_of ts) d p.numbers base)
-    → take_items ts f.item (counted i d.fields) (item_size (cells_of ts) f.item) n cell p ≡ take_field ts d v base i cell f p
-there ts d v base i cell n f p e en =
-    let own = numbers_of (cells_of ts) d p.numbers base in
-    ap (λ (n : ℕ). take_items ts f.item (counted i d.fields) (item_size (cells_of ts) f.item) n cell p) en
-    ∙ ap (λ (b : Bool). if b then take_items ts f.item (counted i d.fields) (item_size (cells_of ts) f.item) (elements_of f.count own) cell p else Ok p) (sym e)
 
 module _ (ts : List Taker) (d : Desc) (v base i cell : ℕ) (f : Field) (fs left : List Field) (is_left : left ≡ f ∷ fs) where
   -- the first of the fields that are left
@@ -267,9 +191,6 @@ module _ (ts : List Taker) (d : Desc) (v base i cell : ℕ) (f : Field) (fs left
   fields_stop p r same =
       ap (λ (l : List Field). take_fields ts d v base i cell l p) is_left
       ∙ ap (λ (t : Taken). t >>= λ q. take_fields ts d v base (suc i) (cell + length (field_cells (cells_of ts) d.fields i f)) fs q) same
-
-pub fields_none : (ts : List Taker) (d : Desc) (v base i cell : ℕ) (fs : List Field) (p : Progress) → fs ≡ [] → Ok p ≡ take_fields ts d v base i cell fs p
-fields_none ts d v base i cell fs p none = ap (λ (l : List Field). take_fields ts d v base i cell l p) (sym none)
 
 -- ---- the validations
 

@@ -1,5 +1,6 @@
 -- How many bytes the streams of a well-formed set have at most.
-use Rattle.std.proofs.Common.{◌≡◌, ℕ, zero, suc, ◌+◌, ◌*◌, ◌^◌, ◌<◌, ◌≤◌, List, [], ◌∷◌, ◌++◌, length, get_or, map, Option, None, Some, Bool, false, true, refl, sym, ap, ◌∙◌, subst, arith}
+use Rattle.std.proofs.Common.{◌≡◌, ℕ, zero, suc, ◌+◌, ◌*◌, ◌^◌, ◌<◌, ◌≤◌, List, [], ◌∷◌, ◌++◌, length, get_or, map, None, Some, false, true, nat_le, refl, sym, ap, ◌∙◌, subst, arith}
+use Rattle.std.proofs.lemmas.Bool.{and_parts, leb-true}
 use Rattle.vms_kinds.specs.declared.Kind.{Kind}
 use Rattle.vms_kinds.specs.declared.Kind.TheVariants as kinds
 use Rattle.vms_kinds.specs.declared.Item.{Item}
@@ -8,20 +9,19 @@ use Rattle.vms_kinds.specs.Codes.{width}
 use Rattle.vms_spec.specs.Lists.{at}
 use Rattle.vms_spec.specs.Sets.{Field, Desc, Sub, Device, Set}
 use Rattle.vms_spec.specs.Layout.{first, no_desc, capacity_of}
+use Rattle.vms_spec.specs.Rules.{is_small_item}
 use Rattle.vms_spec.specs.WellFormed.{item_count, items_in, struct_items, subs_items, devices_items}
 use Rattle.vms_desc.specs.Formed.{is_well_formed}
-use Rattle.vms_desc.specs.Parts.{sub_at}
 use Rattle.vms_desc.proofs.Bounds.{few_items, few_devices}
 use Rattle.vms_parts.specs.Devices.{device_at}
-use Rattle.vms_load.specs.Bounds.{item_bytes, field_bytes, fields_bytes, desc_bytes, struct_bytes}
-use Rattle.vms_load.specs.Fit.{IsFitItem, AreFitFields, IsFit, AreFit}
-use Rattle.vms_load.specs.Parts.{IsIn, part_desc, bytes_of, subs_due}
-use Rattle.vms_load.specs.Staging.{section_bytes, sections_due, subs_bytes, devices_most, most_given}
+use Rattle.vms_parts.proofs.Tables.{first_long}
+use Rattle.vms_load.specs.Bounds.{item_bytes, fields_bytes, desc_bytes, struct_bytes}
+use Rattle.vms_load.specs.Parts.{bytes_of, subs_due}
+use Rattle.vms_load.specs.Staging.{section_bytes, sections_due, subs_bytes, devices_most}
 use Rattle.vms_load.proofs.SetFacts.{well_of, few_subs}
 use Rattle.vms_laws.proofs.PartLaws.{at_inside}
 use Rattle.vms_load.proofs.HeadLemmas.{get_at}
-use Rattle.vms_load.proofs.Tables.{length-first}
-use Rattle.vms_load.proofs.WellFit.{structs_fit, part_fits}
+use Rattle.vms_load.proofs.SmallItems.{AreSmall, struct_small, part_small}
 
 -- ---- no item has more than 4,096 bytes
 
@@ -40,11 +40,11 @@ width_small kinds.Timer = omega arith
 abbrev Small : List ℕ → List ℕ → Type 0
 Small bytes items = (j : ℕ) → get_or bytes j 0 ≤ 4096 * get_or items j 0
 
-item_small : (bytes items : List ℕ) → Small bytes items → (k : ℕ) (item : Item) → IsFitItem k item → item_bytes bytes item ≤ 4096 * item_count items item
-item_small bytes items s k (Num kind) h = omega (arith, width_small kind)
-item_small bytes items s k (Equal kind z) h = omega (arith, width_small kind)
-item_small bytes items s k (Unused n) h = omega (arith, h)
-item_small bytes items s k (Struct j) h = s j
+item_small : (bytes items : List ℕ) → Small bytes items → (item : Item) → is_small_item item ≡ true → item_bytes bytes item ≤ 4096 * item_count items item
+item_small bytes items s (Num kind) h = omega (arith, width_small kind)
+item_small bytes items s (Equal kind z) h = omega (arith, width_small kind)
+item_small bytes items s (Unused n) h = omega (arith, leb-true n 4096 (and_parts (nat_le 1 n) (nat_le n 4096) h).1)
+item_small bytes items s (Struct j) h = s j
 
 times_small : (n b i : ℕ) → b ≤ 4096 * i → n * b ≤ 4096 * (n * i)
 times_small zero b i h = omega arith
@@ -54,10 +54,10 @@ times_small (suc n) b i h =
     let g : n * b ≤ 4096 * (n * i) = times_small n b i h in
     omega (arith, e, f, g, h)
 
-fields_small : (bytes items : List ℕ) → Small bytes items → (k : ℕ) (all fs : List Field) → AreFitFields k all fs → fields_bytes bytes fs ≤ 4096 * items_in items fs
-fields_small bytes items s k all [] h = omega arith
-fields_small bytes items s k all (f ∷ fs) h =
-    omega (arith, times_small (capacity_of f.count) (item_bytes bytes f.item) (item_count items f.item) (item_small bytes items s k f.item h.0.item), fields_small bytes items s k all fs h.1)
+fields_small : (bytes items : List ℕ) → Small bytes items → (fs : List Field) → AreSmall fs → fields_bytes bytes fs ≤ 4096 * items_in items fs
+fields_small bytes items s [] h = omega arith
+fields_small bytes items s (f ∷ fs) h =
+    omega (arith, times_small (capacity_of f.count) (item_bytes bytes f.item) (item_count items f.item) (item_small bytes items s f.item h.0), fields_small bytes items s fs h.1)
 
 small_append : (bytes items : List ℕ) (b i : ℕ) → length bytes ≡ length items → Small bytes items → b ≤ 4096 * i → Small (bytes ++ b ∷ []) (items ++ i ∷ [])
 small_append [] [] b i e s h zero = h
@@ -71,44 +71,43 @@ abbrev items_to : List Desc → ℕ → List ℕ
 items_to ds k = first (λ sizes d. items_in sizes d.fields) ds k
 
 same_long : (ds : List Desc) (k : ℕ) → length (struct_bytes ds k) ≡ length (items_to ds k)
-same_long ds k = length-first desc_bytes ds 0 k ∙ sym (length-first (λ sizes d. items_in sizes d.fields) ds 0 k)
+same_long ds k = first_long desc_bytes ds k ∙ sym (first_long (λ sizes d. items_in sizes d.fields) ds k)
 
-structs_small : (ds : List Desc) → AreFit ds → (k : ℕ) → k ≤ length ds → Small (struct_bytes ds k) (items_to ds k)
+structs_small : (ds : List Desc) → ((j : ℕ) → j < length ds → AreSmall (get_or ds j no_desc).fields) → (k : ℕ) → k ≤ length ds → Small (struct_bytes ds k) (items_to ds k)
 unfolding first
-structs_small ds fit zero le j = omega arith
-structs_small ds fit (suc k) le j =
-    let s = structs_small ds fit k (omega arith) in
+structs_small ds small zero le j = omega arith
+structs_small ds small (suc k) le j =
+    let s = structs_small ds small k (omega arith) in
     let d = get_or ds k no_desc in
     small_append (struct_bytes ds k) (items_to ds k) (desc_bytes (struct_bytes ds k) d) (items_in (items_to ds k) d.fields) (same_long ds k) s
-    (fields_small (struct_bytes ds k) (items_to ds k) s k d.fields d.fields (fit.each k (omega arith)).fields) j
+    (fields_small (struct_bytes ds k) (items_to ds k) s d.fields (small k (omega arith))) j
 
 -- ---- the parts of a set
 
 module _ (set : Set) (well : is_well_formed set ≡ true) where
-  desc_small : (d : Desc) → IsFit (length set.structs) d → bytes_of set d ≤ 4096 * items_in (struct_items set.structs) d.fields
-  desc_small d fit =
-      fields_small (struct_bytes set.structs (length set.structs)) (struct_items set.structs) (structs_small set.structs (structs_fit set (well_of set well)) (length set.structs) (omega arith)) (length set.structs) d.fields d.fields fit.fields
+  desc_small : (d : Desc) → AreSmall d.fields → bytes_of set d ≤ 4096 * items_in (struct_items set.structs) d.fields
+  desc_small d small = fields_small (struct_bytes set.structs (length set.structs)) (struct_items set.structs) (structs_small set.structs (struct_small set (well_of set well)) (length set.structs) (omega arith)) d.fields small
 
-  subs_small : (subs : List Sub) → ((j : ℕ) (s : Sub) → at subs j ≡ Some s → IsFit (length set.structs) s.desc) → subs_bytes set subs ≤ 4096 * subs_items (struct_items set.structs) subs
+  subs_small : (subs : List Sub) → ((j : ℕ) (s : Sub) → at subs j ≡ Some s → AreSmall s.desc.fields) → subs_bytes set subs ≤ 4096 * subs_items (struct_items set.structs) subs
   subs_small [] h = omega arith
   subs_small (s ∷ subs) h = omega (arith, desc_small s.desc (h 0 s refl), subs_small subs (λ j t e. h (suc j) t e))
 
-  devices_small : (devices : List Device) → ((k : ℕ) (d : Device) → at devices k ≡ Some d → IsFit (length set.structs) d.desc × (length d.subs ≤ 32) × ((j : ℕ) (s : Sub) → at d.subs j ≡ Some s → IsFit (length set.structs) s.desc))
+  devices_small : (devices : List Device) → ((k : ℕ) (d : Device) → at devices k ≡ Some d → AreSmall d.desc.fields × (length d.subs ≤ 32) × ((j : ℕ) (s : Sub) → at d.subs j ≡ Some s → AreSmall s.desc.fields))
       → devices_most set devices ≤ 8626 * length devices + 4096 * devices_items (struct_items set.structs) devices
   devices_small [] h = omega arith
   devices_small (d ∷ devices) h =
       let here = h 0 d refl in
       omega (arith, here.1, desc_small d.desc here.0, subs_small d.subs here.2, devices_small devices (λ k e x. h (suc k) e x))
 
-  part_of_device : (k : ℕ) (d : Device) → at set.devices k ≡ Some d → IsFit (length set.structs) d.desc × (length d.subs ≤ 32) × ((j : ℕ) (s : Sub) → at d.subs j ≡ Some s → IsFit (length set.structs) s.desc)
+  part_of_device : (k : ℕ) (d : Device) → at set.devices k ≡ Some d → AreSmall d.desc.fields × (length d.subs ≤ 32) × ((j : ℕ) (s : Sub) → at d.subs j ≡ Some s → AreSmall s.desc.fields)
   part_of_device k d e =
       let lt : k < length set.devices = at_inside set.devices k d e in
       let same : device_at set k ≡ d = get_at set.devices k d _ e in (
-        subst (λ (x : Device). IsFit (length set.structs) x.desc) same (part_fits set (well_of set well) k None lt tt),
+        subst (λ (x : Device). AreSmall x.desc.fields) same (part_small set (well_of set well) k None lt tt),
         subst (λ (x : Device). length x.subs ≤ 32) same (few_subs set well k lt),
         λ j s f.
             let g : at (device_at set k).subs j ≡ Some s = ap (λ (x : Device). at x.subs j) same ∙ f in
-            subst (λ (x : Sub). IsFit (length set.structs) x.desc) (get_at (device_at set k).subs j s _ g) (part_fits set (well_of set well) k (Some j) lt (at_inside (device_at set k).subs j s g)),
+            subst (λ (x : Sub). AreSmall x.desc.fields) (get_at (device_at set k).subs j s _ g) (part_small set (well_of set well) k (Some j) lt (at_inside (device_at set k).subs j s g)),
       )
 
   -- so many bytes are no place above 2 ^ 63

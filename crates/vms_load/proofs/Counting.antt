@@ -1,45 +1,82 @@
--- A number that counts arrays, beside the fields one after the other.
-use Rattle.std.proofs.Common.{◌≡◌, ℕ, ◌+◌, ◌<◌, List, [], ◌∷◌, ◌++◌, length, get_or, map, drop, ℤ, refl, sym, ap, ◌∙◌, Bool, true, false, ◌||◌}
-use Rattle.vms_spec.specs.declared.Count.{Count}
-use Rattle.vms_spec.specs.declared.Count.TheVariants.{One, Fixed, Counted}
-use Rattle.vms_spec.specs.Sets.{Field}
-use Rattle.vms_spec.specs.Layout.{counted}
+-- A number that counts arrays is within the capacities of all where it is within the least of them.
+use Rattle.std.proofs.Common.{◌≡◌, ℕ, zero, suc, ◌+◌, ◌<◌, ◌≤◌, min, List, [], ◌∷◌, take, slice_set, Option, Some, None, ℤ, pos, negsuc, refl, sym, ap, ◌∙◌, arith, Bool, true, false, ◌||◌, nat_lt, if◌then◌else◌}
+use Rattle.std.proofs.lemmas.Bool.{ltb-true, ltb-false, lt-ltb}
+use Rattle.vms_kinds.specs.declared.Item.{Item}
+use Rattle.vms_kinds.specs.declared.Item.TheVariants.{Num, Equal, Unused, Struct}
+use Rattle.vms_kinds.specs.Codes.{width, value_of}
+use Rattle.vms_spec.specs.declared.Reason.TheVariants as reasons
 use Rattle.vms_spec.specs.Numbers.{exceeds, is_above}
-use Rattle.vms_parts.specs.declared.types.Field.{Field as CodeField}
-use Rattle.vms_parts.specs.Views.{field_of}
-use Rattle.vms_load.specs.Bodies.{counted_by}
-use Rattle.vms_load.proofs.Tables.{fields_at}
+use Rattle.vms_spec.specs.Judging.{is_bad_bool}
+use Rattle.vms_spec.specs.Taking.{Taker, Taken, Progress, ◌>>=◌, refuse, on, if_whole, take_item, take_items}
+use Rattle.vms_desc.specs.Asks.{lesser, least_from, least_of}
+use Rattle.vms_load.specs.Walks.{capacities_of}
+use Rattle.vms_load.proofs.Fronts.{bind_same}
 
-or_assoc : (a b c : Bool) → (a || (b || c)) ≡ ((a || b) || c)
+or_assoc : (a b c : Bool) → ((a || b) || c) ≡ (a || (b || c))
 or_assoc true b c = refl
 or_assoc false b c = refl
 
-exceeds-append : (xs ys : List ℕ) (z : ℤ) → exceeds (xs ++ ys) z ≡ (exceeds xs z || exceeds ys z)
-exceeds-append [] ys z = refl
-exceeds-append (x ∷ xs) ys z = ap (λ (b : Bool). is_above z x || b) (exceeds-append xs ys z) ∙ or_assoc (is_above z x) (exceeds xs z) (exceeds ys z)
+pub or_false : (a : Bool) → (a || false) ≡ a
+or_false true = refl
+or_false false = refl
 
-counted_next : (i : ℕ) (f : Field) (fs : List Field) → counted i (f ∷ fs) ≡ counted_by i f.count ++ counted i fs
-counted_next i f fs = by_count f.count where
-  by_count : (c : Count) → counted i (record f { count = c } ∷ fs) ≡ counted_by i c ++ counted i fs
-  by_count One = refl
-  by_count (Fixed n) = refl
-  by_count (Counted by most) = refl
+-- ---- the least of capacities
 
-past_next : (i n : ℕ) (fs : List CodeField) (f : CodeField) (z : ℤ) → n < length fs → f ≡ get_or fs n f
-    → exceeds (counted i (drop n (map field_of fs))) z ≡ (exceeds (counted_by i f.count) z || exceeds (counted i (drop (n + 1) (map field_of fs))) z)
-past_next i n fs f z lt is =
-    ap (λ (l : List Field). exceeds (counted i l) z) (fields_at fs n f lt is)
-    ∙ ap (λ (l : List ℕ). exceeds l z) (counted_next i (field_of f) (drop (n + 1) (map field_of fs)))
-    ∙ exceeds-append (counted_by i f.count) (counted i (drop (n + 1) (map field_of fs))) z
+same_tests : (a b : Bool) → (a ≡ true → b ≡ true) → (b ≡ true → a ≡ true) → a ≡ b
+same_tests true b f g = sym (f refl)
+same_tests false true f g = g refl
+same_tests false false f g = refl
 
--- the first array that the number is too large for
-pub past_here : (i n : ℕ) (fs : List CodeField) (f : CodeField) (z : ℤ) (b : Bool) → n < length fs → f ≡ get_or fs n f → b ≡ exceeds (counted_by i f.count) z → b ≡ true
-    → exceeds (counted i (drop n (map field_of fs))) z ≡ exceeds (counted i (map field_of fs)) z → true ≡ exceeds (counted i (map field_of fs)) z
-past_here i n fs f z b lt is e t inv =
-    sym (sym inv ∙ past_next i n fs f z lt is ∙ ap (λ (b : Bool). b || exceeds (counted i (drop (n + 1) (map field_of fs))) z) (sym e ∙ t))
+above_lesser : (k m n : ℕ) → nat_lt (min k m) n ≡ (nat_lt k n || nat_lt m n)
+above_lesser k m n = same_tests (nat_lt (min k m) n) (nat_lt k n || nat_lt m n) (λ e. forth e (nat_lt k n) refl) (λ e. back (nat_lt k n) refl e)
+  where
+    forth : nat_lt (min k m) n ≡ true → (b : Bool) → nat_lt k n ≡ b → (b || nat_lt m n) ≡ true
+    forth e true f = refl
+    forth e false f =
+        let least : min k m < n = ltb-true (min k m) n e in
+        let up : n ≤ k = ltb-false k n f in
+        lt-ltb m n (omega arith)
 
-pub past_on : (i n : ℕ) (fs : List CodeField) (f : CodeField) (z : ℤ) (b : Bool) → n < length fs → f ≡ get_or fs n f → b ≡ exceeds (counted_by i f.count) z → b ≡ false
-    → exceeds (counted i (drop n (map field_of fs))) z ≡ exceeds (counted i (map field_of fs)) z
-    → exceeds (counted i (drop (n + 1) (map field_of fs))) z ≡ exceeds (counted i (map field_of fs)) z
-past_on i n fs f z b lt is e t inv =
-    sym (sym inv ∙ past_next i n fs f z lt is ∙ ap (λ (b : Bool). b || exceeds (counted i (drop (n + 1) (map field_of fs))) z) (sym e ∙ t))
+    back : (b : Bool) → nat_lt k n ≡ b → (b || nat_lt m n) ≡ true → nat_lt (min k m) n ≡ true
+    back true f e =
+        let lt : k < n = ltb-true k n f in
+        lt-ltb (min k m) n (omega arith)
+    back false f e =
+        let lt : m < n = ltb-true m n e in
+        lt-ltb (min k m) n (omega arith)
+
+exceeds_lesser : (o : Option ℕ) (m : ℕ) (z : ℤ) → exceeds (capacities_of (lesser o m)) z ≡ (exceeds (capacities_of o) z || is_above z m)
+exceeds_lesser None m z = or_false (is_above z m)
+exceeds_lesser (Some k) m (pos n) =
+    or_false (nat_lt (min k m) n) ∙ above_lesser k m n ∙ ap (λ (b : Bool). b || nat_lt m n) (sym (or_false (nat_lt k n)))
+exceeds_lesser (Some k) m (negsuc n) = refl
+
+exceeds_from : (o : Option ℕ) (caps : List ℕ) (z : ℤ) → exceeds (capacities_of (least_from o caps)) z ≡ (exceeds (capacities_of o) z || exceeds caps z)
+exceeds_from o [] z = sym (or_false (exceeds (capacities_of o) z))
+exceeds_from o (m ∷ caps) z =
+    exceeds_from (lesser o m) caps z ∙ ap (λ (b : Bool). b || exceeds caps z) (exceeds_lesser o m z) ∙ or_assoc (exceeds (capacities_of o) z) (is_above z m) (exceeds caps z)
+
+-- a number is above the least of these capacities where it is above one of them
+exceeds_least : (caps : List ℕ) (z : ℤ) → exceeds (capacities_of (least_of caps)) z ≡ exceeds caps z
+exceeds_least caps z = exceeds_from None caps z
+
+-- ---- what is taken
+
+item_least : (ts : List Taker) (item : Item) (caps : List ℕ) (cell : ℕ) (p : Progress) → take_item ts item (capacities_of (least_of caps)) cell p ≡ take_item ts item caps cell p
+item_least ts (Num kind) caps cell p =
+    let w = width kind in
+    let v = value_of kind (take w p.rest) in
+    ap
+    (λ (b : Bool). if_whole w p (if is_bad_bool kind (take w p.rest) then refuse p reasons.BadBool else if b then refuse p reasons.CountTooLarge else on w (slice_set p.numbers cell v) p))
+    (exceeds_least caps v)
+item_least ts (Equal kind z) caps cell p = refl
+item_least ts (Unused n) caps cell p = refl
+item_least ts (Struct j) caps cell p = refl
+
+pub items_least : (ts : List Taker) (item : Item) (caps : List ℕ) (step n cell : ℕ) (p : Progress)
+    → take_items ts item (capacities_of (least_of caps)) step n cell p ≡ take_items ts item caps step n cell p
+items_least ts item caps step zero cell p = refl
+items_least ts item caps step (suc n) cell p =
+    ap (λ (t : Taken). t >>= λ q. take_items ts item (capacities_of (least_of caps)) step n (cell + step) q) (item_least ts item caps cell p)
+    ∙ bind_same (take_item ts item caps cell p) (take_items ts item (capacities_of (least_of caps)) step n (cell + step)) (take_items ts item caps step n (cell + step))
+    (λ q. items_least ts item caps step n (cell + step) q)

@@ -1,19 +1,19 @@
 -- What heads open, as the judge has it.
-use Rattle.std.proofs.Common.{◌≡◌, ℕ, zero, suc, ◌+◌, ◌-◌, ◌<◌, ◌≤◌, List, [], ◌∷◌, length, get_or, map, slice_set, Option, Some, None, Bool, true, false, if◌then◌else◌, nat_lt, Result, Ok, Err, refl, sym, ap, subst, ◌∙◌, arith}
+use Rattle.std.proofs.Common.{◌≡◌, ℕ, zero, suc, ◌+◌, ◌-◌, ◌<◌, ◌≤◌, List, [], ◌∷◌, length, get_or, Option, Some, None, Bool, true, false, if◌then◌else◌, nat_lt, Result, Ok, Err, refl, sym, ap, ◌∙◌, arith}
 use Rattle.vms_spec.specs.declared.Reason.{Reason}
 use Rattle.vms_spec.specs.declared.Reason.TheVariants as reasons
 use Rattle.vms_spec.specs.Lists.{at, position}
 use Rattle.vms_spec.specs.Sets.{Device, Sub, Set}
-use Rattle.vms_spec.specs.Images.{Image, default_image}
+use Rattle.vms_spec.specs.Images.{Image}
 use Rattle.vms_spec.specs.Readings.{Verdict, Goes, Faulty}
-use Rattle.vms_spec.specs.Judging.{State, Fields, find_device, find_sub, index, did_come, judge_device, judge_sub}
+use Rattle.vms_spec.specs.Judging.{State, find_device, find_sub, index, did_come, judge_device, judge_sub}
 use Rattle.vms_parts.specs.Devices.{device_at}
 use Rattle.vms_desc.specs.Parts.{sub_at}
 use Rattle.vms_marks.specs.declared.head.Head.{Head}
 use Rattle.vms_frames.specs.Judged.{judge_section, judge_subsection}
 use Rattle.vms_laws.proofs.HeadLaws.{opened}
 use Rattle.vms_laws.proofs.SubHeads.{sub_opened as sub_state}
-use Rattle.vms_load.specs.Heads.{section_opened, device_opened, opened_unless, reason_against, reason_against_version, reason_against_sub, sub_opened, sub_opened_at, opened_at, Unfit, unfit}
+use Rattle.vms_load.specs.Heads.{section_opened, device_opened, opened_unless, reason_against, reason_against_sub, sub_opened, sub_opened_at, opened_at, Unfit, unfit}
 
 -- ---- what a search finds
 

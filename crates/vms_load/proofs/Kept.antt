@@ -1,5 +1,5 @@
 -- An image of which the numbers alone change.
-use Rattle.std.proofs.Common.{◌≡◌, ℕ, List, Option, ℤ, ap, ◌∙◌}
+use Rattle.std.proofs.Common.{◌≡◌, ap, ◌∙◌}
 use Rattle.vms_spec.specs.Images.{Image}
 
 pub kept_on : (first mid last : Image) → mid ≡ record first { numbers = mid.numbers } → last ≡ record mid { numbers = last.numbers } → last ≡ record first { numbers = last.numbers }

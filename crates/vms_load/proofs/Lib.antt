@@ -2,6 +2,7 @@ pub mod AfterReads
 pub mod BodyLemmas
 pub mod Bounding
 pub mod Counting
+pub mod Fronts
 pub mod HeadLeaving
 pub mod HeadLemmas
 pub mod Kept
@@ -10,12 +11,11 @@ pub mod LoadReads
 pub mod OpenedReads
 pub mod PartReads
 pub mod ReadLemmas
-pub mod Rules
 pub mod SetFacts
+pub mod SmallItems
 pub mod Spending
 pub mod StagedLemmas
 pub mod StreamReads
-pub mod Tables
 pub mod TurnReads
 pub mod UnitsLong
-pub mod WellFit
+pub mod Walking

@@ -1,7 +1,6 @@
 -- What a load answers, by what the judge reads.
-use Rattle.std.proofs.Common.{◌≡◌, ℕ, List, drop, Option, Some, None, Result, Ok, Err, IfSome, refl, sym, ap, ◌∙◌, subst}
+use Rattle.std.proofs.Common.{◌≡◌, ℕ, List, Option, Some, None, Ok, Err, IfSome, refl, sym, ap, ◌∙◌, subst}
 use Rattle.vms_spec.specs.Numbers.{IsBytes}
-use Rattle.vms_spec.specs.declared.Reason.{Reason}
 use Rattle.vms_spec.specs.Sets.{Set}
 use Rattle.vms_spec.specs.Images.{Image}
 use Rattle.vms_spec.specs.Streams.{Takes}

@@ -1,10 +1,9 @@
 -- The section of a head, as the judge reads it.
-use Rattle.std.proofs.Common.{◌≡◌, ℕ, ◌+◌, ◌<◌, List, length, get_or, slice_set, Option, Some, None, Bool, true, Result, Ok, Err, IfSome, refl, sym, ap, ◌∙◌, subst, arith}
-use Rattle.vms_spec.specs.Lists.{at}
-use Rattle.vms_spec.specs.Sets.{Device, Set}
+use Rattle.std.proofs.Common.{◌≡◌, ℕ, ◌+◌, List, length, slice_set, Option, Some, None, Bool, true, Result, Ok, Err, IfSome, refl, sym, ap, ◌∙◌, subst}
+use Rattle.vms_spec.specs.Sets.{Set}
 use Rattle.vms_spec.specs.Images.{Image}
 use Rattle.vms_spec.specs.Readings.{Verdict, Reading}
-use Rattle.vms_spec.specs.Judging.{State, Fields, Later, judge}
+use Rattle.vms_spec.specs.Judging.{State, Later, judge}
 use Rattle.vms_laws.specs.Whole.{reading_on}
 use Rattle.vms_laws.proofs.BodyLaws.{set_twice}
 use Rattle.vms_laws.proofs.HeadLaws.{opened}
@@ -18,7 +17,6 @@ use Rattle.vms_load.specs.Parts.{state_in, in_fields, after_part}
 use Rattle.vms_load.specs.Staging.{image_at}
 use Rattle.vms_load.specs.declared.fault.LoadFault.{LoadFault}
 use Rattle.vms_load.specs.declared.fault.LoadFault.TheVariants as faults
-use Rattle.vms_load.specs.declared.parts.Section.{Section}
 use Rattle.vms_load.proofs.HeadLemmas.{section_verdict, section_judged}
 use Rattle.vms_load.proofs.ReadLemmas.{IsLong}
 use Rattle.vms_spec.specs.Readings.{Refused}

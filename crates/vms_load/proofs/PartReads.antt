@@ -1,5 +1,5 @@
 -- What a reader of a part takes is what the judge reads there.
-use Rattle.std.proofs.Common.{◌≡◌, ℕ, ◌+◌, ◌-◌, ◌<◌, ◌≤◌, List, ◌++◌, length, get_or, drop, drop_at, slice_set, Option, Some, None, Result, Ok, Err, IfSome, ℤ, refl, sym, ap, ◌∙◌, subst, arith}
+use Rattle.std.proofs.Common.{◌≡◌, ℕ, ◌-◌, ◌<◌, List, length, drop, drop_at, Option, Some, None, Result, Ok, Err, IfSome, ℤ, refl, sym, ap, ◌∙◌, subst, arith}
 use Rattle.vms_spec.specs.Numbers.{IsBytes}
 use Rattle.vms_spec.specs.declared.Reason.{Reason}
 use Rattle.vms_spec.specs.Lists.{at}
@@ -21,8 +21,8 @@ use Rattle.vms_desc.specs.Parts.{sub_at}
 use Rattle.vms_frames.specs.declared.fault.FrameFault.{FrameFault}
 use Rattle.vms_frames.specs.declared.fault.FrameFault.TheVariants as frames
 use Rattle.vms_load.specs.Bodies.{TakesAs}
-use Rattle.vms_load.specs.Reads.{Onward, Reads, concerning}
-use Rattle.vms_load.specs.Parts.{IsShaped, IsIn, IsOpen, part_desc, part_base, in_fields, after_fields}
+use Rattle.vms_load.specs.Reads.{Reads, concerning}
+use Rattle.vms_load.specs.Parts.{IsIn, IsOpen, part_desc, part_base, in_fields, after_fields}
 use Rattle.vms_load.specs.declared.parts.Section.{Section}
 use Rattle.vms_load.proofs.HeadLemmas.{at_get}
 
@@ -107,21 +107,15 @@ module _ (set : Set) (good : IsGood set) (section : Section) (here : section.dev
         (subst (λ (x : Option (Reading State)). Reads x (λ _. after_fields set names state section sub (record image { numbers = numbers })) place to rest left (concerns (Some section.device) result)) (sym (fields_are room open' place rest))
         (by_taken (open_in device image sub v open') long place rest ok numbers to left result (taken place rest) refl h))
 
-    same_taken : (structs : List Desc) (n : ℕ) (desc : Desc) (base : ℕ) → structs ≡ set.structs → n ≡ length set.structs → desc ≡ part_desc device sub → base ≡ part_base set device sub
-        → (place : ℕ) (rest : List ℕ) → take_desc (takers structs n) desc v base (start place rest) ≡ taken place rest
-    same_taken structs n desc base a b c d place rest =
-        ap (λ (l : List Desc). take_desc (takers l n) desc v base (start place rest)) a
-        ∙ ap (λ (m : ℕ). take_desc (takers set.structs m) desc v base (start place rest)) b
-        ∙ ap (λ (x : Desc). take_desc (takers set.structs (length set.structs)) x v base (start place rest)) c
-        ∙ ap (λ (m : ℕ). take_desc (takers set.structs (length set.structs)) (part_desc device sub) v m (start place rest)) d
-
     -- the same by what the code has of the set
-    pub fields_answer : (structs : List Desc) (n : ℕ) (desc : Desc) (base : ℕ) → structs ≡ set.structs → n ≡ length set.structs → desc ≡ part_desc device sub → base ≡ part_base set device sub
+    pub fields_answer : (d : Desc) (base : ℕ) → d ≡ part_desc device sub → base ≡ part_base set device sub
         → section.device < length state.images → IsOpen device image sub v → length image.numbers ≡ length (device_cells set device) → (place : ℕ) (numbers : List ℤ) (new : Image) (to : ℕ)
         (old left : Option (List ℕ)) (result : Result (Unit {0}) FrameFault) → IfSome old IsBytes → new ≡ record image { numbers = numbers }
-        → IfSome old (λ rest. TakesAs (take_desc (takers structs n) desc v base (start place rest)) numbers to left result)
+        → IfSome old (λ rest. TakesAs (take_desc (takers set.structs (length set.structs)) d v base (start place rest)) numbers to left result)
         → IfSome old (λ rest. Reads (in_fields set names state section sub image place rest) (λ _. after_fields set names state section sub new) place to rest left (concerns (Some section.device) result))
-    fields_answer structs n desc base a b c d room open' long place numbers new to None left result ok is h = tt
-    fields_answer structs n desc base a b c d room open' long place numbers new to (Some rest) left result ok is h =
-        fields_read room open' long place numbers new to (Some rest) left result ok is
-        (subst (λ (t : Taken). TakesAs t numbers to left result) (same_taken structs n desc base a b c d place rest) h)
+    fields_answer d base a b room open' long place numbers new to None left result ok is h = tt
+    fields_answer d base a b room open' long place numbers new to (Some rest) left result ok is h =
+        let same : take_desc (takers set.structs (length set.structs)) d v base (start place rest) ≡ taken place rest =
+        ap (λ (x : Desc). take_desc (takers set.structs (length set.structs)) x v base (start place rest)) a
+        ∙ ap (λ (m : ℕ). take_desc (takers set.structs (length set.structs)) (part_desc device sub) v m (start place rest)) b in
+        fields_read room open' long place numbers new to (Some rest) left result ok is (subst (λ (t : Taken). TakesAs t numbers to left result) same h)

@@ -6,7 +6,7 @@ use Rattle.vms_spec.specs.declared.Reason.TheVariants as reasons
 use Rattle.vms_spec.specs.Readings.{Verdict, Goes, Faulty, Over, Reading, Refused, reading_after}
 use Rattle.vms_spec.specs.Judging.{State}
 use Rattle.vms_frames.specs.Found.{Found, Whole, Wrong, Cut}
-use Rattle.vms_frames.specs.Answers.{Answers, Refuses}
+use Rattle.vms_frames.specs.Answers.{Refuses}
 use Rattle.vms_frames.specs.Judged.{judge_found}
 use Rattle.vms_frames.specs.declared.fault.FrameFault.{FrameFault}
 use Rattle.vms_frames.specs.declared.fault.FrameFault.TheVariants as frames

@@ -1,22 +1,24 @@
 -- What each description set has.
-use Rattle.std.proofs.Common.{◌≡◌, ℕ, List, length, map, Option, Some, None, refl, sym, ap, ◌∙◌, true, ◌<◌, ◌≤◌, ◌&&◌, nat_le}
-use Rattle.std.proofs.lemmas.List.{length-map}
-use Rattle.vms_spec.specs.Sets.{Set, Desc}
+use Rattle.std.proofs.Common.{◌≡◌, ℕ, ◌+◌, ◌<◌, ◌≤◌, List, length, Option, Some, None, ℤ, refl, sym, ap, ◌∙◌, subst, arith, true, ◌&&◌, nat_le}
+use Rattle.vms_spec.specs.Sets.{Set}
 use Rattle.std.proofs.lemmas.Bool.{and_parts, leb-true}
+use Rattle.vms_spec.specs.Layout.{device_cells}
+use Rattle.vms_spec.specs.Places.{own_cell_count}
 use Rattle.vms_spec.specs.WellFormed.{first_fault, WellFormed, has_few, failing, here, struct_fault, device_fault, set_rules, size_rules}
+use Rattle.vms_spec.specs.declared.Part.{Part}
 use Rattle.vms_spec.specs.declared.Part.TheVariants as parts
 use Rattle.vms_spec.specs.Lists.{or_else, first_answer}
 use Rattle.vms_laws.specs.Good.{FitsHeads, IsGood}
 use Rattle.vms_laws.proofs.WellFormedLaws.{well_good, device_parts}
 use Rattle.vms_parts.specs.Devices.{device_at}
-use Rattle.vms_parts.specs.Views.{desc_of, set_of}
-use Rattle.vms_parts.specs.declared.types.Desc.{Desc as CodeDesc}
-use Rattle.vms_parts.specs.declared.types.Parts.{Parts}
 use Rattle.vms_desc.specs.Formed.{is_well_formed}
 use Rattle.vms_desc.specs.Asks.{first_cell}
-use Rattle.vms_desc.specs.Parts.{desc_at}
+use Rattle.vms_desc.specs.Parts.{HasPart, desc_at}
+use Rattle.vms_desc.proofs.AskLaws.{few_cells, own_inside_device, sub_inside}
 use Rattle.vms_desc.proofs.Bounds.{none_is, AllTrue, all_true, or_else_none}
-use Rattle.vms_load.specs.Parts.{part_of, part_desc, part_base}
+use Rattle.vms_load.specs.Parts.{IsIn, part_of, part_desc, part_base}
+use Rattle.vms_load.specs.Walks.{HasSpot}
+use Rattle.vms_load.specs.declared.body.Spot.{Spot}
 use Rattle.vms_load.proofs.HeadLemmas.{at_get}
 
 pub well_of : (set : Set) → is_well_formed set ≡ true → WellFormed set
@@ -33,11 +35,26 @@ pub base_is : (set : Set) (k : ℕ) (sub : Option ℕ) → first_cell set (part_
 base_is set k None = refl
 base_is set k (Some j) = refl
 
-pub structs_are : (set : Set) (parts : Parts) (structs : List CodeDesc) → set_of parts ≡ set → structs ≡ parts.structs → map desc_of structs ≡ set.structs
-structs_are set parts structs e f = ap (map desc_of) f ∙ ap (λ (s : Set). s.structs) e
+-- the fields of a part of a device stand among its cells
+module _ (set : Set) (well : is_well_formed set ≡ true) (k : ℕ) (lt : k < length set.devices) where
+  has_part : (sub : Option ℕ) → IsIn (device_at set k) sub → HasPart set (part_of k sub)
+  has_part None h = lt
+  has_part (Some j) h = (lt, h)
 
-pub structs_long : (set : Set) (structs : List CodeDesc) → map desc_of structs ≡ set.structs → length structs ≡ length set.structs
-structs_long set structs e = sym (length-map structs desc_of) ∙ ap length e
+  inside : (sub : Option ℕ) → IsIn (device_at set k) sub → first_cell set (part_of k sub) + own_cell_count set (desc_at set (part_of k sub)) ≤ length (device_cells set (device_at set k))
+  inside None h = omega (arith, own_inside_device set k)
+  inside (Some j) h = sub_inside set k j h
+
+  pub part_spot : (sub : Option ℕ) → IsIn (device_at set k) sub → (n : List ℤ) → length n ≡ length (device_cells set (device_at set k)) → (spot : Spot) → spot.part ≡ part_of k sub → spot.base ≡ first_cell set spot.part
+      → HasSpot set spot n
+  part_spot sub h n long spot part base =
+      let here : spot.base ≡ first_cell set (part_of k sub) = base ∙ ap (first_cell set) part in
+      let size = ap (λ (p : Part). own_cell_count set (desc_at set p)) part in
+      record {
+        part = subst (HasPart set) (sym part) (has_part sub h);
+        few = omega (arith, long, few_cells set well k);
+        room = omega (arith, here, size, long, inside sub h);
+      }
 
 pub few_subs : (set : Set) → is_well_formed set ≡ true → (k : ℕ) → k < length set.devices → length (device_at set k).subs ≤ 32
 few_subs set h k lt =

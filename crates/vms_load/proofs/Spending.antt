@@ -10,11 +10,6 @@ pub one_of : (n m : ℕ) → 1 ≤ n → m ≤ n * m
 one_of zero m h = absurd (omega arith)
 one_of (suc n) m h = let f : suc n * m ≡ m + n * m = grind arith in omega arith
 
--- a bound may be raised
-pub spends_less : (most more before now from to : ℕ) (result : Result (Unit {0}) FrameFault) → most ≤ more → Spends most before now from to result → Spends more before now from to result
-spends_less most more before now from to (Ok x) le s = (s.0, omega (arith, s.1), s.2)
-spends_less most more before now from to (Err e) le s = omega (arith, s)
-
 -- a call that ends after others
 pub spends_err : (most more before mid now from at to to' : ℕ) (e : FrameFault) → from ≤ at → mid ≡ capped (before + (at - from)) → at + most ≤ from + more
     → Spends {X = Unit {0}} most mid now at to (Err e) → Spends {X = Unit {0}} more before now from to' (Err e)

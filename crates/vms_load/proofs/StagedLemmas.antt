@@ -1,5 +1,5 @@
 -- What is read of a stream so far, device by device.
-use Rattle.std.proofs.Common.{◌≡◌, ℕ, zero, suc, ◌+◌, ◌<◌, ◌≤◌, List, [], ◌∷◌, ◌++◌, length, length-append, get_or, map, replicate, drop, slice_set, Option, Some, None, Bool, true, false, ◌||◌, nat_lt, if◌then◌else◌, Result, Ok, Err, IfErr, refl, sym, ap, ◌∙◌, subst, arith}
+use Rattle.std.proofs.Common.{◌≡◌, ℕ, zero, suc, ◌+◌, ◌<◌, ◌≤◌, List, [], ◌∷◌, ◌++◌, length, length-append, get_or, map, replicate, drop, slice_set, Option, Some, None, Bool, true, false, ◌||◌, nat_lt, if◌then◌else◌, Ok, refl, sym, ap, ◌∙◌, subst, arith}
 use Rattle.std.specs.Str.{bytes_eq}
 use Rattle.std.proofs.lemmas.List.{length-map, length-set, drop_more, ext_get_or, get_or-map}
 use Rattle.std.proofs.Math.ListN.{get_or-append}

@@ -1,14 +1,14 @@
 -- A whole stream, as the judge reads it.
-use Rattle.std.proofs.Common.{◌≡◌, ℕ, ◌+◌, ◌-◌, ◌≤◌, List, [], ◌∷◌, drop, Option, Some, None, Result, Ok, Err, IfSome, OnOk, refl, sym, ap, ◌∙◌, subst, arith}
+use Rattle.std.proofs.Common.{◌≡◌, ℕ, ◌+◌, ◌-◌, List, [], ◌∷◌, drop, Option, Some, None, Result, Ok, Err, IfSome, refl, sym, ap, ◌∙◌, subst, arith}
 use Rattle.std.proofs.lemmas.List.{drop-drop}
 use Rattle.vms_spec.specs.Sets.{Set}
-use Rattle.vms_spec.specs.Readings.{Verdict, Reading, Accepted, Refused, reading_after}
-use Rattle.vms_spec.specs.Judging.{State, Ended, Described, judge, judge_trailer, reading, at_start}
+use Rattle.vms_spec.specs.Readings.{Reading, Accepted, Refused, reading_after}
+use Rattle.vms_spec.specs.Judging.{State, Ended, Described, judge, reading, at_start}
 use Rattle.vms_laws.specs.Whole.{reading_on}
 use Rattle.vms_laws.proofs.FrameLaws.{one_unit}
 use Rattle.vms_laws.proofs.ReadingLaws.{advances}
 use Rattle.vms_laws.proofs.JudgeLaws.{judge_local}
-use Rattle.vms_frames.specs.Answers.{Closes, Refuses}
+use Rattle.vms_frames.specs.Answers.{Closes}
 use Rattle.vms_frames.specs.Found.{Found, Whole, Wrong, Cut, trailer_found}
 use Rattle.vms_frames.specs.Judged.{judge_found, judge_close}
 use Rattle.vms_frames.proofs.JudgedLemmas.{trailer_holds}

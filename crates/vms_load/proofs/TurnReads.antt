@@ -1,24 +1,22 @@
 -- What stands between sections, before them and after them, as the judge reads it.
-use Rattle.std.proofs.Common.{◌≡◌, ℕ, ◌+◌, ◌-◌, ◌<◌, ◌≤◌, List, [], ◌∷◌, length, drop, Option, Some, None, Result, Ok, Err, IfSome, OnOk, refl, sym, ap, ◌∙◌, subst, arith}
-use Rattle.vms_spec.specs.declared.Reason.{Reason}
+use Rattle.std.proofs.Common.{◌≡◌, ℕ, ◌+◌, ◌-◌, ◌≤◌, List, length, drop, Option, Some, None, Result, Ok, Err, IfSome, OnOk, refl, sym, ap, ◌∙◌, subst, arith}
 use Rattle.vms_spec.specs.Sets.{Set}
-use Rattle.vms_spec.specs.Readings.{Verdict, Goes, Over, Reading, Accepted, Refused, reading_after}
+use Rattle.vms_spec.specs.Readings.{Reading, reading_after}
 use Rattle.vms_spec.specs.Judging.{State, Spot, judge, judge_at, judge_mark, judge_magic, judge_version, judge_trailer, goes_to}
 use Rattle.vms_spec.specs.Judging as spots
 use Rattle.vms_laws.specs.Whole.{reading_on}
 use Rattle.vms_laws.proofs.FrameLaws.{one_unit}
 use Rattle.vms_laws.proofs.ReadingLaws.{advances}
 use Rattle.vms_laws.proofs.JudgeLaws.{judge_local}
-use Rattle.vms_frames.specs.Answers.{Answers, AnswersAfter, AnswersHead, Closes, Refuses}
-use Rattle.vms_frames.specs.Found.{Found, Whole, Wrong, Cut, between_found, step_long, magic_found, version_found, trailer_found}
-use Rattle.vms_frames.specs.Judged.{judge_found, judge_step, judge_section, judge_close, is_first, is_configured}
+use Rattle.vms_frames.specs.Answers.{Answers, AnswersAfter, AnswersHead}
+use Rattle.vms_frames.specs.Found.{Found, Whole, Wrong, Cut, between_found, step_long, magic_found, version_found}
+use Rattle.vms_frames.specs.Judged.{judge_found, judge_step, judge_section, is_first, is_configured}
 use Rattle.vms_frames.specs.declared.units.Between.{Between}
 use Rattle.vms_frames.specs.declared.units.Between.TheVariants.{First, AfterConfiguration, Later}
 use Rattle.vms_frames.specs.declared.units.Step.{Step}
 use Rattle.vms_frames.specs.declared.units.Step.TheVariants as steps
-use Rattle.vms_frames.proofs.JudgedLemmas.{between_holds, magic_holds, version_holds, trailer_holds}
+use Rattle.vms_frames.proofs.JudgedLemmas.{between_holds, magic_holds, version_holds}
 use Rattle.vms_frames.specs.declared.fault.FrameFault.{FrameFault}
-use Rattle.vms_frames.specs.declared.fault.FrameFault.TheVariants as frames
 use Rattle.vms_marks.specs.declared.head.Head.{Head}
 use Rattle.vms_load.specs.Reads.{Onward, Leads, Reads, Settles, behind, concerning}
 use Rattle.vms_load.specs.Staging.{spot_of}

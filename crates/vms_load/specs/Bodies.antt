@@ -1,22 +1,14 @@
 -- What the calls that read fields answer.
-use Rattle.std.specs.Prelude.{◌≡◌, ℕ, ◌+◌, ◌-◌, ◌≤◌, ◌==◌, if◌then◌else◌, List, [], ◌∷◌, take, Option, Some, None, ℤ, Result, Ok, Err}
+use Rattle.std.specs.Prelude.{◌≡◌, ℕ, ◌+◌, ◌-◌, ◌≤◌, if◌then◌else◌, List, take, Option, Some, None, ℤ, Result, Ok, Err}
 use Rattle.vms_io.specs.Causes.{capped}
 use Rattle.vms_kinds.specs.declared.Kind.{Kind}
 use Rattle.vms_kinds.specs.Codes.{width, value_of}
 use Rattle.vms_spec.specs.declared.Reason.TheVariants as reasons
-use Rattle.vms_spec.specs.declared.Count.{Count}
-use Rattle.vms_spec.specs.declared.Count.TheVariants.{One, Fixed, Counted}
 use Rattle.vms_spec.specs.Judging.{is_bad_bool, exceeds, same_number}
 use Rattle.vms_spec.specs.Taking.{Taken}
 use Rattle.vms_frames.specs.Found.{Found, Whole, Wrong, needs}
 use Rattle.vms_frames.specs.declared.fault.FrameFault.{FrameFault}
 use Rattle.vms_frames.specs.declared.fault.FrameFault.TheVariants as faults
-
--- the capacity of an array of this count, where field i counts it
-abbrev pub counted_by : ℕ → Count → List ℕ
-counted_by i (Counted by most) = if by == i then most ∷ [] else []
-counted_by i One = []
-counted_by i (Fixed n) = []
 
 -- a number of this kind that is at most each of these capacities
 abbrev pub capped_found : Kind → List ℕ → List ℕ → Found ℤ

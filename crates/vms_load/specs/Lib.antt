@@ -1,6 +1,5 @@
 pub mod Bodies
 pub mod Bounds
-pub mod Fit
 pub mod Heads
 pub mod Kept
 pub mod Leaving
@@ -8,3 +7,4 @@ pub mod Loads
 pub mod Parts
 pub mod Reads
 pub mod Staging
+pub mod Walks

@@ -1,5 +1,5 @@
 -- What the calls of the loader read, as the judge of streams has it.
-use Rattle.std.specs.Prelude.{◌≡◌, ℕ, ◌+◌, ◌-◌, ◌≤◌, List, drop, slice_set, Option, Some, None, Result, Ok, Err}
+use Rattle.std.specs.Prelude.{◌≡◌, ℕ, ◌+◌, ◌-◌, ◌≤◌, List, drop, Option, Some, None, Result, Ok, Err}
 use Rattle.vms_io.specs.Causes.{capped}
 use Rattle.vms_spec.specs.Readings.{Verdict, Goes, Faulty, Over, Reading, Accepted, Refused}
 use Rattle.vms_spec.specs.Judging.{State}

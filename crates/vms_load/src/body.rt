@@ -1,248 +1,196 @@
 // Reads the fields of a description, structures and arrays expanded.
-ghost use Rattle.std.specs.Prelude.{◌≡◌, ◌<◌, ◌≤◌, ◌+◌, ◌*◌, ◌^◌, ℕ, ℤ, length, get_or, map, IfSome, pos};
-ghost use Rattle.std.specs.Option.{option_map};
-ghost use Rattle.vms_spec.specs.Layout.{counted, item_size, desc_cells, capacity_of};
-ghost use Rattle.vms_spec.specs.Taking.{take_item, take_items, take_field, take_fields, take_desc, takers, cells_of};
-ghost use Rattle.vms_parts.specs.Views.{field_of, desc_of, formula};
+ghost use Rattle.std.specs.Prelude.{◌≡◌, ◌<◌, ◌≤◌, ◌+◌, ◌*◌, ◌^◌, true, length, IfSome};
+ghost use Rattle.vms_spec.specs.Rules.{uses_below};
+ghost use Rattle.vms_spec.specs.Taking.{take_item, take_fields, take_desc};
+ghost use Rattle.vms_desc.specs.Described.{described};
+ghost use Rattle.vms_desc.specs.Parts.{desc_at};
 ghost use Rattle.vms_frames.specs.Answers.{HasCause};
 ghost use Rattle.vms_load.specs.Bodies.{TakesAs, Spends};
-ghost use Rattle.vms_load.specs.Bounds.{item_bytes, field_bytes, desc_bytes, struct_bytes};
-ghost use Rattle.vms_load.specs.Fit.{IsFit, AreFit, IsFitItem, IsFitField, AreSizes};
 ghost use Rattle.vms_load.specs.Leaving.{FieldsLeave};
+ghost use Rattle.vms_load.specs.Parts.{bytes_of};
+ghost use Rattle.vms_load.specs.Walks.{table, HasSpot, size_in, bytes_in, capacities_of, present_of, elements_at, take_elements};
 
-use crate::holds::{are_valid, elements, is_there};
 use crate::items::{constant, put_number};
-use crate::sizes::{field_size, item_size};
-use vms_desc::{Desc, Field};
+use vms_desc::{DescSet, Part};
 use vms_frames::{Cursor, FrameFault};
 use vms_image::Image;
 use vms_io::Source;
 use vms_kinds::Item;
 use vms_spec::Reason;
 
+/// A part of a set at a version, or one element of a structure, and its first cell.
+#[derive(Clone, Copy)]
+pub(crate) struct Spot {
+    pub(crate) part: Part,
+    pub(crate) version: u32,
+    pub(crate) base: u32,
+}
+
+// One element of a field. A number that counts arrays is at most `most`, the least of their capacities.
+#[derive(Clone, Copy)]
+struct Element {
+    item: Item,
+    most: Option<u32>,
+}
+
+// Elements of a field, of which the first has the first cell `first`.
+#[derive(Clone, Copy)]
+struct Elements {
+    one: Element,
+    count: u32,
+    first: u32,
+}
+
+// The elements of a field that stand in the bytes: none where the field isn't there. Its first cell is `cell`.
+fn present(set: &DescSet, spot: Spot, field: u32, cell: u32, image: &Image) -> Elements
+    requires spot { HasSpot (described set.now) spot image.now.numbers }
+    requires field { field < length (desc_at (described set.now) spot.part).fields }
+    ensures { result ≡ elements_at (described set.now) spot image.now.numbers field cell }
+{
+    let described = &set.desc(spot.part).fields.as_slice()[field as usize];
+    let one = Element {
+        item: described.item,
+        most: set.most(spot.part, field),
+    };
+    Elements {
+        one,
+        count: present_count(set, spot, field, image),
+        first: cell,
+    }
+}
+
+// How many elements of a field stand in the bytes.
+fn present_count(set: &DescSet, spot: Spot, field: u32, image: &Image) -> u32
+    requires spot { HasSpot (described set.now) spot image.now.numbers }
+    requires field { field < length (desc_at (described set.now) spot.part).fields }
+    ensures { result ≡ present_of (described set.now) spot image.now.numbers field }
+{
+    if set.is_there(spot.part, spot.base, field, spot.version, image) {
+        set.elements(spot.part, spot.base, field, image)
+    } else {
+        0
+    }
+}
+
+// One element, whose first cell is `cell`.
 #[cycle(body)]
-fn item<S: Source>(
+fn read_item<S: Source>(
+    set: &DescSet,
+    element: Element,
+    cell: u32,
+    image: &mut Image,
     cursor: &mut Cursor,
     source: &mut S,
-    structs: &[Desc],
-    sizes: &[u32],
-    k: usize,
-    fields: &[Field],
-    field: usize,
-    item: &Item,
-    image: &mut Image,
-    cell: usize,
 ) -> Result<(), FrameFault>
-    requires known { IsFitItem k item.now }
-    requires within { k ≤ length structs.now }
-    requires fit { AreFit (map desc_of structs.now) }
-    requires sized { AreSizes (map desc_of structs.now) sizes.now }
-    requires room { cell + item_size (cells_of (takers (map desc_of structs.now) k)) item.now ≤ length image.old.numbers }
-    requires small { length image.old.numbers < 2 ^ 32 }
-    requires place { cursor.old + item_bytes (struct_bytes (map desc_of structs.now) k) item.now ≤ 2 ^ 63 }
-    ensures taken { IfSome (S.left source.old) (λ rest. TakesAs (take_item (takers (map desc_of structs.now) k) item.now (counted field (map field_of fields.now)) cell (record { numbers = image.old.numbers; place = cursor.old; rest = rest })) image.new.numbers cursor.new (S.left source.new) result) }
-    ensures given { Spends (item_bytes (struct_bytes (map desc_of structs.now) k) item.now) (S.given source.old) (S.given source.new) cursor.old cursor.new result }
+    requires reaches { uses_below (length (described set.now).structs) element.item ≡ true }
+    requires room { cell + size_in (described set.now) element.item ≤ length image.old.numbers }
+    requires few { length image.old.numbers ≤ 16384 }
+    requires place { cursor.old + bytes_in (described set.now) element.item ≤ 2 ^ 63 }
+    ensures taken { IfSome (S.left source.old) (λ rest. TakesAs (take_item (table (described set.now)) element.item (capacities_of element.most) cell (record { numbers = image.old.numbers; place = cursor.old; rest = rest })) image.new.numbers cursor.new (S.left source.new) result) }
+    ensures given { Spends (bytes_in (described set.now) element.item) (S.given source.old) (S.given source.new) cursor.old cursor.new result }
     ensures cause { HasCause (S.faults source.old) (S.faults source.new) result }
     ensures promise { S.promise source.new ≡ S.promise source.old }
     ensures leaves { IfSome (S.left source.old) (λ rest. FieldsLeave cursor.old rest cursor.new (S.left source.new) result) }
     ensures kept { image.new ≡ record image.old { numbers = image.new.numbers } }
     ensures long { length image.new.numbers ≡ length image.old.numbers }
 {
-    match item {
-        Item::Num(kind) => put_number(cursor, source, *kind, fields, field, image, cell),
-        Item::Equal { kind, value } => constant(cursor, source, *kind, *value),
-        Item::Unused { bytes } => cursor.skip(source, *bytes),
-        Item::Struct(j) => {
-            let desc = &structs[*j as usize];
-            body(
-                cursor,
-                source,
-                structs,
-                sizes,
-                *j as usize,
-                desc,
-                desc.version,
-                image,
-                cell,
-            )
+    match element.item {
+        Item::Num(kind) => put_number(cursor, source, kind, element.most, image, cell),
+        Item::Equal { kind, value } => constant(cursor, source, kind, value),
+        Item::Unused { bytes } => cursor.skip(source, bytes),
+        Item::Struct(number) => {
+            let part = Part::Struct(number);
+            let spot = Spot {
+                part,
+                version: set.desc(part).version,
+                base: cell,
+            };
+            read_part(set, spot, image, cursor, source)
         }
     }
 }
 
-// Items one after the other.
+// Elements one after the other.
 #[cycle(body)]
-fn items<S: Source>(
+fn read_items<S: Source>(
+    set: &DescSet,
+    elements: Elements,
+    image: &mut Image,
     cursor: &mut Cursor,
     source: &mut S,
-    structs: &[Desc],
-    sizes: &[u32],
-    k: usize,
-    fields: &[Field],
-    field: usize,
-    part: &Item,
-    count: u32,
-    image: &mut Image,
-    first: usize,
 ) -> Result<(), FrameFault>
-    requires known { IsFitItem k part.now }
-    requires within { k ≤ length structs.now }
-    requires fit { AreFit (map desc_of structs.now) }
-    requires sized { AreSizes (map desc_of structs.now) sizes.now }
-    requires one { item_size (cells_of (takers (map desc_of structs.now) k)) part.now < 2 ^ 32 }
-    requires room { first + count * item_size (cells_of (takers (map desc_of structs.now) k)) part.now ≤ length image.old.numbers }
-    requires small { length image.old.numbers < 2 ^ 32 }
-    requires place { cursor.old + count * item_bytes (struct_bytes (map desc_of structs.now) k) part.now ≤ 2 ^ 63 }
-    ensures taken { IfSome (S.left source.old) (λ rest. TakesAs (take_items (takers (map desc_of structs.now) k) part.now (counted field (map field_of fields.now)) (item_size (cells_of (takers (map desc_of structs.now) k)) part.now) count first (record { numbers = image.old.numbers; place = cursor.old; rest = rest })) image.new.numbers cursor.new (S.left source.new) result) }
-    ensures given { Spends (count * item_bytes (struct_bytes (map desc_of structs.now) k) part.now) (S.given source.old) (S.given source.new) cursor.old cursor.new result }
+    requires reaches { uses_below (length (described set.now).structs) elements.one.item ≡ true }
+    requires small { size_in (described set.now) elements.one.item ≤ 16384 }
+    requires room { elements.first + elements.count * size_in (described set.now) elements.one.item ≤ length image.old.numbers }
+    requires few { length image.old.numbers ≤ 16384 }
+    requires place { cursor.old + elements.count * bytes_in (described set.now) elements.one.item ≤ 2 ^ 63 }
+    ensures taken { IfSome (S.left source.old) (λ rest. TakesAs (take_elements (described set.now) elements (record { numbers = image.old.numbers; place = cursor.old; rest = rest })) image.new.numbers cursor.new (S.left source.new) result) }
+    ensures given { Spends (elements.count * bytes_in (described set.now) elements.one.item) (S.given source.old) (S.given source.new) cursor.old cursor.new result }
     ensures cause { HasCause (S.faults source.old) (S.faults source.new) result }
     ensures promise { S.promise source.new ≡ S.promise source.old }
     ensures leaves { IfSome (S.left source.old) (λ rest. FieldsLeave cursor.old rest cursor.new (S.left source.new) result) }
     ensures kept { image.new ≡ record image.old { numbers = image.new.numbers } }
     ensures long { length image.new.numbers ≡ length image.old.numbers }
 {
-    let size = item_size(structs, sizes, k, part);
-    let mut cell = first;
-    for _turn in 0..count {
-        item(
-            cursor, source, structs, sizes, k, fields, field, part, image, cell,
-        )?;
+    let size = set.item_cells(elements.one.item);
+    let mut cell = elements.first;
+    for _turn in 0..elements.count {
+        read_item(set, elements.one, cell, image, cursor, source)?;
         cell += size;
     }
     Ok(())
 }
 
-// One field, whose first cell is `cell`.
+// The fields of a description, without its validations.
 #[cycle(body)]
-fn field<S: Source>(
+fn read_fields<S: Source>(
+    set: &DescSet,
+    spot: Spot,
+    image: &mut Image,
     cursor: &mut Cursor,
     source: &mut S,
-    structs: &[Desc],
-    sizes: &[u32],
-    k: usize,
-    desc: &Desc,
-    version: u32,
-    number: usize,
-    part: &Field,
-    image: &mut Image,
-    base: usize,
-    cell: usize,
 ) -> Result<(), FrameFault>
-    requires known { IsFitField k (desc_of desc.now).fields (field_of part.now) }
-    requires whole { IsFit k (desc_of desc.now) }
-    requires within { k ≤ length structs.now }
-    requires fit { AreFit (map desc_of structs.now) }
-    requires sized { AreSizes (map desc_of structs.now) sizes.now }
-    requires cells { base + length (desc_cells (cells_of (takers (map desc_of structs.now) k)) (desc_of desc.now)) ≤ length image.old.numbers }
-    requires room { cell + capacity_of part.now.count * item_size (cells_of (takers (map desc_of structs.now) k)) part.now.item ≤ length image.old.numbers }
-    requires small { length image.old.numbers < 2 ^ 32 }
-    requires place { cursor.old + field_bytes (struct_bytes (map desc_of structs.now) k) (field_of part.now) ≤ 2 ^ 63 }
-    ensures taken { IfSome (S.left source.old) (λ rest. TakesAs (take_field (takers (map desc_of structs.now) k) (desc_of desc.now) version base number cell (field_of part.now) (record { numbers = image.old.numbers; place = cursor.old; rest = rest })) image.new.numbers cursor.new (S.left source.new) result) }
-    ensures given { Spends (field_bytes (struct_bytes (map desc_of structs.now) k) (field_of part.now)) (S.given source.old) (S.given source.new) cursor.old cursor.new result }
+    requires spot { HasSpot (described set.now) spot image.old.numbers }
+    requires place { cursor.old + bytes_of (described set.now) (desc_at (described set.now) spot.part) ≤ 2 ^ 63 }
+    ensures taken { IfSome (S.left source.old) (λ rest. TakesAs (take_fields (table (described set.now)) (desc_at (described set.now) spot.part) spot.version spot.base 0 spot.base (desc_at (described set.now) spot.part).fields (record { numbers = image.old.numbers; place = cursor.old; rest = rest })) image.new.numbers cursor.new (S.left source.new) result) }
+    ensures given { Spends (bytes_of (described set.now) (desc_at (described set.now) spot.part)) (S.given source.old) (S.given source.new) cursor.old cursor.new result }
     ensures cause { HasCause (S.faults source.old) (S.faults source.new) result }
     ensures promise { S.promise source.new ≡ S.promise source.old }
     ensures leaves { IfSome (S.left source.old) (λ rest. FieldsLeave cursor.old rest cursor.new (S.left source.new) result) }
     ensures kept { image.new ≡ record image.old { numbers = image.new.numbers } }
     ensures long { length image.new.numbers ≡ length image.old.numbers }
 {
-    if !is_there(
-        structs,
-        sizes,
-        k,
-        desc,
-        base,
-        part,
-        version,
-        image.numbers(),
-    ) {
-        return Ok(());
-    }
-    let count = elements(structs, sizes, k, desc, base, part.count, image.numbers());
-    items(
-        cursor,
-        source,
-        structs,
-        sizes,
-        k,
-        desc.fields.as_slice(),
-        number,
-        &part.item,
-        count,
-        image,
-        cell,
-    )
-}
-
-// The fields of a description whose first cell is `base`, without its validations.
-#[cycle(body)]
-fn fields<S: Source>(
-    cursor: &mut Cursor,
-    source: &mut S,
-    structs: &[Desc],
-    sizes: &[u32],
-    k: usize,
-    desc: &Desc,
-    version: u32,
-    image: &mut Image,
-    base: usize,
-) -> Result<(), FrameFault>
-    requires whole { IsFit k (desc_of desc.now) }
-    requires within { k ≤ length structs.now }
-    requires fit { AreFit (map desc_of structs.now) }
-    requires sized { AreSizes (map desc_of structs.now) sizes.now }
-    requires room { base + length (desc_cells (cells_of (takers (map desc_of structs.now) k)) (desc_of desc.now)) ≤ length image.old.numbers }
-    requires small { length image.old.numbers < 2 ^ 32 }
-    requires place { cursor.old + desc_bytes (struct_bytes (map desc_of structs.now) k) (desc_of desc.now) ≤ 2 ^ 63 }
-    ensures taken { IfSome (S.left source.old) (λ rest. TakesAs (take_fields (takers (map desc_of structs.now) k) (desc_of desc.now) version base 0 base (desc_of desc.now).fields (record { numbers = image.old.numbers; place = cursor.old; rest = rest })) image.new.numbers cursor.new (S.left source.new) result) }
-    ensures given { Spends (desc_bytes (struct_bytes (map desc_of structs.now) k) (desc_of desc.now)) (S.given source.old) (S.given source.new) cursor.old cursor.new result }
-    ensures cause { HasCause (S.faults source.old) (S.faults source.new) result }
-    ensures promise { S.promise source.new ≡ S.promise source.old }
-    ensures leaves { IfSome (S.left source.old) (λ rest. FieldsLeave cursor.old rest cursor.new (S.left source.new) result) }
-    ensures kept { image.new ≡ record image.old { numbers = image.new.numbers } }
-    ensures long { length image.new.numbers ≡ length image.old.numbers }
-{
-    let mut cell = base;
-    for (i, part) in desc.fields.as_slice().iter().enumerate() {
-        field(
-            cursor, source, structs, sizes, k, desc, version, i, part, image, base, cell,
-        )?;
-        cell += field_size(structs, sizes, k, part);
+    let mut cell = spot.base;
+    for field in 0..set.field_count(spot.part) {
+        let elements = present(set, spot, field, cell, image);
+        read_items(set, elements, image, cursor, source)?;
+        cell += set.field_cells(spot.part, field);
     }
     Ok(())
 }
 
-/// The fields and the validations of a description whose first cell is `base`.
+/// The fields and the validations of a description.
 #[cycle(body)]
-pub(crate) fn body<S: Source>(
+pub(crate) fn read_part<S: Source>(
+    set: &DescSet,
+    spot: Spot,
+    image: &mut Image,
     cursor: &mut Cursor,
     source: &mut S,
-    structs: &[Desc],
-    sizes: &[u32],
-    k: usize,
-    desc: &Desc,
-    version: u32,
-    image: &mut Image,
-    base: usize,
 ) -> Result<(), FrameFault>
-    requires whole { IsFit k (desc_of desc.now) }
-    requires within { k ≤ length structs.now }
-    requires fit { AreFit (map desc_of structs.now) }
-    requires sized { AreSizes (map desc_of structs.now) sizes.now }
-    requires room { base + length (desc_cells (cells_of (takers (map desc_of structs.now) k)) (desc_of desc.now)) ≤ length image.old.numbers }
-    requires small { length image.old.numbers < 2 ^ 32 }
-    requires place { cursor.old + desc_bytes (struct_bytes (map desc_of structs.now) k) (desc_of desc.now) ≤ 2 ^ 63 }
-    ensures taken { IfSome (S.left source.old) (λ rest. TakesAs (take_desc (takers (map desc_of structs.now) k) (desc_of desc.now) version base (record { numbers = image.old.numbers; place = cursor.old; rest = rest })) image.new.numbers cursor.new (S.left source.new) result) }
-    ensures given { Spends (desc_bytes (struct_bytes (map desc_of structs.now) k) (desc_of desc.now)) (S.given source.old) (S.given source.new) cursor.old cursor.new result }
+    requires spot { HasSpot (described set.now) spot image.old.numbers }
+    requires place { cursor.old + bytes_of (described set.now) (desc_at (described set.now) spot.part) ≤ 2 ^ 63 }
+    ensures taken { IfSome (S.left source.old) (λ rest. TakesAs (take_desc (table (described set.now)) (desc_at (described set.now) spot.part) spot.version spot.base (record { numbers = image.old.numbers; place = cursor.old; rest = rest })) image.new.numbers cursor.new (S.left source.new) result) }
+    ensures given { Spends (bytes_of (described set.now) (desc_at (described set.now) spot.part)) (S.given source.old) (S.given source.new) cursor.old cursor.new result }
     ensures cause { HasCause (S.faults source.old) (S.faults source.new) result }
     ensures promise { S.promise source.new ≡ S.promise source.old }
     ensures leaves { IfSome (S.left source.old) (λ rest. FieldsLeave cursor.old rest cursor.new (S.left source.new) result) }
     ensures kept { image.new ≡ record image.old { numbers = image.new.numbers } }
     ensures long { length image.new.numbers ≡ length image.old.numbers }
 {
-    fields(
-        cursor, source, structs, sizes, k, desc, version, image, base,
-    )?;
+    read_fields(set, spot, image, cursor, source)?;
     let at = cursor.at();
-    if !are_valid(structs, sizes, k, desc, base, version, image.numbers()) {
+    if !set.holds_rules(spot.part, spot.base, spot.version, image) {
         return Err(FrameFault::Refused {
             at,
             reason: Reason::Invalid,

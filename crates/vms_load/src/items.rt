@@ -1,35 +1,31 @@
 // Numbers that count arrays, constants and unused bytes.
-ghost use Rattle.std.specs.Prelude.{◌≡◌, ◌+◌, ◌≤◌, ◌<◌, ◌^◌, IfSome, OnOk, map, length};
+ghost use Rattle.std.specs.Prelude.{◌≡◌, ◌+◌, ◌≤◌, ◌<◌, ◌^◌, IfSome, OnOk, length};
 ghost use Rattle.vms_kinds.specs.Codes.{width};
-ghost use Rattle.vms_spec.specs.Layout.{counted};
 ghost use Rattle.vms_spec.specs.Numbers.{exceeds, is_above};
 ghost use Rattle.vms_spec.specs.Taking.{take_number};
-ghost use Rattle.vms_parts.specs.Views.{field_of};
 ghost use Rattle.vms_frames.specs.Answers.{Answers, HasCause, GivesWithin};
-ghost use Rattle.vms_load.specs.Bodies.{capped_found, constant_found, counted_by, TakesAs, Spends};
+ghost use Rattle.vms_load.specs.Bodies.{capped_found, constant_found, TakesAs, Spends};
 ghost use Rattle.vms_load.specs.Leaving.{FieldsLeave};
+ghost use Rattle.vms_load.specs.Walks.{capacities_of};
 
-use vms_desc::{Count, Field};
 use vms_frames::{Cursor, FrameFault};
 use vms_image::Image;
 use vms_io::Source;
 use vms_kinds::Kind;
 use vms_spec::Reason;
 
-/// The number of a cell of this field, which is put there.
+/// The number of a cell, which is put there. It is at most `most`, where one is given.
 pub(crate) fn put_number<S: Source>(
     cursor: &mut Cursor,
     source: &mut S,
     kind: Kind,
-    fields: &[Field],
-    field: usize,
+    most: Option<u32>,
     image: &mut Image,
-    cell: usize,
+    cell: u32,
 ) -> Result<(), FrameFault>
     requires place { cursor.old ≤ 2 ^ 63 }
     requires within { cell < length image.old.numbers }
-    requires small { length image.old.numbers < 2 ^ 32 }
-    ensures taken { IfSome (S.left source.old) (λ rest. TakesAs (take_number kind (counted field (map field_of fields.now)) cell (record { numbers = image.old.numbers; place = cursor.old; rest = rest })) image.new.numbers cursor.new (S.left source.new) result) }
+    ensures taken { IfSome (S.left source.old) (λ rest. TakesAs (take_number kind (capacities_of most) cell (record { numbers = image.old.numbers; place = cursor.old; rest = rest })) image.new.numbers cursor.new (S.left source.new) result) }
     ensures given { Spends (width kind) (S.given source.old) (S.given source.new) cursor.old cursor.new result }
     ensures cause { HasCause (S.faults source.old) (S.faults source.new) result }
     ensures promise { S.promise source.new ≡ S.promise source.old }
@@ -37,22 +33,20 @@ pub(crate) fn put_number<S: Source>(
     ensures kept { image.new ≡ record image.old { numbers = image.new.numbers } }
     ensures long { length image.new.numbers ≡ length image.old.numbers }
 {
-    let number = number(cursor, source, kind, fields, field)?;
-    image.set(cell as u32, number);
+    let number = number(cursor, source, kind, most)?;
+    image.set(cell, number);
     Ok(())
 }
 
-// The number of a cell of this field. It is at most the capacity of each array that the field counts,
-// whether or not that array is there.
+// A number. It is at most `most`: the least of the capacities of the arrays that it counts, whether or not they are there.
 fn number<S: Source>(
     cursor: &mut Cursor,
     source: &mut S,
     kind: Kind,
-    fields: &[Field],
-    field: usize,
+    most: Option<u32>,
 ) -> Result<i128, FrameFault>
     requires { cursor.old ≤ 2 ^ 63 }
-    ensures content { IfSome (S.left source.old) (λ rest. Answers (λ _. width kind) (capped_found kind (counted field (map field_of fields.now)) rest) cursor.old rest (S.left source.new) result) }
+    ensures content { IfSome (S.left source.old) (λ rest. Answers (λ _. width kind) (capped_found kind (capacities_of most) rest) cursor.old rest (S.left source.new) result) }
     ensures place { OnOk result (cursor.new ≡ cursor.old + width kind) }
     ensures given { GivesWithin (λ _. width kind) (width kind) (S.given source.old) (S.given source.new) result }
     ensures cause { HasCause (S.faults source.old) (S.faults source.new) result }
@@ -61,7 +55,7 @@ fn number<S: Source>(
 {
     let at = cursor.at();
     let value = cursor.number(source, kind)?;
-    if is_too_large(fields, field, value) {
+    if is_too_large(most, value) {
         return Err(FrameFault::Refused {
             at,
             reason: Reason::CountTooLarge,
@@ -96,25 +90,13 @@ pub(crate) fn constant<S: Source>(
     Ok(())
 }
 
-// Whether a number of this field is more than the capacity of an array that the field counts.
-fn is_too_large(fields: &[Field], field: usize, number: i128) -> bool
-    ensures { result ≡ exceeds (counted field (map field_of fields.now)) number }
+// Whether a number is more than it may be.
+fn is_too_large(most: Option<u32>, number: i128) -> bool
+    ensures { result ≡ exceeds (capacities_of most) number }
 {
-    for part in fields {
-        if is_past(part.count, field, number) {
-            return true;
-        }
-    }
-    false
-}
-
-// Whether a number of this field is more than the capacity of an array of this count.
-fn is_past(count: Count, field: usize, number: i128) -> bool
-    ensures { result ≡ exceeds (counted_by field count) number }
-{
-    match count {
-        Count::Counted { by, capacity } => by as usize == field && is_above(number, capacity),
-        Count::One | Count::Fixed(_) => false,
+    match most {
+        None => false,
+        Some(most) => is_above(number, most),
     }
 }
 

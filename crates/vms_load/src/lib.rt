@@ -6,11 +6,9 @@
 mod body;
 mod fault;
 mod heads;
-mod holds;
 mod items;
 mod loader;
 mod parts;
-mod sizes;
 mod staged;
 mod stream;
 

@@ -9,7 +9,7 @@ ghost use Rattle.vms_load.specs.Leaving.{Leaves};
 ghost use Rattle.vms_load.specs.Parts.{IsShaped, IsOpen, OpensNext, part_of, part_due, bytes_of_part, subs_due, in_fields, after_fields, after_part};
 
 use crate::LoadFault;
-use crate::body::body;
+use crate::body::{Spot, read_part};
 use crate::heads::open_sub;
 use vms_desc::{DescSet, Part};
 use vms_frames::{After, Cursor};
@@ -61,20 +61,14 @@ fn fields<S: Source>(
     ensures kept { image.new ≡ record image.old { numbers = image.new.numbers } }
     ensures long { length image.new.numbers ≡ length image.old.numbers }
 {
-    let structs = set.parts().structs.as_slice();
     let number = part_of(section.device, part.sub);
-    let base = set.first_cell(number) as usize;
-    match body(
-        cursor,
-        source,
-        structs,
-        set.sizes(),
-        structs.len(),
-        set.desc(number),
-        part.version,
-        image,
+    let base = set.first_cell(number);
+    let spot = Spot {
+        part: number,
+        version: part.version,
         base,
-    ) {
+    };
+    match read_part(set, spot, image, cursor, source) {
         Ok(()) => Ok(()),
         Err(fault) => Err(LoadFault::concerning(Some(section.device), fault)),
     }

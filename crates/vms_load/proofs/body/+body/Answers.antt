@@ -1,264 +1,273 @@
 use Rattle.std.specs.Int.{w128}
 use Rattle.std.proofs.lemmas.Int.{to_z-of_z}
-use Rattle.vms_frames.specs.declared.fault.FrameFault.TheVariants.{ReadFault}
-use Rattle.std.proofs.Common.{rules, SFits, ℕ, List, length, map, drop, ap, ◌∙◌, sym, arith, subst, ◌<◌, ◌≤◌, ◌≡◌, ◌+◌, ◌-◌, ◌*◌, suc, true, false}
+use Rattle.std.proofs.Common.{rules, SFits, refl, ℕ, drop, ap, ◌∙◌, arith, subst, ◌≡◌, ◌+◌, ◌-◌, ◌*◌, suc, true, false}
 use Rattle.std.proofs.lemmas.Result.{err_from_is_err_and}
-use Rattle.vms_kinds.specs.declared.Item.{Item}
-use Rattle.vms_spec.specs.Layout.{capacity_of, counted, item_size, numbers_of}
-use Rattle.vms_spec.specs.Sets.{Field}
-use Rattle.vms_spec.specs.Taking.{takers, cells_of, Taken, take_item, take_items, take_field, take_fields}
-use Rattle.vms_laws.proofs.Places.{elements_fit}
-use Rattle.vms_laws.proofs.WalkLaws.{mul_less}
-use Rattle.vms_parts.specs.Views.{desc_of, field_of}
-use Rattle.vms_load.specs.Bodies.{TakesAs}
-use Rattle.vms_load.specs.Bounds.{item_bytes, field_bytes, fields_bytes, struct_bytes}
-use Rattle.vms_load.specs.Fit.{IsFitItem}
-use Rattle.vms_load.proofs.Tables.{fields_at, fit_field, fields_room}
-use Rattle.vms_load.proofs.Kept.{kept_on}
-use Rattle.vms_load.proofs.Spending.{one_of, spends_less, spends_err, given_on}
-use Rattle.vms_load.proofs.BodyLemmas.{stops, goes, alike, items_next, items_stop, fit_at, room_at, bytes_at, struct_taken, fields_next, fields_stop, body_ok, body_broken, body_cut, constant_taken}
-use Rattle.vms_frames.specs.Found.{skip_found}
 use Rattle.vms_spec.specs.declared.Reason.TheVariants as reasons
+use Rattle.vms_spec.specs.Sets.{Desc}
+use Rattle.vms_spec.specs.Taking.{Taken, take_item, take_fields}
+use Rattle.vms_desc.specs.Asks.{field_at}
+use Rattle.vms_desc.specs.Described.{described}
+use Rattle.vms_desc.specs.Parts.{desc_at}
+use Rattle.vms_frames.specs.Found.{skip_found}
+use Rattle.vms_frames.specs.declared.fault.FrameFault.TheVariants.{ReadFault}
+use Rattle.vms_load.specs.Bodies.{TakesAs, Spends}
+use Rattle.vms_load.specs.Walks.{table, size_in, bytes_in, capacities_of, elements_at, take_elements}
+use Rattle.vms_load.proofs.Kept.{kept_on}
+use Rattle.vms_load.proofs.Spending.{spends_err, given_on}
+use Rattle.vms_load.proofs.BodyLemmas.{stops, goes, alike, items_next, items_stop, fields_next, fields_stop, body_ok, body_broken, body_cut, constant_taken}
 use Rattle.vms_load.proofs.Leaving.{moves_on, fields_leave_at, refused_after, unit_leaves_in}
 use Rattle.vms_load.proofs.UnitsLong.{Any, skip_fits}
+use Rattle.vms_load.proofs.Walking.{spot_on, size_code, width_at, next_field, next_struct, elements_taken, rules_are}
 use Rattle.vms_load.proofs.body.+body.Goals as goal
+
+-- ---- a part
+
+pub read_part-returns-in_err-read_fields-clause-taken : goal.read_part-returns-in_err-read_fields-clause-taken
+read_part-returns-in_err-read_fields-clause-taken g t c =
+    let set = described c.args.set.now in
+    let spot = c.args.spot in
+    let p = err_from_is_err_and c.from_residual.result c.from_residual.ensures.1 in
+    rw (p.1, p.2) (body_cut (table set) (desc_at set spot.part) spot.version spot.base (g.S.Source.left c.args.source.now) c.args.image.now.numbers c.args.cursor.now _ _ _ _ _ _ _ c.in_err-read_fields.ensures.taken)
+
+pub read_part-returns-then-not-holds_rules-clause-taken : goal.read_part-returns-then-not-holds_rules-clause-taken
+read_part-returns-then-not-holds_rules-clause-taken g t c =
+    let set = described c.args.set.now in
+    let spot = c.args.spot in
+    let n = c.read_fields.new.image.numbers in
+    let no : c.holds_rules.result ≡ false = search rules in
+    rw c.at-at.ensures
+    (body_broken (table set) (desc_at set spot.part) spot.version spot.base (g.S.Source.left c.args.source.now) c.args.image.now.numbers c.args.cursor.now n _ c.read_fields.new.cursor _ (g.S.Source.left c.read_fields.new.source) _
+    c.in_ok-read_fields.ensures.taken (rules_are set spot n c.holds_rules.result false c.holds_rules.ensures no))
+
+pub read_part-returns-clause-taken : goal.read_part-returns-clause-taken
+read_part-returns-clause-taken g t c =
+    let set = described c.args.set.now in
+    let spot = c.args.spot in
+    let n = c.read_fields.new.image.numbers in
+    let yes : c.holds_rules.result ≡ true = search rules in
+    body_ok (table set) (desc_at set spot.part) spot.version spot.base (g.S.Source.left c.args.source.now) c.args.image.now.numbers c.args.cursor.now n c.read_fields.new.cursor (g.S.Source.left c.read_fields.new.source)
+    c.in_ok-read_fields.ensures.taken (rules_are set spot n c.holds_rules.result true c.holds_rules.ensures yes)
+
+pub read_part-returns-then-not-holds_rules-clause-leaves : goal.read_part-returns-then-not-holds_rules-clause-leaves
+read_part-returns-then-not-holds_rules-clause-leaves g t c =
+    refused_after (g.S.Source.left c.args.source.now) (g.S.Source.left c.read_fields.new.source) c.args.cursor.now c.read_fields.new.cursor c.at-at.result reasons.Invalid c.in_ok-read_fields.ensures.given.0 c.at-at.ensures c.in_ok-read_fields.ensures.leaves
+
+pub read_part-holds_rules-requires-clause-few : goal.read_part-holds_rules-requires-clause-few
+read_part-holds_rules-requires-clause-few g t c =
+    (spot_on (described c.args.set.now) c.args.spot c.args.image.now.numbers c.read_fields.new.image.numbers c.requires.spot c.in_ok-read_fields.ensures.long).few
+
+pub read_part-holds_rules-requires-clause-own : goal.read_part-holds_rules-requires-clause-own
+read_part-holds_rules-requires-clause-own g t c =
+    (spot_on (described c.args.set.now) c.args.spot c.args.image.now.numbers c.read_fields.new.image.numbers c.requires.spot c.in_ok-read_fields.ensures.long).room
+
+-- ---- fields
+
+pub read_fields-present-elements-requires-clause-spot : goal.read_fields-present-elements-requires-clause-spot
+read_fields-present-elements-requires-clause-spot g t c =
+    spot_on (described c.args.set.now) c.args.spot c.args.image.now.numbers c.loop-field.image.numbers c.requires.spot c.loop-field.invariant.long
+
+pub read_fields-read_items-requires : goal.read_fields-read_items-requires
+read_fields-read_items-requires g t c κs within =
+    let set = described c.args.set.now in
+    let spot = c.args.spot in
+    let n = c.loop-field.image.numbers in
+    let i = c.loop-field.field in
+    let here = spot_on set spot c.args.image.now.numbers n c.requires.spot c.loop-field.invariant.long in
+    let next = next_field set c.args.set.now.well_formed spot n here i c.loop-field.cell (width_at set spot i) (omega (arith, c.field_count-field-end.ensures)) refl c.loop-field.invariant.room in
+    let lower = next.lower in
+    rw c.present-elements.ensures (search rules, (search rules, (next.reaches, (next.small, (next.room, (here.few, omega (arith, next.most, next.due, c.loop-field.invariant.place, c.requires.place)))))))
+
+pub read_fields-returns-in_err-read_items-clause-taken : goal.read_fields-returns-in_err-read_items-clause-taken
+read_fields-returns-in_err-read_items-clause-taken g t c =
+    let set = described c.args.set.now in
+    let spot = c.args.spot in
+    let d = desc_at set spot.part in
+    let n = c.loop-field.image.numbers in
+    let i = c.loop-field.field in
+    let cell = c.loop-field.cell in
+    let at = c.loop-field.cursor in
+    let elements = c.present-elements.result in
+    let here = spot_on set spot c.args.image.now.numbers n c.requires.spot c.loop-field.invariant.long in
+    let next = next_field set c.args.set.now.well_formed spot n here i cell (width_at set spot i) (omega (arith, c.field_count-field-end.ensures)) refl c.loop-field.invariant.room in
+    let p = err_from_is_err_and c.from_residual.result c.from_residual.ensures.1 in
+    rw (p.1, p.2) (stops _ _ (λ rest. take_fields (table set) d spot.version spot.base 0 spot.base d.fields (record { numbers = c.args.image.now.numbers; place = c.args.cursor.now; rest = rest })) _
+    (λ rest. take_elements set elements (record { numbers = n; place = at; rest = rest })) _ _ _ _ _ _ _ c.loop-field.invariant.taken
+    (λ rest r same. fields_stop (table set) d spot.version spot.base i cell (field_at set spot.part i) (drop (i + 1) d.fields) (drop i d.fields) next.at (record { numbers = n; place = at; rest = rest }) r (elements_taken set spot n i cell elements at rest c.present-elements.ensures ∙ same)) c.in_err-read_items.ensures.taken)
+
+pub read_fields-returns-in_err-read_items-clause-given : goal.read_fields-returns-in_err-read_items-clause-given
+read_fields-returns-in_err-read_items-clause-given g t c =
+    let set = described c.args.set.now in
+    let spot = c.args.spot in
+    let n = c.loop-field.image.numbers in
+    let i = c.loop-field.field in
+    let here = spot_on set spot c.args.image.now.numbers n c.requires.spot c.loop-field.invariant.long in
+    let next = next_field set c.args.set.now.well_formed spot n here i c.loop-field.cell (width_at set spot i) (omega (arith, c.field_count-field-end.ensures)) refl c.loop-field.invariant.room in
+    let elements = elements_at set spot n i c.loop-field.cell in
+    let p = err_from_is_err_and c.from_residual.result c.from_residual.ensures.1 in
+    let spent = rw c.present-elements.ensures at c.in_err-read_items.ensures.given in
+    rw p.1 (spends_err (elements.count * bytes_in set elements.one.item) _ _ _ _ c.args.cursor.now c.loop-field.cursor 0 0 ReadFault c.loop-field.invariant.from c.loop-field.invariant.given (omega (arith, next.most, next.due, c.loop-field.invariant.place)) spent)
+
+pub read_fields-returns-in_err-read_items-clause-leaves : goal.read_fields-returns-in_err-read_items-clause-leaves
+read_fields-returns-in_err-read_items-clause-leaves g t c =
+    let p = err_from_is_err_and c.from_residual.result c.from_residual.ensures.1 in
+    rw (p.1, p.2) (fields_leave_at (g.S.Source.left c.args.source.now) (g.S.Source.left c.loop-field.source) (g.S.Source.left c.read_items.new.source) c.args.cursor.now c.loop-field.cursor c.in_err-read_items.field-0.0 c.loop-field.invariant.from c.loop-field.invariant.leaves c.in_err-read_items.ensures.leaves)
+
+pub read_fields-overflow_add-cell : goal.read_fields-overflow_add-cell
+read_fields-overflow_add-cell g t c =
+    let set = described c.args.set.now in
+    let spot = c.args.spot in
+    let n = c.loop-field.image.numbers in
+    let here = spot_on set spot c.args.image.now.numbers n c.requires.spot c.loop-field.invariant.long in
+    let next = next_field set c.args.set.now.well_formed spot n here c.loop-field.field c.loop-field.cell c.field_cells-cell.result (omega (arith, c.field_count-field-end.ensures)) c.field_cells-cell.ensures c.loop-field.invariant.room in
+    omega (arith, next.later, here.few)
+
+pub read_fields-loop-field-preserved : goal.read_fields-loop-field-preserved
+read_fields-loop-field-preserved g t c =
+    let set = described c.args.set.now in
+    let spot = c.args.spot in
+    let d = desc_at set spot.part in
+    let n = c.loop-field.image.numbers in
+    let i = c.loop-field.field in
+    let cell = c.loop-field.cell in
+    let at = c.loop-field.cursor in
+    let width = c.field_cells-cell.result in
+    let elements = c.present-elements.result in
+    let here = spot_on set spot c.args.image.now.numbers n c.requires.spot c.loop-field.invariant.long in
+    let next = next_field set c.args.set.now.well_formed spot n here i cell width (omega (arith, c.field_count-field-end.ensures)) c.field_cells-cell.ensures c.loop-field.invariant.room in
+    let spent = rw c.present-elements.ensures at c.in_ok-read_items.ensures.given in
+    record {
+      taken = goes _ _ _ _ _ (λ rest. take_elements set elements (record { numbers = n; place = at; rest = rest })) _ c.read_items.new.image.numbers c.read_items.new.cursor c.loop-field.invariant.taken
+          (λ rest p same is far. fields_next (table set) d spot.version spot.base i cell (field_at set spot.part i) (drop (i + 1) d.fields) (drop i d.fields) next.at width n c.read_items.new.image.numbers at c.read_items.new.cursor rest p next.width
+          (elements_taken set spot n i cell elements at rest c.present-elements.ensures ∙ same) is far) c.in_ok-read_items.ensures.taken;
+      room = omega (arith, next.later, c.in_ok-read_items.ensures.long);
+      from = omega (arith, c.loop-field.invariant.from, spent);
+      place = omega (arith, next.most, next.due, c.loop-field.invariant.place, spent);
+      given = given_on _ _ _ c.args.cursor.now at c.read_items.new.cursor c.loop-field.invariant.from spent.0 c.loop-field.invariant.given spent.2;
+      later = omega (arith, c.loop-field.invariant.later, c.in_ok-read_items.ensures.cause);
+      leaves = moves_on (g.S.Source.left c.args.source.now) (g.S.Source.left c.loop-field.source) (g.S.Source.left c.read_items.new.source) c.args.cursor.now at c.read_items.new.cursor c.loop-field.invariant.from spent.0 c.loop-field.invariant.leaves c.in_ok-read_items.ensures.leaves;
+      promise = c.in_ok-read_items.ensures.promise ∙ c.loop-field.invariant.promise;
+      kept = kept_on c.args.image.now c.loop-field.image c.read_items.new.image c.loop-field.invariant.kept c.in_ok-read_items.ensures.kept;
+      long = c.in_ok-read_items.ensures.long ∙ c.loop-field.invariant.long;
+    }
+
+-- ---- elements
 
 suc_times : (n m : ℕ) → suc n * m ≡ m + n * m
 suc_times n m = grind arith
 
-pub body-returns-in_err-fields-clause-taken : goal.body-returns-in_err-fields-clause-taken
-body-returns-in_err-fields-clause-taken g t c =
-    let ts = takers (map desc_of c.args.structs.now) c.args.k in
+-- the first of those that are left, and the others
+one_more : (left more size : ℕ) → left ≡ suc more → left * size ≡ size + more * size
+one_more left more size e = ap (λ (k : ℕ). k * size) e ∙ suc_times more size
+
+pub read_items-read_item-requires : goal.read_items-read_item-requires
+read_items-read_item-requires g t c κs within =
+    let set = described c.args.set.now in
+    let item = c.args.elements.one.item in
+    let turn = c.loop-turn._turn in
+    let more : c.args.elements.count - turn ≡ suc (c.args.elements.count - (turn + 1)) = omega arith in
+    let cells = one_more _ _ (size_in set item) more in
+    let places = one_more _ _ (bytes_in set item) more in
+    (search rules, (search rules, (c.requires.reaches, (omega (arith, cells, c.loop-turn.invariant.room), (omega (arith, c.loop-turn.invariant.long, c.requires.few), omega (arith, places, c.loop-turn.invariant.place, c.requires.place))))))
+
+pub read_items-overflow_add-cell : goal.read_items-overflow_add-cell
+read_items-overflow_add-cell g t c =
+    let set = described c.args.set.now in
+    let item = c.args.elements.one.item in
+    let turn = c.loop-turn._turn in
+    let more : c.args.elements.count - turn ≡ suc (c.args.elements.count - (turn + 1)) = omega arith in
+    let cells = one_more _ _ (size_in set item) more in
+    let size = size_code set item c.item_cells-size.result c.item_cells-size.ensures c.requires.small in
+    omega (arith, cells, size, c.loop-turn.invariant.room, c.loop-turn.invariant.long, c.requires.few)
+
+pub read_items-returns-in_err-read_item-clause-taken : goal.read_items-returns-in_err-read_item-clause-taken
+read_items-returns-in_err-read_item-clause-taken g t c =
+    let set = described c.args.set.now in
+    let elements = c.args.elements in
+    let item = elements.one.item in
+    let caps = capacities_of elements.one.most in
+    let turn = c.loop-turn._turn in
+    let more : elements.count - turn ≡ suc (elements.count - (turn + 1)) = omega arith in
     let p = err_from_is_err_and c.from_residual.result c.from_residual.ensures.1 in
-    rw (p.1, p.2) (body_cut ts (desc_of c.args.desc.now) c.args.version c.args.base (g.S.Source.left c.args.source.now) c.args.image.now.numbers c.args.cursor.now _ _ _ _ _ _ _ c.in_err-fields.ensures.taken)
+    rw (p.1, p.2) (stops _ _ (λ rest. take_elements set elements (record { numbers = c.args.image.now.numbers; place = c.args.cursor.now; rest = rest })) _
+    (λ rest. take_item (table set) item caps c.loop-turn.cell (record { numbers = c.loop-turn.image.numbers; place = c.loop-turn.cursor; rest = rest })) _ _ _ _ _ _ _ c.loop-turn.invariant.taken
+    (λ rest r same. items_stop (table set) item caps (size_in set item) _ _ c.loop-turn.cell more (record { numbers = c.loop-turn.image.numbers; place = c.loop-turn.cursor; rest = rest }) r same) c.in_err-read_item.ensures.taken)
 
-pub body-returns-then-not-are_valid-clause-taken : goal.body-returns-then-not-are_valid-clause-taken
-body-returns-then-not-are_valid-clause-taken g t c =
-    let ts = takers (map desc_of c.args.structs.now) c.args.k in
-    let no : c.are_valid.result ≡ false = search rules in
-    rw c.at-at.ensures (body_broken ts (desc_of c.args.desc.now) c.args.version c.args.base (g.S.Source.left c.args.source.now) c.args.image.now.numbers c.args.cursor.now c.fields.new.image.numbers _ c.fields.new.cursor _ (g.S.Source.left c.fields.new.source) _ c.in_ok-fields.ensures.taken (rw c.numbers.ensures at (sym c.are_valid.ensures ∙ no)))
-
-pub body-returns-clause-taken : goal.body-returns-clause-taken
-body-returns-clause-taken g t c =
-    let ts = takers (map desc_of c.args.structs.now) c.args.k in
-    let yes : c.are_valid.result ≡ true = search rules in
-    body_ok ts (desc_of c.args.desc.now) c.args.version c.args.base (g.S.Source.left c.args.source.now) c.args.image.now.numbers c.args.cursor.now c.fields.new.image.numbers c.fields.new.cursor (g.S.Source.left c.fields.new.source) c.in_ok-fields.ensures.taken (rw c.numbers.ensures at (sym c.are_valid.ensures ∙ yes))
-
-pub field-items-requires : goal.field-items-requires
-field-items-requires g t c κs within =
-    let cs = cells_of (takers (map desc_of c.args.structs.now) c.args.k) in
-    let part = field_of c.args.part.now in
-    let size = item_size cs part.item in
-    let bytes = item_bytes (struct_bytes (map desc_of c.args.structs.now) c.args.k) part.item in
-    let own = numbers_of cs (desc_of c.args.desc.now) c.numbers-2.result.now c.args.base in
-    let few : c.elements-count.result ≤ capacity_of part.count = omega (arith, elements_fit part.count own, c.elements-count.ensures) in
-    let one : size ≤ capacity_of part.count * size = one_of (capacity_of part.count) size c.requires.known.array in
-    let cells : c.elements-count.result * size ≤ capacity_of part.count * size = mul_less _ _ size few in
-    let places : c.elements-count.result * bytes ≤ capacity_of part.count * bytes = mul_less _ _ bytes few in
-    (search rules, (search rules, (c.requires.known.item, (c.requires.within, (c.requires.fit, (c.requires.sized, (omega (arith, c.requires.room, c.requires.small), (omega (arith, c.requires.room), (c.requires.small, omega (arith, c.requires.place))))))))))
-
-pub field-returns-clause-given : goal.field-returns-clause-given
-field-returns-clause-given g t c =
-    let cs = cells_of (takers (map desc_of c.args.structs.now) c.args.k) in
-    let part = field_of c.args.part.now in
-    let bytes = item_bytes (struct_bytes (map desc_of c.args.structs.now) c.args.k) part.item in
-    let own = numbers_of cs (desc_of c.args.desc.now) c.numbers-2.result.now c.args.base in
-    let few : c.elements-count.result ≤ capacity_of part.count = omega (arith, elements_fit part.count own, c.elements-count.ensures) in
-    spends_less (c.elements-count.result * bytes) (capacity_of part.count * bytes) _ _ _ _ _ (mul_less _ _ bytes few) c.items.ensures.given
-
-pub fields-field-requires : goal.fields-field-requires
-fields-field-requires g t c κs within =
-    let ts = takers (map desc_of c.args.structs.now) c.args.k in
-    let all = map field_of c.args.desc.now.fields in
-    let i = c.loop-i.i in
-    let part = c.part-item.result in
-    let lt : i < length c.args.desc.now.fields = omega (arith, ap length c.as_slice-part-items.ensures) in
-    let is = rw c.as_slice-part-items.ensures at c.part-item.is in
-    let at = fields_at c.args.desc.now.fields i part lt is in
-    let fit = fit_field c.args.k i all c.args.desc.now.fields part lt is c.loop-i.invariant.fit in
-    let room = fields_room (cells_of ts) all (drop i all) (drop (i + 1) all) i c.loop-i.cell _ (field_of part) at c.loop-i.invariant.room in
-    let bytes = ap (λ (l : List Field). fields_bytes (struct_bytes (map desc_of c.args.structs.now) c.args.k) l) at in
-    (search rules, (search rules, (fit.0, (c.requires.whole, (c.requires.within, (c.requires.fit, (c.requires.sized, (search rules, (omega (arith, room), (search rules, omega (arith, bytes, c.loop-i.invariant.place, c.requires.place)))))))))))
-
-pub fields-returns-in_err-field-clause-taken : goal.fields-returns-in_err-field-clause-taken
-fields-returns-in_err-field-clause-taken g t c =
-    let ts = takers (map desc_of c.args.structs.now) c.args.k in
-    let d = desc_of c.args.desc.now in
-    let all = map field_of c.args.desc.now.fields in
-    let i = c.loop-i.i in
-    let part = c.part-item.result in
-    let lt : i < length c.args.desc.now.fields = omega (arith, ap length c.as_slice-part-items.ensures) in
-    let at = fields_at c.args.desc.now.fields i part lt (rw c.as_slice-part-items.ensures at c.part-item.is) in
+pub read_items-returns-in_err-read_item-clause-given : goal.read_items-returns-in_err-read_item-clause-given
+read_items-returns-in_err-read_item-clause-given g t c =
+    let set = described c.args.set.now in
+    let bytes = bytes_in set c.args.elements.one.item in
+    let turn = c.loop-turn._turn in
+    let more : c.args.elements.count - turn ≡ suc (c.args.elements.count - (turn + 1)) = omega arith in
+    let places = one_more _ _ bytes more in
     let p = err_from_is_err_and c.from_residual.result c.from_residual.ensures.1 in
-    rw (p.1, p.2) (stops _ _ (λ rest. take_fields ts d c.args.version c.args.base 0 c.args.base all (record { numbers = c.args.image.now.numbers; place = c.args.cursor.now; rest = rest })) _
-    (λ rest. take_field ts d c.args.version c.args.base i c.loop-i.cell (field_of part) (record { numbers = c.loop-i.image.numbers; place = c.loop-i.cursor; rest = rest })) _ _ _ _ _ _ _ c.loop-i.invariant.taken
-    (λ rest r same. fields_stop ts d c.args.version c.args.base i c.loop-i.cell (field_of part) (drop (i + 1) all) (drop i all) at (record { numbers = c.loop-i.image.numbers; place = c.loop-i.cursor; rest = rest }) r same) c.in_err-field.ensures.taken)
+    rw p.1 (spends_err bytes _ _ _ _ c.args.cursor.now c.loop-turn.cursor 0 0 ReadFault c.loop-turn.invariant.from c.loop-turn.invariant.given (omega (arith, places, c.loop-turn.invariant.place)) c.in_err-read_item.ensures.given)
 
-pub fields-returns-in_err-field-clause-given : goal.fields-returns-in_err-field-clause-given
-fields-returns-in_err-field-clause-given g t c =
-    let all = map field_of c.args.desc.now.fields in
-    let i = c.loop-i.i in
-    let part = c.part-item.result in
-    let lt : i < length c.args.desc.now.fields = omega (arith, ap length c.as_slice-part-items.ensures) in
-    let at = fields_at c.args.desc.now.fields i part lt (rw c.as_slice-part-items.ensures at c.part-item.is) in
-    let bytes = ap (λ (l : List Field). fields_bytes (struct_bytes (map desc_of c.args.structs.now) c.args.k) l) at in
+pub read_items-returns-in_err-read_item-clause-leaves : goal.read_items-returns-in_err-read_item-clause-leaves
+read_items-returns-in_err-read_item-clause-leaves g t c =
     let p = err_from_is_err_and c.from_residual.result c.from_residual.ensures.1 in
-    rw p.1 (spends_err (field_bytes (struct_bytes (map desc_of c.args.structs.now) c.args.k) (field_of part)) _ _ _ _ c.args.cursor.now c.loop-i.cursor 0 0 ReadFault c.loop-i.invariant.from c.loop-i.invariant.given (omega (arith, bytes, c.loop-i.invariant.place)) c.in_err-field.ensures.given)
+    rw (p.1, p.2) (fields_leave_at (g.S.Source.left c.args.source.now) (g.S.Source.left c.loop-turn.source) (g.S.Source.left c.read_item.new.source) c.args.cursor.now c.loop-turn.cursor c.in_err-read_item.field-0.0 c.loop-turn.invariant.from c.loop-turn.invariant.leaves c.in_err-read_item.ensures.leaves)
 
-pub fields-field_size-cell-requires-clause-known : goal.fields-field_size-cell-requires-clause-known
-fields-field_size-cell-requires-clause-known g t c =
-    let all = map field_of c.args.desc.now.fields in
-    let lt : c.loop-i.i < length c.args.desc.now.fields = omega (arith, ap length c.as_slice-part-items.ensures) in
-    (fit_field c.args.k c.loop-i.i all c.args.desc.now.fields c.part-item.result lt (rw c.as_slice-part-items.ensures at c.part-item.is) c.loop-i.invariant.fit).0.item
-
-pub fields-field_size-cell-requires-clause-array : goal.fields-field_size-cell-requires-clause-array
-fields-field_size-cell-requires-clause-array g t c =
-    let all = map field_of c.args.desc.now.fields in
-    let lt : c.loop-i.i < length c.args.desc.now.fields = omega (arith, ap length c.as_slice-part-items.ensures) in
-    (fit_field c.args.k c.loop-i.i all c.args.desc.now.fields c.part-item.result lt (rw c.as_slice-part-items.ensures at c.part-item.is) c.loop-i.invariant.fit).0.array
-
-pub fields-field_size-cell-requires-clause-small : goal.fields-field_size-cell-requires-clause-small
-fields-field_size-cell-requires-clause-small g t c =
-    let ts = takers (map desc_of c.args.structs.now) c.args.k in
-    let all = map field_of c.args.desc.now.fields in
-    let i = c.loop-i.i in
-    let lt : i < length c.args.desc.now.fields = omega (arith, ap length c.as_slice-part-items.ensures) in
-    let at = fields_at c.args.desc.now.fields i c.part-item.result lt (rw c.as_slice-part-items.ensures at c.part-item.is) in
-    let room = fields_room (cells_of ts) all (drop i all) (drop (i + 1) all) i c.loop-i.cell _ (field_of c.part-item.result) at c.loop-i.invariant.room in
-    omega (arith, room, c.loop-i.invariant.long, c.requires.small)
-
-pub fields-overflow_add-cell : goal.fields-overflow_add-cell
-fields-overflow_add-cell g t c =
-    let ts = takers (map desc_of c.args.structs.now) c.args.k in
-    let all = map field_of c.args.desc.now.fields in
-    let i = c.loop-i.i in
-    let lt : i < length c.args.desc.now.fields = omega (arith, ap length c.as_slice-part-items.ensures) in
-    let at = fields_at c.args.desc.now.fields i c.part-item.result lt (rw c.as_slice-part-items.ensures at c.part-item.is) in
-    let room = fields_room (cells_of ts) all (drop i all) (drop (i + 1) all) i c.loop-i.cell _ (field_of c.part-item.result) at c.loop-i.invariant.room in
-    omega (arith, room, c.loop-i.invariant.long, c.requires.small, c.field_size-cell.ensures)
-
-pub fields-loop-i-preserved : goal.fields-loop-i-preserved
-fields-loop-i-preserved g t c =
-    let ts = takers (map desc_of c.args.structs.now) c.args.k in
-    let d = desc_of c.args.desc.now in
-    let all = map field_of c.args.desc.now.fields in
-    let i = c.loop-i.i in
-    let part = c.part-item.result in
-    let lt : i < length c.args.desc.now.fields = omega (arith, ap length c.as_slice-part-items.ensures) in
-    let is = rw c.as_slice-part-items.ensures at c.part-item.is in
-    let at = fields_at c.args.desc.now.fields i part lt is in
-    let fit = fit_field c.args.k i all c.args.desc.now.fields part lt is c.loop-i.invariant.fit in
-    let room = fields_room (cells_of ts) all (drop i all) (drop (i + 1) all) i c.loop-i.cell _ (field_of part) at c.loop-i.invariant.room in
-    let bytes = ap (λ (l : List Field). fields_bytes (struct_bytes (map desc_of c.args.structs.now) c.args.k) l) at in
-    let spent = c.in_ok-field.ensures.given in
+pub read_items-loop-turn-preserved : goal.read_items-loop-turn-preserved
+read_items-loop-turn-preserved g t c =
+    let set = described c.args.set.now in
+    let elements = c.args.elements in
+    let item = elements.one.item in
+    let caps = capacities_of elements.one.most in
+    let turn = c.loop-turn._turn in
+    let more : elements.count - turn ≡ suc (elements.count - (turn + 1)) = omega arith in
+    let cells = one_more _ _ (size_in set item) more in
+    let places = one_more _ _ (bytes_in set item) more in
+    let size = size_code set item c.item_cells-size.result c.item_cells-size.ensures c.requires.small in
+    let spent = c.in_ok-read_item.ensures.given in
     record {
-      taken = goes _ _ _ _ _ (λ rest. take_field ts d c.args.version c.args.base i c.loop-i.cell (field_of part) (record { numbers = c.loop-i.image.numbers; place = c.loop-i.cursor; rest = rest })) _ c.field.new.image.numbers c.field.new.cursor c.loop-i.invariant.taken
-          (λ rest p same is far. fields_next ts d c.args.version c.args.base i c.loop-i.cell (field_of part) (drop (i + 1) all) (drop i all) at _ c.loop-i.image.numbers c.field.new.image.numbers c.loop-i.cursor c.field.new.cursor rest p c.field_size-cell.ensures same is far) c.in_ok-field.ensures.taken;
-      room = omega (arith, room, c.field_size-cell.ensures, c.in_ok-field.ensures.long);
-      fit = fit.1;
-      from = omega (arith, c.loop-i.invariant.from, spent);
-      place = omega (arith, bytes, c.loop-i.invariant.place, spent);
-      given = given_on _ _ _ c.args.cursor.now c.loop-i.cursor c.field.new.cursor c.loop-i.invariant.from spent.0 c.loop-i.invariant.given spent.2;
-      later = omega (arith, c.loop-i.invariant.later, c.in_ok-field.ensures.cause);
-      leaves = moves_on (g.S.Source.left c.args.source.now) (g.S.Source.left c.loop-i.source) (g.S.Source.left c.field.new.source) c.args.cursor.now c.loop-i.cursor c.field.new.cursor c.loop-i.invariant.from spent.0 c.loop-i.invariant.leaves c.in_ok-field.ensures.leaves;
-      promise = c.in_ok-field.ensures.promise ∙ c.loop-i.invariant.promise;
-      kept = kept_on c.args.image.now c.loop-i.image c.field.new.image c.loop-i.invariant.kept c.in_ok-field.ensures.kept;
-      long = c.in_ok-field.ensures.long ∙ c.loop-i.invariant.long;
-    }
-
-pub item-body-requires : goal.item-body-requires
-item-body-requires g t c κs within =
-    let j = c.in-Struct.j in
-    let below : j < c.args.k = subst (λ (i : Item). IsFitItem c.args.k i) c.in-Struct.is c.requires.known in
-    let lt : j < length c.args.structs.now = omega (arith, c.requires.within) in
-    let desc = c.index-structs-j.result in
-    let room = room_at c.args.structs.now c.args.k j c.args.cell _ desc c.args.item.now c.in-Struct.is below lt c.index-structs-j.is c.requires.room in
-    let bytes = bytes_at c.args.structs.now c.args.k j desc c.args.item.now c.in-Struct.is below lt c.index-structs-j.is in
-    (search rules, (search rules, (fit_at c.args.structs.now j desc lt c.index-structs-j.is c.requires.fit, (omega arith, (c.requires.fit, (c.requires.sized, (room, (c.requires.small, omega (arith, bytes, c.requires.place)))))))))
-
-pub item-returns-in-Equal-clause-taken : goal.item-returns-in-Equal-clause-taken
-item-returns-in-Equal-clause-taken g t c =
-    let f : SFits w128 c.in-Equal.value = search rules in
-    constant_taken (g.S.Source.left c.args.source.now) (g.S.Source.left c.constant.new.source) c.args.cursor.now c.constant.new.cursor c.args.image.now.numbers (takers (map desc_of c.args.structs.now) c.args.k) c.args.item.now c.in-Equal.kind c.in-Equal.value _ c.args.cell c.constant.result c.in-Equal.is c.constant.ensures.place (rw (to_z-of_z w128 c.in-Equal.value f) at c.constant.ensures.content)
-
-pub item-returns-in-Struct-clause-taken : goal.item-returns-in-Struct-clause-taken
-item-returns-in-Struct-clause-taken g t c =
-    let j = c.in-Struct.j in
-    let below : j < c.args.k = subst (λ (i : Item). IsFitItem c.args.k i) c.in-Struct.is c.requires.known in
-    let lt : j < length c.args.structs.now = omega (arith, c.requires.within) in
-    alike _ _ _ (λ (x : Taken). TakesAs x c.body.new.image.numbers c.body.new.cursor (g.S.Source.left c.body.new.source) c.body.result)
-    (λ rest. struct_taken c.args.structs.now c.args.k j c.index-structs-j.result c.args.item.now _ c.args.cell (record { numbers = c.args.image.now.numbers; place = c.args.cursor.now; rest = rest }) c.in-Struct.is below lt c.index-structs-j.is) c.body.ensures.taken
-
-pub item-returns-in-Struct-clause-given : goal.item-returns-in-Struct-clause-given
-item-returns-in-Struct-clause-given g t c =
-    let j = c.in-Struct.j in
-    let below : j < c.args.k = subst (λ (i : Item). IsFitItem c.args.k i) c.in-Struct.is c.requires.known in
-    let lt : j < length c.args.structs.now = omega (arith, c.requires.within) in
-    rw (bytes_at c.args.structs.now c.args.k j c.index-structs-j.result c.args.item.now c.in-Struct.is below lt c.index-structs-j.is) c.body.ensures.given
-
-pub items-returns-in_err-item-clause-taken : goal.items-returns-in_err-item-clause-taken
-items-returns-in_err-item-clause-taken g t c =
-    let ts = takers (map desc_of c.args.structs.now) c.args.k in
-    let caps = counted c.args.field (map field_of c.args.fields.now) in
-    let size = item_size (cells_of ts) c.args.part.now in
-    let turn = c.loop-turn._turn in
-    let more : c.args.count - turn ≡ suc (c.args.count - (turn + 1)) = omega arith in
-    let p = err_from_is_err_and c.from_residual.result c.from_residual.ensures.1 in
-    rw (p.1, p.2) (stops _ _ (λ rest. take_items ts c.args.part.now caps size c.args.count c.args.first (record { numbers = c.args.image.now.numbers; place = c.args.cursor.now; rest = rest })) _
-    (λ rest. take_item ts c.args.part.now caps c.loop-turn.cell (record { numbers = c.loop-turn.image.numbers; place = c.loop-turn.cursor; rest = rest })) _ _ _ _ _ _ _ c.loop-turn.invariant.taken
-    (λ rest r same. items_stop ts c.args.part.now caps size _ _ c.loop-turn.cell more (record { numbers = c.loop-turn.image.numbers; place = c.loop-turn.cursor; rest = rest }) r same) c.in_err-item.ensures.taken)
-
-pub items-returns-in_err-item-clause-given : goal.items-returns-in_err-item-clause-given
-items-returns-in_err-item-clause-given g t c =
-    let bytes = item_bytes (struct_bytes (map desc_of c.args.structs.now) c.args.k) c.args.part.now in
-    let turn = c.loop-turn._turn in
-    let more : c.args.count - turn ≡ suc (c.args.count - (turn + 1)) = omega arith in
-    let places : (c.args.count - turn) * bytes ≡ bytes + (c.args.count - (turn + 1)) * bytes = ap (λ (k : ℕ). k * bytes) more ∙ suc_times (c.args.count - (turn + 1)) bytes in
-    let p = err_from_is_err_and c.from_residual.result c.from_residual.ensures.1 in
-    rw p.1 (spends_err bytes _ _ _ _ c.args.cursor.now c.loop-turn.cursor 0 0 ReadFault c.loop-turn.invariant.from c.loop-turn.invariant.given (omega (arith, places, c.loop-turn.invariant.place)) c.in_err-item.ensures.given)
-
-pub items-loop-turn-preserved : goal.items-loop-turn-preserved
-items-loop-turn-preserved g t c =
-    let ts = takers (map desc_of c.args.structs.now) c.args.k in
-    let caps = counted c.args.field (map field_of c.args.fields.now) in
-    let size = item_size (cells_of ts) c.args.part.now in
-    let bytes = item_bytes (struct_bytes (map desc_of c.args.structs.now) c.args.k) c.args.part.now in
-    let turn = c.loop-turn._turn in
-    let more : c.args.count - turn ≡ suc (c.args.count - (turn + 1)) = omega arith in
-    let cells : (c.args.count - turn) * size ≡ size + (c.args.count - (turn + 1)) * size = ap (λ (k : ℕ). k * size) more ∙ suc_times (c.args.count - (turn + 1)) size in
-    let places : (c.args.count - turn) * bytes ≡ bytes + (c.args.count - (turn + 1)) * bytes = ap (λ (k : ℕ). k * bytes) more ∙ suc_times (c.args.count - (turn + 1)) bytes in
-    let spent = c.in_ok-item.ensures.given in
-    record {
-      taken = goes _ _ _ _ _ (λ rest. take_item ts c.args.part.now caps c.loop-turn.cell (record { numbers = c.loop-turn.image.numbers; place = c.loop-turn.cursor; rest = rest })) _ c.item.new.image.numbers c.item.new.cursor c.loop-turn.invariant.taken
-          (λ rest p same is far. rw c.item_size-size.ensures (items_next ts c.args.part.now caps size _ _ c.loop-turn.cell more c.loop-turn.image.numbers c.item.new.image.numbers c.loop-turn.cursor c.item.new.cursor rest p same is far)) c.in_ok-item.ensures.taken;
-      room = omega (arith, cells, c.loop-turn.invariant.room, c.item_size-size.ensures, c.in_ok-item.ensures.long);
+      taken = goes _ _ _ _ _ (λ rest. take_item (table set) item caps c.loop-turn.cell (record { numbers = c.loop-turn.image.numbers; place = c.loop-turn.cursor; rest = rest })) _ c.read_item.new.image.numbers c.read_item.new.cursor c.loop-turn.invariant.taken
+          (λ rest p same is far. rw size (items_next (table set) item caps (size_in set item) _ _ c.loop-turn.cell more c.loop-turn.image.numbers c.read_item.new.image.numbers c.loop-turn.cursor c.read_item.new.cursor rest p same is far)) c.in_ok-read_item.ensures.taken;
+      room = omega (arith, cells, c.loop-turn.invariant.room, size, c.in_ok-read_item.ensures.long);
       from = omega (arith, c.loop-turn.invariant.from, spent);
       place = omega (arith, places, c.loop-turn.invariant.place, spent);
-      given = given_on _ _ _ c.args.cursor.now c.loop-turn.cursor c.item.new.cursor c.loop-turn.invariant.from spent.0 c.loop-turn.invariant.given spent.2;
-      later = omega (arith, c.loop-turn.invariant.later, c.in_ok-item.ensures.cause);
-      leaves = moves_on (g.S.Source.left c.args.source.now) (g.S.Source.left c.loop-turn.source) (g.S.Source.left c.item.new.source) c.args.cursor.now c.loop-turn.cursor c.item.new.cursor c.loop-turn.invariant.from spent.0 c.loop-turn.invariant.leaves c.in_ok-item.ensures.leaves;
-      promise = c.in_ok-item.ensures.promise ∙ c.loop-turn.invariant.promise;
-      kept = kept_on c.args.image.now c.loop-turn.image c.item.new.image c.loop-turn.invariant.kept c.in_ok-item.ensures.kept;
-      long = c.in_ok-item.ensures.long ∙ c.loop-turn.invariant.long;
+      given = given_on _ _ _ c.args.cursor.now c.loop-turn.cursor c.read_item.new.cursor c.loop-turn.invariant.from spent.0 c.loop-turn.invariant.given spent.2;
+      later = omega (arith, c.loop-turn.invariant.later, c.in_ok-read_item.ensures.cause);
+      leaves = moves_on (g.S.Source.left c.args.source.now) (g.S.Source.left c.loop-turn.source) (g.S.Source.left c.read_item.new.source) c.args.cursor.now c.loop-turn.cursor c.read_item.new.cursor c.loop-turn.invariant.from spent.0 c.loop-turn.invariant.leaves c.in_ok-read_item.ensures.leaves;
+      promise = c.in_ok-read_item.ensures.promise ∙ c.loop-turn.invariant.promise;
+      kept = kept_on c.args.image.now c.loop-turn.image c.read_item.new.image c.loop-turn.invariant.kept c.in_ok-read_item.ensures.kept;
+      long = c.in_ok-read_item.ensures.long ∙ c.loop-turn.invariant.long;
     }
 
--- ---- what the calls leave
+-- ---- one element
 
-pub item-returns-in-Unused-clause-leaves : goal.item-returns-in-Unused-clause-leaves
-item-returns-in-Unused-clause-leaves g t c =
+pub read_item-returns-in-Equal-clause-taken : goal.read_item-returns-in-Equal-clause-taken
+read_item-returns-in-Equal-clause-taken g t c =
+    let set = described c.args.set.now in
+    let f : SFits w128 c.in-Equal.value = search rules in
+    constant_taken (g.S.Source.left c.args.source.now) (g.S.Source.left c.constant.new.source) c.args.cursor.now c.constant.new.cursor c.args.image.now.numbers (table set) c.args.element.item c.in-Equal.kind c.in-Equal.value _ c.args.cell c.constant.result c.in-Equal.is c.constant.ensures.place (rw (to_z-of_z w128 c.in-Equal.value f) at c.constant.ensures.content)
+
+pub read_item-returns-in-Unused-clause-leaves : goal.read_item-returns-in-Unused-clause-leaves
+read_item-returns-in-Unused-clause-leaves g t c =
     unit_leaves_in (λ x. c.in-Unused.bytes) (λ rest. Any) (skip_found c.in-Unused.bytes) (g.S.Source.left c.args.source.now) (g.S.Source.left c.skip.new.source) c.args.cursor.now c.skip.new.self c.skip.result
     (skip_fits c.in-Unused.bytes) (search rules) c.skip.ensures.content
 
-pub items-returns-in_err-item-clause-leaves : goal.items-returns-in_err-item-clause-leaves
-items-returns-in_err-item-clause-leaves g t c =
-    let p = err_from_is_err_and c.from_residual.result c.from_residual.ensures.1 in
-    rw (p.1, p.2) (fields_leave_at (g.S.Source.left c.args.source.now) (g.S.Source.left c.loop-turn.source) (g.S.Source.left c.item.new.source) c.args.cursor.now c.loop-turn.cursor c.in_err-item.field-0.0 c.loop-turn.invariant.from c.loop-turn.invariant.leaves c.in_err-item.ensures.leaves)
+pub read_item-read_part-requires : goal.read_item-read_part-requires
+read_item-read_part-requires g t c κs within =
+    let set = described c.args.set.now in
+    let element = c.args.element in
+    let version = ap (λ (d : Desc). d.version) c.desc.ensures in
+    let next = next_struct set c.args.set.now.well_formed c.in-Struct.number c.args.cell c.desc.result.now.version c.args.image.now.numbers element.item (capacities_of element.most) c.in-Struct.is c.requires.reaches version c.requires.room c.requires.few in
+    let lower = next.lower in
+    (search rules, (search rules, (next.spot, omega (arith, next.most, c.requires.place))))
 
-pub fields-returns-in_err-field-clause-leaves : goal.fields-returns-in_err-field-clause-leaves
-fields-returns-in_err-field-clause-leaves g t c =
-    let p = err_from_is_err_and c.from_residual.result c.from_residual.ensures.1 in
-    rw (p.1, p.2) (fields_leave_at (g.S.Source.left c.args.source.now) (g.S.Source.left c.loop-i.source) (g.S.Source.left c.field.new.source) c.args.cursor.now c.loop-i.cursor c.in_err-field.field-0.0 c.loop-i.invariant.from c.loop-i.invariant.leaves c.in_err-field.ensures.leaves)
+pub read_item-returns-in-Struct-clause-taken : goal.read_item-returns-in-Struct-clause-taken
+read_item-returns-in-Struct-clause-taken g t c =
+    let set = described c.args.set.now in
+    let element = c.args.element in
+    let version = ap (λ (d : Desc). d.version) c.desc.ensures in
+    let next = next_struct set c.args.set.now.well_formed c.in-Struct.number c.args.cell c.desc.result.now.version c.args.image.now.numbers element.item (capacities_of element.most) c.in-Struct.is c.requires.reaches version c.requires.room c.requires.few in
+    alike _ _ _ (λ (x : Taken). TakesAs x c.read_part.new.image.numbers c.read_part.new.cursor (g.S.Source.left c.read_part.new.source) c.read_part.result)
+    (λ rest. next.taken (record { numbers = c.args.image.now.numbers; place = c.args.cursor.now; rest = rest })) c.read_part.ensures.taken
 
-pub body-returns-then-not-are_valid-clause-leaves : goal.body-returns-then-not-are_valid-clause-leaves
-body-returns-then-not-are_valid-clause-leaves g t c =
-    refused_after (g.S.Source.left c.args.source.now) (g.S.Source.left c.fields.new.source) c.args.cursor.now c.fields.new.cursor c.at-at.result reasons.Invalid c.in_ok-fields.ensures.given.0 c.at-at.ensures c.in_ok-fields.ensures.leaves
+pub read_item-returns-in-Struct-clause-given : goal.read_item-returns-in-Struct-clause-given
+read_item-returns-in-Struct-clause-given g t c =
+    let set = described c.args.set.now in
+    let element = c.args.element in
+    let version = ap (λ (d : Desc). d.version) c.desc.ensures in
+    let next = next_struct set c.args.set.now.well_formed c.in-Struct.number c.args.cell c.desc.result.now.version c.args.image.now.numbers element.item (capacities_of element.most) c.in-Struct.is c.requires.reaches version c.requires.room c.requires.few in
+    subst (λ (k : ℕ). Spends k (g.S.Source.given c.args.source.now) (g.S.Source.given c.read_part.new.source) c.args.cursor.now c.read_part.new.cursor c.read_part.result) next.most c.read_part.ensures.given

@@ -1,5 +1,4 @@
-use Rattle.std.proofs.Common.{◌≡◌, ◌<◌, sym, ap, ◌∙◌, arith, length, get_or, false, Option, Some, None, ℕ, Err, List}
-use Rattle.vms_spec.specs.declared.Reason.{Reason}
+use Rattle.std.proofs.Common.{◌<◌, sym, ap, ◌∙◌, arith, length, get_or, false, Some, None, ℕ, Err, List}
 use Rattle.vms_spec.specs.Sets.{Device}
 use Rattle.vms_spec.specs.Judging.{find_device}
 use Rattle.vms_desc.specs.Described.{described}

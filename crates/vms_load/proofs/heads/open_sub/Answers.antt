@@ -1,4 +1,4 @@
-use Rattle.std.proofs.Common.{◌≡◌, ◌<◌, sym, ap, ◌∙◌, arith, length, get_or, Option, Some, None, ℕ, Err, List, map}
+use Rattle.std.proofs.Common.{◌≡◌, ◌<◌, sym, ap, ◌∙◌, arith, length, Option, Some, None, ℕ, Err, List, map}
 use Rattle.std.proofs.lemmas.List.{length-map}
 use Rattle.vms_spec.specs.Sets.{Sub}
 use Rattle.vms_spec.specs.Judging.{find_sub}
