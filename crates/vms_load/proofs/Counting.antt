@@ -8,7 +8,7 @@ use Rattle.vms_spec.specs.declared.Reason.TheVariants as reasons
 use Rattle.vms_spec.specs.Numbers.{exceeds, is_above}
 use Rattle.vms_spec.specs.Judging.{is_bad_bool}
 use Rattle.vms_spec.specs.Taking.{Taker, Taken, Progress, ◌>>=◌, refuse, on, if_whole, take_item, take_items}
-use Rattle.vms_desc.specs.Asks.{lesser, least_from, least_of}
+use Rattle.vms_parts.specs.Capacities.{lesser, least_from, least_of}
 use Rattle.vms_load.specs.Walks.{capacities_of}
 use Rattle.vms_load.proofs.Fronts.{bind_same}
 

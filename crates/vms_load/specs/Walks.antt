@@ -5,8 +5,9 @@ use Rattle.vms_spec.specs.Sets.{Set}
 use Rattle.vms_spec.specs.Tests.{is_there}
 use Rattle.vms_spec.specs.Layout.{counted, item_size, struct_cells, elements_of, no_parent}
 use Rattle.vms_spec.specs.Taking.{Taker, Taken, Progress, takers, take_items}
-use Rattle.vms_desc.specs.Asks.{field_at, own_numbers, HasCells, least_of}
+use Rattle.vms_desc.specs.Asks.{field_at, own_numbers, HasCells}
 use Rattle.vms_desc.specs.Parts.{HasPart, desc_at}
+use Rattle.vms_parts.specs.Capacities.{least_of}
 use Rattle.vms_load.specs.Bounds.{item_bytes, struct_bytes}
 use Rattle.vms_load.specs.declared.body.Spot.{Spot}
 use Rattle.vms_load.specs.declared.body.Elements.{Elements}

@@ -10,6 +10,7 @@ ghost use Rattle.vms_spec.specs.WellFormed.{fields_fault};
 ghost use Rattle.vms_spec.specs.Streams.{is_one_of};
 ghost use Rattle.vms_parts.specs.Capacities.{AreLeast};
 ghost use Rattle.vms_parts.specs.Views.{formula, field_of, desc_of};
+ghost use Rattle.vms_rules.specs.Capacities.{fits};
 ghost use Rattle.vms_rules.specs.Judged.{Judges};
 ghost use Rattle.vms_rules.specs.NameSets.{has_name, are_new_to};
 ghost use Rattle.vms_rules.specs.Naming.{may_name};
@@ -163,14 +164,19 @@ fn field_rules(judged: Judged, number: usize, field: &Field, is_new: bool) -> [b
 }
 
 // Whether the default of the field of this number is at most each capacity that it counts.
-#[tactic(auto, using(crate::proofs::CapacityLaws::least_fits))]
 fn counts_well(judged: Judged, number: usize, field: &Field) -> bool
     requires there { number < length judged.desc.now.fields }
     requires long { length judged.capacities.now ≡ length judged.desc.now.fields }
     requires least { AreLeast (map field_of judged.desc.now.fields) judged.capacities.now }
     ensures { result ≡ counts_well (counted number (map field_of judged.entry.desc.now.fields)) field.now.default }
 {
-    fits(judged.capacities[number], field.default)
+    default_fits(judged.capacities[number], field)
+}
+
+fn default_fits(least: Option<u32>, field: &Field) -> bool
+    ensures { result ≡ fits least field.now.default }
+{
+    fits(least, field.default)
 }
 
 // Adds the names of a field, and says whether all are new.

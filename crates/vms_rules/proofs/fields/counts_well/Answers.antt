@@ -1,0 +1,11 @@
+use Rattle.std.proofs.Common.{◌≡◌, ◌∙◌, map, length, arith}
+use Rattle.std.proofs.lemmas.List.{length-map}
+use Rattle.vms_parts.specs.Views.{field_of}
+use Rattle.vms_rules.proofs.CapacityLaws.{least_fits}
+use Rattle.vms_rules.proofs.fields.counts_well.Goals as goal
+
+pub returns : goal.returns
+returns c =
+    let fields = c.args.judged.desc.now.fields in
+    c.default_fits.ensures
+    ∙ least_fits (map field_of fields) c.args.judged.capacities.now c.args.number c.args.field.now.default c.requires.least (omega (arith, c.requires.there, length-map fields field_of))
