@@ -19,6 +19,8 @@ mod sets;
 #[cfg(test)]
 mod shipped;
 #[cfg(test)]
+mod smallest;
+#[cfg(test)]
 mod streams;
 #[cfg(test)]
 mod written;
