@@ -19,8 +19,3 @@ pub use vms_parts::{
     CellForm, Count, Desc, Device, Field, Listed, Part, Parts, Place, Rel, Sub, Test, Text, Whose,
 };
 pub use vms_rules::DescFault;
-
-#[cfg(test)]
-mod path_tests;
-#[cfg(test)]
-mod tests;

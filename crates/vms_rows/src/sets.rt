@@ -2,8 +2,42 @@
 
 use std::alloc::Global;
 use std::test::Fail;
-use vms_desc::{Count, Desc, DescSet, Device, Field, Listed, Parts, Rel, Sub, Test, Text, Whose};
+use vms_desc::{
+    Count, Desc, DescFault, DescSet, Device, Field, Listed, Parts, Rel, Sub, Test, Text, Whose,
+};
 use vms_kinds::{Item, Kind};
+
+/// A set that tables of tests name.
+#[derive(Clone, Copy)]
+pub(crate) enum Example {
+    /// The smallest shipped set.
+    Timer,
+    /// A number, and an array that it counts.
+    Counted,
+    /// The same, where the array is there from version 2 on.
+    CountedLater,
+    /// A flag, a constant and unused bytes.
+    Constant,
+    /// The same, where the constant is a flag.
+    ConstantFlag,
+    /// Two structures with a validation.
+    Pair,
+    /// A number and two subsections.
+    Split,
+}
+
+/// The set of an example.
+pub(crate) fn set_of(alloc: Global, example: Example) -> Result<DescSet, Fail> {
+    match example {
+        Example::Timer => Ok(DescSet::shipped(alloc, 0)?),
+        Example::Counted => counted(alloc, 1, 0),
+        Example::CountedLater => counted(alloc, 2, 2),
+        Example::Constant => constant(alloc, Kind::U8, 7),
+        Example::ConstantFlag => constant(alloc, Kind::Bool, 1),
+        Example::Pair => pair(alloc),
+        Example::Split => split(alloc),
+    }
+}
 
 fn text(alloc: Global, bytes: &str) -> Result<Text, Fail> {
     Ok(Text::new(String::from_str(alloc, bytes)?))
@@ -42,6 +76,19 @@ fn byte(field: u32, rel: Rel, value: u64) -> Test {
     }
 }
 
+fn parts(alloc: Global, structs: Vec<Desc>, desc: Desc, subs: Vec<Sub>) -> Result<Parts, Fail> {
+    let device = Device {
+        instance: 0,
+        desc,
+        subs: Listed::new(subs),
+    };
+    Ok(Parts {
+        machines: Listed::new(vec![in alloc; text(alloc, "lab")?]?),
+        structs: Listed::new(structs),
+        devices: Listed::new(vec![in alloc; device]?),
+    })
+}
+
 fn set(
     alloc: Global,
     structs: Vec<Desc>,
@@ -49,30 +96,37 @@ fn set(
     fields: Vec<Field>,
     subs: Vec<Sub>,
 ) -> Result<DescSet, Fail> {
-    let device = Device {
-        instance: 0,
-        desc: desc(alloc, "box", version, fields)?,
-        subs: Listed::new(subs),
-    };
-    let parts = Parts {
-        machines: Listed::new(vec![in alloc; text(alloc, "lab")?]?),
-        structs: Listed::new(structs),
-        devices: Listed::new(vec![in alloc; device]?),
-    };
+    let desc = desc(alloc, "box", version, fields)?;
+    let parts = parts(alloc, structs, desc, subs)?;
     Ok(DescSet::new(alloc, parts).ok().ok_or("well formed")?)
 }
 
 // `n`, and `v` of at most two numbers, which `n` counts, from a version on.
-pub(crate) fn counted(alloc: Global, version: u32, since: u32) -> Result<DescSet, Fail> {
+fn counted_fields(alloc: Global, since: u32) -> Result<Vec<Field>, Fail> {
     let mut numbers = field(alloc, "v", Item::Num(Kind::U16))?;
     numbers.count = Count::Counted { by: 0, capacity: 2 };
     numbers.since = since;
     let count = field(alloc, "n", Item::Num(Kind::U8))?;
-    let fields = vec![in alloc; count, numbers]?;
+    Ok(vec![in alloc; count, numbers]?)
+}
+
+/// A number that counts an array, which is there from a version on.
+pub(crate) fn counted(alloc: Global, version: u32, since: u32) -> Result<DescSet, Fail> {
+    let fields = counted_fields(alloc, since)?;
     set(alloc, Vec::new(alloc), version, fields, Vec::new(alloc))
 }
 
-// A flag, a constant and two unused bytes.
+/// What is wrong with an array whose count stands behind it.
+pub(crate) fn counted_from_behind(alloc: Global) -> Result<Option<DescFault>, Fail> {
+    let mut numbers = field(alloc, "v", Item::Num(Kind::U16))?;
+    numbers.count = Count::Counted { by: 1, capacity: 2 };
+    let count = field(alloc, "n", Item::Num(Kind::U8))?;
+    let desc = desc(alloc, "box", 1, vec![in alloc; numbers, count]?)?;
+    let parts = parts(alloc, Vec::new(alloc), desc, Vec::new(alloc))?;
+    Ok(DescSet::new(alloc, parts).err())
+}
+
+/// A flag, a constant and two unused bytes.
 pub(crate) fn constant(alloc: Global, kind: Kind, value: i128) -> Result<DescSet, Fail> {
     let flag = field(alloc, "flag", Item::Num(Kind::Bool))?;
     let id = field(alloc, "id", Item::Equal { kind, value })?;
@@ -92,7 +146,7 @@ fn sub(alloc: Global, name: &str, number: &str, default: u8) -> Result<Sub, Fail
     })
 }
 
-// A number, and two subsections of a number each.
+/// A number, and two subsections of a number each.
 pub(crate) fn split(alloc: Global) -> Result<DescSet, Fail> {
     let a = field(alloc, "a", Item::Num(Kind::U8))?;
     let p = sub(alloc, "box/p", "x", 5)?;
@@ -102,7 +156,7 @@ pub(crate) fn split(alloc: Global) -> Result<DescSet, Fail> {
     set(alloc, Vec::new(alloc), 1, fields, subs)
 }
 
-// Two structures of a number below 10.
+/// Two structures of a number below 10.
 pub(crate) fn pair(alloc: Global) -> Result<DescSet, Fail> {
     let x = field(alloc, "x", Item::Num(Kind::U8))?;
     let mut point = desc(alloc, "point", 1, vec![in alloc; x]?)?;
@@ -112,4 +166,20 @@ pub(crate) fn pair(alloc: Global) -> Result<DescSet, Fail> {
     let structs = vec![in alloc; point]?;
     let fields = vec![in alloc; points]?;
     set(alloc, structs, 1, fields, Vec::new(alloc))
+}
+
+/// Unused bytes, three structures with a counted array each, and a subsection with one.
+pub(crate) fn nested(alloc: Global) -> Result<DescSet, Fail> {
+    let inner = desc(alloc, "inner", 1, counted_fields(alloc, 0)?)?;
+    let gap = field(alloc, "gap", Item::Unused { bytes: 4 })?;
+    let mut array = field(alloc, "array", Item::Struct(0))?;
+    array.count = Count::Fixed(3);
+    let tail = Sub {
+        desc: desc(alloc, "box/tail", 1, counted_fields(alloc, 0)?)?,
+        needed: Test::AtLeast(0),
+    };
+    let structs = vec![in alloc; inner]?;
+    let fields = vec![in alloc; gap, array]?;
+    let subs = vec![in alloc; tail]?;
+    set(alloc, structs, 1, fields, subs)
 }

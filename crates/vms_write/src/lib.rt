@@ -16,6 +16,3 @@ pub use stream::write_stream;
 /// The sink failed; its count of faults has risen.
 #[derive(Clone, Copy, Debug, PartialEq, Eq)]
 pub struct WriteFault;
-
-#[cfg(test)]
-mod tests;

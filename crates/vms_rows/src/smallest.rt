@@ -1,13 +1,13 @@
-// The streams of the smallest set, and a sink that fails.
+// Streams of the smallest shipped set that are written, and a sink that fails.
 ghost use Rattle.std.specs.Prelude.{◌<◌, ◌≤◌, length, IfSome};
 ghost use Rattle.vms_spec.specs.Streams.{longest_text};
 
-use crate::{ready, write_stream};
 use std::alloc::Global;
 use std::test::Fail;
 use vms_desc::DescSet;
 use vms_image::Image;
 use vms_io::{MemSink, NoMemory};
+use vms_write::{ready, write_stream};
 
 const NAMED: [u8; 51] =
     *b"QEVM\0\0\0\x03\x07\0\0\0\x05isa-0\x04\0\0\0\0\x05timer\0\0\0\0\0\0\0\x01\0\0\0\0\0\0\0\0\x7e\0\0\0\0\0";
