@@ -30,14 +30,18 @@ fn the_first_set_has_a_timer_alone(rt: HostRuntime) -> Result<(), Fail> {
     Ok(())
 }
 
+// The number of a device in a shipped set.
+fn number_of(alloc: Global, s: u8, name: &[u8], instance: u32) -> Result<Option<u32>, Fail>
+    requires { s ≤ 3 }
+{
+    Ok(shipped(alloc, s)?.find(name, instance))
+}
+
 #[test]
 fn the_other_sets_have_the_boards_devices(rt: HostRuntime) -> Result<(), Fail> {
     let alloc = rt.alloc();
-    let first = shipped(alloc, 1)?;
-    assert_eq!(rt; first.find(b"i8259", 1), Some(2));
-    let second = shipped(alloc, 2)?;
-    assert_eq!(rt; second.find(b"i8254", 0), Some(3));
-    let third = shipped(alloc, 3)?;
-    assert_eq!(rt; third.find(b"serial", 0), Some(4));
+    assert_eq!(rt; number_of(alloc, 1, b"i8259", 1)?, Some(2));
+    assert_eq!(rt; number_of(alloc, 2, b"i8254", 0)?, Some(3));
+    assert_eq!(rt; number_of(alloc, 3, b"serial", 0)?, Some(4));
     Ok(())
 }
