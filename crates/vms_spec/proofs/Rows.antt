@@ -38,12 +38,12 @@ lines (text ∷ more) = text ++ 10 ∷ lines more
 abbrev images_of : Option (Reading State) → Option (Reading (Option (List ℕ) × List Image))
 images_of None = None
 images_of (Some (Accepted n state)) = Some (Accepted n (state.machine, state.images))
-images_of (Some (Refused at section reason)) = Some (Refused at section reason)
+images_of (Some (Refused at section reason long)) = Some (Refused at section reason long)
 
 abbrev text_of : Set → Option (Reading State) → Option (Reading (List ℕ))
 text_of set None = None
 text_of set (Some (Accepted n state)) = Some (Accepted n (values_text set state.machine state.images))
-text_of set (Some (Refused at section reason)) = Some (Refused at section reason)
+text_of set (Some (Refused at section reason long)) = Some (Refused at section reason long)
 
 -- an input, read with all machines of the set: the machine and the images, or the refusal
 unfoldable pub read : Set → List ℕ → Option (Reading (Option (List ℕ) × List Image))

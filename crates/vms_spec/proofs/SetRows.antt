@@ -32,30 +32,30 @@ writes_a_full_array : written counted_set None (two ∷ []) None ≡ box_head ++
 unfolding code first
 writes_a_full_array = refl
 
-refuses_too_large_a_count : read counted_set (box_head ++ hex (codes "03")) ≡ Some (Refused 25 (Some 0) reasons.CountTooLarge)
+refuses_too_large_a_count : read counted_set (box_head ++ hex (codes "03")) ≡ Some (Refused 25 (Some 0) reasons.CountTooLarge 1)
 unfolding read first
 refuses_too_large_a_count = refl
 
 -- ---- a constant and unused bytes
 
-refuses_a_bool_of_2 : read constant_set (box_head ++ hex (codes "02")) ≡ Some (Refused 25 (Some 0) reasons.BadBool)
+refuses_a_bool_of_2 : read constant_set (box_head ++ hex (codes "02")) ≡ Some (Refused 25 (Some 0) reasons.BadBool 1)
 unfolding read first
 refuses_a_bool_of_2 = refl
 
-refuses_another_constant : read constant_set (box_head ++ hex (codes "0108")) ≡ Some (Refused 26 (Some 0) reasons.NotEqual)
+refuses_another_constant : read constant_set (box_head ++ hex (codes "0108")) ≡ Some (Refused 26 (Some 0) reasons.NotEqual 1)
 unfolding read first
 refuses_another_constant = refl
 
 -- a constant of kind bool is judged as a bool first
-refuses_a_bool_constant_of_2 : read bool_constant_set (box_head ++ hex (codes "02")) ≡ Some (Refused 25 (Some 0) reasons.BadBool)
+refuses_a_bool_constant_of_2 : read bool_constant_set (box_head ++ hex (codes "02")) ≡ Some (Refused 25 (Some 0) reasons.BadBool 1)
 unfolding read first
 refuses_a_bool_constant_of_2 = refl
 
-refuses_another_bool_constant : read bool_constant_set (box_head ++ hex (codes "00")) ≡ Some (Refused 25 (Some 0) reasons.NotEqual)
+refuses_another_bool_constant : read bool_constant_set (box_head ++ hex (codes "00")) ≡ Some (Refused 25 (Some 0) reasons.NotEqual 1)
 unfolding read first
 refuses_another_bool_constant = refl
 
-refuses_cut_unused_bytes : read constant_set (box_head ++ hex (codes "0107ab")) ≡ Some (Refused 27 (Some 0) reasons.Truncated)
+refuses_cut_unused_bytes : read constant_set (box_head ++ hex (codes "0107ab")) ≡ Some (Refused 27 (Some 0) reasons.Truncated 1)
 unfolding read first
 refuses_cut_unused_bytes = refl
 
@@ -93,32 +93,32 @@ unfolding show first digits
 shows_subsections_that_did_not_come = refl
 
 refuses_a_subsection_that_came : read subsection_set (box_head ++ hex (codes "09") ++ hex (codes "0505626f782f710000000107") ++ hex (codes "0505626f782f710000000107") ++ box_end)
-    ≡ Some (Refused 38 (Some 0) reasons.RepeatedSubsection)
+    ≡ Some (Refused 38 (Some 0) reasons.RepeatedSubsection 11)
 unfolding read first
 refuses_a_subsection_that_came = refl
 
 -- its version goes before that it came
 refuses_a_subsection_that_came_and_is_too_new : read subsection_set (box_head ++ hex (codes "09") ++ hex (codes "0505626f782f710000000107") ++ hex (codes "0505626f782f7100000002"))
-    ≡ Some (Refused 38 (Some 0) reasons.TooNew)
+    ≡ Some (Refused 38 (Some 0) reasons.TooNew 11)
 unfolding read first
 refuses_a_subsection_that_came_and_is_too_new = refl
 
-refuses_too_old_a_subsection : read subsection_set (box_head ++ hex (codes "09") ++ hex (codes "0505626f782f7100000000")) ≡ Some (Refused 26 (Some 0) reasons.TooOld)
+refuses_too_old_a_subsection : read subsection_set (box_head ++ hex (codes "09") ++ hex (codes "0505626f782f7100000000")) ≡ Some (Refused 26 (Some 0) reasons.TooOld 11)
 unfolding read first
 refuses_too_old_a_subsection = refl
 
-refuses_an_unknown_subsection : read subsection_set (box_head ++ hex (codes "09") ++ hex (codes "0505626f782f7200000001")) ≡ Some (Refused 26 (Some 0) reasons.UnknownSubsection)
+refuses_an_unknown_subsection : read subsection_set (box_head ++ hex (codes "09") ++ hex (codes "0505626f782f7200000001")) ≡ Some (Refused 26 (Some 0) reasons.UnknownSubsection 11)
 unfolding read first
 refuses_an_unknown_subsection = refl
 
-refuses_a_cut_subsection_head : read subsection_set (box_head ++ hex (codes "09") ++ hex (codes "0505626f782f72000000")) ≡ Some (Refused 26 (Some 0) reasons.Truncated)
+refuses_a_cut_subsection_head : read subsection_set (box_head ++ hex (codes "09") ++ hex (codes "0505626f782f72000000")) ≡ Some (Refused 26 (Some 0) reasons.Truncated 10)
 unfolding read first
 refuses_a_cut_subsection_head = refl
 
 -- ---- tests and validations
 
 -- before the input that ends there
-refuses_a_failing_validation : read tested_set (box_head ++ hex (codes "0a")) ≡ Some (Refused 26 (Some 0) reasons.Invalid)
+refuses_a_failing_validation : read tested_set (box_head ++ hex (codes "0a")) ≡ Some (Refused 26 (Some 0) reasons.Invalid 0)
 unfolding read first
 refuses_a_failing_validation = refl
 
@@ -133,7 +133,7 @@ unfolding show first digits
 shows_a_field_that_is_not_there = refl
 
 -- a description without fields is judged directly after its head
-refuses_a_failing_validation_without_fields : read bare_set box_head ≡ Some (Refused 25 (Some 0) reasons.Invalid)
+refuses_a_failing_validation_without_fields : read bare_set box_head ≡ Some (Refused 25 (Some 0) reasons.Invalid 0)
 unfolding read first
 refuses_a_failing_validation_without_fields = refl
 
@@ -188,15 +188,15 @@ unfolding read first
 reads_an_older_version = refl
 
 -- each element of an array of structures is judged at its own end
-refuses_a_structure_whose_validation_fails : read mixed_set (mixed_head ++ hex (codes "02") ++ hex (codes "010203") ++ hex (codes "c80005")) ≡ Some (Refused 32 (Some 0) reasons.Invalid)
+refuses_a_structure_whose_validation_fails : read mixed_set (mixed_head ++ hex (codes "02") ++ hex (codes "010203") ++ hex (codes "c80005")) ≡ Some (Refused 32 (Some 0) reasons.Invalid 0)
 unfolding read first
 refuses_a_structure_whose_validation_fails = refl
 
-refuses_a_device_whose_validation_fails : read mixed_set (mixed_head ++ hex (codes "03") ++ hex (codes "000000000000000000") ++ hex (codes "00ff05")) ≡ Some (Refused 37 (Some 0) reasons.Invalid)
+refuses_a_device_whose_validation_fails : read mixed_set (mixed_head ++ hex (codes "03") ++ hex (codes "000000000000000000") ++ hex (codes "00ff05")) ≡ Some (Refused 37 (Some 0) reasons.Invalid 0)
 unfolding read first
 refuses_a_device_whose_validation_fails = refl
 
 refuses_a_subsection_whose_validation_fails : read mixed_set (mixed_head ++ hex (codes "0000ff") ++ hex (codes "0505626f782f73000000020000000000"))
-    ≡ Some (Refused 44 (Some 0) reasons.Invalid)
+    ≡ Some (Refused 44 (Some 0) reasons.Invalid 0)
 unfolding read first
 refuses_a_subsection_whose_validation_fails = refl

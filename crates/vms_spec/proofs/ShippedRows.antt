@@ -42,6 +42,6 @@ reads_the_stream_of_set_3 : read set_3 (stream set_3 (codes "isa-3")) ≡ Some (
 unfolding read code first
 reads_the_stream_of_set_3 = refl
 
-refuses_the_machine_of_set_2 : read set_1 (stream set_2 (codes "isa-2")) ≡ Some (Refused 8 None reasons.WrongMachine)
+refuses_the_machine_of_set_2 : read set_1 (stream set_2 (codes "isa-2")) ≡ Some (Refused 8 None reasons.WrongMachine 10)
 unfolding read code first
 refuses_the_machine_of_set_2 = refl

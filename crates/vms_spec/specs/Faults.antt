@@ -30,17 +30,18 @@ module _ (set : Set) (names : List (List ℕ)) where
   Front (x ∷ u) = Front u × (holds set u ≡ true) × May (due set u) x × (reason_of set names u x ≡ None)
 
   -- Why nothing goes on after a front: a validation fails of a description that ended; or a unit must come and none that
-  -- may is whole; or the whole unit is taken by a row of the table.
-  pub data Why (u : List Piece) (rest : List ℕ) : Option ℕ → Reason → Type 0 where
-    Fails : holds set u ≡ false → Why u rest (opened set u) reasons.Invalid
-    Cut : holds set u ≡ true → Owes (due set u) rest → ((x : Piece) → IsWhole set u rest x → ⊥) → Why u rest (opened set u) reasons.Truncated
-    Wrong : (x : Piece) (section : Option ℕ) (reason : Reason) → holds set u ≡ true → IsWhole set u rest x → reason_of set names u x ≡ Some (section, reason) → Why u rest section reason
+  -- may is whole; or the whole unit is taken by a row of the table. The last number is how many bytes the unit at fault has:
+  -- none for a validation, and all that is left where the input ends.
+  pub data Why (u : List Piece) (rest : List ℕ) : Option ℕ → Reason → ℕ → Type 0 where
+    Fails : holds set u ≡ false → Why u rest (opened set u) reasons.Invalid 0
+    Cut : holds set u ≡ true → Owes (due set u) rest → ((x : Piece) → IsWhole set u rest x → ⊥) → Why u rest (opened set u) reasons.Truncated (length rest)
+    Wrong : (x : Piece) (section : Option ℕ) (reason : Reason) → holds set u ≡ true → IsWhole set u rest x → reason_of set names u x ≡ Some (section, reason) → Why u rest section reason (length (spell x))
 
-  -- an input is refused at a place, for a device or none, for a reason
-  pub record Fault (input : List ℕ) (place : ℕ) (section : Option ℕ) (reason : Reason) : Type 0 where
+  -- an input is refused at a place, for a device or none, for a reason, at a unit of so many bytes
+  pub record Fault (input : List ℕ) (place : ℕ) (section : Option ℕ) (reason : Reason) (size : ℕ) : Type 0 where
     pub units : List Piece
     pub rest : List ℕ
     pub front : Front units
     pub whole : input ≡ spelled units ++ rest
     pub long : length (spelled units) ≡ place
-    pub why : Why units rest section reason
+    pub why : Why units rest section reason size

@@ -19,10 +19,11 @@ pub record Progress : Type 0 where
   pub place : ℕ
   pub rest : List ℕ
 
--- where and why a body is refused
+-- where and why a body is refused, and how many bytes the unit at fault has
 pub record Refusal : Type 0 where
   pub place : ℕ
   pub reason : Reason
+  pub long : ℕ
 
 -- what reading gives: the progress, or the first refusal
 abbrev pub Taken : Type 0
@@ -33,16 +34,16 @@ abbrev pub ◌>>=◌ : Taken → (Progress → Taken) → Taken
 (Ok p) >>= f = f p
 (Err e) >>= f = Err e
 
-abbrev pub refuse : Progress → Reason → Taken
-refuse p reason = Err (record { place = p.place; reason = reason })
+abbrev pub refuse : Progress → Reason → ℕ → Taken
+refuse p reason long = Err (record { place = p.place; reason = reason; long = long })
 
 -- n bytes further, with these numbers
 abbrev pub on : ℕ → List ℤ → Progress → Taken
 on n numbers p = Ok (record { numbers = numbers; place = p.place + n; rest = drop n p.rest })
 
--- a unit of n bytes, or Truncated
+-- a unit of n bytes, or Truncated in all that is left
 abbrev pub if_whole : ℕ → Progress → Taken → Taken
-if_whole n p t = if nat_lt (length p.rest) n then refuse p reasons.Truncated else t
+if_whole n p t = if nat_lt (length p.rest) n then refuse p reasons.Truncated (length p.rest) else t
 
 -- a structure: its cells, and how its bytes are taken, from its first cell on
 pub record Taker : Type 0 where
@@ -57,15 +58,15 @@ cells_of structs = map (λ t. t.cells) structs
 
 abbrev pub take_number : Kind → List ℕ → ℕ → Progress → Taken
 take_number kind capacities cell p = if_whole (width kind) p (
-    if is_bad_bool kind (take (width kind) p.rest) then refuse p reasons.BadBool
-    else if exceeds capacities (value_of kind (take (width kind) p.rest)) then refuse p reasons.CountTooLarge
+    if is_bad_bool kind (take (width kind) p.rest) then refuse p reasons.BadBool (width kind)
+    else if exceeds capacities (value_of kind (take (width kind) p.rest)) then refuse p reasons.CountTooLarge (width kind)
     else on (width kind) (slice_set p.numbers cell (value_of kind (take (width kind) p.rest))) p)
 
 abbrev pub take_constant : Kind → ℤ → Progress → Taken
 take_constant kind z p = if_whole (width kind) p (
-    if is_bad_bool kind (take (width kind) p.rest) then refuse p reasons.BadBool
+    if is_bad_bool kind (take (width kind) p.rest) then refuse p reasons.BadBool (width kind)
     else if same_number (value_of kind (take (width kind) p.rest)) z then on (width kind) p.numbers p
-    else refuse p reasons.NotEqual)
+    else refuse p reasons.NotEqual (width kind))
 
 abbrev pub take_filler : ℕ → Progress → Taken
 take_filler zero p = Ok p
@@ -96,7 +97,7 @@ take_fields structs d v base i cell (f ∷ fs) p =
     take_field structs d v base i cell f p >>= λ q. take_fields structs d v base (suc i) (cell + length (field_cells (cells_of structs) d.fields i f)) fs q
 
 abbrev pub take_rule : Bool → Progress → Taken
-take_rule b p = if b then Ok p else refuse p reasons.Invalid
+take_rule b p = if b then Ok p else refuse p reasons.Invalid 0
 
 -- the validations of a description whose first cell is `base`
 abbrev pub check_rules : List Taker → Desc → ℕ → ℕ → Progress → Taken
