@@ -55,7 +55,7 @@ module _ (set : Set) (names : List (List ℕ)) (state : State) (d : Device) (ima
   goes_after done p = reading_after (reading_on (judge set names)) p.place p.rest (judge_after set names (in_body state image k id part p.numbers 0) d (now p.numbers) k id p.rest)
 
   abbrev pub is_refused : Refusal → Option (Reading State)
-  is_refused e = Some (Refused e.place (Some k) e.reason)
+  is_refused e = Some (Refused e.place (Some k) e.reason e.long)
 
   abbrev read_slots : ℕ → ℕ → List Slot → Progress → Option (Reading State)
   read_slots from done slots p =
@@ -78,9 +78,9 @@ module _ (set : Set) (names : List (List ℕ)) (state : State) (d : Device) (ima
   both p done true v w t u x y = x
   both p done false v w t u x y = y
 
-  refuses : (p : Progress) (done : ℕ) (reason : Reason) → reads p (Faulty (Some k) reason) ≡ after body_slots goes_on goes_after is_refused done (refuse p reason)
+  refuses : (p : Progress) (done : ℕ) (reason : Reason) (long : ℕ) → reads p (Faulty (Some k) reason long) ≡ after body_slots goes_on goes_after is_refused done (refuse p reason long)
   unfolding reads
-  refuses p done reason = refl
+  refuses p done reason long = refl
 
   number_is : (from done c : ℕ) (kind : Kind) (caps : List ℕ) (p : Progress)
       → reads p (judge_number set names (in_body state image k id part p.numbers from) (now p.numbers) k id part done c kind caps p.rest)
@@ -96,12 +96,12 @@ module _ (set : Set) (names : List (List ℕ)) (state : State) (d : Device) (ima
         came = state.came;
         spot = Fields k id part (suc done);
       }) in
-      let capped : Verdict State = if exceeds caps (value_of kind bytes) then Faulty (Some k) reasons.CountTooLarge else good in
-      let capped' : Taken = if exceeds caps (value_of kind bytes) then refuse p reasons.CountTooLarge else on w numbers p in
-      both p done (nat_lt (length p.rest) w) (Faulty (Some k) reasons.Truncated) (if is_bad_bool kind bytes then Faulty (Some k) reasons.BadBool else capped)
-      (refuse p reasons.Truncated) (if is_bad_bool kind bytes then refuse p reasons.BadBool else capped') (refuses p done reasons.Truncated)
-      (both p done (is_bad_bool kind bytes) (Faulty (Some k) reasons.BadBool) capped (refuse p reasons.BadBool) capped' (refuses p done reasons.BadBool)
-      (both p done (exceeds caps (value_of kind bytes)) (Faulty (Some k) reasons.CountTooLarge) good (refuse p reasons.CountTooLarge) (on w numbers p) (refuses p done reasons.CountTooLarge)
+      let capped : Verdict State = if exceeds caps (value_of kind bytes) then Faulty (Some k) reasons.CountTooLarge w else good in
+      let capped' : Taken = if exceeds caps (value_of kind bytes) then refuse p reasons.CountTooLarge w else on w numbers p in
+      both p done (nat_lt (length p.rest) w) (Faulty (Some k) reasons.Truncated (length p.rest)) (if is_bad_bool kind bytes then Faulty (Some k) reasons.BadBool w else capped)
+      (refuse p reasons.Truncated (length p.rest)) (if is_bad_bool kind bytes then refuse p reasons.BadBool w else capped') (refuses p done reasons.Truncated (length p.rest))
+      (both p done (is_bad_bool kind bytes) (Faulty (Some k) reasons.BadBool w) capped (refuse p reasons.BadBool w) capped' (refuses p done reasons.BadBool w)
+      (both p done (exceeds caps (value_of kind bytes)) (Faulty (Some k) reasons.CountTooLarge w) good (refuse p reasons.CountTooLarge w) (on w numbers p) (refuses p done reasons.CountTooLarge w)
       (ap (λ (images : List Image). reading_on (judge set names) (record { machine = state.machine; images = images; came = state.came; spot = Fields k id part (suc done) }) (p.place + w) (drop w p.rest))
       (set_twice state.images k (now p.numbers) (now numbers)))))
 
@@ -113,20 +113,20 @@ module _ (set : Set) (names : List (List ℕ)) (state : State) (d : Device) (ima
       let w = width kind in
       let bytes = take w p.rest in
       let good : Verdict State = Goes w (in_body state image k id part p.numbers (suc done)) in
-      let equal : Verdict State = if same_number (value_of kind bytes) z then good else Faulty (Some k) reasons.NotEqual in
-      let equal' : Taken = if same_number (value_of kind bytes) z then on w p.numbers p else refuse p reasons.NotEqual in
-      both p done (nat_lt (length p.rest) w) (Faulty (Some k) reasons.Truncated) (if is_bad_bool kind bytes then Faulty (Some k) reasons.BadBool else equal)
-      (refuse p reasons.Truncated) (if is_bad_bool kind bytes then refuse p reasons.BadBool else equal') (refuses p done reasons.Truncated)
-      (both p done (is_bad_bool kind bytes) (Faulty (Some k) reasons.BadBool) equal (refuse p reasons.BadBool) equal' (refuses p done reasons.BadBool)
-      (both p done (same_number (value_of kind bytes) z) good (Faulty (Some k) reasons.NotEqual) (on w p.numbers p) (refuse p reasons.NotEqual) refl (refuses p done reasons.NotEqual)))
+      let equal : Verdict State = if same_number (value_of kind bytes) z then good else Faulty (Some k) reasons.NotEqual w in
+      let equal' : Taken = if same_number (value_of kind bytes) z then on w p.numbers p else refuse p reasons.NotEqual w in
+      both p done (nat_lt (length p.rest) w) (Faulty (Some k) reasons.Truncated (length p.rest)) (if is_bad_bool kind bytes then Faulty (Some k) reasons.BadBool w else equal)
+      (refuse p reasons.Truncated (length p.rest)) (if is_bad_bool kind bytes then refuse p reasons.BadBool w else equal') (refuses p done reasons.Truncated (length p.rest))
+      (both p done (is_bad_bool kind bytes) (Faulty (Some k) reasons.BadBool w) equal (refuse p reasons.BadBool w) equal' (refuses p done reasons.BadBool w)
+      (both p done (same_number (value_of kind bytes) z) good (Faulty (Some k) reasons.NotEqual w) (on w p.numbers p) (refuse p reasons.NotEqual w) refl (refuses p done reasons.NotEqual w)))
 
   filler_is : (from done n : ℕ) (slots : List Slot) (p : Progress)
       → reads p (judge_slots set names (in_body state image k id part p.numbers from) d (now p.numbers) k id part done (Filler (suc n) ∷ slots) p.rest)
       ≡ after body_slots goes_on goes_after is_refused done (take_filler (suc n) p)
   unfolding reads
   filler_is from done n slots p =
-      both p done (nat_lt (length p.rest) (suc n)) (Faulty (Some k) reasons.Truncated) (Goes (suc n) (in_body state image k id part p.numbers (suc done)))
-      (refuse p reasons.Truncated) (on (suc n) p.numbers p) (refuses p done reasons.Truncated) refl
+      both p done (nat_lt (length p.rest) (suc n)) (Faulty (Some k) reasons.Truncated (length p.rest)) (Goes (suc n) (in_body state image k id part p.numbers (suc done)))
+      (refuse p reasons.Truncated (length p.rest)) (on (suc n) p.numbers p) (refuses p done reasons.Truncated (length p.rest)) refl
 
   slots_are : at set.devices k ≡ Some d → k < length state.images → (from done : ℕ) (slots : List Slot) (p : Progress) → drop done (body_slots p.numbers) ≡ slots
       → read_slots from done slots p ≡ step body_slots goes_on goes_after is_refused slots done p

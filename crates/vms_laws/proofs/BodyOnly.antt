@@ -69,9 +69,9 @@ number_taken kind caps cell z p r fits low e =
     let bytes = take w p.rest in
     let is : bytes ≡ code kind z = front_take w (code kind z) r p.rest e (length-code kind z) in
     let value : value_of kind bytes ≡ z = ap (value_of kind) is ∙ value_code kind z fits in
-    if_false (nat_lt (length p.rest) w) (refuse p reasons.Truncated) _ (front_long w (code kind z) r p.rest e (length-code kind z))
-    ∙ if_false (is_bad_bool kind bytes) (refuse p reasons.BadBool) _ (ap (is_bad_bool kind) is ∙ good_code kind z fits)
-    ∙ if_false (exceeds caps (value_of kind bytes)) (refuse p reasons.CountTooLarge) (on w (slice_set p.numbers cell (value_of kind bytes)) p) (ap (exceeds caps) value ∙ not_exceeds caps z low)
+    if_false (nat_lt (length p.rest) w) (refuse p reasons.Truncated (length p.rest)) _ (front_long w (code kind z) r p.rest e (length-code kind z))
+    ∙ if_false (is_bad_bool kind bytes) (refuse p reasons.BadBool w) _ (ap (is_bad_bool kind) is ∙ good_code kind z fits)
+    ∙ if_false (exceeds caps (value_of kind bytes)) (refuse p reasons.CountTooLarge w) (on w (slice_set p.numbers cell (value_of kind bytes)) p) (ap (exceeds caps) value ∙ not_exceeds caps z low)
     ∙ ap (λ (y : ℤ). on w (slice_set p.numbers cell y) p) value
     ∙ ap (λ (l : List ℕ). Ok (record { numbers = slice_set p.numbers cell z; place = p.place + w; rest = l })) (front_drop w (code kind z) r p.rest e (length-code kind z))
 
@@ -82,9 +82,9 @@ constant_taken kind z p r fits e =
     let bytes = take w p.rest in
     let is : bytes ≡ code kind z = front_take w (code kind z) r p.rest e (length-code kind z) in
     let value : value_of kind bytes ≡ z = ap (value_of kind) is ∙ value_code kind z fits in
-    if_false (nat_lt (length p.rest) w) (refuse p reasons.Truncated) _ (front_long w (code kind z) r p.rest e (length-code kind z))
-    ∙ if_false (is_bad_bool kind bytes) (refuse p reasons.BadBool) _ (ap (is_bad_bool kind) is ∙ good_code kind z fits)
-    ∙ if_true (same_number (value_of kind bytes) z) (on w p.numbers p) (refuse p reasons.NotEqual) (ap (λ (y : ℤ). same_number y z) value ∙ same_is_true z)
+    if_false (nat_lt (length p.rest) w) (refuse p reasons.Truncated (length p.rest)) _ (front_long w (code kind z) r p.rest e (length-code kind z))
+    ∙ if_false (is_bad_bool kind bytes) (refuse p reasons.BadBool w) _ (ap (is_bad_bool kind) is ∙ good_code kind z fits)
+    ∙ if_true (same_number (value_of kind bytes) z) (on w p.numbers p) (refuse p reasons.NotEqual w) (ap (λ (y : ℤ). same_number y z) value ∙ same_is_true z)
     ∙ ap (λ (l : List ℕ). Ok (record { numbers = p.numbers; place = p.place + w; rest = l })) (front_drop w (code kind z) r p.rest e (length-code kind z))
 
 filler_taken : (n : ℕ) (filler r : List ℕ) (p : Progress) → length filler ≡ n → p.rest ≡ filler ++ r → take_filler n p ≡ Ok (record { numbers = p.numbers; place = p.place + n; rest = r })
@@ -93,7 +93,7 @@ filler_taken zero [] r p len e =
     ∙ ap (λ (l : List ℕ). Ok (record { numbers = p.numbers; place = p.place + 0; rest = l })) e
 filler_taken zero (x ∷ xs) r p len e = absurd (omega arith)
 filler_taken (suc n) filler r p len e =
-    if_false (nat_lt (length p.rest) (suc n)) (refuse p reasons.Truncated) (on (suc n) p.numbers p) (front_long (suc n) filler r p.rest e len)
+    if_false (nat_lt (length p.rest) (suc n)) (refuse p reasons.Truncated (length p.rest)) (on (suc n) p.numbers p) (front_long (suc n) filler r p.rest e len)
     ∙ ap (λ (l : List ℕ). Ok (record { numbers = p.numbers; place = p.place + suc n; rest = l })) (front_drop (suc n) filler r p.rest e len)
 
 -- ---- what is still to be taken
@@ -236,7 +236,7 @@ module _ (all : List Cell) (total : List ℤ → List Slot) (n : List ℤ) (end 
       let spells : Spells n (left n) h.bytes = subst (λ (xs : List Slot). Spells n xs h.bytes) is h.spells in
       let rules : RulesHold (Rule b ∷ left n) = subst (λ (xs : List Slot). RulesHold xs) is h.rules in
       passed cell (Rule b) done left p (take_rule b p) 0 h.bytes up l
-      (if_true b (Ok p) (refuse p reasons.Invalid) rules.0
+      (if_true b (Ok p) (refuse p reasons.Invalid 0) rules.0
       ∙ ap (λ (k : ℕ). Ok (record { numbers = p.numbers; place = k; rest = p.rest })) (zero_more p.place)
       ∙ ap (λ (l : List ℕ). Ok (record { numbers = p.numbers; place = p.place + 0; rest = l })) h.front)
       (omega arith) spells (subst (λ (xs : List Slot). FitSlots n xs) is h.fits) rules.1 (λ c. refl)

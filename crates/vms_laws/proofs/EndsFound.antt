@@ -17,22 +17,22 @@ module _ (set : Set) (names : List (List ℕ)) (go : State → ℕ → List ℕ 
   pub magic_found : (state : State) (place : ℕ) (rest : List ℕ) → Reads go place rest n end (judge_magic set names state rest)
       → (rest ≡ magic ++ drop 4 rest) × (go (record state { spot = Version }) (place + 4) (drop 4 rest) ≡ Some (Accepted n end))
   magic_found state place rest h =
-      let a = not_faulty go place rest n end (nat_lt (length rest) 4) None reasons.Truncated (if bytes_eq (take 4 rest) magic then Goes 4 (record state { spot = Version }) else Faulty None reasons.BadMagic) h in
-      let b = else_faulty go place rest n end (bytes_eq (take 4 rest) magic) None reasons.BadMagic (Goes 4 (record state { spot = Version })) a.1 in
+      let a = not_faulty go place rest n end (nat_lt (length rest) 4) None reasons.Truncated (length rest) (if bytes_eq (take 4 rest) magic then Goes 4 (record state { spot = Version }) else Faulty None reasons.BadMagic 4) h in
+      let b = else_faulty go place rest n end (bytes_eq (take 4 rest) magic) None reasons.BadMagic 4 (Goes 4 (record state { spot = Version })) a.1 in
       (sym (take-append-drop 4 rest) ∙ ap (λ (l : List ℕ). l ++ drop 4 rest) (same_text (take 4 rest) magic b.0), b.1)
 
   pub version_found : (state : State) (place : ℕ) (rest : List ℕ) → IsBytes rest → Reads go place rest n end (judge_version set names state rest)
       → (rest ≡ be32 3 ++ drop 4 rest) × (go (record state { spot = First }) (place + 4) (drop 4 rest) ≡ Some (Accepted n end))
   version_found state place rest ok h =
-      let bad : Verdict State = if number_at 4 0 rest == 2 then Faulty None reasons.OldStream else Faulty None reasons.BadVersion in
-      let a = not_faulty go place rest n end (nat_lt (length rest) 4) None reasons.Truncated (if number_at 4 0 rest == 3 then Goes 4 (record state { spot = First }) else bad) h in
-      let never : Reads go place rest n end bad → ⊥ = λ x. (let y = not_faulty go place rest n end (number_at 4 0 rest == 2) None reasons.OldStream (Faulty None reasons.BadVersion) x in never_read place rest y.1) in
+      let bad : Verdict State = if number_at 4 0 rest == 2 then Faulty None reasons.OldStream 4 else Faulty None reasons.BadVersion 4 in
+      let a = not_faulty go place rest n end (nat_lt (length rest) 4) None reasons.Truncated (length rest) (if number_at 4 0 rest == 3 then Goes 4 (record state { spot = First }) else bad) h in
+      let never : Reads go place rest n end bad → ⊥ = λ x. (let y = not_faulty go place rest n end (number_at 4 0 rest == 2) None reasons.OldStream 4 (Faulty None reasons.BadVersion 4) x in never_read place rest y.1) in
       elim (either go place rest n end (number_at 4 0 rest == 3) (Goes 4 (record state { spot = First })) bad a.1) [
         | inl x ↦ (split_four rest ok (ltb-false (length rest) 4 a.0) ∙ ap (λ (k : ℕ). be32 k ++ drop 4 rest) (eqb-true (number_at 4 0 rest) 3 x.0), x.1)
         | inr x ↦ absurd (never x.1)
       ]
     where
-      never_read : (place : ℕ) (rest : List ℕ) → Reads go place rest n end (Faulty None reasons.BadVersion) → ⊥
+      never_read : (place : ℕ) (rest : List ℕ) → Reads go place rest n end (Faulty None reasons.BadVersion 4) → ⊥
       never_read place rest h = cc
 
   -- a mark, the length of a text and the text
@@ -60,11 +60,11 @@ module _ (set : Set) (names : List (List ℕ)) (go : State → ℕ → List ℕ 
       let size = number_at 4 1 rest in
       let name = bytes_at size 5 rest in
       let good : Verdict State = Goes (5 + size) (record state { machine = Some name; spot = Configured }) in
-      let known : Verdict State = if is_one_of names name then good else Faulty None reasons.WrongMachine in
-      let a = not_faulty go place rest n end (nat_lt (length rest) 5) None reasons.Truncated (if nat_lt 255 size then Faulty None reasons.WrongMachine else whole (5 + size) None rest known) h in
-      let b = not_faulty go place rest n end (nat_lt 255 size) None reasons.WrongMachine (whole (5 + size) None rest known) a.1 in
-      let c = not_faulty go place rest n end (nat_lt (length rest) (5 + size)) None reasons.Truncated known b.1 in
-      let d = else_faulty go place rest n end (is_one_of names name) None reasons.WrongMachine good c.1 in
+      let known : Verdict State = if is_one_of names name then good else Faulty None reasons.WrongMachine (5 + size) in
+      let a = not_faulty go place rest n end (nat_lt (length rest) 5) None reasons.Truncated (length rest) (if nat_lt 255 size then Faulty None reasons.WrongMachine 5 else whole (5 + size) None rest known) h in
+      let b = not_faulty go place rest n end (nat_lt 255 size) None reasons.WrongMachine 5 (whole (5 + size) None rest known) a.1 in
+      let c = not_faulty go place rest n end (nat_lt (length rest) (5 + size)) None reasons.Truncated (length rest) known b.1 in
+      let d = else_faulty go place rest n end (is_one_of names name) None reasons.WrongMachine (5 + size) good c.1 in
       let t = text_bytes 0x07 rest size ok mark refl (ltb-false (length rest) (5 + size) c.0) in
       let low : size ≤ 255 = ltb-false 255 size b.0 in
       record {
@@ -103,10 +103,10 @@ module _ (set : Set) (names : List (List ℕ)) (n : ℕ) (end : State) where
       let size = number_at 4 1 rest in
       let text = bytes_at size 5 rest in
       let last : State = record state { spot = Described } in
-      let a = else_faulty J place rest n end (get_or rest 0 0 == 0x06) None reasons.Trailing (whole 5 None rest (judge_text set names state size rest)) h in
-      let b = not_faulty J place rest n end (nat_lt (length rest) 5) None reasons.Truncated (judge_text set names state size rest) a.1 in
-      let c = not_faulty J place rest n end (nat_lt longest_text size) None reasons.DescriptionTooLong (whole (5 + size) None rest (Goes (5 + size) last)) b.1 in
-      let d = not_faulty J place rest n end (nat_lt (length rest) (5 + size)) None reasons.Truncated (Goes (5 + size) last) c.1 in
+      let a = else_faulty J place rest n end (get_or rest 0 0 == 0x06) None reasons.Trailing 1 (whole 5 None rest (judge_text set names state size rest)) h in
+      let b = not_faulty J place rest n end (nat_lt (length rest) 5) None reasons.Truncated (length rest) (judge_text set names state size rest) a.1 in
+      let c = not_faulty J place rest n end (nat_lt longest_text size) None reasons.DescriptionTooLong 5 (whole (5 + size) None rest (Goes (5 + size) last)) b.1 in
+      let d = not_faulty J place rest n end (nat_lt (length rest) (5 + size)) None reasons.Truncated (length rest) (Goes (5 + size) last) c.1 in
       let t = text_bytes set names J n end 0x06 rest size ok (eqb-true (get_or rest 0 0) 0x06 a.0) refl (ltb-false (length rest) (5 + size) d.0) in
       let low : size ≤ longest_text = ltb-false longest_text size c.0 in
       let is : end ≡ last = accepted_state (place + (5 + size)) n last end d.1 in
@@ -146,19 +146,19 @@ module _ (set : Set) (names : List (List ℕ)) (n : ℕ) (end : State) where
   marks state rest first configured mark =
       if mark == 0x00 then judge_end set names state (first_missing 0 state.came)
       else if mark == 0x01 then judge_start set names state rest
-      else if mark == 0x02 || mark == 0x03 then Faulty None reasons.Iterative
+      else if mark == 0x02 || mark == 0x03 then Faulty None reasons.Iterative 1
       else if mark == 0x04 then judge_head set names state rest
-      else if mark == 0x05 && configured then Faulty None reasons.ConfigurationExtra
+      else if mark == 0x05 && configured then Faulty None reasons.ConfigurationExtra 1
       else if mark == 0x07 && first then judge_configuration set names state rest
-      else if mark == 0x08 then Faulty None reasons.Command
-      else Faulty None reasons.BadMark
+      else if mark == 0x08 then Faulty None reasons.Command 1
+      else Faulty None reasons.BadMark 1
 
   pub first_found : (state : State) (place : ℕ) (rest : List ℕ) → IsBytes rest → Reads (reading_on (judge set names)) place rest n end (judge_mark set names true false state rest)
       → Configures set names (reading_on (judge set names)) n end state place rest ⊎ Reads (reading_on (judge set names)) place rest n end (judge_mark set names false false state rest)
   unfolding marks
   first_found state place rest ok h =
       let J = reading_on (judge set names) in
-      let a = not_faulty J place rest n end (nat_lt (length rest) 1) None reasons.Truncated (marks state rest true false (get_or rest 0 0)) h in
+      let a = not_faulty J place rest n end (nat_lt (length rest) 1) None reasons.Truncated (length rest) (marks state rest true false (get_or rest 0 0)) h in
       which (get_or rest 0 0 == 0x07) refl a.0 a.1
     where
       which : (b : Bool) → (get_or rest 0 0 == 0x07) ≡ b → nat_lt (length rest) 1 ≡ false → Reads (reading_on (judge set names)) place rest n end (marks state rest true false (get_or rest 0 0))
@@ -172,12 +172,12 @@ module _ (set : Set) (names : List (List ℕ)) (n : ℕ) (end : State) where
           let mid : Bool → Verdict State = λ b.
           if m == 0x00 then judge_end set names state (first_missing 0 state.came)
           else if m == 0x01 then judge_start set names state rest
-          else if m == 0x02 || m == 0x03 then Faulty None reasons.Iterative
+          else if m == 0x02 || m == 0x03 then Faulty None reasons.Iterative 1
           else if m == 0x04 then judge_head set names state rest
-          else if m == 0x05 && false then Faulty None reasons.ConfigurationExtra
+          else if m == 0x05 && false then Faulty None reasons.ConfigurationExtra 1
           else if b then judge_configuration set names state rest
-          else if m == 0x08 then Faulty None reasons.Command
-          else Faulty None reasons.BadMark in
+          else if m == 0x08 then Faulty None reasons.Command 1
+          else Faulty None reasons.BadMark 1 in
           let same : mid (m == 0x07 && true) ≡ mid (m == 0x07 && false) = ap mid (ap (λ (b : Bool). b && true) e) ∙ sym (ap mid (ap (λ (b : Bool). b && false) e)) in
           inr (subst (λ (v : Verdict State). Reads (reading_on (judge set names)) place rest n end v)
-          (same ∙ sym (if_false (nat_lt (length rest) 1) (Faulty None reasons.Truncated) (mid (m == 0x07 && false)) some)) r)
+          (same ∙ sym (if_false (nat_lt (length rest) 1) (Faulty None reasons.Truncated (length rest)) (mid (m == 0x07 && false)) some)) r)

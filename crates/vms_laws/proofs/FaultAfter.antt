@@ -24,7 +24,7 @@ use Rattle.vms_laws.proofs.PartLaws.{at_inside}
 use Rattle.vms_laws.proofs.HeadFound.{is_bytes_drop, split_one, split_four, four_low}
 use Rattle.vms_laws.proofs.SubHeads.{sub_opened, sub_bytes, sub_is}
 use Rattle.vms_laws.proofs.FaultFields.{no_units, left_all}
-use Rattle.vms_laws.proofs.FaultFrame.{Judged}
+use Rattle.vms_laws.proofs.FaultFrame.{Judged, wrong_unit}
 use Rattle.vms_laws.proofs.FaultHeads.{by_test}
 use Rattle.vms_laws.proofs.FaultBody.{AtSlots}
 use Rattle.vms_laws.proofs.Mirrors.{Mirrors}
@@ -106,9 +106,9 @@ module _ (set : Set) (names : List (List ℕ)) (good : IsGood set) (u : List Pie
   abbrev Said : Verdict State → Type 0
   Said v = Judged set names (Mirrors set) u rest v
 
-  cut_after : ((x : Piece) → IsWhole set u rest x → ⊥) → Said (Faulty (Some k) reasons.Truncated)
+  cut_after : ((x : Piece) → IsWhole set u rest x → ⊥) → Said (Faulty (Some k) reasons.Truncated (length rest))
   cut_after never =
-      subst (λ (o : Option ℕ). Why set names u rest o reasons.Truncated) a.open_is
+      subst (λ (o : Option ℕ). Why set names u rest o reasons.Truncated (length rest)) a.open_is
       (Cut a.held (subst (λ (e : Due). Owes e rest) (sym a.due_is) tt) never)
 
   device_is : device set u ≡ Some d
@@ -167,19 +167,19 @@ module _ (set : Set) (names : List (List ℕ)) (good : IsGood set) (u : List Pie
       ∙ ap (λ (o : Option (Option ℕ)). sub_rows (Some k) (Some j) (Some s) o v) c
       ∙ ap (λ (b : Bool). if nat_lt s.desc.version v then new else if nat_lt v s.desc.minimum then Some (Some k, reasons.TooOld) else if b then Some (Some k, reasons.RepeatedSubsection) else None) (came_same came) in
       let goes : Verdict State = Goes n (sub_opened state (image set u) k id j v) in
-      let again : Verdict State = if did_come came then Faulty (Some k) reasons.RepeatedSubsection else goes in
-      let late : Verdict State = if nat_lt v s.desc.minimum then Faulty (Some k) reasons.TooOld else again in
+      let again : Verdict State = if did_come came then Faulty (Some k) reasons.RepeatedSubsection n else goes in
+      let late : Verdict State = if nat_lt v s.desc.minimum then Faulty (Some k) reasons.TooOld n else again in
       let test = by_test set names (Mirrors set) u rest in
-      test (nat_lt s.desc.version v) (Faulty (Some k) reasons.TooNew) late
-      (λ t. Wrong x (Some k) reasons.TooNew a.held w (r ∙ if_true (nat_lt s.desc.version v) new old t))
+      test (nat_lt s.desc.version v) (Faulty (Some k) reasons.TooNew n) late
+      (λ t. wrong_unit set names u rest x (Some k) reasons.TooNew n long a.held w (r ∙ if_true (nat_lt s.desc.version v) new old t))
       (λ f.
       let r2 = r ∙ if_false (nat_lt s.desc.version v) new old f in
-      test (nat_lt v s.desc.minimum) (Faulty (Some k) reasons.TooOld) again
-      (λ t. Wrong x (Some k) reasons.TooOld a.held w (r2 ∙ if_true (nat_lt v s.desc.minimum) (Some (Some k, reasons.TooOld)) repeated t))
+      test (nat_lt v s.desc.minimum) (Faulty (Some k) reasons.TooOld n) again
+      (λ t. wrong_unit set names u rest x (Some k) reasons.TooOld n long a.held w (r2 ∙ if_true (nat_lt v s.desc.minimum) (Some (Some k, reasons.TooOld)) repeated t))
       (λ f.
       let r3 = r2 ∙ if_false (nat_lt v s.desc.minimum) (Some (Some k, reasons.TooOld)) repeated f in
-      test (did_come came) (Faulty (Some k) reasons.RepeatedSubsection) goes
-      (λ t. Wrong x (Some k) reasons.RepeatedSubsection a.held w (r3 ∙ if_true (did_come came) (Some (Some k, reasons.RepeatedSubsection)) None t))
+      test (did_come came) (Faulty (Some k) reasons.RepeatedSubsection n) goes
+      (λ t. wrong_unit set names u rest x (Some k) reasons.RepeatedSubsection n long a.held w (r3 ∙ if_true (did_come came) (Some (Some k, reasons.RepeatedSubsection)) None t))
       (λ f. record {
         unit = x;
         whole = w;
@@ -192,7 +192,7 @@ module _ (set : Set) (names : List (List ℕ)) (good : IsGood set) (u : List Pie
   any_sub : (name : List ℕ) (v n : ℕ) → IsWhole set u rest (SubHead name v) → length (spell (SubHead name v)) ≡ n → (o : Option ℕ) → find_sub 0 d.subs name ≡ o
       → Said (judge_sub set names state (image set u) k id n v o (at d.subs (index o)) (at (image set u).came (index o)))
   any_sub name v n w long None e =
-      Wrong (SubHead name v) (Some k) reasons.UnknownSubsection a.held w
+      wrong_unit set names u rest (SubHead name v) (Some k) reasons.UnknownSubsection n long a.held w
       (sub_rows_at name v ∙ ap (λ (o : Option ℕ). sub_rows (Some k) o (at_option d.subs o) (at_option (image set u).came o) v) e)
   any_sub name v n w long (Some j) e =
       let f = sub_is d.subs 0 name j e in
@@ -229,12 +229,12 @@ module _ (set : Set) (names : List (List ℕ)) (good : IsGood set) (u : List Pie
       let o = find_sub 0 d.subs name in
       let found : Verdict State = judge_sub set names state (image set u) k id (6 + n) v o (at d.subs (index o)) (at (image set u).came (index o)) in
       let test = by_test set names (Mirrors set) u rest in
-      test (nat_lt (length rest) 2) (Faulty (Some k) reasons.Truncated) (whole (6 + n) (Some k) rest found)
+      test (nat_lt (length rest) 2) (Faulty (Some k) reasons.Truncated (length rest)) (whole (6 + n) (Some k) rest found)
       (λ t. cut_after (λ x w.
       let lt : length rest < 2 = ltb-true (length rest) 2 t in
       let le : 6 + n ≤ length rest = sub_wants x mark w in
       absurd (omega arith)))
-      (λ f. test (nat_lt (length rest) (6 + n)) (Faulty (Some k) reasons.Truncated) found
+      (λ f. test (nat_lt (length rest) (6 + n)) (Faulty (Some k) reasons.Truncated (length rest)) found
       (λ t. cut_after (λ x w.
       let lt : length rest < 6 + n = ltb-true (length rest) (6 + n) t in
       let le : 6 + n ≤ length rest = sub_wants x mark w in
@@ -259,17 +259,17 @@ module _ (set : Set) (names : List (List ℕ)) (good : IsGood set) (u : List Pie
           two (length (name ++ be32 v)) ∙ e
 
   foot_said : get_or rest 0 0 ≡ 0x7e → 1 ≤ length rest → Said (whole 5 (Some k) rest (
-      if number_at 4 1 rest == id then goes_to set names state 5 LaterSpot else Faulty (Some k) reasons.BadFooter))
+      if number_at 4 1 rest == id then goes_to set names state 5 LaterSpot else Faulty (Some k) reasons.BadFooter 5))
   foot_said mark some =
       let n = number_at 4 1 rest in
       let x = Foot n in
-      let last : Verdict State = if n == id then goes_to set names state 5 LaterSpot else Faulty (Some k) reasons.BadFooter in
+      let last : Verdict State = if n == id then goes_to set names state 5 LaterSpot else Faulty (Some k) reasons.BadFooter 5 in
       let r : reason_of set names u x ≡ foot_rows (Some k) (not (n == id)) =
       ap (λ (e : Due). first_row (table set names e u x)) a.due_is
       ∙ ap (λ (o : Option ℕ). foot_rows o (not (n == id_of u))) a.open_is
       ∙ ap (λ (i : ℕ). foot_rows (Some k) (not (n == i))) a.id_is in
       let test = by_test set names (Mirrors set) u rest in
-      test (nat_lt (length rest) 5) (Faulty (Some k) reasons.Truncated) last
+      test (nat_lt (length rest) 5) (Faulty (Some k) reasons.Truncated (length rest)) last
       (λ t. cut_after (λ x w.
       let lt : length rest < 5 = ltb-true (length rest) 5 t in
       let le : 5 ≤ length rest = foot_wants x mark w in
@@ -282,7 +282,7 @@ module _ (set : Set) (names : List (List ℕ)) (good : IsGood set) (u : List Pie
         there = split_one rest some ∙ ap (λ (b : ℕ). b ∷ drop 1 rest) mark
             ∙ ap (λ (l : List ℕ). 0x7e ∷ l) (split_four (drop 1 rest) (is_bytes_drop 1 rest ok) (omega (arith, length-drop 1 rest)) ∙ ap (λ (l : List ℕ). be32 n ++ l) (drop-drop 4 1 rest));
       } in
-      test (n == id) (goes_to set names state 5 LaterSpot) (Faulty (Some k) reasons.BadFooter)
+      test (n == id) (goes_to set names state 5 LaterSpot) (Faulty (Some k) reasons.BadFooter 5)
       (λ t. record {
         unit = x;
         whole = w;
@@ -299,15 +299,15 @@ module _ (set : Set) (names : List (List ℕ)) (good : IsGood set) (u : List Pie
       let n = get_or rest 1 0 in
       let o = find_sub 0 d.subs (bytes_at n 2 rest) in
       let v5 : Verdict State = whole 2 (Some k) rest (whole (6 + n) (Some k) rest (judge_sub set names state (image set u) k id (6 + n) (number_at 4 (2 + n) rest) o (at d.subs (index o)) (at (image set u).came (index o)))) in
-      let v7 : Verdict State = whole 5 (Some k) rest (if number_at 4 1 rest == id then goes_to set names state 5 LaterSpot else Faulty (Some k) reasons.BadFooter) in
+      let v7 : Verdict State = whole 5 (Some k) rest (if number_at 4 1 rest == id then goes_to set names state 5 LaterSpot else Faulty (Some k) reasons.BadFooter 5) in
       let test = by_test set names (Mirrors set) u rest in
-      test (nat_lt (length rest) 1) (Faulty (Some k) reasons.Truncated) (if m == 0x05 then v5 else if m == 0x7e then v7 else Faulty (Some k) reasons.BadFooter)
+      test (nat_lt (length rest) 1) (Faulty (Some k) reasons.Truncated (length rest)) (if m == 0x05 then v5 else if m == 0x7e then v7 else Faulty (Some k) reasons.BadFooter 1)
       (λ t. cut_after (λ x w. too_few set u rest x (subst (λ (e : Due). length rest < least e) (sym a.due_is) (ltb-true (length rest) 1 t)) w))
       (λ f.
       let some : 1 ≤ length rest = ltb-false (length rest) 1 f in
-      test (m == 0x05) v5 (if m == 0x7e then v7 else Faulty (Some k) reasons.BadFooter)
+      test (m == 0x05) v5 (if m == 0x7e then v7 else Faulty (Some k) reasons.BadFooter 1)
       (λ t. sub_said (eqb-true m 5 t))
-      (λ f5. test (m == 0x7e) v7 (Faulty (Some k) reasons.BadFooter)
+      (λ f5. test (m == 0x7e) v7 (Faulty (Some k) reasons.BadFooter 1)
       (λ t. foot_said (eqb-true m 0x7e t) some)
       (λ f7. Wrong (Mark m) (Some k) reasons.BadFooter a.held
       (record {

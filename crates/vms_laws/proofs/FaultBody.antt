@@ -17,7 +17,7 @@ use Rattle.vms_spec.specs.Units.{Piece, Number, Constant, Filler}
 use Rattle.vms_spec.specs.SoFar.{id_of, done, come, opened, part, image, slots, device, part_slots, slots_of_sub}
 use Rattle.vms_spec.specs.Dues.{Due, Field, left, rules_hold, due_field, due, holds, raw, May, AtNumber, AtConstant, AtFiller}
 use Rattle.vms_spec.specs.Table.{table, first_row, reason_of}
-use Rattle.vms_spec.specs.Faults.{Owes, IsWhole, Why, Fails, Cut, Wrong}
+use Rattle.vms_spec.specs.Faults.{Owes, IsWhole, Why, Fails, Cut}
 use Rattle.vms_spec.proofs.KindLaws.{length-code}
 use Rattle.vms_spec.proofs.DueSizes.{least, too_few}
 use Rattle.vms_laws.specs.Good.{IsGood}
@@ -27,7 +27,7 @@ use Rattle.vms_laws.proofs.PartLaws.{at_inside}
 use Rattle.vms_laws.proofs.SpellLaws.{is_bytes_take}
 use Rattle.vms_laws.proofs.StaysLaws.{Stay, slots_stay, stay_same}
 use Rattle.vms_laws.proofs.FaultFields.{units, units_number, units_constant, units_filler, units_rule, units_nothing, left_number, left_constant, left_filler, left_all, raw_take, raw_same, bad_same}
-use Rattle.vms_laws.proofs.FaultFrame.{Judged}
+use Rattle.vms_laws.proofs.FaultFrame.{Judged, wrong_unit}
 use Rattle.vms_laws.proofs.FaultHeads.{by_test}
 use Rattle.vms_laws.proofs.Mirrors.{InPart, Mirrors}
 
@@ -86,9 +86,9 @@ module _ (set : Set) (names : List (List ℕ)) (good : IsGood set) where
 
   module _ (u : List Piece) (state : State) (rest : List ℕ) (ok : IsBytes rest) (d : Device) (k id : ℕ) (p : Option ℕ) (passed : ℕ) where
     -- too few bytes are left for what is due
-    cut_at : (after : List Slot) → AtSlots u state d k id p passed after → (e : Due) → due set u ≡ e → holds set u ≡ true → Owes e rest → length rest < least e → Says u rest (Faulty (Some k) reasons.Truncated)
+    cut_at : (after : List Slot) → AtSlots u state d k id p passed after → (e : Due) → due set u ≡ e → holds set u ≡ true → Owes e rest → length rest < least e → Says u rest (Faulty (Some k) reasons.Truncated (length rest))
     cut_at after a e due_is held owed few =
-        subst (λ (o : Option ℕ). Why set names u rest o reasons.Truncated) a.open_is
+        subst (λ (o : Option ℕ). Why set names u rest o reasons.Truncated (length rest)) a.open_is
         (Cut held (subst (λ (e : Due). Owes e rest) (sym due_is) owed) (λ x w. too_few set u rest x (subst (λ (e : Due). length rest < least e) (sym due_is) few) w))
 
     device_is : (after : List Slot) → AtSlots u state d k id p passed after → device set u ≡ Some d
@@ -136,14 +136,14 @@ module _ (set : Set) (names : List (List ℕ)) (good : IsGood set) where
           came = state.came;
           spot = FieldsSpot k id p (suc passed);
         } in
-        let fits : Verdict State = if exceeds caps (value_of kind bytes) then Faulty (Some k) reasons.CountTooLarge else Goes w next in
+        let fits : Verdict State = if exceeds caps (value_of kind bytes) then Faulty (Some k) reasons.CountTooLarge w else Goes w next in
         let r : reason_of set names u x ≡ number_rows (Some k) (is_bad_bool kind bytes) (exceeds caps (value_of kind bytes)) =
         ap (λ (e : Due). first_row (table set names e u x)) a.due_is
         ∙ ap (λ (o : Option ℕ). number_rows o (is_truth kind && is_above z 1) (exceeds caps z)) a.open_is
         ∙ ap (λ (b : Bool). number_rows (Some k) b (exceeds caps z)) (bad_same kind bytes)
         ∙ ap (λ (y : ℤ). number_rows (Some k) (is_bad_bool kind bytes) (exceeds caps y)) (raw_same kind bytes) in
         let test = by_test set names (Mirrors set) u rest in
-        test (nat_lt (length rest) w) (Faulty (Some k) reasons.Truncated) (if is_bad_bool kind bytes then Faulty (Some k) reasons.BadBool else fits)
+        test (nat_lt (length rest) w) (Faulty (Some k) reasons.Truncated (length rest)) (if is_bad_bool kind bytes then Faulty (Some k) reasons.BadBool w else fits)
         (λ t. cut_at _ a e a.due_is a.held tt (ltb-true (length rest) w t))
         (λ f.
         let long : length bytes ≡ w = length-take-le w rest (ltb-false (length rest) w f) in
@@ -153,12 +153,12 @@ module _ (set : Set) (names : List (List ℕ)) (good : IsGood set) where
           more = drop w rest;
           there = sym (take-append-drop w rest) ∙ ap (λ (l : List ℕ). l ++ drop w rest) t.1;
         } in
-        test (is_bad_bool kind bytes) (Faulty (Some k) reasons.BadBool) fits
-        (λ b. Wrong x (Some k) reasons.BadBool a.held whole (r ∙ ap (λ (b : Bool). number_rows (Some k) b (exceeds caps (value_of kind bytes))) b))
+        test (is_bad_bool kind bytes) (Faulty (Some k) reasons.BadBool w) fits
+        (λ b. wrong_unit set names u rest x (Some k) reasons.BadBool w (length-code kind z) a.held whole (r ∙ ap (λ (b : Bool). number_rows (Some k) b (exceeds caps (value_of kind bytes))) b))
         (λ b.
         let r2 = r ∙ ap (λ (b : Bool). number_rows (Some k) b (exceeds caps (value_of kind bytes))) b in
-        test (exceeds caps (value_of kind bytes)) (Faulty (Some k) reasons.CountTooLarge) (Goes w next)
-        (λ b. Wrong x (Some k) reasons.CountTooLarge a.held whole (r2 ∙ ap (number_rows (Some k) false) b))
+        test (exceeds caps (value_of kind bytes)) (Faulty (Some k) reasons.CountTooLarge w) (Goes w next)
+        (λ b. wrong_unit set names u rest x (Some k) reasons.CountTooLarge w (length-code kind z) a.held whole (r2 ∙ ap (number_rows (Some k) false) b))
         (λ b. record {
           unit = x;
           whole = whole;
@@ -192,9 +192,9 @@ module _ (set : Set) (names : List (List ℕ)) (good : IsGood set) where
 
     constant_said : (kind : Kind) (z : ℤ) (more : List Slot) → AtSlots u state d k id p passed (ConstantSlot kind z ∷ more)
         → Says u rest (whole (width kind) (Some k) rest (
-        if is_bad_bool kind (take (width kind) rest) then Faulty (Some k) reasons.BadBool
+        if is_bad_bool kind (take (width kind) rest) then Faulty (Some k) reasons.BadBool (width kind)
         else if same_number (value_of kind (take (width kind) rest)) z then goes_to set names state (width kind) (FieldsSpot k id p (suc passed))
-        else Faulty (Some k) reasons.NotEqual))
+        else Faulty (Some k) reasons.NotEqual (width kind)))
     constant_said kind z more a =
         let w = width kind in
         let bytes = take w rest in
@@ -202,14 +202,14 @@ module _ (set : Set) (names : List (List ℕ)) (good : IsGood set) where
         let x = Constant kind y in
         let e : Due = Field k (ConstantSlot kind z) in
         let next : Verdict State = goes_to set names state w (FieldsSpot k id p (suc passed)) in
-        let equal : Verdict State = if same_number (value_of kind bytes) z then next else Faulty (Some k) reasons.NotEqual in
+        let equal : Verdict State = if same_number (value_of kind bytes) z then next else Faulty (Some k) reasons.NotEqual w in
         let r : reason_of set names u x ≡ constant_rows (Some k) (is_bad_bool kind bytes) (same_number (value_of kind bytes) z) =
         ap (λ (e : Due). first_row (table set names e u x)) a.due_is
         ∙ ap (λ (o : Option ℕ). constant_rows o (is_truth kind && is_above y 1) (same_number y z)) a.open_is
         ∙ ap (λ (b : Bool). constant_rows (Some k) b (same_number y z)) (bad_same kind bytes)
         ∙ ap (λ (y : ℤ). constant_rows (Some k) (is_bad_bool kind bytes) (same_number y z)) (raw_same kind bytes) in
         let test = by_test set names (Mirrors set) u rest in
-        test (nat_lt (length rest) w) (Faulty (Some k) reasons.Truncated) (if is_bad_bool kind bytes then Faulty (Some k) reasons.BadBool else equal)
+        test (nat_lt (length rest) w) (Faulty (Some k) reasons.Truncated (length rest)) (if is_bad_bool kind bytes then Faulty (Some k) reasons.BadBool w else equal)
         (λ t. cut_at _ a e a.due_is a.held tt (ltb-true (length rest) w t))
         (λ f.
         let long : length bytes ≡ w = length-take-le w rest (ltb-false (length rest) w f) in
@@ -219,11 +219,11 @@ module _ (set : Set) (names : List (List ℕ)) (good : IsGood set) where
           more = drop w rest;
           there = sym (take-append-drop w rest) ∙ ap (λ (l : List ℕ). l ++ drop w rest) t.1;
         } in
-        test (is_bad_bool kind bytes) (Faulty (Some k) reasons.BadBool) equal
-        (λ b. Wrong x (Some k) reasons.BadBool a.held whole (r ∙ ap (λ (b : Bool). constant_rows (Some k) b (same_number (value_of kind bytes) z)) b))
+        test (is_bad_bool kind bytes) (Faulty (Some k) reasons.BadBool w) equal
+        (λ b. wrong_unit set names u rest x (Some k) reasons.BadBool w (length-code kind y) a.held whole (r ∙ ap (λ (b : Bool). constant_rows (Some k) b (same_number (value_of kind bytes) z)) b))
         (λ b.
         let r2 = r ∙ ap (λ (b : Bool). constant_rows (Some k) b (same_number (value_of kind bytes) z)) b in
-        test (same_number (value_of kind bytes) z) next (Faulty (Some k) reasons.NotEqual)
+        test (same_number (value_of kind bytes) z) next (Faulty (Some k) reasons.NotEqual w)
         (λ b. record {
           unit = x;
           whole = whole;
@@ -232,7 +232,7 @@ module _ (set : Set) (names : List (List ℕ)) (good : IsGood set) where
           none = r2 ∙ ap (constant_rows (Some k) false) b;
           mirrors = record { came = a.came; long = a.long; stands = after_constant kind z y more a };
         })
-        (λ b. Wrong x (Some k) reasons.NotEqual a.held whole (r2 ∙ ap (constant_rows (Some k) false) b))))
+        (λ b. wrong_unit set names u rest x (Some k) reasons.NotEqual w (length-code kind y) a.held whole (r2 ∙ ap (constant_rows (Some k) false) b))))
 
     -- after unused bytes
     after_filler : (n : ℕ) (bytes : List ℕ) (more : List Slot) → AtSlots u state d k id p passed (FillerSlot (suc n) ∷ more) → InPart set (Filler bytes ∷ u) state.images k id p (suc passed)
@@ -258,7 +258,7 @@ module _ (set : Set) (names : List (List ℕ)) (good : IsGood set) where
         let bytes = take (suc n) rest in
         let x = Filler bytes in
         let e : Due = Field k (FillerSlot (suc n)) in
-        by_test set names (Mirrors set) u rest (nat_lt (length rest) (suc n)) (Faulty (Some k) reasons.Truncated) (goes_to set names state (suc n) (FieldsSpot k id p (suc passed)))
+        by_test set names (Mirrors set) u rest (nat_lt (length rest) (suc n)) (Faulty (Some k) reasons.Truncated (length rest)) (goes_to set names state (suc n) (FieldsSpot k id p (suc passed)))
         (λ t. cut_at _ a e a.due_is a.held tt (ltb-true (length rest) (suc n) t))
         (λ f.
         let long : length bytes ≡ suc n = length-take-le (suc n) rest (ltb-false (length rest) (suc n) f) in
@@ -308,8 +308,8 @@ module _ (set : Set) (names : List (List ℕ)) (good : IsGood set) where
       held = a.held;
     }
 
-    rule_fails : (more : List Slot) → AtSlots u state d k id p passed (RuleSlot false ∷ more) → Says u rest (Faulty (Some k) reasons.Invalid)
-    rule_fails more a = subst (λ (o : Option ℕ). Why set names u rest o reasons.Invalid) a.open_is (Fails a.held)
+    rule_fails : (more : List Slot) → AtSlots u state d k id p passed (RuleSlot false ∷ more) → Says u rest (Faulty (Some k) reasons.Invalid 0)
+    rule_fails more a = subst (λ (o : Option ℕ). Why set names u rest o reasons.Invalid 0) a.open_is (Fails a.held)
 
   -- the slots that are left, where what follows the fields is judged by a law of its own
   pub slots_said : (u : List Piece) (state : State) (rest : List ℕ) → IsBytes rest → (d : Device) (k id : ℕ) (p : Option ℕ) (passed : ℕ) (after : List Slot) → AtSlots u state d k id p passed after

@@ -15,7 +15,7 @@ use Rattle.vms_spec.specs.Faults.{IsWhole, Cut, Wrong}
 use Rattle.vms_spec.specs.Table.{reason_of, table, first_row}
 use Rattle.vms_laws.proofs.HeadFound.{is_bytes_drop, split_one, split_four, four_low}
 use Rattle.vms_spec.proofs.KindLaws.{be32_read}
-use Rattle.vms_laws.proofs.FaultFrame.{Judged}
+use Rattle.vms_laws.proofs.FaultFrame.{Judged, wrong_unit}
 use Rattle.vms_laws.proofs.FaultHeads.{IsBetween, cut_here, by_test}
 use Rattle.std.proofs.Common.{get_or-drop}
 use Rattle.vms_spec.specs.Table.{is_ram}
@@ -68,6 +68,9 @@ text_front rest size ok mark is le =
 five_and : (k : ℕ) → suc (suc (suc (suc (suc k)))) ≡ 5 + k
 five_and k = omega arith
 
+six_and : (k : ℕ) → suc (suc (suc (suc (suc (suc k))))) ≡ 6 + k
+six_and k = omega arith
+
 module _ (set : Set) (names : List (List ℕ)) (Mirrors : List Piece → State → Type 0) (v : List Piece) (state : State) where
   abbrev u : List Piece
   u = End ∷ v
@@ -83,19 +86,19 @@ module _ (set : Set) (names : List (List ℕ)) (Mirrors : List Piece → State �
       let text = bytes_at n 5 rest in
       let good : Verdict State = goes_to set names state (5 + n) DescribedSpot in
       let test = by_test set names Mirrors u rest in
-      test (get_or rest 0 0 == 0x06) (whole 5 None rest (judge_text set names state n rest)) (Faulty None reasons.Trailing)
+      test (get_or rest 0 0 == 0x06) (whole 5 None rest (judge_text set names state n rest)) (Faulty None reasons.Trailing 1)
       (λ t. let mark : get_or rest 0 0 ≡ 6 = eqb-true (get_or rest 0 0) 6 t in
-      test (nat_lt (length rest) 5) (Faulty None reasons.Truncated) (judge_text set names state n rest)
+      test (nat_lt (length rest) 5) (Faulty None reasons.Truncated (length rest)) (judge_text set names state n rest)
       (λ t. Cut refl tt (λ x w.
       let lt : length rest < 5 = ltb-true (length rest) 5 t in
       let le : 5 ≤ length rest = (wants rest x mark w).five in
       absurd (omega arith)))
       (λ f. let le : 5 ≤ length rest = ltb-false (length rest) 5 f in
-      test (nat_lt longest_text n) (Faulty None reasons.DescriptionTooLong) (whole (5 + n) None rest good)
+      test (nat_lt longest_text n) (Faulty None reasons.DescriptionTooLong 5) (whole (5 + n) None rest good)
       (λ t. Wrong (Long 6 n) None reasons.DescriptionTooLong refl
       (record { may = AtLongText n (ltb-true longest_text n t) (four_low (drop 1 rest) (is_bytes_drop 1 rest ok)); more = drop 5 rest; there = text_front rest n ok mark refl le }) refl)
       (λ g. let low : n ≤ longest_text = ltb-false longest_text n g in
-      test (nat_lt (length rest) (5 + n)) (Faulty None reasons.Truncated) good
+      test (nat_lt (length rest) (5 + n)) (Faulty None reasons.Truncated (length rest)) good
       (λ t. Cut refl tt (λ x w.
       let lt : length rest < 5 + n = ltb-true (length rest) (5 + n) t in
       let all : 5 + n ≤ length rest = (wants rest x mark w).all low in
@@ -172,31 +175,32 @@ module _ (set : Set) (names : List (List ℕ)) (Mirrors : List Piece → State �
       let n = get_or rest 5 0 in
       let name = bytes_at n 6 rest in
       let x = Start (number_at 4 1 rest) name in
-      let last : Verdict State = if is_ram name then Faulty None reasons.Ram else Faulty None reasons.Iterative in
+      let last : Verdict State = if is_ram name then Faulty None reasons.Ram (6 + n) else Faulty None reasons.Iterative (6 + n) in
       let test = by_test set names Mirrors u rest in
       let needs : (x : Piece) → IsWhole set u rest x → 6 + n ≤ length rest = λ x w.
       subst (λ (l : List ℕ). 6 + get_or l 5 0 ≤ length l) (sym w.there)
       (start_needs (due set u) x directly after w.more w.may b.due_is (ap (λ (l : List ℕ). get_or l 0 0) (sym w.there) ∙ mark)) in
-      test (nat_lt (length rest) 6) (Faulty None reasons.Truncated) (whole (6 + n) None rest last)
+      test (nat_lt (length rest) 6) (Faulty None reasons.Truncated (length rest)) (whole (6 + n) None rest last)
       (λ t. cut_here set names Mirrors u directly after state rest b (λ x w.
       let lt : length rest < 6 = ltb-true (length rest) 6 t in
       let le : 6 + n ≤ length rest = needs x w in
       absurd (omega arith)))
-      (λ f. test (nat_lt (length rest) (6 + n)) (Faulty None reasons.Truncated) last
+      (λ f. test (nat_lt (length rest) (6 + n)) (Faulty None reasons.Truncated (length rest)) last
       (λ t. cut_here set names Mirrors u directly after state rest b (λ x w.
       let lt : length rest < 6 + n = ltb-true (length rest) (6 + n) t in
       let le : 6 + n ≤ length rest = needs x w in
       absurd (omega arith)))
       (λ f.
       let le : 6 + n ≤ length rest = ltb-false (length rest) (6 + n) f in
+      let long : length (spell x) ≡ 6 + n = six_and (length name) ∙ ap (λ (k : ℕ). 6 + k) (length-take-le n (drop 6 rest) (omega (arith, length-drop 6 rest))) in
       let w : IsWhole set u rest x = record {
         may = subst (λ (d : Due). May d x) (sym b.due_is) (AtStart directly after (number_at 4 1 rest) name (four_low (drop 1 rest) (is_bytes_drop 1 rest ok)));
         more = drop (6 + n) rest;
         there = start_bytes rest n ok mark refl le;
       } in
-      test (is_ram name) (Faulty None reasons.Ram) (Faulty None reasons.Iterative)
-      (λ t. Wrong x None reasons.Ram b.held w (start_row u directly after (number_at 4 1 rest) name b.due_is ∙ ap start_rows t))
-      (λ t. Wrong x None reasons.Iterative b.held w (start_row u directly after (number_at 4 1 rest) name b.due_is ∙ ap start_rows t))))
+      test (is_ram name) (Faulty None reasons.Ram (6 + n)) (Faulty None reasons.Iterative (6 + n))
+      (λ t. wrong_unit set names u rest x None reasons.Ram (6 + n) long b.held w (start_row u directly after (number_at 4 1 rest) name b.due_is ∙ ap start_rows t))
+      (λ t. wrong_unit set names u rest x None reasons.Iterative (6 + n) long b.held w (start_row u directly after (number_at 4 1 rest) name b.due_is ∙ ap start_rows t))))
     where
       start_row : (u : List Piece) (directly after : Bool) (id : ℕ) (name : List ℕ) → due set u ≡ Between directly after → reason_of set names u (Start id name) ≡ start_rows (is_ram name)
       start_row u directly true id name e = ap (λ (d : Due). first_row (table set names d u (Start id name))) e ∙ refl

@@ -11,14 +11,14 @@ use Rattle.vms_spec.specs.Readings.{Verdict, Goes, Faulty}
 use Rattle.vms_spec.specs.Judging.{State, whole, number_at, bytes_at, judge_head, judge_device, find_device, index}
 use Rattle.vms_spec.specs.Units.{Piece, Head, spell}
 use Rattle.vms_spec.specs.Dues.{Due, Between, May, AtMagic, AtVersion, AtConfiguration, AtLongName, AtStart, AtHead, AtEnd, AtMark, AtNumber, AtConstant, AtFiller, AtSubHead, AtFoot, AtOther, AtDescription, AtLongText, AtTrailing, due, holds}
-use Rattle.vms_spec.specs.Faults.{IsWhole, Why, Cut, Wrong, Owes}
+use Rattle.vms_spec.specs.Faults.{IsWhole, Why, Cut, Owes}
 use Rattle.vms_spec.specs.Table.{reason_of, test_some, is_none, table, first_row}
 use Rattle.vms_spec.specs.SoFar.{opened, come, device_named}
 use Rattle.vms_spec.specs.Lists.{at_option}
 use Rattle.vms_laws.proofs.HeadFound.{is_bytes_drop, four_low, head_bytes, found_is}
 use Rattle.vms_laws.proofs.HeadLaws.{opened as open_state}
 use Rattle.vms_laws.proofs.BodyOnly.{if_false, if_true}
-use Rattle.vms_laws.proofs.FaultFrame.{Judged}
+use Rattle.vms_laws.proofs.FaultFrame.{Judged, wrong_unit}
 
 -- a unit must come where one is whole
 pub owes : (d : Due) (x : Piece) (more : List ℕ) → May d x → Owes d (spell x ++ more)
@@ -113,9 +113,9 @@ module _ (set : Set) (names : List (List ℕ)) (Mirrors : List Piece → State �
       subst (λ (l : List ℕ). 14 + get_or l 5 0 ≤ length l) (sym w.there)
       (head_needs (due set u) x directly after w.more w.may e (ap (λ (l : List ℕ). get_or l 0 0) (sym w.there) ∙ mark))
 
-  pub cut_here : (u : List Piece) (directly after : Bool) (state : State) (rest : List ℕ) → IsBetween u directly after state → ((x : Piece) → IsWhole set u rest x → ⊥) → Why set names u rest None reasons.Truncated
+  pub cut_here : (u : List Piece) (directly after : Bool) (state : State) (rest : List ℕ) → IsBetween u directly after state → ((x : Piece) → IsWhole set u rest x → ⊥) → Why set names u rest None reasons.Truncated (length rest)
   cut_here u directly after state rest b never =
-      subst (λ (o : Option ℕ). Why set names u rest o reasons.Truncated) b.none
+      subst (λ (o : Option ℕ). Why set names u rest o reasons.Truncated (length rest)) b.none
       (Cut b.held (subst (λ (d : Due). Owes d rest) (sym b.due_is) tt) never)
 
   -- a device is found, or none
@@ -139,22 +139,22 @@ module _ (set : Set) (names : List (List ℕ)) (Mirrors : List Piece → State �
         let more : Option (Option ℕ × Reason) = if nat_lt d.desc.version v then Some (Some k, reasons.TooNew) else last in
         let repeated : Option (Option ℕ × Reason) = Some (Some k, reasons.RepeatedSection) in
         let good : Verdict State = Goes size (open_state set state k id d v) in
-        let old : Verdict State = if nat_lt v d.desc.minimum then Faulty (Some k) reasons.TooOld else good in
-        let new : Verdict State = if nat_lt d.desc.version v then Faulty (Some k) reasons.TooNew else old in
-        by_test u rest (get_or state.came k false) (Faulty (Some k) reasons.RepeatedSection) new
-        (λ t. Wrong x (Some k) reasons.RepeatedSection b.held w (r0 ∙ if_true (test_some (λ (b : Bool). b) (at (come set u) k)) repeated more (same ∙ t)))
+        let old : Verdict State = if nat_lt v d.desc.minimum then Faulty (Some k) reasons.TooOld size else good in
+        let new : Verdict State = if nat_lt d.desc.version v then Faulty (Some k) reasons.TooNew size else old in
+        by_test u rest (get_or state.came k false) (Faulty (Some k) reasons.RepeatedSection size) new
+        (λ t. wrong_unit set names u rest x (Some k) reasons.RepeatedSection size long b.held w (r0 ∙ if_true (test_some (λ (b : Bool). b) (at (come set u) k)) repeated more (same ∙ t)))
         (λ f. let r1 : reason_of set names u x ≡ more = r0 ∙ if_false (test_some (λ (b : Bool). b) (at (come set u) k)) repeated more (same ∙ f) in
-        by_test u rest (nat_lt d.desc.version v) (Faulty (Some k) reasons.TooNew) old
-        (λ t. Wrong x (Some k) reasons.TooNew b.held w (r1 ∙ if_true (nat_lt d.desc.version v) (Some (Some k, reasons.TooNew)) last t))
+        by_test u rest (nat_lt d.desc.version v) (Faulty (Some k) reasons.TooNew size) old
+        (λ t. wrong_unit set names u rest x (Some k) reasons.TooNew size long b.held w (r1 ∙ if_true (nat_lt d.desc.version v) (Some (Some k, reasons.TooNew)) last t))
         (λ g. let r2 : reason_of set names u x ≡ last = r1 ∙ if_false (nat_lt d.desc.version v) (Some (Some k, reasons.TooNew)) last g in
-        by_test u rest (nat_lt v d.desc.minimum) (Faulty (Some k) reasons.TooOld) good
-        (λ t. Wrong x (Some k) reasons.TooOld b.held w (r2 ∙ if_true (nat_lt v d.desc.minimum) (Some (Some k, reasons.TooOld)) None t))
+        by_test u rest (nat_lt v d.desc.minimum) (Faulty (Some k) reasons.TooOld size) good
+        (λ t. wrong_unit set names u rest x (Some k) reasons.TooOld size long b.held w (r2 ∙ if_true (nat_lt v d.desc.minimum) (Some (Some k, reasons.TooOld)) None t))
         (λ h. record { unit = x; whole = w; long = long; held = b.held; none = r2 ∙ if_false (nat_lt v d.desc.minimum) (Some (Some k, reasons.TooOld)) None h; mirrors = next k d e there })))
 
     any_device : (o : Option ℕ) → find_device 0 set.devices name instance ≡ o
         → Says u rest (judge_device set names state size id v o (at set.devices (index o)) (get_or state.came (index o) false))
     any_device None e =
-        Wrong (Head id name instance v) None reasons.UnknownSection b.held w
+        wrong_unit set names u rest (Head id name instance v) None reasons.UnknownSection size long b.held w
         (rows_are u directly after id name instance v b.due_is
         ∙ ap (λ (o : Option ℕ). head_rows o (at_option (come set u) o) (at_option set.devices o) v) e)
     any_device (Some k) e = named_device k e (at set.devices k) refl
@@ -171,12 +171,12 @@ module _ (set : Set) (names : List (List ℕ)) (Mirrors : List Piece → State �
       let v = number_at 4 (10 + n) rest in
       let o = find_device 0 set.devices name instance in
       let found : Verdict State = judge_device set names state (14 + n) id v o (at set.devices (index o)) (get_or state.came (index o) false) in
-      by_test u rest (nat_lt (length rest) 6) (Faulty None reasons.Truncated) (whole (14 + n) None rest found)
+      by_test u rest (nat_lt (length rest) 6) (Faulty None reasons.Truncated (length rest)) (whole (14 + n) None rest found)
       (λ t. cut_here u directly after state rest b (λ x w.
       let lt : length rest < 6 = ltb-true (length rest) 6 t in
       let le : 14 + n ≤ length rest = needs_here u directly after rest x b.due_is mark w in
       absurd (omega arith)))
-      (λ f. by_test u rest (nat_lt (length rest) (14 + n)) (Faulty None reasons.Truncated) found
+      (λ f. by_test u rest (nat_lt (length rest) (14 + n)) (Faulty None reasons.Truncated (length rest)) found
       (λ t. cut_here u directly after state rest b (λ x w.
       let lt : length rest < 14 + n = ltb-true (length rest) (14 + n) t in
       let le : 14 + n ≤ length rest = needs_here u directly after rest x b.due_is mark w in

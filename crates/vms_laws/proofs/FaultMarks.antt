@@ -70,34 +70,34 @@ module _ (set : Set) (names : List (List ℕ)) (Mirrors : List Piece → State �
   mark_judged next starts heads configures =
       let m = get_or rest 0 0 in
       let test = by_test set names Mirrors u rest in
-      let v8 : Verdict State = if m == 0x08 then Faulty None reasons.Command else Faulty None reasons.BadMark in
+      let v8 : Verdict State = if m == 0x08 then Faulty None reasons.Command 1 else Faulty None reasons.BadMark 1 in
       let v7 : Verdict State = if m == 0x07 && directly then judge_configuration set names state rest else v8 in
-      let v5 : Verdict State = if m == 0x05 && after then Faulty None reasons.ConfigurationExtra else v7 in
+      let v5 : Verdict State = if m == 0x05 && after then Faulty None reasons.ConfigurationExtra 1 else v7 in
       let v4 : Verdict State = if m == 0x04 then judge_head set names state rest else v5 in
-      let v2 : Verdict State = if m == 0x02 || m == 0x03 then Faulty None reasons.Iterative else v4 in
+      let v2 : Verdict State = if m == 0x02 || m == 0x03 then Faulty None reasons.Iterative 1 else v4 in
       let v1 : Verdict State = if m == 0x01 then judge_start set names state rest else v2 in
-      test (nat_lt (length rest) 1) (Faulty None reasons.Truncated) (if m == 0x00 then judge_end set names state (first_missing 0 state.came) else v1)
+      test (nat_lt (length rest) 1) (Faulty None reasons.Truncated (length rest)) (if m == 0x00 then judge_end set names state (first_missing 0 state.came) else v1)
       (λ t. cut_here set names Mirrors u directly after state rest b (λ x w. too_few set u rest x (subst (λ (d : Due). length rest < least d) (sym b.due_is) (ltb-true (length rest) 1 t)) w))
       (λ f. let le : 1 ≤ length rest = ltb-false (length rest) 1 f in
       test (m == 0x00) (judge_end set names state (first_missing 0 state.came)) v1
       (λ t. end_judged (end_whole (eqb-true m 0 t) le) next (first_missing 0 state.came) refl)
       (λ f0. test (m == 0x01) (judge_start set names state rest) v2 (λ t. starts (eqb-true m 1 t))
-      (λ f1. test (m == 0x02 || m == 0x03) (Faulty None reasons.Iterative) v4
+      (λ f1. test (m == 0x02 || m == 0x03) (Faulty None reasons.Iterative 1) v4
       (λ t. iterative le (or_true (m == 0x02) (m == 0x03) t))
       (λ f2. test (m == 0x04) (judge_head set names state rest) v5 (λ t. heads (eqb-true m 4 t))
-      (λ f4. test (m == 0x05 && after) (Faulty None reasons.ConfigurationExtra) v7
+      (λ f4. test (m == 0x05 && after) (Faulty None reasons.ConfigurationExtra 1) v7
       (λ t. let a = and_is (m == 0x05) after t in
       Wrong (Mark 5) None reasons.ConfigurationExtra b.held (mark_whole 5 (eqb-true m 5 a.0) le refl) (extra after a.1 (rows_at (Mark 5))))
       (λ f5. test (m == 0x07 && directly) (judge_configuration set names state rest) v8
       (λ t. let a = and_is (m == 0x07) directly t in configures (eqb-true m 7 a.0) a.1)
-      (λ f7. test (m == 0x08) (Faulty None reasons.Command) (Faulty None reasons.BadMark)
+      (λ f7. test (m == 0x08) (Faulty None reasons.Command 1) (Faulty None reasons.BadMark 1)
       (λ t. Wrong (Mark 8) None reasons.Command b.held (mark_whole 8 (eqb-true m 8 t) le refl) (rows_at (Mark 8) ∙ command after))
       (λ f8. Wrong (Mark m) None reasons.BadMark b.held
       (mark_whole m refl le (or_none (m == 0x00 || m == 0x01 || m == 0x04) (m == 0x07 && directly) (or_none (m == 0x00 || m == 0x01) (m == 0x04) (or_none (m == 0x00) (m == 0x01) f0 f1) f4) f7))
       (rows_at (Mark m) ∙ if_true (not (m == 0x02 || m == 0x03 || m == 0x08 || (m == 0x05 && after))) (Some (None, reasons.BadMark)) _
       (ap not (or_none (m == 0x02 || m == 0x03 || m == 0x08) (m == 0x05 && after) (or_none (m == 0x02 || m == 0x03) (m == 0x08) f2 f8) f5)))))))))))
     where
-      iterative : 1 ≤ length rest → ((get_or rest 0 0 == 0x02) ≡ true) ⊎ ((get_or rest 0 0 == 0x03) ≡ true) → Said (Faulty None reasons.Iterative)
+      iterative : 1 ≤ length rest → ((get_or rest 0 0 == 0x02) ≡ true) ⊎ ((get_or rest 0 0 == 0x03) ≡ true) → Said (Faulty None reasons.Iterative 1)
       iterative le (inl t) = Wrong (Mark 2) None reasons.Iterative b.held (mark_whole 2 (eqb-true (get_or rest 0 0) 2 t) le refl) (rows_at (Mark 2))
       iterative le (inr t) = Wrong (Mark 3) None reasons.Iterative b.held (mark_whole 3 (eqb-true (get_or rest 0 0) 3 t) le refl) (rows_at (Mark 3))
 

@@ -15,7 +15,7 @@ use Rattle.vms_spec.specs.Faults.{IsWhole, Wrong}
 use Rattle.vms_spec.specs.Table.{reason_of, table, first_row}
 use Rattle.vms_laws.proofs.HeadFound.{is_bytes_drop, split_one, split_four, four_low}
 use Rattle.vms_spec.proofs.KindLaws.{be32_read}
-use Rattle.vms_laws.proofs.FaultFrame.{Judged}
+use Rattle.vms_laws.proofs.FaultFrame.{Judged, wrong_unit}
 use Rattle.vms_laws.proofs.FaultHeads.{IsBetween, cut_here, by_test}
 
 -- the bytes that a configuration wants
@@ -86,23 +86,23 @@ module _ (set : Set) (names : List (List ℕ)) (Mirrors : List Piece → State �
       let n = number_at 4 1 rest in
       let name = bytes_at n 5 rest in
       let good : Verdict State = Goes (5 + n) (record state { machine = Some name; spot = ConfiguredSpot }) in
-      let known : Verdict State = if is_one_of names name then good else Faulty None reasons.WrongMachine in
+      let known : Verdict State = if is_one_of names name then good else Faulty None reasons.WrongMachine (5 + n) in
       let rest_of : Verdict State = whole (5 + n) None rest known in
       let test = by_test set names Mirrors u rest in
-      test (nat_lt (length rest) 5) (Faulty None reasons.Truncated) (if nat_lt 255 n then Faulty None reasons.WrongMachine else rest_of)
+      test (nat_lt (length rest) 5) (Faulty None reasons.Truncated (length rest)) (if nat_lt 255 n then Faulty None reasons.WrongMachine 5 else rest_of)
       (λ t. cut_here set names Mirrors u true after state rest b (λ x w.
       let lt : length rest < 5 = ltb-true (length rest) 5 t in
       let le : 5 ≤ length rest = (wants set names u after rest x b.due_is mark w).five in
       absurd (omega arith)))
       (λ f.
       let le : 5 ≤ length rest = ltb-false (length rest) 5 f in
-      test (nat_lt 255 n) (Faulty None reasons.WrongMachine) rest_of
+      test (nat_lt 255 n) (Faulty None reasons.WrongMachine 5) rest_of
       (λ t. Wrong (Long 7 n) None reasons.WrongMachine b.held
       (record { may = subst (λ (d : Due). May d (Long 7 n)) (sym b.due_is) (AtLongName after n (ltb-true 255 n t) (four_low (drop 1 rest) (is_bytes_drop 1 rest ok))); more = drop 5 rest; there = front_is rest n ok mark refl le })
       (long_row u after n b.due_is))
       (λ g.
       let low : n ≤ 255 = ltb-false 255 n g in
-      test (nat_lt (length rest) (5 + n)) (Faulty None reasons.Truncated) known
+      test (nat_lt (length rest) (5 + n)) (Faulty None reasons.Truncated (length rest)) known
       (λ t. cut_here set names Mirrors u true after state rest b (λ x w.
       let lt : length rest < 5 + n = ltb-true (length rest) (5 + n) t in
       let all : 5 + n ≤ length rest = (wants set names u after rest x b.due_is mark w).all low in
@@ -117,7 +117,7 @@ module _ (set : Set) (names : List (List ℕ)) (Mirrors : List Piece → State �
         there = front_is rest n ok mark refl le ∙ ap (λ (l : List ℕ). 7 ∷ (be32 n ++ l)) (sym (take-append-drop n (drop 5 rest)) ∙ ap (λ (l : List ℕ). name ++ l) (drop-drop n 5 rest))
             ∙ ap (λ (k : ℕ). 7 ∷ (be32 k ++ (name ++ drop (5 + n) rest))) (sym len);
       } in
-      test (is_one_of names name) good (Faulty None reasons.WrongMachine)
+      test (is_one_of names name) good (Faulty None reasons.WrongMachine (5 + n))
       (λ t. record {
         unit = x;
         whole = w;
@@ -126,7 +126,7 @@ module _ (set : Set) (names : List (List ℕ)) (Mirrors : List Piece → State �
         none = name_row u after name b.due_is ∙ ap (λ (b : Bool). machine_rows (not b)) t;
         mirrors = next name;
       })
-      (λ t. Wrong x None reasons.WrongMachine b.held w (name_row u after name b.due_is ∙ ap (λ (b : Bool). machine_rows (not b)) t)))))
+      (λ t. wrong_unit set names u rest x None reasons.WrongMachine (5 + n) (five_and (length name) ∙ ap (λ (k : ℕ). 5 + k) len) b.held w (name_row u after name b.due_is ∙ ap (λ (b : Bool). machine_rows (not b)) t)))))
     where
       long_row : (u : List Piece) (after : Bool) (n : ℕ) → due set u ≡ Between true after → reason_of set names u (Long 7 n) ≡ Some (None, reasons.WrongMachine)
       long_row u true n e = ap (λ (d : Due). first_row (table set names d u (Long 7 n))) e

@@ -138,13 +138,13 @@ module _ (set : Set) (names : List (List ℕ)) (good : IsGood set) where
   start_mirrors = record { came = refl; long = length-map set.devices (default_image set); stands = refl }
 
   -- what is refused is at fault
-  pub refused_is_fault : (input : List ℕ) (place : ℕ) (section : Option ℕ) (reason : Reason) → IsBytes input
-      → reading set names input ≡ Some (Refused place section reason) → Fault set names input place section reason
+  pub refused_is_fault : (input : List ℕ) (place : ℕ) (section : Option ℕ) (reason : Reason) (size : ℕ) → IsBytes input
+      → reading set names input ≡ Some (Refused place section reason size) → Fault set names input place section reason size
   unfolding reading
-  refused_is_fault input place section reason ok h = refused_fault set names (Mirrors set) tells input place section reason ok start_mirrors h
+  refused_is_fault input place section reason size ok h = refused_fault set names (Mirrors set) tells input place section reason size ok start_mirrors h
 
   -- what is at fault is refused
-  pub fault_is_refused : (input : List ℕ) (place : ℕ) (section : Option ℕ) (reason : Reason) → IsBytes input
-      → Fault set names input place section reason → reading set names input ≡ Some (Refused place section reason)
+  pub fault_is_refused : (input : List ℕ) (place : ℕ) (section : Option ℕ) (reason : Reason) (size : ℕ) → IsBytes input
+      → Fault set names input place section reason size → reading set names input ≡ Some (Refused place section reason size)
   unfolding reading
-  fault_is_refused input place section reason ok f = fault_refused set names (Mirrors set) tells input place section reason ok start_mirrors f
+  fault_is_refused input place section reason size ok f = fault_refused set names (Mirrors set) tells input place section reason size ok start_mirrors f

@@ -18,7 +18,7 @@ use Rattle.vms_spec.specs.SoFar.{come}
 use Rattle.vms_laws.proofs.HeadFound.{split_four, four_low}
 use Rattle.vms_laws.proofs.BodyOnly.{if_false, if_true}
 use Rattle.vms_spec.proofs.DueSizes.{too_few}
-use Rattle.vms_laws.proofs.FaultFrame.{Judged}
+use Rattle.vms_laws.proofs.FaultFrame.{Judged, wrong_unit}
 use Rattle.vms_laws.proofs.Mirrors.{Mirrors}
 
 version_rows : Bool → Bool → Option (Option ℕ × Reason)
@@ -37,9 +37,9 @@ module _ (set : Set) (names : List (List ℕ)) where
       let bytes = take 4 rest in
       let is : 4 ≤ length rest → IsWhole set [] rest (Magic bytes) = λ le.
       record { may = AtMagic bytes (length-take-le 4 rest le); more = drop 4 rest; there = sym (take-append-drop 4 rest) } in
-      by_test [] rest (nat_lt (length rest) 4) (Faulty None reasons.Truncated) (if bytes_eq bytes magic then goes_to set names state 4 VersionSpot else Faulty None reasons.BadMagic)
+      by_test [] rest (nat_lt (length rest) 4) (Faulty None reasons.Truncated (length rest)) (if bytes_eq bytes magic then goes_to set names state 4 VersionSpot else Faulty None reasons.BadMagic 4)
       (λ e. Cut refl tt (λ x w. too_few set [] rest x (ltb-true (length rest) 4 e) w))
-      (λ e. by_test [] rest (bytes_eq bytes magic) (goes_to set names state 4 VersionSpot) (Faulty None reasons.BadMagic)
+      (λ e. by_test [] rest (bytes_eq bytes magic) (goes_to set names state 4 VersionSpot) (Faulty None reasons.BadMagic 4)
       (λ t. record {
         unit = Magic bytes;
         whole = is (ltb-false (length rest) 4 e);
@@ -48,7 +48,7 @@ module _ (set : Set) (names : List (List ℕ)) where
         none = if_false (not (bytes_eq bytes magic)) (Some (None, reasons.BadMagic)) None (ap not t);
         mirrors = record { came = came; long = long; stands = (bytes, [], refl) };
       })
-      (λ f. Wrong (Magic bytes) None reasons.BadMagic refl (is (ltb-false (length rest) 4 e)) (if_true (not (bytes_eq bytes magic)) (Some (None, reasons.BadMagic)) None (ap not f))))
+      (λ f. wrong_unit set names [] rest (Magic bytes) None reasons.BadMagic 4 (length-take-le 4 rest (ltb-false (length rest) 4 e)) refl (is (ltb-false (length rest) 4 e)) (if_true (not (bytes_eq bytes magic)) (Some (None, reasons.BadMagic)) None (ap not f))))
 
   pub version_judged : (bytes : List ℕ) (u : List Piece) (state : State) (rest : List ℕ) → IsBytes rest → state.came ≡ come set u → length state.images ≡ length set.devices → Says (Magic bytes ∷ u) rest (judge_version set names state rest)
   unfolding version_rows
@@ -57,8 +57,8 @@ module _ (set : Set) (names : List (List ℕ)) where
       let n = number_at 4 0 rest in
       let is : 4 ≤ length rest → IsWhole set w rest (Version n) = λ le.
       record { may = AtVersion n (four_low rest ok); more = drop 4 rest; there = split_four rest ok le } in
-      let other : Verdict State = if n == 2 then Faulty None reasons.OldStream else Faulty None reasons.BadVersion in
-      by_test w rest (nat_lt (length rest) 4) (Faulty None reasons.Truncated) (if n == 3 then goes_to set names state 4 FirstSpot else other)
+      let other : Verdict State = if n == 2 then Faulty None reasons.OldStream 4 else Faulty None reasons.BadVersion 4 in
+      by_test w rest (nat_lt (length rest) 4) (Faulty None reasons.Truncated (length rest)) (if n == 3 then goes_to set names state 4 FirstSpot else other)
       (λ e. Cut refl tt (λ x i. too_few set w rest x (ltb-true (length rest) 4 e) i))
       (λ e. by_test w rest (n == 3) (goes_to set names state 4 FirstSpot) other
       (λ t. record {
@@ -69,7 +69,7 @@ module _ (set : Set) (names : List (List ℕ)) where
         none = ap (λ (k : ℕ). reason_of set names w (Version k)) (eqb-true n 3 t);
         mirrors = record { came = came; long = long; stands = record { due_is = refl; held = refl; none = refl } };
       })
-      (λ f. by_test w rest (n == 2) (Faulty None reasons.OldStream) (Faulty None reasons.BadVersion)
+      (λ f. by_test w rest (n == 2) (Faulty None reasons.OldStream 4) (Faulty None reasons.BadVersion 4)
       (λ t. Wrong (Version n) None reasons.OldStream refl (is (ltb-false (length rest) 4 e)) (ap (λ (k : ℕ). reason_of set names w (Version k)) (eqb-true n 2 t)))
       (λ g. Wrong (Version n) None reasons.BadVersion refl (is (ltb-false (length rest) 4 e))
       (ap (λ (a : Bool). version_rows a (n == 3)) g ∙ ap (λ (b : Bool). version_rows false b) f))))

@@ -8,7 +8,7 @@ after_same : {S : Type 0} (go on : S → ℕ → List ℕ → Option (Reading S)
     → ((n : ℕ) (next : S) → v ≡ Goes n next → go next (at + n) (drop n rest) ≡ on next (at + n) (drop n rest))
     → reading_after go at rest v ≡ reading_after on at rest v
 after_same go on at rest (Goes n next) h = h n next refl
-after_same go on at rest (Faulty section reason) h = refl
+after_same go on at rest (Faulty section reason long) h = refl
 after_same go on at rest (Over end) h = refl
 
 pub enough : {S : Type 0} (judge : S → List ℕ → Verdict S) → Advances judge → (m k : ℕ) (state : S) (at : ℕ) (rest : List ℕ)

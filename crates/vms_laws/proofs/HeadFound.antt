@@ -24,13 +24,13 @@ module _ {S : Type 0} (go : S → ℕ → List ℕ → Option (Reading S)) (at' 
   abbrev pub Reads : Verdict S → Type 0
   Reads v = reading_after go at' rest v ≡ Some (Accepted n end)
 
-  pub not_faulty : (b : Bool) (section : Option ℕ) (reason : Reason) (v : Verdict S) → Reads (if b then Faulty section reason else v) → (b ≡ false) × Reads v
-  not_faulty true section reason v h = cc
-  not_faulty false section reason v h = (refl, h)
+  pub not_faulty : (b : Bool) (section : Option ℕ) (reason : Reason) (long : ℕ) (v : Verdict S) → Reads (if b then Faulty section reason long else v) → (b ≡ false) × Reads v
+  not_faulty true section reason long v h = cc
+  not_faulty false section reason long v h = (refl, h)
 
-  pub else_faulty : (b : Bool) (section : Option ℕ) (reason : Reason) (v : Verdict S) → Reads (if b then v else Faulty section reason) → (b ≡ true) × Reads v
-  else_faulty true section reason v h = (refl, h)
-  else_faulty false section reason v h = cc
+  pub else_faulty : (b : Bool) (section : Option ℕ) (reason : Reason) (long : ℕ) (v : Verdict S) → Reads (if b then v else Faulty section reason long) → (b ≡ true) × Reads v
+  else_faulty true section reason long v h = (refl, h)
+  else_faulty false section reason long v h = cc
 
   pub either : (b : Bool) (v w : Verdict S) → Reads (if b then v else w) → ((b ≡ true) × Reads v) ⊎ ((b ≡ false) × Reads w)
   either true v w h = inl (refl, h)
@@ -143,9 +143,9 @@ module _ (set : Set) (names : List (List ℕ)) (go : State → ℕ → List ℕ 
   device_opens state at' rest size id v None d came h = cc
   device_opens state at' rest size id v (Some k) None came h = cc
   device_opens state at' rest size id v (Some k) (Some d) came h =
-      let a = not_faulty go at' rest n end came (Some k) reasons.RepeatedSection _ h in
-      let b = not_faulty go at' rest n end (nat_lt d.desc.version v) (Some k) reasons.TooNew _ a.1 in
-      let c = not_faulty go at' rest n end (nat_lt v d.desc.minimum) (Some k) reasons.TooOld (Goes size (opened set state k id d v)) b.1 in
+      let a = not_faulty go at' rest n end came (Some k) reasons.RepeatedSection size _ h in
+      let b = not_faulty go at' rest n end (nat_lt d.desc.version v) (Some k) reasons.TooNew size _ a.1 in
+      let c = not_faulty go at' rest n end (nat_lt v d.desc.minimum) (Some k) reasons.TooOld size (Goes size (opened set state k id d v)) b.1 in
       (k, refl, d, refl, a.0, ltb-false v d.desc.minimum c.0, ltb-false d.desc.version v b.0, c.1)
 
   pub head_opens : (state : State) (at' : ℕ) (rest : List ℕ) → IsBytes rest → get_or rest 0 0 ≡ 0x04 → Reads go at' rest n end (judge_head set names state rest) → Opens set state go at' rest n end
@@ -156,8 +156,8 @@ module _ (set : Set) (names : List (List ℕ)) (go : State → ℕ → List ℕ 
       let id = number_at 4 1 rest in
       let v = number_at 4 (10 + size) rest in
       let o = find_device 0 set.devices name instance in
-      let a = not_faulty go at' rest n end (nat_lt (length rest) 6) None reasons.Truncated _ h in
-      let b = not_faulty go at' rest n end (nat_lt (length rest) (14 + size)) None reasons.Truncated (judge_device set names state (14 + size) id v o (at set.devices (index o)) (get_or state.came (index o) false)) a.1 in
+      let a = not_faulty go at' rest n end (nat_lt (length rest) 6) None reasons.Truncated (length rest) _ h in
+      let b = not_faulty go at' rest n end (nat_lt (length rest) (14 + size)) None reasons.Truncated (length rest) (judge_device set names state (14 + size) id v o (at set.devices (index o)) (get_or state.came (index o) false)) a.1 in
       let long : 14 + size ≤ length rest = ltb-false (length rest) (14 + size) b.0 in
       let c = device_opens state at' rest (14 + size) id v o (at set.devices (index o)) (get_or state.came (index o) false) b.1 in
       let k = c.0 in

@@ -34,8 +34,8 @@ module _ (set : Set) (names : List (List ℕ)) where
   device_judged : (state : State) (n id v k : ℕ) (d : Device) → d.desc.minimum ≤ v → v ≤ d.desc.version
       → judge_device set names state n id v (Some k) (Some d) false ≡ Goes n (opened set state k id d v)
   device_judged state n id v k d low high =
-      if_false (nat_lt d.desc.version v) (Faulty (Some k) reasons.TooNew) _ (le-ltb d.desc.version v high)
-      ∙ if_false (nat_lt v d.desc.minimum) (Faulty (Some k) reasons.TooOld) (Goes n (opened set state k id d v)) (le-ltb v d.desc.minimum low)
+      if_false (nat_lt d.desc.version v) (Faulty (Some k) reasons.TooNew n) _ (le-ltb d.desc.version v high)
+      ∙ if_false (nat_lt v d.desc.minimum) (Faulty (Some k) reasons.TooOld n) (Goes n (opened set state k id d v)) (le-ltb v d.desc.minimum low)
 
   found : State → ℕ → ℕ → ℕ → Option ℕ → Verdict State
   found state n id v o = judge_device set names state n id v o (at set.devices (index o)) (get_or state.came (index o) false)
@@ -58,9 +58,9 @@ module _ (set : Set) (names : List (List ℕ)) where
       let d10 : drop (10 + n) r ≡ be32 v ++ rest = ap (λ (k : ℕ). drop k r) (ten n) ∙ sym (drop-drop 4 (6 + n) r) ∙ ap (drop 4) d6 in
       let e3 : number_at 4 (6 + n) r ≡ d.instance = ap (big_number 4) d6 ∙ be32_read d.instance (be32 v ++ rest) instance_fits in
       let e4 : number_at 4 (10 + n) r ≡ v = ap (big_number 4) d10 ∙ be32_read v rest v_fits in
-      if_false (nat_lt (length r) 1) (Faulty None reasons.Truncated) (judge_head set names state r) (le-ltb (length r) 1 (omega arith))
-      ∙ if_false (nat_lt (length r) 6) (Faulty None reasons.Truncated) _ (le-ltb (length r) 6 (omega arith))
-      ∙ if_false (nat_lt (length r) (14 + n)) (Faulty None reasons.Truncated) (found state (14 + n) (number_at 4 1 r) (number_at 4 (10 + n) r) (find_device 0 set.devices (bytes_at n 6 r) (number_at 4 (6 + n) r))) (le-ltb (length r) (14 + n) (omega arith))
+      if_false (nat_lt (length r) 1) (Faulty None reasons.Truncated (length r)) (judge_head set names state r) (le-ltb (length r) 1 (omega arith))
+      ∙ if_false (nat_lt (length r) 6) (Faulty None reasons.Truncated (length r)) _ (le-ltb (length r) 6 (omega arith))
+      ∙ if_false (nat_lt (length r) (14 + n)) (Faulty None reasons.Truncated (length r)) (found state (14 + n) (number_at 4 1 r) (number_at 4 (10 + n) r) (find_device 0 set.devices (bytes_at n 6 r) (number_at 4 (6 + n) r))) (le-ltb (length r) (14 + n) (omega arith))
       ∙ ap (λ (id : ℕ). found state (14 + n) id (number_at 4 (10 + n) r) (find_device 0 set.devices (bytes_at n 6 r) (number_at 4 (6 + n) r))) e1
       ∙ ap (λ (v : ℕ). found state (14 + n) id v (find_device 0 set.devices (bytes_at n 6 r) (number_at 4 (6 + n) r))) e4
       ∙ ap (λ (name : List ℕ). found state (14 + n) id v (find_device 0 set.devices name (number_at 4 (6 + n) r))) e2

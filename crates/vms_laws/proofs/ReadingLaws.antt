@@ -19,7 +19,7 @@ advances judge l = record {
 after_told : {S : Type 0} (go : S → ℕ → List ℕ → Option (Reading S)) (at : ℕ) (rest : List ℕ) (v : Verdict S)
     → ((n : ℕ) (next : S) → v ≡ Goes n next → (x : Reading S) × (go next (at + n) (drop n rest) ≡ Some x)) → (x : Reading S) × (reading_after go at rest v ≡ Some x)
 after_told go at rest (Goes n next) h = h n next refl
-after_told go at rest (Faulty section reason) h = (Refused at section reason, refl)
+after_told go at rest (Faulty section reason long) h = (Refused at section reason long, refl)
 after_told go at rest (Over end) h = (Accepted at end, refl)
 
 told_from : {S : Type 0} (judge : S → List ℕ → Verdict S) → Advances judge → (m : ℕ) (state : S) (at : ℕ) (rest : List ℕ) → length rest < m

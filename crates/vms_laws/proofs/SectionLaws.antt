@@ -63,6 +63,6 @@ pub foot_judged : (set : Set) (has_cell : List (List ℕ)) (state : State) (d : 
 foot_judged set has_cell state d image k id rest fits =
     let r = foot id ++ rest in
     let long : length r ≡ 5 + length rest = length-append (foot id) rest in
-    if_false (nat_lt (length r) 1) (Faulty (Some k) reasons.Truncated) _ (le-ltb (length r) 1 (omega arith))
-    ∙ if_false (nat_lt (length r) 5) (Faulty (Some k) reasons.Truncated) _ (le-ltb (length r) 5 (omega arith))
-    ∙ if_true (number_at 4 1 r == id) (Goes 5 (record state { spot = Later })) (Faulty (Some k) reasons.BadFooter) (eq-eqb (number_at 4 1 r) id (be32_read id rest fits))
+    if_false (nat_lt (length r) 1) (Faulty (Some k) reasons.Truncated (length r)) _ (le-ltb (length r) 1 (omega arith))
+    ∙ if_false (nat_lt (length r) 5) (Faulty (Some k) reasons.Truncated (length r)) _ (le-ltb (length r) 5 (omega arith))
+    ∙ if_true (number_at 4 1 r == id) (Goes 5 (record state { spot = Later })) (Faulty (Some k) reasons.BadFooter 5) (eq-eqb (number_at 4 1 r) id (be32_read id rest fits))

@@ -86,7 +86,7 @@ module _ (set : Set) (names' : List (List ℕ)) (good : IsGood set) where
       let next : State = record state { spot = Ended } in
       let same : state.images ≡ images = same_lists state.images images (long ∙ sym one_each) (λ k lt. agree k (came_at state.came k all (omega arith))) in
       let mark : judge_mark set names' first configured state (0x00 ∷ after) ≡ Goes 1 next =
-      if_false (nat_lt (length (0x00 ∷ after)) 1) (Faulty None reasons.Truncated) (judge_end set names' state (first_missing 0 state.came)) (le-ltb (length (0x00 ∷ after)) 1 (omega arith))
+      if_false (nat_lt (length (0x00 ∷ after)) 1) (Faulty None reasons.Truncated (length (0x00 ∷ after))) (judge_end set names' state (first_missing 0 state.came)) (le-ltb (length (0x00 ∷ after)) 1 (omega arith))
       ∙ ap (judge_end set names' state) (none_missing 0 state.came all) in
       record {
         came = state.came;

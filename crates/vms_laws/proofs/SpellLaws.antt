@@ -150,9 +150,9 @@ module _ (all : List Cell) (total : List ℤ → List Slot) (start : Progress) w
       let h = l.holds in
       let next = done ++ Number cell kind caps ∷ [] in
       let numbers = slice_set p.numbers cell z in
-      given (cell + 1) next (nat_lt (length p.rest) w) (refuse p reasons.Truncated) _ (λ e. tt) (λ e1.
-      given (cell + 1) next (is_bad_bool kind bytes) (refuse p reasons.BadBool) _ (λ e. tt) (λ e2.
-      given (cell + 1) next (exceeds caps z) (refuse p reasons.CountTooLarge) (on w numbers p) (λ e. tt) (λ e3.
+      given (cell + 1) next (nat_lt (length p.rest) w) (refuse p reasons.Truncated (length p.rest)) _ (λ e. tt) (λ e1.
+      given (cell + 1) next (is_bad_bool kind bytes) (refuse p reasons.BadBool w) _ (λ e. tt) (λ e2.
+      given (cell + 1) next (exceeds caps z) (refuse p reasons.CountTooLarge w) (on w numbers p) (λ e. tt) (λ e3.
       let long : w ≤ length p.rest = ltb-false (length p.rest) w e1 in
       let len : length bytes ≡ w = length-take-le w p.rest long in
       let fine : IsBytes bytes = is_bytes_take w p.rest (is_bytes_rest h.bytes p.rest (subst (λ (l : List ℕ). IsBytes l) h.front ok)) in
@@ -219,7 +219,7 @@ module _ (all : List Cell) (total : List ℤ → List Slot) (start : Progress) w
   other_spelled ok cell (Rule false) done left p o l = tt
   other_spelled ok cell (Filler zero) done left p o l = still cell (Filler zero) done left p (λ m. ([], [], refl, refl, refl)) (λ m. tt) tt (λ c. refl) l
   other_spelled ok cell (Filler (suc n)) done left p o l =
-      given cell (done ++ Filler (suc n) ∷ []) (nat_lt (length p.rest) (suc n)) (refuse p reasons.Truncated) (on (suc n) p.numbers p) (λ e. tt) (λ e.
+      given cell (done ++ Filler (suc n) ∷ []) (nat_lt (length p.rest) (suc n)) (refuse p reasons.Truncated (length p.rest)) (on (suc n) p.numbers p) (λ e. tt) (λ e.
       let long : suc n ≤ length p.rest = ltb-false (length p.rest) (suc n) e in
       plain cell (suc n) (Filler (suc n)) done left p long (λ m. (take (suc n) p.rest, [], length-take-le (suc n) p.rest long, sym (append-nil (take (suc n) p.rest)), refl)) (λ m. tt) tt (λ c. refl) l)
   other_spelled ok cell (Constant kind z) done left p o l =
@@ -227,9 +227,9 @@ module _ (all : List Cell) (total : List ℤ → List Slot) (start : Progress) w
       let bytes = take w p.rest in
       let h = l.holds in
       let next = done ++ Constant kind z ∷ [] in
-      given cell next (nat_lt (length p.rest) w) (refuse p reasons.Truncated) _ (λ e. tt) (λ e1.
-      given cell next (is_bad_bool kind bytes) (refuse p reasons.BadBool) _ (λ e. tt) (λ e2.
-      given cell next (same_number (value_of kind bytes) z) (on w p.numbers p) (refuse p reasons.NotEqual) (λ e3.
+      given cell next (nat_lt (length p.rest) w) (refuse p reasons.Truncated (length p.rest)) _ (λ e. tt) (λ e1.
+      given cell next (is_bad_bool kind bytes) (refuse p reasons.BadBool w) _ (λ e. tt) (λ e2.
+      given cell next (same_number (value_of kind bytes) z) (on w p.numbers p) (refuse p reasons.NotEqual w) (λ e3.
       let long : w ≤ length p.rest = ltb-false (length p.rest) w e1 in
       let len : length bytes ≡ w = length-take-le w p.rest long in
       let fine : IsBytes bytes = is_bytes_take w p.rest (is_bytes_rest h.bytes p.rest (subst (λ (l : List ℕ). IsBytes l) h.front ok)) in

@@ -17,8 +17,8 @@ use Rattle.vms_laws.proofs.JudgeLaws.{judge_local}
 use Rattle.vms_laws.proofs.ReadingLaws.{told}
 use Rattle.vms_laws.proofs.WrittenLaws.{zeroed_spells, written_section_is, written_is_stream}
 
-abbrev refusal : ℕ → Option ℕ → Reason → Reading State
-refusal place section reason = Refused place section reason
+abbrev refusal : ℕ → Option ℕ → Reason → ℕ → Reading State
+refusal place section reason size = Refused place section reason size
 
 pub good_holds : GoodLaw
 good_holds set well heads = well_good set well heads
@@ -75,34 +75,35 @@ written_holds set names few machine text images configured described ready rest 
 -- ---- refusals
 
 pub refused_holds : RefusedLaw
-refused_holds set names good input ok place section reason e = refused_is_fault set names good input place section reason ok e
+refused_holds set names good input ok place section reason size e = refused_is_fault set names good input place section reason size ok e
 
 pub fault_holds : FaultLaw
-fault_holds set names good input ok place section reason f = fault_is_refused set names good input place section reason ok f
+fault_holds set names good input ok place section reason size f = fault_is_refused set names good input place section reason size ok f
 
 pub either_holds : EitherLaw
 either_holds set names good input ok = by_reading (told_holds set names input).0 (told_holds set names input).1
   where
     by_reading : (r : Reading State) → reading set names input ≡ Some r → Answer set names input
     by_reading (Accepted n end) e = Taken n end.machine end.images (found set names good input n end ok e)
-    by_reading (Refused place section reason) e = Faulty place section reason (refused_is_fault set names good input place section reason ok e)
+    by_reading (Refused place section reason size) e = Faulty place section reason size (refused_is_fault set names good input place section reason size ok e)
 
 pub never_both_holds : NeverBothLaw
-never_both_holds set names good input ok n machine images place section reason t f =
+never_both_holds set names good input ok n machine images place section reason size t f =
     let o = only set names good input n machine images t in
-    let e = sym o.is ∙ fault_is_refused set names good input place section reason ok f in
+    let e = sym o.is ∙ fault_is_refused set names good input place section reason size ok f in
     cc
 
 -- one refusal
-same_refusal : (place other_place : ℕ) (section other_section : Option ℕ) (reason other_reason : Reason) → Some (refusal place section reason) ≡ Some (refusal other_place other_section other_reason)
-    → AreOneFault place other_place section other_section reason other_reason
-same_refusal place other_place section other_section reason other_reason e =
+same_refusal : (place other_place : ℕ) (section other_section : Option ℕ) (reason other_reason : Reason) (size other_size : ℕ)
+    → Some (refusal place section reason size) ≡ Some (refusal other_place other_section other_reason other_size) → AreOneFault place other_place section other_section reason other_reason size other_size
+same_refusal place other_place section other_section reason other_reason size other_size e =
     let a : place ≡ other_place = cc in
     let b : section ≡ other_section = cc in
     let c : reason ≡ other_reason = cc in
-    record { places = a; sections = b; reasons = c }
+    let d : size ≡ other_size = cc in
+    record { places = a; sections = b; reasons = c; sizes = d }
 
 pub one_fault_holds : OneFaultLaw
-one_fault_holds set names good input ok place other_place section other_section reason other_reason f g =
-    same_refusal place other_place section other_section reason other_reason
-    (sym (fault_is_refused set names good input place section reason ok f) ∙ fault_is_refused set names good input other_place other_section other_reason ok g)
+one_fault_holds set names good input ok place other_place section other_section reason other_reason size other_size f g =
+    same_refusal place other_place section other_section reason other_reason size other_size
+    (sym (fault_is_refused set names good input place section reason size ok f) ∙ fault_is_refused set names good input other_place other_section other_reason other_size ok g)

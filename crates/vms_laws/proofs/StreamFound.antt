@@ -26,8 +26,8 @@ use Rattle.std.proofs.lemmas.Bool.{ltb-false, eqb-true}
 use Rattle.std.specs.Str.{bytes_eq}
 use Rattle.vms_spec.specs.declared.Reason.TheVariants as reasons
 
-never_read : (go : State → ℕ → List ℕ → Option (Reading State)) (place : ℕ) (rest : List ℕ) (n : ℕ) (end : State) (section : Option ℕ) (reason : Reason) → Reads go place rest n end (Faulty section reason) → ⊥
-never_read go place rest n end section reason h = cc
+never_read : (go : State → ℕ → List ℕ → Option (Reading State)) (place : ℕ) (rest : List ℕ) (n : ℕ) (end : State) (section : Option ℕ) (reason : Reason) (long : ℕ) → Reads go place rest n end (Faulty section reason long) → ⊥
+never_read go place rest n end section reason long h = cc
 
 not_there : (go : State → ℕ → List ℕ → Option (Reading State)) (place : ℕ) (rest : List ℕ) (n : ℕ) (end : State) (b : Bool) (v w : Verdict State) → Reads go place rest n end (if b && false then v else w) → Reads go place rest n end w
 not_there go place rest n end true v w h = h
@@ -37,11 +37,11 @@ start_never : (set : Set) (names : List (List ℕ)) (go : State → ℕ → List
     → Reads go place rest n end (judge_start set names state rest) → ⊥
 start_never set names go n end state place rest h =
     let size = get_or rest 5 0 in
-    let last : Verdict State = if bytes_eq (bytes_at size 6 rest) (0x72 ∷ 0x61 ∷ 0x6d ∷ []) then Faulty None reasons.Ram else Faulty None reasons.Iterative in
-    let a = not_faulty go place rest n end (nat_lt (length rest) 6) None reasons.Truncated (whole (6 + size) None rest last) h in
-    let b = not_faulty go place rest n end (nat_lt (length rest) (6 + size)) None reasons.Truncated last a.1 in
-    let c = not_faulty go place rest n end (bytes_eq (bytes_at size 6 rest) (0x72 ∷ 0x61 ∷ 0x6d ∷ [])) None reasons.Ram (Faulty None reasons.Iterative) b.1 in
-    never_read go place rest n end None reasons.Iterative c.1
+    let last : Verdict State = if bytes_eq (bytes_at size 6 rest) (0x72 ∷ 0x61 ∷ 0x6d ∷ []) then Faulty None reasons.Ram (6 + size) else Faulty None reasons.Iterative (6 + size) in
+    let a = not_faulty go place rest n end (nat_lt (length rest) 6) None reasons.Truncated (length rest) (whole (6 + size) None rest last) h in
+    let b = not_faulty go place rest n end (nat_lt (length rest) (6 + size)) None reasons.Truncated (length rest) last a.1 in
+    let c = not_faulty go place rest n end (bytes_eq (bytes_at size 6 rest) (0x72 ∷ 0x61 ∷ 0x6d ∷ [])) None reasons.Ram (6 + size) (Faulty None reasons.Iterative (6 + size)) b.1 in
+    never_read go place rest n end None reasons.Iterative (6 + size) c.1
 
 end_found : (set : Set) (names : List (List ℕ)) (go : State → ℕ → List ℕ → Option (Reading State)) (n : ℕ) (end : State) (state : State) (place : ℕ) (rest : List ℕ) (o : Option ℕ)
     → Reads go place rest n end (judge_end set names state o) → (o ≡ None) × (go (record state { spot = Ended }) (place + 1) (drop 1 rest) ≡ Some (Accepted n end))
@@ -55,13 +55,13 @@ pub mark_found : (set : Set) (names : List (List ℕ)) (go : State → ℕ → L
     ⊎ Opens set state go place rest n end
 mark_found set names go n end configured state place rest ok h =
     let m = get_or rest 0 0 in
-    let x8 : Verdict State = if m == 0x08 then Faulty None reasons.Command else Faulty None reasons.BadMark in
+    let x8 : Verdict State = if m == 0x08 then Faulty None reasons.Command 1 else Faulty None reasons.BadMark 1 in
     let x7 : Verdict State = if m == 0x07 && false then judge_configuration set names state rest else x8 in
-    let x5 : Verdict State = if m == 0x05 && configured then Faulty None reasons.ConfigurationExtra else x7 in
+    let x5 : Verdict State = if m == 0x05 && configured then Faulty None reasons.ConfigurationExtra 1 else x7 in
     let x4 : Verdict State = if m == 0x04 then judge_head set names state rest else x5 in
-    let x2 : Verdict State = if m == 0x02 || m == 0x03 then Faulty None reasons.Iterative else x4 in
+    let x2 : Verdict State = if m == 0x02 || m == 0x03 then Faulty None reasons.Iterative 1 else x4 in
     let x1 : Verdict State = if m == 0x01 then judge_start set names state rest else x2 in
-    let a = not_faulty go place rest n end (nat_lt (length rest) 1) None reasons.Truncated (if m == 0x00 then judge_end set names state (first_missing 0 state.came) else x1) h in
+    let a = not_faulty go place rest n end (nat_lt (length rest) 1) None reasons.Truncated (length rest) (if m == 0x00 then judge_end set names state (first_missing 0 state.came) else x1) h in
     let some : 1 ≤ length rest = ltb-false (length rest) 1 a.0 in
     elim (either go place rest n end (m == 0x00) (judge_end set names state (first_missing 0 state.came)) x1 a.1) [
       | inl z ↦
@@ -70,14 +70,14 @@ mark_found set names go n end configured state place rest ok h =
       | inr z ↦ elim (either go place rest n end (m == 0x01) (judge_start set names state rest) x2 z.1) [
         | inl y ↦ absurd (start_never set names go n end state place rest y.1)
         | inr y ↦
-            let b = not_faulty go place rest n end (m == 0x02 || m == 0x03) None reasons.Iterative x4 y.1 in
+            let b = not_faulty go place rest n end (m == 0x02 || m == 0x03) None reasons.Iterative 1 x4 y.1 in
             elim (either go place rest n end (m == 0x04) (judge_head set names state rest) x5 b.1) [
               | inl w ↦ inr (head_opens set names go n end state place rest ok (eqb-true m 0x04 w.0) w.1)
               | inr w ↦
-                  let c = not_faulty go place rest n end (m == 0x05 && configured) None reasons.ConfigurationExtra x7 w.1 in
+                  let c = not_faulty go place rest n end (m == 0x05 && configured) None reasons.ConfigurationExtra 1 x7 w.1 in
                   let d = not_there go place rest n end (m == 0x07) (judge_configuration set names state rest) x8 c.1 in
-                  let e = not_faulty go place rest n end (m == 0x08) None reasons.Command (Faulty None reasons.BadMark) d in
-                  absurd (never_read go place rest n end None reasons.BadMark e.1)
+                  let e = not_faulty go place rest n end (m == 0x08) None reasons.Command 1 (Faulty None reasons.BadMark 1) d in
+                  absurd (never_read go place rest n end None reasons.BadMark 1 e.1)
             ]
       ]
     ]

@@ -30,10 +30,10 @@ text_long mark text rest = length-append (mark ∷ be32 (length text) ++ text) r
 
 module _ (set : Set) (names : List (List ℕ)) where
   magic_read : (state : State) (place : ℕ) (rest : List ℕ) → judge_magic set names state (magic ++ rest) ≡ Goes 4 (record state { spot = Version })
-  magic_read state place rest = if_false (nat_lt (length (magic ++ rest)) 4) (Faulty None reasons.Truncated) (Goes 4 (record state { spot = Version })) (le-ltb (length (magic ++ rest)) 4 (omega arith))
+  magic_read state place rest = if_false (nat_lt (length (magic ++ rest)) 4) (Faulty None reasons.Truncated (length (magic ++ rest))) (Goes 4 (record state { spot = Version })) (le-ltb (length (magic ++ rest)) 4 (omega arith))
 
   version_read : (state : State) (rest : List ℕ) → judge_version set names state (be32 3 ++ rest) ≡ Goes 4 (record state { spot = First })
-  version_read state rest = if_false (nat_lt (length (be32 3 ++ rest)) 4) (Faulty None reasons.Truncated) (Goes 4 (record state { spot = First })) (le-ltb (length (be32 3 ++ rest)) 4 (omega arith))
+  version_read state rest = if_false (nat_lt (length (be32 3 ++ rest)) 4) (Faulty None reasons.Truncated (length (be32 3 ++ rest))) (Goes 4 (record state { spot = First })) (le-ltb (length (be32 3 ++ rest)) 4 (omega arith))
 
   configuration_read : (state : State) (name rest : List ℕ) → length name ≤ 255 → is_one_of names name ≡ true
       → judge_mark set names true false state (configuration name ++ rest) ≡ Goes (5 + length name) (record state { machine = Some name; spot = Configured })
@@ -42,16 +42,16 @@ module _ (set : Set) (names : List (List ℕ)) where
       let n = length name in
       let long : length r ≡ (5 + n) + length rest = text_long 0x07 name rest in
       let size : number_at 4 1 r ≡ n = be32_read n (name ++ rest) (omega arith) in
-      let given : List ℕ → Verdict State = λ x. if is_one_of names x then Goes (5 + n) (record state { machine = Some x; spot = Configured }) else Faulty None reasons.WrongMachine in
-      let sized : ℕ → Verdict State = λ k. if nat_lt 255 k then Faulty None reasons.WrongMachine
-      else whole (5 + k) None r (if is_one_of names (bytes_at k 5 r) then Goes (5 + k) (record state { machine = Some (bytes_at k 5 r); spot = Configured }) else Faulty None reasons.WrongMachine) in
-      if_false (nat_lt (length r) 1) (Faulty None reasons.Truncated) (judge_configuration set names state r) (le-ltb (length r) 1 (omega arith))
-      ∙ if_false (nat_lt (length r) 5) (Faulty None reasons.Truncated) (sized (number_at 4 1 r)) (le-ltb (length r) 5 (omega arith))
+      let given : List ℕ → Verdict State = λ x. if is_one_of names x then Goes (5 + n) (record state { machine = Some x; spot = Configured }) else Faulty None reasons.WrongMachine (5 + n) in
+      let sized : ℕ → Verdict State = λ k. if nat_lt 255 k then Faulty None reasons.WrongMachine 5
+      else whole (5 + k) None r (if is_one_of names (bytes_at k 5 r) then Goes (5 + k) (record state { machine = Some (bytes_at k 5 r); spot = Configured }) else Faulty None reasons.WrongMachine (5 + k)) in
+      if_false (nat_lt (length r) 1) (Faulty None reasons.Truncated (length r)) (judge_configuration set names state r) (le-ltb (length r) 1 (omega arith))
+      ∙ if_false (nat_lt (length r) 5) (Faulty None reasons.Truncated (length r)) (sized (number_at 4 1 r)) (le-ltb (length r) 5 (omega arith))
       ∙ ap sized size
-      ∙ if_false (nat_lt 255 n) (Faulty None reasons.WrongMachine) (whole (5 + n) None r (given (bytes_at n 5 r))) (le-ltb 255 n low)
-      ∙ if_false (nat_lt (length r) (5 + n)) (Faulty None reasons.Truncated) (given (bytes_at n 5 r)) (le-ltb (length r) (5 + n) (omega arith))
+      ∙ if_false (nat_lt 255 n) (Faulty None reasons.WrongMachine 5) (whole (5 + n) None r (given (bytes_at n 5 r))) (le-ltb 255 n low)
+      ∙ if_false (nat_lt (length r) (5 + n)) (Faulty None reasons.Truncated (length r)) (given (bytes_at n 5 r)) (le-ltb (length r) (5 + n) (omega arith))
       ∙ ap given (text_at 0x07 name rest)
-      ∙ if_true (is_one_of names name) (Goes (5 + n) (record state { machine = Some name; spot = Configured })) (Faulty None reasons.WrongMachine) known
+      ∙ if_true (is_one_of names name) (Goes (5 + n) (record state { machine = Some name; spot = Configured })) (Faulty None reasons.WrongMachine (5 + n)) known
 
   trailer_read : (state : State) (text rest : List ℕ) → length text ≤ longest_text → judge_description set names state (trailer text ++ rest) ≡ Goes (5 + length text) (record state { spot = Described })
   trailer_read state text rest low =
@@ -60,10 +60,10 @@ module _ (set : Set) (names : List (List ℕ)) where
       let long : length r ≡ (5 + n) + length rest = text_long 0x06 text rest in
       let size : number_at 4 1 r ≡ n = be32_read n (text ++ rest) (omega arith) in
       let last : State = record state { spot = Described } in
-      if_false (nat_lt (length r) 5) (Faulty None reasons.Truncated) (judge_text set names state (number_at 4 1 r) r) (le-ltb (length r) 5 (omega arith))
+      if_false (nat_lt (length r) 5) (Faulty None reasons.Truncated (length r)) (judge_text set names state (number_at 4 1 r) r) (le-ltb (length r) 5 (omega arith))
       ∙ ap (λ (k : ℕ). judge_text set names state k r) size
-      ∙ if_false (nat_lt longest_text n) (Faulty None reasons.DescriptionTooLong) (whole (5 + n) None r (Goes (5 + n) last)) (le-ltb longest_text n low)
-      ∙ if_false (nat_lt (length r) (5 + n)) (Faulty None reasons.Truncated) (Goes (5 + n) last) (le-ltb (length r) (5 + n) (omega arith))
+      ∙ if_false (nat_lt longest_text n) (Faulty None reasons.DescriptionTooLong 5) (whole (5 + n) None r (Goes (5 + n) last)) (le-ltb longest_text n low)
+      ∙ if_false (nat_lt (length r) (5 + n)) (Faulty None reasons.Truncated (length r)) (Goes (5 + n) last) (le-ltb (length r) (5 + n) (omega arith))
 
   -- accepted there, in a state of this machine and these images
   pub record Ends (machine : Option (List ℕ)) (images : List Image) (place : ℕ) (r : Option (Reading State)) : Type 0 where

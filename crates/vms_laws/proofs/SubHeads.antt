@@ -28,8 +28,8 @@ module _ (set : Set) (names : List (List ℕ)) where
   sub_judged : (state : State) (image : Image) (k id n v j : ℕ) (s : Sub) → IsVersionOf s.desc v
       → judge_sub set names state image k id n v (Some j) (Some s) (Some None) ≡ Goes n (sub_opened state image k id j v)
   sub_judged state image k id n v j s is =
-      if_false (nat_lt s.desc.version v) (Faulty (Some k) reasons.TooNew) _ (le-ltb s.desc.version v is.1)
-      ∙ if_false (nat_lt v s.desc.minimum) (Faulty (Some k) reasons.TooOld) (Goes n (sub_opened state image k id j v)) (le-ltb v s.desc.minimum is.0)
+      if_false (nat_lt s.desc.version v) (Faulty (Some k) reasons.TooNew n) _ (le-ltb s.desc.version v is.1)
+      ∙ if_false (nat_lt v s.desc.minimum) (Faulty (Some k) reasons.TooOld n) (Goes n (sub_opened state image k id j v)) (le-ltb v s.desc.minimum is.0)
 
   sub_found : State → Device → Image → ℕ → ℕ → ℕ → ℕ → Option ℕ → Verdict State
   sub_found state d image k id n v o = judge_sub set names state image k id n v o (at d.subs (index o)) (at image.came (index o))
@@ -47,9 +47,9 @@ module _ (set : Set) (names : List (List ℕ)) where
       let e2 : bytes_at n 2 r ≡ name = front_take n name (be32 v ++ rest) (drop 2 r) after refl in
       let d2 : drop (2 + n) r ≡ be32 v ++ rest = sym (drop-drop n 2 r) ∙ front_drop n name (be32 v ++ rest) (drop 2 r) after refl in
       let e4 : number_at 4 (2 + n) r ≡ v = ap (big_number 4) d2 ∙ be32_read v rest fits in
-      if_false (nat_lt (length r) 1) (Faulty (Some k) reasons.Truncated) _ (le-ltb (length r) 1 (omega arith))
-      ∙ if_false (nat_lt (length r) 2) (Faulty (Some k) reasons.Truncated) _ (le-ltb (length r) 2 (omega arith))
-      ∙ if_false (nat_lt (length r) (6 + n)) (Faulty (Some k) reasons.Truncated) (sub_found state d image k id (6 + n) (number_at 4 (2 + n) r) (find_sub 0 d.subs (bytes_at n 2 r))) (le-ltb (length r) (6 + n) (omega arith))
+      if_false (nat_lt (length r) 1) (Faulty (Some k) reasons.Truncated (length r)) _ (le-ltb (length r) 1 (omega arith))
+      ∙ if_false (nat_lt (length r) 2) (Faulty (Some k) reasons.Truncated (length r)) _ (le-ltb (length r) 2 (omega arith))
+      ∙ if_false (nat_lt (length r) (6 + n)) (Faulty (Some k) reasons.Truncated (length r)) (sub_found state d image k id (6 + n) (number_at 4 (2 + n) r) (find_sub 0 d.subs (bytes_at n 2 r))) (le-ltb (length r) (6 + n) (omega arith))
       ∙ ap (λ (v : ℕ). sub_found state d image k id (6 + n) v (find_sub 0 d.subs (bytes_at n 2 r))) e4
       ∙ ap (λ (name : List ℕ). sub_found state d image k id (6 + n) v (find_sub 0 d.subs name)) e2
       ∙ ap (λ (o : Option ℕ). sub_found state d image k id (6 + n) v o) is
@@ -122,12 +122,12 @@ module _ (set : Set) (names : List (List ℕ)) (go : State → ℕ → List ℕ 
   sub_goes state image k id at' rest size v (Some j) None came h = cc
   sub_goes state image k id at' rest size v (Some j) (Some s) None h = cc
   sub_goes state image k id at' rest size v (Some j) (Some s) (Some (Some w)) h =
-      let a = not_faulty go at' rest n end (nat_lt s.desc.version v) (Some k) reasons.TooNew _ h in
-      let b = not_faulty go at' rest n end (nat_lt v s.desc.minimum) (Some k) reasons.TooOld (Faulty (Some k) reasons.RepeatedSubsection) a.1 in
+      let a = not_faulty go at' rest n end (nat_lt s.desc.version v) (Some k) reasons.TooNew size _ h in
+      let b = not_faulty go at' rest n end (nat_lt v s.desc.minimum) (Some k) reasons.TooOld size (Faulty (Some k) reasons.RepeatedSubsection size) a.1 in
       let x = b.1 in cc
   sub_goes state image k id at' rest size v (Some j) (Some s) (Some None) h =
-      let a = not_faulty go at' rest n end (nat_lt s.desc.version v) (Some k) reasons.TooNew _ h in
-      let b = not_faulty go at' rest n end (nat_lt v s.desc.minimum) (Some k) reasons.TooOld (Goes size (sub_opened state image k id j v)) a.1 in
+      let a = not_faulty go at' rest n end (nat_lt s.desc.version v) (Some k) reasons.TooNew size _ h in
+      let b = not_faulty go at' rest n end (nat_lt v s.desc.minimum) (Some k) reasons.TooOld size (Goes size (sub_opened state image k id j v)) a.1 in
       (j, refl, s, refl, refl, (ltb-false v s.desc.minimum b.0, ltb-false s.desc.version v a.0), b.1)
 
   -- after a body: a subsection, or the footer
@@ -142,14 +142,14 @@ module _ (set : Set) (names : List (List ℕ)) (go : State → ℕ → List ℕ 
       let o = find_sub 0 d.subs name in
       let sub : Verdict State = judge_sub set names state image k id (6 + size) v o (at d.subs (index o)) (at image.came (index o)) in
       let subs : Verdict State = whole 2 (Some k) rest (whole (6 + size) (Some k) rest sub) in
-      let last : Verdict State = if number_at 4 1 rest == id then Goes 5 (record state { spot = Later }) else Faulty (Some k) reasons.BadFooter in
+      let last : Verdict State = if number_at 4 1 rest == id then Goes 5 (record state { spot = Later }) else Faulty (Some k) reasons.BadFooter 5 in
       let feet : Verdict State = whole 5 (Some k) rest last in
-      let other : Verdict State = if mark == 0x7e then feet else Faulty (Some k) reasons.BadFooter in
-      let a = not_faulty go at' rest n end (nat_lt (length rest) 1) (Some k) reasons.Truncated (if mark == 0x05 then subs else other) h in
+      let other : Verdict State = if mark == 0x7e then feet else Faulty (Some k) reasons.BadFooter 1 in
+      let a = not_faulty go at' rest n end (nat_lt (length rest) 1) (Some k) reasons.Truncated (length rest) (if mark == 0x05 then subs else other) h in
       elim (either go at' rest n end (mark == 0x05) subs other a.1) [
         | inl z ↦
-            let x = not_faulty go at' rest n end (nat_lt (length rest) 2) (Some k) reasons.Truncated (whole (6 + size) (Some k) rest sub) z.1 in
-            let y = not_faulty go at' rest n end (nat_lt (length rest) (6 + size)) (Some k) reasons.Truncated sub x.1 in
+            let x = not_faulty go at' rest n end (nat_lt (length rest) 2) (Some k) reasons.Truncated (length rest) (whole (6 + size) (Some k) rest sub) z.1 in
+            let y = not_faulty go at' rest n end (nat_lt (length rest) (6 + size)) (Some k) reasons.Truncated (length rest) sub x.1 in
             let long : 6 + size ≤ length rest = ltb-false (length rest) (6 + size) y.0 in
             let c = sub_goes state image k id at' rest (6 + size) v o (at d.subs (index o)) (at image.came (index o)) y.1 in
             let j = c.0 in
@@ -173,9 +173,9 @@ module _ (set : Set) (names : List (List ℕ)) (go : State → ℕ → List ℕ 
               goes = ap (λ (x : ℕ). go (sub_opened state image k id j v) (at' + (6 + x)) (drop (6 + size) rest)) (ap length named ∙ longer) ∙ c.6;
             })
         | inr z ↦
-            let b = else_faulty go at' rest n end (mark == 0x7e) (Some k) reasons.BadFooter feet z.1 in
-            let c = not_faulty go at' rest n end (nat_lt (length rest) 5) (Some k) reasons.Truncated last b.1 in
-            let e = else_faulty go at' rest n end (number_at 4 1 rest == id) (Some k) reasons.BadFooter (Goes 5 (record state { spot = Later })) c.1 in
+            let b = else_faulty go at' rest n end (mark == 0x7e) (Some k) reasons.BadFooter 1 feet z.1 in
+            let c = not_faulty go at' rest n end (nat_lt (length rest) 5) (Some k) reasons.Truncated (length rest) last b.1 in
+            let e = else_faulty go at' rest n end (number_at 4 1 rest == id) (Some k) reasons.BadFooter 5 (Goes 5 (record state { spot = Later })) c.1 in
             let long : 5 ≤ length rest = ltb-false (length rest) 5 c.0 in
             let first : rest ≡ 0x7e ∷ drop 1 rest = split_one rest (omega arith) ∙ ap (λ (x : ℕ). x ∷ drop 1 rest) (eqb-true mark 0x7e b.0) in
             let four : drop 1 rest ≡ be32 id ++ drop 5 rest =

@@ -42,8 +42,8 @@ number_same k i n r s le h = sym (number_take k (drop i r)) ∙ ap (big_number k
 
 -- ---- verdicts
 
-pub at_fault : {S : Type 0} (k : ℕ) (r s : List ℕ) (section : Option ℕ) (reason : Reason) (w : Verdict S) → Agrees k r s (Faulty section reason) w
-at_fault k r s section reason w = record { agrees = tt }
+pub at_fault : {S : Type 0} (k : ℕ) (r s : List ℕ) (section : Option ℕ) (reason : Reason) (long : ℕ) (w : Verdict S) → Agrees k r s (Faulty section reason long) w
+at_fault k r s section reason long w = record { agrees = tt }
 
 pub at_end : {S : Type 0} (k : ℕ) (r s : List ℕ) (end : S) (w : Verdict S) → Agrees k r s (Over end) w
 at_end k r s end w = record { agrees = tt }
@@ -56,12 +56,12 @@ pub agrees_ap : {S : Type 0} (k : ℕ) (r s : List ℕ) (v w x : Verdict S) → 
 agrees_ap k r s (Goes n next) w x e a =
     let le : k ≤ n = a.agrees.0 in
     record { agrees = (a.agrees.0, a.agrees.1, λ h. sym (e (same_less k n r s le h)) ∙ a.agrees.2 h) }
-agrees_ap k r s (Faulty section reason) w x e a = record { agrees = tt }
+agrees_ap k r s (Faulty section reason long) w x e a = record { agrees = tt }
 agrees_ap k r s (Over end) w x e a = record { agrees = tt }
 
 pub agrees_less : {S : Type 0} (k m : ℕ) (r s : List ℕ) (v w : Verdict S) → k ≤ m → Agrees m r s v w → Agrees k r s v w
 agrees_less k m r s (Goes n next) w le a = let l : m ≤ n = a.agrees.0 in record { agrees = (omega arith, a.agrees.1, a.agrees.2) }
-agrees_less k m r s (Faulty section reason) w le a = record { agrees = tt }
+agrees_less k m r s (Faulty section reason long) w le a = record { agrees = tt }
 agrees_less k m r s (Over end) w le a = record { agrees = tt }
 
 pub chosen : {S : Type 0} (k : ℕ) (r s : List ℕ) (b c : Bool) (v w x y : Verdict S) → (Same k r s → b ≡ c) → Agrees k r s v w → Agrees k r s x y
@@ -70,11 +70,11 @@ chosen k r s true c v w x y e a b = agrees_ap k r s v w (if c then w else y) (λ
 chosen k r s false c v w x y e a b = agrees_ap k r s x y (if c then w else y) (λ h. ap (λ (d : Bool). if d then w else y) (e h)) b
 
 whole_same : {S : Type 0} (b : Bool) (n k : ℕ) (section : Option ℕ) (r s : List ℕ) (v w : Verdict S) → nat_lt (length r) n ≡ b → k ≤ n → (n ≤ length r → Agrees n r s v w)
-    → Agrees k r s (if b then Faulty section reasons.Truncated else v) (whole n section s w)
+    → Agrees k r s (if b then Faulty section reasons.Truncated (length r) else v) (whole n section s w)
 whole_same true n k section r s v w e le a = record { agrees = tt }
 whole_same false n k section r s v w e le a =
     agrees_less k n r s v (whole n section s w) le
-    (agrees_ap n r s v w (whole n section s w) (λ h. let f : nat_lt (length s) n ≡ false = le-ltb (length s) n h.right in ap (λ (b : Bool). if b then Faulty section reasons.Truncated else w) (sym f))
+    (agrees_ap n r s v w (whole n section s w) (λ h. let f : nat_lt (length s) n ≡ false = le-ltb (length s) n h.right in ap (λ (b : Bool). if b then Faulty section reasons.Truncated (length s) else w) (sym f))
     (a (ltb-false (length r) n e)))
 
 -- a unit of n bytes

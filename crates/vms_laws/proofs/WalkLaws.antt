@@ -44,27 +44,27 @@ number_keeps kind caps cell p =
     let n = p.numbers in
     let bytes = take (width kind) p.rest in
     let done : Taken = on (width kind) (slice_set n cell (value_of kind bytes)) p in
-    let capped : Taken = if exceeds caps (value_of kind bytes) then refuse p reasons.CountTooLarge else done in
-    let good : Taken = if is_bad_bool kind bytes then refuse p reasons.BadBool else capped in
-    chosen (nat_lt (length p.rest) (width kind)) cell n (refuse p reasons.Truncated) good (keeps_err _ _ _)
-    (chosen (is_bad_bool kind bytes) cell n (refuse p reasons.BadBool) capped (keeps_err _ _ _)
-    (chosen (exceeds caps (value_of kind bytes)) cell n (refuse p reasons.CountTooLarge) done (keeps_err _ _ _) (keeps_ok cell n _ (set_below cell n _))))
+    let capped : Taken = if exceeds caps (value_of kind bytes) then refuse p reasons.CountTooLarge (width kind) else done in
+    let good : Taken = if is_bad_bool kind bytes then refuse p reasons.BadBool (width kind) else capped in
+    chosen (nat_lt (length p.rest) (width kind)) cell n (refuse p reasons.Truncated (length p.rest)) good (keeps_err _ _ _)
+    (chosen (is_bad_bool kind bytes) cell n (refuse p reasons.BadBool (width kind)) capped (keeps_err _ _ _)
+    (chosen (exceeds caps (value_of kind bytes)) cell n (refuse p reasons.CountTooLarge (width kind)) done (keeps_err _ _ _) (keeps_ok cell n _ (set_below cell n _))))
 
 pub constant_keeps : (kind : Kind) (z : ℤ) (cell : ℕ) (p : Progress) → Keeps cell p.numbers (take_constant kind z p)
 constant_keeps kind z cell p =
     let n = p.numbers in
     let bytes = take (width kind) p.rest in
     let done : Taken = on (width kind) n p in
-    let equal : Taken = if same_number (value_of kind bytes) z then done else refuse p reasons.NotEqual in
-    let good : Taken = if is_bad_bool kind bytes then refuse p reasons.BadBool else equal in
-    chosen (nat_lt (length p.rest) (width kind)) cell n (refuse p reasons.Truncated) good (keeps_err _ _ _)
-    (chosen (is_bad_bool kind bytes) cell n (refuse p reasons.BadBool) equal (keeps_err _ _ _)
-    (chosen (same_number (value_of kind bytes) z) cell n done (refuse p reasons.NotEqual) (keeps_ok cell n _ (same_refl cell n)) (keeps_err _ _ _)))
+    let equal : Taken = if same_number (value_of kind bytes) z then done else refuse p reasons.NotEqual (width kind) in
+    let good : Taken = if is_bad_bool kind bytes then refuse p reasons.BadBool (width kind) else equal in
+    chosen (nat_lt (length p.rest) (width kind)) cell n (refuse p reasons.Truncated (length p.rest)) good (keeps_err _ _ _)
+    (chosen (is_bad_bool kind bytes) cell n (refuse p reasons.BadBool (width kind)) equal (keeps_err _ _ _)
+    (chosen (same_number (value_of kind bytes) z) cell n done (refuse p reasons.NotEqual (width kind)) (keeps_ok cell n _ (same_refl cell n)) (keeps_err _ _ _)))
 
 pub filler_keeps : (n cell : ℕ) (p : Progress) → Keeps cell p.numbers (take_filler n p)
 filler_keeps zero cell p = keeps_ok cell p.numbers p (same_refl cell p.numbers)
 filler_keeps (suc n) cell p =
-    chosen (nat_lt (length p.rest) (suc n)) cell p.numbers (refuse p reasons.Truncated) (on (suc n) p.numbers p) (keeps_err _ _ _) (keeps_ok cell p.numbers _ (same_refl cell p.numbers))
+    chosen (nat_lt (length p.rest) (suc n)) cell p.numbers (refuse p reasons.Truncated (length p.rest)) (on (suc n) p.numbers p) (keeps_err _ _ _) (keeps_ok cell p.numbers _ (same_refl cell p.numbers))
 
 pub rule_keeps : (b : Bool) (cell : ℕ) (p : Progress) → Keeps cell p.numbers (take_rule b p)
 rule_keeps true cell p = keeps_ok cell p.numbers p (same_refl cell p.numbers)

@@ -98,20 +98,20 @@ WrittenLaw = (set : Set) (names : List (List ℕ)) → length set.devices ≤ 42
 
 -- ---- refusals
 
--- what the judge refuses is at fault there, for that device and that reason
+-- what the judge refuses is at fault there, for that device and that reason, at a unit of that many bytes
 abbrev pub RefusedLaw : Type 0
-RefusedLaw = (set : Set) (names : List (List ℕ)) → IsGood set → (input : List ℕ) → IsBytes input → (place : ℕ) (section : Option ℕ) (reason : Reason)
-    → reading set names input ≡ Some (Refused place section reason) → Fault set names input place section reason
+RefusedLaw = (set : Set) (names : List (List ℕ)) → IsGood set → (input : List ℕ) → IsBytes input → (place : ℕ) (section : Option ℕ) (reason : Reason) (size : ℕ)
+    → reading set names input ≡ Some (Refused place section reason size) → Fault set names input place section reason size
 
 -- what is at fault the judge refuses so
 abbrev pub FaultLaw : Type 0
-FaultLaw = (set : Set) (names : List (List ℕ)) → IsGood set → (input : List ℕ) → IsBytes input → (place : ℕ) (section : Option ℕ) (reason : Reason)
-    → Fault set names input place section reason → reading set names input ≡ Some (Refused place section reason)
+FaultLaw = (set : Set) (names : List (List ℕ)) → IsGood set → (input : List ℕ) → IsBytes input → (place : ℕ) (section : Option ℕ) (reason : Reason) (size : ℕ)
+    → Fault set names input place section reason size → reading set names input ≡ Some (Refused place section reason size)
 
 -- a stream is taken, or there is a fault
 pub data Answer (set : Set) (names : List (List ℕ)) (input : List ℕ) : Type 0 where
   Taken : (n : ℕ) (machine : Option (List ℕ)) (images : List Image) → Takes set names input n machine images → Answer set names input
-  Faulty : (place : ℕ) (section : Option ℕ) (reason : Reason) → Fault set names input place section reason → Answer set names input
+  Faulty : (place : ℕ) (section : Option ℕ) (reason : Reason) (size : ℕ) → Fault set names input place section reason size → Answer set names input
 
 -- every input has one of the two
 abbrev pub EitherLaw : Type 0
@@ -120,18 +120,19 @@ EitherLaw = (set : Set) (names : List (List ℕ)) → IsGood set → (input : Li
 -- and never both
 abbrev pub NeverBothLaw : Type 0
 NeverBothLaw = (set : Set) (names : List (List ℕ)) → IsGood set → (input : List ℕ) → IsBytes input
-    → (n : ℕ) (machine : Option (List ℕ)) (images : List Image) (place : ℕ) (section : Option ℕ) (reason : Reason)
-    → Takes set names input n machine images → Fault set names input place section reason → ⊥
+    → (n : ℕ) (machine : Option (List ℕ)) (images : List Image) (place : ℕ) (section : Option ℕ) (reason : Reason) (size : ℕ)
+    → Takes set names input n machine images → Fault set names input place section reason size → ⊥
 
--- two faults of an input are at one place, for one device and of one reason
-pub record AreOneFault (place other_place : ℕ) (section other_section : Option ℕ) (reason other_reason : Reason) : Type 0 where
+-- two faults of an input are at one place, for one device, of one reason and at a unit of one length
+pub record AreOneFault (place other_place : ℕ) (section other_section : Option ℕ) (reason other_reason : Reason) (size other_size : ℕ) : Type 0 where
   pub places : place ≡ other_place
   pub sections : section ≡ other_section
   pub reasons : reason ≡ other_reason
+  pub sizes : size ≡ other_size
 
 -- an input has one fault at most
 abbrev pub OneFaultLaw : Type 0
 OneFaultLaw = (set : Set) (names : List (List ℕ)) → IsGood set → (input : List ℕ) → IsBytes input
-    → (place other_place : ℕ) (section other_section : Option ℕ) (reason other_reason : Reason)
-    → Fault set names input place section reason → Fault set names input other_place other_section other_reason
-    → AreOneFault place other_place section other_section reason other_reason
+    → (place other_place : ℕ) (section other_section : Option ℕ) (reason other_reason : Reason) (size other_size : ℕ)
+    → Fault set names input place section reason size → Fault set names input other_place other_section other_reason other_size
+    → AreOneFault place other_place section other_section reason other_reason size other_size

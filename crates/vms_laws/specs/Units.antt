@@ -10,7 +10,7 @@ pub record Same (n : ℕ) (r s : List ℕ) : Type 0 where
 
 abbrev pub AgreesWith : {S : Type 0} → ℕ → List ℕ → List ℕ → Verdict S → Verdict S → Type 0
 AgreesWith k r s (Goes n next) w = (k ≤ n) × (n ≤ length r) × (Same n r s → w ≡ Goes n next)
-AgreesWith k r s (Faulty section reason) w = Unit {0}
+AgreesWith k r s (Faulty section reason long) w = Unit {0}
 AgreesWith k r s (Over end) w = Unit {0}
 
 -- a unit that v sees in r has at least k bytes, all there, and w sees it too where they stand in s

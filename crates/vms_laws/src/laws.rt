@@ -84,14 +84,14 @@ pub fn written_law()
     ensures { WrittenLaw }
 {}
 
-/// What the judge refuses is at fault at that place, for that device and that reason, by the units before it and the table
-/// of reasons: for every good set and every input of bytes.
+/// What the judge refuses is at fault at that place, for that device and that reason, at a unit of that many bytes, by the
+/// units before it and the table of reasons: for every good set and every input of bytes.
 #[tactic(auto, using(crate::proofs::Stated::refused_holds))]
 pub fn refused_law()
     ensures { RefusedLaw }
 {}
 
-/// What is at fault the judge refuses at that place, for that device and that reason.
+/// What is at fault the judge refuses at that place, for that device and that reason, at a unit of that many bytes.
 pub fn fault_law()
     ensures { FaultLaw }
 {}
@@ -106,7 +106,7 @@ pub fn never_both_law()
     ensures { NeverBothLaw }
 {}
 
-/// An input has one fault at most: place, device and reason are determined by its bytes.
+/// An input has one fault at most: place, device, reason and the length of the unit at fault are determined by its bytes.
 pub fn one_fault_law()
     ensures { OneFaultLaw }
 {}
