@@ -27,40 +27,40 @@ use Rattle.vms_frames.specs.Judged.{judge_found, judge_step, judge_behind, put_n
 
 -- where a unit is whole, both are judged further
 whole_by : {X : Type 0} (b : Bool) (n : ℕ) (rest : List ℕ) (section : Option ℕ) (go : X → Verdict State) (verdict : Verdict State) (found : Found X)
-    → nat_lt (length rest) n ≡ b → (n ≤ length rest → verdict ≡ judge_found section go found)
-    → (if b then Faulty section reasons.Truncated else verdict) ≡ judge_found section go (if b then Cut else found)
+    → nat_lt (length rest) n ≡ b → (n ≤ length rest → verdict ≡ judge_found section go rest found)
+    → (if b then Faulty section reasons.Truncated (length rest) else verdict) ≡ judge_found section go rest (if b then Cut else found)
 whole_by true n rest section go verdict found e h = refl
 whole_by false n rest section go verdict found e h = h (ltb-false (length rest) n e)
 
 on_whole : {X : Type 0} (n : ℕ) (rest : List ℕ) (section : Option ℕ) (go : X → Verdict State) (verdict : Verdict State) (found : Found X)
-    → (n ≤ length rest → verdict ≡ judge_found section go found) → whole n section rest verdict ≡ judge_found section go (needs n rest found)
+    → (n ≤ length rest → verdict ≡ judge_found section go rest found) → whole n section rest verdict ≡ judge_found section go rest (needs n rest found)
 on_whole n rest section go verdict found h = whole_by (nat_lt (length rest) n) n rest section go verdict found refl h
 
 -- both are judged by one test
-by_test : {X : Type 0} (b : Bool) (section : Option ℕ) (go : X → Verdict State) (v w : Verdict State) (f g : Found X)
-    → v ≡ judge_found section go f → w ≡ judge_found section go g → (if b then v else w) ≡ judge_found section go (if b then f else g)
-by_test true section go v w f g p q = p
-by_test false section go v w f g p q = q
+by_test : {X : Type 0} (rest : List ℕ) (b : Bool) (section : Option ℕ) (go : X → Verdict State) (v w : Verdict State) (f g : Found X)
+    → v ≡ judge_found section go rest f → w ≡ judge_found section go rest g → (if b then v else w) ≡ judge_found section go rest (if b then f else g)
+by_test rest true section go v w f g p q = p
+by_test rest false section go v w f g p q = q
 
 pub magic_holds : MagicLaw
 magic_holds set names state rest =
-    on_whole 4 rest None (λ (x : Unit {0}). goes_to set names state 4 Version) _ _ (λ h. by_test (bytes_eq (take 4 rest) magic) None (λ (x : Unit {0}). goes_to set names state 4 Version) _ _ (Whole tt) (Wrong 4 reasons.BadMagic) refl refl)
+    on_whole 4 rest None (λ (x : Unit {0}). goes_to set names state 4 Version) _ _ (λ h. by_test rest (bytes_eq (take 4 rest) magic) None (λ (x : Unit {0}). goes_to set names state 4 Version) _ _ (Whole tt) (Wrong 4 reasons.BadMagic) refl refl)
 
 pub version_holds : VersionLaw
 version_holds set names state rest =
     let go : Unit {0} → Verdict State = λ x. goes_to set names state 4 AtFirst in
-    on_whole 4 rest None go _ _ (λ h. by_test (number_at 4 0 rest == 3) None go _ _ (Whole tt) (if number_at 4 0 rest == 2 then Wrong 4 reasons.OldStream else Wrong 4 reasons.BadVersion) refl
-    (by_test (number_at 4 0 rest == 2) None go _ _ (Wrong 4 reasons.OldStream) (Wrong 4 reasons.BadVersion) refl refl))
+    on_whole 4 rest None go _ _ (λ h. by_test rest (number_at 4 0 rest == 3) None go _ _ (Whole tt) (if number_at 4 0 rest == 2 then Wrong 4 reasons.OldStream else Wrong 4 reasons.BadVersion) refl
+    (by_test rest (number_at 4 0 rest == 2) None go _ _ (Wrong 4 reasons.OldStream) (Wrong 4 reasons.BadVersion) refl refl))
 
 pub number_holds : NumberLaw
 number_holds set names state image k id part done c kind capacities rest =
     let go = put_number set names state image k id part done c kind capacities in
-    on_whole (width kind) rest (Some k) go _ _ (λ h. by_test (is_bad_bool kind (take (width kind) rest)) (Some k) go _ _ (Wrong (width kind) reasons.BadBool) (Whole (value_of kind (take (width kind) rest))) refl refl)
+    on_whole (width kind) rest (Some k) go _ _ (λ h. by_test rest (is_bad_bool kind (take (width kind) rest)) (Some k) go _ _ (Wrong (width kind) reasons.BadBool) (Whole (value_of kind (take (width kind) rest))) refl refl)
 
 pub constant_holds : ConstantLaw
 constant_holds set names state d image k id part done kind z slots rest =
     let go = same_constant set names state k id part done kind z in
-    on_whole (width kind) rest (Some k) go _ _ (λ h. by_test (is_bad_bool kind (take (width kind) rest)) (Some k) go _ _ (Wrong (width kind) reasons.BadBool) (Whole (value_of kind (take (width kind) rest))) refl refl)
+    on_whole (width kind) rest (Some k) go _ _ (λ h. by_test rest (is_bad_bool kind (take (width kind) rest)) (Some k) go _ _ (Wrong (width kind) reasons.BadBool) (Whole (value_of kind (take (width kind) rest))) refl refl)
 
 pub filler_holds : FillerLaw
 filler_holds set names state d image k id part done n slots rest =
@@ -70,12 +70,12 @@ filler_holds set names state d image k id part done n slots rest =
 name_long : (n i : ℕ) (rest : List ℕ) → i + n ≤ length rest → length (bytes_at n i rest) ≡ n
 name_long n i rest h = length-take-le n (drop i rest) (omega (arith, length-drop i rest))
 
-abbrev refuses : Reason → Verdict State
-refuses reason = Faulty None reason
+abbrev refuses : Reason → ℕ → Verdict State
+refuses reason long = Faulty None reason long
 
-either : (b : Bool) → (if b then refuses reasons.Ram else refuses reasons.Iterative) ≡ refuses (if b then reasons.Ram else reasons.Iterative)
-either true = refl
-either false = refl
+either : (b : Bool) (long : ℕ) → (if b then refuses reasons.Ram long else refuses reasons.Iterative long) ≡ refuses (if b then reasons.Ram else reasons.Iterative) long
+either true long = refl
+either false long = refl
 
 module _ (set : Set) (names : List (List ℕ)) where
   head_by : State → ℕ → ℕ → List ℕ → Verdict State
@@ -83,7 +83,7 @@ module _ (set : Set) (names : List (List ℕ)) where
       let found = find_device 0 set.devices (bytes_at n 6 rest) (number_at 4 (6 + n) rest) in
       judge_device set names state (14 + long) (number_at 4 1 rest) (number_at 4 (10 + n) rest) found (at set.devices (index found)) (get_or state.came (index found) false)
 
-  head_holds : (state : State) (rest : List ℕ) → judge_head set names state rest ≡ judge_found None (judge_step set names state) (head_found rest)
+  head_holds : (state : State) (rest : List ℕ) → judge_head set names state rest ≡ judge_found None (judge_step set names state) rest (head_found rest)
   unfolding head_by
   head_holds state rest =
       let go = judge_step set names state in
@@ -91,25 +91,25 @@ module _ (set : Set) (names : List (List ℕ)) where
       on_whole 6 rest None go _ (needs (14 + n) rest (Whole (Section (head_in rest)))) (λ h.
       on_whole (14 + n) rest None go _ (Whole (Section (head_in rest))) (λ h. ap (λ (long : ℕ). head_by state n long rest) (sym (name_long n 6 rest (omega arith)))))
 
-  start_holds : (state : State) (rest : List ℕ) → judge_start set names state rest ≡ judge_found None (judge_step set names state) (start_found rest)
+  start_holds : (state : State) (rest : List ℕ) → judge_start set names state rest ≡ judge_found None (judge_step set names state) rest (start_found rest)
   start_holds state rest =
       let go = judge_step set names state in
       let n = get_or rest 5 0 in
       let name = bytes_at n 6 rest in
       on_whole 6 rest None go _ (needs (6 + n) rest (Wrong (6 + n) (start_reason name))) (λ h.
-      on_whole (6 + n) rest None go _ (Wrong (6 + n) (start_reason name)) (λ h. either (bytes_eq name (0x72 ∷ 0x61 ∷ 0x6d ∷ []))))
+      on_whole (6 + n) rest None go _ (Wrong (6 + n) (start_reason name)) (λ h. either (bytes_eq name (0x72 ∷ 0x61 ∷ 0x6d ∷ [])) (6 + n)))
 
   configured_by : State → ℕ → List ℕ → Verdict State
-  configured_by state long name = if is_one_of names name then Goes (5 + long) (record state { machine = Some name; spot = Configured }) else Faulty None reasons.WrongMachine
+  configured_by state long name = if is_one_of names name then Goes (5 + long) (record state { machine = Some name; spot = Configured }) else Faulty None reasons.WrongMachine (5 + long)
 
-  configuration_holds : (state : State) (rest : List ℕ) → judge_configuration set names state rest ≡ judge_found None (judge_step set names state) (configuration_found rest)
+  configuration_holds : (state : State) (rest : List ℕ) → judge_configuration set names state rest ≡ judge_found None (judge_step set names state) rest (configuration_found rest)
   unfolding configured_by
   configuration_holds state rest =
       let go = judge_step set names state in
       let n = number_at 4 1 rest in
       let named : Found Step = Whole (Configuration (record { items = bytes_at n 5 rest })) in
       on_whole 5 rest None go _ (if nat_lt 255 n then Wrong 5 reasons.WrongMachine else needs (5 + n) rest named) (λ h.
-      by_test (nat_lt 255 n) None go _ _ (Wrong 5 reasons.WrongMachine) (needs (5 + n) rest named) refl
+      by_test rest (nat_lt 255 n) None go _ _ (Wrong 5 reasons.WrongMachine) (needs (5 + n) rest named) refl
       (on_whole (5 + n) rest None go _ named (λ h. ap (λ (long : ℕ). configured_by state long (bytes_at n 5 rest)) (sym (name_long n 5 rest (omega arith))))))
 
   sub_by : State → Device → Image → ℕ → ℕ → ℕ → ℕ → List ℕ → Verdict State
@@ -120,7 +120,7 @@ module _ (set : Set) (names : List (List ℕ)) where
   sub_judged : State → Device → Image → ℕ → ℕ → List ℕ → Verdict State
   sub_judged state d image k id rest = whole 2 (Some k) rest (let n = get_or rest 1 0 in whole (6 + n) (Some k) rest (sub_by state d image k id n n rest))
 
-  sub_holds : (state : State) (d : Device) (image : Image) (k id : ℕ) (rest : List ℕ) → sub_judged state d image k id rest ≡ judge_found (Some k) (judge_behind set names state d image k id) (sub_found rest)
+  sub_holds : (state : State) (d : Device) (image : Image) (k id : ℕ) (rest : List ℕ) → sub_judged state d image k id rest ≡ judge_found (Some k) (judge_behind set names state d image k id) rest (sub_found rest)
   unfolding sub_by sub_judged
   sub_holds state d image k id rest =
       let go = judge_behind set names state d image k id in
@@ -130,18 +130,18 @@ module _ (set : Set) (names : List (List ℕ)) where
       on_whole (6 + n) rest (Some k) go _ named (λ h. ap (λ (long : ℕ). sub_by state d image k id n long rest) (sym (name_long n 2 rest (omega arith)))))
 
   foot_judged : State → ℕ → ℕ → List ℕ → Verdict State
-  foot_judged state k id rest = whole 5 (Some k) rest (if number_at 4 1 rest == id then goes_to set names state 5 AtLater else Faulty (Some k) reasons.BadFooter)
+  foot_judged state k id rest = whole 5 (Some k) rest (if number_at 4 1 rest == id then goes_to set names state 5 AtLater else Faulty (Some k) reasons.BadFooter 5)
 
-  foot_holds : (state : State) (d : Device) (image : Image) (k id : ℕ) (rest : List ℕ) → foot_judged state k id rest ≡ judge_found (Some k) (judge_behind set names state d image k id) (foot_found id rest)
+  foot_holds : (state : State) (d : Device) (image : Image) (k id : ℕ) (rest : List ℕ) → foot_judged state k id rest ≡ judge_found (Some k) (judge_behind set names state d image k id) rest (foot_found id rest)
   unfolding foot_judged
   foot_holds state d image k id rest =
       let go = judge_behind set names state d image k id in
-      on_whole 5 rest (Some k) go _ _ (λ h. by_test (number_at 4 1 rest == id) (Some k) go _ _ (Whole Done) (Wrong 5 reasons.BadFooter) refl refl)
+      on_whole 5 rest (Some k) go _ _ (λ h. by_test rest (number_at 4 1 rest == id) (Some k) go _ _ (Whole Done) (Wrong 5 reasons.BadFooter) refl refl)
 
-  text_holds : (state : State) (b n : ℕ) (rest all : List ℕ) → judge_text set names state n all ≡ judge_found None (judge_close state (b ∷ rest)) (text_found n all)
+  text_holds : (state : State) (b n : ℕ) (rest all : List ℕ) → judge_text set names state n all ≡ judge_found None (judge_close state (b ∷ rest)) all (text_found n all)
   text_holds state b n rest all =
       let go = judge_close state (b ∷ rest) in
-      by_test (nat_lt longest_text n) None go _ _ (Wrong 5 reasons.DescriptionTooLong) (needs (5 + n) all (Whole (5 + n))) refl
+      by_test all (nat_lt longest_text n) None go _ _ (Wrong 5 reasons.DescriptionTooLong) (needs (5 + n) all (Whole (5 + n))) refl
       (on_whole (5 + n) all None go _ (Whole (5 + n)) (λ h. refl))
 
 pub trailer_holds : TrailerLaw
@@ -149,19 +149,19 @@ trailer_holds set names state [] = refl
 trailer_holds set names state (b ∷ rest) =
     let all = b ∷ rest in
     let go = judge_close state (b ∷ rest) in
-    by_test (b == 0x06) None go _ _ (needs 5 all (text_found (number_at 4 1 all) all)) (Wrong 1 reasons.Trailing)
+    by_test all (b == 0x06) None go _ _ (needs 5 all (text_found (number_at 4 1 all) all)) (Wrong 1 reasons.Trailing)
     (on_whole 5 all None go _ (text_found (number_at 4 1 all) all) (λ h. text_holds set names state b (number_at 4 1 all) rest all)) refl
 
 -- ---- by the mark
 
 -- neither of two marks
 neither : (b c first : Bool) (verdict : Verdict State) → b ≡ false → c ≡ false
-    → (if b && first then verdict else if c then refuses reasons.Command else refuses reasons.BadMark) ≡ refuses reasons.BadMark
+    → (if b && first then verdict else if c then refuses reasons.Command 1 else refuses reasons.BadMark 1) ≡ refuses reasons.BadMark 1
 neither true c first verdict p q = cc
 neither false true first verdict p q = cc
 neither false false first verdict p q = refl
 
-last : (c : Bool) → c ≡ false → (if c then refuses reasons.Command else refuses reasons.BadMark) ≡ refuses reasons.BadMark
+last : (c : Bool) → c ≡ false → (if c then refuses reasons.Command 1 else refuses reasons.BadMark 1) ≡ refuses reasons.BadMark 1
 last true p = cc
 last false p = refl
 
@@ -184,15 +184,15 @@ module _ (set : Set) (names : List (List ℕ)) (state : State) (rest : List ℕ)
   judged_by between b0 b1 b2 b3 b4 b5 b7 b8 =
       if b0 then judge_end set names state (first_missing 0 state.came)
       else if b1 then judge_start set names state rest
-      else if b2 || b3 then Faulty None reasons.Iterative
+      else if b2 || b3 then Faulty None reasons.Iterative 1
       else if b4 then judge_head set names state rest
-      else if b5 && is_configured between then Faulty None reasons.ConfigurationExtra
+      else if b5 && is_configured between then Faulty None reasons.ConfigurationExtra 1
       else if b7 && is_first between then judge_configuration set names state rest
-      else if b8 then Faulty None reasons.Command
-      else Faulty None reasons.BadMark
+      else if b8 then Faulty None reasons.Command 1
+      else Faulty None reasons.BadMark 1
 
   marked_by : (between : Between) (b0 b1 b2 b3 b4 b5 b6 b7 b8 bf : Bool) → (b5 ≡ true → b7 ≡ false) → (b5 ≡ true → b8 ≡ false) → (b6 ≡ true → b7 ≡ false) → (b6 ≡ true → b8 ≡ false) → (b7 ≡ true → b8 ≡ false)
-      → judged_by between b0 b1 b2 b3 b4 b5 b7 b8 ≡ judge_found None (judge_step set names state) (mark_found between rest (marks_by b0 b1 b2 b3 b4 b5 b6 b7 b8 bf))
+      → judged_by between b0 b1 b2 b3 b4 b5 b7 b8 ≡ judge_found None (judge_step set names state) rest (mark_found between rest (marks_by b0 b1 b2 b3 b4 b5 b6 b7 b8 bf))
   marked_by between true b1 b2 b3 b4 b5 b6 b7 b8 bf p q r s t = refl
   marked_by between false true b2 b3 b4 b5 b6 b7 b8 bf p q r s t = start_holds set names state rest
   marked_by between false false true b3 b4 b5 b6 b7 b8 bf p q r s t = refl
@@ -252,8 +252,8 @@ after_holds set names state d image k id rest =
     let go = judge_behind set names state d image k id in
     let b = get_or rest 0 0 in
     on_whole 1 rest (Some k) go _ (after_mark_found id rest (mark_of b)) (λ h.
-    by_test (b == 0x05) (Some k) go (sub_judged set names state d image k id rest) (if b == 0x7e then foot_judged set names state k id rest else Faulty (Some k) reasons.BadFooter)
+    by_test rest (b == 0x05) (Some k) go (sub_judged set names state d image k id rest) (if b == 0x7e then foot_judged set names state k id rest else Faulty (Some k) reasons.BadFooter 1)
     (sub_found rest) (if b == 0x7e then foot_found id rest else Wrong 1 reasons.BadFooter)
     (sub_holds set names state d image k id rest)
-    (by_test (b == 0x7e) (Some k) go (foot_judged set names state k id rest) (Faulty (Some k) reasons.BadFooter) (foot_found id rest) (Wrong 1 reasons.BadFooter) (foot_holds set names state d image k id rest) refl)
-    ∙ ap (judge_found (Some k) go) (sym (after_marked_by id rest b (b == 0x05) (b == 0x7e) refl refl)))
+    (by_test rest (b == 0x7e) (Some k) go (foot_judged set names state k id rest) (Faulty (Some k) reasons.BadFooter 1) (foot_found id rest) (Wrong 1 reasons.BadFooter) (foot_holds set names state d image k id rest) refl)
+    ∙ ap (judge_found (Some k) go rest) (sym (after_marked_by id rest b (b == 0x05) (b == 0x7e) refl refl)))

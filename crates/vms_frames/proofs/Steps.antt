@@ -1,6 +1,7 @@
 -- What a caller that reads unit by unit learns from an answer: the verdict of the judge where it goes on, and the refusal
 -- where it doesn't. A caller knows of its source that what is left reads, from a state and a place on, as a whole input does.
-use Rattle.std.proofs.Common.{◌≡◌, ℕ, suc, ◌+◌, List, drop, Option, Some, Ok, Err, refl, sym, ap, subst}
+use Rattle.std.proofs.Common.{◌≡◌, ℕ, suc, ◌+◌, ◌≤◌, List, length, drop, Option, Some, Ok, Err, refl, sym, ap, ◌∙◌, subst, arith}
+use Rattle.std.proofs.lemmas.List.{drop_all}
 use Rattle.vms_spec.specs.declared.Reason.{Reason}
 use Rattle.vms_spec.specs.Readings.{Verdict, Goes, Faulty, Over, Accepted, Refused as RefusedAt, reading_from, reading_after}
 use Rattle.vms_spec.specs.Judging.{State}
@@ -10,22 +11,28 @@ use Rattle.vms_frames.specs.Answers.{Answers, AnswersAfter, AnswersHead, Closes,
 use Rattle.vms_frames.specs.Judged.{judge_found}
 
 -- a whole unit is judged further
-pub found_goes : {X : Type 0} (section : Option ℕ) (go : X → Verdict State) (found : Found X) (x : X) → found ≡ Whole x → judge_found section go found ≡ go x
-found_goes section go found x e = ap (judge_found section go) e
+pub found_goes : {X : Type 0} (section : Option ℕ) (go : X → Verdict State) (rest : List ℕ) (found : Found X) (x : X) → found ≡ Whole x → judge_found section go rest found ≡ go x
+found_goes section go rest found x e = ap (judge_found section go rest) e
 
 pub answer_goes : {X : Type 0} (long : X → ℕ) (section : Option ℕ) (go : X → Verdict State) (found : Found X) (at : ℕ) (rest : List ℕ) (left : Option (List ℕ)) (x : X)
-    → Answers long found at rest left (Ok x) → judge_found section go found ≡ go x
-answer_goes long section go found at rest left x a = found_goes section go found x a.0
+    → Answers long found at rest left (Ok x) → judge_found section go rest found ≡ go x
+answer_goes long section go found at rest left x a = found_goes section go rest found x a.0
+
+-- the unit at fault has so many bytes by the judge, and they were taken
+abbrev pub RefusesAs : Option ℕ → List ℕ → Option (List ℕ) → Reason → Verdict State → Type 0
+RefusesAs section rest left reason verdict = (n : ℕ) × (verdict ≡ Faulty section reason n) × (left ≡ Some (drop n rest))
 
 -- a refusal is the judge's
 pub found_refuses : {X : Type 0} (section : Option ℕ) (go : X → Verdict State) (found : Found X) (rest : List ℕ) (left : Option (List ℕ)) (reason : Reason)
-    → RefusesFor found rest left reason → judge_found section go found ≡ Faulty section reason
+    → RefusesFor found rest left reason → RefusesAs section rest left reason (judge_found section go rest found)
 found_refuses section go (Whole x) rest left reason r = absurd r
-found_refuses section go (Wrong n why) rest left reason r = ap (λ (w : Reason). Faulty section w) (sym r.0)
-found_refuses section go Cut rest left reason r = ap (λ (w : Reason). Faulty section w) (sym r.0)
+found_refuses section go (Wrong n why) rest left reason r = (n, ap (λ (w : Reason). Faulty section w n) (sym r.0), r.1)
+found_refuses section go Cut rest left reason r =
+    let enough : length rest ≤ length rest = omega arith in
+    (length rest, ap (λ (w : Reason). Faulty section w (length rest)) (sym r.0), r.1 ∙ ap (λ (l : List ℕ). Some l) (sym (drop_all (length rest) rest enough)))
 
 pub answer_refuses : {X : Type 0} (section : Option ℕ) (go : X → Verdict State) (found : Found X) (at : ℕ) (rest : List ℕ) (left : Option (List ℕ)) (place : ℕ) (reason : Reason)
-    → Refuses found at rest left (Refused place reason) → (place ≡ at) × (judge_found section go found ≡ Faulty section reason)
+    → Refuses found at rest left (Refused place reason) → (place ≡ at) × RefusesAs section rest left reason (judge_found section go rest found)
 answer_refuses section go found at rest left place reason r = (r.0, found_refuses section go found rest left reason r.1)
 
 module _ {S : Type 0} (judge : S → List ℕ → Verdict S) where
@@ -35,9 +42,9 @@ module _ {S : Type 0} (judge : S → List ℕ → Verdict S) where
   reads_on most state next at n rest e = ap (reading_after (reading_from judge most) at rest) e
 
   -- the reading ends with a refusal
-  pub reads_refused : (most : ℕ) (state : S) (at : ℕ) (rest : List ℕ) (section : Option ℕ) (reason : Reason) → judge state rest ≡ Faulty section reason
-      → reading_from judge (suc most) state at rest ≡ Some (RefusedAt at section reason)
-  reads_refused most state at rest section reason e = ap (reading_after (reading_from judge most) at rest) e
+  pub reads_refused : (most : ℕ) (state : S) (at : ℕ) (rest : List ℕ) (section : Option ℕ) (reason : Reason) (n : ℕ) → judge state rest ≡ Faulty section reason n
+      → reading_from judge (suc most) state at rest ≡ Some (RefusedAt at section reason n)
+  reads_refused most state at rest section reason n e = ap (reading_after (reading_from judge most) at rest) e
 
   -- the reading ends with the input taken
   pub reads_over : (most : ℕ) (state end : S) (at : ℕ) (rest : List ℕ) → judge state rest ≡ Over end

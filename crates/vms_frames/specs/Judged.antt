@@ -20,11 +20,12 @@ use Rattle.vms_frames.specs.declared.units.After.{After}
 use Rattle.vms_frames.specs.declared.units.After.TheVariants.{Sub, Done}
 use Rattle.vms_frames.specs.Found.{Found, Whole, Wrong, Cut, magic_found, version_found, between_found, number_found, skip_found, after_found, trailer_found}
 
--- a unit at fault is at fault for a device or none, and a whole one is judged further
-abbrev pub judge_found : {X : Type 0} → Option ℕ → (X → Verdict State) → Found X → Verdict State
-judge_found section go (Whole x) = go x
-judge_found section go (Wrong n reason) = Faulty section reason
-judge_found section go Cut = Faulty section reasons.Truncated
+-- a unit at fault is at fault for a device or none, and a whole one is judged further. Where the input ends inside it, all
+-- that is left belongs to it.
+abbrev pub judge_found : {X : Type 0} → Option ℕ → (X → Verdict State) → List ℕ → Found X → Verdict State
+judge_found section go rest (Whole x) = go x
+judge_found section go rest (Wrong n reason) = Faulty section reason n
+judge_found section go rest Cut = Faulty section reasons.Truncated (length rest)
 
 abbrev pub is_first : Between → Bool
 is_first First = true
@@ -44,7 +45,7 @@ module _ (set : Set) (names : List (List ℕ)) where
   abbrev pub judge_step : State → Step → Verdict State
   judge_step state (Configuration name) =
       if is_one_of names name.items then Goes (5 + length name.items) (record state { machine = Some name.items; spot = Configured })
-      else Faulty None reasons.WrongMachine
+      else Faulty None reasons.WrongMachine (5 + length name.items)
   judge_step state (Section head) = judge_section state head
   judge_step state End = judge_end set names state (first_missing 0 state.came)
 
@@ -60,7 +61,7 @@ module _ (set : Set) (names : List (List ℕ)) where
 
   abbrev pub put_number : State → Image → ℕ → ℕ → Option ℕ → ℕ → ℕ → Kind → List ℕ → ℤ → Verdict State
   put_number state image k id part done c kind capacities z =
-      if exceeds capacities z then Faulty (Some k) reasons.CountTooLarge
+      if exceeds capacities z then Faulty (Some k) reasons.CountTooLarge (width kind)
       else Goes (width kind) (record {
         machine = state.machine;
         images = slice_set state.images k (record image { numbers = slice_set image.numbers c z });
@@ -70,7 +71,7 @@ module _ (set : Set) (names : List (List ℕ)) where
 
   abbrev pub same_constant : State → ℕ → ℕ → Option ℕ → ℕ → Kind → ℤ → ℤ → Verdict State
   same_constant state k id part done kind z y =
-      if same_number y z then goes_to set names state (width kind) (Fields k id part (suc done)) else Faulty (Some k) reasons.NotEqual
+      if same_number y z then goes_to set names state (width kind) (Fields k id part (suc done)) else Faulty (Some k) reasons.NotEqual (width kind)
 
 -- the end of input goes no further, and behind a description nothing is read
 abbrev pub judge_close : State → List ℕ → ℕ → Verdict State
@@ -81,33 +82,33 @@ judge_close state (b ∷ rest) n = Goes n (record state { spot = Described })
 
 abbrev pub MagicLaw : Type 0
 MagicLaw = (set : Set) (names : List (List ℕ)) (state : State) (rest : List ℕ)
-    → judge_magic set names state rest ≡ judge_found None (λ x. goes_to set names state 4 Version) (magic_found rest)
+    → judge_magic set names state rest ≡ judge_found None (λ x. goes_to set names state 4 Version) rest (magic_found rest)
 
 abbrev pub VersionLaw : Type 0
 VersionLaw = (set : Set) (names : List (List ℕ)) (state : State) (rest : List ℕ)
-    → judge_version set names state rest ≡ judge_found None (λ x. goes_to set names state 4 AtFirst) (version_found rest)
+    → judge_version set names state rest ≡ judge_found None (λ x. goes_to set names state 4 AtFirst) rest (version_found rest)
 
 abbrev pub BetweenLaw : Type 0
 BetweenLaw = (set : Set) (names : List (List ℕ)) (between : Between) (state : State) (rest : List ℕ)
-    → judge_mark set names (is_first between) (is_configured between) state rest ≡ judge_found None (judge_step set names state) (between_found between rest)
+    → judge_mark set names (is_first between) (is_configured between) state rest ≡ judge_found None (judge_step set names state) rest (between_found between rest)
 
 abbrev pub NumberLaw : Type 0
 NumberLaw = (set : Set) (names : List (List ℕ)) (state : State) (image : Image) (k id : ℕ) (part : Option ℕ) (done c : ℕ) (kind : Kind) (capacities rest : List ℕ)
-    → judge_number set names state image k id part done c kind capacities rest ≡ judge_found (Some k) (put_number set names state image k id part done c kind capacities) (number_found kind rest)
+    → judge_number set names state image k id part done c kind capacities rest ≡ judge_found (Some k) (put_number set names state image k id part done c kind capacities) rest (number_found kind rest)
 
 abbrev pub ConstantLaw : Type 0
 ConstantLaw = (set : Set) (names : List (List ℕ)) (state : State) (d : Device) (image : Image) (k id : ℕ) (part : Option ℕ) (done : ℕ) (kind : Kind) (z : ℤ) (slots : List Slot) (rest : List ℕ)
-    → judge_slots set names state d image k id part done (Constant kind z ∷ slots) rest ≡ judge_found (Some k) (same_constant set names state k id part done kind z) (number_found kind rest)
+    → judge_slots set names state d image k id part done (Constant kind z ∷ slots) rest ≡ judge_found (Some k) (same_constant set names state k id part done kind z) rest (number_found kind rest)
 
 abbrev pub FillerLaw : Type 0
 FillerLaw = (set : Set) (names : List (List ℕ)) (state : State) (d : Device) (image : Image) (k id : ℕ) (part : Option ℕ) (done n : ℕ) (slots : List Slot) (rest : List ℕ)
     → judge_slots set names state d image k id part done (Filler (suc n) ∷ slots) rest
-    ≡ judge_found (Some k) (λ x. goes_to set names state (suc n) (Fields k id part (suc done))) (skip_found (suc n) rest)
+    ≡ judge_found (Some k) (λ x. goes_to set names state (suc n) (Fields k id part (suc done))) rest (skip_found (suc n) rest)
 
 abbrev pub AfterLaw : Type 0
 AfterLaw = (set : Set) (names : List (List ℕ)) (state : State) (d : Device) (image : Image) (k id : ℕ) (rest : List ℕ)
-    → judge_after set names state d image k id rest ≡ judge_found (Some k) (judge_behind set names state d image k id) (after_found id rest)
+    → judge_after set names state d image k id rest ≡ judge_found (Some k) (judge_behind set names state d image k id) rest (after_found id rest)
 
 abbrev pub TrailerLaw : Type 0
 TrailerLaw = (set : Set) (names : List (List ℕ)) (state : State) (rest : List ℕ)
-    → judge_trailer set names state rest ≡ judge_found None (judge_close state rest) (trailer_found rest)
+    → judge_trailer set names state rest ≡ judge_found None (judge_close state rest) rest (trailer_found rest)

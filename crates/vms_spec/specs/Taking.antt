@@ -19,11 +19,12 @@ pub record Progress : Type 0 where
   pub place : ℕ
   pub rest : List ℕ
 
--- where and why a body is refused, and how many bytes the unit at fault has
+-- where and why a body is refused, how many bytes the unit at fault has, and the bytes that are left from it on
 pub record Refusal : Type 0 where
   pub place : ℕ
   pub reason : Reason
   pub long : ℕ
+  pub rest : List ℕ
 
 -- what reading gives: the progress, or the first refusal
 abbrev pub Taken : Type 0
@@ -35,7 +36,7 @@ abbrev pub ◌>>=◌ : Taken → (Progress → Taken) → Taken
 (Err e) >>= f = Err e
 
 abbrev pub refuse : Progress → Reason → ℕ → Taken
-refuse p reason long = Err (record { place = p.place; reason = reason; long = long })
+refuse p reason long = Err (record { place = p.place; reason = reason; long = long; rest = p.rest })
 
 -- n bytes further, with these numbers
 abbrev pub on : ℕ → List ℤ → Progress → Taken
