@@ -22,6 +22,7 @@ pub mod FrameLaws
 pub mod HeadFound
 pub mod HeadLaws
 pub mod JudgeLaws
+pub mod LeftLaws
 pub mod Mirrors
 pub mod Names
 pub mod NormalFound
