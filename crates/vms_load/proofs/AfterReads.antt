@@ -39,16 +39,16 @@ module _ (set : Set) (names : List (List ℕ)) (state : State) (section : Sectio
   behind_it = judge_behind set names inner (device_at set section.device) image section.device section.id
 
   after_is : (place : ℕ) (rest : List ℕ) → after_fields set names state section part image place rest
-      ≡ reading_after (reading_on (judge set names)) place rest (judge_found (Some section.device) behind_it (after_found section.id rest))
+      ≡ reading_after (reading_on (judge set names)) place rest (judge_found (Some section.device) behind_it rest (after_found section.id rest))
   after_is place rest = ap (reading_after (reading_on (judge set names)) place rest) (after_holds set names inner (device_at set section.device) image section.device section.id rest)
 
-  pub after_fault : {Y : Type 0} (old left new : Option (List ℕ)) (next : Y → Onward) (place to : ℕ) (fault : FrameFault)
+  pub after_fault : {Y : Type 0} (old left : Option (List ℕ)) (next : Y → Onward) (place to : ℕ) (fault : FrameFault)
       → IfSome old (λ rest. Answers after_long (after_found section.id rest) place rest left (Err fault))
-      → IfSome old (λ rest. Reads (after_fields set names state section part image place rest) next place to rest new (Err (concerning (Some section.device) fault)))
-  after_fault None left new next place to fault a = tt
-  after_fault (Some rest) left new next place to fault a =
-      subst (λ (x : Option (Reading State)). Reads x next place to rest new (Err (concerning (Some section.device) fault))) (sym (after_is place rest))
-      (unit_fault (reading_on (judge set names)) (Some section.device) behind_it place rest (after_found section.id rest) left new next to fault a)
+      → IfSome old (λ rest. Reads (after_fields set names state section part image place rest) next place to rest left (Err (concerning (Some section.device) fault)))
+  after_fault None left next place to fault a = tt
+  after_fault (Some rest) left next place to fault a =
+      subst (λ (x : Option (Reading State)). Reads x next place to rest left (Err (concerning (Some section.device) fault))) (sym (after_is place rest))
+      (unit_fault (reading_on (judge set names)) (Some section.device) behind_it place rest (after_found section.id rest) left next to fault a)
 
   pub after_settled : (old left : Option (List ℕ)) (x : After) (place to : ℕ) (new : Image) (result : Result (Option Open) LoadFault)
       → IfSome old (λ rest. Answers after_long (after_found section.id rest) place rest left (Ok x)) → to ≡ place + after_long x
@@ -77,7 +77,7 @@ module _ (set : Set) (names : List (List ℕ)) (state : State) (section : Sectio
     sub_err : {X : Type 0} (place : ℕ) (o : Result ℕ Unfit) (e : LoadFault) (next : X → State) → Err e ≡ opened_at place o
         → Settles (sub_verdict set names inner image section.device section.id n v o) place next n (Err e)
     sub_err place (Ok i) e next h = cc
-    sub_err place (Err why) (faults.Refused r) next h = let same : faults.Refused r ≡ faults.Refused (record { section = why.section; at = place; reason = why.reason }) = cc in refusal_is r _ same
+    sub_err place (Err why) (faults.Refused r) next h = let same : faults.Refused r ≡ faults.Refused (record { section = why.section; at = place; reason = why.reason }) = cc in (refusal_is r _ same, refl)
     sub_err place (Err why) faults.ReadFault next h = cc
     sub_err place (Err why) faults.NoMemory next h = cc
 

@@ -1,5 +1,6 @@
 -- Readings of fields that go on.
-use Rattle.std.proofs.Common.{◌≡◌, ℕ, suc, ◌+◌, ◌*◌, List, ◌∷◌, length, take, slice_set, Option, Some, None, Result, Ok, Err, IfSome, OnOk, ℤ, refl, sym, ap, ◌∙◌, subst, arith, Bool, true, false, if◌then◌else◌, nat_lt}
+use Rattle.std.proofs.Common.{◌≡◌, ℕ, suc, ◌+◌, ◌*◌, ◌≤◌, List, ◌∷◌, length, take, slice_set, Option, Some, None, Result, Ok, Err, IfSome, OnOk, ℤ, refl, sym, ap, ◌∙◌, subst, arith, Bool, true, false, if◌then◌else◌, nat_lt}
+use Rattle.std.proofs.lemmas.List.{drop_all}
 use Rattle.vms_kinds.specs.declared.Kind.{Kind}
 use Rattle.vms_kinds.specs.Codes.{width, value_of}
 use Rattle.vms_kinds.specs.declared.Item.{Item}
@@ -23,8 +24,8 @@ module _ {X : Type 0} (long : X → ℕ) (f : X → List ℤ) (p : Progress) whe
   -- what a unit makes of the progress
   abbrev pub taken_by : Found X → Taken
   taken_by (Whole x) = on (long x) (f x) p
-  taken_by (Wrong n why) = refuse p why
-  taken_by Cut = refuse p reasons.Truncated
+  taken_by (Wrong n why) = refuse p why n
+  taken_by Cut = refuse p reasons.Truncated (length p.rest)
 
   choice : (b : Bool) (s t : Found X) → taken_by (if b then s else t) ≡ (if b then taken_by s else taken_by t)
   choice true s t = refl
@@ -35,8 +36,10 @@ module _ {X : Type 0} (long : X → ℕ) (f : X → List ℤ) (p : Progress) whe
 
   unit_err : (found : Found X) (n : List ℤ) (to : ℕ) (left : Option (List ℕ)) (e : FrameFault) → Answers long found p.place p.rest left (Err e) → TakesAs (taken_by found) n to left (Err e)
   unit_err (Whole x) n to left (faults.Refused place why) a = absurd a.1
-  unit_err (Wrong m reason) n to left (faults.Refused place why) a = (a.0, a.1.0)
-  unit_err Cut n to left (faults.Refused place why) a = (a.0, a.1.0)
+  unit_err (Wrong m reason) n to left (faults.Refused place why) a = (a.0, a.1.0, a.1.1)
+  unit_err Cut n to left (faults.Refused place why) a =
+      let enough : length p.rest ≤ length p.rest = omega arith in
+      (a.0, a.1.0, a.1.1 ∙ ap (λ (l : List ℕ). Some l) (sym (drop_all (length p.rest) p.rest enough)))
   unit_err (Whole x) n to left faults.ReadFault a = tt
   unit_err (Wrong m reason) n to left faults.ReadFault a = tt
   unit_err Cut n to left faults.ReadFault a = tt
@@ -52,9 +55,9 @@ number_is kind caps cell p =
     let last : Found ℤ = if many then Wrong w reasons.CountTooLarge else Whole v in
     let next : Found ℤ = if bad then Wrong w reasons.BadBool else last in
     choice long f p (nat_lt (length p.rest) w) Cut next
-    ∙ ap (λ (t : Taken). if nat_lt (length p.rest) w then refuse p reasons.Truncated else t)
+    ∙ ap (λ (t : Taken). if nat_lt (length p.rest) w then refuse p reasons.Truncated (length p.rest) else t)
     (choice long f p bad (Wrong w reasons.BadBool) last
-    ∙ ap (λ (t : Taken). if bad then refuse p reasons.BadBool else t) (choice long f p many (Wrong w reasons.CountTooLarge) (Whole v)))
+    ∙ ap (λ (t : Taken). if bad then refuse p reasons.BadBool w else t) (choice long f p many (Wrong w reasons.CountTooLarge) (Whole v)))
 
 constant_is : (kind : Kind) (z : ℤ) (p : Progress) → taken_by (λ x. width kind) (λ x. p.numbers) p (constant_found kind z p.rest) ≡ take_constant kind z p
 constant_is kind z p =
@@ -66,9 +69,9 @@ constant_is kind z p =
     let last : Found (Unit {0}) = if same then Whole tt else Wrong w reasons.NotEqual in
     let next : Found (Unit {0}) = if bad then Wrong w reasons.BadBool else last in
     choice long f p (nat_lt (length p.rest) w) Cut next
-    ∙ ap (λ (t : Taken). if nat_lt (length p.rest) w then refuse p reasons.Truncated else t)
+    ∙ ap (λ (t : Taken). if nat_lt (length p.rest) w then refuse p reasons.Truncated (length p.rest) else t)
     (choice long f p bad (Wrong w reasons.BadBool) last
-    ∙ ap (λ (t : Taken). if bad then refuse p reasons.BadBool else t) (choice long f p same (Whole tt) (Wrong w reasons.NotEqual)))
+    ∙ ap (λ (t : Taken). if bad then refuse p reasons.BadBool w else t) (choice long f p same (Whole tt) (Wrong w reasons.NotEqual)))
 
 module _ (left new : Option (List ℕ)) (at to : ℕ) (numbers : List ℤ) where
   abbrev from : List ℕ → Progress
@@ -120,19 +123,19 @@ module _ (left new : Option (List ℕ)) (at to : ℕ) (numbers : List ℤ) where
 
 -- ---- readings that go on
 
-refuses : (t part : Taken) (n n' : List ℤ) (to to' : ℕ) (l l' : Option (List ℕ)) (fault : FrameFault) → ((e : Refusal) → part ≡ Err e → t ≡ Err e) → TakesAs part n to l (Err fault) → TakesAs t n' to' l' (Err fault)
-refuses (Ok q) part n n' to to' l l' faults.ReadFault h a = tt
-refuses (Err e) part n n' to to' l l' faults.ReadFault h a = tt
-refuses t (Ok p) n n' to to' l l' (faults.Refused at why) h a = absurd a
-refuses t (Err e) n n' to to' l l' (faults.Refused at why) h a = subst (λ (u : Taken). TakesAs u n' to' l' (Err (faults.Refused at why))) (sym (h e refl)) a
+refuses : (t part : Taken) (n n' : List ℤ) (to to' : ℕ) (l : Option (List ℕ)) (fault : FrameFault) → ((e : Refusal) → part ≡ Err e → t ≡ Err e) → TakesAs part n to l (Err fault) → TakesAs t n' to' l (Err fault)
+refuses (Ok q) part n n' to to' l faults.ReadFault h a = tt
+refuses (Err e) part n n' to to' l faults.ReadFault h a = tt
+refuses t (Ok p) n n' to to' l (faults.Refused at why) h a = absurd a
+refuses t (Err e) n n' to to' l (faults.Refused at why) h a = subst (λ (u : Taken). TakesAs u n' to' l (Err (faults.Refused at why))) (sym (h e refl)) a
 
 -- a part that refuses is the whole's refusal
-pub stops : (initial left : Option (List ℕ)) (whole from' part : List ℕ → Taken) (n n' : List ℤ) (to to' : ℕ) (l l' : Option (List ℕ)) (fault : FrameFault)
+pub stops : (initial left : Option (List ℕ)) (whole from' part : List ℕ → Taken) (n n' : List ℤ) (to to' : ℕ) (l : Option (List ℕ)) (fault : FrameFault)
     → GoesOn initial whole left from' → ((rest : List ℕ) (e : Refusal) → part rest ≡ Err e → from' rest ≡ Err e)
-    → IfSome left (λ rest. TakesAs (part rest) n to l (Err fault)) → IfSome initial (λ input. TakesAs (whole input) n' to' l' (Err fault))
-stops None left whole from' part n n' to to' l l' fault g h a = tt
-stops (Some input) None whole from' part n n' to to' l l' fault g h a = absurd g
-stops (Some input) (Some rest) whole from' part n n' to to' l l' fault g h a = refuses (whole input) (part rest) n n' to to' l l' fault (λ e same. sym g ∙ h rest e same) a
+    → IfSome left (λ rest. TakesAs (part rest) n to l (Err fault)) → IfSome initial (λ input. TakesAs (whole input) n' to' l (Err fault))
+stops None left whole from' part n n' to to' l fault g h a = tt
+stops (Some input) None whole from' part n n' to to' l fault g h a = absurd g
+stops (Some input) (Some rest) whole from' part n n' to to' l fault g h a = refuses (whole input) (part rest) n n' to to' l fault (λ e same. sym g ∙ h rest e same) a
 
 onward : (t part : Taken) (n : List ℤ) (to : ℕ) (l : Option (List ℕ)) (next : List ℕ → Taken) → ((p : Progress) → part ≡ Ok p → p.numbers ≡ n → p.place ≡ to → next p.rest ≡ t) → TakesAs part n to l (Ok tt)
     → (rest : List ℕ) × (l ≡ Some rest) × (next rest ≡ t)
@@ -206,12 +209,12 @@ module _ (ts : List Taker) (d : Desc) (v base : ℕ) where
   ruled (Err e) n to l a h = absurd a
   ruled (Ok p) n to l a h = subst (λ (b : Bool). TakesAs (take_rule b p) n to l (Ok tt)) (sym (ap holds_of (sym a.0) ∙ h)) a
 
-  broken : (t : Taken) (n n' : List ℤ) (to to' : ℕ) (l l' : Option (List ℕ)) → TakesAs t n to l (Ok tt) → holds_of n ≡ false → TakesAs (t >>= check_rules ts d v base) n' to' l' (Err (faults.Refused to reasons.Invalid))
-  broken (Err e) n n' to to' l l' a h = absurd a
-  broken (Ok p) n n' to to' l l' a h = subst (λ (b : Bool). TakesAs (take_rule b p) n' to' l' (Err (faults.Refused to reasons.Invalid))) (sym (ap holds_of (sym a.0) ∙ h)) (a.1, refl)
+  broken : (t : Taken) (n n' : List ℤ) (to to' : ℕ) (l : Option (List ℕ)) → TakesAs t n to l (Ok tt) → holds_of n ≡ false → TakesAs (t >>= check_rules ts d v base) n' to' l (Err (faults.Refused to reasons.Invalid))
+  broken (Err e) n n' to to' l a h = absurd a
+  broken (Ok p) n n' to to' l a h = subst (λ (b : Bool). TakesAs (take_rule b p) n' to' l (Err (faults.Refused to reasons.Invalid))) (sym (ap holds_of (sym a.0) ∙ h)) (a.1, refl, a.2)
 
-  cut : (t : Taken) (n n' : List ℤ) (to to' : ℕ) (l l' : Option (List ℕ)) (fault : FrameFault) → TakesAs t n to l (Err fault) → TakesAs (t >>= check_rules ts d v base) n' to' l' (Err fault)
-  cut t n n' to to' l l' fault a = refuses (t >>= check_rules ts d v base) t n n' to to' l l' fault (λ e same. ap (λ (t : Taken). t >>= check_rules ts d v base) same) a
+  cut : (t : Taken) (n n' : List ℤ) (to to' : ℕ) (l : Option (List ℕ)) (fault : FrameFault) → TakesAs t n to l (Err fault) → TakesAs (t >>= check_rules ts d v base) n' to' l (Err fault)
+  cut t n n' to to' l fault a = refuses (t >>= check_rules ts d v base) t n n' to to' l fault (λ e same. ap (λ (t : Taken). t >>= check_rules ts d v base) same) a
 
   module _ (left : Option (List ℕ)) (numbers : List ℤ) (at : ℕ) where
     abbrev fields_taken : List ℕ → Taken
@@ -226,16 +229,16 @@ module _ (ts : List Taker) (d : Desc) (v base : ℕ) where
       by_left None a = tt
       by_left (Some rest) a = subst (λ (t : Taken). TakesAs t n to l (Ok tt)) (sym (whole_is (record { numbers = numbers; place = at; rest = rest }))) (ruled (fields_taken rest) n to l a h)
 
-    pub body_broken : (n n' : List ℤ) (to to' : ℕ) (l l' : Option (List ℕ)) → IfSome left (λ rest. TakesAs (fields_taken rest) n to l (Ok tt)) → holds_of n ≡ false
-        → IfSome left (λ rest. TakesAs (desc_taken rest) n' to' l' (Err (faults.Refused to reasons.Invalid)))
-    body_broken n n' to to' l l' a h = by_left left a where
-      by_left : (left : Option (List ℕ)) → IfSome left (λ rest. TakesAs (fields_taken rest) n to l (Ok tt)) → IfSome left (λ rest. TakesAs (desc_taken rest) n' to' l' (Err (faults.Refused to reasons.Invalid)))
+    pub body_broken : (n n' : List ℤ) (to to' : ℕ) (l : Option (List ℕ)) → IfSome left (λ rest. TakesAs (fields_taken rest) n to l (Ok tt)) → holds_of n ≡ false
+        → IfSome left (λ rest. TakesAs (desc_taken rest) n' to' l (Err (faults.Refused to reasons.Invalid)))
+    body_broken n n' to to' l a h = by_left left a where
+      by_left : (left : Option (List ℕ)) → IfSome left (λ rest. TakesAs (fields_taken rest) n to l (Ok tt)) → IfSome left (λ rest. TakesAs (desc_taken rest) n' to' l (Err (faults.Refused to reasons.Invalid)))
       by_left None a = tt
       by_left (Some rest) a =
-          subst (λ (t : Taken). TakesAs t n' to' l' (Err (faults.Refused to reasons.Invalid))) (sym (whole_is (record { numbers = numbers; place = at; rest = rest }))) (broken (fields_taken rest) n n' to to' l l' a h)
+          subst (λ (t : Taken). TakesAs t n' to' l (Err (faults.Refused to reasons.Invalid))) (sym (whole_is (record { numbers = numbers; place = at; rest = rest }))) (broken (fields_taken rest) n n' to to' l a h)
 
-    pub body_cut : (n n' : List ℤ) (to to' : ℕ) (l l' : Option (List ℕ)) (fault : FrameFault) → IfSome left (λ rest. TakesAs (fields_taken rest) n to l (Err fault)) → IfSome left (λ rest. TakesAs (desc_taken rest) n' to' l' (Err fault))
-    body_cut n n' to to' l l' fault a = by_left left a where
-      by_left : (left : Option (List ℕ)) → IfSome left (λ rest. TakesAs (fields_taken rest) n to l (Err fault)) → IfSome left (λ rest. TakesAs (desc_taken rest) n' to' l' (Err fault))
+    pub body_cut : (n n' : List ℤ) (to to' : ℕ) (l : Option (List ℕ)) (fault : FrameFault) → IfSome left (λ rest. TakesAs (fields_taken rest) n to l (Err fault)) → IfSome left (λ rest. TakesAs (desc_taken rest) n' to' l (Err fault))
+    body_cut n n' to to' l fault a = by_left left a where
+      by_left : (left : Option (List ℕ)) → IfSome left (λ rest. TakesAs (fields_taken rest) n to l (Err fault)) → IfSome left (λ rest. TakesAs (desc_taken rest) n' to' l (Err fault))
       by_left None a = tt
-      by_left (Some rest) a = subst (λ (t : Taken). TakesAs t n' to' l' (Err fault)) (sym (whole_is (record { numbers = numbers; place = at; rest = rest }))) (cut (fields_taken rest) n n' to to' l l' fault a)
+      by_left (Some rest) a = subst (λ (t : Taken). TakesAs t n' to' l (Err fault)) (sym (whole_is (record { numbers = numbers; place = at; rest = rest }))) (cut (fields_taken rest) n n' to to' l fault a)

@@ -61,10 +61,10 @@ module _ (set : Set) (came : List Bool) (name : List ℕ) (instance v : ℕ) whe
 module _ (set : Set) (names : List (List ℕ)) (state : State) (n id v : ℕ) where
   abbrev pub section_verdict : Result ℕ Unfit → Verdict State
   section_verdict (Ok k) = Goes n (opened set state k id (device_at set k) v)
-  section_verdict (Err why) = Faulty why.section why.reason
+  section_verdict (Err why) = Faulty why.section why.reason n
 
   by_reasons : (k : ℕ) (d : Device) (a b c : Bool) (good : Verdict State) → section_verdict (Ok k) ≡ good
-      → (if a then Faulty (Some k) reasons.RepeatedSection else (if b then Faulty (Some k) reasons.TooNew else (if c then Faulty (Some k) reasons.TooOld else good)))
+      → (if a then Faulty (Some k) reasons.RepeatedSection n else (if b then Faulty (Some k) reasons.TooNew n else (if c then Faulty (Some k) reasons.TooOld n else good)))
       ≡ section_verdict (opened_unless (Some k) k (if a then Some reasons.RepeatedSection else (if b then Some reasons.TooNew else (if c then Some reasons.TooOld else None))))
   by_reasons k d true b c good e = refl
   by_reasons k d false true c good e = refl
@@ -107,10 +107,10 @@ module _ (k : ℕ) (d : Device) (came : List (Option ℕ)) (name : List ℕ) (v 
 module _ (set : Set) (names : List (List ℕ)) (state : State) (image : Image) (k id n v : ℕ) where
   abbrev pub sub_verdict : Result ℕ Unfit → Verdict State
   sub_verdict (Ok j) = Goes n (sub_state state image k id j v)
-  sub_verdict (Err why) = Faulty why.section why.reason
+  sub_verdict (Err why) = Faulty why.section why.reason n
 
   by_sub_reasons : (j : ℕ) (a b c : Bool)
-      → (if a then Faulty (Some k) reasons.TooNew else (if b then Faulty (Some k) reasons.TooOld else (if c then Faulty (Some k) reasons.RepeatedSubsection else Goes n (sub_state state image k id j v))))
+      → (if a then Faulty (Some k) reasons.TooNew n else (if b then Faulty (Some k) reasons.TooOld n else (if c then Faulty (Some k) reasons.RepeatedSubsection n else Goes n (sub_state state image k id j v))))
       ≡ sub_verdict (opened_unless (Some k) j (if a then Some reasons.TooNew else (if b then Some reasons.TooOld else (if c then Some reasons.RepeatedSubsection else None))))
   by_sub_reasons j true b c = refl
   by_sub_reasons j false true c = refl

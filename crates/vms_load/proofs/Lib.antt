@@ -3,10 +3,8 @@ pub mod BodyLemmas
 pub mod Bounding
 pub mod Counting
 pub mod Fronts
-pub mod HeadLeaving
 pub mod HeadLemmas
 pub mod Kept
-pub mod Leaving
 pub mod LoadReads
 pub mod OpenedReads
 pub mod PartReads
@@ -17,5 +15,4 @@ pub mod Spending
 pub mod StagedLemmas
 pub mod StreamReads
 pub mod TurnReads
-pub mod UnitsLong
 pub mod Walking

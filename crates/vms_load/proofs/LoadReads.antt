@@ -1,5 +1,5 @@
 -- What a load answers, by what the judge reads.
-use Rattle.std.proofs.Common.{◌≡◌, ℕ, List, Option, Some, None, Ok, Err, IfSome, refl, sym, ap, ◌∙◌, subst}
+use Rattle.std.proofs.Common.{◌≡◌, ℕ, ◌+◌, List, drop, Option, Some, None, Ok, Err, IfSome, refl, sym, ap, ◌∙◌, subst}
 use Rattle.vms_spec.specs.Numbers.{IsBytes}
 use Rattle.vms_spec.specs.Sets.{Set}
 use Rattle.vms_spec.specs.Images.{Image}
@@ -8,6 +8,7 @@ use Rattle.vms_spec.specs.Readings.{Reading, Accepted, Refused}
 use Rattle.vms_spec.specs.Judging.{State, reading}
 use Rattle.vms_laws.specs.Good.{IsGood}
 use Rattle.vms_laws.proofs.Stated.{found_holds, refused_holds}
+use Rattle.vms_frames.specs.declared.fault.Refusal.{Refusal}
 use Rattle.vms_load.specs.Loads.{Loads}
 use Rattle.vms_load.specs.Staging.{ReadsAll, name_of}
 use Rattle.vms_load.specs.declared.fault.LoadFault.{LoadFault}
@@ -22,16 +23,19 @@ module _ (set : Set) (names : List (List ℕ)) (good : IsGood set) (staged : Sta
             (subst (λ (o : Option (List ℕ)). Takes set names input n o staged.images.items) h.1 (subst (λ (l : List Image). Takes set names input n end.machine l) h.2 takes)),
         h.3,
       )
-  taken_by taken (Some (Refused place section reason)) e h = absurd h
+  taken_by taken (Some (Refused place section reason long)) e h = absurd h
   taken_by taken None e h = absurd h
 
   refused_by : (images : List Image) (taken : ℕ) (fault : LoadFault) (x : Option (Reading State)) → reading set names input ≡ x → ReadsAll set x staged input left (Err fault) → Loads set names input left images taken (Err fault)
-  refused_by images taken (faults.Refused r) (Some (Refused place section reason)) e h =
-      refused_holds set names good input ok r.at r.section r.reason (e ∙ ap (λ (y : _). Some (Refused y.at y.section y.reason)) (sym h))
+  refused_by images taken (faults.Refused r) (Some (Refused place section reason long)) e h = (
+    long,
+    refused_holds set names good input ok r.at r.section r.reason long (e ∙ ap (λ (y : _). Some (Refused y.at y.section y.reason long)) (sym h.0)),
+    h.1 ∙ ap (λ (y : Refusal). Some (drop (y.at + long) input)) (sym h.0),
+  )
   refused_by images taken (faults.Refused r) (Some (Accepted n end)) e h = absurd h
   refused_by images taken (faults.Refused r) None e h = absurd h
   refused_by images taken faults.ReadFault x e h = tt
-  refused_by images taken faults.NoMemory (Some (Refused place section reason)) e h = absurd h
+  refused_by images taken faults.NoMemory (Some (Refused place section reason long)) e h = absurd h
   refused_by images taken faults.NoMemory (Some (Accepted n end)) e h = absurd h
   refused_by images taken faults.NoMemory None e h = absurd h
 

@@ -1,5 +1,5 @@
 -- The section of a head, as the judge reads it.
-use Rattle.std.proofs.Common.{◌≡◌, ℕ, ◌+◌, List, length, slice_set, Option, Some, None, Bool, true, Result, Ok, Err, IfSome, refl, sym, ap, ◌∙◌, subst}
+use Rattle.std.proofs.Common.{◌≡◌, ℕ, ◌+◌, List, length, drop, slice_set, Option, Some, None, Bool, true, Result, Ok, Err, IfSome, refl, sym, ap, ◌∙◌, subst}
 use Rattle.vms_spec.specs.Sets.{Set}
 use Rattle.vms_spec.specs.Images.{Image}
 use Rattle.vms_spec.specs.Readings.{Verdict, Reading}
@@ -18,8 +18,7 @@ use Rattle.vms_load.specs.Staging.{image_at}
 use Rattle.vms_load.specs.declared.fault.LoadFault.{LoadFault}
 use Rattle.vms_load.specs.declared.fault.LoadFault.TheVariants as faults
 use Rattle.vms_load.proofs.HeadLemmas.{section_verdict, section_judged}
-use Rattle.vms_load.proofs.ReadLemmas.{IsLong}
-use Rattle.vms_spec.specs.Readings.{Refused}
+use Rattle.vms_load.proofs.ReadLemmas.{IsLong, refused_here}
 
 refusal_is : (r s : Refusal) → faults.Refused r ≡ faults.Refused s → r ≡ s
 refusal_is r s e = cc
@@ -28,14 +27,13 @@ module _ (set : Set) (names : List (List ℕ)) (state : State) where
   abbrev go : State → Onward
   go = reading_on (judge set names)
 
-  refuses : {X : Type 0} (n id v place to end : ℕ) (rest : List ℕ) (left : Option (List ℕ)) (next : X → Onward) (o : Result ℕ Unfit) (e : LoadFault) → Err e ≡ opened_at place o
-      → Reads (behind go place (section_verdict set names state n id v o) to rest) next to end rest left (Err e)
-  refuses n id v place to end rest left next (Ok k) e h = cc
-  refuses n id v place to end rest left next (Err why) (faults.Refused r) h =
-      let same = refusal_is r (record { section = why.section; at = place; reason = why.reason }) cc in
-      ap (λ (x : Refusal). Some (Refused x.at x.section x.reason)) (sym same)
-  refuses n id v place to end rest left next (Err why) faults.ReadFault h = cc
-  refuses n id v place to end rest left next (Err why) faults.NoMemory h = cc
+  refuses : {X : Type 0} (n id v place to end : ℕ) (bytes rest : List ℕ) (left : Option (List ℕ)) (next : X → Onward) (o : Result ℕ Unfit) (e : LoadFault) → Err e ≡ opened_at place o → left ≡ Some (drop n bytes)
+      → Reads (behind go place (section_verdict set names state n id v o) to rest) next place end bytes left (Err e)
+  refuses n id v place to end bytes rest left next (Ok k) e h is = cc
+  refuses n id v place to end bytes rest left next (Err why) (faults.Refused r) h is =
+      refused_here place bytes left why.section why.reason n r (refusal_is r (record { section = why.section; at = place; reason = why.reason }) cc) is
+  refuses n id v place to end bytes rest left next (Err why) faults.ReadFault h is = cc
+  refuses n id v place to end bytes rest left next (Err why) faults.NoMemory h is = cc
 
   abbrev pub begun : ℕ → State
   begun k = record state { came = slice_set state.came k true }
@@ -58,13 +56,13 @@ module _ (set : Set) (names : List (List ℕ)) (state : State) where
       by_opened (Err why) = tt
 
   -- a head that opens no section
-  pub section_refused : {X : Type 0} (head : Head) (place to end : ℕ) (old left : Option (List ℕ)) (next : X → Onward) (e : LoadFault)
-      → Err e ≡ opened_at place (section_opened set state.came head.name.items head.instance head.version)
-      → IfSome old (λ rest. Reads (behind go place (judge_section set names state head) to rest) next to end rest left (Err e))
-  section_refused head place to end None left next e h = tt
-  section_refused head place to end (Some rest) left next e h =
-      subst (λ (v : Verdict State). Reads (behind go place v to rest) next to end rest left (Err e)) (sym (section_judged set names state head))
-      (refuses (14 + length head.name.items) head.id head.version place to end rest left next (section_opened set state.came head.name.items head.instance head.version) e h)
+  pub section_refused : {X : Type 0} (head : Head) (place to end : ℕ) (bytes : List ℕ) (left : Option (List ℕ)) (next : X → Onward) (e : LoadFault)
+      → Err e ≡ opened_at place (section_opened set state.came head.name.items head.instance head.version) → left ≡ Some (drop (14 + length head.name.items) bytes)
+      → Reads (behind go place (judge_section set names state head) to (drop (14 + length head.name.items) bytes)) next place end bytes left (Err e)
+  section_refused head place to end bytes left next e h is =
+      let n = 14 + length head.name.items in
+      subst (λ (v : Verdict State). Reads (behind go place v to (drop n bytes)) next place end bytes left (Err e)) (sym (section_judged set names state head))
+      (refuses n head.id head.version place to end bytes (drop n bytes) left next (section_opened set state.came head.name.items head.instance head.version) e h is)
 
   -- the section of a head that opens one
   pub section_reads : (head : Head) (k place to end : ℕ) (image new : Image) (final : State) (old left : Option (List ℕ)) (result : Result (Unit {0}) LoadFault)

@@ -1,5 +1,6 @@
 -- What a reader of a part takes is what the judge reads there.
-use Rattle.std.proofs.Common.{◌≡◌, ℕ, ◌-◌, ◌<◌, List, length, drop, drop_at, Option, Some, None, Result, Ok, Err, IfSome, ℤ, refl, sym, ap, ◌∙◌, subst, arith}
+use Rattle.std.proofs.lemmas.List.{drop-drop}
+use Rattle.std.proofs.Common.{◌≡◌, ℕ, ◌+◌, ◌-◌, ◌<◌, List, length, drop, Option, Some, None, Result, Ok, Err, IfSome, ℤ, refl, sym, ap, ◌∙◌, subst, arith}
 use Rattle.vms_spec.specs.Numbers.{IsBytes}
 use Rattle.vms_spec.specs.declared.Reason.{Reason}
 use Rattle.vms_spec.specs.Lists.{at}
@@ -13,7 +14,7 @@ use Rattle.vms_laws.specs.Good.{IsGood}
 use Rattle.vms_laws.specs.Sound.{IsSound}
 use Rattle.vms_laws.specs.Cells.{AreCells}
 use Rattle.vms_laws.proofs.BodyLaws.{body_read, body_slots, read_body}
-use Rattle.vms_laws.proofs.FoundLaws.{body_found}
+use Rattle.vms_laws.proofs.LeftLaws.{Leaves, desc_leaves}
 use Rattle.vms_laws.proofs.PartLaws.{sub_are}
 use Rattle.vms_laws.proofs.SectionLaws.{own_are}
 use Rattle.vms_parts.specs.Devices.{device_at}
@@ -73,49 +74,53 @@ module _ (set : Set) (good : IsGood set) (section : Section) (here : section.dev
         body_read set names state device image section.device section.id sub there room good.structs (part_desc device sub) v (part_base set device sub) (part_sound sub (open_in device image sub v open'))
         (slots_are sub open') (start place rest)
 
-    -- what was taken stood at the front
-    front_taken : IsIn device sub → length image.numbers ≡ length (device_cells set device) → (place : ℕ) (rest : List ℕ) (q : Progress) → IsBytes rest → taken place rest ≡ Ok q → q.rest ≡ drop (q.place - place) rest
-    front_taken inside long place rest q ok e =
-        let b = body_found (device_cells set device) set.structs good.structs (part_desc device sub) v (part_base set device sub) (start place rest) q (part_sound sub inside) ok (omega (arith, long)) (part_are sub inside) e in
-        let n : length b.bytes ≡ q.place - place = omega (arith, b.place) in
-        sym (ap (λ (l : List ℕ). drop (q.place - place) l) b.front ∙ drop_at b.bytes q.rest (q.place - place) n)
+    -- what is left behind what was taken, or from the unit at fault on
+    front_left : IsIn device sub → (place : ℕ) (rest : List ℕ) (t : Taken) → taken place rest ≡ t → Leaves place rest t
+    front_left inside place rest t e = subst (λ (t : Taken). Leaves place rest t) e (desc_leaves set.structs good.structs (part_desc device sub) v (part_base set device sub) (start place rest) (part_sound sub inside))
 
-    by_taken : IsIn device sub → length image.numbers ≡ length (device_cells set device) → (place : ℕ) (rest : List ℕ) → IsBytes rest → (numbers : List ℤ) (to : ℕ) (left : Option (List ℕ)) (result : Result (Unit {0}) FrameFault)
+    by_taken : IsIn device sub → (place : ℕ) (rest : List ℕ) (numbers : List ℤ) (to : ℕ) (left : Option (List ℕ)) (result : Result (Unit {0}) FrameFault)
         → (t : Taken) → taken place rest ≡ t → TakesAs t numbers to left result
         → Reads (read_body set names state device image section.device section.id sub t) (λ _. after_fields set names state section sub (record image { numbers = numbers })) place to rest left (concerns (Some section.device) result)
-    by_taken inside long place rest ok numbers to left (Ok x) (Ok q) e h =
+    by_taken inside place rest numbers to left (Ok x) (Ok q) e h =
         let P : Option (List ℕ) → Type 0 = λ l. Reads {X = Unit {0}} (read_body set names state device image section.device section.id sub (Ok q)) (λ _. after_fields set names state section sub (record image { numbers = numbers })) place to rest l (Ok x) in
         subst P (sym h.2) (
           ap (λ (n : List ℤ). after_fields set names state section sub (record image { numbers = n }) q.place q.rest) (sym h.0)
               ∙ ap (λ (p : ℕ). after_fields set names state section sub (record image { numbers = numbers }) p q.rest) (sym h.1),
-          front_taken inside long place rest q ok e ∙ ap (λ (p : ℕ). drop (p - place) rest) (sym h.1),
+          (front_left inside place rest (Ok q) e).is ∙ ap (λ (p : ℕ). drop (p - place) rest) (sym h.1),
         )
-    by_taken inside long place rest ok numbers to left (Ok x) (Err r) e h = absurd h
-    by_taken inside long place rest ok numbers to left (Err (frames.Refused p reason)) (Ok q) e h = absurd h
-    by_taken inside long place rest ok numbers to left (Err (frames.Refused p reason)) (Err r) e h =
-        ap (λ (n : ℕ). Some (Refused n (Some section.device) r.reason)) (sym h.0) ∙ ap (λ (w : Reason). Some (Refused p (Some section.device) w)) (sym h.1)
-    by_taken inside long place rest ok numbers to left (Err frames.ReadFault) t e h = tt
+    by_taken inside place rest numbers to left (Ok x) (Err r) e h = absurd h
+    by_taken inside place rest numbers to left (Err (frames.Refused p reason)) (Ok q) e h = absurd h
+    by_taken inside place rest numbers to left (Err (frames.Refused p reason)) (Err r) e h =
+        let l = front_left inside place rest (Err r) e in
+        let same : r.place - place + r.long ≡ p - place + r.long = omega (arith, h.0) in
+        record {
+          long = r.long;
+          is = ap (λ (n : ℕ). Some (Refused n (Some section.device) r.reason r.long)) (sym h.0) ∙ ap (λ (w : Reason). Some (Refused p (Some section.device) w r.long)) (sym h.1);
+          from = omega (arith, l.from, h.0);
+          taken = h.2 ∙ ap (λ (b : List ℕ). Some (drop r.long b)) l.is ∙ ap (λ (b : List ℕ). Some b) (drop-drop r.long (r.place - place) rest ∙ ap (λ (k : ℕ). drop k rest) same);
+        }
+    by_taken inside place rest numbers to left (Err frames.ReadFault) t e h = tt
 
     -- the fields of a part are read as they are taken
-    pub fields_read : section.device < length state.images → IsOpen device image sub v → length image.numbers ≡ length (device_cells set device) → (place : ℕ) (numbers : List ℤ) (new : Image) (to : ℕ)
-        (old left : Option (List ℕ)) (result : Result (Unit {0}) FrameFault) → IfSome old IsBytes → new ≡ record image { numbers = numbers }
+    pub fields_read : section.device < length state.images → IsOpen device image sub v → (place : ℕ) (numbers : List ℤ) (new : Image) (to : ℕ)
+        (old left : Option (List ℕ)) (result : Result (Unit {0}) FrameFault) → new ≡ record image { numbers = numbers }
         → IfSome old (λ rest. TakesAs (taken place rest) numbers to left result)
         → IfSome old (λ rest. Reads (in_fields set names state section sub image place rest) (λ _. after_fields set names state section sub new) place to rest left (concerns (Some section.device) result))
-    fields_read room open' long place numbers new to None left result ok is h = tt
-    fields_read room open' long place numbers new to (Some rest) left result ok is h =
+    fields_read room open' place numbers new to None left result is h = tt
+    fields_read room open' place numbers new to (Some rest) left result is h =
         subst (λ (x : Image). Reads (in_fields set names state section sub image place rest) (λ _. after_fields set names state section sub x) place to rest left (concerns (Some section.device) result)) (sym is)
         (subst (λ (x : Option (Reading State)). Reads x (λ _. after_fields set names state section sub (record image { numbers = numbers })) place to rest left (concerns (Some section.device) result)) (sym (fields_are room open' place rest))
-        (by_taken (open_in device image sub v open') long place rest ok numbers to left result (taken place rest) refl h))
+        (by_taken (open_in device image sub v open') place rest numbers to left result (taken place rest) refl h))
 
     -- the same by what the code has of the set
     pub fields_answer : (d : Desc) (base : ℕ) → d ≡ part_desc device sub → base ≡ part_base set device sub
-        → section.device < length state.images → IsOpen device image sub v → length image.numbers ≡ length (device_cells set device) → (place : ℕ) (numbers : List ℤ) (new : Image) (to : ℕ)
-        (old left : Option (List ℕ)) (result : Result (Unit {0}) FrameFault) → IfSome old IsBytes → new ≡ record image { numbers = numbers }
+        → section.device < length state.images → IsOpen device image sub v → (place : ℕ) (numbers : List ℤ) (new : Image) (to : ℕ)
+        (old left : Option (List ℕ)) (result : Result (Unit {0}) FrameFault) → new ≡ record image { numbers = numbers }
         → IfSome old (λ rest. TakesAs (take_desc (takers set.structs (length set.structs)) d v base (start place rest)) numbers to left result)
         → IfSome old (λ rest. Reads (in_fields set names state section sub image place rest) (λ _. after_fields set names state section sub new) place to rest left (concerns (Some section.device) result))
-    fields_answer d base a b room open' long place numbers new to None left result ok is h = tt
-    fields_answer d base a b room open' long place numbers new to (Some rest) left result ok is h =
+    fields_answer d base a b room open' place numbers new to None left result is h = tt
+    fields_answer d base a b room open' place numbers new to (Some rest) left result is h =
         let same : take_desc (takers set.structs (length set.structs)) d v base (start place rest) ≡ taken place rest =
         ap (λ (x : Desc). take_desc (takers set.structs (length set.structs)) x v base (start place rest)) a
         ∙ ap (λ (m : ℕ). take_desc (takers set.structs (length set.structs)) (part_desc device sub) v m (start place rest)) b in
-        fields_read room open' long place numbers new to (Some rest) left result ok is (subst (λ (t : Taken). TakesAs t numbers to left result) same h)
+        fields_read room open' place numbers new to (Some rest) left result is (subst (λ (t : Taken). TakesAs t numbers to left result) same h)

@@ -1,5 +1,5 @@
 -- A whole stream, as the judge reads it.
-use Rattle.std.proofs.Common.{◌≡◌, ℕ, ◌+◌, ◌-◌, List, [], ◌∷◌, drop, Option, Some, None, Result, Ok, Err, IfSome, refl, sym, ap, ◌∙◌, subst, arith}
+use Rattle.std.proofs.Common.{◌≡◌, ℕ, ◌+◌, ◌-◌, ◌≤◌, List, [], ◌∷◌, drop, Option, Some, None, Result, Ok, Err, IfSome, refl, sym, ap, ◌∙◌, subst, arith}
 use Rattle.std.proofs.lemmas.List.{drop-drop}
 use Rattle.vms_spec.specs.Sets.{Set}
 use Rattle.vms_spec.specs.Readings.{Reading, Accepted, Refused, reading_after}
@@ -18,7 +18,7 @@ use Rattle.vms_load.specs.Staging.{state_of, ReadsAll}
 use Rattle.vms_load.specs.declared.fault.LoadFault.{LoadFault}
 use Rattle.vms_load.specs.declared.fault.LoadFault.TheVariants as faults
 use Rattle.vms_load.specs.declared.staged.Staged.{Staged}
-use Rattle.vms_load.proofs.ReadLemmas.{unit_fault}
+use Rattle.vms_load.proofs.ReadLemmas.{still_behind, unit_fault}
 
 -- the place behind the stream, or the fault of what follows the end mark
 abbrev pub closes_at : ℕ → Result (Unit {0}) FrameFault → Result ℕ LoadFault
@@ -39,22 +39,24 @@ module _ (set : Set) (names : List (List ℕ)) where
   all_fault : (x : Option (Reading State)) (staged : Staged) (input : List ℕ) (left : Option (List ℕ)) → ReadsAll set x staged input left (Err faults.ReadFault)
   all_fault None staged input left = tt
   all_fault (Some (Accepted n end)) staged input left = tt
-  all_fault (Some (Refused place section reason)) staged input left = tt
+  all_fault (Some (Refused place section reason long)) staged input left = tt
 
   -- a refusal is the whole's
-  pub all_refused : {X : Type 0} (x : Option (Reading State)) (staged : Staged) (input rest : List ℕ) (left new : Option (List ℕ)) (next : X → Onward) (place to : ℕ) (e : LoadFault)
-      → Reads x next place to rest new (Err e) → ReadsAll set x staged input left (Err e)
-  all_refused x staged input rest left new next place to (faults.Refused r) h = subst (λ (y : Option (Reading State)). ReadsAll set y staged input left (Err (faults.Refused r))) (sym h) refl
-  all_refused x staged input rest left new next place to faults.ReadFault h = all_fault x staged input left
-  all_refused x staged input rest left new next place to faults.NoMemory h = absurd h
+  pub all_refused : {X : Type 0} (x : Option (Reading State)) (staged : Staged) (input : List ℕ) (left : Option (List ℕ)) (next : X → Onward) (from to : ℕ) (e : LoadFault) → from ≡ 0
+      → Reads x next from to input left (Err e) → ReadsAll set x staged input left (Err e)
+  all_refused x staged input left next from to (faults.Refused r) zero h =
+      let all : r.at - from + h.long ≡ r.at + h.long = omega (arith, zero) in
+      subst (λ (y : Option (Reading State)). ReadsAll set y staged input left (Err (faults.Refused r))) (sym h.is) (refl, h.taken ∙ ap (λ (k : ℕ). Some (drop k input)) all)
+  all_refused x staged input left next from to faults.ReadFault zero h = all_fault x staged input left
+  all_refused x staged input left next from to faults.NoMemory zero h = absurd h
 
   -- the stream was refused before its end
-  pub refused_before : {X : Type 0} (staged : Staged) (state : State) (old left new : Option (List ℕ)) (next : X → Onward) (from to : ℕ) (e : LoadFault) → state ≡ at_start set → from ≡ 0
-      → IfSome old (λ rest. Reads (go state from rest) next from to rest new (Err e)) → IfSome old (λ input. ReadsAll set (reading set names input) staged input left (Err e))
-  refused_before staged state None left new next from to e is zero h = tt
-  refused_before staged state (Some input) left new next from to e is zero h =
-      all_refused (reading set names input) staged input input left new next from to e
-      (subst (λ (x : Option (Reading State)). Reads x next from to input new (Err e)) (ap (λ (s : State). go s from input) is ∙ ap (λ (n : ℕ). go (at_start set) n input) zero ∙ sym (whole_is input)) h)
+  pub refused_before : {X : Type 0} (staged : Staged) (state : State) (old left : Option (List ℕ)) (next : X → Onward) (from to : ℕ) (e : LoadFault) → state ≡ at_start set → from ≡ 0
+      → IfSome old (λ rest. Reads (go state from rest) next from to rest left (Err e)) → IfSome old (λ input. ReadsAll set (reading set names input) staged input left (Err e))
+  refused_before staged state None left next from to e is zero h = tt
+  refused_before staged state (Some input) left next from to e is zero h =
+      all_refused (reading set names input) staged input left next from to e zero
+      (subst (λ (x : Option (Reading State)). Reads x next from to input left (Err e)) (ap (λ (s : State). go s from input) is ∙ ap (λ (n : ℕ). go (at_start set) n input) zero ∙ sym (whole_is input)) h)
 
   module _ (staged : Staged) where
     abbrev ended : State
@@ -63,7 +65,7 @@ module _ (set : Set) (names : List (List ℕ)) where
     abbrev described' : State
     described' = state_of set staged Described
 
-    trailer_is : (place : ℕ) (rest : List ℕ) → go ended place rest ≡ reading_after go place rest (judge_found None (judge_close ended rest) (trailer_found rest))
+    trailer_is : (place : ℕ) (rest : List ℕ) → go ended place rest ≡ reading_after go place rest (judge_found None (judge_close ended rest) rest (trailer_found rest))
     trailer_is place rest = unit_of ended place rest ∙ ap (reading_after go place rest) (trailer_holds set names ended rest)
 
     accepts : (place n end : ℕ) (input rest : List ℕ) (left : Option (List ℕ)) (state : State) (x : Option (Reading State)) → x ≡ Some (Accepted (place + n) state) → state.machine ≡ ended.machine → state.images ≡ ended.images
@@ -73,7 +75,7 @@ module _ (set : Set) (names : List (List ℕ)) where
         (sym far, m, i, l ∙ ap (λ (r : List ℕ). Some (drop n r)) there ∙ ap (λ (r : List ℕ). Some r) (drop-drop n place input ∙ ap (λ (k : ℕ). drop k input) (sym far)))
 
     closed_by : (place end : ℕ) (input rest : List ℕ) (left : Option (List ℕ)) (result : Result (Unit {0}) FrameFault) (f : Found ℕ) → trailer_found rest ≡ f → rest ≡ drop place input → Closes f place end rest left result
-        → ReadsAll set (reading_after go place rest (judge_found None (judge_close ended rest) f)) staged input left (closes_at end result)
+        → ReadsAll set (reading_after go place rest (judge_found None (judge_close ended rest) rest f)) staged input left (closes_at end result)
     closed_by place end input [] left (Ok x) (Whole n) is there h =
         let none : 0 ≡ n = cc in
         let same : place ≡ place + n = omega (arith, none) in
@@ -83,7 +85,11 @@ module _ (set : Set) (names : List (List ℕ)) where
     closed_by place end input rest left (Ok x) (Wrong n why) is there h = absurd h
     closed_by place end input rest left (Ok x) Cut is there h = absurd h
     closed_by place end input rest left (Err fault) f is there h =
-        all_refused _ staged input rest left left (λ (x : Unit {0}). go ended) place end (concerning None fault) (unit_fault go None (judge_close ended rest) place rest f left left (λ (x : Unit {0}). go ended) end fault h)
+        let start : 0 ≤ place = omega arith in
+        let judged = reading_after go place rest (judge_found None (judge_close ended rest) rest f) in
+        all_refused judged staged input left (λ (x : Unit {0}). go ended) 0 end (concerning None fault) refl
+        (still_behind judged judged (λ (x : Unit {0}). go ended) (λ (x : Unit {0}). go ended) 0 place end end input rest left (concerning None fault) start there refl
+        (unit_fault go None (judge_close ended rest) place rest f left (λ (x : Unit {0}). go ended) end fault h))
 
     -- the stream ends here, or what follows its end mark is at fault
     pub closed : (start : State) (old mid left : Option (List ℕ)) (from to end : ℕ) (result : Result (Unit {0}) FrameFault) → start ≡ at_start set → from ≡ 0

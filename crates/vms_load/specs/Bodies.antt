@@ -1,5 +1,5 @@
 -- What the calls that read fields answer.
-use Rattle.std.specs.Prelude.{◌≡◌, ℕ, ◌+◌, ◌-◌, ◌≤◌, if◌then◌else◌, List, take, Option, Some, None, ℤ, Result, Ok, Err}
+use Rattle.std.specs.Prelude.{◌≡◌, ℕ, ◌+◌, ◌-◌, ◌≤◌, if◌then◌else◌, List, take, drop, Option, Some, None, ℤ, Result, Ok, Err}
 use Rattle.vms_io.specs.Causes.{capped}
 use Rattle.vms_kinds.specs.declared.Kind.{Kind}
 use Rattle.vms_kinds.specs.Codes.{width, value_of}
@@ -24,12 +24,13 @@ constant_found kind z rest = needs (width kind) rest (
     else if same_number (value_of kind (take (width kind) rest)) z then Whole tt
     else Wrong (width kind) reasons.NotEqual)
 
--- the call takes what the definition takes: at its end these are the numbers, the place and what is left
+-- the call takes what the definition takes: at its end these are the numbers, the place and what is left. At a fault exactly
+-- the bytes up to the end of the unit at fault were taken.
 abbrev pub TakesAs : Taken → List ℤ → ℕ → Option (List ℕ) → Result (Unit {0}) FrameFault → Type 0
 TakesAs (Ok p) numbers place left (Ok x) = (numbers ≡ p.numbers) × (place ≡ p.place) × (left ≡ Some p.rest)
 TakesAs (Ok p) numbers place left (Err (faults.Refused at reason)) = ⊥
 TakesAs (Err e) numbers place left (Ok x) = ⊥
-TakesAs (Err e) numbers place left (Err (faults.Refused at reason)) = (at ≡ e.place) × (reason ≡ e.reason)
+TakesAs (Err e) numbers place left (Err (faults.Refused at reason)) = (at ≡ e.place) × (reason ≡ e.reason) × (left ≡ Some (drop e.long e.rest))
 TakesAs taken numbers place left (Err faults.ReadFault) = Unit {0}
 
 -- what is left is taken from here on as the whole was from the start

@@ -2,7 +2,6 @@ pub mod Bodies
 pub mod Bounds
 pub mod Heads
 pub mod Kept
-pub mod Leaving
 pub mod Loads
 pub mod Parts
 pub mod Reads

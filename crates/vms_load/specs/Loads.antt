@@ -16,10 +16,10 @@ HasCause before now (Err faults.NoMemory) = ⊥
 HasCause before now _ = before ≤ now
 
 -- At Ok the input takes a stream of so many bytes, with this machine and these images, and exactly these bytes are taken. A
--- refusal is the fault of the input. `names` are the machines that are accepted.
+-- refusal is the fault of the input, and exactly the bytes up to the end of the unit at fault are taken. `names` are the machines that are accepted.
 abbrev pub Loads : Set → List (List ℕ) → List ℕ → Option (List ℕ) → List Image → ℕ → Result (Option ℕ) LoadFault → Type 0
 Loads set names input left images taken (Ok machine) = Takes set names input taken (name_of set machine) images × (left ≡ Some (drop taken input))
-Loads set names input left images taken (Err (faults.Refused r)) = Fault set names input r.at r.section r.reason
+Loads set names input left images taken (Err (faults.Refused r)) = (size : ℕ) × Fault set names input r.at r.section r.reason size × (left ≡ Some (drop (r.at + size) input))
 Loads set names input left images taken (Err faults.ReadFault) = Unit {0}
 Loads set names input left images taken (Err faults.NoMemory) = ⊥
 

@@ -4,6 +4,7 @@ use Rattle.vms_io.specs.Causes.{capped}
 use Rattle.vms_spec.specs.Readings.{Verdict, Goes, Faulty, Over, Reading, Accepted, Refused}
 use Rattle.vms_spec.specs.Judging.{State}
 use Rattle.vms_frames.specs.declared.fault.FrameFault.{FrameFault}
+use Rattle.vms_frames.specs.declared.fault.Refusal.{Refusal}
 use Rattle.vms_frames.specs.declared.fault.FrameFault.TheVariants as frames
 use Rattle.vms_load.specs.declared.fault.LoadFault.{LoadFault}
 use Rattle.vms_load.specs.declared.fault.LoadFault.TheVariants as faults
@@ -15,7 +16,7 @@ Onward = ℕ → List ℕ → Option (Reading State)
 -- behind a unit that begins at a place, by the judge's verdict on it
 abbrev pub behind : (State → Onward) → ℕ → Verdict State → Onward
 behind go at (Goes n next) to left = go next to left
-behind go at (Faulty section reason) to left = Some (Refused at section reason)
+behind go at (Faulty section reason long) to left = Some (Refused at section reason long)
 behind go at (Over end) to left = Some (Accepted at end)
 
 -- the reading goes on so from this place, and all bytes before it were taken
@@ -23,17 +24,29 @@ abbrev pub Leads : Option (Reading State) → Onward → ℕ → ℕ → List �
 Leads reading next at to rest None = ⊥
 Leads reading next at to rest (Some left) = (reading ≡ next to left) × (left ≡ drop (to - at) rest)
 
+-- the reading ends with this refusal, of a unit of so many bytes, and exactly the bytes up to the end of this unit were taken
+pub record Refuses (reading : Option (Reading State)) (at : ℕ) (rest : List ℕ) (left : Option (List ℕ)) (r : Refusal) : Type 0 where
+  pub long : ℕ
+  pub is : reading ≡ Some (Refused r.at r.section r.reason long)
+  pub from : at ≤ r.at
+  pub taken : left ≡ Some (drop (r.at - at + long) rest)
+
 -- the reading goes on so by what the call answers, or is refused so
 abbrev pub Reads : {X : Type 0} → Option (Reading State) → (X → Onward) → ℕ → ℕ → List ℕ → Option (List ℕ) → Result X LoadFault → Type 0
 Reads reading next at to rest left (Ok x) = Leads reading (next x) at to rest left
-Reads reading next at to rest left (Err (faults.Refused r)) = reading ≡ Some (Refused r.at r.section r.reason)
+Reads reading next at to rest left (Err (faults.Refused r)) = Refuses reading at rest left r
 Reads reading next at to rest left (Err faults.ReadFault) = Unit {0}
 Reads reading next at to rest left (Err faults.NoMemory) = ⊥
 
--- a whole unit of n bytes at a place is judged: the reading goes on in a state, or there is a fault
+-- the call began behind a unit of so many bytes, which stands at this place at the front of these bytes
+pub record IsBehind (long at : ℕ) (bytes : List ℕ) (to : ℕ) (left : Option (List ℕ)) : Type 0 where
+  pub place : to ≡ at + long
+  pub taken : left ≡ Some (drop long bytes)
+
+-- a whole unit of n bytes at a place is judged: the reading goes on in a state, or the unit is at fault
 abbrev pub Settles : {X : Type 0} → Verdict State → ℕ → (X → State) → ℕ → Result X LoadFault → Type 0
 Settles (Goes n next) at state long (Ok x) = (next ≡ state x) × (n ≡ long)
-Settles (Faulty section reason) at state long (Err (faults.Refused r)) = r ≡ record { section = section; at = at; reason = reason }
+Settles (Faulty section reason n) at state long (Err (faults.Refused r)) = (r ≡ record { section = section; at = at; reason = reason }) × (n ≡ long)
 Settles verdict at state long result = ⊥
 
 -- the device concerned beside a fault in the form of a unit

@@ -110,11 +110,12 @@ most_given set = 16777759 + devices_most set set.devices
 
 -- ---- a whole stream
 
--- a call reads an input as a reading says: at Ok this machine is named, these are the images, and so many bytes were taken
+-- a call reads an input as a reading says: at Ok this machine is named, these are the images, and so many bytes were taken;
+-- at a refusal those up to the end of the unit at fault
 abbrev pub ReadsAll : Set → Option (Reading State) → Staged → List ℕ → Option (List ℕ) → Result ℕ LoadFault → Type 0
 ReadsAll set (Some (Accepted n end)) staged input left (Ok taken) =
     (n ≡ taken) × (end.machine ≡ name_of set staged.machine) × (end.images ≡ staged.images.items) × (left ≡ Some (drop taken input))
-ReadsAll set (Some (Refused at section reason)) staged input left (Err (faults.Refused r)) = r ≡ record { section = section; at = at; reason = reason }
+ReadsAll set (Some (Refused at section reason long)) staged input left (Err (faults.Refused r)) = (r ≡ record { section = section; at = at; reason = reason }) × (left ≡ Some (drop (at + long) input))
 ReadsAll set reading staged input left (Err faults.ReadFault) = Unit {0}
 ReadsAll set reading staged input left result = ⊥
 

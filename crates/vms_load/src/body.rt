@@ -6,7 +6,6 @@ ghost use Rattle.vms_desc.specs.Described.{described};
 ghost use Rattle.vms_desc.specs.Parts.{desc_at};
 ghost use Rattle.vms_frames.specs.Answers.{HasCause};
 ghost use Rattle.vms_load.specs.Bodies.{TakesAs, Spends};
-ghost use Rattle.vms_load.specs.Leaving.{FieldsLeave};
 ghost use Rattle.vms_load.specs.Parts.{bytes_of};
 ghost use Rattle.vms_load.specs.Walks.{table, HasSpot, size_in, bytes_in, capacities_of, present_of, elements_at, take_elements};
 
@@ -90,7 +89,6 @@ fn read_item<S: Source>(
     ensures given { Spends (bytes_in (described set.now) element.item) (S.given source.old) (S.given source.new) cursor.old cursor.new result }
     ensures cause { HasCause (S.faults source.old) (S.faults source.new) result }
     ensures promise { S.promise source.new ≡ S.promise source.old }
-    ensures leaves { IfSome (S.left source.old) (λ rest. FieldsLeave cursor.old rest cursor.new (S.left source.new) result) }
     ensures kept { image.new ≡ record image.old { numbers = image.new.numbers } }
     ensures long { length image.new.numbers ≡ length image.old.numbers }
 {
@@ -128,7 +126,6 @@ fn read_items<S: Source>(
     ensures given { Spends (elements.count * bytes_in (described set.now) elements.one.item) (S.given source.old) (S.given source.new) cursor.old cursor.new result }
     ensures cause { HasCause (S.faults source.old) (S.faults source.new) result }
     ensures promise { S.promise source.new ≡ S.promise source.old }
-    ensures leaves { IfSome (S.left source.old) (λ rest. FieldsLeave cursor.old rest cursor.new (S.left source.new) result) }
     ensures kept { image.new ≡ record image.old { numbers = image.new.numbers } }
     ensures long { length image.new.numbers ≡ length image.old.numbers }
 {
@@ -156,7 +153,6 @@ fn read_fields<S: Source>(
     ensures given { Spends (bytes_of (described set.now) (desc_at (described set.now) spot.part)) (S.given source.old) (S.given source.new) cursor.old cursor.new result }
     ensures cause { HasCause (S.faults source.old) (S.faults source.new) result }
     ensures promise { S.promise source.new ≡ S.promise source.old }
-    ensures leaves { IfSome (S.left source.old) (λ rest. FieldsLeave cursor.old rest cursor.new (S.left source.new) result) }
     ensures kept { image.new ≡ record image.old { numbers = image.new.numbers } }
     ensures long { length image.new.numbers ≡ length image.old.numbers }
 {
@@ -184,7 +180,6 @@ pub(crate) fn read_part<S: Source>(
     ensures given { Spends (bytes_of (described set.now) (desc_at (described set.now) spot.part)) (S.given source.old) (S.given source.new) cursor.old cursor.new result }
     ensures cause { HasCause (S.faults source.old) (S.faults source.new) result }
     ensures promise { S.promise source.new ≡ S.promise source.old }
-    ensures leaves { IfSome (S.left source.old) (λ rest. FieldsLeave cursor.old rest cursor.new (S.left source.new) result) }
     ensures kept { image.new ≡ record image.old { numbers = image.new.numbers } }
     ensures long { length image.new.numbers ≡ length image.old.numbers }
 {

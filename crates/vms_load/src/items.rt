@@ -5,7 +5,6 @@ ghost use Rattle.vms_spec.specs.Numbers.{exceeds, is_above};
 ghost use Rattle.vms_spec.specs.Taking.{take_number};
 ghost use Rattle.vms_frames.specs.Answers.{Answers, HasCause, GivesWithin};
 ghost use Rattle.vms_load.specs.Bodies.{capped_found, constant_found, TakesAs, Spends};
-ghost use Rattle.vms_load.specs.Leaving.{FieldsLeave};
 ghost use Rattle.vms_load.specs.Walks.{capacities_of};
 
 use vms_frames::{Cursor, FrameFault};
@@ -29,7 +28,6 @@ pub(crate) fn put_number<S: Source>(
     ensures given { Spends (width kind) (S.given source.old) (S.given source.new) cursor.old cursor.new result }
     ensures cause { HasCause (S.faults source.old) (S.faults source.new) result }
     ensures promise { S.promise source.new ≡ S.promise source.old }
-    ensures leaves { IfSome (S.left source.old) (λ rest. FieldsLeave cursor.old rest cursor.new (S.left source.new) result) }
     ensures kept { image.new ≡ record image.old { numbers = image.new.numbers } }
     ensures long { length image.new.numbers ≡ length image.old.numbers }
 {
@@ -51,7 +49,6 @@ fn number<S: Source>(
     ensures given { GivesWithin (λ _. width kind) (width kind) (S.given source.old) (S.given source.new) result }
     ensures cause { HasCause (S.faults source.old) (S.faults source.new) result }
     ensures promise { S.promise source.new ≡ S.promise source.old }
-    ensures leaves { IfSome (S.left source.old) (λ rest. FieldsLeave cursor.old rest cursor.new (S.left source.new) result) }
 {
     let at = cursor.at();
     let value = cursor.number(source, kind)?;
@@ -77,7 +74,6 @@ pub(crate) fn constant<S: Source>(
     ensures given { GivesWithin (λ _. width kind) (width kind) (S.given source.old) (S.given source.new) result }
     ensures cause { HasCause (S.faults source.old) (S.faults source.new) result }
     ensures promise { S.promise source.new ≡ S.promise source.old }
-    ensures leaves { IfSome (S.left source.old) (λ rest. FieldsLeave cursor.old rest cursor.new (S.left source.new) result) }
 {
     let at = cursor.at();
     let found = cursor.number(source, kind)?;

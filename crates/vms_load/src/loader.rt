@@ -32,7 +32,6 @@ impl Loader {
     ghost use Rattle.vms_load.specs.Kept.{loads, kept, taken_by};
     ghost use Rattle.vms_load.specs.Loads.{HasCause, Loads, GivesWithin};
     ghost use Rattle.vms_load.specs.Staging.{IsMachine, accepted_of};
-    ghost use Rattle.vms_load.specs.Leaving.{LeavesAt};
 
     /// A loader that has taken no stream yet: each image is at its defaults. All memory that a load needs is
     /// taken here.
@@ -75,7 +74,6 @@ impl Loader {
         ensures given { GivesWithin (loads self.old) (S.given source.old) (S.given source.new) (taken_by self.new) result }
         ensures cause { HasCause (S.faults source.old) (S.faults source.new) result }
         ensures promise { S.promise source.new ≡ S.promise source.old }
-        ensures leaves { IfSome (S.left source.old) (λ input. IfErr result (LeavesAt 0 input (S.left source.new))) }
     {
         let taken = stream(&self.set, only, &mut self.staged, source)?;
         swap(&mut self.images, &mut self.staged.images);

@@ -5,7 +5,6 @@ ghost use Rattle.vms_desc.specs.Described.{described};
 ghost use Rattle.vms_parts.specs.Devices.{device_at};
 ghost use Rattle.vms_load.specs.Loads.{HasCause};
 ghost use Rattle.vms_load.specs.Reads.{Reads, Gives};
-ghost use Rattle.vms_load.specs.Leaving.{Leaves};
 ghost use Rattle.vms_load.specs.Parts.{IsShaped, IsOpen, OpensNext, part_of, part_due, bytes_of_part, subs_due, in_fields, after_fields, after_part};
 
 use crate::LoadFault;
@@ -57,7 +56,6 @@ fn fields<S: Source>(
     ensures given { Gives (S.given source.old) (S.given source.new) cursor.old cursor.new (bytes_of_part (described set.now) (device_at (described set.now) section.device) part.sub) (λ _. 0) result }
     ensures cause { HasCause (S.faults source.old) (S.faults source.new) result }
     ensures promise { S.promise source.new ≡ S.promise source.old }
-    ensures leaves { IfSome (S.left source.old) (λ rest. Leaves cursor.old rest cursor.new (S.left source.new) result) }
     ensures kept { image.new ≡ record image.old { numbers = image.new.numbers } }
     ensures long { length image.new.numbers ≡ length image.old.numbers }
 {
@@ -91,7 +89,6 @@ fn after<S: Source>(
     ensures given { Gives (S.given source.old) (S.given source.new) cursor.old cursor.new (subs_due (described set.now) (device_at (described set.now) section.device).subs image.old.came + 5) (part_due (described set.now) (device_at (described set.now) section.device) image.new.came) result }
     ensures cause { HasCause (S.faults source.old) (S.faults source.new) result }
     ensures promise { S.promise source.new ≡ S.promise source.old }
-    ensures leaves { IfSome (S.left source.old) (λ rest. Leaves cursor.old rest cursor.new (S.left source.new) result) }
     ensures shaped { IsShaped (described set.now) (device_at (described set.now) section.device) image.new }
 {
     let at = cursor.at();
@@ -131,7 +128,6 @@ pub(crate) fn read_section<S: Source>(
     ensures given { Gives (S.given source.old) (S.given source.new) cursor.old cursor.new (part_due (described set.now) (device_at (described set.now) section.device) image.old.came (Some (record { sub = None; version = image.old.version }))) (λ _. 0) result }
     ensures cause { HasCause (S.faults source.old) (S.faults source.new) result }
     ensures promise { S.promise source.new ≡ S.promise source.old }
-    ensures leaves { IfSome (S.left source.old) (λ rest. Leaves cursor.old rest cursor.new (S.left source.new) result) }
     ensures shaped { IsShaped (described set.now) (device_at (described set.now) section.device) image.new }
 {
     let mut next = Some(Open {

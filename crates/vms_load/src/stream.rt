@@ -1,13 +1,12 @@
 // A whole stream, unit by unit and section by section.
-ghost use Rattle.std.specs.Prelude.{◌≡◌, ◌+◌, ◌<◌, ◌≤◌, ◌^◌, ℕ, List, Some, None, length, IfSome, IfOk, IfErr, OnOk};
+ghost use Rattle.std.specs.Prelude.{◌≡◌, ◌+◌, ◌<◌, ◌≤◌, ◌^◌, ℕ, List, Some, None, length, drop, IfSome, IfOk, OnOk};
 ghost use Rattle.vms_spec.specs.Sets.{Set};
 ghost use Rattle.vms_spec.specs.Judging.{State, Spot, Magic, First, Later, judge, reading};
 ghost use Rattle.vms_laws.specs.Whole.{reading_on};
 ghost use Rattle.vms_desc.specs.Described.{described};
 ghost use Rattle.vms_frames.specs.Judged.{judge_section};
 ghost use Rattle.vms_load.specs.Loads.{HasCause};
-ghost use Rattle.vms_load.specs.Reads.{Reads, Gives, GivesBehind, behind};
-ghost use Rattle.vms_load.specs.Leaving.{LeavesAt, Leaves, IsBehind};
+ghost use Rattle.vms_load.specs.Reads.{Reads, IsBehind, Gives, GivesBehind, behind};
 ghost use Rattle.vms_load.specs.Staging.{AreShaped, IsOf, IsMachine, accepted_of, state_of, spot_of, spot_at, sections_due, stream_due, ReadsAll, GivesAll};
 
 use crate::LoadFault;
@@ -32,7 +31,6 @@ pub(crate) fn stream<S: Source>(
     ensures given { GivesAll (described set.now) (S.given source.old) (S.given source.new) result }
     ensures cause { HasCause (S.faults source.old) (S.faults source.new) result }
     ensures promise { S.promise source.new ≡ S.promise source.old }
-    ensures leaves { IfSome (S.left source.old) (λ input. IfErr result (LeavesAt 0 input (S.left source.new))) }
     ensures shaped { AreShaped (described set.now) staged.new.images.items }
     ensures machine { IsMachine (described set.now).machines staged.new.machine }
 {
@@ -53,7 +51,6 @@ fn head<S: Source>(cursor: &mut Cursor, source: &mut S) -> Result<(), LoadFault>
     ensures given { Gives (S.given source.old) (S.given source.new) cursor.old cursor.new 8 (λ _. 0) result }
     ensures cause { HasCause (S.faults source.old) (S.faults source.new) result }
     ensures promise { S.promise source.new ≡ S.promise source.old }
-    ensures leaves { IfSome (S.left source.old) (λ rest. Leaves cursor.old rest cursor.new (S.left source.new) result) }
 {
     match cursor.stream_head(source) {
         Ok(()) => Ok(()),
@@ -76,7 +73,6 @@ fn sections<S: Source>(
     ensures given { Gives (S.given source.old) (S.given source.new) cursor.old cursor.new (stream_due (described set.now) staged.old.came.items (Some Between.First)) (λ _. 0) result }
     ensures cause { HasCause (S.faults source.old) (S.faults source.new) result }
     ensures promise { S.promise source.new ≡ S.promise source.old }
-    ensures leaves { IfSome (S.left source.old) (λ rest. Leaves cursor.old rest cursor.new (S.left source.new) result) }
     ensures whole { IsOf (described set.now) staged.new }
 {
     let mut place = Some(Between::First);
@@ -104,7 +100,6 @@ fn turn<S: Source>(
     ensures moved { OnOk result (cursor.old < cursor.new) }
     ensures cause { HasCause (S.faults source.old) (S.faults source.new) result }
     ensures promise { S.promise source.new ≡ S.promise source.old }
-    ensures leaves { IfSome (S.left source.old) (λ rest. Leaves cursor.old rest cursor.new (S.left source.new) result) }
     ensures whole { IsOf (described set.now) staged.new }
 {
     let at = cursor.at();
@@ -136,11 +131,10 @@ fn opened<S: Source>(
 ) -> Result<(), LoadFault>
     requires whole { IsOf (described set.now) staged.old }
     requires place { cursor.old + sections_due (described set.now) (described set.now).devices staged.old.came.items ≤ 2 ^ 63 + 269 }
-    ensures reads { (names : List (List ℕ)) (spot : Spot) → IfSome (S.left source.old) (λ rest. Reads (behind (reading_on (judge (described set.now) names)) at (judge_section (described set.now) names (state_of (described set.now) staged.old spot) head.now) cursor.old rest) (λ _. reading_on (judge (described set.now) names) (state_of (described set.now) staged.new Later)) cursor.old cursor.new rest (S.left source.new) result) }
+    ensures reads { (names : List (List ℕ)) (spot : Spot) (bytes : List ℕ) → IsBehind (14 + length head.now.name.items) at bytes cursor.old (S.left source.old) → Reads (behind (reading_on (judge (described set.now) names)) at (judge_section (described set.now) names (state_of (described set.now) staged.old spot) head.now) cursor.old (drop (14 + length head.now.name.items) bytes)) (λ _. reading_on (judge (described set.now) names) (state_of (described set.now) staged.new Later)) at cursor.new bytes (S.left source.new) result }
     ensures given { GivesBehind (S.given source.old) (S.given source.new) cursor.old cursor.new (sections_due (described set.now) (described set.now).devices staged.old.came.items) (λ _. sections_due (described set.now) (described set.now).devices staged.new.came.items) result }
     ensures cause { HasCause (S.faults source.old) (S.faults source.new) result }
     ensures promise { S.promise source.new ≡ S.promise source.old }
-    ensures leaves { (bytes : List ℕ) → IsBehind head.now at bytes cursor.old (S.left source.old) → Leaves at bytes cursor.new (S.left source.new) result }
     ensures whole { IsOf (described set.now) staged.new }
     ensures short { length head.now.name.items ≤ 255 }
 {

@@ -15,8 +15,6 @@ use Rattle.vms_load.specs.Walks.{table, size_in, bytes_in, capacities_of, elemen
 use Rattle.vms_load.proofs.Kept.{kept_on}
 use Rattle.vms_load.proofs.Spending.{spends_err, given_on}
 use Rattle.vms_load.proofs.BodyLemmas.{stops, goes, alike, items_next, items_stop, fields_next, fields_stop, body_ok, body_broken, body_cut, constant_taken}
-use Rattle.vms_load.proofs.Leaving.{moves_on, fields_leave_at, refused_after, unit_leaves_in}
-use Rattle.vms_load.proofs.UnitsLong.{Any, skip_fits}
 use Rattle.vms_load.proofs.Walking.{spot_on, size_code, width_at, next_field, next_struct, elements_taken, rules_are}
 use Rattle.vms_load.proofs.body.+body.Goals as goal
 
@@ -27,7 +25,7 @@ read_part-returns-in_err-read_fields-clause-taken g t c =
     let set = described c.args.set.now in
     let spot = c.args.spot in
     let p = err_from_is_err_and c.from_residual.result c.from_residual.ensures.1 in
-    rw (p.1, p.2) (body_cut (table set) (desc_at set spot.part) spot.version spot.base (g.S.Source.left c.args.source.now) c.args.image.now.numbers c.args.cursor.now _ _ _ _ _ _ _ c.in_err-read_fields.ensures.taken)
+    rw (p.1, p.2) (body_cut (table set) (desc_at set spot.part) spot.version spot.base (g.S.Source.left c.args.source.now) c.args.image.now.numbers c.args.cursor.now _ _ _ _ _ _ c.in_err-read_fields.ensures.taken)
 
 pub read_part-returns-then-not-holds_rules-clause-taken : goal.read_part-returns-then-not-holds_rules-clause-taken
 read_part-returns-then-not-holds_rules-clause-taken g t c =
@@ -36,7 +34,7 @@ read_part-returns-then-not-holds_rules-clause-taken g t c =
     let n = c.read_fields.new.image.numbers in
     let no : c.holds_rules.result ≡ false = search rules in
     rw c.at-at.ensures
-    (body_broken (table set) (desc_at set spot.part) spot.version spot.base (g.S.Source.left c.args.source.now) c.args.image.now.numbers c.args.cursor.now n _ c.read_fields.new.cursor _ (g.S.Source.left c.read_fields.new.source) _
+    (body_broken (table set) (desc_at set spot.part) spot.version spot.base (g.S.Source.left c.args.source.now) c.args.image.now.numbers c.args.cursor.now n _ c.read_fields.new.cursor _ (g.S.Source.left c.read_fields.new.source)
     c.in_ok-read_fields.ensures.taken (rules_are set spot n c.holds_rules.result false c.holds_rules.ensures no))
 
 pub read_part-returns-clause-taken : goal.read_part-returns-clause-taken
@@ -47,10 +45,6 @@ read_part-returns-clause-taken g t c =
     let yes : c.holds_rules.result ≡ true = search rules in
     body_ok (table set) (desc_at set spot.part) spot.version spot.base (g.S.Source.left c.args.source.now) c.args.image.now.numbers c.args.cursor.now n c.read_fields.new.cursor (g.S.Source.left c.read_fields.new.source)
     c.in_ok-read_fields.ensures.taken (rules_are set spot n c.holds_rules.result true c.holds_rules.ensures yes)
-
-pub read_part-returns-then-not-holds_rules-clause-leaves : goal.read_part-returns-then-not-holds_rules-clause-leaves
-read_part-returns-then-not-holds_rules-clause-leaves g t c =
-    refused_after (g.S.Source.left c.args.source.now) (g.S.Source.left c.read_fields.new.source) c.args.cursor.now c.read_fields.new.cursor c.at-at.result reasons.Invalid c.in_ok-read_fields.ensures.given.0 c.at-at.ensures c.in_ok-read_fields.ensures.leaves
 
 pub read_part-holds_rules-requires-clause-few : goal.read_part-holds_rules-requires-clause-few
 read_part-holds_rules-requires-clause-few g t c =
@@ -91,7 +85,7 @@ read_fields-returns-in_err-read_items-clause-taken g t c =
     let next = next_field set c.args.set.now.well_formed spot n here i cell (width_at set spot i) (omega (arith, c.field_count-field-end.ensures)) refl c.loop-field.invariant.room in
     let p = err_from_is_err_and c.from_residual.result c.from_residual.ensures.1 in
     rw (p.1, p.2) (stops _ _ (λ rest. take_fields (table set) d spot.version spot.base 0 spot.base d.fields (record { numbers = c.args.image.now.numbers; place = c.args.cursor.now; rest = rest })) _
-    (λ rest. take_elements set elements (record { numbers = n; place = at; rest = rest })) _ _ _ _ _ _ _ c.loop-field.invariant.taken
+    (λ rest. take_elements set elements (record { numbers = n; place = at; rest = rest })) _ _ _ _ _ _ c.loop-field.invariant.taken
     (λ rest r same. fields_stop (table set) d spot.version spot.base i cell (field_at set spot.part i) (drop (i + 1) d.fields) (drop i d.fields) next.at (record { numbers = n; place = at; rest = rest }) r (elements_taken set spot n i cell elements at rest c.present-elements.ensures ∙ same)) c.in_err-read_items.ensures.taken)
 
 pub read_fields-returns-in_err-read_items-clause-given : goal.read_fields-returns-in_err-read_items-clause-given
@@ -106,11 +100,6 @@ read_fields-returns-in_err-read_items-clause-given g t c =
     let p = err_from_is_err_and c.from_residual.result c.from_residual.ensures.1 in
     let spent = rw c.present-elements.ensures at c.in_err-read_items.ensures.given in
     rw p.1 (spends_err (elements.count * bytes_in set elements.one.item) _ _ _ _ c.args.cursor.now c.loop-field.cursor 0 0 ReadFault c.loop-field.invariant.from c.loop-field.invariant.given (omega (arith, next.most, next.due, c.loop-field.invariant.place)) spent)
-
-pub read_fields-returns-in_err-read_items-clause-leaves : goal.read_fields-returns-in_err-read_items-clause-leaves
-read_fields-returns-in_err-read_items-clause-leaves g t c =
-    let p = err_from_is_err_and c.from_residual.result c.from_residual.ensures.1 in
-    rw (p.1, p.2) (fields_leave_at (g.S.Source.left c.args.source.now) (g.S.Source.left c.loop-field.source) (g.S.Source.left c.read_items.new.source) c.args.cursor.now c.loop-field.cursor c.in_err-read_items.field-0.0 c.loop-field.invariant.from c.loop-field.invariant.leaves c.in_err-read_items.ensures.leaves)
 
 pub read_fields-overflow_add-cell : goal.read_fields-overflow_add-cell
 read_fields-overflow_add-cell g t c =
@@ -144,7 +133,6 @@ read_fields-loop-field-preserved g t c =
       place = omega (arith, next.most, next.due, c.loop-field.invariant.place, spent);
       given = given_on _ _ _ c.args.cursor.now at c.read_items.new.cursor c.loop-field.invariant.from spent.0 c.loop-field.invariant.given spent.2;
       later = omega (arith, c.loop-field.invariant.later, c.in_ok-read_items.ensures.cause);
-      leaves = moves_on (g.S.Source.left c.args.source.now) (g.S.Source.left c.loop-field.source) (g.S.Source.left c.read_items.new.source) c.args.cursor.now at c.read_items.new.cursor c.loop-field.invariant.from spent.0 c.loop-field.invariant.leaves c.in_ok-read_items.ensures.leaves;
       promise = c.in_ok-read_items.ensures.promise ∙ c.loop-field.invariant.promise;
       kept = kept_on c.args.image.now c.loop-field.image c.read_items.new.image c.loop-field.invariant.kept c.in_ok-read_items.ensures.kept;
       long = c.in_ok-read_items.ensures.long ∙ c.loop-field.invariant.long;
@@ -189,7 +177,7 @@ read_items-returns-in_err-read_item-clause-taken g t c =
     let more : elements.count - turn ≡ suc (elements.count - (turn + 1)) = omega arith in
     let p = err_from_is_err_and c.from_residual.result c.from_residual.ensures.1 in
     rw (p.1, p.2) (stops _ _ (λ rest. take_elements set elements (record { numbers = c.args.image.now.numbers; place = c.args.cursor.now; rest = rest })) _
-    (λ rest. take_item (table set) item caps c.loop-turn.cell (record { numbers = c.loop-turn.image.numbers; place = c.loop-turn.cursor; rest = rest })) _ _ _ _ _ _ _ c.loop-turn.invariant.taken
+    (λ rest. take_item (table set) item caps c.loop-turn.cell (record { numbers = c.loop-turn.image.numbers; place = c.loop-turn.cursor; rest = rest })) _ _ _ _ _ _ c.loop-turn.invariant.taken
     (λ rest r same. items_stop (table set) item caps (size_in set item) _ _ c.loop-turn.cell more (record { numbers = c.loop-turn.image.numbers; place = c.loop-turn.cursor; rest = rest }) r same) c.in_err-read_item.ensures.taken)
 
 pub read_items-returns-in_err-read_item-clause-given : goal.read_items-returns-in_err-read_item-clause-given
@@ -201,11 +189,6 @@ read_items-returns-in_err-read_item-clause-given g t c =
     let places = one_more _ _ bytes more in
     let p = err_from_is_err_and c.from_residual.result c.from_residual.ensures.1 in
     rw p.1 (spends_err bytes _ _ _ _ c.args.cursor.now c.loop-turn.cursor 0 0 ReadFault c.loop-turn.invariant.from c.loop-turn.invariant.given (omega (arith, places, c.loop-turn.invariant.place)) c.in_err-read_item.ensures.given)
-
-pub read_items-returns-in_err-read_item-clause-leaves : goal.read_items-returns-in_err-read_item-clause-leaves
-read_items-returns-in_err-read_item-clause-leaves g t c =
-    let p = err_from_is_err_and c.from_residual.result c.from_residual.ensures.1 in
-    rw (p.1, p.2) (fields_leave_at (g.S.Source.left c.args.source.now) (g.S.Source.left c.loop-turn.source) (g.S.Source.left c.read_item.new.source) c.args.cursor.now c.loop-turn.cursor c.in_err-read_item.field-0.0 c.loop-turn.invariant.from c.loop-turn.invariant.leaves c.in_err-read_item.ensures.leaves)
 
 pub read_items-loop-turn-preserved : goal.read_items-loop-turn-preserved
 read_items-loop-turn-preserved g t c =
@@ -227,7 +210,6 @@ read_items-loop-turn-preserved g t c =
       place = omega (arith, places, c.loop-turn.invariant.place, spent);
       given = given_on _ _ _ c.args.cursor.now c.loop-turn.cursor c.read_item.new.cursor c.loop-turn.invariant.from spent.0 c.loop-turn.invariant.given spent.2;
       later = omega (arith, c.loop-turn.invariant.later, c.in_ok-read_item.ensures.cause);
-      leaves = moves_on (g.S.Source.left c.args.source.now) (g.S.Source.left c.loop-turn.source) (g.S.Source.left c.read_item.new.source) c.args.cursor.now c.loop-turn.cursor c.read_item.new.cursor c.loop-turn.invariant.from spent.0 c.loop-turn.invariant.leaves c.in_ok-read_item.ensures.leaves;
       promise = c.in_ok-read_item.ensures.promise ∙ c.loop-turn.invariant.promise;
       kept = kept_on c.args.image.now c.loop-turn.image c.read_item.new.image c.loop-turn.invariant.kept c.in_ok-read_item.ensures.kept;
       long = c.in_ok-read_item.ensures.long ∙ c.loop-turn.invariant.long;
@@ -240,11 +222,6 @@ read_item-returns-in-Equal-clause-taken g t c =
     let set = described c.args.set.now in
     let f : SFits w128 c.in-Equal.value = search rules in
     constant_taken (g.S.Source.left c.args.source.now) (g.S.Source.left c.constant.new.source) c.args.cursor.now c.constant.new.cursor c.args.image.now.numbers (table set) c.args.element.item c.in-Equal.kind c.in-Equal.value _ c.args.cell c.constant.result c.in-Equal.is c.constant.ensures.place (rw (to_z-of_z w128 c.in-Equal.value f) at c.constant.ensures.content)
-
-pub read_item-returns-in-Unused-clause-leaves : goal.read_item-returns-in-Unused-clause-leaves
-read_item-returns-in-Unused-clause-leaves g t c =
-    unit_leaves_in (λ x. c.in-Unused.bytes) (λ rest. Any) (skip_found c.in-Unused.bytes) (g.S.Source.left c.args.source.now) (g.S.Source.left c.skip.new.source) c.args.cursor.now c.skip.new.self c.skip.result
-    (skip_fits c.in-Unused.bytes) (search rules) c.skip.ensures.content
 
 pub read_item-read_part-requires : goal.read_item-read_part-requires
 read_item-read_part-requires g t c κs within =

@@ -8,7 +8,6 @@ use Rattle.vms_load.specs.Bodies.{GoesOn}
 use Rattle.vms_load.specs.Bounds.{fields_bytes, struct_bytes}
 use Rattle.vms_load.specs.Parts.{bytes_of}
 use Rattle.vms_load.specs.Walks.{table, size_in, bytes_in, capacities_of, take_elements}
-use Rattle.vms_load.proofs.Leaving.{Moves}
 use Rattle.vms_load.proofs.Walking.{item_rank, part_rank}
 use Rattle.vms_load.proofs.body.+body.Given as goal
 
@@ -37,7 +36,6 @@ invariant-read_items-loop-turn g l =
       place : l.cursor + (l.elements.count - l._turn) * bytes_in set item ≤ l.initial.cursor + l.elements.count * bytes_in set item;
       given : g.S.Source.given l.source ≡ capped (g.S.Source.given l.initial.source + (l.cursor - l.initial.cursor));
       later : g.S.Source.faults l.initial.source ≤ g.S.Source.faults l.source;
-      leaves : Moves (g.S.Source.left l.initial.source) l.initial.cursor l.cursor (g.S.Source.left l.source);
       promise : g.S.Source.promise l.source ≡ g.S.Source.promise l.initial.source;
       kept : l.image ≡ record l.initial.image { numbers = l.image.numbers };
       long : length l.image.numbers ≡ length l.initial.image.numbers;
@@ -55,7 +53,6 @@ invariant-read_fields-loop-field g l =
       place : l.cursor + fields_bytes (struct_bytes set.structs (length set.structs)) (drop l.field d.fields) ≤ l.initial.cursor + bytes_of set d;
       given : g.S.Source.given l.source ≡ capped (g.S.Source.given l.initial.source + (l.cursor - l.initial.cursor));
       later : g.S.Source.faults l.initial.source ≤ g.S.Source.faults l.source;
-      leaves : Moves (g.S.Source.left l.initial.source) l.initial.cursor l.cursor (g.S.Source.left l.source);
       promise : g.S.Source.promise l.source ≡ g.S.Source.promise l.initial.source;
       kept : l.image ≡ record l.initial.image { numbers = l.image.numbers };
       long : length l.image.numbers ≡ length l.initial.image.numbers;

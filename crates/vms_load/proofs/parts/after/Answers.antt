@@ -14,9 +14,6 @@ use Rattle.vms_load.specs.Parts.{subs_due, after_part}
 use Rattle.vms_load.proofs.AfterReads.{after_fault, after_settled, sub_settled, sub_refused, sub_new, subs_taken}
 use Rattle.vms_load.proofs.SetFacts.{few_subs}
 use Rattle.vms_frames.specs.Found.{after_found, after_long}
-use Rattle.vms_load.proofs.Leaving.{unit_leaves_in, unit_refused_in, concerning_leaves}
-use Rattle.vms_load.proofs.UnitsLong.{IsAfter, after_fits}
-use Rattle.vms_load.proofs.HeadLeaving.{sub_leaves}
 use Rattle.vms_load.proofs.parts.after.Goals as goal
 
 pub open_sub-requires-clause-few : goal.open_sub-requires-clause-few
@@ -97,38 +94,5 @@ returns-in_ok-sub-in-Ok-Sub-clause-given g c =
 pub returns-in-Err-clause-reads : goal.returns-in-Err-clause-reads
 returns-in-Err-clause-reads g c = λ names state part.
     rw c.concerning.ensures
-    (after_fault (described c.args.set.now) names state c.args.section part c.args.image.now (g.S.Source.left c.args.source.now) (g.S.Source.left c.after_fields.new.source) (g.S.Source.left c.after_fields.new.source)
+    (after_fault (described c.args.set.now) names state c.args.section part c.args.image.now (g.S.Source.left c.args.source.now) (g.S.Source.left c.after_fields.new.source)
     (after_part (described c.args.set.now) names state c.args.section c.args.image.now) c.args.cursor.now c.after_fields.new.self c.in-Err.fault c.in-Err.ensures.content)
-
--- ---- what the call leaves
-
-pub returns-in-Ok-Done-clause-leaves : goal.returns-in-Ok-Done-clause-leaves
-returns-in-Ok-Done-clause-leaves g c =
-    let content = rw c.in-Ok-Done.field-0-is at c.in-Ok-Done.ensures.content in
-    let place = rw c.in-Ok-Done.field-0-is at c.in-Ok-Done.ensures.place in
-    unit_leaves_in after_long IsAfter (after_found c.args.section.id) (g.S.Source.left c.args.source.now) (g.S.Source.left c.after_fields.new.source) c.args.cursor.now c.after_fields.new.self (Ok afters.Done) (after_fits c.args.section.id) place content
-
-pub returns-in_err-sub-in-Ok-Sub-clause-leaves : goal.returns-in_err-sub-in-Ok-Sub-clause-leaves
-returns-in_err-sub-in-Ok-Sub-clause-leaves g c =
-    let name = c.in-Ok-Sub.name.items in
-    let content = rw c.in-Ok-Sub.field-0-is at c.in-Ok-Sub.ensures.content in
-    let p = err_from_is_err_and c.from_residual.result c.from_residual.ensures.1 in
-    let is = sym (c.in_err-sub-in-Ok-Sub.was) ∙ c.open_sub.ensures.opened
-    ∙ ap (λ (n : ℕ). opened_at n (sub_opened c.args.section.device (device_of c.device.result.now) c.args.image.now.came name c.in-Ok-Sub.version)) c.at-at.ensures in
-    rw (p.1, p.2)
-    (sub_leaves (g.S.Source.left c.args.source.now) (g.S.Source.left c.after_fields.new.source) c.args.cursor.now c.args.section.id c.args.section.device (device_of c.device.result.now) c.args.image.now.came name c.in-Ok-Sub.version
-    c.in_err-sub-in-Ok-Sub.field-0.0 content is)
-
-pub returns-in_ok-sub-in-Ok-Sub-clause-leaves : goal.returns-in_ok-sub-in-Ok-Sub-clause-leaves
-returns-in_ok-sub-in-Ok-Sub-clause-leaves g c =
-    let content = rw c.in-Ok-Sub.field-0-is at c.in-Ok-Sub.ensures.content in
-    let place = rw c.in-Ok-Sub.field-0-is at c.in-Ok-Sub.ensures.place in
-    unit_leaves_in after_long IsAfter (after_found c.args.section.id) (g.S.Source.left c.args.source.now) (g.S.Source.left c.after_fields.new.source) c.args.cursor.now c.after_fields.new.self (Ok (afters.Sub c.in-Ok-Sub.name c.in-Ok-Sub.version))
-    (after_fits c.args.section.id) place content
-
-pub returns-in-Err-clause-leaves : goal.returns-in-Err-clause-leaves
-returns-in-Err-clause-leaves g c =
-    let old = g.S.Source.left c.args.source.now in
-    let left = g.S.Source.left c.after_fields.new.source in
-    rw c.concerning.ensures
-    (concerning_leaves (Some c.args.section.device) old left c.args.cursor.now c.in-Err.fault (unit_refused_in IsAfter (after_found c.args.section.id) old left c.args.cursor.now c.in-Err.fault (after_fits c.args.section.id) c.in-Err.ensures.content))

@@ -6,7 +6,6 @@ use Rattle.vms_parts.specs.Devices.{device_at}
 use Rattle.vms_load.specs.Parts.{bytes_of}
 use Rattle.vms_load.proofs.PartReads.{open_in, fields_answer}
 use Rattle.vms_load.proofs.SetFacts.{good_of, desc_is, base_is, part_spot}
-use Rattle.vms_load.proofs.Leaving.{concerning_leaves}
 use Rattle.vms_load.proofs.parts.fields.Goals as goal
 
 pub read_part-requires-clause-spot : goal.read_part-requires-clause-spot
@@ -31,8 +30,8 @@ returns-in-Ok-clause-reads g c = λ names state room.
     let base = c.first_cell-base.ensures ∙ ap (first_cell set) c.part_of-number.ensures ∙ base_is set k sub in
     fields_answer set (good_of set c.args.set.now.well_formed c.args.set.now.heads) c.args.section c.requires.device sub c.args.part.version names state c.args.image.now
     (desc_at set c.part_of-number.result) c.first_cell-base.result desc base
-    room c.requires.open c.requires.shaped.numbers c.args.cursor.now c.read_part.new.image.numbers c.read_part.new.image c.read_part.new.cursor
-    (g.S.Source.left c.args.source.now) (g.S.Source.left c.read_part.new.source) (Ok c.in-Ok.field-0) (g.met.S.Source.octets c.args.source.now) c.read_part.ensures.kept c.in-Ok.ensures.taken
+    room c.requires.open c.args.cursor.now c.read_part.new.image.numbers c.read_part.new.image c.read_part.new.cursor
+    (g.S.Source.left c.args.source.now) (g.S.Source.left c.read_part.new.source) (Ok c.in-Ok.field-0) c.read_part.ensures.kept c.in-Ok.ensures.taken
 
 pub returns-in-Err-clause-reads : goal.returns-in-Err-clause-reads
 returns-in-Err-clause-reads g c = λ names state room.
@@ -44,8 +43,8 @@ returns-in-Err-clause-reads g c = λ names state room.
     rw c.concerning.ensures
     (fields_answer set (good_of set c.args.set.now.well_formed c.args.set.now.heads) c.args.section c.requires.device sub c.args.part.version names state c.args.image.now
     (desc_at set c.part_of-number.result) c.first_cell-base.result desc base
-    room c.requires.open c.requires.shaped.numbers c.args.cursor.now c.read_part.new.image.numbers c.read_part.new.image c.read_part.new.cursor
-    (g.S.Source.left c.args.source.now) (g.S.Source.left c.read_part.new.source) (Err c.in-Err.fault) (g.met.S.Source.octets c.args.source.now) c.read_part.ensures.kept c.in-Err.ensures.taken)
+    room c.requires.open c.args.cursor.now c.read_part.new.image.numbers c.read_part.new.image c.read_part.new.cursor
+    (g.S.Source.left c.args.source.now) (g.S.Source.left c.read_part.new.source) (Err c.in-Err.fault) c.read_part.ensures.kept c.in-Err.ensures.taken)
 
 pub returns-in-Ok-clause-given : goal.returns-in-Ok-clause-given
 returns-in-Ok-clause-given g c =
@@ -59,10 +58,3 @@ returns-in-Err-clause-given g c =
     let set = described c.args.set.now in
     let desc = ap (desc_at set) c.part_of-number.ensures ∙ desc_is set c.args.section.device c.args.part.sub in
     omega (arith, ap (bytes_of set) desc, c.in-Err.ensures.given)
-
-pub returns-in-Ok-clause-leaves : goal.returns-in-Ok-clause-leaves
-returns-in-Ok-clause-leaves g c = c.in-Ok.ensures.leaves
-
-pub returns-in-Err-clause-leaves : goal.returns-in-Err-clause-leaves
-returns-in-Err-clause-leaves g c =
-    rw c.concerning.ensures (concerning_leaves (Some c.args.section.device) (g.S.Source.left c.args.source.now) (g.S.Source.left c.read_part.new.source) c.args.cursor.now c.in-Err.fault c.in-Err.ensures.leaves)

@@ -7,7 +7,6 @@ use Rattle.vms_load.specs.declared.parts.Open.{Open}
 use Rattle.vms_load.specs.Parts.{part_due, subs_due, in_fields, after_fields, after_part}
 use Rattle.vms_load.proofs.ReadLemmas.{still_some, leads_on, reads_on}
 use Rattle.vms_load.proofs.Spending.{given_on}
-use Rattle.vms_load.proofs.Leaving.{moves_on, leaves_at}
 use Rattle.vms_load.proofs.parts.read_section.Goals as goal
 
 pub returns-in_err-fields-clause-reads : goal.returns-in_err-fields-clause-reads
@@ -21,7 +20,7 @@ returns-in_err-fields-clause-reads g c = λ names state room.
     let left = g.S.Source.left c.fields.new.source in
     let p = err_from_is_err_and c.from_residual.result c.from_residual.ensures.1 in
     rw (p.1, p.2)
-    (still_some {X = Unit {0}} {Y = Unit {0}} (g.S.Source.left c.args.source.now) here (λ x. after_fields set names state section c.in-Some.part.sub c.fields.new.image) (λ x. after_part set names state section c.fields.new.image None) c.args.cursor.now c.fields.new.cursor c.fields.new.cursor left left e
+    (still_some {X = Unit {0}} {Y = Unit {0}} (g.S.Source.left c.args.source.now) here (λ x. after_fields set names state section c.in-Some.part.sub c.fields.new.image) (λ x. after_part set names state section c.fields.new.image None) c.args.cursor.now c.fields.new.cursor c.fields.new.cursor left e
     (reads_on {X = Unit {0}} (g.S.Source.left c.args.source.now) (g.S.Source.left loop.source) left here (after_part set names state section loop.image (Some c.in-Some.part))
     (λ x. after_fields set names state section c.in-Some.part.sub c.fields.new.image) c.args.cursor.now loop.cursor c.fields.new.cursor (Err e) loop.invariant.from tt lead (c.in_err-fields.ensures.reads names state room)))
 
@@ -41,7 +40,7 @@ returns-in_err-next-clause-reads g c = λ names state room.
     (after_fields set names state section sub c.fields.new.image) c.args.cursor.now loop.cursor c.fields.new.cursor loop.invariant.from spent.0 lead (c.in_ok-fields.ensures.reads names state room) in
     let p = err_from_is_err_and c.from_residual-in_err-next.result c.from_residual-in_err-next.ensures.1 in
     rw (p.1, p.2)
-    (still_some {X = Option Open} {Y = Unit {0}} first here (after_part set names state section c.after.new.image) (λ x. after_part set names state section c.after.new.image None) c.args.cursor.now c.after.new.cursor c.after.new.cursor left left e
+    (still_some {X = Option Open} {Y = Unit {0}} first here (after_part set names state section c.after.new.image) (λ x. after_part set names state section c.after.new.image None) c.args.cursor.now c.after.new.cursor c.after.new.cursor left e
     (reads_on {X = Option Open} first (g.S.Source.left c.fields.new.source) left here (after_fields set names state section sub c.fields.new.image)
     (after_part set names state section c.after.new.image) c.args.cursor.now c.fields.new.cursor c.after.new.cursor (Err e) (omega (arith, loop.invariant.from, spent.0)) tt middle (c.in_err-next.ensures.reads names state sub)))
 
@@ -80,30 +79,9 @@ loop-next-preserved g c =
       from = omega (arith, loop.invariant.from, spent.0, last.0);
       place = omega (arith, loop.invariant.place, due, same, spent, last);
       given = given_on _ _ _ c.args.cursor.now c.fields.new.cursor c.after.new.cursor (omega (arith, loop.invariant.from, spent.0)) last.0 middle last.2;
-      leaves = moves_on first (g.S.Source.left c.fields.new.source) (g.S.Source.left c.after.new.source) c.args.cursor.now c.fields.new.cursor c.after.new.cursor (omega (arith, loop.invariant.from, spent.0)) last.0
-          (moves_on first (g.S.Source.left loop.source) (g.S.Source.left c.fields.new.source) c.args.cursor.now loop.cursor c.fields.new.cursor loop.invariant.from spent.0 loop.invariant.leaves c.in_ok-fields.ensures.leaves) c.in_ok-next.ensures.leaves;
       later = omega (arith, loop.invariant.later, c.in_ok-fields.ensures.cause, c.in_ok-next.ensures.cause);
       promise = c.in_ok-next.ensures.promise ∙ c.in_ok-fields.ensures.promise ∙ loop.invariant.promise;
     }
 
 pub returns-clause-reads : goal.returns-clause-reads
 returns-clause-reads g c = λ names state room. rw c.in_default.is at (c.loop-next.invariant.reads names state room)
-
--- ---- what the call leaves
-
-pub returns-in_err-fields-clause-leaves : goal.returns-in_err-fields-clause-leaves
-returns-in_err-fields-clause-leaves g c =
-    let loop = c.loop-next in
-    let p = err_from_is_err_and c.from_residual.result c.from_residual.ensures.1 in
-    rw (p.1, p.2)
-    (leaves_at (g.S.Source.left c.args.source.now) (g.S.Source.left loop.source) (g.S.Source.left c.fields.new.source) c.args.cursor.now loop.cursor c.in_err-fields.field-0.0 loop.invariant.from loop.invariant.leaves c.in_err-fields.ensures.leaves)
-
-pub returns-in_err-next-clause-leaves : goal.returns-in_err-next-clause-leaves
-returns-in_err-next-clause-leaves g c =
-    let loop = c.loop-next in
-    let first = g.S.Source.left c.args.source.now in
-    let spent = c.in_ok-fields.ensures.given in
-    let moved = moves_on first (g.S.Source.left loop.source) (g.S.Source.left c.fields.new.source) c.args.cursor.now loop.cursor c.fields.new.cursor loop.invariant.from spent.0 loop.invariant.leaves c.in_ok-fields.ensures.leaves in
-    let p = err_from_is_err_and c.from_residual-in_err-next.result c.from_residual-in_err-next.ensures.1 in
-    rw (p.1, p.2)
-    (leaves_at first (g.S.Source.left c.fields.new.source) (g.S.Source.left c.after.new.source) c.args.cursor.now c.fields.new.cursor c.in_err-next.field-0.0 (omega (arith, loop.invariant.from, spent.0)) moved c.in_err-next.ensures.leaves)

@@ -5,7 +5,6 @@ use Rattle.vms_desc.specs.Described.{described}
 use Rattle.vms_parts.specs.Devices.{device_at}
 use Rattle.vms_load.specs.Reads.{Leads}
 use Rattle.vms_load.specs.Parts.{IsShaped, OpensNext, part_due, in_fields, after_part}
-use Rattle.vms_load.proofs.Leaving.{Moves}
 use Rattle.vms_load.proofs.parts.read_section.Given as goal
 
 abbrev pub invariant-loop-next : goal.invariant-loop-next
@@ -20,7 +19,6 @@ invariant-loop-next g l =
       from : l.initial.cursor ≤ l.cursor;
       place : l.cursor + part_due set d l.image.came l.next ≤ l.initial.cursor + part_due set d l.initial.image.came (Some (record { sub = None; version = l.initial.image.version }));
       given : g.S.Source.given l.source ≡ capped (g.S.Source.given l.initial.source + (l.cursor - l.initial.cursor));
-      leaves : Moves (g.S.Source.left l.initial.source) l.initial.cursor l.cursor (g.S.Source.left l.source);
       later : g.S.Source.faults l.initial.source ≤ g.S.Source.faults l.source;
       promise : g.S.Source.promise l.source ≡ g.S.Source.promise l.initial.source;
     }

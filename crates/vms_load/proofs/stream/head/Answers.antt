@@ -1,7 +1,5 @@
 use Rattle.std.proofs.Common.{None, Ok, Err}
 use Rattle.vms_load.proofs.TurnReads.{head_read}
-use Rattle.vms_load.proofs.Leaving.{concerning_leaves}
-use Rattle.vms_load.proofs.HeadLeaving.{head_leaves}
 use Rattle.vms_load.proofs.stream.head.Goals as goal
 
 pub returns-in-Ok-clause-reads : goal.returns-in-Ok-clause-reads
@@ -12,13 +10,3 @@ pub returns-in-Err-clause-reads : goal.returns-in-Err-clause-reads
 returns-in-Err-clause-reads g c = λ set names state.
     rw c.concerning.ensures
     (head_read set names state (g.S.Source.left c.args.source.now) (g.S.Source.left c.stream_head.new.source) c.args.cursor.now c.stream_head.new.self (Err c.in-Err.fault) tt c.in-Err.ensures.content)
-
-pub returns-in-Ok-clause-leaves : goal.returns-in-Ok-clause-leaves
-returns-in-Ok-clause-leaves g c =
-    head_leaves (g.S.Source.left c.args.source.now) (g.S.Source.left c.stream_head.new.source) c.args.cursor.now c.stream_head.new.self (Ok c.in-Ok.field-0) c.in-Ok.ensures.place c.in-Ok.ensures.content
-
-pub returns-in-Err-clause-leaves : goal.returns-in-Err-clause-leaves
-returns-in-Err-clause-leaves g c =
-    let old = g.S.Source.left c.args.source.now in
-    let left = g.S.Source.left c.stream_head.new.source in
-    rw c.concerning.ensures (concerning_leaves None old left c.args.cursor.now c.in-Err.fault (head_leaves old left c.args.cursor.now c.stream_head.new.self (Err c.in-Err.fault) tt c.in-Err.ensures.content))

@@ -1,4 +1,4 @@
-use Rattle.std.proofs.Common.{◌<◌, List, [], Some, None, Bool, length, sym, ap, ◌∙◌, subst, arith}
+use Rattle.std.proofs.Common.{◌<◌, ◌+◌, List, [], Some, None, Bool, length, sym, ap, ◌∙◌, subst, arith}
 use Rattle.std.proofs.lemmas.Result.{err_from_is_err_and}
 use Rattle.std.proofs.lemmas.List.{length-set}
 use Rattle.vms_spec.specs.Images.{Image}
@@ -10,22 +10,22 @@ use Rattle.vms_parts.specs.Devices.{device_at}
 use Rattle.vms_load.specs.Heads.{opened_at, section_opened}
 use Rattle.vms_load.specs.Parts.{IsShaped, subs_due, part_due}
 use Rattle.vms_load.specs.Staging.{image_at, name_of, state_of, sections_due}
+use Rattle.vms_frames.specs.Judged.{judge_section}
+use Rattle.vms_load.proofs.ReadLemmas.{read_behind}
 use Rattle.vms_load.proofs.OpenedReads.{begun, section_refused, section_reads, ends_later}
 use Rattle.vms_load.proofs.StagedLemmas.{image_begun, default_shaped, section_new, sections_taken}
 use Rattle.vms_load.proofs.Spending.{gives_behind, gives_up}
-use Rattle.vms_load.proofs.Leaving.{leaves_on}
-use Rattle.vms_load.proofs.HeadLeaving.{section_leaves, behind_moves}
 use Rattle.vms_load.proofs.stream.opened.Goals as goal
 
 pub returns-in_err-device-clause-reads : goal.returns-in_err-device-clause-reads
-returns-in_err-device-clause-reads g c = λ names spot.
+returns-in_err-device-clause-reads g c = λ names spot bytes behind.
     let set = described c.args.set.now in
     let head = c.args.head.now in
     let p = err_from_is_err_and c.from_residual.result c.from_residual.ensures.1 in
     let is = sym (c.in_err-device.was) ∙ c.open_section.ensures.opened ∙ ap (λ (came : List Bool). opened_at c.args.at (section_opened set came head.name.items head.instance head.version)) c.deref.ensures.0 in
     rw (p.1, p.2)
-    (section_refused set names (state_of set c.args.staged.now spot) head c.args.at c.args.cursor.now c.args.cursor.now (g.S.Source.left c.args.source.now) (g.S.Source.left c.args.source.now)
-    (λ (x : Unit {0}). reading_on (judge set names) (state_of set c.args.staged.now Later)) c.in_err-device.field-0.0 is)
+    (section_refused set names (state_of set c.args.staged.now spot) head c.args.at c.args.cursor.now c.args.cursor.now bytes (g.S.Source.left c.args.source.now)
+    (λ (x : Unit {0}). reading_on (judge set names) (state_of set c.args.staged.now Later)) c.in_err-device.field-0.0 is behind.taken)
 
 pub begin-requires-clause-device : goal.begin-requires-clause-device
 begin-requires-clause-device g c =
@@ -73,7 +73,7 @@ read_section-requires-clause-place g c =
     omega (arith, due, same, c.requires.place)
 
 pub returns-clause-reads : goal.returns-clause-reads
-returns-clause-reads g c = λ names spot.
+returns-clause-reads g c = λ names spot bytes behind.
     let set = described c.args.set.now in
     let head = c.args.head.now in
     let k = c.in_ok-device.device in
@@ -85,9 +85,11 @@ returns-clause-reads g c = λ names spot.
     let machine = ap (name_of set) c.begin.ensures.machine in
     let last = ends_later (name_of set first.machine) (name_of set c.begin.new.staged.machine) c.begin.new.staged.images.items first.images.items first.came.items c.begin.new.staged.came.items k (image_at set k head.version)
     c.read_section.new.image machine c.begin.ensures.images c.begin.ensures.came in
-    section_reads set names (state_of set first spot) head k c.args.at c.args.cursor.now c.read_section.new.cursor c.index_mut-image.result.now c.read_section.new.image _
+    read_behind (reading_on (judge set names)) (judge_section set names (state_of set first spot) head) _ (14 + length head.name.items) c.args.at bytes c.args.cursor.now c.read_section.new.cursor
+    (g.S.Source.left c.args.source.now) (g.S.Source.left c.read_section.new.source) c.read_section.result behind (gives_up _ _ c.args.cursor.now c.read_section.new.cursor _ _ c.read_section.result c.read_section.ensures.given)
+    (section_reads set names (state_of set first spot) head k c.args.at c.args.cursor.now c.read_section.new.cursor c.index_mut-image.result.now c.read_section.new.image _
     (g.S.Source.left c.args.source.now) (g.S.Source.left c.read_section.new.source) c.read_section.result is image last
-    (c.read_section.ensures.reads names (begun set names (state_of set first spot) k) room)
+    (c.read_section.ensures.reads names (begun set names (state_of set first spot) k) room))
 
 pub returns-clause-given : goal.returns-clause-given
 returns-clause-given g c =
@@ -102,19 +104,3 @@ returns-clause-given g c =
     let same = ap (λ (x : Image). subs_due set (device_at set k).subs x.came) image in
     let came = ap (λ (l : List Bool). sections_due set set.devices l) c.begin.ensures.came in
     gives_behind _ _ c.args.cursor.now c.read_section.new.cursor (part_due set (device_at set k) c.index_mut-image.result.now.came (Some (record { sub = None; version = c.index_mut-image.result.now.version }))) _ _ c.read_section.result (omega (arith, due, same, came)) c.read_section.ensures.given
-
--- ---- what the call leaves
-
-pub returns-in_err-device-clause-leaves : goal.returns-in_err-device-clause-leaves
-returns-in_err-device-clause-leaves g c = λ bytes behind.
-    let set = described c.args.set.now in
-    let head = c.args.head.now in
-    let p = err_from_is_err_and c.from_residual.result c.from_residual.ensures.1 in
-    let is = sym (c.in_err-device.was) ∙ c.open_section.ensures.opened ∙ ap (λ (came : List Bool). opened_at c.args.at (section_opened set came head.name.items head.instance head.version)) c.deref.ensures.0 in
-    rw (p.1, p.2) (section_leaves head c.args.at c.args.cursor.now bytes (g.S.Source.left c.args.source.now) set c.args.staged.now.came.items c.in_err-device.field-0.0 behind is)
-
-pub returns-clause-leaves : goal.returns-clause-leaves
-returns-clause-leaves g c = λ bytes behind.
-    let moved = behind_moves c.args.head.now c.args.at c.args.cursor.now bytes (g.S.Source.left c.args.source.now) behind in
-    leaves_on (Some bytes) (g.S.Source.left c.args.source.now) (g.S.Source.left c.read_section.new.source) c.args.at c.args.cursor.now c.read_section.new.cursor c.read_section.result moved.0
-    (gives_up _ _ c.args.cursor.now c.read_section.new.cursor _ _ c.read_section.result c.read_section.ensures.given) moved.1 c.read_section.ensures.leaves

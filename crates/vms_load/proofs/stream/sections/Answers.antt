@@ -8,7 +8,6 @@ use Rattle.vms_frames.specs.declared.units.Between.TheVariants.{First}
 use Rattle.vms_load.specs.Staging.{accepted_of, state_of, spot_at, stream_due}
 use Rattle.vms_load.proofs.ReadLemmas.{leads_here, leads_on}
 use Rattle.vms_load.proofs.Spending.{given_on}
-use Rattle.vms_load.proofs.Leaving.{moves_none, moves_on, leaves_at}
 use Rattle.vms_load.proofs.stream.sections.Goals as goal
 
 pub loop-place-init : goal.loop-place-init
@@ -20,7 +19,6 @@ loop-place-init g c =
       from = omega arith;
       due = omega arith;
       given = omega (arith, g.met.S.Source.counted c.args.source.now);
-      leaves = moves_none (g.S.Source.left c.args.source.now) c.args.cursor.now;
       later = omega arith;
       promise = refl;
     }
@@ -40,14 +38,6 @@ loop-place-preserved g c =
       from = omega (arith, loop.invariant.from, spent.0);
       due = omega (arith, loop.invariant.due, due, spent);
       given = given_on _ _ _ c.args.cursor.now loop.cursor c.turn.new.cursor loop.invariant.from spent.0 loop.invariant.given spent.2;
-      leaves = moves_on (g.S.Source.left c.args.source.now) (g.S.Source.left loop.source) (g.S.Source.left c.turn.new.source) c.args.cursor.now loop.cursor c.turn.new.cursor loop.invariant.from spent.0 loop.invariant.leaves c.in_ok-place.ensures.leaves;
       later = omega (arith, loop.invariant.later, c.in_ok-place.ensures.cause);
       promise = c.in_ok-place.ensures.promise ∙ loop.invariant.promise;
     }
-
-pub returns-in_err-place-clause-leaves : goal.returns-in_err-place-clause-leaves
-returns-in_err-place-clause-leaves g c =
-    let loop = c.loop-place in
-    let p = err_from_is_err_and c.from_residual.result c.from_residual.ensures.1 in
-    rw (p.1, p.2)
-    (leaves_at (g.S.Source.left c.args.source.now) (g.S.Source.left loop.source) (g.S.Source.left c.turn.new.source) c.args.cursor.now loop.cursor c.in_err-place.field-0.0 loop.invariant.from loop.invariant.leaves c.in_err-place.ensures.leaves)

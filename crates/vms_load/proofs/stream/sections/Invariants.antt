@@ -6,7 +6,6 @@ use Rattle.vms_desc.specs.Described.{described}
 use Rattle.vms_frames.specs.declared.units.Between.TheVariants.{First}
 use Rattle.vms_load.specs.Reads.{Leads}
 use Rattle.vms_load.specs.Staging.{IsOf, accepted_of, state_of, spot_at, stream_due}
-use Rattle.vms_load.proofs.Leaving.{Moves}
 use Rattle.vms_load.proofs.stream.sections.Given as goal
 
 abbrev pub invariant-loop-place : goal.invariant-loop-place
@@ -19,7 +18,6 @@ invariant-loop-place g l =
       from : l.initial.cursor ≤ l.cursor;
       due : l.cursor + stream_due set l.staged.came.items l.place ≤ l.initial.cursor + stream_due set l.initial.staged.came.items (Some First);
       given : g.S.Source.given l.source ≡ capped (g.S.Source.given l.initial.source + (l.cursor - l.initial.cursor));
-      leaves : Moves (g.S.Source.left l.initial.source) l.initial.cursor l.cursor (g.S.Source.left l.source);
       later : g.S.Source.faults l.initial.source ≤ g.S.Source.faults l.source;
       promise : g.S.Source.promise l.source ≡ g.S.Source.promise l.initial.source;
     }

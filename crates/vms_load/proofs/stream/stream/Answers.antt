@@ -9,8 +9,6 @@ use Rattle.vms_load.proofs.Bounding.{most_small, all_due}
 use Rattle.vms_load.proofs.ReadLemmas.{leads_on, reads_on}
 use Rattle.vms_load.proofs.Spending.{given_on}
 use Rattle.vms_load.proofs.StreamReads.{refused_before, closed}
-use Rattle.vms_load.proofs.Leaving.{moves_on, leaves_at, concerning_leaves}
-use Rattle.vms_load.proofs.HeadLeaving.{from_start, trailer_leaves}
 use Rattle.vms_load.proofs.stream.stream.Goals as goal
 
 pub returns-in_err-head-clause-reads : goal.returns-in_err-head-clause-reads
@@ -21,7 +19,7 @@ returns-in_err-head-clause-reads g c =
     let left = g.S.Source.left c.head.new.source in
     let p = err_from_is_err_and c.from_residual.result c.from_residual.ensures.1 in
     rw (p.1, p.2)
-    (refused_before set names {X = Unit {0}} c.restart.new.staged start (g.S.Source.left c.args.source.now) left left (λ x. reading_on (judge set names) (state_of set c.restart.new.staged First)) c.new-cursor.result c.head.new.cursor
+    (refused_before set names {X = Unit {0}} c.restart.new.staged start (g.S.Source.left c.args.source.now) left (λ x. reading_on (judge set names) (state_of set c.restart.new.staged First)) c.new-cursor.result c.head.new.cursor
     c.in_err-head.field-0.0 c.restart.ensures.state c.new-cursor.ensures (c.in_err-head.ensures.reads set names start))
 
 pub sections-requires-clause-place : goal.sections-requires-clause-place
@@ -42,7 +40,7 @@ returns-in_err-sections-clause-reads g c =
     let e = c.in_err-sections.field-0.0 in
     let p = err_from_is_err_and c.from_residual-in_err-sections.result c.from_residual-in_err-sections.ensures.1 in
     rw (p.1, p.2)
-    (refused_before set names {X = Unit {0}} c.sections.new.staged start first left left (λ x. go (state_of set c.sections.new.staged (spot_at None))) c.new-cursor.result c.sections.new.cursor e c.restart.ensures.state c.new-cursor.ensures
+    (refused_before set names {X = Unit {0}} c.sections.new.staged start first left (λ x. go (state_of set c.sections.new.staged (spot_at None))) c.new-cursor.result c.sections.new.cursor e c.restart.ensures.state c.new-cursor.ensures
     (reads_on {X = Unit {0}} first (g.S.Source.left c.head.new.source) left (go start c.new-cursor.result) (go (state_of set c.restart.new.staged First)) (λ x. go (state_of set c.sections.new.staged (spot_at None)))
     c.new-cursor.result c.head.new.cursor c.sections.new.cursor (Err e) c.in_ok-head.ensures.given.0 tt (c.in_ok-head.ensures.reads set names start) c.in_err-sections.ensures.reads))
 
@@ -104,32 +102,3 @@ returns-in-Err-clause-given g c =
     let came = ap (λ (s : State). s.came) c.restart.ensures.state in
     let due = ap (λ (l : List Bool). sections_due set set.devices l) came ∙ all_due set set.devices in
     omega (arith, due, c.in_ok-head.ensures.given, c.in_ok-sections.ensures.given, c.in-Err.ensures.given, c.new-cursor.ensures)
-
--- ---- what the call leaves
-
-pub returns-in_err-head-clause-leaves : goal.returns-in_err-head-clause-leaves
-returns-in_err-head-clause-leaves g c =
-    let p = err_from_is_err_and c.from_residual.result c.from_residual.ensures.1 in
-    rw (p.1, p.2) (from_start (g.S.Source.left c.args.source.now) (g.S.Source.left c.head.new.source) c.new-cursor.result c.in_err-head.field-0.0 c.new-cursor.ensures c.in_err-head.ensures.leaves)
-
-pub returns-in_err-sections-clause-leaves : goal.returns-in_err-sections-clause-leaves
-returns-in_err-sections-clause-leaves g c =
-    let first = g.S.Source.left c.args.source.now in
-    let left = g.S.Source.left c.sections.new.source in
-    let e = c.in_err-sections.field-0.0 in
-    let p = err_from_is_err_and c.from_residual-in_err-sections.result c.from_residual-in_err-sections.ensures.1 in
-    rw (p.1, p.2)
-    (from_start first left c.new-cursor.result e c.new-cursor.ensures
-    (leaves_at first (g.S.Source.left c.head.new.source) left c.new-cursor.result c.head.new.cursor e c.in_ok-head.ensures.given.0 c.in_ok-head.ensures.leaves c.in_err-sections.ensures.leaves))
-
-pub returns-in-Err-clause-leaves : goal.returns-in-Err-clause-leaves
-returns-in-Err-clause-leaves g c =
-    let first = g.S.Source.left c.args.source.now in
-    let mid = g.S.Source.left c.sections.new.source in
-    let left = g.S.Source.left c.trailer.new.source in
-    let h = c.in_ok-head.ensures.given in
-    let s = c.in_ok-sections.ensures.given in
-    let moved = moves_on first (g.S.Source.left c.head.new.source) mid c.new-cursor.result c.head.new.cursor c.sections.new.cursor h.0 s.0 c.in_ok-head.ensures.leaves c.in_ok-sections.ensures.leaves in
-    let stopped = concerning_leaves None mid left c.sections.new.cursor c.in-Err.fault (trailer_leaves mid left c.sections.new.cursor c.trailer.new.self c.in-Err.fault c.in-Err.ensures.content) in
-    rw c.concerning.ensures
-    (from_start first left c.new-cursor.result (concerning None c.in-Err.fault) c.new-cursor.ensures (leaves_at first mid left c.new-cursor.result c.sections.new.cursor (concerning None c.in-Err.fault) (omega (arith, h.0, s.0)) moved stopped))

@@ -11,9 +11,6 @@ use Rattle.vms_load.specs.Staging.{accepted_of, state_of, spot_of, spot_at}
 use Rattle.vms_load.proofs.ReadLemmas.{settles_err, settles_ok, still_some}
 use Rattle.vms_load.proofs.TurnReads.{turn_fault, turn_settled, turn_section}
 use Rattle.vms_frames.specs.Found.{between_found, step_long}
-use Rattle.vms_load.proofs.Leaving.{unit_leaves_in, unit_refused_in, concerning_leaves}
-use Rattle.vms_load.proofs.UnitsLong.{IsStep, between_fits}
-use Rattle.vms_load.proofs.HeadLeaving.{configure_leaves, end_leaves, opened_leaves}
 use Rattle.vms_load.proofs.stream.turn.Goals as goal
 
 pub returns-in_err-configure-in-Ok-Configuration-clause-reads : goal.returns-in_err-configure-in-Ok-Configuration-clause-reads
@@ -87,8 +84,8 @@ returns-in_err-opened-in-Ok-Section-clause-reads g c =
     let here = reading_on (judge set names) state c.args.cursor.now in
     let p = err_from_is_err_and c.from_residual-in_err-opened-in-Ok-Section.result c.from_residual-in_err-opened-in-Ok-Section.ensures.1 in
     rw (p.1, p.2)
-    (still_some {X = Unit {0}} {Y = Option Between} first here (λ x. reading_on (judge set names) (state_of set c.opened.new.staged Later)) (λ next. reading_on (judge set names) (state_of set c.opened.new.staged (spot_at next))) c.args.cursor.now c.opened.new.cursor c.opened.new.cursor left left e
-    (turn_section set names state c.args.between first (g.S.Source.left c.between.new.source) left head c.args.cursor.now c.at-at.result c.between.new.self c.opened.new.cursor (state_of set c.opened.new.staged Later) (Err e) refl content place c.at-at.ensures tt
+    (still_some {X = Unit {0}} {Y = Option Between} first here (λ x. reading_on (judge set names) (state_of set c.opened.new.staged Later)) (λ next. reading_on (judge set names) (state_of set c.opened.new.staged (spot_at next))) c.args.cursor.now c.opened.new.cursor c.opened.new.cursor left e
+    (turn_section set names state c.args.between first (g.S.Source.left c.between.new.source) left head c.args.cursor.now c.at-at.result c.between.new.self c.opened.new.cursor (state_of set c.opened.new.staged Later) (Err e) refl content place c.at-at.ensures
     (c.in_err-opened-in-Ok-Section.ensures.reads names (spot_of c.args.between))))
 
 pub returns-in_ok-opened-in-Ok-Section-clause-reads : goal.returns-in_ok-opened-in-Ok-Section-clause-reads
@@ -102,73 +99,12 @@ returns-in_ok-opened-in-Ok-Section-clause-reads g c =
     let content = rw c.in-Ok-Section.field-0-is at c.in-Ok-Section.ensures.content in
     let place = rw c.in-Ok-Section.field-0-is at c.in-Ok-Section.ensures.place in
     turn_section set names state c.args.between first (g.S.Source.left c.between.new.source) left head c.args.cursor.now c.at-at.result c.between.new.self c.opened.new.cursor (state_of set c.opened.new.staged Later)
-    (Ok c.in_ok-opened-in-Ok-Section.field-0) refl content place c.at-at.ensures c.in_ok-opened-in-Ok-Section.ensures.given.0 (c.in_ok-opened-in-Ok-Section.ensures.reads names (spot_of c.args.between))
+    (Ok c.in_ok-opened-in-Ok-Section.field-0) refl content place c.at-at.ensures (c.in_ok-opened-in-Ok-Section.ensures.reads names (spot_of c.args.between))
 
 pub returns-in-Err-clause-reads : goal.returns-in-Err-clause-reads
 returns-in-Err-clause-reads g c =
     let set = described c.args.set.now in
     let names = accepted_of set c.args.only in
     rw c.concerning.ensures
-    (turn_fault set names (state_of set c.args.staged.now (spot_of c.args.between)) {Y = Option Between} c.args.between (g.S.Source.left c.args.source.now) (g.S.Source.left c.between.new.source) (g.S.Source.left c.between.new.source)
+    (turn_fault set names (state_of set c.args.staged.now (spot_of c.args.between)) {Y = Option Between} c.args.between (g.S.Source.left c.args.source.now) (g.S.Source.left c.between.new.source)
     (λ next. reading_on (judge set names) (state_of set c.args.staged.now (spot_at next))) c.args.cursor.now c.between.new.self c.in-Err.fault refl c.in-Err.ensures.content)
-
--- ---- what the call leaves
-
-pub returns-in_err-configure-in-Ok-Configuration-clause-leaves : goal.returns-in_err-configure-in-Ok-Configuration-clause-leaves
-returns-in_err-configure-in-Ok-Configuration-clause-leaves g c =
-    let set = described c.args.set.now in
-    let names = accepted_of set c.args.only in
-    let name = c.in-Ok-Configuration.name.items in
-    let content = rw c.in-Ok-Configuration.field-0-is at c.in-Ok-Configuration.ensures.content in
-    let settled = rw c.at-at.ensures at (c.in_err-configure-in-Ok-Configuration.ensures.settles (spot_of c.args.between)) in
-    let p = err_from_is_err_and c.from_residual.result c.from_residual.ensures.1 in
-    rw (p.1, p.2)
-    (configure_leaves set names (state_of set c.args.staged.now (spot_of c.args.between)) c.args.between (g.S.Source.left c.args.source.now) (g.S.Source.left c.between.new.source) c.args.cursor.now {X = Unit {0}} name (5 + length name)
-    (λ x. state_of set c.configure.new.staged Configured) c.in_err-configure-in-Ok-Configuration.field-0.0 content settled)
-
-pub returns-in_ok-configure-in-Ok-Configuration-clause-leaves : goal.returns-in_ok-configure-in-Ok-Configuration-clause-leaves
-returns-in_ok-configure-in-Ok-Configuration-clause-leaves g c =
-    let content = rw c.in-Ok-Configuration.field-0-is at c.in-Ok-Configuration.ensures.content in
-    let place = rw c.in-Ok-Configuration.field-0-is at c.in-Ok-Configuration.ensures.place in
-    unit_leaves_in step_long IsStep (between_found c.args.between) (g.S.Source.left c.args.source.now) (g.S.Source.left c.between.new.source) c.args.cursor.now c.between.new.self (Ok (steps.Configuration c.in-Ok-Configuration.name))
-    (between_fits c.args.between) place content
-
-pub returns-in_err-end-in-Ok-End-clause-leaves : goal.returns-in_err-end-in-Ok-End-clause-leaves
-returns-in_err-end-in-Ok-End-clause-leaves g c =
-    let set = described c.args.set.now in
-    let names = accepted_of set c.args.only in
-    let content = rw c.in-Ok-End.field-0-is at c.in-Ok-End.ensures.content in
-    let settled = rw c.at-at.ensures at (c.in_err-end-in-Ok-End.ensures.settles set names (spot_of c.args.between)) in
-    let p = err_from_is_err_and c.from_residual-in_err-end-in-Ok-End.result c.from_residual-in_err-end-in-Ok-End.ensures.1 in
-    rw (p.1, p.2)
-    (end_leaves set names (state_of set c.args.staged.now (spot_of c.args.between)) c.args.between (g.S.Source.left c.args.source.now) (g.S.Source.left c.between.new.source) c.args.cursor.now {X = Unit {0}} 1
-    (λ x. state_of set c.args.staged.now Ended) c.in_err-end-in-Ok-End.field-0.0 content settled)
-
-pub returns-in_ok-end-in-Ok-End-clause-leaves : goal.returns-in_ok-end-in-Ok-End-clause-leaves
-returns-in_ok-end-in-Ok-End-clause-leaves g c =
-    let content = rw c.in-Ok-End.field-0-is at c.in-Ok-End.ensures.content in
-    let place = rw c.in-Ok-End.field-0-is at c.in-Ok-End.ensures.place in
-    unit_leaves_in step_long IsStep (between_found c.args.between) (g.S.Source.left c.args.source.now) (g.S.Source.left c.between.new.source) c.args.cursor.now c.between.new.self (Ok steps.End) (between_fits c.args.between) place content
-
-pub returns-in_err-opened-in-Ok-Section-clause-leaves : goal.returns-in_err-opened-in-Ok-Section-clause-leaves
-returns-in_err-opened-in-Ok-Section-clause-leaves g c =
-    let content = rw c.in-Ok-Section.field-0-is at c.in-Ok-Section.ensures.content in
-    let place = rw c.in-Ok-Section.field-0-is at c.in-Ok-Section.ensures.place in
-    let p = err_from_is_err_and c.from_residual-in_err-opened-in-Ok-Section.result c.from_residual-in_err-opened-in-Ok-Section.ensures.1 in
-    rw (p.1, p.2)
-    (opened_leaves {X = Unit {0}} c.args.between (g.S.Source.left c.args.source.now) (g.S.Source.left c.between.new.source) (g.S.Source.left c.opened.new.source) c.in-Ok-Section.head c.at-at.result c.args.cursor.now c.between.new.self c.opened.new.cursor
-    (Err c.in_err-opened-in-Ok-Section.field-0.0) c.at-at.ensures place content c.in_err-opened-in-Ok-Section.ensures.leaves)
-
-pub returns-in_ok-opened-in-Ok-Section-clause-leaves : goal.returns-in_ok-opened-in-Ok-Section-clause-leaves
-returns-in_ok-opened-in-Ok-Section-clause-leaves g c =
-    let content = rw c.in-Ok-Section.field-0-is at c.in-Ok-Section.ensures.content in
-    let place = rw c.in-Ok-Section.field-0-is at c.in-Ok-Section.ensures.place in
-    opened_leaves {X = Unit {0}} c.args.between (g.S.Source.left c.args.source.now) (g.S.Source.left c.between.new.source) (g.S.Source.left c.opened.new.source) c.in-Ok-Section.head c.at-at.result c.args.cursor.now c.between.new.self c.opened.new.cursor
-    (Ok c.in_ok-opened-in-Ok-Section.field-0) c.at-at.ensures place content c.in_ok-opened-in-Ok-Section.ensures.leaves
-
-pub returns-in-Err-clause-leaves : goal.returns-in-Err-clause-leaves
-returns-in-Err-clause-leaves g c =
-    let old = g.S.Source.left c.args.source.now in
-    let left = g.S.Source.left c.between.new.source in
-    rw c.concerning.ensures
-    (concerning_leaves None old left c.args.cursor.now c.in-Err.fault (unit_refused_in IsStep (between_found c.args.between) old left c.args.cursor.now c.in-Err.fault (between_fits c.args.between) c.in-Err.ensures.content))
