@@ -67,7 +67,7 @@ item_least ts (Num kind) caps cell p =
     let w = width kind in
     let v = value_of kind (take w p.rest) in
     ap
-    (λ (b : Bool). if_whole w p (if is_bad_bool kind (take w p.rest) then refuse p reasons.BadBool else if b then refuse p reasons.CountTooLarge else on w (slice_set p.numbers cell v) p))
+    (λ (b : Bool). if_whole w p (if is_bad_bool kind (take w p.rest) then refuse p reasons.BadBool w else if b then refuse p reasons.CountTooLarge w else on w (slice_set p.numbers cell v) p))
     (exceeds_least caps v)
 item_least ts (Equal kind z) caps cell p = refl
 item_least ts (Unused n) caps cell p = refl

@@ -86,9 +86,10 @@ module _ (set : Set) (names : List (List ℕ)) where
     closed_by place end input rest left (Ok x) Cut is there h = absurd h
     closed_by place end input rest left (Err fault) f is there h =
         let start : 0 ≤ place = omega arith in
+        let all : place ≡ place - 0 = omega arith in
         let judged = reading_after go place rest (judge_found None (judge_close ended rest) rest f) in
         all_refused judged staged input left (λ (x : Unit {0}). go ended) 0 end (concerning None fault) refl
-        (still_behind judged judged (λ (x : Unit {0}). go ended) (λ (x : Unit {0}). go ended) 0 place end end input rest left (concerning None fault) start there refl
+        (still_behind judged judged (λ (x : Unit {0}). go ended) (λ (x : Unit {0}). go ended) 0 place end end input rest left (concerning None fault) start (there ∙ ap (λ (k : ℕ). drop k input) all) refl
         (unit_fault go None (judge_close ended rest) place rest f left (λ (x : Unit {0}). go ended) end fault h))
 
     -- the stream ends here, or what follows its end mark is at fault

@@ -1,4 +1,4 @@
-use Rattle.std.proofs.Common.{◌<◌, ◌+◌, List, [], Some, None, Bool, length, sym, ap, ◌∙◌, subst, arith}
+use Rattle.std.proofs.Common.{◌<◌, ◌+◌, List, [], Some, None, Bool, length, slice_set, sym, ap, ◌∙◌, subst, arith}
 use Rattle.std.proofs.lemmas.Result.{err_from_is_err_and}
 use Rattle.std.proofs.lemmas.List.{length-set}
 use Rattle.vms_spec.specs.Images.{Image}
@@ -12,7 +12,7 @@ use Rattle.vms_load.specs.Parts.{IsShaped, subs_due, part_due}
 use Rattle.vms_load.specs.Staging.{image_at, name_of, state_of, sections_due}
 use Rattle.vms_frames.specs.Judged.{judge_section}
 use Rattle.vms_load.proofs.ReadLemmas.{read_behind}
-use Rattle.vms_load.proofs.OpenedReads.{begun, section_refused, section_reads, ends_later}
+use Rattle.vms_load.proofs.OpenedReads.{begun, section_refused, section_reads, ended_in, ends_later}
 use Rattle.vms_load.proofs.StagedLemmas.{image_begun, default_shaped, section_new, sections_taken}
 use Rattle.vms_load.proofs.Spending.{gives_behind, gives_up}
 use Rattle.vms_load.proofs.stream.opened.Goals as goal
@@ -85,7 +85,8 @@ returns-clause-reads g c = λ names spot bytes behind.
     let machine = ap (name_of set) c.begin.ensures.machine in
     let last = ends_later (name_of set first.machine) (name_of set c.begin.new.staged.machine) c.begin.new.staged.images.items first.images.items first.came.items c.begin.new.staged.came.items k (image_at set k head.version)
     c.read_section.new.image machine c.begin.ensures.images c.begin.ensures.came in
-    read_behind (reading_on (judge set names)) (judge_section set names (state_of set first spot) head) _ (14 + length head.name.items) c.args.at bytes c.args.cursor.now c.read_section.new.cursor
+    read_behind {X = Unit {0}} (reading_on (judge set names)) (judge_section set names (state_of set first spot) head)
+    (λ x. reading_on (judge set names) (ended_in (name_of set c.begin.new.staged.machine) (slice_set c.begin.new.staged.images.items k c.read_section.new.image) c.begin.new.staged.came.items)) (14 + length head.name.items) c.args.at bytes c.args.cursor.now c.read_section.new.cursor
     (g.S.Source.left c.args.source.now) (g.S.Source.left c.read_section.new.source) c.read_section.result behind (gives_up _ _ c.args.cursor.now c.read_section.new.cursor _ _ c.read_section.result c.read_section.ensures.given)
     (section_reads set names (state_of set first spot) head k c.args.at c.args.cursor.now c.read_section.new.cursor c.index_mut-image.result.now c.read_section.new.image _
     (g.S.Source.left c.args.source.now) (g.S.Source.left c.read_section.new.source) c.read_section.result is image last

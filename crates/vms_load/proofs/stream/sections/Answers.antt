@@ -1,4 +1,4 @@
-use Rattle.std.proofs.Common.{Option, Some, ap, ◌∙◌, arith, refl}
+use Rattle.std.proofs.Common.{Option, Some, None, Err, ap, ◌∙◌, arith, refl}
 use Rattle.std.proofs.lemmas.Result.{err_from_is_err_and}
 use Rattle.vms_spec.specs.Judging.{judge}
 use Rattle.vms_laws.specs.Whole.{reading_on}
@@ -6,7 +6,7 @@ use Rattle.vms_desc.specs.Described.{described}
 use Rattle.vms_frames.specs.declared.units.Between.{Between}
 use Rattle.vms_frames.specs.declared.units.Between.TheVariants.{First}
 use Rattle.vms_load.specs.Staging.{accepted_of, state_of, spot_at, stream_due}
-use Rattle.vms_load.proofs.ReadLemmas.{leads_here, leads_on}
+use Rattle.vms_load.proofs.ReadLemmas.{leads_here, leads_on, reads_on, still_some}
 use Rattle.vms_load.proofs.Spending.{given_on}
 use Rattle.vms_load.proofs.stream.sections.Goals as goal
 
@@ -41,3 +41,18 @@ loop-place-preserved g c =
       later = omega (arith, loop.invariant.later, c.in_ok-place.ensures.cause);
       promise = c.in_ok-place.ensures.promise ∙ loop.invariant.promise;
     }
+
+pub returns-in_err-place-clause-reads : goal.returns-in_err-place-clause-reads
+returns-in_err-place-clause-reads g c =
+    let set = described c.args.set.now in
+    let go = reading_on (judge set (accepted_of set c.args.only)) in
+    let loop = c.loop-place in
+    let first = g.S.Source.left c.args.source.now in
+    let left = g.S.Source.left c.turn.new.source in
+    let here = go (state_of set c.args.staged.now (spot_at (Some First))) c.args.cursor.now in
+    let e = c.in_err-place.field-0.0 in
+    let p = err_from_is_err_and c.from_residual.result c.from_residual.ensures.1 in
+    rw (p.1, p.2)
+    (still_some {X = Option Between} {Y = Unit {0}} first here (λ next. go (state_of set c.turn.new.staged (spot_at next))) (λ x. go (state_of set c.turn.new.staged (spot_at None))) c.args.cursor.now c.turn.new.cursor c.turn.new.cursor left e
+    (reads_on {X = Option Between} first (g.S.Source.left loop.source) left here (go (state_of set loop.staged (spot_at (Some c.in-Some.between)))) (λ next. go (state_of set c.turn.new.staged (spot_at next)))
+    c.args.cursor.now loop.cursor c.turn.new.cursor (Err e) loop.invariant.from tt (rw c.in-Some.is at loop.invariant.reads) c.in_err-place.ensures.reads))
