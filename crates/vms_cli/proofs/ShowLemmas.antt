@@ -73,7 +73,7 @@ refused set is (Some bytes) left out out' images taken fault r same line ok l sa
     let named : Loads set (accepted_of set None) bytes left images taken (Err (faults.Refused r)) = subst (λ (f : LoadFault). Loads set (accepted_of set None) bytes left images taken (Err f)) same l in
     let first : Loads set_0 set_0.machines bytes left images taken (Err (faults.Refused r)) = subst (λ (s : Set). Loads s (accepted_of s None) bytes left images taken (Err (faults.Refused r))) is named in
     let outcome : shown (reading set_0 set_0.machines bytes) ≡ ended 1 (refused_line set_0 r.at r.section r.reason) =
-    ap shown (fault_holds set_0 set_0.machines shipped_holds.0 bytes ok r.at r.section r.reason first) in
+    ap shown (fault_holds set_0 set_0.machines shipped_holds.0 bytes ok r.at r.section r.reason first.0 first.1) in
     subst (λ (x : Outcome). EndsAs (Some bytes) left out out' (Refused line) x) (sym outcome) (refl, refl, sym said, keeps)
 
 -- ---- what is printed

@@ -34,7 +34,7 @@ longest_values = 1048576
 abbrev pub shown : Option (Reading State) → Outcome
 shown None = done [] 0
 shown (Some (Accepted n end)) = done (values_text set_0 end.machine end.images) n
-shown (Some (Refused at section reason)) = ended 1 (refused_line set_0 at section reason)
+shown (Some (Refused at section reason long)) = ended 1 (refused_line set_0 at section reason)
 
 abbrev pub packed_of : ValuesRead → Outcome
 packed_of (Values machine images) = done (written set_0 machine images None) 0

@@ -57,9 +57,9 @@ impl Loader {
     /// Takes one stream from the source, and answers the machine that it names, or none.
     ///
     /// `only` names the one machine that is accepted in place of the set's. After an error the loader's images
-    /// and what it took are as they were. After a refusal no byte past the unit at fault was taken from the source,
-    /// where a number at fault counts as one of 8 bytes; after `Invalid`, which is judged behind the last unit of a
-    /// description, none past the refusal's place.
+    /// and what it took are as they were. After a refusal exactly the bytes up to the end of the unit at fault were
+    /// taken from the source: up to the refusal's place after `Invalid`, which is judged behind the last unit of a
+    /// description, and all where the input ends inside the unit.
     pub fn load<S: Source>(
         &mut self,
         source: &mut S,
