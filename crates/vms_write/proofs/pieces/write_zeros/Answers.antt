@@ -1,7 +1,7 @@
 use Rattle.std.proofs.Common.{◌≡◌, ◌+◌, ◌-◌, ◌++◌, ℕ, replicate, arith, ◌∙◌, sym, ap}
 use Rattle.std.proofs.lemmas.List.{replicate-append-replicate}
-use Rattle.vms_write.proofs.Growing.{leaves_rest, leaves_prefix, on_fault}
-use Rattle.vms_write.proofs.walk.write_zeros.Goals as goal
+use Rattle.vms_walk.proofs.Growing.{leaves_rest, leaves_prefix, on_fault}
+use Rattle.vms_write.proofs.pieces.write_zeros.Goals as goal
 
 more_zeros : (n some : ℕ) → some + (n - some) ≡ n → replicate {A = ℕ} n 0 ≡ replicate some 0 ++ replicate (n - some) 0
 more_zeros n some e = ap (λ (k : ℕ). replicate {A = ℕ} k 0) (sym e) ∙ sym (replicate-append-replicate some (n - some) 0)

@@ -1,6 +1,6 @@
 use Rattle.std.proofs.Common.{◌≡◌, ◌≤◌, replicate}
-use Rattle.vms_write.proofs.Growing.{Leaves}
-use Rattle.vms_write.proofs.walk.write_zeros.Given as goal
+use Rattle.vms_walk.proofs.Growing.{Leaves}
+use Rattle.vms_write.proofs.pieces.write_zeros.Given as goal
 
 abbrev pub invariant-loop-left : goal.invariant-loop-left
 invariant-loop-left g l = record {
