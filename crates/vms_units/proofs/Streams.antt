@@ -2,3 +2,9 @@
 pub mod UnitRows
 pub mod Steps
 pub mod Free
+pub mod Inside
+pub mod Subs
+pub mod SectionsFound
+pub mod StreamFound
+pub mod SectionsRead
+pub mod StreamRead

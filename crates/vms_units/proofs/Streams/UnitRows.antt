@@ -139,6 +139,28 @@ module _ (set : Set) (names : List (List ℕ)) (d : Due) (so_far : Known) where
       (ap (λ (a : Bool). mark_line a (is_after_configuration d) true (is_after_end d) (b == 2) (b == 3) (b == 8) (b == 5)) (sym s)
       ∙ ap (λ (w : Bool). mark_line (is_between d) (is_after_configuration d) w (is_after_end d) (b == 2) (b == 3) (b == 8) (b == 5)) (sym w) ∙ e)
 
+  trailing_taken : (two three eight five : Bool) → mark_line false false false true two three eight five ≡ None → ⊥
+  trailing_taken true three true true e = cc
+  trailing_taken true three true false e = cc
+  trailing_taken true three false true e = cc
+  trailing_taken true three false false e = cc
+  trailing_taken false true true true e = cc
+  trailing_taken false true true false e = cc
+  trailing_taken false true false true e = cc
+  trailing_taken false true false false e = cc
+  trailing_taken false false true true e = cc
+  trailing_taken false false true false e = cc
+  trailing_taken false false false true e = cc
+  trailing_taken false false false false e = cc
+
+  pub trailing_never : (b : ℕ) → is_between d ≡ false → is_after_configuration d ≡ false → wants_foot d ≡ false → is_after_end d ≡ true → row_of (Mark b) ≡ None → ⊥
+  trailing_never b s c w l e =
+      trailing_taken (b == 2) (b == 3) (b == 8) (b == 5)
+      (ap (λ (a : Bool). mark_line a false false true (b == 2) (b == 3) (b == 8) (b == 5)) (sym s)
+      ∙ ap (λ (c : Bool). mark_line (is_between d) c false true (b == 2) (b == 3) (b == 8) (b == 5)) (sym c)
+      ∙ ap (λ (w : Bool). mark_line (is_between d) (is_after_configuration d) w true (b == 2) (b == 3) (b == 8) (b == 5)) (sym w)
+      ∙ ap (λ (l : Bool). mark_line (is_between d) (is_after_configuration d) (wants_foot d) l (b == 2) (b == 3) (b == 8) (b == 5)) (sym l) ∙ e)
+
   -- ---- heads
 
   -- a section head that no row takes: of a device that has not come, at a version of its description
