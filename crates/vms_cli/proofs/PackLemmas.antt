@@ -12,9 +12,7 @@ use Rattle.vms_spec.specs.ValuesReading.{ValuesRead, Values, Bad, values_read}
 use Rattle.vms_values.specs.Reading.{ReadsAs}
 use Rattle.vms_values.specs.Printing.{machine_of}
 use Rattle.vms_values.specs.declared.fault.Values.{Values as Given}
-use Rattle.vms_write.specs.Writing.{AreReady, no_image}
-use Rattle.vms_spec.specs.Readiness.{is_ready}
-use Rattle.vms_desc.specs.Described.{device_at}
+use Rattle.vms_laws.specs.Laws.{AreReady}
 use Rattle.std.specs.Option.{option_map}
 use Rattle.std.specs.Prelude.{string_bytes, Result, Err}
 use Rattle.std.specs.Option.{ForSome}
@@ -30,20 +28,11 @@ use Rattle.vms_cli.specs.declared.ending.Ending.{Ending}
 use Rattle.vms_cli.specs.declared.ending.Ending.TheVariants.{Done, Refused, BadWords, BadValues, ReadFault, WriteFault, ShelfFault, NotThere, TooLarge, NoMemory}
 use Rattle.vms_cli.specs.Outcomes.{Outcome, ended, packed_of, packed, longest_values}
 use Rattle.vms_cli.specs.Endings.{EndsAs, WritesAs, WriteCause, PackCause}
-use Rattle.vms_texts.specs.Texts.{IsTimer}
 use Rattle.vms_texts.proofs.Backs.{read_holds}
-
-at_first : (image : Image) → is_ready set_0 timer image ≡ true → (k : ℕ) → k < 1 → is_ready set_0 (device_at set_0 k) (get_or (image ∷ []) k no_image) ≡ true
-at_first image h zero l = h
-at_first image h (suc k) l = absurd (omega (arith, l))
-
-one_ready : (images : List Image) → IsTimer images → AreReady set_0 images
-one_ready [] h = absurd h
-one_ready (image ∷ []) h = record { one_each = refl; ready = at_first image h }
-one_ready (image ∷ other ∷ images) h = absurd h
+use Rattle.vms_texts.proofs.Rounds.{timers_ready}
 
 ready_of : (text : List ℕ) (r : ValuesRead) (v : Given) → values_read set_0 text ≡ r → ReadsAs set_0 r (Ok v) → AreReady set_0 v.images.items
-ready_of text (Values machine images) v e reads = subst (λ (l : List Image). AreReady set_0 l) (sym reads.0) (one_ready images (read_holds text machine images e).ready)
+ready_of text (Values machine images) v e reads = subst (λ (l : List Image). AreReady set_0 l) (sym reads.0) (timers_ready images (read_holds text machine images e).ready)
 ready_of text (Bad line reason) v e reads = absurd reads
 
 -- the images of a text that was read are ready
