@@ -12,7 +12,4 @@ mod stream;
 pub use readiness::{are_ready, ready};
 pub use section::write_section;
 pub use stream::write_stream;
-
-/// The sink failed; its count of faults has risen.
-#[derive(Clone, Copy, Debug, Drop, PartialEq, Eq)]
-pub struct WriteFault;
+pub use vms_io::WriteFault;
