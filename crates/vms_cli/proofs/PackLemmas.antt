@@ -12,16 +12,14 @@ use Rattle.vms_spec.specs.Images.{Image}
 use Rattle.vms_spec.specs.Shipped.{set_0, timer}
 use Rattle.vms_spec.specs.Streams.{written}
 use Rattle.vms_spec.specs.ValuesReading.{ValuesRead, Values, Bad, values_read}
-use Rattle.vms_spec.specs.Readiness.{is_ready}
 use Rattle.vms_spec.specs.declared.ValuesReason.{ValuesReason}
 use Rattle.vms_values.specs.Reading.{ReadsAs}
 use Rattle.vms_values.specs.declared.fault.Values.{Values as Given}
 use Rattle.vms_values.specs.declared.fault.ValuesFault.{ValuesFault}
 use Rattle.vms_values.specs.declared.fault.ValuesFault.TheVariants as faults
-use Rattle.vms_write.specs.Writing.{AreReady, no_image}
-use Rattle.vms_desc.specs.Described.{device_at}
-use Rattle.vms_texts.specs.Texts.{IsTimer}
+use Rattle.vms_laws.specs.Laws.{AreReady}
 use Rattle.vms_texts.proofs.Backs.{read_holds}
+use Rattle.vms_texts.proofs.Rounds.{timers_ready}
 use Rattle.vms_cli.specs.declared.ending.Ending.{Ending}
 use Rattle.vms_cli.specs.Lines.{values_line}
 use Rattle.vms_cli.specs.Outcomes.{Outcome, ended, TakesBytes}
@@ -29,17 +27,8 @@ use Rattle.vms_cli.specs.Pack.{PacksText, Stream, BadText}
 use Rattle.vms_cli.specs.Endings.{EndsAs, EndsWith, WritesAs}
 use Rattle.vms_cli.proofs.ShowLemmas.{text_written}
 
-at_first : (image : Image) → is_ready set_0 timer image ≡ true → (k : ℕ) → k < 1 → is_ready set_0 (device_at set_0 k) (get_or (image ∷ []) k no_image) ≡ true
-at_first image h zero l = h
-at_first image h (suc k) l = absurd (omega (arith, l))
-
-one_ready : (images : List Image) → IsTimer images → AreReady set_0 images
-one_ready [] h = absurd h
-one_ready (image ∷ []) h = record { one_each = refl; ready = at_first image h }
-one_ready (image ∷ other ∷ images) h = absurd h
-
 ready_of : (text : List ℕ) (r : ValuesRead) (v : Given) → values_read set_0 text ≡ r → ReadsAs set_0 r (Ok v) → AreReady set_0 v.images.items
-ready_of text (Values machine images) v e reads = subst (λ (l : List Image). AreReady set_0 l) (sym reads.0) (one_ready images (read_holds text machine images e).ready)
+ready_of text (Values machine images) v e reads = subst (λ (l : List Image). AreReady set_0 l) (sym reads.0) (timers_ready images (read_holds text machine images e).ready)
 ready_of text (Bad line reason) v e reads = absurd reads
 
 -- the images of a text that was read are ready

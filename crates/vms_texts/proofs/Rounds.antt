@@ -7,6 +7,7 @@ use Rattle.vms_spec.specs.Shipped.{set_0, timer}
 use Rattle.vms_spec.specs.Streams.{Takes, IsConfiguration, IsReady, optional, configuration, written}
 use Rattle.vms_spec.specs.Values.{values_text}
 use Rattle.vms_spec.specs.ValuesReading.{values_read}
+use Rattle.vms_laws.specs.Laws.{AreReady}
 use Rattle.vms_laws.proofs.Stated.{shipped_holds, one_stream_holds, ready_holds, written_holds}
 use Rattle.vms_texts.specs.Texts.{IsTimer, IsMachine, PackedLaw, ShownLaw}
 use Rattle.vms_texts.proofs.Backs.{printed_holds, read_holds, the_machine}
@@ -25,6 +26,9 @@ one_each [] t = absurd t
 one_each (one ∷ []) t = refl
 one_each (one ∷ other ∷ images) t = absurd t
 
+pub timers_ready : (images : List Image) → IsTimer images → AreReady set_0 images
+timers_ready images t = record { one_each = one_each images t; ready = ready_at images t }
+
 configured : (machine : Option (List ℕ)) → IsMachine machine → IsConfiguration set_0.machines machine (optional configuration machine)
 configured None m = refl
 configured (Some name) m = (m, subst (λ (n : List ℕ). length n ≤ 255) (the_machine name m) (omega arith), refl)
@@ -34,7 +38,7 @@ pub takes : (machine : Option (List ℕ)) (images : List Image) → IsMachine ma
 takes machine images m t =
     subst (λ (l : List ℕ). Takes set_0 set_0.machines l (length (written set_0 machine images None)) machine images) (append-nil (written set_0 machine images None))
     (written_holds set_0 set_0.machines (omega arith) machine None images (configured machine m) refl
-    (record { one_each = one_each images t; ready = ready_at images t }) [] (λ e. refl))
+    (timers_ready images t) [] (λ e. refl))
 
 pub packed_holds : PackedLaw
 packed_holds text machine images e =

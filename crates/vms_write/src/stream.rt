@@ -6,7 +6,7 @@ ghost use Rattle.vms_io.specs.Causes.{HasCause, AppendsPrefix};
 ghost use Rattle.vms_spec.specs.Lists.{at_option};
 ghost use Rattle.vms_spec.specs.Streams.{written, written_sections, longest_text, stream_head, optional, configuration, trailer, end_mark};
 ghost use Rattle.vms_desc.specs.Described.{described};
-ghost use Rattle.vms_write.specs.Writing.{AreReady};
+ghost use Rattle.vms_laws.specs.Laws.{AreReady};
 
 use crate::WriteFault;
 use crate::heads::{STREAM_HEAD, configuration, marked};
