@@ -154,7 +154,7 @@ impl PortNumbers {
     pub fn restore(&self, level: u8, now: u64) -> Result<Serial, u8>
         requires { now ≤ LAST_MOMENT }
         ensures restored { result ≡ restored level now self.now }
-        ensures rule { IfErr result (λ rule. rule ≤ 10) }
+        ensures rule { IfErr result (λ rule. (1 ≤ rule) × (rule ≤ 10)) }
     {
         let port = self.to_port(level);
         let rules = [
