@@ -1,6 +1,6 @@
 // What a byte at the control port asks for.
 ghost use Rattle.std.specs.Prelude.{◌≡◌, ◌<◌};
-ghost use Rattle.dev_pit.specs.Control.{control_word, is_set};
+ghost use Rattle.dev_pit.specs.Control.{control_word, is_set, IsWord};
 
 use crate::mode::{Access, Mode};
 
@@ -41,7 +41,8 @@ impl ControlWord {
     /// 4 are RW, or at 0 the counter latch command.
     #[tactic(auto, unfolding(crate::specs::Control::control_word))]
     pub fn of(value: u8) -> ControlWord
-        ensures { result ≡ control_word value }
+        ensures word { result ≡ control_word value }
+        ensures counter { IsWord result }
     {
         let counter = value / 64;
         let access = value / 16 % 4;
