@@ -9,6 +9,7 @@ use Rattle.dev_serial.specs.Line.{character_time, character_bits}
 use Rattle.dev_serial.specs.Parts.{ReceiverState, TransmitterState, IsShort}
 use Rattle.dev_serial.specs.Receive.{received, taken_at, emptied}
 use Rattle.dev_serial.specs.Rules.{longest_timeout}
+use Rattle.dev_serial.specs.Sending.{LongestCharacter}
 use Rattle.dev_serial.specs.Sound.{AreBytes, IsTimeout, IsReceiver, IsShift, IsTransmitter}
 use Rattle.dev_serial.specs.Transmit.{queued, loaded}
 use Rattle.dev_serial.specs.declared.mode.Mode.{Mode}
@@ -40,6 +41,10 @@ character-longest divisor lcr h =
     let most : max divisor 1 ≤ 65535 = omega arith in
     let product : character_bits lcr * max divisor 1 ≤ 12 * 65535 = mul-le-mul bits most in
     omega arith
+
+pub longest_character : LongestCharacter
+unfolding character_time
+longest_character = record { reached = refl; most = λ divisor lcr h. character-longest divisor lcr h }
 
 -- a moment that a character after now starts anew
 abbrev pub mode_at : ℕ → Bool → Bool → Bool → Mode

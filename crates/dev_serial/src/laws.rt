@@ -1,7 +1,7 @@
 // Laws of the definitions, each in a clause of a function that does nothing.
 ghost use Rattle.dev_serial.specs.Laws.{AlikeItself, AlikeBack, AlikeOn, ReadsKeepLevel, WritesKeepLevel, BytesInKeepLevel, AdvancesKeepLevel, ListsComeBack, HoldsWhatItGives, SavedAreCells, SavedComesBack, SoundMeetsRules, RestoredIsSound, ReadsAlike, WritesAlike, BytesInAlike, AdvancesAlike, SavesAlike, LinesAlike, PowerOnIsSound, ReadsKeepSound, WritesKeepSound, BytesInKeepSound, AdvancesKeepSound};
 ghost use Rattle.dev_serial.specs.RegisterLaws.{IdentifiesFirst, LineTellsAsking, SwitchClearsBoth, ResetsByBits, StaysOff, WritesSwitch};
-ghost use Rattle.dev_serial.specs.Sending.{SendsInOrder, ReplacesOne, LeavesForLine, AdvancesInParts, WaitsUntilDue, LoopsAtMoment};
+ghost use Rattle.dev_serial.specs.Sending.{SendsInOrder, ReplacesOne, LeavesForLine, AdvancesInParts, WaitsUntilDue, LoopsAtMoment, LongestCharacter};
 
 /// Each port is like itself, a port that is like another is so both ways, and what is like one of two
 /// ports that are alike is like the other.
@@ -79,11 +79,13 @@ pub fn sending_law()
 {}
 
 /// Letting time pass in two parts is letting it pass at once; no byte is sent before its moment; and in
-/// loop mode a byte comes in at the moment at which it is sent.
+/// loop mode a byte comes in at the moment at which it is sent. The longest character takes
+/// `LONGEST_CHARACTER`, 6,826,562,500 nanoseconds.
 pub fn time_law()
     ensures in_parts { AdvancesInParts }
     ensures not_before { WaitsUntilDue }
     ensures loops { LoopsAtMoment }
+    ensures longest { LongestCharacter }
 {}
 
 /// The interrupt that is identified asks for service and none of higher priority does, and the line is
