@@ -9,12 +9,12 @@ use Rattle.dev_serial.specs.Laws.{PowerOnIsSound, ReadsKeepSound, WritesKeepSoun
 use Rattle.dev_serial.specs.Line.{character_time}
 use Rattle.dev_serial.specs.Port.{Port, power_on, mode_of, interrupt, is_thr_empty}
 use Rattle.dev_serial.specs.Receive.{received, taken}
-use Rattle.dev_serial.specs.Rules.{longest_character}
 use Rattle.dev_serial.specs.Sound.{IsSound, HasRegisters}
 use Rattle.dev_serial.specs.declared.trigger.Trigger.{Trigger}
 use Rattle.dev_serial.proofs.KeepParts.{character-longest, taken-held, received-sound, emptied-sound, thr-sound, latched-sound, cleared-sound}
 use Rattle.dev_serial.proofs.KeepAdvance.{advance-transmitter, advance-receiver}
 use Rattle.dev_serial.proofs.SendingLaws.{character-positive}
+use Rattle.dev_serial.specs.declared.mode.TheConstants.{LONGEST_CHARACTER}
 
 pub power_on_is_sound : PowerOnIsSound
 unfolding power_on
@@ -27,7 +27,7 @@ power_on_is_sound level now is_level = record {
   off true = refl
   off false = refl
 
-either : {A : Type 0} (P : A → Type 0) (b : Bool) (x y : A) → P x → P y → P (cond b x y)
+pub either : {A : Type 0} (P : A → Type 0) (b : Bool) (x y : A) → P x → P y → P (cond b x y)
 either P true x y p q = p
 either P false x y p q = q
 
@@ -36,7 +36,7 @@ record Kept (now : ℕ) (answer : ℕ × Port) : Type 0 where
   kept : IsSound now answer.1
 
 module _ (now : ℕ) (port : Port) (sound : IsSound now port) where
-  longest : character_time port.divisor port.lcr ≤ longest_character
+  longest : character_time port.divisor port.lcr ≤ LONGEST_CHARACTER
   longest = character-longest port.divisor port.lcr sound.registers.divisor_range
 
   id-kept : Kept now (id_read now port)

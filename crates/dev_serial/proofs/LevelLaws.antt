@@ -1,15 +1,12 @@
 -- Each call keeps the level.
-use Rattle.std.proofs.Common.{◌≡◌, ℕ, ◌==◌, Bool, true, false, cond, Option, Some, None, refl}
+use Rattle.std.proofs.Common.{◌≡◌, ℕ, ◌==◌, Bool, true, false, Option, Some, None, refl}
 use Rattle.std.specs.Prelude.{nat_le}
 use Rattle.dev_serial.specs.Access.{read_of, thr_written, ier_written, switch_of, fcr_cleared, fcr_written, receiver_cleared, transmitter_cleared, written, came_in, advanced}
 use Rattle.dev_serial.specs.Bits.{has}
 use Rattle.dev_serial.specs.Laws.{ReadsKeepLevel, WritesKeepLevel, BytesInKeepLevel, AdvancesKeepLevel}
 use Rattle.dev_serial.specs.Port.{Port}
 use Rattle.dev_serial.specs.declared.trigger.Trigger.{Trigger}
-
-either : {A : Type 0} (P : A → Type 0) (b : Bool) (x y : A) → P x → P y → P (cond b x y)
-either P true x y p q = p
-either P false x y p q = q
+use Rattle.dev_serial.proofs.KeepLaws.{either}
 
 module _ (port : Port) where
   abbrev Keeps : Port → Type 0

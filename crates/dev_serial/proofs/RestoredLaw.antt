@@ -5,6 +5,7 @@ use Rattle.std.specs.Prelude.{is_some, nat_le}
 use Rattle.dev_base.specs.Cells.{cell_at, number_at}
 use Rattle.dev_base.specs.Levels.{IsLevel}
 use Rattle.dev_base.proofs.CellLaws.{byte-lt, word-lt}
+use Rattle.dev_base.proofs.RuleLaws.{hook-ok}
 use Rattle.dev_serial.specs.Bits.{has}
 use Rattle.dev_serial.specs.Cells.{IsPortCells, bytes_at, array_at, ring_at, numbers_of}
 use Rattle.dev_serial.specs.Laws.{IsSoundAt, RestoredIsSound}
@@ -99,7 +100,7 @@ own-level level n = refl
 
 pub restored_is_sound : RestoredIsSound
 restored_is_sound numbers cells port can e =
-    let h = hold numbers.level numbers.moment (numbers_of cells) port e in
+    let h = hold numbers.level numbers.moment (numbers_of cells) port (hook-ok _ port e) in
     subst (IsSoundAt numbers.level numbers.moment) h.1 (record {
       sound = sound numbers.level numbers.moment (numbers_of cells) can.pass.is_level (ranges-of cells can.port_cells) h.0;
       own_level = own-level numbers.level (numbers_of cells);

@@ -10,10 +10,10 @@ use Rattle.vms_kinds.specs.declared.Kind.{Kind}
 use Rattle.vms_kinds.specs.declared.Kind.TheVariants.{U8, U16, I8, Timer}
 use Rattle.dev_base.specs.Cells.{cell_at, AreOf}
 use Rattle.dev_base.specs.declared.limits.TheConstants.{LAST_MOMENT}
-use Rattle.dev_base.proofs.CellLaws.{of_none, of_more, of_both, byte, word, timer}
+use Rattle.dev_base.proofs.CellLaws.{of_none, of_more, of_both, of_where, byte, word, timer}
 use Rattle.dev_serial.specs.Access.{lsr_of}
 use Rattle.dev_serial.specs.Bits.{has}
-use Rattle.dev_serial.specs.Cells.{where_in, array_cells, ring_cells, field_cells, cells_of, field_kinds, kinds, IsPortCells}
+use Rattle.dev_serial.specs.Cells.{array_cells, ring_cells, field_cells, cells_of, field_kinds, kinds, IsPortCells}
 use Rattle.dev_serial.specs.Laws.{AreSaved, SavedAreCells}
 use Rattle.dev_serial.specs.Parts.{IsShort}
 use Rattle.dev_serial.specs.Port.{Port, interrupt, id_number, is_thr_empty}
@@ -88,10 +88,6 @@ ring-bytes set fifos bytes b = at (nat_le 4 set) where
   at false = tt
 
 -- cells of their kinds
-part : (is : Bool) (kinds : List Kind) (cells : List ℤ) → AreOf kinds cells → AreOf (where_in is kinds) (where_in is cells)
-part true kinds cells h = h
-part false kinds cells h = of_none
-
 run : (f : ℕ → ℕ) (a n : ℕ) → ((i : ℕ) → f i < 256) → AreOf (replicate n U8) (map pos (map f (range_with_len a n)))
 run f a zero h = of_none
 run f a (suc n) h = of_more U8 (pos (f a)) (replicate n U8) (map pos (map f (range_with_len (a + 1) n))) (byte (f a) (h a)) (run f (a + 1) n h)
@@ -132,19 +128,19 @@ module _ (set now : ℕ) (port : Port) (early : now ≤ LAST_MOMENT) (sound : Is
       (of_more U8 (pos (shift_number port.transmitter.shift)) _ _ (byte _ (shift-range now port.transmitter.shift sound.transmitter.shift))
       (one Timer (pos (due_number port.transmitter.shift)) (timer _ (due-range now port.transmitter.shift early sound.transmitter.shift))))))))))))
 
-  array-part : (is : Bool) (bytes : List ℕ) → IsShort (is_some port.fifos) bytes → AreBytes bytes → AreOf (where_in is (replicate 17 U8)) (where_in is (array_cells (counted_of (in_array set port.fifos bytes))))
-  array-part is bytes s b = part is (replicate 17 U8) (array_cells (counted_of (in_array set port.fifos bytes))) (array-of (in_array set port.fifos bytes) (array-short set port.fifos bytes s) (array-bytes set port.fifos bytes b))
+  array-part : (is : Bool) (bytes : List ℕ) → IsShort (is_some port.fifos) bytes → AreBytes bytes → AreOf (cond is (replicate 17 U8) []) (cond is (array_cells (counted_of (in_array set port.fifos bytes))) [])
+  array-part is bytes s b = of_where is (replicate 17 U8) (array_cells (counted_of (in_array set port.fifos bytes))) (array-of (in_array set port.fifos bytes) (array-short set port.fifos bytes s) (array-bytes set port.fifos bytes b))
 
-  ring-part : (is : Bool) (bytes : List ℕ) → IsShort (is_some port.fifos) bytes → AreBytes bytes → AreOf (where_in is (replicate 18 U8)) (where_in is (ring_cells (ring_of (in_ring set port.fifos bytes))))
-  ring-part is bytes s b = part is (replicate 18 U8) (ring_cells (ring_of (in_ring set port.fifos bytes))) (ring-of (in_ring set port.fifos bytes) (ring-short set port.fifos bytes s) (ring-bytes set port.fifos bytes b))
+  ring-part : (is : Bool) (bytes : List ℕ) → IsShort (is_some port.fifos) bytes → AreBytes bytes → AreOf (cond is (replicate 18 U8) []) (cond is (ring_cells (ring_of (in_ring set port.fifos bytes))) [])
+  ring-part is bytes s b = of_where is (replicate 18 U8) (ring_cells (ring_of (in_ring set port.fifos bytes))) (ring-of (in_ring set port.fifos bytes) (ring-short set port.fifos bytes s) (ring-bytes set port.fifos bytes b))
 
   -- what a set saves, as the cells of that set or of another
   pub of-kinds : (other : ℕ) → AreOf (kinds other) (cells_of other (saved set now port))
   unfolding cells_of saved
   of-kinds other =
-      let fcr = part (nat_le 2 other) (U8 ∷ []) (pos (fcr_number port.fifos) ∷ []) (one U8 (pos (fcr_number port.fifos)) (byte _ (fcr-range port.fifos))) in
+      let fcr = of_where (nat_le 2 other) (U8 ∷ []) (pos (fcr_number port.fifos) ∷ []) (one U8 (pos (fcr_number port.fifos)) (byte _ (fcr-range port.fifos))) in
       let latch = one I8 _ (ipending-range (has port.ier 1) port.thr_empty (is_thr_empty (interrupt now port))) in
-      let timeout = part (nat_le 3 other) (Timer ∷ []) (pos (moment_number port.receiver.timeout) ∷ []) (one Timer (pos (moment_number port.receiver.timeout)) (timer _ (moment-range now _ port.receiver.timeout early sound.receiver.timeout))) in
+      let timeout = of_where (nat_le 3 other) (Timer ∷ []) (pos (moment_number port.receiver.timeout) ∷ []) (one Timer (pos (moment_number port.receiver.timeout)) (timer _ (moment-range now _ port.receiver.timeout early sound.receiver.timeout))) in
       let fields = of_both _ _ _ _ (of_both _ _ _ _ fields-of fcr) latch in
       let arrays = of_both _ _ _ _ (of_both _ _ _ _ fields (array-part (nat_le 2 other) port.receiver.held sound.receiver.short sound.receiver.bytes)) (array-part (nat_le 2 other) port.transmitter.waiting sound.transmitter.short sound.transmitter.bytes) in
       of_both _ _ _ _ (of_both _ _ _ _ (of_both _ _ _ _ arrays timeout) (ring-part (nat_le 4 other) port.receiver.held sound.receiver.short sound.receiver.bytes)) (ring-part (nat_le 4 other) port.transmitter.waiting sound.transmitter.short sound.transmitter.bytes)

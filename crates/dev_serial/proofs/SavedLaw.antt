@@ -2,23 +2,17 @@
 use Rattle.std.proofs.Common.{◌≡◌, ℕ, ◌≤◌, Bool, true, false, not, ◌&&◌, ◌||◌, Ok, refl, sym, ap, ◌∙◌}
 use Rattle.std.proofs.lemmas.Bool.{le-leb, eq-eqb, and_from}
 use Rattle.std.specs.Prelude.{nat_le, is_some}
-use Rattle.dev_base.specs.Rules.{judged_by}
+use Rattle.dev_base.proofs.RuleLaws.{AllTrue, judged-all}
 use Rattle.dev_base.specs.declared.limits.TheConstants.{LAST_MOMENT}
 use Rattle.dev_serial.specs.Access.{is_empty, lsr_of}
 use Rattle.dev_serial.specs.Bits.{has}
 use Rattle.dev_serial.specs.Port.{Port, is_data_ready, has_come, interrupt, id_number}
 use Rattle.dev_serial.specs.PortNumbers.{saved, in_ring, port_of}
-use Rattle.dev_serial.specs.Rules.{registers_hold, fcr_holds, unused_hold, status_holds, shift_holds, timeout_holds, latch_holds, id_holds, once_holds, rings_hold, restored}
+use Rattle.dev_serial.specs.Rules.{registers_hold, fcr_holds, unused_hold, status_holds, shift_holds, timeout_holds, latch_holds, id_holds, once_holds, rings_hold, rules, restored}
 use Rattle.dev_serial.specs.Sound.{IsSound, Alike}
-use Rattle.dev_serial.specs.declared.numbers.PortNumbers.{PortNumbers}
 use Rattle.dev_serial.proofs.SavedParts.{fifos-back, bytes-back, moment-back, shift-back, fcr-saved, unused-saved, status-saved, shift-saved, timeout-saved, ring-short, unused-at, once-at, stored-at}
 use Rattle.dev_serial.proofs.StoredLaws.{ring_of-holds}
 use Rattle.dev_serial.proofs.TruthTables.{IsStatus, lsr-status, latch_back, IsLatchBack, latch_comes_back}
-
--- where the rules hold, the port is restored
-restored-holds : (level now : ℕ) (n : PortNumbers) → registers_hold n ≡ true → fcr_holds level n ≡ true → unused_hold n ≡ true → status_holds n ≡ true → shift_holds now n ≡ true → timeout_holds level now n ≡ true → latch_holds n ≡ true → id_holds level now n ≡ true → once_holds n ≡ true → rings_hold n ≡ true → restored level now n ≡ Ok (port_of level n)
-unfolding restored judged_by
-restored-holds level now n a b c d e f g h i j = rw (a, b, c, d, e, f, g, h, i, j) refl
 
 implied : (a b : Bool) → (a ≡ true → b ≡ true) → (not a || b) ≡ true
 implied true b h = h refl
@@ -105,5 +99,12 @@ module _ (set now : ℕ) (port : Port) (early : now ≤ LAST_MOMENT) (sound : Is
   unfolding back back_latch
   alike = record { same = refl; enabled = tells.while_enabled }
 
+  all : AllTrue (rules port.level now (saved set now port))
+  all = (registers, (fcr, (unused, (line_status, (shift, (timeout, (latch, (id, (once, (rings, tt))))))))))
+
+  restored-there : restored port.level now (saved set now port) ≡ Ok (port_of port.level (saved set now port))
+  unfolding restored
+  restored-there = judged-all (rules port.level now (saved set now port)) _ all
+
   pub restored-saved : (other : Port) × (restored port.level now (saved set now port) ≡ Ok other) × Alike port other
-  restored-saved = (back, restored-holds port.level now (saved set now port) registers fcr unused line_status shift timeout latch id once rings ∙ ap Ok port-back, alike)
+  restored-saved = (back, restored-there ∙ ap Ok port-back, alike)

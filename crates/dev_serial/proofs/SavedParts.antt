@@ -5,9 +5,9 @@ use Rattle.std.proofs.lemmas.Bool.{le-leb, lt-ltb, ne_eqb, and_from, or_right}
 use Rattle.std.specs.Prelude.{nat_le, nat_lt, is_some}
 use Rattle.dev_serial.specs.Access.{is_empty}
 use Rattle.dev_base.specs.declared.limits.TheConstants.{LAST_MOMENT}
-use Rattle.dev_serial.specs.PortNumbers.{never, moment_number, due_number, shift_number, single_byte, fifo_bytes, in_array, in_ring, fcr_number, moment_of, shift_of, fifos_of, stored_bytes, bytes_held}
+use Rattle.dev_serial.specs.PortNumbers.{moment_number, due_number, shift_number, single_byte, fifo_bytes, in_array, in_ring, fcr_number, moment_of, shift_of, fifos_of, stored_bytes, bytes_held}
 use Rattle.dev_serial.specs.Parts.{IsShort}
-use Rattle.dev_serial.specs.Rules.{same, is_unused, is_stored_once, longest_character, longest_timeout}
+use Rattle.dev_serial.specs.Rules.{same, is_unused, is_stored_once, longest_timeout}
 use Rattle.dev_serial.specs.Sound.{IsShift, IsTimeout}
 use Rattle.dev_serial.specs.Stored.{counted_of, ring_of}
 use Rattle.dev_serial.specs.declared.shift.Shift.{Shift}
@@ -15,6 +15,8 @@ use Rattle.dev_serial.specs.declared.trigger.Trigger.{Trigger}
 use Rattle.dev_serial.specs.declared.trigger.Trigger.TheVariants.{One, Four, Eight, Fourteen}
 use Rattle.dev_serial.proofs.KeepParts.{not_empty}
 use Rattle.dev_serial.proofs.StoredLaws.{counted-back, ring-back}
+use Rattle.dev_serial.specs.declared.mode.TheConstants.{LONGEST_CHARACTER}
+use Rattle.dev_serial.specs.declared.numbers.TheConstants.{NEVER}
 
 -- FIFOs that are on have a number of their own
 pub on : (trigger : Trigger) → (fcr_number (Some trigger) == 0) ≡ false
@@ -76,32 +78,32 @@ status-saved (Some trigger) held waiting ready empty r e = rw (on trigger, r, e)
 
 pub moment-back : (now : ℕ) (runs : Bool) (timeout : Option ℕ) → now ≤ LAST_MOMENT → IsTimeout now runs timeout → moment_of (moment_number timeout) ≡ timeout
 moment-back now runs None h t = refl
-moment-back now runs (Some moment) h t = rw (ne_eqb moment never (λ e. let b = t.in_time in omega arith))
+moment-back now runs (Some moment) h t = rw (ne_eqb moment NEVER (λ e. let b = t.in_time in omega arith))
 
 pub shift-back : (now : ℕ) (shift : Option Shift) → now ≤ LAST_MOMENT → IsShift now shift → shift_of (shift_number shift) (due_number shift) ≡ shift
 shift-back now None h s = refl
-shift-back now (Some shift) h s = rw (ne_eqb shift.due never (λ e. let b = s.in_time in omega arith))
+shift-back now (Some shift) h s = rw (ne_eqb shift.due NEVER (λ e. let b = s.in_time in omega arith))
 
 pub shift-saved : (now : ℕ) (shift : Option Shift) (idle empty : Bool) → now ≤ LAST_MOMENT → IsShift now shift → (is_some shift ≡ false → empty ≡ true) → idle ≡ (empty && not (is_some shift))
-    → (same idle (due_number shift == never) && cond idle (empty && (shift_number shift == 0)) (nat_lt now (due_number shift) && nat_le (due_number shift) (now + longest_character))) ≡ true
+    → (same idle (due_number shift == NEVER) && cond idle (empty && (shift_number shift == 0)) (nat_lt now (due_number shift) && nat_le (due_number shift) (now + LONGEST_CHARACTER))) ≡ true
 shift-saved now None idle empty h s i e = rw (e, i refl)
 shift-saved now (Some shift) idle true h s i e =
-    rw (e, ne_eqb shift.due never (λ e. let b = s.in_time in omega arith)) (and_from _ _ (lt-ltb now shift.due s.later) (le-leb shift.due _ s.in_time))
+    rw (e, ne_eqb shift.due NEVER (λ e. let b = s.in_time in omega arith)) (and_from _ _ (lt-ltb now shift.due s.later) (le-leb shift.due _ s.in_time))
 shift-saved now (Some shift) idle false h s i e =
-    rw (e, ne_eqb shift.due never (λ e. let b = s.in_time in omega arith)) (and_from _ _ (lt-ltb now shift.due s.later) (le-leb shift.due _ s.in_time))
+    rw (e, ne_eqb shift.due NEVER (λ e. let b = s.in_time in omega arith)) (and_from _ _ (lt-ltb now shift.due s.later) (le-leb shift.due _ s.in_time))
 
 -- a timeout that runs just where it may
-timeout_at : (now : ℕ) (runs : Bool) (timeout : Option ℕ) → now ≤ LAST_MOMENT → IsTimeout now runs timeout → cond runs (not (moment_number timeout == never) && nat_le (moment_number timeout) (now + longest_timeout)) (moment_number timeout == never) ≡ true
+timeout_at : (now : ℕ) (runs : Bool) (timeout : Option ℕ) → now ≤ LAST_MOMENT → IsTimeout now runs timeout → cond runs (not (moment_number timeout == NEVER) && nat_le (moment_number timeout) (now + longest_timeout)) (moment_number timeout == NEVER) ≡ true
 timeout_at now runs None h t = rw t
 timeout_at now runs (Some moment) h t =
-    rw (t.runs_now, ne_eqb moment never (λ e. let b = t.in_time in omega arith)) (le-leb moment _ t.in_time)
+    rw (t.runs_now, ne_eqb moment NEVER (λ e. let b = t.in_time in omega arith)) (le-leb moment _ t.in_time)
 
 pub runs-same : (fifos : Option Trigger) (held : List ℕ) → (not (fcr_number fifos == 0) && not (is_empty (fifo_bytes fifos held))) ≡ (is_some fifos && not (is_empty held))
 runs-same None held = refl
 runs-same (Some trigger) held = rw (on trigger)
 
 pub timeout-saved : (level now : ℕ) (fifos : Option Trigger) (held : List ℕ) (timeout : Option ℕ) → now ≤ LAST_MOMENT → IsTimeout now (nat_le 3 level && (is_some fifos && not (is_empty held))) timeout
-    → cond (nat_le 3 level && (not (fcr_number fifos == 0) && not (is_empty (fifo_bytes fifos held)))) (not (moment_number timeout == never) && nat_le (moment_number timeout) (now + longest_timeout)) (moment_number timeout == never) ≡ true
+    → cond (nat_le 3 level && (not (fcr_number fifos == 0) && not (is_empty (fifo_bytes fifos held)))) (not (moment_number timeout == NEVER) && nat_le (moment_number timeout) (now + longest_timeout)) (moment_number timeout == NEVER) ≡ true
 timeout-saved level now fifos held timeout h t = rw (runs-same fifos held) (timeout_at now _ timeout h t)
 
 -- the FIFOs of a list, in the counted array or in the ring

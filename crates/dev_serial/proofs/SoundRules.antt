@@ -7,8 +7,8 @@ use Rattle.dev_serial.specs.Access.{is_empty, lsr_of}
 use Rattle.dev_serial.specs.Bits.{has}
 use Rattle.dev_serial.specs.Laws.{SoundMeetsRules}
 use Rattle.dev_serial.specs.Port.{Port}
-use Rattle.dev_serial.specs.PortNumbers.{never, saved, fcr_number, moment_number, due_number}
-use Rattle.dev_serial.specs.Rules.{registers_hold, fcr_holds, shift_holds, timeout_holds, same, longest_character, longest_timeout}
+use Rattle.dev_serial.specs.PortNumbers.{saved, fcr_number, moment_number, due_number}
+use Rattle.dev_serial.specs.Rules.{registers_hold, fcr_holds, shift_holds, timeout_holds, same, longest_timeout}
 use Rattle.dev_serial.specs.Sound.{IsSound, IsHeld, IsTold, IsByte, IsShift, IsTimeout, HasRegisters}
 use Rattle.dev_serial.specs.declared.shift.Shift.{Shift}
 use Rattle.dev_serial.specs.declared.trigger.Trigger.{Trigger}
@@ -16,6 +16,8 @@ use Rattle.dev_serial.proofs.RulesHold.{Hold, hold}
 use Rattle.dev_serial.proofs.SavedLaw.{restored-saved}
 use Rattle.dev_serial.proofs.SavedParts.{on, runs-same, unused-at}
 use Rattle.dev_serial.proofs.TruthTables.{IsStatus, lsr-status}
+use Rattle.dev_serial.specs.declared.mode.TheConstants.{LONGEST_CHARACTER}
+use Rattle.dev_serial.specs.declared.numbers.TheConstants.{NEVER}
 
 -- from sound to held
 told : (now : ℕ) (runs : Bool) (timeout : Option ℕ) → now ≤ LAST_MOMENT → IsTimeout now runs timeout → IsTold timeout
@@ -47,7 +49,7 @@ level-on level None rest h e = absurd (false≢true e)
 level-on level (Some trigger) rest h e = leb-true 2 level (and_parts _ _ (rw (on trigger) at h)).0
 
 shift-from : (now : ℕ) (shift : Option Shift) (idle empty five : Bool) → idle ≡ (empty && not (is_some shift)) → IsByte shift
-    → (same idle (due_number shift == never) && cond idle five (nat_lt now (due_number shift) && nat_le (due_number shift) (now + longest_character))) ≡ true → IsShift now shift
+    → (same idle (due_number shift == NEVER) && cond idle five (nat_lt now (due_number shift) && nat_le (due_number shift) (now + LONGEST_CHARACTER))) ≡ true → IsShift now shift
 shift-from now None idle empty five e b h = tt
 shift-from now (Some shift) true true five e b h = absurd (false≢true (sym e))
 shift-from now (Some shift) true false five e b h = absurd (false≢true (sym e))
@@ -55,17 +57,17 @@ shift-from now (Some shift) false empty five e b h =
     let p = and_parts _ _ (and_parts _ _ h).1 in
     record { byte = b; later = ltb-true _ _ p.0; in_time = leb-true _ _ p.1 }
 
-idle-from : (shift : Option Shift) (idle empty rest : Bool) → idle ≡ (empty && not (is_some shift)) → (same idle (due_number shift == never) && rest) ≡ true → is_some shift ≡ false → empty ≡ true
+idle-from : (shift : Option Shift) (idle empty rest : Bool) → idle ≡ (empty && not (is_some shift)) → (same idle (due_number shift == NEVER) && rest) ≡ true → is_some shift ≡ false → empty ≡ true
 idle-from None idle true rest e h n = refl
 idle-from None true false rest e h n = absurd (false≢true (sym e))
 idle-from None false false rest e h n = absurd (false≢true h)
 idle-from (Some shift) idle empty rest e h n = absurd (false≢true (sym n))
 
-timeout-from : (now : ℕ) (runs : Bool) (timeout : Option ℕ) → IsTold timeout → cond runs (not (moment_number timeout == never) && nat_le (moment_number timeout) (now + longest_timeout)) (moment_number timeout == never) ≡ true → IsTimeout now runs timeout
+timeout-from : (now : ℕ) (runs : Bool) (timeout : Option ℕ) → IsTold timeout → cond runs (not (moment_number timeout == NEVER) && nat_le (moment_number timeout) (now + longest_timeout)) (moment_number timeout == NEVER) ≡ true → IsTimeout now runs timeout
 timeout-from now true None t h = absurd (false≢true h)
 timeout-from now false None t h = refl
 timeout-from now true (Some moment) t h = record { runs_now = refl; in_time = leb-true _ _ (and_parts _ _ h).1 }
-timeout-from now false (Some moment) t h = absurd (let e = eqb-true moment never h in omega arith)
+timeout-from now false (Some moment) t h = absurd (let e = eqb-true moment NEVER h in omega arith)
 
 module _ (now : ℕ) (port : Port) (is : IsHeld port) (rules : Hold port.level now (saved 4 now port)) where
   abbrev lsr : IsStatus (lsr_of port) (not (is_empty port.receiver.held)) port.receiver.overrun (is_empty port.transmitter.waiting) (is_empty port.transmitter.waiting && not (is_some port.transmitter.shift))

@@ -1,21 +1,18 @@
 -- The cells of a port in each set.
-use Rattle.std.specs.Prelude.{◌≡◌, ℕ, ℤ, pos, ◌+◌, ◌<◌, ◌≤◌, Bool, nat_le, if◌then◌else◌, List, [], ◌∷◌, ◌++◌, map, replicate}
+use Rattle.std.specs.Prelude.{◌≡◌, ℕ, ℤ, pos, ◌+◌, ◌<◌, ◌≤◌, nat_le, if◌then◌else◌, List, [], ◌∷◌, ◌++◌, map, replicate}
 use Rattle.vms_kinds.specs.Codes.{InRange}
 use Rattle.vms_kinds.specs.declared.Kind.{Kind}
 use Rattle.vms_kinds.specs.declared.Kind.TheVariants.{U8, U16, I8, Timer}
 use Rattle.dev_base.specs.Cells.{cell_at, number_at, AreOf}
-use Rattle.dev_base.specs.Tables.{Origin, default_of, places, where_had, carried_by}
+use Rattle.dev_base.specs.Tables.{Origin, default_of, places, where_had, since, carried_by}
 use Rattle.dev_base.specs.declared.limits.TheConstants.{NEWEST}
-use Rattle.dev_serial.specs.PortNumbers.{never, fifo_set, timeout_set, ring_set}
 use Rattle.dev_serial.specs.Stored.{firsts}
+use Rattle.dev_serial.specs.declared.levels.TheConstants.{FIFOS_SINCE, TIMEOUT_SINCE, RINGS_SINCE}
 use Rattle.dev_serial.specs.declared.numbers.PortNumbers.{PortNumbers}
 use Rattle.dev_serial.specs.declared.stored.Counted.{Counted}
 use Rattle.dev_serial.specs.declared.stored.Ring.{Ring}
 use Rattle.dev_serial.specs.declared.place.TheConstants.{DIVISOR, IER, IIR, LCR, MCR, LSR, SCR, RBR, THR, TSR, TX_DUE, FCR, THR_IPENDING, RX_COUNT, TX_COUNT, TIMEOUT_AT, RX_RING, TX_RING}
-
--- a part of a set's cells, where it has them
-abbrev pub where_in : {A : Type 0} → Bool → List A → List A
-where_in has part = if has then part else []
+use Rattle.dev_serial.specs.declared.numbers.TheConstants.{NEVER}
 
 -- a count with its sixteen elements, and the sixteen elements of a ring with its head and number
 unfoldable pub array_cells : Counted → List ℤ
@@ -33,10 +30,10 @@ field_cells n =
 -- the timeout and the FIFOs as rings
 unfoldable pub cells_of : ℕ → PortNumbers → List ℤ
 cells_of set n =
-    field_cells n ++ where_in (nat_le fifo_set set) (pos n.fcr ∷ []) ++ n.thr_ipending ∷ []
-    ++ where_in (nat_le fifo_set set) (array_cells n.rx) ++ where_in (nat_le fifo_set set) (array_cells n.tx)
-    ++ where_in (nat_le timeout_set set) (pos n.timeout_at ∷ [])
-    ++ where_in (nat_le ring_set set) (ring_cells n.rx_ring) ++ where_in (nat_le ring_set set) (ring_cells n.tx_ring)
+    field_cells n ++ since FIFOS_SINCE set (pos n.fcr ∷ []) ++ n.thr_ipending ∷ []
+    ++ since FIFOS_SINCE set (array_cells n.rx) ++ since FIFOS_SINCE set (array_cells n.tx)
+    ++ since TIMEOUT_SINCE set (pos n.timeout_at ∷ [])
+    ++ since RINGS_SINCE set (ring_cells n.rx_ring) ++ since RINGS_SINCE set (ring_cells n.tx_ring)
 
 -- the kinds of these cells
 abbrev pub field_kinds : List Kind
@@ -44,19 +41,19 @@ field_kinds = U16 ∷ replicate 9 U8 ++ Timer ∷ []
 
 abbrev pub kinds : ℕ → List Kind
 kinds set =
-    field_kinds ++ where_in (nat_le fifo_set set) (U8 ∷ []) ++ I8 ∷ []
-    ++ where_in (nat_le fifo_set set) (replicate 17 U8) ++ where_in (nat_le fifo_set set) (replicate 17 U8)
-    ++ where_in (nat_le timeout_set set) (Timer ∷ [])
-    ++ where_in (nat_le ring_set set) (replicate 18 U8) ++ where_in (nat_le ring_set set) (replicate 18 U8)
+    field_kinds ++ since FIFOS_SINCE set (U8 ∷ []) ++ I8 ∷ []
+    ++ since FIFOS_SINCE set (replicate 17 U8) ++ since FIFOS_SINCE set (replicate 17 U8)
+    ++ since TIMEOUT_SINCE set (Timer ∷ [])
+    ++ since RINGS_SINCE set (replicate 18 U8) ++ since RINGS_SINCE set (replicate 18 U8)
 
 -- from which place of a set each cell of the newest one comes, or its default
 abbrev pub origins : ℕ → List Origin
 origins set =
-    places 0 11 ++ where_had (nat_le fifo_set set) (places 11 1) (default_of (pos 0) ∷ [])
-    ++ places (if nat_le fifo_set set then 12 else 11) 1
-    ++ where_had (nat_le fifo_set set) (places 13 34) (replicate 34 (default_of (pos 0)))
-    ++ where_had (nat_le timeout_set set) (places 47 1) (default_of (pos never) ∷ [])
-    ++ where_had (nat_le ring_set set) (places 48 36) (replicate 36 (default_of (pos 0)))
+    places 0 11 ++ where_had (nat_le FIFOS_SINCE set) (places 11 1) (default_of (pos 0) ∷ [])
+    ++ places (if nat_le FIFOS_SINCE set then 12 else 11) 1
+    ++ where_had (nat_le FIFOS_SINCE set) (places 13 34) (replicate 34 (default_of (pos 0)))
+    ++ where_had (nat_le TIMEOUT_SINCE set) (places 47 1) (default_of (pos NEVER) ∷ [])
+    ++ where_had (nat_le RINGS_SINCE set) (places 48 36) (replicate 36 (default_of (pos 0)))
 
 -- the cells of a set at their places in the newest one, with defaults elsewhere
 unfoldable pub carried : ℕ → List ℤ → List ℤ

@@ -7,11 +7,12 @@ use Rattle.dev_base.specs.declared.limits.TheConstants.{NEWEST, LAST_MOMENT}
 use Rattle.dev_serial.specs.Access.{read_of, written, came_in, advanced}
 use Rattle.dev_serial.specs.Cells.{IsArray, kinds, carried}
 use Rattle.dev_serial.specs.Port.{Port, power_on, line_of}
-use Rattle.dev_serial.specs.PortNumbers.{fifo_set, ring_set, saved}
+use Rattle.dev_serial.specs.PortNumbers.{saved}
 use Rattle.dev_serial.specs.Rules.{restored}
-use Rattle.dev_serial.specs.Saved.{CanSave, CanRestore, cells_at, restored_cells, hook_restored}
+use Rattle.dev_serial.specs.Saved.{CanSave, CanRestore, cells_at, hook_restored}
 use Rattle.dev_serial.specs.Sound.{IsSound, IsHeld, Alike}
 use Rattle.dev_serial.specs.Stored.{counted_of, counted_bytes, ring_of, ring_bytes, behind_head, ring_holds}
+use Rattle.dev_serial.specs.declared.levels.TheConstants.{FIFOS_SINCE, RINGS_SINCE}
 use Rattle.dev_serial.specs.declared.place.TheConstants.{RX_COUNT, TX_COUNT, RX_RING, TX_RING}
 use Rattle.dev_serial.specs.declared.stored.Ring.{Ring}
 
@@ -20,10 +21,10 @@ use Rattle.dev_serial.specs.declared.stored.Ring.{Ring}
 -- isn't at its default
 pub record AreSaved (set : ℕ) (cells : List ℤ) : Type 0 where
   pub of_kinds : AreOf (kinds set) cells
-  pub rx : fifo_set ≤ set → IsArray cells RX_COUNT
-  pub tx : fifo_set ≤ set → IsArray cells TX_COUNT
-  pub no_fifo : fifo_set ≤ set → number_at cells RX_COUNT ≡ 0 → number_at cells TX_COUNT ≡ 0 → take 34 (drop RX_COUNT cells) ≡ replicate 34 (pos 0)
-  pub no_ring : ring_set ≤ set → number_at cells (RX_RING + 17) ≡ 0 → number_at cells (TX_RING + 17) ≡ 0 → take 36 (drop RX_RING cells) ≡ replicate 36 (pos 0)
+  pub rx : FIFOS_SINCE ≤ set → IsArray cells RX_COUNT
+  pub tx : FIFOS_SINCE ≤ set → IsArray cells TX_COUNT
+  pub no_fifo : FIFOS_SINCE ≤ set → number_at cells RX_COUNT ≡ 0 → number_at cells TX_COUNT ≡ 0 → take 34 (drop RX_COUNT cells) ≡ replicate 34 (pos 0)
+  pub no_ring : RINGS_SINCE ≤ set → number_at cells (RX_RING + 17) ≡ 0 → number_at cells (TX_RING + 17) ≡ 0 → take 36 (drop RX_RING cells) ≡ replicate 36 (pos 0)
 
 -- what is saved of a sound port under a set are cells of that set
 abbrev pub SavedAreCells : Type 0
@@ -56,7 +57,7 @@ pub record IsSoundAt (level now : ℕ) (port : Port) : Type 0 where
 
 abbrev pub RestoredIsSound : Type 0
 RestoredIsSound =
-    (numbers : Numbers) (cells : List ℤ) (port : Port) → CanRestore numbers cells → restored_cells numbers cells ≡ Ok port → IsSoundAt numbers.level numbers.moment port
+    (numbers : Numbers) (cells : List ℤ) (port : Port) → CanRestore numbers cells → hook_restored numbers cells ≡ Ok port → IsSoundAt numbers.level numbers.moment port
 
 -- the ring of a list gives the list again, and is a ring; so is the counted array of a list
 pub record ListComesBack (bytes : List ℕ) : Type 0 where
@@ -87,6 +88,10 @@ AlikeOn = (port other third : Port) → Alike port other → Alike other third �
 pub record AnswersAlike {A : Type 0} (first second : A × Port) : Type 0 where
   pub value : second.0 ≡ first.0
   pub alike : Alike first.1 second.1
+
+-- ports that are alike save the same under each set
+abbrev pub SavesAlike : Type 0
+SavesAlike = (set now : ℕ) (port other : Port) → Alike port other → saved set now other ≡ saved set now port
 
 -- ports that are alike answer each call alike, and are alike after it
 abbrev pub ReadsAlike : Type 0

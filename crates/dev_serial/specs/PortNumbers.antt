@@ -6,32 +6,21 @@ use Rattle.dev_serial.specs.Fifo.{trigger_of, trigger_number}
 use Rattle.dev_serial.specs.Port.{Port, interrupt, id_number, is_thr_empty}
 use Rattle.dev_serial.specs.Access.{lsr_of}
 use Rattle.dev_serial.specs.Stored.{counted_of, counted_bytes, ring_of, ring_bytes}
+use Rattle.dev_serial.specs.declared.levels.TheConstants.{RINGS_SINCE}
 use Rattle.dev_serial.specs.declared.numbers.PortNumbers.{PortNumbers}
 use Rattle.dev_serial.specs.declared.shift.Shift.{Shift}
 use Rattle.dev_serial.specs.declared.stored.Counted.{Counted}
 use Rattle.dev_serial.specs.declared.stored.Ring.{Ring}
 use Rattle.dev_serial.specs.declared.trigger.Trigger.{Trigger}
+use Rattle.dev_serial.specs.declared.numbers.TheConstants.{NEVER}
 
--- the first sets with FIFOs, with the character timeout, and with FIFOs as rings
-abbrev pub fifo_set : ℕ
-fifo_set = 2
-
-abbrev pub timeout_set : ℕ
-timeout_set = 3
-
-abbrev pub ring_set : ℕ
-ring_set = 4
-
--- the number of a timer that isn't pending, 2^64 - 1
-abbrev pub never : ℕ
-never = 18446744073709551615
-
+-- a timer that isn't pending has the number NEVER
 abbrev pub moment_number : Option ℕ → ℕ
-moment_number None = never
+moment_number None = NEVER
 moment_number (Some moment) = moment
 
 abbrev pub due_number : Option Shift → ℕ
-due_number None = never
+due_number None = NEVER
 due_number (Some shift) = shift.due
 
 abbrev pub shift_number : Option Shift → ℕ
@@ -54,10 +43,10 @@ fifo_bytes (Some trigger) bytes = bytes
 
 -- a set with rings has them there, and an older one in counted arrays
 abbrev pub in_array : ℕ → Option Trigger → List ℕ → List ℕ
-in_array set fifos bytes = if nat_le ring_set set then [] else fifo_bytes fifos bytes
+in_array set fifos bytes = if nat_le RINGS_SINCE set then [] else fifo_bytes fifos bytes
 
 abbrev pub in_ring : ℕ → Option Trigger → List ℕ → List ℕ
-in_ring set fifos bytes = if nat_le ring_set set then fifo_bytes fifos bytes else []
+in_ring set fifos bytes = if nat_le RINGS_SINCE set then fifo_bytes fifos bytes else []
 
 -- the FIFO control register: 0 without FIFOs, else bit 0 with the trigger in bits 7 and 6
 abbrev pub fcr_number : Option Trigger → ℕ
@@ -93,10 +82,10 @@ saved set now port = record {
 
 -- the moment of a number, and the shift register of two
 abbrev pub moment_of : ℕ → Option ℕ
-moment_of number = if number == never then None else Some number
+moment_of number = if number == NEVER then None else Some number
 
 abbrev pub shift_of : ℕ → ℕ → Option Shift
-shift_of tsr tx_due = if tx_due == never then None else Some (record { byte = tsr; due = tx_due })
+shift_of tsr tx_due = if tx_due == NEVER then None else Some (record { byte = tsr; due = tx_due })
 
 -- the FIFO switch with its trigger
 abbrev pub fifos_of : ℕ → Option Trigger

@@ -1,26 +1,26 @@
 -- The rules that restored numbers meet, each by its number.
-use Rattle.std.specs.Prelude.{ℕ, pos, negsuc, ◌+◌, ◌%◌, ◌==◌, Bool, true, false, nat_le, nat_lt, ◌&&◌, ◌||◌, not, if◌then◌else◌, bit_and, List, [], ◌∷◌, Result}
+use Rattle.std.specs.Prelude.{ℕ, pos, negsuc, ◌+◌, ◌*◌, ◌%◌, ◌==◌, Bool, true, false, nat_le, nat_lt, ◌&&◌, ◌||◌, not, if◌then◌else◌, bit_and, List, [], ◌∷◌, Result}
 use Rattle.std.specs.Ordering.{int_eq}
 use Rattle.dev_base.specs.Rules.{judged}
 use Rattle.dev_serial.specs.Bits.{has}
-use Rattle.dev_serial.specs.Port.{Port, fifo_level, timeout_level, interrupt, id_number}
-use Rattle.dev_serial.specs.PortNumbers.{never, latch_of, port_of}
+use Rattle.dev_serial.specs.Port.{Port, interrupt, id_number}
+use Rattle.dev_serial.specs.PortNumbers.{latch_of, port_of}
 use Rattle.dev_serial.specs.Stored.{ring_holds}
+use Rattle.dev_serial.specs.declared.levels.TheConstants.{FIFOS_SINCE, TIMEOUT_SINCE}
 use Rattle.dev_serial.specs.declared.numbers.PortNumbers.{PortNumbers}
 use Rattle.dev_serial.specs.declared.stored.Counted.{Counted}
 use Rattle.dev_serial.specs.declared.stored.Ring.{Ring}
+use Rattle.dev_serial.specs.declared.mode.TheConstants.{LONGEST_CHARACTER}
+use Rattle.dev_serial.specs.declared.numbers.TheConstants.{NEVER}
 
 -- both hold, or neither
 abbrev pub same : Bool → Bool → Bool
 same true other = other
 same false other = not other
 
--- the longest character, and four of them
-abbrev pub longest_character : ℕ
-longest_character = 6826562500
-
+-- four of the longest characters
 abbrev pub longest_timeout : ℕ
-longest_timeout = 27306250000
+longest_timeout = 4 * LONGEST_CHARACTER
 
 -- a direction's count and number are 0; one of them is
 abbrev pub is_unused : Counted → Ring → Bool
@@ -35,7 +35,7 @@ registers_hold n = nat_le n.ier 15 && (nat_le n.mcr 31 && (bit_and n.lsr 0x63 ==
 
 -- 2: fcr is 0, or at a level with FIFOs has bit 0 set and bits 5 to 1 clear
 unfoldable pub fcr_holds : ℕ → PortNumbers → Bool
-fcr_holds level n = (n.fcr == 0) || (nat_le fifo_level level && (n.fcr % 64 == 1))
+fcr_holds level n = (n.fcr == 0) || (nat_le FIFOS_SINCE level && (n.fcr % 64 == 1))
 
 -- 3: with FIFOs off both counts and both numbers are 0; with FIFOs on rbr and thr are 0
 unfoldable pub unused_hold : PortNumbers → Bool
@@ -53,16 +53,16 @@ status_holds n =
 -- above now and at most the longest character later
 unfoldable pub shift_holds : ℕ → PortNumbers → Bool
 shift_holds now n =
-    same (has n.lsr 6) (n.tx_due == never)
-    && (if has n.lsr 6 then has n.lsr 5 && (n.tsr == 0) else nat_lt now n.tx_due && nat_le n.tx_due (now + longest_character))
+    same (has n.lsr 6) (n.tx_due == NEVER)
+    && (if has n.lsr 6 then has n.lsr 5 && (n.tsr == 0) else nat_lt now n.tx_due && nat_le n.tx_due (now + LONGEST_CHARACTER))
 
 -- 6: below the level of the timeout timeout_at is never. From it on it is another number exactly where FIFOs
 -- are on and rx_count or rx_number isn't 0, and then at most four of the longest characters after now
 unfoldable pub timeout_holds : ℕ → ℕ → PortNumbers → Bool
 timeout_holds level now n =
-    if nat_le timeout_level level && (not (n.fcr == 0) && not (is_unused n.rx n.rx_ring))
-    then not (n.timeout_at == never) && nat_le n.timeout_at (now + longest_timeout)
-    else n.timeout_at == never
+    if nat_le TIMEOUT_SINCE level && (not (n.fcr == 0) && not (is_unused n.rx n.rx_ring))
+    then not (n.timeout_at == NEVER) && nat_le n.timeout_at (now + longest_timeout)
+    else n.timeout_at == NEVER
 
 -- 7: thr_ipending is -1, 0 or 1. Where the restored latch is set lsr bit 5 is set
 unfoldable pub latch_holds : PortNumbers → Bool

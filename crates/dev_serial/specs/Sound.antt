@@ -3,11 +3,13 @@ use Rattle.std.specs.Prelude.{◌≡◌, ℕ, ◌+◌, ◌<◌, ◌≤◌, Bool,
 use Rattle.dev_serial.specs.Access.{is_empty}
 use Rattle.dev_serial.specs.Bits.{has}
 use Rattle.dev_serial.specs.Parts.{ReceiverState, TransmitterState, IsShort}
-use Rattle.dev_serial.specs.Port.{Port, fifo_level, timeout_level}
-use Rattle.dev_serial.specs.PortNumbers.{never}
-use Rattle.dev_serial.specs.Rules.{longest_character, longest_timeout}
+use Rattle.dev_serial.specs.Port.{Port}
+use Rattle.dev_serial.specs.Rules.{longest_timeout}
 use Rattle.dev_base.specs.Levels.{IsLevel}
+use Rattle.dev_serial.specs.declared.levels.TheConstants.{FIFOS_SINCE, TIMEOUT_SINCE}
 use Rattle.dev_serial.specs.declared.shift.Shift.{Shift}
+use Rattle.dev_serial.specs.declared.mode.TheConstants.{LONGEST_CHARACTER}
+use Rattle.dev_serial.specs.declared.numbers.TheConstants.{NEVER}
 
 -- each of a list is a byte
 abbrev pub AreBytes : List ℕ → Type 0
@@ -22,7 +24,7 @@ pub record HasRegisters (level divisor ier lcr mcr scr : ℕ) (has_fifos : Bool)
   pub lcr_range : lcr < 256
   pub mcr_range : mcr ≤ 31
   pub scr_range : scr < 256
-  pub fifos : has_fifos ≡ true → fifo_level ≤ level
+  pub fifos : has_fifos ≡ true → FIFOS_SINCE ≤ level
 
 -- a timeout runs exactly where it has to, and ends at most four of the longest characters later
 pub record EndsInTime (now : ℕ) (runs : Bool) (timeout : ℕ) : Type 0 where
@@ -38,13 +40,13 @@ IsTimeout now runs (Some timeout) = EndsInTime now runs timeout
 pub record IsReceiver (now level : ℕ) (has_fifos : Bool) (receiver : ReceiverState) : Type 0 where
   pub short : IsShort has_fifos receiver.held
   pub bytes : AreBytes receiver.held
-  pub timeout : IsTimeout now (nat_le timeout_level level && (has_fifos && not (is_empty receiver.held))) receiver.timeout
+  pub timeout : IsTimeout now (nat_le TIMEOUT_SINCE level && (has_fifos && not (is_empty receiver.held))) receiver.timeout
 
 -- a byte in the shift register is sent after now, and at most the longest character later
 pub record IsSentInTime (now : ℕ) (shift : Shift) : Type 0 where
   pub byte : shift.byte < 256
   pub later : now < shift.due
-  pub in_time : shift.due ≤ now + longest_character
+  pub in_time : shift.due ≤ now + LONGEST_CHARACTER
 
 abbrev pub IsShift : ℕ → Option Shift → Type 0
 IsShift now None = Unit {0}
@@ -67,7 +69,7 @@ pub record IsSound (now : ℕ) (port : Port) : Type 0 where
 -- a moment that a timer can tell from never
 abbrev pub IsTold : Option ℕ → Type 0
 IsTold None = Unit {0}
-IsTold (Some moment) = moment < never
+IsTold (Some moment) = moment < NEVER
 
 abbrev pub IsByte : Option Shift → Type 0
 IsByte None = Unit {0}

@@ -1,7 +1,7 @@
 // Laws of the definitions, each in a clause of a function that does nothing.
-ghost use Rattle.dev_serial.specs.Laws.{AlikeItself, AlikeBack, AlikeOn, ReadsKeepLevel, WritesKeepLevel, BytesInKeepLevel, AdvancesKeepLevel, ListsComeBack, HoldsWhatItGives, SavedAreCells, SavedComesBack, SoundMeetsRules, RestoredIsSound, ReadsAlike, WritesAlike, BytesInAlike, AdvancesAlike, LinesAlike, PowerOnIsSound, ReadsKeepSound, WritesKeepSound, BytesInKeepSound, AdvancesKeepSound};
+ghost use Rattle.dev_serial.specs.Laws.{AlikeItself, AlikeBack, AlikeOn, ReadsKeepLevel, WritesKeepLevel, BytesInKeepLevel, AdvancesKeepLevel, ListsComeBack, HoldsWhatItGives, SavedAreCells, SavedComesBack, SoundMeetsRules, RestoredIsSound, ReadsAlike, WritesAlike, BytesInAlike, AdvancesAlike, SavesAlike, LinesAlike, PowerOnIsSound, ReadsKeepSound, WritesKeepSound, BytesInKeepSound, AdvancesKeepSound};
 ghost use Rattle.dev_serial.specs.RegisterLaws.{IdentifiesFirst, LineTellsAsking, SwitchClearsBoth, ResetsByBits, StaysOff, WritesSwitch};
-ghost use Rattle.dev_serial.specs.Sending.{SendsInOrder, ReplacesOne, LeavesForLine, AdvancesInParts, WaitsUntilDue, LoopsAtMoment};
+ghost use Rattle.dev_serial.specs.Sending.{SendsInOrder, ReplacesOne, LeavesForLine, AdvancesInParts, WaitsUntilDue, LoopsAtMoment, LongestCharacter};
 
 /// Each port is like itself, a port that is like another is so both ways, and what is like one of two
 /// ports that are alike is like the other.
@@ -12,12 +12,13 @@ pub fn likeness_law()
 {}
 
 /// Ports that are alike answer each call alike, and are alike after it: reads, writes, bytes that come
-/// in, the passing of time, and the interrupt line.
+/// in, the passing of time, and the interrupt line. They save the same.
 pub fn alike_law()
     ensures reads { ReadsAlike }
     ensures writes { WritesAlike }
     ensures bytes_in { BytesInAlike }
     ensures advances { AdvancesAlike }
+    ensures saves { SavesAlike }
     ensures lines { LinesAlike }
 {}
 
@@ -47,10 +48,15 @@ pub fn ring_law()
 
 /// What is saved of a sound port under a set from its level on are cells of that set: each of its kind,
 /// the counted arrays as their counts say, and the cells of a subsection that isn't needed at its
-/// defaults. Carried to the newest set they may be restored, and give a port like the saved one.
+/// defaults.
+pub fn cells_law()
+    ensures { SavedAreCells }
+{}
+
+/// What is saved of a sound port under any set from its level on, carried to the newest set, may be
+/// restored and gives a port like it.
 pub fn saved_law()
-    ensures cells { SavedAreCells }
-    ensures comes_back { SavedComesBack }
+    ensures { SavedComesBack }
 {}
 
 /// What is restored is sound, and has the level of the pass.
@@ -73,11 +79,13 @@ pub fn sending_law()
 {}
 
 /// Letting time pass in two parts is letting it pass at once; no byte is sent before its moment; and in
-/// loop mode a byte comes in at the moment at which it is sent.
+/// loop mode a byte comes in at the moment at which it is sent. The longest character takes
+/// `LONGEST_CHARACTER`, 6,826,562,500 nanoseconds.
 pub fn time_law()
     ensures in_parts { AdvancesInParts }
     ensures not_before { WaitsUntilDue }
     ensures loops { LoopsAtMoment }
+    ensures longest { LongestCharacter }
 {}
 
 /// The interrupt that is identified asks for service and none of higher priority does, and the line is

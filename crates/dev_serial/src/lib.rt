@@ -7,6 +7,7 @@
 
 mod interrupt;
 mod laws;
+mod levels;
 mod mode;
 mod numbers;
 mod place;
@@ -21,8 +22,8 @@ mod transmitter;
 mod trigger;
 
 pub use laws::{
-    alike_law, fifo_control_law, interrupt_law, level_law, likeness_law, restored_law, ring_law,
-    rules_law, saved_law, sending_law, sound_law, time_law,
+    alike_law, cells_law, fifo_control_law, interrupt_law, level_law, likeness_law, restored_law,
+    ring_law, rules_law, saved_law, sending_law, sound_law, time_law,
 };
 pub use serial::Serial;
 

@@ -1,10 +1,11 @@
 // A port as the numbers of a stream.
-ghost use Rattle.std.specs.Prelude.{◌≡◌, ◌≤◌, ◌+◌, ◌++◌, length};
-ghost use Rattle.dev_serial.specs.Cells.{where_in};
+ghost use Rattle.std.specs.Prelude.{◌≡◌, ◌≤◌, ◌+◌, ◌++◌, if◌then◌else◌, [], length};
+ghost use Rattle.dev_base.specs.Tables.{since};
 ghost use Rattle.dev_serial.specs.Port.{is_thr_empty};
 ghost use Rattle.dev_serial.specs.PortNumbers.{single_byte as single_byte_of, fcr_number, ipending_of, fifo_bytes as fifo_bytes_of, due_number, shift_number, moment_number};
 
 use crate::interrupt::Interrupt;
+use crate::levels::{FIFOS_SINCE, RINGS_SINCE, TIMEOUT_SINCE};
 use crate::place;
 use crate::registers::{ETBEI, has};
 use crate::serial::Serial;
@@ -15,17 +16,8 @@ use arrayvec::ArrayVec;
 use dev_base::{append, byte_at, moment_at, signed_at, word_at};
 use vms_kinds::DevCells;
 
-/// The first set with FIFOs.
-pub(crate) const FIFO_SET: u8 = 2;
-
-/// The first set with the character timeout.
-pub(crate) const TIMEOUT_SET: u8 = 3;
-
-/// The first set with the FIFOs as rings.
-pub(crate) const RING_SET: u8 = 4;
-
-/// The number of a timer that isn't pending.
-pub(crate) const NEVER: u64 = u64::MAX;
+/// The number of a timer that isn't pending, 2^64 - 1.
+pub(crate) const NEVER: u64 = 18_446_744_073_709_551_615;
 
 /// A port as the numbers of the newest set, by their names in its description: the registers, `tsr` and
 /// `tx_due` of the shift register, `thr_ipending` of the latch, the FIFOs as counted arrays and as rings,
@@ -64,7 +56,7 @@ impl PortNumbers {
         let interrupt = port.interrupt(now);
         let held = port.receiver.held().as_slice();
         let waiting = port.transmitter.waiting().as_slice();
-        let has_rings = set >= RING_SET;
+        let has_rings = set >= RINGS_SINCE;
         let (tsr, tx_due) = shift_numbers(port.transmitter.shift());
         PortNumbers {
             divisor: port.divisor,
@@ -96,17 +88,18 @@ impl PortNumbers {
         ensures count { length result.items ≤ 84 }
     {
         let mut cells = self.field_cells();
-        append_where(&mut cells, set >= FIFO_SET, &[i128::from(self.fcr)]);
+        append_since(&mut cells, FIFOS_SINCE, set, &[i128::from(self.fcr)]);
         append(&mut cells, &[i128::from(self.thr_ipending)]);
-        append_where(&mut cells, set >= FIFO_SET, &self.rx.cells());
-        append_where(&mut cells, set >= FIFO_SET, &self.tx.cells());
-        append_where(
+        append_since(&mut cells, FIFOS_SINCE, set, &self.rx.cells());
+        append_since(&mut cells, FIFOS_SINCE, set, &self.tx.cells());
+        append_since(
             &mut cells,
-            set >= TIMEOUT_SET,
+            TIMEOUT_SINCE,
+            set,
             &[i128::from(self.timeout_at)],
         );
-        append_where(&mut cells, set >= RING_SET, &self.rx_ring.cells());
-        append_where(&mut cells, set >= RING_SET, &self.tx_ring.cells());
+        append_since(&mut cells, RINGS_SINCE, set, &self.rx_ring.cells());
+        append_since(&mut cells, RINGS_SINCE, set, &self.tx_ring.cells());
         cells
     }
 
@@ -160,13 +153,13 @@ impl PortNumbers {
     }
 }
 
-// Appends cells where the set has them.
-fn append_where(cells: &mut DevCells, has: bool, more: &[i128])
+// Appends cells that a set has from the first one on.
+fn append_since(cells: &mut DevCells, first: u8, set: u8, more: &[i128])
     requires room { length cells.old.items + length more.now ≤ 96 }
-    ensures items { cells.new.items ≡ cells.old.items ++ where_in has more.now }
+    ensures items { cells.new.items ≡ cells.old.items ++ since first set more.now }
     ensures most { length cells.new.items ≤ length cells.old.items + length more.now }
 {
-    if has {
+    if set >= first {
         append(cells, more);
     }
 }
@@ -184,7 +177,7 @@ fn single_byte(fifos: Option<Trigger>, bytes: &[u8]) -> u8
 
 // The bytes of a FIFO that is on, where they are wanted, else none.
 fn fifo_bytes(wanted: bool, fifos: Option<Trigger>, bytes: &[u8]) -> &[u8]
-    ensures { result.now ≡ where_in wanted (fifo_bytes_of fifos bytes.now) }
+    ensures { result.now ≡ (if wanted then fifo_bytes_of fifos bytes.now else []) }
 {
     if wanted && fifos.is_some() {
         bytes

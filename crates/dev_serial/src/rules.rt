@@ -4,11 +4,12 @@ ghost use Rattle.dev_serial.specs.PortNumbers.{bytes_held as bytes_held_of, stor
 ghost use Rattle.dev_serial.specs.Rules.{is_unused as is_unused_of, is_stored_once as is_stored_once_of};
 
 use crate::interrupt::Interrupt;
+use crate::levels::{FIFOS_SINCE, TIMEOUT_SINCE};
 use crate::mode::LONGEST_CHARACTER;
 use crate::numbers::{NEVER, PortNumbers};
 use crate::receiver::Receiver;
 use crate::registers::{DR, IER_BITS, LSR_BITS, MCR_BITS, OE, TEMT, THRE, has};
-use crate::serial::{FIFO_LEVEL, Serial, TIMEOUT_LEVEL};
+use crate::serial::Serial;
 use crate::shift::Shift;
 use crate::stored::{Counted, Ring};
 use crate::transmitter::Transmitter;
@@ -33,7 +34,7 @@ impl PortNumbers {
     fn fifo_control_holds(&self, level: u8) -> bool
         ensures { result ≡ fcr_holds level self.now }
     {
-        self.fcr == 0 || level >= FIFO_LEVEL && self.fcr % 64 == 1
+        self.fcr == 0 || level >= FIFOS_SINCE && self.fcr % 64 == 1
     }
 
     // 3: bytes are held in one way alone.
@@ -82,7 +83,7 @@ impl PortNumbers {
         requires { now ≤ LAST_MOMENT }
         ensures { result ≡ timeout_holds level now self.now }
     {
-        if level >= TIMEOUT_LEVEL && self.fcr != 0 && !is_unused(self.rx, self.rx_ring) {
+        if level >= TIMEOUT_SINCE && self.fcr != 0 && !is_unused(self.rx, self.rx_ring) {
             self.timeout_at != NEVER && self.timeout_at <= now + 4 * LONGEST_CHARACTER
         } else {
             self.timeout_at == NEVER
@@ -153,7 +154,7 @@ impl PortNumbers {
     pub fn restore(&self, level: u8, now: u64) -> Result<Serial, u8>
         requires { now ≤ LAST_MOMENT }
         ensures restored { result ≡ restored level now self.now }
-        ensures rule { IfErr result (λ rule. rule ≤ 10) }
+        ensures rule { IfErr result (λ rule. (1 ≤ rule) × (rule ≤ 10)) }
     {
         let port = self.to_port(level);
         let rules = [

@@ -38,7 +38,7 @@ impl Serial {
     pub fn of_cells(pass: &Pass, cells: &DevCells) -> Result<Serial, u8>
         requires { CanRestore pass.now cells.now.items }
         ensures restored { result ≡ restored_cells pass.now cells.now.items }
-        ensures rule { IfErr result (λ rule. rule ≤ 10) }
+        ensures rule { IfErr result (λ rule. (1 ≤ rule) × (rule ≤ 10)) }
     {
         PortNumbers::of_cells(cells).restore(pass.level(), pass.now())
     }

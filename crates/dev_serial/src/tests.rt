@@ -215,13 +215,11 @@ fn changed(rt: &impl Abort, changes: &[(usize, i128)]) -> DevCells {
     cells
 }
 
-/// The rule that refuses the cells of power on with these changes, 0 where none does, and then the steps
-/// that a restored port takes.
-fn refused(rt: &impl Abort, level: u8, changes: &[(usize, i128)], steps: &[Step]) -> u8 {
-    let cells = changed(rt, changes);
+/// The rule that refuses cells, 0 where none does and the restored port takes these steps.
+fn restored(rt: &impl Abort, level: u8, cells: &DevCells, steps: &[Step]) -> u8 {
     assert!(rt; is_level(level));
-    assert!(rt; are_cells(&cells));
-    match load(level, &cells) {
+    assert!(rt; are_cells(cells));
+    match load(level, cells) {
         Ok(mut port) => {
             run(rt, &mut port, steps);
             0
@@ -255,7 +253,7 @@ fn what_is_saved_under_the_first_set_travels(rt: HostRuntime) -> Result<(), Fail
             carried(&save(&port, 1, 1)).as_slice(),
             changed(&rt, cells).as_slice()
         );
-        assert_eq!(rt; refused(&rt, 1, cells, after), 0);
+        assert_eq!(rt; restored(&rt, 1, &changed(&rt, cells), after), 0);
     }
     Ok(())
 }
@@ -285,18 +283,14 @@ fn fifos_travel_under_each_set(rt: HostRuntime) -> Result<(), Fail> {
             carried(&save(&port, level, set)).as_slice(),
             cells.as_slice()
         );
-        assert!(rt; are_cells(&cells));
-        match load(level, &cells) {
-            Ok(mut port) => run(&rt, &mut port, &after),
-            Err(fault) => assert_eq!(rt; fault.rule, 0),
-        }
+        assert_eq!(rt; restored(&rt, level, &cells, &after), 0);
     }
     Ok(())
 }
 
 #[test]
 fn each_rule_refuses_by_its_number(rt: HostRuntime) -> Result<(), Fail> {
-    let rows: [(u8, u8, &[(usize, i128)]); 28] = [
+    let rows: [(u8, u8, &[(usize, i128)]); 29] = [
         // 1: bits that there are.
         (0, 1, &[(1, 0x0f), (4, 0x1f)]),
         (1, 1, &[(1, 0x10), (2, 0x04)]),
@@ -342,43 +336,43 @@ fn each_rule_refuses_by_its_number(rt: HostRuntime) -> Result<(), Fail> {
         // 9: counted array or ring.
         (9, 2, &[(5, 0x61), (11, 0x01), (13, 1), (65, 1), (64, 16)]),
         (0, 2, &[(5, 0x61), (11, 0x01), (13, 1)]),
+        // 10: a ring without bytes has its head at 0.
+        (10, 2, &[(11, 0x01), (64, 1)]),
     ];
     for (rule, level, changes) in rows {
-        assert_eq!(rt; refused(&rt, level, changes, &[]), rule);
+        assert_eq!(rt; restored(&rt, level, &changed(&rt, changes), &[]), rule);
     }
     Ok(())
 }
 
 #[test]
 fn rings_are_read_from_their_head(rt: HostRuntime) -> Result<(), Fail> {
-    let round = [
-        (5, 0x61),
-        (11, 0x01),
-        (48, 0x42),
-        (63, 0x41),
-        (64, 15),
-        (65, 2),
+    let both = [Read(0, 0x41), Read(0, 0x42)];
+    let sixteen = [Read(0, 0x42), Read(0, 0), Read(5, 0x61)];
+    // The rule, head and number, the last and the third element, and what is read.
+    let rows: [(u8, i128, i128, i128, i128, &[Step]); 6] = [
+        (0, 15, 2, 0x41, 0, &both),
+        (0, 0, 16, 0, 0, &sixteen),
+        // 10: a head above 15, a number above 16, and a byte outside of those held.
+        (10, 16, 2, 0, 0, &[]),
+        (10, 0, 17, 0, 0, &[]),
+        (10, 0, 2, 0, 0x41, &[]),
+        (10, 15, 1, 0x41, 0, &[]),
     ];
-    assert_eq!(rt; refused(&rt, 2, &round, &[Read(0, 0x41), Read(0, 0x42)]), 0);
-    // 10: a head above 15, a number above 16, a head without bytes, and a byte outside.
-    let rows: [(u8, &[(usize, i128)]); 5] = [
-        (10, &[(64, 16), (65, 2)]),
-        (10, &[(64, 0), (65, 17)]),
-        (10, &[(64, 1), (65, 0), (5, 0x60)]),
-        (10, &[(64, 0), (65, 2), (50, 1)]),
-        (0, &[(64, 0), (65, 16)]),
-    ];
-    for (rule, changes) in rows {
+    for (rule, head, number, last, third, steps) in rows {
+        let ring = [
+            (48, 0x42),
+            (50, third),
+            (63, last),
+            (64, head),
+            (65, number),
+        ];
         let mut cells = changed(&rt, &[(5, 0x61), (11, 0x01)]);
-        for (place, value) in changes {
-            assert!(rt; *place < cells.len());
-            cells.as_mut_slice()[*place] = *value;
+        for (place, value) in ring {
+            assert!(rt; place < cells.len());
+            cells.as_mut_slice()[place] = value;
         }
-        assert!(rt; are_cells(&cells));
-        match load(2, &cells) {
-            Ok(_) => assert_eq!(rt; rule, 0),
-            Err(fault) => assert_eq!(rt; fault.rule, rule),
-        }
+        assert_eq!(rt; restored(&rt, 2, &cells, steps), rule);
     }
     Ok(())
 }
