@@ -9,3 +9,4 @@ pub mod State
 pub mod Seen
 pub mod Taking
 pub mod Laws
+pub mod StreamLaws
