@@ -7,6 +7,9 @@ pub mod Finding
 pub mod Judge
 pub mod State
 pub mod Seen
+pub mod Cursor
+pub mod Answers
+pub mod CallLaws
 pub mod Taking
 pub mod Laws
 pub mod StreamLaws
