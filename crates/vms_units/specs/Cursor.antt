@@ -1,5 +1,5 @@
 -- What the calls of a cursor answer, as units: the unit that each answer stands for.
-use Rattle.std.specs.Prelude.{◌≡◌, ℕ, ◌+◌, Bool, List, [], ◌∷◌, length, get_or, drop, Option, Some, None, Result, Ok, Err}
+use Rattle.std.specs.Prelude.{◌≡◌, ℕ, ◌+◌, List, [], length, get_or, drop, Option, Some, None, Result, Ok, Err}
 use Rattle.vms_spec.specs.declared.Reason.{Reason}
 use Rattle.vms_spec.specs.declared.Reason.TheVariants as reasons
 use Rattle.vms_frames.specs.declared.fault.FrameFault.{FrameFault}
@@ -12,7 +12,7 @@ use Rattle.vms_frames.specs.declared.units.Step.TheVariants as steps
 use Rattle.vms_frames.specs.declared.units.After.{After}
 use Rattle.vms_frames.specs.declared.units.After.TheVariants.{Sub, Done}
 use Rattle.vms_frames.specs.Found.{Found, Whole, Wrong, Cut}
-use Rattle.vms_units.specs.Dues.{Due, is_next, AfterFields, Between as IsBetween}
+use Rattle.vms_units.specs.Dues.{Due, AfterFields, begins_next, Between as IsBetween}
 use Rattle.vms_units.specs.Seen.{Seen, Good, Bad, Short, seen}
 use Rattle.std.specs.Prelude.{true, false}
 use Rattle.vms_units.specs.SoFar.{Known, Tail, no_image}
@@ -45,10 +45,6 @@ pub data Behind : Type 0 where
 
 abbrev pub in_section : ℕ → Known
 in_section id = record { came = []; section = None; id = id; image = no_image }
-
-abbrev pub begins_next : Tail → List ℕ → Bool
-begins_next tail [] = false
-begins_next tail (b ∷ rest) = is_next tail b
 
 abbrev pub Fails : Seen → List ℕ → Option (List ℕ) → Reason → Type 0
 Fails (Good x n) rest left reason = ⊥
