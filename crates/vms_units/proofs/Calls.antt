@@ -3,4 +3,5 @@ pub mod Seen
 pub mod Cursors
 pub mod Between
 pub mod Trailer
+pub mod Judged
 pub mod Answered

@@ -10,6 +10,7 @@ pub mod Seen
 pub mod Cursor
 pub mod Answers
 pub mod CallLaws
+pub mod Judged
 pub mod Taking
 pub mod Laws
 pub mod StreamLaws

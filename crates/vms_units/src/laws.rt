@@ -2,6 +2,7 @@
 //! judge over any state), `specs/StreamLaws.antt` (streams and faults) and `specs/CallLaws.antt` (the calls of a cursor).
 ghost use Rattle.vms_units.specs.Laws.{FoundLaw, RefusesLaw, StateRefusesLaw};
 ghost use Rattle.vms_units.specs.CallLaws.{CallsLaw};
+ghost use Rattle.vms_units.specs.Judged.{JudgedLaw, NextLaw, SeenLaw};
 ghost use Rattle.vms_units.specs.StreamLaws.{ToldLaw, AcceptedLaw, TakenLaw, LocalLaw, UnitsLaw, StreamLaw, FrontLaw, OneStreamLaw, EitherLaw, NeverBothLaw, OneFaultLaw, SectionLaw, WrittenLaw};
 
 /// What is found is spelled there and may come, what is spelled there and may come is found, and nothing is found exactly
@@ -92,4 +93,20 @@ pub fn written_law()
 /// the reason that the unit alone decides, or as cut where none is whole.
 pub fn calls_law()
     ensures { CallsLaw }
+{}
+
+/// What a call of a cursor sees decides what the judge says: a fault and its length, a cut, and of a good unit all but the
+/// rows that ask the set, the machines or the units so far.
+pub fn judged_law()
+    ensures { JudgedLaw }
+{}
+
+/// Behind the fields of a section without a footer a unit between sections is judged as between sections, in a bare stream.
+pub fn next_law()
+    ensures { NextLaw }
+{}
+
+/// Of what is known the call after fields asks the id of the open section alone.
+pub fn seen_law()
+    ensures { SeenLaw }
 {}

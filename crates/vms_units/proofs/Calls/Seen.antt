@@ -11,7 +11,7 @@ use Rattle.vms_units.specs.Judge.{judge_found, by_row}
 use Rattle.vms_units.specs.State.{State, due_by, known_at, after, by_state}
 use Rattle.vms_units.specs.SoFar.{Known}
 
-append_first : (xs ys : List Row) → first_row xs ≡ None → first_row (xs ++ ys) ≡ first_row ys
+pub append_first : (xs ys : List Row) → first_row xs ≡ None → first_row (xs ++ ys) ≡ first_row ys
 append_first [] ys e = refl
 append_first (x ∷ xs) ys e = by (x.taken) (append_first xs ys) e
   where
@@ -20,7 +20,7 @@ append_first (x ∷ xs) ys e = by (x.taken) (append_first xs ys) e
     by true later e = cc
     by false later e = later e
 
-append_taken : (xs ys : List Row) (o : Option ℕ × Reason) → first_row xs ≡ Some o → first_row (xs ++ ys) ≡ Some o
+pub append_taken : (xs ys : List Row) (o : Option ℕ × Reason) → first_row xs ≡ Some o → first_row (xs ++ ys) ≡ Some o
 append_taken [] ys o e = cc
 append_taken (x ∷ xs) ys o e = by (x.taken) (append_taken xs ys o) e
   where
