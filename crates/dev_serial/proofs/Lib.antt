@@ -4,6 +4,7 @@ pub mod CellLemmas
 pub mod KeepAdvance
 pub mod KeepLaws
 pub mod KeepParts
+pub mod RegisterLaws
 pub mod RestoredLaw
 pub mod RestoredParts
 pub mod SavedCells

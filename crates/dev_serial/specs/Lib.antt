@@ -10,6 +10,7 @@ pub mod Parts
 pub mod Port
 pub mod Receive
 pub mod ReceiverView
+pub mod RegisterLaws
 pub mod Rules
 pub mod Saved
 pub mod Sending

@@ -1,5 +1,6 @@
 // Laws of the definitions, each in a clause of a function that does nothing.
 ghost use Rattle.dev_serial.specs.Laws.{ReadsAlike, WritesAlike, BytesInAlike, AdvancesAlike, LinesAlike, PowerOnIsSound, ReadsKeepSound, WritesKeepSound, BytesInKeepSound, AdvancesKeepSound, SavedMayBeRestored, SavedIsRestored, RestoredIsSound};
+ghost use Rattle.dev_serial.specs.RegisterLaws.{IdentifiesFirst, LineTellsAsking, SwitchClearsBoth, ResetsByBits, StaysOff, WritesSwitch};
 ghost use Rattle.dev_serial.specs.Sending.{SendsInOrder, ReplacesOne, LeavesForLine, AdvancesInParts, WaitsUntilDue, LoopsAtMoment};
 
 /// Ports that are alike answer each call alike, and are alike after it: reads, writes, bytes that come
@@ -43,4 +44,21 @@ pub fn saved_law()
     ensures may_be_restored { SavedMayBeRestored }
     ensures is_restored { SavedIsRestored }
     ensures is_sound { RestoredIsSound }
+{}
+
+/// The interrupt that is identified asks for service and none of higher priority does, and the line is
+/// high exactly where one asks.
+pub fn interrupt_law()
+    ensures first { IdentifiesFirst }
+    ensures line { LineTellsAsking }
+{}
+
+/// Writes of the FIFO Control Register: switching the FIFOs on or off clears both lists; while they stay
+/// on bit 1 clears the receive list and bit 2 the transmit list; while they stay off nothing changes. The
+/// latch is set where bytes that waited are cleared, and the shift register goes on.
+pub fn fifo_control_law()
+    ensures switched { SwitchClearsBoth }
+    ensures reset { ResetsByBits }
+    ensures stays_off { StaysOff }
+    ensures written { WritesSwitch }
 {}

@@ -18,7 +18,9 @@ mod shift;
 mod transmitter;
 mod trigger;
 
-pub use laws::{alike_law, saved_law, sending_law, sound_law, time_law};
+pub use laws::{
+    alike_law, fifo_control_law, interrupt_law, saved_law, sending_law, sound_law, time_law,
+};
 pub use mode::LAST_MOMENT;
 pub use saved::NEWEST_SET;
 pub use serial::{NEWEST_LEVEL, Serial};
