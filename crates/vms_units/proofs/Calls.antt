@@ -1,7 +1,3 @@
--- The calls of a cursor, by the unit that is found and the rows that it alone decides.
+-- What a cursor sees, and what the judge says.
 pub mod Seen
-pub mod Cursors
-pub mod Between
-pub mod Trailer
 pub mod Judged
-pub mod Answered

@@ -7,9 +7,6 @@ pub mod Finding
 pub mod Judge
 pub mod State
 pub mod Seen
-pub mod Cursor
-pub mod Answers
-pub mod CallLaws
 pub mod Judged
 pub mod Taking
 pub mod Laws

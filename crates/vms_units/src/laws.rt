@@ -1,7 +1,6 @@
 //! Each law is the contract of a function without a body. The statements stand in `specs/Laws.antt` (what is found, and the
-//! judge over any state), `specs/StreamLaws.antt` (streams and faults) and `specs/CallLaws.antt` (the calls of a cursor).
+//! judge over any state), `specs/StreamLaws.antt` (streams and faults) and `specs/Judged.antt` (what the calls of a cursor see).
 ghost use Rattle.vms_units.specs.Laws.{FoundLaw, RefusesLaw, StateRefusesLaw};
-ghost use Rattle.vms_units.specs.CallLaws.{CallsLaw};
 ghost use Rattle.vms_units.specs.Judged.{JudgedLaw, NextLaw, SeenLaw};
 ghost use Rattle.vms_units.specs.StreamLaws.{ToldLaw, AcceptedLaw, TakenLaw, LocalLaw, UnitsLaw, StreamLaw, FrontLaw, OneStreamLaw, EitherLaw, NeverBothLaw, OneFaultLaw, SectionLaw, WrittenLaw};
 
@@ -87,12 +86,6 @@ pub fn section_law()
 /// with it takes exactly that, for every set.
 pub fn written_law()
     ensures { WrittenLaw }
-{}
-
-/// Each call of a cursor answers the unit that stands at the front, whole and taken, or refuses it at its place for exactly
-/// the reason that the unit alone decides, or as cut where none is whole.
-pub fn calls_law()
-    ensures { CallsLaw }
 {}
 
 /// What a call of a cursor sees decides what the judge says: a fault and its length, a cut, and of a good unit all but the

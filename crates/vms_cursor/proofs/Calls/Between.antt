@@ -11,18 +11,18 @@ use Rattle.vms_marks.specs.declared.mark.Mark.{Mark as AMark}
 use Rattle.vms_marks.specs.declared.mark.Mark.TheVariants as marks
 use Rattle.vms_marks.specs.Marks.{mark_of}
 use Rattle.vms_marks.specs.Heads.{head_in}
-use Rattle.vms_frames.specs.declared.units.Between.{Between}
-use Rattle.vms_frames.specs.declared.units.Between.TheVariants.{First, AfterConfiguration, Later}
-use Rattle.vms_frames.specs.declared.units.Step.{Step}
-use Rattle.vms_frames.specs.declared.units.Step.TheVariants as steps
-use Rattle.vms_frames.specs.Found.{Found as Answer, Whole as IsWhole, Wrong, Cut as IsCut, needs as wants, between_found, mark_found, head_found, start_found, start_reason, configuration_found, step_long}
+use Rattle.vms_cursor.specs.declared.units.Between.{Between}
+use Rattle.vms_cursor.specs.declared.units.Between.TheVariants.{First, AfterConfiguration, Later}
+use Rattle.vms_cursor.specs.declared.units.Step.{Step}
+use Rattle.vms_cursor.specs.declared.units.Step.TheVariants as steps
+use Rattle.vms_cursor.specs.Found.{Found as Answer, Whole as IsWhole, Wrong, Cut as IsCut, needs as wants, between_found, mark_found, head_found, start_found, start_reason, configuration_found, step_long}
 use Rattle.vms_units.specs.Dues.{Between as IsBetween}
 use Rattle.vms_units.specs.Table.{first_row, is_ram, alone}
 use Rattle.vms_units.specs.Finding.{Found, Whole, Cut, needs, start_at, head_at, text_at, between_at}
 use Rattle.vms_units.specs.Seen.{Good, Bad, seen, seen_in, seen_by}
 use Rattle.vms_units.specs.Taking.{nothing_known}
-use Rattle.vms_units.specs.Cursor.{as_seen, unit_of_step, due_of}
-use Rattle.vms_units.proofs.Calls.Cursors.{framed, nested, one_le}
+use Rattle.vms_cursor.specs.Calls.{unit_of_step, due_of}
+use Rattle.vms_cursor.proofs.Calls.Cursors.{framed, nested, one_le, as_seen}
 
 abbrev is_first : Between → Bool
 is_first First = true

@@ -1,6 +1,6 @@
 -- What a cursor's calls answer is what is found there.
-use Rattle.std.proofs.Common.{◌≡◌, ℕ, ◌+◌, ◌<◌, ◌≤◌, List, [], ◌∷◌, length, get_or, take, drop, Option, Some, None, ℤ, refl, sym, ap, ◌∙◌, subst, arith, length-drop, Bool, true, false, not, nat_lt, ◌==◌, ◌&&◌, ◌||◌, if◌then◌else◌}
-use Rattle.std.proofs.lemmas.Bool.{ltb-true, ltb-false, lt-ltb, le-ltb, eqb-true}
+use Rattle.std.proofs.Common.{◌≡◌, ℕ, ◌+◌, ◌<◌, ◌≤◌, List, [], ◌∷◌, length, get_or, take, drop, Option, Some, None, ℤ, refl, sym, ap, ◌∙◌, arith, length-drop, Bool, true, false, not, nat_lt, ◌==◌, ◌&&◌, ◌||◌, if◌then◌else◌}
+use Rattle.std.proofs.lemmas.Bool.{ltb-true, ltb-false, lt-ltb, eqb-true}
 use Rattle.std.proofs.lemmas.List.{length-take-le}
 use Rattle.vms_kinds.specs.declared.Kind.{Kind}
 use Rattle.vms_kinds.specs.Codes.{width, value_of}
@@ -13,20 +13,29 @@ use Rattle.vms_spec.specs.Units.{Piece, Magic, Version, Number, Filler, SubHead,
 use Rattle.std.specs.Str.{bytes_eq}
 use Rattle.vms_spec.specs.Streams.{magic}
 use Rattle.vms_laws.proofs.FaultFields.{raw_same, bad_same}
-use Rattle.vms_laws.proofs.BodyOnly.{if_false, if_true}
-use Rattle.vms_marks.specs.declared.mark.Mark.{Mark as AMark}
-use Rattle.vms_marks.specs.declared.mark.Mark.TheVariants as marks
-use Rattle.vms_marks.specs.Marks.{mark_of}
-use Rattle.vms_frames.specs.declared.units.After.{After}
-use Rattle.vms_frames.specs.declared.units.After.TheVariants.{Sub, Done}
-use Rattle.vms_frames.specs.Found.{Found as Answer, Whole as IsWhole, Wrong, Cut as IsCut, needs as wants, magic_found, version_found, number_found, skip_found, after_found, after_mark_found, sub_found, foot_found, after_long}
+use Rattle.vms_laws.proofs.BodyOnly.{if_true}
+use Rattle.vms_cursor.specs.declared.units.Behind.{Behind}
+use Rattle.vms_cursor.specs.declared.units.Behind.TheVariants.{Sub, Next, Done}
+use Rattle.vms_cursor.specs.Found.{Found as Answer, Whole as IsWhole, Wrong, Cut as IsCut, needs as wants, magic_found, version_found, number_found, skip_found, sub_found, foot_found, behind_long}
 use Rattle.vms_units.specs.Dues.{Due, AMagic, AVersion, Field, AfterFields, raw}
 use Rattle.vms_units.specs.Table.{first_row, alone}
-use Rattle.vms_units.specs.Finding.{Whole, Cut, needs, sub_at, between_at, behind_at}
-use Rattle.vms_units.specs.Seen.{Good, seen, seen_in, seen_by}
+use Rattle.vms_units.specs.Finding.{Whole, Cut, needs, sub_at}
+use Rattle.vms_units.specs.Seen.{Seen, Good, Bad, Short, seen, seen_in, seen_by}
 use Rattle.vms_units.specs.Taking.{nothing_known}
-use Rattle.vms_units.specs.Cursor.{in_section, as_seen, unit_of_after}
-use Rattle.vms_units.specs.SoFar.{Footed, Known}
+use Rattle.vms_cursor.specs.Calls.{in_section}
+use Rattle.vms_units.specs.SoFar.{Tail, Footed, Known}
+
+-- what is found, as it is seen
+abbrev pub as_seen : {X : Type 0} → (X → Piece) → (X → ℕ) → Answer X → Seen
+as_seen unit long (IsWhole x) = Good (unit x) (long x)
+as_seen unit long (Wrong n reason) = Bad n reason
+as_seen unit long IsCut = Short
+
+-- the unit of what was read behind fields
+abbrev pub unit_of_behind : ℕ → Behind → Piece
+unit_of_behind id (Sub name version) = SubHead name.items version
+unit_of_behind id (Next b) = Mark b
+unit_of_behind id Done = Foot id
 
 module _ {X : Type 0} (unit : X → Piece) (long : X → ℕ) where
   -- n bytes are wanted by both
@@ -66,48 +75,21 @@ skip_seen n rest = framed (λ (x : Unit {0}). Filler (take n rest)) (λ (x : Uni
 
 -- ---- after the fields of a section that has a footer
 
-neither : (id : ℕ) (rest : List ℕ) (b0 b1 b2 b3 b4 b6 b7 b8 : Bool)
-    → after_mark_found id rest (if b0 then Some marks.End else if b1 then Some marks.Start else if b2 then Some marks.Part else if b3 then Some marks.SectionEnd else if b4 then Some marks.Full else
-    (if b6 then Some marks.Description else if b7 then Some marks.Configuration else if b8 then Some marks.Command else None)) ≡ Wrong 1 reasons.BadFooter
-neither id rest true b1 b2 b3 b4 b6 b7 b8 = refl
-neither id rest false true b2 b3 b4 b6 b7 b8 = refl
-neither id rest false false true b3 b4 b6 b7 b8 = refl
-neither id rest false false false true b4 b6 b7 b8 = refl
-neither id rest false false false false true b6 b7 b8 = refl
-neither id rest false false false false false true b7 b8 = refl
-neither id rest false false false false false false true b8 = refl
-neither id rest false false false false false false false true = refl
-neither id rest false false false false false false false false = refl
-
-abbrev marks_by : ℕ → Bool → Bool → Option AMark
-marks_by b b5 bf =
-    if b == 0x00 then Some marks.End
-    else if b == 0x01 then Some marks.Start
-    else if b == 0x02 then Some marks.Part
-    else if b == 0x03 then Some marks.SectionEnd
-    else if b == 0x04 then Some marks.Full
-    else if b5 then Some marks.Sub
-    else if b == 0x06 then Some marks.Description
-    else if b == 0x07 then Some marks.Configuration
-    else if b == 0x08 then Some marks.Command
-    else if bf then Some marks.Footer
-    else None
-
-sub_seen : (id : ℕ) (rest : List ℕ) → as_seen (unit_of_after id) after_long (sub_found rest) ≡ seen_in (AfterFields 0 Footed) (in_section id) (sub_at rest (get_or rest 1 0))
-sub_seen id rest =
+pub sub_seen : (t : Tail) (id : ℕ) (rest : List ℕ) → as_seen (unit_of_behind id) behind_long (sub_found rest) ≡ seen_in (AfterFields 0 t) (in_section id) (sub_at rest (get_or rest 1 0))
+sub_seen t id rest =
     let n = get_or rest 1 0 in
     let name = bytes_at n 2 rest in
-    let f : Answer After = IsWhole (Sub (record { items = name }) (number_at 4 (2 + n) rest)) in
-    ap (as_seen (unit_of_after id) after_long) (nested (unit_of_after id) after_long 2 (6 + n) rest f (omega arith))
-    ∙ framed (unit_of_after id) after_long (AfterFields 0 Footed) (in_section id) (6 + n) rest (SubHead name (number_at 4 (2 + n) rest)) f
+    let f : Answer Behind = IsWhole (Sub (record { items = name }) (number_at 4 (2 + n) rest)) in
+    ap (as_seen (unit_of_behind id) behind_long) (nested (unit_of_behind id) behind_long 2 (6 + n) rest f (omega arith))
+    ∙ framed (unit_of_behind id) behind_long (AfterFields 0 t) (in_section id) (6 + n) rest (SubHead name (number_at 4 (2 + n) rest)) f
     (λ le. ap (λ (k : ℕ). Good (SubHead name (number_at 4 (2 + n) rest)) (6 + k)) (length-take-le n (drop 2 rest) (omega (arith, length-drop 2 rest))))
 
-foot_seen : (id : ℕ) (rest : List ℕ) → as_seen (unit_of_after id) after_long (foot_found id rest) ≡ seen_in (AfterFields 0 Footed) (in_section id) (needs 5 rest (Foot (number_at 4 1 rest)))
-foot_seen id rest =
+pub foot_seen : (t : Tail) (id : ℕ) (rest : List ℕ) → as_seen (unit_of_behind id) behind_long (foot_found id rest) ≡ seen_in (AfterFields 0 t) (in_section id) (needs 5 rest (Foot (number_at 4 1 rest)))
+foot_seen t id rest =
     let m = number_at 4 1 rest in
-    framed (unit_of_after id) after_long (AfterFields 0 Footed) (in_section id) 5 rest (Foot m) (if m == id then IsWhole Done else Wrong 5 reasons.BadFooter) (λ le. by m (m == id) (λ e. eqb-true m id e))
+    framed (unit_of_behind id) behind_long (AfterFields 0 t) (in_section id) 5 rest (Foot m) (if m == id then IsWhole Done else Wrong 5 reasons.BadFooter) (λ le. by m (m == id) (λ e. eqb-true m id e))
   where
-    by : (m : ℕ) (b : Bool) → (b ≡ true → m ≡ id) → as_seen (unit_of_after id) after_long (if b then IsWhole Done else Wrong 5 reasons.BadFooter) ≡ seen_by (if not b then Some (None, reasons.BadFooter) else None) (Foot m) 5
+    by : (m : ℕ) (b : Bool) → (b ≡ true → m ≡ id) → as_seen (unit_of_behind id) behind_long (if b then IsWhole Done else Wrong 5 reasons.BadFooter) ≡ seen_by (if not b then Some (None, reasons.BadFooter) else None) (Foot m) 5
     by m true h = ap (λ (m : ℕ). Good (Foot m) 5) (sym (h refl))
     by m false h = refl
 
@@ -115,7 +97,7 @@ pub one_le : (b : ℕ) (more : List ℕ) → 1 ≤ length (b ∷ more)
 one_le b more = omega arith
 
 -- neither a footer nor a subsection head
-foot_row : (k : Known) (b : ℕ) → first_row (alone (AfterFields 0 Footed) k (Mark b)) ≡ Some (k.section, reasons.BadFooter)
+pub foot_row : (k : Known) (b : ℕ) → first_row (alone (AfterFields 0 Footed) k (Mark b)) ≡ Some (k.section, reasons.BadFooter)
 foot_row k b = by (b == 0x02 || b == 0x03) (b == 0x08) (b == 0x05)
   where
     by : (p q r : Bool) → (let bad : Option (Option ℕ × Reason) = Some (k.section, reasons.BadFooter) in if p && false then Some (None, reasons.Iterative) else if q && false then Some (None, reasons.Command) else if r && false then Some (None, reasons.ConfigurationExtra) else bad) ≡ Some (k.section, reasons.BadFooter)
@@ -127,30 +109,6 @@ foot_row k b = by (b == 0x02 || b == 0x03) (b == 0x08) (b == 0x05)
     by false true false = refl
     by false false true = refl
     by false false false = refl
-
-abbrev AfterSeen : ℕ → ℕ → List ℕ → Type 0
-AfterSeen id b more = as_seen (unit_of_after id) after_long (after_mark_found id (b ∷ more) (mark_of b)) ≡ seen_in (AfterFields 0 Footed) (in_section id) (behind_at Footed b (b ∷ more))
-
-by_mark : (id b : ℕ) (more : List ℕ) (b5 bf : Bool) → (b == 0x05) ≡ b5 → (b == 0x7e) ≡ bf → AfterSeen id b more
-unfolding behind_at
-by_mark id b more true bf e f = subst (λ (b : ℕ). AfterSeen id b more) (sym (eqb-true b 0x05 e)) (sub_seen id (0x05 ∷ more))
-by_mark id b more false true e f = subst (λ (b : ℕ). AfterSeen id b more) (sym (eqb-true b 0x7e f)) (foot_seen id (0x7e ∷ more))
-by_mark id b more false false e f =
-    ap (λ (b5 : Bool). as_seen (unit_of_after id) after_long (after_mark_found id (b ∷ more) (marks_by b b5 (b == 0x7e)))) e
-    ∙ ap (λ (bf : Bool). as_seen (unit_of_after id) after_long (after_mark_found id (b ∷ more) (marks_by b false bf))) f
-    ∙ ap (as_seen (unit_of_after id) after_long) (neither id (b ∷ more) (b == 0x00) (b == 0x01) (b == 0x02) (b == 0x03) (b == 0x04) (b == 0x06) (b == 0x07) (b == 0x08))
-    ∙ sym (ap (seen_in (AfterFields 0 Footed) (in_section id))
-    (if_false (b == 0x05) (sub_at (b ∷ more) (get_or more 0 0)) _ e ∙ ap (λ (t : Bool). if not t then (if b == 0x7e then needs 5 (b ∷ more) (Foot (number_at 4 1 (b ∷ more))) else needs 1 (b ∷ more) (Mark b)) else between_at false b (b ∷ more)) e
-    ∙ if_false (b == 0x7e) _ _ f
-    ∙ if_false (nat_lt (length (b ∷ more)) 1) Cut (Whole (Mark b) 1) (le-ltb (length (b ∷ more)) 1 (one_le b more)))
-    ∙ ap (λ (o : Option (Option ℕ × Reason)). seen_by o (Mark b) 1) (foot_row (in_section id) b))
-
-pub after_seen : (id : ℕ) (rest : List ℕ) → as_seen (unit_of_after id) after_long (after_found id rest) ≡ seen (AfterFields 0 Footed) (in_section id) rest
-unfolding behind_at
-after_seen id [] = refl
-after_seen id (b ∷ more) =
-    ap (as_seen (unit_of_after id) after_long) (if_false (nat_lt (length (b ∷ more)) 1) IsCut (after_mark_found id (b ∷ more) (mark_of b)) (le-ltb (length (b ∷ more)) 1 (one_le b more)))
-    ∙ by_mark id b more (b == 0x05) (b == 0x7e) refl refl
 
 -- ---- the stream head
 
