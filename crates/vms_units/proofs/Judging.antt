@@ -2,3 +2,4 @@
 pub mod Verdicts
 pub mod Mirrors
 pub mod Once
+pub mod Onward

@@ -3,4 +3,5 @@ pub mod Judging
 pub mod Bodies
 pub mod Streams
 pub mod Rows
+pub mod Calls
 mod Stated

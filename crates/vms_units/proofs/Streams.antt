@@ -8,3 +8,5 @@ pub mod SectionsFound
 pub mod StreamFound
 pub mod SectionsRead
 pub mod StreamRead
+pub mod Footed
+pub mod Onward

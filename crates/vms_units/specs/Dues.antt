@@ -73,6 +73,11 @@ is_foot Bare b = false
 abbrev pub is_next : Tail → ℕ → Bool
 is_next tail b = not (b == 0x05 || is_foot tail b)
 
+-- whether what is left begins a unit between sections behind the fields
+abbrev pub begins_next : Tail → List ℕ → Bool
+begins_next tail [] = false
+begins_next tail (b ∷ rest) = is_next tail b
+
 abbrev pub first_byte : Piece → ℕ
 first_byte x = get_or (spell x) 0 0
 

@@ -6,7 +6,7 @@ use Rattle.vms_spec.specs.declared.Reason.TheVariants as reasons
 use Rattle.vms_spec.specs.Sets.{Set}
 use Rattle.vms_spec.specs.Units.{Piece, spell, spelled}
 use Rattle.vms_spec.specs.SoFar.{opened}
-use Rattle.vms_units.specs.Dues.{Due, AfterFields, is_next, AfterEnd, Nothing, May, due, holds}
+use Rattle.vms_units.specs.Dues.{Due, AfterFields, begins_next, AfterEnd, Nothing, May, due, holds}
 use Rattle.vms_units.specs.Table.{reason_of}
 
 -- a unit must come: not after a description, nor after the end mark where nothing is left
@@ -17,7 +17,7 @@ Owes d rest = Unit {0}
 
 -- the section that is read where the input ends: none inside a unit between sections
 abbrev pub cut_in : Due → List ℕ → Option ℕ → Option ℕ
-cut_in (AfterFields k tail) (b ∷ rest) section = if is_next tail b then None else section
+cut_in (AfterFields k tail) rest section = if begins_next tail rest then None else section
 cut_in d rest section = section
 
 -- a unit that may come after u stands whole at the front of what is left

@@ -7,5 +7,7 @@ pub mod Finding
 pub mod Judge
 pub mod State
 pub mod Seen
+pub mod Judged
 pub mod Taking
 pub mod Laws
+pub mod StreamLaws

@@ -4,7 +4,7 @@ use Rattle.std.specs.Prelude.{ℕ, zero, suc, ◌+◌, Bool, List, [], ◌∷◌
 use Rattle.vms_spec.specs.Sets.{Set}
 use Rattle.vms_spec.specs.Layout.{Slot, Filler as FillerSlot, Rule as RuleSlot}
 use Rattle.vms_spec.specs.Images.{Image, default_image}
-use Rattle.vms_spec.specs.Units.{Piece, Configuration, Head, Number, Constant, Filler, SubHead, Foot}
+use Rattle.vms_spec.specs.Units.{Piece, Configuration, Head, Number, Constant, Filler, SubHead, Foot, End}
 use Rattle.vms_spec.specs.SoFar.{id_of, device_named, come, opened, image, slots}
 
 -- Whether the sections of a stream have footers: not known yet, all have, or none has.
@@ -38,7 +38,8 @@ pub record Known : Type 0 where
   pub image : Image
 
 module _ (set : Set) where
-  -- A configuration and a footer say that sections have footers. A section head behind fields says that they have none.
+  -- A configuration and a footer say that sections have footers. A section head or the end mark directly behind fields
+  -- says that they have none.
   abbrev pub behind : Option ℕ → Tail → Tail
   behind None tail = tail
   behind (Some k) tail = Bare
@@ -48,6 +49,7 @@ module _ (set : Set) where
   tail (Configuration name ∷ u) = Footed
   tail (Foot id ∷ u) = Footed
   tail (Head id name instance v ∷ u) = behind (opened set u) (tail u)
+  tail (End ∷ u) = behind (opened set u) (tail u)
   tail (x ∷ u) = tail u
 
   -- how many slots are passed of the part whose fields come

@@ -115,7 +115,7 @@ module _ (set : Set) where
       let j = sub_at set (known_at s) name in
       record s { images = put_image s.images (open_at s.spot) (record i { came = put_version i.came j v }); spot = onward s.spot (λ part n. j) (λ n. 0) }
   after s (Foot id) = record s { tail = Footed; spot = Free false false }
-  after s End = record s { spot = Ended }
+  after s End = record s { tail = behind set (open_at s.spot) s.tail; spot = Ended }
   after s _ = record s { spot = Over }
 
 abbrev pub by_state : Set → List (List ℕ) → Grammar State

@@ -268,7 +268,7 @@ module _ (set : Set) where
         machine_is = m.machine_is;
       }
   after_so u s (Foot id) m = record { came = m.came; tail_is = refl; long = m.long; spot = refl; image_is = λ k e. cc; images_are = m.images_are; machine_is = m.machine_is }
-  after_so u s End m = record { came = m.came; tail_is = m.tail_is; long = m.long; spot = refl; image_is = λ k e. cc; images_are = m.images_are; machine_is = m.machine_is }
+  after_so u s End m = record { came = m.came; tail_is = ap (λ (p : Option ℕ). behind set p s.tail) (section_at u s m) ∙ ap (behind set (opened set u)) m.tail_is; long = m.long; spot = refl; image_is = λ k e. cc; images_are = m.images_are; machine_is = m.machine_is }
   after_so u s (Description text) m = record { came = m.came; tail_is = m.tail_is; long = m.long; spot = refl; image_is = λ k e. cc; images_are = m.images_are; machine_is = m.machine_is }
   after_so u s (Start id name) m = record { came = m.came; tail_is = m.tail_is; long = m.long; spot = refl; image_is = λ k e. cc; images_are = m.images_are; machine_is = m.machine_is }
   after_so u s (Mark b) m = record { came = m.came; tail_is = m.tail_is; long = m.long; spot = refl; image_is = λ k e. cc; images_are = m.images_are; machine_is = m.machine_is }

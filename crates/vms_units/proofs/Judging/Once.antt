@@ -32,7 +32,7 @@ after_told go at rest (Goes n next) h = h n next refl
 after_told go at rest (Faulty section reason long) h = (Refused at section reason long, refl)
 after_told go at rest (Over end) h = (Accepted at end, refl)
 
-told_from : {S : Type 0} (judge : S → List ℕ → Verdict S) → Advances judge → (m : ℕ) (state : S) (at : ℕ) (rest : List ℕ) → length rest < m → (x : Reading S) × (reading_from judge m state at rest ≡ Some x)
+pub told_from : {S : Type 0} (judge : S → List ℕ → Verdict S) → Advances judge → (m : ℕ) (state : S) (at : ℕ) (rest : List ℕ) → length rest < m → (x : Reading S) × (reading_from judge m state at rest ≡ Some x)
 told_from judge a zero state at rest h = absurd (omega arith)
 told_from judge a (suc m) state at rest h =
     after_told (reading_from judge m) at rest (judge state rest) (λ n next e.

@@ -171,12 +171,12 @@ module _ {S : Type 0} (set : Set) (names : List (List ℕ)) (g : Grammar S) (sol
   refused_from (suc k) u s at rest place section reason size ok front r long h =
       by_verdict k (refused_from k) u at rest place section reason size ok front long (judge g s rest) (said u s rest ok r) h
 
-  record Reaches (start : S) (u : List Piece) (rest : List ℕ) : Type 0 where
-    state : S
-    mirrors : Mirrors u state
-    reads : reading_on (judge g) start 0 (spelled u ++ rest) ≡ reading_on (judge g) state (length (spelled u)) rest
+  pub record Reaches (start : S) (u : List Piece) (rest : List ℕ) : Type 0 where
+    pub state : S
+    pub mirrors : Mirrors u state
+    pub reads : reading_on (judge g) start 0 (spelled u ++ rest) ≡ reading_on (judge g) state (length (spelled u)) rest
 
-  reaches : (start : S) (u : List Piece) (rest : List ℕ) → Mirrors [] start → Front set names u → Reaches start u rest
+  pub reaches : (start : S) (u : List Piece) (rest : List ℕ) → Mirrors [] start → Front set names u → Reaches start u rest
   reaches start [] rest r front = record { state = start; mirrors = r; reads = refl }
   reaches start (x ∷ u) rest r front =
       let t = reaches start u (spell x ++ rest) r front.0 in
@@ -243,7 +243,7 @@ module _ {S : Type 0} (set : Set) (names : List (List ℕ)) (g : Grammar S) (sol
         ∙ ap (λ (k : ℕ). Some (Refused k section reason size)) f.long;
   }
 
-units_mirror : (set : Set) (names : List (List ℕ)) → Mirrored set names (by_units set names) (λ u s. s ≡ u)
+pub units_mirror : (set : Set) (names : List (List ℕ)) → Mirrored set names (by_units set names) (λ u s. s ≡ u)
 units_mirror set names = record {
   due_is = λ u s e. ap (due set) e;
   holds_is = λ u s e. ap (holds set) e;

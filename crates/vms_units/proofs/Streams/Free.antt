@@ -36,7 +36,7 @@ ended machine images came t = record { machine = machine; images = images; came 
 -- stream head, a configuration
 pub data Opening (set : Set) (names : List (List ℕ)) (first : Bool) (s : State) (t : Tail) (place : ℕ) (rest : List ℕ) (n : ℕ) (end : State) : Type 0 where
   Closes : (more : List ℕ) → rest ≡ 0x00 ∷ more → position not 0 s.came ≡ None
-      → reading_on (judge (by_state set names)) (ended s.machine s.images s.came s.tail) (place + 1) more ≡ Some (Accepted n end) → Opening set names first s t place rest n end
+      → reading_on (judge (by_state set names)) (ended s.machine s.images s.came t) (place + 1) more ≡ Some (Accepted n end) → Opening set names first s t place rest n end
   Opens : (k id v : ℕ) (d : Device) (more : List ℕ) → id < 4294967296 → rest ≡ section_head id d.desc.name d.instance v ++ more
       → at set.devices k ≡ Some d → at s.came k ≡ Some false → IsVersionOf d.desc v
       → reading_on (judge (by_state set names)) (opened set s.machine s.images s.came t k id d v) (place + length (section_head id d.desc.name d.instance v)) more ≡ Some (Accepted n end)
@@ -91,15 +91,15 @@ module _ (set : Set) (names : List (List ℕ)) where
       let u = steps set names s place rest n end ok refl h in
       opening first c (Between first c) s place rest u.more n end long refl u.unit u.may u.none u.there u.goes
 
--- the same, where no configuration may come; the tail at the end mark is not said
+-- the same, where no configuration may come
 pub data OpensAt (set : Set) (names : List (List ℕ)) (machine : Option (List ℕ)) (images : List Image) (came : List Bool) (t : Tail) (place : ℕ) (rest : List ℕ) (n : ℕ) (end : State) : Type 0 where
-  Closed : (more : List ℕ) (u : Tail) → rest ≡ 0x00 ∷ more → position not 0 came ≡ None → reading_on (judge (by_state set names)) (ended machine images came u) (place + 1) more ≡ Some (Accepted n end)
+  Closed : (more : List ℕ) → rest ≡ 0x00 ∷ more → position not 0 came ≡ None → reading_on (judge (by_state set names)) (ended machine images came t) (place + 1) more ≡ Some (Accepted n end)
       → OpensAt set names machine images came t place rest n end
   Opened : (k id v : ℕ) (d : Device) (more : List ℕ) → id < 4294967296 → rest ≡ section_head id d.desc.name d.instance v ++ more → at set.devices k ≡ Some d → at came k ≡ Some false → IsVersionOf d.desc v
       → reading_on (judge (by_state set names)) (opened set machine images came t k id d v) (place + length (section_head id d.desc.name d.instance v)) more ≡ Some (Accepted n end)
       → OpensAt set names machine images came t place rest n end
 
 pub opens_at : (set : Set) (names : List (List ℕ)) (s : State) (t : Tail) (place : ℕ) (rest : List ℕ) (n : ℕ) (end : State) → Opening set names false s t place rest n end → OpensAt set names s.machine s.images s.came t place rest n end
-opens_at set names s t place rest n end (Closes more e all goes) = Closed more s.tail e all goes
+opens_at set names s t place rest n end (Closes more e all goes) = Closed more e all goes
 opens_at set names s t place rest n end (Opens k id v d more f e there new version goes) = Opened k id v d more f e there new version goes
 opens_at set names s t place rest n end (Names name more first e one le goes) = cc

@@ -179,7 +179,7 @@ module _ (set : Set) (names : List (List ℕ)) (good : IsGood set) where
 
   sections_by : (most : ℕ) → FindsSections most → (machine : Option (List ℕ)) (images : List Image) (came : List Bool) (t : Tail) (place : ℕ) (rest : List ℕ) (n : ℕ) (end : State) → length came ≡ length set.devices → length images ≡ length set.devices
       → length rest < suc most → IsBytes rest → OpensAt set names machine images came t place rest n end → SectionsRead machine images came t place rest n end
-  sections_by most on machine images came t place rest n end came_long images_long less ok (Closed more u e all goes) =
+  sections_by most on machine images came t place rest n end came_long images_long less ok (Closed more e all goes) =
       let a = any t in
       record {
         order = [];
@@ -194,8 +194,8 @@ module _ (set : Set) (names : List (List ℕ)) (good : IsGood set) where
         long = refl;
         kept = λ k e. refl;
         came_last = came;
-        tail_last = u;
-        goes = ap (λ (x : ℕ). reading_on (judge (by_state set names)) (ended machine images came u) x more) (plus_none place) ∙ goes;
+        tail_last = t;
+        goes = ap (λ (x : ℕ). reading_on (judge (by_state set names)) (ended machine images came t) x more) (plus_none place) ∙ goes;
       }
     where
       plus_none : (place : ℕ) → place + 0 + 1 ≡ place + 1

@@ -244,10 +244,10 @@ module _ (set : Set) (names : List (List ℕ)) (good : IsGood set) where
       let same : s.images ≡ images = same_lists s.images images (long ∙ sym one_each) (λ k lt. agree k (came_at s.came k all (omega arith))) in
       record {
         came = s.came;
-        tail = s.tail;
+        tail = behind set (open_at s.spot) s.tail;
         reads = unit_on set names s End place after free.held (free.may End (AtEnd false false) tt) (end_passes set names ((g set names).due s) (known_at set s) (none_missing 0 s.came all))
-            ∙ ap (λ (x : ℕ). reading_on (judge (by_state set names)) (ended s.machine s.images s.came s.tail) x after) (plus_none place)
-            ∙ ap (λ (xs : List Image). reading_on (judge (by_state set names)) (ended s.machine xs s.came s.tail) ((place + 0) + 1) after) same;
+            ∙ ap (λ (x : ℕ). reading_on (judge (by_state set names)) (ended s.machine s.images s.came (behind set (open_at s.spot) s.tail)) x after) (plus_none place)
+            ∙ ap (λ (xs : List Image). reading_on (judge (by_state set names)) (ended s.machine xs s.came (behind set (open_at s.spot) s.tail)) ((place + 0) + 1) after) same;
       }
     where
       plus_none : (place : ℕ) → place + 1 ≡ (place + 0) + 1

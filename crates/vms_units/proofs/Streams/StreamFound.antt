@@ -187,7 +187,7 @@ module _ (set : Set) (names : List (List ℕ)) (good : IsGood set) where
 
   first_found : (input rest : List ℕ) (n : ℕ) (end : State) → IsBytes rest → input ≡ stream_head ++ rest
       → Opening set names true (record { machine = None; images = images_0; came = came_0; tail = Unknown; spot = Free true false }) Unknown 8 rest n end → Takes set names input n end.machine end.images
-  first_found input rest n end ok e (Closes more f all goes) = without_name input rest n end ok e (Closed more Unknown f all goes)
+  first_found input rest n end ok e (Closes more f all goes) = without_name input rest n end ok e (Closed more f all goes)
   first_found input rest n end ok e (Opens k id v d more fits f there new version goes) = without_name input rest n end ok e (Opened k id v d more fits f there new version goes)
   first_found input rest n end ok e (Names name more first f one le goes) =
       let okm : IsBytes more = is_bytes_rest (configuration name) more (subst (λ (l : List ℕ). IsBytes l) f ok) in
