@@ -22,7 +22,7 @@ use Rattle.vms_check.specs.declared.mismatch.Mismatch.{Mismatch}
 -- ---- a table's end is not asked
 
 -- each entry that is a structure has one of a number below k
-abbrev AllBelow : ℕ → List Entry → Type 0
+abbrev pub AllBelow : ℕ → List Entry → Type 0
 AllBelow k [] = Unit {0}
 AllBelow k (e ∷ es) = (uses_below k e.field.item ≡ true) × AllBelow k es
 

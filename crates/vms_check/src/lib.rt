@@ -7,6 +7,7 @@
 mod capacities;
 mod descs;
 mod items;
+pub mod laws;
 mod mismatch;
 mod names;
 mod pairs;

@@ -2,9 +2,7 @@
 use Rattle.std.specs.Prelude.{◌≡◌, Bool, true, ℕ, ◌≤◌, ◌<◌, List, [], ◌++◌, length, Option, Some, None, ℤ}
 use Rattle.vms_spec.specs.Lists.{at}
 use Rattle.vms_spec.specs.Numbers.{IsBytes}
-use Rattle.vms_spec.specs.Sets.{Formula, Device, Set}
-use Rattle.vms_spec.specs.Tests.{truth}
-use Rattle.vms_spec.specs.Reducing.{reduced, truth_of}
+use Rattle.vms_spec.specs.Sets.{Device, Set}
 use Rattle.vms_spec.specs.Layout.{Slot}
 use Rattle.vms_spec.specs.Images.{Image, Spells, zeroed}
 use Rattle.vms_spec.specs.Streams.{IsSection, IsConfiguration, IsTrailer, Takes, IsReady, optional, configuration, trailer, written_section, written}
@@ -39,10 +37,6 @@ pub record Decided (test : Bool) (P : Type 0) : Type 0 where
 -- the test of readiness is the relation
 abbrev pub ReadyLaw : Type 0
 ReadyLaw = (set : Set) (d : Device) (image : Image) → Decided (is_ready set d image) (IsReady set d image)
-
--- what is left of a test at a version holds where the test does
-abbrev pub ReducedLaw : Type 0
-ReducedLaw = (t : Formula) (v : ℕ) (own parent : ℕ → ℕ) → truth_of (reduced v t) v own parent ≡ truth t v own parent
 
 -- what the judge accepts, the input takes
 abbrev pub FoundLaw : Type 0

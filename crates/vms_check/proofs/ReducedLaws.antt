@@ -2,7 +2,7 @@
 use Rattle.std.proofs.Common.{◌≡◌, ℕ, Bool, true, false, not, ◌&&◌, ◌||◌, refl, sym, ap, ◌∙◌}
 use Rattle.vms_spec.specs.Sets.{Formula, AtLeast, Below, Cell, Not, And, Or}
 use Rattle.vms_spec.specs.Tests.{truth}
-use Rattle.vms_spec.specs.Reducing.{Reduced, Known, Open, not_reduced, and_reduced, or_reduced, reduced, truth_of}
+use Rattle.vms_check.specs.Reducing.{Reduced, Known, Open, not_reduced, and_reduced, or_reduced, reduced, truth_of}
 
 and_right : (b : Bool) → (b && true) ≡ b
 and_right true = refl
@@ -42,14 +42,17 @@ module _ (v : ℕ) (own parent : ℕ → ℕ) where
   or_holds (Open t) (Known false) = sym (or_right (truth t v own parent))
   or_holds (Open t) (Open u) = refl
 
-  pub reduced_holds_so : (t : Formula) → holds (reduced v t) ≡ truth t v own parent
-  reduced_holds_so (AtLeast n) = refl
-  reduced_holds_so (Below n) = refl
-  reduced_holds_so (Cell whose field mask rel value) = refl
-  reduced_holds_so (Not t) = not_holds (reduced v t) ∙ ap not (reduced_holds_so t)
-  reduced_holds_so (And s t) =
-      and_holds (reduced v s) (reduced v t) ∙ ap (λ (b : Bool). b && holds (reduced v t)) (reduced_holds_so s)
-      ∙ ap (λ (b : Bool). truth s v own parent && b) (reduced_holds_so t)
-  reduced_holds_so (Or s t) =
-      or_holds (reduced v s) (reduced v t) ∙ ap (λ (b : Bool). b || holds (reduced v t)) (reduced_holds_so s)
-      ∙ ap (λ (b : Bool). truth s v own parent || b) (reduced_holds_so t)
+  reduced_holds_at : (t : Formula) → holds (reduced v t) ≡ truth t v own parent
+  reduced_holds_at (AtLeast n) = refl
+  reduced_holds_at (Below n) = refl
+  reduced_holds_at (Cell whose field mask rel value) = refl
+  reduced_holds_at (Not t) = not_holds (reduced v t) ∙ ap not (reduced_holds_at t)
+  reduced_holds_at (And s t) =
+      and_holds (reduced v s) (reduced v t) ∙ ap (λ (b : Bool). b && holds (reduced v t)) (reduced_holds_at s)
+      ∙ ap (λ (b : Bool). truth s v own parent && b) (reduced_holds_at t)
+  reduced_holds_at (Or s t) =
+      or_holds (reduced v s) (reduced v t) ∙ ap (λ (b : Bool). b || holds (reduced v t)) (reduced_holds_at s)
+      ∙ ap (λ (b : Bool). truth s v own parent || b) (reduced_holds_at t)
+
+pub reduced_holds : (t : Formula) (v : ℕ) (own parent : ℕ → ℕ) → truth_of (reduced v t) v own parent ≡ truth t v own parent
+reduced_holds t v own parent = reduced_holds_at v own parent t
