@@ -10,16 +10,10 @@ use Rattle.vms_spec.specs.declared.Whose.TheVariants.{Own}
 use Rattle.vms_spec.specs.Sets.{Set, Desc, Field, Sub, Formula, AtLeast, Below, Cell, And}
 use Rattle.vms_spec.specs.Layout.{first}
 use Rattle.vms_spec.specs.WellFormed.{here, in_field}
-<<<<<<< ours
 use Rattle.vms_check.specs.declared.mismatch.Mismatch.{Mismatch}
 use Rattle.vms_check.specs.Comparing.{first_mismatch}
 use Rattle.vms_check.specs.Carrying.{carried}
-use Rattle.vms_spec.specs.Shipped.{set_0, set_1, set_2, set_3}
-=======
-use Rattle.vms_spec.specs.Comparing.{Mismatch, comparers, first_mismatch}
-use Rattle.vms_spec.specs.Carrying.{carriers, carried}
 use Rattle.vms_spec.specs.Shipped.{set_0, set_1, set_2, set_3, set_4}
->>>>>>> theirs
 use Rattle.vms_spec.proofs.Boxes.{number, box, box_set, sub_of, counted_set, constant_set, subsection_set, tested_set, mixed_set, empty_set}
 
 unfoldable compared : Set → Set → Option Mismatch
@@ -53,18 +47,6 @@ accepts_set_1_for_set_3 = refl
 accepts_set_2_for_set_3 : compared set_2 set_3 ≡ None
 unfolding compared first
 accepts_set_2_for_set_3 = refl
-
-accepts_set_1_for_set_4 : compared set_1 set_4 ≡ None
-unfolding compared comparers first
-accepts_set_1_for_set_4 = refl
-
-accepts_set_2_for_set_4 : compared set_2 set_4 ≡ None
-unfolding compared comparers first
-accepts_set_2_for_set_4 = refl
-
-accepts_set_3_for_set_4 : compared set_3 set_4 ≡ None
-unfolding compared comparers first
-accepts_set_3_for_set_4 = refl
 
 accepts_set_1_for_set_4 : compared set_1 set_4 ≡ None
 unfolding compared comparers first

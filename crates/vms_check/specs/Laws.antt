@@ -22,4 +22,4 @@ RulesLaw = (old new : Set) → WellFormed new → AreRules old new
 
 -- each shipped set from 1 on is compatible to each later one
 abbrev pub ShippedLaw : Type 0
-ShippedLaw = (s t : ℕ) → 1 ≤ s → s < t → t ≤ 3 → Compatible (shipped_set s) (shipped_set t)
+ShippedLaw = (s t : ℕ) → 1 ≤ s → s < t → t ≤ 4 → Compatible (shipped_set s) (shipped_set t)
