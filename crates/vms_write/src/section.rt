@@ -9,11 +9,12 @@ ghost use Rattle.vms_write.specs.Writing.{written_sub};
 
 use crate::WriteFault;
 use crate::body::write_fields;
-use crate::heads::{marked, section_head, sub_head};
+use crate::heads::{section_head, sub_head};
 use crate::pieces::append;
 use vms_desc::{DescSet, Part};
 use vms_image::Image;
 use vms_io::Sink;
+use vms_marks::Foot;
 use vms_walk::Spot;
 
 /// Appends the section of a device that is ready, with the device's number as its id. After a fault a
@@ -50,7 +51,7 @@ pub fn write_section<K: Sink>(
     };
     write_fields(set, own, image, sink)?;
     write_subs(set, device, image, sink)?;
-    append(sink, &marked(0x7e, device))
+    append(sink, &Foot { id: device }.bytes())
 }
 
 // The subsections that came, in the description's order.
