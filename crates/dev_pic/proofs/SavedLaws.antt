@@ -9,6 +9,7 @@ use Rattle.dev_base.specs.Cells.{cell_at, flag_at, flag_number, AreOf}
 use Rattle.dev_base.specs.Levels.{MayRestore}
 use Rattle.dev_base.specs.Tables.{carried_by, places, default_of}
 use Rattle.dev_base.specs.declared.limits.TheConstants.{NEWEST}
+use Rattle.dev_base.proofs.Choices.{either}
 use Rattle.dev_base.proofs.CellLaws.{of_none, of_more, of_both, of_where, byte, flag, flag-back}
 use Rattle.dev_base.proofs.RuleLaws.{AllTrue, none_failing, all_true, judged-all, ok-hook}
 use Rattle.dev_pic.specs.Cells.{cell_count, kinds, state_number, state_of, first_cells, saved_cells, carried, IsChipCells, chip_of, registers_hold, levels_hold, mode_holds, rules, restored}
@@ -24,7 +25,6 @@ use Rattle.dev_pic.specs.declared.levels.TheConstants.{ELCR_SINCE, LTIM_SINCE}
 use Rattle.dev_pic.specs.declared.pair.PicPair.{PicPair}
 use Rattle.dev_pic.proofs.CellLemmas.{first_part, second_part}
 use Rattle.dev_pic.proofs.RestoredLaws.{sound}
-use Rattle.dev_pic.proofs.StepLaws.{either}
 
 -- states are their numbers, back again
 state-back : (s : InitState) → state_of (state_number s) ≡ s

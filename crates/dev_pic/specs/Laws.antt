@@ -5,7 +5,7 @@ use Rattle.vms_hooks.specs.Numbers.{Numbers}
 use Rattle.dev_base.specs.Cells.{cell_at, flag_at, AreOf}
 use Rattle.dev_base.specs.Levels.{IsLevel, MayRestore}
 use Rattle.dev_base.specs.declared.limits.TheConstants.{NEWEST}
-use Rattle.dev_pic.specs.Bits.{has}
+use Rattle.dev_base.specs.Bits.{has}
 use Rattle.dev_pic.specs.Cells.{kinds, saved_cells, IsChipCells}
 use Rattle.dev_pic.specs.Chip.{cascade_input, level_inputs, level_inputs_of, ltim_after, in_service_of, winner_at, taken, settled, commanded, written_even, written_odd}
 use Rattle.dev_pic.specs.Pair.{power_on, is_port, slave_int_of, lines_of, acked, settled_pair, read_pair, written_pair}
