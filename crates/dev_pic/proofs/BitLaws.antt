@@ -3,7 +3,8 @@ use Rattle.std.proofs.Common.{◌≡◌, ◌≢◌, ℕ, zero, suc, ◌-◌, ◌
 use Rattle.std.specs.Int.{bit_at, w8}
 use Rattle.std.proofs.lemmas.Nat.{and_le_l, and_le_r, or_of_8, pow_below}
 use Rattle.std.proofs.lemmas.Nat.Bits.{bit_at_and, bit_at_or, bit_at_not, same_from_bits_below, bit_at-lt, bit_at-pow_same, bit_at-pow_other, same_from_bits}
-use Rattle.dev_pic.specs.Bits.{has, but_not, with_input, without_input}
+use Rattle.dev_base.specs.Bits.{has}
+use Rattle.dev_pic.specs.Bits.{but_not, with_input, without_input}
 use Rattle.dev_pic.specs.Chip.{level_inputs}
 use Rattle.dev_pic.specs.Laws.{LevelInputsAre}
 

@@ -2,7 +2,7 @@
 use Rattle.std.proofs.Common.{◌≡◌, ℕ, ◌<◌, ◌≤◌, true, false, refl, arith}
 use Rattle.std.proofs.lemmas.Bool.Decides.{nat_tests}
 use Rattle.std.specs.Prelude.{nat_le}
-use Rattle.dev_pic.specs.Bits.{has}
+use Rattle.dev_base.specs.Bits.{has}
 use Rattle.dev_pic.specs.Chip.{ltim_after, started, written_even, written_odd, written_odd_in}
 use Rattle.dev_pic.specs.Laws.{IsInitialized, InitializesByWords}
 use Rattle.dev_pic.specs.declared.chip.Chip.{Chip}

@@ -2,7 +2,8 @@
 use Rattle.std.proofs.Common.{◌≡◌, ◌≢◌, ℕ, ◌+◌, ◌-◌, ◌*◌, ◌/◌, ◌%◌, ◌<◌, ◌≤◌, ◌^◌, ◌==◌, Bool, true, false, not, ◌&&◌, ◌||◌, cond, Option, Some, None, refl, ap, sym, ◌∙◌, arith, ⊎_elim}
 use Rattle.std.proofs.lemmas.Bool.{cases_lt}
 use Rattle.std.proofs.lemmas.Bool.Decides.{nat_tests}
-use Rattle.dev_pic.specs.Bits.{has, without_input}
+use Rattle.dev_base.specs.Bits.{has}
+use Rattle.dev_pic.specs.Bits.{without_input}
 use Rattle.dev_pic.specs.Chip.{winner_at, taken, settled, ended, ended_lowest, highest_served, commanded, started, selected, written_even, written_odd_in, elcr_written, polled_by, read_of, answered, cascaded}
 use Rattle.dev_pic.specs.Laws.{LinesAreTaken, LinesAreKept}
 use Rattle.dev_pic.specs.Ocw2.{command_of}
@@ -17,8 +18,8 @@ use Rattle.dev_pic.specs.declared.ocw2.Ocw2.{Ocw2}
 use Rattle.dev_pic.specs.declared.ocw2.Ocw2.TheVariants.{NonSpecificEoi, RotateOnNonSpecificEoi, SpecificEoi, RotateOnSpecificEoi, RotateInAutomaticEoi, SetPriority, NoOperation}
 use Rattle.dev_pic.specs.declared.pair.PicPair.{PicPair}
 use Rattle.dev_pic.proofs.BitLaws.{each_input, has-or, has-one_other, has-without_same, has-without_other, or_false, without_input-lt}
-use Rattle.dev_pic.proofs.PairLaws.{by_test, cascade-lt}
-use Rattle.dev_pic.proofs.StepLaws.{either}
+use Rattle.dev_pic.proofs.PairLaws.{cascade-lt}
+use Rattle.dev_base.proofs.Choices.{either, by_test}
 
 -- the bits of a number of two bytes
 low-bit : (high low i : ℕ) → low < 256 → i < 8 → has (high * 256 + low) i ≡ has low i

@@ -1,5 +1,5 @@
 -- What each step of the pair keeps.
-use Rattle.std.proofs.Common.{◌≡◌, ℕ, ◌%◌, ◌<◌, ◌≤◌, ◌^◌, ◌==◌, Bool, true, false, cond, Option, Some, None, IfSome, arith, refl}
+use Rattle.std.proofs.Common.{◌≡◌, ℕ, ◌%◌, ◌<◌, ◌≤◌, ◌^◌, ◌==◌, Bool, true, false, Option, Some, None, IfSome, arith, refl}
 use Rattle.std.proofs.lemmas.Bool.Decides.{nat_tests}
 use Rattle.std.proofs.lemmas.Nat.{or_of_8, and_le_l}
 use Rattle.std.specs.Prelude.{bit_and, nat_le}
@@ -14,17 +14,13 @@ use Rattle.dev_pic.specs.declared.chip.Role.{Role}
 use Rattle.dev_pic.specs.declared.chip.Role.TheVariants.{Master, Slave}
 use Rattle.dev_pic.specs.declared.levels.TheConstants.{ELCR_SINCE, LTIM_SINCE}
 use Rattle.dev_pic.specs.declared.pair.PicPair.{PicPair}
+use Rattle.dev_base.proofs.Choices.{either, by_test}
 use Rattle.dev_pic.proofs.BitLaws.{without_input-lt, and-twice, or_true}
-use Rattle.dev_pic.proofs.StepLaws.{either, winner-lt, settled-sound, written_even-registers, written_odd-registers, read-registers, answered-registers, cascaded-registers}
+use Rattle.dev_pic.proofs.StepLaws.{winner-lt, settled-sound, written_even-registers, written_odd-registers, read-registers, answered-registers, cascaded-registers}
 
 -- an answer after which the pair has its registers
 record Kept (answer : ℕ × PicPair) : Type 0 where
   kept : PairHasRegisters answer.1
-
--- the same as `either`, where each branch may use that it is taken
-pub by_test : {A : Type 0} (P : A → Type 0) (b : Bool) (x y : A) → (b ≡ true → P x) → (b ≡ false → P y) → P (cond b x y)
-by_test P true x y p q = p refl
-by_test P false x y p q = q refl
 
 -- no level input at power on
 levels_off : (level : ℕ) (role : Role) → levels_hold level role 0 ≡ true

@@ -1,5 +1,5 @@
 -- What was saved is restored as it was.
-use Rattle.std.proofs.Common.{◌≡◌, ℕ, ◌<◌, ◌≤◌, ◌==◌, Bool, true, false, cond, List, [], ◌∷◌, ◌++◌, length, take, drop, Ok, refl, ap, sym, subst, ◌∙◌, arith, ℤ, pos}
+use Rattle.std.proofs.Common.{◌≡◌, ℕ, zero, suc, ◌+◌, ◌-◌, ◌<◌, ◌≤◌, ◌==◌, Bool, true, false, cond, List, [], ◌∷◌, ◌++◌, length, take, drop, Ok, refl, ap, sym, subst, ◌∙◌, arith, ℤ, pos}
 use Rattle.std.proofs.lemmas.Bool.{false≢true}
 use Rattle.std.proofs.lemmas.Bool.Decides.{nat_tests}
 use Rattle.std.specs.Prelude.{nat_le}
@@ -9,22 +9,23 @@ use Rattle.dev_base.specs.Cells.{cell_at, flag_at, flag_number, AreOf}
 use Rattle.dev_base.specs.Levels.{MayRestore}
 use Rattle.dev_base.specs.Tables.{carried_by, places, default_of}
 use Rattle.dev_base.specs.declared.limits.TheConstants.{NEWEST}
+use Rattle.dev_base.proofs.Choices.{either}
 use Rattle.dev_base.proofs.CellLaws.{of_none, of_more, of_both, of_where, byte, flag, flag-back}
 use Rattle.dev_base.proofs.RuleLaws.{AllTrue, none_failing, all_true, judged-all, ok-hook}
 use Rattle.dev_pic.specs.Cells.{cell_count, kinds, state_number, state_of, first_cells, saved_cells, carried, IsChipCells, chip_of, registers_hold, levels_hold, mode_holds, rules, restored}
-use Rattle.dev_pic.specs.Laws.{SoundMeetsRules, SavedAreCells, SavedIsRestored}
-use Rattle.dev_pic.specs.Saved.{CanSave, CanRestore, pair_cells, pair_carried, pair_of, restored_pair, by_number, hook_restored}
+use Rattle.dev_pic.specs.Laws.{SoundMeetsRules, SavedAreCells, SavedIsRestored, FaultsAreTold}
+use Rattle.dev_pic.specs.Saved.{CanSave, CanRestore, pair_cells, pair_carried, pair_of, restored_pair, by_number, hook_rule, fault_of, hook_restored}
 use Rattle.dev_pic.specs.Sound.{HasRegisters, IsSoundChip, MeetsRules, IsSoundPair}
 use Rattle.dev_pic.specs.declared.chip.Chip.{Chip}
 use Rattle.dev_pic.specs.declared.chip.InitState.{InitState}
 use Rattle.dev_pic.specs.declared.chip.InitState.TheVariants.{Ready, Icw2, Icw3, Icw4 as WantsIcw4}
 use Rattle.dev_pic.specs.declared.chip.Role.{Role}
 use Rattle.dev_pic.specs.declared.chip.Role.TheVariants.{Master, Slave}
+use Rattle.dev_pic.specs.declared.fault.ChipFault.{ChipFault}
 use Rattle.dev_pic.specs.declared.levels.TheConstants.{ELCR_SINCE, LTIM_SINCE}
 use Rattle.dev_pic.specs.declared.pair.PicPair.{PicPair}
 use Rattle.dev_pic.proofs.CellLemmas.{first_part, second_part}
 use Rattle.dev_pic.proofs.RestoredLaws.{sound}
-use Rattle.dev_pic.proofs.StepLaws.{either}
 
 -- states are their numbers, back again
 state-back : (s : InitState) → state_of (state_number s) ≡ s
@@ -156,6 +157,18 @@ saved_are_cells = record {
   master = master-part;
   slave = slave-part;
 }
+
+-- a fault of the hooks' number of it
+told : (chip rule : ℕ) → chip < 2 → 1 ≤ rule → rule ≤ 10 → fault_of (hook_rule (record { chip = chip; rule = rule })) ≡ record { chip = chip; rule = rule }
+told zero rule c l h = let e : nat_le rule 10 ≡ true = grind (arith, nat_tests) in rw e refl
+told (suc zero) rule c l h =
+    let e : nat_le (10 + rule) 10 ≡ false = grind (arith, nat_tests) in
+    let back : 10 + rule - 10 ≡ rule = omega arith in
+    rw e (ap (λ (n : ℕ). record { chip = 1; rule = n }) back)
+told (suc (suc chip)) rule c l h = absurd (omega (arith, c))
+
+pub faults_are_told : FaultsAreTold
+faults_are_told = record { fault = λ fault c l h. told fault.chip fault.rule c l h }
 
 -- the pair's cells that are carried are those of the newest set
 pair-carried : (set : ℕ) (pair : PicPair) → IsSoundPair pair → pair.level ≤ set → pair_carried set (pair_cells set pair) ≡ pair_cells NEWEST pair

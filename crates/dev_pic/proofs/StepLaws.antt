@@ -3,7 +3,8 @@ use Rattle.std.proofs.Common.{◌≡◌, ℕ, ◌-◌, ◌/◌, ◌%◌, ◌<◌
 use Rattle.std.proofs.lemmas.Bool.Decides.{nat_tests}
 use Rattle.std.proofs.lemmas.Nat.{or_of_8, and_le_l}
 use Rattle.std.specs.Prelude.{bit_and, nat_le}
-use Rattle.dev_pic.specs.Bits.{has, but_not, with_input, without_input}
+use Rattle.dev_base.specs.Bits.{has}
+use Rattle.dev_pic.specs.Bits.{but_not, with_input, without_input}
 use Rattle.dev_pic.specs.Cells.{requests_hold, mode_holds}
 use Rattle.dev_pic.specs.Chip.{level_inputs, level_inputs_of, ltim_after, in_service_of, requests_of, served_of, winner_at, taken, settled, ended, ended_lowest, highest_served, commanded, started, selected, written_even, written_odd_in, polled_by, read_of, answered, cascaded}
 use Rattle.dev_pic.specs.Ocw2.{HasInput, command_of}
@@ -16,12 +17,8 @@ use Rattle.dev_pic.specs.declared.chip.Role.{Role}
 use Rattle.dev_pic.specs.declared.levels.TheConstants.{LTIM_SINCE}
 use Rattle.dev_pic.specs.declared.ocw2.Ocw2.{Ocw2}
 use Rattle.dev_pic.specs.declared.ocw2.Ocw2.TheVariants.{NonSpecificEoi, RotateOnNonSpecificEoi, SpecificEoi, RotateOnSpecificEoi, RotateInAutomaticEoi, SetPriority, NoOperation}
+use Rattle.dev_base.proofs.Choices.{either}
 use Rattle.dev_pic.proofs.BitLaws.{level-lines, level_inputs-lt, but_not-lt, without_input-lt, with_input-lt}
-
--- a fact of both branches is one of the choice
-pub either : {A : Type 0} (P : A → Type 0) (b : Bool) (x y : A) → P x → P y → P (cond b x y)
-either P true x y p q = p
-either P false x y p q = q
 
 -- each of a list is an input
 Inputs : List ℕ → Type 0

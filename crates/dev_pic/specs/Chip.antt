@@ -1,6 +1,7 @@
 -- The steps of one 8259A.
 use Rattle.std.specs.Prelude.{ℕ, ◌+◌, ◌-◌, ◌%◌, Bool, true, false, ◌&&◌, nat_le, if◌then◌else◌, Option, Some, None, bit_and, bit_or}
-use Rattle.dev_pic.specs.Bits.{has, but_not, with_input, without_input}
+use Rattle.dev_base.specs.Bits.{has}
+use Rattle.dev_pic.specs.Bits.{but_not, with_input, without_input}
 use Rattle.dev_pic.specs.Ocw2.{command_of}
 use Rattle.dev_pic.specs.Winner.{winner_of, highest_of}
 use Rattle.dev_pic.specs.declared.chip.Chip.{Chip}

@@ -5,17 +5,18 @@ use Rattle.vms_hooks.specs.Numbers.{Numbers}
 use Rattle.dev_base.specs.Cells.{cell_at, flag_at, AreOf}
 use Rattle.dev_base.specs.Levels.{IsLevel, MayRestore}
 use Rattle.dev_base.specs.declared.limits.TheConstants.{NEWEST}
-use Rattle.dev_pic.specs.Bits.{has}
+use Rattle.dev_base.specs.Bits.{has}
 use Rattle.dev_pic.specs.Cells.{kinds, saved_cells, IsChipCells}
 use Rattle.dev_pic.specs.Chip.{cascade_input, level_inputs, level_inputs_of, ltim_after, in_service_of, winner_at, taken, settled, commanded, written_even, written_odd}
 use Rattle.dev_pic.specs.Pair.{power_on, is_port, slave_int_of, lines_of, acked, settled_pair, read_pair, written_pair}
-use Rattle.dev_pic.specs.Saved.{chip_at, CanSave, CanRestore, pair_cells, pair_carried, hook_restored}
+use Rattle.dev_pic.specs.Saved.{chip_at, CanSave, CanRestore, pair_cells, pair_carried, hook_rule, fault_of, hook_restored}
 use Rattle.dev_pic.specs.Sound.{IsSoundChip, MeetsRules, PairHasRegisters, IsSoundPair}
 use Rattle.dev_pic.specs.Winner.{input_at, winner_of, IsWinner, MeansWinner}
 use Rattle.dev_pic.specs.declared.chip.Chip.{Chip}
 use Rattle.dev_pic.specs.declared.chip.InitState.TheVariants.{Ready}
 use Rattle.dev_pic.specs.declared.chip.Role.{Role}
 use Rattle.dev_pic.specs.declared.chip.Role.TheVariants.{Master, Slave}
+use Rattle.dev_pic.specs.declared.fault.ChipFault.{ChipFault}
 use Rattle.dev_pic.specs.declared.levels.TheConstants.{LTIM_SINCE}
 use Rattle.dev_pic.specs.declared.ocw2.Ocw2.TheVariants.{NonSpecificEoi, RotateOnNonSpecificEoi}
 use Rattle.dev_pic.specs.declared.pair.PicPair.{PicPair}
@@ -151,6 +152,10 @@ pub record SavedAreCells : Type 0 where
 -- what was saved of a sound pair, carried to the newest set, can be restored at the pair's level, and gives the pair
 pub record SavedIsRestored : Type 0 where
   pub pair : (numbers back : Numbers) (pair : PicPair) → CanSave numbers pair → IsSoundPair pair → MayRestore back → back.level ≡ pair.level → CanRestore back (pair_carried numbers.set (pair_cells numbers.set pair)) × (hook_restored back (pair_carried numbers.set (pair_cells numbers.set pair)) ≡ Ok pair)
+
+-- the hooks' number of a fault tells the fault
+pub record FaultsAreTold : Type 0 where
+  pub fault : (fault : ChipFault) → fault.chip < 2 → 1 ≤ fault.rule → fault.rule ≤ 10 → fault_of (hook_rule fault) ≡ fault
 
 -- what is restored is sound and has the level of the restore
 pub record RestoredIsSound : Type 0 where

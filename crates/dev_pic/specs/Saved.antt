@@ -1,5 +1,5 @@
 -- What saving and restoring mean for the pair.
-use Rattle.std.specs.Prelude.{ℕ, ℤ, ◌+◌, ◌==◌, if◌then◌else◌, List, ◌++◌, length, Result, Ok, Err, take, drop}
+use Rattle.std.specs.Prelude.{ℕ, ℤ, ◌+◌, ◌-◌, ◌==◌, nat_le, if◌then◌else◌, List, ◌++◌, length, Result, Ok, Err, take, drop}
 use Rattle.vms_hooks.specs.Numbers.{Numbers}
 use Rattle.vms_hooks.specs.declared.fault.HookFault.{HookFault}
 use Rattle.dev_base.specs.Hooks.{hook_result}
@@ -47,6 +47,10 @@ restored_pair level master slave =
 -- the number of a fault's rule among those of both chips: a rule of the slave has 10 added
 abbrev pub hook_rule : ChipFault → ℕ
 hook_rule fault = if fault.chip == 0 then fault.rule else 10 + fault.rule
+
+-- the fault of a rule that the hooks number so
+abbrev pub fault_of : ℕ → ChipFault
+fault_of rule = if nat_le rule 10 then record { chip = 0; rule = rule } else record { chip = 1; rule = rule - 10 }
 
 unfoldable pub by_number : Result PicPair ChipFault → Result PicPair ℕ
 by_number (Ok pair) = Ok pair

@@ -2,10 +2,11 @@
 ghost use Rattle.std.specs.Prelude.{◌≡◌, ◌<◌, IfSome};
 ghost use Rattle.dev_pic.specs.Chip.{level_inputs};
 
-use crate::bits::{but_not, has, with_input, without_input};
+use crate::bits::{but_not, with_input, without_input};
 use crate::levels::LTIM_SINCE;
 use crate::ocw2::Ocw2;
 use crate::winner::{first_ready, highest};
+use dev_base::has;
 
 /// The master's input that has the slave's interrupt output.
 pub(crate) const CASCADE: u8 = 2;

@@ -1,5 +1,5 @@
 // Laws of the definitions that the contracts of the pair cite. Each function does nothing; its clause is a law.
-ghost use Rattle.dev_pic.specs.Laws.{WinnerIsLeastRequest, MaskedNeverWins, LevelInputsAre, ServedBlocksLower, EoiEndsHighest, InitializesByWords, AckWithoutWinner, TakesWinner, TakesLinesOver, LinesAreTaken, LinesAreKept, StepsKeepRegisters, StepsKeepLevel, SoundMeetsRules, SavedAreCells, SavedIsRestored, RestoredIsSound};
+ghost use Rattle.dev_pic.specs.Laws.{WinnerIsLeastRequest, MaskedNeverWins, LevelInputsAre, ServedBlocksLower, EoiEndsHighest, InitializesByWords, AckWithoutWinner, TakesWinner, TakesLinesOver, LinesAreTaken, LinesAreKept, StepsKeepRegisters, StepsKeepLevel, SoundMeetsRules, SavedAreCells, SavedIsRestored, FaultsAreTold, RestoredIsSound};
 
 /// The winner is the requested input of highest priority, where it comes strictly before every input in
 /// service, and no other input is one ("Interrupt Request Register (IRR) and In-Service Register (ISR)",
@@ -103,7 +103,13 @@ pub fn saved_law()
     ensures { SavedIsRestored }
 {}
 
-/// What is restored is sound.
+/// The number that the hooks give a rule tells the chip and its rule.
+#[tactic(auto, using(crate::proofs::SavedLaws::faults_are_told))]
+pub fn fault_law()
+    ensures { FaultsAreTold }
+{}
+
+/// What is restored is sound and has the level of the restore.
 #[tactic(auto, using(crate::proofs::RestoredLaws::restored_is_sound))]
 pub fn restored_law()
     ensures { RestoredIsSound }

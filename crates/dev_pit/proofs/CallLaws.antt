@@ -1,5 +1,5 @@
 -- What calls leave as it was in a counter.
-use Rattle.std.proofs.Common.{◌≡◌, ℕ, ◌+◌, ◌-◌, ◌<◌, ◌≤◌, ◌==◌, ◌⊎◌, Bool, true, false, ◌&&◌, Option, Some, None, refl, inl, inr, arith, subst, ⊎_elim}
+use Rattle.std.proofs.Common.{◌≡◌, ℕ, ◌+◌, ◌-◌, ◌<◌, ◌≤◌, ◌==◌, Bool, true, false, ◌&&◌, Option, Some, None, refl, arith, subst, ⊎_elim}
 use Rattle.std.proofs.lemmas.Bool.Decides.{nat_tests}
 use Rattle.std.specs.Prelude.{nat_le, is_some}
 use Rattle.dev_pit.specs.Calls.{reads, writes, called, programs, sets_mode_of, loads, completes}
@@ -17,13 +17,10 @@ use Rattle.dev_pit.specs.declared.mode.Access.{Access}
 use Rattle.dev_pit.specs.declared.mode.Access.TheVariants.{LowByte, HighByte, LowThenHigh}
 use Rattle.dev_pit.specs.declared.mode.Mode.TheVariants.{TerminalCount}
 use Rattle.dev_pit.specs.declared.pit.Pit.{Pit}
+use Rattle.dev_base.proofs.Choices.{either, either_way}
 use Rattle.dev_pit.proofs.Chips.{at_counter}
-use Rattle.dev_pit.proofs.CounterSteps.{either, same, goes-on, latched-goes_on, read_back-goes_on, read-goes_on}
+use Rattle.dev_pit.proofs.CounterSteps.{same, goes-on, latched-goes_on, read_back-goes_on, read-goes_on}
 use Rattle.dev_pit.proofs.Edges.{ticks-mono}
-
-pub either_way : (b : Bool) → (b ≡ true) ⊎ (b ≡ false)
-either_way true = inl refl
-either_way false = inr refl
 
 asked-go_on : (count status chosen : Bool) (j k now : ℕ) (before : Counter) (pit : Pit) → GoesOn before (counter_of k pit) → GoesOn before (counter_of k (asked_back count status chosen j now pit))
 unfolding asked_back

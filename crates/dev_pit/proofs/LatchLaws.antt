@@ -14,9 +14,8 @@ use Rattle.dev_pit.specs.declared.limits.TheConstants.{READ_BACK_LEVEL}
 use Rattle.dev_pit.specs.declared.mode.Access.{Access}
 use Rattle.dev_pit.specs.declared.mode.Access.TheVariants.{LowByte, HighByte, LowThenHigh}
 use Rattle.dev_pit.specs.declared.pit.Pit.{Pit}
-use Rattle.dev_pit.proofs.CallLaws.{either_way}
+use Rattle.dev_base.proofs.Choices.{either, either_way}
 use Rattle.dev_pit.proofs.Chips.{at_counter}
-use Rattle.dev_pit.proofs.CounterSteps.{either}
 
 -- a counter with this latched count
 record Holds (held : ℕ) (counter : Counter) : Type 0 where

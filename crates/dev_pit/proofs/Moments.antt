@@ -14,7 +14,8 @@ use Rattle.dev_pit.specs.declared.mode.Access.TheVariants.{LowByte, HighByte, Lo
 use Rattle.dev_pit.specs.declared.mode.Mode.{Mode}
 use Rattle.dev_pit.specs.declared.pit.Pit.{Pit}
 use Rattle.dev_pit.proofs.Chips.{at_counter}
-use Rattle.dev_pit.proofs.CounterSteps.{either, read-goes_on, latched-goes_on, read_back-goes_on}
+use Rattle.dev_base.proofs.Choices.{either}
+use Rattle.dev_pit.proofs.CounterSteps.{read-goes_on, latched-goes_on, read_back-goes_on}
 
 pub loaded_by-later : (load : Option ℕ) (now later : ℕ) → LoadedBy now load → now ≤ later → LoadedBy later load
 loaded_by-later None now later h l = tt

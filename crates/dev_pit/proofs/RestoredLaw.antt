@@ -19,7 +19,7 @@ use Rattle.dev_pit.specs.declared.limits.TheConstants.{READ_BACK_LEVEL}
 use Rattle.dev_pit.specs.declared.mode.Access.{Access}
 use Rattle.dev_pit.specs.declared.mode.Access.TheVariants.{LowByte, HighByte, LowThenHigh}
 use Rattle.dev_pit.specs.declared.pit.Pit.{Pit}
-use Rattle.dev_pit.proofs.CallLaws.{either_way}
+use Rattle.dev_base.proofs.Choices.{either_way}
 use Rattle.dev_pit.proofs.Chips.{each_of}
 use Rattle.dev_pit.proofs.PlainSound.{PlainSound, StatusFits, TogglesFit}
 use Rattle.dev_pit.proofs.SoundLaws.{PlainPit, pit-from_plain}

@@ -13,9 +13,8 @@ use Rattle.dev_pit.specs.declared.control.ControlWord.TheVariants.{LatchCount, S
 use Rattle.dev_pit.specs.declared.counter.Counter.{Counter}
 use Rattle.dev_pit.specs.declared.limits.TheConstants.{READ_BACK_LEVEL}
 use Rattle.dev_pit.specs.declared.pit.Pit.{Pit}
-use Rattle.dev_pit.proofs.CallLaws.{either_way}
+use Rattle.dev_base.proofs.Choices.{either, either_way}
 use Rattle.dev_pit.proofs.Chips.{at_counter, count-with, each_of}
-use Rattle.dev_pit.proofs.CounterSteps.{either}
 use Rattle.dev_pit.specs.Counter.{powered_on, read_of, read_back, latched, programmed, written}
 use Rattle.dev_pit.proofs.Moments.{loaded_by-later}
 use Rattle.dev_pit.proofs.PlainSound.{PlainSound, sound-from_plain, plain-from_sound}

@@ -13,7 +13,7 @@ use Rattle.dev_pit.specs.declared.mode.Access.{Access}
 use Rattle.dev_pit.specs.declared.mode.Access.TheVariants.{LowByte, HighByte, LowThenHigh}
 use Rattle.dev_pit.specs.declared.mode.Mode.{Mode}
 use Rattle.dev_pit.specs.declared.mode.Mode.TheVariants.{TerminalCount, OneShot, RateGenerator, SquareWave, SoftwareStrobe, HardwareStrobe}
-use Rattle.dev_pit.proofs.CounterSteps.{either}
+use Rattle.dev_base.proofs.Choices.{either}
 use Rattle.dev_pit.proofs.PlainSound.{PlainSound, TogglesFit}
 
 -- a number of sixteen bits
