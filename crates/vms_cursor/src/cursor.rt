@@ -171,6 +171,7 @@ impl Cursor {
         requires held { self.old.held ≡ None }
         ensures content { IfSome (S.left source.old) (λ rest. AnswersEnd rest (seen AfterEnd nothing_known rest) self.old.at self.new.at (S.left source.new) result) }
         ensures place { OnOk result (self.old.at ≤ self.new.at × self.new.at ≤ self.old.at + 16777221) }
+        ensures held { OnOk result (self.new.held ≡ None) }
         ensures given { GivesPast self.old.at self.new.at 16777221 (S.given source.old) (S.given source.new) result }
         ensures cause { HasCause (S.faults source.old) (S.faults source.new) result }
         ensures promise { S.promise source.new ≡ S.promise source.old }
