@@ -9,6 +9,9 @@ pub mod PairsFit
 pub mod PositionLaws
 pub mod PresentLaws
 pub mod ReducedLaws
+pub mod SelfBounds
+pub mod SelfLaws
+pub mod SelfTests
 pub mod SetsFit
 pub mod ShippedLaws
 pub mod StructLaws

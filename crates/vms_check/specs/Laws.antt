@@ -20,6 +20,10 @@ pub record AreRules (old new : Set) : Type 0 where
 abbrev pub RulesLaw : Type 0
 RulesLaw = (old new : Set) → WellFormed new → AreRules old new
 
+-- a well-formed set is compatible to itself
+abbrev pub ReflexiveLaw : Type 0
+ReflexiveLaw = (set : Set) → WellFormed set → Compatible set set
+
 -- each shipped set from 1 on is compatible to each later one
 abbrev pub ShippedLaw : Type 0
 ShippedLaw = (s t : ℕ) → 1 ≤ s → s < t → t ≤ 4 → Compatible (shipped_set s) (shipped_set t)

@@ -1,5 +1,5 @@
 // Laws of the comparison.
-ghost use Rattle.vms_check.specs.Laws.{ReducedLaw, RulesLaw, ShippedLaw};
+ghost use Rattle.vms_check.specs.Laws.{ReducedLaw, ReflexiveLaw, RulesLaw, ShippedLaw};
 
 /// What is left of a test once the version is known holds exactly where the test does.
 #[tactic(auto, using(crate::proofs::ReducedLaws::reduced_holds))]
@@ -12,6 +12,12 @@ pub fn reduced_law()
 #[tactic(auto, using(crate::proofs::SetsFit::rules_hold))]
 pub fn rules_law()
     ensures { RulesLaw }
+{}
+
+/// Every well-formed set is compatible to itself.
+#[tactic(auto, using(crate::proofs::SelfLaws::reflexive))]
+pub fn reflexive_law()
+    ensures { ReflexiveLaw }
 {}
 
 /// Each shipped set from 1 on is compatible to each later one.
