@@ -15,6 +15,3 @@ pub use fault::{Values, ValuesFault};
 pub use print::print_values;
 pub use read::read_values;
 pub use vms_spec::ValuesReason;
-
-#[cfg(test)]
-mod tests;
