@@ -16,6 +16,3 @@ pub use cursor::Cursor;
 pub use fault::{FrameFault, Refusal};
 pub use units::{After, Between, Step};
 pub use vms_spec::Reason;
-
-#[cfg(test)]
-mod tests;

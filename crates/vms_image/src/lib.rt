@@ -4,6 +4,3 @@
 mod image;
 
 pub use image::Image;
-
-#[cfg(test)]
-mod tests;

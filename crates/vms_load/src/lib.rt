@@ -16,6 +16,3 @@ pub use fault::LoadFault;
 pub use loader::Loader;
 pub use vms_frames::Refusal;
 pub use vms_spec::Reason;
-
-#[cfg(test)]
-mod tests;

@@ -1,47 +1,77 @@
-// What the shipped sets have.
-ghost use Rattle.std.specs.Prelude.{◌≤◌};
+// The shipped sets and the boards' streams.
 
 use std::alloc::Global;
-use std::test::Fail;
 use vms_desc::DescSet;
+use vms_image::Image;
+use vms_io::MemSink;
+use vms_write::{are_ready, write_stream};
 
-// A shipped set, of which the tests know nothing beforehand.
-fn shipped(alloc: Global, s: u8) -> Result<DescSet, Fail>
-    requires { s ≤ 3 }
-{
-    Ok(DescSet::shipped(alloc, s)?)
-}
-
-// How many cells the only device of a set has.
-fn cell_count(set: &DescSet) -> Option<u32> {
-    if set.parts().devices.as_slice().len() != 1 {
+/// A shipped set.
+pub(crate) fn set(alloc: Global, number: u8) -> Option<DescSet> {
+    if number > 3 {
         return None;
     }
-    Some(set.cells(0))
+    DescSet::shipped(alloc, number).ok()
 }
 
-#[test]
-fn the_first_set_has_a_timer_alone(rt: HostRuntime) -> Result<(), Fail> {
-    let set = shipped(rt.alloc(), 0)?;
-    assert_eq!(rt; set.find(b"timer", 0), Some(0));
-    assert_eq!(rt; set.find(b"timer", 1), None);
-    assert_eq!(rt; set.find(b"time", 0), None);
-    assert_eq!(rt; cell_count(&set), Some(1));
-    Ok(())
+/// How many bytes the stream of all defaults has that names the first machine.
+pub(crate) fn defaults(alloc: Global, set: &DescSet) -> Option<String> {
+    let sink = stream_of(alloc, set, &images(alloc, set)?)?;
+    format!(in alloc; "{} bytes", sink.bytes().len()).ok()
 }
 
-// The number of a device in a shipped set.
-fn number_of(alloc: Global, s: u8, name: &[u8], instance: u32) -> Result<Option<u32>, Fail>
-    requires { s ≤ 3 }
-{
-    Ok(shipped(alloc, s)?.find(name, instance))
+const LONGEST_TEXT: usize = 16_777_216;
+
+/// The stream of all defaults without a machine, with a description of this text.
+pub(crate) fn described(alloc: Global, set: &DescSet, text: &str) -> Option<String> {
+    let images = images(alloc, set)?;
+    if text.len() > LONGEST_TEXT || !are_ready(set, &images) {
+        return None;
+    }
+    let mut sink = MemSink::new(alloc, 300, Vec::new(alloc)).ok()?;
+    write_stream(set, None, &images, Some(text), &mut sink).ok()?;
+    hex::encode(alloc, sink.bytes()).ok()
 }
 
-#[test]
-fn the_other_sets_have_the_boards_devices(rt: HostRuntime) -> Result<(), Fail> {
-    let alloc = rt.alloc();
-    assert_eq!(rt; number_of(alloc, 1, b"i8259", 1)?, Some(2));
-    assert_eq!(rt; number_of(alloc, 2, b"i8254", 0)?, Some(3));
-    assert_eq!(rt; number_of(alloc, 3, b"serial", 0)?, Some(4));
-    Ok(())
+/// The last section of the first board's stream at power on, with the end mark behind it.
+pub(crate) fn serial(alloc: Global, set: &DescSet) -> Option<String> {
+    let mut images = images(alloc, set)?;
+    images.pop();
+    images.push(serial_port(alloc, set)?).ok()?;
+    let sink = stream_of(alloc, set, &images)?;
+    let bytes = sink.bytes();
+    hex::encode(alloc, bytes.get(bytes.len().checked_sub(45)?..)?).ok()
+}
+
+// The images of a set's devices at their defaults.
+fn images(alloc: Global, set: &DescSet) -> Option<Vec<Image>> {
+    let mut images = Vec::new(alloc);
+    for device in 0..set.parts().devices.as_slice().len() {
+        images
+            .push(Image::new(alloc, set, device as u32).ok()?)
+            .ok()?;
+    }
+    Some(images)
+}
+
+// The serial port of the first board at power on.
+fn serial_port(alloc: Global, set: &DescSet) -> Option<Image> {
+    if set.parts().devices.as_slice().len() != 5 || set.cells(4) < 12 {
+        return None;
+    }
+    let mut image = Image::new(alloc, set, 4).ok()?;
+    image.set(0, 12);
+    image.set(2, 1);
+    image.set(5, 0x60);
+    Some(image)
+}
+
+// The stream of these images, which names the first machine.
+fn stream_of(alloc: Global, set: &DescSet, images: &[Image]) -> Option<MemSink> {
+    if set.parts().machines.as_slice().is_empty() || !are_ready(set, images) {
+        return None;
+    }
+    let mut sink = MemSink::new(alloc, 300, Vec::new(alloc)).ok()?;
+    write_stream(set, Some(0), images, None, &mut sink).ok()?;
+    Some(sink)
 }

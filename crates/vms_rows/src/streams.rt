@@ -1,101 +1,178 @@
-// Streams that are loaded and written again.
+// Streams of sets that are loaded, refused and written.
 
-use crate::boxes::whole;
-use crate::loading::{first_numbers, load, source, write};
-use crate::sets::{Example, set_of};
+use crate::rows::set_of;
 use std::alloc::Global;
-use std::test::Fail;
-use vms_io::MemSink;
-use vms_load::Loader;
+use vms_desc::DescSet;
+use vms_image::Image;
+use vms_io::{MemSink, MemSource};
+use vms_load::{LoadFault, Loader, Refusal};
+use vms_write::{are_ready, write_stream};
 
-// A stream, by what stands between the head and the footer of its section.
-#[derive(Clone, Copy)]
-struct Row {
-    set: Example,
-    section: &'static [u8],
-    // The numbers that are loaded.
-    numbers: &'static [i128],
-    // What is written again in place of the section.
-    written: &'static [u8],
-}
-
-const P_THEN_Q: &[u8] = b"\x09\x05\x05box/p\0\0\0\x01\x08\x05\x05box/q\0\0\0\x01\x07";
-
-const Q_THEN_P: &[u8] = b"\x09\x05\x05box/q\0\0\0\x01\x07\x05\x05box/p\0\0\0\x01\x08";
-
-fn stream(
-    set: Example,
-    section: &'static [u8],
-    numbers: &'static [i128],
-    written: &'static [u8],
-) -> Row {
-    Row {
-        set,
-        section,
-        numbers,
-        written,
-    }
-}
-
-fn rows() -> [Row; 6] {
-    let two = b"\x02\x00\x01\xff\xff";
-    [
-        stream(Example::Counted, b"\0", &[0, 0, 0], b"\0"),
-        stream(Example::Counted, two, &[2, 1, 65535], two),
-        // unused bytes are skipped, and written as zeros
-        stream(
-            Example::Constant,
-            b"\x01\x07\xab\xcd",
-            &[1],
-            b"\x01\x07\0\0",
-        ),
-        // subsections come in any order, and are written in the set's
-        stream(Example::Split, Q_THEN_P, &[9, 8, 7], P_THEN_Q),
-        stream(Example::Split, P_THEN_Q, &[9, 8, 7], P_THEN_Q),
-        // a subsection that doesn't come is at its defaults
-        stream(Example::Split, b"\x09", &[9, 5, 6], b"\x09"),
-    ]
-}
-
-// A loader that has taken exactly a row's stream, which came in pieces of this size.
-fn loaded(alloc: Global, row: Row, piece: u32) -> Result<Option<Loader>, Fail> {
-    let stream = whole(alloc, row.section)?;
-    let mut loader = Loader::new(alloc, set_of(alloc, row.set)?)?;
-    let mut source = source(alloc, &stream, piece, &[])?;
-    let machine = load(&mut loader, &mut source).ok();
-    if machine != Some(None) || loader.taken() != stream.len() as u64 {
-        return Ok(None);
-    }
-    Ok(Some(loader))
-}
-
-// What a loader keeps, written as a stream.
-fn written(alloc: Global, loader: &Loader) -> Result<Option<MemSink>, Fail> {
-    let mut sink = MemSink::new(alloc, 100, Vec::new(alloc))?;
-    if !write(loader, &mut sink) {
-        return Ok(None);
-    }
-    Ok(Some(sink))
-}
-
-// Loads a row's stream, and writes it again if its numbers were loaded.
-fn again(alloc: Global, row: Row, piece: u32) -> Result<Option<MemSink>, Fail> {
-    let loader = loaded(alloc, row, piece)?.ok_or("loaded")?;
-    if first_numbers(&loader) != row.numbers {
-        return Ok(None);
-    }
-    written(alloc, &loader)
-}
-
-#[test]
-fn streams_are_written_again(rt: HostRuntime) -> Result<(), Fail> {
-    let alloc = rt.alloc();
-    for row in rows() {
-        let wanted = whole(alloc, row.written)?;
-        for piece in [1, 2, 3, 7, 100] {
-            let sink = again(alloc, row, piece)?.ok_or("its numbers")?;
-            assert_eq!(rt; sink.bytes(), wanted.as_slice());
+/// What comes of a stream in hexadecimal, in whichever pieces it is read.
+pub(crate) fn loaded(alloc: Global, pattern: &[&str], row: &str) -> Option<String> {
+    let stream = bytes(alloc, row)?;
+    let whole = loaded_in(alloc, pattern, &stream, 1000)?;
+    for piece in [1, 2, 3, 7, 100] {
+        let other = loaded_in(alloc, pattern, &stream, piece)?;
+        if other.as_str() != whole.as_str() {
+            return format!(in alloc; "in pieces of {piece}: {other}").ok();
         }
     }
-    Ok(())
+    Some(whole)
+}
+
+/// What comes of the beginnings of a stream: each answer with the least length from which on it comes.
+pub(crate) fn cuts(alloc: Global, pattern: &[&str], row: &str) -> Option<String> {
+    let stream = bytes(alloc, row)?;
+    let mut last = String::new(alloc);
+    let mut cuts = String::new(alloc);
+    for long in 0..stream.len() {
+        let answer = loaded_in(alloc, pattern, stream.get(..long)?, 64)?;
+        if answer.as_str() != last.as_str() {
+            let gap = if long > 0 { "; " } else { "" };
+            cuts.push_str(&format!(in alloc; "{gap}{long} {answer}").ok()?)
+                .ok()?;
+            last = answer;
+        }
+    }
+    Some(cuts)
+}
+
+/// What comes of streams that one loader takes one after the other, whose reads of one byte fail at the 20th where `fail`
+/// stands before one; and what the loader keeps then.
+pub(crate) fn again(alloc: Global, pattern: &[&str], row: &str) -> Option<String> {
+    let mut loader = loader_of(alloc, pattern)?;
+    let mut answers = String::new(alloc);
+    for stream in row.split(';') {
+        answers
+            .push_str(&one_more(alloc, &mut loader, stream.trim())?)
+            .ok()?;
+        answers.push_str("; ").ok()?;
+    }
+    answers.push_str(&kept(alloc, &loader)?).ok()?;
+    Some(answers)
+}
+
+// What comes of one stream of these.
+fn one_more(alloc: Global, loader: &mut Loader, row: &str) -> Option<String> {
+    let mut source = match row.strip_prefix("fail ") {
+        Some(row) => source_of(alloc, &bytes(alloc, row)?, 1, &[20])?,
+        None => source_of(alloc, &bytes(alloc, row)?, 1, &[])?,
+    };
+    match loader.load(&mut source, None) {
+        Ok(_) => String::from_str(alloc, "taken").ok(),
+        Err(fault) => fault_text(alloc, fault),
+    }
+}
+
+// The bytes of hexadecimal digits with blanks.
+fn bytes(alloc: Global, row: &str) -> Option<Vec<u8>> {
+    let mut bytes = Vec::new(alloc);
+    for digits in row.split_ascii_whitespace() {
+        bytes
+            .extend_from_slice(hex::decode(alloc, digits).ok()?.as_slice())
+            .ok()?;
+    }
+    Some(bytes)
+}
+
+fn loaded_in(alloc: Global, pattern: &[&str], stream: &[u8], piece: u32) -> Option<String> {
+    let mut loader = loader_of(alloc, pattern)?;
+    let mut source = source_of(alloc, stream, piece, &[])?;
+    match loader.load(&mut source, None) {
+        Ok(_) => kept(alloc, &loader),
+        Err(fault) => fault_text(alloc, fault),
+    }
+}
+
+fn loader_of(alloc: Global, pattern: &[&str]) -> Option<Loader> {
+    match set_of(alloc, pattern, "")? {
+        Ok(set) => Loader::new(alloc, set).ok(),
+        Err(_) => None,
+    }
+}
+
+// The bytes in pieces of one size, where these reads fail.
+fn source_of(alloc: Global, stream: &[u8], piece: u32, failing: &[u32]) -> Option<MemSource> {
+    let mut pieces = Vec::new(alloc);
+    for _ in 0..stream.len() {
+        pieces.push(piece).ok()?;
+    }
+    let failing = failing.to_vec(alloc).ok()?;
+    Some(MemSource::new(stream.to_vec(alloc).ok()?, pieces, failing))
+}
+
+// What a loader keeps: the bytes that were taken, the first device's numbers, and the stream that is written of them.
+fn kept(alloc: Global, loader: &Loader) -> Option<String> {
+    let [image, ..] = loader.images() else {
+        return None;
+    };
+    let stream = match written(alloc, loader.set(), loader.images()) {
+        Some(sink) => hex::encode(alloc, sink.bytes()).ok()?,
+        None => String::from_str(alloc, "not ready").ok()?,
+    };
+    let taken = loader.taken();
+    format!(in alloc; "{taken} taken, {:?}, {stream}", image.numbers()).ok()
+}
+
+fn fault_text(alloc: Global, fault: LoadFault) -> Option<String> {
+    match fault {
+        LoadFault::Refused(refusal) => refused(alloc, refusal),
+        LoadFault::ReadFault => String::from_str(alloc, "read fault").ok(),
+        LoadFault::NoMemory => None,
+    }
+}
+
+fn refused(alloc: Global, refusal: Refusal) -> Option<String> {
+    let Refusal {
+        section,
+        at,
+        reason,
+    } = refusal;
+    match section {
+        None => format!(in alloc; "refused at {at}: {reason:?}").ok(),
+        Some(device) => format!(in alloc; "refused at {at} in device {device}: {reason:?}").ok(),
+    }
+}
+
+// The stream of these images, if they may be written.
+fn written(alloc: Global, set: &DescSet, images: &[Image]) -> Option<MemSink> {
+    if !are_ready(set, images) {
+        return None;
+    }
+    let mut sink = MemSink::new(alloc, 1000, Vec::new(alloc)).ok()?;
+    write_stream(set, None, images, None, &mut sink).ok()?;
+    Some(sink)
+}
+
+/// The stream that is written once these numbers are put into the only device and each of its two subsections has come.
+pub(crate) fn put(alloc: Global, set: &DescSet, words: &[&str]) -> Option<String> {
+    let mut numbers = Vec::new(alloc);
+    for word in words {
+        numbers.push(word.parse().ok()?).ok()?;
+    }
+    let images = vec![in alloc; image_of(alloc, set, &numbers)?].ok()?;
+    let sink = written(alloc, set, &images)?;
+    hex::encode(alloc, sink.bytes()).ok()
+}
+
+fn image_of(alloc: Global, set: &DescSet, numbers: &[i128]) -> Option<Image> {
+    if set.parts().devices.as_slice().len() != 1 {
+        return None;
+    }
+    let mut image = Image::new(alloc, set, 0).ok()?;
+    match numbers {
+        [first] if set.cells(0) == 1 => image.set(0, *first),
+        [first, second, third] if set.cells(0) == 3 => {
+            image.set(0, *first);
+            image.set(1, *second);
+            image.set(2, *third);
+        }
+        _ => return None,
+    }
+    if set.sub_count(0) == 2 {
+        image.mark(0, Some(1));
+        image.mark(1, Some(1));
+    }
+    Some(image)
 }

@@ -16,6 +16,3 @@ mod structs;
 
 pub use fault::DescFault;
 pub use sets::check;
-
-#[cfg(test)]
-mod tests;

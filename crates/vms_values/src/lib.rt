@@ -16,6 +16,3 @@ pub use print::print_values;
 pub use read::read_values;
 pub use vms_io::WriteFault;
 pub use vms_spec::ValuesReason;
-
-#[cfg(test)]
-mod tests;

@@ -1,7 +1,0 @@
-// Faults of small sets, as the rules are worded.
-mod fields;
-mod formulas;
-mod limits;
-mod make;
-mod names;
-mod structs;
