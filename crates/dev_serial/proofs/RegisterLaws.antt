@@ -1,5 +1,5 @@
 -- What is identified, and what the FIFO control register does.
-use Rattle.std.proofs.Common.{◌≡◌, ℕ, ◌<◌, Bool, true, false, not, ◌&&◌, cond, Option, Some, None, refl, sym, ap, ◌∙◌, ◌/◌, arith}
+use Rattle.std.proofs.Common.{◌≡◌, ℕ, ◌<◌, ◌≤◌, Bool, true, false, not, ◌&&◌, cond, Option, Some, None, refl, sym, ap, ◌∙◌, ◌/◌, arith}
 use Rattle.std.proofs.lemmas.Bool.{false≢true}
 use Rattle.std.specs.Prelude.{is_some}
 use Rattle.dev_serial.specs.Access.{is_empty, switch_of, fcr_cleared, fcr_written, receiver_cleared, transmitter_cleared}
@@ -17,54 +17,26 @@ chosen P true x y p q = p refl
 chosen P false x y p q = q refl
 
 module _ (now : ℕ) (port : Port) where
-  status-first : asks now port LineStatus ≡ true → IsFirstAsking now port LineStatus
-  status-first h = record { itself = h; higher = none } where
-    none : (other : Interrupt) → rank other < 0 → asks now port other ≡ false
-    none other l = absurd (omega arith)
-
-  ready-first : asks now port LineStatus ≡ false → asks now port ReceivedData ≡ true → IsFirstAsking now port ReceivedData
-  ready-first a h = record { itself = h; higher = none } where
-    none : (other : Interrupt) → rank other < 1 → asks now port other ≡ false
-    none LineStatus l = a
-    none ReceivedData l = absurd (omega arith)
-    none CharacterTimeout l = absurd (omega arith)
-    none ThrEmpty l = absurd (omega arith)
-    none NonePending l = absurd (omega arith)
-
-  timeout-first : asks now port LineStatus ≡ false → asks now port ReceivedData ≡ false → asks now port CharacterTimeout ≡ true → IsFirstAsking now port CharacterTimeout
-  timeout-first a b h = record { itself = h; higher = none } where
-    none : (other : Interrupt) → rank other < 2 → asks now port other ≡ false
-    none LineStatus l = a
-    none ReceivedData l = b
-    none CharacterTimeout l = absurd (omega arith)
-    none ThrEmpty l = absurd (omega arith)
-    none NonePending l = absurd (omega arith)
-
-  empty-first : asks now port LineStatus ≡ false → asks now port ReceivedData ≡ false → asks now port CharacterTimeout ≡ false → asks now port ThrEmpty ≡ true → IsFirstAsking now port ThrEmpty
-  empty-first a b c h = record { itself = h; higher = none } where
-    none : (other : Interrupt) → rank other < 3 → asks now port other ≡ false
-    none LineStatus l = a
-    none ReceivedData l = b
-    none CharacterTimeout l = c
-    none ThrEmpty l = absurd (omega arith)
-    none NonePending l = absurd (omega arith)
-
-  none-first : asks now port LineStatus ≡ false → asks now port ReceivedData ≡ false → asks now port CharacterTimeout ≡ false → asks now port ThrEmpty ≡ false → IsFirstAsking now port NonePending
-  none-first a b c d = record { itself = refl; higher = none } where
-    none : (other : Interrupt) → rank other < 4 → asks now port other ≡ false
-    none LineStatus l = a
-    none ReceivedData l = b
-    none CharacterTimeout l = c
-    none ThrEmpty l = d
-    none NonePending l = absurd (omega arith)
+  -- none of the first k asks
+  none : (k : ℕ) → k ≤ 4 → (0 < k → asks now port LineStatus ≡ false) → (1 < k → asks now port ReceivedData ≡ false) → (2 < k → asks now port CharacterTimeout ≡ false) → (3 < k → asks now port ThrEmpty ≡ false) → (other : Interrupt) → rank other < k → asks now port other ≡ false
+  none k m a b c d LineStatus l = a l
+  none k m a b c d ReceivedData l = b l
+  none k m a b c d CharacterTimeout l = c l
+  none k m a b c d ThrEmpty l = d l
+  none k m a b c d NonePending l = absurd (omega arith)
 
   first : IsFirstAsking now port (interrupt now port)
   unfolding interrupt
   first =
-      chosen (IsFirstAsking now port) (asks now port LineStatus) _ _ status-first (λ a.
-      chosen (IsFirstAsking now port) (asks now port ReceivedData) _ _ (ready-first a) (λ b.
-      chosen (IsFirstAsking now port) (asks now port CharacterTimeout) _ _ (timeout-first a b) (λ c.
-      chosen (IsFirstAsking now port) (asks now port ThrEmpty) _ _ (empty-first a b c) (none-first a b c))))
+      chosen (IsFirstAsking now port) (asks now port LineStatus) _ _
+      (λ h. record { itself = h; higher = none 0 (omega arith) (λ l. absurd (omega arith)) (λ l. absurd (omega arith)) (λ l. absurd (omega arith)) (λ l. absurd (omega arith)) }) (λ a.
+      chosen (IsFirstAsking now port) (asks now port ReceivedData) _ _
+      (λ h. record { itself = h; higher = none 1 (omega arith) (λ l. a) (λ l. absurd (omega arith)) (λ l. absurd (omega arith)) (λ l. absurd (omega arith)) }) (λ b.
+      chosen (IsFirstAsking now port) (asks now port CharacterTimeout) _ _
+      (λ h. record { itself = h; higher = none 2 (omega arith) (λ l. a) (λ l. b) (λ l. absurd (omega arith)) (λ l. absurd (omega arith)) }) (λ c.
+      chosen (IsFirstAsking now port) (asks now port ThrEmpty) _ _
+      (λ h. record { itself = h; higher = none 3 (omega arith) (λ l. a) (λ l. b) (λ l. c) (λ l. absurd (omega arith)) }) (λ d.
+      record { itself = refl; higher = none 4 (omega arith) (λ l. a) (λ l. b) (λ l. c) (λ l. d) }))))
 
   -- what asks is pending where no higher one hides it
   pending : (identified some : Interrupt) → IsFirstAsking now port identified → is_pending some ≡ true → asks now port some ≡ true → is_pending identified ≡ true
