@@ -1,5 +1,5 @@
 -- Cells of given kinds: how lists of them are made and taken apart, and the ranges of their numbers.
-use Rattle.std.proofs.Common.{◌≡◌, ℕ, zero, suc, ◌^◌, ◌<◌, ◌==◌, Bool, true, false, List, [], ◌∷◌, ◌++◌, length, ℤ, pos, negsuc, refl, arith, ap}
+use Rattle.std.proofs.Common.{◌≡◌, ℕ, zero, suc, ◌^◌, ◌<◌, ◌==◌, Bool, true, false, cond, List, [], ◌∷◌, ◌++◌, length, ℤ, pos, negsuc, refl, arith, ap}
 use Rattle.std.proofs.lemmas.Int.{ints}
 use Rattle.vms_kinds.specs.Codes.{InRange}
 use Rattle.vms_kinds.specs.declared.Kind.{Kind}
@@ -36,6 +36,11 @@ of_both [] more_kinds (number ∷ cells) more all rest = absurd (let e = all.cou
 of_both (kind ∷ kinds) more_kinds [] more all rest = absurd (let e = all.count in omega (arith, e))
 of_both (kind ∷ kinds) more_kinds (number ∷ cells) more all rest =
     of_more kind number (kinds ++ more_kinds) (cells ++ more) (of_first kind number kinds cells all) (of_both kinds more_kinds cells more (of_rest kind number kinds cells all) rest)
+
+-- what is there where a test holds
+pub of_where : (has : Bool) (kinds : List Kind) (cells : List ℤ) → AreOf kinds cells → AreOf (cond has kinds []) (cond has cells [])
+of_where true kinds cells all = all
+of_where false kinds cells all = of_none
 
 -- numbers that kinds hold
 pub byte : (n : ℕ) → n < 2 ^ 8 → InRange U8 (pos n)

@@ -1,5 +1,5 @@
 -- How the cells of an older set are carried to the newest one.
-use Rattle.std.specs.Prelude.{ℕ, ℤ, List, map, if◌then◌else◌, Bool}
+use Rattle.std.specs.Prelude.{ℕ, ℤ, List, [], map, if◌then◌else◌, Bool, nat_le}
 use Rattle.std.specs.List.{range_with_len}
 use Rattle.dev_base.specs.Cells.{cell_at}
 
@@ -24,3 +24,7 @@ places first count = map taken_from (range_with_len first count)
 -- the first where a set has the cells, the second where it hasn't
 abbrev pub where_had : Bool → List Origin → List Origin → List Origin
 where_had has had absent = if has then had else absent
+
+-- what a set has from this one on
+abbrev pub since : {A : Type 0} → ℕ → ℕ → List A → List A
+since first set list = if nat_le first set then list else []

@@ -9,17 +9,17 @@ use Rattle.dev_serial.specs.Laws.{PowerOnIsSound, ReadsKeepSound, WritesKeepSoun
 use Rattle.dev_serial.specs.Line.{character_time}
 use Rattle.dev_serial.specs.Port.{Port, power_on, mode_of, interrupt, is_thr_empty}
 use Rattle.dev_serial.specs.Receive.{received, taken}
-use Rattle.dev_serial.specs.Rules.{longest_character}
 use Rattle.dev_serial.specs.Sound.{IsSound, HasRegisters}
 use Rattle.dev_serial.specs.declared.trigger.Trigger.{Trigger}
 use Rattle.dev_serial.proofs.KeepParts.{character-longest, taken-held, received-sound, emptied-sound, thr-sound, latched-sound, cleared-sound}
 use Rattle.dev_serial.proofs.KeepAdvance.{advance-transmitter, advance-receiver}
 use Rattle.dev_serial.proofs.SendingLaws.{character-positive}
+use Rattle.dev_serial.specs.declared.mode.TheConstants.{LONGEST_CHARACTER}
 
 pub power_on_is_sound : PowerOnIsSound
 unfolding power_on
-power_on_is_sound level now first newest = record {
-  registers = record { first = first; newest = newest; divisor_range = omega arith; ier_range = omega arith; lcr_range = omega arith; mcr_range = omega arith; scr_range = omega arith; fifos = λ e. absurd (false≢true e) };
+power_on_is_sound level now is_level = record {
+  registers = record { is_level = is_level; divisor_range = omega arith; ier_range = omega arith; lcr_range = omega arith; mcr_range = omega arith; scr_range = omega arith; fifos = λ e. absurd (false≢true e) };
   receiver = record { short = record { short = omega arith; one = λ _. omega arith }; bytes = tt; timeout = off (nat_le 3 level) };
   transmitter = record { short = record { short = omega arith; one = λ _. omega arith }; bytes = tt; shift = tt; idle = λ _. refl; latched = λ e. absurd (false≢true e) };
 } where
@@ -27,7 +27,7 @@ power_on_is_sound level now first newest = record {
   off true = refl
   off false = refl
 
-either : {A : Type 0} (P : A → Type 0) (b : Bool) (x y : A) → P x → P y → P (cond b x y)
+pub either : {A : Type 0} (P : A → Type 0) (b : Bool) (x y : A) → P x → P y → P (cond b x y)
 either P true x y p q = p
 either P false x y p q = q
 
@@ -36,7 +36,7 @@ record Kept (now : ℕ) (answer : ℕ × Port) : Type 0 where
   kept : IsSound now answer.1
 
 module _ (now : ℕ) (port : Port) (sound : IsSound now port) where
-  longest : character_time port.divisor port.lcr ≤ longest_character
+  longest : character_time port.divisor port.lcr ≤ LONGEST_CHARACTER
   longest = character-longest port.divisor port.lcr sound.registers.divisor_range
 
   id-kept : Kept now (id_read now port)
@@ -112,8 +112,7 @@ module _ (now : ℕ) (port : Port) (sound : IsSound now port) where
 
   registers-kept : (divisor ier lcr mcr scr : ℕ) → divisor < 65536 → ier ≤ 15 → lcr < 256 → mcr ≤ 31 → scr < 256 → HasRegisters port.level divisor ier lcr mcr scr (is_some port.fifos)
   registers-kept divisor ier lcr mcr scr a b c d e = record {
-    first = sound.registers.first;
-    newest = sound.registers.newest;
+    is_level = sound.registers.is_level;
     divisor_range = a;
     ier_range = b;
     lcr_range = c;
@@ -163,8 +162,7 @@ module _ (now : ℕ) (port : Port) (sound : IsSound now port) where
 
   switched-registers : (fifos : Option Trigger) → (is_some fifos ≡ true → 2 ≤ port.level) → HasRegisters port.level port.divisor port.ier port.lcr port.mcr port.scr (is_some fifos)
   switched-registers fifos h = let r = sound.registers in record {
-    first = r.first;
-    newest = r.newest;
+    is_level = r.is_level;
     divisor_range = r.divisor_range;
     ier_range = r.ier_range;
     lcr_range = r.lcr_range;

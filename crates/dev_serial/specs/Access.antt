@@ -4,9 +4,10 @@ use Rattle.dev_serial.specs.Bits.{has, bits_where}
 use Rattle.dev_serial.specs.Fifo.{trigger_of}
 use Rattle.dev_serial.specs.Line.{character_time}
 use Rattle.dev_serial.specs.Parts.{ReceiverState, TransmitterState}
-use Rattle.dev_serial.specs.Port.{Port, mode_of, interrupt, id_number, is_thr_empty, fifo_level}
+use Rattle.dev_serial.specs.Port.{Port, mode_of, interrupt, id_number, is_thr_empty}
 use Rattle.dev_serial.specs.Receive.{received, taken, emptied, without_overrun}
 use Rattle.dev_serial.specs.Transmit.{queued, loaded, gone_by, on_line, looped_in, run_until}
+use Rattle.dev_serial.specs.declared.levels.TheConstants.{FIFOS_SINCE}
 use Rattle.dev_serial.specs.declared.shift.Shift.{Shift}
 use Rattle.dev_serial.specs.declared.trigger.Trigger.{Trigger}
 
@@ -43,10 +44,13 @@ lsr_read port = (lsr_of port, record port { receiver = without_overrun port.rece
 abbrev pub with_taken : Port → ℕ × ReceiverState → ℕ × Port
 with_taken port answer = (answer.0, record port { receiver = answer.1 })
 
+abbrev pub byte_read : ℕ → Port → ℕ × Port
+byte_read now port = with_taken port (taken (mode_of port) now port.receiver)
+
 -- a read of a register at an offset
 unfoldable pub read_of : ℕ → ℕ → Port → ℕ × Port
 read_of offset now port =
-    if offset == 0 then (if has port.lcr 7 then (port.divisor % 256, port) else with_taken port (taken (mode_of port) now port.receiver))
+    if offset == 0 then (if has port.lcr 7 then (port.divisor % 256, port) else byte_read now port)
     else (if offset == 1 then (if has port.lcr 7 then (port.divisor / 256, port) else (port.ier, port))
     else (if offset == 2 then id_read now port
     else (if offset == 3 then (port.lcr, port)
@@ -102,7 +106,7 @@ unfoldable pub written : ℕ → ℕ → ℕ → Port → Port
 written offset value now port =
     if offset == 0 then (if has port.lcr 7 then record port { divisor = port.divisor / 256 * 256 + value } else thr_written value now port)
     else (if offset == 1 then (if has port.lcr 7 then record port { divisor = value * 256 + port.divisor % 256 } else ier_written value port)
-    else (if offset == 2 then (if nat_le fifo_level port.level then fcr_written value port else port)
+    else (if offset == 2 then (if nat_le FIFOS_SINCE port.level then fcr_written value port else port)
     else (if offset == 3 then record port { lcr = value }
     else (if offset == 4 then record port { mcr = bit_and value 0x1f }
     else (if offset == 5 then port

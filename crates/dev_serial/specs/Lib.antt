@@ -2,12 +2,11 @@ pub mod Access
 pub mod Bits
 pub mod Cells
 pub mod Fifo
-pub mod Image
-pub mod ImageView
 pub mod Laws
 pub mod Line
 pub mod Parts
 pub mod Port
+pub mod PortNumbers
 pub mod Receive
 pub mod ReceiverView
 pub mod RegisterLaws
@@ -15,6 +14,7 @@ pub mod Rules
 pub mod Saved
 pub mod Sending
 pub mod Sound
+pub mod Stored
 pub mod Transmit
 pub mod TransmitterView
 pub mod View

@@ -31,7 +31,6 @@ pub mod PathLaws
 pub mod Places
 pub mod ReadingLaws
 pub mod ReadyLaws
-pub mod ReducedLaws
 pub mod SectionFound
 pub mod SectionLaws
 pub mod SectionsOnly

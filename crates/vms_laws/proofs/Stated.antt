@@ -3,11 +3,10 @@ use Rattle.std.proofs.Common.{◌≡◌, ℕ, Option, Some, refl, sym, ◌∙◌
 use Rattle.vms_spec.specs.Streams.{written}
 use Rattle.vms_spec.specs.Judging.{State, judge, reading, at_start}
 use Rattle.vms_laws.proofs.WellFormedLaws.{well_good}
-use Rattle.vms_laws.proofs.Witness.{good_0, good_1, good_2, good_3}
+use Rattle.vms_laws.proofs.Witness.{good_0, good_1, good_2, good_3, good_4}
 use Rattle.vms_laws.proofs.PathLaws.{cell_inside}
 use Rattle.vms_laws.proofs.ReadyLaws.{ready_is, is_ready_all}
-use Rattle.vms_laws.proofs.ReducedLaws.{reduced_holds_so}
-use Rattle.vms_laws.specs.Laws.{GoodLaw, ReducedLaw, ShippedLaw, CellLaw, ReadyLaw, FoundLaw, OnlyLaw, OneStreamLaw, ToldLaw, LocalLaw, ZeroedLaw, SectionLaw, WrittenLaw, RefusedLaw, FaultLaw, Answer, Taken, Faulty, EitherLaw, NeverBothLaw, AreOneFault, OneFaultLaw}
+use Rattle.vms_laws.specs.Laws.{GoodLaw, ShippedLaw, CellLaw, ReadyLaw, FoundLaw, OnlyLaw, OneStreamLaw, ToldLaw, LocalLaw, ZeroedLaw, SectionLaw, WrittenLaw, RefusedLaw, FaultLaw, Answer, Taken, Faulty, EitherLaw, NeverBothLaw, AreOneFault, OneFaultLaw}
 use Rattle.vms_laws.proofs.FaultTells.{refused_is_fault, fault_is_refused}
 use Rattle.vms_spec.specs.Readings.{Reading, Accepted, Refused}
 use Rattle.vms_spec.specs.declared.Reason.{Reason}
@@ -24,16 +23,13 @@ pub good_holds : GoodLaw
 good_holds set well heads = well_good set well heads
 
 pub shipped_holds : ShippedLaw
-shipped_holds = (good_0, good_1, good_2, good_3)
+shipped_holds = (good_0, good_1, good_2, good_3, good_4)
 
 pub cell_holds : CellLaw
 cell_holds set k part path c e = cell_inside set k part path c e
 
 pub ready_holds : ReadyLaw
 ready_holds set d image = record { holds = ready_is set d image; passes = is_ready_all set d image }
-
-pub reduced_holds : ReducedLaw
-reduced_holds t v own parent = reduced_holds_so v own parent t
 
 pub found_holds : FoundLaw
 found_holds set names good input n end ok e = found set names good input n end ok e

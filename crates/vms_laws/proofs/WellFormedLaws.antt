@@ -366,7 +366,7 @@ module _ (set : Set) (well : WellFormed set) where
       (part_fits d.desc (device_rules set k d) (device_parts k d e).0)
       (subs_fit d.subs (λ j s f. part_fits s.desc (sub_rules d j s) (sub_clean k j d s e f)))
 
-  device_found : (k : ℕ) (d : Device) → at set.devices k ≡ Some d → find_device 0 set.devices d.desc.name d.instance ≡ Some k
+  pub device_found : (k : ℕ) (d : Device) → at set.devices k ≡ Some d → find_device 0 set.devices d.desc.name d.instance ≡ Some k
   device_found k d e =
       let new = not-true (some (is_same_device d.desc.name d.instance) (take k set.devices)) (device_parts k d e).0.own.1.0 in
       let plus : 0 + k ≡ k = omega arith in
@@ -374,7 +374,7 @@ module _ (set : Set) (well : WellFormed set) where
       (both (bytes_eq d.desc.name d.desc.name) (d.instance == d.instance) (same_bytes d.desc.name) (eq-eqb d.instance d.instance refl)) new
       ∙ ap (λ (k : ℕ). Some k) plus
 
-  sub_found : (k j : ℕ) (d : Device) (s : Sub) → at set.devices k ≡ Some d → at d.subs j ≡ Some s → find_sub 0 d.subs s.desc.name ≡ Some j
+  pub sub_found : (k j : ℕ) (d : Device) (s : Sub) → at set.devices k ≡ Some d → at d.subs j ≡ Some s → find_sub 0 d.subs s.desc.name ≡ Some j
   sub_found k j d s e f =
       let name = s.desc.name in
       let new = not-true (is_one_of (map (λ (e : Sub). e.desc.name) (take j d.subs)) name) (sub_clean k j d s e f).own.1.0 in

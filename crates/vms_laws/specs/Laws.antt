@@ -2,9 +2,7 @@
 use Rattle.std.specs.Prelude.{◌≡◌, Bool, true, ℕ, ◌≤◌, ◌<◌, List, [], ◌++◌, length, Option, Some, None, ℤ}
 use Rattle.vms_spec.specs.Lists.{at}
 use Rattle.vms_spec.specs.Numbers.{IsBytes}
-use Rattle.vms_spec.specs.Sets.{Formula, Device, Set}
-use Rattle.vms_spec.specs.Tests.{truth}
-use Rattle.vms_spec.specs.Reducing.{reduced, truth_of}
+use Rattle.vms_spec.specs.Sets.{Device, Set}
 use Rattle.vms_spec.specs.Layout.{Slot}
 use Rattle.vms_spec.specs.Images.{Image, Spells, zeroed}
 use Rattle.vms_spec.specs.Streams.{IsSection, IsConfiguration, IsTrailer, Takes, IsReady, optional, configuration, trailer, written_section, written}
@@ -15,7 +13,7 @@ use Rattle.vms_spec.specs.Judging.{State, judge, reading}
 use Rattle.vms_spec.specs.Places.{cell_at, cell_count}
 use Rattle.vms_spec.specs.Readiness.{is_ready}
 use Rattle.vms_spec.specs.WellFormed.{WellFormed}
-use Rattle.vms_spec.specs.Shipped.{set_0, set_1, set_2, set_3}
+use Rattle.vms_spec.specs.Shipped.{set_0, set_1, set_2, set_3, set_4}
 use Rattle.vms_laws.specs.Good.{FitsHeads, IsGood}
 use Rattle.vms_laws.specs.Units.{IsLocal}
 
@@ -25,7 +23,7 @@ GoodLaw = (set : Set) → WellFormed set → FitsHeads set → IsGood set
 
 -- so is each shipped set
 abbrev pub ShippedLaw : Type 0
-ShippedLaw = IsGood set_0 × IsGood set_1 × IsGood set_2 × IsGood set_3
+ShippedLaw = IsGood set_0 × IsGood set_1 × IsGood set_2 × IsGood set_3 × IsGood set_4
 
 -- the cell of a path is one of the device's
 abbrev pub CellLaw : Type 0
@@ -39,10 +37,6 @@ pub record Decided (test : Bool) (P : Type 0) : Type 0 where
 -- the test of readiness is the relation
 abbrev pub ReadyLaw : Type 0
 ReadyLaw = (set : Set) (d : Device) (image : Image) → Decided (is_ready set d image) (IsReady set d image)
-
--- what is left of a test at a version holds where the test does
-abbrev pub ReducedLaw : Type 0
-ReducedLaw = (t : Formula) (v : ℕ) (own parent : ℕ → ℕ) → truth_of (reduced v t) v own parent ≡ truth t v own parent
 
 -- what the judge accepts, the input takes
 abbrev pub FoundLaw : Type 0

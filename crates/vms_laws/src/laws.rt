@@ -1,6 +1,6 @@
 //! Each law is the contract of a function without a body. The statements stand in `specs/Laws.antt`. Most are about good
 //! sets, which `specs/Good.antt` defines: the first two laws say which sets are good.
-ghost use Rattle.vms_laws.specs.Laws.{GoodLaw, ShippedLaw, CellLaw, ReadyLaw, ReducedLaw, FoundLaw, OnlyLaw, OneStreamLaw, ToldLaw, LocalLaw, ZeroedLaw, SectionLaw, WrittenLaw};
+ghost use Rattle.vms_laws.specs.Laws.{GoodLaw, ShippedLaw, CellLaw, ReadyLaw, FoundLaw, OnlyLaw, OneStreamLaw, ToldLaw, LocalLaw, ZeroedLaw, SectionLaw, WrittenLaw};
 ghost use Rattle.vms_laws.specs.Laws.{RefusedLaw, FaultLaw, EitherLaw, NeverBothLaw, OneFaultLaw};
 
 /// A well-formed set is good, where instance ids and versions are below 2^32, as the heads of sections have them.
@@ -26,12 +26,6 @@ pub fn cell_law()
 #[tactic(auto, using(crate::proofs::Stated::ready_holds))]
 pub fn ready_law()
     ensures { ReadyLaw }
-{}
-
-/// What is left of a test once the version is known holds exactly where the test does.
-#[tactic(auto, using(crate::proofs::Stated::reduced_holds))]
-pub fn reduced_law()
-    ensures { ReducedLaw }
 {}
 
 /// What the judge accepts is a stream of the set at the front of the input, of just the bytes that were read, with the

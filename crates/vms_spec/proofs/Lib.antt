@@ -10,4 +10,3 @@ mod FaultRows
 mod WellFormedRows
 mod ReadyRows
 mod ValuesRows
-mod CompareRows

@@ -21,7 +21,4 @@ pub mod Names
 pub mod Rules
 pub mod WellFormed
 pub mod Readiness
-pub mod Reducing
-pub mod Comparing
-pub mod Carrying
 pub mod Shipped

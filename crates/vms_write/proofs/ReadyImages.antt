@@ -3,12 +3,11 @@ use Rattle.std.proofs.Common.{◌≡◌, ℕ, suc, ◌<◌, ◌≤◌, List, [],
 use Rattle.vms_spec.specs.Sets.{Set, Sub, AtLeast}
 use Rattle.vms_spec.specs.Layout.{Slot, Number, Constant, Filler, Rule, no_desc, device_cells}
 use Rattle.vms_spec.specs.Images.{Image, own_cells, own_slots, sub_place, sub_slots, AreVersionsOf}
-use Rattle.vms_spec.specs.Readiness.{is_ready}
+use Rattle.vms_spec.specs.Streams.{IsReady}
 use Rattle.vms_spec.specs.WellFormed.{first_fault}
 use Rattle.vms_laws.specs.Good.{IsGood, FitsHeads}
 use Rattle.vms_laws.proofs.ConstantLaws.{own_constants, part_constants}
 use Rattle.vms_laws.proofs.PartLaws.{sub_are}
-use Rattle.vms_laws.proofs.ReadyLaws.{ready_is}
 use Rattle.vms_laws.proofs.SectionLaws.{fit_slots, own_are}
 use Rattle.vms_laws.proofs.SpellLaws.{FitSlots}
 use Rattle.vms_laws.proofs.WellFormedLaws.{well_good}
@@ -46,12 +45,12 @@ pub record IsWritable (set : Set) (i : ℕ) (image : Image) : Type 0 where
   pub subs : (j v : ℕ) → j < length (device_at set i).subs
       → CanWrite image.numbers (sub_slots set (sub_at (device_at set i) j) v image.numbers (sub_place set (own_cells set (device_at set i)) (device_at set i).subs j))
 
-pub ready_writable : (set : Set) → is_well_formed set ≡ true → FitsHeads set → (i : ℕ) (image : Image) → i < length set.devices → is_ready set (device_at set i) image ≡ true → IsWritable set i image
+pub ready_writable : (set : Set) → is_well_formed set ≡ true → FitsHeads set → (i : ℕ) (image : Image) → i < length set.devices → IsReady set (device_at set i) image → IsWritable set i image
 ready_writable set well heads i image lt r =
     let d = device_at set i in
     let m = image.numbers in
     let good = good_of set well heads in
-    let normal = (ready_is set d image r).normal in
+    let normal = r.normal in
     let here = at_get set.devices i (record { instance = 0; desc = no_desc; subs = [] }) lt in
     let none : Sub = record { desc = no_desc; needed = AtLeast 0 } in
     let long : length m ≡ length (device_cells set d) = normal.cells.long in

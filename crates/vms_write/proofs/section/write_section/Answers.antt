@@ -105,4 +105,4 @@ returns-clause-err g c =
     (Appends-trans _ (g.K.Sink.written c.write_fields.new.sink) _ (head ++ own) subs
     (Appends-trans _ (g.K.Sink.written c.append.new.sink) _ head own (subst (Appends (g.K.Sink.written c.args.sink.now) (g.K.Sink.written c.append.new.sink)) first c.in_ok-append.ensures.ok) body)
     c.in_ok-write_subs.ensures.ok)
-    (subst (λ (l : List ℕ). OnErr c.append-2.result (AppendsPrefix (g.K.Sink.written c.write_subs.new.sink) (g.K.Sink.written c.append-2.new.sink) l)) c.marked.ensures c.append-2.ensures.err)
+    (subst (λ (l : List ℕ). OnErr c.append-2.result (AppendsPrefix (g.K.Sink.written c.write_subs.new.sink) (g.K.Sink.written c.append-2.new.sink) l)) c.bytes.ensures c.append-2.ensures.err)

@@ -1,0 +1,62 @@
+-- Tests over lists and numbered rules, and what they say of each place.
+use Rattle.std.proofs.Common.{◌≡◌, ℕ, zero, suc, ◌+◌, ◌<◌, ◌≤◌, List, [], ◌∷◌, length, Bool, true, false, Option, Some, None, refl, sym, ap, ◌∙◌, subst, arith}
+use Rattle.std.specs.Prelude.{◌&&◌, ◌||◌}
+use Rattle.std.proofs.lemmas.Bool.{and_parts}
+use Rattle.vms_spec.specs.declared.Place.{Place}
+use Rattle.vms_spec.specs.Lists.{at, every, some, or_else, first_answer}
+use Rattle.vms_check.specs.Comparing.{failing_pair}
+
+pub or_else_none : {X : Type 0} (x y : Option X) → or_else x y ≡ None → (x ≡ None) × (y ≡ None)
+or_else_none (Some x) y e = absurd (cc)
+or_else_none None y e = (refl, e)
+
+pub both_none : {X : Type 0} (x y : Option X) → x ≡ None → y ≡ None → or_else x y ≡ None
+both_none x y e f = ap (λ o. or_else o y) e ∙ f
+
+pub passes : (rule : ℕ) (b : Bool) (rules : List (ℕ × Bool)) (p q : Place) → failing_pair ((rule, b) ∷ rules) p q ≡ None → (b ≡ true) × (failing_pair rules p q ≡ None)
+passes rule true rules p q e = (refl, e)
+passes rule false rules p q e = absurd (cc)
+
+pub pass : (rule : ℕ) (b : Bool) (rules : List (ℕ × Bool)) (p q : Place) → b ≡ true → failing_pair rules p q ≡ None → failing_pair ((rule, b) ∷ rules) p q ≡ None
+pass rule true rules p q e f = f
+pass rule false rules p q e f = absurd (cc)
+
+pub every_at : {X : Type 0} (p : X → Bool) (xs : List X) (i : ℕ) (x : X) → every p xs ≡ true → at xs i ≡ Some x → p x ≡ true
+every_at p [] i x e h = absurd (cc)
+every_at p (y ∷ xs) zero x e h = let same : y ≡ x = cc in ap p (sym same) ∙ (and_parts (p y) (every p xs) e).0
+every_at p (y ∷ xs) (suc i) x e h = every_at p xs i x (and_parts (p y) (every p xs) e).1 h
+
+pub at_every : {X : Type 0} (p : X → Bool) (xs : List X) → ((i : ℕ) (x : X) → at xs i ≡ Some x → p x ≡ true) → every p xs ≡ true
+at_every p [] h = refl
+at_every p (x ∷ xs) h = ap (λ (b : Bool). b && every p xs) (h 0 x refl) ∙ at_every p xs (λ i y e. h (suc i) y e)
+
+pub some_at : {X : Type 0} (p : X → Bool) (xs : List X) (i : ℕ) (x : X) → at xs i ≡ Some x → p x ≡ true → some p xs ≡ true
+some_at p [] i x h e = absurd (cc)
+some_at p (y ∷ xs) zero x h e = let same : y ≡ x = cc in ap (λ (b : Bool). b || some p xs) (ap p same ∙ e)
+some_at p (y ∷ xs) (suc i) x h e = right (p y) (some p xs) (some_at p xs i x h e)
+  where
+    right : (a b : Bool) → b ≡ true → (a || b) ≡ true
+    right true b e = refl
+    right false b e = e
+
+pub answers_none : {X Y : Type 0} (f : ℕ → X → Option Y) (i : ℕ) (xs : List X) → first_answer f i xs ≡ None → (j : ℕ) (x : X) → at xs j ≡ Some x → f (i + j) x ≡ None
+answers_none f i [] e j x h = absurd (cc)
+answers_none f i (y ∷ xs) e zero x h =
+    let p = or_else_none (f i y) (first_answer f (suc i) xs) e in
+    let same : y ≡ x = cc in
+    let plus : i + 0 ≡ i = omega arith in
+    ap (λ (k : ℕ). f k x) plus ∙ ap (f i) (sym same) ∙ p.0
+answers_none f i (y ∷ xs) e (suc j) x h =
+    let p = or_else_none (f i y) (first_answer f (suc i) xs) e in
+    let plus : i + suc j ≡ suc i + j = omega arith in
+    ap (λ (k : ℕ). f k x) plus ∙ answers_none f (suc i) xs p.1 j x h
+
+pub none_answers : {X Y : Type 0} (f : ℕ → X → Option Y) (i : ℕ) (xs : List X) → ((j : ℕ) (x : X) → at xs j ≡ Some x → f (i + j) x ≡ None) → first_answer f i xs ≡ None
+none_answers f i [] h = refl
+none_answers f i (x ∷ xs) h =
+    let plus : i ≡ i + 0 = omega arith in
+    both_none (f i x) (first_answer f (suc i) xs) (ap (λ (k : ℕ). f k x) plus ∙ h 0 x refl)
+    (none_answers f (suc i) xs (λ j y e. let more : suc i + j ≡ i + suc j = omega arith in ap (λ (k : ℕ). f k y) more ∙ h (suc j) y e))
+
+pub same_at : {X : Type 0} (xs : List X) (i : ℕ) (x y : X) → at xs i ≡ Some x → at xs i ≡ Some y → x ≡ y
+same_at xs i x y e f = let same : Some x ≡ Some y = sym e ∙ f in cc

@@ -1,0 +1,146 @@
+-- What is left of a test is the same as itself, where each number that it names has a position.
+use Rattle.std.proofs.Common.{◌≡◌, ℕ, zero, suc, ◌+◌, ◌<◌, ◌≤◌, List, [], ◌∷◌, ◌++◌, length, get_or, Bool, true, false, Option, Some, None, ℤ, pos, negsuc, refl, sym, ap, ◌∙◌, subst, arith}
+use Rattle.std.specs.Prelude.{◌&&◌, ◌==◌, nat_le, if◌then◌else◌}
+use Rattle.std.proofs.lemmas.Bool.{and_parts, eq-eqb, le-leb, leb-true}
+use Rattle.vms_kinds.specs.declared.Item.{Item}
+use Rattle.vms_kinds.specs.declared.Item.TheVariants.{Num, Equal, Unused, Struct}
+use Rattle.vms_spec.specs.declared.Count.{Count}
+use Rattle.vms_spec.specs.declared.Count.TheVariants.{One, Fixed, Counted}
+use Rattle.vms_spec.specs.declared.Rel.{Rel}
+use Rattle.vms_spec.specs.declared.Whose.TheVariants.{Own, Parent}
+use Rattle.vms_spec.specs.Layout.{no_field}
+use Rattle.vms_spec.specs.Lists.{at}
+use Rattle.vms_spec.specs.Numbers.{same_number}
+use Rattle.vms_spec.specs.Rules.{has_no_test, is_num, is_one, is_steady, is_steady_in, names_well, nobody}
+use Rattle.vms_spec.specs.Sets.{Formula, AtLeast, Below, Cell, Not, And, Or, Field, Desc}
+use Rattle.vms_check.specs.Comparing.{holds_as_much, is_absent, is_nothing, kind_number, rel_number, same_constant, same_count, same_item, same_place, same_reduced, same_rest, same_test}
+use Rattle.vms_check.specs.Reducing.{Reduced, Known, Open, and_reduced, left_of, not_reduced, or_reduced, presence, reduced}
+use Rattle.vms_check.specs.Sides.{field_reduced, position_in}
+use Rattle.vms_check.proofs.PairLaws.{presence_is}
+use Rattle.vms_check.proofs.PositionLaws.{there_is}
+
+itself : (n : ℕ) → (n == n) ≡ true
+itself n = eq-eqb n n refl
+
+-- ---- positions
+
+abbrev pub HasPosition : (ℕ → Option ℕ) → ℕ → Type 0
+HasPosition o k = (p : ℕ) × (o k ≡ Some p)
+
+same_here : (x : Option ℕ) (p : ℕ) → x ≡ Some p → same_place x x ≡ true
+same_here x p e = ap (λ (y : Option ℕ). same_place y y) e ∙ itself p
+
+inside : {X : Type 0} (xs : List X) (k : ℕ) (x : X) → at xs k ≡ Some x → k < length xs
+inside [] k x e = absurd (cc)
+inside (y ∷ xs) zero x e = omega arith
+inside (y ∷ xs) (suc k) x e = let lt : k < length xs = inside xs k x e in omega (arith, lt)
+
+pub get_is : {X : Type 0} (xs : List X) (k : ℕ) (d x : X) → at xs k ≡ Some x → get_or xs k d ≡ x
+get_is [] k d x e = absurd (cc)
+get_is (y ∷ xs) zero d x e = cc
+get_is (y ∷ xs) (suc k) d x e = get_is xs k d x e
+
+no_test : (t : Option Formula) → has_no_test t ≡ true → t ≡ None
+no_test None e = refl
+no_test (Some t) e = absurd (cc)
+
+-- a steady field is there from the minimum on
+pub steady_there : (d : Desc) (v k : ℕ) → d.minimum ≤ v → is_steady_in d k ≡ true → HasPosition (position_in v d.fields) k
+steady_there d v k low e = by_field (at d.fields k) refl e
+  where
+    by_field : (o : Option Field) → at d.fields k ≡ o → is_steady d.minimum o ≡ true → HasPosition (position_in v d.fields) k
+    by_field None is s = absurd (cc)
+    by_field (Some f) is s =
+        let a = and_parts (is_num f.item && is_one f.count && has_no_test f.test) (nat_le f.since d.minimum) s in
+        let b = and_parts (is_num f.item && is_one f.count) (has_no_test f.test) a.0 in
+        let since : f.since ≤ d.minimum = leb-true f.since d.minimum a.1 in
+        let there : is_absent v f ≡ false =
+        ap (λ (t : Option Formula). is_nothing (presence v t f.since)) (no_test f.test b.1) ∙ ap (λ (x : Bool). is_nothing (if x then Some None else None)) (le-leb f.since v (omega (arith, since, low))) in
+        (_, there_is v d.fields k false (inside d.fields k f is) (ap (is_absent v) (get_is d.fields k no_field f is) ∙ there))
+
+-- ---- tests
+
+module _ (o : ℕ → Option ℕ) where
+  abbrev pub IsSelf : Reduced → Type 0
+  IsSelf (Known b) = Unit {0}
+  IsSelf (Open t) = same_test o o t t ≡ true
+
+  not_self : (r : Reduced) → IsSelf r → IsSelf (not_reduced r)
+  not_self (Known b) h = tt
+  not_self (Open t) h = h
+
+  two : (a b : Bool) → a ≡ true → b ≡ true → (a && b) ≡ true
+  two a b e f = ap (λ (x : Bool). x && b) e ∙ f
+
+  and_self : (r q : Reduced) → IsSelf r → IsSelf q → IsSelf (and_reduced r q)
+  and_self (Known true) q h g = g
+  and_self (Known false) q h g = tt
+  and_self (Open s) (Known true) h g = h
+  and_self (Open s) (Known false) h g = tt
+  and_self (Open s) (Open t) h g = two (same_test o o s s) (same_test o o t t) h g
+
+  or_self : (r q : Reduced) → IsSelf r → IsSelf q → IsSelf (or_reduced r q)
+  or_self (Known false) q h g = g
+  or_self (Known true) q h g = tt
+  or_self (Open s) (Known false) h g = h
+  or_self (Open s) (Known true) h g = tt
+  or_self (Open s) (Open t) h g = two (same_test o o s s) (same_test o o t t) h g
+
+  pub reduced_self : (ok : ℕ → Bool) → ((k : ℕ) → ok k ≡ true → HasPosition o k) → (v : ℕ) (t : Formula) → names_well ok nobody t ≡ true → IsSelf (reduced v t)
+  reduced_self ok has v (AtLeast n) e = tt
+  reduced_self ok has v (Below n) e = tt
+  reduced_self ok has v (Cell Own k mask rel value) e =
+      let p = has k e in
+      two (same_place (o k) (o k) && mask == mask && rel_number rel == rel_number rel) (value == value)
+      (two (same_place (o k) (o k) && mask == mask) (rel_number rel == rel_number rel) (two (same_place (o k) (o k)) (mask == mask) (same_here (o k) p.0 p.1) (itself mask)) (itself (rel_number rel))) (itself value)
+  reduced_self ok has v (Cell Parent k mask rel value) e = absurd (cc)
+  reduced_self ok has v (Not t) e = not_self (reduced v t) (reduced_self ok has v t e)
+  reduced_self ok has v (And s t) e =
+      let p = and_parts (names_well ok nobody s) (names_well ok nobody t) e in
+      and_self (reduced v s) (reduced v t) (reduced_self ok has v s p.0) (reduced_self ok has v t p.1)
+  reduced_self ok has v (Or s t) e =
+      let p = and_parts (names_well ok nobody s) (names_well ok nobody t) e in
+      or_self (reduced v s) (reduced v t) (reduced_self ok has v s p.0) (reduced_self ok has v t p.1)
+
+  pub same_self : (r : Reduced) → IsSelf r → same_reduced o o r r ≡ true
+  same_self (Known true) h = refl
+  same_self (Known false) h = refl
+  same_self (Open t) h = h
+
+  rest_by : (r : Reduced) (rest : Option Formula) → IsSelf r → left_of r ≡ Some rest → same_rest o o rest rest ≡ true
+  rest_by (Known false) rest h e = absurd (cc)
+  rest_by (Known true) rest h e = let none : None ≡ rest = cc in ap (λ (x : Option Formula). same_rest o o x x) (sym none)
+  rest_by (Open t) rest h e = let some : Some t ≡ rest = cc in ap (λ (x : Option Formula). same_rest o o x x) (sym some) ∙ h
+
+  pub rest_self : (v : ℕ) (test : Option Formula) (since : ℕ) (rest : Option Formula) → IsSelf (field_reduced v test since) → presence v test since ≡ Some rest → same_rest o o rest rest ≡ true
+  rest_self v test since rest h e = rest_by (field_reduced v test since) rest h (sym (presence_is v test since) ∙ e)
+
+  -- ---- counts
+
+  pub count_self : (c : Count) → ((by most : ℕ) → c ≡ Counted by most → HasPosition o by) → same_count o o c c ≡ true
+  count_self One h = refl
+  count_self (Fixed n) h = itself n
+  count_self (Counted by most) h = let p = h by most refl in same_here (o by) p.0 p.1
+
+-- ---- items and capacities
+
+pub item_self : (x : Item) → same_item x x ≡ true
+item_self (Num kind) = itself (kind_number kind)
+item_self (Equal kind z) = itself (kind_number kind)
+item_self (Unused n) = itself n
+item_self (Struct j) = refl
+
+number_self : (z : ℤ) → same_number z z ≡ true
+number_self (pos n) = itself n
+number_self (negsuc n) = itself n
+
+pub constant_self : (x : Item) → same_constant x x ≡ true
+constant_self (Num kind) = refl
+constant_self (Equal kind z) = number_self z
+constant_self (Unused n) = refl
+constant_self (Struct j) = refl
+
+pub holds_self : (c : Count) → holds_as_much c c ≡ true
+holds_self One = refl
+holds_self (Fixed n) = refl
+holds_self (Counted by most) = le-leb most most (omega arith)

@@ -1,0 +1,58 @@
+-- The shipped sets, each beside every later one.
+use Rattle.std.proofs.Common.{◌≡◌, ℕ, zero, suc, ◌<◌, ◌≤◌, List, [], ◌∷◌, length, get_or, Bool, true, false, Option, Some, None, refl, sym, ap, ◌∙◌, subst, arith}
+use Rattle.std.specs.Prelude.{◌&&◌, is_none}
+use Rattle.std.proofs.lemmas.Bool.{and_parts}
+use Rattle.vms_spec.specs.Layout.{first}
+use Rattle.vms_spec.specs.Lists.{every}
+use Rattle.vms_spec.specs.Sets.{Set}
+use Rattle.vms_spec.specs.Shipped.{set_1, set_2, set_3, set_4}
+use Rattle.vms_desc.specs.Formed.{shipped_set}
+use Rattle.vms_desc.proofs.Bounds.{none_is}
+use Rattle.vms_check.specs.Comparing.{Compatible, first_mismatch}
+
+abbrev are_compatible : Set → Set → Bool
+are_compatible old new = is_none (first_mismatch old new)
+
+-- each is compatible to each later one
+abbrev in_order : List Set → Bool
+in_order [] = true
+in_order (set ∷ sets) = every (are_compatible set) sets && in_order sets
+
+later : (old : Set) (sets : List Set) (j : ℕ) (d : Set) → every (are_compatible old) sets ≡ true → j < length sets → are_compatible old (get_or sets j d) ≡ true
+later old [] j d e lt = absurd (omega arith)
+later old (s ∷ sets) zero d e lt = (and_parts (are_compatible old s) (every (are_compatible old) sets) e).0
+later old (s ∷ sets) (suc j) d e lt = later old sets j d (and_parts (are_compatible old s) (every (are_compatible old) sets) e).1 (omega arith)
+
+pair : (sets : List Set) (i j : ℕ) (d : Set) → in_order sets ≡ true → i < j → j < length sets → are_compatible (get_or sets i d) (get_or sets j d) ≡ true
+pair [] i j d e less lt = absurd (omega arith)
+pair (s ∷ sets) zero zero d e less lt = absurd (omega arith)
+pair (s ∷ sets) zero (suc j) d e less lt = later s sets j d (and_parts (every (are_compatible s) sets) (in_order sets) e).0 (omega arith)
+pair (s ∷ sets) (suc i) zero d e less lt = absurd (omega arith)
+pair (s ∷ sets) (suc i) (suc j) d e less lt = pair sets i j d (and_parts (every (are_compatible s) sets) (in_order sets) e).1 (omega arith) (omega arith)
+
+-- from set 1 on
+abbrev shipped : List Set
+shipped = set_1 ∷ set_2 ∷ set_3 ∷ set_4 ∷ []
+
+shipped_in_order : in_order shipped ≡ true
+unfolding first_mismatch first
+shipped_in_order = refl
+
+numbered : (i : ℕ) → i < length shipped → get_or shipped i set_4 ≡ shipped_set (suc i)
+numbered zero lt = refl
+numbered (suc zero) lt = refl
+numbered (suc (suc zero)) lt = refl
+numbered (suc (suc (suc i))) lt = last i
+  where
+    last : (i : ℕ) → get_or (set_4 ∷ []) i set_4 ≡ set_4
+    last zero = refl
+    last (suc i) = refl
+
+pub shipped_compatible : (s t : ℕ) → 1 ≤ s → s < t → t ≤ 4 → Compatible (shipped_set s) (shipped_set t)
+shipped_compatible zero t low less le = absurd (omega arith)
+shipped_compatible (suc i) zero low less le = absurd (omega arith)
+shipped_compatible (suc i) (suc j) low less le =
+    let first : i < length shipped = omega arith in
+    let second : j < length shipped = omega arith in
+    none_is (first_mismatch (shipped_set (suc i)) (shipped_set (suc j)))
+    (ap (λ (x : Set). are_compatible x (shipped_set (suc j))) (sym (numbered i first)) ∙ ap (are_compatible (get_or shipped i set_4)) (sym (numbered j second)) ∙ pair shipped i j set_4 shipped_in_order (omega arith) second)
