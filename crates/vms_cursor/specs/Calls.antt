@@ -1,14 +1,19 @@
 -- What the calls of a cursor answer, by the unit that stands at the front of what is left and the rows that it alone decides.
-use Rattle.std.specs.Prelude.{◌≡◌, ℕ, ◌+◌, true, false, List, [], ◌∷◌, length, get_or, take, drop, Option, Some, None, Result, Ok, Err}
+use Rattle.std.specs.Prelude.{◌≡◌, ℕ, ◌+◌, true, false, List, [], ◌∷◌, length, get_or, take, drop, Option, Some, None, Result, Ok, Err, ◌-◌, ℤ, IfSome}
+use Rattle.vms_kinds.specs.declared.Kind.{Kind}
+use Rattle.vms_kinds.specs.Codes.{width}
+use Rattle.vms_spec.specs.Layout.{Number as NumberSlot, Filler as FillerSlot}
 use Rattle.vms_spec.specs.declared.Reason.{Reason}
 use Rattle.vms_spec.specs.declared.Reason.TheVariants as reasons
 use Rattle.vms_spec.specs.Judging.{number_at}
-use Rattle.vms_spec.specs.Units.{Piece, Magic, Version, Configuration, Head, SubHead, Foot, End}
+use Rattle.vms_spec.specs.Units.{Piece, Magic, Version, Number, Filler, Configuration, Head, SubHead, Foot, End}
 use Rattle.vms_units.specs.SoFar.{Known, no_image}
 use Rattle.vms_units.specs.SoFar as tails
-use Rattle.vms_units.specs.Dues.{Due, AMagic, AVersion, AfterFields, begins_next, Between as IsBetween}
+use Rattle.vms_units.specs.Dues.{Due, AMagic, AVersion, AfterFields, begins_next, Between as IsBetween, AfterEnd, Field}
 use Rattle.vms_units.specs.Seen.{Seen, Good, Bad, Short, seen}
 use Rattle.vms_units.specs.Taking.{nothing_known}
+use Rattle.vms_cursor.specs.Stands.{Stand}
+use Rattle.vms_cursor.specs.Found.{step_long}
 use Rattle.vms_cursor.specs.declared.fault.FrameFault.{FrameFault}
 use Rattle.vms_cursor.specs.declared.fault.FrameFault.TheVariants.{Refused, ReadFault}
 use Rattle.vms_cursor.specs.declared.units.Between.{Between}
@@ -114,3 +119,23 @@ AnswersEnd (b ∷ more) Short at behind left (Ok x) = ⊥
 AnswersEnd [] found at behind left (Err (Refused place reason)) = ⊥
 AnswersEnd (b ∷ more) found at behind left (Err (Refused place reason)) = (place ≡ at) × Fails found (b ∷ more) left reason
 AnswersEnd rest found at behind left (Err ReadFault) = Unit {0}
+
+-- ---- the calls, where what is left of the source is told
+
+abbrev pub ReadsBetween : Between → Stand → Option (List ℕ) → Option (List ℕ) → Result Step FrameFault → Type 0
+ReadsBetween place stand old left result =
+    IfSome old (λ rest. AnswersSeen unit_of_step step_long (seen (due_of place) nothing_known (ahead stand.held rest)) stand.at (ahead stand.held rest) left result)
+
+abbrev pub ReadsNumber : Kind → ℕ → Option (List ℕ) → Option (List ℕ) → Result ℤ FrameFault → Type 0
+ReadsNumber kind at old left result =
+    IfSome old (λ rest. AnswersSeen (Number 0 kind) (λ _. width kind) (seen (Field 0 (NumberSlot 0 kind [])) nothing_known rest) at rest left result)
+
+abbrev pub ReadsFiller : ℕ → ℕ → Option (List ℕ) → Option (List ℕ) → Result (Unit {0}) FrameFault → Type 0
+ReadsFiller n at old left result = IfSome old (λ rest. AnswersSeen (λ _. Filler (take n rest)) (λ _. n) (seen (Field 0 (FillerSlot n)) nothing_known rest) at rest left result)
+
+abbrev pub ReadsEnd : ℕ → ℕ → Option (List ℕ) → Option (List ℕ) → Result (Unit {0}) FrameFault → Type 0
+ReadsEnd at behind old left result = IfSome old (λ rest. AnswersEnd rest (seen AfterEnd nothing_known rest) at behind left result)
+
+-- how many bytes of a unit between sections are given, where one may be held
+abbrev pub step_given : Option ℕ → Step → ℕ
+step_given held step = step_long step - held_long held

@@ -1,14 +1,9 @@
 // Where a stream is read.
-ghost use Rattle.std.specs.Prelude.{◌≡◌, true, ◌+◌, ◌-◌, ◌^◌, ◌≤◌, [], take, None, ℕ, IfOk, OnOk, IfSome};
+ghost use Rattle.std.specs.Prelude.{◌≡◌, true, ◌+◌, ◌^◌, ◌≤◌, None, ℕ, IfOk, OnOk, IfSome};
 ghost use Rattle.vms_kinds.specs.Codes.{width};
-ghost use Rattle.vms_spec.specs.Layout.{Number as NumberSlot, Filler as FillerSlot};
-ghost use Rattle.vms_spec.specs.Units.{Number as NumberUnit, Filler as FillerUnit};
-ghost use Rattle.vms_units.specs.Dues.{Field, AfterEnd};
-ghost use Rattle.vms_units.specs.Seen.{seen};
-ghost use Rattle.vms_units.specs.Taking.{nothing_known};
 ghost use Rattle.vms_cursor.specs.Stands.{Stand};
 ghost use Rattle.vms_cursor.specs.Found.{step_long, is_configuration};
-ghost use Rattle.vms_cursor.specs.Calls.{AnswersSeen, AnswersHead, AnswersBehind, AnswersEnd, Holds, unit_of_step, due_of, tail_of, ahead, held_long, after_long, after_given};
+ghost use Rattle.vms_cursor.specs.Calls.{AnswersHead, ReadsBetween, ReadsNumber, ReadsFiller, AnswersBehind, ReadsEnd, Holds, tail_of, step_given, after_long, after_given};
 ghost use Rattle.vms_cursor.specs.Answers.{HasCause, GivesWithin, GivesPast};
 
 use crate::fill::pass;
@@ -82,10 +77,10 @@ impl Cursor {
     /// length above 255. A configuration comes directly after the stream head alone.
     pub fn between<S: Source>(&mut self, source: &mut S, place: Between) -> Result<Step, FrameFault>
         requires { self.old.at ≤ 2 ^ 63 }
-        ensures content { IfSome (S.left source.old) (λ left. AnswersSeen unit_of_step step_long (seen (due_of place) nothing_known (ahead self.old.held left)) self.old.at (ahead self.old.held left) (S.left source.new) result) }
+        ensures content { ReadsBetween place self.old (S.left source.old) (S.left source.new) result }
         ensures place { IfOk result (λ step. self.new.at ≡ self.old.at + step_long step) }
         ensures held { OnOk result (self.new.held ≡ None) }
-        ensures given { GivesWithin (λ step. (step_long step) - (held_long self.old.held)) 269 (S.given source.old) (S.given source.new) result }
+        ensures given { GivesWithin (step_given self.old.held) 269 (S.given source.old) (S.given source.new) result }
         ensures cause { HasCause (S.faults source.old) (S.faults source.new) result }
         ensures promise { S.promise source.new ≡ S.promise source.old }
         ensures configuration { IfOk result (λ step. is_configuration step ≡ true → place ≡ Between.First) }
@@ -100,7 +95,7 @@ impl Cursor {
     pub fn number<S: Source>(&mut self, source: &mut S, kind: Kind) -> Result<i128, FrameFault>
         requires place { self.old.at ≤ 2 ^ 63 }
         requires held { self.old.held ≡ None }
-        ensures content { IfSome (S.left source.old) (λ rest. AnswersSeen (NumberUnit 0 kind) (λ _. width kind) (seen (Field 0 (NumberSlot 0 kind [])) nothing_known rest) self.old.at rest (S.left source.new) result) }
+        ensures content { ReadsNumber kind self.old.at (S.left source.old) (S.left source.new) result }
         ensures place { OnOk result (self.new.at ≡ self.old.at + width kind) }
         ensures held { OnOk result (self.new.held ≡ None) }
         ensures given { GivesWithin (λ _. width kind) (width kind) (S.given source.old) (S.given source.new) result }
@@ -116,7 +111,7 @@ impl Cursor {
     pub fn skip<S: Source>(&mut self, source: &mut S, bytes: u16) -> Result<(), FrameFault>
         requires place { self.old.at ≤ 2 ^ 63 }
         requires held { self.old.held ≡ None }
-        ensures content { IfSome (S.left source.old) (λ rest. AnswersSeen (λ _. FillerUnit (take bytes rest)) (λ _. bytes) (seen (Field 0 (FillerSlot bytes)) nothing_known rest) self.old.at rest (S.left source.new) result) }
+        ensures content { ReadsFiller bytes self.old.at (S.left source.old) (S.left source.new) result }
         ensures place { OnOk result (self.new.at ≡ self.old.at + bytes) }
         ensures held { OnOk result (self.new.held ≡ None) }
         ensures given { GivesWithin (λ _. bytes) bytes (S.given source.old) (S.given source.new) result }
@@ -169,7 +164,7 @@ impl Cursor {
     pub fn trailer<S: Source>(&mut self, source: &mut S) -> Result<(), FrameFault>
         requires place { self.old.at ≤ 2 ^ 63 }
         requires held { self.old.held ≡ None }
-        ensures content { IfSome (S.left source.old) (λ rest. AnswersEnd rest (seen AfterEnd nothing_known rest) self.old.at self.new.at (S.left source.new) result) }
+        ensures content { ReadsEnd self.old.at self.new.at (S.left source.old) (S.left source.new) result }
         ensures place { OnOk result (self.old.at ≤ self.new.at × self.new.at ≤ self.old.at + 16777221) }
         ensures held { OnOk result (self.new.held ≡ None) }
         ensures given { GivesPast self.old.at self.new.at 16777221 (S.given source.old) (S.given source.new) result }
