@@ -4,3 +4,4 @@ pub mod ListLaws
 pub mod NameLaws
 pub mod TestLaws
 mod Rows
+mod WrittenRows

@@ -5,3 +5,4 @@ pub mod Files
 pub mod Given
 pub mod Keys
 pub mod Tests
+pub mod Written
