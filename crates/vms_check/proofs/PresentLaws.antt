@@ -1,5 +1,5 @@
 -- The next field that is there.
-use Rattle.std.proofs.Common.{◌≡◌, ℕ, suc, ◌+◌, ◌<◌, ◌≤◌, List, [], ◌∷◌, ◌++◌, length, get_or, drop, map, Bool, true, false, Option, Some, None, refl, sym, ap, ◌∙◌, subst, add-one, arith}
+use Rattle.std.proofs.Common.{◌≡◌, ℕ, ◌+◌, ◌<◌, ◌≤◌, List, [], ◌∷◌, ◌++◌, length, get_or, drop, map, Bool, true, false, Option, Some, None, refl, sym, ap, ◌∙◌, subst, add-one, arith}
 use Rattle.std.specs.Prelude.{not}
 use Rattle.std.proofs.lemmas.List.{drop_all, drop_more, length-map}
 use Rattle.vms_spec.specs.Layout.{no_field}
@@ -9,7 +9,7 @@ use Rattle.vms_parts.specs.Views.{field_of}
 use Rattle.vms_parts.proofs.Items.{get_map_at}
 use Rattle.vms_check.specs.Comparing.{Entry, entry_of, is_absent, is_nothing}
 use Rattle.vms_check.specs.Reducing.{Reduced, Known, Open, left_of, presence}
-use Rattle.vms_check.specs.Pairs.{tree_of, entry, IsOn, IsFirst}
+use Rattle.vms_check.specs.Pairs.{tree_of, IsFirst}
 use Rattle.vms_check.specs.Sides.{field_reduced, fields_from, desc_on}
 use Rattle.vms_check.specs.declared.present.Present.{Present}
 use Rattle.vms_check.specs.declared.side.Side.{Side}
