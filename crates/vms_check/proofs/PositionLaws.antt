@@ -78,7 +78,7 @@ there_from v p i (f ∷ fs) (suc k) b lt e =
     plus : count_present v (take k fs) + next_position v p f ≡ ((if is_absent v f then 0 else 1) + count_present v (take k fs)) + p
     plus = omega arith
 
-flipped : (b c : Bool) → not b ≡ c → b ≡ not c
+pub flipped : (b c : Bool) → not b ≡ c → b ≡ not c
 flipped true true e = sym e
 flipped true false e = refl
 flipped false true e = refl

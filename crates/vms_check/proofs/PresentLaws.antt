@@ -14,6 +14,7 @@ use Rattle.vms_check.specs.Sides.{field_reduced, fields_from, desc_on}
 use Rattle.vms_check.specs.declared.present.Present.{Present}
 use Rattle.vms_check.specs.declared.side.Side.{Side}
 use Rattle.vms_check.proofs.PairLaws.{presence_is}
+use Rattle.vms_check.proofs.PositionLaws.{flipped}
 
 abbrev found : ℕ → ℕ → Field → Entry
 found v i f = record { index = i; place = 0; field = f; rest = tree_of (field_reduced v f.test f.since) }
@@ -46,12 +47,6 @@ module _ (v : ℕ) (fields : List Field) (i : ℕ) (lt : i < length fields) wher
       here
       ∙ ap (λ (o : Option (Option Formula)). entry_of i 0 f o ++ fields_from v (i + 1) (drop (i + 1) fields)) is
       ∙ ap (λ (es : List Entry). es ++ fields_from v (i + 1) (drop (i + 1) fields)) (there i f (field_reduced v f.test f.since) (subst (λ (o : Option (Option Formula)). is_nothing o ≡ false) is e))
-
-flipped : (b c : Bool) → not b ≡ c → b ≡ not c
-flipped true true e = sym e
-flipped true false e = refl
-flipped false true e = refl
-flipped false false e = sym e
 
 -- ---- as the code has it
 

@@ -19,17 +19,12 @@ use Rattle.vms_check.specs.Laws.{AreRules}
 use Rattle.vms_check.specs.Pairs.{table}
 use Rattle.vms_check.specs.Wholes.{device_mismatch, lost_mismatch, machines_mismatch}
 use Rattle.vms_check.proofs.DescsFit.{all_uses, descs_so, so_descs}
-use Rattle.vms_check.proofs.ListLaws.{or_else_none, both_none, passes, pass, every_at, at_every, answers_none, none_answers}
+use Rattle.vms_check.proofs.ListLaws.{at_get, or_else_none, both_none, passes, pass, every_at, at_every, answers_none, none_answers}
 use Rattle.vms_check.proofs.StructLaws.{AllBelow, structs_are}
 use Rattle.vms_check.proofs.WholeLaws.{whole_is}
 
 none_so : {X : Type 0} (o : Option X) → o ≡ None → is_none o ≡ true
 none_so o e = ap is_none e
-
-at_some : {X : Type 0} (xs : List X) (k : ℕ) (d : X) → k < length xs → at xs k ≡ Some (get_or xs k d)
-at_some [] k d lt = absurd (omega arith)
-at_some (x ∷ xs) zero d lt = refl
-at_some (x ∷ xs) (suc k) d lt = at_some xs k d (omega arith)
 
 clean_below : (k : ℕ) (d : Desc) (rules : List Bool) (v : ℕ) → Clean k d rules → AllBelow k (fields_at d v)
 clean_below k d rules v c = all_uses k v 0 d.fields (λ j f e. (c.fields j f e).1.1.1.1.0)
@@ -45,7 +40,7 @@ module _ (old new : Set) (well : WellFormed new) where
   compares same = (i j : ℕ) → uses_below count (Struct j) ≡ true → get_or structs j no_comparer i ≡ None → same i j ≡ true
 
   struct_below : (j v : ℕ) → j < count → AllBelow j (fields_at (get_or new.structs j no_desc) v)
-  struct_below j v lt = let d = get_or new.structs j no_desc in clean_below j d (struct_rules new.structs j d) v (struct_clean new well j d (at_some new.structs j no_desc lt))
+  struct_below j v lt = let d = get_or new.structs j no_desc in clean_below j d (struct_rules new.structs j d) v (struct_clean new well j d (at_get new.structs j no_desc lt))
 
   device_below : (k v : ℕ) (e : Device) → at new.devices k ≡ Some e → AllBelow count (fields_at e.desc v)
   device_below k v e there = clean_below count e.desc (device_rules new k e) v (device_parts new well k e there).0
