@@ -1,29 +1,22 @@
 -- Two descriptions: no rule fails exactly where they fit as the rules say.
-use Rattle.std.proofs.Common.{◌≡◌, ◌⊎◌, inl, inr, ℕ, zero, suc, ◌+◌, ◌<◌, ◌≤◌, List, [], ◌∷◌, ◌++◌, length, get_or, Bool, true, false, Option, Some, None, refl, sym, ap, ◌∙◌, subst, arith}
-use Rattle.std.specs.Prelude.{◌&&◌, nat_lt, is_none}
-use Rattle.std.proofs.lemmas.Bool.{and_parts, ltb-true, lt-ltb}
+use Rattle.std.proofs.Common.{◌≡◌, inl, inr, ℕ, zero, suc, List, [], ◌∷◌, ◌++◌, length, get_or, Bool, true, false, Option, Some, None, refl, sym, ap, ◌∙◌, subst, arith}
 use Rattle.vms_kinds.specs.declared.Item.{Item}
 use Rattle.vms_kinds.specs.declared.Item.TheVariants.{Num, Equal, Unused, Struct}
 use Rattle.vms_spec.specs.declared.Part.{Part}
-use Rattle.vms_spec.specs.declared.Part.TheVariants as parts
-use Rattle.vms_spec.specs.declared.Place.{Place}
-use Rattle.vms_spec.specs.Layout.{Cell, no_desc, struct_cells}
-use Rattle.vms_spec.specs.Lists.{at, every, some, or_else}
+use Rattle.vms_spec.specs.Layout.{Cell}
+use Rattle.vms_spec.specs.Lists.{at, or_else}
 use Rattle.vms_spec.specs.Rules.{uses_below}
-use Rattle.vms_spec.specs.Sets.{Formula, Field, Desc, Set}
+use Rattle.vms_spec.specs.Sets.{Formula, Field, Desc}
 use Rattle.vms_spec.specs.WellFormed.{here, in_field}
-use Rattle.vms_desc.specs.Formed.{is_well_formed}
-use Rattle.vms_desc.proofs.Bounds.{none_is}
-use Rattle.vms_check.specs.Comparing.{Comparer, Entry, compare_desc, compare_fields, compare_validations, entry_of, failing_pair, is_covered, is_kept, no_comparer, pair_rules, pair_structs, same_reduced}
+use Rattle.vms_check.specs.Comparing.{Comparer, Entry, compare_desc, compare_fields, entry_of, failing_pair, is_covered, is_kept, no_comparer, pair_rules, pair_structs}
 use Rattle.vms_check.specs.Fitting.{ArePaired, DescsFit, IsKept, fields_at, in_old, in_new}
-use Rattle.vms_check.specs.Pairs.{struct_mismatch, table}
 use Rattle.vms_check.specs.Reducing.{Reduced, Known, Open, presence, reduced}
 use Rattle.vms_check.specs.Sides.{fields_from}
 use Rattle.vms_check.specs.declared.mismatch.Mismatch.{Mismatch}
 use Rattle.vms_check.proofs.DescLaws.{desc_split}
 use Rattle.vms_check.proofs.ListLaws.{or_else_none, both_none, passes, pass, every_at, at_every}
 use Rattle.vms_check.proofs.PairsFit.{paired_so, so_paired}
-use Rattle.vms_check.proofs.StructLaws.{AllBelow, structs_are}
+use Rattle.vms_check.proofs.StructLaws.{AllBelow}
 
 -- ---- which structures entries use
 

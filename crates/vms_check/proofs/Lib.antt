@@ -15,5 +15,4 @@ pub mod SelfTests
 pub mod SetsFit
 pub mod ShippedLaws
 pub mod StructLaws
-pub mod WalkLaws
 pub mod WholeLaws

@@ -1,5 +1,5 @@
 -- Tests over lists and numbered rules, and what they say of each place.
-use Rattle.std.proofs.Common.{◌≡◌, ℕ, zero, suc, ◌+◌, ◌<◌, ◌≤◌, List, [], ◌∷◌, length, Bool, true, false, Option, Some, None, refl, sym, ap, ◌∙◌, subst, arith}
+use Rattle.std.proofs.Common.{◌≡◌, ℕ, zero, suc, ◌+◌, ◌<◌, List, [], ◌∷◌, length, get_or, Bool, true, false, Option, Some, None, refl, sym, ap, ◌∙◌, arith}
 use Rattle.std.specs.Prelude.{◌&&◌, ◌||◌}
 use Rattle.std.proofs.lemmas.Bool.{and_parts}
 use Rattle.vms_spec.specs.declared.Place.{Place}
@@ -60,3 +60,8 @@ none_answers f i (x ∷ xs) h =
 
 pub same_at : {X : Type 0} (xs : List X) (i : ℕ) (x y : X) → at xs i ≡ Some x → at xs i ≡ Some y → x ≡ y
 same_at xs i x y e f = let same : Some x ≡ Some y = sym e ∙ f in cc
+
+pub at_get : {X : Type 0} (xs : List X) (k : ℕ) (d : X) → k < length xs → at xs k ≡ Some (get_or xs k d)
+at_get [] k d lt = absurd (omega arith)
+at_get (x ∷ xs) zero d lt = refl
+at_get (x ∷ xs) (suc k) d lt = at_get xs k d (omega arith)

@@ -1,23 +1,19 @@
 -- Two fields of the same position: no rule fails exactly where they are paired as the rules say.
-use Rattle.std.proofs.Common.{◌≡◌, ℕ, zero, suc, ◌<◌, ◌≤◌, List, [], ◌∷◌, length, get_or, Bool, true, false, Option, Some, None, refl, sym, ap, ◌∙◌, subst}
+use Rattle.std.proofs.Common.{◌≡◌, ℕ, ◌≤◌, List, [], ◌∷◌, Bool, true, false, Option, None, refl, sym, ap, ◌∙◌, subst}
 use Rattle.std.specs.Prelude.{◌&&◌, ◌==◌, nat_le, if◌then◌else◌}
 use Rattle.std.proofs.lemmas.Bool.{and_parts, eq-eqb, eqb-true, leb-true, le-leb}
 use Rattle.vms_kinds.specs.declared.Item.{Item}
-use Rattle.vms_kinds.specs.declared.Item.TheVariants.{Num, Equal, Unused, Struct}
+use Rattle.vms_kinds.specs.declared.Item.TheVariants.{Struct}
 use Rattle.vms_spec.specs.declared.Count.{Count}
 use Rattle.vms_spec.specs.declared.Count.TheVariants.{One, Fixed, Counted}
 use Rattle.vms_spec.specs.declared.Part.{Part}
 use Rattle.vms_spec.specs.declared.Place.{Place}
 use Rattle.vms_spec.specs.Layout.{counted}
-use Rattle.vms_spec.specs.Lists.{at, or_else}
-use Rattle.vms_spec.specs.Rules.{uses_below}
 use Rattle.vms_spec.specs.Sets.{Field, Desc}
-use Rattle.vms_spec.specs.WellFormed.{in_field}
-use Rattle.vms_check.specs.Comparing.{Comparer, Entry, absent_hold, bound, compare_fields, failing_pair, has_room, holds_as_much, is_absent, is_covered, names_match, no_comparer, pair_rules, pair_structs, same_constant, same_count, same_item, same_rest, uncovered_rules}
+use Rattle.vms_check.specs.Comparing.{Comparer, Entry, absent_hold, bound, failing_pair, has_room, holds_as_much, is_absent, is_covered, pair_rules, pair_structs, same_rest, uncovered_rules}
 use Rattle.vms_check.specs.Fitting.{AreAlike, ArePaired, in_old, in_new}
 use Rattle.vms_check.specs.declared.mismatch.Mismatch.{Mismatch}
-use Rattle.vms_check.proofs.ListLaws.{or_else_none, both_none, passes, pass, every_at, at_every}
-use Rattle.vms_check.proofs.StructLaws.{AllBelow}
+use Rattle.vms_check.proofs.ListLaws.{passes, pass, every_at, at_every}
 
 -- ---- arrays that aren't there
 

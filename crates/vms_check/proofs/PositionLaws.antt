@@ -1,5 +1,5 @@
 -- The position of a field among the present ones is how many are present before it.
-use Rattle.std.proofs.Common.{◌≡◌, ℕ, zero, suc, ◌+◌, ◌<◌, ◌≤◌, List, [], ◌∷◌, ◌++◌, length, get_or, take, drop, map, Bool, true, false, Option, Some, None, refl, sym, ap, ◌∙◌, subst, arith}
+use Rattle.std.proofs.Common.{◌≡◌, ℕ, zero, suc, ◌+◌, ◌<◌, ◌≤◌, List, [], ◌∷◌, ◌++◌, length, get_or, take, map, Bool, true, false, Option, Some, None, refl, sym, ap, ◌∙◌, arith}
 use Rattle.std.specs.Prelude.{not, ◌==◌, if◌then◌else◌}
 use Rattle.std.proofs.lemmas.Bool.{eq-eqb, ne_eqb}
 use Rattle.std.proofs.lemmas.List.{length-map, take-map}
@@ -78,7 +78,7 @@ there_from v p i (f ∷ fs) (suc k) b lt e =
     plus : count_present v (take k fs) + next_position v p f ≡ ((if is_absent v f then 0 else 1) + count_present v (take k fs)) + p
     plus = omega arith
 
-flipped : (b c : Bool) → not b ≡ c → b ≡ not c
+pub flipped : (b c : Bool) → not b ≡ c → b ≡ not c
 flipped true true e = sym e
 flipped true false e = refl
 flipped false true e = refl

@@ -1,5 +1,5 @@
 -- The next field that is there.
-use Rattle.std.proofs.Common.{◌≡◌, ℕ, suc, ◌+◌, ◌<◌, ◌≤◌, List, [], ◌∷◌, ◌++◌, length, get_or, drop, map, Bool, true, false, Option, Some, None, refl, sym, ap, ◌∙◌, subst, add-one, arith}
+use Rattle.std.proofs.Common.{◌≡◌, ℕ, ◌+◌, ◌<◌, ◌≤◌, List, [], ◌∷◌, ◌++◌, length, get_or, drop, map, Bool, true, false, Option, Some, None, refl, sym, ap, ◌∙◌, subst, add-one, arith}
 use Rattle.std.specs.Prelude.{not}
 use Rattle.std.proofs.lemmas.List.{drop_all, drop_more, length-map}
 use Rattle.vms_spec.specs.Layout.{no_field}
@@ -9,11 +9,12 @@ use Rattle.vms_parts.specs.Views.{field_of}
 use Rattle.vms_parts.proofs.Items.{get_map_at}
 use Rattle.vms_check.specs.Comparing.{Entry, entry_of, is_absent, is_nothing}
 use Rattle.vms_check.specs.Reducing.{Reduced, Known, Open, left_of, presence}
-use Rattle.vms_check.specs.Pairs.{tree_of, entry, IsOn, IsFirst}
+use Rattle.vms_check.specs.Pairs.{tree_of, IsFirst}
 use Rattle.vms_check.specs.Sides.{field_reduced, fields_from, desc_on}
 use Rattle.vms_check.specs.declared.present.Present.{Present}
 use Rattle.vms_check.specs.declared.side.Side.{Side}
 use Rattle.vms_check.proofs.PairLaws.{presence_is}
+use Rattle.vms_check.proofs.PositionLaws.{flipped}
 
 abbrev found : ℕ → ℕ → Field → Entry
 found v i f = record { index = i; place = 0; field = f; rest = tree_of (field_reduced v f.test f.since) }
@@ -46,12 +47,6 @@ module _ (v : ℕ) (fields : List Field) (i : ℕ) (lt : i < length fields) wher
       here
       ∙ ap (λ (o : Option (Option Formula)). entry_of i 0 f o ++ fields_from v (i + 1) (drop (i + 1) fields)) is
       ∙ ap (λ (es : List Entry). es ++ fields_from v (i + 1) (drop (i + 1) fields)) (there i f (field_reduced v f.test f.since) (subst (λ (o : Option (Option Formula)). is_nothing o ≡ false) is e))
-
-flipped : (b c : Bool) → not b ≡ c → b ≡ not c
-flipped true true e = sym e
-flipped true false e = refl
-flipped false true e = refl
-flipped false false e = sym e
 
 -- ---- as the code has it
 

@@ -8,7 +8,7 @@ use Rattle.vms_kinds.specs.declared.Item.{Item}
 use Rattle.vms_kinds.specs.declared.Item.TheVariants.{Struct}
 use Rattle.vms_spec.specs.declared.Count.{Count}
 use Rattle.vms_spec.specs.declared.Count.TheVariants.{Counted}
-use Rattle.vms_spec.specs.Judging.{find_device, find_sub}
+use Rattle.vms_spec.specs.Judging.{find_device}
 use Rattle.vms_spec.specs.Layout.{no_desc}
 use Rattle.vms_spec.specs.Lists.{at}
 use Rattle.vms_spec.specs.Readiness.{is_version_of}
@@ -17,8 +17,8 @@ use Rattle.vms_spec.specs.Sets.{Formula, Field, Desc, Sub, Device, Set}
 use Rattle.vms_spec.specs.Streams.{is_one_of}
 use Rattle.vms_spec.specs.WellFormed.{WellFormed, struct_rules, device_rules, sub_rules}
 use Rattle.vms_laws.proofs.WellFormedLaws.{Clean, struct_clean, device_parts, sub_clean, device_found, sub_found}
-use Rattle.vms_check.specs.Comparing.{Compatible, Entry, entry_of, is_found, names_match, same_reduced}
-use Rattle.vms_check.specs.Fitting.{AreAlike, ArePaired, DescsFit, DevicesFit, IsSubFor, SetsFit, fields_at}
+use Rattle.vms_check.specs.Comparing.{Compatible, Entry, entry_of, is_found, same_reduced}
+use Rattle.vms_check.specs.Fitting.{ArePaired, DescsFit, DevicesFit, IsSubFor, fields_at}
 use Rattle.vms_check.specs.Reducing.{presence, reduced}
 use Rattle.vms_check.specs.Sides.{field_reduced, fields_from, position_in}
 use Rattle.vms_check.proofs.ListLaws.{same_at, some_at}

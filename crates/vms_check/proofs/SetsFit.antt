@@ -1,38 +1,30 @@
 -- Two sets: the walk finds no mismatch exactly where all rules hold.
-use Rattle.std.proofs.Common.{◌≡◌, ℕ, zero, suc, ◌+◌, ◌<◌, ◌≤◌, List, [], ◌∷◌, length, get_or, Bool, true, false, Option, Some, None, refl, sym, ap, ◌∙◌, subst, arith}
-use Rattle.std.specs.Prelude.{◌&&◌, nat_lt, is_none}
-use Rattle.std.proofs.lemmas.Bool.{and_parts, ltb-true, lt-ltb}
+use Rattle.std.proofs.Common.{◌≡◌, ℕ, zero, suc, ◌+◌, ◌<◌, List, [], ◌∷◌, length, get_or, Bool, true, Option, Some, None, refl, sym, ap, ◌∙◌, arith}
+use Rattle.std.specs.Prelude.{is_none}
+use Rattle.std.proofs.lemmas.Bool.{ltb-true}
 use Rattle.vms_kinds.specs.declared.Item.TheVariants.{Struct}
 use Rattle.vms_spec.specs.declared.Part.TheVariants as parts
 use Rattle.vms_spec.specs.Judging.{find_device, find_sub, index}
-use Rattle.vms_spec.specs.Layout.{no_desc, no_field, struct_cells}
-use Rattle.vms_spec.specs.Lists.{at, every, or_else, first_answer}
-use Rattle.vms_spec.specs.Readiness.{is_version_of}
+use Rattle.vms_spec.specs.Layout.{no_desc, struct_cells}
+use Rattle.vms_spec.specs.Lists.{at, or_else, first_answer}
 use Rattle.vms_spec.specs.Rules.{uses_below}
-use Rattle.vms_spec.specs.Sets.{Formula, Field, Desc, Sub, Device, Set}
+use Rattle.vms_spec.specs.Sets.{Desc, Sub, Device, Set}
 use Rattle.vms_spec.specs.Streams.{is_one_of}
 use Rattle.vms_spec.specs.WellFormed.{WellFormed, first_fault, here, struct_rules, device_rules, sub_rules}
 use Rattle.vms_laws.proofs.WellFormedLaws.{Clean, struct_clean, device_parts, sub_clean}
-use Rattle.vms_desc.specs.Formed.{is_well_formed}
 use Rattle.vms_desc.proofs.Bounds.{none_is}
-use Rattle.vms_check.specs.Comparing.{Compatible, Comparer, compare_desc, compare_device, compare_sub, compare_subs, comparing, failing_pair, first_mismatch, is_in, no_comparer}
+use Rattle.vms_check.specs.Comparing.{Compatible, Comparer, compare_device, compare_sub, compare_subs, failing_pair, is_in, no_comparer}
 use Rattle.vms_check.specs.Fitting.{DescsFit, DevicesFit, Fits, IsSubFor, SetsFit, fields_at}
 use Rattle.vms_check.specs.Laws.{AreRules}
-use Rattle.vms_check.specs.Pairs.{struct_mismatch, table}
+use Rattle.vms_check.specs.Pairs.{table}
 use Rattle.vms_check.specs.Wholes.{device_mismatch, lost_mismatch, machines_mismatch}
-use Rattle.vms_check.specs.declared.mismatch.Mismatch.{Mismatch}
 use Rattle.vms_check.proofs.DescsFit.{all_uses, descs_so, so_descs}
-use Rattle.vms_check.proofs.ListLaws.{or_else_none, both_none, passes, pass, every_at, at_every, answers_none, none_answers}
+use Rattle.vms_check.proofs.ListLaws.{at_get, or_else_none, both_none, passes, pass, every_at, at_every, answers_none, none_answers}
 use Rattle.vms_check.proofs.StructLaws.{AllBelow, structs_are}
 use Rattle.vms_check.proofs.WholeLaws.{whole_is}
 
 none_so : {X : Type 0} (o : Option X) → o ≡ None → is_none o ≡ true
 none_so o e = ap is_none e
-
-at_some : {X : Type 0} (xs : List X) (k : ℕ) (d : X) → k < length xs → at xs k ≡ Some (get_or xs k d)
-at_some [] k d lt = absurd (omega arith)
-at_some (x ∷ xs) zero d lt = refl
-at_some (x ∷ xs) (suc k) d lt = at_some xs k d (omega arith)
 
 clean_below : (k : ℕ) (d : Desc) (rules : List Bool) (v : ℕ) → Clean k d rules → AllBelow k (fields_at d v)
 clean_below k d rules v c = all_uses k v 0 d.fields (λ j f e. (c.fields j f e).1.1.1.1.0)
@@ -48,7 +40,7 @@ module _ (old new : Set) (well : WellFormed new) where
   compares same = (i j : ℕ) → uses_below count (Struct j) ≡ true → get_or structs j no_comparer i ≡ None → same i j ≡ true
 
   struct_below : (j v : ℕ) → j < count → AllBelow j (fields_at (get_or new.structs j no_desc) v)
-  struct_below j v lt = let d = get_or new.structs j no_desc in clean_below j d (struct_rules new.structs j d) v (struct_clean new well j d (at_some new.structs j no_desc lt))
+  struct_below j v lt = let d = get_or new.structs j no_desc in clean_below j d (struct_rules new.structs j d) v (struct_clean new well j d (at_get new.structs j no_desc lt))
 
   device_below : (k v : ℕ) (e : Device) → at new.devices k ≡ Some e → AllBelow count (fields_at e.desc v)
   device_below k v e there = clean_below count e.desc (device_rules new k e) v (device_parts new well k e there).0

@@ -1,5 +1,5 @@
 -- The structures of two sets: how one compares is known from those of smaller numbers, so the whole table says it too.
-use Rattle.std.proofs.Common.{◌≡◌, ℕ, zero, suc, ◌+◌, ◌<◌, ◌≤◌, List, [], ◌∷◌, ◌++◌, length, get_or, drop, map, Bool, true, false, Option, Some, None, refl, sym, ap, ◌∙◌, subst, arith}
+use Rattle.std.proofs.Common.{◌≡◌, ℕ, suc, ◌<◌, ◌≤◌, List, [], ◌∷◌, ◌++◌, length, get_or, true, Option, Some, None, refl, sym, ap, ◌∙◌, arith}
 use Rattle.std.proofs.lemmas.Bool.{ltb-true}
 use Rattle.vms_kinds.specs.declared.Item.{Item}
 use Rattle.vms_kinds.specs.declared.Item.TheVariants.{Num, Equal, Unused, Struct}
@@ -14,7 +14,7 @@ use Rattle.vms_parts.proofs.Tables.{first_at, first_long}
 use Rattle.vms_desc.specs.Formed.{is_well_formed}
 use Rattle.vms_desc.specs.Parts.{HasPart, desc_at}
 use Rattle.vms_desc.proofs.Clean.{reach, field_clean, struct_clean}
-use Rattle.vms_check.specs.Comparing.{Comparer, Entry, compare_desc, compare_fields, compare_validations, comparer_of, comparers, entry_of, failing_pair, no_comparer, pair_rules, pair_structs, position_from, present, present_from}
+use Rattle.vms_check.specs.Comparing.{Comparer, Entry, compare_desc, compare_fields, compare_validations, comparer_of, entry_of, failing_pair, no_comparer, pair_rules, pair_structs, position_from, present, present_from}
 use Rattle.vms_check.specs.Reducing.{presence}
 use Rattle.vms_check.specs.Pairs.{struct_mismatch, table}
 use Rattle.vms_check.specs.declared.mismatch.Mismatch.{Mismatch}

@@ -1,7 +1,6 @@
 -- Two whole sets: the devices that one of them doesn't have, and those that are found by their names.
-use Rattle.std.proofs.Common.{◌≡◌, ℕ, zero, suc, ◌+◌, ◌-◌, ◌<◌, ◌≤◌, List, [], ◌∷◌, length, get_or, drop, Bool, true, false, Option, Some, None, refl, sym, ap, ◌∙◌, subst, add-one, arith}
+use Rattle.std.proofs.Common.{◌≡◌, ℕ, suc, ◌-◌, ◌<◌, ◌≤◌, List, [], ◌∷◌, length, Bool, true, false, Option, Some, None, refl, sym, ap, ◌∙◌, arith}
 use Rattle.std.specs.Prelude.{not, if◌then◌else◌}
-use Rattle.std.proofs.lemmas.List.{drop_all, drop_more}
 use Rattle.vms_spec.specs.declared.Part.TheVariants as parts
 use Rattle.vms_spec.specs.declared.Place.{Place}
 use Rattle.vms_spec.specs.Judging.{find_device, find_sub, index}
@@ -14,6 +13,7 @@ use Rattle.vms_check.specs.Comparing.{compare_device, compare_sub, compare_subs,
 use Rattle.vms_check.specs.Wholes.{device_mismatch, is_missing, lost_mismatch, machines_mismatch}
 use Rattle.vms_check.specs.declared.mismatch.Mismatch.{Mismatch}
 use Rattle.vms_check.proofs.DescLaws.{both, first_is, later_is}
+use Rattle.vms_check.proofs.ListLaws.{at_get}
 
 -- ---- the whole
 
@@ -84,11 +84,6 @@ inside_by p i x xs k rest false e = let r = rest e in let le : suc i ≤ k = r.0
 found_inside : {X : Type 0} (p : X → Bool) (i : ℕ) (xs : List X) (k : ℕ) → position p i xs ≡ Some k → (i ≤ k) × (k - i < length xs)
 found_inside p i [] k e = absurd (cc)
 found_inside p i (x ∷ xs) k e = inside_by p i x xs k (λ h. found_inside p (suc i) xs k h) (p x) e
-
-at_get : {X : Type 0} (xs : List X) (k : ℕ) (d : X) → k < length xs → at xs k ≡ Some (get_or xs k d)
-at_get [] k d lt = absurd (omega arith)
-at_get (x ∷ xs) zero d lt = refl
-at_get (x ∷ xs) (suc k) d lt = at_get xs k d (omega arith)
 
 pub device_in : (devices : List Device) (name : List ℕ) (instance : ℕ) (o : Option ℕ) (k : ℕ) → o ≡ find_device 0 devices name instance → o ≡ Some k → k < length devices
 device_in devices name instance o k e some = let r = found_inside _ 0 devices k (sym e ∙ some) in omega (arith, r.1)

@@ -1,5 +1,5 @@
 -- Laws of the comparison, in the order in which they stand on public functions.
-use Rattle.std.specs.Prelude.{◌≡◌, ◌≤◌, ◌<◌, ℕ, None}
+use Rattle.std.specs.Prelude.{◌≡◌, ◌≤◌, ◌<◌, ℕ}
 use Rattle.vms_spec.specs.Sets.{Formula, Set}
 use Rattle.vms_spec.specs.Tests.{truth}
 use Rattle.vms_spec.specs.WellFormed.{WellFormed}

@@ -1,7 +1,7 @@
 -- What the comparison asks of a description on each side, where the fields of both are paired.
 use Rattle.std.specs.Prelude.{◌≡◌, ℕ, ◌+◌, ◌<◌, ◌≤◌, Bool, true, false, List, [], ◌∷◌, length, get_or, drop, Option, Some, None}
-use Rattle.vms_spec.specs.Layout.{no_desc, no_field, struct_cells}
-use Rattle.vms_spec.specs.Sets.{Formula, Field, Desc, Set}
+use Rattle.vms_spec.specs.Layout.{no_field, struct_cells}
+use Rattle.vms_spec.specs.Sets.{Formula, Set}
 use Rattle.vms_spec.specs.Lists.{or_else}
 use Rattle.vms_spec.specs.WellFormed.{in_field}
 use Rattle.vms_parts.specs.Views.{field_of}

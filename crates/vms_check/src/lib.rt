@@ -20,3 +20,6 @@ mod side;
 
 pub use mismatch::{Mismatch, Verdict};
 pub use sets::check;
+
+#[cfg(test)]
+mod tests;

@@ -1,16 +1,14 @@
-use Rattle.std.proofs.Common.{◌≡◌, ◌+◌, ◌*◌, ◌<◌, length, refl, sym, ap, ◌∙◌, arith, rules}
-use Rattle.vms_kinds.specs.declared.Item.{Item}
+use Rattle.std.proofs.Common.{◌+◌, ◌*◌, ◌<◌, refl, sym, ap, ◌∙◌, arith, rules}
 use Rattle.vms_spec.specs.declared.Part.TheVariants as parts
 use Rattle.vms_spec.specs.Layout.{struct_cells}
-use Rattle.vms_spec.specs.Sets.{Desc, Field}
 use Rattle.vms_parts.specs.Views.{field_of}
 use Rattle.vms_desc.specs.Described.{described}
 use Rattle.vms_desc.proofs.Clean.{reach}
-use Rattle.vms_check.specs.Pairs.{desc_mismatch, table_on, pair_mismatch, structs_on}
+use Rattle.vms_check.specs.Pairs.{desc_mismatch, table_on}
 use Rattle.vms_check.specs.Sides.{desc_on, own_side}
 use Rattle.vms_check.specs.declared.side.Side.{Side}
 use Rattle.vms_check.proofs.DescLaws.{first_is, later_is, desc_split}
-use Rattle.vms_check.proofs.FieldsLaws.{pair_passes, pair_stops, rule_fails, rules_pass, passes_whole}
+use Rattle.vms_check.proofs.FieldsLaws.{pair_passes, pair_stops, rule_fails, passes_whole}
 use Rattle.vms_check.proofs.StructLaws.{structs_are, uses_at}
 use Rattle.vms_check.proofs.descs.+walk.Goals as goal
 

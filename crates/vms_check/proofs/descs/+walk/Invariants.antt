@@ -1,4 +1,4 @@
-use Rattle.std.proofs.Common.{◌≡◌, ◌+◌, ◌*◌, ◌-◌, ◌≤◌, length, drop}
+use Rattle.std.proofs.Common.{◌≡◌, ◌+◌, ◌*◌, ◌-◌, length, drop}
 use Rattle.vms_desc.specs.Described.{described}
 use Rattle.vms_desc.proofs.Clean.{reach}
 use Rattle.vms_check.specs.Pairs.{fields_on, all_fields_on}

@@ -1,9 +1,8 @@
-use Rattle.std.proofs.Common.{◌∙◌, ◌≤◌, length, map, ap, refl, sym, arith}
+use Rattle.std.proofs.Common.{◌∙◌, length, ap, refl, arith}
 use Rattle.std.proofs.lemmas.List.{length-map}
 use Rattle.vms_parts.specs.Views.{field_of}
 use Rattle.vms_desc.specs.Described.{described}
 use Rattle.vms_desc.proofs.Clean.{few_fields}
-use Rattle.vms_check.specs.Sides.{desc_on}
 use Rattle.vms_check.proofs.PresentLaws.{skip_absent, first_found}
 use Rattle.vms_check.proofs.present.next_present.Goals as goal
 

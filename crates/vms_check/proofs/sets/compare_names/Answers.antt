@@ -1,5 +1,5 @@
 use Rattle.std.proofs.Common.{◌≡◌, List, map, ap, ◌∙◌}
-use Rattle.vms_spec.specs.Sets.{Device, Set}
+use Rattle.vms_spec.specs.Sets.{Set}
 use Rattle.vms_parts.specs.declared.types.Device.{Device as CodeDevice}
 use Rattle.vms_parts.specs.Views.{device_of}
 use Rattle.vms_desc.specs.Described.{described}

@@ -1,4 +1,4 @@
-use Rattle.std.proofs.Common.{◌≡◌, ◌<◌, ℕ, List, length, map, ap, sym, ◌∙◌, arith}
+use Rattle.std.proofs.Common.{◌≡◌, List, length, map, ap, ◌∙◌, arith}
 use Rattle.std.proofs.lemmas.List.{length-map}
 use Rattle.vms_spec.specs.declared.Part.TheVariants as parts
 use Rattle.vms_spec.specs.Judging.{find_sub}
@@ -8,7 +8,6 @@ use Rattle.vms_parts.specs.Views.{sub_of}
 use Rattle.vms_desc.specs.Described.{described, device_at}
 use Rattle.vms_desc.specs.Parts.{sub_at}
 use Rattle.vms_desc.proofs.Clean.{few_subs}
-use Rattle.vms_check.specs.Sides.{own_side}
 use Rattle.vms_check.specs.Wholes.{part_mismatch}
 use Rattle.vms_check.specs.declared.side.Side.{Side}
 use Rattle.vms_check.proofs.WholeLaws.{sub_in, sub_found}

@@ -1,4 +1,4 @@
-use Rattle.std.proofs.Common.{◌≡◌, sym, ◌∙◌}
+use Rattle.std.proofs.Common.{sym, ◌∙◌}
 use Rattle.vms_desc.specs.Described.{described}
 use Rattle.vms_check.proofs.DescLaws.{first_is, later_is}
 use Rattle.vms_check.proofs.WholeLaws.{whole_is}
