@@ -1,12 +1,12 @@
 -- Ports that are alike answer each call alike.
-use Rattle.std.proofs.Common.{◌≡◌, ℕ, ◌==◌, Bool, true, false, not, ◌&&◌, cond, Option, refl, sym, ap, subst}
+use Rattle.std.proofs.Common.{◌≡◌, ℕ, ◌==◌, Bool, true, false, not, ◌&&◌, cond, Option, Some, None, refl, sym, ap, subst, ◌∙◌}
 use Rattle.std.proofs.lemmas.Bool.{false≢true}
 use Rattle.std.specs.Prelude.{bit_and, nat_le}
-use Rattle.dev_serial.specs.Access.{is_empty, iir_of, read_of, id_read, lsr_of, thr_written, ier_written, fcr_written, receiver_cleared, transmitter_cleared, written, came_in, advanced}
+use Rattle.dev_serial.specs.Access.{is_empty, iir_of, read_of, id_read, lsr_of, thr_written, ier_written, switch_of, fcr_cleared, fcr_written, receiver_cleared, transmitter_cleared, written, came_in, advanced}
 use Rattle.dev_serial.specs.Bits.{has}
 use Rattle.dev_serial.specs.Line.{character_time}
 use Rattle.dev_serial.specs.Transmit.{run_until}
-use Rattle.dev_serial.specs.Laws.{AnswersAlike, ReadsAlike, WritesAlike, BytesInAlike, AdvancesAlike, LinesAlike}
+use Rattle.dev_serial.specs.Laws.{AlikeItself, AlikeBack, AlikeOn, AnswersAlike, ReadsAlike, WritesAlike, BytesInAlike, AdvancesAlike, LinesAlike}
 use Rattle.dev_serial.specs.Port.{Port, is_data_ready, has_come, interrupt, is_thr_empty, line_of}
 use Rattle.dev_serial.specs.Sound.{Alike}
 use Rattle.dev_serial.specs.declared.trigger.Trigger.{Trigger}
@@ -78,9 +78,16 @@ module _ (port : Port) (latch : Bool) (h : has port.ier 1 ≡ true → latch ≡
   cleared-alike false true fifos = record { same = refl; enabled = h }
   cleared-alike false false fifos = record { same = refl; enabled = h }
 
+  switched-alike : (value : ℕ) (before after : Option Trigger) → Alike (record (fcr_cleared before after value port) { fifos = after }) (record (fcr_cleared before after value other) { fifos = after })
+  unfolding fcr_cleared
+  switched-alike value None None = cleared-alike false false None
+  switched-alike value None (Some trigger) = cleared-alike true true (Some trigger)
+  switched-alike value (Some before) None = cleared-alike true true None
+  switched-alike value (Some before) (Some after) = cleared-alike (has value 2) (has value 1) (Some after)
+
   fcr-alike : (value : ℕ) → Alike (fcr_written value port) (fcr_written value other)
   unfolding fcr_written
-  fcr-alike value = cleared-alike _ _ _
+  fcr-alike value = switched-alike value port.fifos (switch_of value)
 
   write-alike : (offset value now : ℕ) → Alike (written offset value now port) (written offset value now other)
   unfolding written
@@ -123,3 +130,18 @@ advances_alike to port other a =
 pub lines_alike : LinesAlike
 lines_alike now port other a =
     subst (λ (p : Port). line_of now p ≡ line_of now port) (sym a.same) (same_line port other.thr_empty a.enabled now)
+
+-- to be alike is an equivalence
+pub alike_itself : AlikeItself
+alike_itself port = record { same = refl; enabled = λ e. refl }
+
+pub alike_back : AlikeBack
+alike_back port other a =
+    let enabled : has other.ier 1 ≡ true → port.thr_empty ≡ other.thr_empty = (λ e. sym (a.enabled (ap (λ (p : Port). has p.ier 1) (sym a.same) ∙ e))) in
+    record { same = ap (λ (p : Port). record p { thr_empty = port.thr_empty }) (sym a.same); enabled = enabled }
+
+pub alike_on : AlikeOn
+alike_on port other third a b = record {
+  same = b.same ∙ ap (λ (p : Port). record p { thr_empty = third.thr_empty }) a.same;
+  enabled = λ e. b.enabled (ap (λ (p : Port). has p.ier 1) a.same ∙ e) ∙ a.enabled e;
+}

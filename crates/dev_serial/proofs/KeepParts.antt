@@ -13,7 +13,9 @@ use Rattle.dev_serial.specs.Sound.{AreBytes, IsTimeout, IsReceiver, IsShift, IsT
 use Rattle.dev_serial.specs.Transmit.{queued, loaded}
 use Rattle.dev_serial.specs.declared.mode.Mode.{Mode}
 use Rattle.dev_serial.specs.declared.shift.Shift.{Shift}
-use Rattle.dev_serial.proofs.SavedParts.{not_empty}
+
+pub not_empty : (byte : ℕ) (bytes : List ℕ) → is_empty (byte ∷ bytes) ≡ false
+not_empty byte bytes = ne_eqb (length (byte ∷ bytes)) 0 (λ e. omega arith)
 
 pub AreBytes-push : (bytes : List ℕ) (byte : ℕ) → AreBytes bytes → byte < 256 → AreBytes (bytes ++ byte ∷ [])
 AreBytes-push [] byte h b = (b, tt)

@@ -3,7 +3,7 @@ use Rattle.std.proofs.Common.{◌≡◌, ℕ, ◌+◌, ◌<◌, ◌≤◌, ◌==
 use Rattle.std.proofs.lemmas.Bool.{false≢true, leb-true, ltb-true, and_parts, not-true}
 use Rattle.std.specs.Prelude.{nat_le, nat_lt, is_some}
 use Rattle.dev_serial.specs.Access.{is_empty}
-use Rattle.dev_serial.specs.Image.{never, moment_of, shift_of, fifos_of}
+use Rattle.dev_serial.specs.PortNumbers.{never, moment_of, shift_of, fifos_of}
 use Rattle.dev_serial.specs.Parts.{IsShort}
 use Rattle.dev_serial.specs.Rules.{same, longest_character, longest_timeout}
 use Rattle.dev_serial.specs.Sound.{AreBytes, IsShift, IsTimeout}
@@ -44,8 +44,8 @@ runs_at : (has_timeout off is_held : Bool) (byte : ℕ) (bytes : List ℕ) → (
 runs_at has_timeout true is_held byte bytes = refl
 runs_at has_timeout false is_held byte bytes = refl
 
-pub timeout : (has_timeout off is_held : Bool) (byte : ℕ) (bytes : List ℕ) (now t : ℕ) → cond (has_timeout && (not off && not (is_empty bytes))) (not (t == never) && nat_le t (now + longest_timeout)) (t == never) ≡ true → IsTimeout now (has_timeout && (not off && not (is_empty (cond off (cond is_held (byte ∷ []) []) bytes)))) (moment_of t)
-timeout has_timeout off is_held byte bytes now t h = rw (← runs_at has_timeout off is_held byte bytes) (ends _ now t h)
+pub timeout : (has_timeout off is_held unused : Bool) (byte : ℕ) (bytes : List ℕ) (now t : ℕ) → is_empty bytes ≡ unused → cond (has_timeout && (not off && not unused)) (not (t == never) && nat_le t (now + longest_timeout)) (t == never) ≡ true → IsTimeout now (has_timeout && (not off && not (is_empty (cond off (cond is_held (byte ∷ []) []) bytes)))) (moment_of t)
+timeout has_timeout off is_held unused byte bytes now t e h = rw (← runs_at has_timeout off is_held byte bytes, e) (ends _ now t h)
 
 module _ (now tsr due : ℕ) (empty : Bool) where
   pub shift : (idle : Bool) → (same idle (due == never) && cond idle (empty && (tsr == 0)) (nat_lt now due && nat_le due (now + longest_character))) ≡ true → tsr < 256 → IsShift now (shift_of tsr due)
@@ -65,6 +65,6 @@ module _ (now tsr due : ℕ) (empty : Bool) where
 same-true : (b : Bool) → same true b ≡ true → b ≡ true
 same-true b h = h
 
-pub waiting-empty : (off ready empty : Bool) (byte : ℕ) (first second : Bool) (rx tx : List ℕ) → cond off (first && second) (same ready (not (is_empty rx)) && same empty (is_empty tx)) ≡ true → empty ≡ true → is_empty (cond off (cond (not empty) (byte ∷ []) []) tx) ≡ true
-waiting-empty true ready empty byte first second rx tx h e = rw e
-waiting-empty false ready empty byte first second rx tx h e = let p : same empty (is_empty tx) ≡ true = (and_parts _ _ h).1 in same-true (is_empty tx) (rw e at p)
+pub waiting-empty : (off ready empty unused : Bool) (byte : ℕ) (first second some : Bool) (tx : List ℕ) → is_empty tx ≡ unused → cond off (first && second) (same ready some && same empty unused) ≡ true → empty ≡ true → is_empty (cond off (cond (not empty) (byte ∷ []) []) tx) ≡ true
+waiting-empty true ready empty unused byte first second some tx u h e = rw e refl
+waiting-empty false ready empty unused byte first second some tx u h e = u ∙ (let p : same empty unused ≡ true = (and_parts _ _ h).1 in same-true unused (rw e at p))

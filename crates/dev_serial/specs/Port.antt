@@ -1,5 +1,5 @@
 -- A serial port.
-use Rattle.std.specs.Prelude.{ℕ, ◌==◌, Bool, true, false, nat_le, ◌&&◌, not, if◌then◌else◌, List, [], length, Option, Some, None, is_some}
+use Rattle.std.specs.Prelude.{ℕ, ◌==◌, Bool, true, false, nat_le, ◌&&◌, not, if◌then◌else◌, List, [], ◌∷◌, length, Option, Some, None, is_some}
 use Rattle.dev_serial.specs.Bits.{has}
 use Rattle.dev_serial.specs.Fifo.{trigger_bytes}
 use Rattle.dev_serial.specs.Line.{character_time}
@@ -64,14 +64,26 @@ abbrev pub has_come : ℕ → Option ℕ → Bool
 has_come now None = false
 has_come now (Some moment) = nat_le moment now
 
--- the interrupt that is identified: the first in this order that is enabled and asked for
+-- an interrupt asks for service: its bit of ier is set, and what it tells has come. With none of these there
+-- is always the answer that none is pending
+abbrev pub asks : ℕ → Port → Interrupt → Bool
+asks now port LineStatus = has port.ier 2 && port.receiver.overrun
+asks now port ReceivedData = has port.ier 0 && is_data_ready port.fifos port.receiver.held
+asks now port CharacterTimeout = has port.ier 0 && (nat_le timeout_level port.level && has_come now port.receiver.timeout)
+asks now port ThrEmpty = has port.ier 1 && port.thr_empty
+asks now port NonePending = true
+
+-- the interrupts by their priority, the highest first
+abbrev pub priorities : List Interrupt
+priorities = LineStatus ∷ ReceivedData ∷ CharacterTimeout ∷ ThrEmpty ∷ []
+
+abbrev pub first_asking : ℕ → Port → List Interrupt → Interrupt
+first_asking now port [] = NonePending
+first_asking now port (interrupt ∷ later) = if asks now port interrupt then interrupt else first_asking now port later
+
+-- the interrupt that is identified: of those that ask the one of highest priority
 unfoldable pub interrupt : ℕ → Port → Interrupt
-interrupt now port =
-    if has port.ier 2 && port.receiver.overrun then LineStatus
-    else (if has port.ier 0 && is_data_ready port.fifos port.receiver.held then ReceivedData
-    else (if has port.ier 0 && (nat_le timeout_level port.level && has_come now port.receiver.timeout) then CharacterTimeout
-    else (if has port.ier 1 && port.thr_empty then ThrEmpty
-    else NonePending)))
+interrupt now port = first_asking now port priorities
 
 -- its number in the identification register
 abbrev pub id_number : Interrupt → ℕ

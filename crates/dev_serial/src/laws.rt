@@ -1,6 +1,15 @@
 // Laws of the definitions, each in a clause of a function that does nothing.
-ghost use Rattle.dev_serial.specs.Laws.{ReadsAlike, WritesAlike, BytesInAlike, AdvancesAlike, LinesAlike, PowerOnIsSound, ReadsKeepSound, WritesKeepSound, BytesInKeepSound, AdvancesKeepSound, SavedMayBeRestored, SavedIsRestored, RestoredIsSound};
+ghost use Rattle.dev_serial.specs.Laws.{AlikeItself, AlikeBack, AlikeOn, ReadsKeepLevel, WritesKeepLevel, BytesInKeepLevel, AdvancesKeepLevel, ListsComeBack, HoldsWhatItGives, SavedAreCells, SavedComesBack, SoundMeetsRules, RestoredIsSound, ReadsAlike, WritesAlike, BytesInAlike, AdvancesAlike, LinesAlike, PowerOnIsSound, ReadsKeepSound, WritesKeepSound, BytesInKeepSound, AdvancesKeepSound};
+ghost use Rattle.dev_serial.specs.RegisterLaws.{IdentifiesFirst, LineTellsAsking, SwitchClearsBoth, ResetsByBits, StaysOff, WritesSwitch};
 ghost use Rattle.dev_serial.specs.Sending.{SendsInOrder, ReplacesOne, LeavesForLine, AdvancesInParts, WaitsUntilDue, LoopsAtMoment};
+
+/// Each port is like itself, a port that is like another is so both ways, and what is like one of two
+/// ports that are alike is like the other.
+pub fn likeness_law()
+    ensures itself { AlikeItself }
+    ensures back { AlikeBack }
+    ensures on { AlikeOn }
+{}
 
 /// Ports that are alike answer each call alike, and are alike after it: reads, writes, bytes that come
 /// in, the passing of time, and the interrupt line.
@@ -21,6 +30,40 @@ pub fn sound_law()
     ensures advances { AdvancesKeepSound }
 {}
 
+/// Each call keeps the level.
+pub fn level_law()
+    ensures reads { ReadsKeepLevel }
+    ensures writes { WritesKeepLevel }
+    ensures bytes_in { BytesInKeepLevel }
+    ensures advances { AdvancesKeepLevel }
+{}
+
+/// The ring of a list of at most sixteen bytes gives the list again, and is a ring; so does its counted
+/// array. The elements that a ring holds are those of which it gives the bytes.
+pub fn ring_law()
+    ensures back { ListsComeBack }
+    ensures held { HoldsWhatItGives }
+{}
+
+/// What is saved of a sound port under a set from its level on are cells of that set: each of its kind,
+/// the counted arrays as their counts say, and the cells of a subsection that isn't needed at its
+/// defaults. Carried to the newest set they may be restored, and give a port like the saved one.
+pub fn saved_law()
+    ensures cells { SavedAreCells }
+    ensures comes_back { SavedComesBack }
+{}
+
+/// What is restored is sound, and has the level of the pass.
+pub fn restored_law()
+    ensures { RestoredIsSound }
+{}
+
+/// A port that a stream can tell is sound exactly where every rule holds of what the newest set saves of
+/// it.
+pub fn rules_law()
+    ensures { SoundMeetsRules }
+{}
+
 /// Bytes leave in the order in which they were written, none twice, and none is lost but those written
 /// to full FIFOs or replaced without FIFOs. What leaves goes to the line but in loop mode.
 pub fn sending_law()
@@ -37,10 +80,19 @@ pub fn time_law()
     ensures loops { LoopsAtMoment }
 {}
 
-/// What is saved of a sound port under any set from its level on may be restored, whichever subsections
-/// weren't needed, and is restored as a port like it. What is restored is sound.
-pub fn saved_law()
-    ensures may_be_restored { SavedMayBeRestored }
-    ensures is_restored { SavedIsRestored }
-    ensures is_sound { RestoredIsSound }
+/// The interrupt that is identified asks for service and none of higher priority does, and the line is
+/// high exactly where one asks.
+pub fn interrupt_law()
+    ensures first { IdentifiesFirst }
+    ensures line { LineTellsAsking }
+{}
+
+/// Writes of the FIFO Control Register: switching the FIFOs on or off clears both lists; while they stay
+/// on bit 1 clears the receive list and bit 2 the transmit list; while they stay off nothing changes. The
+/// latch is set where bytes that waited are cleared, and the shift register goes on.
+pub fn fifo_control_law()
+    ensures switched { SwitchClearsBoth }
+    ensures reset { ResetsByBits }
+    ensures stays_off { StaysOff }
+    ensures written { WritesSwitch }
 {}

@@ -3,10 +3,11 @@ ghost use Rattle.std.specs.Prelude.{◌≡◌, ◌≤◌, ◌+◌, ◌++◌, len
 ghost use Rattle.dev_serial.specs.Transmit.{gone, staying, holding, on_line, looped_in, departures, IsSentAfter};
 ghost use Rattle.dev_serial.specs.Parts.{IsShort};
 
-use crate::mode::{LAST_MOMENT, LONGEST_CHARACTER, Mode};
+use crate::mode::{LONGEST_CHARACTER, Mode};
 use crate::receiver::Receiver;
 use crate::shift::Shift;
 use arrayvec::ArrayVec;
+use dev_base::LAST_MOMENT;
 use std::marker::Model;
 
 /// The Transmitter Holding Register or, with FIFOs, the transmit FIFO, and the shift register behind

@@ -3,7 +3,7 @@ use Rattle.std.specs.Prelude.{◌≡◌, ℕ, ◌≤◌, List, [], ◌++◌, len
 use Rattle.vms_spec.specs.Numbers.{IsBytes}
 use Rattle.vms_spec.specs.Sets.{Set}
 use Rattle.vms_spec.specs.Images.{Image}
-use Rattle.vms_spec.specs.Shipped.{set_0, set_1, set_2, set_3}
+use Rattle.vms_spec.specs.Shipped.{set_0, set_1, set_2, set_3, set_4}
 use Rattle.vms_spec.specs.Streams.{IsConfiguration, IsTrailer, Takes, optional, configuration, trailer, written}
 use Rattle.vms_spec.specs.declared.Reason.{Reason}
 use Rattle.vms_spec.specs.Readings.{Accepted, Refused}
@@ -57,7 +57,7 @@ GoodOneFaultLaw = (set : Set) (names : List (List ℕ)) → IsGood set → (inpu
 
 -- each shipped set is good
 abbrev pub GoodShippedLaw : Type 0
-GoodShippedLaw = IsGood set_0 × IsGood set_1 × IsGood set_2 × IsGood set_3
+GoodShippedLaw = IsGood set_0 × IsGood set_1 × IsGood set_2 × IsGood set_3 × IsGood set_4
 
 -- An input that begins with what the writer gives takes that, where the machine is accepted and the text fits.
 abbrev pub GoodWrittenLaw : Type 0

@@ -1,13 +1,13 @@
 -- The laws of streams for every well-formed set, by those for good sets.
 use Rattle.std.proofs.Common.{◌≡◌, ◌≤◌, List, ℕ, length, Option, Some, None, IfSome, refl, ◌++◌, []}
 use Rattle.vms_spec.specs.Sets.{Set}
-use Rattle.vms_spec.specs.Shipped.{set_0, set_1, set_2, set_3}
+use Rattle.vms_spec.specs.Shipped.{set_0, set_1, set_2, set_3, set_4}
 use Rattle.vms_spec.specs.Streams.{IsConfiguration, IsTrailer, optional, configuration, trailer, longest_text}
 use Rattle.vms_spec.specs.WellFormed.{WellFormed}
 use Rattle.vms_laws.specs.Good.{IsGood, FitsHeads}
 use Rattle.vms_laws.specs.Laws.{IsFit, ShippedLaw, IsAccepted, WrittenLaw}
 use Rattle.vms_laws.proofs.Stated.{shipped_holds, written_holds}
-use Rattle.vms_laws.proofs.Witness.{well_0, well_1, well_2, well_3}
+use Rattle.vms_laws.proofs.Witness.{well_0, well_1, well_2, well_3, well_4}
 use Rattle.vms_laws.proofs.WrittenLaws.{written_is_stream}
 use Rattle.vms_laws.specs.Laws.{FoundLaw, OnlyLaw, OneStreamLaw, RefusedLaw, FaultLaw, EitherLaw, NeverBothLaw, OneFaultLaw}
 use Rattle.vms_laws.proofs.Stated.{good_holds, found_holds, only_holds, one_stream_holds, refused_holds, fault_holds, either_holds, never_both_holds, one_fault_holds}
@@ -45,6 +45,7 @@ shipped_stands = (
   record { well = well_1; heads = fits set_1 shipped_holds.1 },
   record { well = well_2; heads = fits set_2 shipped_holds.2 },
   record { well = well_3; heads = fits set_3 shipped_holds.3 },
+  record { well = well_4; heads = fits set_4 shipped_holds.4 },
 )
 
 configured : (names : List (List ℕ)) (machine : Option (List ℕ)) → IfSome machine (IsAccepted names) → IsConfiguration names machine (optional configuration machine)

@@ -15,7 +15,7 @@ use Rattle.vms_spec.specs.Judging.{State, judge, reading}
 use Rattle.vms_spec.specs.Places.{cell_at, cell_count}
 use Rattle.vms_spec.specs.Readiness.{is_ready}
 use Rattle.vms_spec.specs.WellFormed.{WellFormed}
-use Rattle.vms_spec.specs.Shipped.{set_0, set_1, set_2, set_3}
+use Rattle.vms_spec.specs.Shipped.{set_0, set_1, set_2, set_3, set_4}
 use Rattle.vms_laws.specs.Good.{FitsHeads, IsGood}
 use Rattle.vms_laws.specs.Units.{IsLocal}
 
@@ -30,7 +30,7 @@ pub record IsFit (set : Set) : Type 0 where
 
 -- each shipped set is so
 abbrev pub ShippedLaw : Type 0
-ShippedLaw = IsFit set_0 × IsFit set_1 × IsFit set_2 × IsFit set_3
+ShippedLaw = IsFit set_0 × IsFit set_1 × IsFit set_2 × IsFit set_3 × IsFit set_4
 
 -- the cell of a path is one of the device's
 abbrev pub CellLaw : Type 0

@@ -12,7 +12,7 @@ use Rattle.vms_spec.specs.Layout.{first}
 use Rattle.vms_spec.specs.WellFormed.{here, in_field}
 use Rattle.vms_spec.specs.Comparing.{Mismatch, comparers, first_mismatch}
 use Rattle.vms_spec.specs.Carrying.{carriers, carried}
-use Rattle.vms_spec.specs.Shipped.{set_0, set_1, set_2, set_3}
+use Rattle.vms_spec.specs.Shipped.{set_0, set_1, set_2, set_3, set_4}
 use Rattle.vms_spec.proofs.Boxes.{number, box, box_set, sub_of, counted_set, constant_set, subsection_set, tested_set, mixed_set, empty_set}
 
 unfoldable compared : Set → Set → Option Mismatch
@@ -46,6 +46,18 @@ accepts_set_1_for_set_3 = refl
 accepts_set_2_for_set_3 : compared set_2 set_3 ≡ None
 unfolding compared comparers first
 accepts_set_2_for_set_3 = refl
+
+accepts_set_1_for_set_4 : compared set_1 set_4 ≡ None
+unfolding compared comparers first
+accepts_set_1_for_set_4 = refl
+
+accepts_set_2_for_set_4 : compared set_2 set_4 ≡ None
+unfolding compared comparers first
+accepts_set_2_for_set_4 = refl
+
+accepts_set_3_for_set_4 : compared set_3 set_4 ≡ None
+unfolding compared comparers first
+accepts_set_3_for_set_4 = refl
 
 refuses_a_newer_machine : compared set_3 set_1 ≡ mismatch 1 (here parts.Set) (here parts.Set)
 unfolding compared

@@ -5,11 +5,6 @@ use Rattle.vms_parts.specs.Views.{form_of}
 use Rattle.vms_desc.specs.Described.{described, device_at}
 use Rattle.vms_write.specs.declared.readiness.Judged.{Judged}
 
--- there is a form for each number, and there are few
-pub record IsJudged (judged : Judged) : Type 0 where
-  pub forms : length judged.forms.now ≡ length judged.image.now.numbers
-  pub few : length judged.image.now.numbers ≤ 16384
-
 -- the image is one of device i, and the forms are those of its cells
 pub record IsOfDevice (judged : Judged) (i : ℕ) : Type 0 where
   pub is_device : i < length (described judged.set.now).devices

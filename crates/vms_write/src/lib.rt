@@ -2,12 +2,12 @@
 #![tactic(auto)]
 
 mod body;
+mod fine;
 mod heads;
 mod pieces;
 mod readiness;
 mod section;
 mod stream;
-mod walk;
 
 pub use readiness::{are_ready, ready};
 pub use section::write_section;

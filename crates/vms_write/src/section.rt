@@ -9,12 +9,13 @@ ghost use Rattle.vms_desc.specs.Described.{described, device_at};
 ghost use Rattle.vms_write.specs.Writing.{written_sub};
 
 use crate::WriteFault;
+use crate::body::write_fields;
 use crate::heads::{marked, section_head, sub_head};
 use crate::pieces::append;
-use crate::walk::{Spot, write_fields};
 use vms_desc::{DescSet, Part};
 use vms_image::Image;
 use vms_io::Sink;
+use vms_walk::Spot;
 
 /// Appends the section of a device that is ready, with the device's number as its id. After a fault a
 /// prefix of it was appended.

@@ -7,9 +7,9 @@ use Rattle.vms_spec.specs.Sets.{Device}
 use Rattle.vms_spec.specs.Streams.{section_head, written_subs, foot}
 use Rattle.vms_desc.specs.Described.{described, device_at}
 use Rattle.vms_desc.proofs.AskLaws.{own_inside_device}
-use Rattle.vms_write.specs.Walks.{CanWrite}
+use Rattle.vms_write.specs.Bytes.{CanWrite}
 use Rattle.vms_write.proofs.Formed.{device_short}
-use Rattle.vms_write.proofs.Growing.{prefix_front, prefix_more, on_fault, last_fails}
+use Rattle.vms_walk.proofs.Growing.{prefix_front, prefix_more, on_fault, last_fails}
 use Rattle.vms_write.proofs.ReadyImages.{ready_writable}
 use Rattle.vms_write.proofs.section.write_section.Goals as goal
 

@@ -3,7 +3,7 @@ use Rattle.vms_spec.specs.Streams.{written_section, written_sections}
 use Rattle.vms_spec.specs.Readiness.{is_ready}
 use Rattle.vms_desc.specs.Described.{described, device_at}
 use Rattle.vms_write.specs.Writing.{no_image}
-use Rattle.vms_write.proofs.Growing.{leaves_rest, leaves_prefix, on_fault}
+use Rattle.vms_walk.proofs.Growing.{leaves_rest, leaves_prefix, on_fault}
 use Rattle.vms_write.proofs.Sections.{sections_at, get_inside}
 use Rattle.vms_write.proofs.stream.write_sections.Goals as goal
 

@@ -4,7 +4,7 @@ use Rattle.std.proofs.KnownBytes.{Appends-trans}
 use Rattle.vms_spec.specs.Lists.{at_option}
 use Rattle.vms_spec.specs.Streams.{written_sections, stream_head, optional, configuration, trailer, end_mark}
 use Rattle.vms_desc.specs.Described.{described}
-use Rattle.vms_write.proofs.Growing.{prefix_front, prefix_more, on_fault, last_fails}
+use Rattle.vms_walk.proofs.Growing.{prefix_front, prefix_more, on_fault, last_fails}
 use Rattle.vms_write.proofs.stream.write_stream.Goals as goal
 
 pub returns-in_err-append-clause-err : goal.returns-in_err-append-clause-err

@@ -1,0 +1,5 @@
+pub mod Cells
+pub mod Hooks
+pub mod Levels
+pub mod Rules
+pub mod Tables

@@ -1,0 +1,198 @@
+-- Which sets are compatible, and what is carried over.
+use Rattle.std.proofs.Common.{◌≡◌, ℕ, List, [], ◌∷◌, Option, Some, None, pos, refl, codes}
+use Rattle.vms_kinds.specs.declared.Kind.TheVariants.{U8, U16, I8}
+use Rattle.vms_kinds.specs.declared.Item.TheVariants.{Equal, Unused, Struct}
+use Rattle.vms_spec.specs.declared.Part.TheVariants as parts
+use Rattle.vms_spec.specs.declared.Place.{Place}
+use Rattle.vms_spec.specs.declared.Count.TheVariants.{Fixed, Counted}
+use Rattle.vms_spec.specs.declared.Rel.TheVariants.{Eq, Lt}
+use Rattle.vms_spec.specs.declared.Whose.TheVariants.{Own}
+use Rattle.vms_spec.specs.Sets.{Set, Desc, Field, Sub, Formula, AtLeast, Below, Cell, And}
+use Rattle.vms_spec.specs.Layout.{first}
+use Rattle.vms_spec.specs.WellFormed.{here, in_field}
+use Rattle.vms_check.specs.declared.mismatch.Mismatch.{Mismatch}
+use Rattle.vms_check.specs.Comparing.{first_mismatch}
+use Rattle.vms_check.specs.Carrying.{carried}
+use Rattle.vms_spec.specs.Shipped.{set_0, set_1, set_2, set_3}
+use Rattle.vms_spec.proofs.Boxes.{number, box, box_set, sub_of, counted_set, constant_set, subsection_set, tested_set, mixed_set, empty_set}
+
+unfoldable compared : Set → Set → Option Mismatch
+unfolding first_mismatch
+compared old new = first_mismatch old new
+
+abbrev mismatch : ℕ → Place → Place → Option Mismatch
+mismatch rule a b = Some (record { rule = rule; in_old = a; in_new = b })
+
+-- a box of a version, with the minimum 1
+abbrev box_at : ℕ → List Field → List Formula → List Sub → Set
+box_at version fields validate subs = record { machines = codes "lab" ∷ []; structs = []; devices = box version fields validate subs ∷ [] }
+
+abbrev n : Field
+n = number U8 (codes "n")
+
+-- v counted by n
+abbrev v_of : ℕ → Field
+v_of most = record (number U16 (codes "v")) { count = Counted 0 most }
+
+-- ---- the shipped sets
+
+accepts_set_1_for_set_2 : compared set_1 set_2 ≡ None
+unfolding compared first
+accepts_set_1_for_set_2 = refl
+
+accepts_set_1_for_set_3 : compared set_1 set_3 ≡ None
+unfolding compared first
+accepts_set_1_for_set_3 = refl
+
+accepts_set_2_for_set_3 : compared set_2 set_3 ≡ None
+unfolding compared first
+accepts_set_2_for_set_3 = refl
+
+refuses_a_newer_machine : compared set_3 set_1 ≡ mismatch 1 (here parts.Set) (here parts.Set)
+unfolding compared
+refuses_a_newer_machine = refl
+
+refuses_a_device_that_new_has_not : compared (record set_0 { machines = [] }) empty_set ≡ mismatch 2 (here (parts.Device 0)) (here parts.Set)
+unfolding compared
+refuses_a_device_that_new_has_not = refl
+
+refuses_a_device_that_old_has_not : compared empty_set (record set_0 { machines = [] }) ≡ mismatch 3 (here parts.Set) (here (parts.Device 0))
+unfolding compared
+refuses_a_device_that_old_has_not = refl
+
+-- ---- versions, fields, counts, kinds, tests, names
+
+refuses_a_newer_version : compared (box_at 3 (n ∷ []) [] []) (box_at 2 (n ∷ []) [] []) ≡ mismatch 4 (here (parts.Device 0)) (here (parts.Device 0))
+unfolding compared first
+refuses_a_newer_version = refl
+
+refuses_a_field_that_new_has_not : compared (box_set (n ∷ number U8 (codes "m") ∷ []) [] []) (box_set (n ∷ []) [] []) ≡ mismatch 5 (in_field (parts.Device 0) 1) (here (parts.Device 0))
+unfolding compared first
+refuses_a_field_that_new_has_not = refl
+
+refuses_a_field_that_old_has_not : compared (box_set (n ∷ []) [] []) (box_set (n ∷ number U8 (codes "m") ∷ []) [] []) ≡ mismatch 6 (here (parts.Device 0)) (in_field (parts.Device 0) 1)
+unfolding compared first
+refuses_a_field_that_old_has_not = refl
+
+refuses_one_for_an_array_of_one : compared (box_set (n ∷ []) [] []) (box_set (record n { count = Fixed 1 } ∷ []) [] []) ≡ mismatch 7 (in_field (parts.Device 0) 0) (in_field (parts.Device 0) 0)
+unfolding compared first
+refuses_one_for_an_array_of_one = refl
+
+refuses_another_kind : compared (box_set (n ∷ []) [] []) (box_set (number I8 (codes "n") ∷ []) [] []) ≡ mismatch 8 (in_field (parts.Device 0) 0) (in_field (parts.Device 0) 0)
+unfolding compared first
+refuses_another_kind = refl
+
+refuses_a_test_that_is_left_out : compared tested_set
+    (box_set (number U8 (codes "f") ∷ number U8 (codes "g") ∷ []) (Cell Own 0 255 Lt 10 ∷ []) []) ≡ mismatch 9 (in_field (parts.Device 0) 1) (in_field (parts.Device 0) 1)
+unfolding compared first
+refuses_a_test_that_is_left_out = refl
+
+-- a version atom that holds is folded away
+accepts_a_test_that_holds_at_the_version : compared tested_set
+    (box_at 2 (number U8 (codes "f") ∷ record (number U8 (codes "g")) { test = Some (And (Below 2) (Cell Own 0 255 Eq 1)) } ∷ []) (Cell Own 0 255 Lt 10 ∷ []) []) ≡ None
+unfolding compared first
+accepts_a_test_that_holds_at_the_version = refl
+
+refuses_another_name : compared (box_set (n ∷ []) [] []) (box_set (number U8 (codes "m") ∷ []) [] []) ≡ mismatch 10 (in_field (parts.Device 0) 0) (in_field (parts.Device 0) 0)
+unfolding compared first
+refuses_another_name = refl
+
+refuses_a_smaller_capacity : compared (box_set (n ∷ v_of 4 ∷ []) [] []) counted_set ≡ mismatch 11 (in_field (parts.Device 0) 1) (in_field (parts.Device 0) 1)
+unfolding compared first
+refuses_a_smaller_capacity = refl
+
+refuses_an_absent_array_that_is_too_small : compared (box_set (n ∷ []) [] []) (box_at 2 (n ∷ record (v_of 2) { since = 2 } ∷ []) [] []) ≡ mismatch 11 (in_field (parts.Device 0) 0) (in_field (parts.Device 0) 0)
+unfolding compared first
+refuses_an_absent_array_that_is_too_small = refl
+
+accepts_an_absent_array_that_is_large_enough : compared (box_set (n ∷ []) [] []) (box_at 2 (n ∷ record (v_of 255) { since = 2 } ∷ []) [] []) ≡ None
+unfolding compared first
+accepts_an_absent_array_that_is_large_enough = refl
+
+refuses_a_byte_for_a_bool : compared constant_set
+    (box_set (number U8 (codes "flag") ∷ []) [] []) ≡ mismatch 8 (in_field (parts.Device 0) 0) (in_field (parts.Device 0) 0)
+unfolding compared first
+refuses_a_byte_for_a_bool = refl
+
+abbrev constant : ℕ → Set
+constant z = box_set (record n { item = Equal U8 (pos z) } ∷ []) [] []
+
+refuses_a_constant_of_another_number : compared (constant 1) (constant 2) ≡ mismatch 12 (in_field (parts.Device 0) 0) (in_field (parts.Device 0) 0)
+unfolding compared first
+refuses_a_constant_of_another_number = refl
+
+-- ---- subsections and validations
+
+refuses_a_subsection_that_new_has_not : compared subsection_set (box_set (number U8 (codes "a") ∷ []) [] (sub_of (codes "box/p") (codes "x") 5 ∷ [])) ≡ mismatch 13 (here (parts.Sub 0 1)) (here (parts.Device 0))
+unfolding compared first
+refuses_a_subsection_that_new_has_not = refl
+
+abbrev old_sub : Sub
+old_sub = sub_of (codes "box/p") (codes "x") 5
+
+abbrev raised : Desc → Desc
+raised d = record d { version = 3; minimum = 2 }
+
+refuses_a_subsection_that_is_too_old : compared (box_set [] [] (old_sub ∷ [])) (box_set [] [] (record old_sub { desc = raised old_sub.desc } ∷ [])) ≡ mismatch 14 (here (parts.Sub 0 0)) (here (parts.Sub 0 0))
+unfolding compared first
+refuses_a_subsection_that_is_too_old = refl
+
+refuses_a_new_validation : compared (box_set (n ∷ []) [] []) (box_set (n ∷ []) (Cell Own 0 255 Lt 10 ∷ []) []) ≡ mismatch 15 (here (parts.Device 0)) (here (parts.Device 0))
+unfolding compared first
+refuses_a_new_validation = refl
+
+accepts_a_new_validation_that_is_true : compared (box_set (n ∷ []) [] []) (box_set (n ∷ []) (AtLeast 1 ∷ []) []) ≡ None
+unfolding compared first
+accepts_a_new_validation_that_is_true = refl
+
+-- ---- structures
+
+abbrev point : ℕ → List Field → Desc
+point version fields = record { name = codes "pt"; version = version; minimum = 1; fields = fields; validate = [] }
+
+abbrev x : Field
+x = number U8 (codes "x")
+
+abbrev y : Field
+y = record (number U8 (codes "y")) { since = 2 }
+
+abbrev with_point : Desc → Set
+with_point d = record (box_set (record (number U8 (codes "p")) { item = Struct 0 } ∷ []) [] []) { structs = d ∷ [] }
+
+-- each side at its structure's own version
+refuses_a_structure_that_gained_a_field : compared (with_point (point 1 (x ∷ []))) (with_point (point 2 (x ∷ y ∷ []))) ≡ mismatch 6 (here (parts.Struct 0)) (in_field (parts.Struct 0) 1)
+unfolding compared first
+refuses_a_structure_that_gained_a_field = refl
+
+accepts_a_set_for_itself : compared mixed_set mixed_set ≡ None
+unfolding compared first
+accepts_a_set_for_itself = refl
+
+-- ---- carried numbers
+
+abbrev two_numbers : Set
+two_numbers = box_set (number U8 (codes "a") ∷ number U8 (codes "b") ∷ []) [] []
+
+-- a renamed, b covered by unused bytes, d new, and a new subsection
+abbrev newer : Set
+newer = box_at 2 (record (number U8 (codes "c")) { former = codes "a" ∷ [] } ∷ record (number U8 (codes "gap")) { item = Unused 1 }
+    ∷ record (number U16 (codes "d")) { since = 2; default = pos 300 } ∷ []) [] (old_sub ∷ [])
+
+accepts_a_newer_box : compared two_numbers newer ≡ None
+unfolding compared first
+accepts_a_newer_box = refl
+
+carries_shared_numbers : carried two_numbers newer (record { version = 1; came = []; numbers = pos 1 ∷ pos 2 ∷ [] } ∷ [])
+    ≡ record { version = 1; came = None ∷ []; numbers = pos 1 ∷ pos 300 ∷ pos 5 ∷ [] } ∷ []
+unfolding carried first
+carries_shared_numbers = refl
+
+carries_into_a_larger_array : carried counted_set (box_set (n ∷ v_of 4 ∷ []) [] []) (record { version = 1; came = []; numbers = pos 1 ∷ pos 7 ∷ pos 0 ∷ [] } ∷ [])
+    ≡ record { version = 1; came = []; numbers = pos 1 ∷ pos 7 ∷ pos 0 ∷ pos 0 ∷ pos 0 ∷ [] } ∷ []
+unfolding carried first
+carries_into_a_larger_array = refl
+
+carries_subsections : carried subsection_set subsection_set (record { version = 1; came = None ∷ Some 1 ∷ []; numbers = pos 9 ∷ pos 5 ∷ pos 7 ∷ [] } ∷ [])
+    ≡ record { version = 1; came = None ∷ Some 1 ∷ []; numbers = pos 9 ∷ pos 5 ∷ pos 7 ∷ [] } ∷ []
+unfolding carried first
+carries_subsections = refl

@@ -1,0 +1,116 @@
+-- What a newer set makes of the images of an older one: present fields are paired by position. A cell of the newer set holds the
+-- older number where its field is paired with one of the same kind and the older cell stands in the bytes; any other cell holds
+-- its default. Versions and the subsections that came are the older ones.
+use Rattle.std.specs.Prelude.{ℕ, zero, suc, ◌+◌, if◌then◌else◌, List, [], ◌∷◌, ◌++◌, length, get_or, map, Option, Some, None, ℤ, pos}
+use Rattle.std.specs.List.{flat_map}
+use Rattle.vms_kinds.specs.declared.Item.{Item}
+use Rattle.vms_kinds.specs.declared.Item.TheVariants.{Num, Struct}
+use Rattle.vms_spec.specs.Lists.{at}
+use Rattle.vms_spec.specs.Sets.{Formula, Field, Desc, Sub, Device, Set}
+use Rattle.vms_spec.specs.Tests.{is_there}
+use Rattle.vms_spec.specs.Layout.{Cell, first, no_desc, no_parent, item_cells, item_size, field_cells, desc_cells, capacity_of, elements_of, numbers_of, struct_cells}
+use Rattle.vms_spec.specs.Images.{Image, own_cells, sub_place}
+use Rattle.vms_spec.specs.Judging.{find_device, find_sub, index}
+use Rattle.vms_check.specs.Reducing.{presence}
+use Rattle.vms_check.specs.Comparing.{Entry, present, same_kind}
+
+abbrev pub defaults : List Cell → List ℤ
+defaults cells = map (λ c. c.default) cells
+
+-- a structure of new: its numbers, from old's structure of a number, old's numbers and the place of the first cell there
+abbrev pub Carrier : Type 0
+Carrier = ℕ → List ℤ → ℕ → List ℤ
+
+abbrev pub no_carrier : Carrier
+no_carrier i numbers at = []
+
+-- with the carriers of the structures, their cells on each side, and old's numbers at hand
+module _ (structs : List Carrier) (x y : List (List Cell)) (numbers : List ℤ) where
+  abbrev pub carry_item : Item → Item → List ℤ → ℕ → List ℤ
+  carry_item (Num k) (Num l) fallback at = if same_kind k l then get_or numbers at (pos 0) ∷ [] else fallback
+  carry_item (Struct i) (Struct j) fallback at = get_or structs j no_carrier i numbers at
+  carry_item _ _ fallback at = fallback
+
+  -- from n elements of old, each `step` cells after the one before, to m of new
+  abbrev pub carry_items : Item → Item → List ℤ → ℕ → ℕ → ℕ → ℕ → List ℤ
+  carry_items a b fallback step n zero at = []
+  carry_items a b fallback step zero (suc m) at = fallback ++ carry_items a b fallback step zero m at
+  carry_items a b fallback step (suc n) (suc m) at = carry_item a b fallback at ++ carry_items a b fallback step n m (at + step)
+
+  -- a field of new that is paired; `own` gives the numbers of old's fields
+  abbrev pub carry_field : (ℕ → ℕ) → ℕ → ℕ → Entry → Field → List ℤ
+  carry_field own v at e f =
+      carry_items e.field.item f.item (defaults (item_cells y f.item [] f.default)) (item_size x e.field.item)
+      (if is_there e.field.test e.field.since v own no_parent then elements_of e.field.count own else 0) (capacity_of f.count) (at + e.place)
+
+  abbrev pub default_field : List Field → ℕ → Field → List ℤ
+  default_field all i f = defaults (field_cells y all i f)
+
+  -- field i of new, by whether it is present, and old's present fields that are left
+  abbrev pub carry_next : (ℕ → ℕ) → (v at : ℕ) → List Field → ℕ → Field → Option (Option Formula) → List Entry → List ℤ
+  carry_next own v at all i f None es = default_field all i f
+  carry_next own v at all i f (Some rest) [] = default_field all i f
+  carry_next own v at all i f (Some rest) (e ∷ es) = carry_field own v at e f
+
+  abbrev pub entries_left : Option (Option Formula) → List Entry → List Entry
+  entries_left None es = es
+  entries_left (Some rest) [] = []
+  entries_left (Some rest) (e ∷ es) = es
+
+  -- new's fields from i on, at the version w
+  abbrev pub carry_from : (ℕ → ℕ) → (v w at : ℕ) → List Field → ℕ → List Field → List Entry → List ℤ
+  carry_from own v w at all i [] es = []
+  carry_from own v w at all i (f ∷ fs) es =
+      carry_next own v at all i f (presence w f.test f.since) es
+      ++ carry_from own v w at all (suc i) fs (entries_left (presence w f.test f.since) es)
+
+  abbrev pub carry_desc : (v w : ℕ) → (a b : Desc) → ℕ → List ℤ
+  carry_desc v w a b at = carry_from (numbers_of x a numbers at) v w at b.fields 0 b.fields (present x a v)
+
+abbrev pub carrier_of : List Carrier → (x y : List (List Cell)) → List Desc → Desc → Carrier
+carrier_of structs x y olds d i numbers at =
+    carry_desc structs x y numbers (get_or olds i no_desc).version d.version (get_or olds i no_desc) d at
+
+-- the first k structures of new, each by the earlier ones
+abbrev pub carriers : (x y : List (List Cell)) → (olds news : List Desc) → ℕ → List Carrier
+carriers x y olds news k = first (λ earlier d. carrier_of earlier x y olds d) news k
+
+-- ---- images
+
+module _ (old new : Set) where
+  -- b's numbers from a's, which begin at a place, both at one version
+  abbrev pub carrying : List ℤ → ℕ → (a b : Desc) → ℕ → List ℤ
+  carrying numbers v a b at =
+      carry_desc (carriers (struct_cells old) (struct_cells new) old.structs new.structs (length new.structs)) (struct_cells old) (struct_cells new) numbers v v a b at
+
+  -- a subsection of new, from old's of this name where it came
+  abbrev pub carry_sub : Device → Image → Sub → Option ℕ → Option Sub → Option (Option ℕ) → List ℤ
+  carry_sub d image t (Some j) (Some s) (Some (Some v)) = carrying image.numbers v s.desc t.desc (sub_place old (own_cells old d) d.subs j)
+  carry_sub d image t _ _ _ = defaults (desc_cells (struct_cells new) t.desc)
+
+  abbrev pub sub_came : Option ℕ → Option (Option ℕ) → Option ℕ
+  sub_came (Some j) (Some v) = v
+  sub_came _ _ = None
+
+  abbrev pub carried_sub : Device → Image → Sub → List ℤ
+  carried_sub d image t =
+      let found = find_sub 0 d.subs t.desc.name in
+      carry_sub d image t found (at d.subs (index found)) (at image.came (index found))
+
+  abbrev pub carried_device : Device → Device → Image → Image
+  carried_device d e image = record {
+    version = image.version;
+    came = map (λ t. let found = find_sub 0 d.subs t.desc.name in sub_came found (at image.came (index found))) e.subs;
+    numbers = carrying image.numbers image.version d.desc e.desc 0 ++ flat_map (carried_sub d image) e.subs;
+  }
+
+  abbrev pub no_image : Image
+  no_image = record { version = 0; came = []; numbers = [] }
+
+  abbrev pub carried_at : List Image → Device → Option ℕ → Option Device → Image
+  carried_at images e (Some i) (Some d) = carried_device d e (get_or images i no_image)
+  carried_at images e _ _ = no_image
+
+  -- the image of each device of new, from old's device of its name and instance
+  unfoldable pub carried : List Image → List Image
+  carried images = map (λ e. let found = find_device 0 old.devices e.desc.name e.instance in carried_at images e found (at old.devices (index found))) new.devices

@@ -1,0 +1,48 @@
+-- What the comparison of two sets answers of machines, names and parts.
+use Rattle.std.specs.Prelude.{ℕ, Bool, not, List, [], ◌∷◌, Option, Some, None}
+use Rattle.vms_spec.specs.declared.Part.{Part}
+use Rattle.vms_spec.specs.declared.Part.TheVariants as parts
+use Rattle.vms_spec.specs.Layout.{struct_cells}
+use Rattle.vms_spec.specs.Lists.{at, every, first_answer, or_else}
+use Rattle.vms_spec.specs.Judging.{index}
+use Rattle.vms_spec.specs.Readiness.{is_version_of}
+use Rattle.vms_spec.specs.Sets.{Device, Set}
+use Rattle.vms_spec.specs.Streams.{is_one_of}
+use Rattle.vms_spec.specs.WellFormed.{here}
+use Rattle.vms_desc.specs.Described.{described}
+use Rattle.vms_desc.specs.Parts.{desc_at}
+use Rattle.vms_check.specs.Comparing.{compare_desc, compare_device, failing_pair, is_in, paired_device}
+use Rattle.vms_check.specs.Pairs.{table}
+use Rattle.vms_check.specs.Sides.{desc_on}
+use Rattle.vms_check.specs.declared.mismatch.Mismatch.{Mismatch}
+use Rattle.vms_check.specs.declared.mismatch.Verdict.{Verdict}
+use Rattle.vms_check.specs.declared.mismatch.Verdict.TheVariants.{Accepted, Refused}
+use Rattle.vms_check.specs.declared.side.Side.{Side}
+
+abbrev pub verdict_of : Option Mismatch → Verdict
+verdict_of None = Accepted
+verdict_of (Some mismatch) = Refused mismatch
+
+abbrev pub is_missing : Set → Device → Bool
+is_missing set d = not (is_in set d)
+
+module _ (old new : Set) where
+  abbrev pub machines_mismatch : Option Mismatch
+  machines_mismatch = failing_pair ((1, every (is_one_of new.machines) old.machines) ∷ []) (here parts.Set) (here parts.Set)
+
+  -- devices that one of the sets doesn't have
+  abbrev pub lost_mismatch : Option Mismatch
+  lost_mismatch =
+      or_else (first_answer (λ i d. failing_pair ((2, is_in new d) ∷ []) (here (parts.Device i)) (here parts.Set)) 0 old.devices)
+      (first_answer (λ i d. failing_pair ((3, is_in old d) ∷ []) (here parts.Set) (here (parts.Device i))) 0 new.devices)
+
+  -- device i of the older set, beside the one of the newer that has its name and instance
+  abbrev pub device_mismatch : ℕ → Device → Option Mismatch
+  device_mismatch i d = compare_device old new i d (paired_device old new d) (at new.devices (index (paired_device old new d)))
+
+-- a part of the older set beside one of a newer set, at the older one's version, which a rule says that the newer reads
+abbrev pub part_mismatch : ℕ → Side → Set → Part → Option Mismatch
+part_mismatch rule s new part =
+    let old = described s.set.now in
+    or_else (failing_pair ((rule, is_version_of (desc_at new part) s.version) ∷ []) (here s.part) (here part))
+    (compare_desc (table old new) (struct_cells old) (struct_cells new) (desc_on s) (desc_at new part) s.version s.version s.part part)

@@ -1,0 +1,156 @@
+// A description on each side: its present fields in pairs, structures before the next pair, and then its validations.
+ghost use Rattle.std.specs.Prelude.{◌≡◌, ◌<◌, length, map, true};
+ghost use Rattle.vms_desc.specs.Described.{described};
+ghost use Rattle.vms_parts.specs.Views.{formula};
+ghost use Rattle.vms_spec.specs.Lists.{every, some};
+ghost use Rattle.vms_check.specs.Pairs.{IsOn, all_fields_on, desc_mismatch, is_kept_test, is_left, pair_mismatch, struct_mismatch, validations_on};
+ghost use Rattle.vms_check.specs.Sides.{IsSide, as_reduced, is_whole_left};
+
+use crate::Mismatch;
+use crate::pairs::failing_rule;
+use crate::present::{Present, next_present};
+use crate::reducing::{Left, reduce};
+use crate::same::same_reduced;
+use crate::side::{Side, at_own_version, here, in_field, validations_of};
+use vms_desc::{DescSet, Part, Test};
+use vms_kinds::Item;
+
+// Whether one of these old validations has become this.
+fn is_among(old: Side, new: Side, tests: &[Test], left: Left) -> bool
+    requires old { IsSide old }
+    requires new { IsSide new }
+    requires whole { is_whole_left new.version left ≡ true }
+    ensures { result ≡ some (is_left old.entry new.entry (as_reduced new.entry.version left.entry)) (map formula tests.now) }
+{
+    for test in tests {
+        if same_reduced(old, new, reduce(test, old.version), left) {
+            return true;
+        }
+    }
+    false
+}
+
+// Whether a validation of the new set is true, or is an old one.
+fn is_kept(old: Side, new: Side, test: &Test) -> bool
+    requires old { IsSide old }
+    requires new { IsSide new }
+    ensures { result ≡ is_kept_test old.entry new.entry (formula test.now) }
+{
+    match reduce(test, new.version) {
+        Left::Known(true) => true,
+        left => is_among(old, new, validations_of(old), left),
+    }
+}
+
+fn are_kept(old: Side, new: Side, tests: &[Test]) -> bool
+    requires old { IsSide old }
+    requires new { IsSide new }
+    ensures { result ≡ every (is_kept_test old.entry new.entry) (map formula tests.now) }
+{
+    for test in tests {
+        if !is_kept(old, new, test) {
+            return false;
+        }
+    }
+    true
+}
+
+fn compare_validations(old: Side, new: Side) -> Option<Mismatch>
+    requires old { IsSide old }
+    requires new { IsSide new }
+    ensures { result ≡ validations_on old.entry new.entry }
+{
+    if are_kept(old, new, validations_of(new)) {
+        return None;
+    }
+    Some(Mismatch {
+        rule: 15,
+        in_old: here(old.part),
+        in_new: here(new.part),
+    })
+}
+
+// The structures of these numbers, each at its own version.
+#[cycle(walk)]
+fn compare_structs(old: &DescSet, new: &DescSet, in_old: u32, in_new: u32) -> Option<Mismatch>
+    requires old { in_old < length (described old.now).structs }
+    requires new { in_new < length (described new.now).structs }
+    ensures { result ≡ struct_mismatch (described old.now) (described new.now) in_old in_new }
+{
+    compare_descs(
+        at_own_version(old, Part::Struct(in_old)),
+        at_own_version(new, Part::Struct(in_new)),
+    )
+}
+
+// Two fields of the same position, and the structures that they have.
+#[cycle(walk)]
+fn compare_pair(old: Side, new: Side, one: Present, other: Present) -> Option<Mismatch>
+    requires old { IsSide old }
+    requires new { IsSide new }
+    requires one { IsOn old one }
+    requires other { IsOn new other }
+    ensures { result ≡ pair_mismatch old.entry new.entry one.entry other.entry }
+{
+    if let Some(rule) = failing_rule(old, new, one, other) {
+        return Some(Mismatch {
+            rule,
+            in_old: in_field(old.part, one.number),
+            in_new: in_field(new.part, other.number),
+        });
+    }
+    match (one.field.item, other.field.item) {
+        (Item::Struct(in_old), Item::Struct(in_new)) => {
+            compare_structs(old.set, new.set, in_old, in_new)
+        }
+        _ => None,
+    }
+}
+
+#[cycle(walk)]
+fn compare_fields(old: Side, new: Side) -> Option<Mismatch>
+    requires old { IsSide old }
+    requires new { IsSide new }
+    ensures { result ≡ all_fields_on old.entry new.entry }
+{
+    let (mut in_old, mut in_new) = (0, 0);
+    loop {
+        match (next_present(old, in_old), next_present(new, in_new)) {
+            (None, None) => return None,
+            (Some(one), None) => {
+                return Some(Mismatch {
+                    rule: 5,
+                    in_old: in_field(old.part, one.number),
+                    in_new: here(new.part),
+                });
+            }
+            (None, Some(other)) => {
+                return Some(Mismatch {
+                    rule: 6,
+                    in_old: here(old.part),
+                    in_new: in_field(new.part, other.number),
+                });
+            }
+            (Some(one), Some(other)) => {
+                if let Some(mismatch) = compare_pair(old, new, one, other) {
+                    return Some(mismatch);
+                }
+                in_old = one.number as usize + 1;
+                in_new = other.number as usize + 1;
+            }
+        }
+    }
+}
+
+// The first mismatch of two descriptions.
+#[cycle(walk)]
+pub(crate) fn compare_descs(old: Side, new: Side) -> Option<Mismatch>
+    requires old { IsSide old }
+    requires new { IsSide new }
+    ensures { result ≡ desc_mismatch old.entry new.entry }
+{
+    if let Some(mismatch) = compare_fields(old, new) {
+        return Some(mismatch);
+    }
+    compare_validations(old, new)
+}

@@ -1,0 +1,26 @@
+// Names of machines and fields.
+ghost use Rattle.std.specs.Prelude.{◌≡◌};
+ghost use Rattle.vms_parts.specs.Views.{field_of};
+ghost use Rattle.vms_spec.specs.Streams.{is_one_of};
+ghost use Rattle.vms_check.specs.Comparing.{names_match};
+
+use vms_desc::{Field, Text};
+
+pub(crate) fn is_one_of(names: &[Text], name: &[u8]) -> bool
+    ensures { result ≡ is_one_of names.now name.now }
+{
+    for known in names {
+        if known.as_bytes() == name {
+            return true;
+        }
+    }
+    false
+}
+
+// Whether the old field's name is the new one's, or one that it had.
+pub(crate) fn names_match(old: &Field, new: &Field) -> bool
+    ensures { result ≡ names_match (field_of old.now) (field_of new.now) }
+{
+    let name = old.name.as_bytes();
+    name == new.name.as_bytes() || is_one_of(new.former.as_slice(), name)
+}

@@ -1,0 +1,106 @@
+// The rules at two fields of the same position.
+ghost use Rattle.std.specs.Prelude.{◌≡◌, map, length};
+ghost use Rattle.std.specs.Option.{option_map};
+ghost use Rattle.vms_parts.specs.Views.{field_of};
+ghost use Rattle.vms_spec.specs.Layout.{counted};
+ghost use Rattle.vms_check.specs.Comparing.{same_count, same_reduced, same_rest, absent_hold, bound};
+ghost use Rattle.vms_check.specs.Pairs.{IsOn, entry, failing_number, rules_on, uncovered_on};
+ghost use Rattle.vms_check.specs.Sides.{IsSide, desc_on, field_reduced, position_on};
+
+use crate::capacities::{absent_hold, bound};
+use crate::items::{holds_as_much, is_covered, same_constant, same_item};
+use crate::names::names_match;
+use crate::positions::same_place;
+use crate::present::Present;
+use crate::reducing::presence;
+use crate::same::same_reduced;
+use crate::side::{Side, fields_of};
+use vms_desc::Count;
+
+// Whether both are single, of equal length, or counted by fields of the same position.
+fn same_count(old: Side, new: Side, one: Count, other: Count) -> bool
+    requires old { IsSide old }
+    requires new { IsSide new }
+    ensures { result ≡ same_count (position_on old.entry) (position_on new.entry) one other }
+{
+    match (one, other) {
+        (Count::One, Count::One) => true,
+        (Count::Fixed(one), Count::Fixed(other)) => one == other,
+        (Count::Counted { by: one, .. }, Count::Counted { by: other, .. }) => {
+            same_place(old, new, one, other)
+        }
+        _ => false,
+    }
+}
+
+// Whether what is left of their tests is the same.
+#[tactic(auto, using(crate::proofs::PairLaws::left_same, crate::proofs::PairLaws::presence_is))]
+fn same_rest(old: Side, new: Side, one: Present, other: Present) -> bool
+    requires old { IsSide old }
+    requires new { IsSide new }
+    requires one { IsOn old one }
+    requires other { IsOn new other }
+    ensures { result ≡ same_rest (position_on old.entry) (position_on new.entry) (entry old.entry.version one.entry).rest (entry new.entry.version other.entry).rest }
+{
+    same_reduced(
+        old,
+        new,
+        presence(one.field, old.version),
+        presence(other.field, new.version),
+    )
+}
+
+// Whether the arrays that the new number counts and that are not there hold all that the old number may count.
+fn absent_arrays_hold(old: Side, new: Side, one: Present, other: Present) -> bool
+    requires old { IsSide old }
+    requires new { IsSide new }
+    ensures { result ≡ absent_hold new.entry.version other.entry.number (bound one.entry.field.now.item (counted one.entry.number (desc_on old.entry).fields)) (desc_on new.entry).fields }
+{
+    let most = bound(fields_of(old), one.number, one.field.item);
+    absent_hold(fields_of(new), new.version, other.number, most)
+}
+
+// The first rule that fails where no unused bytes cover the old field.
+fn uncovered_rule(old: Side, new: Side, one: Present, other: Present) -> Option<u8>
+    requires old { IsSide old }
+    requires new { IsSide new }
+    requires one { IsOn old one }
+    requires other { IsOn new other }
+    ensures { result ≡ failing_number (uncovered_on old.entry new.entry one.entry other.entry) }
+{
+    let (before, after) = (one.field, other.field);
+    if !same_count(old, new, before.count, after.count) {
+        Some(7)
+    } else if !same_item(before.item, after.item) {
+        Some(8)
+    } else if !same_rest(old, new, one, other) {
+        Some(9)
+    } else if !names_match(before, after) {
+        Some(10)
+    } else if !holds_as_much(before.count, after.count)
+        || !absent_arrays_hold(old, new, one, other)
+    {
+        Some(11)
+    } else if !same_constant(before.item, after.item) {
+        Some(12)
+    } else {
+        None
+    }
+}
+
+// The first rule that fails at two fields of the same position.
+pub(crate) fn failing_rule(old: Side, new: Side, one: Present, other: Present) -> Option<u8>
+    requires old { IsSide old }
+    requires new { IsSide new }
+    requires one { IsOn old one }
+    requires other { IsOn new other }
+    ensures { result ≡ failing_number (rules_on old.entry new.entry one.entry other.entry) }
+{
+    if !is_covered(one.field.item, one.field.count, other.field.item) {
+        uncovered_rule(old, new, one, other)
+    } else if same_rest(old, new, one, other) {
+        None
+    } else {
+        Some(9)
+    }
+}

@@ -1,0 +1,100 @@
+// Whether tests are the same once they are reduced, fields being matched by position.
+ghost use Rattle.std.specs.Prelude.{◌≡◌, ◌==◌, true};
+ghost use Rattle.vms_parts.specs.Views.{formula};
+ghost use Rattle.vms_check.specs.Comparing.{rel_number, same_test, same_reduced};
+ghost use Rattle.vms_check.specs.Reducing.{reduced};
+ghost use Rattle.vms_check.specs.Sides.{IsSide, as_reduced, is_atom, is_whole, is_whole_left, position_on};
+
+use crate::positions::same_place;
+use crate::reducing::{Left, reduce};
+use crate::side::Side;
+use vms_desc::{Rel, Test, Whose};
+
+fn same_rel(one: Rel, other: Rel) -> bool
+    ensures { result ≡ (rel_number one == rel_number other) }
+{
+    one == other
+}
+
+#[cycle(same)]
+pub(crate) fn same_reduced(old: Side, new: Side, one: Left, other: Left) -> bool
+    requires old { IsSide old }
+    requires new { IsSide new }
+    requires one { is_whole_left old.version one ≡ true }
+    requires other { is_whole_left new.version other ≡ true }
+    ensures { result ≡ same_reduced (position_on old.entry) (position_on new.entry) (as_reduced old.entry.version one.entry) (as_reduced new.entry.version other.entry) }
+{
+    match (one, other) {
+        (Left::Known(one), Left::Known(other)) => one == other,
+        (Left::Open(one), Left::Open(other)) => same_tests(old, new, one, other),
+        _ => false,
+    }
+}
+
+// The same of tests at whose roots nothing is folded away.
+#[cycle(same)]
+fn same_tests(old: Side, new: Side, one: &Test, other: &Test) -> bool
+    requires old { IsSide old }
+    requires new { IsSide new }
+    requires one { is_whole old.version (formula one.now) ≡ true }
+    requires other { is_whole new.version (formula other.now) ≡ true }
+    ensures { result ≡ same_reduced (position_on old.entry) (position_on new.entry) (reduced old.entry.version (formula one.now)) (reduced new.entry.version (formula other.now)) }
+{
+    match (one, other) {
+        (Test::Cell { .. }, Test::Cell { .. }) => same_atoms(old, new, one, other),
+        (Test::Not(one), Test::Not(other)) => same_inner(old, new, one, other),
+        (Test::And(one, one_more), Test::And(other, other_more))
+        | (Test::Or(one, one_more), Test::Or(other, other_more)) => {
+            same_inner(old, new, one, other) && same_inner(old, new, one_more, other_more)
+        }
+        _ => false,
+    }
+}
+
+#[cycle(same)]
+fn same_inner(old: Side, new: Side, one: &Test, other: &Test) -> bool
+    requires old { IsSide old }
+    requires new { IsSide new }
+    ensures { result ≡ same_reduced (position_on old.entry) (position_on new.entry) (reduced old.entry.version (formula one.now)) (reduced new.entry.version (formula other.now)) }
+{
+    same_reduced(
+        old,
+        new,
+        reduce(one, old.version),
+        reduce(other, new.version),
+    )
+}
+
+// The same of two tests on numbers of the descriptions.
+fn same_atoms(old: Side, new: Side, one: &Test, other: &Test) -> bool
+    requires old { IsSide old }
+    requires new { IsSide new }
+    requires one { is_atom (formula one.now) ≡ true }
+    requires other { is_atom (formula other.now) ≡ true }
+    ensures { result ≡ same_test (position_on old.entry) (position_on new.entry) (formula one.now) (formula other.now) }
+{
+    match (one, other) {
+        (
+            Test::Cell {
+                whose: Whose::Own,
+                field: one,
+                mask: one_mask,
+                rel: one_rel,
+                value: one_value,
+            },
+            Test::Cell {
+                whose: Whose::Own,
+                field: other,
+                mask: other_mask,
+                rel: other_rel,
+                value: other_value,
+            },
+        ) => {
+            same_place(old, new, *one, *other)
+                && one_mask == other_mask
+                && same_rel(*one_rel, *other_rel)
+                && one_value == other_value
+        }
+        _ => false,
+    }
+}

@@ -1,0 +1,233 @@
+// Two whole sets: machines, devices, and then each device with its subsections.
+ghost use Rattle.std.specs.Prelude.{◌≡◌, ◌<◌, ◌≤◌, length, map, Some, None};
+ghost use Rattle.vms_desc.specs.Described.{described, device_at};
+ghost use Rattle.vms_desc.specs.Parts.{HasPart, desc_at, sub_at};
+ghost use Rattle.vms_parts.specs.Views.{desc_of, sub_of, device_of};
+ghost use Rattle.vms_spec.specs.declared.Part.TheVariants as parts;
+ghost use Rattle.vms_spec.specs.Judging.{find_sub};
+ghost use Rattle.vms_spec.specs.Lists.{every, first_answer, position};
+ghost use Rattle.vms_spec.specs.Readiness.{is_version_of};
+ghost use Rattle.vms_spec.specs.Streams.{is_one_of};
+ghost use Rattle.vms_check.specs.Comparing.{compare_device, compare_subs, first_mismatch, is_in};
+ghost use Rattle.vms_check.specs.Sides.{IsSide};
+ghost use Rattle.vms_check.specs.Wholes.{device_mismatch, is_missing, lost_mismatch, machines_mismatch, part_mismatch, verdict_of};
+
+use crate::descs::compare_descs;
+use crate::names::is_one_of;
+use crate::side::{Side, at_own_version, desc_of, here};
+use crate::{Mismatch, Verdict};
+use vms_desc::{Desc, DescSet, Device, Part, Sub, Text};
+
+/// Whether the newer set reads what the older one writes, or else the first rule that fails with its place on each side.
+pub fn check(old: &DescSet, new: &DescSet) -> Verdict
+    ensures { result ≡ verdict_of (first_mismatch (described old.now) (described new.now)) }
+{
+    match first_mismatch(old, new) {
+        None => Verdict::Accepted,
+        Some(mismatch) => Verdict::Refused(mismatch),
+    }
+}
+
+fn first_mismatch(old: &DescSet, new: &DescSet) -> Option<Mismatch>
+    ensures { result ≡ first_mismatch (described old.now) (described new.now) }
+{
+    if let Some(mismatch) = compare_machines(old, new) {
+        return Some(mismatch);
+    }
+    if let Some(mismatch) = compare_names(old, new) {
+        return Some(mismatch);
+    }
+    compare_devices(old, new)
+}
+
+// ---- machines and the names of devices
+
+fn are_all_in(names: &[Text], known: &[Text]) -> bool
+    ensures { result ≡ every (is_one_of known.now) names.now }
+{
+    for name in names {
+        if !is_one_of(known, name.as_bytes()) {
+            return false;
+        }
+    }
+    true
+}
+
+fn compare_machines(old: &DescSet, new: &DescSet) -> Option<Mismatch>
+    ensures { result ≡ machines_mismatch (described old.now) (described new.now) }
+{
+    let known = new.parts().machines.as_slice();
+    if are_all_in(old.parts().machines.as_slice(), known) {
+        return None;
+    }
+    Some(Mismatch {
+        rule: 1,
+        in_old: here(Part::Set),
+        in_new: here(Part::Set),
+    })
+}
+
+// The number of the first of these devices that a set doesn't have.
+fn missing(devices: &[Device], set: &DescSet) -> Option<u32>
+    requires { length devices.now ≤ 64 }
+    ensures { result ≡ position (is_missing (described set.now)) 0 (map device_of devices.now) }
+{
+    for (number, device) in devices.iter().enumerate() {
+        if !has_device(set, device) {
+            return Some(number as u32);
+        }
+    }
+    None
+}
+
+fn has_device(set: &DescSet, device: &Device) -> bool
+    ensures { result ≡ is_in (described set.now) (device_of device.now) }
+{
+    set.find(device.desc.name.as_bytes(), device.instance)
+        .is_some()
+}
+
+// The devices that one of the sets doesn't have.
+fn compare_names(old: &DescSet, new: &DescSet) -> Option<Mismatch>
+    ensures { result ≡ lost_mismatch (described old.now) (described new.now) }
+{
+    if let Some(number) = missing(old.parts().devices.as_slice(), new) {
+        return Some(Mismatch {
+            rule: 2,
+            in_old: here(Part::Device(number)),
+            in_new: here(Part::Set),
+        });
+    }
+    if let Some(number) = missing(new.parts().devices.as_slice(), old) {
+        return Some(Mismatch {
+            rule: 3,
+            in_old: here(Part::Set),
+            in_new: here(Part::Device(number)),
+        });
+    }
+    None
+}
+
+// ---- devices
+
+fn compare_devices(old: &DescSet, new: &DescSet) -> Option<Mismatch>
+    ensures { result ≡ first_answer (device_mismatch (described old.now) (described new.now)) 0 (described old.now).devices }
+{
+    let mut number = 0;
+    while number < old.parts().devices.as_slice().len() {
+        if let Some(mismatch) = compare_device(old, new, number as u32) {
+            return Some(mismatch);
+        }
+        number += 1;
+    }
+    None
+}
+
+// The device of this number, and the new one of its name and instance.
+fn compare_device(old: &DescSet, new: &DescSet, number: u32) -> Option<Mismatch>
+    requires { number < length (described old.now).devices }
+    ensures { result ≡ device_mismatch (described old.now) (described new.now) number (device_at (described old.now) number) }
+{
+    let device = old.device(number);
+    match new.find(device.desc.name.as_bytes(), device.instance) {
+        Some(found) => compare_found(old, new, number, found),
+        None => None,
+    }
+}
+
+// The devices of these numbers, which have one name and instance.
+fn compare_found(old: &DescSet, new: &DescSet, in_old: u32, in_new: u32) -> Option<Mismatch>
+    requires old { in_old < length (described old.now).devices }
+    requires new { in_new < length (described new.now).devices }
+    ensures { result ≡ compare_device (described old.now) (described new.now) in_old (device_at (described old.now) in_old) (Some in_new) (Some (device_at (described new.now) in_new)) }
+{
+    let (part, other) = (Part::Device(in_old), Part::Device(in_new));
+    if let Some(mismatch) = compare_parts(4, at_own_version(old, part), new, other) {
+        return Some(mismatch);
+    }
+    compare_subs(old, new, in_old, in_new)
+}
+
+// Two parts at the old one's version, where a rule of this number says that the new one reads that version.
+fn compare_parts(rule: u8, old: Side, set: &DescSet, part: Part) -> Option<Mismatch>
+    requires old { IsSide old }
+    requires new { HasPart (described set.now) part }
+    ensures { result ≡ part_mismatch rule old.entry (described set.now) part }
+{
+    let new = Side {
+        set,
+        part,
+        version: old.version,
+    };
+    if !is_version_of(desc_of(new), old.version) {
+        return Some(Mismatch {
+            rule,
+            in_old: here(old.part),
+            in_new: here(part),
+        });
+    }
+    compare_descs(old, new)
+}
+
+fn is_version_of(desc: &Desc, version: u32) -> bool
+    ensures { result ≡ is_version_of (desc_of desc.now) version }
+{
+    desc.minimum <= version && version <= desc.version
+}
+
+// ---- subsections
+
+// The subsections of the old device, each with one of the new device.
+fn compare_subs(old: &DescSet, new: &DescSet, in_old: u32, in_new: u32) -> Option<Mismatch>
+    requires old { in_old < length (described old.now).devices }
+    requires new { in_new < length (described new.now).devices }
+    ensures { result ≡ first_answer (compare_subs (described old.now) (described new.now) in_old in_new (device_at (described new.now) in_new)) 0 (device_at (described old.now) in_old).subs }
+{
+    let mut number = 0;
+    while number < old.device(in_old).subs.as_slice().len() {
+        if let Some(mismatch) = compare_sub(old, new, in_old, in_new, number as u32) {
+            return Some(mismatch);
+        }
+        number += 1;
+    }
+    None
+}
+
+fn compare_sub(
+    old: &DescSet,
+    new: &DescSet,
+    in_old: u32,
+    in_new: u32,
+    number: u32,
+) -> Option<Mismatch>
+    requires old { HasPart (described old.now) (parts.Sub in_old number) }
+    requires new { in_new < length (described new.now).devices }
+    ensures { result ≡ compare_subs (described old.now) (described new.now) in_old in_new (device_at (described new.now) in_new) number (sub_at (device_at (described old.now) in_old) number) }
+{
+    let part = Part::Sub(in_old, number);
+    let name = old.desc(part).name.as_bytes();
+    match find_sub(new.device(in_new).subs.as_slice(), name) {
+        Some(found) => {
+            let other = Part::Sub(in_new, found);
+            compare_parts(14, at_own_version(old, part), new, other)
+        }
+        None => Some(Mismatch {
+            rule: 13,
+            in_old: here(part),
+            in_new: here(Part::Device(in_new)),
+        }),
+    }
+}
+
+// The number of the first subsection of this name.
+fn find_sub(subs: &[Sub], name: &[u8]) -> Option<u32>
+    requires { length subs.now ≤ 32 }
+    ensures { result ≡ find_sub 0 (map sub_of subs.now) name.now }
+{
+    for (number, sub) in subs.iter().enumerate() {
+        if sub.desc.name.as_bytes() == name {
+            return Some(number as u32);
+        }
+    }
+    None
+}

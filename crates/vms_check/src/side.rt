@@ -1,0 +1,64 @@
+// A description of one of the two sets.
+ghost use Rattle.std.specs.Prelude.{◌≡◌, map};
+ghost use Rattle.vms_desc.specs.Described.{described};
+ghost use Rattle.vms_desc.specs.Parts.{HasPart};
+ghost use Rattle.vms_parts.specs.Views.{formula, field_of, desc_of};
+ghost use Rattle.vms_spec.specs.WellFormed.{here, in_field};
+ghost use Rattle.vms_check.specs.Sides.{IsSide, desc_on, own_side};
+
+use vms_desc::{Desc, DescSet, Field, Part, Place, Test};
+
+// A part of a set at the version at which it is compared.
+#[derive(Clone, Copy)]
+pub(crate) struct Side<'a> {
+    pub(crate) set: &'a DescSet,
+    pub(crate) part: Part,
+    pub(crate) version: u32,
+}
+
+// A part at the version that its own set writes.
+pub(crate) fn at_own_version(set: &DescSet, part: Part) -> Side<'_>
+    requires { HasPart (described set.now) part }
+    ensures { result ≡ own_side set.entry part }
+{
+    let version = set.desc(part).version;
+    Side { set, part, version }
+}
+
+pub(crate) fn desc_of(side: Side<'_>) -> &Desc
+    requires { IsSide side }
+    ensures { desc_of result.now ≡ desc_on side.entry }
+{
+    side.set.desc(side.part)
+}
+
+pub(crate) fn fields_of(side: Side<'_>) -> &[Field]
+    requires { IsSide side }
+    ensures { map field_of result.now ≡ (desc_on side.entry).fields }
+{
+    desc_of(side).fields.as_slice()
+}
+
+pub(crate) fn validations_of(side: Side<'_>) -> &[Test]
+    requires { IsSide side }
+    ensures { map formula result.now ≡ (desc_on side.entry).validate }
+{
+    desc_of(side).validate.as_slice()
+}
+
+// The place of a part itself.
+pub(crate) fn here(part: Part) -> Place
+    ensures { result ≡ here part }
+{
+    Place { part, field: None }
+}
+
+// The place of a field of it.
+pub(crate) fn in_field(part: Part, field: u32) -> Place
+    ensures { result ≡ in_field part field }
+{
+    Place {
+        part,
+        field: Some(field),
+    }
+}

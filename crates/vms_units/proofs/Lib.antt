@@ -1,0 +1,6 @@
+pub mod Finding
+pub mod Judging
+pub mod Bodies
+pub mod Streams
+pub mod Rows
+mod Stated

@@ -1,0 +1,2 @@
+-- Worked inputs.
+pub mod Bare
