@@ -19,6 +19,7 @@ pub mod FaultUnits
 pub mod FineLaws
 pub mod FoundLaws
 pub mod FrameLaws
+pub mod GoodLaws
 pub mod HeadFound
 pub mod HeadLaws
 pub mod JudgeLaws
@@ -47,5 +48,6 @@ pub mod SubsOnly
 pub mod UnitLaws
 pub mod WalkLaws
 pub mod WellFormedLaws
+pub mod WellFormedStreams
 pub mod Witness
 pub mod WrittenLaws

@@ -6,7 +6,8 @@ use Rattle.vms_laws.proofs.WellFormedLaws.{well_good}
 use Rattle.vms_laws.proofs.Witness.{good_0, good_1, good_2, good_3, good_4}
 use Rattle.vms_laws.proofs.PathLaws.{cell_inside}
 use Rattle.vms_laws.proofs.ReadyLaws.{ready_is, is_ready_all}
-use Rattle.vms_laws.specs.Laws.{GoodLaw, ShippedLaw, CellLaw, ReadyLaw, FoundLaw, OnlyLaw, OneStreamLaw, ToldLaw, LocalLaw, ZeroedLaw, SectionLaw, WrittenLaw, RefusedLaw, FaultLaw, Answer, Taken, Faulty, EitherLaw, NeverBothLaw, AreOneFault, OneFaultLaw}
+use Rattle.vms_laws.specs.Laws.{GoodLaw, CellLaw, ReadyLaw, ToldLaw, LocalLaw, ZeroedLaw, SectionLaw, Answer, Taken, Faulty, AreOneFault}
+use Rattle.vms_laws.proofs.GoodLaws.{GoodShippedLaw, GoodWrittenLaw, GoodFoundLaw, GoodOnlyLaw, GoodOneStreamLaw, GoodRefusedLaw, GoodFaultLaw, GoodEitherLaw, GoodNeverBothLaw, GoodOneFaultLaw}
 use Rattle.vms_laws.proofs.FaultTells.{refused_is_fault, fault_is_refused}
 use Rattle.vms_spec.specs.Readings.{Reading, Accepted, Refused}
 use Rattle.vms_spec.specs.declared.Reason.{Reason}
@@ -22,7 +23,7 @@ refusal place section reason size = Refused place section reason size
 pub good_holds : GoodLaw
 good_holds set well heads = well_good set well heads
 
-pub shipped_holds : ShippedLaw
+pub shipped_holds : GoodShippedLaw
 shipped_holds = (good_0, good_1, good_2, good_3, good_4)
 
 pub cell_holds : CellLaw
@@ -31,15 +32,15 @@ cell_holds set k part path c e = cell_inside set k part path c e
 pub ready_holds : ReadyLaw
 ready_holds set d image = record { holds = ready_is set d image; passes = is_ready_all set d image }
 
-pub found_holds : FoundLaw
+pub found_holds : GoodFoundLaw
 found_holds set names good input n end ok e = found set names good input n end ok e
 
-pub only_holds : OnlyLaw
+pub only_holds : GoodOnlyLaw
 only_holds set names good input n machine images t =
     let o = only set names good input n machine images t in
     (o.end, o.is, o.machine_is, o.images_are)
 
-pub one_stream_holds : OneStreamLaw
+pub one_stream_holds : GoodOneStreamLaw
 one_stream_holds set names good input n m machine other images others t u =
     let same = one_stream set names good input n m machine other images others t u in
     record { lengths = same.0; machines = same.1; states = same.2 }
@@ -57,7 +58,7 @@ zeroed_holds numbers slots = zeroed_spells numbers slots
 pub section_holds : SectionLaw
 section_holds set d image id fits ready = written_section_is set d image id fits ready
 
-pub written_holds : WrittenLaw
+pub written_holds : GoodWrittenLaw
 written_holds set names few machine text images configured described ready rest all = record {
   bytes = written set machine images text;
   text = text;
@@ -70,20 +71,20 @@ written_holds set names few machine text images configured described ready rest 
 
 -- ---- refusals
 
-pub refused_holds : RefusedLaw
+pub refused_holds : GoodRefusedLaw
 refused_holds set names good input ok place section reason size e = refused_is_fault set names good input place section reason size ok e
 
-pub fault_holds : FaultLaw
+pub fault_holds : GoodFaultLaw
 fault_holds set names good input ok place section reason size f = fault_is_refused set names good input place section reason size ok f
 
-pub either_holds : EitherLaw
+pub either_holds : GoodEitherLaw
 either_holds set names good input ok = by_reading (told_holds set names input).0 (told_holds set names input).1
   where
     by_reading : (r : Reading State) → reading set names input ≡ Some r → Answer set names input
     by_reading (Accepted n end) e = Taken n end.machine end.images (found set names good input n end ok e)
     by_reading (Refused place section reason size) e = Faulty place section reason size (refused_is_fault set names good input place section reason size ok e)
 
-pub never_both_holds : NeverBothLaw
+pub never_both_holds : GoodNeverBothLaw
 never_both_holds set names good input ok n machine images place section reason size t f =
     let o = only set names good input n machine images t in
     let e = sym o.is ∙ fault_is_refused set names good input place section reason size ok f in
@@ -99,7 +100,7 @@ same_refusal place other_place section other_section reason other_reason size ot
     let d : size ≡ other_size = cc in
     record { places = a; sections = b; reasons = c; sizes = d }
 
-pub one_fault_holds : OneFaultLaw
+pub one_fault_holds : GoodOneFaultLaw
 one_fault_holds set names good input ok place other_place section other_section reason other_reason size other_size f g =
     same_refusal place other_place section other_section reason other_reason size other_size
     (sym (fault_is_refused set names good input place section reason size ok f) ∙ fault_is_refused set names good input other_place other_section other_reason other_size ok g)

@@ -35,23 +35,23 @@ heads_fit set fits = record {
   sub_version = λ k j d s e h. each_sub d.subs (each_device set.devices fits k d e).2 j s h;
 }
 
-well_0 : WellFormed set_0
+pub well_0 : WellFormed set_0
 unfolding first_fault first
 well_0 = refl
 
-well_1 : WellFormed set_1
+pub well_1 : WellFormed set_1
 unfolding first_fault first
 well_1 = refl
 
-well_2 : WellFormed set_2
+pub well_2 : WellFormed set_2
 unfolding first_fault first
 well_2 = refl
 
-well_3 : WellFormed set_3
+pub well_3 : WellFormed set_3
 unfolding first_fault first
 well_3 = refl
 
-well_4 : WellFormed set_4
+pub well_4 : WellFormed set_4
 unfolding first_fault first
 well_4 = refl
 

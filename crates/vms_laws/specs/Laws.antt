@@ -1,11 +1,11 @@
 -- The laws of the format, each as a statement.
-use Rattle.std.specs.Prelude.{◌≡◌, Bool, true, ℕ, ◌≤◌, ◌<◌, List, [], ◌++◌, length, Option, Some, None, ℤ}
+use Rattle.std.specs.Prelude.{◌≡◌, Bool, true, ℕ, ◌≤◌, ◌<◌, List, [], ◌++◌, length, Option, Some, None, IfSome, ℤ}
 use Rattle.vms_spec.specs.Lists.{at}
 use Rattle.vms_spec.specs.Numbers.{IsBytes}
 use Rattle.vms_spec.specs.Sets.{Device, Set}
 use Rattle.vms_spec.specs.Layout.{Slot}
 use Rattle.vms_spec.specs.Images.{Image, Spells, zeroed}
-use Rattle.vms_spec.specs.Streams.{IsSection, IsConfiguration, IsTrailer, Takes, IsReady, optional, configuration, trailer, written_section, written}
+use Rattle.vms_spec.specs.Streams.{IsSection, IsStream, Takes, IsReady, is_one_of, longest_text, written_section, written}
 use Rattle.vms_spec.specs.declared.Reason.{Reason}
 use Rattle.vms_spec.specs.Readings.{Reading, Accepted, Refused}
 use Rattle.vms_spec.specs.Faults.{Fault}
@@ -21,9 +21,14 @@ use Rattle.vms_laws.specs.Units.{IsLocal}
 abbrev pub GoodLaw : Type 0
 GoodLaw = (set : Set) → WellFormed set → FitsHeads set → IsGood set
 
--- so is each shipped set
+-- what the laws of streams ask of a set
+pub record IsFit (set : Set) : Type 0 where
+  pub well : WellFormed set
+  pub heads : FitsHeads set
+
+-- each shipped set is so
 abbrev pub ShippedLaw : Type 0
-ShippedLaw = IsGood set_0 × IsGood set_1 × IsGood set_2 × IsGood set_3 × IsGood set_4
+ShippedLaw = IsFit set_0 × IsFit set_1 × IsFit set_2 × IsFit set_3 × IsFit set_4
 
 -- the cell of a path is one of the device's
 abbrev pub CellLaw : Type 0
@@ -40,12 +45,12 @@ ReadyLaw = (set : Set) (d : Device) (image : Image) → Decided (is_ready set d 
 
 -- what the judge accepts, the input takes
 abbrev pub FoundLaw : Type 0
-FoundLaw = (set : Set) (names : List (List ℕ)) → IsGood set → (input : List ℕ) (n : ℕ) (end : State) → IsBytes input
+FoundLaw = (set : Set) (names : List (List ℕ)) → WellFormed set → FitsHeads set → (input : List ℕ) (n : ℕ) (end : State) → IsBytes input
     → reading set names input ≡ Some (Accepted n end) → Takes set names input n end.machine end.images
 
 -- what an input takes, the judge accepts, with the same machine and images
 abbrev pub OnlyLaw : Type 0
-OnlyLaw = (set : Set) (names : List (List ℕ)) → IsGood set → (input : List ℕ) (n : ℕ) (machine : Option (List ℕ)) (images : List Image)
+OnlyLaw = (set : Set) (names : List (List ℕ)) → WellFormed set → FitsHeads set → (input : List ℕ) (n : ℕ) (machine : Option (List ℕ)) (images : List Image)
     → Takes set names input n machine images
     → (end : State) × (reading set names input ≡ Some (Accepted n end)) × (end.machine ≡ machine) × (end.images ≡ images)
 
@@ -57,7 +62,7 @@ pub record AreSame (n m : ℕ) (machine other : Option (List ℕ)) (images other
 
 -- an input takes one stream at most
 abbrev pub OneStreamLaw : Type 0
-OneStreamLaw = (set : Set) (names : List (List ℕ)) → IsGood set → (input : List ℕ) (n m : ℕ) (machine other : Option (List ℕ)) (images others : List Image)
+OneStreamLaw = (set : Set) (names : List (List ℕ)) → WellFormed set → FitsHeads set → (input : List ℕ) (n m : ℕ) (machine other : Option (List ℕ)) (images others : List Image)
     → Takes set names input n machine images → Takes set names input m other others → AreSame n m machine other images others
 
 -- the judge accepts or refuses every input
@@ -82,24 +87,31 @@ pub record AreReady (set : Set) (images : List Image) : Type 0 where
   pub one_each : length images ≡ length set.devices
   pub ready : (k : ℕ) (d : Device) (image : Image) → at set.devices k ≡ Some d → at images k ≡ Some image → IsReady set d image
 
--- An input that begins with what the writer gives takes that, where the machine is accepted and the text fits. Where there is
--- no text, nothing may follow.
+-- a machine of these, with a name that a configuration can hold
+abbrev pub IsAccepted : List (List ℕ) → List ℕ → Type 0
+IsAccepted names name = (is_one_of names name ≡ true) × (length name ≤ 255)
+
+-- The bytes are a stream, and an input that begins with them takes just these. Where there is no text, nothing may follow.
+pub record IsWholeStream (set : Set) (names : List (List ℕ)) (bytes : List ℕ) (machine : Option (List ℕ)) (images : List Image) (text : Option (List ℕ)) : Type 0 where
+  pub stream : IsStream set names bytes machine images text
+  pub taken : (rest : List ℕ) → (text ≡ None → rest ≡ []) → Takes set names (bytes ++ rest) (length bytes) machine images
+
+-- what the writer gives of ready images is a stream of them, where the machine is accepted and the text fits
 abbrev pub WrittenLaw : Type 0
 WrittenLaw = (set : Set) (names : List (List ℕ)) → length set.devices ≤ 4294967296 → (machine text : Option (List ℕ)) (images : List Image)
-    → IsConfiguration names machine (optional configuration machine) → IsTrailer text (optional trailer text) → AreReady set images
-    → (rest : List ℕ) → (text ≡ None → rest ≡ [])
-    → Takes set names (written set machine images text ++ rest) (length (written set machine images text)) machine images
+    → IfSome machine (IsAccepted names) → IfSome text (λ t. length t ≤ longest_text) → AreReady set images
+    → IsWholeStream set names (written set machine images text) machine images text
 
 -- ---- refusals
 
 -- what the judge refuses is at fault there, for that device and that reason, at a unit of that many bytes
 abbrev pub RefusedLaw : Type 0
-RefusedLaw = (set : Set) (names : List (List ℕ)) → IsGood set → (input : List ℕ) → IsBytes input → (place : ℕ) (section : Option ℕ) (reason : Reason) (size : ℕ)
+RefusedLaw = (set : Set) (names : List (List ℕ)) → WellFormed set → FitsHeads set → (input : List ℕ) → IsBytes input → (place : ℕ) (section : Option ℕ) (reason : Reason) (size : ℕ)
     → reading set names input ≡ Some (Refused place section reason size) → Fault set names input place section reason size
 
 -- what is at fault the judge refuses so
 abbrev pub FaultLaw : Type 0
-FaultLaw = (set : Set) (names : List (List ℕ)) → IsGood set → (input : List ℕ) → IsBytes input → (place : ℕ) (section : Option ℕ) (reason : Reason) (size : ℕ)
+FaultLaw = (set : Set) (names : List (List ℕ)) → WellFormed set → FitsHeads set → (input : List ℕ) → IsBytes input → (place : ℕ) (section : Option ℕ) (reason : Reason) (size : ℕ)
     → Fault set names input place section reason size → reading set names input ≡ Some (Refused place section reason size)
 
 -- a stream is taken, or there is a fault
@@ -109,11 +121,11 @@ pub data Answer (set : Set) (names : List (List ℕ)) (input : List ℕ) : Type 
 
 -- every input has one of the two
 abbrev pub EitherLaw : Type 0
-EitherLaw = (set : Set) (names : List (List ℕ)) → IsGood set → (input : List ℕ) → IsBytes input → Answer set names input
+EitherLaw = (set : Set) (names : List (List ℕ)) → WellFormed set → FitsHeads set → (input : List ℕ) → IsBytes input → Answer set names input
 
 -- and never both
 abbrev pub NeverBothLaw : Type 0
-NeverBothLaw = (set : Set) (names : List (List ℕ)) → IsGood set → (input : List ℕ) → IsBytes input
+NeverBothLaw = (set : Set) (names : List (List ℕ)) → WellFormed set → FitsHeads set → (input : List ℕ) → IsBytes input
     → (n : ℕ) (machine : Option (List ℕ)) (images : List Image) (place : ℕ) (section : Option ℕ) (reason : Reason) (size : ℕ)
     → Takes set names input n machine images → Fault set names input place section reason size → ⊥
 
@@ -126,7 +138,7 @@ pub record AreOneFault (place other_place : ℕ) (section other_section : Option
 
 -- an input has one fault at most
 abbrev pub OneFaultLaw : Type 0
-OneFaultLaw = (set : Set) (names : List (List ℕ)) → IsGood set → (input : List ℕ) → IsBytes input
+OneFaultLaw = (set : Set) (names : List (List ℕ)) → WellFormed set → FitsHeads set → (input : List ℕ) → IsBytes input
     → (place other_place : ℕ) (section other_section : Option ℕ) (reason other_reason : Reason) (size other_size : ℕ)
     → Fault set names input place section reason size → Fault set names input other_place other_section other_reason other_size
     → AreOneFault place other_place section other_section reason other_reason size other_size

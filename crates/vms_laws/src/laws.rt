@@ -1,5 +1,5 @@
-//! Each law is the contract of a function without a body. The statements stand in `specs/Laws.antt`. Most are about good
-//! sets, which `specs/Good.antt` defines: the first two laws say which sets are good.
+//! Each law is the contract of a function without a body. The statements stand in `specs/Laws.antt`. Those of streams ask of
+//! a set that it is well formed, and that its instance ids and versions are below 2^32, as heads have them.
 ghost use Rattle.vms_laws.specs.Laws.{GoodLaw, ShippedLaw, CellLaw, ReadyLaw, FoundLaw, OnlyLaw, OneStreamLaw, ToldLaw, LocalLaw, ZeroedLaw, SectionLaw, WrittenLaw};
 ghost use Rattle.vms_laws.specs.Laws.{RefusedLaw, FaultLaw, EitherLaw, NeverBothLaw, OneFaultLaw};
 
@@ -9,8 +9,8 @@ pub fn good_law()
     ensures { GoodLaw }
 {}
 
-/// Each shipped set is good.
-#[tactic(auto, using(crate::proofs::Stated::shipped_holds))]
+/// Each shipped set is well formed, with instance ids and versions of four bytes.
+#[tactic(auto, using(crate::proofs::WellFormedStreams::shipped_stands))]
 pub fn shipped_law()
     ensures { ShippedLaw }
 {}
@@ -29,14 +29,14 @@ pub fn ready_law()
 {}
 
 /// What the judge accepts is a stream of the set at the front of the input, of just the bytes that were read, with the
-/// machine and the images that the judge ends with: for every good set, every list of accepted machines and every input.
-#[tactic(auto, using(crate::proofs::Stated::found_holds))]
+/// machine and the images that the judge ends with: for every well-formed set, every list of accepted machines and every input.
+#[tactic(auto, using(crate::proofs::WellFormedStreams::found_stands))]
 pub fn found_law()
     ensures { FoundLaw }
 {}
 
 /// A stream of the set at the front of an input is accepted by the judge, with its length, its machine and its images.
-#[tactic(auto, using(crate::proofs::Stated::only_holds))]
+#[tactic(auto, using(crate::proofs::WellFormedStreams::only_stands))]
 pub fn only_law()
     ensures { OnlyLaw }
 {}
@@ -71,16 +71,15 @@ pub fn section_law()
     ensures { SectionLaw }
 {}
 
-/// What the writer gives for ready images is a stream with this machine and these images, and an input that begins with
-/// it takes exactly that, for every set.
-#[tactic(auto, using(crate::proofs::Stated::written_holds))]
+/// What the writer gives for ready images is a stream of the set with this machine, these images and this text, and an input
+/// that begins with it takes exactly that.
 pub fn written_law()
     ensures { WrittenLaw }
 {}
 
 /// What the judge refuses is at fault at that place, for that device and that reason, at a unit of that many bytes, by the
-/// units before it and the table of reasons: for every good set and every input of bytes.
-#[tactic(auto, using(crate::proofs::Stated::refused_holds))]
+/// units before it and the table of reasons: for every well-formed set and every input of bytes.
+#[tactic(auto, using(crate::proofs::WellFormedStreams::refused_stands))]
 pub fn refused_law()
     ensures { RefusedLaw }
 {}

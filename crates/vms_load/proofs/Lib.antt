@@ -2,6 +2,7 @@ pub mod AfterReads
 pub mod BodyLemmas
 pub mod Bounding
 pub mod Counting
+pub mod ExactLoads
 pub mod HeadLemmas
 pub mod LoadReads
 pub mod OpenedReads

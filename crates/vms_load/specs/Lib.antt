@@ -1,5 +1,6 @@
 pub mod Bodies
 pub mod Bounds
+pub mod Exact
 pub mod Heads
 pub mod Kept
 pub mod Loads

@@ -7,6 +7,7 @@ mod body;
 mod fault;
 mod heads;
 mod items;
+pub mod laws;
 mod loader;
 mod parts;
 mod staged;

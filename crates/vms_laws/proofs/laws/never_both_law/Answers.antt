@@ -1,5 +1,5 @@
-use Rattle.vms_laws.proofs.Stated.{never_both_holds}
+use Rattle.vms_laws.proofs.WellFormedStreams.{never_both_stands}
 use Rattle.vms_laws.proofs.laws.never_both_law.Goals as goal
 
 pub returns : goal.returns
-returns c = never_both_holds
+returns c = never_both_stands

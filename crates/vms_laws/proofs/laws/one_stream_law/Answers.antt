@@ -1,5 +1,5 @@
-use Rattle.vms_laws.proofs.Stated.{one_stream_holds}
+use Rattle.vms_laws.proofs.WellFormedStreams.{one_stream_stands}
 use Rattle.vms_laws.proofs.laws.one_stream_law.Goals as goal
 
 pub returns : goal.returns
-returns c = one_stream_holds
+returns c = one_stream_stands

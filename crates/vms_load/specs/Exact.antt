@@ -1,0 +1,42 @@
+-- A load answers exactly by what the input is.
+use Rattle.std.specs.Prelude.{◌≡◌, ℕ, List, Option, Result, Ok, Err}
+use Rattle.vms_spec.specs.declared.Reason.{Reason}
+use Rattle.vms_spec.specs.Faults.{Fault}
+use Rattle.vms_spec.specs.Images.{Image}
+use Rattle.vms_spec.specs.Numbers.{IsBytes}
+use Rattle.vms_spec.specs.Sets.{Set}
+use Rattle.vms_spec.specs.Streams.{Takes}
+use Rattle.vms_spec.specs.WellFormed.{WellFormed}
+use Rattle.vms_laws.specs.Good.{FitsHeads}
+use Rattle.vms_load.specs.Loads.{Loads}
+use Rattle.vms_load.specs.Staging.{name_of}
+use Rattle.vms_load.specs.declared.fault.LoadFault.{LoadFault}
+use Rattle.vms_load.specs.declared.fault.LoadFault.TheVariants as faults
+
+-- Ok, with this machine and these images and so many bytes, or a read fault
+abbrev pub GivesStream : Set → List Image → ℕ → Result (Option ℕ) LoadFault → ℕ → Option (List ℕ) → List Image → Type 0
+GivesStream set images taken (Ok named) n machine others = (taken ≡ n) × (name_of set named ≡ machine) × (images ≡ others)
+GivesStream set images taken (Err (faults.Refused r)) n machine others = ⊥
+GivesStream set images taken (Err faults.ReadFault) n machine others = Unit {0}
+GivesStream set images taken (Err faults.NoMemory) n machine others = ⊥
+
+-- refused at this place, for this device and this reason, or a read fault
+abbrev pub IsRefusedAt : Result (Option ℕ) LoadFault → ℕ → Option ℕ → Reason → Type 0
+IsRefusedAt (Ok named) place section reason = ⊥
+IsRefusedAt (Err (faults.Refused r)) place section reason = (r.at ≡ place) × (r.section ≡ section) × (r.reason ≡ reason)
+IsRefusedAt (Err faults.ReadFault) place section reason = Unit {0}
+IsRefusedAt (Err faults.NoMemory) place section reason = ⊥
+
+-- Where the input takes a stream the answer is that stream, and where it has a fault the answer is that fault. The contract
+-- of a load says the other direction, and `either_law` that every input has one of both.
+pub record IsExact (set : Set) (names : List (List ℕ)) (input : List ℕ) (images : List Image) (taken : ℕ) (result : Result (Option ℕ) LoadFault) : Type 0 where
+  pub stream : (n : ℕ) (machine : Option (List ℕ)) (others : List Image) → Takes set names input n machine others
+      → GivesStream set images taken result n machine others
+  pub fault : (place : ℕ) (section : Option ℕ) (reason : Reason) (size : ℕ) → Fault set names input place section reason size
+      → IsRefusedAt result place section reason
+
+-- for every well-formed set and every input of bytes, of each answer that meets the contract of a load
+abbrev pub ExactLaw : Type 0
+ExactLaw = (set : Set) (names : List (List ℕ)) → WellFormed set → FitsHeads set → (input : List ℕ) → IsBytes input
+    → (left : Option (List ℕ)) (images : List Image) (taken : ℕ) (result : Result (Option ℕ) LoadFault)
+    → Loads set names input left images taken result → IsExact set names input images taken result

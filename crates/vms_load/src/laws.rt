@@ -1,0 +1,9 @@
+//! What follows of every load, as the contract of a function without a body. The statement stands in `specs/Exact.antt`.
+ghost use Rattle.vms_load.specs.Exact.{ExactLaw};
+
+/// A load is Ok exactly where the input takes a stream, with its machine, its images and its length, and refused exactly where
+/// it has a fault, at its place, for its device and its reason; but that a read fault may come in place of either.
+#[tactic(auto, using(crate::proofs::ExactLoads::exact_holds))]
+pub fn exact_law()
+    ensures { ExactLaw }
+{}
