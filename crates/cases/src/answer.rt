@@ -17,12 +17,9 @@ pub(crate) struct Answer {
 impl Answer {
     /// Tells whether this is the wanted answer, of which out and notes may be a beginning alone where that is allowed.
     pub(crate) fn fits(&self, wanted: &Answer, may_be_begun: bool) -> bool {
-        let is_text = |came: &[u8], wanted: &[u8]| {
-            came == wanted || may_be_begun && wanted.starts_with(came)
-        };
         self.status == wanted.status
-            && is_text(&self.out, &wanted.out)
-            && is_text(&self.notes, &wanted.notes)
+            && is_text(&self.out, &wanted.out, may_be_begun)
+            && is_text(&self.notes, &wanted.notes, may_be_begun)
             && (wanted.taken.is_none() || self.taken == wanted.taken)
             && is_same(&self.shelf, &wanted.shelf)
     }
@@ -42,6 +39,10 @@ impl Answer {
         }
         Ok(line)
     }
+}
+
+fn is_text(came: &[u8], wanted: &[u8], may_be_begun: bool) -> bool {
+    came == wanted || may_be_begun && wanted.starts_with(came)
 }
 
 fn is_same(came: &Named, wanted: &Named) -> bool {

@@ -3,8 +3,8 @@
 use crate::answer::Answer;
 use crate::bytes::{Known, Named};
 use crate::entry::Entry;
-use crate::run::Calls;
-use crate::shelf::{copied, put_all};
+use crate::run::{Calls, Object};
+use crate::shelf::with;
 use anyhow::{Context, Result};
 use std::alloc::Global;
 use std::rt::Files;
@@ -32,8 +32,8 @@ pub(crate) struct Case<'a> {
     /// The sizes in which the input is read.
     pub pieces: Vec<u32>,
     pub fails: Calls,
-    /// The calls that fail alone, a run for each.
-    pub each_fails: Calls,
+    /// Objects with the number up to which each call fails alone, in a run of its own.
+    pub each_fails: Vec<(Object, u32)>,
     /// The bytes for which out and notes have room.
     pub rooms: (u32, u32),
     pub shelf: Named,
@@ -63,6 +63,10 @@ const KEYS: [&str; 17] = [
     "after",
     "cut",
 ];
+
+const OBJECTS: [&str; 4] = ["reads", "writes", "notes", "shelf"];
+
+const ALL_OBJECTS: [Object; 4] = [Object::Reads, Object::Writes, Object::Notes, Object::Shelf];
 
 const ROOM: u32 = 65_536;
 
@@ -98,9 +102,7 @@ impl<'a> Case<'a> {
 }
 
 fn shelf<R: Files + AllocGlobal>(rt: &R, shared: &Shared, entry: Entry) -> Result<Named> {
-    let mut shelf = copied(rt.alloc(), &shared.shelf)?;
-    put_all(rt, &shared.known, entry.entry("shelf")?, &mut shelf)?;
-    Ok(shelf)
+    with(rt, &shared.known, entry.entry("shelf")?, &shared.shelf)
 }
 
 // The sizes of pieces, or 0, for any size, where none is given.
@@ -113,42 +115,33 @@ fn pieces(alloc: Global, entry: Entry) -> Result<Vec<u32>> {
 }
 
 fn calls(alloc: Global, entry: Option<Entry>) -> Result<Calls> {
-    match entry {
-        None => Ok(Calls::none(alloc)),
-        Some(entry) => {
-            entry.has_only(&["reads", "writes", "notes", "shelf"])?;
-            Ok(Calls {
-                reads: entry.numbers(alloc, "reads")?,
-                writes: entry.numbers(alloc, "writes")?,
-                notes: entry.numbers(alloc, "notes")?,
-                shelf: entry.numbers(alloc, "shelf")?,
-            })
-        }
+    let mut calls = Calls {
+        reads: Vec::new(alloc),
+        writes: Vec::new(alloc),
+        notes: Vec::new(alloc),
+        shelf: Vec::new(alloc),
+    };
+    if let Some(entry) = entry {
+        entry.has_only(&OBJECTS)?;
+        calls.reads = entry.numbers(alloc, "reads")?;
+        calls.writes = entry.numbers(alloc, "writes")?;
+        calls.notes = entry.numbers(alloc, "notes")?;
+        calls.shelf = entry.numbers(alloc, "shelf")?;
     }
+    Ok(calls)
 }
 
-// The numbers of calls up to those that a table names.
-fn each(alloc: Global, entry: Option<Entry>) -> Result<Calls> {
-    match entry {
-        None => Ok(Calls::none(alloc)),
-        Some(entry) => {
-            entry.has_only(&["reads", "writes", "notes", "shelf"])?;
-            Ok(Calls {
-                reads: up_to(alloc, entry.number("reads")?)?,
-                writes: up_to(alloc, entry.number("writes")?)?,
-                notes: up_to(alloc, entry.number("notes")?)?,
-                shelf: up_to(alloc, entry.number("shelf")?)?,
-            })
+fn each(alloc: Global, entry: Option<Entry>) -> Result<Vec<(Object, u32)>> {
+    let mut each = Vec::new(alloc);
+    if let Some(entry) = entry {
+        entry.has_only(&OBJECTS)?;
+        for (key, object) in OBJECTS.iter().zip(ALL_OBJECTS) {
+            if let Some(last) = entry.number(key)? {
+                each.push((object, last))?;
+            }
         }
     }
-}
-
-fn up_to(alloc: Global, last: Option<u32>) -> Result<Vec<u32>> {
-    let mut numbers = Vec::new(alloc);
-    for number in 1..=last.unwrap_or(0) {
-        numbers.push(number)?;
-    }
-    Ok(numbers)
+    Ok(each)
 }
 
 // The answer that a case wants, with what lay on the shelf before.
@@ -163,15 +156,13 @@ fn wanted<R: Files + AllocGlobal>(
         Some(row) => known.bytes(alloc, row)?,
         None => entry.text("out")?.unwrap_or("").as_bytes().to_vec(alloc)?,
     };
-    let mut shelf = copied(alloc, before)?;
-    put_all(rt, known, entry.entry("after")?, &mut shelf)?;
     let status = u8::try_from(entry.number("status")?.unwrap_or(0)).ok();
     Ok(Answer {
         status: status.context("no status")?,
         out,
         notes: notes(alloc, entry.text("line")?.unwrap_or(""))?,
         taken: entry.number("taken")?.map(|taken| taken as usize),
-        shelf,
+        shelf: with(rt, known, entry.entry("after")?, before)?,
     })
 }
 

@@ -18,31 +18,23 @@ pub(crate) struct Calls {
 }
 
 impl Calls {
-    /// No call fails.
-    pub(crate) fn none(alloc: Global) -> Calls {
-        Calls {
-            reads: Vec::new(alloc),
-            writes: Vec::new(alloc),
-            notes: Vec::new(alloc),
-            shelf: Vec::new(alloc),
+    fn of(&self, object: Object) -> &[u32] {
+        match object {
+            Object::Reads => &self.reads,
+            Object::Writes => &self.writes,
+            Object::Notes => &self.notes,
+            Object::Shelf => &self.shelf,
         }
     }
+}
 
-    /// The calls that fail, in a line.
-    pub(crate) fn line(&self, alloc: Global) -> Result<String> {
-        let mut line = String::from_str(alloc, "failing")?;
-        for (what, numbers) in [
-            ("reads", &self.reads),
-            ("writes", &self.writes),
-            ("notes", &self.notes),
-            ("shelf", &self.shelf),
-        ] {
-            if !numbers.is_empty() {
-                line.push_str(&format!(in alloc; " {what} {numbers:?}")?)?;
-            }
-        }
-        Ok(line)
-    }
+/// An object of the outside, whose calls may fail.
+#[derive(Clone, Copy, Debug, PartialEq, Eq)]
+pub(crate) enum Object {
+    Reads,
+    Writes,
+    Notes,
+    Shelf,
 }
 
 /// The outside of a call.
@@ -52,7 +44,9 @@ pub(crate) struct Outside<'a, 'b> {
     pub input: &'a [u8],
     /// The greatest size of a read; 0 for any.
     pub piece: u32,
+    /// The calls that fail, or the one that fails alone.
     pub fails: &'a Calls,
+    pub alone: Option<(Object, u32)>,
     /// The bytes for which out and notes have room.
     pub rooms: (u32, u32),
     pub shelf: &'a Named,
@@ -64,11 +58,16 @@ pub(crate) struct Outside<'a, 'b> {
 pub(crate) fn answer(alloc: Global, outside: &Outside) -> Result<Answer> {
     let words = words(alloc, outside.words).context("memory")?;
     let mut input = source(alloc, outside)?;
-    let fails = outside.fails;
-    let out = MemSink::new(alloc, outside.rooms.0, fails.writes.clone()?);
-    let mut out = out.ok().context("memory")?;
-    let notes = MemSink::new(alloc, outside.rooms.1, fails.notes.clone()?);
-    let mut notes = notes.ok().context("memory")?;
+    let mut out = sink(
+        alloc,
+        outside.rooms.0,
+        failing(alloc, outside, Object::Writes)?,
+    )?;
+    let mut notes = sink(
+        alloc,
+        outside.rooms.1,
+        failing(alloc, outside, Object::Notes)?,
+    )?;
     let mut shelf = shelf(alloc, outside)?;
     let status = vmstate(alloc, &words, &mut input, &mut out, &mut notes, &mut shelf);
     Ok(Answer {
@@ -88,6 +87,22 @@ fn words(alloc: Global, given: &[&str]) -> Option<Words> {
     Some(words)
 }
 
+// The numbers of an object's failing calls.
+fn failing(alloc: Global, outside: &Outside, object: Object) -> Result<Vec<u32>> {
+    let Some((alone, number)) = outside.alone else {
+        return Ok(outside.fails.of(object).to_vec(alloc)?);
+    };
+    let mut numbers = Vec::new(alloc);
+    if alone == object {
+        numbers.push(number)?;
+    }
+    Ok(numbers)
+}
+
+fn sink(alloc: Global, room: u32, failing: Vec<u32>) -> Result<MemSink> {
+    MemSink::new(alloc, room, failing).ok().context("memory")
+}
+
 // The input in pieces of one size.
 fn source(alloc: Global, outside: &Outside) -> Result<MemSource> {
     let mut pieces = Vec::new(alloc);
@@ -98,7 +113,8 @@ fn source(alloc: Global, outside: &Outside) -> Result<MemSource> {
         }
     }
     let input = outside.input.to_vec(alloc)?;
-    Ok(MemSource::new(input, pieces, outside.fails.reads.clone()?))
+    let failing = failing(alloc, outside, Object::Reads)?;
+    Ok(MemSource::new(input, pieces, failing))
 }
 
 // How many bytes a source has left, which are taken here.
@@ -116,7 +132,7 @@ fn left(source: &mut MemSource) -> usize {
 }
 
 fn shelf(alloc: Global, outside: &Outside) -> Result<MemShelf> {
-    let mut shelf = MemShelf::new(alloc, outside.fails.shelf.clone()?);
+    let mut shelf = MemShelf::new(alloc, failing(alloc, outside, Object::Shelf)?);
     for (name, bytes) in outside.shelf {
         shelf
             .put(name.as_str(), bytes.clone()?)

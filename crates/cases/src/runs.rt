@@ -2,7 +2,7 @@
 
 use crate::answer::Answer;
 use crate::case::{Case, Shared, notes};
-use crate::run::{Calls, Outside, answer};
+use crate::run::{Object, Outside, answer};
 use crate::shelf::copied;
 use anyhow::Result;
 use std::alloc::Global;
@@ -13,8 +13,8 @@ pub(crate) struct Run {
     piece: u32,
     /// How many bytes of the input are there.
     long: usize,
-    /// The calls that fail, where they aren't those of the case.
-    fails: Option<Calls>,
+    /// The call that fails alone.
+    alone: Option<(Object, u32)>,
 }
 
 /// The runs of a case.
@@ -22,12 +22,13 @@ pub(crate) fn runs(alloc: Global, case: &Case) -> Result<Vec<Run>> {
     let mut runs = Vec::new(alloc);
     let whole = case.input.len();
     for piece in &case.pieces {
-        let failing = failing(alloc, &case.each_fails)?;
-        if failing.is_empty() {
+        if case.each_fails.is_empty() {
             runs.push(run_of(*piece, whole, None))?;
         }
-        for fails in failing {
-            runs.push(run_of(*piece, whole, Some(fails)))?;
+        for (object, last) in &case.each_fails {
+            for number in 1..=*last {
+                runs.push(run_of(*piece, whole, Some((*object, number))))?;
+            }
         }
         if !case.cuts.is_empty() {
             for long in 0..whole {
@@ -38,42 +39,8 @@ pub(crate) fn runs(alloc: Global, case: &Case) -> Result<Vec<Run>> {
     Ok(runs)
 }
 
-fn run_of(piece: u32, long: usize, fails: Option<Calls>) -> Run {
-    Run { piece, long, fails }
-}
-
-// Each listed call, failing alone.
-fn failing(alloc: Global, each: &Calls) -> Result<Vec<Calls>> {
-    let mut failing = Vec::new(alloc);
-    for number in &each.reads {
-        let reads = vec![in alloc; *number]?;
-        failing.push(Calls {
-            reads,
-            ..Calls::none(alloc)
-        })?;
-    }
-    for number in &each.writes {
-        let writes = vec![in alloc; *number]?;
-        failing.push(Calls {
-            writes,
-            ..Calls::none(alloc)
-        })?;
-    }
-    for number in &each.notes {
-        let notes = vec![in alloc; *number]?;
-        failing.push(Calls {
-            notes,
-            ..Calls::none(alloc)
-        })?;
-    }
-    for number in &each.shelf {
-        let shelf = vec![in alloc; *number]?;
-        failing.push(Calls {
-            shelf,
-            ..Calls::none(alloc)
-        })?;
-    }
-    Ok(failing)
+fn run_of(piece: u32, long: usize, alone: Option<(Object, u32)>) -> Run {
+    Run { piece, long, alone }
 }
 
 /// What came in place of what was wanted, if they differ in this run.
@@ -95,7 +62,8 @@ fn outside<'a, 'b>(shared: &'a Shared<'b>, case: &'a Case<'b>, run: &'a Run) -> 
         words: case.words.as_ref().unwrap_or(&shared.words).as_slice(),
         input: case.input.get(..run.long).unwrap_or(&[]),
         piece: run.piece,
-        fails: run.fails.as_ref().unwrap_or(&case.fails),
+        fails: &case.fails,
+        alone: run.alone,
         rooms: case.rooms,
         shelf: &case.shelf,
         names: &case.wanted.shelf,
@@ -153,9 +121,8 @@ fn label(alloc: Global, case: &Case, run: &Run) -> Result<String> {
     if run.long < case.input.len() {
         label.push_str(&format!(in alloc; ", cut at {}", run.long)?)?;
     }
-    if let Some(fails) = &run.fails {
-        label.push_str(", ")?;
-        label.push_str(&fails.line(alloc)?)?;
+    if let Some((object, number)) = run.alone {
+        label.push_str(&format!(in alloc; ", {object:?} failing at {number}")?)?;
     }
     Ok(label)
 }

@@ -17,24 +17,23 @@ pub(crate) fn copied(alloc: Global, named: &Named) -> Result<Named> {
     Ok(copy)
 }
 
-/// Puts what a table names onto a shelf.
-pub(crate) fn put_all<R: Files + AllocGlobal>(
+/// What lies on a shelf once what a table names is put beside what lay there.
+pub(crate) fn with<R: Files + AllocGlobal>(
     rt: &R,
     known: &Known,
     table: Option<Entry>,
-    shelf: &mut Named,
-) -> Result<()> {
+    before: &Named,
+) -> Result<Named> {
     let alloc = rt.alloc();
+    let mut shelf = copied(alloc, before)?;
     if let Some(table) = table {
         for name in table.names(alloc)? {
             let content = table.entry(name)?.context("nothing under a name")?;
-            shelf.insert(
-                String::from_str(alloc, name)?,
-                content_of(rt, known, content)?,
-            )?;
+            let bytes = content_of(rt, known, content)?;
+            shelf.insert(String::from_str(alloc, name)?, bytes)?;
         }
     }
-    Ok(())
+    Ok(shelf)
 }
 
 // What a content stands for: a text, a row of bytes, or a file beside the topics; and so many times.

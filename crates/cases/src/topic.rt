@@ -4,7 +4,7 @@ use crate::bytes::Known;
 use crate::case::{Case, Shared};
 use crate::entry::Entry;
 use crate::runs::{difference, runs};
-use crate::shelf::put_all;
+use crate::shelf::with;
 use anyhow::{Context, Result};
 use std::alloc::Global;
 use std::collections::BTreeMap;
@@ -53,9 +53,11 @@ fn shared<'a, R: Files + AllocGlobal>(rt: &R, topic: Entry<'a>) -> Result<Shared
         rows: topic.entry("bytes")?,
         outs: BTreeMap::new(alloc),
     };
-    let mut shelf = BTreeMap::new(alloc);
-    put_all(rt, &known, topic.entry("shelf")?, &mut shelf)?;
-    let words = topic.texts(alloc, "words")?.unwrap_or(Vec::new(alloc));
+    let shelf = with(rt, &known, topic.entry("shelf")?, &BTreeMap::new(alloc))?;
+    let words = match topic.texts(alloc, "words")? {
+        Some(words) => words,
+        None => Vec::new(alloc),
+    };
     Ok(Shared {
         words,
         shelf,
