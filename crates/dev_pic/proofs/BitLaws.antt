@@ -1,9 +1,12 @@
 -- Sets of inputs, input by input, and their bounds.
-use Rattle.std.proofs.Common.{◌≡◌, ◌≢◌, ℕ, zero, suc, ◌-◌, ◌<◌, ◌^◌, ◌==◌, min, max, Bool, true, false, not, ◌&&◌, ◌||◌, arith, bit_and, bit_or, refl, ◌∙◌, ap}
+use Rattle.std.proofs.Common.{◌≡◌, ◌≢◌, ℕ, zero, suc, ◌-◌, ◌<◌, ◌^◌, ◌==◌, min, max, Bool, true, false, not, ◌&&◌, ◌||◌, arith, bit_and, bit_or, refl, ◌∙◌, ap, sym}
 use Rattle.std.specs.Int.{bit_at, w8}
 use Rattle.std.proofs.lemmas.Nat.{and_le_l, and_le_r, or_of_8, pow_below}
 use Rattle.std.proofs.lemmas.Nat.Bits.{bit_at_and, bit_at_or, bit_at_not, same_from_bits_below, bit_at-lt, bit_at-pow_same, bit_at-pow_other, same_from_bits}
-use Rattle.dev_pic.specs.Bits.{has, but_not, with_input, without_input}
+use Rattle.dev_base.specs.Bits.{has}
+use Rattle.dev_pic.specs.Bits.{but_not, with_input, without_input}
+use Rattle.dev_pic.specs.Chip.{level_inputs}
+use Rattle.dev_pic.specs.Laws.{LevelInputsAre}
 
 not_bit : (r i : ℕ) → r < 256 → i < 8 → bit_at (255 - r) i ≡ 1 - bit_at r i
 not_bit r i h l = bit_at_not w8 r i h l
@@ -61,7 +64,7 @@ and_not_false : (b : Bool) → (b && not false) ≡ b
 and_not_false true = refl
 and_not_false false = refl
 
-or_true : (b : Bool) → (b || true) ≡ true
+pub or_true : (b : Bool) → (b || true) ≡ true
 or_true true = refl
 or_true false = refl
 
@@ -104,3 +107,33 @@ level-lines x i e hx hi he =
 pub and-twice : (v m : ℕ) → bit_and (bit_and v m) m ≡ bit_and v m
 and-twice v m =
     same_from_bits _ _ (λ k. simp bit_at_and (omega arith))
+
+-- what holds of each of eight inputs
+pub each_input : (P : ℕ → Type 0) → P 0 → P 1 → P 2 → P 3 → P 4 → P 5 → P 6 → P 7 → (i : ℕ) → i < 8 → P i
+each_input P a b c d e f g h zero l = a
+each_input P a b c d e f g h (suc zero) l = b
+each_input P a b c d e f g h (suc (suc zero)) l = c
+each_input P a b c d e f g h (suc (suc (suc zero))) l = d
+each_input P a b c d e f g h (suc (suc (suc (suc zero)))) l = e
+each_input P a b c d e f g h (suc (suc (suc (suc (suc zero))))) l = f
+each_input P a b c d e f g h (suc (suc (suc (suc (suc (suc zero)))))) l = g
+each_input P a b c d e f g h (suc (suc (suc (suc (suc (suc (suc zero))))))) l = h
+each_input P a b c d e f g h (suc (suc (suc (suc (suc (suc (suc (suc i)))))))) l = absurd (omega (arith, l))
+
+-- the level inputs
+has-all : (i : ℕ) → i < 8 → has 0xff i ≡ true
+has-all = each_input (λ i. has 0xff i ≡ true) refl refl refl refl refl refl refl refl
+
+pub or_false : (b : Bool) → (b || false) ≡ b
+or_false true = refl
+or_false false = refl
+
+pub level_inputs_are : LevelInputsAre
+unfolding level_inputs
+level_inputs_are true elcr input within = has-all input within ∙ sym (or_true (has elcr input))
+level_inputs_are false elcr input within = sym (or_false (has elcr input))
+
+pub level_inputs-lt : (ltim : Bool) (elcr : ℕ) → elcr < 256 → level_inputs ltim elcr < 256
+unfolding level_inputs
+level_inputs-lt true elcr h = omega arith
+level_inputs-lt false elcr h = h

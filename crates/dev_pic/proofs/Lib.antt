@@ -1,6 +1,7 @@
 pub mod BitLaws
 pub mod CellLemmas
 pub mod InitLaws
+pub mod LineLaws
 pub mod ModeLaws
 pub mod PairLaws
 pub mod RestoredLaws

@@ -2,8 +2,9 @@
 use Rattle.std.proofs.Common.{◌≡◌, ℕ, ◌+◌, ◌<◌, Bool, true, false, not, cond, ◌&&◌, ◌||◌, Option, Some, None, refl, arith, sym, ◌∙◌, ap, subst}
 use Rattle.std.proofs.lemmas.Bool.{false≢true}
 use Rattle.std.specs.Prelude.{bit_and, bit_or}
-use Rattle.dev_pic.specs.Bits.{has, but_not, with_input, without_input}
-use Rattle.dev_pic.specs.Chip.{cascade_input, requests_of, in_service_of, served_of, winner_at, taken, rising, settled, ended, ended_lowest, highest_served, commanded, written_even, vector_of, answered}
+use Rattle.dev_base.specs.Bits.{has}
+use Rattle.dev_pic.specs.Bits.{but_not, with_input, without_input}
+use Rattle.dev_pic.specs.Chip.{cascade_input, level_inputs_of, requests_of, in_service_of, served_of, winner_at, taken, rising, settled, ended, ended_lowest, highest_served, commanded, written_even, vector_of, answered}
 use Rattle.dev_pic.specs.Laws.{MaskedNeverWins, ServedBlocksLower, IsHighestServed, EndsService, EoiEndsHighest, AckWithoutWinner, TakesWinner, TakesLinesOver}
 use Rattle.dev_pic.specs.Pair.{acked, acked_for}
 use Rattle.dev_pic.specs.Sound.{HasRegisters, PairHasRegisters}
@@ -13,7 +14,7 @@ use Rattle.dev_pic.specs.declared.chip.Role.{Role}
 use Rattle.dev_pic.specs.declared.chip.Role.TheVariants.{Master, Slave}
 use Rattle.dev_pic.specs.declared.ocw2.Ocw2.TheVariants.{NonSpecificEoi, RotateOnNonSpecificEoi}
 use Rattle.dev_pic.specs.declared.pair.PicPair.{PicPair}
-use Rattle.dev_pic.proofs.BitLaws.{has-and, has-or, has-but_not, has-without_same, has-without_other, has-with_same}
+use Rattle.dev_pic.proofs.BitLaws.{level_inputs-lt, has-and, has-or, has-but_not, has-without_same, has-without_other, has-with_same}
 use Rattle.dev_pic.proofs.WinnerLaws.{winner_of-means, highest_at, highest_none}
 
 -- the winner of a chip meets the relation
@@ -90,9 +91,9 @@ ends_nothing chip none =
     let e = highest_none chip.lowest (in_service_of chip) none in
     (ap (λ o. ended o chip) e, ap (λ o. ended_lowest o chip) e)
 
-eoi_words : (chip : Chip) → (written_even 0x20 chip ≡ commanded NonSpecificEoi chip) × (written_even 0xa0 chip ≡ commanded RotateOnNonSpecificEoi chip)
+eoi_words : (level : ℕ) (chip : Chip) → (written_even level 0x20 chip ≡ commanded NonSpecificEoi chip) × (written_even level 0xa0 chip ≡ commanded RotateOnNonSpecificEoi chip)
 unfolding written_even
-eoi_words chip = (refl, refl)
+eoi_words level chip = (refl, refl)
 
 pub eoi_ends_highest : EoiEndsHighest
 eoi_ends_highest = record { words = eoi_words; highest = ends_highest; rotating = rotates_highest; nothing = ends_nothing }
@@ -118,11 +119,11 @@ pub ack_without_winner : AckWithoutWinner
 ack_without_winner = record { master = master_unasked; slave = slave_unasked }
 
 -- parts of a chip that is taken, by whether the input is a level input
-edge_irr : (chip : Chip) (winner : ℕ) → has chip.elcr winner ≡ false → (taken winner chip).irr ≡ without_input chip.irr winner
+edge_irr : (chip : Chip) (winner : ℕ) → has (level_inputs_of chip) winner ≡ false → (taken winner chip).irr ≡ without_input chip.irr winner
 unfolding taken
 edge_irr chip winner e = rw e
 
-level_irr : (chip : Chip) (winner : ℕ) → has chip.elcr winner ≡ true → (taken winner chip).irr ≡ chip.irr
+level_irr : (chip : Chip) (winner : ℕ) → has (level_inputs_of chip) winner ≡ true → (taken winner chip).irr ≡ chip.irr
 unfolding taken
 level_irr chip winner e = rw e (serving_irr chip.auto_eoi chip.rotate) where
   serving_irr : (auto rotate : Bool) → (cond auto (cond rotate (record chip { lowest = winner }) chip) (record chip { isr = with_input chip.isr winner })).irr ≡ chip.irr
@@ -137,7 +138,7 @@ isr_by chip winner false false e = refl
 
 served_isr : (chip : Chip) (winner : ℕ) → chip.auto_eoi ≡ false → (taken winner chip).isr ≡ with_input chip.isr winner
 unfolding taken
-served_isr chip winner e = isr_by chip winner chip.auto_eoi (has chip.elcr winner) e
+served_isr chip winner e = isr_by chip winner chip.auto_eoi (has (level_inputs_of chip) winner) e
 
 pub takes_winner : TakesWinner
 takes_winner = record {
@@ -160,10 +161,11 @@ by_mode false false false = refl
 pub takes_lines_over : TakesLinesOver
 unfolding settled
 takes_lines_over inputs edges chip input lines elcr within =
+    let levels = level_inputs-lt chip.ltim chip.elcr elcr in
     let rises = has-or (but_not inputs chip.lines) edges input ∙ ap (λ t. t || has edges input) (has-but_not inputs chip.lines input lines within) in
     let kept = has-or chip.irr (rising inputs edges chip) input ∙ ap (λ t. has chip.irr input || t) rises in
-    let edge = has-but_not (bit_or chip.irr (rising inputs edges chip)) chip.elcr input elcr within ∙ ap (λ t. t && not (has chip.elcr input)) kept in
-    has-or (but_not (bit_or chip.irr (rising inputs edges chip)) chip.elcr) (bit_and inputs chip.elcr) input
-    ∙ ap (λ t. t || has (bit_and inputs chip.elcr) input) edge
-    ∙ ap (λ t. ((has chip.irr input || ((has inputs input && not (has chip.lines input)) || has edges input)) && not (has chip.elcr input)) || t) (has-and inputs chip.elcr input)
-    ∙ by_mode (has chip.irr input || ((has inputs input && not (has chip.lines input)) || has edges input)) (has inputs input) (has chip.elcr input)
+    let edge = has-but_not (bit_or chip.irr (rising inputs edges chip)) (level_inputs_of chip) input levels within ∙ ap (λ t. t && not (has (level_inputs_of chip) input)) kept in
+    has-or (but_not (bit_or chip.irr (rising inputs edges chip)) (level_inputs_of chip)) (bit_and inputs (level_inputs_of chip)) input
+    ∙ ap (λ t. t || has (bit_and inputs (level_inputs_of chip)) input) edge
+    ∙ ap (λ t. ((has chip.irr input || ((has inputs input && not (has chip.lines input)) || has edges input)) && not (has (level_inputs_of chip) input)) || t) (has-and inputs (level_inputs_of chip) input)
+    ∙ by_mode (has chip.irr input || ((has inputs input && not (has chip.lines input)) || has edges input)) (has inputs input) (has (level_inputs_of chip) input)

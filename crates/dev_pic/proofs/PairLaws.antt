@@ -1,61 +1,63 @@
 -- What each step of the pair keeps.
-use Rattle.std.proofs.Common.{◌≡◌, ℕ, ◌%◌, ◌<◌, ◌≤◌, ◌^◌, ◌==◌, Bool, true, false, cond, Option, Some, None, IfSome, arith, refl}
+use Rattle.std.proofs.Common.{◌≡◌, ℕ, ◌%◌, ◌<◌, ◌≤◌, ◌^◌, ◌==◌, Bool, true, false, Option, Some, None, IfSome, arith, refl}
 use Rattle.std.proofs.lemmas.Bool.Decides.{nat_tests}
 use Rattle.std.proofs.lemmas.Nat.{or_of_8, and_le_l}
 use Rattle.std.specs.Prelude.{bit_and, nat_le}
-use Rattle.dev_pic.specs.Cells.{levels_hold, requests_hold}
-use Rattle.dev_pic.specs.Chip.{level_inputs, winner_at, elcr_written, cascade_input}
+use Rattle.dev_pic.specs.Cells.{levels_hold, requests_hold, mode_holds}
+use Rattle.dev_pic.specs.Chip.{elcr_mask, level_inputs, winner_at, elcr_written, cascade_input}
+use Rattle.dev_base.specs.Levels.{IsLevel}
 use Rattle.dev_pic.specs.Laws.{StepsKeepRegisters, StepsKeepLevel}
-use Rattle.dev_pic.specs.Levels.{elcr_since, IsLevel}
 use Rattle.dev_pic.specs.Pair.{chip_on, power_on, is_port, with_cascade, settled_pair, read_pair, written_pair, acked, acked_for}
 use Rattle.dev_pic.specs.Sound.{HasRegisters, PairHasRegisters, IsSoundPair}
 use Rattle.dev_pic.specs.declared.chip.Chip.{Chip}
 use Rattle.dev_pic.specs.declared.chip.Role.{Role}
 use Rattle.dev_pic.specs.declared.chip.Role.TheVariants.{Master, Slave}
+use Rattle.dev_pic.specs.declared.levels.TheConstants.{ELCR_SINCE, LTIM_SINCE}
 use Rattle.dev_pic.specs.declared.pair.PicPair.{PicPair}
-use Rattle.dev_pic.proofs.BitLaws.{without_input-lt, and-twice}
-use Rattle.dev_pic.proofs.StepLaws.{either, winner-lt, settled-sound, written_even-registers, written_odd-registers, read-registers, answered-registers, cascaded-registers}
+use Rattle.dev_base.proofs.Choices.{either, by_test}
+use Rattle.dev_pic.proofs.BitLaws.{without_input-lt, and-twice, or_true}
+use Rattle.dev_pic.proofs.StepLaws.{winner-lt, settled-sound, written_even-registers, written_odd-registers, read-registers, answered-registers, cascaded-registers}
 
 -- an answer after which the pair has its registers
 record Kept (answer : ℕ × PicPair) : Type 0 where
   kept : PairHasRegisters answer.1
 
--- the same as `either`, where each branch may use that it is taken
-by_test : {A : Type 0} (P : A → Type 0) (b : Bool) (x y : A) → (b ≡ true → P x) → (b ≡ false → P y) → P (cond b x y)
-by_test P true x y p q = p refl
-by_test P false x y p q = q refl
-
 -- no level input at power on
 levels_off : (level : ℕ) (role : Role) → levels_hold level role 0 ≡ true
 unfolding levels_hold
-levels_off level Master = either (λ (b : Bool). b ≡ true) (nat_le elcr_since level) _ _ refl refl
-levels_off level Slave = either (λ (b : Bool). b ≡ true) (nat_le elcr_since level) _ _ refl refl
+levels_off level Master = either (λ (b : Bool). b ≡ true) (nat_le ELCR_SINCE level) _ _ refl refl
+levels_off level Slave = either (λ (b : Bool). b ≡ true) (nat_le ELCR_SINCE level) _ _ refl refl
 
 -- rule 2 holds of what is kept of a write, at a level with edge/level registers
-levels_written : (level : ℕ) (role : Role) (value : ℕ) → elcr_since ≤ level → levels_hold level role (bit_and value (level_inputs role)) ≡ true
+levels_written : (level : ℕ) (role : Role) (value : ℕ) → ELCR_SINCE ≤ level → levels_hold level role (bit_and value (elcr_mask role)) ≡ true
 unfolding levels_hold
 levels_written level role value h =
-    let twice = and-twice value (level_inputs role) in
+    let twice = and-twice value (elcr_mask role) in
     grind (arith, nat_tests)
 
-has_elcr : (level port : ℕ) → is_port level port ≡ true → (port == 0x20) ≡ false → (port == 0x21) ≡ false → (port == 0xa0) ≡ false → (port == 0xa1) ≡ false → elcr_since ≤ level
+-- no level mode at power on
+mode_off : (level : ℕ) → mode_holds level false ≡ true
+unfolding mode_holds
+mode_off level = or_true (nat_le LTIM_SINCE level)
+
+has_elcr : (level port : ℕ) → is_port level port ≡ true → (port == 0x20) ≡ false → (port == 0x21) ≡ false → (port == 0xa0) ≡ false → (port == 0xa1) ≡ false → ELCR_SINCE ≤ level
 has_elcr level port h a b c d = grind (arith, nat_tests)
 
 power-sound : (level : ℕ) → IsLevel level → IsSoundPair (power_on level)
-unfolding power_on chip_on requests_hold
+unfolding power_on chip_on requests_hold level_inputs
 power-sound level l = record {
   level = l;
   master = record {
-    registers = record { irr = omega arith; isr = omega arith; imr = omega arith; lines = omega arith; lowest = omega arith; base = omega arith; vectors = refl; elcr = omega arith; levels = levels_off level Master };
+    registers = record { irr = omega arith; isr = omega arith; imr = omega arith; lines = omega arith; lowest = omega arith; base = omega arith; vectors = refl; elcr = omega arith; levels = levels_off level Master; mode = mode_off level };
     requests = refl;
   };
   slave = record {
-    registers = record { irr = omega arith; isr = omega arith; imr = omega arith; lines = omega arith; lowest = omega arith; base = omega arith; vectors = refl; elcr = omega arith; levels = levels_off level Slave };
+    registers = record { irr = omega arith; isr = omega arith; imr = omega arith; lines = omega arith; lowest = omega arith; base = omega arith; vectors = refl; elcr = omega arith; levels = levels_off level Slave; mode = mode_off level };
     requests = refl;
   };
 }
 
-elcr-written : (level : ℕ) (role : Role) (chip : Chip) (value : ℕ) → elcr_since ≤ level → value < 256 → HasRegisters level role chip → HasRegisters level role (elcr_written role value chip)
+elcr-written : (level : ℕ) (role : Role) (chip : Chip) (value : ℕ) → ELCR_SINCE ≤ level → value < 256 → HasRegisters level role chip → HasRegisters level role (elcr_written role value chip)
 unfolding elcr_written
 elcr-written level role chip value l v h = record {
   irr = h.irr;
@@ -65,11 +67,12 @@ elcr-written level role chip value l v h = record {
   lowest = h.lowest;
   base = h.base;
   vectors = h.vectors;
-  elcr = omega (arith, and_le_l value (level_inputs role));
+  elcr = omega (arith, and_le_l value (elcr_mask role));
   levels = levels_written level role value l;
+  mode = h.mode;
 }
 
-cascade-lt : (is_high : Bool) (inputs : ℕ) → inputs < 256 → with_cascade is_high inputs < 256
+pub cascade-lt : (is_high : Bool) (inputs : ℕ) → inputs < 256 → with_cascade is_high inputs < 256
 cascade-lt is_high inputs h =
     or_of_8 _ _ (without_input-lt inputs cascade_input h) (either (λ (n : ℕ). n < 256) is_high 4 0 (omega arith) (omega arith))
 

@@ -1,35 +1,18 @@
 -- What is restored is sound.
-use Rattle.std.proofs.Common.{◌≡◌, ℕ, ◌<◌, ◌≤◌, ◌%◌, Bool, true, false, not, cond, List, ℤ, pos, negsuc, Option, Some, None, Result, Ok, Err, refl, sym, subst, arith}
+use Rattle.std.proofs.Common.{◌≡◌, ℕ, ◌≤◌, ◌%◌, true, List, ℤ, take, drop, Result, Ok, Err, sym, subst, arith}
 use Rattle.std.proofs.lemmas.Bool.Decides.{nat_tests}
-use Rattle.std.proofs.lemmas.Int.{ints}
-use Rattle.vms_kinds.specs.Codes.{InRange}
-use Rattle.vms_kinds.specs.declared.Kind.TheVariants.{U8}
-use Rattle.dev_pic.specs.Cells.{natural, number_at, IsChipCells, chip_of, registers_hold, levels_hold, requests_hold, first_fault, restored_by, restored}
+use Rattle.dev_base.specs.Levels.{IsLevel}
+use Rattle.dev_base.proofs.CellLaws.{byte-lt}
+use Rattle.dev_base.proofs.RuleLaws.{AllTrue, judged-ok, hook-ok}
+use Rattle.dev_pic.specs.Cells.{cell_count, IsChipCells, chip_of, registers_hold, rules, restored}
 use Rattle.dev_pic.specs.Laws.{RestoredIsSound}
-use Rattle.dev_pic.specs.Levels.{IsLevel}
-use Rattle.dev_pic.specs.Saved.{pair_of, restored_pair}
+use Rattle.dev_pic.specs.Saved.{pair_of, restored_pair, by_number}
 use Rattle.dev_pic.specs.Sound.{IsSoundChip, IsSoundPair}
-use Rattle.dev_pic.specs.declared.cells.Cell.TheVariants.{Irr, Isr, Imr, Lines, Lowest, Base, InitState as State, Elcr}
 use Rattle.dev_pic.specs.declared.chip.Chip.{Chip}
 use Rattle.dev_pic.specs.declared.chip.Role.{Role}
 use Rattle.dev_pic.specs.declared.chip.Role.TheVariants.{Master, Slave}
+use Rattle.dev_pic.specs.declared.fault.ChipFault.{ChipFault}
 use Rattle.dev_pic.specs.declared.pair.PicPair.{PicPair}
-
-byte-lt : (z : ℤ) → InRange U8 z → natural z < 256
-byte-lt (pos n) range = omega (arith, ints)
-byte-lt (negsuc n) range = omega arith
-
--- all three rules hold where none fails
-record AllHold (a b c : Bool) : Type 0 where
-  first : a ≡ true
-  second : b ≡ true
-  third : c ≡ true
-
-no_fault : (a b c : Bool) → cond {A = Option ℕ} (not a) (Some 1) (cond (not b) (Some 2) (cond (not c) (Some 3) None)) ≡ None → AllHold a b c
-no_fault true true true e = record { first = refl; second = refl; third = refl }
-no_fault false b c e = cc
-no_fault true false c e = cc
-no_fault true true false e = cc
 
 -- what rule 1 says
 low_priority : (lowest state base : ℕ) → registers_hold lowest state base ≡ true → lowest ≤ 7
@@ -40,34 +23,28 @@ clear_vectors : (lowest state base : ℕ) → registers_hold lowest state base �
 unfolding registers_hold
 clear_vectors lowest state base h = grind (arith, nat_tests)
 
-sound : (level : ℕ) (role : Role) (cells : List ℤ) → IsChipCells cells → first_fault level role cells ≡ None → IsSoundChip level role (chip_of cells)
-unfolding chip_of first_fault
-sound level role cells is e =
-    let hold = no_fault (registers_hold (number_at cells Lowest) (number_at cells State) (number_at cells Base)) (levels_hold level role (number_at cells Elcr)) (requests_hold (number_at cells Irr) (number_at cells Lines) (number_at cells Elcr)) e in
-    record {
-      registers = record {
-        irr = byte-lt _ (is.in_range Irr);
-        isr = byte-lt _ (is.in_range Isr);
-        imr = byte-lt _ (is.in_range Imr);
-        lines = byte-lt _ (is.in_range Lines);
-        lowest = low_priority _ _ _ hold.first;
-        base = byte-lt _ (is.in_range Base);
-        vectors = clear_vectors _ _ _ hold.first;
-        elcr = byte-lt _ (is.in_range Elcr);
-        levels = hold.second;
-      };
-      requests = hold.third;
-    }
-
--- a chip is restored only where no rule fails
-restored-ok : (fault : Option ℕ) (found chip : Chip) → restored_by fault found ≡ Ok chip → (fault ≡ None) × (found ≡ chip)
-unfolding restored_by
-restored-ok None found chip e = (refl, cc)
-restored-ok (Some rule) found chip e = cc
+-- a chip of cells that break no rule is sound
+pub sound : (level : ℕ) (role : Role) (cells : List ℤ) → IsChipCells cells → AllTrue (rules level role cells) → IsSoundChip level role (chip_of cells)
+unfolding chip_of
+sound level role cells is hold = record {
+  registers = record {
+    irr = byte-lt _ (is.in_range 0 (omega arith));
+    isr = byte-lt _ (is.in_range 1 (omega arith));
+    imr = byte-lt _ (is.in_range 2 (omega arith));
+    lines = byte-lt _ (is.in_range 3 (omega arith));
+    lowest = low_priority _ _ _ hold.0;
+    base = byte-lt _ (is.in_range 5 (omega arith));
+    vectors = clear_vectors _ _ _ hold.0;
+    elcr = byte-lt _ (is.in_range 15 (omega arith));
+    levels = hold.1.0;
+    mode = hold.1.1.1.0;
+  };
+  requests = hold.1.1.0;
+}
 
 restored-sound : (level : ℕ) (role : Role) (cells : List ℤ) (chip : Chip) → IsChipCells cells → restored level role cells ≡ Ok chip → IsSoundChip level role chip
 restored-sound level role cells chip is e =
-    let ok = restored-ok (first_fault level role cells) (chip_of cells) chip e in
+    let ok = judged-ok (rules level role cells) (chip_of cells) chip e in
     subst (IsSoundChip level role) ok.1 (sound level role cells is ok.0)
 
 -- a pair is made of two chips that were restored
@@ -82,6 +59,11 @@ made_of level (Ok master) (Ok slave) pair e = record { same_level = cc; of_maste
 made_of level (Ok master) (Err rule) pair e = cc
 made_of level (Err rule) slave pair e = cc
 
+numbered : (outcome : Result PicPair ChipFault) (pair : PicPair) → by_number outcome ≡ Ok pair → outcome ≡ Ok pair
+unfolding by_number
+numbered (Ok found) pair e = cc
+numbered (Err fault) pair e = cc
+
 pair-sound : (level : ℕ) (master slave : List ℤ) (pair : PicPair) → IsLevel level → IsChipCells master → IsChipCells slave → restored_pair level master slave ≡ Ok pair → IsSoundPair pair × (pair.level ≡ level)
 pair-sound level master slave pair l m s e =
     let made = made_of level (restored level Master master) (restored level Slave slave) pair e in
@@ -91,4 +73,6 @@ pair-sound level master slave pair l m s e =
     (record { level = parts.0; master = parts.1; slave = parts.2 }, same)
 
 pub restored_is_sound : RestoredIsSound
-restored_is_sound = record { pair = pair-sound }
+restored_is_sound = record {
+  pair = λ numbers cells pair can e. pair-sound numbers.level (take cell_count cells) (drop cell_count cells) pair can.pass.is_level can.master can.slave (numbered _ pair (hook-ok _ pair e));
+}

@@ -1,32 +1,33 @@
 -- What was saved is restored as it was.
-use Rattle.std.proofs.Common.{◌≡◌, ℕ, ◌<◌, ◌≤◌, ◌==◌, Bool, true, false, not, cond, List, ◌++◌, length, Option, Some, None, Ok, refl, ap, sym, subst, ◌∙◌, arith, ℤ, pos, ⊎_elim}
-use Rattle.std.proofs.lemmas.Bool.{cases_lt}
+use Rattle.std.proofs.Common.{◌≡◌, ℕ, zero, suc, ◌+◌, ◌-◌, ◌<◌, ◌≤◌, ◌==◌, Bool, true, false, cond, List, [], ◌∷◌, ◌++◌, length, take, drop, Ok, refl, ap, sym, subst, ◌∙◌, arith, ℤ, pos}
+use Rattle.std.proofs.lemmas.Bool.{false≢true}
 use Rattle.std.proofs.lemmas.Bool.Decides.{nat_tests}
-use Rattle.std.proofs.lemmas.Int.{ints}
 use Rattle.std.specs.Prelude.{nat_le}
 use Rattle.vms_hooks.specs.Numbers.{Numbers}
-use Rattle.vms_kinds.specs.Codes.{InRange}
 use Rattle.vms_kinds.specs.declared.Kind.TheVariants.{U8, Bool as Truth}
-use Rattle.dev_pic.specs.Cells.{cell_count, count_of, IsCellsOf, place_of, kind_of, value_at, flag_number, state_number, state_of, first_cells, elcr_cells, saved_cells, carried, IsChipCells, chip_of, registers_hold, levels_hold, requests_hold, first_fault, restored_by, restored}
-use Rattle.dev_pic.specs.Laws.{SoundMeetsRules, SavedAreCells, SavedIsRestored}
-use Rattle.dev_pic.specs.Levels.{newest, elcr_since}
-use Rattle.dev_pic.specs.Saved.{IsRestore, CanRestore, pair_of, restored_pair, hook_result, hook_restored}
+use Rattle.dev_base.specs.Cells.{cell_at, flag_at, flag_number, AreOf}
+use Rattle.dev_base.specs.Levels.{MayRestore}
+use Rattle.dev_base.specs.Tables.{carried_by, places, default_of}
+use Rattle.dev_base.specs.declared.limits.TheConstants.{NEWEST}
+use Rattle.dev_base.proofs.Choices.{either}
+use Rattle.dev_base.proofs.CellLaws.{of_none, of_more, of_both, of_where, byte, flag, flag-back}
+use Rattle.dev_base.proofs.RuleLaws.{AllTrue, none_failing, all_true, judged-all, ok-hook}
+use Rattle.dev_pic.specs.Cells.{cell_count, kinds, state_number, state_of, first_cells, saved_cells, carried, IsChipCells, chip_of, registers_hold, levels_hold, mode_holds, rules, restored}
+use Rattle.dev_pic.specs.Laws.{SoundMeetsRules, SavedAreCells, SavedIsRestored, FaultsAreTold}
+use Rattle.dev_pic.specs.Saved.{CanSave, CanRestore, pair_cells, pair_carried, pair_of, restored_pair, by_number, hook_rule, fault_of, hook_restored}
 use Rattle.dev_pic.specs.Sound.{HasRegisters, IsSoundChip, MeetsRules, IsSoundPair}
-use Rattle.dev_pic.specs.declared.cells.Cell.{Cell}
-use Rattle.dev_pic.specs.declared.cells.Cell.TheVariants.{Irr, Isr, Imr, Lines, Lowest, Base, InitState as State, Icw4, Single, ReadIsr, Poll, SpecialMask, AutoEoi, Rotate, Nested, Elcr}
 use Rattle.dev_pic.specs.declared.chip.Chip.{Chip}
 use Rattle.dev_pic.specs.declared.chip.InitState.{InitState}
 use Rattle.dev_pic.specs.declared.chip.InitState.TheVariants.{Ready, Icw2, Icw3, Icw4 as WantsIcw4}
 use Rattle.dev_pic.specs.declared.chip.Role.{Role}
 use Rattle.dev_pic.specs.declared.chip.Role.TheVariants.{Master, Slave}
+use Rattle.dev_pic.specs.declared.fault.ChipFault.{ChipFault}
+use Rattle.dev_pic.specs.declared.levels.TheConstants.{ELCR_SINCE, LTIM_SINCE}
 use Rattle.dev_pic.specs.declared.pair.PicPair.{PicPair}
-use Rattle.dev_pic.proofs.CellLemmas.{master_part, slave_part, master_cells, slave_cells}
+use Rattle.dev_pic.proofs.CellLemmas.{first_part, second_part}
+use Rattle.dev_pic.proofs.RestoredLaws.{sound}
 
--- flags and states are their numbers, back again
-flag-back : (b : Bool) → (flag_number b == 1) ≡ b
-flag-back true = refl
-flag-back false = refl
-
+-- states are their numbers, back again
 state-back : (s : InitState) → state_of (state_number s) ≡ s
 state-back Ready = refl
 state-back Icw2 = refl
@@ -40,7 +41,7 @@ state-le Icw3 = omega arith
 state-le WantsIcw4 = omega arith
 
 -- the chip of the cells that it gave
-chip_of-saved : (chip : Chip) → chip_of (saved_cells newest chip) ≡ chip
+chip_of-saved : (chip : Chip) → chip_of (saved_cells NEWEST chip) ≡ chip
 unfolding chip_of saved_cells first_cells
 chip_of-saved chip = simp (flag-back, state-back)
 
@@ -53,179 +54,161 @@ registers-met level role chip h =
     let vectors = h.vectors in
     grind (arith, nat_tests)
 
--- the first fault of three rules
-none_of : (a b c : Bool) → a ≡ true → b ≡ true → c ≡ true → cond {A = Option ℕ} (not a) (Some 1) (cond (not b) (Some 2) (cond (not c) (Some 3) None)) ≡ None
-none_of a b c p q r = rw (p, q, r)
+-- all rules hold of a sound chip
+met : (level : ℕ) (role : Role) (chip : Chip) → IsSoundChip level role chip → AllTrue (rules level role (saved_cells NEWEST chip))
+unfolding saved_cells first_cells
+met level role chip s =
+    let ltim = flag-back chip.ltim in
+    (registers-met level role chip s.registers, (s.registers.levels, (rw ltim s.requests, (rw ltim s.registers.mode, tt))))
 
-third_of : (a b c : Bool) → cond {A = Option ℕ} (not a) (Some 1) (cond (not b) (Some 2) (cond (not c) (Some 3) None)) ≡ None → c ≡ true
-third_of true true true e = refl
-third_of false b c e = cc
-third_of true false c e = cc
-third_of true true false e = cc
+-- the cells of a chip, by whether the set has elcr and the level mode
+first-of : (level : ℕ) (role : Role) (chip : Chip) → HasRegisters level role chip → AreOf (kinds 1) (first_cells chip)
+unfolding first_cells
+first-of level role chip h =
+    of_more _ _ _ _ (byte _ h.irr) (of_more _ _ _ _ (byte _ h.isr) (of_more _ _ _ _ (byte _ h.imr) (of_more _ _ _ _ (byte _ h.lines)
+    (of_more _ _ _ _ (byte _ (omega (arith, h.lowest))) (of_more _ _ _ _ (byte _ h.base) (of_more _ _ _ _ (byte _ (omega (arith, state-le chip.init_state)))
+    (of_more _ _ _ _ (flag _) (of_more _ _ _ _ (flag _) (of_more _ _ _ _ (flag _) (of_more _ _ _ _ (flag _)
+    (of_more _ _ _ _ (flag _) (of_more _ _ _ _ (flag _) (of_more _ _ _ _ (flag _) (of_more _ _ _ _ (flag _) of_none))))))))))))))
 
-meets : (level : ℕ) (role : Role) (chip : Chip) → IsSoundChip level role chip → MeetsRules level role chip
-unfolding first_fault saved_cells first_cells
-meets level role chip sound =
-    none_of (registers_hold chip.lowest (state_number chip.init_state) chip.base) (levels_hold level role chip.elcr) (requests_hold chip.irr chip.lines chip.elcr)
-    (registers-met level role chip sound.registers) sound.registers.levels sound.requests
+set-of : (level set : ℕ) (role : Role) (chip : Chip) → HasRegisters level role chip → AreOf (kinds set) (saved_cells set chip)
+unfolding saved_cells first_cells
+set-of level set role chip h =
+    of_both (kinds 1) _ (first_cells chip) _ (first-of level role chip h)
+    (of_both _ _ _ _ (of_where (nat_le ELCR_SINCE set) (U8 ∷ []) (pos chip.elcr ∷ []) (of_more _ _ _ _ (byte _ h.elcr) of_none))
+    (of_where (nat_le LTIM_SINCE set) (Truth ∷ []) (pos (flag_number chip.ltim) ∷ []) (of_more _ _ _ _ (flag _) of_none)))
 
-is_sound : (level : ℕ) (role : Role) (chip : Chip) → HasRegisters level role chip → MeetsRules level role chip → IsSoundChip level role chip
-unfolding first_fault saved_cells first_cells
-is_sound level role chip h e = record {
-  registers = h;
-  requests = third_of (registers_hold chip.lowest (state_number chip.init_state) chip.base) (levels_hold level role chip.elcr) (requests_hold chip.irr chip.lines chip.elcr) e;
-}
+saved-count : (set : ℕ) (chip : Chip) → length (saved_cells set chip) ≡ length (kinds set)
+unfolding saved_cells first_cells
+saved-count set chip = by_tests (nat_le ELCR_SINCE set) (nat_le LTIM_SINCE set) where
+  by_tests : (a b : Bool) → length (first_cells chip ++ cond a (pos chip.elcr ∷ []) [] ++ cond b (pos (flag_number chip.ltim) ∷ []) []) ≡ length (kinds 1 ++ cond a (U8 ∷ []) [] ++ cond b (Truth ∷ []) [])
+  by_tests true true = refl
+  by_tests true false = refl
+  by_tests false true = refl
+  by_tests false false = refl
+
+-- a chip is sound where its cells break no rule, and the other way
+meets : (level : ℕ) (role : Role) (chip : Chip) → IsSoundChip level role chip → IsChipCells (saved_cells NEWEST chip) × MeetsRules level role chip
+meets level role chip s =
+    (set-of level NEWEST role chip s.registers, none_failing (rules level role (saved_cells NEWEST chip)) (met level role chip s))
+
+is_sound : (level : ℕ) (role : Role) (chip : Chip) → IsChipCells (saved_cells NEWEST chip) × MeetsRules level role chip → IsSoundChip level role chip
+is_sound level role chip h =
+    subst (IsSoundChip level role) (chip_of-saved chip) (sound level role (saved_cells NEWEST chip) h.0 (all_true (rules level role (saved_cells NEWEST chip)) h.1))
 
 pub sound_meets_rules : SoundMeetsRules
-sound_meets_rules level role chip h = (meets level role chip, is_sound level role chip h)
+sound_meets_rules = record { chip = λ level role chip. (meets level role chip, is_sound level role chip) }
 
-restored-newest : (level : ℕ) (role : Role) (chip : Chip) → IsSoundChip level role chip → restored level role (saved_cells newest chip) ≡ Ok chip
-unfolding restored_by
-restored-newest level role chip sound = rw (meets level role chip sound) (ap Ok (chip_of-saved chip))
+restored-newest : (level : ℕ) (role : Role) (chip : Chip) → IsSoundChip level role chip → restored level role (saved_cells NEWEST chip) ≡ Ok chip
+restored-newest level role chip s =
+    judged-all (rules level role (saved_cells NEWEST chip)) (chip_of (saved_cells NEWEST chip)) (met level role chip s) ∙ ap Ok (chip_of-saved chip)
 
--- at a level without edge/level registers no input is a level input
-no-levels : (level elcr : ℕ) (role : Role) → level < elcr_since → levels_hold level role elcr ≡ true → elcr ≡ 0
+-- what a set lacks is at its default on a chip of a level that may be saved under it
+no-levels : (level elcr : ℕ) (role : Role) → level < ELCR_SINCE → levels_hold level role elcr ≡ true → elcr ≡ 0
 unfolding levels_hold
 no-levels level elcr role l h = grind (arith, nat_tests)
 
+no-mode : (level : ℕ) (ltim : Bool) → level < LTIM_SINCE → mode_holds level ltim ≡ true → ltim ≡ false
+unfolding mode_holds
+no-mode level true l h = absurd (let e : nat_le LTIM_SINCE level ≡ false = grind (arith, nat_tests) in false≢true (rw e at h))
+no-mode level false l h = refl
+
 -- cells that are carried are those of the newest set
-carried-late : (set : ℕ) (chip : Chip) → elcr_since ≤ set → carried set (saved_cells set chip) ≡ saved_cells newest chip
-unfolding saved_cells
-carried-late set chip h = let e : nat_le elcr_since set ≡ true = grind (arith, nat_tests) in simp e
-
-carried-early : (set : ℕ) (chip : Chip) → set < elcr_since → chip.elcr ≡ 0 → carried set (saved_cells set chip) ≡ saved_cells newest chip
-unfolding saved_cells first_cells
-carried-early set chip h none = let e : nat_le elcr_since set ≡ false = grind (arith, nat_tests) in simp (e, none)
-
-carried-saved : (level set : ℕ) (role : Role) (chip : Chip) → level ≤ set → IsSoundChip level role chip → carried set (saved_cells set chip) ≡ saved_cells newest chip
-carried-saved level set role chip le sound =
-    ⊎_elim (λ early. carried-early set chip early (no-levels level chip.elcr role (omega arith) sound.registers.levels))
-    (λ late. carried-late set chip late)
-    (cases_lt set elcr_since)
-
--- the cells of a chip with its registers are in their kinds' ranges
-byte : (n : ℕ) → n < 256 → InRange U8 (pos n)
-byte n h = (omega (arith, ints), omega (arith, ints))
-
-flag : (b : Bool) → InRange Truth (pos (flag_number b))
-flag true = (omega (arith, ints), omega (arith, ints))
-flag false = (omega (arith, ints), omega (arith, ints))
-
--- in the order of the cells
-saved-range : (level : ℕ) (role : Role) (chip : Chip) → HasRegisters level role chip → (cell : Cell) → InRange (kind_of cell) (value_at (saved_cells newest chip) cell)
-unfolding saved_cells first_cells
-saved-range level role chip h Irr = byte chip.irr h.irr
-saved-range level role chip h Isr = byte chip.isr h.isr
-saved-range level role chip h Imr = byte chip.imr h.imr
-saved-range level role chip h Lines = byte chip.lines h.lines
-saved-range level role chip h Lowest = byte chip.lowest (omega (arith, h.lowest))
-saved-range level role chip h Base = byte chip.base h.base
-saved-range level role chip h State = byte (state_number chip.init_state) (omega (arith, state-le chip.init_state))
-saved-range level role chip h Icw4 = flag chip.icw4
-saved-range level role chip h Single = flag chip.single
-saved-range level role chip h ReadIsr = flag chip.read_isr
-saved-range level role chip h Poll = flag chip.poll
-saved-range level role chip h SpecialMask = flag chip.special_mask
-saved-range level role chip h AutoEoi = flag chip.auto_eoi
-saved-range level role chip h Rotate = flag chip.rotate
-saved-range level role chip h Nested = flag chip.nested
-saved-range level role chip h Elcr = byte chip.elcr h.elcr
-
-saved-count : (chip : Chip) → length (saved_cells newest chip) ≡ cell_count
-unfolding saved_cells first_cells
-saved-count chip = refl
-
-saved-cells : (level : ℕ) (role : Role) (chip : Chip) → HasRegisters level role chip → IsChipCells (saved_cells newest chip)
-saved-cells level role chip h = record { count = saved-count chip; in_range = saved-range level role chip h }
-
--- the same of each set
-first-range : (level : ℕ) (role : Role) (chip : Chip) → HasRegisters level role chip → (cell : Cell) → place_of cell < 15 → InRange (kind_of cell) (value_at (first_cells chip) cell)
+tests-carried : (chip : Chip) (a b : Bool) → (b ≡ true → a ≡ true) → (a ≡ false → chip.elcr ≡ 0) → (b ≡ false → chip.ltim ≡ false) → carried_by (places 0 15 ++ cond a (places 15 1) (default_of (pos 0) ∷ []) ++ cond b (places 16 1) (default_of (pos 0) ∷ [])) (first_cells chip ++ cond a (pos chip.elcr ∷ []) [] ++ cond b (pos (flag_number chip.ltim) ∷ []) []) ≡ first_cells chip ++ pos chip.elcr ∷ pos (flag_number chip.ltim) ∷ []
 unfolding first_cells
-first-range level role chip h Irr l = byte chip.irr h.irr
-first-range level role chip h Isr l = byte chip.isr h.isr
-first-range level role chip h Imr l = byte chip.imr h.imr
-first-range level role chip h Lines l = byte chip.lines h.lines
-first-range level role chip h Lowest l = byte chip.lowest (omega (arith, h.lowest))
-first-range level role chip h Base l = byte chip.base h.base
-first-range level role chip h State l = byte (state_number chip.init_state) (omega (arith, state-le chip.init_state))
-first-range level role chip h Icw4 l = flag chip.icw4
-first-range level role chip h Single l = flag chip.single
-first-range level role chip h ReadIsr l = flag chip.read_isr
-first-range level role chip h Poll l = flag chip.poll
-first-range level role chip h SpecialMask l = flag chip.special_mask
-first-range level role chip h AutoEoi l = flag chip.auto_eoi
-first-range level role chip h Rotate l = flag chip.rotate
-first-range level role chip h Nested l = flag chip.nested
-first-range level role chip h Elcr l = absurd (omega arith)
+tests-carried chip true true order elcr ltim = refl
+tests-carried chip true false order elcr ltim = rw (ltim refl) refl
+tests-carried chip false true order elcr ltim = absurd (false≢true (order refl))
+tests-carried chip false false order elcr ltim = rw (elcr refl, ltim refl) refl
 
-first-count : (chip : Chip) → length (first_cells chip) ≡ 15
-unfolding first_cells
-first-count chip = refl
+carried-saved : (level set : ℕ) (role : Role) (chip : Chip) → level ≤ set → IsSoundChip level role chip → carried set (saved_cells set chip) ≡ saved_cells NEWEST chip
+unfolding saved_cells first_cells
+carried-saved level set role chip le s =
+    tests-carried chip (nat_le ELCR_SINCE set) (nat_le LTIM_SINCE set)
+    (λ e. grind (arith, nat_tests))
+    (λ e. let l : level < ELCR_SINCE = grind (arith, nat_tests) in no-levels level chip.elcr role l s.registers.levels)
+    (λ e. let l : level < LTIM_SINCE = grind (arith, nat_tests) in no-mode level chip.ltim l s.registers.mode)
 
-of_count : (set count : ℕ) (cells : List ℤ) → count_of set ≡ count → length cells ≡ count → ((cell : Cell) → place_of cell < count → InRange (kind_of cell) (value_at cells cell)) → IsCellsOf set cells
-of_count set count cells is len range = record {
-  count = len ∙ sym is;
-  in_range = λ cell l. range cell (subst (λ (n : ℕ). place_of cell < n) is l);
-}
+-- the level mode's cell where the subsection isn't needed
+off : (ltim : Bool) → (flag_number ltim == 1) ≡ false → pos (flag_number ltim) ≡ pos 0
+off true e = absurd (false≢true (sym e))
+off false e = refl
 
-early-cells : (level set : ℕ) (role : Role) (chip : Chip) → set < elcr_since → HasRegisters level role chip → IsCellsOf set (saved_cells set chip)
-unfolding saved_cells
-early-cells level set role chip early h =
-    let e : nat_le elcr_since set ≡ false = grind (arith, nat_tests) in
-    let cells : cond (nat_le elcr_since set) (first_cells chip ++ elcr_cells chip) (first_cells chip) ≡ first_cells chip = rw e in
-    subst (IsCellsOf set) (sym cells) (of_count set 15 (first_cells chip) (rw e) (first-count chip) (first-range level role chip h))
+unneeded : (set : ℕ) (chip : Chip) → LTIM_SINCE ≤ set → flag_at (saved_cells set chip) 16 ≡ false → cell_at (saved_cells set chip) 16 ≡ pos 0
+unfolding saved_cells first_cells
+unneeded set chip h = by_tests (nat_le ELCR_SINCE set) (nat_le LTIM_SINCE set) (grind (arith, nat_tests)) (grind (arith, nat_tests)) where
+  by_tests : (a b : Bool) → a ≡ true → b ≡ true → flag_at (first_cells chip ++ cond a (pos chip.elcr ∷ []) [] ++ cond b (pos (flag_number chip.ltim) ∷ []) []) 16 ≡ false → cell_at (first_cells chip ++ cond a (pos chip.elcr ∷ []) [] ++ cond b (pos (flag_number chip.ltim) ∷ []) []) 16 ≡ pos 0
+  by_tests true true p q e = off chip.ltim e
+  by_tests true false p q e = absurd (false≢true q)
+  by_tests false b p q e = absurd (false≢true p)
 
-late-cells : (level set : ℕ) (role : Role) (chip : Chip) → elcr_since ≤ set → HasRegisters level role chip → IsCellsOf set (saved_cells set chip)
-unfolding saved_cells
-late-cells level set role chip late h =
-    let e : nat_le elcr_since set ≡ true = grind (arith, nat_tests) in
-    let cells : cond (nat_le elcr_since set) (first_cells chip ++ elcr_cells chip) (first_cells chip) ≡ saved_cells newest chip = rw e in
-    subst (IsCellsOf set) (sym cells) (of_count set 16 (saved_cells newest chip) (rw e) (saved-count chip) (λ cell l. saved-range level role chip h cell))
+master-part : (set : ℕ) (pair : PicPair) → take (length (kinds set)) (pair_cells set pair) ≡ saved_cells set pair.master
+master-part set pair =
+    first_part (length (kinds set)) (saved_cells set pair.master) (saved_cells set pair.slave) (saved-count set pair.master)
 
-set-cells : (level set : ℕ) (role : Role) (chip : Chip) → HasRegisters level role chip → IsCellsOf set (saved_cells set chip)
-set-cells level set role chip h =
-    ⊎_elim (λ early. early-cells level set role chip early h) (λ late. late-cells level set role chip late h) (cases_lt set elcr_since)
+slave-part : (set : ℕ) (pair : PicPair) → drop (length (kinds set)) (pair_cells set pair) ≡ saved_cells set pair.slave
+slave-part set pair =
+    second_part (length (kinds set)) (saved_cells set pair.master) (saved_cells set pair.slave) (saved-count set pair.master)
 
 pub saved_are_cells : SavedAreCells
-saved_are_cells = record { chip = set-cells }
+saved_are_cells = record {
+  of_kinds = λ chip numbers pair can s. either (λ c. AreOf (kinds numbers.set) (saved_cells numbers.set c)) (chip == 0) pair.master pair.slave
+      (set-of pair.level numbers.set Master pair.master s.master.registers) (set-of pair.level numbers.set Slave pair.slave s.slave.registers);
+  unneeded = unneeded;
+  master = master-part;
+  slave = slave-part;
+}
 
-module _ (set : ℕ) (pair : PicPair) (sound : IsSoundPair pair) (le : pair.level ≤ set) where
-  master-carried : carried set (saved_cells set pair.master) ≡ saved_cells newest pair.master
-  master-carried = carried-saved pair.level set Master pair.master le sound.master
+-- a fault of the hooks' number of it
+told : (chip rule : ℕ) → chip < 2 → 1 ≤ rule → rule ≤ 10 → fault_of (hook_rule (record { chip = chip; rule = rule })) ≡ record { chip = chip; rule = rule }
+told zero rule c l h = let e : nat_le rule 10 ≡ true = grind (arith, nat_tests) in rw e refl
+told (suc zero) rule c l h =
+    let e : nat_le (10 + rule) 10 ≡ false = grind (arith, nat_tests) in
+    let back : 10 + rule - 10 ≡ rule = omega arith in
+    rw e (ap (λ (n : ℕ). record { chip = 1; rule = n }) back)
+told (suc (suc chip)) rule c l h = absurd (omega (arith, c))
 
-  slave-carried : carried set (saved_cells set pair.slave) ≡ saved_cells newest pair.slave
-  slave-carried = carried-saved pair.level set Slave pair.slave le sound.slave
+pub faults_are_told : FaultsAreTold
+faults_are_told = record { fault = λ fault c l h. told fault.chip fault.rule c l h }
 
-  master-cells : IsChipCells (carried set (saved_cells set pair.master))
-  master-cells = subst IsChipCells (sym master-carried) (saved-cells pair.level Master pair.master sound.master.registers)
+-- the pair's cells that are carried are those of the newest set
+pair-carried : (set : ℕ) (pair : PicPair) → IsSoundPair pair → pair.level ≤ set → pair_carried set (pair_cells set pair) ≡ pair_cells NEWEST pair
+pair-carried set pair s le =
+    ap (λ cells. carried set cells ++ carried set (drop (length (kinds set)) (pair_cells set pair))) (master-part set pair)
+    ∙ ap (λ cells. carried set (saved_cells set pair.master) ++ carried set cells) (slave-part set pair)
+    ∙ ap (λ cells. cells ++ carried set (saved_cells set pair.slave)) (carried-saved pair.level set Master pair.master le s.master)
+    ∙ ap (λ cells. saved_cells NEWEST pair.master ++ cells) (carried-saved pair.level set Slave pair.slave le s.slave)
 
-  slave-cells : IsChipCells (carried set (saved_cells set pair.slave))
-  slave-cells = subst IsChipCells (sym slave-carried) (saved-cells pair.level Slave pair.slave sound.slave.registers)
+pair-restored : (pair : PicPair) → IsSoundPair pair → restored_pair pair.level (saved_cells NEWEST pair.master) (saved_cells NEWEST pair.slave) ≡ Ok pair
+unfolding pair_of
+pair-restored pair s =
+    ap (λ r. pair_of pair.level r (restored pair.level Slave (saved_cells NEWEST pair.slave))) (restored-newest pair.level Master pair.master s.master)
+    ∙ ap (pair_of pair.level (Ok pair.master)) (restored-newest pair.level Slave pair.slave s.slave)
 
-  pair-restored : restored_pair pair.level (carried set (saved_cells set pair.master)) (carried set (saved_cells set pair.slave)) ≡ Ok pair
-  unfolding pair_of
-  pair-restored =
-      let master = ap (restored pair.level Master) master-carried ∙ restored-newest pair.level Master pair.master sound.master in
-      let slave = ap (restored pair.level Slave) slave-carried ∙ restored-newest pair.level Slave pair.slave sound.slave in
-      ap (λ r. pair_of pair.level r (restored pair.level Slave (carried set (saved_cells set pair.slave)))) master ∙ ap (pair_of pair.level (Ok pair.master)) slave
+-- both chips' cells in the newest set
+newest-can : (numbers : Numbers) (pair : PicPair) → MayRestore numbers → IsSoundPair pair → CanRestore numbers (pair_cells NEWEST pair)
+newest-can numbers pair may s = record {
+  pass = may;
+  master = subst IsChipCells (sym (master-part NEWEST pair)) (set-of pair.level NEWEST Master pair.master s.master.registers);
+  slave = subst IsChipCells (sym (slave-part NEWEST pair)) (set-of pair.level NEWEST Slave pair.slave s.slave.registers);
+}
 
-  hooks-restored : (numbers : Numbers) → IsRestore numbers → numbers.level ≡ pair.level → CanRestore numbers (carried set (saved_cells set pair.master) ++ carried set (saved_cells set pair.slave)) × (hook_restored numbers.level (carried set (saved_cells set pair.master) ++ carried set (saved_cells set pair.slave)) ≡ Ok pair)
-  hooks-restored numbers is same =
-      let m = carried set (saved_cells set pair.master) in
-      let s = carried set (saved_cells set pair.slave) in
-      let split : hook_restored pair.level (m ++ s) ≡ hook_result (restored_pair pair.level m s) = rw (master_part m s master-cells.count, slave_part m s master-cells.count) in
-      let answer : hook_restored pair.level (m ++ s) ≡ Ok pair = split ∙ ap hook_result pair-restored in (
-        record {
-          restore = is;
-          master = master_cells m s (m ++ s) refl master-cells;
-          slave = slave_cells m s (m ++ s) refl master-cells slave-cells;
-        },
-        subst (λ (n : ℕ). hook_restored n (m ++ s) ≡ Ok pair) (sym same) answer,
-      )
+newest-restored : (numbers : Numbers) (pair : PicPair) → numbers.level ≡ pair.level → IsSoundPair pair → hook_restored numbers (pair_cells NEWEST pair) ≡ Ok pair
+unfolding by_number
+newest-restored numbers pair same s =
+    let parts : restored_pair numbers.level (take cell_count (pair_cells NEWEST pair)) (drop cell_count (pair_cells NEWEST pair)) ≡ Ok pair =
+    ap (λ cells. restored_pair numbers.level cells (drop cell_count (pair_cells NEWEST pair))) (master-part NEWEST pair)
+    ∙ ap (restored_pair numbers.level (saved_cells NEWEST pair.master)) (slave-part NEWEST pair)
+    ∙ ap (λ level. restored_pair level (saved_cells NEWEST pair.master) (saved_cells NEWEST pair.slave)) same
+    ∙ pair-restored pair s
+    in ok-hook _ pair (ap by_number parts)
+
+restored-back : (numbers back : Numbers) (pair : PicPair) → CanSave numbers pair → IsSoundPair pair → MayRestore back → back.level ≡ pair.level → CanRestore back (pair_carried numbers.set (pair_cells numbers.set pair)) × (hook_restored back (pair_carried numbers.set (pair_cells numbers.set pair)) ≡ Ok pair)
+restored-back numbers back pair can s may same =
+    let le : pair.level ≤ numbers.set = let own = can.own_level in let l = can.level_le_set in omega (arith, own, l) in
+    let e = sym (pair-carried numbers.set pair s le) in (
+      subst (CanRestore back) e (newest-can back pair may s),
+      subst (λ (cells : List ℤ). hook_restored back cells ≡ Ok pair) e (newest-restored back pair same s),
+    )
 
 pub saved_is_restored : SavedIsRestored
-saved_is_restored = record {
-  cells = λ set pair sound le. (master-cells set pair sound le, slave-cells set pair sound le);
-  pair = λ set pair sound le. pair-restored set pair sound le;
-  hooks = λ numbers set pair is same sound le. hooks-restored set pair sound le numbers is same;
-}
+saved_is_restored = record { pair = restored-back }

@@ -1,11 +1,12 @@
 -- What each step of a chip keeps.
-use Rattle.std.proofs.Common.{◌≡◌, ℕ, ◌-◌, ◌/◌, ◌%◌, ◌<◌, ◌≤◌, ◌==◌, Bool, true, false, cond, List, [], ◌∷◌, Option, Some, None, IfSome, find, arith}
+use Rattle.std.proofs.Common.{◌≡◌, ℕ, ◌-◌, ◌/◌, ◌%◌, ◌<◌, ◌≤◌, ◌==◌, Bool, true, false, cond, not, ◌||◌, refl, List, [], ◌∷◌, Option, Some, None, IfSome, find, arith}
 use Rattle.std.proofs.lemmas.Bool.Decides.{nat_tests}
 use Rattle.std.proofs.lemmas.Nat.{or_of_8, and_le_l}
-use Rattle.std.specs.Prelude.{bit_and}
-use Rattle.dev_pic.specs.Bits.{has, but_not, with_input, without_input}
-use Rattle.dev_pic.specs.Cells.{requests_hold}
-use Rattle.dev_pic.specs.Chip.{in_service_of, requests_of, served_of, winner_at, taken, settled, ended, ended_lowest, highest_served, commanded, started, selected, written_even, written_odd_in, polled_by, read_of, answered, cascaded}
+use Rattle.std.specs.Prelude.{bit_and, nat_le}
+use Rattle.dev_base.specs.Bits.{has}
+use Rattle.dev_pic.specs.Bits.{but_not, with_input, without_input}
+use Rattle.dev_pic.specs.Cells.{requests_hold, mode_holds}
+use Rattle.dev_pic.specs.Chip.{level_inputs, level_inputs_of, ltim_after, in_service_of, requests_of, served_of, winner_at, taken, settled, ended, ended_lowest, highest_served, commanded, started, selected, written_even, written_odd_in, polled_by, read_of, answered, cascaded}
 use Rattle.dev_pic.specs.Ocw2.{HasInput, command_of}
 use Rattle.dev_pic.specs.Sound.{HasRegisters, IsSoundChip}
 use Rattle.dev_pic.specs.Winner.{order, before, ready_among, winner_of, highest_of}
@@ -13,14 +14,11 @@ use Rattle.dev_pic.specs.declared.chip.Chip.{Chip}
 use Rattle.dev_pic.specs.declared.chip.InitState.{InitState}
 use Rattle.dev_pic.specs.declared.chip.InitState.TheVariants.{Ready, Icw2, Icw3, Icw4}
 use Rattle.dev_pic.specs.declared.chip.Role.{Role}
+use Rattle.dev_pic.specs.declared.levels.TheConstants.{LTIM_SINCE}
 use Rattle.dev_pic.specs.declared.ocw2.Ocw2.{Ocw2}
 use Rattle.dev_pic.specs.declared.ocw2.Ocw2.TheVariants.{NonSpecificEoi, RotateOnNonSpecificEoi, SpecificEoi, RotateOnSpecificEoi, RotateInAutomaticEoi, SetPriority, NoOperation}
-use Rattle.dev_pic.proofs.BitLaws.{level-lines, but_not-lt, without_input-lt, with_input-lt}
-
--- a fact of both branches is one of the choice
-pub either : {A : Type 0} (P : A → Type 0) (b : Bool) (x y : A) → P x → P y → P (cond b x y)
-either P true x y p q = p
-either P false x y p q = q
+use Rattle.dev_base.proofs.Choices.{either}
+use Rattle.dev_pic.proofs.BitLaws.{level-lines, level_inputs-lt, but_not-lt, without_input-lt, with_input-lt}
 
 -- each of a list is an input
 Inputs : List ℕ → Type 0
@@ -82,7 +80,8 @@ module _ (level : ℕ) (role : Role) (chip : Chip) (h : HasRegisters level role 
   unfolding settled
   settled-registers inputs edges i e =
       let risen = or_of_8 chip.irr _ h.irr (or_of_8 _ edges (but_not-lt inputs chip.lines i) e) in
-      with-inputs level role chip h _ inputs (or_of_8 _ _ (but_not-lt _ chip.elcr risen) (omega (arith, and_le_l inputs chip.elcr))) i
+      let levels = level_inputs_of chip in
+      with-inputs level role chip h _ inputs (or_of_8 _ _ (but_not-lt _ levels risen) (omega (arith, and_le_l inputs levels))) i
 
   pub taken-registers : (w : ℕ) → w < 8 → HasRegisters level role (taken w chip)
   unfolding taken
@@ -90,7 +89,7 @@ module _ (level : ℕ) (role : Role) (chip : Chip) (h : HasRegisters level role 
       let served = either (HasRegisters level role) chip.auto_eoi _ _
       (either (HasRegisters level role) chip.rotate _ _ (with-lowest level role chip h w (omega arith)) h)
       (with-isr level role chip h (with_input chip.isr w) (with_input-lt chip.isr w h.isr l)) in
-      either (HasRegisters level role) (has chip.elcr w) _ _ served (with-irr level role _ served (without_input chip.irr w) (without_input-lt chip.irr w h.irr))
+      either (HasRegisters level role) (has (level_inputs_of chip) w) _ _ served (with-irr level role _ served (without_input chip.irr w) (without_input-lt chip.irr w h.irr))
 
   ended-registers : (o : Option ℕ) → HasRegisters level role (ended o chip)
   unfolding ended
@@ -113,17 +112,25 @@ module _ (level : ℕ) (role : Role) (chip : Chip) (h : HasRegisters level role 
   commanded-registers (SetPriority input) i = with-lowest level role chip h input (omega arith)
   commanded-registers NoOperation i = h
 
-  started-registers : (value : ℕ) → HasRegisters level role (started value chip)
+  mode-after : (value : ℕ) → mode_holds level (ltim_after level value chip) ≡ true
+  unfolding mode_holds
+  mode-after value = by_level (nat_le LTIM_SINCE level) h.mode where
+    by_level : (b : Bool) → (b || not chip.ltim) ≡ true → (b || not (cond b (has value 3) chip.ltim)) ≡ true
+    by_level true e = refl
+    by_level false e = e
+
+  started-registers : (value : ℕ) → HasRegisters level role (started level value chip)
   unfolding started
   started-registers value =
-      let irr : bit_and chip.irr chip.elcr < 256 = omega (arith, and_le_l chip.irr chip.elcr, h.irr) in
-      record { irr = irr; isr = omega arith; imr = omega arith; lines = h.lines; lowest = omega arith; base = h.base; vectors = h.vectors; elcr = h.elcr; levels = h.levels }
+      let levels = level_inputs (ltim_after level value chip) chip.elcr in
+      let irr : bit_and chip.irr levels < 256 = omega (arith, and_le_l chip.irr levels, h.irr) in
+      record { mode = mode-after value; irr = irr; isr = omega arith; imr = omega arith; lines = h.lines; lowest = omega arith; base = h.base; vectors = h.vectors; elcr = h.elcr; levels = h.levels }
 
   selected-registers : (value : ℕ) → HasRegisters level role (selected value chip)
   unfolding selected
   selected-registers value = search
 
-  pub written_even-registers : (value : ℕ) → HasRegisters level role (written_even value chip)
+  pub written_even-registers : (value : ℕ) → HasRegisters level role (written_even level value chip)
   unfolding written_even
   written_even-registers value =
       either (HasRegisters level role) (has value 4) _ _ (started-registers value)
@@ -163,16 +170,17 @@ module _ (level : ℕ) (role : Role) (chip : Chip) (h : HasRegisters level role 
   unfolding cascaded
   cascaded-registers =
       let k = taken-registers level role chip h 2 (omega arith) in
-      record { irr = k.irr; isr = k.isr; imr = k.imr; lines = without_input-lt _ 2 k.lines; lowest = k.lowest; base = k.base; vectors = k.vectors; elcr = k.elcr; levels = k.levels }
+      record { irr = k.irr; isr = k.isr; imr = k.imr; lines = without_input-lt _ 2 k.lines; lowest = k.lowest; base = k.base; vectors = k.vectors; elcr = k.elcr; levels = k.levels; mode = k.mode }
 
-  agreed : (irr lines elcr : ℕ) → bit_and irr elcr ≡ bit_and lines elcr → requests_hold irr lines elcr ≡ true
+  agreed : (irr lines levels : ℕ) → bit_and irr levels ≡ bit_and lines levels → requests_hold irr lines levels ≡ true
   unfolding requests_hold
-  agreed irr lines elcr e = grind (arith, nat_tests)
+  agreed irr lines levels e = grind (arith, nat_tests)
 
-  settled-requests : (inputs edges : ℕ) → inputs < 256 → edges < 256 → requests_hold (settled inputs edges chip).irr (settled inputs edges chip).lines (settled inputs edges chip).elcr ≡ true
+  settled-requests : (inputs edges : ℕ) → inputs < 256 → edges < 256 → requests_hold (settled inputs edges chip).irr (settled inputs edges chip).lines (level_inputs_of (settled inputs edges chip)) ≡ true
   unfolding settled but_not
   settled-requests inputs edges i e =
-      agreed _ inputs chip.elcr (level-lines _ inputs chip.elcr (or_of_8 chip.irr _ h.irr (or_of_8 _ edges (but_not-lt inputs chip.lines i) e)) i h.elcr)
+      let levels = level_inputs_of chip in
+      agreed _ inputs levels (level-lines _ inputs levels (or_of_8 chip.irr _ h.irr (or_of_8 _ edges (but_not-lt inputs chip.lines i) e)) i (level_inputs-lt chip.ltim chip.elcr h.elcr))
 
   pub settled-sound : (inputs edges : ℕ) → inputs < 256 → edges < 256 → IsSoundChip level role (settled inputs edges chip)
   settled-sound inputs edges i e = record {

@@ -1,9 +1,5 @@
 -- An 8-bit register as a set of inputs: bit i stands for input i.
-use Rattle.std.specs.Prelude.{ℕ, ◌-◌, ◌/◌, ◌%◌, ◌^◌, ◌==◌, Bool, bit_and, bit_or}
-
--- the register has this input
-abbrev pub has : ℕ → ℕ → Bool
-has register input = (register / 2 ^ input % 2) == 1
+use Rattle.std.specs.Prelude.{ℕ, ◌-◌, ◌^◌, bit_and, bit_or}
 
 -- the register with this input
 unfoldable pub with_input : ℕ → ℕ → ℕ

@@ -1,6 +1,7 @@
 -- The steps of one 8259A.
-use Rattle.std.specs.Prelude.{ℕ, ◌+◌, ◌-◌, ◌%◌, Bool, true, false, ◌&&◌, if◌then◌else◌, Option, Some, None, bit_and, bit_or}
-use Rattle.dev_pic.specs.Bits.{has, but_not, with_input, without_input}
+use Rattle.std.specs.Prelude.{ℕ, ◌+◌, ◌-◌, ◌%◌, Bool, true, false, ◌&&◌, nat_le, if◌then◌else◌, Option, Some, None, bit_and, bit_or}
+use Rattle.dev_base.specs.Bits.{has}
+use Rattle.dev_pic.specs.Bits.{but_not, with_input, without_input}
 use Rattle.dev_pic.specs.Ocw2.{command_of}
 use Rattle.dev_pic.specs.Winner.{winner_of, highest_of}
 use Rattle.dev_pic.specs.declared.chip.Chip.{Chip}
@@ -8,6 +9,7 @@ use Rattle.dev_pic.specs.declared.chip.InitState.{InitState}
 use Rattle.dev_pic.specs.declared.chip.InitState.TheVariants.{Ready, Icw2, Icw3, Icw4}
 use Rattle.dev_pic.specs.declared.chip.Role.{Role}
 use Rattle.dev_pic.specs.declared.chip.Role.TheVariants.{Master, Slave}
+use Rattle.dev_pic.specs.declared.levels.TheConstants.{LTIM_SINCE}
 use Rattle.dev_pic.specs.declared.ocw2.Ocw2.{Ocw2}
 use Rattle.dev_pic.specs.declared.ocw2.Ocw2.TheVariants.{NonSpecificEoi, RotateOnNonSpecificEoi, SpecificEoi, RotateOnSpecificEoi, RotateInAutomaticEoi, SetPriority, NoOperation}
 
@@ -16,9 +18,16 @@ abbrev pub cascade_input : ℕ
 cascade_input = 2
 
 -- the inputs whose ELCR bit can be set
-abbrev pub level_inputs : Role → ℕ
-level_inputs Master = 0xf8
-level_inputs Slave = 0xde
+abbrev pub elcr_mask : Role → ℕ
+elcr_mask Master = 0xf8
+elcr_mask Slave = 0xde
+
+-- the level inputs: those of ELCR, and in the level mode all; the others are edge inputs
+unfoldable pub level_inputs : Bool → ℕ → ℕ
+level_inputs ltim elcr = if ltim then 0xff else elcr
+
+abbrev pub level_inputs_of : Chip → ℕ
+level_inputs_of chip = level_inputs chip.ltim chip.elcr
 
 -- the requests: irr without imr
 abbrev pub requests_of : Chip → ℕ
@@ -48,7 +57,7 @@ serving winner chip =
 unfoldable pub taken : ℕ → Chip → Chip
 taken winner chip =
     let after = serving winner chip in
-    if has chip.elcr winner then after else record after { irr = without_input chip.irr winner }
+    if has (level_inputs_of chip) winner then after else record after { irr = without_input chip.irr winner }
 
 -- the inputs that rise: those that are high and were low, and those of the mask
 abbrev pub rising : ℕ → ℕ → Chip → ℕ
@@ -59,7 +68,7 @@ rising inputs edges chip = bit_or (but_not inputs chip.lines) edges
 unfoldable pub settled : ℕ → ℕ → Chip → Chip
 settled inputs edges chip =
     record chip {
-      irr = bit_or (but_not (bit_or chip.irr (rising inputs edges chip)) chip.elcr) (bit_and inputs chip.elcr);
+      irr = bit_or (but_not (bit_or chip.irr (rising inputs edges chip)) (level_inputs_of chip)) (bit_and inputs (level_inputs_of chip));
       lines = inputs;
     }
 
@@ -87,14 +96,19 @@ commanded (RotateInAutomaticEoi rotate) chip = record chip { rotate = rotate }
 commanded (SetPriority input) chip = record chip { lowest = input }
 commanded NoOperation chip = chip
 
--- the chip after ICW1
-unfoldable pub started : ℕ → Chip → Chip
-started value chip =
+-- the level mode after ICW1, whose bit 3 has no effect at levels without it
+abbrev pub ltim_after : ℕ → ℕ → Chip → Bool
+ltim_after level value chip = if nat_le LTIM_SINCE level then has value 3 else chip.ltim
+
+-- the chip after ICW1, at a level; only level inputs stay requested, in the level mode that it sets
+unfoldable pub started : ℕ → ℕ → Chip → Chip
+started level value chip =
     let announced = has value 0 in
     record chip {
+      ltim = ltim_after level value chip;
       imr = 0;
       isr = 0;
-      irr = bit_and chip.irr chip.elcr;
+      irr = bit_and chip.irr (level_inputs (ltim_after level value chip) chip.elcr);
       lowest = 7;
       read_isr = false;
       poll = false;
@@ -116,10 +130,10 @@ selected value chip =
       read_isr = (if has value 1 then has value 0 else chip.read_isr);
     }
 
--- the chip after a write to its even port
-unfoldable pub written_even : ℕ → Chip → Chip
-written_even value chip =
-    if has value 4 then started value chip
+-- the chip after a write to its even port, at a level
+unfoldable pub written_even : ℕ → ℕ → Chip → Chip
+written_even level value chip =
+    if has value 4 then started level value chip
     else (if has value 3 then selected value chip
     else commanded (command_of value) chip)
 
@@ -144,7 +158,7 @@ written_odd value chip = written_odd_in chip.init_state value chip
 
 -- the chip after a write to its edge/level register
 unfoldable pub elcr_written : Role → ℕ → Chip → Chip
-elcr_written role value chip = record chip { elcr = bit_and value (level_inputs role) }
+elcr_written role value chip = record chip { elcr = bit_and value (elcr_mask role) }
 
 -- the answer to a poll, and the chip after it
 unfoldable pub polled_by : Option ℕ → Chip → ℕ × Chip

@@ -1,19 +1,23 @@
 -- Laws of the pair in the data sheet's terms, of its steps, and of saving and restoring. Each is named by the
 -- contract of a function.
-use Rattle.std.specs.Prelude.{◌≡◌, ◌≢◌, ℕ, ◌+◌, ◌-◌, ◌%◌, ◌^◌, ◌<◌, ◌≤◌, Bool, true, false, ◌&&◌, ◌||◌, not, if◌then◌else◌, List, ℤ, ◌++◌, Some, None, Ok, ◌↔◌, bit_and}
+use Rattle.std.specs.Prelude.{◌≡◌, ◌≢◌, ℕ, ◌+◌, ◌-◌, ◌%◌, ◌^◌, ◌<◌, ◌≤◌, ◌==◌, Bool, true, false, ◌&&◌, ◌||◌, not, if◌then◌else◌, List, ℤ, pos, length, take, drop, Some, None, Ok, ◌↔◌, bit_and}
 use Rattle.vms_hooks.specs.Numbers.{Numbers}
-use Rattle.dev_pic.specs.Bits.{has}
-use Rattle.dev_pic.specs.Cells.{saved_cells, carried, IsCellsOf, IsChipCells}
-use Rattle.dev_pic.specs.Chip.{cascade_input, in_service_of, winner_at, taken, settled, commanded, written_even, written_odd}
-use Rattle.dev_pic.specs.Levels.{IsLevel}
-use Rattle.dev_pic.specs.Pair.{power_on, is_port, acked, settled_pair, read_pair, written_pair}
-use Rattle.dev_pic.specs.Saved.{IsRestore, CanRestore, restored_pair, hook_restored}
-use Rattle.dev_pic.specs.Sound.{HasRegisters, IsSoundChip, MeetsRules, PairHasRegisters, IsSoundPair}
+use Rattle.dev_base.specs.Cells.{cell_at, flag_at, AreOf}
+use Rattle.dev_base.specs.Levels.{IsLevel, MayRestore}
+use Rattle.dev_base.specs.declared.limits.TheConstants.{NEWEST}
+use Rattle.dev_base.specs.Bits.{has}
+use Rattle.dev_pic.specs.Cells.{kinds, saved_cells, IsChipCells}
+use Rattle.dev_pic.specs.Chip.{cascade_input, level_inputs, level_inputs_of, ltim_after, in_service_of, winner_at, taken, settled, commanded, written_even, written_odd}
+use Rattle.dev_pic.specs.Pair.{power_on, is_port, slave_int_of, lines_of, acked, settled_pair, read_pair, written_pair}
+use Rattle.dev_pic.specs.Saved.{chip_at, CanSave, CanRestore, pair_cells, pair_carried, hook_rule, fault_of, hook_restored}
+use Rattle.dev_pic.specs.Sound.{IsSoundChip, MeetsRules, PairHasRegisters, IsSoundPair}
 use Rattle.dev_pic.specs.Winner.{input_at, winner_of, IsWinner, MeansWinner}
 use Rattle.dev_pic.specs.declared.chip.Chip.{Chip}
 use Rattle.dev_pic.specs.declared.chip.InitState.TheVariants.{Ready}
 use Rattle.dev_pic.specs.declared.chip.Role.{Role}
 use Rattle.dev_pic.specs.declared.chip.Role.TheVariants.{Master, Slave}
+use Rattle.dev_pic.specs.declared.fault.ChipFault.{ChipFault}
+use Rattle.dev_pic.specs.declared.levels.TheConstants.{LTIM_SINCE}
 use Rattle.dev_pic.specs.declared.ocw2.Ocw2.TheVariants.{NonSpecificEoi, RotateOnNonSpecificEoi}
 use Rattle.dev_pic.specs.declared.pair.PicPair.{PicPair}
 
@@ -48,27 +52,36 @@ pub record EndsService (input : ℕ) (chip after : Chip) : Type 0 where
 -- a non-specific EOI, the word 0x20, ends the service of highest priority, or does nothing where nothing is in
 -- service; a rotating one, the word 0xa0, gives that input the lowest priority
 pub record EoiEndsHighest : Type 0 where
-  pub words : (chip : Chip) → (written_even 0x20 chip ≡ commanded NonSpecificEoi chip) × (written_even 0xa0 chip ≡ commanded RotateOnNonSpecificEoi chip)
+  pub words : (level : ℕ) (chip : Chip) → (written_even level 0x20 chip ≡ commanded NonSpecificEoi chip) × (written_even level 0xa0 chip ≡ commanded RotateOnNonSpecificEoi chip)
   pub highest : (chip : Chip) (input : ℕ) → chip.isr < 256 → IsHighestServed chip input → EndsService input chip (commanded NonSpecificEoi chip) × ((commanded NonSpecificEoi chip).lowest ≡ chip.lowest)
   pub rotating : (chip : Chip) (input : ℕ) → chip.isr < 256 → IsHighestServed chip input → EndsService input chip (commanded RotateOnNonSpecificEoi chip) × ((commanded RotateOnNonSpecificEoi chip).lowest ≡ input)
   pub nothing : (chip : Chip) → ((input : ℕ) → input < 8 → has (in_service_of chip) input ≡ false) → (commanded NonSpecificEoi chip ≡ chip) × (commanded RotateOnNonSpecificEoi chip ≡ chip)
 
+-- an input is a level input where its bit is set in elcr or the level mode is on
+abbrev pub LevelInputsAre : Type 0
+LevelInputsAre =
+    (ltim : Bool) (elcr input : ℕ) → input < 8 → has (level_inputs ltim elcr) input ≡ (has elcr input || ltim)
+
 -- a chip after its initialization words: OCW1 comes next, the vectors and the modes are those of the words, nothing
 -- is in service or masked, priority is fully nested, and only level inputs are still requested
-pub record IsInitialized (vectors : ℕ) (auto_eoi nested : Bool) (chip after : Chip) : Type 0 where
+pub record IsInitialized (vectors : ℕ) (auto_eoi nested ltim : Bool) (chip after : Chip) : Type 0 where
   pub ready : after.init_state ≡ Ready
   pub base : after.base ≡ vectors - vectors % 8
   pub modes : (after.auto_eoi ≡ auto_eoi) × (after.nested ≡ nested) × (after.special_mask ≡ false) × (after.rotate ≡ false)
+  pub level_mode : after.ltim ≡ ltim
   pub clear : (after.isr ≡ 0) × (after.imr ≡ 0) × (after.lowest ≡ 7)
   pub shows_irr : (after.poll ≡ false) × (after.read_isr ≡ false)
-  pub kept : (after.irr ≡ bit_and chip.irr chip.elcr) × (after.lines ≡ chip.lines) × (after.elcr ≡ chip.elcr)
+  pub kept : (after.irr ≡ bit_and chip.irr (level_inputs ltim chip.elcr)) × (after.lines ≡ chip.lines) × (after.elcr ≡ chip.elcr)
 
--- bit 0 of ICW1 announces ICW4, without which both its modes are off, and bit 1 says that no ICW3 comes
+-- bit 0 of ICW1 announces ICW4, without which both its modes are off, bit 1 says that no ICW3 comes, and bit 3 is
+-- the level mode at a level that has it
 pub record InitializesByWords : Type 0 where
-  pub all : (chip : Chip) (icw1 icw2 icw3 icw4 : ℕ) → has icw1 4 ≡ true → has icw1 0 ≡ true → has icw1 1 ≡ false → IsInitialized icw2 (has icw4 1) (has icw4 4) chip (written_odd icw4 (written_odd icw3 (written_odd icw2 (written_even icw1 chip))))
-  pub single : (chip : Chip) (icw1 icw2 icw4 : ℕ) → has icw1 4 ≡ true → has icw1 0 ≡ true → has icw1 1 ≡ true → IsInitialized icw2 (has icw4 1) (has icw4 4) chip (written_odd icw4 (written_odd icw2 (written_even icw1 chip)))
-  pub without_icw4 : (chip : Chip) (icw1 icw2 icw3 : ℕ) → has icw1 4 ≡ true → has icw1 0 ≡ false → has icw1 1 ≡ false → IsInitialized icw2 false false chip (written_odd icw3 (written_odd icw2 (written_even icw1 chip)))
-  pub shortest : (chip : Chip) (icw1 icw2 : ℕ) → has icw1 4 ≡ true → has icw1 0 ≡ false → has icw1 1 ≡ true → IsInitialized icw2 false false chip (written_odd icw2 (written_even icw1 chip))
+  pub all : (level : ℕ) (chip : Chip) (icw1 icw2 icw3 icw4 : ℕ) → has icw1 4 ≡ true → has icw1 0 ≡ true → has icw1 1 ≡ false → IsInitialized icw2 (has icw4 1) (has icw4 4) (ltim_after level icw1 chip) chip (written_odd icw4 (written_odd icw3 (written_odd icw2 (written_even level icw1 chip))))
+  pub single : (level : ℕ) (chip : Chip) (icw1 icw2 icw4 : ℕ) → has icw1 4 ≡ true → has icw1 0 ≡ true → has icw1 1 ≡ true → IsInitialized icw2 (has icw4 1) (has icw4 4) (ltim_after level icw1 chip) chip (written_odd icw4 (written_odd icw2 (written_even level icw1 chip)))
+  pub without_icw4 : (level : ℕ) (chip : Chip) (icw1 icw2 icw3 : ℕ) → has icw1 4 ≡ true → has icw1 0 ≡ false → has icw1 1 ≡ false → IsInitialized icw2 false false (ltim_after level icw1 chip) chip (written_odd icw3 (written_odd icw2 (written_even level icw1 chip)))
+  pub shortest : (level : ℕ) (chip : Chip) (icw1 icw2 : ℕ) → has icw1 4 ≡ true → has icw1 0 ≡ false → has icw1 1 ≡ true → IsInitialized icw2 false false (ltim_after level icw1 chip) chip (written_odd icw2 (written_even level icw1 chip))
+  pub level_mode : (level icw1 : ℕ) (chip : Chip) → LTIM_SINCE ≤ level → ltim_after level icw1 chip ≡ has icw1 3
+  pub without_level_mode : (level icw1 : ℕ) (chip : Chip) → level < LTIM_SINCE → ltim_after level icw1 chip ≡ chip.ltim
 
 -- an acknowledge without a winner of the master answers the master's base + 7 and changes nothing; where the
 -- slave's output was taken and the slave has no winner, the slave's base + 7 is answered and the slave is unchanged
@@ -78,15 +91,15 @@ pub record AckWithoutWinner : Type 0 where
 
 -- a taken edge input loses its request and a level input keeps it; without automatic EOI its service begins
 pub record TakesWinner : Type 0 where
-  pub edge : (chip : Chip) (winner : ℕ) → chip.irr < 256 → winner < 8 → has chip.elcr winner ≡ false → has (taken winner chip).irr winner ≡ false
-  pub level : (chip : Chip) (winner : ℕ) → has chip.elcr winner ≡ true → (taken winner chip).irr ≡ chip.irr
+  pub edge : (chip : Chip) (winner : ℕ) → chip.irr < 256 → winner < 8 → has (level_inputs_of chip) winner ≡ false → has (taken winner chip).irr winner ≡ false
+  pub level : (chip : Chip) (winner : ℕ) → has (level_inputs_of chip) winner ≡ true → (taken winner chip).irr ≡ chip.irr
   pub served : (chip : Chip) (winner : ℕ) → chip.isr < 256 → winner < 8 → chip.auto_eoi ≡ false → has (taken winner chip).isr winner ≡ true
 
 -- whether an input is requested after lines are taken over: a level input by its line; an edge input where it was,
 -- or where its line rises, or where it is in the mask of edges
 abbrev pub requested_after : ℕ → ℕ → Chip → ℕ → Bool
 requested_after inputs edges chip input =
-    if has chip.elcr input then has inputs input
+    if has (level_inputs_of chip) input then has inputs input
     else has chip.irr input || ((has inputs input && not (has chip.lines input)) || has edges input)
 
 abbrev pub TakesLinesOver : Type 0
@@ -110,22 +123,40 @@ pub record StepsKeepLevel : Type 0 where
   pub ack : (pair : PicPair) → (acked pair).1.level ≡ pair.level
   pub settle : (inputs edges : ℕ) (pair : PicPair) → (settled_pair inputs edges pair).level ≡ pair.level
 
--- a chip with its registers is sound exactly where its cells break no rule
-abbrev pub SoundMeetsRules : Type 0
-SoundMeetsRules =
-    (level : ℕ) (role : Role) (chip : Chip) → HasRegisters level role chip → IsSoundChip level role chip ↔ MeetsRules level role chip
+-- the remembered lines once they are taken over: each input of the master but the cascade and each of the slave as
+-- they are given, and at the cascade input the slave's output afterwards
+pub record LinesAreTaken : Type 0 where
+  pub master : (inputs edges input : ℕ) (pair : PicPair) → inputs < 2 ^ 16 → input < 8 → input ≢ cascade_input → has (lines_of (settled_pair inputs edges pair)) input ≡ has inputs input
+  pub cascade : (inputs edges : ℕ) (pair : PicPair) → inputs < 2 ^ 16 → has (lines_of (settled_pair inputs edges pair)) cascade_input ≡ slave_int_of (settled_pair inputs edges pair)
+  pub slave : (inputs edges input : ℕ) (pair : PicPair) → inputs < 2 ^ 16 → input < 8 → has (lines_of (settled_pair inputs edges pair)) (8 + input) ≡ has inputs (8 + input)
 
--- what a chip with its registers saves under a set are cells of that set
+-- no other step changes the remembered lines, but that an acknowledge of the slave makes the cascade input's low
+pub record LinesAreKept : Type 0 where
+  pub read : (port : ℕ) (pair : PicPair) → lines_of (read_pair port pair).1 ≡ lines_of pair
+  pub write : (port value : ℕ) (pair : PicPair) → lines_of (written_pair port value pair) ≡ lines_of pair
+  pub ack : (pair : PicPair) → winner_at Master pair.master ≢ Some cascade_input → lines_of (acked pair).1 ≡ lines_of pair
+  pub of_slave : (input : ℕ) (pair : PicPair) → PairHasRegisters pair → winner_at Master pair.master ≡ Some cascade_input → input < 16 → has (lines_of (acked pair).1) input ≡ (has (lines_of pair) input && not (input == cascade_input))
+
+-- a chip is sound exactly where its cells in the newest set are cells of their kinds that break no rule
+pub record SoundMeetsRules : Type 0 where
+  pub chip : (level : ℕ) (role : Role) (chip : Chip) → IsSoundChip level role chip ↔ (IsChipCells (saved_cells NEWEST chip) × MeetsRules level role chip)
+
+-- what a chip of the pair saves: as many cells as the set has, each in its kind's range; where its subsection isn't
+-- needed, the level mode's cell is at its default; and each chip's cells are found again in those of the pair
 pub record SavedAreCells : Type 0 where
-  pub chip : (level set : ℕ) (role : Role) (chip : Chip) → HasRegisters level role chip → IsCellsOf set (saved_cells set chip)
+  pub of_kinds : (chip : ℕ) (numbers : Numbers) (pair : PicPair) → CanSave numbers pair → IsSoundPair pair → AreOf (kinds numbers.set) (saved_cells numbers.set (chip_at chip pair))
+  pub unneeded : (set : ℕ) (chip : Chip) → LTIM_SINCE ≤ set → flag_at (saved_cells set chip) 16 ≡ false → cell_at (saved_cells set chip) 16 ≡ pos 0
+  pub master : (set : ℕ) (pair : PicPair) → take (length (kinds set)) (pair_cells set pair) ≡ saved_cells set pair.master
+  pub slave : (set : ℕ) (pair : PicPair) → drop (length (kinds set)) (pair_cells set pair) ≡ saved_cells set pair.slave
 
--- what was saved under a set from the level to the newest, carried to the newest set, can be restored and is
--- restored as it was
+-- what was saved of a sound pair, carried to the newest set, can be restored at the pair's level, and gives the pair
 pub record SavedIsRestored : Type 0 where
-  pub cells : (set : ℕ) (pair : PicPair) → IsSoundPair pair → pair.level ≤ set → IsChipCells (carried set (saved_cells set pair.master)) × IsChipCells (carried set (saved_cells set pair.slave))
-  pub pair : (set : ℕ) (pair : PicPair) → IsSoundPair pair → pair.level ≤ set → restored_pair pair.level (carried set (saved_cells set pair.master)) (carried set (saved_cells set pair.slave)) ≡ Ok pair
-  pub hooks : (numbers : Numbers) (set : ℕ) (pair : PicPair) → IsRestore numbers → numbers.level ≡ pair.level → IsSoundPair pair → pair.level ≤ set → CanRestore numbers (carried set (saved_cells set pair.master) ++ carried set (saved_cells set pair.slave)) × (hook_restored numbers.level (carried set (saved_cells set pair.master) ++ carried set (saved_cells set pair.slave)) ≡ Ok pair)
+  pub pair : (numbers back : Numbers) (pair : PicPair) → CanSave numbers pair → IsSoundPair pair → MayRestore back → back.level ≡ pair.level → CanRestore back (pair_carried numbers.set (pair_cells numbers.set pair)) × (hook_restored back (pair_carried numbers.set (pair_cells numbers.set pair)) ≡ Ok pair)
+
+-- the hooks' number of a fault tells the fault
+pub record FaultsAreTold : Type 0 where
+  pub fault : (fault : ChipFault) → fault.chip < 2 → 1 ≤ fault.rule → fault.rule ≤ 10 → fault_of (hook_rule fault) ≡ fault
 
 -- what is restored is sound and has the level of the restore
 pub record RestoredIsSound : Type 0 where
-  pub pair : (level : ℕ) (master slave : List ℤ) (pair : PicPair) → IsLevel level → IsChipCells master → IsChipCells slave → restored_pair level master slave ≡ Ok pair → IsSoundPair pair × (pair.level ≡ level)
+  pub pair : (numbers : Numbers) (cells : List ℤ) (pair : PicPair) → CanRestore numbers cells → hook_restored numbers cells ≡ Ok pair → IsSoundPair pair × (pair.level ≡ numbers.level)

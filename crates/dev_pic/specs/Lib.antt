@@ -2,7 +2,6 @@ pub mod Bits
 pub mod Cells
 pub mod Chip
 pub mod Laws
-pub mod Levels
 pub mod Ocw2
 pub mod Pair
 pub mod Saved

@@ -2,10 +2,10 @@
 use Rattle.std.specs.Prelude.{ℕ, ◌+◌, ◌*◌, ◌/◌, ◌%◌, ◌==◌, Bool, true, false, ◌||◌, ◌&&◌, nat_le, if◌then◌else◌, Option, Some, None, bit_or, is_some}
 use Rattle.dev_pic.specs.Bits.{without_input}
 use Rattle.dev_pic.specs.Chip.{cascade_input, winner_at, settled, written_even, written_odd, elcr_written, read_of, answered, cascaded}
-use Rattle.dev_pic.specs.Levels.{elcr_since}
 use Rattle.dev_pic.specs.declared.chip.Chip.{Chip}
 use Rattle.dev_pic.specs.declared.chip.InitState.TheVariants.{Ready}
 use Rattle.dev_pic.specs.declared.chip.Role.TheVariants.{Master, Slave}
+use Rattle.dev_pic.specs.declared.levels.TheConstants.{ELCR_SINCE}
 use Rattle.dev_pic.specs.declared.pair.PicPair.{PicPair}
 
 -- a chip at power on
@@ -27,6 +27,7 @@ chip_on = record {
   rotate = false;
   nested = false;
   elcr = 0;
+  ltim = false;
 }
 
 -- the pair at power on
@@ -36,7 +37,7 @@ power_on level = record { level = level; master = chip_on; slave = chip_on }
 -- the ports of a pair of a level
 abbrev pub is_port : ℕ → ℕ → Bool
 is_port level port =
-    (port == 0x20) || (port == 0x21) || (port == 0xa0) || (port == 0xa1) || (nat_le elcr_since level && ((port == 0x4d0) || (port == 0x4d1)))
+    (port == 0x20) || (port == 0x21) || (port == 0xa0) || (port == 0xa1) || (nat_le ELCR_SINCE level && ((port == 0x4d0) || (port == 0x4d1)))
 
 -- the slave's interrupt output: high where it has a winner
 unfoldable pub slave_int_of : PicPair → Bool
@@ -98,9 +99,9 @@ read_pair port pair =
 -- the pair after a write to a port of the pair
 unfoldable pub written_pair : ℕ → ℕ → PicPair → PicPair
 written_pair port value pair =
-    if port == 0x20 then record pair { master = written_even value pair.master }
+    if port == 0x20 then record pair { master = written_even pair.level value pair.master }
     else (if port == 0x21 then record pair { master = written_odd value pair.master }
-    else (if port == 0xa0 then record pair { slave = written_even value pair.slave }
+    else (if port == 0xa0 then record pair { slave = written_even pair.level value pair.slave }
     else (if port == 0xa1 then record pair { slave = written_odd value pair.slave }
     else (if port == 0x4d0 then record pair { master = elcr_written Master value pair.master }
     else record pair { slave = elcr_written Slave value pair.slave }))))

@@ -1,9 +1,10 @@
 -- What saving and restoring mean for the pair.
-use Rattle.std.specs.Prelude.{◌≡◌, ℕ, ℤ, ◌+◌, ◌≤◌, ◌==◌, if◌then◌else◌, List, ◌++◌, Result, Ok, Err, take, drop}
+use Rattle.std.specs.Prelude.{ℕ, ℤ, ◌+◌, ◌-◌, ◌==◌, nat_le, if◌then◌else◌, List, ◌++◌, length, Result, Ok, Err, take, drop}
 use Rattle.vms_hooks.specs.Numbers.{Numbers}
 use Rattle.vms_hooks.specs.declared.fault.HookFault.{HookFault}
-use Rattle.dev_pic.specs.Cells.{cell_count, saved_cells, IsChipCells, restored}
-use Rattle.dev_pic.specs.Levels.{newest, latest_moment, IsLevel}
+use Rattle.dev_base.specs.Hooks.{hook_result}
+use Rattle.dev_base.specs.Levels.{MaySave, MayRestore}
+use Rattle.dev_pic.specs.Cells.{kinds, cell_count, saved_cells, carried, IsChipCells, restored}
 use Rattle.dev_pic.specs.declared.chip.Chip.{Chip}
 use Rattle.dev_pic.specs.declared.chip.Role.TheVariants.{Master, Slave}
 use Rattle.dev_pic.specs.declared.fault.ChipFault.{ChipFault}
@@ -13,27 +14,22 @@ use Rattle.dev_pic.specs.declared.pair.PicPair.{PicPair}
 abbrev pub chip_at : ℕ → PicPair → Chip
 chip_at chip pair = if chip == 0 then pair.master else pair.slave
 
--- a pair may be saved at its own level under a set from the level to the newest
-pub record CanSave (numbers : Numbers) (pair : PicPair) : Type 0 where
-  pub level : IsLevel pair.level
-  pub own_level : numbers.level ≡ pair.level
-  pub level_le_set : numbers.level ≤ numbers.set
-  pub set_le_newest : numbers.set ≤ newest
-  pub moment : numbers.moment ≤ latest_moment
-
--- a restore is made at a level, from the newest set
-pub record IsRestore (numbers : Numbers) : Type 0 where
-  pub level : IsLevel numbers.level
-  pub newest_set : numbers.set ≡ newest
-  pub moment : numbers.moment ≤ latest_moment
+-- a pair may be saved at its own level
+abbrev pub CanSave : Numbers → PicPair → Type 0
+CanSave numbers pair = MaySave numbers pair.level
 
 -- the pair's cells: the master's and then the slave's
 abbrev pub pair_cells : ℕ → PicPair → List ℤ
 pair_cells set pair = saved_cells set pair.master ++ saved_cells set pair.slave
 
--- cells of the newest set, of both chips, each in its kind's range
+-- the pair's cells of a set at their places in the newest set, each chip's by itself
+abbrev pub pair_carried : ℕ → List ℤ → List ℤ
+pair_carried set cells =
+    carried set (take (length (kinds set)) cells) ++ carried set (drop (length (kinds set)) cells)
+
+-- cells of both chips in the newest set may be restored
 pub record CanRestore (numbers : Numbers) (cells : List ℤ) : Type 0 where
-  pub restore : IsRestore numbers
+  pub pass : MayRestore numbers
   pub master : IsChipCells (take cell_count cells)
   pub slave : IsChipCells (drop cell_count cells)
 
@@ -48,15 +44,19 @@ abbrev pub restored_pair : ℕ → List ℤ → List ℤ → Result PicPair Chip
 restored_pair level master slave =
     pair_of level (restored level Master master) (restored level Slave slave)
 
--- a fault as the pair's hooks number it: a rule of the slave has 10 added
+-- the number of a fault's rule among those of both chips: a rule of the slave has 10 added
 abbrev pub hook_rule : ChipFault → ℕ
 hook_rule fault = if fault.chip == 0 then fault.rule else 10 + fault.rule
 
-abbrev pub hook_result : Result PicPair ChipFault → Result PicPair HookFault
-hook_result (Ok pair) = Ok pair
-hook_result (Err fault) = Err (record { rule = hook_rule fault })
+-- the fault of a rule that the hooks number so
+abbrev pub fault_of : ℕ → ChipFault
+fault_of rule = if nat_le rule 10 then record { chip = 0; rule = rule } else record { chip = 1; rule = rule - 10 }
+
+unfoldable pub by_number : Result PicPair ChipFault → Result PicPair ℕ
+by_number (Ok pair) = Ok pair
+by_number (Err fault) = Err (hook_rule fault)
 
 -- the pair of the pair's cells, or the first rule that fails, as its hooks answer
-abbrev pub hook_restored : ℕ → List ℤ → Result PicPair HookFault
-hook_restored level cells =
-    hook_result (restored_pair level (take cell_count cells) (drop cell_count cells))
+abbrev pub hook_restored : Numbers → List ℤ → Result PicPair HookFault
+hook_restored numbers cells =
+    hook_result (by_number (restored_pair numbers.level (take cell_count cells) (drop cell_count cells)))

@@ -1,7 +1,7 @@
 -- Which input is served next.
 use Rattle.std.specs.Prelude.{◌≡◌, ℕ, ◌+◌, ◌%◌, ◌<◌, ◌≤◌, Bool, true, false, List, [], ◌∷◌, map, find, if◌then◌else◌, Option, MatchOption}
 use Rattle.std.specs.List.{range_with_len}
-use Rattle.dev_pic.specs.Bits.{has}
+use Rattle.dev_base.specs.Bits.{has}
 
 -- the input at a place of the priority order: place 0 has the highest priority, place 7 is `lowest` itself
 abbrev pub input_at : ℕ → ℕ → ℕ

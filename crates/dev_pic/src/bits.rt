@@ -1,14 +1,6 @@
 // An 8-bit register as a set of inputs: bit i stands for input i.
 ghost use Rattle.std.specs.Prelude.{◌≡◌, ◌<◌};
-ghost use Rattle.dev_pic.specs.Bits.{has as has_of, with_input as with_input_of, but_not as but_not_of, without_input as without_input_of};
-
-/// Tells whether the register has this input.
-pub(crate) fn has(register: u8, input: u8) -> bool
-    requires { input < 8 }
-    ensures { result ≡ has_of register input }
-{
-    (register >> input) & 1 == 1
-}
+ghost use Rattle.dev_pic.specs.Bits.{with_input as with_input_of, but_not as but_not_of, without_input as without_input_of};
 
 /// The register with this input.
 #[tactic(auto, unfolding(crate::specs::Bits::with_input))]

@@ -1,11 +1,12 @@
 // The cells of a chip.
-ghost use Rattle.std.specs.Prelude.{◌≡◌, ◌<◌, ◌≤◌, length, IfSome, IfErr};
+ghost use Rattle.std.specs.Prelude.{◌≡◌, ◌<◌, ◌≤◌, length, IfErr};
 ghost use Rattle.vms_kinds.specs.declared.Kind.{Kind};
-ghost use Rattle.dev_pic.specs.Cells.{place_of, cell_count, kind_of, number_at, flag_at as flag_at_of, IsChipCells, state_number as state_number_of, state_of as state_of_number, saved_cells, chip_of as chip_of_cells, registers_hold as registers_hold_of, levels_hold as levels_hold_of, first_fault as first_fault_of, restored};
+ghost use Rattle.dev_pic.specs.Cells.{place_of, cell_count, kind_of, number_at, flag_at as flag_at_of, IsChipCells, state_number as state_number_of, state_of as state_of_number, saved_cells, chip_of as chip_of_cells, registers_hold as registers_hold_of, levels_hold as levels_hold_of, requests_hold as requests_hold_of, mode_holds as mode_holds_of, restored};
 
-use crate::chip::{Chip, InitState, Role};
-use crate::pair::ELCR_SINCE;
+use crate::chip::{Chip, InitState, Role, level_inputs_by};
+use crate::levels::{ELCR_SINCE, LTIM_SINCE};
 use arrayvec::ArrayVec;
+use dev_base::first_failing;
 use vms_kinds::DevCells;
 
 /// A cell of a chip, in the order of the newest set.
@@ -27,6 +28,7 @@ pub(crate) enum Cell {
     Rotate,
     Nested,
     Elcr,
+    Ltim,
 }
 
 impl Cell {
@@ -45,7 +47,7 @@ fn byte_at(cells: &DevCells, cell: Cell) -> u8
     requires kind { kind_of cell ≡ Kind.U8 }
     ensures { result ≡ number_at cells.now.items cell }
 {
-    cells[cell.place()] as u8
+    dev_base::byte_at(cells, cell.place())
 }
 
 // A cell that holds a truth value.
@@ -54,7 +56,7 @@ fn flag_at(cells: &DevCells, cell: Cell) -> bool
     requires kind { kind_of cell ≡ Kind.Bool }
     ensures { result ≡ flag_at_of cells.now.items cell }
 {
-    cells[cell.place()] == 1
+    dev_base::flag_at(cells, cell.place())
 }
 
 /// The cells of a chip under a set.
@@ -83,6 +85,9 @@ pub(crate) fn save_chip(set: u8, chip: &Chip) -> DevCells
     ]);
     if set >= ELCR_SINCE {
         cells.push(i128::from(chip.elcr));
+    }
+    if set >= LTIM_SINCE {
+        cells.push(i128::from(chip.ltim));
     }
     cells
 }
@@ -128,6 +133,7 @@ fn chip_of(cells: &DevCells) -> Chip
         rotate: flag_at(cells, Cell::Rotate),
         nested: flag_at(cells, Cell::Nested),
         elcr: byte_at(cells, Cell::Elcr),
+        ltim: flag_at(cells, Cell::Ltim),
     }
 }
 
@@ -145,43 +151,52 @@ fn levels_hold(level: u8, role: Role, elcr: u8) -> bool
     ensures { result ≡ levels_hold_of level role elcr }
 {
     if level >= ELCR_SINCE {
-        elcr & role.level_inputs() == elcr
+        elcr & role.elcr_mask() == elcr
     } else {
         elcr == 0
     }
 }
 
-// The number of the first rule that fails.
-#[tactic(auto, unfolding(crate::specs::Cells::first_fault, crate::specs::Cells::requests_hold))]
-fn first_fault(level: u8, role: Role, cells: &DevCells) -> Option<u8>
-    requires { IsChipCells cells.now.items }
-    ensures fault { result ≡ first_fault_of level role cells.now.items }
-    ensures rule { IfSome result (λ rule. rule ≤ 3) }
+// Rule 3 of a restore.
+#[tactic(auto, unfolding(crate::specs::Cells::requests_hold))]
+fn requests_hold(irr: u8, lines: u8, levels: u8) -> bool
+    ensures { result ≡ requests_hold_of irr lines levels }
 {
-    let elcr = byte_at(cells, Cell::Elcr);
-    if !registers_hold(
-        byte_at(cells, Cell::Lowest),
-        byte_at(cells, Cell::InitState),
-        byte_at(cells, Cell::Base),
-    ) {
-        Some(1)
-    } else if !levels_hold(level, role, elcr) {
-        Some(2)
-    } else if byte_at(cells, Cell::Irr) & elcr != byte_at(cells, Cell::Lines) & elcr {
-        Some(3)
-    } else {
-        None
-    }
+    irr & levels == lines & levels
 }
 
-/// The chip of cells of the newest set, or the number of the first rule that fails, 1 to 3.
-#[tactic(auto, unfolding(crate::specs::Cells::restored_by))]
+// Rule 4 of a restore.
+#[tactic(auto, unfolding(crate::specs::Cells::mode_holds))]
+fn mode_holds(level: u8, ltim: bool) -> bool
+    ensures { result ≡ mode_holds_of level ltim }
+{
+    level >= LTIM_SINCE || !ltim
+}
+
+/// The chip of cells of the newest set, or the number of the first rule that fails, 1 to 4.
+#[tactic(auto, unfolding(dev_base::specs::Rules::judged_by))]
 pub(crate) fn restore_chip(level: u8, role: Role, cells: &DevCells) -> Result<Chip, u8>
     requires { IsChipCells cells.now.items }
     ensures restored { result ≡ restored level role cells.now.items }
-    ensures rule { IfErr result (λ rule. rule ≤ 3) }
+    ensures rule { IfErr result (λ rule. rule ≤ 4) }
 {
-    match first_fault(level, role, cells) {
+    let elcr = byte_at(cells, Cell::Elcr);
+    let ltim = flag_at(cells, Cell::Ltim);
+    let rules = [
+        registers_hold(
+            byte_at(cells, Cell::Lowest),
+            byte_at(cells, Cell::InitState),
+            byte_at(cells, Cell::Base),
+        ),
+        levels_hold(level, role, elcr),
+        requests_hold(
+            byte_at(cells, Cell::Irr),
+            byte_at(cells, Cell::Lines),
+            level_inputs_by(ltim, elcr),
+        ),
+        mode_holds(level, ltim),
+    ];
+    match first_failing(&rules) {
         None => Ok(chip_of(cells)),
         Some(rule) => Err(rule),
     }

@@ -1,9 +1,12 @@
 // One 8259A and its steps.
 ghost use Rattle.std.specs.Prelude.{◌≡◌, ◌<◌, IfSome};
+ghost use Rattle.dev_pic.specs.Chip.{level_inputs};
 
-use crate::bits::{but_not, has, with_input, without_input};
+use crate::bits::{but_not, with_input, without_input};
+use crate::levels::LTIM_SINCE;
 use crate::ocw2::Ocw2;
 use crate::winner::{first_ready, highest};
+use dev_base::has;
 
 /// The master's input that has the slave's interrupt output.
 pub(crate) const CASCADE: u8 = 2;
@@ -16,12 +19,12 @@ pub(crate) enum Role {
 }
 
 impl Role {
-    ghost use Rattle.dev_pic.specs.Chip.{level_inputs as level_inputs_of};
+    ghost use Rattle.dev_pic.specs.Chip.{elcr_mask as elcr_mask_of};
 
     /// The inputs whose ELCR bit can be set. The others, of the timer, the keyboard, the cascade, the
     /// clock and the coprocessor, are edge inputs always.
-    pub fn level_inputs(self) -> u8
-        ensures { result ≡ level_inputs_of self }
+    pub fn elcr_mask(self) -> u8
+        ensures { result ≡ elcr_mask_of self }
     {
         match self {
             Role::Master => 0xf8,
@@ -74,11 +77,28 @@ pub(crate) struct Chip {
     pub nested: bool,
     /// Edge/Level Control Register of the chipset: a set bit makes a level input.
     pub elcr: u8,
+    /// The level mode (ICW1, LTIM), which makes all inputs level inputs.
+    pub ltim: bool,
+}
+
+/// The inputs whose request is their line, by the level mode and the edge/level register.
+#[tactic(auto, unfolding(crate::specs::Chip::level_inputs))]
+pub(crate) fn level_inputs_by(ltim: bool, elcr: u8) -> u8
+    ensures { result ≡ level_inputs ltim elcr }
+{
+    if ltim { 0xff } else { elcr }
 }
 
 impl Chip {
     ghost use Rattle.dev_pic.specs.Ocw2.{HasInput};
-    ghost use Rattle.dev_pic.specs.Chip.{in_service_of, served_of, winner_at, taken, settled, commanded, started, selected, written_even, written_odd, after_icw3, elcr_written, read_of, answered, cascaded};
+    ghost use Rattle.dev_pic.specs.Chip.{level_inputs_of, in_service_of, served_of, winner_at, taken, settled, commanded, ltim_after, started, selected, written_even, written_odd, after_icw3, elcr_written, read_of, answered, cascaded};
+
+    // The inputs whose request is their line. The others are requested by a rising edge.
+    fn level_inputs(&self) -> u8
+        ensures { result ≡ level_inputs_of self.now }
+    {
+        level_inputs_by(self.ltim, self.elcr)
+    }
 
     // What counts as in service for an end of interrupt.
     fn in_service(&self) -> u8
@@ -123,7 +143,7 @@ impl Chip {
         } else if self.rotate {
             self.lowest = winner;
         }
-        if !has(self.elcr, winner) {
+        if !has(self.level_inputs(), winner) {
             self.irr = without_input(self.irr, winner);
         }
     }
@@ -134,7 +154,8 @@ impl Chip {
         ensures { self.new ≡ settled inputs edges self.old }
     {
         let rising = but_not(inputs, self.lines) | edges;
-        self.irr = but_not(self.irr | rising, self.elcr) | (inputs & self.elcr);
+        let levels = self.level_inputs();
+        self.irr = but_not(self.irr | rising, levels) | (inputs & levels);
         self.lines = inputs;
     }
 
@@ -167,14 +188,27 @@ impl Chip {
         }
     }
 
+    // The level mode after ICW1, whose bit 3 has no effect at levels without it.
+    fn ltim_after(&self, level: u8, value: u8) -> bool
+        ensures { result ≡ ltim_after level value self.now }
+    {
+        if level >= LTIM_SINCE {
+            has(value, 3)
+        } else {
+            self.ltim
+        }
+    }
+
     // ICW1, which begins the initialization.
     #[tactic(auto, unfolding(crate::specs::Chip::started))]
-    fn start(&mut self, value: u8)
-        ensures { self.new ≡ started value self.old }
+    fn start(&mut self, level: u8, value: u8)
+        ensures { self.new ≡ started level value self.old }
     {
         let icw4 = has(value, 0);
+        let ltim = self.ltim_after(level, value);
         *self = Chip {
-            irr: self.irr & self.elcr,
+            ltim,
+            irr: self.irr & level_inputs_by(ltim, self.elcr),
             isr: 0,
             imr: 0,
             lowest: 7,
@@ -207,13 +241,13 @@ impl Chip {
         }
     }
 
-    /// A write with A0 low: ICW1, OCW2 or OCW3, by bits 4 and 3.
+    /// A write with A0 low, at a level: ICW1, OCW2 or OCW3, by bits 4 and 3.
     #[tactic(auto, unfolding(crate::specs::Chip::written_even))]
-    pub fn write_even(&mut self, value: u8)
-        ensures { self.new ≡ written_even value self.old }
+    pub fn write_even(&mut self, level: u8, value: u8)
+        ensures { self.new ≡ written_even level value self.old }
     {
         if has(value, 4) {
-            self.start(value);
+            self.start(level, value);
         } else if has(value, 3) {
             self.select(value);
         } else {
@@ -261,7 +295,7 @@ impl Chip {
     pub fn write_elcr(&mut self, role: Role, value: u8)
         ensures { self.new ≡ elcr_written role value self.old }
     {
-        self.elcr = value & role.level_inputs();
+        self.elcr = value & role.elcr_mask();
     }
 
     /// A read of the even or the odd port, which is a poll where OCW3 asked for one ("Poll Command").

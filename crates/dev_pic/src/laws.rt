@@ -1,5 +1,5 @@
 // Laws of the definitions that the contracts of the pair cite. Each function does nothing; its clause is a law.
-ghost use Rattle.dev_pic.specs.Laws.{WinnerIsLeastRequest, MaskedNeverWins, ServedBlocksLower, EoiEndsHighest, InitializesByWords, AckWithoutWinner, TakesWinner, TakesLinesOver, StepsKeepRegisters, StepsKeepLevel, SoundMeetsRules, SavedAreCells, SavedIsRestored, RestoredIsSound};
+ghost use Rattle.dev_pic.specs.Laws.{WinnerIsLeastRequest, MaskedNeverWins, LevelInputsAre, ServedBlocksLower, EoiEndsHighest, InitializesByWords, AckWithoutWinner, TakesWinner, TakesLinesOver, LinesAreTaken, LinesAreKept, StepsKeepRegisters, StepsKeepLevel, SoundMeetsRules, SavedAreCells, SavedIsRestored, FaultsAreTold, RestoredIsSound};
 
 /// The winner is the requested input of highest priority, where it comes strictly before every input in
 /// service, and no other input is one ("Interrupt Request Register (IRR) and In-Service Register (ISR)",
@@ -13,6 +13,12 @@ pub fn winner_law()
 #[tactic(auto, using(crate::proofs::ModeLaws::masked_never_wins))]
 pub fn mask_law()
     ensures { MaskedNeverWins }
+{}
+
+/// An input is a level input where its bit is set in the edge/level register, or the level mode is on.
+#[tactic(auto, using(crate::proofs::BitLaws::level_inputs_are))]
+pub fn level_inputs_law()
+    ensures { LevelInputsAre }
 {}
 
 /// What the initialization words leave ("Initialization Command Words (ICWs)").
@@ -54,6 +60,18 @@ pub fn lines_law()
     ensures { TakesLinesOver }
 {}
 
+/// Which lines are remembered once they are taken over.
+#[tactic(auto, using(crate::proofs::LineLaws::lines_are_taken))]
+pub fn remembered_law()
+    ensures { LinesAreTaken }
+{}
+
+/// No other step changes the remembered lines, but that an acknowledge of the slave makes the cascade input's low.
+#[tactic(auto, using(crate::proofs::LineLaws::lines_are_kept))]
+pub fn kept_lines_law()
+    ensures { LinesAreKept }
+{}
+
 /// Power on is sound, each step keeps the registers, and once the lines are taken over the pair is sound.
 #[tactic(auto, using(crate::proofs::PairLaws::steps_keep_registers))]
 pub fn steps_law()
@@ -66,13 +84,14 @@ pub fn level_law()
     ensures { StepsKeepLevel }
 {}
 
-/// A chip is sound exactly where its cells break no rule.
+/// A chip is sound exactly where its cells in the newest set are of their kinds and break no rule.
 #[tactic(auto, using(crate::proofs::SavedLaws::sound_meets_rules))]
 pub fn rules_law()
     ensures { SoundMeetsRules }
 {}
 
-/// What a chip saves under a set are cells of that set, each in its kind's range.
+/// What a pair saves under a set are cells of that set, each in its kind's range, with defaults where the
+/// subsection isn't needed; and each chip's are found again in those of the pair.
 #[tactic(auto, using(crate::proofs::SavedLaws::saved_are_cells))]
 pub fn cells_law()
     ensures { SavedAreCells }
@@ -84,7 +103,13 @@ pub fn saved_law()
     ensures { SavedIsRestored }
 {}
 
-/// What is restored is sound.
+/// The number that the hooks give a rule tells the chip and its rule.
+#[tactic(auto, using(crate::proofs::SavedLaws::faults_are_told))]
+pub fn fault_law()
+    ensures { FaultsAreTold }
+{}
+
+/// What is restored is sound and has the level of the restore.
 #[tactic(auto, using(crate::proofs::RestoredLaws::restored_is_sound))]
 pub fn restored_law()
     ensures { RestoredIsSound }

@@ -5,18 +5,18 @@ mod bits;
 mod cells;
 mod chip;
 mod fault;
-mod hooks;
 mod laws;
+mod levels;
 mod ocw2;
 mod pair;
 mod saved;
 mod winner;
 
 pub use fault::ChipFault;
-pub use hooks::{load_pair, save_pair};
 pub use laws::{
-    cells_law, default_law, eoi_law, initialization_law, level_law, lines_law, mask_law,
-    nesting_law, restored_law, rules_law, saved_law, service_law, steps_law, winner_law,
+    cells_law, default_law, eoi_law, fault_law, initialization_law, kept_lines_law,
+    level_inputs_law, level_law, lines_law, mask_law, nesting_law, remembered_law, restored_law,
+    rules_law, saved_law, service_law, steps_law, winner_law,
 };
 pub use pair::PicPair;
 

@@ -3,9 +3,7 @@ ghost use Rattle.std.specs.Prelude.{◌≡◌, IsTrue};
 
 use crate::bits::without_input;
 use crate::chip::{CASCADE, Chip, InitState, Role};
-
-/// The first level with edge/level registers.
-pub(crate) const ELCR_SINCE: u8 = 2;
+use crate::levels::ELCR_SINCE;
 
 const MASTER_EVEN: u16 = 0x20;
 
@@ -36,11 +34,13 @@ const POWER_ON: Chip = Chip {
     rotate: false,
     nested: false,
     elcr: 0,
+    ltim: false,
 };
 
 /// The two 8259A of a PC: the slave's interrupt output is input 2 of the master.
 ///
-/// Levels are 1 to 3. From level 2 on there are the chipset's edge/level registers.
+/// Levels are 1 to 4. From level 2 on there are the chipset's edge/level registers, and at level 4 bit 3 of
+/// ICW1 is the level mode (LTIM).
 #[derive(Clone, Copy, Debug, PartialEq, Eq)]
 pub struct PicPair {
     pub(crate) level: u8,
@@ -49,7 +49,7 @@ pub struct PicPair {
 }
 
 impl PicPair {
-    ghost use Rattle.dev_pic.specs.Levels.{IsLevel};
+    ghost use Rattle.dev_base.specs.Levels.{IsLevel};
     ghost use Rattle.dev_pic.specs.Pair.{power_on, is_port, slave_int_of, int_of, lines_of, acked, settled_pair, read_pair, written_pair};
 
     /// The pair at power on.
@@ -101,9 +101,9 @@ impl PicPair {
         ensures { self.new ≡ written_pair port value self.old }
     {
         match port {
-            MASTER_EVEN => self.master.write_even(value),
+            MASTER_EVEN => self.master.write_even(self.level, value),
             MASTER_ODD => self.master.write_odd(value),
-            SLAVE_EVEN => self.slave.write_even(value),
+            SLAVE_EVEN => self.slave.write_even(self.level, value),
             SLAVE_ODD => self.slave.write_odd(value),
             MASTER_ELCR => self.master.write_elcr(Role::Master, value),
             _ => self.slave.write_elcr(Role::Slave, value),

@@ -8,6 +8,7 @@ use crate::chip::Role;
 use crate::fault::ChipFault;
 use crate::pair::PicPair;
 use arrayvec::ArrayVec;
+use dev_base::hook_result;
 use vms_hooks::{HookFault, Hooked, Pass};
 use vms_kinds::DevCells;
 
@@ -17,7 +18,7 @@ const MASTER: u8 = 0;
 const SLAVE: u8 = 1;
 
 /// How many cells a chip has in the newest set.
-const CELL_COUNT: usize = 16;
+const CELL_COUNT: usize = 17;
 
 impl Hooked for PicPair {
     ghost use Rattle.dev_pic.specs.Saved.{CanSave, CanRestore, pair_cells, hook_restored};
@@ -28,12 +29,13 @@ impl Hooked for PicPair {
 
     ghost saves_as = { λ numbers pair cells. cells ≡ pair_cells numbers.set pair };
 
-    ghost restores_to = { λ numbers cells outcome. outcome ≡ hook_restored numbers.level cells };
+    ghost restores_to = { λ numbers cells outcome. outcome ≡ hook_restored numbers cells };
 }
 
 impl PicPair {
+    ghost use Rattle.dev_base.specs.Levels.{MayRestore};
     ghost use Rattle.dev_pic.specs.Cells.{saved_cells, IsChipCells};
-    ghost use Rattle.dev_pic.specs.Saved.{chip_at, CanSave, CanRestore, IsRestore, restored_pair, pair_cells, hook_restored};
+    ghost use Rattle.dev_pic.specs.Saved.{chip_at, CanSave, CanRestore, restored_pair, pair_cells, hook_restored};
 
     /// The cells of one chip under the pass's set: 0 is the master, 1 the slave.
     pub fn cells(&self, pass: &Pass, chip: u8) -> DevCells
@@ -53,14 +55,15 @@ impl PicPair {
     ///
     /// 1. `lowest` is at most 7, `init_state` at most 3, and `base` has bits 2 to 0 clear.
     /// 2. `elcr` is 0 at level 1, and from level 2 on within 0xf8 on the master and 0xde on the slave.
-    /// 3. `irr` and `lines` agree on the bits of `elcr`.
+    /// 3. `irr` and `lines` agree on the level inputs: the bits of `elcr`, or all where `ltim` is set.
+    /// 4. `ltim` is false below level 4.
     #[tactic(auto, unfolding(crate::specs::Saved::pair_of))]
     pub fn of_cells(pass: &Pass, master: &DevCells, slave: &DevCells) -> Result<PicPair, ChipFault>
-        requires pass { IsRestore pass.now }
+        requires pass { MayRestore pass.now }
         requires master { IsChipCells master.now.items }
         requires slave { IsChipCells slave.now.items }
         ensures restored { result ≡ restored_pair pass.now.level master.now.items slave.now.items }
-        ensures rule { IfErr result (λ fault. fault.rule ≤ 3) }
+        ensures rule { IfErr result (λ fault. fault.rule ≤ 4) }
     {
         let level = pass.level();
         let master = match restore_chip(level, Role::Master, master) {
@@ -89,23 +92,20 @@ impl PicPair {
 
     /// What the stored closure of the pair's hooks restores. A rule of the slave has 10 added to its
     /// number.
+    #[tactic(auto, unfolding(crate::specs::Saved::by_number))]
     pub fn load(pass: &Pass, cells: &DevCells) -> Result<PicPair, HookFault>
         requires { CanRestore pass.now cells.now.items }
-        ensures { result ≡ hook_restored pass.now.level cells.now.items }
+        ensures { result ≡ hook_restored pass.now cells.now.items }
     {
         let (master, slave) = cells.split_at(CELL_COUNT);
-        match PicPair::of_cells(pass, &chip_cells(master), &chip_cells(slave)) {
-            Ok(pair) => Ok(pair),
-            Err(fault) => Err(HookFault {
-                rule: hook_rule(fault),
-            }),
-        }
+        let pair = PicPair::of_cells(pass, &chip_cells(master), &chip_cells(slave));
+        hook_result(pair.map_err(hook_rule))
     }
 }
 
 // The number of a fault's rule among those of both chips.
 fn hook_rule(fault: ChipFault) -> u8
-    requires { fault.rule ≤ 3 }
+    requires { fault.rule ≤ 4 }
     ensures { result ≡ hook_rule_of fault }
 {
     match fault.chip {

@@ -1,161 +1,135 @@
 // Rows of calls and answers that were worked out by hand, and each rule of a restore through the hooks.
 ghost use Rattle.std.specs.Prelude.{◌≡◌, take, drop};
-ghost use Rattle.dev_pic.specs.Cells.{cell_count, IsChipCells};
-ghost use Rattle.dev_pic.specs.Levels.{IsLevel};
+ghost use Rattle.dev_base.specs.Levels.{IsLevel};
+ghost use Rattle.dev_pic.specs.Cells.{cell_count, kinds, IsChipCells};
 ghost use Rattle.dev_pic.specs.Saved.{CanSave, CanRestore, pair_cells, hook_restored};
 
 use crate::chip::{Chip, InitState};
 use crate::pair::PicPair;
 use arrayvec::ArrayVec;
+use dev_base::{NEWEST, are_of, is_level};
 use std::process::Abort;
-use std::test::Fail;
 use vms_hooks::{HookFault, Pass, load_by, save_by};
-use vms_kinds::DevCells;
+use vms_kinds::{DevCells, Kind};
 
 /// A call of the pair, with the answer that it must give.
 #[derive(Clone, Copy)]
 enum Call {
-    Write { port: u16, value: u8 },
-    Read { port: u16, gives: u8 },
-    Settle { inputs: u16 },
-    Ack { gives: u8 },
-    Int { gives: bool },
+    Write(u16, u8),
+    Read(u16, u8),
+    /// Inputs and edges.
+    Settle(u16, u16),
+    Ack(u8),
+    Int(bool),
+    SlaveInt(bool),
+    Lines(u16),
 }
 
 fn play(rt: &impl Abort, pair: &mut PicPair, calls: &[Call]) {
     for call in calls {
         match *call {
-            Call::Write { port, value } => {
+            Call::Write(port, value) => {
                 assert!(rt; pair.is_port(port));
                 pair.write(port, value);
             }
-            Call::Read { port, gives } => {
+            Call::Read(port, value) => {
                 assert!(rt; pair.is_port(port));
-                assert_eq!(rt; pair.read(port), gives);
+                assert_eq!(rt; pair.read(port), value);
             }
-            Call::Settle { inputs } => pair.settle(inputs, 0),
-            Call::Ack { gives } => assert_eq!(rt; pair.ack(), gives),
-            Call::Int { gives } => assert_eq!(rt; pair.int(), gives),
+            Call::Settle(inputs, edges) => pair.settle(inputs, edges),
+            Call::Ack(vector) => assert_eq!(rt; pair.ack(), vector),
+            Call::Int(is_high) => assert_eq!(rt; pair.int(), is_high),
+            Call::SlaveInt(is_high) => assert_eq!(rt; pair.slave_int(), is_high),
+            Call::Lines(lines) => assert_eq!(rt; pair.lines(), lines),
         }
     }
 }
 
-/// A pair of level 1 after ICW1 to ICW4 of both chips: vectors from 0x08 and from 0x70.
-fn set_up(rt: &impl Abort) -> PicPair {
-    let mut pair = PicPair::new(1);
-    let words = [
-        Call::Write {
-            port: 0x20,
-            value: 0x11,
-        },
-        Call::Write {
-            port: 0x21,
-            value: 0x08,
-        },
-        Call::Write {
-            port: 0x21,
-            value: 0x04,
-        },
-        Call::Write {
-            port: 0x21,
-            value: 0x01,
-        },
-        Call::Write {
-            port: 0xa0,
-            value: 0x11,
-        },
-        Call::Write {
-            port: 0xa1,
-            value: 0x70,
-        },
-        Call::Write {
-            port: 0xa1,
-            value: 0x02,
-        },
-        Call::Write {
-            port: 0xa1,
-            value: 0x01,
-        },
-    ];
-    play(rt, &mut pair, &words);
-    pair
+/// ICW1 to ICW4 of both chips: vectors from 0x08 and from 0x70.
+const SET_UP: [Call; 8] = [
+    Call::Write(0x20, 0x11),
+    Call::Write(0x21, 0x08),
+    Call::Write(0x21, 0x04),
+    Call::Write(0x21, 0x01),
+    Call::Write(0xa0, 0x11),
+    Call::Write(0xa1, 0x70),
+    Call::Write(0xa1, 0x02),
+    Call::Write(0xa1, 0x01),
+];
+
+/// Plays calls on a pair of a level that is set up.
+fn play_set_up(rt: &impl Abort, level: u8, calls: &[Call]) {
+    assert!(rt; is_level(level));
+    let mut pair = PicPair::new(level);
+    play(rt, &mut pair, &SET_UP);
+    play(rt, &mut pair, calls);
 }
 
 #[test]
-fn answers_input_seven_where_nothing_is_requested(rt: HostRuntime) -> Result<(), Fail> {
-    play(&rt, &mut set_up(&rt), &[Call::Ack { gives: 0x0f }]);
-    Ok(())
+fn answers_and_serves_the_inputs(rt: HostRuntime) {
+    // the vector of input 7 where nothing is requested
+    play_set_up(&rt, 1, &[Call::Ack(0x0f)]);
+    // the slave before a lower input; its output is the master's input 2, until it is acknowledged
+    let slave_first = [
+        Call::Settle(0x1008, 0),
+        Call::SlaveInt(true),
+        Call::Lines(0x100c),
+        Call::Ack(0x74),
+        Call::SlaveInt(false),
+        Call::Lines(0x1008),
+        Call::Int(false),
+        Call::Write(0xa0, 0x20),
+        Call::Write(0x20, 0x20),
+        Call::Int(true),
+        Call::Ack(0x0b),
+    ];
+    play_set_up(&rt, 1, &slave_first);
+    // a poll takes the winner
+    let poll = [
+        Call::Settle(0x0008, 0),
+        Call::Write(0x20, 0x0c),
+        Call::Read(0x20, 0x83),
+        Call::Write(0x20, 0x0b),
+        Call::Read(0x20, 0x08),
+    ];
+    play_set_up(&rt, 1, &poll);
+    // an edge of an input that is low requests it; one of the cascade input is not used
+    let edges = [
+        Call::Settle(0x0000, 0x0004),
+        Call::Int(false),
+        Call::Settle(0x0000, 0x0101),
+        Call::Lines(0x0004),
+        Call::Ack(0x08),
+        Call::Write(0x20, 0x20),
+        Call::Ack(0x70),
+    ];
+    play_set_up(&rt, 2, &edges);
 }
 
 #[test]
-fn serves_the_slave_before_a_lower_input(rt: HostRuntime) -> Result<(), Fail> {
-    let calls = [
-        Call::Settle { inputs: 0x1008 },
-        Call::Ack { gives: 0x74 },
-        Call::Int { gives: false },
-        Call::Write {
-            port: 0xa0,
-            value: 0x20,
-        },
-        Call::Write {
-            port: 0x20,
-            value: 0x20,
-        },
-        Call::Int { gives: true },
-        Call::Ack { gives: 0x0b },
+fn has_level_inputs_by_elcr_and_by_the_level_mode(rt: HostRuntime) {
+    let masks = [
+        Call::Write(0x4d0, 0xff),
+        Call::Read(0x4d0, 0xf8),
+        Call::Write(0x4d1, 0xff),
+        Call::Read(0x4d1, 0xde),
     ];
-    play(&rt, &mut set_up(&rt), &calls);
-    Ok(())
-}
-
-#[test]
-fn takes_the_winner_by_a_poll(rt: HostRuntime) -> Result<(), Fail> {
-    let calls = [
-        Call::Settle { inputs: 0x0008 },
-        Call::Write {
-            port: 0x20,
-            value: 0x0c,
-        },
-        Call::Read {
-            port: 0x20,
-            gives: 0x83,
-        },
-        Call::Write {
-            port: 0x20,
-            value: 0x0b,
-        },
-        Call::Read {
-            port: 0x20,
-            gives: 0x08,
-        },
-    ];
-    play(&rt, &mut set_up(&rt), &calls);
-    Ok(())
-}
-
-#[test]
-fn keeps_the_inputs_that_can_be_level_inputs(rt: HostRuntime) -> Result<(), Fail> {
-    let calls = [
-        Call::Write {
-            port: 0x4d0,
-            value: 0xff,
-        },
-        Call::Read {
-            port: 0x4d0,
-            gives: 0xf8,
-        },
-        Call::Write {
-            port: 0x4d1,
-            value: 0xff,
-        },
-        Call::Read {
-            port: 0x4d1,
-            gives: 0xde,
-        },
-    ];
-    play(&rt, &mut PicPair::new(2), &calls);
-    assert!(rt; !PicPair::new(1).is_port(0x4d0));
-    Ok(())
+    play_set_up(&rt, 2, &masks);
+    assert!(&rt; !PicPair::new(1).is_port(0x4d0));
+    // ICW1 with bit 3: at level 4 a line's request stays only while it is high, at level 3 until it is taken
+    for (level, stays) in [(4, false), (3, true)] {
+        let calls = [
+            Call::Write(0x20, 0x19),
+            Call::Write(0x21, 0x08),
+            Call::Write(0x21, 0x04),
+            Call::Write(0x21, 0x01),
+            Call::Settle(0x0008, 0),
+            Call::Int(true),
+            Call::Settle(0x0000, 0),
+            Call::Int(stays),
+        ];
+        play_set_up(&rt, level, &calls);
+    }
 }
 
 // The cells of a pair, taken by stored closures.
@@ -174,7 +148,7 @@ fn saved(pair: &PicPair, level: u8, set: u8, moment: u64) -> DevCells
 }
 
 #[test]
-fn saves_the_registers_in_order(rt: HostRuntime) -> Result<(), Fail> {
+fn saves_the_registers_in_order(rt: HostRuntime) {
     let master = Chip {
         irr: 0x11,
         isr: 0x12,
@@ -192,199 +166,147 @@ fn saves_the_registers_in_order(rt: HostRuntime) -> Result<(), Fail> {
         rotate: true,
         nested: false,
         elcr: 0x20,
+        ltim: true,
     };
+    let slave = PicPair::new(4).slave;
     let pair = PicPair {
-        level: 2,
+        level: 4,
         master,
-        slave: PicPair::new(2).slave,
+        slave,
     };
     let cells = [
-        0x11, 0x12, 0x13, 0x14, 5, 0x18, 2, 1, 0, 1, 0, 1, 0, 1, 0, 0x20, 0, 0, 0, 0, 7, 0, 0, 0,
-        0, 0, 0, 0, 0, 0, 0, 0,
+        0x11, 0x12, 0x13, 0x14, 5, 0x18, 2, 1, 0, 1, 0, 1, 0, 1, 0, 0x20, 1, 0, 0, 0, 0, 7, 0, 0,
+        0, 0, 0, 0, 0, 0, 0, 0, 0, 0,
     ];
-    assert_eq!(rt; saved(&pair, 2, 2, 0).as_slice(), cells.as_slice());
-    assert_eq!(rt; saved(&PicPair { level: 1, ..pair }, 1, 1, 0).len(), 30);
-    Ok(())
+    assert_eq!(&rt; saved(&pair, 4, 4, 0).as_slice(), cells.as_slice());
+    let old = PicPair { level: 1, ..pair };
+    assert_eq!(&rt; saved(&old, 1, 1, 0).len(), 30);
+    assert_eq!(&rt; saved(&old, 1, 3, 0).len(), 32);
 }
 
 // The pair of cells of the newest set, made by stored closures.
-fn loaded(cells: &DevCells, level: u8, set: u8, moment: u64) -> Result<PicPair, HookFault>
-    requires { CanRestore record { level = level; set = set; moment = moment } cells.now.items }
-    ensures { result ≡ hook_restored level cells.now.items }
+fn loaded(cells: &DevCells, level: u8) -> Result<PicPair, HookFault>
+    requires { CanRestore record { level = level; set = 4; moment = 0 } cells.now.items }
+    ensures { result ≡ hook_restored record { level = level; set = 4; moment = 0 } cells.now.items }
 {
     load_by(
         |pass: &Pass, pair: &PicPair| pair.save(pass),
         |pass: &Pass, cells: &DevCells| PicPair::load(pass, cells),
         level,
-        set,
-        moment,
+        NEWEST,
+        0,
         cells,
     )
 }
 
-/// The number of the newest set.
-const NEWEST: u8 = 3;
-
-/// The cells of a chip that the rules of a restore speak of.
-#[derive(Clone, Copy)]
-struct Registers {
-    irr: u8,
-    lines: u8,
-    lowest: u8,
-    base: u8,
-    init_state: u8,
-    elcr: u8,
-}
+/// The cells of a chip that the rules of a restore speak of: `irr`, `lines`, `lowest`, `base`, `init_state`,
+/// `elcr` and `ltim`.
+type Registers = (u8, u8, u8, u8, u8, u8, bool);
 
 /// A chip that breaks no rule.
-const GOOD: Registers = Registers {
-    irr: 0,
-    lines: 0,
-    lowest: 7,
-    base: 8,
-    init_state: 0,
-    elcr: 0,
-};
+const GOOD: Registers = (0, 0, 7, 8, 0, 0, false);
+
+/// The kinds of a chip's cells in the newest set.
+fn chip_kinds() -> [Kind; 17]
+    ensures { result ≡ kinds 4 }
+{
+    let byte = Kind::U8;
+    let flag = Kind::Bool;
+    [
+        byte, byte, byte, byte, byte, byte, byte, flag, flag, flag, flag, flag, flag, flag, flag,
+        byte, flag,
+    ]
+}
 
 // The cells of a chip with these registers, all others 0.
-fn chip_cells(registers: Registers) -> DevCells
-    ensures { IsChipCells result.items }
-{
-    let mut cells = ArrayVec::new();
-    let _fits = cells.try_extend_from_slice(&[
-        i128::from(registers.irr),
-        0,
-        0,
-        i128::from(registers.lines),
-        i128::from(registers.lowest),
-        i128::from(registers.base),
-        i128::from(registers.init_state),
-        0,
-        0,
-        0,
-        0,
-        0,
-        0,
-        0,
-        0,
-        i128::from(registers.elcr),
-    ]);
+fn chip_cells(registers: Registers) -> [i128; 17] {
+    let (irr, lines, lowest, base, init_state, elcr, ltim) = registers;
+    let mut cells = [0; 17];
+    for (place, value) in [
+        (0, irr),
+        (3, lines),
+        (4, lowest),
+        (5, base),
+        (6, init_state),
+        (15, elcr),
+    ] {
+        cells[place] = i128::from(value);
+    }
+    cells[16] = i128::from(ltim);
     cells
 }
 
 // The cells of both chips.
-fn both_cells(master: Registers, slave: Registers) -> DevCells
+fn both_cells(master: &[i128; 17], slave: &[i128; 17]) -> DevCells
+    requires of_master { IsChipCells master.now }
+    requires of_slave { IsChipCells slave.now }
     ensures master { IsChipCells (take cell_count result.items) }
     ensures slave { IsChipCells (drop cell_count result.items) }
 {
-    let mut cells = chip_cells(master);
-    let _fits = cells.try_extend_from_slice(&chip_cells(slave));
+    let mut cells = ArrayVec::new();
+    dev_base::append(&mut cells, master);
+    dev_base::append(&mut cells, slave);
     cells
 }
 
 // The number of the rule that the pair's hooks answer, if one fails.
-fn failing_rule(level: u8, master: Registers, slave: Registers) -> Option<u8>
+fn failing_rule(rt: &impl Abort, level: u8, master: Registers, slave: Registers) -> Option<u8>
     requires { IsLevel level }
 {
-    let outcome = loaded(&both_cells(master, slave), level, NEWEST, 0);
+    let master = chip_cells(master);
+    let slave = chip_cells(slave);
+    assert!(rt; are_of(&chip_kinds(), &master));
+    assert!(rt; are_of(&chip_kinds(), &slave));
+    let outcome = loaded(&both_cells(&master, &slave), level);
     outcome.err().map(|fault| fault.rule)
 }
 
 #[test]
-fn refuses_cells_that_break_a_rule(rt: HostRuntime) -> Result<(), Fail> {
-    // A level, registers, and the rule that they break as the master's and as the slave's.
-    let faults = [
-        (1, Registers { lowest: 8, ..GOOD }, 1, 11),
-        (
-            1,
-            Registers {
-                init_state: 4,
-                ..GOOD
-            },
-            1,
-            11,
-        ),
-        (3, Registers { base: 0x0c, ..GOOD }, 1, 11),
-        (1, Registers { elcr: 0x08, ..GOOD }, 2, 12),
-        (2, Registers { elcr: 0x01, ..GOOD }, 2, 12),
-        (
-            2,
-            Registers {
-                elcr: 0x08,
-                irr: 0x08,
-                ..GOOD
-            },
-            3,
-            13,
-        ),
-        (
-            3,
-            Registers {
-                elcr: 0x08,
-                lines: 0x08,
-                ..GOOD
-            },
-            3,
-            13,
-        ),
-        (
-            2,
-            Registers {
-                lowest: 8,
-                elcr: 0x01,
-                ..GOOD
-            },
-            1,
-            11,
-        ),
+fn refuses_cells_that_break_a_rule(rt: HostRuntime) {
+    // a level, registers, and the rule that they break as the master's and as the slave's
+    let faults: [(u8, Registers, u8, u8); 11] = [
+        (1, (0, 0, 8, 8, 0, 0, false), 1, 11),
+        (1, (0, 0, 7, 8, 4, 0, false), 1, 11),
+        (3, (0, 0, 7, 0x0c, 0, 0, false), 1, 11),
+        (1, (0, 0, 7, 8, 0, 0x08, false), 2, 12),
+        (2, (0, 0, 7, 8, 0, 0x01, false), 2, 12),
+        (2, (0x08, 0, 7, 8, 0, 0x08, false), 3, 13),
+        (3, (0, 0x08, 7, 8, 0, 0x08, false), 3, 13),
+        (4, (0x01, 0, 7, 8, 0, 0, true), 3, 13),
+        (3, (0x01, 0x01, 7, 8, 0, 0, true), 4, 14),
+        (2, (0, 0, 8, 8, 0, 0x01, false), 1, 11),
+        (3, (0x01, 0, 7, 8, 0, 0, true), 3, 13),
     ];
     for (level, bad, of_master, of_slave) in faults {
-        assert!(rt; 1 <= level && level <= NEWEST);
-        assert_eq!(rt; failing_rule(level, bad, GOOD), Some(of_master));
-        assert_eq!(rt; failing_rule(level, GOOD, bad), Some(of_slave));
+        assert!(&rt; is_level(level));
+        assert_eq!(&rt; failing_rule(&rt, level, bad, GOOD), Some(of_master));
+        assert_eq!(&rt; failing_rule(&rt, level, GOOD, bad), Some(of_slave));
     }
-    Ok(())
 }
 
 #[test]
-fn restores_up_to_the_limits_of_the_rules(rt: HostRuntime) -> Result<(), Fail> {
-    let all_levels = Registers {
-        elcr: 0xf8,
-        irr: 0xff,
-        lines: 0xf8,
-        ..GOOD
-    };
-    let slave_levels = Registers {
-        elcr: 0xde,
-        irr: 0x21,
-        lines: 0x00,
-        ..GOOD
-    };
-    let third = Registers {
-        init_state: 3,
-        base: 0xf8,
-        lowest: 0,
-        ..GOOD
-    };
-    let rows = [
+fn restores_up_to_the_limits_of_the_rules(rt: HostRuntime) {
+    let all_levels = (0xff, 0xf8, 7, 8, 0, 0xf8, false);
+    let slave_levels = (0x21, 0x00, 7, 8, 0, 0xde, false);
+    let third = (0, 0, 0, 0xf8, 3, 0, false);
+    let level_mode = (0x41, 0x41, 7, 8, 0, 0, true);
+    let rows: [(u8, Registers, Registers, Option<u8>); 8] = [
         (1, GOOD, third, None),
         (1, third, GOOD, None),
         (2, all_levels, slave_levels, None),
+        (4, level_mode, level_mode, None),
         (2, slave_levels, GOOD, Some(2)),
         (2, GOOD, all_levels, Some(12)),
         (
             2,
-            Registers {
-                irr: 0,
-                ..all_levels
-            },
-            Registers { lowest: 8, ..GOOD },
+            (0, 0xf8, 7, 8, 0, 0xf8, false),
+            (0, 0, 8, 8, 0, 0, false),
             Some(3),
         ),
+        (3, GOOD, level_mode, Some(14)),
     ];
     for (level, master, slave, rule) in rows {
-        assert!(rt; 1 <= level && level <= NEWEST);
-        assert_eq!(rt; failing_rule(level, master, slave), rule);
+        assert!(&rt; is_level(level));
+        assert_eq!(&rt; failing_rule(&rt, level, master, slave), rule);
     }
-    Ok(())
 }

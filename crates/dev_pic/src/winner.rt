@@ -2,7 +2,7 @@
 ghost use Rattle.std.specs.Prelude.{◌≡◌, ◌<◌, IfSome};
 ghost use Rattle.dev_pic.specs.Winner.{input_at as input_at_of, winner_of, highest_of};
 
-use crate::bits::has;
+use dev_base::has;
 
 /// The input at a place of the priority order; place 0 has the highest priority.
 fn input_at(lowest: u8, place: u8) -> u8

@@ -1,14 +1,14 @@
 -- What calls leave as it was in a counter.
-use Rattle.std.proofs.Common.{◌≡◌, ℕ, zero, suc, ◌+◌, ◌-◌, ◌/◌, ◌%◌, ◌<◌, ◌≤◌, ◌==◌, ◌⊎◌, Bool, true, false, ◌&&◌, Option, Some, None, refl, inl, inr, arith, subst, ⊎_elim}
+use Rattle.std.proofs.Common.{◌≡◌, ℕ, ◌+◌, ◌-◌, ◌<◌, ◌≤◌, ◌==◌, Bool, true, false, ◌&&◌, Option, Some, None, refl, arith, subst, ⊎_elim}
 use Rattle.std.proofs.lemmas.Bool.Decides.{nat_tests}
 use Rattle.std.specs.Prelude.{nat_le, is_some}
 use Rattle.dev_pit.specs.Calls.{reads, writes, called, programs, sets_mode_of, loads, completes}
 use Rattle.dev_pit.specs.Control.{control_word}
 use Rattle.dev_pit.specs.Count.{out_at, ticks}
-use Rattle.dev_pit.specs.Counter.{out_of, out_since, written, written_by, written_low_first, read_of, latched, read_back}
+use Rattle.dev_pit.specs.Counter.{out_of, out_since, written, written_by, written_low_first, read_of, latched}
 use Rattle.dev_pit.specs.GoesOn.{GoesOn}
 use Rattle.dev_pit.specs.Laws.{CountingGoesOn, TerminalCountStays}
-use Rattle.dev_pit.specs.Pit.{counter_of, with_counter, pit_read, pit_out, controlled, pit_written}
+use Rattle.dev_pit.specs.Pit.{counter_of, pit_read, pit_out, asked_back, controlled, pit_written}
 use Rattle.dev_pit.specs.declared.control.ControlWord.{ControlWord}
 use Rattle.dev_pit.specs.declared.control.ControlWord.TheVariants.{LatchCount, SetMode, ReadBack}
 use Rattle.dev_pit.specs.declared.counter.Counter.{Counter}
@@ -17,67 +17,30 @@ use Rattle.dev_pit.specs.declared.mode.Access.{Access}
 use Rattle.dev_pit.specs.declared.mode.Access.TheVariants.{LowByte, HighByte, LowThenHigh}
 use Rattle.dev_pit.specs.declared.mode.Mode.TheVariants.{TerminalCount}
 use Rattle.dev_pit.specs.declared.pit.Pit.{Pit}
-use Rattle.dev_pit.proofs.CounterSteps.{either, same, latched-goes_on, read_back-goes_on, read-goes_on}
+use Rattle.dev_base.proofs.Choices.{either, either_way}
+use Rattle.dev_pit.proofs.Chips.{at_counter}
+use Rattle.dev_pit.proofs.CounterSteps.{same, goes-on, latched-goes_on, read_back-goes_on, read-goes_on}
 use Rattle.dev_pit.proofs.Edges.{ticks-mono}
 
-pub either_way : (b : Bool) → (b ≡ true) ⊎ (b ≡ false)
-either_way true = inl refl
-either_way false = inr refl
-
--- a fact of counter k after counter j was replaced
-pub at_counter : (P : Counter → Type 0) (k j : ℕ) (counter : Counter) (pit : Pit) → k < 3 → j < 3 → (k ≡ j → P counter) → (¬ (k ≡ j) → P (counter_of k pit)) → P (counter_of k (with_counter j counter pit))
-at_counter P zero zero counter pit h l here there = here refl
-at_counter P zero (suc zero) counter pit h l here there = there (λ e. omega arith)
-at_counter P zero (suc (suc zero)) counter pit h l here there = there (λ e. omega arith)
-at_counter P (suc zero) zero counter pit h l here there = there (λ e. omega arith)
-at_counter P (suc zero) (suc zero) counter pit h l here there = here refl
-at_counter P (suc zero) (suc (suc zero)) counter pit h l here there = there (λ e. omega arith)
-at_counter P (suc (suc zero)) zero counter pit h l here there = there (λ e. omega arith)
-at_counter P (suc (suc zero)) (suc zero) counter pit h l here there = there (λ e. omega arith)
-at_counter P (suc (suc zero)) (suc (suc zero)) counter pit h l here there = here refl
-at_counter P (suc (suc (suc k))) j counter pit h l here there = absurd (omega arith)
-at_counter P zero (suc (suc (suc j))) counter pit h l here there = absurd (omega arith)
-at_counter P (suc zero) (suc (suc (suc j))) counter pit h l here there = absurd (omega arith)
-at_counter P (suc (suc zero)) (suc (suc (suc j))) counter pit h l here there = absurd (omega arith)
-
--- the counter of a control word is one that there is
-unfoldable pub IsWord : ControlWord → Type 0
-IsWord (LatchCount j) = j < 3
-IsWord (SetMode j access mode bcd) = j < 3
-IsWord (ReadBack count status first second third) = Unit {0}
-
-chosen : (value : ℕ) → value < 256 → (value / 64 == 3) ≡ false → value / 64 < 3
-chosen value h e = grind (arith, nat_tests)
-
-pub control_word-is_word : (value : ℕ) → value < 256 → IsWord (control_word value)
-unfolding control_word IsWord
-control_word-is_word value h =
-    ⊎_elim (λ e. rw e tt)
-    (λ e. rw e (either IsWord (value / 16 % 4 == 0) _ _ (chosen value h e) (chosen value h e)))
-    (either_way (value / 64 == 3))
-
-three-go_on : (count status first second third : Bool) (k now : ℕ) (pit : Pit) → k < 3 → GoesOn (counter_of k pit) (counter_of k (record {
-  level = pit.level;
-  counter0 = read_back (count && first) (status && first) now pit.counter0;
-  counter1 = read_back (count && second) (status && second) now pit.counter1;
-  counter2 = read_back (count && third) (status && third) now pit.counter2;
-}))
-three-go_on count status first second third zero now pit h = read_back-goes_on _ _ now pit.counter0
-three-go_on count status first second third (suc zero) now pit h = read_back-goes_on _ _ now pit.counter1
-three-go_on count status first second third (suc (suc zero)) now pit h = read_back-goes_on _ _ now pit.counter2
-three-go_on count status first second third (suc (suc (suc k))) now pit h = absurd (omega arith)
+asked-go_on : (count status chosen : Bool) (j k now : ℕ) (before : Counter) (pit : Pit) → GoesOn before (counter_of k pit) → GoesOn before (counter_of k (asked_back count status chosen j now pit))
+unfolding asked_back
+asked-go_on count status chosen j k now before pit g =
+    at_counter (GoesOn before) k j _ pit
+    (λ here. goes-on before (counter_of j pit) _ (subst (λ (i : ℕ). GoesOn before (counter_of i pit)) here g) (read_back-goes_on _ _ now (counter_of j pit))) g
 
 -- a control word that doesn't set the mode of counter k leaves it counting
-control-goes_on : (word : ControlWord) (k now : ℕ) (pit : Pit) → k < 3 → IsWord word → sets_mode_of k word ≡ false → GoesOn (counter_of k pit) (counter_of k (controlled word now pit))
-unfolding controlled IsWord
-control-goes_on (LatchCount j) k now pit h w e =
-    at_counter (GoesOn (counter_of k pit)) k j _ pit h w
+control-goes_on : (word : ControlWord) (k now : ℕ) (pit : Pit) → sets_mode_of k word ≡ false → GoesOn (counter_of k pit) (counter_of k (controlled word now pit))
+unfolding controlled
+control-goes_on (LatchCount j) k now pit e =
+    at_counter (GoesOn (counter_of k pit)) k j _ pit
     (λ here. subst (λ (i : ℕ). GoesOn (counter_of k pit) (latched now (counter_of i pit))) here (latched-goes_on now (counter_of k pit)))
-    (λ there. same (counter_of k pit))
-control-goes_on (SetMode j access mode bcd) k now pit h w e =
-    at_counter (GoesOn (counter_of k pit)) k j _ pit h w (λ here. absurd (grind (arith, nat_tests))) (λ there. same (counter_of k pit))
-control-goes_on (ReadBack count status first second third) k now pit h w e =
-    either (λ (p : Pit). GoesOn (counter_of k pit) (counter_of k p)) (nat_le READ_BACK_LEVEL pit.level) _ pit (three-go_on count status first second third k now pit h) (same (counter_of k pit))
+    (same (counter_of k pit))
+control-goes_on (SetMode j access mode bcd) k now pit e =
+    at_counter (GoesOn (counter_of k pit)) k j _ pit (λ here. absurd (grind (arith, nat_tests))) (same (counter_of k pit))
+control-goes_on (ReadBack count status first second third) k now pit e =
+    either (λ (p : Pit). GoesOn (counter_of k pit) (counter_of k p)) (nat_le READ_BACK_LEVEL pit.level) _ pit
+    (asked-go_on count status third 2 k now _ _ (asked-go_on count status second 1 k now _ _ (asked-go_on count status first 0 k now _ pit (same (counter_of k pit)))))
+    (same (counter_of k pit))
 
 -- a byte that doesn't complete a count leaves the counter counting
 first-goes_on : (held : Option ℕ) (value now : ℕ) (counter : Counter) → is_some held ≡ false → GoesOn counter (written_low_first held value now counter)
@@ -93,10 +56,6 @@ written-goes_on : (value now : ℕ) (counter : Counter) → completes counter.ac
 unfolding written
 written-goes_on value now counter e = by-goes_on counter.access value now counter e
 
--- a port's counter
-pub counter_port : (port : ℕ) → 0x40 ≤ port → port ≤ 0x43 → (port == 0x43) ≡ false → port - 0x40 < 3
-counter_port port low high e = grind (arith, nat_tests)
-
 completing : (port k : ℕ) (b : Bool) → 0x40 ≤ port → k ≡ port - 0x40 → ((port == 0x40 + k) && b) ≡ false → b ≡ false
 completing port k b low here e = let l : port ≡ 0x40 + k = omega arith in let t : (port == 0x40 + k) ≡ true = grind (arith, nat_tests) in rw t at e
 
@@ -104,19 +63,19 @@ write-goes_on : (k now port value : ℕ) (pit : Pit) → k < 3 → (0x40 ≤ por
 unfolding pit_written
 write-goes_on k now port value pit h c programs loads =
     ⊎_elim (λ control. let unset : sets_mode_of k (control_word value) ≡ false = rw control at programs in
-    rw control (control-goes_on (control_word value) k now pit h (control_word-is_word value c.2) unset))
+    rw control (control-goes_on (control_word value) k now pit unset))
     (λ data_port. let j : ℕ = port - 0x40 in
-    rw data_port (at_counter (GoesOn (counter_of k pit)) k j _ pit h (counter_port port c.0 c.1 data_port)
+    rw data_port (at_counter (GoesOn (counter_of k pit)) k j _ pit
     (λ here. subst (λ (i : ℕ). GoesOn (counter_of k pit) (written value now (counter_of i pit))) here (written-goes_on value now (counter_of k pit) (completing port k _ c.0 here loads)))
-    (λ there. same (counter_of k pit))))
+    (same (counter_of k pit))))
     (either_way (port == 0x43))
 
 pub counting_goes_on : CountingGoesOn
 unfolding called programs loads pit_read
 counting_goes_on k now (reads j) pit h c p l =
-    at_counter (GoesOn (counter_of k pit)) k j _ pit h c
+    at_counter (GoesOn (counter_of k pit)) k j _ pit
     (λ here. subst (λ (i : ℕ). GoesOn (counter_of k pit) (read_of now (counter_of i pit)).1) here (read-goes_on now (counter_of k pit)))
-    (λ there. same (counter_of k pit))
+    (same (counter_of k pit))
 counting_goes_on k now (writes port value) pit h c p l = write-goes_on k now port value pit h (c.0.0, c.0.1, c.1) p l
 
 -- OUT after terminal count

@@ -4,7 +4,7 @@ use Rattle.std.specs.Prelude.{nat_le}
 use Rattle.dev_pit.specs.Cells.{channel_cells, status_cells, three_cells}
 use Rattle.dev_pit.specs.declared.channel.Channel.{Channel}
 use Rattle.dev_pit.specs.declared.limits.TheConstants.{STATUS_SET, CELLS}
-use Rattle.dev_pit.proofs.CounterSteps.{either}
+use Rattle.dev_base.proofs.Choices.{either}
 
 pub three_cells_fit : (set : ℕ) (first second third : Channel) → length (three_cells set first second third) ≤ CELLS
 unfolding three_cells channel_cells status_cells

@@ -1,18 +1,17 @@
 -- Which steps of a counter leave its counting as it was.
-use Rattle.std.proofs.Common.{ℕ, Bool, true, false, cond, Option, Some, None, refl}
+use Rattle.std.proofs.Common.{ℕ, Bool, true, false, Option, Some, None, refl, ◌∙◌}
+use Rattle.dev_base.proofs.Choices.{either}
 use Rattle.dev_pit.specs.Counter.{latched, status_latched, read_back, read_of, read_by, counted_of, counted_by}
 use Rattle.dev_pit.specs.GoesOn.{GoesOn}
 use Rattle.dev_pit.specs.declared.counter.Counter.{Counter}
 use Rattle.dev_pit.specs.declared.mode.Access.{Access}
 use Rattle.dev_pit.specs.declared.mode.Access.TheVariants.{LowByte, HighByte, LowThenHigh}
 
--- one of two choices
-pub either : {A : Type 0} (P : A → Type 0) (b : Bool) (x y : A) → P x → P y → P (cond b x y)
-either P true x y p q = p
-either P false x y p q = q
-
 pub same : (counter : Counter) → GoesOn counter counter
 same counter = record { count = refl; mode = refl; loaded_at = refl }
+
+pub goes-on : (first second third : Counter) → GoesOn first second → GoesOn second third → GoesOn first third
+goes-on first second third a b = record { count = b.count ∙ a.count; mode = b.mode ∙ a.mode; loaded_at = b.loaded_at ∙ a.loaded_at }
 
 pub latched-goes_on : (now : ℕ) (counter : Counter) → GoesOn counter (latched now counter)
 unfolding latched

@@ -1,12 +1,12 @@
 -- A latched count stays until it is read or the counter is programmed.
-use Rattle.std.proofs.Common.{◌≡◌, ℕ, zero, suc, ◌-◌, ◌<◌, ◌≤◌, ◌==◌, Bool, true, false, not, ◌&&◌, Option, Some, None, refl, arith, subst, ⊎_elim}
+use Rattle.std.proofs.Common.{◌≡◌, ℕ, ◌-◌, ◌<◌, ◌≤◌, ◌==◌, Bool, true, false, not, ◌&&◌, Option, Some, None, refl, arith, subst, ⊎_elim}
 use Rattle.std.proofs.lemmas.Bool.Decides.{nat_tests}
 use Rattle.std.specs.Prelude.{nat_le, is_some}
 use Rattle.dev_pit.specs.Calls.{Call, reads, writes, IsCall, called, programs, sets_mode_of, reads_latch, is_last}
 use Rattle.dev_pit.specs.Control.{control_word}
 use Rattle.dev_pit.specs.Counter.{loaded, written, written_by, written_low_first, read_of, read_by, counted_of, counted_by, latched, status_latched, read_back}
 use Rattle.dev_pit.specs.Laws.{LatchStays}
-use Rattle.dev_pit.specs.Pit.{counter_of, pit_read, controlled, pit_written}
+use Rattle.dev_pit.specs.Pit.{counter_of, pit_read, asked_back, controlled, pit_written}
 use Rattle.dev_pit.specs.declared.control.ControlWord.{ControlWord}
 use Rattle.dev_pit.specs.declared.control.ControlWord.TheVariants.{LatchCount, SetMode, ReadBack}
 use Rattle.dev_pit.specs.declared.counter.Counter.{Counter}
@@ -14,8 +14,8 @@ use Rattle.dev_pit.specs.declared.limits.TheConstants.{READ_BACK_LEVEL}
 use Rattle.dev_pit.specs.declared.mode.Access.{Access}
 use Rattle.dev_pit.specs.declared.mode.Access.TheVariants.{LowByte, HighByte, LowThenHigh}
 use Rattle.dev_pit.specs.declared.pit.Pit.{Pit}
-use Rattle.dev_pit.proofs.CallLaws.{either_way, at_counter, IsWord, control_word-is_word, counter_port}
-use Rattle.dev_pit.proofs.CounterSteps.{either}
+use Rattle.dev_base.proofs.Choices.{either, either_way}
+use Rattle.dev_pit.proofs.Chips.{at_counter}
 
 -- a counter with this latched count
 record Holds (held : ℕ) (counter : Counter) : Type 0 where
@@ -71,47 +71,42 @@ unfolding read_of
 read-holds held now counter e h = read_by-holds counter.status held now counter e h
 
 -- the whole chip
-three-hold : (count status first second third : Bool) (k held now : ℕ) (pit : Pit) → k < 3 → Holds held (counter_of k pit) → Holds held (counter_of k (record {
-  level = pit.level;
-  counter0 = read_back (count && first) (status && first) now pit.counter0;
-  counter1 = read_back (count && second) (status && second) now pit.counter1;
-  counter2 = read_back (count && third) (status && third) now pit.counter2;
-}))
-three-hold count status first second third zero held now pit l h = read_back-holds _ _ held now pit.counter0 h
-three-hold count status first second third (suc zero) held now pit l h = read_back-holds _ _ held now pit.counter1 h
-three-hold count status first second third (suc (suc zero)) held now pit l h = read_back-holds _ _ held now pit.counter2 h
-three-hold count status first second third (suc (suc (suc k))) held now pit l h = absurd (omega arith)
+asked-holds : (count status chosen : Bool) (j k held now : ℕ) (pit : Pit) → Holds held (counter_of k pit) → Holds held (counter_of k (asked_back count status chosen j now pit))
+unfolding asked_back
+asked-holds count status chosen j k held now pit h =
+    at_counter (Holds held) k j _ pit
+    (λ here. read_back-holds _ _ held now (counter_of j pit) (subst (λ (i : ℕ). Holds held (counter_of i pit)) here h)) h
 
-control-holds : (word : ControlWord) (k held now : ℕ) (pit : Pit) → k < 3 → IsWord word → sets_mode_of k word ≡ false → Holds held (counter_of k pit) → Holds held (counter_of k (controlled word now pit))
-unfolding controlled IsWord
-control-holds (LatchCount j) k held now pit l w e h =
-    at_counter (Holds held) k j _ pit l w
-    (λ here. subst (λ (i : ℕ). Holds held (latched now (counter_of i pit))) here (latched-holds held now (counter_of k pit) h))
-    (λ there. h)
-control-holds (SetMode j access mode bcd) k held now pit l w e h =
-    at_counter (Holds held) k j _ pit l w (λ here. absurd (grind (arith, nat_tests))) (λ there. h)
-control-holds (ReadBack count status first second third) k held now pit l w e h =
-    either (λ (p : Pit). Holds held (counter_of k p)) (nat_le READ_BACK_LEVEL pit.level) _ pit (three-hold count status first second third k held now pit l h) h
+control-holds : (word : ControlWord) (k held now : ℕ) (pit : Pit) → sets_mode_of k word ≡ false → Holds held (counter_of k pit) → Holds held (counter_of k (controlled word now pit))
+unfolding controlled
+control-holds (LatchCount j) k held now pit e h =
+    at_counter (Holds held) k j _ pit
+    (λ here. subst (λ (i : ℕ). Holds held (latched now (counter_of i pit))) here (latched-holds held now (counter_of k pit) h)) h
+control-holds (SetMode j access mode bcd) k held now pit e h =
+    at_counter (Holds held) k j _ pit (λ here. absurd (grind (arith, nat_tests))) h
+control-holds (ReadBack count status first second third) k held now pit e h =
+    either (λ (p : Pit). Holds held (counter_of k p)) (nat_le READ_BACK_LEVEL pit.level) _ pit
+    (asked-holds count status third 2 k held now _ (asked-holds count status second 1 k held now _ (asked-holds count status first 0 k held now pit h))) h
 
 write-holds : (k held now port value : ℕ) (pit : Pit) → k < 3 → (0x40 ≤ port) × (port ≤ 0x43) × (value < 256) → ((port == 0x43) && sets_mode_of k (control_word value)) ≡ false → Holds held (counter_of k pit) → Holds held (counter_of k (pit_written port value now pit))
 unfolding pit_written
 write-holds k held now port value pit l c e h =
     ⊎_elim (λ control. let unset : sets_mode_of k (control_word value) ≡ false = rw control at e in
-    rw control (control-holds (control_word value) k held now pit l (control_word-is_word value c.2) unset h))
+    rw control (control-holds (control_word value) k held now pit unset h))
     (λ data_port. let j : ℕ = port - 0x40 in
-    rw data_port (at_counter (Holds held) k j _ pit l (counter_port port c.0 c.1 data_port)
+    rw data_port (at_counter (Holds held) k j _ pit
     (λ here. subst (λ (i : ℕ). Holds held (written value now (counter_of i pit))) here (written-holds value held now (counter_of k pit) h))
-    (λ there. h)))
+    h))
     (either_way (port == 0x43))
 
 call-holds : (k held now : ℕ) (call : Call) (pit : Pit) → k < 3 → IsCall call → programs k call ≡ false → reads_latch k call pit ≡ false → Holds held (counter_of k pit) → Holds held (counter_of k (called call now pit))
 unfolding called programs reads_latch pit_read
 call-holds k held now (reads j) pit l c p r h =
-    at_counter (Holds held) k j _ pit l c
+    at_counter (Holds held) k j _ pit
     (λ here. let t : (j == k) ≡ true = grind (arith, nat_tests) in
     let unread : (not (is_some (counter_of k pit).status) && is_last (counter_of k pit).access (counter_of k pit)) ≡ false = rw t at r in
     subst (λ (i : ℕ). Holds held (read_of now (counter_of i pit)).1) here (read-holds held now (counter_of k pit) unread h))
-    (λ there. h)
+    h
 call-holds k held now (writes port value) pit l c p r h = write-holds k held now port value pit l (c.0.0, c.0.1, c.1) p h
 
 -- what is read of a latched count is the same at any moment

@@ -1,11 +1,12 @@
 pub mod CallLaws
 pub mod CellCounts
+pub mod ChannelPlaces
+pub mod Chips
 pub mod CounterSteps
 pub mod EdgeMeaning
 pub mod Edges
 pub mod LatchLaws
 pub mod Moments
-pub mod NormalLaw
 pub mod PlainSound
 pub mod RestoredLaw
 pub mod SavedLaw

@@ -1,10 +1,10 @@
 -- A counter that was loaded by a moment was loaded by each later one.
-use Rattle.std.proofs.Common.{◌≡◌, ℕ, ◌≤◌, ◌==◌, ◌-◌, Bool, cond, Option, Some, None, subst, sym, arith}
+use Rattle.std.proofs.Common.{◌≡◌, ℕ, ◌<◌, ◌≤◌, Bool, ◌&&◌, Option, Some, None, length, slice_index_or, subst, sym, ap, ◌∙◌, arith}
 use Rattle.std.specs.Prelude.{nat_le}
-use Rattle.dev_pit.specs.Control.{control_word}
-use Rattle.dev_pit.specs.Counter.{LoadedBy, loaded, written, written_by, written_low_first, programmed, powered_on, read_of}
+use Rattle.std.proofs.lemmas.List.{get_or_default}
+use Rattle.dev_pit.specs.Counter.{LoadedBy, loaded, written, written_by, written_low_first, programmed, powered_on, read_of, read_back, latched}
 use Rattle.dev_pit.specs.GoesOn.{GoesOn}
-use Rattle.dev_pit.specs.Pit.{IsLoadedBy, counter_of, with_counter, pit_read, controlled, pit_written}
+use Rattle.dev_pit.specs.Pit.{IsLoadedBy, counter_of, with_counter, asked_back, controlled}
 use Rattle.dev_pit.specs.declared.control.ControlWord.{ControlWord}
 use Rattle.dev_pit.specs.declared.control.ControlWord.TheVariants.{LatchCount, SetMode, ReadBack}
 use Rattle.dev_pit.specs.declared.counter.Counter.{Counter}
@@ -13,7 +13,9 @@ use Rattle.dev_pit.specs.declared.mode.Access.{Access}
 use Rattle.dev_pit.specs.declared.mode.Access.TheVariants.{LowByte, HighByte, LowThenHigh}
 use Rattle.dev_pit.specs.declared.mode.Mode.{Mode}
 use Rattle.dev_pit.specs.declared.pit.Pit.{Pit}
-use Rattle.dev_pit.proofs.CounterSteps.{either, read-goes_on, latched-goes_on, read_back-goes_on}
+use Rattle.dev_pit.proofs.Chips.{at_counter}
+use Rattle.dev_base.proofs.Choices.{either}
+use Rattle.dev_pit.proofs.CounterSteps.{read-goes_on, latched-goes_on, read_back-goes_on}
 
 pub loaded_by-later : (load : Option ℕ) (now later : ℕ) → LoadedBy now load → now ≤ later → LoadedBy later load
 loaded_by-later None now later h l = tt
@@ -26,15 +28,9 @@ pub record Loaded (now : ℕ) (counter : Counter) : Type 0 where
 pub goes_on-loaded : (now : ℕ) (before after : Counter) → GoesOn before after → Loaded now before → Loaded now after
 goes_on-loaded now before after g h = record { by = subst (LoadedBy now) (sym g.loaded_at) h.by }
 
-counters : (now : ℕ) (pit : Pit) → IsLoadedBy now pit → (k : ℕ) → Loaded now (counter_of k pit)
-counters now pit h k =
-    either (Loaded now) (k == 0) pit.counter0 (cond (k == 1) pit.counter1 pit.counter2) (record { by = h.counter0 })
-    (either (Loaded now) (k == 1) pit.counter1 pit.counter2 (record { by = h.counter1 }) (record { by = h.counter2 }))
-
-with-loaded : (now k : ℕ) (counter : Counter) (pit : Pit) → IsLoadedBy now pit → Loaded now counter → IsLoadedBy now (with_counter k counter pit)
-with-loaded now k counter pit h l =
-    either (IsLoadedBy now) (k == 0) _ _ (record { counter0 = l.by; counter1 = h.counter1; counter2 = h.counter2 })
-    (either (IsLoadedBy now) (k == 1) _ _ (record { counter0 = h.counter0; counter1 = l.by; counter2 = h.counter2 }) (record { counter0 = h.counter0; counter1 = h.counter1; counter2 = l.by }))
+with-loaded : (now j : ℕ) (counter : Counter) (pit : Pit) → IsLoadedBy now pit → Loaded now counter → IsLoadedBy now (with_counter j counter pit)
+with-loaded now j counter pit h l k within =
+    (at_counter (Loaded now) k j counter pit (λ here. l) (record { by = h k within })).by
 
 loaded-now : (count now : ℕ) (counter : Counter) → Loaded now (loaded count now counter)
 unfolding loaded
@@ -57,46 +53,51 @@ programmed-loaded : (access : Access) (mode : Mode) (bcd : Bool) (now : ℕ) (co
 unfolding programmed powered_on
 programmed-loaded access mode bcd now counter = record { by = tt }
 
+-- a step of counter j that doesn't load it, or loads it now
+step-loaded : (now j : ℕ) (step : Counter → Counter) (pit : Pit) → ((counter : Counter) → Loaded now counter → Loaded now (step counter)) → IsLoadedBy now pit → IsLoadedBy now (with_counter j (step (counter_of j pit)) pit)
+step-loaded now j step pit keeps h k within =
+    (at_counter (Loaded now) k j (step (counter_of j pit)) pit
+    (λ here. keeps (counter_of j pit) (record { by = subst (λ (i : ℕ). LoadedBy now (counter_of i pit).loaded_at) here (h k within) }))
+    (record { by = h k within })).by
+
 -- the whole chip
-pub read-loaded : (k now : ℕ) (pit : Pit) → IsLoadedBy now pit → IsLoadedBy now (pit_read k now pit).1
-unfolding pit_read
-read-loaded k now pit h = with-loaded now k _ pit h (goes_on-loaded now _ _ (read-goes_on now (counter_of k pit)) (counters now pit h k))
+asked_loaded : (count status chosen : Bool) (k now : ℕ) (pit : Pit) → IsLoadedBy now pit → IsLoadedBy now (asked_back count status chosen k now pit)
+unfolding asked_back
+asked_loaded count status chosen k now pit h =
+    step-loaded now k (read_back (count && chosen) (status && chosen) now) pit (λ c l. goes_on-loaded now c _ (read_back-goes_on _ _ now c) l) h
 
 controlled-loaded : (word : ControlWord) (now : ℕ) (pit : Pit) → IsLoadedBy now pit → IsLoadedBy now (controlled word now pit)
 unfolding controlled
-controlled-loaded (LatchCount k) now pit h = with-loaded now k _ pit h (goes_on-loaded now _ _ (latched-goes_on now (counter_of k pit)) (counters now pit h k))
-controlled-loaded (SetMode k access mode bcd) now pit h = with-loaded now k _ pit h (programmed-loaded access mode bcd now (counter_of k pit))
+controlled-loaded (LatchCount k) now pit h =
+    step-loaded now k (latched now) pit (λ c l. goes_on-loaded now c _ (latched-goes_on now c) l) h
+controlled-loaded (SetMode k access mode bcd) now pit h =
+    with-loaded now k _ pit h (programmed-loaded access mode bcd now (counter_of k pit))
 controlled-loaded (ReadBack count status first second third) now pit h =
-    either (IsLoadedBy now) (nat_le READ_BACK_LEVEL pit.level) _ _ (record {
-      counter0 = (goes_on-loaded now pit.counter0 _ (read_back-goes_on _ _ now pit.counter0) (record { by = h.counter0 })).by;
-      counter1 = (goes_on-loaded now pit.counter1 _ (read_back-goes_on _ _ now pit.counter1) (record { by = h.counter1 })).by;
-      counter2 = (goes_on-loaded now pit.counter2 _ (read_back-goes_on _ _ now pit.counter2) (record { by = h.counter2 })).by;
-    }) h
-
-pub written-pit-loaded : (port value now : ℕ) (pit : Pit) → IsLoadedBy now pit → IsLoadedBy now (pit_written port value now pit)
-unfolding pit_written
-written-pit-loaded port value now pit h =
-    either (IsLoadedBy now) (port == 0x43) _ _ (controlled-loaded (control_word value) now pit h)
-    (with-loaded now (port - 0x40) _ pit h (written-loaded value now (counter_of (port - 0x40) pit) (counters now pit h (port - 0x40))))
+    either (IsLoadedBy now) (nat_le READ_BACK_LEVEL pit.level) _ _
+    (asked_loaded count status third 2 now _ (asked_loaded count status second 1 now _ (asked_loaded count status first 0 now pit h))) h
 
 pub pit-later : (now later : ℕ) (pit : Pit) → IsLoadedBy now pit → now ≤ later → IsLoadedBy later pit
-pit-later now later pit h l = record {
-  counter0 = loaded_by-later pit.counter0.loaded_at now later h.counter0 l;
-  counter1 = loaded_by-later pit.counter1.loaded_at now later h.counter1 l;
-  counter2 = loaded_by-later pit.counter2.loaded_at now later h.counter2 l;
-}
+pit-later now later pit h l k within = loaded_by-later (counter_of k pit).loaded_at now later (h k within) l
 
--- after a call, a counter is loaded by each later moment
-pub read-later : (now later value : ℕ) (before after : Counter) → (value, after) ≡ read_of now before → LoadedBy now before.loaded_at → now ≤ later → LoadedBy later after.loaded_at
-read-later now later value before after e h l =
-    let same : after ≡ (read_of now before).1 = cc in
-    let kept : Loaded now after = subst (Loaded now) (sym same) (goes_on-loaded now before _ (read-goes_on now before) (record { by = h })) in
-    loaded_by-later after.loaded_at now later kept.by l
+-- a counter that is there is the same whatever is given for one that isn't
+there : (k : ℕ) (default : Counter) (pit : Pit) → k < length pit.counters → slice_index_or pit.counters k default ≡ counter_of k pit
+there k default pit h = get_or_default pit.counters k default powered_on h
 
-pub written-later : (value now later : ℕ) (before after : Counter) → after ≡ written value now before → LoadedBy now before.loaded_at → now ≤ later → LoadedBy later after.loaded_at
-written-later value now later before after e h l =
-    let kept : Loaded now after = subst (Loaded now) (sym e) (written-loaded value now before (record { by = h })) in
-    loaded_by-later after.loaded_at now later kept.by l
+-- the chip after a step of one counter
+pub read_keeps : (k now later value : ℕ) (after default : Counter) (pit : Pit) → k < length pit.counters → (value, after) ≡ read_of now (slice_index_or pit.counters k default) → IsLoadedBy now pit → now ≤ later → IsLoadedBy later (with_counter k after pit)
+read_keeps k now later value after default pit within e h l =
+    let same : (read_of now (counter_of k pit)).1 ≡ after = sym (ap (λ (a : ℕ × Counter). a.1) e ∙ ap (λ (c : Counter). (read_of now c).1) (there k default pit within)) in
+    pit-later now later (with_counter k after pit) (subst (λ (c : Counter). IsLoadedBy now (with_counter k c pit)) same (step-loaded now k (λ c. (read_of now c).1) pit (λ c p. goes_on-loaded now c _ (read-goes_on now c) p) h)) l
 
-pub controlled-later : (word : ControlWord) (now later : ℕ) (before after : Pit) → after ≡ controlled word now before → IsLoadedBy now before → now ≤ later → IsLoadedBy later after
-controlled-later word now later before after e h l = subst (IsLoadedBy later) (sym e) (pit-later now later _ (controlled-loaded word now before h) l)
+pub written_keeps : (k now later value : ℕ) (after default : Counter) (pit : Pit) → k < length pit.counters → after ≡ written value now (slice_index_or pit.counters k default) → IsLoadedBy now pit → now ≤ later → IsLoadedBy later (with_counter k after pit)
+written_keeps k now later value after default pit within e h l =
+    let same = e ∙ ap (written value now) (there k default pit within) in
+    pit-later now later (with_counter k after pit) (subst (λ (c : Counter). IsLoadedBy now (with_counter k c pit)) (sym same) (step-loaded now k (written value now) pit (λ c p. written-loaded value now c p) h)) l
+
+pub asked_keeps : (count status : Bool) (k now : ℕ) (after default : Counter) (pit : Pit) → k < length pit.counters → after ≡ read_back count status now (slice_index_or pit.counters k default) → IsLoadedBy now pit → IsLoadedBy now (with_counter k after pit)
+asked_keeps count status k now after default pit within e h =
+    let same = e ∙ ap (read_back count status now) (there k default pit within) in
+    subst (λ (c : Counter). IsLoadedBy now (with_counter k c pit)) (sym same) (step-loaded now k (read_back count status now) pit (λ c p. goes_on-loaded now c _ (read_back-goes_on _ _ now c) p) h)
+
+pub controlled_keeps : (word : ControlWord) (now later : ℕ) (after pit : Pit) → after ≡ controlled word now pit → IsLoadedBy now pit → now ≤ later → IsLoadedBy later after
+controlled_keeps word now later after pit e h l = subst (IsLoadedBy later) (sym e) (pit-later now later (controlled word now pit) (controlled-loaded word now pit h) l)

@@ -1,24 +1,26 @@
 -- What is restored is sound.
-use Rattle.std.proofs.Common.{◌≡◌, ℕ, ◌^◌, ◌<◌, ◌≤◌, ◌==◌, Bool, true, false, cond, not, ◌&&◌, ◌||◌, Result, Ok, Err, List, ℤ, pos, negsuc, refl, arith, subst, ⊎_elim}
+use Rattle.std.proofs.Common.{◌≡◌, ℕ, ◌^◌, ◌<◌, ◌≤◌, ◌==◌, Bool, true, false, not, ◌&&◌, ◌||◌, Ok, List, [], ◌∷◌, slice_index_or, ℤ, refl, arith, subst, ⊎_elim}
 use Rattle.std.proofs.lemmas.Bool.Decides.{nat_tests}
-use Rattle.std.proofs.lemmas.Int.{ints}
 use Rattle.std.specs.Prelude.{nat_le}
-use Rattle.vms_kinds.specs.Codes.{InRange}
-use Rattle.vms_kinds.specs.declared.Kind.TheVariants as kinds
-use Rattle.dev_pit.specs.Cells.{nat_of, cell_at, channel_at}
-use Rattle.dev_pit.specs.Channel.{held_if, counter_from, registers_hold, moment_holds, status_holds, toggles_hold}
-use Rattle.dev_pit.specs.Counter.{LoadedBy}
+use Rattle.dev_base.specs.Cells.{cell_at}
+use Rattle.dev_base.specs.Levels.{IsLevel}
+use Rattle.dev_base.specs.declared.limits.TheConstants.{LAST_MOMENT}
+use Rattle.dev_base.proofs.CellLaws.{byte-lt, word-lt, long-lt}
+use Rattle.dev_base.proofs.RuleLaws.{AllTrue, judged-ok, hook-ok}
+use Rattle.dev_pit.specs.Cells.{channel_at, IsPitCells}
+use Rattle.dev_pit.specs.Channel.{held_if, counter_from, moment_holds, status_holds, toggles_hold}
+use Rattle.dev_pit.specs.Counter.{LoadedBy, powered_on}
 use Rattle.dev_pit.specs.Laws.{RestoredIsSound}
 use Rattle.dev_pit.specs.Mode.{access_of}
-use Rattle.dev_pit.specs.Pit.{IsLevel}
-use Rattle.dev_pit.specs.Saved.{IsPitCells, three_hold, pit_of, restored_pit}
-use Rattle.dev_pit.specs.Sound.{HeldBelow}
+use Rattle.dev_pit.specs.Saved.{three_hold, rules, pit_of, restored_pit}
+use Rattle.dev_pit.specs.Sound.{HeldBelow, IsSoundPit}
 use Rattle.dev_pit.specs.declared.channel.Channel.{Channel}
-use Rattle.dev_pit.specs.declared.limits.TheConstants.{READ_BACK_LEVEL, LAST_MOMENT}
+use Rattle.dev_pit.specs.declared.limits.TheConstants.{READ_BACK_LEVEL}
 use Rattle.dev_pit.specs.declared.mode.Access.{Access}
 use Rattle.dev_pit.specs.declared.mode.Access.TheVariants.{LowByte, HighByte, LowThenHigh}
 use Rattle.dev_pit.specs.declared.pit.Pit.{Pit}
-use Rattle.dev_pit.proofs.CallLaws.{either_way}
+use Rattle.dev_base.proofs.Choices.{either_way}
+use Rattle.dev_pit.proofs.Chips.{each_of}
 use Rattle.dev_pit.proofs.PlainSound.{PlainSound, StatusFits, TogglesFit}
 use Rattle.dev_pit.proofs.SoundLaws.{PlainPit, pit-from_plain}
 
@@ -80,82 +82,60 @@ counter-sound level now channel r m s t = record {
   toggles = if-toggles channel.rw channel.read_high channel.wlow_held channel.wlow t;
 }
 
--- numbers of cells in a kind's range
-byte : (z : ℤ) → InRange kinds.U8 z → nat_of z < 2 ^ 8
-byte (pos n) h = omega (arith, ints)
-byte (negsuc n) h = omega arith
-
-word : (z : ℤ) → InRange kinds.U16 z → nat_of z < 2 ^ 16
-word (pos n) h = omega (arith, ints)
-word (negsuc n) h = omega arith
-
-moment : (z : ℤ) → InRange kinds.U64 z → nat_of z < 2 ^ 64
-moment (pos n) h = omega (arith, ints)
-moment (negsuc n) h = omega arith
-
-first-ranges : (cells : List ℤ) → IsPitCells cells → HasRanges (channel_at 0 cells)
+-- the ranges of each channel's fields
+channel-ranges : (cells : List ℤ) → IsPitCells cells → (k : ℕ) → k < 3 → HasRanges (channel_at k cells)
 unfolding channel_at
-first-ranges cells h = record {
-  count = word (cell_at cells 0) (h.in_range 0 (omega arith));
-  load_time = moment (cell_at cells 5) (h.in_range 5 (omega arith));
-  wlow = byte (cell_at cells 8) (h.in_range 8 (omega arith));
-  latch = word (cell_at cells 10) (h.in_range 10 (omega arith));
-  status = byte (cell_at cells 36) (h.in_range 36 (omega arith));
-}
-
-second-ranges : (cells : List ℤ) → IsPitCells cells → HasRanges (channel_at 1 cells)
-unfolding channel_at
-second-ranges cells h = record {
-  count = word (cell_at cells 11) (h.in_range 11 (omega arith));
-  load_time = moment (cell_at cells 16) (h.in_range 16 (omega arith));
-  wlow = byte (cell_at cells 19) (h.in_range 19 (omega arith));
-  latch = word (cell_at cells 21) (h.in_range 21 (omega arith));
-  status = byte (cell_at cells 37) (h.in_range 37 (omega arith));
-}
-
-third-ranges : (cells : List ℤ) → IsPitCells cells → HasRanges (channel_at 2 cells)
-unfolding channel_at
-third-ranges cells h = record {
-  count = word (cell_at cells 22) (h.in_range 22 (omega arith));
-  load_time = moment (cell_at cells 27) (h.in_range 27 (omega arith));
-  wlow = byte (cell_at cells 30) (h.in_range 30 (omega arith));
-  latch = word (cell_at cells 32) (h.in_range 32 (omega arith));
-  status = byte (cell_at cells 38) (h.in_range 38 (omega arith));
-}
-
--- what a chain of four rules answers
-rules_hold : (pit found : Pit) (a b c d : Bool) → cond {A = Result Pit ℕ} (not a) (Err 1) (cond (not b) (Err 2) (cond (not c) (Err 3) (cond (not d) (Err 4) (Ok found)))) ≡ Ok pit → (a ≡ true) × (b ≡ true) × (c ≡ true) × (d ≡ true) × (found ≡ pit)
-rules_hold pit found true true true true e = (refl, refl, refl, refl, cc)
-rules_hold pit found false b c d e = cc
-rules_hold pit found true false c d e = cc
-rules_hold pit found true true false d e = cc
-rules_hold pit found true true true false e = cc
+channel-ranges cells h = each_of (λ k. HasRanges (channel_at k cells))
+    (record {
+      count = word-lt (cell_at cells 0) (h.of_kinds.in_range 0 (omega arith));
+      load_time = long-lt (cell_at cells 5) (h.of_kinds.in_range 5 (omega arith));
+      wlow = byte-lt (cell_at cells 8) (h.of_kinds.in_range 8 (omega arith));
+      latch = word-lt (cell_at cells 10) (h.of_kinds.in_range 10 (omega arith));
+      status = byte-lt (cell_at cells 36) (h.of_kinds.in_range 36 (omega arith));
+    })
+    (record {
+      count = word-lt (cell_at cells 11) (h.of_kinds.in_range 11 (omega arith));
+      load_time = long-lt (cell_at cells 16) (h.of_kinds.in_range 16 (omega arith));
+      wlow = byte-lt (cell_at cells 19) (h.of_kinds.in_range 19 (omega arith));
+      latch = word-lt (cell_at cells 21) (h.of_kinds.in_range 21 (omega arith));
+      status = byte-lt (cell_at cells 37) (h.of_kinds.in_range 37 (omega arith));
+    })
+    (record {
+      count = word-lt (cell_at cells 22) (h.of_kinds.in_range 22 (omega arith));
+      load_time = long-lt (cell_at cells 27) (h.of_kinds.in_range 27 (omega arith));
+      wlow = byte-lt (cell_at cells 30) (h.of_kinds.in_range 30 (omega arith));
+      latch = word-lt (cell_at cells 32) (h.of_kinds.in_range 32 (omega arith));
+      status = byte-lt (cell_at cells 38) (h.of_kinds.in_range 38 (omega arith));
+    })
 
 -- a rule of three channels is one of each
-record Each (rule : Channel → Bool) (cells : List ℤ) : Type 0 where
-  first : rule (channel_at 0 cells) ≡ true
-  second : rule (channel_at 1 cells) ≡ true
-  third : rule (channel_at 2 cells) ≡ true
-
-each : (rule : Channel → Bool) (cells : List ℤ) → three_hold rule cells ≡ true → Each rule cells
+each : (rule : Channel → Bool) (cells : List ℤ) → three_hold rule cells ≡ true → (k : ℕ) → k < 3 → rule (channel_at k cells) ≡ true
 each rule cells e =
     let a : (rule (channel_at 0 cells) ≡ true) × ((rule (channel_at 1 cells) && rule (channel_at 2 cells)) ≡ true) = both-true _ _ e in
     let b : (rule (channel_at 1 cells) ≡ true) × (rule (channel_at 2 cells) ≡ true) = both-true _ _ a.1 in
-    record { first = a.0; second = b.0; third = b.1 }
+    each_of (λ k. rule (channel_at k cells) ≡ true) a.0 b.0 b.1
 
-pit_of-sound : (level now : ℕ) (cells : List ℤ) → IsLevel level → now ≤ LAST_MOMENT → IsPitCells cells → Each (moment_holds now) cells → Each (status_holds level) cells → Each toggles_hold cells → PlainPit now (pit_of level cells)
+pit_of-sound : (level now : ℕ) (cells : List ℤ) → IsLevel level → now ≤ LAST_MOMENT → IsPitCells cells → AllTrue (rules level now cells) → PlainPit now (pit_of level cells)
 unfolding pit_of
-pit_of-sound level now cells l m h moments statuses toggles = record {
-  level = l;
-  moment = m;
-  counter0 = counter-sound level now (channel_at 0 cells) (first-ranges cells h) moments.first statuses.first toggles.first;
-  counter1 = counter-sound level now (channel_at 1 cells) (second-ranges cells h) moments.second statuses.second toggles.second;
-  counter2 = counter-sound level now (channel_at 2 cells) (third-ranges cells h) moments.third statuses.third toggles.third;
-}
+pit_of-sound level now cells l m h hold =
+    let counter : (k : ℕ) → k < 3 → PlainSound level now (counter_from (channel_at k cells)) = λ k b. counter-sound level now (channel_at k cells) (channel-ranges cells h k b) (each (moment_holds now) cells hold.1.0 k b) (each (status_holds level) cells hold.1.1.0 k b) (each toggles_hold cells hold.1.1.1.0 k b) in
+    record {
+      level = l;
+      moment = m;
+      count = refl;
+      counters = each_of (λ k. PlainSound level now (slice_index_or (counter_from (channel_at 0 cells) ∷ counter_from (channel_at 1 cells) ∷ counter_from (channel_at 2 cells) ∷ []) k powered_on)) (counter 0 (omega arith)) (counter 1 (omega arith)) (counter 2 (omega arith));
+    }
+
+pit_of-level : (level : ℕ) (cells : List ℤ) → (pit_of level cells).level ≡ level
+unfolding pit_of
+pit_of-level level cells = refl
+
+pub pit-restored : (level now : ℕ) (cells : List ℤ) (pit : Pit) → IsLevel level → now ≤ LAST_MOMENT → IsPitCells cells → restored_pit level now cells ≡ Ok pit → IsSoundPit now pit × (pit.level ≡ level)
+pit-restored level now cells pit l m h e =
+    let ok = judged-ok (rules level now cells) (pit_of level cells) pit e in
+    subst (λ (p : Pit). IsSoundPit now p × (p.level ≡ level)) ok.1 (pit-from_plain now _ (pit_of-sound level now cells l m h ok.0), pit_of-level level cells)
 
 pub restored_is_sound : RestoredIsSound
-unfolding restored_pit
-restored_is_sound level now cells pit l m h e =
-    let r = rules_hold pit (pit_of level cells) (three_hold registers_hold cells) (three_hold (moment_holds now) cells) (three_hold (status_holds level) cells) (three_hold toggles_hold cells) e in
-    let plain : PlainPit now pit = subst (PlainPit now) r.4 (pit_of-sound level now cells l m h (each (moment_holds now) cells r.1) (each (status_holds level) cells r.2) (each toggles_hold cells r.3)) in
-    pit-from_plain now pit plain
+restored_is_sound = record {
+  pit = λ numbers cells pit can e. pit-restored numbers.level numbers.moment cells pit can.pass.is_level can.pass.moment can.normal (hook-ok _ pit e);
+}

@@ -1,28 +1,35 @@
 -- What was saved is restored as it was.
-use Rattle.std.proofs.Common.{◌≡◌, ℕ, ◌<◌, ◌==◌, Bool, true, false, Option, Some, None, Ok, List, [], ◌∷◌, ℤ, pos, refl, ap, ◌∙◌, arith, ⊎_elim}
+use Rattle.std.proofs.Common.{◌≡◌, ℕ, ◌^◌, ◌+◌, ◌<◌, ◌≤◌, ◌==◌, Bool, true, false, cond, Option, Some, None, Ok, List, [], ◌∷◌, ◌++◌, length, ℤ, pos, refl, ap, sym, subst, ◌∙◌, arith}
 use Rattle.std.proofs.lemmas.Bool.Decides.{nat_tests}
 use Rattle.std.specs.Prelude.{nat_le, is_some}
-use Rattle.dev_pit.specs.Cells.{channel_cells, status_cells, three_cells, pit_cells, carried, channel_at}
+use Rattle.vms_hooks.specs.Numbers.{Numbers}
+use Rattle.dev_base.specs.Cells.{flag_number, flag_at, number_at, AreOf}
+use Rattle.dev_base.specs.Levels.{IsLevel, MayRestore}
+use Rattle.dev_base.specs.Rules.{first_failing}
+use Rattle.dev_base.specs.Tables.{carried_by, places}
+use Rattle.dev_base.specs.declared.limits.TheConstants.{NEWEST, LAST_MOMENT}
+use Rattle.dev_base.proofs.CellLaws.{of_none, of_more, of_both, of_where, byte, word, long, flag, flag-back}
+use Rattle.dev_base.proofs.RuleLaws.{AllTrue, none_failing, all_true, judged-all, ok-hook}
+use Rattle.dev_pit.specs.Cells.{channel_kinds, status_kinds, kinds_of, channel_cells, status_cells, three_cells, channel_in, pit_cells, six_defaults, carried, channel_place, channel_at, HasDefault, AreCellsOf, IsPitCells}
 use Rattle.dev_pit.specs.Channel.{held_if, channel_of, counter_from, registers_hold, moment_holds, status_holds, toggles_hold}
-use Rattle.dev_pit.specs.Counter.{flag_number, held_or}
-use Rattle.dev_pit.specs.Laws.{SavedIsRestored}
+use Rattle.dev_pit.specs.Counter.{held_or, powered_on}
+use Rattle.dev_pit.specs.Laws.{SoundMeetsRules, SavedAreCells, SavedIsRestored}
 use Rattle.dev_pit.specs.Mode.{mode_number, mode_of, access_number, access_of}
-use Rattle.dev_pit.specs.Saved.{three_hold, pit_of, restored_pit}
-use Rattle.dev_pit.specs.Sound.{IsSoundPit, IsSoundCounter}
+use Rattle.dev_pit.specs.Pit.{counter_of}
+use Rattle.dev_pit.specs.Saved.{CanSave, CanRestore, three_hold, rules, pit_of, restored_pit, hook_restored}
+use Rattle.dev_pit.specs.Sound.{HasWidths, IsSoundPit}
 use Rattle.dev_pit.specs.declared.channel.Channel.{Channel}
 use Rattle.dev_pit.specs.declared.counter.Counter.{Counter}
-use Rattle.dev_pit.specs.declared.limits.TheConstants.{READ_BACK_LEVEL, STATUS_SET, NEWEST_SET}
+use Rattle.dev_pit.specs.declared.limits.TheConstants.{READ_BACK_LEVEL, STATUS_SET}
 use Rattle.dev_pit.specs.declared.mode.Access.{Access}
 use Rattle.dev_pit.specs.declared.mode.Access.TheVariants.{LowByte, HighByte, LowThenHigh}
 use Rattle.dev_pit.specs.declared.mode.Mode.{Mode}
 use Rattle.dev_pit.specs.declared.mode.Mode.TheVariants.{TerminalCount, OneShot, RateGenerator, SquareWave, SoftwareStrobe, HardwareStrobe}
 use Rattle.dev_pit.specs.declared.pit.Pit.{Pit}
-use Rattle.dev_pit.proofs.CallLaws.{either_way}
+use Rattle.dev_pit.proofs.Chips.{three_counters, each_of}
 use Rattle.dev_pit.proofs.PlainSound.{StatusFits, plain-from_sound}
-
-flag-back : (b : Bool) → (flag_number b == 1) ≡ b
-flag-back true = refl
-flag-back false = refl
+use Rattle.dev_pit.proofs.RestoredLaw.{pit-restored}
+use Rattle.dev_pit.proofs.SoundSteps.{mode-small, access-small, held-below}
 
 mode-back : (mode : Mode) → mode_of (mode_number mode) ≡ mode
 mode-back TerminalCount = refl
@@ -47,75 +54,144 @@ unfolding counter_from channel_of
 counter-back counter = simp (mode-back, access-back, held-back)
 
 -- the channels of the cells that they gave, in the newest set
-first-back : (first second third : Channel) → channel_at 0 (three_cells NEWEST_SET first second third) ≡ first
+first-back : (first second third : Channel) → channel_at 0 (three_cells NEWEST first second third) ≡ first
 unfolding channel_at three_cells channel_cells status_cells
 first-back first second third = simp flag-back
 
-second-back : (first second third : Channel) → channel_at 1 (three_cells NEWEST_SET first second third) ≡ second
+second-back : (first second third : Channel) → channel_at 1 (three_cells NEWEST first second third) ≡ second
 unfolding channel_at three_cells channel_cells status_cells
 second-back first second third = simp flag-back
 
-third-back : (first second third : Channel) → channel_at 2 (three_cells NEWEST_SET first second third) ≡ third
+third-back : (first second third : Channel) → channel_at 2 (three_cells NEWEST first second third) ≡ third
 unfolding channel_at three_cells channel_cells status_cells
 third-back first second third = simp flag-back
 
--- where the rules hold of three channels, the chip is restored
-restored-holds : (level now : ℕ) (cells : List ℤ) → three_hold registers_hold cells ≡ true → three_hold (moment_holds now) cells ≡ true → three_hold (status_holds level) cells ≡ true → three_hold toggles_hold cells ≡ true → restored_pit level now cells ≡ Ok (pit_of level cells)
-unfolding restored_pit
-restored-holds level now cells a b c d = rw (a, b, c, d)
-
-rule-saved : (rule : Channel → Bool) (first second third : Channel) → rule first ≡ true → rule second ≡ true → rule third ≡ true → three_hold rule (three_cells NEWEST_SET first second third) ≡ true
+rule-saved : (rule : Channel → Bool) (first second third : Channel) → rule first ≡ true → rule second ≡ true → rule third ≡ true → three_hold rule (three_cells NEWEST first second third) ≡ true
 rule-saved rule first second third a b c =
     rw (first-back first second third, second-back first second third, third-back first second third, a, b, c)
 
-pit_of-saved : (pit : Pit) → pit_of pit.level (pit_cells NEWEST_SET pit) ≡ pit
+pit_of-saved : (pit : Pit) → length pit.counters ≡ 3 → pit_of pit.level (pit_cells NEWEST pit) ≡ pit
 unfolding pit_of pit_cells
-pit_of-saved pit =
+pit_of-saved pit three =
     rw (
-      first-back (channel_of pit.counter0) (channel_of pit.counter1) (channel_of pit.counter2),
-      second-back (channel_of pit.counter0) (channel_of pit.counter1) (channel_of pit.counter2),
-      third-back (channel_of pit.counter0) (channel_of pit.counter1) (channel_of pit.counter2),
-      counter-back pit.counter0,
-      counter-back pit.counter1,
-      counter-back pit.counter2,
-    )
+      first-back (channel_in 0 pit) (channel_in 1 pit) (channel_in 2 pit),
+      second-back (channel_in 0 pit) (channel_in 1 pit) (channel_in 2 pit),
+      third-back (channel_in 0 pit) (channel_in 1 pit) (channel_in 2 pit),
+      counter-back (counter_of 0 pit),
+      counter-back (counter_of 1 pit),
+      counter-back (counter_of 2 pit),
+    ) (ap (λ counters. record pit { counters = counters }) (three_counters pit.counters powered_on three))
 
-restored-newest : (now : ℕ) (pit : Pit) → IsSoundPit now pit → restored_pit pit.level now (pit_cells NEWEST_SET pit) ≡ Ok pit
+-- all rules hold of a sound chip
+met : (now : ℕ) (pit : Pit) → IsSoundPit now pit → AllTrue (rules pit.level now (pit_cells NEWEST pit))
 unfolding pit_cells
+met now pit s =
+    let a = s.counters 0 (omega arith) in
+    let b = s.counters 1 (omega arith) in
+    let c = s.counters 2 (omega arith) in
+    let hold : (rule : Channel → Bool) → rule (channel_in 0 pit) ≡ true → rule (channel_in 1 pit) ≡ true → rule (channel_in 2 pit) ≡ true → three_hold rule (three_cells NEWEST (channel_in 0 pit) (channel_in 1 pit) (channel_in 2 pit)) ≡ true = λ rule. rule-saved rule (channel_in 0 pit) (channel_in 1 pit) (channel_in 2 pit) in
+    (hold registers_hold a.registers b.registers c.registers, (hold (moment_holds now) a.moment b.moment c.moment, (hold (status_holds pit.level) a.status b.status c.status, (hold toggles_hold a.toggles b.toggles c.toggles, tt))))
+
+restored-newest : (now : ℕ) (pit : Pit) → IsSoundPit now pit → restored_pit pit.level now (pit_cells NEWEST pit) ≡ Ok pit
 restored-newest now pit s =
-    restored-holds pit.level now (pit_cells NEWEST_SET pit)
-    (rule-saved registers_hold (channel_of pit.counter0) (channel_of pit.counter1) (channel_of pit.counter2) s.counter0.registers s.counter1.registers s.counter2.registers)
-    (rule-saved (moment_holds now) (channel_of pit.counter0) (channel_of pit.counter1) (channel_of pit.counter2) s.counter0.moment s.counter1.moment s.counter2.moment)
-    (rule-saved (status_holds pit.level) (channel_of pit.counter0) (channel_of pit.counter1) (channel_of pit.counter2) s.counter0.status s.counter1.status s.counter2.status)
-    (rule-saved toggles_hold (channel_of pit.counter0) (channel_of pit.counter1) (channel_of pit.counter2) s.counter0.toggles s.counter1.toggles s.counter2.toggles)
-    ∙ ap Ok (pit_of-saved pit)
+    judged-all (rules pit.level now (pit_cells NEWEST pit)) (pit_of pit.level (pit_cells NEWEST pit)) (met now pit s) ∙ ap Ok (pit_of-saved pit s.count)
 
--- a set that has the statuses saves as the newest does
-carried-later : (set : ℕ) (first second third : Channel) → nat_le STATUS_SET set ≡ true → carried set (three_cells set first second third) ≡ three_cells NEWEST_SET first second third
-unfolding carried three_cells
-carried-later set first second third e = rw e refl
+-- the cells of a chip are of their kinds
+channel-of : (counter : Counter) → HasWidths counter → AreOf channel_kinds (channel_cells (channel_of counter))
+unfolding channel_cells channel_of
+channel-of counter h =
+    of_more _ _ _ _ (word _ h.count) (of_more _ _ _ _ (byte _ (omega (arith, mode-small counter.mode))) (of_more _ _ _ _ (byte _ (omega (arith, access-small counter.access)))
+    (of_more _ _ _ _ (flag _) (of_more _ _ _ _ (flag _) (of_more _ _ _ _ (long _ (held-below (2 ^ 64) 0 counter.loaded_at h.loaded_at (omega arith)))
+    (of_more _ _ _ _ (flag _) (of_more _ _ _ _ (flag _) (of_more _ _ _ _ (byte _ (held-below (2 ^ 8) 0 counter.held_low h.held_low (omega arith)))
+    (of_more _ _ _ _ (flag _) (of_more _ _ _ _ (word _ (held-below (2 ^ 16) 0 counter.latch h.latch (omega arith))) of_none))))))))))
 
--- a set that hasn't them lacks what is 0 on an 8253
-carried-first : (set : ℕ) (first second third : Channel) → nat_le STATUS_SET set ≡ false → status_cells first second third ≡ (pos 0 ∷ pos 0 ∷ pos 0 ∷ pos 0 ∷ pos 0 ∷ pos 0 ∷ []) → carried set (three_cells set first second third) ≡ three_cells NEWEST_SET first second third
-unfolding carried three_cells channel_cells
-carried-first set first second third e z = rw (e, z) refl
+status-of : (first second third : Counter) → HasWidths first → HasWidths second → HasWidths third → AreOf status_kinds (status_cells (channel_of first) (channel_of second) (channel_of third))
+unfolding status_cells channel_of
+status-of first second third a b c =
+    of_more _ _ _ _ (flag _) (of_more _ _ _ _ (flag _) (of_more _ _ _ _ (flag _)
+    (of_more _ _ _ _ (byte _ (held-below (2 ^ 8) 0 first.status a.status (omega arith))) (of_more _ _ _ _ (byte _ (held-below (2 ^ 8) 0 second.status b.status (omega arith)))
+    (of_more _ _ _ _ (byte _ (held-below (2 ^ 8) 0 third.status c.status (omega arith))) of_none)))))
+
+set-of : (set : ℕ) (first second third : Counter) → HasWidths first → HasWidths second → HasWidths third → AreOf (kinds_of set) (three_cells set (channel_of first) (channel_of second) (channel_of third))
+unfolding three_cells channel_cells channel_of
+set-of set first second third a b c =
+    of_both channel_kinds _ (channel_cells (channel_of first)) _ (channel-of first a) (of_both channel_kinds _ (channel_cells (channel_of second)) _ (channel-of second b)
+    (of_both channel_kinds _ (channel_cells (channel_of third)) _ (channel-of third c)
+    (of_where (nat_le STATUS_SET set) status_kinds (status_cells (channel_of first) (channel_of second) (channel_of third)) (status-of first second third a b c))))
+
+-- an absent cell is 0
+no_held : (held : Option ℕ) → (flag_number (is_some held) == 1) ≡ false → held_or held 0 ≡ 0
+no_held None e = refl
+no_held (Some held) e = cc
+
+wlow-default : (first second third : Counter) (late : List ℤ) → HasDefault 7 8 (channel_cells (channel_of first) ++ channel_cells (channel_of second) ++ channel_cells (channel_of third) ++ late)
+unfolding channel_cells channel_of
+wlow-default first second third late =
+    each_of (λ k. flag_at (channel_cells (channel_of first) ++ channel_cells (channel_of second) ++ channel_cells (channel_of third) ++ late) (channel_place k + 7) ≡ false → number_at (channel_cells (channel_of first) ++ channel_cells (channel_of second) ++ channel_cells (channel_of third) ++ late) (channel_place k + 8) ≡ 0)
+    (no_held first.held_low) (no_held second.held_low) (no_held third.held_low)
+
+latch-default : (first second third : Counter) (late : List ℤ) → HasDefault 9 10 (channel_cells (channel_of first) ++ channel_cells (channel_of second) ++ channel_cells (channel_of third) ++ late)
+unfolding channel_cells channel_of
+latch-default first second third late =
+    each_of (λ k. flag_at (channel_cells (channel_of first) ++ channel_cells (channel_of second) ++ channel_cells (channel_of third) ++ late) (channel_place k + 9) ≡ false → number_at (channel_cells (channel_of first) ++ channel_cells (channel_of second) ++ channel_cells (channel_of third) ++ late) (channel_place k + 10) ≡ 0)
+    (no_held first.latch) (no_held second.latch) (no_held third.latch)
+
+cells-of : (set now : ℕ) (pit : Pit) → IsSoundPit now pit → AreCellsOf set (pit_cells set pit)
+unfolding pit_cells three_cells
+cells-of set now pit s =
+    let late : List ℤ = cond (nat_le STATUS_SET set) (status_cells (channel_in 0 pit) (channel_in 1 pit) (channel_in 2 pit)) [] in
+    record {
+      of_kinds = set-of set (counter_of 0 pit) (counter_of 1 pit) (counter_of 2 pit) (s.counters 0 (omega arith)).widths (s.counters 1 (omega arith)).widths (s.counters 2 (omega arith)).widths;
+      wlow = wlow-default (counter_of 0 pit) (counter_of 1 pit) (counter_of 2 pit) late;
+      latch = latch-default (counter_of 0 pit) (counter_of 1 pit) (counter_of 2 pit) late;
+    }
+
+pub saved_are_cells : SavedAreCells
+saved_are_cells = record { of_set = λ numbers pit can s. cells-of numbers.set numbers.moment pit s }
+
+-- a chip is sound where its cells break no rule, and the other way
+is_sound : (now : ℕ) (pit : Pit) → IsLevel pit.level → now ≤ LAST_MOMENT → length pit.counters ≡ 3 → IsPitCells (pit_cells NEWEST pit) × (first_failing (rules pit.level now (pit_cells NEWEST pit)) ≡ None) → IsSoundPit now pit
+is_sound now pit l m three h =
+    let restored = judged-all (rules pit.level now (pit_cells NEWEST pit)) (pit_of pit.level (pit_cells NEWEST pit)) (all_true (rules pit.level now (pit_cells NEWEST pit)) h.1) ∙ ap Ok (pit_of-saved pit three) in
+    (pit-restored pit.level now (pit_cells NEWEST pit) pit l m h.0 restored).0
+
+pub sound_meets_rules : SoundMeetsRules
+sound_meets_rules = record {
+  pit = λ now pit l m three. ((λ s. (cells-of NEWEST now pit s, none_failing (rules pit.level now (pit_cells NEWEST pit)) (met now pit s))), is_sound now pit l m three);
+}
+
+-- cells that are carried are those of the newest set, where what the set lacks is 0
+tests-carried : (first second third : Channel) (has : Bool) → (has ≡ false → status_cells first second third ≡ (pos 0 ∷ pos 0 ∷ pos 0 ∷ pos 0 ∷ pos 0 ∷ pos 0 ∷ [])) → carried_by (places 0 33 ++ cond has (places 33 6) six_defaults) (channel_cells first ++ channel_cells second ++ channel_cells third ++ cond has (status_cells first second third) []) ≡ channel_cells first ++ channel_cells second ++ channel_cells third ++ status_cells first second third
+unfolding channel_cells status_cells
+tests-carried first second third true zeros = refl
+tests-carried first second third false zeros = rw (zeros refl) refl
 
 no-status : (level : ℕ) (status : Option ℕ) → level < READ_BACK_LEVEL → StatusFits level status → status ≡ None
 no-status level None h f = refl
 no-status level (Some status) h f = absurd (omega arith)
 
-status-zero : (level now : ℕ) (counter : Counter) → level < READ_BACK_LEVEL → IsSoundCounter level now counter → counter.status ≡ None
-status-zero level now counter h s = no-status level counter.status h (plain-from_sound level now counter s).status
-
 zeros : (first second third : Counter) → first.status ≡ None → second.status ≡ None → third.status ≡ None → status_cells (channel_of first) (channel_of second) (channel_of third) ≡ (pos 0 ∷ pos 0 ∷ pos 0 ∷ pos 0 ∷ pos 0 ∷ pos 0 ∷ [])
 unfolding status_cells channel_of
 zeros first second third a b c = rw (a, b, c) refl
 
-pub saved_is_restored : SavedIsRestored
-unfolding pit_cells
-saved_is_restored set now pit s low high =
-    ⊎_elim (λ e. rw (carried-later set (channel_of pit.counter0) (channel_of pit.counter1) (channel_of pit.counter2) e) (restored-newest now pit s))
+carried-saved : (set now : ℕ) (pit : Pit) → pit.level ≤ set → IsSoundPit now pit → carried set (pit_cells set pit) ≡ pit_cells NEWEST pit
+unfolding pit_cells three_cells
+carried-saved set now pit le s =
+    tests-carried (channel_in 0 pit) (channel_in 1 pit) (channel_in 2 pit) (nat_le STATUS_SET set)
     (λ e. let h : pit.level < READ_BACK_LEVEL = grind (arith, nat_tests) in
-    rw (carried-first set (channel_of pit.counter0) (channel_of pit.counter1) (channel_of pit.counter2) e (zeros pit.counter0 pit.counter1 pit.counter2 (status-zero pit.level now pit.counter0 h s.counter0) (status-zero pit.level now pit.counter1 h s.counter1) (status-zero pit.level now pit.counter2 h s.counter2)))
-    (restored-newest now pit s))
-    (either_way (nat_le STATUS_SET set))
+    let none : (k : ℕ) → k < 3 → (counter_of k pit).status ≡ None = λ k l. no-status pit.level (counter_of k pit).status h (plain-from_sound pit.level now (counter_of k pit) (s.counters k l)).status in
+    zeros (counter_of 0 pit) (counter_of 1 pit) (counter_of 2 pit) (none 0 (omega arith)) (none 1 (omega arith)) (none 2 (omega arith)))
+
+restored-back : (numbers back : Numbers) (pit : Pit) → CanSave numbers pit → IsSoundPit numbers.moment pit → MayRestore back → back.level ≡ pit.level → back.moment ≡ numbers.moment → CanRestore back (carried numbers.set (pit_cells numbers.set pit)) × (hook_restored back (carried numbers.set (pit_cells numbers.set pit)) ≡ Ok pit)
+restored-back numbers back pit can s may level moment =
+    let le : pit.level ≤ numbers.set = let own = can.own_level in let l = can.level_le_set in omega (arith, own, l) in
+    let same = carried-saved numbers.set numbers.moment pit le s in
+    let newest : restored_pit back.level back.moment (pit_cells NEWEST pit) ≡ Ok pit =
+    ap (λ l. restored_pit l back.moment (pit_cells NEWEST pit)) level ∙ ap (λ m. restored_pit pit.level m (pit_cells NEWEST pit)) moment ∙ restored-newest numbers.moment pit s
+    in (
+      record { pass = may; normal = subst IsPitCells (sym same) (cells-of NEWEST numbers.moment pit s) },
+      subst (λ (cells : List ℤ). hook_restored back cells ≡ Ok pit) (sym same) (ok-hook _ pit newest),
+    )
+
+pub saved_is_restored : SavedIsRestored
+saved_is_restored = record { pit = restored-back }

@@ -1,18 +1,21 @@
 -- A chip is sound at power on, and time and every call keep it so.
-use Rattle.std.proofs.Common.{ℕ, ◌-◌, ◌<◌, ◌≤◌, ◌==◌, cond, arith, ⊎_elim}
+use Rattle.std.proofs.Common.{◌≡◌, ℕ, ◌-◌, ◌<◌, ◌≤◌, ◌==◌, Bool, ◌&&◌, [], ◌∷◌, length, slice_index_or, refl, subst, ◌∙◌, arith, ⊎_elim}
 use Rattle.std.proofs.lemmas.Bool.Decides.{nat_tests}
 use Rattle.std.specs.Prelude.{nat_le}
+use Rattle.dev_base.specs.Levels.{IsLevel}
+use Rattle.dev_base.specs.declared.limits.TheConstants.{LAST_MOMENT}
 use Rattle.dev_pit.specs.Control.{control_word}
-use Rattle.dev_pit.specs.Laws.{SoundStays}
-use Rattle.dev_pit.specs.Pit.{IsLevel, IsLoadedBy, counter_of, with_counter, new_pit, pit_read, controlled, pit_written}
+use Rattle.dev_pit.specs.Laws.{SoundStays, StepsKeepLevel}
+use Rattle.dev_pit.specs.Pit.{counter_of, with_counter, new_pit, pit_read, asked_back, controlled, pit_written}
 use Rattle.dev_pit.specs.Sound.{IsSoundPit}
 use Rattle.dev_pit.specs.declared.control.ControlWord.{ControlWord}
 use Rattle.dev_pit.specs.declared.control.ControlWord.TheVariants.{LatchCount, SetMode, ReadBack}
 use Rattle.dev_pit.specs.declared.counter.Counter.{Counter}
-use Rattle.dev_pit.specs.declared.limits.TheConstants.{READ_BACK_LEVEL, LAST_MOMENT}
+use Rattle.dev_pit.specs.declared.limits.TheConstants.{READ_BACK_LEVEL}
 use Rattle.dev_pit.specs.declared.pit.Pit.{Pit}
-use Rattle.dev_pit.proofs.CallLaws.{either_way}
-use Rattle.dev_pit.proofs.CounterSteps.{either}
+use Rattle.dev_base.proofs.Choices.{either, either_way}
+use Rattle.dev_pit.proofs.Chips.{at_counter, count-with, each_of}
+use Rattle.dev_pit.specs.Counter.{powered_on, read_of, read_back, latched, programmed, written}
 use Rattle.dev_pit.proofs.Moments.{loaded_by-later}
 use Rattle.dev_pit.proofs.PlainSound.{PlainSound, sound-from_plain, plain-from_sound}
 use Rattle.dev_pit.proofs.SoundSteps.{powered_on-sound, latched-sound, read_back-sound, programmed-sound, written-sound, read-sound}
@@ -21,26 +24,23 @@ use Rattle.dev_pit.proofs.SoundSteps.{powered_on-sound, latched-sound, read_back
 pub record PlainPit (now : ℕ) (pit : Pit) : Type 0 where
   pub level : IsLevel pit.level
   pub moment : now ≤ LAST_MOMENT
-  pub counter0 : PlainSound pit.level now pit.counter0
-  pub counter1 : PlainSound pit.level now pit.counter1
-  pub counter2 : PlainSound pit.level now pit.counter2
+  pub count : length pit.counters ≡ 3
+  pub counters : (k : ℕ) → k < 3 → PlainSound pit.level now (counter_of k pit)
 
 pub pit-from_plain : (now : ℕ) (pit : Pit) → PlainPit now pit → IsSoundPit now pit
 pit-from_plain now pit s = record {
   level = s.level;
   moment = s.moment;
-  counter0 = sound-from_plain pit.level now pit.counter0 s.counter0;
-  counter1 = sound-from_plain pit.level now pit.counter1 s.counter1;
-  counter2 = sound-from_plain pit.level now pit.counter2 s.counter2;
+  count = s.count;
+  counters = λ k h. sound-from_plain pit.level now (counter_of k pit) (s.counters k h);
 }
 
 pub plain-from_pit : (now : ℕ) (pit : Pit) → IsSoundPit now pit → PlainPit now pit
 plain-from_pit now pit s = record {
   level = s.level;
   moment = s.moment;
-  counter0 = plain-from_sound pit.level now pit.counter0 s.counter0;
-  counter1 = plain-from_sound pit.level now pit.counter1 s.counter1;
-  counter2 = plain-from_sound pit.level now pit.counter2 s.counter2;
+  count = s.count;
+  counters = λ k h. plain-from_sound pit.level now (counter_of k pit) (s.counters k h);
 }
 
 new-plain : (level now : ℕ) → IsLevel level → now ≤ LAST_MOMENT → PlainPit now (new_pit level)
@@ -48,9 +48,8 @@ unfolding new_pit
 new-plain level now l m = record {
   level = l;
   moment = m;
-  counter0 = powered_on-sound level now;
-  counter1 = powered_on-sound level now;
-  counter2 = powered_on-sound level now;
+  count = refl;
+  counters = each_of (λ k. PlainSound level now (slice_index_or (powered_on ∷ powered_on ∷ powered_on ∷ []) k powered_on)) (powered_on-sound level now) (powered_on-sound level now) (powered_on-sound level now);
 }
 
 later : (level now after : ℕ) (counter : Counter) → now ≤ after → PlainSound level now counter → PlainSound level after counter
@@ -65,40 +64,45 @@ pit-later : (now after : ℕ) (pit : Pit) → now ≤ after → after ≤ LAST_M
 pit-later now after pit h m s = record {
   level = s.level;
   moment = m;
-  counter0 = later pit.level now after pit.counter0 h s.counter0;
-  counter1 = later pit.level now after pit.counter1 h s.counter1;
-  counter2 = later pit.level now after pit.counter2 h s.counter2;
+  count = s.count;
+  counters = λ k l. later pit.level now after (counter_of k pit) h (s.counters k l);
 }
 
--- each counter of a sound chip, and a chip with another sound counter
-counter-plain : (k now : ℕ) (pit : Pit) → PlainPit now pit → PlainSound pit.level now (counter_of k pit)
-counter-plain k now pit s =
-    either (PlainSound pit.level now) (k == 0) pit.counter0 (cond (k == 1) pit.counter1 pit.counter2) s.counter0
-    (either (PlainSound pit.level now) (k == 1) pit.counter1 pit.counter2 s.counter1 s.counter2)
-
-with-plain : (k now : ℕ) (counter : Counter) (pit : Pit) → PlainSound pit.level now counter → PlainPit now pit → PlainPit now (with_counter k counter pit)
-with-plain k now counter pit c s =
-    either (PlainPit now) (k == 0) _ _ (record { level = s.level; moment = s.moment; counter0 = c; counter1 = s.counter1; counter2 = s.counter2 })
-    (either (PlainPit now) (k == 1) _ _ (record { level = s.level; moment = s.moment; counter0 = s.counter0; counter1 = c; counter2 = s.counter2 })
-    (record { level = s.level; moment = s.moment; counter0 = s.counter0; counter1 = s.counter1; counter2 = c }))
+-- a step of counter j that keeps it sound
+step-plain : (j now : ℕ) (step : Counter → Counter) (pit : Pit) → ((counter : Counter) → PlainSound pit.level now counter → PlainSound pit.level now (step counter)) → PlainPit now pit → PlainPit now (with_counter j (step (counter_of j pit)) pit)
+step-plain j now step pit keeps s = record {
+  level = s.level;
+  moment = s.moment;
+  count = count-with j (step (counter_of j pit)) pit ∙ s.count;
+  counters = λ k l. at_counter (PlainSound pit.level now) k j (step (counter_of j pit)) pit
+      (λ here. keeps (counter_of j pit) (subst (λ (i : ℕ). PlainSound pit.level now (counter_of i pit)) here (s.counters k l))) (s.counters k l);
+}
 
 read-plain : (k now : ℕ) (pit : Pit) → PlainPit now pit → PlainPit now (pit_read k now pit).1
 unfolding pit_read
-read-plain k now pit s = with-plain k now _ pit (read-sound pit.level now (counter_of k pit) (counter-plain k now pit s)) s
+read-plain k now pit s = step-plain k now (λ c. (read_of now c).1) pit (λ c p. read-sound pit.level now c p) s
+
+asked-plain : (count status chosen : Bool) (k now : ℕ) (pit : Pit) → READ_BACK_LEVEL ≤ pit.level → PlainPit now pit → PlainPit now (asked_back count status chosen k now pit)
+unfolding asked_back
+asked-plain count status chosen k now pit h s =
+    step-plain k now (read_back (count && chosen) (status && chosen) now) pit (λ c p. read_back-sound _ _ pit.level now c h p) s
+
+asked-level : (count status chosen : Bool) (k now : ℕ) (pit : Pit) → (asked_back count status chosen k now pit).level ≡ pit.level
+unfolding asked_back
+asked-level count status chosen k now pit = refl
+
+all-asked : (count status first second third : Bool) (now : ℕ) (pit : Pit) → READ_BACK_LEVEL ≤ pit.level → PlainPit now pit → PlainPit now (asked_back count status third 2 now (asked_back count status second 1 now (asked_back count status first 0 now pit)))
+unfolding asked_back
+all-asked count status first second third now pit h s =
+    asked-plain count status third 2 now _ h (asked-plain count status second 1 now _ h (asked-plain count status first 0 now pit h s))
 
 controlled-plain : (word : ControlWord) (now : ℕ) (pit : Pit) → PlainPit now pit → PlainPit now (controlled word now pit)
 unfolding controlled
-controlled-plain (LatchCount k) now pit s = with-plain k now _ pit (latched-sound pit.level now (counter_of k pit) (counter-plain k now pit s)) s
-controlled-plain (SetMode k access mode bcd) now pit s = with-plain k now _ pit (programmed-sound access mode bcd pit.level now (counter_of k pit) (counter-plain k now pit s)) s
+controlled-plain (LatchCount k) now pit s = step-plain k now (latched now) pit (λ c p. latched-sound pit.level now c p) s
+controlled-plain (SetMode k access mode bcd) now pit s = step-plain k now (programmed access mode bcd) pit (λ c p. programmed-sound access mode bcd pit.level now c p) s
 controlled-plain (ReadBack count status first second third) now pit s =
     ⊎_elim (λ e. let h : READ_BACK_LEVEL ≤ pit.level = grind (arith, nat_tests) in
-    rw e (record {
-      level = s.level;
-      moment = s.moment;
-      counter0 = read_back-sound _ _ pit.level now pit.counter0 h s.counter0;
-      counter1 = read_back-sound _ _ pit.level now pit.counter1 h s.counter1;
-      counter2 = read_back-sound _ _ pit.level now pit.counter2 h s.counter2;
-    }))
+    rw e (all-asked count status first second third now pit h s))
     (λ e. rw e s)
     (either_way (nat_le READ_BACK_LEVEL pit.level))
 
@@ -106,10 +110,7 @@ written-plain : (port value now : ℕ) (pit : Pit) → value < 256 → PlainPit 
 unfolding pit_written
 written-plain port value now pit v s =
     either (PlainPit now) (port == 0x43) _ _ (controlled-plain (control_word value) now pit s)
-    (with-plain (port - 0x40) now _ pit (written-sound value pit.level now (counter_of (port - 0x40) pit) s.moment v (counter-plain (port - 0x40) now pit s)) s)
-
-plain-loaded : (now : ℕ) (pit : Pit) → PlainPit now pit → IsLoadedBy now pit
-plain-loaded now pit s = record { counter0 = s.counter0.loaded; counter1 = s.counter1.loaded; counter2 = s.counter2.loaded }
+    (step-plain (port - 0x40) now (written value now) pit (λ c p. written-sound value pit.level now c s.moment v p) s)
 
 pub sound_stays : SoundStays
 sound_stays = record {
@@ -117,5 +118,32 @@ sound_stays = record {
   in_time = λ now after pit h m s. pit-from_plain after pit (pit-later now after pit h m (plain-from_pit now pit s));
   in_reads = λ k now pit s. pit-from_plain now (pit_read k now pit).1 (read-plain k now pit (plain-from_pit now pit s));
   in_writes = λ port value now pit v s. pit-from_plain now (pit_written port value now pit) (written-plain port value now pit v (plain-from_pit now pit s));
-  loaded = λ now pit s. plain-loaded now pit (plain-from_pit now pit s);
+  loaded = λ now pit s k l. ((plain-from_pit now pit s).counters k l).loaded;
 }
+
+-- the level
+new-level : (level : ℕ) → (new_pit level).level ≡ level
+unfolding new_pit
+new-level level = refl
+
+read-level : (k now : ℕ) (pit : Pit) → (pit_read k now pit).1.level ≡ pit.level
+unfolding pit_read
+read-level k now pit = refl
+
+abbrev HasLevel : ℕ → Pit → Type 0
+HasLevel level pit = pit.level ≡ level
+
+controlled-level : (word : ControlWord) (now : ℕ) (pit : Pit) → HasLevel pit.level (controlled word now pit)
+unfolding controlled asked_back
+controlled-level (LatchCount k) now pit = refl
+controlled-level (SetMode k access mode bcd) now pit = refl
+controlled-level (ReadBack count status first second third) now pit =
+    either (HasLevel pit.level) (nat_le READ_BACK_LEVEL pit.level) _ _ refl refl
+
+written-level : (port value now : ℕ) (pit : Pit) → HasLevel pit.level (pit_written port value now pit)
+unfolding pit_written
+written-level port value now pit =
+    either (HasLevel pit.level) (port == 0x43) _ _ (controlled-level (control_word value) now pit) refl
+
+pub steps_keep_level : StepsKeepLevel
+steps_keep_level = record { power_on = new-level; read = read-level; write = written-level }

@@ -1,17 +1,19 @@
 -- Every step of a counter keeps it sound.
 use Rattle.std.proofs.Common.{◌≡◌, ℕ, ◌+◌, ◌*◌, ◌%◌, ◌^◌, ◌<◌, ◌≤◌, ◌==◌, Bool, true, false, Option, Some, None, refl, arith, subst, sym}
 use Rattle.std.specs.Prelude.{nat_lt}
+use Rattle.dev_base.specs.Cells.{flag_number}
+use Rattle.dev_base.specs.declared.limits.TheConstants.{LAST_MOMENT}
 use Rattle.dev_pit.specs.Count.{live_at, square, high_part}
-use Rattle.dev_pit.specs.Counter.{held_or, flag_number, live_of, live_since, out_of, status_of, loaded, written, written_by, written_low_first, programmed, powered_on, read_of, read_by, counted_of, counted_by, latched, status_latched, read_back}
+use Rattle.dev_pit.specs.Counter.{held_or, live_of, live_since, out_of, status_of, loaded, written, written_by, written_low_first, programmed, powered_on, read_of, read_by, counted_of, counted_by, latched, status_latched, read_back}
 use Rattle.dev_pit.specs.Mode.{mode_number, access_number}
 use Rattle.dev_pit.specs.Sound.{HasWidths, HeldBelow}
 use Rattle.dev_pit.specs.declared.counter.Counter.{Counter}
-use Rattle.dev_pit.specs.declared.limits.TheConstants.{READ_BACK_LEVEL, LAST_MOMENT}
+use Rattle.dev_pit.specs.declared.limits.TheConstants.{READ_BACK_LEVEL}
 use Rattle.dev_pit.specs.declared.mode.Access.{Access}
 use Rattle.dev_pit.specs.declared.mode.Access.TheVariants.{LowByte, HighByte, LowThenHigh}
 use Rattle.dev_pit.specs.declared.mode.Mode.{Mode}
 use Rattle.dev_pit.specs.declared.mode.Mode.TheVariants.{TerminalCount, OneShot, RateGenerator, SquareWave, SoftwareStrobe, HardwareStrobe}
-use Rattle.dev_pit.proofs.CounterSteps.{either}
+use Rattle.dev_base.proofs.Choices.{either}
 use Rattle.dev_pit.proofs.PlainSound.{PlainSound, TogglesFit}
 
 -- a number of sixteen bits

@@ -1,26 +1,26 @@
 -- The cells of the chip.
-use Rattle.std.specs.Prelude.{◌≡◌, ℕ, ℤ, pos, negsuc, ◌+◌, ◌*◌, ◌<◌, ◌==◌, Bool, nat_le, if◌then◌else◌, List, [], ◌∷◌, ◌++◌, length, slice_index_or}
+use Rattle.std.specs.Prelude.{◌≡◌, ℕ, ℤ, pos, ◌+◌, ◌*◌, ◌<◌, false, nat_le, List, [], ◌∷◌, ◌++◌, length}
 use Rattle.vms_kinds.specs.Codes.{InRange}
+use Rattle.vms_kinds.specs.declared.Kind.{Kind}
 use Rattle.vms_kinds.specs.declared.Kind.TheVariants as kinds
+use Rattle.dev_base.specs.Cells.{cell_at, number_at, flag_at, flag_number, kind_at, AreOf}
+use Rattle.dev_base.specs.Tables.{Origin, default_of, carried_by, places, where_had, since}
+use Rattle.dev_base.specs.declared.limits.TheConstants.{NEWEST}
 use Rattle.dev_pit.specs.Channel.{channel_of}
-use Rattle.dev_pit.specs.Counter.{flag_number}
+use Rattle.dev_pit.specs.Pit.{counter_of}
 use Rattle.dev_pit.specs.declared.channel.Channel.{Channel}
 use Rattle.dev_pit.specs.declared.limits.TheConstants.{STATUS_SET, CELLS, CHANNEL_CELLS}
 use Rattle.dev_pit.specs.declared.pit.Pit.{Pit}
 
--- the number of a cell that is not negative
-abbrev pub nat_of : ℤ → ℕ
-nat_of (pos n) = n
-nat_of (negsuc n) = 0
+-- the kinds of the cells of one channel, of the latched statuses of three, and of the cells of a set
+abbrev pub channel_kinds : List Kind
+channel_kinds = kinds.U16 ∷ kinds.U8 ∷ kinds.U8 ∷ kinds.Bool ∷ kinds.Bool ∷ kinds.U64 ∷ kinds.Bool ∷ kinds.Bool ∷ kinds.U8 ∷ kinds.Bool ∷ kinds.U16 ∷ []
 
-abbrev pub cell_at : List ℤ → ℕ → ℤ
-cell_at cells place = slice_index_or cells place (pos 0)
+abbrev pub status_kinds : List Kind
+status_kinds = kinds.Bool ∷ kinds.Bool ∷ kinds.Bool ∷ kinds.U8 ∷ kinds.U8 ∷ kinds.U8 ∷ []
 
-abbrev pub number_at : List ℤ → ℕ → ℕ
-number_at cells place = nat_of (cell_at cells place)
-
-abbrev pub flag_at : List ℤ → ℕ → Bool
-flag_at cells place = number_at cells place == 1
+abbrev pub kinds_of : ℕ → List Kind
+kinds_of set = channel_kinds ++ channel_kinds ++ channel_kinds ++ since STATUS_SET set status_kinds
 
 -- the cells of one channel, in the order of its description
 unfoldable pub channel_cells : Channel → List ℤ
@@ -37,15 +37,25 @@ status_cells first second third =
 -- the cells of three channels under a set
 unfoldable pub three_cells : ℕ → Channel → Channel → Channel → List ℤ
 three_cells set first second third =
-    channel_cells first ++ channel_cells second ++ channel_cells third ++ (if nat_le STATUS_SET set then status_cells first second third else [])
+    channel_cells first ++ channel_cells second ++ channel_cells third ++ since STATUS_SET set (status_cells first second third)
 
--- the cells of a chip under a set
+-- the channel of a counter, and the cells of a chip under a set
+abbrev pub channel_in : ℕ → Pit → Channel
+channel_in k pit = channel_of (counter_of k pit)
+
 unfoldable pub pit_cells : ℕ → Pit → List ℤ
-pit_cells set pit = three_cells set (channel_of pit.counter0) (channel_of pit.counter1) (channel_of pit.counter2)
+pit_cells set pit = three_cells set (channel_in 0 pit) (channel_in 1 pit) (channel_in 2 pit)
 
--- the cells of a set at their places in the newest one, with defaults elsewhere
-unfoldable pub carried : ℕ → List ℤ → List ℤ
-carried set cells = if nat_le STATUS_SET set then cells else cells ++ (pos 0 ∷ pos 0 ∷ pos 0 ∷ pos 0 ∷ pos 0 ∷ pos 0 ∷ [])
+-- where the cells of the newest set stand in a set, with their defaults where it hasn't them
+abbrev pub six_defaults : List Origin
+six_defaults = default_of (pos 0) ∷ default_of (pos 0) ∷ default_of (pos 0) ∷ default_of (pos 0) ∷ default_of (pos 0) ∷ default_of (pos 0) ∷ []
+
+abbrev pub origins : ℕ → List Origin
+origins set = places 0 33 ++ where_had (nat_le STATUS_SET set) (places 33 6) six_defaults
+
+-- the cells of a set at their places in the newest one
+abbrev pub carried : ℕ → List ℤ → List ℤ
+carried set cells = carried_by (origins set) cells
 
 -- where the cells of channel k begin, and those of its status
 abbrev pub channel_place : ℕ → ℕ
@@ -75,19 +85,25 @@ channel_at k cells = record {
   status = number_at cells (status_place k);
 }
 
--- each cell of channel k is in its kind's range
+-- each cell of channel k and of its status is in its kind's range
 pub record IsChannelAt (k : ℕ) (cells : List ℤ) : Type 0 where
   pub within : (k < 3) × (length cells ≡ CELLS)
-  pub count : InRange kinds.U16 (cell_at cells (channel_place k))
-  pub mode : InRange kinds.U8 (cell_at cells (channel_place k + 1))
-  pub rw : InRange kinds.U8 (cell_at cells (channel_place k + 2))
-  pub bcd : InRange kinds.Bool (cell_at cells (channel_place k + 3))
-  pub loaded : InRange kinds.Bool (cell_at cells (channel_place k + 4))
-  pub load_time : InRange kinds.U64 (cell_at cells (channel_place k + 5))
-  pub read_high : InRange kinds.Bool (cell_at cells (channel_place k + 6))
-  pub wlow_held : InRange kinds.Bool (cell_at cells (channel_place k + 7))
-  pub wlow : InRange kinds.U8 (cell_at cells (channel_place k + 8))
-  pub latched : InRange kinds.Bool (cell_at cells (channel_place k + 9))
-  pub latch : InRange kinds.U16 (cell_at cells (channel_place k + 10))
-  pub status_latched : InRange kinds.Bool (cell_at cells (latched_place k))
+  pub channel : (place : ℕ) → place < CHANNEL_CELLS → InRange (kind_at channel_kinds place) (cell_at cells (channel_place k + place))
+  pub latched : InRange kinds.Bool (cell_at cells (latched_place k))
   pub status : InRange kinds.U8 (cell_at cells (status_place k))
+
+-- the number of channel k at `place` is at its default where the flag at `flag` is clear, since it is absent there
+abbrev pub HasDefault : ℕ → ℕ → List ℤ → Type 0
+HasDefault flag place cells =
+    (k : ℕ) → k < 3 → flag_at cells (channel_place k + flag) ≡ false → number_at cells (channel_place k + place) ≡ 0
+
+-- normal cells of a set: as many as it has, each in its kind's range, and an absent one, wlow or latch of a channel, at
+-- its default
+pub record AreCellsOf (set : ℕ) (cells : List ℤ) : Type 0 where
+  pub of_kinds : AreOf (kinds_of set) cells
+  pub wlow : HasDefault 7 8 cells
+  pub latch : HasDefault 9 10 cells
+
+-- the same of the newest set
+abbrev pub IsPitCells : List ℤ → Type 0
+IsPitCells = AreCellsOf NEWEST

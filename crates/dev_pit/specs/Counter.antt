@@ -1,5 +1,6 @@
 -- The steps of one counter.
 use Rattle.std.specs.Prelude.{ℕ, ◌+◌, ◌*◌, ◌/◌, ◌%◌, ◌≤◌, Bool, true, false, Option, Some, None, if◌then◌else◌}
+use Rattle.dev_base.specs.Cells.{flag_number}
 use Rattle.dev_pit.specs.Count.{ticks, live_at, out_at, out_unloaded, rises}
 use Rattle.dev_pit.specs.Mode.{mode_number, access_number}
 use Rattle.dev_pit.specs.declared.counter.Counter.{Counter}
@@ -36,10 +37,6 @@ edge_since (Some load) mode count from to = rises mode count (ticks load from) (
 
 unfoldable pub edge_of : Counter → ℕ → ℕ → Bool
 edge_of counter from to = edge_since counter.loaded_at counter.mode counter.count from to
-
-abbrev pub flag_number : Bool → ℕ
-flag_number false = 0
-flag_number true = 1
 
 -- OUT in bit 7, 0 in bit 6, RW in bits 5 and 4, the mode in bits 3 to 1, BCD in bit 0
 unfoldable pub status_of : Counter → ℕ → ℕ

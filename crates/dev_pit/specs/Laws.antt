@@ -1,15 +1,18 @@
 -- Laws of the chip that contracts name.
-use Rattle.std.specs.Prelude.{◌≡◌, ℕ, ◌-◌, ◌<◌, ◌≤◌, true, false, ◌||◌, Some, Ok, List, ℤ}
+use Rattle.std.specs.Prelude.{◌≡◌, ℕ, ◌-◌, ◌<◌, ◌≤◌, true, false, ◌||◌, Some, None, Ok, List, ℤ, length, ◌↔◌}
+use Rattle.vms_hooks.specs.Numbers.{Numbers}
+use Rattle.dev_base.specs.Levels.{IsLevel, MayRestore}
+use Rattle.dev_base.specs.Rules.{first_failing}
+use Rattle.dev_base.specs.declared.limits.TheConstants.{NEWEST, LAST_MOMENT}
 use Rattle.dev_pit.specs.Calls.{Call, IsCall, called, programs, loads, reads_latch}
-use Rattle.dev_pit.specs.Cells.{pit_cells, carried}
+use Rattle.dev_pit.specs.Cells.{pit_cells, carried, AreCellsOf, IsPitCells}
 use Rattle.dev_pit.specs.Count.{ticks, out_at}
 use Rattle.dev_pit.specs.Counter.{edge_of}
 use Rattle.dev_pit.specs.GoesOn.{GoesOn}
-use Rattle.dev_pit.specs.Pit.{IsLevel, IsLoadedBy, counter_of, new_pit, pit_read, pit_written, pit_out}
-use Rattle.dev_pit.specs.Saved.{IsPitCells, restored_pit}
+use Rattle.dev_pit.specs.Pit.{IsLoadedBy, counter_of, new_pit, pit_read, pit_written, pit_out}
+use Rattle.dev_pit.specs.Saved.{CanSave, CanRestore, rules, hook_restored}
 use Rattle.dev_pit.specs.Sound.{IsSoundPit}
 use Rattle.dev_pit.specs.declared.counter.Counter.{Counter}
-use Rattle.dev_pit.specs.declared.limits.TheConstants.{LAST_MOMENT, NEWEST_SET}
 use Rattle.dev_pit.specs.declared.mode.Mode.TheVariants.{TerminalCount}
 use Rattle.dev_pit.specs.declared.pit.Pit.{Pit}
 
@@ -57,14 +60,24 @@ pub record SoundStays : Type 0 where
   pub in_writes : (port value now : ℕ) (pit : Pit) → value < 256 → IsSoundPit now pit → IsSoundPit now (pit_written port value now pit)
   pub loaded : (now : ℕ) (pit : Pit) → IsSoundPit now pit → IsLoadedBy now pit
 
--- what was saved under any set from the level on is restored as it was
-abbrev pub SavedIsRestored : Type 0
-SavedIsRestored = (set now : ℕ) (pit : Pit) → IsSoundPit now pit → pit.level ≤ set → set ≤ NEWEST_SET → restored_pit pit.level now (carried set (pit_cells set pit)) ≡ Ok pit
+-- no call changes the level
+pub record StepsKeepLevel : Type 0 where
+  pub power_on : (level : ℕ) → (new_pit level).level ≡ level
+  pub read : (k now : ℕ) (pit : Pit) → (pit_read k now pit).1.level ≡ pit.level
+  pub write : (port value now : ℕ) (pit : Pit) → (pit_written port value now pit).level ≡ pit.level
 
--- what was saved of a sound chip are normal cells of the newest set
-abbrev pub SavedIsNormal : Type 0
-SavedIsNormal = (set now : ℕ) (pit : Pit) → IsSoundPit now pit → IsPitCells (carried set (pit_cells set pit))
+-- a chip of three counters is sound exactly where its cells in the newest set are normal and break no rule
+pub record SoundMeetsRules : Type 0 where
+  pub pit : (now : ℕ) (pit : Pit) → IsLevel pit.level → now ≤ LAST_MOMENT → length pit.counters ≡ 3 → IsSoundPit now pit ↔ (IsPitCells (pit_cells NEWEST pit) × (first_failing (rules pit.level now (pit_cells NEWEST pit)) ≡ None))
 
--- what is restored is sound
-abbrev pub RestoredIsSound : Type 0
-RestoredIsSound = (level now : ℕ) (cells : List ℤ) (pit : Pit) → IsLevel level → now ≤ LAST_MOMENT → IsPitCells cells → restored_pit level now cells ≡ Ok pit → IsSoundPit now pit
+-- what a sound chip saves are normal cells of the set
+pub record SavedAreCells : Type 0 where
+  pub of_set : (numbers : Numbers) (pit : Pit) → CanSave numbers pit → IsSoundPit numbers.moment pit → AreCellsOf numbers.set (pit_cells numbers.set pit)
+
+-- what was saved of a sound chip, carried to the newest set, can be restored at that moment and gives the chip
+pub record SavedIsRestored : Type 0 where
+  pub pit : (numbers back : Numbers) (pit : Pit) → CanSave numbers pit → IsSoundPit numbers.moment pit → MayRestore back → back.level ≡ pit.level → back.moment ≡ numbers.moment → CanRestore back (carried numbers.set (pit_cells numbers.set pit)) × (hook_restored back (carried numbers.set (pit_cells numbers.set pit)) ≡ Ok pit)
+
+-- what is restored is sound and has the level of the restore
+pub record RestoredIsSound : Type 0 where
+  pub pit : (numbers : Numbers) (cells : List ℤ) (pit : Pit) → CanRestore numbers cells → hook_restored numbers cells ≡ Ok pit → IsSoundPit numbers.moment pit × (pit.level ≡ numbers.level)

@@ -1,9 +1,10 @@
 -- Which states a chip may be in.
-use Rattle.std.specs.Prelude.{◌≡◌, ℕ, ◌<◌, ◌≤◌, ◌^◌, true, Option, Some, None}
+use Rattle.std.specs.Prelude.{◌≡◌, ℕ, ◌<◌, ◌≤◌, ◌^◌, true, length, Option, Some, None}
+use Rattle.dev_base.specs.Levels.{IsLevel}
+use Rattle.dev_base.specs.declared.limits.TheConstants.{LAST_MOMENT}
 use Rattle.dev_pit.specs.Channel.{channel_of, registers_hold, moment_holds, status_holds, toggles_hold}
-use Rattle.dev_pit.specs.Pit.{IsLevel}
+use Rattle.dev_pit.specs.Pit.{counter_of}
 use Rattle.dev_pit.specs.declared.counter.Counter.{Counter}
-use Rattle.dev_pit.specs.declared.limits.TheConstants.{LAST_MOMENT}
 use Rattle.dev_pit.specs.declared.pit.Pit.{Pit}
 
 -- what is held, if anything, is below a limit
@@ -27,10 +28,9 @@ pub record IsSoundCounter (level now : ℕ) (counter : Counter) : Type 0 where
   pub status : status_holds level (channel_of counter) ≡ true
   pub toggles : toggles_hold (channel_of counter) ≡ true
 
--- a chip of a known level, at a moment of a board, whose counters are sound
+-- a chip of a known level, at a moment of a board, whose three counters are sound
 pub record IsSoundPit (now : ℕ) (pit : Pit) : Type 0 where
   pub level : IsLevel pit.level
   pub moment : now ≤ LAST_MOMENT
-  pub counter0 : IsSoundCounter pit.level now pit.counter0
-  pub counter1 : IsSoundCounter pit.level now pit.counter1
-  pub counter2 : IsSoundCounter pit.level now pit.counter2
+  pub count : length pit.counters ≡ 3
+  pub counters : (k : ℕ) → k < 3 → IsSoundCounter pit.level now (counter_of k pit)

@@ -1,55 +1,11 @@
 // The cells of the chip.
-ghost use Rattle.std.specs.Prelude.{◌≡◌, ◌++◌, ◌+◌, ◌<◌, ◌≤◌, length, ℕ};
-ghost use Rattle.vms_kinds.specs.Codes.{InRange};
-ghost use Rattle.dev_pit.specs.Cells.{cell_at, number_at, flag_at as flag_at_of, channel_cells, status_cells, three_cells, channel_at, IsChannelAt};
+ghost use Rattle.std.specs.Prelude.{◌≡◌, ◌<◌, ◌≤◌, length};
+ghost use Rattle.dev_pit.specs.Cells.{channel_cells, status_cells, three_cells, channel_at, IsChannelAt};
 
 use crate::channel::Channel;
 use crate::limits::{CELLS, CHANNEL_CELLS, STATUS_SET};
-use vms_kinds::{DevCells, Kind};
-
-// A cell of eight bits.
-pub(crate) fn byte_at(cells: &DevCells, place: usize) -> u8
-    requires within { place < length cells.now.items }
-    requires in_range { InRange Kind.U8 (cell_at cells.now.items place) }
-    ensures { result ≡ number_at cells.now.items place }
-{
-    cells[place] as u8
-}
-
-// A cell of sixteen bits.
-pub(crate) fn word_at(cells: &DevCells, place: usize) -> u16
-    requires within { place < length cells.now.items }
-    requires in_range { InRange Kind.U16 (cell_at cells.now.items place) }
-    ensures { result ≡ number_at cells.now.items place }
-{
-    cells[place] as u16
-}
-
-// A cell of a moment.
-fn moment_at(cells: &DevCells, place: usize) -> u64
-    requires within { place < length cells.now.items }
-    requires in_range { InRange Kind.U64 (cell_at cells.now.items place) }
-    ensures { result ≡ number_at cells.now.items place }
-{
-    cells[place] as u64
-}
-
-// A cell of a truth value.
-pub(crate) fn flag_at(cells: &DevCells, place: usize) -> bool
-    requires within { place < length cells.now.items }
-    requires in_range { InRange Kind.Bool (cell_at cells.now.items place) }
-    ensures { result ≡ flag_at_of cells.now.items place }
-{
-    cells[place] == 1
-}
-
-// Appends cells that there is room for.
-fn append(cells: &mut DevCells, more: &[i128])
-    requires { length cells.old.items + length more.now ≤ 64 }
-    ensures { cells.new.items ≡ cells.old.items ++ more.now }
-{
-    let _fits = cells.try_extend_from_slice(more);
-}
+use dev_base::{append, byte_at, flag_at, moment_at, word_at};
+use vms_kinds::DevCells;
 
 // The cells of the statuses of three channels.
 #[tactic(auto, unfolding(crate::specs::Cells::status_cells))]

@@ -1,8 +1,9 @@
 // What a byte at the control port asks for.
 ghost use Rattle.std.specs.Prelude.{◌≡◌, ◌<◌};
-ghost use Rattle.dev_pit.specs.Control.{control_word, is_set};
+ghost use Rattle.dev_pit.specs.Control.{control_word, IsWord};
 
 use crate::mode::{Access, Mode};
+use dev_base::has;
 
 /// A byte written to the control word register.
 #[derive(Clone, Copy, Debug, PartialEq, Eq)]
@@ -28,30 +29,23 @@ pub(crate) enum ControlWord {
     },
 }
 
-/// Tells whether a bit of a byte is set.
-fn is_bit_set(value: u8, bit: u8) -> bool
-    requires { bit < 8 }
-    ensures { result ≡ is_set value bit }
-{
-    (value >> bit) & 1 == 1
-}
-
 impl ControlWord {
     /// The meaning of a byte: bits 7 and 6 choose a counter, or at 3 the read-back command, and bits 5 and
     /// 4 are RW, or at 0 the counter latch command.
     #[tactic(auto, unfolding(crate::specs::Control::control_word))]
     pub fn of(value: u8) -> ControlWord
-        ensures { result ≡ control_word value }
+        ensures word { result ≡ control_word value }
+        ensures counter { IsWord result }
     {
         let counter = value / 64;
         let access = value / 16 % 4;
         if counter == 3 {
             return ControlWord::ReadBack {
-                count: !is_bit_set(value, 5),
-                status: !is_bit_set(value, 4),
-                counter0: is_bit_set(value, 1),
-                counter1: is_bit_set(value, 2),
-                counter2: is_bit_set(value, 3),
+                count: !has(value, 5),
+                status: !has(value, 4),
+                counter0: has(value, 1),
+                counter1: has(value, 2),
+                counter2: has(value, 3),
             };
         }
         if access == 0 {
@@ -61,7 +55,7 @@ impl ControlWord {
             counter,
             access: Access::of(access),
             mode: Mode::of(value / 2 % 8),
-            bcd: is_bit_set(value, 0),
+            bcd: has(value, 0),
         }
     }
 }

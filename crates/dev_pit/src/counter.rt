@@ -2,9 +2,9 @@
 ghost use Rattle.std.specs.Prelude.{◌≡◌, ℕ, ◌<◌, ◌≤◌, ◌+◌, ◌*◌, ◌/◌, ◌%◌, ◌^◌, IsTrue, ◌↔◌};
 ghost use Rattle.dev_pit.specs.Count.{down as down_of, square as square_of};
 
-use crate::limits::LAST_MOMENT;
 use crate::mode::{Access, Mode};
 use crate::ticks::{period, ticks};
+use dev_base::LAST_MOMENT;
 
 /// The registers of a counter ("Counter" in "Internal Block Diagram of a Counter").
 ///

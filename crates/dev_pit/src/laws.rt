@@ -1,5 +1,5 @@
 // Laws of the definitions, each stated by a function without a body.
-ghost use Rattle.dev_pit.specs.Laws.{TicksGoOn, EdgeInParts, EdgeTurnsHigh, CountingGoesOn, TerminalCountStays, LatchStays, SoundStays, SavedIsRestored, SavedIsNormal, RestoredIsSound};
+ghost use Rattle.dev_pit.specs.Laws.{TicksGoOn, EdgeInParts, EdgeTurnsHigh, CountingGoesOn, TerminalCountStays, LatchStays, SoundStays, StepsKeepLevel, SoundMeetsRules, SavedAreCells, SavedIsRestored, RestoredIsSound};
 
 /// Ticks never go back.
 #[tactic(auto, using(crate::proofs::Edges::ticks_go_on))]
@@ -44,18 +44,33 @@ pub fn sound_law()
     ensures { SoundStays }
 {}
 
+/// No call changes the level.
+#[tactic(auto, using(crate::proofs::SoundLaws::steps_keep_level))]
+pub fn level_law()
+    ensures { StepsKeepLevel }
+{}
+
+/// A chip is sound exactly where its cells in the newest set are normal and break no rule.
+#[tactic(auto, using(crate::proofs::SavedLaw::sound_meets_rules))]
+pub fn rules_law()
+    ensures { SoundMeetsRules }
+{}
+
+/// What a sound chip saves are as many cells as the set has, each in its kind's range, and an absent one at its
+/// default.
+#[tactic(auto, using(crate::proofs::SavedLaw::saved_are_cells))]
+pub fn cells_law()
+    ensures { SavedAreCells }
+{}
+
 /// What was saved of a sound chip, under any set from its level on, is restored as an equal chip.
 #[tactic(auto, using(crate::proofs::SavedLaw::saved_is_restored))]
 pub fn saved_law()
     ensures { SavedIsRestored }
 {}
 
-/// What was saved of a sound chip may be restored: its cells are normal in the newest set.
-pub fn saved_range_law()
-    ensures { SavedIsNormal }
-{}
-
-/// What is restored is sound.
+/// What is restored is sound and has the level of the restore.
+#[tactic(auto, using(crate::proofs::RestoredLaw::restored_is_sound))]
 pub fn restored_law()
     ensures { RestoredIsSound }
 {}

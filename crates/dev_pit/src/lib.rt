@@ -12,16 +12,14 @@ mod counter;
 mod laws;
 mod limits;
 mod mode;
-mod normal;
 mod pit;
 mod saved;
 mod ticks;
 
 pub use laws::{
-    counting_law, edge_parts_law, edge_turns_high_law, latch_law, restored_law, saved_law,
-    saved_range_law, sound_law, terminal_count_law, ticks_law,
+    cells_law, counting_law, edge_parts_law, edge_turns_high_law, latch_law, level_law,
+    restored_law, rules_law, saved_law, sound_law, terminal_count_law, ticks_law,
 };
-pub use limits::{CELLS, LAST_MOMENT, NEWEST_LEVEL, NEWEST_SET, READ_BACK_LEVEL, STATUS_SET};
 pub use pit::Pit;
 
 #[cfg(test)]

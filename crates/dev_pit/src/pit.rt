@@ -3,7 +3,14 @@ ghost use Rattle.std.specs.Prelude.{◌≡◌, ℕ, ◌<◌, ◌≤◌, IsTrue, 
 
 use crate::control::ControlWord;
 use crate::counter::Counter;
-use crate::limits::{LAST_MOMENT, NEWEST_LEVEL, READ_BACK_LEVEL};
+use crate::limits::READ_BACK_LEVEL;
+use dev_base::LAST_MOMENT;
+
+/// The port of counter 0; those of the others follow.
+const COUNTER_PORT: u16 = 0x40;
+
+/// The port of control words.
+const CONTROL_PORT: u16 = 0x43;
 
 /// The timer chip: an 8253 at level 1, an 8254 from level 2 on.
 ///
@@ -12,15 +19,15 @@ use crate::limits::{LAST_MOMENT, NEWEST_LEVEL, READ_BACK_LEVEL};
 #[derive(Clone, Copy, Debug, PartialEq, Eq)]
 pub struct Pit {
     pub(crate) level: u8,
-    pub(crate) counter0: Counter,
-    pub(crate) counter1: Counter,
-    pub(crate) counter2: Counter,
+    pub(crate) counters: [Counter; 3],
 }
 
 impl Pit {
-    ghost use Rattle.dev_pit.specs.Pit.{level_of, IsLevel, IsPort, IsLoadedBy, new_pit, pit_read, pit_written, controlled, pit_out, pit_edge};
+    ghost use Rattle.dev_pit.specs.Control.{IsWord};
+    ghost use Rattle.dev_pit.specs.Pit.{IsPort, IsLoadedBy, new_pit, pit_read, pit_written, asked_back, controlled, pit_out, pit_edge};
+    ghost use Rattle.dev_base.specs.Levels.{IsLevel};
 
-    /// The chip at power on, at a level from 1 to `NEWEST_LEVEL`: no counter is loaded, each is in mode 0
+    /// The chip at power on, at a level from 1 to 4: no counter is loaded, each is in mode 0
     /// and reads and writes counts of two bytes.
     #[tactic(auto, unfolding(crate::specs::Pit::new_pit, crate::specs::Counter::powered_on))]
     pub fn new(level: u8) -> Pit
@@ -30,24 +37,8 @@ impl Pit {
     {
         Pit {
             level,
-            counter0: Counter::new(),
-            counter1: Counter::new(),
-            counter2: Counter::new(),
+            counters: [Counter::new(); 3],
         }
-    }
-
-    /// Tells whether the chip has this level.
-    pub fn is_level(level: u8) -> bool
-        ensures { IsTrue result ↔ IsLevel level }
-    {
-        1 <= level && level <= NEWEST_LEVEL
-    }
-
-    /// The level of the chip, from 1 to `NEWEST_LEVEL`.
-    pub fn level(&self) -> u8
-        ensures { result ≡ level_of self.now }
-    {
-        self.level
     }
 
     /// Tells whether a port is one of the chip's: 0x40 to 0x42 for the counters, 0x43 for control words.
@@ -61,9 +52,9 @@ impl Pit {
     pub fn is_loaded_by(&self, now: u64) -> bool
         ensures { IsTrue result ↔ IsLoadedBy now self.now }
     {
-        self.counter0.is_loaded_by(now)
-            && self.counter1.is_loaded_by(now)
-            && self.counter2.is_loaded_by(now)
+        self.counters[0].is_loaded_by(now)
+            && self.counters[1].is_loaded_by(now)
+            && self.counters[2].is_loaded_by(now)
     }
 
     /// Reads a byte from the port of a counter, 0 to 2 ("Read Operations" in the data sheet of the 8254):
@@ -74,14 +65,9 @@ impl Pit {
         requires moment { now ≤ LAST_MOMENT }
         requires loaded { IsLoadedBy now self.old }
         ensures step { (result, self.new) ≡ pit_read counter now self.old }
-        ensures level { level_of self.new ≡ level_of self.old }
         ensures keeps { (later : ℕ) → now ≤ later → IsLoadedBy later self.new }
     {
-        match counter {
-            0 => self.counter0.read(now),
-            1 => self.counter1.read(now),
-            _ => self.counter2.read(now),
-        }
+        self.counters[counter as usize].read(now)
     }
 
     /// Writes to a port ("Write Operations"): a byte of a count to the port of a counter, or a control
@@ -92,14 +78,12 @@ impl Pit {
         requires moment { now ≤ LAST_MOMENT }
         requires loaded { IsLoadedBy now self.old }
         ensures step { self.new ≡ pit_written port value now self.old }
-        ensures level { level_of self.new ≡ level_of self.old }
         ensures keeps { (later : ℕ) → now ≤ later → IsLoadedBy later self.new }
     {
-        match port {
-            0x40 => self.counter0.write(value, now),
-            0x41 => self.counter1.write(value, now),
-            0x42 => self.counter2.write(value, now),
-            _ => self.control(ControlWord::of(value), now),
+        if port == CONTROL_PORT {
+            self.control(ControlWord::of(value), now);
+        } else {
+            self.counters[(port - COUNTER_PORT) as usize].write(value, now);
         }
     }
 
@@ -111,11 +95,7 @@ impl Pit {
         requires loaded { IsLoadedBy now self.now }
         ensures { result ≡ pit_out counter now self.now }
     {
-        match counter {
-            0 => self.counter0.out(now),
-            1 => self.counter1.out(now),
-            _ => self.counter2.out(now),
-        }
+        self.counters[counter as usize].out(now)
     }
 
     /// Tells whether OUT of a counter, 0 to 2, has a rising edge after `from` and not after `to`; an edge
@@ -128,35 +108,37 @@ impl Pit {
         requires loaded { IsLoadedBy from self.now }
         ensures { result ≡ pit_edge counter from to self.now }
     {
-        match counter {
-            0 => self.counter0.edge(from, to),
-            1 => self.counter1.edge(from, to),
-            _ => self.counter2.edge(from, to),
-        }
+        self.counters[counter as usize].edge(from, to)
     }
 
-    /// Does what a control word asks for.
-    #[tactic(auto, unfolding(crate::specs::Pit::controlled))]
-    fn control(&mut self, word: ControlWord, now: u64)
+    // The read-back command at one counter, which may be chosen.
+    #[tactic(auto, unfolding(crate::specs::Pit::asked_back))]
+    fn ask_back(&mut self, count: bool, status: bool, chosen: bool, k: usize, now: u64)
+        requires counter { k < 3 }
         requires moment { now ≤ LAST_MOMENT }
         requires loaded { IsLoadedBy now self.old }
-        ensures step { self.new ≡ controlled word now self.old }
-        ensures level { level_of self.new ≡ level_of self.old }
+        ensures step { self.new ≡ asked_back count status chosen k now self.old }
+        ensures keeps { IsLoadedBy now self.new }
+    {
+        self.counters[k].read_back(count && chosen, status && chosen, now);
+    }
+
+    // Does what a control word asks for.
+    #[tactic(auto, unfolding(crate::specs::Pit::controlled))]
+    fn control(&mut self, word: ControlWord, now: u64)
+        requires word { IsWord word }
+        requires moment { now ≤ LAST_MOMENT }
+        requires loaded { IsLoadedBy now self.old }
+        ensures { self.new ≡ controlled word now self.old }
     {
         match word {
-            ControlWord::LatchCount { counter: 0 } => self.counter0.latch_count(now),
-            ControlWord::LatchCount { counter: 1 } => self.counter1.latch_count(now),
-            ControlWord::LatchCount { .. } => self.counter2.latch_count(now),
+            ControlWord::LatchCount { counter } => self.counters[counter as usize].latch_count(now),
             ControlWord::SetMode {
                 counter,
                 access,
                 mode,
                 bcd,
-            } => match counter {
-                0 => self.counter0.set_mode(access, mode, bcd),
-                1 => self.counter1.set_mode(access, mode, bcd),
-                _ => self.counter2.set_mode(access, mode, bcd),
-            },
+            } => self.counters[counter as usize].set_mode(access, mode, bcd),
             ControlWord::ReadBack {
                 count,
                 status,
@@ -165,12 +147,9 @@ impl Pit {
                 counter2,
             } => {
                 if self.level >= READ_BACK_LEVEL {
-                    self.counter0
-                        .read_back(count && counter0, status && counter0, now);
-                    self.counter1
-                        .read_back(count && counter1, status && counter1, now);
-                    self.counter2
-                        .read_back(count && counter2, status && counter2, now);
+                    self.ask_back(count, status, counter0, 0, now);
+                    self.ask_back(count, status, counter1, 1, now);
+                    self.ask_back(count, status, counter2, 2, now);
                 }
             }
         }

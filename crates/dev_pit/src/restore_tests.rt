@@ -1,19 +1,21 @@
 // What the chip's stored closures save, restore and refuse.
-use super::{LAST_MOMENT, NEWEST_SET, Pit};
-use std::process::Abort;
-use std::test::Fail;
-use vms_hooks::{HookFault, Pass, load_by, save_by};
-use vms_kinds::DevCells;
+ghost use Rattle.std.specs.Prelude.{◌≡◌, ◌<◌, length, IsTrue, false};
+ghost use Rattle.dev_base.specs.Cells.{number_at, flag_at};
+ghost use Rattle.dev_pit.specs.Cells.{kinds_of, HasDefault, IsPitCells};
 
-/// The cells of a chip under a set, made by stored closures.
+use super::Pit;
+use dev_base::{LAST_MOMENT, NEWEST, are_of, hook_result, is_level};
+use std::process::Abort;
+use vms_hooks::{HookFault, Pass, load_by, save_by};
+use vms_kinds::{DevCells, Kind};
+
+/// The cells of a chip of a level under a set, made by stored closures.
 fn saved(rt: &impl Abort, pit: &Pit, set: u8, now: u64) -> DevCells {
-    let level = pit.level();
-    assert!(rt; Pit::is_level(level) && level <= set && set <= NEWEST_SET && now <= LAST_MOMENT);
+    let level = pit.level;
+    assert!(rt; is_level(level) && level <= set && set <= NEWEST && now <= LAST_MOMENT);
     save_by(
         |pass: &Pass, device: &Pit| device.cells(pass),
-        |pass: &Pass, cells: &DevCells| Pit::of_cells(pass, cells).map_err(|rule| HookFault {
-            rule,
-        }),
+        |pass: &Pass, cells: &DevCells| hook_result(Pit::of_cells(pass, cells)),
         level,
         set,
         now,
@@ -21,16 +23,60 @@ fn saved(rt: &impl Abort, pit: &Pit, set: u8, now: u64) -> DevCells {
     )
 }
 
+/// The kinds of the cells of the newest set.
+fn kinds() -> [Kind; 39]
+    ensures { result ≡ kinds_of 4 }
+{
+    let (byte, word, moment, flag) = (Kind::U8, Kind::U16, Kind::U64, Kind::Bool);
+    [
+        word, byte, byte, flag, flag, moment, flag, flag, byte, flag, word, word, byte, byte, flag,
+        flag, moment, flag, flag, byte, flag, word, word, byte, byte, flag, flag, moment, flag,
+        flag, byte, flag, word, flag, flag, flag, byte, byte, byte,
+    ]
+}
+
+// Tells whether a flag is set or the number that it guards is 0.
+fn is_default(cells: &[i128], flag: usize, place: usize) -> bool
+    requires flag { flag < length cells.now }
+    requires place { place < length cells.now }
+    ensures { IsTrue result → flag_at cells.now flag ≡ false → number_at cells.now place ≡ 0 }
+{
+    cells[flag] == 1 || cells[place] == 0
+}
+
+// Tells whether the number at a place of each channel is 0 where its flag is clear.
+fn has_default(cells: &[i128], flag: usize, place: usize) -> bool
+    requires count { length cells.now ≡ 39 }
+    requires flag { flag < 11 }
+    requires place { place < 11 }
+    ensures { IsTrue result → HasDefault flag place cells.now }
+{
+    for k in 0..3 {
+        if !is_default(cells, 11 * k + flag, 11 * k + place) {
+            return false;
+        }
+    }
+    true
+}
+
+/// Tells whether cells are normal for the chip in the newest set.
+fn are_normal(cells: &DevCells) -> bool
+    ensures { IsTrue result → IsPitCells cells.now.items }
+{
+    if !are_of(&kinds(), cells) {
+        return false;
+    }
+    has_default(cells, 7, 8) && has_default(cells, 9, 10)
+}
+
 /// The chip of cells of the newest set, or the first rule that fails, made by stored closures.
 fn restored(rt: &impl Abort, cells: &DevCells, level: u8, now: u64) -> Result<Pit, HookFault> {
-    assert!(rt; Pit::is_level(level) && now <= LAST_MOMENT && Pit::are_normal(cells));
+    assert!(rt; is_level(level) && now <= LAST_MOMENT && are_normal(cells));
     load_by(
         |pass: &Pass, device: &Pit| device.cells(pass),
-        |pass: &Pass, cells: &DevCells| Pit::of_cells(pass, cells).map_err(|rule| HookFault {
-            rule,
-        }),
+        |pass: &Pass, cells: &DevCells| hook_result(Pit::of_cells(pass, cells)),
         level,
-        NEWEST_SET,
+        NEWEST,
         now,
         cells,
     )
@@ -57,9 +103,10 @@ fn changed(changes: Changes) -> DevCells {
 
 #[test]
 fn answers_the_first_rule_that_fails(rt: HostRuntime) {
-    let rows: [(u8, Changes, Option<u8>); 22] = [
+    let rows: [(u8, Changes, Option<u8>); 23] = [
         (1, &[], None),
         (3, &[], None),
+        (4, &[], None),
         // 1: mode is at most 5, rw is 1 to 3
         (2, &[(1, 5)], None),
         (2, &[(1, 6)], Some(1)),
@@ -107,16 +154,16 @@ fn knows_normal_cells(rt: HostRuntime) {
         (&[(31, 1), (32, 1)], true),
     ];
     for (changes, normal) in rows {
-        assert_eq!(rt; Pit::are_normal(&changed(changes)), normal);
+        assert_eq!(rt; are_normal(&changed(changes)), normal);
     }
     let mut more = changed(&[]);
     let _fits = more.try_push(0);
-    assert!(rt; !Pit::are_normal(&more));
+    assert!(rt; !are_normal(&more));
 }
 
 /// A chip in the middle of a read, of a reload and of a latch, with a status where the level has one.
 fn busy(rt: &impl Abort, level: u8) -> Pit {
-    assert!(rt; Pit::is_level(level));
+    assert!(rt; is_level(level));
     let mut pit = Pit::new(level);
     for (now, port, value) in [
         (5u64, 0x43u16, 0x34u8),
@@ -149,6 +196,7 @@ fn saves_each_field_at_its_place(rt: HostRuntime) {
         (1, 2, Some([0i128, 0, 0, 0, 0, 0])),
         (2, 2, Some([0, 0, 1, 0, 0, 0x96])),
         (3, 3, Some([0, 0, 1, 0, 0, 0x96])),
+        (4, 4, Some([0, 0, 1, 0, 0, 0x96])),
     ] {
         let mut expected = DevCells::new();
         let _fits = expected.try_extend_from_slice(&channels);
@@ -162,7 +210,16 @@ fn saves_each_field_at_its_place(rt: HostRuntime) {
 
 #[test]
 fn restores_what_was_saved(rt: HostRuntime) {
-    for (level, set) in [(1u8, 1u8), (1, 2), (1, 3), (2, 2), (2, 3), (3, 3)] {
+    for (level, set) in [
+        (1u8, 1u8),
+        (1, 2),
+        (1, 3),
+        (2, 2),
+        (2, 3),
+        (3, 3),
+        (1, 4),
+        (4, 4),
+    ] {
         let pit = busy(&rt, level);
         let mut cells = saved(&rt, &pit, set, 600_007);
         if set == 1 {

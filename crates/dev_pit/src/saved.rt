@@ -4,6 +4,7 @@ ghost use Rattle.std.specs.Prelude.{◌≡◌, ◌≤◌, length, IfErr};
 use crate::channel::Channel;
 use crate::limits::CELLS;
 use crate::pit::Pit;
+use dev_base::first_failing;
 use vms_hooks::{Hooked, Pass};
 use vms_kinds::DevCells;
 
@@ -33,9 +34,9 @@ impl Pit {
     {
         Channel::cells_of(
             pass.set(),
-            &Channel::of(&self.counter0),
-            &Channel::of(&self.counter1),
-            &Channel::of(&self.counter2),
+            &Channel::of(&self.counters[0]),
+            &Channel::of(&self.counters[1]),
+            &Channel::of(&self.counters[2]),
         )
     }
 
@@ -46,7 +47,7 @@ impl Pit {
     /// 2. The load time is at most now, and is 0 where the counter isn't loaded.
     /// 3. A status that isn't latched is 0, and an 8253 has none latched.
     /// 4. Only a counter of RW 3 is between the two bytes of a read or of a write.
-    #[tactic(auto, unfolding(crate::specs::Saved::restored_pit, crate::specs::Saved::pit_of))]
+    #[tactic(auto, unfolding(dev_base::specs::Rules::judged_by, crate::specs::Saved::pit_of))]
     pub fn of_cells(pass: &Pass, cells: &DevCells) -> Result<Pit, u8>
         requires { CanRestore pass.now cells.now.items }
         ensures restored { result ≡ restored_pit pass.now.level pass.now.moment cells.now.items }
@@ -57,23 +58,18 @@ impl Pit {
         let first = Channel::at(cells, 0);
         let second = Channel::at(cells, 1);
         let third = Channel::at(cells, 2);
-        if !(first.has_registers() && second.has_registers() && third.has_registers()) {
-            return Err(1);
+        let rules = [
+            first.has_registers() && second.has_registers() && third.has_registers(),
+            first.has_moment(now) && second.has_moment(now) && third.has_moment(now),
+            first.has_status(level) && second.has_status(level) && third.has_status(level),
+            first.has_toggles() && second.has_toggles() && third.has_toggles(),
+        ];
+        match first_failing(&rules) {
+            None => Ok(Pit {
+                level,
+                counters: [first.counter(), second.counter(), third.counter()],
+            }),
+            Some(rule) => Err(rule),
         }
-        if !(first.has_moment(now) && second.has_moment(now) && third.has_moment(now)) {
-            return Err(2);
-        }
-        if !(first.has_status(level) && second.has_status(level) && third.has_status(level)) {
-            return Err(3);
-        }
-        if !(first.has_toggles() && second.has_toggles() && third.has_toggles()) {
-            return Err(4);
-        }
-        Ok(Pit {
-            level,
-            counter0: first.counter(),
-            counter1: second.counter(),
-            counter2: third.counter(),
-        })
     }
 }

@@ -1,5 +1,6 @@
 // What a guest sees of the chip, and what is refused at a restore.
-use super::{LAST_MOMENT, Pit};
+use super::Pit;
+use dev_base::{LAST_MOMENT, is_level};
 use std::process::Abort;
 
 /// A call on a chip, with what it must answer.
@@ -17,7 +18,7 @@ enum Call {
 
 /// Makes calls, each at a moment, on a new chip.
 fn play(rt: &impl Abort, level: u8, calls: &[(u64, Call)]) {
-    assert!(rt; Pit::is_level(level));
+    assert!(rt; is_level(level));
     let mut pit = Pit::new(level);
     for &(now, call) in calls {
         assert!(rt; now <= LAST_MOMENT);
@@ -260,7 +261,7 @@ fn shows(rt: &impl Abort, level: u8, counter: u8, row: &Shown) {
 
 #[test]
 fn shows_every_mode_on_every_counter(rt: HostRuntime) {
-    for level in [1, 2, 3] {
+    for level in [1, 2, 3, 4] {
         for counter in [0, 1, 2] {
             for row in &SHOWN {
                 shows(&rt, level, counter, row);

@@ -1,14 +1,16 @@
 -- Ports that are alike answer each call alike.
-use Rattle.std.proofs.Common.{◌≡◌, ℕ, ◌==◌, Bool, true, false, not, ◌&&◌, cond, Option, refl, sym, ap, subst}
+use Rattle.std.proofs.Common.{◌≡◌, ℕ, ℤ, ◌==◌, Bool, true, false, not, ◌&&◌, cond, Option, Some, None, refl, sym, ap, subst, ◌∙◌}
 use Rattle.std.proofs.lemmas.Bool.{false≢true}
 use Rattle.std.specs.Prelude.{bit_and, nat_le}
-use Rattle.dev_serial.specs.Access.{is_empty, iir_of, read_of, id_read, lsr_of, thr_written, ier_written, fcr_written, receiver_cleared, transmitter_cleared, written, came_in, advanced}
+use Rattle.dev_serial.specs.Access.{is_empty, iir_of, read_of, id_read, lsr_of, thr_written, ier_written, switch_of, fcr_cleared, fcr_written, receiver_cleared, transmitter_cleared, written, came_in, advanced}
 use Rattle.dev_serial.specs.Bits.{has}
 use Rattle.dev_serial.specs.Line.{character_time}
 use Rattle.dev_serial.specs.Transmit.{run_until}
-use Rattle.dev_serial.specs.Laws.{AnswersAlike, ReadsAlike, WritesAlike, BytesInAlike, AdvancesAlike, LinesAlike}
-use Rattle.dev_serial.specs.Port.{Port, is_data_ready, has_come, interrupt, is_thr_empty, line_of}
+use Rattle.dev_serial.specs.Laws.{AlikeItself, AlikeBack, AlikeOn, AnswersAlike, ReadsAlike, WritesAlike, BytesInAlike, AdvancesAlike, SavesAlike, LinesAlike}
+use Rattle.dev_serial.specs.Port.{Port, is_data_ready, has_come, interrupt, id_number, is_thr_empty, line_of}
+use Rattle.dev_serial.specs.PortNumbers.{saved, ipending_of}
 use Rattle.dev_serial.specs.Sound.{Alike}
+use Rattle.dev_serial.specs.declared.interrupt.Interrupt.{Interrupt}
 use Rattle.dev_serial.specs.declared.trigger.Trigger.{Trigger}
 use Rattle.dev_serial.proofs.TruthTables.{identified}
 
@@ -20,6 +22,10 @@ both P false x x' y y' p q = q
 same_identified : (status ready timeout enabled first second : Bool) → (enabled ≡ true → second ≡ first) → identified status ready timeout enabled second ≡ identified status ready timeout enabled first
 same_identified status ready timeout true first second h = rw (h refl)
 same_identified status ready timeout false first second h = refl
+
+same_ipending : (enabled identified first second : Bool) → (enabled ≡ true → second ≡ first) → ipending_of enabled second identified ≡ ipending_of enabled first identified
+same_ipending true identified first second h = rw (h refl) refl
+same_ipending false identified first second h = refl
 
 sampled : (was is empty first second : Bool) → (was ≡ true → second ≡ first) → is ≡ true → cond (not was && is) empty second ≡ cond (not was && is) empty first
 sampled true is empty first second h e = h refl
@@ -48,6 +54,13 @@ module _ (port : Port) (latch : Bool) (h : has port.ier 1 ≡ true → latch ≡
     value = refl;
     alike = record { same = refl; enabled = λ e. ap (λ (b : Bool). cond (is_thr_empty (interrupt now port)) false b) (h e) };
   })
+
+  same_saved : (set now : ℕ) → saved set now other ≡ saved set now port
+  unfolding saved lsr_of
+  same_saved set now =
+      let identified = is_thr_empty (interrupt now port) in
+      ap (λ (i : Interrupt). record (saved set now port) { iir = id_number i; thr_ipending = ipending_of (has port.ier 1) latch (is_thr_empty i) }) (same_interrupt now)
+      ∙ ap (λ (z : ℤ). record (saved set now port) { thr_ipending = z }) (same_ipending (has port.ier 1) identified port.thr_empty latch h)
 
   -- an answer that is the same, with the port as it was
   kept : (answer : ℕ) → AnswersAlike (answer, port) (answer, other)
@@ -78,9 +91,16 @@ module _ (port : Port) (latch : Bool) (h : has port.ier 1 ≡ true → latch ≡
   cleared-alike false true fifos = record { same = refl; enabled = h }
   cleared-alike false false fifos = record { same = refl; enabled = h }
 
+  switched-alike : (value : ℕ) (before after : Option Trigger) → Alike (record (fcr_cleared before after value port) { fifos = after }) (record (fcr_cleared before after value other) { fifos = after })
+  unfolding fcr_cleared
+  switched-alike value None None = cleared-alike false false None
+  switched-alike value None (Some trigger) = cleared-alike true true (Some trigger)
+  switched-alike value (Some before) None = cleared-alike true true None
+  switched-alike value (Some before) (Some after) = cleared-alike (has value 2) (has value 1) (Some after)
+
   fcr-alike : (value : ℕ) → Alike (fcr_written value port) (fcr_written value other)
   unfolding fcr_written
-  fcr-alike value = cleared-alike _ _ _
+  fcr-alike value = switched-alike value port.fifos (switch_of value)
 
   write-alike : (offset value now : ℕ) → Alike (written offset value now port) (written offset value now other)
   unfolding written
@@ -120,6 +140,25 @@ pub advances_alike : AdvancesAlike
 advances_alike to port other a =
     subst (λ (p : Port). AnswersAlike (advanced to port) (advanced to p)) (sym a.same) (advance-alike port other.thr_empty a.enabled to)
 
+pub saves_alike : SavesAlike
+saves_alike set now port other a =
+    subst (λ (p : Port). saved set now p ≡ saved set now port) (sym a.same) (same_saved port other.thr_empty a.enabled set now)
+
 pub lines_alike : LinesAlike
 lines_alike now port other a =
     subst (λ (p : Port). line_of now p ≡ line_of now port) (sym a.same) (same_line port other.thr_empty a.enabled now)
+
+-- to be alike is an equivalence
+pub alike_itself : AlikeItself
+alike_itself port = record { same = refl; enabled = λ e. refl }
+
+pub alike_back : AlikeBack
+alike_back port other a =
+    let enabled : has other.ier 1 ≡ true → port.thr_empty ≡ other.thr_empty = (λ e. sym (a.enabled (ap (λ (p : Port). has p.ier 1) (sym a.same) ∙ e))) in
+    record { same = ap (λ (p : Port). record p { thr_empty = port.thr_empty }) (sym a.same); enabled = enabled }
+
+pub alike_on : AlikeOn
+alike_on port other third a b = record {
+  same = b.same ∙ ap (λ (p : Port). record p { thr_empty = third.thr_empty }) a.same;
+  enabled = λ e. b.enabled (ap (λ (p : Port). has p.ier 1) a.same ∙ e) ∙ a.enabled e;
+}

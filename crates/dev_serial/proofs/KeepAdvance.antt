@@ -4,13 +4,13 @@ use Rattle.std.proofs.lemmas.Bool.{false≢true, leb-true, leb-false, cond_both,
 use Rattle.std.specs.Prelude.{nat_le, is_some}
 use Rattle.dev_serial.specs.Access.{is_empty}
 use Rattle.dev_serial.specs.Parts.{ReceiverState, TransmitterState, IsShort}
-use Rattle.dev_serial.specs.Rules.{longest_character}
 use Rattle.dev_serial.specs.Sound.{AreBytes, IsReceiver, IsShift, IsTransmitter}
 use Rattle.dev_serial.specs.Transmit.{timetable, departures, gone, staying, holding, arrived, run_until, gone_by}
 use Rattle.dev_serial.specs.declared.shift.Shift.{Shift}
 use Rattle.dev_serial.proofs.SendLemmas.{bytes_of-timetable}
 use Rattle.dev_serial.proofs.Timetables.{fewer}
 use Rattle.dev_serial.proofs.KeepParts.{mode_at, received-sound, later-timeout}
+use Rattle.dev_serial.specs.declared.mode.TheConstants.{LONGEST_CHARACTER}
 
 -- what a transmitter holds after a moment
 record HoldsSound (to : ℕ) (transmitter : TransmitterState) : Type 0 where
@@ -18,7 +18,7 @@ record HoldsSound (to : ℕ) (transmitter : TransmitterState) : Type 0 where
   bytes : AreBytes transmitter.waiting
   idle : is_some transmitter.shift ≡ false → is_empty transmitter.waiting ≡ true
 
-holding-sound : (character to due : ℕ) (bytes : List ℕ) → character ≤ longest_character → due ≤ to + longest_character → AreBytes bytes → HoldsSound to (holding (staying to (timetable character due bytes)))
+holding-sound : (character to due : ℕ) (bytes : List ℕ) → character ≤ LONGEST_CHARACTER → due ≤ to + LONGEST_CHARACTER → AreBytes bytes → HoldsSound to (holding (staying to (timetable character due bytes)))
 unfolding timetable staying holding
 holding-sound character to due [] q h b = record { shift = tt; bytes = tt; idle = λ _. refl }
 holding-sound character to due (byte ∷ bytes) q h b =
@@ -30,7 +30,7 @@ holding-sound character to due (byte ∷ bytes) q h b =
       idle = λ n. absurd (false≢true (sym n));
     })
 
-run-sound : (character now to : ℕ) (shift : Option Shift) (waiting : List ℕ) → character ≤ longest_character → now ≤ to → IsShift now shift → AreBytes waiting → (is_some shift ≡ false → is_empty waiting ≡ true) → HoldsSound to (run_until character to shift waiting)
+run-sound : (character now to : ℕ) (shift : Option Shift) (waiting : List ℕ) → character ≤ LONGEST_CHARACTER → now ≤ to → IsShift now shift → AreBytes waiting → (is_some shift ≡ false → is_empty waiting ≡ true) → HoldsSound to (run_until character to shift waiting)
 unfolding run_until departures
 run-sound character now to None waiting q l s b i = record { shift = tt; bytes = b; idle = i }
 run-sound character now to (Some shift) waiting q l s b i =
@@ -46,7 +46,7 @@ latched : (end before latch : Bool) → (latch ≡ true → end ≡ true) → co
 latched true before latch h e = refl
 latched false before latch h e = h e
 
-pub advance-transmitter : (character now to : ℕ) (on latch : Bool) (transmitter : TransmitterState) → character ≤ longest_character → now ≤ to → IsTransmitter now on transmitter latch → IsTransmitter to on (run_until character to transmitter.shift transmitter.waiting) (cond (is_empty (run_until character to transmitter.shift transmitter.waiting).waiting && not (is_empty transmitter.waiting)) true latch)
+pub advance-transmitter : (character now to : ℕ) (on latch : Bool) (transmitter : TransmitterState) → character ≤ LONGEST_CHARACTER → now ≤ to → IsTransmitter now on transmitter latch → IsTransmitter to on (run_until character to transmitter.shift transmitter.waiting) (cond (is_empty (run_until character to transmitter.shift transmitter.waiting).waiting && not (is_empty transmitter.waiting)) true latch)
 advance-transmitter character now to on latch transmitter q l s =
     let few = fewer character to transmitter.shift transmitter.waiting in
     let holds = run-sound character now to transmitter.shift transmitter.waiting q l s.shift s.bytes s.idle in
@@ -74,7 +74,7 @@ unfolding departures gone AreGone
 gone_by-are character now to None waiting s b = tt
 gone_by-are character now to (Some shift) waiting s b = gone-are character to shift.due (shift.byte ∷ waiting) (s.byte, b)
 
-arrived-sound : (character to level : ℕ) (on looped : Bool) (shifts : List Shift) (receiver : ReceiverState) → character ≤ longest_character → AreGone to shifts → IsReceiver to level on receiver → IsReceiver to level on (arrived (mode_at character on (nat_le 3 level) looped) shifts receiver)
+arrived-sound : (character to level : ℕ) (on looped : Bool) (shifts : List Shift) (receiver : ReceiverState) → character ≤ LONGEST_CHARACTER → AreGone to shifts → IsReceiver to level on receiver → IsReceiver to level on (arrived (mode_at character on (nat_le 3 level) looped) shifts receiver)
 unfolding arrived AreGone
 arrived-sound character to level on looped [] receiver q g s = s
 arrived-sound character to level on looped (shift ∷ later) receiver q g s =
@@ -83,7 +83,7 @@ arrived-sound character to level on looped (shift ∷ later) receiver q g s =
 later-receiver : (now to level : ℕ) (on : Bool) (receiver : ReceiverState) → now ≤ to → IsReceiver now level on receiver → IsReceiver to level on receiver
 later-receiver now to level on receiver l s = record { short = s.short; bytes = s.bytes; timeout = later-timeout now to _ receiver.timeout l s.timeout }
 
-pub advance-receiver : (character now to level : ℕ) (on looped : Bool) (shift : Option Shift) (waiting : List ℕ) (receiver : ReceiverState) → character ≤ longest_character → now ≤ to → IsShift now shift → AreBytes waiting → IsReceiver now level on receiver → IsReceiver to level on (cond looped (arrived (mode_at character on (nat_le 3 level) looped) (gone_by character to shift waiting) receiver) receiver)
+pub advance-receiver : (character now to level : ℕ) (on looped : Bool) (shift : Option Shift) (waiting : List ℕ) (receiver : ReceiverState) → character ≤ LONGEST_CHARACTER → now ≤ to → IsShift now shift → AreBytes waiting → IsReceiver now level on receiver → IsReceiver to level on (cond looped (arrived (mode_at character on (nat_le 3 level) looped) (gone_by character to shift waiting) receiver) receiver)
 advance-receiver character now to level on true shift waiting receiver q l h b s =
     arrived-sound character to level on true _ receiver q (gone_by-are character now to shift waiting h b) (later-receiver now to level on receiver l s)
 advance-receiver character now to level on false shift waiting receiver q l h b s = later-receiver now to level on receiver l s

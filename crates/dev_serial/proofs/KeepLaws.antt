@@ -1,26 +1,25 @@
 -- Each call keeps a port sound.
-use Rattle.std.proofs.Common.{◌≡◌, ℕ, ◌+◌, ◌*◌, ◌/◌, ◌%◌, ◌<◌, ◌≤◌, ◌==◌, Bool, true, false, not, ◌&&◌, ◌||◌, cond, Option, Some, None, refl, sym, arith, ◌⊎◌, inl, inr}
+use Rattle.std.proofs.Common.{◌≡◌, ℕ, ◌+◌, ◌*◌, ◌/◌, ◌%◌, ◌<◌, ◌≤◌, ◌==◌, Bool, true, false, not, ◌&&◌, cond, Option, Some, None, refl, sym, arith, ◌⊎◌, inl, inr}
 use Rattle.std.proofs.lemmas.Bool.{false≢true, leb-true, cond_both}
 use Rattle.std.proofs.lemmas.Nat.{and_le_r}
 use Rattle.std.specs.Prelude.{bit_and, nat_le, is_some}
-use Rattle.dev_serial.specs.Access.{is_empty, with_taken, read_of, id_read, lsr_read, thr_written, ier_written, fcr_written, receiver_cleared, transmitter_cleared, written, came_in, advanced}
+use Rattle.dev_serial.specs.Access.{is_empty, with_taken, read_of, id_read, lsr_read, thr_written, ier_written, switch_of, fcr_cleared, fcr_written, receiver_cleared, transmitter_cleared, written, came_in, advanced}
 use Rattle.dev_serial.specs.Bits.{has}
-use Rattle.dev_serial.specs.Fifo.{trigger_of}
 use Rattle.dev_serial.specs.Laws.{PowerOnIsSound, ReadsKeepSound, WritesKeepSound, BytesInKeepSound, AdvancesKeepSound}
 use Rattle.dev_serial.specs.Line.{character_time}
 use Rattle.dev_serial.specs.Port.{Port, power_on, mode_of, interrupt, is_thr_empty}
 use Rattle.dev_serial.specs.Receive.{received, taken}
-use Rattle.dev_serial.specs.Rules.{longest_character}
 use Rattle.dev_serial.specs.Sound.{IsSound, HasRegisters}
 use Rattle.dev_serial.specs.declared.trigger.Trigger.{Trigger}
 use Rattle.dev_serial.proofs.KeepParts.{character-longest, taken-held, received-sound, emptied-sound, thr-sound, latched-sound, cleared-sound}
 use Rattle.dev_serial.proofs.KeepAdvance.{advance-transmitter, advance-receiver}
 use Rattle.dev_serial.proofs.SendingLaws.{character-positive}
+use Rattle.dev_serial.specs.declared.mode.TheConstants.{LONGEST_CHARACTER}
 
 pub power_on_is_sound : PowerOnIsSound
 unfolding power_on
-power_on_is_sound level now first newest = record {
-  registers = record { first = first; newest = newest; divisor_range = omega arith; ier_range = omega arith; lcr_range = omega arith; mcr_range = omega arith; scr_range = omega arith; fifos = λ e. absurd (false≢true e) };
+power_on_is_sound level now is_level = record {
+  registers = record { is_level = is_level; divisor_range = omega arith; ier_range = omega arith; lcr_range = omega arith; mcr_range = omega arith; scr_range = omega arith; fifos = λ e. absurd (false≢true e) };
   receiver = record { short = record { short = omega arith; one = λ _. omega arith }; bytes = tt; timeout = off (nat_le 3 level) };
   transmitter = record { short = record { short = omega arith; one = λ _. omega arith }; bytes = tt; shift = tt; idle = λ _. refl; latched = λ e. absurd (false≢true e) };
 } where
@@ -28,23 +27,16 @@ power_on_is_sound level now first newest = record {
   off true = refl
   off false = refl
 
-either : {A : Type 0} (P : A → Type 0) (b : Bool) (x y : A) → P x → P y → P (cond b x y)
+pub either : {A : Type 0} (P : A → Type 0) (b : Bool) (x y : A) → P x → P y → P (cond b x y)
 either P true x y p q = p
 either P false x y p q = q
-
--- where a list isn't cleared the switch stays as it was
-same_switch : (is_on was_on more : Bool) (trigger : Trigger) → (((is_on && not was_on) || (was_on && not is_on)) || more) ≡ false → is_some (cond is_on (Some trigger) None) ≡ was_on
-same_switch true true more trigger e = refl
-same_switch true false more trigger e = absurd (false≢true (sym e))
-same_switch false true more trigger e = absurd (false≢true (sym e))
-same_switch false false more trigger e = refl
 
 -- an answer whose port is sound
 record Kept (now : ℕ) (answer : ℕ × Port) : Type 0 where
   kept : IsSound now answer.1
 
 module _ (now : ℕ) (port : Port) (sound : IsSound now port) where
-  longest : character_time port.divisor port.lcr ≤ longest_character
+  longest : character_time port.divisor port.lcr ≤ LONGEST_CHARACTER
   longest = character-longest port.divisor port.lcr sound.registers.divisor_range
 
   id-kept : Kept now (id_read now port)
@@ -120,8 +112,7 @@ module _ (now : ℕ) (port : Port) (sound : IsSound now port) where
 
   registers-kept : (divisor ier lcr mcr scr : ℕ) → divisor < 65536 → ier ≤ 15 → lcr < 256 → mcr ≤ 31 → scr < 256 → HasRegisters port.level divisor ier lcr mcr scr (is_some port.fifos)
   registers-kept divisor ier lcr mcr scr a b c d e = record {
-    first = sound.registers.first;
-    newest = sound.registers.newest;
+    is_level = sound.registers.is_level;
     divisor_range = a;
     ier_range = b;
     lcr_range = c;
@@ -171,8 +162,7 @@ module _ (now : ℕ) (port : Port) (sound : IsSound now port) where
 
   switched-registers : (fifos : Option Trigger) → (is_some fifos ≡ true → 2 ≤ port.level) → HasRegisters port.level port.divisor port.ier port.lcr port.mcr port.scr (is_some fifos)
   switched-registers fifos h = let r = sound.registers in record {
-    first = r.first;
-    newest = r.newest;
+    is_level = r.is_level;
     divisor_range = r.divisor_range;
     ier_range = r.ier_range;
     lcr_range = r.lcr_range;
@@ -204,12 +194,16 @@ module _ (now : ℕ) (port : Port) (sound : IsSound now port) where
     transmitter = rw (s refl) (sound.transmitter);
   }
 
+  fcr-kept-at : (value : ℕ) (before after : Option Trigger) → 2 ≤ port.level → port.fifos ≡ before → IsSound now (record (fcr_cleared before after value port) { fifos = after })
+  unfolding fcr_cleared
+  fcr-kept-at value None None h e = switched false false None (λ _. h) (λ _. rw e refl) (λ _. rw e refl)
+  fcr-kept-at value None (Some trigger) h e = switched true true (Some trigger) (λ _. h) (λ f. absurd (false≢true (sym f))) (λ f. absurd (false≢true (sym f)))
+  fcr-kept-at value (Some before) None h e = switched true true None (λ _. h) (λ f. absurd (false≢true (sym f))) (λ f. absurd (false≢true (sym f)))
+  fcr-kept-at value (Some before) (Some after) h e = switched (has value 2) (has value 1) (Some after) (λ _. h) (λ _. rw e refl) (λ _. rw e refl)
+
   fcr-kept : (value : ℕ) → 2 ≤ port.level → IsSound now (fcr_written value port)
   unfolding fcr_written
-  fcr-kept value h =
-      switched _ _ _ (λ _. h)
-      (same_switch (has value 0) (is_some port.fifos) (has value 0 && has value 2) (trigger_of (value / 64)))
-      (same_switch (has value 0) (is_some port.fifos) (has value 0 && has value 1) (trigger_of (value / 64)))
+  fcr-kept value h = fcr-kept-at value port.fifos (switch_of value) h refl
 
   write-kept : (offset value : ℕ) → value < 256 → IsSound now (written offset value now port)
   unfolding written

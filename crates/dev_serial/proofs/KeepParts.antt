@@ -8,12 +8,16 @@ use Rattle.dev_serial.specs.Bits.{has, bits_where}
 use Rattle.dev_serial.specs.Line.{character_time, character_bits}
 use Rattle.dev_serial.specs.Parts.{ReceiverState, TransmitterState, IsShort}
 use Rattle.dev_serial.specs.Receive.{received, taken_at, emptied}
-use Rattle.dev_serial.specs.Rules.{longest_character, longest_timeout}
+use Rattle.dev_serial.specs.Rules.{longest_timeout}
+use Rattle.dev_serial.specs.Sending.{LongestCharacter}
 use Rattle.dev_serial.specs.Sound.{AreBytes, IsTimeout, IsReceiver, IsShift, IsTransmitter}
 use Rattle.dev_serial.specs.Transmit.{queued, loaded}
 use Rattle.dev_serial.specs.declared.mode.Mode.{Mode}
 use Rattle.dev_serial.specs.declared.shift.Shift.{Shift}
-use Rattle.dev_serial.proofs.SavedParts.{not_empty}
+use Rattle.dev_serial.specs.declared.mode.TheConstants.{LONGEST_CHARACTER}
+
+pub not_empty : (byte : ℕ) (bytes : List ℕ) → is_empty (byte ∷ bytes) ≡ false
+not_empty byte bytes = ne_eqb (length (byte ∷ bytes)) 0 (λ e. omega arith)
 
 pub AreBytes-push : (bytes : List ℕ) (byte : ℕ) → AreBytes bytes → byte < 256 → AreBytes (bytes ++ byte ∷ [])
 AreBytes-push [] byte h b = (b, tt)
@@ -30,7 +34,7 @@ bit-one : (b : Bool) → bits_where b 1 ≤ 1
 bit-one true = omega arith
 bit-one false = omega arith
 
-pub character-longest : (divisor lcr : ℕ) → divisor < 65536 → character_time divisor lcr ≤ longest_character
+pub character-longest : (divisor lcr : ℕ) → divisor < 65536 → character_time divisor lcr ≤ LONGEST_CHARACTER
 unfolding character_time
 character-longest divisor lcr h =
     let bits : character_bits lcr ≤ 12 = omega (arith, bit-one (has lcr 3), bit-one (has lcr 2)) in
@@ -38,11 +42,15 @@ character-longest divisor lcr h =
     let product : character_bits lcr * max divisor 1 ≤ 12 * 65535 = mul-le-mul bits most in
     omega arith
 
+pub longest_character : LongestCharacter
+unfolding character_time
+longest_character = record { reached = refl; most = λ divisor lcr h. character-longest divisor lcr h }
+
 -- a moment that a character after now starts anew
 abbrev pub mode_at : ℕ → Bool → Bool → Bool → Mode
 mode_at character on has_timeout looped = record { character = character; has_fifos = on; times_out = has_timeout && on; is_looped = looped }
 
-module _ (now at character byte : ℕ) (looped : Bool) (receiver : ReceiverState) (early : at ≤ now) (quick : character ≤ longest_character) where
+module _ (now at character byte : ℕ) (looped : Bool) (receiver : ReceiverState) (early : at ≤ now) (quick : character ≤ LONGEST_CHARACTER) where
   in_time : at + 4 * character ≤ now + longest_timeout
   in_time = omega arith
 
@@ -84,7 +92,7 @@ module _ (now at character byte : ℕ) (looped : Bool) (receiver : ReceiverState
   }
 
 -- the first byte leaves
-module _ (now at character : ℕ) (looped : Bool) (early : at ≤ now) (quick : character ≤ longest_character) where
+module _ (now at character : ℕ) (looped : Bool) (early : at ≤ now) (quick : character ≤ LONGEST_CHARACTER) where
   taken-timeout : (on has_timeout : Bool) (byte : ℕ) (rest : List ℕ) (timeout : Option ℕ) → IsTimeout now (has_timeout && (on && not (is_empty (byte ∷ rest)))) timeout → IsTimeout now (has_timeout && (on && not (is_empty rest))) (cond (has_timeout && on) (cond (is_empty rest) None (Some (at + 4 * character))) timeout)
   taken-timeout true true byte rest timeout s =
       cond_both (is_empty rest) None (Some (at + 4 * character)) (λ (t : Option ℕ). IsTimeout now (not (is_empty rest)) t)
@@ -140,7 +148,7 @@ none-waits : (waiting : List ℕ) → is_empty waiting ≡ true → waiting ≡ 
 none-waits [] e = refl
 none-waits (byte ∷ waiting) e = absurd (false≢true (sym (not_empty byte waiting) ∙ e))
 
-loaded-sound : (now due : ℕ) (on : Bool) (shift : Option Shift) (waiting : List ℕ) → now < due → due ≤ now + longest_character → IsShort on waiting → AreBytes waiting → IsShift now shift → IsTransmitter now on (loaded due shift waiting) (is_empty (loaded due shift waiting).waiting)
+loaded-sound : (now due : ℕ) (on : Bool) (shift : Option Shift) (waiting : List ℕ) → now < due → due ≤ now + LONGEST_CHARACTER → IsShort on waiting → AreBytes waiting → IsShift now shift → IsTransmitter now on (loaded due shift waiting) (is_empty (loaded due shift waiting).waiting)
 unfolding loaded
 loaded-sound now due on (Some shift) waiting l h s b t = record { short = s; bytes = b; shift = t; idle = λ e. absurd (false≢true (sym e)); latched = λ e. e }
 loaded-sound now due on None [] l h s b t = record { short = s; bytes = b; shift = tt; idle = λ e. refl; latched = λ e. e }
@@ -152,7 +160,7 @@ loaded-sound now due on None (byte ∷ rest) l h s b t = record {
   latched = λ e. e;
 }
 
-pub thr-sound : (now character byte : ℕ) (on latch : Bool) (transmitter : TransmitterState) → 1 ≤ character → character ≤ longest_character → byte < 256 → IsTransmitter now on transmitter latch → IsTransmitter now on (loaded (now + character) transmitter.shift (queued on byte transmitter.waiting)) (is_empty (loaded (now + character) transmitter.shift (queued on byte transmitter.waiting)).waiting)
+pub thr-sound : (now character byte : ℕ) (on latch : Bool) (transmitter : TransmitterState) → 1 ≤ character → character ≤ LONGEST_CHARACTER → byte < 256 → IsTransmitter now on transmitter latch → IsTransmitter now on (loaded (now + character) transmitter.shift (queued on byte transmitter.waiting)) (is_empty (loaded (now + character) transmitter.shift (queued on byte transmitter.waiting)).waiting)
 thr-sound now character byte on latch transmitter p q b s =
     loaded-sound now (now + character) on transmitter.shift (queued on byte transmitter.waiting) (omega arith) (omega arith) (queued-short on byte transmitter.waiting s.short) (queued-bytes on byte transmitter.waiting b s.bytes) s.shift
 

@@ -1,149 +1,107 @@
 -- A port that is restored is sound.
-use Rattle.std.proofs.Common.{◌≡◌, ℕ, suc, ◌+◌, ◌<◌, ◌≤◌, ◌==◌, Bool, true, false, not, ◌||◌, cond, List, ℤ, [], ◌∷◌, length, take, drop, map, pos, negsuc, get_or, Result, Ok, Err, refl, subst, arith}
-use Rattle.std.proofs.lemmas.Bool.{false≢true, leb-true, and_parts, ne_eqb}
-use Rattle.std.proofs.lemmas.List.{length-map, length-take, get_or-take, get_or-drop}
+use Rattle.std.proofs.Common.{◌≡◌, ℕ, ◌+◌, ◌<◌, ◌≤◌, ◌==◌, Bool, true, false, not, ◌||◌, List, ℤ, refl, subst, arith}
+use Rattle.std.proofs.lemmas.Bool.{false≢true, leb-true, and_parts}
 use Rattle.std.specs.Prelude.{is_some, nat_le}
-use Rattle.std.proofs.lemmas.Int.{ints}
-use Rattle.vms_kinds.specs.Codes.{InRange}
-use Rattle.vms_kinds.specs.declared.Kind.TheVariants.{U8, U16}
+use Rattle.dev_base.specs.Cells.{cell_at, number_at}
+use Rattle.dev_base.specs.Levels.{IsLevel}
+use Rattle.dev_base.proofs.CellLaws.{byte-lt, word-lt}
+use Rattle.dev_base.proofs.RuleLaws.{hook-ok}
 use Rattle.dev_serial.specs.Bits.{has}
-use Rattle.dev_serial.specs.Cells.{IsPortCells, IsFifo, kind_at, nat_of, number_at, fifo_at, image_of}
-use Rattle.dev_serial.specs.Image.{Image, port_of, fifos_of}
-use Rattle.dev_serial.specs.Laws.{RestoredIsSound}
-use Rattle.dev_serial.specs.Port.{Port}
-use Rattle.dev_serial.specs.Rules.{registers_hold, fcr_holds, unused_hold, status_holds, shift_holds, timeout_holds, latch_holds, id_holds, restored}
-use Rattle.dev_serial.specs.Saved.{newest_level}
+use Rattle.dev_serial.specs.Cells.{IsPortCells, bytes_at, array_at, ring_at, numbers_of}
+use Rattle.dev_serial.specs.Laws.{IsSoundAt, RestoredIsSound}
+use Rattle.dev_serial.specs.PortNumbers.{port_of, fifos_of, stored_bytes}
+use Rattle.dev_serial.specs.Rules.{registers_hold, fcr_holds, status_holds, shift_holds, timeout_holds, latch_holds, is_unused}
 use Rattle.dev_serial.specs.Sound.{IsSound, HasRegisters, IsReceiver, IsTransmitter, AreBytes}
+use Rattle.dev_serial.specs.declared.numbers.PortNumbers.{PortNumbers}
 use Rattle.dev_serial.proofs.RestoredParts.{is_on, level-on, short, are_bytes, timeout, shift, idle-empty, waiting-empty}
+use Rattle.dev_serial.proofs.RulesHold.{Hold, hold}
+use Rattle.dev_serial.proofs.StoredKinds.{in_arrays, in_rings}
+use Rattle.dev_serial.proofs.StoredLaws.{stored-empty, stored-short, stored-bytes, firsts-bytes}
 
--- the numbers of an image are in their kinds' ranges
-record HasRanges (image : Image) : Type 0 where
-  divisor : image.divisor < 65536
-  lcr : image.lcr < 256
-  scr : image.scr < 256
-  rbr : image.rbr < 256
-  thr : image.thr < 256
-  tsr : image.tsr < 256
-  rx : AreBytes image.rx
-  tx : AreBytes image.tx
-  rx_short : length image.rx ≤ 16
-  tx_short : length image.tx ≤ 16
-
--- every rule holds
-record Hold (level now : ℕ) (image : Image) : Type 0 where
-  registers : registers_hold image ≡ true
-  fcr : fcr_holds level image ≡ true
-  status : status_holds image ≡ true
-  shifts : shift_holds now image ≡ true
-  timeouts : timeout_holds level now image ≡ true
-  latch : latch_holds image ≡ true
-
--- what a chain of eight rules answers
-rules_hold : (port found : Port) (a b c d e f g h : Bool) → cond {A = Result Port ℕ} (not a) (Err 1) (cond (not b) (Err 2) (cond (not c) (Err 3) (cond (not d) (Err 4) (cond (not e) (Err 5) (cond (not f) (Err 6) (cond (not g) (Err 7) (cond (not h) (Err 8) (Ok found)))))))) ≡ Ok port
-    → (a ≡ true) × (b ≡ true) × (d ≡ true) × (e ≡ true) × (f ≡ true) × (g ≡ true) × (found ≡ port)
-rules_hold port found true true true true true true true true q = (refl, refl, refl, refl, refl, refl, cc)
-rules_hold port found false b c d e f g h q = cc
-rules_hold port found true false c d e f g h q = cc
-rules_hold port found true true false d e f g h q = cc
-rules_hold port found true true true false e f g h q = cc
-rules_hold port found true true true true false f g h q = cc
-rules_hold port found true true true true true false g h q = cc
-rules_hold port found true true true true true true false h q = cc
-rules_hold port found true true true true true true true false q = cc
-
-hold : (level now : ℕ) (image : Image) (port : Port) → restored level now image ≡ Ok port → Hold level now image × (port_of level image ≡ port)
-unfolding restored
-hold level now image port e =
-    let r = rules_hold port (port_of level image) (registers_hold image) (fcr_holds level image) (unused_hold image) (status_holds image) (shift_holds now image) (timeout_holds level now image) (latch_holds image) (id_holds level now image) e in
-    (record { registers = r.0; fcr = r.1; status = r.2; shifts = r.3; timeouts = r.4; latch = r.5 }, r.6)
+-- numbers in their kinds' ranges
+record HasRanges (n : PortNumbers) : Type 0 where
+  divisor : n.divisor < 65536
+  lcr : n.lcr < 256
+  scr : n.scr < 256
+  rbr : n.rbr < 256
+  thr : n.thr < 256
+  tsr : n.tsr < 256
+  rx : AreBytes (stored_bytes n.rx n.rx_ring)
+  tx : AreBytes (stored_bytes n.tx n.tx_ring)
 
 implied : (a b : Bool) → (not a || b) ≡ true → a ≡ true → b ≡ true
 implied true b h e = h
 implied false b h e = absurd (false≢true e)
 
-module _ (level now : ℕ) (image : Image) (first : 1 ≤ level) (newest : level ≤ newest_level) (ranges : HasRanges image) (rules : Hold level now image) where
-  registers : HasRegisters level image.divisor image.ier image.lcr image.mcr image.scr (is_some (fifos_of image.fcr))
+module _ (level now : ℕ) (n : PortNumbers) (is_level : IsLevel level) (ranges : HasRanges n) (rules : Hold level now n) where
+  registers : HasRegisters level n.divisor n.ier n.lcr n.mcr n.scr (is_some (fifos_of n.fcr))
   unfolding registers_hold fcr_holds
   registers =
       let low = and_parts _ _ rules.registers in
       let high = and_parts _ _ low.1 in
       record {
-        first = first;
-        newest = newest;
+        is_level = is_level;
         divisor_range = ranges.divisor;
         ier_range = leb-true _ _ low.0;
         lcr_range = ranges.lcr;
         mcr_range = leb-true _ _ high.0;
         scr_range = ranges.scr;
-        fifos = level-on level image.fcr rules.fcr;
+        fifos = level-on level n.fcr rules.fcr;
       }
 
-  receiver : IsReceiver now level (is_some (fifos_of image.fcr)) (port_of level image).receiver
+  receiver : IsReceiver now level (is_some (fifos_of n.fcr)) (port_of level n).receiver
   unfolding port_of timeout_holds
-  receiver = rw (is_on image.fcr) (record {
-    short = short (image.fcr == 0) (has image.lsr 0) image.rbr image.rx ranges.rx_short;
-    bytes = are_bytes (image.fcr == 0) (has image.lsr 0) image.rbr image.rx ranges.rbr ranges.rx;
-    timeout = timeout (nat_le 3 level) (image.fcr == 0) (has image.lsr 0) image.rbr image.rx now image.timeout_at rules.timeouts;
+  receiver = rw (is_on n.fcr) (record {
+    short = short (n.fcr == 0) (has n.lsr 0) n.rbr (stored_bytes n.rx n.rx_ring) (stored-short n.rx n.rx_ring);
+    bytes = are_bytes (n.fcr == 0) (has n.lsr 0) n.rbr (stored_bytes n.rx n.rx_ring) ranges.rbr ranges.rx;
+    timeout = timeout (nat_le 3 level) (n.fcr == 0) (has n.lsr 0) (is_unused n.rx n.rx_ring) n.rbr (stored_bytes n.rx n.rx_ring) now n.timeout_at (stored-empty n.rx n.rx_ring) rules.timeouts;
   })
 
-  transmitter : IsTransmitter now (is_some (fifos_of image.fcr)) (port_of level image).transmitter (port_of level image).thr_empty
+  transmitter : IsTransmitter now (is_some (fifos_of n.fcr)) (port_of level n).transmitter (port_of level n).thr_empty
   unfolding port_of shift_holds status_holds latch_holds
-  transmitter = rw (is_on image.fcr) (record {
-    short = short (image.fcr == 0) (not (has image.lsr 5)) image.thr image.tx ranges.tx_short;
-    bytes = are_bytes (image.fcr == 0) (not (has image.lsr 5)) image.thr image.tx ranges.thr ranges.tx;
-    shift = shift now image.tsr image.tx_due (has image.lsr 5) (has image.lsr 6) rules.shifts ranges.tsr;
-    idle = λ e. waiting-empty (image.fcr == 0) (has image.lsr 0) (has image.lsr 5) image.thr (has image.lsr 0 || (image.rbr == 0)) (not (has image.lsr 5) || (image.thr == 0)) image.rx image.tx rules.status (idle-empty now image.tsr image.tx_due (has image.lsr 5) (has image.lsr 6) rules.shifts e);
-    latched = λ e. waiting-empty (image.fcr == 0) (has image.lsr 0) (has image.lsr 5) image.thr (has image.lsr 0 || (image.rbr == 0)) (not (has image.lsr 5) || (image.thr == 0)) image.rx image.tx rules.status (implied _ _ (and_parts _ _ rules.latch).1 e);
+  transmitter = rw (is_on n.fcr) (record {
+    short = short (n.fcr == 0) (not (has n.lsr 5)) n.thr (stored_bytes n.tx n.tx_ring) (stored-short n.tx n.tx_ring);
+    bytes = are_bytes (n.fcr == 0) (not (has n.lsr 5)) n.thr (stored_bytes n.tx n.tx_ring) ranges.thr ranges.tx;
+    shift = shift now n.tsr n.tx_due (has n.lsr 5) (has n.lsr 6) rules.shifts ranges.tsr;
+    idle = λ e. waiting-empty (n.fcr == 0) (has n.lsr 0) (has n.lsr 5) (is_unused n.tx n.tx_ring) n.thr (has n.lsr 0 || (n.rbr == 0)) (not (has n.lsr 5) || (n.thr == 0)) (not (is_unused n.rx n.rx_ring)) (stored_bytes n.tx n.tx_ring) (stored-empty n.tx n.tx_ring) rules.status (idle-empty now n.tsr n.tx_due (has n.lsr 5) (has n.lsr 6) rules.shifts e);
+    latched = λ e. waiting-empty (n.fcr == 0) (has n.lsr 0) (has n.lsr 5) (is_unused n.tx n.tx_ring) n.thr (has n.lsr 0 || (n.rbr == 0)) (not (has n.lsr 5) || (n.thr == 0)) (not (is_unused n.rx n.rx_ring)) (stored_bytes n.tx n.tx_ring) (stored-empty n.tx n.tx_ring) rules.status (implied _ _ (and_parts _ _ rules.latch).1 e);
   })
 
-  sound : IsSound now (port_of level image)
+  sound : IsSound now (port_of level n)
   unfolding port_of
   sound = record { registers = registers; receiver = receiver; transmitter = transmitter }
 
 -- the ranges of cells
-byte-below : (cell : ℤ) → InRange U8 cell → nat_of cell < 256
-byte-below (pos n) h = omega (arith, ints)
-byte-below (negsuc n) h = omega arith
-
-word-below : (cell : ℤ) → InRange U16 cell → nat_of cell < 65536
-word-below (pos n) h = omega (arith, ints)
-word-below (negsuc n) h = omega arith
-
-pub middle : (k : ℕ) → 12 < k → k < 47 → kind_at k ≡ U8
-middle k low high = rw (ne_eqb k 0 (λ e. omega arith), ne_eqb k 10 (λ e. omega arith), ne_eqb k 47 (λ e. omega arith), ne_eqb k 12 (λ e. omega arith))
-
-bytes_below : (cells : List ℤ) → ((i : ℕ) → i < length cells → InRange U8 (get_or cells i (pos 0))) → AreBytes (map nat_of cells)
-bytes_below [] h = tt
-bytes_below (cell ∷ cells) h = (byte-below cell (h 0 (omega arith)), bytes_below cells (λ i l. h (suc i) (omega arith)))
-
 module _ (cells : List ℤ) (is : IsPortCells cells) where
-  fifo-bytes : (k : ℕ) → 12 < k → k + 17 ≤ 47 → IsFifo cells k → AreBytes (fifo_at cells k)
-  fifo-bytes k low high fifo = bytes_below (take (number_at cells k) (drop (k + 1) cells)) (λ i l.
-      let n : i < number_at cells k = omega (arith, length-take (number_at cells k) (drop (k + 1) cells), l) in
-      let fits = fifo.fits in
-      let count = is.count in
-      let r = rw (middle (k + 1 + i) (omega arith) (omega arith)) at (is.in_range (k + 1 + i) (omega arith)) in
-      rw (get_or-take (number_at cells k) (drop (k + 1) cells) i (pos 0) n, get_or-drop (k + 1) cells i (pos 0)) r)
+  array-bytes : (place : ℕ) → 12 < place → place + 16 ≤ 47 → AreBytes (bytes_at cells place)
+  array-bytes place low high =
+      firsts-bytes (λ i. number_at cells (place + i)) 0 16 (λ k l m. byte-lt (cell_at cells (place + k)) (in_arrays cells place 16 is.of_kinds (omega arith) high (place + k) (omega arith) (omega arith)))
 
-  fifo-short : (k : ℕ) → IsFifo cells k → length (fifo_at cells k) ≤ 16
-  fifo-short k fifo = let fits = fifo.fits in simp length-map (omega (arith, length-take (number_at cells k) (drop (k + 1) cells)))
+  ring-bytes : (place : ℕ) → 48 ≤ place → place + 16 ≤ 84 → AreBytes (bytes_at cells place)
+  ring-bytes place low high =
+      firsts-bytes (λ i. number_at cells (place + i)) 0 16 (λ k l m. byte-lt (cell_at cells (place + k)) (in_rings cells place 16 is.of_kinds low high (place + k) (omega arith) (omega arith)))
 
-  ranges-of : HasRanges (image_of cells)
-  unfolding image_of
+  ranges-of : HasRanges (numbers_of cells)
+  unfolding numbers_of
   ranges-of = record {
-    divisor = word-below _ (is.in_range 0 (omega arith));
-    lcr = byte-below _ (is.in_range 3 (omega arith));
-    scr = byte-below _ (is.in_range 6 (omega arith));
-    rbr = byte-below _ (is.in_range 7 (omega arith));
-    thr = byte-below _ (is.in_range 8 (omega arith));
-    tsr = byte-below _ (is.in_range 9 (omega arith));
-    rx = fifo-bytes 13 (omega arith) (omega arith) is.rx;
-    tx = fifo-bytes 30 (omega arith) (omega arith) is.tx;
-    rx_short = fifo-short 13 is.rx;
-    tx_short = fifo-short 30 is.tx;
+    divisor = word-lt _ (is.of_kinds.in_range 0 (omega arith));
+    lcr = byte-lt _ (is.of_kinds.in_range 3 (omega arith));
+    scr = byte-lt _ (is.of_kinds.in_range 6 (omega arith));
+    rbr = byte-lt _ (is.of_kinds.in_range 7 (omega arith));
+    thr = byte-lt _ (is.of_kinds.in_range 8 (omega arith));
+    tsr = byte-lt _ (is.of_kinds.in_range 9 (omega arith));
+    rx = stored-bytes (array_at cells 13) (ring_at cells 48) (array-bytes 14 (omega arith) (omega arith)) (ring-bytes 48 (omega arith) (omega arith));
+    tx = stored-bytes (array_at cells 30) (ring_at cells 66) (array-bytes 31 (omega arith) (omega arith)) (ring-bytes 66 (omega arith) (omega arith));
   }
+
+own-level : (level : ℕ) (n : PortNumbers) → (port_of level n).level ≡ level
+unfolding port_of
+own-level level n = refl
 
 pub restored_is_sound : RestoredIsSound
 restored_is_sound numbers cells port can e =
-    let h = hold numbers.level numbers.moment (image_of cells) port e in
-    subst (IsSound numbers.moment) h.1 (sound numbers.level numbers.moment (image_of cells) can.first can.level (ranges-of cells can.port_cells) h.0)
+    let h = hold numbers.level numbers.moment (numbers_of cells) port (hook-ok _ port e) in
+    subst (IsSoundAt numbers.level numbers.moment) h.1 (record {
+      sound = sound numbers.level numbers.moment (numbers_of cells) can.pass.is_level (ranges-of cells can.port_cells) h.0;
+      own_level = own-level numbers.level (numbers_of cells);
+    })

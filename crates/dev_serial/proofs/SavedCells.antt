@@ -1,206 +1,34 @@
--- What is saved are the cells of a port.
-use Rattle.std.proofs.Common.{◌≡◌, ℕ, ℤ, zero, suc, ◌+◌, ◌-◌, ◌<◌, ◌≤◌, Bool, true, false, List, [], ◌∷◌, ◌++◌, length, map, replicate, pos, get_or, Option, Some, None, refl, ap, ◌∙◌, subst, arith, append_assoc, length-append}
+-- What is saved are cells of its set.
+use Rattle.std.proofs.Common.{◌≡◌, ℕ, ℤ, zero, suc, ◌+◌, ◌<◌, ◌≤◌, Bool, true, false, cond, List, [], ◌∷◌, ◌++◌, length, map, take, drop, replicate, pos, Option, Some, None, refl, ap, ◌∙◌, arith}
 use Rattle.std.proofs.lemmas.Int.{ints}
-use Rattle.std.proofs.lemmas.List.{get_or-append-add, get_or_append_left, get_or-append_right, length-map, length-replicate}
+use Rattle.std.proofs.lemmas.List.{get_or-append-add, get_or_append_left, get_or-map, get_or_past}
 use Rattle.std.proofs.lemmas.Nat.{and_le_r}
+use Rattle.std.specs.List.{range_with_len}
+use Rattle.std.specs.Prelude.{nat_le, is_some}
 use Rattle.vms_kinds.specs.Codes.{InRange}
+use Rattle.vms_kinds.specs.declared.Kind.{Kind}
 use Rattle.vms_kinds.specs.declared.Kind.TheVariants.{U8, U16, I8, Timer}
+use Rattle.dev_base.specs.Cells.{cell_at, AreOf}
+use Rattle.dev_base.specs.declared.limits.TheConstants.{LAST_MOMENT}
+use Rattle.dev_base.proofs.CellLaws.{of_none, of_more, of_both, of_where, byte, word, timer}
 use Rattle.dev_serial.specs.Access.{lsr_of}
 use Rattle.dev_serial.specs.Bits.{has}
-use Rattle.dev_serial.specs.Cells.{IsPortCells, IsFifo, kind_at, padded}
-use Rattle.dev_serial.specs.Image.{Image, HasShortLists, saved, ipending_of, single_byte, fifo_bytes, fcr_number, shift_number, due_number, moment_number}
-use Rattle.dev_serial.specs.Laws.{SavedMayBeRestored}
+use Rattle.dev_serial.specs.Cells.{array_cells, ring_cells, field_cells, cells_of, field_kinds, kinds, IsPortCells}
+use Rattle.dev_serial.specs.Laws.{AreSaved, SavedAreCells}
+use Rattle.dev_serial.specs.Parts.{IsShort}
 use Rattle.dev_serial.specs.Port.{Port, interrupt, id_number, is_thr_empty}
-use Rattle.dev_serial.specs.Saved.{last_moment}
+use Rattle.dev_serial.specs.PortNumbers.{saved, ipending_of, single_byte, fifo_bytes, in_array, in_ring, fcr_number, shift_number, due_number, moment_number}
 use Rattle.dev_serial.specs.Sound.{IsSound, AreBytes, IsShift, IsTimeout}
+use Rattle.dev_serial.specs.Stored.{byte_of, padded, counted_of, ring_of}
 use Rattle.dev_serial.specs.declared.interrupt.Interrupt.{Interrupt}
 use Rattle.dev_serial.specs.declared.interrupt.Interrupt.TheVariants.{LineStatus, ReceivedData, CharacterTimeout, ThrEmpty, NonePending}
 use Rattle.dev_serial.specs.declared.shift.Shift.{Shift}
 use Rattle.dev_serial.specs.declared.trigger.Trigger.{Trigger}
 use Rattle.dev_serial.specs.declared.trigger.Trigger.TheVariants.{One, Four, Eight, Fourteen}
-use Rattle.dev_serial.proofs.CarriedLaw.{newest, carried-cells, length-padded, behind, tx-count}
-use Rattle.dev_serial.proofs.RestoredLaw.{middle}
-use Rattle.dev_serial.proofs.SavedLaw.{lacked, lsr, short}
-
--- the cells from a place on are in their kinds' ranges
-AreIn : ℕ → List ℤ → Type 0
-AreIn k [] = Unit {0}
-AreIn k (cell ∷ cells) = InRange (kind_at k) cell × AreIn (k + 1) cells
-
-in-at : (k i : ℕ) (cells : List ℤ) → AreIn k cells → i < length cells → InRange (kind_at (k + i)) (get_or cells i (pos 0))
-unfolding AreIn
-in-at k i [] h l = absurd (omega arith)
-in-at k zero (cell ∷ cells) h l =
-    let same : k ≡ k + zero = omega arith in
-    let P : ℕ → Type 0 = λ n. InRange (kind_at n) cell in
-    subst P same h.0
-in-at k (suc i) (cell ∷ cells) h l =
-    let same : (k + 1) + i ≡ k + suc i = omega arith in
-    let P : ℕ → Type 0 = λ n. InRange (kind_at n) (get_or cells i (pos 0)) in
-    subst P same (in-at (k + 1) i cells h.1 (omega arith))
-
-in-start : (k : ℕ) (cells : List ℤ) → AreIn 0 cells → k < length cells → InRange (kind_at k) (get_or cells k (pos 0))
-in-start k cells h l =
-    let same : 0 + k ≡ k = omega arith in
-    let P : ℕ → Type 0 = λ n. InRange (kind_at n) (get_or cells k (pos 0)) in
-    subst P same (in-at 0 k cells h l)
-
-byte-in : (n : ℕ) → n < 256 → InRange U8 (pos n)
-byte-in n h = (omega (arith, ints), omega (arith, ints))
-
-word-in : (n : ℕ) → n < 65536 → InRange U16 (pos n)
-word-in n h = (omega (arith, ints), omega (arith, ints))
-
-moment-in : (n : ℕ) → n < 18446744073709551616 → InRange Timer (pos n)
-moment-in n h = (omega (arith, ints), omega (arith, ints))
-
-bytes-in : (k : ℕ) (bytes : List ℕ) (cells : List ℤ) → 12 < k → k + length bytes ≤ 47 → AreBytes bytes → AreIn (k + length bytes) cells → AreIn k (map pos bytes ++ cells)
-unfolding AreIn
-bytes-in k [] cells low high b h = subst (λ (n : ℕ). AreIn n cells) (omega arith) h
-bytes-in k (byte ∷ bytes) cells low high b h =
-    let same : k + length (byte ∷ bytes) ≡ (k + 1) + length bytes = omega arith in
-    (rw (middle k low (omega arith)) (byte-in byte b.0), bytes-in (k + 1) bytes cells (omega arith) (omega arith) b.1 (subst (λ (n : ℕ). AreIn n cells) same h))
-
-zeros-in : (k n : ℕ) (cells : List ℤ) → 12 < k → k + n ≤ 47 → AreIn (k + n) cells → AreIn k (replicate n (pos 0) ++ cells)
-unfolding AreIn
-zeros-in k zero cells low high h = subst (λ (n : ℕ). AreIn n cells) (omega arith) h
-zeros-in k (suc n) cells low high h =
-    let same : k + suc n ≡ (k + 1) + n = omega arith in
-    let small : 0 < 256 = omega arith in
-    (rw (middle k low (omega arith)) (byte-in 0 small), zeros-in (k + 1) n cells (omega arith) (omega arith) (subst (λ (m : ℕ). AreIn m cells) same h))
-
-padded-in : (k : ℕ) (bytes : List ℕ) (cells : List ℤ) → 12 < k → k + 16 ≤ 47 → length bytes ≤ 16 → AreBytes bytes → AreIn (k + 16) cells → AreIn k (padded bytes ++ cells)
-padded-in k bytes cells low high s b h =
-    let same : k + 16 ≡ (k + length bytes) + (16 - length bytes) = omega arith in
-    rw append_assoc (bytes-in k bytes (replicate (16 - length bytes) (pos 0) ++ cells) low (omega arith) b (zeros-in (k + length bytes) (16 - length bytes) cells (omega arith) (omega arith) (subst (λ (n : ℕ). AreIn n cells) same h)))
-
--- an array is zero past its count
-zero-at : (n i : ℕ) → get_or (replicate n (pos 0)) i (pos 0) ≡ pos 0
-zero-at zero i = refl
-zero-at (suc n) zero = refl
-zero-at (suc n) (suc i) = zero-at n i
-
-zeros-behind : (bytes : List ℕ) (cells : List ℤ) (i : ℕ) → length bytes ≤ 16 → length bytes ≤ i → i < 16 → get_or (padded bytes ++ cells) i (pos 0) ≡ pos 0
-zeros-behind bytes cells i s low high =
-    let within : i < length (padded bytes) = rw (length-padded bytes s) high in
-    get_or_append_left (padded bytes) cells (pos 0) i within
-    ∙ get_or-append_right (map pos bytes) (replicate (16 - length bytes) (pos 0)) (length bytes) i (pos 0) (length-map bytes pos) low
-    ∙ zero-at (16 - length bytes) (i - length bytes)
-
--- the numbers of an image are in their kinds' ranges
-pub record IsInRange (image : Image) : Type 0 where
-  pub divisor : image.divisor < 65536
-  pub ier : image.ier < 256
-  pub iir : image.iir < 256
-  pub lcr : image.lcr < 256
-  pub mcr : image.mcr < 256
-  pub lsr : image.lsr < 256
-  pub scr : image.scr < 256
-  pub rbr : image.rbr < 256
-  pub thr : image.thr < 256
-  pub tsr : image.tsr < 256
-  pub tx_due : image.tx_due < 18446744073709551616
-  pub fcr : image.fcr < 256
-  pub thr_ipending : InRange I8 image.thr_ipending
-  pub rx : AreBytes image.rx
-  pub tx : AreBytes image.tx
-  pub timeout_at : image.timeout_at < 18446744073709551616
-
-module _ (image : Image) (range : IsInRange image) (few : HasShortLists image) where
-  cells-in : AreIn 0 (newest image)
-  unfolding AreIn newest
-  cells-in = (
-    word-in image.divisor range.divisor,
-    (
-      byte-in image.ier range.ier,
-      (
-        byte-in image.iir range.iir,
-        (
-          byte-in image.lcr range.lcr,
-          (
-            byte-in image.mcr range.mcr,
-            (
-              byte-in image.lsr range.lsr,
-              (
-                byte-in image.scr range.scr,
-                (
-                  byte-in image.rbr range.rbr,
-                  (
-                    byte-in image.thr range.thr,
-                    (
-                      byte-in image.tsr range.tsr,
-                      (
-                        moment-in image.tx_due range.tx_due,
-                        (
-                          byte-in image.fcr range.fcr,
-                          (
-                            range.thr_ipending,
-                            (
-                              byte-in (length image.rx) (let h = few.rx in omega arith),
-                              padded-in 14 image.rx _ (omega arith) (omega arith) few.rx range.rx (
-                                byte-in (length image.tx) (let h = few.tx in omega arith),
-                                padded-in 31 image.tx _ (omega arith) (omega arith) few.tx range.tx (moment-in image.timeout_at range.timeout_at, tt),
-                              ),
-                            ),
-                          ),
-                        ),
-                      ),
-                    ),
-                  ),
-                ),
-              ),
-            ),
-          ),
-        ),
-      ),
-    ),
-  )
-
-  count : length (newest image) ≡ 48
-  unfolding newest
-  count = let r = few.rx in let t = few.tx in simp (length-append, length-map, length-replicate) (omega arith)
-
-  -- what stands before the first array's elements, and behind them
-  abbrev front : List ℤ
-  front =
-      pos image.divisor ∷ pos image.ier ∷ pos image.iir ∷ pos image.lcr ∷ pos image.mcr ∷ pos image.lsr ∷ pos image.scr
-      ∷ pos image.rbr ∷ pos image.thr ∷ pos image.tsr ∷ pos image.tx_due ∷ pos image.fcr ∷ image.thr_ipending ∷ pos (length image.rx) ∷ []
-
-  abbrev back : List ℤ
-  back = pos (length image.tx) ∷ (padded image.tx ++ (pos image.timeout_at ∷ []))
-
-  front-back : (i : ℕ) → get_or (newest image) (14 + i) (pos 0) ≡ get_or (padded image.rx ++ back) i (pos 0)
-  unfolding newest
-  front-back i = get_or-append-add front (padded image.rx ++ back) i (pos 0)
-
-  rx-count : get_or (newest image) 13 (pos 0) ≡ pos (length image.rx)
-  unfolding newest
-  rx-count = refl
-
-  rx-fifo : IsFifo (newest image) 13
-  rx-fifo = record {
-    fits = rw rx-count (few.rx);
-    zeros = λ i l h. front-back i ∙ zeros-behind image.rx back i few.rx (rw rx-count at l) h;
-  }
-
-  tx-behind : (i : ℕ) → get_or (newest image) (31 + i) (pos 0) ≡ get_or (padded image.tx ++ (pos image.timeout_at ∷ [])) i (pos 0)
-  tx-behind i =
-      ap (λ (n : ℕ). get_or (newest image) n (pos 0)) (let same : 31 + i ≡ 14 + (16 + suc i) = omega arith in same)
-      ∙ front-back (16 + suc i) ∙ behind image.rx back (suc i) few.rx
-
-  tx-fifo : IsFifo (newest image) 30
-  tx-fifo = record {
-    fits = rw (tx-count image few) (few.tx);
-    zeros = λ i l h. tx-behind i ∙ zeros-behind image.tx (pos image.timeout_at ∷ []) i few.tx (rw (tx-count image few) at l) h;
-  }
-
-  pub are-cells : IsPortCells (newest image)
-  are-cells = record {
-    count = count;
-    in_range = λ k l. in-start k (newest image) cells-in (rw count l);
-    rx = rx-fifo;
-    tx = tx-fifo;
-  }
+use Rattle.dev_serial.proofs.CarriedLaw.{each_set}
+use Rattle.dev_serial.proofs.SavedParts.{array-short, ring-short}
+use Rattle.dev_serial.proofs.StoredLaws.{byte_of-lt, byte_of-padded}
+use Rattle.dev_serial.proofs.TruthTables.{lsr-status}
 
 -- the numbers of a sound port are in their kinds' ranges
 id-range : (interrupt : Interrupt) → id_number interrupt < 256
@@ -223,11 +51,11 @@ shift-range : (now : ℕ) (shift : Option Shift) → IsShift now shift → shift
 shift-range now None s = omega arith
 shift-range now (Some shift) s = s.byte
 
-due-range : (now : ℕ) (shift : Option Shift) → now ≤ last_moment → IsShift now shift → due_number shift < 18446744073709551616
+due-range : (now : ℕ) (shift : Option Shift) → now ≤ LAST_MOMENT → IsShift now shift → due_number shift < 18446744073709551616
 due-range now None h s = omega arith
 due-range now (Some shift) h s = let l = s.in_time in omega arith
 
-moment-range : (now : ℕ) (runs : Bool) (timeout : Option ℕ) → now ≤ last_moment → IsTimeout now runs timeout → moment_number timeout < 18446744073709551616
+moment-range : (now : ℕ) (runs : Bool) (timeout : Option ℕ) → now ≤ LAST_MOMENT → IsTimeout now runs timeout → moment_number timeout < 18446744073709551616
 moment-range now runs None h t = omega arith
 moment-range now runs (Some timeout) h t = let l = t.in_time in omega arith
 
@@ -244,38 +72,160 @@ ipending-range true true false = (omega (arith, ints), omega (arith, ints))
 ipending-range true false identified = (omega (arith, ints), omega (arith, ints))
 ipending-range false latch identified = (omega (arith, ints), omega (arith, ints))
 
-lsr-range : (now : ℕ) (port : Port) → now ≤ last_moment → IsSound now port → lsr_of port < 256
-lsr-range now port h s = let m = (lsr now port h s).mask in omega (arith, and_le_r (lsr_of port) 0x63)
+lsr-range : (now : ℕ) (port : Port) → now ≤ LAST_MOMENT → IsSound now port → lsr_of port < 256
+lsr-range now port h s = let m = (lsr-status port).mask in omega (arith, and_le_r (lsr_of port) 0x63)
 
-saved-range : (now : ℕ) (port : Port) → now ≤ last_moment → IsSound now port → IsInRange (saved now port)
-unfolding saved
-saved-range now port h s =
-    let r = s.registers in
-    let ier = r.ier_range in
-    let mcr = r.mcr_range in
-    record {
-      divisor = r.divisor_range;
-      ier = omega arith;
-      iir = id-range (interrupt now port);
-      lcr = r.lcr_range;
-      mcr = omega arith;
-      lsr = lsr-range now port h s;
-      scr = r.scr_range;
-      rbr = single-range port.fifos port.receiver.held s.receiver.bytes;
-      thr = single-range port.fifos port.transmitter.waiting s.transmitter.bytes;
-      tsr = shift-range now port.transmitter.shift s.transmitter.shift;
-      tx_due = due-range now port.transmitter.shift h s.transmitter.shift;
-      fcr = fcr-range port.fifos;
-      thr_ipending = ipending-range (has port.ier 1) port.thr_empty (is_thr_empty (interrupt now port));
-      rx = fifo-range port.fifos port.receiver.held s.receiver.bytes;
-      tx = fifo-range port.fifos port.transmitter.waiting s.transmitter.bytes;
-      timeout_at = moment-range now _ port.receiver.timeout h s.receiver.timeout;
-    }
+array-bytes : (set : ℕ) (fifos : Option Trigger) (bytes : List ℕ) → AreBytes bytes → AreBytes (in_array set fifos bytes)
+array-bytes set fifos bytes b = at (nat_le 4 set) where
+  at : (is : Bool) → AreBytes (cond is [] (fifo_bytes fifos bytes))
+  at true = tt
+  at false = fifo-range fifos bytes b
 
-pub saved_may_be_restored : SavedMayBeRestored
-saved_may_be_restored numbers port can s =
-    let now = numbers.moment in
-    let level : port.level ≤ numbers.set = (let l = can.level_le_set in let e = can.level in omega arith) in
-    let first : 1 ≤ numbers.set = (let l = can.level_le_set in let f = can.first in omega arith) in
-    rw (carried-cells numbers.set (saved now port) first (lacked now port can.moment s numbers.set level))
-    (are-cells (saved now port) (saved-range now port can.moment s) (short now port can.moment s))
+ring-bytes : (set : ℕ) (fifos : Option Trigger) (bytes : List ℕ) → AreBytes bytes → AreBytes (in_ring set fifos bytes)
+ring-bytes set fifos bytes b = at (nat_le 4 set) where
+  at : (is : Bool) → AreBytes (cond is (fifo_bytes fifos bytes) [])
+  at true = fifo-range fifos bytes b
+  at false = tt
+
+-- cells of their kinds
+run : (f : ℕ → ℕ) (a n : ℕ) → ((i : ℕ) → f i < 256) → AreOf (replicate n U8) (map pos (map f (range_with_len a n)))
+run f a zero h = of_none
+run f a (suc n) h = of_more U8 (pos (f a)) (replicate n U8) (map pos (map f (range_with_len (a + 1) n))) (byte (f a) (h a)) (run f (a + 1) n h)
+
+small : (n : ℕ) → n ≤ 16 → n < 256
+small n h = omega arith
+
+array-of : (bytes : List ℕ) → length bytes ≤ 16 → AreBytes bytes → AreOf (replicate 17 U8) (array_cells (counted_of bytes))
+unfolding array_cells
+array-of bytes s b = of_more U8 (pos (length bytes)) (replicate 16 U8) (map pos (padded bytes)) (byte (length bytes) (small (length bytes) s)) (run (byte_of bytes) 0 16 (λ i. byte_of-lt bytes i b))
+
+ring-of : (bytes : List ℕ) → length bytes ≤ 16 → AreBytes bytes → AreOf (replicate 18 U8) (ring_cells (ring_of bytes))
+unfolding ring_cells
+ring-of bytes s b =
+    let zero-small : 0 < 256 = omega arith in
+    of_both (replicate 16 U8) (U8 ∷ U8 ∷ []) (map pos (padded bytes)) (pos 0 ∷ pos (length bytes) ∷ []) (run (byte_of bytes) 0 16 (λ i. byte_of-lt bytes i b))
+    (of_more U8 (pos 0) _ _ (byte 0 zero-small) (of_more U8 (pos (length bytes)) _ _ (byte (length bytes) (small (length bytes) s)) of_none))
+
+one : (kind : Kind) (cell : ℤ) → InRange kind cell → AreOf (kind ∷ []) (cell ∷ [])
+one kind cell h = of_more kind cell [] [] h of_none
+
+module _ (set now : ℕ) (port : Port) (early : now ≤ LAST_MOMENT) (sound : IsSound now port) where
+  fields-of : AreOf field_kinds (field_cells (saved set now port))
+  unfolding field_cells saved
+  fields-of =
+      let r = sound.registers in
+      let ier : port.ier < 256 = (let h = r.ier_range in omega arith) in
+      let mcr : port.mcr < 256 = (let h = r.mcr_range in omega arith) in
+      of_more U16 (pos port.divisor) _ _ (word port.divisor r.divisor_range)
+      (of_more U8 (pos port.ier) _ _ (byte port.ier ier)
+      (of_more U8 (pos (id_number (interrupt now port))) _ _ (byte _ (id-range (interrupt now port)))
+      (of_more U8 (pos port.lcr) _ _ (byte port.lcr r.lcr_range)
+      (of_more U8 (pos port.mcr) _ _ (byte port.mcr mcr)
+      (of_more U8 (pos (lsr_of port)) _ _ (byte (lsr_of port) (lsr-range now port early sound))
+      (of_more U8 (pos port.scr) _ _ (byte port.scr r.scr_range)
+      (of_more U8 (pos (single_byte port.fifos port.receiver.held)) _ _ (byte _ (single-range port.fifos port.receiver.held sound.receiver.bytes))
+      (of_more U8 (pos (single_byte port.fifos port.transmitter.waiting)) _ _ (byte _ (single-range port.fifos port.transmitter.waiting sound.transmitter.bytes))
+      (of_more U8 (pos (shift_number port.transmitter.shift)) _ _ (byte _ (shift-range now port.transmitter.shift sound.transmitter.shift))
+      (one Timer (pos (due_number port.transmitter.shift)) (timer _ (due-range now port.transmitter.shift early sound.transmitter.shift))))))))))))
+
+  array-part : (is : Bool) (bytes : List ℕ) → IsShort (is_some port.fifos) bytes → AreBytes bytes → AreOf (cond is (replicate 17 U8) []) (cond is (array_cells (counted_of (in_array set port.fifos bytes))) [])
+  array-part is bytes s b = of_where is (replicate 17 U8) (array_cells (counted_of (in_array set port.fifos bytes))) (array-of (in_array set port.fifos bytes) (array-short set port.fifos bytes s) (array-bytes set port.fifos bytes b))
+
+  ring-part : (is : Bool) (bytes : List ℕ) → IsShort (is_some port.fifos) bytes → AreBytes bytes → AreOf (cond is (replicate 18 U8) []) (cond is (ring_cells (ring_of (in_ring set port.fifos bytes))) [])
+  ring-part is bytes s b = of_where is (replicate 18 U8) (ring_cells (ring_of (in_ring set port.fifos bytes))) (ring-of (in_ring set port.fifos bytes) (ring-short set port.fifos bytes s) (ring-bytes set port.fifos bytes b))
+
+  -- what a set saves, as the cells of that set or of another
+  pub of-kinds : (other : ℕ) → AreOf (kinds other) (cells_of other (saved set now port))
+  unfolding cells_of saved
+  of-kinds other =
+      let fcr = of_where (nat_le 2 other) (U8 ∷ []) (pos (fcr_number port.fifos) ∷ []) (one U8 (pos (fcr_number port.fifos)) (byte _ (fcr-range port.fifos))) in
+      let latch = one I8 _ (ipending-range (has port.ier 1) port.thr_empty (is_thr_empty (interrupt now port))) in
+      let timeout = of_where (nat_le 3 other) (Timer ∷ []) (pos (moment_number port.receiver.timeout) ∷ []) (one Timer (pos (moment_number port.receiver.timeout)) (timer _ (moment-range now _ port.receiver.timeout early sound.receiver.timeout))) in
+      let fields = of_both _ _ _ _ (of_both _ _ _ _ fields-of fcr) latch in
+      let arrays = of_both _ _ _ _ (of_both _ _ _ _ fields (array-part (nat_le 2 other) port.receiver.held sound.receiver.short sound.receiver.bytes)) (array-part (nat_le 2 other) port.transmitter.waiting sound.transmitter.short sound.transmitter.bytes) in
+      of_both _ _ _ _ (of_both _ _ _ _ (of_both _ _ _ _ arrays timeout) (ring-part (nat_le 4 other) port.receiver.held sound.receiver.short sound.receiver.bytes)) (ring-part (nat_le 4 other) port.transmitter.waiting sound.transmitter.short sound.transmitter.bytes)
+
+-- a counted array by its place: what stands behind the count is 0 from the count on
+zero-from : (front back : List ℤ) (bytes : List ℕ) (i : ℕ) → length bytes ≤ i → i < 16 → cell_at (front ++ (map pos (padded bytes) ++ back)) (length front + i) ≡ pos 0
+zero-from front back bytes i low high =
+    get_or-append-add front (map pos (padded bytes) ++ back) i (pos 0)
+    ∙ get_or_append_left (map pos (padded bytes)) back (pos 0) i high
+    ∙ get_or-map pos (padded bytes) i 0 (pos 0) high
+    ∙ ap pos (byte_of-padded bytes i high ∙ get_or_past bytes i 0 low)
+
+-- no bytes
+no-arrays : (first second : List ℕ) → length first ≡ 0 → length second ≡ 0 → array_cells (counted_of first) ++ array_cells (counted_of second) ≡ replicate 34 (pos 0)
+unfolding array_cells
+no-arrays [] [] a b = refl
+no-arrays [] (x ∷ second) a b = absurd (omega arith)
+no-arrays (x ∷ first) second a b = absurd (omega arith)
+
+no-rings : (first second : List ℕ) → length first ≡ 0 → length second ≡ 0 → ring_cells (ring_of first) ++ ring_cells (ring_of second) ≡ replicate 36 (pos 0)
+unfolding ring_cells
+no-rings [] [] a b = refl
+no-rings [] (x ∷ second) a b = absurd (omega arith)
+no-rings (x ∷ first) second a b = absurd (omega arith)
+
+module _ (now : ℕ) (port : Port) (early : now ≤ LAST_MOMENT) (sound : IsSound now port) where
+  abbrev first : ℕ → List ℕ
+  first set = in_array set port.fifos port.receiver.held
+
+  abbrev second : ℕ → List ℕ
+  second set = in_array set port.fifos port.transmitter.waiting
+
+  abbrev cells : ℕ → List ℤ
+  cells set = cells_of set (saved set now port)
+
+  saved-1 : AreSaved 1 (cells 1)
+  saved-1 = record { of_kinds = of-kinds 1 now port early sound 1; rx = λ h. absurd (omega arith); tx = λ h. absurd (omega arith); no_fifo = λ h. absurd (omega arith); no_ring = λ h. absurd (omega arith) }
+
+  saved-2 : AreSaved 2 (cells 2)
+  unfolding cells_of field_cells array_cells saved
+  saved-2 = record {
+    of_kinds = of-kinds 2 now port early sound 2;
+    rx = λ h. record { fits = array-short 2 port.fifos port.receiver.held sound.receiver.short; zeros = zero-from (take 14 (cells 2)) (drop 30 (cells 2)) (first 2) };
+    tx = λ h. record { fits = array-short 2 port.fifos port.transmitter.waiting sound.transmitter.short; zeros = zero-from (take 31 (cells 2)) (drop 47 (cells 2)) (second 2) };
+    no_fifo = λ h a b. no-arrays (first 2) (second 2) a b;
+    no_ring = λ h. absurd (omega arith);
+  }
+
+  saved-3 : AreSaved 3 (cells 3)
+  unfolding cells_of field_cells array_cells saved
+  saved-3 = record {
+    of_kinds = of-kinds 3 now port early sound 3;
+    rx = λ h. record { fits = array-short 3 port.fifos port.receiver.held sound.receiver.short; zeros = zero-from (take 14 (cells 3)) (drop 30 (cells 3)) (first 3) };
+    tx = λ h. record { fits = array-short 3 port.fifos port.transmitter.waiting sound.transmitter.short; zeros = zero-from (take 31 (cells 3)) (drop 47 (cells 3)) (second 3) };
+    no_fifo = λ h a b. no-arrays (first 3) (second 3) a b;
+    no_ring = λ h. absurd (omega arith);
+  }
+
+  saved-4 : AreSaved 4 (cells 4)
+  unfolding cells_of field_cells array_cells ring_cells saved
+  saved-4 = record {
+    of_kinds = of-kinds 4 now port early sound 4;
+    rx = λ h. record { fits = array-short 4 port.fifos port.receiver.held sound.receiver.short; zeros = zero-from (take 14 (cells 4)) (drop 30 (cells 4)) (first 4) };
+    tx = λ h. record { fits = array-short 4 port.fifos port.transmitter.waiting sound.transmitter.short; zeros = zero-from (take 31 (cells 4)) (drop 47 (cells 4)) (second 4) };
+    no_fifo = λ h a b. no-arrays (first 4) (second 4) a b;
+    no_ring = λ h a b. no-rings (in_ring 4 port.fifos port.receiver.held) (in_ring 4 port.fifos port.transmitter.waiting) a b;
+  }
+
+  -- what a set saves, as the newest set's cells
+  pub newest-cells : (set : ℕ) → IsPortCells (cells_of 4 (saved set now port))
+  unfolding cells_of field_cells array_cells ring_cells saved
+  newest-cells set =
+      let all = cells_of 4 (saved set now port) in
+      record {
+        of_kinds = of-kinds set now port early sound 4;
+        rx = record { fits = array-short set port.fifos port.receiver.held sound.receiver.short; zeros = zero-from (take 14 all) (drop 30 all) (first set) };
+        tx = record { fits = array-short set port.fifos port.transmitter.waiting sound.transmitter.short; zeros = zero-from (take 31 all) (drop 47 all) (second set) };
+      }
+
+  pub are-saved : (set : ℕ) → 1 ≤ set → set ≤ 4 → AreSaved set (cells set)
+  are-saved set low high = each_set (λ n. AreSaved n (cells n)) set low high (λ e. saved-1) (λ e. saved-2) (λ e. saved-3) (λ e. saved-4)
+
+pub saved_are_cells : SavedAreCells
+saved_are_cells numbers port can sound =
+    let first = sound.registers.is_level.first in
+    let own = can.own_level in
+    let low = can.level_le_set in
+    are-saved numbers.moment port can.moment sound numbers.set (omega arith) can.set_le_newest

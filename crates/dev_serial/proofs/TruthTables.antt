@@ -1,11 +1,12 @@
 -- The bits of the line status, and the latch in a stream, as tables of truth.
-use Rattle.std.proofs.Common.{◌≡◌, ℕ, ℤ, Bool, true, false, ◌&&◌, ◌||◌, cond, refl, pos, negsuc}
+use Rattle.std.proofs.Common.{◌≡◌, ℕ, ℤ, Bool, true, false, not, ◌&&◌, ◌||◌, cond, refl, pos, negsuc}
 use Rattle.std.proofs.lemmas.Bool.{false≢true}
 use Rattle.std.specs.Ordering.{int_eq}
-use Rattle.std.specs.Prelude.{bit_and, bit_or}
+use Rattle.std.specs.Prelude.{bit_and, bit_or, is_some}
+use Rattle.dev_serial.specs.Access.{is_empty, lsr_of}
 use Rattle.dev_serial.specs.Bits.{has, bits_where}
-use Rattle.dev_serial.specs.Image.{ipending_of, latch_of}
-use Rattle.dev_serial.specs.Port.{id_number, is_thr_empty}
+use Rattle.dev_serial.specs.PortNumbers.{ipending_of, latch_of}
+use Rattle.dev_serial.specs.Port.{Port, id_number, is_thr_empty}
 use Rattle.dev_serial.specs.declared.interrupt.Interrupt.{Interrupt}
 use Rattle.dev_serial.specs.declared.interrupt.Interrupt.TheVariants.{LineStatus, ReceivedData, CharacterTimeout, ThrEmpty, NonePending}
 
@@ -37,6 +38,11 @@ status false false true true = record { ready_bit = refl; overrun_bit = refl; em
 status false false true false = record { ready_bit = refl; overrun_bit = refl; empty_bit = refl; idle_bit = refl; mask = refl }
 status false false false true = record { ready_bit = refl; overrun_bit = refl; empty_bit = refl; idle_bit = refl; mask = refl }
 status false false false false = record { ready_bit = refl; overrun_bit = refl; empty_bit = refl; idle_bit = refl; mask = refl }
+
+-- the line status of a port
+pub lsr-status : (port : Port) → IsStatus (lsr_of port) (not (is_empty port.receiver.held)) port.receiver.overrun (is_empty port.transmitter.waiting) (is_empty port.transmitter.waiting && not (is_some port.transmitter.shift))
+unfolding lsr_of
+lsr-status port = status _ _ _ _
 
 -- the identification where these three come first, with the enabled bit and the latch
 abbrev pub identified : Bool → Bool → Bool → Bool → Bool → Interrupt

@@ -1,13 +1,15 @@
 -- The calls of a port.
-use Rattle.std.specs.Prelude.{ℕ, ◌+◌, ◌*◌, ◌/◌, ◌%◌, ◌==◌, Bool, true, false, nat_le, ◌&&◌, ◌||◌, not, if◌then◌else◌, List, [], length, Some, None, is_some, bit_and, bit_or}
+use Rattle.std.specs.Prelude.{ℕ, ◌+◌, ◌*◌, ◌/◌, ◌%◌, ◌==◌, Bool, true, false, nat_le, ◌&&◌, not, if◌then◌else◌, List, [], length, Option, Some, None, is_some, bit_and, bit_or}
 use Rattle.dev_serial.specs.Bits.{has, bits_where}
 use Rattle.dev_serial.specs.Fifo.{trigger_of}
 use Rattle.dev_serial.specs.Line.{character_time}
 use Rattle.dev_serial.specs.Parts.{ReceiverState, TransmitterState}
-use Rattle.dev_serial.specs.Port.{Port, mode_of, interrupt, id_number, is_thr_empty, fifo_level}
+use Rattle.dev_serial.specs.Port.{Port, mode_of, interrupt, id_number, is_thr_empty}
 use Rattle.dev_serial.specs.Receive.{received, taken, emptied, without_overrun}
 use Rattle.dev_serial.specs.Transmit.{queued, loaded, gone_by, on_line, looped_in, run_until}
+use Rattle.dev_serial.specs.declared.levels.TheConstants.{FIFOS_SINCE}
 use Rattle.dev_serial.specs.declared.shift.Shift.{Shift}
+use Rattle.dev_serial.specs.declared.trigger.Trigger.{Trigger}
 
 -- a list has no byte
 abbrev pub is_empty : List ℕ → Bool
@@ -42,10 +44,13 @@ lsr_read port = (lsr_of port, record port { receiver = without_overrun port.rece
 abbrev pub with_taken : Port → ℕ × ReceiverState → ℕ × Port
 with_taken port answer = (answer.0, record port { receiver = answer.1 })
 
+abbrev pub byte_read : ℕ → Port → ℕ × Port
+byte_read now port = with_taken port (taken (mode_of port) now port.receiver)
+
 -- a read of a register at an offset
 unfoldable pub read_of : ℕ → ℕ → Port → ℕ × Port
 read_of offset now port =
-    if offset == 0 then (if has port.lcr 7 then (port.divisor % 256, port) else with_taken port (taken (mode_of port) now port.receiver))
+    if offset == 0 then (if has port.lcr 7 then (port.divisor % 256, port) else byte_read now port)
     else (if offset == 1 then (if has port.lcr 7 then (port.divisor / 256, port) else (port.ier, port))
     else (if offset == 2 then id_read now port
     else (if offset == 3 then (port.lcr, port)
@@ -81,22 +86,27 @@ transmitter_cleared clears port =
       thr_empty = (if is_empty port.transmitter.waiting then port.thr_empty else true);
     } else port
 
--- the FIFO control register, where there is one. A change of the switch clears both lists; two bits clear
--- one each while FIFOs are on
+-- what the FIFO control register says: bit 0 switches the FIFOs on, bits 7 and 6 are the trigger
+abbrev pub switch_of : ℕ → Option Trigger
+switch_of value = if has value 0 then Some (trigger_of (value / 64)) else None
+
+-- what a write of it clears, by the switch as it was and as it becomes: both lists where FIFOs go on or off;
+-- while they stay on the receive list by bit 1 and the transmit list by bit 2; while they stay off nothing
+unfoldable pub fcr_cleared : Option Trigger → Option Trigger → ℕ → Port → Port
+fcr_cleared None None value port = port
+fcr_cleared None (Some after) value port = transmitter_cleared true (receiver_cleared true port)
+fcr_cleared (Some before) None value port = transmitter_cleared true (receiver_cleared true port)
+fcr_cleared (Some before) (Some after) value port = transmitter_cleared (has value 2) (receiver_cleared (has value 1) port)
+
 unfoldable pub fcr_written : ℕ → Port → Port
-fcr_written value port =
-    let is_on = has value 0 in
-    let was_on = is_some port.fifos in
-    let changes = (is_on && not was_on) || (was_on && not is_on) in
-    let cleared = transmitter_cleared (changes || (is_on && has value 2)) (receiver_cleared (changes || (is_on && has value 1)) port) in
-    record cleared { fifos = (if is_on then Some (trigger_of (value / 64)) else None) }
+fcr_written value port = record (fcr_cleared port.fifos (switch_of value) value port) { fifos = switch_of value }
 
 -- a write of a register at an offset
 unfoldable pub written : ℕ → ℕ → ℕ → Port → Port
 written offset value now port =
     if offset == 0 then (if has port.lcr 7 then record port { divisor = port.divisor / 256 * 256 + value } else thr_written value now port)
     else (if offset == 1 then (if has port.lcr 7 then record port { divisor = value * 256 + port.divisor % 256 } else ier_written value port)
-    else (if offset == 2 then (if nat_le fifo_level port.level then fcr_written value port else port)
+    else (if offset == 2 then (if nat_le FIFOS_SINCE port.level then fcr_written value port else port)
     else (if offset == 3 then record port { lcr = value }
     else (if offset == 4 then record port { mcr = bit_and value 0x1f }
     else (if offset == 5 then port

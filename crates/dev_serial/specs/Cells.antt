@@ -1,115 +1,113 @@
--- The cells of a port, by their places in each set.
-use Rattle.std.specs.Prelude.{◌≡◌, ℕ, ℤ, pos, negsuc, ◌+◌, ◌-◌, ◌<◌, ◌≤◌, ◌==◌, nat_le, ◌||◌, if◌then◌else◌, List, [], ◌∷◌, ◌++◌, length, map, take, drop, replicate, slice_index_or}
+-- The cells of a port in each set.
+use Rattle.std.specs.Prelude.{◌≡◌, ℕ, ℤ, pos, ◌+◌, ◌<◌, ◌≤◌, nat_le, if◌then◌else◌, List, [], ◌∷◌, ◌++◌, map, replicate}
 use Rattle.vms_kinds.specs.Codes.{InRange}
 use Rattle.vms_kinds.specs.declared.Kind.{Kind}
 use Rattle.vms_kinds.specs.declared.Kind.TheVariants.{U8, U16, I8, Timer}
-use Rattle.dev_serial.specs.Image.{Image, never}
+use Rattle.dev_base.specs.Cells.{cell_at, number_at, AreOf}
+use Rattle.dev_base.specs.Tables.{Origin, default_of, places, where_had, since, carried_by}
+use Rattle.dev_base.specs.declared.limits.TheConstants.{NEWEST}
+use Rattle.dev_serial.specs.Stored.{firsts}
+use Rattle.dev_serial.specs.declared.levels.TheConstants.{FIFOS_SINCE, TIMEOUT_SINCE, RINGS_SINCE}
+use Rattle.dev_serial.specs.declared.numbers.PortNumbers.{PortNumbers}
+use Rattle.dev_serial.specs.declared.stored.Counted.{Counted}
+use Rattle.dev_serial.specs.declared.stored.Ring.{Ring}
+use Rattle.dev_serial.specs.declared.place.TheConstants.{DIVISOR, IER, IIR, LCR, MCR, LSR, SCR, RBR, THR, TSR, TX_DUE, FCR, THR_IPENDING, RX_COUNT, TX_COUNT, TIMEOUT_AT, RX_RING, TX_RING}
+use Rattle.dev_serial.specs.declared.numbers.TheConstants.{NEVER}
 
--- the first sets with FIFOs and with the character timeout, and the newest set
-abbrev pub fifo_set : ℕ
-fifo_set = 2
+-- a count with its sixteen elements, and the sixteen elements of a ring with its head and number
+unfoldable pub array_cells : Counted → List ℤ
+array_cells array = pos array.count ∷ map pos array.bytes
 
-abbrev pub timeout_set : ℕ
-timeout_set = 3
-
-abbrev pub newest_set : ℕ
-newest_set = 3
-
--- how many cells the newest set has
-abbrev pub cell_count : ℕ
-cell_count = 48
-
--- the bytes, and zeros up to sixteen
-abbrev pub padded : List ℕ → List ℤ
-padded bytes = map pos bytes ++ replicate (16 - length bytes) (pos 0)
-
--- a count with its sixteen elements
-unfoldable pub fifo_cells : List ℕ → List ℤ
-fifo_cells bytes = pos (length bytes) ∷ padded bytes
+unfoldable pub ring_cells : Ring → List ℤ
+ring_cells ring = map pos ring.elements ++ pos ring.head ∷ pos ring.number ∷ []
 
 -- the fields that every set has
-unfoldable pub field_cells : Image → List ℤ
-field_cells image =
-    pos image.divisor ∷ pos image.ier ∷ pos image.iir ∷ pos image.lcr ∷ pos image.mcr ∷ pos image.lsr ∷ pos image.scr
-    ∷ pos image.rbr ∷ pos image.thr ∷ pos image.tsr ∷ pos image.tx_due ∷ []
+unfoldable pub field_cells : PortNumbers → List ℤ
+field_cells n =
+    pos n.divisor ∷ pos n.ier ∷ pos n.iir ∷ pos n.lcr ∷ pos n.mcr ∷ pos n.lsr ∷ pos n.scr ∷ pos n.rbr ∷ pos n.thr ∷ pos n.tsr ∷ pos n.tx_due ∷ []
 
--- fcr, the latch, the two FIFOs and the timeout, in the sets that have them
-abbrev pub fcr_cells : ℕ → ℕ → List ℤ
-fcr_cells set fcr = if nat_le fifo_set set then pos fcr ∷ [] else []
+-- the cells of a set: its fields, and then those of its subsections, the latch, the FIFOs as counted arrays,
+-- the timeout and the FIFOs as rings
+unfoldable pub cells_of : ℕ → PortNumbers → List ℤ
+cells_of set n =
+    field_cells n ++ since FIFOS_SINCE set (pos n.fcr ∷ []) ++ n.thr_ipending ∷ []
+    ++ since FIFOS_SINCE set (array_cells n.rx) ++ since FIFOS_SINCE set (array_cells n.tx)
+    ++ since TIMEOUT_SINCE set (pos n.timeout_at ∷ [])
+    ++ since RINGS_SINCE set (ring_cells n.rx_ring) ++ since RINGS_SINCE set (ring_cells n.tx_ring)
 
-abbrev pub latch_cells : Image → List ℤ
-latch_cells image = image.thr_ipending ∷ []
+-- the kinds of these cells
+abbrev pub field_kinds : List Kind
+field_kinds = U16 ∷ replicate 9 U8 ++ Timer ∷ []
 
-abbrev pub both_fifo_cells : ℕ → List ℕ → List ℕ → List ℤ
-both_fifo_cells set rx tx = if nat_le fifo_set set then fifo_cells rx ++ fifo_cells tx else []
+abbrev pub kinds : ℕ → List Kind
+kinds set =
+    field_kinds ++ since FIFOS_SINCE set (U8 ∷ []) ++ I8 ∷ []
+    ++ since FIFOS_SINCE set (replicate 17 U8) ++ since FIFOS_SINCE set (replicate 17 U8)
+    ++ since TIMEOUT_SINCE set (Timer ∷ [])
+    ++ since RINGS_SINCE set (replicate 18 U8) ++ since RINGS_SINCE set (replicate 18 U8)
 
-abbrev pub timeout_cells : ℕ → ℕ → List ℤ
-timeout_cells set timeout_at = if nat_le timeout_set set then pos timeout_at ∷ [] else []
-
--- the cells of a set: its fields, and then those of each subsection
-unfoldable pub cells_of : ℕ → Image → List ℤ
-cells_of set image =
-    field_cells image ++ fcr_cells set image.fcr ++ latch_cells image ++ both_fifo_cells set image.rx image.tx ++ timeout_cells set image.timeout_at
+-- from which place of a set each cell of the newest one comes, or its default
+abbrev pub origins : ℕ → List Origin
+origins set =
+    places 0 11 ++ where_had (nat_le FIFOS_SINCE set) (places 11 1) (default_of (pos 0) ∷ [])
+    ++ places (if nat_le FIFOS_SINCE set then 12 else 11) 1
+    ++ where_had (nat_le FIFOS_SINCE set) (places 13 34) (replicate 34 (default_of (pos 0)))
+    ++ where_had (nat_le TIMEOUT_SINCE set) (places 47 1) (default_of (pos NEVER) ∷ [])
+    ++ where_had (nat_le RINGS_SINCE set) (places 48 36) (replicate 36 (default_of (pos 0)))
 
 -- the cells of a set at their places in the newest one, with defaults elsewhere
 unfoldable pub carried : ℕ → List ℤ → List ℤ
-carried set cells =
-    if nat_le timeout_set set then cells
-    else (if nat_le fifo_set set then cells ++ pos never ∷ []
-    else take 11 cells ++ pos 0 ∷ [] ++ drop 11 cells ++ replicate 34 (pos 0) ++ pos never ∷ [])
+carried set cells = carried_by (origins set) cells
 
--- a cell by its place, and its number where it isn't negative
-abbrev pub cell_at : List ℤ → ℕ → ℤ
-cell_at cells k = slice_index_or cells k (pos 0)
+-- cells from a place on are bytes
+abbrev pub AreBytesIn : List ℤ → ℕ → ℕ → Type 0
+AreBytesIn cells place count = (k : ℕ) → place ≤ k → k < place + count → InRange U8 (cell_at cells k)
 
-abbrev pub nat_of : ℤ → ℕ
-nat_of (pos n) = n
-nat_of (negsuc n) = 0
+-- sixteen numbers from a place on
+abbrev pub bytes_at : List ℤ → ℕ → List ℕ
+bytes_at cells place = firsts 16 (λ i. number_at cells (place + i))
 
-abbrev pub number_at : List ℤ → ℕ → ℕ
-number_at cells k = nat_of (cell_at cells k)
+-- a counted array by the place of its count, and a ring by that of its first element
+abbrev pub array_at : List ℤ → ℕ → Counted
+array_at cells place = record { count = number_at cells place; bytes = bytes_at cells (place + 1) }
 
--- the counted array whose count has a place
-abbrev pub fifo_at : List ℤ → ℕ → List ℕ
-fifo_at cells k = map nat_of (take (number_at cells k) (drop (k + 1) cells))
-
--- the numbers of the newest set's cells
-unfoldable pub image_of : List ℤ → Image
-image_of cells = record {
-  divisor = number_at cells 0;
-  ier = number_at cells 1;
-  iir = number_at cells 2;
-  lcr = number_at cells 3;
-  mcr = number_at cells 4;
-  lsr = number_at cells 5;
-  scr = number_at cells 6;
-  rbr = number_at cells 7;
-  thr = number_at cells 8;
-  tsr = number_at cells 9;
-  tx_due = number_at cells 10;
-  fcr = number_at cells 11;
-  thr_ipending = cell_at cells 12;
-  rx = fifo_at cells 13;
-  tx = fifo_at cells 30;
-  timeout_at = number_at cells 47;
+abbrev pub ring_at : List ℤ → ℕ → Ring
+ring_at cells place = record {
+  elements = bytes_at cells place;
+  head = number_at cells (place + 16);
+  number = number_at cells (place + 17);
 }
 
--- the kind of each place in the newest set: the divisor, two timers, the signed latch, and bytes
-abbrev pub kind_at : ℕ → Kind
-kind_at k = if k == 0 then U16 else (if (k == 10) || (k == 47) then Timer else (if k == 12 then I8 else U8))
+-- the numbers of the newest set's cells
+unfoldable pub numbers_of : List ℤ → PortNumbers
+numbers_of cells = record {
+  divisor = number_at cells DIVISOR;
+  ier = number_at cells IER;
+  iir = number_at cells IIR;
+  lcr = number_at cells LCR;
+  mcr = number_at cells MCR;
+  lsr = number_at cells LSR;
+  scr = number_at cells SCR;
+  rbr = number_at cells RBR;
+  thr = number_at cells THR;
+  tsr = number_at cells TSR;
+  tx_due = number_at cells TX_DUE;
+  fcr = number_at cells FCR;
+  thr_ipending = cell_at cells THR_IPENDING;
+  rx = array_at cells RX_COUNT;
+  tx = array_at cells TX_COUNT;
+  timeout_at = number_at cells TIMEOUT_AT;
+  rx_ring = ring_at cells RX_RING;
+  tx_ring = ring_at cells TX_RING;
+}
 
 -- the array behind a count is at most its capacity long, and zero past the count
-pub record IsFifo (cells : List ℤ) (k : ℕ) : Type 0 where
-  pub fits : number_at cells k ≤ 16
-  pub zeros : (i : ℕ) → number_at cells k ≤ i → i < 16 → cell_at cells (k + 1 + i) ≡ pos 0
+pub record IsArray (cells : List ℤ) (place : ℕ) : Type 0 where
+  pub fits : number_at cells place ≤ 16
+  pub zeros : (i : ℕ) → number_at cells place ≤ i → i < 16 → cell_at cells (place + 1 + i) ≡ pos 0
 
--- each cell is in its kind's range
-abbrev pub AreInRange : List ℤ → Type 0
-AreInRange cells = (k : ℕ) → k < cell_count → InRange (kind_at k) (cell_at cells k)
-
--- as many cells as the newest set has, each in its kind's range, with both arrays as their counts say
+-- cells of the newest set: each of its kind, with both arrays as their counts say
 pub record IsPortCells (cells : List ℤ) : Type 0 where
-  pub count : length cells ≡ cell_count
-  pub in_range : AreInRange cells
-  pub rx : IsFifo cells 13
-  pub tx : IsFifo cells 30
+  pub of_kinds : AreOf (kinds NEWEST) cells
+  pub rx : IsArray cells RX_COUNT
+  pub tx : IsArray cells TX_COUNT

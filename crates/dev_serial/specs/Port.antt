@@ -1,11 +1,12 @@
 -- A serial port.
-use Rattle.std.specs.Prelude.{ℕ, ◌==◌, Bool, true, false, nat_le, ◌&&◌, not, if◌then◌else◌, List, [], length, Option, Some, None, is_some}
+use Rattle.std.specs.Prelude.{ℕ, ◌==◌, Bool, true, false, nat_le, ◌&&◌, not, if◌then◌else◌, List, [], ◌∷◌, length, Option, Some, None, is_some}
 use Rattle.dev_serial.specs.Bits.{has}
 use Rattle.dev_serial.specs.Fifo.{trigger_bytes}
 use Rattle.dev_serial.specs.Line.{character_time}
 use Rattle.dev_serial.specs.Parts.{ReceiverState, TransmitterState, IsShort}
 use Rattle.dev_serial.specs.declared.interrupt.Interrupt.{Interrupt}
 use Rattle.dev_serial.specs.declared.interrupt.Interrupt.TheVariants.{LineStatus, ReceivedData, CharacterTimeout, ThrEmpty, NonePending}
+use Rattle.dev_serial.specs.declared.levels.TheConstants.{TIMEOUT_SINCE}
 use Rattle.dev_serial.specs.declared.mode.Mode.{Mode}
 use Rattle.dev_serial.specs.declared.trigger.Trigger.{Trigger}
 
@@ -22,13 +23,6 @@ pub record Port : Type 0 where
   pub receiver : ReceiverState
   pub transmitter : TransmitterState
   pub thr_empty : Bool
-
--- the first level with FIFOs, and the first with the character timeout
-abbrev pub fifo_level : ℕ
-fifo_level = 2
-
-abbrev pub timeout_level : ℕ
-timeout_level = 3
 
 -- a port at power on
 unfoldable pub power_on : ℕ → Port
@@ -50,7 +44,7 @@ abbrev pub mode_of : Port → Mode
 mode_of port = record {
   character = character_time port.divisor port.lcr;
   has_fifos = is_some port.fifos;
-  times_out = nat_le timeout_level port.level && is_some port.fifos;
+  times_out = nat_le TIMEOUT_SINCE port.level && is_some port.fifos;
   is_looped = has port.mcr 4;
 }
 
@@ -64,14 +58,30 @@ abbrev pub has_come : ℕ → Option ℕ → Bool
 has_come now None = false
 has_come now (Some moment) = nat_le moment now
 
--- the interrupt that is identified: the first in this order that is enabled and asked for
+-- the character timeout has come, at a level that has it
+abbrev pub has_timed_out : ℕ → Port → Bool
+has_timed_out now port = nat_le TIMEOUT_SINCE port.level && has_come now port.receiver.timeout
+
+-- an interrupt asks for service: its bit of ier is set, and what it tells has come. With none of these there
+-- is always the answer that none is pending
+abbrev pub asks : ℕ → Port → Interrupt → Bool
+asks now port LineStatus = has port.ier 2 && port.receiver.overrun
+asks now port ReceivedData = has port.ier 0 && is_data_ready port.fifos port.receiver.held
+asks now port CharacterTimeout = has port.ier 0 && has_timed_out now port
+asks now port ThrEmpty = has port.ier 1 && port.thr_empty
+asks now port NonePending = true
+
+-- the interrupts by their priority, the highest first
+abbrev pub priorities : List Interrupt
+priorities = LineStatus ∷ ReceivedData ∷ CharacterTimeout ∷ ThrEmpty ∷ []
+
+abbrev pub first_asking : ℕ → Port → List Interrupt → Interrupt
+first_asking now port [] = NonePending
+first_asking now port (interrupt ∷ later) = if asks now port interrupt then interrupt else first_asking now port later
+
+-- the interrupt that is identified: of those that ask the one of highest priority
 unfoldable pub interrupt : ℕ → Port → Interrupt
-interrupt now port =
-    if has port.ier 2 && port.receiver.overrun then LineStatus
-    else (if has port.ier 0 && is_data_ready port.fifos port.receiver.held then ReceivedData
-    else (if has port.ier 0 && (nat_le timeout_level port.level && has_come now port.receiver.timeout) then CharacterTimeout
-    else (if has port.ier 1 && port.thr_empty then ThrEmpty
-    else NonePending)))
+interrupt now port = first_asking now port priorities
 
 -- its number in the identification register
 abbrev pub id_number : Interrupt → ℕ
@@ -100,6 +110,6 @@ unfoldable pub line_of : ℕ → Port → Bool
 line_of now port = is_pending (interrupt now port)
 
 -- what every port keeps: each list has at most sixteen bytes, and at most one without FIFOs
-pub record IsPort (port : Port) : Type 0 where
+pub record HasShortLists (port : Port) : Type 0 where
   pub held : IsShort (is_some port.fifos) port.receiver.held
   pub waiting : IsShort (is_some port.fifos) port.transmitter.waiting

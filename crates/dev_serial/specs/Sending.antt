@@ -2,9 +2,11 @@
 use Rattle.std.specs.Prelude.{◌≡◌, ℕ, ◌≤◌, ◌<◌, ◌&&◌, Bool, true, false, not, nat_lt, if◌then◌else◌, List, [], ◌∷◌, ◌++◌, length, Some, is_some}
 use Rattle.dev_serial.specs.Access.{is_empty, thr_written, advanced, leaving}
 use Rattle.dev_serial.specs.Bits.{has}
+use Rattle.dev_serial.specs.Line.{character_time}
 use Rattle.dev_serial.specs.Port.{Port, mode_of}
 use Rattle.dev_serial.specs.Receive.{received}
 use Rattle.dev_serial.specs.Transmit.{bytes_of, pending_of}
+use Rattle.dev_serial.specs.declared.mode.TheConstants.{LONGEST_CHARACTER}
 use Rattle.dev_serial.specs.declared.shift.Shift.{Shift}
 
 -- a byte is written to be sent at a moment, or time passes up to one
@@ -73,6 +75,11 @@ LeavesForLine =
 abbrev pub AdvancesInParts : Type 0
 AdvancesInParts =
     (first second : ℕ) (port : Port) → first ≤ second → advanced second port ≡ ((advanced first port).0 ++ (advanced second (advanced first port).1).0, (advanced second (advanced first port).1).1)
+
+-- the longest character has eight data bits, parity and two stop bits, at the greatest divisor
+pub record LongestCharacter : Type 0 where
+  pub reached : character_time 65535 0x0f ≡ LONGEST_CHARACTER
+  pub most : (divisor lcr : ℕ) → divisor < 65536 → character_time divisor lcr ≤ LONGEST_CHARACTER
 
 -- before the byte in the shift register is due, time changes nothing
 abbrev pub WaitsUntilDue : Type 0

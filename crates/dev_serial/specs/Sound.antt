@@ -3,10 +3,13 @@ use Rattle.std.specs.Prelude.{◌≡◌, ℕ, ◌+◌, ◌<◌, ◌≤◌, Bool,
 use Rattle.dev_serial.specs.Access.{is_empty}
 use Rattle.dev_serial.specs.Bits.{has}
 use Rattle.dev_serial.specs.Parts.{ReceiverState, TransmitterState, IsShort}
-use Rattle.dev_serial.specs.Port.{Port, fifo_level, timeout_level}
-use Rattle.dev_serial.specs.Rules.{longest_character, longest_timeout}
-use Rattle.dev_serial.specs.Saved.{newest_level}
+use Rattle.dev_serial.specs.Port.{Port}
+use Rattle.dev_serial.specs.Rules.{longest_timeout}
+use Rattle.dev_base.specs.Levels.{IsLevel}
+use Rattle.dev_serial.specs.declared.levels.TheConstants.{FIFOS_SINCE, TIMEOUT_SINCE}
 use Rattle.dev_serial.specs.declared.shift.Shift.{Shift}
+use Rattle.dev_serial.specs.declared.mode.TheConstants.{LONGEST_CHARACTER}
+use Rattle.dev_serial.specs.declared.numbers.TheConstants.{NEVER}
 
 -- each of a list is a byte
 abbrev pub AreBytes : List ℕ → Type 0
@@ -15,14 +18,13 @@ AreBytes (byte ∷ bytes) = (byte < 256) × AreBytes bytes
 
 -- the registers have their bits alone, and FIFOs are on at a level that has them
 pub record HasRegisters (level divisor ier lcr mcr scr : ℕ) (has_fifos : Bool) : Type 0 where
-  pub first : 1 ≤ level
-  pub newest : level ≤ newest_level
+  pub is_level : IsLevel level
   pub divisor_range : divisor < 65536
   pub ier_range : ier ≤ 15
   pub lcr_range : lcr < 256
   pub mcr_range : mcr ≤ 31
   pub scr_range : scr < 256
-  pub fifos : has_fifos ≡ true → fifo_level ≤ level
+  pub fifos : has_fifos ≡ true → FIFOS_SINCE ≤ level
 
 -- a timeout runs exactly where it has to, and ends at most four of the longest characters later
 pub record EndsInTime (now : ℕ) (runs : Bool) (timeout : ℕ) : Type 0 where
@@ -38,13 +40,13 @@ IsTimeout now runs (Some timeout) = EndsInTime now runs timeout
 pub record IsReceiver (now level : ℕ) (has_fifos : Bool) (receiver : ReceiverState) : Type 0 where
   pub short : IsShort has_fifos receiver.held
   pub bytes : AreBytes receiver.held
-  pub timeout : IsTimeout now (nat_le timeout_level level && (has_fifos && not (is_empty receiver.held))) receiver.timeout
+  pub timeout : IsTimeout now (nat_le TIMEOUT_SINCE level && (has_fifos && not (is_empty receiver.held))) receiver.timeout
 
 -- a byte in the shift register is sent after now, and at most the longest character later
 pub record IsSentInTime (now : ℕ) (shift : Shift) : Type 0 where
   pub byte : shift.byte < 256
   pub later : now < shift.due
-  pub in_time : shift.due ≤ now + longest_character
+  pub in_time : shift.due ≤ now + LONGEST_CHARACTER
 
 abbrev pub IsShift : ℕ → Option Shift → Type 0
 IsShift now None = Unit {0}
@@ -63,6 +65,30 @@ pub record IsSound (now : ℕ) (port : Port) : Type 0 where
   pub registers : HasRegisters port.level port.divisor port.ier port.lcr port.mcr port.scr (is_some port.fifos)
   pub receiver : IsReceiver now port.level (is_some port.fifos) port.receiver
   pub transmitter : IsTransmitter now (is_some port.fifos) port.transmitter port.thr_empty
+
+-- a moment that a timer can tell from never
+abbrev pub IsTold : Option ℕ → Type 0
+IsTold None = Unit {0}
+IsTold (Some moment) = moment < NEVER
+
+abbrev pub IsByte : Option Shift → Type 0
+IsByte None = Unit {0}
+IsByte (Some shift) = shift.byte < 256
+
+-- a port that a stream can tell: registers and bytes in their ranges, lists as short as they may be, a
+-- timeout that isn't never, and a set latch only while no byte waits
+pub record IsHeld (port : Port) : Type 0 where
+  pub is_level : IsLevel port.level
+  pub divisor_range : port.divisor < 65536
+  pub lcr_range : port.lcr < 256
+  pub scr_range : port.scr < 256
+  pub held_short : IsShort (is_some port.fifos) port.receiver.held
+  pub held_bytes : AreBytes port.receiver.held
+  pub waiting_short : IsShort (is_some port.fifos) port.transmitter.waiting
+  pub waiting_bytes : AreBytes port.transmitter.waiting
+  pub timeout : IsTold port.receiver.timeout
+  pub shift : IsByte port.transmitter.shift
+  pub latched : port.thr_empty ≡ true → is_empty port.transmitter.waiting ≡ true
 
 -- two ports are alike: they differ at most in the latch, and not while its interrupt is enabled
 pub record Alike (port other : Port) : Type 0 where

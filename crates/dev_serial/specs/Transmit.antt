@@ -17,6 +17,10 @@ loaded due (Some shift) waiting = record { waiting = waiting; shift = Some shift
 loaded due None [] = record { waiting = []; shift = None }
 loaded due None (byte ∷ rest) = record { waiting = rest; shift = Some (record { byte = byte; due = due }) }
 
+-- the transmitter after a byte is written, which is sent at a moment where the shift register is idle
+abbrev pub after_write : Bool → ℕ → ℕ → TransmitterState → TransmitterState
+after_write has_fifos byte due transmitter = loaded due transmitter.shift (queued has_fifos byte transmitter.waiting)
+
 -- when each of these bytes is sent, the first at a moment and each later one a character later
 unfoldable pub timetable : ℕ → ℕ → List ℕ → List Shift
 timetable character due [] = []
@@ -69,6 +73,20 @@ run_until character to (Some shift) waiting = holding (staying to (departures ch
 -- the bytes that leave the shift register up to a moment, each with its own
 abbrev pub gone_by : ℕ → ℕ → Option Shift → List ℕ → List Shift
 gone_by character to shift waiting = gone to (departures character shift waiting)
+
+-- the same of a transmitter
+abbrev pub gone_from : Mode → ℕ → TransmitterState → List Shift
+gone_from mode to transmitter = gone_by mode.character to transmitter.shift transmitter.waiting
+
+-- of a byte in the shift register and those behind it, what is gone by a moment, and what is held still
+abbrev pub gone_of : Mode → ℕ → Shift → List ℕ → List Shift
+gone_of mode to first waiting = gone to (departures mode.character (Some first) waiting)
+
+abbrev pub still_of : Mode → ℕ → Shift → List ℕ → TransmitterState
+still_of mode to first waiting = holding (staying to (departures mode.character (Some first) waiting))
+
+abbrev pub transmitter_of : List ℕ → Option Shift → TransmitterState
+transmitter_of waiting shift = record { waiting = waiting; shift = shift }
 
 -- what a shift register holds is sent after a moment
 abbrev pub IsSentAfter : ℕ → Option Shift → Type 0

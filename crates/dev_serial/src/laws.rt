@@ -1,14 +1,24 @@
 // Laws of the definitions, each in a clause of a function that does nothing.
-ghost use Rattle.dev_serial.specs.Laws.{ReadsAlike, WritesAlike, BytesInAlike, AdvancesAlike, LinesAlike, PowerOnIsSound, ReadsKeepSound, WritesKeepSound, BytesInKeepSound, AdvancesKeepSound, SavedMayBeRestored, SavedIsRestored, RestoredIsSound};
-ghost use Rattle.dev_serial.specs.Sending.{SendsInOrder, ReplacesOne, LeavesForLine, AdvancesInParts, WaitsUntilDue, LoopsAtMoment};
+ghost use Rattle.dev_serial.specs.Laws.{AlikeItself, AlikeBack, AlikeOn, ReadsKeepLevel, WritesKeepLevel, BytesInKeepLevel, AdvancesKeepLevel, ListsComeBack, HoldsWhatItGives, SavedAreCells, SavedComesBack, SoundMeetsRules, RestoredIsSound, ReadsAlike, WritesAlike, BytesInAlike, AdvancesAlike, SavesAlike, LinesAlike, PowerOnIsSound, ReadsKeepSound, WritesKeepSound, BytesInKeepSound, AdvancesKeepSound};
+ghost use Rattle.dev_serial.specs.RegisterLaws.{IdentifiesFirst, LineTellsAsking, SwitchClearsBoth, ResetsByBits, StaysOff, WritesSwitch};
+ghost use Rattle.dev_serial.specs.Sending.{SendsInOrder, ReplacesOne, LeavesForLine, AdvancesInParts, WaitsUntilDue, LoopsAtMoment, LongestCharacter};
+
+/// Each port is like itself, a port that is like another is so both ways, and what is like one of two
+/// ports that are alike is like the other.
+pub fn likeness_law()
+    ensures itself { AlikeItself }
+    ensures back { AlikeBack }
+    ensures on { AlikeOn }
+{}
 
 /// Ports that are alike answer each call alike, and are alike after it: reads, writes, bytes that come
-/// in, the passing of time, and the interrupt line.
+/// in, the passing of time, and the interrupt line. They save the same.
 pub fn alike_law()
     ensures reads { ReadsAlike }
     ensures writes { WritesAlike }
     ensures bytes_in { BytesInAlike }
     ensures advances { AdvancesAlike }
+    ensures saves { SavesAlike }
     ensures lines { LinesAlike }
 {}
 
@@ -21,6 +31,45 @@ pub fn sound_law()
     ensures advances { AdvancesKeepSound }
 {}
 
+/// Each call keeps the level.
+pub fn level_law()
+    ensures reads { ReadsKeepLevel }
+    ensures writes { WritesKeepLevel }
+    ensures bytes_in { BytesInKeepLevel }
+    ensures advances { AdvancesKeepLevel }
+{}
+
+/// The ring of a list of at most sixteen bytes gives the list again, and is a ring; so does its counted
+/// array. The elements that a ring holds are those of which it gives the bytes.
+pub fn ring_law()
+    ensures back { ListsComeBack }
+    ensures held { HoldsWhatItGives }
+{}
+
+/// What is saved of a sound port under a set from its level on are cells of that set: each of its kind,
+/// the counted arrays as their counts say, and the cells of a subsection that isn't needed at its
+/// defaults.
+pub fn cells_law()
+    ensures { SavedAreCells }
+{}
+
+/// What is saved of a sound port under any set from its level on, carried to the newest set, may be
+/// restored and gives a port like it.
+pub fn saved_law()
+    ensures { SavedComesBack }
+{}
+
+/// What is restored is sound, and has the level of the pass.
+pub fn restored_law()
+    ensures { RestoredIsSound }
+{}
+
+/// A port that a stream can tell is sound exactly where every rule holds of what the newest set saves of
+/// it.
+pub fn rules_law()
+    ensures { SoundMeetsRules }
+{}
+
 /// Bytes leave in the order in which they were written, none twice, and none is lost but those written
 /// to full FIFOs or replaced without FIFOs. What leaves goes to the line but in loop mode.
 pub fn sending_law()
@@ -30,17 +79,28 @@ pub fn sending_law()
 {}
 
 /// Letting time pass in two parts is letting it pass at once; no byte is sent before its moment; and in
-/// loop mode a byte comes in at the moment at which it is sent.
+/// loop mode a byte comes in at the moment at which it is sent. The longest character takes
+/// `LONGEST_CHARACTER`, 6,826,562,500 nanoseconds.
 pub fn time_law()
     ensures in_parts { AdvancesInParts }
     ensures not_before { WaitsUntilDue }
     ensures loops { LoopsAtMoment }
+    ensures longest { LongestCharacter }
 {}
 
-/// What is saved of a sound port under any set from its level on may be restored, whichever subsections
-/// weren't needed, and is restored as a port like it. What is restored is sound.
-pub fn saved_law()
-    ensures may_be_restored { SavedMayBeRestored }
-    ensures is_restored { SavedIsRestored }
-    ensures is_sound { RestoredIsSound }
+/// The interrupt that is identified asks for service and none of higher priority does, and the line is
+/// high exactly where one asks.
+pub fn interrupt_law()
+    ensures first { IdentifiesFirst }
+    ensures line { LineTellsAsking }
+{}
+
+/// Writes of the FIFO Control Register: switching the FIFOs on or off clears both lists; while they stay
+/// on bit 1 clears the receive list and bit 2 the transmit list; while they stay off nothing changes. The
+/// latch is set where bytes that waited are cleared, and the shift register goes on.
+pub fn fifo_control_law()
+    ensures switched { SwitchClearsBoth }
+    ensures reset { ResetsByBits }
+    ensures stays_off { StaysOff }
+    ensures written { WritesSwitch }
 {}

@@ -5,23 +5,27 @@
 //! nanoseconds from power on.
 #![tactic(auto)]
 
-mod cells;
-mod image;
 mod interrupt;
 mod laws;
+mod levels;
 mod mode;
+mod numbers;
+mod place;
 mod receiver;
 mod registers;
+mod rules;
 mod saved;
 mod serial;
 mod shift;
+mod stored;
 mod transmitter;
 mod trigger;
 
-pub use laws::{alike_law, saved_law, sending_law, sound_law, time_law};
-pub use mode::LAST_MOMENT;
-pub use saved::NEWEST_SET;
-pub use serial::{NEWEST_LEVEL, Serial};
+pub use laws::{
+    alike_law, cells_law, fifo_control_law, interrupt_law, level_law, likeness_law, restored_law,
+    ring_law, rules_law, saved_law, sending_law, sound_law, time_law,
+};
+pub use serial::Serial;
 
 #[cfg(test)]
 mod tests;

@@ -17,9 +17,6 @@ pub(crate) struct Mode {
     pub is_looped: bool,
 }
 
-/// The last moment that a call may have, in nanoseconds.
-pub const LAST_MOMENT: u64 = 4_000_000_000_000_000_000;
-
 /// The longest time of a character, in nanoseconds: 12 bits at divisor 65,535.
 pub(crate) const LONGEST_CHARACTER: u64 = 6_826_562_500;
 

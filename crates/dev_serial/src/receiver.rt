@@ -1,8 +1,9 @@
 // The receiving part of a port.
 ghost use Rattle.std.specs.Prelude.{◌≡◌, ◌≤◌, length, [], false};
 
-use crate::mode::{LAST_MOMENT, LONGEST_CHARACTER, Mode};
+use crate::mode::{LONGEST_CHARACTER, Mode};
 use arrayvec::ArrayVec;
+use dev_base::LAST_MOMENT;
 use std::marker::Model;
 
 /// The Receiver Buffer Register or, with FIFOs, the receive FIFO, and what belongs to it.

@@ -1,29 +1,28 @@
 // A serial port.
-ghost use Rattle.dev_serial.specs.Access.{msr_of};
+ghost use Rattle.dev_serial.specs.Access.{msr_of, switch_of as switch_of_number};
+ghost use Rattle.dev_base.specs.Levels.{IsLevel};
 ghost use Rattle.std.specs.Prelude.{◌≡◌, ◌≤◌, ◌+◌, length, nat_le, ◌&&◌};
 
 use crate::interrupt::Interrupt;
-use crate::mode::{LAST_MOMENT, LONGEST_CHARACTER, Mode, character_time};
+use crate::levels::{FIFOS_SINCE, TIMEOUT_SINCE};
+use crate::mode::{LONGEST_CHARACTER, Mode, character_time};
 use crate::receiver::Receiver;
-use crate::registers::*;
+use crate::registers::{
+    CTS, DCD, DLAB, DR, DSR, DTR, ELSI, ERBFI, ETBEI, FIFO_ENABLE, FIFOS_ENABLED, IER, IER_BITS,
+    IIR_FCR, LCR, LOOP, LSR, MCR, MCR_BITS, MODEM_READY, MSR, OE, OUT1, OUT2, RBR_THR, RCVR_RESET,
+    RI, RTS, TEMT, THRE, XMIT_RESET, bit_where, bits_where, has,
+};
 use crate::transmitter::Transmitter;
 use crate::trigger::Trigger;
 use arrayvec::ArrayVec;
+use dev_base::LAST_MOMENT;
 use std::marker::Model;
-
-/// The first level at which a port has FIFOs, and so is a 16550A and no 16450.
-pub(crate) const FIFO_LEVEL: u8 = 2;
-
-/// The first level at which FIFOs have the character timeout.
-pub(crate) const TIMEOUT_LEVEL: u8 = 3;
-
-/// The newest level.
-pub const NEWEST_LEVEL: u8 = 3;
 
 /// A serial port with its registers, its two lists of bytes and its shift register.
 ///
-/// Levels go from 1 to 3: a 16450, a 16550A without and one with the character timeout. Parity,
-/// framing and break faults never come, and interrupts aren't gated by OUT2.
+/// Levels go from 1 to 4: a 16450 at level 1, a 16550A without the character timeout at level 2, and
+/// one with it from level 3 on. Parity, framing and break faults never come, and interrupts aren't gated
+/// by OUT2.
 #[derive(Drop)]
 pub struct Serial {
     pub(crate) level: u8,
@@ -44,22 +43,23 @@ impl Model for Serial {
     ghost Value = { Port };
 
     ghost use Rattle.dev_serial.specs.View.{port_view};
-    ghost use Rattle.dev_serial.specs.Port.{IsPort};
+    ghost use Rattle.dev_serial.specs.Port.{HasShortLists};
 
     ghost view = { port_view };
 
-    ghost invariant = { λ s. IsPort (port_view s) };
+    ghost invariant = { λ s. HasShortLists (port_view s) };
 }
 
 impl Serial {
     ghost use Rattle.dev_serial.specs.Transmit.{IsSentAfter};
     ghost use Rattle.dev_serial.specs.Receive.{taken, taken_at};
-    ghost use Rattle.dev_serial.specs.Port.{power_on, mode_of, is_data_ready, has_come, timeout_level, interrupt, line_of};
-    ghost use Rattle.dev_serial.specs.Access.{lsr_of, with_taken, id_read, lsr_read, read_of, thr_written, ier_written, fcr_written, written, came_in, advanced};
+    ghost use Rattle.dev_serial.specs.Port.{power_on, mode_of, is_data_ready, has_timed_out, interrupt, line_of};
+    ghost use Rattle.dev_serial.specs.Access.{lsr_of, byte_read, id_read, lsr_read, read_of, thr_written, ier_written, receiver_cleared, transmitter_cleared, fcr_written, written, came_in, advanced};
 
-    /// A port of a level from 1 to 3 at power on: divisor 12, and all else empty or 0.
+    /// A port of a level at power on: divisor 12, and all else empty or 0.
     #[tactic(auto, unfolding(crate::specs::Port::power_on))]
     pub fn new(level: u8) -> Serial
+        requires { IsLevel level }
         ensures state { result ≡ power_on level }
         ensures level { result.level ≡ level }
     {
@@ -86,7 +86,7 @@ impl Serial {
         Mode {
             character: character_time(self.divisor, self.lcr),
             has_fifos,
-            times_out: self.level >= TIMEOUT_LEVEL && has_fifos,
+            times_out: self.level >= TIMEOUT_SINCE && has_fifos,
             is_looped: has(self.mcr, LOOP),
         }
     }
@@ -124,9 +124,9 @@ impl Serial {
 
     // The character timeout has come.
     fn has_timed_out(&self, now: u64) -> bool
-        ensures { result ≡ (nat_le timeout_level self.now.level && has_come now self.now.receiver.timeout) }
+        ensures { result ≡ has_timed_out now self.now }
     {
-        self.level >= TIMEOUT_LEVEL
+        self.level >= TIMEOUT_SINCE
             && match self.receiver.timeout() {
                 None => false,
                 Some(timeout) => timeout <= now,
@@ -158,7 +158,7 @@ impl Serial {
     // The first received byte leaves, "Receiver Buffer Register".
     fn read_byte(&mut self, now: u64) -> u8
         requires { now ≤ LAST_MOMENT }
-        ensures { (result, self.new) ≡ with_taken self.old (taken (mode_of self.old) now self.old.receiver) }
+        ensures { (result, self.new) ≡ byte_read now self.old }
     {
         let mode = self.mode();
         self.receiver.take(mode, now)
@@ -215,7 +215,7 @@ impl Serial {
             }
             IER => self.write_enable(value),
             IIR_FCR => {
-                if self.level >= FIFO_LEVEL {
+                if self.level >= FIFOS_SINCE {
                     self.write_fifo_control(value);
                 }
             }
@@ -252,28 +252,36 @@ impl Serial {
         self.ier = enabled;
     }
 
-    // "FIFO Control Register". A change of the switch clears both lists.
-    #[tactic(auto, unfolding(crate::specs::Access::fcr_written))]
+    // "FIFO Control Register". Switching the FIFOs on or off clears both lists; while they stay on two
+    // bits clear one list each.
+    #[tactic(auto, unfolding(crate::specs::Access::fcr_written, crate::specs::Access::fcr_cleared))]
     fn write_fifo_control(&mut self, value: u8)
         ensures state { self.new ≡ fcr_written value self.old }
         ensures level { self.new.level ≡ self.old.level }
     {
-        let is_on = has(value, FIFO_ENABLE);
-        let changes = is_on != self.fifos.is_some();
-        if changes || (is_on && has(value, RCVR_RESET)) {
+        let fifos = switch_of(value);
+        match (self.fifos, fifos) {
+            (None, None) => {}
+            (Some(_), Some(_)) => self.clear(has(value, RCVR_RESET), has(value, XMIT_RESET)),
+            _ => self.clear(true, true),
+        }
+        self.fifos = fifos;
+    }
+
+    // Clears the receive list, the transmit list, or both. Bytes that waited set the latch.
+    fn clear(&mut self, held: bool, waiting: bool)
+        ensures state { self.new ≡ transmitter_cleared waiting (receiver_cleared held self.old) }
+        ensures level { self.new.level ≡ self.old.level }
+    {
+        if held {
             self.receiver.empty();
         }
-        if changes || (is_on && has(value, XMIT_RESET)) {
+        if waiting {
             if !self.transmitter.waiting().is_empty() {
                 self.thr_empty = true;
             }
             self.transmitter.empty();
         }
-        self.fifos = if is_on {
-            Some(Trigger::of_bits(value / 64))
-        } else {
-            None
-        };
     }
 
     /// A byte comes on the line at a moment up to `LAST_MOMENT`. In loop mode it is ignored.
@@ -314,6 +322,17 @@ impl Serial {
         ensures { result ≡ line_of now self.now }
     {
         self.interrupt(now).is_pending()
+    }
+}
+
+// The switch and the trigger that the FIFO Control Register says.
+fn switch_of(value: u8) -> Option<Trigger>
+    ensures { result ≡ switch_of_number value }
+{
+    if has(value, FIFO_ENABLE) {
+        Some(Trigger::of_bits(value / 64))
+    } else {
+        None
     }
 }
 

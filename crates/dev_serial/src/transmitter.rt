@@ -1,12 +1,13 @@
 // The sending part of a port.
 ghost use Rattle.std.specs.Prelude.{◌≡◌, ◌≤◌, ◌+◌, ◌++◌, length, Some, [], ◌∷◌, false};
-ghost use Rattle.dev_serial.specs.Transmit.{gone, staying, holding, on_line, looped_in, departures, IsSentAfter};
+ghost use Rattle.dev_serial.specs.Transmit.{on_line, looped_in, gone_of, still_of, transmitter_of, IsSentAfter};
 ghost use Rattle.dev_serial.specs.Parts.{IsShort};
 
-use crate::mode::{LAST_MOMENT, LONGEST_CHARACTER, Mode};
+use crate::mode::{LONGEST_CHARACTER, Mode};
 use crate::receiver::Receiver;
 use crate::shift::Shift;
 use arrayvec::ArrayVec;
+use dev_base::LAST_MOMENT;
 use std::marker::Model;
 
 /// The Transmitter Holding Register or, with FIFOs, the transmit FIFO, and the shift register behind
@@ -28,7 +29,7 @@ impl Model for Transmitter {
 }
 
 impl Transmitter {
-    ghost use Rattle.dev_serial.specs.Transmit.{queued, loaded, run_until, gone_by};
+    ghost use Rattle.dev_serial.specs.Transmit.{after_write, run_until, gone_from};
 
     /// A transmitter of these bytes, first in first, and this shift register.
     pub fn new(waiting: ArrayVec<u8, 16>, shift: Option<Shift>) -> Transmitter
@@ -41,7 +42,7 @@ impl Transmitter {
     /// at the moment `due`.
     #[tactic(auto, unfolding(crate::specs::Transmit::queued, crate::specs::Transmit::loaded))]
     pub fn write(&mut self, has_fifos: bool, byte: u8, due: u64)
-        ensures state { self.new ≡ loaded due self.old.shift (queued has_fifos byte self.old.waiting) }
+        ensures state { self.new ≡ after_write has_fifos byte due self.old }
         ensures short { length self.old.waiting ≤ 16 → length self.new.waiting ≤ 16 }
         ensures one { has_fifos ≡ false → length self.new.waiting ≤ 1 }
     {
@@ -87,8 +88,8 @@ impl Transmitter {
         requires few { length self.old.waiting ≤ 16 }
         requires few_held { IsShort mode.has_fifos receiver.old.held }
         ensures state { self.new ≡ run_until mode.character to self.old.shift self.old.waiting }
-        ensures line { result.items ≡ on_line mode (gone_by mode.character to self.old.shift self.old.waiting) }
-        ensures looped { receiver.new ≡ looped_in mode (gone_by mode.character to self.old.shift self.old.waiting) receiver.old }
+        ensures line { result.items ≡ on_line mode (gone_from mode to self.old) }
+        ensures looped { receiver.new ≡ looped_in mode (gone_from mode to self.old) receiver.old }
         ensures few_sent { length result.items ≤ 17 }
         ensures none_due { IsSentAfter to self.new.shift }
         ensures fewer { length self.new.waiting ≤ length self.old.waiting }
@@ -115,9 +116,9 @@ fn send_due(
     requires moment { to ≤ LAST_MOMENT }
     requires few { length waiting.old.items ≤ 16 }
     requires few_held { IsShort mode.has_fifos receiver.old.held }
-    ensures left { record { waiting = waiting.new.items; shift = result.1 } ≡ holding (staying to (departures mode.character (Some first) waiting.old.items)) }
-    ensures line { result.0.items ≡ on_line mode (gone to (departures mode.character (Some first) waiting.old.items)) }
-    ensures looped { receiver.new ≡ looped_in mode (gone to (departures mode.character (Some first) waiting.old.items)) receiver.old }
+    ensures left { transmitter_of waiting.new.items result.1 ≡ still_of mode to first waiting.old.items }
+    ensures line { result.0.items ≡ on_line mode (gone_of mode to first waiting.old.items) }
+    ensures looped { receiver.new ≡ looped_in mode (gone_of mode to first waiting.old.items) receiver.old }
     ensures few_sent { length result.0.items ≤ 17 }
     ensures none_due { IsSentAfter to result.1 }
     ensures fewer { length waiting.new.items ≤ length waiting.old.items }

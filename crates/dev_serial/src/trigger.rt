@@ -5,7 +5,7 @@ ghost use Rattle.dev_serial.specs.Fifo.{trigger_of, trigger_number, trigger_byte
 /// How many received bytes ask for an interrupt while the FIFOs are on ("FIFO Control Register",
 /// bits 6 and 7).
 #[derive(Clone, Copy, Debug, PartialEq, Eq)]
-pub enum Trigger {
+pub(crate) enum Trigger {
     One,
     Four,
     Eight,

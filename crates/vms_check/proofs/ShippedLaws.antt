@@ -5,7 +5,7 @@ use Rattle.std.proofs.lemmas.Bool.{and_parts}
 use Rattle.vms_spec.specs.Layout.{first}
 use Rattle.vms_spec.specs.Lists.{every}
 use Rattle.vms_spec.specs.Sets.{Set}
-use Rattle.vms_spec.specs.Shipped.{set_1, set_2, set_3}
+use Rattle.vms_spec.specs.Shipped.{set_1, set_2, set_3, set_4}
 use Rattle.vms_desc.specs.Formed.{shipped_set}
 use Rattle.vms_desc.proofs.Bounds.{none_is}
 use Rattle.vms_check.specs.Comparing.{Compatible, first_mismatch}
@@ -32,26 +32,27 @@ pair (s ∷ sets) (suc i) (suc j) d e less lt = pair sets i j d (and_parts (ever
 
 -- from set 1 on
 abbrev shipped : List Set
-shipped = set_1 ∷ set_2 ∷ set_3 ∷ []
+shipped = set_1 ∷ set_2 ∷ set_3 ∷ set_4 ∷ []
 
 shipped_in_order : in_order shipped ≡ true
 unfolding first_mismatch first
 shipped_in_order = refl
 
-numbered : (i : ℕ) → i < length shipped → get_or shipped i set_3 ≡ shipped_set (suc i)
+numbered : (i : ℕ) → i < length shipped → get_or shipped i set_4 ≡ shipped_set (suc i)
 numbered zero lt = refl
 numbered (suc zero) lt = refl
-numbered (suc (suc i)) lt = last i
+numbered (suc (suc zero)) lt = refl
+numbered (suc (suc (suc i))) lt = last i
   where
-    last : (i : ℕ) → get_or (set_3 ∷ []) i set_3 ≡ set_3
+    last : (i : ℕ) → get_or (set_4 ∷ []) i set_4 ≡ set_4
     last zero = refl
     last (suc i) = refl
 
-pub shipped_compatible : (s t : ℕ) → 1 ≤ s → s < t → t ≤ 3 → Compatible (shipped_set s) (shipped_set t)
+pub shipped_compatible : (s t : ℕ) → 1 ≤ s → s < t → t ≤ 4 → Compatible (shipped_set s) (shipped_set t)
 shipped_compatible zero t low less le = absurd (omega arith)
 shipped_compatible (suc i) zero low less le = absurd (omega arith)
 shipped_compatible (suc i) (suc j) low less le =
     let first : i < length shipped = omega arith in
     let second : j < length shipped = omega arith in
     none_is (first_mismatch (shipped_set (suc i)) (shipped_set (suc j)))
-    (ap (λ (x : Set). are_compatible x (shipped_set (suc j))) (sym (numbered i first)) ∙ ap (are_compatible (get_or shipped i set_3)) (sym (numbered j second)) ∙ pair shipped i j set_3 shipped_in_order (omega arith) second)
+    (ap (λ (x : Set). are_compatible x (shipped_set (suc j))) (sym (numbered i first)) ∙ ap (are_compatible (get_or shipped i set_4)) (sym (numbered j second)) ∙ pair shipped i j set_4 shipped_in_order (omega arith) second)

@@ -26,4 +26,4 @@ ReflexiveLaw = (set : Set) → WellFormed set → Compatible set set
 
 -- each shipped set from 1 on is compatible to each later one
 abbrev pub ShippedLaw : Type 0
-ShippedLaw = (s t : ℕ) → 1 ≤ s → s < t → t ≤ 3 → Compatible (shipped_set s) (shipped_set t)
+ShippedLaw = (s t : ℕ) → 1 ≤ s → s < t → t ≤ 4 → Compatible (shipped_set s) (shipped_set t)

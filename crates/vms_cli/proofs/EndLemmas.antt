@@ -1,46 +1,198 @@
--- From what a load and a write say to how the command ends.
-use Rattle.std.proofs.Common.{append-nil, append_assoc, [], ◌∷◌, ◌++◌, ℤ, pos, get_or, length, ◌≡◌, ℕ, List, Option, Some, None, Ok, IfSome, Bool, true, refl, sym, ap, ◌∙◌, subst, drop, arith, inl, inr}
+-- From how a command ends and what is told of it to what the call answers.
+use Rattle.std.proofs.Common.{append-nil, ◌≡◌, ◌⊎◌, ℕ, List, [], Option, Some, None, refl, sym, ap, ◌∙◌, subst, arith, inl, inr}
 use Rattle.std.specs.Io.KnownBytes.{Appends, Keeps}
+use Rattle.std.specs.Prelude.{string_bytes}
 use Rattle.vms_io.specs.Causes.{AppendsPrefix, Rose}
+use Rattle.vms_io.specs.Told.{Intake, Outlet, Stock}
 use Rattle.vms_cli.specs.declared.ending.Ending.{Ending}
 use Rattle.vms_cli.specs.declared.ending.Ending.TheVariants.{Done, Refused, BadWords, BadValues, ReadFault, WriteFault, ShelfFault, NotThere, TooLarge, NoMemory}
-use Rattle.vms_cli.specs.Outcomes.{Outcome, Outside, DoesOrFails}
-use Rattle.vms_cli.specs.Endings.{EndsAs, EndsCause, EndsWith, Tells, WritesAs}
-use Rattle.vms_cli.specs.Commands.{Asked, Show, Pack}
-use Rattle.vms_cli.specs.Lines.{shelf_fault}
+use Rattle.vms_cli.specs.Outcomes.{Part, Outcome, Outside, ComesTo, CountsStand, PromisesStay, text_of, held_after}
+use Rattle.vms_cli.specs.Answers.{HasOutcome, CanAnswer, DoesOrStops, Answers}
+use Rattle.vms_cli.specs.Endings.{EndsAs, EndsWith, EndsCause, Tells}
+use Rattle.vms_cli.specs.Commands.{Asked, Show, Pack, asked_of}
+use Rattle.vms_cli.specs.Lines.{bad_words}
 
--- what stays grows by nothing, and by a prefix of anything
-kept_none : (old new : Option (List ℕ)) → Keeps old new → Appends old new []
+-- what stays grows by nothing
+pub kept_none : (old new : Option (List ℕ)) → Keeps old new → Appends old new []
 kept_none None new h = tt
 kept_none (Some xs) None h = absurd h
 kept_none (Some xs) (Some ys) h = h ∙ sym (append-nil xs)
 
-kept_part : (old new : Option (List ℕ)) (text : List ℕ) → Keeps old new → AppendsPrefix old new text
-kept_part old new text h = (0, omega arith, kept_none old new h)
+pub keeps_same : (o : Option (List ℕ)) → Keeps o o
+keeps_same None = tt
+keeps_same (Some bytes) = refl
 
--- a command that ended with a status and a line, which was told on notes
-pub told : (o : Option Outcome) (status result : ℕ) (line : List ℕ) (old new : Outside) → (status ≡ 0 → ⊥) → IfSome o (λ x. EndsWith x status line old.out new.out)
-    → Tells old.notes new.notes old.notes_faults new.notes_faults line status result → IfSome o (DoesOrFails result old new)
-told None status result line old new never ends tells = tt
-told (Some o) status result line old new never ends (inl t) =
-    inl (
-      t.0 ∙ sym ends.0,
-      subst (λ (l : List ℕ). Appends old.out new.out l) (sym ends.1) (kept_none old.out new.out ends.3),
-      subst (λ (l : List ℕ). Appends old.notes new.notes l) (sym ends.2) t.1,
-      λ zero. absurd (never (sym ends.0 ∙ zero)),
-    )
-told (Some o) status result line old new never ends (inr t) =
-    inr (inr (inr (inl (t.0, t.1, kept_part old.out new.out o.text ends.3, inl (subst (λ (l : List ℕ). AppendsPrefix old.notes new.notes l) (sym ends.2) t.2)))))
+same_keeps : (o o' : Outlet) → o' ≡ o → Keeps o.written o'.written
+same_keeps o o' e = subst (λ (x : Outlet). Keeps o.written x.written) (sym e) (keeps_same o.written)
 
--- the shelf failed, which was told on notes
-pub shelf_told : (o : Option Outcome) (result : ℕ) (old new : Outside) → Keeps old.out new.out → Rose old.shelf_faults new.shelf_faults
-    → Tells old.notes new.notes old.notes_faults new.notes_faults shelf_fault 7 result → IfSome o (DoesOrFails result old new)
-shelf_told None result old new keeps rose tells = tt
-shelf_told (Some o) result old new keeps rose (inl t) = inr (inr (inr (inr (inl (t.0, rose, keeps, t.1)))))
-shelf_told (Some o) result old new keeps rose (inr t) = inr (inr (inr (inl (t.0, t.1, kept_part old.out new.out o.text keeps, inr (inr (inr (inl t.2)))))))
+-- nothing was begun
+pub comes_to_nothing : (o o' : Outlet) (s s' : Stock) (parts : List Part) → Keeps o.written o'.written → s'.held ≡ s.held → ComesTo o o' s s' parts
+comes_to_nothing o o' s s' parts keeps held = record { begun = 0; bytes = 0; text = kept_none o.written o'.written keeps; held = inl held }
 
--- only `pack` ends by a fault of the shelf
-pub shelf_causes : (asked : Option Asked) (i i' s s' o o' : ℕ) (out out' : Option (List ℕ)) → EndsCause asked i i' s s' o o' out out' ShelfFault → Rose s s' × Keeps out out'
-shelf_causes None i i' s s' o o' out out' h = absurd h
-shelf_causes (Some Show) i i' s s' o o' out out' h = absurd h
-shelf_causes (Some (Pack name)) i i' s s' o o' out out' h = h
+-- what each cause says, whichever command it is of: the shelf tells the same, and out is untouched but where it was written
+abbrev Caused : (i i' : Intake) (o o' : Outlet) (s s' : Stock) → Ending → Type 0
+Caused i i' o o' s s' Done = Unit {0}
+Caused i i' o o' s s' ReadFault = Rose i.faults i'.faults × Keeps o.written o'.written × (s'.held ≡ s.held)
+Caused i i' o o' s s' WriteFault = Rose o.faults o'.faults × (s'.held ≡ s.held)
+Caused i i' o o' s s' ShelfFault = Rose s.faults s'.faults × Keeps o.written o'.written × (s'.held ≡ s.held)
+Caused i i' o o' s s' ending = Keeps o.written o'.written × (s'.held ≡ s.held)
+
+caused : (asked : Option Asked) (i i' : Intake) (o o' : Outlet) (s s' : Stock) (e : Ending) → EndsCause asked i i' o o' s s' e → Caused i i' o o' s s' e
+caused None i i' o o' s s' BadWords h = (same_keeps o o' h.2, ap (λ (x : Stock). x.held) h.3)
+caused None i i' o o' s s' Done h = absurd h.0
+caused None i i' o o' s s' (Refused line) h = absurd h.0
+caused None i i' o o' s s' (BadValues line) h = absurd h.0
+caused None i i' o o' s s' ReadFault h = absurd h.0
+caused None i i' o o' s s' WriteFault h = absurd h.0
+caused None i i' o o' s s' ShelfFault h = absurd h.0
+caused None i i' o o' s s' (NotThere line) h = absurd h.0
+caused None i i' o o' s s' (TooLarge line) h = absurd h.0
+caused None i i' o o' s s' NoMemory h = absurd h.0
+caused (Some Show) i i' o o' s s' Done h = tt
+caused (Some Show) i i' o o' s s' (Refused line) h = (h.0, ap (λ (x : Stock). x.held) h.2)
+caused (Some Show) i i' o o' s s' BadWords h = absurd h.0
+caused (Some Show) i i' o o' s s' (BadValues line) h = absurd h.0
+caused (Some Show) i i' o o' s s' ReadFault h = (h.0.0, h.0.1, ap (λ (x : Stock). x.held) h.2)
+caused (Some Show) i i' o o' s s' WriteFault h = (h.0, ap (λ (x : Stock). x.held) h.2)
+caused (Some Show) i i' o o' s s' ShelfFault h = absurd h.0
+caused (Some Show) i i' o o' s s' (NotThere line) h = absurd h.0
+caused (Some Show) i i' o o' s s' (TooLarge line) h = absurd h.0
+caused (Some Show) i i' o o' s s' NoMemory h = (h.0, ap (λ (x : Stock). x.held) h.2)
+caused (Some (Pack name)) i i' o o' s s' Done h = tt
+caused (Some (Pack name)) i i' o o' s s' (Refused line) h = absurd h.0
+caused (Some (Pack name)) i i' o o' s s' BadWords h = absurd h.0
+caused (Some (Pack name)) i i' o o' s s' (BadValues line) h = (h.0, h.2)
+caused (Some (Pack name)) i i' o o' s s' ReadFault h = absurd h.0
+caused (Some (Pack name)) i i' o o' s s' WriteFault h = (h.0, h.2)
+caused (Some (Pack name)) i i' o o' s s' ShelfFault h = (h.0.0, h.0.1, h.2)
+caused (Some (Pack name)) i i' o o' s s' (NotThere line) h = (h.0, h.2)
+caused (Some (Pack name)) i i' o o' s s' (TooLarge line) h = (h.0, h.2)
+caused (Some (Pack name)) i i' o o' s s' NoMemory h = (h.0, h.2)
+
+module _ (i i' : Intake) (o o' n n' : Outlet) (s s' : Stock) where
+  abbrev before : Outside
+  before = record { input = i; out = o; notes = n; shelf = s }
+
+  abbrev after : Outside
+  after = record { input = i'; out = o'; notes = n'; shelf = s' }
+
+  -- ---- the outcome
+
+  -- ended by a status with its line, which was told
+  ended_so : (k status : ℕ) (line : List ℕ) (x : Outcome) → (k ≡ 0 → ⊥) → EndsWith k line i i' x → Keeps o.written o'.written → s'.held ≡ s.held
+      → ((status ≡ k) × Appends n.written n'.written line) ⊎ ((status ≡ 6) × Rose n.faults n'.faults × AppendsPrefix n.written n'.written line)
+      → DoesOrStops status before after x
+  ended_so k status line x never ends keeps held (inl t) = inl record {
+    same = t.0 ∙ sym ends.status_is;
+    text = subst (λ (l : List Part). Appends o.written o'.written (text_of l)) (sym ends.parts) (kept_none o.written o'.written keeps);
+    note = subst (λ (l : List ℕ). Appends n.written n'.written l) (sym ends.note) t.1;
+    shelf = held ∙ ap (λ (l : List Part). held_after s.held l) (sym ends.parts);
+    left = ends.left;
+    given = λ zero. absurd (never (sym ends.status_is ∙ zero));
+  }
+  ended_so k status line x never ends keeps held (inr t) = inr record {
+    why = inr (inr (inl ((t.0, t.1), inl (subst (λ (l : List ℕ). AppendsPrefix n.written n'.written l) (sym ends.note) t.2))));
+    come = comes_to_nothing o o' s s' x.parts keeps held;
+  }
+
+  outcome_so : (e : Ending) (status : ℕ) (x : Outcome) → EndsAs i i' o o' s s' e x → Caused i i' o o' s s' e → Tells n n' e status → DoesOrStops status before after x
+  outcome_so Done status x d c t = inl record {
+    same = t.0 ∙ sym d.status_is;
+    text = d.text;
+    note = subst (λ (l : List ℕ). Appends n.written n'.written l) (sym d.note) (kept_none n.written n'.written (same_keeps n n' t.1));
+    shelf = d.held;
+    left = d.taken.left;
+    given = λ zero. d.taken.given;
+  }
+  outcome_so (Refused line) status x d c t = ended_so 1 status (string_bytes line) x (λ z. omega (arith, z)) d c.0 c.1 t
+  outcome_so BadWords status x d c t = ended_so 2 status bad_words x (λ z. omega (arith, z)) d c.0 c.1 t
+  outcome_so (BadValues line) status x d c t = ended_so 3 status (string_bytes line) x (λ z. omega (arith, z)) d c.0 c.1 t
+  outcome_so (NotThere line) status x d c t = ended_so 8 status (string_bytes line) x (λ z. omega (arith, z)) d c.0 c.1 t
+  outcome_so (TooLarge line) status x d c t = ended_so 9 status (string_bytes line) x (λ z. omega (arith, z)) d c.0 c.1 t
+  outcome_so ReadFault status x d c (inl t) = inr record { why = inl (t.0, c.0, c.1, t.1); come = comes_to_nothing o o' s s' x.parts c.1 c.2 }
+  outcome_so ReadFault status x d c (inr t) = inr record {
+    why = inr (inr (inl ((t.0, t.1), inr (inl t.2))));
+    come = comes_to_nothing o o' s s' x.parts c.1 c.2;
+  }
+  outcome_so WriteFault status x d c (inl t) = inr record { why = inr (inl (t.0, c.0, t.1)); come = d }
+  outcome_so WriteFault status x d c (inr t) = inr record { why = inr (inr (inl ((t.0, t.1), inr (inr (inl t.2))))); come = d }
+  outcome_so ShelfFault status x d c (inl t) = inr record {
+    why = inr (inr (inr (inl (t.0, c.0, t.1))));
+    come = comes_to_nothing o o' s s' x.parts c.1 c.2;
+  }
+  outcome_so ShelfFault status x d c (inr t) = inr record {
+    why = inr (inr (inl ((t.0, t.1), inr (inr (inr (inl t.2))))));
+    come = comes_to_nothing o o' s s' x.parts c.1 c.2;
+  }
+  outcome_so NoMemory status x d c (inl t) = inr record {
+    why = inr (inr (inr (inr t)));
+    come = comes_to_nothing o o' s s' x.parts c.0 c.1;
+  }
+  outcome_so NoMemory status x d c (inr t) = inr record {
+    why = inr (inr (inl ((t.0, t.1), inr (inr (inr (inr t.2))))));
+    come = comes_to_nothing o o' s s' x.parts c.0 c.1;
+  }
+
+  -- ---- the rows
+
+  show_row : (e : Ending) (status : ℕ) → EndsCause (Some Show) i i' o o' s s' e → Tells n n' e status → CanAnswer (Some Show) status before after
+  show_row Done status c t = record { ends = inl t.0; given = c.1; shelf = c.2 }
+  show_row (Refused line) status c (inl t) = record { ends = inr (inl (t.0, c.0)); given = c.1; shelf = c.2 }
+  show_row (Refused line) status c (inr t) = record { ends = inr (inr (inr (inr (inl (t.0, t.1))))); given = c.1; shelf = c.2 }
+  show_row ReadFault status c (inl t) = record { ends = inr (inr (inl (t.0, c.0.0, c.0.1, t.1))); given = c.1; shelf = c.2 }
+  show_row ReadFault status c (inr t) = record { ends = inr (inr (inr (inr (inl (t.0, t.1))))); given = c.1; shelf = c.2 }
+  show_row WriteFault status c (inl t) = record { ends = inr (inr (inr (inl (t.0, c.0, t.1)))); given = c.1; shelf = c.2 }
+  show_row WriteFault status c (inr t) = record { ends = inr (inr (inr (inr (inl (t.0, t.1))))); given = c.1; shelf = c.2 }
+  show_row NoMemory status c (inl t) = record { ends = inr (inr (inr (inr (inr (t, c.0))))); given = c.1; shelf = c.2 }
+  show_row NoMemory status c (inr t) = record { ends = inr (inr (inr (inr (inl (t.0, t.1))))); given = c.1; shelf = c.2 }
+  show_row BadWords status c t = absurd c.0
+  show_row (BadValues line) status c t = absurd c.0
+  show_row ShelfFault status c t = absurd c.0
+  show_row (NotThere line) status c t = absurd c.0
+  show_row (TooLarge line) status c t = absurd c.0
+
+  pack_row : (name : List ℕ) (e : Ending) (status : ℕ) → EndsCause (Some (Pack name)) i i' o o' s s' e → Tells n n' e status → CanAnswer (Some (Pack name)) status before after
+  pack_row name Done status c t = record { ends = inl t.0; input = c.1; held = c.2 }
+  pack_row name (BadValues line) status c (inl t) = record { ends = inr (inl (t.0, c.0)); input = c.1; held = c.2 }
+  pack_row name (BadValues line) status c (inr t) = record { ends = inr (inr (inr (inl (t.0, t.1)))); input = c.1; held = c.2 }
+  pack_row name WriteFault status c (inl t) = record { ends = inr (inr (inl (t.0, c.0, t.1))); input = c.1; held = c.2 }
+  pack_row name WriteFault status c (inr t) = record { ends = inr (inr (inr (inl (t.0, t.1)))); input = c.1; held = c.2 }
+  pack_row name ShelfFault status c (inl t) = record { ends = inr (inr (inr (inr (inl ((t.0, c.0.0, t.1), c.0.1))))); input = c.1; held = c.2 }
+  pack_row name ShelfFault status c (inr t) = record { ends = inr (inr (inr (inl (t.0, t.1)))); input = c.1; held = c.2 }
+  pack_row name (NotThere line) status c (inl t) = record { ends = inr (inr (inr (inr (inr (inl (t.0, c.0)))))); input = c.1; held = c.2 }
+  pack_row name (NotThere line) status c (inr t) = record { ends = inr (inr (inr (inl (t.0, t.1)))); input = c.1; held = c.2 }
+  pack_row name (TooLarge line) status c (inl t) = record { ends = inr (inr (inr (inr (inr (inr (inl (t.0, c.0))))))); input = c.1; held = c.2 }
+  pack_row name (TooLarge line) status c (inr t) = record { ends = inr (inr (inr (inl (t.0, t.1)))); input = c.1; held = c.2 }
+  pack_row name NoMemory status c (inl t) = record { ends = inr (inr (inr (inr (inr (inr (inr (t, c.0))))))); input = c.1; held = c.2 }
+  pack_row name NoMemory status c (inr t) = record { ends = inr (inr (inr (inl (t.0, t.1)))); input = c.1; held = c.2 }
+  pack_row name (Refused line) status c t = absurd c.0
+  pack_row name BadWords status c t = absurd c.0
+  pack_row name ReadFault status c t = absurd c.0
+
+  bad_words_row : (e : Ending) (status : ℕ) → EndsCause None i i' o o' s s' e → Tells n n' e status → CanAnswer None status before after
+  bad_words_row BadWords status c (inl t) = record { ends = inl t; input = c.1; out = c.2; shelf = c.3 }
+  bad_words_row BadWords status c (inr t) = record { ends = inr (t.0, t.1); input = c.1; out = c.2; shelf = c.3 }
+  bad_words_row Done status c t = absurd c.0
+  bad_words_row (Refused line) status c t = absurd c.0
+  bad_words_row (BadValues line) status c t = absurd c.0
+  bad_words_row ReadFault status c t = absurd c.0
+  bad_words_row WriteFault status c t = absurd c.0
+  bad_words_row ShelfFault status c t = absurd c.0
+  bad_words_row (NotThere line) status c t = absurd c.0
+  bad_words_row (TooLarge line) status c t = absurd c.0
+  bad_words_row NoMemory status c t = absurd c.0
+
+  row_so : (asked : Option Asked) (e : Ending) (status : ℕ) → EndsCause asked i i' o o' s s' e → Tells n n' e status → CanAnswer asked status before after
+  row_so None e status c t = bad_words_row e status c t
+  row_so (Some Show) e status c t = show_row e status c t
+  row_so (Some (Pack name)) e status c t = pack_row name e status c t
+
+  -- what the call answers
+  pub answers : (words : List (List ℕ)) (e : Ending) (status : ℕ) → ((x : Outcome) → HasOutcome (asked_of words) i.left s.held x → EndsAs i i' o o' s s' e x)
+      → EndsCause (asked_of words) i i' o o' s s' e → Tells n n' e status → CountsStand before after → PromisesStay before after → Answers words status before after
+  answers words e status content c t counts promises = record {
+    outcome = λ x has. outcome_so e status x (content x has) (caused (asked_of words) i i' o o' s s' e c) t;
+    row = row_so (asked_of words) e status c t;
+    counts = counts;
+    promises = promises;
+  }

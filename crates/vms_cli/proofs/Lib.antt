@@ -1,4 +1,5 @@
 pub mod EndLemmas
+pub mod OutcomeLaws
 pub mod PackLemmas
 pub mod RoundTrips
 pub mod ShowLemmas

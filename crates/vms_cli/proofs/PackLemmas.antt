@@ -1,49 +1,34 @@
--- From what a reading and a write say to how `pack` ends.
-use Rattle.std.proofs.Common.{◌≡◌, ℕ, zero, suc, ◌<◌, ◌≤◌, Bool, if◌then◌else◌, true, false, nat_lt, List, [], ◌∷◌, length, get_or, Option, Some, None, Ok, refl, sym, ap, ◌∙◌, subst, arith}
-use Rattle.std.specs.Io.KnownBytes.{Appends}
-use Rattle.std.proofs.lemmas.Bool.Decides.{nat_tests}
-use Rattle.vms_io.specs.Causes.{AppendsPrefix}
+-- From what a fetch, a reading and a write say to how `pack` ends.
+use Rattle.std.proofs.Common.{◌≡◌, ℕ, zero, suc, ◌<◌, ◌^◌, true, List, [], ◌∷◌, length, get_or, drop, Option, Some, None, Ok, Err, IfSome, refl, sym, ap, ◌∙◌, subst, arith}
+use Rattle.std.specs.Option.{option_map, ForSome}
+use Rattle.std.specs.Prelude.{string_bytes}
+use Rattle.std.specs.declared.string.String.{String}
+use Rattle.std.specs.declared.alloc.Global.{Global}
+use Rattle.vms_io.specs.Shelves.{Held}
+use Rattle.vms_io.specs.Told.{Intake, Outlet, Stock}
 use Rattle.vms_spec.specs.Lists.{at, at_option}
 use Rattle.vms_spec.specs.Sets.{Set}
 use Rattle.vms_spec.specs.Images.{Image}
 use Rattle.vms_spec.specs.Shipped.{set_0, timer}
 use Rattle.vms_spec.specs.Streams.{written}
 use Rattle.vms_spec.specs.ValuesReading.{ValuesRead, Values, Bad, values_read}
-use Rattle.vms_values.specs.Reading.{ReadsAs}
-use Rattle.vms_values.specs.Printing.{machine_of}
-use Rattle.vms_values.specs.declared.fault.Values.{Values as Given}
-use Rattle.vms_write.specs.Writing.{AreReady, no_image}
-use Rattle.vms_spec.specs.Readiness.{is_ready}
-use Rattle.vms_desc.specs.Described.{device_at}
-use Rattle.std.specs.Option.{option_map}
-use Rattle.std.specs.Prelude.{string_bytes, Result, Err}
-use Rattle.std.specs.Option.{ForSome}
-use Rattle.std.specs.Io.KnownBytes.{Keeps}
 use Rattle.vms_spec.specs.declared.ValuesReason.{ValuesReason}
+use Rattle.vms_values.specs.Reading.{ReadsAs}
+use Rattle.vms_values.specs.declared.fault.Values.{Values as Given}
+use Rattle.vms_values.specs.declared.fault.ValuesFault.{ValuesFault}
 use Rattle.vms_values.specs.declared.fault.ValuesFault.TheVariants as faults
-use Rattle.std.specs.declared.string.String.{String}
-use Rattle.std.specs.declared.alloc.Global.{Global}
-use Rattle.vms_cli.specs.Lines.{values_line, not_there_line, too_large_line}
-use Rattle.vms_io.specs.Shelves.{FetchRefuses}
-use Rattle.vms_io.specs.declared.shelf.FetchFault.TheVariants as fetch
-use Rattle.vms_cli.specs.declared.ending.Ending.{Ending}
-use Rattle.vms_cli.specs.declared.ending.Ending.TheVariants.{Done, Refused, BadWords, BadValues, ReadFault, WriteFault, ShelfFault, NotThere, TooLarge, NoMemory}
-use Rattle.vms_cli.specs.Outcomes.{Outcome, ended, packed_of, packed, longest_values}
-use Rattle.vms_cli.specs.Endings.{EndsAs, WritesAs, WriteCause, PackCause}
-use Rattle.vms_texts.specs.Texts.{IsTimer}
+use Rattle.vms_laws.specs.Laws.{AreReady}
 use Rattle.vms_texts.proofs.Backs.{read_holds}
-
-at_first : (image : Image) → is_ready set_0 timer image ≡ true → (k : ℕ) → k < 1 → is_ready set_0 (device_at set_0 k) (get_or (image ∷ []) k no_image) ≡ true
-at_first image h zero l = h
-at_first image h (suc k) l = absurd (omega (arith, l))
-
-one_ready : (images : List Image) → IsTimer images → AreReady set_0 images
-one_ready [] h = absurd h
-one_ready (image ∷ []) h = record { one_each = refl; ready = at_first image h }
-one_ready (image ∷ other ∷ images) h = absurd h
+use Rattle.vms_texts.proofs.Rounds.{timers_ready}
+use Rattle.vms_cli.specs.declared.ending.Ending.{Ending}
+use Rattle.vms_cli.specs.Lines.{values_line}
+use Rattle.vms_cli.specs.Outcomes.{Outcome, ended, TakesBytes}
+use Rattle.vms_cli.specs.Pack.{PacksText, Stream, BadText}
+use Rattle.vms_cli.specs.Endings.{EndsAs, EndsWith, WritesAs}
+use Rattle.vms_cli.proofs.ShowLemmas.{text_written}
 
 ready_of : (text : List ℕ) (r : ValuesRead) (v : Given) → values_read set_0 text ≡ r → ReadsAs set_0 r (Ok v) → AreReady set_0 v.images.items
-ready_of text (Values machine images) v e reads = subst (λ (l : List Image). AreReady set_0 l) (sym reads.0) (one_ready images (read_holds text machine images e).ready)
+ready_of text (Values machine images) v e reads = subst (λ (l : List Image). AreReady set_0 l) (sym reads.0) (timers_ready images (read_holds text machine images e).ready)
 ready_of text (Bad line reason) v e reads = absurd reads
 
 -- the images of a text that was read are ready
@@ -61,61 +46,52 @@ named : (machines : List (List ℕ)) (machine : Option ℕ) → ForSome machine 
 named machines None h = refl
 named machines (Some m) h = at_is machines m [] (h m refl)
 
-written_as : (text : List ℕ) (o : Outcome) (out out' : Option (List ℕ)) (n n' : ℕ) (ending : Ending) → o.status ≡ 0 → o.text ≡ text → o.note ≡ [] → WritesAs text out out' n n' ending → EndsAs None None out out' ending o
-written_as text o out out' n n' Done s t e w = (s, subst (λ (l : List ℕ). Appends out out' l) (sym t) w, e, tt)
-written_as text o out out' n n' WriteFault s t e w = subst (λ (l : List ℕ). AppendsPrefix out out' l) (sym t) w.0
-written_as text o out out' n n' NoMemory s t e w = w
-written_as text o out out' n n' (Refused line) s t e w = absurd w
-written_as text o out out' n n' BadWords s t e w = absurd w
-written_as text o out out' n n' (BadValues line) s t e w = absurd w
-written_as text o out out' n n' ReadFault s t e w = absurd w
-written_as text o out out' n n' ShelfFault s t e w = absurd w
-written_as text o out out' n n' (NotThere line) s t e w = absurd w
-written_as text o out out' n n' (TooLarge line) s t e w = absurd w
+-- nothing is taken of an input
+nothing_left : (left : Option (List ℕ)) → IfSome left (λ bytes. left ≡ Some (drop 0 bytes))
+nothing_left None = tt
+nothing_left (Some bytes) = refl
 
-packs_first : (r : ValuesRead) (v : Given) (out out' : Option (List ℕ)) (n n' : ℕ) (ending : Ending) → ReadsAs set_0 r (Ok v)
-    → WritesAs (written set_0 (at_option set_0.machines v.machine) v.images.items None) out out' n n' ending → EndsAs None None out out' ending (packed_of r)
-packs_first (Values machine images) v out out' n n' ending reads w =
-    let same : written set_0 machine images None ≡ written set_0 (at_option set_0.machines v.machine) v.images.items None =
-    sym (ap (λ (l : List Image). written set_0 (at_option set_0.machines v.machine) l None) reads.0
-    ∙ ap (λ (m : Option (List ℕ)). written set_0 m images None) (named set_0.machines v.machine reads.2 ∙ reads.1)) in
-    written_as _ (packed_of (Values machine images)) out out' n n' ending refl same refl w
-packs_first (Bad line reason) v out out' n n' ending reads w = absurd reads
+takes_nothing : (i : Intake) → i.given < 2 ^ 64 → TakesBytes i i 0
+takes_nothing i few = record { left = nothing_left i.left; given = omega (arith, few) }
+
+-- an outcome of a status of its own, and nothing taken
+ends_with : (k : ℕ) (line : List ℕ) (i : Intake) (x : Outcome) → x ≡ ended k line 0 → EndsWith k line i i x
+ends_with k line i x is = record {
+  status_is = ap (λ (y : Outcome). y.status) is;
+  parts = ap (λ (y : Outcome). y.parts) is;
+  note = ap (λ (y : Outcome). y.note) is;
+  left = subst (λ (n : ℕ). IfSome i.left (λ bytes. i.left ≡ Some (drop n bytes))) (sym (ap (λ (y : Outcome). y.taken) is)) (nothing_left i.left);
+}
+
+first_reads : (set : Set) (text : List ℕ) (v : Given) → set ≡ set_0 → ReadsAs set (values_read set text) (Ok v) → ReadsAs set_0 (values_read set_0 text) (Ok v)
+first_reads set text v is reads = subst (λ (s : Set). ReadsAs s (values_read s text) (Ok v)) is reads
 
 -- a text that was read, and a write of its stream
-pub packs : (set : Set) (text : List ℕ) (v : Given) (out out' : Option (List ℕ)) (n n' : ℕ) (ending : Ending) → set ≡ set_0 → ReadsAs set (values_read set text) (Ok v)
-    → WritesAs (written set (at_option set.machines v.machine) v.images.items None) out out' n n' ending → EndsAs None None out out' ending (packed_of (values_read set_0 text))
-packs set text v out out' n n' ending is reads w =
-    packs_first (values_read set_0 text) v out out' n n' ending (subst (λ (s : Set). ReadsAs s (values_read s text) (Ok v)) is reads)
-    (subst (λ (s : Set). WritesAs (written s (at_option s.machines v.machine) v.images.items None) out out' n n' ending) is w)
+pub packs : (set : Set) (text : List ℕ) (v : Given) → set ≡ set_0 → ReadsAs set (values_read set text) (Ok v)
+    → (i : Intake) (o o' : Outlet) (s s' : Stock) (ending : Ending) (x : Outcome) → i.given < 2 ^ 64 → s'.held ≡ s.held
+    → WritesAs (written set (at_option set.machines v.machine) v.images.items None) o o' ending → PacksText set_0 text s.held x → EndsAs i i o o' s s' ending x
+packs set text v is reads i o o' s s' ending x few same w (Stream machine images e) =
+    let r : ReadsAs set_0 (Values machine images) (Ok v) = subst (λ (read : ValuesRead). ReadsAs set_0 read (Ok v)) e (first_reads set text v is reads) in
+    let wrote : WritesAs (written set_0 (at_option set_0.machines v.machine) v.images.items None) o o' ending =
+    subst (λ (s : Set). WritesAs (written s (at_option s.machines v.machine) v.images.items None) o o' ending) is w in
+    let stream : written set_0 (at_option set_0.machines v.machine) v.images.items None ≡ written set_0 machine images None =
+    ap (λ (m : Option (List ℕ)). written set_0 m v.images.items None) (named set_0.machines v.machine r.2 ∙ r.1) ∙ ap (λ (l : List Image). written set_0 machine l None) r.0 in
+    text_written (written set_0 machine images None) i i o o' s s' 0 ending (subst (λ (l : List ℕ). WritesAs l o o' ending) stream wrote) same (takes_nothing i few)
+packs set text v is reads i o o' s s' ending x few same w (BadText line reason e) =
+    absurd (subst (λ (read : ValuesRead). ReadsAs set_0 read (Ok v)) e (first_reads set text v is reads))
 
-bad_first : (r : ValuesRead) (l : ℕ) (why : ValuesReason) (line : String Global) (out out' : Option (List ℕ)) → ReadsAs set_0 r (Err (faults.Bad l why)) → string_bytes line ≡ values_line l why
-    → Keeps out out' → EndsAs None None out out' (BadValues line) (packed_of r)
-bad_first (Values machine images) l why line out out' reads is keeps = absurd reads
-bad_first (Bad m reason) l why line out out' reads is keeps =
-    (refl, refl, ap (λ (k : ℕ). values_line k reason) (sym reads.0) ∙ ap (λ (w : ValuesReason). values_line l w) (sym reads.1) ∙ sym is, keeps)
+first_bad : (set : Set) (text : List ℕ) (fault : ValuesFault) (l : ℕ) (why : ValuesReason) → set ≡ set_0 → ReadsAs set (values_read set text) (Err fault) → fault ≡ faults.Bad l why
+    → ReadsAs set_0 (values_read set_0 text) (Err (faults.Bad l why))
+first_bad set text fault l why is reads same =
+    subst (λ (f : ValuesFault). ReadsAs set_0 (values_read set_0 text) (Err f)) same (subst (λ (s : Set). ReadsAs s (values_read s text) (Err fault)) is reads)
 
 -- a text that is refused
-pub bad_packs : (set : Set) (text : List ℕ) (l : ℕ) (why : ValuesReason) (line : String Global) (out out' : Option (List ℕ)) → set ≡ set_0 → ReadsAs set (values_read set text) (Err (faults.Bad l why))
-    → string_bytes line ≡ values_line l why → Keeps out out' → EndsAs None None out out' (BadValues line) (packed_of (values_read set_0 text))
-bad_packs set text l why line out out' is reads e keeps =
-    bad_first (values_read set_0 text) l why line out out' (subst (λ (s : Set). ReadsAs s (values_read s text) (Err (faults.Bad l why))) is reads) e keeps
-
--- the text that is held under the name
-pub fetched : (name text : List ℕ) (held : Option (List ℕ)) (out out' : Option (List ℕ)) (ending : Ending) → held ≡ Some text → length text ≤ longest_values
-    → EndsAs None None out out' ending (packed_of (values_read set_0 text)) → EndsAs None None out out' ending (packed name held)
-fetched name text held out out' ending is fits ends =
-    let small : nat_lt longest_values (length text) ≡ false = grind (arith, nat_tests, fits) in
-    subst (λ (h : Option (List ℕ)). EndsAs None None out out' ending (packed name h)) (sym is)
-    (subst (λ (b : Bool). EndsAs None None out out' ending (if b then ended 9 (too_large_line name) else packed_of (values_read set_0 text))) (sym small) ends)
-
-pub not_there : (name : List ℕ) (held : Option (List ℕ)) (line : String Global) (out out' : Option (List ℕ)) → held ≡ None → string_bytes line ≡ not_there_line name → Keeps out out'
-    → EndsAs None None out out' (NotThere line) (packed name held)
-not_there name held line out out' is e keeps = subst (λ (h : Option (List ℕ)). EndsAs None None out out' (NotThere line) (packed name h)) (sym is) (refl, refl, sym e, keeps)
-
-pub too_large : (name : List ℕ) (held : Option (List ℕ)) (line : String Global) (out out' : Option (List ℕ)) → FetchRefuses held longest_values fetch.TooLarge → string_bytes line ≡ too_large_line name
-    → Keeps out out' → EndsAs None None out out' (TooLarge line) (packed name held)
-too_large name None line out out' refused e keeps = absurd refused
-too_large name (Some text) line out out' refused e keeps =
-    let large : nat_lt longest_values (length text) ≡ true = grind (arith, nat_tests, refused) in
-    subst (λ (b : Bool). EndsAs None None out out' (TooLarge line) (if b then ended 9 (too_large_line name) else packed_of (values_read set_0 text))) (sym large) (refl, refl, sym e, keeps)
+pub bad_packs : (set : Set) (text : List ℕ) (fault : ValuesFault) (l : ℕ) (why : ValuesReason) (line : String Global) → set ≡ set_0
+    → ReadsAs set (values_read set text) (Err fault) → fault ≡ faults.Bad l why → string_bytes line ≡ values_line l why → (i : Intake) (held : Option Held) (x : Outcome) → PacksText set_0 text held x → EndsWith 3 (string_bytes line) i i x
+bad_packs set text fault l why line is reads same said i held x (Stream machine images e) =
+    absurd (subst (λ (read : ValuesRead). ReadsAs set_0 read (Err (faults.Bad l why))) e (first_bad set text fault l why is reads same))
+bad_packs set text fault l why line is reads same said i held x (BadText m reason e) =
+    let r : ReadsAs set_0 (Bad m reason) (Err (faults.Bad l why)) =
+    subst (λ (read : ValuesRead). ReadsAs set_0 read (Err (faults.Bad l why))) e (first_bad set text fault l why is reads same) in
+    ends_with 3 (string_bytes line) i (ended 3 (values_line m reason) 0)
+    (ap (λ (t : List ℕ). ended 3 t 0) (ap (λ (k : ℕ). values_line k reason) (sym r.0) ∙ ap (λ (w : ValuesReason). values_line l w) (sym r.1) ∙ sym said))

@@ -1,46 +1,58 @@
 -- Packing and showing, one after the other.
-use Rattle.std.proofs.Common.{◌≡◌, ℕ, ◌<◌, ◌≤◌, Bool, true, false, nat_lt, List, [], ◌∷◌, length, Option, Some, None, if◌then◌else◌, refl, sym, ap, ◌∙◌, subst, arith}
-use Rattle.std.proofs.lemmas.Bool.{ltb-true}
+use Rattle.std.proofs.Common.{◌≡◌, ℕ, ◌<◌, ◌≤◌, List, [], ◌∷◌, length, Option, Some, None, refl, sym, ap, ◌∙◌, subst, arith}
+use Rattle.vms_io.specs.Shelves.{Held}
 use Rattle.vms_spec.specs.Images.{Image}
-use Rattle.vms_spec.specs.Judging.{State, reading}
-use Rattle.vms_spec.specs.Readings.{Accepted}
 use Rattle.vms_spec.specs.Shipped.{set_0}
 use Rattle.vms_spec.specs.Streams.{written}
 use Rattle.vms_spec.specs.Values.{values_text}
-use Rattle.vms_spec.specs.ValuesReading.{ValuesRead, Values, Bad, values_read}
-use Rattle.vms_texts.specs.Texts.{IsTimer, IsMachine, ShowsAs}
-use Rattle.vms_texts.proofs.Rounds.{packed_holds, shown_holds, shows}
-use Rattle.vms_cli.specs.Outcomes.{Outcome, done, ended, packed, packed_of, shown, longest_values}
-use Rattle.vms_cli.specs.Lines.{too_large_line, values_line}
+use Rattle.vms_spec.specs.ValuesReading.{values_read}
+use Rattle.vms_texts.specs.Texts.{IsTimer, IsMachine}
+use Rattle.vms_texts.proofs.Backs.{printed_holds, read_holds}
+use Rattle.vms_texts.proofs.Rounds.{takes, shown_text}
+use Rattle.vms_cli.specs.Outcomes.{Part, Outcome, done, ended}
+use Rattle.vms_cli.specs.Pack.{Packs, Missing, Large, Read, PacksText, Stream, BadText, longest_values}
+use Rattle.vms_cli.specs.Show.{Shows, Values as Printed, Refuses}
 use Rattle.vms_cli.specs.Laws.{PackThenShowLaw, ShowThenPackLaw}
 
-status_apart : (s : ℕ) (note text : List ℕ) (n : ℕ) → 0 < s → ended s note ≡ done text n → ⊥
-status_apart s note text n some e = omega (arith, ap (λ (o : Outcome). o.status) e, some)
+abbrev first_text : List Part → List ℕ
+first_text [] = []
+first_text (part ∷ parts) = part.text
 
-shown_by : (r : ValuesRead) (text stream : List ℕ) (n : ℕ) → values_read set_0 text ≡ r → packed_of r ≡ done stream n → shown (reading set_0 set_0.machines stream) ≡ done text (length stream)
-shown_by (Values machine images) text stream n e is =
-    let s = packed_holds text machine images e in
-    let same : written set_0 machine images None ≡ stream = ap (λ (o : Outcome). o.text) is in
-    subst (λ (l : List ℕ). shown (reading set_0 set_0.machines l) ≡ done text (length l)) same
-    (ap shown s.whole ∙ ap (λ (l : List ℕ). done l (length (written set_0 machine images None))) s.printed)
-shown_by (Bad line reason) text stream n e is = absurd (status_apart 3 (values_line line reason) stream n (omega arith) is)
+same_text : (x y : Outcome) → x ≡ y → first_text x.parts ≡ first_text y.parts
+same_text x y e = ap (λ (o : Outcome). first_text o.parts) e
 
-packed_by : (b : Bool) (name text stream : List ℕ) (n : ℕ) → (if b then ended 9 (too_large_line name) else packed_of (values_read set_0 text)) ≡ done stream n
-    → shown (reading set_0 set_0.machines stream) ≡ done text (length stream)
-packed_by true name text stream n is = absurd (status_apart 9 (too_large_line name) stream n (omega arith) is)
-packed_by false name text stream n is = shown_by (values_read set_0 text) text stream n refl is
+status_apart : (s : ℕ) (note text : List ℕ) (held : Option Held) (k n : ℕ) → 0 < s → ended s note k ≡ done text held n → ⊥
+status_apart s note text held k n some e = omega (arith, ap (λ (o : Outcome). o.status) e, some)
+
+shown_of : (text stream : List ℕ) (held : Option Held) (n : ℕ) (x : Outcome) → x ≡ done stream held n → PacksText set_0 text held x
+    → Shows set_0 stream held (done text held (length stream))
+shown_of text stream held n x same (Stream machine images e) =
+    let is = read_holds text machine images e in
+    let shows : Shows set_0 (written set_0 machine images None) held (done (values_text set_0 machine images) held (length (written set_0 machine images None))) =
+    Printed (length (written set_0 machine images None)) machine images (takes machine images is.named is.ready) in
+    subst (λ (l : List ℕ). Shows set_0 l held (done text held (length l))) (same_text _ _ same)
+    (subst (λ (t : List ℕ). Shows set_0 (written set_0 machine images None) held (done t held (length (written set_0 machine images None)))) (sym is.printed) shows)
+shown_of text stream held n x same (BadText line reason e) = absurd (status_apart 3 _ stream held 0 n (omega arith) same)
+
+packed_shows : (name text stream : List ℕ) (held : Option Held) (n : ℕ) (under : Option (List ℕ)) (x : Outcome) → under ≡ Some text → x ≡ done stream held n → Packs set_0 name under held x
+    → Shows set_0 stream held (done text held (length stream))
+packed_shows name text stream held n under x is same (Missing e) = absurd (status_apart 8 _ stream held 0 n (omega arith) same)
+packed_shows name text stream held n under x is same (Large other e long) = absurd (status_apart 9 _ stream held 0 n (omega arith) same)
+packed_shows name text stream held n under x is same (Read other o e short p) =
+    shown_of text stream held n o same (subst (λ (t : List ℕ). PacksText set_0 t held o) (one_text other text (sym e ∙ is)) p)
+  where
+    one_text : (a b : List ℕ) → Some a ≡ Some b → a ≡ b
+    one_text a b e = cc
 
 pub pack_then_show : PackThenShowLaw
-pack_then_show name text stream n is = packed_by (nat_lt longest_values (length text)) name text stream n is
+pack_then_show name text stream held n packs = packed_shows name text stream held n (Some text) (done stream held n) refl refl packs
 
-short : (text : List ℕ) → length text ≤ longest_values → (b : Bool) → nat_lt longest_values (length text) ≡ b → b ≡ false
-short text le false e = refl
-short text le true e = absurd (omega (arith, ltb-true longest_values (length text) e, le))
+shown_packs : (machine : Option (List ℕ)) (images : List Image) → IsMachine machine → IsTimer images → (name text : List ℕ) (held : Option Held) (n : ℕ) (x : Outcome) → x ≡ done text held n
+    → Shows set_0 (written set_0 machine images None) held x → length text ≤ longest_values → Packs set_0 name (Some text) held (done (written set_0 machine images None) held 0)
+shown_packs machine images m t name text held n x same (Printed taken other others whole) le =
+    let text_is : values_text set_0 machine images ≡ text = shown_text machine other images others taken m t whole ∙ same_text _ _ same in
+    Read text _ refl le (Stream machine images (sym (ap (values_read set_0) text_is) ∙ printed_holds machine images m t))
+shown_packs machine images m t name text held n x same (Refuses place section reason size fault) le = absurd (status_apart 1 _ text held _ n (omega arith) same)
 
 pub show_then_pack : ShowThenPackLaw
-show_then_pack machine images m t name text n is le =
-    let w = written set_0 machine images None in
-    let end = shows machine images m t in
-    let printed : values_text set_0 end.0.machine end.0.images ≡ text = ap (λ (o : Outcome). o.text) (sym (ap shown end.1) ∙ is) in
-    let read : values_read set_0 text ≡ Values machine images = shown_holds machine images m t text (record { end = end.0; whole = end.1; printed = printed }) in
-    ap (λ (b : Bool). if b then ended 9 (too_large_line name) else packed_of (values_read set_0 text)) (short text le (nat_lt longest_values (length text)) refl) ∙ ap packed_of read
+show_then_pack machine images m t name text held n shows le = shown_packs machine images m t name text held n (done text held n) refl shows le

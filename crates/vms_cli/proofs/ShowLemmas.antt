@@ -1,19 +1,22 @@
 -- From what a load and a write say to how `show` ends.
-use Rattle.std.proofs.Common.{◌≡◌, ℕ, ◌<◌, List, [], ◌∷◌, length, get_or, drop, Option, Some, None, Ok, Err, IfSome, refl, sym, ap, ◌∙◌, subst, arith}
+use Rattle.std.proofs.Common.{◌≡◌, ℕ, ◌+◌, ◌<◌, List, [], ◌∷◌, length, drop, append-nil, Option, Some, None, Ok, Err, IfSome, IsSomeAnd, refl, sym, ap, ◌∙◌, subst, arith, inl}
 use Rattle.std.specs.Option.{ForSome}
 use Rattle.std.specs.Prelude.{string_bytes}
 use Rattle.std.specs.declared.string.String.{String}
 use Rattle.std.specs.declared.alloc.Global.{Global}
-use Rattle.std.specs.Io.KnownBytes.{Appends, Keeps}
-use Rattle.vms_io.specs.Causes.{AppendsPrefix}
+use Rattle.std.specs.Io.KnownBytes.{Appends}
+use Rattle.vms_io.specs.Causes.{capped}
+use Rattle.vms_io.specs.Shelves.{Held}
+use Rattle.vms_io.specs.Told.{Intake, Outlet, Stock}
+use Rattle.vms_spec.specs.declared.Reason.{Reason}
+use Rattle.vms_spec.specs.Faults.{Fault}
 use Rattle.vms_spec.specs.Numbers.{IsBytes}
 use Rattle.vms_spec.specs.Sets.{Set}
 use Rattle.vms_spec.specs.Images.{Image}
-use Rattle.vms_spec.specs.Judging.{State, reading}
-use Rattle.vms_spec.specs.Readings.{Accepted, Refused as Stopped}
+use Rattle.vms_spec.specs.Streams.{Takes}
 use Rattle.vms_spec.specs.Shipped.{set_0}
 use Rattle.vms_spec.specs.Values.{values_text}
-use Rattle.vms_laws.proofs.Stated.{shipped_holds, only_holds, fault_holds}
+use Rattle.vms_laws.proofs.Stated.{shipped_holds, one_stream_holds, never_both_holds, one_fault_holds}
 use Rattle.vms_frames.specs.declared.fault.Refusal.{Refusal}
 use Rattle.vms_load.specs.Loads.{Loads}
 use Rattle.vms_load.specs.Staging.{IsMachine, AreShaped, name_of, accepted_of}
@@ -22,59 +25,96 @@ use Rattle.vms_load.specs.declared.fault.LoadFault.TheVariants as faults
 use Rattle.vms_values.specs.Printing.{AreOf, machine_of}
 use Rattle.vms_cli.specs.declared.ending.Ending.{Ending}
 use Rattle.vms_cli.specs.declared.ending.Ending.TheVariants.{Done, Refused, BadWords, BadValues, ReadFault, WriteFault, ShelfFault, NotThere, TooLarge, NoMemory}
-use Rattle.vms_cli.specs.Outcomes.{Outcome, done, ended, shown}
-use Rattle.vms_cli.specs.Endings.{EndsAs, EndsWith, WritesAs}
+use Rattle.vms_cli.specs.Outcomes.{Outcome, done, ended, TakesBytes}
+use Rattle.vms_cli.specs.Show.{Shows, Values, Refuses}
+use Rattle.vms_cli.specs.Endings.{EndsAs, WritesAs}
 use Rattle.vms_cli.specs.Lines.{refused_line}
 
 same_machine : (set : Set) (machine : Option ℕ) → name_of set machine ≡ machine_of set machine
 same_machine set None = refl
 same_machine set (Some m) = refl
 
--- a text was written, and so many bytes were taken
-text_written : (text bytes : List ℕ) (left out out' : Option (List ℕ)) (taken o o' : ℕ) (ending : Ending)
-    → WritesAs text out out' o o' ending → left ≡ Some (drop taken bytes) → EndsAs (Some bytes) left out out' ending (done text taken)
-text_written text bytes left out out' taken o o' Done w l = (refl, w, refl, l)
-text_written text bytes left out out' taken o o' WriteFault w l = w.0
-text_written text bytes left out out' taken o o' NoMemory w l = w
-text_written text bytes left out out' taken o o' (Refused r) w l = absurd w
-text_written text bytes left out out' taken o o' BadWords w l = absurd w
-text_written text bytes left out out' taken o o' ReadFault w l = absurd w
-text_written text bytes left out out' taken o o' (BadValues r) w l = absurd w
-text_written text bytes left out out' taken o o' ShelfFault w l = absurd w
-text_written text bytes left out out' taken o o' (NotThere r) w l = absurd w
-text_written text bytes left out out' taken o o' (TooLarge r) w l = absurd w
+-- a text was written, or a prefix of it, while the shelf stayed
+pub text_written : (text : List ℕ) (i i' : Intake) (o o' : Outlet) (s s' : Stock) (taken : ℕ) (ending : Ending)
+    → WritesAs text o o' ending → s'.held ≡ s.held → TakesBytes i i' taken → EndsAs i i' o o' s s' ending (done text s.held taken)
+text_written text i i' o o' s s' taken Done w same t = record {
+  status_is = refl;
+  text = subst (λ (l : List ℕ). Appends o.written o'.written l) (sym (append-nil text)) w;
+  note = refl;
+  held = same;
+  taken = t;
+}
+text_written text i i' o o' s s' taken WriteFault w same t = record { begun = 1; bytes = w.0.0; text = w.0.2; held = inl same }
+text_written text i i' o o' s s' taken NoMemory w same t = absurd w
+text_written text i i' o o' s s' taken (Refused r) w same t = absurd w
+text_written text i i' o o' s s' taken BadWords w same t = absurd w
+text_written text i i' o o' s s' taken ReadFault w same t = absurd w
+text_written text i i' o o' s s' taken (BadValues r) w same t = absurd w
+text_written text i i' o o' s s' taken ShelfFault w same t = absurd w
+text_written text i i' o o' s s' taken (NotThere r) w same t = absurd w
+text_written text i i' o o' s s' taken (TooLarge r) w same t = absurd w
 
--- what a load that is Ok says of the outcome
-loaded_outcome : (bytes : List ℕ) (left : Option (List ℕ)) (images : List Image) (taken : ℕ) (machine : Option ℕ) → Loads set_0 set_0.machines bytes left images taken (Ok machine)
-    → shown (reading set_0 set_0.machines bytes) ≡ done (values_text set_0 (machine_of set_0 machine) images) taken
-loaded_outcome bytes left images taken machine l =
-    let end = only_holds set_0 set_0.machines shipped_holds.0 bytes taken (name_of set_0 machine) images l.0 in
-    ap shown end.1
-    ∙ ap (λ (o : Option (List ℕ)). done (values_text set_0 o end.0.images) taken) (end.2 ∙ same_machine set_0 machine)
-    ∙ ap (λ (i : List Image). done (values_text set_0 (machine_of set_0 machine) i) taken) end.3
+-- the outcome of an input that takes a stream
+pub shown_is : (bytes : List ℕ) (held : Option Held) (taken : ℕ) (machine : Option (List ℕ)) (images : List Image) (x : Outcome) → IsBytes bytes
+    → Takes set_0 set_0.machines bytes taken machine images → Shows set_0 bytes held x → x ≡ done (values_text set_0 machine images) held taken
+shown_is bytes held taken machine images x ok takes (Values taken' machine' images' takes') =
+    let same = one_stream_holds set_0 set_0.machines shipped_holds.0 bytes taken' taken machine' machine images' images takes' takes in
+    ap (λ (n : ℕ). done (values_text set_0 machine' images') held n) same.lengths
+    ∙ ap (λ (m : Option (List ℕ)). done (values_text set_0 m images') held taken) same.machines
+    ∙ ap (λ (l : List Image). done (values_text set_0 machine l) held taken) same.states
+shown_is bytes held taken machine images x ok takes (Refuses place section reason size fault) =
+    absurd (never_both_holds set_0 set_0.machines shipped_holds.0 bytes ok taken machine images place section reason size takes fault)
 
-pub loaded : (set : Set) → set ≡ set_0 → (old left out out' : Option (List ℕ)) (images : List Image) (taken o o' : ℕ) (machine : Option ℕ) (ending : Ending)
-    → IfSome old (λ bytes. Loads set (accepted_of set None) bytes left images taken (Ok machine))
-    → WritesAs (values_text set_0 (machine_of set_0 machine) images) out out' o o' ending
-    → IfSome old (λ bytes. EndsAs (Some bytes) left out out' ending (shown (reading set_0 set_0.machines bytes)))
-loaded set is None left out out' images taken o o' machine ending l w = tt
-loaded set is (Some bytes) left out out' images taken o o' machine ending l w =
-    let first : Loads set_0 set_0.machines bytes left images taken (Ok machine) = subst (λ (s : Set). Loads s (accepted_of s None) bytes left images taken (Ok machine)) is l in
-    subst (λ (x : Outcome). EndsAs (Some bytes) left out out' ending x) (sym (loaded_outcome bytes left images taken machine first))
-    (text_written (values_text set_0 (machine_of set_0 machine) images) bytes left out out' taken o o' ending w first.1)
+-- the outcome of an input that is at fault
+pub refused_is : (bytes : List ℕ) (held : Option Held) (place : ℕ) (section : Option ℕ) (reason : Reason) (size : ℕ) (x : Outcome) → IsBytes bytes
+    → Fault set_0 set_0.machines bytes place section reason size → Shows set_0 bytes held x → x ≡ ended 1 (refused_line set_0 place section reason) (place + size)
+refused_is bytes held place section reason size x ok fault (Values taken machine images takes) =
+    absurd (never_both_holds set_0 set_0.machines shipped_holds.0 bytes ok taken machine images place section reason size takes fault)
+refused_is bytes held place section reason size x ok fault (Refuses place' section' reason' size' fault') =
+    let same = one_fault_holds set_0 set_0.machines shipped_holds.0 bytes ok place' place section' section reason' reason size' size fault' fault in
+    ap (λ (n : ℕ). ended 1 (refused_line set_0 n section' reason') (n + size')) same.places
+    ∙ ap (λ (o : Option ℕ). ended 1 (refused_line set_0 place o reason') (place + size')) same.sections
+    ∙ ap (λ (r : Reason). ended 1 (refused_line set_0 place section r) (place + size')) same.reasons
+    ∙ ap (λ (n : ℕ). ended 1 (refused_line set_0 place section reason) (place + n)) same.sizes
+
+-- a load that is Ok, and a write of its text
+pub loaded : (set : Set) → set ≡ set_0 → (i i' : Intake) (o o' : Outlet) (s : Stock) (images : List Image) (taken : ℕ) (machine : Option ℕ) (ending : Ending) (x : Outcome)
+    → IfSome i.left IsBytes → IfSome i.left (λ bytes. Loads set (accepted_of set None) bytes i'.left images taken (Ok machine)) → i'.given ≡ capped (i.given + taken)
+    → WritesAs (values_text set_0 (machine_of set_0 machine) images) o o' ending
+    → IsSomeAnd i.left (λ bytes. Shows set_0 bytes s.held x) → EndsAs i i' o o' s s ending x
+loaded set is i i' o o' s images taken machine ending x ok l given w shows = told i.left refl ok l shows
+  where
+    told : (left : Option (List ℕ)) → left ≡ i.left → IfSome left IsBytes → IfSome left (λ bytes. Loads set (accepted_of set None) bytes i'.left images taken (Ok machine))
+        → IsSomeAnd left (λ bytes. Shows set_0 bytes s.held x) → EndsAs i i' o o' s s ending x
+    told None same ok l shows = absurd shows
+    told (Some bytes) same ok l shows =
+        let first : Loads set_0 set_0.machines bytes i'.left images taken (Ok machine) = subst (λ (s : Set). Loads s (accepted_of s None) bytes i'.left images taken (Ok machine)) is l in
+        let takes : Takes set_0 set_0.machines bytes taken (machine_of set_0 machine) images = subst (λ (m : Option (List ℕ)). Takes set_0 set_0.machines bytes taken m images) (same_machine set_0 machine) first.0 in
+        let t : TakesBytes i i' taken = record { left = subst (λ (left : Option (List ℕ)). IfSome left (λ bytes. i'.left ≡ Some (drop taken bytes))) same first.1; given = given } in
+        subst (λ (y : Outcome). EndsAs i i' o o' s s ending y) (sym (shown_is bytes s.held taken (machine_of set_0 machine) images x ok takes shows))
+        (text_written (values_text set_0 (machine_of set_0 machine) images) i i' o o' s s taken ending w refl t)
 
 -- a load that is refused
-pub refused : (set : Set) → set ≡ set_0 → (old left out out' : Option (List ℕ)) (images : List Image) (taken : ℕ) (fault : LoadFault) (r : Refusal) → fault ≡ faults.Refused r → (line : String Global)
-    → IfSome old IsBytes → IfSome old (λ bytes. Loads set (accepted_of set None) bytes left images taken (Err fault))
-    → string_bytes line ≡ refused_line set_0 r.at r.section r.reason → Keeps out out'
-    → IfSome old (λ bytes. EndsAs (Some bytes) left out out' (Refused line) (shown (reading set_0 set_0.machines bytes)))
-refused set is None left out out' images taken fault r same line ok l said keeps = tt
-refused set is (Some bytes) left out out' images taken fault r same line ok l said keeps =
-    let named : Loads set (accepted_of set None) bytes left images taken (Err (faults.Refused r)) = subst (λ (f : LoadFault). Loads set (accepted_of set None) bytes left images taken (Err f)) same l in
-    let first : Loads set_0 set_0.machines bytes left images taken (Err (faults.Refused r)) = subst (λ (s : Set). Loads s (accepted_of s None) bytes left images taken (Err (faults.Refused r))) is named in
-    let outcome : shown (reading set_0 set_0.machines bytes) ≡ ended 1 (refused_line set_0 r.at r.section r.reason) =
-    ap shown (fault_holds set_0 set_0.machines shipped_holds.0 bytes ok r.at r.section r.reason first.0 first.1) in
-    subst (λ (x : Outcome). EndsAs (Some bytes) left out out' (Refused line) x) (sym outcome) (refl, refl, sym said, keeps)
+pub refused : (set : Set) → set ≡ set_0 → (i i' : Intake) (o o' : Outlet) (s : Stock) (images : List Image) (taken : ℕ) (fault : LoadFault) (r : Refusal) → fault ≡ faults.Refused r
+    → (line : String Global) (x : Outcome) → IfSome i.left IsBytes → IfSome i.left (λ bytes. Loads set (accepted_of set None) bytes i'.left images taken (Err fault))
+    → string_bytes line ≡ refused_line set_0 r.at r.section r.reason
+    → IsSomeAnd i.left (λ bytes. Shows set_0 bytes s.held x) → EndsAs i i' o o' s s (Refused line) x
+refused set is i i' o o' s images taken fault r same line x ok l said shows = told i.left refl ok l shows
+  where
+    told : (left : Option (List ℕ)) → left ≡ i.left → IfSome left IsBytes → IfSome left (λ bytes. Loads set (accepted_of set None) bytes i'.left images taken (Err fault))
+        → IsSomeAnd left (λ bytes. Shows set_0 bytes s.held x) → EndsAs i i' o o' s s (Refused line) x
+    told None here ok l shows = absurd shows
+    told (Some bytes) here ok l shows =
+        let named : Loads set (accepted_of set None) bytes i'.left images taken (Err (faults.Refused r)) = subst (λ (f : LoadFault). Loads set (accepted_of set None) bytes i'.left images taken (Err f)) same l in
+        let first : Loads set_0 set_0.machines bytes i'.left images taken (Err (faults.Refused r)) = subst (λ (s : Set). Loads s (accepted_of s None) bytes i'.left images taken (Err (faults.Refused r))) is named in
+        let outcome = refused_is bytes s.held r.at r.section r.reason first.0 x ok first.1 shows in
+        record {
+          status_is = ap (λ (y : Outcome). y.status) outcome;
+          parts = ap (λ (y : Outcome). y.parts) outcome;
+          note = ap (λ (y : Outcome). y.note) outcome ∙ sym said;
+          left = subst (λ (left : Option (List ℕ)). IfSome left (λ bytes. i'.left ≡ Some (drop x.taken bytes))) here
+              (first.2 ∙ ap (λ (y : Outcome). Some (drop y.taken bytes)) (sym outcome));
+        }
 
 -- ---- what is printed
 
@@ -90,7 +130,3 @@ are_of (image ∷ []) h =
     let shape = h.each 0 (omega arith) in
     (record { cells = shape.numbers; subs = shape.came; few = omega (arith, shape.numbers) }, tt)
 are_of (image ∷ other ∷ images) h = absurd (omega (arith, h.all))
-
-pub keeps_same : (o : Option (List ℕ)) → Keeps o o
-keeps_same None = tt
-keeps_same (Some bytes) = refl

@@ -1,72 +1,119 @@
--- What each ending says of what was done.
-use Rattle.std.specs.Prelude.{◌≡◌, ◌⊎◌, ℕ, ◌≤◌, List, [], Option, Some, None, drop, IfSome, string_bytes}
+-- How a command ends, before it is told on notes.
+use Rattle.std.specs.Prelude.{◌≡◌, ◌⊎◌, ℕ, ◌+◌, ◌≤◌, List, [], Option, Some, None, drop, IfSome, string_bytes}
 use Rattle.std.specs.Io.KnownBytes.{Appends, Keeps}
 use Rattle.vms_io.specs.Causes.{Rose, AppendsPrefix}
+use Rattle.vms_io.specs.Told.{Intake, Outlet, Stock}
+use Rattle.vms_spec.specs.Shipped.{set_0}
+use Rattle.vms_load.specs.Staging.{most_given}
 use Rattle.vms_cli.specs.declared.ending.Ending.{Ending}
 use Rattle.vms_cli.specs.declared.ending.Ending.TheVariants.{Done, Refused, BadWords, BadValues, ReadFault, WriteFault, ShelfFault, NotThere, TooLarge, NoMemory}
-use Rattle.vms_cli.specs.Lines.{bad_words}
+use Rattle.vms_cli.specs.Lines.{bad_words, read_fault, write_fault, shelf_fault, out_of_memory}
 use Rattle.vms_cli.specs.Commands.{Asked, Show, Pack}
-use Rattle.vms_cli.specs.Outcomes.{Outcome}
+use Rattle.vms_cli.specs.Outcomes.{Outcome, text_of, held_after, TakesBytes, ComesTo}
 
--- the outcome has this status and this line, and out is untouched
-abbrev pub EndsWith : Outcome → ℕ → List ℕ → (out out' : Option (List ℕ)) → Type 0
-EndsWith o status note out out' = (o.status ≡ status) × (o.text ≡ []) × (o.note ≡ note) × Keeps out out'
+-- the status of each ending, and its line
+abbrev pub status_of : Ending → ℕ
+status_of Done = 0
+status_of (Refused line) = 1
+status_of BadWords = 2
+status_of (BadValues line) = 3
+status_of ReadFault = 5
+status_of WriteFault = 6
+status_of ShelfFault = 7
+status_of (NotThere line) = 8
+status_of (TooLarge line) = 9
+status_of NoMemory = 10
 
--- what the ending says beside the outcome
-abbrev pub EndsAs : (input input' out out' : Option (List ℕ)) → Ending → Outcome → Type 0
-EndsAs input input' out out' Done o = (o.status ≡ 0) × Appends out out' o.text × (o.note ≡ []) × IfSome input (λ bytes. input' ≡ Some (drop o.taken bytes))
-EndsAs input input' out out' (Refused line) o = EndsWith o 1 (string_bytes line) out out'
-EndsAs input input' out out' BadWords o = EndsWith o 2 bad_words out out'
-EndsAs input input' out out' (BadValues line) o = EndsWith o 3 (string_bytes line) out out'
-EndsAs input input' out out' ReadFault o = Keeps out out'
-EndsAs input input' out out' WriteFault o = AppendsPrefix out out' o.text
-EndsAs input input' out out' ShelfFault o = Keeps out out'
-EndsAs input input' out out' (NotThere line) o = EndsWith o 8 (string_bytes line) out out'
-EndsAs input input' out out' (TooLarge line) o = EndsWith o 9 (string_bytes line) out out'
-EndsAs input input' out out' NoMemory o = Keeps out out'
+abbrev pub line_of : Ending → List ℕ
+line_of Done = []
+line_of (Refused line) = string_bytes line
+line_of BadWords = bad_words
+line_of (BadValues line) = string_bytes line
+line_of ReadFault = read_fault
+line_of WriteFault = write_fault
+line_of ShelfFault = shelf_fault
+line_of (NotThere line) = string_bytes line
+line_of (TooLarge line) = string_bytes line
+line_of NoMemory = out_of_memory
 
--- what an ending of `show` says whatever the input tells: a fault of the input or of out comes only where its count rose
-abbrev pub ShowCause : (input_before input_now out_before out_now : ℕ) → (out out' : Option (List ℕ)) → Ending → Type 0
-ShowCause i i' o o' out out' Done = Unit {0}
-ShowCause i i' o o' out out' (Refused line) = Keeps out out'
-ShowCause i i' o o' out out' ReadFault = Rose i i' × Keeps out out'
-ShowCause i i' o o' out out' WriteFault = Rose o o'
-ShowCause i i' o o' out out' NoMemory = Keeps out out'
-ShowCause i i' o o' out out' _ = ⊥
+-- the line was written and the status answered, or a prefix of it and a write fault answered; nothing is told of what is done
+abbrev pub Tells : Outlet → Outlet → Ending → ℕ → Type 0
+Tells notes notes' Done result = (result ≡ 0) × (notes' ≡ notes)
+Tells notes notes' ending result =
+    ((result ≡ status_of ending) × Appends notes.written notes'.written (line_of ending))
+    ⊎ ((result ≡ 6) × Rose notes.faults notes'.faults × AppendsPrefix notes.written notes'.written (line_of ending))
 
--- what an ending says once the text of `pack` is fetched
-abbrev pub WriteCause : (out_before out_now : ℕ) → (out out' : Option (List ℕ)) → Ending → Type 0
-WriteCause o o' out out' Done = Unit {0}
-WriteCause o o' out out' (BadValues line) = Keeps out out'
-WriteCause o o' out out' WriteFault = Rose o o'
-WriteCause o o' out out' NoMemory = Keeps out out'
-WriteCause o o' out out' _ = ⊥
+-- the outcome has this status and this line, and so much of the input is taken
+pub record EndsWith (status : ℕ) (line : List ℕ) (input input' : Intake) (o : Outcome) : Type 0 where
+  pub status_is : o.status ≡ status
+  pub parts : o.parts ≡ []
+  pub note : o.note ≡ line
+  pub left : IfSome input.left (λ bytes. input'.left ≡ Some (drop o.taken bytes))
 
--- the same of `pack`, with the shelf in the place of the input
-abbrev pub PackCause : (shelf_before shelf_now out_before out_now : ℕ) → (out out' : Option (List ℕ)) → Ending → Type 0
-PackCause s s' o o' out out' Done = Unit {0}
-PackCause s s' o o' out out' (BadValues line) = Keeps out out'
-PackCause s s' o o' out out' WriteFault = Rose o o'
-PackCause s s' o o' out out' ShelfFault = Rose s s' × Keeps out out'
-PackCause s s' o o' out out' (NotThere line) = Keeps out out'
-PackCause s s' o o' out out' (TooLarge line) = Keeps out out'
-PackCause s s' o o' out out' NoMemory = Keeps out out'
-PackCause s s' o o' out out' _ = ⊥
+-- the outcome was done
+pub record DoneAs (input input' : Intake) (out out' : Outlet) (shelf shelf' : Stock) (o : Outcome) : Type 0 where
+  pub status_is : o.status ≡ 0
+  pub text : Appends out.written out'.written (text_of o.parts)
+  pub note : o.note ≡ []
+  pub held : shelf'.held ≡ held_after shelf.held o.parts
+  pub taken : TakesBytes input input' o.taken
 
--- the same of all commands
-abbrev pub EndsCause : Option Asked → (input_before input_now shelf_before shelf_now out_before out_now : ℕ) → (out out' : Option (List ℕ)) → Ending → Type 0
-EndsCause None i i' s s' o o' out out' BadWords = Keeps out out'
-EndsCause None i i' s s' o o' out out' _ = ⊥
-EndsCause (Some Show) i i' s s' o o' out out' ending = ShowCause i i' o o' out out' ending
-EndsCause (Some (Pack name)) i i' s s' o o' out out' ending = PackCause s s' o o' out out' ending
+-- what an ending says beside the outcome
+abbrev pub EndsAs : (input input' : Intake) (out out' : Outlet) (shelf shelf' : Stock) → Ending → Outcome → Type 0
+EndsAs input input' out out' shelf shelf' Done o = DoneAs input input' out out' shelf shelf' o
+EndsAs input input' out out' shelf shelf' (Refused line) o = EndsWith 1 (string_bytes line) input input' o
+EndsAs input input' out out' shelf shelf' BadWords o = EndsWith 2 bad_words input input' o
+EndsAs input input' out out' shelf shelf' (BadValues line) o = EndsWith 3 (string_bytes line) input input' o
+EndsAs input input' out out' shelf shelf' ReadFault o = Unit {0}
+EndsAs input input' out out' shelf shelf' WriteFault o = ComesTo out out' shelf shelf' o.parts
+EndsAs input input' out out' shelf shelf' ShelfFault o = Unit {0}
+EndsAs input input' out out' shelf shelf' (NotThere line) o = EndsWith 8 (string_bytes line) input input' o
+EndsAs input input' out out' shelf shelf' (TooLarge line) o = EndsWith 9 (string_bytes line) input input' o
+EndsAs input input' out out' shelf shelf' NoMemory o = Unit {0}
 
-abbrev pub WritesAs : List ℕ → Option (List ℕ) → Option (List ℕ) → ℕ → ℕ → Ending → Type 0
-WritesAs text out out' o o' Done = Appends out out' text
-WritesAs text out out' o o' WriteFault = AppendsPrefix out out' text × Rose o o'
-WritesAs text out out' o o' NoMemory = Keeps out out'
-WritesAs text out out' o o' _ = ⊥
+-- ---- the endings of each command with their causes, told or not
 
--- the line was written, and the status answered, or a prefix of it, and a write fault answered
-abbrev pub Tells : Option (List ℕ) → Option (List ℕ) → ℕ → ℕ → List ℕ → ℕ → ℕ → Type 0
-Tells notes notes' n n' line status result =
-    ((result ≡ status) × Appends notes notes' line) ⊎ ((result ≡ 6) × Rose n n' × AppendsPrefix notes notes' line)
+abbrev pub ShowCause : (input input' : Intake) (out out' : Outlet) → Ending → Type 0
+ShowCause input input' out out' Done = Unit {0}
+ShowCause input input' out out' (Refused line) = Keeps out.written out'.written
+ShowCause input input' out out' ReadFault = Rose input.faults input'.faults × Keeps out.written out'.written
+ShowCause input input' out out' WriteFault = Rose out.faults out'.faults
+ShowCause input input' out out' NoMemory = Keeps out.written out'.written
+ShowCause input input' out out' _ = ⊥
+
+-- once the text of `pack` is fetched
+abbrev pub WriteCause : (out out' : Outlet) → Ending → Type 0
+WriteCause out out' Done = Unit {0}
+WriteCause out out' (BadValues line) = Keeps out.written out'.written
+WriteCause out out' WriteFault = Rose out.faults out'.faults
+WriteCause out out' NoMemory = Keeps out.written out'.written
+WriteCause out out' _ = ⊥
+
+abbrev pub PackCause : (out out' : Outlet) (shelf shelf' : Stock) → Ending → Type 0
+PackCause out out' shelf shelf' Done = Unit {0}
+PackCause out out' shelf shelf' (BadValues line) = Keeps out.written out'.written
+PackCause out out' shelf shelf' WriteFault = Rose out.faults out'.faults
+PackCause out out' shelf shelf' ShelfFault = Rose shelf.faults shelf'.faults × Keeps out.written out'.written
+PackCause out out' shelf shelf' (NotThere line) = Keeps out.written out'.written
+PackCause out out' shelf shelf' (TooLarge line) = Keeps out.written out'.written
+PackCause out out' shelf shelf' NoMemory = Keeps out.written out'.written
+PackCause out out' shelf shelf' _ = ⊥
+
+abbrev pub IsBadWords : Ending → Type 0
+IsBadWords BadWords = Unit {0}
+IsBadWords _ = ⊥
+
+abbrev pub EndsCause : Option Asked → (input input' : Intake) (out out' : Outlet) (shelf shelf' : Stock) → Ending → Type 0
+EndsCause None input input' out out' shelf shelf' ending =
+    IsBadWords ending × (input' ≡ input) × (out' ≡ out) × (shelf' ≡ shelf)
+EndsCause (Some Show) input input' out out' shelf shelf' ending =
+    ShowCause input input' out out' ending × (input'.given ≤ input.given + most_given set_0) × (shelf' ≡ shelf)
+EndsCause (Some (Pack name)) input input' out out' shelf shelf' ending =
+    PackCause out out' shelf shelf' ending × (input' ≡ input) × (shelf'.held ≡ shelf.held)
+
+-- ---- what a write of a text says
+
+abbrev pub WritesAs : List ℕ → Outlet → Outlet → Ending → Type 0
+WritesAs text out out' Done = Appends out.written out'.written text
+WritesAs text out out' WriteFault = AppendsPrefix out.written out'.written text × Rose out.faults out'.faults
+WritesAs text out out' _ = ⊥

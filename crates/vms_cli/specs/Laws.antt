@@ -1,19 +1,77 @@
--- Packing and showing, one after the other.
-use Rattle.std.specs.Prelude.{◌≡◌, ℕ, ◌≤◌, List, length, Option, Some, None}
+-- What follows of all calls, and of packing and showing one after the other.
+use Rattle.std.specs.Prelude.{◌≡◌, ◌⊎◌, ℕ, ◌+◌, ◌<◌, ◌≤◌, true, List, length, Option, Some, None, IsSomeAnd}
+use Rattle.vms_io.specs.Causes.{KeepsPromise}
+use Rattle.vms_io.specs.Shelves.{Held}
+use Rattle.vms_io.specs.Told.{Outlet}
 use Rattle.vms_spec.specs.Images.{Image}
-use Rattle.vms_spec.specs.Judging.{reading}
+use Rattle.vms_spec.specs.Numbers.{IsBytes}
 use Rattle.vms_spec.specs.Shipped.{set_0}
-use Rattle.vms_spec.specs.Streams.{written}
+use Rattle.vms_spec.specs.Streams.{Takes, written}
+use Rattle.vms_spec.specs.ValuesReading.{Values, values_read}
 use Rattle.vms_texts.specs.Texts.{IsTimer, IsMachine}
-use Rattle.vms_cli.specs.Outcomes.{done, packed, shown, longest_values}
+use Rattle.vms_cli.specs.Answers.{HasOutcome, Answers}
+use Rattle.vms_cli.specs.Commands.{Asked, Show, Pack, asked_of}
+use Rattle.vms_cli.specs.Outcomes.{Outcome, done, text_of, Outside}
+use Rattle.vms_cli.specs.Pack.{Packs, longest_values}
+use Rattle.vms_cli.specs.Show.{Shows}
+
+-- ---- outcomes
+
+-- a call has an outcome, and no other
+pub record HasOneOutcome (asked : Option Asked) (input : List ℕ) (held : Held) : Type 0 where
+  pub outcome : Outcome
+  pub is : HasOutcome asked (Some input) (Some held) outcome
+  pub only : (other : Outcome) → HasOutcome asked (Some input) (Some held) other → other ≡ outcome
+
+-- whatever words, bytes and shelf there are
+abbrev pub OutcomeLaw : Type 0
+OutcomeLaw = (asked : Option Asked) (input : List ℕ) (held : Held) → IsBytes input → HasOneOutcome asked input held
+
+-- ---- completeness
+
+-- what a command asks for so that it can be done: of `show` a stream at the front of the input, of `pack` a values text
+-- under the name that isn't too long
+abbrev pub CanBeDone : Option Asked → Option (List ℕ) → Option Held → Type 0
+CanBeDone None input held = ⊥
+CanBeDone (Some Show) input held =
+    IsSomeAnd input (λ bytes. (taken : ℕ) × (machine : Option (List ℕ)) × (images : List Image) × Takes set_0 set_0.machines bytes taken machine images)
+CanBeDone (Some (Pack name)) input held =
+    IsSomeAnd held (λ map. (text : List ℕ) × (machine : Option (List ℕ)) × (images : List Image)
+    × (map name ≡ Some text) × (length text ≤ longest_values) × (values_read set_0 text ≡ Values machine images))
+
+-- a sink that promises no fault while it has room for so many bytes more
+abbrev pub HasRoom : Outlet → ℕ → Type 0
+HasRoom sink bytes = IsSomeAnd sink.promise (λ room. IsSomeAnd sink.written (λ old. length old + bytes < room))
+
+-- no object lists failing calls, and out and notes have room: for the text of the outcome, and for the line of a fault
+pub record IsAmple (old : Outside) (o : Outcome) : Type 0 where
+  pub input : old.input.promise ≡ true
+  pub out : HasRoom old.out (length (text_of o.parts))
+  pub notes : HasRoom old.notes 14
+  pub shelf : old.shelf.promise ≡ true
+
+-- each object keeps its promise, as the laws of the traits have it
+pub record PromisesKept (now : Outside) : Type 0 where
+  pub input : now.input.promise ≡ true → now.input.faults ≡ 0
+  pub out : KeepsPromise now.out.promise now.out.written now.out.faults
+  pub notes : KeepsPromise now.notes.promise now.notes.written now.notes.faults
+  pub shelf : now.shelf.promise ≡ true → now.shelf.faults ≡ 0
+
+-- where all that a command asks for is there and nothing can fail, it is done, or memory is wanting
+abbrev pub CompleteLaw : Type 0
+CompleteLaw = (words : List (List ℕ)) (status : ℕ) (old new : Outside) → CanBeDone (asked_of words) old.input.left old.shelf.held
+    → ((o : Outcome) → HasOutcome (asked_of words) old.input.left old.shelf.held o → IsAmple old o)
+    → PromisesKept new → Answers words status old new → (status ≡ 0) ⊎ (status ≡ 10)
+
+-- ---- round trips
 
 -- where `pack` gives a stream for the text under a name, `show` gives that text for the stream, and takes all of it
 abbrev pub PackThenShowLaw : Type 0
-PackThenShowLaw = (name text stream : List ℕ) (n : ℕ) → packed name (Some text) ≡ done stream n
-    → shown (reading set_0 set_0.machines stream) ≡ done text (length stream)
+PackThenShowLaw = (name text stream : List ℕ) (held : Option Held) (n : ℕ) → Packs set_0 name (Some text) held (done stream held n)
+    → Shows set_0 stream held (done text held (length stream))
 
 -- where `show` gives a text for a written stream and the text isn't too long, `pack` gives that stream for the text
 abbrev pub ShowThenPackLaw : Type 0
 ShowThenPackLaw = (machine : Option (List ℕ)) (images : List Image) → IsMachine machine → IsTimer images
-    → (name text : List ℕ) (n : ℕ) → shown (reading set_0 set_0.machines (written set_0 machine images None)) ≡ done text n → length text ≤ longest_values
-    → packed name (Some text) ≡ done (written set_0 machine images None) 0
+    → (name text : List ℕ) (held : Option Held) (n : ℕ) → Shows set_0 (written set_0 machine images None) held (done text held n) → length text ≤ longest_values
+    → Packs set_0 name (Some text) held (done (written set_0 machine images None) held 0)

@@ -1,6 +1,9 @@
+pub mod Answers
 pub mod Asks
 pub mod Commands
 pub mod Endings
 pub mod Laws
 pub mod Lines
 pub mod Outcomes
+pub mod Pack
+pub mod Show

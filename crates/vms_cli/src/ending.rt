@@ -1,4 +1,5 @@
 // How a command ends.
+ghost use Rattle.std.specs.Prelude.{◌≡◌};
 
 /// How a command ends; each but `Done` has a status and a line of notes, which some bring with them.
 #[derive(Drop)]
@@ -17,4 +18,42 @@ pub(crate) enum Ending {
     /// What a name holds is too large, with this line.
     TooLarge(String),
     NoMemory,
+}
+
+impl Ending {
+    ghost use Rattle.vms_cli.specs.Endings.{status_of, line_of};
+
+    pub(crate) fn status(&self) -> u8
+        ensures { result ≡ status_of self.now }
+    {
+        match self {
+            Ending::Done => 0,
+            Ending::Refused(_) => 1,
+            Ending::BadWords => 2,
+            Ending::BadValues(_) => 3,
+            Ending::ReadFault => 5,
+            Ending::WriteFault => 6,
+            Ending::ShelfFault => 7,
+            Ending::NotThere(_) => 8,
+            Ending::TooLarge(_) => 9,
+            Ending::NoMemory => 10,
+        }
+    }
+
+    pub(crate) fn line(&self) -> &[u8]
+        ensures { result.now ≡ line_of self.now }
+    {
+        match self {
+            Ending::Done => b"",
+            Ending::BadWords => b"bad words\n",
+            Ending::ReadFault => b"read fault\n",
+            Ending::WriteFault => b"write fault\n",
+            Ending::ShelfFault => b"shelf fault\n",
+            Ending::NoMemory => b"out of memory\n",
+            Ending::Refused(line) => line.as_bytes(),
+            Ending::BadValues(line) => line.as_bytes(),
+            Ending::NotThere(line) => line.as_bytes(),
+            Ending::TooLarge(line) => line.as_bytes(),
+        }
+    }
 }

@@ -1,5 +1,18 @@
 //! Each law is the contract of a function without a body. The statements stand in `specs/Laws.antt`.
-ghost use Rattle.vms_cli.specs.Laws.{PackThenShowLaw, ShowThenPackLaw};
+ghost use Rattle.vms_cli.specs.Laws.{OutcomeLaw, CompleteLaw, PackThenShowLaw, ShowThenPackLaw};
+
+/// Whatever words, input of bytes and shelf there are, a call has an outcome, and no other.
+#[tactic(auto, using(crate::proofs::OutcomeLaws::outcome_holds))]
+pub fn outcome_law()
+    ensures { OutcomeLaw }
+{}
+
+/// Where the words name a command, what it goes by is there and in its grammar, no object lists failing calls, and out and
+/// notes have room, the status is 0, or 10 for want of memory.
+#[tactic(auto, using(crate::proofs::OutcomeLaws::complete_holds))]
+pub fn complete_law()
+    ensures { CompleteLaw }
+{}
 
 /// What `pack` gives for a text, `show` shows as that text.
 pub fn pack_then_show_law()

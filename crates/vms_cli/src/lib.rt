@@ -12,6 +12,3 @@ mod words;
 pub use top::vmstate;
 pub(crate) use words::Command;
 pub use words::Words;
-
-#[cfg(test)]
-mod tests;

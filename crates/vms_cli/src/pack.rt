@@ -1,12 +1,13 @@
 // The command `pack`: the stream of a values text on the shelf.
-ghost use Rattle.std.specs.Prelude.{◌≡◌, ◌<◌, ◌≤◌, None, length, IfSome, IfOk, string_bytes};
+ghost use Rattle.std.specs.Prelude.{◌≡◌, ◌<◌, ◌≤◌, ◌^◌, length, IfSome, IfOk, IsSomeAnd, None};
+ghost use Rattle.vms_io.specs.Told.{Intake, Stock, outlet, stock};
 ghost use Rattle.vms_spec.specs.Lists.{at_option};
 ghost use Rattle.vms_spec.specs.Shipped.{set_0};
 ghost use Rattle.vms_spec.specs.Streams.{written};
-ghost use Rattle.vms_spec.specs.ValuesReading.{values_read};
 ghost use Rattle.vms_desc.specs.Described.{described};
-ghost use Rattle.vms_write.specs.Writing.{AreReady};
-ghost use Rattle.vms_cli.specs.Outcomes.{packed, packed_of, longest_values};
+ghost use Rattle.vms_laws.specs.Laws.{AreReady};
+ghost use Rattle.vms_cli.specs.Outcomes.{Outcome};
+ghost use Rattle.vms_cli.specs.Pack.{Packs, PacksText, longest_values};
 ghost use Rattle.vms_cli.specs.Endings.{EndsAs, PackCause, WriteCause, WritesAs};
 
 use crate::ending::Ending;
@@ -26,9 +27,14 @@ pub(crate) fn pack<O: Sink, H: Shelf>(
     out: &mut O,
     shelf: &mut H,
 ) -> Ending
-    ensures content { IfSome (H.held shelf.old) (λ held. EndsAs None None (O.written out.old) (O.written out.new) result (packed name.now (held name.now))) }
-    ensures cause { PackCause (H.faults shelf.old) (H.faults shelf.new) (O.faults out.old) (O.faults out.new) (O.written out.old) (O.written out.new) result }
-    ensures map { H.held shelf.new ≡ H.held shelf.old }
+    ensures content { (input : Intake) (o : Outcome) → input.given < 2 ^ 64 → IsSomeAnd (H.held shelf.old) (λ map. Packs set_0 name.now (map name.now) (H.held shelf.old) o)
+        → EndsAs input input (outlet O.Sink out.old) (outlet O.Sink out.new) (stock H.Shelf shelf.old) (stock H.Shelf shelf.new) result o }
+    ensures cause { PackCause (outlet O.Sink out.old) (outlet O.Sink out.new) (stock H.Shelf shelf.old) (stock H.Shelf shelf.new) result }
+    ensures held { H.held shelf.new ≡ H.held shelf.old }
+    ensures out_count { O.faults out.old ≤ O.faults out.new }
+    ensures shelf_count { H.faults shelf.old ≤ H.faults shelf.new }
+    ensures out_promise { O.promise out.new ≡ O.promise out.old }
+    ensures shelf_promise { H.promise shelf.new ≡ H.promise shelf.old }
 {
     match shelf.fetch(alloc, name, LONGEST) {
         Ok(text) => pack_text(alloc, &text, out),
@@ -47,8 +53,11 @@ pub(crate) fn pack<O: Sink, H: Shelf>(
 
 fn pack_text<O: Sink>(alloc: Global, text: &[u8], out: &mut O) -> Ending
     requires { length text.now ≤ longest_values }
-    ensures content { EndsAs None None (O.written out.old) (O.written out.new) result (packed_of (values_read set_0 text.now)) }
-    ensures cause { WriteCause (O.faults out.old) (O.faults out.new) (O.written out.old) (O.written out.new) result }
+    ensures content { (input : Intake) (shelf shelf' : Stock) (o : Outcome) → input.given < 2 ^ 64 → shelf'.held ≡ shelf.held → PacksText set_0 text.now shelf.held o
+        → EndsAs input input (outlet O.Sink out.old) (outlet O.Sink out.new) shelf shelf' result o }
+    ensures cause { WriteCause (outlet O.Sink out.old) (outlet O.Sink out.new) result }
+    ensures count { O.faults out.old ≤ O.faults out.new }
+    ensures promise { O.promise out.new ≡ O.promise out.old }
 {
     let Ok(set) = DescSet::shipped(alloc, 0) else {
         return Ending::NoMemory;
@@ -67,7 +76,9 @@ fn write<O: Sink>(set: &DescSet, values: &Values, out: &mut O) -> Ending
     requires first { described set.now ≡ set_0 }
     requires machine { IfSome values.now.machine (λ m. m < length (described set.now).machines) }
     requires ready { AreReady (described set.now) values.now.images.items }
-    ensures { WritesAs (written (described set.now) (at_option (described set.now).machines values.now.machine) values.now.images.items None) (O.written out.old) (O.written out.new) (O.faults out.old) (O.faults out.new) result }
+    ensures written { WritesAs (written (described set.now) (at_option (described set.now).machines values.now.machine) values.now.images.items None) (outlet O.Sink out.old) (outlet O.Sink out.new) result }
+    ensures count { O.faults out.old ≤ O.faults out.new }
+    ensures promise { O.promise out.new ≡ O.promise out.old }
 {
     match write_stream(set, values.machine, &values.images, None, out) {
         Ok(()) => Ending::Done,

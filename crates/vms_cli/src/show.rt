@@ -1,11 +1,14 @@
 // The command `show`: the values text of a stream.
-ghost use Rattle.std.specs.Prelude.{◌≡◌, ◌<◌, length, IfSome, IfOk};
-ghost use Rattle.vms_spec.specs.Judging.{reading};
+ghost use Rattle.std.specs.Prelude.{◌≡◌, ◌+◌, ◌<◌, ◌≤◌, length, Option, IfSome, IfOk, IsSomeAnd};
+ghost use Rattle.vms_io.specs.Shelves.{Held};
+ghost use Rattle.vms_io.specs.Told.{intake, outlet, Stock};
 ghost use Rattle.vms_spec.specs.Shipped.{set_0};
 ghost use Rattle.vms_spec.specs.Values.{values_text};
 ghost use Rattle.vms_load.specs.Kept.{loads, kept};
+ghost use Rattle.vms_load.specs.Staging.{most_given};
 ghost use Rattle.vms_values.specs.Printing.{machine_of};
-ghost use Rattle.vms_cli.specs.Outcomes.{shown};
+ghost use Rattle.vms_cli.specs.Outcomes.{Outcome};
+ghost use Rattle.vms_cli.specs.Show.{Shows};
 ghost use Rattle.vms_cli.specs.Endings.{EndsAs, ShowCause, WritesAs};
 
 use crate::ending::Ending;
@@ -17,8 +20,14 @@ use vms_load::{LoadFault, Loader};
 use vms_values::print_values;
 
 pub(crate) fn show<I: Source, O: Sink>(alloc: Global, input: &mut I, out: &mut O) -> Ending
-    ensures content { IfSome (I.left input.old) (λ bytes. EndsAs (Some bytes) (I.left input.new) (O.written out.old) (O.written out.new) result (shown (reading set_0 set_0.machines bytes))) }
-    ensures cause { ShowCause (I.faults input.old) (I.faults input.new) (O.faults out.old) (O.faults out.new) (O.written out.old) (O.written out.new) result }
+    ensures content { (shelf : Stock) (o : Outcome) → IsSomeAnd (I.left input.old) (λ bytes. Shows set_0 bytes shelf.held o)
+        → EndsAs (intake I.Source input.old) (intake I.Source input.new) (outlet O.Sink out.old) (outlet O.Sink out.new) shelf shelf result o }
+    ensures cause { ShowCause (intake I.Source input.old) (intake I.Source input.new) (outlet O.Sink out.old) (outlet O.Sink out.new) result }
+    ensures given { I.given input.new ≤ I.given input.old + most_given set_0 }
+    ensures input_count { I.faults input.old ≤ I.faults input.new }
+    ensures out_count { O.faults out.old ≤ O.faults out.new }
+    ensures input_promise { I.promise input.new ≡ I.promise input.old }
+    ensures out_promise { O.promise out.new ≡ O.promise out.old }
 {
     let Ok(mut loader) = loader(alloc) else {
         return Ending::NoMemory;
@@ -44,7 +53,9 @@ fn loader(alloc: Global) -> Result<Loader, NoMemory>
 fn write_values<O: Sink>(loader: &Loader, machine: Option<u32>, out: &mut O) -> Ending
     requires first { loads loader.now ≡ set_0 }
     requires machine { IfSome machine (λ m. m < length set_0.machines) }
-    ensures { WritesAs (values_text set_0 (machine_of set_0 machine) (kept loader.now)) (O.written out.old) (O.written out.new) (O.faults out.old) (O.faults out.new) result }
+    ensures written { WritesAs (values_text set_0 (machine_of set_0 machine) (kept loader.now)) (outlet O.Sink out.old) (outlet O.Sink out.new) result }
+    ensures count { O.faults out.old ≤ O.faults out.new }
+    ensures promise { O.promise out.new ≡ O.promise out.old }
 {
     match print_values(loader.set(), machine, loader.images(), out) {
         Ok(()) => Ending::Done,

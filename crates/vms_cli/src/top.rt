@@ -1,8 +1,10 @@
 // The top call.
-ghost use Rattle.std.specs.Prelude.{◌≡◌, IfSome};
-ghost use Rattle.vms_cli.specs.Outcomes.{outcome_of, DoesOrFails, Causes};
+ghost use Rattle.std.specs.Prelude.{◌≡◌, ◌≤◌};
+ghost use Rattle.vms_io.specs.Told.{intake, outlet, stock};
+ghost use Rattle.vms_cli.specs.Answers.{HasOutcome, Answers};
 ghost use Rattle.vms_cli.specs.Commands.{asked_of};
 ghost use Rattle.vms_cli.specs.Endings.{EndsAs, EndsCause, Tells};
+ghost use Rattle.vms_cli.specs.Outcomes.{Outcome};
 
 use crate::ending::Ending;
 use crate::pack::pack;
@@ -10,6 +12,8 @@ use crate::show::show;
 use crate::{Command, Words};
 use std::alloc::Global;
 use vms_io::{Shelf, Sink, Source, write_all_of};
+
+const WRITE_FAULT: u8 = 6;
 
 /// Runs the command that the words name over the input, out, notes and the shelf, and answers the status.
 ///
@@ -26,7 +30,8 @@ use vms_io::{Shelf, Sink, Source, write_all_of};
 /// | 9 | what a name holds is too large |
 /// | 10 | memory is wanting |
 ///
-/// One line goes to notes for each status but 0. On statuses but 0 and 6 out is untouched.
+/// One line goes to notes for each status but 0. On statuses but 0 and 6 out is untouched. Nothing of the input is
+/// taken but by `show`.
 pub fn vmstate<I: Source, O: Sink, N: Sink, H: Shelf>(
     alloc: Global,
     words: &Words,
@@ -35,35 +40,36 @@ pub fn vmstate<I: Source, O: Sink, N: Sink, H: Shelf>(
     notes: &mut N,
     shelf: &mut H,
 ) -> u8
-    ensures outcome { IfSome (outcome_of (asked_of words.now) (I.left input.old) (H.held shelf.old)) (DoesOrFails result
-        (record { input = I.left input.old; out = O.written out.old; notes = N.written notes.old; held = H.held shelf.old; input_faults = I.faults input.old; out_faults = O.faults out.old; notes_faults = N.faults notes.old; shelf_faults = H.faults shelf.old })
-        (record { input = I.left input.new; out = O.written out.new; notes = N.written notes.new; held = H.held shelf.new; input_faults = I.faults input.new; out_faults = O.faults out.new; notes_faults = N.faults notes.new; shelf_faults = H.faults shelf.new })) }
-    ensures causes { Causes words.now result
-        (record { input = I.left input.old; out = O.written out.old; notes = N.written notes.old; held = H.held shelf.old; input_faults = I.faults input.old; out_faults = O.faults out.old; notes_faults = N.faults notes.old; shelf_faults = H.faults shelf.old })
-        (record { input = I.left input.new; out = O.written out.new; notes = N.written notes.new; held = H.held shelf.new; input_faults = I.faults input.new; out_faults = O.faults out.new; notes_faults = N.faults notes.new; shelf_faults = H.faults shelf.new }) }
-    ensures map { H.held shelf.new ≡ H.held shelf.old }
+    ensures { Answers words.now result
+        (record {
+          input = intake I.Source input.old;
+          out = outlet O.Sink out.old;
+          notes = outlet N.Sink notes.old;
+          shelf = stock H.Shelf shelf.old;
+        })
+        (record {
+          input = intake I.Source input.new;
+          out = outlet O.Sink out.new;
+          notes = outlet N.Sink notes.new;
+          shelf = stock H.Shelf shelf.new;
+        }) }
 {
-    match run(alloc, words, input, out, shelf) {
-        Ending::Done => 0,
-        Ending::Refused(line) => tell(notes, line.as_bytes(), 1),
-        Ending::BadWords => tell(notes, b"bad words\n", 2),
-        Ending::BadValues(line) => tell(notes, line.as_bytes(), 3),
-        Ending::ReadFault => tell(notes, b"read fault\n", 5),
-        Ending::WriteFault => tell(notes, b"write fault\n", 6),
-        Ending::ShelfFault => tell(notes, b"shelf fault\n", 7),
-        Ending::NotThere(line) => tell(notes, line.as_bytes(), 8),
-        Ending::TooLarge(line) => tell(notes, line.as_bytes(), 9),
-        Ending::NoMemory => tell(notes, b"out of memory\n", 10),
-    }
+    let ending = run(alloc, words, input, out, shelf);
+    tell(notes, &ending)
 }
 
-// Writes a line of notes, and answers the status, or that of a write fault.
-fn tell<N: Sink>(notes: &mut N, line: &[u8], status: u8) -> u8
-    ensures { Tells (N.written notes.old) (N.written notes.new) (N.faults notes.old) (N.faults notes.new) line.now status result }
+// Writes the line of an ending, and answers its status, or that of a write fault. Of what is done nothing is told.
+fn tell<N: Sink>(notes: &mut N, ending: &Ending) -> u8
+    ensures tells { Tells (outlet N.Sink notes.old) (outlet N.Sink notes.new) ending.now result }
+    ensures count { N.faults notes.old ≤ N.faults notes.new }
+    ensures promise { N.promise notes.new ≡ N.promise notes.old }
 {
-    match write_all_of(notes, line) {
-        Ok(()) => status,
-        Err(_) => 6,
+    if let Ending::Done = ending {
+        return 0;
+    }
+    match write_all_of(notes, ending.line()) {
+        Ok(()) => ending.status(),
+        Err(_) => WRITE_FAULT,
     }
 }
 
@@ -74,9 +80,17 @@ fn run<I: Source, O: Sink, H: Shelf>(
     out: &mut O,
     shelf: &mut H,
 ) -> Ending
-    ensures content { IfSome (outcome_of (asked_of words.now) (I.left input.old) (H.held shelf.old)) (EndsAs (I.left input.old) (I.left input.new) (O.written out.old) (O.written out.new) result) }
-    ensures cause { EndsCause (asked_of words.now) (I.faults input.old) (I.faults input.new) (H.faults shelf.old) (H.faults shelf.new) (O.faults out.old) (O.faults out.new) (O.written out.old) (O.written out.new) result }
-    ensures map { H.held shelf.new ≡ H.held shelf.old }
+    ensures content { (o : Outcome) → HasOutcome (asked_of words.now) (I.left input.old) (H.held shelf.old) o
+        → EndsAs (intake I.Source input.old) (intake I.Source input.new) (outlet O.Sink out.old) (outlet O.Sink out.new)
+        (stock H.Shelf shelf.old) (stock H.Shelf shelf.new) result o }
+    ensures cause { EndsCause (asked_of words.now) (intake I.Source input.old) (intake I.Source input.new)
+        (outlet O.Sink out.old) (outlet O.Sink out.new) (stock H.Shelf shelf.old) (stock H.Shelf shelf.new) result }
+    ensures input_count { I.faults input.old ≤ I.faults input.new }
+    ensures out_count { O.faults out.old ≤ O.faults out.new }
+    ensures shelf_count { H.faults shelf.old ≤ H.faults shelf.new }
+    ensures input_promise { I.promise input.new ≡ I.promise input.old }
+    ensures out_promise { O.promise out.new ≡ O.promise out.old }
+    ensures shelf_promise { H.promise shelf.new ≡ H.promise shelf.old }
 {
     match words.command() {
         Some(Command::Show) => show(alloc, input, out),

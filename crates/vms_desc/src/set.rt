@@ -51,7 +51,7 @@ impl DescSet {
 
     /// The shipped set of this number, as the newest program of that number writes it.
     pub fn shipped(alloc: Global, s: u8) -> Result<DescSet, NoMemory>
-        requires { s ≤ 3 }
+        requires { s ≤ 4 }
         ensures { IfOk result (λ set. described set ≡ shipped_set s) }
     {
         Ok(Self::assemble(alloc, shipped_parts(alloc, s)?)?)

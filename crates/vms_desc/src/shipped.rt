@@ -1,6 +1,6 @@
 // The shipped sets.
 ghost use Rattle.std.specs.Prelude.{◌≡◌, ◌≤◌, IfOk};
-ghost use Rattle.vms_spec.specs.Shipped.{set_0, set_1, set_2, set_3};
+ghost use Rattle.vms_spec.specs.Shipped.{set_0, set_1, set_2, set_3, set_4};
 ghost use Rattle.vms_desc.specs.Formed.{shipped_set};
 ghost use Rattle.vms_parts.specs.Views.{set_of};
 
@@ -8,8 +8,10 @@ mod chips;
 mod serial;
 mod words;
 
-use crate::shipped::chips::{i8254_at_1, i8254_at_2, i8259_at_1, i8259_at_2, pit_channel, timer};
-use crate::shipped::serial::{serial_at_1, serial_at_2, serial_at_3};
+use crate::shipped::chips::{
+    i8254_at_1, i8254_at_2, i8259_at_1, i8259_at_2, i8259_at_4, pit_channel, timer,
+};
+use crate::shipped::serial::{serial_at_1, serial_at_2, serial_at_3, serial_at_4};
 use crate::shipped::words::text;
 use crate::{Listed, Parts};
 use std::alloc::Global;
@@ -18,14 +20,15 @@ use vms_kinds::{Item, Kind};
 
 // The shipped set of this number.
 pub(crate) fn shipped_parts(alloc: Global, s: u8) -> Result<Parts, NoMemory>
-    requires { s ≤ 3 }
+    requires { s ≤ 4 }
     ensures { IfOk result (λ parts. set_of parts ≡ shipped_set s) }
 {
     match s {
         0 => isa_0(alloc),
         1 => isa_1(alloc),
         2 => isa_2(alloc),
-        _ => isa_3(alloc),
+        3 => isa_3(alloc),
+        _ => isa_4(alloc),
     }
 }
 
@@ -86,6 +89,23 @@ fn isa_3(alloc: Global) -> Result<Parts, NoMemory>
     let mut devices = vec![in alloc; timer(alloc)?, i8259_at_2(alloc, 0)?, i8259_at_2(alloc, 1)?]?;
     devices.push(i8254_at_2(alloc)?)?;
     devices.push(serial_at_3(alloc)?)?;
+    Ok(Parts {
+        machines: Listed::new(machines),
+        structs: Listed::new(structs),
+        devices: Listed::new(devices),
+    })
+}
+
+fn isa_4(alloc: Global) -> Result<Parts, NoMemory>
+    ensures { IfOk result (λ parts. set_of parts ≡ set_4) }
+{
+    let mut machines = vec![in alloc; text(alloc, "isa-1")?, text(alloc, "isa-2")?]?;
+    machines.push(text(alloc, "isa-3")?)?;
+    machines.push(text(alloc, "isa-4")?)?;
+    let structs = vec![in alloc; pit_channel(alloc, Item::Unused { bytes: 1 })?]?;
+    let mut devices = vec![in alloc; timer(alloc)?, i8259_at_4(alloc, 0)?, i8259_at_4(alloc, 1)?]?;
+    devices.push(i8254_at_2(alloc)?)?;
+    devices.push(serial_at_4(alloc)?)?;
     Ok(Parts {
         machines: Listed::new(machines),
         structs: Listed::new(structs),

@@ -16,7 +16,7 @@ struct Echo {
 impl Hooked for Echo {
     ghost can_save = { λ numbers echo. echo.digit < 10 };
 
-    ghost can_restore = { λ numbers cells. length cells < 65 };
+    ghost can_restore = { λ numbers cells. length cells < 97 };
 
     ghost saves_as = { λ numbers echo cells. cells ≡ pos echo.digit ∷ pos numbers.level ∷ pos numbers.set ∷ pos numbers.moment ∷ [] };
 
@@ -38,7 +38,7 @@ fn saved(digit: u8, level: u8, set: u8, moment: u64) -> DevCells
 }
 
 fn loaded(cells: &DevCells, level: u8, set: u8, moment: u64) -> Result<Echo, HookFault>
-    requires { length cells.now.items < 65 }
+    requires { length cells.now.items < 97 }
 {
     load_by(
         |pass: &Pass, echo: &Echo| cells_of(pass, echo),

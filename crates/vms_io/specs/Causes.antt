@@ -15,6 +15,10 @@ pub record HasCause {T E : Type 0} (before now : ℕ) (result : Result T E) : Ty
   pub later : before ≤ now
   pub failed : OnErr result (Rose before now)
 
+-- a count rises by one exactly at a failure, up to its last value
+abbrev pub CountsFailures : {T E : Type 0} → ℕ → ℕ → Result T E → Type 0
+CountsFailures before now result = MatchResult result (λ _. now ≡ before) (λ _. now ≡ capped (before + 1))
+
 -- at `Ok(n)` the number of bytes given rises by n, and else it stays
 abbrev pub Gives : {E : Type 0} → ℕ → ℕ → Result ℕ E → Type 0
 Gives before now result = MatchResult result (λ n. now ≡ capped (before + n)) (λ _. now ≡ before)

@@ -3,3 +3,4 @@ pub mod Causes
 pub mod Memory
 pub mod Shelves
 pub mod Supplies
+pub mod Told

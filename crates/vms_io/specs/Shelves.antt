@@ -1,6 +1,6 @@
 -- What a shelf does, where what it holds is told.
-use Rattle.std.specs.Prelude.{◌≡◌, ◌≢◌, ℕ, ◌<◌, ◌≤◌, List, length, Result, Err, Option, Some, None}
-use Rattle.vms_io.specs.Causes.{Rose}
+use Rattle.std.specs.Prelude.{◌≡◌, ◌≢◌, ℕ, ◌+◌, ◌<◌, ◌≤◌, List, length, Result, Err, Option, Some, None}
+use Rattle.vms_io.specs.Causes.{Rose, capped}
 use Rattle.vms_io.specs.declared.shelf.FetchFault.{FetchFault}
 use Rattle.vms_io.specs.declared.shelf.FetchFault.TheVariants as fetch
 use Rattle.vms_io.specs.declared.shelf.StoreFault.{StoreFault}
@@ -42,3 +42,13 @@ HasFetchCause before now _ = before ≤ now
 abbrev pub HasStoreCause : {T : Type 0} → ℕ → ℕ → Result T StoreFault → Type 0
 HasStoreCause before now (Err store.Failed) = (before ≤ now) × Rose before now
 HasStoreCause before now _ = before ≤ now
+
+-- a count rises by one exactly at a fetch that failed, up to its last value
+abbrev pub CountsFetches : {T : Type 0} → ℕ → ℕ → Result T FetchFault → Type 0
+CountsFetches before now (Err fetch.Failed) = now ≡ capped (before + 1)
+CountsFetches before now _ = now ≡ before
+
+-- the same of a store
+abbrev pub CountsStores : {T : Type 0} → ℕ → ℕ → Result T StoreFault → Type 0
+CountsStores before now (Err store.Failed) = now ≡ capped (before + 1)
+CountsStores before now _ = now ≡ before

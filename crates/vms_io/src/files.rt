@@ -1,9 +1,9 @@
 // The files of one folder.
-ghost use Rattle.std.specs.Prelude.{◌≡◌, None};
+ghost use Rattle.std.specs.Prelude.{◌≡◌, None, false};
 
 use crate::{FetchFault, Shelf, StoreFault};
 use std::alloc::Global;
-use std::io::{ErrorKind, Read};
+use std::io::{ErrorKind, Read, Write};
 use std::rt::Files;
 use std::{fs, io};
 
@@ -18,7 +18,7 @@ pub struct FileShelf<R: Files + Drop> {
 impl<R: Files + Drop> FileShelf<R> {
     /// The shelf over this folder, without a fault so far.
     pub fn new(rt: R, folder: String) -> Self
-        ensures { result.faults ≡ 0 }
+        ensures { ⟦<FileShelf<R> as Shelf>⟧.faults result ≡ 0 }
     {
         FileShelf {
             rt,
@@ -36,9 +36,19 @@ impl<R: Files + Drop> FileShelf<R> {
         Ok(bytes)
     }
 
-    fn write(&self, name: &str, piece: &[u8]) -> io::Result<()> {
+    // A file of this name without bytes, in place of the one that there was.
+    fn create(&self, name: &str) -> io::Result<R::File> {
         let path = format!(in *self.folder.allocator(); "{}/{name}", self.folder)?;
-        fs::write(&self.rt, path.as_str(), piece)
+        fs::create(&self.rt, path.as_str())
+    }
+
+    // Puts the bytes into the file. Once it stands anew any error is a fault, since the old content is gone.
+    fn write(&self, name: &str, piece: &[u8]) -> Result<(), StoreFault> {
+        match self.create(name) {
+            Ok(mut file) => file.write_all(piece).map_err(|_| StoreFault::Failed),
+            Err(error) if error.kind() == ErrorKind::OutOfMemory => Err(StoreFault::NoMemory),
+            Err(_) => Err(StoreFault::Failed),
+        }
     }
 }
 
@@ -46,6 +56,10 @@ impl<R: Files + Drop> Shelf for FileShelf<R> {
     ghost held = { λ s. None };
 
     ghost faults = { λ s. s.faults };
+
+    ghost promise = { λ s. false };
+
+    ghost promised = { λ s h. Prim.cc };
 
     /// A name without a file is `NotThere`; a folder by that name or a file that can't be read is a fault.
     fn fetch(&mut self, alloc: Global, name: &str, limit: u32) -> Result<Vec<u8>, FetchFault> {
@@ -64,12 +78,10 @@ impl<R: Files + Drop> Shelf for FileShelf<R> {
     }
 
     fn store(&mut self, name: &str, piece: &[u8]) -> Result<(), StoreFault> {
-        match self.write(name, piece) {
-            Ok(()) => Ok(()),
-            Err(_) => {
-                self.faults = self.faults.saturating_add(1);
-                Err(StoreFault::Failed)
-            }
+        let stored = self.write(name, piece);
+        if let Err(StoreFault::Failed) = stored {
+            self.faults = self.faults.saturating_add(1);
         }
+        stored
     }
 }

@@ -31,6 +31,10 @@ pub struct Failed;
 #[derive(Clone, Copy, Debug, PartialEq, Eq)]
 pub struct NoMemory;
 
+/// A sink failed, after a prefix of what was to be written; its count of faults has risen.
+#[derive(Clone, Copy, Debug, PartialEq, Eq)]
+pub struct WriteFault;
+
 impl From<AllocError> for NoMemory {
     fn from(_: AllocError) -> Self {
         NoMemory

@@ -1,5 +1,5 @@
 // Files by name.
-ghost use Rattle.std.specs.Prelude.{◌≡◌, ◌≤◌, List, ℕ, Option, Some, length, IfOk, IfErr, IfSome, OnOk, OnErr};
+ghost use Rattle.std.specs.Prelude.{◌≡◌, ◌≤◌, List, ℕ, Bool, Option, Some, length, IfOk, IfErr, IfSome, OnOk, OnErr, IsTrue};
 ghost use Rattle.vms_io.specs.Shelves.{FetchRefuses, PutsUnder, KeepsOthers, IfToldBoth, HasFetchCause, HasStoreCause};
 
 use std::alloc::Global;
@@ -34,13 +34,17 @@ pub trait Shelf {
     /// How often a call has failed.
     ghost faults: { Self → ℕ };
 
+    /// No call fails.
+    ghost promise: { Self → Bool };
+
     /// Gives the bytes that are held under the name, at most `limit` of them.
     fn fetch(&mut self, alloc: Global, name: &str, limit: u32) -> Result<Vec<u8>, FetchFault>
         ensures fits { IfOk result (λ bytes. length bytes.items ≤ limit) }
         ensures bytes { IfOk result (λ bytes. IfSome (held self.old) (λ map. map name.now ≡ Some bytes.items)) }
         ensures refused { IfErr result (λ fault. IfSome (held self.old) (λ map. FetchRefuses (map name.now) limit fault)) }
         ensures kept { held self.new ≡ held self.old }
-        ensures cause { HasFetchCause (faults self.old) (faults self.new) result };
+        ensures cause { HasFetchCause (faults self.old) (faults self.new) result }
+        ensures promise { promise self.new ≡ promise self.old };
 
     /// Puts the bytes under the name, in place of what was held there.
     ///
@@ -49,5 +53,8 @@ pub trait Shelf {
         ensures stored { OnOk result (IfToldBoth (held self.old) (held self.new) (λ old new. PutsUnder old new name.now piece.now)) }
         ensures others { OnErr result (IfToldBoth (held self.old) (held self.new) (λ old new. KeepsOthers old new name.now)) }
         ensures unchanged { IfErr result (λ fault. fault ≡ StoreFault.NoMemory → held self.new ≡ held self.old) }
-        ensures cause { HasStoreCause (faults self.old) (faults self.new) result };
+        ensures cause { HasStoreCause (faults self.old) (faults self.new) result }
+        ensures promise { promise self.new ≡ promise self.old };
+
+    ghost promised: { (shelf : Self) → IsTrue (promise shelf) → faults shelf ≡ 0 };
 }

@@ -17,7 +17,8 @@ pub struct StdSource<R: Read + Drop> {
 impl<R: Read + Drop> StdSource<R> {
     /// The source over this reader, without a fault so far.
     pub fn new(reader: R) -> Self
-        ensures { result.faults ≡ 0 }
+        ensures faults { ⟦<StdSource<R> as Source>⟧.faults result ≡ 0 }
+        ensures given { ⟦<StdSource<R> as Source>⟧.given result ≡ 0 }
     {
         StdSource {
             reader,
@@ -69,14 +70,15 @@ pub struct StdSink<W: Write + Drop> {
 impl<W: Write + Drop> StdSink<W> {
     /// The sink over this writer, without a fault so far.
     pub fn new(writer: W) -> Self
-        ensures { result.faults ≡ 0 }
+        ensures faults { ⟦<StdSink<W> as Sink>⟧.faults result ≡ 0 }
+        ensures written { ⟦<StdSink<W> as Sink>⟧.written result ≡ W.contents writer }
     {
         StdSink { writer, faults: 0 }
     }
 
     /// Hands on what the writer holds back.
     pub fn flush(&mut self) -> Result<(), Failed>
-        ensures { HasCause self.old.faults self.new.faults result }
+        ensures { HasCause (⟦<StdSink<W> as Sink>⟧.faults self.old) (⟦<StdSink<W> as Sink>⟧.faults self.new) result }
     {
         match self.writer.flush() {
             Ok(()) => Ok(()),

@@ -41,8 +41,8 @@ pub enum Item {
     Struct(u32),
 }
 
-/// The numbers of one device's state, in the order of its description, at most 64.
-pub type DevCells = ArrayVec<i128, 64>;
+/// The numbers of one device's state, in the order of its description, at most 96.
+pub type DevCells = ArrayVec<i128, 96>;
 
 impl Kind {
     /// The number of bytes, 1, 2, 4 or 8.

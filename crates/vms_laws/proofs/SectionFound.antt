@@ -25,7 +25,7 @@ use Rattle.vms_laws.proofs.SubsFound.{subs_found}
 use Rattle.vms_laws.proofs.HeadLaws.{opened}
 use Rattle.vms_laws.proofs.HeadFound.{Opens}
 
-none_versions : (subs : List Sub) → AreVersionsOf subs (none_of subs)
+pub none_versions : (subs : List Sub) → AreVersionsOf subs (none_of subs)
 none_versions [] = tt
 none_versions (s ∷ subs) = none_versions subs
 

@@ -20,12 +20,12 @@ use Rattle.vms_laws.specs.Good.{IsGood}
 use Rattle.vms_laws.proofs.StreamFound.{regroup}
 use Rattle.vms_laws.proofs.PartLaws.{at_inside, at_other}
 
-none_missing : (k : ℕ) (came : List Bool) → Streams.AllCame came → first_missing k came ≡ None
+pub none_missing : (k : ℕ) (came : List Bool) → Streams.AllCame came → first_missing k came ≡ None
 none_missing k [] h = refl
 none_missing k (true ∷ came) h = none_missing (suc k) came h
 none_missing k (false ∷ came) h = absurd h
 
-came_at : (came : List Bool) (k : ℕ) → Streams.AllCame came → k < length came → Streams.at came k ≡ Some true
+pub came_at : (came : List Bool) (k : ℕ) → Streams.AllCame came → k < length came → Streams.at came k ≡ Some true
 came_at [] k h lt = absurd (omega arith)
 came_at (true ∷ came) zero h lt = refl
 came_at (true ∷ came) (suc k) h lt = came_at came k h (omega arith)
@@ -36,7 +36,7 @@ false_at [] k e = refl
 false_at (x ∷ came) zero e = cc
 false_at (x ∷ came) (suc k) e = false_at came k e
 
-same_lists : {A : Type 0} (xs ys : List A) → length xs ≡ length ys → ((k : ℕ) → k < length xs → Streams.at xs k ≡ Streams.at ys k) → xs ≡ ys
+pub same_lists : {A : Type 0} (xs ys : List A) → length xs ≡ length ys → ((k : ℕ) → k < length xs → Streams.at xs k ≡ Streams.at ys k) → xs ≡ ys
 same_lists [] [] e h = refl
 same_lists [] (y ∷ ys) e h = absurd (omega arith)
 same_lists (x ∷ xs) [] e h = absurd (omega arith)
@@ -61,7 +61,7 @@ section_here set k images front (Some d) (Some image) e f h = record { device = 
 section_here set k images front (Some d) None e f h = absurd h
 section_here set k images front None p e f h = absurd h
 
-agrees : (images now : List Image) (came : List Bool) (k j : ℕ) (image : Image) → k < length now → Streams.at images k ≡ Some image
+pub agrees : (images now : List Image) (came : List Bool) (k j : ℕ) (image : Image) → k < length now → Streams.at images k ≡ Some image
     → (Streams.at came j ≡ Some true → Streams.at now j ≡ Streams.at images j) → Streams.at (slice_set came k true) j ≡ Some true
     → (b : Bool) → (j == k) ≡ b → Streams.at (slice_set now k image) j ≡ Streams.at images j
 agrees images now came k j image lt found agree e true same =

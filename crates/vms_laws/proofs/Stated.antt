@@ -3,7 +3,7 @@ use Rattle.std.proofs.Common.{◌≡◌, ℕ, Option, Some, refl, sym, ◌∙◌
 use Rattle.vms_spec.specs.Streams.{written}
 use Rattle.vms_spec.specs.Judging.{State, judge, reading, at_start}
 use Rattle.vms_laws.proofs.WellFormedLaws.{well_good}
-use Rattle.vms_laws.proofs.Witness.{good_0, good_1, good_2, good_3}
+use Rattle.vms_laws.proofs.Witness.{good_0, good_1, good_2, good_3, good_4}
 use Rattle.vms_laws.proofs.PathLaws.{cell_inside}
 use Rattle.vms_laws.proofs.ReadyLaws.{ready_is, is_ready_all}
 use Rattle.vms_laws.specs.Laws.{GoodLaw, ShippedLaw, CellLaw, ReadyLaw, FoundLaw, OnlyLaw, OneStreamLaw, ToldLaw, LocalLaw, ZeroedLaw, SectionLaw, WrittenLaw, RefusedLaw, FaultLaw, Answer, Taken, Faulty, EitherLaw, NeverBothLaw, AreOneFault, OneFaultLaw}
@@ -23,7 +23,7 @@ pub good_holds : GoodLaw
 good_holds set well heads = well_good set well heads
 
 pub shipped_holds : ShippedLaw
-shipped_holds = (good_0, good_1, good_2, good_3)
+shipped_holds = (good_0, good_1, good_2, good_3, good_4)
 
 pub cell_holds : CellLaw
 cell_holds set k part path c e = cell_inside set k part path c e

@@ -97,12 +97,12 @@ pub record SectionsRead (set : Set) (names : List (List ℕ)) (state : State) (p
   pub came : List Bool
   pub goes : reading_on (judge set names) (record { machine = state.machine; images = images; came = came; spot = Ended }) (place + length sections + 1) after ≡ Some (Accepted n end)
 
-at_false : (xs : List Bool) (k : ℕ) → k < length xs → get_or xs k false ≡ false → Streams.at xs k ≡ Some false
+pub at_false : (xs : List Bool) (k : ℕ) → k < length xs → get_or xs k false ≡ false → Streams.at xs k ≡ Some false
 at_false [] k h e = absurd (omega arith)
 at_false (x ∷ xs) zero h e = ap Some e
 at_false (x ∷ xs) (suc k) h e = at_false xs k (omega arith) e
 
-all_came : (k : ℕ) (came : List Bool) → first_missing k came ≡ None → Streams.AllCame came
+pub all_came : (k : ℕ) (came : List Bool) → first_missing k came ≡ None → Streams.AllCame came
 all_came k [] e = tt
 all_came k (true ∷ came) e = all_came (suc k) came e
 all_came k (false ∷ came) e = cc

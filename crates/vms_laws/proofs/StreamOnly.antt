@@ -98,7 +98,7 @@ module _ (set : Set) (names : List (List ℕ)) where
       five : (a : ℕ) → 5 + a ≡ suc (suc (suc (suc (suc a))))
       five a = omega arith
 
-never_true : (ds : List Device) (k : ℕ) → Streams.at (map (λ (d : Device). false) ds) k ≡ Some true → ⊥
+pub never_true : (ds : List Device) (k : ℕ) → Streams.at (map (λ (d : Device). false) ds) k ≡ Some true → ⊥
 never_true [] k e = cc
 never_true (d ∷ ds) zero e = cc
 never_true (d ∷ ds) (suc k) e = never_true ds k e

@@ -42,7 +42,7 @@ pub record SubsRead (set : Set) (names' : List (List ℕ)) (d : Device) (v k id 
     spot = Later;
   }) ((place + length tail) + 5) after ≡ Some (Accepted taken end)
 
-sub_front : (set : Set) (d : Device) (image : Image) (j w : ℕ) (s : Sub) (body : List ℕ) (o : Option Sub) (p : Option (Option ℕ)) → Some s ≡ o → Some (Some w) ≡ p
+pub sub_front : (set : Set) (d : Device) (image : Image) (j w : ℕ) (s : Sub) (body : List ℕ) (o : Option Sub) (p : Option (Option ℕ)) → Some s ≡ o → Some (Some w) ≡ p
     → Spells image.numbers (sub_slots set s w image.numbers (part_place set d j)) body → Streams.SubSpells set d image j o p (sub_head s.desc.name w ++ body)
 sub_front set d image j w s body o p e f h =
     subst (λ (o : Option Sub). Streams.SubSpells set d image j o p (sub_head s.desc.name w ++ body)) e

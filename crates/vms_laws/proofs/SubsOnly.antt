@@ -97,7 +97,7 @@ pick_all n xs cells c long h = go (nat_lt c (length cells)) refl
         beyond (pick n xs 0 cells) c (omega (arith, pick_long n xs 0 cells)) ∙ sym (beyond n c (omega (arith, long)))
 
 -- what a subsection that is spelled has
-record IsSub (set : Set) (d : Device) (image : Image) (j w : ℕ) (front : List ℕ) : Type 0 where
+pub record IsSub (set : Set) (d : Device) (image : Image) (j w : ℕ) (front : List ℕ) : Type 0 where
   pub sub : Sub
   pub there : at d.subs j ≡ Some sub
   pub version : IsVersionOf sub.desc w
@@ -105,7 +105,7 @@ record IsSub (set : Set) (d : Device) (image : Image) (j w : ℕ) (front : List 
   pub spells : Spells image.numbers (sub_slots set sub w image.numbers (part_place set d j)) body
   pub is : front ≡ sub_head sub.desc.name w ++ body
 
-sub_so : (set : Set) (d : Device) (image : Image) (j w : ℕ) (front : List ℕ) (s : Sub) → at d.subs j ≡ Some s → IsVersionOf s.desc w → at image.came j ≡ Some (Some w)
+pub sub_so : (set : Set) (d : Device) (image : Image) (j w : ℕ) (front : List ℕ) (s : Sub) → at d.subs j ≡ Some s → IsVersionOf s.desc w → at image.came j ≡ Some (Some w)
     → Streams.SubSpells set d image j (at d.subs j) (at image.came j) front → IsSub set d image j w front
 sub_so set d image j w front s e version f h =
     let x : Streams.SubSpells set d image j (Some s) (Some (Some w)) front =
@@ -169,12 +169,12 @@ module _ (set : Set) (names : List (List ℕ)) (good : IsGood set) (k id : ℕ) 
           (subst (λ (t : Sub). has_cell (sub_slots set t x image.numbers (part_place set d j)) c ≡ false) st (subst (λ (x : ℕ). has_cell (sub_slots set s x image.numbers (part_place set d j)) c ≡ false) wx mine))
 
   -- at last all numbers are there
-  so_at_last : so_far image.came ≡ image.numbers
+  pub so_at_last : so_far image.came ≡ image.numbers
   so_at_last = ext_get_or (pos 0) (so_far image.came) image.numbers (pick_long image.numbers (slots_so image.came) 0 (device_cells set d) ∙ sym normal.cells.long)
       (λ c lt. pick_all image.numbers (slots_so image.came) (device_cells set d) c normal.cells.long (λ inside e. normal.absent c inside e))
 
   -- a part's body gives the numbers of one part more
-  part_taken : (came : List (Option ℕ)) (j w : ℕ) (s : Sub) (place : ℕ) (body tail : List ℕ) → at d.subs j ≡ Some s → at came j ≡ Some None → at image.came j ≡ Some (Some w)
+  pub part_taken : (came : List (Option ℕ)) (j w : ℕ) (s : Sub) (place : ℕ) (body tail : List ℕ) → at d.subs j ≡ Some s → at came j ≡ Some None → at image.came j ≡ Some (Some w)
       → Spells image.numbers (sub_slots set s w image.numbers (part_place set d j)) body
       → take_desc (takers set.structs (length set.structs)) s.desc w (part_place set d j) (record { numbers = so_far came; place = place; rest = body ++ tail })
       ≡ Ok (record { numbers = so_far (slice_set came j (Some w)); place = place + length body; rest = tail })
@@ -206,7 +206,7 @@ module _ (set : Set) (names : List (List ℕ)) (good : IsGood set) (k id : ℕ) 
       refl
 
   -- the own body
-  own_taken : (place : ℕ) (body tail : List ℕ) → Spells image.numbers (own_slots set d image.version image.numbers) body
+  pub own_taken : (place : ℕ) (body tail : List ℕ) → Spells image.numbers (own_slots set d image.version image.numbers) body
       → take_desc (takers set.structs (length set.structs)) d.desc image.version 0 (record { numbers = (default_image set d).numbers; place = place; rest = body ++ tail })
       ≡ Ok (record { numbers = so_far (none_of d.subs); place = place + length body; rest = tail })
   own_taken place body tail spells =

@@ -4,7 +4,7 @@ use Rattle.vms_spec.specs.Lists.{at}
 use Rattle.vms_spec.specs.Sets.{Device, Sub, Set}
 use Rattle.vms_spec.specs.Layout.{first}
 use Rattle.vms_spec.specs.WellFormed.{first_fault, WellFormed}
-use Rattle.vms_spec.specs.Shipped.{set_0, set_1, set_2, set_3}
+use Rattle.vms_spec.specs.Shipped.{set_0, set_1, set_2, set_3, set_4}
 use Rattle.vms_laws.specs.Good.{FitsHeads, IsGood}
 use Rattle.vms_laws.proofs.WellFormedLaws.{well_good}
 
@@ -51,6 +51,10 @@ well_3 : WellFormed set_3
 unfolding first_fault first
 well_3 = refl
 
+well_4 : WellFormed set_4
+unfolding first_fault first
+well_4 = refl
+
 small : 0 < 2 ^ 32
 small = omega arith
 
@@ -63,6 +67,9 @@ two = omega arith
 three : 3 < 2 ^ 32
 three = omega arith
 
+four : 4 < 2 ^ 32
+four = omega arith
+
 pub good_0 : IsGood set_0
 good_0 = well_good set_0 well_0 (heads_fit set_0 ((small, one, tt), tt))
 
@@ -74,3 +81,6 @@ good_2 = well_good set_2 well_2 (heads_fit set_2 ((small, one, tt), ((small, two
 
 pub good_3 : IsGood set_3
 good_3 = well_good set_3 well_3 (heads_fit set_3 ((small, one, tt), ((small, two, tt), ((one, two, tt), ((small, two, tt), ((small, three, (one, (one, (one, tt)))), tt))))))
+
+pub good_4 : IsGood set_4
+good_4 = well_good set_4 well_4 (heads_fit set_4 ((small, one, tt), ((small, two, (one, tt)), ((one, two, (one, tt)), ((small, two, tt), ((small, four, (one, (one, (one, (one, tt))))), tt))))))

@@ -13,7 +13,7 @@ use Rattle.vms_spec.specs.Judging.{State, judge, reading}
 use Rattle.vms_spec.specs.Places.{cell_at, cell_count}
 use Rattle.vms_spec.specs.Readiness.{is_ready}
 use Rattle.vms_spec.specs.WellFormed.{WellFormed}
-use Rattle.vms_spec.specs.Shipped.{set_0, set_1, set_2, set_3}
+use Rattle.vms_spec.specs.Shipped.{set_0, set_1, set_2, set_3, set_4}
 use Rattle.vms_laws.specs.Good.{FitsHeads, IsGood}
 use Rattle.vms_laws.specs.Units.{IsLocal}
 
@@ -23,7 +23,7 @@ GoodLaw = (set : Set) → WellFormed set → FitsHeads set → IsGood set
 
 -- so is each shipped set
 abbrev pub ShippedLaw : Type 0
-ShippedLaw = IsGood set_0 × IsGood set_1 × IsGood set_2 × IsGood set_3
+ShippedLaw = IsGood set_0 × IsGood set_1 × IsGood set_2 × IsGood set_3 × IsGood set_4
 
 -- the cell of a path is one of the device's
 abbrev pub CellLaw : Type 0

@@ -1,16 +1,14 @@
 -- A number that counts arrays is within the capacities of all where it is within the least of them.
-use Rattle.std.proofs.Common.{◌≡◌, ℕ, zero, suc, ◌+◌, ◌<◌, ◌≤◌, min, List, [], ◌∷◌, take, slice_set, Option, Some, None, ℤ, pos, negsuc, refl, sym, ap, ◌∙◌, arith, Bool, true, false, ◌||◌, nat_lt, if◌then◌else◌}
+use Rattle.std.proofs.Common.{◌≡◌, ℕ, ◌<◌, ◌≤◌, min, List, [], ◌∷◌, take, slice_set, Option, Some, None, ℤ, pos, negsuc, refl, sym, ap, ◌∙◌, arith, Bool, true, false, ◌||◌, nat_lt, if◌then◌else◌}
 use Rattle.std.proofs.lemmas.Bool.{ltb-true, ltb-false, lt-ltb}
-use Rattle.vms_kinds.specs.declared.Item.{Item}
-use Rattle.vms_kinds.specs.declared.Item.TheVariants.{Num, Equal, Unused, Struct}
+use Rattle.vms_kinds.specs.declared.Kind.{Kind}
 use Rattle.vms_kinds.specs.Codes.{width, value_of}
 use Rattle.vms_spec.specs.declared.Reason.TheVariants as reasons
 use Rattle.vms_spec.specs.Numbers.{exceeds, is_above}
 use Rattle.vms_spec.specs.Judging.{is_bad_bool}
-use Rattle.vms_spec.specs.Taking.{Taker, Taken, Progress, ◌>>=◌, refuse, on, if_whole, take_item, take_items}
+use Rattle.vms_spec.specs.Taking.{Progress, refuse, on, if_whole, take_number}
 use Rattle.vms_parts.specs.Capacities.{lesser, least_from, least_of}
-use Rattle.vms_load.specs.Walks.{capacities_of}
-use Rattle.vms_load.proofs.Fronts.{bind_same}
+use Rattle.vms_walk.specs.Steps.{capacities_of}
 
 or_assoc : (a b c : Bool) → ((a || b) || c) ≡ (a || (b || c))
 or_assoc true b c = refl
@@ -62,21 +60,10 @@ exceeds_least caps z = exceeds_from None caps z
 
 -- ---- what is taken
 
-item_least : (ts : List Taker) (item : Item) (caps : List ℕ) (cell : ℕ) (p : Progress) → take_item ts item (capacities_of (least_of caps)) cell p ≡ take_item ts item caps cell p
-item_least ts (Num kind) caps cell p =
+pub number_least : (kind : Kind) (caps : List ℕ) (cell : ℕ) (p : Progress) → take_number kind (capacities_of (least_of caps)) cell p ≡ take_number kind caps cell p
+number_least kind caps cell p =
     let w = width kind in
     let v = value_of kind (take w p.rest) in
     ap
     (λ (b : Bool). if_whole w p (if is_bad_bool kind (take w p.rest) then refuse p reasons.BadBool w else if b then refuse p reasons.CountTooLarge w else on w (slice_set p.numbers cell v) p))
     (exceeds_least caps v)
-item_least ts (Equal kind z) caps cell p = refl
-item_least ts (Unused n) caps cell p = refl
-item_least ts (Struct j) caps cell p = refl
-
-pub items_least : (ts : List Taker) (item : Item) (caps : List ℕ) (step n cell : ℕ) (p : Progress)
-    → take_items ts item (capacities_of (least_of caps)) step n cell p ≡ take_items ts item caps step n cell p
-items_least ts item caps step zero cell p = refl
-items_least ts item caps step (suc n) cell p =
-    ap (λ (t : Taken). t >>= λ q. take_items ts item (capacities_of (least_of caps)) step n (cell + step) q) (item_least ts item caps cell p)
-    ∙ bind_same (take_item ts item caps cell p) (take_items ts item (capacities_of (least_of caps)) step n (cell + step)) (take_items ts item caps step n (cell + step))
-    (λ q. items_least ts item caps step n (cell + step) q)

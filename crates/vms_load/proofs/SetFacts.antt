@@ -17,8 +17,8 @@ use Rattle.vms_desc.specs.Parts.{HasPart, desc_at}
 use Rattle.vms_desc.proofs.AskLaws.{few_cells, own_inside_device, sub_inside}
 use Rattle.vms_desc.proofs.Bounds.{none_is, AllTrue, all_true, or_else_none}
 use Rattle.vms_load.specs.Parts.{IsIn, part_of, part_desc, part_base}
-use Rattle.vms_load.specs.Walks.{HasSpot}
-use Rattle.vms_load.specs.declared.body.Spot.{Spot}
+use Rattle.vms_walk.specs.Steps.{HasSpot}
+use Rattle.vms_walk.specs.declared.fields.Spot.{Spot}
 use Rattle.vms_load.proofs.HeadLemmas.{at_get}
 
 pub well_of : (set : Set) → is_well_formed set ≡ true → WellFormed set

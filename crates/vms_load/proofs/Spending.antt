@@ -1,19 +1,8 @@
 -- How many bytes are given by one call after another.
-use Rattle.std.proofs.Common.{◌≡◌, ℕ, suc, zero, ◌+◌, ◌-◌, ◌*◌, ◌≤◌, Result, Ok, Err, OnOk, arith}
+use Rattle.std.proofs.Common.{◌≡◌, ℕ, ◌+◌, ◌-◌, ◌≤◌, Result, Ok, Err, OnOk, arith}
 use Rattle.vms_io.specs.Causes.{capped}
-use Rattle.vms_frames.specs.declared.fault.FrameFault.{FrameFault}
-use Rattle.vms_load.specs.Bodies.{Spends}
 use Rattle.vms_load.specs.Reads.{Gives, GivesBehind}
 use Rattle.vms_load.specs.declared.fault.LoadFault.{LoadFault}
-
-pub one_of : (n m : ℕ) → 1 ≤ n → m ≤ n * m
-one_of zero m h = absurd (omega arith)
-one_of (suc n) m h = let f : suc n * m ≡ m + n * m = grind arith in omega arith
-
--- a call that ends after others
-pub spends_err : (most more before mid now from at to to' : ℕ) (e : FrameFault) → from ≤ at → mid ≡ capped (before + (at - from)) → at + most ≤ from + more
-    → Spends {X = Unit {0}} most mid now at to (Err e) → Spends {X = Unit {0}} more before now from to' (Err e)
-spends_err most more before mid now from at to to' e le given room s = omega (arith, s)
 
 -- one further piece was given
 pub given_on : (before mid now from at to : ℕ) → from ≤ at → at ≤ to → mid ≡ capped (before + (at - from)) → now ≡ capped (mid + (to - at)) → now ≡ capped (before + (to - from))

@@ -1,11 +1,11 @@
 -- What the calls that read fields answer.
-use Rattle.std.specs.Prelude.{◌≡◌, ℕ, ◌+◌, ◌-◌, ◌≤◌, if◌then◌else◌, List, take, drop, Option, Some, None, ℤ, Result, Ok, Err}
+use Rattle.std.specs.Prelude.{◌≡◌, ℕ, ◌+◌, ◌-◌, ◌≤◌, if◌then◌else◌, List, take, drop, Option, Some, ℤ, Result, Ok, Err}
 use Rattle.vms_io.specs.Causes.{capped}
 use Rattle.vms_kinds.specs.declared.Kind.{Kind}
 use Rattle.vms_kinds.specs.Codes.{width, value_of}
 use Rattle.vms_spec.specs.declared.Reason.TheVariants as reasons
 use Rattle.vms_spec.specs.Judging.{is_bad_bool, exceeds, same_number}
-use Rattle.vms_spec.specs.Taking.{Taken}
+use Rattle.vms_spec.specs.Taking.{Taken, Progress}
 use Rattle.vms_frames.specs.Found.{Found, Whole, Wrong, needs}
 use Rattle.vms_frames.specs.declared.fault.FrameFault.{FrameFault}
 use Rattle.vms_frames.specs.declared.fault.FrameFault.TheVariants as faults
@@ -33,11 +33,9 @@ TakesAs (Err e) numbers place left (Ok x) = ⊥
 TakesAs (Err e) numbers place left (Err (faults.Refused at reason)) = (at ≡ e.place) × (reason ≡ e.reason) × (left ≡ Some (drop e.long e.rest))
 TakesAs taken numbers place left (Err faults.ReadFault) = Unit {0}
 
--- what is left is taken from here on as the whole was from the start
-abbrev pub GoesOn : Option (List ℕ) → (List ℕ → Taken) → Option (List ℕ) → (List ℕ → Taken) → Type 0
-GoesOn None whole left from = Unit {0}
-GoesOn (Some input) whole None from = ⊥
-GoesOn (Some input) whole (Some rest) from = from rest ≡ whole input
+-- where a body is read on: the numbers of all cells so far, the place, and the bytes that are left
+abbrev pub progress : List ℤ → ℕ → List ℕ → Progress
+progress numbers place rest = record { numbers = numbers; place = place; rest = rest }
 
 -- How many bytes are given: as many as the place has moved, and never more than `most`.
 abbrev pub Spends : {X : Type 0} → ℕ → ℕ → ℕ → ℕ → ℕ → Result X FrameFault → Type 0

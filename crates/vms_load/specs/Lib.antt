@@ -4,6 +4,6 @@ pub mod Heads
 pub mod Kept
 pub mod Loads
 pub mod Parts
+pub mod Reading
 pub mod Reads
 pub mod Staging
-pub mod Walks

@@ -1,11 +1,11 @@
 // Numbers that count arrays, constants and unused bytes.
-ghost use Rattle.std.specs.Prelude.{◌≡◌, ◌+◌, ◌≤◌, ◌<◌, ◌^◌, IfSome, OnOk, length};
+ghost use Rattle.std.specs.Prelude.{◌≡◌, ◌+◌, ◌≤◌, ◌<◌, ◌^◌, true, false, IfSome, OnOk, OnErr, IfErr, ℤ, slice_set, length};
 ghost use Rattle.vms_kinds.specs.Codes.{width};
 ghost use Rattle.vms_spec.specs.Numbers.{exceeds, is_above};
 ghost use Rattle.vms_spec.specs.Taking.{take_number};
 ghost use Rattle.vms_frames.specs.Answers.{Answers, HasCause, GivesWithin};
-ghost use Rattle.vms_load.specs.Bodies.{capped_found, constant_found, TakesAs, Spends};
-ghost use Rattle.vms_load.specs.Walks.{capacities_of};
+ghost use Rattle.vms_load.specs.Bodies.{capped_found, constant_found, progress, TakesAs, Spends};
+ghost use Rattle.vms_walk.specs.Steps.{capacities_of};
 
 use vms_frames::{Cursor, FrameFault};
 use vms_image::Image;
@@ -24,12 +24,16 @@ pub(crate) fn put_number<S: Source>(
 ) -> Result<(), FrameFault>
     requires place { cursor.old ≤ 2 ^ 63 }
     requires within { cell < length image.old.numbers }
-    ensures taken { IfSome (S.left source.old) (λ rest. TakesAs (take_number kind (capacities_of most) cell (record { numbers = image.old.numbers; place = cursor.old; rest = rest })) image.new.numbers cursor.new (S.left source.new) result) }
+    ensures taken { IfSome (S.left source.old) (λ rest.
+        let start = progress image.old.numbers cursor.old rest in
+        let taken = take_number kind (capacities_of most) cell start in
+        TakesAs taken image.new.numbers cursor.new (S.left source.new) result) }
     ensures given { Spends (width kind) (S.given source.old) (S.given source.new) cursor.old cursor.new result }
     ensures cause { HasCause (S.faults source.old) (S.faults source.new) result }
     ensures promise { S.promise source.new ≡ S.promise source.old }
     ensures kept { image.new ≡ record image.old { numbers = image.new.numbers } }
-    ensures long { length image.new.numbers ≡ length image.old.numbers }
+    ensures put { OnOk result ((z : ℤ) × (image.new.numbers ≡ slice_set image.old.numbers cell z)) }
+    ensures stopped { OnErr result (image.new ≡ image.old) }
 {
     let number = number(cursor, source, kind, most)?;
     image.set(cell, number);
@@ -81,6 +85,21 @@ pub(crate) fn constant<S: Source>(
         return Err(FrameFault::Refused {
             at,
             reason: Reason::NotEqual,
+        });
+    }
+    Ok(())
+}
+
+/// The end of a description, whose validations hold or don't.
+pub(crate) fn rule(holds: bool, cursor: &Cursor) -> Result<(), FrameFault>
+    ensures ok { OnOk result (holds ≡ true) }
+    ensures err { IfErr result (λ fault.
+        (holds ≡ false) × (fault ≡ FrameFault.Refused cursor.now Reason.Invalid)) }
+{
+    if !holds {
+        return Err(FrameFault::Refused {
+            at: cursor.at(),
+            reason: Reason::Invalid,
         });
     }
     Ok(())

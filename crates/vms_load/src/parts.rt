@@ -8,12 +8,13 @@ ghost use Rattle.vms_load.specs.Reads.{Reads, Gives};
 ghost use Rattle.vms_load.specs.Parts.{IsShaped, IsOpen, OpensNext, part_of, part_due, bytes_of_part, subs_due, in_fields, after_fields, after_part};
 
 use crate::LoadFault;
-use crate::body::{Spot, read_part};
+use crate::body::read_part;
 use crate::heads::open_sub;
 use vms_desc::{DescSet, Part};
 use vms_frames::{After, Cursor};
 use vms_image::Image;
 use vms_io::Source;
+use vms_walk::Spot;
 
 /// The section that is read: the number of its device, and its id.
 #[derive(Clone, Copy)]

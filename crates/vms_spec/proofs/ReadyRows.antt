@@ -5,7 +5,7 @@ use Rattle.vms_spec.specs.Sets.{Device, Set}
 use Rattle.vms_spec.specs.Lists.{every}
 use Rattle.vms_spec.specs.Images.{Image, default_image}
 use Rattle.vms_spec.specs.Readiness.{is_normal, is_ready}
-use Rattle.vms_spec.specs.Shipped.{set_0, set_1, set_2, set_3}
+use Rattle.vms_spec.specs.Shipped.{set_0, set_1, set_2, set_3, set_4}
 use Rattle.vms_spec.proofs.Boxes.{counted_set, subsection_set, tested_set, mixed_set}
 
 -- whether each device's default image is ready
@@ -27,6 +27,10 @@ writes_the_defaults_of_set_2 = refl
 writes_the_defaults_of_set_3 : defaults_are_ready set_3 ≡ true
 unfolding first
 writes_the_defaults_of_set_3 = refl
+
+writes_the_defaults_of_set_4 : defaults_are_ready set_4 ≡ true
+unfolding first
+writes_the_defaults_of_set_4 = refl
 
 -- of the one device of a set
 abbrev of_box : (Set → Device → Image → Bool) → Set → Image → Bool

@@ -9,7 +9,7 @@ use Rattle.vms_spec.specs.declared.Whose.TheVariants.{Own, Parent}
 use Rattle.vms_spec.specs.Sets.{Set, Desc, Formula, AtLeast, Cell, Not}
 use Rattle.vms_spec.specs.Layout.{first}
 use Rattle.vms_spec.specs.WellFormed.{SetFault, first_fault, here, in_field}
-use Rattle.vms_spec.specs.Shipped.{set_0, set_1, set_2, set_3}
+use Rattle.vms_spec.specs.Shipped.{set_0, set_1, set_2, set_3, set_4}
 use Rattle.vms_spec.proofs.Boxes.{number, box, box_set, sub_of, point, counted_set, constant_set, subsection_set, tested_set, bare_set, empty_set, mixed_set}
 
 unfoldable faulty : Set → Option SetFault
@@ -33,6 +33,10 @@ accepts_set_2 = refl
 accepts_set_3 : faulty set_3 ≡ None
 unfolding faulty first
 accepts_set_3 = refl
+
+accepts_set_4 : faulty set_4 ≡ None
+unfolding faulty first
+accepts_set_4 = refl
 
 accepts_no_device : faulty empty_set ≡ None
 unfolding faulty first

@@ -1,4 +1,4 @@
--- The shipped sets 0 to 3. Set 0 has the timer alone; set s of the others describes the boards isa-1 to isa-s. Defaults
+-- The shipped sets 0 to 4. Set 0 has the timer alone; set s of the others describes the boards isa-1 to isa-s. Defaults
 -- and `since` are 0 where nothing else is said, and there are no validations.
 use Rattle.std.specs.Prelude.{ℕ, List, [], ◌∷◌, ◌++◌, Some, None, pos, negsuc, codes}
 use Rattle.vms_kinds.specs.declared.Kind.{Kind}
@@ -32,6 +32,9 @@ desc name version fields = record { name = name; version = version; minimum = 1;
 abbrev pub device : ℕ → Desc → List Sub → Device
 device instance d subs = record { instance = instance; desc = d; subs = subs }
 
+abbrev pub sub : List ℕ → List Field → Formula → Sub
+sub name fields needed = record { desc = desc name 1 fields; needed = needed }
+
 -- ---- timer
 
 abbrev pub now : Field
@@ -53,8 +56,18 @@ elcr = record (number U8 (codes "elcr")) { since = 2 }
 abbrev pub i8259_at_1 : ℕ → Device
 i8259_at_1 instance = device instance (desc (codes "i8259") 1 i8259_fields) []
 
+abbrev pub i8259_with_elcr : Desc
+i8259_with_elcr = desc (codes "i8259") 2 (i8259_fields ++ elcr ∷ [])
+
 abbrev pub i8259_at_2 : ℕ → Device
-i8259_at_2 instance = device instance (desc (codes "i8259") 2 (i8259_fields ++ elcr ∷ [])) []
+i8259_at_2 instance = device instance i8259_with_elcr []
+
+-- the level mode
+abbrev pub ltim : Sub
+ltim = sub (codes "i8259/ltim") (number Truth (codes "ltim") ∷ []) (Cell Own 0 1 Eq 1)
+
+abbrev pub i8259_at_4 : ℕ → Device
+i8259_at_4 instance = device instance i8259_with_elcr (ltim ∷ [])
 
 -- ---- i8254
 
@@ -97,9 +110,6 @@ divisor = record (number U16 (codes "divisor")) { former = codes "divider" ∷ [
 abbrev pub fcr : Field
 fcr = record (number U8 (codes "fcr")) { since = 2 }
 
-abbrev pub sub : List ℕ → List Field → Formula → Sub
-sub name fields needed = record { desc = desc name 1 fields; needed = needed }
-
 abbrev pub thr_ipending : Sub
 thr_ipending = sub (codes "serial/thr_ipending") (record (number I8 (codes "thr_ipending")) { default = negsuc 0 } ∷ []) (Cell Own 0 255 Ne 255)
 
@@ -111,6 +121,13 @@ fifo = sub (codes "serial/fifo") (
 
 abbrev pub timeout : Sub
 timeout = sub (codes "serial/timeout") (record (number Timer (codes "timeout_at")) { default = pos never } ∷ []) (Cell Own 0 never Ne never)
+
+-- the FIFOs as rings: sixteen bytes, the place of the first that is held, and how many are held
+abbrev pub ring : Sub
+ring = sub (codes "serial/ring") (
+    record (number U8 (codes "rx_data")) { count = Fixed 16 } ∷ number U8 (codes "rx_head") ∷ number U8 (codes "rx_number")
+    ∷ record (number U8 (codes "tx_data")) { count = Fixed 16 } ∷ number U8 (codes "tx_head") ∷ number U8 (codes "tx_number") ∷ [])
+    (Or (Cell Own 2 255 Ge 1) (Cell Own 5 255 Ge 1))
 
 abbrev pub serial : ℕ → List Field → List Sub → Device
 serial version fields subs = device 0 (desc (codes "serial") version fields) subs
@@ -141,4 +158,12 @@ set_3 = record {
   structs = pit_channel (Unused 1) ∷ [];
   devices = timer ∷ i8259_at_2 0 ∷ i8259_at_2 1 ∷ i8254_at_2
       ∷ serial 3 (divisor ∷ serial_fields ++ fcr ∷ []) (thr_ipending ∷ fifo ∷ timeout ∷ []) ∷ [];
+}
+
+abbrev pub set_4 : Set
+set_4 = record {
+  machines = codes "isa-1" ∷ codes "isa-2" ∷ codes "isa-3" ∷ codes "isa-4" ∷ [];
+  structs = pit_channel (Unused 1) ∷ [];
+  devices = timer ∷ i8259_at_4 0 ∷ i8259_at_4 1 ∷ i8254_at_2
+      ∷ serial 4 (divisor ∷ serial_fields ++ fcr ∷ []) (thr_ipending ∷ fifo ∷ timeout ∷ ring ∷ []) ∷ [];
 }

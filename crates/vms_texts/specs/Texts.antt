@@ -2,12 +2,10 @@
 use Rattle.std.specs.Prelude.{◌≡◌, ℕ, ◌<◌, ◌^◌, true, List, [], ◌∷◌, length, Option, Some, None, ℤ, pos, negsuc}
 use Rattle.std.specs.Fmt.{signed_decimal}
 use Rattle.vms_spec.specs.Images.{Image}
-use Rattle.vms_spec.specs.Judging.{State, reading}
 use Rattle.vms_spec.specs.Readiness.{is_ready}
-use Rattle.vms_spec.specs.Readings.{Accepted}
 use Rattle.vms_spec.specs.Shipped.{set_0, timer}
 use Rattle.vms_spec.specs.Spelling.{number_spelled}
-use Rattle.vms_spec.specs.Streams.{is_one_of, written}
+use Rattle.vms_spec.specs.Streams.{is_one_of, Takes, written}
 use Rattle.vms_spec.specs.Values.{values_text}
 use Rattle.vms_spec.specs.ValuesReading.{values_read, Values}
 
@@ -51,11 +49,12 @@ ReadLaw = (text : List ℕ) (machine : Option (List ℕ)) (images : List Image) 
 
 -- ---- streams of the first set
 
--- the stream is read whole, and prints as this text
+-- an input of these bytes takes all of them as a stream, of which this text is printed
 pub record ShowsAs (stream text : List ℕ) : Type 0 where
-  pub end : State
-  pub whole : reading set_0 set_0.machines stream ≡ Some (Accepted (length stream) end)
-  pub printed : values_text set_0 end.machine end.images ≡ text
+  pub machine : Option (List ℕ)
+  pub images : List Image
+  pub whole : Takes set_0 set_0.machines stream (length stream) machine images
+  pub printed : values_text set_0 machine images ≡ text
 
 -- the stream that is written of what a text says shows as this text
 abbrev pub PackedLaw : Type 0

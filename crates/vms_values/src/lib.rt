@@ -14,6 +14,7 @@ mod text;
 pub use fault::{Values, ValuesFault};
 pub use print::print_values;
 pub use read::read_values;
+pub use vms_io::WriteFault;
 pub use vms_spec::ValuesReason;
 
 #[cfg(test)]

@@ -18,9 +18,8 @@ use crate::path::{Path, write_path};
 use itoa::Buffer;
 use vms_desc::{Desc, DescSet, Device, Field, Parts};
 use vms_image::Image;
-use vms_io::{Failed, Sink};
+use vms_io::{Failed, Sink, WriteFault};
 use vms_kinds::Item;
-use vms_write::WriteFault;
 
 /// Appends the values text of these images, one for each device of the set, with a line for the machine of
 /// this number of the set if one is named. After an error some first bytes of it were appended.

@@ -1,60 +1,68 @@
 -- Images that are ready, one after the other.
-use Rattle.std.proofs.Common.{◌≡◌, ℕ, zero, suc, ◌+◌, ◌<◌, ◌≤◌, Bool, true, false, ◌&&◌, ◌==◌, nat_lt, List, [], ◌∷◌, length, get_or, refl, sym, ap, ◌∙◌, subst, arith}
+use Rattle.std.proofs.Common.{◌≡◌, ℕ, zero, suc, ◌+◌, ◌<◌, ◌≤◌, Bool, true, false, ◌&&◌, ◌==◌, nat_lt, List, [], ◌∷◌, length, get_or, Some, refl, sym, ap, ◌∙◌, subst, arith}
 use Rattle.std.proofs.lemmas.Bool.{ltb-true, ltb-false, eq-eqb}
 use Rattle.vms_spec.specs.Images.{Image}
-use Rattle.vms_spec.specs.Readiness.{is_ready}
-use Rattle.vms_spec.specs.Sets.{Set}
+use Rattle.vms_spec.specs.Lists.{at}
+use Rattle.vms_spec.specs.Sets.{Set, Device}
 use Rattle.vms_spec.specs.Layout.{device_cells}
+use Rattle.vms_spec.specs.Streams.{IsReady}
 use Rattle.vms_laws.specs.Good.{FitsHeads}
+use Rattle.vms_laws.specs.Laws.{AreReady}
+use Rattle.vms_laws.proofs.PartLaws.{at_inside}
 use Rattle.vms_desc.specs.Described.{device_at}
 use Rattle.vms_desc.specs.Formed.{is_well_formed}
+use Rattle.vms_write.proofs.Formed.{at_get}
 use Rattle.vms_write.proofs.ReadyImages.{ready_writable}
-use Rattle.vms_write.specs.Writing.{AreReady, no_image}
 
 -- there is an image for each device, and the first n are ready
 pub record AreSoFar (set : Set) (images : List Image) (n : ℕ) : Type 0 where
   pub long : length images ≡ length set.devices
-  pub ready : (k : ℕ) → k < n → is_ready set (device_at set k) (get_or images k no_image) ≡ true
+  pub ready : (k : ℕ) (d : Device) (image : Image) → k < n → at set.devices k ≡ Some d → at images k ≡ Some image → IsReady set d image
 
 pub none_so_far : (set : Set) (images : List Image) → length images ≡ length set.devices → AreSoFar set images 0
-none_so_far set images long = record { long = long; ready = λ k lt. absurd (omega arith) }
+none_so_far set images long = record { long = long; ready = λ k d image lt. absurd (omega arith) }
 
-any_default : (images : List Image) (n : ℕ) (a b : Image) → n < length images → get_or images n a ≡ get_or images n b
+get_at : {X : Type 0} (xs : List X) (i : ℕ) (d x : X) → at xs i ≡ Some x → get_or xs i d ≡ x
+get_at [] i d x e = cc
+get_at (y ∷ xs) zero d x e = cc
+get_at (y ∷ xs) (suc i) d x e = get_at xs i d x e
+
+any_default : {X : Type 0} (xs : List X) (n : ℕ) (a b : X) → n < length xs → get_or xs n a ≡ get_or xs n b
 any_default [] n a b lt = absurd (omega arith)
-any_default (image ∷ images) zero a b lt = refl
-any_default (image ∷ images) (suc n) a b lt = any_default images n a b (omega arith)
+any_default (x ∷ xs) zero a b lt = refl
+any_default (x ∷ xs) (suc n) a b lt = any_default xs n a b (omega arith)
 
 module _ (set : Set) (images : List Image) (n : ℕ) (image : Image) (sofar : AreSoFar set images n) (lt : n < length images) (is : image ≡ get_or images n image) where
-  here : image ≡ get_or images n no_image
-  here = is ∙ any_default images n image no_image lt
+  ready_by : IsReady set (device_at set n) image → (k : ℕ) (d : Device) (other : Image) → k < n + 1 → at set.devices k ≡ Some d → at images k ≡ Some other → (b : Bool) → nat_lt k n ≡ b → IsReady set d other
+  ready_by r k d other less e f true g = sofar.ready k d other (ltb-true k n g) e f
+  ready_by r k d other less e f false g =
+      let same : k ≡ n = omega (arith, ltb-false k n g) in
+      let device : device_at set n ≡ d = get_at set.devices n _ d (ap (at set.devices) (sym same) ∙ e) in
+      let there : image ≡ other = is ∙ get_at images n image other (ap (at images) (sym same) ∙ f) in
+      subst (λ (x : Device). IsReady set x other) device (subst (IsReady set (device_at set n)) there r)
 
-  ready_by : is_ready set (device_at set n) image ≡ true → (k : ℕ) → k < n + 1 → (b : Bool) → nat_lt k n ≡ b → is_ready set (device_at set k) (get_or images k no_image) ≡ true
-  ready_by r k less true e = sofar.ready k (ltb-true k n e)
-  ready_by r k less false e =
-      let same : n ≡ k = omega (arith, ltb-false k n e) in
-      subst (λ (j : ℕ). is_ready set (device_at set j) (get_or images j no_image) ≡ true) same (subst (λ (i : Image). is_ready set (device_at set n) i ≡ true) here r)
-
-  pub one_more : is_ready set (device_at set n) image ≡ true → AreSoFar set images (n + 1)
-  one_more r = record { long = sofar.long; ready = λ k less. ready_by r k less (nat_lt k n) refl }
+  pub one_more : IsReady set (device_at set n) image → AreSoFar set images (n + 1)
+  one_more r = record { long = sofar.long; ready = λ k d other less e f. ready_by r k d other less e f (nat_lt k n) refl }
 
   -- one that isn't ready is missing from all
-  pub not_all : is_ready set (device_at set n) image ≡ false → AreReady set images → ⊥
-  not_all r all = apart (sym r ∙ subst (λ (i : Image). is_ready set (device_at set n) i ≡ true) (sym here) (all.ready n (omega (arith, all.one_each)))) where
-    apart : false ≡ true → ⊥
-    apart e = cc
+  pub not_all : (IsReady set (device_at set n) image → ⊥) → AreReady set images → ⊥
+  not_all r all =
+      let here : at images n ≡ Some image = at_get images n image lt ∙ ap (λ (x : Image). Some x) (sym is) in
+      r (all.ready n (device_at set n) image (at_get set.devices n _ (omega (arith, all.one_each))) here)
 
 pub all_so_far : (set : Set) (images : List Image) (n : ℕ) → AreSoFar set images n → length images ≤ n → AreReady set images
-all_so_far set images n sofar le = record { one_each = sofar.long; ready = λ k lt. sofar.ready k (omega (arith, sofar.long)) }
+all_so_far set images n sofar le = record {
+  one_each = sofar.long;
+  ready = λ k d image e f. let inside = at_inside images k image f in sofar.ready k d image (omega arith) e f;
+}
 
 -- an image of another shape than its device's isn't ready
 pub other_shape : (set : Set) → is_well_formed set ≡ true → FitsHeads set → (i : ℕ) (image : Image) → i < length set.devices
     → (length image.came == length (device_at set i).subs && length image.numbers == length (device_cells set (device_at set i))) ≡ false
-    → is_ready set (device_at set i) image ≡ false
-other_shape set well heads i image lt other = by_ready (is_ready set (device_at set i) image) refl where
-  by_ready : (b : Bool) → is_ready set (device_at set i) image ≡ b → b ≡ false
-  by_ready false e = refl
-  by_ready true e =
-      let w = ready_writable set well heads i image lt e in
-      let came : (length image.came == length (device_at set i).subs) ≡ true = eq-eqb (length image.came) (length (device_at set i).subs) w.came in
-      let cells : (length image.numbers == length (device_cells set (device_at set i))) ≡ true = eq-eqb (length image.numbers) (length (device_cells set (device_at set i))) w.cells in
-      rw (came, cells) at other
+    → IsReady set (device_at set i) image → ⊥
+other_shape set well heads i image lt other ready =
+    let w = ready_writable set well heads i image lt ready in
+    let came : (length image.came == length (device_at set i).subs) ≡ true = eq-eqb (length image.came) (length (device_at set i).subs) w.came in
+    let cells : (length image.numbers == length (device_cells set (device_at set i))) ≡ true = eq-eqb (length image.numbers) (length (device_cells set (device_at set i))) w.cells in
+    let both : true ≡ false = sym (ap (λ (b : Bool). b && length image.numbers == length (device_cells set (device_at set i))) came ∙ cells) ∙ other in
+    cc

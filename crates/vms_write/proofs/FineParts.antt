@@ -16,7 +16,7 @@ use Rattle.vms_laws.proofs.Names.{names_append}
 use Rattle.vms_laws.proofs.Places.{length-times, size_same, field_size}
 use Rattle.vms_parts.specs.declared.types.CellForm.{CellForm}
 use Rattle.vms_write.specs.Fine.{no_form, are_fit, settle, is_fine}
-use Rattle.vms_write.specs.Walks.{cells_in}
+use Rattle.vms_walk.specs.Steps.{cells_in}
 
 -- ---- tests
 

@@ -1,5 +1,6 @@
 -- What the judging walk finds fine is ready, and what is ready it finds fine.
 use Rattle.std.proofs.Common.{◌≡◌, ℕ, zero, suc, ◌+◌, ◌<◌, ◌≤◌, List, [], ◌∷◌, ◌++◌, length, length-append, get_or, map, Option, Some, None, ℤ, pos, refl, sym, ap, ◌∙◌, subst, arith, Bool, true, false, not, ◌&&◌, ◌||◌, ◌==◌}
+use Rattle.std.specs.Bool.{OnTrue, OnFalse}
 use Rattle.std.specs.List.{flat_map}
 use Rattle.std.proofs.lemmas.Bool.{and_parts, leb-true, eqb-true, eq-eqb}
 use Rattle.vms_spec.specs.Lists.{at}
@@ -7,8 +8,8 @@ use Rattle.vms_spec.specs.Numbers.{same_number}
 use Rattle.vms_spec.specs.Sets.{Set, Device, Sub, Desc, AtLeast}
 use Rattle.vms_spec.specs.Layout.{Cell, no_cell, no_desc, Slot, Number, Constant, Filler, Rule, meanings, desc_cells, desc_slots, struct_cells, device_cells}
 use Rattle.vms_spec.specs.Images.{Image, has_cell, own_cells, own_slots, sub_slots, came_slots, image_slots, AreVersionsOf, FitsCell, RulesHold}
-use Rattle.vms_spec.specs.Streams.{is_needed}
-use Rattle.vms_spec.specs.Readiness.{come_as_needed, is_ready, is_normal, is_valid}
+use Rattle.vms_spec.specs.Streams.{is_needed, IsReady}
+use Rattle.vms_spec.specs.Readiness.{come_as_needed}
 use Rattle.vms_spec.specs.Rules.{in_range, counts_well}
 use Rattle.vms_laws.specs.Cells.{AreCells}
 use Rattle.vms_laws.specs.Good.{IsGood, DefaultsFit}
@@ -18,7 +19,7 @@ use Rattle.vms_laws.proofs.ConstantLaws.{constants_append, own_constants, part_c
 use Rattle.vms_laws.proofs.FineLaws.{image_are}
 use Rattle.vms_laws.proofs.NormalFound.{named_fits}
 use Rattle.vms_laws.proofs.PartLaws.{parts_together}
-use Rattle.vms_laws.proofs.ReadyLaws.{ranged, counted_well, same_is, is_same, needed_are, ready_is, is_ready_all}
+use Rattle.vms_laws.proofs.ReadyLaws.{ranged, counted_well, same_is, is_same, needed_are, are_needed}
 use Rattle.vms_laws.proofs.SectionLaws.{AreConstants, fit_slots}
 use Rattle.vms_laws.proofs.SpellLaws.{FitSlots}
 use Rattle.vms_laws.proofs.WellFormedLaws.{ranges, within}
@@ -202,11 +203,6 @@ image_constants set good k d image e =
     constants_append (own_slots set d image.version n) (came_slots set d n (own_cells set d) d.subs image.came) (own_constants set good k d e image.version 0 n)
     (parts_together set d n AreConstants tt constants_append (own_cells set d) d.subs image.came (λ j s v h i. part_constants set good k j d s e h v _ n))
 
-same_tests : (a b : Bool) → (a ≡ true → b ≡ true) → (b ≡ true → a ≡ true) → a ≡ b
-same_tests true b f g = sym (f refl)
-same_tests false true f g = g refl
-same_tests false false f g = refl
-
 module _ (set : Set) (well : is_well_formed set ≡ true) (good : IsGood set) (i : ℕ) (lt : i < length set.devices) (image : Image)
     (cells : length image.numbers ≡ length (device_cells set (device_at set i))) (subs : length image.came ≡ length (device_at set i).subs) (forms : List CellForm) (is : forms ≡ map form_of (device_cells set (device_at set i))) where
   found : at set.devices i ≡ Some (device_at set i)
@@ -232,7 +228,7 @@ module _ (set : Set) (well : is_well_formed set ≡ true) (good : IsGood set) (i
   default_at : (c : ℕ) → (get_or forms c no_form).default ≡ (get_or (device_cells set (device_at set i)) c no_cell).default
   default_at c = ap (λ (fs : List CellForm). (get_or fs c no_form).default) is ∙ form_default (device_cells set (device_at set i)) c
 
-  fine_ready : device_fine set (device_at set i) forms image ≡ true → is_ready set (device_at set i) image ≡ true
+  fine_ready : device_fine set (device_at set i) forms image ≡ true → IsReady set (device_at set i) image
   fine_ready e =
       let d = device_at set i in
       let n = image.numbers in
@@ -248,7 +244,7 @@ module _ (set : Set) (well : is_well_formed set ≡ true) (good : IsGood set) (i
       let fits = fit_true n slots r.0 (image_constants set good i d image found) in
       let absent : (c : ℕ) → c < length all → has_cell slots c ≡ false → get_or n c (pos 0) ≡ (get_or all c no_cell).default =
       λ c l bare. settled c l bare r.1 in
-      is_ready_all set d image (record {
+      record {
         normal = record {
           version = (omega arith, omega arith);
           subs = versions_are set d image 0 d.subs image.came lowest q.1;
@@ -258,7 +254,7 @@ module _ (set : Set) (well : is_well_formed set ≡ true) (good : IsGood set) (i
         valid = fits.1;
         version = same;
         needed = needed_are set d image 0 d.subs image.came q.1;
-      })
+      }
     where
       settled : (c : ℕ) → c < length (device_cells set (device_at set i)) → has_cell (image_slots set (device_at set i) image) c ≡ false
           → settle (image_slots set (device_at set i) image) forms image.numbers 0 (length (device_cells set (device_at set i))) ≡ true
@@ -269,14 +265,13 @@ module _ (set : Set) (well : is_well_formed set ≡ true) (good : IsGood set) (i
           subst (λ (x : ℕ). get_or image.numbers x (pos 0) ≡ (get_or forms x no_form).default) here
           (settle_at slots forms image.numbers 0 (length (device_cells set (device_at set i))) e c l (ap (has_cell slots) here ∙ bare)) ∙ default_at c
 
-  ready_fine : is_ready set (device_at set i) image ≡ true → device_fine set (device_at set i) forms image ≡ true
-  ready_fine e =
+  ready_fine : IsReady set (device_at set i) image → device_fine set (device_at set i) forms image ≡ true
+  ready_fine ready =
       let d = device_at set i in
       let n = image.numbers in
       let all = device_cells set d in
       let slots = image_slots set d image in
-      let ready = ready_is set d image e in
-      let come = (and_parts (is_normal set d image && is_valid set d image && image.version == d.desc.version) (come_as_needed set d image 0 d.subs image.came) e).1 in
+      let come = are_needed set d image 0 d.subs image.came ready.needed in
       let fits = fit_slots all n slots ready.normal.cells (image_are set d image) (image_constants set good i d image found) in
       whole_fine set d forms image subs
       ∙ both (image.version == d.desc.version && come_as_needed set d image 0 d.subs image.came) (is_fine forms n slots 0 (length all))
@@ -284,5 +279,13 @@ module _ (set : Set) (well : is_well_formed set ≡ true) (good : IsGood set) (i
       (both (are_fit n slots) (settle slots forms n 0 (length all)) (fit_all n slots fits ready.valid)
       (settle_all slots forms n 0 (length all) (λ c l bare. ready.normal.absent c (omega arith) bare ∙ sym (default_at c))))
 
-  pub fine_is_ready : device_fine set (device_at set i) forms image ≡ is_ready set (device_at set i) image
-  fine_is_ready = same_tests (device_fine set (device_at set i) forms image) (is_ready set (device_at set i) image) fine_ready ready_fine
+  pub ready_by : (b : Bool) → b ≡ device_fine set (device_at set i) forms image → OnTrue b (IsReady set (device_at set i) image)
+  ready_by true e = fine_ready (sym e)
+  ready_by false e = tt
+
+  pub other_by : (b : Bool) → b ≡ device_fine set (device_at set i) forms image → OnFalse b (IsReady set (device_at set i) image → ⊥)
+  other_by true e = tt
+  other_by false e = λ ready. apart (e ∙ ready_fine ready)
+    where
+      apart : false ≡ true → ⊥
+      apart e = cc

@@ -1,13 +1,9 @@
 pub mod AllReady
+pub mod ByteLemmas
 pub mod FineParts
 pub mod FineReady
-pub mod FineSteps
 pub mod Formed
-pub mod Growing
-pub mod Prefixes
-pub mod Ranks
 pub mod ReadyImages
 pub mod Sections
-pub mod Spots
+pub mod StepsFine
 pub mod Subs
-pub mod Walking

@@ -1,15 +1,13 @@
 -- What a ready image has.
 use Rattle.std.proofs.Common.{◌≡◌, ℕ, suc, ◌<◌, ◌≤◌, List, [], ◌∷◌, length, Option, Some, None, ℤ, refl, ap, arith, true}
 use Rattle.vms_spec.specs.Sets.{Set, Sub, AtLeast}
-use Rattle.vms_spec.specs.Layout.{Cell, Slot, Number, Constant, Filler, Rule, no_desc, device_cells}
+use Rattle.vms_spec.specs.Layout.{Slot, Number, Constant, Filler, Rule, no_desc, device_cells}
 use Rattle.vms_spec.specs.Images.{Image, own_cells, own_slots, sub_place, sub_slots, AreVersionsOf}
-use Rattle.vms_spec.specs.Readiness.{is_ready}
+use Rattle.vms_spec.specs.Streams.{IsReady}
 use Rattle.vms_spec.specs.WellFormed.{first_fault}
-use Rattle.vms_laws.specs.Cells.{AreCells}
 use Rattle.vms_laws.specs.Good.{IsGood, FitsHeads}
 use Rattle.vms_laws.proofs.ConstantLaws.{own_constants, part_constants}
 use Rattle.vms_laws.proofs.PartLaws.{sub_are}
-use Rattle.vms_laws.proofs.ReadyLaws.{ready_is}
 use Rattle.vms_laws.proofs.SectionLaws.{fit_slots, own_are}
 use Rattle.vms_laws.proofs.SpellLaws.{FitSlots}
 use Rattle.vms_laws.proofs.WellFormedLaws.{well_good}
@@ -18,20 +16,18 @@ use Rattle.vms_desc.specs.Formed.{is_well_formed}
 use Rattle.vms_desc.specs.Parts.{sub_at}
 use Rattle.vms_desc.proofs.AskLaws.{few_cells}
 use Rattle.vms_desc.proofs.Bounds.{none_is}
-use Rattle.vms_write.specs.Walks.{CanWrite}
+use Rattle.vms_write.specs.Bytes.{CanWrite}
 use Rattle.vms_write.proofs.Formed.{at_get}
 
 pub good_of : (set : Set) → is_well_formed set ≡ true → FitsHeads set → IsGood set
 good_of set well heads = well_good set (none_is (first_fault set) well) heads
 
-can_write : (all : List Cell) (m : List ℤ) (slots : List Slot) → length m ≡ length all → FitSlots m slots → AreCells all slots → CanWrite m slots
-can_write all m [] l f c = tt
-can_write all m (Number a kind caps ∷ slots) l f c =
-    let within = c.0.within in
-    (omega arith, f.0, can_write all m slots l f.2 c.1)
-can_write all m (Constant kind z ∷ slots) l f c = (f.0, can_write all m slots l f.1 c)
-can_write all m (Filler n ∷ slots) l f c = can_write all m slots l f c
-can_write all m (Rule b ∷ slots) l f c = can_write all m slots l f c
+can_write : (m : List ℤ) (slots : List Slot) → FitSlots m slots → CanWrite m slots
+can_write m [] f = tt
+can_write m (Number a kind caps ∷ slots) f = (f.0, can_write m slots f.2)
+can_write m (Constant kind z ∷ slots) f = (f.0, can_write m slots f.1)
+can_write m (Filler n ∷ slots) f = can_write m slots f
+can_write m (Rule b ∷ slots) f = can_write m slots f
 
 versions_long : (subs : List Sub) (came : List (Option ℕ)) → AreVersionsOf subs came → length came ≡ length subs
 versions_long [] [] h = refl
@@ -49,12 +45,12 @@ pub record IsWritable (set : Set) (i : ℕ) (image : Image) : Type 0 where
   pub subs : (j v : ℕ) → j < length (device_at set i).subs
       → CanWrite image.numbers (sub_slots set (sub_at (device_at set i) j) v image.numbers (sub_place set (own_cells set (device_at set i)) (device_at set i).subs j))
 
-pub ready_writable : (set : Set) → is_well_formed set ≡ true → FitsHeads set → (i : ℕ) (image : Image) → i < length set.devices → is_ready set (device_at set i) image ≡ true → IsWritable set i image
+pub ready_writable : (set : Set) → is_well_formed set ≡ true → FitsHeads set → (i : ℕ) (image : Image) → i < length set.devices → IsReady set (device_at set i) image → IsWritable set i image
 ready_writable set well heads i image lt r =
     let d = device_at set i in
     let m = image.numbers in
     let good = good_of set well heads in
-    let normal = (ready_is set d image r).normal in
+    let normal = r.normal in
     let here = at_get set.devices i (record { instance = 0; desc = no_desc; subs = [] }) lt in
     let none : Sub = record { desc = no_desc; needed = AtLeast 0 } in
     let long : length m ≡ length (device_cells set d) = normal.cells.long in
@@ -63,11 +59,11 @@ ready_writable set well heads i image lt r =
       cells = long;
       came = versions_long d.subs image.came normal.subs;
       own = let are = own_are set d image.version m in
-          can_write (device_cells set d) m (own_slots set d image.version m) long (fit_slots (device_cells set d) m (own_slots set d image.version m) normal.cells are (own_constants set good i d here image.version 0 m)) are;
+          can_write m (own_slots set d image.version m) (fit_slots (device_cells set d) m (own_slots set d image.version m) normal.cells are (own_constants set good i d here image.version 0 m));
       subs = λ j v lj.
           let s = sub_at d j in
           let from = sub_place set (own_cells set d) d.subs j in
           let there = at_get d.subs j none lj in
           let are = sub_are set d j s v m there in
-          can_write (device_cells set d) m (sub_slots set s v m from) long (fit_slots (device_cells set d) m (sub_slots set s v m from) normal.cells are (part_constants set good i j d s here there v from m)) are;
+          can_write m (sub_slots set s v m from) (fit_slots (device_cells set d) m (sub_slots set s v m from) normal.cells are (part_constants set good i j d s here there v from m));
     }

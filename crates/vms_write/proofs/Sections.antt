@@ -1,17 +1,11 @@
 -- The sections of a stream, one after the other.
-use Rattle.std.proofs.Common.{◌≡◌, ℕ, zero, suc, ◌+◌, ◌<◌, List, [], ◌∷◌, ◌++◌, length, get_or, drop, refl, sym, ap, ◌∙◌, arith}
+use Rattle.std.proofs.Common.{◌≡◌, ℕ, suc, ◌+◌, ◌<◌, List, [], ◌∷◌, ◌++◌, length, get_or, drop, sym, ap, ◌∙◌, arith}
 use Rattle.std.proofs.lemmas.List.{drop_more}
 use Rattle.vms_spec.specs.Sets.{Set, Device}
 use Rattle.vms_spec.specs.Images.{Image}
 use Rattle.vms_spec.specs.Layout.{no_desc}
 use Rattle.vms_spec.specs.Streams.{written_section, written_sections}
 use Rattle.vms_desc.specs.Described.{device_at}
-
--- what stands within a list is there whatever stands for what doesn't
-pub get_inside : {X : Type 0} (xs : List X) (i : ℕ) (d e : X) → i < length xs → get_or xs i d ≡ get_or xs i e
-get_inside [] i d e lt = absurd (omega arith)
-get_inside (x ∷ xs) zero d e lt = refl
-get_inside (x ∷ xs) (suc i) d e lt = get_inside xs i d e (omega arith)
 
 -- the next section of those that are left
 pub sections_next : (set : Set) (i : ℕ) (ds : List Device) (images : List Image) (d : Device) (image : Image) → i < length ds → i < length images

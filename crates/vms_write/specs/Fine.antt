@@ -12,11 +12,6 @@ use Rattle.vms_parts.specs.declared.types.CellForm.{CellForm}
 abbrev pub no_form : CellForm
 no_form = record { kind = U8; default = pos 0 }
 
--- the capacities that stand for the least of them
-abbrev pub capacities_of : Option ℕ → List ℕ
-capacities_of None = []
-capacities_of (Some most) = most ∷ []
-
 abbrev pub is_within : Option ℕ → ℤ → Bool
 is_within None z = true
 is_within (Some most) z = int_le z (pos most)

@@ -1,19 +1,50 @@
--- Images that are judged.
-use Rattle.std.specs.Prelude.{◌≡◌, ℕ, ◌<◌, ◌≤◌, length, map}
+-- What the test of readiness answers of the parts of a device.
+use Rattle.std.specs.Prelude.{◌≡◌, ℕ, ◌<◌, ◌≤◌, Bool, ◌&&◌, ◌==◌, List, [], length, get_or, map, None}
+use Rattle.vms_spec.specs.declared.Part.TheVariants as parts
+use Rattle.vms_spec.specs.Sets.{Set, Device}
+use Rattle.vms_spec.specs.Images.{Image, own_cells, own_slots, sub_slots}
 use Rattle.vms_spec.specs.Layout.{device_cells}
+use Rattle.vms_spec.specs.Places.{own_cell_count}
+use Rattle.vms_parts.specs.declared.types.CellForm.{CellForm}
 use Rattle.vms_parts.specs.Views.{form_of}
-use Rattle.vms_desc.specs.Described.{described, device_at}
-use Rattle.vms_write.specs.declared.readiness.Judged.{Judged}
+use Rattle.vms_desc.specs.Asks.{first_cell}
+use Rattle.vms_desc.specs.Described.{device_at}
+use Rattle.vms_desc.specs.Parts.{sub_at}
+use Rattle.vms_write.specs.Fine.{settle, is_fine, sub_fine, subs_fine}
 
--- there is a form for each number, and there are few
-pub record IsJudged (judged : Judged) : Type 0 where
-  pub forms : length judged.forms.now ≡ length judged.image.now.numbers
-  pub few : length judged.image.now.numbers ≤ 16384
+-- the image is one of device i
+pub record IsOfDevice (set : Set) (i : ℕ) (image : Image) : Type 0 where
+  pub is_device : i < length set.devices
+  pub cells : length image.numbers ≡ length (device_cells set (device_at set i))
+  pub subs : length image.came ≡ length (device_at set i).subs
+  pub few : length image.numbers ≤ 16384
 
--- the image is one of device i, and the forms are those of its cells
-pub record IsOfDevice (judged : Judged) (i : ℕ) : Type 0 where
-  pub is_device : i < length (described judged.set.now).devices
-  pub cells : length judged.image.now.numbers ≡ length (device_cells (described judged.set.now) (device_at (described judged.set.now) i))
-  pub subs : length judged.image.now.came ≡ length (device_at (described judged.set.now) i).subs
-  pub forms : judged.forms.now ≡ map form_of (device_cells (described judged.set.now) (device_at (described judged.set.now) i))
-  pub few : length judged.image.now.numbers ≤ 16384
+-- the forms of a device's cells
+abbrev pub forms_of : Set → Device → List CellForm
+forms_of set d = map form_of (device_cells set d)
+
+-- the device's own fields, and all its subsections
+abbrev pub own_fine : Set → Device → Image → Bool
+own_fine set d image =
+    image.version == d.desc.version && is_fine (forms_of set d) image.numbers (own_slots set d image.version image.numbers) 0 (own_cells set d)
+
+abbrev pub all_subs_fine : Set → Device → Image → Bool
+all_subs_fine set d image = subs_fine set d (forms_of set d) image 0 (own_cells set d) d.subs image.came
+
+-- subsection j of device i: as it came, where it didn't come, and where it came at a version
+abbrev pub sub_fine_at : Set → ℕ → Image → ℕ → Bool
+sub_fine_at set i image j =
+    let d = device_at set i in
+    sub_fine set d (forms_of set d) image j (first_cell set (parts.Sub i j)) (sub_at d j) (get_or image.came j None)
+
+abbrev pub is_bare_at : Set → ℕ → Image → ℕ → Bool
+is_bare_at set i image j =
+    let d = device_at set i in
+    settle [] (forms_of set d) image.numbers (first_cell set (parts.Sub i j)) (own_cell_count set (sub_at d j).desc)
+
+abbrev pub is_sent_fine_at : Set → ℕ → Image → ℕ → ℕ → Bool
+is_sent_fine_at set i image j v =
+    let d = device_at set i in
+    let s = sub_at d j in
+    let at = first_cell set (parts.Sub i j) in
+    v == s.desc.version && is_fine (forms_of set d) image.numbers (sub_slots set s v image.numbers at) at (own_cell_count set s.desc)

@@ -1,4 +1,6 @@
+pub mod Bytes
 pub mod Fine
 pub mod Judged
-pub mod Walks
+pub mod Steps
 pub mod Writing
+pub mod Wrote

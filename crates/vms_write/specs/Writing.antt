@@ -1,21 +1,12 @@
 -- What the calls that write answer, and what they need.
-use Rattle.std.specs.Prelude.{◌≡◌, ℕ, ◌<◌, true, List, [], ◌++◌, length, get_or, Option, Some, None}
+use Rattle.std.specs.Prelude.{ℕ, List, [], ◌++◌, Option, Some, None}
 use Rattle.vms_spec.specs.declared.Part.TheVariants as parts
 use Rattle.vms_spec.specs.Sets.{Set}
 use Rattle.vms_spec.specs.Images.{Image, zeroed, sub_slots}
 use Rattle.vms_spec.specs.Streams.{sub_head}
-use Rattle.vms_spec.specs.Readiness.{is_ready}
 use Rattle.vms_desc.specs.Asks.{first_cell}
 use Rattle.vms_desc.specs.Described.{device_at}
 use Rattle.vms_desc.specs.Parts.{sub_at}
-
-abbrev pub no_image : Image
-no_image = record { version = 0; came = []; numbers = [] }
-
--- a ready image for each device, in the set's order
-pub record AreReady (set : Set) (images : List Image) : Type 0 where
-  pub one_each : length images ≡ length set.devices
-  pub ready : (k : ℕ) → k < length set.devices → is_ready set (device_at set k) (get_or images k no_image) ≡ true
 
 -- subsection j of device i, if it came at a version: its head and its fields
 abbrev pub written_sub : Set → ℕ → Image → ℕ → Option ℕ → List ℕ

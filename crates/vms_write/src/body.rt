@@ -1,28 +1,114 @@
-// The bytes of a description's fields.
-ghost use Rattle.std.specs.Prelude.{◌≡◌, ◌<◌, length, get_or, pos, OnOk, OnErr};
+// The bytes of a part, step by step.
+ghost use Rattle.std.specs.Prelude.{◌≡◌, OnOk, OnErr};
 ghost use Rattle.std.specs.Io.KnownBytes.{Appends};
 ghost use Rattle.vms_io.specs.Causes.{HasCause, AppendsPrefix};
-ghost use Rattle.vms_kinds.specs.Codes.{code, InRange};
+ghost use Rattle.vms_spec.specs.Images.{zeroed};
+ghost use Rattle.vms_desc.specs.Described.{described};
+ghost use Rattle.vms_walk.specs.Inside.{IsInside};
+ghost use Rattle.vms_walk.specs.Steps.{HasSpot, spot_slots};
+ghost use Rattle.vms_write.specs.Bytes.{CanWrite, IsInRange, step_bytes};
 
 use crate::WriteFault;
-use crate::pieces::append;
+use crate::pieces::{append, write_zeros};
+use vms_desc::{Cells, DescSet};
 use vms_image::Image;
 use vms_io::Sink;
-use vms_kinds::Kind;
+use vms_walk::{Spot, Step, Walker, walk};
 
-// The number of a cell.
-pub(crate) fn write_number<K: Sink>(
-    kind: Kind,
+// Appends the bytes of a part.
+#[tactic(auto, using(crate::proofs::ByteLemmas::bytes_zeroed))]
+pub(crate) fn write_fields<K: Sink>(
+    set: &DescSet,
+    spot: Spot,
     image: &Image,
-    cell: u32,
     sink: &mut K,
 ) -> Result<(), WriteFault>
-    requires inside { cell < length image.now.numbers }
-    requires range { InRange kind (get_or image.now.numbers cell (pos 0)) }
-    ensures ok { OnOk result (Appends (K.written sink.old) (K.written sink.new) (code kind (get_or image.now.numbers cell (pos 0)))) }
-    ensures err { OnErr result (AppendsPrefix (K.written sink.old) (K.written sink.new) (code kind (get_or image.now.numbers cell (pos 0)))) }
+    requires spot { HasSpot (described set.now) spot image.now.numbers }
+    requires can { CanWrite image.now.numbers (spot_slots (described set.now) spot image.now.numbers) }
+    ensures ok { let slots = spot_slots (described set.now) spot image.now.numbers in
+        let bytes = zeroed image.now.numbers slots in
+        OnOk result (Appends (K.written sink.old) (K.written sink.new) bytes) }
+    ensures err { let slots = spot_slots (described set.now) spot image.now.numbers in
+        let bytes = zeroed image.now.numbers slots in
+        OnErr result (AppendsPrefix (K.written sink.old) (K.written sink.new) bytes) }
     ensures cause { HasCause (K.faults sink.old) (K.faults sink.new) result }
     ensures promise { K.promise sink.new ≡ K.promise sink.old }
 {
-    append(sink, kind.put(image.get(cell)).as_slice())
+    let mut writer = Writer { image, sink };
+    match walk(set, spot, &mut writer) {
+        Ok(()) => Ok(()),
+        Err(fault) => Err(fault),
+    }
+}
+
+// Writes each step that stands in the bytes.
+#[derive(Drop)]
+struct Writer<'a, K> {
+    image: &'a Image,
+    sink: &'a mut K,
+}
+
+impl<K: Sink> Cells for Writer<'_, K> {
+    ghost numbers = { λ writer. writer.image.now.numbers };
+
+    fn number(&self, cell: u32) -> i128 {
+        self.image.get(cell)
+    }
+}
+
+impl<K: Sink> Walker for Writer<'_, K> {
+    ghost use Rattle.std.specs.Prelude.{◌≡◌, refl};
+    ghost use Rattle.std.proofs.Common.{ap, ◌∙◌};
+    ghost use Rattle.vms_walk.proofs.Kept.{keeps_same};
+    ghost use Rattle.vms_write.specs.Bytes.{IsInRange};
+    ghost use Rattle.vms_write.specs.Wrote.{Told, Wrote, Cut, told};
+    ghost use Rattle.vms_write.specs.Wrote.{wrote_none, wrote_then, cut_then, cut_before};
+
+    type Fault = WriteFault;
+
+    ghost goes = { λ xs a b. (b.sink.ghost_name ≡ a.sink.ghost_name) × (b.image ≡ a.image)
+        × Wrote a.image.now.numbers xs (told K.written K.faults K.promise a.sink.now) (told K.written K.faults K.promise b.sink.now) };
+
+    ghost stops = { λ xs a fault b. (b.sink.ghost_name ≡ a.sink.ghost_name) × (b.image ≡ a.image)
+        × Cut a.image.now.numbers xs (told K.written K.faults K.promise a.sink.now) (told K.written K.faults K.promise b.sink.now) };
+
+    ghost may = { λ a step. IsInRange a.image.now.numbers step };
+
+    ghost keeps = { λ xs a b h. keeps_same xs _ _ (ap (λ image. image.now.numbers) h.1) };
+
+    ghost keeps_stopped = { λ xs a b fault h. keeps_same xs _ _ (ap (λ image. image.now.numbers) h.1) };
+
+    ghost none = { λ a. (refl, refl, wrote_none _ _) };
+
+    ghost more = { λ xs ys a b c h k.
+        let same = ap (λ image. image.now.numbers) h.1 in
+        (k.0 ∙ h.0, k.1 ∙ h.1, wrote_then _ _ xs ys _ _ _ same h.2 k.2) };
+
+    ghost stops_after = { λ xs ys a b c fault h k.
+        let same = ap (λ image. image.now.numbers) h.1 in
+        (k.0 ∙ h.0, k.1 ∙ h.1, cut_then _ _ xs ys _ _ _ same h.2 k.2) };
+
+    ghost stops_before = { λ xs ys a b fault h. (h.0, h.1, cut_before _ xs ys _ _ h.2) };
+
+    fn step(&mut self, step: Step) -> Result<(), WriteFault> {
+        write_step(self.image, step, self.sink)
+    }
+}
+
+fn write_step<K: Sink>(image: &Image, step: Step, sink: &mut K) -> Result<(), WriteFault>
+    requires inside { IsInside image.now.numbers step }
+    requires can { IsInRange image.now.numbers step }
+    ensures ok { let bytes = step_bytes image.now.numbers step in
+        OnOk result (Appends (K.written sink.old) (K.written sink.new) bytes) }
+    ensures err { let bytes = step_bytes image.now.numbers step in
+        OnErr result (AppendsPrefix (K.written sink.old) (K.written sink.new) bytes) }
+    ensures cause { HasCause (K.faults sink.old) (K.faults sink.new) result }
+    ensures promise { K.promise sink.new ≡ K.promise sink.old }
+{
+    match step {
+        Step::Number { cell, kind, .. } => append(sink, kind.put(image.get(cell)).as_slice()),
+        Step::Constant { kind, value } => append(sink, kind.put(value).as_slice()),
+        Step::Filler { bytes } => write_zeros(bytes, sink),
+        Step::Rule { .. } => Ok(()),
+    }
 }

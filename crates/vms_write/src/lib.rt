@@ -2,17 +2,14 @@
 #![tactic(auto)]
 
 mod body;
+mod fine;
 mod heads;
 mod pieces;
 mod readiness;
 mod section;
 mod stream;
-mod walk;
 
 pub use readiness::{are_ready, ready};
 pub use section::write_section;
 pub use stream::write_stream;
-
-/// The sink failed; its count of faults has risen.
-#[derive(Clone, Copy, Debug, PartialEq, Eq)]
-pub struct WriteFault;
+pub use vms_io::WriteFault;

@@ -1,20 +1,21 @@
 // Sections.
-ghost use Rattle.std.specs.Prelude.{◌≡◌, ◌<◌, true, None, length, get_or, OnOk, OnErr};
+ghost use Rattle.std.specs.Prelude.{◌≡◌, ◌<◌, None, length, get_or, OnOk, OnErr};
 ghost use Rattle.std.specs.Io.KnownBytes.{Appends};
 ghost use Rattle.vms_io.specs.Causes.{HasCause, AppendsPrefix};
 ghost use Rattle.vms_spec.specs.Images.{own_cells};
-ghost use Rattle.vms_spec.specs.Readiness.{is_ready};
-ghost use Rattle.vms_spec.specs.Streams.{written_section, written_subs};
+ghost use Rattle.vms_spec.specs.Streams.{IsReady, written_section, written_subs};
 ghost use Rattle.vms_desc.specs.Described.{described, device_at};
 ghost use Rattle.vms_write.specs.Writing.{written_sub};
 
 use crate::WriteFault;
-use crate::heads::{marked, section_head, sub_head};
+use crate::body::write_fields;
+use crate::heads::{section_head, sub_head};
 use crate::pieces::append;
-use crate::walk::{Spot, write_fields};
 use vms_desc::{DescSet, Part};
 use vms_image::Image;
 use vms_io::Sink;
+use vms_marks::Foot;
+use vms_walk::Spot;
 
 /// Appends the section of a device that is ready, with the device's number as its id. After a fault a
 /// prefix of it was appended.
@@ -25,9 +26,13 @@ pub fn write_section<K: Sink>(
     sink: &mut K,
 ) -> Result<(), WriteFault>
     requires is_device { device < length (described set.now).devices }
-    requires ready { is_ready (described set.now) (device_at (described set.now) device) image.now ≡ true }
-    ensures ok { OnOk result (Appends (K.written sink.old) (K.written sink.new) (written_section (described set.now) (device_at (described set.now) device) image.now device)) }
-    ensures err { OnErr result (AppendsPrefix (K.written sink.old) (K.written sink.new) (written_section (described set.now) (device_at (described set.now) device) image.now device)) }
+    requires ready { IsReady (described set.now) (device_at (described set.now) device) image.now }
+    ensures ok { let d = device_at (described set.now) device in
+        let bytes = written_section (described set.now) d image.now device in
+        OnOk result (Appends (K.written sink.old) (K.written sink.new) bytes) }
+    ensures err { let d = device_at (described set.now) device in
+        let bytes = written_section (described set.now) d image.now device in
+        OnErr result (AppendsPrefix (K.written sink.old) (K.written sink.new) bytes) }
     ensures cause { HasCause (K.faults sink.old) (K.faults sink.new) result }
     ensures promise { K.promise sink.new ≡ K.promise sink.old }
 {
@@ -46,7 +51,7 @@ pub fn write_section<K: Sink>(
     };
     write_fields(set, own, image, sink)?;
     write_subs(set, device, image, sink)?;
-    append(sink, &marked(0x7e, device))
+    append(sink, &Foot { id: device }.bytes())
 }
 
 // The subsections that came, in the description's order.
@@ -57,9 +62,15 @@ fn write_subs<K: Sink>(
     sink: &mut K,
 ) -> Result<(), WriteFault>
     requires is_device { device < length (described set.now).devices }
-    requires ready { is_ready (described set.now) (device_at (described set.now) device) image.now ≡ true }
-    ensures ok { OnOk result (Appends (K.written sink.old) (K.written sink.new) (written_subs (described set.now) (device_at (described set.now) device) image.now (own_cells (described set.now) (device_at (described set.now) device)) (device_at (described set.now) device).subs image.now.came)) }
-    ensures err { OnErr result (AppendsPrefix (K.written sink.old) (K.written sink.new) (written_subs (described set.now) (device_at (described set.now) device) image.now (own_cells (described set.now) (device_at (described set.now) device)) (device_at (described set.now) device).subs image.now.came)) }
+    requires ready { IsReady (described set.now) (device_at (described set.now) device) image.now }
+    ensures ok { let d = device_at (described set.now) device in
+        let first = own_cells (described set.now) d in
+        let bytes = written_subs (described set.now) d image.now first d.subs image.now.came in
+        OnOk result (Appends (K.written sink.old) (K.written sink.new) bytes) }
+    ensures err { let d = device_at (described set.now) device in
+        let first = own_cells (described set.now) d in
+        let bytes = written_subs (described set.now) d image.now first d.subs image.now.came in
+        OnErr result (AppendsPrefix (K.written sink.old) (K.written sink.new) bytes) }
     ensures cause { HasCause (K.faults sink.old) (K.faults sink.new) result }
     ensures promise { K.promise sink.new ≡ K.promise sink.old }
 {
@@ -79,9 +90,13 @@ fn write_sub<K: Sink>(
 ) -> Result<(), WriteFault>
     requires is_device { device < length (described set.now).devices }
     requires is_sub { sub < length (device_at (described set.now) device).subs }
-    requires ready { is_ready (described set.now) (device_at (described set.now) device) image.now ≡ true }
-    ensures ok { OnOk result (Appends (K.written sink.old) (K.written sink.new) (written_sub (described set.now) device image.now sub (get_or image.now.came sub None))) }
-    ensures err { OnErr result (AppendsPrefix (K.written sink.old) (K.written sink.new) (written_sub (described set.now) device image.now sub (get_or image.now.came sub None))) }
+    requires ready { IsReady (described set.now) (device_at (described set.now) device) image.now }
+    ensures ok { let came = get_or image.now.came sub None in
+        let bytes = written_sub (described set.now) device image.now sub came in
+        OnOk result (Appends (K.written sink.old) (K.written sink.new) bytes) }
+    ensures err { let came = get_or image.now.came sub None in
+        let bytes = written_sub (described set.now) device image.now sub came in
+        OnErr result (AppendsPrefix (K.written sink.old) (K.written sink.new) bytes) }
     ensures cause { HasCause (K.faults sink.old) (K.faults sink.new) result }
     ensures promise { K.promise sink.new ≡ K.promise sink.old }
 {

@@ -4,9 +4,10 @@ ghost use Rattle.std.specs.Option.{option_copied};
 ghost use Rattle.std.specs.Io.KnownBytes.{Appends};
 ghost use Rattle.vms_io.specs.Causes.{HasCause, AppendsPrefix};
 ghost use Rattle.vms_spec.specs.Lists.{at_option};
-ghost use Rattle.vms_spec.specs.Streams.{written, written_sections, longest_text, stream_head, optional, configuration, trailer, end_mark};
+ghost use Rattle.vms_spec.specs.Streams.{written, written_sections, longest_text};
+ghost use Rattle.vms_spec.specs.Streams.{stream_head, optional, configuration, trailer, end_mark};
 ghost use Rattle.vms_desc.specs.Described.{described};
-ghost use Rattle.vms_write.specs.Writing.{AreReady};
+ghost use Rattle.vms_laws.specs.Laws.{AreReady};
 
 use crate::WriteFault;
 use crate::heads::{STREAM_HEAD, configuration, marked};
@@ -15,6 +16,7 @@ use crate::section::write_section;
 use vms_desc::DescSet;
 use vms_image::Image;
 use vms_io::Sink;
+use vms_marks::Mark;
 
 /// Appends the stream of these images, one for each device in the set's order: with a configuration where a
 /// machine of the set is named by its number, and with a description section where its text is given, of at
@@ -29,15 +31,19 @@ pub fn write_stream<K: Sink>(
     requires machine { IfSome machine (λ m. m < length (described set.now).machines) }
     requires ready { AreReady (described set.now) images.now }
     requires text { IfSome text (λ t. length t.now ≤ longest_text) }
-    ensures ok { OnOk result (Appends (K.written sink.old) (K.written sink.new) (written (described set.now) (at_option (described set.now).machines machine) images.now (option_copied text.entry))) }
-    ensures err { OnErr result (AppendsPrefix (K.written sink.old) (K.written sink.new) (written (described set.now) (at_option (described set.now).machines machine) images.now (option_copied text.entry))) }
+    ensures ok { let named = at_option (described set.now).machines machine in
+        let bytes = written (described set.now) named images.now (option_copied text.entry) in
+        OnOk result (Appends (K.written sink.old) (K.written sink.new) bytes) }
+    ensures err { let named = at_option (described set.now).machines machine in
+        let bytes = written (described set.now) named images.now (option_copied text.entry) in
+        OnErr result (AppendsPrefix (K.written sink.old) (K.written sink.new) bytes) }
     ensures cause { HasCause (K.faults sink.old) (K.faults sink.new) result }
     ensures promise { K.promise sink.new ≡ K.promise sink.old }
 {
     append(sink, &STREAM_HEAD)?;
     write_configuration(set, machine, sink)?;
     write_sections(set, images, sink)?;
-    append(sink, &[0x00])?;
+    append(sink, &[Mark::End.byte()])?;
     write_text(text, sink)
 }
 
@@ -48,8 +54,12 @@ fn write_configuration<K: Sink>(
     sink: &mut K,
 ) -> Result<(), WriteFault>
     requires { IfSome machine (λ m. m < length (described set.now).machines) }
-    ensures ok { OnOk result (Appends (K.written sink.old) (K.written sink.new) (optional configuration (at_option (described set.now).machines machine))) }
-    ensures err { OnErr result (AppendsPrefix (K.written sink.old) (K.written sink.new) (optional configuration (at_option (described set.now).machines machine))) }
+    ensures ok { let named = at_option (described set.now).machines machine in
+        let bytes = optional configuration named in
+        OnOk result (Appends (K.written sink.old) (K.written sink.new) bytes) }
+    ensures err { let named = at_option (described set.now).machines machine in
+        let bytes = optional configuration named in
+        OnErr result (AppendsPrefix (K.written sink.old) (K.written sink.new) bytes) }
     ensures cause { HasCause (K.faults sink.old) (K.faults sink.new) result }
     ensures promise { K.promise sink.new ≡ K.promise sink.old }
 {
@@ -64,8 +74,12 @@ fn write_configuration<K: Sink>(
 
 fn write_sections<K: Sink>(set: &DescSet, images: &[Image], sink: &mut K) -> Result<(), WriteFault>
     requires ready { AreReady (described set.now) images.now }
-    ensures ok { OnOk result (Appends (K.written sink.old) (K.written sink.new) (written_sections (described set.now) 0 (described set.now).devices images.now)) }
-    ensures err { OnErr result (AppendsPrefix (K.written sink.old) (K.written sink.new) (written_sections (described set.now) 0 (described set.now).devices images.now)) }
+    ensures ok { let all = (described set.now).devices in
+        let bytes = written_sections (described set.now) 0 all images.now in
+        OnOk result (Appends (K.written sink.old) (K.written sink.new) bytes) }
+    ensures err { let all = (described set.now).devices in
+        let bytes = written_sections (described set.now) 0 all images.now in
+        OnErr result (AppendsPrefix (K.written sink.old) (K.written sink.new) bytes) }
     ensures cause { HasCause (K.faults sink.old) (K.faults sink.new) result }
     ensures promise { K.promise sink.new ≡ K.promise sink.old }
 {
@@ -78,8 +92,10 @@ fn write_sections<K: Sink>(set: &DescSet, images: &[Image], sink: &mut K) -> Res
 // A description section, where there is a text.
 fn write_text<K: Sink>(text: Option<&str>, sink: &mut K) -> Result<(), WriteFault>
     requires { IfSome text (λ t. length t.now ≤ longest_text) }
-    ensures ok { OnOk result (Appends (K.written sink.old) (K.written sink.new) (optional trailer (option_copied text.entry))) }
-    ensures err { OnErr result (AppendsPrefix (K.written sink.old) (K.written sink.new) (optional trailer (option_copied text.entry))) }
+    ensures ok { let bytes = optional trailer (option_copied text.entry) in
+        OnOk result (Appends (K.written sink.old) (K.written sink.new) bytes) }
+    ensures err { let bytes = optional trailer (option_copied text.entry) in
+        OnErr result (AppendsPrefix (K.written sink.old) (K.written sink.new) bytes) }
     ensures cause { HasCause (K.faults sink.old) (K.faults sink.new) result }
     ensures promise { K.promise sink.new ≡ K.promise sink.old }
 {
@@ -96,6 +112,6 @@ fn write_trailer<K: Sink>(text: &str, sink: &mut K) -> Result<(), WriteFault>
     ensures cause { HasCause (K.faults sink.old) (K.faults sink.new) result }
     ensures promise { K.promise sink.new ≡ K.promise sink.old }
 {
-    append(sink, &marked(0x06, text.len() as u32))?;
+    append(sink, &marked(Mark::Description, text.len() as u32))?;
     append(sink, text.as_bytes())
 }

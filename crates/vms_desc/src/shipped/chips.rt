@@ -1,11 +1,11 @@
 // The timer, the interrupt controllers and the timer chip.
 ghost use Rattle.std.specs.Prelude.{◌≡◌, map, IfOk};
 ghost use Rattle.vms_spec.specs.Sets as sets;
-ghost use Rattle.vms_spec.specs.Shipped.{number, timer, i8259_fields, i8259_at_1, i8259_at_2, elcr, pit_channel, channels, i8254_at_1, i8254_at_2};
-ghost use Rattle.vms_parts.specs.Views.{field_of, desc_of, device_of};
+ghost use Rattle.vms_spec.specs.Shipped.{number, timer, i8259_fields, i8259_at_1, i8259_at_2, i8259_at_4, ltim, i8259_with_elcr, pit_channel, channels, i8254_at_1, i8254_at_2};
+ghost use Rattle.vms_parts.specs.Views.{field_of, desc_of, device_of, sub_of};
 
-use super::words::{desc, device, field, number, put_numbers};
-use crate::{Count, Desc, Device, Field, Rel, Test, Whose};
+use super::words::{asks, desc, device, field, number, put_numbers, sub};
+use crate::{Count, Desc, Device, Field, Rel, Sub, Test, Whose};
 use std::alloc::Global;
 use vms_io::NoMemory;
 use vms_kinds::{Item, Kind};
@@ -44,14 +44,36 @@ pub(crate) fn i8259_at_1(alloc: Global, instance: u32) -> Result<Device, NoMemor
     Ok(device(instance, desc(alloc, "i8259", 1, fields)?, Vec::new(alloc)))
 }
 
-pub(crate) fn i8259_at_2(alloc: Global, instance: u32) -> Result<Device, NoMemory>
-    ensures { IfOk result (λ d. device_of d ≡ i8259_at_2 instance) }
+// The fields from version 2 on.
+fn i8259_with_elcr(alloc: Global) -> Result<Desc, NoMemory>
+    ensures { IfOk result (λ d. desc_of d ≡ i8259_with_elcr) }
 {
     let mut fields = i8259_fields(alloc)?;
     let mut elcr = number(alloc, Kind::U8, "elcr")?;
     elcr.since = 2;
     fields.push(elcr)?;
-    Ok(device(instance, desc(alloc, "i8259", 2, fields)?, Vec::new(alloc)))
+    desc(alloc, "i8259", 2, fields)
+}
+
+pub(crate) fn i8259_at_2(alloc: Global, instance: u32) -> Result<Device, NoMemory>
+    ensures { IfOk result (λ d. device_of d ≡ i8259_at_2 instance) }
+{
+    Ok(device(instance, i8259_with_elcr(alloc)?, Vec::new(alloc)))
+}
+
+// The level mode.
+fn ltim(alloc: Global) -> Result<Sub, NoMemory>
+    ensures { IfOk result (λ s. sub_of s ≡ ltim) }
+{
+    let fields = vec![in alloc; number(alloc, Kind::Bool, "ltim")?]?;
+    sub(alloc, "i8259/ltim", fields, asks(0, 1, Rel::Eq, 1))
+}
+
+pub(crate) fn i8259_at_4(alloc: Global, instance: u32) -> Result<Device, NoMemory>
+    ensures { IfOk result (λ d. device_of d ≡ i8259_at_4 instance) }
+{
+    let subs = vec![in alloc; ltim(alloc)?]?;
+    Ok(device(instance, i8259_with_elcr(alloc)?, subs))
 }
 
 // A field that is there where the flag of this number is 1.

@@ -1,11 +1,10 @@
 // The serial port.
 ghost use Rattle.std.specs.Prelude.{◌≡◌, ◌++◌, ◌∷◌, [], map, IfOk, OnOk, negsuc, pos, codes};
-ghost use Rattle.vms_spec.specs.Sets as sets;
-ghost use Rattle.vms_spec.specs.Shipped.{never, number, divider, divisor, serial_fields, fcr, sub, thr_ipending, fifo, timeout, serial};
-ghost use Rattle.vms_parts.specs.Views.{formula, field_of, desc_of, device_of, sub_of};
+ghost use Rattle.vms_spec.specs.Shipped.{never, number, divider, divisor, serial_fields, fcr, thr_ipending, fifo, timeout, ring, serial};
+ghost use Rattle.vms_parts.specs.Views.{field_of, device_of, sub_of};
 
-use super::words::{desc, device, number, put_numbers, text};
-use crate::{Count, Device, Field, Listed, Rel, Sub, Test, Whose};
+use super::words::{asks, desc, device, number, put_numbers, sub, text};
+use crate::{Count, Device, Field, Listed, Rel, Sub, Test};
 use std::alloc::Global;
 use vms_io::NoMemory;
 use vms_kinds::Kind;
@@ -46,27 +45,6 @@ fn fcr(alloc: Global) -> Result<Field, NoMemory>
     let mut fcr = number(alloc, Kind::U8, "fcr")?;
     fcr.since = 2;
     Ok(fcr)
-}
-
-fn sub(alloc: Global, name: &str, fields: Vec<Field>, needed: Test) -> Result<Sub, NoMemory>
-    ensures { IfOk result (λ s. sub_of s ≡ sub name.now (map field_of fields.items) (formula needed)) }
-{
-    Ok(Sub {
-        desc: desc(alloc, name, 1, fields)?,
-        needed,
-    })
-}
-
-fn asks(field: u32, mask: u64, rel: Rel, value: u64) -> Test
-    ensures { formula result ≡ sets.Cell Whose.Own field mask rel value }
-{
-    Test::Cell {
-        whose: Whose::Own,
-        field,
-        mask,
-        rel,
-        value,
-    }
 }
 
 fn thr_ipending(alloc: Global) -> Result<Sub, NoMemory>
@@ -117,6 +95,27 @@ fn timeout(alloc: Global) -> Result<Sub, NoMemory>
     )
 }
 
+// Sixteen bytes of a ring.
+fn ring_data(alloc: Global, name: &str) -> Result<Field, NoMemory>
+    ensures { IfOk result (λ f. field_of f ≡ record (number Kind.U8 name.now) { count = Count.Fixed 16 }) }
+{
+    let mut data = number(alloc, Kind::U8, name)?;
+    data.count = Count::Fixed(16);
+    Ok(data)
+}
+
+fn ring(alloc: Global) -> Result<Sub, NoMemory>
+    ensures { IfOk result (λ s. sub_of s ≡ ring) }
+{
+    let mut fields = vec![in alloc; ring_data(alloc, "rx_data")?]?;
+    put_numbers(alloc, &mut fields, Kind::U8, &["rx_head", "rx_number"])?;
+    fields.push(ring_data(alloc, "tx_data")?)?;
+    put_numbers(alloc, &mut fields, Kind::U8, &["tx_head", "tx_number"])?;
+    let received = Box::new(alloc, asks(2, 255, Rel::Ge, 1))?;
+    let to_send = Box::new(alloc, asks(5, 255, Rel::Ge, 1))?;
+    sub(alloc, "serial/ring", fields, Test::Or(received, to_send))
+}
+
 pub(crate) fn serial_at_1(alloc: Global) -> Result<Device, NoMemory>
     ensures { IfOk result (λ d. device_of d ≡ serial 1 (divider ∷ serial_fields) (thr_ipending ∷ [])) }
 {
@@ -144,4 +143,15 @@ pub(crate) fn serial_at_3(alloc: Global) -> Result<Device, NoMemory>
     fields.push(fcr(alloc)?)?;
     let subs = vec![in alloc; thr_ipending(alloc)?, fifo(alloc)?, timeout(alloc)?]?;
     Ok(device(0, desc(alloc, "serial", 3, fields)?, subs))
+}
+
+pub(crate) fn serial_at_4(alloc: Global) -> Result<Device, NoMemory>
+    ensures { IfOk result (λ d. device_of d ≡ serial 4 (divisor ∷ serial_fields ++ fcr ∷ []) (thr_ipending ∷ fifo ∷ timeout ∷ ring ∷ [])) }
+{
+    let mut fields = vec![in alloc; divisor(alloc)?]?;
+    put_serial_fields(alloc, &mut fields)?;
+    fields.push(fcr(alloc)?)?;
+    let mut subs = vec![in alloc; thr_ipending(alloc)?, fifo(alloc)?, timeout(alloc)?]?;
+    subs.push(ring(alloc)?)?;
+    Ok(device(0, desc(alloc, "serial", 4, fields)?, subs))
 }

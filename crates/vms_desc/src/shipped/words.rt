@@ -1,10 +1,10 @@
 // Words for tables of fields.
 ghost use Rattle.std.specs.Prelude.{◌≡◌, ◌++◌, ◌∷◌, [], map, pos, IfOk, OnOk, ℕ, List};
 ghost use Rattle.vms_spec.specs.Sets as sets;
-ghost use Rattle.vms_spec.specs.Shipped.{field, number, numbers, desc, device};
-ghost use Rattle.vms_parts.specs.Views.{field_of, desc_of, device_of, sub_of};
+ghost use Rattle.vms_spec.specs.Shipped.{field, number, numbers, desc, device, sub};
+ghost use Rattle.vms_parts.specs.Views.{formula, field_of, desc_of, device_of, sub_of};
 
-use crate::{Count, Desc, Device, Field, Listed, Sub, Text};
+use crate::{Count, Desc, Device, Field, Listed, Rel, Sub, Test, Text, Whose};
 use std::alloc::Global;
 use vms_io::NoMemory;
 use vms_kinds::{Item, Kind};
@@ -74,5 +74,32 @@ pub(crate) fn device(instance: u32, desc: Desc, subs: Vec<Sub>) -> Device
         instance,
         desc,
         subs: Listed::new(subs),
+    }
+}
+
+pub(crate) fn sub(
+    alloc: Global,
+    name: &str,
+    fields: Vec<Field>,
+    needed: Test,
+) -> Result<Sub, NoMemory>
+    ensures { IfOk result (λ s. sub_of s ≡ sub name.now (map field_of fields.items) (formula needed)) }
+{
+    Ok(Sub {
+        desc: desc(alloc, name, 1, fields)?,
+        needed,
+    })
+}
+
+// Whether the subsection's own field of this number, masked, is so to a value.
+pub(crate) fn asks(field: u32, mask: u64, rel: Rel, value: u64) -> Test
+    ensures { formula result ≡ sets.Cell Whose.Own field mask rel value }
+{
+    Test::Cell {
+        whose: Whose::Own,
+        field,
+        mask,
+        rel,
+        value,
     }
 }

@@ -1,8 +1,8 @@
 // A shelf in memory.
-ghost use Rattle.std.specs.Prelude.{◌≡◌, ◌+◌, ◌≤◌, ◌↔◌, None, List, ℕ, length, IfOk, IfErr, IfSome, OnOk, OnErr, IsErr, Some, Contains};
+ghost use Rattle.std.specs.Prelude.{◌≡◌, ◌+◌, ◌≤◌, ◌↔◌, [], None, List, ℕ, length, IfOk, IfErr, OnOk, OnErr, Some, Contains};
 ghost use Rattle.vms_io.specs.Causes.{capped};
-ghost use Rattle.vms_io.specs.Cabinets.{cabinet, held_in};
-ghost use Rattle.vms_io.specs.Shelves.{FetchRefuses, PutsUnder, KeepsOthers, IfToldBoth, HasFetchCause, HasStoreCause};
+ghost use Rattle.vms_io.specs.Memory.{is_empty, empty_is};
+ghost use Rattle.vms_io.specs.Shelves.{FetchRefuses, PutsUnder, KeepsOthers, HasFetchCause, HasStoreCause, CountsFetches, CountsStores};
 
 use super::is_listed;
 use crate::{FetchFault, NoMemory, Shelf, StoreFault};
@@ -17,14 +17,19 @@ pub struct MemShelf {
     failing: Vec<u32>,
     calls: u64,
     faults: u64,
+    ghost quiet: { failing.items ≡ [] → faults ≡ 0 },
 }
 
 impl MemShelf {
+    ghost use Rattle.vms_io.specs.Cabinets.{cabinet};
+
     /// An empty shelf. The calls of `fetch` and `store` whose numbers, counted from 1, are `failing` fail,
     /// and no other.
     pub fn new(alloc: Global, failing: Vec<u32>) -> MemShelf
-        ensures empty { (name : List ℕ) → held_in (cabinet result).entries name ≡ None }
-        ensures counts { cabinet result ≡ record { entries = (cabinet result).entries; failing = failing.items; calls = 0; faults = 0 } }
+        ensures empty { (name : List ℕ) → (cabinet result).held name ≡ None }
+        ensures failing { (cabinet result).failing ≡ failing.items }
+        ensures calls { (cabinet result).calls ≡ 0 }
+        ensures faults { (cabinet result).faults ≡ 0 }
     {
         MemShelf {
             alloc: alloc,
@@ -37,9 +42,11 @@ impl MemShelf {
 
     /// Holds these bytes under the name from now on.
     pub fn put(&mut self, name: &str, bytes: Vec<u8>) -> Result<(), NoMemory>
-        ensures ok { OnOk result (PutsUnder (held_in (cabinet self.old).entries) (held_in (cabinet self.new).entries) name.now bytes.items) }
-        ensures err { OnErr result (cabinet self.new ≡ cabinet self.old) }
-        ensures counts { cabinet self.new ≡ record (cabinet self.old) { entries = (cabinet self.new).entries } }
+        ensures ok { OnOk result (PutsUnder (cabinet self.old).held (cabinet self.new).held name.now bytes.items) }
+        ensures err { OnErr result ((cabinet self.new).held ≡ (cabinet self.old).held) }
+        ensures failing { (cabinet self.new).failing ≡ (cabinet self.old).failing }
+        ensures calls { (cabinet self.new).calls ≡ (cabinet self.old).calls }
+        ensures faults { (cabinet self.new).faults ≡ (cabinet self.old).faults }
     {
         let name = String::from_str(self.alloc, name)?;
         self.entries.insert(name, bytes)?;
@@ -48,17 +55,26 @@ impl MemShelf {
 }
 
 impl Shelf for MemShelf {
-    ghost held = { λ s. Some (held_in (cabinet s).entries) };
+    ghost use Rattle.vms_io.specs.Cabinets.{cabinet};
+
+    ghost held = { λ s. Some (cabinet s).held };
 
     ghost faults = { λ s. (cabinet s).faults };
 
+    ghost promise = { λ s. is_empty (cabinet s).failing };
+
+    ghost promised = { λ s h. s.quiet (empty_is s.failing.items h) };
+
     fn fetch(&mut self, alloc: Global, name: &str, limit: u32) -> Result<Vec<u8>, FetchFault>
         ensures fits { IfOk result (λ bytes. length bytes.items ≤ limit) }
-        ensures bytes { IfOk result (λ bytes. held_in (cabinet self.old).entries name.now ≡ Some bytes.items) }
-        ensures refused { IfErr result (λ fault. FetchRefuses (held_in (cabinet self.old).entries name.now) limit fault) }
-        ensures kept { (cabinet self.new).entries ≡ (cabinet self.old).entries }
+        ensures bytes { IfOk result (λ bytes. (cabinet self.old).held name.now ≡ Some bytes.items) }
+        ensures refused { IfErr result (λ fault. FetchRefuses ((cabinet self.old).held name.now) limit fault) }
+        ensures kept { (cabinet self.new).held ≡ (cabinet self.old).held }
         ensures cause { HasFetchCause (cabinet self.old).faults (cabinet self.new).faults result }
+        ensures promise { is_empty (cabinet self.new).failing ≡ is_empty (cabinet self.old).failing }
+        ensures counts { CountsFetches (cabinet self.old).faults (cabinet self.new).faults result }
         ensures fails { (result ≡ Err FetchFault.Failed) ↔ Contains (cabinet self.old).failing (capped ((cabinet self.old).calls + 1)) }
+        ensures failing { (cabinet self.new).failing ≡ (cabinet self.old).failing }
         ensures calls { (cabinet self.new).calls ≡ capped ((cabinet self.old).calls + 1) }
     {
         self.calls = self.calls.saturating_add(1);
@@ -79,11 +95,14 @@ impl Shelf for MemShelf {
     }
 
     fn store(&mut self, name: &str, piece: &[u8]) -> Result<(), StoreFault>
-        ensures stored { OnOk result (PutsUnder (held_in (cabinet self.old).entries) (held_in (cabinet self.new).entries) name.now piece.now) }
-        ensures others { OnErr result (KeepsOthers (held_in (cabinet self.old).entries) (held_in (cabinet self.new).entries) name.now) }
-        ensures unchanged { OnErr result ((cabinet self.new).entries ≡ (cabinet self.old).entries) }
+        ensures stored { OnOk result (PutsUnder (cabinet self.old).held (cabinet self.new).held name.now piece.now) }
+        ensures others { OnErr result (KeepsOthers (cabinet self.old).held (cabinet self.new).held name.now) }
+        ensures unchanged { OnErr result ((cabinet self.new).held ≡ (cabinet self.old).held) }
         ensures cause { HasStoreCause (cabinet self.old).faults (cabinet self.new).faults result }
+        ensures promise { is_empty (cabinet self.new).failing ≡ is_empty (cabinet self.old).failing }
+        ensures counts { CountsStores (cabinet self.old).faults (cabinet self.new).faults result }
         ensures fails { (result ≡ Err StoreFault.Failed) ↔ Contains (cabinet self.old).failing (capped ((cabinet self.old).calls + 1)) }
+        ensures failing { (cabinet self.new).failing ≡ (cabinet self.old).failing }
         ensures calls { (cabinet self.new).calls ≡ capped ((cabinet self.old).calls + 1) }
     {
         self.calls = self.calls.saturating_add(1);

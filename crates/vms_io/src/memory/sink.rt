@@ -2,7 +2,7 @@
 ghost use Rattle.std.specs.Prelude.{◌≡◌, ◌-◌, ◌+◌, ◌<◌, ◌≤◌, ◌↔◌, [], min, length, IfOk, IsErr, Some, vec_capacity};
 ghost use Rattle.std.specs.Io.{WritesAtMost};
 ghost use Rattle.std.specs.Io.KnownBytes.{WriteAppends};
-ghost use Rattle.vms_io.specs.Causes.{HasCause, capped};
+ghost use Rattle.vms_io.specs.Causes.{HasCause, CountsFailures, capped};
 ghost use Rattle.vms_io.specs.Memory.{promise_of, promise_kept, WriteFails};
 
 use super::is_listed;
@@ -66,6 +66,7 @@ impl Sink for MemSink {
         ensures cause { HasCause (store self.old).faults (store self.new).faults result }
         ensures promise { promise_of (store self.new).failing (store self.new).room ≡ promise_of (store self.old).failing (store self.old).room }
         ensures takes { IfOk result (λ n. n ≡ min ((store self.old).room - length (store self.old).bytes) (length piece.now)) }
+        ensures counts { CountsFailures (store self.old).faults (store self.new).faults result }
         ensures fails { IsErr result ↔ WriteFails (store self.old) (length piece.now) }
         ensures calls { (store self.new).calls ≡ capped ((store self.old).calls + 1) }
         ensures lists { ((store self.new).room ≡ (store self.old).room) × ((store self.new).failing ≡ (store self.old).failing) }

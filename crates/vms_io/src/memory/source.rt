@@ -2,7 +2,7 @@
 ghost use Rattle.std.specs.Prelude.{◌≡◌, ◌+◌, ◌^◌, ◌<◌, ◌≤◌, ◌↔◌, [], length, drop, IfOk, IsErr, Some, Contains};
 ghost use Rattle.std.specs.Io.{ReadsAtMost};
 ghost use Rattle.std.specs.Io.KnownBytes.{ReadConsumes};
-ghost use Rattle.vms_io.specs.Causes.{HasCause, Gives, IsBytes, capped};
+ghost use Rattle.vms_io.specs.Causes.{HasCause, CountsFailures, Gives, IsBytes, capped};
 ghost use Rattle.vms_io.specs.Memory.{is_empty, empty_is, piece_of, taken_of, bytes_left};
 
 use super::is_listed;
@@ -80,6 +80,7 @@ impl Source for MemSource {
         ensures cause { HasCause (supply self.old).faults (supply self.new).faults result }
         ensures promise { is_empty (supply self.new).failing ≡ is_empty (supply self.old).failing }
         ensures piece { IfOk result (λ n. n ≡ taken_of (supply self.old) (length buf.old)) }
+        ensures counts { CountsFailures (supply self.old).faults (supply self.new).faults result }
         ensures fails { IsErr result ↔ Contains (supply self.old).failing (capped ((supply self.old).calls + 1)) }
         ensures calls { (supply self.new).calls ≡ capped ((supply self.old).calls + 1) }
         ensures lists { ((supply self.new).pieces ≡ (supply self.old).pieces) × ((supply self.new).failing ≡ (supply self.old).failing) }

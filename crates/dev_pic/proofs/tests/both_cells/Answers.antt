@@ -4,10 +4,10 @@ use Rattle.dev_pic.proofs.tests.both_cells.Goals as goal
 
 pub returns-clause-master : goal.returns-clause-master
 returns-clause-master c =
-    let joined : c.try_extend_from_slice-fits.new.self.items ≡ c.chip_cells-cells.result.items ++ c.chip_cells.result.items = search rules in
-    master_cells _ _ _ joined c.chip_cells-cells.ensures
+    let joined : c.append-2.new.cells.items ≡ c.args.master.now ++ c.args.slave.now = search rules in
+    master_cells _ _ _ joined c.requires.of_master
 
 pub returns-clause-slave : goal.returns-clause-slave
 returns-clause-slave c =
-    let joined : c.try_extend_from_slice-fits.new.self.items ≡ c.chip_cells-cells.result.items ++ c.chip_cells.result.items = search rules in
-    slave_cells _ _ _ joined c.chip_cells-cells.ensures c.chip_cells.ensures
+    let joined : c.append-2.new.cells.items ≡ c.args.master.now ++ c.args.slave.now = search rules in
+    slave_cells _ _ _ joined c.requires.of_master c.requires.of_slave

@@ -1,5 +1,5 @@
 use Rattle.std.proofs.Common.{◌≡◌, drop, find}
-use Rattle.dev_pic.specs.Bits.{has}
+use Rattle.dev_base.specs.Bits.{has}
 use Rattle.dev_pic.specs.Winner.{highest_of, order}
 use Rattle.dev_pic.proofs.winner.highest.Given as goal
 

@@ -1,6 +1,6 @@
-use Rattle.std.proofs.Common.{Some, None}
+use Rattle.vms_io.specs.Told.{outlet}
 use Rattle.vms_desc.specs.Described.{described}
-use Rattle.vms_cli.proofs.PackLemmas.{read_ready, packs}
+use Rattle.vms_cli.proofs.PackLemmas.{read_ready, packs, bad_packs}
 use Rattle.vms_cli.proofs.pack.pack_text.Goals as goal
 
 pub write-requires-clause-ready : goal.write-requires-clause-ready
@@ -8,5 +8,11 @@ write-requires-clause-ready g c =
     read_ready (described c.in-Ok.set) c.args.text.now c.in-Ok-read_values.values c.in-Ok.ensures c.in-Ok-read_values.ensures
 
 pub returns-in-Ok-read_values-clause-content : goal.returns-in-Ok-read_values-clause-content
-returns-in-Ok-read_values-clause-content g c =
-    packs (described c.in-Ok.set) c.args.text.now c.in-Ok-read_values.values _ _ _ _ _ c.in-Ok.ensures c.in-Ok-read_values.ensures c.write.ensures
+returns-in-Ok-read_values-clause-content g c = λ input shelf shelf' o few same text.
+    packs (described c.in-Ok.set) c.args.text.now c.in-Ok-read_values.values c.in-Ok.ensures c.in-Ok-read_values.ensures
+    input (outlet g.O.Sink c.args.out.now) (outlet g.O.Sink c.write.new.out) shelf shelf' c.write.result o few same c.write.ensures.written text
+
+pub returns-in-Ok-values_line-clause-content : goal.returns-in-Ok-values_line-clause-content
+returns-in-Ok-values_line-clause-content g c = λ input shelf shelf' o few same text.
+    bad_packs (described c.in-Ok.set) c.args.text.now c.in-Err-Bad.field-0 c.in-Err-Bad.line c.in-Err-Bad.reason c.in-Ok-values_line.line c.in-Ok.ensures c.in-Err-Bad.ensures c.in-Err-Bad.field-0-is
+    c.in-Ok-values_line.ensures input shelf.held o text

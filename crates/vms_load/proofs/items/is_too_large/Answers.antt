@@ -2,7 +2,7 @@ use Rattle.std.proofs.Common.{rules, SFits, ℕ, Option, ◌∙◌, sym, ap}
 use Rattle.std.specs.Int.{w128}
 use Rattle.std.proofs.lemmas.Int.{to_z-of_z}
 use Rattle.vms_spec.specs.Numbers.{exceeds}
-use Rattle.vms_load.specs.Walks.{capacities_of}
+use Rattle.vms_walk.specs.Steps.{capacities_of}
 use Rattle.vms_load.proofs.Counting.{or_false}
 use Rattle.vms_load.proofs.items.is_too_large.Goals as goal
 

@@ -13,7 +13,6 @@ use Rattle.vms_load.specs.Heads.{opened_at, sub_opened}
 use Rattle.vms_load.specs.Parts.{subs_due, after_part}
 use Rattle.vms_load.proofs.AfterReads.{after_fault, after_settled, sub_settled, sub_refused, sub_new, subs_taken}
 use Rattle.vms_load.proofs.SetFacts.{few_subs}
-use Rattle.vms_frames.specs.Found.{after_found, after_long}
 use Rattle.vms_load.proofs.parts.after.Goals as goal
 
 pub open_sub-requires-clause-few : goal.open_sub-requires-clause-few

@@ -5,24 +5,25 @@ use Rattle.vms_desc.specs.Asks.{first_cell}
 use Rattle.vms_desc.specs.Described.{described, device_at}
 use Rattle.vms_desc.proofs.AskLaws.{sub_first}
 use Rattle.vms_write.specs.Fine.{subs_fine}
+use Rattle.vms_write.specs.Judged.{forms_of}
 use Rattle.vms_write.proofs.Subs.{subs_fine_next}
 use Rattle.vms_write.proofs.readiness.are_subs_fine.Goals as goal
 
 pub loop-sub-init : goal.loop-sub-init
 loop-sub-init c =
-    let set = described c.args.judged.set.now in
+    let set = described c.args.set.now in
     let d = device_at set c.args.device in
-    ap (λ (k : ℕ). subs_fine set d c.args.judged.forms.now c.args.judged.image.now 0 k d.subs c.args.judged.image.now.came) (sub_first set (own_cells set d) d.subs)
+    let image = c.args.image.now in
+    ap (λ (k : ℕ). subs_fine set d (forms_of set d) image 0 k d.subs image.came) (sub_first set (own_cells set d) d.subs)
 
 pub loop-sub-preserved : goal.loop-sub-preserved
 loop-sub-preserved c =
-    let set = described c.args.judged.set.now in
+    let set = described c.args.set.now in
     let i = c.args.device in
     let d = device_at set i in
-    let forms = c.args.judged.forms.now in
-    let image = c.args.judged.image.now in
+    let image = c.args.image.now in
     let j = c.loop-sub.sub in
     let lt : j < length d.subs = omega (arith, c.sub_count-sub-end.ensures) in
-    let rest = subs_fine set d forms image (j + 1) (first_cell set (parts.Sub i (j + 1))) (drop (j + 1) d.subs) (drop (j + 1) image.came) in
+    let rest = subs_fine set d (forms_of set d) image (j + 1) (first_cell set (parts.Sub i (j + 1))) (drop (j + 1) d.subs) (drop (j + 1) image.came) in
     ap (λ (b : Bool). b && rest) (sym c.if-not-is_sub_fine.false ∙ c.is_sub_fine.ensures)
-    ∙ sym (subs_fine_next set i forms image j lt (omega (arith, c.requires.device.subs))) ∙ c.loop-sub.invariant
+    ∙ sym (subs_fine_next set i (forms_of set d) image j lt (omega (arith, c.requires.device.subs))) ∙ c.loop-sub.invariant

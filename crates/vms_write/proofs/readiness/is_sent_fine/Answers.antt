@@ -5,7 +5,7 @@ use Rattle.vms_write.proofs.readiness.is_sent_fine.Goals as goal
 
 pub is_part_fine-requires-clause-spot : goal.is_part_fine-requires-clause-spot
 is_part_fine-requires-clause-spot c =
-    let set = described c.args.judged.set.now in
+    let set = described c.args.set.now in
     record {
       part = (c.requires.device.is_device, c.requires.is_sub);
       few = c.requires.device.few;

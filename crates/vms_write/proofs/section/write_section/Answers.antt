@@ -7,9 +7,9 @@ use Rattle.vms_spec.specs.Sets.{Device}
 use Rattle.vms_spec.specs.Streams.{section_head, written_subs, foot}
 use Rattle.vms_desc.specs.Described.{described, device_at}
 use Rattle.vms_desc.proofs.AskLaws.{own_inside_device}
-use Rattle.vms_write.specs.Walks.{CanWrite}
+use Rattle.vms_write.specs.Bytes.{CanWrite}
 use Rattle.vms_write.proofs.Formed.{device_short}
-use Rattle.vms_write.proofs.Growing.{prefix_front, prefix_more, on_fault, last_fails}
+use Rattle.vms_walk.proofs.Growing.{prefix_front, prefix_more, on_fault, last_fails}
 use Rattle.vms_write.proofs.ReadyImages.{ready_writable}
 use Rattle.vms_write.proofs.section.write_section.Goals as goal
 
@@ -105,4 +105,4 @@ returns-clause-err g c =
     (Appends-trans _ (g.K.Sink.written c.write_fields.new.sink) _ (head ++ own) subs
     (Appends-trans _ (g.K.Sink.written c.append.new.sink) _ head own (subst (Appends (g.K.Sink.written c.args.sink.now) (g.K.Sink.written c.append.new.sink)) first c.in_ok-append.ensures.ok) body)
     c.in_ok-write_subs.ensures.ok)
-    (subst (λ (l : List ℕ). OnErr c.append-2.result (AppendsPrefix (g.K.Sink.written c.write_subs.new.sink) (g.K.Sink.written c.append-2.new.sink) l)) c.marked.ensures c.append-2.ensures.err)
+    (subst (λ (l : List ℕ). OnErr c.append-2.result (AppendsPrefix (g.K.Sink.written c.write_subs.new.sink) (g.K.Sink.written c.append-2.new.sink) l)) c.bytes.ensures c.append-2.ensures.err)

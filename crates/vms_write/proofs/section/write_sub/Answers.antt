@@ -9,10 +9,10 @@ use Rattle.vms_desc.specs.Asks.{first_cell}
 use Rattle.vms_desc.specs.Described.{described, device_at}
 use Rattle.vms_desc.specs.Parts.{sub_at}
 use Rattle.vms_desc.proofs.AskLaws.{sub_inside}
-use Rattle.vms_write.specs.Walks.{CanWrite}
+use Rattle.vms_write.specs.Bytes.{CanWrite}
 use Rattle.vms_write.specs.Writing.{written_sub}
 use Rattle.vms_write.proofs.Formed.{sub_short}
-use Rattle.vms_write.proofs.Growing.{prefix_front, on_fault, last_fails}
+use Rattle.vms_walk.proofs.Growing.{prefix_front, on_fault, last_fails}
 use Rattle.vms_write.proofs.ReadyImages.{ready_writable}
 use Rattle.vms_write.proofs.section.write_sub.Goals as goal
 

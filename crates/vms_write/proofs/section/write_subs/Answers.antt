@@ -6,7 +6,7 @@ use Rattle.vms_desc.specs.Asks.{first_cell}
 use Rattle.vms_desc.specs.Described.{described, device_at}
 use Rattle.vms_desc.proofs.AskLaws.{sub_first}
 use Rattle.vms_write.specs.Writing.{written_sub}
-use Rattle.vms_write.proofs.Growing.{Leaves, leaves_all, leaves_rest, leaves_prefix, on_fault}
+use Rattle.vms_walk.proofs.Growing.{Leaves, leaves_all, leaves_rest, leaves_prefix, on_fault}
 use Rattle.vms_write.proofs.ReadyImages.{ready_writable}
 use Rattle.vms_write.proofs.Subs.{subs_next}
 use Rattle.vms_write.proofs.section.write_subs.Goals as goal

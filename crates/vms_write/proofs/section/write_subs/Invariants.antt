@@ -4,7 +4,7 @@ use Rattle.vms_spec.specs.Images.{own_cells}
 use Rattle.vms_spec.specs.Streams.{written_subs}
 use Rattle.vms_desc.specs.Asks.{first_cell}
 use Rattle.vms_desc.specs.Described.{described, device_at}
-use Rattle.vms_write.proofs.Growing.{Leaves}
+use Rattle.vms_walk.proofs.Growing.{Leaves}
 use Rattle.vms_write.proofs.section.write_subs.Given as goal
 
 abbrev pub invariant-loop-sub : goal.invariant-loop-sub

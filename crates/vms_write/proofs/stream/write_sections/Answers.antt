@@ -1,10 +1,10 @@
-use Rattle.std.proofs.Common.{◌+◌, ◌<◌, length, drop, arith, ap, ◌∙◌}
+use Rattle.std.proofs.Common.{◌+◌, ◌<◌, length, drop, arith, Some, sym, ap, ◌∙◌}
 use Rattle.vms_spec.specs.Streams.{written_section, written_sections}
-use Rattle.vms_spec.specs.Readiness.{is_ready}
+use Rattle.vms_spec.specs.Images.{Image}
 use Rattle.vms_desc.specs.Described.{described, device_at}
-use Rattle.vms_write.specs.Writing.{no_image}
-use Rattle.vms_write.proofs.Growing.{leaves_rest, leaves_prefix, on_fault}
-use Rattle.vms_write.proofs.Sections.{sections_at, get_inside}
+use Rattle.vms_write.proofs.Formed.{at_get}
+use Rattle.vms_walk.proofs.Growing.{leaves_rest, leaves_prefix, on_fault}
+use Rattle.vms_write.proofs.Sections.{sections_at}
 use Rattle.vms_write.proofs.stream.write_sections.Goals as goal
 
 pub loop-device-preserved : goal.loop-device-preserved
@@ -25,7 +25,7 @@ write_section-requires-clause-ready g c =
     let i = c.loop-device.device in
     let image = c.index-images-device.result in
     let lt : i < length set.devices = omega (arith, c.requires.ready.one_each) in
-    ap (is_ready set (device_at set i)) (c.index-images-device.is ∙ get_inside c.args.images.now i image no_image (omega arith)) ∙ c.requires.ready.ready i lt
+    c.requires.ready.ready i (device_at set i) image (at_get set.devices i _ lt) (at_get c.args.images.now i image (omega arith) ∙ ap (λ (x : Image). Some x) (sym c.index-images-device.is))
 
 pub returns-in_err-write_section-clause-err : goal.returns-in_err-write_section-clause-err
 returns-in_err-write_section-clause-err g c =

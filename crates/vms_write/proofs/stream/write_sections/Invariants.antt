@@ -1,7 +1,7 @@
 use Rattle.std.proofs.Common.{◌≡◌, ◌≤◌, drop}
 use Rattle.vms_spec.specs.Streams.{written_sections}
 use Rattle.vms_desc.specs.Described.{described}
-use Rattle.vms_write.proofs.Growing.{Leaves}
+use Rattle.vms_walk.proofs.Growing.{Leaves}
 use Rattle.vms_write.proofs.stream.write_sections.Given as goal
 
 abbrev pub invariant-loop-device : goal.invariant-loop-device

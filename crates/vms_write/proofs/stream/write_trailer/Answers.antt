@@ -2,7 +2,7 @@ use Rattle.std.proofs.Common.{length, ◌∷◌, List, ℕ, subst, OnErr}
 use Rattle.std.specs.Io.KnownBytes.{Appends}
 use Rattle.vms_io.specs.Causes.{AppendsPrefix}
 use Rattle.vms_spec.specs.Streams.{be32}
-use Rattle.vms_write.proofs.Growing.{prefix_front, on_fault, last_fails}
+use Rattle.vms_walk.proofs.Growing.{prefix_front, on_fault, last_fails}
 use Rattle.vms_write.proofs.stream.write_trailer.Goals as goal
 
 pub returns-in_err-append-clause-err : goal.returns-in_err-append-clause-err

@@ -1,0 +1,197 @@
+// A case: a call of the program with the answer that must come.
+
+use crate::answer::Answer;
+use crate::bytes::{Known, Named};
+use crate::entry::Entry;
+use crate::run::Calls;
+use crate::shelf::{copied, put_all};
+use anyhow::{Context, Result};
+use std::alloc::Global;
+use std::rt::Files;
+
+/// What the cases of a topic share.
+#[derive(Drop)]
+pub(crate) struct Shared<'a> {
+    pub words: Vec<&'a str>,
+    pub shelf: Named,
+    pub known: Known<'a>,
+}
+
+/// From this length on a shorter input is refused with this line, or is whole where the line is empty.
+#[derive(Clone, Copy)]
+pub(crate) struct Cut<'a> {
+    pub from: usize,
+    pub line: &'a str,
+}
+
+#[derive(Drop)]
+pub(crate) struct Case<'a> {
+    pub name: &'a str,
+    pub words: Option<Vec<&'a str>>,
+    pub input: Vec<u8>,
+    /// The sizes in which the input is read.
+    pub pieces: Vec<u32>,
+    pub fails: Calls,
+    /// The calls that fail alone, a run for each.
+    pub each_fails: Calls,
+    /// The bytes for which out and notes have room.
+    pub rooms: (u32, u32),
+    pub shelf: Named,
+    pub wanted: Answer,
+    /// Whether out and notes may end before their wanted end.
+    pub may_be_begun: bool,
+    /// What comes where the input ends early, by the least length.
+    pub cuts: Vec<Cut<'a>>,
+}
+
+const KEYS: [&str; 17] = [
+    "name",
+    "words",
+    "input",
+    "pieces",
+    "fails",
+    "each_fails",
+    "room",
+    "notes_room",
+    "shelf",
+    "status",
+    "line",
+    "out",
+    "stream",
+    "begun",
+    "taken",
+    "after",
+    "cut",
+];
+
+const ROOM: u32 = 65_536;
+
+impl<'a> Case<'a> {
+    /// Reads a case.
+    pub(crate) fn read<R: Files + AllocGlobal>(
+        rt: &R,
+        shared: &Shared,
+        entry: Entry<'a>,
+    ) -> Result<Case<'a>> {
+        let alloc = rt.alloc();
+        entry.has_only(&KEYS)?;
+        let shelf = shelf(rt, shared, entry)?;
+        let wanted = wanted(rt, &shared.known, entry, &shelf)?;
+        let room = entry.number("room")?.unwrap_or(ROOM);
+        let notes_room = entry.number("notes_room")?.unwrap_or(ROOM);
+        Ok(Case {
+            name: entry.text("name")?.context("a case without a name")?,
+            words: entry.texts(alloc, "words")?,
+            input: shared
+                .known
+                .bytes(alloc, entry.text("input")?.unwrap_or(""))?,
+            pieces: pieces(alloc, entry)?,
+            fails: calls(alloc, entry.entry("fails")?)?,
+            each_fails: each(alloc, entry.entry("each_fails")?)?,
+            rooms: (room, notes_room),
+            shelf,
+            wanted,
+            may_be_begun: entry.flag("begun")?,
+            cuts: cuts(alloc, entry)?,
+        })
+    }
+}
+
+fn shelf<R: Files + AllocGlobal>(rt: &R, shared: &Shared, entry: Entry) -> Result<Named> {
+    let mut shelf = copied(rt.alloc(), &shared.shelf)?;
+    put_all(rt, &shared.known, entry.entry("shelf")?, &mut shelf)?;
+    Ok(shelf)
+}
+
+// The sizes of pieces, or 0, for any size, where none is given.
+fn pieces(alloc: Global, entry: Entry) -> Result<Vec<u32>> {
+    let mut pieces = entry.numbers(alloc, "pieces")?;
+    if pieces.is_empty() {
+        pieces.push(0)?;
+    }
+    Ok(pieces)
+}
+
+fn calls(alloc: Global, entry: Option<Entry>) -> Result<Calls> {
+    match entry {
+        None => Ok(Calls::none(alloc)),
+        Some(entry) => {
+            entry.has_only(&["reads", "writes", "notes", "shelf"])?;
+            Ok(Calls {
+                reads: entry.numbers(alloc, "reads")?,
+                writes: entry.numbers(alloc, "writes")?,
+                notes: entry.numbers(alloc, "notes")?,
+                shelf: entry.numbers(alloc, "shelf")?,
+            })
+        }
+    }
+}
+
+// The numbers of calls up to those that a table names.
+fn each(alloc: Global, entry: Option<Entry>) -> Result<Calls> {
+    match entry {
+        None => Ok(Calls::none(alloc)),
+        Some(entry) => {
+            entry.has_only(&["reads", "writes", "notes", "shelf"])?;
+            Ok(Calls {
+                reads: up_to(alloc, entry.number("reads")?)?,
+                writes: up_to(alloc, entry.number("writes")?)?,
+                notes: up_to(alloc, entry.number("notes")?)?,
+                shelf: up_to(alloc, entry.number("shelf")?)?,
+            })
+        }
+    }
+}
+
+fn up_to(alloc: Global, last: Option<u32>) -> Result<Vec<u32>> {
+    let mut numbers = Vec::new(alloc);
+    for number in 1..=last.unwrap_or(0) {
+        numbers.push(number)?;
+    }
+    Ok(numbers)
+}
+
+// The answer that a case wants, with what lay on the shelf before.
+fn wanted<R: Files + AllocGlobal>(
+    rt: &R,
+    known: &Known,
+    entry: Entry,
+    before: &Named,
+) -> Result<Answer> {
+    let alloc = rt.alloc();
+    let out = match entry.text("stream")? {
+        Some(row) => known.bytes(alloc, row)?,
+        None => entry.text("out")?.unwrap_or("").as_bytes().to_vec(alloc)?,
+    };
+    let mut shelf = copied(alloc, before)?;
+    put_all(rt, known, entry.entry("after")?, &mut shelf)?;
+    let status = u8::try_from(entry.number("status")?.unwrap_or(0)).ok();
+    Ok(Answer {
+        status: status.context("no status")?,
+        out,
+        notes: notes(alloc, entry.text("line")?.unwrap_or(""))?,
+        taken: entry.number("taken")?.map(|taken| taken as usize),
+        shelf,
+    })
+}
+
+/// The notes of a line, or no notes where it is empty.
+pub(crate) fn notes(alloc: Global, line: &str) -> Result<Vec<u8>> {
+    let mut notes = line.as_bytes().to_vec(alloc)?;
+    if !notes.is_empty() {
+        notes.push(b'\n')?;
+    }
+    Ok(notes)
+}
+
+fn cuts<'a>(alloc: Global, entry: Entry<'a>) -> Result<Vec<Cut<'a>>> {
+    let mut cuts = Vec::new(alloc);
+    for cut in entry.entries(alloc, "cut")? {
+        cut.has_only(&["from", "line"])?;
+        cuts.push(Cut {
+            from: cut.number("from")?.context("a cut without from")? as usize,
+            line: cut.text("line")?.context("a cut without a line")?,
+        })?;
+    }
+    Ok(cuts)
+}

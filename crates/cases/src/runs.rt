@@ -1,0 +1,161 @@
+// The runs of a case: in each size of pieces, with each failing call, and cut at each length.
+
+use crate::answer::Answer;
+use crate::case::{Case, Shared, notes};
+use crate::run::{Calls, Outside, answer};
+use crate::shelf::copied;
+use anyhow::Result;
+use std::alloc::Global;
+
+/// One run of a case.
+#[derive(Drop)]
+pub(crate) struct Run {
+    piece: u32,
+    /// How many bytes of the input are there.
+    long: usize,
+    /// The calls that fail, where they aren't those of the case.
+    fails: Option<Calls>,
+}
+
+/// The runs of a case.
+pub(crate) fn runs(alloc: Global, case: &Case) -> Result<Vec<Run>> {
+    let mut runs = Vec::new(alloc);
+    let whole = case.input.len();
+    for piece in &case.pieces {
+        let failing = failing(alloc, &case.each_fails)?;
+        if failing.is_empty() {
+            runs.push(run_of(*piece, whole, None))?;
+        }
+        for fails in failing {
+            runs.push(run_of(*piece, whole, Some(fails)))?;
+        }
+        if !case.cuts.is_empty() {
+            for long in 0..whole {
+                runs.push(run_of(*piece, long, None))?;
+            }
+        }
+    }
+    Ok(runs)
+}
+
+fn run_of(piece: u32, long: usize, fails: Option<Calls>) -> Run {
+    Run { piece, long, fails }
+}
+
+// Each listed call, failing alone.
+fn failing(alloc: Global, each: &Calls) -> Result<Vec<Calls>> {
+    let mut failing = Vec::new(alloc);
+    for number in &each.reads {
+        let reads = vec![in alloc; *number]?;
+        failing.push(Calls {
+            reads,
+            ..Calls::none(alloc)
+        })?;
+    }
+    for number in &each.writes {
+        let writes = vec![in alloc; *number]?;
+        failing.push(Calls {
+            writes,
+            ..Calls::none(alloc)
+        })?;
+    }
+    for number in &each.notes {
+        let notes = vec![in alloc; *number]?;
+        failing.push(Calls {
+            notes,
+            ..Calls::none(alloc)
+        })?;
+    }
+    for number in &each.shelf {
+        let shelf = vec![in alloc; *number]?;
+        failing.push(Calls {
+            shelf,
+            ..Calls::none(alloc)
+        })?;
+    }
+    Ok(failing)
+}
+
+/// What came in place of what was wanted, if they differ in this run.
+pub(crate) fn difference(
+    alloc: Global,
+    shared: &Shared,
+    case: &Case,
+    run: &Run,
+) -> Result<Option<String>> {
+    let came = answer(alloc, &outside(shared, case, run))?;
+    match wanted_of_cut(alloc, case, run.long)? {
+        Some(wanted) => compared(alloc, case, run, &came, &wanted),
+        None => compared(alloc, case, run, &came, &case.wanted),
+    }
+}
+
+fn outside<'a, 'b>(shared: &'a Shared<'b>, case: &'a Case<'b>, run: &'a Run) -> Outside<'a, 'b> {
+    Outside {
+        words: case.words.as_ref().unwrap_or(&shared.words).as_slice(),
+        input: case.input.get(..run.long).unwrap_or(&[]),
+        piece: run.piece,
+        fails: run.fails.as_ref().unwrap_or(&case.fails),
+        rooms: case.rooms,
+        shelf: &case.shelf,
+        names: &case.wanted.shelf,
+    }
+}
+
+// The answer that is wanted where the input ends early; none where it is that of the whole case.
+fn wanted_of_cut(alloc: Global, case: &Case, long: usize) -> Result<Option<Answer>> {
+    if long >= case.input.len() {
+        return Ok(None);
+    }
+    let mut line = "";
+    for cut in &case.cuts {
+        if cut.from <= long {
+            line = cut.line;
+        }
+    }
+    let whole = &case.wanted;
+    Ok(Some(Answer {
+        status: if line.is_empty() { whole.status } else { 1 },
+        out: if line.is_empty() {
+            whole.out.clone()?
+        } else {
+            Vec::new(alloc)
+        },
+        notes: notes(alloc, line)?,
+        taken: Some(long),
+        shelf: copied(alloc, &whole.shelf)?,
+    }))
+}
+
+fn compared(
+    alloc: Global,
+    case: &Case,
+    run: &Run,
+    came: &Answer,
+    wanted: &Answer,
+) -> Result<Option<String>> {
+    if came.fits(wanted, case.may_be_begun) {
+        return Ok(None);
+    }
+    let label = label(alloc, case, run)?;
+    let wanted = wanted.line(alloc)?;
+    let came = came.line(alloc)?;
+    let name = case.name;
+    Ok(Some(format!(in alloc; "  {name}{label}\n    wanted: {wanted}\n    came:   {came}\n")?))
+}
+
+// What is particular to a run.
+fn label(alloc: Global, case: &Case, run: &Run) -> Result<String> {
+    let mut label = String::new(alloc);
+    if run.piece > 0 {
+        label.push_str(&format!(in alloc; ", in pieces of {}", run.piece)?)?;
+    }
+    if run.long < case.input.len() {
+        label.push_str(&format!(in alloc; ", cut at {}", run.long)?)?;
+    }
+    if let Some(fails) = &run.fails {
+        label.push_str(", ")?;
+        label.push_str(&fails.line(alloc)?)?;
+    }
+    Ok(label)
+}

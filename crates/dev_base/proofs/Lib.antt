@@ -1,0 +1,4 @@
+pub mod CellLaws
+pub mod Choices
+pub mod RuleLaws
+pub mod TableLaws

@@ -1,0 +1,38 @@
+-- Cells of a device: numbers by their places, each of its kind.
+use Rattle.std.specs.Prelude.{◌≡◌, ℕ, ℤ, pos, negsuc, ◌<◌, ◌==◌, Bool, true, false, List, length, slice_index_or}
+use Rattle.vms_kinds.specs.Codes.{InRange}
+use Rattle.vms_kinds.specs.declared.Kind.{Kind}
+use Rattle.vms_kinds.specs.declared.Kind.TheVariants.{U8}
+
+-- the number of a cell
+abbrev pub cell_at : List ℤ → ℕ → ℤ
+cell_at cells place = slice_index_or cells place (pos 0)
+
+-- a number that isn't negative
+abbrev pub nat_of : ℤ → ℕ
+nat_of (pos n) = n
+nat_of (negsuc n) = 0
+
+abbrev pub number_at : List ℤ → ℕ → ℕ
+number_at cells place = nat_of (cell_at cells place)
+
+-- a truth value in a cell, and as a number
+abbrev pub flag_at : List ℤ → ℕ → Bool
+flag_at cells place = number_at cells place == 1
+
+abbrev pub flag_number : Bool → ℕ
+flag_number false = 0
+flag_number true = 1
+
+-- the kind of the cell at a place
+abbrev pub kind_at : List Kind → ℕ → Kind
+kind_at kinds place = slice_index_or kinds place U8
+
+-- each cell is in its kind's range
+abbrev pub AreInRange : List Kind → List ℤ → Type 0
+AreInRange kinds cells = (place : ℕ) → place < length kinds → InRange (kind_at kinds place) (cell_at cells place)
+
+-- cells of these kinds: as many, and each in its kind's range
+pub record AreOf (kinds : List Kind) (cells : List ℤ) : Type 0 where
+  pub count : length cells ≡ length kinds
+  pub in_range : AreInRange kinds cells

@@ -1,0 +1,88 @@
+// Reading and appending cells.
+ghost use Rattle.std.specs.Prelude.{◌≡◌, ◌+◌, ◌++◌, ◌<◌, ◌≤◌, ◌↔◌, length, IsTrue};
+ghost use Rattle.vms_kinds.specs.Codes.{InRange};
+ghost use Rattle.dev_base.specs.Cells.{cell_at, number_at, flag_at as flag_at_of, kind_at, AreInRange, AreOf};
+
+use vms_kinds::{DevCells, Kind};
+
+/// The number of a cell of eight bits.
+pub fn byte_at(cells: &DevCells, place: usize) -> u8
+    requires within { place < length cells.now.items }
+    requires in_range { InRange Kind.U8 (cell_at cells.now.items place) }
+    ensures { result ≡ number_at cells.now.items place }
+{
+    cells[place] as u8
+}
+
+/// The number of a cell of sixteen bits.
+pub fn word_at(cells: &DevCells, place: usize) -> u16
+    requires within { place < length cells.now.items }
+    requires in_range { InRange Kind.U16 (cell_at cells.now.items place) }
+    ensures { result ≡ number_at cells.now.items place }
+{
+    cells[place] as u16
+}
+
+/// The number of a cell of 64 bits, `u64` or `timer`: a moment in nanoseconds.
+pub fn moment_at(cells: &DevCells, place: usize) -> u64
+    requires within { place < length cells.now.items }
+    requires in_range { InRange Kind.U64 (cell_at cells.now.items place) }
+    ensures { result ≡ number_at cells.now.items place }
+{
+    cells[place] as u64
+}
+
+/// The number of a signed cell of eight bits.
+pub fn signed_at(cells: &DevCells, place: usize) -> i8
+    requires within { place < length cells.now.items }
+    requires in_range { InRange Kind.I8 (cell_at cells.now.items place) }
+    ensures { result ≡ cell_at cells.now.items place }
+{
+    cells[place] as i8
+}
+
+/// The truth value of a cell.
+pub fn flag_at(cells: &DevCells, place: usize) -> bool
+    requires within { place < length cells.now.items }
+    requires in_range { InRange Kind.Bool (cell_at cells.now.items place) }
+    ensures { result ≡ flag_at_of cells.now.items place }
+{
+    cells[place] == 1
+}
+
+/// Appends cells that there is room for; there is room for 96 in all.
+pub fn append(cells: &mut DevCells, more: &[i128])
+    requires { length cells.old.items + length more.now ≤ 96 }
+    ensures { cells.new.items ≡ cells.old.items ++ more.now }
+{
+    let _fits = cells.try_extend_from_slice(more);
+}
+
+/// Tells whether cells are of these kinds: as many, and each in its kind's range.
+pub fn are_of(kinds: &[Kind], cells: &[i128]) -> bool
+    ensures { IsTrue result ↔ AreOf kinds.now cells.now }
+{
+    cells.len() == kinds.len() && are_in_range(kinds, cells)
+}
+
+// Tells whether the cell at a place is in its kind's range.
+fn is_in_range(kinds: &[Kind], cells: &[i128], place: usize) -> bool
+    requires count { length cells.now ≡ length kinds.now }
+    requires within { place < length kinds.now }
+    ensures { IsTrue result ↔ InRange (kind_at kinds.now place) (cell_at cells.now place) }
+{
+    kinds[place].in_range(cells[place])
+}
+
+// Tells whether each cell is in its kind's range.
+fn are_in_range(kinds: &[Kind], cells: &[i128]) -> bool
+    requires { length cells.now ≡ length kinds.now }
+    ensures { IsTrue result ↔ AreInRange kinds.now cells.now }
+{
+    for place in 0..kinds.len() {
+        if !is_in_range(kinds, cells, place) {
+            return false;
+        }
+    }
+    true
+}

@@ -1,0 +1,262 @@
+-- The remembered lines.
+use Rattle.std.proofs.Common.{◌≡◌, ◌≢◌, ℕ, ◌+◌, ◌-◌, ◌*◌, ◌/◌, ◌%◌, ◌<◌, ◌≤◌, ◌^◌, ◌==◌, Bool, true, false, not, ◌&&◌, ◌||◌, cond, Option, Some, None, refl, ap, sym, ◌∙◌, arith, ⊎_elim}
+use Rattle.std.proofs.lemmas.Bool.{cases_lt}
+use Rattle.std.proofs.lemmas.Bool.Decides.{nat_tests}
+use Rattle.dev_base.specs.Bits.{has}
+use Rattle.dev_pic.specs.Bits.{without_input}
+use Rattle.dev_pic.specs.Chip.{winner_at, taken, settled, ended, ended_lowest, highest_served, commanded, started, selected, written_even, written_odd_in, elcr_written, polled_by, read_of, answered, cascaded}
+use Rattle.dev_pic.specs.Laws.{LinesAreTaken, LinesAreKept}
+use Rattle.dev_pic.specs.Ocw2.{command_of}
+use Rattle.dev_pic.specs.Pair.{slave_int_of, lines_of, acked, acked_for, with_cascade, settled_pair, read_pair, written_pair}
+use Rattle.dev_pic.specs.Sound.{PairHasRegisters}
+use Rattle.dev_pic.specs.declared.chip.Chip.{Chip}
+use Rattle.dev_pic.specs.declared.chip.InitState.{InitState}
+use Rattle.dev_pic.specs.declared.chip.InitState.TheVariants.{Ready, Icw2, Icw3, Icw4}
+use Rattle.dev_pic.specs.declared.chip.Role.{Role}
+use Rattle.dev_pic.specs.declared.chip.Role.TheVariants.{Master, Slave}
+use Rattle.dev_pic.specs.declared.ocw2.Ocw2.{Ocw2}
+use Rattle.dev_pic.specs.declared.ocw2.Ocw2.TheVariants.{NonSpecificEoi, RotateOnNonSpecificEoi, SpecificEoi, RotateOnSpecificEoi, RotateInAutomaticEoi, SetPriority, NoOperation}
+use Rattle.dev_pic.specs.declared.pair.PicPair.{PicPair}
+use Rattle.dev_pic.proofs.BitLaws.{each_input, has-or, has-one_other, has-without_same, has-without_other, or_false, without_input-lt}
+use Rattle.dev_pic.proofs.PairLaws.{cascade-lt}
+use Rattle.dev_base.proofs.Choices.{either, by_test}
+
+-- the bits of a number of two bytes
+low-bit : (high low i : ℕ) → low < 256 → i < 8 → has (high * 256 + low) i ≡ has low i
+low-bit high low i l =
+    each_input (λ i. has (high * 256 + low) i ≡ has low i)
+    (ap (λ n. n == 1) (omega (arith, l))) (ap (λ n. n == 1) (omega (arith, l))) (ap (λ n. n == 1) (omega (arith, l))) (ap (λ n. n == 1) (omega (arith, l)))
+    (ap (λ n. n == 1) (omega (arith, l))) (ap (λ n. n == 1) (omega (arith, l))) (ap (λ n. n == 1) (omega (arith, l))) (ap (λ n. n == 1) (omega (arith, l))) i
+
+high-bit : (high low i : ℕ) → low < 256 → i < 8 → has (high * 256 + low) (8 + i) ≡ has high i
+high-bit high low i l =
+    each_input (λ i. has (high * 256 + low) (8 + i) ≡ has high i)
+    (ap (λ n. n == 1) (omega (arith, l))) (ap (λ n. n == 1) (omega (arith, l))) (ap (λ n. n == 1) (omega (arith, l))) (ap (λ n. n == 1) (omega (arith, l)))
+    (ap (λ n. n == 1) (omega (arith, l))) (ap (λ n. n == 1) (omega (arith, l))) (ap (λ n. n == 1) (omega (arith, l))) (ap (λ n. n == 1) (omega (arith, l))) i
+
+bytes : (inputs : ℕ) → inputs ≡ inputs / 256 * 256 + inputs % 256
+bytes inputs = omega arith
+
+low-input : (inputs i : ℕ) → i < 8 → has (inputs % 256) i ≡ has inputs i
+low-input inputs i h =
+    sym (ap (λ n. has n i) (bytes inputs) ∙ low-bit (inputs / 256) (inputs % 256) i (omega arith) h)
+
+high-input : (inputs i : ℕ) → i < 8 → has (inputs / 256) i ≡ has inputs (8 + i)
+high-input inputs i h =
+    sym (ap (λ n. has n (8 + i)) (bytes inputs) ∙ high-bit (inputs / 256) (inputs % 256) i (omega arith) h)
+
+-- the number of the cascade input alone, or of none
+cascade-same : (b : Bool) → has (cond b 4 0) 2 ≡ b
+cascade-same true = refl
+cascade-same false = refl
+
+no-input : (i : ℕ) → i < 8 → has 0 i ≡ false
+no-input = each_input (λ i. has 0 i ≡ false) refl refl refl refl refl refl refl refl
+
+cascade-other : (b : Bool) (i : ℕ) → i < 8 → i ≢ 2 → has (cond b 4 0) i ≡ false
+cascade-other true i h n = has-one_other 2 i n
+cascade-other false i h n = no-input i h
+
+with-other : (b : Bool) (inputs i : ℕ) → i < 8 → i ≢ 2 → has (with_cascade b inputs) i ≡ has inputs i
+with-other b inputs i h n =
+    has-or (without_input inputs 2) (cond b 4 0) i
+    ∙ ap (λ t. has (without_input inputs 2) i || t) (cascade-other b i h n)
+    ∙ or_false (has (without_input inputs 2) i)
+    ∙ has-without_other inputs 2 i (omega arith) h n
+
+with-same : (b : Bool) (inputs : ℕ) → has (with_cascade b inputs) 2 ≡ b
+with-same b inputs =
+    has-or (without_input inputs 2) (cond b 4 0) 2
+    ∙ ap (λ t. t || has (cond b 4 0) 2) (has-without_same inputs 2 (omega arith))
+    ∙ cascade-same b
+
+module _ (inputs edges : ℕ) (pair : PicPair) (bound : inputs < 2 ^ 16) where
+  abbrev output : Bool
+  output = slave_int_of (record pair { slave = settled (inputs / 256) (edges / 256) pair.slave })
+
+  low-lt : with_cascade output (inputs % 256) < 256
+  low-lt = cascade-lt output (inputs % 256) (omega arith)
+
+  taken-master : (i : ℕ) → i < 8 → i ≢ 2 → has (lines_of (settled_pair inputs edges pair)) i ≡ has inputs i
+  unfolding settled_pair lines_of settled
+  taken-master i h n =
+      low-bit (inputs / 256) (with_cascade output (inputs % 256)) i low-lt h ∙ with-other output (inputs % 256) i h n ∙ low-input inputs i h
+
+  taken-cascade : has (lines_of (settled_pair inputs edges pair)) 2 ≡ slave_int_of (settled_pair inputs edges pair)
+  unfolding settled_pair lines_of settled slave_int_of
+  taken-cascade =
+      low-bit (inputs / 256) (with_cascade output (inputs % 256)) 2 low-lt (omega arith) ∙ with-same output (inputs % 256)
+
+  taken-slave : (i : ℕ) → i < 8 → has (lines_of (settled_pair inputs edges pair)) (8 + i) ≡ has inputs (8 + i)
+  unfolding settled_pair lines_of settled
+  taken-slave i h =
+      high-bit (inputs / 256) (with_cascade output (inputs % 256)) i low-lt h ∙ high-input inputs i h
+
+pub lines_are_taken : LinesAreTaken
+lines_are_taken = record {
+  master = λ inputs edges input pair bound within other. taken-master inputs edges pair bound input within other;
+  cascade = λ inputs edges pair bound. taken-cascade inputs edges pair bound;
+  slave = λ inputs edges input pair bound within. taken-slave inputs edges pair bound input within;
+}
+
+-- a chip's lines after each step are those before it
+abbrev Same : Chip → Chip → Type 0
+Same chip after = after.lines ≡ chip.lines
+
+taken-lines : (w : ℕ) (chip : Chip) → Same chip (taken w chip)
+unfolding taken
+taken-lines w chip =
+    either (Same chip) _ _ _ (either (Same chip) chip.auto_eoi _ _ (either (Same chip) chip.rotate _ _ refl refl) refl)
+    (either (Same chip) chip.auto_eoi _ _ (either (Same chip) chip.rotate _ _ refl refl) refl)
+
+ended-lines : (o : Option ℕ) (chip : Chip) → Same chip (ended o chip)
+unfolding ended
+ended-lines None chip = refl
+ended-lines (Some w) chip = refl
+
+ended_lowest-lines : (o : Option ℕ) (chip : Chip) → Same chip (ended_lowest o chip)
+unfolding ended_lowest
+ended_lowest-lines None chip = refl
+ended_lowest-lines (Some w) chip = refl
+
+commanded-lines : (command : Ocw2) (chip : Chip) → Same chip (commanded command chip)
+unfolding commanded
+commanded-lines NonSpecificEoi chip = ended-lines (highest_served chip) chip
+commanded-lines RotateOnNonSpecificEoi chip = ended_lowest-lines (highest_served chip) chip
+commanded-lines (SpecificEoi input) chip = ended-lines (Some input) chip
+commanded-lines (RotateOnSpecificEoi input) chip = ended_lowest-lines (Some input) chip
+commanded-lines (RotateInAutomaticEoi rotate) chip = refl
+commanded-lines (SetPriority input) chip = refl
+commanded-lines NoOperation chip = refl
+
+even-lines : (level value : ℕ) (chip : Chip) → Same chip (written_even level value chip)
+unfolding written_even started selected
+even-lines level value chip =
+    either (Same chip) (has value 4) _ _ refl (either (Same chip) (has value 3) _ _ refl (commanded-lines (command_of value) chip))
+
+odd-lines : (s : InitState) (value : ℕ) (chip : Chip) → Same chip (written_odd_in s value chip)
+unfolding written_odd_in
+odd-lines Ready value chip = refl
+odd-lines Icw2 value chip = refl
+odd-lines Icw3 value chip = refl
+odd-lines Icw4 value chip = refl
+
+elcr-lines : (role : Role) (value : ℕ) (chip : Chip) → Same chip (elcr_written role value chip)
+unfolding elcr_written
+elcr-lines role value chip = refl
+
+polled-lines : (o : Option ℕ) (chip : Chip) → Same chip (polled_by o chip).1
+unfolding polled_by
+polled-lines None chip = refl
+polled-lines (Some w) chip = taken-lines w (record chip { poll = false })
+
+read-lines : (role : Role) (is_odd : Bool) (chip : Chip) → Same chip (read_of role is_odd chip).1
+unfolding read_of
+read-lines role is_odd chip = by_poll chip.poll where
+  by_poll : (poll : Bool) → Same chip (cond poll (polled_by (winner_at role chip) chip) (cond is_odd chip.imr (cond chip.read_isr chip.isr chip.irr), chip)).1
+  by_poll true = polled-lines (winner_at role chip) chip
+  by_poll false = refl
+
+answered-lines : (o : Option ℕ) (chip : Chip) → Same chip (answered o chip).1
+unfolding answered
+answered-lines None chip = refl
+answered-lines (Some w) chip = taken-lines w chip
+
+cascaded-lines : (chip : Chip) → (cascaded chip).lines ≡ without_input chip.lines 2
+unfolding cascaded
+cascaded-lines chip = ap (λ n. without_input n 2) (taken-lines 2 chip)
+
+-- the lines of a pair whose master or slave changes
+module _ (pair : PicPair) where
+  with-master : (chip : Chip) → Same pair.master chip → lines_of (record pair { master = chip }) ≡ lines_of pair
+  unfolding lines_of
+  with-master chip e = ap (λ n. pair.slave.lines * 256 + n) e
+
+  with-slave : (chip : Chip) → Same pair.slave chip → lines_of (record pair { slave = chip }) ≡ lines_of pair
+  unfolding lines_of
+  with-slave chip e = ap (λ n. n * 256 + pair.master.lines) e
+
+-- an answer after which a pair has these lines
+record Kept (lines : ℕ) (answer : ℕ × PicPair) : Type 0 where
+  kept : lines_of answer.1 ≡ lines
+
+read-kept : (port : ℕ) (pair : PicPair) → Kept (lines_of pair) (read_pair port pair)
+unfolding read_pair
+read-kept port pair =
+    let master : (is_odd : Bool) → lines_of (record pair { master = (read_of Master is_odd pair.master).1 }) ≡ lines_of pair = λ is_odd. with-master pair (read_of Master is_odd pair.master).1 (read-lines Master is_odd pair.master) in
+    let slave : (is_odd : Bool) → lines_of (record pair { slave = (read_of Slave is_odd pair.slave).1 }) ≡ lines_of pair = λ is_odd. with-slave pair (read_of Slave is_odd pair.slave).1 (read-lines Slave is_odd pair.slave) in
+    either (Kept (lines_of pair)) (port == 0x20) _ _ (record { kept = master false }) (either (Kept (lines_of pair)) (port == 0x21) _ _ (record { kept = master true })
+    (either (Kept (lines_of pair)) (port == 0xa0) _ _ (record { kept = slave false }) (either (Kept (lines_of pair)) (port == 0xa1) _ _ (record { kept = slave true })
+    (either (Kept (lines_of pair)) (port == 0x4d0) _ _ (record { kept = refl }) (record { kept = refl })))))
+
+written-kept : (port value : ℕ) (pair : PicPair) → lines_of (written_pair port value pair) ≡ lines_of pair
+unfolding written_pair
+written-kept port value pair =
+    let keeps : PicPair → Type 0 = λ p. lines_of p ≡ lines_of pair in
+    either keeps (port == 0x20) _ _ (with-master pair _ (even-lines pair.level value pair.master)) (either keeps (port == 0x21) _ _ (with-master pair _ (odd-lines pair.master.init_state value pair.master))
+    (either keeps (port == 0xa0) _ _ (with-slave pair _ (even-lines pair.level value pair.slave)) (either keeps (port == 0xa1) _ _ (with-slave pair _ (odd-lines pair.slave.init_state value pair.slave))
+    (either keeps (port == 0x4d0) _ _ (with-master pair _ (elcr-lines Master value pair.master)) (with-slave pair _ (elcr-lines Slave value pair.slave))))))
+
+acked_for-kept : (o : Option ℕ) (pair : PicPair) → o ≢ Some 2 → Kept (lines_of pair) (acked_for o pair)
+unfolding acked_for
+acked_for-kept None pair n = record { kept = with-master pair _ (answered-lines None pair.master) }
+acked_for-kept (Some w) pair n =
+    by_test (Kept (lines_of pair)) (w == 2) _ _
+    (λ e. absurd (n (let same : w ≡ 2 = grind (arith, nat_tests) in ap Some same)))
+    (λ e. record { kept = with-master pair _ (answered-lines (Some w) pair.master) })
+
+-- the lines after the slave's output is acknowledged
+acked-slave : (pair : PicPair) → winner_at Master pair.master ≡ Some 2 → lines_of (acked pair).1 ≡ pair.slave.lines * 256 + without_input pair.master.lines 2
+unfolding acked_for lines_of
+acked-slave pair e =
+    rw e (ap (λ n. n * 256 + (cascaded pair.master).lines) (answered-lines (winner_at Slave pair.slave) pair.slave) ∙ ap (λ n. pair.slave.lines * 256 + n) (cascaded-lines pair.master))
+
+and_true : (b : Bool) → (b && true) ≡ b
+and_true true = refl
+and_true false = refl
+
+and_false : (b : Bool) → (b && false) ≡ false
+and_false true = refl
+and_false false = refl
+
+without-bit : (lines i : ℕ) → i < 8 → has (without_input lines 2) i ≡ (has lines i && not (i == 2))
+without-bit lines i h = by_value (i == 2) refl where
+  by_value : (b : Bool) → (i == 2) ≡ b → has (without_input lines 2) i ≡ (has lines i && not b)
+  by_value true e =
+      let same : i ≡ 2 = grind (arith, nat_tests) in
+      ap (λ n. has (without_input lines 2) n) same ∙ has-without_same lines 2 (omega arith) ∙ sym (and_false (has lines i))
+  by_value false e =
+      let other : i ≢ 2 = grind (arith, nat_tests) in
+      has-without_other lines 2 i (omega arith) h other ∙ sym (and_true (has lines i))
+
+low-acked : (slave master i : ℕ) → master < 256 → i < 8 → has (slave * 256 + without_input master 2) i ≡ (has (slave * 256 + master) i && not (i == 2))
+low-acked slave master i bound l =
+    low-bit slave (without_input master 2) i (without_input-lt master 2 bound) l
+    ∙ without-bit master i l
+    ∙ ap (λ t. t && not (i == 2)) (sym (low-bit slave master i bound l))
+
+high-acked : (slave master i : ℕ) → master < 256 → 8 ≤ i → i < 16 → has (slave * 256 + without_input master 2) i ≡ (has (slave * 256 + master) i && not (i == 2))
+high-acked slave master i bound least l =
+    let place : i ≡ 8 + (i - 8) = omega (arith, least) in
+    let within : i - 8 < 8 = omega (arith, least, l) in
+    let other : (i == 2) ≡ false = grind (arith, nat_tests) in
+    ap (λ n. has (slave * 256 + without_input master 2) n) place
+    ∙ high-bit slave (without_input master 2) (i - 8) (without_input-lt master 2 bound) within
+    ∙ sym (high-bit slave master (i - 8) bound within)
+    ∙ ap (λ n. has (slave * 256 + master) n) (sym place)
+    ∙ sym (ap (λ t. has (slave * 256 + master) i && not t) other ∙ and_true (has (slave * 256 + master) i))
+
+acked-bit : (pair : PicPair) → PairHasRegisters pair → (i : ℕ) → i < 16 → has (pair.slave.lines * 256 + without_input pair.master.lines 2) i ≡ (has (lines_of pair) i && not (i == 2))
+unfolding lines_of
+acked-bit pair h i l =
+    ⊎_elim (λ low. low-acked pair.slave.lines pair.master.lines i h.master.lines low)
+    (λ high. high-acked pair.slave.lines pair.master.lines i h.master.lines high l)
+    (cases_lt i 8)
+
+pub lines_are_kept : LinesAreKept
+lines_are_kept = record {
+  read = λ port pair. (read-kept port pair).kept;
+  write = written-kept;
+  ack = λ pair n. (acked_for-kept (winner_at Master pair.master) pair n).kept;
+  of_slave = λ input pair h e l. ap (λ n. has n input) (acked-slave pair e) ∙ acked-bit pair h input l;
+}

@@ -1,0 +1,116 @@
+-- A port is sound exactly where it is one that a stream can tell and the rules hold of what is saved of it.
+use Rattle.std.proofs.Common.{◌≡◌, ℕ, ◌+◌, ◌≤◌, ◌==◌, Bool, true, false, not, ◌&&◌, ◌||◌, cond, Option, Some, None, refl, sym, arith}
+use Rattle.std.proofs.lemmas.Bool.{false≢true, leb-true, ltb-true, eqb-true, and_parts}
+use Rattle.std.specs.Prelude.{nat_le, nat_lt, is_some}
+use Rattle.dev_base.specs.declared.limits.TheConstants.{LAST_MOMENT}
+use Rattle.dev_serial.specs.Access.{is_empty, lsr_of}
+use Rattle.dev_serial.specs.Bits.{has}
+use Rattle.dev_serial.specs.Laws.{SoundMeetsRules}
+use Rattle.dev_serial.specs.Port.{Port}
+use Rattle.dev_serial.specs.PortNumbers.{saved, fcr_number, moment_number, due_number}
+use Rattle.dev_serial.specs.Rules.{registers_hold, fcr_holds, shift_holds, timeout_holds, same, longest_timeout}
+use Rattle.dev_serial.specs.Sound.{IsSound, IsHeld, IsTold, IsByte, IsShift, IsTimeout, HasRegisters}
+use Rattle.dev_serial.specs.declared.shift.Shift.{Shift}
+use Rattle.dev_serial.specs.declared.trigger.Trigger.{Trigger}
+use Rattle.dev_serial.proofs.RulesHold.{Hold, hold}
+use Rattle.dev_serial.proofs.SavedLaw.{restored-saved}
+use Rattle.dev_serial.proofs.SavedParts.{on, runs-same, unused-at}
+use Rattle.dev_serial.proofs.TruthTables.{IsStatus, lsr-status}
+use Rattle.dev_serial.specs.declared.mode.TheConstants.{LONGEST_CHARACTER}
+use Rattle.dev_serial.specs.declared.numbers.TheConstants.{NEVER}
+
+-- from sound to held
+told : (now : ℕ) (runs : Bool) (timeout : Option ℕ) → now ≤ LAST_MOMENT → IsTimeout now runs timeout → IsTold timeout
+told now runs None h t = tt
+told now runs (Some moment) h t = let l = t.in_time in omega arith
+
+is-byte : (now : ℕ) (shift : Option Shift) → IsShift now shift → IsByte shift
+is-byte now None s = tt
+is-byte now (Some shift) s = s.byte
+
+held : (now : ℕ) (port : Port) → now ≤ LAST_MOMENT → IsSound now port → IsHeld port
+held now port h s = let r = s.registers in record {
+  is_level = r.is_level;
+  divisor_range = r.divisor_range;
+  lcr_range = r.lcr_range;
+  scr_range = r.scr_range;
+  held_short = s.receiver.short;
+  held_bytes = s.receiver.bytes;
+  waiting_short = s.transmitter.short;
+  waiting_bytes = s.transmitter.bytes;
+  timeout = told now _ port.receiver.timeout h s.receiver.timeout;
+  shift = is-byte now port.transmitter.shift s.transmitter.shift;
+  latched = s.transmitter.latched;
+}
+
+-- and back, by the rules
+level-on : (level : ℕ) (fifos : Option Trigger) (rest : Bool) → ((fcr_number fifos == 0) || (nat_le 2 level && rest)) ≡ true → is_some fifos ≡ true → 2 ≤ level
+level-on level None rest h e = absurd (false≢true e)
+level-on level (Some trigger) rest h e = leb-true 2 level (and_parts _ _ (rw (on trigger) at h)).0
+
+shift-from : (now : ℕ) (shift : Option Shift) (idle empty five : Bool) → idle ≡ (empty && not (is_some shift)) → IsByte shift
+    → (same idle (due_number shift == NEVER) && cond idle five (nat_lt now (due_number shift) && nat_le (due_number shift) (now + LONGEST_CHARACTER))) ≡ true → IsShift now shift
+shift-from now None idle empty five e b h = tt
+shift-from now (Some shift) true true five e b h = absurd (false≢true (sym e))
+shift-from now (Some shift) true false five e b h = absurd (false≢true (sym e))
+shift-from now (Some shift) false empty five e b h =
+    let p = and_parts _ _ (and_parts _ _ h).1 in
+    record { byte = b; later = ltb-true _ _ p.0; in_time = leb-true _ _ p.1 }
+
+idle-from : (shift : Option Shift) (idle empty rest : Bool) → idle ≡ (empty && not (is_some shift)) → (same idle (due_number shift == NEVER) && rest) ≡ true → is_some shift ≡ false → empty ≡ true
+idle-from None idle true rest e h n = refl
+idle-from None true false rest e h n = absurd (false≢true (sym e))
+idle-from None false false rest e h n = absurd (false≢true h)
+idle-from (Some shift) idle empty rest e h n = absurd (false≢true (sym n))
+
+timeout-from : (now : ℕ) (runs : Bool) (timeout : Option ℕ) → IsTold timeout → cond runs (not (moment_number timeout == NEVER) && nat_le (moment_number timeout) (now + longest_timeout)) (moment_number timeout == NEVER) ≡ true → IsTimeout now runs timeout
+timeout-from now true None t h = absurd (false≢true h)
+timeout-from now false None t h = refl
+timeout-from now true (Some moment) t h = record { runs_now = refl; in_time = leb-true _ _ (and_parts _ _ h).1 }
+timeout-from now false (Some moment) t h = absurd (let e = eqb-true moment NEVER h in omega arith)
+
+module _ (now : ℕ) (port : Port) (is : IsHeld port) (rules : Hold port.level now (saved 4 now port)) where
+  abbrev lsr : IsStatus (lsr_of port) (not (is_empty port.receiver.held)) port.receiver.overrun (is_empty port.transmitter.waiting) (is_empty port.transmitter.waiting && not (is_some port.transmitter.shift))
+  lsr = lsr-status port
+
+  registers : HasRegisters port.level port.divisor port.ier port.lcr port.mcr port.scr (is_some port.fifos)
+  unfolding registers_hold fcr_holds saved
+  registers =
+      let low = and_parts _ _ rules.registers in
+      let high = and_parts _ _ low.1 in
+      record {
+        is_level = is.is_level;
+        divisor_range = is.divisor_range;
+        ier_range = leb-true _ _ low.0;
+        lcr_range = is.lcr_range;
+        mcr_range = leb-true _ _ high.0;
+        scr_range = is.scr_range;
+        fifos = level-on port.level port.fifos _ rules.fcr;
+      }
+
+  timeout : IsTimeout now (nat_le 3 port.level && (is_some port.fifos && not (is_empty port.receiver.held))) port.receiver.timeout
+  unfolding timeout_holds saved
+  timeout =
+      timeout-from now (nat_le 3 port.level && (is_some port.fifos && not (is_empty port.receiver.held))) port.receiver.timeout is.timeout
+      (rw (unused-at 4 port.fifos port.receiver.held, runs-same port.fifos port.receiver.held) at rules.timeouts)
+
+  shift : IsShift now port.transmitter.shift
+  unfolding shift_holds saved
+  shift = shift-from now port.transmitter.shift (has (lsr_of port) 6) (is_empty port.transmitter.waiting) _ lsr.idle_bit is.shift rules.shifts
+
+  idle : is_some port.transmitter.shift ≡ false → is_empty port.transmitter.waiting ≡ true
+  unfolding shift_holds saved
+  idle = idle-from port.transmitter.shift (has (lsr_of port) 6) (is_empty port.transmitter.waiting) _ lsr.idle_bit rules.shifts
+
+  sound : IsSound now port
+  sound = record {
+    registers = registers;
+    receiver = record { short = is.held_short; bytes = is.held_bytes; timeout = timeout };
+    transmitter = record { short = is.waiting_short; bytes = is.waiting_bytes; shift = shift; idle = idle; latched = is.latched };
+  }
+
+pub sound_meets_rules : SoundMeetsRules
+sound_meets_rules now port early = (
+  λ s. let r = restored-saved 4 now port early s in (held now port early s, (r.0, r.1)),
+  λ h. sound now port h.0 (hold port.level now (saved 4 now port) h.1.0 h.1.1).0,
+)

@@ -1,0 +1,22 @@
+-- Which cells of the newest set are bytes.
+use Rattle.std.proofs.Common.{◌≡◌, ℕ, ◌+◌, ◌<◌, ◌≤◌, List, [], ◌∷◌, ◌++◌, ℤ, replicate, subst, arith}
+use Rattle.vms_kinds.specs.Codes.{InRange}
+use Rattle.vms_kinds.specs.declared.Kind.TheVariants.{U8, I8, Timer}
+use Rattle.dev_base.specs.Cells.{cell_at, kind_at, AreOf}
+use Rattle.dev_serial.specs.Cells.{field_kinds, kinds, AreBytesIn}
+use Rattle.dev_serial.proofs.StoredLemmas.{bytes_within}
+
+arrays : (k : ℕ) → 13 ≤ k → k < 47 → kind_at (kinds 4) k ≡ U8
+arrays k low high = bytes_within (field_kinds ++ U8 ∷ I8 ∷ []) (Timer ∷ replicate 36 U8) 34 k low high
+
+rings : (k : ℕ) → 48 ≤ k → k < 84 → kind_at (kinds 4) k ≡ U8
+rings k low high = bytes_within (field_kinds ++ U8 ∷ I8 ∷ replicate 34 U8 ++ Timer ∷ []) [] 36 k low high
+
+-- a run of bytes, within the arrays or the rings
+pub in_arrays : (cells : List ℤ) (place count : ℕ) → AreOf (kinds 4) cells → 13 ≤ place → place + count ≤ 47 → AreBytesIn cells place count
+in_arrays cells place count all low high k l h =
+    subst (λ kind. InRange kind (cell_at cells k)) (arrays k (omega arith) (omega arith)) (all.in_range k (omega arith))
+
+pub in_rings : (cells : List ℤ) (place count : ℕ) → AreOf (kinds 4) cells → 48 ≤ place → place + count ≤ 84 → AreBytesIn cells place count
+in_rings cells place count all low high k l h =
+    subst (λ kind. InRange kind (cell_at cells k)) (rings k (omega arith) (omega arith)) (all.in_range k (omega arith))

@@ -1,0 +1,113 @@
+-- The list that a counted array or a ring was made of comes back from it.
+use Rattle.std.proofs.Common.{◌≡◌, ℕ, zero, suc, ◌+◌, ◌-◌, ◌%◌, ◌<◌, ◌≤◌, ◌==◌, Bool, true, false, not, ◌&&◌, cond, List, [], ◌∷◌, length, map, refl, sym, ap, ◌∙◌, arith, ⊎_elim}
+use Rattle.std.proofs.Math.Nat.{min-eq_left, min-le_right}
+use Rattle.std.proofs.lemmas.Bool.{cases_lt, lt-ltb, le-leb, ne_eqb, eq-eqb, and_from, or_right}
+use Rattle.std.proofs.lemmas.List.{get_or_past}
+use Rattle.std.proofs.lemmas.List.FromFn.{length-map-range_with_len, get_or-map-range_with_len}
+use Rattle.std.specs.List.{range_with_len, list_all}
+use Rattle.std.specs.Prelude.{nat_lt, min}
+use Rattle.dev_serial.specs.Access.{is_empty}
+use Rattle.dev_serial.specs.Laws.{ListsComeBack, HoldsWhatItGives}
+use Rattle.dev_serial.specs.PortNumbers.{stored_bytes}
+use Rattle.dev_serial.specs.Rules.{is_unused}
+use Rattle.dev_serial.specs.Sound.{AreBytes}
+use Rattle.dev_serial.specs.Stored.{firsts, byte_of, padded, counted_of, counted_bytes, ring_of, ring_bytes, behind_head, is_held_or_zero, ring_holds}
+use Rattle.dev_serial.specs.declared.stored.Counted.{Counted}
+use Rattle.dev_serial.specs.declared.stored.Ring.{Ring}
+use Rattle.dev_serial.proofs.StoredLemmas.{all_set}
+
+-- the bytes of a list, by their places
+firsts-back : (f : ℕ → ℕ) (bytes : List ℕ) → ((i : ℕ) → i < length bytes → f i ≡ byte_of bytes i) → firsts (length bytes) f ≡ bytes
+firsts-back f bytes h = sym (all_set f bytes (length bytes) refl (λ i l. sym (h i l)))
+
+pub byte_of-padded : (bytes : List ℕ) (i : ℕ) → i < 16 → byte_of (padded bytes) i ≡ byte_of bytes i
+byte_of-padded bytes i l = get_or-map-range_with_len (byte_of bytes) 0 16 i i 0 l (omega arith)
+
+pub counted-back : (bytes : List ℕ) → length bytes ≤ 16 → counted_bytes (counted_of bytes) ≡ bytes
+counted-back bytes h = rw (min-eq_left h) (firsts-back (byte_of (padded bytes)) bytes (λ i l. byte_of-padded bytes i (omega arith)))
+
+round : (i : ℕ) → i < 16 → (0 + i) % 16 ≡ i
+round i l = omega arith
+
+-- the ring of a list gives the list again
+pub ring-back : (bytes : List ℕ) → length bytes ≤ 16 → ring_bytes (ring_of bytes) ≡ bytes
+ring-back bytes h =
+    rw (min-eq_left h) (firsts-back (λ i. byte_of (padded bytes) ((0 + i) % 16)) bytes (λ i l.
+    let within : i < 16 = omega arith in
+    ap (byte_of (padded bytes)) (round i within) ∙ byte_of-padded bytes i within))
+
+-- a test of a run of numbers
+all-range : (p : ℕ → Bool) (a n : ℕ) → ((k : ℕ) → a ≤ k → k < a + n → p k ≡ true) → list_all p (range_with_len a n) ≡ true
+all-range p a zero h = refl
+all-range p a (suc n) h = and_from _ _ (h a (omega arith) (omega arith)) (all-range p (a + 1) n (λ k l m. h k (omega arith) (omega arith)))
+
+back-round : (k : ℕ) → k < 16 → (k + 16 - 0) % 16 ≡ k
+back-round k l = omega arith
+
+held-or-zero : (bytes : List ℕ) (k : ℕ) → k < 16 → is_held_or_zero (ring_of bytes) k ≡ true
+held-or-zero bytes k l = rw (back-round k l, byte_of-padded bytes k l) (
+    ⊎_elim (λ held. rw (lt-ltb k (length bytes) held) refl) (λ past. or_right (nat_lt k (length bytes)) _ (eq-eqb _ _ (get_or_past bytes k 0 past))) (cases_lt k (length bytes)))
+
+pub ring_of-holds : (bytes : List ℕ) → length bytes ≤ 16 → ring_holds (ring_of bytes) ≡ true
+unfolding ring_holds
+ring_of-holds bytes h =
+    and_from _ _ (le-leb (length bytes) 16 h)
+    (and_from _ _ (or_right (not (length bytes == 0)) _ refl) (all-range (is_held_or_zero (ring_of bytes)) 0 16 (λ k low high. held-or-zero bytes k (omega arith))))
+
+-- whether there are any
+none : (n : ℕ) → (min n 16 == 0) ≡ (n == 0)
+none zero = refl
+none (suc n) = ne_eqb (min (suc n) 16) 0 (λ e. omega arith) ∙ sym (ne_eqb (suc n) 0 (λ e. omega arith))
+
+firsts-empty : (n : ℕ) (f : ℕ → ℕ) → is_empty (firsts (min n 16) f) ≡ (n == 0)
+firsts-empty n f = ap (λ (m : ℕ). m == 0) (length-map-range_with_len f 0 (min n 16)) ∙ none n
+
+pub stored-empty : (array : Counted) (ring : Ring) → is_empty (stored_bytes array ring) ≡ is_unused array ring
+stored-empty array ring = at (array.count == 0) (firsts-empty array.count (byte_of array.bytes)) where
+  at : (b : Bool) → is_empty (counted_bytes array) ≡ b → is_empty (cond b (ring_bytes ring) (counted_bytes array)) ≡ (b && (ring.number == 0))
+  at true e = firsts-empty ring.number (λ i. byte_of ring.elements ((ring.head + i) % 16))
+  at false e = e
+
+firsts-short : (n : ℕ) (f : ℕ → ℕ) → length (firsts (min n 16) f) ≤ 16
+firsts-short n f = rw (length-map-range_with_len f 0 (min n 16)) (min-le_right n 16)
+
+pub stored-short : (array : Counted) (ring : Ring) → length (stored_bytes array ring) ≤ 16
+stored-short array ring = at (array.count == 0) where
+  at : (b : Bool) → length (cond b (ring_bytes ring) (counted_bytes array)) ≤ 16
+  at true = firsts-short ring.number (λ i. byte_of ring.elements ((ring.head + i) % 16))
+  at false = firsts-short array.count (byte_of array.bytes)
+
+-- bytes
+pub byte_of-lt : (bytes : List ℕ) (i : ℕ) → AreBytes bytes → byte_of bytes i < 256
+byte_of-lt [] i b = omega arith
+byte_of-lt (byte ∷ bytes) zero b = b.0
+byte_of-lt (byte ∷ bytes) (suc i) b = byte_of-lt bytes i b.1
+
+pub firsts-bytes : (f : ℕ → ℕ) (a n : ℕ) → ((k : ℕ) → a ≤ k → k < a + n → f k < 256) → AreBytes (map f (range_with_len a n))
+firsts-bytes f a zero h = tt
+firsts-bytes f a (suc n) h = (h a (omega arith) (omega arith), firsts-bytes f (a + 1) n (λ k l m. h k (omega arith) (omega arith)))
+
+pub stored-bytes : (array : Counted) (ring : Ring) → AreBytes array.bytes → AreBytes ring.elements → AreBytes (stored_bytes array ring)
+stored-bytes array ring a r = at (array.count == 0) where
+  at : (b : Bool) → AreBytes (cond b (ring_bytes ring) (counted_bytes array))
+  at true = firsts-bytes (λ i. byte_of ring.elements ((ring.head + i) % 16)) 0 (min ring.number 16) (λ k l m. byte_of-lt ring.elements ((ring.head + k) % 16) r)
+  at false = firsts-bytes (byte_of array.bytes) 0 (min array.count 16) (λ k l m. byte_of-lt array.bytes k a)
+
+-- the elements that a ring holds are those at (head + i) modulo 16 for i below its number
+held-place : (head i : ℕ) → head ≤ 15 → i < 16 → ((head + i) % 16 + 16 - head) % 16 ≡ i
+held-place head i h l = omega arith
+
+place-held : (head place : ℕ) → head ≤ 15 → place < 16 → (head + (place + 16 - head) % 16) % 16 ≡ place
+place-held head place h l = omega arith
+
+pub holds_what_it_gives : HoldsWhatItGives
+holds_what_it_gives ring place h m l = (
+  λ held. (behind_head ring place, held, place-held ring.head place h l),
+  λ given.
+      let within : given.0 < 16 = (let few = given.1 in omega arith) in
+      let same : behind_head ring place ≡ given.0 = rw (← given.2) (held-place ring.head given.0 h within) in
+      rw same given.1,
+)
+
+pub lists_come_back : ListsComeBack
+lists_come_back bytes h = record { ring = ring-back bytes h; holds = ring_of-holds bytes h; array = counted-back bytes h }

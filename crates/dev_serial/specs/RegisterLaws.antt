@@ -1,0 +1,66 @@
+-- Laws of the identification and of the FIFO control register, in the data sheet's words.
+use Rattle.std.specs.Prelude.{◌≡◌, ℕ, ◌<◌, ◌↔◌, true, false, ◌&&◌, not, if◌then◌else◌, [], None, is_some}
+use Rattle.dev_serial.specs.Access.{is_empty, switch_of, fcr_written}
+use Rattle.dev_serial.specs.Bits.{has}
+use Rattle.dev_serial.specs.Port.{Port, asks, interrupt, is_pending, line_of}
+use Rattle.dev_serial.specs.declared.interrupt.Interrupt.{Interrupt}
+use Rattle.dev_serial.specs.declared.interrupt.Interrupt.TheVariants.{LineStatus, ReceivedData, CharacterTimeout, ThrEmpty, NonePending}
+
+-- the place of an interrupt in the order of priorities, the highest first
+abbrev pub rank : Interrupt → ℕ
+rank LineStatus = 0
+rank ReceivedData = 1
+rank CharacterTimeout = 2
+rank ThrEmpty = 3
+rank NonePending = 4
+
+-- an interrupt asks, and none of higher priority does
+pub record IsFirstAsking (now : ℕ) (port : Port) (identified : Interrupt) : Type 0 where
+  pub itself : asks now port identified ≡ true
+  pub higher : (other : Interrupt) → rank other < rank identified → asks now port other ≡ false
+
+-- the interrupt that is identified asks, and none of higher priority does
+abbrev pub IdentifiesFirst : Type 0
+IdentifiesFirst = (now : ℕ) (port : Port) → IsFirstAsking now port (interrupt now port)
+
+-- the interrupt line is high exactly where some interrupt asks
+abbrev pub SomeAsks : ℕ → Port → Type 0
+SomeAsks now port = (some : Interrupt) × (is_pending some ≡ true) × (asks now port some ≡ true)
+
+abbrev pub LineTellsAsking : Type 0
+LineTellsAsking = (now : ℕ) (port : Port) → (line_of now port ≡ true) ↔ SomeAsks now port
+
+-- both lists are empty, and no timeout runs
+pub record HasNoBytes (port : Port) : Type 0 where
+  pub held : port.receiver.held ≡ []
+  pub timeout : port.receiver.timeout ≡ None
+  pub waiting : port.transmitter.waiting ≡ []
+
+-- where bit 0 changes the switch, both lists are cleared
+abbrev pub SwitchClearsBoth : Type 0
+SwitchClearsBoth = (value : ℕ) (port : Port) → has value 0 ≡ not (is_some port.fifos) → HasNoBytes (fcr_written value port)
+
+-- while FIFOs stay on bit 1 clears the receive list, and its timeout, and bit 2 the transmit list
+pub record IsResetBy (value : ℕ) (before after : Port) : Type 0 where
+  pub held : after.receiver.held ≡ (if has value 1 then [] else before.receiver.held)
+  pub timeout : after.receiver.timeout ≡ (if has value 1 then None else before.receiver.timeout)
+  pub waiting : after.transmitter.waiting ≡ (if has value 2 then [] else before.transmitter.waiting)
+
+abbrev pub ResetsByBits : Type 0
+ResetsByBits =
+    (value : ℕ) (port : Port) → is_some port.fifos ≡ true → has value 0 ≡ true → IsResetBy value port (fcr_written value port)
+
+-- while FIFOs stay off a write changes nothing
+abbrev pub StaysOff : Type 0
+StaysOff = (value : ℕ) (port : Port) → port.fifos ≡ None → has value 0 ≡ false → fcr_written value port ≡ port
+
+-- a write sets the switch and the trigger, and the latch where it clears bytes that waited. The shift
+-- register and the overrun flag stay
+pub record IsSwitched (value : ℕ) (before after : Port) : Type 0 where
+  pub fifos : after.fifos ≡ switch_of value
+  pub shift : after.transmitter.shift ≡ before.transmitter.shift
+  pub overrun : after.receiver.overrun ≡ before.receiver.overrun
+  pub latch : after.thr_empty ≡ (if not (is_empty before.transmitter.waiting) && is_empty after.transmitter.waiting then true else before.thr_empty)
+
+abbrev pub WritesSwitch : Type 0
+WritesSwitch = (value : ℕ) (port : Port) → IsSwitched value port (fcr_written value port)

@@ -1,0 +1,218 @@
+// A port as the numbers of a stream.
+ghost use Rattle.std.specs.Prelude.{◌≡◌, ◌≤◌, ◌+◌, ◌++◌, if◌then◌else◌, [], length};
+ghost use Rattle.dev_base.specs.Tables.{since};
+ghost use Rattle.dev_serial.specs.Port.{is_thr_empty};
+ghost use Rattle.dev_serial.specs.PortNumbers.{single_byte as single_byte_of, fcr_number, ipending_of, fifo_bytes as fifo_bytes_of, due_number, shift_number, moment_number};
+
+use crate::interrupt::Interrupt;
+use crate::levels::{FIFOS_SINCE, RINGS_SINCE, TIMEOUT_SINCE};
+use crate::place;
+use crate::registers::{ETBEI, has};
+use crate::serial::Serial;
+use crate::shift::Shift;
+use crate::stored::{Counted, Ring};
+use crate::trigger::Trigger;
+use arrayvec::ArrayVec;
+use dev_base::{append, byte_at, moment_at, signed_at, word_at};
+use vms_kinds::DevCells;
+
+/// The number of a timer that isn't pending, 2^64 - 1.
+pub(crate) const NEVER: u64 = 18_446_744_073_709_551_615;
+
+/// A port as the numbers of the newest set, by their names in its description: the registers, `tsr` and
+/// `tx_due` of the shift register, `thr_ipending` of the latch, the FIFOs as counted arrays and as rings,
+/// of which at most one is used, and `timeout_at` of the character timeout.
+#[derive(Clone, Copy)]
+pub(crate) struct PortNumbers {
+    pub divisor: u16,
+    pub ier: u8,
+    pub iir: u8,
+    pub lcr: u8,
+    pub mcr: u8,
+    pub lsr: u8,
+    pub scr: u8,
+    pub rbr: u8,
+    pub thr: u8,
+    pub tsr: u8,
+    pub tx_due: u64,
+    pub fcr: u8,
+    pub thr_ipending: i8,
+    pub rx: Counted,
+    pub tx: Counted,
+    pub timeout_at: u64,
+    pub rx_ring: Ring,
+    pub tx_ring: Ring,
+}
+
+impl PortNumbers {
+    ghost use Rattle.dev_serial.specs.PortNumbers.{saved};
+    ghost use Rattle.dev_serial.specs.Cells.{IsPortCells, field_cells, cells_of, numbers_of};
+
+    /// What a set saves of a port at a moment.
+    #[tactic(auto, unfolding(crate::specs::PortNumbers::saved))]
+    pub fn of_port(port: &Serial, set: u8, now: u64) -> PortNumbers
+        ensures { result ≡ saved set now port.now }
+    {
+        let interrupt = port.interrupt(now);
+        let held = port.receiver.held().as_slice();
+        let waiting = port.transmitter.waiting().as_slice();
+        let has_rings = set >= RINGS_SINCE;
+        let (tsr, tx_due) = shift_numbers(port.transmitter.shift());
+        PortNumbers {
+            divisor: port.divisor,
+            ier: port.ier,
+            iir: interrupt.number(),
+            lcr: port.lcr,
+            mcr: port.mcr,
+            lsr: port.line_status(),
+            scr: port.scr,
+            rbr: single_byte(port.fifos, held),
+            thr: single_byte(port.fifos, waiting),
+            tsr,
+            tx_due,
+            fcr: fifo_control(port.fifos),
+            thr_ipending: latch_number(has(port.ier, ETBEI), port.thr_empty, interrupt),
+            rx: Counted::of(fifo_bytes(!has_rings, port.fifos, held)),
+            tx: Counted::of(fifo_bytes(!has_rings, port.fifos, waiting)),
+            timeout_at: port.receiver.timeout().unwrap_or(NEVER),
+            rx_ring: Ring::of(fifo_bytes(has_rings, port.fifos, held)),
+            tx_ring: Ring::of(fifo_bytes(has_rings, port.fifos, waiting)),
+        }
+    }
+
+    /// The cells of a set, in the order of its description: the fields, and then those of each subsection
+    /// that the set has.
+    #[tactic(auto, unfolding(crate::specs::Cells::cells_of))]
+    pub fn cells(&self, set: u8) -> DevCells
+        ensures cells { result.items ≡ cells_of set self.now }
+        ensures count { length result.items ≤ 84 }
+    {
+        let mut cells = self.field_cells();
+        append_since(&mut cells, FIFOS_SINCE, set, &[i128::from(self.fcr)]);
+        append(&mut cells, &[i128::from(self.thr_ipending)]);
+        append_since(&mut cells, FIFOS_SINCE, set, &self.rx.cells());
+        append_since(&mut cells, FIFOS_SINCE, set, &self.tx.cells());
+        append_since(
+            &mut cells,
+            TIMEOUT_SINCE,
+            set,
+            &[i128::from(self.timeout_at)],
+        );
+        append_since(&mut cells, RINGS_SINCE, set, &self.rx_ring.cells());
+        append_since(&mut cells, RINGS_SINCE, set, &self.tx_ring.cells());
+        cells
+    }
+
+    // The fields that every set has.
+    #[tactic(auto, unfolding(crate::specs::Cells::field_cells))]
+    fn field_cells(&self) -> DevCells
+        ensures items { result.items ≡ field_cells self.now }
+        ensures count { length result.items ≡ 11 }
+    {
+        let mut cells = ArrayVec::new();
+        cells.push(i128::from(self.divisor));
+        cells.push(i128::from(self.ier));
+        cells.push(i128::from(self.iir));
+        cells.push(i128::from(self.lcr));
+        cells.push(i128::from(self.mcr));
+        cells.push(i128::from(self.lsr));
+        cells.push(i128::from(self.scr));
+        cells.push(i128::from(self.rbr));
+        cells.push(i128::from(self.thr));
+        cells.push(i128::from(self.tsr));
+        cells.push(i128::from(self.tx_due));
+        cells
+    }
+
+    /// The numbers of the newest set's cells.
+    #[tactic(auto, unfolding(crate::specs::Cells::numbers_of))]
+    pub fn of_cells(cells: &DevCells) -> PortNumbers
+        requires { IsPortCells cells.now.items }
+        ensures { result ≡ numbers_of cells.now.items }
+    {
+        PortNumbers {
+            divisor: word_at(cells, place::DIVISOR),
+            ier: byte_at(cells, place::IER),
+            iir: byte_at(cells, place::IIR),
+            lcr: byte_at(cells, place::LCR),
+            mcr: byte_at(cells, place::MCR),
+            lsr: byte_at(cells, place::LSR),
+            scr: byte_at(cells, place::SCR),
+            rbr: byte_at(cells, place::RBR),
+            thr: byte_at(cells, place::THR),
+            tsr: byte_at(cells, place::TSR),
+            tx_due: moment_at(cells, place::TX_DUE),
+            fcr: byte_at(cells, place::FCR),
+            thr_ipending: signed_at(cells, place::THR_IPENDING),
+            rx: Counted::at(cells, place::RX_COUNT),
+            tx: Counted::at(cells, place::TX_COUNT),
+            timeout_at: moment_at(cells, place::TIMEOUT_AT),
+            rx_ring: Ring::at(cells, place::RX_RING),
+            tx_ring: Ring::at(cells, place::TX_RING),
+        }
+    }
+}
+
+// Appends cells that a set has from the first one on.
+fn append_since(cells: &mut DevCells, first: u8, set: u8, more: &[i128])
+    requires room { length cells.old.items + length more.now ≤ 96 }
+    ensures items { cells.new.items ≡ cells.old.items ++ since first set more.now }
+    ensures most { length cells.new.items ≤ length cells.old.items + length more.now }
+{
+    if set >= first {
+        append(cells, more);
+    }
+}
+
+// The byte held while FIFOs are off, 0 where there is none.
+fn single_byte(fifos: Option<Trigger>, bytes: &[u8]) -> u8
+    ensures { result ≡ single_byte_of fifos bytes.now }
+{
+    if fifos.is_none() && !bytes.is_empty() {
+        bytes[0]
+    } else {
+        0
+    }
+}
+
+// The bytes of a FIFO that is on, where they are wanted, else none.
+fn fifo_bytes(wanted: bool, fifos: Option<Trigger>, bytes: &[u8]) -> &[u8]
+    ensures { result.now ≡ (if wanted then fifo_bytes_of fifos bytes.now else []) }
+{
+    if wanted && fifos.is_some() {
+        bytes
+    } else {
+        &[]
+    }
+}
+
+// The byte of the shift register and when it is sent, 0 and never where it is idle.
+fn shift_numbers(shift: Option<Shift>) -> (u8, u64)
+    ensures { result ≡ (shift_number shift, due_number shift) }
+{
+    match shift {
+        Some(shift) => (shift.byte, shift.due),
+        None => (0, NEVER),
+    }
+}
+
+// The FIFO Control Register: 0 while FIFOs are off, else bit 0 with the trigger in bits 7 and 6.
+fn fifo_control(fifos: Option<Trigger>) -> u8
+    ensures { result ≡ fcr_number fifos }
+{
+    match fifos {
+        None => 0,
+        Some(trigger) => 1 + 64 * trigger.bits(),
+    }
+}
+
+// The latch: 1 where it is set and enabled and another interrupt hides it, else -1.
+fn latch_number(is_enabled: bool, is_set: bool, interrupt: Interrupt) -> i8
+    ensures { result ≡ ipending_of is_enabled is_set (is_thr_empty interrupt) }
+{
+    if is_enabled && is_set && !interrupt.is_thr_empty() {
+        1
+    } else {
+        -1
+    }
+}

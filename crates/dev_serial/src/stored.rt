@@ -1,0 +1,206 @@
+// The FIFOs in a stream.
+ghost use Rattle.std.specs.Prelude.{◌≡◌, ◌+◌, ◌<◌, ◌≤◌, length};
+ghost use Rattle.std.specs.List.{range_with_len, list_all};
+ghost use Rattle.dev_serial.specs.Stored.{byte_of, padded as padded_of, is_held_or_zero as is_held_or_zero_of};
+ghost use Rattle.dev_serial.specs.Cells.{AreBytesIn, bytes_at as bytes_at_of};
+
+use arrayvec::ArrayVec;
+use dev_base::byte_at;
+use vms_kinds::DevCells;
+
+/// A list of bytes as a counted array: how many there are, and sixteen bytes that begin with them.
+#[derive(Clone, Copy)]
+pub(crate) struct Counted {
+    pub count: u8,
+    pub bytes: [u8; 16],
+}
+
+impl Counted {
+    ghost use Rattle.dev_serial.specs.Stored.{counted_of, counted_bytes};
+    ghost use Rattle.dev_serial.specs.Cells.{array_cells, array_at};
+
+    /// The array of at most sixteen bytes, with zeros behind them.
+    pub fn of(bytes: &[u8]) -> Counted
+        requires { length bytes.now ≤ 16 }
+        ensures { result ≡ counted_of bytes.now }
+    {
+        Counted {
+            count: bytes.len() as u8,
+            bytes: padded(bytes),
+        }
+    }
+
+    /// The bytes that it holds.
+    pub fn list(&self) -> ArrayVec<u8, 16>
+        ensures items { result.items ≡ counted_bytes self.now }
+        ensures few { length result.items ≤ 16 }
+    {
+        let mut list = ArrayVec::new();
+        for i in 0..usize::from(self.count.min(16)) {
+            list.push(self.bytes[i]);
+        }
+        list
+    }
+
+    /// Its cells: the count, and then the sixteen bytes.
+    #[tactic(auto, unfolding(crate::specs::Cells::array_cells))]
+    pub fn cells(&self) -> ArrayVec<i128, 17>
+        ensures items { result.items ≡ array_cells self.now }
+        ensures count { length result.items ≡ 17 }
+    {
+        let mut cells = ArrayVec::new();
+        cells.push(i128::from(self.count));
+        for byte in &self.bytes {
+            cells.push(i128::from(*byte));
+        }
+        cells
+    }
+
+    /// The array whose count is the cell at a place.
+    pub fn at(cells: &DevCells, place: usize) -> Counted
+        requires small { place < 96 }
+        requires within { place + 17 ≤ length cells.now.items }
+        requires in_range { AreBytesIn cells.now.items place 17 }
+        ensures { result ≡ array_at cells.now.items place }
+    {
+        Counted {
+            count: byte_at(cells, place),
+            bytes: bytes_at(cells, place + 1),
+        }
+    }
+}
+
+/// A list of bytes as a ring: the list begins at `head` and goes on round the sixteen elements.
+#[derive(Clone, Copy)]
+pub(crate) struct Ring {
+    pub elements: [u8; 16],
+    pub head: u8,
+    pub number: u8,
+}
+
+impl Ring {
+    ghost use Rattle.dev_serial.specs.Stored.{ring_of, ring_bytes, ring_holds};
+    ghost use Rattle.dev_serial.specs.Cells.{ring_cells, ring_at};
+
+    /// The ring of at most sixteen bytes, from element 0 on.
+    pub fn of(bytes: &[u8]) -> Ring
+        requires { length bytes.now ≤ 16 }
+        ensures { result ≡ ring_of bytes.now }
+    {
+        Ring {
+            elements: padded(bytes),
+            head: 0,
+            number: bytes.len() as u8,
+        }
+    }
+
+    /// The bytes that it holds, the first at `head`. A ring that breaks its rule holds bytes too.
+    pub fn list(&self) -> ArrayVec<u8, 16>
+        ensures items { result.items ≡ ring_bytes self.now }
+        ensures few { length result.items ≤ 16 }
+    {
+        let mut list = ArrayVec::new();
+        for i in 0..usize::from(self.number.min(16)) {
+            list.push(self.elements[(self.head as usize + i) % 16]);
+        }
+        list
+    }
+
+    /// Whether the head and the number are a ring's, and the elements outside of the bytes held are 0.
+    #[tactic(auto, unfolding(crate::specs::Stored::ring_holds))]
+    pub fn holds(&self) -> bool
+        ensures { result ≡ ring_holds self.now }
+    {
+        self.head <= 15
+            && self.number <= 16
+            && (self.number != 0 || self.head == 0)
+            && self.is_zero_outside()
+    }
+
+    // Whether each element outside of the bytes held is 0.
+    fn is_zero_outside(&self) -> bool
+        requires { self.now.head ≤ 15 }
+        ensures { result ≡ list_all (is_held_or_zero_of self.now) (range_with_len 0 16) }
+    {
+        for place in 0..16 {
+            if !self.is_held_or_zero(place) {
+                return false;
+            }
+        }
+        true
+    }
+
+    // Whether an element is one of the bytes held, or 0.
+    fn is_held_or_zero(&self, place: usize) -> bool
+        requires head { self.now.head ≤ 15 }
+        requires place { place < 16 }
+        ensures { result ≡ is_held_or_zero_of self.now place }
+    {
+        let behind_head = (place + 16 - self.head as usize) % 16;
+        behind_head < self.number as usize || self.elements[place] == 0
+    }
+
+    /// Its cells: the sixteen elements, the head and the number.
+    #[tactic(auto, unfolding(crate::specs::Cells::ring_cells))]
+    pub fn cells(&self) -> ArrayVec<i128, 18>
+        ensures items { result.items ≡ ring_cells self.now }
+        ensures count { length result.items ≡ 18 }
+    {
+        let mut cells = ArrayVec::new();
+        for byte in &self.elements {
+            cells.push(i128::from(*byte));
+        }
+        cells.push(i128::from(self.head));
+        cells.push(i128::from(self.number));
+        cells
+    }
+
+    /// The ring whose first element is the cell at a place.
+    pub fn at(cells: &DevCells, place: usize) -> Ring
+        requires small { place < 96 }
+        requires within { place + 18 ≤ length cells.now.items }
+        requires in_range { AreBytesIn cells.now.items place 18 }
+        ensures { result ≡ ring_at cells.now.items place }
+    {
+        Ring {
+            elements: bytes_at(cells, place),
+            head: byte_at(cells, place + 16),
+            number: byte_at(cells, place + 17),
+        }
+    }
+}
+
+// Sixteen bytes: those given, and then zeros.
+fn padded(bytes: &[u8]) -> [u8; 16]
+    ensures { result ≡ padded_of bytes.now }
+{
+    let mut sixteen = [0; 16];
+    for place in 0..16 {
+        sixteen[place] = byte_or_zero(bytes, place);
+    }
+    sixteen
+}
+
+// The byte at a place, 0 behind the last.
+fn byte_or_zero(bytes: &[u8], place: usize) -> u8
+    ensures { result ≡ byte_of bytes.now place }
+{
+    match bytes.get(place) {
+        Some(byte) => *byte,
+        None => 0,
+    }
+}
+
+// Sixteen bytes of cells from a place on.
+fn bytes_at(cells: &DevCells, place: usize) -> [u8; 16]
+    requires small { place ≤ 96 }
+    requires within { place + 16 ≤ length cells.now.items }
+    requires in_range { AreBytesIn cells.now.items place 16 }
+    ensures { result ≡ bytes_at_of cells.now.items place }
+{
+    let mut bytes = [0; 16];
+    for i in 0..16 {
+        bytes[i] = byte_at(cells, place + i);
+    }
+    bytes
+}

@@ -1,0 +1,204 @@
+-- Each call has one outcome, and what can be done is done.
+use Rattle.std.proofs.Common.{◌≡◌, ℕ, zero, suc, ◌+◌, ◌<◌, ◌≤◌, ◌⊎◌, Bool, true, false, nat_lt, List, [], ◌∷◌, length, length-append, take, Option, Some, None, IsSomeAnd, refl, sym, ap, ◌∙◌, subst, arith, inl, inr}
+use Rattle.std.proofs.lemmas.Bool.Decides.{nat_tests}
+use Rattle.std.proofs.lemmas.List.{length-take}
+use Rattle.std.specs.Io.KnownBytes.{Appends}
+use Rattle.vms_io.specs.Causes.{Rose, AppendsPrefix, KeepsPromise}
+use Rattle.vms_io.specs.Shelves.{Held}
+use Rattle.vms_io.specs.Told.{Outlet}
+use Rattle.vms_spec.specs.Numbers.{IsBytes}
+use Rattle.vms_spec.specs.Shipped.{set_0}
+use Rattle.vms_spec.specs.Streams.{written}
+use Rattle.vms_spec.specs.Values.{values_text}
+use Rattle.vms_spec.specs.ValuesReading.{ValuesRead, Values, Bad, values_read}
+use Rattle.vms_laws.specs.Laws.{Answer, Taken, Faulty}
+use Rattle.vms_laws.proofs.Stated.{shipped_holds, either_holds}
+use Rattle.vms_cli.specs.Answers.{HasOutcome, Answers, DoesOrStops}
+use Rattle.vms_cli.specs.Commands.{Asked, Show, Pack, asked_of}
+use Rattle.vms_cli.specs.Lines.{bad_words, read_fault, write_fault, shelf_fault, out_of_memory, values_line, not_there_line, too_large_line, refused_line}
+use Rattle.vms_cli.specs.Outcomes.{Part, Outcome, done, ended, text_of, text_begun, Outside, HasPart, ReadFault, OutFault, NotesFault, ShelfFault, WantsMemory}
+use Rattle.vms_cli.specs.Pack.{Packs, Missing, Large, Read, PacksText, Stream, BadText, longest_values}
+use Rattle.vms_cli.specs.Show.{Values as Printed, Refuses}
+use Rattle.vms_cli.specs.Laws.{HasOneOutcome, OutcomeLaw, CanBeDone, HasRoom, IsAmple, PromisesKept, CompleteLaw}
+use Rattle.vms_cli.proofs.ShowLemmas.{shown_is, refused_is}
+
+-- ---- the outcome of `pack`
+
+-- more than the limit
+abbrev StopsAt : ℕ → Outside → Outside → Outcome → Type 0
+StopsAt status old new o =
+    ReadFault status old new ⊎ OutFault status old new ⊎ (NotesFault status old new × HasPart o.note old.notes.written new.notes.written)
+    ⊎ ShelfFault status old new ⊎ WantsMemory status old new
+
+abbrev IsLong : Option (List ℕ) → Type 0
+IsLong None = ⊥
+IsLong (Some text) = longest_values < length text
+
+same_some : {X : Type 0} (x y : X) → Some x ≡ Some y → x ≡ y
+same_some x y e = cc
+
+-- the text that is held under the name
+fetched_under : (name text : List ℕ) (under : Option (List ℕ)) (held : Option Held) (x : Outcome) → under ≡ Some text → length text ≤ longest_values
+    → Packs set_0 name under held x → PacksText set_0 text held x
+fetched_under name text under held x is fits (Missing e) = absurd (none_some text (sym e ∙ is))
+  where
+    none_some : (t : List ℕ) → None ≡ Some t → ⊥
+    none_some t e = cc
+fetched_under name text under held x is fits (Large other e long) =
+    absurd (omega (arith, fits, subst (λ (t : List ℕ). longest_values < length t) (same_some other text (sym e ∙ is)) long))
+fetched_under name text under held x is fits (Read other o e short p) = subst (λ (t : List ℕ). PacksText set_0 t held o) (same_some other text (sym e ∙ is)) p
+
+not_there_under : (name : List ℕ) (under : Option (List ℕ)) (held : Option Held) (x : Outcome) → under ≡ None → Packs set_0 name under held x → x ≡ ended 8 (not_there_line name) 0
+not_there_under name under held x is (Missing e) = refl
+not_there_under name under held x is (Large text e long) = absurd (some_none text (sym e ∙ is))
+  where
+    some_none : (t : List ℕ) → Some t ≡ None → ⊥
+    some_none t e = cc
+not_there_under name under held x is (Read text o e short p) = absurd (some_none text (sym e ∙ is))
+  where
+    some_none : (t : List ℕ) → Some t ≡ None → ⊥
+    some_none t e = cc
+
+too_large_under : (name : List ℕ) (under : Option (List ℕ)) (held : Option Held) (x : Outcome) → IsLong under → Packs set_0 name under held x
+    → x ≡ ended 9 (too_large_line name) 0
+too_large_under name None held x refused (Missing e) = absurd refused
+too_large_under name (Some bytes) held x refused (Missing e) = absurd (some_none bytes e)
+  where
+    some_none : (t : List ℕ) → Some t ≡ None → ⊥
+    some_none t e = cc
+too_large_under name under held x refused (Large text e long) = refl
+too_large_under name None held x refused (Read text o e short p) = absurd refused
+too_large_under name (Some bytes) held x refused (Read text o e short p) =
+    absurd (omega (arith, short, subst (λ (t : List ℕ). longest_values < length t) (same_some bytes text e) refused))
+
+-- the outcome of a text that was read
+abbrev packed_of : Option Held → ValuesRead → Outcome
+packed_of held (Values machine images) = done (written set_0 machine images None) held 0
+packed_of held (Bad line reason) = ended 3 (values_line line reason) 0
+
+text_is : (text : List ℕ) (held : Option Held) (x : Outcome) → PacksText set_0 text held x → x ≡ packed_of held (values_read set_0 text)
+text_is text held x (Stream machine images e) = ap (packed_of held) (sym e)
+text_is text held x (BadText line reason e) = ap (packed_of held) (sym e)
+
+text_has : (text : List ℕ) (held : Option Held) (r : ValuesRead) → values_read set_0 text ≡ r → PacksText set_0 text held (packed_of held r)
+text_has text held (Values machine images) e = Stream machine images e
+text_has text held (Bad line reason) e = BadText line reason e
+
+record OnePacked (name : List ℕ) (under : Option (List ℕ)) (held : Option Held) : Type 0 where
+  outcome : Outcome
+  is : Packs set_0 name under held outcome
+  only : (other : Outcome) → Packs set_0 name under held other → other ≡ outcome
+
+one_fetched : (name text : List ℕ) (held : Option Held) (b : Bool) → nat_lt longest_values (length text) ≡ b → OnePacked name (Some text) held
+one_fetched name text held true e =
+    let long : longest_values < length text = grind (arith, nat_tests, e) in
+    record { outcome = ended 9 (too_large_line name) 0; is = Large text refl long; only = λ other p. too_large_under name (Some text) held other long p }
+one_fetched name text held false e =
+    let short : length text ≤ longest_values = grind (arith, nat_tests, e) in
+    let outcome = packed_of held (values_read set_0 text) in
+    record {
+      outcome = outcome;
+      is = Read text outcome refl short (text_has text held (values_read set_0 text) refl);
+      only = λ other p. text_is text held other (fetched_under name text (Some text) held other refl short p);
+    }
+
+one_packed : (name : List ℕ) (under : Option (List ℕ)) (held : Option Held) → OnePacked name under held
+one_packed name None held =
+    record { outcome = ended 8 (not_there_line name) 0; is = Missing refl; only = λ other p. not_there_under name None held other refl p }
+one_packed name (Some text) held = one_fetched name text held (nat_lt longest_values (length text)) refl
+
+-- ---- that of `show`
+
+one_shown : (input : List ℕ) (held : Held) → IsBytes input → Answer set_0 set_0.machines input → HasOneOutcome (Some Show) input held
+one_shown input held ok (Taken n machine images takes) = record {
+  outcome = done (values_text set_0 machine images) (Some held) n;
+  is = Printed n machine images takes;
+  only = λ other shows. shown_is input (Some held) n machine images other ok takes shows;
+}
+one_shown input held ok (Faulty place section reason size fault) = record {
+  outcome = ended 1 (refused_line set_0 place section reason) (place + size);
+  is = Refuses place section reason size fault;
+  only = λ other shows. refused_is input (Some held) place section reason size other ok fault shows;
+}
+
+pub outcome_holds : OutcomeLaw
+outcome_holds None input held ok = record { outcome = ended 2 bad_words 0; is = refl; only = λ other e. e }
+outcome_holds (Some Show) input held ok = one_shown input held ok (either_holds set_0 set_0.machines shipped_holds.0 input ok)
+outcome_holds (Some (Pack name)) input held ok =
+    let one = one_packed name (held name) (Some held) in
+    record { outcome = one.outcome; is = one.is; only = one.only }
+
+-- ---- completeness
+
+-- what can be done has an outcome of status 0
+record IsDone (asked : Option Asked) (input : Option (List ℕ)) (held : Option Held) : Type 0 where
+  outcome : Outcome
+  is : HasOutcome asked input held outcome
+  status : outcome.status ≡ 0
+  note : outcome.note ≡ []
+
+can_be : (asked : Option Asked) (input : Option (List ℕ)) (held : Option Held) → CanBeDone asked input held → IsDone asked input held
+can_be None input held can = absurd can
+can_be (Some Show) None held can = absurd can
+can_be (Some Show) (Some bytes) held can =
+    record { outcome = done (values_text set_0 can.1 can.2) held can.0; is = Printed can.0 can.1 can.2 can.3; status = refl; note = refl }
+can_be (Some (Pack name)) input None can = absurd can
+can_be (Some (Pack name)) input (Some map) can =
+    let outcome = done (written set_0 can.1 can.2 None) (Some map) 0 in
+    record { outcome = outcome; is = Read can.0 outcome can.3 can.4 (Stream can.1 can.2 can.5); status = refl; note = refl }
+
+-- no more bytes than there are
+begun_short : (parts : List Part) (k n : ℕ) → length (text_begun parts k n) ≤ length (text_of parts)
+begun_short parts zero n = omega arith
+begun_short [] (suc k) n = omega arith
+begun_short (part ∷ parts) (suc zero) n = omega (arith, length-take n part.text, length-append part.text (text_of parts))
+begun_short (part ∷ parts) (suc (suc k)) n =
+    omega (arith, begun_short parts (suc k) n, length-append part.text (text_begun parts (suc k) n), length-append part.text (text_of parts))
+
+-- a sink with room for what was written has no fault
+room_kept : (p p' : Option ℕ) (w w' : Option (List ℕ)) (faults n : ℕ) (text : List ℕ) → IsSomeAnd p (λ room. IsSomeAnd w (λ old. length old + n < room)) → length text ≤ n
+    → Appends w w' text → p' ≡ p → KeepsPromise p' w' faults → faults ≡ 0
+room_kept None p' w w' faults n text room short appends same keeps = absurd room
+room_kept (Some most) p' None w' faults n text room short appends same keeps = absurd room
+room_kept (Some most) p' (Some old) None faults n text room short appends same keeps = absurd appends
+room_kept (Some most) p' (Some old) (Some new) faults n text room short appends same keeps =
+    subst (λ (p : Option ℕ). KeepsPromise p (Some new) faults) same keeps (omega (arith, room, short, ap length appends, length-append old text))
+
+never_rose : (before now : ℕ) → now ≡ 0 → Rose before now → ⊥
+never_rose before now none rose = omega (arith, none, rose)
+
+-- a line of at most 14 bytes
+line_short : (line : List ℕ) (n : ℕ) → length line ≤ 14 → length (take n line) ≤ 14
+line_short line n short = omega (arith, short, length-take n line)
+
+note_room : (line : List ℕ) (old new : Outlet) → length line ≤ 14 → HasRoom old 14 → AppendsPrefix old.written new.written line → new.promise ≡ old.promise
+    → KeepsPromise new.promise new.written new.faults → new.faults ≡ 0
+note_room line old new short room part same keeps =
+    room_kept old.promise new.promise old.written new.written new.faults 14 (take part.0 line) room (line_short line part.0 short) part.2 same keeps
+
+part_room : (note : List ℕ) (old new : Outlet) → note ≡ [] → HasRoom old 14 → HasPart note old.written new.written → new.promise ≡ old.promise
+    → KeepsPromise new.promise new.written new.faults → new.faults ≡ 0
+part_room note old new none room (inl part) same keeps = note_room note old new (omega (arith, ap length none)) room part same keeps
+part_room note old new none room (inr (inl part)) same keeps = note_room read_fault old new (omega arith) room part same keeps
+part_room note old new none room (inr (inr (inl part))) same keeps = note_room write_fault old new (omega arith) room part same keeps
+part_room note old new none room (inr (inr (inr (inl part)))) same keeps = note_room shelf_fault old new (omega arith) room part same keeps
+part_room note old new none room (inr (inr (inr (inr part)))) same keeps = note_room out_of_memory old new (omega arith) room part same keeps
+
+comes : (words : List (List ℕ)) (status : ℕ) (old new : Outside) (o : Outcome) → o.status ≡ 0 → o.note ≡ [] → IsAmple old o → PromisesKept new → Answers words status old new
+    → DoesOrStops status old new o → (status ≡ 0) ⊎ (status ≡ 10)
+comes words status old new o done_so none ample kept a (inl does) = inl (does.same ∙ done_so)
+comes words status old new o done_so none ample kept a (inr stops) = by stops.why
+  where
+    by : StopsAt status old new o → (status ≡ 0) ⊎ (status ≡ 10)
+    by (inl read) = absurd (never_rose _ _ (kept.input (a.promises.input ∙ ample.input)) read.1)
+    by (inr (inl write)) =
+        absurd (never_rose _ _ (room_kept old.out.promise new.out.promise old.out.written new.out.written new.out.faults (length (text_of o.parts)) (text_begun o.parts stops.come.begun stops.come.bytes)
+        ample.out (begun_short o.parts stops.come.begun stops.come.bytes) stops.come.text a.promises.out kept.out) write.1)
+    by (inr (inr (inl notes))) = absurd (never_rose _ _ (part_room o.note old.notes new.notes none ample.notes notes.1 a.promises.notes kept.notes) notes.0.1)
+    by (inr (inr (inr (inl shelf)))) = absurd (never_rose _ _ (kept.shelf (a.promises.shelf ∙ ample.shelf)) shelf.1)
+    by (inr (inr (inr (inr memory)))) = inr memory.0
+
+pub complete_holds : CompleteLaw
+complete_holds words status old new can ample kept a =
+    let d = can_be (asked_of words) old.input.left old.shelf.held can in
+    comes words status old new d.outcome d.status d.note (ample d.outcome d.is) kept a (a.outcome d.outcome d.is)

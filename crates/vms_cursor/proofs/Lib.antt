@@ -1,0 +1,4 @@
+pub mod FillLemmas
+pub mod UnitLemmas
+pub mod HeadLemmas
+pub mod Calls

@@ -1,0 +1,4 @@
+pub mod Stands
+pub mod Found
+pub mod Answers
+pub mod Calls

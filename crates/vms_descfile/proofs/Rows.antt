@@ -1,0 +1,177 @@
+-- What worked files say.
+use Rattle.std.proofs.Common.{◌≡◌, List, ℕ, codes, refl}
+use Rattle.std.specs.Fmt.{digits}
+use Rattle.std.specs.Str.{is_utf8, chars}
+use Rattle.serde_json.proofs.OnLiterals.{serde_json_on_literals}
+use Rattle.vms_spec.specs.declared.Part.TheVariants as parts
+use Rattle.vms_spec.specs.WellFormed.{here, first_fault}
+use Rattle.vms_spec.proofs.Boxes.{counted_set, tested_set}
+use Rattle.vms_descfile.specs.Files.{Said, Parts, Syntax, Shape, IllFormed, file_said, parts_of}
+
+unfoldable said : List ℕ → Said
+unfolding serde_json_on_literals digits chars is_utf8 first_fault parts_of file_said
+said text = file_said text
+
+-- The box of the worked rows.
+
+says_a_counted_array :
+    said (codes "{\"devices\":[{\"desc\":{\"fields\":[{\"kind\":\"u8\",\"name\":\"n\"},{\"capacity\":2,\"counted\":\"n\",\"kind\":\"u16\",\"name\":\"v\"}],\"name\":\"box\",\"version\":1},\"instance\":0}],\"machines\":[\"lab\"],\"structs\":[]}")
+    ≡ Parts counted_set
+unfolding said
+says_a_counted_array = refl
+
+says_tests_and_validations :
+    said (codes "{\"devices\":[{\"desc\":{\"fields\":[{\"kind\":\"u8\",\"name\":\"f\"},{\"kind\":\"u8\",\"name\":\"g\",\"test\":{\"field\":\"f\",\"is\":\"eq\",\"mask\":255,\"value\":1}}],\"name\":\"box\",\"validate\":[{\"field\":\"f\",\"is\":\"lt\",\"mask\":255,\"value\":10}],\"version\":1},\"instance\":0}],\"machines\":[\"lab\"],\"structs\":[]}")
+    ≡ Parts tested_set
+unfolding said
+says_tests_and_validations = refl
+
+-- No value of JSON.
+
+says_no_json :
+    said (codes "{")
+    ≡ Syntax
+unfolding said
+says_no_json = refl
+
+says_number_too_great_for_a_float :
+    said (codes "1e999")
+    ≡ Syntax
+unfolding said
+says_number_too_great_for_a_float = refl
+
+-- Shapes, at the whole first, then by key and by position.
+
+says_no_object :
+    said (codes "[]")
+    ≡ Shape (codes "file")
+unfolding said
+says_no_object = refl
+
+says_a_key_too_many :
+    said (codes "{\"devices\":[],\"machines\":[],\"more\":0,\"structs\":[]}")
+    ≡ Shape (codes "file")
+unfolding said
+says_a_key_too_many = refl
+
+says_a_key_missing :
+    said (codes "{\"devices\":[],\"machines\":[]}")
+    ≡ Shape (codes "file")
+unfolding said
+says_a_key_missing = refl
+
+says_machine_of_another_type :
+    said (codes "{\"devices\":[],\"machines\":[7],\"structs\":[]}")
+    ≡ Shape (codes "machines.0")
+unfolding said
+says_machine_of_another_type = refl
+
+says_keys_in_byte_order :
+    said (codes "{\"structs\":7,\"machines\":7,\"devices\":[]}")
+    ≡ Shape (codes "machines")
+unfolding said
+says_keys_in_byte_order = refl
+
+-- Numbers are whole ones of 64 bits.
+
+says_float_as_version :
+    said (codes "{\"devices\":[{\"desc\":{\"fields\":[],\"name\":\"box\",\"version\":1.0},\"instance\":0}],\"machines\":[],\"structs\":[]}")
+    ≡ Shape (codes "devices.0.desc.version")
+unfolding said
+says_float_as_version = refl
+
+says_minus_zero :
+    said (codes "{\"devices\":[{\"desc\":{\"fields\":[],\"name\":\"box\",\"version\":1},\"instance\":-0}],\"machines\":[],\"structs\":[]}")
+    ≡ Shape (codes "devices.0.instance")
+unfolding said
+says_minus_zero = refl
+
+says_number_of_65_bits :
+    said (codes "{\"devices\":[{\"desc\":{\"fields\":[{\"kind\":\"u8\",\"name\":\"f\"},{\"default\":18446744073709551616,\"kind\":\"u64\",\"name\":\"g\"}],\"name\":\"box\",\"version\":1},\"instance\":0}],\"machines\":[],\"structs\":[]}")
+    ≡ Shape (codes "devices.0.desc.fields.1.default")
+unfolding said
+says_number_of_65_bits = refl
+
+says_number_beyond_its_type :
+    said (codes "{\"devices\":[{\"desc\":{\"fields\":[],\"name\":\"box\",\"version\":1},\"instance\":4294967296}],\"machines\":[],\"structs\":[]}")
+    ≡ Shape (codes "devices.0.instance")
+unfolding said
+says_number_beyond_its_type = refl
+
+-- Keys that exclude each other, or go by the kind.
+
+says_count_with_counted :
+    said (codes "{\"devices\":[{\"desc\":{\"fields\":[{\"kind\":\"u8\",\"name\":\"f\"},{\"capacity\":1,\"count\":1,\"counted\":\"f\",\"kind\":\"u8\",\"name\":\"g\"}],\"name\":\"box\",\"version\":1},\"instance\":0}],\"machines\":[],\"structs\":[]}")
+    ≡ Shape (codes "devices.0.desc.fields.1")
+unfolding said
+says_count_with_counted = refl
+
+says_counted_without_capacity :
+    said (codes "{\"devices\":[{\"desc\":{\"fields\":[{\"kind\":\"u8\",\"name\":\"f\"},{\"counted\":\"f\",\"kind\":\"u8\",\"name\":\"g\"}],\"name\":\"box\",\"version\":1},\"instance\":0}],\"machines\":[],\"structs\":[]}")
+    ≡ Shape (codes "devices.0.desc.fields.1")
+unfolding said
+says_counted_without_capacity = refl
+
+says_size_of_a_number :
+    said (codes "{\"devices\":[{\"desc\":{\"fields\":[{\"kind\":\"u8\",\"name\":\"f\"},{\"kind\":\"u8\",\"name\":\"g\",\"size\":2}],\"name\":\"box\",\"version\":1},\"instance\":0}],\"machines\":[],\"structs\":[]}")
+    ≡ Shape (codes "devices.0.desc.fields.1")
+unfolding said
+says_size_of_a_number = refl
+
+says_equal_with_default :
+    said (codes "{\"devices\":[{\"desc\":{\"fields\":[{\"kind\":\"u8\",\"name\":\"f\"},{\"default\":1,\"equal\":1,\"kind\":\"u8\",\"name\":\"g\"}],\"name\":\"box\",\"version\":1},\"instance\":0}],\"machines\":[],\"structs\":[]}")
+    ≡ Shape (codes "devices.0.desc.fields.1")
+unfolding said
+says_equal_with_default = refl
+
+says_unknown_kind :
+    said (codes "{\"devices\":[{\"desc\":{\"fields\":[{\"kind\":\"u8\",\"name\":\"f\"},{\"kind\":\"u9\",\"name\":\"g\",\"size\":2}],\"name\":\"box\",\"version\":1},\"instance\":0}],\"machines\":[],\"structs\":[]}")
+    ≡ Shape (codes "devices.0.desc.fields.1.kind")
+unfolding said
+says_unknown_kind = refl
+
+says_subsections_of_a_structure :
+    said (codes "{\"devices\":[],\"machines\":[],\"structs\":[{\"fields\":[],\"name\":\"p\",\"subsections\":[],\"version\":1}]}")
+    ≡ Shape (codes "structs.0")
+unfolding said
+says_subsections_of_a_structure = refl
+
+says_parent_in_a_validation :
+    said (codes "{\"devices\":[{\"desc\":{\"fields\":[{\"kind\":\"u8\",\"name\":\"f\"}],\"name\":\"box\",\"validate\":[{\"is\":\"eq\",\"mask\":1,\"parent\":\"f\",\"value\":0}],\"version\":1},\"instance\":0}],\"machines\":[],\"structs\":[]}")
+    ≡ Shape (codes "devices.0.desc.validate.0")
+unfolding said
+says_parent_in_a_validation = refl
+
+says_three_tests_in_and :
+    said (codes "{\"devices\":[{\"desc\":{\"fields\":[],\"name\":\"box\",\"validate\":[{\"and\":[{\"below\":1},{\"below\":1},{\"below\":1}]}],\"version\":1},\"instance\":0}],\"machines\":[],\"structs\":[]}")
+    ≡ Shape (codes "devices.0.desc.validate.0.and")
+unfolding said
+says_three_tests_in_and = refl
+
+-- Names are looked up when nothing else is at fault, and among names alone.
+
+says_name_that_is_not_there :
+    said (codes "{\"devices\":[{\"desc\":{\"fields\":[],\"name\":\"box\",\"validate\":[{\"not\":{\"field\":\"f\",\"is\":\"eq\",\"mask\":1,\"value\":0}}],\"version\":1},\"instance\":0}],\"machines\":[],\"structs\":[]}")
+    ≡ Shape (codes "devices.0.desc.validate.0.not.field")
+unfolding said
+says_name_that_is_not_there = refl
+
+says_a_former_name_is_no_name :
+    said (codes "{\"devices\":[{\"desc\":{\"fields\":[{\"kind\":\"u8\",\"name\":\"f\"},{\"capacity\":1,\"counted\":\"e\",\"former\":[\"e\"],\"kind\":\"u8\",\"name\":\"g\"}],\"name\":\"box\",\"version\":1},\"instance\":0}],\"machines\":[],\"structs\":[]}")
+    ≡ Shape (codes "devices.0.desc.fields.1.counted")
+unfolding said
+says_a_former_name_is_no_name = refl
+
+says_shapes_before_names :
+    said (codes "{\"devices\":[{\"desc\":{\"fields\":[],\"name\":\"box\",\"validate\":[{\"field\":\"f\",\"is\":\"eq\",\"mask\":1,\"value\":0}],\"version\":1},\"instance\":0}],\"machines\":[],\"structs\":7}")
+    ≡ Shape (codes "structs")
+unfolding said
+says_shapes_before_names = refl
+
+-- The rules of sets.
+
+says_minimum_above_version :
+    said (codes "{\"devices\":[{\"desc\":{\"fields\":[],\"minimum\":2,\"name\":\"box\",\"version\":1},\"instance\":0}],\"machines\":[],\"structs\":[]}")
+    ≡ IllFormed (record { rule = 3; place = here (parts.Device 0) })
+unfolding said
+says_minimum_above_version = refl

@@ -1,0 +1,33 @@
+-- What reading a file answers.
+use Rattle.std.specs.Prelude.{◌≡◌, Option, Some, None, Result, Ok, Err}
+use Rattle.serde_json.specs.Data.{Data}
+use Rattle.serde_json.specs.View.{view}
+use Rattle.serde_json.specs.declared.value.Value.{Value}
+use Rattle.vms_desc.specs.declared.set.DescSet.{DescSet}
+use Rattle.vms_desc.specs.Described.{described}
+use Rattle.vms_descfile.specs.declared.fault.Fault.{Fault}
+use Rattle.vms_descfile.specs.declared.fault.Fault.TheVariants as faults
+use Rattle.vms_descfile.specs.declared.file_fault.FileFault.{FileFault}
+use Rattle.vms_descfile.specs.declared.file_fault.FileFault.TheVariants as file_faults
+use Rattle.vms_descfile.specs.Files.{Said, Parts, Syntax, Shape, IllFormed, path_said}
+
+-- the set of what is said, or the fault that is said; memory may be wanting in any case
+abbrev pub Gives : Said → Result DescSet FileFault → Type 0
+Gives said (Ok set) = said ≡ Parts (described set)
+Gives said (Err file_faults.Syntax) = said ≡ Syntax
+Gives said (Err (file_faults.Shape path)) = said ≡ Shape path
+Gives said (Err (file_faults.IllFormed rule place)) = said ≡ IllFormed (record { rule = rule; place = place })
+Gives said (Err file_faults.NoMemory) = Unit {0}
+
+-- the value, if the text has one
+abbrev pub GivesValue : Option Data → Result Value FileFault → Type 0
+GivesValue found (Ok value) = found ≡ Some (view value)
+GivesValue found (Err file_faults.Syntax) = found ≡ None
+GivesValue found (Err file_faults.NoMemory) = Unit {0}
+GivesValue found (Err fault) = ⊥
+
+-- the fault of a whole file
+abbrev pub IsFileFault : Fault → FileFault → Type 0
+IsFileFault (faults.Shape path) (file_faults.Shape whole) = whole ≡ path_said path
+IsFileFault fault file_faults.NoMemory = Unit {0}
+IsFileFault fault result = ⊥

@@ -1,0 +1,38 @@
+// Why a file gives no set.
+ghost use Rattle.vms_descfile.specs.Given.{IsFileFault};
+
+use crate::fault::Fault;
+use std::alloc::Global;
+use vms_desc::{Place, Text};
+
+/// Why a description file gives no set.
+#[derive(Drop)]
+pub enum FileFault {
+    /// The bytes are no JSON value.
+    Syntax,
+    /// The value isn't of a file's shape, first at this path of keys and positions, as `devices.0.instance`; `file` is the whole.
+    Shape(Text),
+    /// A rule of sets, 1 to 8, fails first at this place; no lower one fails there.
+    IllFormed { rule: u8, place: Place },
+    /// Memory is wanting.
+    NoMemory,
+}
+
+impl FileFault {
+    pub(crate) fn of(alloc: Global, fault: Fault) -> FileFault
+        ensures { IsFileFault fault result }
+    {
+        match fault {
+            Fault::Shape(path) => {
+                if !path.as_str().is_empty() {
+                    return FileFault::Shape(path);
+                }
+                match String::from_str(alloc, "file") {
+                    Ok(whole) => FileFault::Shape(Text::new(whole)),
+                    Err(_) => FileFault::NoMemory,
+                }
+            }
+            Fault::NoMemory => FileFault::NoMemory,
+        }
+    }
+}

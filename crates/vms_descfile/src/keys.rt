@@ -1,0 +1,67 @@
+// The keys of objects.
+ghost use Rattle.std.specs.Prelude.{◌≡◌, ◌++◌, ◌||◌, map, string_bytes};
+ghost use Rattle.std.specs.BTreeMap.{keys};
+ghost use Rattle.std.specs.List.{list_all, list_any};
+ghost use Rattle.std.specs.Str.{bytes_eq};
+ghost use Rattle.serde_json.specs.View.{view, members_view};
+ghost use Rattle.vms_spec.specs.Streams.{is_one_of};
+ghost use Rattle.vms_descfile.specs.Keys.{has, has_all, fits, has_no_others};
+
+use serde_json::{Map, Value};
+
+// Whether a value is an object with each of the first keys, and no others than those and the second.
+pub(crate) fn fits(value: &Value, needed: &[&str], allowed: &[&str]) -> bool
+    ensures { result ≡ fits (map (λ k. k.now) needed.now) (map (λ k. k.now) allowed.now) (view value.now) }
+{
+    match value.as_object() {
+        Some(members) => has_no_others(members, needed, allowed) && has_all(value, needed),
+        None => false,
+    }
+}
+
+// Whether a member has this key.
+pub(crate) fn has(value: &Value, key: &str) -> bool
+    ensures { result ≡ has key.now (view value.now) }
+{
+    value.get(key).is_some()
+}
+
+fn has_all(value: &Value, keys: &[&str]) -> bool
+    ensures { result ≡ has_all (map (λ k. k.now) keys.now) (view value.now) }
+{
+    has_each(value, keys)
+}
+
+fn has_each(value: &Value, keys: &[&str]) -> bool
+    ensures { result ≡ list_all (λ k. has k.now (view value.now)) keys.now }
+{
+    keys.iter().all(|key| has(value, key))
+}
+
+fn is_among(keys: &[&str], key: &str) -> bool
+    ensures { result ≡ list_any (λ k. bytes_eq k.now key.now) keys.now }
+{
+    keys.iter().any(|other| *other == key)
+}
+
+fn is_one_of(keys: &[&str], key: &str) -> bool
+    ensures { result ≡ is_one_of (map (λ k. k.now) keys.now) key.now }
+{
+    is_among(keys, key)
+}
+
+fn has_keys(members: &Map<String, Value>, needed: &[&str], allowed: &[&str]) -> bool
+    ensures { result ≡ list_all (λ k. is_one_of (map (λ n. n.now) needed.now) (string_bytes k) || is_one_of (map (λ n. n.now) allowed.now) (string_bytes k)) (keys members.now) }
+{
+    members
+        .keys()
+        .all(|key| is_one_of(needed, key) || is_one_of(allowed, key))
+}
+
+// Whether the members have no other keys than these.
+
+fn has_no_others(members: &Map<String, Value>, needed: &[&str], allowed: &[&str]) -> bool
+    ensures { result ≡ has_no_others (map (λ k. k.now) needed.now ++ map (λ k. k.now) allowed.now) (members_view members.now.entries) }
+{
+    has_keys(members, needed, allowed)
+}

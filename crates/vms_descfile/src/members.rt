@@ -1,0 +1,67 @@
+// The members of objects.
+ghost use Rattle.std.specs.Prelude.{◌≡◌, None, option_map};
+ghost use Rattle.serde_json.specs.View.{view};
+ghost use Rattle.vms_descfile.specs.Answers.{Answers, list_of};
+ghost use Rattle.vms_descfile.specs.Keys.{at, at_or, maybe_at};
+
+use crate::fault::Fault;
+use crate::words::Reads;
+use serde_json::Value;
+use std::alloc::Global;
+
+// What the member of a key says.
+pub(crate) fn at<R: Reads>(
+    alloc: Global,
+    reader: &R,
+    key: &str,
+    value: &Value,
+) -> Result<R::Out, Fault>
+    ensures { Answers R.means (at (R.says reader.now) key.now (view value.now)) result }
+{
+    match value.get(key) {
+        Some(member) => match reader.read(alloc, member) {
+            Ok(out) => Ok(out),
+            Err(fault) => Err(fault.under(alloc, key)),
+        },
+        None => Err(Fault::here(alloc)),
+    }
+}
+
+// The same, with a default.
+pub(crate) fn at_or<R: Reads>(
+    alloc: Global,
+    reader: &R,
+    key: &str,
+    value: &Value,
+    default: R::Out,
+) -> Result<R::Out, Fault>
+where
+    R::Out: Drop,
+    ensures { Answers R.means (at_or (R.means default) (R.says reader.now) key.now (view value.now)) result }
+{
+    match value.get(key) {
+        Some(member) => match reader.read(alloc, member) {
+            Ok(out) => Ok(out),
+            Err(fault) => Err(fault.under(alloc, key)),
+        },
+        None => Ok(default),
+    }
+}
+
+// The same, where it may be missing.
+pub(crate) fn maybe_at<R: Reads>(
+    alloc: Global,
+    reader: &R,
+    key: &str,
+    value: &Value,
+) -> Result<Option<R::Out>, Fault>
+    ensures { Answers (option_map R.means) (maybe_at (R.says reader.now) key.now (view value.now)) result }
+{
+    match value.get(key) {
+        Some(member) => match reader.read(alloc, member) {
+            Ok(out) => Ok(Some(out)),
+            Err(fault) => Err(fault.under(alloc, key)),
+        },
+        None => Ok(None),
+    }
+}

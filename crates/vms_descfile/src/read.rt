@@ -1,0 +1,94 @@
+// Reads a description file.
+ghost use Rattle.std.specs.Prelude.{◌≡◌, Some, None};
+ghost use Rattle.serde_json.specs.View.{view};
+ghost use Rattle.vms_spec.specs.WellFormed.{first_fault};
+ghost use Rattle.vms_parts.specs.Views.{set_of as set_seen};
+ghost use Rattle.vms_descfile.specs.Answers.{Answers};
+ghost use Rattle.vms_descfile.specs.Files.{set_in, set_of, parts_of, value_in, file_said, judged_said};
+ghost use Rattle.vms_descfile.specs.Given.{Gives, GivesValue};
+
+use crate::FileFault;
+use crate::descs::StructOf;
+use crate::devices::DeviceOf;
+use crate::fault::Fault;
+use crate::keys::fits;
+use crate::lists::ListOf;
+use crate::members::at;
+use crate::words::TextOf;
+use serde_json::Value;
+use std::alloc::Global;
+use vms_desc::{DescFault, DescSet, Parts};
+
+/// The set that a description file says. Else the fault is `Syntax` where the bytes are no JSON value, the first path at which
+/// the value isn't of the shape of a file, or the first place at which the parts break a rule of sets, unless memory is wanting.
+pub fn read_set(alloc: Global, text: &[u8]) -> Result<DescSet, FileFault>
+    ensures { Gives (file_said text.now) result }
+{
+    let value = match read_value(alloc, text) {
+        Ok(value) => value,
+        Err(fault) => return Err(fault),
+    };
+    match read_parts(alloc, &value) {
+        Ok(parts) => make_set(alloc, parts),
+        Err(fault) => Err(FileFault::of(alloc, fault)),
+    }
+}
+
+// The set of these parts, where they are well formed.
+fn make_set(alloc: Global, parts: Parts) -> Result<DescSet, FileFault>
+    ensures { Gives (judged_said (set_seen parts) (first_fault (set_seen parts))) result }
+{
+    match DescSet::new(alloc, parts) {
+        Ok(set) => Ok(set),
+        Err(DescFault::IllFormed { rule, place }) => Err(FileFault::IllFormed { rule, place }),
+        Err(DescFault::NoMemory) => Err(FileFault::NoMemory),
+    }
+}
+
+// The value of a text.
+fn read_value(alloc: Global, text: &[u8]) -> Result<Value, FileFault>
+    ensures { GivesValue (value_in text.now) result }
+{
+    match Value::from_slice(alloc, text) {
+        Ok(value) => Ok(value),
+        Err(error) => {
+            if error.is_memory() {
+                Err(FileFault::NoMemory)
+            } else {
+                Err(FileFault::Syntax)
+            }
+        }
+    }
+}
+
+// The parts that a value says: names are looked up in a second walk, where the first found no fault.
+#[tactic(auto, unfolding(crate::specs::Files::parts_of))]
+fn read_parts(alloc: Global, value: &Value) -> Result<Parts, Fault>
+    ensures { Answers set_seen (parts_of (view value.now)) result }
+{
+    let _unasked = read_walk(alloc, false, value)?;
+    read_walk(alloc, true, value)
+}
+
+fn read_walk(alloc: Global, asks: bool, value: &Value) -> Result<Parts, Fault>
+    ensures { Answers set_seen (set_of asks (view value.now)) result }
+{
+    if fits(value, &["devices", "machines", "structs"], &[]) {
+        read_members(alloc, asks, value)
+    } else {
+        Err(Fault::here(alloc))
+    }
+}
+
+fn read_members(alloc: Global, asks: bool, value: &Value) -> Result<Parts, Fault>
+    ensures { Answers set_seen (set_in asks (view value.now)) result }
+{
+    let devices = at(alloc, &ListOf(DeviceOf { asks }), "devices", value)?;
+    let machines = at(alloc, &ListOf(TextOf), "machines", value)?;
+    let structs = at(alloc, &ListOf(StructOf { asks }), "structs", value)?;
+    Ok(Parts {
+        machines,
+        structs,
+        devices,
+    })
+}

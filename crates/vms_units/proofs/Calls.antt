@@ -1,0 +1,3 @@
+-- What a cursor sees, and what the judge says.
+pub mod Seen
+pub mod Judged

@@ -1,0 +1,7 @@
+pub mod Finding
+pub mod Judging
+pub mod Bodies
+pub mod Streams
+pub mod Rows
+pub mod Calls
+mod Stated

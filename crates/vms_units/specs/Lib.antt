@@ -1,0 +1,13 @@
+pub mod Streams
+pub mod SoFar
+pub mod Dues
+pub mod Table
+pub mod Faults
+pub mod Finding
+pub mod Judge
+pub mod State
+pub mod Seen
+pub mod Judged
+pub mod Taking
+pub mod Laws
+pub mod StreamLaws

@@ -1,0 +1,142 @@
+-- The slots of a description have their cells in ascending order, between its first cell and its end.
+use Rattle.std.proofs.Common.{◌≡◌, ℕ, zero, suc, ◌+◌, ◌*◌, ◌<◌, ◌≤◌, List, [], ◌∷◌, ◌++◌, length, length-append, get_or, ℤ, refl, sym, ap, ◌∙◌, subst, arith, Bool, true, false, if◌then◌else◌, ◌==◌, ◌||◌}
+use Rattle.std.proofs.lemmas.Bool.{eqb-true}
+use Rattle.vms_kinds.specs.declared.Item.{Item}
+use Rattle.vms_kinds.specs.declared.Item.TheVariants.{Num, Equal, Unused, Struct}
+use Rattle.vms_spec.specs.Sets.{Field, Desc}
+use Rattle.vms_spec.specs.Tests.{is_there}
+use Rattle.vms_spec.specs.Images.{has_cell}
+use Rattle.vms_spec.specs.Layout.{Slot, Number, Constant, Filler, Rule, Cell, Meaning, no_meaning, no_desc, item_slots, item_size, times, field_slots, slots_from, desc_slots, desc_cells, cells_from, field_cells, numbers_of, elements_of, capacity_of, counted, all_hold, no_parent, first, meaning, meanings}
+use Rattle.vms_laws.proofs.Places.{field_size, elements_fit}
+use Rattle.vms_walk.specs.Steps.{cells_in}
+use Rattle.vms_walk.proofs.Walking.{room_for_less}
+
+-- the cells ascend, from one on and below an end
+abbrev pub Ascends : ℕ → ℕ → List Slot → Type 0
+Ascends from end [] = from ≤ end
+Ascends from end (Number c kind caps ∷ xs) = (from ≤ c) × Ascends (c + 1) end xs
+Ascends from end (Constant kind z ∷ xs) = Ascends from end xs
+Ascends from end (Filler n ∷ xs) = Ascends from end xs
+Ascends from end (Rule b ∷ xs) = Ascends from end xs
+
+-- ---- what follows
+
+not_same : (k c : ℕ) → c < k → (b : Bool) → (k == c) ≡ b → (k == c) ≡ false
+not_same k c lt true e = let same = eqb-true k c e in absurd (omega arith)
+not_same k c lt false e = e
+
+pub below_from : (from end : ℕ) (xs : List Slot) → Ascends from end xs → (c : ℕ) → c < from → has_cell xs c ≡ false
+below_from from end [] h c lt = refl
+below_from from end (Number k kind caps ∷ xs) h c lt =
+    let up = h.0 in
+    let less : c < k = omega arith in
+    ap (λ (b : Bool). b || has_cell xs c) (not_same k c less (k == c) refl) ∙ below_from (k + 1) end xs h.1 c (omega arith)
+below_from from end (Constant kind z ∷ xs) h c lt = below_from from end xs h c lt
+below_from from end (Filler n ∷ xs) h c lt = below_from from end xs h c lt
+below_from from end (Rule b ∷ xs) h c lt = below_from from end xs h c lt
+
+pub from_end : (from end : ℕ) (xs : List Slot) → Ascends from end xs → from ≤ end
+from_end from end [] h = h
+from_end from end (Number k kind caps ∷ xs) h = let up = h.0 in omega (arith, from_end (k + 1) end xs h.1)
+from_end from end (Constant kind z ∷ xs) h = from_end from end xs h
+from_end from end (Filler n ∷ xs) h = from_end from end xs h
+from_end from end (Rule b ∷ xs) h = from_end from end xs h
+
+-- ---- joined
+
+lower : (low from end : ℕ) (xs : List Slot) → low ≤ from → Ascends from end xs → Ascends low end xs
+lower low from end [] le h = omega arith
+lower low from end (Number k kind caps ∷ xs) le h = let up = h.0 in (omega arith, h.1)
+lower low from end (Constant kind z ∷ xs) le h = lower low from end xs le h
+lower low from end (Filler n ∷ xs) le h = lower low from end xs le h
+lower low from end (Rule b ∷ xs) le h = lower low from end xs le h
+
+join : (from mid end : ℕ) (xs ys : List Slot) → Ascends from mid xs → Ascends mid end ys → Ascends from end (xs ++ ys)
+join from mid end [] ys h k = lower from mid end ys h k
+join from mid end (Number c kind caps ∷ xs) ys h k = (h.0, join (c + 1) mid end xs ys h.1 k)
+join from mid end (Constant kind z ∷ xs) ys h k = join from mid end xs ys h k
+join from mid end (Filler n ∷ xs) ys h k = join from mid end xs ys h k
+join from mid end (Rule b ∷ xs) ys h k = join from mid end xs ys h k
+
+wider : (from mid end : ℕ) (xs : List Slot) → mid ≤ end → Ascends from mid xs → Ascends from end xs
+wider from mid end [] le h = omega arith
+wider from mid end (Number c kind caps ∷ xs) le h = (h.0, wider (c + 1) mid end xs le h.1)
+wider from mid end (Constant kind z ∷ xs) le h = wider from mid end xs le h
+wider from mid end (Filler n ∷ xs) le h = wider from mid end xs le h
+wider from mid end (Rule b ∷ xs) le h = wider from mid end xs le h
+
+-- ---- parts of a description
+
+pub record MeansAscends (m : Meaning) : Type 0 where
+  pub means : (at : ℕ) (n : List ℤ) → Ascends at (at + length m.cells) (m.slots n at)
+
+abbrev pub MeanAscends : List Meaning → Type 0
+MeanAscends [] = Unit {0}
+MeanAscends (m ∷ ms) = MeansAscends m × MeanAscends ms
+
+means_at : (ms : List Meaning) (j : ℕ) → MeanAscends ms → MeansAscends (get_or ms j no_meaning)
+means_at [] j h = record { means = λ at n. omega arith }
+means_at (m ∷ ms) zero h = h.0
+means_at (m ∷ ms) (suc j) h = means_at ms j h.1
+
+means_more : (ms : List Meaning) (m : Meaning) → MeanAscends ms → MeansAscends m → MeanAscends (ms ++ m ∷ [])
+means_more [] m h x = (x, tt)
+means_more (y ∷ ms) m h x = (h.0, means_more ms m h.1 x)
+
+get_cells : (ms : List Meaning) (j : ℕ) → get_or (cells_in ms) j [] ≡ (get_or ms j no_meaning).cells
+get_cells [] j = refl
+get_cells (m ∷ ms) zero = refl
+get_cells (m ∷ ms) (suc j) = get_cells ms j
+
+module _ (ms : List Meaning) (known : MeanAscends ms) where
+  item_ascends : (item : Item) (caps : List ℕ) (n : List ℤ) (at : ℕ) → Ascends at (at + item_size (cells_in ms) item) (item_slots ms item caps n at)
+  item_ascends (Num kind) caps n at = (omega arith, omega arith)
+  item_ascends (Equal kind z) caps n at = omega arith
+  item_ascends (Unused k) caps n at = omega arith
+  item_ascends (Struct j) caps n at =
+      subst (λ (cs : List Cell). Ascends at (at + length cs) ((get_or ms j no_meaning).slots n at)) (sym (get_cells ms j)) ((means_at ms j known).means at n)
+
+  items_ascend : (item : Item) (caps : List ℕ) (n : List ℤ) (k at : ℕ) → Ascends at (at + k * item_size (cells_in ms) item) (times k (item_slots ms item caps n) at (item_size (cells_in ms) item))
+  items_ascend item caps n zero at = omega arith
+  items_ascend item caps n (suc k) at =
+      let size = item_size (cells_in ms) item in
+      let e : (at + size) + k * size ≡ at + suc k * size = grind arith in
+      subst (λ (x : ℕ). Ascends at x (times (suc k) (item_slots ms item caps n) at size)) e
+      (join at (at + size) ((at + size) + k * size) (item_slots ms item caps n at) (times k (item_slots ms item caps n) (at + size) size) (item_ascends item caps n at) (items_ascend item caps n k (at + size)))
+
+  field_ascends : (fields : List Field) (v : ℕ) (own : ℕ → ℕ) (n : List ℤ) (i at : ℕ) (f : Field) → Ascends at (at + length (field_cells (cells_in ms) fields i f)) (field_slots ms fields v own n i at f)
+  field_ascends fields v own n i at f =
+      let size = item_size (cells_in ms) f.item in
+      let count = elements_of f.count own in
+      let long = field_size (cells_in ms) fields i f in
+      let room = room_for_less count (capacity_of f.count) size at (at + capacity_of f.count * size) (elements_fit f.count own) (omega arith) in
+      by_test (is_there f.test f.since v own no_parent) (times count (item_slots ms f.item (counted i fields) n) at size)
+      (wider at (at + count * size) (at + length (field_cells (cells_in ms) fields i f)) (times count (item_slots ms f.item (counted i fields) n) at size) (omega (arith, long, room)) (items_ascend f.item (counted i fields) n count at))
+    where
+      by_test : (b : Bool) (xs : List Slot) → Ascends at (at + length (field_cells (cells_in ms) fields i f)) xs → Ascends at (at + length (field_cells (cells_in ms) fields i f)) (if b then xs else [])
+      by_test true xs h = h
+      by_test false xs h = omega arith
+
+  fields_ascend : (fields : List Field) (v : ℕ) (own : ℕ → ℕ) (n : List ℤ) (i at : ℕ) (fs : List Field) → Ascends at (at + length (cells_from (cells_in ms) fields i fs)) (slots_from ms fields v own n i at fs)
+  fields_ascend fields v own n i at [] = omega arith
+  fields_ascend fields v own n i at (f ∷ fs) =
+      let here = field_cells (cells_in ms) fields i f in
+      let later = cells_from (cells_in ms) fields (suc i) fs in
+      let next = at + length here in
+      let e : next + length later ≡ at + length (here ++ later) = omega (arith, length-append here later) in
+      subst (λ (x : ℕ). Ascends at x (slots_from ms fields v own n i at (f ∷ fs))) e
+      (join at next (next + length later) (field_slots ms fields v own n i at f) (slots_from ms fields v own n (suc i) next fs) (field_ascends fields v own n i at f) (fields_ascend fields v own n (suc i) next fs))
+
+  pub desc_ascends : (d : Desc) (v : ℕ) (n : List ℤ) (at : ℕ) → Ascends at (at + length (desc_cells (cells_in ms) d)) (desc_slots ms d v n at)
+  desc_ascends d v n at =
+      let own = numbers_of (cells_in ms) d n at in
+      let end = at + length (desc_cells (cells_in ms) d) in
+      let same : end ≤ end = omega arith in
+      join at end end (slots_from ms d.fields v own n 0 at d.fields) (Rule (all_hold d.validate v own) ∷ []) (fields_ascend d.fields v own n 0 at d.fields) same
+
+pub meanings_ascend : (ds : List Desc) (k : ℕ) → MeanAscends (meanings ds k)
+unfolding first
+meanings_ascend ds zero = tt
+meanings_ascend ds (suc k) =
+    means_more (meanings ds k) (meaning (meanings ds k) (get_or ds k no_desc)) (meanings_ascend ds k)
+    (record { means = λ at n. desc_ascends (meanings ds k) (meanings_ascend ds k) (get_or ds k no_desc) (get_or ds k no_desc).version n at })

@@ -1,0 +1,107 @@
+-- The slots of fields and elements, one after the other.
+use Rattle.std.proofs.Common.{◌≡◌, ℕ, zero, suc, ◌+◌, ◌*◌, ◌-◌, ◌<◌, ◌≤◌, List, [], ◌∷◌, ◌++◌, length, get_or, drop, ℤ, refl, sym, ap, ◌∙◌, arith, length-append, append_assoc, Bool, true, false, if◌then◌else◌, Option, Some, None}
+use Rattle.std.proofs.lemmas.List.{drop_more}
+use Rattle.vms_kinds.specs.declared.Item.{Item}
+use Rattle.vms_kinds.specs.declared.Item.TheVariants.{Num, Equal, Unused, Struct}
+use Rattle.vms_spec.specs.Sets.{Field}
+use Rattle.vms_spec.specs.Tests.{is_there}
+use Rattle.vms_spec.specs.Layout.{Slot, Cell, Meaning, item_slots, item_size, times, field_slots, slots_from, field_cells, cells_from, elements_of, capacity_of, counted, no_parent, no_field}
+use Rattle.vms_laws.proofs.Places.{field_size, elements_fit}
+use Rattle.vms_parts.specs.Capacities.{least_of}
+use Rattle.vms_walk.specs.declared.step.Step.{Step}
+use Rattle.vms_walk.specs.declared.step.Step.TheVariants as steps
+use Rattle.vms_walk.specs.Steps.{step_of, steps_of, cells_in, present_of, capacities_of}
+
+pub steps_append : (xs ys : List Slot) → steps_of (xs ++ ys) ≡ steps_of xs ++ steps_of ys
+steps_append [] ys = refl
+steps_append (x ∷ xs) ys = ap (λ (l : List Step). step_of x ∷ l) (steps_append xs ys)
+
+-- a step of a part is one of the whole
+pub part_next : (before here rest whole : List Slot) (ys zs : List Step) (x : Step) → whole ≡ before ++ (here ++ rest) → steps_of here ≡ ys ++ (x ∷ zs)
+    → steps_of whole ≡ (steps_of before ++ ys) ++ (x ∷ (zs ++ steps_of rest))
+part_next before here rest whole ys zs x e f =
+    ap steps_of e ∙ steps_append before (here ++ rest) ∙ ap (λ (l : List Step). steps_of before ++ l) (steps_append here rest ∙ ap (λ (l : List Step). l ++ steps_of rest) f ∙ append_assoc ys (x ∷ zs) (steps_of rest))
+    ∙ sym (append_assoc (steps_of before) ys (x ∷ (zs ++ steps_of rest)))
+
+-- the first of the elements that are left
+pub times_next : {B : Type 0} (part : ℕ → List B) (n m at step : ℕ) → n ≡ suc m → times n part at step ≡ part at ++ times m part (at + step) step
+times_next part n m at step e = ap (λ (k : ℕ). times k part at step) e
+
+-- ---- of the capacities that a number counts the least is enough
+
+pub least_again : (o : Option ℕ) → least_of (capacities_of o) ≡ o
+least_again None = refl
+least_again (Some most) = refl
+
+pub steps_bare : (ms : List Meaning) (n : List ℤ) (item : Item) (caps : List ℕ) (k at step : ℕ)
+    → steps_of (times k (item_slots ms item caps n) at step) ≡ steps_of (times k (item_slots ms item (capacities_of (least_of caps)) n) at step)
+steps_bare ms n (Num kind) caps zero at step = refl
+steps_bare ms n (Num kind) caps (suc k) at step =
+    ap (λ (o : Option ℕ). steps.Number at kind o ∷ steps_of (times k (item_slots ms (Num kind) caps n) (at + step) step)) (sym (least_again (least_of caps)))
+    ∙ ap (λ (l : List Step). steps.Number at kind (least_of (capacities_of (least_of caps))) ∷ l) (steps_bare ms n (Num kind) caps k (at + step) step)
+steps_bare ms n (Equal kind z) caps k at step = refl
+steps_bare ms n (Unused b) caps k at step = refl
+steps_bare ms n (Struct j) caps k at step = refl
+
+-- ---- the next field
+
+-- the field's slots, and those of the fields after it, `size` cells on
+pub slots_next : (ms : List Meaning) (fields : List Field) (v : ℕ) (own : ℕ → ℕ) (n : List ℤ) (i at size : ℕ) (f : Field) (left more : List Field) → left ≡ f ∷ more
+    → size ≡ capacity_of f.count * item_size (cells_in ms) f.item
+    → slots_from ms fields v own n i at left ≡ field_slots ms fields v own n i at f ++ slots_from ms fields v own n (i + 1) (at + size) more
+slots_next ms fields v own n i at size f left more e s =
+    let step : length (field_cells (cells_in ms) fields i f) ≡ size = field_size (cells_in ms) fields i f ∙ sym s in
+    let one : suc i ≡ i + 1 = omega arith in
+    ap (λ (l : List Field). slots_from ms fields v own n i at l) e
+    ∙ ap (λ (k : ℕ). field_slots ms fields v own n i at f ++ slots_from ms fields v own n (suc i) (at + k) more) step
+    ∙ ap (λ (k : ℕ). field_slots ms fields v own n i at f ++ slots_from ms fields v own n k (at + size) more) one
+
+pub room_next : (cs : List (List Cell)) (fields : List Field) (i at size most : ℕ) (f : Field) (left more : List Field) → left ≡ f ∷ more
+    → size ≡ capacity_of f.count * item_size cs f.item → at + length (cells_from cs fields i left) ≤ most
+    → (at + size ≤ most) × ((at + size) + length (cells_from cs fields (i + 1) more) ≤ most)
+room_next cs fields i at size most f left more e s h =
+    let one : suc i ≡ i + 1 = omega arith in
+    let long = ap (λ (l : List Field). length (cells_from cs fields i l)) e ∙ length-append (field_cells cs fields i f) (cells_from cs fields (suc i) more)
+    ∙ ap (λ (k : ℕ). length (field_cells cs fields i f) + length (cells_from cs fields k more)) one in
+    let step : length (field_cells cs fields i f) ≡ size = field_size cs fields i f ∙ sym s in
+    (omega arith, omega arith)
+
+-- the elements that are there, or none
+pub present_slots : (ms : List Meaning) (fields : List Field) (v : ℕ) (own : ℕ → ℕ) (n : List ℤ) (i at : ℕ) (f : Field)
+    → field_slots ms fields v own n i at f ≡ times (present_of f v own) (item_slots ms f.item (counted i fields) n) at (item_size (cells_in ms) f.item)
+present_slots ms fields v own n i at f = by_test (is_there f.test f.since v own no_parent)
+  where
+    by_test : (b : Bool) → (if b then times (elements_of f.count own) (item_slots ms f.item (counted i fields) n) at (item_size (cells_in ms) f.item) else [])
+        ≡ times (if b then elements_of f.count own else 0) (item_slots ms f.item (counted i fields) n) at (item_size (cells_in ms) f.item)
+    by_test true = refl
+    by_test false = refl
+
+pub present_fits : (f : Field) (v : ℕ) (own : ℕ → ℕ) → present_of f v own ≤ capacity_of f.count
+present_fits f v own = by_test (is_there f.test f.since v own no_parent)
+  where
+    by_test : (b : Bool) → (if b then elements_of f.count own else 0) ≤ capacity_of f.count
+    by_test true = elements_fit f.count own
+    by_test false = omega arith
+
+pub room_for_less : (a b s x n : ℕ) → a ≤ b → x + b * s ≤ n → x + a * s ≤ n
+room_for_less a b s x n le h =
+    let d = b - a in
+    let e : b ≡ a + d = omega arith in
+    let f : (a + d) * s ≡ a * s + d * s = grind arith in
+    omega (arith, ap (λ (k : ℕ). k * s) e, f)
+
+pub one_fits : (a s x n most : ℕ) → 1 ≤ a → x + a * s ≤ n → n ≤ most → s ≤ most
+one_fits a s x n most one h le =
+    let d = a - 1 in
+    let e : a ≡ 1 + d = omega arith in
+    let f : (1 + d) * s ≡ s + d * s = grind arith in
+    omega (arith, ap (λ (k : ℕ). k * s) e, f)
+
+-- what is left of the fields, at a field
+pub fields_at : (all : List Field) (i : ℕ) → i < length all → drop i all ≡ get_or all i no_field ∷ drop (i + 1) all
+fields_at all i lt = drop_more all i no_field lt
+
+pub room_at : (turn count size first cell most : ℕ) → turn < count → cell ≡ first + turn * size → first + count * size ≤ most → cell + size ≤ most
+room_at turn count size first cell most lt e h =
+    let one : (turn + 1) * size ≡ turn * size + size = grind arith in
+    omega (arith, one, room_for_less (turn + 1) count size first most (omega arith) h)

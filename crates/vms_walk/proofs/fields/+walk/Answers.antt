@@ -1,0 +1,439 @@
+use Rattle.std.proofs.Common.{rules, arith, refl, sym, ap, ◌∙◌, subst, ◌≡◌, ℕ, ℤ, ◌+◌, ◌*◌, ◌<◌, ◌≤◌, List, [], ◌∷◌, length, get_or, map, drop, Bool, true, OnOk, IfErr, Option}
+use Rattle.std.proofs.lemmas.Bool.{ltb-true}
+use Rattle.vms_kinds.specs.declared.Item.{Item}
+use Rattle.vms_spec.specs.declared.Part.TheVariants as parts
+use Rattle.vms_spec.specs.Sets.{Field, Desc}
+use Rattle.vms_spec.specs.Rules.{uses_below}
+use Rattle.vms_spec.specs.Layout.{Slot, no_desc, item_slots, cells_from, capacity_of, all_hold}
+use Rattle.vms_spec.specs.Places.{own_cell_count}
+use Rattle.vms_laws.proofs.Places.{SameBelow, field_size}
+use Rattle.vms_laws.proofs.WalkLaws.{place_first}
+use Rattle.vms_laws.proofs.AboveLaws.{items_above, meanings_above}
+use Rattle.vms_parts.specs.Views.{field_of}
+use Rattle.vms_desc.specs.Asks.{field_at}
+use Rattle.vms_desc.specs.Described.{described}
+use Rattle.vms_desc.specs.Parts.{desc_at}
+use Rattle.vms_desc.proofs.AskLaws.{found_field}
+use Rattle.vms_walk.specs.declared.step.Step.{Step}
+use Rattle.vms_walk.specs.declared.step.Step.TheVariants as steps
+use Rattle.vms_walk.specs.Steps.{steps_of, table, cells_in, spot_numbers, spot_slots, slots_at, size_in, capacities_of, elements_slots, HasSpot, MayCome}
+use Rattle.vms_walk.proofs.Results.{ok_then, err_then, err_is}
+use Rattle.vms_walk.proofs.Walking.{room_at, least_again}
+use Rattle.vms_walk.proofs.Spots.{next_field, field_needs, size_code, width_code, spot_room, struct_spot, struct_size, own_is}
+use Rattle.vms_walk.proofs.Local.{good, keeps_below, keeps_first, next_place, set_settled, part_sound}
+use Rattle.vms_walk.proofs.Going.{Laws, items_next, items_stop, items_may, field_slots_are, fields_next, fields_stop, fields_may, rule_next, rule_stop, rule_may, same_rule}
+use Rattle.vms_walk.proofs.fields.+walk.Given.{Over}
+use Rattle.vms_walk.proofs.fields.+walk.Goals as goal
+
+laws_of : (g : Over) → Laws g.W.Cells.numbers g.W.Walker.goes g.W.Walker.stops
+laws_of g = record { more = g.met.W.Walker.more; after = g.met.W.Walker.stops_after; before = g.met.W.Walker.stops_before; keeps = g.met.W.Walker.keeps; stopped = g.met.W.Walker.keeps_stopped }
+
+-- ---- items
+
+pub walk_items-loop-turn-preserved : goal.walk_items-loop-turn-preserved
+walk_items-loop-turn-preserved g t c =
+    let N = g.W.Cells.numbers in
+    let laws = laws_of g in
+    let set = described c.args.set.now in
+    let fine = good set c.args.set.now.well_formed c.args.set.now.heads in
+    let item = c.args.item.now in
+    let most = c.args.most in
+    let first = c.args.first in
+    let i = c.loop-turn._turn in
+    let cell = c.loop-turn.cell in
+    let a = c.args.walker.now in
+    let b = c.loop-turn.walker in
+    let inv = c.loop-turn.invariant in
+    let size : size_in set item ≡ c.item_cells-size.result = sym (size_code set item c.item_cells-size.result c.item_cells-size.ensures c.requires.small) in
+    let one : (i + 1) * size_in set item ≡ i * size_in set item + size_in set item = grind arith in
+    record {
+      way = items_next N g.W.Walker.goes g.W.Walker.stops g.W.Walker.may laws set fine item most first i cell inv.here a b inv.way c.walk_item.new.walker c.in_ok-walk_item.ensures.ok;
+      long = (laws.keeps _ b c.walk_item.new.walker c.in_ok-walk_item.ensures.ok).long ∙ inv.long;
+      here = omega (arith, one, size, inv.here);
+    }
+
+pub walk_items-returns-in_err-walk_item-clause-err : goal.walk_items-returns-in_err-walk_item-clause-err
+walk_items-returns-in_err-walk_item-clause-err g t c =
+    let N = g.W.Cells.numbers in
+    let laws = laws_of g in
+    let set = described c.args.set.now in
+    let fine = good set c.args.set.now.well_formed c.args.set.now.heads in
+    let item = c.args.item.now in
+    let most = c.args.most in
+    let first = c.args.first in
+    let i = c.loop-turn._turn in
+    let cell = c.loop-turn.cell in
+    let a = c.args.walker.now in
+    let b = c.loop-turn.walker in
+    let inv = c.loop-turn.invariant in
+    let d = c.walk_item.new.walker in
+    let fault = c.in_err-walk_item.field-0.0 in
+    err_is (λ fault. g.W.Walker.stops (steps_of (elements_slots set item most (N d) c.args.count first)) a fault d) c.from_residual.result fault c.from_residual.ensures.1
+    (items_stop N g.W.Walker.goes g.W.Walker.stops g.W.Walker.may laws set fine item most first i cell inv.here a b inv.way c.args.count (omega arith) d fault c.in_err-walk_item.ensures.err)
+
+pub walk_items-walk_item-requires : goal.walk_items-walk_item-requires
+walk_items-walk_item-requires g t c =
+    let N = g.W.Cells.numbers in
+    let laws = laws_of g in
+    let set = described c.args.set.now in
+    let fine = good set c.args.set.now.well_formed c.args.set.now.heads in
+    let item = c.args.item.now in
+    let most = c.args.most in
+    let first = c.args.first in
+    let i = c.loop-turn._turn in
+    let cell = c.loop-turn.cell in
+    let a = c.args.walker.now in
+    let b = c.loop-turn.walker in
+    let inv = c.loop-turn.invariant in
+    let room = room_at i c.args.count (size_in set item) first cell (length (N a)) (omega arith) inv.here c.requires.room in
+    λ κs h. (
+      search rules,
+      (
+        search rules,
+        (
+          search rules,
+          (
+            c.requires.reaches,
+            (
+              items_may N g.W.Walker.goes g.W.Walker.stops g.W.Walker.may laws set fine item most first i cell inv.here a b inv.way c.args.count (omega arith) c.requires.may,
+              (subst (λ (x : ℕ). cell + size_in set item ≤ x) (sym inv.long) room, subst (λ (x : ℕ). x ≤ 16384) (sym inv.long) c.requires.few),
+            ),
+          ),
+        ),
+      ),
+    )
+
+pub walk_items-overflow_add-cell : goal.walk_items-overflow_add-cell
+walk_items-overflow_add-cell g t c =
+    let N = g.W.Cells.numbers in
+    let laws = laws_of g in
+    let set = described c.args.set.now in
+    let fine = good set c.args.set.now.well_formed c.args.set.now.heads in
+    let item = c.args.item.now in
+    let most = c.args.most in
+    let first = c.args.first in
+    let i = c.loop-turn._turn in
+    let cell = c.loop-turn.cell in
+    let a = c.args.walker.now in
+    let b = c.loop-turn.walker in
+    let inv = c.loop-turn.invariant in
+    let room = room_at i c.args.count (size_in set item) first cell (length (N a)) (omega arith) inv.here c.requires.room in
+    omega (arith, size_code set item c.item_cells-size.result c.item_cells-size.ensures c.requires.small, room, c.requires.few)
+
+-- ---- one field
+
+pub walk_field-walk_items-requires : goal.walk_field-walk_items-requires
+walk_field-walk_items-requires g t c =
+    let N = g.W.Cells.numbers in
+    let laws = laws_of g in
+    let set = described c.args.set.now in
+    let fine = good set c.args.set.now.well_formed c.args.set.now.heads in
+    let n = N c.args.walker.now in
+    let spot = c.args.spot in
+    let k = c.args.field in
+    let cell = c.args.cell in
+    let f = c.index-as_slice-field.result in
+    let count = c.present-count.result in
+    let most = c.most-most.result in
+    let fields : map field_of c.as_slice.result.now ≡ (desc_at set spot.part).fields = ap (map field_of) c.as_slice.ensures ∙ ap (λ (d : Desc). d.fields) c.desc.ensures in
+    let item : f.item ≡ (field_at set spot.part k).item = ap (λ (x : Field). x.item) (found_field c.as_slice.result.now (desc_at set spot.part).fields k f fields c.requires.field c.index-as_slice-field.is) in
+    let well = c.args.set.now.well_formed in
+    let are = λ (m : List ℤ) (long : length m ≡ length n) (s : SameBelow cell n m). field_slots_are N g.W.Walker.goes g.W.Walker.stops g.W.Walker.may laws set fine spot c.requires.spot.part k cell c.requires.here well n m long c.requires.spot count f.item most c.requires.field item c.present-count.ensures c.most-most.ensures c.requires.room s in
+    let needs = field_needs set well spot n c.requires.spot k cell count f.item most c.requires.field item c.present-count.ensures c.most-most.ensures c.requires.room in
+    let lower = needs.lower in
+    let above = λ (m : List ℤ). items_above (table set) (meanings_above set.structs (length set.structs)) f.item (capacities_of most) m count cell (size_in set f.item) in
+    let come : MayCome g.W.Walker.goes N g.W.Walker.may (λ n. elements_slots set f.item most n count cell) c.args.walker.now = λ ys zs x d h e.
+    let kept = laws.keeps ys c.args.walker.now d h in
+    c.requires.may ys zs x d h (are (N d) kept.long (keeps_first cell (elements_slots set f.item most (N d) count cell) ys (x ∷ zs) n (N d) e (above (N d)) kept) ∙ e) in
+    λ κs h. (search rules, (search rules, (search rules, (needs.uses, (come, (needs.small, (needs.room, c.requires.spot.few)))))))
+
+pub walk_field-returns-clause-ok : goal.walk_field-returns-clause-ok
+walk_field-returns-clause-ok g t c =
+    let N = g.W.Cells.numbers in
+    let laws = laws_of g in
+    let set = described c.args.set.now in
+    let fine = good set c.args.set.now.well_formed c.args.set.now.heads in
+    let n = N c.args.walker.now in
+    let spot = c.args.spot in
+    let k = c.args.field in
+    let cell = c.args.cell in
+    let f = c.index-as_slice-field.result in
+    let count = c.present-count.result in
+    let most = c.most-most.result in
+    let fields : map field_of c.as_slice.result.now ≡ (desc_at set spot.part).fields = ap (map field_of) c.as_slice.ensures ∙ ap (λ (d : Desc). d.fields) c.desc.ensures in
+    let item : f.item ≡ (field_at set spot.part k).item = ap (λ (x : Field). x.item) (found_field c.as_slice.result.now (desc_at set spot.part).fields k f fields c.requires.field c.index-as_slice-field.is) in
+    let well = c.args.set.now.well_formed in
+    let are = λ (m : List ℤ) (long : length m ≡ length n) (s : SameBelow cell n m). field_slots_are N g.W.Walker.goes g.W.Walker.stops g.W.Walker.may laws set fine spot c.requires.spot.part k cell c.requires.here well n m long c.requires.spot count f.item most c.requires.field item c.present-count.ensures c.most-most.ensures c.requires.room s in
+    let a = c.args.walker.now in
+    let b = c.walk_items.new.walker in
+    let slots = elements_slots set f.item most (N b) count cell in
+    ok_then c.walk_items.result
+    (λ h.
+    let kept = laws.keeps _ a b h in
+    subst (λ (l : List Step). g.W.Walker.goes l a b) (sym (are (N b) kept.long (keeps_below cell slots n (N b) (items_above (table set) (meanings_above set.structs (length set.structs)) f.item (capacities_of most) (N b) count cell (size_in set f.item)) kept))) h)
+    c.walk_items.ensures.ok
+
+pub walk_field-returns-clause-err : goal.walk_field-returns-clause-err
+walk_field-returns-clause-err g t c =
+    let N = g.W.Cells.numbers in
+    let laws = laws_of g in
+    let set = described c.args.set.now in
+    let fine = good set c.args.set.now.well_formed c.args.set.now.heads in
+    let n = N c.args.walker.now in
+    let spot = c.args.spot in
+    let k = c.args.field in
+    let cell = c.args.cell in
+    let f = c.index-as_slice-field.result in
+    let count = c.present-count.result in
+    let most = c.most-most.result in
+    let fields : map field_of c.as_slice.result.now ≡ (desc_at set spot.part).fields = ap (map field_of) c.as_slice.ensures ∙ ap (λ (d : Desc). d.fields) c.desc.ensures in
+    let item : f.item ≡ (field_at set spot.part k).item = ap (λ (x : Field). x.item) (found_field c.as_slice.result.now (desc_at set spot.part).fields k f fields c.requires.field c.index-as_slice-field.is) in
+    let well = c.args.set.now.well_formed in
+    let are = λ (m : List ℤ) (long : length m ≡ length n) (s : SameBelow cell n m). field_slots_are N g.W.Walker.goes g.W.Walker.stops g.W.Walker.may laws set fine spot c.requires.spot.part k cell c.requires.here well n m long c.requires.spot count f.item most c.requires.field item c.present-count.ensures c.most-most.ensures c.requires.room s in
+    let a = c.args.walker.now in
+    let b = c.walk_items.new.walker in
+    let slots = elements_slots set f.item most (N b) count cell in
+    err_then (λ fault. g.W.Walker.stops (steps_of slots) a fault b) (λ fault. g.W.Walker.stops (steps_of (slots_at set spot (N b) k cell)) a fault b) c.walk_items.result
+    (λ fault h.
+    let kept = laws.stopped _ a b fault h in
+    subst (λ (l : List Step). g.W.Walker.stops l a fault b) (sym (are (N b) kept.long (keeps_below cell slots n (N b) (items_above (table set) (meanings_above set.structs (length set.structs)) f.item (capacities_of most) (N b) count cell (size_in set f.item)) kept))) h)
+    c.walk_items.ensures.err
+
+-- ---- the fields of a description
+
+pub walk-loop-field-init : goal.walk-loop-field-init
+walk-loop-field-init g t c =
+    let set = described c.args.set.now in
+    let spot = c.args.spot in
+    record {
+      way = g.met.W.Walker.none c.args.walker.now;
+      long = refl;
+      here = sym (place_first (cells_in (table set)) (desc_at set spot.part).fields 0 spot.base (desc_at set spot.part).fields);
+      room = spot_room set spot (g.W.Cells.numbers c.args.walker.now) c.requires.spot;
+    }
+
+pub walk-loop-field-preserved : goal.walk-loop-field-preserved
+walk-loop-field-preserved g t c =
+    let N = g.W.Cells.numbers in
+    let laws = laws_of g in
+    let set = described c.args.set.now in
+    let fine = good set c.args.set.now.well_formed c.args.set.now.heads in
+    let spot = c.args.spot in
+    let all = (desc_at set spot.part).fields in
+    let i = c.loop-field.field in
+    let cell = c.loop-field.cell in
+    let a = c.args.walker.now in
+    let b = c.loop-field.walker in
+    let inv = c.loop-field.invariant in
+    let part = c.requires.spot.part in
+    let le : i ≤ length all = omega (arith, c.field_count-field-end.ensures) in
+    let lt : i < length all = omega (arith, c.field_count-field-end.ensures) in
+    let has : HasSpot set spot (N b) =
+    record { part = part; few = subst (λ (x : ℕ). x ≤ 16384) (sym inv.long) c.requires.spot.few; room = subst (λ (x : ℕ). spot.base + own_cell_count set (desc_at set spot.part) ≤ x) (sym inv.long) c.requires.spot.room } in
+    let next = next_field set c.args.set.now.well_formed spot (N b) has i cell lt inv.room in
+    let f = field_at set spot.part i in
+    let w = capacity_of f.count * size_in set f.item in
+    let d = c.walk_field.new.walker in
+    let width : w ≡ c.field_cells-cell.result = sym (width_code set f c.field_cells-cell.result c.field_cells-cell.ensures (omega (arith, next.room, has.few))) in
+    let kept = laws.keeps _ b d c.in_ok-walk_field.ensures.ok in
+    let place = next_place (table set) (set_settled set fine) (desc_at set spot.part) (part_sound set fine spot.part part) spot.version spot.base i lt in
+    record {
+      way = fields_next N g.W.Walker.goes g.W.Walker.stops g.W.Walker.may laws set fine spot part i cell inv.here a b le inv.way lt d c.in_ok-walk_field.ensures.ok;
+      long = kept.long ∙ inv.long;
+      here = omega (arith, place, inv.here, width, field_size (cells_in (table set)) all i f);
+      room = subst (λ (x : ℕ). (cell + c.field_cells-cell.result) + length (cells_from (cells_in (table set)) all (i + 1) (drop (i + 1) all)) ≤ x) (sym kept.long)
+          (subst (λ (x : ℕ). (cell + x) + length (cells_from (cells_in (table set)) all (i + 1) (drop (i + 1) all)) ≤ length (N b)) width next.later);
+    }
+
+pub walk-returns-in_err-walk_field-clause-err : goal.walk-returns-in_err-walk_field-clause-err
+walk-returns-in_err-walk_field-clause-err g t c =
+    let N = g.W.Cells.numbers in
+    let laws = laws_of g in
+    let set = described c.args.set.now in
+    let fine = good set c.args.set.now.well_formed c.args.set.now.heads in
+    let spot = c.args.spot in
+    let all = (desc_at set spot.part).fields in
+    let i = c.loop-field.field in
+    let cell = c.loop-field.cell in
+    let a = c.args.walker.now in
+    let b = c.loop-field.walker in
+    let inv = c.loop-field.invariant in
+    let part = c.requires.spot.part in
+    let le : i ≤ length all = omega (arith, c.field_count-field-end.ensures) in
+    let lt : i < length all = omega (arith, c.field_count-field-end.ensures) in
+    let d = c.walk_field.new.walker in
+    let fault = c.in_err-walk_field.field-0.0 in
+    err_is (λ fault. g.W.Walker.stops (steps_of (spot_slots set spot (N d))) a fault d) c.from_residual.result fault c.from_residual.ensures.1
+    (fields_stop N g.W.Walker.goes g.W.Walker.stops g.W.Walker.may laws set fine spot part i cell inv.here a b le inv.way lt d fault c.in_err-walk_field.ensures.err)
+
+pub walk-walk_field-requires : goal.walk-walk_field-requires
+walk-walk_field-requires g t c =
+    let N = g.W.Cells.numbers in
+    let laws = laws_of g in
+    let set = described c.args.set.now in
+    let fine = good set c.args.set.now.well_formed c.args.set.now.heads in
+    let spot = c.args.spot in
+    let all = (desc_at set spot.part).fields in
+    let i = c.loop-field.field in
+    let cell = c.loop-field.cell in
+    let a = c.args.walker.now in
+    let b = c.loop-field.walker in
+    let inv = c.loop-field.invariant in
+    let part = c.requires.spot.part in
+    let le : i ≤ length all = omega (arith, c.field_count-field-end.ensures) in
+    let lt : i < length all = omega (arith, c.field_count-field-end.ensures) in
+    let has : HasSpot set spot (N b) =
+    record { part = part; few = subst (λ (x : ℕ). x ≤ 16384) (sym inv.long) c.requires.spot.few; room = subst (λ (x : ℕ). spot.base + own_cell_count set (desc_at set spot.part) ≤ x) (sym inv.long) c.requires.spot.room } in
+    let next = next_field set c.args.set.now.well_formed spot (N b) has i cell lt inv.room in
+    let f = field_at set spot.part i in
+    let w = capacity_of f.count * size_in set f.item in
+    λ κs h. (search rules, (search rules, (search rules, (has, (lt, (inv.here, (fields_may N g.W.Walker.goes g.W.Walker.stops g.W.Walker.may laws set fine spot part i cell inv.here a b le inv.way lt c.requires.may, next.room)))))))
+
+pub walk-overflow_add-cell : goal.walk-overflow_add-cell
+walk-overflow_add-cell g t c =
+    let N = g.W.Cells.numbers in
+    let laws = laws_of g in
+    let set = described c.args.set.now in
+    let fine = good set c.args.set.now.well_formed c.args.set.now.heads in
+    let spot = c.args.spot in
+    let all = (desc_at set spot.part).fields in
+    let i = c.loop-field.field in
+    let cell = c.loop-field.cell in
+    let a = c.args.walker.now in
+    let b = c.loop-field.walker in
+    let inv = c.loop-field.invariant in
+    let part = c.requires.spot.part in
+    let le : i ≤ length all = omega (arith, c.field_count-field-end.ensures) in
+    let lt : i < length all = omega (arith, c.field_count-field-end.ensures) in
+    let has : HasSpot set spot (N b) =
+    record { part = part; few = subst (λ (x : ℕ). x ≤ 16384) (sym inv.long) c.requires.spot.few; room = subst (λ (x : ℕ). spot.base + own_cell_count set (desc_at set spot.part) ≤ x) (sym inv.long) c.requires.spot.room } in
+    let next = next_field set c.args.set.now.well_formed spot (N b) has i cell lt inv.room in
+    let f = field_at set spot.part i in
+    let w = capacity_of f.count * size_in set f.item in
+    omega (arith, width_code set f c.field_cells-cell.result c.field_cells-cell.ensures (omega (arith, next.room, has.few)), next.room, has.few)
+
+pub walk-step-requires-clause-may : goal.walk-step-requires-clause-may
+walk-step-requires-clause-may g t c =
+    let N = g.W.Cells.numbers in
+    let laws = laws_of g in
+    let set = described c.args.set.now in
+    let fine = good set c.args.set.now.well_formed c.args.set.now.heads in
+    let spot = c.args.spot in
+    let all = (desc_at set spot.part).fields in
+    let i = c.loop-field.field in
+    let cell = c.loop-field.cell in
+    let a = c.args.walker.now in
+    let b = c.loop-field.walker in
+    let inv = c.loop-field.invariant in
+    let part = c.requires.spot.part in
+    let le : i ≤ length all = omega (arith, c.field_count-field-end.ensures) in
+    let end : i ≡ length all = omega (arith, c.field_count-field-end.ensures) in
+    let d = desc_at set spot.part in
+    let holds : c.holds_rules-holds.result ≡ all_hold d.validate spot.version (spot_numbers set spot (N b)) = c.holds_rules-holds.ensures ∙ ap (all_hold d.validate spot.version) (own_is set spot (N b)) in
+    subst (λ (x : Bool). g.W.Walker.may b (steps.Rule x)) (sym holds) (rule_may N g.W.Walker.goes g.W.Walker.stops g.W.Walker.may laws set fine spot part i cell inv.here a b le inv.way end c.requires.may)
+
+pub walk-returns-clause-ok : goal.walk-returns-clause-ok
+walk-returns-clause-ok g t c =
+    let N = g.W.Cells.numbers in
+    let laws = laws_of g in
+    let set = described c.args.set.now in
+    let fine = good set c.args.set.now.well_formed c.args.set.now.heads in
+    let spot = c.args.spot in
+    let all = (desc_at set spot.part).fields in
+    let i = c.loop-field.field in
+    let cell = c.loop-field.cell in
+    let a = c.args.walker.now in
+    let b = c.loop-field.walker in
+    let inv = c.loop-field.invariant in
+    let part = c.requires.spot.part in
+    let le : i ≤ length all = omega (arith, c.field_count-field-end.ensures) in
+    let end : i ≡ length all = omega (arith, c.field_count-field-end.ensures) in
+    let d = desc_at set spot.part in
+    let holds : c.holds_rules-holds.result ≡ all_hold d.validate spot.version (spot_numbers set spot (N b)) = c.holds_rules-holds.ensures ∙ ap (all_hold d.validate spot.version) (own_is set spot (N b)) in
+    let e = c.step.new.self in
+    ok_then c.step.result (λ h. rule_next N g.W.Walker.goes g.W.Walker.stops g.W.Walker.may laws set fine spot part i cell inv.here a b le inv.way end e (same_rule _ (N b) (N e) (laws.keeps _ b e h)) (subst (λ (x : Bool). g.W.Walker.goes (steps.Rule x ∷ []) b e) holds h)) c.step.ensures.ok
+
+pub walk-returns-clause-err : goal.walk-returns-clause-err
+walk-returns-clause-err g t c =
+    let N = g.W.Cells.numbers in
+    let laws = laws_of g in
+    let set = described c.args.set.now in
+    let fine = good set c.args.set.now.well_formed c.args.set.now.heads in
+    let spot = c.args.spot in
+    let all = (desc_at set spot.part).fields in
+    let i = c.loop-field.field in
+    let cell = c.loop-field.cell in
+    let a = c.args.walker.now in
+    let b = c.loop-field.walker in
+    let inv = c.loop-field.invariant in
+    let part = c.requires.spot.part in
+    let le : i ≤ length all = omega (arith, c.field_count-field-end.ensures) in
+    let end : i ≡ length all = omega (arith, c.field_count-field-end.ensures) in
+    let d = desc_at set spot.part in
+    let holds : c.holds_rules-holds.result ≡ all_hold d.validate spot.version (spot_numbers set spot (N b)) = c.holds_rules-holds.ensures ∙ ap (all_hold d.validate spot.version) (own_is set spot (N b)) in
+    let e = c.step.new.self in
+    err_then (λ fault. g.W.Walker.stops (steps.Rule c.holds_rules-holds.result ∷ []) b fault e) (λ fault. g.W.Walker.stops (steps_of (spot_slots set spot (N e))) a fault e) c.step.result
+    (λ fault h. rule_stop N g.W.Walker.goes g.W.Walker.stops g.W.Walker.may laws set fine spot part i cell inv.here a b le inv.way end e fault (same_rule _ (N b) (N e) (laws.stopped _ b e fault h)) (subst (λ (x : Bool). g.W.Walker.stops (steps.Rule x ∷ []) b fault e) holds h)) c.step.ensures.err
+
+-- ---- one element
+
+pub walk_item-step-requires-clause-may : goal.walk_item-step-requires-clause-may
+walk_item-step-requires-clause-may g t c =
+    let set = described c.args.set.now in
+    let here = λ (x : Item). steps_of (item_slots (table set) x (capacities_of c.args.most) (g.W.Cells.numbers c.args.walker.now) c.args.cell) in
+    c.requires.may [] [] _ c.args.walker.now (g.met.W.Walker.none c.args.walker.now) (ap here c.in-Num.is ∙ ap (λ (o : Option ℕ). steps.Number c.args.cell c.in-Num.kind o ∷ []) (least_again c.args.most))
+
+pub walk_item-step-requires-in-Equal-clause-may : goal.walk_item-step-requires-in-Equal-clause-may
+walk_item-step-requires-in-Equal-clause-may g t c =
+    let set = described c.args.set.now in
+    let here = λ (x : Item). steps_of (item_slots (table set) x (capacities_of c.args.most) (g.W.Cells.numbers c.args.walker.now) c.args.cell) in
+    let may : g.W.Walker.may c.args.walker.now (steps.Constant c.in-Equal.kind c.in-Equal.value) = c.requires.may [] [] _ c.args.walker.now (g.met.W.Walker.none c.args.walker.now) (ap here c.in-Equal.is) in
+    search rules
+
+pub walk_item-step-requires-in-Unused-clause-may : goal.walk_item-step-requires-in-Unused-clause-may
+walk_item-step-requires-in-Unused-clause-may g t c =
+    let set = described c.args.set.now in
+    let here = λ (x : Item). steps_of (item_slots (table set) x (capacities_of c.args.most) (g.W.Cells.numbers c.args.walker.now) c.args.cell) in
+    c.requires.may [] [] _ c.args.walker.now (g.met.W.Walker.none c.args.walker.now) (ap here c.in-Unused.is)
+
+pub walk_item-walk-requires : goal.walk_item-walk-requires
+walk_item-walk-requires g t c =
+    let set = described c.args.set.now in
+    let N = g.W.Cells.numbers in
+    let n = N c.args.walker.now in
+    let j = c.in-Struct.number in
+    let well = c.args.set.now.well_formed in
+    let lt : j < length set.structs = ltb-true j (length set.structs) (subst (λ (x : Item). uses_below (length set.structs) x ≡ true) c.in-Struct.is c.requires.reaches) in
+    let version : c.desc.result.now.version ≡ (get_or set.structs j no_desc).version = ap (λ (d : Desc). d.version) c.desc.ensures in
+    let caps = capacities_of c.args.most in
+    let slots = λ (m : List ℤ). ap (λ (x : Item). item_slots (table set) x caps m c.args.cell) c.in-Struct.is ∙ struct_spot set well j lt c.desc.result.now.version c.args.cell m version caps in
+    let size = ap (size_in set) c.in-Struct.is ∙ struct_size set well j lt in
+    let spot : HasSpot set (record { part = parts.Struct j; version = c.desc.result.now.version; base = c.args.cell }) n =
+    record { part = lt; few = c.requires.few; room = omega (arith, size, c.requires.room) } in
+    λ κs h. (search rules, (search rules, (search rules, (spot, λ ys zs x d k e. c.requires.may ys zs x d k (ap steps_of (slots (N d)) ∙ e)))))
+
+pub walk_item-returns-in-Struct-clause-ok : goal.walk_item-returns-in-Struct-clause-ok
+walk_item-returns-in-Struct-clause-ok g t c =
+    let set = described c.args.set.now in
+    let N = g.W.Cells.numbers in
+    let n = N c.args.walker.now in
+    let j = c.in-Struct.number in
+    let well = c.args.set.now.well_formed in
+    let lt : j < length set.structs = ltb-true j (length set.structs) (subst (λ (x : Item). uses_below (length set.structs) x ≡ true) c.in-Struct.is c.requires.reaches) in
+    let version : c.desc.result.now.version ≡ (get_or set.structs j no_desc).version = ap (λ (d : Desc). d.version) c.desc.ensures in
+    let caps = capacities_of c.args.most in
+    let slots = λ (m : List ℤ). ap (λ (x : Item). item_slots (table set) x caps m c.args.cell) c.in-Struct.is ∙ struct_spot set well j lt c.desc.result.now.version c.args.cell m version caps in
+    subst (λ (l : List Slot). OnOk c.walk.result (g.W.Walker.goes (steps_of l) c.args.walker.now c.walk.new.walker)) (sym (slots (N c.walk.new.walker))) c.walk.ensures.ok
+
+pub walk_item-returns-in-Struct-clause-err : goal.walk_item-returns-in-Struct-clause-err
+walk_item-returns-in-Struct-clause-err g t c =
+    let set = described c.args.set.now in
+    let N = g.W.Cells.numbers in
+    let n = N c.args.walker.now in
+    let j = c.in-Struct.number in
+    let well = c.args.set.now.well_formed in
+    let lt : j < length set.structs = ltb-true j (length set.structs) (subst (λ (x : Item). uses_below (length set.structs) x ≡ true) c.in-Struct.is c.requires.reaches) in
+    let version : c.desc.result.now.version ≡ (get_or set.structs j no_desc).version = ap (λ (d : Desc). d.version) c.desc.ensures in
+    let caps = capacities_of c.args.most in
+    let slots = λ (m : List ℤ). ap (λ (x : Item). item_slots (table set) x caps m c.args.cell) c.in-Struct.is ∙ struct_spot set well j lt c.desc.result.now.version c.args.cell m version caps in
+    subst (λ (l : List Slot). IfErr c.walk.result (λ fault. g.W.Walker.stops (steps_of l) c.args.walker.now fault c.walk.new.walker)) (sym (slots (N c.walk.new.walker))) c.walk.ensures.err

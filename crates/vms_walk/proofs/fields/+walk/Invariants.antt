@@ -1,0 +1,41 @@
+use Rattle.std.proofs.Common.{◌≡◌, ◌≤◌, ◌+◌, ◌*◌, length, take, drop}
+use Rattle.vms_spec.specs.Layout.{slots_from, cells_from}
+use Rattle.vms_desc.specs.Described.{described}
+use Rattle.vms_desc.specs.Parts.{desc_at}
+use Rattle.vms_walk.specs.Steps.{steps_of, table, cells_in, spot_numbers, size_in, elements_slots, cell_of}
+use Rattle.vms_walk.proofs.Ranks.{item_rank, part_rank}
+use Rattle.vms_walk.proofs.fields.+walk.Given as goal
+
+abbrev pub decreases-walk_item : goal.decreases-walk_item
+decreases-walk_item g l = item_rank l.item.now
+
+abbrev pub decreases-walk_items : goal.decreases-walk_items
+decreases-walk_items g l = item_rank l.item.now + 1
+
+abbrev pub decreases-walk_field : goal.decreases-walk_field
+decreases-walk_field g l = part_rank (described l.set.now) l.spot.part + 2
+
+abbrev pub decreases-walk : goal.decreases-walk
+decreases-walk g l = part_rank (described l.set.now) l.spot.part + 3
+
+abbrev pub invariant-walk_items-loop-turn : goal.invariant-walk_items-loop-turn
+invariant-walk_items-loop-turn g l =
+    let set = described l.set in
+    let n = g.W.Cells.numbers l.walker in
+    record {
+      way : g.W.Walker.goes (steps_of (elements_slots set l.item l.most n l._turn l.first)) l.initial.walker l.walker;
+      long : length n ≡ length (g.W.Cells.numbers l.initial.walker);
+      here : l.cell ≡ l.first + l._turn * size_in set l.item;
+    }
+
+abbrev pub invariant-walk-loop-field : goal.invariant-walk-loop-field
+invariant-walk-loop-field g l =
+    let set = described l.set in
+    let n = g.W.Cells.numbers l.walker in
+    let all = (desc_at set l.spot.part).fields in
+    record {
+      way : g.W.Walker.goes (steps_of (slots_from (table set) all l.spot.version (spot_numbers set l.spot n) n 0 l.spot.base (take l.field all))) l.initial.walker l.walker;
+      long : length n ≡ length (g.W.Cells.numbers l.initial.walker);
+      here : l.cell ≡ cell_of set l.spot l.field;
+      room : l.cell + length (cells_from (cells_in (table set)) all l.field (drop l.field all)) ≤ length n;
+    }

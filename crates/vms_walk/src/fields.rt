@@ -1,0 +1,157 @@
+// The walk: the fields of a description in order, arrays and structures expanded.
+ghost use Rattle.std.specs.Prelude.{◌≡◌, ◌<◌, ◌≤◌, ◌+◌, ◌*◌, true, length, OnOk, IfErr};
+ghost use Rattle.vms_spec.specs.Layout.{capacity_of};
+ghost use Rattle.vms_spec.specs.Rules.{uses_below};
+ghost use Rattle.vms_desc.specs.Asks.{field_at};
+ghost use Rattle.vms_desc.specs.Described.{described};
+ghost use Rattle.vms_desc.specs.Parts.{desc_at};
+ghost use Rattle.vms_walk.specs.Steps.{HasSpot, MayCome};
+ghost use Rattle.vms_walk.specs.Steps.{spot_numbers, present_of, size_in, cell_of};
+ghost use Rattle.vms_walk.specs.Steps.{steps_of, spot_slots, field_by, elements_by, item_by};
+
+use crate::{Step, Walker};
+use vms_desc::{Cells, DescSet, Part};
+use vms_kinds::Item;
+
+/// A part of a set at a version, or one element of a structure, and its first cell.
+#[derive(Clone, Copy, Drop)]
+pub struct Spot {
+    pub part: Part,
+    pub version: u32,
+    pub base: u32,
+}
+
+// How many elements of a field stand in the bytes: none where the field isn't there.
+fn present<C: Cells>(set: &DescSet, spot: Spot, field: u32, cells: &C) -> u32
+    requires spot { HasSpot (described set.now) spot (C.numbers cells.now) }
+    requires field { field < length (desc_at (described set.now) spot.part).fields }
+    ensures { let numbers = spot_numbers (described set.now) spot (C.numbers cells.now) in
+        result ≡ present_of (field_at (described set.now) spot.part field) spot.version numbers }
+{
+    if set.is_there(spot.part, spot.base, field, spot.version, cells) {
+        set.elements(spot.part, spot.base, field, cells)
+    } else {
+        0
+    }
+}
+
+// One element of a field, whose first cell is `cell`. A number counts `most` at most.
+#[cycle(walk)]
+fn walk_item<W: Walker>(
+    set: &DescSet,
+    item: &Item,
+    most: Option<u32>,
+    cell: u32,
+    walker: &mut W,
+) -> Result<(), W::Fault>
+    requires reaches { uses_below (length (described set.now).structs) item.now ≡ true }
+    requires may { let slots = item_by (described set.now) item.now most cell in
+        MayCome W.goes W.numbers W.may slots walker.old }
+    requires room { cell + size_in (described set.now) item.now ≤ length (W.numbers walker.old) }
+    requires few { length (W.numbers walker.old) ≤ 16384 }
+    ensures ok { let slots = item_by (described set.now) item.now most cell (W.numbers walker.new) in
+        OnOk result (W.goes (steps_of slots) walker.old walker.new) }
+    ensures err { let slots = item_by (described set.now) item.now most cell (W.numbers walker.new) in
+        IfErr result (λ fault. W.stops (steps_of slots) walker.old fault walker.new) }
+{
+    match item {
+        Item::Num(kind) => walker.step(Step::Number {
+            cell,
+            kind: *kind,
+            most,
+        }),
+        Item::Equal { kind, value } => walker.step(Step::Constant {
+            kind: *kind,
+            value: *value,
+        }),
+        Item::Unused { bytes } => walker.step(Step::Filler { bytes: *bytes }),
+        Item::Struct(number) => {
+            let part = Part::Struct(*number);
+            let spot = Spot {
+                part,
+                version: set.desc(part).version,
+                base: cell,
+            };
+            walk(set, spot, walker)
+        }
+    }
+}
+
+// Elements one after the other, of which the first has the first cell `first`.
+#[cycle(walk)]
+fn walk_items<W: Walker>(
+    set: &DescSet,
+    item: &Item,
+    most: Option<u32>,
+    count: u32,
+    first: u32,
+    walker: &mut W,
+) -> Result<(), W::Fault>
+    requires reaches { uses_below (length (described set.now).structs) item.now ≡ true }
+    requires may { let slots = elements_by (described set.now) item.now most count first in
+        MayCome W.goes W.numbers W.may slots walker.old }
+    requires small { size_in (described set.now) item.now ≤ 16384 }
+    requires room { first + count * size_in (described set.now) item.now ≤ length (W.numbers walker.old) }
+    requires few { length (W.numbers walker.old) ≤ 16384 }
+    ensures ok { let n = W.numbers walker.new in
+        let slots = elements_by (described set.now) item.now most count first n in
+        OnOk result (W.goes (steps_of slots) walker.old walker.new) }
+    ensures err { let n = W.numbers walker.new in
+        let slots = elements_by (described set.now) item.now most count first n in
+        IfErr result (λ fault. W.stops (steps_of slots) walker.old fault walker.new) }
+{
+    let size = set.item_cells(*item);
+    let mut cell = first;
+    for _turn in 0..count {
+        walk_item(set, item, most, cell, walker)?;
+        cell += size;
+    }
+    Ok(())
+}
+
+// One field, whose first cell is `cell`.
+#[cycle(walk)]
+fn walk_field<W: Walker>(
+    set: &DescSet,
+    spot: Spot,
+    field: u32,
+    cell: u32,
+    walker: &mut W,
+) -> Result<(), W::Fault>
+    requires spot { HasSpot (described set.now) spot (W.numbers walker.old) }
+    requires field { field < length (desc_at (described set.now) spot.part).fields }
+    requires here { cell ≡ cell_of (described set.now) spot field }
+    requires may { let slots = field_by (described set.now) spot field cell in
+        MayCome W.goes W.numbers W.may slots walker.old }
+    requires room { let f = field_at (described set.now) spot.part field in
+        let cells = capacity_of f.count * size_in (described set.now) f.item in
+        cell + cells ≤ length (W.numbers walker.old) }
+    ensures ok { let slots = field_by (described set.now) spot field cell (W.numbers walker.new) in
+        OnOk result (W.goes (steps_of slots) walker.old walker.new) }
+    ensures err { let slots = field_by (described set.now) spot field cell (W.numbers walker.new) in
+        IfErr result (λ fault. W.stops (steps_of slots) walker.old fault walker.new) }
+{
+    let count = present(set, spot, field, walker);
+    let most = set.most(spot.part, field);
+    let described = &set.desc(spot.part).fields.as_slice()[field as usize];
+    walk_items(set, &described.item, most, count, cell, walker)
+}
+
+/// Goes through what stands in the bytes of a part, in order, and then to the end of it.
+#[cycle(walk)]
+pub fn walk<W: Walker>(set: &DescSet, spot: Spot, walker: &mut W) -> Result<(), W::Fault>
+    requires spot { HasSpot (described set.now) spot (W.numbers walker.old) }
+    requires may { MayCome W.goes W.numbers W.may (spot_slots (described set.now) spot) walker.old }
+    ensures ok { let slots = spot_slots (described set.now) spot (W.numbers walker.new) in
+        OnOk result (W.goes (steps_of slots) walker.old walker.new) }
+    ensures err { let slots = spot_slots (described set.now) spot (W.numbers walker.new) in
+        IfErr result (λ fault. W.stops (steps_of slots) walker.old fault walker.new) }
+{
+    let mut cell = spot.base;
+    for field in 0..set.field_count(spot.part) {
+        walk_field(set, spot, field, cell, walker)?;
+        cell += set.field_cells(spot.part, field);
+    }
+    let holds = set.holds_rules(spot.part, spot.base, spot.version, walker);
+    walker.step(Step::Rule { holds })
+}

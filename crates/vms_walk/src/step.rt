@@ -1,0 +1,73 @@
+// What a walk comes to, and what is done there.
+ghost use Rattle.std.specs.Prelude.{OnOk, IfErr};
+
+use vms_desc::Cells;
+use vms_kinds::Kind;
+
+/// One thing that stands in the bytes of a description, or the end of its fields.
+#[derive(Clone, Copy, Drop)]
+pub enum Step {
+    /// The number of a cell, which is at most `most`, if it counts elements.
+    Number {
+        cell: u32,
+        kind: Kind,
+        most: Option<u32>,
+    },
+    /// A number that has no cell.
+    Constant {
+        kind: Kind,
+        value: i128,
+    },
+    /// Unused bytes.
+    Filler {
+        bytes: u16,
+    },
+    /// The end of a description, or of a structure element: whether its validations hold.
+    Rule {
+        holds: bool,
+    },
+}
+
+/// What is done at each step. It may change numbers, but of the cells alone at which it is called.
+pub trait Walker: Cells {
+    ghost use Rattle.std.specs.Prelude.{◌≡◌, List, [], ◌∷◌, ◌++◌, length};
+    ghost use Rattle.vms_walk.specs.declared.step.Step.{Step as OneStep};
+    ghost use Rattle.vms_walk.specs.Inside.{IsInside, Keeps};
+
+    /// Why it stops.
+    type Fault: Drop;
+
+    /// These steps lead from a state to another.
+    ghost goes: { List OneStep → Self → Self → Type 0 };
+
+    /// Within these steps it stops.
+    ghost stops: { List OneStep → Self → Self.Fault → Self → Type 0 };
+
+    /// A step may come in this state.
+    ghost may: { Self → OneStep → Type 0 };
+
+    fn step(&mut self, step: Step) -> Result<(), Self::Fault>
+        requires inside { IsInside (Self.numbers self.old) step }
+        requires may { may self.old step }
+        ensures ok { OnOk result (goes (step ∷ []) self.old self.new) }
+        ensures err { IfErr result (λ fault. stops (step ∷ []) self.old fault self.new) };
+
+    /// Only the cells of the steps change.
+    ghost keeps: { (xs : List OneStep) (a b : Self)
+        → goes xs a b → Keeps xs (Self.numbers a) (Self.numbers b) };
+
+    ghost keeps_stopped: { (xs : List OneStep) (a b : Self) (fault : Self.Fault)
+        → stops xs a fault b → Keeps xs (Self.numbers a) (Self.numbers b) };
+
+    /// Steps after steps.
+    ghost none: { (a : Self) → goes [] a a };
+
+    ghost more: { (xs ys : List OneStep) (a b c : Self)
+        → goes xs a b → goes ys b c → goes (xs ++ ys) a c };
+
+    ghost stops_after: { (xs ys : List OneStep) (a b c : Self) (fault : Self.Fault)
+        → goes xs a b → stops ys b fault c → stops (xs ++ ys) a fault c };
+
+    ghost stops_before: { (xs ys : List OneStep) (a b : Self) (fault : Self.Fault)
+        → stops xs a fault b → stops (xs ++ ys) a fault b };
+}

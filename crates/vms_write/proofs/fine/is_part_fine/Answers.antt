@@ -1,0 +1,39 @@
+use Rattle.std.proofs.Common.{◌≡◌, ◌+◌, ◌-◌, ◌∙◌, sym, ap, arith, ℕ, true, [], List, ℤ}
+use Rattle.vms_parts.specs.Sizes.{in_u32}
+use Rattle.vms_spec.specs.Places.{own_cell_count}
+use Rattle.vms_desc.specs.Described.{described}
+use Rattle.vms_desc.specs.Parts.{desc_at}
+use Rattle.vms_walk.specs.Steps.{steps_of, spot_slots}
+use Rattle.vms_write.specs.Fine.{settle}
+use Rattle.vms_write.specs.Steps.{are_steps_fine, behind}
+use Rattle.vms_write.proofs.StepsFine.{part_fine, part_unfit}
+use Rattle.vms_write.proofs.fine.is_part_fine.Goals as goal
+
+pub returns-in-Ok : goal.returns-in-Ok
+returns-in-Ok c =
+    let set = described c.args.set.now in
+    let spot = c.args.spot in
+    let n = c.args.image.now.numbers in
+    let forms = c.args.forms.now in
+    let judge = c.walk.new.walker in
+    let went = c.in-Ok.ensures.ok in
+    let steps = λ (m : List ℤ). steps_of (spot_slots set spot m) in
+    let same : judge.image.now.numbers ≡ n = ap (λ image. image.now.numbers) went.0 in
+    let fine : are_steps_fine forms n spot.base (steps n) ≡ true = ap (λ (m : List ℤ). are_steps_fine forms n spot.base (steps m)) (sym same) ∙ went.3 in
+    let next : judge.next ≡ behind spot.base (steps n) = went.2 ∙ ap (λ (m : List ℤ). behind spot.base (steps m)) same in
+    let size : c.cells_of.result ≡ in_u32 (own_cell_count set (desc_at set spot.part)) = c.cells_of.ensures in
+    let end = spot.base + c.cells_of.result in
+    let whole : end ≡ spot.base + own_cell_count set (desc_at set spot.part) = omega (arith, size, c.requires.spot.room, c.requires.spot.few) in
+    c.are_default.ensures ∙ ap (λ (k : ℕ). settle [] forms n k (end - k)) next ∙ part_fine set spot forms n end whole fine
+
+pub returns-in-Err : goal.returns-in-Err
+returns-in-Err c =
+    let set = described c.args.set.now in
+    let spot = c.args.spot in
+    let n = c.args.image.now.numbers in
+    let forms = c.args.forms.now in
+    let judge = c.walk.new.walker in
+    let stopped = c.in-Err.ensures.err in
+    let steps = λ (m : List ℤ). steps_of (spot_slots set spot m) in
+    let same : judge.image.now.numbers ≡ n = ap (λ image. image.now.numbers) stopped.0 in
+    part_unfit set spot forms n (ap (λ (m : List ℤ). are_steps_fine forms n spot.base (steps m)) (sym same) ∙ stopped.1)

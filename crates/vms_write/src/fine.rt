@@ -1,0 +1,158 @@
+// Whether a part of an image is fine, step by step.
+ghost use Rattle.std.specs.Prelude.{◌≡◌, ◌<◌, ◌≤◌, ◌-◌, [], length, get_or, pos};
+ghost use Rattle.vms_spec.specs.Places.{own_cell_count};
+ghost use Rattle.vms_spec.specs.Rules.{in_range};
+ghost use Rattle.vms_spec.specs.Numbers.{same_number};
+ghost use Rattle.vms_desc.specs.Described.{described};
+ghost use Rattle.vms_desc.specs.Parts.{desc_at};
+ghost use Rattle.vms_walk.specs.Steps.{HasSpot, spot_slots};
+ghost use Rattle.vms_write.specs.Fine.{no_form, is_within, settle, is_fine};
+ghost use Rattle.vms_write.specs.Steps.{is_number_fine};
+
+use vms_desc::{CellForm, Cells, DescSet};
+use vms_image::Image;
+use vms_kinds::Kind;
+use vms_walk::{Spot, Step, Walker, walk};
+
+// Whether each number of a part is in range and counts no more than there is room for, each of its cells that
+// doesn't stand in the bytes is at its default, and its validations hold, those of its structures among them.
+pub(crate) fn is_part_fine(set: &DescSet, spot: Spot, image: &Image, forms: &[CellForm]) -> bool
+    requires spot { HasSpot (described set.now) spot image.now.numbers }
+    requires forms { length forms.now ≡ length image.now.numbers }
+    ensures { let slots = spot_slots (described set.now) spot image.now.numbers in
+        let size = own_cell_count (described set.now) (desc_at (described set.now) spot.part) in
+        result ≡ is_fine forms.now image.now.numbers slots spot.base size }
+{
+    let mut judge = Judge {
+        image,
+        forms,
+        next: spot.base,
+    };
+    match walk(set, spot, &mut judge) {
+        Ok(()) => {
+            let end = spot.base + set.cells_of(spot.part);
+            are_default(image, forms, judge.next, end)
+        }
+        Err(Unfit) => false,
+    }
+}
+
+// Judges each step: the cells from `next` on are still to be judged.
+#[derive(Clone, Copy, Drop)]
+struct Judge<'a> {
+    image: &'a Image,
+    forms: &'a [CellForm],
+    next: u32,
+}
+
+// A step isn't fine.
+#[derive(Clone, Copy, Drop)]
+struct Unfit;
+
+impl Cells for Judge<'_> {
+    ghost numbers = { λ judge. judge.image.now.numbers };
+
+    fn number(&self, cell: u32) -> i128 {
+        self.image.get(cell)
+    }
+}
+
+impl Walker for Judge<'_> {
+    ghost use Rattle.std.specs.Prelude.{◌≡◌, ◌≤◌, true, false, refl, length};
+    ghost use Rattle.std.proofs.Common.{ap, sym, ◌∙◌};
+    ghost use Rattle.vms_walk.proofs.Kept.{keeps_same};
+    ghost use Rattle.vms_write.specs.Steps.{behind, behind_append};
+    ghost use Rattle.vms_write.specs.Steps.{are_steps_fine, fine_then, fine_before};
+
+    type Fault = Unfit;
+
+    ghost goes = { λ xs a b. (b.image ≡ a.image) × (b.forms ≡ a.forms) × (b.next ≡ behind a.next xs)
+        × (are_steps_fine a.forms.now a.image.now.numbers a.next xs ≡ true) };
+
+    ghost stops = { λ xs a fault b. (b.image ≡ a.image)
+        × (are_steps_fine a.forms.now a.image.now.numbers a.next xs ≡ false) };
+
+    ghost may = { λ a step. (length a.image.now.numbers ≤ 16384)
+        × (length a.forms.now ≡ length a.image.now.numbers) };
+
+    ghost keeps = { λ xs a b h. keeps_same xs _ _ (ap (λ image. image.now.numbers) h.0) };
+
+    ghost keeps_stopped = { λ xs a b fault h. keeps_same xs _ _ (ap (λ image. image.now.numbers) h.0) };
+
+    ghost none = { λ a. (refl, refl, refl, refl) };
+
+    ghost more = { λ xs ys a b c h k.
+        let forms = ap (λ forms. forms.now) h.1 in
+        let numbers = ap (λ image. image.now.numbers) h.0 in
+        let next = k.2 ∙ ap (λ n. behind n ys) h.2 ∙ sym (behind_append a.next xs ys) in
+        (k.0 ∙ h.0, k.1 ∙ h.1, next, fine_then _ _ _ _ a.next b.next xs ys true forms numbers h.2 h.3 k.3) };
+
+    ghost stops_after = { λ xs ys a b c fault h k.
+        let forms = ap (λ forms. forms.now) h.1 in
+        let numbers = ap (λ image. image.now.numbers) h.0 in
+        (k.0 ∙ h.0, fine_then _ _ _ _ a.next b.next xs ys false forms numbers h.2 h.3 k.1) };
+
+    ghost stops_before = { λ xs ys a b fault h. (h.0, fine_before _ _ a.next xs ys h.1) };
+
+    fn step(&mut self, step: Step) -> Result<(), Unfit> {
+        match step {
+            Step::Number { cell, kind, most } => {
+                if !is_number_fine(kind, most, self.image.get(cell)) {
+                    return Err(Unfit);
+                }
+                if !are_default(self.image, self.forms, self.next, cell) {
+                    return Err(Unfit);
+                }
+                self.next = cell + 1;
+                Ok(())
+            }
+            Step::Constant { .. } | Step::Filler { .. } => Ok(()),
+            Step::Rule { holds } => { if holds { Ok(()) } else { Err(Unfit) } }
+        }
+    }
+}
+
+// A number is in its kind's range and counts `most` at most.
+fn is_number_fine(kind: Kind, most: Option<u32>, number: i128) -> bool
+    ensures { result ≡ is_number_fine kind most number }
+{
+    is_in_range(kind, number) && is_within(most, number)
+}
+
+fn is_in_range(kind: Kind, number: i128) -> bool
+    ensures { result ≡ in_range kind number }
+{
+    kind.in_range(number)
+}
+
+fn is_within(most: Option<u32>, number: i128) -> bool
+    ensures { result ≡ is_within most number }
+{
+    match most {
+        None => true,
+        Some(most) => number <= i128::from(most),
+    }
+}
+
+// The cells from one up to another are at their defaults.
+pub(crate) fn are_default(image: &Image, forms: &[CellForm], first: u32, end: u32) -> bool
+    requires forms { length forms.now ≡ length image.now.numbers }
+    requires end { end ≤ length image.now.numbers }
+    ensures { result ≡ settle [] forms.now image.now.numbers first (end - first) }
+{
+    for cell in first..end {
+        if !is_default(image, forms, cell) {
+            return false;
+        }
+    }
+    true
+}
+
+fn is_default(image: &Image, forms: &[CellForm], cell: u32) -> bool
+    requires forms { length forms.now ≡ length image.now.numbers }
+    requires inside { cell < length image.now.numbers }
+    ensures { let default = (get_or forms.now cell no_form).default in
+        result ≡ same_number (get_or image.now.numbers cell (pos 0)) default }
+{
+    image.get(cell) == forms[cell as usize].default
+}
