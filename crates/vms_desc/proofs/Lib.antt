@@ -7,7 +7,6 @@ pub mod FormLaws
 pub mod NumberLaws
 pub mod PathBegins
 pub mod PathLaws
-pub mod TableLaws
 pub mod AskLaws
 pub mod Clean
 pub mod HeadLaws

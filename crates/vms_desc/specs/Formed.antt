@@ -1,16 +1,8 @@
--- Whether a set is well formed, as a test, and the shipped sets by number.
-use Rattle.std.specs.Prelude.{ℕ, zero, suc, Bool, is_none}
+-- Whether a set is well formed, as a test.
+use Rattle.std.specs.Prelude.{Bool, is_none}
 use Rattle.vms_spec.specs.Sets.{Set}
-use Rattle.vms_spec.specs.Shipped.{set_0, set_1, set_2, set_3, set_4}
 use Rattle.vms_spec.specs.WellFormed.{first_fault}
+pub use Rattle.vms_shipped.specs.Numbered.{shipped_set}
 
 abbrev pub is_well_formed : Set → Bool
 is_well_formed set = is_none (first_fault set)
-
--- the shipped set of a number, up to 4
-abbrev pub shipped_set : ℕ → Set
-shipped_set zero = set_0
-shipped_set (suc zero) = set_1
-shipped_set (suc (suc zero)) = set_2
-shipped_set (suc (suc (suc zero))) = set_3
-shipped_set s = set_4

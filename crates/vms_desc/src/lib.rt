@@ -10,7 +10,6 @@ mod heads;
 mod judged;
 mod path;
 mod set;
-mod shipped;
 mod table;
 
 pub use eval::{Cells, Numbers};

@@ -18,12 +18,12 @@ ghost use Rattle.vms_parts.specs.Views.{set_of, formula, desc_of, device_of, for
 use crate::eval::{Scope, holds};
 use crate::forms::layout;
 use crate::heads::fit_heads;
-use crate::shipped::shipped_parts;
 use crate::table::{Table, device_tables, struct_tables};
 use crate::{CellForm, Cells, Desc, Device, Listed, Part, Parts, Test};
 use std::alloc::{AllocError, Global};
 use vms_io::NoMemory;
 use vms_parts::{Measure, struct_sizes};
+use vms_shipped::shipped_parts;
 
 /// A well-formed set, with the cells of each device laid out beside it.
 #[derive(Drop)]
