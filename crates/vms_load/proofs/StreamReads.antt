@@ -8,11 +8,11 @@ use Rattle.vms_laws.specs.Whole.{reading_on}
 use Rattle.vms_laws.proofs.FrameLaws.{one_unit}
 use Rattle.vms_laws.proofs.ReadingLaws.{advances}
 use Rattle.vms_laws.proofs.JudgeLaws.{judge_local}
-use Rattle.vms_frames.specs.Answers.{Closes}
-use Rattle.vms_frames.specs.Found.{Found, Whole, Wrong, Cut, trailer_found}
-use Rattle.vms_frames.specs.Judged.{judge_found, judge_close}
-use Rattle.vms_frames.proofs.JudgedLemmas.{trailer_holds}
-use Rattle.vms_frames.specs.declared.fault.FrameFault.{FrameFault}
+use Rattle.vms_cursor.specs.Answers.{Closes}
+use Rattle.vms_cursor.specs.Found.{Found, Whole, Wrong, Cut, trailer_found}
+use Rattle.vms_cursor.specs.Judged.{judge_found, judge_close}
+use Rattle.vms_cursor.proofs.JudgedLemmas.{trailer_holds}
+use Rattle.vms_cursor.specs.declared.fault.FrameFault.{FrameFault}
 use Rattle.vms_load.specs.Reads.{Onward, Leads, Reads, concerning}
 use Rattle.vms_load.specs.Staging.{state_of, ReadsAll}
 use Rattle.vms_load.specs.declared.fault.LoadFault.{LoadFault}
