@@ -10,14 +10,13 @@ use Rattle.vms_spec.specs.Lists.{at, at_option}
 use Rattle.vms_spec.specs.Sets.{Set}
 use Rattle.vms_spec.specs.Images.{Image}
 use Rattle.vms_spec.specs.Shipped.{set_0, timer}
-use Rattle.vms_spec.specs.Streams.{written}
+use Rattle.vms_spec.specs.Streams.{written, AreReady}
 use Rattle.vms_spec.specs.ValuesReading.{ValuesRead, Values, Bad, values_read}
 use Rattle.vms_spec.specs.declared.ValuesReason.{ValuesReason}
 use Rattle.vms_values.specs.Reading.{ReadsAs}
 use Rattle.vms_values.specs.declared.fault.Values.{Values as Given}
 use Rattle.vms_values.specs.declared.fault.ValuesFault.{ValuesFault}
 use Rattle.vms_values.specs.declared.fault.ValuesFault.TheVariants as faults
-use Rattle.vms_laws.specs.Laws.{AreReady}
 use Rattle.vms_texts.proofs.Backs.{read_holds}
 use Rattle.vms_texts.proofs.Rounds.{timers_ready}
 use Rattle.vms_cli.specs.declared.ending.Ending.{Ending}

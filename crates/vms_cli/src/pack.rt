@@ -3,9 +3,8 @@ ghost use Rattle.std.specs.Prelude.{◌≡◌, ◌<◌, ◌≤◌, ◌^◌, leng
 ghost use Rattle.vms_io.specs.Told.{Intake, Stock, outlet, stock};
 ghost use Rattle.vms_spec.specs.Lists.{at_option};
 ghost use Rattle.vms_spec.specs.Shipped.{set_0};
-ghost use Rattle.vms_spec.specs.Streams.{written};
+ghost use Rattle.vms_spec.specs.Streams.{written, AreReady};
 ghost use Rattle.vms_desc.specs.Described.{described};
-ghost use Rattle.vms_laws.specs.Laws.{AreReady};
 ghost use Rattle.vms_cli.specs.Outcomes.{Outcome};
 ghost use Rattle.vms_cli.specs.Pack.{Packs, PacksText, longest_values};
 ghost use Rattle.vms_cli.specs.Endings.{EndsAs, PackCause, WriteCause, WritesAs};

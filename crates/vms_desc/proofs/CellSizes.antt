@@ -8,7 +8,7 @@ use Rattle.vms_kinds.specs.declared.Item.{Item}
 use Rattle.vms_kinds.specs.declared.Item.TheVariants.{Num, Equal, Unused, Struct}
 use Rattle.vms_spec.specs.Sets.{Field, Desc, Sub, Device, Set}
 use Rattle.vms_spec.specs.Layout.{Cell, first, no_desc, times, counted, capacity_of, item_cells, field_cells, cells_from, desc_cells, struct_cells, device_cells, item_size}
-use Rattle.vms_laws.proofs.Places.{field_size}
+use Rattle.vms_spec.proofs.Sizes.{field_size}
 use Rattle.vms_parts.specs.declared.sizes.Measure.TheVariants.{Cells}
 use Rattle.vms_parts.specs.declared.types.CellForm.{CellForm}
 use Rattle.vms_parts.specs.Sizes.{in_u32, size_of, fields_size, sizes_to}

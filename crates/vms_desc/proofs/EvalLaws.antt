@@ -9,7 +9,7 @@ use Rattle.vms_spec.specs.declared.Whose.TheVariants.{Own, Parent}
 use Rattle.vms_spec.specs.Sets.{Formula, AtLeast, Below, Cell, Not, And, Or, Field, Desc, Sub, Device, Set}
 use Rattle.vms_spec.specs.Tests.{truth, compares}
 use Rattle.vms_spec.specs.Layout.{Cell as OneCell, no_field, kind_of, capacity_of, place_of, field_cells, desc_cells, struct_cells, numbers_of}
-use Rattle.vms_laws.proofs.Places.{field_size}
+use Rattle.vms_spec.proofs.Sizes.{field_size}
 use Rattle.vms_parts.specs.declared.sizes.Measure.TheVariants.{Cells}
 use Rattle.vms_parts.specs.Sizes.{in_u32, size_of, fields_size}
 use Rattle.vms_desc.specs.Numbers.{sizes_of, place_in, number_in}

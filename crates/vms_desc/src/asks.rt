@@ -5,7 +5,6 @@ ghost use Rattle.vms_spec.specs.Tests.{is_there};
 ghost use Rattle.vms_spec.specs.declared.Part.TheVariants as parts;
 ghost use Rattle.vms_parts.specs.Capacities.{least_of};
 ghost use Rattle.vms_parts.specs.Sizes.{in_u32};
-ghost use Rattle.vms_laws.specs.Good.{IsGood};
 ghost use Rattle.vms_desc.specs.Asks.{first_cell, field_at, own_numbers, needed_at, HasCells};
 ghost use Rattle.vms_desc.specs.Parts.{HasPart, desc_at};
 ghost use Rattle.vms_desc.specs.Scopes.{IsScope};
@@ -17,11 +16,6 @@ use vms_parts::{Measure, capacity, item_size};
 
 impl DescSet {
     ghost use Rattle.vms_desc.specs.Described.{described, device_at};
-
-    /// The set is good, as the laws of the format want it.
-    pub fn is_good(&self)
-        ensures { IsGood (described self.now) }
-    {}
 
     /// Where the cells of a part begin among those of its device: at 0, or after the cells that stand
     /// before a subsection.

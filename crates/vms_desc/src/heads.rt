@@ -1,6 +1,6 @@
 // Numbers that heads of sections and subsections have.
 ghost use Rattle.std.specs.Prelude.{◌≡◌, ◌<◌, ◌^◌};
-ghost use Rattle.vms_laws.specs.Good.{FitsHeads};
+ghost use Rattle.vms_spec.specs.Heads.{FitsHeads};
 ghost use Rattle.vms_desc.specs.Heads.{FitsHead, FitsSub};
 ghost use Rattle.vms_parts.specs.Views.{set_of, device_of, sub_of};
 

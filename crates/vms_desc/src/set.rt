@@ -6,7 +6,7 @@ ghost use Rattle.vms_spec.specs.Layout.{device_cells, struct_cells, numbers_of};
 ghost use Rattle.vms_spec.specs.Places.{own_cell_count};
 ghost use Rattle.vms_spec.specs.Tests.{truth};
 ghost use Rattle.vms_spec.specs.Judging.{find_device};
-ghost use Rattle.vms_laws.specs.Good.{FitsHeads};
+ghost use Rattle.vms_spec.specs.Heads.{FitsHeads};
 ghost use Rattle.vms_desc.specs.Formed.{is_well_formed, shipped_set};
 ghost use Rattle.vms_desc.specs.Numbers.{sizes_of};
 ghost use Rattle.vms_desc.specs.Parts.{HasPart, HasParentCells, desc_at, parent_of, is_placed};

@@ -1,8 +1,10 @@
 -- The files of worked sets and of the shipped ones, which say these sets again.
-use Rattle.std.proofs.Common.{◌≡◌, refl}
+use Rattle.std.proofs.Common.{◌≡◌, Bool, true, nat_le, refl}
+use Rattle.serde_json.specs.Data.{depth}
+use Rattle.serde_json.specs.Read.{max_depth}
 use Rattle.std.specs.Fmt.{digits}
 use Rattle.vms_spec.specs.Sets.{Set}
-use Rattle.vms_spec.specs.Shipped.{set_0, set_1, set_2, set_3}
+use Rattle.vms_spec.specs.Shipped.{set_0, set_1, set_2, set_3, set_4}
 use Rattle.vms_spec.proofs.Boxes.{counted_set, tested_set, constant_set, subsection_set}
 use Rattle.vms_descfile.specs.Answers.{Answer, good}
 use Rattle.vms_descfile.specs.Files.{parts_of}
@@ -43,3 +45,18 @@ says_set_2_again = refl
 says_set_3_again : again set_3 ≡ good set_3
 unfolding again
 says_set_3_again = refl
+
+says_set_4_again : again set_4 ≡ good set_4
+unfolding again
+says_set_4_again = refl
+
+-- ---- the files of shipped sets nest less than what is read back
+
+abbrev nests_little : Set → Bool
+nests_little set = nat_le (depth (set_file set)) max_depth
+
+set_0_nests_little : nests_little set_0 ≡ true
+set_0_nests_little = refl
+
+set_4_nests_little : nests_little set_4 ≡ true
+set_4_nests_little = refl

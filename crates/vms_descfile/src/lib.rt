@@ -1,10 +1,12 @@
 //! Description files: sets of descriptions as JSON.
 #![tactic(auto)]
 
+mod built;
 mod cells;
 mod descs;
 mod devices;
 mod fault;
+mod field_file;
 mod fields;
 mod file_fault;
 mod keys;
@@ -12,9 +14,16 @@ mod lists;
 mod members;
 mod names;
 mod read;
+mod set_file;
 mod sort;
+mod test_file;
 mod tests;
 mod words;
+mod write;
 
 pub use file_fault::FileFault;
 pub use read::read_set;
+pub use write::write_set;
+
+#[cfg(test)]
+mod examples;

@@ -8,7 +8,7 @@ use Rattle.vms_spec.specs.Sets.{Field, Desc}
 use Rattle.vms_spec.specs.Tests.{is_there}
 use Rattle.vms_spec.specs.Layout.{Slot, Number, Constant, Filler, Rule, Cell, no_cell, Meaning, no_meaning, no_desc, item_cells, item_slots, item_size, times, field_slots, slots_from, desc_slots, desc_cells, cells_from, field_cells, numbers_of, elements_of, capacity_of, counted, all_hold, no_parent, first, meaning, meanings}
 use Rattle.vms_laws.specs.Cells.{AreCells}
-use Rattle.vms_laws.proofs.Places.{size_same, elements_fit}
+use Rattle.vms_spec.proofs.Sizes.{size_same, elements_fit}
 
 -- from a place on, these cells stand in a list
 pub record Stands (all : List Cell) (at : ℕ) (cells : List Cell) : Type 0 where

@@ -4,13 +4,13 @@ use Rattle.vms_spec.specs.Numbers.{IsBytes}
 use Rattle.vms_spec.specs.Sets.{Set}
 use Rattle.vms_spec.specs.Images.{Image}
 use Rattle.vms_spec.specs.Shipped.{set_0, set_1, set_2, set_3, set_4}
-use Rattle.vms_spec.specs.Streams.{IsConfiguration, IsTrailer, Takes, optional, configuration, trailer, written}
+use Rattle.vms_spec.specs.Streams.{IsConfiguration, IsTrailer, Takes, optional, configuration, trailer, written, AreReady}
 use Rattle.vms_spec.specs.declared.Reason.{Reason}
 use Rattle.vms_spec.specs.Readings.{Accepted, Refused}
 use Rattle.vms_spec.specs.Faults.{Fault}
 use Rattle.vms_spec.specs.Judging.{State, reading}
 use Rattle.vms_laws.specs.Good.{IsGood}
-use Rattle.vms_laws.specs.Laws.{AreSame, AreReady, Answer, AreOneFault}
+use Rattle.vms_laws.specs.Laws.{AreSame, Answer, AreOneFault}
 
 -- what the judge accepts, the input takes
 abbrev pub GoodFoundLaw : Type 0

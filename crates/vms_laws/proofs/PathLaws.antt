@@ -10,7 +10,8 @@ use Rattle.vms_spec.specs.Sets.{Field, Desc, Sub, Device, Set}
 use Rattle.vms_spec.specs.Layout.{Cell, no_desc, first, item_size, capacity_of, place_of, field_cells, cells_from, desc_cells, struct_cells, device_cells}
 use Rattle.vms_spec.specs.Images.{sub_place, own_cells}
 use Rattle.vms_spec.specs.Places.{item_at, element_at, path_at, desc_of_sub, cell_in, cell_at, size_of_device, cell_count}
-use Rattle.vms_laws.proofs.Places.{field_size, place_up}
+use Rattle.vms_laws.proofs.Places.{place_up}
+use Rattle.vms_spec.proofs.Sizes.{field_size}
 
 -- ---- tables by number
 

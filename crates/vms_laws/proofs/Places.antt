@@ -9,7 +9,8 @@ use Rattle.vms_spec.specs.declared.Count.TheVariants.{One, Fixed, Counted}
 use Rattle.vms_spec.specs.declared.Whose.TheVariants.{Own, Parent}
 use Rattle.vms_spec.specs.Sets.{Formula, AtLeast, Below, Cell, Not, And, Or, Field, Desc}
 use Rattle.vms_spec.specs.Tests.{truth, is_there, compares}
-use Rattle.vms_spec.specs.Layout.{Cell as OneCell, place_of, field_cells, item_cells, item_size, capacity_of, times, cells_from, numbers_of, no_field, kind_of, no_parent, all_hold, elements_of, counted}
+use Rattle.vms_spec.specs.Layout.{Cell as OneCell, place_of, field_cells, item_size, capacity_of, cells_from, numbers_of, no_field, kind_of, no_parent, all_hold, elements_of}
+use Rattle.vms_spec.proofs.Sizes.{field_size}
 use Rattle.vms_laws.specs.Sound.{IsNumber, IsOne, IsEarlier, NamesEarlier, IsSoundTest, IsSoundCount}
 
 -- the numbers below a cell stay
@@ -25,29 +26,7 @@ same_less cell further n m le s = record { same = λ c h. s.same c (omega arith)
 pub same_trans : (cell : ℕ) (n m k : List ℤ) → SameBelow cell n m → SameBelow cell m k → SameBelow cell n k
 same_trans cell n m k s t = record { same = λ c h. t.same c h ∙ s.same c h }
 
--- ---- sizes
-
-pub length-times : {B : Type 0} (n : ℕ) (xs : List B) (at step : ℕ) → length (times n (λ _. xs) at step) ≡ n * length xs
-length-times zero xs at step = omega arith
-length-times (suc n) xs at step =
-    let e : length (times n (λ _. xs) (at + step) step) ≡ n * length xs = length-times n xs (at + step) step in
-    let f : suc n * length xs ≡ length xs + n * length xs = grind arith in
-    length-append xs (times n (λ _. xs) (at + step) step) ∙ ap (λ (k : ℕ). length xs + k) e ∙ sym f
-
-pub size_same : (cs : List (List OneCell)) (item : Item) (caps : List ℕ) (z : ℤ) → length (item_cells cs item caps z) ≡ item_size cs item
-size_same cs (Num kind) caps z = refl
-size_same cs (Equal kind y) caps z = refl
-size_same cs (Unused n) caps z = refl
-size_same cs (Struct j) caps z = refl
-
-pub field_size : (cs : List (List OneCell)) (fields : List Field) (i : ℕ) (f : Field) → length (field_cells cs fields i f) ≡ capacity_of f.count * item_size cs f.item
-field_size cs fields i f =
-    length-times (capacity_of f.count) (item_cells cs f.item (counted i fields) f.default) 0 0 ∙ ap (λ (k : ℕ). capacity_of f.count * k) (size_same cs f.item (counted i fields) f.default)
-
-pub elements_fit : (c : Count) (own : ℕ → ℕ) → elements_of c own ≤ capacity_of c
-elements_fit One own = omega arith
-elements_fit (Fixed n) own = omega arith
-elements_fit (Counted by most) own = omega arith
+-- ---- places
 
 one_cell : (cs : List (List OneCell)) (item : Item) (c : Count) → IsNumber item → IsOne c → capacity_of c * item_size cs item ≡ 1
 one_cell cs (Num kind) One p q = refl
@@ -56,8 +35,6 @@ one_cell cs (Num kind) (Counted by most) p q = absurd q
 one_cell cs (Equal kind z) c p q = absurd p
 one_cell cs (Unused n) c p q = absurd p
 one_cell cs (Struct j) c p q = absurd p
-
--- ---- places
 
 place_zero : (cs : List (List OneCell)) (fields : List Field) (i at : ℕ) (fs : List Field) → place_of cs fields i at fs zero ≡ at
 place_zero cs fields i at [] = refl

@@ -7,7 +7,8 @@ use Rattle.vms_spec.specs.Sets.{Field, Desc}
 use Rattle.vms_spec.specs.Tests.{is_there}
 use Rattle.vms_spec.specs.Layout.{Slot, Rule, Cell, Meaning, no_meaning, no_desc, item_slots, item_size, times, field_slots, slots_from, desc_slots, desc_cells, cells_from, field_cells, place_of, numbers_of, no_field, kind_of, elements_of, capacity_of, counted, all_hold, no_parent, first, meaning, meanings}
 use Rattle.vms_laws.specs.Sound.{IsSound, AreSound, IsSoundField, AreSoundFields, IsEarlier}
-use Rattle.vms_laws.proofs.Places.{SameBelow, there_same, elements_same, hold_same, field_size, elements_fit, place_next, place_end, place_up, place_below}
+use Rattle.vms_laws.proofs.Places.{SameBelow, there_same, elements_same, hold_same, place_next, place_end, place_up, place_below}
+use Rattle.vms_spec.proofs.Sizes.{field_size, elements_fit}
 use Rattle.vms_laws.proofs.WalkLaws.{drop_next, mul_less, place_first, zero_plus}
 
 -- the numbers of the cells from low on and below end are the same

@@ -12,7 +12,8 @@ use Rattle.vms_spec.specs.Layout.{Slot, Number, Constant, Filler, Rule, Cell, Me
 use Rattle.vms_spec.specs.Taking.{Taken, Progress, Refusal, Taker, no_taker, takers, taker_of, cells_of, take_number, take_constant, take_filler, take_rule, take_item, take_items, take_field, take_fields, take_desc, check_rules, refuse, on, ◌>>=◌}
 use Rattle.vms_laws.specs.Sound.{IsSound, AreSound, IsSoundField, AreSoundFields, IsEarlier}
 use Rattle.vms_laws.proofs.AboveLaws.{IsAbove, MeanAbove, above_none, above_append, above_less, items_above, fields_above, meanings_above}
-use Rattle.vms_laws.proofs.Places.{SameBelow, same_refl, same_less, same_trans, own_same, there_same, elements_same, hold_same, field_size, elements_fit, place_next, place_end}
+use Rattle.vms_laws.proofs.Places.{SameBelow, same_refl, same_less, same_trans, own_same, there_same, elements_same, hold_same, place_next, place_end}
+use Rattle.vms_spec.proofs.Sizes.{field_size, elements_fit}
 
 -- one slot's unit, or its rule
 abbrev pub take_slot : Slot → Progress → Taken

@@ -24,7 +24,8 @@ use Rattle.vms_spec.specs.Judging.{find_device, find_sub}
 use Rattle.vms_spec.specs.Rules.{is_num, is_one, has_no_test, is_steady, is_steady_in, is_earlier_in, names_well, nobody, test_names_well, count_names_well, is_counting, defaults_well, counts_well, int_le, in_range, field_rules, validation_rules}
 use Rattle.vms_spec.specs.WellFormed.{failing, here, in_field, fields_fault, validations_fault, desc_fault, struct_fault, struct_rules, sub_fault, sub_rules, device_fault, device_rules, is_same_device, set_rules, size_rules, first_fault, WellFormed}
 use Rattle.vms_laws.specs.Sound.{IsNumber, IsOne, IsEarlier, NamesEarlier, IsSoundTest, IsSoundCount, IsSoundField, AreSoundFields, IsSound}
-use Rattle.vms_laws.specs.Good.{DefaultsFit, ConstantFits, ConstantsFit, FitsHeads, IsGood}
+use Rattle.vms_laws.specs.Good.{DefaultsFit, ConstantFits, ConstantsFit, IsGood}
+use Rattle.vms_spec.specs.Heads.{FitsHeads}
 use Rattle.vms_laws.proofs.PartLaws.{at_inside}
 
 -- ---- no fault anywhere

@@ -4,7 +4,8 @@ use Rattle.vms_spec.specs.Sets.{Set}
 use Rattle.vms_spec.specs.Shipped.{set_0, set_1, set_2, set_3, set_4}
 use Rattle.vms_spec.specs.Streams.{IsConfiguration, IsTrailer, optional, configuration, trailer, longest_text}
 use Rattle.vms_spec.specs.WellFormed.{WellFormed}
-use Rattle.vms_laws.specs.Good.{IsGood, FitsHeads}
+use Rattle.vms_laws.specs.Good.{IsGood}
+use Rattle.vms_spec.specs.Heads.{FitsHeads}
 use Rattle.vms_laws.specs.Laws.{IsFit, ShippedLaw, IsAccepted, WrittenLaw}
 use Rattle.vms_laws.proofs.Stated.{shipped_holds, written_holds}
 use Rattle.vms_laws.proofs.Witness.{well_0, well_1, well_2, well_3, well_4}

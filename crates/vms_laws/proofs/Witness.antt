@@ -5,7 +5,8 @@ use Rattle.vms_spec.specs.Sets.{Device, Sub, Set}
 use Rattle.vms_spec.specs.Layout.{first}
 use Rattle.vms_spec.specs.WellFormed.{first_fault, WellFormed}
 use Rattle.vms_spec.specs.Shipped.{set_0, set_1, set_2, set_3, set_4}
-use Rattle.vms_laws.specs.Good.{FitsHeads, IsGood}
+use Rattle.vms_laws.specs.Good.{IsGood}
+use Rattle.vms_spec.specs.Heads.{FitsHeads}
 use Rattle.vms_laws.proofs.WellFormedLaws.{well_good}
 
 abbrev SubsFit : List Sub → Type 0

@@ -39,8 +39,3 @@ pub record IsGood (set : Set) : Type 0 where
   -- what stands in four bytes
   pub instance : (k : ℕ) (d : Device) → at set.devices k ≡ Some d → (d.instance < 2 ^ 32) × (d.desc.version < 2 ^ 32)
   pub sub_version : (k j : ℕ) (d : Device) (s : Sub) → at set.devices k ≡ Some d → at d.subs j ≡ Some s → s.desc.version < 2 ^ 32
-
--- the numbers that a section head and a subsection head have for them are of four bytes
-pub record FitsHeads (set : Set) : Type 0 where
-  pub instance : (k : ℕ) (d : Device) → at set.devices k ≡ Some d → (d.instance < 2 ^ 32) × (d.desc.version < 2 ^ 32)
-  pub sub_version : (k j : ℕ) (d : Device) (s : Sub) → at set.devices k ≡ Some d → at d.subs j ≡ Some s → s.desc.version < 2 ^ 32

@@ -1,11 +1,10 @@
 -- The laws of the format, each as a statement.
 use Rattle.std.specs.Prelude.{◌≡◌, Bool, true, ℕ, ◌≤◌, ◌<◌, List, [], ◌++◌, length, Option, Some, None, IfSome, ℤ}
-use Rattle.vms_spec.specs.Lists.{at}
 use Rattle.vms_spec.specs.Numbers.{IsBytes}
 use Rattle.vms_spec.specs.Sets.{Device, Set}
 use Rattle.vms_spec.specs.Layout.{Slot}
 use Rattle.vms_spec.specs.Images.{Image, Spells, zeroed}
-use Rattle.vms_spec.specs.Streams.{IsSection, IsStream, Takes, IsReady, is_one_of, longest_text, written_section, written}
+use Rattle.vms_spec.specs.Streams.{IsSection, IsStream, Takes, IsReady, AreReady, is_one_of, longest_text, written_section, written}
 use Rattle.vms_spec.specs.declared.Reason.{Reason}
 use Rattle.vms_spec.specs.Readings.{Reading, Accepted, Refused}
 use Rattle.vms_spec.specs.Faults.{Fault}
@@ -14,7 +13,8 @@ use Rattle.vms_spec.specs.Places.{cell_at, cell_count}
 use Rattle.vms_spec.specs.Readiness.{is_ready}
 use Rattle.vms_spec.specs.WellFormed.{WellFormed}
 use Rattle.vms_spec.specs.Shipped.{set_0, set_1, set_2, set_3, set_4}
-use Rattle.vms_laws.specs.Good.{FitsHeads, IsGood}
+use Rattle.vms_laws.specs.Good.{IsGood}
+use Rattle.vms_spec.specs.Heads.{FitsHeads}
 use Rattle.vms_laws.specs.Units.{IsLocal}
 
 -- a set that is well formed and whose numbers fit their four bytes is good
@@ -81,11 +81,6 @@ ZeroedLaw = (numbers : List ℤ) (slots : List Slot) → Spells numbers slots (z
 abbrev pub SectionLaw : Type 0
 SectionLaw = (set : Set) (d : Device) (image : Image) (id : ℕ) → id < 4294967296 → IsReady set d image
     → IsSection set d image id (written_section set d image id)
-
--- a ready image for each device
-pub record AreReady (set : Set) (images : List Image) : Type 0 where
-  pub one_each : length images ≡ length set.devices
-  pub ready : (k : ℕ) (d : Device) (image : Image) → at set.devices k ≡ Some d → at images k ≡ Some image → IsReady set d image
 
 -- a machine of these, with a name that a configuration can hold
 abbrev pub IsAccepted : List (List ℕ) → List ℕ → Type 0

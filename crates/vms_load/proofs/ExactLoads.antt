@@ -8,7 +8,7 @@ use Rattle.vms_spec.specs.Numbers.{IsBytes}
 use Rattle.vms_spec.specs.Sets.{Set}
 use Rattle.vms_units.specs.Streams.{Takes}
 use Rattle.vms_spec.specs.WellFormed.{WellFormed}
-use Rattle.vms_laws.specs.Good.{FitsHeads}
+use Rattle.vms_spec.specs.Heads.{FitsHeads}
 use Rattle.vms_units.proofs.Stated.{one_stream_holds, never_both_holds, one_fault_holds}
 use Rattle.vms_load.specs.Exact.{GivesStream, IsRefusedAt, ExactLaw}
 use Rattle.vms_load.specs.Loads.{Loads}

@@ -5,7 +5,7 @@ use Rattle.vms_spec.specs.Sets.{Set}
 use Rattle.vms_spec.specs.Images.{Image}
 use Rattle.vms_spec.specs.WellFormed.{WellFormed}
 use Rattle.vms_spec.specs.Readings.{Reading, Accepted, Refused}
-use Rattle.vms_laws.specs.Good.{FitsHeads}
+use Rattle.vms_spec.specs.Heads.{FitsHeads}
 use Rattle.vms_units.specs.Streams.{Takes}
 use Rattle.vms_units.specs.Judge.{reading}
 use Rattle.vms_units.specs.State.{State, by_state, at_start}

@@ -8,7 +8,8 @@ use Rattle.vms_spec.specs.WellFormed.{first_fault, WellFormed, has_few, failing,
 use Rattle.vms_spec.specs.declared.Part.{Part}
 use Rattle.vms_spec.specs.declared.Part.TheVariants as parts
 use Rattle.vms_spec.specs.Lists.{or_else, first_answer}
-use Rattle.vms_laws.specs.Good.{FitsHeads, IsGood}
+use Rattle.vms_laws.specs.Good.{IsGood}
+use Rattle.vms_spec.specs.Heads.{FitsHeads}
 use Rattle.vms_laws.proofs.WellFormedLaws.{well_good, device_parts}
 use Rattle.vms_parts.specs.Devices.{device_at}
 use Rattle.vms_desc.specs.Formed.{is_well_formed}

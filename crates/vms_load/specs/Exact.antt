@@ -7,7 +7,7 @@ use Rattle.vms_spec.specs.Numbers.{IsBytes}
 use Rattle.vms_spec.specs.Sets.{Set}
 use Rattle.vms_units.specs.Streams.{Takes}
 use Rattle.vms_spec.specs.WellFormed.{WellFormed}
-use Rattle.vms_laws.specs.Good.{FitsHeads}
+use Rattle.vms_spec.specs.Heads.{FitsHeads}
 use Rattle.vms_load.specs.Loads.{Loads}
 use Rattle.vms_load.specs.Staging.{name_of}
 use Rattle.vms_load.specs.declared.fault.LoadFault.{LoadFault}

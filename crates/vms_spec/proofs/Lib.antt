@@ -2,6 +2,7 @@ pub mod KindLaws
 pub mod Rows
 pub mod Boxes
 pub mod DueSizes
+pub mod Sizes
 mod StreamRows
 mod SetRows
 mod PlaceRows

@@ -21,4 +21,5 @@ pub mod Names
 pub mod Rules
 pub mod WellFormed
 pub mod Readiness
+pub mod Heads
 pub mod Shipped

@@ -163,6 +163,11 @@ pub record IsReady (set : Set) (d : Device) (image : Image) : Type 0 where
   pub version : image.version ≡ d.desc.version
   pub needed : ComeAsNeeded set d image 0 d.subs image.came
 
+-- a ready image for each device
+pub record AreReady (set : Set) (images : List Image) : Type 0 where
+  pub one_each : length images ≡ length set.devices
+  pub ready : (k : ℕ) (d : Device) (image : Image) → at set.devices k ≡ Some d → at images k ≡ Some image → IsReady set d image
+
 -- the subsections that came, in the description's order, where the cells of the first of these begin at a place
 abbrev pub written_subs : Set → Device → Image → ℕ → List Sub → List (Option ℕ) → List ℕ
 written_subs set d image at [] came = []

@@ -4,10 +4,9 @@ use Rattle.vms_spec.specs.Images.{Image}
 use Rattle.vms_spec.specs.Lists.{at}
 use Rattle.vms_spec.specs.Sets.{Device}
 use Rattle.vms_spec.specs.Shipped.{set_0, timer}
-use Rattle.vms_spec.specs.Streams.{Takes, IsConfiguration, IsReady, optional, configuration, written}
+use Rattle.vms_spec.specs.Streams.{Takes, IsConfiguration, IsReady, optional, configuration, written, AreReady}
 use Rattle.vms_spec.specs.Values.{values_text}
 use Rattle.vms_spec.specs.ValuesReading.{values_read}
-use Rattle.vms_laws.specs.Laws.{AreReady}
 use Rattle.vms_laws.proofs.Stated.{shipped_holds, one_stream_holds, ready_holds, written_holds}
 use Rattle.vms_texts.specs.Texts.{IsTimer, IsMachine, PackedLaw, ShownLaw}
 use Rattle.vms_texts.proofs.Backs.{printed_holds, read_holds, the_machine}

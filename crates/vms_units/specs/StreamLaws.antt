@@ -5,12 +5,12 @@ use Rattle.vms_spec.specs.declared.Reason.{Reason}
 use Rattle.vms_spec.specs.Numbers.{IsBytes}
 use Rattle.vms_spec.specs.Sets.{Device, Set}
 use Rattle.vms_spec.specs.Images.{Image}
-use Rattle.vms_spec.specs.Streams.{IsReady, IsConfiguration, IsTrailer, optional, configuration, trailer, written_section, written}
+use Rattle.vms_spec.specs.Streams.{IsReady, IsConfiguration, IsTrailer, optional, configuration, trailer, written_section, written, AreReady}
 use Rattle.vms_spec.specs.WellFormed.{WellFormed}
 use Rattle.vms_spec.specs.Readings.{Reading, Accepted}
 use Rattle.vms_spec.specs.Units.{Piece, spelled}
-use Rattle.vms_laws.specs.Good.{FitsHeads}
-use Rattle.vms_laws.specs.Laws.{AreSame, AreReady, AreOneFault}
+use Rattle.vms_spec.specs.Heads.{FitsHeads}
+use Rattle.vms_laws.specs.Laws.{AreSame, AreOneFault}
 use Rattle.vms_units.specs.SoFar.{images, machine}
 use Rattle.vms_units.specs.Dues.{Due}
 use Rattle.vms_units.specs.Faults.{Front, Fault}

@@ -11,7 +11,8 @@ use Rattle.vms_spec.specs.Images.{has_cell}
 use Rattle.vms_spec.specs.Layout.{Slot, Number, Constant, Filler, Rule, Meaning, item_slots, item_size, times, field_slots, slots_from, field_cells, place_of, numbers_of, no_field, no_parent, elements_of}
 use Rattle.vms_spec.specs.WellFormed.{first_fault}
 use Rattle.vms_laws.specs.Sound.{IsSound, IsSoundField, AreSoundFields, IsEarlier}
-use Rattle.vms_laws.specs.Good.{IsGood, FitsHeads}
+use Rattle.vms_laws.specs.Good.{IsGood}
+use Rattle.vms_spec.specs.Heads.{FitsHeads}
 use Rattle.vms_laws.proofs.Places.{SameBelow, same_less, place_next, own_same, there_same, elements_same}
 use Rattle.vms_laws.proofs.AboveLaws.{IsAbove}
 use Rattle.vms_laws.proofs.SettledLaws.{SameIn, MeanSettled, item_settled, field_settled, meanings_settled}

@@ -7,7 +7,7 @@ use Rattle.vms_spec.specs.Sets.{Field, Desc}
 use Rattle.vms_spec.specs.Tests.{is_there}
 use Rattle.vms_spec.specs.Images.{has_cell}
 use Rattle.vms_spec.specs.Layout.{Slot, Number, Constant, Filler, Rule, Cell, Meaning, no_meaning, no_desc, item_slots, item_size, times, field_slots, slots_from, desc_slots, desc_cells, cells_from, field_cells, numbers_of, elements_of, capacity_of, counted, all_hold, no_parent, first, meaning, meanings}
-use Rattle.vms_laws.proofs.Places.{field_size, elements_fit}
+use Rattle.vms_spec.proofs.Sizes.{field_size, elements_fit}
 use Rattle.vms_walk.specs.Steps.{cells_in}
 use Rattle.vms_walk.proofs.Walking.{room_for_less}
 

@@ -6,7 +6,7 @@ use Rattle.vms_kinds.specs.declared.Item.TheVariants.{Num, Equal, Unused, Struct
 use Rattle.vms_spec.specs.Sets.{Field}
 use Rattle.vms_spec.specs.Tests.{is_there}
 use Rattle.vms_spec.specs.Layout.{Slot, Cell, Meaning, item_slots, item_size, times, field_slots, slots_from, field_cells, cells_from, elements_of, capacity_of, counted, no_parent, no_field}
-use Rattle.vms_laws.proofs.Places.{field_size, elements_fit}
+use Rattle.vms_spec.proofs.Sizes.{field_size, elements_fit}
 use Rattle.vms_parts.specs.Capacities.{least_of}
 use Rattle.vms_walk.specs.declared.step.Step.{Step}
 use Rattle.vms_walk.specs.declared.step.Step.TheVariants as steps

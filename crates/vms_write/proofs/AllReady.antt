@@ -5,9 +5,8 @@ use Rattle.vms_spec.specs.Images.{Image}
 use Rattle.vms_spec.specs.Lists.{at}
 use Rattle.vms_spec.specs.Sets.{Set, Device}
 use Rattle.vms_spec.specs.Layout.{device_cells}
-use Rattle.vms_spec.specs.Streams.{IsReady}
-use Rattle.vms_laws.specs.Good.{FitsHeads}
-use Rattle.vms_laws.specs.Laws.{AreReady}
+use Rattle.vms_spec.specs.Streams.{IsReady, AreReady}
+use Rattle.vms_spec.specs.Heads.{FitsHeads}
 use Rattle.vms_laws.proofs.PartLaws.{at_inside}
 use Rattle.vms_desc.specs.Described.{device_at}
 use Rattle.vms_desc.specs.Formed.{is_well_formed}

@@ -13,7 +13,7 @@ use Rattle.vms_laws.specs.Cells.{AreCells}
 use Rattle.vms_laws.proofs.AboveLaws.{IsAbove}
 use Rattle.vms_laws.proofs.CellLaws.{Stands, MeanCells, item_are, items_are, field_are, desc_are}
 use Rattle.vms_laws.proofs.Names.{names_append}
-use Rattle.vms_laws.proofs.Places.{length-times, size_same, field_size}
+use Rattle.vms_spec.proofs.Sizes.{length-times, size_same, field_size}
 use Rattle.vms_parts.specs.declared.types.CellForm.{CellForm}
 use Rattle.vms_write.specs.Fine.{no_form, are_fit, settle, is_fine}
 use Rattle.vms_walk.specs.Steps.{cells_in}

@@ -5,7 +5,8 @@ use Rattle.vms_spec.specs.Layout.{Slot, Number, Constant, Filler, Rule, no_desc,
 use Rattle.vms_spec.specs.Images.{Image, own_cells, own_slots, sub_place, sub_slots, AreVersionsOf}
 use Rattle.vms_spec.specs.Streams.{IsReady}
 use Rattle.vms_spec.specs.WellFormed.{first_fault}
-use Rattle.vms_laws.specs.Good.{IsGood, FitsHeads}
+use Rattle.vms_laws.specs.Good.{IsGood}
+use Rattle.vms_spec.specs.Heads.{FitsHeads}
 use Rattle.vms_laws.proofs.ConstantLaws.{own_constants, part_constants}
 use Rattle.vms_laws.proofs.PartLaws.{sub_are}
 use Rattle.vms_laws.proofs.SectionLaws.{fit_slots, own_are}

@@ -2,8 +2,7 @@
 ghost use Rattle.std.specs.Prelude.{◌≡◌, ◌<◌, length};
 ghost use Rattle.std.specs.Bool.{OnTrue, OnFalse};
 ghost use Rattle.vms_spec.specs.Layout.{device_cells};
-ghost use Rattle.vms_spec.specs.Streams.{IsReady};
-ghost use Rattle.vms_laws.specs.Laws.{AreReady};
+ghost use Rattle.vms_spec.specs.Streams.{IsReady, AreReady};
 ghost use Rattle.vms_desc.specs.Described.{described, device_at};
 ghost use Rattle.vms_write.specs.Judged.{IsOfDevice};
 ghost use Rattle.vms_write.specs.Judged.{own_fine, all_subs_fine, sub_fine_at, is_bare_at, is_sent_fine_at};

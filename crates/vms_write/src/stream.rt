@@ -4,10 +4,8 @@ ghost use Rattle.std.specs.Option.{option_copied};
 ghost use Rattle.std.specs.Io.KnownBytes.{Appends};
 ghost use Rattle.vms_io.specs.Causes.{HasCause, AppendsPrefix};
 ghost use Rattle.vms_spec.specs.Lists.{at_option};
-ghost use Rattle.vms_spec.specs.Streams.{written, written_sections, longest_text};
-ghost use Rattle.vms_spec.specs.Streams.{stream_head, optional, configuration, trailer, end_mark};
+ghost use Rattle.vms_spec.specs.Streams.{written, written_sections, longest_text, stream_head, optional, configuration, trailer, end_mark, AreReady};
 ghost use Rattle.vms_desc.specs.Described.{described};
-ghost use Rattle.vms_laws.specs.Laws.{AreReady};
 
 use crate::WriteFault;
 use crate::heads::{STREAM_HEAD, configuration, marked};

@@ -6,7 +6,8 @@ use Rattle.vms_spec.specs.Sets.{Field, Desc}
 use Rattle.vms_spec.specs.Rules.{uses_below}
 use Rattle.vms_spec.specs.Layout.{Slot, no_desc, item_slots, cells_from, capacity_of, all_hold}
 use Rattle.vms_spec.specs.Places.{own_cell_count}
-use Rattle.vms_laws.proofs.Places.{SameBelow, field_size}
+use Rattle.vms_laws.proofs.Places.{SameBelow}
+use Rattle.vms_spec.proofs.Sizes.{field_size}
 use Rattle.vms_laws.proofs.WalkLaws.{place_first}
 use Rattle.vms_laws.proofs.AboveLaws.{items_above, meanings_above}
 use Rattle.vms_parts.specs.Views.{field_of}

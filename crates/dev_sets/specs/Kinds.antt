@@ -1,0 +1,24 @@
+-- Which cells the devices have in the shipped sets.
+use Rattle.std.specs.Prelude.{◌≡◌, ℕ, List, [], ◌∷◌, map}
+use Rattle.vms_kinds.specs.declared.Kind.{Kind}
+use Rattle.vms_spec.specs.Sets.{Set}
+use Rattle.vms_spec.specs.Layout.{device_cells}
+use Rattle.vms_spec.specs.Shipped.{set_1, set_2, set_3, set_4}
+use Rattle.dev_pic.specs.Cells.{kinds as pic_kinds}
+use Rattle.dev_pit.specs.Cells.{kinds_of as pit_kinds}
+use Rattle.dev_serial.specs.Cells.{kinds as serial_kinds}
+use Rattle.vms_kinds.specs.declared.Kind.TheVariants.{U64}
+
+-- the kinds of the cells of each device of a set, in the set's order
+abbrev pub kinds_in : Set → List (List Kind)
+kinds_in set = map (λ d. map (λ c. c.kind) (device_cells set d)) set.devices
+
+-- what the devices save: the moment, both chips of the pair, the timer chip and the port
+abbrev pub kinds_saved : ℕ → List (List Kind)
+kinds_saved s = (U64 ∷ []) ∷ pic_kinds s ∷ pic_kinds s ∷ pit_kinds s ∷ serial_kinds s ∷ []
+
+pub record KindsLaw : Type 0 where
+  pub first : kinds_in set_1 ≡ kinds_saved 1
+  pub second : kinds_in set_2 ≡ kinds_saved 2
+  pub third : kinds_in set_3 ≡ kinds_saved 3
+  pub fourth : kinds_in set_4 ≡ kinds_saved 4

@@ -1,0 +1,30 @@
+-- How many cells a field has, and that its elements are no more than it has room for.
+use Rattle.std.proofs.Common.{◌≡◌, ℕ, zero, suc, ◌+◌, ◌*◌, ◌≤◌, List, length, refl, sym, ap, ◌∙◌, arith, length-append, ℤ}
+use Rattle.vms_kinds.specs.declared.Item.{Item}
+use Rattle.vms_kinds.specs.declared.Item.TheVariants.{Num, Equal, Unused, Struct}
+use Rattle.vms_spec.specs.declared.Count.{Count}
+use Rattle.vms_spec.specs.declared.Count.TheVariants.{One, Fixed, Counted}
+use Rattle.vms_spec.specs.Sets.{Field}
+use Rattle.vms_spec.specs.Layout.{Cell, field_cells, item_cells, item_size, capacity_of, times, elements_of, counted}
+
+pub length-times : {B : Type 0} (n : ℕ) (xs : List B) (at step : ℕ) → length (times n (λ _. xs) at step) ≡ n * length xs
+length-times zero xs at step = omega arith
+length-times (suc n) xs at step =
+    let e : length (times n (λ _. xs) (at + step) step) ≡ n * length xs = length-times n xs (at + step) step in
+    let f : suc n * length xs ≡ length xs + n * length xs = grind arith in
+    length-append xs (times n (λ _. xs) (at + step) step) ∙ ap (λ (k : ℕ). length xs + k) e ∙ sym f
+
+pub size_same : (cs : List (List Cell)) (item : Item) (caps : List ℕ) (z : ℤ) → length (item_cells cs item caps z) ≡ item_size cs item
+size_same cs (Num kind) caps z = refl
+size_same cs (Equal kind y) caps z = refl
+size_same cs (Unused n) caps z = refl
+size_same cs (Struct j) caps z = refl
+
+pub field_size : (cs : List (List Cell)) (fields : List Field) (i : ℕ) (f : Field) → length (field_cells cs fields i f) ≡ capacity_of f.count * item_size cs f.item
+field_size cs fields i f =
+    length-times (capacity_of f.count) (item_cells cs f.item (counted i fields) f.default) 0 0 ∙ ap (λ (k : ℕ). capacity_of f.count * k) (size_same cs f.item (counted i fields) f.default)
+
+pub elements_fit : (c : Count) (own : ℕ → ℕ) → elements_of c own ≤ capacity_of c
+elements_fit One own = omega arith
+elements_fit (Fixed n) own = omega arith
+elements_fit (Counted by most) own = omega arith

@@ -1,0 +1,93 @@
+-- What the older set writes is a stream of the newer, with the carried images.
+use Rattle.std.proofs.Common.{◌≡◌, ℕ, suc, ◌+◌, ◌≤◌, Bool, true, false, ◌&&◌, ◌||◌, List, [], ◌∷◌, ◌++◌, length, map, get_or, Option, Some, None, IfSome, refl, ap, ◌∙◌, subst, sym, arith, nat_le}
+use Rattle.std.specs.Str.{bytes_eq}
+use Rattle.std.proofs.lemmas.Slice.Eq.{bytes_eq-Decides}
+use Rattle.std.proofs.lemmas.Bool.{and_parts, leb-true}
+use Rattle.std.proofs.lemmas.List.{length-map}
+use Rattle.vms_spec.specs.declared.Part.TheVariants as parts
+use Rattle.vms_spec.specs.declared.Place.{Place}
+use Rattle.vms_spec.specs.Lists.{at, every}
+use Rattle.vms_spec.specs.Names.{is_name, is_name_byte}
+use Rattle.vms_spec.specs.Sets.{Device, Set}
+use Rattle.vms_spec.specs.Images.{Image}
+use Rattle.vms_spec.specs.Streams.{IsStream, IsConfiguration, IsTrailer, configuration, trailer, optional, longest_text, is_one_of, written, written_sections, AreReady}
+use Rattle.vms_spec.specs.WellFormed.{WellFormed, failing, first_fault, here, set_rules}
+use Rattle.vms_check.specs.Comparing.{Compatible}
+use Rattle.vms_check.specs.Carrying.{carried, carried_at, no_image}
+use Rattle.vms_laws.specs.Laws.{IsWholeStream}
+use Rattle.vms_laws.proofs.WellFormedLaws.{AllTrue}
+use Rattle.vms_upgrade.specs.Laws.{UpgradeLaw}
+use Rattle.vms_upgrade.proofs.Pairing.{or_else_none}
+use Rattle.vms_upgrade.proofs.Streaming.{device_order, rules, spell, each_once}
+
+all_true : (r : ℕ) (rules : List Bool) (p : Place) → failing r rules p ≡ None → AllTrue rules
+all_true r [] p h = tt
+all_true r (true ∷ rules) p h = (refl, all_true (suc r) rules p h)
+all_true r (false ∷ rules) p h = absurd (cc)
+
+-- what holds of all names holds of one of them
+every_one : (p : List ℕ → Bool) (names : List (List ℕ)) (name : List ℕ) → every p names ≡ true → is_one_of names name ≡ true → p name ≡ true
+every_one p [] name h e = absurd (cc)
+every_one p (n ∷ names) name h e =
+    let both = and_parts (p n) (every p names) h in
+    let choice : (c : Bool) → bytes_eq n name ≡ c → (c || is_one_of names name) ≡ true → p name ≡ true = elim [
+      | true ↦ λ is g. ap p (sym ((bytes_eq-Decides n name).0 is)) ∙ both.0
+      | false ↦ λ is g. every_one p names name both.1 g
+    ] in
+    choice (bytes_eq n name) refl e
+
+module _ (set : Set) (well : WellFormed set) where
+  set_true : AllTrue (set_rules set)
+  unfolding first_fault
+  set_true = all_true 1 (set_rules set) (here parts.Set) (or_else_none (failing 1 (set_rules set) (here parts.Set)) _ well).0
+
+  name_short : (name : List ℕ) → is_one_of set.machines name ≡ true → length name ≤ 64
+  name_short name h =
+      let short = every_one (is_name 64) set.machines name set_true.0 h in
+      let p = and_parts (nat_le 1 (length name) && nat_le (length name) 64) (every is_name_byte name) short in
+      leb-true (length name) 64 (and_parts (nat_le 1 (length name)) (nat_le (length name) 64) p.0).1
+
+  devices_few : length set.devices ≤ 64
+  devices_few =
+      leb-true (length set.devices) 64 (and_parts (nat_le (length set.machines) 16 && nat_le (length set.structs) 64) (nat_le (length set.devices) 64) set_true.1.1.1.1.1.1.0).1
+
+module _ (old new : Set) (good_old : WellFormed old) (good_new : WellFormed new) (none : Compatible old new) where
+  configured : (machine : Option (List ℕ)) → IfSome machine (λ m. is_one_of old.machines m ≡ true) → IsConfiguration new.machines machine (optional configuration machine)
+  configured None h = refl
+  configured (Some name) h =
+      let r = rules old new good_old good_new none in
+      (every_one (is_one_of new.machines) old.machines name r.machines h, omega (arith, name_short old good_old name h), refl)
+
+  described : (text : Option (List ℕ)) → IfSome text (λ t. length t ≤ longest_text) → IsTrailer text (optional trailer text)
+  described None h = refl
+  described (Some text) h = (h, refl)
+
+  one_each : (images : List Image) → length (carried old new images) ≡ length new.devices
+  unfolding carried
+  one_each images = length-map new.devices _
+
+  stream : (machine text : Option (List ℕ)) (images : List Image) → IfSome machine (λ m. is_one_of old.machines m ≡ true) → IfSome text (λ t. length t ≤ longest_text)
+      → AreReady old images → IsStream new new.machines (written old machine images text) machine (carried old new images) text
+  stream machine text images named short ready = record {
+    named = optional configuration machine;
+    configured = configured machine named;
+    one_each = one_each images;
+    order = device_order new old.devices;
+    each_once = each_once old new good_old good_new none;
+    sections = written_sections old 0 old.devices images;
+    spelled = spell old new good_old good_new none images 0 old.devices images ready.one_each
+        (λ j. let s : 0 + j ≡ j = omega arith in ap (λ (k : ℕ). at old.devices k) s)
+        (λ j. let s : 0 + j ≡ j = omega arith in ap (λ (k : ℕ). get_or images k (no_image old new)) s)
+        ready.ready (omega (arith, devices_few old good_old));
+    tail = optional trailer text;
+    described = described text short;
+    whole = refl;
+  }
+
+pub upgrade_stands : UpgradeLaw
+upgrade_stands old new well_old well_new compatible machine text images named short ready =
+    let s = stream old new well_old well_new compatible machine text images named short ready in
+    record {
+      stream = s;
+      taken = λ rest all. record { bytes = written old machine images text; text = text; stream = s; rest = rest; prefix = refl; long = refl; all = all };
+    }

@@ -1,0 +1,17 @@
+-- Numbers that stand from a place on, and the bytes of one side read by the other.
+use Rattle.std.specs.Prelude.{◌≡◌, ℕ, ◌+◌, ◌<◌, List, length, get_or, ℤ, pos}
+use Rattle.vms_spec.specs.Layout.{Cell, no_cell, Slot}
+use Rattle.vms_spec.specs.Images.{FitsCell, Spells, zeroed, RulesHold}
+
+-- from a place on, numbers are those of a segment
+pub record Holds (numbers : List ℤ) (at : ℕ) (segment : List ℤ) : Type 0 where
+  pub each : (c : ℕ) → c < length segment → get_or numbers (at + c) (pos 0) ≡ get_or segment c (pos 0)
+
+-- from a place on, numbers fit the cells
+pub record FitsAt (cells : List Cell) (numbers : List ℤ) (at : ℕ) : Type 0 where
+  pub each : (c : ℕ) → c < length cells → FitsCell (get_or cells c no_cell) (get_or numbers (at + c) (pos 0))
+
+-- the bytes that one side writes for its slots are bytes of the other's, and rules that hold there hold here
+pub record Carries (numbers : List ℤ) (a : List Slot) (numbers' : List ℤ) (b : List Slot) : Type 0 where
+  pub spells : Spells numbers' b (zeroed numbers a)
+  pub rules : RulesHold a → RulesHold b
