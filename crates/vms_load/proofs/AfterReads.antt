@@ -1,7 +1,6 @@
 -- What stands behind the fields of a part, as the judge reads it.
 use Rattle.std.proofs.Common.{◌≡◌, ℕ, zero, suc, ◌+◌, ◌-◌, ◌<◌, ◌≤◌, List, [], ◌∷◌, length, drop, get_or, slice_set, Option, Some, None, Bool, true, false, nat_lt, if◌then◌else◌, Result, Ok, Err, IfSome, refl, sym, ap, ◌∙◌, subst, arith}
 use Rattle.std.proofs.lemmas.List.{drop_all}
-use Rattle.vms_spec.specs.declared.Reason.{Reason}
 use Rattle.vms_spec.specs.declared.Reason.TheVariants as reasons
 use Rattle.std.specs.Str.{bytes_eq}
 use Rattle.vms_spec.specs.Lists.{at, position}
@@ -9,7 +8,7 @@ use Rattle.vms_spec.specs.Sets.{Sub, Device, Set}
 use Rattle.vms_spec.specs.Layout.{Slot}
 use Rattle.vms_spec.specs.Images.{Image}
 use Rattle.vms_spec.specs.SoFar.{part_slots, put_version, subs_of}
-use Rattle.vms_spec.specs.Readings.{Verdict, Goes, Reading, reading_after}
+use Rattle.vms_spec.specs.Readings.{Verdict, Reading, reading_after}
 use Rattle.vms_spec.specs.Judging.{find_sub, did_come}
 use Rattle.vms_spec.specs.Units.{Piece, SubHead, Foot}
 use Rattle.vms_laws.specs.Whole.{reading_on}
@@ -19,7 +18,7 @@ use Rattle.vms_units.specs.SoFar.{Tail, Bare as IsBare}
 use Rattle.vms_units.specs.Dues.{AfterFields, Due, begins_next, rules_hold, due_field}
 use Rattle.vms_units.specs.Judge.{judge, owes}
 use Rattle.vms_units.specs.Judged.{ask, judge_seen, begins_section}
-use Rattle.vms_units.specs.Seen.{Seen, Good, seen}
+use Rattle.vms_units.specs.Seen.{Good, seen}
 use Rattle.vms_units.specs.State.{State, Inside, Free, image_at, or_none, slots_at, due_by, known_at, after, by_state}
 use Rattle.vms_units.proofs.Calls.Judged.{judged_holds, next_holds, seen_holds}
 use Rattle.vms_units.proofs.Finding.Advancing.{advances}
@@ -27,8 +26,7 @@ use Rattle.vms_units.proofs.Judging.Mirrors.{solid}
 use Rattle.vms_parts.specs.Devices.{device_at}
 use Rattle.vms_desc.specs.Parts.{sub_at}
 use Rattle.vms_cursor.specs.Stands.{Stand}
-use Rattle.vms_cursor.specs.Calls.{ahead, Fails, AnswersBehind, in_section, tail_of}
-use Rattle.vms_cursor.specs.declared.units.After.{After}
+use Rattle.vms_cursor.specs.Calls.{ahead, AnswersBehind, in_section, tail_of}
 use Rattle.vms_cursor.specs.declared.units.After.TheVariants as afters
 use Rattle.vms_cursor.specs.declared.units.Tail.TheVariants as tails
 use Rattle.vms_cursor.specs.declared.fault.FrameFault.{FrameFault}

@@ -11,7 +11,7 @@ use Rattle.vms_spec.specs.Layout.{Slot, Number as NumberSlot, Constant as Consta
 use Rattle.vms_spec.specs.Taking.{Taken, Progress, take_number, take_constant, take_filler}
 use Rattle.vms_spec.specs.Units.{Piece, Number, Constant, Filler}
 use Rattle.vms_units.specs.Dues.{raw, Field}
-use Rattle.vms_units.specs.Finding.{Whole, Cut, unit_at}
+use Rattle.vms_units.specs.Finding.{Whole, Cut}
 use Rattle.vms_units.specs.Seen.{Seen, Good, Bad, Short, seen, seen_in}
 use Rattle.vms_units.specs.Taking.{nothing_known, put, taken_by, take_slot}
 use Rattle.vms_units.proofs.Bodies.Takes.{number_taken, constant_taken, filler_taken}

@@ -1,5 +1,5 @@
 -- A load answers exactly by what the input is.
-use Rattle.std.proofs.Common.{◌≡◌, ℕ, List, Option, Ok, Err, sym}
+use Rattle.std.proofs.Common.{ℕ, List, Option, Ok, Err}
 use Rattle.std.specs.Prelude.{Result}
 use Rattle.vms_spec.specs.declared.Reason.{Reason}
 use Rattle.vms_units.specs.Faults.{Fault}

@@ -1,5 +1,5 @@
 -- What heads open, as the judge has it.
-use Rattle.std.proofs.Common.{◌≡◌, ℕ, zero, suc, ◌+◌, ◌-◌, ◌<◌, ◌≤◌, List, [], ◌∷◌, length, get_or, Option, Some, None, Bool, true, false, if◌then◌else◌, nat_lt, Result, Ok, Err, refl, sym, ap, ◌∙◌, arith}
+use Rattle.std.proofs.Common.{◌≡◌, ℕ, zero, suc, ◌-◌, ◌<◌, ◌≤◌, List, [], ◌∷◌, length, get_or, Option, Some, None, Bool, true, false, if◌then◌else◌, Ok, refl, sym, ap, ◌∙◌, arith}
 use Rattle.vms_spec.specs.declared.Reason.{Reason}
 use Rattle.vms_spec.specs.declared.Reason.TheVariants as reasons
 use Rattle.vms_spec.specs.Lists.{at, position}
@@ -7,7 +7,7 @@ use Rattle.vms_spec.specs.Sets.{Device, Sub, Set}
 use Rattle.vms_spec.specs.Judging.{find_device, find_sub, index}
 use Rattle.vms_parts.specs.Devices.{device_at}
 use Rattle.vms_desc.specs.Parts.{sub_at}
-use Rattle.vms_load.specs.Heads.{section_opened, device_opened, opened_unless, reason_against, reason_against_sub, sub_opened, sub_opened_at, opened_at, Unfit, unfit}
+use Rattle.vms_load.specs.Heads.{section_opened, device_opened, opened_unless, reason_against, reason_against_sub, sub_opened, sub_opened_at, opened_at, unfit}
 
 -- ---- what a search finds
 

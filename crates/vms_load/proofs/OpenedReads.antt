@@ -1,7 +1,7 @@
 -- The section of a head, as the judge reads it.
 use Rattle.std.proofs.Common.{◌≡◌, ℕ, ◌+◌, ◌<◌, List, length, drop, slice_set, Option, Some, None, Bool, true, false, Result, Ok, Err, refl, sym, ap, ◌∙◌, subst}
 use Rattle.vms_spec.specs.Sets.{Set, Device}
-use Rattle.vms_spec.specs.Lists.{at, at_option}
+use Rattle.vms_spec.specs.Lists.{at_option}
 use Rattle.vms_spec.specs.Images.{Image}
 use Rattle.vms_spec.specs.Units.{Piece, Head as HeadUnit}
 use Rattle.vms_spec.specs.SoFar.{fresh, mark_come}
@@ -14,10 +14,8 @@ use Rattle.vms_units.specs.SoFar.{put_image}
 use Rattle.vms_units.specs.Judge.{judge}
 use Rattle.vms_units.specs.Judged.{ask}
 use Rattle.vms_units.specs.State.{State, Free, Inside, inside, after, by_state}
-use Rattle.vms_parts.specs.Devices.{device_at}
 use Rattle.vms_marks.specs.declared.head.Head.{Head}
 use Rattle.vms_cursor.specs.Stands.{Stand}
-use Rattle.vms_cursor.specs.Calls.{tail_of}
 use Rattle.vms_cursor.specs.declared.units.Tail.{Tail}
 use Rattle.vms_cursor.specs.declared.fault.Refusal.{Refusal}
 use Rattle.vms_load.specs.Heads.{Unfit, opened_at, section_opened}

@@ -27,7 +27,7 @@ use Rattle.vms_cursor.specs.declared.fault.FrameFault.{FrameFault}
 use Rattle.vms_cursor.specs.declared.fault.FrameFault.TheVariants as frames
 use Rattle.vms_load.specs.Bodies.{TakesAs}
 use Rattle.vms_load.specs.Reads.{Reads, ReadsOn, concerning}
-use Rattle.vms_load.specs.Parts.{IsIn, IsOpen, part_desc, part_base, state_in, all_passed, in_fields, after_fields}
+use Rattle.vms_load.specs.Parts.{IsIn, IsOpen, part_desc, part_base, state_in, in_fields, after_fields}
 use Rattle.vms_load.specs.declared.parts.Section.{Section}
 use Rattle.vms_load.proofs.HeadLemmas.{at_get}
 

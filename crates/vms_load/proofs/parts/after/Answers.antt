@@ -1,4 +1,4 @@
-use Rattle.std.proofs.Common.{ℕ, ◌+◌, Some, None, Ok, Err, length, slice_set, sym, ap, ◌∙◌, arith, refl}
+use Rattle.std.proofs.Common.{ℕ, ◌+◌, Some, None, Ok, Err, length, slice_set, sym, ap, ◌∙◌, arith}
 use Rattle.std.proofs.lemmas.Result.{err_from_is_err_and}
 use Rattle.vms_spec.specs.Sets.{Device, AtLeast}
 use Rattle.vms_spec.specs.Images.{Image}

@@ -1,4 +1,4 @@
-use Rattle.std.proofs.Common.{◌<◌, ◌+◌, List, [], Some, None, Bool, false, Ok, Err, ℕ, drop, refl, length, slice_set, sym, ap, ◌∙◌, subst, arith}
+use Rattle.std.proofs.Common.{◌<◌, List, [], Some, None, Bool, false, Ok, Err, length, slice_set, sym, ap, ◌∙◌, subst, arith}
 use Rattle.std.proofs.lemmas.Result.{err_from_is_err_and}
 use Rattle.std.proofs.lemmas.List.{length-set}
 use Rattle.vms_spec.specs.Images.{Image}
@@ -13,7 +13,7 @@ use Rattle.vms_load.specs.Heads.{opened_at, section_opened}
 use Rattle.vms_load.specs.Parts.{IsShaped, subs_due, part_due}
 use Rattle.vms_load.specs.Staging.{image_at, name_of, state_of, sections_due}
 use Rattle.vms_cursor.specs.Calls.{tail_of}
-use Rattle.vms_load.proofs.ReadLemmas.{read_behind, still}
+use Rattle.vms_load.proofs.ReadLemmas.{read_behind}
 use Rattle.vms_load.proofs.OpenedReads.{head_unit, head_long, begun, section_refused, section_reads, ended_in, ends_later}
 use Rattle.vms_load.proofs.StagedLemmas.{image_begun, default_shaped, section_new, sections_taken}
 use Rattle.vms_load.proofs.Spending.{gives_behind}
