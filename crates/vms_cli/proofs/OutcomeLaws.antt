@@ -11,8 +11,9 @@ use Rattle.vms_spec.specs.Shipped.{set_0}
 use Rattle.vms_spec.specs.Streams.{written}
 use Rattle.vms_spec.specs.Values.{values_text}
 use Rattle.vms_spec.specs.ValuesReading.{ValuesRead, Values, Bad, values_read}
-use Rattle.vms_laws.specs.Laws.{Answer, Taken, Faulty}
-use Rattle.vms_laws.proofs.Stated.{shipped_holds, either_holds}
+use Rattle.vms_laws.proofs.WellFormedStreams.{shipped_stands}
+use Rattle.vms_units.specs.StreamLaws.{Answer, Taken, Faulty}
+use Rattle.vms_units.proofs.Stated.{either_holds}
 use Rattle.vms_cli.specs.Answers.{HasOutcome, Answers, DoesOrStops}
 use Rattle.vms_cli.specs.Commands.{Asked, Show, Pack, asked_of}
 use Rattle.vms_cli.specs.Lines.{bad_words, read_fault, write_fault, shelf_fault, out_of_memory, values_line, not_there_line, too_large_line, refused_line}
@@ -123,7 +124,7 @@ one_shown input held ok (Faulty place section reason size fault) = record {
 
 pub outcome_holds : OutcomeLaw
 outcome_holds None input held ok = record { outcome = ended 2 bad_words 0; is = refl; only = λ other e. e }
-outcome_holds (Some Show) input held ok = one_shown input held ok (either_holds set_0 set_0.machines shipped_holds.0 input ok)
+outcome_holds (Some Show) input held ok = one_shown input held ok (either_holds set_0 set_0.machines shipped_stands.0.well shipped_stands.0.heads input ok)
 outcome_holds (Some (Pack name)) input held ok =
     let one = one_packed name (held name) (Some held) in
     record { outcome = one.outcome; is = one.is; only = one.only }

@@ -9,15 +9,16 @@ use Rattle.vms_io.specs.Causes.{capped}
 use Rattle.vms_io.specs.Shelves.{Held}
 use Rattle.vms_io.specs.Told.{Intake, Outlet, Stock}
 use Rattle.vms_spec.specs.declared.Reason.{Reason}
-use Rattle.vms_spec.specs.Faults.{Fault}
 use Rattle.vms_spec.specs.Numbers.{IsBytes}
 use Rattle.vms_spec.specs.Sets.{Set}
 use Rattle.vms_spec.specs.Images.{Image}
-use Rattle.vms_spec.specs.Streams.{Takes}
 use Rattle.vms_spec.specs.Shipped.{set_0}
 use Rattle.vms_spec.specs.Values.{values_text}
-use Rattle.vms_laws.proofs.Stated.{shipped_holds, one_stream_holds, never_both_holds, one_fault_holds}
-use Rattle.vms_frames.specs.declared.fault.Refusal.{Refusal}
+use Rattle.vms_laws.proofs.WellFormedStreams.{shipped_stands}
+use Rattle.vms_units.specs.Faults.{Fault}
+use Rattle.vms_units.specs.Streams.{Takes}
+use Rattle.vms_units.proofs.Stated.{one_stream_holds, never_both_holds, one_fault_holds}
+use Rattle.vms_cursor.specs.declared.fault.Refusal.{Refusal}
 use Rattle.vms_load.specs.Loads.{Loads}
 use Rattle.vms_load.specs.Staging.{IsMachine, AreShaped, name_of, accepted_of}
 use Rattle.vms_load.specs.declared.fault.LoadFault.{LoadFault}
@@ -58,20 +59,20 @@ text_written text i i' o o' s s' taken (TooLarge r) w same t = absurd w
 pub shown_is : (bytes : List ℕ) (held : Option Held) (taken : ℕ) (machine : Option (List ℕ)) (images : List Image) (x : Outcome) → IsBytes bytes
     → Takes set_0 set_0.machines bytes taken machine images → Shows set_0 bytes held x → x ≡ done (values_text set_0 machine images) held taken
 shown_is bytes held taken machine images x ok takes (Values taken' machine' images' takes') =
-    let same = one_stream_holds set_0 set_0.machines shipped_holds.0 bytes taken' taken machine' machine images' images takes' takes in
+    let same = one_stream_holds set_0 set_0.machines shipped_stands.0.well shipped_stands.0.heads bytes taken' taken machine' machine images' images takes' takes in
     ap (λ (n : ℕ). done (values_text set_0 machine' images') held n) same.lengths
     ∙ ap (λ (m : Option (List ℕ)). done (values_text set_0 m images') held taken) same.machines
     ∙ ap (λ (l : List Image). done (values_text set_0 machine l) held taken) same.states
 shown_is bytes held taken machine images x ok takes (Refuses place section reason size fault) =
-    absurd (never_both_holds set_0 set_0.machines shipped_holds.0 bytes ok taken machine images place section reason size takes fault)
+    absurd (never_both_holds set_0 set_0.machines shipped_stands.0.well shipped_stands.0.heads bytes ok taken machine images place section reason size takes fault)
 
 -- the outcome of an input that is at fault
 pub refused_is : (bytes : List ℕ) (held : Option Held) (place : ℕ) (section : Option ℕ) (reason : Reason) (size : ℕ) (x : Outcome) → IsBytes bytes
     → Fault set_0 set_0.machines bytes place section reason size → Shows set_0 bytes held x → x ≡ ended 1 (refused_line set_0 place section reason) (place + size)
 refused_is bytes held place section reason size x ok fault (Values taken machine images takes) =
-    absurd (never_both_holds set_0 set_0.machines shipped_holds.0 bytes ok taken machine images place section reason size takes fault)
+    absurd (never_both_holds set_0 set_0.machines shipped_stands.0.well shipped_stands.0.heads bytes ok taken machine images place section reason size takes fault)
 refused_is bytes held place section reason size x ok fault (Refuses place' section' reason' size' fault') =
-    let same = one_fault_holds set_0 set_0.machines shipped_holds.0 bytes ok place' place section' section reason' reason size' size fault' fault in
+    let same = one_fault_holds set_0 set_0.machines bytes ok place' place section' section reason' reason size' size fault' fault in
     ap (λ (n : ℕ). ended 1 (refused_line set_0 n section' reason') (n + size')) same.places
     ∙ ap (λ (o : Option ℕ). ended 1 (refused_line set_0 place o reason') (place + size')) same.sections
     ∙ ap (λ (r : Reason). ended 1 (refused_line set_0 place section r) (place + size')) same.reasons

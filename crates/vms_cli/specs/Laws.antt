@@ -6,8 +6,9 @@ use Rattle.vms_io.specs.Told.{Outlet}
 use Rattle.vms_spec.specs.Images.{Image}
 use Rattle.vms_spec.specs.Numbers.{IsBytes}
 use Rattle.vms_spec.specs.Shipped.{set_0}
-use Rattle.vms_spec.specs.Streams.{Takes, written}
+use Rattle.vms_spec.specs.Streams.{written}
 use Rattle.vms_spec.specs.ValuesReading.{Values, values_read}
+use Rattle.vms_units.specs.Streams.{Takes}
 use Rattle.vms_texts.specs.Texts.{IsTimer, IsMachine}
 use Rattle.vms_cli.specs.Answers.{HasOutcome, Answers}
 use Rattle.vms_cli.specs.Commands.{Asked, Show, Pack, asked_of}

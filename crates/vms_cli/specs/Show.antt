@@ -3,11 +3,11 @@ use Rattle.std.specs.Prelude.{◌≡◌, ◌⊎◌, ℕ, ◌+◌, ◌≤◌, Lis
 use Rattle.std.specs.Io.KnownBytes.{Keeps}
 use Rattle.vms_io.specs.Shelves.{Held}
 use Rattle.vms_spec.specs.declared.Reason.{Reason}
-use Rattle.vms_spec.specs.Faults.{Fault}
 use Rattle.vms_spec.specs.Images.{Image}
 use Rattle.vms_spec.specs.Sets.{Set}
-use Rattle.vms_spec.specs.Streams.{Takes}
 use Rattle.vms_spec.specs.Values.{values_text}
+use Rattle.vms_units.specs.Faults.{Fault}
+use Rattle.vms_units.specs.Streams.{Takes}
 use Rattle.vms_load.specs.Staging.{most_given}
 use Rattle.vms_cli.specs.Lines.{refused_line}
 use Rattle.vms_cli.specs.Outcomes.{Outcome, done, ended, Outside, ReadFault, OutFault, NotesFault, WantsMemory, EndsBy}

@@ -75,13 +75,14 @@ AnswersSeen unit long found at rest left (Ok x) = (found ≡ Good (unit x) (long
 AnswersSeen unit long found at rest left (Err (Refused place reason)) = (place ≡ at) × Fails found rest left reason
 AnswersSeen unit long found at rest left (Err ReadFault) = Unit {0}
 
+-- what follows the magic as it was seen: the version behind one that is whole and right
+abbrev pub AnswersAfter : Seen → ℕ → List ℕ → Option (List ℕ) → Result (Unit {0}) FrameFault → Type 0
+AnswersAfter (Good x n) at rest left result = AnswersSeen (λ _. Version (number_at 4 0 (drop 4 rest))) (λ _. 4) (seen AVersion nothing_known (drop 4 rest)) (at + 4) (drop 4 rest) left result
+AnswersAfter first at rest left result = AnswersSeen (λ _. Magic (take 4 rest)) (λ _. 4) first at rest left result
+
 -- the magic, and the version where the magic is whole and right
 abbrev pub AnswersHead : ℕ → List ℕ → Option (List ℕ) → Result (Unit {0}) FrameFault → Type 0
 AnswersHead at rest left result = AnswersAfter (seen AMagic nothing_known rest) at rest left result
-  where
-    AnswersAfter : Seen → ℕ → List ℕ → Option (List ℕ) → Result (Unit {0}) FrameFault → Type 0
-    AnswersAfter (Good x n) at rest left result = AnswersSeen (λ _. Version (number_at 4 0 (drop 4 rest))) (λ _. 4) (seen AVersion nothing_known (drop 4 rest)) (at + 4) (drop 4 rest) left result
-    AnswersAfter first at rest left result = AnswersSeen (λ _. Magic (take 4 rest)) (λ _. 4) first at rest left result
 
 -- After fields: a subsection head or the footer, taken whole; or a byte that begins a unit between sections, which is held.
 abbrev pub AnswersBehind : tails.Tail → ℕ → ℕ → List ℕ → Option ℕ → Option (List ℕ) → Result After FrameFault → Type 0

@@ -1,113 +1,225 @@
 -- Readings of fields that go on.
-use Rattle.std.proofs.Common.{◌≡◌, ℕ, ◌+◌, ◌≤◌, List, length, take, slice_set, Option, Some, None, Result, Ok, Err, IfSome, OnOk, ℤ, refl, sym, ap, ◌∙◌, subst, arith, Bool, true, false, if◌then◌else◌, nat_lt}
+use Rattle.std.proofs.Common.{◌≡◌, ℕ, zero, suc, ◌+◌, ◌<◌, ◌≤◌, List, [], length, take, drop, slice_set, Option, Some, None, Result, Ok, Err, IfSome, OnOk, ℤ, refl, sym, ap, ◌∙◌, subst, arith, Bool, true, false, not, ◌&&◌, if◌then◌else◌, nat_lt}
+use Rattle.std.proofs.lemmas.Bool.{ltb-true}
 use Rattle.std.proofs.lemmas.List.{drop_all}
 use Rattle.vms_kinds.specs.declared.Kind.{Kind}
 use Rattle.vms_kinds.specs.Codes.{width, value_of}
+use Rattle.vms_spec.specs.declared.Reason.{Reason}
 use Rattle.vms_spec.specs.declared.Reason.TheVariants as reasons
-use Rattle.vms_spec.specs.Numbers.{same_number, exceeds}
-use Rattle.vms_spec.specs.Judging.{is_bad_bool}
-use Rattle.vms_spec.specs.Taking.{Taken, Progress, refuse, on, take_number, take_constant}
-use Rattle.vms_frames.specs.Found.{Found, Whole, Wrong, Cut}
-use Rattle.vms_frames.specs.Answers.{Answers}
-use Rattle.vms_frames.specs.declared.fault.FrameFault.{FrameFault}
-use Rattle.vms_frames.specs.declared.fault.FrameFault.TheVariants as faults
-use Rattle.vms_load.specs.Bodies.{TakesAs, capped_found, constant_found}
+use Rattle.vms_spec.specs.Numbers.{same_number, exceeds, is_truth, is_above}
+use Rattle.vms_spec.specs.Layout.{Slot, Number as NumberSlot, Constant as ConstantSlot, Filler as FillerSlot}
+use Rattle.vms_spec.specs.Taking.{Taken, Progress, take_number, take_constant, take_filler}
+use Rattle.vms_spec.specs.Units.{Piece, Number, Constant, Filler}
+use Rattle.vms_units.specs.Dues.{raw, Field}
+use Rattle.vms_units.specs.Finding.{Whole, Cut}
+use Rattle.vms_units.specs.Seen.{Seen, Good, Bad, Short, seen, seen_in}
+use Rattle.vms_units.specs.Taking.{nothing_known, put, taken_by, take_slot}
+use Rattle.vms_units.proofs.Bodies.Takes.{number_taken, constant_taken, filler_taken}
+use Rattle.vms_cursor.specs.Calls.{AnswersSeen, Fails, ReadsNumber, ReadsFiller}
+use Rattle.vms_cursor.specs.declared.fault.FrameFault.{FrameFault}
+use Rattle.vms_cursor.specs.declared.fault.FrameFault.TheVariants as faults
+use Rattle.vms_load.specs.Bodies.{TakesAs, ReadsCapped, ReadsConstant}
 
--- ---- one unit
+-- ---- what a slot asks besides
 
-module _ {X : Type 0} (long : X → ℕ) (f : X → List ℤ) (p : Progress) where
-  -- what a unit makes of the progress
-  abbrev pub taken_by : Found X → Taken
-  taken_by (Whole x) = on (long x) (f x) p
-  taken_by (Wrong n why) = refuse p why n
-  taken_by Cut = refuse p reasons.Truncated (length p.rest)
+-- by the tests: whether the input ends, a bad bool, and what the slot asks
+abbrev by_tests : Bool → Bool → Bool → Piece → ℕ → Reason → Seen
+by_tests cut bad other x n reason = if cut then Short else if bad then Bad n reasons.BadBool else if other then Bad n reason else Good x n
 
-  choice : (b : Bool) (s t : Found X) → taken_by (if b then s else t) ≡ (if b then taken_by s else taken_by t)
-  choice true s t = refl
-  choice false s t = refl
+module _ (kind : Kind) (rest : List ℕ) where
+  abbrev z : ℤ
+  z = value_of (raw kind) (take (width kind) rest)
 
-  unit_ok : (found : Found X) (to : ℕ) (left : Option (List ℕ)) (x : X) → Answers long found p.place p.rest left (Ok x) → to ≡ p.place + long x → TakesAs (taken_by found) (f x) to left (Ok tt)
-  unit_ok found to left x a e = subst (λ (u : Found X). TakesAs (taken_by u) (f x) to left (Ok tt)) (sym a.0) (refl, e, a.1)
+  abbrev cut : Bool
+  cut = nat_lt (length rest) (width kind)
 
-  unit_err : (found : Found X) (n : List ℤ) (to : ℕ) (left : Option (List ℕ)) (e : FrameFault) → Answers long found p.place p.rest left (Err e) → TakesAs (taken_by found) n to left (Err e)
-  unit_err (Whole x) n to left (faults.Refused place why) a = absurd a.1
-  unit_err (Wrong m reason) n to left (faults.Refused place why) a = (a.0, a.1.0, a.1.1)
-  unit_err Cut n to left (faults.Refused place why) a =
-      let enough : length p.rest ≤ length p.rest = omega arith in
-      (a.0, a.1.0, a.1.1 ∙ ap (λ (l : List ℕ). Some l) (sym (drop_all (length p.rest) p.rest enough)))
-  unit_err (Whole x) n to left faults.ReadFault a = tt
-  unit_err (Wrong m reason) n to left faults.ReadFault a = tt
-  unit_err Cut n to left faults.ReadFault a = tt
+  abbrev bad : Bool
+  bad = is_truth kind && is_above z 1
 
-number_is : (kind : Kind) (caps : List ℕ) (cell : ℕ) (p : Progress) → taken_by (λ x. width kind) (λ x. slice_set p.numbers cell x) p (capped_found kind caps p.rest) ≡ take_number kind caps cell p
-number_is kind caps cell p =
-    let long : ℤ → ℕ = λ x. width kind in
-    let f : ℤ → List ℤ = λ x. slice_set p.numbers cell x in
-    let w = width kind in
-    let v = value_of kind (take w p.rest) in
-    let bad = is_bad_bool kind (take w p.rest) in
-    let many = exceeds caps v in
-    let last : Found ℤ = if many then Wrong w reasons.CountTooLarge else Whole v in
-    let next : Found ℤ = if bad then Wrong w reasons.BadBool else last in
-    choice long f p (nat_lt (length p.rest) w) Cut next
-    ∙ ap (λ (t : Taken). if nat_lt (length p.rest) w then refuse p reasons.Truncated (length p.rest) else t)
-    (choice long f p bad (Wrong w reasons.BadBool) last
-    ∙ ap (λ (t : Taken). if bad then refuse p reasons.BadBool w else t) (choice long f p many (Wrong w reasons.CountTooLarge) (Whole v)))
+  number_by : (c : ℕ) (caps : List ℕ) → seen (Field 0 (NumberSlot c kind caps)) nothing_known rest ≡ by_tests cut bad (exceeds caps z) (Number c kind z) (width kind) reasons.CountTooLarge
+  number_by c caps = by cut bad (exceeds caps z) refl refl
+    where
+      by : (a b e : Bool) → bad ≡ b → exceeds caps z ≡ e → seen_in (Field 0 (NumberSlot c kind caps)) nothing_known (if a then Cut else Whole (Number c kind z) (width kind)) ≡ by_tests a b e (Number c kind z) (width kind) reasons.CountTooLarge
+      by true b e f g = refl
+      by false true e f g = rw f refl
+      by false false true f g = rw (f, g) refl
+      by false false false f g = rw (f, g) refl
 
-constant_is : (kind : Kind) (z : ℤ) (p : Progress) → taken_by (λ x. width kind) (λ x. p.numbers) p (constant_found kind z p.rest) ≡ take_constant kind z p
-constant_is kind z p =
-    let long : Unit {0} → ℕ = λ x. width kind in
-    let f : Unit {0} → List ℤ = λ x. p.numbers in
-    let w = width kind in
-    let bad = is_bad_bool kind (take w p.rest) in
-    let same = same_number (value_of kind (take w p.rest)) z in
-    let last : Found (Unit {0}) = if same then Whole tt else Wrong w reasons.NotEqual in
-    let next : Found (Unit {0}) = if bad then Wrong w reasons.BadBool else last in
-    choice long f p (nat_lt (length p.rest) w) Cut next
-    ∙ ap (λ (t : Taken). if nat_lt (length p.rest) w then refuse p reasons.Truncated (length p.rest) else t)
-    (choice long f p bad (Wrong w reasons.BadBool) last
-    ∙ ap (λ (t : Taken). if bad then refuse p reasons.BadBool w else t) (choice long f p same (Whole tt) (Wrong w reasons.NotEqual)))
+  constant_by : (y : ℤ) → seen (Field 0 (ConstantSlot kind y)) nothing_known rest ≡ by_tests cut bad (not (same_number z y)) (Constant kind z) (width kind) reasons.NotEqual
+  constant_by y = by cut bad (not (same_number z y)) refl refl
+    where
+      by : (a b e : Bool) → bad ≡ b → not (same_number z y) ≡ e → seen_in (Field 0 (ConstantSlot kind y)) nothing_known (if a then Cut else Whole (Constant kind z) (width kind)) ≡ by_tests a b e (Constant kind z) (width kind) reasons.NotEqual
+      by true b e f g = refl
+      by false true e f g = rw f refl
+      by false false true f g = rw (f, g) refl
+      by false false false f g = rw (f, g) refl
+
+-- a good unit passed all tests
+record Passed (a b e : Bool) (x y : Piece) : Type 0 where
+  cut : a ≡ false
+  bad : b ≡ false
+  other : e ≡ false
+  same : x ≡ y
+
+good_is : (x y : Piece) (n m : ℕ) → Good x n ≡ Good y m → x ≡ y
+good_is x y n m e = cc
+
+passed : (a b e : Bool) (x y : Piece) (n : ℕ) (why : Reason) → by_tests a b e x n why ≡ Good y n → Passed a b e x y
+passed true b e x y n why h = cc
+passed false true e x y n why h = cc
+passed false false true x y n why h = cc
+passed false false false x y n why h = record { cut = refl; bad = refl; other = refl; same = good_is x y n n h }
+
+to_good : (a b e : Bool) (x y : Piece) (n : ℕ) (why : Reason) → a ≡ false → b ≡ false → e ≡ false → x ≡ y → by_tests a b e x n why ≡ Good y n
+to_good a b e x y n why f g h same =
+    ap (λ (a : Bool). by_tests a b e x n why) f ∙ ap (λ (b : Bool). by_tests false b e x n why) g ∙ ap (λ (e : Bool). by_tests false false e x n why) h ∙ ap (λ (x : Piece). Good x n) same
+
+to_bad : (a b e : Bool) (x : Piece) (n : ℕ) (why : Reason) → a ≡ false → b ≡ false → e ≡ true → by_tests a b e x n why ≡ Bad n why
+to_bad a b e x n why f g h =
+    ap (λ (a : Bool). by_tests a b e x n why) f ∙ ap (λ (b : Bool). by_tests false b e x n why) g ∙ ap (λ (e : Bool). by_tests false false e x n why) h
+
+number_same : (kind : Kind) (z y : ℤ) → Number 0 kind z ≡ Number 0 kind y → z ≡ y
+number_same kind z y e = cc
+
+-- a fault without what a slot asks is the same with it
+fails_with : (a b e : Bool) (x y : Piece) (n : ℕ) (why other : Reason) (rest : List ℕ) (left : Option (List ℕ)) (reason : Reason) → Fails (by_tests a b false x n why) rest left reason → Fails (by_tests a b e y n other) rest left reason
+fails_with true b e x y n why other rest left reason h = h
+fails_with false true e x y n why other rest left reason h = h
+fails_with false false e x y n why other rest left reason h = absurd h
+
+fails_alike : (a b e : Bool) (x y : Piece) (n : ℕ) (why : Reason) (rest : List ℕ) (left : Option (List ℕ)) (reason : Reason) → Fails (by_tests a b e x n why) rest left reason → Fails (by_tests a b e y n why) rest left reason
+fails_alike true b e x y n why rest left reason h = h
+fails_alike false true e x y n why rest left reason h = h
+fails_alike false false true x y n why rest left reason h = h
+fails_alike false false false x y n why rest left reason h = absurd h
+
+module _ (kind : Kind) (at : ℕ) (new : Option (List ℕ)) where
+  -- what is read of a number passed the tests
+  read_good : (rest : List ℕ) (v : ℤ) → seen (Field 0 (NumberSlot 0 kind [])) nothing_known rest ≡ Good (Number 0 kind v) (width kind)
+      → Passed (cut kind rest) (bad kind rest) false (Number 0 kind (z kind rest)) (Number 0 kind v)
+  read_good rest v h = passed (cut kind rest) (bad kind rest) false _ _ (width kind) reasons.CountTooLarge (sym (number_by kind rest 0 []) ∙ h)
+
+  pub capped_ok : (caps : List ℕ) (old : Option (List ℕ)) (v : ℤ) → ReadsNumber kind at old new (Ok v) → exceeds caps v ≡ false → ReadsCapped kind caps at old new (Ok v)
+  capped_ok caps None v h e = tt
+  capped_ok caps (Some rest) v h e =
+      let t = read_good rest v h.0 in
+      let same = number_same kind (z kind rest) v t.same in
+      (number_by kind rest 0 caps ∙ to_good _ _ _ _ _ (width kind) reasons.CountTooLarge t.cut t.bad (ap (exceeds caps) same ∙ e) t.same, h.1)
+
+  pub capped_large : (caps : List ℕ) (old : Option (List ℕ)) (v : ℤ) → ReadsNumber kind at old new (Ok v) → exceeds caps v ≡ true → ReadsCapped kind caps at old new (Err (faults.Refused at reasons.CountTooLarge))
+  capped_large caps None v h e = tt
+  capped_large caps (Some rest) v h e =
+      let t = read_good rest v h.0 in
+      let same = number_same kind (z kind rest) v t.same in
+      let is = number_by kind rest 0 caps ∙ to_bad _ _ _ _ (width kind) reasons.CountTooLarge t.cut t.bad (ap (exceeds caps) same ∙ e) in
+      (refl, subst (λ (f : Seen). Fails f rest new reasons.CountTooLarge) (sym is) (refl, h.1))
+
+  pub capped_err : (caps : List ℕ) (old : Option (List ℕ)) (fault : FrameFault) → ReadsNumber kind at old new (Err fault) → ReadsCapped kind caps at old new (Err fault)
+  capped_err caps None fault h = tt
+  capped_err caps (Some rest) faults.ReadFault h = tt
+  capped_err caps (Some rest) (faults.Refused place reason) h =
+      (h.0, subst (λ (f : Seen). Fails f rest new reason) (sym (number_by kind rest 0 caps))
+      (fails_with (cut kind rest) (bad kind rest) (exceeds caps (z kind rest)) _ _ (width kind) reasons.CountTooLarge reasons.CountTooLarge rest new reason
+      (subst (λ (f : Seen). Fails f rest new reason) (number_by kind rest 0 []) h.1)))
+
+  pub constant_ok : (y : ℤ) (old : Option (List ℕ)) (v : ℤ) → ReadsNumber kind at old new (Ok v) → same_number v y ≡ true → v ≡ y → ReadsConstant kind y at old new (Ok tt)
+  constant_ok y None v h e is = tt
+  constant_ok y (Some rest) v h e is =
+      let t = read_good rest v h.0 in
+      let same = number_same kind (z kind rest) v t.same in
+      (constant_by kind rest y ∙ to_good _ _ _ _ _ (width kind) reasons.NotEqual t.cut t.bad (ap (λ (x : ℤ). not (same_number x y)) same ∙ ap not e) (ap (Constant kind) (same ∙ is)), h.1)
+
+  pub constant_other : (y : ℤ) (old : Option (List ℕ)) (v : ℤ) → ReadsNumber kind at old new (Ok v) → same_number v y ≡ false → ReadsConstant kind y at old new (Err (faults.Refused at reasons.NotEqual))
+  constant_other y None v h e = tt
+  constant_other y (Some rest) v h e =
+      let t = read_good rest v h.0 in
+      let same = number_same kind (z kind rest) v t.same in
+      let is = constant_by kind rest y ∙ to_bad _ _ _ _ (width kind) reasons.NotEqual t.cut t.bad (ap (λ (x : ℤ). not (same_number x y)) same ∙ ap not e) in
+      (refl, subst (λ (f : Seen). Fails f rest new reasons.NotEqual) (sym is) (refl, h.1))
+
+  pub constant_err : (y : ℤ) (old : Option (List ℕ)) (fault : FrameFault) → ReadsNumber kind at old new (Err fault) → ReadsConstant kind y at old new (Err fault)
+  constant_err y None fault h = tt
+  constant_err y (Some rest) faults.ReadFault h = tt
+  constant_err y (Some rest) (faults.Refused place reason) h =
+      (h.0, subst (λ (f : Seen). Fails f rest new reason) (sym (constant_by kind rest y))
+      (fails_with (cut kind rest) (bad kind rest) (not (same_number (z kind rest) y)) _ _ (width kind) reasons.CountTooLarge reasons.NotEqual rest new reason
+      (subst (λ (f : Seen). Fails f rest new reason) (number_by kind rest 0 []) h.1)))
+
+-- ---- what is taken by what is seen
+
+fails_taken : (p : Progress) (s : Seen) (n : List ℤ) (to : ℕ) (left : Option (List ℕ)) (place : ℕ) (reason : Reason) → place ≡ p.place → Fails s p.rest left reason → TakesAs (taken_by p s) n to left (Err (faults.Refused place reason))
+fails_taken p (Good x m) n to left place reason e h = absurd h
+fails_taken p (Bad m why) n to left place reason e h = (e, h.0, h.1)
+fails_taken p Short n to left place reason e h =
+    let enough : length p.rest ≤ length p.rest = omega arith in
+    (e, h.0, h.1 ∙ ap (λ (l : List ℕ). Some l) (sym (drop_all (length p.rest) p.rest enough)))
+
+good_taken : (p : Progress) (s : Seen) (x : Piece) (m to : ℕ) (left : Option (List ℕ)) → s ≡ Good x m → to ≡ p.place + m → left ≡ Some (drop m p.rest) → TakesAs (taken_by p s) (put x p.numbers) to left (Ok tt)
+good_taken p s x m to left e far l = subst (λ (s : Seen). TakesAs (taken_by p s) (put x p.numbers) to left (Ok tt)) (sym e) (refl, far, l)
+
+by_read_fault : (t : Taken) (n : List ℤ) (to : ℕ) (left : Option (List ℕ)) → TakesAs t n to left (Err faults.ReadFault)
+by_read_fault (Ok q) n to left = tt
+by_read_fault (Err e) n to left = tt
 
 module _ (left new : Option (List ℕ)) (at to : ℕ) (numbers : List ℤ) where
   abbrev from : List ℕ → Progress
   from rest = record { numbers = numbers; place = at; rest = rest }
 
-  -- what the call of a unit answers is what a part of the definition takes
-  lift : {X : Type 0} (long : X → ℕ) (f : X → List ℤ) (found : List ℕ → Found X) (part : Progress → Taken) → ((rest : List ℕ) → taken_by long f (from rest) (found rest) ≡ part (from rest))
-      → (x : X) → to ≡ at + long x → IfSome left (λ rest. Answers long (found rest) at rest new (Ok x)) → IfSome left (λ rest. TakesAs (part (from rest)) (f x) to new (Ok tt))
-  lift long f found part e x far a = by_left left a where
-    by_left : (left : Option (List ℕ)) → IfSome left (λ rest. Answers long (found rest) at rest new (Ok x)) → IfSome left (λ rest. TakesAs (part (from rest)) (f x) to new (Ok tt))
-    by_left None a = tt
-    by_left (Some rest) a = subst (λ (t : Taken). TakesAs t (f x) to new (Ok tt)) (e rest) (unit_ok long f (from rest) (found rest) to new x a far)
-
-  lift_err : {X : Type 0} (long : X → ℕ) (f : X → List ℤ) (found : List ℕ → Found X) (part : Progress → Taken) → ((rest : List ℕ) → taken_by long f (from rest) (found rest) ≡ part (from rest))
-      → (n : List ℤ) (fault : FrameFault) → IfSome left (λ rest. Answers long (found rest) at rest new (Err fault)) → IfSome left (λ rest. TakesAs (part (from rest)) n to new (Err fault))
-  lift_err long f found part e n fault a = by_left left a where
-    by_left : (left : Option (List ℕ)) → IfSome left (λ rest. Answers long (found rest) at rest new (Err fault)) → IfSome left (λ rest. TakesAs (part (from rest)) n to new (Err fault))
-    by_left None a = tt
-    by_left (Some rest) a = subst (λ (t : Taken). TakesAs t n to new (Err fault)) (e rest) (unit_err long f (from rest) (found rest) n to new fault a)
-
-  -- a number
-  pub number_ok : (kind : Kind) (caps : List ℕ) (cell : ℕ) (x : ℤ) → to ≡ at + width kind
-      → IfSome left (λ rest. Answers (λ _. width kind) (capped_found kind caps rest) at rest new (Ok x))
+  pub number_ok : (kind : Kind) (caps : List ℕ) (cell : ℕ) (x : ℤ) → to ≡ at + width kind → ReadsCapped kind caps at left new (Ok x)
       → IfSome left (λ rest. TakesAs (take_number kind caps cell (from rest)) (slice_set numbers cell x) to new (Ok tt))
-  number_ok kind caps cell x far a =
-      lift (λ x. width kind) (λ x. slice_set numbers cell x) (capped_found kind caps) (take_number kind caps cell) (λ rest. number_is kind caps cell (from rest)) x far a
+  number_ok kind caps cell x far a = by left a
+    where
+      by : (left : Option (List ℕ)) → ReadsCapped kind caps at left new (Ok x) → IfSome left (λ rest. TakesAs (take_number kind caps cell (from rest)) (slice_set numbers cell x) to new (Ok tt))
+      by None a = tt
+      by (Some rest) a =
+          let t = passed (cut kind rest) (bad kind rest) (exceeds caps (z kind rest)) _ (Number 0 kind x) (width kind) reasons.CountTooLarge (sym (number_by kind rest 0 caps) ∙ a.0) in
+          let same = number_same kind (z kind rest) x t.same in
+          subst (λ (t : Taken). TakesAs t (slice_set numbers cell x) to new (Ok tt)) (number_taken kind caps cell (from rest))
+          (good_taken (from rest) _ (Number cell kind x) (width kind) to new
+          (number_by kind rest cell caps ∙ to_good _ _ _ _ _ (width kind) reasons.CountTooLarge t.cut t.bad t.other (ap (Number cell kind) same)) far a.1)
 
-  pub number_err : (kind : Kind) (caps : List ℕ) (cell : ℕ) (n : List ℤ) (fault : FrameFault)
-      → IfSome left (λ rest. Answers (λ _. width kind) (capped_found kind caps rest) at rest new (Err fault))
+  pub number_err : (kind : Kind) (caps : List ℕ) (cell : ℕ) (n : List ℤ) (fault : FrameFault) → ReadsCapped kind caps at left new (Err fault)
       → IfSome left (λ rest. TakesAs (take_number kind caps cell (from rest)) n to new (Err fault))
-  number_err kind caps cell n fault a =
-      lift_err (λ x. width kind) (λ x. slice_set numbers cell x) (capped_found kind caps) (take_number kind caps cell) (λ rest. number_is kind caps cell (from rest)) n fault a
+  number_err kind caps cell n fault a = by left fault a
+    where
+      by : (left : Option (List ℕ)) (fault : FrameFault) → ReadsCapped kind caps at left new (Err fault) → IfSome left (λ rest. TakesAs (take_number kind caps cell (from rest)) n to new (Err fault))
+      by None fault a = tt
+      by (Some rest) faults.ReadFault a = by_read_fault (take_number kind caps cell (from rest)) n to new
+      by (Some rest) (faults.Refused place reason) a =
+          subst (λ (t : Taken). TakesAs t n to new (Err (faults.Refused place reason))) (number_taken kind caps cell (from rest))
+          (fails_taken (from rest) (seen (Field 0 (NumberSlot cell kind caps)) nothing_known rest) n to new place reason a.0
+          (subst (λ (f : Seen). Fails f rest new reason) (sym (number_by kind rest cell caps))
+          (fails_alike (cut kind rest) (bad kind rest) (exceeds caps (z kind rest)) _ _ (width kind) reasons.CountTooLarge rest new reason
+          (subst (λ (f : Seen). Fails f rest new reason) (number_by kind rest 0 caps) a.1))))
 
-  -- a constant gives no number
-  plain : (found : List ℕ → Found (Unit {0})) (long : ℕ) (part : Progress → Taken) → ((rest : List ℕ) → taken_by (λ x. long) (λ x. numbers) (from rest) (found rest) ≡ part (from rest))
-      → (result : Result (Unit {0}) FrameFault) → OnOk result (to ≡ at + long) → IfSome left (λ rest. Answers (λ _. long) (found rest) at rest new result)
-      → IfSome left (λ rest. TakesAs (part (from rest)) numbers to new result)
-  plain found long part e (Ok tt') far a = lift (λ x. long) (λ x. numbers) found part e tt' far a
-  plain found long part e (Err fault) far a = lift_err (λ x. long) (λ x. numbers) found part e numbers fault a
+  -- a constant and unused bytes give no number
+  plain : (slot : Slot) (rest : List ℕ) (x : Piece) (m : ℕ) (result : Result (Unit {0}) FrameFault) → OnOk result (to ≡ at + m) → put x numbers ≡ numbers
+      → AnswersSeen (λ _. x) (λ _. m) (seen (Field 0 slot) nothing_known rest) at rest new result → TakesAs (take_slot slot (from rest)) numbers to new result
+  plain slot rest x m (Ok tt') far same a =
+      subst (λ (n : List ℤ). TakesAs (take_slot slot (from rest)) n to new (Ok tt')) same (good_taken (from rest) _ x m to new a.0 far a.1)
+  plain slot rest x m (Err (faults.Refused place reason)) far same a = fails_taken (from rest) (seen (Field 0 slot) nothing_known rest) numbers to new place reason a.0 a.1
+  plain slot rest x m (Err faults.ReadFault) far same a = by_read_fault (take_slot slot (from rest)) numbers to new
 
-  pub constant_taken : (kind : Kind) (z : ℤ) (result : Result (Unit {0}) FrameFault) → OnOk result (to ≡ at + width kind)
-      → IfSome left (λ rest. Answers (λ _. width kind) (constant_found kind z rest) at rest new result)
-      → IfSome left (λ rest. TakesAs (take_constant kind z (from rest)) numbers to new result)
-  constant_taken kind z result far a = plain (constant_found kind z) (width kind) (take_constant kind z) (λ rest. constant_is kind z (from rest)) result far a
+  pub constant_taken_so : (kind : Kind) (y : ℤ) (result : Result (Unit {0}) FrameFault) → OnOk result (to ≡ at + width kind) → ReadsConstant kind y at left new result
+      → IfSome left (λ rest. TakesAs (take_constant kind y (from rest)) numbers to new result)
+  constant_taken_so kind y result far a = by left a
+    where
+      by : (left : Option (List ℕ)) → ReadsConstant kind y at left new result → IfSome left (λ rest. TakesAs (take_constant kind y (from rest)) numbers to new result)
+      by None a = tt
+      by (Some rest) a = subst (λ (t : Taken). TakesAs t numbers to new result) (constant_taken kind y (from rest)) (plain (ConstantSlot kind y) rest (Constant kind y) (width kind) result far refl a)
+
+  pub filler_taken_so : (n : ℕ) (result : Result (Unit {0}) FrameFault) → OnOk result (to ≡ at + n) → ReadsFiller n at left new result
+      → IfSome left (λ rest. TakesAs (take_filler n (from rest)) numbers to new result)
+  filler_taken_so n result far a = by n left result far a
+    where
+      by : (n : ℕ) (left : Option (List ℕ)) (result : Result (Unit {0}) FrameFault) → OnOk result (to ≡ at + n) → ReadsFiller n at left new result → IfSome left (λ rest. TakesAs (take_filler n (from rest)) numbers to new result)
+      by n None result far a = tt
+      by zero (Some rest) (Ok x) far a = (refl, omega (arith, far), a.1)
+      by zero (Some rest) (Err (faults.Refused place reason)) far a = absurd (none (nat_lt (length rest) 0) refl a.1)
+        where
+          none : (b : Bool) → nat_lt (length rest) 0 ≡ b → Fails (seen_in (Field 0 (FillerSlot 0)) nothing_known (if b then Cut else Whole (Filler []) 0)) rest new reason → ⊥
+          none true e h = let lt : length rest < 0 = ltb-true (length rest) 0 e in absurd (omega (arith, lt))
+          none false e h = h
+      by zero (Some rest) (Err faults.ReadFault) far a = tt
+      by (suc n) (Some rest) result far a =
+          subst (λ (t : Taken). TakesAs t numbers to new result) (filler_taken n (from rest)) (plain (FillerSlot (suc n)) rest (Filler (take (suc n) rest)) (suc n) result far refl a)

@@ -1,19 +1,13 @@
 -- What heads open, as the judge has it.
-use Rattle.std.proofs.Common.{◌≡◌, ℕ, zero, suc, ◌+◌, ◌-◌, ◌<◌, ◌≤◌, List, [], ◌∷◌, length, get_or, Option, Some, None, Bool, true, false, if◌then◌else◌, nat_lt, Result, Ok, Err, refl, sym, ap, ◌∙◌, arith}
+use Rattle.std.proofs.Common.{◌≡◌, ℕ, zero, suc, ◌-◌, ◌<◌, ◌≤◌, List, [], ◌∷◌, length, get_or, Option, Some, None, Bool, true, false, if◌then◌else◌, Ok, refl, sym, ap, ◌∙◌, arith}
 use Rattle.vms_spec.specs.declared.Reason.{Reason}
 use Rattle.vms_spec.specs.declared.Reason.TheVariants as reasons
 use Rattle.vms_spec.specs.Lists.{at, position}
 use Rattle.vms_spec.specs.Sets.{Device, Sub, Set}
-use Rattle.vms_spec.specs.Images.{Image}
-use Rattle.vms_spec.specs.Readings.{Verdict, Goes, Faulty}
-use Rattle.vms_spec.specs.Judging.{State, find_device, find_sub, index, did_come, judge_device, judge_sub}
+use Rattle.vms_spec.specs.Judging.{find_device, find_sub, index}
 use Rattle.vms_parts.specs.Devices.{device_at}
 use Rattle.vms_desc.specs.Parts.{sub_at}
-use Rattle.vms_marks.specs.declared.head.Head.{Head}
-use Rattle.vms_frames.specs.Judged.{judge_section, judge_subsection}
-use Rattle.vms_laws.proofs.HeadLaws.{opened}
-use Rattle.vms_laws.proofs.SubHeads.{sub_opened as sub_state}
-use Rattle.vms_load.specs.Heads.{section_opened, device_opened, opened_unless, reason_against, reason_against_sub, sub_opened, sub_opened_at, opened_at, Unfit, unfit}
+use Rattle.vms_load.specs.Heads.{section_opened, device_opened, opened_unless, reason_against, reason_against_sub, sub_opened, sub_opened_at, opened_at, unfit}
 
 -- ---- what a search finds
 
@@ -57,35 +51,6 @@ module _ (set : Set) (came : List Bool) (name : List ℕ) (instance v : ℕ) whe
       → opened_at place (opened_unless (Some k) k reason) ≡ opened_at place (section_opened set came name instance v)
   opens place k reason e is = ap (opened_at place) (ap (opened_unless (Some k) k) is ∙ sym (known k e))
 
--- the verdict on a head that opens this device, or none
-module _ (set : Set) (names : List (List ℕ)) (state : State) (n id v : ℕ) where
-  abbrev pub section_verdict : Result ℕ Unfit → Verdict State
-  section_verdict (Ok k) = Goes n (opened set state k id (device_at set k) v)
-  section_verdict (Err why) = Faulty why.section why.reason n
-
-  by_reasons : (k : ℕ) (d : Device) (a b c : Bool) (good : Verdict State) → section_verdict (Ok k) ≡ good
-      → (if a then Faulty (Some k) reasons.RepeatedSection n else (if b then Faulty (Some k) reasons.TooNew n else (if c then Faulty (Some k) reasons.TooOld n else good)))
-      ≡ section_verdict (opened_unless (Some k) k (if a then Some reasons.RepeatedSection else (if b then Some reasons.TooNew else (if c then Some reasons.TooOld else None))))
-  by_reasons k d true b c good e = refl
-  by_reasons k d false true c good e = refl
-  by_reasons k d false false true good e = refl
-  by_reasons k d false false false good e = sym e
-
-  by_device : (k : ℕ) (o : Option Device) (came : Bool) → at set.devices k ≡ o → judge_device set names state n id v (Some k) o came ≡ section_verdict (device_opened v (Some k) o came)
-  by_device k None came e = refl
-  by_device k (Some d) came e =
-      by_reasons k d came (nat_lt d.desc.version v) (nat_lt v d.desc.minimum) (Goes n (opened set state k id d v)) (ap (λ (x : Device). Goes n (opened set state k id x v)) (get_at set.devices k d _ e))
-
-  by_found : (found : Option ℕ) → judge_device set names state n id v found (at set.devices (index found)) (get_or state.came (index found) false)
-      ≡ section_verdict (device_opened v found (at set.devices (index found)) (get_or state.came (index found) false))
-  by_found None = refl
-  by_found (Some k) = by_device k (at set.devices k) (get_or state.came k false) refl
-
-pub section_judged : (set : Set) (names : List (List ℕ)) (state : State) (head : Head) → judge_section set names state head
-    ≡ section_verdict set names state (14 + length head.name.items) head.id head.version (section_opened set state.came head.name.items head.instance head.version)
-section_judged set names state head =
-    by_found set names state (14 + length head.name.items) head.id head.version (find_device 0 set.devices head.name.items head.instance)
-
 -- ---- subsection heads
 
 module _ (k : ℕ) (d : Device) (came : List (Option ℕ)) (name : List ℕ) (v : ℕ) where
@@ -104,26 +69,22 @@ module _ (k : ℕ) (d : Device) (came : List (Option ℕ)) (name : List ℕ) (v 
       → opened_at place (opened_unless (Some k) j reason) ≡ opened_at place (sub_opened k d came name v)
   opens_sub place j reason long e is = ap (opened_at place) (ap (opened_unless (Some k) j) is ∙ sym (known_sub j long e))
 
-module _ (set : Set) (names : List (List ℕ)) (state : State) (image : Image) (k id n v : ℕ) where
-  abbrev pub sub_verdict : Result ℕ Unfit → Verdict State
-  sub_verdict (Ok j) = Goes n (sub_state state image k id j v)
-  sub_verdict (Err why) = Faulty why.section why.reason n
+-- ---- what was opened is what was found
 
-  by_sub_reasons : (j : ℕ) (a b c : Bool)
-      → (if a then Faulty (Some k) reasons.TooNew n else (if b then Faulty (Some k) reasons.TooOld n else (if c then Faulty (Some k) reasons.RepeatedSubsection n else Goes n (sub_state state image k id j v))))
-      ≡ sub_verdict (opened_unless (Some k) j (if a then Some reasons.TooNew else (if b then Some reasons.TooOld else (if c then Some reasons.RepeatedSubsection else None))))
-  by_sub_reasons j true b c = refl
-  by_sub_reasons j false true c = refl
-  by_sub_reasons j false false true = refl
-  by_sub_reasons j false false false = refl
+opens_it : (section : Option ℕ) (i k place : ℕ) (reason : Option Reason) → Ok k ≡ opened_at place (opened_unless section i reason) → k ≡ i
+opens_it section i k place None e = cc
+opens_it section i k place (Some reason) e = cc
 
-  pub by_sub : (found : Option ℕ) (s : Option Sub) (came : Option (Option ℕ)) → judge_sub set names state image k id n v found s came ≡ sub_verdict (sub_opened_at k v found s came)
-  by_sub None s came = refl
-  by_sub (Some j) None came = refl
-  by_sub (Some j) (Some s) None = refl
-  by_sub (Some j) (Some s) (Some came) = by_sub_reasons j (nat_lt s.desc.version v) (nat_lt v s.desc.minimum) (did_come came)
+pub device_is : (set : Set) (came : List Bool) (name : List ℕ) (instance v place k : ℕ) → Ok k ≡ opened_at place (section_opened set came name instance v) → find_device 0 set.devices name instance ≡ Some k
+device_is set came name instance v place k e = by (find_device 0 set.devices name instance) refl
+  where
+    by : (found : Option ℕ) → find_device 0 set.devices name instance ≡ found → find_device 0 set.devices name instance ≡ Some k
+    by None f = let h : Ok k ≡ opened_at place (unfit None reasons.UnknownSection) = e ∙ ap (opened_at place) (unknown set came name instance v f) in cc
+    by (Some i) f = f ∙ ap (λ (n : ℕ). Some n) (sym (opens_it (Some i) i k place _ (e ∙ ap (opened_at place) (known set came name instance v i f))))
 
-pub sub_judged : (set : Set) (names : List (List ℕ)) (state : State) (d : Device) (image : Image) (k id : ℕ) (name : List ℕ) (v : ℕ)
-    → judge_subsection set names state d image k id name v ≡ sub_verdict set names state image k id (6 + length name) v (sub_opened k d image.came name v)
-sub_judged set names state d image k id name v =
-    by_sub set names state image k id (6 + length name) v (find_sub 0 d.subs name) (at d.subs (index (find_sub 0 d.subs name))) (at image.came (index (find_sub 0 d.subs name)))
+pub sub_is : (k : ℕ) (d : Device) (came : List (Option ℕ)) (name : List ℕ) (v place j : ℕ) → length came ≡ length d.subs → Ok j ≡ opened_at place (sub_opened k d came name v) → find_sub 0 d.subs name ≡ Some j
+sub_is k d came name v place j long e = by (find_sub 0 d.subs name) refl
+  where
+    by : (found : Option ℕ) → find_sub 0 d.subs name ≡ found → find_sub 0 d.subs name ≡ Some j
+    by None f = let h : Ok j ≡ opened_at place (unfit (Some k) reasons.UnknownSubsection) = e ∙ ap (opened_at place) (unknown_sub k d came name v f) in cc
+    by (Some i) f = f ∙ ap (λ (n : ℕ). Some n) (sym (opens_it (Some k) i j place _ (e ∙ ap (opened_at place) (known_sub k d came name v i long f))))

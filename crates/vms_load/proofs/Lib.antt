@@ -4,6 +4,7 @@ pub mod Bounding
 pub mod Counting
 pub mod ExactLoads
 pub mod HeadLemmas
+pub mod HeadRows
 pub mod LoadReads
 pub mod OpenedReads
 pub mod PartReads

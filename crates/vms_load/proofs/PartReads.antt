@@ -1,28 +1,33 @@
 -- What a reader of a part takes is what the judge reads there.
-use Rattle.std.proofs.lemmas.List.{drop-drop}
-use Rattle.std.proofs.Common.{◌≡◌, ℕ, ◌+◌, ◌-◌, ◌<◌, List, length, drop, Option, Some, None, Result, Ok, Err, IfSome, ℤ, refl, sym, ap, ◌∙◌, subst, arith}
+use Rattle.std.proofs.lemmas.List.{drop-drop, drop_all}
+use Rattle.std.proofs.Common.{◌≡◌, ℕ, ◌+◌, ◌-◌, ◌<◌, ◌≤◌, List, length, drop, Option, Some, None, [], Result, Ok, Err, IfSome, OnOk, ℤ, refl, sym, ap, ◌∙◌, subst, arith}
 use Rattle.vms_spec.specs.declared.Reason.{Reason}
 use Rattle.vms_spec.specs.Lists.{at}
 use Rattle.vms_spec.specs.Sets.{Desc, Sub, Device, Set}
 use Rattle.vms_spec.specs.Layout.{meanings, desc_slots, device_cells}
 use Rattle.vms_spec.specs.Images.{Image}
 use Rattle.vms_spec.specs.Readings.{Reading, Refused}
-use Rattle.vms_spec.specs.Judging.{State, slots_of}
+use Rattle.vms_spec.specs.SoFar.{part_slots, slots_of_sub}
+use Rattle.vms_units.specs.State.{State, Inside, by_state}
+use Rattle.vms_units.specs.Judge.{judge}
+use Rattle.vms_laws.specs.Whole.{reading_on}
+use Rattle.vms_units.proofs.Bodies.Body.{Reads as ReadsBody, body_read, after_read}
+use Rattle.vms_cursor.specs.Stands.{Stand}
+use Rattle.vms_cursor.specs.Calls.{ahead, tail_of}
 use Rattle.vms_spec.specs.Taking.{Taken, Progress, take_desc, takers}
 use Rattle.vms_laws.specs.Good.{IsGood}
 use Rattle.vms_laws.specs.Sound.{IsSound}
 use Rattle.vms_laws.specs.Cells.{AreCells}
-use Rattle.vms_laws.proofs.BodyLaws.{body_read, body_slots, read_body}
 use Rattle.vms_laws.proofs.LeftLaws.{Leaves, desc_leaves}
 use Rattle.vms_laws.proofs.PartLaws.{sub_are}
 use Rattle.vms_laws.proofs.SectionLaws.{own_are}
 use Rattle.vms_parts.specs.Devices.{device_at}
 use Rattle.vms_desc.specs.Parts.{sub_at}
-use Rattle.vms_frames.specs.declared.fault.FrameFault.{FrameFault}
-use Rattle.vms_frames.specs.declared.fault.FrameFault.TheVariants as frames
+use Rattle.vms_cursor.specs.declared.fault.FrameFault.{FrameFault}
+use Rattle.vms_cursor.specs.declared.fault.FrameFault.TheVariants as frames
 use Rattle.vms_load.specs.Bodies.{TakesAs}
-use Rattle.vms_load.specs.Reads.{Reads, concerning}
-use Rattle.vms_load.specs.Parts.{IsIn, IsOpen, part_desc, part_base, in_fields, after_fields}
+use Rattle.vms_load.specs.Reads.{Reads, ReadsOn, concerning}
+use Rattle.vms_load.specs.Parts.{IsIn, IsOpen, part_desc, part_base, state_in, in_fields, after_fields}
 use Rattle.vms_load.specs.declared.parts.Section.{Section}
 use Rattle.vms_load.proofs.HeadLemmas.{at_get}
 
@@ -55,11 +60,15 @@ module _ (set : Set) (good : IsGood set) (section : Section) (here : section.dev
 
   module _ (names : List (List ℕ)) (state : State) (image : Image) where
     slots_are : (o : Option ℕ) → IsOpen device image o v → (m : List ℤ)
-        → body_slots set names state device image section.device section.id o m ≡ desc_slots (meanings set.structs (length set.structs)) (part_desc device o) v m (part_base set device o)
+        → part_slots set (Some device) (record image { numbers = m }) o ≡ desc_slots (meanings set.structs (length set.structs)) (part_desc device o) v m (part_base set device o)
     slots_are None h m = ap (λ (w : ℕ). desc_slots (meanings set.structs (length set.structs)) device.desc w m 0) (sym h)
     slots_are (Some j) h m =
-        ap (λ (s : Option Sub). slots_of set names device (record image { numbers = m }) (Some j) s (at image.came j)) (sub_there j h.0)
-        ∙ ap (λ (came : Option (Option ℕ)). slots_of set names device (record image { numbers = m }) (Some j) (Some (sub_at device j)) came) h.1
+        ap (λ (s : Option Sub). slots_of_sub set device (record image { numbers = m }) j s (at image.came j)) (sub_there j h.0)
+        ∙ ap (λ (came : Option (Option ℕ)). slots_of_sub set device (record image { numbers = m }) j (Some (sub_at device j)) came) h.1
+
+    -- the state before the section's image is put
+    abbrev outer : State
+    outer = record state { tail = tail_of section.tail }
 
     abbrev start : ℕ → List ℕ → Progress
     start place rest = record { numbers = image.numbers; place = place; rest = rest }
@@ -67,59 +76,61 @@ module _ (set : Set) (good : IsGood set) (section : Section) (here : section.dev
     abbrev taken : ℕ → List ℕ → Taken
     taken place rest = take_desc (takers set.structs (length set.structs)) (part_desc device sub) v (part_base set device sub) (start place rest)
 
-    fields_are : section.device < length state.images → IsOpen device image sub v → (place : ℕ) (rest : List ℕ)
-        → in_fields set names state section sub image place rest ≡ read_body set names state device image section.device section.id sub (taken place rest)
+    fields_are : (room : section.device < length state.images) → IsOpen device image sub v → (place : ℕ) (rest : List ℕ)
+        → ReadsBody set names outer device image section.device section.id sub there room 0 (start place rest) (taken place rest)
     fields_are room open' place rest =
-        body_read set names state device image section.device section.id sub there room good.structs (part_desc device sub) v (part_base set device sub) (part_sound sub (open_in device image sub v open'))
+        body_read set names outer device image section.device section.id sub there room good.structs (part_desc device sub) v (part_base set device sub) (part_sound sub (open_in device image sub v open'))
         (slots_are sub open') (start place rest)
+
+    -- behind all slots
+    all_done : section.device < length state.images → (done : ℕ) (q : Progress) → drop done (part_slots set (Some device) (record image { numbers = q.numbers }) sub) ≡ []
+        → reading_on (judge (by_state set names)) (state_in state section (record image { numbers = q.numbers }) (Inside section.device section.id sub done)) q.place q.rest
+        ≡ after_fields set names state section sub (record image { numbers = q.numbers }) q.place q.rest
+    all_done room done q h =
+        let all = part_slots set (Some device) (record image { numbers = q.numbers }) sub in
+        let enough : length all ≤ length all = omega arith in
+        after_read set names outer device image section.device section.id sub there room done q h
+        ∙ sym (after_read set names outer device image section.device section.id sub there room (length all) q (drop_all (length all) all enough))
 
     -- what is left behind what was taken, or from the unit at fault on
     front_left : IsIn device sub → (place : ℕ) (rest : List ℕ) (t : Taken) → taken place rest ≡ t → Leaves place rest t
     front_left inside place rest t e = subst (λ (t : Taken). Leaves place rest t) e (desc_leaves set.structs good.structs (part_desc device sub) v (part_base set device sub) (start place rest) (part_sound sub inside))
 
-    by_taken : IsIn device sub → (place : ℕ) (rest : List ℕ) (numbers : List ℤ) (to : ℕ) (left : Option (List ℕ)) (result : Result (Unit {0}) FrameFault)
-        → (t : Taken) → taken place rest ≡ t → TakesAs t numbers to left result
-        → Reads (read_body set names state device image section.device section.id sub t) (λ _. after_fields set names state section sub (record image { numbers = numbers })) place to rest left (concerns (Some section.device) result)
-    by_taken inside place rest numbers to left (Ok x) (Ok q) e h =
-        let P : Option (List ℕ) → Type 0 = λ l. Reads {X = Unit {0}} (read_body set names state device image section.device section.id sub (Ok q)) (λ _. after_fields set names state section sub (record image { numbers = numbers })) place to rest l (Ok x) in
+    by_taken : (room : section.device < length state.images) → IsIn device sub → (place : ℕ) (rest : List ℕ) (numbers : List ℤ) (to : Stand) (left : Option (List ℕ)) (result : Result (Unit {0}) FrameFault)
+        → (t : Taken) → taken place rest ≡ t → ReadsBody set names outer device image section.device section.id sub there room 0 (start place rest) t → OnOk result (to.held ≡ None) → TakesAs t numbers to.at left result
+        → Reads (in_fields set names state section sub image place rest) (λ _. after_fields set names state section sub (record image { numbers = numbers })) place to rest left (concerns (Some section.device) result)
+    by_taken room inside place rest numbers to left (Ok x) (Ok q) e r held h =
+        let P : Option (List ℕ) → Type 0 = λ l. Reads {X = Unit {0}} (in_fields set names state section sub image place rest) (λ _. after_fields set names state section sub (record image { numbers = numbers })) place to rest l (Ok x) in
+        let now : Option ℕ → List ℤ → ℕ → Option (Reading State) = λ o n p. after_fields set names state section sub (record image { numbers = n }) p (ahead o q.rest) in
         subst P (sym h.2) (
-          ap (λ (n : List ℤ). after_fields set names state section sub (record image { numbers = n }) q.place q.rest) (sym h.0)
-              ∙ ap (λ (p : ℕ). after_fields set names state section sub (record image { numbers = numbers }) p q.rest) (sym h.1),
-          (front_left inside place rest (Ok q) e).is ∙ ap (λ (p : ℕ). drop (p - place) rest) (sym h.1),
+          r.2 ∙ all_done room r.0 q r.1 ∙ ap (λ (n : List ℤ). now None n q.place) (sym h.0) ∙ ap (λ (p : ℕ). now None numbers p) (sym h.1) ∙ ap (λ (o : Option ℕ). now o numbers to.at) (sym held),
+          ap (λ (o : Option ℕ). ahead o q.rest) held ∙ (front_left inside place rest (Ok q) e).is ∙ ap (λ (p : ℕ). drop (p - place) rest) (sym h.1),
         )
-    by_taken inside place rest numbers to left (Ok x) (Err r) e h = absurd h
-    by_taken inside place rest numbers to left (Err (frames.Refused p reason)) (Ok q) e h = absurd h
-    by_taken inside place rest numbers to left (Err (frames.Refused p reason)) (Err r) e h =
+    by_taken room inside place rest numbers to left (Ok x) (Err r) e b held h = absurd h
+    by_taken room inside place rest numbers to left (Err (frames.Refused p reason)) (Ok q) e b held h = absurd h
+    by_taken room inside place rest numbers to left (Err (frames.Refused p reason)) (Err r) e b held h =
         let l = front_left inside place rest (Err r) e in
         let same : r.place - place + r.long ≡ p - place + r.long = omega (arith, h.0) in
         record {
           long = r.long;
-          is = ap (λ (n : ℕ). Some (Refused n (Some section.device) r.reason r.long)) (sym h.0) ∙ ap (λ (w : Reason). Some (Refused p (Some section.device) w r.long)) (sym h.1);
+          is = b ∙ ap (λ (n : ℕ). Some (Refused n (Some section.device) r.reason r.long)) (sym h.0) ∙ ap (λ (w : Reason). Some (Refused p (Some section.device) w r.long)) (sym h.1);
           from = omega (arith, l.from, h.0);
           taken = h.2 ∙ ap (λ (b : List ℕ). Some (drop r.long b)) l.is ∙ ap (λ (b : List ℕ). Some b) (drop-drop r.long (r.place - place) rest ∙ ap (λ (k : ℕ). drop k rest) same);
         }
-    by_taken inside place rest numbers to left (Err frames.ReadFault) t e h = tt
+    by_taken room inside place rest numbers to left (Err frames.ReadFault) t e b held h = tt
 
-    -- the fields of a part are read as they are taken
-    pub fields_read : section.device < length state.images → IsOpen device image sub v → (place : ℕ) (numbers : List ℤ) (new : Image) (to : ℕ)
-        (old left : Option (List ℕ)) (result : Result (Unit {0}) FrameFault) → new ≡ record image { numbers = numbers }
-        → IfSome old (λ rest. TakesAs (taken place rest) numbers to left result)
-        → IfSome old (λ rest. Reads (in_fields set names state section sub image place rest) (λ _. after_fields set names state section sub new) place to rest left (concerns (Some section.device) result))
-    fields_read room open' place numbers new to None left result is h = tt
-    fields_read room open' place numbers new to (Some rest) left result is h =
-        subst (λ (x : Image). Reads (in_fields set names state section sub image place rest) (λ _. after_fields set names state section sub x) place to rest left (concerns (Some section.device) result)) (sym is)
-        (subst (λ (x : Option (Reading State)). Reads x (λ _. after_fields set names state section sub (record image { numbers = numbers })) place to rest left (concerns (Some section.device) result)) (sym (fields_are room open' place rest))
-        (by_taken (open_in device image sub v open') place rest numbers to left result (taken place rest) refl h))
-
-    -- the same by what the code has of the set
+    -- the fields of a part are read as they are taken, by what the code has of the set
     pub fields_answer : (d : Desc) (base : ℕ) → d ≡ part_desc device sub → base ≡ part_base set device sub
-        → section.device < length state.images → IsOpen device image sub v → (place : ℕ) (numbers : List ℤ) (new : Image) (to : ℕ)
-        (old left : Option (List ℕ)) (result : Result (Unit {0}) FrameFault) → new ≡ record image { numbers = numbers }
-        → IfSome old (λ rest. TakesAs (take_desc (takers set.structs (length set.structs)) d v base (start place rest)) numbers to left result)
-        → IfSome old (λ rest. Reads (in_fields set names state section sub image place rest) (λ _. after_fields set names state section sub new) place to rest left (concerns (Some section.device) result))
-    fields_answer d base a b room open' place numbers new to None left result is h = tt
-    fields_answer d base a b room open' place numbers new to (Some rest) left result is h =
-        let same : take_desc (takers set.structs (length set.structs)) d v base (start place rest) ≡ taken place rest =
-        ap (λ (x : Desc). take_desc (takers set.structs (length set.structs)) x v base (start place rest)) a
-        ∙ ap (λ (m : ℕ). take_desc (takers set.structs (length set.structs)) (part_desc device sub) v m (start place rest)) b in
-        fields_read room open' place numbers new to (Some rest) left result is (subst (λ (t : Taken). TakesAs t numbers to left result) same h)
+        → section.device < length state.images → IsOpen device image sub v → (from : Stand) (numbers : List ℤ) (new : Image) (to : Stand)
+        (old left : Option (List ℕ)) (result : Result (Unit {0}) FrameFault) → new ≡ record image { numbers = numbers } → from.held ≡ None → OnOk result (to.held ≡ None)
+        → IfSome old (λ rest. TakesAs (take_desc (takers set.structs (length set.structs)) d v base (start from.at rest)) numbers to.at left result)
+        → ReadsOn (in_fields set names state section sub image) (λ _. after_fields set names state section sub new) from to old left (concerns (Some section.device) result)
+    fields_answer d base a b room open' from numbers new to None left result is before held h = tt
+    fields_answer d base a b room open' from numbers new to (Some rest) left result is before held h =
+        let same : take_desc (takers set.structs (length set.structs)) d v base (start from.at rest) ≡ taken from.at rest =
+        ap (λ (x : Desc). take_desc (takers set.structs (length set.structs)) x v base (start from.at rest)) a
+        ∙ ap (λ (m : ℕ). take_desc (takers set.structs (length set.structs)) (part_desc device sub) v m (start from.at rest)) b in
+        let P : Image → Option ℕ → Type 0 = λ x o. Reads (in_fields set names state section sub image from.at (ahead o rest)) (λ _. after_fields set names state section sub x) from.at to (ahead o rest) left (concerns (Some section.device) result) in
+        subst (λ (o : Option ℕ). P new o) (sym before) (subst (λ (x : Image). P x None) (sym is)
+        (by_taken room (open_in device image sub v open') from.at rest numbers to left result (taken from.at rest) refl (fields_are room open' from.at rest) held
+        (subst (λ (t : Taken). TakesAs t numbers to.at left result) same h)))

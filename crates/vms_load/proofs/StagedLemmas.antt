@@ -10,7 +10,9 @@ use Rattle.vms_spec.specs.Sets.{Device, Set}
 use Rattle.vms_spec.specs.Images.{Image, default_image}
 use Rattle.vms_spec.specs.Streams.{is_one_of}
 use Rattle.vms_spec.specs.declared.Reason.TheVariants as reasons
-use Rattle.vms_spec.specs.Judging.{State, Magic, at_start, find_device}
+use Rattle.vms_spec.specs.Judging.{find_device}
+use Rattle.vms_units.specs.SoFar.{Unknown}
+use Rattle.vms_units.specs.State.{State, Before, at_start}
 use Rattle.vms_parts.specs.Devices.{device_at}
 use Rattle.vms_load.specs.Heads.{unfit, opened_at, opened_unless, reason_against, section_opened}
 use Rattle.vms_load.specs.Parts.{IsShaped}
@@ -128,7 +130,7 @@ machine_found machines i name machine lt is same inv = (
 -- ---- the start
 
 abbrev pub state_at_magic : List Image → List Bool → State
-state_at_magic images came = record { machine = None; images = images; came = came; spot = Magic }
+state_at_magic images came = record { machine = None; images = images; came = came; tail = Unknown; spot = Before }
 
 none_came : (devices : List Device) → replicate (length devices) false ≡ map (λ d. false) devices
 none_came [] = refl

@@ -1,134 +1,181 @@
--- What stands between sections, before them and after them, as the judge reads it.
-use Rattle.std.proofs.Common.{◌≡◌, ℕ, ◌+◌, ◌-◌, ◌≤◌, List, length, drop, Option, Some, None, Result, Ok, Err, IfSome, OnOk, refl, sym, ap, ◌∙◌, subst, arith}
+-- What stands between sections and before them, as the judge reads it.
+use Rattle.std.proofs.Common.{◌≡◌, ℕ, ◌+◌, ◌-◌, ◌≤◌, nat_lt, if◌then◌else◌, Bool, true, false, List, length, take, drop, Option, Some, None, Result, Ok, Err, IfSome, OnOk, refl, sym, ap, ◌∙◌, subst, arith}
 use Rattle.vms_spec.specs.Sets.{Set}
-use Rattle.vms_spec.specs.Readings.{Reading, reading_after}
-use Rattle.vms_spec.specs.Judging.{State, Spot, judge, judge_at, judge_mark, judge_magic, judge_version, judge_trailer, goes_to}
-use Rattle.vms_spec.specs.Judging as spots
+use Rattle.vms_spec.specs.declared.Reason.{Reason}
+use Rattle.vms_spec.specs.Judging.{number_at}
+use Rattle.vms_spec.specs.Units.{Piece, Magic, Version}
+use Rattle.vms_spec.specs.Readings.{Verdict, Goes, Reading, reading_after}
 use Rattle.vms_laws.specs.Whole.{reading_on}
 use Rattle.vms_laws.proofs.FrameLaws.{one_unit}
-use Rattle.vms_laws.proofs.ReadingLaws.{advances}
-use Rattle.vms_laws.proofs.JudgeLaws.{judge_local}
-use Rattle.vms_frames.specs.Answers.{Answers, AnswersAfter, AnswersHead}
-use Rattle.vms_frames.specs.Found.{Found, Whole, Wrong, Cut, between_found, step_long, magic_found, version_found}
-use Rattle.vms_frames.specs.Judged.{judge_found, judge_step, judge_section, is_first, is_configured}
-use Rattle.vms_frames.specs.declared.units.Between.{Between}
-use Rattle.vms_frames.specs.declared.units.Between.TheVariants.{First, AfterConfiguration, Later}
-use Rattle.vms_frames.specs.declared.units.Step.{Step}
-use Rattle.vms_frames.specs.declared.units.Step.TheVariants as steps
-use Rattle.vms_frames.proofs.JudgedLemmas.{between_holds, magic_holds, version_holds}
-use Rattle.vms_frames.specs.declared.fault.FrameFault.{FrameFault}
+use Rattle.vms_units.specs.Dues.{Due, AMagic, AVersion, Between as IsBetween}
+use Rattle.vms_units.specs.Table.{first_row, alone}
+use Rattle.vms_units.specs.Finding.{Whole, Cut}
+use Rattle.vms_units.specs.Judge.{judge}
+use Rattle.vms_units.specs.Judged.{ask, judge_seen}
+use Rattle.vms_units.specs.Seen.{Seen, Good, Bad, Short, seen, seen_by, seen_in}
+use Rattle.vms_units.specs.State.{State, Spot, Before, Headed, Free, by_state}
+use Rattle.vms_units.specs.Taking.{nothing_known}
+use Rattle.vms_units.proofs.Calls.Judged.{judged_holds}
+use Rattle.vms_units.proofs.Finding.Advancing.{advances}
+use Rattle.vms_units.proofs.Judging.Mirrors.{solid}
 use Rattle.vms_marks.specs.declared.head.Head.{Head}
-use Rattle.vms_load.specs.Reads.{Onward, Leads, Reads, IsBehind, Settles, behind, concerning}
-use Rattle.vms_load.specs.Staging.{spot_of}
+use Rattle.vms_cursor.specs.Stands.{Stand}
+use Rattle.vms_cursor.specs.Found.{step_long}
+use Rattle.vms_cursor.specs.Calls.{ahead, due_of, unit_of_step, ReadsBetween, AnswersSeen, AnswersAfter, AnswersHead}
+use Rattle.vms_cursor.specs.declared.units.Between.{Between}
+use Rattle.vms_cursor.specs.declared.units.Between.TheVariants.{First, AfterConfiguration, Later}
+use Rattle.vms_cursor.specs.declared.units.Step.{Step}
+use Rattle.vms_cursor.specs.declared.units.Step.TheVariants as steps
+use Rattle.vms_cursor.specs.declared.fault.FrameFault.{FrameFault}
+use Rattle.vms_load.specs.Reads.{Onward, Reads, ReadsOn, LeadsOn, ReadsBehind, IsBehind, Settles, concerning}
+use Rattle.vms_load.specs.Staging.{state_of, spot_of, is_first, is_configured}
 use Rattle.vms_load.specs.declared.fault.LoadFault.{LoadFault}
+use Rattle.vms_load.specs.declared.staged.Staged.{Staged}
+use Rattle.vms_load.proofs.OpenedReads.{head_unit, head_long, section_long}
 use Rattle.vms_load.proofs.PartReads.{concerns}
-use Rattle.vms_load.proofs.OpenedReads.{section_long}
 use Rattle.vms_load.proofs.ReadLemmas.{unit_fault, unit_settled, unit_behind, reads_on}
 
-module _ (set : Set) (names : List (List ℕ)) (state : State) where
+due_is : (between : Between) → IsBetween (is_first between) (is_configured between) ≡ due_of between
+due_is First = refl
+due_is AfterConfiguration = refl
+due_is Later = refl
+
+module _ (set : Set) (names : List (List ℕ)) where
   abbrev go : State → Onward
-  go = reading_on (judge set names)
+  go = reading_on (judge (by_state set names))
 
   -- one unit of a reading
-  unit_of : (s : State) (place : ℕ) (rest : List ℕ) → go s place rest ≡ reading_after go place rest (judge set names s rest)
-  unit_of s place rest = one_unit (judge set names) (advances (judge set names) (judge_local set names)) s place rest
+  unit_of : (s : State) (place : ℕ) (rest : List ℕ) → go s place rest ≡ reading_after go place rest (judge (by_state set names) s rest)
+  unit_of s place rest = one_unit (judge (by_state set names)) (advances (by_state set names) (λ s. solid set s s.spot)) s place rest
 
   -- ---- between sections
 
-  at_between : (between : Between) (rest : List ℕ) → judge_at set names (spot_of between) state rest ≡ judge_mark set names (is_first between) (is_configured between) state rest
-  at_between First rest = refl
-  at_between AfterConfiguration rest = refl
-  at_between Later rest = refl
+  module _ (staged : Staged) (between : Between) where
+    abbrev state : State
+    state = state_of set staged (spot_of between)
 
-  between_is : (between : Between) → state.spot ≡ spot_of between → (place : ℕ) (rest : List ℕ) → go state place rest ≡ reading_after go place rest (judge_found None (judge_step set names state) rest (between_found between rest))
-  between_is between e place rest =
-      unit_of state place rest
-      ∙ ap (λ (s : Spot). reading_after go place rest (judge_at set names s state rest)) e
-      ∙ ap (reading_after go place rest) (at_between between rest ∙ between_holds set names between state rest)
+    between_is : (place : ℕ) (rest : List ℕ) → go state place rest ≡ reading_after go place rest (judge_seen None (ask set names state) rest (seen (due_of between) nothing_known rest))
+    between_is place rest =
+        unit_of state place rest
+        ∙ ap (reading_after go place rest) (judged_holds set names state rest refl refl refl ∙ ap (λ (d : Due). judge_seen None (ask set names state) rest (seen d nothing_known rest)) (due_is between))
 
-  pub turn_fault : {Y : Type 0} (between : Between) (old left : Option (List ℕ)) (next : Y → Onward) (place to : ℕ) (fault : FrameFault) → state.spot ≡ spot_of between
-      → IfSome old (λ rest. Answers step_long (between_found between rest) place rest left (Err fault)) → IfSome old (λ rest. Reads (go state place rest) next place to rest left (Err (concerning None fault)))
-  turn_fault between None left next place to fault e a = tt
-  turn_fault between (Some rest) left next place to fault e a =
-      subst (λ (x : Option (Reading State)). Reads x next place to rest left (Err (concerning None fault))) (sym (between_is between e place rest))
-      (unit_fault go None (judge_step set names state) place rest (between_found between rest) left next to fault a)
+    pub turn_fault : {Y : Type 0} (from to : Stand) (old left : Option (List ℕ)) (next : Y → Onward) (fault : FrameFault)
+        → ReadsBetween between from old left (Err fault) → ReadsOn (go state) next from to old left (Err (concerning None fault))
+    turn_fault from to None left next fault a = tt
+    turn_fault from to (Some rest) left next fault a =
+        let bytes = ahead from.held rest in
+        subst (λ (x : Option (Reading State)). Reads x next from.at to bytes left (Err (concerning None fault))) (sym (between_is from.at bytes))
+        (unit_fault go None (ask set names state) from.at bytes unit_of_step step_long (seen (due_of between) nothing_known bytes) left next to fault a)
 
-  pub turn_settled : {Y : Type 0} (between : Between) (old left : Option (List ℕ)) (step : Step) (place to : ℕ) (next : Y → State) (result : Result Y LoadFault) → state.spot ≡ spot_of between
-      → IfSome old (λ rest. Answers step_long (between_found between rest) place rest left (Ok step)) → to ≡ place + step_long step → Settles (judge_step set names state step) place next (step_long step) result
-      → IfSome old (λ rest. Reads (go state place rest) (λ y. go (next y)) place to rest left result)
-  turn_settled between None left step place to next result e a far h = tt
-  turn_settled between (Some rest) left step place to next result e a far h =
-      subst (λ (x : Option (Reading State)). Reads x (λ y. go (next y)) place to rest left result) (sym (between_is between e place rest))
-      (unit_settled go None (judge_step set names state) place rest (between_found between rest) step_long step left left to next result a far refl h)
+    pub turn_settled : {Y : Type 0} (from to : Stand) (old left : Option (List ℕ)) (step : Step) (next : Y → State) (result : Result Y LoadFault)
+        → ReadsBetween between from old left (Ok step) → to.at ≡ from.at + step_long step → to.held ≡ None
+        → Settles (ask set names state (unit_of_step step) (step_long step)) from.at next (step_long step) result → ReadsOn (go state) (λ y. go (next y)) from to old left result
+    turn_settled from to None left step next result a far free h = tt
+    turn_settled from to (Some rest) left step next result a far free h =
+        let bytes = ahead from.held rest in
+        subst (λ (x : Option (Reading State)). Reads x (λ y. go (next y)) from.at to bytes left result) (sym (between_is from.at bytes))
+        (unit_settled go None (ask set names state) from.at bytes (seen (due_of between) nothing_known bytes) (unit_of_step step) (step_long step) left to next result a far free h)
 
-  pub turn_behind : (between : Between) (old left : Option (List ℕ)) (head : Head) (place to : ℕ) → state.spot ≡ spot_of between
-      → IfSome old (λ rest. Answers step_long (between_found between rest) place rest left (Ok (steps.Section head))) → to ≡ place + (14 + length head.name.items)
-      → IfSome old (λ rest. Leads (go state place rest) (behind go place (judge_section set names state head)) place to rest left)
-  turn_behind between None left head place to e a far = tt
-  turn_behind between (Some rest) left head place to e a far =
-      subst (λ (x : Option (Reading State)). Leads x (behind go place (judge_section set names state head)) place to rest left) (sym (between_is between e place rest))
-      (unit_behind go None (judge_step set names state) place rest (between_found between rest) step_long (steps.Section head) left to a far (section_long set names state head))
+    -- a section, from its head on
+    pub turn_section : (from mid end : Stand) (old middle new : Option (List ℕ)) (head : Head) (place : ℕ) (final : State) (result : Result (Unit {0}) LoadFault) → length staged.came.items ≡ length set.devices
+        → ReadsBetween between from old middle (Ok (steps.Section head)) → mid.at ≡ from.at + head_long head → mid.held ≡ None → place ≡ from.at
+        → ((bytes : List ℕ) → IsBehind (head_long head) place bytes mid middle → ReadsBehind go (ask set names state (head_unit head) (head_long head)) (λ _. go final) place (head_long head) bytes end new result)
+        → ReadsOn (go state) (λ _. go final) from end old new result
+    turn_section from mid end None middle new head place final result came a far free is r = tt
+    turn_section from mid end (Some rest) middle new head place final result came a far free is r =
+        let bytes = ahead from.held rest in
+        let n = head_long head in
+        let begun : IsBehind n place bytes mid middle = record { place = far ∙ ap (λ (k : ℕ). k + n) (sym is); held = free; taken = a.1 } in
+        let onward = subst (λ (k : ℕ). ReadsBehind go (ask set names state (head_unit head) n) (λ _. go final) k n bytes end new result) is (r bytes begun) in
+        subst (λ (x : Option (Reading State)). Reads x (λ _. go final) from.at end bytes new result) (sym (between_is from.at bytes))
+        (unit_behind go None (ask set names state) from.at bytes (seen (due_of between) nothing_known bytes) (head_unit head) n (λ (x : Unit {0}). go final) end new result a.0
+        (section_long set names staged (is_first between) (is_configured between) head came) onward)
 
-  pub turn_section : (between : Between) (old mid new : Option (List ℕ)) (head : Head) (place at to end : ℕ) (final : State) (result : Result (Unit {0}) LoadFault) → state.spot ≡ spot_of between
-      → IfSome old (λ rest. Answers step_long (between_found between rest) place rest mid (Ok (steps.Section head))) → to ≡ place + (14 + length head.name.items) → at ≡ place
-      → ((bytes : List ℕ) → IsBehind (14 + length head.name.items) at bytes to mid
-      → Reads (behind go at (judge_section set names state head) to (drop (14 + length head.name.items) bytes)) (λ _. go final) at end bytes new result)
-      → IfSome old (λ rest. Reads (go state place rest) (λ _. go final) place end rest new result)
-  turn_section between None mid new head place at to end final result e a far is r = tt
-  turn_section between (Some rest) mid new head place at to end final result e a far is r =
-      let n = 14 + length head.name.items in
-      let left = drop n rest in
-      let lead : Leads (go state place rest) (behind go place (judge_section set names state head)) place to rest (Some left) =
-      subst (λ (o : Option (List ℕ)). Leads (go state place rest) (behind go place (judge_section set names state head)) place to rest o) a.1 (turn_behind between (Some rest) mid head place to e a far) in
-      let first : IsBehind n at rest to mid = record { place = far ∙ ap (λ (k : ℕ). k + n) (sym is); taken = a.1 } in
-      subst (λ (x : Option (Reading State)). Reads x (λ _. go final) place end rest new result) (sym lead.0)
-      (subst (λ (k : ℕ). Reads (behind go k (judge_section set names state head) to left) (λ _. go final) k end rest new result) is (r rest first))
+-- ---- the stream head
 
-  -- ---- the stream head
-
-  abbrev pub at_spot : Spot → State
+module _ (set : Set) (names : List (List ℕ)) (state : State) where
+  abbrev at_spot : Spot → State
   at_spot spot = record state { spot = spot }
 
-  magic_is : (place : ℕ) (rest : List ℕ) → go (at_spot spots.Magic) place rest ≡ reading_after go place rest (judge_found None (λ (x : Unit {0}). goes_to set names (at_spot spots.Magic) 4 spots.Version) rest (magic_found rest))
-  magic_is place rest = unit_of (at_spot spots.Magic) place rest ∙ ap (reading_after go place rest) (magic_holds set names (at_spot spots.Magic) rest)
+  -- what is asked of a unit of the head: nothing
+  abbrev asked : Spot → Piece → ℕ → Verdict State
+  asked spot = ask set names (at_spot spot)
 
-  version_is : (place : ℕ) (rest : List ℕ) → go (at_spot spots.Version) place rest ≡ reading_after go place rest (judge_found None (λ (x : Unit {0}). goes_to set names (at_spot spots.Version) 4 spots.First) rest (version_found rest))
-  version_is place rest = unit_of (at_spot spots.Version) place rest ∙ ap (reading_after go place rest) (version_holds set names (at_spot spots.Version) rest)
+  magic_is : (place : ℕ) (rest : List ℕ) → go set names (at_spot Before) place rest ≡ reading_after (go set names) place rest (judge_seen None (asked Before) rest (seen AMagic nothing_known rest))
+  magic_is place rest = unit_of set names (at_spot Before) place rest ∙ ap (reading_after (go set names) place rest) (judged_holds set names (at_spot Before) rest refl refl refl)
 
-  version_read : (place to : ℕ) (rest : List ℕ) (left : Option (List ℕ)) (result : Result (Unit {0}) FrameFault) → OnOk result (to ≡ place + 4)
-      → Answers (λ _. 4) (version_found rest) place rest left result → Reads (go (at_spot spots.Version) place rest) (λ _. go (at_spot spots.First)) place to rest left (concerns None result)
-  version_read place to rest left (Ok x) far a =
-      subst (λ (r : Option (Reading State)). Reads {X = Unit {0}} r (λ _. go (at_spot spots.First)) place to rest left (Ok x)) (sym (version_is place rest))
-      (unit_settled go None (λ (x : Unit {0}). goes_to set names (at_spot spots.Version) 4 spots.First) place rest (version_found rest) (λ _. 4) x left left to (λ (y : Unit {0}). at_spot spots.First) (Ok x) a far refl (refl, refl))
-  version_read place to rest left (Err fault) far a =
-      subst (λ (r : Option (Reading State)). Reads {X = Unit {0}} r (λ _. go (at_spot spots.First)) place to rest left (Err (concerning None fault))) (sym (version_is place rest))
-      (unit_fault go None (λ (x : Unit {0}). goes_to set names (at_spot spots.Version) 4 spots.First) place rest (version_found rest) left (λ (y : Unit {0}). go (at_spot spots.First)) to fault a)
+  version_is : (place : ℕ) (rest : List ℕ) → go set names (at_spot Headed) place rest ≡ reading_after (go set names) place rest (judge_seen None (asked Headed) rest (seen AVersion nothing_known rest))
+  version_is place rest = unit_of set names (at_spot Headed) place rest ∙ ap (reading_after (go set names) place rest) (judged_holds set names (at_spot Headed) rest refl refl refl)
 
-  by_magic : (place to : ℕ) (rest : List ℕ) (left : Option (List ℕ)) (result : Result (Unit {0}) FrameFault) (m : Found (Unit {0})) → OnOk result (to ≡ place + 8)
-      → AnswersAfter m (version_found (drop 4 rest)) place rest left result
-      → Reads (reading_after go place rest (judge_found None (λ (x : Unit {0}). goes_to set names (at_spot spots.Magic) 4 spots.Version) rest m)) (λ _. go (at_spot spots.First)) place to rest left (concerns None result)
-  by_magic place to rest left result (Whole x) far a =
-      let four : 4 ≡ (place + 4) - place = omega arith in
-      reads_on (Some rest) (Some (drop 4 rest)) left (λ l. go (at_spot spots.Version) (place + 4) (drop 4 l)) (go (at_spot spots.Version)) (λ _. go (at_spot spots.First)) place (place + 4) to (concerns None result)
-      (omega arith) (up result far) (refl, ap (λ (n : ℕ). drop n rest) four) (version_read (place + 4) to (drop 4 rest) left result (further result far) a)
+  abbrev onward : Unit {0} → Onward
+  onward x = go set names (at_spot (Free true false))
+
+  -- the version, behind the magic
+  version_read : (place : ℕ) (to : Stand) (rest : List ℕ) (left : Option (List ℕ)) (result : Result (Unit {0}) FrameFault) → OnOk result (to.at ≡ place + 4) → OnOk result (to.held ≡ None)
+      → AnswersSeen (λ _. Version (number_at 4 0 rest)) (λ _. 4) (seen AVersion nothing_known rest) place rest left result
+      → Reads (go set names (at_spot Headed) place rest) onward place to rest left (concerns None result)
+  version_read place to rest left (Ok x) far free a =
+      subst (λ (r : Option (Reading State)). Reads r onward place to rest left (Ok x)) (sym (version_is place rest))
+      (unit_settled (go set names) None (asked Headed) place rest {Y = Unit {0}} (seen AVersion nothing_known rest) (Version (number_at 4 0 rest)) 4 left to (λ y. at_spot (Free true false)) (Ok x) a far free (refl, refl))
+  version_read place to rest left (Err fault) far free a =
+      subst (λ (r : Option (Reading State)). Reads r onward place to rest left (Err (concerning None fault))) (sym (version_is place rest))
+      (unit_fault (go set names) None (asked Headed) place rest {X = Unit {0}} (λ _. Version (number_at 4 0 rest)) (λ _. 4) (seen AVersion nothing_known rest) left onward to fault a)
+
+  -- a magic that is whole
+  abbrev IsMagic : List ℕ → Seen → Type 0
+  IsMagic rest (Good x n) = (x ≡ Magic (take 4 rest)) × (n ≡ 4)
+  IsMagic rest (Bad n reason) = Unit {0}
+  IsMagic rest Short = Unit {0}
+
+  is_magic : (rest : List ℕ) → IsMagic rest (seen AMagic nothing_known rest)
+  is_magic rest = by (nat_lt (length rest) 4)
     where
-      up : (result : Result (Unit {0}) FrameFault) → OnOk result (to ≡ place + 8) → OnOk (concerns None result) (place + 4 ≤ to)
+      by_row : (o : Option (Option ℕ × Reason)) → IsMagic rest (seen_by o (Magic (take 4 rest)) 4)
+      by_row None = (refl, refl)
+      by_row (Some (section, reason)) = tt
+
+      by : (b : Bool) → IsMagic rest (seen_in AMagic nothing_known (if b then Cut else Whole (Magic (take 4 rest)) 4))
+      by true = tt
+      by false = by_row (first_row (alone AMagic nothing_known (Magic (take 4 rest))))
+
+  abbrev by_seen : ℕ → List ℕ → Seen → Option (Reading State)
+  by_seen place rest found = reading_after (go set names) place rest (judge_seen None (asked Before) rest found)
+
+  on_version : (place : ℕ) (to : Stand) (rest : List ℕ) (left : Option (List ℕ)) (result : Result (Unit {0}) FrameFault) → OnOk result (to.at ≡ place + 8) → OnOk result (to.held ≡ None)
+      → AnswersSeen (λ _. Version (number_at 4 0 (drop 4 rest))) (λ _. 4) (seen AVersion nothing_known (drop 4 rest)) (place + 4) (drop 4 rest) left result
+      → Reads (go set names (at_spot Headed) (place + 4) (drop 4 rest)) onward place to rest left (concerns None result)
+  on_version place to rest left result far free a =
+      let four : 4 ≡ (place + 4) - place = omega arith in
+      let start : Stand = record { at = place; held = None } in
+      let middle : Stand = record { at = place + 4; held = None } in
+      let lead : LeadsOn (λ p l. go set names (at_spot Headed) (place + 4) (drop 4 l)) (go set names (at_spot Headed)) start middle (Some rest) (Some (drop 4 rest)) = (refl, ap (λ (n : ℕ). drop n rest) four) in
+      reads_on {X = Unit {0}} (Some rest) (Some (drop 4 rest)) left (λ p l. go set names (at_spot Headed) (place + 4) (drop 4 l)) (go set names (at_spot Headed)) onward start middle to (concerns None result)
+      (omega arith) (up result far) lead (version_read (place + 4) to (drop 4 rest) left result (further result far) free a)
+    where
+      up : (result : Result (Unit {0}) FrameFault) → OnOk result (to.at ≡ place + 8) → OnOk (concerns None result) (place + 4 ≤ to.at)
       up (Ok x) h = omega (arith, h)
       up (Err e) h = tt
 
-      further : (result : Result (Unit {0}) FrameFault) → OnOk result (to ≡ place + 8) → OnOk result (to ≡ (place + 4) + 4)
+      further : (result : Result (Unit {0}) FrameFault) → OnOk result (to.at ≡ place + 8) → OnOk result (to.at ≡ (place + 4) + 4)
       further (Ok x) h = omega (arith, h)
       further (Err e) h = tt
-  by_magic place to rest left (Ok x) (Wrong n why) far a = let h = a.0 in cc
-  by_magic place to rest left (Ok x) Cut far a = let h = a.0 in cc
-  by_magic place to rest left (Err fault) (Wrong n why) far a =
-      unit_fault go None (λ (x : Unit {0}). goes_to set names (at_spot spots.Magic) 4 spots.Version) place rest (Wrong n why) left (λ (y : Unit {0}). go (at_spot spots.First)) to fault a
-  by_magic place to rest left (Err fault) Cut far a =
-      unit_fault go None (λ (x : Unit {0}). goes_to set names (at_spot spots.Magic) 4 spots.Version) place rest Cut left (λ (y : Unit {0}). go (at_spot spots.First)) to fault a
 
-  pub head_read : (old left : Option (List ℕ)) (place to : ℕ) (result : Result (Unit {0}) FrameFault) → OnOk result (to ≡ place + 8)
-      → IfSome old (λ rest. AnswersHead place rest left result) → IfSome old (λ rest. Reads (go (at_spot spots.Magic) place rest) (λ _. go (at_spot spots.First)) place to rest left (concerns None result))
-  head_read None left place to result far a = tt
-  head_read (Some rest) left place to result far a =
-      subst (λ (x : Option (Reading State)). Reads x (λ _. go (at_spot spots.First)) place to rest left (concerns None result)) (sym (magic_is place rest))
-      (by_magic place to rest left result (magic_found rest) far a)
+  by_magic : (place : ℕ) (to : Stand) (rest : List ℕ) (left : Option (List ℕ)) (result : Result (Unit {0}) FrameFault) (found : Seen) → IsMagic rest found → OnOk result (to.at ≡ place + 8) → OnOk result (to.held ≡ None)
+      → AnswersAfter found place rest left result → Reads (by_seen place rest found) onward place to rest left (concerns None result)
+  by_magic place to rest left result (Good x n) is far free a =
+      let goes : asked Before x n ≡ Goes 4 (at_spot Headed) = ap (λ (y : Piece). asked Before y n) is.0 ∙ ap (λ (m : ℕ). asked Before (Magic (take 4 rest)) m) is.1 in
+      subst (λ (v : Verdict State). Reads (reading_after (go set names) place rest v) onward place to rest left (concerns None result)) (sym goes) (on_version place to rest left result far free a)
+  by_magic place to rest left (Ok x) (Bad n reason) is far free a = let h = a.0 in cc
+  by_magic place to rest left (Ok x) Short is far free a = let h = a.0 in cc
+  by_magic place to rest left (Err fault) (Bad n reason) is far free a =
+      unit_fault (go set names) None (asked Before) place rest {X = Unit {0}} (λ _. Magic (take 4 rest)) (λ _. 4) (Bad n reason) left onward to fault a
+  by_magic place to rest left (Err fault) Short is far free a =
+      unit_fault (go set names) None (asked Before) place rest {X = Unit {0}} (λ _. Magic (take 4 rest)) (λ _. 4) Short left onward to fault a
+
+  pub head_read : (from to : Stand) (old left : Option (List ℕ)) (result : Result (Unit {0}) FrameFault) → from.held ≡ None → OnOk result (to.at ≡ from.at + 8) → OnOk result (to.held ≡ None)
+      → IfSome old (λ rest. AnswersHead from.at rest left result) → ReadsOn (go set names (at_spot Before)) onward from to old left (concerns None result)
+  head_read from to None left result held far free a = tt
+  head_read from to (Some rest) left result held far free a =
+      subst (λ (o : Option ℕ). Reads (go set names (at_spot Before) from.at (ahead o rest)) onward from.at to (ahead o rest) left (concerns None result)) (sym held)
+      (subst (λ (r : Option (Reading State)). Reads r onward from.at to rest left (concerns None result)) (sym (magic_is from.at rest))
+      (by_magic from.at to rest left result (seen AMagic nothing_known rest) (is_magic rest) far free a))

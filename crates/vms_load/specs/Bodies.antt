@@ -1,28 +1,27 @@
 -- What the calls that read fields answer.
-use Rattle.std.specs.Prelude.{◌≡◌, ℕ, ◌+◌, ◌-◌, ◌≤◌, if◌then◌else◌, List, take, drop, Option, Some, ℤ, Result, Ok, Err}
+use Rattle.std.specs.Prelude.{◌≡◌, ℕ, ◌+◌, ◌-◌, ◌≤◌, List, drop, Option, Some, ℤ, Result, Ok, Err, IfSome}
 use Rattle.vms_io.specs.Causes.{capped}
 use Rattle.vms_kinds.specs.declared.Kind.{Kind}
-use Rattle.vms_kinds.specs.Codes.{width, value_of}
-use Rattle.vms_spec.specs.declared.Reason.TheVariants as reasons
-use Rattle.vms_spec.specs.Judging.{is_bad_bool, exceeds, same_number}
+use Rattle.vms_kinds.specs.Codes.{width}
+use Rattle.vms_spec.specs.Layout.{Number as NumberSlot, Constant as ConstantSlot}
 use Rattle.vms_spec.specs.Taking.{Taken, Progress}
-use Rattle.vms_frames.specs.Found.{Found, Whole, Wrong, needs}
-use Rattle.vms_frames.specs.declared.fault.FrameFault.{FrameFault}
-use Rattle.vms_frames.specs.declared.fault.FrameFault.TheVariants as faults
+use Rattle.vms_spec.specs.Units.{Number, Constant}
+use Rattle.vms_units.specs.Dues.{Field}
+use Rattle.vms_units.specs.Seen.{seen}
+use Rattle.vms_units.specs.Taking.{nothing_known}
+use Rattle.vms_cursor.specs.Calls.{AnswersSeen}
+use Rattle.vms_cursor.specs.declared.fault.FrameFault.{FrameFault}
+use Rattle.vms_cursor.specs.declared.fault.FrameFault.TheVariants as faults
 
 -- a number of this kind that is at most each of these capacities
-abbrev pub capped_found : Kind → List ℕ → List ℕ → Found ℤ
-capped_found kind capacities rest = needs (width kind) rest (
-    if is_bad_bool kind (take (width kind) rest) then Wrong (width kind) reasons.BadBool
-    else if exceeds capacities (value_of kind (take (width kind) rest)) then Wrong (width kind) reasons.CountTooLarge
-    else Whole (value_of kind (take (width kind) rest)))
+abbrev pub ReadsCapped : Kind → List ℕ → ℕ → Option (List ℕ) → Option (List ℕ) → Result ℤ FrameFault → Type 0
+ReadsCapped kind capacities at old left result =
+    IfSome old (λ rest. AnswersSeen (Number 0 kind) (λ _. width kind) (seen (Field 0 (NumberSlot 0 kind capacities)) nothing_known rest) at rest left result)
 
 -- this number
-abbrev pub constant_found : Kind → ℤ → List ℕ → Found (Unit {0})
-constant_found kind z rest = needs (width kind) rest (
-    if is_bad_bool kind (take (width kind) rest) then Wrong (width kind) reasons.BadBool
-    else if same_number (value_of kind (take (width kind) rest)) z then Whole tt
-    else Wrong (width kind) reasons.NotEqual)
+abbrev pub ReadsConstant : Kind → ℤ → ℕ → Option (List ℕ) → Option (List ℕ) → Result (Unit {0}) FrameFault → Type 0
+ReadsConstant kind z at old left result =
+    IfSome old (λ rest. AnswersSeen (λ _. Constant kind z) (λ _. width kind) (seen (Field 0 (ConstantSlot kind z)) nothing_known rest) at rest left result)
 
 -- the call takes what the definition takes: at its end these are the numbers, the place and what is left. At a fault exactly
 -- the bytes up to the end of the unit at fault were taken.

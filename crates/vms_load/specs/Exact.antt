@@ -1,11 +1,11 @@
 -- A load answers exactly by what the input is.
 use Rattle.std.specs.Prelude.{◌≡◌, ℕ, List, Option, Result, Ok, Err}
 use Rattle.vms_spec.specs.declared.Reason.{Reason}
-use Rattle.vms_spec.specs.Faults.{Fault}
+use Rattle.vms_units.specs.Faults.{Fault}
 use Rattle.vms_spec.specs.Images.{Image}
 use Rattle.vms_spec.specs.Numbers.{IsBytes}
 use Rattle.vms_spec.specs.Sets.{Set}
-use Rattle.vms_spec.specs.Streams.{Takes}
+use Rattle.vms_units.specs.Streams.{Takes}
 use Rattle.vms_spec.specs.WellFormed.{WellFormed}
 use Rattle.vms_spec.specs.Heads.{FitsHeads}
 use Rattle.vms_load.specs.Loads.{Loads}

@@ -1,13 +1,16 @@
 -- The parts of a section, which are read into an image of its device.
-use Rattle.std.specs.Prelude.{◌≡◌, ℕ, ◌+◌, ◌<◌, List, [], ◌∷◌, length, slice_set, Option, Some, None}
+use Rattle.std.specs.Prelude.{◌≡◌, ℕ, ◌+◌, ◌<◌, ◌≤◌, false, List, [], ◌∷◌, length, slice_set, Option, Some, None}
 use Rattle.vms_spec.specs.Sets.{Desc, Sub, Device, Set}
 use Rattle.vms_spec.specs.declared.Part.{Part}
 use Rattle.vms_spec.specs.declared.Part.TheVariants as parts
 use Rattle.vms_spec.specs.Lists.{at}
 use Rattle.vms_spec.specs.Layout.{device_cells}
 use Rattle.vms_spec.specs.Images.{Image, sub_place, own_cells}
-use Rattle.vms_spec.specs.Readings.{reading_after}
-use Rattle.vms_spec.specs.Judging.{State, Spot, Fields, Later, judge, judge_after}
+use Rattle.vms_spec.specs.SoFar.{part_slots}
+use Rattle.vms_units.specs.Judge.{judge}
+use Rattle.vms_units.specs.State.{State, Spot, Free, Inside, by_state}
+use Rattle.vms_cursor.specs.Stands.{Stand}
+use Rattle.vms_cursor.specs.Calls.{tail_of}
 use Rattle.vms_laws.specs.Whole.{reading_on}
 use Rattle.vms_parts.specs.Devices.{device_at}
 use Rattle.vms_desc.specs.Parts.{sub_at}
@@ -73,8 +76,8 @@ part_due set d came (Some part) = bytes_of_part set d part.sub + (subs_due set d
 
 -- before the fields of the part that comes next, or behind the section
 abbrev pub spot_in : Section → Option Open → Spot
-spot_in section None = Later
-spot_in section (Some part) = Fields section.device section.id part.sub 0
+spot_in section None = Free false false
+spot_in section (Some part) = Inside section.device section.id part.sub 0
 
 -- a state with this image of the section's device
 abbrev pub state_in : State → Section → Image → Spot → State
@@ -82,20 +85,36 @@ state_in state section image spot = record {
   machine = state.machine;
   images = slice_set state.images section.device image;
   came = state.came;
+  tail = tail_of section.tail;
   spot = spot;
 }
+
+-- it is still the section of this device with this id
+abbrev pub IsSame : Section → Section → Type 0
+IsSame old new = (new.device ≡ old.device) × (new.id ≡ old.id)
+
+-- a part that comes next has bytes of its own
+abbrev pub IsMoved : Stand → Stand → Option Open → Type 0
+IsMoved from to None = from.at ≤ to.at
+IsMoved from to (Some part) = from.at < to.at
+
+-- a byte is held behind a section alone
+abbrev pub HoldsNone : Stand → Option Open → Type 0
+HoldsNone stand None = Unit {0}
+HoldsNone stand (Some part) = stand.held ≡ None
 
 module _ (set : Set) (names : List (List ℕ)) (state : State) (section : Section) where
   -- before the fields of a part
   abbrev pub in_fields : Option ℕ → Image → Onward
-  in_fields part image = reading_on (judge set names) (state_in state section image (Fields section.device section.id part 0))
+  in_fields part image = reading_on (judge (by_state set names)) (state_in state section image (Inside section.device section.id part 0))
 
-  -- behind the fields of a part
+  -- behind the fields of a part: all its slots are passed
+  abbrev pub all_passed : Option ℕ → Image → ℕ
+  all_passed part image = length (part_slots set (Some (device_at set section.device)) image part)
+
   abbrev pub after_fields : Option ℕ → Image → Onward
-  after_fields part image place rest =
-      reading_after (reading_on (judge set names)) place rest
-      (judge_after set names (state_in state section image (Fields section.device section.id part 0)) (device_at set section.device) image section.device section.id rest)
+  after_fields part image = reading_on (judge (by_state set names)) (state_in state section image (Inside section.device section.id part (all_passed part image)))
 
   -- before the next part, or behind the section
   abbrev pub after_part : Image → Option Open → Onward
-  after_part image next = reading_on (judge set names) (state_in state section image (spot_in section next))
+  after_part image next = reading_on (judge (by_state set names)) (state_in state section image (spot_in section next))

@@ -1,11 +1,13 @@
 -- What the calls of the loader read, as the judge of streams has it.
-use Rattle.std.specs.Prelude.{◌≡◌, ℕ, ◌+◌, ◌-◌, ◌≤◌, List, drop, Option, Some, None, Result, Ok, Err}
+use Rattle.std.specs.Prelude.{◌≡◌, ℕ, ◌+◌, ◌-◌, ◌≤◌, List, drop, Option, Some, None, Result, Ok, Err, IfSome}
 use Rattle.vms_io.specs.Causes.{capped}
 use Rattle.vms_spec.specs.Readings.{Verdict, Goes, Faulty, Over, Reading, Accepted, Refused}
-use Rattle.vms_spec.specs.Judging.{State}
-use Rattle.vms_frames.specs.declared.fault.FrameFault.{FrameFault}
-use Rattle.vms_frames.specs.declared.fault.Refusal.{Refusal}
-use Rattle.vms_frames.specs.declared.fault.FrameFault.TheVariants as frames
+use Rattle.vms_units.specs.State.{State}
+use Rattle.vms_cursor.specs.Stands.{Stand}
+use Rattle.vms_cursor.specs.Calls.{ahead, held_long}
+use Rattle.vms_cursor.specs.declared.fault.FrameFault.{FrameFault}
+use Rattle.vms_cursor.specs.declared.fault.Refusal.{Refusal}
+use Rattle.vms_cursor.specs.declared.fault.FrameFault.TheVariants as frames
 use Rattle.vms_load.specs.declared.fault.LoadFault.{LoadFault}
 use Rattle.vms_load.specs.declared.fault.LoadFault.TheVariants as faults
 
@@ -19,10 +21,10 @@ behind go at (Goes n next) to left = go next to left
 behind go at (Faulty section reason long) to left = Some (Refused at section reason long)
 behind go at (Over end) to left = Some (Accepted at end)
 
--- the reading goes on so from this place, and all bytes before it were taken
-abbrev pub Leads : Option (Reading State) → Onward → ℕ → ℕ → List ℕ → Option (List ℕ) → Type 0
+-- the reading goes on so where the cursor stands, and all bytes before it were taken
+abbrev pub Leads : Option (Reading State) → Onward → ℕ → Stand → List ℕ → Option (List ℕ) → Type 0
 Leads reading next at to rest None = ⊥
-Leads reading next at to rest (Some left) = (reading ≡ next to left) × (left ≡ drop (to - at) rest)
+Leads reading next at to rest (Some left) = (reading ≡ next to.at (ahead to.held left)) × (ahead to.held left ≡ drop (to.at - at) rest)
 
 -- the reading ends with this refusal, of a unit of so many bytes, and exactly the bytes up to the end of this unit were taken
 pub record Refuses (reading : Option (Reading State)) (at : ℕ) (rest : List ℕ) (left : Option (List ℕ)) (r : Refusal) : Type 0 where
@@ -32,16 +34,28 @@ pub record Refuses (reading : Option (Reading State)) (at : ℕ) (rest : List �
   pub taken : left ≡ Some (drop (r.at - at + long) rest)
 
 -- the reading goes on so by what the call answers, or is refused so
-abbrev pub Reads : {X : Type 0} → Option (Reading State) → (X → Onward) → ℕ → ℕ → List ℕ → Option (List ℕ) → Result X LoadFault → Type 0
+abbrev pub Reads : {X : Type 0} → Option (Reading State) → (X → Onward) → ℕ → Stand → List ℕ → Option (List ℕ) → Result X LoadFault → Type 0
 Reads reading next at to rest left (Ok x) = Leads reading (next x) at to rest left
 Reads reading next at to rest left (Err (faults.Refused r)) = Refuses reading at rest left r
 Reads reading next at to rest left (Err faults.ReadFault) = Unit {0}
 Reads reading next at to rest left (Err faults.NoMemory) = ⊥
 
+-- the same between two stands of a cursor, where what is left of its source is told
+abbrev pub ReadsOn : {X : Type 0} → Onward → (X → Onward) → Stand → Stand → Option (List ℕ) → Option (List ℕ) → Result X LoadFault → Type 0
+ReadsOn reading next from to old left result = IfSome old (λ rest. Reads (reading from.at (ahead from.held rest)) next from.at to (ahead from.held rest) left result)
+
+abbrev pub LeadsOn : Onward → Onward → Stand → Stand → Option (List ℕ) → Option (List ℕ) → Type 0
+LeadsOn reading next from to old left = IfSome old (λ rest. Leads (reading from.at (ahead from.held rest)) next from.at to (ahead from.held rest) left)
+
 -- the call began behind a unit of so many bytes, which stands at this place at the front of these bytes
-pub record IsBehind (long at : ℕ) (bytes : List ℕ) (to : ℕ) (left : Option (List ℕ)) : Type 0 where
-  pub place : to ≡ at + long
+pub record IsBehind (long at : ℕ) (bytes : List ℕ) (to : Stand) (left : Option (List ℕ)) : Type 0 where
+  pub place : to.at ≡ at + long
+  pub held : to.held ≡ None
   pub taken : left ≡ Some (drop long bytes)
+
+-- what follows such a unit, from the unit on, by the judge's verdict on it
+abbrev pub ReadsBehind : {X : Type 0} → (State → Onward) → Verdict State → (X → Onward) → ℕ → ℕ → List ℕ → Stand → Option (List ℕ) → Result X LoadFault → Type 0
+ReadsBehind go v next at long bytes to left result = Reads (behind go at v (at + long) (drop long bytes)) next at to bytes left result
 
 -- a whole unit of n bytes at a place is judged: the reading goes on in a state, or the unit is at fault
 abbrev pub Settles : {X : Type 0} → Verdict State → ℕ → (X → State) → ℕ → Result X LoadFault → Type 0
@@ -60,13 +74,17 @@ IsRefused (faults.Refused r) = Unit {0}
 IsRefused faults.ReadFault = ⊥
 IsRefused faults.NoMemory = ⊥
 
--- How many bytes are given, where so many were due before and are due after: as many as the place has moved, and no more
--- than were due. A unit at fault that wasn't due has at most 269.
-abbrev pub Gives : {X : Type 0} → ℕ → ℕ → ℕ → ℕ → ℕ → (X → ℕ) → Result X LoadFault → Type 0
-Gives before now from to due after (Ok x) = (from ≤ to) × (to + after x ≤ from + due) × (now ≡ capped (before + (to - from)))
+-- how many bytes a cursor was given where it stands: those before its place, and the one that it holds
+abbrev pub reach : Stand → ℕ
+reach stand = stand.at + held_long stand.held
+
+-- How many bytes are given, where so many were due before and are due after: as many as the cursor has come further, and no
+-- more than were due. A unit at fault that wasn't due has at most 269.
+abbrev pub Gives : {X : Type 0} → ℕ → ℕ → Stand → Stand → ℕ → (X → ℕ) → Result X LoadFault → Type 0
+Gives before now from to due after (Ok x) = (from.at ≤ to.at) × (reach from ≤ reach to) × (reach to + after x ≤ reach from + due) × (now ≡ capped (before + (reach to - reach from)))
 Gives before now from to due after (Err e) = now ≤ before + due + 269
 
 -- the same behind a head, whose bytes are counted among those that were due before it
-abbrev pub GivesBehind : {X : Type 0} → ℕ → ℕ → ℕ → ℕ → ℕ → (X → ℕ) → Result X LoadFault → Type 0
-GivesBehind before now from to due after (Ok x) = (from ≤ to) × (to + (269 + after x) ≤ from + due) × (now ≡ capped (before + (to - from)))
+abbrev pub GivesBehind : {X : Type 0} → ℕ → ℕ → Stand → Stand → ℕ → (X → ℕ) → Result X LoadFault → Type 0
+GivesBehind before now from to due after (Ok x) = (from.at ≤ to.at) × (reach from ≤ reach to) × (reach to + (269 + after x) ≤ reach from + due) × (now ≡ capped (before + (reach to - reach from)))
 GivesBehind before now from to due after (Err e) = now ≤ before + due

@@ -5,10 +5,11 @@ use Rattle.vms_spec.specs.Sets.{Sub, Device, Set}
 use Rattle.vms_spec.specs.Readings.{Reading, Accepted, Refused}
 use Rattle.vms_spec.specs.Images.{Image, default_image}
 use Rattle.vms_spec.specs.Streams.{is_one_of}
-use Rattle.vms_spec.specs.Judging.{State, Spot}
-use Rattle.vms_spec.specs.Judging as spots
-use Rattle.vms_frames.specs.declared.units.Between.{Between}
-use Rattle.vms_frames.specs.declared.units.Between.TheVariants.{First, AfterConfiguration, Later}
+use Rattle.vms_units.specs.State.{State, Spot, Free, Ended}
+use Rattle.vms_cursor.specs.Stands.{Stand}
+use Rattle.vms_cursor.specs.Calls.{tail_of}
+use Rattle.vms_cursor.specs.declared.units.Between.{Between}
+use Rattle.vms_cursor.specs.declared.units.Between.TheVariants.{First, AfterConfiguration, Later}
 use Rattle.vms_parts.specs.Devices.{device_at}
 use Rattle.vms_load.specs.Parts.{IsShaped, bytes_of, subs_due}
 use Rattle.vms_load.specs.declared.fault.LoadFault.{LoadFault}
@@ -46,17 +47,28 @@ name_of set None = None
 name_of set (Some machine) = Some (get_or set.machines machine [])
 
 abbrev pub state_of : Set → Staged → Spot → State
-state_of set staged spot = record { machine = name_of set staged.machine; images = staged.images.items; came = staged.came.items; spot = spot }
+state_of set staged spot = record { machine = name_of set staged.machine; images = staged.images.items; came = staged.came.items; tail = tail_of staged.tail; spot = spot }
+
+abbrev pub is_first : Between → Bool
+is_first First = true
+is_first _ = false
+
+abbrev pub is_configured : Between → Bool
+is_configured AfterConfiguration = true
+is_configured _ = false
 
 abbrev pub spot_of : Between → Spot
-spot_of First = spots.First
-spot_of AfterConfiguration = spots.Configured
-spot_of Later = spots.Later
+spot_of between = Free (is_first between) (is_configured between)
 
 -- after the end mark there is no further place between sections
 abbrev pub spot_at : Option Between → Spot
-spot_at None = spots.Ended
+spot_at None = Ended
 spot_at (Some between) = spot_of between
+
+-- a byte is held between sections alone
+abbrev pub HoldsAt : Stand → Option Between → Type 0
+HoldsAt stand None = stand.held ≡ None
+HoldsAt stand (Some between) = Unit {0}
 
 -- the machines of these that are accepted: all, or the one that is named by its number
 abbrev pub accepted : List (List ℕ) → Option ℕ → List (List ℕ)

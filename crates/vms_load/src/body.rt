@@ -1,8 +1,8 @@
 // Reads the fields and the validations of a part, step by step.
-ghost use Rattle.std.specs.Prelude.{◌≡◌, ◌+◌, ◌≤◌, ◌^◌, ◌∷◌, [], OnOk, OnErr, IfErr, IfSome};
+ghost use Rattle.std.specs.Prelude.{◌≡◌, ◌+◌, ◌≤◌, ◌^◌, ◌∷◌, [], None, OnOk, OnErr, IfErr, IfSome};
 ghost use Rattle.vms_desc.specs.Described.{described};
 ghost use Rattle.vms_desc.specs.Parts.{desc_at};
-ghost use Rattle.vms_frames.specs.Answers.{HasCause};
+ghost use Rattle.vms_cursor.specs.Answers.{HasCause};
 ghost use Rattle.vms_walk.specs.Inside.{IsInside, Keeps};
 ghost use Rattle.vms_walk.specs.Steps.{HasSpot, steps_of, spot_slots};
 ghost use Rattle.vms_load.specs.Bodies.{TakesAs, Spends, progress};
@@ -11,7 +11,7 @@ ghost use Rattle.vms_load.specs.Reading.{take_step, step_long, told, Took, Faile
 
 use crate::items::{constant, put_number, rule};
 use vms_desc::{Cells, DescSet};
-use vms_frames::{Cursor, FrameFault};
+use vms_cursor::{Cursor, FrameFault};
 use vms_image::Image;
 use vms_io::Source;
 use vms_walk::{Spot, Step, Walker, walk};
@@ -25,14 +25,16 @@ pub(crate) fn read_part<S: Source>(
     source: &mut S,
 ) -> Result<(), FrameFault>
     requires spot { HasSpot (described set.now) spot image.old.numbers }
-    requires place { cursor.old + bytes_of (described set.now) (desc_at (described set.now) spot.part) ≤ 2 ^ 63 }
+    requires held { cursor.old.held ≡ None }
+    requires place { cursor.old.at + bytes_of (described set.now) (desc_at (described set.now) spot.part) ≤ 2 ^ 63 }
     ensures ok { let steps = steps_of (spot_slots (described set.now) spot image.new.numbers) in
-        let old = told S.left S.given S.faults S.promise image.old cursor.old source.old in
-        let new = told S.left S.given S.faults S.promise image.new cursor.new source.new in
+        let old = told S.left S.given S.faults S.promise image.old cursor.old.at source.old in
+        let new = told S.left S.given S.faults S.promise image.new cursor.new.at source.new in
         OnOk result (Took steps old new) }
+    ensures held { OnOk result (cursor.new.held ≡ None) }
     ensures err { let steps = steps_of (spot_slots (described set.now) spot image.new.numbers) in
-        let old = told S.left S.given S.faults S.promise image.old cursor.old source.old in
-        let new = told S.left S.given S.faults S.promise image.new cursor.new source.new in
+        let old = told S.left S.given S.faults S.promise image.old cursor.old.at source.old in
+        let new = told S.left S.given S.faults S.promise image.new cursor.new.at source.new in
         IfErr result (λ fault. Failed steps old fault new) }
 {
     let mut reader = Reader {
@@ -63,7 +65,7 @@ impl<S: Source> Cells for Reader<'_, S> {
 }
 
 impl<S: Source> Walker for Reader<'_, S> {
-    ghost use Rattle.std.specs.Prelude.{◌≡◌, ◌≤◌, ◌^◌, refl};
+    ghost use Rattle.std.specs.Prelude.{◌≡◌, ◌≤◌, ◌^◌, None, refl};
     ghost use Rattle.std.proofs.Common.{◌∙◌};
     ghost use Rattle.vms_load.specs.Reading.{told, Took, Failed};
     ghost use Rattle.vms_load.specs.Reading.{took_none, took_more, failed_after, failed_before};
@@ -73,25 +75,26 @@ impl<S: Source> Walker for Reader<'_, S> {
     ghost goes = { λ xs a b. (b.image.ghost_name ≡ a.image.ghost_name)
         × (b.cursor.ghost_name ≡ a.cursor.ghost_name)
         × (b.source.ghost_name ≡ a.source.ghost_name)
-        × Took xs (told S.left S.given S.faults S.promise a.image.now a.cursor.now a.source.now)
-        (told S.left S.given S.faults S.promise b.image.now b.cursor.now b.source.now) };
+        × Took xs (told S.left S.given S.faults S.promise a.image.now a.cursor.now.at a.source.now)
+        (told S.left S.given S.faults S.promise b.image.now b.cursor.now.at b.source.now)
+        × (a.cursor.now.held ≡ None → b.cursor.now.held ≡ None) };
 
     ghost stops = { λ xs a fault b. (b.image.ghost_name ≡ a.image.ghost_name)
         × (b.cursor.ghost_name ≡ a.cursor.ghost_name)
         × (b.source.ghost_name ≡ a.source.ghost_name)
-        × Failed xs (told S.left S.given S.faults S.promise a.image.now a.cursor.now a.source.now)
-        fault (told S.left S.given S.faults S.promise b.image.now b.cursor.now b.source.now) };
+        × Failed xs (told S.left S.given S.faults S.promise a.image.now a.cursor.now.at a.source.now)
+        fault (told S.left S.given S.faults S.promise b.image.now b.cursor.now.at b.source.now) };
 
-    ghost may = { λ a step. a.cursor.now ≤ 2 ^ 63 };
+    ghost may = { λ a step. (a.cursor.now.at ≤ 2 ^ 63) × (a.cursor.now.held ≡ None) };
 
     ghost keeps = { λ xs a b h. h.3.keeps };
 
     ghost keeps_stopped = { λ xs a b fault h. h.3.keeps };
 
-    ghost none = { λ a. (refl, refl, refl, took_none _ (S.counted a.source.now)) };
+    ghost none = { λ a. (refl, refl, refl, took_none _ (S.counted a.source.now), λ e. e) };
 
     ghost more = { λ xs ys a b c h k.
-        (k.0 ∙ h.0, k.1 ∙ h.1, k.2 ∙ h.2, took_more xs ys _ _ _ h.3 k.3) };
+        (k.0 ∙ h.0, k.1 ∙ h.1, k.2 ∙ h.2, took_more xs ys _ _ _ h.3 k.3, λ e. k.4 (h.4 e)) };
 
     ghost stops_after = { λ xs ys a b c fault h k.
         (k.0 ∙ h.0, k.1 ∙ h.1, k.2 ∙ h.2, failed_after xs ys _ _ _ fault h.3 k.3) };
@@ -110,12 +113,14 @@ fn read_step<S: Source>(
     source: &mut S,
 ) -> Result<(), FrameFault>
     requires inside { IsInside image.old.numbers step }
-    requires place { cursor.old ≤ 2 ^ 63 }
+    requires place { cursor.old.at ≤ 2 ^ 63 }
+    requires held { cursor.old.held ≡ None }
     ensures taken { IfSome (S.left source.old) (λ rest.
-        let start = progress image.old.numbers cursor.old rest in
+        let start = progress image.old.numbers cursor.old.at rest in
         let taken = take_step step start in
-        TakesAs taken image.new.numbers cursor.new (S.left source.new) result) }
-    ensures given { Spends (step_long step) (S.given source.old) (S.given source.new) cursor.old cursor.new result }
+        TakesAs taken image.new.numbers cursor.new.at (S.left source.new) result) }
+    ensures given { Spends (step_long step) (S.given source.old) (S.given source.new) cursor.old.at cursor.new.at result }
+    ensures held { OnOk result (cursor.new.held ≡ None) }
     ensures cause { HasCause (S.faults source.old) (S.faults source.new) result }
     ensures promise { S.promise source.new ≡ S.promise source.old }
     ensures kept { image.new ≡ record image.old { numbers = image.new.numbers } }

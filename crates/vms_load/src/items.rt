@@ -1,13 +1,13 @@
 // Numbers that count arrays, constants and unused bytes.
-ghost use Rattle.std.specs.Prelude.{◌≡◌, ◌+◌, ◌≤◌, ◌<◌, ◌^◌, true, false, IfSome, OnOk, OnErr, IfErr, ℤ, slice_set, length};
+ghost use Rattle.std.specs.Prelude.{◌≡◌, ◌+◌, ◌≤◌, ◌<◌, ◌^◌, true, false, IfSome, OnOk, OnErr, IfErr, ℤ, slice_set, length, None};
 ghost use Rattle.vms_kinds.specs.Codes.{width};
 ghost use Rattle.vms_spec.specs.Numbers.{exceeds, is_above};
 ghost use Rattle.vms_spec.specs.Taking.{take_number};
-ghost use Rattle.vms_frames.specs.Answers.{Answers, HasCause, GivesWithin};
-ghost use Rattle.vms_load.specs.Bodies.{capped_found, constant_found, progress, TakesAs, Spends};
+ghost use Rattle.vms_cursor.specs.Answers.{HasCause, GivesWithin};
+ghost use Rattle.vms_load.specs.Bodies.{ReadsCapped, ReadsConstant, progress, TakesAs, Spends};
 ghost use Rattle.vms_walk.specs.Steps.{capacities_of};
 
-use vms_frames::{Cursor, FrameFault};
+use vms_cursor::{Cursor, FrameFault};
 use vms_image::Image;
 use vms_io::Source;
 use vms_kinds::Kind;
@@ -22,16 +22,18 @@ pub(crate) fn put_number<S: Source>(
     image: &mut Image,
     cell: u32,
 ) -> Result<(), FrameFault>
-    requires place { cursor.old ≤ 2 ^ 63 }
+    requires place { cursor.old.at ≤ 2 ^ 63 }
+    requires held { cursor.old.held ≡ None }
     requires within { cell < length image.old.numbers }
     ensures taken { IfSome (S.left source.old) (λ rest.
-        let start = progress image.old.numbers cursor.old rest in
+        let start = progress image.old.numbers cursor.old.at rest in
         let taken = take_number kind (capacities_of most) cell start in
-        TakesAs taken image.new.numbers cursor.new (S.left source.new) result) }
-    ensures given { Spends (width kind) (S.given source.old) (S.given source.new) cursor.old cursor.new result }
+        TakesAs taken image.new.numbers cursor.new.at (S.left source.new) result) }
+    ensures given { Spends (width kind) (S.given source.old) (S.given source.new) cursor.old.at cursor.new.at result }
     ensures cause { HasCause (S.faults source.old) (S.faults source.new) result }
     ensures promise { S.promise source.new ≡ S.promise source.old }
     ensures kept { image.new ≡ record image.old { numbers = image.new.numbers } }
+    ensures held { OnOk result (cursor.new.held ≡ None) }
     ensures put { OnOk result ((z : ℤ) × (image.new.numbers ≡ slice_set image.old.numbers cell z)) }
     ensures stopped { OnErr result (image.new ≡ image.old) }
 {
@@ -47,9 +49,11 @@ fn number<S: Source>(
     kind: Kind,
     most: Option<u32>,
 ) -> Result<i128, FrameFault>
-    requires { cursor.old ≤ 2 ^ 63 }
-    ensures content { IfSome (S.left source.old) (λ rest. Answers (λ _. width kind) (capped_found kind (capacities_of most) rest) cursor.old rest (S.left source.new) result) }
-    ensures place { OnOk result (cursor.new ≡ cursor.old + width kind) }
+    requires place { cursor.old.at ≤ 2 ^ 63 }
+    requires held { cursor.old.held ≡ None }
+    ensures content { ReadsCapped kind (capacities_of most) cursor.old.at (S.left source.old) (S.left source.new) result }
+    ensures place { OnOk result (cursor.new.at ≡ cursor.old.at + width kind) }
+    ensures held { OnOk result (cursor.new.held ≡ None) }
     ensures given { GivesWithin (λ _. width kind) (width kind) (S.given source.old) (S.given source.new) result }
     ensures cause { HasCause (S.faults source.old) (S.faults source.new) result }
     ensures promise { S.promise source.new ≡ S.promise source.old }
@@ -72,9 +76,11 @@ pub(crate) fn constant<S: Source>(
     kind: Kind,
     value: i128,
 ) -> Result<(), FrameFault>
-    requires { cursor.old ≤ 2 ^ 63 }
-    ensures content { IfSome (S.left source.old) (λ rest. Answers (λ _. width kind) (constant_found kind value rest) cursor.old rest (S.left source.new) result) }
-    ensures place { OnOk result (cursor.new ≡ cursor.old + width kind) }
+    requires place { cursor.old.at ≤ 2 ^ 63 }
+    requires held { cursor.old.held ≡ None }
+    ensures content { ReadsConstant kind value cursor.old.at (S.left source.old) (S.left source.new) result }
+    ensures place { OnOk result (cursor.new.at ≡ cursor.old.at + width kind) }
+    ensures held { OnOk result (cursor.new.held ≡ None) }
     ensures given { GivesWithin (λ _. width kind) (width kind) (S.given source.old) (S.given source.new) result }
     ensures cause { HasCause (S.faults source.old) (S.faults source.new) result }
     ensures promise { S.promise source.new ≡ S.promise source.old }
@@ -94,7 +100,7 @@ pub(crate) fn constant<S: Source>(
 pub(crate) fn rule(holds: bool, cursor: &Cursor) -> Result<(), FrameFault>
     ensures ok { OnOk result (holds ≡ true) }
     ensures err { IfErr result (λ fault.
-        (holds ≡ false) × (fault ≡ FrameFault.Refused cursor.now Reason.Invalid)) }
+        (holds ≡ false) × (fault ≡ FrameFault.Refused cursor.now.at Reason.Invalid)) }
 {
     if !holds {
         return Err(FrameFault::Refused {

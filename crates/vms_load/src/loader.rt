@@ -10,6 +10,7 @@ use crate::stream::stream;
 use arrayvec::ArrayVec;
 use std::alloc::Global;
 use std::mem::swap;
+use vms_cursor::Tail;
 use vms_desc::DescSet;
 use vms_image::Image;
 use vms_io::{NoMemory, Source};
@@ -45,6 +46,7 @@ impl Loader {
             images: defaults(alloc, &set)?,
             came: ArrayVec::new(),
             machine: None,
+            tail: Tail::Unknown,
         };
         Ok(Loader {
             set,

@@ -1,26 +1,27 @@
 // The parts of a section: the device's own fields, and subsections.
 ghost use Rattle.std.specs.Prelude.{◌≡◌, ◌+◌, ◌<◌, ◌≤◌, ◌^◌, ℕ, List, Option, Some, None, length, IfSome, IfOk, OnOk};
-ghost use Rattle.vms_spec.specs.Judging.{State};
+ghost use Rattle.vms_units.specs.State.{State};
 ghost use Rattle.vms_desc.specs.Described.{described};
 ghost use Rattle.vms_parts.specs.Devices.{device_at};
 ghost use Rattle.vms_load.specs.Loads.{HasCause};
-ghost use Rattle.vms_load.specs.Reads.{Reads, Gives};
-ghost use Rattle.vms_load.specs.Parts.{IsShaped, IsOpen, OpensNext, part_of, part_due, bytes_of_part, subs_due, in_fields, after_fields, after_part};
+ghost use Rattle.vms_load.specs.Reads.{ReadsOn, Gives};
+ghost use Rattle.vms_load.specs.Parts.{IsShaped, IsOpen, OpensNext, part_of, part_due, bytes_of_part, subs_due, in_fields, after_fields, after_part, IsMoved, IsSame, HoldsNone};
 
 use crate::LoadFault;
 use crate::body::read_part;
 use crate::heads::open_sub;
 use vms_desc::{DescSet, Part};
-use vms_frames::{After, Cursor};
+use vms_cursor::{After, Cursor, Tail};
 use vms_image::Image;
 use vms_io::Source;
 use vms_walk::Spot;
 
-/// The section that is read: the number of its device, and its id.
+/// The section that is read: the number of its device, its id, and whether the sections of the stream have footers.
 #[derive(Clone, Copy)]
 pub(crate) struct Section {
     pub(crate) device: u32,
     pub(crate) id: u32,
+    pub(crate) tail: Tail,
 }
 
 /// A part of a section whose fields come next: the device's own or those of a subsection, at a version.
@@ -52,8 +53,10 @@ fn fields<S: Source>(
     requires device { section.device < length (described set.now).devices }
     requires shaped { IsShaped (described set.now) (device_at (described set.now) section.device) image.old }
     requires open { IsOpen (device_at (described set.now) section.device) image.old part.sub part.version }
-    requires place { cursor.old + bytes_of_part (described set.now) (device_at (described set.now) section.device) part.sub ≤ 2 ^ 63 }
-    ensures reads { (names : List (List ℕ)) (state : State) → section.device < length state.images → IfSome (S.left source.old) (λ rest. Reads (in_fields (described set.now) names state section part.sub image.old cursor.old rest) (λ _. after_fields (described set.now) names state section part.sub image.new) cursor.old cursor.new rest (S.left source.new) result) }
+    requires held { cursor.old.held ≡ None }
+    requires place { cursor.old.at + bytes_of_part (described set.now) (device_at (described set.now) section.device) part.sub ≤ 2 ^ 63 }
+    ensures reads { (names : List (List ℕ)) (state : State) → section.device < length state.images → ReadsOn (in_fields (described set.now) names state section part.sub image.old) (λ _. after_fields (described set.now) names state section part.sub image.new) cursor.old cursor.new (S.left source.old) (S.left source.new) result }
+    ensures held { OnOk result (cursor.new.held ≡ None) }
     ensures given { Gives (S.given source.old) (S.given source.new) cursor.old cursor.new (bytes_of_part (described set.now) (device_at (described set.now) section.device) part.sub) (λ _. 0) result }
     ensures cause { HasCause (S.faults source.old) (S.faults source.new) result }
     ensures promise { S.promise source.new ≡ S.promise source.old }
@@ -73,28 +76,38 @@ fn fields<S: Source>(
     }
 }
 
-// Reads what follows the fields of a part: the head of a subsection, which comes next, or the footer.
+// Reads what follows the fields of a part: the head of a subsection, which comes next, or the end of the section.
 fn after<S: Source>(
     set: &DescSet,
-    section: Section,
+    section: &mut Section,
     image: &mut Image,
     cursor: &mut Cursor,
     source: &mut S,
 ) -> Result<Option<Open>, LoadFault>
-    requires device { section.device < length (described set.now).devices }
-    requires shaped { IsShaped (described set.now) (device_at (described set.now) section.device) image.old }
-    requires place { cursor.old ≤ 2 ^ 63 }
-    ensures reads { (names : List (List ℕ)) (state : State) (part : Option ℕ) → IfSome (S.left source.old) (λ rest. Reads (after_fields (described set.now) names state section part image.old cursor.old rest) (after_part (described set.now) names state section image.new) cursor.old cursor.new rest (S.left source.new) result) }
-    ensures moved { OnOk result (cursor.old < cursor.new) }
-    ensures open { IfOk result (OpensNext (device_at (described set.now) section.device) image.new) }
-    ensures given { Gives (S.given source.old) (S.given source.new) cursor.old cursor.new (subs_due (described set.now) (device_at (described set.now) section.device).subs image.old.came + 5) (part_due (described set.now) (device_at (described set.now) section.device) image.new.came) result }
+    requires device { section.old.device < length (described set.now).devices }
+    requires shaped { IsShaped (described set.now) (device_at (described set.now) section.old.device) image.old }
+    requires place { cursor.old.at ≤ 2 ^ 63 }
+    requires held { cursor.old.held ≡ None }
+    ensures reads { (names : List (List ℕ)) (state : State) (part : Option ℕ) → section.old.device < length state.images → ReadsOn (after_fields (described set.now) names state section.old part image.old) (after_part (described set.now) names state section.new image.new) cursor.old cursor.new (S.left source.old) (S.left source.new) result }
+    ensures moved { IfOk result (IsMoved cursor.old cursor.new) }
+    ensures section { IsSame section.old section.new }
+    ensures held { IfOk result (HoldsNone cursor.new) }
+    ensures open { IfOk result (OpensNext (device_at (described set.now) section.old.device) image.new) }
+    ensures given { Gives (S.given source.old) (S.given source.new) cursor.old cursor.new (subs_due (described set.now) (device_at (described set.now) section.old.device).subs image.old.came + 5) (part_due (described set.now) (device_at (described set.now) section.old.device) image.new.came) result }
     ensures cause { HasCause (S.faults source.old) (S.faults source.new) result }
     ensures promise { S.promise source.new ≡ S.promise source.old }
-    ensures shaped { IsShaped (described set.now) (device_at (described set.now) section.device) image.new }
+    ensures shaped { IsShaped (described set.now) (device_at (described set.now) section.old.device) image.new }
 {
     let at = cursor.at();
-    match cursor.after_fields(source, section.id) {
-        Ok(After::Done) => Ok(None),
+    match cursor.after_fields(source, section.id, section.tail) {
+        Ok(After::Done) => {
+            section.tail = Tail::Footed;
+            Ok(None)
+        }
+        Ok(After::Next) => {
+            section.tail = Tail::Bare;
+            Ok(None)
+        }
         Ok(After::Sub { name, version }) => {
             let sub = open_sub(
                 section.device,
@@ -114,29 +127,31 @@ fn after<S: Source>(
     }
 }
 
-/// Reads a section behind its head, up to its footer.
+/// Reads a section behind its head, up to its end.
 pub(crate) fn read_section<S: Source>(
     set: &DescSet,
-    section: Section,
+    section: &mut Section,
     image: &mut Image,
     cursor: &mut Cursor,
     source: &mut S,
 ) -> Result<(), LoadFault>
-    requires device { section.device < length (described set.now).devices }
-    requires shaped { IsShaped (described set.now) (device_at (described set.now) section.device) image.old }
-    requires place { cursor.old + part_due (described set.now) (device_at (described set.now) section.device) image.old.came (Some (record { sub = None; version = image.old.version })) ≤ 2 ^ 63 }
-    ensures reads { (names : List (List ℕ)) (state : State) → section.device < length state.images → IfSome (S.left source.old) (λ rest. Reads (in_fields (described set.now) names state section None image.old cursor.old rest) (λ _. after_part (described set.now) names state section image.new None) cursor.old cursor.new rest (S.left source.new) result) }
-    ensures given { Gives (S.given source.old) (S.given source.new) cursor.old cursor.new (part_due (described set.now) (device_at (described set.now) section.device) image.old.came (Some (record { sub = None; version = image.old.version }))) (λ _. 0) result }
+    requires device { section.old.device < length (described set.now).devices }
+    requires shaped { IsShaped (described set.now) (device_at (described set.now) section.old.device) image.old }
+    requires held { cursor.old.held ≡ None }
+    requires place { cursor.old.at + part_due (described set.now) (device_at (described set.now) section.old.device) image.old.came (Some (record { sub = None; version = image.old.version })) ≤ 2 ^ 63 }
+    ensures reads { (names : List (List ℕ)) (state : State) → section.old.device < length state.images → ReadsOn (in_fields (described set.now) names state section.old None image.old) (λ _. after_part (described set.now) names state section.new image.new None) cursor.old cursor.new (S.left source.old) (S.left source.new) result }
+    ensures section { IsSame section.old section.new }
+    ensures given { Gives (S.given source.old) (S.given source.new) cursor.old cursor.new (part_due (described set.now) (device_at (described set.now) section.old.device) image.old.came (Some (record { sub = None; version = image.old.version }))) (λ _. 0) result }
     ensures cause { HasCause (S.faults source.old) (S.faults source.new) result }
     ensures promise { S.promise source.new ≡ S.promise source.old }
-    ensures shaped { IsShaped (described set.now) (device_at (described set.now) section.device) image.new }
+    ensures shaped { IsShaped (described set.now) (device_at (described set.now) section.old.device) image.new }
 {
     let mut next = Some(Open {
         sub: None,
         version: image.version(),
     });
     while let Some(part) = next {
-        fields(set, section, part, image, cursor, source)?;
+        fields(set, *section, part, image, cursor, source)?;
         next = after(set, section, image, cursor, source)?;
     }
     Ok(())

@@ -1,10 +1,12 @@
 // What is read of a stream so far.
-ghost use Rattle.std.specs.Prelude.{◌≡◌, ◌<◌, ◌≤◌, ◌+◌, ◌^◌, true, false, ℕ, List, length, map, replicate, slice_set, IfErr, IfOk, IfSome, Some, None};
+ghost use Rattle.std.specs.Prelude.{◌≡◌, ◌<◌, ◌≤◌, ◌+◌, ◌^◌, Bool, not, true, false, ℕ, List, length, map, replicate, slice_set, IfErr, IfOk, IfSome, Some, None};
 ghost use Rattle.vms_spec.specs.Sets.{Set};
 ghost use Rattle.vms_spec.specs.Images.{default_image};
-ghost use Rattle.vms_spec.specs.Judging.{Spot, Configured, Magic, Ended, first_missing, at_start};
+ghost use Rattle.vms_spec.specs.Lists.{position};
+ghost use Rattle.vms_spec.specs.Units.{Configuration, End};
+ghost use Rattle.vms_units.specs.Judged.{ask};
+ghost use Rattle.vms_units.specs.State.{Before, Free, Ended, at_start};
 ghost use Rattle.vms_desc.specs.Described.{described};
-ghost use Rattle.vms_frames.specs.Judged.{judge_step};
 ghost use Rattle.vms_load.specs.Reads.{Settles, IsRefused};
 ghost use Rattle.vms_load.specs.Staging.{AreShaped, IsOf, IsMachine, IsAccepted, accepted_of, image_at, state_of};
 
@@ -13,7 +15,7 @@ use crate::fault::refused;
 use arrayvec::ArrayVec;
 use std::alloc::Global;
 use vms_desc::{DescSet, Text};
-use vms_frames::Step;
+use vms_cursor::Tail;
 use vms_image::Image;
 use vms_io::NoMemory;
 use vms_marks::Name;
@@ -28,6 +30,8 @@ pub(crate) struct Staged {
     pub(crate) came: ArrayVec<bool, 64>,
     /// The machine that was named.
     pub(crate) machine: Option<u32>,
+    /// Whether its sections have footers.
+    pub(crate) tail: Tail,
 }
 
 /// The image of each device at its defaults.
@@ -45,12 +49,13 @@ pub(crate) fn defaults(alloc: Global, set: &DescSet) -> Result<Vec<Image>, NoMem
 /// Begins anew: nothing has come.
 pub(crate) fn restart(set: &DescSet, staged: &mut Staged)
     requires { AreShaped (described set.now) staged.old.images.items }
-    ensures state { state_of (described set.now) staged.new Magic ≡ at_start (described set.now) }
+    ensures state { state_of (described set.now) staged.new Before ≡ at_start (described set.now) }
     ensures whole { IsOf (described set.now) staged.new }
 {
     reset(set, &mut staged.images);
     staged.came = none_came(set.parts().devices.as_slice().len());
     staged.machine = None;
+    staged.tail = Tail::Unknown;
 }
 
 // Makes each image what `Image::new` gives.
@@ -82,6 +87,7 @@ pub(crate) fn begin(set: &DescSet, staged: &mut Staged, device: u32, version: u3
     ensures images { staged.new.images.items ≡ slice_set staged.old.images.items device (image_at (described set.now) device version) }
     ensures came { staged.new.came.items ≡ slice_set staged.old.came.items device true }
     ensures machine { staged.new.machine ≡ staged.old.machine }
+    ensures tail { staged.new.tail ≡ staged.old.tail }
 {
     staged.came[device as usize] = true;
     let image = &mut staged.images[device as usize];
@@ -101,7 +107,7 @@ pub(crate) fn configure(
     requires whole { IsOf (described set.now) staged.old }
     ensures short { length name.now.items ≤ 255 }
     ensures refused { IfErr result IsRefused }
-    ensures settles { (spot : Spot) → Settles (judge_step (described set.now) (accepted_of (described set.now) only) (state_of (described set.now) staged.old spot) (Step.Configuration name.now)) at (λ _. state_of (described set.now) staged.new Configured) (5 + length name.now.items) result }
+    ensures settles { (first after : Bool) → Settles (ask (described set.now) (accepted_of (described set.now) only) (state_of (described set.now) staged.old (Free first after)) (Configuration name.now.items) (5 + length name.now.items)) at (λ _. state_of (described set.now) staged.new (Free false true)) (5 + length name.now.items) result }
     ensures images { staged.new.images.items ≡ staged.old.images.items }
     ensures came { staged.new.came.items ≡ staged.old.came.items }
     ensures whole { IsOf (described set.now) staged.new }
@@ -110,6 +116,7 @@ pub(crate) fn configure(
         None => Err(refused(None, at, Reason::WrongMachine)),
         Some(machine) => {
             staged.machine = Some(machine);
+            staged.tail = Tail::Footed;
             Ok(())
         }
     }
@@ -144,7 +151,7 @@ fn find_machine(machines: &[Text], name: &[u8]) -> Option<u32>
 /// Takes the end mark at this place, before which each device's section must have come.
 pub(crate) fn end(staged: &Staged, at: u64) -> Result<(), LoadFault>
     ensures refused { IfErr result IsRefused }
-    ensures settles { (set : Set) (names : List (List ℕ)) (spot : Spot) → Settles (judge_step set names (state_of set staged.now spot) Step.End) at (λ _. state_of set staged.now Ended) 1 result }
+    ensures settles { (set : Set) (names : List (List ℕ)) (first after : Bool) → Settles (ask set names (state_of set staged.now (Free first after)) End 1) at (λ _. state_of set staged.now Ended) 1 result }
 {
     match first_missing(&staged.came) {
         None => Ok(()),
@@ -155,7 +162,7 @@ pub(crate) fn end(staged: &Staged, at: u64) -> Result<(), LoadFault>
 // The first device that has not come.
 fn first_missing(came: &[bool]) -> Option<u32>
     requires { length came.now < 2 ^ 32 }
-    ensures { result ≡ first_missing 0 came.now }
+    ensures { result ≡ position not 0 came.now }
 {
     for (i, here) in came.iter().enumerate() {
         if !*here {

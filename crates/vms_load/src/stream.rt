@@ -1,20 +1,22 @@
 // A whole stream, unit by unit and section by section.
-ghost use Rattle.std.specs.Prelude.{◌≡◌, ◌+◌, ◌<◌, ◌≤◌, ◌^◌, ℕ, List, Some, None, length, drop, IfSome, IfOk, OnOk};
+ghost use Rattle.std.specs.Prelude.{◌≡◌, ◌+◌, ◌<◌, ◌≤◌, ◌^◌, Bool, true, false, ℕ, List, Some, None, length, drop, IfSome, IfOk, OnOk};
 ghost use Rattle.vms_spec.specs.Sets.{Set};
-ghost use Rattle.vms_spec.specs.Judging.{State, Spot, Magic, First, Later, judge, reading};
+ghost use Rattle.vms_units.specs.Judge.{judge, reading};
+ghost use Rattle.vms_units.specs.State.{State, Before, Free, by_state, at_start};
 ghost use Rattle.vms_laws.specs.Whole.{reading_on};
 ghost use Rattle.vms_desc.specs.Described.{described};
-ghost use Rattle.vms_frames.specs.Judged.{judge_section};
+ghost use Rattle.vms_units.specs.Judged.{ask};
+ghost use Rattle.vms_spec.specs.Units.{Head as HeadUnit};
 ghost use Rattle.vms_load.specs.Loads.{HasCause};
-ghost use Rattle.vms_load.specs.Reads.{Reads, IsBehind, Gives, GivesBehind, behind};
-ghost use Rattle.vms_load.specs.Staging.{AreShaped, IsOf, IsMachine, accepted_of, state_of, spot_of, spot_at, sections_due, stream_due, ReadsAll, GivesAll};
+ghost use Rattle.vms_load.specs.Reads.{ReadsOn, ReadsBehind, IsBehind, Gives, GivesBehind};
+ghost use Rattle.vms_load.specs.Staging.{AreShaped, IsOf, IsMachine, accepted_of, state_of, spot_of, spot_at, HoldsAt, sections_due, stream_due, ReadsAll, GivesAll};
 
 use crate::LoadFault;
 use crate::heads::open_section;
 use crate::parts::{Section, read_section};
 use crate::staged::{Staged, begin, configure, end, restart};
 use vms_desc::DescSet;
-use vms_frames::{Between, Cursor, Step};
+use vms_cursor::{Between, Cursor, Step};
 use vms_io::Source;
 use vms_marks::Head;
 
@@ -27,7 +29,7 @@ pub(crate) fn stream<S: Source>(
 ) -> Result<u64, LoadFault>
     requires machine { IsMachine (described set.now).machines only }
     requires shaped { AreShaped (described set.now) staged.old.images.items }
-    ensures reads { IfSome (S.left source.old) (λ input. ReadsAll (described set.now) (reading (described set.now) (accepted_of (described set.now) only) input) staged.new input (S.left source.new) result) }
+    ensures reads { IfSome (S.left source.old) (λ input. ReadsAll (described set.now) (reading (by_state (described set.now) (accepted_of (described set.now) only)) (at_start (described set.now)) input) staged.new input (S.left source.new) result) }
     ensures given { GivesAll (described set.now) (S.given source.old) (S.given source.new) result }
     ensures cause { HasCause (S.faults source.old) (S.faults source.new) result }
     ensures promise { S.promise source.new ≡ S.promise source.old }
@@ -46,8 +48,10 @@ pub(crate) fn stream<S: Source>(
 
 // Reads the stream head.
 fn head<S: Source>(cursor: &mut Cursor, source: &mut S) -> Result<(), LoadFault>
-    requires { cursor.old ≤ 2 ^ 63 }
-    ensures reads { (set : Set) (names : List (List ℕ)) (state : State) → IfSome (S.left source.old) (λ rest. Reads (reading_on (judge set names) (record state { spot = Magic }) cursor.old rest) (λ _. reading_on (judge set names) (record state { spot = First })) cursor.old cursor.new rest (S.left source.new) result) }
+    requires held { cursor.old.held ≡ None }
+    requires place { cursor.old.at ≤ 2 ^ 63 }
+    ensures reads { (set : Set) (names : List (List ℕ)) (state : State) → ReadsOn (reading_on (judge (by_state set names)) (record state { spot = Before })) (λ _. reading_on (judge (by_state set names)) (record state { spot = Free true false })) cursor.old cursor.new (S.left source.old) (S.left source.new) result }
+    ensures held { OnOk result (cursor.new.held ≡ None) }
     ensures given { Gives (S.given source.old) (S.given source.new) cursor.old cursor.new 8 (λ _. 0) result }
     ensures cause { HasCause (S.faults source.old) (S.faults source.new) result }
     ensures promise { S.promise source.new ≡ S.promise source.old }
@@ -68,8 +72,10 @@ fn sections<S: Source>(
 ) -> Result<(), LoadFault>
     requires machine { IsMachine (described set.now).machines only }
     requires whole { IsOf (described set.now) staged.old }
-    requires place { cursor.old + stream_due (described set.now) staged.old.came.items (Some Between.First) ≤ 2 ^ 63 }
-    ensures reads { IfSome (S.left source.old) (λ rest. Reads (reading_on (judge (described set.now) (accepted_of (described set.now) only)) (state_of (described set.now) staged.old (spot_at (Some Between.First))) cursor.old rest) (λ _. reading_on (judge (described set.now) (accepted_of (described set.now) only)) (state_of (described set.now) staged.new (spot_at None))) cursor.old cursor.new rest (S.left source.new) result) }
+    requires place { cursor.old.at + stream_due (described set.now) staged.old.came.items (Some Between.First) ≤ 2 ^ 63 }
+    requires held { cursor.old.held ≡ None }
+    ensures reads { ReadsOn (reading_on (judge (by_state (described set.now) (accepted_of (described set.now) only))) (state_of (described set.now) staged.old (spot_at (Some Between.First)))) (λ _. reading_on (judge (by_state (described set.now) (accepted_of (described set.now) only))) (state_of (described set.now) staged.new (spot_at None))) cursor.old cursor.new (S.left source.old) (S.left source.new) result }
+    ensures held { OnOk result (cursor.new.held ≡ None) }
     ensures given { Gives (S.given source.old) (S.given source.new) cursor.old cursor.new (stream_due (described set.now) staged.old.came.items (Some Between.First)) (λ _. 0) result }
     ensures cause { HasCause (S.faults source.old) (S.faults source.new) result }
     ensures promise { S.promise source.new ≡ S.promise source.old }
@@ -94,10 +100,11 @@ fn turn<S: Source>(
 ) -> Result<Option<Between>, LoadFault>
     requires machine { IsMachine (described set.now).machines only }
     requires whole { IsOf (described set.now) staged.old }
-    requires place { cursor.old + stream_due (described set.now) staged.old.came.items (Some between) ≤ 2 ^ 63 }
-    ensures reads { IfSome (S.left source.old) (λ rest. Reads (reading_on (judge (described set.now) (accepted_of (described set.now) only)) (state_of (described set.now) staged.old (spot_of between)) cursor.old rest) (λ next. reading_on (judge (described set.now) (accepted_of (described set.now) only)) (state_of (described set.now) staged.new (spot_at next))) cursor.old cursor.new rest (S.left source.new) result) }
+    requires place { cursor.old.at + stream_due (described set.now) staged.old.came.items (Some between) ≤ 2 ^ 63 }
+    ensures reads { ReadsOn (reading_on (judge (by_state (described set.now) (accepted_of (described set.now) only))) (state_of (described set.now) staged.old (spot_of between))) (λ next. reading_on (judge (by_state (described set.now) (accepted_of (described set.now) only))) (state_of (described set.now) staged.new (spot_at next))) cursor.old cursor.new (S.left source.old) (S.left source.new) result }
+    ensures held { IfOk result (HoldsAt cursor.new) }
     ensures given { Gives (S.given source.old) (S.given source.new) cursor.old cursor.new (stream_due (described set.now) staged.old.came.items (Some between)) (stream_due (described set.now) staged.new.came.items) result }
-    ensures moved { OnOk result (cursor.old < cursor.new) }
+    ensures moved { OnOk result (cursor.old.at < cursor.new.at) }
     ensures cause { HasCause (S.faults source.old) (S.faults source.new) result }
     ensures promise { S.promise source.new ≡ S.promise source.old }
     ensures whole { IsOf (described set.now) staged.new }
@@ -130,8 +137,9 @@ fn opened<S: Source>(
     source: &mut S,
 ) -> Result<(), LoadFault>
     requires whole { IsOf (described set.now) staged.old }
-    requires place { cursor.old + sections_due (described set.now) (described set.now).devices staged.old.came.items ≤ 2 ^ 63 + 269 }
-    ensures reads { (names : List (List ℕ)) (spot : Spot) (bytes : List ℕ) → IsBehind (14 + length head.now.name.items) at bytes cursor.old (S.left source.old) → Reads (behind (reading_on (judge (described set.now) names)) at (judge_section (described set.now) names (state_of (described set.now) staged.old spot) head.now) cursor.old (drop (14 + length head.now.name.items) bytes)) (λ _. reading_on (judge (described set.now) names) (state_of (described set.now) staged.new Later)) at cursor.new bytes (S.left source.new) result }
+    requires held { cursor.old.held ≡ None }
+    requires place { cursor.old.at + sections_due (described set.now) (described set.now).devices staged.old.came.items ≤ 2 ^ 63 + 269 }
+    ensures reads { (names : List (List ℕ)) (first after : Bool) (bytes : List ℕ) → IsBehind (14 + length head.now.name.items) at bytes cursor.old (S.left source.old) → ReadsBehind (reading_on (judge (by_state (described set.now) names))) (ask (described set.now) names (state_of (described set.now) staged.old (Free first after)) (HeadUnit head.now.id head.now.name.items head.now.instance head.now.version) (14 + length head.now.name.items)) (λ _. reading_on (judge (by_state (described set.now) names)) (state_of (described set.now) staged.new (Free false false))) at (14 + length head.now.name.items) bytes cursor.new (S.left source.new) result }
     ensures given { GivesBehind (S.given source.old) (S.given source.new) cursor.old cursor.new (sections_due (described set.now) (described set.now).devices staged.old.came.items) (λ _. sections_due (described set.now) (described set.now).devices staged.new.came.items) result }
     ensures cause { HasCause (S.faults source.old) (S.faults source.new) result }
     ensures promise { S.promise source.new ≡ S.promise source.old }
@@ -140,10 +148,13 @@ fn opened<S: Source>(
 {
     let device = open_section(set, &staged.came, head, at)?;
     begin(set, staged, device, head.version);
-    let opened = Section {
+    let mut section = Section {
         device,
         id: head.id,
+        tail: staged.tail,
     };
     let image = &mut staged.images[device as usize];
-    read_section(set, opened, image, cursor, source)
+    read_section(set, &mut section, image, cursor, source)?;
+    staged.tail = section.tail;
+    Ok(())
 }

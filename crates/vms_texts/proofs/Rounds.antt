@@ -4,10 +4,13 @@ use Rattle.vms_spec.specs.Images.{Image}
 use Rattle.vms_spec.specs.Lists.{at}
 use Rattle.vms_spec.specs.Sets.{Device}
 use Rattle.vms_spec.specs.Shipped.{set_0, timer}
-use Rattle.vms_spec.specs.Streams.{Takes, IsConfiguration, IsReady, optional, configuration, written, AreReady}
+use Rattle.vms_spec.specs.Streams.{IsConfiguration, IsReady, optional, configuration, written, AreReady}
 use Rattle.vms_spec.specs.Values.{values_text}
 use Rattle.vms_spec.specs.ValuesReading.{values_read}
-use Rattle.vms_laws.proofs.Stated.{shipped_holds, one_stream_holds, ready_holds, written_holds}
+use Rattle.vms_laws.proofs.Stated.{ready_holds}
+use Rattle.vms_laws.proofs.WellFormedStreams.{shipped_stands}
+use Rattle.vms_units.specs.Streams.{Takes}
+use Rattle.vms_units.proofs.Stated.{one_stream_holds, written_holds}
 use Rattle.vms_texts.specs.Texts.{IsTimer, IsMachine, PackedLaw, ShownLaw}
 use Rattle.vms_texts.proofs.Backs.{printed_holds, read_holds, the_machine}
 
@@ -54,7 +57,7 @@ pub shown_text : (machine other : Option (List ℕ)) (images others : List Image
     → Takes set_0 set_0.machines (written set_0 machine images None) n other others → values_text set_0 machine images ≡ values_text set_0 other others
 shown_text machine other images others n m t taken =
     let stream = written set_0 machine images None in
-    let same = one_stream_holds set_0 set_0.machines shipped_holds.0 stream (length stream) n machine other images others (takes machine images m t) taken in
+    let same = one_stream_holds set_0 set_0.machines shipped_stands.0.well shipped_stands.0.heads stream (length stream) n machine other images others (takes machine images m t) taken in
     ap (λ (o : Option (List ℕ)). values_text set_0 o images) same.machines ∙ ap (values_text set_0 other) same.states
 
 pub shown_holds : ShownLaw

@@ -5,9 +5,10 @@ use Rattle.vms_spec.specs.Images.{Image}
 use Rattle.vms_spec.specs.Readiness.{is_ready}
 use Rattle.vms_spec.specs.Shipped.{set_0, timer}
 use Rattle.vms_spec.specs.Spelling.{number_spelled}
-use Rattle.vms_spec.specs.Streams.{is_one_of, Takes, written}
+use Rattle.vms_spec.specs.Streams.{is_one_of, written}
 use Rattle.vms_spec.specs.Values.{values_text}
 use Rattle.vms_spec.specs.ValuesReading.{values_read, Values}
+use Rattle.vms_units.specs.Streams.{Takes}
 
 -- a number of at most 64 bits, whatever its sign
 abbrev pub IsShort : ℤ → Type 0

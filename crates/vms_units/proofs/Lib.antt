@@ -4,4 +4,4 @@ pub mod Bodies
 pub mod Streams
 pub mod Rows
 pub mod Calls
-mod Stated
+pub mod Stated

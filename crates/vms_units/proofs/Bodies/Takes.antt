@@ -29,7 +29,7 @@ by_length : (p : Progress) (b : Bool) (slot : _) (x : Piece) (n : ℕ) (go : Tak
 by_length p true slot x n go e = refl
 by_length p false slot x n go e = e
 
-number_taken : (kind : Kind) (capacities : List ℕ) (c : ℕ) (p : Progress) → take_slot (NumberSlot c kind capacities) p ≡ take_number kind capacities c p
+pub number_taken : (kind : Kind) (capacities : List ℕ) (c : ℕ) (p : Progress) → take_slot (NumberSlot c kind capacities) p ≡ take_number kind capacities c p
 number_taken kind capacities c p =
     let w = width kind in
     let bytes = take w p.rest in
@@ -41,7 +41,7 @@ number_taken kind capacities c p =
     (by_rows p (Number c kind z) w reasons.CountTooLarge (is_truth kind && is_above z 1) (exceeds capacities z) (on w (slice_set p.numbers c z) p) refl
     ∙ ap (of z) (bad_same kind bytes) ∙ ap (λ (z : ℤ). of z (is_bad_bool kind bytes)) same)
 
-constant_taken : (kind : Kind) (k : ℤ) (p : Progress) → take_slot (ConstantSlot kind k) p ≡ take_constant kind k p
+pub constant_taken : (kind : Kind) (k : ℤ) (p : Progress) → take_slot (ConstantSlot kind k) p ≡ take_constant kind k p
 constant_taken kind k p =
     let w = width kind in
     let bytes = take w p.rest in
@@ -57,5 +57,5 @@ constant_taken kind k p =
     turn false true = refl
     turn false false = refl
 
-filler_taken : (n : ℕ) (p : Progress) → take_slot (FillerSlot (suc n)) p ≡ take_filler (suc n) p
+pub filler_taken : (n : ℕ) (p : Progress) → take_slot (FillerSlot (suc n)) p ≡ take_filler (suc n) p
 filler_taken n p = by_length p (nat_lt (length p.rest) (suc n)) (FillerSlot (suc n)) (Filler (take (suc n) p.rest)) (suc n) (on (suc n) p.numbers p) refl

@@ -9,4 +9,4 @@ walk-requires-clause-may g c =
     λ xs rest x b h e.
     let bound = part_bound (described c.args.set.now) c.args.spot b.image.now.numbers in
     let long = ap steps_long e in
-    omega (arith, bound, long, long_append xs (x ∷ rest), h.3.given.1, c.requires.place)
+    (omega (arith, bound, long, long_append xs (x ∷ rest), h.3.given.1, c.requires.place), h.4 c.requires.held)

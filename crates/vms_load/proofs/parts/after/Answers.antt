@@ -1,4 +1,4 @@
-use Rattle.std.proofs.Common.{ℕ, Some, None, Ok, Err, length, slice_set, sym, ap, ◌∙◌, arith, refl}
+use Rattle.std.proofs.Common.{ℕ, ◌+◌, Some, None, Ok, Err, length, slice_set, sym, ap, ◌∙◌, arith}
 use Rattle.std.proofs.lemmas.Result.{err_from_is_err_and}
 use Rattle.vms_spec.specs.Sets.{Device, AtLeast}
 use Rattle.vms_spec.specs.Images.{Image}
@@ -8,90 +8,112 @@ use Rattle.vms_desc.specs.Described.{described}
 use Rattle.vms_laws.proofs.BodyLaws.{at_set}
 use Rattle.vms_parts.specs.Devices.{device_at}
 use Rattle.vms_parts.specs.Views.{device_of}
-use Rattle.vms_frames.specs.declared.units.After.TheVariants as afters
+use Rattle.vms_cursor.specs.Calls.{held_long}
+use Rattle.vms_cursor.specs.declared.units.Tail.TheVariants as tails
+use Rattle.vms_spec.specs.Units.{SubHead, Foot}
 use Rattle.vms_load.specs.Heads.{opened_at, sub_opened}
-use Rattle.vms_load.specs.Parts.{subs_due, after_part}
-use Rattle.vms_load.proofs.AfterReads.{after_fault, after_settled, sub_settled, sub_refused, sub_new, subs_taken}
+use Rattle.vms_load.specs.Parts.{subs_due, after_part, state_in, spot_in}
+use Rattle.vms_load.proofs.AfterReads.{after_fault, after_settled, after_next, foot_settled, sub_settled, sub_refused, sub_new, subs_taken}
 use Rattle.vms_load.proofs.SetFacts.{few_subs}
 use Rattle.vms_load.proofs.parts.after.Goals as goal
 
 pub open_sub-requires-clause-few : goal.open_sub-requires-clause-few
 open_sub-requires-clause-few g c =
     let set = described c.args.set.now in
-    omega (arith, few_subs set c.args.set.now.well_formed c.args.section.device c.requires.device, ap (λ (d : Device). length d.subs) c.device.ensures)
+    omega (arith, few_subs set c.args.set.now.well_formed c.args.section.now.device c.requires.device, ap (λ (d : Device). length d.subs) c.device.ensures)
 
 pub returns-in-Ok-Done-clause-reads : goal.returns-in-Ok-Done-clause-reads
-returns-in-Ok-Done-clause-reads g c = λ names state part.
+returns-in-Ok-Done-clause-reads g c = λ names state part room.
+    let set = described c.args.set.now in
+    let section = c.args.section.now in
     let content = rw c.in-Ok-Done.field-0-is at c.in-Ok-Done.ensures.content in
     let place = rw c.in-Ok-Done.field-0-is at c.in-Ok-Done.ensures.place in
-    after_settled (described c.args.set.now) names state c.args.section part c.args.image.now (g.S.Source.left c.args.source.now) (g.S.Source.left c.after_fields.new.source) afters.Done
-    c.args.cursor.now c.after_fields.new.self c.args.image.now (Ok None) content place (refl, refl)
+    let held = rw c.in-Ok-Done.field-0-is at c.in-Ok-Done.ensures.held in
+    after_settled set names state section part c.args.image.now c.requires.device room c.args.cursor.now c.after_fields.new.self
+    (g.S.Source.left c.args.source.now) (g.S.Source.left c.after_fields.new.source) (Foot section.id) 5 (record section { tail = tails.Footed }) c.args.image.now (Ok None)
+    c.requires.held held content place (foot_settled set names state section part c.args.image.now c.requires.device room c.args.cursor.now.at)
+
+pub returns-in-Ok-Next-clause-reads : goal.returns-in-Ok-Next-clause-reads
+returns-in-Ok-Next-clause-reads g c = λ names state part room.
+    let content = rw c.in-Ok-Next.field-0-is at c.in-Ok-Next.ensures.content in
+    let place = rw c.in-Ok-Next.field-0-is at c.in-Ok-Next.ensures.place in
+    after_next (described c.args.set.now) names state c.args.section.now part c.args.image.now c.requires.device room c.args.cursor.now c.after_fields.new.self
+    (g.S.Source.left c.args.source.now) (g.S.Source.left c.after_fields.new.source) c.requires.held (omega (arith, place)) content
 
 pub returns-in_err-sub-in-Ok-Sub-clause-reads : goal.returns-in_err-sub-in-Ok-Sub-clause-reads
-returns-in_err-sub-in-Ok-Sub-clause-reads g c = λ names state part.
+returns-in_err-sub-in-Ok-Sub-clause-reads g c = λ names state part room.
     let set = described c.args.set.now in
     let name = c.in-Ok-Sub.name.items in
     let content = rw c.in-Ok-Sub.field-0-is at c.in-Ok-Sub.ensures.content in
     let place = rw c.in-Ok-Sub.field-0-is at c.in-Ok-Sub.ensures.place in
+    let held = rw c.in-Ok-Sub.field-0-is at c.in-Ok-Sub.ensures.held in
     let p = err_from_is_err_and c.from_residual.result c.from_residual.ensures.1 in
     let is = sym (c.in_err-sub-in-Ok-Sub.was) ∙ c.open_sub.ensures.opened
-    ∙ ap (λ (n : ℕ). opened_at n (sub_opened c.args.section.device (device_of c.device.result.now) c.args.image.now.came name c.in-Ok-Sub.version)) c.at-at.ensures
-    ∙ ap (λ (d : Device). opened_at c.args.cursor.now (sub_opened c.args.section.device d c.args.image.now.came name c.in-Ok-Sub.version)) c.device.ensures in
+    ∙ ap (λ (n : ℕ). opened_at n (sub_opened c.args.section.now.device (device_of c.device.result.now) c.args.image.now.came name c.in-Ok-Sub.version)) c.at-at.ensures
+    ∙ ap (λ (d : Device). opened_at c.args.cursor.now.at (sub_opened c.args.section.now.device d c.args.image.now.came name c.in-Ok-Sub.version)) c.device.ensures in
     rw (p.1, p.2)
-    (after_settled set names state c.args.section part c.args.image.now (g.S.Source.left c.args.source.now) (g.S.Source.left c.after_fields.new.source) (afters.Sub c.in-Ok-Sub.name c.in-Ok-Sub.version)
-    c.args.cursor.now c.after_fields.new.self c.args.image.now (Err c.in_err-sub-in-Ok-Sub.field-0.0) content place
-    (sub_refused set names state c.args.section part c.args.image.now c.args.cursor.now name c.in-Ok-Sub.version c.in_err-sub-in-Ok-Sub.field-0.0 _ is))
+    (after_settled set names state c.args.section.now part c.args.image.now c.requires.device room c.args.cursor.now c.after_fields.new.self
+    (g.S.Source.left c.args.source.now) (g.S.Source.left c.after_fields.new.source) (SubHead name c.in-Ok-Sub.version) (6 + length name) c.args.section.now c.args.image.now (Err c.in_err-sub-in-Ok-Sub.field-0.0)
+    c.requires.held held content place
+    (sub_refused set names state c.args.section.now part c.args.image.now c.requires.device room c.args.cursor.now.at name c.in-Ok-Sub.version c.requires.shaped.came c.in_err-sub-in-Ok-Sub.field-0.0
+    (λ next. state_in state c.args.section.now c.args.image.now (spot_in c.args.section.now next)) is))
 
 pub mark-requires : goal.mark-requires
 mark-requires g c =
     let set = described c.args.set.now in
     let is = sym (c.in_ok-sub-in-Ok-Sub.was) ∙ c.open_sub.ensures.opened
-    ∙ ap (λ (d : Device). opened_at c.at-at.result (sub_opened c.args.section.device d c.args.image.now.came c.in-Ok-Sub.name.items c.in-Ok-Sub.version)) c.device.ensures in
-    let new = sub_new c.args.section.device (device_at set c.args.section.device) c.args.image.now.came c.in-Ok-Sub.name.items c.in-Ok-Sub.version c.in_ok-sub-in-Ok-Sub.sub c.at-at.result c.requires.shaped.came is in
+    ∙ ap (λ (d : Device). opened_at c.at-at.result (sub_opened c.args.section.now.device d c.args.image.now.came c.in-Ok-Sub.name.items c.in-Ok-Sub.version)) c.device.ensures in
+    let new = sub_new c.args.section.now.device (device_at set c.args.section.now.device) c.args.image.now.came c.in-Ok-Sub.name.items c.in-Ok-Sub.version c.in_ok-sub-in-Ok-Sub.sub c.at-at.result c.requires.shaped.came is in
     omega (arith, new.0, c.requires.shaped.came)
 
 pub returns-in_ok-sub-in-Ok-Sub-clause-reads : goal.returns-in_ok-sub-in-Ok-Sub-clause-reads
-returns-in_ok-sub-in-Ok-Sub-clause-reads g c = λ names state part.
+returns-in_ok-sub-in-Ok-Sub-clause-reads g c = λ names state part room.
     let set = described c.args.set.now in
     let name = c.in-Ok-Sub.name.items in
     let j = c.in_ok-sub-in-Ok-Sub.sub in
     let v = c.in-Ok-Sub.version in
     let content = rw c.in-Ok-Sub.field-0-is at c.in-Ok-Sub.ensures.content in
     let place = rw c.in-Ok-Sub.field-0-is at c.in-Ok-Sub.ensures.place in
+    let held = rw c.in-Ok-Sub.field-0-is at c.in-Ok-Sub.ensures.held in
     let is = sym (c.in_ok-sub-in-Ok-Sub.was) ∙ c.open_sub.ensures.opened
-    ∙ ap (λ (n : ℕ). opened_at n (sub_opened c.args.section.device (device_of c.device.result.now) c.args.image.now.came name v)) c.at-at.ensures
-    ∙ ap (λ (d : Device). opened_at c.args.cursor.now (sub_opened c.args.section.device d c.args.image.now.came name v)) c.device.ensures in
+    ∙ ap (λ (n : ℕ). opened_at n (sub_opened c.args.section.now.device (device_of c.device.result.now) c.args.image.now.came name v)) c.at-at.ensures
+    ∙ ap (λ (d : Device). opened_at c.args.cursor.now.at (sub_opened c.args.section.now.device d c.args.image.now.came name v)) c.device.ensures in
     rw c.mark.ensures
-    (after_settled set names state c.args.section part c.args.image.now (g.S.Source.left c.args.source.now) (g.S.Source.left c.after_fields.new.source) (afters.Sub c.in-Ok-Sub.name v)
-    c.args.cursor.now c.after_fields.new.self (record c.args.image.now { came = slice_set c.args.image.now.came j (Some v) }) (Ok (Some (record { sub = Some j; version = v }))) content place
-    (sub_settled set names state c.args.section part c.args.image.now c.args.cursor.now name v j is))
+    (after_settled set names state c.args.section.now part c.args.image.now c.requires.device room c.args.cursor.now c.after_fields.new.self
+    (g.S.Source.left c.args.source.now) (g.S.Source.left c.after_fields.new.source) (SubHead name v) (6 + length name) c.args.section.now
+    (record c.args.image.now { came = slice_set c.args.image.now.came j (Some v) }) (Ok (Some (record { sub = Some j; version = v }))) c.requires.held held content place
+    (sub_settled set names state c.args.section.now part c.args.image.now c.requires.device room c.args.cursor.now.at name v c.requires.shaped.came j is))
 
 pub returns-in_ok-sub-in-Ok-Sub-clause-open : goal.returns-in_ok-sub-in-Ok-Sub-clause-open
 returns-in_ok-sub-in-Ok-Sub-clause-open g c =
     let set = described c.args.set.now in
     let j = c.in_ok-sub-in-Ok-Sub.sub in
     let is = sym (c.in_ok-sub-in-Ok-Sub.was) ∙ c.open_sub.ensures.opened
-    ∙ ap (λ (d : Device). opened_at c.at-at.result (sub_opened c.args.section.device d c.args.image.now.came c.in-Ok-Sub.name.items c.in-Ok-Sub.version)) c.device.ensures in
-    let new = sub_new c.args.section.device (device_at set c.args.section.device) c.args.image.now.came c.in-Ok-Sub.name.items c.in-Ok-Sub.version j c.at-at.result c.requires.shaped.came is in
+    ∙ ap (λ (d : Device). opened_at c.at-at.result (sub_opened c.args.section.now.device d c.args.image.now.came c.in-Ok-Sub.name.items c.in-Ok-Sub.version)) c.device.ensures in
+    let new = sub_new c.args.section.now.device (device_at set c.args.section.now.device) c.args.image.now.came c.in-Ok-Sub.name.items c.in-Ok-Sub.version j c.at-at.result c.requires.shaped.came is in
     (new.0, ap (λ (image : Image). at image.came j) c.mark.ensures ∙ at_set c.args.image.now.came j (Some c.in-Ok-Sub.version) (omega (arith, new.0, c.requires.shaped.came)))
 
 pub returns-in_ok-sub-in-Ok-Sub-clause-given : goal.returns-in_ok-sub-in-Ok-Sub-clause-given
 returns-in_ok-sub-in-Ok-Sub-clause-given g c =
     let set = described c.args.set.now in
-    let d = device_at set c.args.section.device in
+    let d = device_at set c.args.section.now.device in
     let j = c.in_ok-sub-in-Ok-Sub.sub in
     let v = c.in-Ok-Sub.version in
     let place = rw c.in-Ok-Sub.field-0-is at c.in-Ok-Sub.ensures.place in
     let given = rw c.in-Ok-Sub.field-0-is at c.in-Ok-Sub.ensures.given in
     let is = sym (c.in_ok-sub-in-Ok-Sub.was) ∙ c.open_sub.ensures.opened
-    ∙ ap (λ (d : Device). opened_at c.at-at.result (sub_opened c.args.section.device d c.args.image.now.came c.in-Ok-Sub.name.items v)) c.device.ensures in
-    let new = sub_new c.args.section.device d c.args.image.now.came c.in-Ok-Sub.name.items v j c.at-at.result c.requires.shaped.came is in
+    ∙ ap (λ (d : Device). opened_at c.at-at.result (sub_opened c.args.section.now.device d c.args.image.now.came c.in-Ok-Sub.name.items v)) c.device.ensures in
+    let new = sub_new c.args.section.now.device d c.args.image.now.came c.in-Ok-Sub.name.items v j c.at-at.result c.requires.shaped.came is in
     let due = subs_taken set d.subs c.args.image.now.came j v (record { desc = no_desc; needed = AtLeast 0 }) c.requires.shaped.came new.1 in
     let same = ap (λ (image : Image). subs_due set d.subs image.came) c.mark.ensures in
-    (omega (arith, place), omega (arith, place, due, same, c.open_sub.ensures.short), omega (arith, place, given))
+    let held = rw c.in-Ok-Sub.field-0-is at c.in-Ok-Sub.ensures.held in
+    let before = ap held_long c.requires.held in
+    let now = ap held_long held in
+    (omega (arith, place), omega (arith, place, before, now), omega (arith, place, due, same, c.open_sub.ensures.short, before, now), omega (arith, place, given, before, now))
 
 pub returns-in-Err-clause-reads : goal.returns-in-Err-clause-reads
-returns-in-Err-clause-reads g c = λ names state part.
+returns-in-Err-clause-reads g c = λ names state part room.
     rw c.concerning.ensures
-    (after_fault (described c.args.set.now) names state c.args.section part c.args.image.now (g.S.Source.left c.args.source.now) (g.S.Source.left c.after_fields.new.source)
-    (after_part (described c.args.set.now) names state c.args.section c.args.image.now) c.args.cursor.now c.after_fields.new.self c.in-Err.fault c.in-Err.ensures.content)
+    (after_fault (described c.args.set.now) names state c.args.section.now part c.args.image.now c.requires.device room c.args.cursor.now c.after_fields.new.self
+    (g.S.Source.left c.args.source.now) (g.S.Source.left c.after_fields.new.source)
+    (after_part (described c.args.set.now) names state c.args.section.now c.args.image.now) c.in-Err.fault c.requires.held c.in-Err.ensures.content)

@@ -5,6 +5,7 @@ use Rattle.vms_desc.specs.Asks.{first_cell}
 use Rattle.vms_parts.specs.Devices.{device_at}
 use Rattle.vms_walk.specs.declared.fields.Spot.{Spot}
 use Rattle.vms_walk.proofs.Local.{part_sound}
+use Rattle.vms_cursor.specs.Calls.{held_long}
 use Rattle.vms_load.specs.Parts.{bytes_of}
 use Rattle.vms_load.specs.Reading.{Told, told}
 use Rattle.vms_load.proofs.PartReads.{open_in, fields_answer}
@@ -36,14 +37,14 @@ returns-in-Ok-clause-reads g c = λ names state room.
     let base = c.first_cell-base.result in
     let desc = ap (desc_at set) c.part_of-number.ensures ∙ desc_is set k sub in
     let first = c.first_cell-base.ensures ∙ ap (first_cell set) c.part_of-number.ensures ∙ base_is set k sub in
-    let a : Told = told g.S.Source.left g.S.Source.given g.S.Source.faults g.S.Source.promise c.args.image.now c.args.cursor.now c.args.source.now in
-    let b : Told = told g.S.Source.left g.S.Source.given g.S.Source.faults g.S.Source.promise c.read_part.new.image c.read_part.new.cursor c.read_part.new.source in
+    let a : Told = told g.S.Source.left g.S.Source.given g.S.Source.faults g.S.Source.promise c.args.image.now c.args.cursor.now.at c.args.source.now in
+    let b : Told = told g.S.Source.left g.S.Source.given g.S.Source.faults g.S.Source.promise c.read_part.new.image c.read_part.new.cursor.at c.read_part.new.source in
     let spot : Spot = record { part = part; version = c.args.part.version; base = base } in
     let has = part_spot set c.args.set.now.well_formed k c.requires.device sub (open_in (device_at set k) c.args.image.now sub c.args.part.version c.requires.open) c.args.image.now.numbers c.requires.shaped.numbers spot c.part_of-number.ensures c.first_cell-base.ensures in
     let taken = part_took set good.structs (desc_at set part) (part_sound set good part has.part) c.args.part.version base a b c.in-Ok.ensures.ok in
     fields_answer set good c.args.section c.requires.device sub c.args.part.version names state c.args.image.now (desc_at set part) base desc first
     room c.requires.open c.args.cursor.now c.read_part.new.image.numbers c.read_part.new.image c.read_part.new.cursor
-    (g.S.Source.left c.args.source.now) (g.S.Source.left c.read_part.new.source) (Ok c.in-Ok.field-0) c.in-Ok.ensures.ok.kept taken
+    (g.S.Source.left c.args.source.now) (g.S.Source.left c.read_part.new.source) (Ok c.in-Ok.field-0) c.in-Ok.ensures.ok.kept c.requires.held c.in-Ok.ensures.held taken
 
 pub returns-in-Err-clause-reads : goal.returns-in-Err-clause-reads
 returns-in-Err-clause-reads g c = λ names state room.
@@ -55,15 +56,15 @@ returns-in-Err-clause-reads g c = λ names state room.
     let base = c.first_cell-base.result in
     let desc = ap (desc_at set) c.part_of-number.ensures ∙ desc_is set k sub in
     let first = c.first_cell-base.ensures ∙ ap (first_cell set) c.part_of-number.ensures ∙ base_is set k sub in
-    let a : Told = told g.S.Source.left g.S.Source.given g.S.Source.faults g.S.Source.promise c.args.image.now c.args.cursor.now c.args.source.now in
-    let b : Told = told g.S.Source.left g.S.Source.given g.S.Source.faults g.S.Source.promise c.read_part.new.image c.read_part.new.cursor c.read_part.new.source in
+    let a : Told = told g.S.Source.left g.S.Source.given g.S.Source.faults g.S.Source.promise c.args.image.now c.args.cursor.now.at c.args.source.now in
+    let b : Told = told g.S.Source.left g.S.Source.given g.S.Source.faults g.S.Source.promise c.read_part.new.image c.read_part.new.cursor.at c.read_part.new.source in
     let spot : Spot = record { part = part; version = c.args.part.version; base = base } in
     let has = part_spot set c.args.set.now.well_formed k c.requires.device sub (open_in (device_at set k) c.args.image.now sub c.args.part.version c.requires.open) c.args.image.now.numbers c.requires.shaped.numbers spot c.part_of-number.ensures c.first_cell-base.ensures in
     let taken = part_failed set good.structs (desc_at set part) (part_sound set good part has.part) c.args.part.version base a b c.in-Err.fault c.in-Err.ensures.err in
     rw c.concerning.ensures
     (fields_answer set good c.args.section c.requires.device sub c.args.part.version names state c.args.image.now (desc_at set part) base desc first
     room c.requires.open c.args.cursor.now c.read_part.new.image.numbers c.read_part.new.image c.read_part.new.cursor
-    (g.S.Source.left c.args.source.now) (g.S.Source.left c.read_part.new.source) (Err c.in-Err.fault) c.in-Err.ensures.err.kept taken)
+    (g.S.Source.left c.args.source.now) (g.S.Source.left c.read_part.new.source) (Err c.in-Err.fault) c.in-Err.ensures.err.kept c.requires.held tt taken)
 
 pub returns-in-Ok-clause-given : goal.returns-in-Ok-clause-given
 returns-in-Ok-clause-given g c =
@@ -73,7 +74,9 @@ returns-in-Ok-clause-given g c =
     let spot : Spot = record { part = part; version = c.args.part.version; base = c.first_cell-base.result } in
     let bound = part_bound set spot c.read_part.new.image.numbers in
     let spent = c.in-Ok.ensures.ok.given in
-    (spent.0, omega (arith, ap (bytes_of set) desc, bound, spent.1), spent.2)
+    let before = ap held_long c.requires.held in
+    let now = ap held_long c.in-Ok.ensures.held in
+    (spent.0, omega (arith, spent.0, before, now), omega (arith, ap (bytes_of set) desc, bound, spent.1, before, now), omega (arith, spent, before, now))
 
 pub returns-in-Err-clause-given : goal.returns-in-Err-clause-given
 returns-in-Err-clause-given g c =

@@ -1,24 +1,28 @@
-use Rattle.std.proofs.Common.{◌≡◌, ◌+◌, ◌-◌, ◌<◌, ◌≤◌, ℕ, List, Some, None, length, IfSome}
+use Rattle.std.proofs.Common.{◌≡◌, ◌+◌, ◌-◌, ◌<◌, ◌≤◌, ℕ, List, Some, None, length}
 use Rattle.vms_io.specs.Causes.{capped}
-use Rattle.vms_spec.specs.Judging.{State}
+use Rattle.vms_units.specs.State.{State}
 use Rattle.vms_desc.specs.Described.{described}
 use Rattle.vms_parts.specs.Devices.{device_at}
-use Rattle.vms_load.specs.Reads.{Leads}
-use Rattle.vms_load.specs.Parts.{IsShaped, OpensNext, part_due, in_fields, after_part}
+use Rattle.vms_load.specs.Reads.{LeadsOn, reach}
+use Rattle.vms_load.specs.Parts.{IsShaped, IsSame, HoldsNone, OpensNext, part_due, in_fields, after_part}
 use Rattle.vms_load.proofs.parts.read_section.Given as goal
 
 abbrev pub invariant-loop-next : goal.invariant-loop-next
 invariant-loop-next g l =
     let set = described l.set in
     let d = device_at set l.section.device in
+    let first = device_at set l.initial.section.device in
     record {
-      reads : (names : List (List ℕ)) (state : State) → l.section.device < length state.images
-          → IfSome (g.S.Source.left l.initial.source) (λ rest. Leads (in_fields set names state l.section None l.initial.image l.initial.cursor rest) (after_part set names state l.section l.image l.next) l.initial.cursor l.cursor rest (g.S.Source.left l.source));
+      same : IsSame l.initial.section l.section;
+      held : HoldsNone l.cursor l.next;
+      reads : (names : List (List ℕ)) (state : State) → l.initial.section.device < length state.images
+          → LeadsOn (in_fields set names state l.initial.section None l.initial.image) (after_part set names state l.section l.image l.next) l.initial.cursor l.cursor (g.S.Source.left l.initial.source) (g.S.Source.left l.source);
       next_is : OpensNext d l.image l.next;
       shaped : IsShaped set d l.image;
-      from : l.initial.cursor ≤ l.cursor;
-      place : l.cursor + part_due set d l.image.came l.next ≤ l.initial.cursor + part_due set d l.initial.image.came (Some (record { sub = None; version = l.initial.image.version }));
-      given : g.S.Source.given l.source ≡ capped (g.S.Source.given l.initial.source + (l.cursor - l.initial.cursor));
+      from : l.initial.cursor.at ≤ l.cursor.at;
+      onward : reach l.initial.cursor ≤ reach l.cursor;
+      place : reach l.cursor + part_due set d l.image.came l.next ≤ reach l.initial.cursor + part_due set first l.initial.image.came (Some (record { sub = None; version = l.initial.image.version }));
+      given : g.S.Source.given l.source ≡ capped (g.S.Source.given l.initial.source + (reach l.cursor - reach l.initial.cursor));
       later : g.S.Source.faults l.initial.source ≤ g.S.Source.faults l.source;
       promise : g.S.Source.promise l.source ≡ g.S.Source.promise l.initial.source;
     }
