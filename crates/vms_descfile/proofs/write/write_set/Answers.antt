@@ -3,6 +3,11 @@ use Rattle.serde_json.specs.View.{view}
 use Rattle.vms_desc.specs.Described.{described}
 use Rattle.vms_descfile.specs.Written.{set_file}
 use Rattle.vms_descfile.proofs.WriteLaws.{compact_file, file_reads}
+use Rattle.vms_descfile.proofs.TestBack.{test_back}
+use Rattle.vms_descfile.proofs.FirstNames.{all_found}
+use Rattle.vms_descfile.proofs.ShownLaws.{set_same}
+use Rattle.vms_descfile.proofs.SetBack.{set_back}
+use Rattle.vms_descfile.proofs.DepthLaws.{set_nests}
 use Rattle.vms_descfile.proofs.write.write_set.Goals as goal
 
 pub returns-clause-text : goal.returns-clause-text
