@@ -5,6 +5,7 @@ pub mod DescBack
 pub mod FieldBack
 pub mod FileLaws
 pub mod FirstNames
+pub mod FitLaws
 pub mod FloatLaws
 pub mod KeyLaws
 pub mod ListLaws
