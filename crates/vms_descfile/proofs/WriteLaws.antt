@@ -1,23 +1,33 @@
 -- What the text of a set's file says.
-use Rattle.std.proofs.Common.{◌≡◌, ◌≤◌, false, Some, String, Global, string_bytes, ap, sym, subst, ◌∙◌}
+use Rattle.std.proofs.Common.{◌≡◌, ◌≤◌, true, false, Option, Some, None, is_none, String, Global, string_bytes, refl, ap, sym, subst, ◌∙◌}
+use Rattle.std.proofs.lemmas.Bool.{true≢false}
 use Rattle.std.proofs.lemmas.Str.{IsUtf8-string_bytes}
 use Rattle.serde_json.specs.Data.{Data, depth}
 use Rattle.serde_json.specs.Read.{read, max_depth}
 use Rattle.serde_json.specs.Written.{has_float, compact_text}
 use Rattle.vms_spec.specs.Sets.{Set}
-use Rattle.vms_descfile.specs.Files.{file_said, parts_said, parts_of}
+use Rattle.vms_spec.specs.WellFormed.{SetFault, first_fault}
+use Rattle.vms_descfile.specs.Files.{Parts, judged_said, file_said, parts_said}
+use Rattle.vms_descfile.specs.Fitting.{FitsSet}
 use Rattle.vms_descfile.specs.Written.{set_file}
 use Rattle.vms_descfile.proofs.FileLaws.{has_value, said_by}
+use Rattle.vms_descfile.proofs.DepthLaws.{set_nests}
 use Rattle.vms_descfile.proofs.FloatLaws.{set_whole}
+use Rattle.vms_descfile.proofs.SetBack.{set_back}
 
 pub compact_file : (set : Set) (d : Data) (s : String Global) → d ≡ set_file set
     → (has_float d ≡ false → string_bytes s ≡ compact_text d) → string_bytes s ≡ compact_text (set_file set)
 compact_file set d s is text = text (ap has_float is ∙ set_whole set) ∙ ap compact_text is
 
-pub file_reads : (set : Set) (d : Data) (s : String Global) → d ≡ set_file set
-    → (depth d ≤ max_depth → read (string_bytes s) ≡ Some d) → depth (set_file set) ≤ max_depth
-    → file_said (string_bytes s) ≡ parts_said (parts_of (set_file set))
-file_reads set d s is reads shallow =
+formed : (o : Option SetFault) → is_none o ≡ true → o ≡ None
+formed None is = refl
+formed (Some fault) is = absurd (true≢false (sym is))
+
+pub file_reads : (set : Set) (d : Data) (s : String Global) → d ≡ set_file set → is_none (first_fault set) ≡ true → FitsSet set
+    → (depth d ≤ max_depth → read (string_bytes s) ≡ Some d) → file_said (string_bytes s) ≡ Parts set
+file_reads set d s is none fits reads =
+    let well = formed (first_fault set) none in
     let bytes = string_bytes s in
-    let said = reads (subst (λ e. depth e ≤ max_depth) (sym is) shallow) ∙ ap Some is in
+    let said = reads (subst (λ e. depth e ≤ max_depth) (sym is) (set_nests set well)) ∙ ap Some is in
     sym (said_by bytes (set_file set) (has_value bytes (set_file set) (IsUtf8-string_bytes s) said))
+    ∙ ap parts_said (set_back set well fits) ∙ ap (judged_said set) well

@@ -1,6 +1,7 @@
 pub mod Answers
 pub mod Descs
 pub mod Fields
+pub mod Fitting
 pub mod Files
 pub mod Given
 pub mod Keys

@@ -9,6 +9,7 @@ mod fault;
 mod field_file;
 mod fields;
 mod file_fault;
+mod fit;
 mod keys;
 mod lists;
 mod members;

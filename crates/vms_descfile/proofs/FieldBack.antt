@@ -1,0 +1,296 @@
+-- A field's file says the field again.
+use Rattle.std.proofs.Common.{◌≡◌, ℕ, ◌≤◌, List, [], ◌∷◌, get_or, map, Bool, true, false, not, ◌&&◌, ◌==◌, if◌then◌else◌, nat_le, Option, Some, None, option_map, is_some, ℤ, pos, negsuc, ◌≤ℤ◌, int_le, int_lt, refl, sym, ap, ◌∙◌, subst, codes, arith}
+use Rattle.std.specs.Option.{option_and_then}
+use Rattle.std.proofs.lemmas.Bool.{and_parts, and_from, eqb-true, false≢true}
+use Rattle.std.proofs.lemmas.Int.{ints}
+use Rattle.serde_json.specs.Data.{Data, Members, string, object}
+use Rattle.serde_json.specs.Find.{get, as_str}
+use Rattle.vms_kinds.specs.declared.Kind.{Kind}
+use Rattle.vms_kinds.specs.declared.Kind.TheVariants as kinds
+use Rattle.vms_kinds.specs.declared.Item.{Item}
+use Rattle.vms_kinds.specs.declared.Item.TheVariants as items
+use Rattle.vms_spec.specs.declared.Count.{Count}
+use Rattle.vms_spec.specs.declared.Count.TheVariants.{One, Fixed, Counted}
+use Rattle.vms_spec.specs.Sets.{Formula, Field}
+use Rattle.vms_spec.specs.Rules.{in_range, defaults_well}
+use Rattle.vms_spec.specs.Numbers.{same_number}
+use Rattle.vms_laws.proofs.WellFormedLaws.{ranges}
+use Rattle.vms_descfile.specs.declared.sort.Sort.{Sort}
+use Rattle.vms_descfile.specs.declared.sort.Sort.TheVariants as sorts
+use Rattle.vms_descfile.specs.Answers.{Answer, good, next, given, list_of}
+use Rattle.vms_descfile.specs.Keys.{has, fits, at, at_or, maybe_at, u16_of, u32_of, integer_of, text_of}
+use Rattle.vms_descfile.specs.Tests.{Names, number_in, name_in, test_of}
+use Rattle.vms_descfile.specs.Fields.{sort_named, sort_of, counts_fit, sort_fits, field_needs, field_allows, field_fits, count_as, count_of, number_item, item_as, Front, front_of, field_after, field_in, field_of}
+use Rattle.vms_descfile.specs.Fitting.{FitsItem, FitsCount, FitsField}
+use Rattle.vms_descfile.specs.Written.{natural_file, integer_file, is_zero, item_word, capacity_in, length_in, counter_in, equal_in, size_in, struct_in, given_as, list_as, unless, test_file, front_file, field_file}
+use Rattle.vms_descfile.proofs.ObjectLaws.{Table, put_if, members_in, object_of, found, or_none, got, has_is, table_fits, kept, listed, given_if, unless_if, list_if}
+use Rattle.vms_descfile.proofs.AnswerLaws.{next_good, judged_good, at_good, maybe_good, default_good, list_or_good, natural_good, integer_good}
+use Rattle.vms_descfile.proofs.ShownLaws.{number_shown, test_shown, count_shown, field_shown, map_same}
+
+-- ---- the members of a field's file
+
+abbrev front_table : List (List ℕ) → Field → Table
+front_table own f =
+    (codes "former", listed string f.former)
+    ∷ (codes "equal", option_map integer_file (equal_in f.item))
+    ∷ (codes "default", kept (is_zero f.default) (integer_file f.default))
+    ∷ (codes "counted", option_map (λ k. string (get_or own k [])) (counter_in f.count))
+    ∷ (codes "count", option_map natural_file (length_in f.count))
+    ∷ (codes "capacity", option_map natural_file (capacity_in f.count))
+    ∷ []
+
+abbrev pub field_table : List (List ℕ) → Field → Table
+field_table own f =
+    (codes "test", option_map (test_file own []) f.test)
+    ∷ (codes "struct", option_map natural_file (struct_in f.item))
+    ∷ (codes "size", option_map natural_file (size_in f.item))
+    ∷ (codes "since", kept (f.since == 0) (natural_file f.since))
+    ∷ (codes "name", Some (string f.name))
+    ∷ (codes "kind", Some (string (item_word f.item)))
+    ∷ front_table own f
+
+front_tabled : (own : List (List ℕ)) (f : Field) → front_file own f ≡ members_in (front_table own f)
+front_tabled own f =
+    list_if (codes "former") string f.former _
+    ∙ ap (put_if (codes "former") (listed string f.former)) (given_if (codes "equal") integer_file (equal_in f.item) _
+    ∙ ap (put_if (codes "equal") (option_map integer_file (equal_in f.item))) (unless_if (is_zero f.default) (codes "default") (integer_file f.default) _
+    ∙ ap (put_if (codes "default") (kept (is_zero f.default) (integer_file f.default))) (given_if (codes "counted") (λ k. string (get_or own k [])) (counter_in f.count) _
+    ∙ ap (put_if (codes "counted") (option_map (λ k. string (get_or own k [])) (counter_in f.count))) (given_if (codes "count") natural_file (length_in f.count) _
+    ∙ ap (put_if (codes "count") (option_map natural_file (length_in f.count))) (given_if (codes "capacity") natural_file (capacity_in f.count) _)))))
+
+pub field_tabled : (own : List (List ℕ)) (f : Field) → field_file own f ≡ object_of (field_table own f)
+field_tabled own f =
+    let kinded = λ (ms : Members). put_if (codes "name") (Some (string f.name)) (put_if (codes "kind") (Some (string (item_word f.item))) ms) in
+    ap object (given_if (codes "test") (test_file own []) f.test _
+    ∙ ap (put_if (codes "test") (option_map (test_file own []) f.test)) (given_if (codes "struct") natural_file (struct_in f.item) _
+    ∙ ap (put_if (codes "struct") (option_map natural_file (struct_in f.item))) (given_if (codes "size") natural_file (size_in f.item) _
+    ∙ ap (put_if (codes "size") (option_map natural_file (size_in f.item))) (unless_if (f.since == 0) (codes "since") (natural_file f.since) _
+    ∙ ap (put_if (codes "since") (kept (f.since == 0) (natural_file f.since))) (ap kinded (front_tabled own f))))))
+
+-- ---- its keys
+
+ap3 : {A B C D : Type 0} (f : A → B → C → D) (a a' : A) (b b' : B) (c c' : C) → a ≡ a' → b ≡ b' → c ≡ c' → f a b c ≡ f a' b' c'
+ap3 f a a' b b' c c' e1 e2 e3 = ap (λ x. f x b c) e1 ∙ ap (λ x. f a' x c) e2 ∙ ap (λ x. f a' b' x) e3
+
+-- counted, capacity and count
+abbrev counts_by : Option Data → Option Data → Option Data → Bool
+counts_by counted capacity count = if is_some counted then is_some capacity && not (is_some count) else not (is_some capacity)
+
+count_keys : (own : List (List ℕ)) (c : Count)
+    → counts_by (option_map (λ k. string (get_or own k [])) (counter_in c)) (option_map natural_file (capacity_in c)) (option_map natural_file (length_in c)) ≡ true
+count_keys own One = refl
+count_keys own (Fixed n) = refl
+count_keys own (Counted by capacity) = refl
+
+abbrev item_sort : Item → Sort
+item_sort (items.Num kind) = sorts.Number kind
+item_sort (items.Equal kind value) = sorts.Number kind
+item_sort (items.Unused n) = sorts.Unused
+item_sort (items.Struct j) = sorts.Struct
+
+number_named : (kind : Kind) → sort_named (item_word (items.Num kind)) ≡ Some (sorts.Number kind)
+number_named kinds.U8 = refl
+number_named kinds.U16 = refl
+number_named kinds.U32 = refl
+number_named kinds.U64 = refl
+number_named kinds.I8 = refl
+number_named kinds.I16 = refl
+number_named kinds.I32 = refl
+number_named kinds.I64 = refl
+number_named kinds.Bool = refl
+number_named kinds.Timer = refl
+
+item_named : (item : Item) → sort_named (item_word item) ≡ Some (item_sort item)
+item_named (items.Num kind) = number_named kind
+item_named (items.Equal kind value) = number_named kind
+item_named (items.Unused n) = refl
+item_named (items.Struct j) = refl
+
+-- size, struct, equal and default
+abbrev sort_by : Sort → Option Data → Option Data → Option Data → Option Data → Bool
+sort_by (sorts.Number kind) size struct equal default = not (is_some size) && not (is_some struct) && not (is_some equal && is_some default)
+sort_by sorts.Unused size struct equal default = is_some size && not (is_some struct) && not (is_some equal) && not (is_some default)
+sort_by sorts.Struct size struct equal default = is_some struct && not (is_some size) && not (is_some equal) && not (is_some default)
+
+sort_by_keys : (sort : Sort) (d : Data)
+    → sort_fits (Some sort) d ≡ sort_by sort (get (codes "size") d) (get (codes "struct") d) (get (codes "equal") d) (get (codes "default") d)
+sort_by_keys (sorts.Number kind) d = refl
+sort_by_keys sorts.Unused d = refl
+sort_by_keys sorts.Struct d = refl
+
+zero_is : (z : ℤ) → same_number z (pos 0) ≡ true → is_zero z ≡ true
+zero_is (pos n) same = same
+zero_is (negsuc n) same = cc
+
+no_default : (z : ℤ) → same_number z (pos 0) ≡ true → kept (is_zero z) (integer_file z) ≡ None
+no_default z same = ap (λ (b : Bool). kept b (integer_file z)) (zero_is z same)
+
+item_keys : (item : Item) (z : ℤ) → defaults_well item z ≡ true
+    → sort_by (item_sort item) (option_map natural_file (size_in item)) (option_map natural_file (struct_in item)) (option_map integer_file (equal_in item))
+    (kept (is_zero z) (integer_file z)) ≡ true
+item_keys (items.Num kind) z well = refl
+item_keys (items.Equal kind y) z well =
+    ap (λ (o : Option Data). not (is_some o)) (no_default z (and_parts (in_range kind y) (same_number z (pos 0)) well).1)
+item_keys (items.Unused n) z well = ap (λ (o : Option Data). not (is_some o)) (no_default z well)
+item_keys (items.Struct j) z well = ap (λ (o : Option Data). not (is_some o)) (no_default z well)
+
+-- ---- numbers of 64 bits
+
+in_64 : (kind : Kind) (z : ℤ) → in_range kind z ≡ true → (int_le (negsuc 9223372036854775807) z && int_lt z (pos 18446744073709551616)) ≡ true
+in_64 kinds.U8 z well = let r = ranges kinds.U8 z well in grind (arith, ints)
+in_64 kinds.U16 z well = let r = ranges kinds.U16 z well in grind (arith, ints)
+in_64 kinds.U32 z well = let r = ranges kinds.U32 z well in grind (arith, ints)
+in_64 kinds.U64 z well = let r = ranges kinds.U64 z well in grind (arith, ints)
+in_64 kinds.I8 z well = let r = ranges kinds.I8 z well in grind (arith, ints)
+in_64 kinds.I16 z well = let r = ranges kinds.I16 z well in grind (arith, ints)
+in_64 kinds.I32 z well = let r = ranges kinds.I32 z well in grind (arith, ints)
+in_64 kinds.I64 z well = let r = ranges kinds.I64 z well in grind (arith, ints)
+in_64 kinds.Bool z well = let r = ranges kinds.Bool z well in grind (arith, ints)
+in_64 kinds.Timer z well = let r = ranges kinds.Timer z well in grind (arith, ints)
+
+zero_is_0 : (z : ℤ) → is_zero z ≡ true → pos 0 ≡ z
+zero_is_0 (pos n) zero = ap pos (sym (eqb-true n 0 zero))
+zero_is_0 (negsuc n) zero = cc
+
+not_zero : (item : Item) (z : ℤ) → defaults_well item z ≡ true → is_zero z ≡ false → integer_of (integer_file z) ≡ good z
+not_zero (items.Num kind) z well other = integer_good z (in_64 kind z well)
+not_zero (items.Equal kind y) z well other = absurd (false≢true (sym other ∙ zero_is z (and_parts (in_range kind y) (same_number z (pos 0)) well).1))
+not_zero (items.Unused n) z well other = absurd (false≢true (sym other ∙ zero_is z well))
+not_zero (items.Struct j) z well other = absurd (false≢true (sym other ∙ zero_is z well))
+
+constant_good : (item : Item) (z : ℤ) → defaults_well item z ≡ true → (y : ℤ) → equal_in item ≡ Some y → integer_of (integer_file y) ≡ good y
+constant_good (items.Num kind) z well y is = cc
+constant_good (items.Equal kind v) z well y is =
+    let same : v ≡ y = cc in
+    subst (λ (u : ℤ). integer_of (integer_file u) ≡ good u) same (integer_good v (in_64 kind v (and_parts (in_range kind v) (same_number z (pos 0)) well).0))
+constant_good (items.Unused n) z well y is = cc
+constant_good (items.Struct j) z well y is = cc
+
+-- ---- what its parts say
+
+size_good : (item : Item) → FitsItem item → (n : ℕ) → size_in item ≡ Some n → u16_of (natural_file n) ≡ good n
+size_good (items.Num kind) fits n is = cc
+size_good (items.Equal kind v) fits n is = cc
+size_good (items.Unused m) fits n is = let same : m ≡ n = cc in natural_good 65535 n (subst (λ (k : ℕ). k ≤ 65535) same fits)
+size_good (items.Struct j) fits n is = cc
+
+struct_good : (item : Item) → FitsItem item → (n : ℕ) → struct_in item ≡ Some n → u32_of (natural_file n) ≡ good n
+struct_good (items.Num kind) fits n is = cc
+struct_good (items.Equal kind v) fits n is = cc
+struct_good (items.Unused m) fits n is = cc
+struct_good (items.Struct j) fits n is = let same : j ≡ n = cc in natural_good 4294967295 n (subst (λ (k : ℕ). k ≤ 4294967295) same fits)
+
+capacity_good : (c : Count) → FitsCount c → (n : ℕ) → capacity_in c ≡ Some n → u32_of (natural_file n) ≡ good n
+capacity_good One fits n is = cc
+capacity_good (Fixed m) fits n is = cc
+capacity_good (Counted by m) fits n is = let same : m ≡ n = cc in natural_good 4294967295 n (subst (λ (k : ℕ). k ≤ 4294967295) same fits)
+
+length_good : (c : Count) → FitsCount c → (n : ℕ) → length_in c ≡ Some n → u32_of (natural_file n) ≡ good n
+length_good One fits n is = cc
+length_good (Fixed m) fits n is = let same : m ≡ n = cc in natural_good 4294967295 n (subst (λ (k : ℕ). k ≤ 4294967295) same fits)
+length_good (Counted by m) fits n is = cc
+
+count_made : (asks : Bool) (c : Count)
+    → count_as (option_map (λ n. n) (capacity_in c)) (option_map (λ n. n) (length_in c)) (option_map (number_shown asks) (counter_in c)) ≡ count_shown asks c
+count_made asks One = refl
+count_made asks (Fixed n) = refl
+count_made asks (Counted by capacity) = refl
+
+item_made : (item : Item) → item_as (item_sort item) (option_map (λ z. z) (equal_in item)) (option_map (λ n. n) (size_in item)) (option_map (λ n. n) (struct_in item)) ≡ item
+item_made (items.Num kind) = refl
+item_made (items.Equal kind value) = refl
+item_made (items.Unused n) = refl
+item_made (items.Struct j) = refl
+
+abbrev made_of : Bool → Field → Item → List (List ℕ) → Field
+made_of asks f item former = record {
+  name = f.name; former = former; item = item; count = count_shown asks f.count;
+  since = f.since; test = option_map (test_shown asks) f.test; default = f.default;
+}
+
+field_made : (asks : Bool) (f : Field)
+    → made_of asks f (item_as (item_sort f.item) (option_map (λ z. z) (equal_in f.item)) (option_map (λ n. n) (size_in f.item)) (option_map (λ n. n) (struct_in f.item)))
+    (map (λ t. t) f.former) ≡ field_shown asks f
+field_made asks f =
+    ap (λ i. made_of asks f i (map (λ t. t) f.former)) (item_made f.item) ∙ ap (made_of asks f f.item) (map_same (λ t. t) f.former (λ t. refl))
+
+-- ---- the field
+
+module _ (asks : Bool) (own : List (List ℕ)) (names : Names) (may : ℕ → Bool) where
+  -- what a field may name is found
+  pub record Named (f : Field) : Type 0 where
+    pub counter : (k : ℕ) → counter_in f.count ≡ Some k → number_in names (get_or own k []) ≡ good (number_shown asks k)
+    pub test : (t : Formula) → f.test ≡ Some t → test_of (record { own = names; parent = None }) (test_file own [] t) ≡ good (test_shown asks t)
+
+  count_back : (f : Field) → FitsField f → Named f → count_of names (object_of (field_table own f)) ≡ good (count_shown asks f.count)
+  count_back f fits named =
+      let table = field_table own f in
+      let d = object_of table in
+      next_good (maybe_at u32_of (codes "capacity") d) (option_map (λ n. n) (capacity_in f.count)) _ _
+      (maybe_good u32_of natural_file (λ n. n) (codes "capacity") d (capacity_in f.count) (got (codes "capacity") table _ (or_none _)) (capacity_good f.count fits.count))
+      (next_good (maybe_at u32_of (codes "count") d) (option_map (λ n. n) (length_in f.count)) _ _
+      (maybe_good u32_of natural_file (λ n. n) (codes "count") d (length_in f.count) (got (codes "count") table _ (or_none _)) (length_good f.count fits.count))
+      (next_good (maybe_at (name_in names) (codes "counted") d) (option_map (number_shown asks) (counter_in f.count)) _ _
+      (maybe_good (name_in names) (λ k. string (get_or own k [])) (number_shown asks) (codes "counted") d (counter_in f.count) (got (codes "counted") table _ (or_none _)) named.counter)
+      (ap good (count_made asks f.count))))
+
+  front_back : (f : Field) → FitsField f → defaults_well f.item f.default ≡ true → Named f
+      → front_of names (object_of (field_table own f))
+      ≡ good (record { count = count_shown asks f.count; default = f.default; equal = option_map (λ z. z) (equal_in f.item); former = map (λ t. t) f.former })
+  front_back f fits well named =
+      let table = field_table own f in
+      let d = object_of table in
+      next_good (count_of names d) (count_shown asks f.count) _ _ (count_back f fits named)
+      (next_good (at_or (pos 0) integer_of (codes "default") d) f.default _ _
+      (default_good integer_of (codes "default") d (integer_file f.default) (pos 0) f.default (is_zero f.default) (got (codes "default") table _ (or_none _))
+      (zero_is_0 f.default) (not_zero f.item f.default well))
+      (next_good (maybe_at integer_of (codes "equal") d) (option_map (λ z. z) (equal_in f.item)) _ _
+      (maybe_good integer_of integer_file (λ z. z) (codes "equal") d (equal_in f.item) (got (codes "equal") table _ (or_none _)) (constant_good f.item f.default well))
+      (next_good (at_or [] (list_of text_of) (codes "former") d) (map (λ t. t) f.former) _ _
+      (list_or_good text_of string (λ t. t) (codes "former") d f.former (got (codes "former") table _ (or_none _)) (λ k t e. refl))
+      refl)))
+
+  after_back : (f : Field) → FitsField f → Named f
+      → field_after names (record { count = count_shown asks f.count; default = f.default; equal = option_map (λ z. z) (equal_in f.item); former = map (λ t. t) f.former }) (object_of (field_table own f))
+      ≡ good (field_shown asks f)
+  after_back f fits named =
+      let table = field_table own f in
+      let d = object_of table in
+      next_good (at sort_of (codes "kind") d) (item_sort f.item) _ _
+      (at_good sort_of (codes "kind") d (string (item_word f.item)) (item_sort f.item) (got (codes "kind") table _ refl) (ap given (item_named f.item)))
+      (next_good (at text_of (codes "name") d) f.name _ _ (at_good text_of (codes "name") d (string f.name) f.name (got (codes "name") table _ refl) refl)
+      (next_good (at_or 0 u32_of (codes "since") d) f.since _ _
+      (default_good u32_of (codes "since") d (natural_file f.since) 0 f.since (f.since == 0) (got (codes "since") table _ (or_none _))
+      (λ e. sym (eqb-true f.since 0 e)) (λ e. natural_good 4294967295 f.since fits.since))
+      (next_good (maybe_at u16_of (codes "size") d) (option_map (λ n. n) (size_in f.item)) _ _
+      (maybe_good u16_of natural_file (λ n. n) (codes "size") d (size_in f.item) (got (codes "size") table _ (or_none _)) (size_good f.item fits.item))
+      (next_good (maybe_at u32_of (codes "struct") d) (option_map (λ n. n) (struct_in f.item)) _ _
+      (maybe_good u32_of natural_file (λ n. n) (codes "struct") d (struct_in f.item) (got (codes "struct") table _ (or_none _)) (struct_good f.item fits.item))
+      (next_good (maybe_at (test_of (record { own = names; parent = None })) (codes "test") d) (option_map (test_shown asks) f.test) _ _
+      (maybe_good (test_of (record { own = names; parent = None })) (test_file own []) (test_shown asks) (codes "test") d f.test (got (codes "test") table _ (or_none _)) named.test)
+      (ap good (field_made asks f)))))))
+
+  keys_fit : (f : Field) → defaults_well f.item f.default ≡ true → field_fits (object_of (field_table own f)) ≡ true
+  keys_fit f well =
+      let table = field_table own f in
+      let d = object_of table in
+      let kind : option_and_then sort_named (option_and_then as_str (get (codes "kind") d)) ≡ Some (item_sort f.item) =
+      ap (λ (o : Option Data). option_and_then sort_named (option_and_then as_str o)) (got (codes "kind") table _ refl) ∙ item_named f.item in
+      let counts : counts_fit d ≡ true =
+      ap3 counts_by _ _ _ _ _ _ (got (codes "counted") table _ (or_none _)) (got (codes "capacity") table _ (or_none _)) (got (codes "count") table _ (or_none _))
+      ∙ count_keys own f.count in
+      let sorts : sort_fits (option_and_then sort_named (option_and_then as_str (get (codes "kind") d))) d ≡ true =
+      ap (λ (s : Option Sort). sort_fits s d) kind ∙ sort_by_keys (item_sort f.item) d
+      ∙ ap (λ (o : Option Data). sort_by (item_sort f.item) o (get (codes "struct") d) (get (codes "equal") d) (get (codes "default") d)) (got (codes "size") table _ (or_none _))
+      ∙ ap3 (sort_by (item_sort f.item) (option_map natural_file (size_in f.item))) _ _ _ _ _ _
+      (got (codes "struct") table _ (or_none _)) (got (codes "equal") table _ (or_none _)) (got (codes "default") table _ (or_none _))
+      ∙ item_keys f.item f.default well in
+      and_from (fits field_needs field_allows d && counts_fit d) _
+      (and_from (fits field_needs field_allows d) (counts_fit d) (table_fits field_needs field_allows table refl refl) counts) sorts
+
+  pub field_back : (f : Field) → FitsField f → defaults_well f.item f.default ≡ true → Named f → field_of names (field_file own f) ≡ good (field_shown asks f)
+  field_back f fits well named =
+      let d = object_of (field_table own f) in
+      ap (field_of names) (field_tabled own f)
+      ∙ judged_good (field_fits d) (field_in names d) (good (field_shown asks f)) (keys_fit f well)
+      (next_good (front_of names d) _ _ _ (front_back f fits well named) (after_back f fits named))

@@ -1,0 +1,25 @@
+-- Lists of parts whose numbers fit.
+use Rattle.std.proofs.Common.{◌≡◌, ℕ, zero, suc, ◌<◌, List, [], ◌∷◌, length, get_or, map, Some, refl, sym, ap, ◌∙◌, subst, arith}
+use Rattle.vms_spec.specs.Lists.{at}
+
+pub at_inside : {A : Type 0} (xs : List A) (i : ℕ) (x : A) → at xs i ≡ Some x → i < length xs
+at_inside [] i x there = cc
+at_inside (y ∷ xs) zero x there = omega arith
+at_inside (y ∷ xs) (suc i) x there = omega (arith, at_inside xs i x there)
+
+pub at_is : {A : Type 0} (xs : List A) (i : ℕ) (x y : A) → x ≡ get_or xs i x → at xs i ≡ Some y → x ≡ y
+at_is [] i x y is there = cc
+at_is (z ∷ xs) zero x y is there = let same : z ≡ y = cc in is ∙ same
+at_is (z ∷ xs) (suc i) x y is there = at_is xs i x y is there
+
+-- what holds of each item that a view is made of holds of what it is seen as
+pub mapped : {A B : Type 0} (g : A → B) (P : B → Type 0) (xs : List A) → ((i : ℕ) (x : A) → at xs i ≡ Some x → P (g x))
+    → (i : ℕ) (y : B) → at (map g xs) i ≡ Some y → P y
+mapped g P [] all i y there = cc
+mapped g P (x ∷ xs) all zero y there = let same : g x ≡ y = cc in subst P same (all 0 x refl)
+mapped g P (x ∷ xs) all (suc i) y there = mapped g P xs (λ j z e. all (suc j) z e) i y there
+
+-- the same, where the list is another name for it
+pub mapped_of : {A B : Type 0} (g : A → B) (P : B → Type 0) (ys xs : List A) → ys ≡ xs → ((i : ℕ) (x : A) → at ys i ≡ Some x → P (g x))
+    → (i : ℕ) (y : B) → at (map g xs) i ≡ Some y → P y
+mapped_of g P ys xs is all = mapped g P xs (λ i x there. all i x (ap (λ l. at l i) is ∙ there))
