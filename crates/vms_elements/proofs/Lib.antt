@@ -1,1 +1,4 @@
 mod Rows
+pub mod Tables
+pub mod CellsOf
+pub mod SlotsOf

@@ -17,7 +17,7 @@ text_of (line ∷ lines) = line ++ (10 ∷ text_of lines)
 -- the numbers that are printed
 abbrev pub printed : List Element → List Element
 printed [] = []
-printed (x ∷ xs) = if is_number x.what && x.counted then x ∷ printed xs else printed xs
+printed (x ∷ xs) = if x.counted && is_number x.what then x ∷ printed xs else printed xs
 
 -- the line of a number
 abbrev pub number_line : List ℤ → Element → List ℕ
