@@ -2,3 +2,5 @@ mod Rows
 pub mod Tables
 pub mod CellsOf
 pub mod SlotsOf
+pub mod CountUp
+pub mod LinesOf

@@ -55,6 +55,10 @@ below_true e m count h = ap (nat_lt e) h ∙ is_below e m (nat_lt e (e + suc m))
 pub below_false : (e count : ℕ) → count ≡ e + 0 → nat_lt e count ≡ false
 below_false e count h = ap (nat_lt e) h ∙ not_below e (nat_lt e (e + 0)) refl
 
+pub past_false : (e count : ℕ) → count ≤ e → (b : Bool) → nat_lt e count ≡ b → b ≡ false
+past_false e count le true h = let lt : e < count = ltb-true e count h in absurd (omega arith)
+past_false e count le false h = refl
+
 -- elements past the count are in no byte
 past_count : (f : Field) (stand : Stand) (part : ℕ → List Element) (step e n at : ℕ) → stand.count ≤ e → slots_of (array_elements f stand part step e n at) ≡ []
 past_count f stand part step e zero at le = refl
@@ -67,9 +71,6 @@ past_count f stand part step e (suc n) at le =
     ∙ none stand.there below (past_false e stand.count le below refl) (slots_of (part at)) (slots_of later)
     ∙ past_count f stand part step (suc e) n (at + step) (omega arith)
   where
-    past_false : (e count : ℕ) → count ≤ e → (b : Bool) → nat_lt e count ≡ b → b ≡ false
-    past_false e count le true h = let lt : e < count = ltb-true e count h in absurd (omega arith)
-    past_false e count le false h = refl
     none : {B : Type 0} (there below : Bool) → below ≡ false → (xs rest : List B) → (if there && below then xs else []) ++ rest ≡ rest
     none true true e xs rest = cc
     none true false e xs rest = refl
