@@ -4,3 +4,5 @@ pub mod CellsOf
 pub mod SlotsOf
 pub mod CountUp
 pub mod LinesOf
+pub mod Members
+pub mod PathsOf

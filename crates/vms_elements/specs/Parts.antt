@@ -1,7 +1,9 @@
 -- What is read off the list of elements: numbers and their cells, slots, and the elements of a whole device.
 use Rattle.std.specs.Prelude.{◌≡◌, ℕ, ◌+◌, Bool, true, false, ◌&&◌, if◌then◌else◌, List, [], ◌∷◌, ◌++◌, length, map, Option, Some, None, ℤ}
 use Rattle.vms_spec.specs.Lists.{at}
-use Rattle.vms_spec.specs.Sets.{Desc, Sub, Device, Set}
+use Rattle.vms_kinds.specs.declared.Item.{Item}
+use Rattle.vms_kinds.specs.declared.Item.TheVariants.{Num, Struct}
+use Rattle.vms_spec.specs.Sets.{Field, Desc, Sub, Device, Set}
 use Rattle.vms_spec.specs.Layout.{Cell, Slot, desc_cells, struct_cells}
 use Rattle.vms_spec.specs.Layout as slots
 use Rattle.vms_spec.specs.Images.{Image, own_cells}
@@ -77,11 +79,22 @@ device_elements set d image =
 
 -- ---- paths
 
--- a number of this path, this place and this cell is among the elements
-pub record HasNumber (xs : List Element) (path : List (ℕ × ℕ)) (place : ℕ) (cell : Cell) : Type 0 where
-  pub index : ℕ
-  pub element : Element
-  pub stands : at xs index ≡ Some element
-  pub is_there : element.path ≡ path
-  pub place_is : element.cell ≡ place
-  pub what : element.what ≡ Number cell
+-- the field that a path names
+abbrev pub inner_field : (ℕ → Option Field) → Item → Option Field
+inner_field inside (Struct j) = inside j
+inner_field inside item = None
+
+abbrev pub last_field : (ℕ → Option Field) → List (ℕ × ℕ) → Option Field → Option Field
+last_field inside path None = None
+last_field inside [] (Some f) = Some f
+last_field inside (step ∷ path) (Some f) = inner_field inside f.item
+
+abbrev pub field_named : Set → List (ℕ × ℕ) → Option Desc → Option Field
+field_named set [] d = None
+field_named set (step ∷ path) None = None
+field_named set (step ∷ path) (Some d) = last_field (λ j. field_named set path (at set.structs j)) path (at d.fields step.0)
+
+-- a field of single numbers, or of arrays of them, with this kind and this default
+abbrev pub IsFieldOf : Cell → Option Field → Type 0
+IsFieldOf cell None = ⊥
+IsFieldOf cell (Some f) = (f.item ≡ Num cell.kind) × (f.default ≡ cell.default)
