@@ -46,7 +46,7 @@ module _ (ss : List Shape) (good : AreShapes ss) where
   pub field_has : (fields : List Field) (v : ℕ) (own : ℕ → ℕ) (n : List ℤ) (i at : ℕ) (f : Field) → cells_of (field_elements ss fields v own n i at f) ≡ field_cells (cells_in ss) fields i f
   field_has fields v own n i at f =
       array_has f (stand_of i f v own) (item_elements ss f.item (counted i fields) f.default n) (item_cells (cells_in ss) f.item (counted i fields) f.default)
-          (λ a. item_has f.item (counted i fields) f.default n a) (item_size (cells_in ss) f.item) 0 (capacity_of f.count) at 0 0
+      (λ a. item_has f.item (counted i fields) f.default n a) (item_size (cells_in ss) f.item) 0 (capacity_of f.count) at 0 0
 
   pub fields_have : (fields : List Field) (v : ℕ) (own : ℕ → ℕ) (n : List ℤ) (i at : ℕ) (fs : List Field) → cells_of (elements_from ss fields v own n i at fs) ≡ cells_from (cells_in ss) fields i fs
   fields_have fields v own n i at [] = refl
@@ -67,7 +67,7 @@ are_shapes ds zero j n at = refl
 are_shapes ds (suc k) j n at =
     let earlier = first shape ds k in
     one_more (λ (s : Shape). (n : List ℤ) (at : ℕ) → cells_of (s.elements n at) ≡ s.cells) no_shape (λ n at. refl) earlier (are_shapes ds k)
-        (shape earlier (get_or ds k no_desc)) (λ n at. desc_has earlier (are_shapes ds k) (get_or ds k no_desc) (get_or ds k no_desc).version n at) j n at
+    (shape earlier (get_or ds k no_desc)) (λ n at. desc_has earlier (are_shapes ds k) (get_or ds k no_desc) (get_or ds k no_desc).version n at) j n at
 
 pub elements_cells : (set : Set) (d : Desc) (v : ℕ) (n : List ℤ) (at : ℕ) → cells_of (elements_in set d v n at) ≡ desc_cells (struct_cells set) d
 elements_cells set d v n at =

@@ -1,9 +1,9 @@
 -- The numbers among the elements have the cells from a place on, one each, in order.
-use Rattle.std.proofs.Common.{◌≡◌, ℕ, zero, suc, ◌+◌, List, [], ◌∷◌, ◌++◌, length, get_or, map, ℤ, refl, sym, ap, ◌∙◌, subst, arith, Bool, true, false, ◌&&◌, nat_lt, if◌then◌else◌, append-nil, length-append}
+use Rattle.std.proofs.Common.{◌≡◌, ℕ, zero, suc, ◌+◌, List, [], ◌∷◌, ◌++◌, length, get_or, map, ℤ, refl, sym, ap, ◌∙◌, subst, arith, Bool, true, false, ◌&&◌, nat_lt, if◌then◌else◌, append-nil}
 use Rattle.vms_kinds.specs.declared.Item.{Item}
 use Rattle.vms_kinds.specs.declared.Item.TheVariants.{Num, Equal, Unused, Struct}
 use Rattle.vms_spec.specs.Sets.{Field, Desc, Set}
-use Rattle.vms_spec.specs.Layout.{Cell, no_desc, first, counted, capacity_of, item_cells, item_size, field_cells, desc_cells, numbers_of, all_hold}
+use Rattle.vms_spec.specs.Layout.{Cell, no_desc, first, counted, capacity_of, item_size, field_cells, desc_cells, numbers_of, all_hold}
 use Rattle.vms_spec.proofs.Sizes.{size_same}
 use Rattle.vms_elements.specs.Elements.{What, Element, Shape, no_shape, shape, shapes, cells_in, dotted, behind, single, Number, Constant, Filler, Rule, item_elements, Stand, stand_of, array_elements, field_elements, elements_from, desc_elements, index_text}
 use Rattle.vms_elements.specs.Parts.{cells_with, cells_of, is_number, numbers_in, CountsUp, elements_in}
@@ -34,11 +34,11 @@ counts_append at [] ys h k = subst (λ n. CountsUp n ys) (omega arith) k
 counts_append at (x ∷ xs) ys (e, h) k = (e, counts_append (at + 1) xs ys h (subst (λ n. CountsUp n ys) (omega arith) k))
 
 -- what is changed besides the cells doesn't matter
-map_picks : (f : Element → Element) → ((x : Element) → (f x).cell ≡ x.cell) → (at : ℕ) (xs : List Element) → ((x : Element) → is_number (f x).what ≡ is_number x.what) → CountsUp at (numbers_in xs) → CountsUp at (numbers_in (map f xs))
+pub map_picks : (f : Element → Element) → ((x : Element) → (f x).cell ≡ x.cell) → (at : ℕ) (xs : List Element) → ((x : Element) → is_number (f x).what ≡ is_number x.what) → CountsUp at (numbers_in xs) → CountsUp at (numbers_in (map f xs))
 map_picks f same at [] what h = tt
 map_picks f same at (x ∷ xs) what h =
     subst (λ (b : Bool). CountsUp at (if b then f x ∷ numbers_in (map f xs) else numbers_in (map f xs))) (sym (what x))
-        (by_test (is_number x.what) (λ at. map_picks f same at xs what) h)
+    (by_test (is_number x.what) (λ at. map_picks f same at xs what) h)
   where
     by_test : (b : Bool) → ((at : ℕ) → CountsUp at (numbers_in xs) → CountsUp at (numbers_in (map f xs)))
         → CountsUp at (if b then x ∷ numbers_in xs else numbers_in xs) → CountsUp at (if b then f x ∷ numbers_in (map f xs) else numbers_in (map f xs))
@@ -74,13 +74,13 @@ module _ (ss : List Shape) (good : AreShapes ss) (laid : AreLaid ss) where
       let later = array_elements f stand part step (suc e) n (at + step) in
       let size : length (numbers_in here) ≡ step = numbers_long here ∙ ap length (cells_behind (stand.number, e) text below (stand.there && below) (part at)) ∙ long at in
       subst (λ xs. CountsUp at xs) (sym (numbers_append here later))
-          (counts_append at (numbers_in here) (numbers_in later) (counts_behind (stand.number, e) text below (stand.there && below) at (part at) (h at))
-              (subst (λ k. CountsUp (at + k) (numbers_in later)) (sym size) (array_laid f stand part step h long (suc e) n (at + step))))
+      (counts_append at (numbers_in here) (numbers_in later) (counts_behind (stand.number, e) text below (stand.there && below) at (part at) (h at))
+      (subst (λ k. CountsUp (at + k) (numbers_in later)) (sym size) (array_laid f stand part step h long (suc e) n (at + step))))
 
   field_laid : (fields : List Field) (v : ℕ) (own : ℕ → ℕ) (n : List ℤ) (i at : ℕ) (f : Field) → CountsUp at (numbers_in (field_elements ss fields v own n i at f))
   field_laid fields v own n i at f =
       array_laid f (stand_of i f v own) (item_elements ss f.item (counted i fields) f.default n) (item_size (cells_in ss) f.item)
-          (λ a. item_laid f.item (counted i fields) f.default n a) (λ a. item_long f.item (counted i fields) f.default n a) 0 (capacity_of f.count) at
+      (λ a. item_laid f.item (counted i fields) f.default n a) (λ a. item_long f.item (counted i fields) f.default n a) 0 (capacity_of f.count) at
 
   fields_laid : (fields : List Field) (v : ℕ) (own : ℕ → ℕ) (n : List ℤ) (i at : ℕ) (fs : List Field) → CountsUp at (numbers_in (elements_from ss fields v own n i at fs))
   fields_laid fields v own n i at [] = tt
@@ -90,8 +90,8 @@ module _ (ss : List Shape) (good : AreShapes ss) (laid : AreLaid ss) where
       let later = elements_from ss fields v own n (suc i) (at + size) fs in
       let long : length (numbers_in here) ≡ size = numbers_long here ∙ ap length (field_has ss good fields v own n i at f) in
       subst (λ xs. CountsUp at xs) (sym (numbers_append here later))
-          (counts_append at (numbers_in here) (numbers_in later) (field_laid fields v own n i at f)
-              (subst (λ k. CountsUp (at + k) (numbers_in later)) (sym long) (fields_laid fields v own n (suc i) (at + size) fs)))
+      (counts_append at (numbers_in here) (numbers_in later) (field_laid fields v own n i at f)
+      (subst (λ k. CountsUp (at + k) (numbers_in later)) (sym long) (fields_laid fields v own n (suc i) (at + size) fs)))
 
   pub desc_laid : (d : Desc) (v : ℕ) (n : List ℤ) (at : ℕ) → CountsUp at (numbers_in (desc_elements ss d v n at))
   desc_laid d v n at =
@@ -107,7 +107,7 @@ are_laid ds (suc k) j n at =
     let earlier = first shape ds k in
     let d = get_or ds k no_desc in
     one_more (λ (s : Shape). (n : List ℤ) (at : ℕ) → CountsUp at (numbers_in (s.elements n at))) no_shape (λ n at. tt) earlier (are_laid ds k)
-        (shape earlier d) (λ n at. desc_laid earlier (are_shapes ds k) (are_laid ds k) d d.version n at) j n at
+    (shape earlier d) (λ n at. desc_laid earlier (are_shapes ds k) (are_laid ds k) d d.version n at) j n at
 
 pub elements_laid : (set : Set) (d : Desc) (v : ℕ) (n : List ℤ) (at : ℕ) → CountsUp at (numbers_in (elements_in set d v n at))
 elements_laid set d v n at = desc_laid (shapes set) (are_shapes set.structs (length set.structs)) (are_laid set.structs (length set.structs)) d v n at

@@ -6,3 +6,5 @@ pub mod CountUp
 pub mod LinesOf
 pub mod Members
 pub mod PathsOf
+pub mod DevicePaths
+pub mod Stated

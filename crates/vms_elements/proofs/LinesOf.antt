@@ -1,6 +1,5 @@
 -- The lines of the counted numbers are the text of a description.
 use Rattle.std.proofs.Common.{◌≡◌, ℕ, zero, suc, ◌+◌, ◌≤◌, List, [], ◌∷◌, ◌++◌, length, get_or, map, ℤ, pos, refl, sym, ap, ◌∙◌, arith, Bool, true, false, ◌&&◌, nat_lt, if◌then◌else◌, append-nil, append_assoc, Option, Some, None, codes}
-use Rattle.std.proofs.lemmas.Bool.{ltb-true, ltb-false}
 use Rattle.std.proofs.lemmas.List.{map-append}
 use Rattle.std.specs.Fmt.{decimal, signed_decimal}
 use Rattle.vms_kinds.specs.declared.Item.{Item}
@@ -13,8 +12,8 @@ use Rattle.vms_spec.specs.Layout.{Cell, no_desc, first, counted, capacity_of, el
 use Rattle.vms_spec.specs.Values.{Printer, no_printer, printer, printers, item_lines, element_lines, array_lines, field_lines, desc_lines, line_end, values_text, version_text}
 use Rattle.vms_spec.specs.Values as texts
 use Rattle.vms_spec.proofs.Sizes.{elements_fit}
-use Rattle.vms_elements.specs.Elements.{What, Element, Shape, no_shape, shape, shapes, cells_in, dotted, behind, single, Rule, item_elements, Stand, stand_of, array_elements, field_elements, elements_from, desc_elements, index_text}
-use Rattle.vms_elements.specs.Parts.{is_number, elements_in}
+use Rattle.vms_elements.specs.Elements.{Element, Shape, no_shape, shape, shapes, cells_in, dotted, behind, single, Rule, item_elements, Stand, stand_of, array_elements, field_elements, elements_from, desc_elements, index_text}
+use Rattle.vms_elements.specs.Parts.{is_number}
 use Rattle.vms_elements.specs.Lines.{text_of, printed, number_line, number_lines, section_line, sub_line, subs_lines, device_lines, devices_lines, machine_lines, values_lines}
 use Rattle.vms_elements.proofs.Tables.{both, two_more, first_long, shapes_cells}
 use Rattle.vms_elements.proofs.SlotsOf.{below_true, past_false}
@@ -71,7 +70,7 @@ under_dotted path n [] = refl
 under_dotted path n (x ∷ xs) =
     let tail = codes " = " ++ signed_decimal (get_or n x.cell (pos 0)) in
     let line : path ++ ((codes "." ++ x.name) ++ tail) ≡ (path ++ codes ".") ++ (x.name ++ tail) =
-        ap (λ l. path ++ l) (append_assoc (codes ".") x.name tail) ∙ sym (append_assoc path (codes ".") (x.name ++ tail)) in
+    ap (λ l. path ++ l) (append_assoc (codes ".") x.name tail) ∙ sym (append_assoc path (codes ".") (x.name ++ tail)) in
     under_first path n (dotted x) (map dotted xs)
     ∙ ap (λ (l : List ℕ). with_line (x.counted && is_number x.what) l (under path n (map dotted xs))) line
     ∙ ap (with_line (x.counted && is_number x.what) ((path ++ codes ".") ++ (x.name ++ tail))) (under_dotted path n xs)
@@ -94,9 +93,9 @@ past_count path n f stand part step e (suc k) at le =
     let later = array_elements f stand part step (suc e) k (at + step) in
     under_append path n (map (behind (stand.number, e) text below (stand.there && below)) (part at)) later
     ∙ both _ _ _ _
-        (ap (λ (b : Bool). under path n (map (behind (stand.number, e) text b (stand.there && below)) (part at))) (past_false e stand.count le below refl)
-            ∙ under_none path text (stand.number, e) (stand.there && below) n (part at))
-        (past_count path n f stand part step (suc e) k (at + step) (omega arith))
+    (ap (λ (b : Bool). under path n (map (behind (stand.number, e) text b (stand.there && below)) (part at))) (past_false e stand.count le below refl)
+    ∙ under_none path text (stand.number, e) (stand.there && below) n (part at))
+    (past_count path n f stand part step (suc e) k (at + step) (omega arith))
 
 module _ (ss : List Shape) (ps : List Printer) (cells : cells_in ss ≡ printed_cells ps) (are : ArePrinted ss ps) where
   pub item_printed : (path : List ℕ) (item : Item) (caps : List ℕ) (z : ℤ) (n : List ℤ) (at : ℕ) → under path n (item_elements ss item caps z n at) ≡ item_lines ps item path n at
@@ -128,11 +127,11 @@ module _ (ss : List Shape) (ps : List Printer) (cells : cells_in ss ≡ printed_
       let path_is : path ++ text ≡ element = ap (λ l. path ++ (f.name ++ l)) (many e) ∙ sym (append_assoc path f.name (brackets e)) ∙ element_path (path ++ f.name) e in
       under_append path n (map (behind (stand.number, e) text below (stand.there && below)) (part at)) later
       ∙ both _ _ _ _
-          (ap (λ (b : Bool). under path n (map (behind (stand.number, e) text b (stand.there && below)) (part at))) (below_true e m stand.count c)
-              ∙ under_behind path text (stand.number, e) (stand.there && below) n (part at)
-              ∙ ap (λ (l : List ℕ). under l n (part at)) path_is
-              ∙ item_printed element f.item caps f.default n at)
-          (array_printed path n f stand caps step many (suc e) k m (at + step) (omega (arith, c)) (omega arith))
+      (ap (λ (b : Bool). under path n (map (behind (stand.number, e) text b (stand.there && below)) (part at))) (below_true e m stand.count c)
+      ∙ under_behind path text (stand.number, e) (stand.there && below) n (part at)
+      ∙ ap (λ (l : List ℕ). under l n (part at)) path_is
+      ∙ item_printed element f.item caps f.default n at)
+      (array_printed path n f stand caps step many (suc e) k m (at + step) (omega (arith, c)) (omega arith))
 
   single_printed : (path : List ℕ) (n : List ℤ) (f : Field) (stand : Stand) (caps : List ℕ) (step at : ℕ) → ((e : ℕ) → index_text f.count e ≡ []) → stand.count ≡ 1
       → under path n (array_elements f stand (item_elements ss f.item caps f.default n) step 0 1 at) ≡ item_lines ps f.item (path ++ f.name) n at
@@ -202,8 +201,8 @@ are_printed ds (suc k) j path n at =
     let ps = first printer ds k in
     let d = get_or ds k no_desc in
     two_more (λ (s : Shape) (p : Printer). (path : List ℕ) (n : List ℤ) (at : ℕ) → under path n (s.elements n at) ≡ p.lines path n at) no_shape no_printer (λ path n at. refl) ss ps
-        (first_long shape ds k ∙ sym (first_long printer ds k)) (are_printed ds k) (shape ss d) (printer ps d)
-        (λ path n at. desc_printed ss ps (same_cells ds k) (are_printed ds k) path d d.version n at) j path n at
+    (first_long shape ds k ∙ sym (first_long printer ds k)) (are_printed ds k) (shape ss d) (printer ps d)
+    (λ path n at. desc_printed ss ps (same_cells ds k) (are_printed ds k) path d d.version n at) j path n at
 
 -- ---- the whole text
 
@@ -235,7 +234,7 @@ device_text set d image =
     let rest = text_append own subs ∙ both _ _ _ _ (numbers_text set d.desc image.numbers 0) (subs_text set image.numbers (own_cells set d) d.subs image.came) in
     ap (λ (l : List ℕ). section_line d image.version ++ (10 ∷ l)) rest
     ∙ six (codes "section ") d.desc.name (codes " ") (decimal d.instance) (codes " v") (decimal image.version)
-        (10 ∷ (desc_lines (printers set) d.desc [] image.numbers 0 ++ texts.sub_lines set image.numbers (own_cells set d) d.subs image.came))
+    (10 ∷ (desc_lines (printers set) d.desc [] image.numbers 0 ++ texts.sub_lines set image.numbers (own_cells set d) d.subs image.came))
 
 devices_text : (set : Set) (devices : List Device) (images : List Image) → text_of (devices_lines set devices images) ≡ texts.devices_lines set devices images
 devices_text set [] images = refl

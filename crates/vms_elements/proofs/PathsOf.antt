@@ -1,15 +1,15 @@
 -- The path of each number has its cell and names a field of its kind and default; and a path that has a cell is a number's.
 use Rattle.std.proofs.Common.{◌≡◌, ℕ, zero, suc, ◌+◌, ◌*◌, ◌<◌, ◌≤◌, List, [], ◌∷◌, ◌++◌, length, get_or, map, ℤ, refl, sym, ap, ◌∙◌, subst, arith, Bool, true, false, ◌&&◌, nat_lt, if◌then◌else◌, Option, Some, None}
-use Rattle.std.proofs.Common.{◌⊎◌, inl, inr}
+use Rattle.std.proofs.Common.{inl}
 use Rattle.std.proofs.lemmas.Bool.{ltb-true, ltb-false}
 use Rattle.vms_kinds.specs.declared.Kind.{Kind}
 use Rattle.vms_kinds.specs.declared.Item.{Item}
 use Rattle.vms_kinds.specs.declared.Item.TheVariants.{Num, Equal, Unused, Struct}
 use Rattle.vms_spec.specs.Lists.{at}
 use Rattle.vms_spec.specs.Sets.{Field, Desc, Set}
-use Rattle.vms_spec.specs.Layout.{Cell, no_desc, first, counted, capacity_of, item_size, field_cells, desc_cells, struct_cells, place_of, numbers_of, all_hold}
+use Rattle.vms_spec.specs.Layout.{Cell, no_desc, first, counted, capacity_of, item_size, field_cells, desc_cells, place_of, numbers_of, all_hold}
 use Rattle.vms_spec.specs.Places.{item_at, element_at, path_at}
-use Rattle.vms_elements.specs.Elements.{What, Element, Shape, no_shape, shape, shapes, cells_in, dotted, behind, single, Number, Constant, Filler, Rule, item_elements, Stand, stand_of, array_elements, field_elements, elements_from, desc_elements, index_text}
+use Rattle.vms_elements.specs.Elements.{What, Element, Shape, no_shape, shape, cells_in, dotted, behind, single, Number, Rule, item_elements, Stand, stand_of, array_elements, field_elements, elements_from, desc_elements, index_text}
 use Rattle.vms_elements.specs.Parts.{is_number, elements_in, inner_field, last_field, field_named, IsFieldOf}
 use Rattle.vms_elements.proofs.Tables.{first_at, first_long, shapes_cells}
 use Rattle.vms_elements.proofs.Members.{Each, each_append, each_map, Has, has_left, has_right, has_map}
@@ -50,7 +50,7 @@ module _ (set : Set) where
 
   -- ---- each number's path
 
-  abbrev Tells : ℕ → Desc → ℕ → Element → Type 0
+  abbrev pub Tells : ℕ → Desc → ℕ → Element → Type 0
   Tells below d base x = (cell : Cell) → x.what ≡ Number cell → (path_at set x.path below (Some d) base ≡ Some x.cell) × IsFieldOf cell (field_named set x.path (Some d))
 
   abbrev TellsItem : ℕ → Field → ℕ → Element → Type 0
@@ -68,21 +68,24 @@ module _ (set : Set) where
           → (item_at (into below p) p f.item place ≡ Some x.cell) × IsFieldOf cell (last_field (λ j. field_named set p (at set.structs j)) p (Some f))
       by_path [] (h, k) = absurd k
       by_path (step ∷ p) (h, k) = (
-          ap (λ (i : Item). item_at (into below (step ∷ p)) (step ∷ p) i place) is
-          ∙ ap (λ (b : Bool). if b then path_at set (step ∷ p) j (at set.structs j) place else None) lt
-          ∙ ap (λ (o : Option Desc). path_at set (step ∷ p) j o place) there ∙ h,
-          subst (λ (o : Option Field). IsFieldOf cell o)
-              (sym (ap (λ (i : Item). inner_field (λ j. field_named set (step ∷ p) (at set.structs j)) i) is ∙ ap (λ (o : Option Desc). field_named set (step ∷ p) o) there)) k)
+        ap (λ (i : Item). item_at (into below (step ∷ p)) (step ∷ p) i place) is
+            ∙ ap (λ (b : Bool). if b then path_at set (step ∷ p) j (at set.structs j) place else None) lt
+            ∙ ap (λ (o : Option Desc). path_at set (step ∷ p) j o place) there ∙ h,
+        subst (λ (o : Option Field). IsFieldOf cell o)
+            (sym (ap (λ (i : Item). inner_field (λ j. field_named set (step ∷ p) (at set.structs j)) i) is ∙ ap (λ (o : Option Desc). field_named set (step ∷ p) o) there)) k,
+      )
 
   num_tells : (below : ℕ) (f : Field) (caps : List ℕ) (place : ℕ) (kind : Kind) → f.item ≡ Num kind
       → TellsItem below f place (single place (Number (record { kind = kind; capacities = caps; default = f.default })))
   num_tells below f caps place kind is cell what = (
-      ap (λ (i : Item). item_at (into below []) [] i place) is,
-      (is ∙ ap (λ (w : What). Num (kind_of_what w)) what, ap default_of_what what))
+    ap (λ (i : Item). item_at (into below []) [] i place) is,
+    (is ∙ ap (λ (w : What). Num (kind_of_what w)) what, ap default_of_what what),
+  )
     where
       kind_of_what : What → Kind
       kind_of_what (Number c) = c.kind
       kind_of_what w = kind
+
       default_of_what : What → ℤ
       default_of_what (Number c) = c.default
       default_of_what w = f.default
@@ -96,14 +99,15 @@ module _ (set : Set) where
     where
       ss : List Shape
       ss = first shape set.structs below
+
       by_test : (b : Bool) → nat_lt j below ≡ b → Each (TellsItem below f place) (map dotted ((get_or ss j no_shape).elements n place))
       by_test true t =
           let lt : j < below = ltb-true j below t in
           let d = get_or set.structs j no_desc in
           let same : get_or ss j no_shape ≡ shape (first shape set.structs j) d = first_at shape set.structs no_shape below j lt in
           subst (λ (s : Shape). Each (TellsItem below f place) (map dotted (s.elements n place))) (sym same)
-              (each_map (Tells j d place) (TellsItem below f place) dotted (dotted_tells below f j place d is t (at_get set.structs j no_desc (omega arith)))
-                  (desc_elements (first shape set.structs j) d d.version n place) (earlier j lt d d.version n place))
+          (each_map (Tells j d place) (TellsItem below f place) dotted (dotted_tells below f j place d is t (at_get set.structs j no_desc (omega arith)))
+          (desc_elements (first shape set.structs j) d d.version n place) (earlier j lt d d.version n place))
       by_test false t =
           let le : below ≤ j = ltb-false j below t in
           let long : length ss ≡ below = first_long shape set.structs below in
@@ -117,9 +121,10 @@ module _ (set : Set) where
   behind_tells : (below : ℕ) (d : Desc) (base i e place : ℕ) (f : Field) (text : List ℕ) (c p : Bool) → at d.fields i ≡ Some f → nat_lt e (capacity_of f.count) ≡ true
       → place_of (sizes below) d.fields 0 base d.fields i + e * item_size (sizes below) f.item ≡ place → (x : Element) → TellsItem below f place x → Tells below d base (behind (i, e) text c p x)
   behind_tells below d base i e place f text c p there lt is x tells cell what =
-      let t = tells cell what in
-      (element_is (sizes below) d base i e place f (item_at (into below x.path) x.path) there lt is ∙ t.0,
-       subst (λ (o : Option Field). IsFieldOf cell (last_field (λ j. field_named set x.path (at set.structs j)) x.path o)) (sym there) t.1)
+      let t = tells cell what in (
+        element_is (sizes below) d base i e place f (item_at (into below x.path) x.path) there lt is ∙ t.0,
+        subst (λ (o : Option Field). IsFieldOf cell (last_field (λ j. field_named set x.path (at set.structs j)) x.path o)) (sym there) t.1,
+      )
 
   array_tells : (below : ℕ) (d : Desc) (base i : ℕ) (f : Field) (stand : Stand) (part : ℕ → List Element) (step : ℕ) → stand.number ≡ i → at d.fields i ≡ Some f
       → step ≡ item_size (sizes below) f.item → ((place : ℕ) → Each (TellsItem below f place) (part place))
@@ -129,13 +134,13 @@ module _ (set : Set) where
       let text = f.name ++ index_text f.count e in
       let b = nat_lt e stand.count in
       let here : place_of (sizes below) d.fields 0 base d.fields i + e * item_size (sizes below) f.item ≡ place =
-          ap (λ (s : ℕ). place_of (sizes below) d.fields 0 base d.fields i + e * s) (sym size) ∙ is in
+      ap (λ (s : ℕ). place_of (sizes below) d.fields 0 base d.fields i + e * s) (sym size) ∙ is in
       let next : suc e * step ≡ e * step + step = grind arith in
       each_append (Tells below d base) (map (behind (stand.number, e) text b (stand.there && b)) (part place)) (array_elements f stand part step (suc e) n (place + step))
-          (subst (λ (k : ℕ). Each (Tells below d base) (map (behind (k, e) text b (stand.there && b)) (part place))) (sym same)
-              (each_map (TellsItem below f place) (Tells below d base) (behind (i, e) text b (stand.there && b))
-                  (behind_tells below d base i e place f text b (stand.there && b) there (is_lt e (capacity_of f.count) (omega arith)) here) (part place) (h place)))
-          (array_tells below d base i f stand part step same there size h (suc e) n (place + step) (omega arith) (omega (arith, next, is)))
+      (subst (λ (k : ℕ). Each (Tells below d base) (map (behind (k, e) text b (stand.there && b)) (part place))) (sym same)
+      (each_map (TellsItem below f place) (Tells below d base) (behind (i, e) text b (stand.there && b))
+      (behind_tells below d base i e place f text b (stand.there && b) there (is_lt e (capacity_of f.count) (omega arith)) here) (part place) (h place)))
+      (array_tells below d base i f stand part step same there size h (suc e) n (place + step) (omega arith) (omega (arith, next, is)))
 
   -- the fields from i on are those of the description
   record Among (cs : List (List Cell)) (d : Desc) (base i place : ℕ) (fs : List Field) : Type 0 where
@@ -145,15 +150,15 @@ module _ (set : Set) where
   next_among : (cs : List (List Cell)) (d : Desc) (base i place : ℕ) (f : Field) (fs : List Field) → Among cs d base i place (f ∷ fs)
       → Among cs d base (suc i) (place + length (field_cells cs d.fields i f)) fs
   next_among cs d base i place f fs a = record {
-      stands = λ k. let e : suc i + k ≡ i + suc k = omega arith in ap (at d.fields) e ∙ a.stands (suc k);
-      places = λ k. let e : suc i + k ≡ i + suc k = omega arith in ap (place_of cs d.fields 0 base d.fields) e ∙ a.places (suc k);
-    }
+    stands = λ k. let e : suc i + k ≡ i + suc k = omega arith in ap (at d.fields) e ∙ a.stands (suc k);
+    places = λ k. let e : suc i + k ≡ i + suc k = omega arith in ap (place_of cs d.fields 0 base d.fields) e ∙ a.places (suc k);
+  }
 
   all_among : (cs : List (List Cell)) (d : Desc) (base : ℕ) → Among cs d base 0 base d.fields
   all_among cs d base = record {
-      stands = λ k. let e : 0 + k ≡ k = omega arith in ap (at d.fields) e;
-      places = λ k. let e : 0 + k ≡ k = omega arith in ap (place_of cs d.fields 0 base d.fields) e;
-    }
+    stands = λ k. let e : 0 + k ≡ k = omega arith in ap (at d.fields) e;
+    places = λ k. let e : 0 + k ≡ k = omega arith in ap (place_of cs d.fields 0 base d.fields) e;
+  }
 
   fields_tell : (below : ℕ) → below ≤ length set.structs → ((j : ℕ) → j < below → Complete j) → (d : Desc) (base v : ℕ) (own : ℕ → ℕ) (n : List ℤ) (i place : ℕ) (fs : List Field)
       → Among (sizes below) d base i place fs → Each (Tells below d base) (elements_from (first shape set.structs below) d.fields v own n i place fs)
@@ -166,18 +171,18 @@ module _ (set : Set) where
       let none : 0 * item_size (cells_in ss) f.item ≡ 0 = grind arith in
       let here : place_of (sizes below) d.fields 0 base d.fields i ≡ place = ap (place_of (sizes below) d.fields 0 base d.fields) (sym zero_more) ∙ a.places 0 in
       each_append (Tells below d base) (field_elements ss d.fields v own n i place f) (elements_from ss d.fields v own n (suc i) (place + length (field_cells (cells_in ss) d.fields i f)) fs)
-          (array_tells below d base i f (stand_of i f v own) (item_elements ss f.item caps f.default n) (item_size (cells_in ss) f.item) refl
-              (ap (at d.fields) (sym zero_more) ∙ a.stands 0) (ap (λ (cs : List (List Cell)). item_size cs f.item) cells)
-              (λ p. item_tells below le earlier f caps n p f.item refl) 0 (capacity_of f.count) place (omega arith) (omega (arith, none, here)))
-          (fields_tell below le earlier d base v own n (suc i) (place + length (field_cells (cells_in ss) d.fields i f)) fs
-              (subst (λ (cs : List (List Cell)). Among (sizes below) d base (suc i) (place + length (field_cells cs d.fields i f)) fs) (sym cells) (next_among (sizes below) d base i place f fs a)))
+      (array_tells below d base i f (stand_of i f v own) (item_elements ss f.item caps f.default n) (item_size (cells_in ss) f.item) refl
+      (ap (at d.fields) (sym zero_more) ∙ a.stands 0) (ap (λ (cs : List (List Cell)). item_size cs f.item) cells)
+      (λ p. item_tells below le earlier f caps n p f.item refl) 0 (capacity_of f.count) place (omega arith) (omega (arith, none, here)))
+      (fields_tell below le earlier d base v own n (suc i) (place + length (field_cells (cells_in ss) d.fields i f)) fs
+      (subst (λ (cs : List (List Cell)). Among (sizes below) d base (suc i) (place + length (field_cells cs d.fields i f)) fs) (sym cells) (next_among (sizes below) d base i place f fs a)))
 
   desc_tells : (below : ℕ) → below ≤ length set.structs → ((j : ℕ) → j < below → Complete j) → Complete below
   desc_tells below le earlier d v n base =
       let ss = first shape set.structs below in
       let own = numbers_of (cells_in ss) d n base in
       each_append (Tells below d base) (elements_from ss d.fields v own n 0 base d.fields) (single (base + length (desc_cells (cells_in ss) d)) (Rule (all_hold d.validate v own)) ∷ [])
-          (fields_tell below le earlier d base v own n 0 base d.fields (all_among (sizes below) d base)) (λ cell what. cc, tt)
+      (fields_tell below le earlier d base v own n 0 base d.fields (all_among (sizes below) d base)) (λ cell what. cc, tt)
 
   up_to : (most below : ℕ) → below ≤ most → below ≤ length set.structs → Complete below
   up_to zero below le few = desc_tells below few (λ j lt. absurd (omega arith))
@@ -204,17 +209,17 @@ module _ (set : Set) where
       let one : e + 0 ≡ e = omega arith in
       let none : place + 0 * step ≡ place = grind arith in
       has_left (IsAt ((i, e + 0) ∷ path) c) (map (behind (stand.number, e) text b (stand.there && b)) (part place)) (array_elements f stand part step (suc e) n (place + step))
-          (has_map (IsAt path c) (IsAt ((i, e + 0) ∷ path) c) (behind (stand.number, e) text b (stand.there && b))
-              (λ x p. (ap (λ (q : List (ℕ × ℕ)). (stand.number, e) ∷ q) p.0 ∙ ap (λ (q : ℕ). (q, e) ∷ path) same ∙ ap (λ (q : ℕ). (i, q) ∷ path) (sym one), p.1, p.2))
-              (part place) (subst (λ (q : ℕ). Has (IsAt path c) (part q)) none h))
+      (has_map (IsAt path c) (IsAt ((i, e + 0) ∷ path) c) (behind (stand.number, e) text b (stand.there && b))
+      (λ x p. (ap (λ (q : List (ℕ × ℕ)). (stand.number, e) ∷ q) p.0 ∙ ap (λ (q : ℕ). (q, e) ∷ path) same ∙ ap (λ (q : ℕ). (i, q) ∷ path) (sym one), p.1, p.2))
+      (part place) (subst (λ (q : ℕ). Has (IsAt path c) (part q)) none h))
   in_array f stand part step i path c same e (suc n) place (suc k) lt h =
       let text = f.name ++ index_text f.count e in
       let b = nat_lt e stand.count in
       let index : suc e + k ≡ e + suc k = omega arith in
       let next : place + suc k * step ≡ (place + step) + k * step = grind arith in
       has_right (IsAt ((i, e + suc k) ∷ path) c) (map (behind (stand.number, e) text b (stand.there && b)) (part place)) (array_elements f stand part step (suc e) n (place + step))
-          (subst (λ (q : ℕ). Has (IsAt ((i, q) ∷ path) c) (array_elements f stand part step (suc e) n (place + step))) index
-              (in_array f stand part step i path c same (suc e) n (place + step) k (omega arith) (subst (λ (q : ℕ). Has (IsAt path c) (part q)) next h)))
+      (subst (λ (q : ℕ). Has (IsAt ((i, q) ∷ path) c) (array_elements f stand part step (suc e) n (place + step))) index
+      (in_array f stand part step i path c same (suc e) n (place + step) k (omega arith) (subst (λ (q : ℕ). Has (IsAt path c) (part q)) next h)))
 
   in_fields : (ss : List Shape) (fields : List Field) (v : ℕ) (own : ℕ → ℕ) (n : List ℤ) (path : List (ℕ × ℕ)) (c e : ℕ) (f : Field)
       → e < capacity_of f.count → (i place : ℕ) (fs : List Field) (k : ℕ) → at fs k ≡ Some f
@@ -227,18 +232,18 @@ module _ (set : Set) where
       let first : 0 + e ≡ e = omega arith in
       let size = item_size (cells_in ss) g.item in
       has_left (IsAt ((i + 0, e) ∷ path) c) (field_elements ss fields v own n i place g) (elements_from ss fields v own n (suc i) (place + length (field_cells (cells_in ss) fields i g)) fs)
-          (subst (λ (q : ℕ). Has (IsAt ((i + 0, q) ∷ path) c) (field_elements ss fields v own n i place g)) first
-              (in_array g (stand_of i g v own) (item_elements ss g.item (counted i fields) g.default n) size (i + 0) path c (sym none) 0 (capacity_of g.count) place e
-                  (subst (λ (x : Field). e < capacity_of x.count) (sym same) lt)
-                  (subst (λ (q : ℕ). Has (IsAt path c) (item_elements ss g.item (counted q fields) g.default n (place + e * size))) none
-                      (subst (λ (x : Field). Has (IsAt path c) (item_elements ss x.item (counted (i + 0) fields) x.default n (place + e * item_size (cells_in ss) x.item))) (sym same) h))))
+      (subst (λ (q : ℕ). Has (IsAt ((i + 0, q) ∷ path) c) (field_elements ss fields v own n i place g)) first
+      (in_array g (stand_of i g v own) (item_elements ss g.item (counted i fields) g.default n) size (i + 0) path c (sym none) 0 (capacity_of g.count) place e
+      (subst (λ (x : Field). e < capacity_of x.count) (sym same) lt)
+      (subst (λ (q : ℕ). Has (IsAt path c) (item_elements ss g.item (counted q fields) g.default n (place + e * size))) none
+      (subst (λ (x : Field). Has (IsAt path c) (item_elements ss x.item (counted (i + 0) fields) x.default n (place + e * item_size (cells_in ss) x.item))) (sym same) h))))
   in_fields ss fields v own n path c e f lt i place (g ∷ fs) (suc k) there h =
       let index : suc i + k ≡ i + suc k = omega arith in
       let next = place + length (field_cells (cells_in ss) fields i g) in
       has_right (IsAt ((i + suc k, e) ∷ path) c) (field_elements ss fields v own n i place g) (elements_from ss fields v own n (suc i) next fs)
-          (subst (λ (q : ℕ). Has (IsAt ((q, e) ∷ path) c) (elements_from ss fields v own n (suc i) next fs)) index
-              (in_fields ss fields v own n path c e f lt (suc i) next fs k there
-                  (subst (λ (q : ℕ). Has (IsAt path c) (item_elements ss f.item (counted q fields) f.default n (place_of (cells_in ss) fields (suc i) next fs k + e * item_size (cells_in ss) f.item))) (sym index) h)))
+      (subst (λ (q : ℕ). Has (IsAt ((q, e) ∷ path) c) (elements_from ss fields v own n (suc i) next fs)) index
+      (in_fields ss fields v own n path c e f lt (suc i) next fs k there
+      (subst (λ (q : ℕ). Has (IsAt path c) (item_elements ss f.item (counted q fields) f.default n (place_of (cells_in ss) fields (suc i) next fs k + e * item_size (cells_in ss) f.item))) (sym index) h)))
 
   in_item : (path : List (ℕ × ℕ)) → Sound path → (below : ℕ) → below ≤ length set.structs → (item : Item) (caps : List ℕ) (z : ℤ) (n : List ℤ) (place c : ℕ)
       → item_at (into below path) path item place ≡ Some c → Has (IsAt path c) (item_elements (first shape set.structs below) item caps z n place)
@@ -253,8 +258,10 @@ module _ (set : Set) where
     where
       ss : List Shape
       ss = first shape set.structs below
+
       d : Desc
       d = get_or set.structs j no_desc
+
       by_test : (b : Bool) → nat_lt j below ≡ b → (if b then path_at set (s ∷ path) j (at set.structs j) place else None) ≡ Some c
           → Has (IsAt (s ∷ path) c) (map dotted ((get_or ss j no_shape).elements n place))
       by_test false t h = cc
@@ -263,8 +270,8 @@ module _ (set : Set) where
           let same : get_or ss j no_shape ≡ shape (first shape set.structs j) d = first_at shape set.structs no_shape below j lt in
           let there = at_get set.structs j no_desc (omega arith) in
           subst (λ (q : Shape). Has (IsAt (s ∷ path) c) (map dotted (q.elements n place))) (sym same)
-              (has_map (IsAt (s ∷ path) c) (IsAt (s ∷ path) c) dotted (λ x p. p) (desc_elements (first shape set.structs j) d d.version n place)
-                  (sound j d place c (omega arith) (ap (λ (o : Option Desc). path_at set (s ∷ path) j o place) (sym there) ∙ h) d.version n))
+          (has_map (IsAt (s ∷ path) c) (IsAt (s ∷ path) c) dotted (λ x p. p) (desc_elements (first shape set.structs j) d d.version n place)
+          (sound j d place c (omega arith) (ap (λ (o : Option Desc). path_at set (s ∷ path) j o place) (sym there) ∙ h) d.version n))
 
   in_desc : (path : List (ℕ × ℕ)) → Sound path → (below : ℕ) → below ≤ length set.structs → (d : Desc) (base i e c : ℕ) (o : Option Field) → at d.fields i ≡ o
       → element_at (sizes below) d base i e o (item_at (into below path) path) ≡ Some c
@@ -274,10 +281,13 @@ module _ (set : Set) where
     where
       ss : List Shape
       ss = first shape set.structs below
+
       own : ℕ → ℕ
       own = numbers_of (cells_in ss) d n base
+
       cells : cells_in ss ≡ sizes below
       cells = shapes_cells set.structs below
+
       by_test : (b : Bool) → nat_lt e (capacity_of f.count) ≡ b
           → (if b then item_at (into below path) path f.item (place_of (sizes below) d.fields 0 base d.fields i + e * item_size (sizes below) f.item) else None) ≡ Some c
           → Has (IsAt ((i, e) ∷ path) c) (desc_elements ss d v n base)
@@ -285,10 +295,10 @@ module _ (set : Set) where
       by_test true t h =
           let zero_more : 0 + i ≡ i = omega arith in
           has_left (IsAt ((i, e) ∷ path) c) (elements_from ss d.fields v own n 0 base d.fields) (single (base + length (desc_cells (cells_in ss) d)) (Rule (all_hold d.validate v own)) ∷ [])
-              (subst (λ (q : ℕ). Has (IsAt ((q, e) ∷ path) c) (elements_from ss d.fields v own n 0 base d.fields)) zero_more
-                  (in_fields ss d.fields v own n path c e f (ltb-true e (capacity_of f.count) t) 0 base d.fields i there
-                      (subst (λ (cs : List (List Cell)). Has (IsAt path c) (item_elements ss f.item (counted (0 + i) d.fields) f.default n (place_of cs d.fields 0 base d.fields i + e * item_size cs f.item))) (sym cells)
-                          (in_item path sound below few f.item (counted (0 + i) d.fields) f.default n (place_of (sizes below) d.fields 0 base d.fields i + e * item_size (sizes below) f.item) c h))))
+          (subst (λ (q : ℕ). Has (IsAt ((q, e) ∷ path) c) (elements_from ss d.fields v own n 0 base d.fields)) zero_more
+          (in_fields ss d.fields v own n path c e f (ltb-true e (capacity_of f.count) t) 0 base d.fields i there
+          (subst (λ (cs : List (List Cell)). Has (IsAt path c) (item_elements ss f.item (counted (0 + i) d.fields) f.default n (place_of cs d.fields 0 base d.fields i + e * item_size cs f.item))) (sym cells)
+          (in_item path sound below few f.item (counted (0 + i) d.fields) f.default n (place_of (sizes below) d.fields 0 base d.fields i + e * item_size (sizes below) f.item) c h))))
 
   sound : (path : List (ℕ × ℕ)) → Sound path
   sound [] below d base c few h v n = cc

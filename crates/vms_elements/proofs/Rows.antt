@@ -1,15 +1,13 @@
 -- The elements of the worked sets, and what is read off them.
-use Rattle.std.proofs.Common.{◌≡◌, ℕ, Bool, true, false, List, [], ◌∷◌, ◌++◌, Some, None, pos, negsuc, refl, map, codes, ℤ}
+use Rattle.std.proofs.Common.{◌≡◌, ℕ, List, [], ◌∷◌, Some, None, pos, negsuc, refl, codes, ℤ}
 use Rattle.std.specs.Fmt.{digits}
-use Rattle.vms_spec.specs.Layout.{first, Number, Constant, Filler, Rule, device_cells}
-use Rattle.vms_spec.specs.Sets.{Set, Device, Desc}
-use Rattle.vms_spec.specs.Images.{Image, default_image, image_slots}
+use Rattle.vms_spec.specs.Layout.{first}
+use Rattle.vms_spec.specs.Sets.{Set, Device}
+use Rattle.vms_spec.specs.Images.{Image}
 use Rattle.vms_spec.specs.Values.{values_text}
-use Rattle.vms_spec.specs.Shipped.{set_0, set_3}
-use Rattle.vms_spec.proofs.Rows.{lines}
 use Rattle.vms_spec.proofs.Boxes.{counted_set, constant_set, subsection_set, tested_set, empty_set, mixed_set}
 use Rattle.vms_elements.specs.Elements.{Element}
-use Rattle.vms_elements.specs.Parts.{cells_of, slots_of, numbers_in, device_elements}
+use Rattle.vms_elements.specs.Parts.{device_elements}
 use Rattle.vms_elements.specs.Lines.{text_of, values_lines}
 
 abbrev elements : Device → Set → Image → List Element

@@ -1,5 +1,5 @@
 -- The elements that stand in the bytes are the slots.
-use Rattle.std.proofs.Common.{◌≡◌, ℕ, zero, suc, ◌+◌, ◌<◌, ◌≤◌, List, [], ◌∷◌, ◌++◌, length, get_or, map, ℤ, refl, sym, ap, ◌∙◌, arith, Bool, true, false, ◌&&◌, nat_lt, if◌then◌else◌, append-nil}
+use Rattle.std.proofs.Common.{◌≡◌, ℕ, zero, suc, ◌+◌, ◌<◌, ◌≤◌, List, [], ◌∷◌, ◌++◌, length, get_or, map, ℤ, refl, sym, ap, ◌∙◌, arith, Bool, true, false, ◌&&◌, nat_lt, if◌then◌else◌}
 use Rattle.std.proofs.lemmas.Bool.{ltb-true, ltb-false}
 use Rattle.std.proofs.lemmas.List.{map-append}
 use Rattle.vms_kinds.specs.declared.Item.{Item}
@@ -9,7 +9,7 @@ use Rattle.vms_spec.specs.Tests.{is_there}
 use Rattle.vms_spec.specs.Layout.{Cell, Slot, Meaning, no_meaning, no_desc, first, times, counted, capacity_of, elements_of, item_cells, item_size, item_slots, field_cells, field_slots, slots_from, desc_slots, desc_cells, numbers_of, all_hold, no_parent, meaning, meanings}
 use Rattle.vms_spec.specs.Layout as slots
 use Rattle.vms_spec.proofs.Sizes.{elements_fit}
-use Rattle.vms_elements.specs.Elements.{What, Element, Shape, no_shape, shape, shapes, cells_in, dotted, behind, single, Rule, item_elements, Stand, stand_of, array_elements, field_elements, elements_from, desc_elements, index_text}
+use Rattle.vms_elements.specs.Elements.{Element, Shape, no_shape, shape, shapes, cells_in, dotted, behind, single, Rule, item_elements, Stand, stand_of, array_elements, field_elements, elements_from, desc_elements, index_text}
 use Rattle.vms_elements.specs.Parts.{slot_of, slots_of, elements_in}
 use Rattle.vms_elements.proofs.Tables.{both, two_more, first_long, shapes_cells}
 
@@ -96,7 +96,7 @@ array_slots f stand part slots h step e (suc n) (suc m) at c le =
     ∙ ap (λ (l : List Slot). l ++ slots_of later) (slots_behind (stand.number, e) text below (stand.there && below) (part at))
     ∙ ap (λ (l : List Slot). (if stand.there && below then l else []) ++ slots_of later) (h at)
     ∙ pick_on stand.there below (below_true e m stand.count c) (slots at) (times m slots (at + step) step) (slots_of later)
-        (array_slots f stand part slots h step (suc e) n m (at + step) (omega (arith, c)) (omega arith))
+    (array_slots f stand part slots h step (suc e) n m (at + step) (omega (arith, c)) (omega arith))
 array_slots f stand part slots h step e (suc n) zero at c le = past_count f stand part step e (suc n) at (omega (arith, c)) ∙ either_way stand.there
 
 -- ---- structures: what they mean as elements and as slots
@@ -117,7 +117,7 @@ module _ (ss : List Shape) (ms : List Meaning) (cells : cells_in ss ≡ meant_ce
   pub field_meant : (fields : List Field) (v : ℕ) (own : ℕ → ℕ) (n : List ℤ) (i at : ℕ) (f : Field) → slots_of (field_elements ss fields v own n i at f) ≡ field_slots ms fields v own n i at f
   field_meant fields v own n i at f =
       array_slots f (stand_of i f v own) (item_elements ss f.item (counted i fields) f.default n) (item_slots ms f.item (counted i fields) n)
-          (λ a. item_meant f.item (counted i fields) f.default n a) (item_size (cells_in ss) f.item) 0 (capacity_of f.count) (elements_of f.count own) at (omega arith) (elements_fit f.count own)
+      (λ a. item_meant f.item (counted i fields) f.default n a) (item_size (cells_in ss) f.item) 0 (capacity_of f.count) (elements_of f.count own) at (omega arith) (elements_fit f.count own)
       ∙ ap (λ (cs : List (List Cell)). if is_there f.test f.since v own no_parent then times (elements_of f.count own) (item_slots ms f.item (counted i fields) n) at (item_size cs f.item) else []) cells
 
   pub fields_meant : (fields : List Field) (v : ℕ) (own : ℕ → ℕ) (n : List ℤ) (i at : ℕ) (fs : List Field) → slots_of (elements_from ss fields v own n i at fs) ≡ slots_from ms fields v own n i at fs
@@ -153,8 +153,8 @@ are_meant ds (suc k) j n at =
     let ms = meanings ds k in
     let d = get_or ds k no_desc in
     two_more (λ (s : Shape) (m : Meaning). (n : List ℤ) (at : ℕ) → slots_of (s.elements n at) ≡ m.slots n at) no_shape no_meaning (λ n at. refl) ss ms
-        (first_long shape ds k ∙ sym (first_long meaning ds k)) (are_meant ds k) (shape ss d) (meaning ms d)
-        (λ n at. desc_meant ss ms (same_cells ds k) (are_meant ds k) d d.version n at) j n at
+    (first_long shape ds k ∙ sym (first_long meaning ds k)) (are_meant ds k) (shape ss d) (meaning ms d)
+    (λ n at. desc_meant ss ms (same_cells ds k) (are_meant ds k) d d.version n at) j n at
 
 pub elements_slots : (set : Set) (d : Desc) (v : ℕ) (n : List ℤ) (at : ℕ) → slots_of (elements_in set d v n at) ≡ desc_slots (meanings set.structs (length set.structs)) d v n at
 elements_slots set d v n at =

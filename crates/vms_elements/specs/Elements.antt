@@ -95,7 +95,7 @@ stand_of i f v own = record { number = i; count = elements_of f.count own; there
 abbrev pub field_elements : List Shape → List Field → ℕ → (ℕ → ℕ) → List ℤ → ℕ → ℕ → Field → List Element
 field_elements shapes fields v own numbers i at f =
     array_elements f (stand_of i f v own) (item_elements shapes f.item (counted i fields) f.default numbers)
-        (item_size (cells_in shapes) f.item) 0 (capacity_of f.count) at
+    (item_size (cells_in shapes) f.item) 0 (capacity_of f.count) at
 
 -- those of the fields from i on, the first of which begins at a place
 abbrev pub elements_from : List Shape → List Field → ℕ → (ℕ → ℕ) → List ℤ → ℕ → ℕ → List Field → List Element

@@ -1,6 +1,6 @@
 -- The values text as a list of lines, each without its line feed: one for the machine if one is named, and for each device one, one
 -- for each number that is counted, and the same for each of its subsections.
-use Rattle.std.specs.Prelude.{ℕ, zero, suc, ◌+◌, ◌&&◌, if◌then◌else◌, List, [], ◌∷◌, ◌++◌, length, get_or, map, Option, Some, None, ℤ, pos, codes}
+use Rattle.std.specs.Prelude.{ℕ, ◌+◌, ◌&&◌, if◌then◌else◌, List, [], ◌∷◌, ◌++◌, length, get_or, map, Option, Some, None, ℤ, pos, codes}
 use Rattle.std.specs.Fmt.{decimal, signed_decimal}
 use Rattle.vms_spec.specs.Sets.{Desc, Sub, Device, Set}
 use Rattle.vms_spec.specs.Layout.{desc_cells, struct_cells}
