@@ -2,7 +2,10 @@
 #![tactic(auto)]
 
 mod built;
+mod devices;
 mod entry;
 mod fields;
+mod tree;
 
+pub use tree::describe;
 pub use vms_io::NoMemory;
