@@ -1,0 +1,167 @@
+use Rattle.std.proofs.Common.{rules, arith, refl, sym, ap, ◌∙◌, subst, ◌≡◌, ℕ, ◌+◌, ◌*◌, ◌-◌, ◌<◌, ◌≤◌, List, ◌++◌, length, get_or, map, drop, OnOk, string_bytes}
+use Rattle.vms_spec.specs.declared.Part.TheVariants as parts
+use Rattle.vms_spec.specs.Sets.{Field, Desc}
+use Rattle.vms_spec.specs.Layout.{item_size, struct_cells, capacity_of}
+use Rattle.vms_spec.proofs.Sizes.{elements_fit}
+use Rattle.vms_parts.specs.Views.{field_of}
+use Rattle.vms_desc.specs.Asks.{field_at, own_numbers}
+use Rattle.vms_desc.specs.Described.{described}
+use Rattle.vms_desc.specs.Parts.{desc_at}
+use Rattle.vms_desc.proofs.AskLaws.{found_field}
+use Rattle.vms_selfdesc.specs.Entries.{Entry, listers, element_path, element_entries, entries_from}
+use Rattle.vms_selfdesc.specs.Listing.{Adds, item_list, elements_list, field_list, part_list}
+use Rattle.vms_selfdesc.proofs.Listed.{leaves_rest, elements_next, next_element, fields_next, field_room}
+use Rattle.vms_selfdesc.proofs.FieldNeeds.{field_needs, some_elements, field_many, struct_place, struct_lower, struct_list, width_code}
+use Rattle.vms_selfdesc.proofs.fields.+list.Goals as goal
+
+-- ---- one element
+
+pub list_item-list_part-requires : goal.list_item-list_part-requires
+list_item-list_part-requires t c =
+    let set = described c.args.lister.now.set.now in
+    let well = c.args.lister.now.set.now.well_formed in
+    let item = c.args.field.now.item in
+    let j = c.in-Struct.number in
+    let lower = struct_lower set well item j c.in-Struct.is c.requires.reaches in
+    let place = struct_place set well item j c.in-Struct.is c.requires.reaches c.args.lister.now.image.now.numbers c.args.place.cell c.requires.few c.requires.room in
+    (search rules, place)
+
+pub list_item-returns-in_ok-push_str-in-Struct : goal.list_item-returns-in_ok-push_str-in-Struct
+list_item-returns-in_ok-push_str-in-Struct t c =
+    let set = described c.args.lister.now.set.now in
+    let well = c.args.lister.now.set.now.well_formed in
+    let item = c.args.field.now.item in
+    let j = c.in-Struct.number in
+    let n = c.args.lister.now.image.now.numbers in
+    let same = struct_list set well item j c.in-Struct.is c.requires.reaches c.args.field.now.default c.args.place.sent (string_bytes c.args.place.path) (string_bytes c.push_str.new.self) n c.args.place.cell c.in_ok-push_str-in-Struct.ensures.bytes in
+    subst (λ (l : List Entry). OnOk c.list_part.result (Adds c.args.list.now.items c.list_part.new.list.items l)) same c.list_part.ensures
+
+-- ---- elements
+
+pub list_elements-loop-number-preserved : goal.list_elements-loop-number-preserved
+list_elements-loop-number-preserved t c =
+    let set = described c.args.lister.now.set.now in
+    let f = field_of c.args.field.now in
+    let n = c.args.lister.now.image.now.numbers in
+    let path = string_bytes c.args.place.path in
+    let size = item_size (struct_cells set) f.item in
+    let one = item_list set f c.args.place.sent n in
+    let i = c.loop-number.number in
+    let inv = c.loop-number.invariant in
+    let width : c.item_cells-size.result ≡ size = omega (arith, c.item_cells-size.ensures, c.requires.small) in
+    let moved : c.loop-number.cell + c.item_cells-size.result ≡ c.loop-number.cell + size = omega (arith, width) in
+    record {
+      adds = leaves_rest c.args.list.now.items c.loop-number.list.items c.list_item.new.list.items
+          (elements_list set f c.args.place.sent n path c.args.place.cell c.args.count)
+          (element_entries one path c.loop-number.cell size i (c.args.count - i))
+          (one (element_path path i) c.loop-number.cell)
+          (element_entries one path (c.loop-number.cell + c.item_cells-size.result) size (i + 1) (c.args.count - (i + 1)))
+          (elements_next one path c.loop-number.cell size i c.args.count c.loop-number-test.true
+          ∙ ap (λ (x : ℕ). one (element_path path i) c.loop-number.cell ++ element_entries one path x size (i + 1) (c.args.count - (i + 1))) (sym moved))
+          inv.adds
+          (subst (λ (p : List ℕ). Adds c.loop-number.list.items c.list_item.new.list.items (one p c.loop-number.cell))
+          (c.in_ok-element_path.ensures ∙ ap (λ (p : List ℕ). element_path p i) c.as_str.ensures.value) c.in_ok-list_item.ensures);
+      here = moved ∙ next_element size c.args.place.cell i c.loop-number.cell inv.here;
+    }
+
+-- ---- one field
+
+pub list_field-list_item-requires : goal.list_field-list_item-requires
+list_field-list_item-requires t c =
+    let set = described c.args.lister.now.set.now in
+    let well = c.args.lister.now.set.now.well_formed in
+    let part = c.args.part in
+    let k = c.args.at.field in
+    let f = c.index-as_slice-at.result in
+    let n = c.args.lister.now.image.now.numbers in
+    let fields = ap (map field_of) c.as_slice.ensures ∙ ap (λ (d : Desc). d.fields) c.desc.ensures in
+    let is : field_of f ≡ field_at set part k = found_field c.as_slice.result.now (desc_at set part).fields k f fields c.requires.field c.index-as_slice-at.is in
+    let needs = field_needs set well part c.args.within.now.cell n c.requires.place k c.args.at.cell 1 (field_of f) c.requires.field is
+    (some_elements set well part c.args.within.now.cell n c.requires.place k c.requires.field) c.requires.room in
+    let lower = needs.lower in
+    (search rules, needs.elements)
+
+pub list_field-list_elements-requires : goal.list_field-list_elements-requires
+list_field-list_elements-requires t c =
+    let set = described c.args.lister.now.set.now in
+    let well = c.args.lister.now.set.now.well_formed in
+    let part = c.args.part in
+    let k = c.args.at.field in
+    let f = c.index-as_slice-at.result in
+    let n = c.args.lister.now.image.now.numbers in
+    let fields = ap (map field_of) c.as_slice.ensures ∙ ap (λ (d : Desc). d.fields) c.desc.ensures in
+    let is : field_of f ≡ field_at set part k = found_field c.as_slice.result.now (desc_at set part).fields k f fields c.requires.field c.index-as_slice-at.is in
+    let fewer = elements_fit (field_at set part k).count (own_numbers set part n c.args.within.now.cell) in
+    let needs = field_needs set well part c.args.within.now.cell n c.requires.place k c.args.at.cell c.elements-count.result (field_of f) c.requires.field is
+    (omega (arith, fewer, c.elements-count.ensures)) c.requires.room in
+    let lower = needs.lower in
+    (search rules, needs.elements)
+
+pub list_field-returns-in_default : goal.list_field-returns-in_default
+list_field-returns-in_default t c =
+    let set = described c.args.lister.now.set.now in
+    let part = c.args.part in
+    let k = c.args.at.field in
+    let f = c.index-as_slice-at.result in
+    let n = c.args.lister.now.image.now.numbers in
+    let fields = ap (map field_of) c.as_slice.ensures ∙ ap (λ (d : Desc). d.fields) c.desc.ensures in
+    let is : field_of f ≡ field_at set part k = found_field c.as_slice.result.now (desc_at set part).fields k f fields c.requires.field c.index-as_slice-at.is in
+    let same = field_many set part c.args.within.now.cell k c.args.within.now.sent n (string_bytes c.args.within.now.path) c.args.at.cell (field_of f) c.is_sent.result
+    (string_bytes c.in_ok-field_path.field-0) c.elements-count.result is c.is_sent.ensures
+    (c.in_ok-field_path.ensures ∙ ap (λ (p : List ℕ). p ++ c.as_str-2.result.now) c.as_str.ensures.value ∙ ap (λ (name : List ℕ). string_bytes c.args.within.now.path ++ name) c.as_str-2.ensures)
+    c.elements-count.ensures c.in_default.not-One in
+    subst (λ (l : List Entry). OnOk c.list_elements.result (Adds c.args.list.now.items c.list_elements.new.list.items l)) same c.list_elements.ensures
+
+-- ---- the fields of a part
+
+pub list_part-list_field-requires : goal.list_part-list_field-requires
+list_part-list_field-requires t c =
+    let set = described c.args.lister.now.set.now in
+    let n = c.args.lister.now.image.now.numbers in
+    let fs = (desc_at set c.args.part).fields in
+    let k = c.loop-field.field in
+    let lt : k < length fs = omega (arith, c.field_count-field-end.ensures) in
+    let room = field_room (struct_cells set) fs k c.loop-field.cell (length n) lt c.loop-field.invariant.room in
+    (search rules, (c.requires, (lt, room.here)))
+
+pub list_part-overflow_add-cell : goal.list_part-overflow_add-cell
+list_part-overflow_add-cell t c =
+    let set = described c.args.lister.now.set.now in
+    let n = c.args.lister.now.image.now.numbers in
+    let fs = (desc_at set c.args.part).fields in
+    let k = c.loop-field.field in
+    let lt : k < length fs = omega (arith, c.field_count-field-end.ensures) in
+    let f = field_at set c.args.part k in
+    let w = capacity_of f.count * item_size (struct_cells set) f.item in
+    let room = field_room (struct_cells set) fs k c.loop-field.cell (length n) lt c.loop-field.invariant.room in
+    let width = width_code c.field_cells-cell.result w c.loop-field.cell (length n) c.field_cells-cell.ensures room.here c.requires.few in
+    omega (arith, width, room.here, c.requires.few)
+
+pub list_part-loop-field-preserved : goal.list_part-loop-field-preserved
+list_part-loop-field-preserved t c =
+    let set = described c.args.lister.now.set.now in
+    let n = c.args.lister.now.image.now.numbers in
+    let part = c.args.part in
+    let d = desc_at set part in
+    let k = c.loop-field.field in
+    let cell = c.loop-field.cell in
+    let path = string_bytes c.args.place.path in
+    let lt : k < length d.fields = omega (arith, c.field_count-field-end.ensures) in
+    let f = field_at set part k in
+    let w = capacity_of f.count * item_size (struct_cells set) f.item in
+    let own = own_numbers set part n c.args.place.cell in
+    let room = field_room (struct_cells set) d.fields k cell (length n) lt c.loop-field.invariant.room in
+    let width = width_code c.field_cells-cell.result w cell (length n) c.field_cells-cell.ensures room.here c.requires.few in
+    let moved : cell + c.field_cells-cell.result ≡ cell + w = omega (arith, width) in
+    let left = λ (x : ℕ). entries_from (struct_cells set) (listers set) d.version own c.args.place.sent path n x (drop (k + 1) d.fields) in
+    record {
+      adds = leaves_rest c.args.list.now.items c.loop-field.list.items c.list_field.new.list.items
+          (part_list set part c.args.place.sent n path c.args.place.cell)
+          (entries_from (struct_cells set) (listers set) d.version own c.args.place.sent path n cell (drop k d.fields))
+          (field_list set part c.args.place.cell k c.args.place.sent n path cell)
+          (left (cell + c.field_cells-cell.result))
+          (fields_next (struct_cells set) (listers set) d.version own c.args.place.sent path n cell k d.fields lt
+          ∙ ap (λ (x : ℕ). field_list set part c.args.place.cell k c.args.place.sent n path cell ++ left x) (sym moved))
+          c.loop-field.invariant.adds c.in_ok-list_field.ensures;
+      room = omega (arith, moved, room.later);
+    }

@@ -1,0 +1,48 @@
+use Rattle.std.proofs.Common.{◌≡◌, ◌≤◌, ◌+◌, ◌-◌, ◌*◌, length, drop, string_bytes}
+use Rattle.vms_spec.specs.Layout.{item_size, cells_from, struct_cells}
+use Rattle.vms_parts.specs.Views.{field_of}
+use Rattle.vms_desc.specs.Asks.{own_numbers}
+use Rattle.vms_desc.specs.Described.{described}
+use Rattle.vms_desc.specs.Parts.{desc_at}
+use Rattle.vms_selfdesc.specs.Entries.{element_entries, entries_from, listers}
+use Rattle.vms_selfdesc.specs.Listing.{item_list, elements_list, part_list}
+use Rattle.vms_selfdesc.proofs.Listed.{Leaves}
+use Rattle.vms_selfdesc.proofs.Ranks.{item_rank, part_rank}
+use Rattle.vms_selfdesc.proofs.fields.+list.Given as goal
+
+abbrev pub decreases-list_item : goal.decreases-list_item
+decreases-list_item l = item_rank l.field.now.item
+
+abbrev pub decreases-list_elements : goal.decreases-list_elements
+decreases-list_elements l = item_rank l.field.now.item + 1
+
+abbrev pub decreases-list_field : goal.decreases-list_field
+decreases-list_field l = part_rank (described l.lister.now.set.now) l.part + 2
+
+abbrev pub decreases-list_part : goal.decreases-list_part
+decreases-list_part l = part_rank (described l.lister.now.set.now) l.part + 3
+
+abbrev pub invariant-list_elements-loop-number : goal.invariant-list_elements-loop-number
+invariant-list_elements-loop-number l =
+    let set = described l.lister.set.now in
+    let f = field_of l.field in
+    let n = l.lister.image.now.numbers in
+    let path = string_bytes l.place.path in
+    let size = item_size (struct_cells set) f.item in
+    record {
+      adds : Leaves l.initial.list.items l.list.items (elements_list set f l.place.sent n path l.place.cell l.count)
+          (element_entries (item_list set f l.place.sent n) path l.cell size l.number (l.count - l.number));
+      here : l.cell ≡ l.place.cell + l.number * size;
+    }
+
+abbrev pub invariant-list_part-loop-field : goal.invariant-list_part-loop-field
+invariant-list_part-loop-field l =
+    let set = described l.lister.set.now in
+    let n = l.lister.image.now.numbers in
+    let path = string_bytes l.place.path in
+    let d = desc_at set l.part in
+    record {
+      adds : Leaves l.initial.list.items l.list.items (part_list set l.part l.place.sent n path l.place.cell)
+          (entries_from (struct_cells set) (listers set) d.version (own_numbers set l.part n l.place.cell) l.place.sent path n l.cell (drop l.field d.fields));
+      room : l.cell + length (cells_from (struct_cells set) d.fields l.field (drop l.field d.fields)) ≤ length n;
+    }

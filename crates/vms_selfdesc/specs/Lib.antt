@@ -1,0 +1,4 @@
+pub mod Entries
+pub mod Tree
+pub mod Needs
+pub mod Listing

@@ -1,0 +1,52 @@
+// The self-description of a set's images.
+ghost use Rattle.std.specs.Prelude.{◌≡◌, Some, map, IfOk, string_bytes};
+ghost use Rattle.serde_json.specs.Read.{read};
+ghost use Rattle.serde_json.specs.View.{view};
+ghost use Rattle.vms_spec.specs.Streams.{AreReady};
+ghost use Rattle.vms_desc.specs.Described.{described};
+ghost use Rattle.vms_selfdesc.specs.Tree.{device_trees, described_tree, described_text};
+
+use crate::built::{push, put};
+use crate::devices::device_value;
+use crate::fields::Lister;
+use serde_json::{Map, Value};
+use std::alloc::{AllocError, Global};
+use vms_desc::DescSet;
+use vms_image::Image;
+use vms_io::NoMemory;
+
+/// The self-description of these images, one for each device in the set's order: JSON without blanks, each object's keys in
+/// byte order, which says of each device what stands in its section, element by element, and the defaults of cells that don't.
+/// Fails only where memory is wanting.
+pub fn describe(alloc: Global, set: &DescSet, images: &[Image]) -> Result<String, NoMemory>
+    requires { AreReady (described set.now) images.now }
+    ensures text { IfOk result (λ s. string_bytes s ≡ described_text (described set.now) images.now) }
+    ensures reads { IfOk result (λ s. read (string_bytes s) ≡ Some (described_tree (described set.now) images.now)) }
+{
+    let value = described_value(alloc, set, images)?;
+    Ok(value.to_string(alloc)?)
+}
+
+fn described_value(alloc: Global, set: &DescSet, images: &[Image]) -> Result<Value, AllocError>
+    requires { AreReady (described set.now) images.now }
+    ensures { IfOk result (λ v. view v ≡ described_tree (described set.now) images.now) }
+{
+    let devices = device_values(alloc, set, images)?;
+    let mut members = Map::new(alloc);
+    put(alloc, &mut members, "devices", Value::Array(devices))?;
+    Ok(Value::Object(members))
+}
+
+fn device_values(alloc: Global, set: &DescSet, images: &[Image]) -> Result<Vec<Value>, AllocError>
+    requires { AreReady (described set.now) images.now }
+    ensures { let devices = (described set.now).devices in
+        IfOk result (λ list. map view list.items ≡ device_trees (described set.now) devices images.now) }
+{
+    let mut list = Vec::new(alloc);
+    for (device, image) in images.iter().enumerate() {
+        let lister = Lister { alloc, set, image };
+        let value = device_value(&lister, device as u32)?;
+        push(&mut list, value)?;
+    }
+    Ok(list)
+}
