@@ -2,6 +2,14 @@
 //! serial port.
 #![tactic(auto)]
 
+mod act;
+mod devices;
 mod event;
+mod laws;
+mod ports;
+mod wires;
 
+pub use devices::Devices;
 pub use event::{Answer, Event};
+pub use laws::{alike_law, clock_law, likeness_law, sound_law, wires_law};
+pub use wires::is_wire;
