@@ -64,7 +64,7 @@ unfolding by_number
 numbered (Ok found) pair e = cc
 numbered (Err fault) pair e = cc
 
-pair-sound : (level : ℕ) (master slave : List ℤ) (pair : PicPair) → IsLevel level → IsChipCells master → IsChipCells slave → restored_pair level master slave ≡ Ok pair → IsSoundPair pair × (pair.level ≡ level)
+pub pair-sound : (level : ℕ) (master slave : List ℤ) (pair : PicPair) → IsLevel level → IsChipCells master → IsChipCells slave → restored_pair level master slave ≡ Ok pair → IsSoundPair pair × (pair.level ≡ level)
 pair-sound level master slave pair l m s e =
     let made = made_of level (restored level Master master) (restored level Slave slave) pair e in
     let same = made.same_level in

@@ -1,0 +1,9 @@
+pub mod AlikeLaws
+pub mod ClockLaws
+pub mod KeepLaws
+pub mod Reached
+pub mod RestoredLaws
+pub mod SavedLaws
+pub mod SoundLaws
+pub mod WireBits
+pub mod WireLaws

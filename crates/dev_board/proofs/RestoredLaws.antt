@@ -1,0 +1,141 @@
+-- What is restored is sound.
+use Rattle.std.proofs.Common.{◌≡◌, ℕ, ◌≤◌, Bool, true, false, cond, Result, Ok, Err, refl, sym, ap, subst, ◌∙◌, arith}
+use Rattle.std.proofs.lemmas.Bool.Decides.{nat_tests}
+use Rattle.std.specs.Prelude.{nat_le}
+use Rattle.vms_hooks.specs.Numbers.{Numbers}
+use Rattle.dev_base.proofs.RuleLaws.{ok-hook}
+use Rattle.dev_base.specs.Levels.{IsLevel, MayRestore}
+use Rattle.dev_base.specs.declared.limits.TheConstants.{NEWEST, LAST_MOMENT}
+use Rattle.dev_pic.proofs.PairLaws.{steps_keep_registers}
+use Rattle.dev_pic.proofs.RestoredLaws.{pair-sound}
+use Rattle.dev_pic.specs.Saved.{restored_pair}
+use Rattle.dev_pic.specs.Sound.{IsSoundPair}
+use Rattle.dev_pic.specs.declared.fault.ChipFault.{ChipFault}
+use Rattle.dev_pic.specs.declared.pair.PicPair.{PicPair}
+use Rattle.dev_pit.proofs.RestoredLaw.{pit-restored}
+use Rattle.dev_pit.specs.Saved.{restored_pit}
+use Rattle.dev_pit.specs.Sound.{IsSoundPit}
+use Rattle.dev_pit.specs.declared.pit.Pit.{Pit}
+use Rattle.dev_serial.proofs.RestoredLaw.{restored_is_sound as port-sound}
+use Rattle.dev_serial.specs.Laws.{IsSoundAt}
+use Rattle.dev_serial.specs.Port.{Port}
+use Rattle.dev_serial.specs.Saved.{restored_cells}
+use Rattle.dev_board.specs.Saved.{AreBoardCells, moment_of, timed, by_chip, by_device, lines_agree, agreed, joined, numbers_back, pair_back, pit_back, serial_back, restored}
+use Rattle.dev_board.specs.SavedLaws.{RestoredIsSound}
+use Rattle.dev_board.specs.Sound.{HasDevices, HasLines, IsSound}
+use Rattle.dev_board.specs.State.{State}
+use Rattle.dev_board.specs.declared.cells.BoardCells.{BoardCells}
+use Rattle.dev_board.specs.declared.misfit.Misfit.{Misfit}
+use Rattle.dev_board.specs.declared.misfit.Misfit.TheVariants.{Unsound}
+use Rattle.dev_board.specs.declared.misfit.TheConstants.{TIMER_DEVICE, PIT_DEVICE, SERIAL_DEVICE}
+use Rattle.dev_board.proofs.SavedLaws.{has-lines}
+
+-- a board is made of devices that were restored, and the lines agree
+pub record IsMadeOf (level : ℕ) (of_timer : Result ℕ Misfit) (of_pair : Result PicPair Misfit) (of_pit : Result Pit Misfit) (of_port : Result Port Misfit) (m : State) : Type 0 where
+  pub same_level : m.level ≡ level
+  pub timer : of_timer ≡ Ok m.moment
+  pub pair : of_pair ≡ Ok m.pair
+  pub pit : of_pit ≡ Ok m.pit
+  pub serial : of_port ≡ Ok m.serial
+  pub lines : lines_agree m ≡ true
+
+record IsAgreed (b : Bool) (found m : State) : Type 0 where
+  agree : b ≡ true
+  same : found ≡ m
+
+agreed-by : (b : Bool) (found m : State) (misfit : Misfit) → cond b (Ok found) (Err misfit) ≡ Ok m → IsAgreed b found m
+agreed-by true found m misfit e = record { agree = refl; same = cc }
+agreed-by false found m misfit e = cc
+
+agreed-ok : (found m : State) → agreed found ≡ Ok m → IsAgreed (lines_agree found) found m
+unfolding agreed
+agreed-ok found m e = agreed-by (lines_agree found) found m _ e
+
+pub made_of : (level : ℕ) (of_timer : Result ℕ Misfit) (of_pair : Result PicPair Misfit) (of_pit : Result Pit Misfit) (of_port : Result Port Misfit) (m : State) → joined level of_timer of_pair of_pit of_port ≡ Ok m → IsMadeOf level of_timer of_pair of_pit of_port m
+unfolding joined
+made_of level (Err misfit) of_pair of_pit of_port m e = cc
+made_of level (Ok moment) (Err misfit) of_pit of_port m e = cc
+made_of level (Ok moment) (Ok pair) (Err misfit) of_port m e = cc
+made_of level (Ok moment) (Ok pair) (Ok pit) (Err misfit) m e = cc
+made_of level (Ok moment) (Ok pair) (Ok pit) (Ok serial) m e =
+    let is = agreed-ok (record { level = level; moment = moment; pair = pair; pit = pit; serial = serial }) m e in
+    record {
+      same_level = ap (λ (s : State). s.level) (sym is.same);
+      timer = ap (λ (s : State). Ok s.moment) is.same;
+      pair = ap (λ (s : State). Ok s.pair) is.same;
+      pit = ap (λ (s : State). Ok s.pit) is.same;
+      serial = ap (λ (s : State). Ok s.serial) is.same;
+      lines = ap lines_agree (sym is.same) ∙ is.agree;
+    }
+
+chip-ok : (outcome : Result PicPair ChipFault) (pair : PicPair) → by_chip outcome ≡ Ok pair → outcome ≡ Ok pair
+unfolding by_chip
+chip-ok (Ok found) pair e = cc
+chip-ok (Err fault) pair e = cc
+
+device-ok : {D : Type 0} (place : ℕ) (outcome : Result D ℕ) (device : D) → by_device place outcome ≡ Ok device → outcome ≡ Ok device
+unfolding by_device
+device-ok place (Ok found) device e = cc
+device-ok place (Err rule) device e = cc
+
+-- the moment of a timer whose rule holds
+record IsTimed (moment found : ℕ) : Type 0 where
+  last : moment ≤ LAST_MOMENT
+  same : found ≡ moment
+
+timed-by : (b : Bool) (moment found : ℕ) → nat_le moment LAST_MOMENT ≡ b → cond b (Ok moment) (Err (Unsound TIMER_DEVICE 1)) ≡ Ok found → IsTimed moment found
+timed-by true moment found h e = record { last = grind (arith, nat_tests); same = cc }
+timed-by false moment found h e = cc
+
+timed-ok : (moment found : ℕ) → timed moment ≡ Ok found → IsTimed moment found
+unfolding timed
+timed-ok moment found e = timed-by (nat_le moment LAST_MOMENT) moment found refl e
+
+module _ (level : ℕ) (cells : BoardCells) (l : IsLevel level) (are : AreBoardCells cells) (last : moment_of cells ≤ LAST_MOMENT) where
+  abbrev moment : ℕ
+  moment = moment_of cells
+
+  may : MayRestore (numbers_back level moment)
+  may = record { is_level = l; newest_set = refl; moment = last }
+
+  pub pair-back : (pair : PicPair) → pair_back level cells.master.items cells.slave.items ≡ Ok pair → IsSoundPair pair × (pair.level ≡ level)
+  pair-back pair e = pair-sound level cells.master.items cells.slave.items pair l are.master are.slave (chip-ok _ pair e)
+
+  pub pit-back : (pit : Pit) → pit_back level moment cells.pit.items ≡ Ok pit → IsSoundPit moment pit × (pit.level ≡ level)
+  pit-back pit e = pit-restored level moment cells.pit.items pit l last are.pit (device-ok PIT_DEVICE _ pit e)
+
+  pub port-back : (port : Port) → serial_back level moment cells.serial.items ≡ Ok port → IsSoundAt level moment port
+  port-back port e = port-sound (numbers_back level moment) cells.serial.items port (record { pass = may; port_cells = are.serial }) (ok-hook _ port (device-ok SERIAL_DEVICE _ port e))
+
+  -- the devices that were restored, together
+  pub devices-back : (pair : PicPair) (pit : Pit) (port : Port) → pair_back level cells.master.items cells.slave.items ≡ Ok pair → pit_back level moment cells.pit.items ≡ Ok pit → serial_back level moment cells.serial.items ≡ Ok port → HasDevices (record { level = level; moment = moment; pair = pair; pit = pit; serial = port })
+  devices-back pair pit port a b c = record {
+    level = l;
+    moment = last;
+    pair_level = (pair-back pair a).1;
+    pit_level = (pit-back pit b).1;
+    serial_level = (port-back port c).own_level;
+    pair = steps_keep_registers.sound pair (pair-back pair a).0;
+    pit = (pit-back pit b).0;
+    serial = (port-back port c).sound;
+  }
+
+  pub sound-back : (pair : PicPair) (pit : Pit) (port : Port) → pair_back level cells.master.items cells.slave.items ≡ Ok pair → pit_back level moment cells.pit.items ≡ Ok pit → serial_back level moment cells.serial.items ≡ Ok port → lines_agree (record { level = level; moment = moment; pair = pair; pit = pit; serial = port }) ≡ true → IsSound (record { level = level; moment = moment; pair = pair; pit = pit; serial = port })
+  sound-back pair pit port a b c d = record {
+    devices = devices-back pair pit port a b c;
+    pair = (pair-back pair a).0;
+    lines = has-lines _ d;
+  }
+
+sound : (level : ℕ) (cells : BoardCells) (m : State) → IsLevel level → AreBoardCells cells → restored level cells ≡ Ok m → IsSound m
+sound level cells m l are e =
+    let made = made_of level (timed (moment_of cells)) _ _ _ m e in
+    let time = timed-ok (moment_of cells) m.moment made.timer in
+    let state : record { level = level; moment = moment_of cells; pair = m.pair; pit = m.pit; serial = m.serial } ≡ m = ap (λ (n : ℕ). record { level = n; moment = moment_of cells; pair = m.pair; pit = m.pit; serial = m.serial }) (sym made.same_level) ∙ ap (λ (n : ℕ). record { level = m.level; moment = n; pair = m.pair; pit = m.pit; serial = m.serial }) (sym time.same) in
+    subst IsSound state (sound-back level cells l are time.last m.pair m.pit m.serial made.pair made.pit made.serial (ap lines_agree state ∙ made.lines))
+
+pub restored_is_sound : RestoredIsSound
+restored_is_sound = record {
+  sound = sound;
+  level = λ level cells m e. (made_of level (timed (moment_of cells)) _ _ _ m e).same_level;
+}

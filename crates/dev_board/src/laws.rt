@@ -1,0 +1,34 @@
+// Laws of the definitions, each stated by a function without a body.
+ghost use Rattle.dev_board.specs.Laws.{SoundStays, WiresStay, ClockGoesOn, AlikeStays, Likeness};
+
+/// A board is sound at power on, and each event and each list of events keeps it so.
+#[tactic(auto, using(crate::proofs::SoundLaws::sound_stays_on))]
+pub fn sound_law()
+    ensures { SoundStays }
+{}
+
+/// After each event a wire is as the last event that named it left it.
+#[tactic(auto, using(crate::proofs::WireLaws::wires_stay))]
+pub fn wires_law()
+    ensures { WiresStay }
+{}
+
+/// A wait alone moves the moment, by its nanoseconds and not beyond the last moment, and no event changes
+/// the level.
+#[tactic(auto, using(crate::proofs::ClockLaws::clock_goes_on))]
+pub fn clock_law()
+    ensures { ClockGoesOn }
+{}
+
+/// Boards that are alike answer each event, and each list of events, equally, and are alike afterwards.
+#[tactic(auto, using(crate::proofs::AlikeLaws::alike_stays))]
+pub fn alike_law()
+    ensures { AlikeStays }
+{}
+
+/// Each board is like itself, a board that is like another is so both ways, and what is like one of two
+/// boards that are alike is like the other.
+#[tactic(auto, using(crate::proofs::AlikeLaws::likeness))]
+pub fn likeness_law()
+    ensures { Likeness }
+{}

@@ -1,0 +1,19 @@
+//! Three devices on one clock, as the boards of a PC have them: the pair of 8259A, the timer chip and the
+//! serial port.
+#![tactic(auto)]
+
+mod act;
+mod cells;
+mod devices;
+mod event;
+mod laws;
+mod misfit;
+mod ports;
+mod wires;
+
+pub use cells::BoardCells;
+pub use devices::Devices;
+pub use event::{Answer, Event};
+pub use laws::{alike_law, clock_law, likeness_law, sound_law, wires_law};
+pub use misfit::Misfit;
+pub use wires::is_wire;
