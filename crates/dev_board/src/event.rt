@@ -1,0 +1,30 @@
+// What happens to a board, and what it answers.
+use arrayvec::ArrayVec;
+
+/// What happens to a board: an access of the guest, a byte or a line from outside, or the passing of time.
+#[derive(Clone, Copy, Debug, PartialEq, Eq)]
+pub enum Event {
+    /// The guest reads an I/O port.
+    Read { port: u16 },
+    /// The guest writes a byte to an I/O port.
+    Write { port: u16, value: u8 },
+    /// A byte arrives on the serial line.
+    Byte { value: u8 },
+    /// This many nanoseconds pass.
+    Wait { ns: u64 },
+    /// A free interrupt input, one of 1, 3, 5, 6, 7 and 8 to 15, rises or falls, and stays so.
+    Wire { input: u8, up: bool },
+    /// The processor acknowledges an interrupt.
+    Ack,
+}
+
+/// What a board answers to an event.
+#[derive(Drop)]
+pub struct Answer {
+    /// The value of a read, or the vector of an acknowledge.
+    pub value: Option<u8>,
+    /// The interrupt output of the master 8259A after the event.
+    pub int: bool,
+    /// The bytes that left the serial port during the event, first out first.
+    pub sent: ArrayVec<u8, 17>,
+}
