@@ -3,7 +3,7 @@ use Rattle.std.proofs.Common.{◌≡◌, ℕ, ℤ, ◌==◌, Bool, true, false, 
 use Rattle.std.proofs.lemmas.Bool.{false≢true}
 use Rattle.std.specs.Prelude.{bit_and, nat_le}
 use Rattle.dev_serial.specs.Access.{is_empty, iir_of, read_of, id_read, lsr_of, thr_written, ier_written, switch_of, fcr_cleared, fcr_written, receiver_cleared, transmitter_cleared, written, came_in, advanced}
-use Rattle.dev_serial.specs.Bits.{has}
+use Rattle.dev_base.specs.Bits.{has}
 use Rattle.dev_serial.specs.Line.{character_time}
 use Rattle.dev_serial.specs.Transmit.{run_until}
 use Rattle.dev_serial.specs.Laws.{AlikeItself, AlikeBack, AlikeOn, AnswersAlike, ReadsAlike, WritesAlike, BytesInAlike, AdvancesAlike, SavesAlike, LinesAlike}

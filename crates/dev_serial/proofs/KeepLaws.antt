@@ -4,7 +4,7 @@ use Rattle.std.proofs.lemmas.Bool.{false≢true, leb-true, cond_both}
 use Rattle.std.proofs.lemmas.Nat.{and_le_r}
 use Rattle.std.specs.Prelude.{bit_and, nat_le, is_some}
 use Rattle.dev_serial.specs.Access.{is_empty, with_taken, read_of, id_read, lsr_read, thr_written, ier_written, switch_of, fcr_cleared, fcr_written, receiver_cleared, transmitter_cleared, written, came_in, advanced}
-use Rattle.dev_serial.specs.Bits.{has}
+use Rattle.dev_base.specs.Bits.{has}
 use Rattle.dev_serial.specs.Laws.{PowerOnIsSound, ReadsKeepSound, WritesKeepSound, BytesInKeepSound, AdvancesKeepSound}
 use Rattle.dev_serial.specs.Line.{character_time}
 use Rattle.dev_serial.specs.Port.{Port, power_on, mode_of, interrupt, is_thr_empty}

@@ -2,7 +2,7 @@
 use Rattle.std.proofs.Common.{◌≡◌, ℕ, ◌==◌, Bool, true, false, Option, Some, None, refl}
 use Rattle.std.specs.Prelude.{nat_le}
 use Rattle.dev_serial.specs.Access.{read_of, thr_written, ier_written, switch_of, fcr_cleared, fcr_written, receiver_cleared, transmitter_cleared, written, came_in, advanced}
-use Rattle.dev_serial.specs.Bits.{has}
+use Rattle.dev_base.specs.Bits.{has}
 use Rattle.dev_serial.specs.Laws.{ReadsKeepLevel, WritesKeepLevel, BytesInKeepLevel, AdvancesKeepLevel}
 use Rattle.dev_serial.specs.Port.{Port}
 use Rattle.dev_serial.specs.declared.trigger.Trigger.{Trigger}

@@ -3,7 +3,7 @@ use Rattle.std.proofs.Common.{◌≡◌, ℕ, ◌<◌, ◌≤◌, Bool, true, fa
 use Rattle.std.proofs.lemmas.Bool.{false≢true}
 use Rattle.std.specs.Prelude.{is_some}
 use Rattle.dev_serial.specs.Access.{is_empty, switch_of, fcr_cleared, fcr_written, receiver_cleared, transmitter_cleared}
-use Rattle.dev_serial.specs.Bits.{has}
+use Rattle.dev_base.specs.Bits.{has}
 use Rattle.dev_serial.specs.Fifo.{trigger_of}
 use Rattle.dev_serial.specs.Port.{Port, asks, interrupt, is_pending, line_of}
 use Rattle.dev_serial.specs.RegisterLaws.{rank, IsFirstAsking, IdentifiesFirst, SomeAsks, LineTellsAsking, HasNoBytes, SwitchClearsBoth, IsResetBy, ResetsByBits, StaysOff, IsSwitched, WritesSwitch}

@@ -6,7 +6,7 @@ use Rattle.dev_base.specs.Cells.{cell_at, number_at}
 use Rattle.dev_base.specs.Levels.{IsLevel}
 use Rattle.dev_base.proofs.CellLaws.{byte-lt, word-lt}
 use Rattle.dev_base.proofs.RuleLaws.{hook-ok}
-use Rattle.dev_serial.specs.Bits.{has}
+use Rattle.dev_base.specs.Bits.{has}
 use Rattle.dev_serial.specs.Cells.{IsPortCells, bytes_at, array_at, ring_at, numbers_of}
 use Rattle.dev_serial.specs.Laws.{IsSoundAt, RestoredIsSound}
 use Rattle.dev_serial.specs.PortNumbers.{port_of, fifos_of, stored_bytes}

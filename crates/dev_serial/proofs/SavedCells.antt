@@ -12,7 +12,7 @@ use Rattle.dev_base.specs.Cells.{cell_at, AreOf}
 use Rattle.dev_base.specs.declared.limits.TheConstants.{LAST_MOMENT}
 use Rattle.dev_base.proofs.CellLaws.{of_none, of_more, of_both, of_where, byte, word, timer}
 use Rattle.dev_serial.specs.Access.{lsr_of}
-use Rattle.dev_serial.specs.Bits.{has}
+use Rattle.dev_base.specs.Bits.{has}
 use Rattle.dev_serial.specs.Cells.{array_cells, ring_cells, field_cells, cells_of, field_kinds, kinds, IsPortCells}
 use Rattle.dev_serial.specs.Laws.{AreSaved, SavedAreCells}
 use Rattle.dev_serial.specs.Parts.{IsShort}

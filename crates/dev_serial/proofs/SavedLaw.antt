@@ -5,7 +5,7 @@ use Rattle.std.specs.Prelude.{nat_le, is_some}
 use Rattle.dev_base.proofs.RuleLaws.{AllTrue, judged-all}
 use Rattle.dev_base.specs.declared.limits.TheConstants.{LAST_MOMENT}
 use Rattle.dev_serial.specs.Access.{is_empty, lsr_of}
-use Rattle.dev_serial.specs.Bits.{has}
+use Rattle.dev_base.specs.Bits.{has}
 use Rattle.dev_serial.specs.Port.{Port, is_data_ready, has_come, interrupt, id_number}
 use Rattle.dev_serial.specs.PortNumbers.{saved, in_ring, port_of}
 use Rattle.dev_serial.specs.Rules.{registers_hold, fcr_holds, unused_hold, status_holds, shift_holds, timeout_holds, latch_holds, id_holds, once_holds, rings_hold, rules, restored}

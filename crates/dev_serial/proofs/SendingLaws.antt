@@ -6,7 +6,7 @@ use Rattle.std.proofs.Math.Nat.{le-max_right}
 use Rattle.std.proofs.lemmas.Nat.{le-div}
 use Rattle.std.specs.Prelude.{nat_lt, is_some}
 use Rattle.dev_serial.specs.Access.{is_empty, thr_written, advanced, leaving}
-use Rattle.dev_serial.specs.Bits.{has}
+use Rattle.dev_base.specs.Bits.{has}
 use Rattle.dev_serial.specs.Line.{character_time}
 use Rattle.dev_serial.specs.Parts.{ReceiverState, TransmitterState}
 use Rattle.dev_serial.specs.Port.{Port, mode_of}

@@ -1,9 +1,5 @@
 -- The bits of a register.
-use Rattle.std.specs.Prelude.{ℕ, ◌/◌, ◌%◌, ◌^◌, ◌==◌, Bool, if◌then◌else◌}
-
--- the register has the bit of this number, counted from 0, the least
-abbrev pub has : ℕ → ℕ → Bool
-has register bit = (register / 2 ^ bit % 2) == 1
+use Rattle.std.specs.Prelude.{ℕ, Bool, if◌then◌else◌}
 
 -- these bits where the condition holds, else none
 abbrev pub bits_where : Bool → ℕ → ℕ

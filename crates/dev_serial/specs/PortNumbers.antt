@@ -1,7 +1,7 @@
 -- A port as the numbers of a stream, by their names there.
 use Rattle.std.specs.Prelude.{ℕ, ℤ, pos, negsuc, ◌+◌, ◌*◌, ◌/◌, ◌==◌, Bool, nat_le, ◌&&◌, not, if◌then◌else◌, List, [], ◌∷◌, Option, Some, None}
 use Rattle.std.specs.Ordering.{int_eq}
-use Rattle.dev_serial.specs.Bits.{has}
+use Rattle.dev_base.specs.Bits.{has}
 use Rattle.dev_serial.specs.Fifo.{trigger_of, trigger_number}
 use Rattle.dev_serial.specs.Port.{Port, interrupt, id_number, is_thr_empty}
 use Rattle.dev_serial.specs.Access.{lsr_of}

@@ -1,7 +1,7 @@
 -- Laws of the identification and of the FIFO control register, in the data sheet's words.
 use Rattle.std.specs.Prelude.{◌≡◌, ℕ, ◌<◌, ◌↔◌, true, false, ◌&&◌, not, if◌then◌else◌, [], None, is_some}
 use Rattle.dev_serial.specs.Access.{is_empty, switch_of, fcr_written}
-use Rattle.dev_serial.specs.Bits.{has}
+use Rattle.dev_base.specs.Bits.{has}
 use Rattle.dev_serial.specs.Port.{Port, asks, interrupt, is_pending, line_of}
 use Rattle.dev_serial.specs.declared.interrupt.Interrupt.{Interrupt}
 use Rattle.dev_serial.specs.declared.interrupt.Interrupt.TheVariants.{LineStatus, ReceivedData, CharacterTimeout, ThrEmpty, NonePending}

@@ -1,7 +1,7 @@
 -- Runs of writes and of time, and the laws of what leaves.
 use Rattle.std.specs.Prelude.{◌≡◌, ℕ, ◌≤◌, ◌<◌, ◌&&◌, Bool, true, false, not, nat_lt, if◌then◌else◌, List, [], ◌∷◌, ◌++◌, length, Some, is_some}
 use Rattle.dev_serial.specs.Access.{is_empty, thr_written, advanced, leaving}
-use Rattle.dev_serial.specs.Bits.{has}
+use Rattle.dev_base.specs.Bits.{has}
 use Rattle.dev_serial.specs.Line.{character_time}
 use Rattle.dev_serial.specs.Port.{Port, mode_of}
 use Rattle.dev_serial.specs.Receive.{received}

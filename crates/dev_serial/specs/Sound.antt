@@ -1,7 +1,7 @@
 -- Which states a port may be in at a moment.
 use Rattle.std.specs.Prelude.{◌≡◌, ℕ, ◌+◌, ◌<◌, ◌≤◌, Bool, true, false, nat_le, ◌&&◌, not, List, [], ◌∷◌, Option, Some, None, is_some}
 use Rattle.dev_serial.specs.Access.{is_empty}
-use Rattle.dev_serial.specs.Bits.{has}
+use Rattle.dev_base.specs.Bits.{has}
 use Rattle.dev_serial.specs.Parts.{ReceiverState, TransmitterState, IsShort}
 use Rattle.dev_serial.specs.Port.{Port}
 use Rattle.dev_serial.specs.Rules.{longest_timeout}

@@ -2,7 +2,8 @@
 ghost use Rattle.std.specs.Prelude.{◌≡◌, ◌≤◌};
 ghost use Rattle.dev_serial.specs.Line.{character_time as character_time_of};
 
-use crate::registers::{PEN, STB, has};
+use crate::registers::{PEN, STB};
+use dev_base::has;
 
 /// How characters go over the line, as the registers have it.
 #[derive(Clone, Copy)]

@@ -7,13 +7,13 @@ ghost use Rattle.dev_serial.specs.PortNumbers.{single_byte as single_byte_of, fc
 use crate::interrupt::Interrupt;
 use crate::levels::{FIFOS_SINCE, RINGS_SINCE, TIMEOUT_SINCE};
 use crate::place;
-use crate::registers::{ETBEI, has};
+use crate::registers::ETBEI;
 use crate::serial::Serial;
 use crate::shift::Shift;
 use crate::stored::{Counted, Ring};
 use crate::trigger::Trigger;
 use arrayvec::ArrayVec;
-use dev_base::{append, byte_at, moment_at, signed_at, word_at};
+use dev_base::{append, byte_at, has, moment_at, signed_at, word_at};
 use vms_kinds::DevCells;
 
 /// The number of a timer that isn't pending, 2^64 - 1.

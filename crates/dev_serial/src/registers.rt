@@ -1,6 +1,6 @@
 // The registers' offsets, and their bits by number.
 ghost use Rattle.std.specs.Prelude.{◌≡◌, ◌<◌, ◌^◌};
-ghost use Rattle.dev_serial.specs.Bits.{has as has_bit, bits_where};
+ghost use Rattle.dev_serial.specs.Bits.{bits_where};
 
 /// Offsets from the port's base. RBR and THR stand at offset 0, IIR and FCR at offset 2; while DLAB is
 /// set, offsets 0 and 1 are the two bytes of the divisor latch.
@@ -82,14 +82,6 @@ pub(crate) const MODEM_READY: u8 = 0xb0;
 
 /// Interrupt Identification Register: the two bits that tell that FIFOs are on.
 pub(crate) const FIFOS_ENABLED: u8 = 0xc0;
-
-/// Whether a register has the bit of this number, counted from 0, the least.
-pub(crate) fn has(register: u8, bit: u8) -> bool
-    requires { bit < 8 }
-    ensures { result ≡ has_bit register bit }
-{
-    (register >> bit) & 1 == 1
-}
 
 /// These bits where the condition holds, else none.
 pub(crate) fn bits_where(condition: bool, bits: u8) -> u8

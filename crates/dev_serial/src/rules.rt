@@ -8,14 +8,14 @@ use crate::levels::{FIFOS_SINCE, TIMEOUT_SINCE};
 use crate::mode::LONGEST_CHARACTER;
 use crate::numbers::{NEVER, PortNumbers};
 use crate::receiver::Receiver;
-use crate::registers::{DR, IER_BITS, LSR_BITS, MCR_BITS, OE, TEMT, THRE, has};
+use crate::registers::{DR, IER_BITS, LSR_BITS, MCR_BITS, OE, TEMT, THRE};
 use crate::serial::Serial;
 use crate::shift::Shift;
 use crate::stored::{Counted, Ring};
 use crate::transmitter::Transmitter;
 use crate::trigger::Trigger;
 use arrayvec::ArrayVec;
-use dev_base::{LAST_MOMENT, first_failing};
+use dev_base::{LAST_MOMENT, first_failing, has};
 
 impl PortNumbers {
     ghost use Rattle.dev_serial.specs.PortNumbers.{latch_of, port_of};

@@ -8,7 +8,7 @@ use vms_write::{are_ready, write_stream};
 
 /// A shipped set.
 pub(crate) fn set(alloc: Global, number: u8) -> Option<DescSet> {
-    if number > 3 {
+    if number > 4 {
         return None;
     }
     DescSet::shipped(alloc, number).ok()
