@@ -1,5 +1,5 @@
 -- The cells of a pair's two chips, apart and one behind the other.
-use Rattle.std.proofs.Common.{◌≡◌, ℕ, ℤ, pos, ◌+◌, ◌/◌, List, [], ◌∷◌, ◌++◌, length, take, drop, sym, ap, subst, ◌∙◌, arith, length-append}
+use Rattle.std.proofs.Common.{◌≡◌, ℕ, ℤ, pos, ◌/◌, List, [], ◌∷◌, length, take, drop, ap, ◌∙◌, arith, length-append}
 use Rattle.dev_pic.proofs.SavedLaws.{saved-count, saved_are_cells}
 use Rattle.dev_pic.specs.Cells.{kinds, saved_cells}
 use Rattle.dev_pic.specs.Saved.{pair_cells}

@@ -2,27 +2,23 @@
 use Rattle.std.proofs.Common.{◌≡◌, ℕ, ◌≤◌, Bool, true, false, cond, Result, Ok, Err, refl, sym, ap, subst, ◌∙◌, arith}
 use Rattle.std.proofs.lemmas.Bool.Decides.{nat_tests}
 use Rattle.std.specs.Prelude.{nat_le}
-use Rattle.vms_hooks.specs.Numbers.{Numbers}
 use Rattle.dev_base.proofs.RuleLaws.{ok-hook}
 use Rattle.dev_base.specs.Levels.{IsLevel, MayRestore}
-use Rattle.dev_base.specs.declared.limits.TheConstants.{NEWEST, LAST_MOMENT}
+use Rattle.dev_base.specs.declared.limits.TheConstants.{LAST_MOMENT}
 use Rattle.dev_pic.proofs.PairLaws.{steps_keep_registers}
 use Rattle.dev_pic.proofs.RestoredLaws.{pair-sound}
-use Rattle.dev_pic.specs.Saved.{restored_pair}
 use Rattle.dev_pic.specs.Sound.{IsSoundPair}
 use Rattle.dev_pic.specs.declared.fault.ChipFault.{ChipFault}
 use Rattle.dev_pic.specs.declared.pair.PicPair.{PicPair}
 use Rattle.dev_pit.proofs.RestoredLaw.{pit-restored}
-use Rattle.dev_pit.specs.Saved.{restored_pit}
 use Rattle.dev_pit.specs.Sound.{IsSoundPit}
 use Rattle.dev_pit.specs.declared.pit.Pit.{Pit}
 use Rattle.dev_serial.proofs.RestoredLaw.{restored_is_sound as port-sound}
 use Rattle.dev_serial.specs.Laws.{IsSoundAt}
 use Rattle.dev_serial.specs.Port.{Port}
-use Rattle.dev_serial.specs.Saved.{restored_cells}
 use Rattle.dev_board.specs.Saved.{AreBoardCells, moment_of, timed, by_chip, by_device, lines_agree, agreed, joined, numbers_back, pair_back, pit_back, serial_back, restored}
 use Rattle.dev_board.specs.SavedLaws.{RestoredIsSound}
-use Rattle.dev_board.specs.Sound.{HasDevices, HasLines, IsSound}
+use Rattle.dev_board.specs.Sound.{HasDevices, IsSound}
 use Rattle.dev_board.specs.State.{State}
 use Rattle.dev_board.specs.declared.cells.BoardCells.{BoardCells}
 use Rattle.dev_board.specs.declared.misfit.Misfit.{Misfit}

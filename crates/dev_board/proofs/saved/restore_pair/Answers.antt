@@ -1,4 +1,4 @@
-use Rattle.std.proofs.Common.{◌≡◌, ◌∙◌, sym, ap, refl, List, ℤ, ◌++◌, Ok, Err}
+use Rattle.std.proofs.Common.{◌∙◌, sym, ap}
 use Rattle.dev_pic.proofs.CellLemmas.{master_cells, slave_cells}
 use Rattle.dev_pic.proofs.FaultLaws.{pair-told, fault-told}
 use Rattle.dev_pic.specs.Saved.{hook_restored}

@@ -1,4 +1,4 @@
-use Rattle.std.proofs.Common.{◌≡◌, ◌∙◌, sym, ap, pos, [], ◌∷◌}
+use Rattle.std.proofs.Common.{◌∙◌, ap}
 use Rattle.dev_board.specs.Saved.{saved}
 use Rattle.dev_board.specs.View.{devices_view}
 use Rattle.dev_board.proofs.Halves.{master-half, slave-half, board-cells}

@@ -1,6 +1,5 @@
-use Rattle.std.proofs.Common.{◌≡◌, ◌∙◌, sym, ap, refl, rules, Ok, Err, Result}
-use Rattle.dev_board.specs.Saved.{timed, moment_of, restored}
-use Rattle.dev_board.specs.declared.misfit.Misfit.{Misfit}
+use Rattle.std.proofs.Common.{◌≡◌, ◌∙◌, sym, ap, rules, Err}
+use Rattle.dev_board.specs.Saved.{timed}
 use Rattle.dev_board.proofs.RestoredLaws.{pit-refused, port-refused, lines-taken, lines-refused, found-devices, found-sound}
 use Rattle.dev_board.proofs.devices.Devices.of_cells.Goals as goal
 
