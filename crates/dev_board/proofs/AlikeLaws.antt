@@ -1,18 +1,15 @@
 -- Boards that are alike answer each event alike.
-use Rattle.std.proofs.Common.{◌≡◌, ℕ, ◌-◌, ◌==◌, Bool, true, false, ◌&&◌, cond, List, [], ◌∷◌, Option, None, refl, sym, ap, subst, ◌∙◌}
-use Rattle.std.specs.Prelude.{nat_le}
-use Rattle.dev_base.proofs.Choices.{either}
+use Rattle.std.proofs.Common.{◌≡◌, ℕ, Bool, List, [], ◌∷◌, None, refl, sym, ap, subst, ◌∙◌}
 use Rattle.dev_pic.specs.Pair.{int_of, settled_pair}
 use Rattle.dev_pic.specs.declared.pair.PicPair.{PicPair}
-use Rattle.dev_pit.specs.Pit.{pit_read, pit_written, pit_edge, pit_out}
+use Rattle.dev_pit.specs.Pit.{pit_edge}
 use Rattle.dev_serial.proofs.AlikeLaws.{reads_alike, writes_alike, bytes_in_alike, advances_alike, lines_alike, alike_itself, alike_back, alike_on}
-use Rattle.dev_serial.specs.Access.{read_of, written, came_in, advanced}
-use Rattle.dev_serial.specs.Laws.{AnswersAlike as PortAnswersAlike}
+use Rattle.dev_serial.specs.Access.{read_of}
 use Rattle.dev_serial.specs.Bits.{bits_where}
-use Rattle.dev_serial.specs.Port.{Port, line_of}
+use Rattle.dev_serial.specs.Port.{Port}
 use Rattle.dev_serial.specs.Sound.{Alike as AlikePorts}
 use Rattle.dev_board.specs.Laws.{AnswersAlike, AlikeStays, Likeness}
-use Rattle.dev_board.specs.Ports.{target_of, read_at, written_at, read, write}
+use Rattle.dev_board.specs.Ports.{target_of, read_at, written_at}
 use Rattle.dev_board.specs.Sound.{Alike}
 use Rattle.dev_board.specs.State.{State}
 use Rattle.dev_board.specs.Step.{valued, later_by, waited, acted, wires_after, inputs_of, settled, after_act, step, observe, after_all}

@@ -1,5 +1,5 @@
 -- No event changes the level, and a wait alone moves the moment.
-use Rattle.std.proofs.Common.{◌≡◌, ℕ, Bool, refl, ◌∙◌}
+use Rattle.std.proofs.Common.{◌≡◌, ℕ, refl}
 use Rattle.dev_board.specs.Laws.{ClockGoesOn, moment_left}
 use Rattle.dev_board.specs.Ports.{target_of, read_at, written_at}
 use Rattle.dev_board.specs.State.{State}

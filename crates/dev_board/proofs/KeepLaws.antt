@@ -1,5 +1,5 @@
 -- What each event keeps of the devices.
-use Rattle.std.proofs.Common.{◌≡◌, ℕ, ◌+◌, ◌-◌, ◌<◌, ◌≤◌, ◌==◌, Bool, true, false, ◌&&◌, min, arith, refl, ap, sym, subst, List, ◌∙◌}
+use Rattle.std.proofs.Common.{◌≡◌, ℕ, ◌-◌, ◌<◌, ◌≤◌, ◌==◌, true, ◌&&◌, arith, ap, sym, subst, List, ◌∙◌}
 use Rattle.std.specs.Prelude.{nat_le}
 use Rattle.dev_base.proofs.Choices.{either, by_test}
 use Rattle.dev_base.specs.declared.limits.TheConstants.{LAST_MOMENT}
@@ -17,11 +17,10 @@ use Rattle.dev_serial.specs.Access.{read_of, written, came_in, advanced}
 use Rattle.dev_serial.specs.Port.{Port}
 use Rattle.dev_serial.specs.Sound.{IsSound as IsSoundPort}
 use Rattle.dev_board.specs.Laws.{IsEvent}
-use Rattle.dev_board.specs.Ports.{target_of, read_at, written_at, read, write}
+use Rattle.dev_board.specs.Ports.{target_of, read_at, written_at, write}
 use Rattle.dev_board.specs.Sound.{HasDevices}
 use Rattle.dev_board.specs.State.{State}
 use Rattle.dev_board.specs.Step.{later_by, waited, acted}
-use Rattle.dev_board.specs.declared.act.Act.{Act}
 use Rattle.dev_board.specs.declared.event.Event.{Event}
 use Rattle.dev_board.specs.declared.event.Event.TheVariants.{Read, Write, Byte, Wait, Wire, Ack}
 use Rattle.dev_board.specs.declared.ports.Target.{Target}

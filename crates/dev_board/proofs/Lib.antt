@@ -1,5 +1,6 @@
 pub mod AlikeLaws
 pub mod ClockLaws
+pub mod Halves
 pub mod KeepLaws
 pub mod Reached
 pub mod RestoredLaws

@@ -1,23 +1,20 @@
 -- What is saved of a board comes back.
-use Rattle.std.proofs.Common.{◌≡◌, ℕ, ℤ, pos, ◌+◌, ◌<◌, ◌≤◌, ◌^◌, Bool, true, false, ◌&&◌, cond, List, [], ◌∷◌, Result, Ok, Err, refl, sym, ap, subst, ◌∙◌, arith}
+use Rattle.std.proofs.Common.{◌≡◌, ℕ, ℤ, pos, ◌≤◌, Bool, true, false, ◌&&◌, List, [], ◌∷◌, Result, Ok, refl, sym, ap, subst, ◌∙◌, arith}
 use Rattle.std.proofs.lemmas.Bool.{false≢true}
 use Rattle.std.proofs.lemmas.Bool.Decides.{nat_tests}
 use Rattle.std.specs.Prelude.{nat_le}
-use Rattle.vms_hooks.specs.Numbers.{Numbers}
 use Rattle.dev_base.proofs.CellLaws.{of_none, of_more, long}
 use Rattle.dev_base.specs.Bits.{has}
 use Rattle.dev_base.specs.Cells.{AreOf}
 use Rattle.dev_base.specs.Levels.{IsLevel, MaySave, MayRestore}
 use Rattle.dev_base.specs.declared.limits.TheConstants.{NEWEST, LAST_MOMENT}
 use Rattle.dev_base.proofs.RuleLaws.{hook-ok}
-use Rattle.dev_pic.proofs.RestoredLaws.{pair-sound as pic-sound}
-use Rattle.dev_pic.proofs.SavedLaws.{carried-saved, pair-restored, set-of, saved_is_restored as pair-is-restored}
+use Rattle.dev_pic.proofs.SavedLaws.{carried-saved, pair-restored, set-of}
 use Rattle.dev_pic.specs.Cells.{kinds as pic_kinds, saved_cells, carried as pic_carried}
 use Rattle.dev_pic.specs.Pair.{lines_of, slave_int_of}
 use Rattle.dev_pic.specs.Saved.{restored_pair}
 use Rattle.dev_pic.specs.declared.fault.ChipFault.{ChipFault}
 use Rattle.dev_pic.specs.declared.pair.PicPair.{PicPair}
-use Rattle.dev_pit.proofs.RestoredLaw.{pit-restored}
 use Rattle.dev_pit.proofs.SavedLaw.{saved_are_cells as pit-saved, saved_is_restored as pit-is-restored}
 use Rattle.dev_pit.specs.Cells.{pit_cells, carried as pit_carried, AreCellsOf}
 use Rattle.dev_pit.specs.Pit.{pit_out}
@@ -25,21 +22,17 @@ use Rattle.dev_pit.specs.Saved.{restored_pit}
 use Rattle.dev_pit.specs.declared.pit.Pit.{Pit}
 use Rattle.dev_serial.proofs.AlikeLaws.{lines_alike}
 use Rattle.dev_serial.proofs.ComesBack.{saved_comes_back as serial-comes-back}
-use Rattle.dev_serial.proofs.RestoredLaw.{restored_is_sound as serial-sound}
 use Rattle.dev_serial.proofs.SavedCells.{saved_are_cells as serial-saved}
 use Rattle.dev_serial.specs.Cells.{carried as serial_carried}
 use Rattle.dev_serial.specs.Laws.{ComesBack as PortComesBack}
-use Rattle.dev_serial.specs.Port.{Port, line_of}
+use Rattle.dev_serial.specs.Port.{Port}
 use Rattle.dev_serial.specs.Rules.{same}
 use Rattle.dev_serial.specs.Saved.{cells_at, restored_cells}
 use Rattle.dev_serial.specs.Sound.{Alike as AlikePorts}
-use Rattle.dev_board.specs.Saved.{numbers_at, saved, carried, MaySaveUnder, timer_kinds, AreSavedCells, AreBoardCells, moment_of, timed, by_chip, by_device, lines_agree, agreed, joined, numbers_back, restored}
-use Rattle.dev_board.specs.SavedLaws.{SavedAreCells, ComesBack, SavedComesBack, SavedGoesOn, RestoredIsSound}
-use Rattle.dev_board.specs.Sound.{HasDevices, HasLines, IsSound, Alike}
+use Rattle.dev_board.specs.Saved.{numbers_at, saved, carried, MaySaveUnder, timer_kinds, AreSavedCells, AreBoardCells, timed, by_chip, by_device, lines_agree, agreed, joined, restored}
+use Rattle.dev_board.specs.SavedLaws.{SavedAreCells, ComesBack, SavedComesBack, SavedGoesOn}
+use Rattle.dev_board.specs.Sound.{HasLines, IsSound, Alike}
 use Rattle.dev_board.specs.State.{State}
-use Rattle.dev_board.specs.Step.{observe}
-use Rattle.dev_board.specs.declared.cells.BoardCells.{BoardCells}
-use Rattle.dev_board.specs.declared.event.Event.{Event}
 use Rattle.dev_board.specs.declared.misfit.Misfit.{Misfit}
 use Rattle.dev_board.specs.declared.misfit.TheConstants.{PIT_DEVICE, SERIAL_DEVICE}
 use Rattle.dev_board.proofs.AlikeLaws.{alike_stays}

@@ -1,6 +1,5 @@
 -- A board is sound at power on, and each event keeps it so.
-use Rattle.std.proofs.Common.{◌≡◌, ℕ, ◌<◌, ◌^◌, Bool, true, false, List, [], ◌∷◌, arith, refl, ◌∙◌, cond}
-use Rattle.dev_base.specs.Bits.{has}
+use Rattle.std.proofs.Common.{ℕ, ◌<◌, ◌^◌, Bool, List, [], ◌∷◌, arith, refl, ◌∙◌}
 use Rattle.dev_base.specs.Levels.{IsLevel}
 use Rattle.dev_pic.proofs.LineLaws.{lines_are_taken}
 use Rattle.dev_pic.proofs.PairLaws.{steps_keep_registers, steps_keep_level as pair_keeps_level}
@@ -20,9 +19,8 @@ use Rattle.dev_board.specs.Sound.{HasDevices, HasLines, IsSound}
 use Rattle.dev_board.specs.State.{State, power_on}
 use Rattle.dev_board.specs.Step.{inputs_of, settled, after_act, step, acted, wires_after, after_all}
 use Rattle.dev_board.specs.Wires.{AreWires, wires_of}
-use Rattle.dev_board.specs.declared.act.Act.{Act}
 use Rattle.dev_board.specs.declared.event.Event.{Event}
-use Rattle.dev_board.proofs.KeepLaws.{Kept, acted-kept}
+use Rattle.dev_board.proofs.KeepLaws.{acted-kept}
 use Rattle.dev_board.proofs.WireBits.{names, wires_of-are, wires_after-are, one-lt, inputs-lt, inputs-out, inputs-serial}
 
 -- the board at power on

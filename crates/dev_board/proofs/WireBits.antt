@@ -1,9 +1,8 @@
 -- The inputs of the pair, bit by bit.
-use Rattle.std.proofs.Common.{◌≡◌, ◌≢◌, ℕ, ◌+◌, ◌-◌, ◌<◌, ◌^◌, ◌==◌, Bool, true, false, not, ◌&&◌, ◌||◌, cond, arith, bit_and, bit_or, refl, ap, sym, ◌∙◌}
+use Rattle.std.proofs.Common.{◌≡◌, ◌≢◌, ℕ, ◌-◌, ◌<◌, ◌^◌, Bool, true, false, ◌&&◌, ◌||◌, arith, bit_or, refl, ap, sym, ◌∙◌}
 use Rattle.std.proofs.lemmas.Bool.{false≢true}
 use Rattle.std.proofs.lemmas.Bool.Decides.{nat_tests}
 use Rattle.std.proofs.lemmas.Nat.{and_le_l, and_le_r, or_of_16, pow_below}
-use Rattle.std.specs.Prelude.{nat_lt}
 use Rattle.dev_base.specs.Bits.{has}
 use Rattle.dev_pic.proofs.BitLaws.{has-and, has-or, has-one_other}
 use Rattle.dev_pic.specs.Pair.{lines_of}

@@ -14,7 +14,6 @@ use Rattle.dev_pit.specs.Pit.{pit_out}
 use Rattle.dev_serial.specs.Bits.{bits_where}
 use Rattle.dev_serial.specs.Port.{line_of}
 use Rattle.dev_board.specs.Laws.{IsEvent, wire_left, WiresStay}
-use Rattle.dev_board.specs.Sound.{IsSound}
 use Rattle.dev_board.specs.State.{State}
 use Rattle.dev_board.specs.Step.{acted, after_act, inputs_of, settled, step, wires_after}
 use Rattle.dev_board.specs.Wires.{AreWires, is_wire, wires_of, with_wire}

@@ -6,9 +6,8 @@ use Rattle.dev_base.specs.Levels.{IsLevel}
 use Rattle.dev_pic.specs.Pair.{lines_of}
 use Rattle.dev_board.specs.Sound.{IsSound, Alike}
 use Rattle.dev_board.specs.State.{State, power_on}
-use Rattle.dev_board.specs.Step.{step, names_wire, observe, after_all}
+use Rattle.dev_board.specs.Step.{step, observe, after_all}
 use Rattle.dev_board.specs.Wires.{is_wire}
-use Rattle.dev_board.specs.declared.event.Answer.{Answer}
 use Rattle.dev_board.specs.declared.event.Event.{Event}
 use Rattle.dev_board.specs.declared.event.Event.TheVariants.{Read, Write, Byte, Wait, Wire, Ack}
 

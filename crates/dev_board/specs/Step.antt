@@ -1,6 +1,5 @@
 -- What an event does to a board.
-use Rattle.std.specs.Prelude.{ℕ, ◌+◌, Bool, true, false, if◌then◌else◌, List, [], ◌∷◌, Option, Some, None, bit_or, min}
-use Rattle.arrayvec.specs.ArrayVec.{ArrayVec}
+use Rattle.std.specs.Prelude.{ℕ, ◌+◌, Bool, true, false, List, [], ◌∷◌, Some, None, bit_or, min}
 use Rattle.dev_base.specs.declared.limits.TheConstants.{LAST_MOMENT}
 use Rattle.dev_pic.specs.Pair.{acked, int_of, settled_pair}
 use Rattle.dev_pit.specs.Pit.{pit_out, pit_edge}

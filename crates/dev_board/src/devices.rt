@@ -21,11 +21,11 @@ const NO_DEVICE: u8 = 0xff;
 /// Levels are 1 to 4. Moments are nanoseconds from power on, at most `LAST_MOMENT`.
 #[derive(Drop)]
 pub struct Devices {
-    level: u8,
-    moment: u64,
-    pair: PicPair,
-    pit: Pit,
-    serial: Serial,
+    pub(crate) level: u8,
+    pub(crate) moment: u64,
+    pub(crate) pair: PicPair,
+    pub(crate) pit: Pit,
+    pub(crate) serial: Serial,
 }
 
 impl Model for Devices {

@@ -1,5 +1,6 @@
 // Laws of the definitions, each stated by a function without a body.
 ghost use Rattle.dev_board.specs.Laws.{SoundStays, WiresStay, ClockGoesOn, AlikeStays, Likeness};
+ghost use Rattle.dev_board.specs.SavedLaws.{SavedAreCells, SavedComesBack, SavedGoesOn, RestoredIsSound};
 
 /// A board is sound at power on, and each event and each list of events keeps it so.
 #[tactic(auto, using(crate::proofs::SoundLaws::sound_stays_on))]
@@ -31,4 +32,29 @@ pub fn alike_law()
 #[tactic(auto, using(crate::proofs::AlikeLaws::likeness))]
 pub fn likeness_law()
     ensures { Likeness }
+{}
+
+/// What is saved of a sound board under a set from its level on are normal cells of that set.
+#[tactic(auto, using(crate::proofs::SavedLaws::saved_are_cells))]
+pub fn cells_law()
+    ensures { SavedAreCells }
+{}
+
+/// What is saved of a sound board under any set from its level on, carried to the newest set, may be
+/// restored and gives a board like it.
+#[tactic(auto, using(crate::proofs::SavedLaws::saved_comes_back))]
+pub fn saved_law()
+    ensures { SavedComesBack }
+{}
+
+/// The board that comes back answers every list of events as the saved one.
+#[tactic(auto, using(crate::proofs::SavedLaws::saved_goes_on))]
+pub fn continuation_law()
+    ensures { SavedGoesOn }
+{}
+
+/// What is restored is sound, and has the level of the restore.
+#[tactic(auto, using(crate::proofs::RestoredLaws::restored_is_sound))]
+pub fn restored_law()
+    ensures { RestoredIsSound }
 {}

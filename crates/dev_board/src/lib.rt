@@ -6,14 +6,19 @@ mod act;
 mod cells;
 mod devices;
 mod event;
+mod hooked;
 mod laws;
 mod misfit;
 mod ports;
+mod saved;
 mod wires;
 
 pub use cells::BoardCells;
 pub use devices::Devices;
 pub use event::{Answer, Event};
-pub use laws::{alike_law, clock_law, likeness_law, sound_law, wires_law};
+pub use laws::{
+    alike_law, cells_law, clock_law, continuation_law, likeness_law, restored_law, saved_law,
+    sound_law, wires_law,
+};
 pub use misfit::Misfit;
 pub use wires::is_wire;

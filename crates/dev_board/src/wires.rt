@@ -1,5 +1,6 @@
 // The inputs of the pair that no device of the board drives.
 ghost use Rattle.std.specs.Prelude.{◌≡◌, ◌<◌};
+ghost use Rattle.dev_base.specs.Bits.{has};
 ghost use Rattle.dev_serial.specs.Bits.{bits_where as bits_where_of};
 ghost use Rattle.dev_board.specs.Wires.{is_wire as is_wire_of, with_wire as with_wire_of};
 
@@ -16,7 +17,15 @@ pub(crate) const SERIAL: u16 = 0x10;
 pub fn is_wire(input: u8) -> bool
     ensures { result ≡ is_wire_of input }
 {
-    input < 16 && (WIRES >> input) & 1 == 1
+    input < 16 && is_high(WIRES, input)
+}
+
+/// Tells whether an input is high.
+pub(crate) fn is_high(lines: u16, input: u8) -> bool
+    requires { input < 16 }
+    ensures { result ≡ has lines input }
+{
+    (lines >> input) & 1 == 1
 }
 
 /// The wires once one of them has risen or fallen.

@@ -1,4 +1,4 @@
-use Rattle.std.proofs.Common.{◌≡◌, sym, ap, subst, ◌∙◌}
+use Rattle.std.proofs.Common.{sym, ap, ◌∙◌}
 use Rattle.dev_board.specs.State.{State}
 use Rattle.dev_board.specs.Step.{settled, inputs_of}
 use Rattle.dev_board.specs.View.{devices_view}

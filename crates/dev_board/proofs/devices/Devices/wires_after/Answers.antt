@@ -1,8 +1,6 @@
-use Rattle.std.proofs.Common.{◌≡◌, ◌∙◌, sym, ap, subst}
-use Rattle.dev_board.specs.Step.{names_wire, wires_after}
-use Rattle.dev_board.specs.Wires.{AreWires, wires_of}
-use Rattle.dev_board.specs.declared.event.Event.{Event}
-use Rattle.dev_board.specs.declared.event.Event.TheVariants.{Wire}
+use Rattle.std.proofs.Common.{◌≡◌, ◌∙◌, sym}
+use Rattle.dev_board.specs.Step.{wires_after}
+use Rattle.dev_board.specs.Wires.{wires_of}
 use Rattle.dev_board.proofs.WireBits.{named-bound, wires_of-are, wires_after-are, others_leave}
 use Rattle.dev_board.proofs.devices.Devices.wires_after.Goals as goal
 
