@@ -1,8 +1,8 @@
 // The self-description of a set's images.
-ghost use Rattle.std.specs.Prelude.{◌≡◌, Some, map, IfOk, string_bytes};
+ghost use Rattle.std.specs.Prelude.{◌≡◌, ◌<◌, Some, map, length, IfOk, string_bytes};
 ghost use Rattle.serde_json.specs.Read.{read};
 ghost use Rattle.serde_json.specs.View.{view};
-ghost use Rattle.vms_spec.specs.Streams.{AreReady};
+ghost use Rattle.vms_spec.specs.Streams.{AreReady, longest_text};
 ghost use Rattle.vms_desc.specs.Described.{described};
 ghost use Rattle.vms_selfdesc.specs.Tree.{device_trees, described_tree, described_text};
 
@@ -22,6 +22,7 @@ pub fn describe(alloc: Global, set: &DescSet, images: &[Image]) -> Result<String
     requires { AreReady (described set.now) images.now }
     ensures text { IfOk result (λ s. string_bytes s ≡ described_text (described set.now) images.now) }
     ensures reads { IfOk result (λ s. read (string_bytes s) ≡ Some (described_tree (described set.now) images.now)) }
+    ensures short { IfOk result (λ s. length (string_bytes s) < longest_text) }
 {
     let value = described_value(alloc, set, images)?;
     Ok(value.to_string(alloc)?)
