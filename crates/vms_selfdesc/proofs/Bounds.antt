@@ -1,6 +1,5 @@
 -- The text of every well-formed set is shorter than what a description section may have, and that of a shipped set is short.
-use Rattle.std.proofs.Common.{◌≡◌, ℕ, zero, suc, ◌+◌, ◌*◌, ◌<◌, ◌≤◌, ◌^◌, List, [], ◌∷◌, length, get_or, refl, ap, sym, ◌∙◌, arith, true, is_none, Some}
-use Rattle.std.proofs.lemmas.Bool.{leb-true}
+use Rattle.std.proofs.Common.{◌≡◌, ℕ, zero, suc, ◌+◌, ◌*◌, ◌<◌, ◌≤◌, List, [], ◌∷◌, length, get_or, ap, arith, true, is_none}
 use Rattle.vms_spec.specs.declared.Part.TheVariants as parts
 use Rattle.vms_spec.specs.Heads.{FitsHeads}
 use Rattle.vms_spec.specs.Images.{Image}
@@ -8,7 +7,7 @@ use Rattle.vms_spec.specs.Sets.{Sub, Device, Set, AtLeast}
 use Rattle.vms_spec.specs.Shipped.{set_0, set_1, set_2, set_3, set_4}
 use Rattle.vms_spec.specs.Streams.{longest_text}
 use Rattle.vms_spec.specs.Layout.{first, no_desc}
-use Rattle.vms_spec.specs.WellFormed.{WellFormed, struct_items, devices_items, device_rules, sub_rules}
+use Rattle.vms_spec.specs.WellFormed.{struct_items, devices_items, device_rules, sub_rules}
 use Rattle.vms_laws.proofs.WellFormedStreams.{shipped_stands}
 use Rattle.vms_desc.specs.Described.{device_at}
 use Rattle.vms_desc.specs.Formed.{is_well_formed, shipped_set}
@@ -18,7 +17,7 @@ use Rattle.vms_desc.proofs.Clean.{few_subs}
 use Rattle.vms_selfdesc.specs.Laws.{ShortLaw, ShippedLaw}
 use Rattle.vms_selfdesc.specs.Tree.{described_text}
 use Rattle.vms_selfdesc.proofs.Lengths.{IsShortDesc, AreShortSubs, AreShortDevices, subs_of, text_long}
-use Rattle.vms_selfdesc.proofs.Plain.{IsShort, name_short, sub_name_short}
+use Rattle.vms_selfdesc.proofs.Plain.{name_short, sub_name_short}
 use Rattle.vms_selfdesc.proofs.ReadyDevices.{at_get}
 use Rattle.vms_selfdesc.proofs.Sound.{own_rules, device_whole, sub_whole}
 use Rattle.vms_selfdesc.proofs.Soundness.{part_sound}

@@ -1,8 +1,8 @@
 -- How long the text of an entry is.
-use Rattle.std.proofs.Common.{◌≡◌, ℕ, suc, ◌+◌, ◌<◌, ◌≤◌, ◌^◌, List, [], ◌∷◌, ◌++◌, length, length-append, ℤ, refl, ap, sym, ◌∙◌, arith, Bool, true, false, decimal, codes}
+use Rattle.std.proofs.Common.{◌≡◌, ℕ, suc, ◌+◌, ◌<◌, ◌≤◌, List, ◌∷◌, ◌++◌, length, length-append, ℤ, refl, ap, ◌∙◌, arith, Bool, true, false, decimal, codes}
 use Rattle.std.proofs.lemmas.Fmt.{length-decimal-le}
 use Rattle.json.specs.Print.{quoted, escape_byte}
-use Rattle.serde_json.specs.Data.{Data, Members, no_members, member, object, string, number}
+use Rattle.serde_json.specs.Data.{Data, Members, no_members, member, string, number}
 use Rattle.serde_json.specs.Find.{of_integer}
 use Rattle.serde_json.specs.Written.{compact_text, members_text, number_text, comma_if}
 use Rattle.vms_kinds.specs.declared.Kind.{Kind}

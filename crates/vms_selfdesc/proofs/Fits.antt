@@ -1,8 +1,7 @@
 -- How long the entries of fields are, and how many: of a path that begins with so many bytes, by the depth of structures and the
 -- number of items.
-use Rattle.std.proofs.Common.{◌≡◌, ℕ, zero, suc, ◌+◌, ◌-◌, ◌*◌, ◌<◌, ◌≤◌, List, [], ◌∷◌, ◌++◌, length, length-append, get_or, ℤ, pos, negsuc, Bool, true, false, ◌&&◌, refl, ap, sym, ◌∙◌, arith, subst, Option, None, Some, max, nat_lt, codes}
+use Rattle.std.proofs.Common.{◌≡◌, ℕ, zero, suc, ◌+◌, ◌-◌, ◌*◌, ◌<◌, ◌≤◌, List, [], ◌∷◌, ◌++◌, length, length-append, get_or, ℤ, Bool, true, false, ◌&&◌, refl, ap, sym, arith, subst, nat_lt, codes}
 use Rattle.std.proofs.lemmas.Bool.{ltb-true, ltb-false}
-use Rattle.std.proofs.lemmas.List.{append-nil}
 use Rattle.std.proofs.Math.ListN.{get_or-eq_default}
 use Rattle.serde_json.specs.Written.{compact_text, number_text}
 use Rattle.serde_json.specs.Find.{of_integer}
@@ -17,7 +16,7 @@ use Rattle.vms_spec.specs.Layout.{Cell, no_desc, no_parent, first, item_size, ca
 use Rattle.vms_spec.specs.WellFormed.{item_count, items_in, item_depth, deepest}
 use Rattle.vms_spec.proofs.Sizes.{elements_fit}
 use Rattle.vms_parts.proofs.Tables.{first_at, first_long}
-use Rattle.vms_selfdesc.specs.Entries.{Entry, Lister, no_lister, kind_word, sent_entry, cell_entry, absent_entry, sent_only, item_entries, element_path, element_entries, array_entries, field_entries, entries_from, desc_entries}
+use Rattle.vms_selfdesc.specs.Entries.{Entry, Lister, no_lister, kind_word, sent_entry, sent_only, item_entries, element_path, element_entries, array_entries, field_entries, entries_from, desc_entries}
 use Rattle.vms_selfdesc.specs.Tree.{entry_tree}
 use Rattle.vms_selfdesc.proofs.Plain.{IsPlain, IsShort, plain_append, element_plain, element_long, dot_plain}
 use Rattle.vms_selfdesc.proofs.EntryLong.{sent_long, absent_long, word_short, width_short, equal_short, unused_short}

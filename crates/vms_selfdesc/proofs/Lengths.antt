@@ -1,26 +1,21 @@
 -- How long the text of the described tree is: at most 300 bytes for each item, subsection and device.
-use Rattle.std.proofs.Common.{◌≡◌, ℕ, zero, suc, ◌+◌, ◌*◌, ◌<◌, ◌≤◌, ◌^◌, List, [], ◌∷◌, ◌++◌, length, length-append, get_or, map, ℤ, Bool, true, false, refl, ap, sym, ◌∙◌, arith, subst, Option, None, Some, is_some, codes}
+use Rattle.std.proofs.Common.{◌≡◌, ℕ, suc, ◌+◌, ◌*◌, ◌<◌, ◌≤◌, List, [], ◌∷◌, length, length-append, map, ℤ, Bool, true, false, refl, arith, Option, is_some, codes}
 use Rattle.json.specs.Print.{quoted, escape_byte}
-use Rattle.serde_json.specs.Data.{Data, Members, no_members, member, object, array, string, boolean, number}
+use Rattle.serde_json.specs.Data.{Data, no_members, member, object, array, string, boolean}
 use Rattle.serde_json.specs.View.{items_of}
-use Rattle.serde_json.specs.Written.{compact_text, items_text, members_text, comma_if}
+use Rattle.serde_json.specs.Written.{compact_text, items_text}
 use Rattle.vms_spec.specs.declared.Part.TheVariants as parts
-use Rattle.vms_spec.specs.Heads.{FitsHeads}
 use Rattle.vms_spec.specs.Lists.{at}
-use Rattle.vms_spec.specs.Names.{is_name}
-use Rattle.vms_spec.specs.Sets.{Desc, Sub, Device, Set, AtLeast}
-use Rattle.vms_spec.specs.Layout.{no_desc, desc_cells, struct_cells, numbers_of}
+use Rattle.vms_spec.specs.Sets.{Desc, Sub, Device, Set}
+use Rattle.vms_spec.specs.Layout.{desc_cells, struct_cells, numbers_of}
 use Rattle.vms_spec.specs.Images.{Image, own_cells}
-use Rattle.vms_spec.specs.WellFormed.{WellFormed, items_in, struct_items, subs_items, devices_items, struct_depths, deepest, device_rules, sub_rules}
-use Rattle.vms_desc.specs.Described.{device_at}
+use Rattle.vms_spec.specs.WellFormed.{items_in, struct_items, subs_items, devices_items, struct_depths, deepest}
 use Rattle.vms_desc.specs.Formed.{is_well_formed}
-use Rattle.vms_desc.specs.Parts.{sub_at}
-use Rattle.vms_selfdesc.specs.Entries.{Entry, listers, part_entries, entries_from}
-use Rattle.vms_selfdesc.specs.Tree.{natural, entry_tree, list_tree, sub_members, sub_tree, sub_trees, device_members, device_tree, device_trees, described_tree, described_text}
+use Rattle.vms_selfdesc.specs.Entries.{Entry, listers, part_entries}
+use Rattle.vms_selfdesc.specs.Tree.{natural, entry_tree, list_tree, sub_members, sub_trees, device_members, device_trees, described_text}
 use Rattle.vms_selfdesc.proofs.EntryLong.{member_long, number_short, key_name}
 use Rattle.vms_selfdesc.proofs.Fits.{AreLong, longer, AreSound, FitTables, tables_fit, entries_few, entries_long}
-use Rattle.vms_selfdesc.proofs.Plain.{IsShort, quoted_long, name_short, sub_name_short}
-use Rattle.vms_selfdesc.proofs.Sound.{own_rules, device_whole, sub_whole, struct_whole}
+use Rattle.vms_selfdesc.proofs.Plain.{IsShort, quoted_long}
 use Rattle.vms_selfdesc.proofs.Soundness.{part_sound, fields_flat}
 
 -- ---- lists
@@ -90,8 +85,15 @@ sub_long es name sent version short small =
       member_long true (codes "name") (string name) third,
       member_long true (codes "sent") (boolean sent) last,
       member_long true (codes "version") (natural version) no_members,
-      key_fields, key_name, key_sent, key_version,
-      array_long (map entry_tree es), quoted_long name short.plain, short.short, flag_short sent, number_short version small,
+      key_fields,
+      key_name,
+      key_sent,
+      key_version,
+      array_long (map entry_tree es),
+      quoted_long name short.plain,
+      short.short,
+      flag_short sent,
+      number_short version small,
     )
 
 device_long : (es : List Entry) (instance : ℕ) (name : List ℕ) (subs : List Data) (version : ℕ) → IsShort 100 name → instance < 4294967296 → version < 4294967296
@@ -108,8 +110,17 @@ device_long es instance name subs version short few small =
       member_long true (codes "name") (string name) fourth,
       member_long true (codes "subsections") (array (items_of subs)) last,
       member_long true (codes "version") (natural version) no_members,
-      key_fields, key_instance, key_name, key_subsections, key_version,
-      array_long (map entry_tree es), array_long subs, quoted_long name short.plain, short.short, number_short instance few, number_short version small,
+      key_fields,
+      key_instance,
+      key_name,
+      key_subsections,
+      key_version,
+      array_long (map entry_tree es),
+      array_long subs,
+      quoted_long name short.plain,
+      short.short,
+      number_short instance few,
+      number_short version small,
     )
 
 whole_long : (ds : List Data) → length (compact_text (object (member (codes "devices") (array (items_of ds)) no_members))) ≤ weight ds + 14

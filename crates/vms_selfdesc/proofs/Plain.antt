@@ -1,11 +1,11 @@
 -- Texts in which JSON escapes nothing: names of a set, and paths.
-use Rattle.std.proofs.Common.{◌≡◌, ℕ, suc, ◌+◌, ◌<◌, ◌≤◌, List, [], ◌∷◌, ◌++◌, length, length-append, Bool, true, false, ◌&&◌, ◌||◌, ◌==◌, nat_lt, nat_le, drop, take, refl, ap, sym, ◌∙◌, arith, subst, decimal, ◌^◌, ◌%◌}
+use Rattle.std.proofs.Common.{◌≡◌, ℕ, ◌+◌, ◌<◌, ◌≤◌, List, [], ◌∷◌, ◌++◌, length, length-append, Bool, true, false, ◌&&◌, ◌||◌, ◌==◌, nat_lt, nat_le, drop, take, refl, ap, sym, ◌∙◌, arith, subst, decimal, ◌^◌, ◌%◌}
 use Rattle.std.proofs.lemmas.Bool.{and_parts, leb-true, eqb-true, ne_eqb, le-ltb}
 use Rattle.std.proofs.lemmas.Fmt.{decimal_by_steps, length-decimal-le}
 use Rattle.std.proofs.lemmas.List.{take-append-drop}
 use Rattle.std.proofs.lemmas.Slice.Eq.{bytes_eq-Decides}
 use Rattle.std.specs.Str.{bytes_eq}
-use Rattle.json.specs.Print.{escape, escape_byte, escape_letter, quoted}
+use Rattle.json.specs.Print.{escape, escape_byte, quoted}
 use Rattle.vms_spec.specs.Lists.{every}
 use Rattle.vms_spec.specs.Names.{is_name_byte, is_name, is_sub_name}
 use Rattle.vms_selfdesc.specs.Entries.{element_path}

@@ -1,7 +1,7 @@
 -- Ready images are images of their devices.
 use Rattle.std.proofs.Common.{◌≡◌, ℕ, suc, ◌<◌, List, [], ◌∷◌, length, get_or, Option, Some, None, refl, ap, sym, ◌∙◌, arith, true, zero}
 use Rattle.vms_spec.specs.Lists.{at}
-use Rattle.vms_spec.specs.Sets.{Set, Device, Sub}
+use Rattle.vms_spec.specs.Sets.{Set, Sub}
 use Rattle.vms_spec.specs.Layout.{no_desc}
 use Rattle.vms_spec.specs.Images.{Image, AreVersionsOf}
 use Rattle.vms_spec.specs.Streams.{AreReady}

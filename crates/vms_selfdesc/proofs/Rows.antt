@@ -7,7 +7,7 @@ use Rattle.vms_spec.specs.Layout.{first}
 use Rattle.vms_spec.specs.Sets.{Set}
 use Rattle.vms_spec.specs.Images.{Image}
 use Rattle.vms_spec.specs.Shipped.{set_0}
-use Rattle.vms_spec.specs.Streams.{be32, written}
+use Rattle.vms_spec.specs.Streams.{written}
 use Rattle.vms_spec.proofs.Boxes.{counted_set, constant_set, subsection_set, tested_set, mixed_set}
 use Rattle.vms_selfdesc.specs.Tree.{described_text}
 

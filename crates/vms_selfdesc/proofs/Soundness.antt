@@ -1,5 +1,5 @@
 -- What well-formed sets say of names, sizes and depths.
-use Rattle.std.proofs.Common.{◌≡◌, ℕ, suc, ◌+◌, ◌<◌, ◌≤◌, ◌^◌, List, [], ◌∷◌, length, get_or, ℤ, pos, negsuc, Bool, true, false, ◌&&◌, nat_lt, nat_le, refl, ap, ◌∙◌, arith, subst, Option, None, decimal}
+use Rattle.std.proofs.Common.{◌≡◌, ℕ, suc, ◌+◌, ◌<◌, ◌≤◌, ◌^◌, List, [], ◌∷◌, length, get_or, ℤ, pos, negsuc, Bool, true, false, ◌&&◌, nat_lt, nat_le, refl, arith, None}
 use Rattle.std.proofs.lemmas.Bool.{and_parts, leb-true, ltb-true, ltb-false}
 use Rattle.std.proofs.lemmas.Fmt.{length-decimal-le}
 use Rattle.std.proofs.Math.ListN.{get_or-eq_default}

@@ -28,12 +28,7 @@ fn kind_word(kind: Kind) -> &'static str
 }
 
 // What stands in the stream: its path, size and type.
-fn sent_members(
-    alloc: Global,
-    path: String,
-    size: u64,
-    word: &str,
-) -> Result<Members, AllocError>
+fn sent_members(alloc: Global, path: String, size: u64, word: &str) -> Result<Members, AllocError>
     ensures { IfOk result (λ m. members_view m.entries ≡ sent_members (string_bytes path) size word.now) }
 {
     let mut members = Map::new(alloc);
@@ -54,12 +49,7 @@ pub(crate) fn sent_value(
     Ok(Value::Object(sent_members(alloc, path, size, word)?))
 }
 
-fn absent_value(
-    alloc: Global,
-    path: String,
-    word: &str,
-    default: i128,
-) -> Result<Value, AllocError>
+fn absent_value(alloc: Global, path: String, word: &str, default: i128) -> Result<Value, AllocError>
     requires { IsWide default }
     ensures { IfOk result (λ v. view v ≡ entry_tree (absent_entry (string_bytes path) word.now default)) }
 {

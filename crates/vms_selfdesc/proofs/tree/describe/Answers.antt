@@ -1,7 +1,6 @@
 use Rattle.std.proofs.Common.{◌≤◌, Some, length, sym, ap, ◌∙◌, subst, arith}
 use Rattle.serde_json.specs.Data.{Data, depth}
 use Rattle.serde_json.specs.Read.{max_depth}
-use Rattle.serde_json.specs.View.{view}
 use Rattle.serde_json.specs.Written.{has_float, compact_text}
 use Rattle.vms_spec.specs.WellFormed.{first_fault}
 use Rattle.vms_desc.specs.Described.{described}
