@@ -10,7 +10,8 @@ use Rattle.vms_selfdesc.specs.Tree.{described_text}
 
 -- of a well-formed set whose instance ids and versions have four bytes: less than what a description section may have
 pub record ShortLaw : Type 0 where
-  pub short : (set : Set) → WellFormed set → FitsHeads set → (images : List Image) → length (described_text set images) < longest_text
+  pub short : (set : Set) → WellFormed set → FitsHeads set
+      → (images : List Image) → length (described_text set images) < longest_text
 
 -- of a shipped set
 pub record ShippedLaw : Type 0 where

@@ -31,14 +31,17 @@ abbrev pub item_list : Set → Field → Bool → List ℤ → List ℕ → ℕ 
 item_list set f sent numbers path cell = item_entries (listers set) f.item f.default sent path numbers cell
 
 abbrev pub elements_list : Set → Field → Bool → List ℤ → List ℕ → ℕ → ℕ → List Entry
-elements_list set f sent numbers path cell n = element_entries (item_list set f sent numbers) path cell (item_size (struct_cells set) f.item) 0 n
+elements_list set f sent numbers path cell n =
+    element_entries (item_list set f sent numbers) path cell (item_size (struct_cells set) f.item) 0 n
 
 abbrev pub field_list : Set → Part → ℕ → ℕ → Bool → List ℤ → List ℕ → ℕ → List Entry
 field_list set part base k sent numbers path cell =
-    field_entries (struct_cells set) (listers set) (desc_at set part).version (own_numbers set part numbers base) sent path numbers cell (field_at set part k)
+    let own = own_numbers set part numbers base in
+    field_entries (struct_cells set) (listers set) (desc_at set part).version own sent path numbers cell (field_at set part k)
 
 abbrev pub part_list : Set → Part → Bool → List ℤ → List ℕ → ℕ → List Entry
-part_list set part sent numbers path cell = desc_entries (struct_cells set) (listers set) (desc_at set part) sent path numbers cell
+part_list set part sent numbers path cell =
+    desc_entries (struct_cells set) (listers set) (desc_at set part) sent path numbers cell
 
 -- ---- the same, as the code has them
 

@@ -9,7 +9,8 @@ ghost use Rattle.vms_desc.specs.Parts.{sub_at};
 ghost use Rattle.vms_selfdesc.specs.Entries.{part_entries};
 ghost use Rattle.vms_selfdesc.specs.Listing.{set_in, numbers_in, IsPlace, part_list};
 ghost use Rattle.vms_selfdesc.specs.Needs.{HasDevice};
-ghost use Rattle.vms_selfdesc.specs.Tree.{entry_tree, sub_tree, sub_trees, sub_members, device_members, device_tree};
+ghost use Rattle.vms_selfdesc.specs.Tree.{entry_tree, sub_members, sub_tree, sub_trees};
+ghost use Rattle.vms_selfdesc.specs.Tree.{device_members, device_tree};
 
 use crate::built::{Members, natural_value, push, put, text_value};
 use crate::fields::{Lister, Place, list_part};
@@ -20,7 +21,8 @@ use vms_desc::Part;
 // The entries of the fields of a part.
 fn entries(lister: &Lister, part: Part, sent: bool, cell: u32) -> Result<Vec<Value>, AllocError>
     requires { IsPlace lister.now part cell }
-    ensures { let entries = part_list (set_in lister.now) part sent (numbers_in lister.now) [] cell in
+    ensures { let numbers = numbers_in lister.now in
+        let entries = part_list (set_in lister.now) part sent numbers [] cell in
         IfOk result (λ list. map view list.items ≡ map entry_tree entries) }
 {
     let mut list = Vec::new(lister.alloc);

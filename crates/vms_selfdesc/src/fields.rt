@@ -5,7 +5,8 @@ ghost use Rattle.vms_parts.specs.Views.{field_of};
 ghost use Rattle.vms_desc.specs.Asks.{field_at};
 ghost use Rattle.vms_desc.specs.Parts.{desc_at};
 ghost use Rattle.vms_selfdesc.specs.Entries.{element_path, sent_only, sent_entry};
-ghost use Rattle.vms_selfdesc.specs.Listing.{Adds, is_field_sent, set_in, numbers_in, IsPlace, AreElements};
+ghost use Rattle.vms_selfdesc.specs.Listing.{Adds, is_field_sent, set_in, numbers_in};
+ghost use Rattle.vms_selfdesc.specs.Listing.{IsPlace, AreElements};
 ghost use Rattle.vms_selfdesc.specs.Listing.{item_at, elements_at, field_within, part_at};
 
 use crate::built::push;

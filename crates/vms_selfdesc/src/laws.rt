@@ -1,8 +1,8 @@
 // Laws of self-descriptions.
 ghost use Rattle.vms_selfdesc.specs.Laws.{ShippedLaw, ShortLaw};
 
-/// The self-description of every well-formed set, whatever the images, has less than 16,777,216 bytes,
-/// which a description section may have at most.
+/// The self-description of every well-formed set, whatever the images, has less than the 16,777,216
+/// bytes that a description section may have at most.
 #[tactic(auto, using(crate::proofs::Bounds::short_holds))]
 pub fn short_law()
     ensures { ShortLaw }

@@ -16,12 +16,13 @@ use vms_image::Image;
 use vms_io::NoMemory;
 
 /// The self-description of the stream of these images, one for each device in the set's order: JSON
-/// without blanks, each object's keys in byte order. It says of each device what stands in its section,
-/// element by element with path, size in bytes and type, and the defaults of cells that don't stand there.
-/// It has less than 16,777,216 bytes. Fails only where memory is wanting.
+/// without blanks, each object's keys in byte order. It says of each device what stands in its
+/// section, element by element with path, size in bytes and type, and the defaults of the cells that
+/// don't stand there. It has less than 16,777,216 bytes. Fails only where memory is wanting.
 pub fn describe(alloc: Global, set: &DescSet, images: &[Image]) -> Result<String, NoMemory>
     requires { AreReady (described set.now) images.now }
-    ensures text { IfOk result (λ s. string_bytes s ≡ described_text (described set.now) images.now) }
+    ensures text { let text = described_text (described set.now) images.now in
+        IfOk result (λ s. string_bytes s ≡ text) }
     ensures reads { let tree = described_tree (described set.now) images.now in
         IfOk result (λ s. read (string_bytes s) ≡ Some tree) }
     ensures short { IfOk result (λ s. length (string_bytes s) < longest_text) }
