@@ -1,5 +1,5 @@
 -- What the calls over the fields of a part need.
-use Rattle.std.proofs.Common.{◌≡◌, ℕ, ◌+◌, ◌*◌, ◌<◌, ◌≤◌, List, [], ◌∷◌, length, get_or, drop, ℤ, refl, sym, ap, ◌∙◌, subst, arith, Bool, true, ◌++◌}
+use Rattle.std.proofs.Common.{◌≡◌, ℕ, ◌+◌, ◌*◌, ◌<◌, ◌≤◌, List, [], ◌∷◌, length, get_or, ℤ, refl, sym, ap, ◌∙◌, subst, arith, Bool, true, ◌++◌}
 use Rattle.std.proofs.lemmas.Bool.{ltb-true}
 use Rattle.vms_kinds.specs.declared.Item.{Item}
 use Rattle.vms_kinds.specs.declared.Item.TheVariants.{Struct}
@@ -7,9 +7,9 @@ use Rattle.vms_spec.specs.declared.Count.{Count}
 use Rattle.vms_spec.specs.declared.Count.TheVariants.{One, Fixed, Counted}
 use Rattle.vms_spec.specs.declared.Part.{Part}
 use Rattle.vms_spec.specs.declared.Part.TheVariants as parts
-use Rattle.vms_spec.specs.Sets.{Set, Field, Desc}
+use Rattle.vms_spec.specs.Sets.{Set, Field}
 use Rattle.vms_spec.specs.Rules.{uses_below, defaults_well, counts_well}
-use Rattle.vms_spec.specs.Layout.{Cell, no_desc, item_size, struct_cells, desc_cells, cells_from, capacity_of, counted, elements_of}
+use Rattle.vms_spec.specs.Layout.{no_desc, item_size, struct_cells, capacity_of, counted, elements_of}
 use Rattle.std.proofs.lemmas.Bool.{and_parts}
 use Rattle.vms_parts.specs.Sizes.{in_u32}
 use Rattle.vms_desc.specs.Asks.{field_at, own_numbers}

@@ -1,9 +1,15 @@
+pub mod Bounds
+pub mod EntryLong
 pub mod FieldNeeds
+pub mod Fits
+pub mod Lengths
 pub mod Listed
+pub mod Plain
 pub mod Ranks
 pub mod ReadyDevices
 mod Rows
 pub mod Shapes
 pub mod Sound
+pub mod Soundness
 pub mod Structures
 pub mod Trees

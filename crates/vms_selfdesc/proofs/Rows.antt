@@ -1,5 +1,5 @@
 -- The self-descriptions of worked images.
-use Rattle.std.proofs.Common.{◌≡◌, ℕ, List, [], ◌∷◌, ◌++◌, length, Some, None, pos, negsuc, refl, codes}
+use Rattle.std.proofs.Common.{◌≡◌, ℕ, List, [], ◌∷◌, ◌++◌, length, Some, None, ℤ, pos, negsuc, refl, codes}
 use Rattle.std.specs.Fmt.{digits}
 use Rattle.vms_kinds.specs.Codes.{code}
 use Rattle.json.specs.Print.{escape_byte}
@@ -7,8 +7,8 @@ use Rattle.vms_spec.specs.Layout.{first}
 use Rattle.vms_spec.specs.Sets.{Set}
 use Rattle.vms_spec.specs.Images.{Image}
 use Rattle.vms_spec.specs.Shipped.{set_0}
-use Rattle.vms_spec.specs.Streams.{be32, written}
-use Rattle.vms_spec.proofs.Boxes.{counted_set, constant_set, subsection_set, tested_set}
+use Rattle.vms_spec.specs.Streams.{written}
+use Rattle.vms_spec.proofs.Boxes.{counted_set, constant_set, subsection_set, tested_set, mixed_set}
 use Rattle.vms_selfdesc.specs.Tree.{described_text}
 
 unfoldable text_of : Set → List Image → List ℕ
@@ -37,3 +37,55 @@ follows_the_smallest_stream = refl
 has_169_bytes : length (written set_0 None timer (Some (text_of set_0 timer))) ≡ 169
 unfolding text_of first digits escape_byte code
 has_169_bytes = refl
+
+-- ---- boxes
+
+-- the front of a text about the box, and what comes after its fields
+abbrev box_text : List ℕ → List ℕ
+box_text fields = codes "{\"devices\":[{\"fields\":[" ++ fields ++ codes "],\"instance_id\":0,\"name\":\"box\",\"subsections\":[],\"version\":1}]}"
+
+abbrev one : List ℤ → List Image
+one numbers = record { version = 1; came = []; numbers = numbers } ∷ []
+
+-- of a counted array as many elements as its number says, each with its number
+counts_elements : text_of counted_set (one (pos 1 ∷ pos 258 ∷ pos 0 ∷ []))
+    ≡ box_text (codes "{\"name\":\"n\",\"size\":1,\"type\":\"u8\"},{\"name\":\"v[0]\",\"size\":2,\"type\":\"u16\"}")
+unfolding text_of first digits escape_byte code
+counts_elements = refl
+
+-- a constant and unused bytes stand in the stream
+lists_what_has_no_cell : text_of constant_set (one (pos 1 ∷ []))
+    ≡ box_text (codes "{\"name\":\"flag\",\"size\":1,\"type\":\"bool\"},{\"name\":\"id\",\"size\":1,\"type\":\"equal\"},{\"name\":\"gap\",\"size\":2,\"type\":\"unused\"}")
+unfolding text_of first digits escape_byte code
+lists_what_has_no_cell = refl
+
+-- g isn't there where f isn't 1, and has its default
+gives_defaults : text_of tested_set (one (pos 0 ∷ pos 0 ∷ []))
+    ≡ box_text (codes "{\"name\":\"f\",\"size\":1,\"type\":\"u8\"},{\"name\":\"g\",\"size\":0,\"type\":\"u8\",\"value\":0}")
+unfolding text_of first digits escape_byte code
+gives_defaults = refl
+
+gives_no_default : text_of tested_set (one (pos 1 ∷ pos 7 ∷ []))
+    ≡ box_text (codes "{\"name\":\"f\",\"size\":1,\"type\":\"u8\"},{\"name\":\"g\",\"size\":1,\"type\":\"u8\"}")
+unfolding text_of first digits escape_byte code
+gives_no_default = refl
+
+-- every subsection is listed, sent or not
+lists_each_subsection : text_of subsection_set (record { version = 1; came = None ∷ Some 1 ∷ []; numbers = pos 0 ∷ pos 5 ∷ pos 9 ∷ [] } ∷ [])
+    ≡ codes "{\"devices\":[{\"fields\":[{\"name\":\"a\",\"size\":1,\"type\":\"u8\"}],\"instance_id\":0,\"name\":\"box\",\"subsections\":["
+    ++ codes "{\"fields\":[{\"name\":\"x\",\"size\":0,\"type\":\"u8\",\"value\":5}],\"name\":\"box/p\",\"sent\":false,\"version\":1},"
+    ++ codes "{\"fields\":[{\"name\":\"y\",\"size\":1,\"type\":\"u8\"}],\"name\":\"box/q\",\"sent\":true,\"version\":1}"
+    ++ codes "],\"version\":1}]}"
+unfolding text_of first digits escape_byte code
+lists_each_subsection = refl
+
+-- an array of structures of version 3, whose z is to come at 4, in a box at version 2; t isn't there
+expands_structures : text_of mixed_set (record { version = 2; came = None ∷ []; numbers = pos 1 ∷ pos 3 ∷ pos 4 ∷ pos 9 ∷ pos 0 ∷ pos 0 ∷ pos 9 ∷ pos 0 ∷ pos 0 ∷ pos 9 ∷ pos 0 ∷ pos 0 ∷ negsuc 2 ∷ pos 7 ∷ pos 1 ∷ [] } ∷ [])
+    ≡ codes "{\"devices\":[{\"fields\":[{\"name\":\"n\",\"size\":1,\"type\":\"u8\"},"
+    ++ codes "{\"name\":\"ps[0].x\",\"size\":1,\"type\":\"u8\"},{\"name\":\"ps[0].y\",\"size\":2,\"type\":\"u16\"},{\"name\":\"ps[0].z\",\"size\":0,\"type\":\"u8\",\"value\":9},"
+    ++ codes "{\"name\":\"flag\",\"size\":1,\"type\":\"bool\"},{\"name\":\"t\",\"size\":0,\"type\":\"u16\",\"value\":0},{\"name\":\"w\",\"size\":1,\"type\":\"i8\"}],"
+    ++ codes "\"instance_id\":0,\"name\":\"box\",\"subsections\":["
+    ++ codes "{\"fields\":[{\"name\":\"a\",\"size\":0,\"type\":\"u32\",\"value\":7},{\"name\":\"b\",\"size\":0,\"type\":\"u8\",\"value\":1}],\"name\":\"box/s\",\"sent\":false,\"version\":2}"
+    ++ codes "],\"version\":2}]}"
+unfolding text_of first digits escape_byte code
+expands_structures = refl

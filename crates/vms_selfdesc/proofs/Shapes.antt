@@ -1,14 +1,13 @@
 -- The described tree has no number with a fraction, and nests little.
 use Rattle.std.proofs.Common.{◌≡◌, ℕ, suc, ◌+◌, ◌≤◌, length, List, [], ◌∷◌, map, Bool, true, false, ◌||◌, Option, Some, None, ℤ, pos, negsuc, refl, arith, is_some}
-use Rattle.serde_json.specs.Data.{Data, Items, object, array, depth, items_depth, members_depth}
-use Rattle.serde_json.specs.Read.{max_depth}
+use Rattle.serde_json.specs.Data.{Data, object, array, depth, items_depth}
 use Rattle.serde_json.specs.View.{items_of}
-use Rattle.serde_json.specs.Written.{has_float, items_have_float, members_have_float}
+use Rattle.serde_json.specs.Written.{has_float, items_have_float}
 use Rattle.vms_spec.specs.Sets.{Sub, Device, Set}
 use Rattle.vms_spec.specs.Layout.{desc_cells, struct_cells}
 use Rattle.vms_spec.specs.Images.{Image, own_cells}
 use Rattle.vms_selfdesc.specs.Entries.{Entry, part_entries}
-use Rattle.vms_selfdesc.specs.Tree.{with_value, sent_members, entry_tree, list_tree, sub_members, sub_trees, device_members, device_tree, device_trees, described_tree}
+use Rattle.vms_selfdesc.specs.Tree.{with_value, sent_members, entry_tree, list_tree, sub_members, sub_trees, device_members, device_trees, described_tree}
 
 -- without a fraction, and nested at most so deep
 pub record IsPlainTree (deepest : ℕ) (d : Data) : Type 0 where
@@ -72,12 +71,11 @@ device_plain es instance name subs version p =
 devices_plain : (set : Set) (devices : List Device) (images : List Image) → ArePlain 5 (device_trees set devices images)
 devices_plain set [] images = tt
 devices_plain set (d ∷ devices) [] = tt
-devices_plain set (d ∷ devices) (image ∷ images) =
-    (
-      device_plain (part_entries set d.desc true image.numbers 0) d.instance d.desc.name (sub_trees set image.numbers (own_cells set d) d.subs image.came) d.desc.version
+devices_plain set (d ∷ devices) (image ∷ images) = (
+  device_plain (part_entries set d.desc true image.numbers 0) d.instance d.desc.name (sub_trees set image.numbers (own_cells set d) d.subs image.came) d.desc.version
       (subs_plain set image.numbers (own_cells set d) d.subs image.came),
-      devices_plain set devices images,
-    )
+  devices_plain set devices images,
+)
 
 pub described_plain : (set : Set) (images : List Image) → IsPlainTree 7 (described_tree set images)
 described_plain set images =

@@ -1,6 +1,6 @@
 -- What the self-description says of the fields of a part: an entry for each element that stands in the stream, in order, and one
 -- for each cell that doesn't stand there and that the values text prints.
-use Rattle.std.specs.Prelude.{ℕ, zero, suc, ◌+◌, ◌*◌, Bool, true, false, ◌&&◌, if◌then◌else◌, List, [], ◌∷◌, ◌++◌, length, get_or, Option, Some, None, ℤ, decimal, codes}
+use Rattle.std.specs.Prelude.{ℕ, zero, suc, ◌+◌, ◌*◌, Bool, true, false, ◌&&◌, List, [], ◌∷◌, ◌++◌, length, get_or, Option, Some, None, ℤ, decimal, codes}
 use Rattle.vms_kinds.specs.declared.Kind.{Kind}
 use Rattle.vms_kinds.specs.declared.Kind.TheVariants as kinds
 use Rattle.vms_kinds.specs.declared.Item.{Item}
@@ -24,7 +24,8 @@ kind_word kinds.I64 = codes "i64"
 kind_word kinds.Bool = codes "bool"
 kind_word kinds.Timer = codes "timer"
 
--- the path as in the values text, how many bytes stand in the stream, the type, and the default of a cell that doesn't stand there
+-- the path as in the values text, how many bytes stand in the stream, the type, and the default of a cell that doesn't
+-- stand there
 pub record Entry : Type 0 where
   pub path : List ℕ
   pub size : ℕ
@@ -80,7 +81,8 @@ array_entries one count n path at step = element_entries one path at step 0 n
 -- of a field of a description at a version, whose numbers are given
 abbrev pub field_entries : List (List Cell) → List Lister → ℕ → (ℕ → ℕ) → Bool → List ℕ → List ℤ → ℕ → Field → List Entry
 field_entries cells structs v own sent path numbers at f =
-    array_entries (λ path at. item_entries structs f.item f.default (sent && is_there f.test f.since v own no_parent) path numbers at)
+    let there = sent && is_there f.test f.since v own no_parent in
+    array_entries (λ path at. item_entries structs f.item f.default there path numbers at)
     f.count (elements_of f.count own) (path ++ f.name) at (item_size cells f.item)
 
 -- of these fields, the first of which begins at a place

@@ -2,3 +2,4 @@ pub mod Entries
 pub mod Tree
 pub mod Needs
 pub mod Listing
+pub mod Laws

@@ -1,5 +1,5 @@
 -- What the calls that go over fields add to a list, over the parts of a set.
-use Rattle.std.specs.Prelude.{◌≡◌, ℕ, Bool, ◌&&◌, List, ◌++◌, map, ℤ}
+use Rattle.std.specs.Prelude.{◌≡◌, ℕ, Bool, ◌&&◌, List, ◌++◌, map, ℤ, string_bytes}
 use Rattle.serde_json.specs.View.{view}
 use Rattle.serde_json.specs.declared.value.Value.{Value}
 use Rattle.vms_spec.specs.declared.Part.{Part}
@@ -7,9 +7,14 @@ use Rattle.vms_spec.specs.Sets.{Set, Field}
 use Rattle.vms_spec.specs.Tests.{is_there}
 use Rattle.vms_spec.specs.Layout.{no_parent, item_size, struct_cells}
 use Rattle.vms_desc.specs.Asks.{field_at, own_numbers}
+use Rattle.vms_desc.specs.Described.{described}
 use Rattle.vms_desc.specs.Parts.{desc_at}
 use Rattle.vms_selfdesc.specs.Entries.{Entry, listers, item_entries, element_entries, field_entries, desc_entries}
+use Rattle.vms_selfdesc.specs.Needs.{HasPlace, HasElements}
 use Rattle.vms_selfdesc.specs.Tree.{entry_tree}
+use Rattle.vms_selfdesc.specs.declared.fields.At.{At}
+use Rattle.vms_selfdesc.specs.declared.fields.Lister.{Lister}
+use Rattle.vms_selfdesc.specs.declared.fields.Place.{Place}
 
 -- the list has grown by the trees of these entries
 abbrev pub Adds : List Value → List Value → List Entry → Type 0
@@ -26,11 +31,41 @@ abbrev pub item_list : Set → Field → Bool → List ℤ → List ℕ → ℕ 
 item_list set f sent numbers path cell = item_entries (listers set) f.item f.default sent path numbers cell
 
 abbrev pub elements_list : Set → Field → Bool → List ℤ → List ℕ → ℕ → ℕ → List Entry
-elements_list set f sent numbers path cell n = element_entries (item_list set f sent numbers) path cell (item_size (struct_cells set) f.item) 0 n
+elements_list set f sent numbers path cell n =
+    element_entries (item_list set f sent numbers) path cell (item_size (struct_cells set) f.item) 0 n
 
 abbrev pub field_list : Set → Part → ℕ → ℕ → Bool → List ℤ → List ℕ → ℕ → List Entry
 field_list set part base k sent numbers path cell =
-    field_entries (struct_cells set) (listers set) (desc_at set part).version (own_numbers set part numbers base) sent path numbers cell (field_at set part k)
+    let own = own_numbers set part numbers base in
+    field_entries (struct_cells set) (listers set) (desc_at set part).version own sent path numbers cell (field_at set part k)
 
 abbrev pub part_list : Set → Part → Bool → List ℤ → List ℕ → ℕ → List Entry
-part_list set part sent numbers path cell = desc_entries (struct_cells set) (listers set) (desc_at set part) sent path numbers cell
+part_list set part sent numbers path cell =
+    desc_entries (struct_cells set) (listers set) (desc_at set part) sent path numbers cell
+
+-- ---- the same, as the code has them
+
+abbrev pub set_in : Lister → Set
+set_in l = described l.set.now
+
+abbrev pub numbers_in : Lister → List ℤ
+numbers_in l = l.image.now.numbers
+
+abbrev pub IsPlace : Lister → Part → ℕ → Type 0
+IsPlace l part cell = HasPlace (set_in l) part cell (numbers_in l)
+
+abbrev pub AreElements : Lister → Field → ℕ → ℕ → Type 0
+AreElements l f cell n = HasElements (set_in l) f cell n (numbers_in l)
+
+abbrev pub item_at : Lister → Field → Place → List Entry
+item_at l f place = item_list (set_in l) f place.sent (numbers_in l) (string_bytes place.path) place.cell
+
+abbrev pub elements_at : Lister → Field → Place → ℕ → List Entry
+elements_at l f place n = elements_list (set_in l) f place.sent (numbers_in l) (string_bytes place.path) place.cell n
+
+abbrev pub field_within : Lister → Part → Place → At → List Entry
+field_within l part within at =
+    field_list (set_in l) part within.cell at.field within.sent (numbers_in l) (string_bytes within.path) at.cell
+
+abbrev pub part_at : Lister → Part → Place → List Entry
+part_at l part place = part_list (set_in l) part place.sent (numbers_in l) (string_bytes place.path) place.cell

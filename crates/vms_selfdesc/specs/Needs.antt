@@ -1,5 +1,5 @@
 -- What the calls of this crate need.
-use Rattle.std.specs.Prelude.{◌≡◌, ℕ, ◌+◌, ◌*◌, ◌<◌, ◌≤◌, Bool, true, ◌&&◌, List, [], length, get_or, ℤ, pos, negsuc, int_le, int_lt}
+use Rattle.std.specs.Prelude.{◌≡◌, ℕ, ◌+◌, ◌*◌, ◌<◌, ◌≤◌, true, ◌&&◌, List, length, ℤ, pos, negsuc, int_le, int_lt}
 use Rattle.vms_spec.specs.Sets.{Set, Field}
 use Rattle.vms_spec.specs.Rules.{uses_below, defaults_well}
 use Rattle.vms_spec.specs.Layout.{item_size, struct_cells, device_cells}

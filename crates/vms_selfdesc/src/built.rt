@@ -46,7 +46,8 @@ pub(crate) fn put(
     key: &str,
     value: Value,
 ) -> Result<(), AllocError>
-    ensures { OnOk result (members_view members.new.entries ≡ put key.now (view value) (members_view members.old.entries)) }
+    ensures { let more = put key.now (view value) (members_view members.old.entries) in
+        OnOk result (members_view members.new.entries ≡ more) }
 {
     serde_json::put(members, alloc, key, value)
 }

@@ -4,12 +4,13 @@ ghost use Rattle.serde_json.specs.View.{view, members_view};
 ghost use Rattle.vms_spec.specs.Images.{own_cells};
 ghost use Rattle.vms_spec.specs.declared.Part.TheVariants as parts;
 ghost use Rattle.vms_desc.specs.Asks.{first_cell};
-ghost use Rattle.vms_desc.specs.Described.{described, device_at};
+ghost use Rattle.vms_desc.specs.Described.{device_at};
 ghost use Rattle.vms_desc.specs.Parts.{sub_at};
 ghost use Rattle.vms_selfdesc.specs.Entries.{part_entries};
-ghost use Rattle.vms_selfdesc.specs.Listing.{part_list};
-ghost use Rattle.vms_selfdesc.specs.Needs.{HasPlace, HasDevice};
-ghost use Rattle.vms_selfdesc.specs.Tree.{entry_tree, sub_tree, sub_trees, sub_members, device_members, device_tree};
+ghost use Rattle.vms_selfdesc.specs.Listing.{set_in, numbers_in, IsPlace, part_list};
+ghost use Rattle.vms_selfdesc.specs.Needs.{HasDevice};
+ghost use Rattle.vms_selfdesc.specs.Tree.{entry_tree, sub_members, sub_tree, sub_trees};
+ghost use Rattle.vms_selfdesc.specs.Tree.{device_members, device_tree};
 
 use crate::built::{Members, natural_value, push, put, text_value};
 use crate::fields::{Lister, Place, list_part};
@@ -19,9 +20,10 @@ use vms_desc::Part;
 
 // The entries of the fields of a part.
 fn entries(lister: &Lister, part: Part, sent: bool, cell: u32) -> Result<Vec<Value>, AllocError>
-    requires { HasPlace (described lister.now.set.now) part cell lister.now.image.now.numbers }
-    ensures { let set = described lister.now.set.now in
-        IfOk result (λ list. map view list.items ≡ map entry_tree (part_list set part sent lister.now.image.now.numbers [] cell)) }
+    requires { IsPlace lister.now part cell }
+    ensures { let numbers = numbers_in lister.now in
+        let entries = part_list (set_in lister.now) part sent numbers [] cell in
+        IfOk result (λ list. map view list.items ≡ map entry_tree entries) }
 {
     let mut list = Vec::new(lister.alloc);
     let path = String::new(lister.alloc);
@@ -30,13 +32,14 @@ fn entries(lister: &Lister, part: Part, sent: bool, cell: u32) -> Result<Vec<Val
 }
 
 fn sub_members(lister: &Lister, device: u32, sub: u32, sent: bool) -> Result<Members, AllocError>
-    requires device { HasDevice (described lister.now.set.now) device lister.now.image.now }
-    requires is_sub { sub < length (device_at (described lister.now.set.now) device).subs }
-    ensures { let set = described lister.now.set.now in
+    requires device { HasDevice (set_in lister.now) device lister.now.image.now }
+    requires is_sub { sub < length (device_at (set_in lister.now) device).subs }
+    ensures { let set = set_in lister.now in
         let s = sub_at (device_at set device) sub in
         let at = first_cell set (parts.Sub device sub) in
-        let entries = part_entries set s.desc sent lister.now.image.now.numbers at in
-        IfOk result (λ m. members_view m.entries ≡ sub_members entries s.desc.name sent s.desc.version) }
+        let entries = part_entries set s.desc sent (numbers_in lister.now) at in
+        let members = sub_members entries s.desc.name sent s.desc.version in
+        IfOk result (λ m. members_view m.entries ≡ members) }
 {
     let part = Part::Sub(device, sub);
     let desc = lister.set.desc(part);
@@ -53,9 +56,9 @@ fn sub_members(lister: &Lister, device: u32, sub: u32, sent: bool) -> Result<Mem
 
 // A subsection, whether or not it stands in the stream.
 fn sub_value(lister: &Lister, device: u32, sub: u32) -> Result<Value, AllocError>
-    requires device { HasDevice (described lister.now.set.now) device lister.now.image.now }
-    requires is_sub { sub < length (device_at (described lister.now.set.now) device).subs }
-    ensures { let set = described lister.now.set.now in
+    requires device { HasDevice (set_in lister.now) device lister.now.image.now }
+    requires is_sub { sub < length (device_at (set_in lister.now) device).subs }
+    ensures { let set = set_in lister.now in
         let image = lister.now.image.now in
         let at = first_cell set (parts.Sub device sub) in
         let s = sub_at (device_at set device) sub in
@@ -66,12 +69,13 @@ fn sub_value(lister: &Lister, device: u32, sub: u32) -> Result<Value, AllocError
 }
 
 fn sub_values(lister: &Lister, device: u32) -> Result<Vec<Value>, AllocError>
-    requires { HasDevice (described lister.now.set.now) device lister.now.image.now }
-    ensures { let set = described lister.now.set.now in
+    requires { HasDevice (set_in lister.now) device lister.now.image.now }
+    ensures { let set = set_in lister.now in
         let image = lister.now.image.now in
         let d = device_at set device in
         let first = own_cells set d in
-        IfOk result (λ list. map view list.items ≡ sub_trees set image.numbers first d.subs image.came) }
+        let trees = sub_trees set image.numbers first d.subs image.came in
+        IfOk result (λ list. map view list.items ≡ trees) }
 {
     let mut list = Vec::new(lister.alloc);
     for sub in 0..lister.set.sub_count(device) {
@@ -82,13 +86,14 @@ fn sub_values(lister: &Lister, device: u32) -> Result<Vec<Value>, AllocError>
 }
 
 fn device_members(lister: &Lister, device: u32) -> Result<Members, AllocError>
-    requires { HasDevice (described lister.now.set.now) device lister.now.image.now }
-    ensures { let set = described lister.now.set.now in
+    requires { HasDevice (set_in lister.now) device lister.now.image.now }
+    ensures { let set = set_in lister.now in
         let d = device_at set device in
         let image = lister.now.image.now in
         let entries = part_entries set d.desc true image.numbers 0 in
         let subs = sub_trees set image.numbers (own_cells set d) d.subs image.came in
-        IfOk result (λ m. members_view m.entries ≡ device_members entries d.instance d.desc.name subs d.desc.version) }
+        let members = device_members entries d.instance d.desc.name subs d.desc.version in
+        IfOk result (λ m. members_view m.entries ≡ members) }
 {
     let described = lister.set.device(device);
     let fields = entries(lister, Part::Device(device), true, 0)?;
@@ -99,7 +104,12 @@ fn device_members(lister: &Lister, device: u32) -> Result<Members, AllocError>
     put(lister.alloc, &mut members, "instance_id", instance)?;
     let name = text_value(lister.alloc, described.desc.name.as_str())?;
     put(lister.alloc, &mut members, "name", name)?;
-    put(lister.alloc, &mut members, "subsections", Value::Array(subs))?;
+    put(
+        lister.alloc,
+        &mut members,
+        "subsections",
+        Value::Array(subs),
+    )?;
     let version = natural_value(described.desc.version as u64);
     put(lister.alloc, &mut members, "version", version)?;
     Ok(members)
@@ -107,8 +117,8 @@ fn device_members(lister: &Lister, device: u32) -> Result<Members, AllocError>
 
 // A device with its subsections.
 pub(crate) fn device_value(lister: &Lister, device: u32) -> Result<Value, AllocError>
-    requires { HasDevice (described lister.now.set.now) device lister.now.image.now }
-    ensures { let set = described lister.now.set.now in
+    requires { HasDevice (set_in lister.now) device lister.now.image.now }
+    ensures { let set = set_in lister.now in
         IfOk result (λ v. view v ≡ device_tree set (device_at set device) lister.now.image.now) }
 {
     Ok(Value::Object(device_members(lister, device)?))

@@ -28,13 +28,9 @@ fn kind_word(kind: Kind) -> &'static str
 }
 
 // What stands in the stream: its path, size and type.
-fn sent_members(
-    alloc: Global,
-    path: String,
-    size: u64,
-    word: &str,
-) -> Result<Members, AllocError>
-    ensures { IfOk result (λ m. members_view m.entries ≡ sent_members (string_bytes path) size word.now) }
+fn sent_members(alloc: Global, path: String, size: u64, word: &str) -> Result<Members, AllocError>
+    ensures { let members = sent_members (string_bytes path) size word.now in
+        IfOk result (λ m. members_view m.entries ≡ members) }
 {
     let mut members = Map::new(alloc);
     put(alloc, &mut members, "name", Value::String(path))?;
@@ -49,19 +45,16 @@ pub(crate) fn sent_value(
     size: u64,
     word: &str,
 ) -> Result<Value, AllocError>
-    ensures { IfOk result (λ v. view v ≡ entry_tree (sent_entry (string_bytes path) size word.now)) }
+    ensures { let entry = sent_entry (string_bytes path) size word.now in
+        IfOk result (λ v. view v ≡ entry_tree entry) }
 {
     Ok(Value::Object(sent_members(alloc, path, size, word)?))
 }
 
-fn absent_value(
-    alloc: Global,
-    path: String,
-    word: &str,
-    default: i128,
-) -> Result<Value, AllocError>
+fn absent_value(alloc: Global, path: String, word: &str, default: i128) -> Result<Value, AllocError>
     requires { IsWide default }
-    ensures { IfOk result (λ v. view v ≡ entry_tree (absent_entry (string_bytes path) word.now default)) }
+    ensures { let entry = absent_entry (string_bytes path) word.now default in
+        IfOk result (λ v. view v ≡ entry_tree entry) }
 {
     let mut members = sent_members(alloc, path, 0, word)?;
     put(alloc, &mut members, "value", integer_value(default))?;
@@ -77,7 +70,8 @@ pub(crate) fn cell_value(
     default: i128,
 ) -> Result<Value, AllocError>
     requires { IsWide default }
-    ensures { IfOk result (λ v. view v ≡ entry_tree (cell_entry sent (string_bytes path) kind default)) }
+    ensures { let entry = cell_entry sent (string_bytes path) kind default in
+        IfOk result (λ v. view v ≡ entry_tree entry) }
 {
     if sent {
         sent_value(alloc, path, kind.width() as u64, kind_word(kind))

@@ -3,11 +3,11 @@ ghost use Rattle.std.specs.Prelude.{◌≡◌, ◌<◌, ◌≤◌, ◌+◌, ◌*
 ghost use Rattle.vms_spec.specs.Layout.{capacity_of, item_size, struct_cells};
 ghost use Rattle.vms_parts.specs.Views.{field_of};
 ghost use Rattle.vms_desc.specs.Asks.{field_at};
-ghost use Rattle.vms_desc.specs.Described.{described};
 ghost use Rattle.vms_desc.specs.Parts.{desc_at};
 ghost use Rattle.vms_selfdesc.specs.Entries.{element_path, sent_only, sent_entry};
-ghost use Rattle.vms_selfdesc.specs.Listing.{Adds, is_field_sent, item_list, elements_list, field_list, part_list};
-ghost use Rattle.vms_selfdesc.specs.Needs.{HasPlace, HasElements};
+ghost use Rattle.vms_selfdesc.specs.Listing.{Adds, is_field_sent, set_in, numbers_in};
+ghost use Rattle.vms_selfdesc.specs.Listing.{IsPlace, AreElements};
+ghost use Rattle.vms_selfdesc.specs.Listing.{item_at, elements_at, field_within, part_at};
 
 use crate::built::push;
 use crate::entry::{cell_value, sent_value};
@@ -62,9 +62,9 @@ fn list_item(
     mut place: Place,
     list: &mut Vec<Value>,
 ) -> Result<(), AllocError>
-    requires { HasElements (described lister.now.set.now) (field_of field.now) place.cell 1 lister.now.image.now.numbers }
-    ensures { let set = described lister.now.set.now in
-        OnOk result (Adds list.old.items list.new.items (item_list set (field_of field.now) place.sent lister.now.image.now.numbers (string_bytes place.path) place.cell)) }
+    requires { AreElements lister.now (field_of field.now) place.cell 1 }
+    ensures { let entries = item_at lister.now (field_of field.now) place in
+        OnOk result (Adds list.old.items list.new.items entries) }
 {
     match field.item {
         Item::Num(kind) => {
@@ -90,7 +90,8 @@ fn list_sent(
     word: &str,
     list: &mut Vec<Value>,
 ) -> Result<(), AllocError>
-    ensures { OnOk result (Adds list.old.items list.new.items (sent_only place.sent (sent_entry (string_bytes place.path) size word.now))) }
+    ensures { let entry = sent_entry (string_bytes place.path) size word.now in
+        OnOk result (Adds list.old.items list.new.items (sent_only place.sent entry)) }
 {
     if place.sent {
         push(list, sent_value(alloc, place.path, size, word)?)
@@ -108,9 +109,9 @@ fn list_elements(
     count: u32,
     list: &mut Vec<Value>,
 ) -> Result<(), AllocError>
-    requires { HasElements (described lister.now.set.now) (field_of field.now) place.cell count lister.now.image.now.numbers }
-    ensures { let set = described lister.now.set.now in
-        OnOk result (Adds list.old.items list.new.items (elements_list set (field_of field.now) place.sent lister.now.image.now.numbers (string_bytes place.path) place.cell count)) }
+    requires { AreElements lister.now (field_of field.now) place.cell count }
+    ensures { let entries = elements_at lister.now (field_of field.now) place count in
+        OnOk result (Adds list.old.items list.new.items entries) }
 {
     let size = lister.set.item_cells(field.item);
     let mut cell = place.cell;
@@ -128,10 +129,11 @@ fn list_elements(
 
 // Whether a field of a part stands in the stream.
 fn is_sent(lister: &Lister, part: Part, within: &Place, field: u32) -> bool
-    requires place { HasPlace (described lister.now.set.now) part within.now.cell lister.now.image.now.numbers }
-    requires field { field < length (desc_at (described lister.now.set.now) part).fields }
-    ensures { let set = described lister.now.set.now in
-        result ≡ is_field_sent set part within.now.cell field within.now.sent lister.now.image.now.numbers }
+    requires place { IsPlace lister.now part within.now.cell }
+    requires field { field < length (desc_at (set_in lister.now) part).fields }
+    ensures { let set = set_in lister.now in
+        let numbers = numbers_in lister.now in
+        result ≡ is_field_sent set part within.now.cell field within.now.sent numbers }
 {
     let version = lister.set.desc(part).version;
     within.sent
@@ -149,12 +151,14 @@ fn list_field(
     at: At,
     list: &mut Vec<Value>,
 ) -> Result<(), AllocError>
-    requires place { HasPlace (described lister.now.set.now) part within.now.cell lister.now.image.now.numbers }
-    requires field { at.field < length (desc_at (described lister.now.set.now) part).fields }
-    requires room { let f = field_at (described lister.now.set.now) part at.field in
-        at.cell + capacity_of f.count * item_size (struct_cells (described lister.now.set.now)) f.item ≤ length lister.now.image.now.numbers }
-    ensures { let set = described lister.now.set.now in
-        OnOk result (Adds list.old.items list.new.items (field_list set part within.now.cell at.field within.now.sent lister.now.image.now.numbers (string_bytes within.now.path) at.cell)) }
+    requires place { IsPlace lister.now part within.now.cell }
+    requires field { at.field < length (desc_at (set_in lister.now) part).fields }
+    requires room { let set = set_in lister.now in
+        let f = field_at set part at.field in
+        let cells = capacity_of f.count * item_size (struct_cells set) f.item in
+        at.cell + cells ≤ length (numbers_in lister.now) }
+    ensures { let entries = field_within lister.now part within.now at in
+        OnOk result (Adds list.old.items list.new.items entries) }
 {
     let set = lister.set;
     let field = &set.desc(part).fields.as_slice()[at.field as usize];
@@ -172,7 +176,7 @@ fn list_field(
     }
 }
 
-/// Adds the entries of the fields of a part, or of one element of a structure.
+// The fields of a part, or of one element of a structure.
 #[cycle(list)]
 pub(crate) fn list_part(
     lister: &Lister,
@@ -180,9 +184,9 @@ pub(crate) fn list_part(
     place: Place,
     list: &mut Vec<Value>,
 ) -> Result<(), AllocError>
-    requires { HasPlace (described lister.now.set.now) part place.cell lister.now.image.now.numbers }
-    ensures { let set = described lister.now.set.now in
-        OnOk result (Adds list.old.items list.new.items (part_list set part place.sent lister.now.image.now.numbers (string_bytes place.path) place.cell)) }
+    requires { IsPlace lister.now part place.cell }
+    ensures { let entries = part_at lister.now part place in
+        OnOk result (Adds list.old.items list.new.items entries) }
 {
     let mut cell = place.cell;
     for field in 0..lister.set.field_count(part) {

@@ -5,7 +5,9 @@ mod built;
 mod devices;
 mod entry;
 mod fields;
+mod laws;
 mod tree;
 
+pub use laws::{shipped_law, short_law};
 pub use tree::describe;
 pub use vms_io::NoMemory;

@@ -1,8 +1,8 @@
 // The self-description of a set's images.
-ghost use Rattle.std.specs.Prelude.{◌≡◌, Some, map, IfOk, string_bytes};
+ghost use Rattle.std.specs.Prelude.{◌≡◌, ◌<◌, Some, map, length, IfOk, string_bytes};
 ghost use Rattle.serde_json.specs.Read.{read};
 ghost use Rattle.serde_json.specs.View.{view};
-ghost use Rattle.vms_spec.specs.Streams.{AreReady};
+ghost use Rattle.vms_spec.specs.Streams.{AreReady, longest_text};
 ghost use Rattle.vms_desc.specs.Described.{described};
 ghost use Rattle.vms_selfdesc.specs.Tree.{device_trees, described_tree, described_text};
 
@@ -15,13 +15,17 @@ use vms_desc::DescSet;
 use vms_image::Image;
 use vms_io::NoMemory;
 
-/// The self-description of these images, one for each device in the set's order: JSON without blanks, each object's keys in
-/// byte order, which says of each device what stands in its section, element by element, and the defaults of cells that don't.
-/// Fails only where memory is wanting.
+/// The self-description of the stream of these images, one for each device in the set's order: JSON
+/// without blanks, each object's keys in byte order. It says of each device what stands in its
+/// section, element by element with path, size in bytes and type, and the defaults of the cells that
+/// don't stand there. It has less than 16,777,216 bytes. Fails only where memory is wanting.
 pub fn describe(alloc: Global, set: &DescSet, images: &[Image]) -> Result<String, NoMemory>
     requires { AreReady (described set.now) images.now }
-    ensures text { IfOk result (λ s. string_bytes s ≡ described_text (described set.now) images.now) }
-    ensures reads { IfOk result (λ s. read (string_bytes s) ≡ Some (described_tree (described set.now) images.now)) }
+    ensures text { let text = described_text (described set.now) images.now in
+        IfOk result (λ s. string_bytes s ≡ text) }
+    ensures reads { let tree = described_tree (described set.now) images.now in
+        IfOk result (λ s. read (string_bytes s) ≡ Some tree) }
+    ensures short { IfOk result (λ s. length (string_bytes s) < longest_text) }
 {
     let value = described_value(alloc, set, images)?;
     Ok(value.to_string(alloc)?)
@@ -39,8 +43,8 @@ fn described_value(alloc: Global, set: &DescSet, images: &[Image]) -> Result<Val
 
 fn device_values(alloc: Global, set: &DescSet, images: &[Image]) -> Result<Vec<Value>, AllocError>
     requires { AreReady (described set.now) images.now }
-    ensures { let devices = (described set.now).devices in
-        IfOk result (λ list. map view list.items ≡ device_trees (described set.now) devices images.now) }
+    ensures { let trees = device_trees (described set.now) (described set.now).devices images.now in
+        IfOk result (λ list. map view list.items ≡ trees) }
 {
     let mut list = Vec::new(alloc);
     for (device, image) in images.iter().enumerate() {

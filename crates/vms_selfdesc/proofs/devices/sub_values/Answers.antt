@@ -1,4 +1,4 @@
-use Rattle.std.proofs.Common.{◌<◌, ◌+◌, ℕ, None, length, get_or, map, drop, List, ◌++◌, sym, ap, ◌∙◌, arith}
+use Rattle.std.proofs.Common.{◌<◌, ◌+◌, None, length, get_or, map, drop, ◌++◌, sym, ap, ◌∙◌, arith}
 use Rattle.serde_json.specs.View.{view}
 use Rattle.vms_spec.specs.declared.Part.TheVariants as parts
 use Rattle.vms_spec.specs.Images.{own_cells}

@@ -1,6 +1,5 @@
-use Rattle.std.proofs.Common.{rules, arith, refl, sym, ap, ◌∙◌, subst, ◌≡◌, ℕ, ◌+◌, ◌*◌, ◌-◌, ◌<◌, ◌≤◌, List, ◌++◌, length, get_or, map, drop, OnOk, string_bytes}
-use Rattle.vms_spec.specs.declared.Part.TheVariants as parts
-use Rattle.vms_spec.specs.Sets.{Field, Desc}
+use Rattle.std.proofs.Common.{rules, arith, sym, ap, ◌∙◌, subst, ◌≡◌, ℕ, ◌+◌, ◌*◌, ◌-◌, ◌<◌, List, ◌++◌, length, map, drop, OnOk, string_bytes}
+use Rattle.vms_spec.specs.Sets.{Desc}
 use Rattle.vms_spec.specs.Layout.{item_size, struct_cells, capacity_of}
 use Rattle.vms_spec.proofs.Sizes.{elements_fit}
 use Rattle.vms_parts.specs.Views.{field_of}

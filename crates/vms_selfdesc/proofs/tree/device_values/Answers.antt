@@ -1,4 +1,4 @@
-use Rattle.std.proofs.Common.{◌<◌, ◌≡◌, length, get_or, arith}
+use Rattle.std.proofs.Common.{arith}
 use Rattle.vms_desc.specs.Described.{described}
 use Rattle.vms_selfdesc.proofs.ReadyDevices.{ready_device}
 use Rattle.vms_selfdesc.proofs.tree.device_values.Goals as goal

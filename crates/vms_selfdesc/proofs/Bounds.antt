@@ -1,0 +1,118 @@
+-- The text of every well-formed set is shorter than what a description section may have, and that of a shipped set is short.
+use Rattle.std.proofs.Common.{◌≡◌, ℕ, zero, suc, ◌+◌, ◌*◌, ◌<◌, ◌≤◌, List, [], ◌∷◌, length, get_or, ap, arith, true, is_none}
+use Rattle.vms_spec.specs.declared.Part.TheVariants as parts
+use Rattle.vms_spec.specs.Heads.{FitsHeads}
+use Rattle.vms_spec.specs.Images.{Image}
+use Rattle.vms_spec.specs.Sets.{Sub, Device, Set, AtLeast}
+use Rattle.vms_spec.specs.Shipped.{set_0, set_1, set_2, set_3, set_4}
+use Rattle.vms_spec.specs.Streams.{longest_text}
+use Rattle.vms_spec.specs.Layout.{first, no_desc}
+use Rattle.vms_spec.specs.WellFormed.{struct_items, devices_items, device_rules, sub_rules}
+use Rattle.vms_laws.proofs.WellFormedStreams.{shipped_stands}
+use Rattle.vms_desc.specs.Described.{device_at}
+use Rattle.vms_desc.specs.Formed.{is_well_formed, shipped_set}
+use Rattle.vms_desc.specs.Parts.{sub_at}
+use Rattle.vms_desc.proofs.Bounds.{few_items, few_devices}
+use Rattle.vms_desc.proofs.Clean.{few_subs}
+use Rattle.vms_selfdesc.specs.Laws.{ShortLaw, ShippedLaw}
+use Rattle.vms_selfdesc.specs.Tree.{described_text}
+use Rattle.vms_selfdesc.proofs.Lengths.{IsShortDesc, AreShortSubs, AreShortDevices, subs_of, text_long}
+use Rattle.vms_selfdesc.proofs.Plain.{name_short, sub_name_short}
+use Rattle.vms_selfdesc.proofs.ReadyDevices.{at_get}
+use Rattle.vms_selfdesc.proofs.Sound.{own_rules, device_whole, sub_whole}
+use Rattle.vms_selfdesc.proofs.Soundness.{part_sound}
+
+abbrev no_device : Device
+no_device = record { instance = 0; desc = no_desc; subs = [] }
+
+abbrev no_sub : Sub
+no_sub = record { desc = no_desc; needed = AtLeast 0 }
+
+all_subs : (subs : List Sub) → ((j : ℕ) → j < length subs → IsShortDesc 165 (get_or subs j no_sub).desc) → AreShortSubs subs
+all_subs [] h = tt
+all_subs (s ∷ subs) h = (h 0 (omega arith), all_subs subs (λ j lt. h (suc j) (omega arith)))
+
+record IsShortDevice (d : Device) : Type 0 where
+  pub desc : IsShortDesc 100 d.desc
+  pub instance : d.instance < 4294967296
+  pub subs : AreShortSubs d.subs
+  pub few : length d.subs ≤ 32
+
+all_devices : (devices : List Device) → ((i : ℕ) → i < length devices → IsShortDevice (get_or devices i no_device)) → AreShortDevices devices
+all_devices [] h = tt
+all_devices (d ∷ devices) h =
+    let here = h 0 (omega arith) in
+    (here.desc, here.instance, here.subs, all_devices devices (λ i lt. h (suc i) (omega arith)))
+
+few_of : (devices : List Device) → ((i : ℕ) → i < length devices → IsShortDevice (get_or devices i no_device)) → subs_of devices ≤ 32 * length devices
+few_of [] h = omega arith
+few_of (d ∷ devices) h =
+    let here = (h 0 (omega arith)).few in
+    let rest = few_of devices (λ i lt. h (suc i) (omega arith)) in
+    omega (arith, here, rest)
+
+module _ (set : Set) (well : is_well_formed set ≡ true) (heads : FitsHeads set) where
+  short_device : (i : ℕ) → i < length set.devices → IsShortDevice (device_at set i)
+  short_device i lt =
+      let k = length set.structs in
+      let d = device_at set i in
+      let here = at_get set.devices i no_device lt in
+      let rules = own_rules k d.desc (parts.Device i) (device_rules set i d) (device_whole set well i lt) in
+      let name = name_short 100 d.desc.name rules.0 in
+      record {
+        desc = record { sound = part_sound set well (parts.Device i) lt; name = name; version = omega (arith, (heads.instance i d here).1) };
+        instance = omega (arith, (heads.instance i d here).0);
+        subs = all_subs d.subs (λ j l.
+            let s = sub_at d j in
+            let own = own_rules k s.desc (parts.Sub i j) (sub_rules d j s) (sub_whole set well i j lt l) in
+            record {
+              sound = part_sound set well (parts.Sub i j) (lt, l);
+              name = sub_name_short d.desc.name s.desc.name name own.0;
+              version = omega (arith, heads.sub_version i j d s here (at_get d.subs j no_sub l));
+            });
+        few = few_subs set well i lt;
+      }
+
+  pub set_long : (images : List Image) → length (described_text set images) ≤ 300 * (devices_items (struct_items set.structs) set.devices + subs_of set.devices + length set.devices) + 14
+  set_long images = text_long set well images (all_devices set.devices short_device) (few_items set well)
+
+  set_short : (images : List Image) → length (described_text set images) < longest_text
+  set_short images = omega (arith, set_long images, few_items set well, few_of set.devices short_device, few_devices set well)
+
+pub short_holds : ShortLaw
+short_holds = record { short = λ set well heads images. set_short set (ap is_none well) heads images }
+
+-- ---- shipped sets
+
+abbrev total : Set → ℕ
+total set = devices_items (struct_items set.structs) set.devices + subs_of set.devices + length set.devices
+
+few_0 : total set_0 ≤ 199
+unfolding first
+few_0 = omega arith
+
+few_1 : total set_1 ≤ 199
+unfolding first
+few_1 = omega arith
+
+few_2 : total set_2 ≤ 199
+unfolding first
+few_2 = omega arith
+
+few_3 : total set_3 ≤ 199
+unfolding first
+few_3 = omega arith
+
+few_4 : total set_4 ≤ 199
+unfolding first
+few_4 = omega arith
+
+by_number : (s : ℕ) → s ≤ 4 → (images : List Image) → length (described_text (shipped_set s) images) < 60000
+by_number zero le images = let f = shipped_stands.0 in omega (arith, set_long set_0 (ap is_none f.well) f.heads images, few_0)
+by_number (suc zero) le images = let f = shipped_stands.1 in omega (arith, set_long set_1 (ap is_none f.well) f.heads images, few_1)
+by_number (suc (suc zero)) le images = let f = shipped_stands.2 in omega (arith, set_long set_2 (ap is_none f.well) f.heads images, few_2)
+by_number (suc (suc (suc zero))) le images = let f = shipped_stands.3 in omega (arith, set_long set_3 (ap is_none f.well) f.heads images, few_3)
+by_number (suc (suc (suc (suc s)))) le images = let f = shipped_stands.4 in omega (arith, set_long set_4 (ap is_none f.well) f.heads images, few_4)
+
+pub shipped_holds : ShippedLaw
+shipped_holds = record { shipped = by_number }

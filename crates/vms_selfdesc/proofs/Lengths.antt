@@ -1,0 +1,194 @@
+-- How long the text of the described tree is: at most 300 bytes for each item, subsection and device.
+use Rattle.std.proofs.Common.{◌≡◌, ℕ, suc, ◌+◌, ◌*◌, ◌<◌, ◌≤◌, List, [], ◌∷◌, length, length-append, map, ℤ, Bool, true, false, refl, arith, Option, is_some, codes}
+use Rattle.json.specs.Print.{quoted, escape_byte}
+use Rattle.serde_json.specs.Data.{Data, no_members, member, object, array, string, boolean}
+use Rattle.serde_json.specs.View.{items_of}
+use Rattle.serde_json.specs.Written.{compact_text, items_text}
+use Rattle.vms_spec.specs.declared.Part.TheVariants as parts
+use Rattle.vms_spec.specs.Lists.{at}
+use Rattle.vms_spec.specs.Sets.{Desc, Sub, Device, Set}
+use Rattle.vms_spec.specs.Layout.{desc_cells, struct_cells, numbers_of}
+use Rattle.vms_spec.specs.Images.{Image, own_cells}
+use Rattle.vms_spec.specs.WellFormed.{items_in, struct_items, subs_items, devices_items, struct_depths, deepest}
+use Rattle.vms_desc.specs.Formed.{is_well_formed}
+use Rattle.vms_selfdesc.specs.Entries.{Entry, listers, part_entries}
+use Rattle.vms_selfdesc.specs.Tree.{natural, entry_tree, list_tree, sub_members, sub_trees, device_members, device_trees, described_text}
+use Rattle.vms_selfdesc.proofs.EntryLong.{member_long, number_short, key_name}
+use Rattle.vms_selfdesc.proofs.Fits.{AreLong, longer, AreSound, FitTables, tables_fit, entries_few, entries_long}
+use Rattle.vms_selfdesc.proofs.Plain.{IsShort, quoted_long}
+use Rattle.vms_selfdesc.proofs.Soundness.{part_sound, fields_flat}
+
+-- ---- lists
+
+-- the texts with a comma each
+abbrev pub weight : List Data → ℕ
+weight [] = 0
+weight (d ∷ ds) = length (compact_text d) + 1 + weight ds
+
+items_long : (later : Bool) (ds : List Data) → length (items_text later (items_of ds)) ≤ weight ds + 1
+items_long later [] = omega arith
+items_long true (d ∷ ds) = omega (arith, length-append (compact_text d) (items_text true (items_of ds)), items_long true ds)
+items_long false (d ∷ ds) = omega (arith, length-append (compact_text d) (items_text true (items_of ds)), items_long true ds)
+
+array_long : (ds : List Data) → length (compact_text (array (items_of ds))) ≤ weight ds + 2
+array_long ds = omega (arith, items_long false ds)
+
+entries_weight : (es : List Entry) (most : ℕ) → AreLong most es → weight (map entry_tree es) ≤ (most + 1) * length es
+entries_weight [] most p = omega arith
+entries_weight (e ∷ es) most p =
+    let rest = entries_weight es most p.1 in
+    let here = p.0 in
+    let more : (most + 1) * suc (length es) ≡ (most + 1) + (most + 1) * length es = grind arith in
+    omega (arith, rest, here, more)
+
+-- ---- keys
+
+key_fields : length (quoted (codes "fields")) ≡ 8
+unfolding escape_byte
+key_fields = refl
+
+key_sent : length (quoted (codes "sent")) ≡ 6
+unfolding escape_byte
+key_sent = refl
+
+key_version : length (quoted (codes "version")) ≡ 9
+unfolding escape_byte
+key_version = refl
+
+key_instance : length (quoted (codes "instance_id")) ≡ 13
+unfolding escape_byte
+key_instance = refl
+
+key_subsections : length (quoted (codes "subsections")) ≡ 13
+unfolding escape_byte
+key_subsections = refl
+
+key_devices : length (quoted (codes "devices")) ≡ 9
+unfolding escape_byte
+key_devices = refl
+
+flag_short : (b : Bool) → length (compact_text (boolean b)) ≤ 5
+flag_short true = omega arith
+flag_short false = omega arith
+
+-- ---- objects
+
+sub_long : (es : List Entry) (name : List ℕ) (sent : Bool) (version : ℕ) → IsShort 165 name → version < 4294967296
+    → length (compact_text (object (sub_members es name sent version))) ≤ weight (map entry_tree es) + 299
+sub_long es name sent version short small =
+    let last = member (codes "version") (natural version) no_members in
+    let third = member (codes "sent") (boolean sent) last in
+    let second = member (codes "name") (string name) third in
+    omega (
+      arith,
+      member_long false (codes "fields") (list_tree entry_tree es) second,
+      member_long true (codes "name") (string name) third,
+      member_long true (codes "sent") (boolean sent) last,
+      member_long true (codes "version") (natural version) no_members,
+      key_fields,
+      key_name,
+      key_sent,
+      key_version,
+      array_long (map entry_tree es),
+      quoted_long name short.plain,
+      short.short,
+      flag_short sent,
+      number_short version small,
+    )
+
+device_long : (es : List Entry) (instance : ℕ) (name : List ℕ) (subs : List Data) (version : ℕ) → IsShort 100 name → instance < 4294967296 → version < 4294967296
+    → length (compact_text (object (device_members es instance name subs version))) ≤ weight (map entry_tree es) + weight subs + 299
+device_long es instance name subs version short few small =
+    let last = member (codes "version") (natural version) no_members in
+    let fourth = member (codes "subsections") (array (items_of subs)) last in
+    let third = member (codes "name") (string name) fourth in
+    let second = member (codes "instance_id") (natural instance) third in
+    omega (
+      arith,
+      member_long false (codes "fields") (list_tree entry_tree es) second,
+      member_long true (codes "instance_id") (natural instance) third,
+      member_long true (codes "name") (string name) fourth,
+      member_long true (codes "subsections") (array (items_of subs)) last,
+      member_long true (codes "version") (natural version) no_members,
+      key_fields,
+      key_instance,
+      key_name,
+      key_subsections,
+      key_version,
+      array_long (map entry_tree es),
+      array_long subs,
+      quoted_long name short.plain,
+      short.short,
+      number_short instance few,
+      number_short version small,
+    )
+
+whole_long : (ds : List Data) → length (compact_text (object (member (codes "devices") (array (items_of ds)) no_members))) ≤ weight ds + 14
+whole_long ds = omega (arith, member_long false (codes "devices") (array (items_of ds)) no_members, key_devices, array_long ds)
+
+-- ---- the parts of a well-formed set
+
+-- how many subsections devices have
+abbrev pub subs_of : List Device → ℕ
+subs_of [] = 0
+subs_of (d ∷ devices) = length d.subs + subs_of devices
+
+-- a description of a set: its fields keep the rules, its name is short, and its version has four bytes
+pub record IsShortDesc (most : ℕ) (d : Desc) : Type 0 where
+  pub sound : AreSound d.fields
+  pub name : IsShort most d.name
+  pub version : d.version < 4294967296
+
+abbrev pub AreShortSubs : List Sub → Type 0
+AreShortSubs [] = Unit {0}
+AreShortSubs (s ∷ subs) = IsShortDesc 165 s.desc × AreShortSubs subs
+
+abbrev pub AreShortDevices : List Device → Type 0
+AreShortDevices [] = Unit {0}
+AreShortDevices (d ∷ devices) = IsShortDesc 100 d.desc × (d.instance < 4294967296) × AreShortSubs d.subs × AreShortDevices devices
+
+module _ (set : Set) (well : is_well_formed set ≡ true) where
+  fit : FitTables (listers set) (struct_items set.structs) (struct_depths set.structs)
+  fit = tables_fit (struct_cells set) set.structs (length set.structs) (λ j lt. part_sound set well (parts.Struct j) lt) (length set.structs) (omega arith)
+
+  part_weight : (d : Desc) (sent : Bool) (n : List ℤ) (at : ℕ) → AreSound d.fields → items_in (struct_items set.structs) d.fields ≤ 16384
+      → weight (map entry_tree (part_entries set d sent n at)) ≤ 300 * items_in (struct_items set.structs) d.fields
+  part_weight d sent n at sound few =
+      let sizes = struct_items set.structs in
+      let depths = struct_depths set.structs in
+      let es = part_entries set d sent n at in
+      let own = numbers_of (struct_cells set) d n at in
+      let count = entries_few (struct_cells set) (listers set) sizes depths fit d.version own sent [] n at d.fields in
+      let flat = fields_flat set well d.fields in
+      let long = longer (0 + 40 * deepest depths d.fields + 107) 299 es (omega arith) (entries_long (struct_cells set) (listers set) sizes depths fit d.version own sent [] n at d.fields tt sound few) in
+      omega (arith, entries_weight es 299 long, count)
+
+  subs_weight : (n : List ℤ) (at : ℕ) (subs : List Sub) (came : List (Option ℕ)) → AreShortSubs subs → subs_items (struct_items set.structs) subs ≤ 16384
+      → weight (sub_trees set n at subs came) ≤ 300 * subs_items (struct_items set.structs) subs + 300 * length subs
+  subs_weight n at [] came p few = omega arith
+  subs_weight n at (s ∷ subs) [] p few = omega arith
+  subs_weight n at (s ∷ subs) (c ∷ came) p few =
+      let short = p.0 in
+      let es = part_entries set s.desc (is_some c) n at in
+      let here = part_weight s.desc (is_some c) n at short.sound (omega arith) in
+      let one = sub_long es s.desc.name (is_some c) s.desc.version short.name short.version in
+      let rest = subs_weight n (at + length (desc_cells (struct_cells set) s.desc)) subs came p.1 (omega arith) in
+      omega (arith, here, one, rest)
+
+  devices_weight : (devices : List Device) (images : List Image) → AreShortDevices devices → devices_items (struct_items set.structs) devices ≤ 16384
+      → weight (device_trees set devices images) ≤ 300 * (devices_items (struct_items set.structs) devices + subs_of devices + length devices)
+  devices_weight [] images p few = omega arith
+  devices_weight (d ∷ devices) [] p few = omega arith
+  devices_weight (d ∷ devices) (image ∷ images) p few =
+      let short = p.0 in
+      let es = part_entries set d.desc true image.numbers 0 in
+      let trees = sub_trees set image.numbers (own_cells set d) d.subs image.came in
+      let here = part_weight d.desc true image.numbers 0 short.sound (omega arith) in
+      let subs = subs_weight image.numbers (own_cells set d) d.subs image.came p.2 (omega arith) in
+      let one = device_long es d.instance d.desc.name trees d.desc.version short.name p.1 short.version in
+      let rest = devices_weight devices images p.3 (omega arith) in
+      omega (arith, here, subs, one, rest)
+
+  pub text_long : (images : List Image) → AreShortDevices set.devices → devices_items (struct_items set.structs) set.devices ≤ 16384
+      → length (described_text set images) ≤ 300 * (devices_items (struct_items set.structs) set.devices + subs_of set.devices + length set.devices) + 14
+  text_long images p few = omega (arith, whole_long (device_trees set set.devices images), devices_weight set.devices images p few)

@@ -1,0 +1,106 @@
+-- What well-formed sets say of names, sizes and depths.
+use Rattle.std.proofs.Common.{◌≡◌, ℕ, suc, ◌+◌, ◌<◌, ◌≤◌, ◌^◌, List, [], ◌∷◌, length, get_or, ℤ, pos, negsuc, Bool, true, false, ◌&&◌, nat_lt, nat_le, refl, arith, None}
+use Rattle.std.proofs.lemmas.Bool.{and_parts, leb-true, ltb-true, ltb-false}
+use Rattle.std.proofs.lemmas.Fmt.{length-decimal-le}
+use Rattle.std.proofs.Math.ListN.{get_or-eq_default}
+use Rattle.serde_json.specs.Written.{number_text}
+use Rattle.serde_json.specs.Find.{of_integer}
+use Rattle.vms_kinds.specs.declared.Kind.{Kind}
+use Rattle.vms_kinds.specs.declared.Kind.TheVariants as kinds
+use Rattle.vms_kinds.specs.declared.Item.{Item}
+use Rattle.vms_kinds.specs.declared.Item.TheVariants.{Num, Equal, Unused, Struct}
+use Rattle.vms_kinds.specs.Codes.{lowest, highest}
+use Rattle.vms_spec.specs.declared.Part.{Part}
+use Rattle.vms_spec.specs.declared.Part.TheVariants as parts
+use Rattle.vms_spec.specs.Lists.{every, first_answer}
+use Rattle.vms_spec.specs.Sets.{Field, Desc, Set}
+use Rattle.vms_spec.specs.Layout.{no_desc, counted}
+use Rattle.vms_spec.specs.Names.{is_name}
+use Rattle.vms_spec.specs.Rules.{int_le, in_range, defaults_well, counts_well, is_small_item, is_small_optional, field_rules}
+use Rattle.vms_spec.specs.WellFormed.{failing, in_field, struct_depths, struct_rules, has_few, deepest}
+use Rattle.vms_parts.proofs.Tables.{first_long}
+use Rattle.vms_rules.proofs.StructLaws.{deepest_small}
+use Rattle.vms_desc.specs.Formed.{is_well_formed}
+use Rattle.vms_desc.specs.Parts.{HasPart, desc_at}
+use Rattle.vms_desc.proofs.Bounds.{AllTrue, all_true, or_else_none}
+use Rattle.vms_desc.proofs.Clean.{reach}
+use Rattle.vms_selfdesc.proofs.Fits.{IsSmall, IsSoundField, AreSound}
+use Rattle.vms_selfdesc.proofs.Plain.{name_short}
+use Rattle.vms_selfdesc.proofs.Sound.{no_field_fault, own_rules, struct_whole}
+
+-- ---- a number of 64 bits has at most 20 bytes
+
+natural_fits : (kind : Kind) (n : ℕ) → int_le (pos n) (highest kind) ≡ true → n < 2 ^ 64
+natural_fits kinds.U8 n e = omega (arith, leb-true n 0xff e)
+natural_fits kinds.U16 n e = omega (arith, leb-true n 0xffff e)
+natural_fits kinds.U32 n e = omega (arith, leb-true n 0xffff_ffff e)
+natural_fits kinds.U64 n e = omega (arith, leb-true n 0xffff_ffff_ffff_ffff e)
+natural_fits kinds.I8 n e = omega (arith, leb-true n 0x7f e)
+natural_fits kinds.I16 n e = omega (arith, leb-true n 0x7fff e)
+natural_fits kinds.I32 n e = omega (arith, leb-true n 0x7fff_ffff e)
+natural_fits kinds.I64 n e = omega (arith, leb-true n 0x7fff_ffff_ffff_ffff e)
+natural_fits kinds.Bool n e = omega (arith, leb-true n 1 e)
+natural_fits kinds.Timer n e = omega (arith, leb-true n 0xffff_ffff_ffff_ffff e)
+
+negative_fits : (kind : Kind) (n : ℕ) → int_le (lowest kind) (negsuc n) ≡ true → n < 2 ^ 63
+negative_fits kinds.U8 n e = cc
+negative_fits kinds.U16 n e = cc
+negative_fits kinds.U32 n e = cc
+negative_fits kinds.U64 n e = cc
+negative_fits kinds.I8 n e = omega (arith, leb-true n 0x7f e)
+negative_fits kinds.I16 n e = omega (arith, leb-true n 0x7fff e)
+negative_fits kinds.I32 n e = omega (arith, leb-true n 0x7fff_ffff e)
+negative_fits kinds.I64 n e = omega (arith, leb-true n 0x7fff_ffff_ffff_ffff e)
+negative_fits kinds.Bool n e = cc
+negative_fits kinds.Timer n e = cc
+
+default_short : (kind : Kind) (z : ℤ) → in_range kind z ≡ true → length (number_text (of_integer z)) ≤ 20
+default_short kind (pos n) e =
+    let small = natural_fits kind n (and_parts (int_le (lowest kind) (pos n)) (int_le (pos n) (highest kind)) e).1 in
+    length-decimal-le 20 n (omega arith) (omega arith) small
+default_short kind (negsuc n) e =
+    let small = negative_fits kind n (and_parts (int_le (lowest kind) (negsuc n)) (int_le (negsuc n) (highest kind)) e).0 in
+    omega (arith, length-decimal-le 19 (suc n) (omega arith) (omega arith) (omega arith))
+
+-- ---- fields
+
+small_item : (item : Item) (z : ℤ) → defaults_well item z ≡ true → is_small_item item ≡ true → IsSmall item z
+small_item (Num kind) z e f = default_short kind z e
+small_item (Equal kind y) z e f = tt
+small_item (Unused n) z e f = leb-true n 4096 (and_parts (nat_le 1 n) (nat_le n 4096) f).1
+small_item (Struct j) z e f = tt
+
+sound_field : (k : ℕ) (d : Desc) (i : ℕ) (f : Field) → AllTrue (field_rules k d i f) → IsSoundField f
+sound_field k d i f rules =
+    let names = and_parts (is_name 32 f.name) (every (is_name 32) f.former) rules.0 in
+    let defaults = and_parts (defaults_well f.item f.default) (counts_well (counted i d.fields) f.default) rules.1.1.1.1.1.0 in
+    let limits = and_parts (nat_le (length f.former) 8 && is_small_optional f.test) (is_small_item f.item) rules.1.1.1.1.1.1.0 in
+    record { name = name_short 32 f.name names.0; small = small_item f.item f.default defaults.0 limits.1 }
+
+are_sound : (k : ℕ) (d : Desc) (part : Part) (i : ℕ) (fs : List Field) → first_answer (λ i f. failing 1 (field_rules k d i f) (in_field part i)) i fs ≡ None → AreSound fs
+are_sound k d part i [] e = tt
+are_sound k d part i (f ∷ fs) e =
+    let p = or_else_none (failing 1 (field_rules k d i f) (in_field part i)) (first_answer (λ i f. failing 1 (field_rules k d i f) (in_field part i)) (suc i) fs) e in
+    (sound_field k d i f (all_true 1 (field_rules k d i f) (in_field part i) p.0), are_sound k d part (suc i) fs p.1)
+
+module _ (set : Set) (well : is_well_formed set ≡ true) where
+  pub part_sound : (part : Part) → HasPart set part → AreSound (desc_at set part).fields
+  part_sound part h = are_sound (reach set part) (desc_at set part) part 0 (desc_at set part).fields (no_field_fault set well part h)
+
+  -- structures nest at most four deep
+  struct_flat : (j : ℕ) → get_or (struct_depths set.structs) j 0 ≤ 4
+  struct_flat j = by_place (nat_lt j (length set.structs)) refl
+    where
+      by_place : (b : Bool) → nat_lt j (length set.structs) ≡ b → get_or (struct_depths set.structs) j 0 ≤ 4
+      by_place true e =
+          let lt = ltb-true j (length set.structs) e in
+          let d = get_or set.structs j no_desc in
+          let rules = own_rules j d (parts.Struct j) (struct_rules set.structs j d) (struct_whole set well j lt) in
+          leb-true (get_or (struct_depths set.structs) j 0) 4 (and_parts (has_few d) (nat_le (get_or (struct_depths set.structs) j 0) 4) rules.1.1.1.1.1.1.0).1
+      by_place false e =
+          let le = ltb-false j (length set.structs) e in
+          let long : length (struct_depths set.structs) ≤ j = omega (arith, le, first_long (λ depths d. 1 + deepest depths d.fields) set.structs (length set.structs)) in
+          omega (arith, get_or-eq_default (struct_depths set.structs) 0 long)
+
+  pub fields_flat : (fs : List Field) → deepest (struct_depths set.structs) fs ≤ 4
+  fields_flat fs = deepest_small (struct_depths set.structs) 4 fs struct_flat
