@@ -23,25 +23,31 @@ use Rattle.dev_pic.specs.declared.pair.PicPair.{PicPair}
 
 -- the winner is the requested input of highest priority, where it comes strictly before every input in service
 pub record WinnerIsLeastRequest : Type 0 where
-  pub means : (lowest requests served : ℕ) → MeansWinner lowest requests served (winner_of lowest requests served)
-  pub only : (lowest requests served winner : ℕ) → IsWinner lowest requests served winner → winner_of lowest requests served ≡ Some winner
+  pub means : (lowest requests served : ℕ)
+      → MeansWinner lowest requests served (winner_of lowest requests served)
+  pub only : (lowest requests served winner : ℕ) → IsWinner lowest requests served winner
+      → winner_of lowest requests served ≡ Some winner
 
 -- a request that is masked never wins
 abbrev pub MaskedNeverWins : Type 0
 MaskedNeverWins =
-    (role : Role) (chip : Chip) (input : ℕ) → chip.imr < 256 → input < 8 → has chip.imr input ≡ true → winner_at role chip ≢ Some input
+    (role : Role) (chip : Chip) (input : ℕ) → chip.imr < 256 → input < 8 → has chip.imr input ≡ true
+    → winner_at role chip ≢ Some input
 
 -- in fully nested mode an input in service blocks itself and each input of lower priority
 abbrev pub ServedBlocksLower : Type 0
 ServedBlocksLower =
-    (role : Role) (chip : Chip) (place lower : ℕ) → chip.special_mask ≡ false → chip.nested ≡ false → place ≤ lower → lower < 8 → has chip.isr (input_at chip.lowest place) ≡ true → winner_at role chip ≢ Some (input_at chip.lowest lower)
+    (role : Role) (chip : Chip) (place lower : ℕ) → chip.special_mask ≡ false → chip.nested ≡ false
+    → place ≤ lower → lower < 8 → has chip.isr (input_at chip.lowest place) ≡ true
+    → winner_at role chip ≢ Some (input_at chip.lowest lower)
 
 -- the input of highest priority that is in service, in special mask mode among those that are not masked
 pub record IsHighestServed (chip : Chip) (input : ℕ) : Type 0 where
   pub place : ℕ
   pub in_order : (place < 8) × (input ≡ input_at chip.lowest place)
   pub served : has (in_service_of chip) input ≡ true
-  pub highest : (other : ℕ) → other < place → has (in_service_of chip) (input_at chip.lowest other) ≡ false
+  pub highest : (other : ℕ) → other < place
+      → has (in_service_of chip) (input_at chip.lowest other) ≡ false
 
 -- only this input's service is ended, and nothing else changes
 pub record EndsService (input : ℕ) (chip after : Chip) : Type 0 where
@@ -52,48 +58,78 @@ pub record EndsService (input : ℕ) (chip after : Chip) : Type 0 where
 -- a non-specific EOI, the word 0x20, ends the service of highest priority, or does nothing where nothing is in
 -- service; a rotating one, the word 0xa0, gives that input the lowest priority
 pub record EoiEndsHighest : Type 0 where
-  pub words : (level : ℕ) (chip : Chip) → (written_even level 0x20 chip ≡ commanded NonSpecificEoi chip) × (written_even level 0xa0 chip ≡ commanded RotateOnNonSpecificEoi chip)
-  pub highest : (chip : Chip) (input : ℕ) → chip.isr < 256 → IsHighestServed chip input → EndsService input chip (commanded NonSpecificEoi chip) × ((commanded NonSpecificEoi chip).lowest ≡ chip.lowest)
-  pub rotating : (chip : Chip) (input : ℕ) → chip.isr < 256 → IsHighestServed chip input → EndsService input chip (commanded RotateOnNonSpecificEoi chip) × ((commanded RotateOnNonSpecificEoi chip).lowest ≡ input)
-  pub nothing : (chip : Chip) → ((input : ℕ) → input < 8 → has (in_service_of chip) input ≡ false) → (commanded NonSpecificEoi chip ≡ chip) × (commanded RotateOnNonSpecificEoi chip ≡ chip)
+  pub words : (level : ℕ) (chip : Chip)
+      → (written_even level 0x20 chip ≡ commanded NonSpecificEoi chip)
+      × (written_even level 0xa0 chip ≡ commanded RotateOnNonSpecificEoi chip)
+  pub highest : (chip : Chip) (input : ℕ) → chip.isr < 256 → IsHighestServed chip input
+      → EndsService input chip (commanded NonSpecificEoi chip)
+      × ((commanded NonSpecificEoi chip).lowest ≡ chip.lowest)
+  pub rotating : (chip : Chip) (input : ℕ) → chip.isr < 256 → IsHighestServed chip input
+      → EndsService input chip (commanded RotateOnNonSpecificEoi chip)
+      × ((commanded RotateOnNonSpecificEoi chip).lowest ≡ input)
+  pub nothing : (chip : Chip) → ((input : ℕ) → input < 8 → has (in_service_of chip) input ≡ false)
+      → (commanded NonSpecificEoi chip ≡ chip) × (commanded RotateOnNonSpecificEoi chip ≡ chip)
 
 -- an input is a level input where its bit is set in elcr or the level mode is on
 abbrev pub LevelInputsAre : Type 0
 LevelInputsAre =
-    (ltim : Bool) (elcr input : ℕ) → input < 8 → has (level_inputs ltim elcr) input ≡ (has elcr input || ltim)
+    (ltim : Bool) (elcr input : ℕ) → input < 8
+    → has (level_inputs ltim elcr) input ≡ (has elcr input || ltim)
 
 -- a chip after its initialization words: OCW1 comes next, the vectors and the modes are those of the words, nothing
 -- is in service or masked, priority is fully nested, and only level inputs are still requested
 pub record IsInitialized (vectors : ℕ) (auto_eoi nested ltim : Bool) (chip after : Chip) : Type 0 where
   pub ready : after.init_state ≡ Ready
   pub base : after.base ≡ vectors - vectors % 8
-  pub modes : (after.auto_eoi ≡ auto_eoi) × (after.nested ≡ nested) × (after.special_mask ≡ false) × (after.rotate ≡ false)
+  pub modes : (after.auto_eoi ≡ auto_eoi) × (after.nested ≡ nested) × (after.special_mask ≡ false)
+      × (after.rotate ≡ false)
   pub level_mode : after.ltim ≡ ltim
   pub clear : (after.isr ≡ 0) × (after.imr ≡ 0) × (after.lowest ≡ 7)
   pub shows_irr : (after.poll ≡ false) × (after.read_isr ≡ false)
-  pub kept : (after.irr ≡ bit_and chip.irr (level_inputs ltim chip.elcr)) × (after.lines ≡ chip.lines) × (after.elcr ≡ chip.elcr)
+  pub kept : (after.irr ≡ bit_and chip.irr (level_inputs ltim chip.elcr))
+      × (after.lines ≡ chip.lines) × (after.elcr ≡ chip.elcr)
 
 -- bit 0 of ICW1 announces ICW4, without which both its modes are off, bit 1 says that no ICW3 comes, and bit 3 is
 -- the level mode at a level that has it
 pub record InitializesByWords : Type 0 where
-  pub all : (level : ℕ) (chip : Chip) (icw1 icw2 icw3 icw4 : ℕ) → has icw1 4 ≡ true → has icw1 0 ≡ true → has icw1 1 ≡ false → IsInitialized icw2 (has icw4 1) (has icw4 4) (ltim_after level icw1 chip) chip (written_odd icw4 (written_odd icw3 (written_odd icw2 (written_even level icw1 chip))))
-  pub single : (level : ℕ) (chip : Chip) (icw1 icw2 icw4 : ℕ) → has icw1 4 ≡ true → has icw1 0 ≡ true → has icw1 1 ≡ true → IsInitialized icw2 (has icw4 1) (has icw4 4) (ltim_after level icw1 chip) chip (written_odd icw4 (written_odd icw2 (written_even level icw1 chip)))
-  pub without_icw4 : (level : ℕ) (chip : Chip) (icw1 icw2 icw3 : ℕ) → has icw1 4 ≡ true → has icw1 0 ≡ false → has icw1 1 ≡ false → IsInitialized icw2 false false (ltim_after level icw1 chip) chip (written_odd icw3 (written_odd icw2 (written_even level icw1 chip)))
-  pub shortest : (level : ℕ) (chip : Chip) (icw1 icw2 : ℕ) → has icw1 4 ≡ true → has icw1 0 ≡ false → has icw1 1 ≡ true → IsInitialized icw2 false false (ltim_after level icw1 chip) chip (written_odd icw2 (written_even level icw1 chip))
-  pub level_mode : (level icw1 : ℕ) (chip : Chip) → LTIM_SINCE ≤ level → ltim_after level icw1 chip ≡ has icw1 3
-  pub without_level_mode : (level icw1 : ℕ) (chip : Chip) → level < LTIM_SINCE → ltim_after level icw1 chip ≡ chip.ltim
+  pub all : (level : ℕ) (chip : Chip) (icw1 icw2 icw3 icw4 : ℕ) → has icw1 4 ≡ true
+      → has icw1 0 ≡ true → has icw1 1 ≡ false
+      → IsInitialized icw2 (has icw4 1) (has icw4 4) (ltim_after level icw1 chip) chip
+      (written_odd icw4 (written_odd icw3 (written_odd icw2 (written_even level icw1 chip))))
+  pub single : (level : ℕ) (chip : Chip) (icw1 icw2 icw4 : ℕ) → has icw1 4 ≡ true
+      → has icw1 0 ≡ true → has icw1 1 ≡ true
+      → IsInitialized icw2 (has icw4 1) (has icw4 4) (ltim_after level icw1 chip) chip
+      (written_odd icw4 (written_odd icw2 (written_even level icw1 chip)))
+  pub without_icw4 : (level : ℕ) (chip : Chip) (icw1 icw2 icw3 : ℕ) → has icw1 4 ≡ true
+      → has icw1 0 ≡ false → has icw1 1 ≡ false
+      → IsInitialized icw2 false false (ltim_after level icw1 chip) chip
+      (written_odd icw3 (written_odd icw2 (written_even level icw1 chip)))
+  pub shortest : (level : ℕ) (chip : Chip) (icw1 icw2 : ℕ) → has icw1 4 ≡ true → has icw1 0 ≡ false
+      → has icw1 1 ≡ true
+      → IsInitialized icw2 false false (ltim_after level icw1 chip) chip
+      (written_odd icw2 (written_even level icw1 chip))
+  pub level_mode : (level icw1 : ℕ) (chip : Chip) → LTIM_SINCE ≤ level
+      → ltim_after level icw1 chip ≡ has icw1 3
+  pub without_level_mode : (level icw1 : ℕ) (chip : Chip) → level < LTIM_SINCE
+      → ltim_after level icw1 chip ≡ chip.ltim
 
 -- an acknowledge without a winner of the master answers the master's base + 7 and changes nothing; where the
 -- slave's output was taken and the slave has no winner, the slave's base + 7 is answered and the slave is unchanged
 pub record AckWithoutWinner : Type 0 where
-  pub master : (pair : PicPair) → PairHasRegisters pair → winner_at Master pair.master ≡ None → acked pair ≡ (pair.master.base + 7, pair)
-  pub slave : (pair : PicPair) → PairHasRegisters pair → winner_at Master pair.master ≡ Some cascade_input → winner_at Slave pair.slave ≡ None → ((acked pair).0 ≡ pair.slave.base + 7) × ((acked pair).1.slave ≡ pair.slave)
+  pub master : (pair : PicPair) → PairHasRegisters pair → winner_at Master pair.master ≡ None
+      → acked pair ≡ (pair.master.base + 7, pair)
+  pub slave : (pair : PicPair) → PairHasRegisters pair
+      → winner_at Master pair.master ≡ Some cascade_input → winner_at Slave pair.slave ≡ None
+      → ((acked pair).0 ≡ pair.slave.base + 7) × ((acked pair).1.slave ≡ pair.slave)
 
 -- a taken edge input loses its request and a level input keeps it; without automatic EOI its service begins
 pub record TakesWinner : Type 0 where
-  pub edge : (chip : Chip) (winner : ℕ) → chip.irr < 256 → winner < 8 → has (level_inputs_of chip) winner ≡ false → has (taken winner chip).irr winner ≡ false
-  pub level : (chip : Chip) (winner : ℕ) → has (level_inputs_of chip) winner ≡ true → (taken winner chip).irr ≡ chip.irr
-  pub served : (chip : Chip) (winner : ℕ) → chip.isr < 256 → winner < 8 → chip.auto_eoi ≡ false → has (taken winner chip).isr winner ≡ true
+  pub edge : (chip : Chip) (winner : ℕ) → chip.irr < 256 → winner < 8
+      → has (level_inputs_of chip) winner ≡ false → has (taken winner chip).irr winner ≡ false
+  pub level : (chip : Chip) (winner : ℕ) → has (level_inputs_of chip) winner ≡ true
+      → (taken winner chip).irr ≡ chip.irr
+  pub served : (chip : Chip) (winner : ℕ) → chip.isr < 256 → winner < 8 → chip.auto_eoi ≡ false
+      → has (taken winner chip).isr winner ≡ true
 
 -- whether an input is requested after lines are taken over: a level input by its line; an edge input where it was,
 -- or where its line rises, or where it is in the mask of edges
@@ -104,15 +140,19 @@ requested_after inputs edges chip input =
 
 abbrev pub TakesLinesOver : Type 0
 TakesLinesOver =
-    (inputs edges : ℕ) (chip : Chip) (input : ℕ) → chip.lines < 256 → chip.elcr < 256 → input < 8 → has (settled inputs edges chip).irr input ≡ requested_after inputs edges chip input
+    (inputs edges : ℕ) (chip : Chip) (input : ℕ) → chip.lines < 256 → chip.elcr < 256 → input < 8
+    → has (settled inputs edges chip).irr input ≡ requested_after inputs edges chip input
 
 -- power on is sound, each step keeps the registers, and once the lines are taken over the pair is sound
 pub record StepsKeepRegisters : Type 0 where
   pub power : (level : ℕ) → IsLevel level → IsSoundPair (power_on level)
-  pub read : (port : ℕ) (pair : PicPair) → PairHasRegisters pair → PairHasRegisters (read_pair port pair).1
-  pub write : (port value : ℕ) (pair : PicPair) → value < 256 → is_port pair.level port ≡ true → PairHasRegisters pair → PairHasRegisters (written_pair port value pair)
+  pub read : (port : ℕ) (pair : PicPair) → PairHasRegisters pair
+      → PairHasRegisters (read_pair port pair).1
+  pub write : (port value : ℕ) (pair : PicPair) → value < 256 → is_port pair.level port ≡ true
+      → PairHasRegisters pair → PairHasRegisters (written_pair port value pair)
   pub ack : (pair : PicPair) → PairHasRegisters pair → PairHasRegisters (acked pair).1
-  pub settle : (inputs edges : ℕ) (pair : PicPair) → inputs < 2 ^ 16 → edges < 2 ^ 16 → PairHasRegisters pair → IsSoundPair (settled_pair inputs edges pair)
+  pub settle : (inputs edges : ℕ) (pair : PicPair) → inputs < 2 ^ 16 → edges < 2 ^ 16
+      → PairHasRegisters pair → IsSoundPair (settled_pair inputs edges pair)
   pub sound : (pair : PicPair) → IsSoundPair pair → PairHasRegisters pair
 
 -- no step changes the level
@@ -121,42 +161,63 @@ pub record StepsKeepLevel : Type 0 where
   pub read : (port : ℕ) (pair : PicPair) → (read_pair port pair).1.level ≡ pair.level
   pub write : (port value : ℕ) (pair : PicPair) → (written_pair port value pair).level ≡ pair.level
   pub ack : (pair : PicPair) → (acked pair).1.level ≡ pair.level
-  pub settle : (inputs edges : ℕ) (pair : PicPair) → (settled_pair inputs edges pair).level ≡ pair.level
+  pub settle : (inputs edges : ℕ) (pair : PicPair)
+      → (settled_pair inputs edges pair).level ≡ pair.level
 
 -- the remembered lines once they are taken over: each input of the master but the cascade and each of the slave as
 -- they are given, and at the cascade input the slave's output afterwards
 pub record LinesAreTaken : Type 0 where
-  pub master : (inputs edges input : ℕ) (pair : PicPair) → inputs < 2 ^ 16 → input < 8 → input ≢ cascade_input → has (lines_of (settled_pair inputs edges pair)) input ≡ has inputs input
-  pub cascade : (inputs edges : ℕ) (pair : PicPair) → inputs < 2 ^ 16 → has (lines_of (settled_pair inputs edges pair)) cascade_input ≡ slave_int_of (settled_pair inputs edges pair)
-  pub slave : (inputs edges input : ℕ) (pair : PicPair) → inputs < 2 ^ 16 → input < 8 → has (lines_of (settled_pair inputs edges pair)) (8 + input) ≡ has inputs (8 + input)
+  pub master : (inputs edges input : ℕ) (pair : PicPair) → inputs < 2 ^ 16 → input < 8
+      → input ≢ cascade_input
+      → has (lines_of (settled_pair inputs edges pair)) input ≡ has inputs input
+  pub cascade : (inputs edges : ℕ) (pair : PicPair) → inputs < 2 ^ 16
+      → has (lines_of (settled_pair inputs edges pair)) cascade_input
+      ≡ slave_int_of (settled_pair inputs edges pair)
+  pub slave : (inputs edges input : ℕ) (pair : PicPair) → inputs < 2 ^ 16 → input < 8
+      → has (lines_of (settled_pair inputs edges pair)) (8 + input) ≡ has inputs (8 + input)
 
 -- no other step changes the remembered lines, but that an acknowledge of the slave makes the cascade input's low
 pub record LinesAreKept : Type 0 where
   pub read : (port : ℕ) (pair : PicPair) → lines_of (read_pair port pair).1 ≡ lines_of pair
-  pub write : (port value : ℕ) (pair : PicPair) → lines_of (written_pair port value pair) ≡ lines_of pair
-  pub ack : (pair : PicPair) → winner_at Master pair.master ≢ Some cascade_input → lines_of (acked pair).1 ≡ lines_of pair
-  pub of_slave : (input : ℕ) (pair : PicPair) → PairHasRegisters pair → winner_at Master pair.master ≡ Some cascade_input → input < 16 → has (lines_of (acked pair).1) input ≡ (has (lines_of pair) input && not (input == cascade_input))
+  pub write : (port value : ℕ) (pair : PicPair)
+      → lines_of (written_pair port value pair) ≡ lines_of pair
+  pub ack : (pair : PicPair) → winner_at Master pair.master ≢ Some cascade_input
+      → lines_of (acked pair).1 ≡ lines_of pair
+  pub of_slave : (input : ℕ) (pair : PicPair) → PairHasRegisters pair
+      → winner_at Master pair.master ≡ Some cascade_input → input < 16
+      → has (lines_of (acked pair).1) input
+      ≡ (has (lines_of pair) input && not (input == cascade_input))
 
 -- a chip is sound exactly where its cells in the newest set are cells of their kinds that break no rule
 pub record SoundMeetsRules : Type 0 where
-  pub chip : (level : ℕ) (role : Role) (chip : Chip) → IsSoundChip level role chip ↔ (IsChipCells (saved_cells NEWEST chip) × MeetsRules level role chip)
+  pub chip : (level : ℕ) (role : Role) (chip : Chip) → IsSoundChip level role chip
+      ↔ (IsChipCells (saved_cells NEWEST chip) × MeetsRules level role chip)
 
 -- what a chip of the pair saves: as many cells as the set has, each in its kind's range; where its subsection isn't
 -- needed, the level mode's cell is at its default; and each chip's cells are found again in those of the pair
 pub record SavedAreCells : Type 0 where
-  pub of_kinds : (chip : ℕ) (numbers : Numbers) (pair : PicPair) → CanSave numbers pair → IsSoundPair pair → AreOf (kinds numbers.set) (saved_cells numbers.set (chip_at chip pair))
-  pub unneeded : (set : ℕ) (chip : Chip) → LTIM_SINCE ≤ set → flag_at (saved_cells set chip) 16 ≡ false → cell_at (saved_cells set chip) 16 ≡ pos 0
-  pub master : (set : ℕ) (pair : PicPair) → take (length (kinds set)) (pair_cells set pair) ≡ saved_cells set pair.master
-  pub slave : (set : ℕ) (pair : PicPair) → drop (length (kinds set)) (pair_cells set pair) ≡ saved_cells set pair.slave
+  pub of_kinds : (chip : ℕ) (numbers : Numbers) (pair : PicPair) → CanSave numbers pair
+      → IsSoundPair pair → AreOf (kinds numbers.set) (saved_cells numbers.set (chip_at chip pair))
+  pub unneeded : (set : ℕ) (chip : Chip) → LTIM_SINCE ≤ set
+      → flag_at (saved_cells set chip) 16 ≡ false → cell_at (saved_cells set chip) 16 ≡ pos 0
+  pub master : (set : ℕ) (pair : PicPair)
+      → take (length (kinds set)) (pair_cells set pair) ≡ saved_cells set pair.master
+  pub slave : (set : ℕ) (pair : PicPair)
+      → drop (length (kinds set)) (pair_cells set pair) ≡ saved_cells set pair.slave
 
 -- what was saved of a sound pair, carried to the newest set, can be restored at the pair's level, and gives the pair
 pub record SavedIsRestored : Type 0 where
-  pub pair : (numbers back : Numbers) (pair : PicPair) → CanSave numbers pair → IsSoundPair pair → MayRestore back → back.level ≡ pair.level → CanRestore back (pair_carried numbers.set (pair_cells numbers.set pair)) × (hook_restored back (pair_carried numbers.set (pair_cells numbers.set pair)) ≡ Ok pair)
+  pub pair : (numbers back : Numbers) (pair : PicPair) → CanSave numbers pair → IsSoundPair pair
+      → MayRestore back → back.level ≡ pair.level
+      → CanRestore back (pair_carried numbers.set (pair_cells numbers.set pair))
+      × (hook_restored back (pair_carried numbers.set (pair_cells numbers.set pair)) ≡ Ok pair)
 
 -- the hooks' number of a fault tells the fault
 pub record FaultsAreTold : Type 0 where
-  pub fault : (fault : ChipFault) → fault.chip < 2 → 1 ≤ fault.rule → fault.rule ≤ 10 → fault_of (hook_rule fault) ≡ fault
+  pub fault : (fault : ChipFault) → fault.chip < 2 → 1 ≤ fault.rule → fault.rule ≤ 10
+      → fault_of (hook_rule fault) ≡ fault
 
 -- what is restored is sound and has the level of the restore
 pub record RestoredIsSound : Type 0 where
-  pub pair : (numbers : Numbers) (cells : List ℤ) (pair : PicPair) → CanRestore numbers cells → hook_restored numbers cells ≡ Ok pair → IsSoundPair pair × (pair.level ≡ numbers.level)
+  pub pair : (numbers : Numbers) (cells : List ℤ) (pair : PicPair) → CanRestore numbers cells
+      → hook_restored numbers cells ≡ Ok pair → IsSoundPair pair × (pair.level ≡ numbers.level)

@@ -39,7 +39,8 @@ pub record IsWinner (lowest requests served winner : ℕ) : Type 0 where
 -- each requested input is in service or comes after an input in service
 abbrev pub HasNoWinner : ℕ → ℕ → ℕ → Type 0
 HasNoWinner lowest requests served =
-    (place : ℕ) → place < 8 → has requests (input_at lowest place) ≡ true → (other : ℕ) × (other ≤ place) × (has served (input_at lowest other) ≡ true)
+    (place : ℕ) → place < 8 → has requests (input_at lowest place) ≡ true → (other : ℕ)
+    × (other ≤ place) × (has served (input_at lowest other) ≡ true)
 
 -- what an answer of the search for a winner means
 abbrev pub MeansWinner : ℕ → ℕ → ℕ → Option ℕ → Type 0

@@ -88,14 +88,16 @@ channel_at k cells = record {
 -- each cell of channel k and of its status is in its kind's range
 pub record IsChannelAt (k : ℕ) (cells : List ℤ) : Type 0 where
   pub within : (k < 3) × (length cells ≡ CELLS)
-  pub channel : (place : ℕ) → place < CHANNEL_CELLS → InRange (kind_at channel_kinds place) (cell_at cells (channel_place k + place))
+  pub channel : (place : ℕ) → place < CHANNEL_CELLS
+      → InRange (kind_at channel_kinds place) (cell_at cells (channel_place k + place))
   pub latched : InRange kinds.Bool (cell_at cells (latched_place k))
   pub status : InRange kinds.U8 (cell_at cells (status_place k))
 
 -- the number of channel k at `place` is at its default where the flag at `flag` is clear, since it is absent there
 abbrev pub HasDefault : ℕ → ℕ → List ℤ → Type 0
 HasDefault flag place cells =
-    (k : ℕ) → k < 3 → flag_at cells (channel_place k + flag) ≡ false → number_at cells (channel_place k + place) ≡ 0
+    (k : ℕ) → k < 3 → flag_at cells (channel_place k + flag) ≡ false
+    → number_at cells (channel_place k + place) ≡ 0
 
 -- normal cells of a set: as many as it has, each in its kind's range, and an absent one, wlow or latch of a channel, at
 -- its default

@@ -22,7 +22,8 @@ TicksGoOn = (load now later : ℕ) → now ≤ later → ticks load now ≤ tick
 
 -- an edge comes in a span just where it comes in one of its two parts
 abbrev pub EdgeInParts : Type 0
-EdgeInParts = (counter : Counter) (from between to : ℕ) → from ≤ between → between ≤ to → edge_of counter from to ≡ (edge_of counter from between || edge_of counter between to)
+EdgeInParts = (counter : Counter) (from between to : ℕ) → from ≤ between → between ≤ to
+    → edge_of counter from to ≡ (edge_of counter from between || edge_of counter between to)
 
 -- OUT of a loaded counter is high at some tick after the moment `from` and not after `to`, and low at the tick before
 pub record TurnsHigh (counter : Counter) (from to : ℕ) : Type 0 where
@@ -36,28 +37,43 @@ pub record TurnsHigh (counter : Counter) (from to : ℕ) : Type 0 where
 
 -- an edge comes in a span just where OUT turns high at a tick of the span
 abbrev pub EdgeTurnsHigh : Type 0
-EdgeTurnsHigh = (counter : Counter) (from to : ℕ) → (edge_of counter from to ≡ true → TurnsHigh counter from to) × (TurnsHigh counter from to → edge_of counter from to ≡ true)
+EdgeTurnsHigh = (counter : Counter) (from to : ℕ)
+    → (edge_of counter from to ≡ true → TurnsHigh counter from to)
+    × (TurnsHigh counter from to → edge_of counter from to ≡ true)
 
 -- a call that neither programs nor loads a counter leaves it counting as before
 abbrev pub CountingGoesOn : Type 0
-CountingGoesOn = (k now : ℕ) (call : Call) (pit : Pit) → k < 3 → IsCall call → programs k call ≡ false → loads k call pit ≡ false → GoesOn (counter_of k pit) (counter_of k (called call now pit))
+CountingGoesOn = (k now : ℕ) (call : Call) (pit : Pit) → k < 3 → IsCall call
+    → programs k call ≡ false → loads k call pit ≡ false
+    → GoesOn (counter_of k pit) (counter_of k (called call now pit))
 
 -- OUT that is high after terminal count stays so as time goes on, through every call that neither programs nor loads the counter
 pub record TerminalCountStays : Type 0 where
-  pub in_time : (k now later : ℕ) (pit : Pit) → (counter_of k pit).mode ≡ TerminalCount → now ≤ later → pit_out k now pit ≡ true → pit_out k later pit ≡ true
-  pub in_calls : (k now later moment : ℕ) (call : Call) (pit : Pit) → k < 3 → IsCall call → programs k call ≡ false → loads k call pit ≡ false → (counter_of k pit).mode ≡ TerminalCount → now ≤ later → pit_out k now pit ≡ true → pit_out k later (called call moment pit) ≡ true
+  pub in_time : (k now later : ℕ) (pit : Pit) → (counter_of k pit).mode ≡ TerminalCount
+      → now ≤ later → pit_out k now pit ≡ true → pit_out k later pit ≡ true
+  pub in_calls : (k now later moment : ℕ) (call : Call) (pit : Pit) → k < 3 → IsCall call
+      → programs k call ≡ false → loads k call pit ≡ false → (counter_of k pit).mode ≡ TerminalCount
+      → now ≤ later → pit_out k now pit ≡ true → pit_out k later (called call moment pit) ≡ true
 
 -- a latched count stays through every call that neither reads its last byte nor programs the counter, and what is read of it is the same at any moment
 pub record LatchStays : Type 0 where
-  pub in_calls : (k now held : ℕ) (call : Call) (pit : Pit) → k < 3 → IsCall call → programs k call ≡ false → reads_latch k call pit ≡ false → (counter_of k pit).latch ≡ Some held → (counter_of k (called call now pit)).latch ≡ Some held
-  pub in_time : (k now later held : ℕ) (pit : Pit) → (counter_of k pit).latch ≡ Some held → pit_read k now pit ≡ pit_read k later pit
+  pub in_calls : (k now held : ℕ) (call : Call) (pit : Pit) → k < 3 → IsCall call
+      → programs k call ≡ false → reads_latch k call pit ≡ false
+      → (counter_of k pit).latch ≡ Some held
+      → (counter_of k (called call now pit)).latch ≡ Some held
+  pub in_time : (k now later held : ℕ) (pit : Pit) → (counter_of k pit).latch ≡ Some held
+      → pit_read k now pit ≡ pit_read k later pit
 
 -- a chip at power on is sound; time, every read and every write keep it so; and a sound chip was loaded by its moment
 pub record SoundStays : Type 0 where
-  pub power_on : (level now : ℕ) → IsLevel level → now ≤ LAST_MOMENT → IsSoundPit now (new_pit level)
-  pub in_time : (now later : ℕ) (pit : Pit) → now ≤ later → later ≤ LAST_MOMENT → IsSoundPit now pit → IsSoundPit later pit
-  pub in_reads : (k now : ℕ) (pit : Pit) → IsSoundPit now pit → IsSoundPit now (pit_read k now pit).1
-  pub in_writes : (port value now : ℕ) (pit : Pit) → value < 256 → IsSoundPit now pit → IsSoundPit now (pit_written port value now pit)
+  pub power_on : (level now : ℕ) → IsLevel level → now ≤ LAST_MOMENT
+      → IsSoundPit now (new_pit level)
+  pub in_time : (now later : ℕ) (pit : Pit) → now ≤ later → later ≤ LAST_MOMENT → IsSoundPit now pit
+      → IsSoundPit later pit
+  pub in_reads : (k now : ℕ) (pit : Pit) → IsSoundPit now pit
+      → IsSoundPit now (pit_read k now pit).1
+  pub in_writes : (port value now : ℕ) (pit : Pit) → value < 256 → IsSoundPit now pit
+      → IsSoundPit now (pit_written port value now pit)
   pub loaded : (now : ℕ) (pit : Pit) → IsSoundPit now pit → IsLoadedBy now pit
 
 -- no call changes the level
@@ -68,16 +84,26 @@ pub record StepsKeepLevel : Type 0 where
 
 -- a chip of three counters is sound exactly where its cells in the newest set are normal and break no rule
 pub record SoundMeetsRules : Type 0 where
-  pub pit : (now : ℕ) (pit : Pit) → IsLevel pit.level → now ≤ LAST_MOMENT → length pit.counters ≡ 3 → IsSoundPit now pit ↔ (IsPitCells (pit_cells NEWEST pit) × (first_failing (rules pit.level now (pit_cells NEWEST pit)) ≡ None))
+  pub pit : (now : ℕ) (pit : Pit) → IsLevel pit.level → now ≤ LAST_MOMENT → length pit.counters ≡ 3
+      → IsSoundPit now pit
+      ↔ (IsPitCells (pit_cells NEWEST pit)
+      × (first_failing (rules pit.level now (pit_cells NEWEST pit)) ≡ None))
 
 -- what a sound chip saves are normal cells of the set
 pub record SavedAreCells : Type 0 where
-  pub of_set : (numbers : Numbers) (pit : Pit) → CanSave numbers pit → IsSoundPit numbers.moment pit → AreCellsOf numbers.set (pit_cells numbers.set pit)
+  pub of_set : (numbers : Numbers) (pit : Pit) → CanSave numbers pit → IsSoundPit numbers.moment pit
+      → AreCellsOf numbers.set (pit_cells numbers.set pit)
 
 -- what was saved of a sound chip, carried to the newest set, can be restored at that moment and gives the chip
 pub record SavedIsRestored : Type 0 where
-  pub pit : (numbers back : Numbers) (pit : Pit) → CanSave numbers pit → IsSoundPit numbers.moment pit → MayRestore back → back.level ≡ pit.level → back.moment ≡ numbers.moment → CanRestore back (carried numbers.set (pit_cells numbers.set pit)) × (hook_restored back (carried numbers.set (pit_cells numbers.set pit)) ≡ Ok pit)
+  pub pit : (numbers back : Numbers) (pit : Pit) → CanSave numbers pit
+      → IsSoundPit numbers.moment pit → MayRestore back → back.level ≡ pit.level
+      → back.moment ≡ numbers.moment
+      → CanRestore back (carried numbers.set (pit_cells numbers.set pit))
+      × (hook_restored back (carried numbers.set (pit_cells numbers.set pit)) ≡ Ok pit)
 
 -- what is restored is sound and has the level of the restore
 pub record RestoredIsSound : Type 0 where
-  pub pit : (numbers : Numbers) (cells : List ℤ) (pit : Pit) → CanRestore numbers cells → hook_restored numbers cells ≡ Ok pit → IsSoundPit numbers.moment pit × (pit.level ≡ numbers.level)
+  pub pit : (numbers : Numbers) (cells : List ℤ) (pit : Pit) → CanRestore numbers cells
+      → hook_restored numbers cells ≡ Ok pit → IsSoundPit numbers.moment pit
+      × (pit.level ≡ numbers.level)

@@ -38,7 +38,8 @@ pub record HasNoBytes (port : Port) : Type 0 where
 
 -- where bit 0 changes the switch, both lists are cleared
 abbrev pub SwitchClearsBoth : Type 0
-SwitchClearsBoth = (value : ℕ) (port : Port) → has value 0 ≡ not (is_some port.fifos) → HasNoBytes (fcr_written value port)
+SwitchClearsBoth = (value : ℕ) (port : Port) → has value 0 ≡ not (is_some port.fifos)
+    → HasNoBytes (fcr_written value port)
 
 -- while FIFOs stay on bit 1 clears the receive list, and its timeout, and bit 2 the transmit list
 pub record IsResetBy (value : ℕ) (before after : Port) : Type 0 where
@@ -48,11 +49,13 @@ pub record IsResetBy (value : ℕ) (before after : Port) : Type 0 where
 
 abbrev pub ResetsByBits : Type 0
 ResetsByBits =
-    (value : ℕ) (port : Port) → is_some port.fifos ≡ true → has value 0 ≡ true → IsResetBy value port (fcr_written value port)
+    (value : ℕ) (port : Port) → is_some port.fifos ≡ true → has value 0 ≡ true
+    → IsResetBy value port (fcr_written value port)
 
 -- while FIFOs stay off a write changes nothing
 abbrev pub StaysOff : Type 0
-StaysOff = (value : ℕ) (port : Port) → port.fifos ≡ None → has value 0 ≡ false → fcr_written value port ≡ port
+StaysOff = (value : ℕ) (port : Port) → port.fifos ≡ None → has value 0 ≡ false
+    → fcr_written value port ≡ port
 
 -- a write sets the switch and the trigger, and the latch where it clears bytes that waited. The shift
 -- register and the overrun flag stay
@@ -60,7 +63,9 @@ pub record IsSwitched (value : ℕ) (before after : Port) : Type 0 where
   pub fifos : after.fifos ≡ switch_of value
   pub shift : after.transmitter.shift ≡ before.transmitter.shift
   pub overrun : after.receiver.overrun ≡ before.receiver.overrun
-  pub latch : after.thr_empty ≡ (if not (is_empty before.transmitter.waiting) && is_empty after.transmitter.waiting then true else before.thr_empty)
+  pub latch : after.thr_empty
+      ≡ (if not (is_empty before.transmitter.waiting) && is_empty after.transmitter.waiting then true
+      else before.thr_empty)
 
 abbrev pub WritesSwitch : Type 0
 WritesSwitch = (value : ℕ) (port : Port) → IsSwitched value port (fcr_written value port)

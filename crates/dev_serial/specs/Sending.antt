@@ -34,21 +34,25 @@ left_in_all (event ∷ events) port = left_in event port ++ left_in_all events (
 
 -- the bytes that are accepted: a byte that is written, but where FIFOs are on and sixteen wait
 abbrev pub accepted_in : Event → Port → List ℕ
-accepted_in (Writes byte now) port = if is_some port.fifos && not (nat_lt (length port.transmitter.waiting) 16) then [] else byte ∷ []
+accepted_in (Writes byte now) port =
+    if is_some port.fifos && not (nat_lt (length port.transmitter.waiting) 16) then [] else byte ∷ []
 accepted_in (Advances to) port = []
 
 unfoldable pub accepted_in_all : List Event → Port → List ℕ
 accepted_in_all [] port = []
-accepted_in_all (event ∷ events) port = accepted_in event port ++ accepted_in_all events (after event port)
+accepted_in_all (event ∷ events) port =
+    accepted_in event port ++ accepted_in_all events (after event port)
 
 -- a byte that is written replaces one that waits
 abbrev pub replaces : Event → Port → Bool
-replaces (Writes byte now) port = not (is_some port.fifos) && not (is_empty port.transmitter.waiting)
+replaces (Writes byte now) port =
+    not (is_some port.fifos) && not (is_empty port.transmitter.waiting)
 replaces (Advances to) port = false
 
 abbrev pub ReplacesNone : List Event → Port → Type 0
 ReplacesNone [] port = Unit {0}
-ReplacesNone (event ∷ events) port = (replaces event port ≡ false) × ReplacesNone events (after event port)
+ReplacesNone (event ∷ events) port = (replaces event port ≡ false)
+    × ReplacesNone events (after event port)
 
 -- the bytes that a port is still to send, first out first
 abbrev pub pending : Port → List ℕ
@@ -58,23 +62,32 @@ pending port = pending_of port.transmitter.shift port.transmitter.waiting
 -- send are those to send before and the accepted ones, each once and in this order
 abbrev pub SendsInOrder : Type 0
 SendsInOrder =
-    (events : List Event) (port : Port) → ReplacesNone events port → left_in_all events port ++ pending (after_all events port) ≡ pending port ++ accepted_in_all events port
+    (events : List Event) (port : Port) → ReplacesNone events port
+    → left_in_all events port ++ pending (after_all events port)
+    ≡ pending port ++ accepted_in_all events port
 
 -- without FIFOs the byte that is written stands in the place of the one that waited, behind the byte in the
 -- shift register
 abbrev pub ReplacesOne : Type 0
 ReplacesOne =
-    (byte now : ℕ) (port : Port) → is_some port.fifos ≡ false → pending (thr_written byte now port) ≡ pending_of port.transmitter.shift (byte ∷ [])
+    (byte now : ℕ) (port : Port) → is_some port.fifos ≡ false
+    → pending (thr_written byte now port) ≡ pending_of port.transmitter.shift (byte ∷ [])
 
 -- the bytes that leave go to the line, or in loop mode none does
 abbrev pub LeavesForLine : Type 0
 LeavesForLine =
-    (to : ℕ) (port : Port) → (advanced to port).0 ≡ (if has port.mcr 4 then [] else bytes_of (leaving to port))
+    (to : ℕ) (port : Port)
+    → (advanced to port).0 ≡ (if has port.mcr 4 then [] else bytes_of (leaving to port))
 
 -- time passes up to a moment and then up to a later one as it passes up to the later one
 abbrev pub AdvancesInParts : Type 0
 AdvancesInParts =
-    (first second : ℕ) (port : Port) → first ≤ second → advanced second port ≡ ((advanced first port).0 ++ (advanced second (advanced first port).1).0, (advanced second (advanced first port).1).1)
+    (first second : ℕ) (port : Port) → first ≤ second
+    → advanced second port
+    ≡ (
+      (advanced first port).0 ++ (advanced second (advanced first port).1).0,
+      (advanced second (advanced first port).1).1,
+    )
 
 -- the longest character has eight data bits, parity and two stop bits, at the greatest divisor
 pub record LongestCharacter : Type 0 where
@@ -84,9 +97,13 @@ pub record LongestCharacter : Type 0 where
 -- before the byte in the shift register is due, time changes nothing
 abbrev pub WaitsUntilDue : Type 0
 WaitsUntilDue =
-    (to : ℕ) (port : Port) (shift : Shift) → port.transmitter.shift ≡ Some shift → to < shift.due → advanced to port ≡ ([], port)
+    (to : ℕ) (port : Port) (shift : Shift) → port.transmitter.shift ≡ Some shift → to < shift.due
+    → advanced to port ≡ ([], port)
 
 -- in loop mode a byte comes in at the moment at which it is sent, and none leaves for the line
 abbrev pub LoopsAtMoment : Type 0
 LoopsAtMoment =
-    (port : Port) (shift : Shift) → has port.mcr 4 ≡ true → port.transmitter.shift ≡ Some shift → ((advanced shift.due port).0 ≡ []) × ((advanced shift.due port).1.receiver ≡ received (mode_of port) shift.byte shift.due port.receiver)
+    (port : Port) (shift : Shift) → has port.mcr 4 ≡ true → port.transmitter.shift ≡ Some shift
+    → ((advanced shift.due port).0 ≡ [])
+    × ((advanced shift.due port).1.receiver
+    ≡ received (mode_of port) shift.byte shift.due port.receiver)

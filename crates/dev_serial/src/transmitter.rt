@@ -116,9 +116,11 @@ fn send_due(
     requires moment { to ≤ LAST_MOMENT }
     requires few { length waiting.old.items ≤ 16 }
     requires few_held { IsShort mode.has_fifos receiver.old.held }
-    ensures left { transmitter_of waiting.new.items result.1 ≡ still_of mode to first waiting.old.items }
+    ensures left { transmitter_of waiting.new.items result.1
+        ≡ still_of mode to first waiting.old.items }
     ensures line { result.0.items ≡ on_line mode (gone_of mode to first waiting.old.items) }
-    ensures looped { receiver.new ≡ looped_in mode (gone_of mode to first waiting.old.items) receiver.old }
+    ensures looped { receiver.new
+        ≡ looped_in mode (gone_of mode to first waiting.old.items) receiver.old }
     ensures few_sent { length result.0.items ≤ 17 }
     ensures none_due { IsSentAfter to result.1 }
     ensures fewer { length waiting.new.items ≤ length waiting.old.items }

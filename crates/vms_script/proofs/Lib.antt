@@ -1,0 +1,5 @@
+pub mod NameLemmas
+pub mod NumberLemmas
+pub mod Rows
+pub mod ScriptLemmas
+pub mod SplitLemmas

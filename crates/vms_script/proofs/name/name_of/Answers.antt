@@ -1,0 +1,10 @@
+use Rattle.std.proofs.Common.{◌≡◌, true, sym, ◌∙◌}
+use Rattle.std.proofs.lemmas.Str.{IsUtf8-from_ascii}
+use Rattle.vms_script.specs.Names.{is_shelf_name}
+use Rattle.vms_script.proofs.NameLemmas.{name_ascii}
+use Rattle.vms_script.proofs.name.name_of.Goals as goal
+
+pub returns-in-Err : goal.returns-in-Err
+returns-in-Err c =
+    let named : is_shelf_name c.args.text.now ≡ true = sym c.is_shelf_name.ensures ∙ c.if-not-is_shelf_name.false in
+    absurd (c.in-Err.ensures.cases.0 (IsUtf8-from_ascii c.args.text.now (name_ascii c.args.text.now named)))

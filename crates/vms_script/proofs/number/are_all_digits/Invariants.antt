@@ -1,0 +1,7 @@
+use Rattle.std.proofs.Common.{◌≡◌, drop}
+use Rattle.vms_spec.specs.Lists.{every}
+use Rattle.vms_spec.specs.Spelling.{is_digit}
+use Rattle.vms_script.proofs.number.are_all_digits.Given as goal
+
+abbrev pub invariant-loop-b : goal.invariant-loop-b
+invariant-loop-b l = every is_digit (drop l.b-index l.text) ≡ every is_digit l.text

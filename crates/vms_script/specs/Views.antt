@@ -1,0 +1,58 @@
+-- What contracts see of lines, parts of lines and readings.
+use Rattle.std.specs.Prelude.{◌≡◌, ℕ, ◌^◌, nat_lt, if◌then◌else◌, List, map, Option, Some, None, Result, Ok, Err, ℤ, pos, negsuc}
+use Rattle.arrayvec.specs.ArrayString.{ArrayString}
+use Rattle.vms_script.specs.Lines.{ScriptLine, Happens, Saves, Restores, Read}
+use Rattle.vms_script.specs.Script.{Reading}
+use Rattle.vms_script.specs.declared.line.Line.{Line}
+use Rattle.vms_script.specs.declared.line.Line.TheVariants.{Event, Save, Restore}
+use Rattle.vms_script.specs.declared.line.ScriptReason.{ScriptReason}
+use Rattle.vms_script.specs.declared.line.ScriptReason.TheVariants as reasons
+use Rattle.vms_script.specs.declared.line.ScriptFault.{ScriptFault}
+use Rattle.vms_script.specs.declared.line.ScriptFault.TheVariants.{Bad, NoMemory}
+
+-- a line, with its name as bytes
+abbrev pub line_view : Line → ScriptLine
+line_view (Event event) = Happens event
+line_view (Save set name) = Saves set name.bytes
+line_view (Restore name) = Restores name.bytes
+
+abbrev pub lines_view : List Line → List ScriptLine
+lines_view lines = map line_view lines
+
+-- a line that was read, or its reason
+abbrev pub read_view : Result Line ScriptReason → Read
+read_view (Ok line) = Ok (line_view line)
+read_view (Err reason) = Err reason
+
+-- a name, if there is one
+abbrev pub name_view : Option ArrayString → Option (List ℕ)
+name_view None = None
+name_view (Some name) = Some name.bytes
+
+-- a number below 2 ^ 64; any other that a text spells is out of every range
+abbrev pub small_number : ℤ → Result ℕ ScriptReason
+small_number (pos n) = if nat_lt n (2 ^ 64) then Ok n else Err reasons.Range
+small_number (negsuc n) = Err reasons.Range
+
+abbrev pub number_read : Option ℤ → Result ℕ ScriptReason
+number_read None = Err reasons.Form
+number_read (Some z) = small_number z
+
+-- a number if it is below 2 ^ 64
+abbrev pub below_2_64 : ℕ → Option ℕ
+below_2_64 n = if nat_lt n (2 ^ 64) then Some n else None
+
+-- a text says exactly these lines, or is refused at exactly this line for this reason
+abbrev pub SaysLines : Reading → List ScriptLine → Type 0
+SaysLines (Ok said) lines = lines ≡ said
+SaysLines (Err fault) lines = ⊥
+
+abbrev pub IsBadAt : Reading → ℕ → ScriptReason → Type 0
+IsBadAt (Ok said) line reason = ⊥
+IsBadAt (Err fault) line reason = (line ≡ fault.line) × (reason ≡ fault.reason)
+
+-- the lines or the first bad one; memory may be wanting in any case
+abbrev pub ReadsAs : {V : Type 0} → (V → List Line) → Reading → Result V ScriptFault → Type 0
+ReadsAs items reading (Ok v) = SaysLines reading (lines_view (items v))
+ReadsAs items reading (Err (Bad line reason)) = IsBadAt reading line reason
+ReadsAs items reading (Err NoMemory) = Unit {0}

@@ -1,0 +1,106 @@
+// Lines that are events.
+ghost use Rattle.std.specs.Prelude.{◌≡◌, option_copied};
+ghost use Rattle.vms_script.specs.Lines.{in_line, byte_line, wait_line, out_line, wire_line, is_wire};
+ghost use Rattle.vms_script.specs.Views.{read_view};
+ghost use Rattle.vms_script.specs.Words.{level_spelled, first_word};
+
+use crate::hex::{byte_of, port_of};
+use crate::line::{Line, ScriptReason};
+use crate::number::{LONGEST_WAIT, number_of};
+use crate::split::split_word;
+use dev_board::Event;
+
+/// `in PPPP`, by what stands behind the first word.
+pub(crate) fn read_in(port: &[u8]) -> Result<Line, ScriptReason>
+    ensures { read_view result ≡ in_line port.now }
+{
+    match port_of(port) {
+        Some(port) => Ok(Line::Event(Event::Read { port })),
+        None => Err(ScriptReason::Form),
+    }
+}
+
+/// `out PPPP VV`.
+pub(crate) fn read_out(words: &[u8]) -> Result<Line, ScriptReason>
+    ensures { read_view result ≡ out_line (first_word words.now) }
+{
+    let split = split_word(words);
+    let Some(port) = port_of(split.word) else {
+        return Err(ScriptReason::Form);
+    };
+    let Some(value) = split.rest else {
+        return Err(ScriptReason::Form);
+    };
+    match byte_of(value) {
+        Some(value) => Ok(Line::Event(Event::Write { port, value })),
+        None => Err(ScriptReason::Form),
+    }
+}
+
+/// `byte VV`.
+pub(crate) fn read_byte(value: &[u8]) -> Result<Line, ScriptReason>
+    ensures { read_view result ≡ byte_line value.now }
+{
+    match byte_of(value) {
+        Some(value) => Ok(Line::Event(Event::Byte { value })),
+        None => Err(ScriptReason::Form),
+    }
+}
+
+/// `wait N`, with N at most `LONGEST_WAIT`.
+pub(crate) fn read_wait(number: &[u8]) -> Result<Line, ScriptReason>
+    ensures { read_view result ≡ wait_line number.now }
+{
+    match number_of(number) {
+        Ok(ns) => {
+            if ns <= LONGEST_WAIT {
+                Ok(Line::Event(Event::Wait { ns }))
+            } else {
+                Err(ScriptReason::Range)
+            }
+        }
+        Err(reason) => Err(reason),
+    }
+}
+
+/// `wire N 0` or `wire N 1`, with N one of 1, 3, 5, 6, 7 and 8 to 15.
+pub(crate) fn read_wire(words: &[u8]) -> Result<Line, ScriptReason>
+    ensures { read_view result ≡ wire_line (first_word words.now) }
+{
+    let split = split_word(words);
+    let Some(level) = split.rest else {
+        return Err(ScriptReason::Form);
+    };
+    let Some(up) = level_of(level) else {
+        return Err(ScriptReason::Form);
+    };
+    match number_of(split.word) {
+        Ok(input) => {
+            if is_wire(input) {
+                let input = input as u8;
+                Ok(Line::Event(Event::Wire { input, up }))
+            } else {
+                Err(ScriptReason::Range)
+            }
+        }
+        Err(reason) => Err(reason),
+    }
+}
+
+// The level of a wire.
+fn level_of(text: &[u8]) -> Option<bool>
+    ensures { result ≡ level_spelled text.now }
+{
+    match text {
+        [b'0'] => Some(false),
+        [b'1'] => Some(true),
+        _ => None,
+    }
+}
+
+// Tells whether an interrupt input is a wire.
+fn is_wire(input: u64) -> bool
+    ensures { result ≡ is_wire input }
+{
+    input == 1 || input == 3 || 5 <= input && input <= 15
+}

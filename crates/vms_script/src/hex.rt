@@ -1,0 +1,59 @@
+// Hexadecimal digits, lower-case.
+ghost use Rattle.std.specs.Prelude.{◌≡◌, ◌<◌, IfSome};
+ghost use Rattle.std.specs.Char.{digit_char};
+ghost use Rattle.vms_script.specs.Words.{digit_spelled, byte_spelled, port_spelled, byte_text};
+
+/// The byte of two digits, or `None` exactly where the text is not two digits.
+pub(crate) fn byte_of(text: &[u8]) -> Option<u8>
+    ensures { result ≡ byte_spelled text.now }
+{
+    match text {
+        [high, low] => Some(digit_of(*high)? * 16 + digit_of(*low)?),
+        _ => None,
+    }
+}
+
+/// The port of four digits, or `None` exactly where the text is not four digits.
+pub(crate) fn port_of(text: &[u8]) -> Option<u16>
+    ensures { result ≡ port_spelled text.now }
+{
+    match text {
+        [a, b, c, d] => {
+            let high = byte_of(&[*a, *b])?;
+            let low = byte_of(&[*c, *d])?;
+            Some(u16::from(high) * 256 + u16::from(low))
+        }
+        _ => None,
+    }
+}
+
+// The value of a digit.
+fn digit_of(digit: u8) -> Option<u8>
+    ensures value { result ≡ digit_spelled digit }
+    ensures small { IfSome result (λ value. value < 16) }
+{
+    match digit {
+        b'0'..=b'9' => Some(digit - b'0'),
+        b'a'..=b'f' => Some(digit - b'a' + 10),
+        _ => None,
+    }
+}
+
+/// The two digits of a byte.
+pub(crate) fn digits_of(value: u8) -> [u8; 2]
+    ensures { result ≡ byte_text value }
+{
+    [digit(value / 16), digit(value % 16)]
+}
+
+// The digit of a value.
+fn digit(value: u8) -> u8
+    requires { value < 16 }
+    ensures { result ≡ digit_char value }
+{
+    if value < 10 {
+        b'0' + value
+    } else {
+        b'a' + (value - 10)
+    }
+}

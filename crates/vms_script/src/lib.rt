@@ -1,0 +1,22 @@
+//! Scripts, which say line by line what happens to a board, and the trace that its answers leave.
+#![tactic(auto)]
+
+mod event;
+mod hex;
+mod line;
+mod name;
+mod number;
+mod script;
+mod session;
+mod split;
+mod trace;
+
+pub use line::{Line, ScriptFault, ScriptReason};
+pub use name::is_shelf_name;
+pub use number::LONGEST_WAIT;
+pub use script::read_script;
+pub use trace::print_answer;
+pub use vms_io::WriteFault;
+
+#[cfg(test)]
+mod tests;

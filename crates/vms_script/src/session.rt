@@ -1,0 +1,68 @@
+// Lines that only a session has.
+ghost use Rattle.std.specs.Prelude.{◌≡◌, ◌&&◌, nat_le};
+ghost use Rattle.vms_script.specs.Lines.{save_line, restore_line, session_line, is_set_of};
+ghost use Rattle.vms_script.specs.Views.{read_view};
+ghost use Rattle.vms_script.specs.Words.{first_word};
+
+use crate::line::{Line, ScriptReason};
+use crate::name::name_of;
+use crate::number::number_of;
+use crate::split::split_word;
+use dev_base::NEWEST;
+
+/// A line of a session on a board of this level, by its first word and what stands behind it.
+pub(crate) fn read_session(level: u8, word: &[u8], rest: &[u8]) -> Result<Line, ScriptReason>
+    ensures { read_view result ≡ session_line level word.now rest.now }
+{
+    if word == b"save".as_slice() {
+        read_save(level, rest)
+    } else if word == b"restore".as_slice() {
+        read_restore(rest)
+    } else {
+        Err(ScriptReason::Form)
+    }
+}
+
+// `save @N NAME`, with N a shipped set at or above the level.
+fn read_save(level: u8, words: &[u8]) -> Result<Line, ScriptReason>
+    ensures { read_view result ≡ save_line level (first_word words.now) }
+{
+    let split = split_word(words);
+    let Some(name) = split.rest else {
+        return Err(ScriptReason::Form);
+    };
+    let Some(name) = name_of(name) else {
+        return Err(ScriptReason::Form);
+    };
+    let Some(number) = split.word.strip_prefix(b"@") else {
+        return Err(ScriptReason::Form);
+    };
+    match number_of(number) {
+        Ok(set) => {
+            if is_set_of(level, set) {
+                let set = set as u8;
+                Ok(Line::Save { set, name })
+            } else {
+                Err(ScriptReason::Range)
+            }
+        }
+        Err(reason) => Err(reason),
+    }
+}
+
+// `restore NAME`.
+fn read_restore(name: &[u8]) -> Result<Line, ScriptReason>
+    ensures { read_view result ≡ restore_line name.now }
+{
+    match name_of(name) {
+        Some(name) => Ok(Line::Restore { name }),
+        None => Err(ScriptReason::Form),
+    }
+}
+
+// Tells whether a board of this level is saved under a set.
+fn is_set_of(level: u8, set: u64) -> bool
+    ensures { result ≡ is_set_of level set }
+{
+    u64::from(level) <= set && set <= u64::from(NEWEST)
+}

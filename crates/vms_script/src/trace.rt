@@ -1,0 +1,82 @@
+// The trace that answers leave.
+ghost use Rattle.std.specs.Prelude.{◌≡◌, ◌+◌, ◌*◌, ◌++◌, ◌≤◌, length, OnOk, OnErr};
+ghost use Rattle.std.specs.Io.KnownBytes.{Appends};
+ghost use Rattle.vms_io.specs.Causes.{AppendsPrefix, HasCause};
+ghost use Rattle.vms_script.specs.Trace.{trace_line, value_text, sent_text, bytes_text};
+
+use crate::hex::digits_of;
+use arrayvec::ArrayVec;
+use dev_board::Answer;
+use vms_io::{Sink, WriteFault, write_all_of};
+
+/// Appends the line of an answer: the value as two hexadecimal digits or `--`, a blank, `1` or `0` for the
+/// interrupt output, where bytes were sent a blank and their digits, and a line feed. After an error a prefix
+/// of it was appended.
+pub fn print_answer<K: Sink>(answer: &Answer, sink: &mut K) -> Result<(), WriteFault>
+    ensures ok { let line = trace_line answer.now in
+        OnOk result (Appends (K.written sink.old) (K.written sink.new) line) }
+    ensures err { let line = trace_line answer.now in
+        OnErr result (AppendsPrefix (K.written sink.old) (K.written sink.new) line) }
+    ensures cause { HasCause (K.faults sink.old) (K.faults sink.new) result }
+    ensures promise { K.promise sink.new ≡ K.promise sink.old }
+{
+    let line = line_of(answer);
+    match write_all_of(sink, &line) {
+        Ok(()) => Ok(()),
+        Err(_) => Err(WriteFault),
+    }
+}
+
+// The line of an answer, which has at most 40 bytes.
+#[tactic(auto, unfolding(crate::specs::Trace::trace_line))]
+fn line_of(answer: &Answer) -> ArrayVec<u8, 40>
+    ensures { result.items ≡ trace_line answer.now }
+{
+    let mut line = ArrayVec::new();
+    append(&mut line, &value_digits(answer.value));
+    append(&mut line, if answer.int { b" 1" } else { b" 0" });
+    append_sent(&mut line, answer.sent.as_slice());
+    append(&mut line, b"\n");
+    line
+}
+
+// Appends bytes that there is room for.
+fn append(line: &mut ArrayVec<u8, 40>, more: &[u8])
+    requires { length line.old.items + length more.now ≤ 40 }
+    ensures { line.new.items ≡ line.old.items ++ more.now }
+{
+    let _fits = line.try_extend_from_slice(more);
+}
+
+// The two digits of a value, or two dashes.
+fn value_digits(value: Option<u8>) -> [u8; 2]
+    ensures { result ≡ value_text value }
+{
+    match value {
+        Some(value) => digits_of(value),
+        None => *b"--",
+    }
+}
+
+// Where bytes were sent, appends a blank and their digits.
+fn append_sent(line: &mut ArrayVec<u8, 40>, sent: &[u8])
+    requires { length line.old.items + 2 * length sent.now + 1 ≤ 40 }
+    ensures items { line.new.items ≡ line.old.items ++ sent_text sent.now }
+    ensures few { length line.new.items ≤ length line.old.items + 2 * length sent.now + 1 }
+{
+    if !sent.is_empty() {
+        append(line, b" ");
+        append_digits(line, sent);
+    }
+}
+
+// Appends the digits of bytes.
+fn append_digits(line: &mut ArrayVec<u8, 40>, bytes: &[u8])
+    requires { length line.old.items + 2 * length bytes.now ≤ 40 }
+    ensures items { line.new.items ≡ line.old.items ++ bytes_text bytes.now }
+    ensures count { length line.new.items ≡ length line.old.items + 2 * length bytes.now }
+{
+    for byte in bytes {
+        append(line, &digits_of(*byte));
+    }
+}
