@@ -9,10 +9,11 @@ ghost use Rattle.vms_descfile.specs.Descs.{sub_in, sub_of, Whole as TheWhole, wh
 
 use crate::descs::{read_head, read_rest};
 use crate::fault::Fault;
+use crate::field_names::FieldNames;
 use crate::keys::fits;
 use crate::lists::ListOf;
 use crate::members::{at, at_or};
-use crate::names::{Names, Scope, names_in};
+use crate::names::{Names, Scope};
 use crate::tests::TestIn;
 use crate::words::{Reads, U32};
 use serde_json::Value;
@@ -52,7 +53,7 @@ fn read_sub_asked(alloc: Global, asks: bool, parent: Names, value: &Value) -> Re
     ensures { Answers sub_seen (sub_in (record { own = names_if asks (view value.now); parent = Some (names_seen parent.entry) }) (view value.now)) result }
 {
     if asks {
-        let names = names_in(alloc, value)?;
+        let names = FieldNames::of(alloc, value)?;
         read_sub(alloc, Some(&names), parent, value)
     } else {
         read_sub(alloc, None, parent, value)
@@ -110,7 +111,7 @@ fn read_whole_asked(alloc: Global, asks: bool, value: &Value) -> Result<Whole, F
     ensures { Answers whole_seen (whole_in asks (names_if asks (view value.now)) (view value.now)) result }
 {
     if asks {
-        let names = names_in(alloc, value)?;
+        let names = FieldNames::of(alloc, value)?;
         read_whole(alloc, asks, Some(&names), value)
     } else {
         read_whole(alloc, asks, None, value)
