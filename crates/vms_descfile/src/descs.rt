@@ -49,7 +49,8 @@ pub(crate) fn read_rest(
     head: Head,
     value: &Value,
 ) -> Result<Desc, Fault>
-    ensures { Answers desc_seen (rest_of (names_seen names.entry) (head_seen head) (view value.now)) result }
+    ensures { Answers desc_seen (rest_of (names_seen names.entry) (head_seen head)
+        (view value.now)) result }
 {
     let scope = Scope {
         own: names,
@@ -102,7 +103,8 @@ impl Reads for StructOf {
 }
 
 fn read_asked(alloc: Global, asks: bool, value: &Value) -> Result<Desc, Fault>
-    ensures { Answers desc_seen (struct_in (names_if asks (view value.now)) (view value.now)) result }
+    ensures { Answers desc_seen (struct_in (names_if asks (view value.now)) (view value.now))
+        result }
 {
     if asks {
         let names = FieldNames::of(alloc, value)?;

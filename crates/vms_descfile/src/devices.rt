@@ -50,7 +50,9 @@ impl<'a> Reads for SubOf<'a> {
 }
 
 fn read_sub_asked(alloc: Global, asks: bool, parent: Names, value: &Value) -> Result<Sub, Fault>
-    ensures { Answers sub_seen (sub_in (record { own = names_if asks (view value.now); parent = Some (names_seen parent.entry) }) (view value.now)) result }
+    ensures { Answers sub_seen (sub_in
+        (record { own = names_if asks (view value.now); parent = Some (names_seen parent.entry) })
+        (view value.now)) result }
 {
     if asks {
         let names = FieldNames::of(alloc, value)?;
@@ -61,7 +63,9 @@ fn read_sub_asked(alloc: Global, asks: bool, parent: Names, value: &Value) -> Re
 }
 
 fn read_sub(alloc: Global, own: Names, parent: Names, value: &Value) -> Result<Sub, Fault>
-    ensures { Answers sub_seen (sub_in (record { own = names_seen own.entry; parent = Some (names_seen parent.entry) }) (view value.now)) result }
+    ensures { Answers sub_seen (sub_in
+        (record { own = names_seen own.entry; parent = Some (names_seen parent.entry) })
+        (view value.now)) result }
 {
     let head = read_head(alloc, own, value)?;
     let scope = Scope {
@@ -108,7 +112,8 @@ impl Reads for WholeOf {
 }
 
 fn read_whole_asked(alloc: Global, asks: bool, value: &Value) -> Result<Whole, Fault>
-    ensures { Answers whole_seen (whole_in asks (names_if asks (view value.now)) (view value.now)) result }
+    ensures { Answers whole_seen (whole_in asks (names_if asks (view value.now)) (view value.now))
+        result }
 {
     if asks {
         let names = FieldNames::of(alloc, value)?;

@@ -19,7 +19,8 @@ pub(crate) struct FieldNames {
 impl FieldNames {
     // Of the fields of a description.
     pub(crate) fn of(alloc: Global, value: &Value) -> Result<FieldNames, AllocError>
-        ensures { IfOk result (λ names. number_of names.first ≡ first_of (names_in (view value.now))) }
+        ensures { IfOk result (λ names. number_of names.first
+            ≡ first_of (names_in (view value.now))) }
     {
         let first = index_in(alloc, value)?;
         Ok(FieldNames { first })
@@ -59,7 +60,8 @@ fn put_first(
     name: &str,
     number: usize,
 ) -> Result<(), AllocError>
-    ensures { OnOk result ((q : List ℕ) → number_of first.new q ≡ or_else (number_of first.old q) (at_name name.now number q)) }
+    ensures { OnOk result ((q : List ℕ) → number_of first.new q
+        ≡ or_else (number_of first.old q) (at_name name.now number q)) }
 {
     if !first.contains_key(name) {
         first.insert(String::from_str(alloc, name)?, number)?;
@@ -68,7 +70,8 @@ fn put_first(
 }
 
 fn name_of(field: &Value) -> &str
-    ensures { result.now ≡ text_or_none (option_and_then as_str (get (codes "name") (view field.now))) }
+    ensures { result.now
+        ≡ text_or_none (option_and_then as_str (get (codes "name") (view field.now))) }
 {
     match field.get("name").and_then(Value::as_str) {
         Some(name) => name,
