@@ -14,6 +14,7 @@ use Rattle.vms_spec.specs.Layout.{counted}
 use Rattle.vms_spec.specs.WellFormed.{has_few}
 use Rattle.vms_laws.proofs.WellFormedLaws.{Clean}
 use Rattle.vms_descfile.specs.Answers.{Answer, good, under, next, changed, list_of}
+use Rattle.vms_descfile.specs.Index.{first_of}
 use Rattle.vms_descfile.specs.Keys.{fits as keys_fit, member_or, at, at_or, maybe_at, u32_of, text_of}
 use Rattle.vms_descfile.specs.Tests.{Names, Scope, names_of, names_of_list, names_in, names_if, text_or_none, number_in, test_of}
 use Rattle.vms_descfile.specs.Fields.{field_of}
@@ -108,7 +109,7 @@ pub record HasDesc (d : Desc) (o : Data) : Type 0 where
 pub names_asked : (asks : Bool) (d : Desc) (o : Data) → HasDesc d o → names_if asks o ≡ asked asks (own_names d.fields)
 names_asked false d o has = refl
 names_asked true d o has =
-    ap (λ (x : Option Data). Some (names_of_list (option_and_then as_array x))) has.fields ∙ ap Some (names_listed (own_names d.fields) d.fields)
+    ap (λ (x : Option Data). Some (first_of (names_of_list (option_and_then as_array x)))) has.fields ∙ ap (λ l. Some (first_of l)) (names_listed (own_names d.fields) d.fields)
 
 abbrev minimum_kept : Bool → ℕ → Option ℕ
 minimum_kept true n = None

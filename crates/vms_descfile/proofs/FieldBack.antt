@@ -204,8 +204,13 @@ item_made (items.Struct j) = refl
 
 abbrev made_of : Bool → Field → Item → List (List ℕ) → Field
 made_of asks f item former = record {
-  name = f.name; former = former; item = item; count = count_shown asks f.count;
-  since = f.since; test = option_map (test_shown asks) f.test; default = f.default;
+  name = f.name;
+  former = former;
+  item = item;
+  count = count_shown asks f.count;
+  since = f.since;
+  test = option_map (test_shown asks) f.test;
+  default = f.default;
 }
 
 field_made : (asks : Bool) (f : Field)

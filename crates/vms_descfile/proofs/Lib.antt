@@ -18,4 +18,3 @@ pub mod ShownLaws
 pub mod TestBack
 pub mod TestLaws
 pub mod WriteLaws
-mod WrittenRows

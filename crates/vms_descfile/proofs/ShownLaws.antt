@@ -3,11 +3,12 @@ use Rattle.std.proofs.Common.{◌≡◌, ℕ, List, [], ◌∷◌, map, Bool, tr
 use Rattle.vms_spec.specs.declared.Count.{Count}
 use Rattle.vms_spec.specs.declared.Count.TheVariants.{One, Fixed, Counted}
 use Rattle.vms_spec.specs.Sets.{Formula, AtLeast, Below, Cell, Not, And, Or, Field, Desc, Sub, Device, Set}
+use Rattle.vms_descfile.specs.Index.{first_of}
 use Rattle.vms_descfile.specs.Tests.{Names}
 
 abbrev pub asked : Bool → List (List ℕ) → Names
 asked false names = None
-asked true names = Some names
+asked true names = Some (first_of names)
 
 abbrev pub number_shown : Bool → ℕ → ℕ
 number_shown false k = 0
@@ -28,14 +29,22 @@ count_shown asks (Counted by capacity) = Counted (number_shown asks by) capacity
 
 abbrev pub field_shown : Bool → Field → Field
 field_shown asks f = record {
-  name = f.name; former = f.former; item = f.item; count = count_shown asks f.count;
-  since = f.since; test = option_map (test_shown asks) f.test; default = f.default;
+  name = f.name;
+  former = f.former;
+  item = f.item;
+  count = count_shown asks f.count;
+  since = f.since;
+  test = option_map (test_shown asks) f.test;
+  default = f.default;
 }
 
 abbrev pub desc_shown : Bool → Desc → Desc
 desc_shown asks d = record {
-  name = d.name; version = d.version; minimum = d.minimum;
-  fields = map (field_shown asks) d.fields; validate = map (test_shown asks) d.validate;
+  name = d.name;
+  version = d.version;
+  minimum = d.minimum;
+  fields = map (field_shown asks) d.fields;
+  validate = map (test_shown asks) d.validate;
 }
 
 abbrev pub sub_shown : Bool → Sub → Sub
@@ -46,7 +55,9 @@ device_shown asks d = record { instance = d.instance; desc = desc_shown asks d.d
 
 abbrev pub set_shown : Bool → Set → Set
 set_shown asks set = record {
-  machines = set.machines; structs = map (desc_shown asks) set.structs; devices = map (device_shown asks) set.devices;
+  machines = set.machines;
+  structs = map (desc_shown asks) set.structs;
+  devices = map (device_shown asks) set.devices;
 }
 
 -- ---- where names are asked, all is as it was written

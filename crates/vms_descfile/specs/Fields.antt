@@ -9,7 +9,7 @@ use Rattle.vms_kinds.specs.declared.Item.{Item}
 use Rattle.vms_kinds.specs.declared.Item.TheVariants as items
 use Rattle.vms_spec.specs.declared.Count.{Count}
 use Rattle.vms_spec.specs.declared.Count.TheVariants.{One, Fixed, Counted}
-use Rattle.vms_spec.specs.Sets.{Field}
+use Rattle.vms_spec.specs.Sets.{Formula, Field}
 use Rattle.vms_descfile.specs.Answers.{Answer, good, next, given, list_of}
 use Rattle.vms_descfile.specs.Keys.{has, fits, judged, at, at_or, maybe_at, u16_of, u32_of, integer_of, text_of}
 use Rattle.vms_descfile.specs.Tests.{Names, name_in, test_of}
@@ -112,6 +112,10 @@ front_of names d =
     next (at_or [] (list_of text_of) (codes "former") d) (λ former.
     good (record { count = count; default = default; equal = equal; former = former })))))
 
+-- where a field is there
+abbrev pub presence_of : Names → Data → Answer (Option Formula)
+presence_of names d = maybe_at (test_of (record { own = names; parent = None })) (codes "test") d
+
 -- the kind and what comes after it
 abbrev pub field_after : Names → Front → Data → Answer Field
 field_after names front d =
@@ -120,7 +124,7 @@ field_after names front d =
     next (at_or 0 u32_of (codes "since") d) (λ since.
     next (maybe_at u16_of (codes "size") d) (λ size.
     next (maybe_at u32_of (codes "struct") d) (λ struct.
-    next (maybe_at (test_of (record { own = names; parent = None })) (codes "test") d) (λ test.
+    next (presence_of names d) (λ test.
     good (record {
       name = name;
       former = front.former;

@@ -4,6 +4,7 @@ pub mod Fields
 pub mod Fitting
 pub mod Files
 pub mod Given
+pub mod Index
 pub mod Keys
 pub mod Tests
 pub mod Written

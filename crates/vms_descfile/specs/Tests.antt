@@ -1,6 +1,6 @@
 -- What the tests of a file say. In a first walk no name is looked up, and each stands for the number 0; in a second walk
 -- each name must be that of a field.
-use Rattle.std.specs.Prelude.{ℕ, zero, suc, Bool, true, false, if◌then◌else◌, min, List, [], ◌∷◌, position, map, option_map, Option, Some, None, option_and_then, codes}
+use Rattle.std.specs.Prelude.{ℕ, zero, suc, Bool, true, false, if◌then◌else◌, min, List, [], ◌∷◌, option_map, Option, Some, None, option_and_then, codes}
 use denote.Ref.{Bor}
 use Rattle.std.specs.Str.{bytes_eq}
 use Rattle.serde_json.specs.Data.{Data, Items, no_items, item}
@@ -11,6 +11,7 @@ use Rattle.vms_spec.specs.declared.Rel.{Rel}
 use Rattle.vms_spec.specs.declared.Rel.TheVariants as rels
 use Rattle.vms_spec.specs.declared.Whose.TheVariants.{Own, Parent}
 use Rattle.vms_spec.specs.Sets.{Formula, AtLeast, Below, Cell, Not, And, Or}
+use Rattle.vms_descfile.specs.declared.field_names.FieldNames.{FieldNames}
 use Rattle.vms_descfile.specs.declared.names.Scope.{Scope as Asked}
 use Rattle.vms_descfile.specs.declared.cells.Form.{Form}
 use Rattle.vms_descfile.specs.declared.cells.Form.TheVariants as forms
@@ -19,6 +20,7 @@ use Rattle.vms_descfile.specs.declared.cells.Leaf.TheVariants as leaves
 use Rattle.vms_descfile.specs.declared.cells.Join.{Join}
 use Rattle.vms_descfile.specs.declared.cells.Join.TheVariants as joins
 use Rattle.vms_descfile.specs.Answers.{Answer, good, bad, under, next, changed, given}
+use Rattle.vms_descfile.specs.Index.{first_of, number_of}
 use Rattle.vms_descfile.specs.Keys.{fits, at, u32_of, u64_of, text_of}
 
 -- ---- names of fields
@@ -39,23 +41,23 @@ names_of_list (Some ds) = names_of ds
 abbrev pub names_in : Data → List (List ℕ)
 names_in d = names_of_list (option_and_then as_array (get (codes "fields") d))
 
--- what names are looked up in: nothing in the first walk
+-- where names are looked up: nowhere in the first walk
 abbrev pub Names : Type 0
-Names = Option (List (List ℕ))
+Names = Option (List ℕ → Option ℕ)
 
 abbrev pub names_if : Bool → Data → Names
 names_if false d = None
-names_if true d = Some (names_in d)
+names_if true d = Some (first_of (names_in d))
 
 -- numbers end at 2 ^ 32 - 1: no set with so many fields is well formed
 abbrev pub numbered : Option ℕ → Answer ℕ
 numbered None = bad []
 numbered (Some k) = good (min k 4294967295)
 
--- the number of the first field of a name
+-- the number that a name stands for
 abbrev pub number_in : Names → List ℕ → Answer ℕ
 number_in None name = good 0
-number_in (Some names) name = numbered (position (λ n. bytes_eq n name) names)
+number_in (Some first) name = numbered (first name)
 
 abbrev pub name_in : Names → Data → Answer ℕ
 name_in names d = next (text_of d) (number_in names)
@@ -85,8 +87,8 @@ pub record Scope : Type 0 where
   pub parent : Option Names
 
 -- as the code has them
-abbrev pub names_seen : Option (Bor (List (Bor (List ℕ)))) → Names
-names_seen names = option_map (λ list. map (λ name. name.now) list.now) names
+abbrev pub names_seen : Option (Bor FieldNames) → Names
+names_seen names = option_map (λ fields. number_of fields.now.first) names
 
 abbrev pub scope_seen : Asked → Scope
 scope_seen a = record { own = names_seen a.own; parent = option_map names_seen a.parent }

@@ -91,7 +91,8 @@ pub(crate) fn put(
     key: &str,
     value: Value,
 ) -> Result<(), AllocError>
-    ensures { OnOk result (members_view members.new.entries ≡ put key.now (view value) (members_view members.old.entries)) }
+    ensures { OnOk result (members_view members.new.entries
+        ≡ put key.now (view value) (members_view members.old.entries)) }
 {
     serde_json::put(members, alloc, key, value)
 }
@@ -103,7 +104,8 @@ pub(crate) fn put_natural(
     key: &str,
     number: Option<u64>,
 ) -> Result<(), AllocError>
-    ensures { OnOk result (members_view members.new.entries ≡ given_as key.now natural_file number (members_view members.old.entries)) }
+    ensures { OnOk result (members_view members.new.entries
+        ≡ given_as key.now natural_file number (members_view members.old.entries)) }
 {
     match number {
         Some(number) => put(alloc, members, key, natural_value(number)),
@@ -119,7 +121,8 @@ pub(crate) fn put_unless(
     key: &str,
     value: Value,
 ) -> Result<(), AllocError>
-    ensures { OnOk result (members_view members.new.entries ≡ unless left_out key.now (view value) (members_view members.old.entries)) }
+    ensures { OnOk result (members_view members.new.entries
+        ≡ unless left_out key.now (view value) (members_view members.old.entries)) }
 {
     if left_out {
         return Ok(());
@@ -135,7 +138,8 @@ pub(crate) fn put_list<T, W: Writes<T>>(
     writer: &W,
     items: &[T],
 ) -> Result<(), AllocError>
-    ensures { OnOk result (members_view members.new.entries ≡ list_as key.now (W.file writer.now) items.now (members_view members.old.entries)) }
+    ensures { OnOk result (members_view members.new.entries
+        ≡ list_as key.now (W.file writer.now) items.now (members_view members.old.entries)) }
 {
     if items.is_empty() {
         return Ok(());

@@ -9,11 +9,12 @@ ghost use Rattle.vms_descfile.specs.Tests.{names_seen, names_if};
 ghost use Rattle.vms_descfile.specs.Descs.{head_of, head_seen, minimum_or, desc_as, rest_of, struct_in, struct_of};
 
 use crate::fault::Fault;
+use crate::field_names::FieldNames;
 use crate::fields::FieldIn;
 use crate::keys::fits;
 use crate::lists::ListOf;
 use crate::members::{at, at_or, maybe_at};
-use crate::names::{Names, Scope, names_in};
+use crate::names::{Names, Scope};
 use crate::tests::TestIn;
 use crate::words::{Reads, TextOf, U32};
 use serde_json::Value;
@@ -48,7 +49,8 @@ pub(crate) fn read_rest(
     head: Head,
     value: &Value,
 ) -> Result<Desc, Fault>
-    ensures { Answers desc_seen (rest_of (names_seen names.entry) (head_seen head) (view value.now)) result }
+    ensures { Answers desc_seen (rest_of (names_seen names.entry) (head_seen head)
+        (view value.now)) result }
 {
     let scope = Scope {
         own: names,
@@ -101,10 +103,11 @@ impl Reads for StructOf {
 }
 
 fn read_asked(alloc: Global, asks: bool, value: &Value) -> Result<Desc, Fault>
-    ensures { Answers desc_seen (struct_in (names_if asks (view value.now)) (view value.now)) result }
+    ensures { Answers desc_seen (struct_in (names_if asks (view value.now)) (view value.now))
+        result }
 {
     if asks {
-        let names = names_in(alloc, value)?;
+        let names = FieldNames::of(alloc, value)?;
         read_struct(alloc, Some(&names), value)
     } else {
         read_struct(alloc, None, value)

@@ -9,10 +9,11 @@ ghost use Rattle.vms_descfile.specs.Descs.{sub_in, sub_of, Whole as TheWhole, wh
 
 use crate::descs::{read_head, read_rest};
 use crate::fault::Fault;
+use crate::field_names::FieldNames;
 use crate::keys::fits;
 use crate::lists::ListOf;
 use crate::members::{at, at_or};
-use crate::names::{Names, Scope, names_in};
+use crate::names::{Names, Scope};
 use crate::tests::TestIn;
 use crate::words::{Reads, U32};
 use serde_json::Value;
@@ -49,10 +50,12 @@ impl<'a> Reads for SubOf<'a> {
 }
 
 fn read_sub_asked(alloc: Global, asks: bool, parent: Names, value: &Value) -> Result<Sub, Fault>
-    ensures { Answers sub_seen (sub_in (record { own = names_if asks (view value.now); parent = Some (names_seen parent.entry) }) (view value.now)) result }
+    ensures { Answers sub_seen (sub_in
+        (record { own = names_if asks (view value.now); parent = Some (names_seen parent.entry) })
+        (view value.now)) result }
 {
     if asks {
-        let names = names_in(alloc, value)?;
+        let names = FieldNames::of(alloc, value)?;
         read_sub(alloc, Some(&names), parent, value)
     } else {
         read_sub(alloc, None, parent, value)
@@ -60,7 +63,9 @@ fn read_sub_asked(alloc: Global, asks: bool, parent: Names, value: &Value) -> Re
 }
 
 fn read_sub(alloc: Global, own: Names, parent: Names, value: &Value) -> Result<Sub, Fault>
-    ensures { Answers sub_seen (sub_in (record { own = names_seen own.entry; parent = Some (names_seen parent.entry) }) (view value.now)) result }
+    ensures { Answers sub_seen (sub_in
+        (record { own = names_seen own.entry; parent = Some (names_seen parent.entry) })
+        (view value.now)) result }
 {
     let head = read_head(alloc, own, value)?;
     let scope = Scope {
@@ -107,10 +112,11 @@ impl Reads for WholeOf {
 }
 
 fn read_whole_asked(alloc: Global, asks: bool, value: &Value) -> Result<Whole, Fault>
-    ensures { Answers whole_seen (whole_in asks (names_if asks (view value.now)) (view value.now)) result }
+    ensures { Answers whole_seen (whole_in asks (names_if asks (view value.now)) (view value.now))
+        result }
 {
     if asks {
-        let names = names_in(alloc, value)?;
+        let names = FieldNames::of(alloc, value)?;
         read_whole(alloc, asks, Some(&names), value)
     } else {
         read_whole(alloc, asks, None, value)

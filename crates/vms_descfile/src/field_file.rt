@@ -102,7 +102,10 @@ fn put_counted(
     own: &[Field],
     count: Count,
 ) -> Result<(), AllocError>
-    ensures { OnOk result (members_view members.new.entries ≡ given_as (codes "counted") (λ k. string (get_or (own_names (map field_seen own.now)) k [])) (counter_in count) (members_view members.old.entries)) }
+    ensures { OnOk result (members_view members.new.entries
+        ≡ given_as (codes "counted")
+        (λ k. string (get_or (own_names (map field_seen own.now)) k [])) (counter_in count)
+        (members_view members.old.entries)) }
 {
     match count {
         Count::Counted { by, .. } => put(alloc, members, "counted", name_value(alloc, own, by)?),
@@ -111,7 +114,9 @@ fn put_counted(
 }
 
 fn put_equal(alloc: Global, members: &mut Members, item: Item) -> Result<(), AllocError>
-    ensures { OnOk result (members_view members.new.entries ≡ given_as (codes "equal") integer_file (equal_in item) (members_view members.old.entries)) }
+    ensures { OnOk result (members_view members.new.entries
+        ≡ given_as (codes "equal") integer_file (equal_in item)
+        (members_view members.old.entries)) }
 {
     match item {
         Item::Equal { value, .. } => put(alloc, members, "equal", integer_value(value)),
@@ -125,7 +130,9 @@ fn put_test(
     own: &[Field],
     test: &Option<Test>,
 ) -> Result<(), AllocError>
-    ensures { OnOk result (members_view members.new.entries ≡ given_as (codes "test") (test_file (own_names (map field_seen own.now)) []) (option_map formula test.now) (members_view members.old.entries)) }
+    ensures { OnOk result (members_view members.new.entries
+        ≡ given_as (codes "test") (test_file (own_names (map field_seen own.now)) [])
+        (option_map formula test.now) (members_view members.old.entries)) }
 {
     match test {
         Some(test) => {
@@ -144,7 +151,8 @@ fn put_front(
     field: &Field,
 ) -> Result<(), AllocError>
     requires { members_view members.old.entries ≡ no_members }
-    ensures { OnOk result (members_view members.new.entries ≡ front_file (own_names (map field_seen own.now)) (field_seen field.now)) }
+    ensures { OnOk result (members_view members.new.entries
+        ≡ front_file (own_names (map field_seen own.now)) (field_seen field.now)) }
 {
     put_natural(alloc, members, "capacity", capacity_in(field.count))?;
     put_natural(alloc, members, "count", length_in(field.count))?;
@@ -156,7 +164,8 @@ fn put_front(
 }
 
 fn field_value(alloc: Global, own: &[Field], field: &Field) -> Result<Value, AllocError>
-    ensures { IfOk result (λ v. view v ≡ field_file (own_names (map field_seen own.now)) (field_seen field.now)) }
+    ensures { IfOk result (λ v. view v
+        ≡ field_file (own_names (map field_seen own.now)) (field_seen field.now)) }
 {
     let mut members = Map::new(alloc);
     put_front(alloc, &mut members, own, field)?;

@@ -4,11 +4,11 @@ ghost use Rattle.std.specs.Option.{option_map};
 ghost use Rattle.serde_json.specs.Find.{get, as_str};
 ghost use Rattle.serde_json.specs.View.{view};
 ghost use Rattle.vms_spec.specs.Sets as sets;
-ghost use Rattle.vms_parts.specs.Views.{field_of as field_seen};
+ghost use Rattle.vms_parts.specs.Views.{field_of as field_seen, formula};
 ghost use Rattle.vms_descfile.specs.declared.sort.Sort.{Sort as TheSort};
 ghost use Rattle.vms_descfile.specs.Answers.{Answers};
 ghost use Rattle.vms_descfile.specs.Tests.{names_seen};
-ghost use Rattle.vms_descfile.specs.Fields.{sort_named, sort_of, counts_fit, sort_fits, field_needs, field_allows, field_fits, count_as, count_of, item_as, or_zero, number_item, front_seen, front_of, field_after, field_in, field_of};
+ghost use Rattle.vms_descfile.specs.Fields.{sort_named, sort_of, counts_fit, sort_fits, field_needs, field_allows, field_fits, count_as, count_of, item_as, or_zero, number_item, front_seen, front_of, presence_of, field_after, field_in, field_of};
 
 use crate::fault::Fault;
 use crate::keys::{fits, has};
@@ -20,7 +20,7 @@ use crate::tests::TestIn;
 use crate::words::{Integer, Reads, TextOf, U16, U32};
 use serde_json::Value;
 use std::alloc::Global;
-use vms_desc::{Count, Field, Listed, Text};
+use vms_desc::{Count, Field, Listed, Test, Text};
 use vms_kinds::{Item, Kind};
 
 const NEEDED: [&str; 2] = ["kind", "name"];
@@ -120,7 +120,9 @@ fn sort_fits(sort: Option<Sort>, value: &Value) -> bool
 }
 
 fn sort_in(value: &Value) -> Option<Sort>
-    ensures { result ≡ option_and_then sort_named (option_and_then as_str (get (codes "kind") (view value.now))) }
+    ensures { result
+        ≡ option_and_then sort_named
+        (option_and_then as_str (get (codes "kind") (view value.now))) }
 {
     value
         .get("kind")
@@ -199,20 +201,29 @@ fn read_front(alloc: Global, names: Names, value: &Value) -> Result<Front, Fault
     })
 }
 
+// Where a field is there.
+fn read_presence(alloc: Global, names: Names, value: &Value) -> Result<Option<Test>, Fault>
+    ensures { Answers (option_map formula) (presence_of (names_seen names.entry) (view value.now))
+        result }
+{
+    let scope = Scope {
+        own: names,
+        parent: None,
+    };
+    maybe_at(alloc, &TestIn(scope), "test", value)
+}
+
 // The kind and what comes after it.
 fn read_after(alloc: Global, names: Names, front: Front, value: &Value) -> Result<Field, Fault>
-    ensures { Answers field_seen (field_after (names_seen names.entry) (front_seen front) (view value.now)) result }
+    ensures { Answers field_seen (field_after (names_seen names.entry) (front_seen front)
+        (view value.now)) result }
 {
     let sort = at(alloc, &SortOf, "kind", value)?;
     let name = at(alloc, &TextOf, "name", value)?;
     let since = at_or(alloc, &U32, "since", value, 0)?;
     let size = maybe_at(alloc, &U16, "size", value)?;
     let number = maybe_at(alloc, &U32, "struct", value)?;
-    let scope = Scope {
-        own: names,
-        parent: None,
-    };
-    let test = maybe_at(alloc, &TestIn(scope), "test", value)?;
+    let test = read_presence(alloc, names, value)?;
     Ok(Field {
         name,
         former: front.former,

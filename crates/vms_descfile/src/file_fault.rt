@@ -10,7 +10,8 @@ use vms_desc::{Place, Text};
 pub enum FileFault {
     /// The bytes are no JSON value.
     Syntax,
-    /// The value isn't of a file's shape, first at this path of keys and positions, as `devices.0.instance`; `file` is the whole.
+    /// The value isn't of a file's shape, first at this path of keys and positions, as
+    /// `devices.0.instance`; `file` is the whole.
     Shape(Text),
     /// A rule of sets, 1 to 8, fails first at this place; no lower one fails there.
     IllFormed { rule: u8, place: Place },

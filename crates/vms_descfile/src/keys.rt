@@ -9,9 +9,11 @@ ghost use Rattle.vms_descfile.specs.Keys.{has, has_all, fits, has_no_others};
 
 use serde_json::{Map, Value};
 
-// Whether a value is an object with each of the first keys, and no others than those and the second.
+// Whether a value is an object with each of the first keys, and no others than those and the
+// second.
 pub(crate) fn fits(value: &Value, needed: &[&str], allowed: &[&str]) -> bool
-    ensures { result ≡ fits (map (λ k. k.now) needed.now) (map (λ k. k.now) allowed.now) (view value.now) }
+    ensures { result
+        ≡ fits (map (λ k. k.now) needed.now) (map (λ k. k.now) allowed.now) (view value.now) }
 {
     match value.as_object() {
         Some(members) => has_no_others(members, needed, allowed) && has_all(value, needed),
@@ -51,7 +53,9 @@ fn is_one_of(keys: &[&str], key: &str) -> bool
 }
 
 fn has_keys(members: &Map<String, Value>, needed: &[&str], allowed: &[&str]) -> bool
-    ensures { result ≡ list_all (λ k. is_one_of (map (λ n. n.now) needed.now) (string_bytes k) || is_one_of (map (λ n. n.now) allowed.now) (string_bytes k)) (keys members.now) }
+    ensures { result
+        ≡ list_all (λ k. is_one_of (map (λ n. n.now) needed.now) (string_bytes k)
+        || is_one_of (map (λ n. n.now) allowed.now) (string_bytes k)) (keys members.now) }
 {
     members
         .keys()
@@ -61,7 +65,9 @@ fn has_keys(members: &Map<String, Value>, needed: &[&str], allowed: &[&str]) -> 
 // Whether the members have no other keys than these.
 
 fn has_no_others(members: &Map<String, Value>, needed: &[&str], allowed: &[&str]) -> bool
-    ensures { result ≡ has_no_others (map (λ k. k.now) needed.now ++ map (λ k. k.now) allowed.now) (members_view members.now.entries) }
+    ensures { result
+        ≡ has_no_others (map (λ k. k.now) needed.now ++ map (λ k. k.now) allowed.now)
+        (members_view members.now.entries) }
 {
     has_keys(members, needed, allowed)
 }

@@ -7,6 +7,7 @@ mod descs;
 mod devices;
 mod fault;
 mod field_file;
+mod field_names;
 mod fields;
 mod file_fault;
 mod fit;

@@ -38,7 +38,8 @@ where
 fn read_each<R: Reads>(alloc: Global, reader: &R, items: &[Value]) -> Result<Vec<R::Out>, Fault>
 where
     R::Out: Drop,
-    ensures { Answers (λ v. map R.means v.items) (each_from (R.says reader.now) 0 (items_view items.now)) result }
+    ensures { Answers (λ v. map R.means v.items)
+        (each_from (R.says reader.now) 0 (items_view items.now)) result }
 {
     let mut list = Vec::new(alloc);
     for (i, item) in items.iter().enumerate() {

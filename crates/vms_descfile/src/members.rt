@@ -37,7 +37,8 @@ pub(crate) fn at_or<R: Reads>(
 ) -> Result<R::Out, Fault>
 where
     R::Out: Drop,
-    ensures { Answers R.means (at_or (R.means default) (R.says reader.now) key.now (view value.now)) result }
+    ensures { Answers R.means (at_or (R.means default) (R.says reader.now) key.now
+        (view value.now)) result }
 {
     match value.get(key) {
         Some(member) => match reader.read(alloc, member) {
@@ -55,7 +56,8 @@ pub(crate) fn maybe_at<R: Reads>(
     key: &str,
     value: &Value,
 ) -> Result<Option<R::Out>, Fault>
-    ensures { Answers (option_map R.means) (maybe_at (R.says reader.now) key.now (view value.now)) result }
+    ensures { Answers (option_map R.means) (maybe_at (R.says reader.now) key.now (view value.now))
+        result }
 {
     match value.get(key) {
         Some(member) => match reader.read(alloc, member) {

@@ -19,8 +19,9 @@ use serde_json::Value;
 use std::alloc::Global;
 use vms_desc::{DescFault, DescSet, Parts};
 
-/// The set that a description file says. Else the fault is `Syntax` where the bytes are no JSON value, the first path at which
-/// the value isn't of the shape of a file, or the first place at which the parts break a rule of sets, unless memory is wanting.
+/// The set that a description file says. Else the fault is `Syntax` where the bytes are no JSON
+/// value, the first path at which the value isn't of the shape of a file, or the first place at
+/// which the parts break a rule of sets, unless memory is wanting.
 pub fn read_set(alloc: Global, text: &[u8]) -> Result<DescSet, FileFault>
     ensures { Gives (file_said text.now) result }
 {
@@ -61,7 +62,8 @@ fn read_value(alloc: Global, text: &[u8]) -> Result<Value, FileFault>
     }
 }
 
-// The parts that a value says: names are looked up in a second walk, where the first found no fault.
+// The parts that a value says: names are looked up in a second walk, where the first found no
+// fault.
 #[tactic(auto, unfolding(crate::specs::Files::parts_of))]
 fn read_parts(alloc: Global, value: &Value) -> Result<Parts, Fault>
     ensures { Answers set_seen (parts_of (view value.now)) result }

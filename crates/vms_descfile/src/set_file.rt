@@ -97,7 +97,8 @@ fn whole_value(alloc: Global, device: &Device) -> Result<Value, AllocError>
 }
 
 fn whole_members(alloc: Global, device: &Device) -> Result<Members, AllocError>
-    ensures { IfOk result (λ m. object (members_view m.entries) ≡ whole_file (device_of device.now)) }
+    ensures { IfOk result (λ m. object (members_view m.entries)
+        ≡ whole_file (device_of device.now)) }
 {
     let mut members = desc_members(alloc, &device.desc)?;
     let sub = SubFile(device.desc.fields.as_slice());

@@ -18,7 +18,8 @@ pub(crate) struct TestFile<'a> {
 }
 
 impl<'a> Writes<Test> for TestFile<'a> {
-    ghost file = { λ s t. test_file (own_names (map field_seen s.own.now)) (own_names (map field_seen s.parent.now)) (formula t) };
+    ghost file = { λ s t. test_file (own_names (map field_seen s.own.now))
+        (own_names (map field_seen s.parent.now)) (formula t) };
 
     fn write(&self, alloc: Global, item: &Test) -> Result<Value, AllocError> {
         test_value(alloc, self.own, self.parent, item)
@@ -31,7 +32,9 @@ fn test_value(
     parent: &[Field],
     test: &Test,
 ) -> Result<Value, AllocError>
-    ensures { IfOk result (λ v. view v ≡ test_file (own_names (map field_seen own.now)) (own_names (map field_seen parent.now)) (formula test.now)) }
+    ensures { IfOk result (λ v. view v
+        ≡ test_file (own_names (map field_seen own.now)) (own_names (map field_seen parent.now))
+        (formula test.now)) }
 {
     match test {
         Test::AtLeast(least) => only(alloc, "at_least", natural_value(*least as u64)),
@@ -71,7 +74,9 @@ fn named(
     fields: &[Field],
     number: u32,
 ) -> Result<Value, AllocError>
-    ensures { IfOk result (λ v. view v ≡ object (put key.now (string (get_or (own_names (map field_seen fields.now)) number [])) (members_view members.entries))) }
+    ensures { IfOk result (λ v. view v
+        ≡ object (put key.now (string (get_or (own_names (map field_seen fields.now)) number []))
+        (members_view members.entries))) }
 {
     put(alloc, &mut members, key, name_value(alloc, fields, number)?)?;
     Ok(Value::Object(members))
@@ -117,7 +122,8 @@ fn rel_value(alloc: Global, rel: Rel) -> Result<Value, AllocError>
 // The name of a field, which its number stands for.
 #[tactic(auto, using(crate::proofs::BuiltLaws::name_at))]
 pub(crate) fn name_value(alloc: Global, fields: &[Field], number: u32) -> Result<Value, AllocError>
-    ensures { IfOk result (λ v. view v ≡ string (get_or (own_names (map field_seen fields.now)) number [])) }
+    ensures { IfOk result (λ v. view v
+        ≡ string (get_or (own_names (map field_seen fields.now)) number [])) }
 {
     let number = number as usize;
     if number < fields.len() {

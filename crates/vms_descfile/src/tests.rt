@@ -81,7 +81,8 @@ fn read_leaf(alloc: Global, leaf: Leaf, scope: Scope, value: &Value) -> Result<T
 }
 
 fn negated(alloc: Global, inner: Result<Test, Fault>) -> Result<Test, Fault>
-    ensures { (x : Answer Formula) → Answers formula x inner → Answers formula (changed Not (under (codes "not") x)) result }
+    ensures { (x : Answer Formula) → Answers formula x inner
+        → Answers formula (changed Not (under (codes "not") x)) result }
 {
     match inner {
         Ok(test) => Ok(Test::Not(Box::new(alloc, test)?)),
@@ -131,7 +132,8 @@ fn both(
     first: Result<Test, Fault>,
     second: Result<Test, Fault>,
 ) -> Result<Test, Fault>
-    ensures { (x y : Answer Formula) → Answers formula x first → Answers formula y second → Answers formula (under (key_of join) (both (joined join) x y)) result }
+    ensures { (x y : Answer Formula) → Answers formula x first → Answers formula y second
+        → Answers formula (under (key_of join) (both (joined join) x y)) result }
 {
     match first {
         Ok(first) => match second {

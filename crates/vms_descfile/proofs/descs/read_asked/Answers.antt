@@ -11,7 +11,7 @@ pub returns-in_ok-names : goal.returns-in_ok-names
 returns-in_ok-names c =
     let d = view c.args.value.now in
     subst (λ (n : Names). Answers desc_seen (struct_in n d) c.read_struct.result)
-    (ap Some (ap (map (λ (n : Bor (List ℕ)). n.now)) c.deref.ensures.value ∙ c.in_ok-names.ensures) ∙ ap (λ (b : Bool). names_if b d) (sym c.if-asks.true))
+    (ap Some c.in_ok-names.ensures ∙ ap (λ (b : Bool). names_if b d) (sym c.if-asks.true))
     c.read_struct.ensures
 
 pub returns-else-asks : goal.returns-else-asks

@@ -10,7 +10,7 @@ pub returns-in_ok-names : goal.returns-in_ok-names
 returns-in_ok-names c =
     let d = view c.args.value.now in
     subst (λ (n : Names). Answers whole_seen (whole_in c.args.asks n d) c.read_whole.result)
-    (ap Some (ap (map (λ (n : Bor (List ℕ)). n.now)) c.deref.ensures.value ∙ c.in_ok-names.ensures) ∙ ap (λ (b : Bool). names_if b d) (sym c.if-asks.true))
+    (ap Some c.in_ok-names.ensures ∙ ap (λ (b : Bool). names_if b d) (sym c.if-asks.true))
     c.read_whole.ensures
 
 pub returns-else-asks : goal.returns-else-asks
