@@ -6,3 +6,4 @@ pub mod TextLemmas
 pub mod Writing
 pub mod Printers
 pub mod Runs
+pub mod Subs
