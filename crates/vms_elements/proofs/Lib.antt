@@ -8,3 +8,4 @@ pub mod Members
 pub mod PathsOf
 pub mod DevicePaths
 pub mod Stated
+pub mod Names

@@ -4,3 +4,6 @@ pub mod PrintLemmas
 pub mod ReadLemmas
 pub mod TextLemmas
 pub mod Writing
+pub mod Printers
+pub mod Runs
+pub mod Subs

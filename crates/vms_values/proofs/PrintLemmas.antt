@@ -12,7 +12,8 @@ use Rattle.std.specs.List.{flat_map}
 use Rattle.vms_io.specs.Causes.{AppendsPrefix}
 use Rattle.vms_parts.specs.declared.types.Field.{Field as CodeField}
 use Rattle.vms_parts.specs.declared.types.Device.{Device as CodeDevice}
-use Rattle.vms_spec.specs.Layout.{Cell, first, field_cells, cells_from, desc_cells, struct_cells, device_cells}
+use Rattle.vms_desc.specs.Described.{device_at}
+use Rattle.vms_spec.specs.Layout.{Cell, no_desc, first, field_cells, cells_from, desc_cells, struct_cells, device_cells}
 use Rattle.vms_spec.specs.Images.{Image, own_cells}
 use Rattle.vms_spec.specs.Values.{Printer, printer, printers, line_end, field_lines, desc_lines, sub_lines, device_lines, devices_lines}
 use Rattle.vms_parts.specs.Views.{set_of, desc_of, field_of, device_of}
@@ -106,6 +107,9 @@ pub devices_at : (ds : List CodeDevice) (i : ℕ) (d : CodeDevice) → i < lengt
 devices_at ds i d lt is =
     drop_more (map device_of ds) i (device_of d) (simp length-map lt)
     ∙ ap (λ (x : Device). x ∷ drop (i + 1) (map device_of ds)) (get_or-map device_of ds i d (device_of d) lt ∙ ap device_of (sym is))
+
+pub device_left : (set : Set) (k : ℕ) → k < length set.devices → drop k set.devices ≡ device_at set k ∷ drop (k + 1) set.devices
+device_left set k lt = drop_more set.devices k (record { instance = 0; desc = no_desc; subs = [] }) lt
 
 pub images_at : (images : List Image) (i : ℕ) (image : Image) → i < length images → image ≡ get_or images i image → drop i images ≡ image ∷ drop (i + 1) images
 images_at images i image lt is = drop_more images i image lt ∙ ap (λ (x : Image). x ∷ drop (i + 1) images) (sym is)

@@ -6,7 +6,7 @@ use Rattle.std.proofs.Common.{rules, ap, ◌∙◌, ◌++◌, List, ℕ, codes}
 use Rattle.vms_spec.specs.Values.{line_end}
 use Rattle.vms_values.proofs.Writing.{writes_more}
 use Rattle.vms_values.proofs.PrintLemmas.{same_text}
-use Rattle.vms_values.proofs.print.print_number.Goals as goal
+use Rattle.vms_values.proofs.shown.print_number.Goals as goal
 
 pub returns-clause-written : goal.returns-clause-written
 returns-clause-written g c =
