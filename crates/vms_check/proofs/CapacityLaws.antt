@@ -1,43 +1,15 @@
--- The least capacity that a number counts, and how large it can be.
-use Rattle.std.proofs.Common.{◌≡◌, ℕ, ◌+◌, ◌<◌, ◌≤◌, List, [], ◌∷◌, ◌++◌, length, get_or, drop, map, min, Bool, true, false, Option, Some, None, refl, sym, ap, ◌∙◌}
-use Rattle.std.specs.Prelude.{◌==◌, if◌then◌else◌}
-use Rattle.std.proofs.lemmas.List.{drop_all}
+-- The least capacity that a number counts, how large it can be, and for how much there is room.
+use Rattle.std.proofs.Common.{◌≡◌, ℕ, ◌≤◌, List, [], ◌∷◌, ◌++◌, min, nat_le, Bool, true, false, Option, Some, None, refl, sym, ◌∙◌, arith}
+use Rattle.std.specs.Prelude.{◌==◌, ◌&&◌, if◌then◌else◌}
+use Rattle.std.proofs.lemmas.Bool.Decides.{nat_tests}
 use Rattle.vms_kinds.specs.declared.Item.{Item}
 use Rattle.vms_spec.specs.declared.Count.{Count}
 use Rattle.vms_spec.specs.declared.Count.TheVariants.{One, Fixed, Counted}
 use Rattle.vms_spec.specs.Layout.{counted}
-use Rattle.vms_spec.specs.Sets as sets
-use Rattle.vms_parts.specs.declared.types.Field.{Field}
-use Rattle.vms_parts.specs.Views.{field_of}
+use Rattle.vms_spec.specs.Sets.{Field}
 use Rattle.vms_parts.specs.Capacities.{lesser, least_from, least_of}
-use Rattle.vms_parts.proofs.Items.{drop_is}
 use Rattle.vms_check.specs.Comparing as comparing
-use Rattle.vms_check.specs.Comparing.{bound, greatest}
-use Rattle.vms_check.specs.Sides.{lowered}
-
-of_count : Count → sets.Field → sets.Field
-of_count c f = record f { count = c }
-
-by_number : (least : Option ℕ) (most : ℕ) (rest : List ℕ) (b : Bool) → least_from (if b then lesser least most else least) rest ≡ least_from least ((if b then most ∷ [] else []) ++ rest)
-by_number least most rest true = refl
-by_number least most rest false = refl
-
-one_more : (c : Count) (f : sets.Field) (rest : List sets.Field) (least : Option ℕ) (i : ℕ) → least_from (lowered least i c) (counted i rest) ≡ least_from least (counted i (of_count c f ∷ rest))
-unfolding of_count
-one_more One f rest least i = refl
-one_more (Fixed n) f rest least i = refl
-one_more (Counted by most) f rest least i = by_number least most (counted i rest) (by == i)
-
-pub least_next : (fields : List Field) (k : ℕ) (f : Field) (least : Option ℕ) (i : ℕ) (whole : Option ℕ) → k < length fields → f ≡ get_or fields k f
-    → least_from least (counted i (map field_of (drop k fields))) ≡ whole → least_from (lowered least i f.count) (counted i (map field_of (drop (k + 1) fields))) ≡ whole
-unfolding of_count
-least_next fields k f least i whole lt is e =
-    one_more f.count (field_of f) (map field_of (drop (k + 1) fields)) least i
-    ∙ ap (λ (l : List Field). least_from least (counted i (map field_of l))) (sym (drop_is fields k f lt is)) ∙ e
-
-pub least_ends : (fields : List Field) (k : ℕ) (least : Option ℕ) (i : ℕ) (whole : Option ℕ) → length fields ≤ k
-    → least_from least (counted i (map field_of (drop k fields))) ≡ whole → least ≡ whole
-least_ends fields k least i whole all e = sym (ap (λ (l : List Field). least_from least (counted i (map field_of l))) (drop_all k fields all)) ∙ e
+use Rattle.vms_check.specs.Comparing.{absent_hold, bound, greatest, has_room, is_absent}
 
 -- ---- the greatest number
 
@@ -54,3 +26,71 @@ bound_none item [] e = refl
 bound_none item (m ∷ caps) e = let h : None ≡ Some (comparing.least_of m caps) = e ∙ some_least m caps in absurd (cc)
 
 pub ruleset bound_laws = (bound_some, bound_none)
+
+-- ---- room
+
+-- each holds so many elements
+abbrev Holds : ℕ → List ℕ → Type 0
+Holds n [] = Unit {0}
+Holds n (m ∷ caps) = (n ≤ m) × Holds n caps
+
+below : (k : ℕ) (caps : List ℕ) (l : ℕ) → least_from (Some k) caps ≡ Some l → l ≤ k
+below k [] l e = let h : k ≡ l = cc in omega (arith, h)
+below k (m ∷ caps) l e = omega (arith, below (min k m) caps l e)
+
+below_first : (least : Option ℕ) (m : ℕ) (caps : List ℕ) (l : ℕ) → least_from least (m ∷ caps) ≡ Some l → l ≤ m
+below_first None m caps l e = below m caps l e
+below_first (Some k) m caps l e = omega (arith, below (min k m) caps l e)
+
+all_above : (least : Option ℕ) (caps : List ℕ) (l n : ℕ) → least_from least caps ≡ Some l → n ≤ l → Holds n caps
+all_above least [] l n e h = tt
+all_above least (m ∷ caps) l n e h = (omega (arith, below_first least m caps l e, h), all_above (lesser least m) caps l n e h)
+
+all_none : (caps : List ℕ) (n : ℕ) → least_of caps ≡ None → Holds n caps
+all_none [] n e = tt
+all_none (m ∷ caps) n e = let h : Some (comparing.least_of m caps) ≡ None = sym (some_least m caps) ∙ e in absurd (cc)
+
+of_count : Count → Field → Field
+of_count c f = record f { count = c }
+
+room_there : (n most : ℕ) (absent : Bool) → n ≤ most → (if absent then nat_le n most else true) ≡ true
+room_there n most true h = grind (arith, nat_tests, h)
+room_there n most false h = refl
+
+room_by : (v n most : ℕ) (f : Field) (rest : List ℕ) (b : Bool) → Holds n ((if b then most ∷ [] else []) ++ rest)
+    → (if b && is_absent v f then nat_le n most else true) ≡ true
+room_by v n most f rest true h = room_there n most (is_absent v f) h.0
+room_by v n most f rest false h = refl
+
+room_one : (c : Count) (f : Field) (fs : List Field) (v i n : ℕ) → Holds n (counted i (of_count c f ∷ fs)) → has_room v i n f c ≡ true
+unfolding of_count
+room_one One f fs v i n h = refl
+room_one (Fixed m) f fs v i n h = refl
+room_one (Counted by most) f fs v i n h = room_by v n most f (counted i fs) (by == i) h
+
+rest_by : (n most : ℕ) (rest : List ℕ) (b : Bool) → Holds n ((if b then most ∷ [] else []) ++ rest) → Holds n rest
+rest_by n most rest true h = h.1
+rest_by n most rest false h = h
+
+rest_hold : (c : Count) (f : Field) (fs : List Field) (i n : ℕ) → Holds n (counted i (of_count c f ∷ fs)) → Holds n (counted i fs)
+unfolding of_count
+rest_hold One f fs i n h = h
+rest_hold (Fixed m) f fs i n h = h
+rest_hold (Counted by most) f fs i n h = rest_by n most (counted i fs) (by == i) h
+
+both_true : (a b : Bool) → a ≡ true → b ≡ true → (a && b) ≡ true
+both_true a b e f = cc
+
+all_hold : (fields : List Field) (v i n : ℕ) → Holds n (counted i fields) → absent_hold v i n fields ≡ true
+unfolding of_count
+all_hold [] v i n h = refl
+all_hold (f ∷ fs) v i n h =
+    both_true (has_room v i n f f.count) (absent_hold v i n fs) (room_one f.count f fs v i n h) (all_hold fs v i n (rest_hold f.count f fs i n h))
+
+pub room_none : (fields : List Field) (v i n : ℕ) → None ≡ least_of (counted i fields) → true ≡ absent_hold v i n fields
+room_none fields v i n e = sym (all_hold fields v i n (all_none (counted i fields) n (sym e)))
+
+pub room_some : (fields : List Field) (v i n l : ℕ) → Some l ≡ least_of (counted i fields) → n ≤ l → true ≡ absent_hold v i n fields
+room_some fields v i n l e h = sym (all_hold fields v i n (all_above None (counted i fields) l n (sym e) h))
+
+pub ruleset room_laws = (room_none, room_some)

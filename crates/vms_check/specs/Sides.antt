@@ -1,13 +1,10 @@
 -- What the comparison asks of one description at a version.
 use Rattle.std.specs.Prelude.{ℕ, suc, ◌+◌, Bool, true, false, ◌&&◌, ◌==◌, if◌then◌else◌, List, [], ◌∷◌, ◌++◌, Option, Some, None, nat_le}
 use Rattle.std.specs.Borrow.{Bor}
-use Rattle.vms_spec.specs.declared.Count.{Count}
 use Rattle.vms_spec.specs.declared.Part.{Part}
 use Rattle.vms_desc.specs.declared.set.DescSet.{DescSet}
-use Rattle.vms_spec.specs.declared.Count.TheVariants.{Counted}
 use Rattle.vms_spec.specs.Rules.{nodes}
 use Rattle.vms_spec.specs.Sets.{Formula, AtLeast, Below, Cell, Not, And, Or, Field, Desc}
-use Rattle.vms_parts.specs.Capacities.{lesser}
 use Rattle.vms_parts.specs.Views.{formula}
 use Rattle.vms_desc.specs.Described.{described}
 use Rattle.vms_desc.specs.Parts.{HasPart, desc_at}
@@ -83,10 +80,3 @@ own_side set part = record { set = set; part = part; version = (desc_at (describ
 
 abbrev pub position_on : Side → ℕ → Option ℕ
 position_on side = position_in side.version (desc_on side).fields
-
--- ---- capacities
-
--- the least capacity so far, and after an array that field i may count
-abbrev pub lowered : Option ℕ → ℕ → Count → Option ℕ
-lowered least i (Counted by most) = if by == i then lesser least most else least
-lowered least i count = least

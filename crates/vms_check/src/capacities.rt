@@ -1,17 +1,14 @@
 // How large the number of a field can be, and how much the arrays that it counts hold.
 ghost use Rattle.std.specs.Prelude.{◌≡◌, map};
-ghost use Rattle.vms_parts.specs.Capacities.{least_of, lesser};
 ghost use Rattle.vms_parts.specs.Views.{field_of};
-ghost use Rattle.vms_spec.specs.Layout.{counted};
-ghost use Rattle.vms_check.specs.Comparing.{absent_hold, bound, greatest, has_room};
-ghost use Rattle.vms_check.specs.Sides.{lowered};
+ghost use Rattle.vms_check.specs.Comparing.{absent_hold, greatest, has_room};
 
 use crate::reducing::is_present;
 use vms_desc::{Count, Field};
 use vms_kinds::{Item, Kind};
 
 // The greatest number of a kind; of another item 0.
-fn greatest(item: Item) -> u64
+pub(crate) fn greatest(item: Item) -> u64
     ensures { result ≡ greatest item }
 {
     match item {
@@ -25,47 +22,6 @@ fn greatest(item: Item) -> u64
         Item::Num(Kind::I64) => 0x7fff_ffff_ffff_ffff,
         Item::Num(Kind::Bool) => 1,
         _ => 0,
-    }
-}
-
-fn lesser(least: Option<u32>, capacity: u32) -> Option<u32>
-    ensures { result ≡ lesser least capacity }
-{
-    match least {
-        Some(least) => Some(least.min(capacity)),
-        None => Some(capacity),
-    }
-}
-
-// The least capacity so far, and after an array that the field of this number may count.
-fn lowered(least: Option<u32>, number: u32, count: Count) -> Option<u32>
-    ensures { result ≡ lowered least number count }
-{
-    match count {
-        Count::Counted { by, capacity } if by == number => lesser(least, capacity),
-        _ => least,
-    }
-}
-
-// The least of the capacities that the field of this number counts.
-fn least_capacity(fields: &[Field], number: u32) -> Option<u32>
-    ensures { result ≡ least_of (counted number (map field_of fields.now)) }
-{
-    let mut least = None;
-    for field in fields {
-        least = lowered(least, number, field.count);
-    }
-    least
-}
-
-// The greatest number that the field of this number and item can have.
-#[tactic(auto, using(crate::proofs::CapacityLaws::bound_laws))]
-pub(crate) fn bound(fields: &[Field], number: u32, item: Item) -> u64
-    ensures { result ≡ bound item (counted number (map field_of fields.now)) }
-{
-    match least_capacity(fields, number) {
-        Some(capacity) => u64::from(capacity),
-        None => greatest(item),
     }
 }
 

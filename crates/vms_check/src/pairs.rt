@@ -7,7 +7,7 @@ ghost use Rattle.vms_check.specs.Comparing.{same_count, same_reduced, same_rest,
 ghost use Rattle.vms_check.specs.Pairs.{IsOn, entry, failing_number, rules_on, uncovered_on};
 ghost use Rattle.vms_check.specs.Sides.{IsSide, desc_on, field_reduced, position_on};
 
-use crate::capacities::{absent_hold, bound};
+use crate::capacities::{absent_hold, greatest};
 use crate::items::{holds_as_much, is_covered, same_constant, same_item};
 use crate::names::names_match;
 use crate::positions::same_place;
@@ -50,14 +50,40 @@ fn same_rest(old: Side, new: Side, one: Present, other: Present) -> bool
     )
 }
 
-// Whether the arrays that the new number counts and that are not there hold all that the old number may count.
+// The greatest number that a field can have.
+#[tactic(auto, using(crate::proofs::CapacityLaws::bound_laws))]
+fn bound(side: Side, one: Present) -> u64
+    requires side { IsSide side }
+    requires one { IsOn side one }
+    ensures { result ≡ bound one.entry.field.now.item
+        (counted one.entry.number (desc_on side.entry).fields) }
+{
+    match side.set.most(side.part, one.number) {
+        Some(capacity) => u64::from(capacity),
+        None => greatest(one.field.item),
+    }
+}
+
+// Whether the arrays that the new number counts and that are not there hold all that the old number may count. They are
+// looked at one by one only where some array that it counts holds less.
+#[tactic(auto, using(crate::proofs::CapacityLaws::room_laws))]
 fn absent_arrays_hold(old: Side, new: Side, one: Present, other: Present) -> bool
     requires old { IsSide old }
     requires new { IsSide new }
-    ensures { result ≡ absent_hold new.entry.version other.entry.number (bound one.entry.field.now.item (counted one.entry.number (desc_on old.entry).fields)) (desc_on new.entry).fields }
+    requires one { IsOn old one }
+    requires other { IsOn new other }
+    ensures { result ≡ absent_hold new.entry.version other.entry.number
+        (bound one.entry.field.now.item (counted one.entry.number (desc_on old.entry).fields))
+        (desc_on new.entry).fields }
 {
-    let most = bound(fields_of(old), one.number, one.field.item);
-    absent_hold(fields_of(new), new.version, other.number, most)
+    let most = bound(old, one);
+    match new.set.most(new.part, other.number) {
+        None => true,
+        Some(capacity) => {
+            most <= u64::from(capacity)
+                || absent_hold(fields_of(new), new.version, other.number, most)
+        }
+    }
 }
 
 // The first rule that fails where no unused bytes cover the old field.

@@ -5,12 +5,13 @@ use Rattle.std.specs.Prelude.{string_bytes}
 use Rattle.vms_io.specs.Causes.{AppendsPrefix, Rose}
 use Rattle.vms_io.specs.Told.{Intake, Outlet, Stock}
 use Rattle.vms_cli.specs.declared.ending.Ending.{Ending}
-use Rattle.vms_cli.specs.declared.ending.Ending.TheVariants.{Done, Refused, BadWords, BadValues, ReadFault, WriteFault, ShelfFault, NotThere, TooLarge, NoMemory}
+use Rattle.vms_cli.specs.declared.ending.Ending.TheVariants.{Done, Refused, BadWords, BadText, NotCompatible, ReadFault, WriteFault, ShelfFault, NotThere, TooLarge, NoMemory}
 use Rattle.vms_cli.specs.Outcomes.{Part, Outcome, Outside, ComesTo, CountsStand, PromisesStay, text_of, held_after}
 use Rattle.vms_cli.specs.Answers.{HasOutcome, CanAnswer, DoesOrStops, Answers}
 use Rattle.vms_cli.specs.Endings.{EndsAs, EndsWith, EndsCause, Tells}
-use Rattle.vms_cli.specs.Commands.{Asked, Show, Pack, asked_of}
+use Rattle.vms_cli.specs.Commands.{Asked, SetWord, Show, Pack, Check, asked_of}
 use Rattle.vms_cli.specs.Lines.{bad_words}
+use Rattle.vms_cli.proofs.VerdictLaws.{verdict_so}
 
 -- what stays grows by nothing
 pub kept_none : (old new : Option (List ℕ)) → Keeps old new → Appends old new []
@@ -41,7 +42,8 @@ caused : (asked : Option Asked) (i i' : Intake) (o o' : Outlet) (s s' : Stock) (
 caused None i i' o o' s s' BadWords h = (same_keeps o o' h.2, ap (λ (x : Stock). x.held) h.3)
 caused None i i' o o' s s' Done h = absurd h.0
 caused None i i' o o' s s' (Refused line) h = absurd h.0
-caused None i i' o o' s s' (BadValues line) h = absurd h.0
+caused None i i' o o' s s' (BadText line) h = absurd h.0
+caused None i i' o o' s s' (NotCompatible line) h = absurd h.0
 caused None i i' o o' s s' ReadFault h = absurd h.0
 caused None i i' o o' s s' WriteFault h = absurd h.0
 caused None i i' o o' s s' ShelfFault h = absurd h.0
@@ -51,7 +53,8 @@ caused None i i' o o' s s' NoMemory h = absurd h.0
 caused (Some Show) i i' o o' s s' Done h = tt
 caused (Some Show) i i' o o' s s' (Refused line) h = (h.0, ap (λ (x : Stock). x.held) h.2)
 caused (Some Show) i i' o o' s s' BadWords h = absurd h.0
-caused (Some Show) i i' o o' s s' (BadValues line) h = absurd h.0
+caused (Some Show) i i' o o' s s' (BadText line) h = absurd h.0
+caused (Some Show) i i' o o' s s' (NotCompatible line) h = absurd h.0
 caused (Some Show) i i' o o' s s' ReadFault h = (h.0.0, h.0.1, ap (λ (x : Stock). x.held) h.2)
 caused (Some Show) i i' o o' s s' WriteFault h = (h.0, ap (λ (x : Stock). x.held) h.2)
 caused (Some Show) i i' o o' s s' ShelfFault h = absurd h.0
@@ -61,13 +64,25 @@ caused (Some Show) i i' o o' s s' NoMemory h = (h.0, ap (λ (x : Stock). x.held)
 caused (Some (Pack name)) i i' o o' s s' Done h = tt
 caused (Some (Pack name)) i i' o o' s s' (Refused line) h = absurd h.0
 caused (Some (Pack name)) i i' o o' s s' BadWords h = absurd h.0
-caused (Some (Pack name)) i i' o o' s s' (BadValues line) h = (h.0, h.2)
+caused (Some (Pack name)) i i' o o' s s' (BadText line) h = (h.0, h.2)
 caused (Some (Pack name)) i i' o o' s s' ReadFault h = absurd h.0
 caused (Some (Pack name)) i i' o o' s s' WriteFault h = (h.0, h.2)
 caused (Some (Pack name)) i i' o o' s s' ShelfFault h = (h.0.0, h.0.1, h.2)
 caused (Some (Pack name)) i i' o o' s s' (NotThere line) h = (h.0, h.2)
 caused (Some (Pack name)) i i' o o' s s' (TooLarge line) h = (h.0, h.2)
 caused (Some (Pack name)) i i' o o' s s' NoMemory h = (h.0, h.2)
+caused (Some (Pack name)) i i' o o' s s' (NotCompatible line) h = absurd h.0
+caused (Some (Check old new)) i i' o o' s s' Done h = tt
+caused (Some (Check old new)) i i' o o' s s' (Refused line) h = absurd h.0
+caused (Some (Check old new)) i i' o o' s s' BadWords h = absurd h.0
+caused (Some (Check old new)) i i' o o' s s' (BadText line) h = (h.0.1, h.2)
+caused (Some (Check old new)) i i' o o' s s' (NotCompatible line) h = (h.0, h.2)
+caused (Some (Check old new)) i i' o o' s s' ReadFault h = absurd h.0
+caused (Some (Check old new)) i i' o o' s s' WriteFault h = (h.0, h.2)
+caused (Some (Check old new)) i i' o o' s s' ShelfFault h = (h.0.1, h.0.2, h.2)
+caused (Some (Check old new)) i i' o o' s s' (NotThere line) h = (h.0.1, h.2)
+caused (Some (Check old new)) i i' o o' s s' (TooLarge line) h = (h.0.1, h.2)
+caused (Some (Check old new)) i i' o o' s s' NoMemory h = (h.0, h.2)
 
 module _ (i i' : Intake) (o o' n n' : Outlet) (s s' : Stock) where
   abbrev before : Outside
@@ -106,7 +121,8 @@ module _ (i i' : Intake) (o o' n n' : Outlet) (s s' : Stock) where
   }
   outcome_so (Refused line) status x d c t = ended_so 1 status (string_bytes line) x (λ z. omega (arith, z)) d c.0 c.1 t
   outcome_so BadWords status x d c t = ended_so 2 status bad_words x (λ z. omega (arith, z)) d c.0 c.1 t
-  outcome_so (BadValues line) status x d c t = ended_so 3 status (string_bytes line) x (λ z. omega (arith, z)) d c.0 c.1 t
+  outcome_so (BadText line) status x d c t = ended_so 3 status (string_bytes line) x (λ z. omega (arith, z)) d c.0 c.1 t
+  outcome_so (NotCompatible line) status x d c t = ended_so 4 status (string_bytes line) x (λ z. omega (arith, z)) d c.0 c.1 t
   outcome_so (NotThere line) status x d c t = ended_so 8 status (string_bytes line) x (λ z. omega (arith, z)) d c.0 c.1 t
   outcome_so (TooLarge line) status x d c t = ended_so 9 status (string_bytes line) x (λ z. omega (arith, z)) d c.0 c.1 t
   outcome_so ReadFault status x d c (inl t) = inr record { why = inl (t.0, c.0, c.1, t.1); come = comes_to_nothing o o' s s' x.parts c.1 c.2 }
@@ -146,15 +162,16 @@ module _ (i i' : Intake) (o o' n n' : Outlet) (s s' : Stock) where
   show_row NoMemory status c (inl t) = record { ends = inr (inr (inr (inr (inr (t, c.0))))); given = c.1; shelf = c.2 }
   show_row NoMemory status c (inr t) = record { ends = inr (inr (inr (inr (inl (t.0, t.1))))); given = c.1; shelf = c.2 }
   show_row BadWords status c t = absurd c.0
-  show_row (BadValues line) status c t = absurd c.0
+  show_row (BadText line) status c t = absurd c.0
+  show_row (NotCompatible line) status c t = absurd c.0
   show_row ShelfFault status c t = absurd c.0
   show_row (NotThere line) status c t = absurd c.0
   show_row (TooLarge line) status c t = absurd c.0
 
   pack_row : (name : List ℕ) (e : Ending) (status : ℕ) → EndsCause (Some (Pack name)) i i' o o' s s' e → Tells n n' e status → CanAnswer (Some (Pack name)) status before after
   pack_row name Done status c t = record { ends = inl t.0; input = c.1; held = c.2 }
-  pack_row name (BadValues line) status c (inl t) = record { ends = inr (inl (t.0, c.0)); input = c.1; held = c.2 }
-  pack_row name (BadValues line) status c (inr t) = record { ends = inr (inr (inr (inl (t.0, t.1)))); input = c.1; held = c.2 }
+  pack_row name (BadText line) status c (inl t) = record { ends = inr (inl (t.0, c.0)); input = c.1; held = c.2 }
+  pack_row name (BadText line) status c (inr t) = record { ends = inr (inr (inr (inl (t.0, t.1)))); input = c.1; held = c.2 }
   pack_row name WriteFault status c (inl t) = record { ends = inr (inr (inl (t.0, c.0, t.1))); input = c.1; held = c.2 }
   pack_row name WriteFault status c (inr t) = record { ends = inr (inr (inr (inl (t.0, t.1)))); input = c.1; held = c.2 }
   pack_row name ShelfFault status c (inl t) = record { ends = inr (inr (inr (inr (inl ((t.0, c.0.0, t.1), c.0.1))))); input = c.1; held = c.2 }
@@ -167,14 +184,37 @@ module _ (i i' : Intake) (o o' n n' : Outlet) (s s' : Stock) where
   pack_row name NoMemory status c (inr t) = record { ends = inr (inr (inr (inl (t.0, t.1)))); input = c.1; held = c.2 }
   pack_row name (Refused line) status c t = absurd c.0
   pack_row name BadWords status c t = absurd c.0
+  pack_row name (NotCompatible line) status c t = absurd c.0
   pack_row name ReadFault status c t = absurd c.0
+
+  check_row : (one other : SetWord) (e : Ending) (status : ℕ) → EndsCause (Some (Check one other)) i i' o o' s s' e → Tells n n' e status
+      → CanAnswer (Some (Check one other)) status before after
+  check_row one other Done status c t = record { ends = inl t.0; input = c.1; held = c.2; unasked = c.3 }
+  check_row one other (BadText line) status c (inl t) = record { ends = inr (inl (c.0.0, (t.0, c.0.1))); input = c.1; held = c.2; unasked = c.3 }
+  check_row one other (BadText line) status c (inr t) = record { ends = inr (inr (inr (inr (inl (t.0, t.1))))); input = c.1; held = c.2; unasked = c.3 }
+  check_row one other (NotCompatible line) status c (inl t) = record { ends = inr (inr (inl (t.0, c.0))); input = c.1; held = c.2; unasked = c.3 }
+  check_row one other (NotCompatible line) status c (inr t) = record { ends = inr (inr (inr (inr (inl (t.0, t.1))))); input = c.1; held = c.2; unasked = c.3 }
+  check_row one other WriteFault status c (inl t) = record { ends = inr (inr (inr (inl (t.0, c.0, t.1)))); input = c.1; held = c.2; unasked = c.3 }
+  check_row one other WriteFault status c (inr t) = record { ends = inr (inr (inr (inr (inl (t.0, t.1))))); input = c.1; held = c.2; unasked = c.3 }
+  check_row one other ShelfFault status c (inl t) = record { ends = inr (inr (inr (inr (inr (inl (c.0.0, (t.0, c.0.1, t.1), c.0.2)))))); input = c.1; held = c.2; unasked = c.3 }
+  check_row one other ShelfFault status c (inr t) = record { ends = inr (inr (inr (inr (inl (t.0, t.1))))); input = c.1; held = c.2; unasked = c.3 }
+  check_row one other (NotThere line) status c (inl t) = record { ends = inr (inr (inr (inr (inr (inr (inl (c.0.0, (t.0, c.0.1)))))))); input = c.1; held = c.2; unasked = c.3 }
+  check_row one other (NotThere line) status c (inr t) = record { ends = inr (inr (inr (inr (inl (t.0, t.1))))); input = c.1; held = c.2; unasked = c.3 }
+  check_row one other (TooLarge line) status c (inl t) = record { ends = inr (inr (inr (inr (inr (inr (inr (inl (c.0.0, (t.0, c.0.1))))))))); input = c.1; held = c.2; unasked = c.3 }
+  check_row one other (TooLarge line) status c (inr t) = record { ends = inr (inr (inr (inr (inl (t.0, t.1))))); input = c.1; held = c.2; unasked = c.3 }
+  check_row one other NoMemory status c (inl t) = record { ends = inr (inr (inr (inr (inr (inr (inr (inr ((t, c.0))))))))); input = c.1; held = c.2; unasked = c.3 }
+  check_row one other NoMemory status c (inr t) = record { ends = inr (inr (inr (inr (inl (t.0, t.1))))); input = c.1; held = c.2; unasked = c.3 }
+  check_row one other (Refused line) status c t = absurd c.0
+  check_row one other BadWords status c t = absurd c.0
+  check_row one other ReadFault status c t = absurd c.0
 
   bad_words_row : (e : Ending) (status : ℕ) → EndsCause None i i' o o' s s' e → Tells n n' e status → CanAnswer None status before after
   bad_words_row BadWords status c (inl t) = record { ends = inl t; input = c.1; out = c.2; shelf = c.3 }
   bad_words_row BadWords status c (inr t) = record { ends = inr (t.0, t.1); input = c.1; out = c.2; shelf = c.3 }
   bad_words_row Done status c t = absurd c.0
   bad_words_row (Refused line) status c t = absurd c.0
-  bad_words_row (BadValues line) status c t = absurd c.0
+  bad_words_row (BadText line) status c t = absurd c.0
+  bad_words_row (NotCompatible line) status c t = absurd c.0
   bad_words_row ReadFault status c t = absurd c.0
   bad_words_row WriteFault status c t = absurd c.0
   bad_words_row ShelfFault status c t = absurd c.0
@@ -186,13 +226,18 @@ module _ (i i' : Intake) (o o' n n' : Outlet) (s s' : Stock) where
   row_so None e status c t = bad_words_row e status c t
   row_so (Some Show) e status c t = show_row e status c t
   row_so (Some (Pack name)) e status c t = pack_row name e status c t
+  row_so (Some (Check one other)) e status c t = check_row one other e status c t
 
   -- what the call answers
   pub answers : (words : List (List ℕ)) (e : Ending) (status : ℕ) → ((x : Outcome) → HasOutcome (asked_of words) i.left s.held x → EndsAs i i' o o' s s' e x)
       → EndsCause (asked_of words) i i' o o' s s' e → Tells n n' e status → CountsStand before after → PromisesStay before after → Answers words status before after
-  answers words e status content c t counts promises = record {
-    outcome = λ x has. outcome_so e status x (content x has) (caused (asked_of words) i i' o o' s s' e c) t;
-    row = row_so (asked_of words) e status c t;
-    counts = counts;
-    promises = promises;
-  }
+  answers words e status content c t counts promises =
+      let outcome : (x : Outcome) → HasOutcome (asked_of words) i.left s.held x → DoesOrStops status before after x =
+      λ x has. outcome_so e status x (content x has) (caused (asked_of words) i i' o o' s s' e c) t in
+      record {
+        outcome = outcome;
+        row = row_so (asked_of words) e status c t;
+        verdict = verdict_so (asked_of words) i.left s.held status before after outcome;
+        counts = counts;
+        promises = promises;
+      }

@@ -15,9 +15,15 @@ use Rattle.vms_laws.proofs.WellFormedStreams.{shipped_stands}
 use Rattle.vms_units.specs.StreamLaws.{Answer, Taken, Faulty}
 use Rattle.vms_units.proofs.Stated.{either_holds}
 use Rattle.vms_cli.specs.Answers.{HasOutcome, Answers, DoesOrStops}
-use Rattle.vms_cli.specs.Commands.{Asked, Show, Pack, asked_of}
+use Rattle.vms_cli.specs.Commands.{Asked, SetWord, Show, Pack, Check, asked_of}
+use Rattle.vms_cli.specs.Check.{checked, compared, compatible_text, verdict}
+use Rattle.vms_cli.specs.Steps.{Step, Untold, Gives, Ends, Both, HasText, next}
+use Rattle.vms_cli.proofs.VerdictLaws.{StopsAt}
+use Rattle.vms_cli.proofs.StepLemmas.{IsSound, sound_check}
+use Rattle.vms_check.specs.declared.mismatch.Mismatch.{Mismatch}
+use Rattle.vms_spec.specs.Sets.{Set}
 use Rattle.vms_cli.specs.Lines.{bad_words, read_fault, write_fault, shelf_fault, out_of_memory, values_line, not_there_line, too_large_line, refused_line}
-use Rattle.vms_cli.specs.Outcomes.{Part, Outcome, done, ended, text_of, text_begun, Outside, HasPart, ReadFault, OutFault, NotesFault, ShelfFault, WantsMemory}
+use Rattle.vms_cli.specs.Outcomes.{Part, Outcome, done, ended, text_of, text_begun, Outside, HasPart}
 use Rattle.vms_cli.specs.Pack.{Packs, Missing, Large, Read, PacksText, Stream, BadText, longest_values}
 use Rattle.vms_cli.specs.Show.{Values as Printed, Refuses}
 use Rattle.vms_cli.specs.Laws.{HasOneOutcome, OutcomeLaw, CanBeDone, HasRoom, IsAmple, PromisesKept, CompleteLaw}
@@ -26,11 +32,6 @@ use Rattle.vms_cli.proofs.ShowLemmas.{shown_is, refused_is}
 -- ---- the outcome of `pack`
 
 -- more than the limit
-abbrev StopsAt : ℕ → Outside → Outside → Outcome → Type 0
-StopsAt status old new o =
-    ReadFault status old new ⊎ OutFault status old new ⊎ (NotesFault status old new × HasPart o.note old.notes.written new.notes.written)
-    ⊎ ShelfFault status old new ⊎ WantsMemory status old new
-
 abbrev IsLong : Option (List ℕ) → Type 0
 IsLong None = ⊥
 IsLong (Some text) = longest_values < length text
@@ -122,12 +123,29 @@ one_shown input held ok (Faulty place section reason size fault) = record {
   only = λ other shows. refused_is input (Some held) place section reason size other ok fault shows;
 }
 
+-- ---- that of `check`
+
+one_checked : (old new : SetWord) (input : List ℕ) (held : Held) (s : Step (List ℕ)) → s ≡ checked (Some held) old new → IsSound (Some held) s
+    → HasOneOutcome (Some (Check old new)) input held
+one_checked old new input held Untold same sound = absurd (cc)
+one_checked old new input held (Gives text) same sound = record {
+  outcome = done text (Some held) 0;
+  is = subst (λ (s : Step (List ℕ)). HasText (Some held) s (done text (Some held) 0)) same refl;
+  only = λ other has. subst (λ (s : Step (List ℕ)). HasText (Some held) s other) (sym same) has;
+}
+one_checked old new input held (Ends status line) same sound = record {
+  outcome = ended status line 0;
+  is = subst (λ (s : Step (List ℕ)). HasText (Some held) s (ended status line 0)) same refl;
+  only = λ other has. subst (λ (s : Step (List ℕ)). HasText (Some held) s other) (sym same) has;
+}
+
 pub outcome_holds : OutcomeLaw
 outcome_holds None input held ok = record { outcome = ended 2 bad_words 0; is = refl; only = λ other e. e }
 outcome_holds (Some Show) input held ok = one_shown input held ok (either_holds set_0 set_0.machines shipped_stands.0.well shipped_stands.0.heads input ok)
 outcome_holds (Some (Pack name)) input held ok =
     let one = one_packed name (held name) (Some held) in
     record { outcome = one.outcome; is = one.is; only = one.only }
+outcome_holds (Some (Check old new)) input held ok = one_checked old new input held (checked (Some held) old new) refl (sound_check (Some held) old new)
 
 -- ---- completeness
 
@@ -147,6 +165,15 @@ can_be (Some (Pack name)) input None can = absurd can
 can_be (Some (Pack name)) input (Some map) can =
     let outcome = done (written set_0 can.1 can.2 None) (Some map) 0 in
     record { outcome = outcome; is = Read can.0 outcome can.3 can.4 (Stream can.1 can.2 can.5); status = refl; note = refl }
+can_be (Some (Check old new)) input held can =
+    let outcome = done compatible_text held 0 in
+    let agrees : HasText held (compared can.0) outcome = subst (λ (m : Option Mismatch). HasText held (verdict m) outcome) (sym can.2) refl in
+    record {
+      outcome = outcome;
+      is = subst (λ (s : Step (Both Set)). HasText held (next s compared) outcome) (sym can.1) agrees;
+      status = refl;
+      note = refl;
+    }
 
 -- no more bytes than there are
 begun_short : (parts : List Part) (k n : ℕ) → length (text_begun parts k n) ≤ length (text_of parts)

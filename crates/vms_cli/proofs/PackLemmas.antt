@@ -1,5 +1,5 @@
 -- From what a fetch, a reading and a write say to how `pack` ends.
-use Rattle.std.proofs.Common.{◌≡◌, ℕ, zero, suc, ◌<◌, ◌^◌, true, List, [], ◌∷◌, length, get_or, drop, Option, Some, None, Ok, Err, IfSome, refl, sym, ap, ◌∙◌, subst, arith}
+use Rattle.std.proofs.Common.{◌≡◌, ℕ, zero, suc, ◌<◌, ◌^◌, List, [], ◌∷◌, length, get_or, drop, Option, Some, None, Ok, Err, IfSome, refl, sym, ap, ◌∙◌, subst, arith}
 use Rattle.std.specs.Option.{option_map, ForSome}
 use Rattle.std.specs.Prelude.{string_bytes}
 use Rattle.std.specs.declared.string.String.{String}
@@ -9,7 +9,7 @@ use Rattle.vms_io.specs.Told.{Intake, Outlet, Stock}
 use Rattle.vms_spec.specs.Lists.{at, at_option}
 use Rattle.vms_spec.specs.Sets.{Set}
 use Rattle.vms_spec.specs.Images.{Image}
-use Rattle.vms_spec.specs.Shipped.{set_0, timer}
+use Rattle.vms_spec.specs.Shipped.{set_0}
 use Rattle.vms_spec.specs.Streams.{written, AreReady}
 use Rattle.vms_spec.specs.ValuesReading.{ValuesRead, Values, Bad, values_read}
 use Rattle.vms_spec.specs.declared.ValuesReason.{ValuesReason}
@@ -50,11 +50,11 @@ nothing_left : (left : Option (List ℕ)) → IfSome left (λ bytes. left ≡ So
 nothing_left None = tt
 nothing_left (Some bytes) = refl
 
-takes_nothing : (i : Intake) → i.given < 2 ^ 64 → TakesBytes i i 0
+pub takes_nothing : (i : Intake) → i.given < 2 ^ 64 → TakesBytes i i 0
 takes_nothing i few = record { left = nothing_left i.left; given = omega (arith, few) }
 
 -- an outcome of a status of its own, and nothing taken
-ends_with : (k : ℕ) (line : List ℕ) (i : Intake) (x : Outcome) → x ≡ ended k line 0 → EndsWith k line i i x
+pub ends_with : (k : ℕ) (line : List ℕ) (i : Intake) (x : Outcome) → x ≡ ended k line 0 → EndsWith k line i i x
 ends_with k line i x is = record {
   status_is = ap (λ (y : Outcome). y.status) is;
   parts = ap (λ (y : Outcome). y.parts) is;

@@ -25,7 +25,7 @@ use Rattle.vms_load.specs.declared.fault.LoadFault.{LoadFault}
 use Rattle.vms_load.specs.declared.fault.LoadFault.TheVariants as faults
 use Rattle.vms_values.specs.Printing.{AreOf, machine_of}
 use Rattle.vms_cli.specs.declared.ending.Ending.{Ending}
-use Rattle.vms_cli.specs.declared.ending.Ending.TheVariants.{Done, Refused, BadWords, BadValues, ReadFault, WriteFault, ShelfFault, NotThere, TooLarge, NoMemory}
+use Rattle.vms_cli.specs.declared.ending.Ending.TheVariants.{Done, Refused, BadWords, BadText, NotCompatible, ReadFault, WriteFault, ShelfFault, NotThere, TooLarge, NoMemory}
 use Rattle.vms_cli.specs.Outcomes.{Outcome, done, ended, TakesBytes}
 use Rattle.vms_cli.specs.Show.{Shows, Values, Refuses}
 use Rattle.vms_cli.specs.Endings.{EndsAs, WritesAs}
@@ -50,7 +50,8 @@ text_written text i i' o o' s s' taken NoMemory w same t = absurd w
 text_written text i i' o o' s s' taken (Refused r) w same t = absurd w
 text_written text i i' o o' s s' taken BadWords w same t = absurd w
 text_written text i i' o o' s s' taken ReadFault w same t = absurd w
-text_written text i i' o o' s s' taken (BadValues r) w same t = absurd w
+text_written text i i' o o' s s' taken (BadText r) w same t = absurd w
+text_written text i i' o o' s s' taken (NotCompatible r) w same t = absurd w
 text_written text i i' o o' s s' taken ShelfFault w same t = absurd w
 text_written text i i' o o' s s' taken (NotThere r) w same t = absurd w
 text_written text i i' o o' s s' taken (TooLarge r) w same t = absurd w

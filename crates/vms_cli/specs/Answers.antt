@@ -3,11 +3,13 @@ use Rattle.std.specs.Prelude.{◌≡◌, ◌⊎◌, ℕ, List, Option, Some, Non
 use Rattle.std.specs.Io.KnownBytes.{Appends}
 use Rattle.vms_io.specs.Shelves.{Held}
 use Rattle.vms_spec.specs.Shipped.{set_0}
-use Rattle.vms_cli.specs.Commands.{Asked, Show, Pack, asked_of}
+use Rattle.vms_cli.specs.Commands.{Asked, Show, Pack, Check, asked_of}
 use Rattle.vms_cli.specs.Lines.{bad_words}
 use Rattle.vms_cli.specs.Outcomes.{Outcome, ended, Outside, Does, Stops, NotesFault, CountsStand, PromisesStay}
 use Rattle.vms_cli.specs.Show.{Shows, ShowAnswers}
 use Rattle.vms_cli.specs.Pack.{Packs, PackAnswers}
+use Rattle.vms_cli.specs.Check.{checked, asks_shelf, CheckAnswers, Verdict}
+use Rattle.vms_cli.specs.Steps.{HasText}
 
 -- The outcome of a command, by what the input has left and what the shelf holds. A command that goes by what isn't told has
 -- none.
@@ -15,6 +17,7 @@ abbrev pub HasOutcome : Option Asked → Option (List ℕ) → Option Held → O
 HasOutcome None input held o = o ≡ ended 2 bad_words 0
 HasOutcome (Some Show) input held o = IsSomeAnd input (λ bytes. Shows set_0 bytes held o)
 HasOutcome (Some (Pack name)) input held o = IsSomeAnd held (λ map. Packs set_0 name (map name) held o)
+HasOutcome (Some (Check old new)) input held o = HasText held (checked held old new) o
 
 -- what words of no listed form can answer: only the notes are touched
 pub record BadWordsAnswers (status : ℕ) (old new : Outside) : Type 0 where
@@ -28,6 +31,7 @@ abbrev pub CanAnswer : Option Asked → ℕ → Outside → Outside → Type 0
 CanAnswer None status old new = BadWordsAnswers status old new
 CanAnswer (Some Show) status old new = ShowAnswers set_0 status old new
 CanAnswer (Some (Pack name)) status old new = PackAnswers status old new
+CanAnswer (Some (Check one other)) status old new = CheckAnswers (asks_shelf one other) status old new
 
 -- the call does the outcome, or stops on the way
 abbrev pub DoesOrStops : ℕ → Outside → Outside → Outcome → Type 0
@@ -36,5 +40,7 @@ DoesOrStops status old new o = Does status old new o ⊎ Stops status old new o
 pub record Answers (words : List (List ℕ)) (status : ℕ) (old new : Outside) : Type 0 where
   pub outcome : (o : Outcome) → HasOutcome (asked_of words) old.input.left old.shelf.held o → DoesOrStops status old new o
   pub row : CanAnswer (asked_of words) status old new
+  -- where `check` is done, the two sets are compatible
+  pub verdict : Verdict (asked_of words) old.shelf.held status
   pub counts : CountsStand old new
   pub promises : PromisesStay old new

@@ -1,14 +1,15 @@
 -- How a command ends, before it is told on notes.
-use Rattle.std.specs.Prelude.{◌≡◌, ◌⊎◌, ℕ, ◌+◌, ◌≤◌, List, [], Option, Some, None, drop, IfSome, string_bytes}
+use Rattle.std.specs.Prelude.{◌≡◌, ◌⊎◌, ℕ, Bool, true, false, ◌+◌, ◌≤◌, List, [], Option, Some, None, drop, IfSome, string_bytes}
 use Rattle.std.specs.Io.KnownBytes.{Appends, Keeps}
 use Rattle.vms_io.specs.Causes.{Rose, AppendsPrefix}
 use Rattle.vms_io.specs.Told.{Intake, Outlet, Stock}
 use Rattle.vms_spec.specs.Shipped.{set_0}
 use Rattle.vms_load.specs.Staging.{most_given}
 use Rattle.vms_cli.specs.declared.ending.Ending.{Ending}
-use Rattle.vms_cli.specs.declared.ending.Ending.TheVariants.{Done, Refused, BadWords, BadValues, ReadFault, WriteFault, ShelfFault, NotThere, TooLarge, NoMemory}
+use Rattle.vms_cli.specs.declared.ending.Ending.TheVariants.{Done, Refused, BadWords, BadText, NotCompatible, ReadFault, WriteFault, ShelfFault, NotThere, TooLarge, NoMemory}
 use Rattle.vms_cli.specs.Lines.{bad_words, read_fault, write_fault, shelf_fault, out_of_memory}
-use Rattle.vms_cli.specs.Commands.{Asked, Show, Pack}
+use Rattle.vms_cli.specs.Commands.{Asked, Show, Pack, Check}
+use Rattle.vms_cli.specs.Check.{asks_shelf}
 use Rattle.vms_cli.specs.Outcomes.{Outcome, text_of, held_after, TakesBytes, ComesTo}
 
 -- the status of each ending, and its line
@@ -16,7 +17,8 @@ abbrev pub status_of : Ending → ℕ
 status_of Done = 0
 status_of (Refused line) = 1
 status_of BadWords = 2
-status_of (BadValues line) = 3
+status_of (BadText line) = 3
+status_of (NotCompatible line) = 4
 status_of ReadFault = 5
 status_of WriteFault = 6
 status_of ShelfFault = 7
@@ -28,7 +30,8 @@ abbrev pub line_of : Ending → List ℕ
 line_of Done = []
 line_of (Refused line) = string_bytes line
 line_of BadWords = bad_words
-line_of (BadValues line) = string_bytes line
+line_of (BadText line) = string_bytes line
+line_of (NotCompatible line) = string_bytes line
 line_of ReadFault = read_fault
 line_of WriteFault = write_fault
 line_of ShelfFault = shelf_fault
@@ -63,7 +66,8 @@ abbrev pub EndsAs : (input input' : Intake) (out out' : Outlet) (shelf shelf' : 
 EndsAs input input' out out' shelf shelf' Done o = DoneAs input input' out out' shelf shelf' o
 EndsAs input input' out out' shelf shelf' (Refused line) o = EndsWith 1 (string_bytes line) input input' o
 EndsAs input input' out out' shelf shelf' BadWords o = EndsWith 2 bad_words input input' o
-EndsAs input input' out out' shelf shelf' (BadValues line) o = EndsWith 3 (string_bytes line) input input' o
+EndsAs input input' out out' shelf shelf' (BadText line) o = EndsWith 3 (string_bytes line) input input' o
+EndsAs input input' out out' shelf shelf' (NotCompatible line) o = EndsWith 4 (string_bytes line) input input' o
 EndsAs input input' out out' shelf shelf' ReadFault o = Unit {0}
 EndsAs input input' out out' shelf shelf' WriteFault o = ComesTo out out' shelf shelf' o.parts
 EndsAs input input' out out' shelf shelf' ShelfFault o = Unit {0}
@@ -84,20 +88,33 @@ ShowCause input input' out out' _ = ⊥
 -- once the text of `pack` is fetched
 abbrev pub WriteCause : (out out' : Outlet) → Ending → Type 0
 WriteCause out out' Done = Unit {0}
-WriteCause out out' (BadValues line) = Keeps out.written out'.written
+WriteCause out out' (BadText line) = Keeps out.written out'.written
 WriteCause out out' WriteFault = Rose out.faults out'.faults
 WriteCause out out' NoMemory = Keeps out.written out'.written
 WriteCause out out' _ = ⊥
 
 abbrev pub PackCause : (out out' : Outlet) (shelf shelf' : Stock) → Ending → Type 0
 PackCause out out' shelf shelf' Done = Unit {0}
-PackCause out out' shelf shelf' (BadValues line) = Keeps out.written out'.written
+PackCause out out' shelf shelf' (BadText line) = Keeps out.written out'.written
 PackCause out out' shelf shelf' WriteFault = Rose out.faults out'.faults
 PackCause out out' shelf shelf' ShelfFault = Rose shelf.faults shelf'.faults × Keeps out.written out'.written
 PackCause out out' shelf shelf' (NotThere line) = Keeps out.written out'.written
 PackCause out out' shelf shelf' (TooLarge line) = Keeps out.written out'.written
 PackCause out out' shelf shelf' NoMemory = Keeps out.written out'.written
 PackCause out out' shelf shelf' _ = ⊥
+
+-- `asks` says whether the shelf is asked
+abbrev pub CheckCause : Bool → (out out' : Outlet) (shelf shelf' : Stock) → Ending → Type 0
+CheckCause asks out out' shelf shelf' Done = Unit {0}
+CheckCause asks out out' shelf shelf' (BadText line) = (asks ≡ true) × Keeps out.written out'.written
+CheckCause asks out out' shelf shelf' (NotCompatible line) = Keeps out.written out'.written
+CheckCause asks out out' shelf shelf' WriteFault = Rose out.faults out'.faults
+CheckCause asks out out' shelf shelf' ShelfFault =
+    (asks ≡ true) × Rose shelf.faults shelf'.faults × Keeps out.written out'.written
+CheckCause asks out out' shelf shelf' (NotThere line) = (asks ≡ true) × Keeps out.written out'.written
+CheckCause asks out out' shelf shelf' (TooLarge line) = (asks ≡ true) × Keeps out.written out'.written
+CheckCause asks out out' shelf shelf' NoMemory = Keeps out.written out'.written
+CheckCause asks out out' shelf shelf' _ = ⊥
 
 abbrev pub IsBadWords : Ending → Type 0
 IsBadWords BadWords = Unit {0}
@@ -110,6 +127,9 @@ EndsCause (Some Show) input input' out out' shelf shelf' ending =
     ShowCause input input' out out' ending × (input'.given ≤ input.given + most_given set_0) × (shelf' ≡ shelf)
 EndsCause (Some (Pack name)) input input' out out' shelf shelf' ending =
     PackCause out out' shelf shelf' ending × (input' ≡ input) × (shelf'.held ≡ shelf.held)
+EndsCause (Some (Check old new)) input input' out out' shelf shelf' ending =
+    CheckCause (asks_shelf old new) out out' shelf shelf' ending × (input' ≡ input) × (shelf'.held ≡ shelf.held)
+    × (asks_shelf old new ≡ false → shelf' ≡ shelf)
 
 -- ---- what a write of a text says
 

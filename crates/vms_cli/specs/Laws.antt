@@ -11,10 +11,14 @@ use Rattle.vms_spec.specs.ValuesReading.{Values, values_read}
 use Rattle.vms_units.specs.Streams.{Takes}
 use Rattle.vms_texts.specs.Texts.{IsTimer, IsMachine}
 use Rattle.vms_cli.specs.Answers.{HasOutcome, Answers}
-use Rattle.vms_cli.specs.Commands.{Asked, Show, Pack, asked_of}
+use Rattle.vms_cli.specs.Commands.{Asked, Show, Pack, Check, asked_of}
 use Rattle.vms_cli.specs.Outcomes.{Outcome, done, text_of, Outside}
 use Rattle.vms_cli.specs.Pack.{Packs, longest_values}
 use Rattle.vms_cli.specs.Show.{Shows}
+use Rattle.vms_cli.specs.Fetching.{named_sets}
+use Rattle.vms_cli.specs.Steps.{Gives, Both}
+use Rattle.vms_check.specs.Comparing.{Compatible}
+use Rattle.vms_spec.specs.Sets.{Set}
 
 -- ---- outcomes
 
@@ -31,7 +35,7 @@ OutcomeLaw = (asked : Option Asked) (input : List ℕ) (held : Held) → IsBytes
 -- ---- completeness
 
 -- what a command asks for so that it can be done: of `show` a stream at the front of the input, of `pack` a values text
--- under the name that isn't too long
+-- under the name that isn't too long, of `check` words that name two compatible sets
 abbrev pub CanBeDone : Option Asked → Option (List ℕ) → Option Held → Type 0
 CanBeDone None input held = ⊥
 CanBeDone (Some Show) input held =
@@ -39,6 +43,8 @@ CanBeDone (Some Show) input held =
 CanBeDone (Some (Pack name)) input held =
     IsSomeAnd held (λ map. (text : List ℕ) × (machine : Option (List ℕ)) × (images : List Image)
     × (map name ≡ Some text) × (length text ≤ longest_values) × (values_read set_0 text ≡ Values machine images))
+CanBeDone (Some (Check old new)) input held =
+    (sets : Both Set) × (named_sets held old new ≡ Gives sets) × Compatible sets.old sets.new
 
 -- a sink that promises no fault while it has room for so many bytes more
 abbrev pub HasRoom : Outlet → ℕ → Type 0

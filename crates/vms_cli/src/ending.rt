@@ -8,8 +8,10 @@ pub(crate) enum Ending {
     /// The stream is refused, with this line.
     Refused(String),
     BadWords,
-    /// The values text is refused, with this line.
-    BadValues(String),
+    /// A values text or a description file is refused, with this line.
+    BadText(String),
+    /// A set isn't compatible to another, with this line.
+    NotCompatible(String),
     ReadFault,
     WriteFault,
     ShelfFault,
@@ -30,7 +32,8 @@ impl Ending {
             Ending::Done => 0,
             Ending::Refused(_) => 1,
             Ending::BadWords => 2,
-            Ending::BadValues(_) => 3,
+            Ending::BadText(_) => 3,
+            Ending::NotCompatible(_) => 4,
             Ending::ReadFault => 5,
             Ending::WriteFault => 6,
             Ending::ShelfFault => 7,
@@ -51,7 +54,8 @@ impl Ending {
             Ending::ShelfFault => b"shelf fault\n",
             Ending::NoMemory => b"out of memory\n",
             Ending::Refused(line) => line.as_bytes(),
-            Ending::BadValues(line) => line.as_bytes(),
+            Ending::BadText(line) => line.as_bytes(),
+            Ending::NotCompatible(line) => line.as_bytes(),
             Ending::NotThere(line) => line.as_bytes(),
             Ending::TooLarge(line) => line.as_bytes(),
         }

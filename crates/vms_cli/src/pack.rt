@@ -64,7 +64,7 @@ fn pack_text<O: Sink>(alloc: Global, text: &[u8], out: &mut O) -> Ending
     match read_values(alloc, &set, text) {
         Ok(values) => write(&set, &values, out),
         Err(ValuesFault::Bad { line, reason }) => match values_line(alloc, line, reason) {
-            Ok(line) => Ending::BadValues(line),
+            Ok(line) => Ending::BadText(line),
             Err(_) => Ending::NoMemory,
         },
         Err(ValuesFault::NoMemory) => Ending::NoMemory,

@@ -6,6 +6,7 @@ ghost use Rattle.vms_cli.specs.Commands.{asked_of};
 ghost use Rattle.vms_cli.specs.Endings.{EndsAs, EndsCause, Tells};
 ghost use Rattle.vms_cli.specs.Outcomes.{Outcome};
 
+use crate::check::check;
 use crate::ending::Ending;
 use crate::pack::pack;
 use crate::show::show;
@@ -22,7 +23,8 @@ const WRITE_FAULT: u8 = 6;
 /// | 0 | done; the text stands on out |
 /// | 1 | the stream is refused |
 /// | 2 | the words name no command |
-/// | 3 | the values text is refused |
+/// | 3 | a values text or a description file is refused |
+/// | 4 | the sets aren't compatible |
 /// | 5 | the input failed |
 /// | 6 | out or notes failed |
 /// | 7 | the shelf failed |
@@ -95,6 +97,7 @@ fn run<I: Source, O: Sink, H: Shelf>(
     match words.command() {
         Some(Command::Show) => show(alloc, input, out),
         Some(Command::Pack { values }) => pack(alloc, values, out, shelf),
+        Some(Command::Check { old, new }) => check(alloc, old, new, out, shelf),
         None => Ending::BadWords,
     }
 }

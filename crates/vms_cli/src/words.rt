@@ -3,9 +3,10 @@ ghost use Rattle.std.specs.Prelude.{◌≡◌, ◌==◌, ◌&&◌, ◌∷◌, �
 ghost use Rattle.std.specs.List.{list_all};
 ghost use Rattle.std.specs.Str.{bytes_eq};
 ghost use Rattle.std.specs.Option.{option_map};
-ghost use Rattle.vms_cli.specs.Commands.{Show, Pack, asked_of, is_set_0, is_shelf_name, is_name_byte};
-ghost use Rattle.vms_cli.specs.Asks.{asked};
+ghost use Rattle.vms_cli.specs.Commands.{Show, asked_of, check_of, is_name_byte, is_set_0, is_shelf_name, pack_of, pair_of, set_word, shipped_number};
+ghost use Rattle.vms_cli.specs.Asks.{asked, set_asked};
 
+use crate::set_word::{SetWord, ShippedSet};
 use std::alloc::Global;
 use std::marker::Model;
 use vms_io::NoMemory;
@@ -17,6 +18,8 @@ pub(crate) enum Command<'a> {
     Show,
     /// `pack @0 VALUES`
     Pack { values: &'a str },
+    /// `check OLD NEW`
+    Check { old: SetWord<'a>, new: SetWord<'a> },
 }
 
 /// The words after the program's name, in order.
@@ -61,7 +64,7 @@ impl Words {
     {
         match self.words.as_slice() {
             [name, set] => show_of(name.as_str(), set.as_str()),
-            [name, set, values] => pack_of(name.as_str(), set.as_str(), values.as_str()),
+            [name, one, other] => pair_of(name.as_str(), one.as_str(), other.as_str()),
             _ => None,
         }
     }
@@ -77,8 +80,53 @@ fn show_of<'a>(name: &str, set: &str) -> Option<Command<'a>>
     }
 }
 
+// A command with two words behind its name.
+#[tactic(auto, unfolding(crate::specs::Commands::pair_of))]
+fn pair_of<'a>(name: &str, one: &'a str, other: &'a str) -> Option<Command<'a>>
+    ensures { option_map asked result ≡ pair_of name.now one.now other.now }
+{
+    if name == "check" {
+        check_of(one, other)
+    } else {
+        pack_of(name, one, other)
+    }
+}
+
+fn check_of<'a>(old: &'a str, new: &'a str) -> Option<Command<'a>>
+    ensures { option_map asked result ≡ check_of (set_word old.now) (set_word new.now) }
+{
+    match (set_word(old), set_word(new)) {
+        (Some(old), Some(new)) => Some(Command::Check { old, new }),
+        _ => None,
+    }
+}
+
+fn set_word(word: &str) -> Option<SetWord<'_>>
+    ensures { option_map set_asked result ≡ set_word word.now }
+{
+    match shipped_set(word) {
+        Some(set) => Some(SetWord::Shipped(set)),
+        None if is_shelf_name(word) => Some(SetWord::OnShelf(word)),
+        None => None,
+    }
+}
+
+// The shipped set of a word.
+fn shipped_set(word: &str) -> Option<ShippedSet>
+    ensures { option_map (λ set. set.number) result ≡ shipped_number word.now }
+{
+    match word {
+        "@0" => Some(ShippedSet { number: 0 }),
+        "@1" => Some(ShippedSet { number: 1 }),
+        "@2" => Some(ShippedSet { number: 2 }),
+        "@3" => Some(ShippedSet { number: 3 }),
+        "@4" => Some(ShippedSet { number: 4 }),
+        _ => None,
+    }
+}
+
 fn pack_of<'a>(name: &str, set: &str, values: &'a str) -> Option<Command<'a>>
-    ensures { option_map asked result ≡ (if bytes_eq name.now (codes "pack") && is_set_0 set.now && is_shelf_name values.now then Some (Pack values.now) else None) }
+    ensures { option_map asked result ≡ pack_of name.now set.now values.now }
 {
     if name == "pack" && set == "@0" && is_shelf_name(values) {
         Some(Command::Pack { values })

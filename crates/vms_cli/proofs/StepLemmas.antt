@@ -1,0 +1,183 @@
+-- Steps that a command takes before its work: how they end it, and what it does where they give something.
+use Rattle.std.proofs.Common.{append-nil, ◌≡◌, ℕ, ◌<◌, ◌^◌, Bool, true, false, if◌then◌else◌, nat_le, List, length, Option, Some, None, Ok, Err, refl, sym, ap, ◌∙◌, subst, arith, inl}
+use Rattle.std.specs.Prelude.{string_bytes}
+use Rattle.std.specs.Io.KnownBytes.{Appends}
+use Rattle.vms_io.specs.Shelves.{Held}
+use Rattle.vms_io.specs.Told.{Intake, Outlet, Stock}
+use Rattle.vms_descfile.specs.Files.{Said, Parts, Syntax, Shape, IllFormed, file_said}
+use Rattle.vms_check.specs.declared.mismatch.Mismatch.{Mismatch}
+use Rattle.vms_cli.specs.declared.ending.Ending.{Ending}
+use Rattle.vms_cli.specs.declared.ending.Ending.TheVariants.{Done, Refused, BadWords, BadText, NotCompatible, ReadFault, WriteFault, ShelfFault, NotThere, TooLarge, NoMemory}
+use Rattle.vms_cli.specs.Check.{verdict, compared, checked}
+use Rattle.vms_cli.specs.Commands.{SetWord, Shipped, OnShelf}
+use Rattle.vms_cli.specs.Endings.{EndsAs}
+use Rattle.vms_cli.specs.Fetching.{longest_file, text_under, fetched, SetText, Number, Text, fetched_set, said_set, set_in, sets_in, named_sets}
+use Rattle.vms_cli.specs.Lines.{too_large_line}
+use Rattle.vms_cli.specs.Outcomes.{Outcome, done, ended}
+use Rattle.vms_cli.specs.StepEndings.{IsFree, EndedAs, StepAs, WrittenAs, TextEnds}
+use Rattle.vms_cli.specs.Steps.{Step, Untold, Gives, Ends, next, Both, both, HasText}
+use Rattle.vms_cli.proofs.PackLemmas.{ends_with, takes_nothing}
+
+-- ---- one step after another
+
+shelf_text : (s : Step (List ℕ)) (o o' : Outlet) → TextEnds s o o' ShelfFault
+shelf_text Untold o o' = tt
+shelf_text (Gives text) o o' = tt
+shelf_text (Ends status line) o o' = tt
+
+memory_text : (s : Step (List ℕ)) (o o' : Outlet) → TextEnds s o o' NoMemory
+memory_text Untold o o' = tt
+memory_text (Gives text) o o' = tt
+memory_text (Ends status line) o o' = tt
+
+-- a fault of the shelf and want of memory end any step
+free_text : (s : Step (List ℕ)) (o o' : Outlet) (e : Ending) → IsFree e → TextEnds s o o' e
+free_text s o o' ShelfFault h = shelf_text s o o'
+free_text s o o' NoMemory h = memory_text s o o'
+free_text s o o' Done h = absurd h
+free_text s o o' (Refused line) h = absurd h
+free_text s o o' BadWords h = absurd h
+free_text s o o' (BadText line) h = absurd h
+free_text s o o' (NotCompatible line) h = absurd h
+free_text s o o' ReadFault h = absurd h
+free_text s o o' WriteFault h = absurd h
+free_text s o o' (NotThere line) h = absurd h
+free_text s o o' (TooLarge line) h = absurd h
+
+next_next : {A B C : Type 0} (s : Step A) (f : A → Step B) (g : B → Step C) → next s (λ a. next (f a) g) ≡ next (next s f) g
+next_next Untold f g = refl
+next_next (Gives a) f g = refl
+next_next (Ends status line) f g = refl
+
+module _ {A T : Type 0} (m : T → A) (f : Both A → Step (List ℕ)) (o o' : Outlet) (e : Ending) where
+  -- the first of two steps ended the command
+  pub first_ends : (s r : Step A) → StepAs {A = A} {T = T} m s (Err e) → TextEnds (next (both s r) f) o o' e
+  first_ends Untold r h = tt
+  first_ends (Gives a) r h = free_text (next (both (Gives a) r) f) o o' e h
+  first_ends (Ends status line) r h = h
+
+  -- the second did
+  pub second_ends : (s r : Step A) (t : T) → StepAs m s (Ok t) → StepAs {A = A} {T = T} m r (Err e) → TextEnds (next (both s r) f) o o' e
+  second_ends Untold r t first h = tt
+  second_ends (Gives a) Untold t first h = tt
+  second_ends (Gives a) (Gives b) t first h = free_text (f (record { old = a; new = b })) o o' e h
+  second_ends (Gives a) (Ends status line) t first h = h
+  second_ends (Ends status line) r t first h = absurd first
+
+  -- both gave something
+  pub both_give : (s r : Step A) (t u : T) → StepAs m s (Ok t) → StepAs m r (Ok u) → TextEnds (f (record { old = m t; new = m u })) o o' e
+      → TextEnds (next (both s r) f) o o' e
+  both_give Untold r t u first second h = tt
+  both_give (Gives a) Untold t u first second h = tt
+  both_give (Gives a) (Gives b) t u first second h =
+      subst (λ (x : A). TextEnds (f (record { old = x; new = b })) o o' e) first
+      (subst (λ (y : A). TextEnds (f (record { old = m t; new = y })) o o' e) second h)
+  both_give (Gives a) (Ends status line) t u first second h = absurd second
+  both_give (Ends status line) r t u first second h = absurd first
+
+-- what comes after the reading comes after the fetching
+pub regroup : (s : Step (Both SetText)) (o o' : Outlet) (e : Ending) → TextEnds (next s (λ texts. next (sets_in texts) compared)) o o' e
+    → TextEnds (next (next s sets_in) compared) o o' e
+regroup s o o' e h = subst (λ (x : Step (List ℕ)). TextEnds x o o' e) (next_next s sets_in compared) h
+
+-- ---- the outcome
+
+given_ends : (text : List ℕ) (i : Intake) (o o' : Outlet) (s s' : Stock) (e : Ending) → i.given < 2 ^ 64 → s'.held ≡ s.held → WrittenAs text o o' e
+    → EndsAs i i o o' s s' e (done text s.held 0)
+given_ends text i o o' s s' Done few same h = record {
+  status_is = refl;
+  text = subst (λ (l : List ℕ). Appends o.written o'.written l) (sym (append-nil text)) h;
+  note = refl;
+  held = same;
+  taken = takes_nothing i few;
+}
+given_ends text i o o' s s' WriteFault few same h = record { begun = 1; bytes = h.0; text = h.2; held = inl same }
+given_ends text i o o' s s' ShelfFault few same h = tt
+given_ends text i o o' s s' NoMemory few same h = tt
+given_ends text i o o' s s' (Refused line) few same h = absurd h
+given_ends text i o o' s s' BadWords few same h = absurd h
+given_ends text i o o' s s' (BadText line) few same h = absurd h
+given_ends text i o o' s s' (NotCompatible line) few same h = absurd h
+given_ends text i o o' s s' ReadFault few same h = absurd h
+given_ends text i o o' s s' (NotThere line) few same h = absurd h
+given_ends text i o o' s s' (TooLarge line) few same h = absurd h
+
+same_end : (status k : ℕ) (line text : List ℕ) → status ≡ k → line ≡ text → ended status line 0 ≡ ended k text 0
+same_end status k line text e f = ap (λ (n : ℕ). ended n line 0) e ∙ ap (λ (l : List ℕ). ended k l 0) f
+
+ended_ends : (status : ℕ) (line : List ℕ) (i : Intake) (o o' : Outlet) (s s' : Stock) (e : Ending) → EndedAs status line e
+    → EndsAs i i o o' s s' e (ended status line 0)
+ended_ends status line i o o' s s' (BadText text) h = ends_with 3 (string_bytes text) i _ (same_end status 3 line (string_bytes text) h.0 h.1)
+ended_ends status line i o o' s s' (NotCompatible text) h = ends_with 4 (string_bytes text) i _ (same_end status 4 line (string_bytes text) h.0 h.1)
+ended_ends status line i o o' s s' (NotThere text) h = ends_with 8 (string_bytes text) i _ (same_end status 8 line (string_bytes text) h.0 h.1)
+ended_ends status line i o o' s s' (TooLarge text) h = ends_with 9 (string_bytes text) i _ (same_end status 9 line (string_bytes text) h.0 h.1)
+ended_ends status line i o o' s s' ShelfFault h = tt
+ended_ends status line i o o' s s' NoMemory h = tt
+ended_ends status line i o o' s s' Done h = absurd h
+ended_ends status line i o o' s s' (Refused text) h = absurd h
+ended_ends status line i o o' s s' BadWords h = absurd h
+ended_ends status line i o o' s s' ReadFault h = absurd h
+ended_ends status line i o o' s s' WriteFault h = absurd h
+
+-- what an ending says beside the outcome of a command whose steps give the text for out
+pub text_ends : (step : Step (List ℕ)) (i : Intake) (o o' : Outlet) (s s' : Stock) (e : Ending) (x : Outcome) → i.given < 2 ^ 64 → s'.held ≡ s.held
+    → TextEnds step o o' e → HasText s.held step x → EndsAs i i o o' s s' e x
+text_ends Untold i o o' s s' e x few same h has = absurd has
+text_ends (Gives text) i o o' s s' e x few same h has =
+    subst (λ (y : Outcome). EndsAs i i o o' s s' e y) (sym has) (given_ends text i o o' s s' e few same h)
+text_ends (Ends status line) i o o' s s' e x few same h has =
+    subst (λ (y : Outcome). EndsAs i i o o' s s' e y) (sym has) (ended_ends status line i o o' s s' e h)
+
+-- ---- steps are told where the shelf is, and never end by the status 0
+
+abbrev pub IsSound : {A : Type 0} → Option Held → Step A → Type 0
+IsSound held Untold = held ≡ None
+IsSound held (Gives a) = Unit {0}
+IsSound held (Ends status line) = 0 < status
+
+sound_next : {A B : Type 0} (held : Option Held) (s : Step A) (f : A → Step B) → IsSound held s → ((a : A) → IsSound held (f a)) → IsSound held (next s f)
+sound_next held Untold f h each = h
+sound_next held (Gives a) f h each = each a
+sound_next held (Ends status line) f h each = h
+
+sound_both : {A : Type 0} (held : Option Held) (s r : Step A) → IsSound held s → IsSound held r → IsSound held (both s r)
+sound_both held s r h k = sound_next held s _ h (λ a. sound_next held r _ k (λ b. tt))
+
+sound_size : (held : Option Held) (name text : List ℕ) (b : Bool) → IsSound held (if b then Gives text else Ends 9 (too_large_line name))
+sound_size held name text true = tt
+sound_size held name text false = omega arith
+
+sound_under : (held : Option Held) (name : List ℕ) (under : Option (List ℕ)) → IsSound held (text_under name under)
+sound_under held name None = omega arith
+sound_under held name (Some text) = sound_size held name text (nat_le (length text) longest_file)
+
+sound_fetch : (held : Option Held) (name : List ℕ) → IsSound held (fetched held name)
+sound_fetch None name = refl
+sound_fetch (Some map) name = sound_under (Some map) name (map name)
+
+sound_word : (held : Option Held) (word : SetWord) → IsSound held (fetched_set held word)
+sound_word held (Shipped s) = tt
+sound_word held (OnShelf name) = sound_next held (fetched held name) (λ text. Gives (Text name text)) (sound_fetch held name) (λ text. tt)
+
+sound_said : (held : Option Held) (name : List ℕ) (said : Said) → IsSound held (said_set name said)
+sound_said held name (Parts set) = tt
+sound_said held name Syntax = omega arith
+sound_said held name (Shape path) = omega arith
+sound_said held name (IllFormed fault) = omega arith
+
+sound_set : (held : Option Held) (text : SetText) → IsSound held (set_in text)
+sound_set held (Number s) = tt
+sound_set held (Text name text) = sound_said held name (file_said text)
+
+pub sound_sets : (held : Option Held) (old new : SetWord) → IsSound held (named_sets held old new)
+sound_sets held old new =
+    sound_next held (both (fetched_set held old) (fetched_set held new)) sets_in
+    (sound_both held (fetched_set held old) (fetched_set held new) (sound_word held old) (sound_word held new))
+    (λ texts. sound_both held (set_in texts.old) (set_in texts.new) (sound_set held texts.old) (sound_set held texts.new))
+
+sound_verdict : (held : Option Held) (m : Option Mismatch) → IsSound held (verdict m)
+sound_verdict held None = tt
+sound_verdict held (Some m) = omega arith
+
+pub sound_check : (held : Option Held) (old new : SetWord) → IsSound held (checked held old new)
+sound_check held old new = sound_next held (named_sets held old new) compared (sound_sets held old new) (λ sets. sound_verdict held _)

@@ -1,0 +1,60 @@
+-- The command `check`: its outcome, and what it can answer.
+use Rattle.std.specs.Prelude.{◌≡◌, ◌⊎◌, ℕ, Bool, true, false, ◌||◌, List, [], ◌∷◌, ◌++◌, Option, Some, None, codes}
+use Rattle.std.specs.Io.KnownBytes.{Keeps}
+use Rattle.vms_io.specs.Shelves.{Held}
+use Rattle.vms_spec.specs.Sets.{Set}
+use Rattle.vms_check.specs.Comparing.{first_mismatch, Compatible}
+use Rattle.vms_check.specs.declared.mismatch.Mismatch.{Mismatch}
+use Rattle.vms_cli.specs.Commands.{Asked, SetWord, Check}
+use Rattle.vms_cli.specs.Fetching.{named_sets, is_on_shelf}
+use Rattle.vms_cli.specs.Outcomes.{Outside, OutFault, NotesFault, ShelfFault, WantsMemory, EndsBy}
+use Rattle.vms_cli.specs.SetLines.{mismatch_line}
+use Rattle.vms_cli.specs.Steps.{Step, Untold, Gives, Ends, next, Both}
+
+abbrev pub compatible_text : List ℕ
+compatible_text = codes "compatible" ++ 10 ∷ []
+
+abbrev pub verdict : Option Mismatch → Step (List ℕ)
+verdict None = Gives compatible_text
+verdict (Some mismatch) = Ends 4 (mismatch_line mismatch)
+
+-- the first rule that fails, if any
+abbrev pub compared : Both Set → Step (List ℕ)
+compared sets = verdict (first_mismatch sets.old sets.new)
+
+-- both sets are fetched, then both are read, and then they are compared
+abbrev pub checked : Option Held → (old new : SetWord) → Step (List ℕ)
+checked held old new = next (named_sets held old new) compared
+
+-- where they are told, the words name two sets that are compatible
+abbrev pub AreCompatible : Step (Both Set) → Type 0
+AreCompatible Untold = Unit {0}
+AreCompatible (Gives sets) = Compatible sets.old sets.new
+AreCompatible (Ends status line) = ⊥
+
+-- `check` is done only where the two sets are compatible
+abbrev pub Verdict : Option Asked → Option Held → ℕ → Type 0
+Verdict (Some (Check old new)) held status = status ≡ 0 → AreCompatible (named_sets held old new)
+Verdict asked held status = Unit {0}
+
+abbrev pub asks_shelf : (old new : SetWord) → Bool
+asks_shelf old new = is_on_shelf old || is_on_shelf new
+
+-- what it can answer, told or not; the shelf can be at fault only where one of the words is a name
+abbrev pub CheckStatus : Bool → ℕ → Outside → Outside → Type 0
+CheckStatus asks status old new =
+    (status ≡ 0)
+    ⊎ ((asks ≡ true) × EndsBy 3 status old new)
+    ⊎ EndsBy 4 status old new
+    ⊎ OutFault status old new
+    ⊎ NotesFault status old new
+    ⊎ ((asks ≡ true) × ShelfFault status old new × Keeps old.out.written new.out.written)
+    ⊎ ((asks ≡ true) × EndsBy 8 status old new)
+    ⊎ ((asks ≡ true) × EndsBy 9 status old new)
+    ⊎ (WantsMemory status old new × Keeps old.out.written new.out.written)
+
+pub record CheckAnswers (asks : Bool) (status : ℕ) (old new : Outside) : Type 0 where
+  pub ends : CheckStatus asks status old new
+  pub input : new.input ≡ old.input
+  pub held : new.shelf.held ≡ old.shelf.held
+  pub unasked : asks ≡ false → new.shelf ≡ old.shelf

@@ -1,0 +1,39 @@
+-- The lines of notes about sets.
+use Rattle.std.specs.Prelude.{ℕ, List, [], ◌∷◌, ◌++◌, Option, Some, None, codes}
+use Rattle.std.specs.Fmt.{decimal}
+use Rattle.vms_spec.specs.declared.Part.{Part}
+use Rattle.vms_spec.specs.declared.Part.TheVariants as parts
+use Rattle.vms_spec.specs.declared.Place.{Place}
+use Rattle.vms_check.specs.declared.mismatch.Mismatch.{Mismatch}
+
+abbrev pub part_text : Part → List ℕ
+part_text parts.Set = codes "set"
+part_text (parts.Struct i) = codes "struct " ++ decimal i
+part_text (parts.Device i) = codes "device " ++ decimal i
+part_text (parts.Sub i j) = codes "device " ++ (decimal i ++ (codes " sub " ++ decimal j))
+
+-- a field is named behind its part
+abbrev pub field_text : List ℕ → Option ℕ → List ℕ
+field_text part None = part
+field_text part (Some k) = part ++ (codes " field " ++ decimal k)
+
+abbrev pub place_text : Place → List ℕ
+place_text place = field_text (part_text place.part) place.field
+
+-- why the text under a name is no set
+abbrev pub syntax_line : List ℕ → List ℕ
+syntax_line name = codes "set " ++ (name ++ (codes ": Syntax" ++ 10 ∷ []))
+
+abbrev pub shape_line : List ℕ → List ℕ → List ℕ
+shape_line name path = codes "set " ++ (name ++ (codes ": Shape at " ++ (path ++ 10 ∷ [])))
+
+abbrev pub rule_line : List ℕ → ℕ → Place → List ℕ
+rule_line name rule place =
+    codes "set " ++ (name ++ (codes ": rule " ++ (decimal rule ++ (codes " at "
+    ++ (place_text place ++ 10 ∷ [])))))
+
+-- why two sets aren't compatible
+abbrev pub mismatch_line : Mismatch → List ℕ
+mismatch_line m =
+    codes "not compatible: rule " ++ (decimal m.rule ++ (codes " at " ++ (place_text m.in_old
+    ++ (codes " against " ++ (place_text m.in_new ++ 10 ∷ [])))))

@@ -1,0 +1,92 @@
+// The command `check`: whether a newer set reads what an older one writes.
+ghost use Rattle.std.specs.Prelude.{◌≡◌, ◌≤◌, ◌<◌, ◌^◌, ◌||◌, false};
+ghost use Rattle.vms_io.specs.Told.{Intake, outlet, stock};
+ghost use Rattle.vms_desc.specs.Described.{described};
+ghost use Rattle.vms_check.specs.Comparing.{first_mismatch};
+ghost use Rattle.vms_cli.specs.Asks.{set_asked};
+ghost use Rattle.vms_cli.specs.Check.{asks_shelf, checked, compared, verdict};
+ghost use Rattle.vms_cli.specs.Endings.{CheckCause, EndsAs};
+ghost use Rattle.vms_cli.specs.Fetching.{is_text, sets_in};
+ghost use Rattle.vms_cli.specs.Outcomes.{Outcome};
+ghost use Rattle.vms_cli.specs.StepEndings.{CompareCause, TextEnds, text_of};
+ghost use Rattle.vms_cli.specs.Steps.{HasText, next};
+
+use crate::ending::Ending;
+use crate::fetch::{SetText, fetch_set, read_fetched};
+use crate::set_notes::mismatch_line;
+use crate::set_word::SetWord;
+use std::alloc::Global;
+use vms_check::Verdict;
+use vms_desc::DescSet;
+use vms_io::{Shelf, Sink, write_all_of};
+
+pub(crate) fn check<O: Sink, H: Shelf>(
+    alloc: Global,
+    old: SetWord,
+    new: SetWord,
+    out: &mut O,
+    shelf: &mut H,
+) -> Ending
+    ensures content { (input : Intake) (o : Outcome) → input.given < 2 ^ 64
+        → HasText (H.held shelf.old) (checked (H.held shelf.old) (set_asked old.entry) (set_asked new.entry)) o
+        → EndsAs input input (outlet O.Sink out.old) (outlet O.Sink out.new)
+        (stock H.Shelf shelf.old) (stock H.Shelf shelf.new) result o }
+    ensures cause { CheckCause (asks_shelf (set_asked old.entry) (set_asked new.entry)) (outlet O.Sink out.old)
+        (outlet O.Sink out.new) (stock H.Shelf shelf.old) (stock H.Shelf shelf.new) result }
+    ensures unasked { asks_shelf (set_asked old.entry) (set_asked new.entry) ≡ false
+        → stock H.Shelf shelf.new ≡ stock H.Shelf shelf.old }
+    ensures held { H.held shelf.new ≡ H.held shelf.old }
+    ensures out_count { O.faults out.old ≤ O.faults out.new }
+    ensures shelf_count { H.faults shelf.old ≤ H.faults shelf.new }
+    ensures out_promise { O.promise out.new ≡ O.promise out.old }
+    ensures shelf_promise { H.promise shelf.new ≡ H.promise shelf.old }
+{
+    let old = match fetch_set(alloc, old, shelf) {
+        Ok(text) => text,
+        Err(ending) => return ending,
+    };
+    let new = match fetch_set(alloc, new, shelf) {
+        Ok(text) => text,
+        Err(ending) => return ending,
+    };
+    check_texts(alloc, &old, &new, out)
+}
+
+// Once both sets are fetched.
+fn check_texts<O: Sink>(alloc: Global, old: &SetText, new: &SetText, out: &mut O) -> Ending
+    ensures ends { TextEnds (next (sets_in (record { old = text_of old.now; new = text_of new.now })) compared)
+        (outlet O.Sink out.old) (outlet O.Sink out.new) result }
+    ensures cause { CompareCause (is_text (text_of old.now) || is_text (text_of new.now))
+        (outlet O.Sink out.old) (outlet O.Sink out.new) result }
+    ensures count { O.faults out.old ≤ O.faults out.new }
+    ensures promise { O.promise out.new ≡ O.promise out.old }
+{
+    let old = match read_fetched(alloc, old) {
+        Ok(set) => set,
+        Err(ending) => return ending,
+    };
+    let new = match read_fetched(alloc, new) {
+        Ok(set) => set,
+        Err(ending) => return ending,
+    };
+    compare(alloc, &old, &new, out)
+}
+
+fn compare<O: Sink>(alloc: Global, old: &DescSet, new: &DescSet, out: &mut O) -> Ending
+    ensures ends { TextEnds (verdict (first_mismatch (described old.now) (described new.now)))
+        (outlet O.Sink out.old) (outlet O.Sink out.new) result }
+    ensures cause { CompareCause false (outlet O.Sink out.old) (outlet O.Sink out.new) result }
+    ensures count { O.faults out.old ≤ O.faults out.new }
+    ensures promise { O.promise out.new ≡ O.promise out.old }
+{
+    match vms_check::check(old, new) {
+        Verdict::Accepted => match write_all_of(out, b"compatible\n") {
+            Ok(()) => Ending::Done,
+            Err(_) => Ending::WriteFault,
+        },
+        Verdict::Refused(mismatch) => match mismatch_line(alloc, mismatch) {
+            Ok(line) => Ending::NotCompatible(line),
+            Err(_) => Ending::NoMemory,
+        },
+    }
+}
