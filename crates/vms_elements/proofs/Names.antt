@@ -9,7 +9,7 @@ use Rattle.vms_spec.specs.Sets.{Field, Desc, Set}
 use Rattle.vms_spec.specs.Layout.{Cell, no_desc, first, counted, capacity_of, item_size, field_cells, desc_cells, numbers_of, all_hold}
 use Rattle.vms_spec.proofs.Sizes.{size_same, field_size}
 use Rattle.vms_elements.specs.Elements.{What, Element, Shape, no_shape, shape, shapes, cells_in, dotted, behind, single, Rule, item_elements, Stand, stand_of, array_elements, field_elements, elements_from, desc_elements, index_text}
-use Rattle.vms_elements.specs.Parts.{is_number, numbers_in, cells_of, names_of, elements_in}
+use Rattle.vms_elements.specs.Parts.{absent, is_number, numbers_in, cells_of, names_of, elements_in}
 use Rattle.vms_elements.proofs.Tables.{both, one_more, first_at}
 use Rattle.vms_elements.proofs.CellsOf.{AreShapes, are_shapes, item_has, field_has}
 use Rattle.vms_elements.proofs.CountUp.{numbers_append, numbers_long}
@@ -67,7 +67,7 @@ module _ (ss : List Shape) (same : SameNames ss) where
           (array_names f s t p q h step (suc e) n (a + step) (b + step))
       ∙ sym (names_append (map (behind (t.number, e) text d (t.there && d)) (q b)) (array_elements f t q step (suc e) n (b + step)))
 
-  fields_names : (fields : List Field) (v w : ℕ) (own now : ℕ → ℕ) (n m : List ℤ) (i a b : ℕ) (fs : List Field)
+  pub fields_names : (fields : List Field) (v w : ℕ) (own now : ℕ → ℕ) (n m : List ℤ) (i a b : ℕ) (fs : List Field)
       → names_of (elements_from ss fields v own n i a fs) ≡ names_of (elements_from ss fields w now m i b fs)
   fields_names fields v w own now n m i a b [] = refl
   fields_names fields v w own now n m i a b (f ∷ fs) =
@@ -136,3 +136,9 @@ array_name f stand part names step h long (suc q) e (suc n) a r lt small =
     ∙ ap (λ (k : ℕ). get_or (names_of later) k []) left
     ∙ array_name f stand part names step h long q (suc e) n (a + step) r (omega arith) small
     ∙ ap (λ (k : ℕ). (f.name ++ index_text f.count k) ++ get_or names r []) same
+
+pub names_absent : (xs : List Element) → names_of (map absent xs) ≡ names_of xs
+names_absent [] = refl
+names_absent (x ∷ xs) =
+    first_name (is_number x.what) (absent x) (numbers_in (map absent xs))
+    ∙ ap (λ (l : List (List ℕ)). if is_number x.what then x.name ∷ l else l) (names_absent xs) ∙ sym (first_name (is_number x.what) x (numbers_in xs))

@@ -7,3 +7,5 @@ pub mod Writing
 pub mod Printers
 pub mod Runs
 pub mod Subs
+pub mod Naming
+pub mod NamingSubs

@@ -1,5 +1,6 @@
 pub mod FirstLine
 pub mod Machines
+pub mod Naming
 pub mod Paths
 pub mod Plain
 pub mod Printing

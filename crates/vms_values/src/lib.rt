@@ -5,6 +5,7 @@ mod cursor;
 mod fault;
 mod lines;
 mod machine;
+mod name;
 mod numbers;
 mod path;
 mod print;
@@ -13,6 +14,7 @@ mod shown;
 mod text;
 
 pub use fault::{Values, ValuesFault};
+pub use name::print_path;
 pub use print::print_values;
 pub use read::read_values;
 pub use vms_io::WriteFault;
