@@ -20,7 +20,8 @@ fn is_among(old: Side, new: Side, tests: &[Test], left: Left) -> bool
     requires old { IsSide old }
     requires new { IsSide new }
     requires whole { is_whole_left new.version left ≡ true }
-    ensures { result ≡ some (is_left old.entry new.entry (as_reduced new.entry.version left.entry)) (map formula tests.now) }
+    ensures { result ≡ some (is_left old.entry new.entry (as_reduced new.entry.version left.entry))
+        (map formula tests.now) }
 {
     for test in tests {
         if same_reduced(old, new, reduce(test, old.version), left) {

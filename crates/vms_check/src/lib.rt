@@ -20,6 +20,3 @@ mod side;
 
 pub use mismatch::{Mismatch, Verdict};
 pub use sets::check;
-
-#[cfg(test)]
-mod tests;

@@ -40,7 +40,8 @@ fn same_rest(old: Side, new: Side, one: Present, other: Present) -> bool
     requires new { IsSide new }
     requires one { IsOn old one }
     requires other { IsOn new other }
-    ensures { result ≡ same_rest (position_on old.entry) (position_on new.entry) (entry old.entry.version one.entry).rest (entry new.entry.version other.entry).rest }
+    ensures { result ≡ same_rest (position_on old.entry) (position_on new.entry)
+        (entry old.entry.version one.entry).rest (entry new.entry.version other.entry).rest }
 {
     same_reduced(
         old,

@@ -45,7 +45,8 @@ pub(crate) fn reduce(test: &Test, version: u32) -> Left<'_>
 
 // Whether a field is there, or what is left of its test.
 pub(crate) fn presence(field: &Field, version: u32) -> Left<'_>
-    ensures same { as_reduced version result ≡ field_reduced version (option_map formula field.now.test) field.now.since }
+    ensures same { as_reduced version result ≡ field_reduced version
+        (option_map formula field.now.test) field.now.since }
     ensures whole { is_whole_left version result ≡ true }
 {
     match &field.test {

@@ -22,7 +22,8 @@ pub(crate) fn same_reduced(old: Side, new: Side, one: Left, other: Left) -> bool
     requires new { IsSide new }
     requires one { is_whole_left old.version one ≡ true }
     requires other { is_whole_left new.version other ≡ true }
-    ensures { result ≡ same_reduced (position_on old.entry) (position_on new.entry) (as_reduced old.entry.version one.entry) (as_reduced new.entry.version other.entry) }
+    ensures { result ≡ same_reduced (position_on old.entry) (position_on new.entry)
+        (as_reduced old.entry.version one.entry) (as_reduced new.entry.version other.entry) }
 {
     match (one, other) {
         (Left::Known(one), Left::Known(other)) => one == other,
@@ -38,7 +39,9 @@ fn same_tests(old: Side, new: Side, one: &Test, other: &Test) -> bool
     requires new { IsSide new }
     requires one { is_whole old.version (formula one.now) ≡ true }
     requires other { is_whole new.version (formula other.now) ≡ true }
-    ensures { result ≡ same_reduced (position_on old.entry) (position_on new.entry) (reduced old.entry.version (formula one.now)) (reduced new.entry.version (formula other.now)) }
+    ensures { result ≡ same_reduced (position_on old.entry) (position_on new.entry)
+        (reduced old.entry.version (formula one.now))
+        (reduced new.entry.version (formula other.now)) }
 {
     match (one, other) {
         (Test::Cell { .. }, Test::Cell { .. }) => same_atoms(old, new, one, other),
@@ -55,7 +58,9 @@ fn same_tests(old: Side, new: Side, one: &Test, other: &Test) -> bool
 fn same_inner(old: Side, new: Side, one: &Test, other: &Test) -> bool
     requires old { IsSide old }
     requires new { IsSide new }
-    ensures { result ≡ same_reduced (position_on old.entry) (position_on new.entry) (reduced old.entry.version (formula one.now)) (reduced new.entry.version (formula other.now)) }
+    ensures { result ≡ same_reduced (position_on old.entry) (position_on new.entry)
+        (reduced old.entry.version (formula one.now))
+        (reduced new.entry.version (formula other.now)) }
 {
     same_reduced(
         old,
@@ -71,7 +76,8 @@ fn same_atoms(old: Side, new: Side, one: &Test, other: &Test) -> bool
     requires new { IsSide new }
     requires one { is_atom (formula one.now) ≡ true }
     requires other { is_atom (formula other.now) ≡ true }
-    ensures { result ≡ same_test (position_on old.entry) (position_on new.entry) (formula one.now) (formula other.now) }
+    ensures { result ≡ same_test (position_on old.entry) (position_on new.entry) (formula one.now)
+        (formula other.now) }
 {
     match (one, other) {
         (

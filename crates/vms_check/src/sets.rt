@@ -111,7 +111,8 @@ fn compare_names(old: &DescSet, new: &DescSet) -> Option<Mismatch>
 // ---- devices
 
 fn compare_devices(old: &DescSet, new: &DescSet) -> Option<Mismatch>
-    ensures { result ≡ first_answer (device_mismatch (described old.now) (described new.now)) 0 (described old.now).devices }
+    ensures { result ≡ first_answer (device_mismatch (described old.now) (described new.now)) 0
+        (described old.now).devices }
 {
     let mut number = 0;
     while number < old.parts().devices.as_slice().len() {
@@ -126,7 +127,8 @@ fn compare_devices(old: &DescSet, new: &DescSet) -> Option<Mismatch>
 // The device of this number, and the new one of its name and instance.
 fn compare_device(old: &DescSet, new: &DescSet, number: u32) -> Option<Mismatch>
     requires { number < length (described old.now).devices }
-    ensures { result ≡ device_mismatch (described old.now) (described new.now) number (device_at (described old.now) number) }
+    ensures { result ≡ device_mismatch (described old.now) (described new.now) number
+        (device_at (described old.now) number) }
 {
     let device = old.device(number);
     match new.find(device.desc.name.as_bytes(), device.instance) {
@@ -139,7 +141,9 @@ fn compare_device(old: &DescSet, new: &DescSet, number: u32) -> Option<Mismatch>
 fn compare_found(old: &DescSet, new: &DescSet, in_old: u32, in_new: u32) -> Option<Mismatch>
     requires old { in_old < length (described old.now).devices }
     requires new { in_new < length (described new.now).devices }
-    ensures { result ≡ compare_device (described old.now) (described new.now) in_old (device_at (described old.now) in_old) (Some in_new) (Some (device_at (described new.now) in_new)) }
+    ensures { result ≡ compare_device (described old.now) (described new.now) in_old
+        (device_at (described old.now) in_old) (Some in_new)
+        (Some (device_at (described new.now) in_new)) }
 {
     let (part, other) = (Part::Device(in_old), Part::Device(in_new));
     if let Some(mismatch) = compare_parts(4, at_own_version(old, part), new, other) {
@@ -181,7 +185,9 @@ fn is_version_of(desc: &Desc, version: u32) -> bool
 fn compare_subs(old: &DescSet, new: &DescSet, in_old: u32, in_new: u32) -> Option<Mismatch>
     requires old { in_old < length (described old.now).devices }
     requires new { in_new < length (described new.now).devices }
-    ensures { result ≡ first_answer (compare_subs (described old.now) (described new.now) in_old in_new (device_at (described new.now) in_new)) 0 (device_at (described old.now) in_old).subs }
+    ensures { result ≡ first_answer (compare_subs (described old.now) (described new.now) in_old
+        in_new (device_at (described new.now) in_new)) 0
+        (device_at (described old.now) in_old).subs }
 {
     let mut number = 0;
     while number < old.device(in_old).subs.as_slice().len() {
@@ -202,7 +208,9 @@ fn compare_sub(
 ) -> Option<Mismatch>
     requires old { HasPart (described old.now) (parts.Sub in_old number) }
     requires new { in_new < length (described new.now).devices }
-    ensures { result ≡ compare_subs (described old.now) (described new.now) in_old in_new (device_at (described new.now) in_new) number (sub_at (device_at (described old.now) in_old) number) }
+    ensures { result ≡ compare_subs (described old.now) (described new.now) in_old in_new
+        (device_at (described new.now) in_new) number
+        (sub_at (device_at (described old.now) in_old) number) }
 {
     let part = Part::Sub(in_old, number);
     let name = old.desc(part).name.as_bytes();

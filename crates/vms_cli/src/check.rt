@@ -28,11 +28,13 @@ pub(crate) fn check<O: Sink, H: Shelf>(
     shelf: &mut H,
 ) -> Ending
     ensures content { (input : Intake) (o : Outcome) → input.given < 2 ^ 64
-        → HasText (H.held shelf.old) (checked (H.held shelf.old) (set_asked old.entry) (set_asked new.entry)) o
+        → HasText (H.held shelf.old)
+        (checked (H.held shelf.old) (set_asked old.entry) (set_asked new.entry)) o
         → EndsAs input input (outlet O.Sink out.old) (outlet O.Sink out.new)
         (stock H.Shelf shelf.old) (stock H.Shelf shelf.new) result o }
-    ensures cause { CheckCause (asks_shelf (set_asked old.entry) (set_asked new.entry)) (outlet O.Sink out.old)
-        (outlet O.Sink out.new) (stock H.Shelf shelf.old) (stock H.Shelf shelf.new) result }
+    ensures cause { CheckCause (asks_shelf (set_asked old.entry) (set_asked new.entry))
+        (outlet O.Sink out.old) (outlet O.Sink out.new)
+        (stock H.Shelf shelf.old) (stock H.Shelf shelf.new) result }
     ensures unasked { asks_shelf (set_asked old.entry) (set_asked new.entry) ≡ false
         → stock H.Shelf shelf.new ≡ stock H.Shelf shelf.old }
     ensures held { H.held shelf.new ≡ H.held shelf.old }
@@ -54,7 +56,8 @@ pub(crate) fn check<O: Sink, H: Shelf>(
 
 // Once both sets are fetched.
 fn check_texts<O: Sink>(alloc: Global, old: &SetText, new: &SetText, out: &mut O) -> Ending
-    ensures ends { TextEnds (next (sets_in (record { old = text_of old.now; new = text_of new.now })) compared)
+    ensures ends { TextEnds
+        (next (sets_in (record { old = text_of old.now; new = text_of new.now })) compared)
         (outlet O.Sink out.old) (outlet O.Sink out.new) result }
     ensures cause { CompareCause (is_text (text_of old.now) || is_text (text_of new.now))
         (outlet O.Sink out.old) (outlet O.Sink out.new) result }

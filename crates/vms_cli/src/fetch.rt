@@ -56,10 +56,14 @@ pub(crate) fn fetch_set<'a, H: Shelf>(
     word: SetWord<'a>,
     shelf: &mut H,
 ) -> Result<SetText<'a>, Ending>
-    ensures fetched { StepAs text_of (fetched_set (H.held shelf.old) (set_asked word.entry)) result }
-    ensures text { IfOk result (λ text. is_text (text_of text) ≡ is_on_shelf (set_asked word.entry)) }
-    ensures cause { WordCause (is_on_shelf (set_asked word.entry)) (stock H.Shelf shelf.old) (stock H.Shelf shelf.new) result }
-    ensures unasked { is_on_shelf (set_asked word.entry) ≡ false → stock H.Shelf shelf.new ≡ stock H.Shelf shelf.old }
+    ensures fetched { StepAs text_of (fetched_set (H.held shelf.old) (set_asked word.entry))
+        result }
+    ensures text { IfOk result (λ text. is_text (text_of text)
+        ≡ is_on_shelf (set_asked word.entry)) }
+    ensures cause { WordCause (is_on_shelf (set_asked word.entry)) (stock H.Shelf shelf.old)
+        (stock H.Shelf shelf.new) result }
+    ensures unasked { is_on_shelf (set_asked word.entry) ≡ false → stock H.Shelf shelf.new
+        ≡ stock H.Shelf shelf.old }
     ensures held { H.held shelf.new ≡ H.held shelf.old }
     ensures count { H.faults shelf.old ≤ H.faults shelf.new }
     ensures promise { H.promise shelf.new ≡ H.promise shelf.old }

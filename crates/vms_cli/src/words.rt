@@ -71,7 +71,8 @@ impl Words {
 }
 
 fn show_of<'a>(name: &str, set: &str) -> Option<Command<'a>>
-    ensures { option_map asked result ≡ (if bytes_eq name.now (codes "show") && is_set_0 set.now then Some Show else None) }
+    ensures { option_map asked result ≡ (if bytes_eq name.now (codes "show") && is_set_0 set.now
+        then Some Show else None) }
 {
     if name == "show" && set == "@0" {
         Some(Command::Show)
