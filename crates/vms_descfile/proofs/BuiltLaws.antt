@@ -9,12 +9,12 @@ use Rattle.vms_parts.specs.declared.types.Field.{Field}
 use Rattle.vms_descfile.specs.Written.{own_names, list_file, list_as}
 use Rattle.vms_parts.proofs.Items.{drop_is}
 
-pub listed_on : {T : Type 0} (f : T → Data) (xs : List T) (i : ℕ) (x : T) (done : List Value) (v : Value) → i < length xs → x ≡ get_or xs i x → view v ≡ f x
-    → map f xs ≡ map view done ++ map f (drop i xs) → map f xs ≡ map view (done ++ v ∷ []) ++ map f (drop (i + 1) xs)
-listed_on f xs i x done v lt is written so =
+pub listed_on : {T : Type 0} (f : T → Data) (xs : List T) (i : ℕ) (x : T) (done more : List Value) (v : Value) → i < length xs → x ≡ get_or xs i x → view v ≡ f x
+    → more ≡ done ++ v ∷ [] → map f xs ≡ map view done ++ map f (drop i xs) → map f xs ≡ map view more ++ map f (drop (i + 1) xs)
+listed_on f xs i x done more v lt is written pushed so =
     let rest = map f (drop (i + 1) xs) in
     so ∙ ap (λ l. map view done ++ map f l) (drop_is xs i x lt is) ∙ ap (λ y. map view done ++ y ∷ rest) (sym written)
-    ∙ sym (append_assoc (map view done) (view v ∷ []) rest) ∙ ap (λ l. l ++ rest) (sym (map-append view done (v ∷ [])))
+    ∙ sym (append_assoc (map view done) (view v ∷ []) rest) ∙ ap (λ l. l ++ rest) (sym (ap (map view) pushed ∙ map-append view done (v ∷ [])))
 
 -- the name of a field by its number
 pub name_at : (fields : List Field) (k : ℕ) (f : Field) → k < length fields → f ≡ get_or fields k f → get_or (own_names (map field_of fields)) k [] ≡ f.name

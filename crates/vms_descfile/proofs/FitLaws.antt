@@ -1,11 +1,6 @@
 -- Lists of parts whose numbers fit.
-use Rattle.std.proofs.Common.{◌≡◌, ℕ, zero, suc, ◌<◌, List, [], ◌∷◌, length, get_or, map, Some, refl, sym, ap, ◌∙◌, subst, arith}
+use Rattle.std.proofs.Common.{◌≡◌, ℕ, zero, suc, List, [], ◌∷◌, get_or, map, Some, refl, ap, ◌∙◌, subst}
 use Rattle.vms_spec.specs.Lists.{at}
-
-pub at_inside : {A : Type 0} (xs : List A) (i : ℕ) (x : A) → at xs i ≡ Some x → i < length xs
-at_inside [] i x there = cc
-at_inside (y ∷ xs) zero x there = omega arith
-at_inside (y ∷ xs) (suc i) x there = omega (arith, at_inside xs i x there)
 
 pub at_is : {A : Type 0} (xs : List A) (i : ℕ) (x y : A) → x ≡ get_or xs i x → at xs i ≡ Some y → x ≡ y
 at_is [] i x y is there = cc

@@ -1,4 +1,4 @@
-use Rattle.std.proofs.Common.{◌+◌, ◌++◌, map, drop, ap, sym, ◌∙◌}
+use Rattle.std.proofs.Common.{◌++◌, map, ap, sym, ◌∙◌}
 use Rattle.std.proofs.lemmas.List.{drop_all, append-nil}
 use Rattle.serde_json.specs.View.{view}
 use Rattle.vms_descfile.proofs.BuiltLaws.{listed_on}
@@ -8,8 +8,8 @@ pub loop-item-preserved : goal.loop-item-preserved
 loop-item-preserved g c =
     let f = g.W.Writes.file c.args.writer.now in
     let xs = c.args.items.now in
-    listed_on f xs c.loop-item.item-index c.item-item.result c.loop-item.list.items c.in_ok-value.value c.loop-item-test.true c.item-item.is c.in_ok-value.ensures c.loop-item.invariant
-    ∙ ap (λ l. map view l ++ map f (drop (c.loop-item.item-index + 1) xs)) (sym c.in_ok-push.ensures)
+    listed_on f xs c.loop-item.item-index c.item-item.result c.loop-item.list.items c.push.new.list.items c.in_ok-value.value c.loop-item-test.true c.item-item.is
+    c.in_ok-value.ensures c.in_ok-push.ensures c.loop-item.invariant
 
 pub returns : goal.returns
 returns g c =

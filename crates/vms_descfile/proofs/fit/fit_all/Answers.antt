@@ -1,6 +1,7 @@
 use Rattle.std.proofs.Common.{◌≡◌, ℕ, ◌<◌, Some, below_more, arith, subst}
 use Rattle.vms_spec.specs.Lists.{at}
-use Rattle.vms_descfile.proofs.FitLaws.{at_inside, at_is}
+use Rattle.vms_laws.proofs.PartLaws.{at_inside}
+use Rattle.vms_descfile.proofs.FitLaws.{at_is}
 use Rattle.vms_descfile.proofs.fit.fit_all.Goals as goal
 
 pub loop-item-preserved : goal.loop-item-preserved
