@@ -1,0 +1,10 @@
+mod Rows
+pub mod Tables
+pub mod CellsOf
+pub mod SlotsOf
+pub mod CountUp
+pub mod LinesOf
+pub mod Members
+pub mod PathsOf
+pub mod DevicePaths
+pub mod Stated

@@ -1,0 +1,69 @@
+-- The elements of the worked sets, and what is read off them.
+use Rattle.std.proofs.Common.{◌≡◌, ℕ, List, [], ◌∷◌, Some, None, pos, negsuc, refl, codes, ℤ}
+use Rattle.std.specs.Fmt.{digits}
+use Rattle.vms_spec.specs.Layout.{first}
+use Rattle.vms_spec.specs.Sets.{Set, Device}
+use Rattle.vms_spec.specs.Images.{Image}
+use Rattle.vms_spec.specs.Values.{values_text}
+use Rattle.vms_spec.proofs.Boxes.{counted_set, constant_set, subsection_set, tested_set, empty_set, mixed_set}
+use Rattle.vms_elements.specs.Elements.{Element}
+use Rattle.vms_elements.specs.Parts.{device_elements}
+use Rattle.vms_elements.specs.Lines.{text_of, values_lines}
+
+abbrev elements : Device → Set → Image → List Element
+elements d set image = device_elements set d image
+
+abbrev of_box : List ℤ → Image
+of_box numbers = record { version = 1; came = []; numbers = numbers }
+
+abbrev text : Set → Image → List (List ℕ)
+text set image = values_lines set None (image ∷ [])
+
+-- a counted array is printed to its count
+prints_an_array : text counted_set (of_box (pos 2 ∷ pos 1 ∷ pos 65535 ∷ [])) ≡ codes "section box 0 v1" ∷ codes "n = 2" ∷ codes "v[0] = 1" ∷ codes "v[1] = 65535" ∷ []
+unfolding first digits
+prints_an_array = refl
+
+prints_no_element : text counted_set (of_box (pos 0 ∷ pos 0 ∷ pos 0 ∷ [])) ≡ codes "section box 0 v1" ∷ codes "n = 0" ∷ []
+unfolding first digits
+prints_no_element = refl
+
+-- constants and unused bytes are not printed
+prints_a_flag : text constant_set (of_box (pos 1 ∷ [])) ≡ codes "section box 0 v1" ∷ codes "flag = 1" ∷ []
+unfolding first digits
+prints_a_flag = refl
+
+prints_subsections : text subsection_set (record { version = 1; came = Some 1 ∷ Some 1 ∷ []; numbers = pos 9 ∷ pos 8 ∷ pos 7 ∷ [] })
+    ≡ codes "section box 0 v1" ∷ codes "a = 9" ∷ codes "sub box/p v1" ∷ codes "x = 8" ∷ codes "sub box/q v1" ∷ codes "y = 7" ∷ []
+unfolding first digits
+prints_subsections = refl
+
+prints_subsections_that_did_not_come : text subsection_set (record { version = 1; came = None ∷ None ∷ []; numbers = pos 9 ∷ pos 5 ∷ pos 6 ∷ [] })
+    ≡ codes "section box 0 v1" ∷ codes "a = 9" ∷ codes "sub box/p -" ∷ codes "x = 5" ∷ codes "sub box/q -" ∷ codes "y = 6" ∷ []
+unfolding first digits
+prints_subsections_that_did_not_come = refl
+
+-- a number that is not there is printed with its default
+prints_an_absent_number : text tested_set (of_box (pos 0 ∷ pos 0 ∷ [])) ≡ codes "section box 0 v1" ∷ codes "f = 0" ∷ codes "g = 0" ∷ []
+unfolding first digits
+prints_an_absent_number = refl
+
+prints_no_device : values_lines empty_set (Some (codes "lab")) [] ≡ codes "machine lab" ∷ []
+prints_no_device = refl
+
+abbrev mixed : Image
+mixed = record {
+  version = 2;
+  came = Some 2 ∷ [];
+  numbers = pos 2 ∷ pos 1 ∷ pos 515 ∷ pos 9 ∷ pos 4 ∷ pos 5 ∷ pos 9 ∷ pos 0 ∷ pos 0 ∷ pos 9 ∷ pos 1 ∷ pos 1543 ∷ negsuc 0 ∷ pos 8 ∷ pos 1 ∷ [];
+}
+
+prints_structures : text mixed_set mixed ≡ codes "section box 0 v2" ∷ codes "n = 2" ∷ codes "ps[0].x = 1" ∷ codes "ps[0].y = 515" ∷ codes "ps[0].z = 9"
+    ∷ codes "ps[1].x = 4" ∷ codes "ps[1].y = 5" ∷ codes "ps[1].z = 9" ∷ codes "flag = 1" ∷ codes "t = 1543" ∷ codes "w = -1"
+    ∷ codes "sub box/s v2" ∷ codes "a = 8" ∷ codes "b = 1" ∷ []
+unfolding first digits
+prints_structures = refl
+
+prints_the_same_text : text_of (values_lines mixed_set (Some (codes "lab")) (mixed ∷ [])) ≡ values_text mixed_set (Some (codes "lab")) (mixed ∷ [])
+unfolding first digits
+prints_the_same_text = refl

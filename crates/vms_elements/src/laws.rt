@@ -1,0 +1,30 @@
+//! Each law is the contract of a function without a body. The statements stand in `specs/Laws.antt`.
+ghost use Rattle.vms_elements.specs.Laws.{ElementsLaw, DeviceLaw, TextLaw, DistinctLaw, PathLaw};
+
+/// The elements of a description are its cells and its slots: its numbers are its cells, in order, and what stands in the
+/// bytes are its slots.
+pub fn elements_law()
+    ensures { ElementsLaw }
+{}
+
+/// The elements of a device in the state of an image are its cells and the slots of the image.
+pub fn device_law()
+    ensures { DeviceLaw }
+{}
+
+/// The lines of the numbers that are counted, with the lines of sections and subsections, are the values text.
+#[tactic(auto, using(crate::proofs::Stated::text_law))]
+pub fn text_law()
+    ensures { TextLaw }
+{}
+
+/// Distinct paths of a device have distinct cells.
+#[tactic(auto, using(crate::proofs::DevicePaths::distinct_law))]
+pub fn distinct_law()
+    ensures { DistinctLaw }
+{}
+
+/// Each cell of a device has a path, which names a field of its kind and default.
+pub fn path_law()
+    ensures { PathLaw }
+{}
