@@ -60,7 +60,3 @@ abbrev pub whole_sub : Set → ℕ → ℕ → List ℤ → Option ℕ → List 
 whole_sub set i j numbers came =
     let d = (sub_at (device_at set i) j).desc in
     sub_text d.name came ++ desc_lines (printers set) d [] numbers (first_cell set (parts.Sub i j))
-
--- the line of a cell
-abbrev pub field_text : List ℕ → List ℤ → ℕ → List ℕ
-field_text path numbers at = path ++ (codes " = " ++ (signed_decimal (get_or numbers at (pos 0)) ++ line_end))
