@@ -1,28 +1,23 @@
 -- The parts of a printed text.
-use Rattle.std.proofs.Common.{◌≡◌, ℕ, suc, ◌+◌, ◌<◌, ◌≤◌, List, [], ◌∷◌, ◌++◌, length, get_or, drop, map, Option, Result, ℤ, codes, refl, sym, ap, ◌∙◌, subst, arith, append_assoc, append-nil, length-append, length-drop}
+use Rattle.std.proofs.Common.{◌≡◌, ℕ, suc, ◌+◌, ◌<◌, ◌≤◌, List, [], ◌∷◌, ◌++◌, length, get_or, drop, map, Option, Result, codes, refl, sym, ap, ◌∙◌, subst, arith, append_assoc, length-append, length-drop}
 use Rattle.std.proofs.lemmas.List.{drop_more, length-map, get_or-map}
-use Rattle.std.specs.Fmt.{decimal}
 use Rattle.std.specs.Io.KnownBytes.{Appends}
 use Rattle.vms_kinds.specs.declared.Item.{Item}
 use Rattle.vms_kinds.specs.declared.Item.TheVariants.{Num, Equal, Unused, Struct}
 use Rattle.vms_spec.specs.declared.Count.{Count}
 use Rattle.vms_spec.specs.declared.Count.TheVariants.{One, Fixed, Counted}
-use Rattle.vms_spec.specs.Sets.{Field, Sub, Device, Set}
+use Rattle.vms_spec.specs.Sets.{Field, Device, Set}
 use Rattle.std.specs.List.{flat_map}
-use Rattle.vms_io.specs.Causes.{AppendsPrefix}
 use Rattle.vms_parts.specs.declared.types.Field.{Field as CodeField}
-use Rattle.vms_parts.specs.declared.types.Device.{Device as CodeDevice}
 use Rattle.vms_desc.specs.Described.{device_at}
-use Rattle.vms_spec.specs.Layout.{Cell, no_desc, first, field_cells, cells_from, desc_cells, struct_cells, device_cells}
-use Rattle.vms_spec.specs.Images.{Image, own_cells}
-use Rattle.vms_spec.specs.Values.{Printer, printer, printers, line_end, field_lines, desc_lines, sub_lines, device_lines, devices_lines}
-use Rattle.vms_parts.specs.Views.{set_of, desc_of, field_of, device_of}
-use Rattle.vms_parts.specs.declared.types.Parts.{Parts}
+use Rattle.vms_spec.specs.Layout.{Cell, no_desc, field_cells, cells_from, desc_cells, struct_cells, device_cells}
+use Rattle.vms_spec.specs.Images.{Image}
+use Rattle.vms_spec.specs.Values.{device_lines, devices_lines}
+use Rattle.vms_parts.specs.Views.{field_of}
 use Rattle.vms_values.specs.Written.{Writes}
-use Rattle.vms_values.specs.Plain.{ArePlain, IsPlainField, IsPlainDevice, IsNumber, IsOne}
-use Rattle.vms_values.specs.Printing.{IsOf, AreOf, section_text, field_text}
-use Rattle.vms_values.specs.Tables.{printers_in}
-use Rattle.vms_values.proofs.Writing.{writes_more, prefix_front}
+use Rattle.vms_values.specs.Plain.{ArePlain, IsPlainDevice, IsNumber, IsOne}
+use Rattle.vms_values.specs.Printing.{IsOf, AreOf}
+use Rattle.vms_values.proofs.Writing.{writes_more}
 
 pub element_text : {T E : Type 0} (old mid new : Option (List ℕ)) (path digits piece : List ℕ) (result : Result T E) → Appends old mid path → piece ≡ digits
     → Writes mid new (codes "[" ++ (piece ++ (codes "]" ++ []))) result → Writes old new (path ++ codes "[" ++ digits ++ codes "]") result
