@@ -12,9 +12,9 @@ use Rattle.vms_spec.specs.declared.Count.{Count}
 use Rattle.vms_spec.specs.declared.Count.TheVariants.{One, Fixed, Counted}
 use Rattle.vms_spec.specs.declared.Part.{Part}
 use Rattle.vms_spec.specs.declared.Part.TheVariants as parts
-use Rattle.vms_spec.specs.Sets.{Field, Desc, Set}
+use Rattle.vms_spec.specs.Sets.{Field, Set}
 use Rattle.vms_spec.specs.Rules.{uses_below}
-use Rattle.vms_spec.specs.Layout.{Cell, no_desc, no_field, first, counted, capacity_of, item_size, field_cells, desc_cells, struct_cells, numbers_of, no_parent}
+use Rattle.vms_spec.specs.Layout.{Cell, no_desc, first, counted, capacity_of, item_size, field_cells, desc_cells, numbers_of, no_parent}
 use Rattle.vms_spec.specs.Places.{own_cell_count}
 use Rattle.vms_spec.proofs.Sizes.{field_size}
 use Rattle.vms_desc.specs.Asks.{field_at}
@@ -25,8 +25,8 @@ use Rattle.vms_walk.specs.Steps.{size_in}
 use Rattle.vms_walk.proofs.Ranks.{item_rank, part_rank, reach_whole, uses_more, rank_below}
 use Rattle.vms_walk.proofs.Spots.{cells_table, struct_size}
 use Rattle.vms_walk.proofs.Walking.{fields_at}
-use Rattle.vms_elements.specs.Elements.{Element, Shape, no_shape, shape, shapes, cells_in, dotted, item_elements, Stand, stand_of, array_elements, field_elements, elements_from, desc_elements, index_text}
-use Rattle.vms_elements.specs.Parts.{names_of, cells_of}
+use Rattle.vms_elements.specs.Elements.{Shape, no_shape, shape, shapes, cells_in, dotted, item_elements, stand_of, field_elements, elements_from, desc_elements, index_text}
+use Rattle.vms_elements.specs.Parts.{names_of}
 use Rattle.vms_elements.proofs.Tables.{first_at, shapes_cells}
 use Rattle.vms_elements.proofs.CellsOf.{AreShapes, are_shapes, item_has, field_has, desc_has}
 use Rattle.vms_elements.proofs.Names.{SameNames, same_names, names_append, names_long, names_dotted, item_names as item_same, fields_names, desc_names, desc_names_are, array_name}
@@ -49,7 +49,6 @@ fewer q n size r left e lt = by_test (nat_lt q n) refl
         absurd (omega (arith, ap (λ (k : ℕ). k * size) is, product, e, lt))
 
 module _ (set : Set) where
-
   -- the table of a part is one of the first tables
   usable_is : (part : Part) → HasPart set part → usable set part ≡ first shape set.structs (reach set part)
   usable_is parts.Set h = absurd h
@@ -232,6 +231,7 @@ module _ (set : Set) where
     where
       brackets : (a b c d e f : List ℕ) → ((((a ++ b) ++ c) ++ d) ++ e) ++ f ≡ a ++ ((b ++ (c ++ (d ++ e))) ++ f)
       brackets a b c d e f = simp append_assoc refl
+
       index_is : (c : Count) → (c ≡ One → ⊥) → (e : ℕ) → index_text c e ≡ codes "[" ++ (decimal e ++ codes "]")
       index_is One other e = absurd (other refl)
       index_is (Fixed n) other e = refl

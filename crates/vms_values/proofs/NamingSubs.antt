@@ -1,5 +1,5 @@
 -- Names from cells: a device's own fields, and its subsections one after the other.
-use Rattle.std.proofs.Common.{◌≡◌, ℕ, zero, suc, ◌+◌, ◌-◌, ◌<◌, ◌≤◌, List, [], ◌∷◌, ◌++◌, length, get_or, drop, map, ℤ, Option, Some, None, refl, sym, ap, ◌∙◌, subst, arith, true, length-append}
+use Rattle.std.proofs.Common.{◌≡◌, ℕ, suc, ◌+◌, ◌-◌, ◌<◌, ◌≤◌, List, [], ◌∷◌, ◌++◌, length, get_or, drop, map, ℤ, None, refl, sym, ap, ◌∙◌, arith, true, length-append}
 use Rattle.std.specs.List.{flat_map}
 use Rattle.std.proofs.lemmas.List.{drop_more, drop_all, get_or_append_left}
 use Rattle.std.proofs.Math.Seq.{get_or-append_right}
@@ -12,11 +12,10 @@ use Rattle.vms_desc.specs.Described.{device_at}
 use Rattle.vms_desc.specs.Formed.{is_well_formed}
 use Rattle.vms_desc.specs.Parts.{sub_at}
 use Rattle.vms_desc.proofs.AskLaws.{sub_inside, own_inside_device, few_cells}
-use Rattle.vms_elements.specs.Elements.{Element, shape, shapes, desc_elements}
-use Rattle.vms_elements.specs.Parts.{absent, numbers_in, names_of, elements_in, sub_elements, subs_elements, device_elements, cell_name}
+use Rattle.vms_elements.specs.Elements.{shapes}
+use Rattle.vms_elements.specs.Parts.{absent, names_of, elements_in, subs_elements, cell_name}
 use Rattle.vms_elements.proofs.Names.{names_append, same_names, desc_names, names_absent}
-use Rattle.vms_values.specs.Naming.{part_names, IsInPart}
-use Rattle.vms_values.specs.declared.name.Own.{Own}
+use Rattle.vms_values.specs.Naming.{IsInPart}
 use Rattle.vms_values.proofs.Naming.{part_long}
 
 -- the names of one description, whatever the state
@@ -62,11 +61,11 @@ module _ (set : Set) (well : is_well_formed set ≡ true) (i : ℕ) (lt : i < le
   -- in the device's own fields
   pub in_own : (c : ℕ) → c < own_cell_count set (device_at set i).desc → IsInPart set i c (record { part = parts.Device i; cell = c })
   in_own c small = record {
-      part = lt;
-      small = omega (arith, own_inside_device set i, few_cells set well i);
-      inside = small;
-      same = sym (device_names set (device_at set i) c ∙ get_or_append_left (desc_names_of set (device_at set i).desc) (names_of_subs set i 0) [] c (omega (arith, own_long, small)));
-    }
+    part = lt;
+    small = omega (arith, own_inside_device set i, few_cells set well i);
+    inside = small;
+    same = sym (device_names set (device_at set i) c ∙ get_or_append_left (desc_names_of set (device_at set i).desc) (names_of_subs set i 0) [] c (omega (arith, own_long, small)));
+  }
 
   pub past_own : (c : ℕ) → own_cell_count set (device_at set i).desc ≤ c
       → cell_name set (device_at set i) c ≡ get_or (names_of_subs set i 0) (c - own_cell_count set (device_at set i).desc) []
@@ -82,12 +81,12 @@ module _ (set : Set) (well : is_well_formed set ≡ true) (i : ℕ) (lt : i < le
   pub in_sub : (c j left : ℕ) → j < length (device_at set i).subs → left < own_cell_count set (sub_at (device_at set i) j).desc
       → cell_name set (device_at set i) c ≡ get_or (names_of_subs set i j) left [] → IsInPart set i c (record { part = parts.Sub i j; cell = left })
   in_sub c j left lt' small same = record {
-      part = (lt, lt');
-      small = omega (arith, sub_inside set i j lt', few_cells set well i);
-      inside = small;
-      same = sym (same ∙ ap (λ (l : List (List ℕ)). get_or l left []) (split j lt')
-          ∙ get_or_append_left (desc_names_of set (sub_at (device_at set i) j).desc) (names_of_subs set i (j + 1)) [] left (omega (arith, sub_long j lt', small)));
-    }
+    part = (lt, lt');
+    small = omega (arith, sub_inside set i j lt', few_cells set well i);
+    inside = small;
+    same = sym (same ∙ ap (λ (l : List (List ℕ)). get_or l left []) (split j lt')
+        ∙ get_or_append_left (desc_names_of set (sub_at (device_at set i) j).desc) (names_of_subs set i (j + 1)) [] left (omega (arith, sub_long j lt', small)));
+  }
 
   pub past_sub : (j left : ℕ) → j < length (device_at set i).subs → own_cell_count set (sub_at (device_at set i) j).desc ≤ left
       → get_or (names_of_subs set i j) left [] ≡ get_or (names_of_subs set i (j + 1)) (left - own_cell_count set (sub_at (device_at set i) j).desc) []

@@ -1,10 +1,10 @@
 -- The lines of subsections, one after the other, and of a whole device.
-use Rattle.std.proofs.Common.{◌≡◌, ℕ, ◌+◌, ◌<◌, List, [], ◌∷◌, ◌++◌, length, get_or, drop, Option, Some, None, ℤ, refl, sym, ap, ◌∙◌, arith, append_assoc, codes, true}
+use Rattle.std.proofs.Common.{◌≡◌, ℕ, ◌+◌, ◌<◌, List, [], ◌∷◌, ◌++◌, length, get_or, drop, Option, None, ℤ, refl, sym, ap, ◌∙◌, arith, append_assoc, codes, true}
 use Rattle.std.proofs.lemmas.List.{drop_more, drop_all}
 use Rattle.std.specs.Fmt.{decimal}
 use Rattle.vms_spec.specs.declared.Part.TheVariants as parts
 use Rattle.vms_spec.specs.Sets.{Set, Device, Sub, AtLeast}
-use Rattle.vms_spec.specs.Layout.{no_desc, desc_cells, struct_cells, device_cells}
+use Rattle.vms_spec.specs.Layout.{no_desc, desc_cells, struct_cells}
 use Rattle.vms_spec.specs.Images.{Image, own_cells, sub_place}
 use Rattle.vms_spec.specs.Values.{printers, line_end, version_text, desc_lines, sub_lines, device_lines}
 use Rattle.vms_desc.specs.Asks.{first_cell}
@@ -12,9 +12,8 @@ use Rattle.vms_desc.specs.Described.{device_at}
 use Rattle.vms_desc.specs.Formed.{is_well_formed}
 use Rattle.vms_desc.specs.Parts.{sub_at}
 use Rattle.vms_desc.proofs.AskLaws.{sub_next, sub_inside, own_inside_device, few_cells}
-use Rattle.vms_walk.specs.declared.fields.Spot.{Spot}
 use Rattle.vms_walk.specs.Steps.{HasSpot}
-use Rattle.vms_values.specs.Printing.{IsOf, section_text, sub_text, whole_sub}
+use Rattle.vms_values.specs.Printing.{IsOf, section_text, whole_sub}
 
 five : (a b c d e g h : List ℕ) → a ++ (b ++ (c ++ (d ++ (e ++ g)))) ++ h ≡ (a ++ (b ++ (c ++ (d ++ e)))) ++ g ++ h
 five a b c d e g h = simp append_assoc refl
@@ -46,7 +45,7 @@ pub device_is : (set : Set) (d : Device) (image : Image)
     → (section_text d image.version ++ desc_lines (printers set) d.desc [] image.numbers 0) ++ sub_lines set image.numbers (own_cells set d) d.subs image.came ≡ device_lines set d image
 device_is set d image =
     seven (codes "section ") d.desc.name (codes " ") (decimal d.instance) (codes " v") (decimal image.version) line_end (desc_lines (printers set) d.desc [] image.numbers 0)
-        (sub_lines set image.numbers (own_cells set d) d.subs image.came)
+    (sub_lines set image.numbers (own_cells set d) d.subs image.came)
 
 -- the cells of a device and of its subsections are among the numbers of its image
 module _ (set : Set) (well : is_well_formed set ≡ true) (i : ℕ) (image : Image) (of : IsOf set (device_at set i) image) where

@@ -1,7 +1,7 @@
 -- What is printed, and of which images.
-use Rattle.std.specs.Prelude.{◌≡◌, ℕ, ◌+◌, ◌*◌, ◌<◌, ◌≤◌, ◌^◌, true, map, List, [], ◌∷◌, ◌++◌, length, get_or, Option, ℤ, pos, codes}
+use Rattle.std.specs.Prelude.{◌≡◌, ℕ, ◌+◌, ◌*◌, ◌<◌, ◌≤◌, ◌^◌, true, map, List, [], ◌∷◌, ◌++◌, length, get_or, Option, ℤ, codes}
 use Rattle.std.specs.Option.{option_map}
-use Rattle.std.specs.Fmt.{decimal, signed_decimal}
+use Rattle.std.specs.Fmt.{decimal}
 use Rattle.vms_spec.specs.declared.Count.{Count}
 use Rattle.vms_spec.specs.declared.Count.TheVariants.{One}
 use Rattle.vms_spec.specs.Sets.{Field, Device, Set}
@@ -60,7 +60,3 @@ abbrev pub whole_sub : Set → ℕ → ℕ → List ℤ → Option ℕ → List 
 whole_sub set i j numbers came =
     let d = (sub_at (device_at set i) j).desc in
     sub_text d.name came ++ desc_lines (printers set) d [] numbers (first_cell set (parts.Sub i j))
-
--- the line of a cell
-abbrev pub field_text : List ℕ → List ℤ → ℕ → List ℕ
-field_text path numbers at = path ++ (codes " = " ++ (signed_decimal (get_or numbers at (pos 0)) ++ line_end))

@@ -1,10 +1,9 @@
-use Rattle.std.proofs.Common.{rules, arith, ◌≡◌, ◌+◌, ◌*◌, ◌-◌, ◌%◌, ◌<◌, ◌≤◌, true, List, [], ◌++◌, ℕ, length, get_or, map, drop, codes, append_assoc, refl, sym, ap, ◌∙◌, subst}
+use Rattle.std.proofs.Common.{rules, arith, ◌≡◌, ◌+◌, ◌*◌, ◌-◌, ◌%◌, ◌<◌, ◌≤◌, true, List, [], ◌++◌, ℕ, length, get_or, map, codes, append_assoc, refl, sym, ap, ◌∙◌, subst}
 use Rattle.std.proofs.lemmas.Bool.{ltb-true}
 use Rattle.vms_kinds.specs.declared.Item.{Item}
 use Rattle.vms_spec.specs.declared.Part.TheVariants as parts
 use Rattle.vms_spec.specs.Sets.{Field, Desc}
-use Rattle.vms_spec.specs.Layout.{capacity_of, item_size, struct_cells}
-use Rattle.vms_parts.specs.Sizes.{in_u32}
+use Rattle.vms_spec.specs.Layout.{capacity_of}
 use Rattle.vms_parts.specs.Views.{field_of}
 use Rattle.vms_desc.specs.Asks.{field_at}
 use Rattle.vms_desc.specs.Described.{described}
@@ -19,7 +18,7 @@ use Rattle.std.proofs.Math.Nat.{mod-lt}
 use Rattle.vms_values.specs.Paths.{path_text}
 use Rattle.vms_values.specs.Naming.{part_names, item_names, field_name}
 use Rattle.vms_values.proofs.PrintLemmas.{same_text}
-use Rattle.vms_values.proofs.Naming.{next_names, all_names, no_names, names_from, part_long, struct_name, plain_name, positive, single_is, element_is}
+use Rattle.vms_values.proofs.Naming.{next_names, all_names, names_from, part_long, struct_name, positive, single_is, element_is}
 use Rattle.vms_values.proofs.name.+name.Goals as goal
 
 -- ---- an element of a field

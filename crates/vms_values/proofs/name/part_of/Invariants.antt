@@ -1,4 +1,4 @@
-use Rattle.std.proofs.Common.{◌≡◌, ◌<◌, ◌≤◌, [], length, get_or}
+use Rattle.std.proofs.Common.{◌≡◌, ◌<◌, [], length, get_or}
 use Rattle.vms_desc.specs.Described.{described, device_at}
 use Rattle.vms_elements.specs.Parts.{cell_name}
 use Rattle.vms_values.proofs.NamingSubs.{names_of_subs}

@@ -1,13 +1,10 @@
-use Rattle.std.proofs.Common.{◌≡◌, ap, subst}
-use Rattle.std.proofs.lemmas.Result.{err_from_is_err_and}
+use Rattle.std.proofs.Common.{ap, subst}
 use Rattle.std.specs.Io.KnownBytes.{Appends}
-use Rattle.vms_io.specs.Causes.{AppendsPrefix}
 use Rattle.vms_spec.specs.Sets.{Set}
 use Rattle.vms_spec.specs.Values.{machine_line, devices_lines}
 use Rattle.vms_desc.specs.Described.{described}
-use Rattle.vms_parts.specs.Views.{set_of}
 use Rattle.vms_values.specs.Printing.{machine_of}
-use Rattle.vms_values.proofs.Writing.{prefix_front, writes_more}
+use Rattle.vms_values.proofs.Writing.{writes_more}
 use Rattle.vms_values.proofs.print.print_all.Goals as goal
 
 pub returns-clause-written : goal.returns-clause-written
