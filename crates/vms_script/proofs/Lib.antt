@@ -1,3 +1,6 @@
+pub mod DigitLemmas
+pub mod GrammarLemmas
+pub mod GrammarOnly
 pub mod NameLemmas
 pub mod NumberLemmas
 pub mod Rows

@@ -1,9 +1,9 @@
 -- Worked scripts: what they say, and the first bad line with its reason.
-use Rattle.std.proofs.Common.{◌≡◌, ℕ, ◌++◌, List, [], ◌∷◌, Option, Some, None, Result, Ok, Err, true, false, refl}
+use Rattle.std.proofs.Common.{◌≡◌, ◌++◌, [], ◌∷◌, Some, None, Ok, Err, true, false, refl}
 use Rattle.std.specs.Prelude.{codes}
 use Rattle.dev_board.specs.declared.event.Event.TheVariants as events
-use Rattle.vms_script.specs.Lines.{ScriptLine, Happens, Saves, Restores, Read, line_read}
-use Rattle.vms_script.specs.Script.{Reading, bad, script_read}
+use Rattle.vms_script.specs.Lines.{Happens, Saves, Restores, line_read}
+use Rattle.vms_script.specs.Script.{bad, script_read}
 use Rattle.vms_script.specs.declared.line.ScriptReason.TheVariants as reasons
 
 -- ---- whole scripts

@@ -3,6 +3,7 @@
 
 mod event;
 mod hex;
+mod laws;
 mod line;
 mod name;
 mod number;
@@ -11,6 +12,7 @@ mod session;
 mod split;
 mod trace;
 
+pub use laws::grammar_law;
 pub use line::{Line, ScriptFault, ScriptReason};
 pub use name::is_shelf_name;
 pub use number::LONGEST_WAIT;

@@ -1,0 +1,179 @@
+-- Hexadecimal digits, spelled and read.
+use Rattle.std.proofs.Common.{◌≡◌, ℕ, ◌+◌, ◌-◌, ◌*◌, ◌/◌, ◌%◌, ◌<◌, ◌≤◌, Bool, true, false, not, ◌&&◌, ◌==◌, nat_le, nat_lt, cond, List, [], ◌∷◌, ◌++◌, Option, Some, None, if◌then◌else◌, refl, sym, ap, ◌∙◌, arith}
+use Rattle.std.proofs.lemmas.Bool.{ne_eqb, le-leb, lt-leb, leb-true, and_parts, ltb-true, ltb-false}
+use Rattle.std.proofs.lemmas.Bool.Decides.{nat_tests}
+use Rattle.std.specs.Char.{digit_char}
+use Rattle.vms_spec.specs.Lists.{every}
+use Rattle.vms_spec.specs.Spelling.{is_digit}
+use Rattle.vms_script.specs.Grammar.{port_text}
+use Rattle.vms_script.specs.Words.{digit_spelled, joined, byte_spelled, port_spelled, byte_text}
+
+-- ---- from a value to its digit and back
+
+low_char : (d : ℕ) → d < 10 → digit_char d ≡ 48 + d
+low_char d h = ap (λ (t : Bool). cond t (48 + d) (87 + d)) (is_lt d h) where
+  is_lt : (d : ℕ) → d < 10 → nat_lt d 10 ≡ true
+  is_lt d h = grind (arith, nat_tests)
+
+high_char : (d : ℕ) → 10 ≤ d → digit_char d ≡ 87 + d
+high_char d h = ap (λ (t : Bool). cond t (48 + d) (87 + d)) (not_lt d h) where
+  not_lt : (d : ℕ) → 10 ≤ d → nat_lt d 10 ≡ false
+  not_lt d h = grind (arith, nat_tests)
+
+abbrev spelled_by : Bool → Bool → ℕ → Option ℕ
+spelled_by low high b = if low then Some (b - 48) else if high then Some (b - 87) else None
+
+digit_low : (b : ℕ) → 48 ≤ b → b ≤ 57 → digit_spelled b ≡ Some (b - 48)
+digit_low b h i =
+    let low : is_digit b ≡ true = rw (le-leb 48 b h, le-leb b 57 i) refl in
+    ap (λ (t : Bool). spelled_by t (nat_le 97 b && nat_le b 102) b) low
+
+digit_high : (b : ℕ) → 97 ≤ b → b ≤ 102 → digit_spelled b ≡ Some (b - 87)
+digit_high b h i =
+    let low : is_digit b ≡ false = rw (le-leb 48 b (omega (arith, h)), lt-leb b 57 (omega (arith, h))) refl in
+    let high : (nat_le 97 b && nat_le b 102) ≡ true = rw (le-leb 97 b h, le-leb b 102 i) refl in
+    ap (λ (t : Bool). spelled_by t (nat_le 97 b && nat_le b 102) b) low ∙ ap (λ (t : Bool). spelled_by false t b) high
+
+pub digit_back : (d : ℕ) → d < 16 → digit_spelled (digit_char d) ≡ Some d
+digit_back d h = by (nat_lt d 10) refl where
+  by : (t : Bool) → nat_lt d 10 ≡ t → digit_spelled (digit_char d) ≡ Some d
+  by true e =
+      let lt : d < 10 = ltb-true d 10 e in
+      let same : 48 + d - 48 ≡ d = omega arith in
+      ap digit_spelled (low_char d lt) ∙ digit_low (48 + d) (omega arith) (omega (arith, lt)) ∙ ap (λ (n : ℕ). Some n) same
+  by false e =
+      let le : 10 ≤ d = ltb-false d 10 e in
+      let same : 87 + d - 87 ≡ d = omega arith in
+      ap digit_spelled (high_char d le) ∙ digit_high (87 + d) (omega (arith, le)) (omega (arith, h)) ∙ ap (λ (n : ℕ). Some n) same
+
+-- a digit that is read
+pub record IsDigitOf (b d : ℕ) : Type 0 where
+  pub small : d < 16
+  pub char : b ≡ digit_char d
+
+some_same : (m n : ℕ) → Some m ≡ Some n → n ≡ m
+some_same m n e = cc
+
+pub digit_is : (b d : ℕ) → digit_spelled b ≡ Some d → IsDigitOf b d
+digit_is b d e = by (is_digit b) (nat_le 97 b && nat_le b 102) refl refl where
+  by : (l h : Bool) → is_digit b ≡ l → (nat_le 97 b && nat_le b 102) ≡ h → IsDigitOf b d
+  by true h p q =
+      let parts = and_parts (nat_le 48 b) (nat_le b 57) p in
+      let from : 48 ≤ b = leb-true 48 b parts.0 in
+      let to : b ≤ 57 = leb-true b 57 parts.1 in
+      let is : d ≡ b - 48 = some_same (b - 48) d (sym (digit_low b from to) ∙ e) in
+      record {
+        small = omega (arith, is, to);
+        char = let same : b ≡ 48 + d = omega (arith, is, from) in same ∙ sym (low_char d (omega (arith, is, to)));
+      }
+  by false true p q =
+      let parts = and_parts (nat_le 97 b) (nat_le b 102) q in
+      let from : 97 ≤ b = leb-true 97 b parts.0 in
+      let to : b ≤ 102 = leb-true b 102 parts.1 in
+      let is : d ≡ b - 87 = some_same (b - 87) d (sym (digit_high b from to) ∙ e) in
+      record {
+        small = omega (arith, is, to);
+        char = let same : b ≡ 87 + d = omega (arith, is, from) in same ∙ sym (high_char d (omega (arith, is, from)));
+      }
+  by false false p q =
+      let none : None ≡ Some d = sym (ap (λ (t : Bool). spelled_by t (nat_le 97 b && nat_le b 102) b) p ∙ ap (λ (t : Bool). spelled_by false t b) q) ∙ e in cc
+
+-- ---- bytes and ports
+
+pub byte_back : (v : ℕ) → v < 256 → byte_spelled (byte_text v) ≡ Some v
+byte_back v h =
+    let whole : v / 16 * 16 + v % 16 ≡ v = omega arith in
+    ap (λ (o : Option ℕ). joined 16 o (digit_spelled (digit_char (v % 16)))) (digit_back (v / 16) (omega (arith, h)))
+    ∙ ap (joined 16 (Some (v / 16))) (digit_back (v % 16) (omega arith)) ∙ ap (λ (n : ℕ). Some n) whole
+
+pub port_back : (p : ℕ) → p < 65536 → port_spelled (port_text p) ≡ Some p
+port_back p h =
+    let whole : p / 256 * 256 + p % 256 ≡ p = omega arith in
+    ap (λ (o : Option ℕ). joined 256 o (byte_spelled (byte_text (p % 256)))) (byte_back (p / 256) (omega (arith, h)))
+    ∙ ap (joined 256 (Some (p / 256))) (byte_back (p % 256) (omega arith)) ∙ ap (λ (n : ℕ). Some n) whole
+
+pub record Joins (base : ℕ) (high low : Option ℕ) (v : ℕ) : Type 0 where
+  pub a : ℕ
+  pub b : ℕ
+  pub first : high ≡ Some a
+  pub second : low ≡ Some b
+  pub value : v ≡ a * base + b
+
+joins : (base : ℕ) (high low : Option ℕ) (v : ℕ) → joined base high low ≡ Some v → Joins base high low v
+joins base None low v e = cc
+joins base (Some a) None v e = cc
+joins base (Some a) (Some b) v e = record { a = a; b = b; first = refl; second = refl; value = some_same (a * base + b) v e }
+
+-- a text of a byte and of a port that are read
+pub record IsByteOf (text : List ℕ) (v : ℕ) : Type 0 where
+  pub small : v < 256
+  pub text_is : text ≡ byte_text v
+
+pub byte_is : (text : List ℕ) (v : ℕ) → byte_spelled text ≡ Some v → IsByteOf text v
+byte_is [] v e = cc
+byte_is (a ∷ []) v e = cc
+byte_is (a ∷ b ∷ []) v e =
+    let j = joins 16 (digit_spelled a) (digit_spelled b) v e in
+    let x = digit_is a j.a j.first in
+    let y = digit_is b j.b j.second in
+    let high : v / 16 ≡ j.a = omega (arith, j.value, y.small) in
+    let low : v % 16 ≡ j.b = omega (arith, j.value, y.small) in
+    record {
+      small = omega (arith, j.value, x.small, y.small);
+      text_is = ap (λ (c : ℕ). c ∷ b ∷ []) (x.char ∙ ap digit_char (sym high)) ∙ ap (λ (c : ℕ). digit_char (v / 16) ∷ c ∷ []) (y.char ∙ ap digit_char (sym low));
+    }
+byte_is (a ∷ b ∷ c ∷ text) v e = cc
+
+pub record IsPortOf (text : List ℕ) (p : ℕ) : Type 0 where
+  pub small : p < 65536
+  pub text_is : text ≡ port_text p
+
+pub port_is : (text : List ℕ) (p : ℕ) → port_spelled text ≡ Some p → IsPortOf text p
+port_is [] p e = cc
+port_is (a ∷ []) p e = cc
+port_is (a ∷ b ∷ []) p e = cc
+port_is (a ∷ b ∷ c ∷ []) p e = cc
+port_is (a ∷ b ∷ c ∷ d ∷ []) p e =
+    let j = joins 256 (byte_spelled (a ∷ b ∷ [])) (byte_spelled (c ∷ d ∷ [])) p e in
+    let x = byte_is (a ∷ b ∷ []) j.a j.first in
+    let y = byte_is (c ∷ d ∷ []) j.b j.second in
+    let high : p / 256 ≡ j.a = omega (arith, j.value, y.small) in
+    let low : p % 256 ≡ j.b = omega (arith, j.value, y.small) in
+    record {
+      small = omega (arith, j.value, x.small, y.small);
+      text_is = ap (λ (t : List ℕ). t ++ c ∷ d ∷ []) (x.text_is ∙ ap byte_text (sym high)) ∙ ap (λ (t : List ℕ). byte_text (p / 256) ++ t) (y.text_is ∙ ap byte_text (sym low));
+    }
+port_is (a ∷ b ∷ c ∷ d ∷ f ∷ text) p e = cc
+
+-- ---- digits are neither blanks nor line feeds
+
+abbrev pub lacks : ℕ → List ℕ → Bool
+lacks byte text = every (λ b. not (b == byte)) text
+
+char_up : (d : ℕ) → 48 ≤ digit_char d
+char_up d = by (nat_lt d 10) refl where
+  by : (t : Bool) → nat_lt d 10 ≡ t → 48 ≤ digit_char d
+  by true e = let same = low_char d (ltb-true d 10 e) in omega (arith, same)
+  by false e = let same = high_char d (ltb-false d 10 e) in omega (arith, same)
+
+other : (b byte : ℕ) → byte < 48 → 48 ≤ b → not (b == byte) ≡ true
+other b byte h i = ap not (ne_eqb b byte (λ e. omega (arith, e, h, i)))
+
+pub byte_lacks : (byte v : ℕ) → byte < 48 → lacks byte (byte_text v) ≡ true
+byte_lacks byte v h = rw (other (digit_char (v / 16)) byte h (char_up (v / 16)), other (digit_char (v % 16)) byte h (char_up (v % 16))) refl
+
+pub lacks-append : (byte : ℕ) (xs ys : List ℕ) → lacks byte xs ≡ true → lacks byte ys ≡ true → lacks byte (xs ++ ys) ≡ true
+lacks-append byte [] ys h i = i
+lacks-append byte (x ∷ xs) ys h i =
+    let parts = and_parts (not (x == byte)) (lacks byte xs) h in
+    rw (parts.0, lacks-append byte xs ys parts.1 i) refl
+
+pub port_lacks : (byte p : ℕ) → byte < 48 → lacks byte (port_text p) ≡ true
+port_lacks byte p h = lacks-append byte (byte_text (p / 256)) (byte_text (p % 256)) (byte_lacks byte (p / 256) h) (byte_lacks byte (p % 256) h)
+
+pub digits_lack : (byte : ℕ) (text : List ℕ) → byte < 48 → every is_digit text ≡ true → lacks byte text ≡ true
+digits_lack byte [] h e = refl
+digits_lack byte (b ∷ text) h e =
+    let parts = and_parts (is_digit b) (every is_digit text) e in
+    let up : 48 ≤ b = leb-true 48 b (and_parts (nat_le 48 b) (nat_le b 57) parts.0).0 in
+    rw (other b byte h up, digits_lack byte text h parts.1) refl
