@@ -16,7 +16,7 @@ use Rattle.vms_spec.specs.Layout.{Cell, no_desc, no_parent, first, item_size, ca
 use Rattle.vms_spec.specs.WellFormed.{item_count, items_in, item_depth, deepest}
 use Rattle.vms_spec.proofs.Sizes.{elements_fit}
 use Rattle.vms_parts.proofs.Tables.{first_at, first_long}
-use Rattle.vms_selfdesc.specs.Entries.{Entry, Lister, no_lister, kind_word, sent_entry, sent_only, item_entries, element_path, element_entries, array_entries, field_entries, entries_from, desc_entries}
+use Rattle.vms_selfdesc.specs.Entries.{Entry, Lister, no_lister, kind_word, sent_entry, listed_if, item_entries, element_path, element_entries, array_entries, field_entries, entries_from, desc_entries}
 use Rattle.vms_selfdesc.specs.Tree.{entry_tree}
 use Rattle.vms_selfdesc.proofs.Plain.{IsPlain, IsShort, plain_append, element_plain, element_long, dot_plain}
 use Rattle.vms_selfdesc.proofs.EntryLong.{sent_long, absent_long, word_short, width_short, equal_short, unused_short}
@@ -65,13 +65,13 @@ pub record Fits (l : Lister) (items depth : ℕ) : Type 0 where
 abbrev pub FitTables : List Lister → List ℕ → List ℕ → Type 0
 FitTables ls sizes depths = (j : ℕ) → Fits (get_or ls j no_lister) (get_or sizes j 0) (get_or depths j 0)
 
-sent_few : (sent : Bool) (e : Entry) → length (sent_only sent e) ≤ 1
+sent_few : (sent : Bool) (e : Entry) → length (listed_if sent e) ≤ 1
 sent_few true e = omega arith
 sent_few false e = omega arith
 
-sent_only_long : (most : ℕ) (sent : Bool) (e : Entry) → length (compact_text (entry_tree e)) ≤ most → AreLong most (sent_only sent e)
-sent_only_long most true e le = (le, tt)
-sent_only_long most false e le = tt
+listed_if_long : (most : ℕ) (sent : Bool) (e : Entry) → length (compact_text (entry_tree e)) ≤ most → AreLong most (listed_if sent e)
+listed_if_long most true e le = (le, tt)
+listed_if_long most false e le = tt
 
 module _ (ls : List Lister) (sizes depths : List ℕ) (fit : FitTables ls sizes depths) where
   -- ---- one element
@@ -86,8 +86,8 @@ module _ (ls : List Lister) (sizes depths : List ℕ) (fit : FitTables ls sizes 
       → AreLong (length path + 40 * item_depth depths item + 68) (item_entries ls item z sent path n at)
   item_long (Num kind) z true path n at p small few = (omega (arith, sent_long path (width kind) (kind_word kind) p (width_short kind) (word_short kind)), tt)
   item_long (Num kind) z false path n at p small few = (omega (arith, absent_long path (kind_word kind) z p (word_short kind) small), tt)
-  item_long (Equal kind y) z sent path n at p small few = sent_only_long _ sent _ (omega (arith, sent_long path (width kind) (codes "equal") p (width_short kind) equal_short))
-  item_long (Unused k) z sent path n at p small few = sent_only_long _ sent _ (omega (arith, sent_long path k (codes "unused") p small unused_short))
+  item_long (Equal kind y) z sent path n at p small few = listed_if_long _ sent _ (omega (arith, sent_long path (width kind) (codes "equal") p (width_short kind) equal_short))
+  item_long (Unused k) z sent path n at p small few = listed_if_long _ sent _ (omega (arith, sent_long path k (codes "unused") p small unused_short))
   item_long (Struct j) z sent path n at p small few =
       let e = (fit j).long sent (path ++ 46 ∷ []) n at (dot_plain path p) few in
       longer _ _ _ (omega (arith, length-append path (46 ∷ []))) e

@@ -1,13 +1,14 @@
 -- A structure has the same cells and entries in each table that reaches it.
-use Rattle.std.proofs.Common.{◌≡◌, ℕ, suc, ◌+◌, ◌*◌, ◌<◌, List, [], ◌∷◌, ◌++◌, length, get_or, ℤ, refl, sym, ap, ◌∙◌, arith, Bool, true, ◌&&◌}
+use Rattle.std.proofs.Common.{◌≡◌, ℕ, zero, suc, ◌+◌, ◌*◌, ◌<◌, List, [], ◌∷◌, ◌++◌, length, get_or, ℤ, pos, refl, sym, ap, ◌∙◌, arith, Bool, true, ◌&&◌}
 use mathlib.Core.Path.{fun_ext}
 use Rattle.std.proofs.lemmas.Bool.{ltb-true}
 use Rattle.vms_kinds.specs.declared.Item.{Item}
 use Rattle.vms_kinds.specs.declared.Item.TheVariants.{Num, Equal, Unused, Struct}
-use Rattle.vms_spec.specs.Sets.{Field, Set}
+use Rattle.vms_kinds.specs.Codes.{width, residue}
+use Rattle.vms_spec.specs.Sets.{Field, Desc, Set}
 use Rattle.vms_spec.specs.Rules.{uses_below}
 use Rattle.vms_spec.specs.Tests.{is_there}
-use Rattle.vms_spec.specs.Layout.{Cell, no_desc, no_field, no_parent, first, times, item_cells, item_size, field_cells, cells_from, desc_cells, struct_cells, capacity_of, counted, elements_of, numbers_of}
+use Rattle.vms_spec.specs.Layout.{Cell, no_desc, no_field, no_parent, first, times, item_cells, item_size, field_cells, cells_from, desc_cells, struct_cells, capacity_of, counted, elements_of, numbers_of, place_of, kind_of}
 use Rattle.vms_parts.proofs.Tables.{first_at}
 use Rattle.vms_selfdesc.specs.Entries.{Entry, Lister, no_lister, item_entries, array_entries, field_entries, entries_from, desc_entries, listers}
 
@@ -23,7 +24,7 @@ all_below k (f ∷ fs) h = (h 0 (omega arith), all_below k fs (λ i lt. h (suc i
 -- ---- cells
 
 module _ (j : ℕ) (cs Cs : List (List Cell)) (agree : (i : ℕ) → i < j → get_or cs i [] ≡ get_or Cs i []) where
-  item_cells_same : (item : Item) (caps : List ℕ) (z : ℤ) → uses_below j item ≡ true → item_cells cs item caps z ≡ item_cells Cs item caps z
+  pub item_cells_same : (item : Item) (caps : List ℕ) (z : ℤ) → uses_below j item ≡ true → item_cells cs item caps z ≡ item_cells Cs item caps z
   item_cells_same (Num kind) caps z e = refl
   item_cells_same (Equal kind y) caps z e = refl
   item_cells_same (Unused n) caps z e = refl
@@ -34,6 +35,18 @@ module _ (j : ℕ) (cs Cs : List (List Cell)) (agree : (i : ℕ) → i < j → g
   cells_same fields i (f ∷ fs) b =
       ap (λ (l : List Cell). times (capacity_of f.count) (λ _. l) 0 0 ++ cells_from cs fields (suc i) fs) (item_cells_same f.item (counted i fields) f.default b.0)
       ∙ ap (λ (l : List Cell). field_cells Cs fields i f ++ l) (cells_same fields (suc i) fs b.1)
+
+  place_same : (fields : List Field) (i at : ℕ) (fs : List Field) (k : ℕ) → AllBelow j fs → place_of cs fields i at fs k ≡ place_of Cs fields i at fs k
+  place_same fields i at [] k b = refl
+  place_same fields i at (f ∷ fs) zero b = refl
+  place_same fields i at (f ∷ fs) (suc k) b =
+      ap (λ (l : List Cell). place_of cs fields (suc i) (at + length (times (capacity_of f.count) (λ _. l) 0 0)) fs k) (item_cells_same f.item (counted i fields) f.default b.0)
+      ∙ place_same fields (suc i) (at + length (field_cells Cs fields i f)) fs k b.1
+
+  -- the numbers of its fields
+  pub own_same : (d : Desc) (n : List ℤ) (at : ℕ) → AllBelow j d.fields → numbers_of cs d n at ≡ numbers_of Cs d n at
+  own_same d n at b =
+      fun_ext (λ (k : ℕ). ap (λ (c : ℕ). residue (width (kind_of (get_or d.fields k no_field).item)) (get_or n c (pos 0))) (place_same d.fields 0 at d.fields k b))
 
 -- ---- entries
 

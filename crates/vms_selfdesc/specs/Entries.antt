@@ -46,9 +46,9 @@ cell_entry true path kind default = sent_entry path (width kind) (kind_word kind
 cell_entry false path kind default = absent_entry path (kind_word kind) default
 
 -- what has no cell is listed only where it stands there
-abbrev pub sent_only : Bool → Entry → List Entry
-sent_only true entry = entry ∷ []
-sent_only false entry = []
+abbrev pub listed_if : Bool → Entry → List Entry
+listed_if true entry = entry ∷ []
+listed_if false entry = []
 
 -- The entries of a structure under a path: whether it stands in the stream, the path, the numbers of all cells and the place of
 -- its first.
@@ -61,8 +61,8 @@ no_lister sent path numbers at = []
 -- one element of a field with this default: the path ends with it, and goes on into a structure
 abbrev pub item_entries : List Lister → Item → ℤ → Bool → List ℕ → List ℤ → ℕ → List Entry
 item_entries structs (Num kind) default sent path numbers at = cell_entry sent path kind default ∷ []
-item_entries structs (Equal kind z) default sent path numbers at = sent_only sent (sent_entry path (width kind) (codes "equal"))
-item_entries structs (Unused n) default sent path numbers at = sent_only sent (sent_entry path n (codes "unused"))
+item_entries structs (Equal kind z) default sent path numbers at = listed_if sent (sent_entry path (width kind) (codes "equal"))
+item_entries structs (Unused n) default sent path numbers at = listed_if sent (sent_entry path n (codes "unused"))
 item_entries structs (Struct j) default sent path numbers at = get_or structs j no_lister sent (path ++ codes ".") numbers at
 
 abbrev pub element_path : List ℕ → ℕ → List ℕ

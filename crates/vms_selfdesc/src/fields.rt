@@ -4,7 +4,7 @@ ghost use Rattle.vms_spec.specs.Layout.{capacity_of, item_size, struct_cells};
 ghost use Rattle.vms_parts.specs.Views.{field_of};
 ghost use Rattle.vms_desc.specs.Asks.{field_at};
 ghost use Rattle.vms_desc.specs.Parts.{desc_at};
-ghost use Rattle.vms_selfdesc.specs.Entries.{element_path, sent_only, sent_entry};
+ghost use Rattle.vms_selfdesc.specs.Entries.{element_path, listed_if, sent_entry};
 ghost use Rattle.vms_selfdesc.specs.Listing.{Adds, is_field_sent, set_in, numbers_in};
 ghost use Rattle.vms_selfdesc.specs.Listing.{IsPlace, AreElements};
 ghost use Rattle.vms_selfdesc.specs.Listing.{item_at, elements_at, field_within, part_at};
@@ -91,7 +91,7 @@ fn list_sent(
     list: &mut Vec<Value>,
 ) -> Result<(), AllocError>
     ensures { let entry = sent_entry (string_bytes place.path) size word.now in
-        OnOk result (Adds list.old.items list.new.items (sent_only place.sent entry)) }
+        OnOk result (Adds list.old.items list.new.items (listed_if place.sent entry)) }
 {
     if place.sent {
         push(list, sent_value(alloc, place.path, size, word)?)
