@@ -3,7 +3,7 @@ use Rattle.std.specs.Prelude.{◌≡◌, Bool, true, ℕ, ◌<◌, List, [], ◌
 use Rattle.vms_spec.specs.Sets.{Device, Set}
 use Rattle.vms_spec.specs.Layout.{Slot}
 use Rattle.vms_spec.specs.Images.{Image, Spells, zeroed}
-use Rattle.vms_spec.specs.Streams.{IsStream, Takes, IsReady}
+use Rattle.vms_spec.specs.Streams.{IsReady}
 use Rattle.vms_spec.specs.declared.Reason.{Reason}
 use Rattle.vms_spec.specs.Places.{cell_at, cell_count}
 use Rattle.vms_spec.specs.Readiness.{is_ready}
@@ -38,27 +38,6 @@ pub record Decided (test : Bool) (P : Type 0) : Type 0 where
 abbrev pub ReadyLaw : Type 0
 ReadyLaw = (set : Set) (d : Device) (image : Image) → Decided (is_ready set d image) (IsReady set d image)
 
--- two streams that an input takes are of one length, name one machine, if any, and have the same images
-pub record AreSame (n m : ℕ) (machine other : Option (List ℕ)) (images others : List Image) : Type 0 where
-  pub lengths : n ≡ m
-  pub machines : machine ≡ other
-  pub states : images ≡ others
-
 -- the bytes whose unused ones are 0 are bytes of the slots
 abbrev pub ZeroedLaw : Type 0
 ZeroedLaw = (numbers : List ℤ) (slots : List Slot) → Spells numbers slots (zeroed numbers slots)
-
--- The bytes are a stream, and an input that begins with them takes just these. Where there is no text, nothing may follow.
-pub record IsWholeStream (set : Set) (names : List (List ℕ)) (bytes : List ℕ) (machine : Option (List ℕ)) (images : List Image) (text : Option (List ℕ)) : Type 0 where
-  pub stream : IsStream set names bytes machine images text
-  pub taken : (rest : List ℕ) → (text ≡ None → rest ≡ []) → Takes set names (bytes ++ rest) (length bytes) machine images
-
--- ---- refusals
-
-
--- two faults of an input are at one place, for one device, of one reason and at a unit of one length
-pub record AreOneFault (place other_place : ℕ) (section other_section : Option ℕ) (reason other_reason : Reason) (size other_size : ℕ) : Type 0 where
-  pub places : place ≡ other_place
-  pub sections : section ≡ other_section
-  pub reasons : reason ≡ other_reason
-  pub sizes : size ≡ other_size
