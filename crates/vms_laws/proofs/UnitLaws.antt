@@ -5,7 +5,6 @@ use Rattle.byteorder.specs.Endian.{big_number, big_from}
 
 -- ---- the same front
 
-
 big_from_take : (i k : ℕ) (xs : List ℕ) (m : ℕ) → i + k ≤ m → big_from i k (take m xs) ≡ big_from i k xs
 big_from_take i zero xs m le = refl
 big_from_take i (suc k) xs m le =

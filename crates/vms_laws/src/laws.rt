@@ -1,5 +1,5 @@
-//! Each law is the contract of a function without a body. The statements stand in `specs/Laws.antt`. Those of streams ask of
-//! a set that it is well formed, and that its instance ids and versions are below 2^32, as heads have them.
+//! Each law is the contract of a function without a body. The statements stand in `specs/Laws.antt`. Those of streams and
+//! faults stand in `vms_units`.
 ghost use Rattle.vms_laws.specs.Laws.{GoodLaw, ShippedLaw, CellLaw, ReadyLaw, ZeroedLaw};
 
 /// A well-formed set is good, where instance ids and versions are below 2^32, as the heads of sections have them.
@@ -32,4 +32,3 @@ pub fn ready_law()
 pub fn zeroed_law()
     ensures { ZeroedLaw }
 {}
-

@@ -69,7 +69,6 @@ SubsSpell set d image (j ∷ order) bytes =
 
 -- ---- whole streams
 
-
 abbrev pub AllCame : List Bool → Type 0
 AllCame [] = Unit {0}
 AllCame (true ∷ came) = AllCame came
