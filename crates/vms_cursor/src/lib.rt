@@ -5,8 +5,8 @@
 //! its caller. Each unit is judged when it is whole, and no byte behind it is taken, but for one: the byte that
 //! ends a section without a footer, which the cursor holds.
 //!
-//! This is the form that `vms_frames` is to have once the loader takes streams without footers. Its clauses say
-//! what stands at the front of what is left, and the rows of the table of reasons that the unit alone decides.
+//! Its clauses say what stands at the front of what is left, and the rows of the table of reasons that the unit
+//! alone decides.
 #![tactic(auto)]
 
 mod cursor;

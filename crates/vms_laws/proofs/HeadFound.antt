@@ -1,40 +1,18 @@
 -- A section head that is read is spelled so.
-use Rattle.std.proofs.Common.{◌≡◌, ◌⊎◌, inl, inr, ℕ, zero, suc, ◌+◌, ◌<◌, ◌≤◌, List, [], ◌∷◌, ◌++◌, length, get_or, take, drop, Option, Some, None, refl, sym, ap, ◌∙◌, arith, append_assoc, length-drop, get_or-drop, Bool, true, false, if◌then◌else◌, nat_lt, ◌==◌, ◌&&◌}
+use Rattle.std.proofs.Common.{◌≡◌, ℕ, zero, suc, ◌+◌, ◌<◌, ◌≤◌, List, [], ◌∷◌, ◌++◌, length, get_or, take, drop, Some, refl, sym, ap, ◌∙◌, arith, append_assoc, length-drop, get_or-drop, Bool, true, false, if◌then◌else◌, ◌==◌, ◌&&◌}
 use Rattle.std.specs.Str.{bytes_eq}
 use Rattle.std.proofs.lemmas.List.{drop-drop, take-append-drop, length-take-le}
-use Rattle.std.proofs.lemmas.Bool.{eqb-true, ltb-false}
+use Rattle.std.proofs.lemmas.Bool.{eqb-true}
 use Rattle.std.proofs.lemmas.Slice.Eq.{bytes_eq-Decides}
 use Rattle.byteorder.specs.Endian.{big_number, big_bytes}
 use Rattle.vms_kinds.specs.declared.Kind.TheVariants.{U32}
 use Rattle.vms_kinds.proofs.CodeLemmas.{again}
 use Rattle.vms_spec.specs.Numbers.{IsBytes}
-use Rattle.vms_spec.specs.declared.Reason.{Reason}
-use Rattle.vms_spec.specs.declared.Reason.TheVariants as reasons
-use Rattle.vms_spec.specs.Sets.{Device, Set}
+use Rattle.vms_spec.specs.Sets.{Device}
 use Rattle.vms_spec.specs.Streams.{at, be32, section_head}
-use Rattle.vms_spec.specs.Readings.{Verdict, Goes, Faulty, Reading, Accepted, reading_after}
-use Rattle.vms_spec.specs.Judging.{State, number_at, bytes_at, find_device, index, judge_head, judge_device}
+use Rattle.vms_spec.specs.Judging.{number_at, bytes_at, find_device}
 use Rattle.vms_laws.proofs.UnitLaws.{number_take}
 use Rattle.vms_laws.proofs.SpellLaws.{is_bytes_take}
-use Rattle.vms_laws.proofs.HeadLaws.{opened}
-
--- ---- what an accepted reading says of a choice
-
-module _ {S : Type 0} (go : S → ℕ → List ℕ → Option (Reading S)) (at' : ℕ) (rest : List ℕ) (n : ℕ) (end : S) where
-  abbrev pub Reads : Verdict S → Type 0
-  Reads v = reading_after go at' rest v ≡ Some (Accepted n end)
-
-  pub not_faulty : (b : Bool) (section : Option ℕ) (reason : Reason) (long : ℕ) (v : Verdict S) → Reads (if b then Faulty section reason long else v) → (b ≡ false) × Reads v
-  not_faulty true section reason long v h = cc
-  not_faulty false section reason long v h = (refl, h)
-
-  pub else_faulty : (b : Bool) (section : Option ℕ) (reason : Reason) (long : ℕ) (v : Verdict S) → Reads (if b then v else Faulty section reason long) → (b ≡ true) × Reads v
-  else_faulty true section reason long v h = (refl, h)
-  else_faulty false section reason long v h = cc
-
-  pub either : (b : Bool) (v w : Verdict S) → Reads (if b then v else w) → ((b ≡ true) × Reads v) ⊎ ((b ≡ false) × Reads w)
-  either true v w h = inl (refl, h)
-  either false v w h = inr (refl, h)
 
 -- ---- bytes
 
@@ -54,9 +32,6 @@ pub split_four : (xs : List ℕ) → IsBytes xs → 4 ≤ length xs → xs ≡ b
 split_four xs ok long =
     sym (take-append-drop 4 xs)
     ∙ ap (λ (l : List ℕ). l ++ drop 4 xs) (sym (again U32 (take 4 xs) (length-take-le 4 xs long) (is_bytes_take 4 xs ok)) ∙ ap (big_bytes 4) (number_take 4 xs))
-
-from_here : (n k m : ℕ) (rest : List ℕ) → n + k ≡ m → drop k (drop n rest) ≡ drop m rest
-from_here n k m rest e = drop-drop k n rest ∙ ap (λ (i : ℕ). drop i rest) e
 
 pub head_bytes : (rest : List ℕ) (n : ℕ) → IsBytes rest → get_or rest 0 0 ≡ 0x04 → get_or rest 5 0 ≡ n → 14 + n ≤ length rest
     → rest ≡ section_head (number_at 4 1 rest) (bytes_at n 6 rest) (number_at 4 (6 + n) rest) (number_at 4 (10 + n) rest) ++ drop (14 + n) rest
@@ -117,72 +92,3 @@ found_is (d ∷ devices) j name instance k e =
 
 pub same_text : (xs ys : List ℕ) → bytes_eq xs ys ≡ true → xs ≡ ys
 same_text xs ys e = (bytes_eq-Decides xs ys).0 e
-
--- ---- a head that is read
-
--- device k's section is open, its head spelled in the input, and the reading goes on after it
-pub record Opens (set : Set) (state : State) (go : State → ℕ → List ℕ → Option (Reading State)) (at' : ℕ) (rest : List ℕ) (n : ℕ) (end : State) : Type 0 where
-  pub k : ℕ
-  pub id : ℕ
-  pub v : ℕ
-  pub device : Device
-  pub after : List ℕ
-  pub id_fits : id < 4294967296
-  pub spelled : rest ≡ section_head id device.desc.name device.instance v ++ after
-  pub there : at set.devices k ≡ Some device
-  pub new : get_or state.came k false ≡ false
-  pub low : device.desc.minimum ≤ v
-  pub high : v ≤ device.desc.version
-  pub goes : go (opened set state k id device v) (at' + (14 + length device.desc.name)) after ≡ Some (Accepted n end)
-
-module _ (set : Set) (names : List (List ℕ)) (go : State → ℕ → List ℕ → Option (Reading State)) (n : ℕ) (end : State) where
-  device_opens : (state : State) (at' : ℕ) (rest : List ℕ) (size id v : ℕ) (found : Option ℕ) (d : Option Device) (came : Bool)
-      → Reads go at' rest n end (judge_device set names state size id v found d came)
-      → (k : ℕ) × (found ≡ Some k) × (device : Device) × (d ≡ Some device) × (came ≡ false) × (device.desc.minimum ≤ v) × (v ≤ device.desc.version)
-      × (go (opened set state k id device v) (at' + size) (drop size rest) ≡ Some (Accepted n end))
-  device_opens state at' rest size id v None d came h = cc
-  device_opens state at' rest size id v (Some k) None came h = cc
-  device_opens state at' rest size id v (Some k) (Some d) came h =
-      let a = not_faulty go at' rest n end came (Some k) reasons.RepeatedSection size _ h in
-      let b = not_faulty go at' rest n end (nat_lt d.desc.version v) (Some k) reasons.TooNew size _ a.1 in
-      let c = not_faulty go at' rest n end (nat_lt v d.desc.minimum) (Some k) reasons.TooOld size (Goes size (opened set state k id d v)) b.1 in
-      (k, refl, d, refl, a.0, ltb-false v d.desc.minimum c.0, ltb-false d.desc.version v b.0, c.1)
-
-  pub head_opens : (state : State) (at' : ℕ) (rest : List ℕ) → IsBytes rest → get_or rest 0 0 ≡ 0x04 → Reads go at' rest n end (judge_head set names state rest) → Opens set state go at' rest n end
-  head_opens state at' rest ok mark h =
-      let size = get_or rest 5 0 in
-      let name = bytes_at size 6 rest in
-      let instance = number_at 4 (6 + size) rest in
-      let id = number_at 4 1 rest in
-      let v = number_at 4 (10 + size) rest in
-      let o = find_device 0 set.devices name instance in
-      let a = not_faulty go at' rest n end (nat_lt (length rest) 6) None reasons.Truncated (length rest) _ h in
-      let b = not_faulty go at' rest n end (nat_lt (length rest) (14 + size)) None reasons.Truncated (length rest) (judge_device set names state (14 + size) id v o (at set.devices (index o)) (get_or state.came (index o) false)) a.1 in
-      let long : 14 + size ≤ length rest = ltb-false (length rest) (14 + size) b.0 in
-      let c = device_opens state at' rest (14 + size) id v o (at set.devices (index o)) (get_or state.came (index o) false) b.1 in
-      let k = c.0 in
-      let d = c.2 in
-      let i : index o ≡ k = ap index c.1 in
-      let there : at set.devices k ≡ Some d = ap (λ (j : ℕ). at set.devices j) (sym i) ∙ c.3 in
-      let f = found_is set.devices 0 name instance k c.1 in
-      let same : f.i ≡ k = (let e = f.is in omega arith) in
-      let is : f.device ≡ d = (let e = sym f.there ∙ ap (λ (j : ℕ). at set.devices j) same ∙ there in cc) in
-      let named : d.desc.name ≡ name = ap (λ (x : Device). x.desc.name) (sym is) ∙ same_text f.device.desc.name name f.name_is in
-      let instanced : d.instance ≡ instance = ap (λ (x : Device). x.instance) (sym is) ∙ f.instance_is in
-      let longer : length name ≡ size = length-take-le size (drop 6 rest) (omega (arith, length-drop 6 rest)) in
-      record {
-        k = k;
-        id = id;
-        v = v;
-        device = d;
-        after = drop (14 + size) rest;
-        id_fits = four_low (drop 1 rest) (is_bytes_drop 1 rest ok);
-        spelled = head_bytes rest size ok mark refl long
-            ∙ ap (λ (x : List ℕ). section_head id x instance v ++ drop (14 + size) rest) (sym named)
-            ∙ ap (λ (x : ℕ). section_head id d.desc.name x v ++ drop (14 + size) rest) (sym instanced);
-        there = there;
-        new = ap (λ (j : ℕ). get_or state.came j false) (sym i) ∙ c.4;
-        low = c.5;
-        high = c.6;
-        goes = ap (λ (j : ℕ). go (opened set state k id d v) (at' + (14 + j)) (drop (14 + size) rest)) (ap length named ∙ longer) ∙ c.7;
-      }

@@ -33,10 +33,6 @@ sub_place_up set from [] j = omega arith
 sub_place_up set from (s ∷ subs) zero = omega arith
 sub_place_up set from (s ∷ subs) (suc j) = omega (arith, sub_place_up set (from + length (desc_cells (struct_cells set) s.desc)) subs j)
 
-sub_place_zero : (set : Set) (from : ℕ) (subs : List Sub) → sub_place set from subs 0 ≡ from
-sub_place_zero set from [] = refl
-sub_place_zero set from (s ∷ subs) = refl
-
 pub places_apart : (set : Set) (from : ℕ) (subs : List Sub) (i j : ℕ) (s : Sub) → Streams.at subs i ≡ Some s → i < j → sub_place set from subs i + sub_size set s ≤ sub_place set from subs j
 places_apart set from [] i j s e lt = cc
 places_apart set from (t ∷ subs) i zero s e lt = absurd (omega arith)
@@ -107,12 +103,6 @@ swap : (a b c : Bool) → (a || (b || c)) ≡ (b || (a || c))
 swap true true c = refl
 swap true false c = refl
 swap false b c = refl
-
-or_swap : (a b : Bool) → (a || b) ≡ (b || a)
-or_swap true true = refl
-or_swap true false = refl
-or_swap false true = refl
-or_swap false false = refl
 
 -- what is named when one part more came
 pub names_next : (set : Set) (d : Device) (n : List ℤ) (c from : ℕ) (subs : List Sub) (came : List (Option ℕ)) (j : ℕ) (s : Sub) (v : ℕ) → Streams.at subs j ≡ Some s → Streams.at came j ≡ Some None

@@ -1,5 +1,5 @@
 -- Where fields begin, and which tests don't change.
-use Rattle.std.proofs.Common.{◌≡◌, ℕ, zero, suc, ◌+◌, ◌*◌, ◌<◌, ◌≤◌, List, [], ◌∷◌, length, get_or, drop, Option, Some, None, ℤ, pos, refl, sym, ap, ◌∙◌, arith, length-append, Bool, not, ◌&&◌, ◌||◌, bit_and, min}
+use Rattle.std.proofs.Common.{◌≡◌, ℕ, zero, suc, ◌+◌, ◌*◌, ◌<◌, ◌≤◌, List, [], ◌∷◌, length, get_or, drop, Option, Some, None, ℤ, pos, refl, ap, ◌∙◌, arith, length-append, Bool, not, ◌&&◌, ◌||◌, bit_and, min}
 use Rattle.std.specs.List.{AllByRecursion}
 use Rattle.vms_kinds.specs.declared.Item.{Item}
 use Rattle.vms_kinds.specs.declared.Item.TheVariants.{Num, Equal, Unused, Struct}

@@ -7,7 +7,7 @@ use Rattle.vms_spec.specs.Sets.{Field, Desc}
 use Rattle.vms_spec.specs.Tests.{is_there}
 use Rattle.vms_spec.specs.Layout.{Slot, Rule, Cell, Meaning, no_meaning, no_desc, item_slots, item_size, times, field_slots, slots_from, desc_slots, desc_cells, cells_from, field_cells, place_of, numbers_of, no_field, kind_of, elements_of, capacity_of, counted, all_hold, no_parent, first, meaning, meanings}
 use Rattle.vms_laws.specs.Sound.{IsSound, AreSound, IsSoundField, AreSoundFields, IsEarlier}
-use Rattle.vms_laws.proofs.Places.{SameBelow, there_same, elements_same, hold_same, place_next, place_end, place_up, place_below}
+use Rattle.vms_laws.proofs.Places.{there_same, elements_same, hold_same, place_next, place_end, place_up, place_below}
 use Rattle.vms_spec.proofs.Sizes.{field_size, elements_fit}
 use Rattle.vms_laws.proofs.WalkLaws.{drop_next, mul_less, place_first, zero_plus}
 
@@ -116,8 +116,3 @@ pub slots_within : (ds : List Desc) → AreSound ds → (d : Desc) (v base low e
     → base + length (desc_cells (map (λ (m : Meaning). m.cells) (meanings ds (length ds))) d) ≤ end → SameIn low end n k
     → desc_slots (meanings ds (length ds)) d v k base ≡ desc_slots (meanings ds (length ds)) d v n base
 slots_within ds structs d v base low end n k sound up le s = desc_settled (meanings ds (length ds)) (meanings_settled ds structs (length ds) (omega arith)) d v base low end n k sound up le s
-
-pub slots_settled : (ds : List Desc) → AreSound ds → (d : Desc) (v base end : ℕ) (n k : List ℤ) → IsSound d
-    → base + length (desc_cells (map (λ (m : Meaning). m.cells) (meanings ds (length ds))) d) ≤ end → SameBelow end n k
-    → desc_slots (meanings ds (length ds)) d v k base ≡ desc_slots (meanings ds (length ds)) d v n base
-slots_settled ds structs d v base end n k sound le s = slots_within ds structs d v base 0 end n k sound (omega arith) le (record { same = λ c up lt. s.same c lt })

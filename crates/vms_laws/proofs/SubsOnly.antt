@@ -1,6 +1,6 @@
 -- A section with subsections in any order is read.
-use Rattle.std.proofs.Common.{◌≡◌, ℕ, zero, suc, ◌+◌, ◌^◌, ◌<◌, ◌≤◌, List, [], ◌∷◌, ◌++◌, length, get_or, map, drop_at, slice_set, Option, Some, None, Ok, ℤ, pos, refl, sym, ap, ◌∙◌, subst, arith, append_assoc, length-append, Bool, true, false, if◌then◌else◌, nat_lt, ◌||◌}
-use Rattle.std.proofs.lemmas.List.{length-set, ext_get_or}
+use Rattle.std.proofs.Common.{◌≡◌, ℕ, zero, suc, ◌+◌, ◌<◌, ◌≤◌, List, [], ◌∷◌, ◌++◌, length, get_or, map, slice_set, Option, Some, None, Ok, ℤ, pos, refl, sym, ap, ◌∙◌, subst, arith, Bool, true, false, if◌then◌else◌, nat_lt, ◌||◌}
+use Rattle.std.proofs.lemmas.List.{ext_get_or}
 use Rattle.std.proofs.Math.ListN.{get_or-eq_default}
 use Rattle.std.proofs.lemmas.Bool.{ltb-true, ltb-false}
 use Rattle.vms_spec.specs.Sets.{Device, Set, Sub}
@@ -8,23 +8,16 @@ use Rattle.vms_spec.specs.Layout.{Slot, Number, Constant, Filler, Rule, Cell, no
 use Rattle.vms_spec.specs.Images.{Image, default_image, own_slots, own_cells, sub_slots, came_slots, image_slots, Spells, RulesHold, has_cell, IsNormal, IsValid, IsVersionOf}
 use Rattle.vms_spec.specs.Streams
 use Rattle.vms_spec.specs.Streams.{at, section_head, sub_head, foot, be32}
-use Rattle.vms_spec.specs.Readings.{Goes, reading_after}
-use Rattle.vms_spec.specs.Judging.{State, Fields, Later, judge_mark, judge_after, slots_of, judge}
-use Rattle.vms_spec.specs.Taking.{Progress, take_desc, takers}
-use Rattle.vms_laws.specs.Whole.{reading_on}
-use Rattle.vms_laws.proofs.ReadingLaws.{advances}
-use Rattle.vms_laws.proofs.JudgeLaws.{judge_local}
+use Rattle.vms_spec.specs.Taking.{take_desc, takers}
 use Rattle.vms_laws.proofs.Names.{or_false, names_append}
-use Rattle.vms_laws.proofs.BodyLaws.{in_body, read_body, body_read, at_set, set_twice}
+use Rattle.vms_laws.proofs.BodyLaws.{at_set}
 use Rattle.vms_laws.proofs.SpellLaws.{FitSlots}
 use Rattle.vms_laws.proofs.BodyOnly.{body_only}
-use Rattle.vms_laws.proofs.HeadLaws.{unit_read, opened, head_judged}
-use Rattle.vms_laws.proofs.SectionLaws.{fit_slots, own_are, defaults_at, defaults_long, foot_judged}
+use Rattle.vms_laws.proofs.SectionLaws.{fit_slots, own_are, defaults_at, defaults_long}
 use Rattle.vms_laws.proofs.SettledLaws.{SameIn}
 use Rattle.vms_laws.proofs.AgreeLaws.{its_same, its_spelled, its_fit, its_hold, its_below, its_above}
-use Rattle.vms_laws.proofs.PartLaws.{at_inside, sub_size, sub_are, sub_place_up, places_apart, parts_together, part_apart, names_next, none_of, none_came, version_at, Beside, beside_first, beside_next, beside_end}
+use Rattle.vms_laws.proofs.PartLaws.{at_inside, sub_size, sub_are, sub_place_up, places_apart, parts_together, part_apart, names_next, none_of, none_came}
 use Rattle.vms_laws.proofs.FineLaws.{part_place}
-use Rattle.vms_laws.proofs.SubHeads.{sub_opened, sub_head_judged}
 use Rattle.vms_laws.specs.Good.{IsGood}
 use Rattle.vms_laws.proofs.ConstantLaws.{own_constants, part_constants}
 
@@ -233,86 +226,3 @@ module _ (set : Set) (names : List (List ℕ)) (good : IsGood set) (k id : ℕ) 
       ∙ parts_together set d n (λ xs. has_cell xs c ≡ false) refl (λ xs ys p q. names_append xs ys c ∙ ap (λ (b : Bool). b || has_cell ys c) p ∙ q) (own_cells set d) d.subs none
       (λ i s x e g. absurd (none_came d.subs i x g))))
       refl
-
-  -- from a body's end on
-  pub subs_only : id < 2 ^ 32 → (order : List ℕ) (state : State) → k < length state.images → (part : Option ℕ) (came left : List (Option ℕ)) → Beside came left image.came → Streams.ComesOnce left order
-      → (place : ℕ) (tail rest : List ℕ) → Streams.SubsSpell set d image order tail
-      → reading_after (reading_on (judge set names)) place (tail ++ (foot id ++ rest))
-      (judge_after set names (in_body state (image_at came) k id part (so_far came) 0) d (image_at came) k id (tail ++ (foot id ++ rest)))
-      ≡ reading_on (judge set names) (record { machine = state.machine; images = slice_set state.images k image; came = state.came; spot = Later }) ((place + length tail) + 5) rest
-  subs_only id_fits [] state room part came left beside once place tail rest spell =
-      let J = judge set names in
-      let same : came ≡ image.came = beside_end came left image.came beside once in
-      let last : image_at came ≡ image = ap image_at same ∙ ap (λ (m : List ℤ). record { version = image.version; came = image.came; numbers = m }) so_at_last in
-      let inner = in_body state (image_at came) k id part (so_far came) 0 in
-      ap (λ (l : List ℕ). reading_after (reading_on J) place (l ++ (foot id ++ rest)) (judge_after set names inner d (image_at came) k id (l ++ (foot id ++ rest)))) spell
-      ∙ ap (reading_after (reading_on J) place (foot id ++ rest)) (foot_judged set names inner d (image_at came) k id rest id_fits)
-      ∙ ap (λ (x : Image). reading_on J (record { machine = state.machine; images = slice_set state.images k x; came = state.came; spot = Later }) (place + 5) rest) last
-      ∙ ap (λ (x : ℕ). reading_on J (record { machine = state.machine; images = slice_set state.images k image; came = state.came; spot = Later }) x rest) (omega (arith, ap length spell))
-  subs_only id_fits (j ∷ order) state room part came left beside once place tail rest spell =
-      let J = judge set names in
-      let w = once.0.0 in
-      let b = beside_next came left image.came j w beside once.0.1 in
-      let version = version_at d.subs image.came j w normal.subs b.1 in
-      let front = spell.0 in
-      let later = spell.1 in
-      let s = sub_so set d image j w front version.0 version.1 version.2 b.1 spell.2 in
-      let sub = s.sub in
-      let base = part_place set d j in
-      let came1 = slice_set came j (Some w) in
-      let head = sub_head sub.desc.name w in
-      let more = later ++ (foot id ++ rest) in
-      let inner = in_body state (image_at came) k id part (so_far came) 0 in
-      let image1 : Image = record { version = image.version; came = came1; numbers = so_far came } in
-      let open' = sub_opened inner (image_at came) k id j w in
-      let is : tail ++ (foot id ++ rest) ≡ head ++ (s.body ++ more) =
-      ap (λ (l : List ℕ). l ++ (foot id ++ rest)) (spell.4 ∙ ap (λ (l : List ℕ). l ++ later) s.is) ∙ append_assoc (head ++ s.body) later (foot id ++ rest) ∙ append_assoc head s.body more in
-      let set_at : at came1 j ≡ Some (Some w) = at_set came j (Some w) (at_inside came j None b.0) in
-      let room1 : k < length inner.images = omega (arith, length-set state.images k (image_at came)) in
-      let top = good.sub_version k j d sub here s.there in
-      let fits : w < 2 ^ 32 = (let le : w ≤ sub.desc.version = s.version.1 in omega arith) in
-      let head_long : length head ≡ 6 + length sub.desc.name = omega (arith, length-append sub.desc.name (be32 w)) in
-      let p : Progress = record { numbers = so_far came; place = place + length head; rest = s.body ++ more } in
-      ap (λ (l : List ℕ). reading_after (reading_on J) place l (judge_after set names inner d (image_at came) k id l)) is
-      ∙ ap (reading_after (reading_on J) place (head ++ (s.body ++ more)))
-      (sub_head_judged set names inner d (image_at came) k id w j sub (s.body ++ more) fits (good.distinct_subs k j d sub here s.there) s.there b.0 s.version ∙ ap (λ (l : ℕ). Goes l open') (sym head_long))
-      ∙ ap (λ (l : List ℕ). reading_on J open' (place + length head) l) (drop_at head (s.body ++ more) (length head) refl)
-      ∙ body_read set names inner d image1 k id (Some j) here room1 good.structs sub.desc w base (good.subs k j d sub here s.there)
-      (λ m. ap (λ (o : Option Sub). slots_of set names d (record image1 { numbers = m }) (Some j) o (at came1 j)) s.there
-      ∙ ap (λ (o : Option (Option ℕ)). slots_of set names d (record image1 { numbers = m }) (Some j) (Some sub) o) set_at) p
-      ∙ ap (read_body set names inner d image1 k id (Some j)) (part_taken came j w sub (place + length head) s.body more s.there b.0 b.1 s.spells)
-      ∙ subs_only id_fits order inner room1 (Some j) came1 (slice_set left j None) b.2 once.1 ((place + length head) + length s.body) later rest spell.3
-      ∙ ap (λ (xs : List Image). reading_on J (record { machine = state.machine; images = xs; came = state.came; spot = Later }) ((((place + length head) + length s.body) + length later) + 5) rest) (set_twice state.images k (image_at came) image)
-      ∙ ap (λ (x : ℕ). reading_on J (record { machine = state.machine; images = slice_set state.images k image; came = state.came; spot = Later }) x rest)
-      (omega (arith, ap length spell.4, length-append front later, ap length s.is, length-append head s.body))
-
-  -- a whole section
-  pub section_only : (state : State) (first configured : Bool) → ((r : List ℕ) → judge set names state r ≡ judge_mark set names first configured state r)
-      → k < length state.images → get_or state.came k false ≡ false → id < 2 ^ 32 → (place : ℕ) (body tail rest : List ℕ) (order : List ℕ)
-      → Spells image.numbers (own_slots set d image.version image.numbers) body → Streams.ComesOnce image.came order → Streams.SubsSpell set d image order tail
-      → reading_on (judge set names) state place (section_head id d.desc.name d.instance image.version ++ (body ++ (tail ++ (foot id ++ rest))))
-      ≡ reading_on (judge set names) (record { machine = state.machine; images = slice_set state.images k image; came = slice_set state.came k true; spot = Later })
-      ((((place + length (section_head id d.desc.name d.instance image.version)) + length body) + length tail) + 5) rest
-  section_only state first configured between room new id_fits place body tail rest order spells once spell =
-      let J = judge set names in
-      let v = image.version in
-      let a = advances J (judge_local set names) in
-      let head = section_head id d.desc.name d.instance v in
-      let fresh : Image = record (default_image set d) { version = v } in
-      let open' = opened set state k id d v in
-      let more = tail ++ (foot id ++ rest) in
-      let at' = place + length head in
-      let p : Progress = record { numbers = fresh.numbers; place = at'; rest = body ++ more } in
-      let fits = good.instance k d here in
-      let top : d.desc.version < 2 ^ 32 = fits.1 in
-      let low : d.desc.minimum ≤ v = normal.version.0 in
-      let high : v ≤ d.desc.version = normal.version.1 in
-      let head_long : length head ≡ 14 + length d.desc.name = omega (arith, length-append (d.desc.name ++ be32 d.instance) (be32 v), length-append d.desc.name (be32 d.instance)) in
-      let room1 : k < length open'.images = omega (arith, length-set state.images k fresh) in
-      unit_read J a state open' place head (body ++ more)
-      (between (head ++ (body ++ more)) ∙ head_judged set names state first configured id v k d (body ++ more) id_fits fits.0 (omega arith) (good.distinct k d here) here new low high ∙ ap (λ (l : ℕ). Goes l open') (sym head_long))
-      ∙ ap (λ (images : List Image). reading_on J (record { machine = state.machine; images = images; came = slice_set state.came k true; spot = Fields k id None 0 }) at' (body ++ more)) (sym (set_twice state.images k fresh fresh))
-      ∙ body_read set names open' d fresh k id None here room1 good.structs d.desc v 0 (good.devices k d here) (λ m. refl) p
-      ∙ ap (read_body set names open' d fresh k id None) (own_taken at' body more spells)
-      ∙ subs_only id_fits order open' room1 None (none_of d.subs) image.came (beside_first d.subs image.came normal.subs) once (at' + length body) tail rest spell
-      ∙ ap (λ (images : List Image). reading_on J (record { machine = state.machine; images = images; came = slice_set state.came k true; spot = Later }) (((at' + length body) + length tail) + 5) rest) (set_twice state.images k fresh image)

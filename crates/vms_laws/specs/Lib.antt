@@ -2,5 +2,4 @@ pub mod Cells
 pub mod Good
 pub mod Laws
 pub mod Sound
-pub mod Units
 pub mod Whole

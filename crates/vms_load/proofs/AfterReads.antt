@@ -87,9 +87,9 @@ module _ (set : Set) (names : List (List ℕ)) (state : State) (section : Sectio
   after_is place rest b =
       unit_of inner place rest
       ∙ ap (reading_after go place rest) (
-        judged_holds set names inner rest held (ap (λ (d : Due). owes d rest) due_is) (ap (λ (d : Due). begins_section d rest) due_is ∙ b)
-            ∙ ap (λ (d : Due). judge_seen (Some section.device) (ask set names inner) rest (seen d (known_at set inner) rest)) due_is
-            ∙ ap (judge_seen (Some section.device) (ask set names inner) rest) (seen_holds t section.device (known_at set inner) (in_section section.id) rest refl)
+      judged_holds set names inner rest held (ap (λ (d : Due). owes d rest) due_is) (ap (λ (d : Due). begins_section d rest) due_is ∙ b)
+      ∙ ap (λ (d : Due). judge_seen (Some section.device) (ask set names inner) rest (seen d (known_at set inner) rest)) due_is
+      ∙ ap (judge_seen (Some section.device) (ask set names inner) rest) (seen_holds t section.device (known_at set inner) (in_section section.id) rest refl)
       )
 
   -- behind a section without a footer

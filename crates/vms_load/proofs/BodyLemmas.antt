@@ -117,10 +117,12 @@ module _ (kind : Kind) (at : ℕ) (new : Option (List ℕ)) where
   pub capped_err : (caps : List ℕ) (old : Option (List ℕ)) (fault : FrameFault) → ReadsNumber kind at old new (Err fault) → ReadsCapped kind caps at old new (Err fault)
   capped_err caps None fault h = tt
   capped_err caps (Some rest) faults.ReadFault h = tt
-  capped_err caps (Some rest) (faults.Refused place reason) h =
-      (h.0, subst (λ (f : Seen). Fails f rest new reason) (sym (number_by kind rest 0 caps))
-      (fails_with (cut kind rest) (bad kind rest) (exceeds caps (z kind rest)) _ _ (width kind) reasons.CountTooLarge reasons.CountTooLarge rest new reason
-      (subst (λ (f : Seen). Fails f rest new reason) (number_by kind rest 0 []) h.1)))
+  capped_err caps (Some rest) (faults.Refused place reason) h = (
+    h.0,
+    subst (λ (f : Seen). Fails f rest new reason) (sym (number_by kind rest 0 caps))
+        (fails_with (cut kind rest) (bad kind rest) (exceeds caps (z kind rest)) _ _ (width kind) reasons.CountTooLarge reasons.CountTooLarge rest new reason
+        (subst (λ (f : Seen). Fails f rest new reason) (number_by kind rest 0 []) h.1)),
+  )
 
   pub constant_ok : (y : ℤ) (old : Option (List ℕ)) (v : ℤ) → ReadsNumber kind at old new (Ok v) → same_number v y ≡ true → v ≡ y → ReadsConstant kind y at old new (Ok tt)
   constant_ok y None v h e is = tt
@@ -140,10 +142,12 @@ module _ (kind : Kind) (at : ℕ) (new : Option (List ℕ)) where
   pub constant_err : (y : ℤ) (old : Option (List ℕ)) (fault : FrameFault) → ReadsNumber kind at old new (Err fault) → ReadsConstant kind y at old new (Err fault)
   constant_err y None fault h = tt
   constant_err y (Some rest) faults.ReadFault h = tt
-  constant_err y (Some rest) (faults.Refused place reason) h =
-      (h.0, subst (λ (f : Seen). Fails f rest new reason) (sym (constant_by kind rest y))
-      (fails_with (cut kind rest) (bad kind rest) (not (same_number (z kind rest) y)) _ _ (width kind) reasons.CountTooLarge reasons.NotEqual rest new reason
-      (subst (λ (f : Seen). Fails f rest new reason) (number_by kind rest 0 []) h.1)))
+  constant_err y (Some rest) (faults.Refused place reason) h = (
+    h.0,
+    subst (λ (f : Seen). Fails f rest new reason) (sym (constant_by kind rest y))
+        (fails_with (cut kind rest) (bad kind rest) (not (same_number (z kind rest) y)) _ _ (width kind) reasons.CountTooLarge reasons.NotEqual rest new reason
+        (subst (λ (f : Seen). Fails f rest new reason) (number_by kind rest 0 []) h.1)),
+  )
 
 -- ---- what is taken by what is seen
 

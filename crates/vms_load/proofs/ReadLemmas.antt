@@ -117,8 +117,7 @@ module _ (go : State → Onward) (section : Option ℕ) (it : Piece → ℕ → 
       → left ≡ Some (drop n rest) → to.at ≡ at + n → to.held ≡ None → Settles v at next n result → Reads (reading_after go at rest v) (λ y. go (next y)) at to rest left result
   by_verdict (Goes m s) n to left next (Ok y) e far held h =
       let ahead_is : n ≡ to.at - at = omega (arith, far) in
-      subst (λ (o : Option (List ℕ)). Leads (go s (at + m) (drop m rest)) (go (next y)) at to rest o) (sym e)
-      (
+      subst (λ (o : Option (List ℕ)). Leads (go s (at + m) (drop m rest)) (go (next y)) at to rest o) (sym e) (
         ap (λ (x : State). go x (at + m) (drop m rest)) h.0 ∙ ap (λ (k : ℕ). go (next y) (at + k) (drop k rest)) h.1 ∙ ap (λ (k : ℕ). go (next y) k (drop n rest)) (sym far)
             ∙ ap (λ (o : Option ℕ). go (next y) to.at (ahead o (drop n rest))) (sym held),
         ap (λ (o : Option ℕ). ahead o (drop n rest)) held ∙ ap (λ (k : ℕ). drop k rest) ahead_is,

@@ -10,8 +10,8 @@ ghost use Rattle.vms_load.specs.Parts.{bytes_of};
 ghost use Rattle.vms_load.specs.Reading.{take_step, step_long, told, Took, Failed};
 
 use crate::items::{constant, put_number, rule};
-use vms_desc::{Cells, DescSet};
 use vms_cursor::{Cursor, FrameFault};
+use vms_desc::{Cells, DescSet};
 use vms_image::Image;
 use vms_io::Source;
 use vms_walk::{Spot, Step, Walker, walk};

@@ -1,10 +1,5 @@
 -- What the worked rows are written with: bytes by their hexadecimal digits, lines of text, and what a reading shows.
-use Rattle.std.proofs.Common.{ℕ, ◌+◌, ◌-◌, ◌*◌, nat_lt, if◌then◌else◌, List, [], ◌∷◌, ◌++◌, Option, Some, None, codes}
-use Rattle.vms_spec.specs.Sets.{Set}
-use Rattle.vms_spec.specs.Images.{Image}
-use Rattle.vms_spec.specs.Readings.{Reading, Accepted, Refused}
-use Rattle.vms_spec.specs.Judging.{reading, State}
-use Rattle.vms_spec.specs.Values.{values_text}
+use Rattle.std.proofs.Common.{ℕ, ◌+◌, ◌-◌, ◌*◌, nat_lt, if◌then◌else◌, List, [], ◌∷◌, ◌++◌, codes}
 
 -- a digit of 0 to 9 or a to f
 abbrev digit : ℕ → ℕ
@@ -34,23 +29,3 @@ box_end = hex (codes "7e0000000000")
 abbrev pub lines : List (List ℕ) → List ℕ
 lines [] = []
 lines (text ∷ more) = text ++ 10 ∷ lines more
-
-abbrev images_of : Option (Reading State) → Option (Reading (Option (List ℕ) × List Image))
-images_of None = None
-images_of (Some (Accepted n state)) = Some (Accepted n (state.machine, state.images))
-images_of (Some (Refused at section reason long)) = Some (Refused at section reason long)
-
-abbrev text_of : Set → Option (Reading State) → Option (Reading (List ℕ))
-text_of set None = None
-text_of set (Some (Accepted n state)) = Some (Accepted n (values_text set state.machine state.images))
-text_of set (Some (Refused at section reason long)) = Some (Refused at section reason long)
-
--- an input, read with all machines of the set: the machine and the images, or the refusal
-unfoldable pub read : Set → List ℕ → Option (Reading (Option (List ℕ) × List Image))
-unfolding reading
-read set input = images_of (reading set set.machines input)
-
--- the same with the values text
-unfoldable pub show : Set → List ℕ → Option (Reading (List ℕ))
-unfolding reading
-show set input = text_of set (reading set set.machines input)

@@ -8,9 +8,6 @@ pub mod Places
 pub mod Streams
 pub mod Units
 pub mod SoFar
-pub mod Dues
-pub mod Table
-pub mod Faults
 pub mod Readings
 pub mod Judging
 pub mod Taking

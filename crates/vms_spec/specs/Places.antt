@@ -7,10 +7,6 @@ use Rattle.vms_spec.specs.Sets.{Field, Desc, Sub, Device, Set}
 use Rattle.vms_spec.specs.Layout.{Cell, first, desc_cells, struct_cells, device_cells, place_of, item_size, capacity_of}
 use Rattle.vms_spec.specs.Images.{sub_place, own_cells}
 
--- how many devices a set has
-abbrev pub device_count : Set → ℕ
-device_count set = length set.devices
-
 abbrev pub size_of_device : Set → Option Device → ℕ
 size_of_device set None = 0
 size_of_device set (Some d) = length (device_cells set d)

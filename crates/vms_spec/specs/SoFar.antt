@@ -1,5 +1,5 @@
 -- What the units so far say: which devices came, which section is open, and what its fields hold.
-use Rattle.std.specs.Prelude.{ℕ, suc, Bool, true, false, ◌&&◌, ◌==◌, List, [], ◌∷◌, map, slice_set, Option, Some, None}
+use Rattle.std.specs.Prelude.{ℕ, Bool, true, false, ◌&&◌, ◌==◌, List, [], ◌∷◌, map, slice_set, Option, Some, None}
 use Rattle.std.specs.Str.{bytes_eq}
 use Rattle.vms_spec.specs.Lists.{at, at_option, position}
 use Rattle.vms_spec.specs.Sets.{Sub, Device, Set}
@@ -24,13 +24,6 @@ abbrev pub id_of : List Piece → ℕ
 id_of [] = 0
 id_of (Head id name instance v ∷ u) = id
 id_of (x ∷ u) = id_of u
-
--- how many units there are since the latest section head or subsection head
-abbrev pub done : List Piece → ℕ
-done (Number c kind z ∷ u) = suc (done u)
-done (Constant kind z ∷ u) = suc (done u)
-done (Filler bytes ∷ u) = suc (done u)
-done _ = 0
 
 module _ (set : Set) where
   -- the device of a name and an instance, by its number

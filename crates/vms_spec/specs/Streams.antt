@@ -67,31 +67,7 @@ SubsSpell set d image [] bytes = bytes ≡ []
 SubsSpell set d image (j ∷ order) bytes =
     (front rest : List ℕ) × SubSpells set d image j (at d.subs j) (at image.came j) front × SubsSpell set d image order rest × (bytes ≡ front ++ rest)
 
--- a section of a device: its head, its fields, the subsections that came in some order, and its footer
-pub record IsSection (set : Set) (d : Device) (image : Image) (id : ℕ) (bytes : List ℕ) : Type 0 where
-  pub fits : id < 4294967296
-  pub normal : IsNormal set d image
-  pub valid : IsValid set d image
-  pub body : List ℕ
-  pub own : Spells image.numbers (own_slots set d image.version image.numbers) body
-  pub order : List ℕ
-  pub each_once : ComesOnce image.came order
-  pub tail : List ℕ
-  pub subs : SubsSpell set d image order tail
-  pub whole : bytes ≡ section_head id d.desc.name d.instance image.version ++ body ++ tail ++ foot id
-
 -- ---- whole streams
-
--- these bytes are a section of device k, with some id
-abbrev pub HasSection : Set → ℕ → Option Device → Option Image → List ℕ → Type 0
-HasSection set k (Some d) (Some image) bytes = (id : ℕ) × IsSection set d image id bytes
-HasSection set k _ _ bytes = ⊥
-
--- the devices of these numbers, in this order, have these bytes
-abbrev pub SectionsSpell : Set → List Image → List ℕ → List ℕ → Type 0
-SectionsSpell set images [] bytes = bytes ≡ []
-SectionsSpell set images (k ∷ order) bytes =
-    (front rest : List ℕ) × HasSection set k (at set.devices k) (at images k) front × SectionsSpell set images order rest × (bytes ≡ front ++ rest)
 
 abbrev pub AllCame : List Bool → Type 0
 AllCame [] = Unit {0}
@@ -117,30 +93,6 @@ IsConfiguration names (Some name) bytes = (is_one_of names name ≡ true) × (le
 abbrev pub IsTrailer : Option (List ℕ) → List ℕ → Type 0
 IsTrailer None bytes = bytes ≡ []
 IsTrailer (Some text) bytes = (length text ≤ longest_text) × (bytes ≡ trailer text)
-
--- a stream of the set: one that names a machine of these or none, has a section for each device in any order, and ends with
--- a description or without one
-pub record IsStream (set : Set) (names : List (List ℕ)) (bytes : List ℕ) (machine : Option (List ℕ)) (images : List Image) (text : Option (List ℕ)) : Type 0 where
-  pub named : List ℕ
-  pub configured : IsConfiguration names machine named
-  pub one_each : length images ≡ length set.devices
-  pub order : List ℕ
-  pub each_once : EachOnce (map (λ d. false) set.devices) order
-  pub sections : List ℕ
-  pub spelled : SectionsSpell set images order sections
-  pub tail : List ℕ
-  pub described : IsTrailer text tail
-  pub whole : bytes ≡ stream_head ++ named ++ sections ++ end_mark ++ tail
-
--- an input takes the stream at its front: one with a description, or one that is all of the input
-pub record Takes (set : Set) (names : List (List ℕ)) (input : List ℕ) (taken : ℕ) (machine : Option (List ℕ)) (images : List Image) : Type 0 where
-  pub bytes : List ℕ
-  pub text : Option (List ℕ)
-  pub stream : IsStream set names bytes machine images text
-  pub rest : List ℕ
-  pub prefix : input ≡ bytes ++ rest
-  pub long : length bytes ≡ taken
-  pub all : text ≡ None → rest ≡ []
 
 -- ---- what the writer gives
 

@@ -5,3 +5,5 @@ pub mod Streams
 pub mod Tails
 pub mod DueSizes
 pub mod Faults
+pub mod Sets
+pub mod Shipped

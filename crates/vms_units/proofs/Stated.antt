@@ -11,21 +11,19 @@ use Rattle.vms_spec.specs.Images.{Image}
 use Rattle.vms_spec.specs.Streams.{written}
 use Rattle.vms_spec.specs.Units.{spelled}
 use Rattle.vms_spec.specs.Readings.{Reading, Accepted, Refused}
-use Rattle.vms_laws.specs.Laws.{AreOneFault}
 use Rattle.vms_laws.proofs.WellFormedLaws.{well_good}
-use Rattle.vms_laws.proofs.WrittenLaws.{written_section_is, written_is_stream}
 use Rattle.vms_units.specs.SoFar.{images, machine}
 use Rattle.vms_units.specs.Judge.{judge, reading}
 use Rattle.vms_units.specs.Laws.{Ends}
 use Rattle.vms_units.specs.State.{State, by_state, at_start}
 use Rattle.vms_units.specs.Streams.{Takes}
-use Rattle.vms_units.specs.StreamLaws.{ToldLaw, AcceptedLaw, TakenLaw, LocalLaw, UnitsLaw, StreamLaw, GoesOn, FrontLaw, OneStreamLaw, Answer, Taken, Faulty, EitherLaw, NeverBothLaw, OneFaultLaw, SectionLaw, WrittenLaw}
+use Rattle.vms_units.specs.StreamLaws.{ToldLaw, AcceptedLaw, TakenLaw, LocalLaw, UnitsLaw, StreamLaw, GoesOn, FrontLaw, OneStreamLaw, Answer, Taken, Faulty, EitherLaw, NeverBothLaw, OneFaultLaw, SectionLaw, WrittenLaw, AreOneFault}
 use Rattle.vms_units.proofs.Finding.Advancing.{advances}
 use Rattle.vms_units.proofs.Judging.Mirrors.{solid, state_accepts, state_refuses}
 use Rattle.vms_units.proofs.Judging.Once.{local, told_from, Answer as Told, either, Well, Ill}
 use Rattle.vms_units.proofs.Streams.StreamFound.{found}
 use Rattle.vms_units.proofs.Streams.StreamRead.{read}
-use Rattle.vms_units.proofs.Streams.Footed.{section_is, stream_is}
+use Rattle.vms_units.proofs.Streams.Written.{written_section_is, written_is_stream}
 use Rattle.vms_units.proofs.Streams.Onward.{begins}
 
 none_left : (d : Due) (rest : List ℕ) (f : Found) → Shows d rest f → ((x : Piece) (more : List ℕ) → May d x → rest ≡ spell x ++ more → ⊥) → f ≡ Cut
@@ -131,13 +129,13 @@ one_fault_holds set names input ok place other_place section other_section reaso
 -- ---- what the writer gives
 
 pub section_holds : SectionLaw
-section_holds set d image id fits ready = section_is set d image id _ (written_section_is set d image id fits ready)
+section_holds set d image id fits ready = written_section_is set d image id fits ready
 
 pub written_holds : WrittenLaw
 written_holds set names few machine text images configured described ready rest all = record {
   bytes = written set machine images text;
   text = text;
-  stream = stream_is set names (written set machine images text) machine images text (written_is_stream set names few machine text images configured described ready.one_each ready.ready);
+  stream = written_is_stream set names few machine text images configured described ready.one_each ready.ready;
   rest = rest;
   prefix = refl;
   long = refl;

@@ -8,5 +8,5 @@ pub mod SectionsFound
 pub mod StreamFound
 pub mod SectionsRead
 pub mod StreamRead
-pub mod Footed
+pub mod Written
 pub mod Onward

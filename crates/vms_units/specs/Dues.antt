@@ -1,11 +1,11 @@
 -- The units that may come next, and whether the validations of what has ended hold.
 use Rattle.std.specs.Prelude.{◌≡◌, ℕ, zero, ◌<◌, ◌≤◌, Bool, true, false, not, ◌&&◌, ◌||◌, ◌==◌, List, [], ◌∷◌, length, get_or, drop, Option, Some, None, ℤ}
 use Rattle.vms_kinds.specs.declared.Kind.{Kind}
-use Rattle.vms_kinds.specs.declared.Kind.TheVariants.{U8, Bool as Truth}
 use Rattle.vms_kinds.specs.Codes.{InRange}
 use Rattle.vms_spec.specs.Sets.{Set}
 use Rattle.vms_spec.specs.Layout.{Slot, Number as NumberSlot, Constant as ConstantSlot, Filler as FillerSlot, Rule as RuleSlot}
 use Rattle.vms_spec.specs.Streams.{longest_text}
+pub use Rattle.vms_spec.specs.Judging.{raw}
 use Rattle.vms_spec.specs.Units.{Piece, spell, Magic, Version, Configuration, Long, Head, Number, Constant, Filler, SubHead, Foot, End, Description, Start, Mark}
 use Rattle.vms_units.specs.SoFar.{Tail, Unknown, Footed, Bare, tail, passed}
 use Rattle.vms_spec.specs.SoFar.{opened, slots}
@@ -50,11 +50,6 @@ module _ (set : Set) where
   -- whether the validations hold of each description whose fields end with these units
   abbrev pub holds : List Piece → Bool
   holds u = rules_hold (drop (passed set u) (slots set u))
-
--- what is spelled as a bool may be any byte
-abbrev pub raw : Kind → Kind
-raw Truth = U8
-raw kind = kind
 
 abbrev pub fits_four : ℕ → Type 0
 fits_four n = n < 4294967296

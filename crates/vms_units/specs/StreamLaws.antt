@@ -10,13 +10,12 @@ use Rattle.vms_spec.specs.WellFormed.{WellFormed}
 use Rattle.vms_spec.specs.Readings.{Reading, Accepted}
 use Rattle.vms_spec.specs.Units.{Piece, spelled}
 use Rattle.vms_spec.specs.Heads.{FitsHeads}
-use Rattle.vms_laws.specs.Laws.{AreSame, AreOneFault}
 use Rattle.vms_units.specs.SoFar.{images, machine}
 use Rattle.vms_units.specs.Dues.{Due}
 use Rattle.vms_units.specs.Faults.{Front, Fault}
 use Rattle.vms_units.specs.Finding.{Whole, unit_at}
 use Rattle.vms_units.specs.Judge.{reading}
-use Rattle.vms_units.specs.Streams.{IsSection, Takes}
+use Rattle.vms_units.specs.Streams.{IsSection, IsStream, Takes}
 use Rattle.vms_units.specs.State.{State, at_start, by_state}
 use Rattle.vms_units.specs.Laws.{Ends}
 
@@ -68,6 +67,12 @@ FrontLaw = (set : Set) (names : List (List ℕ)) → WellFormed set → FitsHead
 
 -- ---- streams and faults
 
+-- two streams that an input takes are of one length, name one machine, if any, and have the same images
+pub record AreSame (n m : ℕ) (machine other : Option (List ℕ)) (images others : List Image) : Type 0 where
+  pub lengths : n ≡ m
+  pub machines : machine ≡ other
+  pub states : images ≡ others
+
 -- an input takes one stream at most
 abbrev pub OneStreamLaw : Type 0
 OneStreamLaw = (set : Set) (names : List (List ℕ)) → WellFormed set → FitsHeads set → (input : List ℕ) (n m : ℕ) (machine other : Option (List ℕ)) (images others : List Image)
@@ -87,6 +92,13 @@ abbrev pub NeverBothLaw : Type 0
 NeverBothLaw = (set : Set) (names : List (List ℕ)) → WellFormed set → FitsHeads set → (input : List ℕ) → IsBytes input
     → (n : ℕ) (machine : Option (List ℕ)) (images : List Image) (place : ℕ) (section : Option ℕ) (reason : Reason) (size : ℕ)
     → Takes set names input n machine images → Fault set names input place section reason size → ⊥
+
+-- two faults of an input are at one place, for one device, of one reason and at a unit of one length
+pub record AreOneFault (place other_place : ℕ) (section other_section : Option ℕ) (reason other_reason : Reason) (size other_size : ℕ) : Type 0 where
+  pub places : place ≡ other_place
+  pub sections : section ≡ other_section
+  pub reasons : reason ≡ other_reason
+  pub sizes : size ≡ other_size
 
 -- an input has one fault at most, for every set
 abbrev pub OneFaultLaw : Type 0
@@ -108,3 +120,8 @@ WrittenLaw = (set : Set) (names : List (List ℕ)) → length set.devices ≤ 42
     → IsConfiguration names machine (optional configuration machine) → IsTrailer text (optional trailer text) → AreReady set images
     → (rest : List ℕ) → (text ≡ None → rest ≡ [])
     → Takes set names (written set machine images text ++ rest) (length (written set machine images text)) machine images
+
+-- The bytes are a stream, and an input that begins with them takes just these. Where there is no text, nothing may follow.
+pub record IsWholeStream (set : Set) (names : List (List ℕ)) (bytes : List ℕ) (machine : Option (List ℕ)) (images : List Image) (text : Option (List ℕ)) : Type 0 where
+  pub stream : IsStream set names bytes machine images text
+  pub taken : (rest : List ℕ) → (text ≡ None → rest ≡ []) → Takes set names (bytes ++ rest) (length bytes) machine images

@@ -7,7 +7,8 @@ use Rattle.vms_spec.specs.declared.Part.TheVariants as parts
 use Rattle.vms_spec.specs.Lists.{at, every, or_else, first_answer}
 use Rattle.vms_spec.specs.Sets.{Device, Set}
 use Rattle.vms_spec.specs.Images.{Image}
-use Rattle.vms_spec.specs.Streams.{IsSection, HasSection, SectionsSpell, IsReady, EachOnce, is_one_of, written_section, written_sections}
+use Rattle.vms_units.specs.Streams.{IsSection, HasSection, SectionsSpell}
+use Rattle.vms_spec.specs.Streams.{IsReady, EachOnce, is_one_of, written_section, written_sections}
 use Rattle.vms_spec.specs.Judging.{find_device, index}
 use Rattle.vms_spec.specs.Readiness.{is_version_of}
 use Rattle.vms_spec.specs.WellFormed.{WellFormed, here}
@@ -208,7 +209,7 @@ module _ (old new : Set) (good_old : WellFormed old) (good_new : WellFormed new)
     pub spell : (i : ℕ) (ds : List Device) (ims : List Image) → length ims ≡ length ds → ((j : ℕ) → at old.devices (i + j) ≡ at ds j)
         → ((j : ℕ) → get_or images (i + j) (no_image old new) ≡ get_or ims j (no_image old new))
         → ((j : ℕ) (d : Device) (image : Image) → at ds j ≡ Some d → at ims j ≡ Some image → IsReady old d image)
-        → i + length ds ≤ 4294967296 → SectionsSpell new (carried old new images) (device_order new ds) (written_sections old i ds ims)
+        → i + length ds ≤ 4294967296 → SectionsSpell new true (carried old new images) (device_order new ds) (written_sections old i ds ims)
     spell i [] ims long devices_are images_are ready few = refl
     spell i (d ∷ ds) [] long devices_are images_are ready few = absurd (omega arith)
     spell i (d ∷ ds) (im ∷ ims) long devices_are images_are ready few =
@@ -222,11 +223,11 @@ module _ (old new : Set) (good_old : WellFormed old) (good_new : WellFormed new)
         image_at i d e p ∙ ap (λ (m : Image). Some (carried_device old new d p.device m)) im_is in
         let paired : ArePaired old new i p.number d p.device = record { in_old = e; in_new = p.stands; names = sym p.name_is; instances = sym p.instance_is; rules = p.same } in
         let one = device_stands old new good_old good_new i p.number d p.device paired im i (saved old d im (ready 0 d im refl refl)) (omega arith) in
-        let at_number : HasSection new p.number (at new.devices p.number) (at (carried old new images) p.number) front =
-        subst (λ (r : Option Device). HasSection new p.number r (at (carried old new images) p.number) front) (sym p.stands)
-        (subst (λ (r : Option Image). HasSection new p.number (Some p.device) r front) (sym image_is) (i, one)) in
+        let at_number : HasSection new true p.number (at new.devices p.number) (at (carried old new images) p.number) front =
+        subst (λ (r : Option Device). HasSection new true p.number r (at (carried old new images) p.number) front) (sym p.stands)
+        (subst (λ (r : Option Image). HasSection new true p.number (Some p.device) r front) (sym image_is) (i, one)) in
         let number_is : p.number ≡ index (find_device 0 new.devices d.desc.name d.instance) = sym (ap index p.found) in
-        let here_section = subst (λ (k : ℕ). HasSection new k (at new.devices k) (at (carried old new images) k) front) number_is at_number in (
+        let here_section = subst (λ (k : ℕ). HasSection new true k (at new.devices k) (at (carried old new images) k) front) number_is at_number in (
           front,
           rest,
           here_section,

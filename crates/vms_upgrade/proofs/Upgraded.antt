@@ -10,11 +10,12 @@ use Rattle.vms_spec.specs.Lists.{at, every}
 use Rattle.vms_spec.specs.Names.{is_name, is_name_byte}
 use Rattle.vms_spec.specs.Sets.{Device, Set}
 use Rattle.vms_spec.specs.Images.{Image}
-use Rattle.vms_spec.specs.Streams.{IsStream, IsConfiguration, IsTrailer, configuration, trailer, optional, longest_text, is_one_of, written, written_sections, AreReady}
+use Rattle.vms_units.specs.Streams.{IsStream}
+use Rattle.vms_spec.specs.Streams.{IsConfiguration, IsTrailer, configuration, trailer, optional, longest_text, is_one_of, written, written_sections, AreReady}
 use Rattle.vms_spec.specs.WellFormed.{WellFormed, failing, first_fault, here, set_rules}
 use Rattle.vms_check.specs.Comparing.{Compatible}
 use Rattle.vms_check.specs.Carrying.{carried, carried_at, no_image}
-use Rattle.vms_laws.specs.Laws.{IsWholeStream}
+use Rattle.vms_units.specs.StreamLaws.{IsWholeStream}
 use Rattle.vms_laws.proofs.WellFormedLaws.{AllTrue}
 use Rattle.vms_upgrade.specs.Laws.{UpgradeLaw}
 use Rattle.vms_upgrade.proofs.Pairing.{or_else_none}
@@ -75,6 +76,8 @@ module _ (old new : Set) (good_old : WellFormed old) (good_new : WellFormed new)
     order = device_order new old.devices;
     each_once = each_once old new good_old good_new none;
     sections = written_sections old 0 old.devices images;
+    footed = true;
+    bare = λ e. cc;
     spelled = spell old new good_old good_new none images 0 old.devices images ready.one_each
         (λ j. let s : 0 + j ≡ j = omega arith in ap (λ (k : ℕ). at old.devices k) s)
         (λ j. let s : 0 + j ≡ j = omega arith in ap (λ (k : ℕ). get_or images k (no_image old new)) s)

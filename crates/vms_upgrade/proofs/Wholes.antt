@@ -6,7 +6,8 @@ use Rattle.vms_spec.specs.Lists.{at, first_answer}
 use Rattle.vms_spec.specs.Sets.{Sub, Device, Set}
 use Rattle.vms_spec.specs.Layout.{Slot, no_cell, struct_cells, desc_cells, device_cells}
 use Rattle.vms_spec.specs.Images.{Image, IsVersionOf, zeroed, own_slots, own_cells, sub_slots, sub_place, came_slots, has_cell}
-use Rattle.vms_spec.specs.Streams.{IsSection, SubSpells, SubsSpell, ComesOnce, sub_head, section_head, foot, written_subs, written_section}
+use Rattle.vms_units.specs.Streams.{IsSection}
+use Rattle.vms_spec.specs.Streams.{SubSpells, SubsSpell, ComesOnce, sub_head, section_head, foot, written_subs, written_section}
 use Rattle.vms_spec.specs.Judging.{find_sub, index}
 use Rattle.vms_spec.specs.Readiness.{is_version_of}
 use Rattle.vms_spec.specs.WellFormed.{WellFormed}
@@ -236,7 +237,7 @@ module _ (old new : Set) (good_old : WellFormed old) (good_new : WellFormed new)
   absent_default slots c (inr is) absent = is ∙ defaults_at (device_cells new e) c
 
   pub section_whole : (part part' : Part) → comparing old new d.desc e.desc d.desc.version part part' ≡ None → is_version_of e.desc d.desc.version ≡ true
-      → d.desc.name ≡ e.desc.name → d.instance ≡ e.instance → (id : ℕ) → id < 4294967296 → IsSection new e image' id (written_section old d image id)
+      → d.desc.name ≡ e.desc.name → d.instance ≡ e.instance → (id : ℕ) → id < 4294967296 → IsSection new e image' id true (written_section old d image id)
   section_whole part part' same version names instances id lt =
       let v = image.version in
       let numbers = image.numbers in

@@ -3,11 +3,12 @@ use Rattle.std.specs.Prelude.{◌≡◌, ℕ, ◌<◌, ◌≤◌, true, List, le
 use Rattle.vms_spec.specs.Lists.{at}
 use Rattle.vms_spec.specs.Sets.{Sub, Device, Set}
 use Rattle.vms_spec.specs.Images.{Image, IsNormal, IsValid}
-use Rattle.vms_spec.specs.Streams.{IsSection, is_one_of, longest_text, written, written_section, AreReady}
+use Rattle.vms_units.specs.Streams.{IsSection}
+use Rattle.vms_spec.specs.Streams.{is_one_of, longest_text, written, written_section, AreReady}
 use Rattle.vms_spec.specs.WellFormed.{WellFormed}
 use Rattle.vms_check.specs.Comparing.{Compatible, compare_device}
 use Rattle.vms_check.specs.Carrying.{carried, carried_device}
-use Rattle.vms_laws.specs.Laws.{IsWholeStream}
+use Rattle.vms_units.specs.StreamLaws.{IsWholeStream}
 
 -- a state of a device at the versions that its set writes, whichever subsections came. A ready image is one of them
 pub record IsSaved (set : Set) (d : Device) (image : Image) : Type 0 where
@@ -29,7 +30,7 @@ pub record ArePaired (old new : Set) (i k : ℕ) (d e : Device) : Type 0 where
 abbrev pub DeviceLaw : Type 0
 DeviceLaw = (old new : Set) → WellFormed old → WellFormed new → (i k : ℕ) (d e : Device) → ArePaired old new i k d e
     → (image : Image) (id : ℕ) → IsSaved old d image → id < 4294967296
-    → IsSection new e (carried_device old new d e image) id (written_section old d image id)
+    → IsSection new e (carried_device old new d e image) id true (written_section old d image id)
 
 -- Whole streams: for compatible sets, what the older writes of ready images, with any machine of its own or none and any
 -- text or none, is a stream of the newer with the carried images, and all of it is taken

@@ -7,7 +7,9 @@ use Rattle.vms_spec.specs.Images.{Image, default_image}
 use Rattle.vms_spec.specs.Streams.{written}
 use Rattle.vms_spec.specs.Readings.{Accepted, Refused}
 use Rattle.vms_spec.specs.Shipped.{set_1, set_2, set_3, set_4}
-use Rattle.vms_spec.proofs.Rows.{hex, read}
+use Rattle.vms_spec.proofs.Rows.{hex}
+use Rattle.vms_units.specs.Finding.{between_at, behind_at, trailer_at}
+use Rattle.vms_units.proofs.Rows.Reads.{read}
 use Rattle.vms_spec.specs.declared.Reason.TheVariants as reasons
 
 abbrev defaults : Set → List Image
@@ -39,17 +41,17 @@ unfolding code first
 writes_the_serial_section_of_set_1 = refl
 
 reads_the_stream_of_set_1 : read set_1 (stream set_1 (codes "isa-1")) ≡ Some (Accepted 251 (Some (codes "isa-1"), defaults set_1))
-unfolding read code first
+unfolding read between_at behind_at trailer_at code first
 reads_the_stream_of_set_1 = refl
 
 reads_the_stream_of_set_3 : read set_3 (stream set_3 (codes "isa-3")) ≡ Some (Accepted 260 (Some (codes "isa-3"), defaults set_3))
-unfolding read code first
+unfolding read between_at behind_at trailer_at code first
 reads_the_stream_of_set_3 = refl
 
 reads_the_stream_of_set_4 : read set_4 (stream set_4 (codes "isa-4")) ≡ Some (Accepted 260 (Some (codes "isa-4"), defaults set_4))
-unfolding read code first
+unfolding read between_at behind_at trailer_at code first
 reads_the_stream_of_set_4 = refl
 
 refuses_the_machine_of_set_2 : read set_1 (stream set_2 (codes "isa-2")) ≡ Some (Refused 8 None reasons.WrongMachine 10)
-unfolding read code first
+unfolding read between_at behind_at trailer_at code first
 refuses_the_machine_of_set_2 = refl

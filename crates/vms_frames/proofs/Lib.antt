@@ -1,5 +1,0 @@
-pub mod FillLemmas
-pub mod UnitLemmas
-pub mod HeadLemmas
-pub mod JudgedLemmas
-pub mod Steps
