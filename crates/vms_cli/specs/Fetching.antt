@@ -9,7 +9,7 @@ use Rattle.vms_cli.specs.Lines.{not_there_line, too_large_line}
 use Rattle.vms_cli.specs.SetLines.{syntax_line, shape_line, rule_line}
 use Rattle.vms_cli.specs.Steps.{Step, Untold, Gives, Ends, next, Both, both}
 
--- the greatest description file, in bytes
+-- the greatest file but a script, in bytes
 abbrev pub longest_file : ℕ
 longest_file = 1048576
 

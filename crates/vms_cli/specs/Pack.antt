@@ -7,12 +7,13 @@ use Rattle.vms_spec.specs.Images.{Image}
 use Rattle.vms_spec.specs.Sets.{Set}
 use Rattle.vms_spec.specs.Streams.{written}
 use Rattle.vms_spec.specs.ValuesReading.{Values, Bad, values_read}
+use Rattle.vms_cli.specs.Fetching.{longest_file}
 use Rattle.vms_cli.specs.Lines.{values_line, not_there_line, too_large_line}
 use Rattle.vms_cli.specs.Outcomes.{Outcome, done, ended, Outside, OutFault, NotesFault, ShelfFault, WantsMemory, EndsBy}
 
 -- the greatest values text, in bytes
 abbrev pub longest_values : ℕ
-longest_values = 1048576
+longest_values = longest_file
 
 -- what is read of a text that was fetched
 pub data PacksText (set : Set) (text : List ℕ) (held : Option Held) : Outcome → Type 0 where

@@ -16,8 +16,8 @@ use vms_desc::DescSet;
 use vms_descfile::{FileFault, read_set};
 use vms_io::{FetchFault, NoMemory, Shelf};
 
-// The greatest description file, in bytes.
-const LONGEST: u32 = 1_048_576;
+/// The greatest description file or values text, in bytes.
+pub(crate) const LONGEST: u32 = 1_048_576;
 
 /// A set as its word gives it, before a file is read.
 #[derive(Drop)]
@@ -70,10 +70,10 @@ pub(crate) fn fetch_set<'a, H: Shelf>(
 {
     match word {
         SetWord::Shipped(set) => Ok(SetText::Shipped(set)),
-        SetWord::OnShelf(name) => match fetch(alloc, name, shelf) {
-            Ok(text) => Ok(SetText::Text { name, text }),
-            Err(ending) => Err(ending),
-        },
+        SetWord::OnShelf(name) => {
+            let text = fetch(alloc, name, shelf)?;
+            Ok(SetText::Text { name, text })
+        }
     }
 }
 

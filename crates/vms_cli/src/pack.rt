@@ -10,15 +10,13 @@ ghost use Rattle.vms_cli.specs.Pack.{Packs, PacksText, longest_values};
 ghost use Rattle.vms_cli.specs.Endings.{EndsAs, PackCause, WriteCause, WritesAs};
 
 use crate::ending::Ending;
+use crate::fetch::LONGEST;
 use crate::notes::{not_there_line, too_large_line, values_line};
 use std::alloc::Global;
 use vms_desc::DescSet;
 use vms_io::{FetchFault, Shelf, Sink};
 use vms_values::{Values, ValuesFault, read_values};
 use vms_write::write_stream;
-
-// The greatest values text, in bytes.
-const LONGEST: u32 = 1_048_576;
 
 pub(crate) fn pack<O: Sink, H: Shelf>(
     alloc: Global,
