@@ -1,12 +1,12 @@
 -- Good answers: of members, of lists, and of numbers and texts as they are written.
-use Rattle.std.proofs.Common.{◌≡◌, ℕ, suc, ◌+◌, ◌≤◌, List, [], ◌∷◌, map, Bool, true, false, if◌then◌else◌, nat_le, Option, Some, None, option_map, ℤ, pos, negsuc, refl, ap, sym, ◌∙◌, decimal, int_le, int_lt, ◌&&◌, subst, arith}
+use Rattle.std.proofs.Common.{◌≡◌, ℕ, suc, ◌+◌, ◌≤◌, List, [], ◌∷◌, map, Bool, true, false, if◌then◌else◌, Option, Some, None, option_map, ℤ, pos, negsuc, refl, ap, ◌∙◌, decimal, int_le, int_lt, ◌&&◌}
 use Rattle.std.proofs.lemmas.Bool.{le-leb}
-use Rattle.serde_json.specs.Data.{Data, number, array, null}
+use Rattle.serde_json.specs.Data.{Data, number, null}
 use Rattle.serde_json.specs.Find.{get, of_integer}
 use Rattle.serde_json.specs.View.{items_of}
 use Rattle.vms_spec.specs.Lists.{at as item_at}
 use Rattle.vms_descfile.specs.Answers.{Answer, good, bad, under, next, changed, each_from, list_of}
-use Rattle.vms_descfile.specs.Keys.{member_of, member_or, at, at_or, maybe_at, up_to, natural, integer_of, judged}
+use Rattle.vms_descfile.specs.Keys.{member_of, member_or, at, at_or, maybe_at, natural, integer_of, judged}
 use Rattle.vms_descfile.specs.Written.{list_file, natural_file, integer_file}
 use Rattle.vms_descfile.proofs.ObjectLaws.{kept, listed}
 

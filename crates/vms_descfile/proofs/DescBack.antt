@@ -1,32 +1,32 @@
 -- The files of descriptions, devices and sets say these again.
-use Rattle.std.proofs.Common.{◌≡◌, ℕ, suc, ◌+◌, ◌≤◌, List, [], ◌∷◌, ◌++◌, get_or, length, map, Bool, true, false, ◌&&◌, ◌==◌, if◌then◌else◌, nat_le, Option, Some, None, option_map, refl, sym, ap, ◌∙◌, subst, codes, arith}
+use Rattle.std.proofs.Common.{◌≡◌, ℕ, ◌≤◌, List, [], ◌∷◌, get_or, length, map, Bool, true, false, ◌&&◌, ◌==◌, nat_le, Option, Some, None, refl, sym, ap, ◌∙◌, subst, codes, arith}
 use Rattle.std.specs.Option.{option_and_then}
 use Rattle.std.proofs.lemmas.Bool.{and_parts, eqb-true, leb-true, false≢true}
-use Rattle.serde_json.specs.Data.{Data, Members, Items, string, object, put}
+use Rattle.serde_json.specs.Data.{Data, Members, string, object, put}
 use Rattle.serde_json.specs.Find.{get, as_str, as_array}
 use Rattle.serde_json.specs.View.{items_of}
 use Rattle.vms_spec.specs.Lists.{at as item_at}
-use Rattle.vms_spec.specs.Sets.{Formula, Field, Desc, Sub, Device, Set}
+use Rattle.vms_spec.specs.Sets.{Formula, Field, Desc}
 use Rattle.vms_spec.specs.declared.Count.{Count}
 use Rattle.vms_spec.specs.declared.Count.TheVariants.{One, Fixed, Counted}
-use Rattle.vms_spec.specs.Rules.{nodes, depth, is_small_test, is_small_optional, is_small_item, is_steady_in, is_earlier_in, names_well, nobody, test_names_well, count_names_well, is_counting, defaults_well, counts_well, field_rules, validation_rules}
+use Rattle.vms_spec.specs.Rules.{nodes, depth, is_small_test, is_small_optional, is_small_item, is_steady_in, is_earlier_in, names_well, nobody, test_names_well, count_names_well, is_counting, defaults_well, counts_well}
 use Rattle.vms_spec.specs.Layout.{counted}
 use Rattle.vms_spec.specs.WellFormed.{has_few}
 use Rattle.vms_laws.proofs.WellFormedLaws.{Clean}
-use Rattle.vms_descfile.specs.Answers.{Answer, good, under, next, changed, list_of}
+use Rattle.vms_descfile.specs.Answers.{good, under, changed, list_of}
 use Rattle.vms_descfile.specs.Index.{first_of}
 use Rattle.vms_descfile.specs.Keys.{fits as keys_fit, member_or, at, at_or, maybe_at, u32_of, text_of}
-use Rattle.vms_descfile.specs.Tests.{Names, Scope, names_of, names_of_list, names_in, names_if, text_or_none, number_in, test_of}
+use Rattle.vms_descfile.specs.Tests.{Names, Scope, names_of, names_of_list, names_if, text_or_none, number_in, test_of}
 use Rattle.vms_descfile.specs.Fields.{field_of}
-use Rattle.vms_descfile.specs.Descs.{desc_needs, desc_allows, Head, head_of, minimum_or, desc_as, rest_of, struct_in, struct_of, sub_in, sub_of}
-use Rattle.vms_descfile.specs.Fitting.{FitsTest, FitsOptional, FitsField, FitsDesc, FitsSub}
-use Rattle.vms_descfile.specs.Written.{list_file, natural_file, own_names, counter_in, test_file, field_file, desc_members, struct_file, sub_file}
+use Rattle.vms_descfile.specs.Descs.{desc_needs, desc_allows, Head, head_of, minimum_or, rest_of, struct_in, struct_of}
+use Rattle.vms_descfile.specs.Fitting.{FitsTest, FitsOptional, FitsDesc}
+use Rattle.vms_descfile.specs.Written.{list_file, natural_file, own_names, counter_in, test_file, field_file, desc_members, struct_file}
 use Rattle.vms_descfile.proofs.ObjectLaws.{Table, put_if, members_in, object_of, found, or_none, got, table_fits, kept, listed, unless_if, list_if}
-use Rattle.vms_descfile.proofs.AnswerLaws.{next_good, judged_good, at_good, maybe_good, default_good, list_good, list_or_good, natural_good}
-use Rattle.vms_descfile.proofs.ShownLaws.{asked, number_shown, test_shown, field_shown, desc_shown, sub_shown}
+use Rattle.vms_descfile.proofs.AnswerLaws.{next_good, judged_good, at_good, list_good, list_or_good, natural_good}
+use Rattle.vms_descfile.proofs.ShownLaws.{asked, number_shown, test_shown, field_shown, desc_shown}
 use Rattle.vms_descfile.proofs.FirstNames.{Found, all_found, earlier_found}
 use Rattle.vms_descfile.proofs.TestBack.{Scoped, test_back}
-use Rattle.vms_descfile.proofs.FieldBack.{Named, field_table, field_tabled, field_back}
+use Rattle.vms_descfile.proofs.FieldBack.{field_table, field_tabled, field_back}
 
 abbrev own_scope : Bool → List (List ℕ) → Scope
 own_scope asks names = record { own = asked asks names; parent = None }

@@ -1,5 +1,5 @@
 -- A field's file says the field again.
-use Rattle.std.proofs.Common.{◌≡◌, ℕ, ◌≤◌, List, [], ◌∷◌, get_or, map, Bool, true, false, not, ◌&&◌, ◌==◌, if◌then◌else◌, nat_le, Option, Some, None, option_map, is_some, ℤ, pos, negsuc, ◌≤ℤ◌, int_le, int_lt, refl, sym, ap, ◌∙◌, subst, codes, arith}
+use Rattle.std.proofs.Common.{◌≡◌, ℕ, ◌≤◌, List, [], ◌∷◌, get_or, map, Bool, true, false, not, ◌&&◌, ◌==◌, if◌then◌else◌, Option, Some, None, option_map, is_some, ℤ, pos, negsuc, int_le, int_lt, refl, sym, ap, ◌∙◌, subst, codes, arith}
 use Rattle.std.specs.Option.{option_and_then}
 use Rattle.std.proofs.lemmas.Bool.{and_parts, and_from, eqb-true, false≢true}
 use Rattle.std.proofs.lemmas.Int.{ints}
@@ -17,13 +17,13 @@ use Rattle.vms_spec.specs.Numbers.{same_number}
 use Rattle.vms_laws.proofs.WellFormedLaws.{ranges}
 use Rattle.vms_descfile.specs.declared.sort.Sort.{Sort}
 use Rattle.vms_descfile.specs.declared.sort.Sort.TheVariants as sorts
-use Rattle.vms_descfile.specs.Answers.{Answer, good, next, given, list_of}
-use Rattle.vms_descfile.specs.Keys.{has, fits, at, at_or, maybe_at, u16_of, u32_of, integer_of, text_of}
+use Rattle.vms_descfile.specs.Answers.{good, given, list_of}
+use Rattle.vms_descfile.specs.Keys.{fits, at, at_or, maybe_at, u16_of, u32_of, integer_of, text_of}
 use Rattle.vms_descfile.specs.Tests.{Names, number_in, name_in, test_of}
-use Rattle.vms_descfile.specs.Fields.{sort_named, sort_of, counts_fit, sort_fits, field_needs, field_allows, field_fits, count_as, count_of, number_item, item_as, Front, front_of, field_after, field_in, field_of}
+use Rattle.vms_descfile.specs.Fields.{sort_named, sort_of, counts_fit, sort_fits, field_needs, field_allows, field_fits, count_as, count_of, item_as, front_of, field_after, field_in, field_of}
 use Rattle.vms_descfile.specs.Fitting.{FitsItem, FitsCount, FitsField}
-use Rattle.vms_descfile.specs.Written.{natural_file, integer_file, is_zero, item_word, capacity_in, length_in, counter_in, equal_in, size_in, struct_in, given_as, list_as, unless, test_file, front_file, field_file}
-use Rattle.vms_descfile.proofs.ObjectLaws.{Table, put_if, members_in, object_of, found, or_none, got, has_is, table_fits, kept, listed, given_if, unless_if, list_if}
+use Rattle.vms_descfile.specs.Written.{natural_file, integer_file, is_zero, item_word, capacity_in, length_in, counter_in, equal_in, size_in, struct_in, test_file, front_file, field_file}
+use Rattle.vms_descfile.proofs.ObjectLaws.{Table, put_if, members_in, object_of, or_none, got, table_fits, kept, listed, given_if, unless_if, list_if}
 use Rattle.vms_descfile.proofs.AnswerLaws.{next_good, judged_good, at_good, maybe_good, default_good, list_or_good, natural_good, integer_good}
 use Rattle.vms_descfile.proofs.ShownLaws.{number_shown, test_shown, count_shown, field_shown, map_same}
 

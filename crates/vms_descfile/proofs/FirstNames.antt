@@ -1,5 +1,5 @@
 -- The fields that a test or a count may name are found by their names.
-use Rattle.std.proofs.Common.{◌≡◌, ℕ, zero, suc, ◌+◌, ◌<◌, ◌≤◌, List, [], ◌∷◌, ◌++◌, length, get_or, take, map, min, Bool, true, false, not, ◌&&◌, ◌||◌, cond, nat_lt, nat_le, Option, Some, None, refl, sym, ap, ◌∙◌, subst, arith}
+use Rattle.std.proofs.Common.{◌≡◌, ℕ, zero, suc, ◌+◌, ◌<◌, ◌≤◌, List, [], ◌∷◌, ◌++◌, length, get_or, take, min, Bool, true, false, not, cond, nat_lt, nat_le, Option, Some, None, refl, ap, ◌∙◌, arith}
 use Rattle.std.specs.List.{position, position_or_len}
 use Rattle.std.specs.Str.{bytes_eq}
 use Rattle.std.proofs.lemmas.Bool.{and_parts, or_parts, not-true, leb-true, lt-ltb}
@@ -9,11 +9,11 @@ use Rattle.vms_spec.specs.Lists.{at}
 use Rattle.vms_spec.specs.Sets.{Field, Desc}
 use Rattle.vms_spec.specs.Names.{all_names, are_new}
 use Rattle.vms_spec.specs.Streams.{is_one_of}
-use Rattle.vms_spec.specs.Rules.{is_num, is_one, has_no_test, is_steady, is_steady_in, is_earlier_in, field_rules}
+use Rattle.vms_spec.specs.Rules.{is_steady, is_steady_in, is_earlier_in}
 use Rattle.vms_spec.specs.WellFormed.{has_few}
-use Rattle.vms_laws.proofs.WellFormedLaws.{Clean, get_at}
+use Rattle.vms_laws.proofs.WellFormedLaws.{Clean}
 use Rattle.vms_laws.proofs.PartLaws.{at_inside}
-use Rattle.vms_descfile.specs.Answers.{Answer, good}
+use Rattle.vms_descfile.specs.Answers.{good}
 use Rattle.vms_descfile.specs.Tests.{number_in, numbered}
 use Rattle.vms_descfile.specs.Written.{own_names}
 use Rattle.vms_descfile.proofs.ShownLaws.{asked, number_shown}

@@ -1,5 +1,5 @@
 -- The number of the first field of each name.
-use Rattle.std.proofs.Common.{◌≡◌, ℕ, zero, suc, ◌+◌, ◌<◌, ◌≤◌, List, [], ◌∷◌, ◌++◌, Bool, true, false, cond, eqb, ltb, if◌then◌else◌, Option, Some, None, is_some, option_and_then, map, take, get_or, length, refl, ap, sym, ◌∙◌, codes, arith, inl, inr, ⊎_elim}
+use Rattle.std.proofs.Common.{◌≡◌, ℕ, suc, ◌+◌, ◌<◌, ◌≤◌, List, [], ◌∷◌, ◌++◌, Bool, true, false, cond, eqb, ltb, if◌then◌else◌, Option, Some, None, is_some, option_and_then, take, get_or, length, refl, ap, sym, ◌∙◌, codes, arith, ⊎_elim}
 use Rattle.std.specs.List.{position, position_or_len}
 use Rattle.std.specs.Str.{bytes_eq}
 use Rattle.std.proofs.lemmas.Bool.{cases_lt, lt-ltb, le-ltb, eq-eqb, ne_eqb, false≢true}

@@ -1,25 +1,24 @@
 -- The files of subsections, devices and sets say these again.
-use Rattle.std.proofs.Common.{◌≡◌, ℕ, suc, ◌+◌, List, [], ◌∷◌, get_or, length, map, Bool, true, false, ◌&&◌, nat_le, Option, Some, None, refl, sym, ap, ◌∙◌, subst, codes, arith}
+use Rattle.std.proofs.Common.{◌≡◌, ℕ, List, [], ◌∷◌, get_or, length, map, Bool, true, false, nat_le, Some, refl, ap, ◌∙◌, codes, arith}
 use Rattle.std.proofs.lemmas.Bool.{and_parts, leb-true}
-use Rattle.serde_json.specs.Data.{Data, Members, string, object, put}
-use Rattle.serde_json.specs.Find.{get}
+use Rattle.serde_json.specs.Data.{Members, string, object, put}
 use Rattle.vms_spec.specs.Lists.{at as item_at}
-use Rattle.vms_spec.specs.Sets.{Formula, Field, Desc, Sub, Device, Set}
+use Rattle.vms_spec.specs.Sets.{Formula, Desc, Sub, Device, Set}
 use Rattle.vms_spec.specs.Rules.{nodes, depth, is_small_test, is_steady_in, names_well}
 use Rattle.vms_spec.specs.WellFormed.{WellFormed, has_few, struct_depths, struct_rules, sub_rules, device_rules}
 use Rattle.vms_laws.proofs.WellFormedLaws.{Clean, struct_clean, device_parts, sub_clean}
-use Rattle.vms_descfile.specs.Answers.{Answer, good, next, changed, list_of}
+use Rattle.vms_descfile.specs.Answers.{good, changed, list_of}
 use Rattle.vms_descfile.specs.Keys.{fits as keys_fit, at, at_or, u32_of, text_of}
-use Rattle.vms_descfile.specs.Tests.{Names, Scope, names_if, test_of}
-use Rattle.vms_descfile.specs.Descs.{desc_needs, desc_allows, head_of, rest_of, struct_of, sub_in, sub_of, Whole, whole_in, whole_of, device_in, device_of}
-use Rattle.vms_descfile.specs.Files.{set_in, set_of, parts_of}
-use Rattle.vms_descfile.specs.Fitting.{FitsTest, FitsDesc, FitsSub, FitsDevice, FitsSet}
-use Rattle.vms_descfile.specs.Written.{list_file, natural_file, own_names, test_file, desc_members, struct_file, sub_file, whole_file, device_file, set_file}
-use Rattle.vms_descfile.proofs.ObjectLaws.{Table, put_if, members_in, object_of, or_none, got, table_fits, listed, list_if}
+use Rattle.vms_descfile.specs.Tests.{Names, Scope, test_of}
+use Rattle.vms_descfile.specs.Descs.{desc_needs, desc_allows, head_of, struct_of, sub_in, sub_of, Whole, whole_in, whole_of, device_of}
+use Rattle.vms_descfile.specs.Files.{set_of, parts_of}
+use Rattle.vms_descfile.specs.Fitting.{FitsTest, FitsSub, FitsDevice, FitsSet}
+use Rattle.vms_descfile.specs.Written.{natural_file, own_names, test_file, desc_members, struct_file, sub_file, whole_file, device_file, set_file}
+use Rattle.vms_descfile.proofs.ObjectLaws.{Table, put_if, object_of, or_none, got, table_fits, listed, list_if}
 use Rattle.vms_descfile.proofs.AnswerLaws.{next_good, judged_good, at_good, list_good, list_or_good, natural_good}
-use Rattle.vms_descfile.proofs.ShownLaws.{asked, number_shown, test_shown, desc_shown, sub_shown, device_shown, set_shown, set_same, map_same}
+use Rattle.vms_descfile.proofs.ShownLaws.{asked, test_shown, desc_shown, sub_shown, device_shown, set_shown, set_same, map_same}
 use Rattle.vms_descfile.proofs.FirstNames.{Found, all_found}
-use Rattle.vms_descfile.proofs.TestBack.{Scoped, test_back}
+use Rattle.vms_descfile.proofs.TestBack.{test_back}
 use Rattle.vms_descfile.proofs.DescBack.{HasDesc, desc_table, desc_tabled, names_asked, head_shown, head_back, rest_back, struct_back}
 
 -- ---- subsections

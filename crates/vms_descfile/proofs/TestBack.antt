@@ -1,14 +1,13 @@
 -- A test's file says the test again.
-use Rattle.std.proofs.Common.{◌≡◌, ℕ, zero, suc, ◌+◌, ◌<◌, ◌≤◌, List, [], ◌∷◌, get_or, Bool, true, false, ◌&&◌, max, Option, Some, None, refl, ap, ◌∙◌, codes, arith}
+use Rattle.std.proofs.Common.{◌≡◌, ℕ, zero, suc, ◌≤◌, List, [], get_or, Bool, true, Option, Some, None, refl, ap, codes, arith}
 use Rattle.std.proofs.lemmas.Bool.{and_parts}
-use Rattle.serde_json.specs.Data.{Data, string, object, put}
-use Rattle.serde_json.specs.Find.{get}
+use Rattle.serde_json.specs.Data.{string, object, put}
 use Rattle.vms_spec.specs.declared.Rel.{Rel}
 use Rattle.vms_spec.specs.declared.Rel.TheVariants as rels
 use Rattle.vms_spec.specs.declared.Whose.TheVariants.{Own, Parent}
 use Rattle.vms_spec.specs.Sets.{Formula, AtLeast, Below, Cell, Not, And, Or}
 use Rattle.vms_spec.specs.Rules.{depth, names_well}
-use Rattle.vms_descfile.specs.Answers.{Answer, good, under, next, changed}
+use Rattle.vms_descfile.specs.Answers.{Answer, good, under, changed}
 use Rattle.vms_descfile.specs.Keys.{at, u32_of, u64_of}
 use Rattle.vms_descfile.specs.Tests.{Names, Scope, number_in, name_in, rel_of, own_cell, parent_cell, with_parent, test_within, both}
 use Rattle.vms_descfile.specs.Written.{natural_file, rel_file, compared_file, test_file}

@@ -1,5 +1,4 @@
-use Rattle.std.proofs.Common.{ℕ, List, Bool, Some, map, sym, subst, ap, ◌∙◌}
-use denote.Ref.{Bor}
+use Rattle.std.proofs.Common.{Bool, Some, sym, subst, ap, ◌∙◌}
 use Rattle.serde_json.specs.View.{view}
 use Rattle.vms_descfile.specs.Answers.{Answers}
 use Rattle.vms_descfile.specs.Tests.{Names, names_if}

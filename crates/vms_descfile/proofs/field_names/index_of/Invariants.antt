@@ -1,4 +1,4 @@
-use Rattle.std.proofs.Common.{◌≡◌, ℕ, List, take}
+use Rattle.std.proofs.Common.{take}
 use Rattle.serde_json.specs.View.{items_view}
 use Rattle.vms_descfile.specs.Tests.{names_of}
 use Rattle.vms_descfile.specs.Index.{IsIndex}

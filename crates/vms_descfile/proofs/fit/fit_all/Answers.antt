@@ -1,4 +1,4 @@
-use Rattle.std.proofs.Common.{◌≡◌, ℕ, ◌<◌, Some, below_more, arith, subst}
+use Rattle.std.proofs.Common.{◌≡◌, ℕ, Some, below_more, arith, subst}
 use Rattle.vms_spec.specs.Lists.{at}
 use Rattle.vms_laws.proofs.PartLaws.{at_inside}
 use Rattle.vms_descfile.proofs.FitLaws.{at_is}

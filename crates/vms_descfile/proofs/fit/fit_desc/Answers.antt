@@ -1,4 +1,4 @@
-use Rattle.std.proofs.Common.{rules, arith}
+use Rattle.std.proofs.Common.{arith}
 use Rattle.vms_parts.specs.Views.{formula, field_of}
 use Rattle.vms_descfile.specs.Fitting.{FitsTest, FitsField}
 use Rattle.vms_descfile.proofs.FitLaws.{mapped_of}
