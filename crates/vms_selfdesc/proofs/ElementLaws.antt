@@ -1,10 +1,9 @@
 -- The law between the entries and the elements of a set.
-use Rattle.std.proofs.Common.{◌≡◌, ℕ, zero, suc, ◌<◌, ◌≤◌, List, [], length, get_or, ℤ, Bool, true, refl, sym, ap, ◌∙◌, arith, is_none}
+use Rattle.std.proofs.Common.{◌≡◌, ℕ, zero, suc, ◌<◌, ◌≤◌, List, [], length, get_or, ℤ, Bool, true, sym, ap, ◌∙◌, arith, is_none}
 use Rattle.vms_spec.specs.declared.Part.{Part}
 use Rattle.vms_spec.specs.declared.Part.TheVariants as parts
-use Rattle.vms_spec.specs.Sets.{Set, Desc}
+use Rattle.vms_spec.specs.Sets.{Set}
 use Rattle.vms_spec.specs.Layout.{Cell, first, no_desc, desc_cells, struct_cells}
-use Rattle.vms_spec.specs.WellFormed.{WellFormed}
 use Rattle.vms_parts.proofs.Tables.{first_at}
 use Rattle.vms_elements.specs.Elements.{Shape, no_shape, shape, shapes, cells_in}
 use Rattle.vms_elements.specs.Parts.{elements_in}

@@ -1,8 +1,7 @@
 -- The entries of a part are those of its elements.
-use Rattle.std.proofs.Common.{◌≡◌, ℕ, zero, suc, ◌+◌, ◌-◌, ◌*◌, ◌<◌, ◌≤◌, List, [], ◌∷◌, ◌++◌, length, append_assoc, get_or, map, ℤ, pos, Bool, true, false, ◌&&◌, nat_lt, refl, sym, ap, ◌∙◌, arith, subst, Option, codes, is_none}
-use Rattle.std.proofs.lemmas.Bool.{ltb-true, ltb-false, le-ltb, lt-ltb}
+use Rattle.std.proofs.Common.{◌≡◌, ℕ, zero, suc, ◌+◌, ◌*◌, ◌<◌, ◌≤◌, List, [], ◌∷◌, ◌++◌, length, append_assoc, get_or, map, ℤ, pos, Bool, true, false, ◌&&◌, nat_lt, refl, sym, ap, ◌∙◌, arith, Option}
+use Rattle.std.proofs.lemmas.Bool.{ltb-true, le-ltb, lt-ltb}
 use Rattle.std.proofs.lemmas.List.{append-nil}
-use Rattle.vms_kinds.specs.declared.Kind.{Kind}
 use Rattle.vms_kinds.specs.declared.Item.{Item}
 use Rattle.vms_kinds.specs.declared.Item.TheVariants.{Num, Equal, Unused, Struct}
 use Rattle.vms_spec.specs.declared.Count.{Count}
@@ -12,7 +11,7 @@ use Rattle.vms_spec.specs.Rules.{uses_below}
 use Rattle.vms_spec.specs.Tests.{is_there}
 use Rattle.vms_spec.specs.Layout.{Cell, no_parent, item_size, capacity_of, elements_of, counted, field_cells, numbers_of, desc_cells, all_hold}
 use Rattle.vms_spec.proofs.Sizes.{field_size, elements_fit}
-use Rattle.vms_elements.specs.Elements.{What, Number, Constant, Filler, Rule, Element, Shape, no_shape, cells_in, index_text, dotted, behind, single, item_elements, Stand, array_elements, stand_of, field_elements, elements_from, desc_elements}
+use Rattle.vms_elements.specs.Elements.{What, Number, Constant, Filler, Rule, Element, Shape, no_shape, cells_in, index_text, dotted, behind, single, item_elements, Stand, array_elements, field_elements, elements_from, desc_elements}
 use Rattle.vms_selfdesc.specs.Entries.{Entry, Lister, no_lister, cell_entry, sent_entry, listed_if, item_entries, element_path, element_entries, array_entries, field_entries, entries_from, desc_entries}
 use Rattle.vms_selfdesc.specs.OfElements.{entry_of, entries_of}
 use Rattle.vms_selfdesc.proofs.Structures.{AllBelow, item_cells_same, own_same}
