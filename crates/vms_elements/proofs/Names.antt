@@ -1,17 +1,14 @@
 -- The names of the numbers: the same in each state, and found from the cell.
-use Rattle.std.proofs.Common.{◌≡◌, ℕ, zero, suc, ◌+◌, ◌-◌, ◌*◌, ◌<◌, ◌≤◌, List, [], ◌∷◌, ◌++◌, length, get_or, map, drop, ℤ, refl, sym, ap, ◌∙◌, subst, arith, Bool, ◌&&◌, nat_lt, if◌then◌else◌, append-nil, length-append, codes, true, false}
+use Rattle.std.proofs.Common.{◌≡◌, ℕ, zero, suc, ◌+◌, ◌-◌, ◌*◌, ◌<◌, ◌≤◌, List, [], ◌∷◌, ◌++◌, length, get_or, map, ℤ, refl, sym, ap, ◌∙◌, arith, Bool, ◌&&◌, nat_lt, if◌then◌else◌, append-nil, codes, true, false}
 use Rattle.std.proofs.lemmas.List.{map-append, length-map, get_or-map, get_or_append_left}
 use Rattle.std.proofs.Math.Seq.{get_or-append_right}
 use Rattle.vms_kinds.specs.declared.Item.{Item}
 use Rattle.vms_kinds.specs.declared.Item.TheVariants.{Num, Equal, Unused, Struct}
-use Rattle.vms_spec.specs.declared.Count.{Count}
-use Rattle.vms_spec.specs.Sets.{Field, Desc, Set}
-use Rattle.vms_spec.specs.Layout.{Cell, no_desc, first, counted, capacity_of, item_size, field_cells, desc_cells, numbers_of, all_hold}
-use Rattle.vms_spec.proofs.Sizes.{size_same, field_size}
-use Rattle.vms_elements.specs.Elements.{What, Element, Shape, no_shape, shape, shapes, cells_in, dotted, behind, single, Rule, item_elements, Stand, stand_of, array_elements, field_elements, elements_from, desc_elements, index_text}
-use Rattle.vms_elements.specs.Parts.{absent, is_number, numbers_in, cells_of, names_of, elements_in}
-use Rattle.vms_elements.proofs.Tables.{both, one_more, first_at}
-use Rattle.vms_elements.proofs.CellsOf.{AreShapes, are_shapes, item_has, field_has}
+use Rattle.vms_spec.specs.Sets.{Field, Desc}
+use Rattle.vms_spec.specs.Layout.{no_desc, first, counted, capacity_of, item_size, field_cells, desc_cells, numbers_of, all_hold}
+use Rattle.vms_elements.specs.Elements.{Element, Shape, no_shape, shape, cells_in, dotted, behind, single, Rule, item_elements, Stand, stand_of, array_elements, field_elements, elements_from, desc_elements, index_text}
+use Rattle.vms_elements.specs.Parts.{absent, is_number, numbers_in, cells_of, names_of}
+use Rattle.vms_elements.proofs.Tables.{both, one_more}
 use Rattle.vms_elements.proofs.CountUp.{numbers_append, numbers_long}
 
 pub names_append : (xs ys : List Element) → names_of (xs ++ ys) ≡ names_of xs ++ names_of ys
@@ -64,7 +61,7 @@ module _ (ss : List Shape) (same : SameNames ss) where
       let d = nat_lt e t.count in
       names_append (map (behind (s.number, e) text c (s.there && c)) (p a)) (array_elements f s p step (suc e) n (a + step))
       ∙ both _ _ _ _ (names_behind (s.number, e) text c (s.there && c) (p a) ∙ ap (map (λ l. text ++ l)) (h a b) ∙ sym (names_behind (t.number, e) text d (t.there && d) (q b)))
-          (array_names f s t p q h step (suc e) n (a + step) (b + step))
+      (array_names f s t p q h step (suc e) n (a + step) (b + step))
       ∙ sym (names_append (map (behind (t.number, e) text d (t.there && d)) (q b)) (array_elements f t q step (suc e) n (b + step)))
 
   pub fields_names : (fields : List Field) (v w : ℕ) (own now : ℕ → ℕ) (n m : List ℤ) (i a b : ℕ) (fs : List Field)
@@ -74,9 +71,9 @@ module _ (ss : List Shape) (same : SameNames ss) where
       let size = length (field_cells (cells_in ss) fields i f) in
       names_append (field_elements ss fields v own n i a f) (elements_from ss fields v own n (suc i) (a + size) fs)
       ∙ both _ _ _ _
-          (array_names f (stand_of i f v own) (stand_of i f w now) (item_elements ss f.item (counted i fields) f.default n) (item_elements ss f.item (counted i fields) f.default m)
-              (λ a b. item_names f.item (counted i fields) f.default n m a b) (item_size (cells_in ss) f.item) 0 (capacity_of f.count) a b)
-          (fields_names fields v w own now n m (suc i) (a + size) (b + size) fs)
+      (array_names f (stand_of i f v own) (stand_of i f w now) (item_elements ss f.item (counted i fields) f.default n) (item_elements ss f.item (counted i fields) f.default m)
+      (λ a b. item_names f.item (counted i fields) f.default n m a b) (item_size (cells_in ss) f.item) 0 (capacity_of f.count) a b)
+      (fields_names fields v w own now n m (suc i) (a + size) (b + size) fs)
       ∙ sym (names_append (field_elements ss fields w now m i b f) (elements_from ss fields w now m (suc i) (b + size) fs))
 
   -- the end of a description has no name
@@ -96,7 +93,7 @@ same_names ds (suc k) j n m a b =
     let earlier = first shape ds k in
     let d = get_or ds k no_desc in
     one_more (λ (s : Shape). (n m : List ℤ) (a b : ℕ) → names_of (s.elements n a) ≡ names_of (s.elements m b)) no_shape (λ n m a b. refl) earlier (same_names ds k)
-        (shape earlier d) (λ n m a b. desc_names earlier (same_names ds k) d d.version d.version n m a b) j n m a b
+    (shape earlier d) (λ n m a b. desc_names earlier (same_names ds k) d d.version d.version n m a b) j n m a b
 
 -- ---- a name from a cell
 
