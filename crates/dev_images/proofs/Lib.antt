@@ -1,0 +1,3 @@
+pub mod ReadyOf
+pub mod TimerReady
+pub mod ChipReady
