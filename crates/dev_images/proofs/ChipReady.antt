@@ -26,10 +26,10 @@ unfolding first
 third-set instance numbers are = ready-plain set_3 (i8259_at_2 instance) numbers (omega arith) tt are refl refl (refl, tt)
 
 -- the level mode's cell, by whether its subsection is needed
-abbrev needs : ℤ → Bool
+abbrev pub needs : ℤ → Bool
 needs z = bit_and (residue 1 z) 1 == 1
 
-unneeded : (z : ℤ) → InRange Truth z → needs z ≡ false → z ≡ pos 0
+pub unneeded : (z : ℤ) → InRange Truth z → needs z ≡ false → z ≡ pos 0
 unneeded (pos zero) r e = refl
 unneeded (pos (suc zero)) r e = cc
 unneeded (pos (suc (suc n))) r e = absurd (let most = r.1 in omega (arith, ints, most))

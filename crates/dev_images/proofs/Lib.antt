@@ -1,3 +1,4 @@
+pub mod Carried
+pub mod ChipReady
 pub mod ReadyOf
 pub mod TimerReady
-pub mod ChipReady

@@ -3,4 +3,4 @@
 
 mod laws;
 
-pub use laws::{chip_law, timer_law};
+pub use laws::{carried_chip_law, carried_timer_law, chip_law, timer_law};
