@@ -1,5 +1,5 @@
 -- The cells of the moment and of the chips are carried as their own tables say.
-use Rattle.std.proofs.Common.{◌≡◌, ℕ, zero, suc, ◌<◌, Bool, true, false, cond, List, [], ◌∷◌, length, get_or, ℤ, pos, refl, sym, ap, ◌∙◌, arith}
+use Rattle.std.proofs.Common.{◌≡◌, ℕ, Bool, true, false, List, [], ◌∷◌, length, get_or, ℤ, pos, refl, arith}
 use Rattle.dev_base.specs.Cells.{AreOf}
 use Rattle.dev_board.specs.Saved.{timer_kinds}
 use Rattle.dev_pic.specs.Cells.{kinds as pic_kinds, carried as pic_carried}

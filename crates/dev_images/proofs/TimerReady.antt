@@ -1,5 +1,5 @@
 -- The image of a moment is ready.
-use Rattle.std.proofs.Common.{◌≡◌, ℕ, List, ℤ, true, refl, arith}
+use Rattle.std.proofs.Common.{List, ℤ, refl, arith}
 use Rattle.dev_base.specs.Cells.{AreOf}
 use Rattle.dev_board.specs.Saved.{timer_kinds}
 use Rattle.vms_spec.specs.Layout.{first}

@@ -3,4 +3,6 @@
 
 mod laws;
 
-pub use laws::{carried_chip_law, carried_timer_law, chip_law, timer_law};
+pub use laws::{
+    carried_chip_law, carried_pit_law, carried_timer_law, chip_law, pit_law, timer_law,
+};
