@@ -4,6 +4,7 @@ pub mod Halves
 pub mod KeepLaws
 pub mod Reached
 pub mod RestoredLaws
+pub mod RuleLaws
 pub mod SavedLaws
 pub mod SoundLaws
 pub mod WireBits

@@ -37,7 +37,7 @@ pub record IsMadeOf (level : ℕ) (of_timer : Result ℕ Misfit) (of_pair : Resu
 
 record IsAgreed (b : Bool) (found m : State) : Type 0 where
   agree : b ≡ true
-  same : found ≡ m
+  pub same : found ≡ m
 
 agreed-by : (b : Bool) (found m : State) (misfit : Misfit) → cond b (Ok found) (Err misfit) ≡ Ok m → IsAgreed b found m
 agreed-by true found m misfit e = record { agree = refl; same = cc }
@@ -64,26 +64,26 @@ made_of level (Ok moment) (Ok pair) (Ok pit) (Ok serial) m e =
       lines = ap lines_agree (sym is.same) ∙ is.agree;
     }
 
-chip-ok : (outcome : Result PicPair ChipFault) (pair : PicPair) → by_chip outcome ≡ Ok pair → outcome ≡ Ok pair
+pub chip-ok : (outcome : Result PicPair ChipFault) (pair : PicPair) → by_chip outcome ≡ Ok pair → outcome ≡ Ok pair
 unfolding by_chip
 chip-ok (Ok found) pair e = cc
 chip-ok (Err fault) pair e = cc
 
-device-ok : {D : Type 0} (place : ℕ) (outcome : Result D ℕ) (device : D) → by_device place outcome ≡ Ok device → outcome ≡ Ok device
+pub device-ok : {D : Type 0} (place : ℕ) (outcome : Result D ℕ) (device : D) → by_device place outcome ≡ Ok device → outcome ≡ Ok device
 unfolding by_device
 device-ok place (Ok found) device e = cc
 device-ok place (Err rule) device e = cc
 
 -- the moment of a timer whose rule holds
-record IsTimed (moment found : ℕ) : Type 0 where
-  last : moment ≤ LAST_MOMENT
-  same : found ≡ moment
+pub record IsTimed (moment found : ℕ) : Type 0 where
+  pub last : moment ≤ LAST_MOMENT
+  pub same : found ≡ moment
 
 timed-by : (b : Bool) (moment found : ℕ) → nat_le moment LAST_MOMENT ≡ b → cond b (Ok moment) (Err (Unsound TIMER_DEVICE 1)) ≡ Ok found → IsTimed moment found
 timed-by true moment found h e = record { last = grind (arith, nat_tests); same = cc }
 timed-by false moment found h e = cc
 
-timed-ok : (moment found : ℕ) → timed moment ≡ Ok found → IsTimed moment found
+pub timed-ok : (moment found : ℕ) → timed moment ≡ Ok found → IsTimed moment found
 unfolding timed
 timed-ok moment found e = timed-by (nat_le moment LAST_MOMENT) moment found refl e
 

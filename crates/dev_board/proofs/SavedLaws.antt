@@ -153,7 +153,7 @@ module _ (set : ℕ) (m : State) (s : IsSound m) (may : MaySaveUnder m.level set
       let time : timed m.moment ≡ Ok m.moment = rw holds refl in
       joined-ok m.level m.moment m.pair m.pit port _ _ _ _ time pair-back pit-both.1 e (lines-agree (record m { serial = port }) (back-lines port a))
 
-  comes-back : ComesBack m.level (carried set (saved set m)) m
+  pub comes-back : ComesBack m.level (carried set (saved set m)) m
   comes-back =
       let port = serial-both in
       record {

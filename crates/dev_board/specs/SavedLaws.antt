@@ -1,5 +1,7 @@
 -- Laws of saving and restoring a board that contracts name.
-use Rattle.std.specs.Prelude.{◌≡◌, ℕ, List, Ok}
+use Rattle.std.specs.Prelude.{◌≡◌, ℕ, List, length, Ok, ◌↔◌}
+use Rattle.dev_base.specs.declared.limits.TheConstants.{NEWEST}
+use Rattle.dev_serial.specs.Sound.{IsHeld}
 use Rattle.dev_base.specs.Levels.{IsLevel}
 use Rattle.dev_board.specs.Saved.{saved, carried, MaySaveUnder, AreSavedCells, AreBoardCells, restored}
 use Rattle.dev_board.specs.Sound.{IsSound, Alike}
@@ -31,3 +33,19 @@ pub record SavedGoesOn : Type 0 where
 pub record RestoredIsSound : Type 0 where
   pub sound : (level : ℕ) (cells : BoardCells) (m : State) → IsLevel level → AreBoardCells cells → restored level cells ≡ Ok m → IsSound m
   pub level : (level : ℕ) (cells : BoardCells) (m : State) → restored level cells ≡ Ok m → m.level ≡ level
+
+-- a board that a stream can tell: its devices have its level, the timer chip has three counters, the serial port is one
+-- that a stream can tell, and what the newest set saves of it are normal cells
+pub record IsTold (m : State) : Type 0 where
+  pub level : IsLevel m.level
+  pub pair_level : m.pair.level ≡ m.level
+  pub pit_level : m.pit.level ≡ m.level
+  pub serial_level : m.serial.level ≡ m.level
+  pub counters : length m.pit.counters ≡ 3
+  pub serial : IsHeld m.serial
+  pub cells : AreBoardCells (saved NEWEST m)
+
+-- a board is sound exactly where it is one that a stream can tell, and no rule fails, nor that of the lines, of what the
+-- newest set saves of it
+pub record SoundMeetsRules : Type 0 where
+  pub board : (m : State) → IsSound m ↔ (IsTold m × ((back : State) × (restored m.level (saved NEWEST m) ≡ Ok back)))

@@ -1,6 +1,6 @@
 // Laws of the definitions, each stated by a function without a body.
 ghost use Rattle.dev_board.specs.Laws.{SoundStays, WiresStay, ClockGoesOn, AlikeStays, Likeness};
-ghost use Rattle.dev_board.specs.SavedLaws.{SavedAreCells, SavedComesBack, SavedGoesOn, RestoredIsSound};
+ghost use Rattle.dev_board.specs.SavedLaws.{SavedAreCells, SavedComesBack, SavedGoesOn, RestoredIsSound, SoundMeetsRules};
 
 /// A board is sound at power on, and each event and each list of events keeps it so.
 #[tactic(auto, using(crate::proofs::SoundLaws::sound_stays_on))]
@@ -57,4 +57,11 @@ pub fn continuation_law()
 #[tactic(auto, using(crate::proofs::RestoredLaws::restored_is_sound))]
 pub fn restored_law()
     ensures { RestoredIsSound }
+{}
+
+/// A board that a stream can tell is sound exactly where no rule fails, nor that of the lines, of what the
+/// newest set saves of it.
+#[tactic(auto, using(crate::proofs::RuleLaws::sound_meets_rules))]
+pub fn rules_law()
+    ensures { SoundMeetsRules }
 {}

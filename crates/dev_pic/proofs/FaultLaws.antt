@@ -2,12 +2,14 @@
 use Rattle.std.proofs.Common.{◌≡◌, ℕ, ℤ, ◌<◌, ◌≤◌, Bool, List, ◌++◌, length, take, drop, Option, Some, None, Result, Ok, Err, refl, sym, ap, subst, ◌∙◌, arith}
 use Rattle.vms_hooks.specs.Numbers.{Numbers}
 use Rattle.vms_hooks.specs.declared.fault.HookFault.{HookFault}
-use Rattle.dev_base.proofs.RuleLaws.{first_failing_is_first, hook-ok}
+use Rattle.dev_base.proofs.RuleLaws.{first_failing_is_first, hook-ok, judged-ok}
 use Rattle.dev_base.specs.Hooks.{hook_result}
 use Rattle.dev_base.specs.Rules.{first_failing, judged_by, judged, MeansFailing, IsFirstFailing}
 use Rattle.dev_pic.proofs.CellLemmas.{first_part, second_part}
-use Rattle.dev_pic.proofs.SavedLaws.{faults_are_told}
-use Rattle.dev_pic.specs.Cells.{cell_count, IsChipCells, rules, chip_of, restored}
+use Rattle.dev_base.specs.declared.limits.TheConstants.{NEWEST}
+use Rattle.dev_pic.proofs.RestoredLaws.{made_of}
+use Rattle.dev_pic.proofs.SavedLaws.{faults_are_told, chip_of-saved}
+use Rattle.dev_pic.specs.Cells.{cell_count, IsChipCells, saved_cells, rules, chip_of, restored}
 use Rattle.dev_pic.specs.Saved.{pair_of, restored_pair, hook_rule, fault_of, by_number, hook_restored}
 use Rattle.dev_pic.specs.declared.chip.Chip.{Chip}
 use Rattle.dev_pic.specs.declared.chip.Role.{Role}
@@ -75,3 +77,16 @@ module _ (numbers : Numbers) (master slave : List ℤ) (m : IsChipCells master) 
   pub fault-told : (fault : HookFault) → hook_restored numbers (master ++ slave) ≡ Err fault → restored_pair numbers.level master slave ≡ Err (fault_of fault.rule)
   fault-told fault e =
       hook-err (restored_pair numbers.level master slave) fault (pair-fault numbers.level master slave) (ap (λ (outcome : Result PicPair ChipFault). hook_result (by_number outcome)) (sym parts) ∙ e)
+
+-- the pair that comes back of what the newest set saves of a pair, which may break rules, is sound and the same
+chip-same : (level : ℕ) (role : Role) (chip back : Chip) → restored level role (saved_cells NEWEST chip) ≡ Ok back → back ≡ chip
+chip-same level role chip back e =
+    sym (judged-ok (rules level role (saved_cells NEWEST chip)) (chip_of (saved_cells NEWEST chip)) back e).1 ∙ chip_of-saved chip
+
+pub pair-same : (level : ℕ) (pair back : PicPair) → pair.level ≡ level → restored_pair level (saved_cells NEWEST pair.master) (saved_cells NEWEST pair.slave) ≡ Ok back → back ≡ pair
+pair-same level pair back same e =
+    let made = made_of level (restored level Master (saved_cells NEWEST pair.master)) (restored level Slave (saved_cells NEWEST pair.slave)) back e in
+    let make : ℕ → Chip → Chip → PicPair = (λ n master slave. record { level = n; master = master; slave = slave }) in
+    ap (λ (n : ℕ). make n back.master back.slave) (made.same_level ∙ sym same)
+    ∙ ap (λ (chip : Chip). make pair.level chip back.slave) (chip-same level Master pair.master back.master made.of_master)
+    ∙ ap (λ (chip : Chip). make pair.level pair.master chip) (chip-same level Slave pair.slave back.slave made.of_slave)

@@ -41,7 +41,7 @@ state-le Icw3 = omega arith
 state-le WantsIcw4 = omega arith
 
 -- the chip of the cells that it gave
-chip_of-saved : (chip : Chip) → chip_of (saved_cells NEWEST chip) ≡ chip
+pub chip_of-saved : (chip : Chip) → chip_of (saved_cells NEWEST chip) ≡ chip
 unfolding chip_of saved_cells first_cells
 chip_of-saved chip = simp (flag-back, state-back)
 
