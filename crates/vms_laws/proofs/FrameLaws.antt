@@ -1,5 +1,5 @@
 -- Readings: how many units are allowed doesn't matter, if it is enough.
-use Rattle.std.proofs.Common.{◌≡◌, ℕ, zero, suc, ◌+◌, ◌<◌, ◌≤◌, List, length, drop, Option, refl, arith, length-drop}
+use Rattle.std.proofs.Common.{◌≡◌, ℕ, zero, suc, ◌+◌, ◌<◌, ◌≤◌, List, ◌++◌, length, drop, Option, refl, ap, ◌∙◌, drop_at, arith, length-drop}
 use Rattle.vms_spec.specs.Readings.{Verdict, Goes, Faulty, Over, Reading, reading_from, reading_after}
 use Rattle.vms_laws.specs.Whole.{reading_on, Advances}
 
@@ -31,3 +31,10 @@ one_unit judge a state at rest =
     let p : 0 < n = b.0 in
     let q : n ≤ length rest = b.1 in
     enough judge a (length rest) (suc (length (drop n rest))) next (at + n) (drop n rest) (omega (arith, length-drop n rest)) (omega arith))
+
+-- a unit that is spelled is read
+pub unit_read : {S : Type 0} (judge : S → List ℕ → Verdict S) → Advances judge → (state next : S) (at : ℕ) (unit rest : List ℕ) → judge state (unit ++ rest) ≡ Goes (length unit) next
+    → reading_on judge state at (unit ++ rest) ≡ reading_on judge next (at + length unit) rest
+unit_read judge a state next at unit rest e =
+    one_unit judge a state at (unit ++ rest) ∙ ap (reading_after (reading_on judge) at (unit ++ rest)) e
+    ∙ ap (λ (l : List ℕ). reading_on judge next (at + length unit) l) (drop_at unit rest (length unit) refl)

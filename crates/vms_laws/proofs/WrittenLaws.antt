@@ -1,9 +1,7 @@
 -- The bytes that the writer gives for slots are of the slots.
-use Rattle.std.proofs.Common.{◌≡◌, ℕ, zero, suc, ◌+◌, ◌<◌, ◌≤◌, List, [], ◌∷◌, ◌++◌, length, replicate, slice_set, map, Bool, true, false, Option, Some, None, ℤ, refl, sym, ap, ◌∙◌, subst, arith, append_assoc, append-nil, length-append}
-use Rattle.vms_spec.specs.Sets.{Sub, Device, Set}
-use Rattle.vms_spec.specs.Layout.{Slot, Number, Constant, Filler, Rule, desc_cells, struct_cells}
-use Rattle.vms_spec.specs.Images.{Image, Spells, zeroed, own_slots, sub_slots, sub_place, own_cells, AreVersionsOf}
-use Rattle.vms_spec.specs.Streams
+use Rattle.std.proofs.Common.{◌≡◌, ℕ, zero, suc, List, [], ◌∷◌, length, replicate, ℤ, refl, ap}
+use Rattle.vms_spec.specs.Layout.{Slot, Number, Constant, Filler, Rule}
+use Rattle.vms_spec.specs.Images.{Spells, zeroed}
 
 zeros_long : (n : ℕ) → length {A = ℕ} (replicate n 0) ≡ n
 zeros_long zero = refl

@@ -1,10 +1,9 @@
 -- The laws of the format, each as a statement.
-use Rattle.std.specs.Prelude.{◌≡◌, Bool, true, ℕ, ◌<◌, List, [], ◌++◌, length, Option, Some, None, ℤ}
+use Rattle.std.specs.Prelude.{◌≡◌, Bool, true, ℕ, ◌<◌, List, Option, Some, ℤ}
 use Rattle.vms_spec.specs.Sets.{Device, Set}
 use Rattle.vms_spec.specs.Layout.{Slot}
 use Rattle.vms_spec.specs.Images.{Image, Spells, zeroed}
 use Rattle.vms_spec.specs.Streams.{IsReady}
-use Rattle.vms_spec.specs.declared.Reason.{Reason}
 use Rattle.vms_spec.specs.Places.{cell_at, cell_count}
 use Rattle.vms_spec.specs.Readiness.{is_ready}
 use Rattle.vms_spec.specs.WellFormed.{WellFormed}

@@ -1,10 +1,8 @@
 -- The carried numbers fit new's cells: a description, and then structures by induction on new's number.
-use Rattle.std.proofs.Common.{◌≡◌, ◌⊎◌, inl, inr, ℕ, zero, suc, ◌+◌, ◌<◌, ◌≤◌, List, [], ◌∷◌, ◌++◌, length, get_or, Option, Some, None, refl, sym, ap, ◌∙◌, subst, arith, ℤ}
+use Rattle.std.proofs.Common.{◌≡◌, ◌⊎◌, inl, inr, ℕ, zero, suc, ◌+◌, ◌<◌, ◌≤◌, List, [], ◌∷◌, ◌++◌, length, get_or, Option, Some, None, sym, ap, ◌∙◌, subst, arith, ℤ}
 use Rattle.std.proofs.Math.Nat.{eq-or-lt_of_le}
-use Rattle.vms_spec.specs.declared.Count.{Count}
-use Rattle.vms_spec.specs.declared.Count.TheVariants.{One, Fixed, Counted}
 use Rattle.vms_spec.specs.Sets.{Formula, Field, Desc}
-use Rattle.vms_spec.specs.Layout.{no_desc, Cell, Meaning, meanings, field_cells, cells_from, desc_cells, numbers_of, capacity_of, elements_of}
+use Rattle.vms_spec.specs.Layout.{no_desc, Cell, Meaning, meanings, field_cells, cells_from, desc_cells, numbers_of}
 use Rattle.vms_spec.specs.declared.Part.{Part}
 use Rattle.vms_spec.specs.declared.Part.TheVariants as parts
 use Rattle.vms_spec.specs.Rules.{is_steady_in}
@@ -16,7 +14,7 @@ use Rattle.vms_upgrade.specs.Segments.{FitsAt}
 use Rattle.vms_upgrade.proofs.Segments.{fits_at, fits_left, fits_right}
 use Rattle.vms_upgrade.proofs.Pairing.{cells_in, or_else_none, AreKnown, all_known}
 use Rattle.vms_upgrade.proofs.Linking.{zip_of}
-use Rattle.vms_upgrade.proofs.Premises.{CountFits, OldGood, OldFields, NewGood, NewFields}
+use Rattle.vms_upgrade.proofs.Premises.{OldGood, OldFields, NewGood, NewFields}
 use Rattle.vms_upgrade.proofs.Prefixes.{struct_cells_at}
 use Rattle.vms_upgrade.proofs.Counts.{old_fields}
 use Rattle.vms_upgrade.proofs.Structures.{OldStructs, NewStructs, new_below, plain_below, plains_further}

@@ -1,9 +1,9 @@
 -- An order that names each that is left, and none twice, takes each once.
-use Rattle.std.proofs.Common.{◌≡◌, ◌⊎◌, inl, inr, ℕ, zero, suc, ◌<◌, Bool, true, false, ◌==◌, List, [], ◌∷◌, length, slice_set, Option, Some, None, refl, sym, ap, ◌∙◌, subst, arith}
+use Rattle.std.proofs.Common.{◌≡◌, ◌⊎◌, inl, inr, ℕ, zero, suc, Bool, true, false, ◌==◌, List, [], ◌∷◌, slice_set, Option, Some, None, refl, sym, ap, ◌∙◌}
 use Rattle.std.proofs.lemmas.Bool.{eqb-true, eq-eqb}
 use Rattle.vms_spec.specs.Lists.{at}
 use Rattle.vms_spec.specs.Streams.{AreAll, ComesOnce, AllCame, EachOnce}
-use Rattle.vms_laws.proofs.PartLaws.{at_inside, at_other}
+use Rattle.vms_laws.proofs.PartLaws.{at_other}
 
 abbrev pub Among : ℕ → List ℕ → Type 0
 Among a [] = ⊥

@@ -1,15 +1,14 @@
 -- One position: what the older set writes for a field is read by the newer as carried.
-use Rattle.std.proofs.Common.{◌≡◌, ◌⊎◌, inl, inr, ℕ, zero, suc, ◌+◌, List, [], ◌∷◌, length, Option, Some, refl, sym, subst, arith, ℤ}
+use Rattle.std.proofs.Common.{◌≡◌, inl, inr, ℕ, zero, suc, ◌+◌, List, [], ◌∷◌, length, Option, Some, subst, arith, ℤ}
 use Rattle.vms_spec.specs.declared.Part.{Part}
 use Rattle.vms_spec.specs.Lists.{at as item_at}
-use Rattle.vms_spec.specs.Rules.{is_steady_in}
 use Rattle.vms_spec.specs.Sets.{Field, Desc, Set}
 use Rattle.vms_spec.specs.Layout.{Meaning, meanings, desc_cells, field_cells, numbers_of}
 use Rattle.vms_spec.specs.WellFormed.{WellFormed}
 use Rattle.vms_check.specs.Comparing.{Comparer, Entry, comparers, present, position_from}
 use Rattle.vms_check.specs.Carrying.{Carrier, carriers}
-use Rattle.vms_upgrade.specs.Segments.{FitsAt, Carries}
-use Rattle.vms_upgrade.specs.Positions.{IsPartOf, IsPosition, IsRead, PositionLaw, old_field, new_field}
+use Rattle.vms_upgrade.specs.Segments.{FitsAt}
+use Rattle.vms_upgrade.specs.Positions.{IsPartOf, IsRead, PositionLaw}
 use Rattle.vms_upgrade.proofs.Segments.{fits_at}
 use Rattle.vms_upgrade.proofs.Pairing.{cells_in, IsKnown, AreKnown, all_known, FitEntries, fit_entries}
 use Rattle.vms_upgrade.proofs.Premises.{Table, OldGood}

@@ -1,13 +1,13 @@
 -- Whole streams: each device's section is one of the newer set's, and the order takes each device once.
-use Rattle.std.proofs.Common.{◌≡◌, ◌⊎◌, inl, inr, ℕ, zero, suc, ◌+◌, ◌<◌, ◌≤◌, Bool, true, false, ◌&&◌, ◌==◌, List, [], ◌∷◌, length, map, get_or, Option, Some, None, refl, sym, ap, ◌∙◌, subst, arith, if◌then◌else◌}
+use Rattle.std.proofs.Common.{◌≡◌, inl, inr, ℕ, zero, suc, ◌+◌, ◌<◌, ◌≤◌, Bool, true, false, ◌&&◌, ◌==◌, List, [], ◌∷◌, length, map, get_or, Option, Some, None, refl, sym, ap, ◌∙◌, subst, arith, if◌then◌else◌}
 use Rattle.std.specs.Str.{bytes_eq}
 use Rattle.std.proofs.lemmas.Slice.Eq.{bytes_eq-Decides}
 use Rattle.std.proofs.lemmas.Bool.{and_parts, eqb-true}
 use Rattle.vms_spec.specs.declared.Part.TheVariants as parts
-use Rattle.vms_spec.specs.Lists.{at, every, or_else, first_answer}
+use Rattle.vms_spec.specs.Lists.{at, every, first_answer}
 use Rattle.vms_spec.specs.Sets.{Device, Set}
 use Rattle.vms_spec.specs.Images.{Image}
-use Rattle.vms_units.specs.Streams.{IsSection, HasSection, SectionsSpell}
+use Rattle.vms_units.specs.Streams.{HasSection, SectionsSpell}
 use Rattle.vms_spec.specs.Streams.{IsReady, EachOnce, is_one_of, written_section, written_sections}
 use Rattle.vms_spec.specs.Judging.{find_device, index}
 use Rattle.vms_spec.specs.Readiness.{is_version_of}

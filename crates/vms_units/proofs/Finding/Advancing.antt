@@ -13,7 +13,7 @@ use Rattle.vms_spec.specs.Units.{Piece, Magic, Version, Configuration, Long, Num
 use Rattle.vms_spec.specs.SoFar.{opened, slots}
 use Rattle.vms_units.specs.Dues.{Due, is_foot, AMagic, AVersion, Between, Field, AfterFields, AfterEnd, Nothing, raw, due, due_field}
 use Rattle.vms_laws.specs.Whole.{Advances}
-use Rattle.vms_laws.proofs.JudgeLaws.{width_positive}
+use Rattle.vms_laws.proofs.Widths.{width_positive}
 use Rattle.vms_units.specs.Finding.{Found, Whole, Cut, needs, text_at, between_at, behind_at, trailer_at, unit_at}
 use Rattle.vms_units.specs.Faults.{cut_in}
 use Rattle.vms_units.specs.Judge.{Grammar, judge, judge_found, by_row, owes}

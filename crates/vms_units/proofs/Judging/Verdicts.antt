@@ -13,7 +13,7 @@ use Rattle.vms_units.specs.Faults.{Front, IsWhole, Why, Fails, Cut as IsCut, Wro
 use Rattle.vms_laws.specs.Whole.{reading_on}
 use Rattle.vms_laws.proofs.BodyOnly.{if_false, if_true}
 use Rattle.vms_laws.proofs.HeadFound.{is_bytes_drop}
-use Rattle.vms_laws.proofs.HeadLaws.{unit_read}
+use Rattle.vms_laws.proofs.FrameLaws.{unit_read}
 use Rattle.vms_units.specs.Finding.{Found, Whole, Cut, unit_at}
 use Rattle.vms_units.specs.Judge.{Grammar, judge, judge_found, by_row, owes, reading, by_units}
 use Rattle.vms_units.specs.Laws.{Mirrored, Refuses, Ends, Accepts, IsThere}

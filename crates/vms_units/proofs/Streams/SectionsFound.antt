@@ -16,8 +16,7 @@ use Rattle.vms_laws.proofs.BodyLaws.{at_set}
 use Rattle.vms_laws.proofs.SpellLaws.{is_bytes_rest}
 use Rattle.vms_laws.proofs.FoundLaws.{body_found}
 use Rattle.vms_laws.proofs.SectionLaws.{own_are, defaults_at, defaults_long}
-use Rattle.vms_laws.proofs.SectionFound.{none_versions}
-use Rattle.vms_laws.proofs.StreamFound.{all_came}
+use Rattle.vms_laws.proofs.ComeLaws.{none_versions, all_came}
 use Rattle.vms_laws.proofs.AgreeLaws.{its_spelled}
 use Rattle.vms_laws.proofs.PartLaws.{at_inside, at_other, none_of, none_came, beside_start}
 use Rattle.vms_laws.proofs.FineLaws.{Fine, fine_normal, fine_valid}

@@ -14,7 +14,7 @@ use Rattle.vms_laws.proofs.BodyLaws.{at_set}
 use Rattle.vms_laws.proofs.PartLaws.{at_inside, none_of, version_at, Beside, beside_first, beside_next, beside_end}
 use Rattle.vms_laws.proofs.FineLaws.{part_place}
 use Rattle.vms_laws.proofs.SubsOnly.{so_far, image_at, so_at_last, own_taken, part_taken, sub_so}
-use Rattle.vms_laws.proofs.SectionsOnly.{none_missing, came_at, same_lists, agrees}
+use Rattle.vms_laws.proofs.ComeLaws.{none_missing, came_at, same_lists, agrees}
 use Rattle.vms_units.specs.SoFar.{Tail, Unknown, Footed, Bare, Known, behind}
 use Rattle.vms_units.specs.Dues.{Due, Between, AfterFields, is_foot, May, AtHead, AtEnd, AtStart, AtMark, AtSubHead, AtFoot, AtNext}
 use Rattle.vms_units.specs.Table.{first_of}

@@ -8,8 +8,7 @@ use Rattle.vms_spec.specs.Readings.{Faulty, Over, Accepted, reading_after}
 use Rattle.vms_spec.specs.Units.{Piece, spell}
 use Rattle.vms_laws.specs.Whole.{reading_on, Advances}
 use Rattle.vms_laws.proofs.BodyOnly.{if_true}
-use Rattle.vms_laws.proofs.FrameLaws.{one_unit}
-use Rattle.vms_laws.proofs.HeadLaws.{unit_read}
+use Rattle.vms_laws.proofs.FrameLaws.{one_unit, unit_read}
 use Rattle.vms_units.specs.Dues.{May}
 use Rattle.vms_units.specs.Faults.{cut_in}
 use Rattle.vms_units.specs.Finding.{Found, Whole, Cut, unit_at}

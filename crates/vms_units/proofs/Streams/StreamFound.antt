@@ -9,7 +9,7 @@ use Rattle.vms_spec.specs.Readings.{Accepted}
 use Rattle.vms_laws.specs.Whole.{reading_on}
 use Rattle.vms_laws.specs.Good.{IsGood}
 use Rattle.vms_laws.proofs.SpellLaws.{is_bytes_rest}
-use Rattle.vms_laws.proofs.StreamFound.{falses, defaults_of}
+use Rattle.vms_laws.proofs.ComeLaws.{falses, defaults_of}
 use Rattle.vms_units.specs.SoFar.{Tail, Unknown, Footed}
 use Rattle.vms_units.specs.Dues.{AMagic, AVersion, AfterEnd, Nothing, May, AtMagic, AtVersion, AtDescription, AtLongText, AtTrailing}
 use Rattle.vms_units.specs.Table.{first_of}

@@ -7,8 +7,7 @@ use Rattle.vms_spec.specs.Units.{Magic, Version, Configuration, Description}
 use Rattle.vms_spec.specs.Readings.{Reading, Accepted}
 use Rattle.vms_laws.specs.Whole.{reading_on}
 use Rattle.vms_laws.specs.Good.{IsGood}
-use Rattle.vms_laws.proofs.StreamFound.{falses, defaults_of}
-use Rattle.vms_laws.proofs.StreamOnly.{never_true}
+use Rattle.vms_laws.proofs.ComeLaws.{falses, defaults_of, never_true}
 use Rattle.vms_units.specs.SoFar.{Tail, Unknown, Footed}
 use Rattle.vms_units.specs.Dues.{AtMagic, AtVersion, AtConfiguration, AtDescription, Between}
 use Rattle.vms_units.specs.Finding.{trailer_at}

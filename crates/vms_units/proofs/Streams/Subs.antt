@@ -19,7 +19,7 @@ use Rattle.vms_laws.proofs.FoundLaws.{body_found}
 use Rattle.vms_laws.proofs.AgreeLaws.{its_spelled}
 use Rattle.vms_laws.proofs.PartLaws.{at_inside, sub_are, Beside, beside_back, beside_done}
 use Rattle.vms_laws.proofs.FineLaws.{part_place, Fine, Stays, stays_refl, stays_on, stays_next, fine_next}
-use Rattle.vms_laws.proofs.SubsFound.{sub_front}
+use Rattle.vms_laws.proofs.ComeLaws.{sub_front}
 use Rattle.vms_units.specs.SoFar.{Tail, Footed, Bare}
 use Rattle.vms_units.specs.Judge.{judge}
 use Rattle.vms_units.specs.State.{State, Before, Free, by_state}
