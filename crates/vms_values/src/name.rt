@@ -84,9 +84,12 @@ fn print_name<K: Sink>(
     sink: &mut K,
 ) -> Result<(), Failed>
     requires part { HasPart (described set.now) part }
-    requires small { own_cell_count (described set.now) (desc_at (described set.now) part) ≤ 16384 }
-    requires cell { cell < own_cell_count (described set.now) (desc_at (described set.now) part) }
-    ensures written { let text = path_text path.now ++ get_or (part_names (described set.now) part) cell [] in
+    requires small { let d = desc_at (described set.now) part in
+        own_cell_count (described set.now) d ≤ 16384 }
+    requires cell { let d = desc_at (described set.now) part in
+        cell < own_cell_count (described set.now) d }
+    ensures written { let names = part_names (described set.now) part in
+        let text = path_text path.now ++ get_or names cell [] in
         Writes (K.written sink.old) (K.written sink.new) text result }
     ensures cause { HasCause (K.faults sink.old) (K.faults sink.new) result }
     ensures promise { K.promise sink.new ≡ K.promise sink.old }
@@ -116,7 +119,8 @@ fn print_element<K: Sink>(
     requires small { size_in (described set.now) field.now.item ≤ 16384 }
     requires cell { let size = size_in (described set.now) field.now.item in
         cell < capacity_of field.now.count * size }
-    ensures written { let text = path_text path.now ++ field_name (described set.now) (field_of field.now) cell in
+    ensures written { let name = field_name (described set.now) (field_of field.now) cell in
+        let text = path_text path.now ++ name in
         Writes (K.written sink.old) (K.written sink.new) text result }
     ensures cause { HasCause (K.faults sink.old) (K.faults sink.new) result }
     ensures promise { K.promise sink.new ≡ K.promise sink.old }
@@ -151,7 +155,8 @@ fn print_inside<K: Sink>(
     requires reaches { uses_below (length (described set.now).structs) item.now ≡ true }
     requires small { size_in (described set.now) item.now ≤ 16384 }
     requires cell { cell < size_in (described set.now) item.now }
-    ensures written { let text = path_text path.now ++ get_or (item_names (described set.now) item.now) cell [] in
+    ensures written { let names = item_names (described set.now) item.now in
+        let text = path_text path.now ++ get_or names cell [] in
         Writes (K.written sink.old) (K.written sink.new) text result }
     ensures cause { HasCause (K.faults sink.old) (K.faults sink.new) result }
     ensures promise { K.promise sink.new ≡ K.promise sink.old }

@@ -77,7 +77,8 @@ fn print_machine<K: Sink>(parts: &Parts, machine: Option<u32>, sink: &mut K) -> 
 
 fn print_devices<K: Sink>(set: &DescSet, images: &[Image], sink: &mut K) -> Result<(), Failed>
     requires one_each { AreOf (described set.now) (described set.now).devices images.now }
-    ensures written { let text = devices_lines (described set.now) (described set.now).devices images.now in
+    ensures written { let set = described set.now in
+        let text = devices_lines set set.devices images.now in
         Writes (K.written sink.old) (K.written sink.new) text result }
     ensures cause { HasCause (K.faults sink.old) (K.faults sink.new) result }
     ensures promise { K.promise sink.new ≡ K.promise sink.old }
