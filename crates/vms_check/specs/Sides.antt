@@ -1,5 +1,5 @@
 -- What the comparison asks of one description at a version.
-use Rattle.std.specs.Prelude.{ℕ, suc, ◌+◌, Bool, true, false, ◌&&◌, ◌==◌, if◌then◌else◌, List, [], ◌∷◌, ◌++◌, Option, Some, None, nat_le}
+use Rattle.std.specs.Prelude.{ℕ, suc, ◌+◌, Bool, true, false, ◌&&◌, if◌then◌else◌, List, [], ◌∷◌, ◌++◌, Option, Some, None, nat_le}
 use Rattle.std.specs.Borrow.{Bor}
 use Rattle.vms_spec.specs.declared.Part.{Part}
 use Rattle.vms_desc.specs.declared.set.DescSet.{DescSet}
