@@ -1,0 +1,11 @@
+pub mod AlikeLaws
+pub mod ClockLaws
+pub mod Halves
+pub mod KeepLaws
+pub mod Reached
+pub mod RestoredLaws
+pub mod RuleLaws
+pub mod SavedLaws
+pub mod SoundLaws
+pub mod WireBits
+pub mod WireLaws

@@ -1,0 +1,9 @@
+pub mod Laws
+pub mod Ports
+pub mod Saved
+pub mod SavedLaws
+pub mod Sound
+pub mod State
+pub mod Step
+pub mod View
+pub mod Wires

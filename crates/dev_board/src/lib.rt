@@ -2,6 +2,23 @@
 //! serial port.
 #![tactic(auto)]
 
+mod act;
+mod cells;
+mod devices;
 mod event;
+mod hooked;
+mod laws;
+mod misfit;
+mod ports;
+mod saved;
+mod wires;
 
+pub use cells::BoardCells;
+pub use devices::Devices;
 pub use event::{Answer, Event};
+pub use laws::{
+    alike_law, cells_law, clock_law, continuation_law, likeness_law, restored_law, rules_law,
+    saved_law, sound_law, wires_law,
+};
+pub use misfit::Misfit;
+pub use wires::is_wire;

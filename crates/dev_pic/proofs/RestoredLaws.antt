@@ -48,12 +48,12 @@ restored-sound level role cells chip is e =
     subst (IsSoundChip level role) ok.1 (sound level role cells is ok.0)
 
 -- a pair is made of two chips that were restored
-record IsMadeOf (level : ℕ) (master slave : Result Chip ℕ) (pair : PicPair) : Type 0 where
-  same_level : pair.level ≡ level
-  of_master : master ≡ Ok pair.master
-  of_slave : slave ≡ Ok pair.slave
+pub record IsMadeOf (level : ℕ) (master slave : Result Chip ℕ) (pair : PicPair) : Type 0 where
+  pub same_level : pair.level ≡ level
+  pub of_master : master ≡ Ok pair.master
+  pub of_slave : slave ≡ Ok pair.slave
 
-made_of : (level : ℕ) (master slave : Result Chip ℕ) (pair : PicPair) → pair_of level master slave ≡ Ok pair → IsMadeOf level master slave pair
+pub made_of : (level : ℕ) (master slave : Result Chip ℕ) (pair : PicPair) → pair_of level master slave ≡ Ok pair → IsMadeOf level master slave pair
 unfolding pair_of
 made_of level (Ok master) (Ok slave) pair e = record { same_level = cc; of_master = cc; of_slave = cc }
 made_of level (Ok master) (Err rule) pair e = cc
@@ -64,7 +64,7 @@ unfolding by_number
 numbered (Ok found) pair e = cc
 numbered (Err fault) pair e = cc
 
-pair-sound : (level : ℕ) (master slave : List ℤ) (pair : PicPair) → IsLevel level → IsChipCells master → IsChipCells slave → restored_pair level master slave ≡ Ok pair → IsSoundPair pair × (pair.level ≡ level)
+pub pair-sound : (level : ℕ) (master slave : List ℤ) (pair : PicPair) → IsLevel level → IsChipCells master → IsChipCells slave → restored_pair level master slave ≡ Ok pair → IsSoundPair pair × (pair.level ≡ level)
 pair-sound level master slave pair l m s e =
     let made = made_of level (restored level Master master) (restored level Slave slave) pair e in
     let same = made.same_level in

@@ -41,7 +41,7 @@ state-le Icw3 = omega arith
 state-le WantsIcw4 = omega arith
 
 -- the chip of the cells that it gave
-chip_of-saved : (chip : Chip) → chip_of (saved_cells NEWEST chip) ≡ chip
+pub chip_of-saved : (chip : Chip) → chip_of (saved_cells NEWEST chip) ≡ chip
 unfolding chip_of saved_cells first_cells
 chip_of-saved chip = simp (flag-back, state-back)
 
@@ -70,14 +70,14 @@ first-of level role chip h =
     (of_more _ _ _ _ (flag _) (of_more _ _ _ _ (flag _) (of_more _ _ _ _ (flag _) (of_more _ _ _ _ (flag _)
     (of_more _ _ _ _ (flag _) (of_more _ _ _ _ (flag _) (of_more _ _ _ _ (flag _) (of_more _ _ _ _ (flag _) of_none))))))))))))))
 
-set-of : (level set : ℕ) (role : Role) (chip : Chip) → HasRegisters level role chip → AreOf (kinds set) (saved_cells set chip)
+pub set-of : (level set : ℕ) (role : Role) (chip : Chip) → HasRegisters level role chip → AreOf (kinds set) (saved_cells set chip)
 unfolding saved_cells first_cells
 set-of level set role chip h =
     of_both (kinds 1) _ (first_cells chip) _ (first-of level role chip h)
     (of_both _ _ _ _ (of_where (nat_le ELCR_SINCE set) (U8 ∷ []) (pos chip.elcr ∷ []) (of_more _ _ _ _ (byte _ h.elcr) of_none))
     (of_where (nat_le LTIM_SINCE set) (Truth ∷ []) (pos (flag_number chip.ltim) ∷ []) (of_more _ _ _ _ (flag _) of_none)))
 
-saved-count : (set : ℕ) (chip : Chip) → length (saved_cells set chip) ≡ length (kinds set)
+pub saved-count : (set : ℕ) (chip : Chip) → length (saved_cells set chip) ≡ length (kinds set)
 unfolding saved_cells first_cells
 saved-count set chip = by_tests (nat_le ELCR_SINCE set) (nat_le LTIM_SINCE set) where
   by_tests : (a b : Bool) → length (first_cells chip ++ cond a (pos chip.elcr ∷ []) [] ++ cond b (pos (flag_number chip.ltim) ∷ []) []) ≡ length (kinds 1 ++ cond a (U8 ∷ []) [] ++ cond b (Truth ∷ []) [])
@@ -120,7 +120,7 @@ tests-carried chip true false order elcr ltim = rw (ltim refl) refl
 tests-carried chip false true order elcr ltim = absurd (false≢true (order refl))
 tests-carried chip false false order elcr ltim = rw (elcr refl, ltim refl) refl
 
-carried-saved : (level set : ℕ) (role : Role) (chip : Chip) → level ≤ set → IsSoundChip level role chip → carried set (saved_cells set chip) ≡ saved_cells NEWEST chip
+pub carried-saved : (level set : ℕ) (role : Role) (chip : Chip) → level ≤ set → IsSoundChip level role chip → carried set (saved_cells set chip) ≡ saved_cells NEWEST chip
 unfolding saved_cells first_cells
 carried-saved level set role chip le s =
     tests-carried chip (nat_le ELCR_SINCE set) (nat_le LTIM_SINCE set)
@@ -178,7 +178,7 @@ pair-carried set pair s le =
     ∙ ap (λ cells. cells ++ carried set (saved_cells set pair.slave)) (carried-saved pair.level set Master pair.master le s.master)
     ∙ ap (λ cells. saved_cells NEWEST pair.master ++ cells) (carried-saved pair.level set Slave pair.slave le s.slave)
 
-pair-restored : (pair : PicPair) → IsSoundPair pair → restored_pair pair.level (saved_cells NEWEST pair.master) (saved_cells NEWEST pair.slave) ≡ Ok pair
+pub pair-restored : (pair : PicPair) → IsSoundPair pair → restored_pair pair.level (saved_cells NEWEST pair.master) (saved_cells NEWEST pair.slave) ≡ Ok pair
 unfolding pair_of
 pair-restored pair s =
     ap (λ r. pair_of pair.level r (restored pair.level Slave (saved_cells NEWEST pair.slave))) (restored-newest pair.level Master pair.master s.master)

@@ -70,7 +70,7 @@ rule-saved : (rule : Channel → Bool) (first second third : Channel) → rule f
 rule-saved rule first second third a b c =
     rw (first-back first second third, second-back first second third, third-back first second third, a, b, c)
 
-pit_of-saved : (pit : Pit) → length pit.counters ≡ 3 → pit_of pit.level (pit_cells NEWEST pit) ≡ pit
+pub pit_of-saved : (pit : Pit) → length pit.counters ≡ 3 → pit_of pit.level (pit_cells NEWEST pit) ≡ pit
 unfolding pit_of pit_cells
 pit_of-saved pit three =
     rw (
@@ -92,7 +92,7 @@ met now pit s =
     let hold : (rule : Channel → Bool) → rule (channel_in 0 pit) ≡ true → rule (channel_in 1 pit) ≡ true → rule (channel_in 2 pit) ≡ true → three_hold rule (three_cells NEWEST (channel_in 0 pit) (channel_in 1 pit) (channel_in 2 pit)) ≡ true = λ rule. rule-saved rule (channel_in 0 pit) (channel_in 1 pit) (channel_in 2 pit) in
     (hold registers_hold a.registers b.registers c.registers, (hold (moment_holds now) a.moment b.moment c.moment, (hold (status_holds pit.level) a.status b.status c.status, (hold toggles_hold a.toggles b.toggles c.toggles, tt))))
 
-restored-newest : (now : ℕ) (pit : Pit) → IsSoundPit now pit → restored_pit pit.level now (pit_cells NEWEST pit) ≡ Ok pit
+pub restored-newest : (now : ℕ) (pit : Pit) → IsSoundPit now pit → restored_pit pit.level now (pit_cells NEWEST pit) ≡ Ok pit
 restored-newest now pit s =
     judged-all (rules pit.level now (pit_cells NEWEST pit)) (pit_of pit.level (pit_cells NEWEST pit)) (met now pit s) ∙ ap Ok (pit_of-saved pit s.count)
 
@@ -174,7 +174,7 @@ zeros : (first second third : Counter) → first.status ≡ None → second.stat
 unfolding status_cells channel_of
 zeros first second third a b c = rw (a, b, c) refl
 
-carried-saved : (set now : ℕ) (pit : Pit) → pit.level ≤ set → IsSoundPit now pit → carried set (pit_cells set pit) ≡ pit_cells NEWEST pit
+pub carried-saved : (set now : ℕ) (pit : Pit) → pit.level ≤ set → IsSoundPit now pit → carried set (pit_cells set pit) ≡ pit_cells NEWEST pit
 unfolding pit_cells three_cells
 carried-saved set now pit le s =
     tests-carried (channel_in 0 pit) (channel_in 1 pit) (channel_in 2 pit) (nat_le STATUS_SET set)

@@ -96,14 +96,14 @@ fit (cell ∷ cells) (z ∷ numbers) h =
     (fit cells numbers (record { long = omega arith; fits = λ c lt. h.fits (suc c) (omega arith) }))
 
 -- what is at its default where it has bare byte, from a cell on
-abbrev Settled : List Slot → ℕ → List Cell → List ℤ → Type 0
+abbrev pub Settled : List Slot → ℕ → List Cell → List ℤ → Type 0
 Settled slots from cells numbers = (c : ℕ) → c < length numbers → has_cell slots (from + c) ≡ false → get_or numbers c (pos 0) ≡ (get_or cells c no_cell).default
 
 or_right : (a b : Bool) → (a || b) ≡ true → a ≡ false → b ≡ true
 or_right true b e f = cc
 or_right false b e f = e
 
-settled_are : (slots : List Slot) (from : ℕ) (cells : List Cell) (numbers : List ℤ) → length numbers ≡ length cells → are_settled slots from cells numbers ≡ true → Settled slots from cells numbers
+pub settled_are : (slots : List Slot) (from : ℕ) (cells : List Cell) (numbers : List ℤ) → length numbers ≡ length cells → are_settled slots from cells numbers ≡ true → Settled slots from cells numbers
 settled_are slots from [] [] l e = λ c lt bare. absurd (omega arith)
 settled_are slots from [] (z ∷ numbers) l e = absurd (omega arith)
 settled_are slots from (cell ∷ cells) [] l e = absurd (omega arith)

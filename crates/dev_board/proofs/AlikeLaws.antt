@@ -1,0 +1,131 @@
+-- Boards that are alike answer each event alike.
+use Rattle.std.proofs.Common.{◌≡◌, ℕ, Bool, List, [], ◌∷◌, None, refl, sym, ap, subst, ◌∙◌}
+use Rattle.dev_pic.specs.Pair.{int_of, settled_pair}
+use Rattle.dev_pic.specs.declared.pair.PicPair.{PicPair}
+use Rattle.dev_pit.specs.Pit.{pit_edge}
+use Rattle.dev_serial.proofs.AlikeLaws.{reads_alike, writes_alike, bytes_in_alike, advances_alike, lines_alike, alike_itself, alike_back, alike_on}
+use Rattle.dev_serial.specs.Access.{read_of}
+use Rattle.dev_serial.specs.Bits.{bits_where}
+use Rattle.dev_serial.specs.Port.{Port}
+use Rattle.dev_serial.specs.Sound.{Alike as AlikePorts}
+use Rattle.dev_board.specs.Laws.{AnswersAlike, AlikeStays, Likeness}
+use Rattle.dev_board.specs.Ports.{target_of, read_at, written_at}
+use Rattle.dev_board.specs.Sound.{Alike}
+use Rattle.dev_board.specs.State.{State}
+use Rattle.dev_board.specs.Step.{valued, later_by, waited, acted, wires_after, inputs_of, settled, after_act, step, observe, after_all}
+use Rattle.dev_board.specs.Wires.{wires_of}
+use Rattle.dev_board.specs.declared.act.Act.{Act}
+use Rattle.dev_board.specs.declared.event.Answer.{Answer}
+use Rattle.dev_board.specs.declared.event.Event.{Event}
+use Rattle.dev_board.specs.declared.event.Event.TheVariants.{Read, Write, Byte, Wait, Wire, Ack}
+use Rattle.dev_board.specs.declared.ports.Target.{Target}
+use Rattle.dev_board.specs.declared.ports.Target.TheVariants.{Pair, Counter, Control, Register, Nothing}
+
+-- the other board is the first with another port
+module _ (m : State) (port : Port) (a : AlikePorts m.serial port) where
+  abbrev other : State
+  other = record m { serial = port }
+
+  with-serial : (first second : Port) → AlikePorts first second → Alike (record m { serial = first }) (record m { serial = second })
+  with-serial first second b = record { same = refl; serial = b }
+
+  read_at-alike : (target : Target) (number : ℕ) → AnswersAlike (read_at target number m) (read_at target number other)
+  unfolding read_at
+  read_at-alike Pair number = record { value = refl; alike = record { same = refl; serial = a } }
+  read_at-alike (Counter counter) number = record { value = refl; alike = record { same = refl; serial = a } }
+  read_at-alike Control number = record { value = refl; alike = record { same = refl; serial = a } }
+  read_at-alike (Register offset) number =
+      let answers = reads_alike offset m.moment m.serial port a in
+      record { value = answers.value; alike = with-serial (read_of offset m.moment m.serial).1 (read_of offset m.moment port).1 answers.alike }
+  read_at-alike Nothing number = record { value = refl; alike = record { same = refl; serial = a } }
+
+  written_at-alike : (target : Target) (number value : ℕ) → Alike (written_at target number value m) (written_at target number value other)
+  unfolding written_at
+  written_at-alike Pair number value = record { same = refl; serial = a }
+  written_at-alike (Counter counter) number value = record { same = refl; serial = a }
+  written_at-alike Control number value = record { same = refl; serial = a }
+  written_at-alike (Register offset) number value = record { same = refl; serial = writes_alike offset value m.moment m.serial port a }
+  written_at-alike Nothing number value = record { same = refl; serial = a }
+
+  waited-alike : (to : ℕ) → AnswersAlike (waited to m) (waited to other)
+  unfolding waited
+  waited-alike to =
+      let answers = advances_alike to m.serial port a in
+      let act : List ℕ → Act = (λ bytes. record { value = None; edge = pit_edge 0 m.moment to m.pit; sent = record { items = bytes } }) in
+      record { value = ap act answers.value; alike = record { same = refl; serial = answers.alike } }
+
+  acted-alike : (event : Event) → AnswersAlike (acted event m) (acted event other)
+  unfolding acted
+  acted-alike (Read number) =
+      let answers = read_at-alike (target_of m.level number) number in
+      record { value = ap valued answers.value; alike = answers.alike }
+  acted-alike (Write number value) = record { value = refl; alike = written_at-alike (target_of m.level number) number value }
+  acted-alike (Byte value) = record { value = refl; alike = record { same = refl; serial = bytes_in_alike value m.moment m.serial port a } }
+  acted-alike (Wait ns) = waited-alike (later_by ns m.moment)
+  acted-alike (Wire input up) = record { value = refl; alike = record { same = refl; serial = a } }
+  acted-alike Ack = record { value = refl; alike = record { same = refl; serial = a } }
+
+  inputs-alike : (wires : ℕ) → inputs_of wires other ≡ inputs_of wires m
+  unfolding inputs_of
+  inputs-alike wires = rw (lines_alike m.moment m.serial port a) refl
+
+  pair-alike : (wires : ℕ) (edge : Bool) → (settled wires edge other).pair ≡ (settled wires edge m).pair
+  unfolding settled
+  pair-alike wires edge = ap (λ n. settled_pair n (bits_where edge 0x01) m.pair) (inputs-alike wires)
+
+  settled-alike : (wires : ℕ) (edge : Bool) → Alike (settled wires edge m) (settled wires edge other)
+  unfolding settled
+  settled-alike wires edge = record { same = ap (λ (pair : PicPair). record other { pair = pair }) (pair-alike wires edge); serial = a }
+
+  after_act-alike : (wires : ℕ) (act : Act) → AnswersAlike (after_act wires (act, m)) (after_act wires (act, other))
+  unfolding after_act
+  after_act-alike wires act =
+      let answer : PicPair → Answer = (λ pair. record { value = act.value; int = int_of pair; sent = act.sent }) in
+      record { value = ap answer (pair-alike wires act.edge); alike = settled-alike wires act.edge }
+
+-- the lines are taken over of boards that are alike after equal acts
+settle-alike : (wires : ℕ) (first second : Act × State) → AnswersAlike first second → AnswersAlike (after_act wires first) (after_act wires second)
+settle-alike wires first second answers =
+    let same_act = λ (act : Act). AnswersAlike (after_act wires first) (after_act wires (act, record first.1 { serial = second.1.serial })) in
+    let same_state = λ (after : State). AnswersAlike (after_act wires first) (after_act wires (second.0, after)) in
+    subst same_state (sym answers.alike.same) (subst same_act (sym answers.value) (after_act-alike first.1 second.1.serial answers.alike.serial wires first.0))
+
+same_wires : (m : State) (port : Port) → wires_of (record m { serial = port }) ≡ wires_of m
+unfolding wires_of
+same_wires m port = refl
+
+other-step : (event : Event) (m : State) (port : Port) → AlikePorts m.serial port → AnswersAlike (step event m) (step event (record m { serial = port }))
+unfolding step
+other-step event m port a =
+    rw (same_wires m port) (settle-alike (wires_after event (wires_of m)) (acted event m) (acted event (record m { serial = port })) (acted-alike m port a event))
+
+step-alike : (event : Event) (m n : State) → Alike m n → AnswersAlike (step event m) (step event n)
+step-alike event m n a =
+    subst (λ (o : State). AnswersAlike (step event m) (step event o)) (sym a.same) (other-step event m n.serial a.serial)
+
+-- after each event of a list
+answers-alike : (events : List Event) (m n : State) → Alike m n → observe events n ≡ observe events m
+unfolding observe
+answers-alike [] m n a = refl
+answers-alike (event ∷ events) m n a =
+    let now = step-alike event m n a in
+    ap (λ (answer : Answer). answer ∷ observe events (step event n).1) now.value
+    ∙ ap (λ (answers : List Answer). (step event m).0 ∷ answers) (answers-alike events (step event m).1 (step event n).1 now.alike)
+
+after-alike : (events : List Event) (m n : State) → Alike m n → Alike (after_all events m) (after_all events n)
+unfolding after_all
+after-alike [] m n a = a
+after-alike (event ∷ events) m n a = after-alike events (step event m).1 (step event n).1 (step-alike event m n a).alike
+
+pub alike_stays : AlikeStays
+alike_stays = record { event = step-alike; answers = answers-alike; after = after-alike }
+
+pub likeness : Likeness
+likeness = record {
+  itself = λ m. record { same = refl; serial = alike_itself m.serial };
+  back = λ m n a. record { same = ap (λ (s : State). record s { serial = m.serial }) (sym a.same); serial = alike_back m.serial n.serial a.serial };
+  on = λ m n o a b. record {
+    same = b.same ∙ ap (λ (s : State). record s { serial = o.serial }) a.same;
+    serial = alike_on m.serial n.serial o.serial a.serial b.serial;
+  };
+}

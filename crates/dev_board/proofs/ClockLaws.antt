@@ -1,0 +1,53 @@
+-- No event changes the level, and a wait alone moves the moment.
+use Rattle.std.proofs.Common.{◌≡◌, ℕ, refl}
+use Rattle.dev_board.specs.Laws.{ClockGoesOn, moment_left}
+use Rattle.dev_board.specs.Ports.{target_of, read_at, written_at}
+use Rattle.dev_board.specs.State.{State}
+use Rattle.dev_board.specs.Step.{waited, acted, settled, after_act, step}
+use Rattle.dev_board.specs.declared.act.Act.{Act}
+use Rattle.dev_board.specs.declared.event.Event.{Event}
+use Rattle.dev_board.specs.declared.event.Event.TheVariants.{Read, Write, Byte, Wait, Wire, Ack}
+use Rattle.dev_board.specs.declared.ports.Target.{Target}
+use Rattle.dev_board.specs.declared.ports.Target.TheVariants.{Pair, Counter, Control, Register, Nothing}
+
+-- a board at a moment and of a level
+record IsAt (moment level : ℕ) (after : State) : Type 0 where
+  moment_is : after.moment ≡ moment
+  level_is : after.level ≡ level
+
+module _ (m : State) where
+  read_at-clock : (target : Target) (port : ℕ) → IsAt m.moment m.level (read_at target port m).1
+  unfolding read_at
+  read_at-clock Pair port = record { moment_is = refl; level_is = refl }
+  read_at-clock (Counter counter) port = record { moment_is = refl; level_is = refl }
+  read_at-clock Control port = record { moment_is = refl; level_is = refl }
+  read_at-clock (Register offset) port = record { moment_is = refl; level_is = refl }
+  read_at-clock Nothing port = record { moment_is = refl; level_is = refl }
+
+  written_at-clock : (target : Target) (port value : ℕ) → IsAt m.moment m.level (written_at target port value m)
+  unfolding written_at
+  written_at-clock Pair port value = record { moment_is = refl; level_is = refl }
+  written_at-clock (Counter counter) port value = record { moment_is = refl; level_is = refl }
+  written_at-clock Control port value = record { moment_is = refl; level_is = refl }
+  written_at-clock (Register offset) port value = record { moment_is = refl; level_is = refl }
+  written_at-clock Nothing port value = record { moment_is = refl; level_is = refl }
+
+  acted-clock : (event : Event) → IsAt (moment_left event m.moment) m.level (acted event m).1
+  unfolding acted waited
+  acted-clock (Read port) = read_at-clock (target_of m.level port) port
+  acted-clock (Write port value) = written_at-clock (target_of m.level port) port value
+  acted-clock (Byte value) = record { moment_is = refl; level_is = refl }
+  acted-clock (Wait ns) = record { moment_is = refl; level_is = refl }
+  acted-clock (Wire input up) = record { moment_is = refl; level_is = refl }
+  acted-clock Ack = record { moment_is = refl; level_is = refl }
+
+after_act-clock : (wires moment level : ℕ) (done : Act × State) → IsAt moment level done.1 → IsAt moment level (after_act wires done).1
+unfolding after_act settled
+after_act-clock wires moment level done c = record { moment_is = c.moment_is; level_is = c.level_is }
+
+step-clock : (event : Event) (m : State) → IsAt (moment_left event m.moment) m.level (step event m).1
+unfolding step
+step-clock event m = after_act-clock _ _ _ (acted event m) (acted-clock m event)
+
+pub clock_goes_on : ClockGoesOn
+clock_goes_on = record { moment = λ event m. (step-clock event m).moment_is; level = λ event m. (step-clock event m).level_is }

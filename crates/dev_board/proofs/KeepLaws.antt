@@ -1,0 +1,151 @@
+-- What each event keeps of the devices.
+use Rattle.std.proofs.Common.{◌≡◌, ℕ, ◌-◌, ◌<◌, ◌≤◌, ◌==◌, true, ◌&&◌, arith, ap, sym, subst, List, ◌∙◌}
+use Rattle.std.specs.Prelude.{nat_le}
+use Rattle.dev_base.proofs.Choices.{either, by_test}
+use Rattle.dev_base.specs.declared.limits.TheConstants.{LAST_MOMENT}
+use Rattle.dev_pic.proofs.PairLaws.{steps_keep_registers, steps_keep_level as pair_keeps_level}
+use Rattle.dev_pic.specs.Pair.{is_port, read_pair, written_pair, acked}
+use Rattle.dev_pic.specs.Sound.{PairHasRegisters}
+use Rattle.dev_pic.specs.declared.pair.PicPair.{PicPair}
+use Rattle.dev_pit.proofs.SoundLaws.{sound_stays, steps_keep_level as pit_keeps_level}
+use Rattle.dev_pit.specs.Pit.{IsLoadedBy, pit_read, pit_written}
+use Rattle.dev_pit.specs.Sound.{IsSoundPit}
+use Rattle.dev_pit.specs.declared.pit.Pit.{Pit}
+use Rattle.dev_serial.proofs.KeepLaws.{reads_keep_sound, writes_keep_sound, bytes_in_keep_sound, advances_keep_sound}
+use Rattle.dev_serial.proofs.LevelLaws.{reads_keep_level, writes_keep_level, bytes_in_keep_level, advances_keep_level}
+use Rattle.dev_serial.specs.Access.{read_of, written, came_in, advanced}
+use Rattle.dev_serial.specs.Port.{Port}
+use Rattle.dev_serial.specs.Sound.{IsSound as IsSoundPort}
+use Rattle.dev_board.specs.Laws.{IsEvent}
+use Rattle.dev_board.specs.Ports.{target_of, read_at, written_at, write}
+use Rattle.dev_board.specs.Sound.{HasDevices}
+use Rattle.dev_board.specs.State.{State}
+use Rattle.dev_board.specs.Step.{later_by, waited, acted}
+use Rattle.dev_board.specs.declared.event.Event.{Event}
+use Rattle.dev_board.specs.declared.event.Event.TheVariants.{Read, Write, Byte, Wait, Wire, Ack}
+use Rattle.dev_board.specs.declared.ports.Target.{Target}
+use Rattle.dev_board.specs.declared.ports.Target.TheVariants.{Pair, Counter, Control, Register, Nothing}
+
+-- an answer after which the devices are so
+pub record Kept {A : Type 0} (answer : A × State) : Type 0 where
+  pub kept : HasDevices answer.1
+
+module _ (m : State) (h : HasDevices m) where
+  pub with-pair : (pair : PicPair) → PairHasRegisters pair → pair.level ≡ m.pair.level → HasDevices (record m { pair = pair })
+  with-pair pair k e = record {
+    level = h.level;
+    moment = h.moment;
+    pair_level = e ∙ h.pair_level;
+    pit_level = h.pit_level;
+    serial_level = h.serial_level;
+    pair = k;
+    pit = h.pit;
+    serial = h.serial;
+  }
+
+  pub with-pit : (pit : Pit) → IsSoundPit m.moment pit → pit.level ≡ m.pit.level → HasDevices (record m { pit = pit })
+  with-pit pit k e = record {
+    level = h.level;
+    moment = h.moment;
+    pair_level = h.pair_level;
+    pit_level = e ∙ h.pit_level;
+    serial_level = h.serial_level;
+    pair = h.pair;
+    pit = k;
+    serial = h.serial;
+  }
+
+  pub with-serial : (port : Port) → IsSoundPort m.moment port → port.level ≡ m.serial.level → HasDevices (record m { serial = port })
+  with-serial port k e = record {
+    level = h.level;
+    moment = h.moment;
+    pair_level = h.pair_level;
+    pit_level = h.pit_level;
+    serial_level = e ∙ h.serial_level;
+    pair = h.pair;
+    pit = h.pit;
+    serial = k;
+  }
+
+  pub read_at-kept : (target : Target) (port : ℕ) → Kept (read_at target port m)
+  unfolding read_at
+  read_at-kept Pair port = record { kept = with-pair (read_pair port m.pair).1 (steps_keep_registers.read port m.pair h.pair) (pair_keeps_level.read port m.pair) }
+  read_at-kept (Counter counter) port = record { kept = with-pit (pit_read counter m.moment m.pit).1 (sound_stays.in_reads counter m.moment m.pit h.pit) (pit_keeps_level.read counter m.moment m.pit) }
+  read_at-kept Control port = record { kept = h }
+  read_at-kept (Register offset) port = record { kept = with-serial (read_of offset m.moment m.serial).1 (reads_keep_sound offset m.moment m.serial h.serial) (reads_keep_level offset m.moment m.serial) }
+  read_at-kept Nothing port = record { kept = h }
+
+  pub pit-written : (port value : ℕ) → value < 256 → HasDevices (record m { pit = pit_written port value m.moment m.pit })
+  pit-written port value v = with-pit _ (sound_stays.in_writes port value m.moment m.pit v h.pit) (pit_keeps_level.write port value m.moment m.pit)
+
+  pub pair-written : (port value : ℕ) → value < 256 → is_port m.pair.level port ≡ true → HasDevices (record m { pair = written_pair port value m.pair })
+  pair-written port value v e = with-pair _ (steps_keep_registers.write port value m.pair v e h.pair) (pair_keeps_level.write port value m.pair)
+
+  pub serial-written : (offset value : ℕ) → value < 256 → HasDevices (record m { serial = written offset value m.moment m.serial })
+  serial-written offset value v = with-serial _ (writes_keep_sound offset value m.moment m.serial v h.serial) (writes_keep_level offset value m.moment m.serial)
+
+  pub write-kept : (port value : ℕ) → value < 256 → HasDevices (write port value m)
+  unfolding target_of written_at
+  write-kept port value v =
+      let keeps : Target → Type 0 = λ t. HasDevices (written_at t port value m) in
+      by_test keeps (is_port m.level port) _ _ (λ e. pair-written port value v (ap (λ level. is_port level port) h.pair_level ∙ e)) (λ _.
+      either keeps (nat_le 0x40 port && nat_le port 0x42) _ _ (pit-written port value v)
+      (either keeps (port == 0x43) _ _ (pit-written port value v)
+      (either keeps (nat_le 0x3f8 port && nat_le port 0x3ff) _ _ (serial-written (port - 0x3f8) value v) h)))
+
+  pub waited-kept : (to : ℕ) → m.moment ≤ to → to ≤ LAST_MOMENT → Kept (waited to m)
+  unfolding waited
+  waited-kept to l b = record {
+    kept = record {
+      level = h.level;
+      moment = b;
+      pair_level = h.pair_level;
+      pit_level = h.pit_level;
+      serial_level = advances_keep_level to m.serial ∙ h.serial_level;
+      pair = h.pair;
+      pit = sound_stays.in_time m.moment to m.pit l b h.pit;
+      serial = advances_keep_sound m.moment to m.serial l h.serial;
+    };
+  }
+
+  pub byte-kept : (value : ℕ) → value < 256 → HasDevices (record m { serial = came_in value m.moment m.serial })
+  byte-kept value v = with-serial _ (bytes_in_keep_sound value m.moment m.serial v h.serial) (bytes_in_keep_level value m.moment m.serial)
+
+  pub ack-kept : HasDevices (record m { pair = (acked m.pair).1 })
+  ack-kept = with-pair _ (steps_keep_registers.ack m.pair h.pair) (pair_keeps_level.ack m.pair)
+
+  pub acted-kept : (event : Event) → IsEvent event → Kept (acted event m)
+  unfolding acted
+  acted-kept (Read port) e = record { kept = (read_at-kept (target_of m.level port) port).kept }
+  acted-kept (Write port value) e = record { kept = write-kept port value e }
+  acted-kept (Byte value) e = record { kept = byte-kept value e }
+  acted-kept (Wait ns) e = let b = h.moment in waited-kept (later_by ns m.moment) (omega (arith, b)) (omega arith)
+  acted-kept (Wire input up) e = record { kept = h }
+  acted-kept Ack e = record { kept = ack-kept }
+
+-- the answers of devices, as their calls say them
+module _ (m : State) (h : HasDevices m) where
+  pub after-pair : (port value : ℕ) (pair : PicPair) → (value, pair) ≡ read_pair port m.pair → HasDevices (record m { pair = pair })
+  after-pair port value pair e =
+      subst (λ (answer : ℕ × PicPair). HasDevices (record m { pair = answer.1 })) (sym e) (with-pair m h (read_pair port m.pair).1 (steps_keep_registers.read port m.pair h.pair) (pair_keeps_level.read port m.pair))
+
+  pub after-pit : (counter value : ℕ) (pit : Pit) → (value, pit) ≡ pit_read counter m.moment m.pit → HasDevices (record m { pit = pit })
+  after-pit counter value pit e =
+      subst (λ (answer : ℕ × Pit). HasDevices (record m { pit = answer.1 })) (sym e) (with-pit m h (pit_read counter m.moment m.pit).1 (sound_stays.in_reads counter m.moment m.pit h.pit) (pit_keeps_level.read counter m.moment m.pit))
+
+  pub after-serial : (offset value : ℕ) (port : Port) → (value, port) ≡ read_of offset m.moment m.serial → HasDevices (record m { serial = port })
+  after-serial offset value port e =
+      subst (λ (answer : ℕ × Port). HasDevices (record m { serial = answer.1 })) (sym e) (with-serial m h (read_of offset m.moment m.serial).1 (reads_keep_sound offset m.moment m.serial h.serial) (reads_keep_level offset m.moment m.serial))
+
+  pub after-ack : (value : ℕ) (pair : PicPair) → (value, pair) ≡ acked m.pair → HasDevices (record m { pair = pair })
+  after-ack value pair e =
+      subst (λ (answer : ℕ × PicPair). HasDevices (record m { pair = answer.1 })) (sym e) (ack-kept m h)
+
+  pub after-wait : (to : ℕ) (sent : List ℕ) (port : Port) → m.moment ≤ to → to ≤ LAST_MOMENT → (sent, port) ≡ advanced to m.serial → HasDevices (record m { moment = to; serial = port })
+  unfolding waited
+  after-wait to sent port l b e =
+      subst (λ (answer : List ℕ × Port). HasDevices (record m { moment = to; serial = answer.1 })) (sym e) (waited-kept m h to l b).kept
+
+  -- no counter was loaded after the moment
+  pub loaded : IsLoadedBy m.moment m.pit
+  loaded = sound_stays.loaded m.moment m.pit h.pit

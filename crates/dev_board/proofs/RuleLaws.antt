@@ -1,0 +1,142 @@
+-- A board is sound exactly where its cells in the newest set meet the rules and the lines agree.
+use Rattle.std.proofs.Common.{◌≡◌, ℕ, ◌≤◌, Result, Ok, refl, sym, ap, subst, ◌∙◌, arith}
+use Rattle.dev_base.proofs.RuleLaws.{judged-ok}
+use Rattle.dev_base.specs.Bits.{has}
+use Rattle.dev_base.specs.declared.limits.TheConstants.{NEWEST, LAST_MOMENT}
+use Rattle.dev_pic.proofs.FaultLaws.{pair-same}
+use Rattle.dev_pic.proofs.SavedLaws.{carried-saved as chip-carried}
+use Rattle.dev_pic.specs.Pair.{lines_of, slave_int_of}
+use Rattle.dev_pic.specs.declared.pair.PicPair.{PicPair}
+use Rattle.dev_pit.proofs.SavedLaw.{carried-saved as pit-carried, pit_of-saved}
+use Rattle.dev_pit.specs.Cells.{pit_cells}
+use Rattle.dev_pit.specs.Pit.{pit_out}
+use Rattle.dev_pit.specs.Saved.{rules, pit_of}
+use Rattle.dev_serial.proofs.CarriedLaw.{carried-saved as serial-carried, numbers-back}
+use Rattle.dev_serial.proofs.SoundRules.{sound_meets_rules as port-meets}
+use Rattle.dev_serial.specs.PortNumbers.{saved as port-saved}
+use Rattle.dev_serial.specs.Rules.{restored as port-restored}
+use Rattle.dev_pic.proofs.PairLaws.{steps_keep_registers}
+use Rattle.dev_pic.specs.Sound.{IsSoundPair}
+use Rattle.dev_pit.specs.Sound.{IsSoundPit}
+use Rattle.dev_serial.proofs.AlikeLaws.{lines_alike}
+use Rattle.dev_serial.proofs.SavedLaw.{restored-saved}
+use Rattle.dev_serial.specs.Port.{Port, line_of}
+use Rattle.dev_serial.specs.Sound.{IsSound as IsSoundPort}
+use Rattle.dev_board.proofs.Halves.{board-cells}
+use Rattle.dev_board.proofs.RestoredLaws.{IsMadeOf, made_of, chip-ok, device-ok, timed-ok, pair-back, pit-back}
+use Rattle.dev_board.proofs.SavedLaws.{has-lines, comes-back}
+use Rattle.dev_board.specs.Saved.{saved, carried, MaySaveUnder, AreBoardCells, timed, moment_of, pair_back, pit_back, serial_back, restored}
+use Rattle.dev_board.specs.SavedLaws.{IsTold, SoundMeetsRules}
+use Rattle.dev_board.specs.Sound.{HasLines, IsSound}
+use Rattle.dev_board.specs.State.{State}
+use Rattle.dev_board.specs.declared.misfit.TheConstants.{PIT_DEVICE, SERIAL_DEVICE}
+
+module _ (m : State) (s : IsSound m) where
+  may : MaySaveUnder m.level NEWEST
+  may = let l = s.devices.level.last in record { level_le_set = l; set_le_newest = omega arith }
+
+  -- the newest set's cells are carried as they are
+  carried-newest : carried NEWEST (saved NEWEST m) ≡ saved NEWEST m
+  unfolding carried saved
+  carried-newest =
+      let pair_le : m.pair.level ≤ NEWEST = let l = s.devices.level.last in let e = s.devices.pair_level in omega (arith, l, e) in
+      let pit_le : m.pit.level ≤ NEWEST = let l = s.devices.level.last in let e = s.devices.pit_level in omega (arith, l, e) in
+      let serial_le : m.serial.level ≤ NEWEST = let l = s.devices.level.last in let e = s.devices.serial_level in omega (arith, l, e) in
+      board-cells NEWEST m _ _ _ _ _ refl (chip-carried m.pair.level NEWEST _ m.pair.master pair_le s.pair.master) (chip-carried m.pair.level NEWEST _ m.pair.slave pair_le s.pair.slave)
+      (pit-carried NEWEST m.moment m.pit pit_le s.devices.pit) (serial-carried NEWEST m.moment m.serial s.devices.serial serial_le (omega arith))
+
+  told : IsTold m
+  told = record {
+    level = s.devices.level;
+    pair_level = s.devices.pair_level;
+    pit_level = s.devices.pit_level;
+    serial_level = s.devices.serial_level;
+    counters = s.devices.pit.count;
+    serial = ((port-meets m.moment m.serial s.devices.moment).0 s.devices.serial).0;
+    cells = subst AreBoardCells carried-newest (comes-back NEWEST m s may).may;
+  }
+
+  back : (n : State) × (restored m.level (saved NEWEST m) ≡ Ok n)
+  back =
+      let there = comes-back NEWEST m s may in
+      (there.back, ap (restored m.level) (sym carried-newest) ∙ there.restored)
+
+port-same : (first second : Port) (outcome : Result Port ℕ) → outcome ≡ Ok first → outcome ≡ Ok second → first ≡ second
+port-same first second outcome d e = cc
+
+-- the other way
+module _ (m : State) (t : IsTold m) (n : State) (e : restored m.level (saved NEWEST m) ≡ Ok n) where
+  made : IsMadeOf m.level (timed (moment_of (saved NEWEST m))) (pair_back m.level (saved NEWEST m).master.items (saved NEWEST m).slave.items) (pit_back m.level (moment_of (saved NEWEST m)) (saved NEWEST m).pit.items) (serial_back m.level (moment_of (saved NEWEST m)) (saved NEWEST m).serial.items) n
+  made = made_of m.level _ _ _ _ n e
+
+  last : m.moment ≤ LAST_MOMENT
+  unfolding saved
+  last = (timed-ok (moment_of (saved NEWEST m)) n.moment made.timer).last
+
+  same_moment : n.moment ≡ m.moment
+  unfolding saved
+  same_moment = (timed-ok (moment_of (saved NEWEST m)) n.moment made.timer).same
+
+  same_pair : n.pair ≡ m.pair
+  unfolding saved
+  same_pair = pair-same m.level m.pair n.pair t.pair_level (chip-ok _ n.pair made.pair)
+
+  sound_pair : IsSoundPair m.pair
+  unfolding saved
+  sound_pair = subst IsSoundPair same_pair (pair-back m.level (saved NEWEST m) t.level t.cells last n.pair made.pair).0
+
+  same_pit : n.pit ≡ m.pit
+  unfolding saved
+  same_pit =
+      sym (judged-ok (rules m.level m.moment (pit_cells NEWEST m.pit)) (pit_of m.level (pit_cells NEWEST m.pit)) n.pit (device-ok PIT_DEVICE _ n.pit made.pit)).1
+      ∙ ap (λ (level : ℕ). pit_of level (pit_cells NEWEST m.pit)) (sym t.pit_level)
+      ∙ pit_of-saved m.pit t.counters
+
+  sound_pit : IsSoundPit m.moment m.pit
+  unfolding saved
+  sound_pit = subst (IsSoundPit m.moment) same_pit (pit-back m.level (saved NEWEST m) t.level t.cells last n.pit made.pit).0
+
+  port-again : port-restored m.serial.level m.moment (port-saved NEWEST m.moment m.serial) ≡ Ok n.serial
+  unfolding saved
+  port-again =
+      ap (λ (level : ℕ). port-restored level m.moment (port-saved NEWEST m.moment m.serial)) t.serial_level
+      ∙ ap (port-restored m.level m.moment) (sym (numbers-back NEWEST m.moment m.serial))
+      ∙ device-ok SERIAL_DEVICE _ n.serial made.serial
+
+  sound_port : IsSoundPort m.moment m.serial
+  sound_port = (port-meets m.moment m.serial last).1 (t.serial, (n.serial, port-again))
+
+  same_line : line_of m.moment n.serial ≡ line_of m.moment m.serial
+  same_line =
+      let there = restored-saved NEWEST m.moment m.serial last sound_port in
+      let same : there.0 ≡ n.serial = port-same there.0 n.serial _ there.1 port-again in
+      ap (line_of m.moment) (sym same) ∙ lines_alike m.moment m.serial there.0 there.2
+
+  -- the lines that are remembered
+  lines : HasLines m
+  lines =
+      let has_lines = has-lines n made.lines in
+      record {
+        out = ap (λ (pair : PicPair). has (lines_of pair) 0) (sym same_pair) ∙ has_lines.out ∙ ap (λ (now : ℕ). pit_out 0 now n.pit) same_moment ∙ ap (pit_out 0 m.moment) same_pit;
+        slave = ap (λ (pair : PicPair). has (lines_of pair) 2) (sym same_pair) ∙ has_lines.slave ∙ ap slave_int_of same_pair;
+        serial = ap (λ (pair : PicPair). has (lines_of pair) 4) (sym same_pair) ∙ has_lines.serial ∙ ap (λ (now : ℕ). line_of now n.serial) same_moment ∙ same_line;
+      }
+
+  sound : IsSound m
+  sound = record {
+    devices = record {
+      level = t.level;
+      moment = last;
+      pair_level = t.pair_level;
+      pit_level = t.pit_level;
+      serial_level = t.serial_level;
+      pair = steps_keep_registers.sound m.pair sound_pair;
+      pit = sound_pit;
+      serial = sound_port;
+    };
+    pair = sound_pair;
+    lines = lines;
+  }
+
+pub sound_meets_rules : SoundMeetsRules
+sound_meets_rules = record { board = λ m. ((λ s. (told m s, back m s)), (λ h. sound m h.0 h.1.0 h.1.1)) }

@@ -1,0 +1,138 @@
+-- The inputs of the pair, bit by bit.
+use Rattle.std.proofs.Common.{◌≡◌, ◌≢◌, ℕ, ◌-◌, ◌<◌, ◌^◌, Bool, true, false, ◌&&◌, ◌||◌, arith, bit_or, refl, ap, sym, ◌∙◌}
+use Rattle.std.proofs.lemmas.Bool.{false≢true}
+use Rattle.std.proofs.lemmas.Bool.Decides.{nat_tests}
+use Rattle.std.proofs.lemmas.Nat.{and_le_l, and_le_r, or_of_16, pow_below}
+use Rattle.dev_base.specs.Bits.{has}
+use Rattle.dev_pic.proofs.BitLaws.{has-and, has-or, has-one_other}
+use Rattle.dev_pic.specs.Pair.{lines_of}
+use Rattle.dev_pit.specs.Pit.{pit_out}
+use Rattle.dev_serial.specs.Bits.{bits_where}
+use Rattle.dev_serial.specs.Port.{line_of}
+use Rattle.dev_board.specs.Laws.{IsEvent}
+use Rattle.dev_board.specs.State.{State}
+use Rattle.dev_board.specs.Step.{inputs_of, names_wire, wires_after}
+use Rattle.dev_board.specs.Wires.{AreWires, is_wire, wires_of, with_wire}
+use Rattle.dev_board.specs.declared.event.Event.{Event}
+use Rattle.dev_board.specs.declared.event.Event.TheVariants.{Read, Write, Byte, Wait, Wire, Ack}
+use Rattle.dev_board.specs.declared.wires.TheConstants.{WIRES}
+
+and_false : (b : Bool) → (b && false) ≡ false
+and_false true = refl
+and_false false = refl
+
+pub wires_of-are : (m : State) → AreWires (wires_of m)
+unfolding wires_of
+wires_of-are m = record {
+  bound = omega (arith, and_le_r (lines_of m.pair) WIRES);
+  out = has-and (lines_of m.pair) WIRES 0 ∙ and_false (has (lines_of m.pair) 0);
+  serial = has-and (lines_of m.pair) WIRES 4 ∙ and_false (has (lines_of m.pair) 4);
+}
+
+pub wire-bound : (input : ℕ) → is_wire input ≡ true → input < 16
+wire-bound input e = grind (arith, nat_tests)
+
+-- a wire is no input that is not one
+pub wire-other : (input other : ℕ) → is_wire input ≡ true → is_wire other ≡ false → other ≢ input
+wire-other input other e f same = false≢true (sym f ∙ ap is_wire same ∙ e)
+
+with_wire-are : (input wires : ℕ) (up : Bool) → is_wire input ≡ true → AreWires wires → AreWires (with_wire input up wires)
+unfolding with_wire
+with_wire-are input wires true e w = record {
+  bound = or_of_16 wires (2 ^ input) w.bound (pow_below input 16 (wire-bound input e));
+  out = has-or wires (2 ^ input) 0 ∙ ap (λ b. b || has (2 ^ input) 0) w.out ∙ has-one_other input 0 (wire-other input 0 e refl);
+  serial = has-or wires (2 ^ input) 4 ∙ ap (λ b. b || has (2 ^ input) 4) w.serial ∙ has-one_other input 4 (wire-other input 4 e refl);
+}
+with_wire-are input wires false e w = record {
+  bound = omega (arith, w.bound, and_le_l wires (65535 - 2 ^ input));
+  out = has-and wires (65535 - 2 ^ input) 0 ∙ ap (λ b. b && has (65535 - 2 ^ input) 0) w.out;
+  serial = has-and wires (65535 - 2 ^ input) 4 ∙ ap (λ b. b && has (65535 - 2 ^ input) 4) w.serial;
+}
+
+pub wires_after-are : (event : Event) (wires : ℕ) → names_wire event ≡ true → AreWires wires → AreWires (wires_after event wires)
+unfolding wires_after names_wire
+wires_after-are (Read port) wires e w = w
+wires_after-are (Write port value) wires e w = w
+wires_after-are (Byte value) wires e w = w
+wires_after-are (Wait ns) wires e w = w
+wires_after-are (Wire input up) wires e w = with_wire-are input wires up e w
+wires_after-are Ack wires e w = w
+
+-- an event that there is names a wire, if any
+pub names : (event : Event) → IsEvent event → names_wire event ≡ true
+unfolding names_wire
+names (Read port) e = refl
+names (Write port value) e = refl
+names (Byte value) e = refl
+names (Wait ns) e = refl
+names (Wire input up) e = e
+names Ack e = refl
+
+-- an event that is no wire's leaves the wires
+pub others_leave : (event : Event) (wires : ℕ) → ((input : ℕ) (up : Bool) → event ≡ Wire input up → ⊥) → wires_after event wires ≡ wires
+unfolding wires_after
+others_leave (Read port) wires n = refl
+others_leave (Write port value) wires n = refl
+others_leave (Byte value) wires n = refl
+others_leave (Wait ns) wires n = refl
+others_leave (Wire input up) wires n = absurd (n input up refl)
+others_leave Ack wires n = refl
+
+-- the input of a wire's event
+pub named-bound : (event : Event) (input : ℕ) (up : Bool) → names_wire event ≡ true → event ≡ Wire input up → input < 16
+unfolding names_wire
+named-bound event input up e is = wire-bound input (sym (ap names_wire is) ∙ e)
+
+-- two device lines among the inputs
+out-0 : (b : Bool) → has (bits_where b 0x01) 0 ≡ b
+out-0 true = refl
+out-0 false = refl
+
+out-4 : (b : Bool) → has (bits_where b 0x01) 4 ≡ false
+out-4 true = refl
+out-4 false = refl
+
+line-0 : (b : Bool) → has (bits_where b 0x10) 0 ≡ false
+line-0 true = refl
+line-0 false = refl
+
+line-4 : (b : Bool) → has (bits_where b 0x10) 4 ≡ b
+line-4 true = refl
+line-4 false = refl
+
+or_false : (b : Bool) → (b || false) ≡ b
+or_false true = refl
+or_false false = refl
+
+pub one-lt : (b : Bool) (bit : ℕ) → bit < 2 ^ 16 → bits_where b bit < 2 ^ 16
+one-lt true bit h = h
+one-lt false bit h = omega arith
+
+module _ (wires : ℕ) (m : State) (w : AreWires wires) where
+  abbrev out : Bool
+  out = pit_out 0 m.moment m.pit
+
+  abbrev line : Bool
+  line = line_of m.moment m.serial
+
+  pub inputs-lt : inputs_of wires m < 2 ^ 16
+  unfolding inputs_of
+  inputs-lt =
+      or_of_16 _ _ (or_of_16 wires (bits_where out 0x01) w.bound (one-lt out 0x01 (omega arith))) (one-lt line 0x10 (omega arith))
+
+  pub inputs-out : has (inputs_of wires m) 0 ≡ out
+  unfolding inputs_of
+  inputs-out =
+      has-or (bit_or wires (bits_where out 0x01)) (bits_where line 0x10) 0
+      ∙ ap (λ b. has (bit_or wires (bits_where out 0x01)) 0 || b) (line-0 line)
+      ∙ or_false (has (bit_or wires (bits_where out 0x01)) 0)
+      ∙ has-or wires (bits_where out 0x01) 0
+      ∙ ap (λ b. b || has (bits_where out 0x01) 0) w.out
+      ∙ out-0 out
+
+  pub inputs-serial : has (inputs_of wires m) 4 ≡ line
+  unfolding inputs_of
+  inputs-serial =
+      has-or (bit_or wires (bits_where out 0x01)) (bits_where line 0x10) 4
+      ∙ ap (λ b. has (bit_or wires (bits_where out 0x01)) 4 || b) (line-4 line)
+      ∙ ap (λ b. b || line) (has-or wires (bits_where out 0x01) 4 ∙ ap (λ b. b || has (bits_where out 0x01) 4) w.serial ∙ out-4 out)

@@ -1,0 +1,73 @@
+-- Laws of the board that contracts name.
+use Rattle.std.specs.Prelude.{◌≡◌, ℕ, ◌+◌, ◌<◌, ◌==◌, Bool, true, List, [], ◌∷◌, if◌then◌else◌, min}
+use Rattle.dev_base.specs.declared.limits.TheConstants.{LAST_MOMENT}
+use Rattle.dev_base.specs.Bits.{has}
+use Rattle.dev_base.specs.Levels.{IsLevel}
+use Rattle.dev_pic.specs.Pair.{lines_of}
+use Rattle.dev_board.specs.Sound.{IsSound, Alike}
+use Rattle.dev_board.specs.State.{State, power_on}
+use Rattle.dev_board.specs.Step.{step, observe, after_all}
+use Rattle.dev_board.specs.Wires.{is_wire}
+use Rattle.dev_board.specs.declared.event.Event.{Event}
+use Rattle.dev_board.specs.declared.event.Event.TheVariants.{Read, Write, Byte, Wait, Wire, Ack}
+
+-- an event that there is: its byte is one, and its wire is one
+abbrev pub IsEvent : Event → Type 0
+IsEvent (Read port) = Unit {0}
+IsEvent (Write port value) = value < 256
+IsEvent (Byte value) = value < 256
+IsEvent (Wait ns) = Unit {0}
+IsEvent (Wire input up) = is_wire input ≡ true
+IsEvent Ack = Unit {0}
+
+abbrev pub AreEvents : List Event → Type 0
+AreEvents [] = Unit {0}
+AreEvents (event ∷ events) = IsEvent event × AreEvents events
+
+-- a board at power on is sound, and each event and each list of events keeps a board sound
+pub record SoundStays : Type 0 where
+  pub power_on : (level : ℕ) → IsLevel level → IsSound (power_on level)
+  pub event : (event : Event) (m : State) → IsEvent event → IsSound m → IsSound (step event m).1
+  pub events : (events : List Event) (m : State) → AreEvents events → IsSound m → IsSound (after_all events m)
+
+-- after each event a wire is as the last event that named it left it
+abbrev pub wire_left : ℕ → Event → Bool → Bool
+wire_left wire (Read port) was = was
+wire_left wire (Write port value) was = was
+wire_left wire (Byte value) was = was
+wire_left wire (Wait ns) was = was
+wire_left wire (Wire input up) was = if input == wire then up else was
+wire_left wire Ack was = was
+
+pub record WiresStay : Type 0 where
+  pub wire : (event : Event) (m : State) (wire : ℕ) → is_wire wire ≡ true → IsEvent event → has (lines_of (step event m).1.pair) wire ≡ wire_left wire event (has (lines_of m.pair) wire)
+
+-- the moment moves in a wait alone, by its nanoseconds, and not beyond the last moment; and no event changes the level
+abbrev pub moment_left : Event → ℕ → ℕ
+moment_left (Read port) moment = moment
+moment_left (Write port value) moment = moment
+moment_left (Byte value) moment = moment
+moment_left (Wait ns) moment = min (moment + ns) LAST_MOMENT
+moment_left (Wire input up) moment = moment
+moment_left Ack moment = moment
+
+pub record ClockGoesOn : Type 0 where
+  pub moment : (event : Event) (m : State) → (step event m).1.moment ≡ moment_left event m.moment
+  pub level : (event : Event) (m : State) → (step event m).1.level ≡ m.level
+
+-- two answers of boards are equal, and the boards after them alike
+pub record AnswersAlike {A : Type 0} (first second : A × State) : Type 0 where
+  pub value : second.0 ≡ first.0
+  pub alike : Alike first.1 second.1
+
+-- boards that are alike answer each event, and each list of events, equally, and are alike after it
+pub record AlikeStays : Type 0 where
+  pub event : (event : Event) (m n : State) → Alike m n → AnswersAlike (step event m) (step event n)
+  pub answers : (events : List Event) (m n : State) → Alike m n → observe events n ≡ observe events m
+  pub after : (events : List Event) (m n : State) → Alike m n → Alike (after_all events m) (after_all events n)
+
+-- to be alike is an equivalence
+pub record Likeness : Type 0 where
+  pub itself : (m : State) → Alike m m
+  pub back : (m n : State) → Alike m n → Alike n m
+  pub on : (m n o : State) → Alike m n → Alike n o → Alike m o

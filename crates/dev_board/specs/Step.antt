@@ -1,0 +1,97 @@
+-- What an event does to a board.
+use Rattle.std.specs.Prelude.{ℕ, ◌+◌, Bool, true, false, List, [], ◌∷◌, Some, None, bit_or, min}
+use Rattle.dev_base.specs.declared.limits.TheConstants.{LAST_MOMENT}
+use Rattle.dev_pic.specs.Pair.{acked, int_of, settled_pair}
+use Rattle.dev_pit.specs.Pit.{pit_out, pit_edge}
+use Rattle.dev_serial.specs.Access.{came_in, advanced}
+use Rattle.dev_serial.specs.Bits.{bits_where}
+use Rattle.dev_serial.specs.Port.{line_of}
+use Rattle.dev_board.specs.Ports.{read, write}
+use Rattle.dev_board.specs.State.{State}
+use Rattle.dev_board.specs.Wires.{is_wire, wires_of, with_wire}
+use Rattle.dev_board.specs.declared.event.Answer.{Answer}
+use Rattle.dev_board.specs.declared.event.Event.{Event}
+use Rattle.dev_board.specs.declared.event.Event.TheVariants.{Read, Write, Byte, Wait, Wire, Ack}
+use Rattle.dev_board.specs.declared.act.Act.{Act}
+use Rattle.dev_board.specs.declared.wires.TheConstants.{TIMER, SERIAL}
+
+-- an act that answers a value, and one that answers none
+unfoldable pub valued : ℕ → Act
+valued value = record { value = Some value; edge = false; sent = record { items = [] } }
+
+unfoldable pub silent : Act
+silent = record { value = None; edge = false; sent = record { items = [] } }
+
+-- the moment up to which an event's time passes: not beyond the last
+abbrev pub later_by : ℕ → ℕ → ℕ
+later_by ns moment = min (moment + ns) LAST_MOMENT
+
+-- time passes: counter 0 may have a rising edge after the old moment and not after the new one, and bytes may leave
+-- the serial port up to the new one
+unfoldable pub waited : ℕ → State → Act × State
+waited to m =
+    let sent = advanced to m.serial in (
+      record { value = None; edge = pit_edge 0 m.moment to m.pit; sent = record { items = sent.0 } },
+      record m { moment = to; serial = sent.1 },
+    )
+
+-- a byte arrives on the serial line
+abbrev pub byte_came : ℕ → State → State
+byte_came value m = record m { serial = came_in value m.moment m.serial }
+
+-- what an event does to the devices, before the lines are taken over
+unfoldable pub acted : Event → State → Act × State
+acted (Read port) m = let answer = read port m in (valued answer.0, answer.1)
+acted (Write port value) m = (silent, write port value m)
+acted (Byte value) m = (silent, byte_came value m)
+acted (Wait ns) m = waited (later_by ns m.moment) m
+acted (Wire input up) m = (silent, m)
+acted Ack m = let answer = acked m.pair in (valued answer.0, record m { pair = answer.1 })
+
+-- the wires that an event leaves
+unfoldable pub wires_after : Event → ℕ → ℕ
+wires_after (Read port) wires = wires
+wires_after (Write port value) wires = wires
+wires_after (Byte value) wires = wires
+wires_after (Wait ns) wires = wires
+wires_after (Wire input up) wires = with_wire input up wires
+wires_after Ack wires = wires
+
+-- the inputs of the pair: the wires, OUT of counter 0 at input 0, and the serial port's line at input 4. Input 2 of the
+-- master is the slave's output, which the pair gives itself
+unfoldable pub inputs_of : ℕ → State → ℕ
+inputs_of wires m =
+    bit_or (bit_or wires (bits_where (pit_out 0 m.moment m.pit) TIMER)) (bits_where (line_of m.moment m.serial) SERIAL)
+
+-- the board once the lines are taken over, with an edge at input 0 or none
+unfoldable pub settled : ℕ → Bool → State → State
+settled wires edge m = record m { pair = settled_pair (inputs_of wires m) (bits_where edge TIMER) m.pair }
+
+-- the lines are taken over once, after the event's act
+unfoldable pub after_act : ℕ → Act × State → Answer × State
+after_act wires done =
+    let after = settled wires done.0.edge done.1 in
+    (record { value = done.0.value; int = int_of after.pair; sent = done.0.sent }, after)
+
+-- the answer to an event, and the board after it
+unfoldable pub step : Event → State → Answer × State
+step event m = after_act (wires_after event (wires_of m)) (acted event m)
+
+-- a wire that rises or falls is one
+unfoldable pub names_wire : Event → Bool
+names_wire (Read port) = true
+names_wire (Write port value) = true
+names_wire (Byte value) = true
+names_wire (Wait ns) = true
+names_wire (Wire input up) = is_wire input
+names_wire Ack = true
+
+-- the answers to a list of events, each after those before it
+unfoldable pub observe : List Event → State → List Answer
+observe [] m = []
+observe (event ∷ events) m = (step event m).0 ∷ observe events (step event m).1
+
+-- the board after a list of events
+unfoldable pub after_all : List Event → State → State
+after_all [] m = m
+after_all (event ∷ events) m = after_all events (step event m).1

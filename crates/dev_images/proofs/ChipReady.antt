@@ -1,0 +1,50 @@
+-- The image of a chip of the pair is ready.
+use Rattle.std.proofs.Common.{◌≡◌, ℕ, zero, suc, ◌<◌, ◌≤◌, ◌==◌, Bool, true, false, cond, List, get_or, ℤ, pos, negsuc, refl, sym, ap, ◌∙◌, arith}
+use Rattle.std.proofs.lemmas.Int.{ints}
+use Rattle.std.specs.Prelude.{bit_and}
+use Rattle.vms_kinds.specs.Codes.{residue, InRange}
+use Rattle.vms_kinds.specs.declared.Kind.TheVariants.{Bool as Truth}
+use Rattle.vms_spec.specs.Images.{image_slots, IsValid}
+use Rattle.dev_base.specs.Cells.{AreOf}
+use Rattle.dev_pic.specs.Cells.{kinds as pic_kinds}
+use Rattle.vms_spec.specs.Layout.{first, device_cells}
+use Rattle.vms_spec.specs.Shipped.{set_1, set_2, set_3, set_4, i8259_at_1, i8259_at_2, i8259_at_4}
+use Rattle.dev_images.specs.Laws.{ReadyOf, ChipIsReady}
+use Rattle.dev_images.specs.Images.{image_of}
+use Rattle.dev_images.proofs.ReadyOf.{are_kept, ready-plain}
+
+first-set : (instance : ℕ) (numbers : List ℤ) → AreOf (pic_kinds 1) numbers → ReadyOf set_1 (i8259_at_1 instance) numbers
+unfolding first
+first-set instance numbers are = ready-plain set_1 (i8259_at_1 instance) numbers (omega arith) tt are refl refl (refl, tt)
+
+second-set : (instance : ℕ) (numbers : List ℤ) → AreOf (pic_kinds 2) numbers → ReadyOf set_2 (i8259_at_2 instance) numbers
+unfolding first
+second-set instance numbers are = ready-plain set_2 (i8259_at_2 instance) numbers (omega arith) tt are refl refl (refl, tt)
+
+third-set : (instance : ℕ) (numbers : List ℤ) → AreOf (pic_kinds 3) numbers → ReadyOf set_3 (i8259_at_2 instance) numbers
+unfolding first
+third-set instance numbers are = ready-plain set_3 (i8259_at_2 instance) numbers (omega arith) tt are refl refl (refl, tt)
+
+-- the level mode's cell, by whether its subsection is needed
+abbrev pub needs : ℤ → Bool
+needs z = bit_and (residue 1 z) 1 == 1
+
+pub unneeded : (z : ℤ) → InRange Truth z → needs z ≡ false → z ≡ pos 0
+unneeded (pos zero) r e = refl
+unneeded (pos (suc zero)) r e = cc
+unneeded (pos (suc (suc n))) r e = absurd (let most = r.1 in omega (arith, ints, most))
+unneeded (negsuc n) r e = absurd (let least = r.0 in omega (arith, ints, least))
+
+kept-4 : (instance : ℕ) (numbers : List ℤ) (needed : Bool) → needs (get_or numbers 16 (pos 0)) ≡ needed → (needed ≡ false → get_or numbers 16 (pos 0) ≡ pos 0) → (are_kept (image_slots set_4 (i8259_at_4 instance) (image_of set_4 (i8259_at_4 instance) numbers)) numbers 0 (device_cells set_4 (i8259_at_4 instance)) ≡ true) × IsValid set_4 (i8259_at_4 instance) (image_of set_4 (i8259_at_4 instance) numbers)
+unfolding first
+kept-4 instance numbers true e off = rw e (refl, (refl, (refl, tt)))
+kept-4 instance numbers false e off = rw (e, off refl) (refl, (refl, tt))
+
+fourth-set : (instance : ℕ) (numbers : List ℤ) → AreOf (pic_kinds 4) numbers → ReadyOf set_4 (i8259_at_4 instance) numbers
+unfolding first
+fourth-set instance numbers are =
+    let both = kept-4 instance numbers (needs (get_or numbers 16 (pos 0))) refl (unneeded (get_or numbers 16 (pos 0)) (are.in_range 16 (omega arith))) in
+    ready-plain set_4 (i8259_at_4 instance) numbers (omega arith) (omega arith, tt) are refl both.0 both.1
+
+pub chip_is_ready : ChipIsReady
+chip_is_ready = record { first = first-set; second = second-set; third = third-set; fourth = fourth-set }

@@ -1,0 +1,4 @@
+pub mod Carried
+pub mod ChipReady
+pub mod ReadyOf
+pub mod TimerReady

@@ -1,0 +1,123 @@
+-- When the image of numbers is ready.
+use Rattle.std.proofs.Common.{◌≡◌, ℕ, zero, suc, ◌+◌, ◌<◌, ◌≤◌, Bool, true, false, ◌&&◌, ◌||◌, ◌==◌, cond, List, [], ◌∷◌, length, get_or, map, Option, Some, None, ℤ, pos, ◌≤ℤ◌, refl, sym, ap, ◌∙◌, subst, arith}
+use Rattle.std.specs.List.{AllByRecursion}
+use Rattle.vms_kinds.specs.Codes.{InRange}
+use Rattle.vms_kinds.specs.declared.Kind.{Kind}
+use Rattle.vms_kinds.specs.declared.Kind.TheVariants.{U8}
+use Rattle.vms_laws.proofs.ReadyLaws.{same_is}
+use Rattle.vms_spec.specs.Numbers.{same_number}
+use Rattle.std.proofs.lemmas.Bool.{and_parts, eqb-true}
+use Rattle.vms_spec.specs.Images.{Image, has_cell, image_slots, IsVersionOf, AreVersionsOf, FitsCell, FitCells, IsNormal, IsValid, RulesHold}
+use Rattle.vms_spec.specs.Layout.{Cell, no_cell, device_cells, Slot}
+use Rattle.vms_spec.specs.Sets.{Desc, Sub, Device, Set}
+use Rattle.vms_spec.specs.Streams.{is_needed, ComeAsNeeded, IsReady}
+use Rattle.dev_base.specs.Cells.{AreOf, kind_at, cell_at}
+use Rattle.dev_images.specs.Images.{needed_from, bare, image_of}
+
+-- descriptions of subsections can be written at their versions
+abbrev pub AreSubs : List Sub → Type 0
+AreSubs [] = Unit {0}
+AreSubs (s ∷ subs) = (s.desc.minimum ≤ s.desc.version) × AreSubs subs
+
+-- a subsection comes where it is needed
+versions-first : (s : Sub) (subs : List Sub) (came : List (Option ℕ)) (needed : Bool) → s.desc.minimum ≤ s.desc.version → AreVersionsOf subs came → AreVersionsOf (s ∷ subs) (cond needed (Some s.desc.version) None ∷ came)
+versions-first s subs came true m h = ((m, omega arith), h)
+versions-first s subs came false m h = h
+
+versions : (set : Set) (d : Device) (image : Image) (j : ℕ) (subs : List Sub) → AreSubs subs → AreVersionsOf subs (needed_from set d image j subs)
+versions set d image j [] h = tt
+versions set d image j (s ∷ subs) h =
+    versions-first s subs (needed_from set d image (suc j) subs) (is_needed set d image s j) h.0 (versions set d image (suc j) subs h.1)
+
+needed-first : (set : Set) (d : Device) (image : Image) (j : ℕ) (s : Sub) (subs : List Sub) (came : List (Option ℕ)) (needed : Bool) → is_needed set d image s j ≡ needed → ComeAsNeeded set d image (suc j) subs came → ComeAsNeeded set d image j (s ∷ subs) (cond needed (Some s.desc.version) None ∷ came)
+needed-first set d image j s subs came true e h = (e, refl, h)
+needed-first set d image j s subs came false e h = (e, h)
+
+-- which subsections are needed is said by the numbers alone
+needed : (set : Set) (d : Device) (numbers : List ℤ) (came : List (Option ℕ)) (j : ℕ) (subs : List Sub) → ComeAsNeeded set d (record (bare d numbers) { came = came }) j subs (needed_from set d (bare d numbers) j subs)
+needed set d numbers came j [] = refl
+needed set d numbers came j (s ∷ subs) =
+    needed-first set d (record (bare d numbers) { came = came }) j s subs (needed_from set d (bare d numbers) (suc j) subs) (is_needed set d (bare d numbers) s j) refl (needed set d numbers came (suc j) subs)
+
+-- cells of their kinds fit, where each count is within its capacities
+kind-of : (cells : List Cell) (c : ℕ) → kind_at (map (λ cell. cell.kind) cells) c ≡ (get_or cells c no_cell).kind
+kind-of [] c = refl
+kind-of (cell ∷ cells) zero = refl
+kind-of (cell ∷ cells) (suc c) = kind-of cells c
+
+count-of : (cells : List Cell) → length (map (λ cell. cell.kind) cells) ≡ length cells
+count-of [] = refl
+count-of (cell ∷ cells) = ap suc (count-of cells)
+
+abbrev pub CountsFit : List Cell → List ℤ → Type 0
+CountsFit cells numbers = (c : ℕ) → c < length cells → AllByRecursion (λ most. get_or numbers c (pos 0) ≤ℤ pos most) (get_or cells c no_cell).capacities
+
+fit : (cells : List Cell) (numbers : List ℤ) → AreOf (map (λ cell. cell.kind) cells) numbers → CountsFit cells numbers → FitCells cells numbers
+fit cells numbers are counts =
+    let count = count-of cells in
+    let long = are.count in
+    record {
+      long = omega (arith, count, long);
+      fits = λ c lt. (subst (λ (kind : Kind). InRange kind (get_or numbers c (pos 0))) (kind-of cells c) (are.in_range c (omega (arith, count, lt))), counts c lt);
+    }
+
+-- from a cell on, each stands in the bytes or holds its default
+abbrev pub are_kept : List Slot → List ℤ → ℕ → List Cell → Bool
+are_kept slots numbers from [] = true
+are_kept slots numbers from (cell ∷ cells) =
+    (has_cell slots from || same_number (get_or numbers from (pos 0)) cell.default) && are_kept slots numbers (suc from) cells
+
+or-right : (a b : Bool) → (a || b) ≡ true → a ≡ false → b ≡ true
+or-right true b e f = cc
+or-right false b e f = e
+
+kept-first : (slots : List Slot) (numbers : List ℤ) (from : ℕ) (cell : Cell) → (has_cell slots from || same_number (get_or numbers from (pos 0)) cell.default) ≡ true → has_cell slots from ≡ false → get_or numbers from (pos 0) ≡ cell.default
+kept-first slots numbers from cell e out =
+    same_is (get_or numbers from (pos 0)) cell.default (or-right (has_cell slots from) _ e out)
+
+kept : (slots : List Slot) (numbers : List ℤ) (from : ℕ) (cells : List Cell) → are_kept slots numbers from cells ≡ true → (c place : ℕ) → place ≡ from + c → c < length cells → has_cell slots place ≡ false → get_or numbers place (pos 0) ≡ (get_or cells c no_cell).default
+kept slots numbers from [] e c place is lt out = absurd (omega arith)
+kept slots numbers from (cell ∷ cells) e zero place is lt out =
+    let p = and_parts (has_cell slots from || same_number (get_or numbers from (pos 0)) cell.default) (are_kept slots numbers (suc from) cells) e in
+    let here : place ≡ from = omega (arith, is) in
+    ap (λ n. get_or numbers n (pos 0)) here ∙ kept-first slots numbers from cell p.0 (ap (has_cell slots) (sym here) ∙ out)
+kept slots numbers from (cell ∷ cells) e (suc c) place is lt out =
+    let p = and_parts (has_cell slots from || same_number (get_or numbers from (pos 0)) cell.default) (are_kept slots numbers (suc from) cells) e in
+    kept slots numbers (suc from) cells p.1 c place (omega (arith, is)) (omega (arith, lt)) out
+
+-- no cell counts an array
+abbrev pub no_counts : List Cell → Bool
+no_counts [] = true
+no_counts (cell ∷ cells) = (length cell.capacities == 0) && no_counts cells
+
+no-capacities : (capacities : List ℕ) (z : ℤ) → (length capacities == 0) ≡ true → AllByRecursion (λ most. z ≤ℤ pos most) capacities
+no-capacities [] z e = tt
+no-capacities (most ∷ capacities) z e = absurd (let n : length (most ∷ capacities) ≡ 0 = eqb-true _ 0 e in omega (arith, n))
+
+pub counts-none : (cells : List Cell) (numbers : List ℤ) → no_counts cells ≡ true → CountsFit cells numbers
+counts-none cells numbers e c lt = none cells e c lt (get_or numbers c (pos 0)) where
+  none : (cells : List Cell) → no_counts cells ≡ true → (c : ℕ) → c < length cells → (z : ℤ) → AllByRecursion (λ most. z ≤ℤ pos most) (get_or cells c no_cell).capacities
+  none [] e c lt z = tt
+  none (cell ∷ cells) e zero lt z = no-capacities cell.capacities z (and_parts (length cell.capacities == 0) (no_counts cells) e).0
+  none (cell ∷ cells) e (suc c) lt z = none cells (and_parts (length cell.capacities == 0) (no_counts cells) e).1 c (omega (arith, lt)) z
+
+pub ready-of : (set : Set) (d : Device) (numbers : List ℤ) → d.desc.minimum ≤ d.desc.version → AreSubs d.subs → AreOf (map (λ cell. cell.kind) (device_cells set d)) numbers → CountsFit (device_cells set d) numbers → are_kept (image_slots set d (image_of set d numbers)) numbers 0 (device_cells set d) ≡ true → IsValid set d (image_of set d numbers) → IsReady set d (image_of set d numbers)
+ready-of set d numbers minimum subs are counts settled valid =
+    let cells = fit (device_cells set d) numbers are counts in
+    let long = cells.long in
+    record {
+      normal = record {
+        version = (minimum, omega arith);
+        subs = versions set d (bare d numbers) 0 d.subs subs;
+        cells = cells;
+        absent = λ c lt out. kept (image_slots set d (image_of set d numbers)) numbers 0 (device_cells set d) settled c c (omega arith) (omega (arith, lt, long)) out;
+      };
+      valid = valid;
+      version = refl;
+      needed = needed set d numbers (needed_from set d (bare d numbers) 0 d.subs) 0 d.subs;
+    }
+
+-- the same where no cell counts an array
+pub ready-plain : (set : Set) (d : Device) (numbers : List ℤ) → d.desc.minimum ≤ d.desc.version → AreSubs d.subs → AreOf (map (λ cell. cell.kind) (device_cells set d)) numbers → no_counts (device_cells set d) ≡ true → are_kept (image_slots set d (image_of set d numbers)) numbers 0 (device_cells set d) ≡ true → IsValid set d (image_of set d numbers) → IsReady set d (image_of set d numbers)
+ready-plain set d numbers minimum subs are plain settled valid =
+    ready-of set d numbers minimum subs are (counts-none (device_cells set d) numbers plain) settled valid

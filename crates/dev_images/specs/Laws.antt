@@ -1,0 +1,45 @@
+-- Laws of the images of a board's devices that contracts name.
+use Rattle.std.specs.Prelude.{◌≡◌, ℕ, ℤ, List}
+use Rattle.dev_base.specs.Cells.{AreOf}
+use Rattle.dev_board.specs.Saved.{timer_kinds}
+use Rattle.dev_pic.specs.Cells.{kinds as pic_kinds, carried as pic_carried}
+use Rattle.vms_check.specs.Carrying.{carried_device}
+use Rattle.vms_spec.specs.Sets.{Set, Device}
+use Rattle.vms_spec.specs.Shipped.{set_1, set_2, set_3, set_4, timer, i8259_at_1, i8259_at_2, i8259_at_4}
+use Rattle.vms_spec.specs.Streams.{IsReady}
+use Rattle.dev_images.specs.Images.{image_of}
+
+-- an image of cells that are a moment is ready
+abbrev pub ReadyOf : Set → Device → List ℤ → Type 0
+ReadyOf set d numbers = IsReady set d (image_of set d numbers)
+
+pub record TimerIsReady : Type 0 where
+  pub first : (numbers : List ℤ) → AreOf timer_kinds numbers → ReadyOf set_1 timer numbers
+  pub second : (numbers : List ℤ) → AreOf timer_kinds numbers → ReadyOf set_2 timer numbers
+  pub third : (numbers : List ℤ) → AreOf timer_kinds numbers → ReadyOf set_3 timer numbers
+  pub fourth : (numbers : List ℤ) → AreOf timer_kinds numbers → ReadyOf set_4 timer numbers
+
+-- an image of cells that are those of a chip
+pub record ChipIsReady : Type 0 where
+  pub first : (instance : ℕ) (numbers : List ℤ) → AreOf (pic_kinds 1) numbers → ReadyOf set_1 (i8259_at_1 instance) numbers
+  pub second : (instance : ℕ) (numbers : List ℤ) → AreOf (pic_kinds 2) numbers → ReadyOf set_2 (i8259_at_2 instance) numbers
+  pub third : (instance : ℕ) (numbers : List ℤ) → AreOf (pic_kinds 3) numbers → ReadyOf set_3 (i8259_at_2 instance) numbers
+  pub fourth : (instance : ℕ) (numbers : List ℤ) → AreOf (pic_kinds 4) numbers → ReadyOf set_4 (i8259_at_4 instance) numbers
+
+-- the numbers of a device of the newest set, from an image of its device in an older one
+abbrev pub carried_numbers : Set → Device → Device → List ℤ → List ℤ
+carried_numbers set d e numbers = (carried_device set set_4 d e (image_of set d numbers)).numbers
+
+-- a moment is carried as it is
+pub record TimerIsCarried : Type 0 where
+  pub first : (numbers : List ℤ) → AreOf timer_kinds numbers → carried_numbers set_1 timer timer numbers ≡ numbers
+  pub second : (numbers : List ℤ) → AreOf timer_kinds numbers → carried_numbers set_2 timer timer numbers ≡ numbers
+  pub third : (numbers : List ℤ) → AreOf timer_kinds numbers → carried_numbers set_3 timer timer numbers ≡ numbers
+  pub fourth : (numbers : List ℤ) → AreOf timer_kinds numbers → carried_numbers set_4 timer timer numbers ≡ numbers
+
+-- the cells of a chip are carried as the chip's own table says
+pub record ChipIsCarried : Type 0 where
+  pub first : (instance : ℕ) (numbers : List ℤ) → AreOf (pic_kinds 1) numbers → carried_numbers set_1 (i8259_at_1 instance) (i8259_at_4 instance) numbers ≡ pic_carried 1 numbers
+  pub second : (instance : ℕ) (numbers : List ℤ) → AreOf (pic_kinds 2) numbers → carried_numbers set_2 (i8259_at_2 instance) (i8259_at_4 instance) numbers ≡ pic_carried 2 numbers
+  pub third : (instance : ℕ) (numbers : List ℤ) → AreOf (pic_kinds 3) numbers → carried_numbers set_3 (i8259_at_2 instance) (i8259_at_4 instance) numbers ≡ pic_carried 3 numbers
+  pub fourth : (instance : ℕ) (numbers : List ℤ) → AreOf (pic_kinds 4) numbers → carried_numbers set_4 (i8259_at_4 instance) (i8259_at_4 instance) numbers ≡ pic_carried 4 numbers

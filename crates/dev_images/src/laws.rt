@@ -1,0 +1,27 @@
+// Laws of the definitions, each stated by a function without a body.
+ghost use Rattle.dev_images.specs.Laws.{TimerIsReady, ChipIsReady, TimerIsCarried, ChipIsCarried};
+
+/// The image of a board's moment is ready under each shipped set from 1 on.
+#[tactic(auto, using(crate::proofs::TimerReady::timer_is_ready))]
+pub fn timer_law()
+    ensures { TimerIsReady }
+{}
+
+/// The image of each chip of the pair is ready under each shipped set from 1 on.
+#[tactic(auto, using(crate::proofs::ChipReady::chip_is_ready))]
+pub fn chip_law()
+    ensures { ChipIsReady }
+{}
+
+/// The moment's cell in an image of a shipped set from 1 on is carried to the newest one as it is.
+#[tactic(auto, using(crate::proofs::Carried::timer_is_carried))]
+pub fn carried_timer_law()
+    ensures { TimerIsCarried }
+{}
+
+/// A chip's cells in an image of a shipped set from 1 on are carried to the newest one as the chip's table
+/// says.
+#[tactic(auto, using(crate::proofs::Carried::chip_is_carried))]
+pub fn carried_chip_law()
+    ensures { ChipIsCarried }
+{}

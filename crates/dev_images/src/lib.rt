@@ -1,0 +1,6 @@
+//! The images of a board's devices under the shipped sets.
+#![tactic(auto)]
+
+mod laws;
+
+pub use laws::{carried_chip_law, carried_timer_law, chip_law, timer_law};
