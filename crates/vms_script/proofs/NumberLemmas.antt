@@ -6,7 +6,8 @@ use Rattle.std.proofs.lemmas.List.{drop_more, drop_all}
 use Rattle.vms_spec.specs.Lists.{every}
 use Rattle.vms_spec.specs.Spelling.{is_digit, are_digits, natural_from, number_spelled, negative, begins_with}
 use Rattle.dev_board.specs.declared.event.Event.TheVariants as events
-use Rattle.vms_script.specs.Lines.{ScriptLine, Happens, Saves, or_form, or_range, number_in, is_wait, is_wire, is_set_of, wire_line, save_line, name_spelled, set_spelled}
+use Rattle.dev_board.specs.Wires.{is_wire}
+use Rattle.vms_script.specs.Lines.{ScriptLine, Happens, Saves, or_form, or_range, number_in, is_wait, is_set_of, wire_line, save_line, name_spelled, set_spelled}
 use Rattle.vms_script.specs.Words.{level_spelled}
 use Rattle.vms_script.specs.Views.{number_read, below_2_64}
 use Rattle.vms_script.specs.declared.line.ScriptReason.{ScriptReason}
