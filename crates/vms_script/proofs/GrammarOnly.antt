@@ -100,7 +100,7 @@ word_split (b ∷ line) = by (b == 32) refl (word_split line) where
       ∙ sym (ap (λ (t : Bool). rejoined (if t then ([], Some line) else longer_word b (first_word line))) e)
 
 -- a text is what a line says
-abbrev Says : Option ℕ → List ℕ → ScriptLine → Type 0
+abbrev pub Says : Option ℕ → List ℕ → ScriptLine → Type 0
 Says play text line = IsLine play line × (text ≡ line_text line)
 
 says_by : (play : Option ℕ) (text : List ℕ) (a b : ScriptLine) → a ≡ b → Says play text a → Says play text b
@@ -240,14 +240,14 @@ split_is play (word, None) line e =
     (λ f. no_form line (Says play word line) f)
 split_is play (word, Some rest) line e = words_are play word rest line e
 
-line_is : (play : Option ℕ) (text : List ℕ) (line : ScriptLine) → line_read play text ≡ Ok line → Says play text line
+pub line_is : (play : Option ℕ) (text : List ℕ) (line : ScriptLine) → line_read play text ≡ Ok line → Says play text line
 line_is play text line e =
     let h = split_is play (first_word text) line e in (h.0, word_split text ∙ h.1)
 
 -- ---- a whole script
 
 -- lines with their line feeds, and what stands behind them
-abbrev unsplit : List (List ℕ) → List ℕ → List ℕ
+abbrev pub unsplit : List (List ℕ) → List ℕ → List ℕ
 unsplit [] tail = tail
 unsplit (line ∷ lines) tail = line ++ 10 ∷ unsplit lines tail
 
@@ -255,10 +255,10 @@ begun_unsplit : (b : ℕ) (lines : List (List ℕ)) (tail : List ℕ) → unspli
 begun_unsplit b [] tail = refl
 begun_unsplit b (line ∷ lines) tail = refl
 
-abbrev text_of : Split → List ℕ
+abbrev pub text_of : Split → List ℕ
 text_of split = unsplit split.lines split.tail
 
-text_split : (text : List ℕ) → text ≡ text_of (lines_of text)
+pub text_split : (text : List ℕ) → text ≡ text_of (lines_of text)
 text_split [] = refl
 text_split (b ∷ text) = by (b == 10) refl (text_split text) where
   by : (t : Bool) → (b == 10) ≡ t → text ≡ text_of (lines_of text) → b ∷ text ≡ text_of (lines_of (b ∷ text))

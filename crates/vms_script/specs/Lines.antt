@@ -1,5 +1,5 @@
 -- A line of a script, and how it is read.
-use Rattle.std.specs.Prelude.{ℕ, ◌&&◌, ◌||◌, ◌==◌, nat_le, if◌then◌else◌, Bool, List, drop, codes, Option, Some, None, Result, Ok, Err, ℤ, pos, negsuc}
+use Rattle.std.specs.Prelude.{ℕ, ◌&&◌, nat_le, if◌then◌else◌, Bool, List, drop, codes, Option, Some, None, Result, Ok, Err, ℤ, pos, negsuc}
 use Rattle.std.specs.Str.{bytes_eq}
 use Rattle.dev_base.specs.declared.limits.TheConstants.{NEWEST}
 use Rattle.dev_board.specs.declared.event.Event.{Event}
