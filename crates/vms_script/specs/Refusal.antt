@@ -15,7 +15,8 @@ unended_reason (Err reason) = reason
 -- a line that ends is refused as it reads; one without a line feed is refused in any case
 abbrev pub IsBadHere : Option ℕ → List ℕ → Option (List ℕ × List ℕ) → ScriptReason → Type 0
 IsBadHere play left (Some (line, after)) reason = line_read play line ≡ Err reason
-IsBadHere play left None reason = (0 < length left) × (reason ≡ unended_reason (line_read play left))
+IsBadHere play left None reason =
+    (0 < length left) × (reason ≡ unended_reason (line_read play left))
 
 -- good lines, and behind them a bad one, which has the next number after theirs, the first line having this one
 pub record IsRefused (play : Option ℕ) (first : ℕ) (text : List ℕ) (fault : BadLine) : Type 0 where
