@@ -10,7 +10,8 @@ use Rattle.dev_board.specs.declared.event.Event.{Event}
 use Rattle.dev_board.specs.declared.event.Event.TheVariants as events
 use Rattle.vms_texts.proofs.Spells.{numerals, number_holds}
 use Rattle.vms_script.specs.Grammar.{port_text, event_text, line_text, script_text, IsEvent, IsLine, AreLines}
-use Rattle.vms_script.specs.Lines.{ScriptLine, Happens, Saves, Restores, Read, or_form, or_range, number_in, is_wait, is_wire, is_set_of, out_line, wire_line, set_spelled, save_line, line_read}
+use Rattle.dev_board.specs.Wires.{is_wire}
+use Rattle.vms_script.specs.Lines.{ScriptLine, Happens, Saves, Restores, Read, or_form, or_range, number_in, is_wait, is_set_of, out_line, wire_line, set_spelled, save_line, line_read}
 use Rattle.vms_script.specs.Names.{is_name_byte, is_shelf_name}
 use Rattle.vms_script.specs.Script.{Split, Reading, lines_of, begun, also, with_line, lines_read, text_read, script_read}
 use Rattle.vms_script.specs.Words.{first_word, longer_word, byte_spelled, byte_text}

@@ -8,7 +8,8 @@ use Rattle.dev_board.specs.declared.event.Event.TheVariants as events
 use Rattle.vms_spec.specs.Spelling.{number_spelled, begins_with}
 use Rattle.vms_texts.proofs.Spells.{spelled_holds}
 use Rattle.vms_script.specs.Grammar.{port_text, line_text, script_text, IsLine, AreLines, ReadsExactly}
-use Rattle.vms_script.specs.Lines.{ScriptLine, Happens, Saves, Restores, Read, or_form, or_range, number_in, is_wait, is_wire, is_set_of, in_line, byte_line, wait_line, out_line, wire_line, set_spelled, name_spelled, save_line, restore_line, session_line, play_line, line_of_words, line_split, line_read}
+use Rattle.dev_board.specs.Wires.{is_wire}
+use Rattle.vms_script.specs.Lines.{ScriptLine, Happens, Saves, Restores, Read, or_form, or_range, number_in, is_wait, is_set_of, in_line, byte_line, wait_line, out_line, wire_line, set_spelled, name_spelled, save_line, restore_line, session_line, play_line, line_of_words, line_split, line_read}
 use Rattle.vms_script.specs.Names.{is_shelf_name}
 use Rattle.vms_script.specs.Script.{Split, Reading, lines_of, begun, with_line, unended, tail_read, lines_read, script_read}
 use Rattle.vms_script.specs.Trace.{level_text}
@@ -99,7 +100,7 @@ word_split (b ∷ line) = by (b == 32) refl (word_split line) where
       ∙ sym (ap (λ (t : Bool). rejoined (if t then ([], Some line) else longer_word b (first_word line))) e)
 
 -- a text is what a line says
-abbrev Says : Option ℕ → List ℕ → ScriptLine → Type 0
+abbrev pub Says : Option ℕ → List ℕ → ScriptLine → Type 0
 Says play text line = IsLine play line × (text ≡ line_text line)
 
 says_by : (play : Option ℕ) (text : List ℕ) (a b : ScriptLine) → a ≡ b → Says play text a → Says play text b
@@ -239,14 +240,14 @@ split_is play (word, None) line e =
     (λ f. no_form line (Says play word line) f)
 split_is play (word, Some rest) line e = words_are play word rest line e
 
-line_is : (play : Option ℕ) (text : List ℕ) (line : ScriptLine) → line_read play text ≡ Ok line → Says play text line
+pub line_is : (play : Option ℕ) (text : List ℕ) (line : ScriptLine) → line_read play text ≡ Ok line → Says play text line
 line_is play text line e =
     let h = split_is play (first_word text) line e in (h.0, word_split text ∙ h.1)
 
 -- ---- a whole script
 
 -- lines with their line feeds, and what stands behind them
-abbrev unsplit : List (List ℕ) → List ℕ → List ℕ
+abbrev pub unsplit : List (List ℕ) → List ℕ → List ℕ
 unsplit [] tail = tail
 unsplit (line ∷ lines) tail = line ++ 10 ∷ unsplit lines tail
 
@@ -254,10 +255,10 @@ begun_unsplit : (b : ℕ) (lines : List (List ℕ)) (tail : List ℕ) → unspli
 begun_unsplit b [] tail = refl
 begun_unsplit b (line ∷ lines) tail = refl
 
-abbrev text_of : Split → List ℕ
+abbrev pub text_of : Split → List ℕ
 text_of split = unsplit split.lines split.tail
 
-text_split : (text : List ℕ) → text ≡ text_of (lines_of text)
+pub text_split : (text : List ℕ) → text ≡ text_of (lines_of text)
 text_split [] = refl
 text_split (b ∷ text) = by (b == 10) refl (text_split text) where
   by : (t : Bool) → (b == 10) ≡ t → text ≡ text_of (lines_of text) → b ∷ text ≡ text_of (lines_of (b ∷ text))

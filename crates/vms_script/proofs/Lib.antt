@@ -3,6 +3,7 @@ pub mod GrammarLemmas
 pub mod GrammarOnly
 pub mod NameLemmas
 pub mod NumberLemmas
+pub mod RefusalLaws
 pub mod Rows
 pub mod ScriptLemmas
 pub mod SplitLemmas

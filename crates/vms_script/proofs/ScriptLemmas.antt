@@ -48,10 +48,6 @@ abbrev pub after_lines : List ScriptLine → Reading → Reading
 after_lines before (Ok lines) = Ok (before ++ lines)
 after_lines before (Err fault) = Err fault
 
-pub none_before : (reading : Reading) → after_lines [] reading ≡ reading
-none_before (Ok lines) = refl
-none_before (Err fault) = refl
-
 after_also : (before : List ScriptLine) (line : ScriptLine) (reading : Reading) → after_lines (before ++ line ∷ []) reading ≡ after_lines before (also line reading)
 after_also before line (Ok lines) = ap (λ (all : List ScriptLine). Ok all) (append_assoc before (line ∷ []) lines)
 after_also before line (Err fault) = refl

@@ -3,7 +3,8 @@ use Rattle.std.specs.Prelude.{◌≡◌, ℕ, ◌/◌, ◌%◌, ◌<◌, ◌++�
 use Rattle.std.specs.Fmt.{decimal}
 use Rattle.dev_board.specs.declared.event.Event.{Event}
 use Rattle.dev_board.specs.declared.event.Event.TheVariants.{Read, Write, Byte, Wait, Wire, Ack}
-use Rattle.vms_script.specs.Lines.{ScriptLine, Happens, Saves, Restores, is_wait, is_wire, is_set_of}
+use Rattle.dev_board.specs.Wires.{is_wire}
+use Rattle.vms_script.specs.Lines.{ScriptLine, Happens, Saves, Restores, is_wait, is_set_of}
 use Rattle.vms_script.specs.Names.{is_shelf_name}
 use Rattle.vms_script.specs.Script.{script_read}
 use Rattle.vms_script.specs.Trace.{level_text}

@@ -1,6 +1,7 @@
 pub mod Grammar
 pub mod Lines
 pub mod Names
+pub mod Refusal
 pub mod Script
 pub mod Splits
 pub mod Trace

@@ -1,9 +1,10 @@
 -- A line of a script, and how it is read.
-use Rattle.std.specs.Prelude.{ℕ, ◌&&◌, ◌||◌, ◌==◌, nat_le, if◌then◌else◌, Bool, List, drop, codes, Option, Some, None, Result, Ok, Err, ℤ, pos, negsuc}
+use Rattle.std.specs.Prelude.{ℕ, ◌&&◌, nat_le, if◌then◌else◌, Bool, List, drop, codes, Option, Some, None, Result, Ok, Err, ℤ, pos, negsuc}
 use Rattle.std.specs.Str.{bytes_eq}
 use Rattle.dev_base.specs.declared.limits.TheConstants.{NEWEST}
 use Rattle.dev_board.specs.declared.event.Event.{Event}
 use Rattle.dev_board.specs.declared.event.Event.TheVariants as events
+use Rattle.dev_board.specs.Wires.{is_wire}
 use Rattle.vms_spec.specs.Spelling.{begins_with, number_spelled}
 use Rattle.vms_script.specs.Names.{is_shelf_name}
 use Rattle.vms_script.specs.Words.{first_word, byte_spelled, port_spelled, level_spelled}
@@ -33,10 +34,6 @@ or_range holds line (negsuc n) = Err reasons.Range
 
 abbrev pub number_in : (ℕ → Bool) → (ℕ → ScriptLine) → List ℕ → Read
 number_in holds line text = or_form (number_spelled text) (or_range holds line)
-
--- the interrupt inputs that are wires: 1, 3, 5, 6, 7 and 8 to 15
-abbrev pub is_wire : ℕ → Bool
-is_wire input = input == 1 || input == 3 || (nat_le 5 input && nat_le input 15)
 
 -- the sets under which a board of a level is saved
 abbrev pub is_set_of : ℕ → ℕ → Bool

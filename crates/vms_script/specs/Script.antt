@@ -15,7 +15,8 @@ begun b (line ∷ lines) tail = record { lines = (b ∷ line) ∷ lines; tail = 
 
 abbrev pub more_text : ℕ → Split → Split
 more_text b split =
-    if b == 10 then record { lines = [] ∷ split.lines; tail = split.tail } else begun b split.lines split.tail
+    if b == 10 then record { lines = [] ∷ split.lines; tail = split.tail }
+    else begun b split.lines split.tail
 
 abbrev pub lines_of : List ℕ → Split
 lines_of [] = record { lines = []; tail = [] }

@@ -24,4 +24,5 @@ sent_text (b ∷ bytes) = codes " " ++ bytes_text (b ∷ bytes)
 -- the value, a blank, the interrupt output, what was sent, and the line feed
 unfoldable pub trace_line : Answer → List ℕ
 trace_line answer =
-    value_text answer.value ++ codes " " ++ level_text answer.int ++ sent_text answer.sent.items ++ codes "\n"
+    value_text answer.value ++ codes " " ++ level_text answer.int
+    ++ sent_text answer.sent.items ++ codes "\n"

@@ -14,7 +14,8 @@ first_word (b ∷ line) = if b == 32 then ([], Some line) else longer_word b (fi
 -- a lower-case hexadecimal digit
 abbrev pub digit_spelled : ℕ → Option ℕ
 digit_spelled b =
-    if is_digit b then Some (b - 48) else if nat_le 97 b && nat_le b 102 then Some (b - 87) else None
+    if is_digit b then Some (b - 48)
+    else if nat_le 97 b && nat_le b 102 then Some (b - 87) else None
 
 -- two numbers as one, the second below a base
 abbrev pub joined : ℕ → Option ℕ → Option ℕ → Option ℕ

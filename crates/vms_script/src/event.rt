@@ -1,6 +1,8 @@
 // Lines that are events.
-ghost use Rattle.std.specs.Prelude.{◌≡◌, option_copied};
-ghost use Rattle.vms_script.specs.Lines.{in_line, byte_line, wait_line, out_line, wire_line, is_wire};
+ghost use Rattle.std.specs.Prelude.{◌≡◌, ◌<◌, option_copied};
+ghost use Rattle.std.specs.Bool.{OnTrue};
+ghost use Rattle.dev_board.specs.Wires.{is_wire as is_wire_of};
+ghost use Rattle.vms_script.specs.Lines.{in_line, byte_line, wait_line, out_line, wire_line};
 ghost use Rattle.vms_script.specs.Views.{read_view};
 ghost use Rattle.vms_script.specs.Words.{level_spelled, first_word};
 
@@ -8,7 +10,7 @@ use crate::hex::{byte_of, port_of};
 use crate::line::{Line, ScriptReason};
 use crate::number::{LONGEST_WAIT, number_of};
 use crate::split::split_word;
-use dev_board::Event;
+use dev_board::{Event, is_wire};
 
 /// `in PPPP`, by what stands behind the first word.
 pub(crate) fn read_in(port: &[u8]) -> Result<Line, ScriptReason>
@@ -76,7 +78,7 @@ pub(crate) fn read_wire(words: &[u8]) -> Result<Line, ScriptReason>
     };
     match number_of(split.word) {
         Ok(input) => {
-            if is_wire(input) {
+            if names_wire(input) {
                 let input = input as u8;
                 Ok(Line::Event(Event::Wire { input, up }))
             } else {
@@ -98,9 +100,10 @@ fn level_of(text: &[u8]) -> Option<bool>
     }
 }
 
-// Tells whether an interrupt input is a wire.
-fn is_wire(input: u64) -> bool
-    ensures { result ≡ is_wire input }
+// Tells whether a number is that of a wire.
+fn names_wire(number: u64) -> bool
+    ensures named { result ≡ is_wire_of number }
+    ensures small { OnTrue result (number < 16) }
 {
-    input == 1 || input == 3 || 5 <= input && input <= 15
+    number < 16 && is_wire(number as u8)
 }

@@ -12,7 +12,7 @@ mod session;
 mod split;
 mod trace;
 
-pub use laws::grammar_law;
+pub use laws::{grammar_law, refusal_law};
 pub use line::{Line, ScriptFault, ScriptReason};
 pub use name::is_shelf_name;
 pub use number::LONGEST_WAIT;

@@ -53,7 +53,8 @@ fn are_all_digits(text: &[u8]) -> bool
 }
 
 fn is_unpadded(text: &[u8]) -> bool
-    ensures { result ≡ (length text.now == 1 || (nat_le 2 (length text.now) && not (get_or text.now 0 48 == 48))) }
+    ensures { result ≡ (length text.now == 1
+        || (nat_le 2 (length text.now) && not (get_or text.now 0 48 == 48))) }
 {
     text.len() == 1 || text.len() >= 2 && text[0] != b'0'
 }
