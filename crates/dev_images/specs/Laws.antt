@@ -1,12 +1,13 @@
 -- Laws of the images of a board's devices that contracts name.
-use Rattle.std.specs.Prelude.{◌≡◌, ℕ, ℤ, List}
+use Rattle.std.specs.Prelude.{◌≡◌, ℕ, ℤ, List, [], ◌∷◌, ◌++◌}
 use Rattle.dev_base.specs.Cells.{AreOf}
 use Rattle.dev_board.specs.Saved.{timer_kinds}
 use Rattle.dev_pic.specs.Cells.{kinds as pic_kinds, carried as pic_carried}
 use Rattle.dev_pit.specs.Cells.{carried as pit_carried, AreCellsOf as ArePitCells}
+use Rattle.dev_serial.specs.Laws.{AreSaved as AreSerialCells}
 use Rattle.vms_check.specs.Carrying.{carried_device}
 use Rattle.vms_spec.specs.Sets.{Set, Device}
-use Rattle.vms_spec.specs.Shipped.{set_1, set_2, set_3, set_4, timer, i8259_at_1, i8259_at_2, i8259_at_4, i8254_at_1, i8254_at_2}
+use Rattle.vms_spec.specs.Shipped.{set_1, set_2, set_3, set_4, timer, i8259_at_1, i8259_at_2, i8259_at_4, i8254_at_1, i8254_at_2, serial, serial_fields, divider, divisor, fcr, thr_ipending, fifo, timeout, ring}
 use Rattle.vms_spec.specs.Streams.{IsReady}
 use Rattle.dev_images.specs.Images.{image_of}
 
@@ -33,6 +34,26 @@ pub record PitIsReady : Type 0 where
   pub second : (numbers : List ℤ) → ArePitCells 2 numbers → ReadyOf set_2 i8254_at_2 numbers
   pub third : (numbers : List ℤ) → ArePitCells 3 numbers → ReadyOf set_3 i8254_at_2 numbers
   pub fourth : (numbers : List ℤ) → ArePitCells 4 numbers → ReadyOf set_4 i8254_at_2 numbers
+
+-- the serial port of each set
+abbrev pub serial_at_1 : Device
+serial_at_1 = serial 1 (divider ∷ serial_fields) (thr_ipending ∷ [])
+
+abbrev pub serial_at_2 : Device
+serial_at_2 = serial 2 (divider ∷ serial_fields ++ fcr ∷ []) (thr_ipending ∷ fifo ∷ [])
+
+abbrev pub serial_at_3 : Device
+serial_at_3 = serial 3 (divisor ∷ serial_fields ++ fcr ∷ []) (thr_ipending ∷ fifo ∷ timeout ∷ [])
+
+abbrev pub serial_at_4 : Device
+serial_at_4 = serial 4 (divisor ∷ serial_fields ++ fcr ∷ []) (thr_ipending ∷ fifo ∷ timeout ∷ ring ∷ [])
+
+-- an image of cells that a serial port saves
+pub record SerialIsReady : Type 0 where
+  pub first : (numbers : List ℤ) → AreSerialCells 1 numbers → ReadyOf set_1 serial_at_1 numbers
+  pub second : (numbers : List ℤ) → AreSerialCells 2 numbers → ReadyOf set_2 serial_at_2 numbers
+  pub third : (numbers : List ℤ) → AreSerialCells 3 numbers → ReadyOf set_3 serial_at_3 numbers
+  pub fourth : (numbers : List ℤ) → AreSerialCells 4 numbers → ReadyOf set_4 serial_at_4 numbers
 
 -- the numbers of a device of the newest set, from an image of its device in an older one
 abbrev pub carried_numbers : Set → Device → Device → List ℤ → List ℤ

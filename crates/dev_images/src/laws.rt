@@ -1,5 +1,5 @@
 // Laws of the definitions, each stated by a function without a body.
-ghost use Rattle.dev_images.specs.Laws.{TimerIsReady, ChipIsReady, PitIsReady, TimerIsCarried, ChipIsCarried, PitIsCarried};
+ghost use Rattle.dev_images.specs.Laws.{TimerIsReady, ChipIsReady, PitIsReady, SerialIsReady, TimerIsCarried, ChipIsCarried, PitIsCarried};
 
 /// The image of a board's moment is ready under each shipped set from 1 on.
 #[tactic(auto, using(crate::proofs::TimerReady::timer_is_ready))]
@@ -17,6 +17,12 @@ pub fn chip_law()
 #[tactic(auto, using(crate::proofs::PitReady::pit_is_ready))]
 pub fn pit_law()
     ensures { PitIsReady }
+{}
+
+/// The image of the cells that a serial port saves is ready under each shipped set from 1 on.
+#[tactic(auto, using(crate::proofs::SerialReady::serial_is_ready))]
+pub fn serial_law()
+    ensures { SerialIsReady }
 {}
 
 /// The moment's cell in an image of a shipped set from 1 on is carried to the newest one as it is.
