@@ -1,3 +1,4 @@
+pub mod BoardReady
 pub mod Carried
 pub mod ChipReady
 pub mod Parts

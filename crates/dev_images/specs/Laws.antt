@@ -1,15 +1,18 @@
 -- Laws of the images of a board's devices that contracts name.
 use Rattle.std.specs.Prelude.{◌≡◌, ℕ, ℤ, List, [], ◌∷◌, ◌++◌}
 use Rattle.dev_base.specs.Cells.{AreOf}
-use Rattle.dev_board.specs.Saved.{timer_kinds}
+use Rattle.dev_board.specs.Saved.{timer_kinds, MaySaveUnder}
+use Rattle.dev_board.specs.Sound.{IsSound}
+use Rattle.dev_board.specs.State.{State}
+use Rattle.vms_desc.specs.Formed.{shipped_set}
 use Rattle.dev_pic.specs.Cells.{kinds as pic_kinds, carried as pic_carried}
 use Rattle.dev_pit.specs.Cells.{carried as pit_carried, AreCellsOf as ArePitCells}
 use Rattle.dev_serial.specs.Laws.{AreSaved as AreSerialCells}
 use Rattle.vms_check.specs.Carrying.{carried_device}
 use Rattle.vms_spec.specs.Sets.{Set, Device}
 use Rattle.vms_spec.specs.Shipped.{set_1, set_2, set_3, set_4, timer, i8259_at_1, i8259_at_2, i8259_at_4, i8254_at_1, i8254_at_2, serial, serial_fields, divider, divisor, fcr, thr_ipending, fifo, timeout, ring}
-use Rattle.vms_spec.specs.Streams.{IsReady}
-use Rattle.dev_images.specs.Images.{image_of}
+use Rattle.vms_spec.specs.Streams.{IsReady, AreReady}
+use Rattle.dev_images.specs.Images.{image_of, saved_images}
 
 -- an image of cells that are a moment is ready
 abbrev pub ReadyOf : Set → Device → List ℤ → Type 0
@@ -79,3 +82,7 @@ pub record PitIsCarried : Type 0 where
   pub second : (numbers : List ℤ) → ArePitCells 2 numbers → carried_numbers set_2 i8254_at_2 i8254_at_2 numbers ≡ pit_carried 2 numbers
   pub third : (numbers : List ℤ) → ArePitCells 3 numbers → carried_numbers set_3 i8254_at_2 i8254_at_2 numbers ≡ pit_carried 3 numbers
   pub fourth : (numbers : List ℤ) → ArePitCells 4 numbers → carried_numbers set_4 i8254_at_2 i8254_at_2 numbers ≡ pit_carried 4 numbers
+
+-- what is saved of a sound board under a shipped set from its level on are ready images of the set
+pub record SavedAreReady : Type 0 where
+  pub images : (set : ℕ) (m : State) → IsSound m → MaySaveUnder m.level set → AreReady (shipped_set set) (saved_images set m)

@@ -1,5 +1,5 @@
 // Laws of the definitions, each stated by a function without a body.
-ghost use Rattle.dev_images.specs.Laws.{TimerIsReady, ChipIsReady, PitIsReady, SerialIsReady, TimerIsCarried, ChipIsCarried, PitIsCarried};
+ghost use Rattle.dev_images.specs.Laws.{TimerIsReady, ChipIsReady, PitIsReady, SerialIsReady, SavedAreReady, TimerIsCarried, ChipIsCarried, PitIsCarried};
 
 /// The image of a board's moment is ready under each shipped set from 1 on.
 #[tactic(auto, using(crate::proofs::TimerReady::timer_is_ready))]
@@ -23,6 +23,13 @@ pub fn pit_law()
 #[tactic(auto, using(crate::proofs::SerialReady::serial_is_ready))]
 pub fn serial_law()
     ensures { SerialIsReady }
+{}
+
+/// What is saved of a sound board under a shipped set from its level on are ready images of that set, at its
+/// versions and with exactly the needed subsections.
+#[tactic(auto, using(crate::proofs::BoardReady::saved_are_ready))]
+pub fn saved_law()
+    ensures { SavedAreReady }
 {}
 
 /// The moment's cell in an image of a shipped set from 1 on is carried to the newest one as it is.
