@@ -5,5 +5,6 @@ pub mod Parts
 pub mod PitCarried
 pub mod PitReady
 pub mod ReadyOf
+pub mod SerialCarried
 pub mod SerialReady
 pub mod TimerReady

@@ -73,13 +73,13 @@ ready-parts set d numbers minimum subs are counts own rules fine =
 -- ---- cells at 0, and arrays
 
 -- a list that is zeros from a place on
-front : (at : ℕ) (numbers : List ℤ) (z : ℤ) (rest : List ℤ) → drop at numbers ≡ z ∷ rest → (get_or numbers at (pos 0) ≡ z) × (drop (suc at) numbers ≡ rest)
+pub front : (at : ℕ) (numbers : List ℤ) (z : ℤ) (rest : List ℤ) → drop at numbers ≡ z ∷ rest → (get_or numbers at (pos 0) ≡ z) × (drop (suc at) numbers ≡ rest)
 front zero [] z rest e = cc
 front zero (y ∷ numbers) z rest e = (cc, cc)
 front (suc at) [] z rest e = cc
 front (suc at) (y ∷ numbers) z rest e = front at numbers z rest e
 
-shape : (n : ℕ) (list : List ℤ) → take (suc n) list ≡ replicate (suc n) (pos 0) → (rest : List ℤ) × (list ≡ pos 0 ∷ rest) × (take n rest ≡ replicate n (pos 0))
+pub shape : (n : ℕ) (list : List ℤ) → take (suc n) list ≡ replicate (suc n) (pos 0) → (rest : List ℤ) × (list ≡ pos 0 ∷ rest) × (take n rest ≡ replicate n (pos 0))
 shape n [] e = cc
 shape n (z ∷ rest) e =
     let first : z ≡ pos 0 = cc in

@@ -21,17 +21,17 @@ use Rattle.dev_images.proofs.Parts.{IsFineSub, ready-parts, zeros-kept, element,
 use Rattle.dev_images.proofs.ReadyOf.{are_kept, are_counted, counts-none, counts-by, kept-left, kept-right, kept-both, rules-both}
 
 -- whether a signed byte isn't -1, and whether a timer isn't never
-abbrev needs_sign : ℤ → Bool
+abbrev pub needs_sign : ℤ → Bool
 needs_sign z = not (bit_and (residue 1 z) 255 == 255)
 
-abbrev needs_timer : ℤ → Bool
+abbrev pub needs_timer : ℤ → Bool
 needs_timer z = not (bit_and (residue 8 z) never == never)
 
 not-false : (b : Bool) → not b ≡ false → b ≡ true
 not-false true e = refl
 not-false false e = cc
 
-no-sign : (z : ℤ) → InRange I8 z → needs_sign z ≡ false → z ≡ negsuc 0
+pub no-sign : (z : ℤ) → InRange I8 z → needs_sign z ≡ false → z ≡ negsuc 0
 no-sign (pos n) r e =
     let all : bit_and (n % 2 ^ 8) 255 ≡ 255 = eqb-true _ 255 (not-false _ e) in
     let most = r.1 in
@@ -44,7 +44,7 @@ no-sign (negsuc n) r e =
     let none : n ≡ 0 = omega (arith, ints, all, least, less) in
     ap negsuc none
 
-no-timer : (z : ℤ) → InRange Timer z → needs_timer z ≡ false → z ≡ pos never
+pub no-timer : (z : ℤ) → InRange Timer z → needs_timer z ≡ false → z ≡ pos never
 no-timer (pos n) r e =
     let all : bit_and (n % 2 ^ 64) never ≡ never = eqb-true _ never (not-false _ e) in
     let most = r.1 in
@@ -157,46 +157,46 @@ module _ (numbers : List ℤ) (n m : ℕ) (rx : (i : ℕ) → n ≤ i → i < 16
       rules-both (inner_slots n m) (Rule true ∷ []) (rules-both (times n (element byte) 14 1) (second_slots m) (rules-times byte n 14) (rules-both (times m (element byte) 31 1) [] (rules-times byte m 31) tt)) (refl, tt)
 
 -- what a set from 2 on has of the FIFOs
-record HasFifo (numbers : List ℤ) : Type 0 where
-  rx_range : InRange U8 (get_or numbers 13 (pos 0))
-  tx_range : InRange U8 (get_or numbers 30 (pos 0))
-  rx : IsArray numbers 13
-  tx : IsArray numbers 30
-  none : nat_of (get_or numbers 13 (pos 0)) ≡ 0 → nat_of (get_or numbers 30 (pos 0)) ≡ 0 → take 34 (drop 13 numbers) ≡ replicate 34 (pos 0)
+pub record HasFifo (numbers : List ℤ) : Type 0 where
+  pub rx_range : InRange U8 (get_or numbers 13 (pos 0))
+  pub tx_range : InRange U8 (get_or numbers 30 (pos 0))
+  pub rx : IsArray numbers 13
+  pub tx : IsArray numbers 30
+  pub none : nat_of (get_or numbers 13 (pos 0)) ≡ 0 → nat_of (get_or numbers 30 (pos 0)) ≡ 0 → take 34 (drop 13 numbers) ≡ replicate 34 (pos 0)
 
-abbrev needs_fifo : List ℤ → Bool
+abbrev pub needs_fifo : List ℤ → Bool
 needs_fifo numbers = needs_count (get_or numbers 13 (pos 0)) || needs_count (get_or numbers 30 (pos 0))
 
 module _ (numbers : List ℤ) (h : HasFifo numbers) where
-  abbrev n : ℕ
-  n = min (residue 1 (get_or numbers 13 (pos 0))) 16
+  abbrev pub rx_elements : ℕ
+  rx_elements = min (residue 1 (get_or numbers 13 (pos 0))) 16
 
-  abbrev m : ℕ
-  m = min (residue 1 (get_or numbers 30 (pos 0))) 16
+  abbrev pub tx_elements : ℕ
+  tx_elements = min (residue 1 (get_or numbers 30 (pos 0))) 16
 
-  rx-zeros : (i : ℕ) → n ≤ i → i < 16 → get_or numbers (14 + i) (pos 0) ≡ pos 0
+  pub rx-zeros : (i : ℕ) → rx_elements ≤ i → i < 16 → get_or numbers (14 + i) (pos 0) ≡ pos 0
   rx-zeros i l b = let is = elements (get_or numbers 13 (pos 0)) h.rx_range h.rx.fits in h.rx.zeros i (omega (arith, is, l)) b
 
-  tx-zeros : (i : ℕ) → m ≤ i → i < 16 → get_or numbers (31 + i) (pos 0) ≡ pos 0
+  pub tx-zeros : (i : ℕ) → tx_elements ≤ i → i < 16 → get_or numbers (31 + i) (pos 0) ≡ pos 0
   tx-zeros i l b = let is = elements (get_or numbers 30 (pos 0)) h.tx_range h.tx.fits in h.tx.zeros i (omega (arith, is, l)) b
 
-  no-fifo : needs_fifo numbers ≡ false → take 34 (drop 13 numbers) ≡ replicate 34 (pos 0)
+  pub no-fifo : needs_fifo numbers ≡ false → take 34 (drop 13 numbers) ≡ replicate 34 (pos 0)
   no-fifo e =
       h.none (no-count _ h.rx_range (left-false (needs_count (get_or numbers 13 (pos 0))) _ e)) (no-count _ h.tx_range (right-false (needs_count (get_or numbers 13 (pos 0))) _ e))
 
   fifo-2 : (needed : Bool) → needs_fifo numbers ≡ needed → (needed ≡ false → take 34 (drop 13 numbers) ≡ replicate 34 (pos 0)) → IsFineSub set_2 serial_at_2 numbers fifo 1 13
   unfolding first
-  fifo-2 true e off = record { kept = rw e (fifo-kept numbers n m rx-zeros tx-zeros); rules = rw e (fifo-rules numbers n m rx-zeros tx-zeros) }
+  fifo-2 true e off = record { kept = rw e (fifo-kept numbers rx_elements tx_elements rx-zeros tx-zeros); rules = rw e (fifo-rules numbers rx_elements tx_elements rx-zeros tx-zeros) }
   fifo-2 false e off = record { kept = rw e (zeros-kept [] numbers 13 fifo_cells refl (off refl)); rules = rw e tt }
 
   fifo-3 : (needed : Bool) → needs_fifo numbers ≡ needed → (needed ≡ false → take 34 (drop 13 numbers) ≡ replicate 34 (pos 0)) → IsFineSub set_3 serial_at_3 numbers fifo 1 13
   unfolding first
-  fifo-3 true e off = record { kept = rw e (fifo-kept numbers n m rx-zeros tx-zeros); rules = rw e (fifo-rules numbers n m rx-zeros tx-zeros) }
+  fifo-3 true e off = record { kept = rw e (fifo-kept numbers rx_elements tx_elements rx-zeros tx-zeros); rules = rw e (fifo-rules numbers rx_elements tx_elements rx-zeros tx-zeros) }
   fifo-3 false e off = record { kept = rw e (zeros-kept [] numbers 13 fifo_cells refl (off refl)); rules = rw e tt }
 
   fifo-4 : (needed : Bool) → needs_fifo numbers ≡ needed → (needed ≡ false → take 34 (drop 13 numbers) ≡ replicate 34 (pos 0)) → IsFineSub set_4 serial_at_4 numbers fifo 1 13
   unfolding first
-  fifo-4 true e off = record { kept = rw e (fifo-kept numbers n m rx-zeros tx-zeros); rules = rw e (fifo-rules numbers n m rx-zeros tx-zeros) }
+  fifo-4 true e off = record { kept = rw e (fifo-kept numbers rx_elements tx_elements rx-zeros tx-zeros); rules = rw e (fifo-rules numbers rx_elements tx_elements rx-zeros tx-zeros) }
   fifo-4 false e off = record { kept = rw e (zeros-kept [] numbers 13 fifo_cells refl (off refl)); rules = rw e tt }
 
 serial-1 : (numbers : List ℤ) → AreSaved 1 numbers → ReadyOf set_1 serial_at_1 numbers
@@ -206,7 +206,7 @@ serial-1 numbers are =
     (thr-1 numbers _ refl (no-sign _ (are.of_kinds.in_range 11 (omega arith))), tt)
 
 -- the FIFOs as rings
-abbrev needs_ring : List ℤ → Bool
+abbrev pub needs_ring : List ℤ → Bool
 needs_ring numbers = needs_count (get_or numbers 65 (pos 0)) || needs_count (get_or numbers 83 (pos 0))
 
 ring-4 : (numbers : List ℤ) (needed : Bool) → needs_ring numbers ≡ needed → (needed ≡ false → take 36 (drop 48 numbers) ≡ replicate 36 (pos 0)) → IsFineSub set_4 serial_at_4 numbers ring 3 48
@@ -221,7 +221,7 @@ well-rx numbers h = counted-well (get_or numbers 13 (pos 0)) h.rx_range h.rx.fit
 well-tx : (numbers : List ℤ) (h : HasFifo numbers) → counts_well (16 ∷ []) (get_or numbers 30 (pos 0)) ≡ true
 well-tx numbers h = counted-well (get_or numbers 30 (pos 0)) h.tx_range h.tx.fits
 
-has-fifo-2 : (numbers : List ℤ) → AreSaved 2 numbers → HasFifo numbers
+pub has-fifo-2 : (numbers : List ℤ) → AreSaved 2 numbers → HasFifo numbers
 has-fifo-2 numbers are = record {
   rx_range = are.of_kinds.in_range 13 (omega arith);
   tx_range = are.of_kinds.in_range 30 (omega arith);
@@ -234,7 +234,7 @@ counted-2 : (numbers : List ℤ) → HasFifo numbers → are_counted numbers 0 (
 unfolding first
 counted-2 numbers h = rw (well-rx numbers h, well-tx numbers h) refl
 
-has-fifo-3 : (numbers : List ℤ) → AreSaved 3 numbers → HasFifo numbers
+pub has-fifo-3 : (numbers : List ℤ) → AreSaved 3 numbers → HasFifo numbers
 has-fifo-3 numbers are = record {
   rx_range = are.of_kinds.in_range 13 (omega arith);
   tx_range = are.of_kinds.in_range 30 (omega arith);
@@ -247,7 +247,7 @@ counted-3 : (numbers : List ℤ) → HasFifo numbers → are_counted numbers 0 (
 unfolding first
 counted-3 numbers h = rw (well-rx numbers h, well-tx numbers h) refl
 
-has-fifo-4 : (numbers : List ℤ) → AreSaved 4 numbers → HasFifo numbers
+pub has-fifo-4 : (numbers : List ℤ) → AreSaved 4 numbers → HasFifo numbers
 has-fifo-4 numbers are = record {
   rx_range = are.of_kinds.in_range 13 (omega arith);
   tx_range = are.of_kinds.in_range 30 (omega arith);
@@ -274,7 +274,7 @@ serial-3 numbers are =
     ready-parts set_3 serial_at_3 numbers (omega arith) (omega arith, (omega arith, (omega arith, tt))) are.of_kinds (counts-by (device_cells set_3 serial_at_3) numbers (counted-3 numbers h)) refl (refl, tt)
     (thr-3 numbers _ refl (no-sign _ (are.of_kinds.in_range 12 (omega arith))), (fifo-3 numbers h _ refl (no-fifo numbers h), (timeout-3 numbers _ refl (no-timer _ (are.of_kinds.in_range 47 (omega arith))), tt)))
 
-no-ring : (numbers : List ℤ) → AreSaved 4 numbers → needs_ring numbers ≡ false → take 36 (drop 48 numbers) ≡ replicate 36 (pos 0)
+pub no-ring : (numbers : List ℤ) → AreSaved 4 numbers → needs_ring numbers ≡ false → take 36 (drop 48 numbers) ≡ replicate 36 (pos 0)
 no-ring numbers are e =
     are.no_ring (omega arith) (no-count _ (are.of_kinds.in_range 65 (omega arith)) (left-false (needs_count (get_or numbers 65 (pos 0))) _ e))
     (no-count _ (are.of_kinds.in_range 83 (omega arith)) (right-false (needs_count (get_or numbers 65 (pos 0))) _ e))

@@ -7,6 +7,7 @@ use Rattle.dev_board.specs.State.{State}
 use Rattle.vms_desc.specs.Formed.{shipped_set}
 use Rattle.dev_pic.specs.Cells.{kinds as pic_kinds, carried as pic_carried}
 use Rattle.dev_pit.specs.Cells.{carried as pit_carried, AreCellsOf as ArePitCells}
+use Rattle.dev_serial.specs.Cells.{carried as serial_carried}
 use Rattle.dev_serial.specs.Laws.{AreSaved as AreSerialCells}
 use Rattle.vms_check.specs.Carrying.{carried_device}
 use Rattle.vms_spec.specs.Sets.{Set, Device}
@@ -86,3 +87,10 @@ pub record PitIsCarried : Type 0 where
 -- what is saved of a sound board under a shipped set from its level on are ready images of the set
 pub record SavedAreReady : Type 0 where
   pub images : (set : ℕ) (m : State) → IsSound m → MaySaveUnder m.level set → AreReady (shipped_set set) (saved_images set m)
+
+-- the cells that a serial port saves are carried as the port's own table says
+pub record SerialIsCarried : Type 0 where
+  pub first : (numbers : List ℤ) → AreSerialCells 1 numbers → carried_numbers set_1 serial_at_1 serial_at_4 numbers ≡ serial_carried 1 numbers
+  pub second : (numbers : List ℤ) → AreSerialCells 2 numbers → carried_numbers set_2 serial_at_2 serial_at_4 numbers ≡ serial_carried 2 numbers
+  pub third : (numbers : List ℤ) → AreSerialCells 3 numbers → carried_numbers set_3 serial_at_3 serial_at_4 numbers ≡ serial_carried 3 numbers
+  pub fourth : (numbers : List ℤ) → AreSerialCells 4 numbers → carried_numbers set_4 serial_at_4 serial_at_4 numbers ≡ serial_carried 4 numbers

@@ -1,5 +1,5 @@
 // Laws of the definitions, each stated by a function without a body.
-ghost use Rattle.dev_images.specs.Laws.{TimerIsReady, ChipIsReady, PitIsReady, SerialIsReady, SavedAreReady, TimerIsCarried, ChipIsCarried, PitIsCarried};
+ghost use Rattle.dev_images.specs.Laws.{TimerIsReady, ChipIsReady, PitIsReady, SerialIsReady, SavedAreReady, TimerIsCarried, ChipIsCarried, PitIsCarried, SerialIsCarried};
 
 /// The image of a board's moment is ready under each shipped set from 1 on.
 #[tactic(auto, using(crate::proofs::TimerReady::timer_is_ready))]
@@ -50,4 +50,11 @@ pub fn carried_chip_law()
 #[tactic(auto, using(crate::proofs::PitCarried::pit_is_carried))]
 pub fn carried_pit_law()
     ensures { PitIsCarried }
+{}
+
+/// The cells that a serial port saves under a shipped set from 1 on are carried to the newest one as the
+/// port's table says.
+#[tactic(auto, using(crate::proofs::SerialCarried::serial_is_carried))]
+pub fn carried_serial_law()
+    ensures { SerialIsCarried }
 {}

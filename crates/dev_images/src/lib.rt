@@ -4,5 +4,5 @@
 mod laws;
 
 pub use laws::{
-    carried_chip_law, carried_pit_law, carried_timer_law, chip_law, pit_law, saved_law, serial_law, timer_law,
+    carried_chip_law, carried_pit_law, carried_serial_law, carried_timer_law, chip_law, pit_law, saved_law, serial_law, timer_law,
 };
