@@ -1,14 +1,13 @@
 -- What is saved of a sound board are ready images.
-use Rattle.std.proofs.Common.{◌≡◌, ℕ, zero, suc, ◌≤◌, List, [], ◌∷◌, length, Option, Some, None, ℤ, refl, sym, ap, subst, ◌∙◌, arith}
+use Rattle.std.proofs.Common.{◌≡◌, ℕ, zero, suc, ◌≤◌, List, [], ◌∷◌, length, Some, ℤ, refl, ap, subst, arith}
 use Rattle.dev_board.proofs.SavedLaws.{saved_are_cells}
-use Rattle.dev_board.specs.Saved.{saved, MaySaveUnder, AreSavedCells}
-use Rattle.dev_board.specs.Sound.{IsSound}
+use Rattle.dev_board.specs.Saved.{saved, AreSavedCells}
 use Rattle.dev_board.specs.State.{State}
 use Rattle.vms_desc.specs.Formed.{shipped_set}
 use Rattle.vms_spec.specs.Images.{Image}
 use Rattle.vms_spec.specs.Sets.{Device, Set}
 use Rattle.vms_spec.specs.Streams.{at, IsReady, AreReady}
-use Rattle.dev_images.specs.Images.{image_of, images_of, lists_of, saved_images}
+use Rattle.dev_images.specs.Images.{image_of, images_of, lists_of}
 use Rattle.dev_images.specs.Laws.{SavedAreReady}
 use Rattle.dev_images.proofs.ChipReady.{chip_is_ready}
 use Rattle.dev_images.proofs.PitReady.{pit_is_ready}

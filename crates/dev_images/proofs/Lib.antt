@@ -1,3 +1,4 @@
+pub mod BoardCarried
 pub mod BoardReady
 pub mod Carried
 pub mod ChipReady

@@ -1,5 +1,5 @@
 -- The cells that a serial port saves are carried as its own table says.
-use Rattle.std.proofs.Common.{◌≡◌, ℕ, zero, suc, ◌+◌, ◌<◌, ◌≤◌, Bool, true, false, cond, List, [], ◌∷◌, ◌++◌, length, get_or, take, drop, replicate, ℤ, pos, negsuc, refl, sym, ap, ◌∙◌, arith}
+use Rattle.std.proofs.Common.{◌≡◌, ℕ, zero, suc, ◌+◌, ◌<◌, ◌≤◌, Bool, true, false, List, [], ◌∷◌, ◌++◌, get_or, take, drop, replicate, ℤ, pos, negsuc, refl, sym, ap, ◌∙◌, arith}
 use Rattle.vms_check.specs.Carrying.{Carrier, carriers, carry_items, carried_sub}
 use Rattle.vms_kinds.specs.declared.Item.TheVariants.{Num}
 use Rattle.vms_kinds.specs.declared.Kind.TheVariants.{U8}

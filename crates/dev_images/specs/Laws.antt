@@ -1,7 +1,8 @@
 -- Laws of the images of a board's devices that contracts name.
 use Rattle.std.specs.Prelude.{◌≡◌, ℕ, ℤ, List, [], ◌∷◌, ◌++◌}
 use Rattle.dev_base.specs.Cells.{AreOf}
-use Rattle.dev_board.specs.Saved.{timer_kinds, MaySaveUnder}
+use Rattle.dev_board.specs.Saved.{timer_kinds, MaySaveUnder, saved, carried as board_carried}
+use Rattle.dev_board.specs.SavedLaws.{ComesBack}
 use Rattle.dev_board.specs.Sound.{IsSound}
 use Rattle.dev_board.specs.State.{State}
 use Rattle.vms_desc.specs.Formed.{shipped_set}
@@ -9,11 +10,11 @@ use Rattle.dev_pic.specs.Cells.{kinds as pic_kinds, carried as pic_carried}
 use Rattle.dev_pit.specs.Cells.{carried as pit_carried, AreCellsOf as ArePitCells}
 use Rattle.dev_serial.specs.Cells.{carried as serial_carried}
 use Rattle.dev_serial.specs.Laws.{AreSaved as AreSerialCells}
-use Rattle.vms_check.specs.Carrying.{carried_device}
+use Rattle.vms_check.specs.Carrying.{carried_device, carried}
 use Rattle.vms_spec.specs.Sets.{Set, Device}
 use Rattle.vms_spec.specs.Shipped.{set_1, set_2, set_3, set_4, timer, i8259_at_1, i8259_at_2, i8259_at_4, i8254_at_1, i8254_at_2, serial, serial_fields, divider, divisor, fcr, thr_ipending, fifo, timeout, ring}
 use Rattle.vms_spec.specs.Streams.{IsReady, AreReady}
-use Rattle.dev_images.specs.Images.{image_of, saved_images}
+use Rattle.dev_images.specs.Images.{image_of, saved_images, cells_in}
 
 -- an image of cells that are a moment is ready
 abbrev pub ReadyOf : Set → Device → List ℤ → Type 0
@@ -94,3 +95,11 @@ pub record SerialIsCarried : Type 0 where
   pub second : (numbers : List ℤ) → AreSerialCells 2 numbers → carried_numbers set_2 serial_at_2 serial_at_4 numbers ≡ serial_carried 2 numbers
   pub third : (numbers : List ℤ) → AreSerialCells 3 numbers → carried_numbers set_3 serial_at_3 serial_at_4 numbers ≡ serial_carried 3 numbers
   pub fourth : (numbers : List ℤ) → AreSerialCells 4 numbers → carried_numbers set_4 serial_at_4 serial_at_4 numbers ≡ serial_carried 4 numbers
+
+-- what a comparison of sets carries of saved images to the newest set has the cells that the devices' own tables carry
+pub record SavedIsCarried : Type 0 where
+  pub cells : (set : ℕ) (m : State) → IsSound m → MaySaveUnder m.level set → cells_in (carried (shipped_set set) set_4 (saved_images set m)) ≡ board_carried set (saved set m)
+
+-- images saved of a sound board under any set from its level on, carried to the newest, give a board like it
+pub record ImagesComeBack : Type 0 where
+  pub back : (set : ℕ) (m : State) → IsSound m → MaySaveUnder m.level set → ComesBack m.level (cells_in (carried (shipped_set set) set_4 (saved_images set m))) m

@@ -1,5 +1,6 @@
 // Laws of the definitions, each stated by a function without a body.
-ghost use Rattle.dev_images.specs.Laws.{TimerIsReady, ChipIsReady, PitIsReady, SerialIsReady, SavedAreReady, TimerIsCarried, ChipIsCarried, PitIsCarried, SerialIsCarried};
+ghost use Rattle.dev_images.specs.Laws.{TimerIsReady, ChipIsReady, PitIsReady, SerialIsReady, SavedAreReady};
+ghost use Rattle.dev_images.specs.Laws.{TimerIsCarried, ChipIsCarried, PitIsCarried, SerialIsCarried, SavedIsCarried, ImagesComeBack};
 
 /// The image of a board's moment is ready under each shipped set from 1 on.
 #[tactic(auto, using(crate::proofs::TimerReady::timer_is_ready))]
@@ -57,4 +58,18 @@ pub fn carried_pit_law()
 #[tactic(auto, using(crate::proofs::SerialCarried::serial_is_carried))]
 pub fn carried_serial_law()
     ensures { SerialIsCarried }
+{}
+
+/// What a comparison of sets carries of the images saved of a sound board has the cells that the devices'
+/// own tables carry.
+#[tactic(auto, using(crate::proofs::BoardCarried::saved_is_carried))]
+pub fn carried_law()
+    ensures { SavedIsCarried }
+{}
+
+/// Images saved of a sound board under any set from its level on, carried to the newest set, may be restored
+/// and give a board like it.
+#[tactic(auto, using(crate::proofs::BoardCarried::images_come_back))]
+pub fn images_law()
+    ensures { ImagesComeBack }
 {}
