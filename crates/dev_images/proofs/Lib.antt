@@ -1,6 +1,11 @@
+pub mod BoardCarried
+pub mod BoardReady
 pub mod Carried
 pub mod ChipReady
+pub mod Parts
 pub mod PitCarried
 pub mod PitReady
 pub mod ReadyOf
+pub mod SerialCarried
+pub mod SerialReady
 pub mod TimerReady

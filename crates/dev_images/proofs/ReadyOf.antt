@@ -4,6 +4,8 @@ use Rattle.std.specs.List.{AllByRecursion}
 use Rattle.vms_kinds.specs.Codes.{InRange}
 use Rattle.vms_kinds.specs.declared.Kind.{Kind}
 use Rattle.vms_laws.proofs.ReadyLaws.{same_is}
+use Rattle.vms_laws.proofs.WellFormedLaws.{within}
+use Rattle.vms_spec.specs.Rules.{counts_well}
 use Rattle.vms_spec.specs.Numbers.{same_number}
 use Rattle.std.proofs.lemmas.Bool.{and_parts, eqb-true}
 use Rattle.vms_spec.specs.Images.{Image, has_cell, image_slots, AreVersionsOf, FitCells, IsValid, RulesHold}
@@ -99,6 +101,24 @@ counts-none cells numbers e c lt = none cells e c lt (get_or numbers c (pos 0)) 
   none [] e c lt z = tt
   none (cell ∷ cells) e zero lt z = no-capacities cell.capacities z (and_parts (length cell.capacities == 0) (no_counts cells) e).0
   none (cell ∷ cells) e (suc c) lt z = none cells (and_parts (length cell.capacities == 0) (no_counts cells) e).1 c (omega (arith, lt)) z
+
+-- counts are within the capacities of their arrays, from a cell on
+abbrev pub are_counted : List ℤ → ℕ → List Cell → Bool
+are_counted numbers from [] = true
+are_counted numbers from (cell ∷ cells) = counts_well cell.capacities (get_or numbers from (pos 0)) && are_counted numbers (suc from) cells
+
+counted-from : (numbers : List ℤ) (from : ℕ) (cells : List Cell) → are_counted numbers from cells ≡ true → (c place : ℕ) → place ≡ from + c → c < length cells → AllByRecursion (λ most. get_or numbers place (pos 0) ≤ℤ pos most) (get_or cells c no_cell).capacities
+counted-from numbers from [] e c place is lt = absurd (omega arith)
+counted-from numbers from (cell ∷ cells) e zero place is lt =
+    let p = and_parts (counts_well cell.capacities (get_or numbers from (pos 0))) (are_counted numbers (suc from) cells) e in
+    let here : place ≡ from = omega (arith, is) in
+    subst (λ (n : ℕ). AllByRecursion (λ most. get_or numbers n (pos 0) ≤ℤ pos most) cell.capacities) (sym here) (within cell.capacities (get_or numbers from (pos 0)) p.0)
+counted-from numbers from (cell ∷ cells) e (suc c) place is lt =
+    let p = and_parts (counts_well cell.capacities (get_or numbers from (pos 0))) (are_counted numbers (suc from) cells) e in
+    counted-from numbers (suc from) cells p.1 c place (omega (arith, is)) (omega (arith, lt))
+
+pub counts-by : (cells : List Cell) (numbers : List ℤ) → are_counted numbers 0 cells ≡ true → CountsFit cells numbers
+counts-by cells numbers e c lt = counted-from numbers 0 cells e c c (omega arith) lt
 
 pub ready-of : (set : Set) (d : Device) (numbers : List ℤ) → d.desc.minimum ≤ d.desc.version → AreSubs d.subs → AreOf (map (λ cell. cell.kind) (device_cells set d)) numbers → CountsFit (device_cells set d) numbers → are_kept (image_slots set d (image_of set d numbers)) numbers 0 (device_cells set d) ≡ true → IsValid set d (image_of set d numbers) → IsReady set d (image_of set d numbers)
 ready-of set d numbers minimum subs are counts settled valid =

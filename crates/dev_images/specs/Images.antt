@@ -1,8 +1,12 @@
 -- Images at their set's version, with exactly the subsections that are needed.
-use Rattle.std.specs.Prelude.{ℕ, suc, if◌then◌else◌, List, [], ◌∷◌, Option, Some, None, ℤ}
+use Rattle.std.specs.Prelude.{ℕ, suc, if◌then◌else◌, List, [], ◌∷◌, Option, Some, None, ℤ, get_or, map}
+use Rattle.arrayvec.specs.ArrayVec.{ArrayVec}
 use Rattle.vms_spec.specs.Images.{Image}
 use Rattle.vms_spec.specs.Sets.{Sub, Device, Set}
 use Rattle.vms_spec.specs.Streams.{is_needed}
+use Rattle.dev_board.specs.Saved.{saved}
+use Rattle.dev_board.specs.State.{State}
+use Rattle.vms_desc.specs.Formed.{shipped_set}
 use Rattle.dev_board.specs.declared.cells.BoardCells.{BoardCells}
 
 -- from subsection j on, each comes at its version in the set where the numbers of an image need it
@@ -28,3 +32,20 @@ images_of set (d ∷ devices) (numbers ∷ lists) = image_of set d numbers ∷ i
 -- the cells of a board's devices in their order
 abbrev pub lists_of : BoardCells → List (List ℤ)
 lists_of cells = cells.timer.items ∷ cells.master.items ∷ cells.slave.items ∷ cells.pit.items ∷ cells.serial.items ∷ []
+
+-- the images of a board under the shipped set of a number
+abbrev pub saved_images : ℕ → State → List Image
+saved_images set m = images_of (shipped_set set) (shipped_set set).devices (lists_of (saved set m))
+
+-- the cells of a board's devices in images of them
+abbrev pub numbers_at : List Image → ℕ → ArrayVec ℤ
+numbers_at images k = record { items = get_or (map (λ image. image.numbers) images) k [] }
+
+abbrev pub cells_in : List Image → BoardCells
+cells_in images = record {
+  timer = numbers_at images 0;
+  master = numbers_at images 1;
+  slave = numbers_at images 2;
+  pit = numbers_at images 3;
+  serial = numbers_at images 4;
+}

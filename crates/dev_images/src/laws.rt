@@ -1,5 +1,6 @@
 // Laws of the definitions, each stated by a function without a body.
-ghost use Rattle.dev_images.specs.Laws.{TimerIsReady, ChipIsReady, PitIsReady, TimerIsCarried, ChipIsCarried, PitIsCarried};
+ghost use Rattle.dev_images.specs.Laws.{TimerIsReady, ChipIsReady, PitIsReady, SerialIsReady, SavedAreReady};
+ghost use Rattle.dev_images.specs.Laws.{TimerIsCarried, ChipIsCarried, PitIsCarried, SerialIsCarried, SavedIsCarried, ImagesComeBack};
 
 /// The image of a board's moment is ready under each shipped set from 1 on.
 #[tactic(auto, using(crate::proofs::TimerReady::timer_is_ready))]
@@ -17,6 +18,19 @@ pub fn chip_law()
 #[tactic(auto, using(crate::proofs::PitReady::pit_is_ready))]
 pub fn pit_law()
     ensures { PitIsReady }
+{}
+
+/// The image of the cells that a serial port saves is ready under each shipped set from 1 on.
+#[tactic(auto, using(crate::proofs::SerialReady::serial_is_ready))]
+pub fn serial_law()
+    ensures { SerialIsReady }
+{}
+
+/// What is saved of a sound board under a shipped set from its level on are ready images of that set, at its
+/// versions and with exactly the needed subsections.
+#[tactic(auto, using(crate::proofs::BoardReady::saved_are_ready))]
+pub fn saved_law()
+    ensures { SavedAreReady }
 {}
 
 /// The moment's cell in an image of a shipped set from 1 on is carried to the newest one as it is.
@@ -37,4 +51,25 @@ pub fn carried_chip_law()
 #[tactic(auto, using(crate::proofs::PitCarried::pit_is_carried))]
 pub fn carried_pit_law()
     ensures { PitIsCarried }
+{}
+
+/// The cells that a serial port saves under a shipped set from 1 on are carried to the newest one as the
+/// port's table says.
+#[tactic(auto, using(crate::proofs::SerialCarried::serial_is_carried))]
+pub fn carried_serial_law()
+    ensures { SerialIsCarried }
+{}
+
+/// What a comparison of sets carries of the images saved of a sound board has the cells that the devices'
+/// own tables carry.
+#[tactic(auto, using(crate::proofs::BoardCarried::saved_is_carried))]
+pub fn carried_law()
+    ensures { SavedIsCarried }
+{}
+
+/// Images saved of a sound board under any set from its level on, carried to the newest set, may be restored
+/// and give a board like it.
+#[tactic(auto, using(crate::proofs::BoardCarried::images_come_back))]
+pub fn images_law()
+    ensures { ImagesComeBack }
 {}

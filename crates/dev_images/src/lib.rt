@@ -4,5 +4,6 @@
 mod laws;
 
 pub use laws::{
-    carried_chip_law, carried_pit_law, carried_timer_law, chip_law, pit_law, timer_law,
+    carried_chip_law, carried_law, carried_pit_law, carried_serial_law, carried_timer_law,
+    chip_law, images_law, pit_law, saved_law, serial_law, timer_law,
 };

@@ -1,0 +1,58 @@
+-- What is saved of a sound board are ready images.
+use Rattle.std.proofs.Common.{◌≡◌, ℕ, zero, suc, ◌≤◌, List, [], ◌∷◌, length, Some, ℤ, refl, ap, subst, arith}
+use Rattle.dev_board.proofs.SavedLaws.{saved_are_cells}
+use Rattle.dev_board.specs.Saved.{saved, AreSavedCells}
+use Rattle.dev_board.specs.State.{State}
+use Rattle.vms_desc.specs.Formed.{shipped_set}
+use Rattle.vms_spec.specs.Images.{Image}
+use Rattle.vms_spec.specs.Sets.{Device, Set}
+use Rattle.vms_spec.specs.Streams.{at, IsReady, AreReady}
+use Rattle.dev_images.specs.Images.{image_of, images_of, lists_of}
+use Rattle.dev_images.specs.Laws.{SavedAreReady}
+use Rattle.dev_images.proofs.ChipReady.{chip_is_ready}
+use Rattle.dev_images.proofs.PitReady.{pit_is_ready}
+use Rattle.dev_images.proofs.SerialReady.{serial_is_ready}
+use Rattle.dev_images.proofs.TimerReady.{timer_is_ready}
+
+-- each device's image is ready
+AllReady : Set → List Device → List (List ℤ) → Type 0
+AllReady set [] [] = Unit {0}
+AllReady set [] (numbers ∷ lists) = ⊥
+AllReady set (d ∷ devices) [] = ⊥
+AllReady set (d ∷ devices) (numbers ∷ lists) = IsReady set d (image_of set d numbers) × AllReady set devices lists
+
+counts : (set : Set) (devices : List Device) (lists : List (List ℤ)) → AllReady set devices lists → length (images_of set devices lists) ≡ length devices
+unfolding AllReady
+counts set [] [] h = refl
+counts set [] (numbers ∷ lists) h = absurd h
+counts set (d ∷ devices) [] h = absurd h
+counts set (d ∷ devices) (numbers ∷ lists) h = ap suc (counts set devices lists h.1)
+
+all-ready : (set : Set) (devices : List Device) (lists : List (List ℤ)) → AllReady set devices lists → (k : ℕ) (d : Device) (image : Image) → at devices k ≡ Some d → at (images_of set devices lists) k ≡ Some image → IsReady set d image
+unfolding AllReady
+all-ready set [] [] h k d image e f = cc
+all-ready set [] (numbers ∷ lists) h k d image e f = absurd h
+all-ready set (d ∷ devices) [] h k e image f g = absurd h
+all-ready set (first ∷ devices) (numbers ∷ lists) h zero d image e f =
+    let same_device : first ≡ d = cc in
+    let same_image : image_of set first numbers ≡ image = cc in
+    subst (λ (i : Image). IsReady set d i) same_image (subst (λ (x : Device). IsReady set x (image_of set first numbers)) same_device h.0)
+all-ready set (first ∷ devices) (numbers ∷ lists) h (suc k) d image e f = all-ready set devices lists h.1 k d image e f
+
+are-ready : (set : Set) (lists : List (List ℤ)) → AllReady set set.devices lists → AreReady set (images_of set set.devices lists)
+are-ready set lists h = record { one_each = counts set set.devices lists h; ready = all-ready set set.devices lists h }
+
+each : (set : ℕ) (m : State) → AreSavedCells set (saved set m) → 1 ≤ set → set ≤ 4 → AllReady (shipped_set set) (shipped_set set).devices (lists_of (saved set m))
+unfolding AllReady
+each zero m a l h = absurd (omega (arith, l))
+each (suc zero) m a l h = (timer_is_ready.first _ a.timer, (chip_is_ready.first 0 _ a.master, (chip_is_ready.first 1 _ a.slave, (pit_is_ready.first _ a.pit, (serial_is_ready.first _ a.serial, tt)))))
+each (suc (suc zero)) m a l h = (timer_is_ready.second _ a.timer, (chip_is_ready.second 0 _ a.master, (chip_is_ready.second 1 _ a.slave, (pit_is_ready.second _ a.pit, (serial_is_ready.second _ a.serial, tt)))))
+each (suc (suc (suc zero))) m a l h = (timer_is_ready.third _ a.timer, (chip_is_ready.third 0 _ a.master, (chip_is_ready.third 1 _ a.slave, (pit_is_ready.third _ a.pit, (serial_is_ready.third _ a.serial, tt)))))
+each (suc (suc (suc (suc zero)))) m a l h = (timer_is_ready.fourth _ a.timer, (chip_is_ready.fourth 0 _ a.master, (chip_is_ready.fourth 1 _ a.slave, (pit_is_ready.fourth _ a.pit, (serial_is_ready.fourth _ a.serial, tt)))))
+each (suc (suc (suc (suc (suc set))))) m a l h = absurd (omega (arith, h))
+
+pub saved_are_ready : SavedAreReady
+saved_are_ready = record {
+  images = λ set m s may. let least = s.devices.level.first in let le = may.level_le_set in
+      are-ready (shipped_set set) (lists_of (saved set m)) (each set m (saved_are_cells.of_set set m s may) (omega (arith, least, le)) may.set_le_newest);
+}

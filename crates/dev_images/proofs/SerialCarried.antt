@@ -1,0 +1,153 @@
+-- The cells that a serial port saves are carried as its own table says.
+use Rattle.std.proofs.Common.{◌≡◌, ℕ, zero, suc, ◌+◌, ◌<◌, ◌≤◌, Bool, true, false, List, [], ◌∷◌, ◌++◌, get_or, take, drop, replicate, ℤ, pos, negsuc, refl, sym, ap, ◌∙◌, arith}
+use Rattle.vms_check.specs.Carrying.{Carrier, carriers, carry_items, carried_sub}
+use Rattle.vms_kinds.specs.declared.Item.TheVariants.{Num}
+use Rattle.vms_kinds.specs.declared.Kind.TheVariants.{U8}
+use Rattle.vms_spec.specs.Layout.{first, struct_cells, Cell}
+use Rattle.vms_spec.specs.Sets.{Set, Device, Sub}
+use Rattle.vms_spec.specs.Shipped.{set_1, set_2, set_3, set_4, never, thr_ipending, fifo, timeout, ring}
+use Rattle.dev_serial.specs.Cells.{carried as serial_carried}
+use Rattle.dev_serial.specs.Laws.{AreSaved}
+use Rattle.dev_images.specs.Images.{image_of}
+use Rattle.dev_images.specs.Laws.{carried_numbers, SerialIsCarried, serial_at_1, serial_at_2, serial_at_3, serial_at_4}
+use Rattle.dev_images.proofs.Parts.{front, shape}
+use Rattle.dev_images.proofs.SerialReady.{needs_sign, needs_timer, needs_fifo, needs_ring, no-sign, no-timer, no-ring, HasFifo, has-fifo-2, has-fifo-3, has-fifo-4, rx_elements, tx_elements, rx-zeros, tx-zeros, no-fifo}
+
+-- the numbers of cells one after the other
+abbrev run : List ℤ → ℕ → ℕ → List ℤ
+run numbers at zero = []
+run numbers at (suc n) = get_or numbers at (pos 0) ∷ run numbers (suc at) n
+
+zeros-run : (numbers : List ℤ) (at n : ℕ) → take n (drop at numbers) ≡ replicate n (pos 0) → replicate n (pos 0) ≡ run numbers at n
+zeros-run numbers at zero e = refl
+zeros-run numbers at (suc n) e =
+    let s = shape n (drop at numbers) e in
+    let f = front at numbers (pos 0) s.0 s.1 in
+    ap (λ z. z ∷ replicate n (pos 0)) (sym f.0) ∙ ap (λ l. get_or numbers at (pos 0) ∷ l) (zeros-run numbers (suc at) n (ap (take n) f.1 ∙ s.2))
+
+zeros-each : (numbers : List ℤ) (at n : ℕ) → ((i : ℕ) → i < n → get_or numbers (at + i) (pos 0) ≡ pos 0) → replicate n (pos 0) ≡ run numbers at n
+zeros-each numbers at zero h = refl
+zeros-each numbers at (suc n) h =
+    let here : at + 0 ≡ at = omega arith in
+    ap (λ z. z ∷ replicate n (pos 0)) (sym (ap (λ p. get_or numbers p (pos 0)) (sym here) ∙ h 0 (omega arith)))
+    ∙ ap (λ l. get_or numbers at (pos 0) ∷ l) (zeros-each numbers (suc at) n (λ i b. let next : suc at + i ≡ at + suc i = omega arith in ap (λ p. get_or numbers p (pos 0)) next ∙ h (suc i) (omega (arith, b))))
+
+-- an array of bytes, with zeros behind its elements
+module _ (structs : List Carrier) (x y : List (List Cell)) (numbers : List ℤ) where
+  abbrev array : ℕ → ℕ → ℕ → List ℤ
+  array n m at = carry_items structs x y numbers (Num U8) (Num U8) (pos 0 ∷ []) 1 n m at
+
+  no-elements : (m at : ℕ) → array 0 m at ≡ replicate m (pos 0)
+  no-elements zero at = refl
+  no-elements (suc m) at = ap (λ l. pos 0 ∷ l) (no-elements m at)
+
+  array-run : (n m at : ℕ) → ((i : ℕ) → n ≤ i → i < m → get_or numbers (at + i) (pos 0) ≡ pos 0) → array n m at ≡ run numbers at m
+  array-run n zero at h = refl
+  array-run zero (suc m) at h = no-elements (suc m) at ∙ zeros-each numbers at (suc m) (λ i b. h i (omega arith) b)
+  array-run (suc n) (suc m) at h =
+      let next : at + 1 ≡ suc at = omega arith in
+      ap (λ l. get_or numbers at (pos 0) ∷ l) (ap (λ p. array n m p) next ∙ array-run n m (suc at) (λ i l b. let more : suc at + i ≡ at + suc i = omega arith in ap (λ p. get_or numbers p (pos 0)) more ∙ h (suc i) (omega (arith, l)) (omega (arith, b))))
+
+  abbrev fifos : ℕ → ℕ → List ℤ
+  fifos n m =
+      (get_or numbers 13 (pos 0) ∷ []) ++ (array n 16 14 ++ ((get_or numbers 30 (pos 0) ∷ []) ++ (array m 16 31 ++ [])))
+
+  fifo-run : (n m : ℕ) → ((i : ℕ) → n ≤ i → i < 16 → get_or numbers (14 + i) (pos 0) ≡ pos 0) → ((i : ℕ) → m ≤ i → i < 16 → get_or numbers (31 + i) (pos 0) ≡ pos 0) → fifos n m ≡ run numbers 13 34
+  fifo-run n m rx tx =
+      ap (λ l. (get_or numbers 13 (pos 0) ∷ []) ++ (l ++ ((get_or numbers 30 (pos 0) ∷ []) ++ (array m 16 31 ++ [])))) (array-run n 16 14 rx)
+      ∙ ap (λ l. (get_or numbers 13 (pos 0) ∷ []) ++ (run numbers 14 16 ++ ((get_or numbers 30 (pos 0) ∷ []) ++ (l ++ [])))) (array-run m 16 31 tx)
+
+-- what each subsection of the newest set has of an image
+abbrev part : Set → Device → List ℤ → Sub → List ℤ
+part old d numbers t = carried_sub old set_4 d (image_of old d numbers) t
+
+thr-1 : (numbers : List ℤ) (needed : Bool) → needs_sign (get_or numbers 11 (pos 0)) ≡ needed → (needed ≡ false → get_or numbers 11 (pos 0) ≡ negsuc 0) → part set_1 serial_at_1 numbers thr_ipending ≡ (get_or numbers 11 (pos 0) ∷ [])
+unfolding first
+thr-1 numbers true e off = rw e refl
+thr-1 numbers false e off = rw (e, off refl) refl
+
+thr-2 : (numbers : List ℤ) (needed : Bool) → needs_sign (get_or numbers 12 (pos 0)) ≡ needed → (needed ≡ false → get_or numbers 12 (pos 0) ≡ negsuc 0) → part set_2 serial_at_2 numbers thr_ipending ≡ (get_or numbers 12 (pos 0) ∷ [])
+unfolding first
+thr-2 numbers true e off = rw e refl
+thr-2 numbers false e off = rw (e, off refl) refl
+
+thr-3 : (numbers : List ℤ) (needed : Bool) → needs_sign (get_or numbers 12 (pos 0)) ≡ needed → (needed ≡ false → get_or numbers 12 (pos 0) ≡ negsuc 0) → part set_3 serial_at_3 numbers thr_ipending ≡ (get_or numbers 12 (pos 0) ∷ [])
+unfolding first
+thr-3 numbers true e off = rw e refl
+thr-3 numbers false e off = rw (e, off refl) refl
+
+thr-4 : (numbers : List ℤ) (needed : Bool) → needs_sign (get_or numbers 12 (pos 0)) ≡ needed → (needed ≡ false → get_or numbers 12 (pos 0) ≡ negsuc 0) → part set_4 serial_at_4 numbers thr_ipending ≡ (get_or numbers 12 (pos 0) ∷ [])
+unfolding first
+thr-4 numbers true e off = rw e refl
+thr-4 numbers false e off = rw (e, off refl) refl
+
+fifo-2 : (numbers : List ℤ) (h : HasFifo numbers) (needed : Bool) → needs_fifo numbers ≡ needed → (needed ≡ false → take 34 (drop 13 numbers) ≡ replicate 34 (pos 0)) → part set_2 serial_at_2 numbers fifo ≡ run numbers 13 34
+unfolding first
+fifo-2 numbers h true e off =
+    rw e (fifo-run (carriers (struct_cells set_2) (struct_cells set_4) set_2.structs set_4.structs 1) (struct_cells set_2) (struct_cells set_4) numbers (rx_elements numbers h) (tx_elements numbers h) (rx-zeros numbers h) (tx-zeros numbers h))
+fifo-2 numbers h false e off = rw e (zeros-run numbers 13 34 (off refl))
+
+fifo-3 : (numbers : List ℤ) (h : HasFifo numbers) (needed : Bool) → needs_fifo numbers ≡ needed → (needed ≡ false → take 34 (drop 13 numbers) ≡ replicate 34 (pos 0)) → part set_3 serial_at_3 numbers fifo ≡ run numbers 13 34
+unfolding first
+fifo-3 numbers h true e off =
+    rw e (fifo-run (carriers (struct_cells set_3) (struct_cells set_4) set_3.structs set_4.structs 1) (struct_cells set_3) (struct_cells set_4) numbers (rx_elements numbers h) (tx_elements numbers h) (rx-zeros numbers h) (tx-zeros numbers h))
+fifo-3 numbers h false e off = rw e (zeros-run numbers 13 34 (off refl))
+
+fifo-4 : (numbers : List ℤ) (h : HasFifo numbers) (needed : Bool) → needs_fifo numbers ≡ needed → (needed ≡ false → take 34 (drop 13 numbers) ≡ replicate 34 (pos 0)) → part set_4 serial_at_4 numbers fifo ≡ run numbers 13 34
+unfolding first
+fifo-4 numbers h true e off =
+    rw e (fifo-run (carriers (struct_cells set_4) (struct_cells set_4) set_4.structs set_4.structs 1) (struct_cells set_4) (struct_cells set_4) numbers (rx_elements numbers h) (tx_elements numbers h) (rx-zeros numbers h) (tx-zeros numbers h))
+fifo-4 numbers h false e off = rw e (zeros-run numbers 13 34 (off refl))
+
+timeout-3 : (numbers : List ℤ) (needed : Bool) → needs_timer (get_or numbers 47 (pos 0)) ≡ needed → (needed ≡ false → get_or numbers 47 (pos 0) ≡ pos never) → part set_3 serial_at_3 numbers timeout ≡ (get_or numbers 47 (pos 0) ∷ [])
+unfolding first
+timeout-3 numbers true e off = rw e refl
+timeout-3 numbers false e off = rw (e, off refl) refl
+
+timeout-4 : (numbers : List ℤ) (needed : Bool) → needs_timer (get_or numbers 47 (pos 0)) ≡ needed → (needed ≡ false → get_or numbers 47 (pos 0) ≡ pos never) → part set_4 serial_at_4 numbers timeout ≡ (get_or numbers 47 (pos 0) ∷ [])
+unfolding first
+timeout-4 numbers true e off = rw e refl
+timeout-4 numbers false e off = rw (e, off refl) refl
+
+ring-4 : (numbers : List ℤ) (needed : Bool) → needs_ring numbers ≡ needed → (needed ≡ false → take 36 (drop 48 numbers) ≡ replicate 36 (pos 0)) → part set_4 serial_at_4 numbers ring ≡ run numbers 48 36
+unfolding first
+ring-4 numbers true e off = rw e refl
+ring-4 numbers false e off = rw e (zeros-run numbers 48 36 (off refl))
+
+-- the fields, and then the parts
+abbrev with_parts : List ℤ → List ℤ → List ℤ → List ℤ → List ℤ → List ℤ
+with_parts own a b c d = own ++ (a ++ (b ++ (c ++ (d ++ []))))
+
+same-parts : (own a b c d a' b' c' d' : List ℤ) → a ≡ a' → b ≡ b' → c ≡ c' → d ≡ d' → with_parts own a b c d ≡ with_parts own a' b' c' d'
+same-parts own a b c d a' b' c' d' p q r s =
+    ap (λ l. with_parts own l b c d) p ∙ ap (λ l. with_parts own a' l c d) q ∙ ap (λ l. with_parts own a' b' l d) r ∙ ap (λ l. with_parts own a' b' c' l) s
+
+serial-1 : (numbers : List ℤ) → AreSaved 1 numbers → carried_numbers set_1 serial_at_1 serial_at_4 numbers ≡ serial_carried 1 numbers
+unfolding first serial_carried
+serial-1 numbers are =
+    same-parts (run numbers 0 11 ++ pos 0 ∷ []) (part set_1 serial_at_1 numbers thr_ipending) (replicate 34 (pos 0)) (pos never ∷ []) (replicate 36 (pos 0)) _ _ _ _
+    (thr-1 numbers _ refl (no-sign _ (are.of_kinds.in_range 11 (omega arith)))) refl refl refl
+
+serial-2 : (numbers : List ℤ) → AreSaved 2 numbers → carried_numbers set_2 serial_at_2 serial_at_4 numbers ≡ serial_carried 2 numbers
+unfolding first serial_carried
+serial-2 numbers are =
+    let h = has-fifo-2 numbers are in
+    same-parts (run numbers 0 12) (part set_2 serial_at_2 numbers thr_ipending) (part set_2 serial_at_2 numbers fifo) (pos never ∷ []) (replicate 36 (pos 0)) _ _ _ _
+    (thr-2 numbers _ refl (no-sign _ (are.of_kinds.in_range 12 (omega arith)))) (fifo-2 numbers h _ refl (no-fifo numbers h)) refl refl
+
+serial-3 : (numbers : List ℤ) → AreSaved 3 numbers → carried_numbers set_3 serial_at_3 serial_at_4 numbers ≡ serial_carried 3 numbers
+unfolding first serial_carried
+serial-3 numbers are =
+    let h = has-fifo-3 numbers are in
+    same-parts (run numbers 0 12) (part set_3 serial_at_3 numbers thr_ipending) (part set_3 serial_at_3 numbers fifo) (part set_3 serial_at_3 numbers timeout) (replicate 36 (pos 0)) _ _ _ _
+    (thr-3 numbers _ refl (no-sign _ (are.of_kinds.in_range 12 (omega arith)))) (fifo-3 numbers h _ refl (no-fifo numbers h)) (timeout-3 numbers _ refl (no-timer _ (are.of_kinds.in_range 47 (omega arith)))) refl
+
+serial-4 : (numbers : List ℤ) → AreSaved 4 numbers → carried_numbers set_4 serial_at_4 serial_at_4 numbers ≡ serial_carried 4 numbers
+unfolding first serial_carried
+serial-4 numbers are =
+    let h = has-fifo-4 numbers are in
+    same-parts (run numbers 0 12) (part set_4 serial_at_4 numbers thr_ipending) (part set_4 serial_at_4 numbers fifo) (part set_4 serial_at_4 numbers timeout) (part set_4 serial_at_4 numbers ring) _ _ _ _
+    (thr-4 numbers _ refl (no-sign _ (are.of_kinds.in_range 12 (omega arith)))) (fifo-4 numbers h _ refl (no-fifo numbers h)) (timeout-4 numbers _ refl (no-timer _ (are.of_kinds.in_range 47 (omega arith)))) (ring-4 numbers _ refl (no-ring numbers are))
+
+pub serial_is_carried : SerialIsCarried
+serial_is_carried = record { first = serial-1; second = serial-2; third = serial-3; fourth = serial-4 }

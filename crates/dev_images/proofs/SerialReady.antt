@@ -1,0 +1,290 @@
+-- The image of the serial port is ready.
+use Rattle.std.proofs.Common.{◌≡◌, ℕ, ◌+◌, ◌-◌, ◌%◌, ◌^◌, ◌<◌, ◌≤◌, ◌==◌, Bool, true, false, not, ◌||◌, List, [], ◌∷◌, ◌++◌, get_or, take, drop, replicate, ℤ, pos, negsuc, refl, ap, arith, min}
+use Rattle.std.proofs.lemmas.Bool.{eqb-true}
+use Rattle.std.proofs.lemmas.Bool.Decides.{nat_tests}
+use Rattle.std.proofs.lemmas.Int.{ints}
+use Rattle.std.proofs.lemmas.Nat.{and_le_l}
+use Rattle.std.specs.Prelude.{bit_and, nat_le}
+use Rattle.vms_kinds.specs.Codes.{InRange, residue}
+use Rattle.vms_kinds.specs.declared.Kind.TheVariants.{U8, I8, Timer}
+use Rattle.vms_spec.specs.Layout.{first, device_cells, times, Cell, Slot, Number, Rule}
+use Rattle.vms_spec.specs.Images.{RulesHold}
+use Rattle.vms_spec.specs.Rules.{counts_well}
+use Rattle.vms_laws.proofs.ReadyLaws.{counted_well}
+use Rattle.std.proofs.lemmas.Grind.{and_numeral}
+use Rattle.dev_serial.specs.Cells.{IsArray}
+use Rattle.vms_spec.specs.Shipped.{set_1, set_2, set_3, set_4, never, thr_ipending, fifo, timeout, ring}
+use Rattle.dev_base.specs.Cells.{nat_of}
+use Rattle.dev_serial.specs.Laws.{AreSaved}
+use Rattle.dev_images.specs.Laws.{ReadyOf, SerialIsReady, serial_at_1, serial_at_2, serial_at_3, serial_at_4}
+use Rattle.dev_images.proofs.Parts.{IsFineSub, ready-parts, zeros-kept, element, array-kept, rules-times}
+use Rattle.dev_images.proofs.ReadyOf.{are_kept, are_counted, counts-none, counts-by, kept-left, kept-right, kept-both, rules-both}
+
+-- whether a signed byte isn't -1, and whether a timer isn't never
+abbrev pub needs_sign : ℤ → Bool
+needs_sign z = not (bit_and (residue 1 z) 255 == 255)
+
+abbrev pub needs_timer : ℤ → Bool
+needs_timer z = not (bit_and (residue 8 z) never == never)
+
+not-false : (b : Bool) → not b ≡ false → b ≡ true
+not-false true e = refl
+not-false false e = cc
+
+pub no-sign : (z : ℤ) → InRange I8 z → needs_sign z ≡ false → z ≡ negsuc 0
+no-sign (pos n) r e =
+    let all : bit_and (n % 2 ^ 8) 255 ≡ 255 = eqb-true _ 255 (not-false _ e) in
+    let most = r.1 in
+    let less = and_le_l (n % 2 ^ 8) 255 in
+    absurd (omega (arith, ints, all, most, less))
+no-sign (negsuc n) r e =
+    let all : bit_and (2 ^ 8 - 1 - n % 2 ^ 8) 255 ≡ 255 = eqb-true _ 255 (not-false _ e) in
+    let least = r.0 in
+    let less = and_le_l (2 ^ 8 - 1 - n % 2 ^ 8) 255 in
+    let none : n ≡ 0 = omega (arith, ints, all, least, less) in
+    ap negsuc none
+
+pub no-timer : (z : ℤ) → InRange Timer z → needs_timer z ≡ false → z ≡ pos never
+no-timer (pos n) r e =
+    let all : bit_and (n % 2 ^ 64) never ≡ never = eqb-true _ never (not-false _ e) in
+    let most = r.1 in
+    let less = and_le_l (n % 2 ^ 64) never in
+    let is : n ≡ never = omega (arith, ints, all, most, less) in
+    ap pos is
+no-timer (negsuc n) r e = absurd (let least = r.0 in omega (arith, ints, least))
+
+-- the latch's cell
+thr-1 : (numbers : List ℤ) (needed : Bool) → needs_sign (get_or numbers 11 (pos 0)) ≡ needed → (needed ≡ false → get_or numbers 11 (pos 0) ≡ negsuc 0) → IsFineSub set_1 serial_at_1 numbers thr_ipending 0 11
+unfolding first
+thr-1 numbers true e off = record { kept = rw e refl; rules = rw e (refl, tt) }
+thr-1 numbers false e off = record { kept = rw (e, off refl) refl; rules = rw e tt }
+
+-- the latch's cell
+thr-2 : (numbers : List ℤ) (needed : Bool) → needs_sign (get_or numbers 12 (pos 0)) ≡ needed → (needed ≡ false → get_or numbers 12 (pos 0) ≡ negsuc 0) → IsFineSub set_2 serial_at_2 numbers thr_ipending 0 12
+unfolding first
+thr-2 numbers true e off = record { kept = rw e refl; rules = rw e (refl, tt) }
+thr-2 numbers false e off = record { kept = rw (e, off refl) refl; rules = rw e tt }
+
+-- the latch's cell
+thr-3 : (numbers : List ℤ) (needed : Bool) → needs_sign (get_or numbers 12 (pos 0)) ≡ needed → (needed ≡ false → get_or numbers 12 (pos 0) ≡ negsuc 0) → IsFineSub set_3 serial_at_3 numbers thr_ipending 0 12
+unfolding first
+thr-3 numbers true e off = record { kept = rw e refl; rules = rw e (refl, tt) }
+thr-3 numbers false e off = record { kept = rw (e, off refl) refl; rules = rw e tt }
+
+-- the latch's cell
+thr-4 : (numbers : List ℤ) (needed : Bool) → needs_sign (get_or numbers 12 (pos 0)) ≡ needed → (needed ≡ false → get_or numbers 12 (pos 0) ≡ negsuc 0) → IsFineSub set_4 serial_at_4 numbers thr_ipending 0 12
+unfolding first
+thr-4 numbers true e off = record { kept = rw e refl; rules = rw e (refl, tt) }
+thr-4 numbers false e off = record { kept = rw (e, off refl) refl; rules = rw e tt }
+
+timeout-3 : (numbers : List ℤ) (needed : Bool) → needs_timer (get_or numbers 47 (pos 0)) ≡ needed → (needed ≡ false → get_or numbers 47 (pos 0) ≡ pos never) → IsFineSub set_3 serial_at_3 numbers timeout 2 47
+unfolding first
+timeout-3 numbers true e off = record { kept = rw e refl; rules = rw e (refl, tt) }
+timeout-3 numbers false e off = record { kept = rw (e, off refl) refl; rules = rw e tt }
+
+timeout-4 : (numbers : List ℤ) (needed : Bool) → needs_timer (get_or numbers 47 (pos 0)) ≡ needed → (needed ≡ false → get_or numbers 47 (pos 0) ≡ pos never) → IsFineSub set_4 serial_at_4 numbers timeout 2 47
+unfolding first
+timeout-4 numbers true e off = record { kept = rw e refl; rules = rw e (refl, tt) }
+timeout-4 numbers false e off = record { kept = rw (e, off refl) refl; rules = rw e tt }
+
+-- whether a count isn't 0
+abbrev needs_count : ℤ → Bool
+needs_count z = nat_le 1 (bit_and (residue 1 z) 255)
+
+no-count : (z : ℤ) → InRange U8 z → needs_count z ≡ false → nat_of z ≡ 0
+no-count (pos n) r e =
+    let mask = and_numeral (n % 2 ^ 8) 254 refl in
+    let most = r.1 in
+    let low : bit_and (n % 2 ^ 8) 255 < 1 = grind (arith, nat_tests) in
+    omega (arith, ints, mask, most, low)
+no-count (negsuc n) r e = absurd (let least = r.0 in omega (arith, ints, least))
+
+left-false : (a b : Bool) → (a || b) ≡ false → a ≡ false
+left-false true b e = cc
+left-false false b e = refl
+
+right-false : (a b : Bool) → (a || b) ≡ false → b ≡ false
+right-false true b e = cc
+right-false false b e = e
+
+-- how many elements of an array stand in the bytes
+elements : (z : ℤ) → InRange U8 z → nat_of z ≤ 16 → min (residue 1 z) 16 ≡ nat_of z
+elements (pos n) r l = let most = r.1 in omega (arith, ints, most, l)
+elements (negsuc n) r l = absurd (let least = r.0 in omega (arith, ints, least))
+
+counted-well : (z : ℤ) → InRange U8 z → nat_of z ≤ 16 → counts_well (16 ∷ []) z ≡ true
+counted-well (pos n) r l = counted_well (16 ∷ []) (pos n) (omega (arith, ints, l), tt)
+counted-well (negsuc n) r l = absurd (let least = r.0 in omega (arith, ints, least))
+
+-- the FIFOs as counted arrays
+abbrev byte : Cell
+byte = record { kind = U8; capacities = []; default = pos 0 }
+
+abbrev count : Cell
+count = record { kind = U8; capacities = 16 ∷ []; default = pos 0 }
+
+abbrev second_slots : ℕ → List Slot
+second_slots m = (Number 30 U8 (16 ∷ []) ∷ []) ++ (times m (element byte) 31 1 ++ [])
+
+abbrev inner_slots : ℕ → ℕ → List Slot
+inner_slots n m = (Number 13 U8 (16 ∷ []) ∷ []) ++ (times n (element byte) 14 1 ++ second_slots m)
+
+abbrev fifo_slots : ℕ → ℕ → List Slot
+fifo_slots n m = inner_slots n m ++ Rule true ∷ []
+
+abbrev fifo_cells : List Cell
+fifo_cells = (count ∷ []) ++ (replicate 16 byte ++ ((count ∷ []) ++ (replicate 16 byte ++ [])))
+
+module _ (numbers : List ℤ) (n m : ℕ) (rx : (i : ℕ) → n ≤ i → i < 16 → get_or numbers (14 + i) (pos 0) ≡ pos 0) (tx : (i : ℕ) → m ≤ i → i < 16 → get_or numbers (31 + i) (pos 0) ≡ pos 0) where
+  lift : (from : ℕ) (cells : List Cell) → are_kept (inner_slots n m) numbers from cells ≡ true → are_kept (fifo_slots n m) numbers from cells ≡ true
+  lift from cells e = kept-left (inner_slots n m) (Rule true ∷ []) numbers from cells e
+
+  lift-second : (from : ℕ) (cells : List Cell) → are_kept (second_slots m) numbers from cells ≡ true → are_kept (fifo_slots n m) numbers from cells ≡ true
+  lift-second from cells e =
+      lift from cells (kept-right (Number 13 U8 (16 ∷ []) ∷ []) (times n (element byte) 14 1 ++ second_slots m) numbers from cells (kept-right (times n (element byte) 14 1) (second_slots m) numbers from cells e))
+
+  fifo-kept : are_kept (fifo_slots n m) numbers 13 fifo_cells ≡ true
+  fifo-kept =
+      kept-both (fifo_slots n m) numbers 13 14 (count ∷ []) (replicate 16 byte ++ ((count ∷ []) ++ (replicate 16 byte ++ []))) refl refl
+      (kept-both (fifo_slots n m) numbers 14 30 (replicate 16 byte) ((count ∷ []) ++ (replicate 16 byte ++ [])) refl
+      (lift 14 (replicate 16 byte) (kept-right (Number 13 U8 (16 ∷ []) ∷ []) (times n (element byte) 14 1 ++ second_slots m) numbers 14 (replicate 16 byte) (kept-left (times n (element byte) 14 1) (second_slots m) numbers 14 (replicate 16 byte) (array-kept byte numbers n 16 14 refl rx))))
+      (kept-both (fifo_slots n m) numbers 30 31 (count ∷ []) (replicate 16 byte ++ []) refl (lift-second 30 (count ∷ []) refl)
+      (kept-both (fifo_slots n m) numbers 31 47 (replicate 16 byte) [] refl
+      (lift-second 31 (replicate 16 byte) (kept-right (Number 30 U8 (16 ∷ []) ∷ []) (times m (element byte) 31 1 ++ []) numbers 31 (replicate 16 byte) (kept-left (times m (element byte) 31 1) [] numbers 31 (replicate 16 byte) (array-kept byte numbers m 16 31 refl tx)))) refl)))
+
+  fifo-rules : RulesHold (fifo_slots n m)
+  fifo-rules =
+      rules-both (inner_slots n m) (Rule true ∷ []) (rules-both (times n (element byte) 14 1) (second_slots m) (rules-times byte n 14) (rules-both (times m (element byte) 31 1) [] (rules-times byte m 31) tt)) (refl, tt)
+
+-- what a set from 2 on has of the FIFOs
+pub record HasFifo (numbers : List ℤ) : Type 0 where
+  pub rx_range : InRange U8 (get_or numbers 13 (pos 0))
+  pub tx_range : InRange U8 (get_or numbers 30 (pos 0))
+  pub rx : IsArray numbers 13
+  pub tx : IsArray numbers 30
+  pub none : nat_of (get_or numbers 13 (pos 0)) ≡ 0 → nat_of (get_or numbers 30 (pos 0)) ≡ 0 → take 34 (drop 13 numbers) ≡ replicate 34 (pos 0)
+
+abbrev pub needs_fifo : List ℤ → Bool
+needs_fifo numbers = needs_count (get_or numbers 13 (pos 0)) || needs_count (get_or numbers 30 (pos 0))
+
+module _ (numbers : List ℤ) (h : HasFifo numbers) where
+  abbrev pub rx_elements : ℕ
+  rx_elements = min (residue 1 (get_or numbers 13 (pos 0))) 16
+
+  abbrev pub tx_elements : ℕ
+  tx_elements = min (residue 1 (get_or numbers 30 (pos 0))) 16
+
+  pub rx-zeros : (i : ℕ) → rx_elements ≤ i → i < 16 → get_or numbers (14 + i) (pos 0) ≡ pos 0
+  rx-zeros i l b = let is = elements (get_or numbers 13 (pos 0)) h.rx_range h.rx.fits in h.rx.zeros i (omega (arith, is, l)) b
+
+  pub tx-zeros : (i : ℕ) → tx_elements ≤ i → i < 16 → get_or numbers (31 + i) (pos 0) ≡ pos 0
+  tx-zeros i l b = let is = elements (get_or numbers 30 (pos 0)) h.tx_range h.tx.fits in h.tx.zeros i (omega (arith, is, l)) b
+
+  pub no-fifo : needs_fifo numbers ≡ false → take 34 (drop 13 numbers) ≡ replicate 34 (pos 0)
+  no-fifo e =
+      h.none (no-count _ h.rx_range (left-false (needs_count (get_or numbers 13 (pos 0))) _ e)) (no-count _ h.tx_range (right-false (needs_count (get_or numbers 13 (pos 0))) _ e))
+
+  fifo-2 : (needed : Bool) → needs_fifo numbers ≡ needed → (needed ≡ false → take 34 (drop 13 numbers) ≡ replicate 34 (pos 0)) → IsFineSub set_2 serial_at_2 numbers fifo 1 13
+  unfolding first
+  fifo-2 true e off = record { kept = rw e (fifo-kept numbers rx_elements tx_elements rx-zeros tx-zeros); rules = rw e (fifo-rules numbers rx_elements tx_elements rx-zeros tx-zeros) }
+  fifo-2 false e off = record { kept = rw e (zeros-kept [] numbers 13 fifo_cells refl (off refl)); rules = rw e tt }
+
+  fifo-3 : (needed : Bool) → needs_fifo numbers ≡ needed → (needed ≡ false → take 34 (drop 13 numbers) ≡ replicate 34 (pos 0)) → IsFineSub set_3 serial_at_3 numbers fifo 1 13
+  unfolding first
+  fifo-3 true e off = record { kept = rw e (fifo-kept numbers rx_elements tx_elements rx-zeros tx-zeros); rules = rw e (fifo-rules numbers rx_elements tx_elements rx-zeros tx-zeros) }
+  fifo-3 false e off = record { kept = rw e (zeros-kept [] numbers 13 fifo_cells refl (off refl)); rules = rw e tt }
+
+  fifo-4 : (needed : Bool) → needs_fifo numbers ≡ needed → (needed ≡ false → take 34 (drop 13 numbers) ≡ replicate 34 (pos 0)) → IsFineSub set_4 serial_at_4 numbers fifo 1 13
+  unfolding first
+  fifo-4 true e off = record { kept = rw e (fifo-kept numbers rx_elements tx_elements rx-zeros tx-zeros); rules = rw e (fifo-rules numbers rx_elements tx_elements rx-zeros tx-zeros) }
+  fifo-4 false e off = record { kept = rw e (zeros-kept [] numbers 13 fifo_cells refl (off refl)); rules = rw e tt }
+
+serial-1 : (numbers : List ℤ) → AreSaved 1 numbers → ReadyOf set_1 serial_at_1 numbers
+unfolding first
+serial-1 numbers are =
+    ready-parts set_1 serial_at_1 numbers (omega arith) (omega arith, tt) are.of_kinds (counts-none (device_cells set_1 serial_at_1) numbers refl) refl (refl, tt)
+    (thr-1 numbers _ refl (no-sign _ (are.of_kinds.in_range 11 (omega arith))), tt)
+
+-- the FIFOs as rings
+abbrev pub needs_ring : List ℤ → Bool
+needs_ring numbers = needs_count (get_or numbers 65 (pos 0)) || needs_count (get_or numbers 83 (pos 0))
+
+ring-4 : (numbers : List ℤ) (needed : Bool) → needs_ring numbers ≡ needed → (needed ≡ false → take 36 (drop 48 numbers) ≡ replicate 36 (pos 0)) → IsFineSub set_4 serial_at_4 numbers ring 3 48
+unfolding first
+ring-4 numbers true e off = record { kept = rw e refl; rules = rw e (refl, tt) }
+ring-4 numbers false e off = record { kept = rw e (zeros-kept [] numbers 48 (replicate 36 byte) refl (off refl)); rules = rw e tt }
+
+-- the counts of a set with FIFOs are within their capacities
+well-rx : (numbers : List ℤ) (h : HasFifo numbers) → counts_well (16 ∷ []) (get_or numbers 13 (pos 0)) ≡ true
+well-rx numbers h = counted-well (get_or numbers 13 (pos 0)) h.rx_range h.rx.fits
+
+well-tx : (numbers : List ℤ) (h : HasFifo numbers) → counts_well (16 ∷ []) (get_or numbers 30 (pos 0)) ≡ true
+well-tx numbers h = counted-well (get_or numbers 30 (pos 0)) h.tx_range h.tx.fits
+
+pub has-fifo-2 : (numbers : List ℤ) → AreSaved 2 numbers → HasFifo numbers
+has-fifo-2 numbers are = record {
+  rx_range = are.of_kinds.in_range 13 (omega arith);
+  tx_range = are.of_kinds.in_range 30 (omega arith);
+  rx = are.rx (omega arith);
+  tx = are.tx (omega arith);
+  none = are.no_fifo (omega arith);
+}
+
+counted-2 : (numbers : List ℤ) → HasFifo numbers → are_counted numbers 0 (device_cells set_2 serial_at_2) ≡ true
+unfolding first
+counted-2 numbers h = rw (well-rx numbers h, well-tx numbers h) refl
+
+pub has-fifo-3 : (numbers : List ℤ) → AreSaved 3 numbers → HasFifo numbers
+has-fifo-3 numbers are = record {
+  rx_range = are.of_kinds.in_range 13 (omega arith);
+  tx_range = are.of_kinds.in_range 30 (omega arith);
+  rx = are.rx (omega arith);
+  tx = are.tx (omega arith);
+  none = are.no_fifo (omega arith);
+}
+
+counted-3 : (numbers : List ℤ) → HasFifo numbers → are_counted numbers 0 (device_cells set_3 serial_at_3) ≡ true
+unfolding first
+counted-3 numbers h = rw (well-rx numbers h, well-tx numbers h) refl
+
+pub has-fifo-4 : (numbers : List ℤ) → AreSaved 4 numbers → HasFifo numbers
+has-fifo-4 numbers are = record {
+  rx_range = are.of_kinds.in_range 13 (omega arith);
+  tx_range = are.of_kinds.in_range 30 (omega arith);
+  rx = are.rx (omega arith);
+  tx = are.tx (omega arith);
+  none = are.no_fifo (omega arith);
+}
+
+counted-4 : (numbers : List ℤ) → HasFifo numbers → are_counted numbers 0 (device_cells set_4 serial_at_4) ≡ true
+unfolding first
+counted-4 numbers h = rw (well-rx numbers h, well-tx numbers h) refl
+
+serial-2 : (numbers : List ℤ) → AreSaved 2 numbers → ReadyOf set_2 serial_at_2 numbers
+unfolding first
+serial-2 numbers are =
+    let h = has-fifo-2 numbers are in
+    ready-parts set_2 serial_at_2 numbers (omega arith) (omega arith, (omega arith, tt)) are.of_kinds (counts-by (device_cells set_2 serial_at_2) numbers (counted-2 numbers h)) refl (refl, tt)
+    (thr-2 numbers _ refl (no-sign _ (are.of_kinds.in_range 12 (omega arith))), (fifo-2 numbers h _ refl (no-fifo numbers h), tt))
+
+serial-3 : (numbers : List ℤ) → AreSaved 3 numbers → ReadyOf set_3 serial_at_3 numbers
+unfolding first
+serial-3 numbers are =
+    let h = has-fifo-3 numbers are in
+    ready-parts set_3 serial_at_3 numbers (omega arith) (omega arith, (omega arith, (omega arith, tt))) are.of_kinds (counts-by (device_cells set_3 serial_at_3) numbers (counted-3 numbers h)) refl (refl, tt)
+    (thr-3 numbers _ refl (no-sign _ (are.of_kinds.in_range 12 (omega arith))), (fifo-3 numbers h _ refl (no-fifo numbers h), (timeout-3 numbers _ refl (no-timer _ (are.of_kinds.in_range 47 (omega arith))), tt)))
+
+pub no-ring : (numbers : List ℤ) → AreSaved 4 numbers → needs_ring numbers ≡ false → take 36 (drop 48 numbers) ≡ replicate 36 (pos 0)
+no-ring numbers are e =
+    are.no_ring (omega arith) (no-count _ (are.of_kinds.in_range 65 (omega arith)) (left-false (needs_count (get_or numbers 65 (pos 0))) _ e))
+    (no-count _ (are.of_kinds.in_range 83 (omega arith)) (right-false (needs_count (get_or numbers 65 (pos 0))) _ e))
+
+serial-4 : (numbers : List ℤ) → AreSaved 4 numbers → ReadyOf set_4 serial_at_4 numbers
+unfolding first
+serial-4 numbers are =
+    let h = has-fifo-4 numbers are in
+    ready-parts set_4 serial_at_4 numbers (omega arith) (omega arith, (omega arith, (omega arith, (omega arith, tt)))) are.of_kinds (counts-by (device_cells set_4 serial_at_4) numbers (counted-4 numbers h)) refl (refl, tt)
+    (thr-4 numbers _ refl (no-sign _ (are.of_kinds.in_range 12 (omega arith))), (fifo-4 numbers h _ refl (no-fifo numbers h), (timeout-4 numbers _ refl (no-timer _ (are.of_kinds.in_range 47 (omega arith))), (ring-4 numbers _ refl (no-ring numbers are), tt))))
+
+pub serial_is_ready : SerialIsReady
+serial_is_ready = record { first = serial-1; second = serial-2; third = serial-3; fourth = serial-4 }
