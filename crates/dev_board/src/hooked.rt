@@ -76,7 +76,8 @@ pub(crate) fn load_pit(level: u8, moment: u64, cells: &DevCells) -> Result<Pit, 
 /// The serial port's cells under a set.
 pub(crate) fn save_serial(level: u8, set: u8, moment: u64, serial: &Serial) -> DevCells
     requires { CanSaveSerial record { level = level; set = set; moment = moment } serial.now }
-    ensures { result.items ≡ cells_at record { level = level; set = set; moment = moment } serial.now }
+    ensures { result.items ≡
+        cells_at record { level = level; set = set; moment = moment } serial.now }
 {
     save_by(
         |pass: &Pass, serial: &Serial| serial.cells(pass),
