@@ -1,4 +1,5 @@
 mod Rows
+mod ReadingRows
 pub mod Tables
 pub mod CellsOf
 pub mod SlotsOf
