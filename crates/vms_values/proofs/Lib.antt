@@ -4,3 +4,5 @@ pub mod PrintLemmas
 pub mod ReadLemmas
 pub mod TextLemmas
 pub mod Writing
+pub mod Printers
+pub mod Runs

@@ -44,6 +44,9 @@ pub record Owes (old new : Option (List ℕ)) (whole left : List ℕ) : Type 0 w
 pub owes_all : (old : Option (List ℕ)) (whole : List ℕ) → Owes old old whole whole
 owes_all old whole = record { done = []; written = Appends-nil old; split = refl }
 
+pub owes_from : (old : Option (List ℕ)) (whole left : List ℕ) → whole ≡ left → Owes old old whole left
+owes_from old whole left e = record { done = []; written = Appends-nil old; split = sym e }
+
 -- the next part is written
 pub owes_less : (old mid new : Option (List ℕ)) (whole left part rest : List ℕ) → Owes old mid whole left → left ≡ part ++ rest → Appends mid new part → Owes old new whole rest
 owes_less old mid new whole left part rest o e p = record {

@@ -1,11 +1,15 @@
 -- What is printed, and of which images.
-use Rattle.std.specs.Prelude.{◌≡◌, ℕ, ◌<◌, ◌^◌, List, [], ◌∷◌, ◌++◌, length, get_or, Option, ℤ, pos, codes}
+use Rattle.std.specs.Prelude.{◌≡◌, ℕ, ◌+◌, ◌*◌, ◌<◌, ◌≤◌, ◌^◌, true, map, List, [], ◌∷◌, ◌++◌, length, get_or, Option, ℤ, pos, codes}
 use Rattle.std.specs.Option.{option_map}
 use Rattle.std.specs.Fmt.{decimal, signed_decimal}
-use Rattle.vms_spec.specs.Sets.{Device, Set}
-use Rattle.vms_spec.specs.Layout.{device_cells}
+use Rattle.vms_spec.specs.declared.Count.{Count}
+use Rattle.vms_spec.specs.declared.Count.TheVariants.{One}
+use Rattle.vms_spec.specs.Sets.{Field, Device, Set}
+use Rattle.vms_spec.specs.Layout.{device_cells, item_size}
+use Rattle.vms_spec.specs.Rules.{uses_below}
+use Rattle.vms_walk.specs.Steps.{size_in}
 use Rattle.vms_spec.specs.Images.{Image}
-use Rattle.vms_spec.specs.Values.{line_end}
+use Rattle.vms_spec.specs.Values.{line_end, Printer, item_lines, element_lines}
 
 -- the name of the machine of a number
 abbrev pub machine_of : Set → Option ℕ → Option (List ℕ)
@@ -23,6 +27,20 @@ AreOf set [] [] = Unit {0}
 AreOf set [] (image ∷ images) = ⊥
 AreOf set (d ∷ devices) [] = ⊥
 AreOf set (d ∷ devices) (image ∷ images) = IsOf set d image × AreOf set devices images
+
+-- so many elements of a field from a cell on are among the numbers; one is one
+pub record IsRun (set : Set) (f : Field) (first count : ℕ) (numbers : List ℤ) : Type 0 where
+  pub reaches : uses_below (length set.structs) f.item ≡ true
+  pub small : size_in set f.item ≤ 16384
+  pub room : first + count * size_in set f.item ≤ length numbers
+  pub single : f.count ≡ One → count ≡ 1
+  pub few : length numbers ≤ 16384
+
+-- the lines of so many elements of a field, under the path before it
+abbrev pub run_lines : List Printer → Field → Count → ℕ → List ℕ → List ℤ → ℕ → List ℕ
+run_lines ps f One count path numbers first = item_lines ps f.item (path ++ f.name) numbers first
+run_lines ps f c count path numbers first =
+    element_lines ps f.item (path ++ f.name) numbers first (item_size (map (λ p. p.cells) ps) f.item) 0 count
 
 -- the line of a section
 abbrev pub section_text : Device → ℕ → List ℕ

@@ -9,6 +9,7 @@ mod numbers;
 mod path;
 mod print;
 mod read;
+mod shown;
 mod text;
 
 pub use fault::{Values, ValuesFault};

@@ -1,0 +1,243 @@
+use Rattle.std.proofs.Common.{rules, arith, ◌≡◌, ◌+◌, ◌*◌, ◌-◌, ◌<◌, ◌≤◌, List, [], ◌++◌, ℕ, length, map, drop, codes, refl, sym, ap, ◌∙◌, subst}
+use Rattle.std.proofs.lemmas.Result.{err_from_is_err_and}
+use Rattle.std.proofs.lemmas.Bool.{ltb-true}
+use Rattle.vms_kinds.specs.declared.Item.{Item}
+use Rattle.vms_spec.specs.declared.Part.TheVariants as parts
+use Rattle.vms_spec.specs.Sets.{Field, Desc}
+use Rattle.vms_spec.specs.Layout.{numbers_of, capacity_of, elements_of, item_size, struct_cells, cells_from}
+use Rattle.vms_spec.specs.Values.{printers, desc_lines, element_lines, item_lines, field_lines}
+use Rattle.vms_spec.specs.Rules.{uses_below}
+use Rattle.std.specs.Fmt.{decimal}
+use Rattle.vms_parts.specs.Sizes.{in_u32}
+use Rattle.vms_parts.specs.Views.{field_of}
+use Rattle.vms_desc.specs.Asks.{field_at, own_numbers}
+use Rattle.vms_desc.specs.Described.{described}
+use Rattle.vms_desc.specs.Parts.{desc_at}
+use Rattle.vms_desc.proofs.AskLaws.{found_field}
+use Rattle.vms_walk.specs.Steps.{size_in, HasSpot, table, cells_in}
+use Rattle.vms_walk.proofs.Spots.{size_code, width_code, struct_size, spot_room}
+use Rattle.vms_walk.proofs.Walking.{room_at}
+use Rattle.vms_values.specs.Paths.{path_text}
+use Rattle.vms_values.specs.Printing.{run_lines}
+use Rattle.vms_values.proofs.Printers.{cells_of, struct_lines}
+use Rattle.vms_values.proofs.PrintLemmas.{same_text}
+use Rattle.vms_values.proofs.Runs.{array_run, elements_left, no_elements, no_fields, next_run}
+use Rattle.vms_values.proofs.Writing.{owes_all, owes_from, owes_less, owes_still, owes_none}
+use Rattle.vms_values.proofs.shown.+print.Given.{Over}
+use Rattle.vms_values.proofs.shown.+print.Goals as goal
+
+-- ---- elements
+
+pub print_elements-loop-index-init : goal.print_elements-loop-index-init
+print_elements-loop-index-init g t c =
+    let set = described c.args.shown.set.now in
+    let all : c.args.run.count - 0 ≡ c.args.run.count = omega arith in
+    record {
+      owes = owes_from _ _ _ (ap (λ (k : ℕ). element_lines (printers set) c.args.item.now (path_text c.args.path.now) c.args.shown.image.now.numbers c.args.run.first (size_in set c.args.item.now) 0 k) (sym all));
+      here = grind arith;
+      later = omega arith;
+      promise = refl;
+    }
+
+pub print_elements-print_item-requires : goal.print_elements-print_item-requires
+print_elements-print_item-requires g t c =
+    let set = described c.args.shown.set.now in
+    let room = room_at c.loop-index.index c.args.run.count (size_in set c.args.item.now) c.args.run.first c.loop-index.cell (length c.args.shown.image.now.numbers) c.loop-index-test.true c.loop-index.invariant.here c.requires.room in
+    λ κs h. (search rules, (search rules, (c.requires.reaches, (room, c.requires.few))))
+
+pub print_elements-returns-in_err-print_item-clause-written :
+    goal.print_elements-returns-in_err-print_item-clause-written
+print_elements-returns-in_err-print_item-clause-written g t c =
+    let set = described c.args.shown.set.now in
+    let p = err_from_is_err_and c.from_residual.result c.from_residual.ensures.1 in
+    rw p.1 (owes_still _ _ _ _ _ _ _ c.loop-index.invariant.owes
+    (elements_left (printers set) c.args.item.now (path_text c.args.path.now) c.args.shown.image.now.numbers c.loop-index.cell (size_in set c.args.item.now) c.loop-index.index c.args.run.count c.loop-index-test.true)
+    c.in_err-print_item.ensures.written)
+
+pub print_elements-overflow_add-cell : goal.print_elements-overflow_add-cell
+print_elements-overflow_add-cell g t c =
+    let set = described c.args.shown.set.now in
+    let item = c.args.item.now in
+    let room = room_at c.loop-index.index c.args.run.count (size_in set item) c.args.run.first c.loop-index.cell (length c.args.shown.image.now.numbers) c.loop-index-test.true c.loop-index.invariant.here c.requires.room in
+    omega (arith, size_code set item c.item_cells-size.result c.item_cells-size.ensures c.requires.small, room, c.requires.few)
+
+pub print_elements-loop-index-preserved : goal.print_elements-loop-index-preserved
+print_elements-loop-index-preserved g t c =
+    let set = described c.args.shown.set.now in
+    let item = c.args.item.now in
+    let i = c.loop-index.index in
+    let cell = c.loop-index.cell in
+    let ps = printers set in
+    let path = path_text c.args.path.now in
+    let n = c.args.shown.image.now.numbers in
+    let size : c.item_cells-size.result ≡ size_in set item = size_code set item c.item_cells-size.result c.item_cells-size.ensures c.requires.small in
+    let one : (i + 1) * size_in set item ≡ i * size_in set item + size_in set item = grind arith in
+    let rest = λ (s : ℕ). element_lines ps item path n (cell + s) (size_in set item) (i + 1) (c.args.run.count - (i + 1)) in
+    record {
+      owes = owes_less _ _ _ _ _ _ _ c.loop-index.invariant.owes
+          (elements_left ps item path n cell (size_in set item) i c.args.run.count c.loop-index-test.true
+          ∙ ap (λ (s : ℕ). item_lines ps item (path ++ codes "[" ++ decimal i ++ codes "]") n cell ++ rest s) (sym size))
+          c.in_ok-print_item.ensures.written;
+      here = omega (arith, one, size, c.loop-index.invariant.here);
+      later = omega (arith, c.in_ok-print_item.ensures.cause, c.loop-index.invariant.later);
+      promise = c.in_ok-print_item.ensures.promise ∙ c.loop-index.invariant.promise;
+    }
+
+pub print_elements-returns-clause-written : goal.print_elements-returns-clause-written
+print_elements-returns-clause-written g t c =
+    let set = described c.args.shown.set.now in
+    let none : c.args.run.count - c.loop-index.index ≡ 0 = omega arith in
+    owes_none _ _ _ _ c.loop-index.invariant.owes
+    (no_elements (printers set) c.args.item.now (path_text c.args.path.now) c.args.shown.image.now.numbers c.loop-index.cell (size_in set c.args.item.now) c.loop-index.index (c.args.run.count - c.loop-index.index) none)
+
+-- ---- a field
+
+pub print_field-print_item-requires : goal.print_field-print_item-requires
+print_field-print_item-requires g t c =
+    let fits = c.requires.fits in
+    let one : c.args.run.count ≡ 1 = fits.single c.in-One.is in
+    let size = size_in (described c.args.shown.set.now) c.args.field.now.item in
+    let room : c.args.run.first + 1 * size ≤ length c.args.shown.image.now.numbers = subst (λ (k : ℕ). c.args.run.first + k * size ≤ length c.args.shown.image.now.numbers) one fits.room in
+    let same : 1 * size ≡ size = grind arith in
+    λ κs h. (search rules, (search rules, (fits.reaches, (omega (arith, room, same), fits.few))))
+
+pub print_field-print_elements-requires : goal.print_field-print_elements-requires
+print_field-print_elements-requires g t c =
+    let fits = c.requires.fits in
+    λ κs h. (search rules, (search rules, (fits.reaches, (fits.small, (fits.room, fits.few)))))
+
+pub print_field-returns-in_default : goal.print_field-returns-in_default
+print_field-returns-in_default g t c =
+    let set = described c.args.shown.set.now in
+    let f = field_of c.args.field.now in
+    record {
+      written = same_text _ _ _ _ _
+          (ap (λ (name : List ℕ). element_lines (printers set) f.item (path_text c.args.path.now ++ name) c.args.shown.image.now.numbers c.args.run.first (size_in set f.item) 0 c.args.run.count) c.as_bytes.ensures
+          ∙ array_run set f c.args.run.count (path_text c.args.path.now) c.args.shown.image.now.numbers c.args.run.first c.in_default.not-One)
+          c.print_elements.ensures.written;
+      cause = c.print_elements.ensures.cause;
+      promise = c.print_elements.ensures.promise;
+    }
+
+-- ---- an element
+
+pub print_item-print_part-requires : goal.print_item-print_part-requires
+print_item-print_part-requires g t c =
+    let set = described c.args.shown.set.now in
+    let j = c.in-Struct.number in
+    let lt : j < length set.structs = ltb-true j (length set.structs) (rw c.in-Struct.is at c.requires.reaches) in
+    let room = rw c.in-Struct.is at c.requires.room in
+    let size = struct_size set c.args.shown.set.now.well_formed j lt in
+    λ κs h. (search rules, (search rules, record { part = lt; few = c.requires.few; room = omega (arith, room, size) }))
+
+pub print_item-returns-in-Struct-clause-written : goal.print_item-returns-in-Struct-clause-written
+print_item-returns-in-Struct-clause-written g t c =
+    let set = described c.args.shown.set.now in
+    let j = c.in-Struct.number in
+    let lt : j < length set.structs = ltb-true j (length set.structs) (rw c.in-Struct.is at c.requires.reaches) in
+    let n = c.args.shown.image.now.numbers in
+    let path = path_text c.args.path.now in
+    same_text _ _ _ _ _ (sym (ap (λ (i : Item). item_lines (printers set) i path n c.args.cell) c.in-Struct.is ∙ struct_lines set c.args.shown.set.now.well_formed j lt path n c.args.cell)) c.print_part.ensures.written
+
+-- ---- a part
+
+pub print_part-loop-field-init : goal.print_part-loop-field-init
+print_part-loop-field-init g t c =
+    record {
+      owes = owes_all _ _;
+      room = spot_room (described c.args.shown.set.now) c.args.spot c.args.shown.image.now.numbers c.requires.spot;
+      later = omega arith;
+      promise = refl;
+    }
+
+pub print_part-print_field-requires : goal.print_part-print_field-requires
+print_part-print_field-requires g t c =
+    let set = described c.args.shown.set.now in
+    let spot = c.args.spot in
+    let n = c.args.shown.image.now.numbers in
+    let k = c.loop-field.field in
+    let cell = c.loop-field.cell in
+    let f = c.index-as_slice-field.result in
+    let d = desc_at set spot.part in
+    let lt : k < length d.fields = omega (arith, c.field_count-field-end.ensures, c.loop-field-test.true) in
+    let fields : map field_of c.as_slice.result.now ≡ d.fields = ap (map field_of) c.as_slice.ensures ∙ ap (λ (x : Desc). x.fields) c.desc.ensures in
+    let found : field_of f ≡ field_at set spot.part k = found_field c.as_slice.result.now d.fields k f fields lt c.index-as_slice-field.is in
+    let count : c.elements.result ≡ elements_of f.count (own_numbers set spot.part n spot.base) = c.elements.ensures ∙ ap (λ (x : Field). elements_of x.count (own_numbers set spot.part n spot.base)) (sym found) in
+    let next = next_run set c.args.shown.set.now.well_formed spot (path_text c.args.path.now) n c.requires.spot k cell c.elements.result (field_of f) lt found count c.loop-field.invariant.room in
+    let lower = next.lower in
+    λ κs h. (search rules, (search rules, next.run))
+
+pub print_part-returns-in_err-print_field-clause-written :
+    goal.print_part-returns-in_err-print_field-clause-written
+print_part-returns-in_err-print_field-clause-written g t c =
+    let set = described c.args.shown.set.now in
+    let spot = c.args.spot in
+    let n = c.args.shown.image.now.numbers in
+    let k = c.loop-field.field in
+    let cell = c.loop-field.cell in
+    let f = c.index-as_slice-field.result in
+    let d = desc_at set spot.part in
+    let lt : k < length d.fields = omega (arith, c.field_count-field-end.ensures, c.loop-field-test.true) in
+    let fields : map field_of c.as_slice.result.now ≡ d.fields = ap (map field_of) c.as_slice.ensures ∙ ap (λ (x : Desc). x.fields) c.desc.ensures in
+    let found : field_of f ≡ field_at set spot.part k = found_field c.as_slice.result.now d.fields k f fields lt c.index-as_slice-field.is in
+    let count : c.elements.result ≡ elements_of f.count (own_numbers set spot.part n spot.base) = c.elements.ensures ∙ ap (λ (x : Field). elements_of x.count (own_numbers set spot.part n spot.base)) (sym found) in
+    let next = next_run set c.args.shown.set.now.well_formed spot (path_text c.args.path.now) n c.requires.spot k cell c.elements.result (field_of f) lt found count c.loop-field.invariant.room in
+    let p = err_from_is_err_and c.from_residual.result c.from_residual.ensures.1 in
+    rw p.1 (owes_still _ _ _ _ _ _ _ c.loop-field.invariant.owes next.lines c.in_err-print_field.ensures.written)
+
+pub print_part-overflow_add-cell : goal.print_part-overflow_add-cell
+print_part-overflow_add-cell g t c =
+    let set = described c.args.shown.set.now in
+    let spot = c.args.spot in
+    let n = c.args.shown.image.now.numbers in
+    let k = c.loop-field.field in
+    let cell = c.loop-field.cell in
+    let f = c.index-as_slice-field.result in
+    let d = desc_at set spot.part in
+    let lt : k < length d.fields = omega (arith, c.field_count-field-end.ensures, c.loop-field-test.true) in
+    let fields : map field_of c.as_slice.result.now ≡ d.fields = ap (map field_of) c.as_slice.ensures ∙ ap (λ (x : Desc). x.fields) c.desc.ensures in
+    let found : field_of f ≡ field_at set spot.part k = found_field c.as_slice.result.now d.fields k f fields lt c.index-as_slice-field.is in
+    let count : c.elements.result ≡ elements_of f.count (own_numbers set spot.part n spot.base) = c.elements.ensures ∙ ap (λ (x : Field). elements_of x.count (own_numbers set spot.part n spot.base)) (sym found) in
+    let next = next_run set c.args.shown.set.now.well_formed spot (path_text c.args.path.now) n c.requires.spot k cell c.elements.result (field_of f) lt found count c.loop-field.invariant.room in
+    let small : capacity_of f.count * size_in set f.item ≤ 16384 = omega (arith, next.room, c.requires.spot.few) in
+    let width : c.field_cells-cell.result ≡ capacity_of f.count * size_in set f.item =
+    width_code set (field_of f) c.field_cells-cell.result (c.field_cells-cell.ensures ∙ ap (λ (x : Field). in_u32 (capacity_of x.count * item_size (struct_cells set) x.item)) (sym found)) small in
+    omega (arith, width, next.room, c.requires.spot.few)
+
+pub print_part-loop-field-preserved : goal.print_part-loop-field-preserved
+print_part-loop-field-preserved g t c =
+    let set = described c.args.shown.set.now in
+    let spot = c.args.spot in
+    let n = c.args.shown.image.now.numbers in
+    let k = c.loop-field.field in
+    let cell = c.loop-field.cell in
+    let f = c.index-as_slice-field.result in
+    let d = desc_at set spot.part in
+    let lt : k < length d.fields = omega (arith, c.field_count-field-end.ensures, c.loop-field-test.true) in
+    let fields : map field_of c.as_slice.result.now ≡ d.fields = ap (map field_of) c.as_slice.ensures ∙ ap (λ (x : Desc). x.fields) c.desc.ensures in
+    let found : field_of f ≡ field_at set spot.part k = found_field c.as_slice.result.now d.fields k f fields lt c.index-as_slice-field.is in
+    let count : c.elements.result ≡ elements_of f.count (own_numbers set spot.part n spot.base) = c.elements.ensures ∙ ap (λ (x : Field). elements_of x.count (own_numbers set spot.part n spot.base)) (sym found) in
+    let next = next_run set c.args.shown.set.now.well_formed spot (path_text c.args.path.now) n c.requires.spot k cell c.elements.result (field_of f) lt found count c.loop-field.invariant.room in
+    let small : capacity_of f.count * size_in set f.item ≤ 16384 = omega (arith, next.room, c.requires.spot.few) in
+    let width : c.field_cells-cell.result ≡ capacity_of f.count * size_in set f.item =
+    width_code set (field_of f) c.field_cells-cell.result (c.field_cells-cell.ensures ∙ ap (λ (x : Field). in_u32 (capacity_of x.count * item_size (struct_cells set) x.item)) (sym found)) small in
+    let path = path_text c.args.path.now in
+    let own = numbers_of (cells_of (printers set)) d n spot.base in
+    let rest = λ (w : ℕ). field_lines (printers set) d.fields own path n (k + 1) (cell + w) (drop (k + 1) d.fields) in
+    record {
+      owes = owes_less _ _ _ _ _ _ _ c.loop-field.invariant.owes
+          (next.lines ∙ ap (λ (w : ℕ). run_lines (printers set) (field_of f) f.count c.elements.result path n cell ++ rest w) (sym width)) c.in_ok-print_field.ensures.written;
+      room = subst (λ (w : ℕ). (cell + w) + length (cells_from (cells_in (table set)) d.fields (k + 1) (drop (k + 1) d.fields)) ≤ length n) (sym width) next.later;
+      later = omega (arith, c.in_ok-print_field.ensures.cause, c.loop-field.invariant.later);
+      promise = c.in_ok-print_field.ensures.promise ∙ c.loop-field.invariant.promise;
+    }
+
+pub print_part-returns-clause-written : goal.print_part-returns-clause-written
+print_part-returns-clause-written g t c =
+    let set = described c.args.shown.set.now in
+    let spot = c.args.spot in
+    let n = c.args.shown.image.now.numbers in
+    let d = desc_at set spot.part in
+    let end : c.loop-field.field ≡ length d.fields = omega (arith, c.field_count-field-end.ensures) in
+    owes_none _ _ _ _ c.loop-field.invariant.owes
+    (no_fields set d.fields (numbers_of (cells_of (printers set)) d n spot.base) (path_text c.args.path.now) n c.loop-field.field c.loop-field.cell end)

@@ -1,0 +1,55 @@
+use Rattle.std.proofs.Common.{◌≡◌, ◌+◌, ◌-◌, ◌*◌, ◌≤◌, length, drop, map}
+use Rattle.vms_spec.specs.Layout.{cells_from, numbers_of}
+use Rattle.vms_spec.specs.Values.{printers, desc_lines, element_lines, field_lines}
+use Rattle.vms_parts.specs.Views.{field_of}
+use Rattle.vms_desc.specs.Described.{described}
+use Rattle.vms_desc.specs.Parts.{desc_at}
+use Rattle.vms_walk.specs.Steps.{size_in, table, cells_in}
+use Rattle.vms_walk.proofs.Ranks.{item_rank, part_rank}
+use Rattle.vms_values.specs.Paths.{path_text}
+use Rattle.vms_values.proofs.Printers.{cells_of}
+use Rattle.vms_values.proofs.Writing.{Owes}
+use Rattle.vms_values.proofs.shown.+print.Given as goal
+
+abbrev pub decreases-print_elements : goal.decreases-print_elements
+decreases-print_elements g l = item_rank l.item.now + 1
+
+abbrev pub decreases-print_field : goal.decreases-print_field
+decreases-print_field g l = item_rank l.field.now.item + 2
+
+abbrev pub decreases-print_item : goal.decreases-print_item
+decreases-print_item g l = item_rank l.item.now
+
+abbrev pub decreases-print_part : goal.decreases-print_part
+decreases-print_part g l = part_rank (described l.shown.set.now) l.spot.part + 3
+
+abbrev pub invariant-print_elements-loop-index : goal.invariant-print_elements-loop-index
+invariant-print_elements-loop-index g l =
+    let set = described l.shown.set.now in
+    let n = l.shown.image.now.numbers in
+    let ps = printers set in
+    let run = l.fn.run in
+    let size = size_in set l.item in
+    record {
+      owes : Owes (g.K.Sink.written l.initial.sink) (g.K.Sink.written l.sink)
+          (element_lines ps l.item (path_text l.path) n run.first size 0 run.count)
+          (element_lines ps l.item (path_text l.path) n l.cell size l.index (run.count - l.index));
+      here : l.cell ≡ run.first + l.index * size;
+      later : g.K.Sink.faults l.initial.sink ≤ g.K.Sink.faults l.sink;
+      promise : g.K.Sink.promise l.sink ≡ g.K.Sink.promise l.initial.sink;
+    }
+
+abbrev pub invariant-print_part-loop-field : goal.invariant-print_part-loop-field
+invariant-print_part-loop-field g l =
+    let set = described l.shown.set.now in
+    let n = l.shown.image.now.numbers in
+    let ps = printers set in
+    let d = desc_at set l.spot.part in
+    let own = numbers_of (cells_of ps) d n l.spot.base in
+    record {
+      owes : Owes (g.K.Sink.written l.initial.sink) (g.K.Sink.written l.sink)
+          (desc_lines ps d (path_text l.path) n l.spot.base) (field_lines ps d.fields own (path_text l.path) n l.field l.cell (drop l.field d.fields));
+      room : l.cell + length (cells_from (cells_in (table set)) d.fields l.field (drop l.field d.fields)) ≤ length n;
+      later : g.K.Sink.faults l.initial.sink ≤ g.K.Sink.faults l.sink;
+      promise : g.K.Sink.promise l.sink ≡ g.K.Sink.promise l.initial.sink;
+    }
