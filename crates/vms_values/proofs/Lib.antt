@@ -2,7 +2,12 @@ pub mod DeviceLemmas
 pub mod NumberLemmas
 pub mod PrintLemmas
 pub mod ReadLemmas
+pub mod TakenLines
 pub mod TextLemmas
 pub mod Writing
 pub mod Printers
 pub mod Runs
+pub mod Least
+pub mod Readers
+pub mod Takes
+pub mod Kept

@@ -1,13 +1,13 @@
 -- What is left of the elements of an array and of the fields of a part.
-use Rattle.std.proofs.Common.{◌≡◌, ℕ, zero, suc, ◌+◌, ◌-◌, ◌*◌, ◌<◌, ◌≤◌, List, [], ◌∷◌, ◌++◌, length, get_or, drop, map, ℤ, refl, sym, ap, ◌∙◌, subst, arith, true, codes}
+use Rattle.std.proofs.Common.{◌≡◌, ℕ, suc, ◌+◌, ◌-◌, ◌*◌, ◌<◌, ◌≤◌, List, [], ◌∷◌, ◌++◌, length, drop, ℤ, refl, sym, ap, ◌∙◌, subst, arith, true, codes}
 use Rattle.std.proofs.lemmas.List.{drop_all}
 use Rattle.std.specs.Fmt.{decimal}
 use Rattle.vms_kinds.specs.declared.Item.{Item}
 use Rattle.vms_spec.specs.declared.Count.{Count}
 use Rattle.vms_spec.specs.declared.Count.TheVariants.{One, Fixed, Counted}
-use Rattle.vms_spec.specs.Sets.{Field, Desc, Set}
+use Rattle.vms_spec.specs.Sets.{Field, Set}
 use Rattle.vms_spec.specs.Rules.{uses_below}
-use Rattle.vms_spec.specs.Layout.{Cell, no_field, item_size, field_cells, cells_from, struct_cells, numbers_of, elements_of, capacity_of}
+use Rattle.vms_spec.specs.Layout.{Cell, item_size, field_cells, cells_from, struct_cells, numbers_of, elements_of, capacity_of}
 use Rattle.vms_spec.specs.Values.{Printer, printers, item_lines, element_lines, array_lines, field_lines}
 use Rattle.vms_spec.proofs.Sizes.{field_size, elements_fit}
 use Rattle.vms_desc.specs.Asks.{field_at, own_numbers}
@@ -97,12 +97,12 @@ module _ (set : Set) where
       let at : drop k all ≡ f ∷ drop (k + 1) all = fields_at all k lt ∙ ap (λ (x : Field). x ∷ drop (k + 1) all) (sym is) in
       record {
         run = record {
-            reaches = uses_more (reach set spot.part) (length set.structs) f.item (reach_whole set spot.part h.part) uses;
-            small = one_fits (capacity_of f.count) (size_in set f.item) cell (length n) 16384 some fits h.few;
-            room = room_for_less count (capacity_of f.count) (size_in set f.item) cell (length n) fewer fits;
-            single = λ e. there ∙ single_count f.count (own_numbers set spot.part n spot.base) e;
-            few = h.few;
-          };
+          reaches = uses_more (reach set spot.part) (length set.structs) f.item (reach_whole set spot.part h.part) uses;
+          small = one_fits (capacity_of f.count) (size_in set f.item) cell (length n) 16384 some fits h.few;
+          room = room_for_less count (capacity_of f.count) (size_in set f.item) cell (length n) fewer fits;
+          single = λ e. there ∙ single_count f.count (own_numbers set spot.part n spot.base) e;
+          few = h.few;
+        };
         lower = rank_below (reach set spot.part) f.item uses;
         room = fits;
         later = here (λ (x : Field). (cell + capacity_of x.count * size_in set x.item) + length (cells_from (cells_in (table set)) all (k + 1) (drop (k + 1) all)) ≤ length n) next.later;

@@ -6,4 +6,5 @@ pub mod Printing
 pub mod Reading
 pub mod Spelled
 pub mod Tables
+pub mod Taken
 pub mod Written

@@ -10,6 +10,7 @@ mod path;
 mod print;
 mod read;
 mod shown;
+mod taken;
 mod text;
 
 pub use fault::{Values, ValuesFault};
