@@ -11,3 +11,4 @@ pub mod Least
 pub mod Readers
 pub mod Takes
 pub mod Kept
+pub mod SubsReading

@@ -6,5 +6,6 @@ pub mod Printing
 pub mod Reading
 pub mod Spelled
 pub mod Tables
+pub mod SubsTaken
 pub mod Taken
 pub mod Written

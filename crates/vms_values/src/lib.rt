@@ -10,6 +10,7 @@ mod path;
 mod print;
 mod read;
 mod shown;
+mod subs;
 mod taken;
 mod text;
 
