@@ -12,3 +12,4 @@ pub mod Readers
 pub mod Takes
 pub mod Kept
 pub mod SubsReading
+pub mod JudgeLemmas

@@ -1,4 +1,5 @@
 pub mod FirstLine
+pub mod Judging
 pub mod Machines
 pub mod Paths
 pub mod Plain

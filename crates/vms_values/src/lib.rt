@@ -3,6 +3,7 @@
 
 mod cursor;
 mod fault;
+mod judge;
 mod lines;
 mod machine;
 mod numbers;
