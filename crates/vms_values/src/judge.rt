@@ -46,12 +46,10 @@ pub(crate) fn judge_device(
         let reason = ValuesReason::Invalid;
         return Some(BadLine { line, reason });
     }
-    for (sub, line) in sub_lines.iter().enumerate() {
-        if let Some(reason) = judge_sub(set, device, sub as u32, image) {
-            return Some(BadLine {
-                line: *line,
-                reason,
-            });
+    for sub in 0..set.sub_count(device) {
+        if let Some(reason) = judge_sub(set, device, sub, image) {
+            let line = sub_lines[sub as usize];
+            return Some(BadLine { line, reason });
         }
     }
     None

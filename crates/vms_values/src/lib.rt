@@ -2,6 +2,7 @@
 #![tactic(auto)]
 
 mod cursor;
+mod devices;
 mod fault;
 mod judge;
 mod lines;
@@ -15,6 +16,7 @@ mod subs;
 mod taken;
 mod text;
 
+pub use devices::read_text;
 pub use fault::{Values, ValuesFault};
 pub use print::print_values;
 pub use read::read_values;

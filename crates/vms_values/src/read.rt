@@ -83,7 +83,7 @@ fn read_devices(alloc: Global, set: &DescSet, lines: &mut Lines) -> Result<Vec<I
 }
 
 /// Appends an image, or tells that memory is wanting.
-fn push_image(images: &mut Vec<Image>, image: Image) -> bool
+pub(crate) fn push_image(images: &mut Vec<Image>, image: Image) -> bool
     ensures { OnTrue result (images.new.items ≡ images.old.items ++ image ∷ []) }
 {
     images.push(image).is_ok()
@@ -131,7 +131,7 @@ fn read_device(
 }
 
 /// The line of a section.
-fn read_section(device: &Device, lines: &mut Lines) -> Result<(), ValuesFault>
+pub(crate) fn read_section(device: &Device, lines: &mut Lines) -> Result<(), ValuesFault>
     ensures { Passed (is_line (section_line (device_of device.now)) (first_line lines.old.rest.now)) lines.old lines.new result }
 {
     match next_line(lines.rest) {
