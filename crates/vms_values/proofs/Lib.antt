@@ -13,3 +13,5 @@ pub mod Takes
 pub mod Kept
 pub mod SubsReading
 pub mod JudgeLemmas
+pub mod ImageRead
+pub mod Gathering

@@ -135,3 +135,7 @@ alike_none a = record { version = refl; subs = refl; cells = refl }
 
 pub of_alike : (set : Set) (i : ℕ) (a b : Image) → IsOfDevice set i a → IsAlike a b → IsOfDevice set i b
 of_alike set i a b h k = record { is_device = h.is_device; cells = k.cells ∙ h.cells; subs = k.subs ∙ h.subs; few = subst (λ (n : ℕ). n ≤ 16384) (sym k.cells) h.few }
+
+pub subs_alike : (r : Result ReadSubs BadLine) (old new : Taken) (lines : List ℕ) → SubsReached r old new lines (Ok tt) → IsAlike old.image new.image
+subs_alike (Ok r) old new lines h = h.3
+subs_alike (Err b) old new lines h = absurd h

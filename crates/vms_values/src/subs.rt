@@ -1,5 +1,5 @@
 // Reads the lines of subsections.
-ghost use Rattle.std.specs.Prelude.{◌≡◌, ◌<◌, ◌∷◌, ◌++◌, [], length, OnSome};
+ghost use Rattle.std.specs.Prelude.{◌≡◌, ◌<◌, ◌∷◌, ◌++◌, [], length, OnSome, OnOk};
 ghost use Rattle.std.specs.Bool.{OnTrue};
 ghost use Rattle.vms_spec.specs.declared.Part.TheVariants as parts;
 ghost use Rattle.vms_spec.specs.Images.{own_cells};
@@ -39,6 +39,8 @@ pub(crate) fn read_subs(
     ensures read { let d = device_at (described set.now) device in
         let whole = subs_read (described set.now) (own_cells (described set.now) d) d.subs in
         SubsReached (whole (place_of taken.old)) taken.old taken.new lines.new.items result }
+    ensures count { let d = device_at (described set.now) device in
+        OnOk result (length lines.new.items ≡ length d.subs) }
 {
     for sub in 0..set.sub_count(device) {
         if !push_line(lines, taken.lines.line) {

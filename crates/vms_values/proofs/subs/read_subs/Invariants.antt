@@ -1,4 +1,4 @@
-use Rattle.std.proofs.Common.{◌≡◌, drop}
+use Rattle.std.proofs.Common.{◌≡◌, drop, length}
 use Rattle.vms_spec.specs.declared.Part.TheVariants as parts
 use Rattle.vms_spec.specs.Images.{own_cells}
 use Rattle.vms_spec.specs.ValuesReading.{read_subs}
@@ -16,5 +16,6 @@ invariant-loop-sub l =
     record {
       follows : Follows (read_subs set (own_cells set d) d.subs (place_of l.initial.taken)) l.sub l.taken.image.came l.lines.items
           (read_subs set (first_cell set (parts.Sub l.device l.sub)) (drop l.sub d.subs) (place_of l.taken));
+      count : length l.lines.items ≡ l.sub;
       alike : IsAlike l.initial.taken.image l.taken.image;
     }
