@@ -15,3 +15,4 @@ pub mod SubsReading
 pub mod JudgeLemmas
 pub mod ImageRead
 pub mod Gathering
+pub mod WholeText
