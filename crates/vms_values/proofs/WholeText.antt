@@ -1,6 +1,12 @@
 -- What the whole text says, by its devices and their second pass.
-use Rattle.std.proofs.Common.{◌≡◌, ℕ, ◌<◌, List, [], ◌∷◌, length, map, Option, Some, None, Result, Ok, Err, refl, sym, ap, ◌∙◌, subst}
+use Rattle.std.proofs.Common.{◌≡◌, ℕ, ◌<◌, ◌≤◌, true, ◌&&◌, nat_le, List, [], ◌∷◌, length, map, Option, Some, None, Result, Ok, Err, refl, sym, ap, ◌∙◌, subst}
 use Rattle.std.specs.Option.{ForSome}
+use Rattle.std.proofs.lemmas.Bool.{and_parts, leb-true}
+use Rattle.vms_spec.specs.declared.Part.TheVariants as parts
+use Rattle.vms_spec.specs.Lists.{or_else, first_answer}
+use Rattle.vms_spec.specs.WellFormed.{failing, here, set_rules, size_rules, struct_fault, device_fault, first_fault}
+use Rattle.vms_desc.specs.Formed.{is_well_formed}
+use Rattle.vms_desc.proofs.Bounds.{AllTrue, all_true, or_else_none, none_is}
 use Rattle.vms_spec.specs.declared.ValuesReason.TheVariants as reasons
 use Rattle.vms_spec.specs.Sets.{Set}
 use Rattle.vms_spec.specs.Images.{Image}
@@ -13,7 +19,7 @@ use Rattle.vms_values.specs.declared.judge.BadLine.{BadLine as Found}
 use Rattle.vms_values.specs.Printing.{machine_of}
 use Rattle.vms_values.specs.Reading.{ReadsAs}
 use Rattle.vms_values.specs.Judging.{bad_of}
-use Rattle.vms_values.specs.DevicesRead.{AllRead}
+use Rattle.vms_values.specs.DevicesRead.{AllRead, ToldAs}
 
 -- what follows where the whole text was read
 whole : (set : Set) (m : Option (List ℕ)) (all : ReadAll) (old new : Reading) (images : List Image) → AllRead set (Ok all) old new (Ok images) → new.lines.rest.now ≡ [] → old.judged ≡ None
@@ -55,3 +61,23 @@ pub text_refused : (set : Set) (m : Option (List ℕ)) (r : Result ReadAll BadLi
 text_refused set m (Ok all) old new (faults.Bad line reason) h = absurd h
 text_refused set m (Err b) old new (faults.Bad line reason) h = h
 text_refused set m r old new faults.NoMemory h = in_any set (ended set m r)
+
+pub text_told : (set : Set) (m : Option (List ℕ)) (r : Result ReadAll BadLine) (old new : Reading) (v : Given) (result : Result Given ValuesFault) → AllRead set r old new (Ok v.images.items) → new.lines.rest.now ≡ []
+    → old.judged ≡ None → machine_of set v.machine ≡ m → ForSome v.machine (λ k. k < length set.machines) → ToldAs new.judged v result → ReadsAs set (ended set m r) result
+text_told set m r old new v result h none first is known t = by new.judged refl t
+  where
+    by : (o : Option Found) → new.judged ≡ o → ToldAs o v result → ReadsAs set (ended set m r) result
+    by None e t = subst (ReadsAs set (ended set m r)) (sym t) (text_read set m r old new v h none first e is known)
+    by (Some b) e t = subst (ReadsAs set (ended set m r)) (sym t) (text_judged set m r old new v.images.items b h none first e)
+
+-- ---- a well-formed set has few machines
+
+pub few_machines : (set : Set) → is_well_formed set ≡ true → length set.machines ≤ 16
+unfolding first_fault
+few_machines set well =
+    let devices = or_else (first_answer (device_fault set) 0 set.devices) (failing 1 (size_rules set) (here parts.Set)) in
+    let a = or_else_none (failing 1 (set_rules set) (here parts.Set)) (or_else (first_answer (struct_fault set.structs) 0 set.structs) devices) (none_is (first_fault set) well) in
+    let all = all_true 1 (set_rules set) (here parts.Set) a.0 in
+    let b = all.1.1.1.1.1.1.0 in
+    let c = and_parts (nat_le (length set.machines) 16 && nat_le (length set.structs) 64) (nat_le (length set.devices) 64) b in
+    leb-true (length set.machines) 16 (and_parts (nat_le (length set.machines) 16) (nat_le (length set.structs) 64) c.0).0

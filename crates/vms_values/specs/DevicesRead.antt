@@ -1,5 +1,5 @@
 -- What is read of devices.
-use Rattle.std.specs.Prelude.{◌≡◌, ℕ, true, if◌then◌else◌, List, [], map, Option, Result, Ok, Err}
+use Rattle.std.specs.Prelude.{◌≡◌, ℕ, true, if◌then◌else◌, List, [], map, Option, Some, None, Result, Ok, Err}
 use Rattle.vms_spec.specs.declared.ValuesReason.TheVariants as reasons
 use Rattle.vms_spec.specs.Sets.{Device, Set}
 use Rattle.vms_spec.specs.Images.{Image, default_image, own_cells}
@@ -8,6 +8,8 @@ use Rattle.vms_spec.specs.ValuesReading.{BadLine, Standing, ReadSubs, ReadDevice
 use Rattle.vms_values.specs.declared.fault.ValuesFault.{ValuesFault}
 use Rattle.vms_values.specs.declared.fault.ValuesFault.TheVariants as faults
 use Rattle.vms_values.specs.declared.devices.Reading.{Reading}
+use Rattle.vms_values.specs.declared.fault.Values.{Values as Given}
+use Rattle.vms_values.specs.declared.judge.BadLine.{BadLine as Found}
 use Rattle.vms_values.specs.Reading.{IsBad}
 use Rattle.vms_values.specs.Judging.{bad_of}
 
@@ -49,3 +51,8 @@ AllRead set r old new (Err faults.NoMemory) = Unit {0}
 abbrev pub map_ok : {V W E : Type 0} → (V → W) → Result V E → Result W E
 map_ok f (Ok v) = Ok (f v)
 map_ok f (Err e) = Err e
+
+-- the values, unless there is a bad line
+abbrev pub ToldAs : Option Found → Given → Result Given ValuesFault → Type 0
+ToldAs None v result = result ≡ Ok v
+ToldAs (Some b) v result = result ≡ Err (faults.Bad b.line b.reason)

@@ -5,7 +5,7 @@ ghost use Rattle.vms_spec.specs.ValuesReading.{values_read, read_devices as devi
 ghost use Rattle.vms_desc.specs.Described.{described, device_at};
 ghost use Rattle.vms_write.specs.Judged.{IsOfDevice};
 ghost use Rattle.vms_values.specs.Reading.{ReadsAs};
-ghost use Rattle.vms_values.specs.DevicesRead.{device_read, start_of, DeviceRead, AllRead, map_ok};
+ghost use Rattle.vms_values.specs.DevicesRead.{device_read, start_of, DeviceRead, AllRead, map_ok, ToldAs};
 
 use crate::cursor::Lines;
 use crate::judge::{BadLine, judge_device};
@@ -44,12 +44,22 @@ pub fn read_text(alloc: Global, set: &DescSet, text: &[u8]) -> Result<Values, Va
     if !reading.lines.rest.is_empty() {
         return Err(bad(&reading.lines, ValuesReason::Form));
     }
-    match reading.judged {
-        Some(BadLine { line, reason }) => Err(ValuesFault::Bad { line, reason }),
-        None => Ok(Values {
+    told(
+        reading.judged,
+        Values {
             machine: start.machine,
             images,
-        }),
+        },
+    )
+}
+
+// These values, unless a line is bad in the second pass.
+fn told(judged: Option<BadLine>, values: Values) -> Result<Values, ValuesFault>
+    ensures { ToldAs judged values result }
+{
+    match judged {
+        Some(BadLine { line, reason }) => Err(ValuesFault::Bad { line, reason }),
+        None => Ok(values),
     }
 }
 
