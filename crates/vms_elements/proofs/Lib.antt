@@ -9,3 +9,4 @@ pub mod Members
 pub mod PathsOf
 pub mod DevicePaths
 pub mod Stated
+pub mod EntryLines

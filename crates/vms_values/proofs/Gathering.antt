@@ -10,7 +10,6 @@ use Rattle.vms_desc.specs.Described.{device_at}
 use Rattle.vms_values.specs.declared.fault.ValuesFault.{ValuesFault}
 use Rattle.vms_values.specs.declared.fault.ValuesFault.TheVariants as faults
 use Rattle.vms_values.specs.declared.devices.Reading.{Reading}
-use Rattle.vms_values.specs.Reading.{IsBad}
 use Rattle.vms_values.specs.Judging.{bad_of}
 use Rattle.vms_values.specs.DevicesRead.{found, device_read, start_of, DeviceRead, AllRead}
 use Rattle.vms_values.proofs.DeviceLemmas.{with_devices}

@@ -1,5 +1,5 @@
 -- Validations along steps, and defaults of cells.
-use Rattle.std.proofs.Common.{◌≡◌, ℕ, suc, zero, ◌+◌, ◌<◌, ◌≤◌, Bool, true, false, not, if◌then◌else◌, Option, Some, None, ◌||◌, ◌&&◌, List, [], ◌∷◌, ◌++◌, length, get_or, drop, map, ℤ, pos, refl, sym, ap, ◌∙◌, arith, append_assoc, length-append}
+use Rattle.std.proofs.Common.{◌≡◌, ℕ, suc, zero, ◌+◌, ◌<◌, ◌≤◌, Bool, true, false, not, if◌then◌else◌, Option, Some, None, ◌&&◌, List, [], ◌∷◌, ◌++◌, length, get_or, drop, map, ℤ, pos, refl, sym, ap, ◌∙◌, arith, append_assoc, length-append}
 use Rattle.std.specs.List.{flat_map}
 use Rattle.std.proofs.lemmas.List.{drop_more, drop_all, drop-map, map-append}
 use Rattle.std.proofs.Math.Seq.{drop-append_seam}
@@ -20,8 +20,6 @@ use Rattle.vms_spec.specs.Readiness.{rules_are_true}
 use Rattle.vms_spec.specs.ValuesReading.{BadLine, ReadDevice, are_defaults, or_bad, if_bad, sub_fails, is_said_well, judge_subs, judge_device}
 use Rattle.vms_parts.specs.declared.types.CellForm.{CellForm}
 use Rattle.vms_parts.specs.Views.{form_of}
-use Rattle.vms_walk.specs.declared.step.Step.{Step}
-use Rattle.vms_walk.specs.declared.step.Step.TheVariants.{Number, Constant, Filler, Rule}
 use Rattle.vms_walk.specs.Steps.{steps_of}
 use Rattle.vms_write.specs.Fine.{no_form, settle}
 use Rattle.vms_values.specs.Judging.{steps_hold, sub_judged, sub_defaults}

@@ -1,8 +1,7 @@
 -- Subsections that are read one after the other.
-use Rattle.std.proofs.Common.{◌≡◌, ℕ, suc, ◌+◌, ◌<◌, ◌≤◌, true, List, [], ◌∷◌, ◌++◌, length, get_or, take, drop, slice_set, Option, Some, None, Result, Ok, Err, refl, sym, ap, ◌∙◌, subst, arith, append_assoc, append-nil}
-use Rattle.std.proofs.lemmas.List.{drop_more, drop_all, take_all, take_more_set}
+use Rattle.std.proofs.Common.{◌≡◌, ℕ, ◌+◌, ◌<◌, ◌≤◌, true, List, [], ◌∷◌, ◌++◌, length, take, drop, slice_set, Option, Some, None, Result, Ok, Err, refl, sym, ap, ◌∙◌, subst, arith, append_assoc, append-nil}
+use Rattle.std.proofs.lemmas.List.{drop_more, take_all, take_more_set}
 use Rattle.vms_spec.specs.declared.Part.TheVariants as parts
-use Rattle.vms_spec.specs.declared.ValuesReason.TheVariants as reasons
 use Rattle.vms_spec.specs.Sets.{Set, Sub, AtLeast}
 use Rattle.vms_spec.specs.Layout.{no_desc, desc_cells, struct_cells}
 use Rattle.vms_spec.specs.Images.{Image, own_cells}
@@ -16,7 +15,6 @@ use Rattle.vms_write.specs.Judged.{IsOfDevice}
 use Rattle.vms_values.specs.declared.fault.ValuesFault.{ValuesFault}
 use Rattle.vms_values.specs.declared.fault.ValuesFault.TheVariants as faults
 use Rattle.vms_values.specs.declared.taken.Taken.{Taken}
-use Rattle.vms_values.specs.Reading.{IsBad}
 use Rattle.vms_values.specs.Taken.{place_of}
 use Rattle.vms_values.specs.SubsTaken.{with_came, said_read, sub_read, IsAlike, SubReached, SubsReached}
 

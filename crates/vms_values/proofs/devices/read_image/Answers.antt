@@ -1,5 +1,5 @@
-use Rattle.std.proofs.Common.{◌≡◌, length, ap, ◌∙◌}
-use Rattle.vms_desc.specs.Described.{described, device_at}
+use Rattle.std.proofs.Common.{length, ap, ◌∙◌}
+use Rattle.vms_desc.specs.Described.{described}
 use Rattle.vms_values.proofs.ImageRead.{default_of, own_spot, alike_kept}
 use Rattle.vms_values.proofs.SubsReading.{of_alike, subs_alike}
 use Rattle.vms_values.proofs.devices.read_image.Goals as goal

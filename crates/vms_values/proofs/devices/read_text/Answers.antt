@@ -1,4 +1,4 @@
-use Rattle.std.proofs.Common.{◌≡◌, ◌<◌, None, Ok, Err, length, ap, refl, sym, ◌∙◌, subst, arith}
+use Rattle.std.proofs.Common.{Err, length, ap, refl, sym, ◌∙◌, subst, arith}
 use Rattle.std.proofs.lemmas.Result.{err_from_is_err_and}
 use Rattle.vms_spec.specs.Sets.{Set}
 use Rattle.vms_spec.specs.ValuesReading.{read_devices, ended}

@@ -1,4 +1,4 @@
-use Rattle.std.proofs.Common.{◌≡◌, ℕ, ap, ◌∙◌, arith, [], List, ◌+◌, ◌-◌, ◌≤◌, length, map}
+use Rattle.std.proofs.Common.{◌≡◌, ℕ, ap, ◌∙◌, arith, [], List, ◌+◌, ◌-◌, map}
 use Rattle.vms_spec.specs.Layout.{device_cells}
 use Rattle.vms_spec.specs.Places.{own_cell_count}
 use Rattle.vms_parts.specs.Sizes.{in_u32}

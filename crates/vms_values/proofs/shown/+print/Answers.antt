@@ -1,12 +1,10 @@
-use Rattle.std.proofs.Common.{rules, arith, ◌≡◌, ◌+◌, ◌*◌, ◌-◌, ◌<◌, ◌≤◌, List, [], ◌++◌, ℕ, length, map, drop, codes, refl, sym, ap, ◌∙◌, subst}
+use Rattle.std.proofs.Common.{rules, arith, ◌≡◌, ◌+◌, ◌*◌, ◌-◌, ◌<◌, ◌≤◌, List, ◌++◌, ℕ, length, map, drop, codes, refl, sym, ap, ◌∙◌, subst}
 use Rattle.std.proofs.lemmas.Result.{err_from_is_err_and}
 use Rattle.std.proofs.lemmas.Bool.{ltb-true}
 use Rattle.vms_kinds.specs.declared.Item.{Item}
-use Rattle.vms_spec.specs.declared.Part.TheVariants as parts
 use Rattle.vms_spec.specs.Sets.{Field, Desc}
 use Rattle.vms_spec.specs.Layout.{numbers_of, capacity_of, elements_of, item_size, struct_cells, cells_from}
-use Rattle.vms_spec.specs.Values.{printers, desc_lines, element_lines, item_lines, field_lines}
-use Rattle.vms_spec.specs.Rules.{uses_below}
+use Rattle.vms_spec.specs.Values.{printers, element_lines, item_lines, field_lines}
 use Rattle.std.specs.Fmt.{decimal}
 use Rattle.vms_parts.specs.Sizes.{in_u32}
 use Rattle.vms_parts.specs.Views.{field_of}
@@ -14,7 +12,7 @@ use Rattle.vms_desc.specs.Asks.{field_at, own_numbers}
 use Rattle.vms_desc.specs.Described.{described}
 use Rattle.vms_desc.specs.Parts.{desc_at}
 use Rattle.vms_desc.proofs.AskLaws.{found_field}
-use Rattle.vms_walk.specs.Steps.{size_in, HasSpot, table, cells_in}
+use Rattle.vms_walk.specs.Steps.{size_in, table, cells_in}
 use Rattle.vms_walk.proofs.Spots.{size_code, width_code, struct_size, spot_room}
 use Rattle.vms_walk.proofs.Walking.{room_at}
 use Rattle.vms_values.specs.Paths.{path_text}
@@ -23,7 +21,6 @@ use Rattle.vms_values.proofs.Printers.{cells_of, struct_lines}
 use Rattle.vms_values.proofs.PrintLemmas.{same_text}
 use Rattle.vms_values.proofs.Runs.{array_run, elements_left, no_elements, no_fields, next_run}
 use Rattle.vms_values.proofs.Writing.{owes_all, owes_from, owes_less, owes_still, owes_none}
-use Rattle.vms_values.proofs.shown.+print.Given.{Over}
 use Rattle.vms_values.proofs.shown.+print.Goals as goal
 
 -- ---- elements

@@ -1,7 +1,6 @@
-use Rattle.std.proofs.Common.{◌≡◌, ◌+◌, ◌-◌, ◌*◌, ◌≤◌, length, drop, map}
+use Rattle.std.proofs.Common.{◌≡◌, ◌+◌, ◌-◌, ◌*◌, ◌≤◌, length, drop}
 use Rattle.vms_spec.specs.Layout.{cells_from, numbers_of}
 use Rattle.vms_spec.specs.Values.{printers, desc_lines, element_lines, field_lines}
-use Rattle.vms_parts.specs.Views.{field_of}
 use Rattle.vms_desc.specs.Described.{described}
 use Rattle.vms_desc.specs.Parts.{desc_at}
 use Rattle.vms_walk.specs.Steps.{size_in, table, cells_in}
