@@ -7,7 +7,7 @@ use Rattle.vms_spec.specs.Images.{Image, own_cells}
 use Rattle.vms_elements.specs.Elements.{Element}
 use Rattle.vms_elements.specs.Parts.{elements_in}
 use Rattle.vms_elements.specs.Lines.{printed, number_line, number_lines, subs_lines, device_lines, devices_lines, values_lines}
-use Rattle.vms_elements.specs.Entries.{Entry, OfNumber, number_entries, subs_entries, device_entries, devices_entries, entries, entry_line}
+use Rattle.vms_elements.specs.Entries.{OfNumber, number_entries, subs_entries, device_entries, devices_entries, entry_line}
 use Rattle.vms_elements.specs.Laws.{EntryLaw}
 
 numbers_same : (numbers : List ℤ) (xs : List Element) → map entry_line (map (λ x. OfNumber x numbers) xs) ≡ map (number_line numbers) xs

@@ -1,6 +1,6 @@
 -- Devices that are read one after the other, and judged.
 use Rattle.std.proofs.Common.{◌≡◌, ℕ, zero, suc, ◌+◌, ◌<◌, ◌≤◌, Bool, true, false, List, [], ◌∷◌, ◌++◌, length, map, take, drop, get_or, if◌then◌else◌, Option, Some, None, Result, Ok, Err, refl, sym, ap, ◌∙◌, subst, arith, append_assoc, append-nil, length-append}
-use Rattle.std.proofs.lemmas.List.{drop_more, drop_all, take_all, map-append}
+use Rattle.std.proofs.lemmas.List.{drop_more, drop_all, take_all, take_more, map-append}
 use Rattle.vms_spec.specs.declared.ValuesReason.TheVariants as reasons
 use Rattle.vms_spec.specs.Sets.{Device, Set}
 use Rattle.vms_spec.specs.Images.{Image, own_cells}
@@ -54,13 +54,6 @@ judge_more set (c ∷ ds) [] d r e = cc
 judge_more set (c ∷ ds) (x ∷ rs) d r e =
     let less : length ds ≡ length rs = omega (arith, e) in
     ap (or_bad (judge_device set c x)) (judge_more set ds rs d r less) ∙ sym (or_assoc (judge_device set c x) (judge_devices set ds rs) (judge_device set d r))
-
-take_next : {X : Type 0} (xs : List X) (n : ℕ) (x : X) → n < length xs → take (n + 1) xs ≡ take n xs ++ get_or xs n x ∷ []
-take_next [] n x lt = absurd (omega arith)
-take_next (y ∷ xs) zero x lt = refl
-take_next (y ∷ xs) (suc n) x lt =
-    let one : suc n + 1 ≡ suc (n + 1) = omega arith in
-    ap (λ (k : ℕ). take k (y ∷ xs)) one ∙ ap (λ l. y ∷ l) (take_next xs n x (omega (arith, lt)))
 
 long_take : {X : Type 0} (xs : List X) (n : ℕ) → n ≤ length xs → length (take n xs) ≡ n
 long_take [] zero le = refl
@@ -132,7 +125,7 @@ module _ (set : Set) (i : ℕ) (lt : i < length set.devices) where
         so_far = k.judged ∙ ap (λ (o : Option BadLine). or_bad o (judge_device set d k.r)) g.so_far
             ∙ or_assoc first (judge_devices set (take i set.devices) g.done) (judge_device set d k.r)
             ∙ ap (or_bad first) (sym (judge_more set (take i set.devices) g.done d k.r lengths))
-            ∙ ap (λ (l : List Device). or_bad first (judge_devices set l (g.done ++ k.r ∷ []))) (sym (take_next set.devices i _ lt));
+            ∙ ap (λ (l : List Device). or_bad first (judge_devices set l (g.done ++ k.r ∷ []))) (sym (take_more set.devices i _ lt));
       }
 
   pub gathered_stop : (start : Result ReadAll BadLine) (first judged : Option BadLine) (images : List Image) (old : Reading) (b : BadLine)
@@ -150,10 +143,13 @@ gathered_all set n start old new images g e =
     let left : read_devices set (drop n set.devices) new.lines.line new.lines.rest.now ≡ Ok (record { devices = []; line = new.lines.line; rest = new.lines.rest.now }) =
     ap (λ (l : List Device). read_devices set l new.lines.line new.lines.rest.now) (drop_all n set.devices (omega (arith, e))) in
     let whole : start ≡ Ok (record { devices = g.done ++ []; line = new.lines.line; rest = new.lines.rest.now }) = sym g.whole ∙ ap (with_devices g.done) left in
-    subst (λ (r : Result ReadAll BadLine). AllRead set r old new (Ok images)) (sym whole)
-    (ap (map (λ r. r.image)) (append-nil g.done) ∙ g.images_are, refl, refl,
-    g.so_far ∙ ap (λ (l : List Device). or_bad (bad_of old.judged) (judge_devices set l g.done)) (take_all n set.devices (omega (arith, e)))
-    ∙ ap (λ (l : List ReadDevice). or_bad (bad_of old.judged) (judge_devices set set.devices l)) (sym (append-nil g.done)))
+    subst (λ (r : Result ReadAll BadLine). AllRead set r old new (Ok images)) (sym whole) (
+      ap (map (λ r. r.image)) (append-nil g.done) ∙ g.images_are,
+      refl,
+      refl,
+      g.so_far ∙ ap (λ (l : List Device). or_bad (bad_of old.judged) (judge_devices set l g.done)) (take_all n set.devices (omega (arith, e)))
+          ∙ ap (λ (l : List ReadDevice). or_bad (bad_of old.judged) (judge_devices set set.devices l)) (sym (append-nil g.done)),
+    )
 
 pub gathered_bad : (set : Set) (d : Device) (start : Result ReadAll BadLine) (r : Result (ReadDevice × Standing) BadLine) (old mid new : Reading) (e : ValuesFault)
     → ((b : BadLine) → r ≡ Err b → start ≡ Err b) → DeviceRead set d r mid new (Err e) → AllRead set start old new (Err e)

@@ -59,7 +59,6 @@ settle_defaults (c ∷ cells) forms rest numbers at e le =
 
 -- ---- the cells of a subsection among those of its device
 
-
 cells_from_sub : (set : Set) (front : List Cell) (at : ℕ) (subs : List Sub) (j : ℕ) (none : Sub) → at ≡ length front → j < length subs
     → drop (sub_place set at subs j) (front ++ flat_map (λ s. desc_cells (struct_cells set) s.desc) subs)
     ≡ desc_cells (struct_cells set) (get_or subs j none).desc ++ flat_map (λ s. desc_cells (struct_cells set) s.desc) (drop (j + 1) subs)
@@ -74,7 +73,6 @@ cells_from_sub set front at (s ∷ subs) (suc j) none e lt =
     ap (drop (sub_place set (at + length own) subs j)) (sym (append_assoc front own rest))
     ∙ cells_from_sub set (front ++ own) (at + length own) subs j none (ap (λ (k : ℕ). k + length own) e ∙ sym (length-append front own)) (omega (arith, lt))
     ∙ ap (λ (k : ℕ). desc_cells (struct_cells set) (get_or subs j none).desc ++ flat_map (λ s. desc_cells (struct_cells set) s.desc) (drop k (s ∷ subs))) (sym one)
-
 
 -- the defaults of a subsection's cells
 pub bare_defaults : (set : Set) (i j : ℕ) (numbers : List ℤ) → j < length (device_at set i).subs → first_cell set (parts.Sub i j) + own_cell_count set (sub_at (device_at set i) j).desc ≤ length numbers

@@ -28,9 +28,9 @@ struct Reading<'a> {
     judged: Option<BadLine>,
 }
 
-/// Reads a values text of a set: the machine that it names and an image for each device, or the first line at
-/// which it isn't one, and why. A line that no text of the set has there goes before a section or subsection
-/// whose validations fail or that isn't sent as it is needed. The text is read once.
+/// Reads a values text of a set: the machine that it names and an image for each device, or the first
+/// line at which it isn't one, and why. A line that no text of the set has there goes before a section
+/// or subsection whose validations fail or that isn't sent as it is needed. The text is read once.
 pub fn read_text(alloc: Global, set: &DescSet, text: &[u8]) -> Result<Values, ValuesFault>
     requires small { length text.now < 4294967296 }
     ensures { ReadsAs (described set.now) (values_read (described set.now) text.now) result }
@@ -94,7 +94,8 @@ fn read_image(
 ) -> Result<Image, ValuesFault>
     requires known { device < length (described set.now).devices }
     ensures { let d = device_at (described set.now) device in
-        let whole = device_read (described set.now) d (start_of (described set.now) d reading.old) in
+        let start = start_of (described set.now) d reading.old in
+        let whole = device_read (described set.now) d start in
         DeviceRead (described set.now) d whole reading.old reading.new result }
 {
     let mut taken = Taken {

@@ -24,7 +24,8 @@ pub(crate) struct BadLine {
     pub(crate) reason: ValuesReason,
 }
 
-/// The first bad line of a device, by all its numbers, where its section and its subsections have these lines.
+/// The first bad line of a device, by all its numbers, where its section and its subsections have
+/// these lines.
 pub(crate) fn judge_device(
     set: &DescSet,
     device: u32,
@@ -70,7 +71,11 @@ fn judge_sub(set: &DescSet, device: u32, sub: u32, image: &Image) -> Option<Valu
     } else {
         came.is_none() && is_bare(set, device, sub, image)
     };
-    if well { None } else { Some(ValuesReason::Needed) }
+    if well {
+        None
+    } else {
+        Some(ValuesReason::Needed)
+    }
 }
 
 // Whether the validations of a subsection hold, if it came.

@@ -59,12 +59,7 @@ fn push_line(lines: &mut Vec<u32>, line: u32) -> bool
 }
 
 // The line and the numbers of a subsection.
-fn read_sub(
-    set: &DescSet,
-    device: u32,
-    sub: u32,
-    taken: &mut Taken,
-) -> Result<(), ValuesFault>
+fn read_sub(set: &DescSet, device: u32, sub: u32, taken: &mut Taken) -> Result<(), ValuesFault>
     requires device { IsOfDevice (described set.now) device taken.old.image }
     requires is_sub { sub < length (device_at (described set.now) device).subs }
     ensures read { let set = described set.now in
@@ -116,7 +111,8 @@ fn sub_said(sub: &Sub, line: &[u8]) -> Option<Option<u32>>
 }
 
 fn is_at_version(sub: &Sub, line: &[u8]) -> bool
-    ensures same { result ≡ bytes_eq line.now (sub_line (sub_of sub.now) (codes "v" ++ decimal sub.now.desc.version)) }
+    ensures same { let version = codes "v" ++ decimal sub.now.desc.version in
+        result ≡ bytes_eq line.now (sub_line (sub_of sub.now) version) }
     ensures long { OnTrue result (0 < length line.now) }
 {
     let mut version = Buffer::new();

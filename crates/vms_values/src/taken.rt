@@ -36,8 +36,8 @@ pub(crate) struct Taken<'a> {
     pub(crate) lines: Lines<'a>,
 }
 
-/// Elements of a field, one after the other: so many, of which the first has the first cell `first`. A
-/// number counts `most` at most, and is its default where the elements aren't `present`.
+/// Elements of a field, one after the other: so many, of which the first has the first cell `first`.
+/// A number counts `most` at most, and is its default where the elements aren't `present`.
 #[derive(Clone, Copy)]
 struct Run<'a> {
     field: &'a Field,
@@ -60,8 +60,8 @@ pub(crate) fn read_part(
     ensures read { let set = described set.now in
         let d = desc_at set spot.part in
         let text = path_text path.now in
-        let whole = read_desc (readers set) d spot.version text present spot.base (place_of taken.old) in
-        Reaches whole (place_of taken.new) result }
+        let whole = read_desc (readers set) d spot.version text present spot.base in
+        Reaches (whole (place_of taken.old)) (place_of taken.new) result }
     ensures kept { IsKept taken.old.image taken.new.image }
 {
     let mut cell = spot.base;
@@ -94,12 +94,14 @@ fn is_present(set: &DescSet, spot: Spot, field: u32, present: bool, image: &Imag
 // The lines of a field's elements.
 #[cycle(read)]
 fn read_field(set: &DescSet, run: Run, path: &Path, taken: &mut Taken) -> Result<(), ValuesFault>
-    requires fits { IsRun (described set.now) (field_of run.field.now) run.first run.count taken.old.image.numbers }
+    requires fits { let numbers = taken.old.image.numbers in
+        IsRun (described set.now) (field_of run.field.now) run.first run.count numbers }
     ensures read { let f = field_of run.entry.field.now in
         let text = path_text path.now in
         let set = described set.now in
         let caps = capacities_of run.entry.most in
-        let whole = run_read (readers set) f f.count caps text run.entry.present run.entry.first run.entry.count in
+        let r = run.entry in
+        let whole = run_read (readers set) f f.count caps text r.present r.first r.count in
         Reaches (whole (place_of taken.old)) (place_of taken.new) result }
     ensures kept { IsKept taken.old.image taken.new.image }
 {
@@ -126,7 +128,8 @@ fn read_elements(set: &DescSet, run: Run, path: &Path, taken: &mut Taken) -> Res
         let set = described set.now in
         let size = size_in set f.item in
         let caps = capacities_of run.entry.most in
-        let whole = read_elements (readers set) f caps text run.entry.present run.entry.first size 0 run.entry.count in
+        let r = run.entry in
+        let whole = read_elements (readers set) f caps text r.present r.first size 0 r.count in
         Reaches (whole (place_of taken.old)) (place_of taken.new) result }
     ensures kept { IsKept taken.old.image taken.new.image }
 {
@@ -178,7 +181,8 @@ fn read_item(set: &DescSet, run: Run, path: &Path, taken: &mut Taken) -> Result<
 fn read_number_line(kind: Kind, run: Run, path: &Path, taken: &mut Taken) -> Result<(), ValuesFault>
     requires room { run.first < length taken.old.image.numbers }
     ensures read { let caps = capacities_of run.entry.most in
-        let line = line_read (path_text path.now) kind caps run.entry.first run.entry.field.now.default run.entry.present in
+        let r = run.entry in
+        let line = line_read (path_text path.now) kind caps r.first r.field.now.default r.present in
         Reaches (line (place_of taken.old)) (place_of taken.new) result }
     ensures kept { IsKept taken.old.image taken.new.image }
 {

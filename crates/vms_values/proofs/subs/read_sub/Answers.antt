@@ -10,8 +10,8 @@ read_part-requires c =
     let same : length c.mark.new.self.numbers ≡ length c.args.taken.now.image.numbers = ap (λ (i : Image). length i.numbers) c.mark.ensures in
     record {
       spot = record {
-          part = (c.requires.device.is_device, c.requires.is_sub);
-          few = omega (arith, same, c.requires.device.few);
-          room = omega (arith, same, c.first_cell.ensures, sub_inside set c.args.device c.args.sub c.requires.is_sub, c.requires.device.cells);
-        };
+        part = (c.requires.device.is_device, c.requires.is_sub);
+        few = omega (arith, same, c.requires.device.few);
+        room = omega (arith, same, c.first_cell.ensures, sub_inside set c.args.device c.args.sub c.requires.is_sub, c.requires.device.cells);
+      };
     }

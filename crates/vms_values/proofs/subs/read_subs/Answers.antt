@@ -35,7 +35,7 @@ returns-in_err-read_sub-clause-read c =
     let lt : j < length (device_at set i).subs = omega (arith, c.sub_count-sub-end.ensures, c.loop-sub-test.true) in
     let p = err_from_is_err_and c.from_residual.result c.from_residual.ensures.1 in
     rw (p.1, p.2) (subs_bad _ _ j c.args.taken.now c.read_sub.new.taken c.loop-sub.taken c.push_line.new.lines.items _
-          (λ b same. follows_stop set i j lt _ c.loop-sub.taken c.loop-sub.lines.items b c.loop-sub.invariant.follows same) c.in_err-read_sub.ensures.read)
+    (λ b same. follows_stop set i j lt _ c.loop-sub.taken c.loop-sub.lines.items b c.loop-sub.invariant.follows same) c.in_err-read_sub.ensures.read)
 
 pub loop-sub-preserved : goal.loop-sub-preserved
 loop-sub-preserved c =
