@@ -1,4 +1,5 @@
 mod Rows
+mod ReadingRows
 pub mod Tables
 pub mod CellsOf
 pub mod SlotsOf
@@ -9,3 +10,4 @@ pub mod PathsOf
 pub mod DevicePaths
 pub mod Stated
 pub mod Names
+pub mod EntryLines

@@ -1,5 +1,5 @@
 -- What the list of elements means in the words of the definitions, and which paths cells have.
-use Rattle.std.specs.Prelude.{◌≡◌, ℕ, ◌<◌, List, length, get_or, Option, Some, None, ℤ}
+use Rattle.std.specs.Prelude.{◌≡◌, ℕ, ◌<◌, List, length, map, get_or, Option, Some, None, ℤ}
 use Rattle.vms_spec.specs.Lists.{at}
 use Rattle.vms_spec.specs.Sets.{Desc, Device, Set}
 use Rattle.vms_spec.specs.Layout.{no_cell, desc_cells, struct_cells, device_cells, desc_slots, meanings}
@@ -8,6 +8,7 @@ use Rattle.vms_spec.specs.Places.{desc_of_sub, cell_at}
 use Rattle.vms_spec.specs.Values.{values_text}
 use Rattle.vms_elements.specs.Parts.{elements_in, device_elements, cells_of, slots_of, numbers_in, CountsUp, field_named, IsFieldOf}
 use Rattle.vms_elements.specs.Lines.{text_of, values_lines}
+use Rattle.vms_elements.specs.Entries.{entries, entry_line}
 
 -- the numbers among the elements are the cells, one each and in order, and the elements that stand in the bytes are the slots
 pub record IsWhole (set : Set) (d : Desc) (v : ℕ) (numbers : List ℤ) (place : ℕ) : Type 0 where
@@ -30,6 +31,10 @@ DeviceLaw = (set : Set) (d : Device) (image : Image) → length image.came ≡ l
 -- the lines are the values text
 abbrev pub TextLaw : Type 0
 TextLaw = (set : Set) (machine : Option (List ℕ)) (images : List Image) → text_of (values_lines set machine images) ≡ values_text set machine images
+
+-- the lines of the entries are those of the values text
+abbrev pub EntryLaw : Type 0
+EntryLaw = (set : Set) (machine : Option (List ℕ)) (images : List Image) → map entry_line (entries set machine images) ≡ values_lines set machine images
 
 -- ---- paths
 

@@ -1,5 +1,5 @@
 //! Each law is the contract of a function without a body. The statements stand in `specs/Laws.antt`.
-ghost use Rattle.vms_elements.specs.Laws.{ElementsLaw, DeviceLaw, TextLaw, DistinctLaw, PathLaw};
+ghost use Rattle.vms_elements.specs.Laws.{ElementsLaw, DeviceLaw, TextLaw, EntryLaw, DistinctLaw, PathLaw};
 
 /// The elements of a description are its cells and its slots: its numbers are its cells, in order, and what stands in the
 /// bytes are its slots.
@@ -16,6 +16,12 @@ pub fn device_law()
 #[tactic(auto, using(crate::proofs::Stated::text_law))]
 pub fn text_law()
     ensures { TextLaw }
+{}
+
+/// What the lines of a values text say has those lines: a machine, sections, subsections and numbers.
+#[tactic(auto, using(crate::proofs::EntryLines::entry_law))]
+pub fn entry_law()
+    ensures { EntryLaw }
 {}
 
 /// Distinct paths of a device have distinct cells.

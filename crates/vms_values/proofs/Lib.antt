@@ -2,6 +2,7 @@ pub mod DeviceLemmas
 pub mod NumberLemmas
 pub mod PrintLemmas
 pub mod ReadLemmas
+pub mod TakenLines
 pub mod TextLemmas
 pub mod Writing
 pub mod Printers
@@ -9,3 +10,12 @@ pub mod Runs
 pub mod Subs
 pub mod Naming
 pub mod NamingSubs
+pub mod Least
+pub mod Readers
+pub mod Takes
+pub mod Kept
+pub mod SubsReading
+pub mod JudgeLemmas
+pub mod ImageRead
+pub mod Gathering
+pub mod WholeText

@@ -1,4 +1,6 @@
+pub mod DevicesRead
 pub mod FirstLine
+pub mod Judging
 pub mod Machines
 pub mod Naming
 pub mod Paths
@@ -7,4 +9,6 @@ pub mod Printing
 pub mod Reading
 pub mod Spelled
 pub mod Tables
+pub mod SubsTaken
+pub mod Taken
 pub mod Written

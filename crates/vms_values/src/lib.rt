@@ -2,7 +2,9 @@
 #![tactic(auto)]
 
 mod cursor;
+mod devices;
 mod fault;
+mod judge;
 mod lines;
 mod machine;
 mod name;
@@ -11,8 +13,11 @@ mod path;
 mod print;
 mod read;
 mod shown;
+mod subs;
+mod taken;
 mod text;
 
+pub use devices::read_text;
 pub use fault::{Values, ValuesFault};
 pub use name::print_path;
 pub use print::print_values;

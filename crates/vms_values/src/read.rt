@@ -52,7 +52,7 @@ pub fn read_values(alloc: Global, set: &DescSet, text: &[u8]) -> Result<Values, 
 }
 
 /// The fault at the next line.
-fn bad(lines: &Lines, reason: ValuesReason) -> ValuesFault
+pub(crate) fn bad(lines: &Lines, reason: ValuesReason) -> ValuesFault
     ensures { result ≡ ValuesFault.Bad lines.now.line reason }
 {
     ValuesFault::Bad {
@@ -83,7 +83,7 @@ fn read_devices(alloc: Global, set: &DescSet, lines: &mut Lines) -> Result<Vec<I
 }
 
 /// Appends an image, or tells that memory is wanting.
-fn push_image(images: &mut Vec<Image>, image: Image) -> bool
+pub(crate) fn push_image(images: &mut Vec<Image>, image: Image) -> bool
     ensures { OnTrue result (images.new.items ≡ images.old.items ++ image ∷ []) }
 {
     images.push(image).is_ok()
@@ -131,7 +131,7 @@ fn read_device(
 }
 
 /// The line of a section.
-fn read_section(device: &Device, lines: &mut Lines) -> Result<(), ValuesFault>
+pub(crate) fn read_section(device: &Device, lines: &mut Lines) -> Result<(), ValuesFault>
     ensures { Passed (is_line (section_line (device_of device.now)) (first_line lines.old.rest.now)) lines.old lines.new result }
 {
     match next_line(lines.rest) {
@@ -160,7 +160,7 @@ fn is_section(device: &Device, line: &[u8]) -> bool
 }
 
 /// Goes on after a line.
-fn pass<'a>(lines: &mut Lines<'a>, next: Line<'a>)
+pub(crate) fn pass<'a>(lines: &mut Lines<'a>, next: Line<'a>)
     requires long { 0 < length next.text.now }
     requires follows { length next.text.now + length next.after.now + 1 ≡ length lines.old.rest.now }
     ensures number { lines.new.line ≡ lines.old.line + 1 }
@@ -250,7 +250,7 @@ fn read_cell(
 }
 
 /// What stands for the number in the line of a cell, if the line begins as it must.
-fn number_text<'a>(path: &Path, line: &'a [u8]) -> Option<&'a [u8]>
+pub(crate) fn number_text<'a>(path: &Path, line: &'a [u8]) -> Option<&'a [u8]>
     ensures stripped { Strips (path_text path.now ++ codes " = ") line.now result }
     ensures long { OnSome result (0 < length line.now) }
 {

@@ -1,0 +1,114 @@
+-- Which machine and images a text stands for, and of any other text the first bad line of the first bad pass.
+use Rattle.std.specs.Prelude.{◌≡◌, ◌⊎◌, ℕ, suc, ◌<◌, Bool, true, false, ◌||◌, ◌==◌, List, [], ◌∷◌, ◌++◌, length, get_or, map, Option, Some, None, pos}
+use Rattle.vms_spec.specs.declared.ValuesReason.{ValuesReason}
+use Rattle.vms_spec.specs.Sets.{Device, Set}
+use Rattle.vms_spec.specs.Layout.{no_cell, device_cells}
+use Rattle.vms_spec.specs.Images.{Image}
+use Rattle.vms_spec.specs.Streams.{is_one_of, AreReady}
+use Rattle.vms_spec.specs.Spelling.{first_line}
+use Rattle.vms_spec.specs.Values.{values_text}
+use Rattle.vms_spec.specs.ValuesReading.{machine_named, ValuesRead, Values, Bad}
+use Rattle.vms_elements.specs.Lines.{text_of}
+use Rattle.vms_elements.specs.Entries.{Entry, OfMachine, OfSection, OfSub, OfNumber, entries, device_entries, entry_line, line_reason, front_reason, part_reason}
+
+-- ---- what is accepted
+
+-- none, or a machine of the set
+abbrev pub IsMachineOf : Set → Option (List ℕ) → Type 0
+IsMachineOf set None = Unit {0}
+IsMachineOf set (Some name) = is_one_of set.machines name ≡ true
+
+-- the text that is printed of a machine and of images that may be written
+pub record IsText (set : Set) (text : List ℕ) (machine : Option (List ℕ)) (images : List Image) : Type 0 where
+  pub named : IsMachineOf set machine
+  pub ready : AreReady set images
+  pub printed : text ≡ values_text set machine images
+
+-- ---- the first pass
+
+-- an image for each device, with a number for each cell and something for each subsection
+pub record IsShaped (set : Set) (d : Device) (image : Image) : Type 0 where
+  pub version : image.version ≡ d.desc.version
+  pub subs : length image.came ≡ length d.subs
+  pub cells : length image.numbers ≡ length (device_cells set d)
+
+abbrev pub AreShaped : Set → List Device → List Image → Type 0
+AreShaped set [] [] = Unit {0}
+AreShaped set [] (image ∷ images) = ⊥
+AreShaped set (d ∷ devices) [] = ⊥
+AreShaped set (d ∷ devices) (image ∷ images) = IsShaped set d image × AreShaped set devices images
+
+-- each of these lines may stand where it does
+abbrev pub AreFine : List Entry → Type 0
+AreFine [] = Unit {0}
+AreFine (e ∷ es) = (line_reason e (entry_line e) ≡ None) × AreFine es
+
+-- The first bad line of the first pass: the lines before it are those of some state of the set and fine, and it isn't one that
+-- may stand there. All states with these lines want the same line there.
+pub record IsBadLine (set : Set) (text : List ℕ) (line : ℕ) (reason : ValuesReason) : Type 0 where
+  pub machine : Option (List ℕ)
+  pub images : List Image
+  pub before : List Entry
+  pub after : List Entry
+  pub rest : List ℕ
+  pub named : machine ≡ machine_named set.machines (first_line text)
+  pub shaped : AreShaped set set.devices images
+  pub state : entries set machine images ≡ before ++ after
+  pub fine : AreFine before
+  pub begins : text ≡ text_of (map entry_line before) ++ rest
+  pub number : line ≡ suc (length before)
+  pub bad : front_reason after rest ≡ Some reason
+
+-- ---- the second pass
+
+abbrev pub is_of_cell : ℕ → Entry → Bool
+is_of_cell c (OfMachine name) = false
+is_of_cell c (OfSection d image) = false
+is_of_cell c (OfSub d image j s at came) = false
+is_of_cell c (OfNumber x numbers) = x.cell == c
+
+-- whether the number of a cell has a line
+abbrev pub has_line : List Entry → ℕ → Bool
+has_line [] c = false
+has_line (e ∷ es) c = is_of_cell c e || has_line es c
+
+-- a number without a line is the cell's default
+abbrev pub AreUnsaid : Set → Device → Image → Type 0
+AreUnsaid set d image = (c : ℕ) → c < length image.numbers → has_line (device_entries set d image) c ≡ false
+    → get_or image.numbers c (pos 0) ≡ (get_or (device_cells set d) c no_cell).default
+
+abbrev pub AllUnsaid : Set → List Device → List Image → Type 0
+AllUnsaid set [] images = Unit {0}
+AllUnsaid set (d ∷ devices) [] = Unit {0}
+AllUnsaid set (d ∷ devices) (image ∷ images) = AreUnsaid set d image × AllUnsaid set devices images
+
+-- a text without a bad line in the first pass says this
+pub record Says (set : Set) (text : List ℕ) (machine : Option (List ℕ)) (images : List Image) : Type 0 where
+  pub named : IsMachineOf set machine
+  pub shaped : AreShaped set set.devices images
+  pub unsaid : AllUnsaid set set.devices images
+  pub fine : AreFine (entries set machine images)
+  pub printed : text ≡ text_of (map entry_line (entries set machine images))
+
+-- The first bad line of the second pass, which comes where the first one found none: that of a section or a subsection.
+pub record IsBadPart (set : Set) (text : List ℕ) (line : ℕ) (reason : ValuesReason) : Type 0 where
+  pub machine : Option (List ℕ)
+  pub images : List Image
+  pub before : List Entry
+  pub entry : Entry
+  pub after : List Entry
+  pub says : Says set text machine images
+  pub state : entries set machine images ≡ before ++ entry ∷ after
+  pub good : map (part_reason set) before ≡ map (λ e. None) before
+  pub number : line ≡ suc (length before)
+  pub bad : part_reason set entry ≡ Some reason
+
+-- ---- the whole
+
+abbrev pub Refused : Set → List ℕ → ℕ → ValuesReason → Type 0
+Refused set text line reason = IsBadLine set text line reason ⊎ IsBadPart set text line reason
+
+-- what is read of a text
+abbrev pub Reads : Set → List ℕ → ValuesRead → Type 0
+Reads set text (Values machine images) = IsText set text machine images
+Reads set text (Bad line reason) = Refused set text line reason

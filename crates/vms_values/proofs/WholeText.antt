@@ -1,0 +1,83 @@
+-- What the whole text says, by its devices and their second pass.
+use Rattle.std.proofs.Common.{◌≡◌, ℕ, ◌<◌, ◌≤◌, true, ◌&&◌, nat_le, List, [], ◌∷◌, length, map, Option, Some, None, Result, Ok, Err, refl, sym, ap, ◌∙◌, subst}
+use Rattle.std.specs.Option.{ForSome}
+use Rattle.std.proofs.lemmas.Bool.{and_parts, leb-true}
+use Rattle.vms_spec.specs.declared.Part.TheVariants as parts
+use Rattle.vms_spec.specs.Lists.{or_else, first_answer}
+use Rattle.vms_spec.specs.WellFormed.{failing, here, set_rules, size_rules, struct_fault, device_fault, first_fault}
+use Rattle.vms_desc.specs.Formed.{is_well_formed}
+use Rattle.vms_desc.proofs.Bounds.{all_true, or_else_none, none_is}
+use Rattle.vms_spec.specs.declared.ValuesReason.TheVariants as reasons
+use Rattle.vms_spec.specs.Sets.{Set}
+use Rattle.vms_spec.specs.Images.{Image}
+use Rattle.vms_spec.specs.ValuesReading.{BadLine, ReadAll, ValuesRead, Values, Bad, ended, judged, answer_of, judge_devices, or_bad}
+use Rattle.vms_values.specs.declared.fault.Values.{Values as Given}
+use Rattle.vms_values.specs.declared.fault.ValuesFault.{ValuesFault}
+use Rattle.vms_values.specs.declared.fault.ValuesFault.TheVariants as faults
+use Rattle.vms_values.specs.declared.devices.Reading.{Reading}
+use Rattle.vms_values.specs.declared.judge.BadLine.{BadLine as Found}
+use Rattle.vms_values.specs.Printing.{machine_of}
+use Rattle.vms_values.specs.Reading.{ReadsAs}
+use Rattle.vms_values.specs.Judging.{bad_of}
+use Rattle.vms_values.specs.DevicesRead.{AllRead, ToldAs}
+
+-- what follows where the whole text was read
+whole : (set : Set) (m : Option (List ℕ)) (all : ReadAll) (old new : Reading) (images : List Image) → AllRead set (Ok all) old new (Ok images) → new.lines.rest.now ≡ [] → old.judged ≡ None
+    → ended set m (Ok all) ≡ answer_of m all.devices (bad_of new.judged)
+whole set m all old new images h none first =
+    ap (λ (l : List ℕ). judged set m all l) (h.2 ∙ none)
+    ∙ ap (answer_of m all.devices) (sym (h.3 ∙ ap (λ (o : Option Found). or_bad (bad_of o) (judge_devices set set.devices all.devices)) first))
+
+pub text_read : (set : Set) (m : Option (List ℕ)) (r : Result ReadAll BadLine) (old new : Reading) (v : Given) → AllRead set r old new (Ok v.images.items) → new.lines.rest.now ≡ [] → old.judged ≡ None
+    → new.judged ≡ None → machine_of set v.machine ≡ m → ForSome v.machine (λ k. k < length set.machines) → ReadsAs set (ended set m r) (Ok v)
+text_read set m (Err b) old new v h none first fine is known = absurd h
+text_read set m (Ok all) old new v h none first fine is known =
+    let e : ended set m (Ok all) ≡ Values m (map (λ r. r.image) all.devices) =
+    whole set m all old new v.images.items h none first ∙ ap (λ (o : Option Found). answer_of m all.devices (bad_of o)) fine in
+    subst (λ (x : ValuesRead). ReadsAs set x (Ok v)) (sym e) (sym h.0, is, known)
+
+pub text_judged : (set : Set) (m : Option (List ℕ)) (r : Result ReadAll BadLine) (old new : Reading) (images : List Image) (b : Found) → AllRead set r old new (Ok images) → new.lines.rest.now ≡ [] → old.judged ≡ None
+    → new.judged ≡ Some b → ReadsAs set (ended set m r) (Err (faults.Bad b.line b.reason))
+text_judged set m (Err x) old new images b h none first found = absurd h
+text_judged set m (Ok all) old new images b h none first found =
+    let e : ended set m (Ok all) ≡ Bad b.line b.reason =
+    whole set m all old new images h none first ∙ ap (λ (o : Option Found). answer_of m all.devices (bad_of o)) found in
+    subst (λ (x : ValuesRead). ReadsAs set x (Err (faults.Bad b.line b.reason))) (sym e) (refl, refl)
+
+pub text_longer : (set : Set) (m : Option (List ℕ)) (r : Result ReadAll BadLine) (old new : Reading) (images : List Image) → AllRead set r old new (Ok images) → (new.lines.rest.now ≡ [] → ⊥)
+    → ReadsAs set (ended set m r) (Err (faults.Bad new.lines.line reasons.Form))
+text_longer set m (Err b) old new images h some = absurd h
+text_longer set m (Ok all) old new images h some = by all.rest h.2
+  where
+    by : (rest : List ℕ) → rest ≡ new.lines.rest.now → ReadsAs set (judged set m all rest) (Err (faults.Bad new.lines.line reasons.Form))
+    by [] e = absurd (some (sym e))
+    by (b ∷ rest) e = (sym h.1, refl)
+
+in_any : (set : Set) (x : ValuesRead) → ReadsAs set x (Err faults.NoMemory)
+in_any set (Values machine images) = tt
+in_any set (Bad line reason) = tt
+
+pub text_refused : (set : Set) (m : Option (List ℕ)) (r : Result ReadAll BadLine) (old new : Reading) (e : ValuesFault) → AllRead set r old new (Err e) → ReadsAs set (ended set m r) (Err e)
+text_refused set m (Ok all) old new (faults.Bad line reason) h = absurd h
+text_refused set m (Err b) old new (faults.Bad line reason) h = h
+text_refused set m r old new faults.NoMemory h = in_any set (ended set m r)
+
+pub text_told : (set : Set) (m : Option (List ℕ)) (r : Result ReadAll BadLine) (old new : Reading) (v : Given) (result : Result Given ValuesFault) → AllRead set r old new (Ok v.images.items) → new.lines.rest.now ≡ []
+    → old.judged ≡ None → machine_of set v.machine ≡ m → ForSome v.machine (λ k. k < length set.machines) → ToldAs new.judged v result → ReadsAs set (ended set m r) result
+text_told set m r old new v result h none first is known t = by new.judged refl t
+  where
+    by : (o : Option Found) → new.judged ≡ o → ToldAs o v result → ReadsAs set (ended set m r) result
+    by None e t = subst (ReadsAs set (ended set m r)) (sym t) (text_read set m r old new v h none first e is known)
+    by (Some b) e t = subst (ReadsAs set (ended set m r)) (sym t) (text_judged set m r old new v.images.items b h none first e)
+
+-- ---- a well-formed set has few machines
+
+pub few_machines : (set : Set) → is_well_formed set ≡ true → length set.machines ≤ 16
+unfolding first_fault
+few_machines set well =
+    let devices = or_else (first_answer (device_fault set) 0 set.devices) (failing 1 (size_rules set) (here parts.Set)) in
+    let a = or_else_none (failing 1 (set_rules set) (here parts.Set)) (or_else (first_answer (struct_fault set.structs) 0 set.structs) devices) (none_is (first_fault set) well) in
+    let all = all_true 1 (set_rules set) (here parts.Set) a.0 in
+    let b = all.1.1.1.1.1.1.0 in
+    let c = and_parts (nat_le (length set.machines) 16 && nat_le (length set.structs) 64) (nat_le (length set.devices) 64) b in
+    leb-true (length set.machines) 16 (and_parts (nat_le (length set.machines) 16) (nat_le (length set.structs) 64) c.0).0

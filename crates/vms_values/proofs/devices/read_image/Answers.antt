@@ -1,0 +1,26 @@
+use Rattle.std.proofs.Common.{length, ap, ◌∙◌}
+use Rattle.vms_desc.specs.Described.{described}
+use Rattle.vms_values.proofs.ImageRead.{default_of, own_spot, alike_kept}
+use Rattle.vms_values.proofs.SubsReading.{of_alike, subs_alike}
+use Rattle.vms_values.proofs.devices.read_image.Goals as goal
+
+pub read_part-requires : goal.read_part-requires
+read_part-requires c =
+    let set = described c.args.set.now in
+    let of = default_of set c.args.set.now.well_formed c.args.device c.requires.known c.in_ok-new.field-0 c.in_ok-new.ensures in
+    record { spot = own_spot set c.args.device c.version.result c.in_ok-new.field-0 of }
+
+pub read_subs-requires-clause-device : goal.read_subs-requires-clause-device
+read_subs-requires-clause-device c =
+    let set = described c.args.set.now in
+    let of = default_of set c.args.set.now.well_formed c.args.device c.requires.known c.in_ok-new.field-0 c.in_ok-new.ensures in
+    of_alike set c.args.device _ _ of (alike_kept _ _ c.in_ok-read_part.ensures.kept)
+
+pub judge_device-reading-requires-clause-device : goal.judge_device-reading-requires-clause-device
+judge_device-reading-requires-clause-device c =
+    let set = described c.args.set.now in
+    let of = default_of set c.args.set.now.well_formed c.args.device c.requires.known c.in_ok-new.field-0 c.in_ok-new.ensures in
+    of_alike set c.args.device _ _ (of_alike set c.args.device _ _ of (alike_kept _ _ c.in_ok-read_part.ensures.kept)) (subs_alike _ _ _ _ c.in_ok-read_subs.ensures.read)
+
+pub judge_device-reading-requires-clause-lines : goal.judge_device-reading-requires-clause-lines
+judge_device-reading-requires-clause-lines c = ap length c.deref.ensures.value ∙ c.in_ok-read_subs.ensures.count

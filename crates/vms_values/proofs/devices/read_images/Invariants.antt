@@ -1,0 +1,14 @@
+use Rattle.std.proofs.Common.{drop}
+use Rattle.vms_spec.specs.ValuesReading.{read_devices}
+use Rattle.vms_desc.specs.Described.{described}
+use Rattle.vms_values.specs.Judging.{bad_of}
+use Rattle.vms_values.proofs.Gathering.{Gathered}
+use Rattle.vms_values.proofs.devices.read_images.Given as goal
+
+abbrev pub invariant-loop-device : goal.invariant-loop-device
+invariant-loop-device l =
+    let set = described l.set in
+    let first = l.initial.reading in
+    let now = l.reading in
+    Gathered set l.device (read_devices set set.devices first.lines.line first.lines.rest.now) (bad_of first.judged) (bad_of now.judged) l.images.items
+    (read_devices set (drop l.device set.devices) now.lines.line now.lines.rest.now)

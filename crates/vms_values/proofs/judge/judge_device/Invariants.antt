@@ -1,0 +1,9 @@
+use Rattle.std.proofs.Common.{◌≡◌}
+use Rattle.vms_desc.specs.Described.{described}
+use Rattle.vms_values.proofs.JudgeLemmas.{judged_from}
+use Rattle.vms_values.proofs.judge.judge_device.Given as goal
+
+abbrev pub invariant-loop-sub : goal.invariant-loop-sub
+invariant-loop-sub l =
+    let set = described l.set in
+    judged_from set l.device l.image l.sub_lines l.sub ≡ judged_from set l.device l.image l.sub_lines 0

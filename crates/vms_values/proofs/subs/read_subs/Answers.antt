@@ -1,0 +1,67 @@
+use Rattle.std.proofs.Common.{◌≡◌, ◌<◌, ◌+◌, ◌∷◌, ◌++◌, [], ℕ, length, ap, ◌∙◌, arith, length-append}
+use Rattle.std.proofs.lemmas.List.{drop_all}
+use Rattle.std.proofs.lemmas.Result.{err_from_is_err_and}
+use Rattle.vms_spec.specs.declared.Part.TheVariants as parts
+use Rattle.vms_spec.specs.Images.{own_cells}
+use Rattle.vms_spec.specs.ValuesReading.{read_subs}
+use Rattle.vms_desc.specs.Asks.{first_cell}
+use Rattle.vms_desc.specs.Described.{described, device_at}
+use Rattle.vms_desc.proofs.AskLaws.{sub_first}
+use Rattle.vms_values.specs.Taken.{place_of}
+use Rattle.vms_values.proofs.DeviceLemmas.{on_true}
+use Rattle.vms_values.proofs.SubsReading.{follows_none, follows_next, follows_stop, sub_came, subs_bad, subs_end, alike_none, alike_more, of_alike}
+use Rattle.vms_values.proofs.subs.read_subs.Goals as goal
+
+pub loop-sub-init : goal.loop-sub-init
+loop-sub-init c =
+    let set = described c.args.set.now in
+    let d = device_at set c.args.device in
+    let p = place_of c.args.taken.now in
+    record {
+      follows = follows_none _ c.args.taken.now.image.came c.args.lines.now.items _ c.requires.none
+          (ap (λ (k : ℕ). read_subs set k d.subs p) (sub_first set (own_cells set d) d.subs));
+      count = ap length c.requires.none;
+      alike = alike_none c.args.taken.now.image;
+    }
+
+pub read_sub-requires-clause-device : goal.read_sub-requires-clause-device
+read_sub-requires-clause-device c = of_alike (described c.args.set.now) c.args.device _ _ c.requires.device c.loop-sub.invariant.alike
+
+pub returns-in_err-read_sub-clause-read : goal.returns-in_err-read_sub-clause-read
+returns-in_err-read_sub-clause-read c =
+    let set = described c.args.set.now in
+    let i = c.args.device in
+    let j = c.loop-sub.sub in
+    let lt : j < length (device_at set i).subs = omega (arith, c.sub_count-sub-end.ensures, c.loop-sub-test.true) in
+    let p = err_from_is_err_and c.from_residual.result c.from_residual.ensures.1 in
+    rw (p.1, p.2) (subs_bad _ _ j c.args.taken.now c.read_sub.new.taken c.loop-sub.taken c.push_line.new.lines.items _
+    (λ b same. follows_stop set i j lt _ c.loop-sub.taken c.loop-sub.lines.items b c.loop-sub.invariant.follows same) c.in_err-read_sub.ensures.read)
+
+pub loop-sub-preserved : goal.loop-sub-preserved
+loop-sub-preserved c =
+    let set = described c.args.set.now in
+    let i = c.args.device in
+    let j = c.loop-sub.sub in
+    let lt : j < length (device_at set i).subs = omega (arith, c.sub_count-sub-end.ensures, c.loop-sub-test.true) in
+    let old = c.loop-sub.taken in
+    let new = c.read_sub.new.taken in
+    let r = sub_came _ j old new c.in_ok-read_sub.ensures.read in
+    let room : j < length old.image.came = omega (arith, lt, c.loop-sub.invariant.alike.subs, c.requires.device.subs) in
+    let pushed : c.push_line.new.lines.items ≡ c.loop-sub.lines.items ++ old.lines.line ∷ [] = on_true c.push_line.result c.if-not-push_line.false c.push_line.ensures in
+    record {
+      follows = follows_next set i j lt _ old new c.loop-sub.lines.items c.push_line.new.lines.items r.o r.q c.loop-sub.invariant.follows room r.read r.place r.came pushed;
+      count = ap length pushed ∙ length-append c.loop-sub.lines.items (old.lines.line ∷ []) ∙ ap (λ (n : ℕ). n + 1) c.loop-sub.invariant.count;
+      alike = alike_more _ _ _ c.loop-sub.invariant.alike r.alike;
+    }
+
+pub returns : goal.returns
+returns c =
+    let set = described c.args.set.now in
+    let i = c.args.device in
+    let d = device_at set i in
+    let end : c.loop-sub.sub ≡ length d.subs = omega (arith, c.sub_count-sub-end.ensures, c.loop-sub-test.false) in
+    record {
+      read = subs_end _ set (first_cell set (parts.Sub i c.loop-sub.sub)) c.loop-sub.sub _ c.args.taken.now c.loop-sub.taken c.loop-sub.lines.items c.loop-sub.invariant.follows
+          (drop_all c.loop-sub.sub d.subs (omega (arith, end))) (omega (arith, end, c.loop-sub.invariant.alike.subs, c.requires.device.subs)) c.loop-sub.invariant.alike;
+      count = c.loop-sub.invariant.count ∙ end;
+    }

@@ -1,0 +1,51 @@
+use Rattle.std.proofs.Common.{◌≡◌, ◌+◌, ◌-◌, ◌*◌, ◌≤◌, length, drop}
+use Rattle.vms_spec.specs.Layout.{cells_from}
+use Rattle.vms_spec.specs.ValuesReading.{readers, read_desc, read_elements, read_fields}
+use Rattle.vms_parts.specs.Views.{field_of}
+use Rattle.vms_desc.specs.Described.{described}
+use Rattle.vms_desc.specs.Parts.{desc_at}
+use Rattle.vms_walk.specs.Steps.{size_in, table, cells_in, capacities_of}
+use Rattle.vms_walk.proofs.Ranks.{item_rank, part_rank}
+use Rattle.vms_values.specs.Paths.{path_text}
+use Rattle.vms_values.specs.Taken.{IsKept, place_of}
+use Rattle.vms_values.proofs.taken.+read.Given as goal
+
+abbrev pub decreases-read_elements : goal.decreases-read_elements
+decreases-read_elements l = item_rank l.run.field.now.item + 1
+
+abbrev pub decreases-read_field : goal.decreases-read_field
+decreases-read_field l = item_rank l.run.field.now.item + 2
+
+abbrev pub decreases-read_item : goal.decreases-read_item
+decreases-read_item l = item_rank l.run.field.now.item
+
+abbrev pub decreases-read_part : goal.decreases-read_part
+decreases-read_part l = part_rank (described l.set.now) l.spot.part + 3
+
+abbrev pub invariant-read_elements-loop-index : goal.invariant-read_elements-loop-index
+invariant-read_elements-loop-index l =
+    let set = described l.set in
+    let rs = readers set in
+    let run = l.run in
+    let f = field_of run.field.now in
+    let size = size_in set f.item in
+    let caps = capacities_of run.most in
+    let path = path_text l.path in
+    record {
+      reads : read_elements rs f caps path run.present l.first size l.index (run.count - l.index) (place_of l.taken)
+          ≡ read_elements rs f caps path run.present run.first size 0 run.count (place_of l.initial.taken);
+      here : l.first ≡ run.first + l.index * size;
+      kept : IsKept l.initial.taken.image l.taken.image;
+    }
+
+abbrev pub invariant-read_part-loop-field : goal.invariant-read_part-loop-field
+invariant-read_part-loop-field l =
+    let set = described l.set in
+    let d = desc_at set l.spot.part in
+    let path = path_text l.path in
+    record {
+      reads : read_fields (readers set) d l.spot.version path l.present l.spot.base l.field l.cell (drop l.field d.fields) (place_of l.taken)
+          ≡ read_desc (readers set) d l.spot.version path l.present l.spot.base (place_of l.initial.taken);
+      room : l.cell + length (cells_from (cells_in (table set)) d.fields l.field (drop l.field d.fields)) ≤ length l.taken.image.numbers;
+      kept : IsKept l.initial.taken.image l.taken.image;
+    }

@@ -1,0 +1,70 @@
+-- What is judged of sections and subsections.
+use Rattle.std.specs.Prelude.{◌≡◌, ℕ, Bool, true, false, not, ◌&&◌, if◌then◌else◌, List, [], ◌∷◌, ◌++◌, get_or, drop, Option, Some, None, ℤ}
+use Rattle.std.proofs.Common.{refl, sym, ap, ◌∙◌}
+use Rattle.vms_spec.specs.declared.Part.TheVariants as parts
+use Rattle.vms_spec.specs.declared.ValuesReason.{ValuesReason}
+use Rattle.vms_spec.specs.declared.ValuesReason.TheVariants as reasons
+use Rattle.vms_spec.specs.Sets.{Set}
+use Rattle.vms_spec.specs.Layout.{desc_cells, struct_cells}
+use Rattle.vms_spec.specs.Images.{Image}
+use Rattle.vms_spec.specs.ValuesReading.{BadLine, ReadDevice, sub_fails, is_said_well, are_defaults}
+use Rattle.vms_desc.specs.Asks.{first_cell}
+use Rattle.vms_desc.specs.Described.{device_at}
+use Rattle.vms_desc.specs.Parts.{sub_at}
+use Rattle.vms_walk.specs.declared.step.Step.{Step}
+use Rattle.vms_walk.specs.declared.step.Step.TheVariants.{Number, Constant, Filler, Rule}
+use Rattle.vms_values.specs.declared.judge.BadLine.{BadLine as Found}
+
+-- a bad line, as the definitions have it
+abbrev pub bad_of : Option Found → Option BadLine
+bad_of None = None
+bad_of (Some b) = Some (record { line = b.line; reason = b.reason })
+
+-- what was read of a device
+abbrev pub read_of : Image → ℕ → List ℕ → ReadDevice
+read_of image line sub_lines = record { image = image; line = line; sub_lines = sub_lines }
+
+-- why subsection j of device i is refused, if so
+abbrev pub sub_judged : Set → ℕ → ℕ → Image → Option ValuesReason
+sub_judged set i j image =
+    let d = device_at set i in
+    let s = sub_at d j in
+    let at = first_cell set (parts.Sub i j) in
+    let came = get_or image.came j None in
+    if sub_fails set s came image.numbers at then Some reasons.Invalid
+    else if not (is_said_well set d image j s came at) then Some reasons.Needed
+    else None
+
+-- whether its cells are at their defaults
+abbrev pub sub_defaults : Set → ℕ → ℕ → List ℤ → Bool
+sub_defaults set i j numbers =
+    let s = sub_at (device_at set i) j in
+    are_defaults (desc_cells (struct_cells set) s.desc) (drop (first_cell set (parts.Sub i j)) numbers)
+
+-- ---- steps
+
+-- whether the validations hold at each end among them
+abbrev pub steps_hold : List Step → Bool
+steps_hold [] = true
+steps_hold (Number cell kind most ∷ xs) = steps_hold xs
+steps_hold (Constant kind value ∷ xs) = steps_hold xs
+steps_hold (Filler bytes ∷ xs) = steps_hold xs
+steps_hold (Rule holds ∷ xs) = holds && steps_hold xs
+
+and_assoc : (a b c : Bool) → ((a && b) && c) ≡ (a && (b && c))
+and_assoc true b c = refl
+and_assoc false b c = refl
+
+hold_append : (xs ys : List Step) → steps_hold (xs ++ ys) ≡ (steps_hold xs && steps_hold ys)
+hold_append [] ys = refl
+hold_append (Number cell kind most ∷ xs) ys = hold_append xs ys
+hold_append (Constant kind value ∷ xs) ys = hold_append xs ys
+hold_append (Filler bytes ∷ xs) ys = hold_append xs ys
+hold_append (Rule holds ∷ xs) ys = ap (λ (b : Bool). holds && b) (hold_append xs ys) ∙ sym (and_assoc holds (steps_hold xs) (steps_hold ys))
+
+-- steps after steps at which they hold, and steps after others
+pub hold_then : (xs ys : List Step) (b : Bool) → steps_hold xs ≡ true → steps_hold ys ≡ b → steps_hold (xs ++ ys) ≡ b
+hold_then xs ys b e f = hold_append xs ys ∙ ap (λ (c : Bool). c && steps_hold ys) e ∙ f
+
+pub fail_before : (xs ys : List Step) → steps_hold xs ≡ false → steps_hold (xs ++ ys) ≡ false
+fail_before xs ys e = hold_append xs ys ∙ ap (λ (c : Bool). c && steps_hold ys) e

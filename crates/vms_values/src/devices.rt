@@ -1,0 +1,120 @@
+// Reads values texts of every set.
+ghost use Rattle.std.specs.Prelude.{◌≡◌, ◌<◌, ◌∷◌, ◌++◌, [], length, OnOk};
+ghost use Rattle.std.specs.Bool.{OnTrue};
+ghost use Rattle.vms_spec.specs.ValuesReading.{values_read, read_devices as devices_read};
+ghost use Rattle.vms_desc.specs.Described.{described, device_at};
+ghost use Rattle.vms_write.specs.Judged.{IsOfDevice};
+ghost use Rattle.vms_values.specs.Reading.{ReadsAs};
+ghost use Rattle.vms_values.specs.DevicesRead.{device_read, start_of, DeviceRead, AllRead, map_ok, ToldAs};
+
+use crate::cursor::Lines;
+use crate::judge::{BadLine, judge_device};
+use crate::machine::read_machine;
+use crate::path::Path;
+use crate::read::{bad, push_image, read_section};
+use crate::subs::read_subs;
+use crate::taken::{Taken, read_part};
+use crate::{Values, ValuesFault};
+use std::alloc::Global;
+use vms_desc::{DescSet, Part};
+use vms_image::Image;
+use vms_spec::ValuesReason;
+use vms_walk::Spot;
+
+/// What is left of a text, and the first bad line of the second pass so far.
+#[derive(Clone, Copy, Drop)]
+struct Reading<'a> {
+    lines: Lines<'a>,
+    judged: Option<BadLine>,
+}
+
+/// Reads a values text of a set: the machine that it names and an image for each device, or the first
+/// line at which it isn't one, and why. A line that no text of the set has there goes before a section
+/// or subsection whose validations fail or that isn't sent as it is needed. The text is read once.
+pub fn read_text(alloc: Global, set: &DescSet, text: &[u8]) -> Result<Values, ValuesFault>
+    requires small { length text.now < 4294967296 }
+    ensures { ReadsAs (described set.now) (values_read (described set.now) text.now) result }
+{
+    let start = read_machine(set.parts().machines.as_slice(), text);
+    let mut reading = Reading {
+        lines: start.lines,
+        judged: None,
+    };
+    let images = read_images(alloc, set, &mut reading)?;
+    if !reading.lines.rest.is_empty() {
+        return Err(bad(&reading.lines, ValuesReason::Form));
+    }
+    told(
+        reading.judged,
+        Values {
+            machine: start.machine,
+            images,
+        },
+    )
+}
+
+// These values, unless a line is bad in the second pass.
+fn told(judged: Option<BadLine>, values: Values) -> Result<Values, ValuesFault>
+    ensures { ToldAs judged values result }
+{
+    match judged {
+        Some(BadLine { line, reason }) => Err(ValuesFault::Bad { line, reason }),
+        None => Ok(values),
+    }
+}
+
+// The images of all devices.
+fn read_images(
+    alloc: Global,
+    set: &DescSet,
+    reading: &mut Reading,
+) -> Result<Vec<Image>, ValuesFault>
+    requires few { length (described set.now).devices < 4294967296 }
+    ensures { let set = described set.now in
+        let whole = devices_read set set.devices in
+        let read = whole reading.old.lines.line reading.old.lines.rest.now in
+        AllRead set read reading.old reading.new (map_ok (λ v. v.items) result) }
+{
+    let mut images = Vec::new(alloc);
+    for device in 0..set.parts().devices.as_slice().len() as u32 {
+        let image = read_image(alloc, set, device, reading)?;
+        if !push_image(&mut images, image) {
+            return Err(ValuesFault::NoMemory);
+        }
+    }
+    Ok(images)
+}
+
+// The image of the device of this number, by the lines of its section and its subsections.
+fn read_image(
+    alloc: Global,
+    set: &DescSet,
+    device: u32,
+    reading: &mut Reading,
+) -> Result<Image, ValuesFault>
+    requires known { device < length (described set.now).devices }
+    ensures { let d = device_at (described set.now) device in
+        let start = start_of (described set.now) d reading.old in
+        let whole = device_read (described set.now) d start in
+        DeviceRead (described set.now) d whole reading.old reading.new result }
+{
+    let mut taken = Taken {
+        image: Image::new(alloc, set, device)?,
+        lines: reading.lines,
+    };
+    let mut sub_lines = Vec::new(alloc);
+    let line = taken.lines.line;
+    read_section(set.device(device), &mut taken.lines)?;
+    let own = Spot {
+        part: Part::Device(device),
+        version: taken.image.version(),
+        base: 0,
+    };
+    read_part(set, own, &Path::Top, true, &mut taken)?;
+    read_subs(set, device, &mut taken, &mut sub_lines)?;
+    reading.lines = taken.lines;
+    if reading.judged.is_none() {
+        reading.judged = judge_device(set, device, &taken.image, line, &sub_lines);
+    }
+    Ok(taken.image)
+}

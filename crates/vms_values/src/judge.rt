@@ -1,0 +1,202 @@
+// Judges the sections and subsections of what was read.
+ghost use Rattle.std.specs.Prelude.{◌≡◌, ◌<◌, ◌≤◌, ◌-◌, not, [], length, get_or, pos};
+ghost use Rattle.vms_spec.specs.declared.Part.TheVariants as parts;
+ghost use Rattle.vms_spec.specs.Numbers.{same_number};
+ghost use Rattle.vms_spec.specs.Readiness.{rules_are_true};
+ghost use Rattle.vms_spec.specs.ValuesReading.{judge_device as device_judged, sub_fails};
+ghost use Rattle.vms_desc.specs.Asks.{first_cell};
+ghost use Rattle.vms_desc.specs.Described.{described, device_at};
+ghost use Rattle.vms_desc.specs.Parts.{sub_at};
+ghost use Rattle.vms_walk.specs.Steps.{HasSpot, spot_slots};
+ghost use Rattle.vms_write.specs.Fine.{no_form, settle};
+ghost use Rattle.vms_write.specs.Judged.{IsOfDevice};
+ghost use Rattle.vms_values.specs.Judging.{bad_of, read_of, sub_judged, sub_defaults};
+
+use vms_desc::{CellForm, Cells, DescSet, Part};
+use vms_image::Image;
+use vms_spec::ValuesReason;
+use vms_walk::{Spot, Step, Walker, walk};
+
+/// A line that is refused, and why.
+#[derive(Clone, Copy, Drop)]
+pub(crate) struct BadLine {
+    pub(crate) line: u32,
+    pub(crate) reason: ValuesReason,
+}
+
+/// The first bad line of a device, by all its numbers, where its section and its subsections have
+/// these lines.
+pub(crate) fn judge_device(
+    set: &DescSet,
+    device: u32,
+    image: &Image,
+    line: u32,
+    sub_lines: &[u32],
+) -> Option<BadLine>
+    requires device { IsOfDevice (described set.now) device image.now }
+    requires lines { length sub_lines.now ≡ length (device_at (described set.now) device).subs }
+    ensures { let d = device_at (described set.now) device in
+        bad_of result ≡ device_judged (described set.now) d (read_of image.now line sub_lines.now) }
+{
+    let own = Spot {
+        part: Part::Device(device),
+        version: image.version(),
+        base: 0,
+    };
+    if !hold_rules(set, own, image) {
+        let reason = ValuesReason::Invalid;
+        return Some(BadLine { line, reason });
+    }
+    for sub in 0..set.sub_count(device) {
+        if let Some(reason) = judge_sub(set, device, sub, image) {
+            let line = sub_lines[sub as usize];
+            return Some(BadLine { line, reason });
+        }
+    }
+    None
+}
+
+// Why the line of a subsection is refused, if so.
+fn judge_sub(set: &DescSet, device: u32, sub: u32, image: &Image) -> Option<ValuesReason>
+    requires device { IsOfDevice (described set.now) device image.now }
+    requires is_sub { sub < length (device_at (described set.now) device).subs }
+    ensures { result ≡ sub_judged (described set.now) device sub image.now }
+{
+    let came = image.came(sub);
+    if !holds_sub(set, device, sub, image, came) {
+        return Some(ValuesReason::Invalid);
+    }
+    let well = if set.is_needed(device, sub, image) {
+        came.is_some()
+    } else {
+        came.is_none() && is_bare(set, device, sub, image)
+    };
+    if well {
+        None
+    } else {
+        Some(ValuesReason::Needed)
+    }
+}
+
+// Whether the validations of a subsection hold, if it came.
+fn holds_sub(set: &DescSet, device: u32, sub: u32, image: &Image, came: Option<u32>) -> bool
+    requires device { IsOfDevice (described set.now) device image.now }
+    requires is_sub { sub < length (device_at (described set.now) device).subs }
+    ensures { let set = described set.now in
+        let s = sub_at (device_at set device) sub in
+        let at = first_cell set (parts.Sub device sub) in
+        result ≡ not (sub_fails set s came image.now.numbers at) }
+{
+    match came {
+        Some(version) => {
+            let part = Part::Sub(device, sub);
+            let spot = Spot {
+                part,
+                version,
+                base: set.first_cell(part),
+            };
+            hold_rules(set, spot, image)
+        }
+        None => true,
+    }
+}
+
+// Whether all cells of a subsection are at their defaults.
+fn is_bare(set: &DescSet, device: u32, sub: u32, image: &Image) -> bool
+    requires device { IsOfDevice (described set.now) device image.now }
+    requires is_sub { sub < length (device_at (described set.now) device).subs }
+    ensures { result ≡ sub_defaults (described set.now) device sub image.now.numbers }
+{
+    let part = Part::Sub(device, sub);
+    let first = set.first_cell(part);
+    let end = first + set.cells_of(part);
+    are_default(image, set.cell_forms(device), first, end)
+}
+
+// Whether the cells from one up to another are at their defaults.
+fn are_default(image: &Image, forms: &[CellForm], first: u32, end: u32) -> bool
+    requires forms { length forms.now ≡ length image.now.numbers }
+    requires end { end ≤ length image.now.numbers }
+    ensures { result ≡ settle [] forms.now image.now.numbers first (end - first) }
+{
+    for cell in first..end {
+        if !is_default(image, forms, cell) {
+            return false;
+        }
+    }
+    true
+}
+
+fn is_default(image: &Image, forms: &[CellForm], cell: u32) -> bool
+    requires forms { length forms.now ≡ length image.now.numbers }
+    requires inside { cell < length image.now.numbers }
+    ensures { let default = (get_or forms.now cell no_form).default in
+        result ≡ same_number (get_or image.now.numbers cell (pos 0)) default }
+{
+    image.get(cell) == forms[cell as usize].default
+}
+
+// Whether the validations hold of a part and of the structures that are sent in it.
+fn hold_rules(set: &DescSet, spot: Spot, image: &Image) -> bool
+    requires spot { HasSpot (described set.now) spot image.now.numbers }
+    ensures { let slots = spot_slots (described set.now) spot image.now.numbers in
+        result ≡ rules_are_true slots }
+{
+    let mut rules = Rules { image };
+    match walk(set, spot, &mut rules) {
+        Ok(()) => true,
+        Err(Broken) => false,
+    }
+}
+
+// Goes on where validations hold.
+#[derive(Clone, Copy, Drop)]
+struct Rules<'a> {
+    image: &'a Image,
+}
+
+// Validations don't hold.
+#[derive(Clone, Copy, Drop)]
+struct Broken;
+
+impl Cells for Rules<'_> {
+    ghost numbers = { λ rules. rules.image.now.numbers };
+
+    fn number(&self, cell: u32) -> i128 {
+        self.image.get(cell)
+    }
+}
+
+impl Walker for Rules<'_> {
+    ghost use Rattle.std.specs.Prelude.{◌≡◌, true, false, refl};
+    ghost use Rattle.std.proofs.Common.{ap, ◌∙◌};
+    ghost use Rattle.vms_walk.proofs.Kept.{keeps_same};
+    ghost use Rattle.vms_values.specs.Judging.{steps_hold, hold_then, fail_before};
+
+    type Fault = Broken;
+
+    ghost goes = { λ xs a b. (b.image ≡ a.image) × (steps_hold xs ≡ true) };
+
+    ghost stops = { λ xs a fault b. (b.image ≡ a.image) × (steps_hold xs ≡ false) };
+
+    ghost may = { λ a step. Unit {0} };
+
+    ghost keeps = { λ xs a b h. keeps_same xs _ _ (ap (λ image. image.now.numbers) h.0) };
+
+    ghost keeps_stopped = { λ xs a b fault h. keeps_same xs _ _ (ap (λ image. image.now.numbers) h.0) };
+
+    ghost none = { λ a. (refl, refl) };
+
+    ghost more = { λ xs ys a b c h k. (k.0 ∙ h.0, hold_then xs ys true h.1 k.1) };
+
+    ghost stops_after = { λ xs ys a b c fault h k. (k.0 ∙ h.0, hold_then xs ys false h.1 k.1) };
+
+    ghost stops_before = { λ xs ys a b fault h. (h.0, fail_before xs ys h.1) };
+
+    fn step(&mut self, step: Step) -> Result<(), Broken> {
+        match step {
+            Step::Rule { holds } => { if holds { Ok(()) } else { Err(Broken) } }
+            Step::Number { .. } | Step::Constant { .. } | Step::Filler { .. } => Ok(()),
+        }
+    }
+}

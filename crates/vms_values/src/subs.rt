@@ -1,0 +1,128 @@
+// Reads the lines of subsections.
+ghost use Rattle.std.specs.Prelude.{◌≡◌, ◌<◌, ◌∷◌, ◌++◌, [], length, OnSome, OnOk};
+ghost use Rattle.std.specs.Bool.{OnTrue};
+ghost use Rattle.vms_spec.specs.declared.Part.TheVariants as parts;
+ghost use Rattle.vms_spec.specs.Images.{own_cells};
+ghost use Rattle.vms_spec.specs.Spelling.{first_line};
+ghost use Rattle.std.specs.Prelude.{codes};
+ghost use Rattle.std.specs.Fmt.{decimal};
+ghost use Rattle.std.specs.Str.{bytes_eq};
+ghost use Rattle.vms_spec.specs.ValuesReading.{sub_line, sub_said as said, read_subs as subs_read};
+ghost use Rattle.vms_desc.specs.Asks.{first_cell};
+ghost use Rattle.vms_desc.specs.Described.{described, device_at};
+ghost use Rattle.vms_desc.specs.Parts.{sub_at};
+ghost use Rattle.vms_parts.specs.Views.{sub_of};
+ghost use Rattle.vms_write.specs.Judged.{IsOfDevice};
+ghost use Rattle.vms_values.specs.Taken.{place_of};
+ghost use Rattle.vms_values.specs.SubsTaken.{line_said, SubPassed, sub_read, SubReached, SubsReached};
+
+use crate::ValuesFault;
+use crate::cursor::Lines;
+use crate::path::Path;
+use crate::read::{bad, pass};
+use crate::taken::{Taken, read_part};
+use crate::text::{is_joined, next_line};
+use itoa::Buffer;
+use vms_desc::{DescSet, Part, Sub};
+use vms_spec::ValuesReason;
+use vms_walk::Spot;
+
+/// Reads the subsections of a device, and puts the numbers of their lines behind one another.
+pub(crate) fn read_subs(
+    set: &DescSet,
+    device: u32,
+    taken: &mut Taken,
+    lines: &mut Vec<u32>,
+) -> Result<(), ValuesFault>
+    requires device { IsOfDevice (described set.now) device taken.old.image }
+    requires none { lines.old.items ≡ [] }
+    ensures read { let d = device_at (described set.now) device in
+        let whole = subs_read (described set.now) (own_cells (described set.now) d) d.subs in
+        SubsReached (whole (place_of taken.old)) taken.old taken.new lines.new.items result }
+    ensures count { let d = device_at (described set.now) device in
+        OnOk result (length lines.new.items ≡ length d.subs) }
+{
+    for sub in 0..set.sub_count(device) {
+        if !push_line(lines, taken.lines.line) {
+            return Err(ValuesFault::NoMemory);
+        }
+        read_sub(set, device, sub, taken)?;
+    }
+    Ok(())
+}
+
+// Appends the number of a line, or tells that memory is wanting.
+fn push_line(lines: &mut Vec<u32>, line: u32) -> bool
+    ensures { OnTrue result (lines.new.items ≡ lines.old.items ++ line ∷ []) }
+{
+    lines.push(line).is_ok()
+}
+
+// The line and the numbers of a subsection.
+fn read_sub(set: &DescSet, device: u32, sub: u32, taken: &mut Taken) -> Result<(), ValuesFault>
+    requires device { IsOfDevice (described set.now) device taken.old.image }
+    requires is_sub { sub < length (device_at (described set.now) device).subs }
+    ensures read { let set = described set.now in
+        let s = sub_at (device_at set device) sub in
+        let at = first_cell set (parts.Sub device sub) in
+        SubReached (sub_read set s at (place_of taken.old)) sub taken.old taken.new result }
+{
+    let described = &set.device(device).subs.as_slice()[sub as usize];
+    let came = read_sub_line(described, &mut taken.lines)?;
+    taken.image.mark(sub, came);
+    let part = Part::Sub(device, sub);
+    let spot = Spot {
+        part,
+        version: described.desc.version,
+        base: set.first_cell(part),
+    };
+    read_part(set, spot, &Path::Top, true, taken)
+}
+
+// The version at which a subsection came by its line, if it did.
+fn read_sub_line(sub: &Sub, lines: &mut Lines) -> Result<Option<u32>, ValuesFault>
+    ensures { let o = said (sub_of sub.now) (first_line lines.old.rest.now) in
+        SubPassed o lines.old lines.new result }
+{
+    let Some(line) = next_line(lines.rest) else {
+        return Err(bad(lines, ValuesReason::Form));
+    };
+    match sub_said(sub, line.text) {
+        Some(came) => {
+            pass(lines, line);
+            Ok(came)
+        }
+        None => Err(bad(lines, ValuesReason::Form)),
+    }
+}
+
+// What a line says of a subsection: its version, a dash, or nothing of it.
+fn sub_said(sub: &Sub, line: &[u8]) -> Option<Option<u32>>
+    ensures said { result ≡ line_said (sub_of sub.now) line.now }
+    ensures long { OnSome result (0 < length line.now) }
+{
+    if is_at_version(sub, line) {
+        Some(Some(sub.desc.version))
+    } else if is_dashed(sub, line) {
+        Some(None)
+    } else {
+        None
+    }
+}
+
+fn is_at_version(sub: &Sub, line: &[u8]) -> bool
+    ensures same { let version = codes "v" ++ decimal sub.now.desc.version in
+        result ≡ bytes_eq line.now (sub_line (sub_of sub.now) version) }
+    ensures long { OnTrue result (0 < length line.now) }
+{
+    let mut version = Buffer::new();
+    let version = version.format(sub.desc.version).as_bytes();
+    is_joined(line, &[b"sub ", sub.desc.name.as_bytes(), b" v", version])
+}
+
+fn is_dashed(sub: &Sub, line: &[u8]) -> bool
+    ensures same { result ≡ bytes_eq line.now (sub_line (sub_of sub.now) (codes "-")) }
+    ensures long { OnTrue result (0 < length line.now) }
+{
+    is_joined(line, &[b"sub ", sub.desc.name.as_bytes(), b" -"])
+}

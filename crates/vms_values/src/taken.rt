@@ -1,0 +1,248 @@
+// Reads the lines of a description: arrays to their counts, and structures.
+ghost use Rattle.std.specs.Prelude.{◌≡◌, ◌+◌, ◌*◌, ◌<◌, ◌≤◌, ◌&&◌, true, length, slice_set};
+ghost use Rattle.vms_spec.specs.Tests.{is_there};
+ghost use Rattle.vms_spec.specs.Layout.{no_parent};
+ghost use Rattle.vms_desc.specs.Asks.{field_at, own_numbers};
+ghost use Rattle.vms_spec.specs.Numbers.{exceeds, same_number};
+ghost use Rattle.vms_spec.specs.Spelling.{number_spelled};
+ghost use Rattle.vms_values.specs.Spelled.{held};
+ghost use Rattle.vms_spec.specs.Rules.{uses_below};
+ghost use Rattle.vms_spec.specs.ValuesReading.{readers, read_desc, read_elements, read_item};
+ghost use Rattle.vms_desc.specs.Described.{described};
+ghost use Rattle.vms_desc.specs.Parts.{desc_at};
+ghost use Rattle.vms_parts.specs.Views.{field_of};
+ghost use Rattle.vms_walk.specs.Steps.{HasSpot, size_in, capacities_of};
+ghost use Rattle.vms_values.specs.Paths.{path_text};
+ghost use Rattle.vms_values.specs.Printing.{IsRun};
+ghost use Rattle.vms_values.specs.Reading.{Reaches};
+ghost use Rattle.vms_values.specs.Taken.{IsKept, place_of, run_read, line_read, number_judged};
+
+use crate::ValuesFault;
+use crate::cursor::Lines;
+use crate::numbers::read_number;
+use crate::path::Path;
+use crate::read::{bad, number_text, pass};
+use crate::text::next_line;
+use vms_desc::{Count, DescSet, Field, Part};
+use vms_image::Image;
+use vms_kinds::{Item, Kind};
+use vms_spec::ValuesReason;
+use vms_walk::Spot;
+
+/// What is read of a device so far, and what is left of the text.
+#[derive(Drop)]
+pub(crate) struct Taken<'a> {
+    pub(crate) image: Image,
+    pub(crate) lines: Lines<'a>,
+}
+
+/// Elements of a field, one after the other: so many, of which the first has the first cell `first`.
+/// A number counts `most` at most, and is its default where the elements aren't `present`.
+#[derive(Clone, Copy)]
+struct Run<'a> {
+    field: &'a Field,
+    first: u32,
+    count: u32,
+    most: Option<u32>,
+    present: bool,
+}
+
+/// Reads the lines of a part, or of one element of a structure, which is `present` or not.
+#[cycle(read)]
+pub(crate) fn read_part(
+    set: &DescSet,
+    spot: Spot,
+    path: &Path,
+    present: bool,
+    taken: &mut Taken,
+) -> Result<(), ValuesFault>
+    requires spot { HasSpot (described set.now) spot taken.old.image.numbers }
+    ensures read { let set = described set.now in
+        let d = desc_at set spot.part in
+        let text = path_text path.now in
+        let whole = read_desc (readers set) d spot.version text present spot.base in
+        Reaches (whole (place_of taken.old)) (place_of taken.new) result }
+    ensures kept { IsKept taken.old.image taken.new.image }
+{
+    let mut cell = spot.base;
+    for field in 0..set.field_count(spot.part) {
+        let run = Run {
+            field: &set.desc(spot.part).fields.as_slice()[field as usize],
+            first: cell,
+            count: set.elements(spot.part, spot.base, field, &taken.image),
+            most: set.most(spot.part, field),
+            present: is_present(set, spot, field, present, &taken.image),
+        };
+        read_field(set, run, path, taken)?;
+        cell += set.field_cells(spot.part, field);
+    }
+    Ok(())
+}
+
+// Whether a field is there, of a part that is present or not.
+fn is_present(set: &DescSet, spot: Spot, field: u32, present: bool, image: &Image) -> bool
+    requires spot { HasSpot (described set.now) spot image.now.numbers }
+    requires field { field < length (desc_at (described set.now) spot.part).fields }
+    ensures { let set = described set.now in
+        let own = own_numbers set spot.part image.now.numbers spot.base in
+        let f = field_at set spot.part field in
+        result ≡ (present && is_there f.test f.since spot.version own no_parent) }
+{
+    present && set.is_there(spot.part, spot.base, field, spot.version, image)
+}
+
+// The lines of a field's elements.
+#[cycle(read)]
+fn read_field(set: &DescSet, run: Run, path: &Path, taken: &mut Taken) -> Result<(), ValuesFault>
+    requires fits { let numbers = taken.old.image.numbers in
+        IsRun (described set.now) (field_of run.field.now) run.first run.count numbers }
+    ensures read { let f = field_of run.entry.field.now in
+        let text = path_text path.now in
+        let set = described set.now in
+        let caps = capacities_of run.entry.most in
+        let r = run.entry in
+        let whole = run_read (readers set) f f.count caps text r.present r.first r.count in
+        Reaches (whole (place_of taken.old)) (place_of taken.new) result }
+    ensures kept { IsKept taken.old.image taken.new.image }
+{
+    let path = Path::Field {
+        before: &*path,
+        name: run.field.name.as_bytes(),
+    };
+    match run.field.count {
+        Count::One => read_item(set, run, &path, taken),
+        _ => read_elements(set, run, &path, taken),
+    }
+}
+
+// The lines of the elements of an array.
+#[cycle(read)]
+fn read_elements(set: &DescSet, run: Run, path: &Path, taken: &mut Taken) -> Result<(), ValuesFault>
+    requires reaches { uses_below (length (described set.now).structs) run.field.now.item ≡ true }
+    requires small { size_in (described set.now) run.field.now.item ≤ 16384 }
+    requires room { let size = size_in (described set.now) run.field.now.item in
+        run.first + run.count * size ≤ length taken.old.image.numbers }
+    requires few { length taken.old.image.numbers ≤ 16384 }
+    ensures read { let f = field_of run.entry.field.now in
+        let text = path_text path.now in
+        let set = described set.now in
+        let size = size_in set f.item in
+        let caps = capacities_of run.entry.most in
+        let r = run.entry in
+        let whole = read_elements (readers set) f caps text r.present r.first size 0 r.count in
+        Reaches (whole (place_of taken.old)) (place_of taken.new) result }
+    ensures kept { IsKept taken.old.image taken.new.image }
+{
+    let size = set.item_cells(run.field.item);
+    let mut first = run.first;
+    for index in 0..run.count {
+        let path = Path::Element {
+            array: &*path,
+            index,
+        };
+        read_item(set, Run { first, ..run }, &path, taken)?;
+        first += size;
+    }
+    Ok(())
+}
+
+// The lines of one element, the first of the run.
+#[cycle(read)]
+fn read_item(set: &DescSet, run: Run, path: &Path, taken: &mut Taken) -> Result<(), ValuesFault>
+    requires reaches { uses_below (length (described set.now).structs) run.field.now.item ≡ true }
+    requires room { let size = size_in (described set.now) run.field.now.item in
+        run.first + size ≤ length taken.old.image.numbers }
+    requires few { length taken.old.image.numbers ≤ 16384 }
+    ensures read { let f = field_of run.entry.field.now in
+        let text = path_text path.now in
+        let set = described set.now in
+        let caps = capacities_of run.entry.most in
+        let whole = read_item (readers set) f caps text run.entry.present run.entry.first f.item in
+        Reaches (whole (place_of taken.old)) (place_of taken.new) result }
+    ensures kept { IsKept taken.old.image taken.new.image }
+{
+    match run.field.item {
+        Item::Num(kind) => read_number_line(kind, run, path, taken),
+        Item::Equal { .. } => Ok(()),
+        Item::Unused { .. } => Ok(()),
+        Item::Struct(number) => {
+            let part = Part::Struct(number);
+            let spot = Spot {
+                part,
+                version: set.desc(part).version,
+                base: run.first,
+            };
+            read_part(set, spot, &Path::Inside(&*path), run.present, taken)
+        }
+    }
+}
+
+// The line of a cell, the first of the run.
+fn read_number_line(kind: Kind, run: Run, path: &Path, taken: &mut Taken) -> Result<(), ValuesFault>
+    requires room { run.first < length taken.old.image.numbers }
+    ensures read { let caps = capacities_of run.entry.most in
+        let r = run.entry in
+        let line = line_read (path_text path.now) kind caps r.first r.field.now.default r.present in
+        Reaches (line (place_of taken.old)) (place_of taken.new) result }
+    ensures kept { IsKept taken.old.image taken.new.image }
+{
+    let Some(line) = next_line(taken.lines.rest) else {
+        return Err(bad(&taken.lines, ValuesReason::Form));
+    };
+    let Some(text) = number_text(path, line.text) else {
+        return Err(bad(&taken.lines, ValuesReason::Form));
+    };
+    match judge_number(kind, run, text) {
+        Ok(number) => {
+            put(taken, run.first, number);
+            pass(&mut taken.lines, line);
+            Ok(())
+        }
+        Err(reason) => Err(bad(&taken.lines, reason)),
+    }
+}
+
+// Puts a number into a cell.
+fn put(taken: &mut Taken, cell: u32, number: i128)
+    requires { cell < length taken.old.image.numbers }
+    ensures lines { taken.new.lines ≡ taken.old.lines }
+    ensures numbers { taken.new.image.numbers ≡ slice_set taken.old.image.numbers cell number }
+    ensures kept { IsKept taken.old.image taken.new.image }
+{
+    taken.image.set(cell, number);
+}
+
+// The number that a text spells, or why it may not stand for the first cell of the run.
+fn judge_number(kind: Kind, run: Run, text: &[u8]) -> Result<i128, ValuesReason>
+    ensures { let caps = capacities_of run.entry.most in
+        let number = held kind (number_spelled text.now) in
+        result ≡ number_judged caps run.entry.field.now.default run.entry.present number }
+{
+    let Some(number) = read_number(kind, text) else {
+        return Err(ValuesReason::Number);
+    };
+    if is_above(run.most, number) {
+        return Err(ValuesReason::Count);
+    }
+    if run.present || is_same(number, run.field.default) {
+        Ok(number)
+    } else {
+        Err(ValuesReason::Absent)
+    }
+}
+
+fn is_same(number: i128, other: i128) -> bool
+    ensures { result ≡ same_number number other }
+{
+    number == other
+}
+
+// Whether a number is above the most that it may count.
+fn is_above(most: Option<u32>, number: i128) -> bool
+    ensures { result ≡ exceeds (capacities_of most) number }
+{
+    match most {
+        Some(most) => number > i128::from(most),
+        None => false,
+    }
+}
