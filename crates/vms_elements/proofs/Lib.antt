@@ -10,3 +10,4 @@ pub mod PathsOf
 pub mod DevicePaths
 pub mod Stated
 pub mod EntryLines
+pub mod Names

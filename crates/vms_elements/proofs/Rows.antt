@@ -1,17 +1,13 @@
 -- The elements of the worked sets, and what is read off them.
-use Rattle.std.proofs.Common.{◌≡◌, ℕ, List, [], ◌∷◌, Some, None, pos, negsuc, refl, codes, ℤ}
+use Rattle.std.proofs.Common.{◌≡◌, ℕ, List, get_or, [], ◌∷◌, Some, None, pos, negsuc, refl, codes, ℤ}
 use Rattle.std.specs.Fmt.{digits}
 use Rattle.vms_spec.specs.Layout.{first}
 use Rattle.vms_spec.specs.Sets.{Set, Device}
 use Rattle.vms_spec.specs.Images.{Image}
 use Rattle.vms_spec.specs.Values.{values_text}
 use Rattle.vms_spec.proofs.Boxes.{counted_set, constant_set, subsection_set, tested_set, empty_set, mixed_set}
-use Rattle.vms_elements.specs.Elements.{Element}
-use Rattle.vms_elements.specs.Parts.{device_elements}
+use Rattle.vms_elements.specs.Parts.{cell_name}
 use Rattle.vms_elements.specs.Lines.{text_of, values_lines}
-
-abbrev elements : Device → Set → Image → List Element
-elements d set image = device_elements set d image
 
 abbrev of_box : List ℤ → Image
 of_box numbers = record { version = 1; came = []; numbers = numbers }
@@ -67,3 +63,23 @@ prints_structures = refl
 prints_the_same_text : text_of (values_lines mixed_set (Some (codes "lab")) (mixed ∷ [])) ≡ values_text mixed_set (Some (codes "lab")) (mixed ∷ [])
 unfolding first digits
 prints_the_same_text = refl
+
+-- ---- the paths of cells
+
+abbrev none : Device
+none = record { instance = 0; desc = record { name = []; version = 0; minimum = 0; fields = []; validate = [] }; subs = [] }
+
+abbrev name : Set → ℕ → List ℕ
+name set c = cell_name set (get_or set.devices 0 none) c
+
+names_an_element : name counted_set 2 ≡ codes "v[1]"
+unfolding first digits
+names_an_element = refl
+
+names_a_number_in_a_structure : name mixed_set 9 ≡ codes "ps[2].z"
+unfolding first digits
+names_a_number_in_a_structure = refl
+
+names_a_number_of_a_subsection : name mixed_set 14 ≡ codes "b"
+unfolding first digits
+names_a_number_of_a_subsection = refl

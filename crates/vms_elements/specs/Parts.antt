@@ -1,12 +1,12 @@
 -- What is read off the list of elements: numbers and their cells, slots, and the elements of a whole device.
-use Rattle.std.specs.Prelude.{◌≡◌, ℕ, ◌+◌, Bool, true, false, if◌then◌else◌, List, [], ◌∷◌, ◌++◌, length, map, Option, Some, None, ℤ}
+use Rattle.std.specs.Prelude.{◌≡◌, ℕ, ◌+◌, Bool, true, false, if◌then◌else◌, List, [], ◌∷◌, ◌++◌, length, get_or, map, Option, Some, None, ℤ}
 use Rattle.vms_spec.specs.Lists.{at}
 use Rattle.vms_kinds.specs.declared.Item.{Item}
 use Rattle.vms_kinds.specs.declared.Item.TheVariants.{Num, Struct}
 use Rattle.vms_spec.specs.Sets.{Field, Desc, Sub, Device, Set}
 use Rattle.vms_spec.specs.Layout.{Cell, Slot, desc_cells, struct_cells}
 use Rattle.vms_spec.specs.Layout as slots
-use Rattle.vms_spec.specs.Images.{Image, own_cells}
+use Rattle.vms_spec.specs.Images.{Image, default_image, own_cells}
 use Rattle.vms_elements.specs.Elements.{What, Number, Constant, Filler, Rule, Element, shapes, desc_elements}
 
 -- ---- parts of the list
@@ -98,3 +98,13 @@ field_named set (step ∷ path) (Some d) = last_field (λ j. field_named set pat
 abbrev pub IsFieldOf : Cell → Option Field → Type 0
 IsFieldOf cell None = ⊥
 IsFieldOf cell (Some f) = (f.item ≡ Num cell.kind) × (f.default ≡ cell.default)
+
+-- ---- names
+
+-- the paths of the numbers as text, cell by cell
+abbrev pub names_of : List Element → List (List ℕ)
+names_of xs = map (λ x. x.name) (numbers_in xs)
+
+-- the path of a cell of a device as text; it is the same in each state
+abbrev pub cell_name : Set → Device → ℕ → List ℕ
+cell_name set d c = get_or (names_of (device_elements set d (default_image set d))) c []

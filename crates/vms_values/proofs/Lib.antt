@@ -16,3 +16,6 @@ pub mod JudgeLemmas
 pub mod ImageRead
 pub mod Gathering
 pub mod WholeText
+pub mod Subs
+pub mod Naming
+pub mod NamingSubs

@@ -1,27 +1,23 @@
 -- The parts of a printed text.
-use Rattle.std.proofs.Common.{◌≡◌, ℕ, suc, ◌+◌, ◌<◌, ◌≤◌, List, [], ◌∷◌, ◌++◌, length, get_or, drop, map, Option, Result, ℤ, codes, refl, sym, ap, ◌∙◌, subst, arith, append_assoc, append-nil, length-append, length-drop}
+use Rattle.std.proofs.Common.{◌≡◌, ℕ, suc, ◌+◌, ◌<◌, ◌≤◌, List, [], ◌∷◌, ◌++◌, length, get_or, drop, map, Option, Result, codes, refl, sym, ap, ◌∙◌, subst, arith, append_assoc, length-append, length-drop}
 use Rattle.std.proofs.lemmas.List.{drop_more, length-map, get_or-map}
-use Rattle.std.specs.Fmt.{decimal}
 use Rattle.std.specs.Io.KnownBytes.{Appends}
 use Rattle.vms_kinds.specs.declared.Item.{Item}
 use Rattle.vms_kinds.specs.declared.Item.TheVariants.{Num, Equal, Unused, Struct}
 use Rattle.vms_spec.specs.declared.Count.{Count}
 use Rattle.vms_spec.specs.declared.Count.TheVariants.{One, Fixed, Counted}
-use Rattle.vms_spec.specs.Sets.{Field, Sub, Device, Set}
+use Rattle.vms_spec.specs.Sets.{Field, Device, Set}
 use Rattle.std.specs.List.{flat_map}
-use Rattle.vms_io.specs.Causes.{AppendsPrefix}
 use Rattle.vms_parts.specs.declared.types.Field.{Field as CodeField}
-use Rattle.vms_parts.specs.declared.types.Device.{Device as CodeDevice}
-use Rattle.vms_spec.specs.Layout.{Cell, first, field_cells, cells_from, desc_cells, struct_cells, device_cells}
-use Rattle.vms_spec.specs.Images.{Image, own_cells}
-use Rattle.vms_spec.specs.Values.{Printer, printer, printers, line_end, field_lines, desc_lines, sub_lines, device_lines, devices_lines}
-use Rattle.vms_parts.specs.Views.{set_of, desc_of, field_of, device_of}
-use Rattle.vms_parts.specs.declared.types.Parts.{Parts}
+use Rattle.vms_desc.specs.Described.{device_at}
+use Rattle.vms_spec.specs.Layout.{Cell, no_desc, field_cells, cells_from, desc_cells, struct_cells, device_cells}
+use Rattle.vms_spec.specs.Images.{Image}
+use Rattle.vms_spec.specs.Values.{device_lines, devices_lines}
+use Rattle.vms_parts.specs.Views.{field_of}
 use Rattle.vms_values.specs.Written.{Writes}
-use Rattle.vms_values.specs.Plain.{ArePlain, IsPlainField, IsPlainDevice, IsNumber, IsOne}
-use Rattle.vms_values.specs.Printing.{IsOf, AreOf, section_text, field_text}
-use Rattle.vms_values.specs.Tables.{printers_in}
-use Rattle.vms_values.proofs.Writing.{writes_more, prefix_front}
+use Rattle.vms_values.specs.Plain.{ArePlain, IsPlainDevice, IsNumber, IsOne}
+use Rattle.vms_values.specs.Printing.{IsOf, AreOf}
+use Rattle.vms_values.proofs.Writing.{writes_more}
 
 pub element_text : {T E : Type 0} (old mid new : Option (List ℕ)) (path digits piece : List ℕ) (result : Result T E) → Appends old mid path → piece ≡ digits
     → Writes mid new (codes "[" ++ (piece ++ (codes "]" ++ []))) result → Writes old new (path ++ codes "[" ++ digits ++ codes "]") result
@@ -33,48 +29,6 @@ element_text old mid new path digits piece result p e w =
 -- what is written is that text
 pub same_text : {T E : Type 0} (old new : Option (List ℕ)) (text other : List ℕ) (result : Result T E) → text ≡ other → Writes old new text result → Writes old new other result
 same_text old new text other result e w = subst (λ (t : List ℕ). Writes old new t result) e w
-
-pub fields_next : (ps : List Printer) (fields : List Field) (own : ℕ → ℕ) (path : List ℕ) (numbers : List ℤ) (i at : ℕ) (f : Field) (left more : List Field)
-    → left ≡ f ∷ more → IsPlainField f
-    → field_lines ps fields own path numbers i at left ≡ field_text (path ++ f.name) numbers at ++ field_lines ps fields own path numbers (i + 1) (at + 1) more
-fields_next ps fields own path numbers i at f left more e plain =
-    ap (λ (l : List Field). field_lines ps fields own path numbers i at l) e
-    ∙ by_form f.item f.count plain.number plain.one
-    ∙ ap (λ (k : ℕ). field_text (path ++ f.name) numbers at ++ field_lines ps fields own path numbers k (at + 1) more) (omega arith)
-  where
-    by_form : (item : Item) (count : Count) → IsNumber item → IsOne count
-        → field_lines ps fields own path numbers i at (record f { item = item; count = count } ∷ more)
-        ≡ field_text (path ++ f.name) numbers at ++ field_lines ps fields own path numbers (suc i) (at + 1) more
-    by_form (Num kind) One p q = refl
-    by_form (Num kind) (Fixed n) p q = absurd q
-    by_form (Num kind) (Counted by most) p q = absurd q
-    by_form (Equal kind z) count p q = absurd p
-    by_form (Unused n) count p q = absurd p
-    by_form (Struct j) count p q = absurd p
-
-printers_are : (parts : Parts) → printers (set_of parts) ≡ printers_in parts.structs
-printers_are parts = ap (λ (k : ℕ). first printer (map desc_of parts.structs) k) (length-map parts.structs desc_of)
-
-line_parts : (a b c d e f g l : List ℕ) → (a ++ (b ++ (c ++ (d ++ (e ++ (f ++ g)))))) ++ l ≡ a ++ (b ++ (c ++ (d ++ (e ++ (f ++ (g ++ l))))))
-line_parts a b c d e f g l = simp append_assoc
-
--- a plain device is its line and its fields' lines
-pub device_text : (parts : Parts) (d : Device) (v : ℕ) (image : Image) → IsPlainDevice d → v ≡ image.version
-    → section_text d v ++ desc_lines (printers_in parts.structs) d.desc [] image.numbers 0 ≡ device_lines (set_of parts) d image
-device_text parts d v image plain is =
-    let set = set_of parts in
-    let lines = desc_lines (printers set) d.desc [] image.numbers 0 in
-    let none : sub_lines set image.numbers (own_cells set d) d.subs image.came ≡ [] = ap (λ (l : List Sub). sub_lines set image.numbers (own_cells set d) l image.came) plain.no_subs in
-    let tail : desc_lines (printers_in parts.structs) d.desc [] image.numbers 0 ≡ lines ++ sub_lines set image.numbers (own_cells set d) d.subs image.came =
-    ap (λ (ps : List Printer). desc_lines ps d.desc [] image.numbers 0) (sym (printers_are parts)) ∙ sym (append-nil lines) ∙ ap (λ (l : List ℕ). lines ++ l) (sym none) in
-    ap (λ (n : ℕ). section_text d n ++ desc_lines (printers_in parts.structs) d.desc [] image.numbers 0) is
-    ∙ line_parts (codes "section ") d.desc.name (codes " ") (decimal d.instance) (codes " v") (decimal image.version) line_end (desc_lines (printers_in parts.structs) d.desc [] image.numbers 0)
-    ∙ ap (λ (l : List ℕ). codes "section " ++ (d.desc.name ++ (codes " " ++ (decimal d.instance ++ (codes " v" ++ (decimal image.version ++ (line_end ++ l))))))) tail
-
-pub device_stops : (old new : Option (List ℕ)) (parts : Parts) (d : Device) (v : ℕ) (image : Image) → IsPlainDevice d → v ≡ image.version
-    → AppendsPrefix old new (section_text d v) → AppendsPrefix old new (device_lines (set_of parts) d image)
-device_stops old new parts d v image plain is p =
-    subst (AppendsPrefix old new) (device_text parts d v image plain is) (prefix_front old new (section_text d v) (desc_lines (printers_in parts.structs) d.desc [] image.numbers 0) p)
 
 -- a plain field has one cell
 plain_from : (cs : List (List Cell)) (all : List Field) (i : ℕ) (fs : List Field) → ArePlain fs → length (cells_from cs all i fs) ≡ length fs
@@ -102,10 +56,8 @@ fields_at fs i f lt is =
     drop_more (map field_of fs) i (field_of f) (simp length-map lt)
     ∙ ap (λ (x : Field). x ∷ drop (i + 1) (map field_of fs)) (get_or-map field_of fs i f (field_of f) lt ∙ ap field_of (sym is))
 
-pub devices_at : (ds : List CodeDevice) (i : ℕ) (d : CodeDevice) → i < length ds → d ≡ get_or ds i d → drop i (map device_of ds) ≡ device_of d ∷ drop (i + 1) (map device_of ds)
-devices_at ds i d lt is =
-    drop_more (map device_of ds) i (device_of d) (simp length-map lt)
-    ∙ ap (λ (x : Device). x ∷ drop (i + 1) (map device_of ds)) (get_or-map device_of ds i d (device_of d) lt ∙ ap device_of (sym is))
+pub device_left : (set : Set) (k : ℕ) → k < length set.devices → drop k set.devices ≡ device_at set k ∷ drop (k + 1) set.devices
+device_left set k lt = drop_more set.devices k (record { instance = 0; desc = no_desc; subs = [] }) lt
 
 pub images_at : (images : List Image) (i : ℕ) (image : Image) → i < length images → image ≡ get_or images i image → drop i images ≡ image ∷ drop (i + 1) images
 images_at images i image lt is = drop_more images i image lt ∙ ap (λ (x : Image). x ∷ drop (i + 1) images) (sym is)

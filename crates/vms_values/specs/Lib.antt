@@ -2,6 +2,7 @@ pub mod DevicesRead
 pub mod FirstLine
 pub mod Judging
 pub mod Machines
+pub mod Naming
 pub mod Paths
 pub mod Plain
 pub mod Printing

@@ -1,15 +1,19 @@
 -- What is printed, and of which images.
-use Rattle.std.specs.Prelude.{◌≡◌, ℕ, ◌+◌, ◌*◌, ◌<◌, ◌≤◌, ◌^◌, true, map, List, [], ◌∷◌, ◌++◌, length, get_or, Option, ℤ, pos, codes}
+use Rattle.std.specs.Prelude.{◌≡◌, ℕ, ◌+◌, ◌*◌, ◌<◌, ◌≤◌, ◌^◌, true, map, List, [], ◌∷◌, ◌++◌, length, get_or, Option, ℤ, codes}
 use Rattle.std.specs.Option.{option_map}
-use Rattle.std.specs.Fmt.{decimal, signed_decimal}
+use Rattle.std.specs.Fmt.{decimal}
 use Rattle.vms_spec.specs.declared.Count.{Count}
 use Rattle.vms_spec.specs.declared.Count.TheVariants.{One}
 use Rattle.vms_spec.specs.Sets.{Field, Device, Set}
 use Rattle.vms_spec.specs.Layout.{device_cells, item_size}
 use Rattle.vms_spec.specs.Rules.{uses_below}
+use Rattle.vms_spec.specs.declared.Part.TheVariants as parts
+use Rattle.vms_desc.specs.Asks.{first_cell}
+use Rattle.vms_desc.specs.Described.{device_at}
+use Rattle.vms_desc.specs.Parts.{sub_at}
 use Rattle.vms_walk.specs.Steps.{size_in}
 use Rattle.vms_spec.specs.Images.{Image}
-use Rattle.vms_spec.specs.Values.{line_end, Printer, item_lines, element_lines}
+use Rattle.vms_spec.specs.Values.{line_end, version_text, desc_lines, printers, Printer, item_lines, element_lines}
 
 -- the name of the machine of a number
 abbrev pub machine_of : Set → Option ℕ → Option (List ℕ)
@@ -47,6 +51,12 @@ abbrev pub section_text : Device → ℕ → List ℕ
 section_text d version =
     codes "section " ++ (d.desc.name ++ (codes " " ++ (decimal d.instance ++ (codes " v" ++ (decimal version ++ line_end)))))
 
--- the line of a cell
-abbrev pub field_text : List ℕ → List ℤ → ℕ → List ℕ
-field_text path numbers at = path ++ (codes " = " ++ (signed_decimal (get_or numbers at (pos 0)) ++ line_end))
+-- the line of a subsection
+abbrev pub sub_text : List ℕ → Option ℕ → List ℕ
+sub_text name came = codes "sub " ++ (name ++ (codes " " ++ (version_text came ++ line_end)))
+
+-- the lines of subsection j of device i
+abbrev pub whole_sub : Set → ℕ → ℕ → List ℤ → Option ℕ → List ℕ
+whole_sub set i j numbers came =
+    let d = (sub_at (device_at set i) j).desc in
+    sub_text d.name came ++ desc_lines (printers set) d [] numbers (first_cell set (parts.Sub i j))

@@ -2,7 +2,6 @@
 use Rattle.std.specs.Prelude.{List, length, map}
 use Rattle.vms_spec.specs.Sets.{Desc}
 use Rattle.vms_spec.specs.Layout.{Cell, first, desc_cells}
-use Rattle.vms_spec.specs.Values.{Printer, printer}
 use Rattle.vms_spec.specs.ValuesReading.{Reader, reader}
 use Rattle.vms_parts.specs.Views.{desc_of}
 use Rattle.vms_parts.specs.declared.types.Desc.{Desc as Described}
@@ -12,9 +11,6 @@ table f structs = first f (map desc_of structs) (length structs)
 
 abbrev pub cells_in : List Described → List (List Cell)
 cells_in structs = table desc_cells structs
-
-abbrev pub printers_in : List Described → List Printer
-printers_in structs = table printer structs
 
 abbrev pub readers_in : List Described → List Reader
 readers_in structs = table reader structs

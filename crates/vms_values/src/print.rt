@@ -1,28 +1,26 @@
 // Prints the values text.
-ghost use Rattle.std.specs.Prelude.{◌≡◌, ◌+◌, ◌<◌, ◌≤◌, ◌^◌, ◌++◌, [], codes, length};
+ghost use Rattle.std.specs.Prelude.{◌≡◌, ◌<◌, length, get_or, None};
 ghost use Rattle.std.specs.Option.{ForSome};
-ghost use Rattle.std.specs.Fmt.{signed_decimal};
 ghost use Rattle.vms_io.specs.Causes.{HasCause};
-ghost use Rattle.vms_spec.specs.Shipped.{set_0};
-ghost use Rattle.vms_spec.specs.Values.{values_text, machine_line, line_end, devices_lines, device_lines, desc_lines};
-ghost use Rattle.vms_desc.specs.Described.{described};
-ghost use Rattle.vms_parts.specs.Views.{set_of, desc_of, device_of, field_of};
+ghost use Rattle.vms_spec.specs.Images.{own_cells};
+ghost use Rattle.vms_spec.specs.Values.{values_text, machine_line, devices_lines, device_lines, sub_lines};
+ghost use Rattle.vms_desc.specs.Described.{described, device_at};
+ghost use Rattle.vms_parts.specs.Views.{set_of, device_of};
 ghost use Rattle.vms_values.specs.Written.{Writes};
-ghost use Rattle.vms_values.specs.Paths.{path_text};
-ghost use Rattle.vms_values.specs.Tables.{printers_in};
-ghost use Rattle.vms_values.specs.Plain.{IsPlainSet, IsPlainDevice, ArePlain, IsPlainField};
-ghost use Rattle.vms_values.specs.Printing.{AreOf, IsOf, machine_of, section_text, field_text};
+ghost use Rattle.vms_values.specs.Printing.{AreOf, IsOf, machine_of, section_text, sub_text, whole_sub};
 
 use crate::lines::write_pieces;
-use crate::path::{Path, write_path};
+use crate::path::Path;
+use crate::shown::{Shown, print_part};
 use itoa::Buffer;
-use vms_desc::{Desc, DescSet, Device, Field, Parts};
+use vms_desc::{DescSet, Device, Part, Parts};
 use vms_image::Image;
 use vms_io::{Failed, Sink, WriteFault};
-use vms_kinds::Item;
+use vms_walk::Spot;
 
 /// Appends the values text of these images, one for each device of the set, with a line for the machine of
-/// this number of the set if one is named. After an error some first bytes of it were appended.
+/// this number of the set if one is named. The images are to be normal. After an error some first bytes of
+/// the text were appended.
 pub fn print_values<K: Sink>(
     set: &DescSet,
     machine: Option<u32>,
@@ -31,37 +29,40 @@ pub fn print_values<K: Sink>(
 ) -> Result<(), WriteFault>
     requires named { ForSome machine (λ m. m < length (described set.now).machines) }
     requires one_each { AreOf (described set.now) (described set.now).devices images.now }
-    requires first_set { described set.now ≡ set_0 }
-    ensures written { Writes (K.written sink.old) (K.written sink.new) (values_text (described set.now) (machine_of (described set.now) machine) images.now) result }
+    ensures written { let name = machine_of (described set.now) machine in
+        let text = values_text (described set.now) name images.now in
+        Writes (K.written sink.old) (K.written sink.new) text result }
     ensures cause { HasCause (K.faults sink.old) (K.faults sink.new) result }
     ensures promise { K.promise sink.new ≡ K.promise sink.old }
 {
-    match print_all(set.parts(), machine, images, sink) {
+    match print_all(set, machine, images, sink) {
         Ok(()) => Ok(()),
         Err(_) => Err(WriteFault),
     }
 }
 
 fn print_all<K: Sink>(
-    parts: &Parts,
+    set: &DescSet,
     machine: Option<u32>,
     images: &[Image],
     sink: &mut K,
 ) -> Result<(), Failed>
-    requires named { ForSome machine (λ m. m < length (set_of parts.now).machines) }
-    requires one_each { AreOf (set_of parts.now) (set_of parts.now).devices images.now }
-    requires plain { IsPlainSet (set_of parts.now) }
-    ensures written { Writes (K.written sink.old) (K.written sink.new) (values_text (set_of parts.now) (machine_of (set_of parts.now) machine) images.now) result }
+    requires named { ForSome machine (λ m. m < length (described set.now).machines) }
+    requires one_each { AreOf (described set.now) (described set.now).devices images.now }
+    ensures written { let name = machine_of (described set.now) machine in
+        let text = values_text (described set.now) name images.now in
+        Writes (K.written sink.old) (K.written sink.new) text result }
     ensures cause { HasCause (K.faults sink.old) (K.faults sink.new) result }
     ensures promise { K.promise sink.new ≡ K.promise sink.old }
 {
-    print_machine(parts, machine, sink)?;
-    print_devices(parts, images, sink)
+    print_machine(set.parts(), machine, sink)?;
+    print_devices(set, images, sink)
 }
 
 fn print_machine<K: Sink>(parts: &Parts, machine: Option<u32>, sink: &mut K) -> Result<(), Failed>
     requires { ForSome machine (λ m. m < length (set_of parts.now).machines) }
-    ensures written { Writes (K.written sink.old) (K.written sink.new) (machine_line (machine_of (set_of parts.now) machine)) result }
+    ensures written { let text = machine_line (machine_of (set_of parts.now) machine) in
+        Writes (K.written sink.old) (K.written sink.new) text result }
     ensures cause { HasCause (K.faults sink.old) (K.faults sink.new) result }
     ensures promise { K.promise sink.new ≡ K.promise sink.old }
 {
@@ -74,46 +75,47 @@ fn print_machine<K: Sink>(parts: &Parts, machine: Option<u32>, sink: &mut K) -> 
     }
 }
 
-fn print_devices<K: Sink>(parts: &Parts, images: &[Image], sink: &mut K) -> Result<(), Failed>
-    requires one_each { AreOf (set_of parts.now) (set_of parts.now).devices images.now }
-    requires plain { IsPlainSet (set_of parts.now) }
-    ensures written { Writes (K.written sink.old) (K.written sink.new) (devices_lines (set_of parts.now) (set_of parts.now).devices images.now) result }
+fn print_devices<K: Sink>(set: &DescSet, images: &[Image], sink: &mut K) -> Result<(), Failed>
+    requires one_each { AreOf (described set.now) (described set.now).devices images.now }
+    ensures written { let set = described set.now in
+        let text = devices_lines set set.devices images.now in
+        Writes (K.written sink.old) (K.written sink.new) text result }
     ensures cause { HasCause (K.faults sink.old) (K.faults sink.new) result }
     ensures promise { K.promise sink.new ≡ K.promise sink.old }
 {
-    let devices = parts.devices.as_slice();
-    for (k, device) in devices.iter().enumerate() {
-        print_device(parts, device, &images[k], sink)?;
+    for device in 0..set.parts().devices.as_slice().len() as u32 {
+        let image = &images[device as usize];
+        print_device(Shown { set, image }, device, sink)?;
     }
     Ok(())
 }
 
-fn print_device<K: Sink>(
-    parts: &Parts,
-    device: &Device,
-    image: &Image,
-    sink: &mut K,
-) -> Result<(), Failed>
-    requires of { IsOf (set_of parts.now) (device_of device.now) image.now }
-    requires plain { IsPlainDevice (device_of device.now) }
-    ensures written { Writes (K.written sink.old) (K.written sink.new) (device_lines (set_of parts.now) (device_of device.now) image.now) result }
+fn print_device<K: Sink>(shown: Shown, device: u32, sink: &mut K) -> Result<(), Failed>
+    requires is_device { device < length (described shown.set.now).devices }
+    requires of { let set = described shown.set.now in
+        IsOf set (device_at set device) shown.image.now }
+    ensures written { let set = described shown.entry.set.now in
+        let text = device_lines set (device_at set device) shown.entry.image.now in
+        Writes (K.written sink.old) (K.written sink.new) text result }
     ensures cause { HasCause (K.faults sink.old) (K.faults sink.new) result }
     ensures promise { K.promise sink.new ≡ K.promise sink.old }
 {
-    print_section(device, image.version(), sink)?;
-    print_fields(
-        parts.structs.as_slice(),
-        &device.desc,
-        &Path::Top,
-        image,
-        0,
-        sink,
-    )
+    let version = shown.image.version();
+    print_section(shown.set.device(device), version, sink)?;
+    let part = Part::Device(device);
+    let own = Spot {
+        part,
+        version,
+        base: 0,
+    };
+    print_part(shown, own, &Path::Top, sink)?;
+    print_subs(shown, device, sink)
 }
 
-/// The line of a section.
+// The line of a section.
 fn print_section<K: Sink>(device: &Device, version: u32, sink: &mut K) -> Result<(), Failed>
-    ensures written { Writes (K.written sink.old) (K.written sink.new) (section_text (device_of device.now) version) result }
+    ensures written { let text = section_text (device_of device.now) version in
+        Writes (K.written sink.old) (K.written sink.new) text result }
     ensures cause { HasCause (K.faults sink.old) (K.faults sink.new) result }
     ensures promise { K.promise sink.new ≡ K.promise sink.old }
 {
@@ -127,62 +129,62 @@ fn print_section<K: Sink>(device: &Device, version: u32, sink: &mut K) -> Result
     )
 }
 
-/// The lines of a description's fields, the first of whose cells is `base`.
-fn print_fields<K: Sink>(
-    structs: &[Desc],
-    desc: &Desc,
-    path: &Path,
-    image: &Image,
-    base: u32,
-    sink: &mut K,
-) -> Result<(), Failed>
-    requires plain { ArePlain (desc_of desc.now).fields }
-    requires room { base + length desc.now.fields ≤ length image.now.numbers }
-    requires few { length image.now.numbers < 2 ^ 32 }
-    ensures written { Writes (K.written sink.old) (K.written sink.new) (desc_lines (printers_in structs.now) (desc_of desc.now) (path_text path.now) image.now.numbers base) result }
+// The subsections, whether or not they came.
+fn print_subs<K: Sink>(shown: Shown, device: u32, sink: &mut K) -> Result<(), Failed>
+    requires is_device { device < length (described shown.set.now).devices }
+    requires of { let set = described shown.set.now in
+        IsOf set (device_at set device) shown.image.now }
+    ensures written { let set = described shown.entry.set.now in
+        let d = device_at set device in
+        let image = shown.entry.image.now in
+        let text = sub_lines set image.numbers (own_cells set d) d.subs image.came in
+        Writes (K.written sink.old) (K.written sink.new) text result }
     ensures cause { HasCause (K.faults sink.old) (K.faults sink.new) result }
     ensures promise { K.promise sink.new ≡ K.promise sink.old }
 {
-    let _structs = structs;
-    let mut at = base;
-    for field in desc.fields.as_slice() {
-        print_field(field, path, image, at, sink)?;
-        at += 1;
+    for sub in 0..shown.set.sub_count(device) {
+        print_sub(shown, device, sub, sink)?;
     }
     Ok(())
 }
 
-/// The line of a field, whose cell is `at`.
-fn print_field<K: Sink>(
-    field: &Field,
-    path: &Path,
-    image: &Image,
-    at: u32,
-    sink: &mut K,
-) -> Result<(), Failed>
-    requires plain { IsPlainField (field_of field.now) }
-    requires room { at < length image.now.numbers }
-    ensures written { Writes (K.written sink.old) (K.written sink.new) (field_text (path_text path.now ++ field.now.name) image.now.numbers at) result }
+fn print_sub<K: Sink>(shown: Shown, device: u32, sub: u32, sink: &mut K) -> Result<(), Failed>
+    requires is_device { device < length (described shown.set.now).devices }
+    requires is_sub { let set = described shown.set.now in
+        sub < length (device_at set device).subs }
+    requires of { let set = described shown.set.now in
+        IsOf set (device_at set device) shown.image.now }
+    ensures written { let set = described shown.entry.set.now in
+        let image = shown.entry.image.now in
+        let text = whole_sub set device sub image.numbers (get_or image.came sub None) in
+        Writes (K.written sink.old) (K.written sink.new) text result }
     ensures cause { HasCause (K.faults sink.old) (K.faults sink.new) result }
     ensures promise { K.promise sink.new ≡ K.promise sink.old }
 {
-    let path = Path::Field {
-        before: path,
-        name: field.name.as_bytes(),
+    let part = Part::Sub(device, sub);
+    let desc = shown.set.desc(part);
+    print_sub_line(desc.name.as_bytes(), shown.image.came(sub), sink)?;
+    let spot = Spot {
+        part,
+        version: desc.version,
+        base: shown.set.first_cell(part),
     };
-    match field.item {
-        Item::Num(_) => print_number(&path, image.get(at), sink),
-        _ => unreachable!(),
-    }
+    print_part(shown, spot, &Path::Top, sink)
 }
 
-/// The line of a cell.
-fn print_number<K: Sink>(path: &Path, number: i128, sink: &mut K) -> Result<(), Failed>
-    ensures written { Writes (K.written sink.old) (K.written sink.new) (path_text path.now ++ (codes " = " ++ (signed_decimal number ++ line_end))) result }
+// The line of a subsection: the version at which it came, or a dash.
+fn print_sub_line<K: Sink>(name: &[u8], came: Option<u32>, sink: &mut K) -> Result<(), Failed>
+    ensures written { let text = sub_text name.now came in
+        Writes (K.written sink.old) (K.written sink.new) text result }
     ensures cause { HasCause (K.faults sink.old) (K.faults sink.new) result }
     ensures promise { K.promise sink.new ≡ K.promise sink.old }
 {
-    write_path(sink, path)?;
-    let mut digits = Buffer::new();
-    write_pieces(sink, &[b" = ", digits.format(number).as_bytes(), b"\n"])
+    match came {
+        Some(version) => {
+            let mut number = Buffer::new();
+            let version = number.format(version).as_bytes();
+            write_pieces(sink, &[b"sub ", name, b" v", version, b"\n"])
+        }
+        None => write_pieces(sink, &[b"sub ", name, b" -\n"]),
+    }
 }

@@ -1,25 +1,69 @@
-use Rattle.std.proofs.Common.{arith, ap, List, []}
-use Rattle.vms_spec.specs.Values.{desc_lines}
-use Rattle.vms_parts.specs.declared.types.Desc.{Desc as CodeDesc}
-use Rattle.vms_values.specs.Tables.{printers_in}
+use Rattle.std.proofs.Common.{◌≡◌, [], ◌++◌, ap, ◌∙◌, subst}
 use Rattle.std.proofs.lemmas.Result.{err_from_is_err_and}
-use Rattle.std.proofs.lemmas.List.{length-map}
-use Rattle.vms_parts.specs.Views.{set_of, desc_of, device_of, field_of}
-use Rattle.vms_values.proofs.Writing.{writes_more}
-use Rattle.vms_values.proofs.PrintLemmas.{same_text, device_text, device_stops, plain_cells}
+use Rattle.std.proofs.KnownBytes.{Appends-trans}
+use Rattle.std.specs.Io.KnownBytes.{Appends}
+use Rattle.vms_io.specs.Causes.{AppendsPrefix}
+use Rattle.vms_spec.specs.Images.{own_cells}
+use Rattle.vms_spec.specs.Sets.{Device}
+use Rattle.vms_spec.specs.Values.{printers, desc_lines, sub_lines, device_lines}
+use Rattle.vms_desc.specs.Described.{described, device_at}
+use Rattle.vms_parts.specs.Views.{device_of}
+use Rattle.vms_values.specs.Printing.{section_text}
+use Rattle.vms_values.proofs.PrintLemmas.{same_text}
+use Rattle.vms_values.proofs.Subs.{own_spot, device_is}
+use Rattle.vms_values.proofs.Writing.{prefix_front, prefix_more, writes_more}
 use Rattle.vms_values.proofs.print.print_device.Goals as goal
 
 pub returns-in_err-print_section-clause-written : goal.returns-in_err-print_section-clause-written
 returns-in_err-print_section-clause-written g c =
+    let set = described c.args.shown.set.now in
+    let image = c.args.shown.image.now in
+    let d = device_at set c.args.device in
+    let line : section_text (device_of c.device.result.now) c.version-version.result ≡ section_text d image.version =
+    ap (λ (x : Device). section_text x c.version-version.result) c.device.ensures ∙ ap (section_text d) c.version-version.ensures in
+    let own = desc_lines (printers set) d.desc [] image.numbers 0 in
+    let subs = sub_lines set image.numbers (own_cells set d) d.subs image.came in
+    let old = g.K.Sink.written c.args.sink.now in
+    let new = g.K.Sink.written c.print_section.new.sink in
     let p = err_from_is_err_and c.from_residual.result c.from_residual.ensures.1 in
-    rw p.1 (device_stops _ _ c.args.parts.now (device_of c.args.device.now) _ c.args.image.now c.requires.plain c.version.ensures c.in_err-print_section.ensures.written)
+    rw p.1 (subst (AppendsPrefix old new) (device_is set d image)
+    (prefix_front old new (section_text d image.version ++ own) subs (prefix_front old new (section_text d image.version) own (subst (AppendsPrefix old new) line c.in_err-print_section.ensures.written))))
 
-pub print_fields-requires-clause-room : goal.print_fields-requires-clause-room
-print_fields-requires-clause-room g c =
-    omega (arith, plain_cells (set_of c.args.parts.now) (device_of c.args.device.now) c.requires.plain, c.requires.of.cells, length-map c.args.device.now.desc.fields field_of)
+pub print_part-requires : goal.print_part-requires
+print_part-requires g c =
+    let set = described c.args.shown.set.now in
+    record { spot = own_spot set c.args.shown.set.now.well_formed c.args.device c.args.shown.image.now c.requires.of c.version-version.result c.requires.is_device }
+
+pub returns-in_err-print_part-clause-written : goal.returns-in_err-print_part-clause-written
+returns-in_err-print_part-clause-written g c =
+    let set = described c.args.shown.set.now in
+    let image = c.args.shown.image.now in
+    let d = device_at set c.args.device in
+    let line : section_text (device_of c.device.result.now) c.version-version.result ≡ section_text d image.version =
+    ap (λ (x : Device). section_text x c.version-version.result) c.device.ensures ∙ ap (section_text d) c.version-version.ensures in
+    let own = desc_lines (printers set) d.desc [] image.numbers 0 in
+    let subs = sub_lines set image.numbers (own_cells set d) d.subs image.came in
+    let old = g.K.Sink.written c.args.sink.now in
+    let mid = g.K.Sink.written c.print_section.new.sink in
+    let new = g.K.Sink.written c.print_part.new.sink in
+    let p = err_from_is_err_and c.from_residual-in_err-print_part.result c.from_residual-in_err-print_part.ensures.1 in
+    rw p.1 (subst (AppendsPrefix old new) (device_is set d image)
+    (prefix_front old new (section_text d image.version ++ own) subs
+    (prefix_more old mid new (section_text d image.version) own (subst (Appends old mid) line c.in_ok-print_section.ensures.written) c.in_err-print_part.ensures.written)))
 
 pub returns-clause-written : goal.returns-clause-written
 returns-clause-written g c =
-    same_text _ _ _ _ _ (device_text c.args.parts.now (device_of c.args.device.now) _ c.args.image.now c.requires.plain c.version.ensures)
-    (writes_more _ _ _ _ _ _ c.in_ok-print_section.ensures.written
-    (same_text _ _ _ _ _ (ap (λ (l : List CodeDesc). desc_lines (printers_in l) (desc_of c.args.device.now.desc) [] c.args.image.now.numbers 0) c.as_slice.ensures) c.print_fields.ensures.written))
+    let set = described c.args.shown.set.now in
+    let image = c.args.shown.image.now in
+    let d = device_at set c.args.device in
+    let line : section_text (device_of c.device.result.now) c.version-version.result ≡ section_text d image.version =
+    ap (λ (x : Device). section_text x c.version-version.result) c.device.ensures ∙ ap (section_text d) c.version-version.ensures in
+    let own = desc_lines (printers set) d.desc [] image.numbers 0 in
+    let subs = sub_lines set image.numbers (own_cells set d) d.subs image.came in
+    let old = g.K.Sink.written c.args.sink.now in
+    let mid = g.K.Sink.written c.print_section.new.sink in
+    let last = g.K.Sink.written c.print_part.new.sink in
+    let new = g.K.Sink.written c.print_subs.new.sink in
+    same_text old new ((section_text d image.version ++ own) ++ subs) (device_lines set d image) c.print_subs.result (device_is set d image)
+    (writes_more old last new (section_text d image.version ++ own) subs c.print_subs.result
+    (Appends-trans old mid last (section_text d image.version) own (subst (Appends old mid) line c.in_ok-print_section.ensures.written) c.in_ok-print_part.ensures.written) c.print_subs.ensures.written)

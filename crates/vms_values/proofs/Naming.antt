@@ -1,0 +1,238 @@
+-- Names from cells: a part's fields one after the other, and one element.
+use Rattle.std.proofs.Common.{◌≡◌, ℕ, zero, suc, ◌+◌, ◌-◌, ◌*◌, ◌<◌, ◌≤◌, ◌/◌, ◌%◌, List, [], ◌∷◌, ◌++◌, length, get_or, drop, map, ℤ, pos, refl, sym, ap, ◌∙◌, subst, arith, true, append-nil, length-append, codes, append_assoc, Bool, false, nat_lt}
+use Rattle.std.proofs.lemmas.Bool.{ltb-true, ltb-false}
+use Rattle.std.proofs.lemmas.List.{drop_all, get_or_append_left, get_or-map, length-map}
+use Rattle.std.proofs.Math.Seq.{get_or-append_right}
+use Rattle.std.proofs.lemmas.Nat.{div-add-mod'}
+use Rattle.std.proofs.Math.Nat.{mod-lt}
+use Rattle.vms_kinds.specs.declared.Item.{Item}
+use Rattle.vms_kinds.specs.declared.Item.TheVariants.{Num, Equal, Unused, Struct}
+use Rattle.std.specs.Fmt.{decimal}
+use Rattle.vms_spec.specs.declared.Count.{Count}
+use Rattle.vms_spec.specs.declared.Count.TheVariants.{One, Fixed, Counted}
+use Rattle.vms_spec.specs.declared.Part.{Part}
+use Rattle.vms_spec.specs.declared.Part.TheVariants as parts
+use Rattle.vms_spec.specs.Sets.{Field, Set}
+use Rattle.vms_spec.specs.Rules.{uses_below}
+use Rattle.vms_spec.specs.Layout.{Cell, no_desc, first, counted, capacity_of, item_size, field_cells, desc_cells, numbers_of, no_parent}
+use Rattle.vms_spec.specs.Places.{own_cell_count}
+use Rattle.vms_spec.proofs.Sizes.{field_size}
+use Rattle.vms_desc.specs.Asks.{field_at}
+use Rattle.vms_desc.specs.Formed.{is_well_formed}
+use Rattle.vms_desc.specs.Parts.{HasPart, desc_at}
+use Rattle.vms_desc.proofs.Clean.{reach, field_clean}
+use Rattle.vms_walk.specs.Steps.{size_in}
+use Rattle.vms_walk.proofs.Ranks.{item_rank, part_rank, reach_whole, uses_more, rank_below}
+use Rattle.vms_walk.proofs.Spots.{cells_table, struct_size}
+use Rattle.vms_walk.proofs.Walking.{fields_at}
+use Rattle.vms_elements.specs.Elements.{Shape, no_shape, shape, shapes, cells_in, dotted, item_elements, stand_of, field_elements, elements_from, desc_elements, index_text}
+use Rattle.vms_elements.specs.Parts.{names_of}
+use Rattle.vms_elements.proofs.Tables.{first_at, shapes_cells}
+use Rattle.vms_elements.proofs.CellsOf.{AreShapes, are_shapes, item_has, field_has, desc_has}
+use Rattle.vms_elements.proofs.Names.{SameNames, same_names, names_append, names_long, names_dotted, item_names as item_same, fields_names, desc_names, desc_names_are, array_name}
+use Rattle.vms_values.specs.Naming.{usable, part_names, item_names, field_name}
+
+pub positive : (n size c : ℕ) → c < n * size → 0 < size
+positive n zero c lt = let none : n * 0 ≡ 0 = grind arith in absurd (omega (arith, none, lt))
+positive n (suc size) c lt = omega arith
+
+fewer : (q n size r left : ℕ) → q * size + r ≡ left → left < n * size → q < n
+fewer q n size r left e lt = by_test (nat_lt q n) refl
+  where
+    by_test : (b : Bool) → nat_lt q n ≡ b → q < n
+    by_test true t = ltb-true q n t
+    by_test false t =
+        let le : n ≤ q = ltb-false q n t in
+        let d = q - n in
+        let is : q ≡ n + d = omega arith in
+        let product : (n + d) * size ≡ n * size + d * size = grind arith in
+        absurd (omega (arith, ap (λ (k : ℕ). k * size) is, product, e, lt))
+
+module _ (set : Set) where
+  -- the table of a part is one of the first tables
+  usable_is : (part : Part) → HasPart set part → usable set part ≡ first shape set.structs (reach set part)
+  usable_is parts.Set h = absurd h
+  usable_is (parts.Struct j) h = refl
+  usable_is (parts.Device i) h = refl
+  usable_is (parts.Sub i j) h = refl
+
+  same_in : (part : Part) → HasPart set part → SameNames (usable set part)
+  same_in part h = subst SameNames (sym (usable_is part h)) (same_names set.structs (reach set part))
+
+  -- an item that a part may use has the names that it has among all
+  item_in : (k : ℕ) → k ≤ length set.structs → (item : Item) → uses_below k item ≡ true → (caps : List ℕ) (z : ℤ) (n : List ℤ) (a : ℕ)
+      → names_of (item_elements (first shape set.structs k) item caps z n a) ≡ item_names set item
+  item_in k le (Num kind) e caps z n a = refl
+  item_in k le (Equal kind y) e caps z n a = refl
+  item_in k le (Unused b) e caps z n a = refl
+  item_in k le (Struct j) e caps z n a =
+      let lt : j < k = ltb-true j k e in
+      let lt' : j < length set.structs = omega arith in
+      item_same (first shape set.structs k) (same_names set.structs k) (Struct j) caps z n [] a 0
+      ∙ ap (λ (s : Shape). names_of (map dotted (s.elements [] 0))) (first_at shape set.structs no_shape k j lt ∙ sym (first_at shape set.structs no_shape (length set.structs) j lt'))
+
+  item_long : (item : Item) → length (item_names set item) ≡ size_in set item
+  item_long item =
+      names_long (item_elements (shapes set) item [] (pos 0) [] 0)
+      ∙ ap length (item_has (shapes set) (are_shapes set.structs (length set.structs)) item [] (pos 0) [] 0)
+      ∙ ap (λ (cs : List (List Cell)). item_size cs item) (shapes_cells set.structs (length set.structs) ∙ sym (cells_table set))
+
+  -- the names in one element of a structure
+  pub struct_name : (j : ℕ) → j < length set.structs → (c : ℕ) → c < size_in set (Struct j) → get_or (item_names set (Struct j)) c [] ≡ codes "." ++ get_or (part_names set (parts.Struct j)) c []
+  struct_name j lt c small =
+      let d = get_or set.structs j no_desc in
+      let ss = first shape set.structs j in
+      let names = names_of (desc_elements ss d d.version [] 0) in
+      let is : item_names set (Struct j) ≡ map (λ l. codes "." ++ l) names =
+      ap (λ (s : Shape). names_of (map dotted (s.elements [] 0))) (first_at shape set.structs no_shape (length set.structs) j lt) ∙ names_dotted (desc_elements ss d d.version [] 0) in
+      let long : length names ≡ size_in set (Struct j) = sym (length-map names (λ l. codes "." ++ l)) ∙ ap length (sym is) ∙ item_long (Struct j) in
+      ap (λ (l : List (List ℕ)). get_or l c []) is
+      ∙ get_or-map (λ l. codes "." ++ l) names c [] [] (omega (arith, long))
+      ∙ ap (λ (l : List (List ℕ)). codes "." ++ get_or l c []) (desc_names ss (same_names set.structs j) d d.version 0 [] [] 0 0)
+
+  -- a number has no name of its own behind its path
+  pub plain_name : (item : Item) → ((j : ℕ) → item ≡ Struct j → ⊥) → (c : ℕ) → c < size_in set item → get_or (item_names set item) c [] ≡ []
+  plain_name (Num kind) other zero lt = refl
+  plain_name (Num kind) other (suc c) lt = absurd (omega arith)
+  plain_name (Equal kind z) other c lt = absurd (omega arith)
+  plain_name (Unused n) other c lt = absurd (omega arith)
+  plain_name (Struct j) other c lt = absurd (other j refl)
+
+  -- ---- the fields of a part
+
+  -- the names of the fields from k on
+  abbrev pub names_from : Part → ℕ → List (List ℕ)
+  names_from part k = names_of (elements_from (usable set part) (desc_at set part).fields 0 no_parent [] k 0 (drop k (desc_at set part).fields))
+
+  pub all_names : (part : Part) → HasPart set part → part_names set part ≡ names_from part 0
+  all_names part h =
+      let d = desc_at set part in
+      let own = numbers_of (cells_in (usable set part)) d [] 0 in
+      desc_names_are (usable set part) (same_in part h) d 0 [] 0 ∙ fields_names (usable set part) (same_in part h) d.fields 0 0 own no_parent [] [] 0 0 0 d.fields
+
+  pub no_names : (part : Part) (k : ℕ) → k ≡ length (desc_at set part).fields → names_from part k ≡ []
+  no_names part k e = ap (λ (l : List Field). names_of (elements_from (usable set part) (desc_at set part).fields 0 no_parent [] k 0 l)) (drop_all k (desc_at set part).fields (omega arith))
+
+  -- as many names as cells
+  field_long : (part : Part) → HasPart set part → (k : ℕ) (f : Field) → uses_below (reach set part) f.item ≡ true
+      → length (names_of (field_elements (usable set part) (desc_at set part).fields 0 no_parent [] k 0 f)) ≡ capacity_of f.count * size_in set f.item
+  field_long part h k f uses =
+      let all = (desc_at set part).fields in
+      let ss = usable set part in
+      let good : AreShapes ss = subst AreShapes (sym (usable_is part h)) (are_shapes set.structs (reach set part)) in
+      let le = reach_whole set part h in
+      let one : item_size (cells_in ss) f.item ≡ size_in set f.item =
+      sym (names_long (item_elements ss f.item [] (pos 0) [] 0) ∙ ap length (item_has ss good f.item [] (pos 0) [] 0))
+      ∙ ap (λ (t : List Shape). length (names_of (item_elements t f.item [] (pos 0) [] 0))) (usable_is part h)
+      ∙ ap length (item_in (reach set part) le f.item uses [] (pos 0) [] 0) ∙ item_long f.item in
+      names_long (field_elements ss all 0 no_parent [] k 0 f) ∙ ap length (field_has ss good all 0 no_parent [] k 0 f) ∙ field_size (cells_in ss) all k f ∙ ap (λ (s : ℕ). capacity_of f.count * s) one
+
+  in_field : (part : Part) → HasPart set part → (k : ℕ) (f : Field) → uses_below (reach set part) f.item ≡ true → (left : ℕ) → left < capacity_of f.count * size_in set f.item
+      → get_or (names_of (field_elements (usable set part) (desc_at set part).fields 0 no_parent [] k 0 f)) left [] ≡ field_name set f left
+  in_field part h k f uses left small =
+      let all = (desc_at set part).fields in
+      let ss = usable set part in
+      let size = size_in set f.item in
+      let q = left / size in
+      let r = left % size in
+      let good : AreShapes ss = subst AreShapes (sym (usable_is part h)) (are_shapes set.structs (reach set part)) in
+      let le = reach_whole set part h in
+      let names : (a : ℕ) → names_of (item_elements ss f.item (counted k all) f.default [] a) ≡ item_names set f.item =
+      λ a. ap (λ (t : List Shape). names_of (item_elements t f.item (counted k all) f.default [] a)) (usable_is part h) ∙ item_in (reach set part) le f.item uses (counted k all) f.default [] a in
+      let step_is : item_size (cells_in ss) f.item ≡ size =
+      sym (names_long (item_elements ss f.item [] (pos 0) [] 0) ∙ ap length (item_has ss good f.item [] (pos 0) [] 0))
+      ∙ ap (λ (t : List Shape). length (names_of (item_elements t f.item [] (pos 0) [] 0))) (usable_is part h)
+      ∙ ap length (item_in (reach set part) le f.item uses [] (pos 0) [] 0) ∙ item_long f.item in
+      let divided : q * size + r ≡ left = div-add-mod' left size in
+      let some : 0 < size = positive (capacity_of f.count) size left small in
+      let rest : r < size = mod-lt left some in
+      let index : q < capacity_of f.count = fewer q (capacity_of f.count) size r left divided small in
+      let first : 0 + q ≡ q = omega arith in
+      let product : q * item_size (cells_in ss) f.item ≡ q * size = ap (λ (s : ℕ). q * s) step_is in
+      ap (λ (n : ℕ). get_or (names_of (field_elements ss all 0 no_parent [] k 0 f)) n []) (sym (ap (λ (s : ℕ). q * s + r) step_is ∙ divided))
+      ∙ array_name f (stand_of k f 0 no_parent) (item_elements ss f.item (counted k all) f.default []) (item_names set f.item) (item_size (cells_in ss) f.item) names (item_long f.item ∙ sym step_is) q 0 (capacity_of f.count) 0 r index (omega (arith, rest, step_is))
+      ∙ ap (λ (e : ℕ). (f.name ++ index_text f.count e) ++ get_or (item_names set f.item) r []) first
+
+  pub record NextNames (part : Part) (k left : ℕ) (f : Field) : Type 0 where
+    pub uses : uses_below (length set.structs) f.item ≡ true
+    pub lower : item_rank f.item + 1 < part_rank set part + 2
+    pub some : 1 ≤ capacity_of f.count
+    pub long : length (names_from part k) ≡ capacity_of f.count * size_in set f.item + length (names_from part (k + 1))
+    pub here : left < capacity_of f.count * size_in set f.item → get_or (names_from part k) left [] ≡ field_name set f left
+    pub later : capacity_of f.count * size_in set f.item ≤ left → get_or (names_from part k) left [] ≡ get_or (names_from part (k + 1)) (left - capacity_of f.count * size_in set f.item) []
+
+  pub next_names : is_well_formed set ≡ true → (part : Part) → HasPart set part → (k left : ℕ) (f : Field) → k < length (desc_at set part).fields → f ≡ field_at set part k → NextNames part k left f
+  next_names well part h k left f lt is =
+      let all = (desc_at set part).fields in
+      let ss = usable set part in
+      let clean = field_clean set well part h k lt in
+      let here = λ (P : Field → Type 0) (p : P (field_at set part k)). subst P (sym is) p in
+      let uses = here (λ (x : Field). uses_below (reach set part) x.item ≡ true) clean.uses in
+      let le = reach_whole set part h in
+      let size = size_in set f.item in
+      let step = item_size (cells_in ss) f.item in
+      let mine = names_of (field_elements ss all 0 no_parent [] k 0 f) in
+      let many = field_long part h k f uses in
+      let one : suc k ≡ k + 1 = omega arith in
+      let at : drop k all ≡ f ∷ drop (k + 1) all = fields_at all k lt ∙ ap (λ (x : Field). x ∷ drop (k + 1) all) (sym is) in
+      let split : names_from part k ≡ mine ++ names_from part (k + 1) =
+      ap (λ (l : List Field). names_of (elements_from ss all 0 no_parent [] k 0 l)) at
+      ∙ names_append (field_elements ss all 0 no_parent [] k 0 f) (elements_from ss all 0 no_parent [] (suc k) (0 + length (field_cells (cells_in ss) all k f)) (drop (k + 1) all))
+      ∙ ap (λ (l : List (List ℕ)). mine ++ l) (fields_names ss (same_in part h) all 0 0 no_parent no_parent [] [] (suc k) (0 + length (field_cells (cells_in ss) all k f)) 0 (drop (k + 1) all))
+      ∙ ap (λ (i : ℕ). mine ++ names_of (elements_from ss all 0 no_parent [] i 0 (drop (k + 1) all))) one in
+      record {
+        uses = uses_more (reach set part) (length set.structs) f.item le uses;
+        lower = rank_below (reach set part) f.item uses;
+        some = here (λ (x : Field). 1 ≤ capacity_of x.count) clean.some;
+        long = ap length split ∙ length-append mine (names_from part (k + 1)) ∙ ap (λ (n : ℕ). n + length (names_from part (k + 1))) many;
+        here = λ small. ap (λ (l : List (List ℕ)). get_or l left []) split ∙ get_or_append_left mine (names_from part (k + 1)) [] left (omega (arith, many, small))
+            ∙ in_field part h k f uses left small;
+        later = λ past. ap (λ (l : List (List ℕ)). get_or l left []) split ∙ get_or-append_right mine (names_from part (k + 1)) left [] (omega (arith, many, past))
+            ∙ ap (λ (n : ℕ). get_or (names_from part (k + 1)) (left - n) []) many;
+      }
+
+  pub part_long : is_well_formed set ≡ true → (part : Part) → HasPart set part → length (part_names set part) ≡ own_cell_count set (desc_at set part)
+  part_long well part h =
+      let ss = usable set part in
+      let d = desc_at set part in
+      let good : AreShapes ss = subst AreShapes (sym (usable_is part h)) (are_shapes set.structs (reach set part)) in
+      names_long (desc_elements ss d 0 [] 0) ∙ ap length (desc_has ss good d 0 [] 0)
+      ∙ ap (λ (t : List Shape). length (desc_cells (cells_in t) d)) (usable_is part h) ∙ ap (λ (cs : List (List Cell)). length (desc_cells cs d)) (shapes_cells set.structs (reach set part)) ∙ by_part part h
+    where
+      by_part : (part : Part) → HasPart set part → length (desc_cells (first desc_cells set.structs (reach set part)) (desc_at set part)) ≡ own_cell_count set (desc_at set part)
+      by_part parts.Set h = absurd h
+      by_part (parts.Device i) h = refl
+      by_part (parts.Sub i j) h = refl
+      by_part (parts.Struct j) lt =
+          ap length (sym (first_at desc_cells set.structs [] (length set.structs) j lt))
+          ∙ ap (λ (cs : List (List Cell)). length (get_or cs j [])) (sym (cells_table set)) ∙ struct_size set well j lt
+
+  -- a field's path and what stands behind it
+  pub single_is : (f : Field) → f.count ≡ One → (path name : List ℕ) (step cell : ℕ) → name ≡ f.name → step ≡ size_in set f.item
+      → (path ++ name) ++ get_or (item_names set f.item) (cell % step) [] ≡ path ++ field_name set f cell
+  single_is f one path name step cell n s =
+      let rest = get_or (item_names set f.item) (cell % size_in set f.item) [] in
+      let none : index_text f.count (cell / size_in set f.item) ≡ [] = ap (λ (c : Count). index_text c (cell / size_in set f.item)) one in
+      ap (λ (l : List ℕ). (path ++ l) ++ get_or (item_names set f.item) (cell % step) []) n
+      ∙ ap (λ (k : ℕ). (path ++ f.name) ++ get_or (item_names set f.item) (cell % k) []) s
+      ∙ append_assoc path f.name rest
+      ∙ ap (λ (l : List ℕ). path ++ (l ++ rest)) (sym (ap (λ (l : List ℕ). f.name ++ l) none ∙ append-nil f.name))
+
+  pub element_is : (f : Field) → (f.count ≡ One → ⊥) → (path name : List ℕ) (step cell : ℕ) → name ≡ f.name → step ≡ size_in set f.item
+      → ((path ++ name) ++ codes "[" ++ decimal (cell / step) ++ codes "]") ++ get_or (item_names set f.item) (cell % step) [] ≡ path ++ field_name set f cell
+  element_is f many path name step cell n s =
+      let size = size_in set f.item in
+      let e = cell / size in
+      let rest = get_or (item_names set f.item) (cell % size) [] in
+      ap (λ (l : List ℕ). ((path ++ l) ++ codes "[" ++ decimal (cell / step) ++ codes "]") ++ get_or (item_names set f.item) (cell % step) []) n
+      ∙ ap (λ (k : ℕ). ((path ++ f.name) ++ codes "[" ++ decimal (cell / k) ++ codes "]") ++ get_or (item_names set f.item) (cell % k) []) s
+      ∙ brackets path f.name (codes "[") (decimal e) (codes "]") rest
+      ∙ ap (λ (l : List ℕ). path ++ ((f.name ++ l) ++ rest)) (sym (index_is f.count many e))
+    where
+      brackets : (a b c d e f : List ℕ) → ((((a ++ b) ++ c) ++ d) ++ e) ++ f ≡ a ++ ((b ++ (c ++ (d ++ e))) ++ f)
+      brackets a b c d e f = simp append_assoc refl
+
+      index_is : (c : Count) → (c ≡ One → ⊥) → (e : ℕ) → index_text c e ≡ codes "[" ++ (decimal e ++ codes "]")
+      index_is One other e = absurd (other refl)
+      index_is (Fixed n) other e = refl
+      index_is (Counted by most) other e = refl

@@ -1,0 +1,179 @@
+use Rattle.std.proofs.Common.{rules, arith, ◌≡◌, ◌+◌, ◌*◌, ◌-◌, ◌%◌, ◌<◌, ◌≤◌, true, List, [], ◌++◌, ℕ, length, get_or, map, codes, append_assoc, refl, sym, ap, ◌∙◌, subst}
+use Rattle.std.proofs.lemmas.Bool.{ltb-true}
+use Rattle.vms_kinds.specs.declared.Item.{Item}
+use Rattle.vms_spec.specs.declared.Part.TheVariants as parts
+use Rattle.vms_spec.specs.Sets.{Field, Desc}
+use Rattle.vms_spec.specs.Layout.{capacity_of}
+use Rattle.vms_parts.specs.Views.{field_of}
+use Rattle.vms_desc.specs.Asks.{field_at}
+use Rattle.vms_desc.specs.Described.{described}
+use Rattle.vms_desc.specs.Parts.{desc_at}
+use Rattle.vms_desc.proofs.AskLaws.{found_field}
+use Rattle.vms_walk.specs.Steps.{size_in}
+use Rattle.vms_walk.proofs.Spots.{size_code, width_code, struct_size}
+use Rattle.vms_walk.proofs.Ranks.{item_rank, part_rank}
+use Rattle.vms_walk.proofs.Walking.{one_fits}
+use Rattle.vms_spec.specs.Rules.{uses_below}
+use Rattle.std.proofs.Math.Nat.{mod-lt}
+use Rattle.vms_values.specs.Paths.{path_text}
+use Rattle.vms_values.specs.Naming.{part_names, item_names, field_name}
+use Rattle.vms_values.proofs.PrintLemmas.{same_text}
+use Rattle.vms_values.proofs.Naming.{next_names, all_names, names_from, part_long, struct_name, positive, single_is, element_is}
+use Rattle.vms_values.proofs.name.+name.Goals as goal
+
+-- ---- an element of a field
+
+pub print_element-nonzero_div-index : goal.print_element-nonzero_div-index
+print_element-nonzero_div-index g t c =
+    let set = described c.args.set.now in
+    let item = c.args.field.now.item in
+    let size = size_code set item c.item_cells-size.result c.item_cells-size.ensures c.requires.small in
+    omega (arith, size, positive (capacity_of c.args.field.now.count) (size_in set item) c.args.cell c.requires.cell)
+
+pub print_element-nonzero_rem-rest : goal.print_element-nonzero_rem-rest
+print_element-nonzero_rem-rest g t c =
+    let set = described c.args.set.now in
+    let item = c.args.field.now.item in
+    let size = size_code set item c.item_cells-size.result c.item_cells-size.ensures c.requires.small in
+    omega (arith, size, positive (capacity_of c.args.field.now.count) (size_in set item) c.args.cell c.requires.cell)
+
+pub print_element-print_inside-requires : goal.print_element-print_inside-requires
+print_element-print_inside-requires g t c =
+    let set = described c.args.set.now in
+    let item = c.args.field.now.item in
+    let size = size_code set item c.item_cells-size.result c.item_cells-size.ensures c.requires.small in
+    let some = positive (capacity_of c.args.field.now.count) (size_in set item) c.args.cell c.requires.cell in
+    let rest : c.args.cell % c.item_cells-size.result < size_in set item = subst (λ (s : ℕ). c.args.cell % s < size_in set item) (sym size) (mod-lt c.args.cell some) in
+    λ κs h. (search rules, (search rules, (c.requires.reaches, (c.requires.small, rest))))
+
+pub print_element-print_inside-requires-in_default : goal.print_element-print_inside-requires-in_default
+print_element-print_inside-requires-in_default g t c =
+    let set = described c.args.set.now in
+    let item = c.args.field.now.item in
+    let size = size_code set item c.item_cells-size.result c.item_cells-size.ensures c.requires.small in
+    let some = positive (capacity_of c.args.field.now.count) (size_in set item) c.args.cell c.requires.cell in
+    let rest : c.args.cell % c.item_cells-size.result < size_in set item = subst (λ (s : ℕ). c.args.cell % s < size_in set item) (sym size) (mod-lt c.args.cell some) in
+    λ κs h. (search rules, (search rules, (c.requires.reaches, (c.requires.small, rest))))
+
+pub print_element-returns-in-One-clause-written : goal.print_element-returns-in-One-clause-written
+print_element-returns-in-One-clause-written g t c =
+    let set = described c.args.set.now in
+    let f = field_of c.args.field.now in
+    let size = size_code set f.item c.item_cells-size.result c.item_cells-size.ensures c.requires.small in
+    same_text _ _ _ _ _ (single_is set f c.in-One.is (path_text c.args.path.now) c.as_bytes.result.now c.item_cells-size.result c.args.cell c.as_bytes.ensures size) c.print_inside.ensures.written
+
+pub print_element-returns-in_default : goal.print_element-returns-in_default
+print_element-returns-in_default g t c =
+    let set = described c.args.set.now in
+    let f = field_of c.args.field.now in
+    let size = size_code set f.item c.item_cells-size.result c.item_cells-size.ensures c.requires.small in
+    record {
+      written = same_text _ _ _ _ _ (element_is set f c.in_default.not-One (path_text c.args.path.now) c.as_bytes.result.now c.item_cells-size.result c.args.cell c.as_bytes.ensures size) c.print_inside-in_default.ensures.written;
+      cause = c.print_inside-in_default.ensures.cause;
+      promise = c.print_inside-in_default.ensures.promise;
+    }
+
+-- ---- inside of an element
+
+pub print_inside-print_name-requires : goal.print_inside-print_name-requires
+print_inside-print_name-requires g t c =
+    let set = described c.args.set.now in
+    let j = c.in-Struct.number in
+    let lt : j < length set.structs = ltb-true j (length set.structs) (rw c.in-Struct.is at c.requires.reaches) in
+    let small = rw c.in-Struct.is at c.requires.small in
+    let cell = rw c.in-Struct.is at c.requires.cell in
+    let size = struct_size set c.args.set.now.well_formed j lt in
+    λ κs h. (search rules, (search rules, (lt, (omega (arith, small, size), omega (arith, cell, size)))))
+
+pub print_inside-returns-in-Struct-clause-written : goal.print_inside-returns-in-Struct-clause-written
+print_inside-returns-in-Struct-clause-written g t c =
+    let set = described c.args.set.now in
+    let j = c.in-Struct.number in
+    let lt : j < length set.structs = ltb-true j (length set.structs) (rw c.in-Struct.is at c.requires.reaches) in
+    let cell = rw c.in-Struct.is at c.requires.cell in
+    let path = path_text c.args.path.now in
+    same_text _ _ _ _ _
+    (append_assoc path (codes ".") (get_or (part_names set (parts.Struct j)) c.args.cell [])
+    ∙ ap (λ (l : List ℕ). path ++ l) (sym (struct_name set j lt c.args.cell cell))
+    ∙ ap (λ (i : Item). path ++ get_or (item_names set i) c.args.cell []) (sym c.in-Struct.is))
+    c.print_name.ensures.written
+
+-- ---- the fields of a part
+
+pub print_name-loop-field-init : goal.print_name-loop-field-init
+print_name-loop-field-init g t c =
+    let set = described c.args.set.now in
+    let all = all_names set c.args.part c.requires.part in
+    let long = part_long set c.args.set.now.well_formed c.args.part c.requires.part in
+    record {
+      same = ap (λ (l : List (List ℕ)). get_or l c.args.cell []) all;
+      room = omega (arith, long, ap length all, c.requires.cell);
+      few = omega (arith, long, ap length all, c.requires.small);
+      untouched = refl;
+    }
+
+pub print_name-print_element-requires : goal.print_name-print_element-requires
+print_name-print_element-requires g t c =
+    let set = described c.args.set.now in
+    let part = c.args.part in
+    let k = c.loop-field.field in
+    let left = c.loop-field.left in
+    let f = field_at set part k in
+    let lt : k < length (desc_at set part).fields = omega (arith, c.field_count-field-end.ensures, c.loop-field-test.true) in
+    let next = next_names set c.args.set.now.well_formed part c.requires.part k left f lt refl in
+    let small : capacity_of f.count * size_in set f.item ≤ 16384 = omega (arith, next.long, c.loop-field.invariant.few) in
+    let width : c.field_cells-size.result ≡ capacity_of f.count * size_in set f.item = width_code set f c.field_cells-size.result c.field_cells-size.ensures small in
+    let code = c.index-as_slice-field.result in
+    let fields : map field_of c.as_slice.result.now ≡ (desc_at set part).fields = ap (map field_of) c.as_slice.ensures ∙ ap (λ (x : Desc). x.fields) c.desc.ensures in
+    let found : field_of code ≡ f = found_field c.as_slice.result.now (desc_at set part).fields k code fields lt c.index-as_slice-field.is in
+    let here : left < capacity_of f.count * size_in set f.item = omega (arith, width, c.if-left-size.true) in
+    let at = λ (P : Field → Type 0) (p : P f). subst P (sym found) p in
+    let uses = at (λ (x : Field). uses_below (length set.structs) x.item ≡ true) next.uses in
+    let lower = at (λ (x : Field). item_rank x.item + 1 < part_rank set part + 2) next.lower in
+    let one = at (λ (x : Field). size_in set x.item ≤ 16384) (one_fits (capacity_of f.count) (size_in set f.item) 0 16384 16384 next.some (omega (arith, small)) (omega arith)) in
+    let inside = at (λ (x : Field). left < capacity_of x.count * size_in set x.item) here in
+    λ κs h. (search rules, (search rules, (uses, (one, inside))))
+
+pub print_name-returns-then-left-size-clause-written : goal.print_name-returns-then-left-size-clause-written
+print_name-returns-then-left-size-clause-written g t c =
+    let set = described c.args.set.now in
+    let part = c.args.part in
+    let k = c.loop-field.field in
+    let left = c.loop-field.left in
+    let f = field_at set part k in
+    let lt : k < length (desc_at set part).fields = omega (arith, c.field_count-field-end.ensures, c.loop-field-test.true) in
+    let next = next_names set c.args.set.now.well_formed part c.requires.part k left f lt refl in
+    let small : capacity_of f.count * size_in set f.item ≤ 16384 = omega (arith, next.long, c.loop-field.invariant.few) in
+    let width : c.field_cells-size.result ≡ capacity_of f.count * size_in set f.item = width_code set f c.field_cells-size.result c.field_cells-size.ensures small in
+    let code = c.index-as_slice-field.result in
+    let fields : map field_of c.as_slice.result.now ≡ (desc_at set part).fields = ap (map field_of) c.as_slice.ensures ∙ ap (λ (x : Desc). x.fields) c.desc.ensures in
+    let found : field_of code ≡ f = found_field c.as_slice.result.now (desc_at set part).fields k code fields lt c.index-as_slice-field.is in
+    let here : left < capacity_of f.count * size_in set f.item = omega (arith, width, c.if-left-size.true) in
+    let path = path_text c.args.path.now in
+    same_text _ _ _ _ _
+    (ap (λ (x : Field). path ++ field_name set x left) found ∙ ap (λ (l : List ℕ). path ++ l) (sym (c.loop-field.invariant.same ∙ next.here here))) (rw c.loop-field.invariant.untouched at c.print_element.ensures.written)
+
+pub print_name-returns-then-left-size-clause-cause : goal.print_name-returns-then-left-size-clause-cause
+print_name-returns-then-left-size-clause-cause g t c = rw c.loop-field.invariant.untouched at c.print_element.ensures.cause
+
+pub print_name-returns-then-left-size-clause-promise : goal.print_name-returns-then-left-size-clause-promise
+print_name-returns-then-left-size-clause-promise g t c = c.print_element.ensures.promise ∙ ap g.K.Sink.promise c.loop-field.invariant.untouched
+
+pub print_name-loop-field-preserved : goal.print_name-loop-field-preserved
+print_name-loop-field-preserved g t c =
+    let set = described c.args.set.now in
+    let part = c.args.part in
+    let k = c.loop-field.field in
+    let left = c.loop-field.left in
+    let f = field_at set part k in
+    let lt : k < length (desc_at set part).fields = omega (arith, c.field_count-field-end.ensures, c.loop-field-test.true) in
+    let next = next_names set c.args.set.now.well_formed part c.requires.part k left f lt refl in
+    let small : capacity_of f.count * size_in set f.item ≤ 16384 = omega (arith, next.long, c.loop-field.invariant.few) in
+    let width : c.field_cells-size.result ≡ capacity_of f.count * size_in set f.item = width_code set f c.field_cells-size.result c.field_cells-size.ensures small in
+    let past : capacity_of f.count * size_in set f.item ≤ left = omega (arith, width, c.if-left-size.false) in
+    record {
+      same = c.loop-field.invariant.same ∙ next.later past ∙ ap (λ (n : ℕ). get_or (names_from set part (k + 1)) (left - n) []) (sym width);
+      room = omega (arith, width, next.long, c.loop-field.invariant.room, past);
+      few = omega (arith, next.long, c.loop-field.invariant.few);
+      untouched = c.loop-field.invariant.untouched;
+    }

@@ -1,0 +1,39 @@
+-- The paths of the cells of a part, as text.
+use Rattle.std.specs.Prelude.{◌≡◌, ◌<◌, ◌≤◌, ℕ, ◌/◌, ◌%◌, List, [], ◌++◌, get_or, pos}
+use Rattle.vms_kinds.specs.declared.Item.{Item}
+use Rattle.vms_spec.specs.declared.Part.{Part}
+use Rattle.vms_spec.specs.declared.Part.TheVariants as parts
+use Rattle.vms_spec.specs.Sets.{Field, Set}
+use Rattle.vms_spec.specs.Layout.{first}
+use Rattle.vms_desc.specs.Parts.{HasPart, desc_at}
+use Rattle.vms_walk.specs.Steps.{size_in}
+use Rattle.vms_elements.specs.Elements.{Shape, shape, shapes, item_elements, desc_elements, index_text}
+use Rattle.vms_elements.specs.Parts.{names_of, cell_name}
+use Rattle.vms_spec.specs.Places.{own_cell_count}
+use Rattle.vms_desc.specs.Described.{device_at}
+use Rattle.vms_values.specs.declared.name.Own.{Own}
+
+-- the structures that a part may use: a structure those before it, the others all
+abbrev pub usable : Set → Part → List Shape
+usable set (parts.Struct j) = first shape set.structs j
+usable set part = shapes set
+
+-- the paths of the cells of a part; no state matters
+abbrev pub part_names : Set → Part → List (List ℕ)
+part_names set part = names_of (desc_elements (usable set part) (desc_at set part) 0 [] 0)
+
+-- those of one element, behind its own path
+abbrev pub item_names : Set → Item → List (List ℕ)
+item_names set item = names_of (item_elements (shapes set) item [] (pos 0) [] 0)
+
+-- the path of a cell of a field
+abbrev pub field_name : Set → Field → ℕ → List ℕ
+field_name set f cell =
+    (f.name ++ index_text f.count (cell / size_in set f.item)) ++ get_or (item_names set f.item) (cell % size_in set f.item) []
+
+-- the part of a device in which a cell stands, and which of the part's cells it is
+pub record IsInPart (set : Set) (device cell : ℕ) (own : Own) : Type 0 where
+  pub part : HasPart set own.part
+  pub small : own_cell_count set (desc_at set own.part) ≤ 16384
+  pub inside : own.cell < own_cell_count set (desc_at set own.part)
+  pub same : get_or (part_names set own.part) own.cell [] ≡ cell_name set (device_at set device) cell

@@ -1,0 +1,171 @@
+// Prints the path of a cell.
+ghost use Rattle.std.specs.Prelude.{◌≡◌, ◌<◌, ◌≤◌, ◌*◌, ◌++◌, [], true, length, get_or};
+ghost use Rattle.vms_io.specs.Causes.{HasCause};
+ghost use Rattle.vms_spec.specs.Layout.{capacity_of, device_cells};
+ghost use Rattle.vms_spec.specs.Places.{own_cell_count};
+ghost use Rattle.vms_spec.specs.Rules.{uses_below};
+ghost use Rattle.vms_desc.specs.Described.{described, device_at};
+ghost use Rattle.vms_desc.specs.Parts.{HasPart, desc_at};
+ghost use Rattle.vms_parts.specs.Views.{field_of};
+ghost use Rattle.vms_walk.specs.Steps.{size_in};
+ghost use Rattle.vms_elements.specs.Parts.{cell_name};
+ghost use Rattle.vms_values.specs.Written.{Writes};
+ghost use Rattle.vms_values.specs.Paths.{path_text};
+ghost use Rattle.vms_values.specs.Naming.{part_names, item_names, field_name, IsInPart};
+
+use crate::path::{Path, write_path};
+use vms_desc::{Count, DescSet, Field, Part};
+use vms_io::{Failed, Sink, WriteFault};
+use vms_kinds::Item;
+
+/// Appends the path of a cell of the device of this number, as it stands in the values text: the names of
+/// fields joined by dots, an element of an array with its number in brackets. After an error some first
+/// bytes of it were appended.
+pub fn print_path<K: Sink>(
+    set: &DescSet,
+    device: u32,
+    cell: u32,
+    sink: &mut K,
+) -> Result<(), WriteFault>
+    requires is_device { device < length (described set.now).devices }
+    requires is_cell { let d = device_at (described set.now) device in
+        cell < length (device_cells (described set.now) d) }
+    ensures written { let set = described set.now in
+        let text = cell_name set (device_at set device) cell in
+        Writes (K.written sink.old) (K.written sink.new) text result }
+    ensures cause { HasCause (K.faults sink.old) (K.faults sink.new) result }
+    ensures promise { K.promise sink.new ≡ K.promise sink.old }
+{
+    let own = part_of(set, device, cell);
+    match print_name(set, own.part, own.cell, &Path::Top, sink) {
+        Ok(()) => Ok(()),
+        Err(_) => Err(WriteFault),
+    }
+}
+
+/// A part of a device, and a cell of that part's fields.
+#[derive(Clone, Copy)]
+struct Own {
+    part: Part,
+    cell: u32,
+}
+
+// The part in which a cell of a device stands: the device's own fields, or a subsection.
+fn part_of(set: &DescSet, device: u32, cell: u32) -> Own
+    requires is_device { device < length (described set.now).devices }
+    requires is_cell { let d = device_at (described set.now) device in
+        cell < length (device_cells (described set.now) d) }
+    ensures { IsInPart (described set.now) device cell result }
+{
+    let own = Part::Device(device);
+    let size = set.cells_of(own);
+    if cell < size {
+        return Own { part: own, cell };
+    }
+    let mut left = cell - size;
+    for sub in 0..set.sub_count(device) {
+        let part = Part::Sub(device, sub);
+        let size = set.cells_of(part);
+        if left < size {
+            return Own { part, cell: left };
+        }
+        left -= size;
+    }
+    unreachable!()
+}
+
+// The path of a cell of a part, after what stands before it.
+#[cycle(name)]
+fn print_name<K: Sink>(
+    set: &DescSet,
+    part: Part,
+    cell: u32,
+    path: &Path,
+    sink: &mut K,
+) -> Result<(), Failed>
+    requires part { HasPart (described set.now) part }
+    requires small { let d = desc_at (described set.now) part in
+        own_cell_count (described set.now) d ≤ 16384 }
+    requires cell { let d = desc_at (described set.now) part in
+        cell < own_cell_count (described set.now) d }
+    ensures written { let names = part_names (described set.now) part in
+        let text = path_text path.now ++ get_or names cell [] in
+        Writes (K.written sink.old) (K.written sink.new) text result }
+    ensures cause { HasCause (K.faults sink.old) (K.faults sink.new) result }
+    ensures promise { K.promise sink.new ≡ K.promise sink.old }
+{
+    let mut left = cell;
+    for field in 0..set.field_count(part) {
+        let size = set.field_cells(part, field);
+        if left < size {
+            let described = &set.desc(part).fields.as_slice()[field as usize];
+            return print_element(set, described, left, path, sink);
+        }
+        left -= size;
+    }
+    unreachable!()
+}
+
+// The path of a cell of a field.
+#[cycle(name)]
+fn print_element<K: Sink>(
+    set: &DescSet,
+    field: &Field,
+    cell: u32,
+    path: &Path,
+    sink: &mut K,
+) -> Result<(), Failed>
+    requires reaches { uses_below (length (described set.now).structs) field.now.item ≡ true }
+    requires small { size_in (described set.now) field.now.item ≤ 16384 }
+    requires cell { let size = size_in (described set.now) field.now.item in
+        cell < capacity_of field.now.count * size }
+    ensures written { let name = field_name (described set.now) (field_of field.now) cell in
+        let text = path_text path.now ++ name in
+        Writes (K.written sink.old) (K.written sink.new) text result }
+    ensures cause { HasCause (K.faults sink.old) (K.faults sink.new) result }
+    ensures promise { K.promise sink.new ≡ K.promise sink.old }
+{
+    let size = set.item_cells(field.item);
+    let (index, rest) = (cell / size, cell % size);
+    let path = Path::Field {
+        before: &*path,
+        name: field.name.as_bytes(),
+    };
+    match field.count {
+        Count::One => print_inside(set, &field.item, rest, &path, sink),
+        _ => {
+            let path = Path::Element {
+                array: &path,
+                index,
+            };
+            print_inside(set, &field.item, rest, &path, sink)
+        }
+    }
+}
+
+// The path of a cell of one element.
+#[cycle(name)]
+fn print_inside<K: Sink>(
+    set: &DescSet,
+    item: &Item,
+    cell: u32,
+    path: &Path,
+    sink: &mut K,
+) -> Result<(), Failed>
+    requires reaches { uses_below (length (described set.now).structs) item.now ≡ true }
+    requires small { size_in (described set.now) item.now ≤ 16384 }
+    requires cell { cell < size_in (described set.now) item.now }
+    ensures written { let names = item_names (described set.now) item.now in
+        let text = path_text path.now ++ get_or names cell [] in
+        Writes (K.written sink.old) (K.written sink.new) text result }
+    ensures cause { HasCause (K.faults sink.old) (K.faults sink.new) result }
+    ensures promise { K.promise sink.new ≡ K.promise sink.old }
+{
+    match item {
+        Item::Struct(number) => {
+            let part = Part::Struct(*number);
+            print_name(set, part, cell, &Path::Inside(&*path), sink)
+        }
+        _ => write_path(sink, path),
+    }
+}
