@@ -12,7 +12,7 @@ use crate::judge::{BadLine, judge_device};
 use crate::machine::read_machine;
 use crate::path::Path;
 use crate::read::{bad, push_image, read_section};
-use crate::subs::read_subs;
+use crate::subsections::read_subs;
 use crate::taken::{Taken, read_part};
 use crate::{Values, ValuesFault};
 use std::alloc::Global;

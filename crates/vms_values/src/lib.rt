@@ -13,7 +13,7 @@ mod path;
 mod print;
 mod read;
 mod shown;
-mod subs;
+mod subsections;
 mod taken;
 mod text;
 

@@ -10,7 +10,7 @@ use Rattle.vms_desc.proofs.AskLaws.{sub_first}
 use Rattle.vms_values.specs.Taken.{place_of}
 use Rattle.vms_values.proofs.DeviceLemmas.{on_true}
 use Rattle.vms_values.proofs.SubsReading.{follows_none, follows_next, follows_stop, sub_came, subs_bad, subs_end, alike_none, alike_more, of_alike}
-use Rattle.vms_values.proofs.subs.read_subs.Goals as goal
+use Rattle.vms_values.proofs.subsections.read_subs.Goals as goal
 
 pub loop-sub-init : goal.loop-sub-init
 loop-sub-init c =

@@ -2,7 +2,7 @@ use Rattle.std.proofs.Common.{◌≡◌, length, ap, arith}
 use Rattle.vms_spec.specs.Images.{Image}
 use Rattle.vms_desc.specs.Described.{described}
 use Rattle.vms_desc.proofs.AskLaws.{sub_inside}
-use Rattle.vms_values.proofs.subs.read_sub.Goals as goal
+use Rattle.vms_values.proofs.subsections.read_sub.Goals as goal
 
 pub read_part-requires : goal.read_part-requires
 read_part-requires c =

@@ -7,7 +7,7 @@ use Rattle.vms_desc.specs.Described.{described, device_at}
 use Rattle.vms_values.specs.Taken.{place_of}
 use Rattle.vms_values.specs.SubsTaken.{IsAlike}
 use Rattle.vms_values.proofs.SubsReading.{Follows}
-use Rattle.vms_values.proofs.subs.read_subs.Given as goal
+use Rattle.vms_values.proofs.subsections.read_subs.Given as goal
 
 abbrev pub invariant-loop-sub : goal.invariant-loop-sub
 invariant-loop-sub l =
