@@ -1,6 +1,6 @@
 -- What is saved of a board comes back.
 use Rattle.std.proofs.Common.{◌≡◌, ℕ, ℤ, pos, ◌≤◌, Bool, true, false, ◌&&◌, List, [], ◌∷◌, Result, Ok, refl, sym, ap, subst, ◌∙◌, arith}
-use Rattle.std.proofs.lemmas.Bool.{false≢true}
+use Rattle.std.proofs.lemmas.Bool.{and_parts, false≢true}
 use Rattle.std.proofs.lemmas.Bool.Decides.{nat_tests}
 use Rattle.std.specs.Prelude.{nat_le}
 use Rattle.dev_base.proofs.CellLaws.{of_none, of_more, long}
@@ -51,14 +51,6 @@ same-is false false e = refl
 both : (a b : Bool) → a ≡ true → b ≡ true → (a && b) ≡ true
 both a b p q = rw (p, q)
 
-first-true : (a b : Bool) → (a && b) ≡ true → a ≡ true
-first-true true b e = refl
-first-true false b e = absurd (false≢true e)
-
-second-true : (a b : Bool) → (a && b) ≡ true → b ≡ true
-second-true true b e = e
-second-true false b e = absurd (false≢true e)
-
 lines-agree : (m : State) → HasLines m → lines_agree m ≡ true
 unfolding lines_agree
 lines-agree m h =
@@ -67,11 +59,11 @@ lines-agree m h =
 pub has-lines : (m : State) → lines_agree m ≡ true → HasLines m
 unfolding lines_agree
 has-lines m e =
-    let rest = second-true (same (has (lines_of m.pair) 0) (pit_out 0 m.moment m.pit)) _ e in
+    let rest = (and_parts (same (has (lines_of m.pair) 0) (pit_out 0 m.moment m.pit)) _ e).1 in
     record {
-      out = same-is _ _ (first-true (same (has (lines_of m.pair) 0) (pit_out 0 m.moment m.pit)) _ e);
-      slave = same-is _ _ (first-true (same (has (lines_of m.pair) 2) (slave_int_of m.pair)) _ rest);
-      serial = same-is _ _ (second-true (same (has (lines_of m.pair) 2) (slave_int_of m.pair)) _ rest);
+      out = same-is _ _ (and_parts (same (has (lines_of m.pair) 0) (pit_out 0 m.moment m.pit)) _ e).0;
+      slave = same-is _ _ (and_parts (same (has (lines_of m.pair) 2) (slave_int_of m.pair)) _ rest).0;
+      serial = same-is _ _ (and_parts (same (has (lines_of m.pair) 2) (slave_int_of m.pair)) _ rest).1;
     }
 
 -- the board where no device is at fault and the lines agree

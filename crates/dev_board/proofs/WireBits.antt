@@ -4,7 +4,7 @@ use Rattle.std.proofs.lemmas.Bool.{false≢true}
 use Rattle.std.proofs.lemmas.Bool.Decides.{nat_tests}
 use Rattle.std.proofs.lemmas.Nat.{and_le_l, and_le_r, or_of_16, pow_below}
 use Rattle.dev_base.specs.Bits.{has}
-use Rattle.dev_pic.proofs.BitLaws.{has-and, has-or, has-one_other}
+use Rattle.dev_pic.proofs.BitLaws.{has-and, has-or, has-one_other, or_false}
 use Rattle.dev_pic.specs.Pair.{lines_of}
 use Rattle.dev_pit.specs.Pit.{pit_out}
 use Rattle.dev_serial.specs.Bits.{bits_where}
@@ -17,7 +17,7 @@ use Rattle.dev_board.specs.declared.event.Event.{Event}
 use Rattle.dev_board.specs.declared.event.Event.TheVariants.{Read, Write, Byte, Wait, Wire, Ack}
 use Rattle.dev_board.specs.declared.wires.TheConstants.{WIRES}
 
-and_false : (b : Bool) → (b && false) ≡ false
+pub and_false : (b : Bool) → (b && false) ≡ false
 and_false true = refl
 and_false false = refl
 
@@ -99,10 +99,6 @@ line-0 false = refl
 line-4 : (b : Bool) → has (bits_where b 0x10) 4 ≡ b
 line-4 true = refl
 line-4 false = refl
-
-or_false : (b : Bool) → (b || false) ≡ b
-or_false true = refl
-or_false false = refl
 
 pub one-lt : (b : Bool) (bit : ℕ) → bit < 2 ^ 16 → bits_where b bit < 2 ^ 16
 one-lt true bit h = h

@@ -20,15 +20,11 @@ use Rattle.dev_board.specs.Wires.{AreWires, is_wire, wires_of, with_wire}
 use Rattle.dev_board.specs.declared.event.Event.{Event}
 use Rattle.dev_board.specs.declared.event.Event.TheVariants.{Read, Write, Byte, Wait, Wire, Ack}
 use Rattle.dev_board.specs.declared.wires.TheConstants.{WIRES}
-use Rattle.dev_board.proofs.WireBits.{names, wires_of-are, wires_after-are, inputs-lt, wire-bound, wire-other}
+use Rattle.dev_board.proofs.WireBits.{and_false, names, wires_of-are, wires_after-are, inputs-lt, wire-bound, wire-other}
 
 and_true : (b : Bool) → (b && true) ≡ b
 and_true true = refl
 and_true false = refl
-
-and_false : (b : Bool) → (b && false) ≡ false
-and_false true = refl
-and_false false = refl
 
 second_true : (a b : Bool) → (a && b) ≡ true → b ≡ true
 second_true true b e = e

@@ -1,7 +1,7 @@
 -- What is saved of a sound board is carried to the newest set as its devices' tables say, and comes back.
 use Rattle.std.proofs.Common.{◌≡◌, ℕ, zero, suc, ◌≤◌, List, ℤ, refl, sym, ap, subst, ◌∙◌, arith}
-use Rattle.dev_board.proofs.SavedLaws.{saved_are_cells, saved_comes_back}
-use Rattle.dev_board.specs.Saved.{saved, carried as board_carried, MaySaveUnder, AreSavedCells}
+use Rattle.dev_board.proofs.SavedLaws.{saved_are_cells, saved_comes_back, saved_goes_on}
+use Rattle.dev_board.specs.Saved.{saved, carried as board_carried, MaySaveUnder, AreSavedCells, restored}
 use Rattle.dev_board.specs.SavedLaws.{ComesBack}
 use Rattle.dev_board.specs.Sound.{IsSound}
 use Rattle.dev_board.specs.State.{State}
@@ -81,4 +81,5 @@ saved_is_carried = record { cells = cells-carried }
 pub images_come_back : ImagesComeBack
 images_come_back = record {
   back = λ set m s may. subst (λ (cells : BoardCells). ComesBack m.level cells m) (sym (cells-carried set m s may)) (saved_comes_back.back set m s may);
+  answers = λ set m back events s may e. saved_goes_on.answers set m back events s may (ap (restored m.level) (sym (cells-carried set m s may)) ∙ e);
 }

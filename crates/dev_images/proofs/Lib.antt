@@ -2,6 +2,9 @@ pub mod BoardCarried
 pub mod BoardReady
 pub mod Carried
 pub mod ChipReady
+pub mod NormalBoard
+pub mod NormalCells
+pub mod NormalSerial
 pub mod Parts
 pub mod PitCarried
 pub mod PitReady

@@ -12,7 +12,7 @@ use Rattle.dev_images.proofs.PitCarried.{absent-kept}
 use Rattle.dev_images.proofs.ReadyOf.{are_kept, ready-plain, kept-left, kept-right, kept-both, rules-both}
 
 -- the slots of the channel whose cells begin at a place, and its cells
-abbrev slots_in : Set → List ℤ → ℕ → List Slot
+abbrev pub slots_in : Set → List ℤ → ℕ → List Slot
 slots_in set numbers at = (get_or (meanings set.structs 1) 0 no_meaning).slots numbers at
 
 abbrev channel_cells : List Cell
@@ -66,7 +66,7 @@ later-22 numbers false true a b c d = rw (a, b, c refl) (refl, (refl, tt))
 later-22 numbers false false a b c d = rw (a, b, c refl, d refl) (refl, (refl, tt))
 
 -- three channels with what follows them
-abbrev chip_slots : List Slot → List Slot → List Slot → List Slot → List Slot
+abbrev pub chip_slots : List Slot → List Slot → List Slot → List Slot → List Slot
 chip_slots a b c rest = (((a ++ (b ++ (c ++ []))) ++ rest) ++ Rule true ∷ []) ++ []
 
 abbrev chip_cells : List Cell → List Cell
@@ -96,7 +96,7 @@ module _ (numbers : List ℤ) (a b c rest : List Slot) where
       rules-both (((a ++ (b ++ (c ++ []))) ++ rest) ++ Rule true ∷ []) [] (rules-both ((a ++ (b ++ (c ++ []))) ++ rest) (Rule true ∷ []) (rules-both (a ++ (b ++ (c ++ []))) rest (rules-both a (b ++ (c ++ [])) p (rules-both b (c ++ []) q (rules-both c [] r tt))) s) (refl, tt)) tt
 
 -- the statuses of later sets
-abbrev status_slots : List Slot
+abbrev pub status_slots : List Slot
 status_slots = Number 33 Truth [] ∷ Number 34 Truth [] ∷ Number 35 Truth [] ∷ Number 36 U8 [] ∷ Number 37 U8 [] ∷ Number 38 U8 [] ∷ []
 
 abbrev status_cells : List Cell

@@ -41,12 +41,12 @@ needed set d numbers came j (s ∷ subs) =
     needed-first set d (record (bare d numbers) { came = came }) j s subs (needed_from set d (bare d numbers) (suc j) subs) (is_needed set d (bare d numbers) s j) refl (needed set d numbers came (suc j) subs)
 
 -- cells of their kinds fit, where each count is within its capacities
-kind-of : (cells : List Cell) (c : ℕ) → kind_at (map (λ cell. cell.kind) cells) c ≡ (get_or cells c no_cell).kind
+pub kind-of : (cells : List Cell) (c : ℕ) → kind_at (map (λ cell. cell.kind) cells) c ≡ (get_or cells c no_cell).kind
 kind-of [] c = refl
 kind-of (cell ∷ cells) zero = refl
 kind-of (cell ∷ cells) (suc c) = kind-of cells c
 
-count-of : (cells : List Cell) → length (map (λ cell. cell.kind) cells) ≡ length cells
+pub count-of : (cells : List Cell) → length (map (λ cell. cell.kind) cells) ≡ length cells
 count-of [] = refl
 count-of (cell ∷ cells) = ap suc (count-of cells)
 

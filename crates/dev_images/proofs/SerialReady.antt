@@ -108,7 +108,7 @@ right-false true b e = cc
 right-false false b e = e
 
 -- how many elements of an array stand in the bytes
-elements : (z : ℤ) → InRange U8 z → nat_of z ≤ 16 → min (residue 1 z) 16 ≡ nat_of z
+pub elements : (z : ℤ) → InRange U8 z → nat_of z ≤ 16 → min (residue 1 z) 16 ≡ nat_of z
 elements (pos n) r l = let most = r.1 in omega (arith, ints, most, l)
 elements (negsuc n) r l = absurd (let least = r.0 in omega (arith, ints, least))
 
@@ -117,19 +117,19 @@ counted-well (pos n) r l = counted_well (16 ∷ []) (pos n) (omega (arith, ints,
 counted-well (negsuc n) r l = absurd (let least = r.0 in omega (arith, ints, least))
 
 -- the FIFOs as counted arrays
-abbrev byte : Cell
+abbrev pub byte : Cell
 byte = record { kind = U8; capacities = []; default = pos 0 }
 
 abbrev count : Cell
 count = record { kind = U8; capacities = 16 ∷ []; default = pos 0 }
 
-abbrev second_slots : ℕ → List Slot
+abbrev pub second_slots : ℕ → List Slot
 second_slots m = (Number 30 U8 (16 ∷ []) ∷ []) ++ (times m (element byte) 31 1 ++ [])
 
-abbrev inner_slots : ℕ → ℕ → List Slot
+abbrev pub inner_slots : ℕ → ℕ → List Slot
 inner_slots n m = (Number 13 U8 (16 ∷ []) ∷ []) ++ (times n (element byte) 14 1 ++ second_slots m)
 
-abbrev fifo_slots : ℕ → ℕ → List Slot
+abbrev pub fifo_slots : ℕ → ℕ → List Slot
 fifo_slots n m = inner_slots n m ++ Rule true ∷ []
 
 abbrev fifo_cells : List Cell

@@ -1,7 +1,9 @@
 -- Laws of the images of a board's devices that contracts name.
-use Rattle.std.specs.Prelude.{◌≡◌, ℕ, ℤ, List, [], ◌∷◌, ◌++◌}
+use Rattle.std.specs.Prelude.{◌≡◌, ℕ, ℤ, Some, Ok, length, List, [], ◌∷◌, ◌++◌}
 use Rattle.dev_base.specs.Cells.{AreOf}
-use Rattle.dev_board.specs.Saved.{timer_kinds, MaySaveUnder, saved, carried as board_carried}
+use Rattle.dev_board.specs.Saved.{timer_kinds, MaySaveUnder, AreBoardCells, saved, carried as board_carried, restored}
+use Rattle.dev_board.specs.Step.{observe}
+use Rattle.dev_board.specs.declared.event.Event.{Event}
 use Rattle.dev_board.specs.SavedLaws.{ComesBack}
 use Rattle.dev_board.specs.Sound.{IsSound}
 use Rattle.dev_board.specs.State.{State}
@@ -13,7 +15,8 @@ use Rattle.dev_serial.specs.Laws.{AreSaved as AreSerialCells}
 use Rattle.vms_check.specs.Carrying.{carried_device, carried}
 use Rattle.vms_spec.specs.Sets.{Set, Device}
 use Rattle.vms_spec.specs.Shipped.{set_1, set_2, set_3, set_4, timer, i8259_at_1, i8259_at_2, i8259_at_4, i8254_at_1, i8254_at_2, serial, serial_fields, divider, divisor, fcr, thr_ipending, fifo, timeout, ring}
-use Rattle.vms_spec.specs.Streams.{IsReady, AreReady}
+use Rattle.vms_spec.specs.Streams.{at, IsReady, AreReady}
+use Rattle.vms_spec.specs.Images.{Image, IsNormal}
 use Rattle.dev_images.specs.Images.{image_of, saved_images, cells_in}
 
 -- an image of cells that are a moment is ready
@@ -103,3 +106,9 @@ pub record SavedIsCarried : Type 0 where
 -- images saved of a sound board under any set from its level on, carried to the newest, give a board like it
 pub record ImagesComeBack : Type 0 where
   pub back : (set : ℕ) (m : State) → IsSound m → MaySaveUnder m.level set → ComesBack m.level (cells_in (carried (shipped_set set) set_4 (saved_images set m))) m
+  -- and the board that comes back answers every list of events as the saved one
+  pub answers : (set : ℕ) (m back : State) (events : List Event) → IsSound m → MaySaveUnder m.level set → restored m.level (cells_in (carried (shipped_set set) set_4 (saved_images set m))) ≡ Ok back → observe events back ≡ observe events m
+
+-- normal images of the newest set, one for each device, have the cells that a board may be restored from
+pub record NormalMayBeRestored : Type 0 where
+  pub cells : (images : List Image) → length images ≡ length set_4.devices → ((k : ℕ) (d : Device) (image : Image) → at set_4.devices k ≡ Some d → at images k ≡ Some image → IsNormal set_4 d image) → AreBoardCells (cells_in images)

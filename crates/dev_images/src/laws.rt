@@ -1,6 +1,6 @@
 // Laws of the definitions, each stated by a function without a body.
 ghost use Rattle.dev_images.specs.Laws.{TimerIsReady, ChipIsReady, PitIsReady, SerialIsReady, SavedAreReady};
-ghost use Rattle.dev_images.specs.Laws.{TimerIsCarried, ChipIsCarried, PitIsCarried, SerialIsCarried, SavedIsCarried, ImagesComeBack};
+ghost use Rattle.dev_images.specs.Laws.{TimerIsCarried, ChipIsCarried, PitIsCarried, SerialIsCarried, SavedIsCarried, ImagesComeBack, NormalMayBeRestored};
 
 /// The image of a board's moment is ready under each shipped set from 1 on.
 #[tactic(auto, using(crate::proofs::TimerReady::timer_is_ready))]
@@ -68,8 +68,15 @@ pub fn carried_law()
 {}
 
 /// Images saved of a sound board under any set from its level on, carried to the newest set, may be restored
-/// and give a board like it.
+/// and give a board like it, which answers every list of events as the saved one.
 #[tactic(auto, using(crate::proofs::BoardCarried::images_come_back))]
 pub fn images_law()
     ensures { ImagesComeBack }
+{}
+
+/// Normal images of the newest set, one for each of its devices, have the cells that a board may be restored
+/// from, at whichever versions and with whichever subsections they came.
+#[tactic(auto, using(crate::proofs::NormalBoard::normal_may_be_restored))]
+pub fn normal_law()
+    ensures { NormalMayBeRestored }
 {}

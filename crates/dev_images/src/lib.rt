@@ -5,5 +5,5 @@ mod laws;
 
 pub use laws::{
     carried_chip_law, carried_law, carried_pit_law, carried_serial_law, carried_timer_law,
-    chip_law, images_law, pit_law, saved_law, serial_law, timer_law,
+    chip_law, images_law, normal_law, pit_law, saved_law, serial_law, timer_law,
 };

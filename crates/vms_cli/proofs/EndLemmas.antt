@@ -8,7 +8,9 @@ use Rattle.vms_cli.specs.declared.ending.Ending.{Ending}
 use Rattle.vms_cli.specs.declared.ending.Ending.TheVariants.{Done, Refused, BadWords, BadText, NotCompatible, ReadFault, WriteFault, ShelfFault, NotThere, TooLarge, NoMemory}
 use Rattle.vms_cli.specs.Outcomes.{Part, Outcome, Outside, ComesTo, CountsStand, PromisesStay, text_of, held_after}
 use Rattle.vms_cli.specs.Answers.{HasOutcome, CanAnswer, DoesOrStops, Answers}
-use Rattle.vms_cli.specs.Endings.{EndsAs, EndsWith, EndsCause, Tells}
+use Rattle.vms_cli.specs.Endings.{EndsAs, EndsWith, EndsCause, ShowCause, Tells}
+use Rattle.vms_cli.specs.Fetching.{is_on_shelf}
+use Rattle.vms_cli.specs.Show.{ShowStatus}
 use Rattle.vms_cli.specs.Commands.{Asked, SetWord, Show, Pack, Check, asked_of}
 use Rattle.vms_cli.specs.Lines.{bad_words}
 use Rattle.vms_cli.proofs.VerdictLaws.{verdict_so}
@@ -50,17 +52,57 @@ caused None i i' o o' s s' ShelfFault h = absurd h.0
 caused None i i' o o' s s' (NotThere line) h = absurd h.0
 caused None i i' o o' s s' (TooLarge line) h = absurd h.0
 caused None i i' o o' s s' NoMemory h = absurd h.0
-caused (Some Show) i i' o o' s s' Done h = tt
-caused (Some Show) i i' o o' s s' (Refused line) h = (h.0, ap (λ (x : Stock). x.held) h.2)
-caused (Some Show) i i' o o' s s' BadWords h = absurd h.0
-caused (Some Show) i i' o o' s s' (BadText line) h = absurd h.0
-caused (Some Show) i i' o o' s s' (NotCompatible line) h = absurd h.0
-caused (Some Show) i i' o o' s s' ReadFault h = (h.0.0, h.0.1, ap (λ (x : Stock). x.held) h.2)
-caused (Some Show) i i' o o' s s' WriteFault h = (h.0, ap (λ (x : Stock). x.held) h.2)
-caused (Some Show) i i' o o' s s' ShelfFault h = absurd h.0
-caused (Some Show) i i' o o' s s' (NotThere line) h = absurd h.0
-caused (Some Show) i i' o o' s s' (TooLarge line) h = absurd h.0
-caused (Some Show) i i' o o' s s' NoMemory h = (h.0, ap (λ (x : Stock). x.held) h.2)
+caused (Some (Show set)) i i' o o' s s' Done h = tt
+caused (Some (Show set)) i i' o o' s s' (Refused line) h = by h.0
+  where
+    by : ShowCause (is_on_shelf set) i i' o o' s s' (Refused line) → Caused i i' o o' s s' (Refused line)
+    by (inl c) = absurd c.0
+    by (inr c) = (c, h.1)
+caused (Some (Show set)) i i' o o' s s' BadWords h = by h.0
+  where
+    by : ShowCause (is_on_shelf set) i i' o o' s s' BadWords → Caused i i' o o' s s' BadWords
+    by (inl c) = absurd c.0
+    by (inr c) = absurd c
+caused (Some (Show set)) i i' o o' s s' (BadText line) h = by h.0
+  where
+    by : ShowCause (is_on_shelf set) i i' o o' s s' (BadText line) → Caused i i' o o' s s' (BadText line)
+    by (inl c) = (c.2, h.1)
+    by (inr c) = absurd c
+caused (Some (Show set)) i i' o o' s s' (NotCompatible line) h = by h.0
+  where
+    by : ShowCause (is_on_shelf set) i i' o o' s s' (NotCompatible line) → Caused i i' o o' s s' (NotCompatible line)
+    by (inl c) = absurd c.0
+    by (inr c) = absurd c
+caused (Some (Show set)) i i' o o' s s' ReadFault h = by h.0
+  where
+    by : ShowCause (is_on_shelf set) i i' o o' s s' ReadFault → Caused i i' o o' s s' ReadFault
+    by (inl c) = absurd c.0
+    by (inr c) = (c.0, c.1, h.1)
+caused (Some (Show set)) i i' o o' s s' WriteFault h = by h.0
+  where
+    by : ShowCause (is_on_shelf set) i i' o o' s s' WriteFault → Caused i i' o o' s s' WriteFault
+    by (inl c) = absurd c.0
+    by (inr c) = (c, h.1)
+caused (Some (Show set)) i i' o o' s s' ShelfFault h = by h.0
+  where
+    by : ShowCause (is_on_shelf set) i i' o o' s s' ShelfFault → Caused i i' o o' s s' ShelfFault
+    by (inl c) = (c.0.1, c.2, h.1)
+    by (inr c) = absurd c
+caused (Some (Show set)) i i' o o' s s' (NotThere line) h = by h.0
+  where
+    by : ShowCause (is_on_shelf set) i i' o o' s s' (NotThere line) → Caused i i' o o' s s' (NotThere line)
+    by (inl c) = (c.2, h.1)
+    by (inr c) = absurd c
+caused (Some (Show set)) i i' o o' s s' (TooLarge line) h = by h.0
+  where
+    by : ShowCause (is_on_shelf set) i i' o o' s s' (TooLarge line) → Caused i i' o o' s s' (TooLarge line)
+    by (inl c) = (c.2, h.1)
+    by (inr c) = absurd c
+caused (Some (Show set)) i i' o o' s s' NoMemory h = by h.0
+  where
+    by : ShowCause (is_on_shelf set) i i' o o' s s' NoMemory → Caused i i' o o' s s' NoMemory
+    by (inl c) = (c.2, h.1)
+    by (inr c) = (c, h.1)
 caused (Some (Pack name)) i i' o o' s s' Done h = tt
 caused (Some (Pack name)) i i' o o' s s' (Refused line) h = absurd h.0
 caused (Some (Pack name)) i i' o o' s s' BadWords h = absurd h.0
@@ -151,22 +193,40 @@ module _ (i i' : Intake) (o o' n n' : Outlet) (s s' : Stock) where
 
   -- ---- the rows
 
-  show_row : (e : Ending) (status : ℕ) → EndsCause (Some Show) i i' o o' s s' e → Tells n n' e status → CanAnswer (Some Show) status before after
-  show_row Done status c t = record { ends = inl t.0; given = c.1; shelf = c.2 }
-  show_row (Refused line) status c (inl t) = record { ends = inr (inl (t.0, c.0)); given = c.1; shelf = c.2 }
-  show_row (Refused line) status c (inr t) = record { ends = inr (inr (inr (inr (inl (t.0, t.1))))); given = c.1; shelf = c.2 }
-  show_row ReadFault status c (inl t) = record { ends = inr (inr (inl (t.0, c.0.0, c.0.1, t.1))); given = c.1; shelf = c.2 }
-  show_row ReadFault status c (inr t) = record { ends = inr (inr (inr (inr (inl (t.0, t.1))))); given = c.1; shelf = c.2 }
-  show_row WriteFault status c (inl t) = record { ends = inr (inr (inr (inl (t.0, c.0, t.1)))); given = c.1; shelf = c.2 }
-  show_row WriteFault status c (inr t) = record { ends = inr (inr (inr (inr (inl (t.0, t.1))))); given = c.1; shelf = c.2 }
-  show_row NoMemory status c (inl t) = record { ends = inr (inr (inr (inr (inr (t, c.0))))); given = c.1; shelf = c.2 }
-  show_row NoMemory status c (inr t) = record { ends = inr (inr (inr (inr (inl (t.0, t.1))))); given = c.1; shelf = c.2 }
-  show_row BadWords status c t = absurd c.0
-  show_row (BadText line) status c t = absurd c.0
-  show_row (NotCompatible line) status c t = absurd c.0
-  show_row ShelfFault status c t = absurd c.0
-  show_row (NotThere line) status c t = absurd c.0
-  show_row (TooLarge line) status c t = absurd c.0
+  show_ends : (set : SetWord) (e : Ending) (status : ℕ) → ShowCause (is_on_shelf set) i i' o o' s s' e → Tells n n' e status → ShowStatus (is_on_shelf set) status before after
+  show_ends set Done status c t = inl t.0
+  show_ends set (Refused line) status (inr c) (inl t) = inr (inl (t.0, c))
+  show_ends set (Refused line) status (inl c) t = absurd c.0
+  show_ends set (Refused line) status (inr c) (inr t) = inr (inr (inr (inr (inr (inl (t.0, t.1))))))
+  show_ends set (BadText line) status (inl c) (inl t) = inr (inr (inl (c.0, (t.0, c.2), c.1)))
+  show_ends set (BadText line) status (inl c) (inr t) = inr (inr (inr (inr (inr (inl (t.0, t.1))))))
+  show_ends set (BadText line) status (inr c) t = absurd c
+  show_ends set ReadFault status (inr c) (inl t) = inr (inr (inr (inl (t.0, c.0, c.1, t.1))))
+  show_ends set ReadFault status (inr c) (inr t) = inr (inr (inr (inr (inr (inl (t.0, t.1))))))
+  show_ends set ReadFault status (inl c) t = absurd c.0
+  show_ends set WriteFault status (inr c) (inl t) = inr (inr (inr (inr (inl (t.0, c, t.1)))))
+  show_ends set WriteFault status (inr c) (inr t) = inr (inr (inr (inr (inr (inl (t.0, t.1))))))
+  show_ends set WriteFault status (inl c) t = absurd c.0
+  show_ends set ShelfFault status (inl c) (inl t) = inr (inr (inr (inr (inr (inr (inl (c.0.0, (t.0, c.0.1, t.1), c.2, c.1)))))))
+  show_ends set ShelfFault status (inl c) (inr t) = inr (inr (inr (inr (inr (inl (t.0, t.1))))))
+  show_ends set ShelfFault status (inr c) t = absurd c
+  show_ends set (NotThere line) status (inl c) (inl t) = inr (inr (inr (inr (inr (inr (inr (inl (c.0, (t.0, c.2), c.1))))))))
+  show_ends set (NotThere line) status (inl c) (inr t) = inr (inr (inr (inr (inr (inl (t.0, t.1))))))
+  show_ends set (NotThere line) status (inr c) t = absurd c
+  show_ends set (TooLarge line) status (inl c) (inl t) = inr (inr (inr (inr (inr (inr (inr (inr (inl (c.0, (t.0, c.2), c.1)))))))))
+  show_ends set (TooLarge line) status (inl c) (inr t) = inr (inr (inr (inr (inr (inl (t.0, t.1))))))
+  show_ends set (TooLarge line) status (inr c) t = absurd c
+  show_ends set NoMemory status (inl c) (inl t) = inr (inr (inr (inr (inr (inr (inr (inr (inr ((t, c.2))))))))))
+  show_ends set NoMemory status (inl c) (inr t) = inr (inr (inr (inr (inr (inl (t.0, t.1))))))
+  show_ends set NoMemory status (inr c) (inl t) = inr (inr (inr (inr (inr (inr (inr (inr (inr ((t, c))))))))))
+  show_ends set NoMemory status (inr c) (inr t) = inr (inr (inr (inr (inr (inl (t.0, t.1))))))
+  show_ends set BadWords status (inl c) t = absurd c.0
+  show_ends set BadWords status (inr c) t = absurd c
+  show_ends set (NotCompatible line) status (inl c) t = absurd c.0
+  show_ends set (NotCompatible line) status (inr c) t = absurd c
+
+  show_row : (set : SetWord) (e : Ending) (status : ℕ) → EndsCause (Some (Show set)) i i' o o' s s' e → Tells n n' e status → CanAnswer (Some (Show set)) status before after
+  show_row set e status c t = record { ends = show_ends set e status c.0 t; held = c.1; unasked = c.2; given = c.3 }
 
   pack_row : (name : List ℕ) (e : Ending) (status : ℕ) → EndsCause (Some (Pack name)) i i' o o' s s' e → Tells n n' e status → CanAnswer (Some (Pack name)) status before after
   pack_row name Done status c t = record { ends = inl t.0; input = c.1; held = c.2 }
@@ -224,7 +284,7 @@ module _ (i i' : Intake) (o o' n n' : Outlet) (s s' : Stock) where
 
   row_so : (asked : Option Asked) (e : Ending) (status : ℕ) → EndsCause asked i i' o o' s s' e → Tells n n' e status → CanAnswer asked status before after
   row_so None e status c t = bad_words_row e status c t
-  row_so (Some Show) e status c t = show_row e status c t
+  row_so (Some (Show set)) e status c t = show_row set e status c t
   row_so (Some (Pack name)) e status c t = pack_row name e status c t
   row_so (Some (Check one other)) e status c t = check_row one other e status c t
 

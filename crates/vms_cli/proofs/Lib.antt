@@ -1,7 +1,9 @@
 pub mod EndLemmas
+pub mod FileSets
 pub mod OutcomeLaws
 pub mod PackLemmas
 pub mod RoundTrips
+pub mod SetLemmas
 pub mod ShowLemmas
 pub mod StepLemmas
 pub mod VerdictLaws

@@ -11,21 +11,25 @@ use Rattle.vms_spec.specs.Shipped.{set_0}
 use Rattle.vms_spec.specs.Streams.{written}
 use Rattle.vms_spec.specs.Values.{values_text}
 use Rattle.vms_spec.specs.ValuesReading.{ValuesRead, Values, Bad, values_read}
-use Rattle.vms_laws.proofs.WellFormedStreams.{shipped_stands}
+use Rattle.vms_spec.specs.Images.{Image}
+use Rattle.vms_laws.specs.Laws.{IsFit}
 use Rattle.vms_units.specs.StreamLaws.{Answer, Taken, Faulty}
+use Rattle.vms_units.specs.Streams.{Takes}
 use Rattle.vms_units.proofs.Stated.{either_holds}
 use Rattle.vms_cli.specs.Answers.{HasOutcome, Answers, DoesOrStops}
 use Rattle.vms_cli.specs.Commands.{Asked, SetWord, Show, Pack, Check, asked_of}
 use Rattle.vms_cli.specs.Check.{checked, compared, compatible_text, verdict}
 use Rattle.vms_cli.specs.Steps.{Step, Untold, Gives, Ends, Both, HasText, next}
 use Rattle.vms_cli.proofs.VerdictLaws.{StopsAt}
-use Rattle.vms_cli.proofs.StepLemmas.{IsSound, sound_check}
+use Rattle.vms_cli.proofs.StepLemmas.{IsSound, sound_check, sound_word_set}
+use Rattle.vms_cli.proofs.FileSets.{FitStep, fit_word}
 use Rattle.vms_check.specs.declared.mismatch.Mismatch.{Mismatch}
 use Rattle.vms_spec.specs.Sets.{Set}
 use Rattle.vms_cli.specs.Lines.{bad_words, read_fault, write_fault, shelf_fault, out_of_memory, values_line, not_there_line, too_large_line, refused_line}
 use Rattle.vms_cli.specs.Outcomes.{Part, Outcome, done, ended, text_of, text_begun, Outside, HasPart}
 use Rattle.vms_cli.specs.Pack.{Packs, Missing, Large, Read, PacksText, Stream, BadText, longest_values}
-use Rattle.vms_cli.specs.Show.{Values as Printed, Refuses}
+use Rattle.vms_cli.specs.Fetching.{word_set}
+use Rattle.vms_cli.specs.Show.{ShowsBy, Values as Printed, Refuses}
 use Rattle.vms_cli.specs.Laws.{HasOneOutcome, OutcomeLaw, CanBeDone, HasRoom, IsAmple, PromisesKept, CompleteLaw}
 use Rattle.vms_cli.proofs.ShowLemmas.{shown_is, refused_is}
 
@@ -111,17 +115,36 @@ one_packed name (Some text) held = one_fetched name text held (nat_lt longest_va
 
 -- ---- that of `show`
 
-one_shown : (input : List ℕ) (held : Held) → IsBytes input → Answer set_0 set_0.machines input → HasOneOutcome (Some Show) input held
-one_shown input held ok (Taken n machine images takes) = record {
-  outcome = done (values_text set_0 machine images) (Some held) n;
+record OneShown (step : Step Set) (input : List ℕ) (held : Held) : Type 0 where
+  outcome : Outcome
+  is : ShowsBy step (Some input) (Some held) outcome
+  only : (other : Outcome) → ShowsBy step (Some input) (Some held) other → other ≡ outcome
+
+-- whether the input takes a stream or is at fault
+one_answered : (set : Set) → IsFit set → (input : List ℕ) (held : Held) → IsBytes input → Answer set set.machines input → OneShown (Gives set) input held
+one_answered set fit input held ok (Taken n machine images takes) = record {
+  outcome = done (values_text set machine images) (Some held) n;
   is = Printed n machine images takes;
-  only = λ other shows. shown_is input (Some held) n machine images other ok takes shows;
+  only = λ other shows. shown_is set fit input (Some held) n machine images other ok takes shows;
 }
-one_shown input held ok (Faulty place section reason size fault) = record {
-  outcome = ended 1 (refused_line set_0 place section reason) (place + size);
+one_answered set fit input held ok (Faulty place section reason size fault) = record {
+  outcome = ended 1 (refused_line set place section reason) (place + size);
   is = Refuses place section reason size fault;
-  only = λ other shows. refused_is input (Some held) place section reason size other ok fault shows;
+  only = λ other shows. refused_is set fit input (Some held) place section reason size other ok fault shows;
 }
+
+one_by : (s : Step Set) (input : List ℕ) (held : Held) → IsBytes input → IsSound (Some held) s → FitStep s → OneShown s input held
+one_by Untold input held ok sound fit = absurd (some_none held sound)
+  where
+    some_none : (map : Held) → Some map ≡ None → ⊥
+    some_none map e = cc
+one_by (Gives set) input held ok sound fit = one_answered set fit input held ok (either_holds set set.machines fit.well fit.heads input ok)
+one_by (Ends status line) input held ok sound fit = record { outcome = ended status line 0; is = refl; only = λ other e. e }
+
+one_shown : (word : SetWord) (input : List ℕ) (held : Held) → IsBytes input → HasOneOutcome (Some (Show word)) input held
+one_shown word input held ok =
+    let one = one_by (word_set (Some held) word) input held ok (sound_word_set (Some held) word) (fit_word (Some held) word) in
+    record { outcome = one.outcome; is = one.is; only = one.only }
 
 -- ---- that of `check`
 
@@ -141,7 +164,7 @@ one_checked old new input held (Ends status line) same sound = record {
 
 pub outcome_holds : OutcomeLaw
 outcome_holds None input held ok = record { outcome = ended 2 bad_words 0; is = refl; only = λ other e. e }
-outcome_holds (Some Show) input held ok = one_shown input held ok (either_holds set_0 set_0.machines shipped_stands.0.well shipped_stands.0.heads input ok)
+outcome_holds (Some (Show word)) input held ok = one_shown word input held ok
 outcome_holds (Some (Pack name)) input held ok =
     let one = one_packed name (held name) (Some held) in
     record { outcome = one.outcome; is = one.is; only = one.only }
@@ -158,9 +181,19 @@ record IsDone (asked : Option Asked) (input : Option (List ℕ)) (held : Option 
 
 can_be : (asked : Option Asked) (input : Option (List ℕ)) (held : Option Held) → CanBeDone asked input held → IsDone asked input held
 can_be None input held can = absurd can
-can_be (Some Show) None held can = absurd can
-can_be (Some Show) (Some bytes) held can =
-    record { outcome = done (values_text set_0 can.1 can.2) held can.0; is = Printed can.0 can.1 can.2 can.3; status = refl; note = refl }
+can_be (Some (Show word)) input held can = by input can.2
+  where
+    by : (left : Option (List ℕ)) → IsSomeAnd left (λ bytes. (taken : ℕ) × (machine : Option (List ℕ)) × (images : List Image) × Takes can.0 can.0.machines bytes taken machine images)
+        → IsDone (Some (Show word)) left held
+    by None takes = absurd takes
+    by (Some bytes) takes =
+        let outcome = done (values_text can.0 takes.1 takes.2) held takes.0 in
+        record {
+          outcome = outcome;
+          is = subst (λ (s : Step Set). ShowsBy s (Some bytes) held outcome) (sym can.1) (Printed takes.0 takes.1 takes.2 takes.3);
+          status = refl;
+          note = refl;
+        }
 can_be (Some (Pack name)) input None can = absurd can
 can_be (Some (Pack name)) input (Some map) can =
     let outcome = done (written set_0 can.1 can.2 None) (Some map) 0 in

@@ -1,5 +1,5 @@
 -- From what a load and a write say to how `show` ends.
-use Rattle.std.proofs.Common.{◌≡◌, ℕ, ◌+◌, ◌<◌, List, [], ◌∷◌, length, drop, append-nil, Option, Some, None, Ok, Err, IfSome, IsSomeAnd, refl, sym, ap, ◌∙◌, subst, arith, inl}
+use Rattle.std.proofs.Common.{◌≡◌, ℕ, suc, ◌+◌, ◌<◌, ◌≤◌, true, List, [], ◌∷◌, length, get_or, drop, append-nil, Option, Some, None, Ok, Err, IfSome, IsSomeAnd, refl, sym, ap, ◌∙◌, subst, arith, inl}
 use Rattle.std.specs.Option.{ForSome}
 use Rattle.std.specs.Prelude.{string_bytes}
 use Rattle.std.specs.declared.string.String.{String}
@@ -10,26 +10,34 @@ use Rattle.vms_io.specs.Shelves.{Held}
 use Rattle.vms_io.specs.Told.{Intake, Outlet, Stock}
 use Rattle.vms_spec.specs.declared.Reason.{Reason}
 use Rattle.vms_spec.specs.Numbers.{IsBytes}
-use Rattle.vms_spec.specs.Sets.{Set}
+use Rattle.vms_spec.specs.Heads.{FitsHeads}
+use Rattle.vms_spec.specs.Layout.{no_desc}
+use Rattle.vms_spec.specs.Sets.{Device, Set}
 use Rattle.vms_spec.specs.Images.{Image}
-use Rattle.vms_spec.specs.Shipped.{set_0}
 use Rattle.vms_spec.specs.Values.{values_text}
-use Rattle.vms_laws.proofs.WellFormedStreams.{shipped_stands}
+use Rattle.vms_laws.specs.Laws.{IsFit}
 use Rattle.vms_units.specs.Faults.{Fault}
 use Rattle.vms_units.specs.Streams.{Takes}
 use Rattle.vms_units.proofs.Stated.{one_stream_holds, never_both_holds, one_fault_holds}
-use Rattle.vms_cursor.specs.declared.fault.Refusal.{Refusal}
+use Rattle.vms_frames.specs.declared.fault.Refusal.{Refusal}
 use Rattle.vms_load.specs.Loads.{Loads}
-use Rattle.vms_load.specs.Staging.{IsMachine, AreShaped, name_of, accepted_of}
+use Rattle.vms_load.specs.Staging.{IsMachine, AreShaped, no_image, name_of, accepted_of, most_given}
+use Rattle.vms_load.proofs.Bounding.{most_small}
+use Rattle.vms_load.proofs.SetFacts.{well_of}
 use Rattle.vms_load.specs.declared.fault.LoadFault.{LoadFault}
 use Rattle.vms_load.specs.declared.fault.LoadFault.TheVariants as faults
-use Rattle.vms_values.specs.Printing.{AreOf, machine_of}
+use Rattle.vms_desc.specs.Formed.{is_well_formed}
+use Rattle.vms_desc.proofs.AskLaws.{few_cells}
+use Rattle.vms_values.specs.Printing.{AreOf, IsOf, machine_of}
 use Rattle.vms_cli.specs.declared.ending.Ending.{Ending}
 use Rattle.vms_cli.specs.declared.ending.Ending.TheVariants.{Done, Refused, BadWords, BadText, NotCompatible, ReadFault, WriteFault, ShelfFault, NotThere, TooLarge, NoMemory}
 use Rattle.vms_cli.specs.Outcomes.{Outcome, done, ended, TakesBytes}
-use Rattle.vms_cli.specs.Show.{Shows, Values, Refuses}
+use Rattle.vms_cli.specs.Show.{Shows, Values, Refuses, most_of_all}
 use Rattle.vms_cli.specs.Endings.{EndsAs, WritesAs}
 use Rattle.vms_cli.specs.Lines.{refused_line}
+
+abbrev no_device : Device
+no_device = record { instance = 0; desc = no_desc; subs = [] }
 
 same_machine : (set : Set) (machine : Option ℕ) → name_of set machine ≡ machine_of set machine
 same_machine set None = refl
@@ -56,67 +64,70 @@ text_written text i i' o o' s s' taken ShelfFault w same t = absurd w
 text_written text i i' o o' s s' taken (NotThere r) w same t = absurd w
 text_written text i i' o o' s s' taken (TooLarge r) w same t = absurd w
 
+-- what the laws of streams ask of a set
+pub fit_of : (set : Set) → is_well_formed set ≡ true → FitsHeads set → IsFit set
+fit_of set well heads = record { well = well_of set well; heads = heads }
+
 -- the outcome of an input that takes a stream
-pub shown_is : (bytes : List ℕ) (held : Option Held) (taken : ℕ) (machine : Option (List ℕ)) (images : List Image) (x : Outcome) → IsBytes bytes
-    → Takes set_0 set_0.machines bytes taken machine images → Shows set_0 bytes held x → x ≡ done (values_text set_0 machine images) held taken
-shown_is bytes held taken machine images x ok takes (Values taken' machine' images' takes') =
-    let same = one_stream_holds set_0 set_0.machines shipped_stands.0.well shipped_stands.0.heads bytes taken' taken machine' machine images' images takes' takes in
-    ap (λ (n : ℕ). done (values_text set_0 machine' images') held n) same.lengths
-    ∙ ap (λ (m : Option (List ℕ)). done (values_text set_0 m images') held taken) same.machines
-    ∙ ap (λ (l : List Image). done (values_text set_0 machine l) held taken) same.states
-shown_is bytes held taken machine images x ok takes (Refuses place section reason size fault) =
-    absurd (never_both_holds set_0 set_0.machines shipped_stands.0.well shipped_stands.0.heads bytes ok taken machine images place section reason size takes fault)
+pub shown_is : (set : Set) → IsFit set → (bytes : List ℕ) (held : Option Held) (taken : ℕ) (machine : Option (List ℕ)) (images : List Image) (x : Outcome) → IsBytes bytes
+    → Takes set set.machines bytes taken machine images → Shows set bytes held x → x ≡ done (values_text set machine images) held taken
+shown_is set fit bytes held taken machine images x ok takes (Values taken' machine' images' takes') =
+    let same = one_stream_holds set set.machines fit.well fit.heads bytes taken' taken machine' machine images' images takes' takes in
+    ap (λ (n : ℕ). done (values_text set machine' images') held n) same.lengths
+    ∙ ap (λ (m : Option (List ℕ)). done (values_text set m images') held taken) same.machines
+    ∙ ap (λ (l : List Image). done (values_text set machine l) held taken) same.states
+shown_is set fit bytes held taken machine images x ok takes (Refuses place section reason size fault) =
+    absurd (never_both_holds set set.machines fit.well fit.heads bytes ok taken machine images place section reason size takes fault)
 
 -- the outcome of an input that is at fault
-pub refused_is : (bytes : List ℕ) (held : Option Held) (place : ℕ) (section : Option ℕ) (reason : Reason) (size : ℕ) (x : Outcome) → IsBytes bytes
-    → Fault set_0 set_0.machines bytes place section reason size → Shows set_0 bytes held x → x ≡ ended 1 (refused_line set_0 place section reason) (place + size)
-refused_is bytes held place section reason size x ok fault (Values taken machine images takes) =
-    absurd (never_both_holds set_0 set_0.machines shipped_stands.0.well shipped_stands.0.heads bytes ok taken machine images place section reason size takes fault)
-refused_is bytes held place section reason size x ok fault (Refuses place' section' reason' size' fault') =
-    let same = one_fault_holds set_0 set_0.machines bytes ok place' place section' section reason' reason size' size fault' fault in
-    ap (λ (n : ℕ). ended 1 (refused_line set_0 n section' reason') (n + size')) same.places
-    ∙ ap (λ (o : Option ℕ). ended 1 (refused_line set_0 place o reason') (place + size')) same.sections
-    ∙ ap (λ (r : Reason). ended 1 (refused_line set_0 place section r) (place + size')) same.reasons
-    ∙ ap (λ (n : ℕ). ended 1 (refused_line set_0 place section reason) (place + n)) same.sizes
+pub refused_is : (set : Set) → IsFit set → (bytes : List ℕ) (held : Option Held) (place : ℕ) (section : Option ℕ) (reason : Reason) (size : ℕ) (x : Outcome) → IsBytes bytes
+    → Fault set set.machines bytes place section reason size → Shows set bytes held x → x ≡ ended 1 (refused_line set place section reason) (place + size)
+refused_is set fit bytes held place section reason size x ok fault (Values taken machine images takes) =
+    absurd (never_both_holds set set.machines fit.well fit.heads bytes ok taken machine images place section reason size takes fault)
+refused_is set fit bytes held place section reason size x ok fault (Refuses place' section' reason' size' fault') =
+    let same = one_fault_holds set set.machines bytes ok place' place section' section reason' reason size' size fault' fault in
+    ap (λ (n : ℕ). ended 1 (refused_line set n section' reason') (n + size')) same.places
+    ∙ ap (λ (o : Option ℕ). ended 1 (refused_line set place o reason') (place + size')) same.sections
+    ∙ ap (λ (r : Reason). ended 1 (refused_line set place section r) (place + size')) same.reasons
+    ∙ ap (λ (n : ℕ). ended 1 (refused_line set place section reason) (place + n)) same.sizes
 
--- a load that is Ok, and a write of its text
-pub loaded : (set : Set) → set ≡ set_0 → (i i' : Intake) (o o' : Outlet) (s : Stock) (images : List Image) (taken : ℕ) (machine : Option ℕ) (ending : Ending) (x : Outcome)
-    → IfSome i.left IsBytes → IfSome i.left (λ bytes. Loads set (accepted_of set None) bytes i'.left images taken (Ok machine)) → i'.given ≡ capped (i.given + taken)
-    → WritesAs (values_text set_0 (machine_of set_0 machine) images) o o' ending
-    → IsSomeAnd i.left (λ bytes. Shows set_0 bytes s.held x) → EndsAs i i' o o' s s ending x
-loaded set is i i' o o' s images taken machine ending x ok l given w shows = told i.left refl ok l shows
-  where
-    told : (left : Option (List ℕ)) → left ≡ i.left → IfSome left IsBytes → IfSome left (λ bytes. Loads set (accepted_of set None) bytes i'.left images taken (Ok machine))
-        → IsSomeAnd left (λ bytes. Shows set_0 bytes s.held x) → EndsAs i i' o o' s s ending x
-    told None same ok l shows = absurd shows
-    told (Some bytes) same ok l shows =
-        let first : Loads set_0 set_0.machines bytes i'.left images taken (Ok machine) = subst (λ (s : Set). Loads s (accepted_of s None) bytes i'.left images taken (Ok machine)) is l in
-        let takes : Takes set_0 set_0.machines bytes taken (machine_of set_0 machine) images = subst (λ (m : Option (List ℕ)). Takes set_0 set_0.machines bytes taken m images) (same_machine set_0 machine) first.0 in
-        let t : TakesBytes i i' taken = record { left = subst (λ (left : Option (List ℕ)). IfSome left (λ bytes. i'.left ≡ Some (drop taken bytes))) same first.1; given = given } in
-        subst (λ (y : Outcome). EndsAs i i' o o' s s ending y) (sym (shown_is bytes s.held taken (machine_of set_0 machine) images x ok takes shows))
-        (text_written (values_text set_0 (machine_of set_0 machine) images) i i' o o' s s taken ending w refl t)
+module _ (set : Set) (fit : IsFit set) (i i' : Intake) (o o' : Outlet) (s s' : Stock) (held : s'.held ≡ s.held) where
+  -- a load that is Ok, and a write of its text
+  pub loaded : (images : List Image) (taken : ℕ) (machine : Option ℕ) (ending : Ending) (x : Outcome)
+      → IfSome i.left IsBytes → IfSome i.left (λ bytes. Loads set (accepted_of set None) bytes i'.left images taken (Ok machine)) → i'.given ≡ capped (i.given + taken)
+      → WritesAs (values_text set (machine_of set machine) images) o o' ending
+      → IsSomeAnd i.left (λ bytes. Shows set bytes s.held x) → EndsAs i i' o o' s s' ending x
+  loaded images taken machine ending x ok l given w shows = told i.left refl ok l shows
+    where
+      told : (left : Option (List ℕ)) → left ≡ i.left → IfSome left IsBytes → IfSome left (λ bytes. Loads set (accepted_of set None) bytes i'.left images taken (Ok machine))
+          → IsSomeAnd left (λ bytes. Shows set bytes s.held x) → EndsAs i i' o o' s s' ending x
+      told None same ok l shows = absurd shows
+      told (Some bytes) same ok l shows =
+          let takes : Takes set set.machines bytes taken (machine_of set machine) images = subst (λ (m : Option (List ℕ)). Takes set set.machines bytes taken m images) (same_machine set machine) l.0 in
+          let t : TakesBytes i i' taken = record { left = subst (λ (left : Option (List ℕ)). IfSome left (λ bytes. i'.left ≡ Some (drop taken bytes))) same l.1; given = given } in
+          subst (λ (y : Outcome). EndsAs i i' o o' s s' ending y) (sym (shown_is set fit bytes s.held taken (machine_of set machine) images x ok takes shows))
+          (text_written (values_text set (machine_of set machine) images) i i' o o' s s' taken ending w held t)
 
--- a load that is refused
-pub refused : (set : Set) → set ≡ set_0 → (i i' : Intake) (o o' : Outlet) (s : Stock) (images : List Image) (taken : ℕ) (fault : LoadFault) (r : Refusal) → fault ≡ faults.Refused r
-    → (line : String Global) (x : Outcome) → IfSome i.left IsBytes → IfSome i.left (λ bytes. Loads set (accepted_of set None) bytes i'.left images taken (Err fault))
-    → string_bytes line ≡ refused_line set_0 r.at r.section r.reason
-    → IsSomeAnd i.left (λ bytes. Shows set_0 bytes s.held x) → EndsAs i i' o o' s s (Refused line) x
-refused set is i i' o o' s images taken fault r same line x ok l said shows = told i.left refl ok l shows
-  where
-    told : (left : Option (List ℕ)) → left ≡ i.left → IfSome left IsBytes → IfSome left (λ bytes. Loads set (accepted_of set None) bytes i'.left images taken (Err fault))
-        → IsSomeAnd left (λ bytes. Shows set_0 bytes s.held x) → EndsAs i i' o o' s s (Refused line) x
-    told None here ok l shows = absurd shows
-    told (Some bytes) here ok l shows =
-        let named : Loads set (accepted_of set None) bytes i'.left images taken (Err (faults.Refused r)) = subst (λ (f : LoadFault). Loads set (accepted_of set None) bytes i'.left images taken (Err f)) same l in
-        let first : Loads set_0 set_0.machines bytes i'.left images taken (Err (faults.Refused r)) = subst (λ (s : Set). Loads s (accepted_of s None) bytes i'.left images taken (Err (faults.Refused r))) is named in
-        let outcome = refused_is bytes s.held r.at r.section r.reason first.0 x ok first.1 shows in
-        record {
-          status_is = ap (λ (y : Outcome). y.status) outcome;
-          parts = ap (λ (y : Outcome). y.parts) outcome;
-          note = ap (λ (y : Outcome). y.note) outcome ∙ sym said;
-          left = subst (λ (left : Option (List ℕ)). IfSome left (λ bytes. i'.left ≡ Some (drop x.taken bytes))) here
-              (first.2 ∙ ap (λ (y : Outcome). Some (drop y.taken bytes)) (sym outcome));
-        }
+  -- a load that is refused
+  pub refused : (images : List Image) (taken : ℕ) (fault : LoadFault) (r : Refusal) → fault ≡ faults.Refused r
+      → (line : String Global) (x : Outcome) → IfSome i.left IsBytes → IfSome i.left (λ bytes. Loads set (accepted_of set None) bytes i'.left images taken (Err fault))
+      → string_bytes line ≡ refused_line set r.at r.section r.reason
+      → IsSomeAnd i.left (λ bytes. Shows set bytes s.held x) → EndsAs i i' o o' s s' (Refused line) x
+  refused images taken fault r same line x ok l said shows = told i.left refl ok l shows
+    where
+      told : (left : Option (List ℕ)) → left ≡ i.left → IfSome left IsBytes → IfSome left (λ bytes. Loads set (accepted_of set None) bytes i'.left images taken (Err fault))
+          → IsSomeAnd left (λ bytes. Shows set bytes s.held x) → EndsAs i i' o o' s s' (Refused line) x
+      told None here ok l shows = absurd shows
+      told (Some bytes) here ok l shows =
+          let first : Loads set (accepted_of set None) bytes i'.left images taken (Err (faults.Refused r)) = subst (λ (f : LoadFault). Loads set (accepted_of set None) bytes i'.left images taken (Err f)) same l in
+          let outcome = refused_is set fit bytes s.held r.at r.section r.reason first.0 x ok first.1 shows in
+          record {
+            status_is = ap (λ (y : Outcome). y.status) outcome;
+            parts = ap (λ (y : Outcome). y.parts) outcome;
+            note = ap (λ (y : Outcome). y.note) outcome ∙ sym said;
+            left = subst (λ (left : Option (List ℕ)). IfSome left (λ bytes. i'.left ≡ Some (drop x.taken bytes))) here
+                (first.2 ∙ ap (λ (y : Outcome). Some (drop y.taken bytes)) (sym outcome));
+          }
 
 -- ---- what is printed
 
@@ -126,9 +137,21 @@ machine_for machines (Some n) h = λ m e. within m (cc) where
   within : (m : ℕ) → n ≡ m → m < length machines
   within m same = omega (arith, same, h)
 
-pub are_of : (images : List Image) → AreShaped set_0 images → AreOf set_0 set_0.devices images
-are_of [] h = absurd (omega (arith, h.all))
-are_of (image ∷ []) h =
-    let shape = h.each 0 (omega arith) in
-    (record { cells = shape.numbers; subs = shape.came; few = omega (arith, shape.numbers) }, tt)
-are_of (image ∷ other ∷ images) h = absurd (omega (arith, h.all))
+module _ (set : Set) where
+  are_from : (devices : List Device) (images : List Image) → length images ≡ length devices
+      → ((k : ℕ) → k < length devices → IsOf set (get_or devices k no_device) (get_or images k no_image)) → AreOf set devices images
+  are_from [] [] all each = tt
+  are_from [] (image ∷ images) all each = absurd (omega (arith, all))
+  are_from (d ∷ devices) [] all each = absurd (omega (arith, all))
+  are_from (d ∷ devices) (image ∷ images) all each =
+      (each 0 (omega arith), are_from devices images (omega (arith, all)) (λ k lt. each (suc k) (omega (arith, lt))))
+
+  pub are_of : is_well_formed set ≡ true → (images : List Image) → AreShaped set images → AreOf set set.devices images
+  are_of well images h = are_from set.devices images h.all (λ k lt.
+      let shape = h.each k lt in
+      record { cells = shape.numbers; subs = shape.came; few = omega (arith, shape.numbers, few_cells set well k) })
+
+-- ---- the bytes of any set
+
+pub most_for : (set : Set) → is_well_formed set ≡ true → most_given set ≤ most_of_all
+most_for set well = omega (arith, most_small set well)

@@ -11,7 +11,7 @@ use Rattle.vms_cli.specs.declared.ending.Ending.TheVariants.{Done, Refused, BadW
 use Rattle.vms_cli.specs.Check.{verdict, compared, checked}
 use Rattle.vms_cli.specs.Commands.{SetWord, Shipped, OnShelf}
 use Rattle.vms_cli.specs.Endings.{EndsAs}
-use Rattle.vms_cli.specs.Fetching.{longest_file, text_under, fetched, SetText, Number, Text, fetched_set, said_set, set_in, sets_in, named_sets}
+use Rattle.vms_cli.specs.Fetching.{longest_file, text_under, fetched, SetText, Number, Text, fetched_set, said_set, set_in, sets_in, named_sets, word_set}
 use Rattle.vms_cli.specs.Lines.{too_large_line}
 use Rattle.vms_cli.specs.Outcomes.{Outcome, done, ended}
 use Rattle.vms_cli.specs.StepEndings.{IsFree, EndedAs, StepAs, WrittenAs, TextEnds}
@@ -105,7 +105,7 @@ given_ends text i o o' s s' (TooLarge line) few same h = absurd h
 same_end : (status k : ℕ) (line text : List ℕ) → status ≡ k → line ≡ text → ended status line 0 ≡ ended k text 0
 same_end status k line text e f = ap (λ (n : ℕ). ended n line 0) e ∙ ap (λ (l : List ℕ). ended k l 0) f
 
-ended_ends : (status : ℕ) (line : List ℕ) (i : Intake) (o o' : Outlet) (s s' : Stock) (e : Ending) → EndedAs status line e
+pub ended_ends : (status : ℕ) (line : List ℕ) (i : Intake) (o o' : Outlet) (s s' : Stock) (e : Ending) → EndedAs status line e
     → EndsAs i i o o' s s' e (ended status line 0)
 ended_ends status line i o o' s s' (BadText text) h = ends_with 3 (string_bytes text) i _ (same_end status 3 line (string_bytes text) h.0 h.1)
 ended_ends status line i o o' s s' (NotCompatible text) h = ends_with 4 (string_bytes text) i _ (same_end status 4 line (string_bytes text) h.0 h.1)
@@ -168,6 +168,9 @@ sound_said held name (IllFormed fault) = omega arith
 sound_set : (held : Option Held) (text : SetText) → IsSound held (set_in text)
 sound_set held (Number s) = tt
 sound_set held (Text name text) = sound_said held name (file_said text)
+
+pub sound_word_set : (held : Option Held) (word : SetWord) → IsSound held (word_set held word)
+sound_word_set held word = sound_next held (fetched_set held word) set_in (sound_word held word) (λ text. sound_set held text)
 
 pub sound_sets : (held : Option Held) (old new : SetWord) → IsSound held (named_sets held old new)
 sound_sets held old new =

@@ -6,7 +6,8 @@ use Rattle.vms_spec.specs.Shipped.{set_0}
 use Rattle.vms_cli.specs.Commands.{Asked, Show, Pack, Check, asked_of}
 use Rattle.vms_cli.specs.Lines.{bad_words}
 use Rattle.vms_cli.specs.Outcomes.{Outcome, ended, Outside, Does, Stops, NotesFault, CountsStand, PromisesStay}
-use Rattle.vms_cli.specs.Show.{Shows, ShowAnswers}
+use Rattle.vms_cli.specs.Fetching.{is_on_shelf, word_set}
+use Rattle.vms_cli.specs.Show.{ShowsBy, ShowAnswers}
 use Rattle.vms_cli.specs.Pack.{Packs, PackAnswers}
 use Rattle.vms_cli.specs.Check.{checked, asks_shelf, CheckAnswers, Verdict}
 use Rattle.vms_cli.specs.Steps.{HasText}
@@ -15,7 +16,7 @@ use Rattle.vms_cli.specs.Steps.{HasText}
 -- none.
 abbrev pub HasOutcome : Option Asked → Option (List ℕ) → Option Held → Outcome → Type 0
 HasOutcome None input held o = o ≡ ended 2 bad_words 0
-HasOutcome (Some Show) input held o = IsSomeAnd input (λ bytes. Shows set_0 bytes held o)
+HasOutcome (Some (Show set)) input held o = ShowsBy (word_set held set) input held o
 HasOutcome (Some (Pack name)) input held o = IsSomeAnd held (λ map. Packs set_0 name (map name) held o)
 HasOutcome (Some (Check old new)) input held o = HasText held (checked held old new) o
 
@@ -29,7 +30,8 @@ pub record BadWordsAnswers (status : ℕ) (old new : Outside) : Type 0 where
 -- what each command can answer, told or not
 abbrev pub CanAnswer : Option Asked → ℕ → Outside → Outside → Type 0
 CanAnswer None status old new = BadWordsAnswers status old new
-CanAnswer (Some Show) status old new = ShowAnswers set_0 status old new
+CanAnswer (Some (Show set)) status old new =
+    ShowAnswers (is_on_shelf set) (word_set old.shelf.held set) status old new
 CanAnswer (Some (Pack name)) status old new = PackAnswers status old new
 CanAnswer (Some (Check one other)) status old new = CheckAnswers (asks_shelf one other) status old new
 

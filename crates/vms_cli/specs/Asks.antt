@@ -10,6 +10,6 @@ set_asked (Shipped set) = commands.Shipped set.number
 set_asked (OnShelf name) = commands.OnShelf name.now
 
 abbrev pub asked : Command → commands.Asked
-asked Show = commands.Show
+asked (Show set) = commands.Show (set_asked set)
 asked (Pack values) = commands.Pack values.now
 asked (Check old new) = commands.Check (set_asked old) (set_asked new)

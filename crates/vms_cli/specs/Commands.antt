@@ -11,7 +11,7 @@ pub data SetWord : Type 0 where
 
 -- prints the values text of a stream, writes the stream of a values text on the shelf, or compares two sets
 pub data Asked : Type 0 where
-  Show : Asked
+  Show : SetWord → Asked
   Pack : List ℕ → Asked
   Check : (old new : SetWord) → Asked
 
@@ -41,6 +41,10 @@ named_set word None = if is_shelf_name word then Some (OnShelf word) else None
 abbrev pub set_word : List ℕ → Option SetWord
 set_word word = named_set word (shipped_number word)
 
+abbrev pub show_of : Option SetWord → Option Asked
+show_of None = None
+show_of (Some set) = Some (Show set)
+
 abbrev pub check_of : Option SetWord → Option SetWord → Option Asked
 check_of (Some old) (Some new) = Some (Check old new)
 check_of _ _ = None
@@ -53,6 +57,6 @@ unfoldable pub pair_of : List ℕ → List ℕ → List ℕ → Option Asked
 pair_of name one other = if bytes_eq name (codes "check") then check_of (set_word one) (set_word other) else pack_of name one other
 
 abbrev pub asked_of : List (List ℕ) → Option Asked
-asked_of (name ∷ set ∷ []) = if bytes_eq name (codes "show") && is_set_0 set then Some Show else None
+asked_of (name ∷ set ∷ []) = if bytes_eq name (codes "show") then show_of (set_word set) else None
 asked_of (name ∷ one ∷ other ∷ []) = pair_of name one other
 asked_of _ = None

@@ -3,13 +3,13 @@ use Rattle.std.specs.Prelude.{◌≡◌, ◌⊎◌, ℕ, Bool, true, false, ◌+
 use Rattle.std.specs.Io.KnownBytes.{Appends, Keeps}
 use Rattle.vms_io.specs.Causes.{Rose, AppendsPrefix}
 use Rattle.vms_io.specs.Told.{Intake, Outlet, Stock}
-use Rattle.vms_spec.specs.Shipped.{set_0}
-use Rattle.vms_load.specs.Staging.{most_given}
 use Rattle.vms_cli.specs.declared.ending.Ending.{Ending}
 use Rattle.vms_cli.specs.declared.ending.Ending.TheVariants.{Done, Refused, BadWords, BadText, NotCompatible, ReadFault, WriteFault, ShelfFault, NotThere, TooLarge, NoMemory}
 use Rattle.vms_cli.specs.Lines.{bad_words, read_fault, write_fault, shelf_fault, out_of_memory}
 use Rattle.vms_cli.specs.Commands.{Asked, Show, Pack, Check}
 use Rattle.vms_cli.specs.Check.{asks_shelf}
+use Rattle.vms_cli.specs.Fetching.{is_on_shelf, word_set}
+use Rattle.vms_cli.specs.Show.{GivesWithin}
 use Rattle.vms_cli.specs.Outcomes.{Outcome, text_of, held_after, TakesBytes, ComesTo}
 
 -- the status of each ending, and its line
@@ -77,13 +77,30 @@ EndsAs input input' out out' shelf shelf' NoMemory o = Unit {0}
 
 -- ---- the endings of each command with their causes, told or not
 
-abbrev pub ShowCause : (input input' : Intake) (out out' : Outlet) → Ending → Type 0
-ShowCause input input' out out' Done = Unit {0}
-ShowCause input input' out out' (Refused line) = Keeps out.written out'.written
-ShowCause input input' out out' ReadFault = Rose input.faults input'.faults × Keeps out.written out'.written
-ShowCause input input' out out' WriteFault = Rose out.faults out'.faults
-ShowCause input input' out out' NoMemory = Keeps out.written out'.written
-ShowCause input input' out out' _ = ⊥
+-- once the set of `show` is there
+abbrev pub StreamCause : (input input' : Intake) (out out' : Outlet) → Ending → Type 0
+StreamCause input input' out out' Done = Unit {0}
+StreamCause input input' out out' (Refused line) = Keeps out.written out'.written
+StreamCause input input' out out' ReadFault =
+    Rose input.faults input'.faults × Keeps out.written out'.written
+StreamCause input input' out out' WriteFault = Rose out.faults out'.faults
+StreamCause input input' out out' NoMemory = Keeps out.written out'.written
+StreamCause input input' out out' _ = ⊥
+
+-- before that, where `asks` says whether the shelf is asked
+abbrev pub SetCause : Bool → (shelf shelf' : Stock) → Ending → Type 0
+SetCause asks shelf shelf' (BadText line) = asks ≡ true
+SetCause asks shelf shelf' ShelfFault = (asks ≡ true) × Rose shelf.faults shelf'.faults
+SetCause asks shelf shelf' (NotThere line) = asks ≡ true
+SetCause asks shelf shelf' (TooLarge line) = asks ≡ true
+SetCause asks shelf shelf' NoMemory = Unit {0}
+SetCause asks shelf shelf' ending = ⊥
+
+-- the set wasn't had, and input and out weren't touched; or it was
+abbrev pub ShowCause : Bool → (input input' : Intake) (out out' : Outlet) (shelf shelf' : Stock) → Ending → Type 0
+ShowCause asks input input' out out' shelf shelf' ending =
+    (SetCause asks shelf shelf' ending × (input' ≡ input) × Keeps out.written out'.written)
+    ⊎ StreamCause input input' out out' ending
 
 -- once the text of `pack` is fetched
 abbrev pub WriteCause : (out out' : Outlet) → Ending → Type 0
@@ -123,8 +140,9 @@ IsBadWords _ = ⊥
 abbrev pub EndsCause : Option Asked → (input input' : Intake) (out out' : Outlet) (shelf shelf' : Stock) → Ending → Type 0
 EndsCause None input input' out out' shelf shelf' ending =
     IsBadWords ending × (input' ≡ input) × (out' ≡ out) × (shelf' ≡ shelf)
-EndsCause (Some Show) input input' out out' shelf shelf' ending =
-    ShowCause input input' out out' ending × (input'.given ≤ input.given + most_given set_0) × (shelf' ≡ shelf)
+EndsCause (Some (Show set)) input input' out out' shelf shelf' ending =
+    ShowCause (is_on_shelf set) input input' out out' shelf shelf' ending × (shelf'.held ≡ shelf.held)
+    × (is_on_shelf set ≡ false → shelf' ≡ shelf) × GivesWithin (word_set shelf.held set) input input'
 EndsCause (Some (Pack name)) input input' out out' shelf shelf' ending =
     PackCause out out' shelf shelf' ending × (input' ≡ input) × (shelf'.held ≡ shelf.held)
 EndsCause (Some (Check old new)) input input' out out' shelf shelf' ending =

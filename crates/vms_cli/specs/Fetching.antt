@@ -43,6 +43,10 @@ abbrev pub set_in : SetText → Step Set
 set_in (Number s) = Gives (shipped_set s)
 set_in (Text name text) = said_set name (file_said text)
 
+-- one set: it is fetched, and then read
+abbrev pub word_set : Option Held → SetWord → Step Set
+word_set held word = next (fetched_set held word) set_in
+
 -- two sets: both are fetched before the first is read
 abbrev pub sets_in : Both SetText → Step (Both Set)
 sets_in texts = both (set_in texts.old) (set_in texts.new)

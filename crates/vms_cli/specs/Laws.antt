@@ -15,7 +15,7 @@ use Rattle.vms_cli.specs.Commands.{Asked, Show, Pack, Check, asked_of}
 use Rattle.vms_cli.specs.Outcomes.{Outcome, done, text_of, Outside}
 use Rattle.vms_cli.specs.Pack.{Packs, longest_values}
 use Rattle.vms_cli.specs.Show.{Shows}
-use Rattle.vms_cli.specs.Fetching.{named_sets}
+use Rattle.vms_cli.specs.Fetching.{named_sets, word_set}
 use Rattle.vms_cli.specs.Steps.{Gives, Both}
 use Rattle.vms_check.specs.Comparing.{Compatible}
 use Rattle.vms_spec.specs.Sets.{Set}
@@ -34,12 +34,13 @@ OutcomeLaw = (asked : Option Asked) (input : List ℕ) (held : Held) → IsBytes
 
 -- ---- completeness
 
--- what a command asks for so that it can be done: of `show` a stream at the front of the input, of `pack` a values text
--- under the name that isn't too long, of `check` words that name two compatible sets
+-- what a command asks for so that it can be done: of `show` a word that names a set, and a stream of it at the front of the
+-- input, of `pack` a values text under the name that isn't too long, of `check` words that name two compatible sets
 abbrev pub CanBeDone : Option Asked → Option (List ℕ) → Option Held → Type 0
 CanBeDone None input held = ⊥
-CanBeDone (Some Show) input held =
-    IsSomeAnd input (λ bytes. (taken : ℕ) × (machine : Option (List ℕ)) × (images : List Image) × Takes set_0 set_0.machines bytes taken machine images)
+CanBeDone (Some (Show word)) input held =
+    (set : Set) × (word_set held word ≡ Gives set) × IsSomeAnd input (λ bytes. (taken : ℕ) × (machine : Option (List ℕ))
+    × (images : List Image) × Takes set set.machines bytes taken machine images)
 CanBeDone (Some (Pack name)) input held =
     IsSomeAnd held (λ map. (text : List ℕ) × (machine : Option (List ℕ)) × (images : List Image)
     × (map name ≡ Some text) × (length text ≤ longest_values) × (values_read set_0 text ≡ Values machine images))

@@ -1,7 +1,8 @@
 -- The command `show`: its outcome, and what it can answer.
-use Rattle.std.specs.Prelude.{◌≡◌, ◌⊎◌, ℕ, ◌+◌, ◌≤◌, List, Option}
+use Rattle.std.specs.Prelude.{◌≡◌, ◌⊎◌, ℕ, ◌+◌, ◌≤◌, ◌^◌, Bool, true, false, List, Option, IsSomeAnd}
 use Rattle.std.specs.Io.KnownBytes.{Keeps}
 use Rattle.vms_io.specs.Shelves.{Held}
+use Rattle.vms_io.specs.Told.{Intake}
 use Rattle.vms_spec.specs.declared.Reason.{Reason}
 use Rattle.vms_spec.specs.Images.{Image}
 use Rattle.vms_spec.specs.Sets.{Set}
@@ -10,7 +11,8 @@ use Rattle.vms_units.specs.Faults.{Fault}
 use Rattle.vms_units.specs.Streams.{Takes}
 use Rattle.vms_load.specs.Staging.{most_given}
 use Rattle.vms_cli.specs.Lines.{refused_line}
-use Rattle.vms_cli.specs.Outcomes.{Outcome, done, ended, Outside, ReadFault, OutFault, NotesFault, WantsMemory, EndsBy}
+use Rattle.vms_cli.specs.Outcomes.{Outcome, done, ended, Outside, ReadFault, OutFault, NotesFault, ShelfFault, WantsMemory, EndsBy}
+use Rattle.vms_cli.specs.Steps.{Step, Untold, Gives, Ends}
 
 -- the values text of the stream that the input takes, or where and why the input is refused, up to the end of the unit at
 -- fault; the shelf tells the same as before
@@ -20,17 +22,44 @@ pub data Shows (set : Set) (input : List ℕ) (held : Option Held) : Outcome →
   Refuses : (place : ℕ) (section : Option ℕ) (reason : Reason) (size : ℕ) → Fault set set.machines input place section reason size
       → Shows set input held (ended 1 (refused_line set place section reason) (place + size))
 
+-- by the step that gives the set: the outcome under it, or the end of that step, before anything of the input is taken
+abbrev pub ShowsBy : Step Set → Option (List ℕ) → Option Held → Outcome → Type 0
+ShowsBy Untold input held o = ⊥
+ShowsBy (Gives set) input held o = IsSomeAnd input (λ bytes. Shows set bytes held o)
+ShowsBy (Ends status line) input held o = o ≡ ended status line 0
+
+-- as many bytes as a stream of any well-formed set may have, with a unit at fault
+abbrev pub most_of_all : ℕ
+most_of_all = 16777759 + 2 ^ 32
+
+-- how many bytes the input gives at most: as a stream of the set may have; of any set, where it isn't told which; and none
+-- where there is no set
+abbrev pub GivesWithin : Step Set → Intake → Intake → Type 0
+GivesWithin Untold input input' = input'.given ≤ input.given + most_of_all
+GivesWithin (Gives set) input input' = input'.given ≤ input.given + most_given set
+GivesWithin (Ends status line) input input' = input' ≡ input
+
+-- a status of its own that comes before the input is read, and only where the word is a name
+abbrev pub EndsBefore : ℕ → Bool → ℕ → Outside → Outside → Type 0
+EndsBefore own asks status old new = (asks ≡ true) × EndsBy own status old new × (new.input ≡ old.input)
+
 -- what it can answer, told or not
-abbrev pub ShowStatus : ℕ → Outside → Outside → Type 0
-ShowStatus status old new =
+abbrev pub ShowStatus : Bool → ℕ → Outside → Outside → Type 0
+ShowStatus asks status old new =
     (status ≡ 0)
     ⊎ EndsBy 1 status old new
+    ⊎ EndsBefore 3 asks status old new
     ⊎ ReadFault status old new
     ⊎ OutFault status old new
     ⊎ NotesFault status old new
+    ⊎ ((asks ≡ true) × ShelfFault status old new × Keeps old.out.written new.out.written × (new.input ≡ old.input))
+    ⊎ EndsBefore 8 asks status old new
+    ⊎ EndsBefore 9 asks status old new
     ⊎ (WantsMemory status old new × Keeps old.out.written new.out.written)
 
-pub record ShowAnswers (set : Set) (status : ℕ) (old new : Outside) : Type 0 where
-  pub ends : ShowStatus status old new
-  pub given : new.input.given ≤ old.input.given + most_given set
-  pub shelf : new.shelf ≡ old.shelf
+-- `asks` says whether the word is a name, and the step gives its set
+pub record ShowAnswers (asks : Bool) (step : Step Set) (status : ℕ) (old new : Outside) : Type 0 where
+  pub ends : ShowStatus asks status old new
+  pub given : GivesWithin step old.input new.input
+  pub held : new.shelf.held ≡ old.shelf.held
+  pub unasked : asks ≡ false → new.shelf ≡ old.shelf

@@ -9,6 +9,7 @@ use Rattle.vms_cli.specs.declared.ending.Ending.{Ending}
 use Rattle.vms_cli.specs.declared.ending.Ending.TheVariants.{Done, BadText, NotCompatible, WriteFault, ShelfFault, NotThere, TooLarge, NoMemory}
 use Rattle.vms_cli.specs.declared.fetch.SetText.{SetText as Fetched}
 use Rattle.vms_cli.specs.declared.fetch.SetText.TheVariants as fetched
+use Rattle.vms_cli.specs.Endings.{SetCause}
 use Rattle.vms_cli.specs.Fetching.{SetText, Number, Text}
 use Rattle.vms_cli.specs.Steps.{Step, Untold, Gives, Ends}
 
@@ -78,6 +79,11 @@ ReadCause asks (Ok t) = Unit {0}
 ReadCause asks (Err (BadText line)) = asks ≡ true
 ReadCause asks (Err NoMemory) = Unit {0}
 ReadCause asks (Err ending) = ⊥
+
+-- of the set that a word names, where `asks` says whether the word is a name
+abbrev pub HadCause : {T : Type 0} → Bool → Stock → Stock → Result T Ending → Type 0
+HadCause asks shelf shelf' (Ok t) = Unit {0}
+HadCause asks shelf shelf' (Err ending) = SetCause asks shelf shelf' ending
 
 -- once the sets are fetched
 abbrev pub CompareCause : Bool → Outlet → Outlet → Ending → Type 0

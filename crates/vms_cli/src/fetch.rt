@@ -4,8 +4,9 @@ ghost use Rattle.vms_io.specs.Told.{stock};
 ghost use Rattle.vms_desc.specs.Described.{described};
 ghost use Rattle.vms_descfile.specs.Files.{file_said};
 ghost use Rattle.vms_cli.specs.Asks.{set_asked};
-ghost use Rattle.vms_cli.specs.Fetching.{fetched, fetched_set, is_on_shelf, is_text, said_set, set_in};
-ghost use Rattle.vms_cli.specs.StepEndings.{FetchCause, IsBad, ReadCause, StepAs, WordCause, text_of};
+ghost use Rattle.vms_load.specs.Kept.{loads};
+ghost use Rattle.vms_cli.specs.Fetching.{fetched, fetched_set, is_on_shelf, is_text, said_set, set_in, word_set};
+ghost use Rattle.vms_cli.specs.StepEndings.{FetchCause, HadCause, IsBad, ReadCause, StepAs, WordCause, text_of};
 
 use crate::ending::Ending;
 use crate::notes::{not_there_line, too_large_line};
@@ -15,6 +16,7 @@ use std::alloc::Global;
 use vms_desc::DescSet;
 use vms_descfile::{FileFault, read_set};
 use vms_io::{FetchFault, NoMemory, Shelf};
+use vms_load::Loader;
 
 /// The greatest description file or values text, in bytes.
 pub(crate) const LONGEST: u32 = 1_048_576;
@@ -88,6 +90,29 @@ pub(crate) fn read_fetched(alloc: Global, text: &SetText) -> Result<DescSet, End
             Err(_) => Err(Ending::NoMemory),
         },
         SetText::Text { name, text } => read_file(alloc, name, text),
+    }
+}
+
+/// A loader of the set that a word names.
+pub(crate) fn loader_of<H: Shelf>(
+    alloc: Global,
+    word: SetWord,
+    shelf: &mut H,
+) -> Result<Loader, Ending>
+    ensures had { StepAs loads (word_set (H.held shelf.old) (set_asked word.entry)) result }
+    ensures cause { HadCause (is_on_shelf (set_asked word.entry)) (stock H.Shelf shelf.old)
+        (stock H.Shelf shelf.new) result }
+    ensures unasked { is_on_shelf (set_asked word.entry) ≡ false → stock H.Shelf shelf.new
+        ≡ stock H.Shelf shelf.old }
+    ensures held { H.held shelf.new ≡ H.held shelf.old }
+    ensures count { H.faults shelf.old ≤ H.faults shelf.new }
+    ensures promise { H.promise shelf.new ≡ H.promise shelf.old }
+{
+    let text = fetch_set(alloc, word, shelf)?;
+    let set = read_fetched(alloc, &text)?;
+    match Loader::new(alloc, set) {
+        Ok(loader) => Ok(loader),
+        Err(_) => Err(Ending::NoMemory),
     }
 }
 

@@ -1,37 +1,78 @@
 // The command `show`: the values text of a stream.
-ghost use Rattle.std.specs.Prelude.{◌≡◌, ◌+◌, ◌<◌, ◌≤◌, length, Option, IfSome, IfOk, IsSomeAnd};
-ghost use Rattle.vms_io.specs.Shelves.{Held};
-ghost use Rattle.vms_io.specs.Told.{intake, outlet, Stock};
-ghost use Rattle.vms_spec.specs.Shipped.{set_0};
+ghost use Rattle.std.specs.Prelude.{◌≡◌, ◌+◌, ◌≤◌, ◌<◌, false, length, IfSome, IsSomeAnd};
+ghost use Rattle.vms_io.specs.Told.{Stock, intake, outlet, stock};
 ghost use Rattle.vms_spec.specs.Values.{values_text};
 ghost use Rattle.vms_load.specs.Kept.{loads, kept};
 ghost use Rattle.vms_load.specs.Staging.{most_given};
 ghost use Rattle.vms_values.specs.Printing.{machine_of};
+ghost use Rattle.vms_cli.specs.Asks.{set_asked};
+ghost use Rattle.vms_cli.specs.Endings.{EndsAs, ShowCause, StreamCause, WritesAs};
+ghost use Rattle.vms_cli.specs.Fetching.{is_on_shelf, word_set};
 ghost use Rattle.vms_cli.specs.Outcomes.{Outcome};
-ghost use Rattle.vms_cli.specs.Show.{Shows};
-ghost use Rattle.vms_cli.specs.Endings.{EndsAs, ShowCause, WritesAs};
+ghost use Rattle.vms_cli.specs.Show.{GivesWithin, Shows, ShowsBy};
 
 use crate::ending::Ending;
+use crate::fetch::loader_of;
 use crate::notes::refused_line;
+use crate::set_word::SetWord;
 use std::alloc::Global;
-use vms_desc::DescSet;
-use vms_io::{NoMemory, Sink, Source};
+use vms_io::{Shelf, Sink, Source};
 use vms_load::{LoadFault, Loader};
 use vms_values::print_values;
 
-pub(crate) fn show<I: Source, O: Sink>(alloc: Global, input: &mut I, out: &mut O) -> Ending
-    ensures content { (shelf : Stock) (o : Outcome) → IsSomeAnd (I.left input.old) (λ bytes. Shows set_0 bytes shelf.held o)
-        → EndsAs (intake I.Source input.old) (intake I.Source input.new) (outlet O.Sink out.old) (outlet O.Sink out.new) shelf shelf result o }
-    ensures cause { ShowCause (intake I.Source input.old) (intake I.Source input.new) (outlet O.Sink out.old) (outlet O.Sink out.new) result }
-    ensures given { I.given input.new ≤ I.given input.old + most_given set_0 }
+pub(crate) fn show<I: Source, O: Sink, H: Shelf>(
+    alloc: Global,
+    set: SetWord,
+    input: &mut I,
+    out: &mut O,
+    shelf: &mut H,
+) -> Ending
+    ensures content { (o : Outcome) → ShowsBy (word_set (H.held shelf.old) (set_asked set.entry))
+        (I.left input.old) (H.held shelf.old) o
+        → EndsAs (intake I.Source input.old) (intake I.Source input.new)
+        (outlet O.Sink out.old) (outlet O.Sink out.new)
+        (stock H.Shelf shelf.old) (stock H.Shelf shelf.new) result o }
+    ensures cause { ShowCause (is_on_shelf (set_asked set.entry))
+        (intake I.Source input.old) (intake I.Source input.new)
+        (outlet O.Sink out.old) (outlet O.Sink out.new)
+        (stock H.Shelf shelf.old) (stock H.Shelf shelf.new) result }
+    ensures given { GivesWithin (word_set (H.held shelf.old) (set_asked set.entry))
+        (intake I.Source input.old) (intake I.Source input.new) }
+    ensures unasked { is_on_shelf (set_asked set.entry) ≡ false
+        → stock H.Shelf shelf.new ≡ stock H.Shelf shelf.old }
+    ensures held { H.held shelf.new ≡ H.held shelf.old }
+    ensures input_count { I.faults input.old ≤ I.faults input.new }
+    ensures out_count { O.faults out.old ≤ O.faults out.new }
+    ensures shelf_count { H.faults shelf.old ≤ H.faults shelf.new }
+    ensures input_promise { I.promise input.new ≡ I.promise input.old }
+    ensures out_promise { O.promise out.new ≡ O.promise out.old }
+    ensures shelf_promise { H.promise shelf.new ≡ H.promise shelf.old }
+{
+    match loader_of(alloc, set, shelf) {
+        Ok(loader) => show_stream(alloc, loader, input, out),
+        Err(ending) => ending,
+    }
+}
+
+// Once the set is there.
+fn show_stream<I: Source, O: Sink>(
+    alloc: Global,
+    mut loader: Loader,
+    input: &mut I,
+    out: &mut O,
+) -> Ending
+    ensures content { (shelf shelf' : Stock) (o : Outcome) → shelf'.held ≡ shelf.held
+        → IsSomeAnd (I.left input.old) (λ bytes. Shows (loads loader) bytes shelf.held o)
+        → EndsAs (intake I.Source input.old) (intake I.Source input.new)
+        (outlet O.Sink out.old) (outlet O.Sink out.new) shelf shelf' result o }
+    ensures cause { StreamCause (intake I.Source input.old) (intake I.Source input.new)
+        (outlet O.Sink out.old) (outlet O.Sink out.new) result }
+    ensures given { I.given input.new ≤ I.given input.old + most_given (loads loader) }
     ensures input_count { I.faults input.old ≤ I.faults input.new }
     ensures out_count { O.faults out.old ≤ O.faults out.new }
     ensures input_promise { I.promise input.new ≡ I.promise input.old }
     ensures out_promise { O.promise out.new ≡ O.promise out.old }
 {
-    let Ok(mut loader) = loader(alloc) else {
-        return Ending::NoMemory;
-    };
     match loader.load(input, None) {
         Ok(machine) => write_values(&loader, machine, out),
         Err(LoadFault::Refused(refusal)) => match refused_line(alloc, loader.set(), &refusal) {
@@ -43,17 +84,11 @@ pub(crate) fn show<I: Source, O: Sink>(alloc: Global, input: &mut I, out: &mut O
     }
 }
 
-fn loader(alloc: Global) -> Result<Loader, NoMemory>
-    ensures { IfOk result (λ loader. loads loader ≡ set_0) }
-{
-    let set = DescSet::shipped(alloc, 0)?;
-    Loader::new(alloc, set)
-}
-
 fn write_values<O: Sink>(loader: &Loader, machine: Option<u32>, out: &mut O) -> Ending
-    requires first { loads loader.now ≡ set_0 }
-    requires machine { IfSome machine (λ m. m < length set_0.machines) }
-    ensures written { WritesAs (values_text set_0 (machine_of set_0 machine) (kept loader.now)) (outlet O.Sink out.old) (outlet O.Sink out.new) result }
+    requires { IfSome machine (λ m. m < length (loads loader.now).machines) }
+    ensures written { let set = loads loader.now in
+        WritesAs (values_text set (machine_of set machine) (kept loader.now))
+        (outlet O.Sink out.old) (outlet O.Sink out.new) result }
     ensures count { O.faults out.old ≤ O.faults out.new }
     ensures promise { O.promise out.new ≡ O.promise out.old }
 {

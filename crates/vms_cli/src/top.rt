@@ -95,7 +95,7 @@ fn run<I: Source, O: Sink, H: Shelf>(
     ensures shelf_promise { H.promise shelf.new ≡ H.promise shelf.old }
 {
     match words.command() {
-        Some(Command::Show) => show(alloc, input, out),
+        Some(Command::Show { set }) => show(alloc, set, input, out, shelf),
         Some(Command::Pack { values }) => pack(alloc, values, out, shelf),
         Some(Command::Check { old, new }) => check(alloc, old, new, out, shelf),
         None => Ending::BadWords,

@@ -1,9 +1,9 @@
 // The words after the program's name.
-ghost use Rattle.std.specs.Prelude.{◌≡◌, ◌==◌, ◌&&◌, ◌∷◌, ◌++◌, [], OnOk, OnErr, Some, None, codes, get_or, nat_le, if◌then◌else◌};
+ghost use Rattle.std.specs.Prelude.{◌≡◌, ◌==◌, ◌&&◌, ◌∷◌, ◌++◌, [], OnOk, OnErr, None, codes, get_or, nat_le, if◌then◌else◌};
 ghost use Rattle.std.specs.List.{list_all};
 ghost use Rattle.std.specs.Str.{bytes_eq};
 ghost use Rattle.std.specs.Option.{option_map};
-ghost use Rattle.vms_cli.specs.Commands.{Show, asked_of, check_of, is_name_byte, is_set_0, is_shelf_name, pack_of, pair_of, set_word, shipped_number};
+ghost use Rattle.vms_cli.specs.Commands.{asked_of, check_of, is_name_byte, is_shelf_name, pack_of, pair_of, set_word, shipped_number, show_of};
 ghost use Rattle.vms_cli.specs.Asks.{asked, set_asked};
 
 use crate::set_word::{SetWord, ShippedSet};
@@ -14,8 +14,8 @@ use vms_io::NoMemory;
 /// What the words ask for.
 #[derive(Clone, Copy)]
 pub(crate) enum Command<'a> {
-    /// `show @0`
-    Show,
+    /// `show SET`
+    Show { set: SetWord<'a> },
     /// `pack @0 VALUES`
     Pack { values: &'a str },
     /// `check OLD NEW`
@@ -63,21 +63,27 @@ impl Words {
         ensures { option_map asked result ≡ asked_of self.now }
     {
         match self.words.as_slice() {
-            [name, set] => show_of(name.as_str(), set.as_str()),
+            [name, set] => single_of(name.as_str(), set.as_str()),
             [name, one, other] => pair_of(name.as_str(), one.as_str(), other.as_str()),
             _ => None,
         }
     }
 }
 
-fn show_of<'a>(name: &str, set: &str) -> Option<Command<'a>>
-    ensures { option_map asked result ≡ (if bytes_eq name.now (codes "show") && is_set_0 set.now
-        then Some Show else None) }
+// A command with one word behind its name.
+fn single_of<'a>(name: &str, set: &'a str) -> Option<Command<'a>>
+    ensures { option_map asked result ≡ (if bytes_eq name.now (codes "show")
+        then show_of (set_word set.now) else None) }
 {
-    if name == "show" && set == "@0" {
-        Some(Command::Show)
-    } else {
-        None
+    if name == "show" { show_of(set) } else { None }
+}
+
+fn show_of(set: &str) -> Option<Command<'_>>
+    ensures { option_map asked result ≡ show_of (set_word set.now) }
+{
+    match set_word(set) {
+        Some(set) => Some(Command::Show { set }),
+        None => None,
     }
 }
 

@@ -11,3 +11,4 @@ pub mod AskLaws
 pub mod Clean
 pub mod HeadLaws
 pub mod TablesMade
+pub mod SpotTables

@@ -7,4 +7,5 @@ pub mod Numbers
 pub mod Parts
 pub mod Paths
 pub mod Scopes
+pub mod Spots
 pub mod Tables

@@ -10,6 +10,7 @@ mod heads;
 mod judged;
 mod path;
 mod set;
+mod spots;
 mod table;
 
 pub use eval::{Cells, Numbers};
@@ -18,3 +19,4 @@ pub use vms_parts::{
     CellForm, Count, Desc, Device, Field, Listed, Part, Parts, Place, Rel, Sub, Test, Text, Whose,
 };
 pub use vms_rules::DescFault;
+pub use vms_spots::Spot;

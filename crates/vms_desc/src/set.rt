@@ -11,6 +11,7 @@ ghost use Rattle.vms_desc.specs.Formed.{is_well_formed, shipped_set};
 ghost use Rattle.vms_desc.specs.Numbers.{sizes_of};
 ghost use Rattle.vms_desc.specs.Parts.{HasPart, HasParentCells, desc_at, parent_of, is_placed};
 ghost use Rattle.vms_desc.specs.Scopes.{IsParent};
+ghost use Rattle.vms_desc.specs.Spots.{form_spots};
 ghost use Rattle.vms_desc.specs.Tables.{IsTable, AreTables, AreDeviceTables, device_fields};
 ghost use Rattle.vms_parts.specs.Sizes.{in_u32};
 ghost use Rattle.vms_parts.specs.Views.{set_of, formula, desc_of, device_of, form_of, layout_of};
@@ -18,12 +19,14 @@ ghost use Rattle.vms_parts.specs.Views.{set_of, formula, desc_of, device_of, for
 use crate::eval::{Scope, holds};
 use crate::forms::layout;
 use crate::heads::fit_heads;
+use crate::spots::device_spots;
 use crate::table::{Table, device_tables, struct_tables};
 use crate::{CellForm, Cells, Desc, Device, Listed, Part, Parts, Test};
 use std::alloc::{AllocError, Global};
 use vms_io::NoMemory;
 use vms_parts::{Measure, struct_sizes};
 use vms_shipped::shipped_parts;
+use vms_spots::Spot;
 
 /// A well-formed set, with the cells of each device laid out beside it.
 #[derive(Drop)]
@@ -31,6 +34,8 @@ pub struct DescSet {
     parts: Parts,
     // The forms of each device's cells.
     layout: Listed<Listed<CellForm>>,
+    // Where each cell's number stands in an image's bytes.
+    pub(crate) spots: Listed<Listed<Spot>>,
     // How many cells each structure has, at most 2^32 - 1.
     pub(crate) sizes: Listed<u32>,
     // What walks ask of each structure, and of each device and its subsections.
@@ -40,6 +45,7 @@ pub struct DescSet {
     ghost heads: { FitsHeads (set_of parts) },
     ghost few: { length parts.devices ≤ 64 },
     ghost laid: { layout ≡ layout_of (set_of parts) },
+    ghost spotted: { spots ≡ map form_spots layout },
     ghost sized: { sizes ≡ sizes_of (set_of parts) },
     ghost structs_tabled: { AreTables (sizes_of (set_of parts)) (map (λ d. d.fields) (set_of parts).structs) struct_tables },
     ghost devices_tabled: { AreDeviceTables (sizes_of (set_of parts)) (set_of parts).devices device_tables },
@@ -64,12 +70,14 @@ impl DescSet {
     {
         fit_heads(&parts);
         let layout = layout(alloc, &parts)?;
+        let spots = device_spots(alloc, layout.as_slice())?;
         let sizes = struct_sizes(alloc, Measure::Cells, parts.structs.as_slice())?;
         let structs = struct_tables(alloc, &sizes, parts.structs.as_slice())?;
         let devices = device_tables(alloc, &sizes, parts.devices.as_slice())?;
         Ok(DescSet {
             parts,
             layout,
+            spots: Listed::new(spots),
             sizes: Listed::new(sizes),
             struct_tables: Listed::new(structs),
             device_tables: Listed::new(devices),

@@ -1,6 +1,9 @@
 -- Which machine and images a text stands for, and of any other text the first bad line of the first bad pass.
-use Rattle.std.specs.Prelude.{◌≡◌, ◌⊎◌, ℕ, suc, ◌<◌, Bool, true, false, ◌||◌, ◌==◌, List, [], ◌∷◌, ◌++◌, length, get_or, map, Option, Some, None, pos}
+use Rattle.std.specs.Prelude.{◌≡◌, ◌⊎◌, ℕ, suc, ◌<◌, Bool, true, false, ◌||◌, ◌==◌, List, [], ◌∷◌, ◌++◌, length, get_or, map, Option, Some, None, ℤ, pos}
+use Rattle.vms_kinds.specs.declared.Kind.TheVariants.{U64, I64}
 use Rattle.vms_spec.specs.declared.ValuesReason.{ValuesReason}
+use Rattle.vms_spec.specs.Lists.{every}
+use Rattle.vms_spec.specs.Rules.{in_range}
 use Rattle.vms_spec.specs.Sets.{Device, Set}
 use Rattle.vms_spec.specs.Layout.{no_cell, device_cells}
 use Rattle.vms_spec.specs.Images.{Image}
@@ -26,11 +29,16 @@ pub record IsText (set : Set) (text : List ℕ) (machine : Option (List ℕ)) (i
 
 -- ---- the first pass
 
+-- a number of at most 64 bits, as those of each kind are
+abbrev pub is_short : ℤ → Bool
+is_short z = in_range I64 z || in_range U64 z
+
 -- an image for each device, with a number for each cell and something for each subsection
 pub record IsShaped (set : Set) (d : Device) (image : Image) : Type 0 where
   pub version : image.version ≡ d.desc.version
   pub subs : length image.came ≡ length d.subs
   pub cells : length image.numbers ≡ length (device_cells set d)
+  pub short : every is_short image.numbers ≡ true
 
 abbrev pub AreShaped : Set → List Device → List Image → Type 0
 AreShaped set [] [] = Unit {0}

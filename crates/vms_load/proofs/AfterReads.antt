@@ -25,13 +25,13 @@ use Rattle.vms_units.proofs.Finding.Advancing.{advances}
 use Rattle.vms_units.proofs.Judging.Mirrors.{solid}
 use Rattle.vms_parts.specs.Devices.{device_at}
 use Rattle.vms_desc.specs.Parts.{sub_at}
-use Rattle.vms_cursor.specs.Stands.{Stand}
-use Rattle.vms_cursor.specs.Calls.{ahead, AnswersBehind, in_section, tail_of}
-use Rattle.vms_cursor.specs.declared.units.After.TheVariants as afters
-use Rattle.vms_cursor.specs.declared.units.Tail.TheVariants as tails
-use Rattle.vms_cursor.specs.declared.fault.FrameFault.{FrameFault}
-use Rattle.vms_cursor.specs.declared.fault.FrameFault.TheVariants as frames
-use Rattle.vms_cursor.specs.declared.fault.Refusal.{Refusal}
+use Rattle.vms_frames.specs.Stands.{Stand}
+use Rattle.vms_frames.specs.Calls.{ahead, AnswersBehind, in_section, tail_of}
+use Rattle.vms_frames.specs.declared.units.After.TheVariants as afters
+use Rattle.vms_frames.specs.declared.units.Tail.TheVariants as tails
+use Rattle.vms_frames.specs.declared.fault.FrameFault.{FrameFault}
+use Rattle.vms_frames.specs.declared.fault.FrameFault.TheVariants as frames
+use Rattle.vms_frames.specs.declared.fault.Refusal.{Refusal}
 use Rattle.vms_load.specs.Heads.{Unfit, unfit, opened_at, opened_unless, reason_against_sub, sub_opened}
 use Rattle.vms_load.specs.Reads.{Onward, Reads, ReadsOn, Settles, concerning}
 use Rattle.vms_load.specs.Parts.{bytes_of, subs_due, spot_in, state_in, all_passed, after_fields, after_part}

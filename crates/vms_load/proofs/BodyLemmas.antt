@@ -15,9 +15,9 @@ use Rattle.vms_units.specs.Finding.{Whole, Cut}
 use Rattle.vms_units.specs.Seen.{Seen, Good, Bad, Short, seen, seen_in}
 use Rattle.vms_units.specs.Taking.{nothing_known, put, taken_by, take_slot}
 use Rattle.vms_units.proofs.Bodies.Takes.{number_taken, constant_taken, filler_taken}
-use Rattle.vms_cursor.specs.Calls.{AnswersSeen, Fails, ReadsNumber, ReadsFiller}
-use Rattle.vms_cursor.specs.declared.fault.FrameFault.{FrameFault}
-use Rattle.vms_cursor.specs.declared.fault.FrameFault.TheVariants as faults
+use Rattle.vms_frames.specs.Calls.{AnswersSeen, Fails, ReadsNumber, ReadsFiller}
+use Rattle.vms_frames.specs.declared.fault.FrameFault.{FrameFault}
+use Rattle.vms_frames.specs.declared.fault.FrameFault.TheVariants as faults
 use Rattle.vms_load.specs.Bodies.{TakesAs, ReadsCapped, ReadsConstant}
 
 -- ---- what a slot asks besides

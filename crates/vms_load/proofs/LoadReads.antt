@@ -11,7 +11,7 @@ use Rattle.vms_units.specs.Judge.{reading}
 use Rattle.vms_units.specs.State.{State, by_state, at_start}
 use Rattle.vms_units.proofs.Stated.{accepted_holds}
 use Rattle.vms_units.proofs.Judging.Mirrors.{state_refuses}
-use Rattle.vms_cursor.specs.declared.fault.Refusal.{Refusal}
+use Rattle.vms_frames.specs.declared.fault.Refusal.{Refusal}
 use Rattle.vms_load.specs.Loads.{Loads}
 use Rattle.vms_load.specs.Staging.{ReadsAll, name_of}
 use Rattle.vms_load.specs.declared.fault.LoadFault.{LoadFault}

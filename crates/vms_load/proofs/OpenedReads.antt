@@ -15,9 +15,9 @@ use Rattle.vms_units.specs.Judge.{judge}
 use Rattle.vms_units.specs.Judged.{ask}
 use Rattle.vms_units.specs.State.{State, Free, Inside, inside, after, by_state}
 use Rattle.vms_marks.specs.declared.head.Head.{Head}
-use Rattle.vms_cursor.specs.Stands.{Stand}
-use Rattle.vms_cursor.specs.declared.units.Tail.{Tail}
-use Rattle.vms_cursor.specs.declared.fault.Refusal.{Refusal}
+use Rattle.vms_frames.specs.Stands.{Stand}
+use Rattle.vms_frames.specs.declared.units.Tail.{Tail}
+use Rattle.vms_frames.specs.declared.fault.Refusal.{Refusal}
 use Rattle.vms_load.specs.Heads.{Unfit, opened_at, section_opened}
 use Rattle.vms_load.specs.Reads.{Onward, Reads, ReadsOn, ReadsBehind, behind}
 use Rattle.vms_load.specs.Parts.{state_in, in_fields, after_part}

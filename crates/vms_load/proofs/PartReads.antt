@@ -12,8 +12,8 @@ use Rattle.vms_units.specs.State.{State, Inside, by_state}
 use Rattle.vms_units.specs.Judge.{judge}
 use Rattle.vms_laws.specs.Whole.{reading_on}
 use Rattle.vms_units.proofs.Bodies.Body.{Reads as ReadsBody, body_read, after_read}
-use Rattle.vms_cursor.specs.Stands.{Stand}
-use Rattle.vms_cursor.specs.Calls.{ahead, tail_of}
+use Rattle.vms_frames.specs.Stands.{Stand}
+use Rattle.vms_frames.specs.Calls.{ahead, tail_of}
 use Rattle.vms_spec.specs.Taking.{Taken, Progress, take_desc, takers}
 use Rattle.vms_laws.specs.Good.{IsGood}
 use Rattle.vms_laws.specs.Sound.{IsSound}
@@ -23,8 +23,8 @@ use Rattle.vms_laws.proofs.PartLaws.{sub_are}
 use Rattle.vms_laws.proofs.SectionLaws.{own_are}
 use Rattle.vms_parts.specs.Devices.{device_at}
 use Rattle.vms_desc.specs.Parts.{sub_at}
-use Rattle.vms_cursor.specs.declared.fault.FrameFault.{FrameFault}
-use Rattle.vms_cursor.specs.declared.fault.FrameFault.TheVariants as frames
+use Rattle.vms_frames.specs.declared.fault.FrameFault.{FrameFault}
+use Rattle.vms_frames.specs.declared.fault.FrameFault.TheVariants as frames
 use Rattle.vms_load.specs.Bodies.{TakesAs}
 use Rattle.vms_load.specs.Reads.{Reads, ReadsOn, concerning}
 use Rattle.vms_load.specs.Parts.{IsIn, IsOpen, part_desc, part_base, state_in, in_fields, after_fields}

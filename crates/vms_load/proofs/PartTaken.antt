@@ -10,8 +10,8 @@ use Rattle.vms_laws.specs.Sound.{IsSound, AreSound}
 use Rattle.vms_laws.proofs.AboveLaws.{IsAbove, desc_above, meanings_above}
 use Rattle.vms_laws.proofs.Places.{SameBelow, same_refl, same_less, same_trans}
 use Rattle.vms_laws.proofs.WalkLaws.{Keeps, Keeping, Gives, ComesTo, take_slot, number_keeps, constant_keeps, filler_keeps, rule_keeps, set_desc_comes}
-use Rattle.vms_cursor.specs.declared.fault.FrameFault.{FrameFault}
-use Rattle.vms_cursor.specs.declared.fault.FrameFault.TheVariants as faults
+use Rattle.vms_frames.specs.declared.fault.FrameFault.{FrameFault}
+use Rattle.vms_frames.specs.declared.fault.FrameFault.TheVariants as faults
 use Rattle.vms_walk.specs.declared.step.Step.{Step}
 use Rattle.vms_walk.specs.Steps.{step_of, steps_of}
 use Rattle.vms_walk.proofs.Walking.{steps_append}

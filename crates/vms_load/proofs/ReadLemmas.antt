@@ -8,11 +8,11 @@ use Rattle.vms_spec.specs.Units.{Piece}
 use Rattle.vms_units.specs.State.{State}
 use Rattle.vms_units.specs.Seen.{Seen, Good, Bad, Short}
 use Rattle.vms_units.specs.Judged.{judge_seen}
-use Rattle.vms_cursor.specs.Stands.{Stand}
-use Rattle.vms_cursor.specs.Calls.{ahead, Fails, AnswersSeen}
-use Rattle.vms_cursor.specs.declared.fault.FrameFault.{FrameFault}
-use Rattle.vms_cursor.specs.declared.fault.FrameFault.TheVariants as frames
-use Rattle.vms_cursor.specs.declared.fault.Refusal.{Refusal}
+use Rattle.vms_frames.specs.Stands.{Stand}
+use Rattle.vms_frames.specs.Calls.{ahead, Fails, AnswersSeen}
+use Rattle.vms_frames.specs.declared.fault.FrameFault.{FrameFault}
+use Rattle.vms_frames.specs.declared.fault.FrameFault.TheVariants as frames
+use Rattle.vms_frames.specs.declared.fault.Refusal.{Refusal}
 use Rattle.vms_load.specs.Reads.{Onward, behind, Leads, LeadsOn, Refuses, Reads, ReadsOn, ReadsBehind, IsBehind, Settles, concerning}
 use Rattle.vms_load.specs.declared.fault.LoadFault.{LoadFault}
 use Rattle.vms_load.specs.declared.fault.LoadFault.TheVariants as faults

@@ -1,7 +1,7 @@
 -- How many bytes are given by one call after another.
 use Rattle.std.proofs.Common.{◌≡◌, ℕ, ◌+◌, ◌-◌, ◌≤◌, Result, Ok, Err, OnOk, arith}
 use Rattle.vms_io.specs.Causes.{capped}
-use Rattle.vms_cursor.specs.Stands.{Stand}
+use Rattle.vms_frames.specs.Stands.{Stand}
 use Rattle.vms_load.specs.Reads.{Gives, GivesBehind}
 use Rattle.vms_load.specs.declared.fault.LoadFault.{LoadFault}
 

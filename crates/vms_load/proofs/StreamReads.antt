@@ -20,10 +20,10 @@ use Rattle.vms_units.specs.Taking.{nothing_known}
 use Rattle.vms_units.proofs.Calls.Judged.{judged_holds}
 use Rattle.vms_units.proofs.Finding.Advancing.{advances}
 use Rattle.vms_units.proofs.Judging.Mirrors.{solid}
-use Rattle.vms_cursor.specs.Stands.{Stand}
-use Rattle.vms_cursor.specs.Calls.{ahead, Fails, AnswersEnd, ReadsEnd}
-use Rattle.vms_cursor.specs.declared.fault.FrameFault.{FrameFault}
-use Rattle.vms_cursor.specs.declared.fault.FrameFault.TheVariants as frames
+use Rattle.vms_frames.specs.Stands.{Stand}
+use Rattle.vms_frames.specs.Calls.{ahead, Fails, AnswersEnd, ReadsEnd}
+use Rattle.vms_frames.specs.declared.fault.FrameFault.{FrameFault}
+use Rattle.vms_frames.specs.declared.fault.FrameFault.TheVariants as frames
 use Rattle.vms_load.specs.Reads.{Onward, LeadsOn, Reads, ReadsOn, concerning}
 use Rattle.vms_load.specs.Staging.{state_of, ReadsAll}
 use Rattle.vms_load.specs.declared.fault.LoadFault.{LoadFault}

@@ -19,14 +19,14 @@ use Rattle.vms_units.proofs.Calls.Judged.{judged_holds}
 use Rattle.vms_units.proofs.Finding.Advancing.{advances}
 use Rattle.vms_units.proofs.Judging.Mirrors.{solid}
 use Rattle.vms_marks.specs.declared.head.Head.{Head}
-use Rattle.vms_cursor.specs.Stands.{Stand}
-use Rattle.vms_cursor.specs.Found.{step_long}
-use Rattle.vms_cursor.specs.Calls.{ahead, due_of, unit_of_step, ReadsBetween, AnswersSeen, AnswersAfter, AnswersHead}
-use Rattle.vms_cursor.specs.declared.units.Between.{Between}
-use Rattle.vms_cursor.specs.declared.units.Between.TheVariants.{First, AfterConfiguration, Later}
-use Rattle.vms_cursor.specs.declared.units.Step.{Step}
-use Rattle.vms_cursor.specs.declared.units.Step.TheVariants as steps
-use Rattle.vms_cursor.specs.declared.fault.FrameFault.{FrameFault}
+use Rattle.vms_frames.specs.Stands.{Stand}
+use Rattle.vms_frames.specs.Found.{step_long}
+use Rattle.vms_frames.specs.Calls.{ahead, due_of, unit_of_step, ReadsBetween, AnswersSeen, AnswersAfter, AnswersHead}
+use Rattle.vms_frames.specs.declared.units.Between.{Between}
+use Rattle.vms_frames.specs.declared.units.Between.TheVariants.{First, AfterConfiguration, Later}
+use Rattle.vms_frames.specs.declared.units.Step.{Step}
+use Rattle.vms_frames.specs.declared.units.Step.TheVariants as steps
+use Rattle.vms_frames.specs.declared.fault.FrameFault.{FrameFault}
 use Rattle.vms_load.specs.Reads.{Onward, Reads, ReadsOn, LeadsOn, ReadsBehind, IsBehind, Settles, concerning}
 use Rattle.vms_load.specs.Staging.{state_of, spot_of, is_first, is_configured}
 use Rattle.vms_load.specs.declared.fault.LoadFault.{LoadFault}

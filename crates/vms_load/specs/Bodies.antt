@@ -9,9 +9,9 @@ use Rattle.vms_spec.specs.Units.{Number, Constant}
 use Rattle.vms_units.specs.Dues.{Field}
 use Rattle.vms_units.specs.Seen.{seen}
 use Rattle.vms_units.specs.Taking.{nothing_known}
-use Rattle.vms_cursor.specs.Calls.{AnswersSeen}
-use Rattle.vms_cursor.specs.declared.fault.FrameFault.{FrameFault}
-use Rattle.vms_cursor.specs.declared.fault.FrameFault.TheVariants as faults
+use Rattle.vms_frames.specs.Calls.{AnswersSeen}
+use Rattle.vms_frames.specs.declared.fault.FrameFault.{FrameFault}
+use Rattle.vms_frames.specs.declared.fault.FrameFault.TheVariants as faults
 
 -- a number of this kind that is at most each of these capacities
 abbrev pub ReadsCapped : Kind → List ℕ → ℕ → Option (List ℕ) → Option (List ℕ) → Result ℤ FrameFault → Type 0

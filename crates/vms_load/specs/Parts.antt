@@ -9,8 +9,8 @@ use Rattle.vms_spec.specs.Images.{Image, sub_place, own_cells}
 use Rattle.vms_spec.specs.SoFar.{part_slots}
 use Rattle.vms_units.specs.Judge.{judge}
 use Rattle.vms_units.specs.State.{State, Spot, Free, Inside, by_state}
-use Rattle.vms_cursor.specs.Stands.{Stand}
-use Rattle.vms_cursor.specs.Calls.{tail_of}
+use Rattle.vms_frames.specs.Stands.{Stand}
+use Rattle.vms_frames.specs.Calls.{tail_of}
 use Rattle.vms_laws.specs.Whole.{reading_on}
 use Rattle.vms_parts.specs.Devices.{device_at}
 use Rattle.vms_desc.specs.Parts.{sub_at}

@@ -4,9 +4,9 @@ use Rattle.std.proofs.Common.{refl, sym, ap, ◌∙◌, subst, arith, None, Some
 use Rattle.vms_kinds.specs.Codes.{width}
 use Rattle.vms_spec.specs.Images.{Image}
 use Rattle.vms_spec.specs.Taking.{Taken, Progress, Refusal, ◌>>=◌, take_number, take_constant, take_filler, take_rule}
-use Rattle.vms_cursor.specs.Answers.{HasCause}
-use Rattle.vms_cursor.specs.declared.fault.FrameFault.{FrameFault}
-use Rattle.vms_cursor.specs.declared.fault.FrameFault.TheVariants as faults
+use Rattle.vms_frames.specs.Answers.{HasCause}
+use Rattle.vms_frames.specs.declared.fault.FrameFault.{FrameFault}
+use Rattle.vms_frames.specs.declared.fault.FrameFault.TheVariants as faults
 use Rattle.vms_walk.specs.declared.step.Step.{Step}
 use Rattle.vms_walk.specs.declared.step.Step.TheVariants.{Number, Constant, Filler, Rule}
 use Rattle.vms_walk.specs.Inside.{Keeps}

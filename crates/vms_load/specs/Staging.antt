@@ -6,10 +6,10 @@ use Rattle.vms_spec.specs.Readings.{Reading, Accepted, Refused}
 use Rattle.vms_spec.specs.Images.{Image, default_image}
 use Rattle.vms_spec.specs.Streams.{is_one_of}
 use Rattle.vms_units.specs.State.{State, Spot, Free, Ended}
-use Rattle.vms_cursor.specs.Stands.{Stand}
-use Rattle.vms_cursor.specs.Calls.{tail_of}
-use Rattle.vms_cursor.specs.declared.units.Between.{Between}
-use Rattle.vms_cursor.specs.declared.units.Between.TheVariants.{First, AfterConfiguration, Later}
+use Rattle.vms_frames.specs.Stands.{Stand}
+use Rattle.vms_frames.specs.Calls.{tail_of}
+use Rattle.vms_frames.specs.declared.units.Between.{Between}
+use Rattle.vms_frames.specs.declared.units.Between.TheVariants.{First, AfterConfiguration, Later}
 use Rattle.vms_parts.specs.Devices.{device_at}
 use Rattle.vms_load.specs.Parts.{IsShaped, bytes_of, subs_due}
 use Rattle.vms_load.specs.declared.fault.LoadFault.{LoadFault}

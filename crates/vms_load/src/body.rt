@@ -2,7 +2,7 @@
 ghost use Rattle.std.specs.Prelude.{◌≡◌, ◌+◌, ◌≤◌, ◌^◌, ◌∷◌, [], None, OnOk, OnErr, IfErr, IfSome};
 ghost use Rattle.vms_desc.specs.Described.{described};
 ghost use Rattle.vms_desc.specs.Parts.{desc_at};
-ghost use Rattle.vms_cursor.specs.Answers.{HasCause};
+ghost use Rattle.vms_frames.specs.Answers.{HasCause};
 ghost use Rattle.vms_walk.specs.Inside.{IsInside, Keeps};
 ghost use Rattle.vms_walk.specs.Steps.{HasSpot, steps_of, spot_slots};
 ghost use Rattle.vms_load.specs.Bodies.{TakesAs, Spends, progress};
@@ -10,7 +10,7 @@ ghost use Rattle.vms_load.specs.Parts.{bytes_of};
 ghost use Rattle.vms_load.specs.Reading.{take_step, step_long, told, Took, Failed};
 
 use crate::items::{constant, put_number, rule};
-use vms_cursor::{Cursor, FrameFault};
+use vms_frames::{Cursor, FrameFault};
 use vms_desc::{Cells, DescSet};
 use vms_image::Image;
 use vms_io::Source;

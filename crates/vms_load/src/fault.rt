@@ -2,7 +2,7 @@
 ghost use Rattle.std.specs.Prelude.{◌≡◌};
 
 use thiserror::Error;
-use vms_cursor::{FrameFault, Refusal};
+use vms_frames::{FrameFault, Refusal};
 use vms_spec::Reason;
 
 /// Why a load gave no stream.

@@ -3,11 +3,11 @@ ghost use Rattle.std.specs.Prelude.{◌≡◌, ◌+◌, ◌≤◌, ◌<◌, ◌^
 ghost use Rattle.vms_kinds.specs.Codes.{width};
 ghost use Rattle.vms_spec.specs.Numbers.{exceeds, is_above};
 ghost use Rattle.vms_spec.specs.Taking.{take_number};
-ghost use Rattle.vms_cursor.specs.Answers.{HasCause, GivesWithin};
+ghost use Rattle.vms_frames.specs.Answers.{HasCause, GivesWithin};
 ghost use Rattle.vms_load.specs.Bodies.{ReadsCapped, ReadsConstant, progress, TakesAs, Spends};
 ghost use Rattle.vms_walk.specs.Steps.{capacities_of};
 
-use vms_cursor::{Cursor, FrameFault};
+use vms_frames::{Cursor, FrameFault};
 use vms_image::Image;
 use vms_io::Source;
 use vms_kinds::Kind;

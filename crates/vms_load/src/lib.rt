@@ -15,5 +15,5 @@ mod stream;
 
 pub use fault::LoadFault;
 pub use loader::Loader;
-pub use vms_cursor::Refusal;
+pub use vms_frames::Refusal;
 pub use vms_spec::Reason;

@@ -10,7 +10,7 @@ use crate::stream::stream;
 use arrayvec::ArrayVec;
 use std::alloc::Global;
 use std::mem::swap;
-use vms_cursor::Tail;
+use vms_frames::Tail;
 use vms_desc::DescSet;
 use vms_image::Image;
 use vms_io::{NoMemory, Source};

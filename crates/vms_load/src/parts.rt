@@ -10,7 +10,7 @@ ghost use Rattle.vms_load.specs.Parts.{IsShaped, IsOpen, OpensNext, part_of, par
 use crate::LoadFault;
 use crate::body::read_part;
 use crate::heads::open_sub;
-use vms_cursor::{After, Cursor, Tail};
+use vms_frames::{After, Cursor, Tail};
 use vms_desc::{DescSet, Part};
 use vms_image::Image;
 use vms_io::Source;

@@ -14,7 +14,7 @@ use crate::LoadFault;
 use crate::fault::refused;
 use arrayvec::ArrayVec;
 use std::alloc::Global;
-use vms_cursor::Tail;
+use vms_frames::Tail;
 use vms_desc::{DescSet, Text};
 use vms_image::Image;
 use vms_io::NoMemory;

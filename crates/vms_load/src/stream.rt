@@ -15,7 +15,7 @@ use crate::LoadFault;
 use crate::heads::open_section;
 use crate::parts::{Section, read_section};
 use crate::staged::{Staged, begin, configure, end, restart};
-use vms_cursor::{Between, Cursor, Step};
+use vms_frames::{Between, Cursor, Step};
 use vms_desc::DescSet;
 use vms_io::Source;
 use vms_marks::Head;

@@ -1,21 +1,38 @@
-use Rattle.std.proofs.Common.{[], ap, ◌∙◌}
-use Rattle.vms_io.specs.Told.{intake, outlet}
-use Rattle.vms_spec.specs.Sets.{Set}
-use Rattle.vms_desc.specs.Described.{described}
-use Rattle.vms_cli.specs.Lines.{refused_line}
-use Rattle.vms_cli.proofs.ShowLemmas.{loaded, refused}
+use Rattle.std.proofs.Common.{refl, inl, inr}
+use Rattle.vms_io.specs.Told.{intake, outlet, stock}
+use Rattle.vms_load.specs.Kept.{loads}
+use Rattle.vms_cli.specs.Asks.{set_asked}
+use Rattle.vms_cli.specs.Fetching.{word_set}
+use Rattle.vms_cli.proofs.EndLemmas.{keeps_same}
+use Rattle.vms_cli.proofs.SetLemmas.{gives_none, gives_within, shows_by, unset_ends}
+use Rattle.vms_cli.proofs.ShowLemmas.{most_for}
 use Rattle.vms_cli.proofs.show.show.Goals as goal
 
-pub returns-in-Ok-load-clause-content : goal.returns-in-Ok-load-clause-content
-returns-in-Ok-load-clause-content g c = λ shelf o shows.
-    loaded (described c.in-Ok.loader.set) c.in-Ok.ensures (intake g.I.Source c.args.input.now) (intake g.I.Source c.load.new.source)
-    (outlet g.O.Sink c.args.out.now) (outlet g.O.Sink c.write_values.new.out) shelf _ _ _ _ o (g.met.I.Source.octets c.args.input.now)
-    c.in-Ok-load.ensures.content c.in-Ok-load.ensures.given.0 c.write_values.ensures.written shows
+pub returns-in-Ok-clause-content : goal.returns-in-Ok-clause-content
+returns-in-Ok-clause-content g c = λ o has.
+    let held = g.H.Shelf.held c.args.shelf.now in
+    c.show_stream.ensures.content (stock g.H.Shelf c.args.shelf.now) (stock g.H.Shelf c.loader_of.new.shelf) o c.in-Ok.ensures.held
+    (shows_by loads (word_set held (set_asked c.args.set)) c.in-Ok.loader (g.I.Source.left c.args.input.now) held o c.in-Ok.ensures.had has)
 
-pub returns-in-Ok-refused_line-clause-content : goal.returns-in-Ok-refused_line-clause-content
-returns-in-Ok-refused_line-clause-content g c = λ shelf o shows.
-    let r = c.in-Err-Refused.refusal in
-    refused (described c.in-Ok.loader.set) c.in-Ok.ensures (intake g.I.Source c.args.input.now) (intake g.I.Source c.load.new.source)
-    (outlet g.O.Sink c.args.out.now) (outlet g.O.Sink c.args.out.now) shelf [] 0 c.in-Err-Refused.field-0 r c.in-Err-Refused.field-0-is c.in-Ok-refused_line.line o
-    (g.met.I.Source.octets c.args.input.now) c.in-Err-Refused.ensures.content
-    (c.in-Ok-refused_line.ensures ∙ ap (λ (s : Set). refused_line s r.at r.section r.reason) (c.set.ensures ∙ c.in-Err-Refused.ensures.set ∙ c.in-Ok.ensures)) shows
+pub returns-in-Ok-clause-cause : goal.returns-in-Ok-clause-cause
+returns-in-Ok-clause-cause g c = inr c.show_stream.ensures.cause
+
+pub returns-in-Ok-clause-given : goal.returns-in-Ok-clause-given
+returns-in-Ok-clause-given g c =
+    gives_within loads (word_set (g.H.Shelf.held c.args.shelf.now) (set_asked c.args.set)) c.in-Ok.loader
+    (intake g.I.Source c.args.input.now) (intake g.I.Source c.show_stream.new.input) c.in-Ok.ensures.had c.show_stream.ensures.given
+    (most_for (loads c.in-Ok.loader) c.in-Ok.loader.set.well_formed)
+
+pub returns-in-Err-clause-content : goal.returns-in-Err-clause-content
+returns-in-Err-clause-content g c = λ o has.
+    let held = g.H.Shelf.held c.args.shelf.now in
+    unset_ends loads (intake g.I.Source c.args.input.now) (outlet g.O.Sink c.args.out.now) (stock g.H.Shelf c.args.shelf.now)
+    (stock g.H.Shelf c.loader_of.new.shelf) (word_set held (set_asked c.args.set)) c.in-Err.ending o c.in-Err.ensures.had has
+
+pub returns-in-Err-clause-cause : goal.returns-in-Err-clause-cause
+returns-in-Err-clause-cause g c =
+    inl (c.in-Err.ensures.cause, refl, keeps_same (g.O.Sink.written c.args.out.now))
+
+pub returns-in-Err-clause-given : goal.returns-in-Err-clause-given
+returns-in-Err-clause-given g c =
+    gives_none (word_set (g.H.Shelf.held c.args.shelf.now) (set_asked c.args.set)) (intake g.I.Source c.args.input.now)

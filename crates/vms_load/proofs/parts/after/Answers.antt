@@ -8,8 +8,8 @@ use Rattle.vms_desc.specs.Described.{described}
 use Rattle.vms_laws.proofs.BodyLaws.{at_set}
 use Rattle.vms_parts.specs.Devices.{device_at}
 use Rattle.vms_parts.specs.Views.{device_of}
-use Rattle.vms_cursor.specs.Calls.{held_long}
-use Rattle.vms_cursor.specs.declared.units.Tail.TheVariants as tails
+use Rattle.vms_frames.specs.Calls.{held_long}
+use Rattle.vms_frames.specs.declared.units.Tail.TheVariants as tails
 use Rattle.vms_spec.specs.Units.{SubHead, Foot}
 use Rattle.vms_load.specs.Heads.{opened_at, sub_opened}
 use Rattle.vms_load.specs.Parts.{subs_due, after_part, state_in, spot_in}

@@ -5,7 +5,7 @@ use Rattle.vms_desc.specs.Asks.{first_cell}
 use Rattle.vms_parts.specs.Devices.{device_at}
 use Rattle.vms_walk.specs.declared.fields.Spot.{Spot}
 use Rattle.vms_walk.proofs.Local.{part_sound}
-use Rattle.vms_cursor.specs.Calls.{held_long}
+use Rattle.vms_frames.specs.Calls.{held_long}
 use Rattle.vms_load.specs.Parts.{bytes_of}
 use Rattle.vms_load.specs.Reading.{Told, told}
 use Rattle.vms_load.proofs.PartReads.{open_in, fields_answer}

@@ -12,7 +12,7 @@ use Rattle.vms_parts.specs.Devices.{device_at}
 use Rattle.vms_load.specs.Heads.{opened_at, section_opened}
 use Rattle.vms_load.specs.Parts.{IsShaped, subs_due, part_due}
 use Rattle.vms_load.specs.Staging.{image_at, name_of, state_of, sections_due}
-use Rattle.vms_cursor.specs.Calls.{tail_of}
+use Rattle.vms_frames.specs.Calls.{tail_of}
 use Rattle.vms_load.proofs.ReadLemmas.{read_behind}
 use Rattle.vms_load.proofs.OpenedReads.{head_unit, head_long, begun, section_refused, section_reads, ended_in, ends_later}
 use Rattle.vms_load.proofs.StagedLemmas.{image_begun, default_shaped, section_new, sections_taken}

@@ -4,9 +4,9 @@ use Rattle.vms_units.specs.Judge.{judge}
 use Rattle.vms_units.specs.State.{by_state}
 use Rattle.vms_laws.specs.Whole.{reading_on}
 use Rattle.vms_desc.specs.Described.{described}
-use Rattle.vms_cursor.specs.declared.units.Between.{Between}
-use Rattle.vms_cursor.specs.declared.units.Between.TheVariants.{First}
-use Rattle.vms_cursor.specs.Calls.{held_long}
+use Rattle.vms_frames.specs.declared.units.Between.{Between}
+use Rattle.vms_frames.specs.declared.units.Between.TheVariants.{First}
+use Rattle.vms_frames.specs.Calls.{held_long}
 use Rattle.vms_load.specs.Reads.{reach}
 use Rattle.vms_load.specs.Staging.{accepted_of, state_of, spot_at, stream_due}
 use Rattle.vms_load.proofs.ReadLemmas.{leads_here, leads_on, reads_on, still_on}

@@ -4,7 +4,7 @@ use Rattle.vms_units.specs.Judge.{judge}
 use Rattle.vms_units.specs.State.{by_state}
 use Rattle.vms_laws.specs.Whole.{reading_on}
 use Rattle.vms_desc.specs.Described.{described}
-use Rattle.vms_cursor.specs.declared.units.Between.TheVariants.{First}
+use Rattle.vms_frames.specs.declared.units.Between.TheVariants.{First}
 use Rattle.vms_load.specs.Reads.{LeadsOn, reach}
 use Rattle.vms_load.specs.Staging.{IsOf, HoldsAt, accepted_of, state_of, spot_at, stream_due}
 use Rattle.vms_load.proofs.stream.sections.Given as goal

@@ -4,8 +4,8 @@ use Rattle.vms_units.specs.Judge.{judge}
 use Rattle.vms_units.specs.State.{State, Before, Free, by_state}
 use Rattle.vms_laws.specs.Whole.{reading_on}
 use Rattle.vms_desc.specs.Described.{described}
-use Rattle.vms_cursor.specs.Stands.{Stand}
-use Rattle.vms_cursor.specs.Calls.{held_long}
+use Rattle.vms_frames.specs.Stands.{Stand}
+use Rattle.vms_frames.specs.Calls.{held_long}
 use Rattle.vms_load.specs.Reads.{reach}
 use Rattle.vms_load.specs.Staging.{accepted_of, state_of, spot_at, sections_due}
 use Rattle.vms_load.proofs.Bounding.{most_small, all_due}

@@ -6,9 +6,9 @@ use Rattle.vms_units.specs.Judged.{ask}
 use Rattle.vms_units.specs.State.{Free, Ended, by_state}
 use Rattle.vms_laws.specs.Whole.{reading_on}
 use Rattle.vms_desc.specs.Described.{described}
-use Rattle.vms_cursor.specs.declared.units.Between.{Between}
-use Rattle.vms_cursor.specs.declared.units.Between.TheVariants as between
-use Rattle.vms_cursor.specs.declared.units.Step.TheVariants as steps
+use Rattle.vms_frames.specs.declared.units.Between.{Between}
+use Rattle.vms_frames.specs.declared.units.Between.TheVariants as between
+use Rattle.vms_frames.specs.declared.units.Step.TheVariants as steps
 use Rattle.vms_load.specs.Staging.{accepted_of, state_of, spot_of, spot_at, is_first, is_configured}
 use Rattle.vms_load.proofs.ReadLemmas.{settles_err, settles_ok, still_on}
 use Rattle.vms_load.proofs.TurnReads.{turn_fault, turn_settled, turn_section}

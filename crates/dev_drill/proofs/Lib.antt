@@ -1,0 +1,4 @@
+pub mod EventLaws
+pub mod FoldLaws
+pub mod Rows
+pub mod UnsavedLemmas

@@ -1,0 +1,4 @@
+pub mod Events
+pub mod Fold
+pub mod Laws
+pub mod Views

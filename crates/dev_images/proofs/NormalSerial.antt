@@ -1,0 +1,199 @@
+-- A normal image of the newest set's serial port has the cells that a port may be restored from.
+use Rattle.std.proofs.Common.{◌≡◌, ◌≢◌, ℕ, zero, suc, ◌+◌, ◌<◌, ◌≤◌, Bool, true, false, ◌&&◌, ◌||◌, ◌==◌, List, [], ◌∷◌, ◌++◌, length, get_or, take, drop, min, map, Option, Some, None, ℤ, pos, negsuc, ◌≤ℤ◌, refl, sym, ◌∙◌, subst, arith}
+use Rattle.std.proofs.lemmas.Bool.{and_parts, leb-true, ltb-true}
+use Rattle.vms_laws.proofs.ReadyLaws.{same_is}
+use Rattle.vms_spec.specs.Numbers.{same_number}
+use Rattle.vms_spec.specs.Sets.{Set, Device, Sub}
+use Rattle.dev_images.specs.Laws.{serial_at_4}
+use Rattle.dev_images.proofs.Parts.{element, sub_cells, zero_defaults}
+use Rattle.dev_images.proofs.SerialReady.{byte, second_slots, inner_slots, fifo_slots, elements}
+use Rattle.std.proofs.lemmas.Bool.Decides.{nat_tests}
+use Rattle.std.proofs.lemmas.Int.{ints}
+use Rattle.std.specs.Prelude.{nat_le, nat_lt}
+use Rattle.vms_kinds.specs.Codes.{InRange, residue}
+use Rattle.vms_kinds.specs.declared.Kind.{Kind}
+use Rattle.vms_kinds.specs.declared.Kind.TheVariants.{U8}
+use Rattle.vms_spec.specs.Images.{Image, has_cell, image_slots, own_slots, sub_slots, came_slots, IsNormal, IsVersionOf, AreVersionsOf}
+use Rattle.vms_spec.specs.Layout.{Cell, no_cell, first, device_cells, times, Slot, Number, Constant, Filler, Rule}
+use Rattle.vms_spec.specs.Shipped.{set_4, thr_ipending, fifo, timeout, ring}
+use Rattle.dev_base.specs.Cells.{AreOf, kind_at, nat_of}
+use Rattle.dev_images.proofs.NormalCells.{of-kinds, has-none}
+use Rattle.dev_serial.specs.Cells.{IsPortCells}
+
+neq : (k c : ℕ) → k ≢ c → (k == c) ≡ false
+neq k c h = grind (arith, nat_tests)
+
+-- every number of these slots is of a cell from a place on and below another
+abbrev all_within : ℕ → ℕ → List Slot → Bool
+all_within low high [] = true
+all_within low high (Number k kind capacities ∷ slots) = nat_le low k && (nat_lt k high && all_within low high slots)
+all_within low high (Constant kind z ∷ slots) = all_within low high slots
+all_within low high (Filler n ∷ slots) = all_within low high slots
+all_within low high (Rule b ∷ slots) = all_within low high slots
+
+both-false : (a b : Bool) → a ≡ false → b ≡ false → (a || b) ≡ false
+both-false true b e f = cc
+both-false false b e f = f
+
+within-none : (low high : ℕ) (slots : List Slot) (c : ℕ) → all_within low high slots ≡ true → high ≤ c → has_cell slots c ≡ false
+within-none low high [] c e h = refl
+within-none low high (Number k kind capacities ∷ slots) c e h =
+    let p = and_parts (nat_le low k) (nat_lt k high && all_within low high slots) e in
+    let q = and_parts (nat_lt k high) (all_within low high slots) p.1 in
+    let below : k < high = ltb-true k high q.0 in
+    both-false (k == c) (has_cell slots c) (neq k c (λ same. absurd (omega (arith, below, same, h)))) (within-none low high slots c q.1 h)
+within-none low high (Constant kind z ∷ slots) c e h = within-none low high slots c e h
+within-none low high (Filler n ∷ slots) c e h = within-none low high slots c e h
+within-none low high (Rule b ∷ slots) c e h = within-none low high slots c e h
+
+before-none : (low high : ℕ) (slots : List Slot) (c : ℕ) → all_within low high slots ≡ true → c < low → has_cell slots c ≡ false
+before-none low high [] c e h = refl
+before-none low high (Number k kind capacities ∷ slots) c e h =
+    let p = and_parts (nat_le low k) (nat_lt k high && all_within low high slots) e in
+    let q = and_parts (nat_lt k high) (all_within low high slots) p.1 in
+    let from : low ≤ k = leb-true low k p.0 in
+    both-false (k == c) (has_cell slots c) (neq k c (λ same. absurd (omega (arith, from, same, h)))) (before-none low high slots c q.1 h)
+before-none low high (Constant kind z ∷ slots) c e h = before-none low high slots c e h
+before-none low high (Filler n ∷ slots) c e h = before-none low high slots c e h
+before-none low high (Rule b ∷ slots) c e h = before-none low high slots c e h
+
+-- elements of an array before and behind a cell
+elements-before : (n at c : ℕ) → at + n ≤ c → has_cell (times n (element byte) at 1) c ≡ false
+elements-before zero at c h = refl
+elements-before (suc n) at c h = both-false (at == c) _ (neq at c (λ same. absurd (omega (arith, same, h)))) (elements-before n (at + 1) c (omega (arith, h)))
+
+elements-after : (n at c : ℕ) → c < at → has_cell (times n (element byte) at 1) c ≡ false
+elements-after zero at c h = refl
+elements-after (suc n) at c h = both-false (at == c) _ (neq at c (λ same. absurd (omega (arith, same, h)))) (elements-after n (at + 1) c (omega (arith, h)))
+
+-- the FIFOs' slots lack the cells behind the elements of each array
+rx-lack : (n m i : ℕ) → n ≤ i → i < 16 → has_cell (fifo_slots n m) (14 + i) ≡ false
+rx-lack n m i l b =
+    has-none (inner_slots n m) (Rule true ∷ []) (14 + i)
+    (has-none (Number 13 U8 (16 ∷ []) ∷ []) (times n (element byte) 14 1 ++ second_slots m) (14 + i) (both-false (13 == 14 + i) false (neq 13 (14 + i) (λ same. absurd (omega (arith, same)))) refl)
+    (has-none (times n (element byte) 14 1) (second_slots m) (14 + i) (elements-before n 14 (14 + i) (omega (arith, l)))
+    (has-none (Number 30 U8 (16 ∷ []) ∷ []) (times m (element byte) 31 1 ++ []) (14 + i) (both-false (30 == 14 + i) false (neq 30 (14 + i) (λ same. absurd (omega (arith, same, b)))) refl)
+    (has-none (times m (element byte) 31 1) [] (14 + i) (elements-after m 31 (14 + i) (omega (arith, b))) refl)))) refl
+
+tx-lack : (n m i : ℕ) → n ≤ 16 → m ≤ i → i < 16 → has_cell (fifo_slots n m) (31 + i) ≡ false
+tx-lack n m i most l b =
+    has-none (inner_slots n m) (Rule true ∷ []) (31 + i)
+    (has-none (Number 13 U8 (16 ∷ []) ∷ []) (times n (element byte) 14 1 ++ second_slots m) (31 + i) (both-false (13 == 31 + i) false (neq 13 (31 + i) (λ same. absurd (omega (arith, same)))) refl)
+    (has-none (times n (element byte) 14 1) (second_slots m) (31 + i) (elements-before n 14 (31 + i) (omega (arith, most)))
+    (has-none (Number 30 U8 (16 ∷ []) ∷ []) (times m (element byte) 31 1 ++ []) (31 + i) (both-false (30 == 31 + i) false (neq 30 (31 + i) (λ same. absurd (omega (arith, same)))) refl)
+    (has-none (times m (element byte) 31 1) [] (31 + i) (elements-before m 31 (31 + i) (omega (arith, l))) refl)))) refl
+
+-- subsections that came lack a cell that none of them has
+abbrev SubsLack : Set → List ℤ → ℕ → ℕ → List Sub → Type 0
+SubsLack set numbers c at [] = Unit {0}
+SubsLack set numbers c at (s ∷ subs) =
+    ((v : ℕ) → IsVersionOf s.desc v → has_cell (sub_slots set s v numbers at) c ≡ false) × SubsLack set numbers c (at + length (sub_cells set s)) subs
+
+came-lack : (set : Set) (d : Device) (numbers : List ℤ) (c at : ℕ) (subs : List Sub) (came : List (Option ℕ)) → AreVersionsOf subs came → SubsLack set numbers c at subs → has_cell (came_slots set d numbers at subs came) c ≡ false
+came-lack set d numbers c at [] came a h = refl
+came-lack set d numbers c at (s ∷ subs) [] a h = absurd a
+came-lack set d numbers c at (s ∷ subs) (None ∷ came) a h = came-lack set d numbers c (at + length (sub_cells set s)) subs came a h.1
+came-lack set d numbers c at (s ∷ subs) (Some v ∷ came) a h =
+    has-none (sub_slots set s v numbers at) (came_slots set d numbers (at + length (sub_cells set s)) subs came) c (h.0 v a.0) (came-lack set d numbers c (at + length (sub_cells set s)) subs came a.1 h.1)
+
+own-within : (v : ℕ) (numbers : List ℤ) → 1 ≤ v → v ≤ 4 → all_within 0 12 (own_slots set_4 serial_at_4 v numbers) ≡ true
+unfolding first
+own-within zero numbers l h = absurd (omega (arith, l))
+own-within (suc zero) numbers l h = refl
+own-within (suc (suc zero)) numbers l h = refl
+own-within (suc (suc (suc zero))) numbers l h = refl
+own-within (suc (suc (suc (suc zero)))) numbers l h = refl
+own-within (suc (suc (suc (suc (suc v))))) numbers l h = absurd (omega (arith, h))
+
+version-1 : (v : ℕ) (P : ℕ → Type 0) → 1 ≤ v → v ≤ 1 → P 1 → P v
+version-1 zero P l h p = absurd (omega (arith, l))
+version-1 (suc zero) P l h p = p
+version-1 (suc (suc v)) P l h p = absurd (omega (arith, h))
+
+-- the default of a cell of a run that has zeros
+default-in : (cells : List Cell) (at i n place : ℕ) → place ≡ at + i → i < n → zero_defaults (take n (drop at cells)) ≡ true → (get_or cells place no_cell).default ≡ pos 0
+default-in [] at i n place is lt e = refl
+default-in (cell ∷ cells) (suc at) i n zero is lt e = absurd (omega (arith, is))
+default-in (cell ∷ cells) (suc at) i n (suc place) is lt e = default-in cells at i n place (omega (arith, is)) lt e
+default-in (cell ∷ cells) zero i zero place is lt e = absurd (omega (arith, lt))
+default-in (cell ∷ cells) zero i (suc n) zero is lt e = sym (same_is (pos 0) cell.default (and_parts (same_number (pos 0) cell.default) (zero_defaults (take n cells)) e).0)
+default-in (cell ∷ cells) zero zero (suc n) (suc place) is lt e = absurd (omega (arith, is))
+default-in (cell ∷ cells) zero (suc i) (suc n) (suc place) is lt e = default-in cells zero i n place (omega (arith, is)) (omega (arith, lt)) (and_parts (same_number (pos 0) cell.default) (zero_defaults (take n cells)) e).1
+
+module _ (image : Image) (n : IsNormal set_4 serial_at_4 image) where
+  abbrev numbers : List ℤ
+  numbers = image.numbers
+
+  are : AreOf (map (λ cell. cell.kind) (device_cells set_4 serial_at_4)) numbers
+  are = of-kinds (device_cells set_4 serial_at_4) numbers n.cells
+
+  byte-at : (place : ℕ) → place < 84 → kind_at (map (λ cell. cell.kind) (device_cells set_4 serial_at_4)) place ≡ U8 → InRange U8 (get_or numbers place (pos 0))
+  unfolding first
+  byte-at place lt e = subst (λ (kind : Kind). InRange kind (get_or numbers place (pos 0))) e (are.in_range place (omega (arith, lt)))
+
+  rx-range : InRange U8 (get_or numbers 13 (pos 0))
+  unfolding first
+  rx-range = byte-at 13 (omega arith) refl
+
+  tx-range : InRange U8 (get_or numbers 30 (pos 0))
+  unfolding first
+  tx-range = byte-at 30 (omega arith) refl
+
+  at-most : (z : ℤ) → InRange U8 z → z ≤ℤ pos 16 → nat_of z ≤ 16
+  at-most (pos k) r l = omega (arith, ints, l)
+  at-most (negsuc k) r l = omega arith
+
+  rx-fits : nat_of (get_or numbers 13 (pos 0)) ≤ 16
+  unfolding first
+  rx-fits = let long = n.cells.long in at-most _ rx-range (n.cells.fits 13 (omega arith)).1.0
+
+  tx-fits : nat_of (get_or numbers 30 (pos 0)) ≤ 16
+  unfolding first
+  tx-fits = at-most _ tx-range (n.cells.fits 30 (omega arith)).1.0
+
+  abbrev rx_elements : ℕ
+  rx_elements = min (residue 1 (get_or numbers 13 (pos 0))) 16
+
+  abbrev tx_elements : ℕ
+  tx_elements = min (residue 1 (get_or numbers 30 (pos 0))) 16
+
+  -- a cell outside of the fields and of the other subsections that the FIFOs' slots lack is in no slot
+  lack : (c : ℕ) → 13 ≤ c → c < 47 → has_cell (fifo_slots rx_elements tx_elements) c ≡ false → has_cell (image_slots set_4 serial_at_4 image) c ≡ false
+  unfolding first
+  lack c low high e =
+      has-none (own_slots set_4 serial_at_4 image.version numbers) (came_slots set_4 serial_at_4 numbers 12 serial_at_4.subs image.came) c
+      (within-none 0 12 (own_slots set_4 serial_at_4 image.version numbers) c (own-within image.version numbers n.version.0 n.version.1) (omega (arith, low)))
+      (came-lack set_4 serial_at_4 numbers c 12 serial_at_4.subs image.came n.subs (
+        (λ v h. version-1 v (λ v. has_cell (sub_slots set_4 thr_ipending v numbers 12) c ≡ false) h.0 h.1 (within-none 12 13 (sub_slots set_4 thr_ipending 1 numbers 12) c refl low)),
+        (
+          (λ v h. version-1 v (λ v. has_cell (sub_slots set_4 fifo v numbers 13) c ≡ false) h.0 h.1 e),
+          (
+            (λ v h. version-1 v (λ v. has_cell (sub_slots set_4 timeout v numbers 47) c ≡ false) h.0 h.1 (before-none 47 48 (sub_slots set_4 timeout 1 numbers 47) c refl high)),
+            ((λ v h. version-1 v (λ v. has_cell (sub_slots set_4 ring v numbers 48) c ≡ false) h.0 h.1 (before-none 48 84 (sub_slots set_4 ring 1 numbers 48) c refl (omega (arith, high)))), tt),
+          ),
+        ),
+      ))
+
+  rx-zeros : (i : ℕ) → nat_of (get_or numbers 13 (pos 0)) ≤ i → i < 16 → get_or numbers (14 + i) (pos 0) ≡ pos 0
+  unfolding first
+  rx-zeros i l b =
+      let is = elements (get_or numbers 13 (pos 0)) rx-range rx-fits in
+      let long = n.cells.long in
+      n.absent (14 + i) (omega (arith, b, long)) (lack (14 + i) (omega arith) (omega (arith, b)) (rx-lack rx_elements tx_elements i (omega (arith, is, l)) b))
+      ∙ default-in (device_cells set_4 serial_at_4) 14 i 16 (14 + i) refl b refl
+
+  tx-zeros : (i : ℕ) → nat_of (get_or numbers 30 (pos 0)) ≤ i → i < 16 → get_or numbers (31 + i) (pos 0) ≡ pos 0
+  unfolding first
+  tx-zeros i l b =
+      let is = elements (get_or numbers 30 (pos 0)) tx-range tx-fits in
+      let long = n.cells.long in
+      n.absent (31 + i) (omega (arith, b, long)) (lack (31 + i) (omega arith) (omega (arith, b)) (tx-lack rx_elements tx_elements i (omega arith) (omega (arith, is, l)) b))
+      ∙ default-in (device_cells set_4 serial_at_4) 31 i 16 (31 + i) refl b refl
+
+  pub port-of : IsPortCells numbers
+  unfolding first
+  port-of = record {
+    of_kinds = are;
+    rx = record { fits = rx-fits; zeros = rx-zeros };
+    tx = record { fits = tx-fits; zeros = tx-zeros };
+  }

@@ -1,0 +1,31 @@
+use Rattle.std.proofs.Common.{[], ap, ◌∙◌, subst}
+use Rattle.vms_io.specs.Told.{intake, outlet}
+use Rattle.vms_spec.specs.Sets.{Set}
+use Rattle.vms_spec.specs.Values.{values_text}
+use Rattle.vms_values.specs.Printing.{machine_of}
+use Rattle.vms_load.specs.Kept.{loads, kept}
+use Rattle.vms_cli.specs.Endings.{WritesAs}
+use Rattle.vms_cli.specs.Lines.{refused_line}
+use Rattle.vms_cli.proofs.ShowLemmas.{fit_of, loaded, refused}
+use Rattle.vms_cli.proofs.show.show_stream.Goals as goal
+
+pub returns-in-Ok-clause-content : goal.returns-in-Ok-clause-content
+returns-in-Ok-clause-content g c = λ shelf shelf' o held shows.
+    let set = loads c.args.loader in
+    let out = outlet g.O.Sink c.args.out.now in
+    let out' = outlet g.O.Sink c.write_values.new.out in
+    loaded set (fit_of set c.args.loader.set.well_formed c.args.loader.set.heads) (intake g.I.Source c.args.input.now)
+    (intake g.I.Source c.load.new.source) out out' shelf shelf' held _ _ c.in-Ok.machine c.write_values.result o
+    (g.met.I.Source.octets c.args.input.now) c.in-Ok.ensures.content c.in-Ok.ensures.given.0
+    (subst (λ (s : Set). WritesAs (values_text s (machine_of s c.in-Ok.machine) (kept c.load.new.self)) out out' c.write_values.result)
+    c.in-Ok.ensures.set c.write_values.ensures.written) shows
+
+pub returns-in-Ok-refused_line-clause-content : goal.returns-in-Ok-refused_line-clause-content
+returns-in-Ok-refused_line-clause-content g c = λ shelf shelf' o held shows.
+    let set = loads c.args.loader in
+    let r = c.in-Err-Refused.refusal in
+    refused set (fit_of set c.args.loader.set.well_formed c.args.loader.set.heads) (intake g.I.Source c.args.input.now)
+    (intake g.I.Source c.load.new.source) (outlet g.O.Sink c.args.out.now) (outlet g.O.Sink c.args.out.now) shelf shelf' held [] 0
+    c.in-Err-Refused.field-0 r c.in-Err-Refused.field-0-is c.in-Ok-refused_line.line o (g.met.I.Source.octets c.args.input.now)
+    c.in-Err-Refused.ensures.content
+    (c.in-Ok-refused_line.ensures ∙ ap (λ (s : Set). refused_line s r.at r.section r.reason) (c.set.ensures ∙ c.in-Err-Refused.ensures.set)) shows

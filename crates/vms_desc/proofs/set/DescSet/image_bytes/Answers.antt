@@ -1,0 +1,12 @@
+use Rattle.std.proofs.Common.{◌≡◌, ◌∙◌, ap}
+use Rattle.vms_spots.specs.Spots.{bytes_of}
+use Rattle.vms_desc.specs.Described.{described}
+use Rattle.vms_desc.specs.Spots.{kinds_at}
+use Rattle.vms_desc.proofs.SpotTables.{laid_again, kinds_again}
+use Rattle.vms_desc.proofs.set.DescSet.image_bytes.Goals as goal
+
+pub size-requires-clause-laid : goal.size-requires-clause-laid
+size-requires-clause-laid c = laid_again (kinds_at (described c.args.self.now) c.args.device) c.spots.result.now c.spots.ensures.spots
+
+pub returns-clause-bytes : goal.returns-clause-bytes
+returns-clause-bytes c = c.size.ensures.size ∙ ap bytes_of (kinds_again (kinds_at (described c.args.self.now) c.args.device) c.spots.result.now c.spots.ensures.spots)

@@ -1,0 +1,57 @@
+// Where the numbers of devices stand in their images' bytes.
+ghost use Rattle.std.specs.Prelude.{◌≡◌, ◌<◌, ◌≤◌, ℕ, [], length, get_or, map, IfOk};
+ghost use Rattle.vms_spec.specs.Layout.{device_cells};
+ghost use Rattle.vms_desc.specs.Described.{described, device_at};
+ghost use Rattle.vms_desc.specs.Spots.{kinds_at, form_spots};
+ghost use Rattle.vms_spots.specs.Spots.{spots_of, bytes_of, no_spot, AreApart};
+
+use crate::{CellForm, DescSet, Listed};
+use std::alloc::{AllocError, Global};
+use vms_spots::{Spot, lay_out, size};
+
+impl DescSet {
+    /// Where each number of the device of this number stands in its image's bytes, in the order of its cells:
+    /// each at the least multiple of its kind's width that isn't below the end of the one before, the first at
+    /// 0. So each lies inside those bytes and overlaps no other.
+    pub fn spots(&self, device: u32) -> &[Spot]
+        requires { device < length (described self.now).devices }
+        ensures spots { result.now ≡ spots_of (kinds_at (described self.now) device) }
+        ensures apart { AreApart (kinds_at (described self.now) device) result.now }
+        ensures few { length result.now ≤ 16384 }
+    {
+        self.spots.as_slice()[device as usize].as_slice()
+    }
+
+    /// Where the number of a cell stands in the bytes of an image of the device of this number.
+    pub fn spot(&self, device: u32, cell: u32) -> Spot
+        requires is_device { device < length (described self.now).devices }
+        requires is_cell { cell < length (device_cells (described self.now) (device_at (described self.now) device)) }
+        ensures { result ≡ get_or (spots_of (kinds_at (described self.now) device)) cell no_spot }
+    {
+        self.spots(device)[cell as usize]
+    }
+
+    /// How many bytes an image of the device of this number has, at most 131,072.
+    pub fn image_bytes(&self, device: u32) -> u32
+        requires { device < length (described self.now).devices }
+        ensures bytes { result ≡ bytes_of (kinds_at (described self.now) device) }
+        ensures bound { result ≤ 131072 }
+    {
+        size(self.spots(device))
+    }
+}
+
+// Those of each device, from the forms of its cells.
+pub(crate) fn device_spots(
+    alloc: Global,
+    layout: &[Listed<CellForm>],
+) -> Result<Vec<Listed<Spot>>, AllocError>
+    requires { (k : ℕ) → length (get_or layout.now k []) ≤ 16384 }
+    ensures { IfOk result (λ spots. spots.items ≡ map form_spots layout.now) }
+{
+    let mut spots = Vec::with_capacity(alloc, layout.len())?;
+    for forms in layout {
+        spots.push(Listed::new(lay_out(alloc, forms.as_slice())?))?;
+    }
+    Ok(spots)
+}

@@ -1,0 +1,315 @@
+// One unit each, from its first byte.
+ghost use Rattle.std.specs.Prelude.{◌≡◌, true, false, ◌∷◌, [], ◌++◌, ◌-◌, ◌≤◌, None, length, get_or, IfOk, IfSome};
+ghost use Rattle.vms_kinds.specs.Codes.{width};
+ghost use Rattle.vms_marks.specs.Marks.{mark_of};
+ghost use Rattle.vms_frames.specs.Found.{magic_found, version_found, step_long, is_configuration, between_found, mark_found, head_found, start_found, start_reason as start_reason_of, sub_reason as sub_reason_of, configuration_found, number_found, behind_long, behind_found, behind_mark_found, sub_found, foot_found, trailer_found, description_found};
+ghost use Rattle.vms_frames.specs.Calls.{IsNext, ahead, held_long};
+ghost use Rattle.vms_frames.specs.Answers.{Answers, HasCause, GivesWithin};
+
+use crate::fault::refused;
+use crate::fill::{Unit, fill, grow, pass};
+use crate::units::Behind;
+use crate::{Between, FrameFault, Step, Tail};
+use byteorder::{BigEndian, ByteOrder};
+use vms_io::{Source, read_exact_of};
+use vms_kinds::Kind;
+use vms_marks::{Head, Mark, Name};
+use vms_spec::Reason;
+
+/// A description has at most so many bytes of text.
+const LONGEST_TEXT: u32 = 16_777_216;
+
+/// The first four bytes of a stream, which tell that it is one.
+pub(crate) fn magic<S: Source>(source: &mut S, at: u64) -> Result<(), FrameFault>
+    ensures content { IfSome (S.left source.old) (λ rest. Answers (λ _. 4) (magic_found rest) at rest (S.left source.new) result) }
+    ensures given { GivesWithin (λ _. 4) 4 (S.given source.old) (S.given source.new) result }
+    ensures cause { HasCause (S.faults source.old) (S.faults source.new) result }
+    ensures promise { S.promise source.new ≡ S.promise source.old }
+{
+    let mut unit = Unit::new();
+    grow(source, at, &mut unit, 4)?;
+    if unit.as_slice() != b"QEVM".as_slice() {
+        return Err(refused(at, Reason::BadMagic));
+    }
+    Ok(())
+}
+
+/// The version of the stream's form.
+pub(crate) fn version<S: Source>(source: &mut S, at: u64) -> Result<(), FrameFault>
+    ensures content { IfSome (S.left source.old) (λ rest. Answers (λ _. 4) (version_found rest) at rest (S.left source.new) result) }
+    ensures given { GivesWithin (λ _. 4) 4 (S.given source.old) (S.given source.new) result }
+    ensures cause { HasCause (S.faults source.old) (S.faults source.new) result }
+    ensures promise { S.promise source.new ≡ S.promise source.old }
+{
+    let mut unit = Unit::new();
+    grow(source, at, &mut unit, 4)?;
+    match BigEndian::read_u32(&unit) {
+        3 => Ok(()),
+        2 => Err(refused(at, Reason::OldStream)),
+        _ => Err(refused(at, Reason::BadVersion)),
+    }
+}
+
+/// A number of this kind.
+pub(crate) fn number<S: Source>(source: &mut S, at: u64, kind: Kind) -> Result<i128, FrameFault>
+    ensures content { IfSome (S.left source.old) (λ rest. Answers (λ _. width kind) (number_found kind rest) at rest (S.left source.new) result) }
+    ensures given { GivesWithin (λ _. width kind) (width kind) (S.given source.old) (S.given source.new) result }
+    ensures cause { HasCause (S.faults source.old) (S.faults source.new) result }
+    ensures promise { S.promise source.new ≡ S.promise source.old }
+{
+    let mut unit = Unit::new();
+    grow(source, at, &mut unit, kind.width())?;
+    match kind.take(&unit) {
+        Some(value) => Ok(value),
+        None => Err(refused(at, Reason::BadBool)),
+    }
+}
+
+/// A unit between sections, whose first byte may be held.
+pub(crate) fn step<S: Source>(
+    source: &mut S,
+    at: u64,
+    between: Between,
+    held: Option<u8>,
+) -> Result<Step, FrameFault>
+    ensures content { IfSome (S.left source.old) (λ left. Answers step_long (between_found between (ahead held left)) at (ahead held left) (S.left source.new) result) }
+    ensures given { GivesWithin (λ step. (step_long step) - (held_long held)) 269 (S.given source.old) (S.given source.new) result }
+    ensures cause { HasCause (S.faults source.old) (S.faults source.new) result }
+    ensures promise { S.promise source.new ≡ S.promise source.old }
+    ensures place { IfOk result (λ step. is_configuration step ≡ true → between ≡ Between.First) }
+{
+    let mut unit = Unit::new();
+    match held {
+        Some(mark) => unit.push(mark),
+        None => grow(source, at, &mut unit, 1)?,
+    }
+    marked(source, at, between, unit)
+}
+
+// What begins with the one byte that came.
+fn marked<S: Source>(
+    source: &mut S,
+    at: u64,
+    between: Between,
+    unit: Unit,
+) -> Result<Step, FrameFault>
+    requires { length unit.items ≡ 1 }
+    ensures content { IfSome (S.left source.old) (λ more. Answers step_long (mark_found between (unit.items ++ more) (mark_of (get_or unit.items 0 0))) at (unit.items ++ more) (S.left source.new) result) }
+    ensures given { GivesWithin (λ step. (step_long step) - 1) 268 (S.given source.old) (S.given source.new) result }
+    ensures cause { HasCause (S.faults source.old) (S.faults source.new) result }
+    ensures promise { S.promise source.new ≡ S.promise source.old }
+    ensures place { IfOk result (λ step. is_configuration step ≡ true → between ≡ Between.First) }
+{
+    match Mark::of(unit[0]) {
+        Some(Mark::End) => Ok(Step::End),
+        Some(Mark::Start) => start(source, at, unit),
+        Some(Mark::Part) | Some(Mark::SectionEnd) => Err(refused(at, Reason::Iterative)),
+        Some(Mark::Full) => section(source, at, unit),
+        Some(Mark::Sub) => Err(refused(at, sub_reason(between))),
+        Some(Mark::Configuration) if between == Between::First => configuration(source, at, unit),
+        Some(Mark::Command) => Err(refused(at, Reason::Command)),
+        Some(Mark::Configuration) | Some(Mark::Description) | Some(Mark::Footer) | None => {
+            Err(refused(at, Reason::BadMark))
+        }
+    }
+}
+
+// Why a subsection may not stand between sections.
+fn sub_reason(between: Between) -> Reason
+    ensures { result ≡ sub_reason_of between }
+{
+    match between {
+        Between::AfterConfiguration => Reason::ConfigurationExtra,
+        Between::First | Between::Later => Reason::BadMark,
+    }
+}
+
+// The head of a section, of which the mark came.
+fn section<S: Source>(source: &mut S, at: u64, unit: Unit) -> Result<Step, FrameFault>
+    requires long { length unit.items ≡ 1 }
+    requires mark { get_or unit.items 0 0 ≡ 0x04 }
+    ensures content { IfSome (S.left source.old) (λ more. Answers step_long (head_found (unit.items ++ more)) at (unit.items ++ more) (S.left source.new) result) }
+    ensures given { GivesWithin (λ step. (step_long step) - 1) 268 (S.given source.old) (S.given source.new) result }
+    ensures cause { HasCause (S.faults source.old) (S.faults source.new) result }
+    ensures promise { S.promise source.new ≡ S.promise source.old }
+    ensures section { IfOk result (λ step. is_configuration step ≡ false) }
+{
+    let mut unit = unit;
+    grow(source, at, &mut unit, 5)?;
+    let ahead = 8 + unit[5] as usize;
+    grow(source, at, &mut unit, ahead)?;
+    match Head::read(&unit) {
+        Ok(head) => Ok(Step::Section(head)),
+        Err(_) => unreachable!(),
+    }
+}
+
+// A configuration, of which the mark came.
+fn configuration<S: Source>(source: &mut S, at: u64, unit: Unit) -> Result<Step, FrameFault>
+    requires { length unit.items ≡ 1 }
+    ensures content { IfSome (S.left source.old) (λ more. Answers step_long (configuration_found (unit.items ++ more)) at (unit.items ++ more) (S.left source.new) result) }
+    ensures given { GivesWithin (λ step. (step_long step) - 1) 268 (S.given source.old) (S.given source.new) result }
+    ensures cause { HasCause (S.faults source.old) (S.faults source.new) result }
+    ensures promise { S.promise source.new ≡ S.promise source.old }
+{
+    let mut unit = unit;
+    grow(source, at, &mut unit, 4)?;
+    let length = BigEndian::read_u32(&unit[1..]);
+    if length > 255 {
+        return Err(refused(at, Reason::WrongMachine));
+    }
+    grow(source, at, &mut unit, length as usize)?;
+    Ok(Step::Configuration(name_in(&unit[5..])))
+}
+
+// A section that is sent in parts, of which the mark came.
+fn start<S: Source>(source: &mut S, at: u64, unit: Unit) -> Result<Step, FrameFault>
+    requires { length unit.items ≡ 1 }
+    ensures content { IfSome (S.left source.old) (λ more. Answers step_long (start_found (unit.items ++ more)) at (unit.items ++ more) (S.left source.new) result) }
+    ensures given { GivesWithin (λ step. (step_long step) - 1) 268 (S.given source.old) (S.given source.new) result }
+    ensures cause { HasCause (S.faults source.old) (S.faults source.new) result }
+    ensures promise { S.promise source.new ≡ S.promise source.old }
+    ensures none { IfOk result (λ step. is_configuration step ≡ false) }
+{
+    let mut unit = unit;
+    grow(source, at, &mut unit, 5)?;
+    let ahead = unit[5] as usize;
+    grow(source, at, &mut unit, ahead)?;
+    Err(refused(at, start_reason(&unit[6..])))
+}
+
+// Why a section of this name, which is sent in parts, isn't read.
+fn start_reason(name: &[u8]) -> Reason
+    ensures { result ≡ start_reason_of name.now }
+{
+    if name == b"ram".as_slice() {
+        Reason::Ram
+    } else {
+        Reason::Iterative
+    }
+}
+
+// A name, which isn't longer than a name can be.
+fn name_in(bytes: &[u8]) -> Name
+    requires { length bytes.now ≤ 255 }
+    ensures { result.items ≡ bytes.now }
+{
+    let mut name = Name::new();
+    let _fits = name.try_extend_from_slice(bytes);
+    name
+}
+
+/// What stands behind the fields of the section with this id.
+pub(crate) fn behind<S: Source>(
+    source: &mut S,
+    at: u64,
+    id: u32,
+    tail: Tail,
+) -> Result<Behind, FrameFault>
+    ensures content { IfSome (S.left source.old) (λ rest. Answers behind_long (behind_found tail id rest) at rest (S.left source.new) result) }
+    ensures next { IfOk result (λ behind. IsNext behind → tail ≡ Tail.Footed → ⊥) }
+    ensures given { GivesWithin behind_long 261 (S.given source.old) (S.given source.new) result }
+    ensures cause { HasCause (S.faults source.old) (S.faults source.new) result }
+    ensures promise { S.promise source.new ≡ S.promise source.old }
+{
+    let mut unit = Unit::new();
+    grow(source, at, &mut unit, 1)?;
+    behind_marked(source, at, id, tail, unit)
+}
+
+// What begins behind fields with the one byte that came.
+fn behind_marked<S: Source>(
+    source: &mut S,
+    at: u64,
+    id: u32,
+    tail: Tail,
+    unit: Unit,
+) -> Result<Behind, FrameFault>
+    requires { length unit.items ≡ 1 }
+    ensures content { IfSome (S.left source.old) (λ more. Answers behind_long (behind_mark_found tail id (get_or unit.items 0 0) (unit.items ++ more) (mark_of (get_or unit.items 0 0))) at (unit.items ++ more) (S.left source.new) result) }
+    ensures next { IfOk result (λ behind. IsNext behind → tail ≡ Tail.Footed → ⊥) }
+    ensures given { GivesWithin (λ behind. (behind_long behind) - 1) 260 (S.given source.old) (S.given source.new) result }
+    ensures cause { HasCause (S.faults source.old) (S.faults source.new) result }
+    ensures promise { S.promise source.new ≡ S.promise source.old }
+{
+    match Mark::of(unit[0]) {
+        Some(Mark::Sub) => subsection(source, at, unit),
+        Some(Mark::Footer) if tail != Tail::Bare => footer(source, at, id, unit),
+        _ => match tail {
+            Tail::Footed => Err(refused(at, Reason::BadFooter)),
+            Tail::Unknown | Tail::Bare => Ok(Behind::Next(unit[0])),
+        },
+    }
+}
+
+// The head of a subsection, of which the mark came.
+fn subsection<S: Source>(source: &mut S, at: u64, unit: Unit) -> Result<Behind, FrameFault>
+    requires { length unit.items ≡ 1 }
+    ensures content { IfSome (S.left source.old) (λ more. Answers behind_long (sub_found (unit.items ++ more)) at (unit.items ++ more) (S.left source.new) result) }
+    ensures next { IfOk result (λ behind. IsNext behind → ⊥) }
+    ensures given { GivesWithin (λ behind. (behind_long behind) - 1) 260 (S.given source.old) (S.given source.new) result }
+    ensures cause { HasCause (S.faults source.old) (S.faults source.new) result }
+    ensures promise { S.promise source.new ≡ S.promise source.old }
+{
+    let mut unit = unit;
+    grow(source, at, &mut unit, 1)?;
+    let end = 2 + unit[1] as usize;
+    grow(source, at, &mut unit, end + 2)?;
+    Ok(Behind::Sub {
+        name: name_in(&unit[2..end]),
+        version: BigEndian::read_u32(&unit[end..]),
+    })
+}
+
+// The footer of the section with this id, of which the mark came.
+fn footer<S: Source>(source: &mut S, at: u64, id: u32, unit: Unit) -> Result<Behind, FrameFault>
+    requires { length unit.items ≡ 1 }
+    ensures content { IfSome (S.left source.old) (λ more. Answers behind_long (foot_found id (unit.items ++ more)) at (unit.items ++ more) (S.left source.new) result) }
+    ensures next { IfOk result (λ behind. IsNext behind → ⊥) }
+    ensures given { GivesWithin (λ behind. (behind_long behind) - 1) 260 (S.given source.old) (S.given source.new) result }
+    ensures cause { HasCause (S.faults source.old) (S.faults source.new) result }
+    ensures promise { S.promise source.new ≡ S.promise source.old }
+{
+    let mut unit = unit;
+    grow(source, at, &mut unit, 4)?;
+    if BigEndian::read_u32(&unit[1..]) != id {
+        return Err(refused(at, Reason::BadFooter));
+    }
+    Ok(Behind::Done)
+}
+
+/// What belongs to the stream after its end mark, and how many bytes it has: nothing, or a description section.
+pub(crate) fn trailer<S: Source>(source: &mut S, at: u64) -> Result<u64, FrameFault>
+    ensures content { IfSome (S.left source.old) (λ rest. Answers (λ n. n) (trailer_found rest) at rest (S.left source.new) result) }
+    ensures most { IfOk result (λ n. n ≤ 16777221) }
+    ensures given { GivesWithin (λ n. n) 16777221 (S.given source.old) (S.given source.new) result }
+    ensures cause { HasCause (S.faults source.old) (S.faults source.new) result }
+    ensures promise { S.promise source.new ≡ S.promise source.old }
+{
+    let mut mark = [0; 1];
+    match read_exact_of(source, &mut mark) {
+        Ok(0) => Ok(0),
+        Ok(_) if mark[0] == Mark::Description.byte() => description(source, at),
+        Ok(_) => Err(refused(at, Reason::Trailing)),
+        Err(_) => Err(FrameFault::ReadFault),
+    }
+}
+
+// A description section, of which the mark came, and how many bytes it has with its mark.
+fn description<S: Source>(source: &mut S, at: u64) -> Result<u64, FrameFault>
+    ensures content { IfSome (S.left source.old) (λ more. Answers (λ n. n) (description_found (0x06 ∷ more)) at (0x06 ∷ more) (S.left source.new) result) }
+    ensures least { IfOk result (λ n. 5 ≤ n) }
+    ensures most { IfOk result (λ n. n ≤ 16777221) }
+    ensures given { GivesWithin (λ n. n - 1) 16777220 (S.given source.old) (S.given source.new) result }
+    ensures cause { HasCause (S.faults source.old) (S.faults source.new) result }
+    ensures promise { S.promise source.new ≡ S.promise source.old }
+{
+    let mut length = [0; 4];
+    fill(source, at, &mut length)?;
+    let length = BigEndian::read_u32(&length);
+    if length > LONGEST_TEXT {
+        return Err(refused(at, Reason::DescriptionTooLong));
+    }
+    pass(source, at, length as usize)?;
+    Ok(5 + length as u64)
+}

@@ -1,0 +1,142 @@
+-- The laws of reading, as they are stated.
+use Rattle.std.proofs.Common.{◌≡◌, inl, inr, ℕ, suc, ◌+◌, length, Bool, true, false, not, List, [], ◌∷◌, Option, Some, None, sym, ap, ◌∙◌, subst}
+use Rattle.vms_spec.specs.declared.ValuesReason.{ValuesReason}
+use Rattle.vms_spec.specs.declared.ValuesReason.TheVariants as reasons
+use Rattle.vms_spec.specs.Sets.{Sub, Device, Set}
+use Rattle.vms_spec.specs.Layout.{desc_cells, struct_cells}
+use Rattle.vms_spec.specs.Images.{Image, own_slots, own_cells}
+use Rattle.vms_spec.specs.Readiness.{rules_are_true}
+use Rattle.vms_spec.specs.Spelling.{first_line}
+use Rattle.vms_spec.specs.ValuesReading.{BadLine, ReadDevice, ValuesRead, Values, Bad, values_read, machine_named, answer_of, judge_devices, judge_device, judge_subs, or_bad, if_bad, sub_fails, is_said_well}
+use Rattle.vms_laws.specs.Laws.{IsFit}
+use Rattle.vms_laws.proofs.WellFormedLaws.{well_good}
+use Rattle.vms_elements.specs.Lines.{text_of}
+use Rattle.vms_elements.specs.Reading.{IsMachineOf, IsBadLine}
+use Rattle.vms_elements.proofs.EntryLines.{entry_law}
+use Rattle.vms_elements.proofs.LinesOf.{text_is}
+use Rattle.vms_reading.specs.Laws.{IsOfLine, FoundLaw, BadLineLaw, IsPrinted, PrintedBackLaw}
+use Rattle.vms_reading.proofs.GoodDevices.{good_devices}
+use Rattle.vms_reading.proofs.BadLines.{bad_line, fine_text}
+use Rattle.vms_reading.proofs.AllCome.{images_of}
+use Rattle.vms_reading.proofs.FirstPass.{FirstPass, first_pass}
+use Rattle.vms_reading.proofs.Back.{bad_back}
+use Rattle.vms_reading.proofs.CleanNames.{clean_entries}
+use Rattle.vms_reading.proofs.CleanSets.{clean_structs, clean_devices, clean_machine, named_is}
+
+its_first_pass : (set : Set) (text : List ℕ) → IsFit set → FirstPass set text (values_read set text)
+its_first_pass set text fit = let good = well_good set fit.well fit.heads in first_pass set text good.structs (good_devices set good)
+
+pub bad_line_holds : BadLineLaw
+bad_line_holds set text line reason fit x =
+    bad_back set text line reason x
+    (clean_entries set (clean_structs set fit.well) x.machine x.images (clean_devices set fit.well) (λ name e. clean_machine set fit.well (first_line text) name (sym x.named ∙ e)))
+    (values_read set text) (its_first_pass set text fit)
+
+-- ---- the second pass finds other reasons
+
+IsOther : Option BadLine → Type 0
+IsOther None = Unit {0}
+IsOther (Some b) = IsOfLine b.reason → ⊥
+
+if_other : (t : Bool) (line : ℕ) (reason : ValuesReason) → (IsOfLine reason → ⊥) → IsOther (if_bad t line reason)
+unfolding IsOther
+if_other true line reason h = h
+if_other false line reason h = tt
+
+or_other : (x y : Option BadLine) → IsOther x → IsOther y → IsOther (or_bad x y)
+unfolding IsOther
+or_other (Some b) y h g = h
+or_other None y h g = g
+
+subs_other : (set : Set) (d : Device) (image : Image) (j at : ℕ) (subs : List Sub) (came : List (Option ℕ)) (lines : List ℕ) → IsOther (judge_subs set d image j at subs came lines)
+unfolding IsOther
+subs_other set d image j at [] came lines = tt
+subs_other set d image j at (s ∷ subs) [] lines = tt
+subs_other set d image j at (s ∷ subs) (o ∷ came) [] = tt
+subs_other set d image j at (s ∷ subs) (o ∷ came) (line ∷ lines) =
+    let fails = sub_fails set s o image.numbers at in
+    let said_badly = not (is_said_well set d image j s o at) in
+    let next = at + length (desc_cells (struct_cells set) s.desc) in
+    let others = judge_subs set d image (suc j) next subs came lines in
+    or_other (if_bad fails line reasons.Invalid) (or_bad (if_bad said_badly line reasons.Needed) others) (if_other fails line reasons.Invalid (λ h. h))
+    (or_other (if_bad said_badly line reasons.Needed) others (if_other said_badly line reasons.Needed (λ h. h)) (subs_other set d image (suc j) next subs came lines))
+
+devices_other : (set : Set) (devices : List Device) (read : List ReadDevice) → IsOther (judge_devices set devices read)
+unfolding IsOther
+devices_other set [] read = tt
+devices_other set (d ∷ devices) [] = tt
+devices_other set (d ∷ devices) (r ∷ read) =
+    let fails = not (rules_are_true (own_slots set d r.image.version r.image.numbers)) in
+    let subs = judge_subs set d r.image 0 (own_cells set d) d.subs r.image.came r.sub_lines in
+    or_other (judge_device set d r) (judge_devices set devices read)
+    (or_other (if_bad fails r.line reasons.Invalid) subs (if_other fails r.line reasons.Invalid (λ h. h)) (subs_other set d r.image 0 (own_cells set d) d.subs r.image.came r.sub_lines))
+    (devices_other set devices read)
+
+bad_same : (line line' : ℕ) (reason reason' : ValuesReason) → Bad line reason ≡ Bad line' reason' → (line ≡ line') × (reason ≡ reason')
+bad_same line line' reason reason' e = (ap line_of e, ap reason_of e) where
+  line_of : ValuesRead → ℕ
+  line_of (Bad n r) = n
+  line_of (Values machine images) = 0
+
+  reason_of : ValuesRead → ValuesReason
+  reason_of (Bad n r) = r
+  reason_of (Values machine images) = reason
+
+answer_other : (machine : Option (List ℕ)) (read : List ReadDevice) (o : Option BadLine) (line : ℕ) (reason : ValuesReason) → IsOther o → answer_of machine read o ≡ Bad line reason → IsOfLine reason → ⊥
+unfolding IsOther
+answer_other machine read (Some b) line reason h e first = h (subst IsOfLine (sym (bad_same b.line line b.reason reason e).1) first)
+answer_other machine read None line reason h e first = cc
+
+found : (set : Set) (text : List ℕ) (line : ℕ) (reason : ValuesReason) (v : ValuesRead) → IsOfLine reason → v ≡ Bad line reason → FirstPass set text v → IsBadLine set text line reason
+found set text line reason v first e (inl b) =
+    let same = bad_same b.line line b.reason reason (sym b.is ∙ e) in
+    subst (λ (r : ValuesReason). IsBadLine set text line r) same.1 (subst (λ (n : ℕ). IsBadLine set text n b.reason) same.0 (bad_line set text b.line b.reason b.first))
+found set text line reason v first e (inr n) =
+    absurd (answer_other n.machine n.all.devices (judge_devices set set.devices n.all.devices) line reason (devices_other set set.devices n.all.devices) (sym n.is ∙ e) first)
+
+pub found_holds : FoundLaw
+found_holds set text line reason fit first e = found set text line reason (values_read set text) first e (its_first_pass set text fit)
+
+-- ---- what is read prints as the text
+
+record Same (machine machine' : Option (List ℕ)) (images images' : List Image) : Type 0 where
+  machines : machine ≡ machine'
+  states : images ≡ images'
+
+values_same : (machine machine' : Option (List ℕ)) (images images' : List Image) → Values machine images ≡ Values machine' images' → Same machine machine' images images'
+values_same machine machine' images images' e = record { machines = ap machine_of e; states = ap states_of e } where
+  machine_of : ValuesRead → Option (List ℕ)
+  machine_of (Values m i) = m
+  machine_of (Bad n r) = None
+
+  states_of : ValuesRead → List Image
+  states_of (Values m i) = i
+  states_of (Bad n r) = []
+
+answer_same : (machine machine' : Option (List ℕ)) (read : List ReadDevice) (images : List Image) (o : Option BadLine) → answer_of machine read o ≡ Values machine' images → Same machine machine' (images_of read) images
+answer_same machine machine' read images (Some b) e = cc
+answer_same machine machine' read images None e = values_same machine machine' (images_of read) images e
+
+named_machine : (set : Set) (text : List ℕ) (machine : Option (List ℕ)) → machine ≡ machine_named set.machines (first_line text) → IsMachineOf set machine
+named_machine set text None e = tt
+named_machine set text (Some name) e = named_is set.machines (first_line text) name (sym e)
+
+printed_back : (set : Set) (text : List ℕ) (machine : Option (List ℕ)) (images : List Image) (v : ValuesRead) → v ≡ Values machine images → FirstPass set text v → IsPrinted set text machine images
+printed_back set text machine images v e (inl b) = no (sym b.is ∙ e) where
+  no : Bad b.line b.reason ≡ Values machine images → IsPrinted set text machine images
+  no f = cc
+printed_back set text machine images v e (inr n) =
+    let f = n.first in
+    let fine = fine_text set text n.machine n.all f n.ends in
+    let same = answer_same n.machine machine n.all.devices images (judge_devices set set.devices n.all.devices) (sym n.is ∙ e) in
+    let mine : IsPrinted set text n.machine (images_of n.all.devices) =
+    record {
+      named = named_machine set text n.machine f.named;
+      shaped = f.shaped;
+      fine = fine.0;
+      printed = fine.1 ∙ ap text_of (entry_law set n.machine (images_of n.all.devices)) ∙ text_is set n.machine (images_of n.all.devices);
+    } in
+    subst (λ (m : Option (List ℕ)). IsPrinted set text m images) same.machines (subst (λ (i : List Image). IsPrinted set text n.machine i) same.states mine)
+
+pub printed_back_holds : PrintedBackLaw
+printed_back_holds set text machine images fit e = printed_back set text machine images (values_read set text) e (its_first_pass set text fit)

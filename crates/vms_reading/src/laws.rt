@@ -1,0 +1,21 @@
+//! Each law is the contract of a function without a body. The statements stand in `specs/Laws.antt`.
+ghost use Rattle.vms_reading.specs.Laws.{FoundLaw, BadLineLaw, PrintedBackLaw};
+
+/// Where a text is refused at a line for its form, a number, a count or an absent number, the lines before it are those of some
+/// state of the set and fine, and that line may not stand where it does.
+#[tactic(auto, using(crate::proofs::Stated::found_holds))]
+pub fn found_law()
+    ensures { FoundLaw }
+{}
+
+/// A text whose lines up to one are those of some state of the set and fine, and whose next line may not stand there, is refused
+/// at that line and for its reason.
+pub fn bad_line_law()
+    ensures { BadLineLaw }
+{}
+
+/// What is read of a text prints as that text, for every well-formed set: a machine of the set or none, and a state of the set
+/// each line of which is fine.
+pub fn printed_back_law()
+    ensures { PrintedBackLaw }
+{}

@@ -1,0 +1,49 @@
+-- What refused streams leave of a session, and that its level stays.
+use Rattle.std.proofs.Common.{◌≡◌, ◌⊎◌, inl, inr, ℕ, List, [], ◌∷◌, Option, Some, None, ap, ◌∙◌}
+use Rattle.dev_board.proofs.ClockLaws.{clock_goes_on}
+use Rattle.dev_board.proofs.RestoredLaws.{restored_is_sound}
+use Rattle.dev_images.specs.Images.{cells_in}
+use Rattle.vms_script.specs.Lines.{ScriptLine, Happens, Saves, Restores as Loads}
+use Rattle.vms_session.specs.Boards.{Restore, Back, Refused}
+use Rattle.vms_session.specs.Laws.{IsTaken, RefusalsLeave, LevelStays}
+use Rattle.vms_session.specs.Session.{Session, IsTooLarge, IsLoaded, LoadsBytes, LoadsHeld, Does, Plays}
+
+bytes-leave : (bytes : List ℕ) (old : Session) (text : List ℕ) (new : Session) → LoadsBytes bytes old text new → IsTaken text ⊎ (new ≡ old)
+bytes-leave bytes old text new (IsTooLarge long left) = inr left.new_is
+bytes-leave bytes old text new (IsLoaded (Back m taken) few restores left) = inl (record { taken = taken; text_is = left.text_is })
+bytes-leave bytes old text new (IsLoaded (Refused place section reason) few restores left) = inr left.new_is
+
+held-leaves : (held : Option (List ℕ)) (old : Session) (text : List ℕ) (new : Session) → LoadsHeld held old text new → IsTaken text ⊎ (new ≡ old)
+held-leaves None old text new left = inr left.new_is
+held-leaves (Some bytes) old text new loads = bytes-leave bytes old text new loads
+
+pub refusals_leave : RefusalsLeave
+refusals_leave = record { leaves = λ name old text new loads. held-leaves (old.held name) old text new loads }
+
+-- ---- levels
+
+abbrev level_of : Session → ℕ
+level_of s = s.board.level
+
+bytes-level : (bytes : List ℕ) (old : Session) (text : List ℕ) (new : Session) → LoadsBytes bytes old text new → level_of new ≡ level_of old
+bytes-level bytes old text new (IsTooLarge long left) = ap level_of left.new_is
+bytes-level bytes old text new (IsLoaded (Back m taken) few restores left) =
+    ap level_of left.new_is ∙ restored_is_sound.level old.board.level (cells_in restores.0) m restores.2
+bytes-level bytes old text new (IsLoaded (Refused place section reason) few restores left) = ap level_of left.new_is
+
+held-level : (held : Option (List ℕ)) (old : Session) (text : List ℕ) (new : Session) → LoadsHeld held old text new → level_of new ≡ level_of old
+held-level None old text new left = ap level_of left.new_is
+held-level (Some bytes) old text new loads = bytes-level bytes old text new loads
+
+line-level : (line : ScriptLine) (old : Session) (text : List ℕ) (new : Session) → Does line old text new → level_of new ≡ level_of old
+line-level (Happens event) old text new does = ap level_of does.new_is ∙ clock_goes_on.level event old.board
+line-level (Saves set name) old text new does = ap (λ b. b.level) does.board
+line-level (Loads name) old text new does = held-level (old.held name) old text new does
+
+lines-level : (lines : List ScriptLine) (old : Session) (trace : List ℕ) (new : Session) → Plays lines old trace new → level_of new ≡ level_of old
+lines-level [] old trace new plays = ap level_of plays.1
+lines-level (line ∷ lines) old trace new plays =
+    lines-level lines plays.2 plays.1 new plays.4 ∙ line-level line old plays.0 plays.2 plays.3
+
+pub level_stays : LevelStays
+level_stays = record { level = lines-level }

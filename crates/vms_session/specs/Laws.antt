@@ -1,0 +1,69 @@
+-- Laws of streams of boards and of sessions that contracts name.
+use Rattle.std.specs.Prelude.{◌≡◌, ◌⊎◌, ℕ, ◌<◌, ◌++◌, List, [], ◌∷◌, length, Option, Ok}
+use Rattle.dev_board.specs.Saved.{MaySaveUnder, saved, carried, restored}
+use Rattle.dev_board.specs.Sound.{IsSound, Alike}
+use Rattle.dev_board.specs.State.{State}
+use Rattle.dev_board.specs.Step.{observe}
+use Rattle.dev_board.specs.declared.event.Answer.{Answer}
+use Rattle.dev_board.specs.declared.event.Event.{Event}
+use Rattle.vms_spec.specs.Numbers.{IsBytes}
+use Rattle.vms_spec.specs.declared.Reason.{Reason}
+use Rattle.vms_script.specs.Lines.{ScriptLine, Restores as Loads}
+use Rattle.vms_script.specs.Trace.{trace_line}
+use Rattle.vms_session.specs.Boards.{saved_stream, Back, Refused, Restores}
+use Rattle.vms_session.specs.Lines.{restored_line}
+use Rattle.vms_session.specs.Session.{Session, Does, Plays}
+
+-- the stream that is written of a board under a set restores one that is like it, and nothing else
+pub record StreamComesBack (set : ℕ) (m : State) : Type 0 where
+  pub back : State
+  pub alike : Alike m back
+  pub cells : restored m.level (carried set (saved set m)) ≡ Ok back
+  pub restores : Restores m.level (saved_stream set m) (Back back (length (saved_stream set m)))
+  pub only : (other : State) (taken : ℕ) → Restores m.level (saved_stream set m) (Back other taken)
+      → (other ≡ back) × (taken ≡ length (saved_stream set m))
+  pub accepted : IsBytes (saved_stream set m) → (place : ℕ) (section : Option ℕ) (reason : Reason)
+      → Restores m.level (saved_stream set m) (Refused place section reason) → ⊥
+
+pub record StreamsComeBack : Type 0 where
+  pub stream : (set : ℕ) (m : State) → IsSound m → MaySaveUnder m.level set → StreamComesBack set m
+
+-- a line that loads either leaves the count of a stream that was taken, or the session as it was
+pub record IsTaken (text : List ℕ) : Type 0 where
+  pub taken : ℕ
+  pub text_is : text ≡ restored_line taken
+
+pub record RefusalsLeave : Type 0 where
+  pub leaves : (name : List ℕ) (old : Session) (text : List ℕ) (new : Session) → Does (Loads name) old text new
+      → IsTaken text ⊎ (new ≡ old)
+
+pub record LevelStays : Type 0 where
+  pub level : (lines : List ScriptLine) (old : Session) (trace : List ℕ) (new : Session) → Plays lines old trace new
+      → new.board.level ≡ old.board.level
+
+-- the stream that is written of a sound board has less than 65,536 bytes
+pub record StreamsAreShort : Type 0 where
+  pub short : (set : ℕ) (m : State) → IsSound m → MaySaveUnder m.level set → length (saved_stream set m) < 65536
+
+-- ---- a script on a loaded board
+
+-- a script of events alone, as that of `load` is
+abbrev pub trace_of : List Answer → List ℕ
+trace_of [] = []
+trace_of (answer ∷ answers) = trace_line answer ++ trace_of answers
+
+-- these events on the board that bytes restore leave this trace
+pub record GoesOn (level : ℕ) (bytes : List ℕ) (events : List Event) (taken : ℕ) (trace : List ℕ) : Type 0 where
+  pub board : State
+  pub restored : Restores level bytes (Back board taken)
+  pub trace_is : trace ≡ trace_of (observe events board)
+
+-- on the stream that is written of a sound board under any set from its level on, they leave the trace of that board itself
+-- going on, and all bytes are taken
+pub record IsContinued (set : ℕ) (m : State) (events : List Event) : Type 0 where
+  pub there : GoesOn m.level (saved_stream set m) events (length (saved_stream set m)) (trace_of (observe events m))
+  pub only : (taken : ℕ) (trace : List ℕ) → GoesOn m.level (saved_stream set m) events taken trace
+      → (taken ≡ length (saved_stream set m)) × (trace ≡ trace_of (observe events m))
+
+pub record BoardsGoOn : Type 0 where
+  pub on : (set : ℕ) (m : State) (events : List Event) → IsSound m → MaySaveUnder m.level set → IsContinued set m events

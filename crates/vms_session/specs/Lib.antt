@@ -1,0 +1,4 @@
+pub mod Boards
+pub mod Laws
+pub mod Lines
+pub mod Session

@@ -1,0 +1,69 @@
+-- Sessions: what the lines of a script do to a board and to the shelf, and the trace that they leave.
+use Rattle.std.specs.Prelude.{◌≡◌, ℕ, ◌<◌, ◌≤◌, ◌++◌, List, [], ◌∷◌, length, Option, Some, None}
+use Rattle.dev_base.specs.declared.limits.TheConstants.{NEWEST}
+use Rattle.dev_board.specs.State.{State, power_on}
+use Rattle.dev_board.specs.Step.{step}
+use Rattle.dev_board.specs.declared.event.Answer.{Answer}
+use Rattle.vms_desc.specs.Formed.{shipped_set}
+use Rattle.vms_io.specs.Shelves.{Held, PutsUnder}
+use Rattle.vms_script.specs.Lines.{ScriptLine, Happens, Saves, Restores as Loads}
+use Rattle.vms_script.specs.Trace.{trace_line}
+use Rattle.vms_session.specs.Boards.{saved_stream, Restore, Back, Refused, Restores}
+use Rattle.vms_session.specs.Lines.{saved_line, restored_line, missing_line, too_large_line, refused_line}
+
+-- the greatest stream that is fetched from the shelf, in bytes
+abbrev pub longest_stream : ℕ
+longest_stream = 1048576
+
+-- the board and what the shelf holds
+pub record Session : Type 0 where
+  pub board : State
+  pub held : Held
+
+-- a line leaves this text and this session
+pub record Leaves (said : List ℕ) (after : Session) (text : List ℕ) (new : Session) : Type 0 where
+  pub text_is : text ≡ said
+  pub new_is : new ≡ after
+
+-- an event leaves its answer and the board after it
+abbrev pub Answers : Answer × State → Session → List ℕ → Session → Type 0
+Answers done old text new = Leaves (trace_line done.0) (record old { board = done.1 }) text new
+
+-- a stream is held under the name, in place of what was
+pub record Stores (name stream : List ℕ) (old : Session) (text : List ℕ) (new : Session) : Type 0 where
+  pub text_is : text ≡ saved_line (length stream)
+  pub board : new.board ≡ old.board
+  pub held : PutsUnder old.held new.held name stream
+
+-- what a restore comes to: the board that comes back, or a refusal that leaves the session
+abbrev pub ComesTo : Restore → Session → List ℕ → Session → Type 0
+ComesTo (Back m taken) old text new = Leaves (restored_line taken) (record old { board = m }) text new
+ComesTo (Refused place section reason) old text new =
+    Leaves (refused_line (shipped_set NEWEST) place section reason) old text new
+
+-- a stream of the shelf is too large, or is what it is to a restore
+pub data LoadsBytes (bytes : List ℕ) (old : Session) (text : List ℕ) (new : Session) : Type 0 where
+  IsTooLarge : longest_stream < length bytes → Leaves too_large_line old text new → LoadsBytes bytes old text new
+  IsLoaded : (restore : Restore) → length bytes ≤ longest_stream → Restores old.board.level bytes restore
+      → ComesTo restore old text new → LoadsBytes bytes old text new
+
+abbrev pub LoadsHeld : Option (List ℕ) → Session → List ℕ → Session → Type 0
+LoadsHeld None old text new = Leaves missing_line old text new
+LoadsHeld (Some bytes) old text new = LoadsBytes bytes old text new
+
+-- what a line does
+abbrev pub Does : ScriptLine → Session → List ℕ → Session → Type 0
+Does (Happens event) old text new = Answers (step event old.board) old text new
+Does (Saves set name) old text new = Stores name (saved_stream set old.board) old text new
+Does (Loads name) old text new = LoadsHeld (old.held name) old text new
+
+-- what lines do, one after the other, and the trace that they leave
+abbrev pub Plays : List ScriptLine → Session → List ℕ → Session → Type 0
+Plays [] old trace new = (trace ≡ []) × (new ≡ old)
+Plays (line ∷ lines) old trace new =
+    (text rest : List ℕ) × (between : Session)
+    × Does line old text between × Plays lines between rest new × (trace ≡ text ++ rest)
+
+-- a session begins at power on, with what the shelf holds
+abbrev pub begun : ℕ → Held → Session
+begun level held = record { board = power_on level; held = held }

@@ -1,0 +1,35 @@
+// Laws of streams of boards and of sessions, each in a clause of a function that does nothing.
+ghost use Rattle.vms_session.specs.Laws.{StreamsComeBack, StreamsAreShort, BoardsGoOn, RefusalsLeave, LevelStays};
+
+/// The stream that is written of a sound board under any set from its level on restores a board that is like it, and the
+/// restore takes all of it: whatever a restore makes of these bytes is that board, and none is a refusal.
+#[tactic(auto, using(crate::proofs::StreamLaws::streams_come_back))]
+pub fn stream_law()
+    ensures { StreamsComeBack }
+{}
+
+/// The stream that is written of a sound board has less than 65,536 bytes.
+#[tactic(auto, using(crate::proofs::LengthLaws::streams_are_short))]
+pub fn short_law()
+    ensures { StreamsAreShort }
+{}
+
+/// On the stream that is written of a sound board under any set from its level on, every list of events leaves the trace
+/// of that board itself going on.
+#[tactic(auto, using(crate::proofs::StreamLaws::boards_go_on))]
+pub fn continuation_law()
+    ensures { BoardsGoOn }
+{}
+
+/// A stream that isn't there, is too large or is refused leaves the session as it was, so that all later lines do what they
+/// do without it.
+#[tactic(auto, using(crate::proofs::SessionLaws::refusals_leave))]
+pub fn refusal_law()
+    ensures { RefusalsLeave }
+{}
+
+/// No session changes its board's level.
+#[tactic(auto, using(crate::proofs::SessionLaws::level_stays))]
+pub fn level_law()
+    ensures { LevelStays }
+{}

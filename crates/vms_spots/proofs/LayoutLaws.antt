@@ -1,0 +1,71 @@
+-- Spots that are laid out one after the other.
+use Rattle.std.proofs.Common.{◌≡◌, Option, Some, ℕ, zero, suc, ◌+◌, ◌-◌, ◌*◌, ◌<◌, ◌≤◌, List, [], ◌∷◌, ◌++◌, length, get_or, drop, map, refl, sym, ap, ◌∙◌, arith, append_assoc, append-nil}
+use Rattle.std.proofs.lemmas.List.{drop_all, drop_more, length-map}
+use Rattle.std.proofs.lemmas.Option.{slice_get_within, get_or_from_slice_get}
+use Rattle.std.specs.List.{slice_get}
+use Rattle.vms_kinds.specs.declared.Kind.{Kind}
+use Rattle.vms_kinds.specs.Codes.{width}
+use Rattle.vms_parts.specs.declared.types.CellForm.{CellForm}
+use Rattle.vms_spots.specs.declared.layout.Spot.{Spot}
+use Rattle.vms_spots.specs.Spots.{aligned, spots_from, spots_of, end_from, bytes_of, no_spot, kinds_of}
+use Rattle.vms_spots.proofs.SpotLaws.{aligned_is, spots_long, last_end, spot_is, end_small}
+
+abbrev pub kinds_in : List CellForm → List Kind
+kinds_in forms = map (λ form. form.kind) forms
+
+-- what is laid out and what is still to come is the whole
+pub record LaidOut (forms : List CellForm) (spots : List Spot) (end i : ℕ) : Type 0 where
+  pub small : end ≤ 8 * i
+  pub rest : spots ++ spots_from end (kinds_in (drop i forms)) ≡ spots_of (kinds_in forms)
+
+pub begins : (forms : List CellForm) → LaidOut forms [] 0 0
+begins forms = record { small = omega arith; rest = refl }
+
+pub goes : (forms : List CellForm) (spots new : List Spot) (end next i : ℕ) (d : CellForm) (s : Spot) → i < length forms
+    → s ≡ record { offset = aligned (width (get_or forms i d).kind) end; kind = (get_or forms i d).kind }
+    → new ≡ spots ++ (s ∷ []) → next ≡ s.offset + width s.kind → LaidOut forms spots end i → LaidOut forms new next (i + 1)
+goes forms spots new end next i d s lt is n e l =
+    let kind = (get_or forms i d).kind in
+    let a = aligned_is kind end in
+    let next_is : next ≡ aligned (width kind) end + width kind = e ∙ ap (λ (x : Spot). x.offset + width x.kind) is in
+    let here : Spot = record { offset = aligned (width kind) end; kind = kind } in
+    let rest : List Spot = spots_from (aligned (width kind) end + width kind) (kinds_in (drop (i + 1) forms)) in
+    record {
+      small = omega (arith, next_is, a.eighth i l.small);
+      rest = ap (λ (x : ℕ). new ++ spots_from x (kinds_in (drop (i + 1) forms))) next_is
+          ∙ ap (λ (x : List Spot). x ++ rest) (n ∙ ap (λ (x : Spot). spots ++ (x ∷ [])) is) ∙ append_assoc spots (here ∷ []) rest
+          ∙ ap (λ (x : List CellForm). spots ++ spots_from end (kinds_in x)) (sym (drop_more forms i d lt)) ∙ l.rest;
+    }
+
+pub ends : (forms : List CellForm) (spots : List Spot) (end i : ℕ) → length forms ≤ i → LaidOut forms spots end i → spots ≡ spots_of (kinds_in forms)
+ends forms spots end i all l =
+    sym (append-nil spots) ∙ ap (λ (x : List CellForm). spots ++ spots_from end (kinds_in x)) (sym (drop_all i forms all)) ∙ l.rest
+
+-- ---- the last one
+
+pub record IsLast (kinds : List Kind) (s : Spot) : Type 0 where
+  pub small : s.offset ≤ 131072
+  pub end : s.offset + width s.kind ≡ bytes_of kinds
+  pub bound : bytes_of kinds ≤ 131072
+
+-- no more than 8 bytes for each
+pub few_bytes : (kinds : List Kind) → length kinds ≤ 16384 → bytes_of kinds ≤ 131072
+few_bytes kinds few = omega (arith, end_small 0 kinds 0 (omega arith))
+
+pub is_last : (spots : List Spot) (s : Spot) (n : ℕ) → length spots ≤ 16384 → spots ≡ spots_of (kinds_of spots)
+    → length spots ≡ suc n → s ≡ get_or spots n no_spot → IsLast (kinds_of spots) s
+is_last spots s n few laid long is =
+    let kinds = kinds_of spots in
+    let all : length kinds ≡ suc n = length-map spots (λ s. s.kind) ∙ long in
+    let same : s ≡ get_or (spots_of kinds) n no_spot = is ∙ ap (λ (l : List Spot). get_or l n no_spot) laid in
+    let end : s.offset + width s.kind ≡ bytes_of kinds = ap (λ (x : Spot). x.offset + width x.kind) same ∙ last_end 0 kinds n all in
+    let bound : bytes_of kinds ≤ 131072 = few_bytes kinds (omega (arith, all, long)) in
+    record { small = omega (arith, end, bound); end = end; bound = bound }
+
+-- so it is where a list has a last one
+pub last_is : (spots : List Spot) (s : Spot) → length spots ≤ 16384 → spots ≡ spots_of (kinds_of spots)
+    → slice_get spots (length spots - 1) ≡ Some s → IsLast (kinds_of spots) s
+last_is spots s few laid got =
+    let n = length spots - 1 in
+    let within : n < length spots = slice_get_within spots n s got in
+    is_last spots s n few laid (omega (arith, within)) (sym (get_or_from_slice_get spots n s no_spot got))

@@ -1,0 +1,4 @@
+pub mod BufferLaws
+pub mod LayoutLaws
+pub mod SpotLaws
+pub mod SpotRows

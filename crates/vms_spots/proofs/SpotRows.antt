@@ -1,0 +1,28 @@
+-- Spots and bytes, written down by hand.
+use Rattle.std.proofs.Common.{◌≡◌, ℕ, List, [], ◌∷◌, map, pos, refl}
+use Rattle.vms_kinds.specs.declared.Kind.{Kind}
+use Rattle.vms_kinds.specs.declared.Kind.TheVariants.{U8, U16, U32, U64, Bool, Timer}
+use Rattle.vms_kinds.specs.Codes.{code}
+use Rattle.vms_spots.specs.Spots.{spots_of, bytes_of, raw_of}
+
+offsets : List Kind → List ℕ
+offsets kinds = map (λ s. s.offset) (spots_of kinds)
+
+-- a box with a count and two elements
+box : List Kind
+box = U8 ∷ U16 ∷ U16 ∷ []
+
+aligns_the_elements : offsets box ≡ 0 ∷ 2 ∷ 4 ∷ []
+unfolding box offsets
+aligns_the_elements = refl
+
+takes_six_bytes : bytes_of box ≡ 6
+unfolding box
+takes_six_bytes = refl
+
+leaves_0_between : raw_of box (pos 2 ∷ pos 1 ∷ pos 65535 ∷ []) ≡ 0x02 ∷ 0x00 ∷ 0x00 ∷ 0x01 ∷ 0xff ∷ 0xff ∷ []
+unfolding box code
+leaves_0_between = refl
+
+no_bytes_without_cells : bytes_of [] ≡ 0
+no_bytes_without_cells = refl

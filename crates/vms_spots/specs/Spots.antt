@@ -1,0 +1,85 @@
+-- Where the numbers of a state lie in one buffer of bytes, and what stands there.
+use Rattle.std.specs.Prelude.{◌≡◌, ℕ, ◌+◌, ◌-◌, ◌*◌, ◌/◌, ◌%◌, ◌<◌, ◌≤◌, List, [], ◌∷◌, ◌++◌, length, get_or, map, replicate, take, drop, ℤ, pos}
+use Rattle.vms_kinds.specs.declared.Kind.{Kind}
+use Rattle.vms_kinds.specs.declared.Kind.TheVariants.{U8}
+use Rattle.vms_kinds.specs.Codes.{width, code, value_of, InRange}
+use Rattle.vms_spots.specs.declared.layout.Spot.{Spot}
+
+-- the least multiple of a width that isn't below a byte
+abbrev pub aligned : ℕ → ℕ → ℕ
+aligned w byte = (byte + (w - 1)) / w * w
+
+-- ---- spots
+
+-- The spots of these kinds in order, where the one before them ends at a byte: each stands at the least multiple of its
+-- width that isn't below the end of the one before.
+abbrev pub spots_from : ℕ → List Kind → List Spot
+spots_from end [] = []
+spots_from end (kind ∷ kinds) =
+    record { offset = aligned (width kind) end; kind = kind } ∷ spots_from (aligned (width kind) end + width kind) kinds
+
+-- those of a state, the first of which stands at 0
+abbrev pub spots_of : List Kind → List Spot
+spots_of kinds = spots_from 0 kinds
+
+-- where the last of them ends
+abbrev pub end_from : ℕ → List Kind → ℕ
+end_from end [] = end
+end_from end (kind ∷ kinds) = end_from (aligned (width kind) end + width kind) kinds
+
+-- how many bytes a state of these kinds takes
+abbrev pub bytes_of : List Kind → ℕ
+bytes_of kinds = end_from 0 kinds
+
+abbrev pub no_spot : Spot
+no_spot = record { offset = 0; kind = U8 }
+
+abbrev pub kinds_of : List Spot → List Kind
+kinds_of spots = map (λ s. s.kind) spots
+
+-- ---- what stands in the buffer
+
+-- from a byte on: the code of each number at its spot, and 0 before it
+abbrev pub raw_from : ℕ → List Kind → List ℤ → List ℕ
+raw_from end [] numbers = []
+raw_from end (kind ∷ kinds) [] = []
+raw_from end (kind ∷ kinds) (z ∷ numbers) =
+    replicate (aligned (width kind) end - end) 0 ++ (code kind z ++ raw_from (aligned (width kind) end + width kind) kinds numbers)
+
+abbrev pub raw_of : List Kind → List ℤ → List ℕ
+raw_of kinds numbers = raw_from 0 kinds numbers
+
+-- as many numbers as kinds, each in the range of its kind
+pub record AreOf (kinds : List Kind) (numbers : List ℤ) : Type 0 where
+  pub long : length numbers ≡ length kinds
+  pub fits : (k : ℕ) → k < length kinds → InRange (get_or kinds k U8) (get_or numbers k (pos 0))
+
+-- the number at a spot of these bytes
+abbrev pub number_at : List ℕ → Spot → ℤ
+number_at bytes s = value_of s.kind (take (width s.kind) (drop s.offset bytes))
+
+-- what a buffer holds: the kinds of its numbers, and the numbers
+pub record Held : Type 0 where
+  pub kinds : List Kind
+  pub numbers : List ℤ
+
+abbrev pub held : List Spot → List ℕ → Held
+held spots bytes = record { kinds = kinds_of spots; numbers = map (number_at bytes) spots }
+
+-- the spots are those of their kinds, and the bytes are those of numbers in range
+pub record IsHeld (spots : List Spot) (bytes : List ℕ) : Type 0 where
+  pub few : length spots ≤ 16384
+  pub laid : spots ≡ spots_of (kinds_of spots)
+  pub fit : AreOf (kinds_of spots) (map (number_at bytes) spots)
+  pub raw : bytes ≡ raw_of (kinds_of spots) (map (number_at bytes) spots)
+
+-- ---- what is wanted of the spots of these kinds
+
+pub record AreApart (kinds : List Kind) (spots : List Spot) : Type 0 where
+  pub long : length spots ≡ length kinds
+  -- each is of its number's kind, at a multiple of its width, and inside the buffer
+  pub kind : (k : ℕ) → k < length kinds → (get_or spots k no_spot).kind ≡ get_or kinds k U8
+  pub multiple : (k : ℕ) → k < length kinds → (get_or spots k no_spot).offset % width (get_or kinds k U8) ≡ 0
+  pub inside : (k : ℕ) → k < length kinds → (get_or spots k no_spot).offset + width (get_or kinds k U8) ≤ bytes_of kinds
+  -- each ends before the later ones begin
+  pub apart : (j k : ℕ) → j < k → k < length kinds → (get_or spots j no_spot).offset + width (get_or kinds j U8) ≤ (get_or spots k no_spot).offset

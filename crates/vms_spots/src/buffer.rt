@@ -1,0 +1,101 @@
+// The bytes of a state.
+ghost use Rattle.std.specs.Prelude.{◌≡◌, ◌≤◌, ◌<◌, length, get_or, slice_set, replicate, pos, IfOk};
+ghost use Rattle.vms_kinds.specs.Codes.{InRange, code};
+ghost use Rattle.vms_kinds.specs.declared.Kind.TheVariants.{U8};
+ghost use Rattle.vms_spots.specs.Spots.{spots_of, kinds_of, raw_of};
+
+use crate::{Spot, size};
+use std::alloc::{AllocError, Global};
+use std::marker::Model;
+
+/// The numbers of a state in one buffer of bytes: each stands at its spot with the highest byte first, and
+/// the bytes between the spots are 0. It is seen as the kinds and the numbers of its cells.
+#[derive(Drop)]
+pub struct Buffer {
+    spots: Vec<Spot>,
+    bytes: Vec<u8>,
+}
+
+impl Model for Buffer {
+    ghost use Rattle.vms_spots.specs.Spots.{Held, held, IsHeld};
+
+    ghost Value = { Held };
+
+    ghost view = { λ b. held b.spots.items b.bytes.items };
+
+    ghost invariant = { λ b. IsHeld b.spots.items b.bytes.items };
+}
+
+impl Buffer {
+    /// The buffer of these spots, with 0 at each.
+    pub fn new(alloc: Global, spots: &[Spot]) -> Result<Buffer, AllocError>
+        requires few { length spots.now ≤ 16384 }
+        requires laid { spots.now ≡ spots_of (kinds_of spots.now) }
+        ensures { IfOk result (λ b. b ≡ record { kinds = kinds_of spots.now; numbers = replicate (length spots.now) (pos 0) }) }
+    {
+        Ok(Buffer {
+            spots: spots.to_vec(alloc)?,
+            bytes: vec![in alloc; 0; size(spots) as usize]?,
+        })
+    }
+
+    /// How many numbers it has.
+    pub fn len(&self) -> u32
+        ensures { result ≡ length self.now.numbers }
+    {
+        self.spots.len() as u32
+    }
+
+    /// Where its numbers stand.
+    pub fn spots(&self) -> &[Spot]
+        ensures spots { result.now ≡ spots_of self.now.kinds }
+        ensures count { length result.now ≡ length self.now.numbers }
+    {
+        &self.spots
+    }
+
+    /// The number of a cell.
+    pub fn get(&self, cell: u32) -> i128
+        requires { cell < length self.now.numbers }
+        ensures number { result ≡ get_or self.now.numbers cell (pos 0) }
+        ensures range { InRange (get_or self.now.kinds cell U8) result }
+    {
+        let spot = self.spots[cell as usize];
+        let offset = spot.offset as usize;
+        let end = spot.end() as usize;
+        match spot.kind.take(&self.bytes[offset..end]) {
+            Some(number) => number,
+            None => unreachable!(),
+        }
+    }
+
+    /// The code of a cell's number, which are its bytes.
+    pub fn code(&self, cell: u32) -> &[u8]
+        requires { cell < length self.now.numbers }
+        ensures { result.now ≡ code (get_or self.now.kinds cell U8) (get_or self.now.numbers cell (pos 0)) }
+    {
+        let spot = self.spots[cell as usize];
+        let offset = spot.offset as usize;
+        let end = spot.end() as usize;
+        &self.bytes[offset..end]
+    }
+
+    /// Puts a number into a cell; all else stays.
+    pub fn set(&mut self, cell: u32, value: i128)
+        requires cell { cell < length self.old.numbers }
+        requires range { InRange (get_or self.old.kinds cell U8) value }
+        ensures { self.new ≡ record self.old { numbers = slice_set self.old.numbers cell value } }
+    {
+        let spot = self.spots[cell as usize];
+        let offset = spot.offset as usize;
+        let end = spot.end() as usize;
+        self.bytes[offset..end].copy_from_slice(spot.kind.put(value).as_slice());
+    }
+
+    /// The bytes: the code of each number at its spot, and 0 elsewhere.
+    pub fn raw(&self) -> &[u8]
+        ensures { result.now ≡ raw_of self.now.kinds self.now.numbers }
+    {
+        &self.bytes
+    }
+}

@@ -1,0 +1,69 @@
+// Where numbers lie.
+ghost use Rattle.std.specs.Prelude.{◌≡◌, ◌≤◌, ◌+◌, length, map, IfOk};
+ghost use Rattle.vms_kinds.specs.Codes.{width};
+ghost use Rattle.vms_spots.specs.Spots.{aligned, spots_of, kinds_of, bytes_of, AreApart};
+
+use std::alloc::{AllocError, Global};
+use vms_kinds::Kind;
+use vms_parts::CellForm;
+
+/// Where the number of a cell stands in an image's bytes.
+#[derive(Clone, Copy, Debug, PartialEq, Eq)]
+pub struct Spot {
+    /// Its first byte, a multiple of its width.
+    pub offset: u32,
+    /// The kind of the number, which says how many bytes it takes.
+    pub kind: Kind,
+}
+
+impl Spot {
+    // The first spot for a number of this kind that doesn't begin before a byte.
+    fn behind(end: u32, kind: Kind) -> Spot
+        requires { end ≤ 131072 }
+        ensures { result ≡ record { offset = aligned (width kind) end; kind = kind } }
+    {
+        let width = kind.width() as u32;
+        Spot {
+            offset: (end + (width - 1)) / width * width,
+            kind,
+        }
+    }
+
+    /// The byte behind its last one.
+    pub fn end(self) -> u32
+        requires { self.offset ≤ 131072 }
+        ensures { result ≡ self.offset + width self.kind }
+    {
+        self.offset + self.kind.width() as u32
+    }
+}
+
+/// The spots of cells of these forms, in order: each at the least multiple of its kind's width that isn't
+/// below the end of the one before, and the first at 0.
+pub fn lay_out(alloc: Global, forms: &[CellForm]) -> Result<Vec<Spot>, AllocError>
+    requires { length forms.now ≤ 16384 }
+    ensures spots { IfOk result (λ spots. spots.items ≡ spots_of (map (λ form. form.kind) forms.now)) }
+    ensures apart { IfOk result (λ spots. AreApart (map (λ form. form.kind) forms.now) spots.items) }
+{
+    let mut spots = Vec::with_capacity(alloc, forms.len())?;
+    let mut end = 0;
+    for form in forms {
+        let spot = Spot::behind(end, form.kind);
+        end = spot.end();
+        spots.push(spot)?;
+    }
+    Ok(spots)
+}
+
+/// How many bytes numbers at these spots take: the end of the last, or 0 where there is none.
+pub fn size(spots: &[Spot]) -> u32
+    requires few { length spots.now ≤ 16384 }
+    requires laid { spots.now ≡ spots_of (kinds_of spots.now) }
+    ensures size { result ≡ bytes_of (kinds_of spots.now) }
+    ensures bound { result ≤ 131072 }
+{
+    match spots.last() {
+        None => 0,
+        Some(last) => last.end(),
+    }
+}
