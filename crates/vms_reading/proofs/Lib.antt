@@ -1,4 +1,6 @@
 pub mod SaidLaws
+pub mod Unsaid
+pub mod SecondPass
 pub mod OneLine
 pub mod Wrapped
 pub mod Coming
