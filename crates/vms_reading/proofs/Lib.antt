@@ -18,4 +18,8 @@ pub mod Meeting
 pub mod CleanNames
 pub mod Back
 pub mod CleanSets
+pub mod Accepted
 pub mod Stated
+pub mod FineNumbers
+pub mod Rights
+pub mod ReadyParts

@@ -1,5 +1,5 @@
 -- The second pass over a text judges the entries of sections and subsections, in order.
-use Rattle.std.proofs.Common.{◌≡◌, ℕ, zero, suc, ◌+◌, ◌≤◌, Bool, true, false, not, ◌&&◌, ◌||◌, List, [], ◌∷◌, ◌++◌, length, get_or, map, drop, Option, Some, None, ℤ, pos, refl, sym, ap, ◌∙◌, subst, arith, if◌then◌else◌}
+use Rattle.std.proofs.Common.{◌≡◌, ℕ, suc, ◌+◌, ◌≤◌, Bool, true, false, not, ◌&&◌, ◌||◌, List, [], ◌∷◌, ◌++◌, length, get_or, map, drop, Option, Some, None, ℤ, pos, refl, sym, ap, ◌∙◌, subst, arith, if◌then◌else◌}
 use Rattle.std.proofs.Math.Seq.{drop-cons}
 use Rattle.std.proofs.lemmas.List.{length-append}
 use Rattle.std.specs.List.{flat_map}
@@ -9,7 +9,7 @@ use Rattle.vms_spec.specs.Lists.{or_else}
 use Rattle.vms_spec.specs.Numbers.{same_number}
 use Rattle.vms_spec.specs.Sets.{Desc, Sub, Device, Set}
 use Rattle.vms_spec.specs.Layout.{desc_cells, struct_cells, device_cells}
-use Rattle.vms_spec.specs.Images.{Image, own_slots, own_cells, sub_slots}
+use Rattle.vms_spec.specs.Images.{Image, own_slots, own_cells}
 use Rattle.vms_spec.specs.Readiness.{rules_are_true}
 use Rattle.vms_spec.specs.Streams.{is_needed}
 use Rattle.vms_spec.specs.ValuesReading.{BadLine, ReadDevice, or_bad, if_bad, are_defaults, sub_fails, is_said_well, judge_subs, judge_device, judge_devices}

@@ -1,7 +1,6 @@
 -- Which cells have a line, by what was said; a cell of which nothing was said stays as it was.
-use Rattle.std.proofs.Common.{◌≡◌, ◌≢◌, ℕ, Bool, true, false, ◌||◌, ◌==◌, List, [], ◌∷◌, ◌++◌, get_or, map, slice_set, ℤ, pos, refl, sym, ap, ◌∙◌, get_or-set_other}
+use Rattle.std.proofs.Common.{◌≡◌, ℕ, Bool, true, false, ◌||◌, ◌==◌, List, [], ◌∷◌, ◌++◌, get_or, map, slice_set, ℤ, pos, refl, sym, ap, ◌∙◌, get_or-set_other}
 use Rattle.std.proofs.lemmas.Bool.{eq-eqb}
-use Rattle.vms_elements.specs.Elements.{Element}
 use Rattle.vms_elements.specs.Entries.{Entry, OfNumber}
 use Rattle.vms_elements.specs.Reading.{is_of_cell, has_line}
 use Rattle.vms_reading.specs.Said.{Said, put_all}
