@@ -18,6 +18,7 @@ pub mod Meeting
 pub mod CleanNames
 pub mod Back
 pub mod CleanSets
+pub mod Matching
 pub mod Accepted
 pub mod Stated
 pub mod FineNumbers

@@ -37,7 +37,7 @@ of_numbers n xs = map (λ x. OfNumber x n) xs
 some_same : (y z : ℤ) → Some y ≡ Some z → y ≡ z
 some_same y z e = cc
 
-cancel : (front a b : List ℕ) → front ++ a ≡ front ++ b → a ≡ b
+pub cancel : (front a b : List ℕ) → front ++ a ≡ front ++ b → a ≡ b
 cancel [] a b e = e
 cancel (x ∷ front) a b e = cancel front a b (tail (x ∷ front ++ a) (x ∷ front ++ b) e) where
   rest_of : List ℕ → List ℕ
@@ -47,7 +47,7 @@ cancel (x ∷ front) a b e = cancel front a b (tail (x ∷ front ++ a) (x ∷ fr
   tail : (xs ys : List ℕ) → xs ≡ ys → rest_of xs ≡ rest_of ys
   tail xs ys e = ap rest_of e
 
-number_same : (name : List ℕ) (y z : ℤ) → IsShort y → IsShort z → name ++ (codes " = " ++ signed_decimal y) ≡ name ++ (codes " = " ++ signed_decimal z) → y ≡ z
+pub number_same : (name : List ℕ) (y z : ℤ) → IsShort y → IsShort z → name ++ (codes " = " ++ signed_decimal y) ≡ name ++ (codes " = " ++ signed_decimal z) → y ≡ z
 number_same name y z p q e =
     let same = cancel (codes " = ") (signed_decimal y) (signed_decimal z) (cancel name (codes " = " ++ signed_decimal y) (codes " = " ++ signed_decimal z) e) in
     some_same y z (sym (number_holds y p) ∙ ap number_spelled same ∙ number_holds z q)
