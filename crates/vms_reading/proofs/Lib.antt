@@ -20,6 +20,7 @@ pub mod Back
 pub mod CleanSets
 pub mod Matching
 pub mod Accepted
+pub mod Unique
 pub mod Stated
 pub mod FineNumbers
 pub mod Rights
