@@ -21,6 +21,8 @@ pub mod CleanSets
 pub mod Matching
 pub mod Accepted
 pub mod Unique
+pub mod BadParts
+pub mod ReadySays
 pub mod Stated
 pub mod FineNumbers
 pub mod Rights
