@@ -23,6 +23,7 @@ pub mod Accepted
 pub mod Unique
 pub mod BadParts
 pub mod ReadySays
+pub mod ReadyBack
 pub mod Stated
 pub mod FineNumbers
 pub mod Rights
