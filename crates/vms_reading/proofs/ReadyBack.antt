@@ -1,7 +1,6 @@
 -- Ready images are what their text says, and no part of them is bad.
-use Rattle.std.proofs.Common.{◌≡◌, ℕ, zero, suc, ◌+◌, ◌<◌, ◌≤◌, Bool, true, false, not, ◌||◌, ◌&&◌, nat_lt, List, [], ◌∷◌, ◌++◌, length, get_or, map, Option, Some, None, ℤ, pos, refl, sym, ap, ◌∙◌, subst, arith, codes}
+use Rattle.std.proofs.Common.{◌≡◌, ℕ, suc, ◌+◌, ◌<◌, ◌≤◌, Bool, true, false, ◌||◌, nat_lt, List, [], ◌∷◌, ◌++◌, length, get_or, Option, Some, None, ℤ, pos, refl, sym, ap, ◌∙◌, subst, arith, codes}
 use Rattle.std.proofs.lemmas.Bool.{ltb-true, ltb-false}
-use Rattle.std.proofs.lemmas.List.{length-append}
 use Rattle.std.proofs.Math.ListN.{get_or-eq_default}
 use Rattle.std.specs.List.{flat_map}
 use Rattle.std.specs.Str.{bytes_eq}
@@ -12,14 +11,14 @@ use Rattle.vms_spec.specs.Layout.{Cell, no_cell, Slot, desc_cells, struct_cells,
 use Rattle.vms_spec.specs.Layout as slots
 use Rattle.vms_spec.specs.Images.{Image, own_cells, own_slots, sub_slots, came_slots, image_slots, has_cell, RulesHold}
 use Rattle.vms_spec.specs.Readiness.{rules_are_true}
-use Rattle.vms_spec.specs.Streams.{is_needed, ComeAsNeeded, IsReady, AreReady}
+use Rattle.vms_spec.specs.Streams.{is_needed, ComeAsNeeded, IsReady}
 use Rattle.vms_laws.proofs.Names.{names_append}
 use Rattle.vms_laws.proofs.ReadyLaws.{ranged}
 use Rattle.vms_texts.specs.Texts.{IsShort}
-use Rattle.vms_elements.specs.Parts.{cells_of, slots_of, elements_in}
+use Rattle.vms_elements.specs.Parts.{slots_of, elements_in}
 use Rattle.vms_elements.specs.Lines.{text_of, sub_line, section_line}
-use Rattle.vms_elements.specs.Entries.{Entry, OfMachine, OfSection, OfSub, number_entries, subs_entries, device_entries, devices_entries, entries, if_not, rules_hold, have_defaults, sub_holds, came_well, line_reason, entry_line, part_reason}
-use Rattle.vms_elements.specs.Reading.{IsMachineOf, AreFine, has_line, IsShaped, AreShaped, AreUnsaid, AllUnsaid, AreAtVersions, IsText, Says}
+use Rattle.vms_elements.specs.Entries.{Entry, number_entries, subs_entries, device_entries, devices_entries, entries, if_not, have_defaults, sub_holds, came_well}
+use Rattle.vms_elements.specs.Reading.{AreFine, has_line, IsShaped, AreShaped, AreUnsaid, AllUnsaid, AreAtVersions, IsText, Says}
 use Rattle.vms_elements.proofs.CellsOf.{elements_cells}
 use Rattle.vms_elements.proofs.SlotsOf.{elements_slots}
 use Rattle.vms_elements.proofs.CountUp.{elements_laid}
@@ -31,7 +30,7 @@ use Rattle.vms_reading.proofs.SecondPass.{desc_rules}
 use Rattle.vms_reading.proofs.Numbers.{AreShort}
 use Rattle.vms_reading.proofs.AllCome.{are_short}
 use Rattle.vms_reading.proofs.FirstPass.{same_bytes}
-use Rattle.vms_reading.proofs.Rights.{IsRight, AreRight, AreBare}
+use Rattle.vms_reading.proofs.Rights.{AreRight, AreBare}
 use Rattle.vms_reading.proofs.ReadyParts.{AreGood}
 use Rattle.vms_reading.proofs.ReadySays.{elements_counted, bare_bytes, below_bytes, above_bytes, right_front, right_back, right_said, bare_have}
 
@@ -233,11 +232,13 @@ module _ (set : Set) (d : Device) (image : Image) (short_all : AreShort image.nu
       let others = subs_entries set d image 0 (own_cells set d) d.subs image.came in
       let start : 0 + length own ≡ own_cells set d = omega arith in
       let all : AreRight n 0 (own ++ sub_cells d.subs) (mine ++ later) =
-      record { right = λ c k lt e. let same : k ≡ c = omega arith in
-          record {
-            fits = subst (λ (i : ℕ). Rattle.vms_spec.specs.Images.FitsCell (get_or (device_cells set d) c no_cell) (get_or n i (pos 0))) (sym same) (ready.normal.cells.fits c lt);
-            absent = λ h. ready.normal.absent k (omega (arith, ready.normal.cells.long)) h ∙ ap (λ (i : ℕ). (get_or (device_cells set d) i no_cell).default) same;
-          } } in
+      record {
+        right = λ c k lt e. let same : k ≡ c = omega arith in
+            record {
+              fits = subst (λ (i : ℕ). Rattle.vms_spec.specs.Images.FitsCell (get_or (device_cells set d) c no_cell) (get_or n i (pos 0))) (sym same) (ready.normal.cells.fits c lt);
+              absent = λ h. ready.normal.absent k (omega (arith, ready.normal.cells.long)) h ∙ ap (λ (i : ℕ). (get_or (device_cells set d) i no_cell).default) same;
+            };
+      } in
       let rules = rules_front mine later ready.valid in
       let subs : SubsSay 0 (own_cells set d) d.subs image.came =
       subs_say 0 (own_cells set d) d.subs image.came ready.needed

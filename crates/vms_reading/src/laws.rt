@@ -1,21 +1,26 @@
 //! Each law is the contract of a function without a body. The statements stand in `specs/Laws.antt`.
-ghost use Rattle.vms_reading.specs.Laws.{FoundLaw, BadLineLaw, AcceptedLaw};
+ghost use Rattle.vms_reading.specs.Laws.{ReadLaw, OnlyLaw, AcceptedLaw, PrintedLaw};
 
-/// Where a text is refused at a line for its form, a number, a count or an absent number, the lines before it are those of some
-/// state of the set and fine, and that line may not stand where it does.
-#[tactic(auto, using(crate::proofs::Stated::found_holds))]
-pub fn found_law()
-    ensures { FoundLaw }
+/// What is read of a text, for every well-formed set, is what its lines mean: the machine and the ready images of which it is
+/// printed; else the first line that may not stand where it does, with its reason; else the first section or subsection that is
+/// bad, with its reason.
+#[tactic(auto, using(crate::proofs::Stated::read_holds))]
+pub fn read_law()
+    ensures { ReadLaw }
 {}
 
-/// A text whose lines up to one are those of some state of the set and fine, and whose next line may not stand there, is refused
-/// at that line and for its reason.
-pub fn bad_line_law()
-    ensures { BadLineLaw }
+/// Of what its lines mean nothing else is read: a text has one machine and one list of images, or one first bad line.
+pub fn only_law()
+    ensures { OnlyLaw }
 {}
 
-/// What is read of a text, for every well-formed set, is a machine of the set or none and images that may be written, and the text
-/// is the one that is printed of them.
+/// What is accepted under a well-formed set is a machine of the set or none and images that may be written, and the text is the
+/// one that is printed of them.
 pub fn accepted_law()
     ensures { AcceptedLaw }
+{}
+
+/// What is printed of a machine of the set or none and of images that may be written is read back as these.
+pub fn printed_law()
+    ensures { PrintedLaw }
 {}
