@@ -28,3 +28,4 @@ pub mod Stated
 pub mod FineNumbers
 pub mod Rights
 pub mod ReadyParts
+pub mod Rounds

@@ -1,5 +1,6 @@
-//! Each law is the contract of a function without a body. The statements stand in `specs/Laws.antt`.
+//! Each law is the contract of a function without a body. The statements stand in `specs/Laws.antt` and `specs/Rounds.antt`.
 ghost use Rattle.vms_reading.specs.Laws.{ReadLaw, OnlyLaw, AcceptedLaw, PrintedLaw};
+ghost use Rattle.vms_reading.specs.Rounds.{WrittenLaw, PackedLaw, ShownLaw};
 
 /// What is read of a text, for every well-formed set, is what its lines mean: the machine and the ready images of which it is
 /// printed; else the first line that may not stand where it does, with its reason; else the first section or subsection that is
@@ -23,4 +24,22 @@ pub fn accepted_law()
 /// What is printed of a machine of the set or none and of images that may be written is read back as these.
 pub fn printed_law()
     ensures { PrintedLaw }
+{}
+
+/// A stream that is written under a well-formed set of a machine of the set or none and of images that may be written, with a
+/// description that fits or none, is taken whole, with these and with nothing else.
+pub fn written_law()
+    ensures { WrittenLaw }
+{}
+
+/// The stream that is written of what a text says under a well-formed set, with a description that fits or none, shows as that
+/// text.
+pub fn packed_law()
+    ensures { PackedLaw }
+{}
+
+/// Of the text that a written stream shows as, its machine and its images are read again, so that the same stream is written of
+/// them.
+pub fn shown_law()
+    ensures { ShownLaw }
 {}
