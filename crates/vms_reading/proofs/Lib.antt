@@ -29,3 +29,4 @@ pub mod FineNumbers
 pub mod Rights
 pub mod ReadyParts
 pub mod Rounds
+pub mod FewLines

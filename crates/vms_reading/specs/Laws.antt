@@ -1,9 +1,11 @@
 -- What a values text says under a set, and the lines and elements of the set: the laws between the two, each as a statement.
-use Rattle.std.specs.Prelude.{◌≡◌, ℕ, List, Option}
-use Rattle.vms_spec.specs.Sets.{Set}
+use Rattle.std.specs.Prelude.{◌≡◌, ℕ, suc, ◌+◌, ◌≤◌, List, length, sum_by, Option}
+use Rattle.vms_spec.specs.declared.ValuesReason.{ValuesReason}
+use Rattle.vms_spec.specs.Sets.{Device, Set}
+use Rattle.vms_spec.specs.Layout.{device_cells}
 use Rattle.vms_spec.specs.Images.{Image}
 use Rattle.vms_spec.specs.Values.{values_text}
-use Rattle.vms_spec.specs.ValuesReading.{values_read, ValuesRead, Values}
+use Rattle.vms_spec.specs.ValuesReading.{values_read, ValuesRead, Values, Bad}
 use Rattle.vms_spec.specs.Streams.{AreReady}
 use Rattle.vms_laws.specs.Laws.{IsFit}
 use Rattle.vms_elements.specs.Reading.{IsMachineOf, IsText, Reads}
@@ -25,3 +27,17 @@ AcceptedLaw = (set : Set) (text : List ℕ) (machine : Option (List ℕ)) (image
 -- and what is printed of images that may be written
 abbrev pub PrintedLaw : Type 0
 PrintedLaw = (set : Set) (machine : Option (List ℕ)) (images : List Image) → IsFit set → IsMachineOf set machine → AreReady set images → values_read set (values_text set machine images) ≡ Values machine images
+
+-- ---- lines
+
+-- the lines of a device at most: of its section, its subsections and all its cells
+abbrev pub device_lines : Set → Device → ℕ
+device_lines set d = 1 + (length d.subs + length (device_cells set d))
+
+-- the lines of a text of a set at most, with that of a machine
+abbrev pub most_lines : Set → ℕ
+most_lines set = 1 + sum_by (device_lines set) set.devices
+
+-- a text of any length is refused at one of these lines, or at the one behind them
+abbrev pub LineLaw : Type 0
+LineLaw = (set : Set) (text : List ℕ) (line : ℕ) (reason : ValuesReason) → IsFit set → values_read set text ≡ Bad line reason → line ≤ suc (most_lines set)

@@ -1,5 +1,5 @@
 //! Each law is the contract of a function without a body. The statements stand in `specs/Laws.antt` and `specs/Rounds.antt`.
-ghost use Rattle.vms_reading.specs.Laws.{ReadLaw, OnlyLaw, AcceptedLaw, PrintedLaw};
+ghost use Rattle.vms_reading.specs.Laws.{ReadLaw, OnlyLaw, AcceptedLaw, PrintedLaw, LineLaw};
 ghost use Rattle.vms_reading.specs.Rounds.{WrittenLaw, PackedLaw, ShownLaw};
 
 /// What is read of a text, for every well-formed set, is what its lines mean: the machine and the ready images of which it is
@@ -24,6 +24,11 @@ pub fn accepted_law()
 /// What is printed of a machine of the set or none and of images that may be written is read back as these.
 pub fn printed_law()
     ensures { PrintedLaw }
+{}
+
+/// A text of any length is refused at a line that a text of the set may have, or at the one behind them.
+pub fn line_law()
+    ensures { LineLaw }
 {}
 
 /// A stream that is written under a well-formed set of a machine of the set or none and of images that may be written, with a
