@@ -6,13 +6,14 @@ ghost use Rattle.vms_image.specs.Typed.{default_at, IsImageOf};
 ghost use Rattle.vms_kinds.specs.Codes.{InRange, code};
 ghost use Rattle.vms_kinds.specs.declared.Kind.TheVariants.{U8};
 ghost use Rattle.vms_spec.specs.Layout.{device_cells};
-ghost use Rattle.vms_spots.specs.Spots.{raw_of};
+ghost use Rattle.vms_spots.specs.Spots.{raw_of, no_spot};
 
 use std::alloc::{AllocError, Global};
 use std::marker::Model;
 use vms_desc::{CellForm, Cells, DescSet};
 use vms_io::NoMemory;
-use vms_spots::Buffer;
+use vms_kinds::Kind;
+use vms_spots::{Buffer, Spot};
 
 /// The state of one device: the version of its section, the version of each subsection that came, and the
 /// numbers of its cells, each with its kind. The numbers stand in one buffer of bytes.
@@ -70,6 +71,13 @@ impl Image {
             && self.cells.spots() == set.spots(device)
     }
 
+    /// How many cells it has.
+    pub fn len(&self) -> u32
+        ensures { result ≡ length self.now.numbers }
+    {
+        self.cells.len()
+    }
+
     /// The number of a cell.
     pub fn get(&self, cell: u32) -> i128
         requires { cell < length self.now.numbers }
@@ -85,6 +93,14 @@ impl Image {
         ensures { result.now ≡ code (get_or self.now.kinds cell U8) (get_or self.now.numbers cell (pos 0)) }
     {
         self.cells.code(cell)
+    }
+
+    /// Tells whether a number is in the range of a cell's kind.
+    pub fn fits(&self, cell: u32, value: i128) -> bool
+        requires { cell < length self.now.numbers }
+        ensures { IsTrue result ↔ InRange (get_or self.now.kinds cell U8) value }
+    {
+        kind_at(self.cells.spots(), cell).in_range(value)
     }
 
     /// Puts a number of its kind into a cell; all else stays.
@@ -140,6 +156,13 @@ impl Cells for Image {
     fn number(&self, cell: u32) -> i128 {
         self.get(cell)
     }
+}
+
+fn kind_at(spots: &[Spot], cell: u32) -> Kind
+    requires { cell < length spots.now }
+    ensures { result ≡ (get_or spots.now cell no_spot).kind }
+{
+    spots[cell as usize].kind
 }
 
 // No subsection of so many has come.
