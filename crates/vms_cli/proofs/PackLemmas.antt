@@ -1,5 +1,5 @@
 -- From what a reading and a write say to how `pack` ends.
-use Rattle.std.proofs.Common.{◌≡◌, ℕ, zero, suc, ◌<◌, List, [], ◌∷◌, length, get_or, Option, Some, None, Ok, Err, refl, sym, ap, ◌∙◌, subst, arith}
+use Rattle.std.proofs.Common.{◌≡◌, ℕ, zero, suc, ◌<◌, List, [], ◌∷◌, length, get_or, map, Option, Some, None, Ok, Err, refl, sym, ap, ◌∙◌, subst, arith}
 use Rattle.std.specs.Option.{ForSome}
 use Rattle.std.specs.Prelude.{string_bytes}
 use Rattle.std.specs.declared.string.String.{String}
@@ -13,6 +13,7 @@ use Rattle.vms_spec.specs.Streams.{AreReady}
 use Rattle.vms_laws.specs.Laws.{IsFit}
 use Rattle.vms_spec.specs.ValuesReading.{ValuesRead, Values, Bad, values_read}
 use Rattle.vms_spec.specs.declared.ValuesReason.{ValuesReason}
+use Rattle.vms_image.specs.Typed.{state_of}
 use Rattle.vms_values.specs.Printing.{machine_of}
 use Rattle.vms_values.specs.Reading.{ReadsAs}
 use Rattle.vms_values.specs.declared.fault.Values.{Values as Given}
@@ -30,13 +31,13 @@ use Rattle.vms_cli.specs.Causes.{WriteCause}
 use Rattle.vms_cli.specs.Pack.{Texts, described_stream, fetched_texts, packed, packed_by, packed_texts, packs}
 use Rattle.vms_cli.specs.ValuesLines.{values_line}
 
-ready_of : (set : Set) → IsFit set → (text : List ℕ) (r : ValuesRead) (v : Given) → values_read set text ≡ r → ReadsAs set r (Ok v) → AreReady set v.images.items
+ready_of : (set : Set) → IsFit set → (text : List ℕ) (r : ValuesRead) (v : Given) → values_read set text ≡ r → ReadsAs set r (Ok v) → AreReady set (map state_of v.images.items)
 ready_of set fit text (Values machine images) v e reads =
     subst (λ (l : List Image). AreReady set l) (sym reads.0) (accepted_holds set text machine images fit e).ready
 ready_of set fit text (Bad line reason) v e reads = absurd reads
 
 -- the images of a text that was read are ready
-pub read_ready : (set : Set) → IsFit set → (text : List ℕ) (v : Given) → ReadsAs set (values_read set text) (Ok v) → AreReady set v.images.items
+pub read_ready : (set : Set) → IsFit set → (text : List ℕ) (v : Given) → ReadsAs set (values_read set text) (Ok v) → AreReady set (map state_of v.images.items)
 read_ready set fit text v reads = ready_of set fit text (values_read set text) v refl reads
 
 at_is : {X : Type 0} (xs : List X) (k : ℕ) (d : X) → k < length xs → at xs k ≡ Some (get_or xs k d)
@@ -51,10 +52,10 @@ named set (Some m) h = at_is set.machines m [] (h m refl)
 
 -- a text that was read, and a write of its stream
 read_by : (set : Set) (r : ValuesRead) (v : Given) (o o' : Outlet) (e : Ending) → ReadsAs set r (Ok v)
-    → WrittenAs (described_stream set (at_option set.machines v.machine) v.images.items) o o' e → TextEnds (packed_by set r) o o' e
+    → WrittenAs (described_stream set (at_option set.machines v.machine) (map state_of v.images.items)) o o' e → TextEnds (packed_by set r) o o' e
 read_by set (Values machine images) v o o' e reads w =
-    let stream : described_stream set (at_option set.machines v.machine) v.images.items ≡ described_stream set machine images =
-    ap (λ (m : Option (List ℕ)). described_stream set m v.images.items) (named set v.machine reads.2 ∙ reads.1)
+    let stream : described_stream set (at_option set.machines v.machine) (map state_of v.images.items) ≡ described_stream set machine images =
+    ap (λ (m : Option (List ℕ)). described_stream set m (map state_of v.images.items)) (named set v.machine reads.2 ∙ reads.1)
     ∙ ap (λ (l : List Image). described_stream set machine l) reads.0 in
     subst (λ (l : List ℕ). WrittenAs l o o' e) stream w
 read_by set (Bad line reason) v o o' e reads w = absurd reads
@@ -68,7 +69,7 @@ bad_by set (Bad m reason) l why line o o' reads said =
 
 module _ (set : Set) (text : List ℕ) (o o' : Outlet) where
   pub packs_read : (v : Given) (e : Ending) → ReadsAs set (values_read set text) (Ok v)
-      → WrittenAs (described_stream set (at_option set.machines v.machine) v.images.items) o o' e → TextEnds (packed set text) o o' e
+      → WrittenAs (described_stream set (at_option set.machines v.machine) (map state_of v.images.items)) o o' e → TextEnds (packed set text) o o' e
   packs_read v e reads w = read_by set (values_read set text) v o o' e reads w
 
   pub packs_bad : (l : ℕ) (why : ValuesReason) (line : String Global) → ReadsAs set (values_read set text) (Err (faults.Bad l why))

@@ -1,9 +1,10 @@
 // The command `pack`: the stream of a values text on the shelf.
-ghost use Rattle.std.specs.Prelude.{◌≡◌, ◌<◌, ◌≤◌, ◌^◌, length, IfSome};
+ghost use Rattle.std.specs.Prelude.{◌≡◌, ◌<◌, ◌≤◌, ◌^◌, length, map, IfSome};
 ghost use Rattle.vms_io.specs.Told.{Intake, outlet, stock};
 ghost use Rattle.vms_spec.specs.Lists.{at_option};
 ghost use Rattle.vms_spec.specs.Streams.{AreReady};
 ghost use Rattle.vms_desc.specs.Described.{described};
+ghost use Rattle.vms_image.specs.Typed.{AreImagesOf, state_of};
 ghost use Rattle.vms_outcome.specs.Asks.{set_asked};
 ghost use Rattle.vms_outcome.specs.Endings.{EndsAs};
 ghost use Rattle.vms_outcome.specs.Fetching.{longest_file};
@@ -89,7 +90,8 @@ fn pack_text<O: Sink>(alloc: Global, set: &DescSet, text: &[u8], out: &mut O) ->
 // The description is made before the first byte is written.
 fn write<O: Sink>(alloc: Global, set: &DescSet, values: &Values, out: &mut O) -> Ending
     requires machine { IfSome values.now.machine (λ m. m < length (described set.now).machines) }
-    requires ready { AreReady (described set.now) values.now.images.items }
+    requires of { AreImagesOf (described set.now) values.now.images.items }
+    requires ready { AreReady (described set.now) (map state_of values.now.images.items) }
     ensures written { let set = described set.now in
         let machine = at_option set.machines values.now.machine in
         WrittenAs (described_stream set machine values.now.images.items)
