@@ -1,5 +1,5 @@
 -- The laws of reading, as they are stated.
-use Rattle.std.proofs.Common.{◌≡◌, inl, inr, ℕ, suc, ◌+◌, length, Bool, true, false, not, List, [], ◌∷◌, Option, Some, None, sym, ap, ◌∙◌, subst}
+use Rattle.std.proofs.Common.{◌≡◌, inl, inr, ℕ, suc, ◌+◌, length, Bool, true, false, not, List, [], ◌∷◌, Option, Some, None, refl, sym, ap, ◌∙◌, subst}
 use Rattle.vms_spec.specs.declared.ValuesReason.{ValuesReason}
 use Rattle.vms_spec.specs.declared.ValuesReason.TheVariants as reasons
 use Rattle.vms_spec.specs.Sets.{Sub, Device, Set}
@@ -7,21 +7,25 @@ use Rattle.vms_spec.specs.Layout.{desc_cells, struct_cells}
 use Rattle.vms_spec.specs.Images.{Image, own_slots, own_cells}
 use Rattle.vms_spec.specs.Readiness.{rules_are_true}
 use Rattle.vms_spec.specs.Spelling.{first_line}
-use Rattle.vms_spec.specs.ValuesReading.{BadLine, ReadDevice, ValuesRead, Values, Bad, values_read, machine_named, answer_of, judge_devices, judge_device, judge_subs, or_bad, if_bad, sub_fails, is_said_well}
+use Rattle.vms_spec.specs.ValuesReading.{BadLine, ReadDevice, ValuesRead, Values, Bad, values_read, answer_of, judge_devices, judge_device, judge_subs, or_bad, if_bad, sub_fails, is_said_well}
 use Rattle.vms_laws.specs.Laws.{IsFit}
 use Rattle.vms_laws.proofs.WellFormedLaws.{well_good}
 use Rattle.vms_elements.specs.Lines.{text_of}
-use Rattle.vms_elements.specs.Reading.{IsMachineOf, IsBadLine}
+use Rattle.vms_elements.specs.Entries.{entries}
+use Rattle.vms_elements.specs.Reading.{IsText, Says, IsBadLine}
 use Rattle.vms_elements.proofs.EntryLines.{entry_law}
 use Rattle.vms_elements.proofs.LinesOf.{text_is}
-use Rattle.vms_reading.specs.Laws.{IsOfLine, FoundLaw, BadLineLaw, IsPrinted, PrintedBackLaw}
+use Rattle.vms_reading.specs.Laws.{IsOfLine, FoundLaw, BadLineLaw, AcceptedLaw}
+use Rattle.vms_reading.proofs.ReadyParts.{AreGood}
+use Rattle.vms_reading.proofs.SecondPass.{parts_from}
+use Rattle.vms_reading.proofs.Accepted.{none_says, answer_by, none_answers, none_good, says_ready}
 use Rattle.vms_reading.proofs.GoodDevices.{good_devices}
-use Rattle.vms_reading.proofs.BadLines.{bad_line, fine_text}
+use Rattle.vms_reading.proofs.BadLines.{bad_line}
 use Rattle.vms_reading.proofs.AllCome.{images_of}
 use Rattle.vms_reading.proofs.FirstPass.{FirstPass, first_pass}
 use Rattle.vms_reading.proofs.Back.{bad_back}
 use Rattle.vms_reading.proofs.CleanNames.{clean_entries}
-use Rattle.vms_reading.proofs.CleanSets.{clean_structs, clean_devices, clean_machine, named_is}
+use Rattle.vms_reading.proofs.CleanSets.{clean_structs, clean_devices, clean_machine}
 
 its_first_pass : (set : Set) (text : List ℕ) → IsFit set → FirstPass set text (values_read set text)
 its_first_pass set text fit = let good = well_good set fit.well fit.heads in first_pass set text good.structs (good_devices set good)
@@ -97,7 +101,7 @@ found set text line reason v first e (inr n) =
 pub found_holds : FoundLaw
 found_holds set text line reason fit first e = found set text line reason (values_read set text) first e (its_first_pass set text fit)
 
--- ---- what is read prints as the text
+-- ---- what is read
 
 record Same (machine machine' : Option (List ℕ)) (images images' : List Image) : Type 0 where
   machines : machine ≡ machine'
@@ -113,30 +117,28 @@ values_same machine machine' images images' e = record { machines = ap machine_o
   states_of (Values m i) = i
   states_of (Bad n r) = []
 
-answer_same : (machine machine' : Option (List ℕ)) (read : List ReadDevice) (images : List Image) (o : Option BadLine) → answer_of machine read o ≡ Values machine' images → Same machine machine' (images_of read) images
-answer_same machine machine' read images (Some b) e = cc
-answer_same machine machine' read images None e = values_same machine machine' (images_of read) images e
-
-named_machine : (set : Set) (text : List ℕ) (machine : Option (List ℕ)) → machine ≡ machine_named set.machines (first_line text) → IsMachineOf set machine
-named_machine set text None e = tt
-named_machine set text (Some name) e = named_is set.machines (first_line text) name (sym e)
-
-printed_back : (set : Set) (text : List ℕ) (machine : Option (List ℕ)) (images : List Image) (v : ValuesRead) → v ≡ Values machine images → FirstPass set text v → IsPrinted set text machine images
-printed_back set text machine images v e (inl b) = no (sym b.is ∙ e) where
-  no : Bad b.line b.reason ≡ Values machine images → IsPrinted set text machine images
-  no f = cc
-printed_back set text machine images v e (inr n) =
-    let f = n.first in
-    let fine = fine_text set text n.machine n.all f n.ends in
-    let same = answer_same n.machine machine n.all.devices images (judge_devices set set.devices n.all.devices) (sym n.is ∙ e) in
-    let mine : IsPrinted set text n.machine (images_of n.all.devices) =
+text_of_ready : (set : Set) (text : List ℕ) (machine : Option (List ℕ)) (images : List Image) → IsFit set → Says set text machine images → AreGood set (entries set machine images) → IsText set text machine images
+text_of_ready set text machine images fit says good =
     record {
-      named = named_machine set text n.machine f.named;
-      shaped = f.shaped;
-      fine = fine.0;
-      printed = fine.1 ∙ ap text_of (entry_law set n.machine (images_of n.all.devices)) ∙ text_is set n.machine (images_of n.all.devices);
-    } in
-    subst (λ (m : Option (List ℕ)). IsPrinted set text m images) same.machines (subst (λ (i : List Image). IsPrinted set text n.machine i) same.states mine)
+      named = says.named;
+      ready = says_ready set fit.well (well_good set fit.well fit.heads) text machine images says good;
+      printed = says.printed ∙ ap text_of (entry_law set machine images) ∙ text_is set machine images;
+    }
 
-pub printed_back_holds : PrintedBackLaw
-printed_back_holds set text machine images fit e = printed_back set text machine images (values_read set text) e (its_first_pass set text fit)
+by_parts : (set : Set) (text : List ℕ) (machine machine' : Option (List ℕ)) (images images' : List Image) (o : Option BadLine) → IsFit set → Says set text machine images → parts_from set 1 (entries set machine images) ≡ o
+    → answer_by machine images o ≡ Values machine' images' → IsText set text machine' images'
+by_parts set text machine machine' images images' (Some b) fit says e f = cc
+by_parts set text machine machine' images images' None fit says e f =
+    let same = values_same machine machine' images images' f in
+    let mine = text_of_ready set text machine images fit says (none_good set 1 (entries set machine images) e) in
+    subst (λ (m : Option (List ℕ)). IsText set text m images') same.machines (subst (λ (i : List Image). IsText set text machine i) same.states mine)
+
+accepted : (set : Set) (text : List ℕ) (machine : Option (List ℕ)) (images : List Image) (v : ValuesRead) → IsFit set → v ≡ Values machine images → FirstPass set text v → IsText set text machine images
+accepted set text machine images v fit e (inl b) = no (sym b.is ∙ e) where
+  no : Bad b.line b.reason ≡ Values machine images → IsText set text machine images
+  no f = cc
+accepted set text machine images v fit e (inr n) =
+    by_parts set text n.machine machine (images_of n.all.devices) images (parts_from set 1 (entries set n.machine (images_of n.all.devices))) fit (none_says set text v n) refl (sym (none_answers set text v n) ∙ e)
+
+pub accepted_holds : AcceptedLaw
+accepted_holds set text machine images fit e = accepted set text machine images (values_read set text) fit e (its_first_pass set text fit)

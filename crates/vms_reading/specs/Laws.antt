@@ -4,11 +4,9 @@ use Rattle.vms_spec.specs.declared.ValuesReason.{ValuesReason}
 use Rattle.vms_spec.specs.declared.ValuesReason.TheVariants.{Form, Number, Count, Absent, Invalid, Needed}
 use Rattle.vms_spec.specs.Sets.{Set}
 use Rattle.vms_spec.specs.Images.{Image}
-use Rattle.vms_spec.specs.Values.{values_text}
 use Rattle.vms_spec.specs.ValuesReading.{values_read, Values, Bad}
 use Rattle.vms_laws.specs.Laws.{IsFit}
-use Rattle.vms_elements.specs.Entries.{entries}
-use Rattle.vms_elements.specs.Reading.{IsMachineOf, AreShaped, AreFine, IsBadLine}
+use Rattle.vms_elements.specs.Reading.{IsText, IsBadLine}
 
 -- ---- the first pass
 
@@ -31,13 +29,6 @@ BadLineLaw = (set : Set) (text : List ℕ) (line : ℕ) (reason : ValuesReason) 
 
 -- ---- what is read
 
--- the text that is printed of a machine of the set, or none, and of a state of the set each line of which is fine
-pub record IsPrinted (set : Set) (text : List ℕ) (machine : Option (List ℕ)) (images : List Image) : Type 0 where
-  pub named : IsMachineOf set machine
-  pub shaped : AreShaped set set.devices images
-  pub fine : AreFine (entries set machine images)
-  pub printed : text ≡ values_text set machine images
-
--- what is read of a text prints as that text
-abbrev pub PrintedBackLaw : Type 0
-PrintedBackLaw = (set : Set) (text : List ℕ) (machine : Option (List ℕ)) (images : List Image) → IsFit set → values_read set text ≡ Values machine images → IsPrinted set text machine images
+-- what is read of a text is a machine of the set or none and images that may be written, and it prints as that text
+abbrev pub AcceptedLaw : Type 0
+AcceptedLaw = (set : Set) (text : List ℕ) (machine : Option (List ℕ)) (images : List Image) → IsFit set → values_read set text ≡ Values machine images → IsText set text machine images
