@@ -23,7 +23,10 @@ pub mod Accepted
 pub mod Unique
 pub mod BadParts
 pub mod ReadySays
+pub mod ReadyBack
 pub mod Stated
 pub mod FineNumbers
 pub mod Rights
 pub mod ReadyParts
+pub mod Rounds
+pub mod FewLines

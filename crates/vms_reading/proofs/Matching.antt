@@ -1,15 +1,14 @@
 -- Two states that have the same lines, and their defaults where there is none, are the same.
-use Rattle.std.proofs.Common.{◌≡◌, ℕ, zero, suc, ◌+◌, ◌<◌, Bool, true, false, ◌||◌, ◌==◌, List, [], ◌∷◌, ◌++◌, length, get_or, map, Option, Some, None, ℤ, pos, refl, sym, ap, ◌∙◌, subst, arith, codes}
+use Rattle.std.proofs.Common.{◌≡◌, ℕ, suc, ◌+◌, ◌<◌, Bool, true, false, ◌||◌, ◌==◌, List, [], ◌∷◌, ◌++◌, length, get_or, map, Option, Some, None, ℤ, pos, refl, sym, ap, ◌∙◌, subst, arith, codes}
 use Rattle.std.proofs.lemmas.Bool.{eqb-true}
-use Rattle.std.specs.Fmt.{decimal}
 use Rattle.vms_spec.specs.Sets.{Sub, Device, Set}
-use Rattle.vms_spec.specs.Layout.{desc_cells, struct_cells, device_cells}
+use Rattle.vms_spec.specs.Layout.{desc_cells, struct_cells}
 use Rattle.vms_spec.specs.Images.{Image, own_cells}
 use Rattle.vms_spec.specs.Values.{version_text}
 use Rattle.vms_elements.specs.Elements.{Element}
 use Rattle.vms_elements.specs.Parts.{elements_in}
 use Rattle.vms_elements.specs.Lines.{printed, sub_line}
-use Rattle.vms_elements.specs.Entries.{Entry, OfMachine, OfSection, OfSub, OfNumber, number_entries, subs_entries, device_entries, devices_entries, entries, entry_line}
+use Rattle.vms_elements.specs.Entries.{Entry, OfMachine, OfSection, OfSub, OfNumber, number_entries, subs_entries, devices_entries, entry_line}
 use Rattle.vms_elements.specs.Reading.{is_of_cell, has_line, IsShaped, AreShaped, AreUnsaid, AllUnsaid, IsAtVersion, AreAtVersions}
 use Rattle.vms_reading.specs.Taken.{Demand, ForMachine, ForSection, ForSub, ForNumber, demand_of, Taken, lines_of, Follows, Along}
 use Rattle.vms_reading.proofs.Numbers.{AreShort, of_numbers, cancel, number_same}

@@ -1,11 +1,11 @@
 -- What a text says, if no line is bad, is what is read of it.
-use Rattle.std.proofs.Common.{◌≡◌, inl, inr, ℕ, List, [], ◌∷◌, ◌++◌, length, map, true, Option, Some, None, refl, sym, ap, ◌∙◌, subst, codes, append_assoc, append-nil}
+use Rattle.std.proofs.Common.{◌≡◌, inl, inr, ℕ, List, [], ◌∷◌, ◌++◌, map, true, Option, Some, None, refl, sym, ap, ◌∙◌, subst, codes, append-nil}
 use Rattle.vms_spec.specs.declared.ValuesReason.{ValuesReason}
 use Rattle.vms_spec.specs.Sets.{Device, Set}
 use Rattle.vms_spec.specs.Images.{Image}
 use Rattle.vms_spec.specs.Spelling.{first_line}
 use Rattle.vms_spec.specs.Streams.{is_one_of}
-use Rattle.vms_spec.specs.ValuesReading.{BadLine, ValuesRead, machine_named}
+use Rattle.vms_spec.specs.ValuesReading.{ValuesRead, machine_named}
 use Rattle.vms_spec.specs.WellFormed.{WellFormed}
 use Rattle.vms_elements.specs.Lines.{text_of, section_line}
 use Rattle.vms_elements.specs.Entries.{Entry, devices_entries, entries, entry_line}
