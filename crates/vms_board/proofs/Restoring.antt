@@ -1,5 +1,5 @@
 -- What a load brings to a board.
-use Rattle.std.proofs.Common.{◌≡◌, inl, inr, ℕ, zero, suc, ◌+◌, ◌-◌, ◌<◌, ◌≤◌, List, [], ◌∷◌, drop, length, get_or, map, Option, Some, None, is_some, IsTrue, IsSome, IfSome, Ok, Err, Result, ℤ, refl, sym, ap, ◌∙◌, subst, arith}
+use Rattle.std.proofs.Common.{◌≡◌, inl, inr, ℕ, zero, suc, ◌-◌, ◌<◌, ◌≤◌, List, [], ◌∷◌, length, get_or, map, Option, Some, None, IsSome, IfSome, Ok, Err, Result, refl, sym, ap, ◌∙◌, subst, arith}
 use Rattle.std.proofs.lemmas.Bool.{leb-true}
 use Rattle.dev_base.specs.Levels.{IsLevel}
 use Rattle.dev_base.specs.declared.limits.TheConstants.{NEWEST}
@@ -13,14 +13,13 @@ use Rattle.vms_frames.specs.declared.fault.Refusal.{Refusal}
 use Rattle.vms_load.specs.Loads.{Loads}
 use Rattle.vms_load.specs.Staging.{accepted_of, name_of, AreShaped, no_image}
 use Rattle.vms_load.specs.declared.fault.LoadFault.TheVariants as loads
-use Rattle.vms_spec.specs.Images.{Image, IsNormal}
+use Rattle.vms_spec.specs.Images.{Image}
 use Rattle.vms_spec.specs.Layout.{device_cells, first}
-use Rattle.vms_spec.specs.Lists.{at}
-use Rattle.vms_spec.specs.Sets.{Device, Set}
+use Rattle.vms_spec.specs.Sets.{Set}
 use Rattle.vms_units.specs.Faults.{Fault}
 use Rattle.vms_units.specs.Streams.{Takes}
 use Rattle.vms_board.proofs.TakenImages.{taken_kept}
-use Rattle.vms_board.specs.Comes.{ComesTo, HasCause, GivesWithin, Takings, IsUnfit}
+use Rattle.vms_board.specs.Comes.{ComesTo, HasCause, Takings, IsUnfit}
 use Rattle.vms_board.specs.Restoring.{TakesBoard}
 use Rattle.vms_board.specs.Saving.{machine_of}
 use Rattle.vms_board.specs.Standing.{Standing}

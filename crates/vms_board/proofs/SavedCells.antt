@@ -1,5 +1,5 @@
 -- The cells of a board that is saved, and its machine, under the shipped sets.
-use Rattle.std.proofs.Common.{◌≡◌, ℕ, zero, suc, ◌+◌, ◌-◌, ◌<◌, ◌≤◌, List, [], ◌∷◌, length, get_or, Option, Some, Result, Ok, Err, ℤ, refl, sym, ap, ◌∙◌, subst, arith}
+use Rattle.std.proofs.Common.{◌≡◌, ℕ, zero, suc, ◌-◌, ◌<◌, ◌≤◌, List, [], ◌∷◌, length, get_or, Option, Some, Result, Ok, Err, ℤ, refl, sym, ap, ◌∙◌, subst, arith}
 use Rattle.std.specs.Io.KnownBytes.{Appends}
 use Rattle.dev_board.specs.Saved.{saved, MaySaveUnder}
 use Rattle.dev_board.specs.Sound.{IsSound}
@@ -12,7 +12,7 @@ use Rattle.vms_desc.specs.Formed.{shipped_set}
 use Rattle.vms_check.proofs.ListLaws.{at_get}
 use Rattle.vms_spec.specs.Images.{Image}
 use Rattle.vms_spec.specs.Layout.{device_cells}
-use Rattle.vms_spec.specs.Lists.{at, at_option}
+use Rattle.vms_spec.specs.Lists.{at}
 use Rattle.vms_spec.specs.Sets.{Set}
 use Rattle.vms_selfdesc.specs.Tree.{described_text}
 use Rattle.vms_spec.specs.Streams.{written, AreReady}
@@ -96,12 +96,12 @@ pub saved_bytes : (s level : ℕ) (m : State) (set : Set) (made listed sent : Li
 unfolding saved_stream
 saved_bytes s level m set made listed sent told text machine same may named e f g h t u =
     let name : at (shipped_set s).machines machine ≡ Some (machine_of m.level) =
-        named s (subst (λ (n : ℕ). MaySaveUnder n s) (sym same) may) ∙ ap (λ (n : ℕ). Some (machine_of n)) same in
+    named s (subst (λ (n : ℕ). MaySaveUnder n s) (sym same) may) ∙ ap (λ (n : ℕ). Some (machine_of n)) same in
     ap (λ (x : Set). written x (at x.machines machine) sent (Some text)) e
     ∙ ap (λ (o : Option (List ℕ)). written (shipped_set s) o sent (Some text)) name
     ∙ ap (λ (l : List Image). written (shipped_set s) (Some (machine_of m.level)) l (Some text)) (h ∙ f)
     ∙ ap (λ (x : List ℕ). written (shipped_set s) (Some (machine_of m.level)) (saved_images s m) (Some x))
-        (u ∙ t ∙ ap (λ (x : Set). described_text x listed) e ∙ ap (λ (l : List Image). described_text (shipped_set s) l) (g ∙ f))
+    (u ∙ t ∙ ap (λ (x : Set). described_text x listed) e ∙ ap (λ (l : List Image). described_text (shipped_set s) l) (g ∙ f))
 
 pub saves_all : (bytes found : List ℕ) (old new : Outlet) → found ≡ bytes → Appends old.written new.written found → Saves bytes old new (Ok tt)
 saves_all bytes found old new e h = subst (λ (l : List ℕ). Appends old.written new.written l) e h

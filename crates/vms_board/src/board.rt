@@ -48,6 +48,7 @@ impl Board {
         requires { IsLevel level }
         ensures state { IfOk result (λ board. board.state ≡ power_on level) }
         ensures taken { IfOk result (λ board. board.taken ≡ 0) }
+        ensures sound { IfOk result (λ board. IsSound board.state) }
     {
         let set = DescSet::shipped(alloc, NEWEST)?;
         Ok(Board {
@@ -97,7 +98,8 @@ impl Board {
 pub(crate) fn machine(level: u8) -> u32
     requires { IsLevel level }
     ensures number { result ≡ level - 1 }
-    ensures named { (s : ℕ) → MaySaveUnder level s → at (shipped_set s).machines result ≡ Some (machine_of level) }
+    ensures named { (s : ℕ) → MaySaveUnder level s
+        → at (shipped_set s).machines result ≡ Some (machine_of level) }
     ensures below { (s : ℕ) → MaySaveUnder level s → result < length (shipped_set s).machines }
 {
     u32::from(level - 1)

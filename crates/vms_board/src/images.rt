@@ -32,12 +32,7 @@ pub(crate) fn images(
 }
 
 // The image of a device with these numbers.
-fn image(
-    alloc: Global,
-    set: &DescSet,
-    device: u32,
-    numbers: &[i128],
-) -> Result<Image, NoMemory>
+fn image(alloc: Global, set: &DescSet, device: u32, numbers: &[i128]) -> Result<Image, NoMemory>
     requires device { device < length (described set.now).devices }
     requires long { let d = device_at (described set.now) device in
         length numbers.now ≡ length (device_cells (described set.now) d) }

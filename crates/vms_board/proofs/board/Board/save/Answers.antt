@@ -12,7 +12,7 @@ returns-in_err-write_stream-clause-content g c =
     let m = c.args.self.now.state in
     let own = c.level.ensures ∙ ap (λ (b : Standing). b.state.level) c.self.view_is in
     let bytes = saved_bytes c.args.set c.level.result m (described c.in_ok-shipped.shipped) c.in_ok-images.images.items c.deref.result.now c.deref-2.result.now c.in_ok-text.text.bytes.items c.deref-3.result.now c.machine-machine.result
-        own c.requires c.machine-machine.ensures.named c.in_ok-shipped.ensures c.in_ok-images.ensures.images c.deref.ensures.value c.deref-2.ensures.value c.in_ok-text.ensures.text c.deref-3.ensures in
+    own c.requires c.machine-machine.ensures.named c.in_ok-shipped.ensures c.in_ok-images.ensures.images c.deref.ensures.value c.deref-2.ensures.value c.in_ok-text.ensures.text c.deref-3.ensures in
     let p = err_from_is_err_and c.from_residual-in_err-write_stream.result c.from_residual-in_err-write_stream.ensures.1 in
     saves_some (saved_stream c.args.set m) _ (outlet g.K.Sink c.args.sink.now) (outlet g.K.Sink c.write_stream.new.sink) c.from_residual-in_err-write_stream.result bytes (p.1 ∙ ap Err p.2)
     c.in_err-write_stream.ensures.err c.in_err-write_stream.ensures.cause.failed
@@ -22,5 +22,5 @@ returns-clause-content g c =
     let m = c.args.self.now.state in
     let own = c.level.ensures ∙ ap (λ (b : Standing). b.state.level) c.self.view_is in
     let bytes = saved_bytes c.args.set c.level.result m (described c.in_ok-shipped.shipped) c.in_ok-images.images.items c.deref.result.now c.deref-2.result.now c.in_ok-text.text.bytes.items c.deref-3.result.now c.machine-machine.result
-        own c.requires c.machine-machine.ensures.named c.in_ok-shipped.ensures c.in_ok-images.ensures.images c.deref.ensures.value c.deref-2.ensures.value c.in_ok-text.ensures.text c.deref-3.ensures in
+    own c.requires c.machine-machine.ensures.named c.in_ok-shipped.ensures c.in_ok-images.ensures.images c.deref.ensures.value c.deref-2.ensures.value c.in_ok-text.ensures.text c.deref-3.ensures in
     saves_all (saved_stream c.args.set m) _ (outlet g.K.Sink c.args.sink.now) (outlet g.K.Sink c.write_stream.new.sink) bytes c.in_ok-write_stream.ensures.ok

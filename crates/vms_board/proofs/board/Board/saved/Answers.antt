@@ -1,6 +1,5 @@
 use Rattle.std.proofs.Common.{ap}
 use Rattle.std.proofs.lemmas.Result.{IfOk-weaker}
-use Rattle.dev_board.specs.State.{State}
 use Rattle.vms_desc.specs.Described.{described}
 use Rattle.vms_board.specs.Standing.{Standing}
 use Rattle.vms_board.proofs.SavedCells.{cells_of, images_are, ready_are, may_of}
@@ -19,5 +18,5 @@ returns-clause-ready c =
     let may = may_of c.args.set c.args.self.now.state m (ap (λ (b : Standing). b.state) c.self.view_is) c.requires.may in
     IfOk-weaker c.images.result _ _
     (λ images made. ready_are c.args.set m set images.items c.self.invariant.sound may c.requires.shipped
-        (images_are c.args.set m set c.cells.result images.items c.requires.shipped c.cells.ensures made))
+    (images_are c.args.set m set c.cells.result images.items c.requires.shipped c.cells.ensures made))
     c.images.ensures
