@@ -80,7 +80,6 @@ fn show_stream<I: Source, O: Sink>(
             Err(_) => Ending::NoMemory,
         },
         Err(LoadFault::ReadFault) => Ending::ReadFault,
-        Err(LoadFault::NoMemory) => Ending::NoMemory,
     }
 }
 

@@ -4,6 +4,7 @@ ghost use Rattle.vms_kinds.specs.Codes.{width};
 ghost use Rattle.vms_frames.specs.Stands.{Stand};
 ghost use Rattle.vms_frames.specs.Found.{step_long, is_configuration};
 ghost use Rattle.vms_frames.specs.Calls.{AnswersHead, ReadsBetween, ReadsNumber, ReadsFiller, AnswersBehind, ReadsEnd, Holds, tail_of, step_given, after_long, after_given};
+ghost use Rattle.vms_frames.specs.Heard.{HearsHead, HearsBetween, HearsNumber, HearsFiller, HearsBehind, HearsEnding};
 ghost use Rattle.vms_frames.specs.Answers.{HasCause, GivesWithin, GivesPast};
 
 use crate::fill::pass;
@@ -64,6 +65,7 @@ impl Cursor {
         ensures held { OnOk result (self.new.held ≡ None) }
         ensures given { GivesWithin (λ _. 8) 8 (S.given source.old) (S.given source.new) result }
         ensures cause { HasCause (S.faults source.old) (S.faults source.new) result }
+        ensures heard { HearsHead self.old.at (S.given source.old) (S.given source.new) result }
         ensures promise { S.promise source.new ≡ S.promise source.old }
     {
         magic(source, self.at)?;
@@ -82,6 +84,7 @@ impl Cursor {
         ensures held { OnOk result (self.new.held ≡ None) }
         ensures given { GivesWithin (step_given self.old.held) 269 (S.given source.old) (S.given source.new) result }
         ensures cause { HasCause (S.faults source.old) (S.faults source.new) result }
+        ensures heard { HearsBetween place self.old.held self.old.at (S.given source.old) (S.given source.new) result }
         ensures promise { S.promise source.new ≡ S.promise source.old }
         ensures configuration { IfOk result (λ step. is_configuration step ≡ true → place ≡ Between.First) }
     {
@@ -100,6 +103,7 @@ impl Cursor {
         ensures held { OnOk result (self.new.held ≡ None) }
         ensures given { GivesWithin (λ _. width kind) (width kind) (S.given source.old) (S.given source.new) result }
         ensures cause { HasCause (S.faults source.old) (S.faults source.new) result }
+        ensures heard { HearsNumber kind self.old.at (S.given source.old) (S.given source.new) result }
         ensures promise { S.promise source.new ≡ S.promise source.old }
     {
         let value = number(source, self.at, kind)?;
@@ -116,6 +120,7 @@ impl Cursor {
         ensures held { OnOk result (self.new.held ≡ None) }
         ensures given { GivesWithin (λ _. bytes) bytes (S.given source.old) (S.given source.new) result }
         ensures cause { HasCause (S.faults source.old) (S.faults source.new) result }
+        ensures heard { HearsFiller bytes self.old.at (S.given source.old) (S.given source.new) result }
         ensures promise { S.promise source.new ≡ S.promise source.old }
     {
         pass(source, self.at, bytes as usize)?;
@@ -140,6 +145,7 @@ impl Cursor {
         ensures held { IfOk result (λ after. Holds tail after self.new.held) }
         ensures given { GivesWithin after_given 261 (S.given source.old) (S.given source.new) result }
         ensures cause { HasCause (S.faults source.old) (S.faults source.new) result }
+        ensures heard { HearsBehind tail id self.old.at self.new.held (S.given source.old) (S.given source.new) result }
         ensures promise { S.promise source.new ≡ S.promise source.old }
     {
         match behind(source, self.at, id, tail)? {
@@ -169,6 +175,7 @@ impl Cursor {
         ensures held { OnOk result (self.new.held ≡ None) }
         ensures given { GivesPast self.old.at self.new.at 16777221 (S.given source.old) (S.given source.new) result }
         ensures cause { HasCause (S.faults source.old) (S.faults source.new) result }
+        ensures heard { HearsEnding self.old.at self.new.at (S.given source.old) (S.given source.new) result }
         ensures promise { S.promise source.new ≡ S.promise source.old }
     {
         self.at += trailer(source, self.at)?;

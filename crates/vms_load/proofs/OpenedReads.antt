@@ -53,7 +53,6 @@ module _ (set : Set) (names : List (List ℕ)) (staged : Staged) (first configur
   refuses x n place to end bytes rest left next (Err why) (faults.Refused r) h is =
       refused_here place bytes left why.section why.reason n r (refusal_is r (record { section = why.section; at = place; reason = why.reason }) cc) is
   refuses x n place to end bytes rest left next (Err why) faults.ReadFault h is = cc
-  refuses x n place to end bytes rest left next (Err why) faults.NoMemory h is = cc
 
   -- the device has come
   abbrev pub begun : ℕ → State

@@ -10,6 +10,7 @@ use Rattle.vms_units.specs.Dues.{Field}
 use Rattle.vms_units.specs.Seen.{seen}
 use Rattle.vms_units.specs.Taking.{nothing_known}
 use Rattle.vms_frames.specs.Calls.{AnswersSeen}
+use Rattle.vms_frames.specs.Heard.{Hears}
 use Rattle.vms_frames.specs.declared.fault.FrameFault.{FrameFault}
 use Rattle.vms_frames.specs.declared.fault.FrameFault.TheVariants as faults
 
@@ -40,3 +41,15 @@ progress numbers place rest = record { numbers = numbers; place = place; rest = 
 abbrev pub Spends : {X : Type 0} → ℕ → ℕ → ℕ → ℕ → ℕ → Result X FrameFault → Type 0
 Spends most before now from to (Ok x) = (from ≤ to) × (to ≤ from + most) × (now ≡ capped (before + (to - from)))
 Spends most before now from to (Err e) = now ≤ before + most
+
+-- ---- what the calls hear of their source
+
+abbrev pub HearsCapped : Kind → List ℕ → ℕ → ℕ → ℕ → Result ℤ FrameFault → Type 0
+HearsCapped kind capacities at before now result = Hears before now (λ old left. ReadsCapped kind capacities at old left result) result
+
+abbrev pub HearsConstant : Kind → ℤ → ℕ → ℕ → ℕ → Result (Unit {0}) FrameFault → Type 0
+HearsConstant kind z at before now result = Hears before now (λ old left. ReadsConstant kind z at old left result) result
+
+-- the call takes what the definition takes of the bytes that are left
+abbrev pub HearsTaken : (List ℕ → Taken) → List ℤ → ℕ → ℕ → ℕ → Result (Unit {0}) FrameFault → Type 0
+HearsTaken taken numbers place before now result = Hears before now (λ old left. IfSome old (λ rest. TakesAs (taken rest) numbers place left result)) result

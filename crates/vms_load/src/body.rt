@@ -5,13 +5,13 @@ ghost use Rattle.vms_desc.specs.Parts.{desc_at};
 ghost use Rattle.vms_frames.specs.Answers.{HasCause};
 ghost use Rattle.vms_walk.specs.Inside.{IsInside, Keeps};
 ghost use Rattle.vms_walk.specs.Steps.{HasSpot, steps_of, spot_slots};
-ghost use Rattle.vms_load.specs.Bodies.{TakesAs, Spends, progress};
+ghost use Rattle.vms_load.specs.Bodies.{HearsTaken, TakesAs, Spends, progress};
 ghost use Rattle.vms_load.specs.Parts.{bytes_of};
 ghost use Rattle.vms_load.specs.Reading.{take_step, step_long, told, Took, Failed};
 
 use crate::items::{constant, put_number, rule};
-use vms_frames::{Cursor, FrameFault};
 use vms_desc::{Cells, DescSet};
+use vms_frames::{Cursor, FrameFault};
 use vms_image::Image;
 use vms_io::Source;
 use vms_walk::{Spot, Step, Walker, walk};
@@ -121,6 +121,7 @@ fn read_step<S: Source>(
         TakesAs taken image.new.numbers cursor.new.at (S.left source.new) result) }
     ensures given { Spends (step_long step) (S.given source.old) (S.given source.new) cursor.old.at cursor.new.at result }
     ensures held { OnOk result (cursor.new.held ≡ None) }
+    ensures heard { HearsTaken (λ rest. take_step step (progress image.old.numbers cursor.old.at rest)) image.new.numbers cursor.new.at (S.given source.old) (S.given source.new) result }
     ensures cause { HasCause (S.faults source.old) (S.faults source.new) result }
     ensures promise { S.promise source.new ≡ S.promise source.old }
     ensures kept { image.new ≡ record image.old { numbers = image.new.numbers } }

@@ -4,7 +4,7 @@ ghost use Rattle.vms_kinds.specs.Codes.{width};
 ghost use Rattle.vms_spec.specs.Numbers.{exceeds, is_above};
 ghost use Rattle.vms_spec.specs.Taking.{take_number};
 ghost use Rattle.vms_frames.specs.Answers.{HasCause, GivesWithin};
-ghost use Rattle.vms_load.specs.Bodies.{ReadsCapped, ReadsConstant, progress, TakesAs, Spends};
+ghost use Rattle.vms_load.specs.Bodies.{HearsTaken, HearsCapped, HearsConstant, ReadsCapped, ReadsConstant, progress, TakesAs, Spends};
 ghost use Rattle.vms_walk.specs.Steps.{capacities_of};
 
 use vms_frames::{Cursor, FrameFault};
@@ -30,6 +30,7 @@ pub(crate) fn put_number<S: Source>(
         let taken = take_number kind (capacities_of most) cell start in
         TakesAs taken image.new.numbers cursor.new.at (S.left source.new) result) }
     ensures given { Spends (width kind) (S.given source.old) (S.given source.new) cursor.old.at cursor.new.at result }
+    ensures heard { HearsTaken (λ rest. take_number kind (capacities_of most) cell (progress image.old.numbers cursor.old.at rest)) image.new.numbers cursor.new.at (S.given source.old) (S.given source.new) result }
     ensures cause { HasCause (S.faults source.old) (S.faults source.new) result }
     ensures promise { S.promise source.new ≡ S.promise source.old }
     ensures kept { image.new ≡ record image.old { numbers = image.new.numbers } }
@@ -55,6 +56,7 @@ fn number<S: Source>(
     ensures place { OnOk result (cursor.new.at ≡ cursor.old.at + width kind) }
     ensures held { OnOk result (cursor.new.held ≡ None) }
     ensures given { GivesWithin (λ _. width kind) (width kind) (S.given source.old) (S.given source.new) result }
+    ensures heard { HearsCapped kind (capacities_of most) cursor.old.at (S.given source.old) (S.given source.new) result }
     ensures cause { HasCause (S.faults source.old) (S.faults source.new) result }
     ensures promise { S.promise source.new ≡ S.promise source.old }
 {
@@ -82,6 +84,7 @@ pub(crate) fn constant<S: Source>(
     ensures place { OnOk result (cursor.new.at ≡ cursor.old.at + width kind) }
     ensures held { OnOk result (cursor.new.held ≡ None) }
     ensures given { GivesWithin (λ _. width kind) (width kind) (S.given source.old) (S.given source.new) result }
+    ensures heard { HearsConstant kind value cursor.old.at (S.given source.old) (S.given source.new) result }
     ensures cause { HasCause (S.faults source.old) (S.faults source.new) result }
     ensures promise { S.promise source.new ≡ S.promise source.old }
 {

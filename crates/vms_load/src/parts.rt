@@ -5,13 +5,14 @@ ghost use Rattle.vms_desc.specs.Described.{described};
 ghost use Rattle.vms_parts.specs.Devices.{device_at};
 ghost use Rattle.vms_load.specs.Loads.{HasCause};
 ghost use Rattle.vms_load.specs.Reads.{ReadsOn, Gives};
+ghost use Rattle.vms_load.specs.Hearing.{HearsOn};
 ghost use Rattle.vms_load.specs.Parts.{IsShaped, IsOpen, OpensNext, part_of, part_due, bytes_of_part, subs_due, in_fields, after_fields, after_part, IsMoved, IsSame, HoldsNone};
 
 use crate::LoadFault;
 use crate::body::read_part;
 use crate::heads::open_sub;
-use vms_frames::{After, Cursor, Tail};
 use vms_desc::{DescSet, Part};
+use vms_frames::{After, Cursor, Tail};
 use vms_image::Image;
 use vms_io::Source;
 use vms_walk::Spot;
@@ -58,6 +59,7 @@ fn fields<S: Source>(
     ensures reads { (names : List (List ℕ)) (state : State) → section.device < length state.images → ReadsOn (in_fields (described set.now) names state section part.sub image.old) (λ _. after_fields (described set.now) names state section part.sub image.new) cursor.old cursor.new (S.left source.old) (S.left source.new) result }
     ensures held { OnOk result (cursor.new.held ≡ None) }
     ensures given { Gives (S.given source.old) (S.given source.new) cursor.old cursor.new (bytes_of_part (described set.now) (device_at (described set.now) section.device) part.sub) (λ _. 0) result }
+    ensures heard { (names : List (List ℕ)) (state : State) → section.device < length state.images → HearsOn (in_fields (described set.now) names state section part.sub image.old) (λ _. after_fields (described set.now) names state section part.sub image.new) cursor.old cursor.new (S.given source.old) (S.given source.new) result }
     ensures cause { HasCause (S.faults source.old) (S.faults source.new) result }
     ensures promise { S.promise source.new ≡ S.promise source.old }
     ensures kept { image.new ≡ record image.old { numbers = image.new.numbers } }
@@ -94,6 +96,7 @@ fn after<S: Source>(
     ensures held { IfOk result (HoldsNone cursor.new) }
     ensures open { IfOk result (OpensNext (device_at (described set.now) section.old.device) image.new) }
     ensures given { Gives (S.given source.old) (S.given source.new) cursor.old cursor.new (subs_due (described set.now) (device_at (described set.now) section.old.device).subs image.old.came + 5) (part_due (described set.now) (device_at (described set.now) section.old.device) image.new.came) result }
+    ensures heard { (names : List (List ℕ)) (state : State) (part : Option ℕ) → section.old.device < length state.images → HearsOn (after_fields (described set.now) names state section.old part image.old) (after_part (described set.now) names state section.new image.new) cursor.old cursor.new (S.given source.old) (S.given source.new) result }
     ensures cause { HasCause (S.faults source.old) (S.faults source.new) result }
     ensures promise { S.promise source.new ≡ S.promise source.old }
     ensures shaped { IsShaped (described set.now) (device_at (described set.now) section.old.device) image.new }
@@ -142,6 +145,7 @@ pub(crate) fn read_section<S: Source>(
     ensures reads { (names : List (List ℕ)) (state : State) → section.old.device < length state.images → ReadsOn (in_fields (described set.now) names state section.old None image.old) (λ _. after_part (described set.now) names state section.new image.new None) cursor.old cursor.new (S.left source.old) (S.left source.new) result }
     ensures section { IsSame section.old section.new }
     ensures given { Gives (S.given source.old) (S.given source.new) cursor.old cursor.new (part_due (described set.now) (device_at (described set.now) section.old.device) image.old.came (Some (record { sub = None; version = image.old.version }))) (λ _. 0) result }
+    ensures heard { (names : List (List ℕ)) (state : State) → section.old.device < length state.images → HearsOn (in_fields (described set.now) names state section.old None image.old) (λ _. after_part (described set.now) names state section.new image.new None) cursor.old cursor.new (S.given source.old) (S.given source.new) result }
     ensures cause { HasCause (S.faults source.old) (S.faults source.new) result }
     ensures promise { S.promise source.new ≡ S.promise source.old }
     ensures shaped { IsShaped (described set.now) (device_at (described set.now) section.old.device) image.new }

@@ -119,7 +119,6 @@ fn fault_text(alloc: Global, fault: LoadFault) -> Option<String> {
     match fault {
         LoadFault::Refused(refusal) => refused(alloc, refusal),
         LoadFault::ReadFault => String::from_str(alloc, "read fault").ok(),
-        LoadFault::NoMemory => None,
     }
 }
 

@@ -4,6 +4,7 @@ use Rattle.vms_units.specs.State.{State}
 use Rattle.vms_desc.specs.Described.{described}
 use Rattle.vms_parts.specs.Devices.{device_at}
 use Rattle.vms_load.specs.Reads.{LeadsOn, reach}
+use Rattle.vms_load.specs.Hearing.{HearsSoFar}
 use Rattle.vms_load.specs.Parts.{IsShaped, IsSame, HoldsNone, OpensNext, part_due, in_fields, after_part}
 use Rattle.vms_load.proofs.parts.read_section.Given as goal
 
@@ -17,6 +18,8 @@ invariant-loop-next g l =
       held : HoldsNone l.cursor l.next;
       reads : (names : List (List ℕ)) (state : State) → l.initial.section.device < length state.images
           → LeadsOn (in_fields set names state l.initial.section None l.initial.image) (after_part set names state l.section l.image l.next) l.initial.cursor l.cursor (g.S.Source.left l.initial.source) (g.S.Source.left l.source);
+      heard : (names : List (List ℕ)) (state : State) → l.initial.section.device < length state.images
+          → HearsSoFar (in_fields set names state l.initial.section None l.initial.image) (after_part set names state l.section l.image l.next) l.initial.cursor l.cursor (g.S.Source.given l.initial.source) (g.S.Source.given l.source);
       next_is : OpensNext d l.image l.next;
       shaped : IsShaped set d l.image;
       from : l.initial.cursor.at ≤ l.cursor.at;

@@ -14,6 +14,8 @@ use Rattle.vms_load.specs.Parts.{IsShaped, subs_due, part_due}
 use Rattle.vms_load.specs.Staging.{image_at, name_of, state_of, sections_due}
 use Rattle.vms_frames.specs.Calls.{tail_of}
 use Rattle.vms_load.proofs.ReadLemmas.{read_behind}
+use Rattle.vms_frames.proofs.HeardLemmas.{heard_as}
+use Rattle.vms_load.proofs.HearingLemmas.{behind_here, hears_so}
 use Rattle.vms_load.proofs.OpenedReads.{head_unit, head_long, begun, section_refused, section_reads, ended_in, ends_later}
 use Rattle.vms_load.proofs.StagedLemmas.{image_begun, default_shaped, section_new, sections_taken}
 use Rattle.vms_load.proofs.Spending.{gives_behind}
@@ -155,3 +157,67 @@ returns-in_err-read_section-clause-given g c =
     let spent = gives_behind _ _ c.args.cursor.now c.read_section.new.cursor here most 0 (Err c.in_err-read_section.field-0.0) (omega (arith, due, same)) c.in_err-read_section.ensures.given in
     let p = err_from_is_err_and c.from_residual-in_err-read_section.result c.from_residual-in_err-read_section.ensures.1 in
     rw p.1 spent
+
+-- ---- what is heard
+
+pub returns-in_err-device-clause-heard : goal.returns-in_err-device-clause-heard
+returns-in_err-device-clause-heard g c = λ names first after.
+    let set = described c.args.set.now in
+    let head = c.args.head.now in
+    let p = err_from_is_err_and c.from_residual.result c.from_residual.ensures.1 in
+    let is = sym (c.in_err-device.was) ∙ c.open_section.ensures.opened ∙ ap (λ (came : List Bool). opened_at c.args.at (section_opened set came head.name.items head.instance head.version)) c.deref.ensures.0 in
+    rw (p.1, p.2)
+    (behind_here {X = Unit {0}} (reading_on (judge (by_state set names))) (ask set names (state_of set c.args.staged.now (Free first after)) (head_unit head) (head_long head))
+    (λ (x : Unit {0}). reading_on (judge (by_state set names)) (state_of set c.args.staged.now (Free false false))) c.args.at (head_long head) (g.S.Source.given c.args.source.now) c.args.cursor.now c.args.cursor.now
+    (Err c.in_err-device.field-0.0) (g.met.S.Source.counted c.args.source.now)
+    (λ more bytes behind. section_refused set names c.args.staged.now first after head c.args.at c.args.cursor.now bytes (Some more)
+    (λ (x : Unit {0}). reading_on (judge (by_state set names)) (state_of set c.args.staged.now (Free false false))) c.in_err-device.field-0.0 c.requires.whole.came is behind.taken))
+
+pub returns-in_err-read_section-clause-heard : goal.returns-in_err-read_section-clause-heard
+returns-in_err-read_section-clause-heard g c = λ names first after.
+    let set = described c.args.set.now in
+    let head = c.args.head.now in
+    let k = c.in_ok-device.device in
+    let old = c.args.staged.now in
+    let is = sym (c.in_ok-device.was) ∙ c.open_section.ensures.opened ∙ ap (λ (came : List Bool). opened_at c.args.at (section_opened set came head.name.items head.instance head.version)) c.deref.ensures.0 in
+    let new = section_new set old.came.items head.name.items head.instance head.version k c.args.at c.requires.whole.came is in
+    let room : k < length old.images.items = omega (arith, new.0, c.requires.whole.images.all) in
+    let image = image_begun c.begin.new.staged.images.items old.images.items k (image_at set k head.version) c.index_mut-image.result.now c.index_mut-image.ensures.value c.begin.ensures.images room in
+    let now = c.read_section.new.section in
+    let final = ended_in (name_of set c.begin.new.staged.machine) (slice_set c.begin.new.staged.images.items k c.read_section.new.image) c.begin.new.staged.came.items (tail_of now.tail) in
+    let machine = ap (name_of set) c.begin.ensures.machine in
+    let last = ends_later (name_of set old.machine) (name_of set c.begin.new.staged.machine) c.begin.new.staged.images.items old.images.items old.came.items c.begin.new.staged.came.items k now.device (image_at set k head.version)
+    c.read_section.new.image (tail_of now.tail) machine c.begin.ensures.images c.begin.ensures.came c.in_err-read_section.ensures.section.0 in
+    let go = reading_on (judge (by_state set names)) in
+    let v = ask set names (state_of set old (Free first after)) (head_unit head) (head_long head) in
+    let e = c.in_err-read_section.field-0.0 in
+    let p = err_from_is_err_and c.from_residual-in_err-read_section.result c.from_residual-in_err-read_section.ensures.1 in
+    rw (p.1, p.2)
+    (hears_so {X = Unit {0}} (g.S.Source.given c.args.source.now) (g.S.Source.given c.read_section.new.source) (Err e)
+    (λ before left r bytes behind. read_behind {X = Unit {0}} go v (λ x. go final) (head_long head) c.args.at bytes c.args.cursor.now c.read_section.new.cursor before left (Err e) behind tt
+    (section_reads set names old first after head k c.args.at c.args.cursor.now c.read_section.new.cursor c.index_mut-image.result.now c.read_section.new.image c.begin.new.staged.tail now final
+    before left (Err e) c.requires.whole.came new.0 is image c.begin.ensures.tail last r))
+    (c.in_err-read_section.ensures.heard names (begun set names old first after k) room))
+
+pub returns-clause-heard : goal.returns-clause-heard
+returns-clause-heard g c = λ names first after.
+    let set = described c.args.set.now in
+    let head = c.args.head.now in
+    let k = c.in_ok-device.device in
+    let old = c.args.staged.now in
+    let is = sym (c.in_ok-device.was) ∙ c.open_section.ensures.opened ∙ ap (λ (came : List Bool). opened_at c.args.at (section_opened set came head.name.items head.instance head.version)) c.deref.ensures.0 in
+    let new = section_new set old.came.items head.name.items head.instance head.version k c.args.at c.requires.whole.came is in
+    let room : k < length old.images.items = omega (arith, new.0, c.requires.whole.images.all) in
+    let image = image_begun c.begin.new.staged.images.items old.images.items k (image_at set k head.version) c.index_mut-image.result.now c.index_mut-image.ensures.value c.begin.ensures.images room in
+    let now = c.read_section.new.section in
+    let final = ended_in (name_of set c.begin.new.staged.machine) (slice_set c.begin.new.staged.images.items k c.read_section.new.image) c.begin.new.staged.came.items (tail_of now.tail) in
+    let machine = ap (name_of set) c.begin.ensures.machine in
+    let last = ends_later (name_of set old.machine) (name_of set c.begin.new.staged.machine) c.begin.new.staged.images.items old.images.items old.came.items c.begin.new.staged.came.items k now.device (image_at set k head.version)
+    c.read_section.new.image (tail_of now.tail) machine c.begin.ensures.images c.begin.ensures.came c.in_ok-read_section.ensures.section.0 in
+    let go = reading_on (judge (by_state set names)) in
+    let v = ask set names (state_of set old (Free first after)) (head_unit head) (head_long head) in
+    heard_as (λ more. Unit {0}) (g.S.Source.given c.args.source.now) (g.S.Source.given c.read_section.new.source)
+    (λ before left r bytes behind. read_behind {X = Unit {0}} go v (λ x. go final) (head_long head) c.args.at bytes c.args.cursor.now c.read_section.new.cursor before left (Ok c.in_ok-read_section.field-0) behind c.in_ok-read_section.ensures.given.0
+    (section_reads set names old first after head k c.args.at c.args.cursor.now c.read_section.new.cursor c.index_mut-image.result.now c.read_section.new.image c.begin.new.staged.tail now final
+    before left (Ok c.in_ok-read_section.field-0) c.requires.whole.came new.0 is image c.begin.ensures.tail last r))
+    (c.in_ok-read_section.ensures.heard names (begun set names old first after k) room)
