@@ -1,5 +1,5 @@
 -- Devices that are read one after the other, and judged.
-use Rattle.std.proofs.Common.{◌≡◌, ℕ, zero, suc, ◌+◌, ◌<◌, ◌≤◌, Bool, true, false, List, [], ◌∷◌, ◌++◌, length, map, take, drop, get_or, if◌then◌else◌, Option, Some, None, Result, Ok, Err, refl, sym, ap, ◌∙◌, subst, arith, append_assoc, append-nil, length-append}
+use Rattle.std.proofs.Common.{◌≡◌, ℕ, zero, suc, ◌+◌, ◌<◌, ◌≤◌, Bool, true, false, List, [], ◌∷◌, ◌++◌, length, map, take, drop, if◌then◌else◌, Option, Some, None, Result, Ok, Err, refl, sym, ap, ◌∙◌, subst, arith, append_assoc, append-nil, length-append}
 use Rattle.std.proofs.lemmas.List.{drop_more, drop_all, take_all, take_more, map-append}
 use Rattle.vms_spec.specs.declared.ValuesReason.TheVariants as reasons
 use Rattle.vms_spec.specs.Sets.{Device, Set}
@@ -7,8 +7,8 @@ use Rattle.vms_spec.specs.Images.{Image, own_cells}
 use Rattle.vms_spec.specs.Spelling.{first_line}
 use Rattle.vms_spec.specs.ValuesReading.{BadLine, Standing, ReadSubs, ReadDevice, ReadAll, readers, read_desc, read_subs, next_line, then_subs, section_line, is_line, with_device, device_read as device_reads, read_device, read_devices, or_bad, judge_device, judge_devices}
 use Rattle.vms_desc.specs.Described.{device_at}
-use Rattle.vms_values.specs.declared.fault.ValuesFault.{ValuesFault}
-use Rattle.vms_values.specs.declared.fault.ValuesFault.TheVariants as faults
+use Rattle.vms_values.specs.declared.fault.LineFault.{LineFault}
+use Rattle.vms_values.specs.declared.fault.LineFault.TheVariants as faults
 use Rattle.vms_values.specs.declared.devices.Reading.{Reading}
 use Rattle.vms_values.specs.Judging.{bad_of}
 use Rattle.vms_values.specs.DevicesRead.{found, device_read, start_of, DeviceRead, AllRead}
@@ -151,7 +151,7 @@ gathered_all set n start old new images g e =
           ∙ ap (λ (l : List ReadDevice). or_bad (bad_of old.judged) (judge_devices set set.devices l)) (sym (append-nil g.done)),
     )
 
-pub gathered_bad : (set : Set) (d : Device) (start : Result ReadAll BadLine) (r : Result (ReadDevice × Standing) BadLine) (old mid new : Reading) (e : ValuesFault)
+pub gathered_bad : (set : Set) (d : Device) (start : Result ReadAll BadLine) (r : Result (ReadDevice × Standing) BadLine) (old mid new : Reading) (e : LineFault)
     → ((b : BadLine) → r ≡ Err b → start ≡ Err b) → DeviceRead set d r mid new (Err e) → AllRead set start old new (Err e)
 gathered_bad set d start (Ok (r, p)) old mid new (faults.Bad line reason) h f = absurd f
 gathered_bad set d start (Err b) old mid new (faults.Bad line reason) h f = subst (λ (x : Result ReadAll BadLine). AllRead set x old new (Err (faults.Bad line reason))) (sym (h b refl)) f

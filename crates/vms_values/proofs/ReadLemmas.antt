@@ -22,8 +22,8 @@ use Rattle.vms_spec.specs.Spelling.{first_line, begins_with, number_spelled}
 use Rattle.vms_spec.specs.ValuesReading.{BadLine, Standing, Read, Reader, cells_of, bad, put_line, put_number, read_fields, read_field, rest_of, is_line, ◌>>=◌}
 use Rattle.vms_values.specs.declared.text.Line.{Line}
 use Rattle.vms_values.specs.declared.cursor.Lines.{Lines}
-use Rattle.vms_values.specs.declared.fault.ValuesFault.{ValuesFault}
-use Rattle.vms_values.specs.declared.fault.ValuesFault.TheVariants as faults
+use Rattle.vms_values.specs.declared.fault.LineFault.{LineFault}
+use Rattle.vms_values.specs.declared.fault.LineFault.TheVariants as faults
 use Rattle.vms_values.specs.FirstLine.{IsFirstLine}
 use Rattle.vms_values.specs.Plain.{IsPlainField, ArePlain, IsNumber, IsOne, HasNoTest}
 use Rattle.vms_values.specs.Spelled.{Strips, held}
@@ -89,11 +89,11 @@ module _ (path : List ℕ) (kind : Kind) (at : ℕ) (default : ℤ) (p : Standin
   form : BadLine
   form = record { line = p.line; reason = reasons.Form }
 
-  pub line_absent : (o : Option (List ℕ × List ℕ)) (now : Standing) (e : ValuesFault) → IsFirstLine o None → IsBad (record { line = p.line; reason = reasons.Form }) e → Reaches (reads o) now (Err e)
+  pub line_absent : (o : Option (List ℕ × List ℕ)) (now : Standing) (e : LineFault) → IsFirstLine o None → IsBad (record { line = p.line; reason = reasons.Form }) e → Reaches (reads o) now (Err e)
   line_absent None now e f b = b
   line_absent (Some said) now e f b = absurd f
 
-  pub line_other : (o : Option (List ℕ × List ℕ)) (line : Line) (now : Standing) (e : ValuesFault) → IsFirstLine o (Some line) → begins_with (path ++ codes " = ") line.text.now ≡ false
+  pub line_other : (o : Option (List ℕ × List ℕ)) (line : Line) (now : Standing) (e : LineFault) → IsFirstLine o (Some line) → begins_with (path ++ codes " = ") line.text.now ≡ false
       → IsBad (record { line = p.line; reason = reasons.Form }) e → Reaches (reads o) now (Err e)
   line_other None line now e f n b = absurd f
   line_other (Some (text, rest)) line now e f n b =
@@ -128,7 +128,7 @@ module _ (path : List ℕ) (kind : Kind) (at : ℕ) (default : ℤ) (p : Standin
           ap (λ (t : Bool). if not t then bad p reasons.Number else Ok (record { numbers = slice_set p.numbers at z; line = suc p.line; rest = rest })) q
           ∙ ap (λ (x : ℤ). let q : Standing = record { numbers = slice_set p.numbers at x; line = suc p.line; rest = rest } in Ok q) g
 
-  pub line_misspelled : (o : Option (List ℕ × List ℕ)) (line : Line) (number : List ℕ) (now : Standing) (e : ValuesFault) → IsFirstLine o (Some line)
+  pub line_misspelled : (o : Option (List ℕ × List ℕ)) (line : Line) (number : List ℕ) (now : Standing) (e : LineFault) → IsFirstLine o (Some line)
       → begins_with (path ++ codes " = ") line.text.now ≡ true → number ≡ drop (length (path ++ codes " = ")) line.text.now → held kind (number_spelled number) ≡ None
       → IsBad (record { line = p.line; reason = reasons.Number }) e → Reaches (reads o) now (Err e)
   line_misspelled None line number now e f n is h b = absurd f
@@ -162,14 +162,14 @@ passed_on wanted (Some (text, rest)) old new line f e n a b =
     let up : new.line ≡ suc old.line = a ∙ omega arith in
     subst (λ (t : Bool). Passed t old new (Ok tt)) (sym same) (up, b ∙ f.1 ∙ ap rest_of e)
 
-pub passed_other : (wanted : List ℕ) (o : Option (List ℕ × List ℕ)) (old new : Lines) (line : Line) (e : ValuesFault) → IsFirstLine o (Some line) → bytes_eq line.text.now wanted ≡ false
+pub passed_other : (wanted : List ℕ) (o : Option (List ℕ × List ℕ)) (old new : Lines) (line : Line) (e : LineFault) → IsFirstLine o (Some line) → bytes_eq line.text.now wanted ≡ false
     → IsBad (record { line = old.line; reason = reasons.Form }) e → Passed (is_line wanted o) old new (Err e)
 passed_other wanted None old new line e f n b = absurd f
 passed_other wanted (Some (text, rest)) old new line e f n b =
     let same : bytes_eq text wanted ≡ false = ap (λ (l : List ℕ). bytes_eq l wanted) (sym f.0) ∙ n in
     subst (λ (t : Bool). Passed t old new (Err e)) (sym same) b
 
-pub passed_none : (wanted : List ℕ) (o : Option (List ℕ × List ℕ)) (old new : Lines) (e : ValuesFault) → IsFirstLine o None
+pub passed_none : (wanted : List ℕ) (o : Option (List ℕ × List ℕ)) (old new : Lines) (e : LineFault) → IsFirstLine o None
     → IsBad (record { line = old.line; reason = reasons.Form }) e → Passed (is_line wanted o) old new (Err e)
 passed_none wanted None old new e f b = b
 passed_none wanted (Some said) old new e f b = absurd f
@@ -192,7 +192,7 @@ pub reached : (r : Read) (now : Standing) → Reaches r now (Ok tt) → r ≡ Ok
 reached (Ok p) now e = ap (λ (x : Standing). Ok x) e
 reached (Err b) now e = absurd e
 
-pub stopped : (part whole : Read) (now later : Standing) (e : ValuesFault) → ((b : BadLine) → part ≡ Err b → whole ≡ Err b) → Reaches part now (Err e) → Reaches whole later (Err e)
+pub stopped : (part whole : Read) (now later : Standing) (e : LineFault) → ((b : BadLine) → part ≡ Err b → whole ≡ Err b) → Reaches part now (Err e) → Reaches whole later (Err e)
 stopped (Ok p) whole now later e h r = absurd r
 stopped (Err b) whole now later e h r = subst (λ (x : Read). Reaches x later (Err e)) (sym (h b refl)) r
 
@@ -265,10 +265,10 @@ machine_other machines i name machine lt is same inv =
 
 -- ---- images
 
-pub is_bad : (e : ValuesFault) (b : BadLine) → e ≡ faults.Bad b.line b.reason → IsBad b e
+pub is_bad : (e : LineFault) (b : BadLine) → e ≡ faults.Bad b.line b.reason → IsBad b e
 is_bad e b s = subst (IsBad b) (sym s) (refl, refl)
 
-pub renamed : (a b : List ℕ) (k j : Kind) (at : ℕ) (z : ℤ) (p now : Standing) (r : Result (Unit {0}) ValuesFault) → a ≡ b → k ≡ j
+pub renamed : (a b : List ℕ) (k j : Kind) (at : ℕ) (z : ℤ) (p now : Standing) (r : Result (Unit {0}) LineFault) → a ≡ b → k ≡ j
     → Reaches (cell_read a k at z p) now r → Reaches (cell_read b j at z p) now r
 renamed a b k j at z p now r e f h = subst (λ (x : Kind). Reaches (cell_read b x at z p) now r) f (subst (λ (x : List ℕ). Reaches (cell_read x k at z p) now r) e h)
 
@@ -285,7 +285,7 @@ image_done r s v now old image e h same a c =
     ∙ ap (λ (x : List (Option ℕ)). let i : Image = record { version = v; came = x; numbers = image.numbers } in i) c in
     subst (λ (x : Read). ImageRead x v now (Ok image)) (sym q) (f, refl, refl)
 
-pub image_bad : (r s : Read) (v : ℕ) (p : Standing) (now : Lines) (e : ValuesFault) → r ≡ s → Reaches r p (Err e) → ImageRead s v now (Err e)
+pub image_bad : (r s : Read) (v : ℕ) (p : Standing) (now : Lines) (e : LineFault) → r ≡ s → Reaches r p (Err e) → ImageRead s v now (Err e)
 image_bad r (Ok q) v p now (faults.Bad line reason) same h = subst (λ (x : Read). Reaches x p (Err (faults.Bad line reason))) same h
 image_bad r (Err b) v p now (faults.Bad line reason) same h = subst (λ (x : Read). Reaches x p (Err (faults.Bad line reason))) same h
 image_bad r s v p now faults.NoMemory same h = image_memory s v now
