@@ -6,16 +6,16 @@ use Rattle.vms_desc.specs.Described.{described}
 use Rattle.vms_image.specs.Typed.{AreImagesOf}
 use Rattle.vms_values.specs.DevicesRead.{ToldAs}
 use Rattle.vms_values.specs.declared.judge.BadLine.{BadLine}
-use Rattle.vms_values.specs.Reading.{ReadsAs}
+use Rattle.vms_values.specs.Reading.{ReadsBy}
 use Rattle.vms_values.specs.declared.fault.Values.{Values as Given}
-use Rattle.vms_values.specs.declared.fault.ValuesFault.{ValuesFault}
+use Rattle.vms_values.specs.declared.fault.LineFault.{LineFault}
 use Rattle.vms_values.proofs.DeviceLemmas.{top, said_so}
 use Rattle.vms_values.proofs.ReadLemmas.{nil_of, some_of}
 use Rattle.vms_values.proofs.WholeText.{text_told, text_longer, text_refused, few_machines}
-use Rattle.vms_values.proofs.devices.read_text.Goals as goal
+use Rattle.vms_values.proofs.devices.read_lines.Goals as goal
 
-pub read_machine-start-requires-clause-few : goal.read_machine-start-requires-clause-few
-read_machine-start-requires-clause-few c =
+pub read_machine-start-requires : goal.read_machine-start-requires
+read_machine-start-requires c =
     let set = described c.args.set.now in
     omega (arith, ap length c.as_slice.ensures, ap (λ (s : Set). length s.machines) c.parts.ensures, few_machines set c.args.set.now.well_formed)
 
@@ -34,7 +34,7 @@ returns-then-not-is_empty-clause-read c =
     let s = top set c.as_slice.result.now c.args.text.now start (c.as_slice.ensures ∙ ap (λ (x : Set). x.machines) c.parts.ensures) c.read_machine-start.ensures in
     let new = c.read_images.new.reading in
     said_so set c.args.text.now _ (Err c.bad.result) s.is
-    (subst (λ (e : ValuesFault). ReadsAs set (ended set s.name (read_devices set set.devices start.lines.line start.lines.rest.now)) (Err e)) (sym c.bad.ensures)
+    (subst (λ (e : LineFault). ReadsBy set (ended set s.name (read_devices set set.devices start.lines.line start.lines.rest.now)) (Err e)) (sym c.bad.ensures)
     (text_longer set s.name _ _ new _ c.in_ok-images.ensures.read (some_of new.lines.rest.now (sym c.is_empty.ensures ∙ c.if-not-is_empty.true))))
 
 pub returns-clause-read : goal.returns-clause-read
@@ -47,9 +47,9 @@ returns-clause-read c =
     said_so set c.args.text.now _ c.told.result s.is
     (text_told set s.name _ _ new v c.told.result c.in_ok-images.ensures.read (nil_of new.lines.rest.now (sym c.is_empty.ensures ∙ c.if-not-is_empty.false)) refl s.machine s.known c.told.ensures)
 
-told_of : (o : Option BadLine) (v : Given) (result : Result Given ValuesFault) (set : Set) → ToldAs o v result → AreImagesOf set v.images.items → IfOk result (λ w. AreImagesOf set w.images.items)
-told_of None v result set t of = subst (λ (r : Result Given ValuesFault). IfOk r (λ w. AreImagesOf set w.images.items)) (sym t) (search (rules, of))
-told_of (Some b) v result set t of = subst (λ (r : Result Given ValuesFault). IfOk r (λ w. AreImagesOf set w.images.items)) (sym t) (search rules)
+told_of : (o : Option BadLine) (v : Given) (result : Result Given LineFault) (set : Set) → ToldAs o v result → AreImagesOf set v.images.items → IfOk result (λ w. AreImagesOf set w.images.items)
+told_of None v result set t of = subst (λ (r : Result Given LineFault). IfOk r (λ w. AreImagesOf set w.images.items)) (sym t) (search (rules, of))
+told_of (Some b) v result set t of = subst (λ (r : Result Given LineFault). IfOk r (λ w. AreImagesOf set w.images.items)) (sym t) (search rules)
 
 pub returns-clause-of : goal.returns-clause-of
 returns-clause-of c =
