@@ -1,5 +1,5 @@
 -- From what a fetch, a reading and a write say to how `pack` ends.
-use Rattle.std.proofs.Common.{◌≡◌, ℕ, zero, suc, ◌<◌, ◌^◌, List, [], ◌∷◌, length, get_or, drop, Option, Some, None, Ok, Err, IfSome, refl, sym, ap, ◌∙◌, subst, arith}
+use Rattle.std.proofs.Common.{◌≡◌, ℕ, zero, suc, ◌<◌, ◌^◌, List, [], ◌∷◌, length, get_or, map, drop, Option, Some, None, Ok, Err, IfSome, refl, sym, ap, ◌∙◌, subst, arith}
 use Rattle.std.specs.Option.{option_map, ForSome}
 use Rattle.std.specs.Prelude.{string_bytes}
 use Rattle.std.specs.declared.string.String.{String}
@@ -13,6 +13,7 @@ use Rattle.vms_spec.specs.Shipped.{set_0}
 use Rattle.vms_spec.specs.Streams.{written, AreReady}
 use Rattle.vms_spec.specs.ValuesReading.{ValuesRead, Values, Bad, values_read}
 use Rattle.vms_spec.specs.declared.ValuesReason.{ValuesReason}
+use Rattle.vms_image.specs.Typed.{state_of}
 use Rattle.vms_values.specs.Reading.{ReadsAs}
 use Rattle.vms_values.specs.declared.fault.Values.{Values as Given}
 use Rattle.vms_values.specs.declared.fault.ValuesFault.{ValuesFault}
@@ -26,14 +27,14 @@ use Rattle.vms_cli.specs.Pack.{PacksText, Stream, BadText}
 use Rattle.vms_cli.specs.Endings.{EndsAs, EndsWith, WritesAs}
 use Rattle.vms_cli.proofs.ShowLemmas.{text_written}
 
-ready_of : (text : List ℕ) (r : ValuesRead) (v : Given) → values_read set_0 text ≡ r → ReadsAs set_0 r (Ok v) → AreReady set_0 v.images.items
+ready_of : (text : List ℕ) (r : ValuesRead) (v : Given) → values_read set_0 text ≡ r → ReadsAs set_0 r (Ok v) → AreReady set_0 (map state_of v.images.items)
 ready_of text (Values machine images) v e reads = subst (λ (l : List Image). AreReady set_0 l) (sym reads.0) (timers_ready images (read_holds text machine images e).ready)
 ready_of text (Bad line reason) v e reads = absurd reads
 
 -- the images of a text that was read are ready
-pub read_ready : (set : Set) (text : List ℕ) (v : Given) → set ≡ set_0 → ReadsAs set (values_read set text) (Ok v) → AreReady set v.images.items
+pub read_ready : (set : Set) (text : List ℕ) (v : Given) → set ≡ set_0 → ReadsAs set (values_read set text) (Ok v) → AreReady set (map state_of v.images.items)
 read_ready set text v is reads =
-    subst (λ (s : Set). AreReady s v.images.items) (sym is) (ready_of text (values_read set_0 text) v refl (subst (λ (s : Set). ReadsAs s (values_read s text) (Ok v)) is reads))
+    subst (λ (s : Set). AreReady s (map state_of v.images.items)) (sym is) (ready_of text (values_read set_0 text) v refl (subst (λ (s : Set). ReadsAs s (values_read s text) (Ok v)) is reads))
 
 at_is : {X : Type 0} (xs : List X) (k : ℕ) (d : X) → k < length xs → at xs k ≡ Some (get_or xs k d)
 at_is [] k d l = absurd (omega (arith, l))
@@ -68,13 +69,13 @@ first_reads set text v is reads = subst (λ (s : Set). ReadsAs s (values_read s 
 -- a text that was read, and a write of its stream
 pub packs : (set : Set) (text : List ℕ) (v : Given) → set ≡ set_0 → ReadsAs set (values_read set text) (Ok v)
     → (i : Intake) (o o' : Outlet) (s s' : Stock) (ending : Ending) (x : Outcome) → i.given < 2 ^ 64 → s'.held ≡ s.held
-    → WritesAs (written set (at_option set.machines v.machine) v.images.items None) o o' ending → PacksText set_0 text s.held x → EndsAs i i o o' s s' ending x
+    → WritesAs (written set (at_option set.machines v.machine) (map state_of v.images.items) None) o o' ending → PacksText set_0 text s.held x → EndsAs i i o o' s s' ending x
 packs set text v is reads i o o' s s' ending x few same w (Stream machine images e) =
     let r : ReadsAs set_0 (Values machine images) (Ok v) = subst (λ (read : ValuesRead). ReadsAs set_0 read (Ok v)) e (first_reads set text v is reads) in
-    let wrote : WritesAs (written set_0 (at_option set_0.machines v.machine) v.images.items None) o o' ending =
-    subst (λ (s : Set). WritesAs (written s (at_option s.machines v.machine) v.images.items None) o o' ending) is w in
-    let stream : written set_0 (at_option set_0.machines v.machine) v.images.items None ≡ written set_0 machine images None =
-    ap (λ (m : Option (List ℕ)). written set_0 m v.images.items None) (named set_0.machines v.machine r.2 ∙ r.1) ∙ ap (λ (l : List Image). written set_0 machine l None) r.0 in
+    let wrote : WritesAs (written set_0 (at_option set_0.machines v.machine) (map state_of v.images.items) None) o o' ending =
+    subst (λ (s : Set). WritesAs (written s (at_option s.machines v.machine) (map state_of v.images.items) None) o o' ending) is w in
+    let stream : written set_0 (at_option set_0.machines v.machine) (map state_of v.images.items) None ≡ written set_0 machine images None =
+    ap (λ (m : Option (List ℕ)). written set_0 m (map state_of v.images.items) None) (named set_0.machines v.machine r.2 ∙ r.1) ∙ ap (λ (l : List Image). written set_0 machine l None) r.0 in
     text_written (written set_0 machine images None) i i o o' s s' 0 ending (subst (λ (l : List ℕ). WritesAs l o o' ending) stream wrote) same (takes_nothing i few)
 packs set text v is reads i o o' s s' ending x few same w (BadText line reason e) =
     absurd (subst (λ (read : ValuesRead). ReadsAs set_0 read (Ok v)) e (first_reads set text v is reads))

@@ -1,10 +1,11 @@
 // The command `pack`: the stream of a values text on the shelf.
-ghost use Rattle.std.specs.Prelude.{◌≡◌, ◌<◌, ◌≤◌, ◌^◌, length, IfSome, IfOk, IsSomeAnd, None};
+ghost use Rattle.std.specs.Prelude.{◌≡◌, ◌<◌, ◌≤◌, ◌^◌, length, map, IfSome, IfOk, IsSomeAnd, None};
 ghost use Rattle.vms_io.specs.Told.{Intake, Stock, outlet, stock};
 ghost use Rattle.vms_spec.specs.Lists.{at_option};
 ghost use Rattle.vms_spec.specs.Shipped.{set_0};
 ghost use Rattle.vms_spec.specs.Streams.{written, AreReady};
 ghost use Rattle.vms_desc.specs.Described.{described};
+ghost use Rattle.vms_image.specs.Typed.{state_of, AreImagesOf};
 ghost use Rattle.vms_cli.specs.Outcomes.{Outcome};
 ghost use Rattle.vms_cli.specs.Pack.{Packs, PacksText, longest_values};
 ghost use Rattle.vms_cli.specs.Endings.{EndsAs, PackCause, WriteCause, WritesAs};
@@ -15,7 +16,7 @@ use crate::notes::{not_there_line, too_large_line, values_line};
 use std::alloc::Global;
 use vms_desc::DescSet;
 use vms_io::{FetchFault, Shelf, Sink};
-use vms_values::{Values, ValuesFault, read_values};
+use vms_values::{Values, ValuesFault, read_text};
 use vms_write::write_stream;
 
 pub(crate) fn pack<O: Sink, H: Shelf>(
@@ -59,7 +60,7 @@ fn pack_text<O: Sink>(alloc: Global, text: &[u8], out: &mut O) -> Ending
     let Ok(set) = DescSet::shipped(alloc, 0) else {
         return Ending::NoMemory;
     };
-    match read_values(alloc, &set, text) {
+    match read_text(alloc, &set, text) {
         Ok(values) => write(&set, &values, out),
         Err(ValuesFault::Bad { line, reason }) => match values_line(alloc, line, reason) {
             Ok(line) => Ending::BadText(line),
@@ -72,8 +73,10 @@ fn pack_text<O: Sink>(alloc: Global, text: &[u8], out: &mut O) -> Ending
 fn write<O: Sink>(set: &DescSet, values: &Values, out: &mut O) -> Ending
     requires first { described set.now ≡ set_0 }
     requires machine { IfSome values.now.machine (λ m. m < length (described set.now).machines) }
-    requires ready { AreReady (described set.now) values.now.images.items }
-    ensures written { WritesAs (written (described set.now) (at_option (described set.now).machines values.now.machine) values.now.images.items None) (outlet O.Sink out.old) (outlet O.Sink out.new) result }
+    requires of { AreImagesOf (described set.now) values.now.images.items }
+    requires ready { AreReady (described set.now) (map state_of values.now.images.items) }
+    ensures written { let named = at_option (described set.now).machines values.now.machine in
+        WritesAs (written (described set.now) named (map state_of values.now.images.items) None) (outlet O.Sink out.old) (outlet O.Sink out.new) result }
     ensures count { O.faults out.old ≤ O.faults out.new }
     ensures promise { O.promise out.new ≡ O.promise out.old }
 {

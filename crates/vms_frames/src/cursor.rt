@@ -1,6 +1,6 @@
 // Where a stream is read.
 ghost use Rattle.std.specs.Prelude.{◌≡◌, true, ◌+◌, ◌^◌, ◌≤◌, None, ℕ, IfOk, OnOk, IfSome};
-ghost use Rattle.vms_kinds.specs.Codes.{width};
+ghost use Rattle.vms_kinds.specs.Codes.{InRange, width};
 ghost use Rattle.vms_frames.specs.Stands.{Stand};
 ghost use Rattle.vms_frames.specs.Found.{step_long, is_configuration};
 ghost use Rattle.vms_frames.specs.Calls.{AnswersHead, ReadsBetween, ReadsNumber, ReadsFiller, AnswersBehind, ReadsEnd, Holds, tail_of, step_given, after_long, after_given};
@@ -98,6 +98,7 @@ impl Cursor {
     pub fn number<S: Source>(&mut self, source: &mut S, kind: Kind) -> Result<i128, FrameFault>
         requires place { self.old.at ≤ 2 ^ 63 }
         requires held { self.old.held ≡ None }
+        ensures range { IfOk result (InRange kind) }
         ensures content { ReadsNumber kind self.old.at (S.left source.old) (S.left source.new) result }
         ensures place { OnOk result (self.new.at ≡ self.old.at + width kind) }
         ensures held { OnOk result (self.new.held ≡ None) }

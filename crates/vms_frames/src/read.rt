@@ -1,6 +1,6 @@
 // One unit each, from its first byte.
 ghost use Rattle.std.specs.Prelude.{◌≡◌, true, false, ◌∷◌, [], ◌++◌, ◌-◌, ◌≤◌, None, length, get_or, IfOk, IfSome};
-ghost use Rattle.vms_kinds.specs.Codes.{width};
+ghost use Rattle.vms_kinds.specs.Codes.{InRange, width};
 ghost use Rattle.vms_marks.specs.Marks.{mark_of};
 ghost use Rattle.vms_frames.specs.Found.{magic_found, version_found, step_long, is_configuration, between_found, mark_found, head_found, start_found, start_reason as start_reason_of, sub_reason as sub_reason_of, configuration_found, number_found, behind_long, behind_found, behind_mark_found, begins as begins_of, sub_found, foot_found, trailer_found, description_found};
 ghost use Rattle.vms_frames.specs.Calls.{IsNext, ahead, held_long};
@@ -55,6 +55,7 @@ pub(crate) fn version<S: Source>(source: &mut S, at: u64) -> Result<(), FrameFau
 
 /// A number of this kind.
 pub(crate) fn number<S: Source>(source: &mut S, at: u64, kind: Kind) -> Result<i128, FrameFault>
+    ensures range { IfOk result (InRange kind) }
     ensures content { IfSome (S.left source.old) (λ rest. Answers (λ _. width kind) (number_found kind rest) at rest (S.left source.new) result) }
     ensures given { GivesWithin (λ _. width kind) (width kind) (S.given source.old) (S.given source.new) result }
     ensures cause { HasCause (S.faults source.old) (S.faults source.new) result }

@@ -4,7 +4,8 @@ use Rattle.std.proofs.lemmas.List.{drop_more, take_all, take_more_set}
 use Rattle.vms_spec.specs.declared.Part.TheVariants as parts
 use Rattle.vms_spec.specs.Sets.{Set, Sub, AtLeast}
 use Rattle.vms_spec.specs.Layout.{no_desc, desc_cells, struct_cells}
-use Rattle.vms_spec.specs.Images.{Image, own_cells}
+use Rattle.vms_spec.specs.Images.{own_cells}
+use Rattle.vms_image.specs.Typed.{Typed, state_of}
 use Rattle.vms_spec.specs.Spelling.{first_line}
 use Rattle.vms_spec.specs.ValuesReading.{BadLine, Standing, Read, ReadSubs, readers, read_desc, next_line, sub_said, also, then_subs, read_sub, read_subs}
 use Rattle.vms_desc.specs.Asks.{first_cell}
@@ -125,13 +126,13 @@ subs_bad start (Err b) j old new mid lines faults.NoMemory h f = absurd f
 subs_bad start (Err b) j old new mid lines (faults.Bad line reason) h f =
     subst (λ (r : Result ReadSubs BadLine). SubsReached r old new lines (Err (faults.Bad line reason))) (sym (h b refl)) f
 
-pub alike_more : (a b c : Image) → IsAlike a b → IsAlike b c → IsAlike a c
-alike_more a b c h k = record { version = k.version ∙ h.version; subs = k.subs ∙ h.subs; cells = k.cells ∙ h.cells }
+pub alike_more : (a b c : Typed) → IsAlike a b → IsAlike b c → IsAlike a c
+alike_more a b c h k = record { version = k.version ∙ h.version; subs = k.subs ∙ h.subs; cells = k.cells ∙ h.cells; kinds = k.kinds ∙ h.kinds }
 
-pub alike_none : (a : Image) → IsAlike a a
-alike_none a = record { version = refl; subs = refl; cells = refl }
+pub alike_none : (a : Typed) → IsAlike a a
+alike_none a = record { version = refl; subs = refl; cells = refl; kinds = refl }
 
-pub of_alike : (set : Set) (i : ℕ) (a b : Image) → IsOfDevice set i a → IsAlike a b → IsOfDevice set i b
+pub of_alike : (set : Set) (i : ℕ) (a b : Typed) → IsOfDevice set i (state_of a) → IsAlike a b → IsOfDevice set i (state_of b)
 of_alike set i a b h k = record { is_device = h.is_device; cells = k.cells ∙ h.cells; subs = k.subs ∙ h.subs; few = subst (λ (n : ℕ). n ≤ 16384) (sym k.cells) h.few }
 
 pub subs_alike : (r : Result ReadSubs BadLine) (old new : Taken) (lines : List ℕ) → SubsReached r old new lines (Ok tt) → IsAlike old.image new.image

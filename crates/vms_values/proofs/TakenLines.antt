@@ -1,6 +1,8 @@
 -- The line of a cell that may count arrays and may not be there.
 use Rattle.std.proofs.Common.{◌≡◌, ℕ, suc, ◌+◌, Bool, true, false, not, ◌||◌, List, ◌++◌, length, drop, slice_set, if◌then◌else◌, Option, Some, None, Result, Ok, Err, ℤ, codes, refl, sym, ap, ◌∙◌, subst, arith}
 use Rattle.vms_kinds.specs.declared.Kind.{Kind}
+use Rattle.vms_kinds.specs.Codes.{InRange}
+use Rattle.vms_laws.proofs.WellFormedLaws.{ranges}
 use Rattle.vms_spec.specs.declared.ValuesReason.{ValuesReason}
 use Rattle.vms_spec.specs.declared.ValuesReason.TheVariants as reasons
 use Rattle.vms_spec.specs.Numbers.{same_number, exceeds}
@@ -18,6 +20,21 @@ use Rattle.vms_values.specs.Taken.{number_judged}
 abbrev taken_number : ℕ → Standing → List ℕ → Result ℤ ValuesReason → Read
 taken_number cell p rest (Ok z) = Ok (record { numbers = slice_set p.numbers cell z; line = suc p.line; rest = rest })
 taken_number cell p rest (Err reason) = bad p reason
+
+-- a number that was judged well is in its kind's range
+judged_is : (z y : ℤ) (a c : Bool) → Ok z ≡ (if a then Err reasons.Count else if c then Ok y else Err reasons.Absent) → z ≡ y
+judged_is z y true c e = cc
+judged_is z y false true e = cc
+judged_is z y false false e = cc
+
+judged_held : (kind : Kind) (caps : List ℕ) (default : ℤ) (present : Bool) (y z : ℤ) (b : Bool) → in_range kind y ≡ b → Ok z ≡ number_judged caps default present (if b then Some y else None) → InRange kind z
+judged_held kind caps default present y z false q e = cc
+judged_held kind caps default present y z true q e =
+    subst (InRange kind) (sym (judged_is z y (exceeds caps y) (present || same_number y default) e)) (ranges kind y q)
+
+pub number_held : (kind : Kind) (caps : List ℕ) (default : ℤ) (present : Bool) (s : Option ℤ) (z : ℤ) → Ok z ≡ number_judged caps default present (held kind s) → InRange kind z
+number_held kind caps default present None z e = cc
+number_held kind caps default present (Some y) z e = judged_held kind caps default present y z (in_range kind y) refl e
 
 module _ (path : List ℕ) (kind : Kind) (caps : List ℕ) (cell : ℕ) (default : ℤ) (present : Bool) (p : Standing) where
   abbrev front : List ℕ

@@ -10,6 +10,7 @@ use Rattle.vms_desc.proofs.Bounds.{all_true, or_else_none, none_is}
 use Rattle.vms_spec.specs.declared.ValuesReason.TheVariants as reasons
 use Rattle.vms_spec.specs.Sets.{Set}
 use Rattle.vms_spec.specs.Images.{Image}
+use Rattle.vms_image.specs.Typed.{state_of}
 use Rattle.vms_spec.specs.ValuesReading.{BadLine, ReadAll, ValuesRead, Values, Bad, ended, judged, answer_of, judge_devices, or_bad}
 use Rattle.vms_values.specs.declared.fault.Values.{Values as Given}
 use Rattle.vms_values.specs.declared.fault.ValuesFault.{ValuesFault}
@@ -28,12 +29,12 @@ whole set m all old new images h none first =
     ap (λ (l : List ℕ). judged set m all l) (h.2 ∙ none)
     ∙ ap (answer_of m all.devices) (sym (h.3 ∙ ap (λ (o : Option Found). or_bad (bad_of o) (judge_devices set set.devices all.devices)) first))
 
-pub text_read : (set : Set) (m : Option (List ℕ)) (r : Result ReadAll BadLine) (old new : Reading) (v : Given) → AllRead set r old new (Ok v.images.items) → new.lines.rest.now ≡ [] → old.judged ≡ None
+pub text_read : (set : Set) (m : Option (List ℕ)) (r : Result ReadAll BadLine) (old new : Reading) (v : Given) → AllRead set r old new (Ok (map state_of v.images.items)) → new.lines.rest.now ≡ [] → old.judged ≡ None
     → new.judged ≡ None → machine_of set v.machine ≡ m → ForSome v.machine (λ k. k < length set.machines) → ReadsAs set (ended set m r) (Ok v)
 text_read set m (Err b) old new v h none first fine is known = absurd h
 text_read set m (Ok all) old new v h none first fine is known =
     let e : ended set m (Ok all) ≡ Values m (map (λ r. r.image) all.devices) =
-    whole set m all old new v.images.items h none first ∙ ap (λ (o : Option Found). answer_of m all.devices (bad_of o)) fine in
+    whole set m all old new (map state_of v.images.items) h none first ∙ ap (λ (o : Option Found). answer_of m all.devices (bad_of o)) fine in
     subst (λ (x : ValuesRead). ReadsAs set x (Ok v)) (sym e) (sym h.0, is, known)
 
 pub text_judged : (set : Set) (m : Option (List ℕ)) (r : Result ReadAll BadLine) (old new : Reading) (images : List Image) (b : Found) → AllRead set r old new (Ok images) → new.lines.rest.now ≡ [] → old.judged ≡ None
@@ -62,13 +63,13 @@ text_refused set m (Ok all) old new (faults.Bad line reason) h = absurd h
 text_refused set m (Err b) old new (faults.Bad line reason) h = h
 text_refused set m r old new faults.NoMemory h = in_any set (ended set m r)
 
-pub text_told : (set : Set) (m : Option (List ℕ)) (r : Result ReadAll BadLine) (old new : Reading) (v : Given) (result : Result Given ValuesFault) → AllRead set r old new (Ok v.images.items) → new.lines.rest.now ≡ []
+pub text_told : (set : Set) (m : Option (List ℕ)) (r : Result ReadAll BadLine) (old new : Reading) (v : Given) (result : Result Given ValuesFault) → AllRead set r old new (Ok (map state_of v.images.items)) → new.lines.rest.now ≡ []
     → old.judged ≡ None → machine_of set v.machine ≡ m → ForSome v.machine (λ k. k < length set.machines) → ToldAs new.judged v result → ReadsAs set (ended set m r) result
 text_told set m r old new v result h none first is known t = by new.judged refl t
   where
     by : (o : Option Found) → new.judged ≡ o → ToldAs o v result → ReadsAs set (ended set m r) result
     by None e t = subst (ReadsAs set (ended set m r)) (sym t) (text_read set m r old new v h none first e is known)
-    by (Some b) e t = subst (ReadsAs set (ended set m r)) (sym t) (text_judged set m r old new v.images.items b h none first e)
+    by (Some b) e t = subst (ReadsAs set (ended set m r)) (sym t) (text_judged set m r old new (map state_of v.images.items) b h none first e)
 
 -- ---- a well-formed set has few machines
 

@@ -9,6 +9,7 @@ use Rattle.vms_spec.specs.Images.{Image, default_image}
 use Rattle.vms_spec.specs.Spelling.{first_line}
 use Rattle.vms_spec.specs.ValuesReading.{BadLine, Standing, Read, Reader, readers, ValuesRead, Values, Bad, ReadAll, bad, put_line, read_desc, next_line, rest_of, section_line, is_line}
 use Rattle.vms_desc.specs.Described.{device_at}
+use Rattle.vms_image.specs.Typed.{state_of}
 use Rattle.vms_values.specs.Printing.{machine_of}
 use Rattle.vms_values.specs.declared.fault.ValuesFault.{ValuesFault}
 use Rattle.vms_values.specs.declared.fault.ValuesFault.TheVariants as faults
@@ -76,7 +77,7 @@ ReachesAll read now (Err faults.NoMemory) items = Unit {0}
 -- the values, or the bad line; memory may be wanting in any case
 abbrev pub ReadsAs : Set → ValuesRead → Result Given ValuesFault → Type 0
 ReadsAs set (Values machine images) (Ok v) =
-    (v.images.items ≡ images) × (machine_of set v.machine ≡ machine) × ForSome v.machine (λ m. m < length set.machines)
+    (map state_of v.images.items ≡ images) × (machine_of set v.machine ≡ machine) × ForSome v.machine (λ m. m < length set.machines)
 ReadsAs set (Bad line reason) (Ok v) = ⊥
 ReadsAs set (Values machine images) (Err (faults.Bad line reason)) = ⊥
 ReadsAs set (Bad line reason) (Err (faults.Bad l r)) = (l ≡ line) × (r ≡ reason)

@@ -4,7 +4,7 @@ use Rattle.std.specs.Str.{bytes_eq}
 use Rattle.std.specs.Fmt.{decimal}
 use Rattle.vms_spec.specs.declared.ValuesReason.TheVariants as reasons
 use Rattle.vms_spec.specs.Sets.{Sub, Set}
-use Rattle.vms_spec.specs.Images.{Image}
+use Rattle.vms_image.specs.Typed.{Typed}
 use Rattle.vms_spec.specs.Spelling.{first_line}
 use Rattle.vms_spec.specs.ValuesReading.{BadLine, Standing, Read, ReadSubs, readers, read_desc, next_line, rest_of, sub_line, sub_said}
 use Rattle.vms_values.specs.declared.cursor.Lines.{Lines}
@@ -42,10 +42,11 @@ abbrev pub sub_read : Set → Sub → ℕ → Standing → Result (Option ℕ ×
 sub_read set s at p = said_read set s at p (sub_said s (first_line p.rest))
 
 -- an image of the same device at the same version
-pub record IsAlike (old new : Image) : Type 0 where
+pub record IsAlike (old new : Typed) : Type 0 where
   pub version : new.version ≡ old.version
   pub subs : length new.came ≡ length old.came
   pub cells : length new.numbers ≡ length old.numbers
+  pub kinds : new.kinds ≡ old.kinds
 
 -- it is read and marked as it came, or it is refused
 abbrev pub SubReached : Result (Option ℕ × Standing) BadLine → ℕ → Taken → Taken → Result (Unit {0}) ValuesFault → Type 0

@@ -1,8 +1,9 @@
 // Reads values texts of every set.
-ghost use Rattle.std.specs.Prelude.{◌≡◌, ◌<◌, ◌∷◌, ◌++◌, [], length, OnOk};
+ghost use Rattle.std.specs.Prelude.{◌≡◌, ◌<◌, ◌∷◌, ◌++◌, [], length, map, OnOk, IfOk};
 ghost use Rattle.std.specs.Bool.{OnTrue};
 ghost use Rattle.vms_spec.specs.ValuesReading.{values_read, read_devices as devices_read};
 ghost use Rattle.vms_desc.specs.Described.{described, device_at};
+ghost use Rattle.vms_image.specs.Typed.{state_of, IsImageOf, AreImagesOf};
 ghost use Rattle.vms_write.specs.Judged.{IsOfDevice};
 ghost use Rattle.vms_values.specs.Reading.{ReadsAs};
 ghost use Rattle.vms_values.specs.DevicesRead.{device_read, start_of, DeviceRead, AllRead, map_ok, ToldAs};
@@ -33,7 +34,8 @@ struct Reading<'a> {
 /// or subsection whose validations fail or that isn't sent as it is needed. The text is read once.
 pub fn read_text(alloc: Global, set: &DescSet, text: &[u8]) -> Result<Values, ValuesFault>
     requires small { length text.now < 4294967296 }
-    ensures { ReadsAs (described set.now) (values_read (described set.now) text.now) result }
+    ensures read { ReadsAs (described set.now) (values_read (described set.now) text.now) result }
+    ensures of { IfOk result (λ v. AreImagesOf (described set.now) v.images.items) }
 {
     let start = read_machine(set.parts().machines.as_slice(), text);
     let mut reading = Reading {
@@ -70,10 +72,11 @@ fn read_images(
     reading: &mut Reading,
 ) -> Result<Vec<Image>, ValuesFault>
     requires few { length (described set.now).devices < 4294967296 }
-    ensures { let set = described set.now in
+    ensures read { let set = described set.now in
         let whole = devices_read set set.devices in
         let read = whole reading.old.lines.line reading.old.lines.rest.now in
-        AllRead set read reading.old reading.new (map_ok (λ v. v.items) result) }
+        AllRead set read reading.old reading.new (map_ok (λ v. map state_of v.items) result) }
+    ensures of { IfOk result (λ v. AreImagesOf (described set.now) v.items) }
 {
     let mut images = Vec::new(alloc);
     for device in 0..set.parts().devices.as_slice().len() as u32 {
@@ -93,10 +96,11 @@ fn read_image(
     reading: &mut Reading,
 ) -> Result<Image, ValuesFault>
     requires known { device < length (described set.now).devices }
-    ensures { let d = device_at (described set.now) device in
+    ensures read { let d = device_at (described set.now) device in
         let start = start_of (described set.now) d reading.old in
         let whole = device_read (described set.now) d start in
-        DeviceRead (described set.now) d whole reading.old reading.new result }
+        DeviceRead (described set.now) d whole reading.old reading.new (map_ok state_of result) }
+    ensures of { IfOk result (λ image. IsImageOf (described set.now) device image) }
 {
     let mut taken = Taken {
         image: Image::new(alloc, set, device)?,

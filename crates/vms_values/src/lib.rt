@@ -21,6 +21,5 @@ pub use devices::read_text;
 pub use fault::{Values, ValuesFault};
 pub use name::print_path;
 pub use print::print_values;
-pub use read::read_values;
 pub use vms_io::WriteFault;
 pub use vms_spec::ValuesReason;

@@ -11,6 +11,8 @@ ghost use Rattle.vms_spec.specs.ValuesReading.{sub_line, sub_said as said, read_
 ghost use Rattle.vms_desc.specs.Asks.{first_cell};
 ghost use Rattle.vms_desc.specs.Described.{described, device_at};
 ghost use Rattle.vms_desc.specs.Parts.{sub_at};
+ghost use Rattle.vms_desc.specs.Spots.{kinds_at};
+ghost use Rattle.vms_image.specs.Typed.{state_of};
 ghost use Rattle.vms_parts.specs.Views.{sub_of};
 ghost use Rattle.vms_write.specs.Judged.{IsOfDevice};
 ghost use Rattle.vms_values.specs.Taken.{place_of};
@@ -34,7 +36,8 @@ pub(crate) fn read_subs(
     taken: &mut Taken,
     lines: &mut Vec<u32>,
 ) -> Result<(), ValuesFault>
-    requires device { IsOfDevice (described set.now) device taken.old.image }
+    requires device { IsOfDevice (described set.now) device (state_of taken.old.image) }
+    requires kinds { taken.old.image.kinds ≡ kinds_at (described set.now) device }
     requires none { lines.old.items ≡ [] }
     ensures read { let d = device_at (described set.now) device in
         let whole = subs_read (described set.now) (own_cells (described set.now) d) d.subs in
@@ -60,7 +63,8 @@ fn push_line(lines: &mut Vec<u32>, line: u32) -> bool
 
 // The line and the numbers of a subsection.
 fn read_sub(set: &DescSet, device: u32, sub: u32, taken: &mut Taken) -> Result<(), ValuesFault>
-    requires device { IsOfDevice (described set.now) device taken.old.image }
+    requires device { IsOfDevice (described set.now) device (state_of taken.old.image) }
+    requires kinds { taken.old.image.kinds ≡ kinds_at (described set.now) device }
     requires is_sub { sub < length (device_at (described set.now) device).subs }
     ensures read { let set = described set.now in
         let s = sub_at (device_at set device) sub in
