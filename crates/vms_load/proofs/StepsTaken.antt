@@ -1,6 +1,6 @@
 -- One step that was taken, or that is refused.
 use Rattle.std.proofs.Common.{◌≡◌, ℕ, List, [], ◌∷◌, Option, Some, None, Result, Ok, Err, OnOk, IfErr, IfSome, ℤ, ap, arith}
-use Rattle.vms_spec.specs.Images.{Image}
+use Rattle.vms_image.specs.Typed.{Typed}
 use Rattle.vms_spec.specs.Taking.{Taken, ◌>>=◌}
 use Rattle.vms_frames.specs.Answers.{HasCause}
 use Rattle.vms_frames.specs.declared.fault.FrameFault.{FrameFault}
@@ -67,7 +67,7 @@ module _ (x : Step) where
         → b.image ≡ record a.image { numbers = b.image.numbers } → Keeps (x ∷ []) a.image.numbers b.image.numbers → IfErr r (λ e. b.image ≡ a.image) → IfErr r (λ e. Failed (x ∷ []) a e b)
     step_err (Ok y) taken heard given cause promise kept keeps same = tt
     step_err (Err e) taken heard given cause promise kept keeps same =
-        let stays = ap (λ (i : Image). i.numbers) same in
+        let stays = ap (λ (i : Typed). i.numbers) same in
         record {
           taken = one_taken a b (Err e) taken;
           stopped = one_stopped a b e stays taken;

@@ -2,7 +2,7 @@
 use Rattle.std.specs.Prelude.{◌≡◌, ℕ, ◌+◌, ◌^◌, ◌<◌, ◌≤◌, Bool, List, [], ◌∷◌, ◌++◌, Option, ℤ, Result, Ok, Err, IfSome}
 use Rattle.std.proofs.Common.{refl, sym, ap, ◌∙◌, subst, arith, None, Some}
 use Rattle.vms_kinds.specs.Codes.{width}
-use Rattle.vms_spec.specs.Images.{Image}
+use Rattle.vms_image.specs.Typed.{Typed}
 use Rattle.vms_spec.specs.Taking.{Taken, Progress, Refusal, ◌>>=◌, take_number, take_constant, take_filler, take_rule}
 use Rattle.vms_frames.specs.Answers.{HasCause}
 use Rattle.vms_frames.specs.Heard.{HeardOn, Hears}
@@ -49,14 +49,14 @@ steps_long (x ∷ xs) = step_long x + steps_long xs
 
 -- an image, a place, and what a source tells
 pub record Told : Type 0 where
-  pub image : Image
+  pub image : Typed
   pub place : ℕ
   pub left : Option (List ℕ)
   pub given : ℕ
   pub faults : ℕ
   pub promise : Bool
 
-abbrev pub told : {S : Type 0} → (S → Option (List ℕ)) → (S → ℕ) → (S → ℕ) → (S → Bool) → Image → ℕ → S → Told
+abbrev pub told : {S : Type 0} → (S → Option (List ℕ)) → (S → ℕ) → (S → ℕ) → (S → Bool) → Typed → ℕ → S → Told
 told left given faults promise image place source = record {
   image = image;
   place = place;
@@ -185,8 +185,8 @@ stop_early (Ok p) ys (faults.Refused at reason) n place left h = absurd h
 stop_early (Ok p) ys faults.ReadFault n place left h = always (take_steps ys p) n place left
 stop_early (Err e) ys fault n place left h = h
 
-kept_on : (a b c : Image) → b ≡ record a { numbers = b.numbers } → c ≡ record b { numbers = c.numbers } → c ≡ record a { numbers = c.numbers }
-kept_on a b c e f = f ∙ ap (λ (image : Image). record image { numbers = c.numbers }) e
+kept_on : (a b c : Typed) → b ≡ record a { numbers = b.numbers } → c ≡ record b { numbers = c.numbers } → c ≡ record a { numbers = c.numbers }
+kept_on a b c e f = f ∙ ap (λ (image : Typed). record image { numbers = c.numbers }) e
 
 pub took_none : (a : Told) → a.given < 2 ^ 64 → Took [] a a
 took_none a few = record {

@@ -1,6 +1,7 @@
 // Numbers that count arrays, constants and unused bytes.
-ghost use Rattle.std.specs.Prelude.{◌≡◌, ◌+◌, ◌≤◌, ◌<◌, ◌^◌, true, false, IfSome, OnOk, OnErr, IfErr, ℤ, slice_set, length, None};
-ghost use Rattle.vms_kinds.specs.Codes.{width};
+ghost use Rattle.std.specs.Prelude.{◌≡◌, ◌+◌, ◌≤◌, ◌<◌, ◌^◌, true, false, IfSome, OnOk, OnErr, IfOk, IfErr, ℤ, get_or, slice_set, length, None};
+ghost use Rattle.vms_kinds.specs.Codes.{InRange, width};
+ghost use Rattle.vms_kinds.specs.declared.Kind.TheVariants.{U8};
 ghost use Rattle.vms_spec.specs.Numbers.{exceeds, is_above};
 ghost use Rattle.vms_spec.specs.Taking.{take_number};
 ghost use Rattle.vms_frames.specs.Answers.{HasCause, GivesWithin};
@@ -25,6 +26,7 @@ pub(crate) fn put_number<S: Source>(
     requires place { cursor.old.at ≤ 2 ^ 63 }
     requires held { cursor.old.held ≡ None }
     requires within { cell < length image.old.numbers }
+    requires of_kind { get_or image.old.kinds cell U8 ≡ kind }
     ensures taken { IfSome (S.left source.old) (λ rest.
         let start = progress image.old.numbers cursor.old.at rest in
         let taken = take_number kind (capacities_of most) cell start in
@@ -52,6 +54,7 @@ fn number<S: Source>(
 ) -> Result<i128, FrameFault>
     requires place { cursor.old.at ≤ 2 ^ 63 }
     requires held { cursor.old.held ≡ None }
+    ensures range { IfOk result (InRange kind) }
     ensures content { ReadsCapped kind (capacities_of most) cursor.old.at (S.left source.old) (S.left source.new) result }
     ensures place { OnOk result (cursor.new.at ≡ cursor.old.at + width kind) }
     ensures held { OnOk result (cursor.new.held ≡ None) }

@@ -3,6 +3,7 @@ ghost use Rattle.std.specs.Prelude.{◌≡◌, ◌<◌, ℕ, List, length, map, 
 ghost use Rattle.vms_spec.specs.Images.{default_image};
 ghost use Rattle.vms_parts.specs.Views.{set_of};
 ghost use Rattle.vms_load.specs.Good.{AreKept, kept_once};
+ghost use Rattle.vms_image.specs.Typed.{AreImagesOf, state_of as untyped};
 ghost use Rattle.vms_load.specs.Staging.{AreShaped};
 
 use crate::LoadFault;
@@ -26,7 +27,7 @@ pub struct Loader {
     // What is read of a stream until all of it is taken.
     staged: Staged,
     ghost kept: { AreShaped (set_of set.parts) images.items },
-    ghost whole: { 0 < taken → AreKept (set_of set.parts) images.items } by { kept_once taken (set_of set.parts) images.items },
+    ghost whole: { 0 < taken → AreKept (set_of set.parts) (map untyped images.items) } by { kept_once taken (set_of set.parts) (map untyped images.items) },
     ghost spare: { AreShaped (set_of set.parts) staged.images.items },
 }
 
@@ -90,9 +91,10 @@ impl Loader {
 
     /// The images of the last stream that was taken, or the defaults before the first.
     pub fn images(&self) -> &[Image]
-        ensures images { result.now ≡ kept self.now }
+        ensures images { map untyped result.now ≡ kept self.now }
+        ensures of { AreImagesOf (loads self.now) result.now }
         ensures shape { AreShaped (loads self.now) result.now }
-        ensures whole { 0 < taken_by self.now → AreKept (loads self.now) result.now }
+        ensures whole { 0 < taken_by self.now → AreKept (loads self.now) (kept self.now) }
     {
         &self.images
     }

@@ -1,11 +1,18 @@
 use Rattle.std.specs.Int.{w128}
-use Rattle.std.proofs.Common.{rules, SFits, ℤ}
+use Rattle.std.proofs.Common.{rules, SFits, ℤ, sym, subst}
+use Rattle.vms_kinds.specs.declared.Kind.{Kind}
+use Rattle.vms_kinds.specs.Codes.{InRange}
 use Rattle.std.proofs.lemmas.Int.{to_z-of_z}
 use Rattle.std.proofs.lemmas.Result.{err_from_is_err_and}
 use Rattle.vms_walk.specs.Steps.{capacities_of}
 use Rattle.vms_frames.proofs.HeardLemmas.{heard_as, hears_fault}
 use Rattle.vms_load.proofs.BodyLemmas.{number_ok, number_err}
 use Rattle.vms_load.proofs.items.put_number.Goals as goal
+
+pub set-requires-clause-range : goal.set-requires-clause-range
+set-requires-clause-range g c =
+    let f : SFits w128 c.in_ok-number.number = search rules in
+    rw (to_z-of_z w128 c.in_ok-number.number f) (subst (λ (k : Kind). InRange k c.in_ok-number.number) (sym c.requires.of_kind) c.in_ok-number.ensures.range)
 
 pub returns-in_err-number-clause-taken : goal.returns-in_err-number-clause-taken
 returns-in_err-number-clause-taken g c =
