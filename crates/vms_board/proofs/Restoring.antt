@@ -1,5 +1,5 @@
 -- What a load brings to a board.
-use Rattle.std.proofs.Common.{◌≡◌, inl, inr, ℕ, zero, suc, ◌-◌, ◌<◌, ◌≤◌, List, [], ◌∷◌, length, get_or, map, Option, Some, None, IfSome, Ok, Err, Result, refl, sym, ap, ◌∙◌, subst, arith}
+use Rattle.std.proofs.Common.{◌≡◌, inl, inr, ℕ, zero, suc, ◌-◌, ◌<◌, ◌≤◌, List, [], ◌∷◌, length, get_or, Option, Some, None, IfSome, Ok, Err, Result, refl, sym, ap, ◌∙◌, subst, arith}
 use Rattle.std.proofs.lemmas.Bool.{leb-true}
 use Rattle.dev_base.specs.Levels.{IsLevel}
 use Rattle.dev_base.specs.declared.limits.TheConstants.{NEWEST}
@@ -11,14 +11,17 @@ use Rattle.vms_desc.specs.Described.{device_at}
 use Rattle.vms_desc.specs.Formed.{shipped_set}
 use Rattle.vms_frames.proofs.HeardLemmas.{heard_as}
 use Rattle.vms_frames.specs.declared.fault.Refusal.{Refusal}
+use Rattle.vms_check.proofs.ListLaws.{at_get}
+use Rattle.vms_image.specs.Typed.{Typed, AreImagesOf}
 use Rattle.vms_load.specs.Good.{AreKept}
 use Rattle.vms_load.specs.Hearing.{HearsLoad}
 use Rattle.vms_load.specs.Loads.{Loads}
-use Rattle.vms_load.specs.Staging.{accepted_of, name_of, AreShaped, no_image}
+use Rattle.vms_load.specs.Staging.{accepted_of, name_of}
 use Rattle.vms_load.specs.declared.fault.LoadFault.{LoadFault}
 use Rattle.vms_load.specs.declared.fault.LoadFault.TheVariants as loads
 use Rattle.vms_spec.specs.Images.{Image}
 use Rattle.vms_spec.specs.Layout.{device_cells, first}
+use Rattle.vms_spec.specs.Lists.{at}
 use Rattle.vms_spec.specs.Sets.{Set}
 use Rattle.vms_units.specs.Faults.{Fault}
 use Rattle.vms_units.specs.Streams.{Takes}
@@ -145,11 +148,6 @@ hears_unfit own level before now new images taken fault r l e u heard =
 
 -- ---- the cells of images
 
-length-numbers : (images : List Image) (k : ℕ) → k < length images → get_or (map (λ image. image.numbers) images) k [] ≡ (get_or images k no_image).numbers
-length-numbers [] k lt = absurd (omega (arith, lt))
-length-numbers (i ∷ images) zero lt = refl
-length-numbers (i ∷ images) (suc k) lt = length-numbers images k (omega (arith, lt))
-
 few : (k : ℕ) → k < 5 → length (device_cells (shipped_set NEWEST) (device_at (shipped_set NEWEST) k)) ≤ 96
 unfolding first
 few zero lt = leb-true (length (device_cells (shipped_set NEWEST) (device_at (shipped_set NEWEST) 0))) 96 refl
@@ -160,11 +158,13 @@ few (suc (suc (suc (suc zero)))) lt = leb-true (length (device_cells (shipped_se
 few (suc (suc (suc (suc (suc k))))) lt = absurd (omega (arith, lt))
 
 -- there are five images, each with room for its numbers among those of a device
-pub five_of : (images : List Image) → AreShaped (shipped_set NEWEST) images → length images ≡ 5
-five_of images s = s.all
+five_of : (images : List Typed) → AreImagesOf (shipped_set NEWEST) images → length images ≡ 5
+five_of images s = s.one_each
 
-pub room : (images : List Image) (k : ℕ) → AreShaped (shipped_set NEWEST) images → k < 5 → length (get_or images k no_image).numbers ≤ 96
-room images k s lt = let n = (s.each k lt).numbers in let most = few k lt in omega (arith, n, most)
-
-pub numbers_there : (images : List Image) (k : ℕ) → AreShaped (shipped_set NEWEST) images → k < 5 → get_or (map (λ image. image.numbers) images) k [] ≡ (get_or images k no_image).numbers
-numbers_there images k s lt = let five = five_of images s in length-numbers images k (omega (arith, five, lt))
+pub room : (images : List Typed) (k : ℕ) (image : Typed) → AreImagesOf (shipped_set NEWEST) images → k < 5 → image ≡ get_or images k image → length image.numbers ≤ 96
+room images k image s lt is =
+    let five = five_of images s in
+    let here : at images k ≡ Some image = at_get images k image (omega (arith, five, lt)) ∙ ap (λ (i : Typed). Some i) (sym is) in
+    let n = (s.each k image here).cells in
+    let most = few k lt in
+    omega (arith, n, most)
