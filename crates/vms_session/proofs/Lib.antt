@@ -1,3 +1,6 @@
 pub mod LengthLaws
 pub mod SessionLaws
 pub mod StreamLaws
+pub mod SoundLaws
+pub mod EndLaws
+pub mod OneLaws

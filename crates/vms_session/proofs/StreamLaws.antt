@@ -82,7 +82,7 @@ alone set names input taken name images t =
 
 -- ---- the shipped sets
 
-well : (s : ℕ) → WellFormed (shipped_set s)
+pub well : (s : ℕ) → WellFormed (shipped_set s)
 well s = none_is (first_fault (shipped_set s)) (formed s)
 
 newest_itself : Compatible (shipped_set 4) (shipped_set 4)

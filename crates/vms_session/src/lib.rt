@@ -4,4 +4,7 @@
 
 mod laws;
 
-pub use laws::{continuation_law, level_law, refusal_law, short_law, stream_law};
+pub use laws::{
+    bytes_law, continuation_law, end_law, level_law, line_law, refusal_law, short_law, sound_law,
+    stream_law,
+};
