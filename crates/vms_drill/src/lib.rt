@@ -1,0 +1,7 @@
+//! Drills of a board: events that a seed chooses, and after every thousand of them a board that is restored from its own
+//! stream.
+#![tactic(auto)]
+
+mod laws;
+
+pub use laws::{course_law, size_law};
