@@ -1,0 +1,4 @@
+pub mod Imaging
+pub mod Restoring
+pub mod SavedCells
+pub mod TakenImages
