@@ -1,17 +1,17 @@
 -- How the code's steps end, beside what is meant by them.
 use Rattle.std.specs.Prelude.{◌≡◌, ℕ, Bool, true, List, Result, Ok, Err, string_bytes}
-use Rattle.std.specs.Io.KnownBytes.{Appends, Keeps}
+use Rattle.std.specs.Io.KnownBytes.{Appends}
 use Rattle.std.specs.declared.string.String.{String}
 use Rattle.std.specs.declared.alloc.Global.{Global}
 use Rattle.vms_io.specs.Causes.{Rose, AppendsPrefix}
 use Rattle.vms_io.specs.Told.{Outlet, Stock}
-use Rattle.vms_cli.specs.declared.ending.Ending.{Ending}
-use Rattle.vms_cli.specs.declared.ending.Ending.TheVariants.{Done, BadText, NotCompatible, WriteFault, ShelfFault, NotThere, TooLarge, NoMemory}
-use Rattle.vms_cli.specs.declared.fetch.SetText.{SetText as Fetched}
-use Rattle.vms_cli.specs.declared.fetch.SetText.TheVariants as fetched
-use Rattle.vms_cli.specs.Endings.{SetCause}
-use Rattle.vms_cli.specs.Fetching.{SetText, Number, Text}
-use Rattle.vms_cli.specs.Steps.{Step, Untold, Gives, Ends}
+use Rattle.vms_outcome.specs.declared.ending.Ending.{Ending}
+use Rattle.vms_outcome.specs.declared.ending.Ending.TheVariants.{Done, BadText, NotCompatible, WriteFault, ShelfFault, NotThere, TooLarge, NoMemory}
+use Rattle.vms_outcome.specs.declared.fetching.SetText.{SetText as Fetched}
+use Rattle.vms_outcome.specs.declared.fetching.SetText.TheVariants as fetched
+use Rattle.vms_outcome.specs.Endings.{SetCause}
+use Rattle.vms_outcome.specs.Fetching.{SetText, Number, Text}
+use Rattle.vms_outcome.specs.Steps.{Step, Untold, Gives, Ends}
 
 abbrev pub text_of : Fetched → SetText
 text_of (fetched.Shipped set) = Number set.number
@@ -84,12 +84,3 @@ ReadCause asks (Err ending) = ⊥
 abbrev pub HadCause : {T : Type 0} → Bool → Stock → Stock → Result T Ending → Type 0
 HadCause asks shelf shelf' (Ok t) = Unit {0}
 HadCause asks shelf shelf' (Err ending) = SetCause asks shelf shelf' ending
-
--- once the sets are fetched
-abbrev pub CompareCause : Bool → Outlet → Outlet → Ending → Type 0
-CompareCause asks out out' Done = Unit {0}
-CompareCause asks out out' (BadText line) = (asks ≡ true) × Keeps out.written out'.written
-CompareCause asks out out' (NotCompatible line) = Keeps out.written out'.written
-CompareCause asks out out' WriteFault = Rose out.faults out'.faults
-CompareCause asks out out' NoMemory = Keeps out.written out'.written
-CompareCause asks out out' ending = ⊥

@@ -3,29 +3,36 @@ ghost use Rattle.std.specs.Prelude.{◌≡◌};
 
 /// How a command ends; each but `Done` has a status and a line of notes, which some bring with them.
 #[derive(Drop)]
-pub(crate) enum Ending {
+pub enum Ending {
+    /// All is done.
     Done,
     /// The stream is refused, with this line.
     Refused(String),
+    /// The words name no command.
     BadWords,
-    /// A values text or a description file is refused, with this line.
+    /// A values text, a description file or a script is refused, with this line.
     BadText(String),
     /// A set isn't compatible to another, with this line.
     NotCompatible(String),
+    /// The input failed.
     ReadFault,
+    /// Out failed, after a beginning of the text.
     WriteFault,
+    /// The shelf failed.
     ShelfFault,
     /// A name isn't on the shelf, with this line.
     NotThere(String),
     /// What a name holds is too large, with this line.
     TooLarge(String),
+    /// Memory is wanting.
     NoMemory,
 }
 
 impl Ending {
-    ghost use Rattle.vms_cli.specs.Endings.{status_of, line_of};
+    ghost use Rattle.vms_outcome.specs.Endings.{status_of, line_of};
 
-    pub(crate) fn status(&self) -> u8
+    /// The status that the program answers.
+    pub fn status(&self) -> u8
         ensures { result ≡ status_of self.now }
     {
         match self {
@@ -43,7 +50,8 @@ impl Ending {
         }
     }
 
-    pub(crate) fn line(&self) -> &[u8]
+    /// The line of notes, with its line feed; none where all is done.
+    pub fn line(&self) -> &[u8]
         ensures { result.now ≡ line_of self.now }
     {
         match self {

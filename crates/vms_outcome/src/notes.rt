@@ -1,20 +1,15 @@
 // The lines of notes.
 ghost use Rattle.std.specs.Prelude.{◌≡◌, IfOk, string_bytes};
 ghost use Rattle.vms_desc.specs.Described.{described};
-ghost use Rattle.vms_cli.specs.Lines.{reason_name, reason_text, rule_of, section_text, refused_line, not_there_line, too_large_line, values_line, values_reason_text};
+ghost use Rattle.vms_outcome.specs.Lines.{reason_name, reason_text, rule_of, section_text, refused_line, not_there_line, too_large_line};
 
 use std::alloc::Global;
 use vms_desc::DescSet;
 use vms_io::NoMemory;
 use vms_load::{Reason, Refusal};
-use vms_values::ValuesReason;
 
-// The line of a stream that is refused.
-pub(crate) fn refused_line(
-    alloc: Global,
-    set: &DescSet,
-    refusal: &Refusal,
-) -> Result<String, NoMemory>
+/// The line of a stream that is refused.
+pub fn refused_line(alloc: Global, set: &DescSet, refusal: &Refusal) -> Result<String, NoMemory>
     ensures { IfOk result (λ line. string_bytes line ≡ refused_line (described set.now) refusal.now.at refusal.now.section refusal.now.reason) }
 {
     let at = refusal.at;
@@ -94,41 +89,16 @@ fn reason_name(reason: Reason) -> &'static str
     }
 }
 
-// The line of a name that isn't on the shelf.
-pub(crate) fn not_there_line(alloc: Global, name: &str) -> Result<String, NoMemory>
+/// The line of a name that isn't on the shelf.
+pub fn not_there_line(alloc: Global, name: &str) -> Result<String, NoMemory>
     ensures { IfOk result (λ line. string_bytes line ≡ not_there_line name.now) }
 {
     Ok(format!(in alloc; "not there: {name}\n")?)
 }
 
-// The line of a name that holds more than the limit.
-pub(crate) fn too_large_line(alloc: Global, name: &str) -> Result<String, NoMemory>
+/// The line of a name that holds more than the limit.
+pub fn too_large_line(alloc: Global, name: &str) -> Result<String, NoMemory>
     ensures { IfOk result (λ line. string_bytes line ≡ too_large_line name.now) }
 {
     Ok(format!(in alloc; "too large: {name}\n")?)
-}
-
-// The line of a values text that is refused.
-pub(crate) fn values_line(
-    alloc: Global,
-    line: u32,
-    reason: ValuesReason,
-) -> Result<String, NoMemory>
-    ensures { IfOk result (λ text. string_bytes text ≡ values_line line reason) }
-{
-    let reason = values_reason_text(reason);
-    Ok(format!(in alloc; "values line {line}: {reason}\n")?)
-}
-
-fn values_reason_text(reason: ValuesReason) -> &'static str
-    ensures { result.now ≡ values_reason_text reason }
-{
-    match reason {
-        ValuesReason::Form => "Form",
-        ValuesReason::Number => "Number",
-        ValuesReason::Count => "Count",
-        ValuesReason::Absent => "Absent",
-        ValuesReason::Invalid => "Invalid",
-        ValuesReason::Needed => "Needed",
-    }
 }

@@ -4,24 +4,24 @@ use Rattle.vms_io.specs.Shelves.{Held}
 use Rattle.vms_spec.specs.Sets.{Set}
 use Rattle.vms_desc.specs.Formed.{shipped_set}
 use Rattle.vms_descfile.specs.Files.{Said, Parts, Syntax, Shape, IllFormed, file_said}
-use Rattle.vms_cli.specs.Commands.{SetWord, Shipped, OnShelf}
-use Rattle.vms_cli.specs.Lines.{not_there_line, too_large_line}
-use Rattle.vms_cli.specs.SetLines.{syntax_line, shape_line, rule_line}
-use Rattle.vms_cli.specs.Steps.{Step, Untold, Gives, Ends, next, Both, both}
+use Rattle.vms_outcome.specs.SetWords.{SetWord, Shipped, OnShelf}
+use Rattle.vms_outcome.specs.Lines.{not_there_line, too_large_line}
+use Rattle.vms_outcome.specs.SetLines.{syntax_line, shape_line, rule_line}
+use Rattle.vms_outcome.specs.Steps.{Step, Untold, Gives, Ends, next, Both, both}
 
 -- the greatest file but a script, in bytes
 abbrev pub longest_file : ℕ
 longest_file = 1048576
 
-abbrev pub text_under : List ℕ → Option (List ℕ) → Step (List ℕ)
-text_under name None = Ends 8 (not_there_line name)
-text_under name (Some text) =
-    if nat_le (length text) longest_file then Gives text else Ends 9 (too_large_line name)
+-- the text under a name, of at most so many bytes
+abbrev pub text_under : ℕ → List ℕ → Option (List ℕ) → Step (List ℕ)
+text_under most name None = Ends 8 (not_there_line name)
+text_under most name (Some text) =
+    if nat_le (length text) most then Gives text else Ends 9 (too_large_line name)
 
--- the text under a name
-abbrev pub fetched : Option Held → List ℕ → Step (List ℕ)
-fetched None name = Untold
-fetched (Some map) name = text_under name (map name)
+abbrev pub fetched : ℕ → Option Held → List ℕ → Step (List ℕ)
+fetched most None name = Untold
+fetched most (Some map) name = text_under most name (map name)
 
 -- a set as its word gives it: a shipped one's number, or a name with its text
 pub data SetText : Type 0 where
@@ -30,7 +30,7 @@ pub data SetText : Type 0 where
 
 abbrev pub fetched_set : Option Held → SetWord → Step SetText
 fetched_set held (Shipped s) = Gives (Number s)
-fetched_set held (OnShelf name) = next (fetched held name) (λ text. Gives (Text name text))
+fetched_set held (OnShelf name) = next (fetched longest_file held name) (λ text. Gives (Text name text))
 
 -- the set that a description file says, or its first fault
 abbrev pub said_set : List ℕ → Said → Step Set

@@ -1,10 +1,10 @@
 -- What a call is to do, and how far it comes: the frame that all commands share.
-use Rattle.std.specs.Prelude.{◌≡◌, ◌⊎◌, ℕ, zero, suc, ◌+◌, ◌≤◌, List, [], ◌∷◌, ◌++◌, take, drop, Option, Some, IfSome}
+use Rattle.std.specs.Prelude.{◌≡◌, ◌⊎◌, ℕ, zero, suc, ◌+◌, ◌≤◌, Bool, true, List, [], ◌∷◌, ◌++◌, take, drop, Option, Some, IfSome}
 use Rattle.std.specs.Io.KnownBytes.{Appends, Keeps}
 use Rattle.vms_io.specs.Causes.{Rose, AppendsPrefix, capped}
 use Rattle.vms_io.specs.Shelves.{Held, IfToldBoth, KeepsOthers}
 use Rattle.vms_io.specs.Told.{Intake, Outlet, Stock}
-use Rattle.vms_cli.specs.Lines.{read_fault, write_fault, shelf_fault, out_of_memory}
+use Rattle.vms_outcome.specs.Lines.{read_fault, write_fault, shelf_fault, out_of_memory}
 
 -- One part of what a command does: what the shelf tells once it is done, and then its text for out.
 pub record Part : Type 0 where
@@ -117,9 +117,17 @@ pub record Stops (status : ℕ) (old new : Outside) (o : Outcome) : Type 0 where
       ⊎ ShelfFault status old new ⊎ WantsMemory status old new
   pub come : ComesTo old.out new.out old.shelf new.shelf o.parts
 
+-- the call does the outcome, or stops on the way
+abbrev pub DoesOrStops : ℕ → Outside → Outside → Outcome → Type 0
+DoesOrStops status old new o = Does status old new o ⊎ Stops status old new o
+
 -- a status of the command's own, for which nothing is written to out
 abbrev pub EndsBy : ℕ → ℕ → Outside → Outside → Type 0
 EndsBy own status old new = (status ≡ own) × Keeps old.out.written new.out.written
+
+-- such a status that comes before the input is read, and only where the words name something on the shelf
+abbrev pub EndsBefore : ℕ → Bool → ℕ → Outside → Outside → Type 0
+EndsBefore own asks status old new = (asks ≡ true) × EndsBy own status old new × (new.input ≡ old.input)
 
 -- counts of faults never fall
 pub record CountsStand (old new : Outside) : Type 0 where

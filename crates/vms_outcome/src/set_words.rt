@@ -1,9 +1,9 @@
-// Words that name a set.
+// What a word that names a set means.
 ghost use Rattle.std.specs.Prelude.{◌≤◌};
 
 /// The set that a word names.
 #[derive(Clone, Copy)]
-pub(crate) enum SetWord<'a> {
+pub enum SetWord<'a> {
     /// `@0` to the newest
     Shipped(ShippedSet),
     /// What the shelf holds under this name.
@@ -12,7 +12,7 @@ pub(crate) enum SetWord<'a> {
 
 /// A shipped set, by its number.
 #[derive(Clone, Copy)]
-pub(crate) struct ShippedSet {
-    pub(crate) number: u8,
+pub struct ShippedSet {
+    pub number: u8,
     ghost shipped: { number ≤ 4 },
 }

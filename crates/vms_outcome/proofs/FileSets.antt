@@ -1,5 +1,5 @@
 -- Each set that a word names is well formed, and its numbers fit the heads of a stream.
-use Rattle.std.proofs.Common.{◌≡◌, ℕ, zero, suc, ◌+◌, ◌<◌, ◌≤◌, ◌^◌, Bool, true, false, nat_le, if◌then◌else◌, List, [], ◌∷◌, Option, Some, None, codes, refl, sym, subst, arith}
+use Rattle.std.proofs.Common.{◌≡◌, ℕ, zero, suc, ◌+◌, ◌≤◌, Bool, true, false, nat_le, if◌then◌else◌, List, [], ◌∷◌, Option, Some, None, codes, refl, subst, arith}
 use Rattle.std.proofs.lemmas.Bool.{leb-true}
 use Rattle.serde_json.specs.Data.{Data, Items, no_items, item}
 use Rattle.serde_json.specs.Find.{get, as_array, as_number, as_u64}
@@ -11,9 +11,9 @@ use Rattle.vms_desc.specs.Formed.{shipped_set}
 use Rattle.vms_io.specs.Shelves.{Held}
 use Rattle.vms_laws.specs.Laws.{IsFit}
 use Rattle.vms_laws.proofs.WellFormedStreams.{shipped_stands}
-use Rattle.vms_cli.specs.Commands.{SetWord}
-use Rattle.vms_cli.specs.Fetching.{SetText, Number, Text, fetched_set, said_set, set_in, word_set}
-use Rattle.vms_cli.specs.Steps.{Step, Untold, Gives, Ends, next as after}
+use Rattle.vms_outcome.specs.SetWords.{SetWord}
+use Rattle.vms_outcome.specs.Fetching.{SetText, Number, Text, fetched_set, said_set, set_in, word_set}
+use Rattle.vms_outcome.specs.Steps.{Step, Untold, Gives, Ends, next as after}
 use Rattle.vms_descfile.specs.Answers.{Answer, good, bad, under, next, changed, each_from, each_of, list_of}
 use Rattle.vms_descfile.specs.Keys.{fits, judged, at as member_at, at_or, member_of, member_or, text_of, up_to, u32_of}
 use Rattle.vms_descfile.specs.Descs.{Head, Whole, desc_needs, desc_allows, head_of, desc_as, rest_of, struct_of, sub_in, sub_of, whole_in, whole_of, device_in, device_of}
