@@ -23,7 +23,8 @@ use Rattle.vms_units.specs.StreamLaws.{Answer, Taken, Faulty}
 use Rattle.vms_session.proofs.SessionLaws.{line_level}
 use Rattle.vms_session.proofs.SoundLaws.{sessions_stay_sound}
 use Rattle.vms_session.proofs.StreamLaws.{streams_come_back, well}
-use Rattle.vms_session.specs.Boards.{machine_of, saved_stream, TakesBoard, misfit_section, misfit_reason, Restore, Back, Refused, Restores}
+use Rattle.vms_board.specs.Restoring.{TakesBoard, misfit_section, misfit_reason, Restore, Back, Refused, Restores}
+use Rattle.vms_board.specs.Saving.{machine_of, saved_stream}
 use Rattle.vms_session.specs.Laws.{HoldsBytes, HasAnEnd, SessionsEnd}
 use Rattle.vms_session.specs.Lines.{saved_line, restored_line, missing_line, too_large_line, refused_line}
 use Rattle.vms_session.specs.Session.{Session, Leaves, Stores, ComesTo, IsTooLarge, IsLoaded, LoadsBytes, LoadsHeld, Does, Plays, longest_stream}

@@ -1,6 +1,7 @@
-pub mod LengthLaws
-pub mod SessionLaws
-pub mod StreamLaws
-pub mod SoundLaws
 pub mod EndLaws
+pub mod LengthLaws
 pub mod OneLaws
+pub mod RoomLemmas
+pub mod SessionLaws
+pub mod SoundLaws
+pub mod StreamLaws

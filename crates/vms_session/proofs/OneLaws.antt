@@ -20,7 +20,8 @@ use Rattle.vms_units.proofs.Stated.{one_stream_holds, one_fault_holds, never_bot
 use Rattle.vms_units.specs.StreamLaws.{AreOneFault}
 use Rattle.vms_session.proofs.EndLaws.{bytes_come}
 use Rattle.vms_session.proofs.StreamLaws.{well}
-use Rattle.vms_session.specs.Boards.{machine_of, saved_stream, TakesBoard, IsFaultAt, IsMisfitAt, misfit_section, misfit_reason, Restore, Back, Refused, Restores}
+use Rattle.vms_board.specs.Restoring.{TakesBoard, IsFaultAt, IsMisfitAt, misfit_section, misfit_reason, Restore, Back, Refused, Restores}
+use Rattle.vms_board.specs.Saving.{machine_of, saved_stream}
 use Rattle.vms_session.specs.Laws.{HoldsBytes, ReadsBytes, BytesAreOne, LinesAreOne, IsOneEnd}
 use Rattle.vms_session.specs.Lines.{saved_line, restored_line, missing_line, too_large_line, refused_line}
 use Rattle.vms_session.specs.Session.{Session, Leaves, Stores, ComesTo, IsTooLarge, IsLoaded, LoadsBytes, LoadsHeld, Does, longest_stream}
@@ -53,8 +54,8 @@ module _ (level : ℕ) (bytes : List ℕ) where
   same-cells n k images others t u = ap (λ (i : List Image). restored level (cells_in i)) (one-stream n k images others t u).1
 
   module _ (ok : IsBytes bytes) where
-    no-fault : (n : ℕ) (images : List Image) (place : ℕ) (section : Option ℕ) (reason : Reason) → TakesBoard level bytes n images → IsFaultAt level bytes place section reason → ⊥
-    no-fault n images place section reason t f =
+    pub no_fault : (n : ℕ) (images : List Image) (place : ℕ) (section : Option ℕ) (reason : Reason) → TakesBoard level bytes n images → IsFaultAt level bytes place section reason → ⊥
+    no_fault n images place section reason t f =
         never_both_holds (shipped_set 4) (machine_of level ∷ []) (well 4) shipped_stands.4.heads bytes ok n t.0 images place section reason f.0 t.1 f.1
 
     one-refusal : (place other : ℕ) (section section' : Option ℕ) (reason reason' : Reason) → IsFaultAt level bytes place section reason ⊎ IsMisfitAt level bytes place section reason
@@ -62,8 +63,8 @@ module _ (level : ℕ) (bytes : List ℕ) where
     one-refusal place other section section' reason reason' (inl f) (inl g) =
         let one = one_fault_holds (shipped_set 4) (machine_of level ∷ []) bytes ok place other section section' reason reason' f.0 g.0 f.1 g.1 in
         ap (λ (n : ℕ). refused n section reason) one.places ∙ ap (λ (s : Option ℕ). refused other s reason) one.sections ∙ ap (refused other section') one.reasons
-    one-refusal place other section section' reason reason' (inl f) (inr g) = absurd (no-fault other g.images place section reason g.taken f)
-    one-refusal place other section section' reason reason' (inr f) (inl g) = absurd (no-fault place f.images other section' reason' f.taken g)
+    one-refusal place other section section' reason reason' (inl f) (inr g) = absurd (no_fault other g.images place section reason g.taken f)
+    one-refusal place other section section' reason reason' (inr f) (inl g) = absurd (no_fault place f.images other section' reason' f.taken g)
     one-refusal place other section section' reason reason' (inr f) (inr g) =
         let stream = one-stream place other f.images g.images f.taken g.taken in
         let misfit = same-err f.misfit g.misfit (restored level (cells_in g.images)) (sym (same-cells place other f.images g.images f.taken g.taken) ∙ f.fails) g.fails in
@@ -76,10 +77,10 @@ module _ (level : ℕ) (bytes : List ℕ) where
         let stream = one-stream n k r.0 s.0 r.1 s.1 in
         let boards = same-ok m m' (restored level (cells_in s.0)) (sym (same-cells n k r.0 s.0 r.1 s.1) ∙ r.2) s.2 in
         ap (λ (x : State). back x n) boards ∙ ap (back m') stream.0
-    one_restore (Back m n) (Refused place section reason) r (inl f) = absurd (no-fault n r.0 place section reason r.1 f)
+    one_restore (Back m n) (Refused place section reason) r (inl f) = absurd (no_fault n r.0 place section reason r.1 f)
     one_restore (Back m n) (Refused place section reason) r (inr f) =
         absurd (never-each m f.misfit (restored level (cells_in f.images)) (sym (same-cells n place r.0 f.images r.1 f.taken) ∙ r.2) f.fails)
-    one_restore (Refused place section reason) (Back m n) (inl f) s = absurd (no-fault n s.0 place section reason s.1 f)
+    one_restore (Refused place section reason) (Back m n) (inl f) s = absurd (no_fault n s.0 place section reason s.1 f)
     one_restore (Refused place section reason) (Back m n) (inr f) s =
         absurd (never-each m f.misfit (restored level (cells_in f.images)) (sym (same-cells n place s.0 f.images s.1 f.taken) ∙ s.2) f.fails)
     one_restore (Refused place section reason) (Refused other section' reason') f g = one-refusal place other section section' reason reason' f g

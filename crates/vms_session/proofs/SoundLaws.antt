@@ -20,7 +20,7 @@ use Rattle.vms_spec.specs.Lists.{at}
 use Rattle.vms_spec.specs.Sets.{Device, Set}
 use Rattle.vms_spec.specs.Streams.{AllCame, EachOnce}
 use Rattle.vms_units.specs.Streams.{HasSection, SectionsSpell}
-use Rattle.vms_session.specs.Boards.{TakesBoard, Back, Refused, Restores}
+use Rattle.vms_board.specs.Restoring.{TakesBoard, Back, Refused, Restores}
 use Rattle.vms_session.specs.Laws.{SessionsStaySound}
 use Rattle.vms_session.specs.Session.{Session, IsTooLarge, IsLoaded, LoadsBytes, LoadsHeld, Does, Plays}
 

@@ -11,7 +11,8 @@ use Rattle.vms_spec.specs.declared.Reason.{Reason}
 use Rattle.vms_script.specs.Grammar.{IsLine, AreLines}
 use Rattle.vms_script.specs.Lines.{ScriptLine, Restores as Loads}
 use Rattle.vms_script.specs.Trace.{trace_line}
-use Rattle.vms_session.specs.Boards.{saved_stream, Restore, Back, Refused, Restores}
+use Rattle.vms_board.specs.Restoring.{Restore, Back, Refused, Restores}
+use Rattle.vms_board.specs.Saving.{saved_stream}
 use Rattle.vms_session.specs.Lines.{restored_line}
 use Rattle.vms_session.specs.Session.{Session, Does, Plays}
 
