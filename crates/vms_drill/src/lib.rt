@@ -2,6 +2,10 @@
 //! stream.
 #![tactic(auto)]
 
+mod course;
+mod fold;
 mod laws;
+mod round;
 
+pub use fold::{Drilled, Summary, drill};
 pub use laws::{course_law, size_law};
