@@ -21,9 +21,10 @@ use Rattle.vms_outcome.specs.SetWords.{SetWord}
 use Rattle.vms_outcome.specs.Steps.{Step, Untold, Gives, Ends, Both, HasText, next}
 use Rattle.vms_outcome.proofs.FileSets.{FitStep, fit_word}
 use Rattle.vms_outcome.proofs.StepLemmas.{IsSound, fetched_gives, one_text, sound_word_set}
+use Rattle.vms_boards.specs.Drill.{drill_line}
 use Rattle.vms_cli.specs.Answers.{HasOutcome, Answers}
 use Rattle.vms_cli.specs.Check.{checked, compared, compatible_text, verdict}
-use Rattle.vms_cli.specs.Commands.{Asked, Show, Pack, Check, asked_of}
+use Rattle.vms_cli.specs.Commands.{Asked, Show, Pack, Check, Drill, asked_of}
 use Rattle.vms_cli.specs.Laws.{HasOneOutcome, OutcomeLaw, CanBePacked, CanBeDone, HasRoom, IsAmple, PromisesKept, CompleteLaw}
 use Rattle.vms_cli.specs.Pack.{described_stream, packed_by, packs}
 use Rattle.vms_cli.specs.Show.{ShowsBy, Values as Printed, Refuses}
@@ -82,6 +83,8 @@ outcome_holds None input held ok = record { outcome = ended 2 bad_words 0; is = 
 outcome_holds (Some (Show word)) input held ok = one_shown word input held ok
 outcome_holds (Some (Pack word name)) input held ok = one_packed word name input held
 outcome_holds (Some (Check old new)) input held ok = one_checked old new input held
+outcome_holds (Some (Drill level seed count)) input held ok =
+    record { outcome = done (drill_line level seed count) (Some held) 0; is = refl; only = λ other e. e }
 
 -- ---- completeness
 
@@ -124,6 +127,8 @@ can_be (Some (Pack word name)) input (Some map) can =
       status = refl;
       note = refl;
     }
+can_be (Some (Drill level seed count)) input held can =
+    record { outcome = done (drill_line level seed count) held 0; is = refl; status = refl; note = refl }
 can_be (Some (Check old new)) input held can =
     let outcome = done compatible_text held 0 in
     let agrees : HasText held (compared can.0) outcome = subst (λ (m : Option Mismatch). HasText held (verdict m) outcome) (sym can.2) refl in

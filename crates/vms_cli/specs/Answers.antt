@@ -4,10 +4,11 @@ use Rattle.std.specs.Io.KnownBytes.{Appends}
 use Rattle.vms_io.specs.Shelves.{Held}
 use Rattle.vms_outcome.specs.Fetching.{is_on_shelf, word_set}
 use Rattle.vms_outcome.specs.Lines.{bad_words}
-use Rattle.vms_outcome.specs.Outcomes.{Outcome, ended, Outside, DoesOrStops, NotesFault, CountsStand, PromisesStay}
+use Rattle.vms_outcome.specs.Outcomes.{Outcome, done, ended, Outside, DoesOrStops, NotesFault, CountsStand, PromisesStay}
 use Rattle.vms_outcome.specs.Steps.{HasText}
+use Rattle.vms_boards.specs.Drill.{DrillAnswers, drill_line}
 use Rattle.vms_cli.specs.Check.{checked, asks_shelf, CheckAnswers, Verdict}
-use Rattle.vms_cli.specs.Commands.{Asked, Show, Pack, Check, asked_of}
+use Rattle.vms_cli.specs.Commands.{Asked, Show, Pack, Check, Drill, asked_of}
 use Rattle.vms_cli.specs.Pack.{packs, PackAnswers}
 use Rattle.vms_cli.specs.Show.{ShowsBy, ShowAnswers}
 use Rattle.vms_cli.specs.Upgrade.{Upgrade}
@@ -19,6 +20,7 @@ HasOutcome None input held o = o ≡ ended 2 bad_words 0
 HasOutcome (Some (Show set)) input held o = ShowsBy (word_set held set) input held o
 HasOutcome (Some (Pack set name)) input held o = HasText held (packs held set name) o
 HasOutcome (Some (Check old new)) input held o = HasText held (checked held old new) o
+HasOutcome (Some (Drill level seed count)) input held o = o ≡ done (drill_line level seed count) held 0
 
 -- what words of no listed form can answer: only the notes are touched
 pub record BadWordsAnswers (status : ℕ) (old new : Outside) : Type 0 where
@@ -34,6 +36,7 @@ CanAnswer (Some (Show set)) status old new =
     ShowAnswers (is_on_shelf set) (word_set old.shelf.held set) status old new
 CanAnswer (Some (Pack set name)) status old new = PackAnswers status old new
 CanAnswer (Some (Check one other)) status old new = CheckAnswers (asks_shelf one other) status old new
+CanAnswer (Some (Drill level seed count)) status old new = DrillAnswers status old new
 
 pub record Answers (words : List (List ℕ)) (status : ℕ) (old new : Outside) : Type 0 where
   pub outcome : (o : Outcome) → HasOutcome (asked_of words) old.input.left old.shelf.held o → DoesOrStops status old new o

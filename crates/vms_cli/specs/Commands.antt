@@ -1,14 +1,19 @@
 -- The commands that the words can name.
-use Rattle.std.specs.Prelude.{ℕ, if◌then◌else◌, List, [], ◌∷◌, Option, Some, None, codes}
+use Rattle.std.specs.Prelude.{ℕ, if◌then◌else◌, nat_le, List, [], ◌∷◌, Option, Some, None, Result, Ok, Err, codes}
 use Rattle.std.specs.Str.{bytes_eq}
+use Rattle.vms_spec.specs.Lists.{position}
+use Rattle.vms_spec.specs.Spelling.{number_spelled}
 use Rattle.vms_script.specs.Names.{is_shelf_name}
+use Rattle.vms_script.specs.Views.{number_read}
+use Rattle.vms_script.specs.declared.line.ScriptReason.{ScriptReason}
 use Rattle.vms_outcome.specs.SetWords.{SetWord, set_word}
 
--- prints the values text of a stream, writes the stream of a values text on the shelf, or compares two sets
+-- prints the values text of a stream, writes the stream of a values text on the shelf, compares two sets, or drills a board
 pub data Asked : Type 0 where
   Show : SetWord → Asked
   Pack : SetWord → List ℕ → Asked
   Check : (old new : SetWord) → Asked
+  Drill : (level seed count : ℕ) → Asked
 
 abbrev pub show_of : Option SetWord → Option Asked
 show_of None = None
@@ -28,7 +33,41 @@ pair_of name one other =
     if bytes_eq name (codes "check") then check_of (set_word one) (set_word other)
     else if bytes_eq name (codes "pack") then pack_of (set_word one) other else None
 
+-- the words of the boards, by level
+abbrev pub board_words : List (List ℕ)
+board_words = codes "isa-1" ∷ codes "isa-2" ∷ codes "isa-3" ∷ codes "isa-4" ∷ []
+
+-- the level of the board that a word names
+abbrev pub board_level : List ℕ → Option ℕ
+board_level word = position (bytes_eq word) 1 board_words
+
+abbrev pub told : Result ℕ ScriptReason → Option ℕ
+told (Ok n) = Some n
+told (Err reason) = None
+
+-- the number below 2^64 that a word spells
+abbrev pub number_word : List ℕ → Option ℕ
+number_word word = told (number_read (number_spelled word))
+
+-- how many events a drill may have
+abbrev pub most_events : ℕ
+most_events = 1000000
+
+abbrev pub few_events : Option ℕ → Option ℕ
+few_events None = None
+few_events (Some n) = if nat_le n most_events then Some n else None
+
+abbrev pub drill_of : Option ℕ → Option ℕ → Option ℕ → Option Asked
+drill_of (Some level) (Some seed) (Some count) = Some (Drill level seed count)
+drill_of _ _ _ = None
+
+-- a command with three words behind its name
+unfoldable pub triple_of : List ℕ → List ℕ → List ℕ → List ℕ → Option Asked
+triple_of name one two three =
+    if bytes_eq name (codes "drill") then drill_of (board_level one) (number_word two) (few_events (number_word three)) else None
+
 abbrev pub asked_of : List (List ℕ) → Option Asked
 asked_of (name ∷ set ∷ []) = if bytes_eq name (codes "show") then show_of (set_word set) else None
 asked_of (name ∷ one ∷ other ∷ []) = pair_of name one other
+asked_of (name ∷ one ∷ two ∷ three ∷ []) = triple_of name one two three
 asked_of _ = None

@@ -9,7 +9,7 @@ use Rattle.vms_spec.specs.Streams.{AreReady, is_one_of, written}
 use Rattle.vms_spec.specs.ValuesReading.{Values, values_read}
 use Rattle.vms_units.specs.Streams.{Takes}
 use Rattle.vms_cli.specs.Answers.{HasOutcome, Answers}
-use Rattle.vms_cli.specs.Commands.{Asked, Show, Pack, Check, asked_of}
+use Rattle.vms_cli.specs.Commands.{Asked, Show, Pack, Check, Drill, asked_of}
 use Rattle.vms_outcome.specs.Outcomes.{Outcome, DoesOrStops, done, text_of, Outside}
 use Rattle.vms_outcome.specs.Fetching.{longest_file, named_sets, word_set}
 use Rattle.vms_outcome.specs.SetWords.{SetWord}
@@ -45,7 +45,7 @@ pub record CanBePacked (word : SetWord) (name : List ℕ) (map : Held) : Type 0 
   pub reads : values_read set text ≡ Values machine images
 
 -- what a command asks for so that it can be done: of `show` a word that names a set, and a stream of it at the front of the
--- input, of `pack` a set and a values text of it, of `check` words that name two compatible sets
+-- input, of `pack` a set and a values text of it, of `check` words that name two compatible sets, of `drill` nothing
 abbrev pub CanBeDone : Option Asked → Option (List ℕ) → Option Held → Type 0
 CanBeDone None input held = ⊥
 CanBeDone (Some (Show word)) input held =
@@ -54,6 +54,7 @@ CanBeDone (Some (Show word)) input held =
 CanBeDone (Some (Pack word name)) input held = IsSomeAnd held (λ map. CanBePacked word name map)
 CanBeDone (Some (Check old new)) input held =
     (sets : Both Set) × (named_sets held old new ≡ Gives sets) × Compatible sets.old sets.new
+CanBeDone (Some (Drill level seed count)) input held = Unit {0}
 
 -- a sink that promises no fault while it has room for so many bytes more
 abbrev pub HasRoom : Outlet → ℕ → Type 0

@@ -12,6 +12,7 @@ use crate::pack::pack;
 use crate::show::show;
 use crate::{Command, Words};
 use std::alloc::Global;
+use vms_boards::drill_board;
 use vms_io::{Shelf, Sink, Source, write_all_of};
 use vms_outcome::Ending;
 
@@ -99,6 +100,13 @@ fn run<I: Source, O: Sink, H: Shelf>(
         Some(Command::Show { set }) => show(alloc, set, input, out, shelf),
         Some(Command::Pack { set, values }) => pack(alloc, set, values, out, shelf),
         Some(Command::Check { old, new }) => check(alloc, old, new, out, shelf),
+        Some(Command::Drill { board, seed, count }) => drill_board(
+            alloc,
+            board.level,
+            seed,
+            count,
+            out,
+        ),
         None => Ending::BadWords,
     }
 }

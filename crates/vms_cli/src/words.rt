@@ -4,8 +4,10 @@ ghost use Rattle.std.specs.Str.{bytes_eq};
 ghost use Rattle.std.specs.Option.{option_map};
 ghost use Rattle.vms_outcome.specs.SetWords.{set_word};
 ghost use Rattle.vms_cli.specs.Asks.{asked};
-ghost use Rattle.vms_cli.specs.Commands.{asked_of, check_of, pack_of, pair_of, show_of};
+ghost use Rattle.vms_cli.specs.Commands.{asked_of, board_level, check_of, drill_of, few_events, number_word, pack_of, pair_of, show_of, triple_of};
 
+use crate::board_words::{board_word, events_word, number_word};
+use crate::boards::BoardWord;
 use std::alloc::Global;
 use std::marker::Model;
 use vms_io::NoMemory;
@@ -16,11 +18,25 @@ use vms_script::is_shelf_name;
 #[derive(Clone, Copy)]
 pub(crate) enum Command<'a> {
     /// `show SET`
-    Show { set: SetWord<'a> },
+    Show {
+        set: SetWord<'a>,
+    },
     /// `pack SET VALUES`
-    Pack { set: SetWord<'a>, values: &'a str },
+    Pack {
+        set: SetWord<'a>,
+        values: &'a str,
+    },
     /// `check OLD NEW`
-    Check { old: SetWord<'a>, new: SetWord<'a> },
+    Check {
+        old: SetWord<'a>,
+        new: SetWord<'a>,
+    },
+    /// `drill BOARD SEED COUNT`
+    Drill {
+        board: BoardWord,
+        seed: u64,
+        count: u32,
+    },
 }
 
 /// The words after the program's name, in order.
@@ -66,6 +82,12 @@ impl Words {
         match self.words.as_slice() {
             [name, set] => single_of(name.as_str(), set.as_str()),
             [name, one, other] => pair_of(name.as_str(), one.as_str(), other.as_str()),
+            [name, one, two, three] => triple_of(
+                name.as_str(),
+                one.as_str(),
+                two.as_str(),
+                three.as_str(),
+            ),
             _ => None,
         }
     }
@@ -116,6 +138,28 @@ fn pack_of<'a>(set: &'a str, values: &'a str) -> Option<Command<'a>>
 {
     match set_word(set) {
         Some(set) if is_shelf_name(values.as_bytes()) => Some(Command::Pack { set, values }),
+        _ => None,
+    }
+}
+
+// A command with three words behind its name.
+#[tactic(auto, unfolding(crate::specs::Commands::triple_of))]
+fn triple_of<'a>(name: &str, one: &str, two: &str, three: &str) -> Option<Command<'a>>
+    ensures { option_map asked result ≡ triple_of name.now one.now two.now three.now }
+{
+    if name == "drill" {
+        drill_of(one, two, three)
+    } else {
+        None
+    }
+}
+
+fn drill_of<'a>(board: &str, seed: &str, count: &str) -> Option<Command<'a>>
+    ensures { option_map asked result ≡ drill_of (board_level board.now) (number_word seed.now)
+        (few_events (number_word count.now)) }
+{
+    match (board_word(board), number_word(seed), events_word(count)) {
+        (Some(board), Some(seed), Some(count)) => Some(Command::Drill { board, seed, count }),
         _ => None,
     }
 }

@@ -1,0 +1,43 @@
+// Words that name a board or a number.
+ghost use Rattle.std.specs.Prelude.{◌≡◌};
+ghost use Rattle.std.specs.Option.{option_map};
+ghost use Rattle.vms_cli.specs.Commands.{board_level, few_events, number_word};
+
+use crate::boards::BoardWord;
+use vms_script::number_of;
+
+/// The greatest number of events of a drill.
+const MOST_EVENTS: u64 = 1_000_000;
+
+/// The board that a word names.
+pub(crate) fn board_word(word: &str) -> Option<BoardWord>
+    ensures { option_map (λ board. board.level) result ≡ board_level word.now }
+{
+    match word {
+        "isa-1" => Some(BoardWord { level: 1 }),
+        "isa-2" => Some(BoardWord { level: 2 }),
+        "isa-3" => Some(BoardWord { level: 3 }),
+        "isa-4" => Some(BoardWord { level: 4 }),
+        _ => None,
+    }
+}
+
+/// The number below 2^64 that a word spells.
+pub(crate) fn number_word(word: &str) -> Option<u64>
+    ensures { result ≡ number_word word.now }
+{
+    match number_of(word.as_bytes()) {
+        Ok(number) => Some(number),
+        Err(_) => None,
+    }
+}
+
+/// How many events a drill is to have.
+pub(crate) fn events_word(word: &str) -> Option<u32>
+    ensures { result ≡ few_events (number_word word.now) }
+{
+    match number_word(word) {
+        Some(number) if number <= MOST_EVENTS => Some(number as u32),
+        _ => None,
+    }
+}
