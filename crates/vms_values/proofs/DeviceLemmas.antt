@@ -21,8 +21,7 @@ use Rattle.vms_values.specs.declared.fault.ValuesFault.TheVariants as faults
 use Rattle.vms_values.specs.Machines.{StartsAt, NamesMachine}
 use Rattle.vms_values.specs.declared.machine.Start.{Start}
 use Rattle.vms_values.specs.Printing.{machine_of}
-use Rattle.vms_values.specs.Tables.{readers_in}
-use Rattle.vms_values.specs.Reading.{IsBad, ReachesAll, ReadsAs, ImageRead, device_read}
+use Rattle.vms_values.specs.Reading.{IsBad, ReadsAs}
 
 -- ---- all devices
 

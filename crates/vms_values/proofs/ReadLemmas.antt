@@ -25,9 +25,8 @@ use Rattle.vms_values.specs.declared.cursor.Lines.{Lines}
 use Rattle.vms_values.specs.declared.fault.ValuesFault.{ValuesFault}
 use Rattle.vms_values.specs.declared.fault.ValuesFault.TheVariants as faults
 use Rattle.vms_values.specs.FirstLine.{IsFirstLine}
-use Rattle.vms_values.specs.Plain.{IsPlainField, ArePlain, IsNumber, IsOne, HasNoTest}
 use Rattle.vms_values.specs.Spelled.{Strips, held}
-use Rattle.vms_values.specs.Reading.{standing, IsBad, Reaches, ImageRead, Passed, cell_read, device_read}
+use Rattle.vms_values.specs.Reading.{standing, IsBad, Reaches, Passed}
 use Rattle.vms_values.proofs.TextLemmas.{begins-append}
 
 -- ---- fronts
@@ -176,18 +175,6 @@ passed_none wanted (Some said) old new e f b = absurd f
 
 -- ---- fields
 
-le_always : (n v : ℕ) → n ≡ 0 → nat_le n v ≡ true
-le_always n v e = grind (arith, nat_tests)
-
-counts_none : (i : ℕ) (fs : List Field) → ArePlain fs → counted i fs ≡ []
-counts_none i [] p = refl
-counts_none i (f ∷ fs) p = by f.count p.0.one (counts_none i fs p.1)
-  where
-    by : (count : Count) → IsOne count → counted i fs ≡ [] → counted i (record f { count = count } ∷ fs) ≡ []
-    by One q e = e
-    by (Fixed n) q e = absurd q
-    by (Counted j most) q e = absurd q
-
 pub reached : (r : Read) (now : Standing) → Reaches r now (Ok tt) → r ≡ Ok now
 reached (Ok p) now e = ap (λ (x : Standing). Ok x) e
 reached (Err b) now e = absurd e
@@ -198,51 +185,6 @@ stopped (Err b) whole now later e h r = subst (λ (x : Read). Reaches x later (E
 
 pub ended : (whole : Read) (now : Standing) → Ok now ≡ whole → Reaches whole now (Ok tt)
 ended whole now e = subst (λ (x : Read). Reaches x now (Ok tt)) e refl
-
-module _ (rs : List Reader) (d : Desc) (v : ℕ) (path : List ℕ) (base : ℕ) (plain : ArePlain d.fields) where
-  plain_field : (i at : ℕ) (f : Field) (p : Standing) → IsPlainField f → read_field rs d v path true base i at f p ≡ cell_read (path ++ f.name) (kind_of f.item) at f.default p
-  plain_field i at f p q =
-      by f.item f.count f.test f.since q.number q.one q.no_test q.always
-      ∙ ap (λ (caps : List ℕ). put_line (path ++ f.name) (record { cell = at; kind = kind_of f.item; capacities = caps; default = f.default; present = true }) p (first_line p.rest)) (counts_none i d.fields plain)
-    where
-      by : (item : Item) (count : Count) (test : Option Formula) (since : ℕ) → IsNumber item → IsOne count → HasNoTest test → since ≡ 0
-          → read_field rs d v path true base i at (record f { item = item; count = count; test = test; since = since }) p
-          ≡ put_line (path ++ f.name) (record { cell = at; kind = kind_of item; capacities = counted i d.fields; default = f.default; present = true }) p (first_line p.rest)
-      by (Num kind) One None since a b c e =
-          ap (λ (t : Bool). put_line (path ++ f.name) (record { cell = at; kind = kind; capacities = counted i d.fields; default = f.default; present = t }) p (first_line p.rest)) (le_always since v e)
-      by (Num kind) One (Some t) since a b c e = absurd c
-      by (Num kind) (Fixed n) test since a b c e = absurd b
-      by (Num kind) (Counted j most) test since a b c e = absurd b
-      by (Equal kind z) count test since a b c e = absurd a
-      by (Unused n) count test since a b c e = absurd a
-      by (Struct j) count test since a b c e = absurd a
-
-  size_one : (i : ℕ) (f : Field) → IsPlainField f → length (field_cells (cells_of rs) d.fields i f) ≡ 1
-  size_one i f q = by f.item f.count q.number q.one
-    where
-      by : (item : Item) (count : Count) → IsNumber item → IsOne count → length (field_cells (cells_of rs) d.fields i (record f { item = item; count = count })) ≡ 1
-      by (Num kind) One a b = refl
-      by (Num kind) (Fixed n) a b = absurd b
-      by (Num kind) (Counted j most) a b = absurd b
-      by (Equal kind z) count a b = absurd a
-      by (Unused n) count a b = absurd a
-      by (Struct j) count a b = absurd a
-
-  pub fields_go : (i at : ℕ) (f : Field) (left more : List Field) (p q : Standing) → left ≡ f ∷ more → IsPlainField f
-      → cell_read (path ++ f.name) (kind_of f.item) at f.default p ≡ Ok q
-      → read_fields rs d v path true base (i + 1) (at + 1) more q ≡ read_fields rs d v path true base i at left p
-  fields_go i at f left more p q e pf r =
-      let si : suc i ≡ i + 1 = omega arith in
-      sym (ap (λ (l : List Field). read_fields rs d v path true base i at l p) e
-      ∙ ap (λ (x : Read). x >>= λ y. read_fields rs d v path true base (suc i) (at + length (field_cells (cells_of rs) d.fields i f)) more y) (plain_field i at f p pf ∙ r)
-      ∙ ap (λ (n : ℕ). read_fields rs d v path true base (suc i) (at + n) more q) (size_one i f pf)
-      ∙ ap (λ (n : ℕ). read_fields rs d v path true base n (at + 1) more q) si)
-
-  pub fields_stop : (i at : ℕ) (f : Field) (left more : List Field) (p : Standing) (b : BadLine) → left ≡ f ∷ more → IsPlainField f
-      → cell_read (path ++ f.name) (kind_of f.item) at f.default p ≡ Err b → read_fields rs d v path true base i at left p ≡ Err b
-  fields_stop i at f left more p b e pf r =
-      ap (λ (l : List Field). read_fields rs d v path true base i at l p) e
-      ∙ ap (λ (x : Read). x >>= λ y. read_fields rs d v path true base (suc i) (at + length (field_cells (cells_of rs) d.fields i f)) more y) (plain_field i at f p pf ∙ r)
 
 -- ---- machines
 
@@ -267,46 +209,6 @@ machine_other machines i name machine lt is same inv =
 
 pub is_bad : (e : ValuesFault) (b : BadLine) → e ≡ faults.Bad b.line b.reason → IsBad b e
 is_bad e b s = subst (IsBad b) (sym s) (refl, refl)
-
-pub renamed : (a b : List ℕ) (k j : Kind) (at : ℕ) (z : ℤ) (p now : Standing) (r : Result (Unit {0}) ValuesFault) → a ≡ b → k ≡ j
-    → Reaches (cell_read a k at z p) now r → Reaches (cell_read b j at z p) now r
-renamed a b k j at z p now r e f h = subst (λ (x : Kind). Reaches (cell_read b x at z p) now r) f (subst (λ (x : List ℕ). Reaches (cell_read x k at z p) now r) e h)
-
-pub image_memory : (r : Read) (v : ℕ) (now : Lines) → ImageRead r v now (Err faults.NoMemory)
-image_memory (Ok p) v now = tt
-image_memory (Err b) v now = tt
-
-pub image_done : (r s : Read) (v : ℕ) (now : Lines) (old image : Image) → r ≡ s → Reaches r (standing image.numbers now) (Ok tt) → image ≡ record old { numbers = image.numbers }
-    → old.version ≡ v → old.came ≡ [] → ImageRead s v now (Ok image)
-image_done r s v now old image e h same a c =
-    let q : s ≡ Ok (standing image.numbers now) = sym e ∙ reached r (standing image.numbers now) h in
-    let f : image ≡ record { version = v; came = []; numbers = image.numbers } =
-    same ∙ ap (λ (x : ℕ). let i : Image = record { version = x; came = old.came; numbers = image.numbers } in i) a
-    ∙ ap (λ (x : List (Option ℕ)). let i : Image = record { version = v; came = x; numbers = image.numbers } in i) c in
-    subst (λ (x : Read). ImageRead x v now (Ok image)) (sym q) (f, refl, refl)
-
-pub image_bad : (r s : Read) (v : ℕ) (p : Standing) (now : Lines) (e : ValuesFault) → r ≡ s → Reaches r p (Err e) → ImageRead s v now (Err e)
-image_bad r (Ok q) v p now (faults.Bad line reason) same h = subst (λ (x : Read). Reaches x p (Err (faults.Bad line reason))) same h
-image_bad r (Err b) v p now (faults.Bad line reason) same h = subst (λ (x : Read). Reaches x p (Err (faults.Bad line reason))) same h
-image_bad r s v p now faults.NoMemory same h = image_memory s v now
-
-pub image_ok : (r : Read) (v : ℕ) (now : Lines) (image : Image) → ImageRead r v now (Ok image)
-    → (r ≡ Ok (record { numbers = image.numbers; line = now.line; rest = now.rest.now })) × (record { version = v; came = []; numbers = image.numbers } ≡ image)
-image_ok (Err b) v now image h = absurd h
-image_ok (Ok p) v now image h =
-    let n : image.numbers ≡ p.numbers = ap (λ (i : Image). i.numbers) h.0 in
-    let e : p ≡ record { numbers = image.numbers; line = now.line; rest = now.rest.now } =
-    ap (λ (x : List ℤ). let q : Standing = record { numbers = x; line = p.line; rest = p.rest } in q) (sym n)
-    ∙ ap (λ (x : ℕ). let q : Standing = record { numbers = image.numbers; line = x; rest = p.rest } in q) h.1
-    ∙ ap (λ (x : List ℕ). let q : Standing = record { numbers = image.numbers; line = now.line; rest = x } in q) h.2 in
-    (ap (λ (x : Standing). Ok x) e, ap (λ (x : List ℤ). let i : Image = record { version = v; came = []; numbers = x } in i) n ∙ sym h.0)
-
-pub same_read : (rs ss : List Reader) (d f : Device) (n m : List ℤ) (line : ℕ) (rest : List ℕ) → rs ≡ ss → d ≡ f → n ≡ m
-    → device_read rs d (record { numbers = n; line = line; rest = rest }) ≡ device_read ss f (record { numbers = m; line = line; rest = rest })
-same_read rs ss d f n m line rest a b c =
-    ap (λ (x : List Reader). device_read x d (record { numbers = n; line = line; rest = rest })) a
-    ∙ ap (λ (x : Device). device_read ss x (record { numbers = n; line = line; rest = rest })) b
-    ∙ ap (λ (x : List ℤ). device_read ss f (record { numbers = x; line = line; rest = rest })) c
 
 pub nil_of : (xs : List ℕ) → (length xs == 0) ≡ true → xs ≡ []
 nil_of [] e = refl

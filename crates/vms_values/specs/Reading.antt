@@ -39,41 +39,6 @@ Passed true old new (Err e) = ⊥
 Passed false old new (Ok u) = ⊥
 Passed false old new (Err e) = IsBad (record { line = old.line; reason = reasons.Form }) e
 
--- the line of a cell that is there and counts no array
-abbrev pub cell_read : List ℕ → Kind → ℕ → ℤ → Standing → Read
-cell_read path kind at default p =
-    put_line path (record { cell = at; kind = kind; capacities = []; default = default; present = true }) p (first_line p.rest)
-
--- the section of a device without subsections
-abbrev pub device_read : List Reader → Device → Standing → Read
-device_read readers d p =
-    if is_line (section_line d) (first_line p.rest) then read_desc readers d.desc d.desc.version [] true 0 (next_line p) else bad p reasons.Form
-
--- the section of a device, from its defaults on
-abbrev pub image_read : Set → Device → Lines → Read
-image_read set d lines = device_read (readers set) d (record { numbers = (default_image set d).numbers; line = lines.line; rest = lines.rest.now })
-
--- the image at that version, or the bad line; memory may be wanting in any case
-abbrev pub ImageRead : Read → ℕ → Lines → Result Image ValuesFault → Type 0
-ImageRead (Ok p) version now (Ok image) =
-    (image ≡ record { version = version; came = []; numbers = p.numbers }) × (p.line ≡ now.line) × (p.rest ≡ now.rest.now)
-ImageRead (Err b) version now (Ok image) = ⊥
-ImageRead (Ok p) version now (Err (faults.Bad line reason)) = ⊥
-ImageRead (Err b) version now (Err (faults.Bad line reason)) = IsBad b (faults.Bad line reason)
-ImageRead read version now (Err faults.NoMemory) = Unit {0}
-
--- no device has too many cells
-abbrev pub SmallCells : Set → Type 0
-SmallCells set = (k : ℕ) → length (device_cells set (device_at set k)) < 4294967296
-
--- the images of all devices, or the bad line; memory may be wanting in any case
-abbrev pub ReachesAll : {V : Type 0} → Result ReadAll BadLine → Lines → Result V ValuesFault → (V → List Image) → Type 0
-ReachesAll (Ok all) now (Ok v) items = (map (λ r. r.image) all.devices ≡ items v) × (all.line ≡ now.line) × (all.rest ≡ now.rest.now)
-ReachesAll (Err b) now (Ok v) items = ⊥
-ReachesAll (Ok all) now (Err (faults.Bad line reason)) items = ⊥
-ReachesAll (Err b) now (Err (faults.Bad line reason)) items = IsBad b (faults.Bad line reason)
-ReachesAll read now (Err faults.NoMemory) items = Unit {0}
-
 -- the values, or the bad line; memory may be wanting in any case
 abbrev pub ReadsAs : Set → ValuesRead → Result Given ValuesFault → Type 0
 ReadsAs set (Values machine images) (Ok v) =
