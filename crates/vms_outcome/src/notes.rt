@@ -47,7 +47,8 @@ fn reason_text(alloc: Global, reason: Reason) -> Result<String, NoMemory>
     }
 }
 
-fn rule_of(reason: Reason) -> Option<u8>
+/// The number of a device's rule, where the reason has one.
+pub fn rule_of(reason: Reason) -> Option<u8>
     ensures { result ≡ rule_of reason }
 {
     match reason {
@@ -56,7 +57,8 @@ fn rule_of(reason: Reason) -> Option<u8>
     }
 }
 
-fn reason_name(reason: Reason) -> &'static str
+/// The reason's name, without a rule's number.
+pub fn reason_name(reason: Reason) -> &'static str
     ensures { result.now ≡ reason_name reason }
 {
     match reason {
