@@ -1,10 +1,10 @@
 -- From what a load and a write say to how `show` ends.
-use Rattle.std.proofs.Common.{◌≡◌, ℕ, suc, ◌+◌, ◌<◌, ◌≤◌, true, List, [], ◌∷◌, length, get_or, drop, append-nil, Option, Some, None, Ok, Err, IfSome, IsSomeAnd, refl, sym, ap, ◌∙◌, subst, arith, inl}
+use Rattle.std.proofs.Common.{◌≡◌, ℕ, suc, ◌+◌, ◌<◌, ◌≤◌, true, List, [], ◌∷◌, length, get_or, map, drop, Option, Some, None, Ok, Err, IfSome, IsSomeAnd, refl, sym, ap, ◌∙◌, subst, arith}
+use Rattle.std.proofs.lemmas.List.{length-map, get_or-map}
 use Rattle.std.specs.Option.{ForSome}
 use Rattle.std.specs.Prelude.{string_bytes}
 use Rattle.std.specs.declared.string.String.{String}
 use Rattle.std.specs.declared.alloc.Global.{Global}
-use Rattle.std.specs.Io.KnownBytes.{Appends}
 use Rattle.vms_io.specs.Causes.{capped}
 use Rattle.vms_io.specs.Shelves.{Held}
 use Rattle.vms_io.specs.Told.{Intake, Outlet, Stock}
@@ -26,15 +26,20 @@ use Rattle.vms_load.proofs.Bounding.{most_small}
 use Rattle.vms_load.proofs.SetFacts.{well_of}
 use Rattle.vms_load.specs.declared.fault.LoadFault.{LoadFault}
 use Rattle.vms_load.specs.declared.fault.LoadFault.TheVariants as faults
+use Rattle.vms_desc.specs.Described.{device_at}
 use Rattle.vms_desc.specs.Formed.{is_well_formed}
 use Rattle.vms_desc.proofs.AskLaws.{few_cells}
+use Rattle.vms_image.specs.Typed.{Typed, state_of}
 use Rattle.vms_values.specs.Printing.{AreOf, IsOf, machine_of}
-use Rattle.vms_cli.specs.declared.ending.Ending.{Ending}
-use Rattle.vms_cli.specs.declared.ending.Ending.TheVariants.{Done, Refused, BadWords, BadText, NotCompatible, ReadFault, WriteFault, ShelfFault, NotThere, TooLarge, NoMemory}
-use Rattle.vms_cli.specs.Outcomes.{Outcome, done, ended, TakesBytes}
-use Rattle.vms_cli.specs.Show.{Shows, Values, Refuses, most_of_all}
-use Rattle.vms_cli.specs.Endings.{EndsAs, WritesAs}
-use Rattle.vms_cli.specs.Lines.{refused_line}
+use Rattle.vms_outcome.specs.declared.ending.Ending.{Ending}
+use Rattle.vms_outcome.specs.declared.ending.Ending.TheVariants.{Refused}
+use Rattle.vms_outcome.specs.Endings.{EndsAs, WritesAs}
+use Rattle.vms_outcome.specs.Lines.{refused_line}
+use Rattle.vms_outcome.specs.Outcomes.{Outcome, done, ended, TakesBytes}
+use Rattle.vms_outcome.specs.StepEndings.{StepAs}
+use Rattle.vms_outcome.specs.Steps.{Step, Untold, Gives, Ends}
+use Rattle.vms_outcome.proofs.EndLemmas.{text_written}
+use Rattle.vms_cli.specs.Show.{GivesWithin, Shows, Values, Refuses, most_of_all}
 
 abbrev no_device : Device
 no_device = record { instance = 0; desc = no_desc; subs = [] }
@@ -43,26 +48,9 @@ same_machine : (set : Set) (machine : Option ℕ) → name_of set machine ≡ ma
 same_machine set None = refl
 same_machine set (Some m) = refl
 
--- a text was written, or a prefix of it, while the shelf stayed
-pub text_written : (text : List ℕ) (i i' : Intake) (o o' : Outlet) (s s' : Stock) (taken : ℕ) (ending : Ending)
-    → WritesAs text o o' ending → s'.held ≡ s.held → TakesBytes i i' taken → EndsAs i i' o o' s s' ending (done text s.held taken)
-text_written text i i' o o' s s' taken Done w same t = record {
-  status_is = refl;
-  text = subst (λ (l : List ℕ). Appends o.written o'.written l) (sym (append-nil text)) w;
-  note = refl;
-  held = same;
-  taken = t;
-}
-text_written text i i' o o' s s' taken WriteFault w same t = record { begun = 1; bytes = w.0.0; text = w.0.2; held = inl same }
-text_written text i i' o o' s s' taken NoMemory w same t = absurd w
-text_written text i i' o o' s s' taken (Refused r) w same t = absurd w
-text_written text i i' o o' s s' taken BadWords w same t = absurd w
-text_written text i i' o o' s s' taken ReadFault w same t = absurd w
-text_written text i i' o o' s s' taken (BadText r) w same t = absurd w
-text_written text i i' o o' s s' taken (NotCompatible r) w same t = absurd w
-text_written text i i' o o' s s' taken ShelfFault w same t = absurd w
-text_written text i i' o o' s s' taken (NotThere r) w same t = absurd w
-text_written text i i' o o' s s' taken (TooLarge r) w same t = absurd w
+-- the outcome under a set, where so much of the input is told
+abbrev pub shows_under : Option (List ℕ) → Option Held → Set → Outcome → Type 0
+shows_under input held set x = IsSomeAnd input (λ bytes. Shows set bytes held x)
 
 -- what the laws of streams ask of a set
 pub fit_of : (set : Set) → is_well_formed set ≡ true → FitsHeads set → IsFit set
@@ -139,19 +127,33 @@ machine_for machines (Some n) h = λ m e. within m (cc) where
 
 module _ (set : Set) where
   are_from : (devices : List Device) (images : List Image) → length images ≡ length devices
-      → ((k : ℕ) → k < length devices → IsOf set (get_or devices k no_device) (get_or images k no_image)) → AreOf set devices images
+      → ((k : ℕ) → k < length devices → IsOf set (get_or devices k no_device) (get_or images k (state_of no_image))) → AreOf set devices images
   are_from [] [] all each = tt
   are_from [] (image ∷ images) all each = absurd (omega (arith, all))
   are_from (d ∷ devices) [] all each = absurd (omega (arith, all))
   are_from (d ∷ devices) (image ∷ images) all each =
       (each 0 (omega arith), are_from devices images (omega (arith, all)) (λ k lt. each (suc k) (omega (arith, lt))))
 
-  pub are_of : is_well_formed set ≡ true → (images : List Image) → AreShaped set images → AreOf set set.devices images
-  are_of well images h = are_from set.devices images h.all (λ k lt.
+  pub are_of : is_well_formed set ≡ true → (images : List Typed) → AreShaped set images → AreOf set set.devices (map state_of images)
+  are_of well images h = are_from set.devices (map state_of images) (length-map images state_of ∙ h.all) (λ k lt.
       let shape = h.each k lt in
-      record { cells = shape.numbers; subs = shape.came; few = omega (arith, shape.numbers, few_cells set well k) })
+      let is : IsOf set (device_at set k) (state_of (get_or images k no_image)) = record { cells = shape.cells; subs = shape.subs; few = omega (arith, shape.cells, few_cells set well k) } in
+      subst (λ (x : Image). IsOf set (device_at set k) x) (sym (get_or-map state_of images k no_image (state_of no_image) (omega (arith, lt, h.all)))) is)
 
 -- ---- the bytes of any set
 
 pub most_for : (set : Set) → is_well_formed set ≡ true → most_given set ≤ most_of_all
 most_for set well = omega (arith, most_small set well)
+
+-- ---- how many bytes the input gives
+
+pub gives_none : (step : Step Set) (i : Intake) → GivesWithin step i i
+gives_none Untold i = omega arith
+gives_none (Gives set) i = omega arith
+gives_none (Ends status line) i = refl
+
+pub gives_within : {T : Type 0} (m : T → Set) (step : Step Set) (t : T) (i i' : Intake) → StepAs m step (Ok t)
+    → i'.given ≤ i.given + most_given (m t) → most_given (m t) ≤ most_of_all → GivesWithin step i i'
+gives_within m Untold t i i' h within most = omega (arith, within, most)
+gives_within m (Gives set) t i i' h within most = subst (λ (y : Set). i'.given ≤ i.given + most_given y) h within
+gives_within m (Ends status line) t i i' h within most = absurd h
