@@ -115,10 +115,6 @@ subs_end start set at n subs old new lines f none all same =
     subst (λ (r : Result ReadSubs BadLine). SubsReached r old new lines (Ok tt)) (sym whole)
     (refl, append-nil (take n new.image.came) ∙ take_all n new.image.came (omega (arith, all)), append-nil lines, same)
 
-pub subs_memory : (start : Result ReadSubs BadLine) (old new : Taken) (lines : List ℕ) → SubsReached start old new lines (Err faults.NoMemory)
-subs_memory (Ok r) old new lines = tt
-subs_memory (Err b) old new lines = tt
-
 pub subs_bad : (start : Result ReadSubs BadLine) (r : Result (Option ℕ × Standing) BadLine) (j : ℕ) (old new mid : Taken) (lines : List ℕ) (e : LineFault)
     → ((b : BadLine) → r ≡ Err b → start ≡ Err b) → SubReached r j mid new (Err e) → SubsReached start old new lines (Err e)
 subs_bad start (Ok (o, q)) j old new mid lines e h f = absurd f

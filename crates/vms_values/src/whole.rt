@@ -1,8 +1,9 @@
 // Reads values texts of every set.
-ghost use Rattle.std.specs.Prelude.{IfOk};
+ghost use Rattle.std.specs.Prelude.{map, IfOk};
+ghost use Rattle.vms_spec.specs.Streams.{AreReady};
 ghost use Rattle.vms_spec.specs.ValuesReading.{values_read};
 ghost use Rattle.vms_desc.specs.Described.{described};
-ghost use Rattle.vms_image.specs.Typed.{AreImagesOf};
+ghost use Rattle.vms_image.specs.Typed.{state_of, AreImagesOf};
 ghost use Rattle.vms_values.specs.Reading.{ReadsAs};
 
 use crate::devices::read_lines;
@@ -14,10 +15,11 @@ use vms_desc::DescSet;
 /// Reads a values text of a set: the machine that it names and an image for each device, or the first
 /// line at which it isn't one, and why. A line that no text of the set has there goes before a section
 /// or subsection whose validations fail or that isn't sent as it is needed. The text is read once, and
-/// may have any length.
+/// may have any length. What is accepted may be written.
 pub fn read_text(alloc: Global, set: &DescSet, text: &[u8]) -> Result<Values, ValuesFault>
     ensures read { ReadsAs (described set.now) (values_read (described set.now) text.now) result }
     ensures of { IfOk result (λ v. AreImagesOf (described set.now) v.images.items) }
+    ensures ready { IfOk result (λ v. AreReady (described set.now) (map state_of v.images.items)) }
 {
     match read_lines(alloc, set, text) {
         Ok(values) => Ok(values),

@@ -1,5 +1,6 @@
--- The number of a line at which a text is refused has 32 bits.
-use Rattle.std.proofs.Common.{◌≡◌, ℕ, suc, ◌+◌, ◌*◌, ◌^◌, ◌<◌, ◌≤◌, true, List, [], ◌∷◌, length, get_or, sum_by, Err, refl, arith}
+-- What is known of a text that was read: the number of a line at which it is refused has 32 bits, and what it is accepted as may
+-- be written.
+use Rattle.std.proofs.Common.{◌≡◌, ℕ, suc, ◌+◌, ◌*◌, ◌^◌, ◌<◌, ◌≤◌, true, List, [], ◌∷◌, length, get_or, map, sum_by, Ok, Err, refl, sym, subst, arith}
 use Rattle.std.proofs.lemmas.List.Sums.{sum_by-cons}
 use Rattle.vms_spec.specs.declared.ValuesReason.{ValuesReason}
 use Rattle.vms_spec.specs.Heads.{FitsHeads}
@@ -7,14 +8,19 @@ use Rattle.vms_spec.specs.Sets.{Device, Set}
 use Rattle.vms_spec.specs.Layout.{no_desc}
 use Rattle.vms_spec.specs.ValuesReading.{values_read, ValuesRead, Values, Bad}
 use Rattle.vms_spec.specs.WellFormed.{first_fault}
+use Rattle.vms_spec.specs.Images.{Image}
+use Rattle.vms_spec.specs.Streams.{AreReady}
 use Rattle.vms_laws.specs.Laws.{IsFit}
+use Rattle.vms_image.specs.Typed.{state_of}
 use Rattle.vms_desc.specs.Formed.{is_well_formed}
 use Rattle.vms_desc.proofs.AskLaws.{few_cells}
 use Rattle.vms_desc.proofs.Bounds.{few_devices, none_is}
 use Rattle.vms_desc.proofs.Clean.{few_subs}
 use Rattle.vms_reading.specs.Laws.{device_lines, most_lines}
 use Rattle.vms_reading.proofs.FewLines.{line_holds}
+use Rattle.vms_reading.proofs.Stated.{accepted_holds}
 use Rattle.vms_values.specs.Reading.{ReadsBy}
+use Rattle.vms_values.specs.declared.fault.Values.{Values as Given}
 use Rattle.vms_values.specs.declared.fault.LineFault.TheVariants as faults
 
 abbrev no_device : Device
@@ -41,3 +47,13 @@ line_fits set well heads text line reason h = go (values_read set text) refl h
     go (Bad l why) e h =
         let fit : IsFit set = record { well = none_is (first_fault set) well; heads = heads } in
         omega (arith, h.0, line_holds set text l why fit e, few_lines set well)
+
+-- values of a text may be written
+pub read_ready : (set : Set) → is_well_formed set ≡ true → FitsHeads set → (text : List ℕ) (v : Given) → ReadsBy set (values_read set text) (Ok v) → AreReady set (map state_of v.images.items)
+read_ready set well heads text v h = go (values_read set text) refl h
+  where
+    go : (r : ValuesRead) → values_read set text ≡ r → ReadsBy set r (Ok v) → AreReady set (map state_of v.images.items)
+    go (Values machine images) e h =
+        let fit : IsFit set = record { well = none_is (first_fault set) well; heads = heads } in
+        subst (λ (l : List Image). AreReady set l) (sym h.0) (accepted_holds set text machine images fit e).ready
+    go (Bad l why) e h = absurd h
