@@ -6,6 +6,7 @@ use Rattle.vms_spec.specs.Sets.{Set}
 use Rattle.vms_spec.specs.Images.{Image}
 use Rattle.vms_spec.specs.Spelling.{first_line}
 use Rattle.vms_spec.specs.ValuesReading.{BadLine, Standing, Read, ValuesRead, Values, Bad, rest_of}
+use Rattle.vms_elements.specs.Reading.{IsText, Refused}
 use Rattle.vms_image.specs.Typed.{state_of}
 use Rattle.vms_values.specs.Printing.{machine_of}
 use Rattle.vms_values.specs.declared.fault.LineFault.{LineFault}
@@ -57,3 +58,10 @@ ReadsAs set (Bad line reason) (Ok v) = ⊥
 ReadsAs set (Values machine images) (Err (outer.Bad line reason)) = ⊥
 ReadsAs set (Bad line reason) (Err (outer.Bad l r)) = (l ≡ line) × (r ≡ reason)
 ReadsAs set read (Err outer.NoMemory) = Unit {0}
+
+-- what the text means by the lines and elements of the set: the values that it is printed of, which may be written, or its first
+-- bad line
+abbrev pub MeansAs : Set → List ℕ → Result Given ValuesFault → Type 0
+MeansAs set text (Ok v) = IsText set text (machine_of set v.machine) (map state_of v.images.items)
+MeansAs set text (Err (outer.Bad line reason)) = Refused set text line reason
+MeansAs set text (Err outer.NoMemory) = Unit {0}

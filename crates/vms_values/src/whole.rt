@@ -1,10 +1,9 @@
 // Reads values texts of every set.
-ghost use Rattle.std.specs.Prelude.{map, IfOk};
-ghost use Rattle.vms_spec.specs.Streams.{AreReady};
+ghost use Rattle.std.specs.Prelude.{IfOk};
 ghost use Rattle.vms_spec.specs.ValuesReading.{values_read};
 ghost use Rattle.vms_desc.specs.Described.{described};
-ghost use Rattle.vms_image.specs.Typed.{state_of, AreImagesOf};
-ghost use Rattle.vms_values.specs.Reading.{ReadsAs};
+ghost use Rattle.vms_image.specs.Typed.{AreImagesOf};
+ghost use Rattle.vms_values.specs.Reading.{ReadsAs, MeansAs};
 
 use crate::devices::read_lines;
 use crate::fault::LineFault;
@@ -19,7 +18,7 @@ use vms_desc::DescSet;
 pub fn read_text(alloc: Global, set: &DescSet, text: &[u8]) -> Result<Values, ValuesFault>
     ensures read { ReadsAs (described set.now) (values_read (described set.now) text.now) result }
     ensures of { IfOk result (λ v. AreImagesOf (described set.now) v.images.items) }
-    ensures ready { IfOk result (λ v. AreReady (described set.now) (map state_of v.images.items)) }
+    ensures means { MeansAs (described set.now) text.now result }
 {
     match read_lines(alloc, set, text) {
         Ok(values) => Ok(values),
