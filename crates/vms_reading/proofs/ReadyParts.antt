@@ -117,11 +117,6 @@ module _ (set : Set) (d : Device) (image : Image) (short : AreShort image.number
     pub valid : RulesHold (came_slots set d n at subs came)
     pub needed : ComeAsNeeded set d image j subs came
 
-  -- a subsection that its line says to have come, or not
-  record OneReady (s : Sub) (j at : ℕ) (o : Option ℕ) (ss : List Slot) : Type 0 where
-    right : AreRight n at (desc_cells (struct_cells set) s.desc) ss
-    valid : RulesHold ss
-
   module _ (s : Sub) (j at : ℕ) (subs : List Sub) (came : List (Option ℕ)) where
     abbrev next : ℕ
     next = at + length (desc_cells (struct_cells set) s.desc)

@@ -90,9 +90,6 @@ pub record IsNoNumber (x : Element) (xs : List Element) : Type 0 where
   pub bytes : (k : ℕ) → has_cell (slots_of (x ∷ xs)) k ≡ has_cell (slots_of xs) k
   pub defaults : (n : List ℤ) → have_defaults n (x ∷ xs) ≡ have_defaults n xs
 
-abbrev with_what : Element → What → Element
-with_what x w = record x { what = w }
-
 counted_number : (b : Bool) (x : Element) (xs : List Element) → (if b && true then x ∷ xs else xs) ≡ (if b then x ∷ xs else xs)
 counted_number true x xs = refl
 counted_number false x xs = refl
