@@ -94,7 +94,7 @@ fn write<O: Sink>(alloc: Global, set: &DescSet, values: &Values, out: &mut O) ->
     requires ready { AreReady (described set.now) (map state_of values.now.images.items) }
     ensures written { let set = described set.now in
         let machine = at_option set.machines values.now.machine in
-        WrittenAs (described_stream set machine values.now.images.items)
+        WrittenAs (described_stream set machine (map state_of values.now.images.items))
         (outlet O.Sink out.old) (outlet O.Sink out.new) result }
     ensures cause { WriteCause (outlet O.Sink out.old) (outlet O.Sink out.new) result }
     ensures count { O.faults out.old ≤ O.faults out.new }

@@ -15,7 +15,7 @@ mod trace;
 pub use laws::{grammar_law, refusal_law};
 pub use line::{Line, ScriptFault, ScriptReason};
 pub use name::is_shelf_name;
-pub use number::LONGEST_WAIT;
+pub use number::{LONGEST_WAIT, number_of};
 pub use script::read_script;
 pub use trace::print_answer;
 pub use vms_io::WriteFault;
