@@ -1,9 +1,11 @@
+pub mod CheckLemmas
+pub mod CheckRow
 pub mod EndLemmas
-pub mod FileSets
 pub mod OutcomeLaws
 pub mod PackLemmas
+pub mod PackRow
 pub mod RoundTrips
-pub mod SetLemmas
 pub mod ShowLemmas
-pub mod StepLemmas
+pub mod ShowRow
+pub mod UpgradeLemmas
 pub mod VerdictLaws

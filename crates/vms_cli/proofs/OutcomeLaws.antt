@@ -1,6 +1,5 @@
 -- Each call has one outcome, and what can be done is done.
-use Rattle.std.proofs.Common.{◌≡◌, ℕ, zero, suc, ◌+◌, ◌<◌, ◌≤◌, ◌⊎◌, Bool, true, false, nat_lt, List, [], ◌∷◌, length, length-append, take, Option, Some, None, IsSomeAnd, refl, sym, ap, ◌∙◌, subst, arith, inl, inr}
-use Rattle.std.proofs.lemmas.Bool.Decides.{nat_tests}
+use Rattle.std.proofs.Common.{◌≡◌, ℕ, zero, suc, ◌+◌, ◌<◌, ◌≤◌, ◌⊎◌, List, [], ◌∷◌, length, length-append, take, Option, Some, None, IsSomeAnd, refl, sym, ap, ◌∙◌, subst, arith, inl, inr}
 use Rattle.std.proofs.lemmas.List.{length-take}
 use Rattle.std.specs.Io.KnownBytes.{Appends}
 use Rattle.vms_io.specs.Causes.{Rose, AppendsPrefix, KeepsPromise}
@@ -10,110 +9,32 @@ use Rattle.vms_spec.specs.Numbers.{IsBytes}
 use Rattle.vms_spec.specs.Shipped.{set_0}
 use Rattle.vms_spec.specs.Streams.{written}
 use Rattle.vms_spec.specs.Values.{values_text}
-use Rattle.vms_spec.specs.ValuesReading.{ValuesRead, Values, Bad, values_read}
 use Rattle.vms_spec.specs.Images.{Image}
 use Rattle.vms_laws.specs.Laws.{IsFit}
 use Rattle.vms_units.specs.StreamLaws.{Answer, Taken, Faulty}
 use Rattle.vms_units.specs.Streams.{Takes}
 use Rattle.vms_units.proofs.Stated.{either_holds}
-use Rattle.vms_cli.specs.Answers.{HasOutcome, Answers, DoesOrStops}
-use Rattle.vms_cli.specs.Commands.{Asked, SetWord, Show, Pack, Check, asked_of}
-use Rattle.vms_cli.specs.Check.{checked, compared, compatible_text, verdict}
-use Rattle.vms_cli.specs.Steps.{Step, Untold, Gives, Ends, Both, HasText, next}
-use Rattle.vms_cli.proofs.VerdictLaws.{StopsAt}
-use Rattle.vms_cli.proofs.StepLemmas.{IsSound, sound_check, sound_word_set}
-use Rattle.vms_cli.proofs.FileSets.{FitStep, fit_word}
 use Rattle.vms_check.specs.declared.mismatch.Mismatch.{Mismatch}
 use Rattle.vms_spec.specs.Sets.{Set}
-use Rattle.vms_cli.specs.Lines.{bad_words, read_fault, write_fault, shelf_fault, out_of_memory, values_line, not_there_line, too_large_line, refused_line}
-use Rattle.vms_cli.specs.Outcomes.{Part, Outcome, done, ended, text_of, text_begun, Outside, HasPart}
-use Rattle.vms_cli.specs.Pack.{Packs, Missing, Large, Read, PacksText, Stream, BadText, longest_values}
-use Rattle.vms_cli.specs.Fetching.{word_set}
-use Rattle.vms_cli.specs.Show.{ShowsBy, Values as Printed, Refuses}
+use Rattle.vms_outcome.specs.Fetching.{longest_file, word_set}
+use Rattle.vms_outcome.specs.Lines.{bad_words, read_fault, write_fault, shelf_fault, out_of_memory, refused_line}
+use Rattle.vms_outcome.specs.Outcomes.{Part, Outcome, DoesOrStops, done, ended, text_of, text_begun, Outside, HasPart}
+use Rattle.vms_outcome.specs.SetWords.{SetWord}
+use Rattle.vms_outcome.specs.Steps.{Step, Untold, Gives, Ends, Both, HasText, next}
+use Rattle.vms_outcome.proofs.FileSets.{FitStep, fit_word}
+use Rattle.vms_outcome.proofs.StepLemmas.{IsSound, fetched_gives, one_text, sound_word_set}
+use Rattle.vms_cli.specs.Answers.{HasOutcome, Answers}
+use Rattle.vms_cli.specs.Check.{checked, compared, compatible_text, verdict}
+use Rattle.vms_cli.specs.Commands.{Asked, Show, Pack, Check, asked_of}
 use Rattle.vms_cli.specs.Laws.{HasOneOutcome, OutcomeLaw, CanBeDone, HasRoom, IsAmple, PromisesKept, CompleteLaw}
+use Rattle.vms_cli.specs.Pack.{packed, packed_by, packs}
+use Rattle.vms_cli.specs.Show.{ShowsBy, Values as Printed, Refuses}
+use Rattle.vms_cli.proofs.CheckLemmas.{sound_check}
+use Rattle.vms_cli.proofs.PackLemmas.{sound_pack}
 use Rattle.vms_cli.proofs.ShowLemmas.{shown_is, refused_is}
+use Rattle.vms_cli.proofs.VerdictLaws.{StopsAt}
 
--- ---- the outcome of `pack`
-
--- more than the limit
-abbrev IsLong : Option (List ℕ) → Type 0
-IsLong None = ⊥
-IsLong (Some text) = longest_values < length text
-
-same_some : {X : Type 0} (x y : X) → Some x ≡ Some y → x ≡ y
-same_some x y e = cc
-
--- the text that is held under the name
-fetched_under : (name text : List ℕ) (under : Option (List ℕ)) (held : Option Held) (x : Outcome) → under ≡ Some text → length text ≤ longest_values
-    → Packs set_0 name under held x → PacksText set_0 text held x
-fetched_under name text under held x is fits (Missing e) = absurd (none_some text (sym e ∙ is))
-  where
-    none_some : (t : List ℕ) → None ≡ Some t → ⊥
-    none_some t e = cc
-fetched_under name text under held x is fits (Large other e long) =
-    absurd (omega (arith, fits, subst (λ (t : List ℕ). longest_values < length t) (same_some other text (sym e ∙ is)) long))
-fetched_under name text under held x is fits (Read other o e short p) = subst (λ (t : List ℕ). PacksText set_0 t held o) (same_some other text (sym e ∙ is)) p
-
-not_there_under : (name : List ℕ) (under : Option (List ℕ)) (held : Option Held) (x : Outcome) → under ≡ None → Packs set_0 name under held x → x ≡ ended 8 (not_there_line name) 0
-not_there_under name under held x is (Missing e) = refl
-not_there_under name under held x is (Large text e long) = absurd (some_none text (sym e ∙ is))
-  where
-    some_none : (t : List ℕ) → Some t ≡ None → ⊥
-    some_none t e = cc
-not_there_under name under held x is (Read text o e short p) = absurd (some_none text (sym e ∙ is))
-  where
-    some_none : (t : List ℕ) → Some t ≡ None → ⊥
-    some_none t e = cc
-
-too_large_under : (name : List ℕ) (under : Option (List ℕ)) (held : Option Held) (x : Outcome) → IsLong under → Packs set_0 name under held x
-    → x ≡ ended 9 (too_large_line name) 0
-too_large_under name None held x refused (Missing e) = absurd refused
-too_large_under name (Some bytes) held x refused (Missing e) = absurd (some_none bytes e)
-  where
-    some_none : (t : List ℕ) → Some t ≡ None → ⊥
-    some_none t e = cc
-too_large_under name under held x refused (Large text e long) = refl
-too_large_under name None held x refused (Read text o e short p) = absurd refused
-too_large_under name (Some bytes) held x refused (Read text o e short p) =
-    absurd (omega (arith, short, subst (λ (t : List ℕ). longest_values < length t) (same_some bytes text e) refused))
-
--- the outcome of a text that was read
-abbrev packed_of : Option Held → ValuesRead → Outcome
-packed_of held (Values machine images) = done (written set_0 machine images None) held 0
-packed_of held (Bad line reason) = ended 3 (values_line line reason) 0
-
-text_is : (text : List ℕ) (held : Option Held) (x : Outcome) → PacksText set_0 text held x → x ≡ packed_of held (values_read set_0 text)
-text_is text held x (Stream machine images e) = ap (packed_of held) (sym e)
-text_is text held x (BadText line reason e) = ap (packed_of held) (sym e)
-
-text_has : (text : List ℕ) (held : Option Held) (r : ValuesRead) → values_read set_0 text ≡ r → PacksText set_0 text held (packed_of held r)
-text_has text held (Values machine images) e = Stream machine images e
-text_has text held (Bad line reason) e = BadText line reason e
-
-record OnePacked (name : List ℕ) (under : Option (List ℕ)) (held : Option Held) : Type 0 where
-  outcome : Outcome
-  is : Packs set_0 name under held outcome
-  only : (other : Outcome) → Packs set_0 name under held other → other ≡ outcome
-
-one_fetched : (name text : List ℕ) (held : Option Held) (b : Bool) → nat_lt longest_values (length text) ≡ b → OnePacked name (Some text) held
-one_fetched name text held true e =
-    let long : longest_values < length text = grind (arith, nat_tests, e) in
-    record { outcome = ended 9 (too_large_line name) 0; is = Large text refl long; only = λ other p. too_large_under name (Some text) held other long p }
-one_fetched name text held false e =
-    let short : length text ≤ longest_values = grind (arith, nat_tests, e) in
-    let outcome = packed_of held (values_read set_0 text) in
-    record {
-      outcome = outcome;
-      is = Read text outcome refl short (text_has text held (values_read set_0 text) refl);
-      only = λ other p. text_is text held other (fetched_under name text (Some text) held other refl short p);
-    }
-
-one_packed : (name : List ℕ) (under : Option (List ℕ)) (held : Option Held) → OnePacked name under held
-one_packed name None held =
-    record { outcome = ended 8 (not_there_line name) 0; is = Missing refl; only = λ other p. not_there_under name None held other refl p }
-one_packed name (Some text) held = one_fetched name text held (nat_lt longest_values (length text)) refl
-
--- ---- that of `show`
+-- ---- the outcome of `show`
 
 record OneShown (step : Step Set) (input : List ℕ) (held : Held) : Type 0 where
   outcome : Outcome
@@ -146,29 +67,23 @@ one_shown word input held ok =
     let one = one_by (word_set (Some held) word) input held ok (sound_word_set (Some held) word) (fit_word (Some held) word) in
     record { outcome = one.outcome; is = one.is; only = one.only }
 
--- ---- that of `check`
+-- ---- those of `pack` and `check`
 
-one_checked : (old new : SetWord) (input : List ℕ) (held : Held) (s : Step (List ℕ)) → s ≡ checked (Some held) old new → IsSound (Some held) s
-    → HasOneOutcome (Some (Check old new)) input held
-one_checked old new input held Untold same sound = absurd (cc)
-one_checked old new input held (Gives text) same sound = record {
-  outcome = done text (Some held) 0;
-  is = subst (λ (s : Step (List ℕ)). HasText (Some held) s (done text (Some held) 0)) same refl;
-  only = λ other has. subst (λ (s : Step (List ℕ)). HasText (Some held) s other) (sym same) has;
-}
-one_checked old new input held (Ends status line) same sound = record {
-  outcome = ended status line 0;
-  is = subst (λ (s : Step (List ℕ)). HasText (Some held) s (ended status line 0)) same refl;
-  only = λ other has. subst (λ (s : Step (List ℕ)). HasText (Some held) s other) (sym same) has;
-}
+one_packed : (name : List ℕ) (input : List ℕ) (held : Held) → HasOneOutcome (Some (Pack name)) input held
+one_packed name input held =
+    let one = one_text held (packs (Some held) name) (sound_pack (Some held) name) in
+    record { outcome = one.outcome; is = one.is; only = one.only }
+
+one_checked : (old new : SetWord) (input : List ℕ) (held : Held) → HasOneOutcome (Some (Check old new)) input held
+one_checked old new input held =
+    let one = one_text held (checked (Some held) old new) (sound_check (Some held) old new) in
+    record { outcome = one.outcome; is = one.is; only = one.only }
 
 pub outcome_holds : OutcomeLaw
 outcome_holds None input held ok = record { outcome = ended 2 bad_words 0; is = refl; only = λ other e. e }
 outcome_holds (Some (Show word)) input held ok = one_shown word input held ok
-outcome_holds (Some (Pack name)) input held ok =
-    let one = one_packed name (held name) (Some held) in
-    record { outcome = one.outcome; is = one.is; only = one.only }
-outcome_holds (Some (Check old new)) input held ok = one_checked old new input held (checked (Some held) old new) refl (sound_check (Some held) old new)
+outcome_holds (Some (Pack name)) input held ok = one_packed name input held
+outcome_holds (Some (Check old new)) input held ok = one_checked old new input held
 
 -- ---- completeness
 
@@ -196,8 +111,17 @@ can_be (Some (Show word)) input held can = by input can.2
         }
 can_be (Some (Pack name)) input None can = absurd can
 can_be (Some (Pack name)) input (Some map) can =
-    let outcome = done (written set_0 can.1 can.2 None) (Some map) 0 in
-    record { outcome = outcome; is = Read can.0 outcome can.3 can.4 (Stream can.1 can.2 can.5); status = refl; note = refl }
+    let stream = written set_0 can.1 can.2 None in
+    let outcome = done stream (Some map) 0 in
+    let gives : packs (Some map) name ≡ Gives stream =
+    ap (λ (s : Step (List ℕ)). next s (packed set_0)) (fetched_gives longest_file map name can.0 can.3 can.4)
+    ∙ ap (packed_by set_0) can.5 in
+    record {
+      outcome = outcome;
+      is = subst (λ (s : Step (List ℕ)). HasText (Some map) s outcome) (sym gives) refl;
+      status = refl;
+      note = refl;
+    }
 can_be (Some (Check old new)) input held can =
     let outcome = done compatible_text held 0 in
     let agrees : HasText held (compared can.0) outcome = subst (λ (m : Option Mismatch). HasText held (verdict m) outcome) (sym can.2) refl in

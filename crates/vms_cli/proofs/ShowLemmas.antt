@@ -1,11 +1,10 @@
 -- From what a load and a write say to how `show` ends.
-use Rattle.std.proofs.Common.{◌≡◌, ℕ, suc, ◌+◌, ◌<◌, ◌≤◌, true, List, [], ◌∷◌, length, get_or, map, drop, append-nil, Option, Some, None, Ok, Err, IfSome, IsSomeAnd, refl, sym, ap, ◌∙◌, subst, arith, inl}
+use Rattle.std.proofs.Common.{◌≡◌, ℕ, suc, ◌+◌, ◌<◌, ◌≤◌, true, List, [], ◌∷◌, length, get_or, map, drop, Option, Some, None, Ok, Err, IfSome, IsSomeAnd, refl, sym, ap, ◌∙◌, subst, arith}
 use Rattle.std.proofs.lemmas.List.{length-map, get_or-map}
 use Rattle.std.specs.Option.{ForSome}
 use Rattle.std.specs.Prelude.{string_bytes}
 use Rattle.std.specs.declared.string.String.{String}
 use Rattle.std.specs.declared.alloc.Global.{Global}
-use Rattle.std.specs.Io.KnownBytes.{Appends}
 use Rattle.vms_io.specs.Causes.{capped}
 use Rattle.vms_io.specs.Shelves.{Held}
 use Rattle.vms_io.specs.Told.{Intake, Outlet, Stock}
@@ -32,12 +31,15 @@ use Rattle.vms_desc.specs.Formed.{is_well_formed}
 use Rattle.vms_desc.proofs.AskLaws.{few_cells}
 use Rattle.vms_image.specs.Typed.{Typed, state_of}
 use Rattle.vms_values.specs.Printing.{AreOf, IsOf, machine_of}
-use Rattle.vms_cli.specs.declared.ending.Ending.{Ending}
-use Rattle.vms_cli.specs.declared.ending.Ending.TheVariants.{Done, Refused, BadWords, BadText, NotCompatible, ReadFault, WriteFault, ShelfFault, NotThere, TooLarge, NoMemory}
-use Rattle.vms_cli.specs.Outcomes.{Outcome, done, ended, TakesBytes}
-use Rattle.vms_cli.specs.Show.{Shows, Values, Refuses, most_of_all}
-use Rattle.vms_cli.specs.Endings.{EndsAs, WritesAs}
-use Rattle.vms_cli.specs.Lines.{refused_line}
+use Rattle.vms_outcome.specs.declared.ending.Ending.{Ending}
+use Rattle.vms_outcome.specs.declared.ending.Ending.TheVariants.{Refused}
+use Rattle.vms_outcome.specs.Endings.{EndsAs, WritesAs}
+use Rattle.vms_outcome.specs.Lines.{refused_line}
+use Rattle.vms_outcome.specs.Outcomes.{Outcome, done, ended, TakesBytes}
+use Rattle.vms_outcome.specs.StepEndings.{StepAs}
+use Rattle.vms_outcome.specs.Steps.{Step, Untold, Gives, Ends}
+use Rattle.vms_outcome.proofs.EndLemmas.{text_written}
+use Rattle.vms_cli.specs.Show.{GivesWithin, Shows, Values, Refuses, most_of_all}
 
 abbrev no_device : Device
 no_device = record { instance = 0; desc = no_desc; subs = [] }
@@ -46,26 +48,9 @@ same_machine : (set : Set) (machine : Option ℕ) → name_of set machine ≡ ma
 same_machine set None = refl
 same_machine set (Some m) = refl
 
--- a text was written, or a prefix of it, while the shelf stayed
-pub text_written : (text : List ℕ) (i i' : Intake) (o o' : Outlet) (s s' : Stock) (taken : ℕ) (ending : Ending)
-    → WritesAs text o o' ending → s'.held ≡ s.held → TakesBytes i i' taken → EndsAs i i' o o' s s' ending (done text s.held taken)
-text_written text i i' o o' s s' taken Done w same t = record {
-  status_is = refl;
-  text = subst (λ (l : List ℕ). Appends o.written o'.written l) (sym (append-nil text)) w;
-  note = refl;
-  held = same;
-  taken = t;
-}
-text_written text i i' o o' s s' taken WriteFault w same t = record { begun = 1; bytes = w.0.0; text = w.0.2; held = inl same }
-text_written text i i' o o' s s' taken NoMemory w same t = absurd w
-text_written text i i' o o' s s' taken (Refused r) w same t = absurd w
-text_written text i i' o o' s s' taken BadWords w same t = absurd w
-text_written text i i' o o' s s' taken ReadFault w same t = absurd w
-text_written text i i' o o' s s' taken (BadText r) w same t = absurd w
-text_written text i i' o o' s s' taken (NotCompatible r) w same t = absurd w
-text_written text i i' o o' s s' taken ShelfFault w same t = absurd w
-text_written text i i' o o' s s' taken (NotThere r) w same t = absurd w
-text_written text i i' o o' s s' taken (TooLarge r) w same t = absurd w
+-- the outcome under a set, where so much of the input is told
+abbrev pub shows_under : Option (List ℕ) → Option Held → Set → Outcome → Type 0
+shows_under input held set x = IsSomeAnd input (λ bytes. Shows set bytes held x)
 
 -- what the laws of streams ask of a set
 pub fit_of : (set : Set) → is_well_formed set ≡ true → FitsHeads set → IsFit set
@@ -159,3 +144,16 @@ module _ (set : Set) where
 
 pub most_for : (set : Set) → is_well_formed set ≡ true → most_given set ≤ most_of_all
 most_for set well = omega (arith, most_small set well)
+
+-- ---- how many bytes the input gives
+
+pub gives_none : (step : Step Set) (i : Intake) → GivesWithin step i i
+gives_none Untold i = omega arith
+gives_none (Gives set) i = omega arith
+gives_none (Ends status line) i = refl
+
+pub gives_within : {T : Type 0} (m : T → Set) (step : Step Set) (t : T) (i i' : Intake) → StepAs m step (Ok t)
+    → i'.given ≤ i.given + most_given (m t) → most_given (m t) ≤ most_of_all → GivesWithin step i i'
+gives_within m Untold t i i' h within most = omega (arith, within, most)
+gives_within m (Gives set) t i i' h within most = subst (λ (y : Set). i'.given ≤ i.given + most_given y) h within
+gives_within m (Ends status line) t i i' h within most = absurd h

@@ -1,23 +1,23 @@
 -- What a call answers: the row of each command, and what holds of all calls.
-use Rattle.std.specs.Prelude.{◌≡◌, ◌⊎◌, ℕ, List, Option, Some, None, IsSomeAnd}
+use Rattle.std.specs.Prelude.{◌≡◌, ◌⊎◌, ℕ, List, Option, Some, None}
 use Rattle.std.specs.Io.KnownBytes.{Appends}
 use Rattle.vms_io.specs.Shelves.{Held}
-use Rattle.vms_spec.specs.Shipped.{set_0}
-use Rattle.vms_cli.specs.Commands.{Asked, Show, Pack, Check, asked_of}
-use Rattle.vms_cli.specs.Lines.{bad_words}
-use Rattle.vms_cli.specs.Outcomes.{Outcome, ended, Outside, Does, Stops, NotesFault, CountsStand, PromisesStay}
-use Rattle.vms_cli.specs.Fetching.{is_on_shelf, word_set}
-use Rattle.vms_cli.specs.Show.{ShowsBy, ShowAnswers}
-use Rattle.vms_cli.specs.Pack.{Packs, PackAnswers}
+use Rattle.vms_outcome.specs.Fetching.{is_on_shelf, word_set}
+use Rattle.vms_outcome.specs.Lines.{bad_words}
+use Rattle.vms_outcome.specs.Outcomes.{Outcome, ended, Outside, DoesOrStops, NotesFault, CountsStand, PromisesStay}
+use Rattle.vms_outcome.specs.Steps.{HasText}
 use Rattle.vms_cli.specs.Check.{checked, asks_shelf, CheckAnswers, Verdict}
-use Rattle.vms_cli.specs.Steps.{HasText}
+use Rattle.vms_cli.specs.Commands.{Asked, Show, Pack, Check, asked_of}
+use Rattle.vms_cli.specs.Pack.{packs, PackAnswers}
+use Rattle.vms_cli.specs.Show.{ShowsBy, ShowAnswers}
+use Rattle.vms_cli.specs.Upgrade.{Upgrade}
 
 -- The outcome of a command, by what the input has left and what the shelf holds. A command that goes by what isn't told has
 -- none.
 abbrev pub HasOutcome : Option Asked → Option (List ℕ) → Option Held → Outcome → Type 0
 HasOutcome None input held o = o ≡ ended 2 bad_words 0
 HasOutcome (Some (Show set)) input held o = ShowsBy (word_set held set) input held o
-HasOutcome (Some (Pack name)) input held o = IsSomeAnd held (λ map. Packs set_0 name (map name) held o)
+HasOutcome (Some (Pack name)) input held o = HasText held (packs held name) o
 HasOutcome (Some (Check old new)) input held o = HasText held (checked held old new) o
 
 -- what words of no listed form can answer: only the notes are touched
@@ -35,14 +35,12 @@ CanAnswer (Some (Show set)) status old new =
 CanAnswer (Some (Pack name)) status old new = PackAnswers status old new
 CanAnswer (Some (Check one other)) status old new = CheckAnswers (asks_shelf one other) status old new
 
--- the call does the outcome, or stops on the way
-abbrev pub DoesOrStops : ℕ → Outside → Outside → Outcome → Type 0
-DoesOrStops status old new o = Does status old new o ⊎ Stops status old new o
-
 pub record Answers (words : List (List ℕ)) (status : ℕ) (old new : Outside) : Type 0 where
   pub outcome : (o : Outcome) → HasOutcome (asked_of words) old.input.left old.shelf.held o → DoesOrStops status old new o
   pub row : CanAnswer (asked_of words) status old new
   -- where `check` is done, the two sets are compatible
   pub verdict : Verdict (asked_of words) old.shelf.held status
+  -- and of such sets the newer shows what the older wrote as carried
+  pub upgrade : Upgrade (asked_of words) status old new
   pub counts : CountsStand old new
   pub promises : PromisesStay old new

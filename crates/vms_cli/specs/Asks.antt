@@ -1,13 +1,8 @@
 -- The command of the code, as what is asked.
+use Rattle.vms_outcome.specs.Asks.{set_asked}
 use Rattle.vms_cli.specs.Commands as commands
-use Rattle.vms_cli.specs.declared.set_word.SetWord.{SetWord}
-use Rattle.vms_cli.specs.declared.set_word.SetWord.TheVariants.{Shipped, OnShelf}
 use Rattle.vms_cli.specs.declared.words.Command.{Command}
 use Rattle.vms_cli.specs.declared.words.Command.TheVariants.{Show, Pack, Check}
-
-abbrev pub set_asked : SetWord → commands.SetWord
-set_asked (Shipped set) = commands.Shipped set.number
-set_asked (OnShelf name) = commands.OnShelf name.now
 
 abbrev pub asked : Command → commands.Asked
 asked (Show set) = commands.Show (set_asked set)

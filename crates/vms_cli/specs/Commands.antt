@@ -1,13 +1,8 @@
 -- The commands that the words can name.
-use Rattle.std.specs.Prelude.{ℕ, Bool, not, ◌&&◌, ◌||◌, ◌==◌, nat_le, get_or, if◌then◌else◌, List, [], ◌∷◌, length, Option, Some, None, codes}
+use Rattle.std.specs.Prelude.{ℕ, Bool, ◌&&◌, if◌then◌else◌, List, [], ◌∷◌, Option, Some, None, codes}
 use Rattle.std.specs.Str.{bytes_eq}
-use Rattle.std.specs.List.{list_all}
-use Rattle.vms_spec.specs.Lists.{position}
-
--- a set: a shipped one by its number, or what the shelf holds under a name
-pub data SetWord : Type 0 where
-  Shipped : ℕ → SetWord
-  OnShelf : List ℕ → SetWord
+use Rattle.vms_script.specs.Names.{is_shelf_name}
+use Rattle.vms_outcome.specs.SetWords.{SetWord, set_word}
 
 -- prints the values text of a stream, writes the stream of a values text on the shelf, or compares two sets
 pub data Asked : Type 0 where
@@ -15,31 +10,8 @@ pub data Asked : Type 0 where
   Pack : List ℕ → Asked
   Check : (old new : SetWord) → Asked
 
--- a letter, a digit, `_`, `-` or `.`
-abbrev pub is_name_byte : ℕ → Bool
-is_name_byte b = (nat_le 97 b && nat_le b 122) || (nat_le 65 b && nat_le b 90) || (nat_le 48 b && nat_le b 57) || b == 95 || b == 45 || b == 46
-
--- a name of the shelf: 1 to 64 of these, not beginning with a dot
-abbrev pub is_shelf_name : List ℕ → Bool
-is_shelf_name name = (nat_le 1 (length name) && nat_le (length name) 64) && list_all is_name_byte name && not (get_or name 0 46 == 46)
-
 abbrev pub is_set_0 : List ℕ → Bool
 is_set_0 word = bytes_eq word (codes "@0")
-
--- the words of the shipped sets, in order
-abbrev pub shipped_words : List (List ℕ)
-shipped_words = codes "@0" ∷ codes "@1" ∷ codes "@2" ∷ codes "@3" ∷ codes "@4" ∷ []
-
-abbrev pub shipped_number : List ℕ → Option ℕ
-shipped_number word = position (bytes_eq word) 0 shipped_words
-
-abbrev pub named_set : List ℕ → Option ℕ → Option SetWord
-named_set word (Some s) = Some (Shipped s)
-named_set word None = if is_shelf_name word then Some (OnShelf word) else None
-
--- the set that a word names
-abbrev pub set_word : List ℕ → Option SetWord
-set_word word = named_set word (shipped_number word)
 
 abbrev pub show_of : Option SetWord → Option Asked
 show_of None = None

@@ -12,12 +12,12 @@ use Rattle.vms_units.specs.Streams.{Takes}
 use Rattle.vms_texts.specs.Texts.{IsTimer, IsMachine}
 use Rattle.vms_cli.specs.Answers.{HasOutcome, Answers}
 use Rattle.vms_cli.specs.Commands.{Asked, Show, Pack, Check, asked_of}
-use Rattle.vms_cli.specs.Outcomes.{Outcome, done, text_of, Outside}
-use Rattle.vms_cli.specs.Pack.{Packs, longest_values}
-use Rattle.vms_cli.specs.Show.{Shows}
-use Rattle.vms_cli.specs.Fetching.{named_sets, word_set}
-use Rattle.vms_cli.specs.Steps.{Gives, Both}
+use Rattle.vms_outcome.specs.Outcomes.{Outcome, DoesOrStops, done, text_of, Outside}
+use Rattle.vms_outcome.specs.Fetching.{longest_file, named_sets, word_set}
+use Rattle.vms_outcome.specs.SetWords.{SetWord, Shipped}
+use Rattle.vms_outcome.specs.Steps.{Gives, Both}
 use Rattle.vms_check.specs.Comparing.{Compatible}
+use Rattle.vms_cli.specs.Upgrade.{IsWritten, shown_newer}
 use Rattle.vms_spec.specs.Sets.{Set}
 
 -- ---- outcomes
@@ -43,7 +43,7 @@ CanBeDone (Some (Show word)) input held =
     × (images : List Image) × Takes set set.machines bytes taken machine images)
 CanBeDone (Some (Pack name)) input held =
     IsSomeAnd held (λ map. (text : List ℕ) × (machine : Option (List ℕ)) × (images : List Image)
-    × (map name ≡ Some text) × (length text ≤ longest_values) × (values_read set_0 text ≡ Values machine images))
+    × (map name ≡ Some text) × (length text ≤ longest_file) × (values_read set_0 text ≡ Values machine images))
 CanBeDone (Some (Check old new)) input held =
     (sets : Both Set) × (named_sets held old new ≡ Gives sets) × Compatible sets.old sets.new
 
@@ -71,15 +71,28 @@ CompleteLaw = (words : List (List ℕ)) (status : ℕ) (old new : Outside) → C
     → ((o : Outcome) → HasOutcome (asked_of words) old.input.left old.shelf.held o → IsAmple old o)
     → PromisesKept new → Answers words status old new → (status ≡ 0) ⊎ (status ≡ 10)
 
+-- ---- check, and then show
+
+-- Where `check` of two words was done, the shelf tells the same when `show` is called with the second, and the input is what the
+-- first's set writes, `show` gives the values text of the carried images, and all of the stream is taken, or it stops on its way.
+abbrev pub CheckThenShowLaw : Type 0
+CheckThenShowLaw = (one other : List (List ℕ)) (old new : SetWord) (sets : Both Set) (a b c d : Outside) (status : ℕ)
+    → asked_of one ≡ Some (Check old new) → asked_of other ≡ Some (Show new) → named_sets a.shelf.held old new ≡ Gives sets
+    → Answers one 0 a b → c.shelf.held ≡ a.shelf.held → Answers other status c d
+    → (machine text : Option (List ℕ)) (images : List Image) → IsWritten sets.old machine text images
+    → c.input.left ≡ Some (written sets.old machine images text) → DoesOrStops status c d (shown_newer sets.old sets.new machine text images c)
+
 -- ---- round trips
 
 -- where `pack` gives a stream for the text under a name, `show` gives that text for the stream, and takes all of it
 abbrev pub PackThenShowLaw : Type 0
-PackThenShowLaw = (name text stream : List ℕ) (held : Option Held) (n : ℕ) → Packs set_0 name (Some text) held (done stream held n)
-    → Shows set_0 stream held (done text held (length stream))
+PackThenShowLaw = (name text stream : List ℕ) (input : Option (List ℕ)) (map : Held) → map name ≡ Some text
+    → HasOutcome (Some (Pack name)) input (Some map) (done stream (Some map) 0)
+    → HasOutcome (Some (Show (Shipped 0))) (Some stream) (Some map) (done text (Some map) (length stream))
 
 -- where `show` gives a text for a written stream and the text isn't too long, `pack` gives that stream for the text
 abbrev pub ShowThenPackLaw : Type 0
 ShowThenPackLaw = (machine : Option (List ℕ)) (images : List Image) → IsMachine machine → IsTimer images
-    → (name text : List ℕ) (held : Option Held) (n : ℕ) → Shows set_0 (written set_0 machine images None) held (done text held n) → length text ≤ longest_values
-    → Packs set_0 name (Some text) held (done (written set_0 machine images None) held 0)
+    → (name text : List ℕ) (input : Option (List ℕ)) (map : Held) (n : ℕ) → map name ≡ Some text → length text ≤ longest_file
+    → HasOutcome (Some (Show (Shipped 0))) (Some (written set_0 machine images None)) (Some map) (done text (Some map) n)
+    → HasOutcome (Some (Pack name)) input (Some map) (done (written set_0 machine images None) (Some map) 0)

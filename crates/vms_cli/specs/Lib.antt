@@ -1,14 +1,10 @@
 pub mod Answers
 pub mod Asks
+pub mod Causes
 pub mod Check
 pub mod Commands
-pub mod Endings
-pub mod Fetching
 pub mod Laws
-pub mod Lines
-pub mod Outcomes
 pub mod Pack
-pub mod SetLines
 pub mod Show
-pub mod StepEndings
-pub mod Steps
+pub mod Upgrade
+pub mod ValuesLines

@@ -1,33 +1,27 @@
 -- The command `pack`: its outcome, and what it can answer.
-use Rattle.std.specs.Prelude.{◌≡◌, ◌⊎◌, ℕ, ◌<◌, ◌≤◌, List, length, Option, Some, None}
+use Rattle.std.specs.Prelude.{◌≡◌, ◌⊎◌, ℕ, List, Option, None}
 use Rattle.std.specs.Io.KnownBytes.{Keeps}
 use Rattle.vms_io.specs.Shelves.{Held}
-use Rattle.vms_spec.specs.declared.ValuesReason.{ValuesReason}
-use Rattle.vms_spec.specs.Images.{Image}
 use Rattle.vms_spec.specs.Sets.{Set}
+use Rattle.vms_spec.specs.Shipped.{set_0}
 use Rattle.vms_spec.specs.Streams.{written}
-use Rattle.vms_spec.specs.ValuesReading.{Values, Bad, values_read}
-use Rattle.vms_cli.specs.Fetching.{longest_file}
-use Rattle.vms_cli.specs.Lines.{values_line, not_there_line, too_large_line}
-use Rattle.vms_cli.specs.Outcomes.{Outcome, done, ended, Outside, OutFault, NotesFault, ShelfFault, WantsMemory, EndsBy}
+use Rattle.vms_spec.specs.ValuesReading.{ValuesRead, Values, Bad, values_read}
+use Rattle.vms_outcome.specs.Fetching.{fetched, longest_file}
+use Rattle.vms_outcome.specs.Outcomes.{Outside, OutFault, NotesFault, ShelfFault, WantsMemory, EndsBy}
+use Rattle.vms_outcome.specs.Steps.{Step, Gives, Ends, next}
+use Rattle.vms_cli.specs.ValuesLines.{values_line}
 
--- the greatest values text, in bytes
-abbrev pub longest_values : ℕ
-longest_values = longest_file
+-- the stream of what is read of a values text, or its first bad line
+abbrev pub packed_by : Set → ValuesRead → Step (List ℕ)
+packed_by set (Values machine images) = Gives (written set machine images None)
+packed_by set (Bad line reason) = Ends 3 (values_line line reason)
 
--- what is read of a text that was fetched
-pub data PacksText (set : Set) (text : List ℕ) (held : Option Held) : Outcome → Type 0 where
-  Stream : (machine : Option (List ℕ)) (images : List Image) → values_read set text ≡ Values machine images
-      → PacksText set text held (done (written set machine images None) held 0)
-  BadText : (line : ℕ) (reason : ValuesReason) → values_read set text ≡ Bad line reason
-      → PacksText set text held (ended 3 (values_line line reason) 0)
+abbrev pub packed : Set → List ℕ → Step (List ℕ)
+packed set text = packed_by set (values_read set text)
 
--- by what is held under the name: the stream of the values text, or the first of the causes against it; the shelf tells the
--- same as before, and nothing of the input is taken
-pub data Packs (set : Set) (name : List ℕ) (under : Option (List ℕ)) (held : Option Held) : Outcome → Type 0 where
-  Missing : under ≡ None → Packs set name under held (ended 8 (not_there_line name) 0)
-  Large : (text : List ℕ) → under ≡ Some text → longest_values < length text → Packs set name under held (ended 9 (too_large_line name) 0)
-  Read : (text : List ℕ) (o : Outcome) → under ≡ Some text → length text ≤ longest_values → PacksText set text held o → Packs set name under held o
+-- the text under the name is fetched, and then read
+abbrev pub packs : Option Held → List ℕ → Step (List ℕ)
+packs held name = next (fetched longest_file held name) (packed set_0)
 
 -- what it can answer, told or not
 abbrev pub PackStatus : ℕ → Outside → Outside → Type 0

@@ -10,9 +10,9 @@ use Rattle.vms_spec.specs.Values.{values_text}
 use Rattle.vms_units.specs.Faults.{Fault}
 use Rattle.vms_units.specs.Streams.{Takes}
 use Rattle.vms_load.specs.Staging.{most_given}
-use Rattle.vms_cli.specs.Lines.{refused_line}
-use Rattle.vms_cli.specs.Outcomes.{Outcome, done, ended, Outside, ReadFault, OutFault, NotesFault, ShelfFault, WantsMemory, EndsBy}
-use Rattle.vms_cli.specs.Steps.{Step, Untold, Gives, Ends}
+use Rattle.vms_outcome.specs.Lines.{refused_line}
+use Rattle.vms_outcome.specs.Outcomes.{Outcome, done, ended, Outside, ReadFault, OutFault, NotesFault, ShelfFault, WantsMemory, EndsBefore, EndsBy}
+use Rattle.vms_outcome.specs.Steps.{Step, Untold, Gives, Ends, HasBy}
 
 -- the values text of the stream that the input takes, or where and why the input is refused, up to the end of the unit at
 -- fault; the shelf tells the same as before
@@ -24,9 +24,7 @@ pub data Shows (set : Set) (input : List ℕ) (held : Option Held) : Outcome →
 
 -- by the step that gives the set: the outcome under it, or the end of that step, before anything of the input is taken
 abbrev pub ShowsBy : Step Set → Option (List ℕ) → Option Held → Outcome → Type 0
-ShowsBy Untold input held o = ⊥
-ShowsBy (Gives set) input held o = IsSomeAnd input (λ bytes. Shows set bytes held o)
-ShowsBy (Ends status line) input held o = o ≡ ended status line 0
+ShowsBy step input held o = HasBy (λ set x. IsSomeAnd input (λ bytes. Shows set bytes held x)) step o
 
 -- as many bytes as a stream of any well-formed set may have, with a unit at fault
 abbrev pub most_of_all : ℕ
@@ -38,10 +36,6 @@ abbrev pub GivesWithin : Step Set → Intake → Intake → Type 0
 GivesWithin Untold input input' = input'.given ≤ input.given + most_of_all
 GivesWithin (Gives set) input input' = input'.given ≤ input.given + most_given set
 GivesWithin (Ends status line) input input' = input' ≡ input
-
--- a status of its own that comes before the input is read, and only where the word is a name
-abbrev pub EndsBefore : ℕ → Bool → ℕ → Outside → Outside → Type 0
-EndsBefore own asks status old new = (asks ≡ true) × EndsBy own status old new × (new.input ≡ old.input)
 
 -- what it can answer, told or not
 abbrev pub ShowStatus : Bool → ℕ → Outside → Outside → Type 0

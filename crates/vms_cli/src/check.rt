@@ -3,22 +3,20 @@ ghost use Rattle.std.specs.Prelude.{◌≡◌, ◌≤◌, ◌<◌, ◌^◌, ◌|
 ghost use Rattle.vms_io.specs.Told.{Intake, outlet, stock};
 ghost use Rattle.vms_desc.specs.Described.{described};
 ghost use Rattle.vms_check.specs.Comparing.{first_mismatch};
-ghost use Rattle.vms_cli.specs.Asks.{set_asked};
+ghost use Rattle.vms_outcome.specs.Asks.{set_asked};
 ghost use Rattle.vms_cli.specs.Check.{asks_shelf, checked, compared, verdict};
-ghost use Rattle.vms_cli.specs.Endings.{CheckCause, EndsAs};
-ghost use Rattle.vms_cli.specs.Fetching.{is_text, sets_in};
-ghost use Rattle.vms_cli.specs.Outcomes.{Outcome};
-ghost use Rattle.vms_cli.specs.StepEndings.{CompareCause, TextEnds, text_of};
-ghost use Rattle.vms_cli.specs.Steps.{HasText, next};
+ghost use Rattle.vms_outcome.specs.Endings.{EndsAs};
+ghost use Rattle.vms_cli.specs.Causes.{CheckCause, CompareCause};
+ghost use Rattle.vms_outcome.specs.Fetching.{is_text, sets_in};
+ghost use Rattle.vms_outcome.specs.Outcomes.{Outcome};
+ghost use Rattle.vms_outcome.specs.StepEndings.{TextEnds, text_of};
+ghost use Rattle.vms_outcome.specs.Steps.{HasText, next};
 
-use crate::ending::Ending;
-use crate::fetch::{SetText, fetch_set, read_fetched};
-use crate::set_notes::mismatch_line;
-use crate::set_word::SetWord;
 use std::alloc::Global;
 use vms_check::Verdict;
 use vms_desc::DescSet;
 use vms_io::{Shelf, Sink, write_all_of};
+use vms_outcome::{Ending, SetText, SetWord, fetch_set, mismatch_line, read_fetched};
 
 pub(crate) fn check<O: Sink, H: Shelf>(
     alloc: Global,

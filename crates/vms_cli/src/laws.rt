@@ -1,5 +1,5 @@
 //! Each law is the contract of a function without a body. The statements stand in `specs/Laws.antt`.
-ghost use Rattle.vms_cli.specs.Laws.{OutcomeLaw, CompleteLaw, PackThenShowLaw, ShowThenPackLaw};
+ghost use Rattle.vms_cli.specs.Laws.{CheckThenShowLaw, OutcomeLaw, CompleteLaw, PackThenShowLaw, ShowThenPackLaw};
 
 /// Whatever words, input of bytes and shelf there are, a call has an outcome, and no other.
 #[tactic(auto, using(crate::proofs::OutcomeLaws::outcome_holds))]
@@ -12,6 +12,12 @@ pub fn outcome_law()
 #[tactic(auto, using(crate::proofs::OutcomeLaws::complete_holds))]
 pub fn complete_law()
     ensures { CompleteLaw }
+{}
+
+/// Where `check OLD NEW` was done, a stream that OLD's set wrote of ready images is shown by `show NEW` as carried, and all of it
+/// is taken, or the call stops on its way.
+pub fn check_then_show_law()
+    ensures { CheckThenShowLaw }
 {}
 
 /// What `pack` gives for a text, `show` shows as that text.

@@ -2,15 +2,11 @@
 #![tactic(auto)]
 
 mod check;
-mod ending;
-mod fetch;
 pub mod laws;
-mod notes;
 mod pack;
-mod set_notes;
-mod set_word;
 mod show;
 mod top;
+mod values_notes;
 mod words;
 
 pub use top::vmstate;

@@ -1,21 +1,24 @@
 // The command `pack`: the stream of a values text on the shelf.
-ghost use Rattle.std.specs.Prelude.{◌≡◌, ◌<◌, ◌≤◌, ◌^◌, length, map, IfSome, IfOk, IsSomeAnd, None};
-ghost use Rattle.vms_io.specs.Told.{Intake, Stock, outlet, stock};
+ghost use Rattle.std.specs.Prelude.{◌≡◌, ◌<◌, ◌≤◌, ◌^◌, length, map, IfSome, None};
+ghost use Rattle.vms_io.specs.Told.{Intake, outlet, stock};
 ghost use Rattle.vms_spec.specs.Lists.{at_option};
 ghost use Rattle.vms_spec.specs.Shipped.{set_0};
 ghost use Rattle.vms_spec.specs.Streams.{written, AreReady};
 ghost use Rattle.vms_desc.specs.Described.{described};
 ghost use Rattle.vms_image.specs.Typed.{state_of, AreImagesOf};
-ghost use Rattle.vms_cli.specs.Outcomes.{Outcome};
-ghost use Rattle.vms_cli.specs.Pack.{Packs, PacksText, longest_values};
-ghost use Rattle.vms_cli.specs.Endings.{EndsAs, PackCause, WriteCause, WritesAs};
+ghost use Rattle.vms_outcome.specs.Endings.{EndsAs, WritesAs};
+ghost use Rattle.vms_outcome.specs.Fetching.{longest_file};
+ghost use Rattle.vms_outcome.specs.Outcomes.{Outcome};
+ghost use Rattle.vms_outcome.specs.StepEndings.{TextEnds};
+ghost use Rattle.vms_outcome.specs.Steps.{HasText};
+ghost use Rattle.vms_cli.specs.Causes.{PackCause, WriteCause};
+ghost use Rattle.vms_cli.specs.Pack.{packed, packs};
 
-use crate::ending::Ending;
-use crate::fetch::LONGEST;
-use crate::notes::{not_there_line, too_large_line, values_line};
+use crate::values_notes::values_line;
 use std::alloc::Global;
 use vms_desc::DescSet;
-use vms_io::{FetchFault, Shelf, Sink};
+use vms_io::{Shelf, Sink};
+use vms_outcome::{Ending, LONGEST_FILE, fetch};
 use vms_values::{Values, ValuesFault, read_text};
 use vms_write::write_stream;
 
@@ -25,34 +28,29 @@ pub(crate) fn pack<O: Sink, H: Shelf>(
     out: &mut O,
     shelf: &mut H,
 ) -> Ending
-    ensures content { (input : Intake) (o : Outcome) → input.given < 2 ^ 64 → IsSomeAnd (H.held shelf.old) (λ map. Packs set_0 name.now (map name.now) (H.held shelf.old) o)
-        → EndsAs input input (outlet O.Sink out.old) (outlet O.Sink out.new) (stock H.Shelf shelf.old) (stock H.Shelf shelf.new) result o }
-    ensures cause { PackCause (outlet O.Sink out.old) (outlet O.Sink out.new) (stock H.Shelf shelf.old) (stock H.Shelf shelf.new) result }
+    ensures content { (input : Intake) (o : Outcome) → input.given < 2 ^ 64
+        → HasText (H.held shelf.old) (packs (H.held shelf.old) name.now) o
+        → EndsAs input input (outlet O.Sink out.old) (outlet O.Sink out.new)
+        (stock H.Shelf shelf.old) (stock H.Shelf shelf.new) result o }
+    ensures cause { PackCause (outlet O.Sink out.old) (outlet O.Sink out.new)
+        (stock H.Shelf shelf.old) (stock H.Shelf shelf.new) result }
     ensures held { H.held shelf.new ≡ H.held shelf.old }
     ensures out_count { O.faults out.old ≤ O.faults out.new }
     ensures shelf_count { H.faults shelf.old ≤ H.faults shelf.new }
     ensures out_promise { O.promise out.new ≡ O.promise out.old }
     ensures shelf_promise { H.promise shelf.new ≡ H.promise shelf.old }
 {
-    match shelf.fetch(alloc, name, LONGEST) {
+    match fetch(alloc, name, LONGEST_FILE, shelf) {
         Ok(text) => pack_text(alloc, &text, out),
-        Err(FetchFault::NotThere) => match not_there_line(alloc, name) {
-            Ok(line) => Ending::NotThere(line),
-            Err(_) => Ending::NoMemory,
-        },
-        Err(FetchFault::TooLarge) => match too_large_line(alloc, name) {
-            Ok(line) => Ending::TooLarge(line),
-            Err(_) => Ending::NoMemory,
-        },
-        Err(FetchFault::Failed) => Ending::ShelfFault,
-        Err(FetchFault::NoMemory) => Ending::NoMemory,
+        Err(ending) => ending,
     }
 }
 
+// Once the text is fetched.
 fn pack_text<O: Sink>(alloc: Global, text: &[u8], out: &mut O) -> Ending
-    requires { length text.now ≤ longest_values }
-    ensures content { (input : Intake) (shelf shelf' : Stock) (o : Outcome) → input.given < 2 ^ 64 → shelf'.held ≡ shelf.held → PacksText set_0 text.now shelf.held o
-        → EndsAs input input (outlet O.Sink out.old) (outlet O.Sink out.new) shelf shelf' result o }
+    requires { length text.now ≤ longest_file }
+    ensures ends { TextEnds (packed set_0 text.now) (outlet O.Sink out.old) (outlet O.Sink out.new)
+        result }
     ensures cause { WriteCause (outlet O.Sink out.old) (outlet O.Sink out.new) result }
     ensures count { O.faults out.old ≤ O.faults out.new }
     ensures promise { O.promise out.new ≡ O.promise out.old }
@@ -71,12 +69,13 @@ fn pack_text<O: Sink>(alloc: Global, text: &[u8], out: &mut O) -> Ending
 }
 
 fn write<O: Sink>(set: &DescSet, values: &Values, out: &mut O) -> Ending
-    requires first { described set.now ≡ set_0 }
     requires machine { IfSome values.now.machine (λ m. m < length (described set.now).machines) }
     requires of { AreImagesOf (described set.now) values.now.images.items }
     requires ready { AreReady (described set.now) (map state_of values.now.images.items) }
-    ensures written { let named = at_option (described set.now).machines values.now.machine in
-        WritesAs (written (described set.now) named (map state_of values.now.images.items) None) (outlet O.Sink out.old) (outlet O.Sink out.new) result }
+    ensures written { let set = described set.now in
+        let images = map state_of values.now.images.items in
+        WritesAs (written set (at_option set.machines values.now.machine) images None)
+        (outlet O.Sink out.old) (outlet O.Sink out.new) result }
     ensures count { O.faults out.old ≤ O.faults out.new }
     ensures promise { O.promise out.new ≡ O.promise out.old }
 {

@@ -5,19 +5,17 @@ ghost use Rattle.vms_spec.specs.Values.{values_text};
 ghost use Rattle.vms_load.specs.Kept.{loads, kept};
 ghost use Rattle.vms_load.specs.Staging.{most_given};
 ghost use Rattle.vms_values.specs.Printing.{machine_of};
-ghost use Rattle.vms_cli.specs.Asks.{set_asked};
-ghost use Rattle.vms_cli.specs.Endings.{EndsAs, ShowCause, StreamCause, WritesAs};
-ghost use Rattle.vms_cli.specs.Fetching.{is_on_shelf, word_set};
-ghost use Rattle.vms_cli.specs.Outcomes.{Outcome};
+ghost use Rattle.vms_outcome.specs.Asks.{set_asked};
+ghost use Rattle.vms_outcome.specs.Endings.{EndsAs, WritesAs};
+ghost use Rattle.vms_cli.specs.Causes.{ShowCause, StreamCause};
+ghost use Rattle.vms_outcome.specs.Fetching.{is_on_shelf, word_set};
+ghost use Rattle.vms_outcome.specs.Outcomes.{Outcome};
 ghost use Rattle.vms_cli.specs.Show.{GivesWithin, Shows, ShowsBy};
 
-use crate::ending::Ending;
-use crate::fetch::loader_of;
-use crate::notes::refused_line;
-use crate::set_word::SetWord;
 use std::alloc::Global;
 use vms_io::{Shelf, Sink, Source};
 use vms_load::{LoadFault, Loader};
+use vms_outcome::{Ending, SetWord, loader_of, refused_line};
 use vms_values::print_values;
 
 pub(crate) fn show<I: Source, O: Sink, H: Shelf>(

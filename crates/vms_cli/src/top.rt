@@ -3,16 +3,17 @@ ghost use Rattle.std.specs.Prelude.{◌≡◌, ◌≤◌};
 ghost use Rattle.vms_io.specs.Told.{intake, outlet, stock};
 ghost use Rattle.vms_cli.specs.Answers.{HasOutcome, Answers};
 ghost use Rattle.vms_cli.specs.Commands.{asked_of};
-ghost use Rattle.vms_cli.specs.Endings.{EndsAs, EndsCause, Tells};
-ghost use Rattle.vms_cli.specs.Outcomes.{Outcome};
+ghost use Rattle.vms_outcome.specs.Endings.{EndsAs, Tells};
+ghost use Rattle.vms_cli.specs.Causes.{EndsCause};
+ghost use Rattle.vms_outcome.specs.Outcomes.{Outcome};
 
 use crate::check::check;
-use crate::ending::Ending;
 use crate::pack::pack;
 use crate::show::show;
 use crate::{Command, Words};
 use std::alloc::Global;
 use vms_io::{Shelf, Sink, Source, write_all_of};
+use vms_outcome::Ending;
 
 const WRITE_FAULT: u8 = 6;
 

@@ -1,15 +1,16 @@
 // The words after the program's name.
-ghost use Rattle.std.specs.Prelude.{◌≡◌, ◌==◌, ◌&&◌, ◌∷◌, ◌++◌, [], OnOk, OnErr, None, codes, get_or, nat_le, if◌then◌else◌};
-ghost use Rattle.std.specs.List.{list_all};
+ghost use Rattle.std.specs.Prelude.{◌≡◌, ◌∷◌, ◌++◌, [], OnOk, OnErr, None, codes, if◌then◌else◌};
 ghost use Rattle.std.specs.Str.{bytes_eq};
 ghost use Rattle.std.specs.Option.{option_map};
-ghost use Rattle.vms_cli.specs.Commands.{asked_of, check_of, is_name_byte, is_shelf_name, pack_of, pair_of, set_word, shipped_number, show_of};
-ghost use Rattle.vms_cli.specs.Asks.{asked, set_asked};
+ghost use Rattle.vms_outcome.specs.SetWords.{set_word};
+ghost use Rattle.vms_cli.specs.Asks.{asked};
+ghost use Rattle.vms_cli.specs.Commands.{asked_of, check_of, pack_of, pair_of, show_of};
 
-use crate::set_word::{SetWord, ShippedSet};
 use std::alloc::Global;
 use std::marker::Model;
 use vms_io::NoMemory;
+use vms_outcome::{SetWord, set_word};
+use vms_script::is_shelf_name;
 
 /// What the words ask for.
 #[derive(Clone, Copy)]
@@ -108,71 +109,12 @@ fn check_of<'a>(old: &'a str, new: &'a str) -> Option<Command<'a>>
     }
 }
 
-fn set_word(word: &str) -> Option<SetWord<'_>>
-    ensures { option_map set_asked result ≡ set_word word.now }
-{
-    match shipped_set(word) {
-        Some(set) => Some(SetWord::Shipped(set)),
-        None if is_shelf_name(word) => Some(SetWord::OnShelf(word)),
-        None => None,
-    }
-}
-
-// The shipped set of a word.
-fn shipped_set(word: &str) -> Option<ShippedSet>
-    ensures { option_map (λ set. set.number) result ≡ shipped_number word.now }
-{
-    match word {
-        "@0" => Some(ShippedSet { number: 0 }),
-        "@1" => Some(ShippedSet { number: 1 }),
-        "@2" => Some(ShippedSet { number: 2 }),
-        "@3" => Some(ShippedSet { number: 3 }),
-        "@4" => Some(ShippedSet { number: 4 }),
-        _ => None,
-    }
-}
-
 fn pack_of<'a>(name: &str, set: &str, values: &'a str) -> Option<Command<'a>>
     ensures { option_map asked result ≡ pack_of name.now set.now values.now }
 {
-    if name == "pack" && set == "@0" && is_shelf_name(values) {
+    if name == "pack" && set == "@0" && is_shelf_name(values.as_bytes()) {
         Some(Command::Pack { values })
     } else {
         None
     }
-}
-
-// 1 to 64 letters, digits, `_`, `-` and `.`, not beginning with a dot.
-fn is_shelf_name(name: &str) -> bool
-    ensures { result ≡ is_shelf_name name.now }
-{
-    let bytes = name.as_bytes();
-    is_name_length(bytes.len()) && are_name_bytes(bytes) && !begins_with_dot(bytes)
-}
-
-fn is_name_length(length: usize) -> bool
-    ensures { result ≡ (nat_le 1 length && nat_le length 64) }
-{
-    1 <= length && length <= 64
-}
-
-fn are_name_bytes(bytes: &[u8]) -> bool
-    ensures { result ≡ list_all is_name_byte bytes.now }
-{
-    bytes.iter().all(|b| is_name_byte(*b))
-}
-
-fn begins_with_dot(bytes: &[u8]) -> bool
-    ensures { result ≡ (get_or bytes.now 0 46 == 46) }
-{
-    match bytes.first() {
-        Some(first) => *first == b'.',
-        None => true,
-    }
-}
-
-fn is_name_byte(b: u8) -> bool
-    ensures { result ≡ is_name_byte b }
-{
-    matches!(b, b'a'..=b'z' | b'A'..=b'Z' | b'0'..=b'9' | b'_' | b'-' | b'.')
 }

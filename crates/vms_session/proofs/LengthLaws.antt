@@ -24,7 +24,7 @@ use Rattle.vms_spec.specs.Sets.{Field, Desc, Sub, Device, Set}
 use Rattle.vms_spec.specs.Shipped.{set_0, set_1, set_2, set_3, set_4, pit_channel}
 use Rattle.vms_spec.specs.Tests.{is_there}
 use Rattle.vms_spec.specs.Streams.{be32, configuration, section_head, sub_head, foot, trailer, end_mark, stream_head, written, written_section, written_sections, written_subs}
-use Rattle.vms_session.specs.Boards.{machine_of, saved_text, saved_stream}
+use Rattle.vms_board.specs.Saving.{machine_of, saved_text, saved_stream}
 use Rattle.vms_session.specs.Laws.{StreamsAreShort}
 
 -- ---- slots
@@ -242,6 +242,7 @@ shipped-long (suc (suc (suc (suc zero)))) name text images le n t = let l = stre
 shipped-long (suc (suc (suc (suc (suc set))))) name text images le n t = absurd (omega (arith, le))
 
 stream-short : (set : ℕ) (m : State) → IsSound m → MaySaveUnder m.level set → length (saved_stream set m) < 65536
+unfolding saved_stream
 stream-short set m s may =
     shipped-long set (machine_of m.level) (saved_text set m) (saved_images set m) may.set_le_newest
     (omega arith) (shipped_holds.shipped set may.set_le_newest (saved_images set m))

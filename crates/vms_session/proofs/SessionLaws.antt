@@ -4,7 +4,7 @@ use Rattle.dev_board.proofs.ClockLaws.{clock_goes_on}
 use Rattle.dev_board.proofs.RestoredLaws.{restored_is_sound}
 use Rattle.dev_images.specs.Images.{cells_in}
 use Rattle.vms_script.specs.Lines.{ScriptLine, Happens, Saves, Restores as Loads}
-use Rattle.vms_session.specs.Boards.{Restore, Back, Refused}
+use Rattle.vms_board.specs.Restoring.{Restore, Back, Refused}
 use Rattle.vms_session.specs.Laws.{IsTaken, RefusalsLeave, LevelStays}
 use Rattle.vms_session.specs.Session.{Session, IsTooLarge, IsLoaded, LoadsBytes, LoadsHeld, Does, Plays}
 
@@ -35,15 +35,15 @@ held-level : (held : Option (List ℕ)) (old : Session) (text : List ℕ) (new :
 held-level None old text new left = ap level_of left.new_is
 held-level (Some bytes) old text new loads = bytes-level bytes old text new loads
 
-line-level : (line : ScriptLine) (old : Session) (text : List ℕ) (new : Session) → Does line old text new → level_of new ≡ level_of old
-line-level (Happens event) old text new does = ap level_of does.new_is ∙ clock_goes_on.level event old.board
-line-level (Saves set name) old text new does = ap (λ b. b.level) does.board
-line-level (Loads name) old text new does = held-level (old.held name) old text new does
+pub line_level : (line : ScriptLine) (old : Session) (text : List ℕ) (new : Session) → Does line old text new → level_of new ≡ level_of old
+line_level (Happens event) old text new does = ap level_of does.new_is ∙ clock_goes_on.level event old.board
+line_level (Saves set name) old text new does = ap (λ b. b.level) does.board
+line_level (Loads name) old text new does = held-level (old.held name) old text new does
 
 lines-level : (lines : List ScriptLine) (old : Session) (trace : List ℕ) (new : Session) → Plays lines old trace new → level_of new ≡ level_of old
 lines-level [] old trace new plays = ap level_of plays.1
 lines-level (line ∷ lines) old trace new plays =
-    lines-level lines plays.2 plays.1 new plays.4 ∙ line-level line old plays.0 plays.2 plays.3
+    lines-level lines plays.2 plays.1 new plays.4 ∙ line_level line old plays.0 plays.2 plays.3
 
 pub level_stays : LevelStays
 level_stays = record { level = lines-level }

@@ -35,7 +35,8 @@ use Rattle.vms_units.proofs.Stated.{one_stream_holds, never_both_holds}
 use Rattle.vms_units.specs.StreamLaws.{IsWholeStream}
 use Rattle.vms_units.specs.Streams.{IsStream, Takes}
 use Rattle.vms_upgrade.proofs.Upgraded.{upgrade_stands}
-use Rattle.vms_session.specs.Boards.{machine_of, saved_text, saved_stream, TakesBoard, IsMisfitAt, Restore, Back, Refused, Restores}
+use Rattle.vms_board.specs.Restoring.{TakesBoard, IsMisfitAt, Restore, Back, Refused, Restores}
+use Rattle.vms_board.specs.Saving.{machine_of, saved_text, saved_stream}
 use Rattle.vms_session.specs.Laws.{StreamComesBack, StreamsComeBack, trace_of, IsContinued, BoardsGoOn}
 
 -- ---- answers
@@ -82,7 +83,7 @@ alone set names input taken name images t =
 
 -- ---- the shipped sets
 
-well : (s : ℕ) → WellFormed (shipped_set s)
+pub well : (s : ℕ) → WellFormed (shipped_set s)
 well s = none_is (first_fault (shipped_set s)) (formed s)
 
 newest_itself : Compatible (shipped_set 4) (shipped_set 4)
@@ -132,6 +133,7 @@ module _ (set : ℕ) (m : State) (s : IsSound m) (may : MaySaveUnder m.level set
   short = let l = shipped_holds.shipped set may.set_le_newest (saved_images set m) in omega (arith, l)
 
   whole : IsWholeStream (shipped_set 4) (shipped_set 4).machines (saved_stream set m) (Some (machine_of m.level)) images-back (Some (saved_text set m))
+  unfolding saved_stream
   whole =
       upgrade_stands (shipped_set set) (shipped_set 4) (well set) (well 4) (compatible set set-least may.set_le_newest)
       (Some (machine_of m.level)) (Some (saved_text set m)) (saved_images set m)

@@ -1,5 +1,5 @@
 -- Laws of streams of boards and of sessions that contracts name.
-use Rattle.std.specs.Prelude.{◌≡◌, ◌⊎◌, ℕ, ◌<◌, ◌++◌, List, [], ◌∷◌, length, Option, Ok}
+use Rattle.std.specs.Prelude.{◌≡◌, ◌⊎◌, ℕ, ◌<◌, ◌++◌, List, [], ◌∷◌, length, Option, Some, None, Ok}
 use Rattle.dev_board.specs.Saved.{MaySaveUnder, saved, carried, restored}
 use Rattle.dev_board.specs.Sound.{IsSound, Alike}
 use Rattle.dev_board.specs.State.{State}
@@ -8,9 +8,11 @@ use Rattle.dev_board.specs.declared.event.Answer.{Answer}
 use Rattle.dev_board.specs.declared.event.Event.{Event}
 use Rattle.vms_spec.specs.Numbers.{IsBytes}
 use Rattle.vms_spec.specs.declared.Reason.{Reason}
+use Rattle.vms_script.specs.Grammar.{IsLine, AreLines}
 use Rattle.vms_script.specs.Lines.{ScriptLine, Restores as Loads}
 use Rattle.vms_script.specs.Trace.{trace_line}
-use Rattle.vms_session.specs.Boards.{saved_stream, Back, Refused, Restores}
+use Rattle.vms_board.specs.Restoring.{Restore, Back, Refused, Restores}
+use Rattle.vms_board.specs.Saving.{saved_stream}
 use Rattle.vms_session.specs.Lines.{restored_line}
 use Rattle.vms_session.specs.Session.{Session, Does, Plays}
 
@@ -40,6 +42,48 @@ pub record RefusalsLeave : Type 0 where
 pub record LevelStays : Type 0 where
   pub level : (lines : List ScriptLine) (old : Session) (trace : List ℕ) (new : Session) → Plays lines old trace new
       → new.board.level ≡ old.board.level
+
+-- each line and each script of a session keep the board sound
+pub record SessionsStaySound : Type 0 where
+  pub line : (play : Option ℕ) (line : ScriptLine) (old : Session) (text : List ℕ) (new : Session) → IsLine play line
+      → Does line old text new → IsSound old.board → IsSound new.board
+  pub lines : (play : Option ℕ) (lines : List ScriptLine) (old : Session) (trace : List ℕ) (new : Session) → AreLines play lines
+      → Plays lines old trace new → IsSound old.board → IsSound new.board
+
+-- bytes are held under a name, or nothing
+abbrev pub HoldsBytes : Option (List ℕ) → Type 0
+HoldsBytes None = Unit {0}
+HoldsBytes (Some bytes) = IsBytes bytes
+
+-- lines leave a trace and a session
+pub record HasAnEnd (lines : List ScriptLine) (old : Session) : Type 0 where
+  pub trace : List ℕ
+  pub new : Session
+  pub plays : Plays lines old trace new
+
+-- whatever the lines are, of a session of the board's level, where the board is sound and bytes are held
+pub record SessionsEnd : Type 0 where
+  pub ends : (lines : List ScriptLine) (old : Session) → AreLines (Some old.board.level) lines → IsSound old.board
+      → ((name : List ℕ) → HoldsBytes (old.held name)) → HasAnEnd lines old
+
+-- bytes are one thing to a restore: a board that comes back, or a refusal
+pub record BytesAreOne : Type 0 where
+  pub some : (level : ℕ) (bytes : List ℕ) → IsBytes bytes → (restore : Restore) × Restores level bytes restore
+  pub one : (level : ℕ) (bytes : List ℕ) → IsBytes bytes → (a b : Restore) → Restores level bytes a → Restores level bytes b → a ≡ b
+
+-- what a line reads of the shelf are bytes
+abbrev pub ReadsBytes : ScriptLine → Session → Type 0
+ReadsBytes (Loads name) old = HoldsBytes (old.held name)
+ReadsBytes line old = Unit {0}
+
+-- two ends of a line are one: the texts, the boards, and what the shelf holds under each name
+pub record IsOneEnd (text text' : List ℕ) (new new' : Session) : Type 0 where
+  pub texts : text ≡ text'
+  pub ends : new ≡ new'
+
+pub record LinesAreOne : Type 0 where
+  pub line : (line : ScriptLine) (old : Session) (text text' : List ℕ) (new new' : Session) → ReadsBytes line old
+      → Does line old text new → Does line old text' new' → IsOneEnd text text' new new'
 
 -- the stream that is written of a sound board has less than 65,536 bytes
 pub record StreamsAreShort : Type 0 where

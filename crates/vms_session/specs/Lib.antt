@@ -1,4 +1,3 @@
-pub mod Boards
 pub mod Laws
 pub mod Lines
 pub mod Session

@@ -8,7 +8,8 @@ use Rattle.vms_desc.specs.Formed.{shipped_set}
 use Rattle.vms_io.specs.Shelves.{Held, PutsUnder}
 use Rattle.vms_script.specs.Lines.{ScriptLine, Happens, Saves, Restores as Loads}
 use Rattle.vms_script.specs.Trace.{trace_line}
-use Rattle.vms_session.specs.Boards.{saved_stream, Restore, Back, Refused, Restores}
+use Rattle.vms_board.specs.Restoring.{Restore, Back, Refused, Restores}
+use Rattle.vms_board.specs.Saving.{saved_stream}
 use Rattle.vms_session.specs.Lines.{saved_line, restored_line, missing_line, too_large_line, refused_line}
 
 -- the greatest stream that is fetched from the shelf, in bytes

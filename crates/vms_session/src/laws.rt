@@ -1,5 +1,6 @@
 // Laws of streams of boards and of sessions, each in a clause of a function that does nothing.
-ghost use Rattle.vms_session.specs.Laws.{StreamsComeBack, StreamsAreShort, BoardsGoOn, RefusalsLeave, LevelStays};
+ghost use Rattle.vms_session.specs.Laws.{StreamsComeBack, StreamsAreShort, BoardsGoOn, RefusalsLeave};
+ghost use Rattle.vms_session.specs.Laws.{LevelStays, SessionsStaySound, SessionsEnd, BytesAreOne, LinesAreOne};
 
 /// The stream that is written of a sound board under any set from its level on restores a board that is like it, and the
 /// restore takes all of it: whatever a restore makes of these bytes is that board, and none is a refusal.
@@ -32,4 +33,28 @@ pub fn refusal_law()
 #[tactic(auto, using(crate::proofs::SessionLaws::level_stays))]
 pub fn level_law()
     ensures { LevelStays }
+{}
+
+/// No session makes its board unsound: neither an event, nor what is restored of bytes, whichever they are.
+#[tactic(auto, using(crate::proofs::SoundLaws::sessions_stay_sound))]
+pub fn sound_law()
+    ensures { SessionsStaySound }
+{}
+
+/// Each script of a session has a trace and an end, whatever bytes the shelf holds.
+#[tactic(auto, using(crate::proofs::EndLaws::sessions_end))]
+pub fn end_law()
+    ensures { SessionsEnd }
+{}
+
+/// Bytes are one thing to a restore: the board that their stream restores, or one refusal.
+#[tactic(auto, using(crate::proofs::OneLaws::bytes_are_one))]
+pub fn bytes_law()
+    ensures { BytesAreOne }
+{}
+
+/// A line of a session leaves one text and one session.
+#[tactic(auto, using(crate::proofs::OneLaws::lines_are_one))]
+pub fn line_law()
+    ensures { LinesAreOne }
 {}

@@ -1,28 +1,16 @@
 -- Devices that are read one after the other, and what the whole text says.
-use Rattle.std.proofs.Common.{◌≡◌, ℕ, ◌<◌, Bool, true, false, not, List, [], ◌∷◌, ◌++◌, length, map, if◌then◌else◌, nat_le, Option, Some, None, Result, Ok, Err, refl, sym, ap, ◌∙◌, subst, rules, append_assoc, append-nil}
+use Rattle.std.proofs.Common.{◌≡◌, ℕ, ◌<◌, Bool, true, false, List, ◌++◌, length, Option, Some, None, Result, Ok, Err, refl, sym, ap, ◌∙◌, subst, rules}
 use Rattle.std.specs.Option.{ForSome}
 use Rattle.std.specs.Bool.{OnTrue}
-use Rattle.std.proofs.lemmas.List.{length-map, map-append}
-use Rattle.vms_kinds.specs.declared.Kind.TheVariants.{U64}
-use Rattle.vms_spec.specs.declared.ValuesReason.TheVariants as reasons
-use Rattle.vms_spec.specs.Sets.{Desc, Sub, Device, Set}
-use Rattle.vms_spec.specs.Layout.{first, Number, Rule}
-use Rattle.vms_spec.specs.Images.{Image, default_image, own_cells}
-use Rattle.vms_spec.specs.Readiness.{rules_are_true}
-use Rattle.vms_spec.specs.Shipped.{set_0, timer}
+use Rattle.vms_spec.specs.Sets.{Set}
 use Rattle.vms_spec.specs.Spelling.{first_line}
-use Rattle.vms_spec.specs.ValuesReading.{BadLine, Standing, Read, reader, readers, ReadDevice, ReadAll, ValuesRead, Values, Bad, bad, read_desc, read_subs, next_line, section_line, is_line, then_subs, with_device, device_read as device_reads, read_device, read_devices, ended, judged, answer_of, judge_devices, judge_device, or_bad, if_bad, values_read, after_machine, machine_named, rest_of}
-use Rattle.vms_parts.specs.Views.{desc_of}
-use Rattle.vms_parts.specs.declared.types.Desc.{Desc as CodeDesc}
-use Rattle.vms_values.specs.declared.cursor.Lines.{Lines}
+use Rattle.vms_spec.specs.ValuesReading.{BadLine, ReadDevice, ReadAll, ValuesRead, read_devices, ended, values_read, after_machine, machine_named, rest_of}
 use Rattle.vms_values.specs.declared.fault.Values.{Values as Given}
-use Rattle.vms_values.specs.declared.fault.ValuesFault.{ValuesFault}
-use Rattle.vms_values.specs.declared.fault.ValuesFault.TheVariants as faults
+use Rattle.vms_values.specs.declared.fault.LineFault.{LineFault}
 use Rattle.vms_values.specs.Machines.{StartsAt, NamesMachine}
 use Rattle.vms_values.specs.declared.machine.Start.{Start}
 use Rattle.vms_values.specs.Printing.{machine_of}
-use Rattle.vms_values.specs.Tables.{readers_in}
-use Rattle.vms_values.specs.Reading.{IsBad, ReachesAll, ReadsAs, ImageRead, device_read}
+use Rattle.vms_values.specs.Reading.{ReadsBy}
 
 -- ---- all devices
 
@@ -66,8 +54,8 @@ top set machines text start same s =
     let t : StartsAt set.machines text (machine_named set.machines (first_line text)) start = subst (λ (l : List (List ℕ)). StartsAt l text (machine_named l (first_line text)) start) same s in
     from_start set text start (machine_named set.machines (first_line text)) (values_read set text) refl t
 
-pub said_so : (set : Set) (text : List ℕ) (v : ValuesRead) (result : Result Given ValuesFault) → values_read set text ≡ v → ReadsAs set v result → ReadsAs set (values_read set text) result
-said_so set text v result e r = subst (λ (x : ValuesRead). ReadsAs set x result) (sym e) r
+pub said_so : (set : Set) (text : List ℕ) (v : ValuesRead) (result : Result Given LineFault) → values_read set text ≡ v → ReadsBy set v result → ReadsBy set (values_read set text) result
+said_so set text v result e r = subst (λ (x : ValuesRead). ReadsBy set x result) (sym e) r
 
 pub on_true : (b : Bool) {P : Type 0} → b ≡ true → OnTrue b P → P
 on_true true e h = h

@@ -58,14 +58,6 @@ pub record AreFirstImages (set : Set) (n : ℕ) (images : List Typed) : Type 0 w
   pub count : length images ≡ n
   pub each : (k : ℕ) (image : Typed) → at images k ≡ Some image → IsImageOf set k image
 
-pub first_none : (set : Set) (images : List Typed) → images ≡ [] → AreFirstImages set 0 images
-first_none set images e = record {
-  count = ap length e;
-  each = λ k image f. let none : at {X = Typed} [] k ≡ Some image = ap (λ (l : List Typed). at l k) (sym e) ∙ f in nothing k image none;
-} where
-  nothing : (k : ℕ) (image : Typed) → at {X = Typed} [] k ≡ Some image → IsImageOf set k image
-  nothing k image e = cc
-
 pub first_more : (set : Set) (n : ℕ) (images more : List Typed) (image : Typed) → AreFirstImages set n images → IsImageOf set n image → more ≡ images ++ image ∷ [] → AreFirstImages set (n + 1) more
 first_more set n images more image a o e = record {
   count = ap length e ∙ length-append images (image ∷ []) ∙ ap (λ (k : ℕ). k + 1) a.count;

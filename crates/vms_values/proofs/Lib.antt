@@ -20,3 +20,4 @@ pub mod ImageRead
 pub mod Gathering
 pub mod WholeText
 pub mod KindsAt
+mod TextRead

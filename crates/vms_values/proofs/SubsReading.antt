@@ -13,8 +13,8 @@ use Rattle.vms_desc.specs.Described.{device_at}
 use Rattle.vms_desc.specs.Parts.{sub_at}
 use Rattle.vms_desc.proofs.AskLaws.{sub_next}
 use Rattle.vms_write.specs.Judged.{IsOfDevice}
-use Rattle.vms_values.specs.declared.fault.ValuesFault.{ValuesFault}
-use Rattle.vms_values.specs.declared.fault.ValuesFault.TheVariants as faults
+use Rattle.vms_values.specs.declared.fault.LineFault.{LineFault}
+use Rattle.vms_values.specs.declared.fault.LineFault.TheVariants as faults
 use Rattle.vms_values.specs.declared.taken.Taken.{Taken}
 use Rattle.vms_values.specs.Taken.{place_of}
 use Rattle.vms_values.specs.SubsTaken.{with_came, said_read, sub_read, IsAlike, SubReached, SubsReached}
@@ -115,11 +115,7 @@ subs_end start set at n subs old new lines f none all same =
     subst (λ (r : Result ReadSubs BadLine). SubsReached r old new lines (Ok tt)) (sym whole)
     (refl, append-nil (take n new.image.came) ∙ take_all n new.image.came (omega (arith, all)), append-nil lines, same)
 
-pub subs_memory : (start : Result ReadSubs BadLine) (old new : Taken) (lines : List ℕ) → SubsReached start old new lines (Err faults.NoMemory)
-subs_memory (Ok r) old new lines = tt
-subs_memory (Err b) old new lines = tt
-
-pub subs_bad : (start : Result ReadSubs BadLine) (r : Result (Option ℕ × Standing) BadLine) (j : ℕ) (old new mid : Taken) (lines : List ℕ) (e : ValuesFault)
+pub subs_bad : (start : Result ReadSubs BadLine) (r : Result (Option ℕ × Standing) BadLine) (j : ℕ) (old new mid : Taken) (lines : List ℕ) (e : LineFault)
     → ((b : BadLine) → r ≡ Err b → start ≡ Err b) → SubReached r j mid new (Err e) → SubsReached start old new lines (Err e)
 subs_bad start (Ok (o, q)) j old new mid lines e h f = absurd f
 subs_bad start (Err b) j old new mid lines faults.NoMemory h f = absurd f

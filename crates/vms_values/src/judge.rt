@@ -21,7 +21,7 @@ use vms_walk::{Spot, Step, Walker, walk};
 /// A line that is refused, and why.
 #[derive(Clone, Copy, Drop)]
 pub(crate) struct BadLine {
-    pub(crate) line: u32,
+    pub(crate) line: usize,
     pub(crate) reason: ValuesReason,
 }
 
@@ -31,8 +31,8 @@ pub(crate) fn judge_device(
     set: &DescSet,
     device: u32,
     image: &Image,
-    line: u32,
-    sub_lines: &[u32],
+    line: usize,
+    sub_lines: &[usize],
 ) -> Option<BadLine>
     requires device { IsOfDevice (described set.now) device (state_of image.now) }
     requires lines { length sub_lines.now ≡ length (device_at (described set.now) device).subs }

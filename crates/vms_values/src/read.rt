@@ -9,8 +9,8 @@ ghost use Rattle.vms_values.specs.Paths.{path_text};
 ghost use Rattle.vms_values.specs.Spelled.{Strips};
 ghost use Rattle.vms_values.specs.Reading.{Passed};
 
-use crate::ValuesFault;
 use crate::cursor::Lines;
+use crate::fault::LineFault;
 use crate::path::{Path, strip_path};
 use crate::text::{Line, is_joined, next_line};
 use itoa::Buffer;
@@ -19,10 +19,10 @@ use vms_image::Image;
 use vms_spec::ValuesReason;
 
 /// The fault at the next line.
-pub(crate) fn bad(lines: &Lines, reason: ValuesReason) -> ValuesFault
-    ensures { result ≡ ValuesFault.Bad lines.now.line reason }
+pub(crate) fn bad(lines: &Lines, reason: ValuesReason) -> LineFault
+    ensures { result ≡ LineFault.Bad lines.now.line reason }
 {
-    ValuesFault::Bad {
+    LineFault::Bad {
         line: lines.line,
         reason,
     }
@@ -36,7 +36,7 @@ pub(crate) fn push_image(images: &mut Vec<Image>, image: Image) -> bool
 }
 
 /// The line of a section.
-pub(crate) fn read_section(device: &Device, lines: &mut Lines) -> Result<(), ValuesFault>
+pub(crate) fn read_section(device: &Device, lines: &mut Lines) -> Result<(), LineFault>
     ensures { Passed (is_line (section_line (device_of device.now)) (first_line lines.old.rest.now)) lines.old lines.new result }
 {
     match next_line(lines.rest) {
@@ -54,8 +54,7 @@ pub(crate) fn read_section(device: &Device, lines: &mut Lines) -> Result<(), Val
 
 /// Tells whether a line is that of the device's section.
 fn is_section(device: &Device, line: &[u8]) -> bool
-    ensures said { result ≡ bytes_eq line.now (section_line (device_of device.now)) }
-    ensures long { OnTrue result (0 < length line.now) }
+    ensures { result ≡ bytes_eq line.now (section_line (device_of device.now)) }
 {
     let name = device.desc.name.as_bytes();
     let (mut instance, mut version) = (Buffer::new(), Buffer::new());
@@ -66,8 +65,7 @@ fn is_section(device: &Device, line: &[u8]) -> bool
 
 /// Goes on after a line.
 pub(crate) fn pass<'a>(lines: &mut Lines<'a>, next: Line<'a>)
-    requires long { 0 < length next.text.now }
-    requires follows { length next.text.now + length next.after.now + 1 ≡ length lines.old.rest.now }
+    requires { length next.text.now + length next.after.now + 1 ≡ length lines.old.rest.now }
     ensures number { lines.new.line ≡ lines.old.line + 1 }
     ensures rest { lines.new.rest.now ≡ next.entry.after.now }
 {
@@ -77,8 +75,7 @@ pub(crate) fn pass<'a>(lines: &mut Lines<'a>, next: Line<'a>)
 
 /// What stands for the number in the line of a cell, if the line begins as it must.
 pub(crate) fn number_text<'a>(path: &Path, line: &'a [u8]) -> Option<&'a [u8]>
-    ensures stripped { Strips (path_text path.now ++ codes " = ") line.now result }
-    ensures long { OnSome result (0 < length line.now) }
+    ensures { Strips (path_text path.now ++ codes " = ") line.now result }
 {
     match strip_path(path, line) {
         Some(rest) => rest.strip_prefix(b" = "),

@@ -20,8 +20,8 @@ ghost use Rattle.vms_values.specs.Reading.{Reaches};
 ghost use Rattle.vms_values.specs.Taken.{IsKept, AreKinds, ElementKinds, part_cells, element_cells};
 ghost use Rattle.vms_values.specs.Taken.{place_of, run_read, line_read, number_judged};
 
-use crate::ValuesFault;
 use crate::cursor::Lines;
+use crate::fault::LineFault;
 use crate::numbers::read_number;
 use crate::path::Path;
 use crate::read::{bad, number_text, pass};
@@ -58,7 +58,7 @@ pub(crate) fn read_part(
     path: &Path,
     present: bool,
     taken: &mut Taken,
-) -> Result<(), ValuesFault>
+) -> Result<(), LineFault>
     requires spot { HasSpot (described set.now) spot taken.old.image.numbers }
     requires kinds { let cells = part_cells (described set.now) spot.part in
         AreKinds taken.old.image.kinds spot.base cells }
@@ -98,7 +98,7 @@ fn is_present(set: &DescSet, spot: Spot, field: u32, present: bool, image: &Imag
 
 // The lines of a field's elements.
 #[cycle(read)]
-fn read_field(set: &DescSet, run: Run, path: &Path, taken: &mut Taken) -> Result<(), ValuesFault>
+fn read_field(set: &DescSet, run: Run, path: &Path, taken: &mut Taken) -> Result<(), LineFault>
     requires fits { let numbers = taken.old.image.numbers in
         IsRun (described set.now) (field_of run.field.now) run.first run.count numbers }
     requires kinds { let structs = cells_in (table (described set.now)) in
@@ -124,7 +124,7 @@ fn read_field(set: &DescSet, run: Run, path: &Path, taken: &mut Taken) -> Result
 
 // The lines of the elements of an array.
 #[cycle(read)]
-fn read_elements(set: &DescSet, run: Run, path: &Path, taken: &mut Taken) -> Result<(), ValuesFault>
+fn read_elements(set: &DescSet, run: Run, path: &Path, taken: &mut Taken) -> Result<(), LineFault>
     requires reaches { uses_below (length (described set.now).structs) run.field.now.item ≡ true }
     requires small { size_in (described set.now) run.field.now.item ≤ 16384 }
     requires room { let size = size_in (described set.now) run.field.now.item in
@@ -157,7 +157,7 @@ fn read_elements(set: &DescSet, run: Run, path: &Path, taken: &mut Taken) -> Res
 
 // The lines of one element, the first of the run.
 #[cycle(read)]
-fn read_item(set: &DescSet, run: Run, path: &Path, taken: &mut Taken) -> Result<(), ValuesFault>
+fn read_item(set: &DescSet, run: Run, path: &Path, taken: &mut Taken) -> Result<(), LineFault>
     requires reaches { uses_below (length (described set.now).structs) run.field.now.item ≡ true }
     requires room { let size = size_in (described set.now) run.field.now.item in
         run.first + size ≤ length taken.old.image.numbers }
@@ -189,7 +189,7 @@ fn read_item(set: &DescSet, run: Run, path: &Path, taken: &mut Taken) -> Result<
 }
 
 // The line of a cell, the first of the run.
-fn read_number_line(kind: Kind, run: Run, path: &Path, taken: &mut Taken) -> Result<(), ValuesFault>
+fn read_number_line(kind: Kind, run: Run, path: &Path, taken: &mut Taken) -> Result<(), LineFault>
     requires room { run.first < length taken.old.image.numbers }
     requires of_kind { get_or taken.old.image.kinds run.first U8 ≡ kind }
     ensures read { let caps = capacities_of run.entry.most in

@@ -1,12 +1,14 @@
-use Rattle.std.proofs.Common.{Ok, Option, ◌∙◌, subst}
+use Rattle.std.proofs.Common.{Ok, Err, Option, ◌∙◌, subst}
 use Rattle.vms_io.specs.Shelves.{Held}
 use Rattle.vms_io.specs.Told.{outlet, stock}
-use Rattle.vms_cli.specs.Asks.{set_asked}
+use Rattle.vms_outcome.specs.Asks.{set_asked}
 use Rattle.vms_cli.specs.Check.{checked, compared}
-use Rattle.vms_cli.specs.Fetching.{fetched_set, sets_in}
-use Rattle.vms_cli.specs.StepEndings.{StepAs, text_of}
-use Rattle.vms_cli.specs.Steps.{both, next}
-use Rattle.vms_cli.proofs.StepLemmas.{both_give, regroup, text_ends}
+use Rattle.vms_outcome.specs.Fetching.{fetched_set, sets_in}
+use Rattle.vms_outcome.specs.StepEndings.{StepAs, text_of}
+use Rattle.vms_outcome.specs.Steps.{both, next}
+use Rattle.vms_outcome.proofs.StepLemmas.{both_give, regroup, second_ends, text_ends}
+use Rattle.vms_outcome.proofs.EndLemmas.{quiet_same}
+use Rattle.vms_cli.proofs.CheckLemmas.{compare_quiet}
 use Rattle.vms_cli.proofs.check.check.Goals as goal
 
 pub returns-clause-content : goal.returns-clause-content
@@ -20,6 +22,22 @@ returns-clause-content g c = λ input o few has.
     subst (λ (h : Option Held). StepAs text_of (fetched_set h new) (Ok c.in-Ok-fetch_set.text)) c.in-Ok.ensures.held c.in-Ok-fetch_set.ensures.fetched in
     text_ends (checked held old new) input out out' (stock g.H.Shelf c.args.shelf.now) (stock g.H.Shelf c.fetch_set-2.new.shelf) c.check_texts.result o few
     (c.in-Ok-fetch_set.ensures.held ∙ c.in-Ok.ensures.held)
-    (regroup (both (fetched_set held old) (fetched_set held new)) out out' c.check_texts.result
+    (compare_quiet _ out out' c.check_texts.result c.check_texts.ensures.cause)
+    (regroup (both (fetched_set held old) (fetched_set held new)) sets_in compared out out' c.check_texts.result
     (both_give text_of (λ texts. next (sets_in texts) compared) out out' c.check_texts.result (fetched_set held old) (fetched_set held new)
     c.in-Ok.text c.in-Ok-fetch_set.text c.in-Ok.ensures.fetched second c.check_texts.ensures.ends)) has
+
+pub returns-in-Err-fetch_set-clause-content : goal.returns-in-Err-fetch_set-clause-content
+returns-in-Err-fetch_set-clause-content g c = λ input o few has.
+    let held = g.H.Shelf.held c.args.shelf.now in
+    let old = set_asked c.args.old in
+    let new = set_asked c.args.new in
+    let out = outlet g.O.Sink c.args.out.now in
+    let ending = c.in-Err-fetch_set.ending in
+    let second : StepAs text_of (fetched_set held new) (Err ending) =
+    subst (λ (h : Option Held). StepAs text_of (fetched_set h new) (Err ending)) c.in-Ok.ensures.held c.in-Err-fetch_set.ensures.fetched in
+    text_ends (checked held old new) input out out (stock g.H.Shelf c.args.shelf.now) (stock g.H.Shelf c.fetch_set-2.new.shelf) ending o few
+    (c.in-Err-fetch_set.ensures.held ∙ c.in-Ok.ensures.held) (quiet_same out ending)
+    (regroup (both (fetched_set held old) (fetched_set held new)) sets_in compared out out ending
+    (second_ends text_of (λ texts. next (sets_in texts) compared) out out ending (fetched_set held old) (fetched_set held new)
+    c.in-Ok.text c.in-Ok.ensures.fetched second)) has

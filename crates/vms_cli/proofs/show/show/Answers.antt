@@ -1,18 +1,18 @@
 use Rattle.std.proofs.Common.{refl, inl, inr}
 use Rattle.vms_io.specs.Told.{intake, outlet, stock}
 use Rattle.vms_load.specs.Kept.{loads}
-use Rattle.vms_cli.specs.Asks.{set_asked}
-use Rattle.vms_cli.specs.Fetching.{word_set}
-use Rattle.vms_cli.proofs.EndLemmas.{keeps_same}
-use Rattle.vms_cli.proofs.SetLemmas.{gives_none, gives_within, shows_by, unset_ends}
-use Rattle.vms_cli.proofs.ShowLemmas.{most_for}
+use Rattle.vms_outcome.specs.Asks.{set_asked}
+use Rattle.vms_outcome.specs.Fetching.{word_set}
+use Rattle.vms_outcome.proofs.EndLemmas.{keeps_same, quiet_same}
+use Rattle.vms_outcome.proofs.StepLemmas.{ended_by, had_by}
+use Rattle.vms_cli.proofs.ShowLemmas.{gives_none, gives_within, most_for, shows_under}
 use Rattle.vms_cli.proofs.show.show.Goals as goal
 
 pub returns-in-Ok-clause-content : goal.returns-in-Ok-clause-content
 returns-in-Ok-clause-content g c = λ o has.
     let held = g.H.Shelf.held c.args.shelf.now in
     c.show_stream.ensures.content (stock g.H.Shelf c.args.shelf.now) (stock g.H.Shelf c.loader_of.new.shelf) o c.in-Ok.ensures.held
-    (shows_by loads (word_set held (set_asked c.args.set)) c.in-Ok.loader (g.I.Source.left c.args.input.now) held o c.in-Ok.ensures.had has)
+    (had_by loads (shows_under (g.I.Source.left c.args.input.now) held) (word_set held (set_asked c.args.set)) c.in-Ok.loader o c.in-Ok.ensures.had has)
 
 pub returns-in-Ok-clause-cause : goal.returns-in-Ok-clause-cause
 returns-in-Ok-clause-cause g c = inr c.show_stream.ensures.cause
@@ -26,8 +26,10 @@ returns-in-Ok-clause-given g c =
 pub returns-in-Err-clause-content : goal.returns-in-Err-clause-content
 returns-in-Err-clause-content g c = λ o has.
     let held = g.H.Shelf.held c.args.shelf.now in
-    unset_ends loads (intake g.I.Source c.args.input.now) (outlet g.O.Sink c.args.out.now) (stock g.H.Shelf c.args.shelf.now)
-    (stock g.H.Shelf c.loader_of.new.shelf) (word_set held (set_asked c.args.set)) c.in-Err.ending o c.in-Err.ensures.had has
+    let out = outlet g.O.Sink c.args.out.now in
+    ended_by loads (shows_under (g.I.Source.left c.args.input.now) held) (word_set held (set_asked c.args.set))
+    (intake g.I.Source c.args.input.now) out out (stock g.H.Shelf c.args.shelf.now) (stock g.H.Shelf c.loader_of.new.shelf)
+    c.in-Err.ending o c.in-Err.ensures.held (quiet_same out c.in-Err.ending) c.in-Err.ensures.had has
 
 pub returns-in-Err-clause-cause : goal.returns-in-Err-clause-cause
 returns-in-Err-clause-cause g c =

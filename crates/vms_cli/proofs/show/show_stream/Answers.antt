@@ -4,8 +4,9 @@ use Rattle.vms_spec.specs.Sets.{Set}
 use Rattle.vms_spec.specs.Values.{values_text}
 use Rattle.vms_values.specs.Printing.{machine_of}
 use Rattle.vms_load.specs.Kept.{loads, kept}
-use Rattle.vms_cli.specs.Endings.{WritesAs}
-use Rattle.vms_cli.specs.Lines.{refused_line}
+use Rattle.vms_outcome.specs.Endings.{WritesAs}
+use Rattle.vms_outcome.specs.Lines.{refused_line}
+use Rattle.vms_outcome.proofs.EndLemmas.{comes_to_nothing, keeps_same}
 use Rattle.vms_cli.proofs.ShowLemmas.{fit_of, loaded, refused}
 use Rattle.vms_cli.proofs.show.show_stream.Goals as goal
 
@@ -29,3 +30,13 @@ returns-in-Ok-refused_line-clause-content g c = λ shelf shelf' o held shows.
     c.in-Err-Refused.field-0 r c.in-Err-Refused.field-0-is c.in-Ok-refused_line.line o (g.met.I.Source.octets c.args.input.now)
     c.in-Err-Refused.ensures.content
     (c.in-Ok-refused_line.ensures ∙ ap (λ (s : Set). refused_line s r.at r.section r.reason) (c.set.ensures ∙ c.in-Err-Refused.ensures.set)) shows
+
+pub returns-in-Err-Refused-clause-content : goal.returns-in-Err-Refused-clause-content
+returns-in-Err-Refused-clause-content g c = λ shelf shelf' o held shows.
+    let out = outlet g.O.Sink c.args.out.now in
+    comes_to_nothing out out shelf shelf' o.parts (keeps_same out.written) held
+
+pub returns-clause-content : goal.returns-clause-content
+returns-clause-content g c = λ shelf shelf' o held shows.
+    let out = outlet g.O.Sink c.args.out.now in
+    comes_to_nothing out out shelf shelf' o.parts (keeps_same out.written) held

@@ -1,6 +1,5 @@
-use Rattle.std.proofs.Common.{◌≡◌, length, ap, ◌∙◌}
+use Rattle.std.proofs.Common.{length, ap, ◌∙◌}
 use Rattle.vms_desc.specs.Described.{described}
-use Rattle.vms_desc.specs.Spots.{kinds_at}
 use Rattle.vms_values.proofs.ImageRead.{default_of, default_kinds, own_spot, alike_kept, image_of}
 use Rattle.vms_values.proofs.KindsAt.{own_kinds}
 use Rattle.vms_values.proofs.SubsReading.{of_alike, subs_alike}

@@ -1,13 +1,12 @@
-use Rattle.std.proofs.Common.{◌≡◌, ◌<◌, ◌∷◌, ◌++◌, [], List, length, map, ap, ◌∙◌, arith, refl}
+use Rattle.std.proofs.Common.{◌≡◌, ◌<◌, ◌∷◌, ◌++◌, [], length, map, ap, ◌∙◌, arith}
 use Rattle.std.proofs.lemmas.List.{length-map, map-append}
-use Rattle.vms_spec.specs.Images.{Image}
 use Rattle.vms_spec.specs.Sets.{Set}
 use Rattle.vms_parts.specs.Views.{device_of}
 use Rattle.vms_desc.specs.Described.{described}
-use Rattle.vms_image.specs.Typed.{Typed, state_of}
+use Rattle.vms_image.specs.Typed.{state_of}
 use Rattle.vms_values.proofs.DeviceLemmas.{on_true}
-use Rattle.vms_values.proofs.Gathering.{gathered_none, gathered_next}
-use Rattle.vms_values.proofs.ImageRead.{first_none, first_more, first_all}
+use Rattle.vms_values.proofs.Gathering.{gathered_next}
+use Rattle.vms_values.proofs.ImageRead.{first_more, first_all}
 use Rattle.vms_values.proofs.devices.read_images.Goals as goal
 
 pub loop-device-preserved : goal.loop-device-preserved

@@ -21,12 +21,12 @@ pub returns-in-Ok-clause-read : goal.returns-in-Ok-clause-read
 returns-in-Ok-clause-read c =
     number_there (path_text c.args.path.now) c.args.kind (capacities_of c.args.run.most) c.args.run.first c.args.run.field.now.default c.args.run.present (place_of c.args.taken.now)
     (first_line c.args.taken.now.lines.rest.now) c.in-Some.line c.in-Some-number_text.text.now c.in-Ok.number _
-    c.in-Some.ensures.first c.in-Some-number_text.ensures.stripped.0 c.in-Some-number_text.ensures.stripped.1 c.in-Ok.ensures
+    c.in-Some.ensures.first c.in-Some-number_text.ensures.0 c.in-Some-number_text.ensures.1 c.in-Ok.ensures
     (search rules) (search rules) (search rules)
 
 pub returns-in-Err-clause-read : goal.returns-in-Err-clause-read
 returns-in-Err-clause-read c =
     reason_there (path_text c.args.path.now) c.args.kind (capacities_of c.args.run.most) c.args.run.first c.args.run.field.now.default c.args.run.present (place_of c.args.taken.now)
     (first_line c.args.taken.now.lines.rest.now) c.in-Some.line c.in-Some-number_text.text.now c.in-Err.reason _ _
-    c.in-Some.ensures.first c.in-Some-number_text.ensures.stripped.0 c.in-Some-number_text.ensures.stripped.1 c.in-Err.ensures
+    c.in-Some.ensures.first c.in-Some-number_text.ensures.0 c.in-Some-number_text.ensures.1 c.in-Err.ensures
     (is_bad _ _ c.bad-in-Err.ensures)

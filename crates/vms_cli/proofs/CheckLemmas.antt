@@ -1,0 +1,33 @@
+-- Of `check`: what is untouched where it ends, and that its steps are told where the shelf is.
+use Rattle.std.proofs.Common.{Bool, Option, Some, None, arith}
+use Rattle.vms_io.specs.Shelves.{Held}
+use Rattle.vms_io.specs.Told.{Outlet}
+use Rattle.vms_check.specs.declared.mismatch.Mismatch.{Mismatch}
+use Rattle.vms_outcome.specs.declared.ending.Ending.{Ending}
+use Rattle.vms_outcome.specs.declared.ending.Ending.TheVariants.{Done, Refused, BadWords, BadText, NotCompatible, ReadFault, WriteFault, ShelfFault, NotThere, TooLarge, NoMemory}
+use Rattle.vms_outcome.specs.Endings.{Quiet}
+use Rattle.vms_outcome.specs.Fetching.{named_sets}
+use Rattle.vms_outcome.specs.SetWords.{SetWord}
+use Rattle.vms_outcome.proofs.StepLemmas.{IsSound, sound_next, sound_sets}
+use Rattle.vms_cli.specs.Causes.{CompareCause}
+use Rattle.vms_cli.specs.Check.{checked, compared, verdict}
+
+pub compare_quiet : (asks : Bool) (o o' : Outlet) (e : Ending) → CompareCause asks o o' e → Quiet o o' e
+compare_quiet asks o o' Done c = tt
+compare_quiet asks o o' (BadText line) c = c.1
+compare_quiet asks o o' (NotCompatible line) c = c
+compare_quiet asks o o' WriteFault c = tt
+compare_quiet asks o o' NoMemory c = c
+compare_quiet asks o o' (Refused line) c = absurd c
+compare_quiet asks o o' BadWords c = absurd c
+compare_quiet asks o o' ReadFault c = absurd c
+compare_quiet asks o o' ShelfFault c = absurd c
+compare_quiet asks o o' (NotThere line) c = absurd c
+compare_quiet asks o o' (TooLarge line) c = absurd c
+
+sound_verdict : (held : Option Held) (m : Option Mismatch) → IsSound held (verdict m)
+sound_verdict held None = tt
+sound_verdict held (Some m) = omega arith
+
+pub sound_check : (held : Option Held) (old new : SetWord) → IsSound held (checked held old new)
+sound_check held old new = sound_next held (named_sets held old new) compared (sound_sets held old new) (λ sets. sound_verdict held _)

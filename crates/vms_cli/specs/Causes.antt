@@ -1,0 +1,100 @@
+-- The endings of each command with their causes, told or not.
+use Rattle.std.specs.Prelude.{◌≡◌, ◌⊎◌, Bool, true, false, Option, Some, None}
+use Rattle.std.specs.Io.KnownBytes.{Keeps}
+use Rattle.vms_io.specs.Causes.{Rose}
+use Rattle.vms_io.specs.Told.{Intake, Outlet, Stock}
+use Rattle.vms_outcome.specs.declared.ending.Ending.{Ending}
+use Rattle.vms_outcome.specs.declared.ending.Ending.TheVariants.{Done, Refused, BadWords, BadText, NotCompatible, ReadFault, WriteFault, ShelfFault, NotThere, TooLarge, NoMemory}
+use Rattle.vms_outcome.specs.Endings.{SetCause}
+use Rattle.vms_outcome.specs.Fetching.{is_on_shelf, word_set}
+use Rattle.vms_outcome.specs.SetWords.{SetWord}
+use Rattle.vms_cli.specs.Check.{asks_shelf}
+use Rattle.vms_cli.specs.Commands.{Asked, Show, Pack, Check}
+use Rattle.vms_cli.specs.Show.{GivesWithin}
+
+-- once the set of `show` is there
+abbrev pub StreamCause : (input input' : Intake) (out out' : Outlet) → Ending → Type 0
+StreamCause input input' out out' Done = Unit {0}
+StreamCause input input' out out' (Refused line) = Keeps out.written out'.written
+StreamCause input input' out out' ReadFault =
+    Rose input.faults input'.faults × Keeps out.written out'.written
+StreamCause input input' out out' WriteFault = Rose out.faults out'.faults
+StreamCause input input' out out' NoMemory = Keeps out.written out'.written
+StreamCause input input' out out' _ = ⊥
+
+-- the set wasn't had, and input and out weren't touched; or it was
+abbrev pub ShowCause : Bool → (input input' : Intake) (out out' : Outlet) (shelf shelf' : Stock) → Ending → Type 0
+ShowCause asks input input' out out' shelf shelf' ending =
+    (SetCause asks shelf shelf' ending × (input' ≡ input) × Keeps out.written out'.written)
+    ⊎ StreamCause input input' out out' ending
+
+-- once the text of `pack` is fetched
+abbrev pub WriteCause : (out out' : Outlet) → Ending → Type 0
+WriteCause out out' Done = Unit {0}
+WriteCause out out' (BadText line) = Keeps out.written out'.written
+WriteCause out out' WriteFault = Rose out.faults out'.faults
+WriteCause out out' NoMemory = Keeps out.written out'.written
+WriteCause out out' _ = ⊥
+
+abbrev pub PackCause : (out out' : Outlet) (shelf shelf' : Stock) → Ending → Type 0
+PackCause out out' shelf shelf' Done = Unit {0}
+PackCause out out' shelf shelf' (BadText line) = Keeps out.written out'.written
+PackCause out out' shelf shelf' WriteFault = Rose out.faults out'.faults
+PackCause out out' shelf shelf' ShelfFault = Rose shelf.faults shelf'.faults × Keeps out.written out'.written
+PackCause out out' shelf shelf' (NotThere line) = Keeps out.written out'.written
+PackCause out out' shelf shelf' (TooLarge line) = Keeps out.written out'.written
+PackCause out out' shelf shelf' NoMemory = Keeps out.written out'.written
+PackCause out out' shelf shelf' _ = ⊥
+
+-- once the sets are fetched
+abbrev pub CompareCause : Bool → Outlet → Outlet → Ending → Type 0
+CompareCause asks out out' Done = Unit {0}
+CompareCause asks out out' (BadText line) = (asks ≡ true) × Keeps out.written out'.written
+CompareCause asks out out' (NotCompatible line) = Keeps out.written out'.written
+CompareCause asks out out' WriteFault = Rose out.faults out'.faults
+CompareCause asks out out' NoMemory = Keeps out.written out'.written
+CompareCause asks out out' ending = ⊥
+
+-- `asks` says whether the shelf is asked
+abbrev pub CheckCause : Bool → (out out' : Outlet) (shelf shelf' : Stock) → Ending → Type 0
+CheckCause asks out out' shelf shelf' Done = Unit {0}
+CheckCause asks out out' shelf shelf' (BadText line) = (asks ≡ true) × Keeps out.written out'.written
+CheckCause asks out out' shelf shelf' (NotCompatible line) = Keeps out.written out'.written
+CheckCause asks out out' shelf shelf' WriteFault = Rose out.faults out'.faults
+CheckCause asks out out' shelf shelf' ShelfFault =
+    (asks ≡ true) × Rose shelf.faults shelf'.faults × Keeps out.written out'.written
+CheckCause asks out out' shelf shelf' (NotThere line) = (asks ≡ true) × Keeps out.written out'.written
+CheckCause asks out out' shelf shelf' (TooLarge line) = (asks ≡ true) × Keeps out.written out'.written
+CheckCause asks out out' shelf shelf' NoMemory = Keeps out.written out'.written
+CheckCause asks out out' shelf shelf' _ = ⊥
+
+abbrev pub IsBadWords : Ending → Type 0
+IsBadWords BadWords = Unit {0}
+IsBadWords _ = ⊥
+
+-- ---- with what each command leaves
+
+abbrev pub BadWordsCauses : (input input' : Intake) (out out' : Outlet) (shelf shelf' : Stock) → Ending → Type 0
+BadWordsCauses input input' out out' shelf shelf' ending =
+    IsBadWords ending × (input' ≡ input) × (out' ≡ out) × (shelf' ≡ shelf)
+
+abbrev pub ShowCauses : SetWord → (input input' : Intake) (out out' : Outlet) (shelf shelf' : Stock) → Ending → Type 0
+ShowCauses set input input' out out' shelf shelf' ending =
+    ShowCause (is_on_shelf set) input input' out out' shelf shelf' ending × (shelf'.held ≡ shelf.held)
+    × (is_on_shelf set ≡ false → shelf' ≡ shelf) × GivesWithin (word_set shelf.held set) input input'
+
+abbrev pub PackCauses : (input input' : Intake) (out out' : Outlet) (shelf shelf' : Stock) → Ending → Type 0
+PackCauses input input' out out' shelf shelf' ending =
+    PackCause out out' shelf shelf' ending × (input' ≡ input) × (shelf'.held ≡ shelf.held)
+
+abbrev pub CheckCauses : Bool → (input input' : Intake) (out out' : Outlet) (shelf shelf' : Stock) → Ending → Type 0
+CheckCauses asks input input' out out' shelf shelf' ending =
+    CheckCause asks out out' shelf shelf' ending × (input' ≡ input) × (shelf'.held ≡ shelf.held)
+    × (asks ≡ false → shelf' ≡ shelf)
+
+abbrev pub EndsCause : Option Asked → (input input' : Intake) (out out' : Outlet) (shelf shelf' : Stock) → Ending → Type 0
+EndsCause None input input' out out' shelf shelf' ending = BadWordsCauses input input' out out' shelf shelf' ending
+EndsCause (Some (Show set)) input input' out out' shelf shelf' ending = ShowCauses set input input' out out' shelf shelf' ending
+EndsCause (Some (Pack name)) input input' out out' shelf shelf' ending = PackCauses input input' out out' shelf shelf' ending
+EndsCause (Some (Check old new)) input input' out out' shelf shelf' ending =
+    CheckCauses (asks_shelf old new) input input' out out' shelf shelf' ending

@@ -1,0 +1,32 @@
+// The line of a values text that is refused.
+ghost use Rattle.std.specs.Prelude.{◌≡◌, IfOk, string_bytes};
+ghost use Rattle.vms_cli.specs.ValuesLines.{values_line, values_reason_text};
+
+use std::alloc::Global;
+use vms_io::NoMemory;
+use vms_values::ValuesReason;
+
+// The line of a values text that is refused.
+pub(crate) fn values_line(
+    alloc: Global,
+    line: u32,
+    reason: ValuesReason,
+) -> Result<String, NoMemory>
+    ensures { IfOk result (λ text. string_bytes text ≡ values_line line reason) }
+{
+    let reason = values_reason_text(reason);
+    Ok(format!(in alloc; "values line {line}: {reason}\n")?)
+}
+
+fn values_reason_text(reason: ValuesReason) -> &'static str
+    ensures { result.now ≡ values_reason_text reason }
+{
+    match reason {
+        ValuesReason::Form => "Form",
+        ValuesReason::Number => "Number",
+        ValuesReason::Count => "Count",
+        ValuesReason::Absent => "Absent",
+        ValuesReason::Invalid => "Invalid",
+        ValuesReason::Needed => "Needed",
+    }
+}

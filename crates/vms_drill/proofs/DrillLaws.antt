@@ -1,0 +1,61 @@
+-- A drill and its streams, beside its course alone.
+use Rattle.std.proofs.Common.{◌≡◌, ℕ, zero, suc, ◌+◌, ◌*◌, ◌-◌, ◌<◌, ◌≤◌, Bool, true, false, if◌then◌else◌, arith, refl, sym, ap, subst, ◌∙◌}
+use Rattle.dev_base.specs.Levels.{IsLevel}
+use Rattle.dev_board.proofs.SoundLaws.{sound_stays_on}
+use Rattle.dev_board.specs.Sound.{IsSound, Alike}
+use Rattle.dev_board.specs.State.{State, power_on}
+use Rattle.dev_board.specs.Step.{step, observe, after_all}
+use Rattle.dev_drill.proofs.EventLaws.{event-is}
+use Rattle.dev_drill.proofs.FoldLaws.{saves_leave_counts, save_may, save-left}
+use Rattle.dev_drill.specs.Events.{next_number, event_of, events_after}
+use Rattle.dev_drill.specs.Fold.{Course, begun, drilled, is_save_due, saves_of, after_save}
+use Rattle.vms_session.proofs.LengthLaws.{streams_are_short}
+use Rattle.vms_drill.specs.Drill.{Drill, drill_begun, bytes_after, stream_long, with_drill_event, drilled_on}
+use Rattle.vms_drill.specs.Laws.{IsAsUnsaved, CoursesAreSame, SizesAreSmall}
+
+course-same : (count : ℕ) (drill : Drill) → (drilled_on count drill).course ≡ drilled count drill.course
+course-same zero drill = refl
+course-same (suc count) drill = course-same count (with_drill_event drill)
+
+same : (level seed count : ℕ) → IsLevel level → IsAsUnsaved level seed count
+same level seed count l =
+    let course = course-same count (drill_begun level seed) in
+    let all = saves_leave_counts.same level seed count l in
+    record {
+      course = course;
+      counts = ap (λ (c : Course). c.counts) course ∙ all.counts;
+      events = ap (λ (c : Course). c.events) course ∙ all.events;
+      alike = subst (λ (c : Course). Alike (after_all (events_after seed count) (power_on level)) c.board) (sym course) all.alike;
+      sound = subst (λ (c : Course). IsSound c.board) (sym course) all.sound;
+    }
+
+pub courses_are_same : CoursesAreSame
+courses_are_same = record { same = same }
+
+-- ---- sizes
+
+due-small : (due : Bool) (bytes long : ℕ) → long < 65536 → (if due then bytes + long else bytes) ≤ bytes + 65536
+due-small true bytes long l = omega (arith, l)
+due-small false bytes long l = omega arith
+
+after-small : (events : ℕ) (m : State) (bytes : ℕ) → IsSound m → bytes_after events m bytes ≤ bytes + 65536
+unfolding bytes_after
+after-small events m bytes s =
+    due-small (is_save_due events) bytes (stream_long events m)
+    (streams_are_short.short _ m s (save_may m.level (saves_of events - 1) s.devices.level.last))
+
+small : (count : ℕ) (drill : Drill) → IsSound drill.course.board → (drilled_on count drill).bytes ≤ drill.bytes + 65536 * count
+small zero drill s = omega arith
+small (suc count) drill s =
+    let stepped = sound_stays_on.event (event_of (next_number drill.course.number)) drill.course.board (event-is (next_number drill.course.number)) s in
+    let here = after-small (drill.course.events + 1) (step (event_of (next_number drill.course.number)) drill.course.board).1 drill.bytes stepped in
+    let left = save-left (drill.course.events + 1) (step (event_of (next_number drill.course.number)) drill.course.board).1 stepped in
+    let rest = small count (with_drill_event drill) left.sound in
+    omega (arith, here, rest)
+
+pub sizes_are_small : SizesAreSmall
+sizes_are_small = record {
+  bytes = λ level seed count l.
+      let e = small count (drill_begun level seed) (sound_stays_on.power_on level l) in
+      omega (arith, e);
+}

@@ -1,0 +1,3 @@
+pub mod DrillLaws
+pub mod RoundLemmas
+pub mod StepLemmas

@@ -1,0 +1,62 @@
+-- Drills, with the streams of their saves.
+use Rattle.std.specs.Prelude.{ℕ, zero, suc, ◌+◌, ◌-◌, if◌then◌else◌, List, length}
+use Rattle.dev_board.specs.State.{State}
+use Rattle.dev_board.specs.Step.{step}
+use Rattle.dev_board.specs.declared.event.Answer.{Answer}
+use Rattle.dev_drill.specs.Events.{next_number, event_of}
+use Rattle.dev_drill.specs.Fold.{Course, begun, went_on, is_save_due, set_of, saves_of}
+use Rattle.vms_board.specs.Saving.{saved_stream}
+
+-- a drill in its course: events, board and counts; how many bytes the streams so far have together; and how many the last of
+-- them has, which is what the board was restored from, or none
+pub record Drill : Type 0 where
+  pub course : Course
+  pub bytes : ℕ
+  pub taken : ℕ
+
+abbrev pub drill_begun : ℕ → ℕ → Drill
+drill_begun level seed = record { course = begun level seed; bytes = 0; taken = 0 }
+
+-- the bytes of the stream that is saved of a board after so many events
+abbrev pub stream_long : ℕ → State → ℕ
+stream_long events m = length (saved_stream (set_of m.level (saves_of events - 1)) m)
+
+unfoldable pub bytes_after : ℕ → State → ℕ → ℕ
+bytes_after events m bytes = if is_save_due events then bytes + stream_long events m else bytes
+
+unfoldable pub taken_after : ℕ → State → ℕ → ℕ
+taken_after events m taken = if is_save_due events then stream_long events m else taken
+
+-- an event, and a save and a restore where they are due
+abbrev pub drill_on : Drill → Answer × State → Drill
+drill_on drill done = record {
+  course = went_on drill.course done;
+  bytes = bytes_after (drill.course.events + 1) done.1 drill.bytes;
+  taken = taken_after (drill.course.events + 1) done.1 drill.taken;
+}
+
+abbrev pub with_drill_event : Drill → Drill
+with_drill_event drill = drill_on drill (step (event_of (next_number drill.course.number)) drill.course.board)
+
+-- so many events more
+abbrev pub drilled_on : ℕ → Drill → Drill
+drilled_on zero drill = drill
+drilled_on (suc count) drill = drilled_on count (with_drill_event drill)
+
+-- ---- what a drill is told by
+
+pub record Summary : Type 0 where
+  pub events : ℕ
+  pub sent : ℕ
+  pub raised : ℕ
+  pub saves : ℕ
+  pub bytes : ℕ
+
+abbrev pub summary_of : Drill → Summary
+summary_of drill = record {
+  events = drill.course.events;
+  sent = drill.course.counts.sent;
+  raised = drill.course.counts.raised;
+  saves = saves_of drill.course.events;
+  bytes = drill.bytes;
+}

@@ -1,0 +1,26 @@
+-- Laws of drills that contracts name.
+use Rattle.std.specs.Prelude.{◌≡◌, ℕ, ◌+◌, ◌*◌, ◌≤◌}
+use Rattle.dev_base.specs.Levels.{IsLevel}
+use Rattle.dev_drill.specs.Fold.{begun, drilled, counted_all, nothing}
+use Rattle.dev_drill.specs.Events.{events_after}
+use Rattle.dev_board.specs.Sound.{IsSound, Alike}
+use Rattle.dev_board.specs.State.{power_on}
+use Rattle.dev_board.specs.Step.{observe, after_all}
+use Rattle.vms_drill.specs.Drill.{drill_begun, drilled_on}
+
+-- a drill of a level and a seed beside the same events without any save
+pub record IsAsUnsaved (level seed count : ℕ) : Type 0 where
+  pub course : (drilled_on count (drill_begun level seed)).course ≡ drilled count (begun level seed)
+  pub counts : (drilled_on count (drill_begun level seed)).course.counts
+      ≡ counted_all (observe (events_after seed count) (power_on level)) nothing
+  pub events : (drilled_on count (drill_begun level seed)).course.events ≡ count
+  pub alike : Alike (after_all (events_after seed count) (power_on level)) (drilled_on count (drill_begun level seed)).course.board
+  pub sound : IsSound (drilled_on count (drill_begun level seed)).course.board
+
+pub record CoursesAreSame : Type 0 where
+  pub same : (level seed count : ℕ) → IsLevel level → IsAsUnsaved level seed count
+
+-- the streams of a drill have less than 65,536 bytes each, so that together they have at most so many
+pub record SizesAreSmall : Type 0 where
+  pub bytes : (level seed count : ℕ) → IsLevel level
+      → (drilled_on count (drill_begun level seed)).bytes ≤ 65536 * count

@@ -1,0 +1,24 @@
+-- What contracts see of a drill in its course and of its summary.
+use Rattle.std.specs.Prelude.{ℕ, ◌*◌, ◌≤◌}
+use Rattle.dev_board.specs.Sound.{IsSound}
+use Rattle.dev_drill.specs.Views.{tally_view}
+use Rattle.vms_drill.specs.Drill.{Drill, Summary}
+use Rattle.vms_drill.specs.declared.course.Course.{Course}
+use Rattle.vms_drill.specs.declared.fold.Summary as declared
+
+abbrev pub course_view : Course → Drill
+course_view c = record {
+  course = record { events = c.done; number = c.events.number; board = c.board.state; counts = tally_view c.tally };
+  bytes = c.bytes;
+  taken = c.board.taken;
+}
+
+-- its board is sound, and no count is greater than so many events can make it
+pub record IsInCourse (c : Course) : Type 0 where
+  pub sound : IsSound c.board.state
+  pub sent : c.tally.sent ≤ 17 * c.done
+  pub raised : c.tally.raised ≤ c.done
+  pub bytes : c.bytes ≤ 65536 * c.done
+
+abbrev pub summary_view : declared.Summary → Summary
+summary_view s = record { events = s.events; sent = s.sent; raised = s.raised; saves = s.saves; bytes = s.bytes }

@@ -1,0 +1,78 @@
+// A drill in its course.
+ghost use Rattle.std.specs.Prelude.{◌≡◌, ◌+◌, ◌*◌, ◌^◌, ◌<◌, ◌≤◌, IfOk, OnOk};
+ghost use Rattle.dev_base.specs.Levels.{IsLevel};
+ghost use Rattle.dev_board.specs.Sound.{IsSound};
+ghost use Rattle.dev_drill.specs.Fold.{saves_of};
+ghost use Rattle.vms_drill.specs.Drill.{drill_begun, summary_of, with_drill_event};
+ghost use Rattle.vms_drill.specs.Views.{course_view, summary_view, IsInCourse};
+
+use crate::fold::{Drilled, Summary};
+use crate::round::come_back;
+use dev_drill::{BETWEEN_SAVES, Events, Tally, is_save_due};
+use std::alloc::Global;
+use vms_board::Board;
+use vms_io::NoMemory;
+
+/// A drill after some of its events.
+#[derive(Drop)]
+pub(crate) struct Course {
+    board: Board,
+    events: Events,
+    tally: Tally,
+    /// How many events there were.
+    done: u32,
+    /// How many bytes the streams so far have together.
+    bytes: u64,
+}
+
+impl Course {
+    /// Before the first event.
+    pub(crate) fn begin(alloc: Global, level: u8, seed: u64) -> Result<Course, NoMemory>
+        requires { IsLevel level }
+        ensures view { IfOk result (λ course. course_view course ≡ drill_begun level seed) }
+        ensures going { IfOk result IsInCourse }
+    {
+        Ok(Course {
+            board: Board::new(alloc, level)?,
+            events: Events::new(seed),
+            tally: Tally::new(),
+            done: 0,
+            bytes: 0,
+        })
+    }
+
+    /// Lets the next event happen, and after every thousand of them makes the board the one that its own stream
+    /// restores.
+    pub(crate) fn step(&mut self, alloc: Global) -> Result<(), NoMemory>
+        requires going { IsInCourse self.old }
+        requires room { self.old.done + 1 < 2 ^ 32 }
+        ensures view { OnOk result (course_view self.new ≡ with_drill_event (course_view self.old)) }
+        ensures going { OnOk result (IsInCourse self.new) }
+    {
+        let answer = self.board.event(self.events.next_event());
+        self.tally.count(&answer);
+        self.done += 1;
+        if is_save_due(self.done) {
+            self.bytes += come_back(alloc, &mut self.board, self.done / BETWEEN_SAVES - 1)?;
+        }
+        Ok(())
+    }
+
+    /// What it came to, and its board.
+    pub(crate) fn end(self) -> Drilled
+        ensures summary { summary_view result.summary ≡ summary_of (course_view self) }
+        ensures board { result.board ≡ self.board }
+    {
+        let summary = Summary {
+            events: self.done,
+            sent: self.tally.sent,
+            raised: self.tally.raised,
+            saves: self.done / BETWEEN_SAVES,
+            bytes: self.bytes,
+        };
+        Drilled {
+            summary,
+            board: self.board,
+        }
+    }
+}

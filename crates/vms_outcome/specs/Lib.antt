@@ -1,0 +1,9 @@
+pub mod Asks
+pub mod Endings
+pub mod Fetching
+pub mod Lines
+pub mod Outcomes
+pub mod SetLines
+pub mod SetWords
+pub mod StepEndings
+pub mod Steps

@@ -1,0 +1,184 @@
+-- Each session has a trace and an end.
+use Rattle.std.proofs.Common.{◌≡◌, ◌≢◌, ◌⊎◌, inl, inr, ℕ, ◌<◌, ◌≤◌, ◌++◌, Bool, true, false, if◌then◌else◌, List, [], ◌∷◌, length, Option, Some, None, Result, Ok, Err, nat_lt, arith, refl, sym, ap, subst, ◌∙◌}
+use Rattle.std.specs.Str.{bytes_eq}
+use Rattle.std.proofs.lemmas.Slice.Eq.{bytes_eq-Decides}
+use Rattle.std.proofs.lemmas.Bool.Decides.{nat_tests}
+use Rattle.dev_base.specs.declared.limits.TheConstants.{NEWEST}
+use Rattle.dev_board.specs.Saved.{MaySaveUnder, restored}
+use Rattle.dev_board.specs.Sound.{IsSound}
+use Rattle.dev_board.specs.State.{State}
+use Rattle.dev_board.specs.Step.{step}
+use Rattle.dev_board.specs.declared.misfit.Misfit.{Misfit}
+use Rattle.dev_images.specs.Images.{cells_in}
+use Rattle.vms_desc.specs.Formed.{shipped_set}
+use Rattle.vms_io.specs.Shelves.{Held, PutsUnder}
+use Rattle.vms_laws.proofs.WellFormedStreams.{shipped_stands}
+use Rattle.vms_script.specs.Grammar.{IsLine, AreLines}
+use Rattle.vms_script.specs.Lines.{ScriptLine, Happens, Saves, Restores as Loads, is_set_of}
+use Rattle.vms_script.specs.Trace.{trace_line}
+use Rattle.vms_spec.specs.Images.{Image}
+use Rattle.vms_spec.specs.Numbers.{IsBytes}
+use Rattle.vms_units.proofs.Stated.{either_holds}
+use Rattle.vms_units.specs.StreamLaws.{Answer, Taken, Faulty}
+use Rattle.vms_session.proofs.SessionLaws.{line_level}
+use Rattle.vms_session.proofs.SoundLaws.{sessions_stay_sound}
+use Rattle.vms_session.proofs.StreamLaws.{streams_come_back, well}
+use Rattle.vms_board.specs.Restoring.{TakesBoard, misfit_section, misfit_reason, Restore, Back, Refused, Restores}
+use Rattle.vms_board.specs.Saving.{machine_of, saved_stream}
+use Rattle.vms_session.specs.Laws.{HoldsBytes, HasAnEnd, SessionsEnd}
+use Rattle.vms_session.specs.Lines.{saved_line, restored_line, missing_line, too_large_line, refused_line}
+use Rattle.vms_session.specs.Session.{Session, Leaves, Stores, ComesTo, IsTooLarge, IsLoaded, LoadsBytes, LoadsHeld, Does, Plays, longest_stream}
+
+-- ---- what bytes come to
+
+-- bytes on which a restore comes to something
+abbrev pub Comes : ℕ → List ℕ → Type 0
+Comes level bytes = (restore : Restore) × Restores level bytes restore
+
+images-come : (level : ℕ) (bytes : List ℕ) (taken : ℕ) (images : List Image) → TakesBoard level bytes taken images → (r : Result State Misfit) → restored level (cells_in images) ≡ r → Comes level bytes
+images-come level bytes taken images t (Ok m) e = (Back m taken, (images, t, e))
+images-come level bytes taken images t (Err misfit) e = (
+  Refused taken (misfit_section misfit) (misfit_reason misfit),
+  inr (record { images = images; taken = t; misfit = misfit; fails = e; section_is = refl; reason_is = refl }),
+)
+
+answer-comes : (level : ℕ) (bytes : List ℕ) → Answer (shipped_set 4) (machine_of level ∷ []) bytes → Comes level bytes
+answer-comes level bytes (Taken n machine images takes) =
+    images-come level bytes n images (machine, takes) (restored level (cells_in images)) refl
+answer-comes level bytes (Faulty place section reason size fault) = (Refused place section reason, inl (size, fault))
+
+pub bytes_come : (level : ℕ) (bytes : List ℕ) → IsBytes bytes → Comes level bytes
+bytes_come level bytes ok =
+    answer-comes level bytes (either_holds (shipped_set 4) (machine_of level ∷ []) (well 4) shipped_stands.4.heads bytes ok)
+
+-- ---- what a shelf holds
+
+abbrev HeldComes : ℕ → Option (List ℕ) → Type 0
+HeldComes level None = Unit {0}
+HeldComes level (Some bytes) = Comes level bytes
+
+held-comes : (level : ℕ) (held : Option (List ℕ)) → HoldsBytes held → HeldComes level held
+held-comes level None h = tt
+held-comes level (Some bytes) h = bytes_come level bytes h
+
+-- with bytes under a name
+abbrev put : Held → List ℕ → List ℕ → Held
+put held name bytes other = if bytes_eq other name then Some bytes else held other
+
+differs : (b : Bool) (x y : Option (List ℕ)) → (b ≡ true → ⊥) → (if b then x else y) ≡ y
+differs true x y never = absurd (never refl)
+differs false x y never = refl
+
+taken-so : (b : Bool) (x y : Option (List ℕ)) → b ≡ true → (if b then x else y) ≡ x
+taken-so true x y e = refl
+taken-so false x y e = cc
+
+puts-under : (held : Held) (name bytes : List ℕ) → PutsUnder held (put held name bytes) name bytes
+puts-under held name bytes = record {
+  there = taken-so (bytes_eq name name) (Some bytes) (held name) ((bytes_eq-Decides name name).1 refl);
+  others = λ other ne. differs (bytes_eq other name) (Some bytes) (held other) (λ e. ne ((bytes_eq-Decides other name).0 e));
+}
+
+either-comes : (level : ℕ) (b : Bool) (bytes : List ℕ) (held : Option (List ℕ)) → Comes level bytes → HeldComes level held → HeldComes level (if b then Some bytes else held)
+either-comes level true bytes held new old = new
+either-comes level false bytes held new old = old
+
+-- ---- lines
+
+-- a line does something, and each name still comes to something
+record LineEnds (line : ScriptLine) (old : Session) : Type 0 where
+  text : List ℕ
+  new : Session
+  does : Does line old text new
+  held : (name : List ℕ) → HeldComes old.board.level (new.held name)
+
+abbrev still : (level : ℕ) (held : Held) → Type 0
+still level held = (name : List ℕ) → HeldComes level (held name)
+
+restored-ends : (name bytes : List ℕ) (old : Session) (restore : Restore) → old.held name ≡ Some bytes → length bytes ≤ longest_stream
+    → Restores old.board.level bytes restore → still old.board.level old.held → LineEnds (Loads name) old
+restored-ends name bytes old (Back m taken) there few restores held = record {
+  text = restored_line taken;
+  new = record old { board = m };
+  does = subst (λ (h : Option (List ℕ)). LoadsHeld h old (restored_line taken) (record old { board = m })) (sym there)
+      (IsLoaded (Back m taken) few restores (record { text_is = refl; new_is = refl }));
+  held = held;
+}
+restored-ends name bytes old (Refused place section reason) there few restores held = record {
+  text = refused_line (shipped_set NEWEST) place section reason;
+  new = old;
+  does = subst (λ (h : Option (List ℕ)). LoadsHeld h old (refused_line (shipped_set NEWEST) place section reason) old) (sym there)
+      (IsLoaded (Refused place section reason) few restores (record { text_is = refl; new_is = refl }));
+  held = held;
+}
+
+bytes-end : (name bytes : List ℕ) (old : Session) (b : Bool) → nat_lt longest_stream (length bytes) ≡ b → old.held name ≡ Some bytes
+    → Comes old.board.level bytes → still old.board.level old.held → LineEnds (Loads name) old
+bytes-end name bytes old true e there comes held =
+    let long : longest_stream < length bytes = grind (arith, nat_tests, e) in
+    record {
+      text = too_large_line;
+      new = old;
+      does = subst (λ (h : Option (List ℕ)). LoadsHeld h old too_large_line old) (sym there) (IsTooLarge long (record { text_is = refl; new_is = refl }));
+      held = held;
+    }
+bytes-end name bytes old false e there comes held =
+    let few : length bytes ≤ longest_stream = grind (arith, nat_tests, e) in
+    restored-ends name bytes old comes.0 there few comes.1 held
+
+held-end : (name : List ℕ) (old : Session) (under : Option (List ℕ)) → old.held name ≡ under → HeldComes old.board.level under
+    → still old.board.level old.held → LineEnds (Loads name) old
+held-end name old None there comes held = record {
+  text = missing_line;
+  new = old;
+  does = subst (λ (h : Option (List ℕ)). LoadsHeld h old missing_line old) (sym there) (record { text_is = refl; new_is = refl });
+  held = held;
+}
+held-end name old (Some bytes) there comes held =
+    bytes-end name bytes old (nat_lt longest_stream (length bytes)) refl there comes held
+
+may-save : (level set : ℕ) → is_set_of level set ≡ true → MaySaveUnder level set
+may-save level set e = record { level_le_set = grind (arith, nat_tests, e); set_le_newest = grind (arith, nat_tests, e) }
+
+saved-ends : (set : ℕ) (name : List ℕ) (old : Session) → MaySaveUnder old.board.level set → IsSound old.board → still old.board.level old.held → LineEnds (Saves set name) old
+saved-ends set name old may s held =
+    let back = streams_come_back.stream set old.board s may in
+    record {
+      text = saved_line (length (saved_stream set old.board));
+      new = record old { held = put old.held name (saved_stream set old.board) };
+      does = record { text_is = refl; board = refl; held = puts-under old.held name (saved_stream set old.board) };
+      held = λ other. either-comes old.board.level (bytes_eq other name) (saved_stream set old.board) (old.held other)
+          (Back back.back (length (saved_stream set old.board)), back.restores) (held other);
+    }
+
+line-ends : (line : ScriptLine) (old : Session) → IsLine (Some old.board.level) line → IsSound old.board → still old.board.level old.held → LineEnds line old
+line-ends (Happens event) old good s held = record {
+  text = trace_line (step event old.board).0;
+  new = record old { board = (step event old.board).1 };
+  does = record { text_is = refl; new_is = refl };
+  held = held;
+}
+line-ends (Saves set name) old good s held = saved-ends set name old (may-save old.board.level set good.0) s held
+line-ends (Loads name) old good s held = held-end name old (old.held name) refl (held name) held
+
+-- ---- scripts
+
+-- at a level that stays
+lines-end : (level : ℕ) (lines : List ScriptLine) (old : Session) → old.board.level ≡ level → AreLines (Some level) lines → IsSound old.board → still level old.held → HasAnEnd lines old
+lines-end level [] old at good s held = record { trace = []; new = old; plays = (refl, refl) }
+lines-end level (line ∷ lines) old at good s held =
+    let first = line-ends line old (subst (λ (l : ℕ). IsLine (Some l) line) (sym at) good.0) s (subst (λ (l : ℕ). still l old.held) (sym at) held) in
+    let same = line_level line old first.text first.new first.does ∙ at in
+    let rest = lines-end level lines first.new same good.1 (sessions_stay_sound.line (Some level) line old first.text first.new good.0 first.does s)
+    (subst (λ (l : ℕ). still l first.new.held) at first.held) in
+    record {
+      trace = first.text ++ rest.trace;
+      new = rest.new;
+      plays = (first.text, rest.trace, first.new, first.does, rest.plays, refl);
+    }
+
+pub sessions_end : SessionsEnd
+sessions_end = record {
+  ends = λ lines old good s held.
+      lines-end old.board.level lines old refl good s (λ name. held-comes old.board.level (old.held name) (held name));
+}

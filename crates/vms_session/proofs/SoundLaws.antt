@@ -1,0 +1,118 @@
+-- What is restored is sound, and so a session keeps its board sound.
+use Rattle.std.proofs.Common.{◌≡◌, ◌⊎◌, inl, inr, ℕ, zero, suc, ◌∙◌, Bool, true, false, List, [], ◌∷◌, map, Option, Some, None, refl, sym, ap, subst, nat_le}
+use Rattle.std.specs.Prelude.{slice_set}
+use Rattle.dev_base.specs.Levels.{IsLevel}
+use Rattle.dev_board.proofs.RestoredLaws.{restored_is_sound}
+use Rattle.dev_board.proofs.SoundLaws.{sound_stays_on}
+use Rattle.dev_board.specs.Laws.{IsEvent}
+use Rattle.dev_board.specs.Saved.{AreBoardCells}
+use Rattle.dev_board.specs.Sound.{IsSound}
+use Rattle.dev_board.specs.State.{State}
+use Rattle.dev_board.specs.declared.event.Event.{Event}
+use Rattle.dev_board.specs.declared.event.Event.TheVariants.{Read, Write, Byte, Wait, Wire, Ack}
+use Rattle.dev_images.proofs.NormalBoard.{normal_may_be_restored}
+use Rattle.dev_images.specs.Images.{cells_in}
+use Rattle.vms_desc.specs.Formed.{shipped_set}
+use Rattle.vms_script.specs.Grammar.{IsEvent as IsSpelled, IsLine, AreLines}
+use Rattle.vms_script.specs.Lines.{ScriptLine, Happens, Saves, Restores as Loads}
+use Rattle.vms_spec.specs.Images.{Image, IsNormal}
+use Rattle.vms_spec.specs.Lists.{at}
+use Rattle.vms_spec.specs.Sets.{Device, Set}
+use Rattle.vms_spec.specs.Streams.{AllCame, EachOnce}
+use Rattle.vms_units.specs.Streams.{HasSection, SectionsSpell}
+use Rattle.vms_board.specs.Restoring.{TakesBoard, Back, Refused, Restores}
+use Rattle.vms_session.specs.Laws.{SessionsStaySound}
+use Rattle.vms_session.specs.Session.{Session, IsTooLarge, IsLoaded, LoadsBytes, LoadsHeld, Does, Plays}
+
+-- ---- each device of a stream that is taken has a normal image
+
+none-left : (came : List Bool) (k : ℕ) → AllCame came → at came k ≡ Some false → ⊥
+none-left [] k all new = cc
+none-left (true ∷ came) zero all new = cc
+none-left (true ∷ came) (suc k) all new = none-left came k all new
+none-left (false ∷ came) k all new = absurd all
+
+set-or-same : (came : List Bool) (j k : ℕ) → (k ≡ j) ⊎ (at (slice_set came j true) k ≡ at came k)
+set-or-same [] j k = inr refl
+set-or-same (c ∷ came) zero zero = inl refl
+set-or-same (c ∷ came) zero (suc k) = inr refl
+set-or-same (c ∷ came) (suc j) zero = inr refl
+set-or-same (c ∷ came) (suc j) (suc k) = elim (set-or-same came j k) [ inl e ↦ inl (ap suc e) | inr e ↦ inr e ]
+
+not-yet : (devices : List Device) (k : ℕ) (d : Device) → at devices k ≡ Some d → at (map (λ (e : Device). false) devices) k ≡ Some false
+not-yet [] k d e = cc
+not-yet (x ∷ devices) zero d e = refl
+not-yet (x ∷ devices) (suc k) d e = not-yet devices k d e
+
+of-section : (set : Set) (footed : Bool) (k : ℕ) (device : Option Device) (found : Option Image) (bytes : List ℕ) (d : Device) (image : Image)
+    → HasSection set footed k device found bytes → device ≡ Some d → found ≡ Some image → IsNormal set d image
+of-section set footed k None found bytes d image h e f = absurd h
+of-section set footed k (Some x) None bytes d image h e f = absurd h
+of-section set footed k (Some x) (Some y) bytes d image h e f =
+    let same : x ≡ d = cc in
+    let alike : y ≡ image = cc in
+    subst (λ (z : Device). IsNormal set z image) same (subst (λ (i : Image). IsNormal set x i) alike h.1.normal)
+
+normal-in : (set : Set) (footed : Bool) (images : List Image) (order : List ℕ) (came : List Bool) (bytes : List ℕ)
+    → EachOnce came order → SectionsSpell set footed images order bytes → (k : ℕ) (d : Device) (image : Image)
+    → at came k ≡ Some false → at set.devices k ≡ Some d → at images k ≡ Some image → IsNormal set d image
+normal-in set footed images [] came bytes once spelled k d image new here there = absurd (none-left came k once new)
+normal-in set footed images (j ∷ order) came bytes once spelled k d image new here there =
+    elim (set-or-same came j k) [
+      | inl e ↦ of-section set footed j (at set.devices j) (at images j) spelled.0 d image spelled.2
+          (ap (at set.devices) (sym e) ∙ here) (ap (at images) (sym e) ∙ there)
+      | inr e ↦ normal-in set footed images order (slice_set came j true) spelled.1 once.1 spelled.3 k d image (e ∙ new) here there
+    ]
+
+pub taken_may_be_restored : (level : ℕ) (bytes : List ℕ) (taken : ℕ) (images : List Image) → TakesBoard level bytes taken images → AreBoardCells (cells_in images)
+taken_may_be_restored level bytes taken images t =
+    let stream = t.1.stream in
+    normal_may_be_restored.cells images stream.one_each (λ k d image here there.
+    normal-in (shipped_set 4) stream.footed images stream.order (map (λ (e : Device). false) (shipped_set 4).devices) stream.sections
+    stream.each_once stream.spelled k d image (not-yet (shipped_set 4).devices k d here) here there)
+
+pub back_is_sound : (level : ℕ) (bytes : List ℕ) (m : State) (taken : ℕ) → IsLevel level → Restores level bytes (Back m taken) → IsSound m
+back_is_sound level bytes m taken l r =
+    restored_is_sound.sound level (cells_in r.0) m l (taken_may_be_restored level bytes taken r.0 r.1) r.2
+
+-- ---- lines
+
+event-is : (event : Event) → IsSpelled event → IsEvent event
+event-is (Read port) h = tt
+event-is (Write port value) h = h.1
+event-is (Byte value) h = h
+event-is (Wait ns) h = tt
+event-is (Wire input up) h = h
+event-is Ack h = tt
+
+line-event : (play : Option ℕ) (event : Event) → IsLine play (Happens event) → IsSpelled event
+line-event None event h = h
+line-event (Some level) event h = h
+
+same-board : (old new : Session) → new.board ≡ old.board → IsSound old.board → IsSound new.board
+same-board old new e s = subst IsSound (sym e) s
+
+bytes-sound : (bytes : List ℕ) (old : Session) (text : List ℕ) (new : Session) → LoadsBytes bytes old text new → IsSound old.board → IsSound new.board
+bytes-sound bytes old text new (IsTooLarge long left) s = same-board old new (ap (λ (z : Session). z.board) left.new_is) s
+bytes-sound bytes old text new (IsLoaded (Back m taken) few restores left) s =
+    subst IsSound (sym (ap (λ (z : Session). z.board) left.new_is)) (back_is_sound old.board.level bytes m taken s.devices.level restores)
+bytes-sound bytes old text new (IsLoaded (Refused place section reason) few restores left) s =
+    same-board old new (ap (λ (z : Session). z.board) left.new_is) s
+
+held-sound : (held : Option (List ℕ)) (old : Session) (text : List ℕ) (new : Session) → LoadsHeld held old text new → IsSound old.board → IsSound new.board
+held-sound None old text new left s = same-board old new (ap (λ (z : Session). z.board) left.new_is) s
+held-sound (Some bytes) old text new loads s = bytes-sound bytes old text new loads s
+
+pub line_sound : (play : Option ℕ) (line : ScriptLine) (old : Session) (text : List ℕ) (new : Session) → IsLine play line → Does line old text new → IsSound old.board → IsSound new.board
+line_sound play (Happens event) old text new good does s =
+    subst IsSound (sym (ap (λ (z : Session). z.board) does.new_is)) (sound_stays_on.event event old.board (event-is event (line-event play event good)) s)
+line_sound play (Saves set name) old text new good does s = same-board old new does.board s
+line_sound play (Loads name) old text new good does s = held-sound (old.held name) old text new does s
+
+lines-sound : (play : Option ℕ) (lines : List ScriptLine) (old : Session) (trace : List ℕ) (new : Session) → AreLines play lines → Plays lines old trace new → IsSound old.board → IsSound new.board
+lines-sound play [] old trace new good plays s = same-board old new (ap (λ (z : Session). z.board) plays.1) s
+lines-sound play (line ∷ lines) old trace new good plays s =
+    lines-sound play lines plays.2 plays.1 new good.1 plays.4 (line_sound play line old plays.0 plays.2 good.0 plays.3 s)
+
+pub sessions_stay_sound : SessionsStaySound
+sessions_stay_sound = record { line = line_sound; lines = lines-sound }
