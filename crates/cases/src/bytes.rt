@@ -1,4 +1,4 @@
-// Rows of bytes: hexadecimal, `$NAME` for a row of the topic, `@CASE` for what an earlier case has put out, and parts of these.
+// Rows of bytes: hexadecimal, `$NAME` for a row of the topic, `@NAME` for a file or for what an earlier case has put out, and parts of these.
 
 use crate::entry::Entry;
 use anyhow::{Context, Result, bail};
@@ -13,7 +13,7 @@ pub(crate) type Named = BTreeMap<String, Vec<u8>>;
 pub(crate) struct Known<'a> {
     /// The rows of the topic.
     pub rows: Option<Entry<'a>>,
-    /// What the cases so far have put out.
+    /// The files of the topic, and what the cases so far have put out.
     pub outs: Named,
 }
 
@@ -35,7 +35,7 @@ impl Known<'_> {
         }
         if let Some(name) = name.strip_prefix('@') {
             let out = self.outs.get(name);
-            let out = out.context(format_args!("no earlier case {name}"))?;
+            let out = out.context(format_args!("no file or earlier case {name}"))?;
             return within(alloc, out, range);
         }
         digits(alloc, part)

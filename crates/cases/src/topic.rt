@@ -1,6 +1,6 @@
 // A topic: its cases are run, and those that differ are printed.
 
-use crate::bytes::Known;
+use crate::bytes::{Known, Named};
 use crate::case::{Case, Shared};
 use crate::entry::Entry;
 use crate::runs::{difference, runs};
@@ -27,7 +27,7 @@ pub(crate) fn is_as_wanted<R: Files + AllocGlobal + Print>(rt: &R, name: &str) -
     let text = fs::read_to_string(rt, path.as_str()).context(format_args!("reading {path}"))?;
     let table = toml::table_from_str(alloc, &text).context(format_args!("in {path}"))?;
     let topic = Entry::new(&table);
-    topic.has_only(&["about", "wrong", "words", "bytes", "shelf", "case"])?;
+    topic.has_only(&["about", "wrong", "words", "bytes", "files", "shelf", "case"])?;
     let mut shared = shared(rt, topic).context(format_args!("in {path}"))?;
     let mut differences = String::new(alloc);
     let mut tally = Tally::default();
@@ -51,7 +51,7 @@ fn shared<'a, R: Files + AllocGlobal>(rt: &R, topic: Entry<'a>) -> Result<Shared
     let alloc = rt.alloc();
     let known = Known {
         rows: topic.entry("bytes")?,
-        outs: BTreeMap::new(alloc),
+        outs: files(rt, topic.entry("files")?)?,
     };
     let shelf = with(rt, &known, topic.entry("shelf")?, &BTreeMap::new(alloc))?;
     let words = match topic.texts(alloc, "words")? {
@@ -63,6 +63,20 @@ fn shared<'a, R: Files + AllocGlobal>(rt: &R, topic: Entry<'a>) -> Result<Shared
         shelf,
         known,
     })
+}
+
+// The bytes of the files beside the topics that a table names.
+fn files<R: Files + AllocGlobal>(rt: &R, table: Option<Entry>) -> Result<Named> {
+    let alloc = rt.alloc();
+    let mut files = BTreeMap::new(alloc);
+    if let Some(table) = table {
+        for name in table.names(alloc)? {
+            let file = table.text(name)?.context("no file under a name")?;
+            let bytes = fs::read(rt, file).context(format_args!("reading {file}"))?;
+            files.insert(String::from_str(alloc, name)?, bytes)?;
+        }
+    }
+    Ok(files)
 }
 
 // Runs a case up to its first difference, and keeps what it puts out under its name.

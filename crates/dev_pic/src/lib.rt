@@ -19,6 +19,3 @@ pub use laws::{
     rules_law, saved_law, service_law, steps_law, winner_law,
 };
 pub use pair::PicPair;
-
-#[cfg(test)]
-mod tests;

@@ -21,8 +21,3 @@ pub use laws::{
     restored_law, rules_law, saved_law, sound_law, terminal_count_law, ticks_law,
 };
 pub use pit::Pit;
-
-#[cfg(test)]
-mod restore_tests;
-#[cfg(test)]
-mod tests;

@@ -26,6 +26,3 @@ pub use laws::{
     ring_law, rules_law, saved_law, sending_law, sound_law, time_law,
 };
 pub use serial::Serial;
-
-#[cfg(test)]
-mod tests;

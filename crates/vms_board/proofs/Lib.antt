@@ -1,4 +1,3 @@
 pub mod Imaging
 pub mod Restoring
 pub mod SavedCells
-pub mod TakenImages

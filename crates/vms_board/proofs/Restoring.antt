@@ -1,5 +1,5 @@
 -- What a load brings to a board.
-use Rattle.std.proofs.Common.{◌≡◌, inl, inr, ℕ, zero, suc, ◌-◌, ◌<◌, ◌≤◌, List, [], ◌∷◌, length, get_or, map, Option, Some, None, IsSome, IfSome, Ok, Err, Result, refl, sym, ap, ◌∙◌, subst, arith}
+use Rattle.std.proofs.Common.{◌≡◌, inl, inr, ℕ, zero, suc, ◌-◌, ◌<◌, ◌≤◌, List, [], ◌∷◌, length, get_or, Option, Some, None, IfSome, Ok, Err, Result, refl, sym, ap, ◌∙◌, subst, arith}
 use Rattle.std.proofs.lemmas.Bool.{leb-true}
 use Rattle.dev_base.specs.Levels.{IsLevel}
 use Rattle.dev_base.specs.declared.limits.TheConstants.{NEWEST}
@@ -9,18 +9,23 @@ use Rattle.dev_images.proofs.NormalBoard.{normal_may_be_restored}
 use Rattle.dev_images.specs.Images.{cells_in}
 use Rattle.vms_desc.specs.Described.{device_at}
 use Rattle.vms_desc.specs.Formed.{shipped_set}
+use Rattle.vms_frames.proofs.HeardLemmas.{heard_as}
 use Rattle.vms_frames.specs.declared.fault.Refusal.{Refusal}
+use Rattle.vms_check.proofs.ListLaws.{at_get}
+use Rattle.vms_image.specs.Typed.{Typed, AreImagesOf}
+use Rattle.vms_load.specs.Good.{AreKept}
+use Rattle.vms_load.specs.Hearing.{HearsLoad}
 use Rattle.vms_load.specs.Loads.{Loads}
-use Rattle.vms_load.specs.Staging.{accepted_of, name_of, AreShaped, no_image}
+use Rattle.vms_load.specs.Staging.{accepted_of, name_of}
+use Rattle.vms_load.specs.declared.fault.LoadFault.{LoadFault}
 use Rattle.vms_load.specs.declared.fault.LoadFault.TheVariants as loads
 use Rattle.vms_spec.specs.Images.{Image}
 use Rattle.vms_spec.specs.Layout.{device_cells, first}
+use Rattle.vms_spec.specs.Lists.{at}
 use Rattle.vms_spec.specs.Sets.{Set}
 use Rattle.vms_units.specs.Faults.{Fault}
 use Rattle.vms_units.specs.Streams.{Takes}
-use Rattle.vms_board.proofs.TakenImages.{taken_kept}
-use Rattle.vms_board.specs.Comes.{ComesTo, HasCause, Takings, IsUnfit}
-use Rattle.vms_board.specs.Restoring.{TakesBoard}
+use Rattle.vms_board.specs.Comes.{ComesTo, HearsBoard, Takings, HearsTakings, IsUnfit, refusal_of}
 use Rattle.vms_board.specs.Saving.{machine_of}
 use Rattle.vms_board.specs.Standing.{Standing}
 use Rattle.vms_board.specs.declared.restore.RestoreFault.{RestoreFault}
@@ -64,14 +69,23 @@ fault_so level None left images taken = tt
 fault_so level (Some input) left images taken = tt
 
 -- the images of a stream that is taken are normal, so they have the cells that a board may be restored from
-taken-cells : (level : ℕ) (input : List ℕ) (taken : ℕ) (images : List Image) → TakesBoard level input taken images → AreBoardCells (cells_in images)
-taken-cells level input taken images t =
-    let are = taken_kept (shipped_set NEWEST) (machine_of level ∷ []) input taken t.0 images t.1 in
+pub kept_cells : (set : Set) (images : List Image) → set ≡ shipped_set NEWEST → AreKept set images → AreBoardCells (cells_in images)
+kept_cells set images e kept =
+    let are = subst (λ (s : Set). AreKept s images) e kept in
     normal_may_be_restored.cells images are.one_each (λ k d image there here. (are.each k d image there here).normal)
 
-pub told_cells : (level : ℕ) (old left : Option (List ℕ)) (images : List Image) (taken : ℕ) → IsSome old → IfSome old (λ input. Takings level input left images taken (Ok tt)) → AreBoardCells (cells_in images)
-told_cells level None left images taken told h = cc
-told_cells level (Some input) left images taken told h = taken-cells level input taken images h.0
+-- the same, heard
+pub heard_taken : (level number : ℕ) (set : Set) (before now : ℕ) (images : List Image) (taken : ℕ) (machine : Option ℕ) → IsLevel level → number ≡ level - 1 → set ≡ shipped_set NEWEST
+    → HearsLoad set (accepted_of set (Some number)) before now images taken (Ok machine) → HearsTakings level before now images taken (Ok tt)
+heard_taken level number set before now images taken machine h e f heard =
+    heard_as (λ more. more ≡ []) before now (λ old left loaded. taken_so level number set old left images taken machine h e f loaded) heard
+
+pub heard_refused : (level number : ℕ) (set : Set) (before now : ℕ) (images : List Image) (taken : ℕ) (fault : LoadFault) (r : Refusal) → IsLevel level → number ≡ level - 1 → set ≡ shipped_set NEWEST → fault ≡ loads.Refused r
+    → HearsLoad set (accepted_of set (Some number)) before now images taken (Err fault) → HearsTakings level before now images taken (Err (faults.Refused r))
+heard_refused level number set before now images taken fault r h e f is heard =
+    let refused : HearsLoad set (accepted_of set (Some number)) before now images taken (Err (loads.Refused r)) =
+    subst (λ (x : LoadFault). HearsLoad set (accepted_of set (Some number)) before now images taken (Err x)) is heard in
+    heard_as (λ more. more ≡ []) before now (λ old left loaded. refused_so level number set old left images taken r h e f loaded) refused
 
 -- ---- what comes of it
 
@@ -104,15 +118,35 @@ comes_unfit level new (Some input) left images taken fault u h =
     subst (λ (f : RestoreFault). ComesTo level new input left (Err f)) (sym u.fault_is)
     (inr (record { images = images; taken = h.0; misfit = u.misfit; fails = u.fails; section_is = refl; reason_is = refl }, h.1))
 
-pub cause_unfit : (level before now taken : ℕ) (images : List Image) (fault : RestoreFault) → before ≤ now → IsUnfit level taken images fault → HasCause before now (Err fault)
-cause_unfit level before now taken images fault l u = subst (λ (f : RestoreFault). HasCause before now (Err f)) (sym u.fault_is) l
+-- ---- the same, heard
+
+pub hears_back : (own level before now : ℕ) (images : List Image) (taken : ℕ) (m : State) (count : ℕ) → level ≡ own → count ≡ taken → restored level (cells_in images) ≡ Ok m
+    → HearsTakings level before now images taken (Ok tt) → HearsBoard own before now (record { state = m; taken = count }) (Ok tt)
+hears_back own level before now images taken m count l e f heard =
+    heard_as (λ more. more ≡ []) before now (λ old left h. comes_back own level old left images taken m count l e f h) heard
+
+heard-fault : (level before now : ℕ) (new : Standing) (images : List Image) (taken : ℕ) (fault : RestoreFault)
+    → HearsTakings level before now images taken (Err fault) → HearsBoard level before now new (Err fault)
+heard-fault level before now new images taken (faults.Refused r) heard =
+    heard_as (λ more. more ≡ []) before now (λ old left h. came-fault level new old left images taken (faults.Refused r) h) heard
+heard-fault level before now new images taken faults.ReadFault heard = tt
+
+pub hears_fault : (own level before now : ℕ) (new : Standing) (images : List Image) (taken : ℕ) (fault : RestoreFault) (r : Result (Unit {0}) RestoreFault) → level ≡ own → r ≡ Err fault
+    → HearsTakings level before now images taken (Err fault) → HearsBoard own before now new r
+hears_fault own level before now new images taken fault r l e heard =
+    subst (λ (x : Result (Unit {0}) RestoreFault). HearsBoard own before now new x) (sym e)
+    (subst (λ (k : ℕ). HearsBoard k before now new (Err fault)) l (heard-fault level before now new images taken fault heard))
+
+pub hears_unfit : (own level before now : ℕ) (new : Standing) (images : List Image) (taken : ℕ) (fault : RestoreFault) (r : Result (Unit {0}) RestoreFault) → level ≡ own → r ≡ Err fault
+    → IsUnfit level taken images fault → HearsTakings level before now images taken (Ok tt) → HearsBoard own before now new r
+hears_unfit own level before now new images taken fault r l e u heard =
+    let refused : HearsBoard level before now new (Err (faults.Refused (refusal_of taken u.misfit))) =
+    heard_as (λ more. more ≡ []) before now
+    (λ old left h. subst (λ (f : RestoreFault). IfSome old (λ input. ComesTo level new input left (Err f))) u.fault_is (comes_unfit level new old left images taken fault u h)) heard in
+    subst (λ (x : Result (Unit {0}) RestoreFault). HearsBoard own before now new x) (sym e)
+    (subst (λ (k : ℕ). HearsBoard k before now new (Err fault)) l (subst (λ (f : RestoreFault). HearsBoard level before now new (Err f)) (sym u.fault_is) refused))
 
 -- ---- the cells of images
-
-length-numbers : (images : List Image) (k : ℕ) → k < length images → get_or (map (λ image. image.numbers) images) k [] ≡ (get_or images k no_image).numbers
-length-numbers [] k lt = absurd (omega (arith, lt))
-length-numbers (i ∷ images) zero lt = refl
-length-numbers (i ∷ images) (suc k) lt = length-numbers images k (omega (arith, lt))
 
 few : (k : ℕ) → k < 5 → length (device_cells (shipped_set NEWEST) (device_at (shipped_set NEWEST) k)) ≤ 96
 unfolding first
@@ -124,11 +158,13 @@ few (suc (suc (suc (suc zero)))) lt = leb-true (length (device_cells (shipped_se
 few (suc (suc (suc (suc (suc k))))) lt = absurd (omega (arith, lt))
 
 -- there are five images, each with room for its numbers among those of a device
-pub five_of : (images : List Image) → AreShaped (shipped_set NEWEST) images → length images ≡ 5
-five_of images s = s.all
+five_of : (images : List Typed) → AreImagesOf (shipped_set NEWEST) images → length images ≡ 5
+five_of images s = s.one_each
 
-pub room : (images : List Image) (k : ℕ) → AreShaped (shipped_set NEWEST) images → k < 5 → length (get_or images k no_image).numbers ≤ 96
-room images k s lt = let n = (s.each k lt).numbers in let most = few k lt in omega (arith, n, most)
-
-pub numbers_there : (images : List Image) (k : ℕ) → AreShaped (shipped_set NEWEST) images → k < 5 → get_or (map (λ image. image.numbers) images) k [] ≡ (get_or images k no_image).numbers
-numbers_there images k s lt = let five = five_of images s in length-numbers images k (omega (arith, five, lt))
+pub room : (images : List Typed) (k : ℕ) (image : Typed) → AreImagesOf (shipped_set NEWEST) images → k < 5 → image ≡ get_or images k image → length image.numbers ≤ 96
+room images k image s lt is =
+    let five = five_of images s in
+    let here : at images k ≡ Some image = at_get images k image (omega (arith, five, lt)) ∙ ap (λ (i : Typed). Some i) (sym is) in
+    let n = (s.each k image here).cells in
+    let most = few k lt in
+    omega (arith, n, most)

@@ -1,5 +1,5 @@
 -- The cells of a board that is saved, and its machine, under the shipped sets.
-use Rattle.std.proofs.Common.{◌≡◌, ℕ, zero, suc, ◌-◌, ◌<◌, ◌≤◌, List, [], ◌∷◌, length, get_or, Option, Some, Result, Ok, Err, ℤ, refl, sym, ap, ◌∙◌, subst, arith}
+use Rattle.std.proofs.Common.{◌≡◌, ℕ, zero, suc, ◌-◌, ◌<◌, ◌≤◌, List, [], ◌∷◌, length, get_or, map, Option, Some, Result, Ok, Err, ℤ, pos, refl, sym, ap, ◌∙◌, subst, arith}
 use Rattle.std.specs.Io.KnownBytes.{Appends}
 use Rattle.dev_board.specs.Saved.{saved, MaySaveUnder}
 use Rattle.dev_board.specs.Sound.{IsSound}
@@ -10,13 +10,18 @@ use Rattle.dev_images.proofs.BoardReady.{saved_are_ready}
 use Rattle.vms_desc.specs.Described.{device_at}
 use Rattle.vms_desc.specs.Formed.{shipped_set}
 use Rattle.vms_check.proofs.ListLaws.{at_get}
-use Rattle.vms_spec.specs.Images.{Image}
-use Rattle.vms_spec.specs.Layout.{device_cells}
+use Rattle.vms_desc.specs.Spots.{kinds_at}
+use Rattle.vms_kinds.specs.Codes.{InRange}
+use Rattle.vms_kinds.specs.declared.Kind.{Kind}
+use Rattle.vms_kinds.specs.declared.Kind.TheVariants.{U8}
+use Rattle.std.proofs.lemmas.List.{length-map, get_or-map}
+use Rattle.vms_spec.specs.Images.{Image, FitCells}
+use Rattle.vms_spec.specs.Layout.{Cell, no_cell, device_cells}
 use Rattle.vms_spec.specs.Lists.{at}
 use Rattle.vms_spec.specs.Sets.{Set}
 use Rattle.vms_selfdesc.specs.Tree.{described_text}
 use Rattle.vms_spec.specs.Streams.{written, AreReady}
-use Rattle.vms_board.specs.Imaging.{HasCells}
+use Rattle.vms_board.specs.Imaging.{FitDevice, HasCells}
 use Rattle.vms_io.specs.Causes.{AppendsPrefix, Rose}
 use Rattle.vms_io.specs.Told.{Outlet}
 use Rattle.vms_board.specs.Saving.{machine_of, saved_stream, Saves}
@@ -26,13 +31,31 @@ use Rattle.vms_board.proofs.Imaging.{five, five_images}
 
 -- ---- cells
 
-long-at : (set : Set) (a b c d e : List ℤ) → length set.devices ≡ 5 → AreReady set (five set a b c d e) → (k : ℕ) → k < 5 → length (get_or (a ∷ b ∷ c ∷ d ∷ e ∷ []) k []) ≡ length (device_cells set (device_at set k))
-long-at set a b c d e l r zero lt = (r.ready 0 (device_at set 0) (image_of set (device_at set 0) a) (at_get set.devices 0 _ (omega (arith, l))) refl).normal.cells.long
-long-at set a b c d e l r (suc zero) lt = (r.ready 1 (device_at set 1) (image_of set (device_at set 1) b) (at_get set.devices 1 _ (omega (arith, l))) refl).normal.cells.long
-long-at set a b c d e l r (suc (suc zero)) lt = (r.ready 2 (device_at set 2) (image_of set (device_at set 2) c) (at_get set.devices 2 _ (omega (arith, l))) refl).normal.cells.long
-long-at set a b c d e l r (suc (suc (suc zero))) lt = (r.ready 3 (device_at set 3) (image_of set (device_at set 3) d) (at_get set.devices 3 _ (omega (arith, l))) refl).normal.cells.long
-long-at set a b c d e l r (suc (suc (suc (suc zero)))) lt = (r.ready 4 (device_at set 4) (image_of set (device_at set 4) e) (at_get set.devices 4 _ (omega (arith, l))) refl).normal.cells.long
-long-at set a b c d e l r (suc (suc (suc (suc (suc k))))) lt = absurd (omega (arith, lt))
+-- numbers that fit a device's cells are of their kinds
+kind-at : (cells : List Cell) (c : ℕ) → c < length cells → get_or (map (λ x. x.kind) cells) c U8 ≡ (get_or cells c no_cell).kind
+kind-at cells c lt = get_or-map (λ x. x.kind) cells c no_cell U8 lt
+
+fit-device : (set : Set) (k : ℕ) (numbers : List ℤ) → FitCells (device_cells set (device_at set k)) numbers → FitDevice set k numbers
+fit-device set k numbers f =
+    let cells = device_cells set (device_at set k) in
+    let same : length (kinds_at set k) ≡ length cells = length-map cells (λ x. x.kind) in
+    record {
+      long = f.long;
+      fits = record {
+        long = f.long ∙ sym same;
+        fits = λ c lt.
+            let within : c < length cells = omega (arith, lt, same) in
+            subst (λ (kind : Kind). InRange kind (get_or numbers c (pos 0))) (sym (kind-at cells c within)) (f.fits c within).0;
+      };
+    }
+
+fit-at : (set : Set) (a b c d e : List ℤ) → length set.devices ≡ 5 → AreReady set (five set a b c d e) → (k : ℕ) → k < 5 → FitDevice set k (get_or (a ∷ b ∷ c ∷ d ∷ e ∷ []) k [])
+fit-at set a b c d e l r zero lt = fit-device set 0 a (r.ready 0 (device_at set 0) (image_of set (device_at set 0) a) (at_get set.devices 0 _ (omega (arith, l))) refl).normal.cells
+fit-at set a b c d e l r (suc zero) lt = fit-device set 1 b (r.ready 1 (device_at set 1) (image_of set (device_at set 1) b) (at_get set.devices 1 _ (omega (arith, l))) refl).normal.cells
+fit-at set a b c d e l r (suc (suc zero)) lt = fit-device set 2 c (r.ready 2 (device_at set 2) (image_of set (device_at set 2) c) (at_get set.devices 2 _ (omega (arith, l))) refl).normal.cells
+fit-at set a b c d e l r (suc (suc (suc zero))) lt = fit-device set 3 d (r.ready 3 (device_at set 3) (image_of set (device_at set 3) d) (at_get set.devices 3 _ (omega (arith, l))) refl).normal.cells
+fit-at set a b c d e l r (suc (suc (suc (suc zero)))) lt = fit-device set 4 e (r.ready 4 (device_at set 4) (image_of set (device_at set 4) e) (at_get set.devices 4 _ (omega (arith, l))) refl).normal.cells
+fit-at set a b c d e l r (suc (suc (suc (suc (suc k))))) lt = absurd (omega (arith, lt))
 
 pub five_devices : (s : ℕ) → 1 ≤ s → length (shipped_set s).devices ≡ 5
 five_devices zero l = absurd (omega (arith, l))
@@ -42,7 +65,7 @@ five_devices (suc (suc (suc zero))) l = refl
 five_devices (suc (suc (suc (suc s)))) l = refl
 
 has-cells : (set : Set) (a b c d e : List ℤ) → length set.devices ≡ 5 → AreReady set (five set a b c d e) → HasCells set (a ∷ b ∷ c ∷ d ∷ e ∷ [])
-has-cells set a b c d e l r = record { devices = l; long = long-at set a b c d e l r }
+has-cells set a b c d e l r = record { devices = l; each = fit-at set a b c d e l r }
 
 pub saved_ready : (s : ℕ) (m : State) → IsSound m → MaySaveUnder m.level s → AreReady (shipped_set s) (saved_images s m)
 saved_ready s m sound may = saved_are_ready.images s m sound may

@@ -1,10 +1,11 @@
 -- What a restore of a board from a source answers.
-use Rattle.std.specs.Prelude.{◌≡◌, ◌⊎◌, ℕ, ◌+◌, ◌≤◌, List, drop, Option, Some, Result, Ok, Err}
+use Rattle.std.specs.Prelude.{◌≡◌, ◌⊎◌, ℕ, ◌+◌, ◌≤◌, List, drop, Option, Some, Result, Ok, Err, IfSome}
 use Rattle.dev_base.specs.declared.limits.TheConstants.{NEWEST}
 use Rattle.dev_board.specs.Saved.{restored}
 use Rattle.dev_board.specs.declared.misfit.Misfit.{Misfit}
 use Rattle.dev_images.specs.Images.{cells_in}
 use Rattle.vms_desc.specs.Formed.{shipped_set}
+use Rattle.vms_frames.specs.Heard.{HeardLast}
 use Rattle.vms_frames.specs.declared.fault.Refusal.{Refusal}
 use Rattle.vms_io.specs.Causes.{Rose, capped}
 use Rattle.vms_load.specs.Staging.{most_given}
@@ -39,6 +40,18 @@ abbrev pub GivesWithin : ℕ → ℕ → ℕ → Result Unit RestoreFault → Ty
 GivesWithin before now taken (Ok u) = (now ≡ capped (before + taken)) × (taken ≤ most_given (shipped_set NEWEST))
 GivesWithin before now taken (Err e) = now ≤ before + most_given (shipped_set NEWEST)
 
+-- what a call hears of its source, by what it answers; of a read fault nothing is said
+abbrev pub Hears : ℕ → ℕ → (Option (List ℕ) → Option (List ℕ) → Type 0) → Result Unit RestoreFault → Type 0
+Hears before now said (Ok u) = HeardLast before now said
+Hears before now said (Err (faults.Refused r)) = HeardLast before now said
+Hears before now said (Err faults.ReadFault) = Unit {0}
+
+-- Whether or not the source tells its bytes: there are bytes, as many as were given, of which the answer is what it is where
+-- they are all that is left.
+abbrev pub HearsBoard : ℕ → ℕ → ℕ → Standing → Result Unit RestoreFault → Type 0
+HearsBoard level before now new result =
+    Hears before now (λ old left. IfSome old (λ input. ComesTo level new input left result)) result
+
 -- ---- the parts of a restore
 
 -- at Ok the input takes a stream with these images, and its bytes are taken; a refusal is the fault of the input
@@ -47,6 +60,10 @@ Takings level input left images taken (Ok u) = TakesBoard level input taken imag
 Takings level input left images taken (Err (faults.Refused r)) =
     (fault : IsFaultAt level input r.at r.section r.reason) × (left ≡ Some (drop (r.at + fault.0) input))
 Takings level input left images taken (Err faults.ReadFault) = Unit {0}
+
+abbrev pub HearsTakings : ℕ → ℕ → ℕ → List Image → ℕ → Result Unit RestoreFault → Type 0
+HearsTakings level before now images taken result =
+    Hears before now (λ old left. IfSome old (λ input. Takings level input left images taken result)) result
 
 -- the refusal of a stream of this length whose images are no board's
 abbrev pub refusal_of : ℕ → Misfit → Refusal

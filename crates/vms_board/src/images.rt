@@ -2,8 +2,10 @@
 ghost use Rattle.std.specs.Prelude.{◌≡◌, ◌<◌, ◌≤◌, None, length, map, IfOk};
 ghost use Rattle.vms_desc.specs.Described.{described, device_at};
 ghost use Rattle.vms_spec.specs.Layout.{device_cells};
-ghost use Rattle.dev_images.specs.Images.{image_of, images_of, lists_of, needed_from};
-ghost use Rattle.vms_board.specs.Imaging.{HasCells, needed_at, none_of};
+ghost use Rattle.dev_images.specs.Images.{images_of, lists_of, needed_from};
+ghost use Rattle.vms_image.specs.Typed.{AreImagesOf, state_of};
+ghost use Rattle.vms_spots.specs.Spots.{AreOf};
+ghost use Rattle.vms_board.specs.Imaging.{FitDevice, HasCells, needed_at, none_of, typed_of};
 
 use dev_board::BoardCells;
 use std::alloc::Global;
@@ -18,9 +20,10 @@ pub(crate) fn images(
     cells: &BoardCells,
 ) -> Result<Vec<Image>, NoMemory>
     requires { HasCells (described set.now) (lists_of cells.now) }
-    ensures { let lists = lists_of cells.now in
+    ensures states { let lists = lists_of cells.now in
         let all = images_of (described set.now) (described set.now).devices lists in
-        IfOk result (λ images. images.items ≡ all) }
+        IfOk result (λ images. map state_of images.items ≡ all) }
+    ensures of { IfOk result (λ images. AreImagesOf (described set.now) images.items) }
 {
     Ok(vec![in alloc;
         image(alloc, set, 0, &cells.timer)?,
@@ -34,11 +37,9 @@ pub(crate) fn images(
 // The image of a device with these numbers.
 fn image(alloc: Global, set: &DescSet, device: u32, numbers: &[i128]) -> Result<Image, NoMemory>
     requires device { device < length (described set.now).devices }
-    requires long { let d = device_at (described set.now) device in
-        length numbers.now ≡ length (device_cells (described set.now) d) }
+    requires fit { FitDevice (described set.now) device numbers.now }
     requires few { length numbers.now ≤ 96 }
-    ensures { let d = device_at (described set.now) device in
-        IfOk result (λ image. image ≡ image_of (described set.now) d numbers.now) }
+    ensures { IfOk result (λ image. image ≡ typed_of (described set.now) device numbers.now) }
 {
     let mut image = Image::new(alloc, set, device)?;
     put_numbers(&mut image, numbers);
@@ -49,6 +50,7 @@ fn image(alloc: Global, set: &DescSet, device: u32, numbers: &[i128]) -> Result<
 // Puts these numbers into the cells of an image.
 fn put_numbers(image: &mut Image, numbers: &[i128])
     requires long { length numbers.now ≡ length image.old.numbers }
+    requires fits { AreOf image.old.kinds numbers.now }
     requires few { length numbers.now ≤ 96 }
     ensures { image.new ≡ record image.old { numbers = numbers.now } }
 {
@@ -65,7 +67,8 @@ fn mark_needed(set: &DescSet, device: u32, image: &mut Image)
     requires few { length image.old.numbers ≤ 96 }
     requires none { image.old.came ≡ none_of (device_at (described set.now) device).subs }
     ensures { let d = device_at (described set.now) device in
-        image.new ≡ record image.old { came = needed_from (described set.now) d image.old 0 d.subs } }
+        let came = needed_from (described set.now) d (state_of image.old) 0 d.subs in
+        image.new ≡ record image.old { came = came } }
 {
     for sub in 0..set.sub_count(device) {
         let version = needed(set, device, sub, image);
@@ -81,7 +84,7 @@ fn needed(set: &DescSet, device: u32, sub: u32, image: &Image) -> Option<u32>
         length image.now.numbers ≡ length (device_cells (described set.now) d) }
     requires few { length image.now.numbers ≤ 96 }
     ensures { let d = device_at (described set.now) device in
-        result ≡ needed_at (described set.now) d image.now sub }
+        result ≡ needed_at (described set.now) d (state_of image.now) sub }
 {
     if set.is_needed(device, sub, image) {
         Some(set.desc(Part::Sub(device, sub)).version)

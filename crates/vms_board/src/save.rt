@@ -1,8 +1,9 @@
 // Saving a board.
-ghost use Rattle.std.specs.Prelude.{◌≡◌, ◌≤◌, IfOk};
+ghost use Rattle.std.specs.Prelude.{◌≡◌, ◌≤◌, map, IfOk};
 ghost use Rattle.dev_images.specs.Images.{saved_images};
 ghost use Rattle.vms_desc.specs.Described.{described};
 ghost use Rattle.vms_desc.specs.Formed.{shipped_set};
+ghost use Rattle.vms_image.specs.Typed.{AreImagesOf, state_of};
 ghost use Rattle.vms_io.specs.Told.{outlet};
 ghost use Rattle.vms_spec.specs.Streams.{AreReady};
 ghost use Rattle.vms_board.specs.Saving.{Saves, saved_stream};
@@ -69,8 +70,11 @@ impl Board {
     fn saved(&self, alloc: Global, set: u8, shipped: &DescSet) -> Result<Vec<Image>, NoMemory>
         requires may { MaySaveUnder self.now.state.level set }
         requires shipped { described shipped.now ≡ shipped_set set }
-        ensures images { IfOk result (λ images. images.items ≡ saved_images set self.now.state) }
-        ensures ready { IfOk result (λ images. AreReady (described shipped.now) images.items) }
+        ensures states { let saved = saved_images set self.now.state in
+            IfOk result (λ images. map state_of images.items ≡ saved) }
+        ensures of { IfOk result (λ images. AreImagesOf (described shipped.now) images.items) }
+        ensures ready { let set = described shipped.now in
+            IfOk result (λ images. AreReady set (map state_of images.items)) }
     {
         images(alloc, shipped, &self.devices.cells(set))
     }

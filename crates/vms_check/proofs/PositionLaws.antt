@@ -1,8 +1,8 @@
 -- The position of a field among the present ones is how many are present before it.
-use Rattle.std.proofs.Common.{◌≡◌, ℕ, zero, suc, ◌+◌, ◌<◌, ◌≤◌, List, [], ◌∷◌, ◌++◌, length, get_or, take, map, Bool, true, false, Option, Some, None, refl, sym, ap, ◌∙◌, arith}
+use Rattle.std.proofs.Common.{◌≡◌, ℕ, zero, suc, ◌+◌, ◌<◌, ◌≤◌, List, [], ◌∷◌, ◌++◌, length, get_or, take, map, replicate, Bool, true, false, Option, Some, None, refl, sym, ap, ◌∙◌, arith}
 use Rattle.std.specs.Prelude.{not, ◌==◌, if◌then◌else◌}
 use Rattle.std.proofs.lemmas.Bool.{eq-eqb, ne_eqb}
-use Rattle.std.proofs.lemmas.List.{length-map, take-map}
+use Rattle.std.proofs.lemmas.List.{length-map, map-append, take-map, take_more}
 use Rattle.vms_spec.specs.Layout.{no_field}
 use Rattle.vms_spec.specs.Sets.{Formula, Field}
 use Rattle.vms_parts.specs.declared.types.Field.{Field as CodeField}
@@ -107,15 +107,57 @@ beyond_is v fs k le = ap (position_from 0 (fields_from v 0 fs)) zero_plus ∙ be
 
 -- ---- as the code has it
 
-pub position_there : (v : ℕ) (fields : List CodeField) (k : ℕ) (f : CodeField) (present : Bool) (count : ℕ) → k < length fields → f ≡ get_or fields k f → present ≡ not (is_absent v (field_of f)) → present ≡ true
-    → count ≡ count_present v (map field_of (take k fields)) → Some count ≡ position_in v (map field_of fields) k
-position_there v fields k f present count lt is e there n =
-    ap Some (n ∙ ap (count_present v) (sym (take-map field_of k fields))) ∙ sym (there_is v (map field_of fields) k false (omega (arith, length-map fields field_of)) (ap (is_absent v) (get_map_at field_of fields k f no_field lt is) ∙ flipped (is_absent v (field_of f)) true (sym e ∙ there)))
+-- a table of no entries
+pub none_at : {A : Type 0} (n k : ℕ) → get_or (replicate {A = Option A} n None) k None ≡ None
+none_at zero k = refl
+none_at (suc n) zero = refl
+none_at (suc n) (suc k) = none_at n k
 
-pub position_absent : (v : ℕ) (fields : List CodeField) (k : ℕ) (f : CodeField) (present : Bool) → k < length fields → f ≡ get_or fields k f → present ≡ not (is_absent v (field_of f)) → present ≡ false
-    → None ≡ position_in v (map field_of fields) k
-position_absent v fields k f present lt is e absent =
-    sym (there_is v (map field_of fields) k true (omega (arith, length-map fields field_of)) (ap (is_absent v) (get_map_at field_of fields k f no_field lt is) ∙ flipped (is_absent v (field_of f)) false (sym e ∙ absent)))
+position_there : (v : ℕ) (fields : List CodeField) (k : ℕ) (f : CodeField) → k < length fields → f ≡ get_or fields k f → is_absent v (field_of f) ≡ false
+    → position_in v (map field_of fields) k ≡ Some (count_present v (map field_of (take k fields)))
+position_there v fields k f lt is e =
+    there_is v (map field_of fields) k false (omega (arith, length-map fields field_of)) (ap (is_absent v) (get_map_at field_of fields k f no_field lt is) ∙ e)
+    ∙ ap (λ (fs : List Field). Some (count_present v fs)) (take-map field_of k fields)
+
+position_absent : (v : ℕ) (fields : List CodeField) (k : ℕ) (f : CodeField) → k < length fields → f ≡ get_or fields k f → is_absent v (field_of f) ≡ true
+    → position_in v (map field_of fields) k ≡ None
+position_absent v fields k f lt is e =
+    there_is v (map field_of fields) k true (omega (arith, length-map fields field_of)) (ap (is_absent v) (get_map_at field_of fields k f no_field lt is) ∙ e)
+
+-- the entry of a field that is there or isn't
+pub entry_is : (v : ℕ) (fields : List CodeField) (k : ℕ) (f : CodeField) (is_there : Bool) (count : ℕ) → k < length fields → f ≡ get_or fields k f
+    → is_there ≡ not (is_absent v (field_of f)) → count ≡ count_present v (map field_of (take k fields))
+    → (if is_there then Some count else None) ≡ position_in v (map field_of fields) k
+entry_is v fields k f true count lt is e n =
+    ap Some n ∙ sym (position_there v fields k f lt is (flipped (is_absent v (field_of f)) true (sym e)))
+entry_is v fields k f false count lt is e n = sym (position_absent v fields k f lt is (flipped (is_absent v (field_of f)) false (sym e)))
+
+count-append : (v : ℕ) (fs gs : List Field) → count_present v (fs ++ gs) ≡ count_present v fs + count_present v gs
+count-append v [] gs = let e : count_present v gs ≡ 0 + count_present v gs = omega arith in e
+count-append v (f ∷ fs) gs = let one = if is_absent v f then 0 else 1 in
+    let plus : one + (count_present v fs + count_present v gs) ≡ (one + count_present v fs) + count_present v gs = omega arith in
+    ap (λ (n : ℕ). one + n) (count-append v fs gs) ∙ plus
+
+-- how many are there with one more field
+pub counted_is : (v : ℕ) (fields : List CodeField) (k : ℕ) (f : CodeField) (is_there : Bool) (count : ℕ) → k < length fields → f ≡ get_or fields k f
+    → is_there ≡ not (is_absent v (field_of f)) → count ≡ count_present v (map field_of (take k fields))
+    → (if is_there then suc count else count) ≡ count_present v (map field_of (take (k + 1) fields))
+counted_is v fields k f is_there count lt is e n =
+    by_case is_there e ∙ sym (ap (count_present v) (ap (map field_of) (take_more fields k f lt) ∙ map-append field_of (take k fields) (get_or fields k f ∷ []))
+    ∙ count-append v (map field_of (take k fields)) (field_of (get_or fields k f) ∷ [])
+    ∙ ap (λ (g : CodeField). count_present v (map field_of (take k fields)) + count_present v (field_of g ∷ [])) (sym is))
+  where
+    by_case : (b : Bool) → b ≡ not (is_absent v (field_of f)) → (if b then suc count else count) ≡ count_present v (map field_of (take k fields)) + count_present v (field_of f ∷ [])
+    by_case true h =
+        let one : suc count ≡ count_present v (map field_of (take k fields)) + (1 + 0) = omega (arith, n) in
+        one ∙ ap (λ (b : Bool). count_present v (map field_of (take k fields)) + ((if b then 0 else 1) + 0)) (sym (flipped (is_absent v (field_of f)) true (sym h)))
+    by_case false h =
+        let none : count ≡ count_present v (map field_of (take k fields)) + (0 + 0) = omega (arith, n) in
+        none ∙ ap (λ (b : Bool). count_present v (map field_of (take k fields)) + ((if b then 0 else 1) + 0)) (sym (flipped (is_absent v (field_of f)) false (sym h)))
+
+pub counted_small : (b : Bool) (count n : ℕ) → count ≤ n → (if b then suc count else count) ≤ n + 1
+counted_small true count n h = omega arith
+counted_small false count n h = omega arith
 
 pub position_beyond : (v : ℕ) (fields : List CodeField) (k : ℕ) → length fields ≤ k → None ≡ position_in v (map field_of fields) k
 position_beyond v fields k le = sym (beyond_is v (map field_of fields) k (omega (arith, length-map fields field_of)))

@@ -3,6 +3,7 @@ pub mod Comparing
 pub mod Fitting
 pub mod Laws
 pub mod Pairs
+pub mod Places
 pub mod Reducing
 pub mod Sides
 pub mod Wholes

@@ -4,10 +4,12 @@ ghost use Rattle.vms_desc.specs.Described.{described};
 ghost use Rattle.vms_parts.specs.Views.{formula};
 ghost use Rattle.vms_spec.specs.Lists.{every, some};
 ghost use Rattle.vms_check.specs.Pairs.{IsOn, all_fields_on, desc_mismatch, is_kept_test, is_left, pair_mismatch, struct_mismatch, validations_on};
+ghost use Rattle.vms_check.specs.Places.{ArePlaces};
 ghost use Rattle.vms_check.specs.Sides.{IsSide, as_reduced, is_whole_left};
 
 use crate::Mismatch;
 use crate::pairs::failing_rule;
+use crate::positions::{Places, places_on};
 use crate::present::{Present, next_present};
 use crate::reducing::{Left, reduce};
 use crate::same::same_reduced;
@@ -16,15 +18,16 @@ use vms_desc::{DescSet, Part, Test};
 use vms_kinds::Item;
 
 // Whether one of these old validations has become this.
-fn is_among(old: Side, new: Side, tests: &[Test], left: Left) -> bool
+fn is_among(old: Side, new: Side, places: &Places, tests: &[Test], left: Left) -> bool
     requires old { IsSide old }
     requires new { IsSide new }
+    requires places { ArePlaces old new places.now }
     requires whole { is_whole_left new.version left ≡ true }
     ensures { result ≡ some (is_left old.entry new.entry (as_reduced new.entry.version left.entry))
         (map formula tests.now) }
 {
     for test in tests {
-        if same_reduced(old, new, reduce(test, old.version), left) {
+        if same_reduced(old, new, places, reduce(test, old.version), left) {
             return true;
         }
     }
@@ -32,36 +35,39 @@ fn is_among(old: Side, new: Side, tests: &[Test], left: Left) -> bool
 }
 
 // Whether a validation of the new set is true, or is an old one.
-fn is_kept(old: Side, new: Side, test: &Test) -> bool
+fn is_kept(old: Side, new: Side, places: &Places, test: &Test) -> bool
     requires old { IsSide old }
     requires new { IsSide new }
+    requires places { ArePlaces old new places.now }
     ensures { result ≡ is_kept_test old.entry new.entry (formula test.now) }
 {
     match reduce(test, new.version) {
         Left::Known(true) => true,
-        left => is_among(old, new, validations_of(old), left),
+        left => is_among(old, new, places, validations_of(old), left),
     }
 }
 
-fn are_kept(old: Side, new: Side, tests: &[Test]) -> bool
+fn are_kept(old: Side, new: Side, places: &Places, tests: &[Test]) -> bool
     requires old { IsSide old }
     requires new { IsSide new }
+    requires places { ArePlaces old new places.now }
     ensures { result ≡ every (is_kept_test old.entry new.entry) (map formula tests.now) }
 {
     for test in tests {
-        if !is_kept(old, new, test) {
+        if !is_kept(old, new, places, test) {
             return false;
         }
     }
     true
 }
 
-fn compare_validations(old: Side, new: Side) -> Option<Mismatch>
+fn compare_validations(old: Side, new: Side, places: &Places) -> Option<Mismatch>
     requires old { IsSide old }
     requires new { IsSide new }
+    requires places { ArePlaces old new places.now }
     ensures { result ≡ validations_on old.entry new.entry }
 {
-    if are_kept(old, new, validations_of(new)) {
+    if are_kept(old, new, places, validations_of(new)) {
         return None;
     }
     Some(Mismatch {
@@ -86,14 +92,21 @@ fn compare_structs(old: &DescSet, new: &DescSet, in_old: u32, in_new: u32) -> Op
 
 // Two fields of the same position, and the structures that they have.
 #[cycle(walk)]
-fn compare_pair(old: Side, new: Side, one: Present, other: Present) -> Option<Mismatch>
+fn compare_pair(
+    old: Side,
+    new: Side,
+    places: &Places,
+    one: Present,
+    other: Present,
+) -> Option<Mismatch>
     requires old { IsSide old }
     requires new { IsSide new }
+    requires places { ArePlaces old new places.now }
     requires one { IsOn old one }
     requires other { IsOn new other }
     ensures { result ≡ pair_mismatch old.entry new.entry one.entry other.entry }
 {
-    if let Some(rule) = failing_rule(old, new, one, other) {
+    if let Some(rule) = failing_rule(old, new, places, one, other) {
         return Some(Mismatch {
             rule,
             in_old: in_field(old.part, one.number),
@@ -109,9 +122,10 @@ fn compare_pair(old: Side, new: Side, one: Present, other: Present) -> Option<Mi
 }
 
 #[cycle(walk)]
-fn compare_fields(old: Side, new: Side) -> Option<Mismatch>
+fn compare_fields(old: Side, new: Side, places: &Places) -> Option<Mismatch>
     requires old { IsSide old }
     requires new { IsSide new }
+    requires places { ArePlaces old new places.now }
     ensures { result ≡ all_fields_on old.entry new.entry }
 {
     let (mut in_old, mut in_new) = (0, 0);
@@ -133,7 +147,7 @@ fn compare_fields(old: Side, new: Side) -> Option<Mismatch>
                 });
             }
             (Some(one), Some(other)) => {
-                if let Some(mismatch) = compare_pair(old, new, one, other) {
+                if let Some(mismatch) = compare_pair(old, new, places, one, other) {
                     return Some(mismatch);
                 }
                 in_old = one.number as usize + 1;
@@ -150,8 +164,9 @@ pub(crate) fn compare_descs(old: Side, new: Side) -> Option<Mismatch>
     requires new { IsSide new }
     ensures { result ≡ desc_mismatch old.entry new.entry }
 {
-    if let Some(mismatch) = compare_fields(old, new) {
+    let places = places_on(old, new);
+    if let Some(mismatch) = compare_fields(old, new, &places) {
         return Some(mismatch);
     }
-    compare_validations(old, new)
+    compare_validations(old, new, &places)
 }

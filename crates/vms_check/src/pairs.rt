@@ -5,12 +5,13 @@ ghost use Rattle.vms_parts.specs.Views.{field_of};
 ghost use Rattle.vms_spec.specs.Layout.{counted};
 ghost use Rattle.vms_check.specs.Comparing.{same_count, same_reduced, same_rest, absent_hold, bound};
 ghost use Rattle.vms_check.specs.Pairs.{IsOn, entry, failing_number, rules_on, uncovered_on};
+ghost use Rattle.vms_check.specs.Places.{ArePlaces};
 ghost use Rattle.vms_check.specs.Sides.{IsSide, desc_on, field_reduced, position_on};
 
 use crate::capacities::{absent_hold, greatest};
 use crate::items::{holds_as_much, is_covered, same_constant, same_item};
 use crate::names::names_match;
-use crate::positions::same_place;
+use crate::positions::{Places, same_place};
 use crate::present::Present;
 use crate::reducing::presence;
 use crate::same::same_reduced;
@@ -18,16 +19,17 @@ use crate::side::{Side, fields_of};
 use vms_desc::Count;
 
 // Whether both are single, of equal length, or counted by fields of the same position.
-fn same_count(old: Side, new: Side, one: Count, other: Count) -> bool
+fn same_count(old: Side, new: Side, places: &Places, one: Count, other: Count) -> bool
     requires old { IsSide old }
     requires new { IsSide new }
+    requires places { ArePlaces old new places.now }
     ensures { result ≡ same_count (position_on old.entry) (position_on new.entry) one other }
 {
     match (one, other) {
         (Count::One, Count::One) => true,
         (Count::Fixed(one), Count::Fixed(other)) => one == other,
         (Count::Counted { by: one, .. }, Count::Counted { by: other, .. }) => {
-            same_place(old, new, one, other)
+            same_place(old, new, places, one, other)
         }
         _ => false,
     }
@@ -35,9 +37,10 @@ fn same_count(old: Side, new: Side, one: Count, other: Count) -> bool
 
 // Whether what is left of their tests is the same.
 #[tactic(auto, using(crate::proofs::PairLaws::left_same, crate::proofs::PairLaws::presence_is))]
-fn same_rest(old: Side, new: Side, one: Present, other: Present) -> bool
+fn same_rest(old: Side, new: Side, places: &Places, one: Present, other: Present) -> bool
     requires old { IsSide old }
     requires new { IsSide new }
+    requires places { ArePlaces old new places.now }
     requires one { IsOn old one }
     requires other { IsOn new other }
     ensures { result ≡ same_rest (position_on old.entry) (position_on new.entry)
@@ -46,6 +49,7 @@ fn same_rest(old: Side, new: Side, one: Present, other: Present) -> bool
     same_reduced(
         old,
         new,
+        places,
         presence(one.field, old.version),
         presence(other.field, new.version),
     )
@@ -88,19 +92,20 @@ fn absent_arrays_hold(old: Side, new: Side, one: Present, other: Present) -> boo
 }
 
 // The first rule that fails where no unused bytes cover the old field.
-fn uncovered_rule(old: Side, new: Side, one: Present, other: Present) -> Option<u8>
+fn uncovered_rule(old: Side, new: Side, places: &Places, one: Present, other: Present) -> Option<u8>
     requires old { IsSide old }
     requires new { IsSide new }
+    requires places { ArePlaces old new places.now }
     requires one { IsOn old one }
     requires other { IsOn new other }
     ensures { result ≡ failing_number (uncovered_on old.entry new.entry one.entry other.entry) }
 {
     let (before, after) = (one.field, other.field);
-    if !same_count(old, new, before.count, after.count) {
+    if !same_count(old, new, places, before.count, after.count) {
         Some(7)
     } else if !same_item(before.item, after.item) {
         Some(8)
-    } else if !same_rest(old, new, one, other) {
+    } else if !same_rest(old, new, places, one, other) {
         Some(9)
     } else if !names_match(before, after) {
         Some(10)
@@ -116,16 +121,23 @@ fn uncovered_rule(old: Side, new: Side, one: Present, other: Present) -> Option<
 }
 
 // The first rule that fails at two fields of the same position.
-pub(crate) fn failing_rule(old: Side, new: Side, one: Present, other: Present) -> Option<u8>
+pub(crate) fn failing_rule(
+    old: Side,
+    new: Side,
+    places: &Places,
+    one: Present,
+    other: Present,
+) -> Option<u8>
     requires old { IsSide old }
     requires new { IsSide new }
+    requires places { ArePlaces old new places.now }
     requires one { IsOn old one }
     requires other { IsOn new other }
     ensures { result ≡ failing_number (rules_on old.entry new.entry one.entry other.entry) }
 {
     if !is_covered(one.field.item, one.field.count, other.field.item) {
-        uncovered_rule(old, new, one, other)
-    } else if same_rest(old, new, one, other) {
+        uncovered_rule(old, new, places, one, other)
+    } else if same_rest(old, new, places, one, other) {
         None
     } else {
         Some(9)

@@ -1,51 +1,92 @@
 // The positions of fields among the present ones.
-ghost use Rattle.std.specs.Prelude.{◌≡◌, map};
+ghost use Rattle.std.specs.Prelude.{◌≡◌, ◌<◌, ◌≤◌, ℕ, Some, None, suc, map, length, get_or, if◌then◌else◌};
 ghost use Rattle.vms_parts.specs.Views.{field_of};
 ghost use Rattle.vms_check.specs.Comparing.{same_place};
-ghost use Rattle.vms_check.specs.Sides.{IsSide, count_present, position_in, position_on};
+ghost use Rattle.vms_check.specs.Places.{ArePlaces};
+ghost use Rattle.vms_check.specs.Sides.{IsSide, position_in, position_on};
 
 use crate::reducing::is_present;
 use crate::side::{Side, fields_of};
 use vms_desc::Field;
 
-fn count_present(fields: &[Field], version: u32) -> usize
-    ensures { result ≡ count_present version (map field_of fields.now) }
-{
-    let mut count = 0;
-    for field in fields {
-        if is_present(field, version) {
-            count += 1;
-        }
-    }
-    count
+// Of each field of a description its position, if it is there; a description has at most 256 fields.
+type Positions = [Option<u16>; 256];
+
+// The positions of the fields of two sides.
+#[derive(Drop)]
+pub(crate) struct Places {
+    in_old: Positions,
+    in_new: Positions,
 }
 
-// The position of the field of this number, if it is there.
-fn position(fields: &[Field], version: u32, number: u32) -> Option<usize>
-    ensures { result ≡ position_in version (map field_of fields.now) number }
+// The entry of a field, by whether it is there, and how many are there before it.
+fn entry(is_there: bool, count: u16) -> Option<u16>
+    ensures { result ≡ (if is_there then Some count else None) }
+{
+    if is_there { Some(count) } else { None }
+}
+
+// How many are there with this field.
+fn counted(is_there: bool, count: u16) -> u16
+    requires { count < 256 }
+    ensures { result ≡ (if is_there then suc count else count) }
+{
+    if is_there { count + 1 } else { count }
+}
+
+fn positions(fields: &[Field], version: u32) -> Positions
+    requires { length fields.now ≤ 256 }
+    ensures { (k : ℕ) → get_or result k None ≡ position_in version (map field_of fields.now) k }
+{
+    let mut table = [None; 256];
+    let mut count = 0;
+    for number in 0..fields.len() {
+        let is_there = is_present(&fields[number], version);
+        table[number] = entry(is_there, count);
+        count = counted(is_there, count);
+    }
+    table
+}
+
+fn positions_on(side: Side) -> Positions
+    requires { IsSide side }
+    ensures { (k : ℕ) → get_or result k None ≡ position_on side.entry k }
+{
+    positions(fields_of(side), side.version)
+}
+
+pub(crate) fn places_on(old: Side, new: Side) -> Places
+    requires old { IsSide old }
+    requires new { IsSide new }
+    ensures { ArePlaces old.entry new.entry result }
+{
+    Places {
+        in_old: positions_on(old),
+        in_new: positions_on(new),
+    }
+}
+
+// The position of the field of this number.
+fn position_of(positions: &Positions, number: u32) -> Option<u16>
+    ensures { result ≡ get_or positions.now number None }
 {
     let number = number as usize;
-    if number < fields.len() && is_present(&fields[number], version) {
-        Some(count_present(&fields[..number], version))
+    if number < positions.len() {
+        positions[number]
     } else {
         None
     }
 }
 
-fn position_on(side: Side, number: u32) -> Option<usize>
-    requires { IsSide side }
-    ensures { result ≡ position_on side.entry number }
-{
-    position(fields_of(side), side.version, number)
-}
-
 // Whether these fields are there on both sides, at the same position.
-pub(crate) fn same_place(old: Side, new: Side, in_old: u32, in_new: u32) -> bool
-    requires old { IsSide old }
-    requires new { IsSide new }
+pub(crate) fn same_place(old: Side, new: Side, places: &Places, in_old: u32, in_new: u32) -> bool
+    requires { ArePlaces old new places.now }
     ensures { result ≡ same_place (position_on old.entry in_old) (position_on new.entry in_new) }
 {
-    match (position_on(old, in_old), position_on(new, in_new)) {
+    match (
+        position_of(&places.in_old, in_old),
+        position_of(&places.in_new, in_new),
+    ) {
         (Some(one), Some(other)) => one == other,
         _ => false,
     }

@@ -3,9 +3,10 @@ ghost use Rattle.std.specs.Prelude.{◌≡◌, ◌==◌, true};
 ghost use Rattle.vms_parts.specs.Views.{formula};
 ghost use Rattle.vms_check.specs.Comparing.{rel_number, same_test, same_reduced};
 ghost use Rattle.vms_check.specs.Reducing.{reduced};
+ghost use Rattle.vms_check.specs.Places.{ArePlaces};
 ghost use Rattle.vms_check.specs.Sides.{IsSide, as_reduced, is_atom, is_whole, is_whole_left, position_on};
 
-use crate::positions::same_place;
+use crate::positions::{Places, same_place};
 use crate::reducing::{Left, reduce};
 use crate::side::Side;
 use vms_desc::{Rel, Test, Whose};
@@ -17,9 +18,10 @@ fn same_rel(one: Rel, other: Rel) -> bool
 }
 
 #[cycle(same)]
-pub(crate) fn same_reduced(old: Side, new: Side, one: Left, other: Left) -> bool
+pub(crate) fn same_reduced(old: Side, new: Side, places: &Places, one: Left, other: Left) -> bool
     requires old { IsSide old }
     requires new { IsSide new }
+    requires places { ArePlaces old new places.now }
     requires one { is_whole_left old.version one ≡ true }
     requires other { is_whole_left new.version other ≡ true }
     ensures { result ≡ same_reduced (position_on old.entry) (position_on new.entry)
@@ -27,16 +29,17 @@ pub(crate) fn same_reduced(old: Side, new: Side, one: Left, other: Left) -> bool
 {
     match (one, other) {
         (Left::Known(one), Left::Known(other)) => one == other,
-        (Left::Open(one), Left::Open(other)) => same_tests(old, new, one, other),
+        (Left::Open(one), Left::Open(other)) => same_tests(old, new, places, one, other),
         _ => false,
     }
 }
 
 // The same of tests at whose roots nothing is folded away.
 #[cycle(same)]
-fn same_tests(old: Side, new: Side, one: &Test, other: &Test) -> bool
+fn same_tests(old: Side, new: Side, places: &Places, one: &Test, other: &Test) -> bool
     requires old { IsSide old }
     requires new { IsSide new }
+    requires places { ArePlaces old new places.now }
     requires one { is_whole old.version (formula one.now) ≡ true }
     requires other { is_whole new.version (formula other.now) ≡ true }
     ensures { result ≡ same_reduced (position_on old.entry) (position_on new.entry)
@@ -44,20 +47,22 @@ fn same_tests(old: Side, new: Side, one: &Test, other: &Test) -> bool
         (reduced new.entry.version (formula other.now)) }
 {
     match (one, other) {
-        (Test::Cell { .. }, Test::Cell { .. }) => same_atoms(old, new, one, other),
-        (Test::Not(one), Test::Not(other)) => same_inner(old, new, one, other),
+        (Test::Cell { .. }, Test::Cell { .. }) => same_atoms(old, new, places, one, other),
+        (Test::Not(one), Test::Not(other)) => same_inner(old, new, places, one, other),
         (Test::And(one, one_more), Test::And(other, other_more))
         | (Test::Or(one, one_more), Test::Or(other, other_more)) => {
-            same_inner(old, new, one, other) && same_inner(old, new, one_more, other_more)
+            same_inner(old, new, places, one, other)
+                && same_inner(old, new, places, one_more, other_more)
         }
         _ => false,
     }
 }
 
 #[cycle(same)]
-fn same_inner(old: Side, new: Side, one: &Test, other: &Test) -> bool
+fn same_inner(old: Side, new: Side, places: &Places, one: &Test, other: &Test) -> bool
     requires old { IsSide old }
     requires new { IsSide new }
+    requires places { ArePlaces old new places.now }
     ensures { result ≡ same_reduced (position_on old.entry) (position_on new.entry)
         (reduced old.entry.version (formula one.now))
         (reduced new.entry.version (formula other.now)) }
@@ -65,15 +70,17 @@ fn same_inner(old: Side, new: Side, one: &Test, other: &Test) -> bool
     same_reduced(
         old,
         new,
+        places,
         reduce(one, old.version),
         reduce(other, new.version),
     )
 }
 
 // The same of two tests on numbers of the descriptions.
-fn same_atoms(old: Side, new: Side, one: &Test, other: &Test) -> bool
+fn same_atoms(old: Side, new: Side, places: &Places, one: &Test, other: &Test) -> bool
     requires old { IsSide old }
     requires new { IsSide new }
+    requires places { ArePlaces old new places.now }
     requires one { is_atom (formula one.now) ≡ true }
     requires other { is_atom (formula other.now) ≡ true }
     ensures { result ≡ same_test (position_on old.entry) (position_on new.entry) (formula one.now)
@@ -96,7 +103,7 @@ fn same_atoms(old: Side, new: Side, one: &Test, other: &Test) -> bool
                 value: other_value,
             },
         ) => {
-            same_place(old, new, *one, *other)
+            same_place(old, new, places, *one, *other)
                 && one_mask == other_mask
                 && same_rel(*one_rel, *other_rel)
                 && one_value == other_value

@@ -1,9 +1,8 @@
 -- From what a load and a write say to how `show` ends.
-use Rattle.std.proofs.Common.{◌≡◌, ℕ, suc, ◌+◌, ◌<◌, ◌≤◌, true, List, [], ◌∷◌, length, get_or, drop, Option, Some, None, Ok, Err, IfSome, IsSomeAnd, refl, sym, ap, ◌∙◌, subst, arith}
+use Rattle.std.proofs.Common.{◌≡◌, ℕ, suc, ◌+◌, ◌<◌, ◌≤◌, true, List, [], ◌∷◌, length, get_or, map, drop, Option, Some, None, Ok, Err, IfSome, IsSomeAnd, refl, sym, ap, ◌∙◌, subst, arith}
+use Rattle.std.proofs.lemmas.List.{length-map, get_or-map}
 use Rattle.std.specs.Option.{ForSome}
-use Rattle.std.specs.Prelude.{string_bytes}
-use Rattle.std.specs.declared.string.String.{String}
-use Rattle.std.specs.declared.alloc.Global.{Global}
+use Rattle.arrayvec.specs.ArrayVec.{ArrayVec}
 use Rattle.vms_io.specs.Causes.{capped}
 use Rattle.vms_io.specs.Shelves.{Held}
 use Rattle.vms_io.specs.Told.{Intake, Outlet, Stock}
@@ -25,8 +24,10 @@ use Rattle.vms_load.proofs.Bounding.{most_small}
 use Rattle.vms_load.proofs.SetFacts.{well_of}
 use Rattle.vms_load.specs.declared.fault.LoadFault.{LoadFault}
 use Rattle.vms_load.specs.declared.fault.LoadFault.TheVariants as faults
+use Rattle.vms_desc.specs.Described.{device_at}
 use Rattle.vms_desc.specs.Formed.{is_well_formed}
 use Rattle.vms_desc.proofs.AskLaws.{few_cells}
+use Rattle.vms_image.specs.Typed.{Typed, state_of}
 use Rattle.vms_values.specs.Printing.{AreOf, IsOf, machine_of}
 use Rattle.vms_outcome.specs.declared.ending.Ending.{Ending}
 use Rattle.vms_outcome.specs.declared.ending.Ending.TheVariants.{Refused}
@@ -95,8 +96,8 @@ module _ (set : Set) (fit : IsFit set) (i i' : Intake) (o o' : Outlet) (s s' : S
 
   -- a load that is refused
   pub refused : (images : List Image) (taken : ℕ) (fault : LoadFault) (r : Refusal) → fault ≡ faults.Refused r
-      → (line : String Global) (x : Outcome) → IfSome i.left IsBytes → IfSome i.left (λ bytes. Loads set (accepted_of set None) bytes i'.left images taken (Err fault))
-      → string_bytes line ≡ refused_line set r.at r.section r.reason
+      → (line : ArrayVec ℕ) (x : Outcome) → IfSome i.left IsBytes → IfSome i.left (λ bytes. Loads set (accepted_of set None) bytes i'.left images taken (Err fault))
+      → line.items ≡ refused_line set r.at r.section r.reason
       → IsSomeAnd i.left (λ bytes. Shows set bytes s.held x) → EndsAs i i' o o' s s' (Refused line) x
   refused images taken fault r same line x ok l said shows = told i.left refl ok l shows
     where
@@ -124,17 +125,18 @@ machine_for machines (Some n) h = λ m e. within m (cc) where
 
 module _ (set : Set) where
   are_from : (devices : List Device) (images : List Image) → length images ≡ length devices
-      → ((k : ℕ) → k < length devices → IsOf set (get_or devices k no_device) (get_or images k no_image)) → AreOf set devices images
+      → ((k : ℕ) → k < length devices → IsOf set (get_or devices k no_device) (get_or images k (state_of no_image))) → AreOf set devices images
   are_from [] [] all each = tt
   are_from [] (image ∷ images) all each = absurd (omega (arith, all))
   are_from (d ∷ devices) [] all each = absurd (omega (arith, all))
   are_from (d ∷ devices) (image ∷ images) all each =
       (each 0 (omega arith), are_from devices images (omega (arith, all)) (λ k lt. each (suc k) (omega (arith, lt))))
 
-  pub are_of : is_well_formed set ≡ true → (images : List Image) → AreShaped set images → AreOf set set.devices images
-  are_of well images h = are_from set.devices images h.all (λ k lt.
+  pub are_of : is_well_formed set ≡ true → (images : List Typed) → AreShaped set images → AreOf set set.devices (map state_of images)
+  are_of well images h = are_from set.devices (map state_of images) (length-map images state_of ∙ h.all) (λ k lt.
       let shape = h.each k lt in
-      record { cells = shape.numbers; subs = shape.came; few = omega (arith, shape.numbers, few_cells set well k) })
+      let is : IsOf set (device_at set k) (state_of (get_or images k no_image)) = record { cells = shape.cells; subs = shape.subs; few = omega (arith, shape.cells, few_cells set well k) } in
+      subst (λ (x : Image). IsOf set (device_at set k) x) (sym (get_or-map state_of images k no_image (state_of no_image) (omega (arith, lt, h.all)))) is)
 
 -- ---- the bytes of any set
 

@@ -17,4 +17,5 @@ pub mod SetLaws
 pub mod ShownLaws
 pub mod TestBack
 pub mod TestLaws
+pub mod WalkLaws
 pub mod WriteLaws

@@ -26,6 +26,3 @@ mod write;
 pub use file_fault::FileFault;
 pub use read::read_set;
 pub use write::write_set;
-
-#[cfg(test)]
-mod examples;

@@ -62,14 +62,18 @@ fn read_value(alloc: Global, text: &[u8]) -> Result<Value, FileFault>
     }
 }
 
-// The parts that a value says: names are looked up in a second walk, where the first found no
-// fault.
-#[tactic(auto, unfolding(crate::specs::Files::parts_of))]
+// The parts that a value says. One walk that looks names up is enough where it finds no fault; else
+// a fault that a walk without names finds comes first.
 fn read_parts(alloc: Global, value: &Value) -> Result<Parts, Fault>
     ensures { Answers set_seen (parts_of (view value.now)) result }
 {
-    let _unasked = read_walk(alloc, false, value)?;
-    read_walk(alloc, true, value)
+    match read_walk(alloc, true, value) {
+        Ok(parts) => Ok(parts),
+        Err(fault) => match read_walk(alloc, false, value) {
+            Ok(_unasked) => Err(fault),
+            Err(first) => Err(first),
+        },
+    }
 }
 
 fn read_walk(alloc: Global, asks: bool, value: &Value) -> Result<Parts, Fault>

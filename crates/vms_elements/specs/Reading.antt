@@ -4,7 +4,7 @@ use Rattle.vms_kinds.specs.declared.Kind.TheVariants.{U64, I64}
 use Rattle.vms_spec.specs.declared.ValuesReason.{ValuesReason}
 use Rattle.vms_spec.specs.Lists.{every}
 use Rattle.vms_spec.specs.Rules.{in_range}
-use Rattle.vms_spec.specs.Sets.{Device, Set}
+use Rattle.vms_spec.specs.Sets.{Sub, Device, Set}
 use Rattle.vms_spec.specs.Layout.{no_cell, device_cells}
 use Rattle.vms_spec.specs.Images.{Image}
 use Rattle.vms_spec.specs.Streams.{is_one_of, AreReady}
@@ -33,10 +33,21 @@ pub record IsText (set : Set) (text : List ℕ) (machine : Option (List ℕ)) (i
 abbrev pub is_short : ℤ → Bool
 is_short z = in_range I64 z || in_range U64 z
 
--- an image for each device, with a number for each cell and something for each subsection
+-- a subsection came at the set's version, or it didn't come
+abbrev pub IsAtVersion : Sub → Option ℕ → Type 0
+IsAtVersion s None = Unit {0}
+IsAtVersion s (Some v) = v ≡ s.desc.version
+
+abbrev pub AreAtVersions : List Sub → List (Option ℕ) → Type 0
+AreAtVersions [] came = Unit {0}
+AreAtVersions (s ∷ subs) [] = Unit {0}
+AreAtVersions (s ∷ subs) (o ∷ came) = IsAtVersion s o × AreAtVersions subs came
+
+-- an image for each device at the set's versions, with a number for each cell and something for each subsection
 pub record IsShaped (set : Set) (d : Device) (image : Image) : Type 0 where
   pub version : image.version ≡ d.desc.version
   pub subs : length image.came ≡ length d.subs
+  pub versions : AreAtVersions d.subs image.came
   pub cells : length image.numbers ≡ length (device_cells set d)
   pub short : every is_short image.numbers ≡ true
 

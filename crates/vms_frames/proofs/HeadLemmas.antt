@@ -49,7 +49,7 @@ head_whole unit rest long =
     ∙ ap (λ (k : ℕ). Whole (Section (head_with k all))) n
     ∙ ap (λ (h : Head). Whole (Section h)) (head_same (get_or unit 5 0) unit rest (omega arith))
 
-head_long : (unit : List ℕ) → length unit ≡ 14 + get_or unit 5 0 → length unit ≡ step_long (Section (head_in unit))
+pub head_long : (unit : List ℕ) → length unit ≡ 14 + get_or unit 5 0 → length unit ≡ step_long (Section (head_in unit))
 head_long unit long =
     let n = get_or unit 5 0 in
     let d : length (drop 6 unit) ≡ 8 + n = length-drop 6 unit ∙ omega arith in
@@ -80,6 +80,20 @@ sub_whole unit rest long =
     ∙ ap (λ (i : ℕ). sub_with (bytes_at i 2 all) (number_at 4 (2 + i) all)) n
     ∙ ap (λ (l : List ℕ). sub_with l (number_at 4 (2 + k) all)) (bytes_of_unit k 2 unit rest (omega arith))
     ∙ ap (λ (v : ℕ). sub_with (bytes_at k 2 unit) v) (number_of_unit 4 (2 + k) unit rest (omega arith))
+
+pub sub_long : (unit : List ℕ) (name : ArrayVec ℕ) (v : ℕ) → length unit ≡ 6 + get_or unit 1 0 → name.items ≡ bytes_at (get_or unit 1 0) 2 unit → length unit ≡ behind_long (Sub name v)
+sub_long unit name v long named =
+    let n = get_or unit 1 0 in
+    let d : length (drop 2 unit) ≡ 4 + n = length-drop 2 unit ∙ omega arith in
+    let e : length name.items ≡ n = ap length named ∙ length-take-le n (drop 2 unit) (omega arith) in
+    long ∙ ap (λ (k : ℕ). 6 + k) (sym e)
+
+pub sub_is : (unit rest : List ℕ) (name : ArrayVec ℕ) (v : ℕ) → length unit ≡ 6 + get_or unit 1 0 → name.items ≡ bytes_at (get_or unit 1 0) 2 unit
+    → v ≡ number_at 4 (2 + get_or unit 1 0) unit → sub_found (unit ++ rest) ≡ Whole (Sub name v)
+unfolding sub_with
+sub_is unit rest name v long named numbered =
+    let n = get_or unit 1 0 in
+    sub_whole unit rest long ∙ ap (λ (l : List ℕ). sub_with l (number_at 4 (2 + n) unit)) (sym named) ∙ ap (λ (k : ℕ). sub_with name.items k) (sym numbered)
 
 pub sub_came : (left : Option (List ℕ)) (unit : List ℕ) (at : ℕ) (name : ArrayVec ℕ) (v : ℕ) → length unit ≡ 6 + get_or unit 1 0 → name.items ≡ bytes_at (get_or unit 1 0) 2 unit
     → v ≡ number_at 4 (2 + get_or unit 1 0) unit

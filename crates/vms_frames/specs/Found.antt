@@ -18,6 +18,8 @@ use Rattle.vms_frames.specs.declared.units.Step.{Step}
 use Rattle.vms_frames.specs.declared.units.Step.TheVariants.{Configuration, Section, End}
 use Rattle.vms_frames.specs.declared.units.Tail.{Tail}
 use Rattle.vms_frames.specs.declared.units.Tail.TheVariants.{Unknown, Footed}
+use Rattle.vms_frames.specs.declared.units.Begins.{Begins}
+use Rattle.vms_frames.specs.declared.units.Begins.TheVariants as begun
 use Rattle.vms_frames.specs.declared.units.Behind.{Behind}
 use Rattle.vms_frames.specs.declared.units.Behind.TheVariants.{Sub, Next, Done}
 
@@ -123,13 +125,23 @@ sub_found rest = needs 2 rest (
 abbrev pub foot_found : ℕ → List ℕ → Found Behind
 foot_found id rest = needs 5 rest (if number_at 4 1 rest == id then Whole Done else Wrong 5 reasons.BadFooter)
 
--- what begins with a mark, which is the byte b: in a footed section a footer must come, in a bare one none may
+-- what begins with a mark: in a footed section a footer must come, in a bare one none may
+abbrev pub begins : Tail → Option Mark → Begins
+begins tail (Some marks.Sub) = begun.Sub
+begins Unknown (Some marks.Footer) = begun.Footer
+begins Footed (Some marks.Footer) = begun.Footer
+begins Footed mark = begun.NoFooter
+begins tail mark = begun.Next
+
+-- of what begins with the byte b
+abbrev pub begun_found : ℕ → ℕ → List ℕ → Begins → Found Behind
+begun_found id b rest begun.Sub = sub_found rest
+begun_found id b rest begun.Footer = foot_found id rest
+begun_found id b rest begun.NoFooter = Wrong 1 reasons.BadFooter
+begun_found id b rest begun.Next = Whole (Next b)
+
 abbrev pub behind_mark_found : Tail → ℕ → ℕ → List ℕ → Option Mark → Found Behind
-behind_mark_found tail id b rest (Some marks.Sub) = sub_found rest
-behind_mark_found Unknown id b rest (Some marks.Footer) = foot_found id rest
-behind_mark_found Footed id b rest (Some marks.Footer) = foot_found id rest
-behind_mark_found Footed id b rest mark = Wrong 1 reasons.BadFooter
-behind_mark_found tail id b rest mark = Whole (Next b)
+behind_mark_found tail id b rest mark = begun_found id b rest (begins tail mark)
 
 abbrev pub behind_found : Tail → ℕ → List ℕ → Found Behind
 behind_found tail id rest = needs 1 rest (behind_mark_found tail id (get_or rest 0 0) rest (mark_of (get_or rest 0 0)))

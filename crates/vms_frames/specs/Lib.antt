@@ -2,3 +2,4 @@ pub mod Stands
 pub mod Found
 pub mod Answers
 pub mod Calls
+pub mod Heard

@@ -1,9 +1,10 @@
 // Where a stream is read.
 ghost use Rattle.std.specs.Prelude.{◌≡◌, true, ◌+◌, ◌^◌, ◌≤◌, None, ℕ, IfOk, OnOk, IfSome};
-ghost use Rattle.vms_kinds.specs.Codes.{width};
+ghost use Rattle.vms_kinds.specs.Codes.{InRange, width};
 ghost use Rattle.vms_frames.specs.Stands.{Stand};
 ghost use Rattle.vms_frames.specs.Found.{step_long, is_configuration};
 ghost use Rattle.vms_frames.specs.Calls.{AnswersHead, ReadsBetween, ReadsNumber, ReadsFiller, AnswersBehind, ReadsEnd, Holds, tail_of, step_given, after_long, after_given};
+ghost use Rattle.vms_frames.specs.Heard.{HearsHead, HearsBetween, HearsNumber, HearsFiller, HearsBehind, HearsEnding};
 ghost use Rattle.vms_frames.specs.Answers.{HasCause, GivesWithin, GivesPast};
 
 use crate::fill::pass;
@@ -64,6 +65,7 @@ impl Cursor {
         ensures held { OnOk result (self.new.held ≡ None) }
         ensures given { GivesWithin (λ _. 8) 8 (S.given source.old) (S.given source.new) result }
         ensures cause { HasCause (S.faults source.old) (S.faults source.new) result }
+        ensures heard { HearsHead self.old.at (S.given source.old) (S.given source.new) result }
         ensures promise { S.promise source.new ≡ S.promise source.old }
     {
         magic(source, self.at)?;
@@ -82,6 +84,7 @@ impl Cursor {
         ensures held { OnOk result (self.new.held ≡ None) }
         ensures given { GivesWithin (step_given self.old.held) 269 (S.given source.old) (S.given source.new) result }
         ensures cause { HasCause (S.faults source.old) (S.faults source.new) result }
+        ensures heard { HearsBetween place self.old.held self.old.at (S.given source.old) (S.given source.new) result }
         ensures promise { S.promise source.new ≡ S.promise source.old }
         ensures configuration { IfOk result (λ step. is_configuration step ≡ true → place ≡ Between.First) }
     {
@@ -95,11 +98,13 @@ impl Cursor {
     pub fn number<S: Source>(&mut self, source: &mut S, kind: Kind) -> Result<i128, FrameFault>
         requires place { self.old.at ≤ 2 ^ 63 }
         requires held { self.old.held ≡ None }
+        ensures range { IfOk result (InRange kind) }
         ensures content { ReadsNumber kind self.old.at (S.left source.old) (S.left source.new) result }
         ensures place { OnOk result (self.new.at ≡ self.old.at + width kind) }
         ensures held { OnOk result (self.new.held ≡ None) }
         ensures given { GivesWithin (λ _. width kind) (width kind) (S.given source.old) (S.given source.new) result }
         ensures cause { HasCause (S.faults source.old) (S.faults source.new) result }
+        ensures heard { HearsNumber kind self.old.at (S.given source.old) (S.given source.new) result }
         ensures promise { S.promise source.new ≡ S.promise source.old }
     {
         let value = number(source, self.at, kind)?;
@@ -116,6 +121,7 @@ impl Cursor {
         ensures held { OnOk result (self.new.held ≡ None) }
         ensures given { GivesWithin (λ _. bytes) bytes (S.given source.old) (S.given source.new) result }
         ensures cause { HasCause (S.faults source.old) (S.faults source.new) result }
+        ensures heard { HearsFiller bytes self.old.at (S.given source.old) (S.given source.new) result }
         ensures promise { S.promise source.new ≡ S.promise source.old }
     {
         pass(source, self.at, bytes as usize)?;
@@ -140,6 +146,7 @@ impl Cursor {
         ensures held { IfOk result (λ after. Holds tail after self.new.held) }
         ensures given { GivesWithin after_given 261 (S.given source.old) (S.given source.new) result }
         ensures cause { HasCause (S.faults source.old) (S.faults source.new) result }
+        ensures heard { HearsBehind tail id self.old.at self.new.held (S.given source.old) (S.given source.new) result }
         ensures promise { S.promise source.new ≡ S.promise source.old }
     {
         match behind(source, self.at, id, tail)? {
@@ -169,6 +176,7 @@ impl Cursor {
         ensures held { OnOk result (self.new.held ≡ None) }
         ensures given { GivesPast self.old.at self.new.at 16777221 (S.given source.old) (S.given source.new) result }
         ensures cause { HasCause (S.faults source.old) (S.faults source.new) result }
+        ensures heard { HearsEnding self.old.at self.new.at (S.given source.old) (S.given source.new) result }
         ensures promise { S.promise source.new ≡ S.promise source.old }
     {
         self.at += trailer(source, self.at)?;

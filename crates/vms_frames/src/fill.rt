@@ -3,6 +3,7 @@ ghost use Rattle.std.specs.Prelude.{◌≡◌, ◌+◌, ◌≤◌, [], length, t
 ghost use Rattle.arrayvec.specs.ArrayVec.{array_vec_len};
 ghost use Rattle.vms_io.specs.Causes.{capped};
 ghost use Rattle.vms_frames.specs.Answers.{Grows, CutsShort, IsPassed, HasCause};
+ghost use Rattle.vms_frames.specs.Heard.{HearsPart, HearsShort, HearsPassed};
 
 use crate::FrameFault;
 use crate::fault::refused;
@@ -24,6 +25,8 @@ pub(crate) fn fill<S: Source>(source: &mut S, at: u64, buf: &mut [u8]) -> Result
     ensures bytes { OnOk result (Grows (S.left source.old) (S.left source.new) [] buf.new (length buf.old)) }
     ensures cut { IfErr result (CutsShort (S.left source.old) (S.left source.new) at (length buf.old)) }
     ensures given { MatchResult result (λ _. S.given source.new ≡ capped (S.given source.old + length buf.old)) (λ _. S.given source.new ≤ S.given source.old + length buf.old) }
+    ensures heard { OnOk result (HearsPart (S.given source.old) (S.given source.new) [] buf.new (length buf.old)) }
+    ensures missed { IfErr result (HearsShort (S.given source.old) (S.given source.new) at (length buf.old)) }
     ensures cause { HasCause (S.faults source.old) (S.faults source.new) result }
     ensures promise { S.promise source.new ≡ S.promise source.old }
 {
@@ -46,6 +49,8 @@ pub(crate) fn grow<S: Source>(
     ensures kept { OnOk result (take (length unit.old.items) unit.new.items ≡ unit.old.items) }
     ensures long { OnOk result (length unit.new.items ≡ length unit.old.items + count) }
     ensures cut { IfErr result (CutsShort (S.left source.old) (S.left source.new) at count) }
+    ensures heard { OnOk result (HearsPart (S.given source.old) (S.given source.new) unit.old.items unit.new.items count) }
+    ensures missed { IfErr result (HearsShort (S.given source.old) (S.given source.new) at count) }
     ensures given { MatchResult result (λ _. S.given source.new ≡ capped (S.given source.old + count)) (λ _. S.given source.new ≤ S.given source.old + count) }
     ensures cause { HasCause (S.faults source.old) (S.faults source.new) result }
     ensures promise { S.promise source.new ≡ S.promise source.old }
@@ -61,6 +66,8 @@ pub(crate) fn grow<S: Source>(
 pub(crate) fn pass<S: Source>(source: &mut S, at: u64, count: usize) -> Result<(), FrameFault>
     ensures passed { OnOk result (IsPassed (S.left source.old) (S.left source.new) count) }
     ensures cut { IfErr result (CutsShort (S.left source.old) (S.left source.new) at count) }
+    ensures heard { OnOk result (HearsPassed (S.given source.old) (S.given source.new) count) }
+    ensures missed { IfErr result (HearsShort (S.given source.old) (S.given source.new) at count) }
     ensures given { MatchResult result (λ _. S.given source.new ≡ capped (S.given source.old + count)) (λ _. S.given source.new ≤ S.given source.old + count) }
     ensures cause { HasCause (S.faults source.old) (S.faults source.new) result }
     ensures promise { S.promise source.new ≡ S.promise source.old }

@@ -19,6 +19,3 @@ pub use cursor::Cursor;
 pub use fault::{FrameFault, Refusal};
 pub use units::{After, Between, Step, Tail};
 pub use vms_spec::Reason;
-
-#[cfg(test)]
-mod tests;

@@ -1,14 +1,15 @@
 // One unit each, from its first byte.
 ghost use Rattle.std.specs.Prelude.{◌≡◌, true, false, ◌∷◌, [], ◌++◌, ◌-◌, ◌≤◌, None, length, get_or, IfOk, IfSome};
-ghost use Rattle.vms_kinds.specs.Codes.{width};
+ghost use Rattle.vms_kinds.specs.Codes.{InRange, width};
 ghost use Rattle.vms_marks.specs.Marks.{mark_of};
-ghost use Rattle.vms_frames.specs.Found.{magic_found, version_found, step_long, is_configuration, between_found, mark_found, head_found, start_found, start_reason as start_reason_of, sub_reason as sub_reason_of, configuration_found, number_found, behind_long, behind_found, behind_mark_found, sub_found, foot_found, trailer_found, description_found};
+ghost use Rattle.vms_frames.specs.Found.{magic_found, version_found, step_long, is_configuration, between_found, mark_found, head_found, start_found, start_reason as start_reason_of, sub_reason as sub_reason_of, configuration_found, number_found, behind_long, behind_found, behind_mark_found, begins as begins_of, sub_found, foot_found, trailer_found, description_found};
 ghost use Rattle.vms_frames.specs.Calls.{IsNext, ahead, held_long};
 ghost use Rattle.vms_frames.specs.Answers.{Answers, HasCause, GivesWithin};
+ghost use Rattle.vms_frames.specs.Heard.{HearsUnit, HearsStep, HearsTrailer};
 
 use crate::fault::refused;
 use crate::fill::{Unit, fill, grow, pass};
-use crate::units::Behind;
+use crate::units::{Begins, Behind};
 use crate::{Between, FrameFault, Step, Tail};
 use byteorder::{BigEndian, ByteOrder};
 use vms_io::{Source, read_exact_of};
@@ -24,6 +25,7 @@ pub(crate) fn magic<S: Source>(source: &mut S, at: u64) -> Result<(), FrameFault
     ensures content { IfSome (S.left source.old) (λ rest. Answers (λ _. 4) (magic_found rest) at rest (S.left source.new) result) }
     ensures given { GivesWithin (λ _. 4) 4 (S.given source.old) (S.given source.new) result }
     ensures cause { HasCause (S.faults source.old) (S.faults source.new) result }
+    ensures heard { HearsUnit (λ _. 4) magic_found [] at (S.given source.old) (S.given source.new) result }
     ensures promise { S.promise source.new ≡ S.promise source.old }
 {
     let mut unit = Unit::new();
@@ -39,6 +41,7 @@ pub(crate) fn version<S: Source>(source: &mut S, at: u64) -> Result<(), FrameFau
     ensures content { IfSome (S.left source.old) (λ rest. Answers (λ _. 4) (version_found rest) at rest (S.left source.new) result) }
     ensures given { GivesWithin (λ _. 4) 4 (S.given source.old) (S.given source.new) result }
     ensures cause { HasCause (S.faults source.old) (S.faults source.new) result }
+    ensures heard { HearsUnit (λ _. 4) version_found [] at (S.given source.old) (S.given source.new) result }
     ensures promise { S.promise source.new ≡ S.promise source.old }
 {
     let mut unit = Unit::new();
@@ -52,9 +55,11 @@ pub(crate) fn version<S: Source>(source: &mut S, at: u64) -> Result<(), FrameFau
 
 /// A number of this kind.
 pub(crate) fn number<S: Source>(source: &mut S, at: u64, kind: Kind) -> Result<i128, FrameFault>
+    ensures range { IfOk result (InRange kind) }
     ensures content { IfSome (S.left source.old) (λ rest. Answers (λ _. width kind) (number_found kind rest) at rest (S.left source.new) result) }
     ensures given { GivesWithin (λ _. width kind) (width kind) (S.given source.old) (S.given source.new) result }
     ensures cause { HasCause (S.faults source.old) (S.faults source.new) result }
+    ensures heard { HearsUnit (λ _. width kind) (number_found kind) [] at (S.given source.old) (S.given source.new) result }
     ensures promise { S.promise source.new ≡ S.promise source.old }
 {
     let mut unit = Unit::new();
@@ -75,6 +80,7 @@ pub(crate) fn step<S: Source>(
     ensures content { IfSome (S.left source.old) (λ left. Answers step_long (between_found between (ahead held left)) at (ahead held left) (S.left source.new) result) }
     ensures given { GivesWithin (λ step. (step_long step) - (held_long held)) 269 (S.given source.old) (S.given source.new) result }
     ensures cause { HasCause (S.faults source.old) (S.faults source.new) result }
+    ensures heard { HearsStep between held at (S.given source.old) (S.given source.new) result }
     ensures promise { S.promise source.new ≡ S.promise source.old }
     ensures place { IfOk result (λ step. is_configuration step ≡ true → between ≡ Between.First) }
 {
@@ -97,6 +103,7 @@ fn marked<S: Source>(
     ensures content { IfSome (S.left source.old) (λ more. Answers step_long (mark_found between (unit.items ++ more) (mark_of (get_or unit.items 0 0))) at (unit.items ++ more) (S.left source.new) result) }
     ensures given { GivesWithin (λ step. (step_long step) - 1) 268 (S.given source.old) (S.given source.new) result }
     ensures cause { HasCause (S.faults source.old) (S.faults source.new) result }
+    ensures heard { HearsUnit step_long (λ all. mark_found between all (mark_of (get_or unit.items 0 0))) unit.items at (S.given source.old) (S.given source.new) result }
     ensures promise { S.promise source.new ≡ S.promise source.old }
     ensures place { IfOk result (λ step. is_configuration step ≡ true → between ≡ Between.First) }
 {
@@ -131,6 +138,7 @@ fn section<S: Source>(source: &mut S, at: u64, unit: Unit) -> Result<Step, Frame
     ensures content { IfSome (S.left source.old) (λ more. Answers step_long (head_found (unit.items ++ more)) at (unit.items ++ more) (S.left source.new) result) }
     ensures given { GivesWithin (λ step. (step_long step) - 1) 268 (S.given source.old) (S.given source.new) result }
     ensures cause { HasCause (S.faults source.old) (S.faults source.new) result }
+    ensures heard { HearsUnit step_long head_found unit.items at (S.given source.old) (S.given source.new) result }
     ensures promise { S.promise source.new ≡ S.promise source.old }
     ensures section { IfOk result (λ step. is_configuration step ≡ false) }
 {
@@ -150,6 +158,7 @@ fn configuration<S: Source>(source: &mut S, at: u64, unit: Unit) -> Result<Step,
     ensures content { IfSome (S.left source.old) (λ more. Answers step_long (configuration_found (unit.items ++ more)) at (unit.items ++ more) (S.left source.new) result) }
     ensures given { GivesWithin (λ step. (step_long step) - 1) 268 (S.given source.old) (S.given source.new) result }
     ensures cause { HasCause (S.faults source.old) (S.faults source.new) result }
+    ensures heard { HearsUnit step_long configuration_found unit.items at (S.given source.old) (S.given source.new) result }
     ensures promise { S.promise source.new ≡ S.promise source.old }
 {
     let mut unit = unit;
@@ -168,6 +177,7 @@ fn start<S: Source>(source: &mut S, at: u64, unit: Unit) -> Result<Step, FrameFa
     ensures content { IfSome (S.left source.old) (λ more. Answers step_long (start_found (unit.items ++ more)) at (unit.items ++ more) (S.left source.new) result) }
     ensures given { GivesWithin (λ step. (step_long step) - 1) 268 (S.given source.old) (S.given source.new) result }
     ensures cause { HasCause (S.faults source.old) (S.faults source.new) result }
+    ensures heard { HearsUnit step_long start_found unit.items at (S.given source.old) (S.given source.new) result }
     ensures promise { S.promise source.new ≡ S.promise source.old }
     ensures none { IfOk result (λ step. is_configuration step ≡ false) }
 {
@@ -210,6 +220,7 @@ pub(crate) fn behind<S: Source>(
     ensures next { IfOk result (λ behind. IsNext behind → tail ≡ Tail.Footed → ⊥) }
     ensures given { GivesWithin behind_long 261 (S.given source.old) (S.given source.new) result }
     ensures cause { HasCause (S.faults source.old) (S.faults source.new) result }
+    ensures heard { HearsUnit behind_long (behind_found tail id) [] at (S.given source.old) (S.given source.new) result }
     ensures promise { S.promise source.new ≡ S.promise source.old }
 {
     let mut unit = Unit::new();
@@ -230,14 +241,27 @@ fn behind_marked<S: Source>(
     ensures next { IfOk result (λ behind. IsNext behind → tail ≡ Tail.Footed → ⊥) }
     ensures given { GivesWithin (λ behind. (behind_long behind) - 1) 260 (S.given source.old) (S.given source.new) result }
     ensures cause { HasCause (S.faults source.old) (S.faults source.new) result }
+    ensures heard { HearsUnit behind_long (λ all. behind_mark_found tail id (get_or unit.items 0 0) all (mark_of (get_or unit.items 0 0))) unit.items at (S.given source.old) (S.given source.new) result }
     ensures promise { S.promise source.new ≡ S.promise source.old }
 {
-    match Mark::of(unit[0]) {
-        Some(Mark::Sub) => subsection(source, at, unit),
-        Some(Mark::Footer) if tail != Tail::Bare => footer(source, at, id, unit),
+    match begins(tail, Mark::of(unit[0])) {
+        Begins::Sub => subsection(source, at, unit),
+        Begins::Footer => footer(source, at, id, unit),
+        Begins::NoFooter => Err(no_footer(at)),
+        Begins::Next => Ok(Behind::Next(unit[0])),
+    }
+}
+
+// What begins behind fields with a mark: in a footed section a footer must come, and in a bare one none may.
+fn begins(tail: Tail, mark: Option<Mark>) -> Begins
+    ensures { result ≡ begins_of tail mark }
+{
+    match mark {
+        Some(Mark::Sub) => Begins::Sub,
+        Some(Mark::Footer) if tail != Tail::Bare => Begins::Footer,
         _ => match tail {
-            Tail::Footed => Err(refused(at, Reason::BadFooter)),
-            Tail::Unknown | Tail::Bare => Ok(Behind::Next(unit[0])),
+            Tail::Footed => Begins::NoFooter,
+            Tail::Unknown | Tail::Bare => Begins::Next,
         },
     }
 }
@@ -249,6 +273,7 @@ fn subsection<S: Source>(source: &mut S, at: u64, unit: Unit) -> Result<Behind, 
     ensures next { IfOk result (λ behind. IsNext behind → ⊥) }
     ensures given { GivesWithin (λ behind. (behind_long behind) - 1) 260 (S.given source.old) (S.given source.new) result }
     ensures cause { HasCause (S.faults source.old) (S.faults source.new) result }
+    ensures heard { HearsUnit behind_long sub_found unit.items at (S.given source.old) (S.given source.new) result }
     ensures promise { S.promise source.new ≡ S.promise source.old }
 {
     let mut unit = unit;
@@ -268,14 +293,22 @@ fn footer<S: Source>(source: &mut S, at: u64, id: u32, unit: Unit) -> Result<Beh
     ensures next { IfOk result (λ behind. IsNext behind → ⊥) }
     ensures given { GivesWithin (λ behind. (behind_long behind) - 1) 260 (S.given source.old) (S.given source.new) result }
     ensures cause { HasCause (S.faults source.old) (S.faults source.new) result }
+    ensures heard { HearsUnit behind_long (foot_found id) unit.items at (S.given source.old) (S.given source.new) result }
     ensures promise { S.promise source.new ≡ S.promise source.old }
 {
     let mut unit = unit;
     grow(source, at, &mut unit, 4)?;
     if BigEndian::read_u32(&unit[1..]) != id {
-        return Err(refused(at, Reason::BadFooter));
+        return Err(no_footer(at));
     }
     Ok(Behind::Done)
+}
+
+// What stands at this place is not the footer that the section must have.
+fn no_footer(at: u64) -> FrameFault
+    ensures { result ≡ FrameFault.Refused at Reason.BadFooter }
+{
+    refused(at, Reason::BadFooter)
 }
 
 /// What belongs to the stream after its end mark, and how many bytes it has: nothing, or a description section.
@@ -284,6 +317,7 @@ pub(crate) fn trailer<S: Source>(source: &mut S, at: u64) -> Result<u64, FrameFa
     ensures most { IfOk result (λ n. n ≤ 16777221) }
     ensures given { GivesWithin (λ n. n) 16777221 (S.given source.old) (S.given source.new) result }
     ensures cause { HasCause (S.faults source.old) (S.faults source.new) result }
+    ensures heard { HearsTrailer at (S.given source.old) (S.given source.new) result }
     ensures promise { S.promise source.new ≡ S.promise source.old }
 {
     let mut mark = [0; 1];
@@ -302,6 +336,7 @@ fn description<S: Source>(source: &mut S, at: u64) -> Result<u64, FrameFault>
     ensures most { IfOk result (λ n. n ≤ 16777221) }
     ensures given { GivesWithin (λ n. n - 1) 16777220 (S.given source.old) (S.given source.new) result }
     ensures cause { HasCause (S.faults source.old) (S.faults source.new) result }
+    ensures heard { HearsUnit (λ n. n) description_found (0x06 ∷ []) at (S.given source.old) (S.given source.new) result }
     ensures promise { S.promise source.new ≡ S.promise source.old }
 {
     let mut length = [0; 4];

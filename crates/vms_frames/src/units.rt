@@ -58,6 +58,19 @@ pub(crate) enum Behind {
     Done,
 }
 
+/// What begins behind fields with a byte.
+#[derive(Clone, Copy)]
+pub(crate) enum Begins {
+    /// A subsection.
+    Sub,
+    /// A footer.
+    Footer,
+    /// None of both, where one must be.
+    NoFooter,
+    /// A unit between sections.
+    Next,
+}
+
 impl Step {
     ghost use Rattle.vms_frames.specs.Found.{step_long};
 

@@ -15,6 +15,3 @@ pub use fault::HookFault;
 pub use hooks::{Hooked, Hooks, load_by, save_by};
 pub use pass::Pass;
 pub use steps::{LoadStep, SaveStep};
-
-#[cfg(test)]
-mod tests;

@@ -1,2 +1,4 @@
 pub mod Filled
 pub mod Made
+pub mod SameSpots
+pub mod States

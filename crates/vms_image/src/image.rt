@@ -1,42 +1,50 @@
 // The state of a device.
-ghost use Rattle.std.specs.Prelude.{◌≡◌, ◌==◌, ◌&&◌, ◌<◌, ℤ, ℕ, Option, None, pos, length, get_or, slice_set, map, replicate, IfOk};
+ghost use Rattle.std.specs.Prelude.{◌≡◌, ◌<◌, ◌≤◌, ◌↔◌, IsTrue, ℕ, Option, None, pos, length, get_or, slice_set, map, replicate, IfOk};
 ghost use Rattle.vms_desc.specs.Described.{described, device_at};
-ghost use Rattle.vms_spec.specs.Images.{default_image};
+ghost use Rattle.vms_desc.specs.Spots.{kinds_at};
+ghost use Rattle.vms_image.specs.Typed.{default_at, IsImageOf};
+ghost use Rattle.vms_kinds.specs.Codes.{InRange, code};
+ghost use Rattle.vms_kinds.specs.declared.Kind.TheVariants.{U8};
 ghost use Rattle.vms_spec.specs.Layout.{device_cells};
+ghost use Rattle.vms_spots.specs.Spots.{raw_of, no_spot};
 
 use std::alloc::{AllocError, Global};
 use std::marker::Model;
 use vms_desc::{CellForm, Cells, DescSet};
 use vms_io::NoMemory;
+use vms_kinds::Kind;
+use vms_spots::{Buffer, Spot};
 
 /// The state of one device: the version of its section, the version of each subsection that came, and the
-/// numbers of its cells.
+/// numbers of its cells, each with its kind. The numbers stand in one buffer of bytes.
 #[derive(Drop)]
 pub struct Image {
     version: u32,
     came: Vec<Option<u32>>,
-    numbers: Vec<i128>,
+    cells: Buffer,
 }
 
 impl Model for Image {
-    ghost use Rattle.vms_spec.specs.Images as images;
+    ghost use Rattle.vms_image.specs.Typed as images;
 
-    ghost Value = { images.Image };
+    ghost Value = { images.Typed };
 
-    ghost view = { λ a. record { version = a.version; came = a.came.items; numbers = a.numbers.items } };
+    ghost view = { λ a. record { version = a.version; came = a.came.items; numbers = a.cells.numbers; kinds = a.cells.kinds } };
 }
 
 impl Image {
     /// The device of this number at the set's version, with no subsection and each cell at its default.
     pub fn new(alloc: Global, set: &DescSet, device: u32) -> Result<Image, NoMemory>
         requires { device < length (described set.now).devices }
-        ensures { IfOk result (λ image. image ≡ default_image (described set.now) (device_at (described set.now) device)) }
+        ensures { IfOk result (λ image. image ≡ default_at (described set.now) device) }
     {
         let described = set.device(device);
+        let mut cells = Buffer::new(alloc, set.spots(device))?;
+        put_defaults(&mut cells, set.cell_forms(device));
         Ok(Image {
             version: described.desc.version,
             came: none_came(alloc, described.subs.as_slice().len())?,
-            numbers: defaults(alloc, set.cell_forms(device))?,
+            cells,
         })
     }
 
@@ -45,43 +53,70 @@ impl Image {
         requires is_device { device < length (described set.now).devices }
         requires subs { length self.old.came ≡ length (device_at (described set.now) device).subs }
         requires cells { length self.old.numbers ≡ length (device_cells (described set.now) (device_at (described set.now) device)) }
-        ensures { self.new ≡ default_image (described set.now) (device_at (described set.now) device) }
+        requires kinds { self.old.kinds ≡ kinds_at (described set.now) device }
+        ensures { self.new ≡ default_at (described set.now) device }
     {
         self.version = set.device(device).desc.version;
         clear(&mut self.came);
-        put_defaults(&mut self.numbers, set.cell_forms(device));
+        put_defaults(&mut self.cells, set.cell_forms(device));
     }
 
-    /// Whether the image is one of this device: it has its cells, and something for each of its subsections.
+    /// Whether the image is one of this device: it has cells of its kinds, and something for each of its
+    /// subsections.
     pub fn is_of(&self, set: &DescSet, device: u32) -> bool
         requires { device < length (described set.now).devices }
-        ensures { result ≡ (length self.now.came == length (device_at (described set.now) device).subs && length self.now.numbers == length (device_cells (described set.now) (device_at (described set.now) device))) }
+        ensures { IsTrue result ↔ IsImageOf (described set.now) device self.now }
     {
         self.came.len() == set.device(device).subs.as_slice().len()
-            && self.numbers.len() == set.cells(device) as usize
+            && self.cells.spots() == set.spots(device)
+    }
+
+    /// How many cells it has.
+    pub fn len(&self) -> u32
+        ensures { result ≡ length self.now.numbers }
+    {
+        self.cells.len()
     }
 
     /// The number of a cell.
     pub fn get(&self, cell: u32) -> i128
         requires { cell < length self.now.numbers }
-        ensures { result ≡ get_or self.now.numbers cell (pos 0) }
+        ensures number { result ≡ get_or self.now.numbers cell (pos 0) }
+        ensures range { InRange (get_or self.now.kinds cell U8) result }
     {
-        self.numbers[cell as usize]
+        self.cells.get(cell)
     }
 
-    /// Puts a number into a cell; all else stays.
+    /// The code of a cell's number, which are its bytes in `raw`.
+    pub fn code(&self, cell: u32) -> &[u8]
+        requires { cell < length self.now.numbers }
+        ensures { result.now ≡ code (get_or self.now.kinds cell U8) (get_or self.now.numbers cell (pos 0)) }
+    {
+        self.cells.code(cell)
+    }
+
+    /// Tells whether a number is in the range of a cell's kind.
+    pub fn fits(&self, cell: u32, value: i128) -> bool
+        requires { cell < length self.now.numbers }
+        ensures { IsTrue result ↔ InRange (get_or self.now.kinds cell U8) value }
+    {
+        kind_at(self.cells.spots(), cell).in_range(value)
+    }
+
+    /// Puts a number of its kind into a cell; all else stays.
     pub fn set(&mut self, cell: u32, value: i128)
-        requires { cell < length self.old.numbers }
+        requires cell { cell < length self.old.numbers }
+        requires range { InRange (get_or self.old.kinds cell U8) value }
         ensures { self.new ≡ record self.old { numbers = slice_set self.old.numbers cell value } }
     {
-        self.numbers[cell as usize] = value;
+        self.cells.set(cell, value);
     }
 
-    /// The numbers of all cells, in order.
-    pub fn numbers(&self) -> &[i128]
-        ensures { result.now ≡ self.now.numbers }
+    /// The bytes of all cells: the code of each number at its spot (`DescSet::spot`), and 0 between the spots.
+    pub fn raw(&self) -> &[u8]
+        ensures { result.now ≡ raw_of self.now.kinds self.now.numbers }
     {
-        &self.numbers
+        self.cells.raw()
     }
 
     /// The version of the section.
@@ -123,6 +158,13 @@ impl Cells for Image {
     }
 }
 
+fn kind_at(spots: &[Spot], cell: u32) -> Kind
+    requires { cell < length spots.now }
+    ensures { result ≡ (get_or spots.now cell no_spot).kind }
+{
+    spots[cell as usize].kind
+}
+
 // No subsection of so many has come.
 fn none_came(alloc: Global, subs: usize) -> Result<Vec<Option<u32>>, AllocError>
     ensures { IfOk result (λ came. came.items ≡ replicate subs None) }
@@ -132,12 +174,6 @@ fn none_came(alloc: Global, subs: usize) -> Result<Vec<Option<u32>>, AllocError>
         came.push(None)?;
     }
     Ok(came)
-}
-
-fn defaults(alloc: Global, forms: &[CellForm]) -> Result<Vec<i128>, AllocError>
-    ensures { IfOk result (λ numbers. numbers.items ≡ map (λ form. form.default) forms.now) }
-{
-    forms.iter().map(|form| form.default).collect(alloc)
 }
 
 // No subsection has come.
@@ -150,11 +186,14 @@ fn clear(came: &mut Vec<Option<u32>>)
 }
 
 // Each cell holds its default.
-fn put_defaults(numbers: &mut Vec<i128>, forms: &[CellForm])
-    requires { length numbers.old.items ≡ length forms.now }
-    ensures { numbers.new.items ≡ map (λ form. form.default) forms.now }
+fn put_defaults(cells: &mut Buffer, forms: &[CellForm])
+    requires few { length forms.now ≤ 16384 }
+    requires long { length cells.old.numbers ≡ length forms.now }
+    requires kinds { cells.old.kinds ≡ map (λ form. form.kind) forms.now }
+    requires range { (k : ℕ) → k < length forms.now → InRange (get_or (map (λ form. form.kind) forms.now) k U8) (get_or (map (λ form. form.default) forms.now) k (pos 0)) }
+    ensures { cells.new ≡ record cells.old { numbers = map (λ form. form.default) forms.now } }
 {
     for (cell, form) in forms.iter().enumerate() {
-        numbers[cell] = form.default;
+        cells.set(cell as u32, form.default);
     }
 }

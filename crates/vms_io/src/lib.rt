@@ -46,6 +46,3 @@ impl<T: Drop> From<AllocFailed<T>> for NoMemory {
         NoMemory
     }
 }
-
-#[cfg(test)]
-mod tests;

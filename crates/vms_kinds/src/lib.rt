@@ -152,6 +152,3 @@ impl Kind {
         Some(BigEndian::read_uint(bytes, width) as i128)
     }
 }
-
-#[cfg(test)]
-mod tests;

@@ -178,7 +178,6 @@ module _ (set : Set) (names : List (List ℕ)) (state : State) (section : Sectio
     sub_err (Ok i) e next h = cc
     sub_err (Err why) (faults.Refused r) next h = let same : faults.Refused r ≡ faults.Refused (record { section = why.section; at = place; reason = why.reason }) = cc in (refusal_is r _ same, refl)
     sub_err (Err why) faults.ReadFault next h = cc
-    sub_err (Err why) faults.NoMemory next h = cc
 
     -- a subsection that is opened, or not
     pub sub_settled : (j : ℕ) → Ok j ≡ opened_at place (sub_opened section.device (device_at set section.device) image.came name v)

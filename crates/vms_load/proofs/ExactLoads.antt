@@ -1,8 +1,10 @@
 -- A load answers exactly by what the input is.
-use Rattle.std.proofs.Common.{ℕ, List, Option, Ok, Err}
+use Rattle.std.proofs.Common.{◌≡◌, ℕ, ◌+◌, ◌≤◌, List, [], ◌++◌, length, drop, Option, Some, Ok, Err, refl, ap, ◌∙◌, subst, arith, length-append, length-drop, append-nil}
+use Rattle.vms_io.specs.Causes.{capped}
+use Rattle.vms_spec.specs.Units.{Piece, spell, spelled}
 use Rattle.std.specs.Prelude.{Result}
 use Rattle.vms_spec.specs.declared.Reason.{Reason}
-use Rattle.vms_units.specs.Faults.{Fault}
+use Rattle.vms_units.specs.Faults.{Fault, Why, Fails, Cut, Wrong}
 use Rattle.vms_spec.specs.Images.{Image}
 use Rattle.vms_spec.specs.Numbers.{IsBytes}
 use Rattle.vms_spec.specs.Sets.{Set}
@@ -10,7 +12,7 @@ use Rattle.vms_units.specs.Streams.{Takes}
 use Rattle.vms_spec.specs.WellFormed.{WellFormed}
 use Rattle.vms_spec.specs.Heads.{FitsHeads}
 use Rattle.vms_units.proofs.Stated.{one_stream_holds, never_both_holds, one_fault_holds}
-use Rattle.vms_load.specs.Exact.{GivesStream, IsRefusedAt, ExactLaw}
+use Rattle.vms_load.specs.Exact.{GivesStream, IsRefusedAt, ExactLaw, HeardLaw}
 use Rattle.vms_load.specs.Loads.{Loads}
 use Rattle.vms_load.specs.Staging.{name_of}
 use Rattle.vms_load.specs.declared.fault.LoadFault.{LoadFault}
@@ -25,7 +27,6 @@ module _ (set : Set) (names : List (List ℕ)) (well : WellFormed set) (heads : 
   gives (Err (faults.Refused r)) l n machine others takes =
       absurd (never_both_holds set names well heads input ok n machine others r.at r.section r.reason l.0 takes l.1)
   gives (Err faults.ReadFault) l n machine others takes = tt
-  gives (Err faults.NoMemory) l n machine others takes = absurd l
 
   refuses : (result : Result (Option ℕ) LoadFault) → Loads set names input left images taken result → (place : ℕ) (section : Option ℕ) (reason : Reason) (size : ℕ)
       → Fault set names input place section reason size → IsRefusedAt result place section reason
@@ -35,10 +36,41 @@ module _ (set : Set) (names : List (List ℕ)) (well : WellFormed set) (heads : 
       let same = one_fault_holds set names input ok r.at place r.section section r.reason reason l.0 size l.1 fault in
       (same.places, same.sections, same.reasons)
   refuses (Err faults.ReadFault) l place section reason size fault = tt
-  refuses (Err faults.NoMemory) l place section reason size fault = absurd l
 
 pub exact_holds : ExactLaw
 exact_holds set names well heads input ok left images taken result l = record {
   stream = gives set names well heads input ok left images taken result l;
   fault = refuses set names well heads input ok left images taken result l;
 }
+
+-- ---- what is heard of a refusal
+
+-- the unit at fault stands within the input
+unit_within : (set : Set) (names : List (List ℕ)) (u : List Piece) (rest : List ℕ) (section : Option ℕ) (reason : Reason) (size : ℕ) → Why set names u rest section reason size → size ≤ length rest
+unit_within set names u rest section reason size (Fails h) = omega arith
+unit_within set names u rest section reason size (Cut h o n) = omega arith
+unit_within set names u rest section reason size (Wrong x s r h w e) = omega (arith, ap length w.there, length-append (spell x) w.more)
+
+fault_within : (set : Set) (names : List (List ℕ)) (input : List ℕ) (place : ℕ) (section : Option ℕ) (reason : Reason) (size : ℕ) → Fault set names input place section reason size → place + size ≤ length input
+fault_within set names input place section reason size f =
+    omega (arith, ap length f.whole, length-append (spelled f.units) f.rest, f.long, unit_within set names f.units f.rest section reason size f.why)
+
+some_is : (x y : List ℕ) → Some x ≡ Some y → x ≡ y
+some_is x y e = cc
+
+pub heard_holds : HeardLaw
+heard_holds set names before now images taken r h =
+    let said = h.says [] refl in
+    let size = said.0 in
+    let fault = said.1 in
+    let none : [] ≡ drop (r.at + size) (h.bytes ++ []) = some_is [] (drop (r.at + size) (h.bytes ++ [])) said.2 in
+    let all : length (h.bytes ++ []) ≡ length h.bytes = ap length (append-nil h.bytes) in
+    let ends : length h.bytes ≡ r.at + size =
+    omega (arith, all, ap length none, length-drop (r.at + size) (h.bytes ++ []), fault_within set names (h.bytes ++ []) r.at r.section r.reason size fault) in
+    record {
+      bytes = h.bytes;
+      size = size;
+      fault = subst (λ (l : List ℕ). Fault set names l r.at r.section r.reason size) (append-nil h.bytes) fault;
+      ends = ends;
+      given = h.given ∙ ap (λ (n : ℕ). capped (before + n)) ends;
+    }

@@ -5,6 +5,8 @@ pub mod Counting
 pub mod ExactLoads
 pub mod HeadLemmas
 pub mod HeadRows
+pub mod HearingLemmas
+pub mod ItemsHeard
 pub mod LoadReads
 pub mod OpenedReads
 pub mod PartReads
@@ -15,5 +17,7 @@ pub mod SmallItems
 pub mod Spending
 pub mod StagedLemmas
 pub mod StepBytes
+pub mod StepsTaken
 pub mod StreamReads
 pub mod TurnReads
+pub mod TakenImages

@@ -1,5 +1,6 @@
 -- The section of a head, as the judge reads it.
-use Rattle.std.proofs.Common.{◌≡◌, ℕ, ◌+◌, ◌<◌, List, length, drop, slice_set, Option, Some, None, Bool, true, false, Result, Ok, Err, refl, sym, ap, ◌∙◌, subst}
+use Rattle.std.proofs.Common.{◌≡◌, ℕ, ◌+◌, ◌<◌, List, length, map, drop, slice_set, Option, Some, None, Bool, true, false, Result, Ok, Err, refl, sym, ap, ◌∙◌, subst}
+use Rattle.std.proofs.lemmas.List.{map-set}
 use Rattle.vms_spec.specs.Sets.{Set, Device}
 use Rattle.vms_spec.specs.Lists.{at_option}
 use Rattle.vms_spec.specs.Images.{Image}
@@ -18,6 +19,7 @@ use Rattle.vms_marks.specs.declared.head.Head.{Head}
 use Rattle.vms_frames.specs.Stands.{Stand}
 use Rattle.vms_frames.specs.declared.units.Tail.{Tail}
 use Rattle.vms_frames.specs.declared.fault.Refusal.{Refusal}
+use Rattle.vms_image.specs.Typed.{Typed, state_of as untyped}
 use Rattle.vms_load.specs.Heads.{Unfit, opened_at, section_opened}
 use Rattle.vms_load.specs.Reads.{Onward, Reads, ReadsOn, ReadsBehind, behind}
 use Rattle.vms_load.specs.Parts.{state_in, in_fields, after_part}
@@ -53,7 +55,6 @@ module _ (set : Set) (names : List (List ℕ)) (staged : Staged) (first configur
   refuses x n place to end bytes rest left next (Err why) (faults.Refused r) h is =
       refused_here place bytes left why.section why.reason n r (refusal_is r (record { section = why.section; at = place; reason = why.reason }) cc) is
   refuses x n place to end bytes rest left next (Err why) faults.ReadFault h is = cc
-  refuses x n place to end bytes rest left next (Err why) faults.NoMemory h is = cc
 
   -- the device has come
   abbrev pub begun : ℕ → State
@@ -119,12 +120,13 @@ module _ (set : Set) (names : List (List ℕ)) (staged : Staged) (first configur
 abbrev pub ended_in : Option (List ℕ) → List Image → List Bool → tails.Tail → State
 ended_in machine images came tail = record { machine = machine; images = images; came = came; tail = tail; spot = Free false false }
 
-pub ends_later : (machine named : Option (List ℕ)) (images first : List Image) (came now : List Bool) (k j : ℕ) (image new : Image) (tail : tails.Tail)
+pub ends_later : (machine named : Option (List ℕ)) (images first : List Typed) (came now : List Bool) (k j : ℕ) (image new : Typed) (tail : tails.Tail)
     → named ≡ machine → images ≡ slice_set first k image → now ≡ slice_set came k true → j ≡ k
-    → ended_in machine (slice_set first j new) (slice_set came k true) tail ≡ ended_in named (slice_set images k new) now tail
+    → ended_in machine (slice_set (map untyped first) j (untyped new)) (slice_set came k true) tail ≡ ended_in named (map untyped (slice_set images k new)) now tail
 ends_later machine named images first came now k j image new tail m i c same =
-    let twice : slice_set images k new ≡ slice_set first k new = ap (λ (l : List Image). slice_set l k new) i ∙ set_twice first k image new in
-    ap (λ (n : ℕ). ended_in machine (slice_set first n new) (slice_set came k true) tail) same
-    ∙ ap (λ (l : List Image). ended_in machine l (slice_set came k true) tail) (sym twice)
-    ∙ ap (λ (l : List Bool). ended_in machine (slice_set images k new) l tail) (sym c)
-    ∙ ap (λ (o : Option (List ℕ)). ended_in o (slice_set images k new) now tail) (sym m)
+    let twice : slice_set images k new ≡ slice_set first k new = ap (λ (l : List Typed). slice_set l k new) i ∙ set_twice first k image new in
+    let states : slice_set (map untyped first) k (untyped new) ≡ map untyped (slice_set images k new) = sym (map-set untyped first k new) ∙ ap (map untyped) (sym twice) in
+    ap (λ (n : ℕ). ended_in machine (slice_set (map untyped first) n (untyped new)) (slice_set came k true) tail) same
+    ∙ ap (λ (l : List Image). ended_in machine l (slice_set came k true) tail) states
+    ∙ ap (λ (l : List Bool). ended_in machine (map untyped (slice_set images k new)) l tail) (sym c)
+    ∙ ap (λ (o : Option (List ℕ)). ended_in o (map untyped (slice_set images k new)) now tail) (sym m)

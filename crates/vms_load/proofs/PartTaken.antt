@@ -17,7 +17,7 @@ use Rattle.vms_walk.specs.Steps.{step_of, steps_of}
 use Rattle.vms_walk.proofs.Walking.{steps_append}
 use Rattle.vms_walk.proofs.Kept.{neither}
 use Rattle.vms_load.specs.Bodies.{TakesAs}
-use Rattle.vms_load.specs.Reading.{take_step, take_steps, last_numbers, numbers_then, take_append, last_taken, Told, from, Took, Failed, IfRefused}
+use Rattle.vms_load.specs.Reading.{take_step, take_steps, last_numbers, numbers_then, take_append, last_taken, Told, from, IfRefused, IsTaken, IsStopped}
 use Rattle.vms_load.proofs.Counting.{number_least}
 
 -- a step takes what its slot takes: of the capacities that a number counts, the least decides
@@ -129,8 +129,8 @@ module _ (set : Set) (structs : AreSound set.structs) (d : Desc) (sound : IsSoun
   ends_ok xs p numbers place left (Ok q) e h = h.0 ∙ ok_numbers xs p q e
   ends_ok xs p numbers place left (Err r) e h = absurd h
 
-  pub part_took : (a b : Told) → Took (steps_of (slots b.image.numbers)) a b → IfSome a.left (λ rest. TakesAs (part_taken (from a rest)) b.image.numbers b.place b.left (Ok tt))
-  part_took a b h = by_left a.left h.taken
+  pub part_took : (a b : Told) → IsTaken (steps_of (slots b.image.numbers)) a b (Ok tt) → IfSome a.left (λ rest. TakesAs (part_taken (from a rest)) b.image.numbers b.place b.left (Ok tt))
+  part_took a b h = by_left a.left h
     where
       by_left : (o : Option (List ℕ)) → IfSome o (λ rest. TakesAs (take_steps (steps_of (slots b.image.numbers)) (from a rest)) b.image.numbers b.place b.left (Ok tt))
           → IfSome o (λ rest. TakesAs (part_taken (from a rest)) b.image.numbers b.place b.left (Ok tt))
@@ -140,8 +140,8 @@ module _ (set : Set) (structs : AreSound set.structs) (d : Desc) (sound : IsSoun
           let ends = ends_ok (steps_of (slots n)) (from a rest) n b.place b.left (take_steps (steps_of (slots n)) (from a rest)) refl h in
           subst (λ (t : Taken). TakesAs t n b.place b.left (Ok tt)) (steps_taken n (from a rest) ends) h
 
-  pub part_failed : (a b : Told) (fault : FrameFault) → Failed (steps_of (slots b.image.numbers)) a fault b → IfSome a.left (λ rest. TakesAs (part_taken (from a rest)) b.image.numbers b.place b.left (Err fault))
-  part_failed a b fault h = by_left a.left fault h.taken h.stopped
+  pub part_failed : (a b : Told) (fault : FrameFault) → IsTaken (steps_of (slots b.image.numbers)) a b (Err fault) → IsStopped (steps_of (slots b.image.numbers)) a fault b → IfSome a.left (λ rest. TakesAs (part_taken (from a rest)) b.image.numbers b.place b.left (Err fault))
+  part_failed a b fault h k = by_left a.left fault h k
     where
       always : (t : Taken) → TakesAs t b.image.numbers b.place b.left (Err faults.ReadFault)
       always (Ok q) = tt

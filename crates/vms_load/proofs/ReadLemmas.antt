@@ -22,7 +22,6 @@ pub still : {X Y : Type 0} (reading same : Option (Reading State)) (next : X →
     → reading ≡ same → Reads reading next at to rest left (Err e) → Reads same other at end rest left (Err e)
 still reading same next other at to end rest left (faults.Refused r) e h = record { long = h.long; is = sym e ∙ h.is; from = h.from; taken = h.taken }
 still reading same next other at to end rest left faults.ReadFault e h = tt
-still reading same next other at to end rest left faults.NoMemory e h = absurd h
 
 pub still_on : {X Y : Type 0} (old : Option (List ℕ)) (reading : Onward) (next : X → Onward) (other : Y → Onward) (from to end : Stand) (left : Option (List ℕ)) (e : LoadFault)
     → ReadsOn reading next from to old left (Err e) → ReadsOn reading other from end old left (Err e)
@@ -45,7 +44,6 @@ still_behind reading same next other at to end last rest left new (faults.Refuse
       taken = h.taken ∙ ap (λ (l : List ℕ). Some (drop (r.at - to + h.long) l)) there ∙ ap (λ (l : List ℕ). Some l) (drop-drop (r.at - to + h.long) (to - at) rest ∙ ap (λ (k : ℕ). drop k rest) (omega (arith, far)));
     }
 still_behind reading same next other at to end last rest left new faults.ReadFault le there e h = tt
-still_behind reading same next other at to end last rest left new faults.NoMemory le there e h = absurd h
 
 -- from a place on to the next, and from there on
 pub leads_on : (old mid new : Option (List ℕ)) (reading middle next : Onward) (from to end : Stand) → from.at ≤ to.at → to.at ≤ end.at
@@ -127,7 +125,6 @@ module _ (go : State → Onward) (section : Option ℕ) (it : Piece → ℕ → 
   by_verdict (Faulty section' reason m) n to left next (Err (faults.Refused r)) e far held h =
       refused_here at rest left section' reason m r h.0 (e ∙ ap (λ (k : ℕ). Some (drop k rest)) (sym h.1))
   by_verdict (Faulty section' reason m) n to left next (Err faults.ReadFault) e far held h = absurd h
-  by_verdict (Faulty section' reason m) n to left next (Err faults.NoMemory) e far held h = absurd h
   by_verdict (Over end) n to left next result e far held h = absurd h
 
   -- a whole unit was found and judged
@@ -167,7 +164,6 @@ pub settles_err : {X Y : Type 0} (v : Verdict State) (at n : ℕ) (next : X → 
 settles_err (Goes m s) at n next other e h = h
 settles_err (Faulty section reason m) at n next other (faults.Refused r) h = h
 settles_err (Faulty section reason m) at n next other faults.ReadFault h = h
-settles_err (Faulty section reason m) at n next other faults.NoMemory h = h
 settles_err (Over end) at n next other e h = h
 
 pub settles_ok : {X Y : Type 0} (v : Verdict State) (at n : ℕ) (next : X → State) (other : Y → State) (x : X) (y : Y) → next x ≡ other y → Settles v at next n (Ok x) → Settles v at other n (Ok y)

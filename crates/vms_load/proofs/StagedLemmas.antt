@@ -1,7 +1,7 @@
 -- What is read of a stream so far, device by device.
 use Rattle.std.proofs.Common.{◌≡◌, ℕ, zero, suc, ◌+◌, ◌<◌, ◌≤◌, List, [], ◌∷◌, ◌++◌, length, length-append, get_or, map, replicate, drop, slice_set, Option, Some, None, Bool, true, false, ◌||◌, nat_lt, if◌then◌else◌, Ok, refl, sym, ap, ◌∙◌, subst, arith}
 use Rattle.std.specs.Str.{bytes_eq}
-use Rattle.std.proofs.lemmas.List.{length-map, length-set, drop_more, ext_get_or, get_or-map}
+use Rattle.std.proofs.lemmas.List.{length-map, length-set, drop_more, ext_get_or, get_or-map, map-set}
 use Rattle.std.proofs.Math.ListN.{get_or-append}
 use Rattle.std.proofs.Math.Seq.{get_or-append_seam}
 use Rattle.std.proofs.lemmas.Slice.Eq.{bytes_eq-Decides}
@@ -15,8 +15,8 @@ use Rattle.vms_units.specs.SoFar.{Unknown}
 use Rattle.vms_units.specs.State.{State, Before, at_start}
 use Rattle.vms_parts.specs.Devices.{device_at}
 use Rattle.vms_load.specs.Heads.{unfit, opened_at, opened_unless, reason_against, section_opened}
-use Rattle.vms_load.specs.Parts.{IsShaped}
-use Rattle.vms_load.specs.Staging.{AreShaped, no_image, IsAccepted, section_bytes, sections_due}
+use Rattle.vms_image.specs.Typed.{Typed, state_of as untyped, default_at, IsImageOf, AreImagesOf}
+use Rattle.vms_load.specs.Staging.{AreShaped, begun_at, image_at, no_image, IsAccepted, section_bytes, sections_due}
 use Rattle.vms_load.proofs.HeadLemmas.{at_get, unknown, known, device_below}
 
 pub get_same : {X : Type 0} (xs : List X) (k : ℕ) (d e : X) → k < length xs → get_or xs k d ≡ get_or xs k e
@@ -43,40 +43,57 @@ same_or_not (suc j) zero P h i = i (λ e. absurd (omega (arith, e)))
 same_or_not (suc j) (suc k) P h i = same_or_not j k P (λ e. h (ap suc e)) (λ ne. i (λ e. ne (omega (arith, e))))
 
 -- an image of each device, one of which is put anew
-pub shaped_put : (set : Set) (images : List Image) (k : ℕ) (image : Image) → AreShaped set images → k < length set.devices → IsShaped set (device_at set k) image → AreShaped set (slice_set images k image)
+pub shaped_put : (set : Set) (images : List Typed) (k : ℕ) (image : Typed) → AreShaped set images → k < length set.devices → IsImageOf set k image → AreShaped set (slice_set images k image)
 shaped_put set images k image s lt here = record {
   all = length-set images k image ∙ s.all;
-  each = λ j below. same_or_not j k (IsShaped set (device_at set j) (get_or (slice_set images k image) j no_image))
-      (λ e. subst (λ (n : ℕ). IsShaped set (device_at set n) (get_or (slice_set images k image) n no_image)) (sym e)
-      (subst (λ (x : Image). IsShaped set (device_at set k) x) (sym (get_set images k image no_image (omega (arith, s.all, lt)))) here))
-      (λ ne. subst (λ (x : Image). IsShaped set (device_at set j) x) (sym (get_other images k j image no_image ne)) (s.each j below));
+  each = λ j below. same_or_not j k (IsImageOf set j (get_or (slice_set images k image) j no_image))
+      (λ e. subst (λ (n : ℕ). IsImageOf set n (get_or (slice_set images k image) n no_image)) (sym e)
+      (subst (λ (x : Typed). IsImageOf set k x) (sym (get_set images k image no_image (omega (arith, s.all, lt)))) here))
+      (λ ne. subst (λ (x : Typed). IsImageOf set j x) (sym (get_other images k j image no_image ne)) (s.each j below));
 }
 
-pub default_shaped : (set : Set) (d : Device) (v : ℕ) → IsShaped set d (record (default_image set d) { version = v })
-default_shaped set d v = record { came = length-map d.subs (λ s. None); numbers = length-map _ (λ c. c.default) }
+pub default_shaped : (set : Set) (k v : ℕ) → IsImageOf set k (begun_at set k v)
+default_shaped set k v = record { subs = length-map (device_at set k).subs (λ s. None); cells = length-map _ (λ c. c.default); kinds = refl }
 
 -- the image of a device
-pub shape_of : (set : Set) (images : List Image) (k : ℕ) (image : Image) → AreShaped set images → k < length set.devices → image ≡ get_or images k image → IsShaped set (device_at set k) image
+pub shape_of : (set : Set) (images : List Typed) (k : ℕ) (image : Typed) → AreShaped set images → k < length set.devices → image ≡ get_or images k image → IsImageOf set k image
 shape_of set images k image s lt is =
-    subst (λ (x : Image). IsShaped set (device_at set k) x) (get_same images k no_image image (omega (arith, s.all, lt)) ∙ sym is) (s.each k lt)
+    subst (λ (x : Typed). IsImageOf set k x) (get_same images k no_image image (omega (arith, s.all, lt)) ∙ sym is) (s.each k lt)
 
 -- the image whose section has begun
-pub image_begun : (images first : List Image) (k : ℕ) (image here : Image) → here ≡ get_or images k here → images ≡ slice_set first k image → k < length first → here ≡ image
-image_begun images first k image here is e lt = is ∙ ap (λ (l : List Image). get_or l k here) e ∙ get_set first k image here lt
+pub image_begun : (images first : List Typed) (k : ℕ) (image here : Typed) → here ≡ get_or images k here → images ≡ slice_set first k image → k < length first → here ≡ image
+image_begun images first k image here is e lt = is ∙ ap (λ (l : List Typed). get_or l k here) e ∙ get_set first k image here lt
 
 -- ---- all at their defaults
 
-pub record Reset (set : Set) (images first : List Image) (done : ℕ) : Type 0 where
+module _ (set : Set) (images : List Typed) (long : length images ≡ length set.devices) (each : (k : ℕ) → k < length images → get_or images k no_image ≡ default_at set k) where
+  pub all_default : map untyped images ≡ map (default_image set) set.devices
+  all_default =
+      ext_get_or (untyped no_image) (map untyped images) (map (default_image set) set.devices) (length-map images untyped ∙ long ∙ sym (length-map set.devices (default_image set)))
+      (λ k lt.
+      let here : k < length images = omega (arith, lt, length-map images untyped) in
+      get_or-map untyped images k no_image (untyped no_image) here ∙ ap untyped (each k here)
+      ∙ sym (get_or-map (default_image set) set.devices k _ (untyped no_image) (omega (arith, here, long))))
+
+  pub all_shaped : AreShaped set images
+  all_shaped = record {
+    all = long;
+    each = λ k lt.
+        let here : k < length images = omega (arith, lt, long) in
+        subst (λ (x : Typed). IsImageOf set k x) (sym (each k here)) (default_shaped set k (device_at set k).desc.version);
+  }
+
+pub record Reset (set : Set) (images first : List Typed) (done : ℕ) : Type 0 where
   pub long : length images ≡ length first
-  pub before : (k : ℕ) → k < done → get_or images k no_image ≡ default_image set (device_at set k)
+  pub before : (k : ℕ) → k < done → get_or images k no_image ≡ default_at set k
   pub after : (k : ℕ) → done ≤ k → get_or images k no_image ≡ get_or first k no_image
 
-pub reset_on : (set : Set) (images first : List Image) (done : ℕ) (image : Image) → Reset set images first done → done < length images → image ≡ default_image set (device_at set done)
+pub reset_on : (set : Set) (images first : List Typed) (done : ℕ) (image : Typed) → Reset set images first done → done < length images → image ≡ default_at set done
     → Reset set (slice_set images done image) first (done + 1)
 reset_on set images first done image r lt is = record {
   long = length-set images done image ∙ r.long;
-  before = λ k below. same_or_not k done (get_or (slice_set images done image) k no_image ≡ default_image set (device_at set k))
-      (λ e. ap (λ (n : ℕ). get_or (slice_set images done image) n no_image) e ∙ get_set images done image no_image lt ∙ is ∙ ap (λ (n : ℕ). default_image set (device_at set n)) (sym e))
+  before = λ k below. same_or_not k done (get_or (slice_set images done image) k no_image ≡ default_at set k)
+      (λ e. ap (λ (n : ℕ). get_or (slice_set images done image) n no_image) e ∙ get_set images done image no_image lt ∙ is ∙ ap (λ (n : ℕ). default_at set n) (sym e))
       (λ ne. get_other images done k image no_image ne ∙ r.before k (apart k done below ne));
   after = λ k up. get_other images done k image no_image (λ e. absurd (omega (arith, e, up))) ∙ r.after k (omega (arith, up));
 }
@@ -84,36 +101,65 @@ reset_on set images first done image r lt is = record {
     apart : (k done : ℕ) → k < done + 1 → (k ≡ done → ⊥) → k < done
     apart k done below ne = same_or_not k done (k < done) (λ e. absurd (ne e)) (λ no. grind arith)
 
-pub reset_shape : (set : Set) (images first : List Image) (done : ℕ) (image : Image) → Reset set images first done → AreShaped set first → done < length images → image ≡ get_or images done image
-    → IsShaped set (device_at set done) image
+pub reset_shape : (set : Set) (images first : List Typed) (done : ℕ) (image : Typed) → Reset set images first done → AreShaped set first → done < length images → image ≡ get_or images done image
+    → IsImageOf set done image
 reset_shape set images first done image r s lt is =
-    subst (λ (x : Image). IsShaped set (device_at set done) x) (sym (r.after done (omega arith)) ∙ get_same images done no_image image lt ∙ sym is) (s.each done (omega (arith, lt, r.long, s.all)))
+    subst (λ (x : Typed). IsImageOf set done x) (sym (r.after done (omega arith)) ∙ get_same images done no_image image lt ∙ sym is) (s.each done (omega (arith, lt, r.long, s.all)))
 
-pub reset_all : (set : Set) (images first : List Image) (done : ℕ) → Reset set images first done → AreShaped set first → length images ≤ done → images ≡ map (default_image set) set.devices
+pub reset_all : (set : Set) (images first : List Typed) (done : ℕ) → Reset set images first done → AreShaped set first → length images ≤ done → map untyped images ≡ map (default_image set) set.devices
 reset_all set images first done r s all =
-    ext_get_or no_image images (map (default_image set) set.devices) (r.long ∙ s.all ∙ sym (length-map set.devices (default_image set)))
-    (λ k lt. r.before k (omega (arith, lt, all)) ∙ sym (get_or-map (default_image set) set.devices k _ no_image (omega (arith, lt, r.long, s.all))))
+    all_default set images (r.long ∙ s.all) (λ k lt. r.before k (omega (arith, lt, all)))
+
+pub reset_shaped : (set : Set) (images first : List Typed) (done : ℕ) → Reset set images first done → AreShaped set first → length images ≤ done → AreShaped set images
+reset_shaped set images first done r s all = all_shaped set images (r.long ∙ s.all) (λ k lt. r.before k (omega (arith, lt, all)))
 
 -- those of the first devices
-pub record Made (set : Set) (images : List Image) (done : ℕ) : Type 0 where
+pub record Made (set : Set) (images : List Typed) (done : ℕ) : Type 0 where
   pub long : length images ≡ done
-  pub each : (k : ℕ) → k < done → get_or images k no_image ≡ default_image set (device_at set k)
+  pub each : (k : ℕ) → k < done → get_or images k no_image ≡ default_at set k
 
-pub made_on : (set : Set) (images : List Image) (done : ℕ) (image : Image) → Made set images done → image ≡ default_image set (device_at set done) → Made set (images ++ image ∷ []) (done + 1)
+pub made_on : (set : Set) (images : List Typed) (done : ℕ) (image : Typed) → Made set images done → image ≡ default_at set done → Made set (images ++ image ∷ []) (done + 1)
 made_on set images done image m is = record {
   long = length-append images (image ∷ []) ∙ ap (λ (n : ℕ). n + 1) m.long;
-  each = λ k below. same_or_not k done (get_or (images ++ image ∷ []) k no_image ≡ default_image set (device_at set k))
-      (λ e. ap (λ (n : ℕ). get_or (images ++ image ∷ []) n no_image) (e ∙ sym m.long) ∙ get_or-append_seam images image [] no_image ∙ is ∙ ap (λ (n : ℕ). default_image set (device_at set n)) (sym e))
+  each = λ k below. same_or_not k done (get_or (images ++ image ∷ []) k no_image ≡ default_at set k)
+      (λ e. ap (λ (n : ℕ). get_or (images ++ image ∷ []) n no_image) (e ∙ sym m.long) ∙ get_or-append_seam images image [] no_image ∙ is ∙ ap (λ (n : ℕ). default_at set n) (sym e))
       (λ ne. get_or-append images (image ∷ []) no_image k (front k below ne) ∙ m.each k (omega (arith, front k below ne, m.long)));
 }
   where
     front : (k : ℕ) → k < done + 1 → (k ≡ done → ⊥) → k < length images
     front k below ne = same_or_not k done (k < length images) (λ e. absurd (ne e)) (λ no. omega (arith, m.long, below, no))
 
-pub made_all : (set : Set) (images : List Image) (done : ℕ) → Made set images done → done ≡ length set.devices → images ≡ map (default_image set) set.devices
+pub made_all : (set : Set) (images : List Typed) (done : ℕ) → Made set images done → done ≡ length set.devices → map untyped images ≡ map (default_image set) set.devices
 made_all set images done m all =
-    ext_get_or no_image images (map (default_image set) set.devices) (m.long ∙ all ∙ sym (length-map set.devices (default_image set)))
-    (λ k lt. m.each k (omega (arith, lt, m.long)) ∙ sym (get_or-map (default_image set) set.devices k _ no_image (omega (arith, lt, m.long, all))))
+    all_default set images (m.long ∙ all) (λ k lt. m.each k (omega (arith, lt, m.long)))
+
+pub made_shaped : (set : Set) (images : List Typed) (done : ℕ) → Made set images done → done ≡ length set.devices → AreShaped set images
+made_shaped set images done m all = all_shaped set images (m.long ∙ all) (λ k lt. m.each k (omega (arith, lt, m.long)))
+
+-- ---- states
+
+pub begun_states : (set : Set) (new old : List Typed) (k v : ℕ) → new ≡ slice_set old k (begun_at set k v) → map untyped new ≡ slice_set (map untyped old) k (image_at set k v)
+begun_states set new old k v e = ap (map untyped) e ∙ map-set untyped old k (begun_at set k v)
+
+pub shaped_states : (set : Set) (images : List Typed) → AreShaped set images → length (map untyped images) ≡ length set.devices
+shaped_states set images s = length-map images untyped ∙ s.all
+
+get_there : (images : List Typed) (k : ℕ) (image : Typed) → at images k ≡ Some image → (k < length images) × (get_or images k no_image ≡ image)
+get_there [] k image e = cc
+get_there (x ∷ xs) zero image e = (omega arith, cc)
+get_there (x ∷ xs) (suc k) image e =
+    let h = get_there xs k image e in
+    let lt : k < length xs = h.0 in
+    (omega arith, h.1)
+
+pub are_images : (set : Set) (images : List Typed) → AreShaped set images → AreImagesOf set images
+are_images set images s = record {
+  one_each = s.all;
+  each = λ k image e.
+      let h = get_there images k image e in
+      let lt : k < length images = h.0 in
+      subst (λ (x : Typed). IsImageOf set k x) h.1 (s.each k (omega (arith, lt, s.all)));
+}
 
 -- ---- machines
 

@@ -62,7 +62,6 @@ module _ (set : Set) (names : List (List ℕ)) where
       let all : r.at - from + h.long ≡ r.at + h.long = omega (arith, zero) in
       subst (λ (y : Option (Reading State)). ReadsAll set y staged input left (Err (faults.Refused r))) (sym h.is) (refl, h.taken ∙ ap (λ (k : ℕ). Some (drop k input)) all)
   all_refused x staged input left next from to faults.ReadFault zero h = all_fault x staged input left
-  all_refused x staged input left next from to faults.NoMemory zero h = absurd h
 
   -- the reading of a whole input, where the cursor holds nothing
   begins : (state : State) (from : Stand) (input : List ℕ) → state ≡ at_start set → from.at ≡ 0 → from.held ≡ None → go state from.at (ahead from.held input) ≡ whole input

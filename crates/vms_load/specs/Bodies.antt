@@ -1,17 +1,36 @@
 -- What the calls that read fields answer.
-use Rattle.std.specs.Prelude.{◌≡◌, ℕ, ◌+◌, ◌-◌, ◌≤◌, List, drop, Option, Some, ℤ, Result, Ok, Err, IfSome}
+use Rattle.std.specs.Prelude.{◌≡◌, ℕ, ◌+◌, ◌-◌, ◌≤◌, List, [], ◌∷◌, get_or, drop, Option, Some, ℤ, Result, Ok, Err, IfSome}
 use Rattle.vms_io.specs.Causes.{capped}
 use Rattle.vms_kinds.specs.declared.Kind.{Kind}
+use Rattle.vms_kinds.specs.declared.Kind.TheVariants.{U8}
+use Rattle.vms_walk.specs.declared.step.Step.{Step}
+use Rattle.vms_walk.specs.declared.step.Step.TheVariants as steps
 use Rattle.vms_kinds.specs.Codes.{width}
-use Rattle.vms_spec.specs.Layout.{Number as NumberSlot, Constant as ConstantSlot}
+use Rattle.vms_spec.specs.Layout.{Slot, Number as NumberSlot, Constant as ConstantSlot, Filler as FillerSlot, Rule as RuleSlot}
 use Rattle.vms_spec.specs.Taking.{Taken, Progress}
 use Rattle.vms_spec.specs.Units.{Number, Constant}
 use Rattle.vms_units.specs.Dues.{Field}
 use Rattle.vms_units.specs.Seen.{seen}
 use Rattle.vms_units.specs.Taking.{nothing_known}
 use Rattle.vms_frames.specs.Calls.{AnswersSeen}
+use Rattle.vms_frames.specs.Heard.{Hears}
 use Rattle.vms_frames.specs.declared.fault.FrameFault.{FrameFault}
 use Rattle.vms_frames.specs.declared.fault.FrameFault.TheVariants as faults
+
+-- the number of a step is of the kind of its cell
+abbrev pub IsOfKind : List Kind → Step → Type 0
+IsOfKind kinds (steps.Number cell kind most) = get_or kinds cell U8 ≡ kind
+IsOfKind kinds (steps.Constant kind value) = Unit {0}
+IsOfKind kinds (steps.Filler bytes) = Unit {0}
+IsOfKind kinds (steps.Rule holds) = Unit {0}
+
+-- each number of the slots is
+abbrev pub AreOfKinds : List Kind → List Slot → Type 0
+AreOfKinds kinds [] = Unit {0}
+AreOfKinds kinds (NumberSlot c kind capacities ∷ xs) = (get_or kinds c U8 ≡ kind) × AreOfKinds kinds xs
+AreOfKinds kinds (ConstantSlot kind z ∷ xs) = AreOfKinds kinds xs
+AreOfKinds kinds (FillerSlot n ∷ xs) = AreOfKinds kinds xs
+AreOfKinds kinds (RuleSlot b ∷ xs) = AreOfKinds kinds xs
 
 -- a number of this kind that is at most each of these capacities
 abbrev pub ReadsCapped : Kind → List ℕ → ℕ → Option (List ℕ) → Option (List ℕ) → Result ℤ FrameFault → Type 0
@@ -40,3 +59,15 @@ progress numbers place rest = record { numbers = numbers; place = place; rest = 
 abbrev pub Spends : {X : Type 0} → ℕ → ℕ → ℕ → ℕ → ℕ → Result X FrameFault → Type 0
 Spends most before now from to (Ok x) = (from ≤ to) × (to ≤ from + most) × (now ≡ capped (before + (to - from)))
 Spends most before now from to (Err e) = now ≤ before + most
+
+-- ---- what the calls hear of their source
+
+abbrev pub HearsCapped : Kind → List ℕ → ℕ → ℕ → ℕ → Result ℤ FrameFault → Type 0
+HearsCapped kind capacities at before now result = Hears before now (λ old left. ReadsCapped kind capacities at old left result) result
+
+abbrev pub HearsConstant : Kind → ℤ → ℕ → ℕ → ℕ → Result (Unit {0}) FrameFault → Type 0
+HearsConstant kind z at before now result = Hears before now (λ old left. ReadsConstant kind z at old left result) result
+
+-- the call takes what the definition takes of the bytes that are left
+abbrev pub HearsTaken : (List ℕ → Taken) → List ℤ → ℕ → ℕ → ℕ → Result (Unit {0}) FrameFault → Type 0
+HearsTaken taken numbers place before now result = Hears before now (λ old left. IfSome old (λ rest. TakesAs (taken rest) numbers place left result)) result

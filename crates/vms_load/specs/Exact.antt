@@ -1,5 +1,6 @@
 -- A load answers exactly by what the input is.
-use Rattle.std.specs.Prelude.{◌≡◌, ℕ, List, Option, Result, Ok, Err}
+use Rattle.std.specs.Prelude.{◌≡◌, ℕ, ◌+◌, List, length, Option, Result, Ok, Err}
+use Rattle.vms_io.specs.Causes.{capped}
 use Rattle.vms_spec.specs.declared.Reason.{Reason}
 use Rattle.vms_units.specs.Faults.{Fault}
 use Rattle.vms_spec.specs.Images.{Image}
@@ -8,6 +9,8 @@ use Rattle.vms_spec.specs.Sets.{Set}
 use Rattle.vms_units.specs.Streams.{Takes}
 use Rattle.vms_spec.specs.WellFormed.{WellFormed}
 use Rattle.vms_spec.specs.Heads.{FitsHeads}
+use Rattle.vms_frames.specs.declared.fault.Refusal.{Refusal}
+use Rattle.vms_load.specs.Hearing.{HearsLoad}
 use Rattle.vms_load.specs.Loads.{Loads}
 use Rattle.vms_load.specs.Staging.{name_of}
 use Rattle.vms_load.specs.declared.fault.LoadFault.{LoadFault}
@@ -18,14 +21,12 @@ abbrev pub GivesStream : Set → List Image → ℕ → Result (Option ℕ) Load
 GivesStream set images taken (Ok named) n machine others = (taken ≡ n) × (name_of set named ≡ machine) × (images ≡ others)
 GivesStream set images taken (Err (faults.Refused r)) n machine others = ⊥
 GivesStream set images taken (Err faults.ReadFault) n machine others = Unit {0}
-GivesStream set images taken (Err faults.NoMemory) n machine others = ⊥
 
 -- refused at this place, for this device and this reason, or a read fault
 abbrev pub IsRefusedAt : Result (Option ℕ) LoadFault → ℕ → Option ℕ → Reason → Type 0
 IsRefusedAt (Ok named) place section reason = ⊥
 IsRefusedAt (Err (faults.Refused r)) place section reason = (r.at ≡ place) × (r.section ≡ section) × (r.reason ≡ reason)
 IsRefusedAt (Err faults.ReadFault) place section reason = Unit {0}
-IsRefusedAt (Err faults.NoMemory) place section reason = ⊥
 
 -- Where the input takes a stream the answer is that stream, and where it has a fault the answer is that fault. The contract
 -- of a load says the other direction, and `either_law` that every input has one of both.
@@ -40,3 +41,16 @@ abbrev pub ExactLaw : Type 0
 ExactLaw = (set : Set) (names : List (List ℕ)) → WellFormed set → FitsHeads set → (input : List ℕ) → IsBytes input
     → (left : Option (List ℕ)) (images : List Image) (taken : ℕ) (result : Result (Option ℕ) LoadFault)
     → Loads set names input left images taken result → IsExact set names input images taken result
+
+-- A refusal, whether or not the source tells its bytes: of some bytes, as many as were given, it is the fault, and they end
+-- with the unit at fault.
+pub record EndsAtUnit (set : Set) (names : List (List ℕ)) (before now : ℕ) (r : Refusal) : Type 0 where
+  pub bytes : List ℕ
+  pub size : ℕ
+  pub fault : Fault set names bytes r.at r.section r.reason size
+  pub ends : length bytes ≡ r.at + size
+  pub given : now ≡ capped (before + (r.at + size))
+
+abbrev pub HeardLaw : Type 0
+HeardLaw = (set : Set) (names : List (List ℕ)) (before now : ℕ) (images : List Image) (taken : ℕ) (r : Refusal)
+    → HearsLoad set names before now images taken (Err (faults.Refused r)) → EndsAtUnit set names before now r

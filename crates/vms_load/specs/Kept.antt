@@ -1,15 +1,16 @@
 -- What a loader keeps: its set, the images and the number of bytes of the last stream that it took.
-use Rattle.std.specs.Prelude.{ℕ, List}
+use Rattle.std.specs.Prelude.{ℕ, List, map}
 use Rattle.vms_spec.specs.Sets.{Set}
 use Rattle.vms_spec.specs.Images.{Image}
 use Rattle.vms_desc.specs.Described.{described}
+use Rattle.vms_image.specs.Typed.{state_of as untyped}
 use Rattle.vms_load.specs.declared.loader.Loader.{Loader}
 
 abbrev pub loads : Loader → Set
 loads loader = described loader.set
 
 abbrev pub kept : Loader → List Image
-kept loader = loader.images.items
+kept loader = map untyped loader.images.items
 
 abbrev pub taken_by : Loader → ℕ
 taken_by loader = loader.taken

@@ -1,7 +1,9 @@
 pub mod Bodies
 pub mod Bounds
 pub mod Exact
+pub mod Good
 pub mod Heads
+pub mod Hearing
 pub mod Kept
 pub mod Loads
 pub mod Parts

@@ -9,10 +9,9 @@ use Rattle.vms_load.specs.Staging.{name_of, most_given}
 use Rattle.vms_load.specs.declared.fault.LoadFault.{LoadFault}
 use Rattle.vms_load.specs.declared.fault.LoadFault.TheVariants as faults
 
--- the count of faults doesn't fall, a read fault comes only where it rose, and want of memory is not answered
+-- the count of faults doesn't fall, a read fault comes only where it rose
 abbrev pub HasCause : {T : Type 0} → ℕ → ℕ → Result T LoadFault → Type 0
 HasCause before now (Err faults.ReadFault) = (before ≤ now) × Rose before now
-HasCause before now (Err faults.NoMemory) = ⊥
 HasCause before now _ = before ≤ now
 
 -- At Ok the input takes a stream of so many bytes, with this machine and these images, and exactly these bytes are taken. A
@@ -21,7 +20,6 @@ abbrev pub Loads : Set → List (List ℕ) → List ℕ → Option (List ℕ) �
 Loads set names input left images taken (Ok machine) = Takes set names input taken (name_of set machine) images × (left ≡ Some (drop taken input))
 Loads set names input left images taken (Err (faults.Refused r)) = (size : ℕ) × Fault set names input r.at r.section r.reason size × (left ≡ Some (drop (r.at + size) input))
 Loads set names input left images taken (Err faults.ReadFault) = Unit {0}
-Loads set names input left images taken (Err faults.NoMemory) = ⊥
 
 -- at Ok as many bytes are given as were taken, and never more than any stream of the set may have with a unit at fault
 abbrev pub GivesWithin : {T : Type 0} → Set → ℕ → ℕ → ℕ → Result T LoadFault → Type 0

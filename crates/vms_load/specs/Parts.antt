@@ -4,7 +4,6 @@ use Rattle.vms_spec.specs.Sets.{Desc, Sub, Device, Set}
 use Rattle.vms_spec.specs.declared.Part.{Part}
 use Rattle.vms_spec.specs.declared.Part.TheVariants as parts
 use Rattle.vms_spec.specs.Lists.{at}
-use Rattle.vms_spec.specs.Layout.{device_cells}
 use Rattle.vms_spec.specs.Images.{Image, sub_place, own_cells}
 use Rattle.vms_spec.specs.SoFar.{part_slots}
 use Rattle.vms_units.specs.Judge.{judge}
@@ -18,11 +17,6 @@ use Rattle.vms_load.specs.Bounds.{desc_bytes, struct_bytes}
 use Rattle.vms_load.specs.Reads.{Onward}
 use Rattle.vms_load.specs.declared.parts.Section.{Section}
 use Rattle.vms_load.specs.declared.parts.Open.{Open}
-
--- an image of this device
-pub record IsShaped (set : Set) (d : Device) (image : Image) : Type 0 where
-  pub came : length image.came ≡ length d.subs
-  pub numbers : length image.numbers ≡ length (device_cells set d)
 
 -- the description of the device's own fields or of a subsection, and where its cells begin
 abbrev pub part_desc : Device → Option ℕ → Desc

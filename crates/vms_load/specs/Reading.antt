@@ -2,9 +2,11 @@
 use Rattle.std.specs.Prelude.{◌≡◌, ℕ, ◌+◌, ◌^◌, ◌<◌, ◌≤◌, Bool, List, [], ◌∷◌, ◌++◌, Option, ℤ, Result, Ok, Err, IfSome}
 use Rattle.std.proofs.Common.{refl, sym, ap, ◌∙◌, subst, arith, None, Some}
 use Rattle.vms_kinds.specs.Codes.{width}
-use Rattle.vms_spec.specs.Images.{Image}
+use Rattle.vms_image.specs.Typed.{Typed}
 use Rattle.vms_spec.specs.Taking.{Taken, Progress, Refusal, ◌>>=◌, take_number, take_constant, take_filler, take_rule}
 use Rattle.vms_frames.specs.Answers.{HasCause}
+use Rattle.vms_frames.specs.Heard.{HeardOn, Hears}
+use Rattle.vms_frames.proofs.HeardLemmas.{heard_none, heard_both, hears_both, hears_as}
 use Rattle.vms_frames.specs.declared.fault.FrameFault.{FrameFault}
 use Rattle.vms_frames.specs.declared.fault.FrameFault.TheVariants as faults
 use Rattle.vms_walk.specs.declared.step.Step.{Step}
@@ -47,14 +49,14 @@ steps_long (x ∷ xs) = step_long x + steps_long xs
 
 -- an image, a place, and what a source tells
 pub record Told : Type 0 where
-  pub image : Image
+  pub image : Typed
   pub place : ℕ
   pub left : Option (List ℕ)
   pub given : ℕ
   pub faults : ℕ
   pub promise : Bool
 
-abbrev pub told : {S : Type 0} → (S → Option (List ℕ)) → (S → ℕ) → (S → ℕ) → (S → Bool) → Image → ℕ → S → Told
+abbrev pub told : {S : Type 0} → (S → Option (List ℕ)) → (S → ℕ) → (S → ℕ) → (S → Bool) → Typed → ℕ → S → Told
 told left given faults promise image place source = record {
   image = image;
   place = place;
@@ -67,9 +69,18 @@ told left given faults promise image place source = record {
 abbrev pub from : Told → List ℕ → Progress
 from t rest = progress t.image.numbers t.place rest
 
+-- where a source tells these bytes in place of what it tells
+abbrev pub with_left : Told → Option (List ℕ) → Told
+with_left t left = record t { left = left }
+
+-- these steps take what was taken, or are refused there
+abbrev pub IsTaken : List Step → Told → Told → Result (Unit {0}) FrameFault → Type 0
+IsTaken xs old new result = IfSome old.left (λ rest. TakesAs (take_steps xs (from old rest)) new.image.numbers new.place new.left result)
+
 -- these steps were taken
 pub record Took (xs : List Step) (old new : Told) : Type 0 where
-  pub taken : IfSome old.left (λ rest. TakesAs (take_steps xs (from old rest)) new.image.numbers new.place new.left (Ok tt))
+  pub taken : IsTaken xs old new (Ok tt)
+  pub heard : HeardOn old.given new.given (λ a b. IsTaken xs (with_left old a) (with_left new b) (Ok tt))
   pub given : Spends {X = Unit {0}} (steps_long xs) old.given new.given old.place new.place (Ok tt)
   pub later : old.faults ≤ new.faults
   pub promise : new.promise ≡ old.promise
@@ -81,10 +92,14 @@ abbrev pub IfRefused : FrameFault → Type 0 → Type 0
 IfRefused (faults.Refused at reason) P = P
 IfRefused faults.ReadFault P = Unit {0}
 
+abbrev pub IsStopped : List Step → Told → FrameFault → Told → Type 0
+IsStopped xs old fault new = IfSome old.left (λ rest. IfRefused fault (new.image.numbers ≡ last_numbers xs (from old rest)))
+
 -- some first of the steps were, and then a fault came
 pub record Failed (xs : List Step) (old : Told) (fault : FrameFault) (new : Told) : Type 0 where
-  pub taken : IfSome old.left (λ rest. TakesAs (take_steps xs (from old rest)) new.image.numbers new.place new.left (Err fault))
-  pub stopped : IfSome old.left (λ rest. IfRefused fault (new.image.numbers ≡ last_numbers xs (from old rest)))
+  pub taken : IsTaken xs old new (Err fault)
+  pub stopped : IsStopped xs old fault new
+  pub heard : Hears {X = Unit {0}} old.given new.given (λ a b. IsTaken xs (with_left old a) (with_left new b) (Err fault) × IsStopped xs (with_left old a) fault (with_left new b)) (Err fault)
   pub given : Spends {X = Unit {0}} (steps_long xs) old.given new.given old.place new.place (Err fault)
   pub cause : HasCause {X = Unit {0}} old.faults new.faults (Err fault)
   pub promise : new.promise ≡ old.promise
@@ -170,12 +185,13 @@ stop_early (Ok p) ys (faults.Refused at reason) n place left h = absurd h
 stop_early (Ok p) ys faults.ReadFault n place left h = always (take_steps ys p) n place left
 stop_early (Err e) ys fault n place left h = h
 
-kept_on : (a b c : Image) → b ≡ record a { numbers = b.numbers } → c ≡ record b { numbers = c.numbers } → c ≡ record a { numbers = c.numbers }
-kept_on a b c e f = f ∙ ap (λ (image : Image). record image { numbers = c.numbers }) e
+kept_on : (a b c : Typed) → b ≡ record a { numbers = b.numbers } → c ≡ record b { numbers = c.numbers } → c ≡ record a { numbers = c.numbers }
+kept_on a b c e f = f ∙ ap (λ (image : Typed). record image { numbers = c.numbers }) e
 
 pub took_none : (a : Told) → a.given < 2 ^ 64 → Took [] a a
 took_none a few = record {
   taken = none a.left refl;
+  heard = heard_none (λ more. Unit {0}) a.given (omega (arith, few)) (λ more. (refl, refl, refl));
   given = (omega arith, omega arith, omega (arith, few));
   later = omega arith;
   promise = refl;
@@ -187,9 +203,14 @@ took_none a few = record {
     none None e = tt
     none (Some rest) e = (refl, refl, sym e)
 
+taken_more : (xs ys : List Step) (a b c : Told) (r : Result (Unit {0}) FrameFault) → IsTaken xs a b (Ok tt) → IsTaken ys b c r → IsTaken (xs ++ ys) a c r
+taken_more xs ys a b c r h k =
+    on_known a.left (λ rest t. subst (λ (x : Taken). TakesAs x c.image.numbers c.place c.left r) (sym (take_append xs ys (from a rest))) (join (take_steps xs (from a rest)) ys b c r t k)) h
+
 pub took_more : (xs ys : List Step) (a b c : Told) → Took xs a b → Took ys b c → Took (xs ++ ys) a c
 took_more xs ys a b c h k = record {
-  taken = on_known a.left (λ rest t. subst (λ (x : Taken). TakesAs x c.image.numbers c.place c.left (Ok tt)) (sym (take_append xs ys (from a rest))) (join (take_steps xs (from a rest)) ys b c (Ok tt) t k.taken)) h.taken;
+  taken = taken_more xs ys a b c (Ok tt) h.taken k.taken;
+  heard = heard_both (λ more. Unit {0}) a.given b.given c.given (λ x y z p q. taken_more xs ys (with_left a x) (with_left b y) (with_left c z) (Ok tt) p q) h.heard k.heard;
   given = (omega (arith, h.given.0, k.given.0), omega (arith, h.given.1, k.given.1, long_append xs ys), omega (arith, h.given.0, h.given.2, k.given.0, k.given.2));
   later = omega (arith, h.later, k.later);
   promise = k.promise ∙ h.promise;
@@ -205,12 +226,20 @@ if_refused : {P Q : Type 0} (fault : FrameFault) → (P → Q) → IfRefused fau
 if_refused (faults.Refused at reason) f h = f h
 if_refused faults.ReadFault f h = tt
 
+stopped_more : (xs ys : List Step) (a b c : Told) (fault : FrameFault) → IsTaken xs a b (Ok tt) → IsStopped ys b fault c → IsStopped (xs ++ ys) a fault c
+stopped_more xs ys a b c fault h k = on_known a.left (λ rest t.
+    let to = leads (take_steps xs (from a rest)) b t in
+    if_refused fault (λ e. e ∙ sym (last_taken xs ys (from a rest) (from b to.rest) to.is)) (at_rest _ b.left to.rest to.left k)) h
+
 pub failed_after : (xs ys : List Step) (a b c : Told) (fault : FrameFault) → Took xs a b → Failed ys b fault c → Failed (xs ++ ys) a fault c
 failed_after xs ys a b c fault h k = record {
-  taken = on_known a.left (λ rest t. subst (λ (x : Taken). TakesAs x c.image.numbers c.place c.left (Err fault)) (sym (take_append xs ys (from a rest))) (join (take_steps xs (from a rest)) ys b c (Err fault) t k.taken)) h.taken;
-  stopped = on_known a.left (λ rest t.
-      let to = leads (take_steps xs (from a rest)) b t in
-      if_refused fault (λ e. e ∙ sym (last_taken xs ys (from a rest) (from b to.rest) to.is)) (at_rest _ b.left to.rest to.left k.stopped)) h.taken;
+  taken = taken_more xs ys a b c (Err fault) h.taken k.taken;
+  stopped = stopped_more xs ys a b c fault h.taken k.stopped;
+  heard = hears_both {X = Unit {0}} a.given b.given c.given (Err fault)
+      (λ x y z p q. (
+        taken_more xs ys (with_left a x) (with_left b y) (with_left c z) (Err fault) p q.0,
+        stopped_more xs ys (with_left a x) (with_left b y) (with_left c z) fault p q.1,
+      )) h.heard k.heard;
   given = omega (arith, h.given.0, h.given.1, h.given.2, k.given, long_append xs ys);
   cause = cause_more a.faults b.faults c.faults fault h.later k.cause;
   promise = k.promise ∙ h.promise;
@@ -227,12 +256,20 @@ both_refused : {P Q R : Type 0} (fault : FrameFault) → (P → Q → R) → IfR
 both_refused (faults.Refused at reason) f h k = f h k
 both_refused faults.ReadFault f h k = tt
 
+taken_before : (xs ys : List Step) (a b : Told) (fault : FrameFault) → IsTaken xs a b (Err fault) → IsTaken (xs ++ ys) a b (Err fault)
+taken_before xs ys a b fault h = on_known a.left (λ rest t. subst (λ (x : Taken). TakesAs x b.image.numbers b.place b.left (Err fault)) (sym (take_append xs ys (from a rest))) (stop_early (take_steps xs (from a rest)) ys fault b.image.numbers b.place b.left t)) h
+
+stopped_before : (xs ys : List Step) (a b : Told) (fault : FrameFault) → IsTaken xs a b (Err fault) → IsStopped xs a fault b → IsStopped (xs ++ ys) a fault b
+stopped_before xs ys a b fault h k = on_two a.left (λ rest t s.
+    both_refused fault (λ (e : last_numbers (xs ++ ys) (from a rest) ≡ last_numbers xs (from a rest)) f. f ∙ sym e)
+    (refused_is (take_steps xs (from a rest)) b.image.numbers b.place b.left fault t (λ r e. last_refused xs ys (from a rest) r e)) s) h k
+
 pub failed_before : (xs ys : List Step) (a b : Told) (fault : FrameFault) → Failed xs a fault b → Failed (xs ++ ys) a fault b
 failed_before xs ys a b fault h = record {
-  taken = on_known a.left (λ rest t. subst (λ (x : Taken). TakesAs x b.image.numbers b.place b.left (Err fault)) (sym (take_append xs ys (from a rest))) (stop_early (take_steps xs (from a rest)) ys fault b.image.numbers b.place b.left t)) h.taken;
-  stopped = on_two a.left (λ rest t s.
-      both_refused fault (λ (e : last_numbers (xs ++ ys) (from a rest) ≡ last_numbers xs (from a rest)) f. f ∙ sym e)
-      (refused_is (take_steps xs (from a rest)) b.image.numbers b.place b.left fault t (λ r e. last_refused xs ys (from a rest) r e)) s) h.taken h.stopped;
+  taken = taken_before xs ys a b fault h.taken;
+  stopped = stopped_before xs ys a b fault h.taken h.stopped;
+  heard = hears_as {X = Unit {0}} a.given b.given (Err fault)
+      (λ x y p. (taken_before xs ys (with_left a x) (with_left b y) fault p.0, stopped_before xs ys (with_left a x) (with_left b y) fault p.0 p.1)) h.heard;
   given = omega (arith, h.given, long_append xs ys);
   cause = h.cause;
   promise = h.promise;

@@ -38,7 +38,6 @@ abbrev pub Reads : {X : Type 0} → Option (Reading State) → (X → Onward) �
 Reads reading next at to rest left (Ok x) = Leads reading (next x) at to rest left
 Reads reading next at to rest left (Err (faults.Refused r)) = Refuses reading at rest left r
 Reads reading next at to rest left (Err faults.ReadFault) = Unit {0}
-Reads reading next at to rest left (Err faults.NoMemory) = ⊥
 
 -- the same between two stands of a cursor, where what is left of its source is told
 abbrev pub ReadsOn : {X : Type 0} → Onward → (X → Onward) → Stand → Stand → Option (List ℕ) → Option (List ℕ) → Result X LoadFault → Type 0
@@ -72,7 +71,6 @@ concerning section frames.ReadFault = faults.ReadFault
 abbrev pub IsRefused : LoadFault → Type 0
 IsRefused (faults.Refused r) = Unit {0}
 IsRefused faults.ReadFault = ⊥
-IsRefused faults.NoMemory = ⊥
 
 -- how many bytes a cursor was given where it stands: those before its place, and the one that it holds
 abbrev pub reach : Stand → ℕ

@@ -11,18 +11,19 @@ use Rattle.vms_frames.specs.Calls.{tail_of}
 use Rattle.vms_frames.specs.declared.units.Between.{Between}
 use Rattle.vms_frames.specs.declared.units.Between.TheVariants.{First, AfterConfiguration, Later}
 use Rattle.vms_parts.specs.Devices.{device_at}
-use Rattle.vms_load.specs.Parts.{IsShaped, bytes_of, subs_due}
+use Rattle.vms_image.specs.Typed.{Typed, state_of as untyped, default_at, IsImageOf}
+use Rattle.vms_load.specs.Parts.{bytes_of, subs_due}
 use Rattle.vms_load.specs.declared.fault.LoadFault.{LoadFault}
 use Rattle.vms_load.specs.declared.fault.LoadFault.TheVariants as faults
 use Rattle.vms_load.specs.declared.staged.Staged.{Staged}
 
-abbrev pub no_image : Image
-no_image = record { version = 0; came = []; numbers = [] }
+abbrev pub no_image : Typed
+no_image = record { version = 0; came = []; numbers = []; kinds = [] }
 
 -- one image for each device of a set
-pub record AreShaped (set : Set) (images : List Image) : Type 0 where
+pub record AreShaped (set : Set) (images : List Typed) : Type 0 where
   pub all : length images ≡ length set.devices
-  pub each : (k : ℕ) → k < length set.devices → IsShaped set (device_at set k) (get_or images k no_image)
+  pub each : (k : ℕ) → k < length set.devices → IsImageOf set k (get_or images k no_image)
 
 -- a machine of these, where one is named
 abbrev pub IsMachine : List (List ℕ) → Option ℕ → Type 0
@@ -39,6 +40,9 @@ pub record IsOf (set : Set) (staged : Staged) : Type 0 where
 abbrev pub image_at : Set → ℕ → ℕ → Image
 image_at set k version = record (default_image set (device_at set k)) { version = version }
 
+abbrev pub begun_at : Set → ℕ → ℕ → Typed
+begun_at set k version = record (default_at set k) { version = version }
+
 -- ---- as the judge has it
 
 -- the name of the machine of a number
@@ -47,7 +51,7 @@ name_of set None = None
 name_of set (Some machine) = Some (get_or set.machines machine [])
 
 abbrev pub state_of : Set → Staged → Spot → State
-state_of set staged spot = record { machine = name_of set staged.machine; images = staged.images.items; came = staged.came.items; tail = tail_of staged.tail; spot = spot }
+state_of set staged spot = record { machine = name_of set staged.machine; images = map untyped staged.images.items; came = staged.came.items; tail = tail_of staged.tail; spot = spot }
 
 abbrev pub is_first : Between → Bool
 is_first First = true
@@ -126,7 +130,7 @@ most_given set = 16777759 + devices_most set set.devices
 -- at a refusal those up to the end of the unit at fault
 abbrev pub ReadsAll : Set → Option (Reading State) → Staged → List ℕ → Option (List ℕ) → Result ℕ LoadFault → Type 0
 ReadsAll set (Some (Accepted n end)) staged input left (Ok taken) =
-    (n ≡ taken) × (end.machine ≡ name_of set staged.machine) × (end.images ≡ staged.images.items) × (left ≡ Some (drop taken input))
+    (n ≡ taken) × (end.machine ≡ name_of set staged.machine) × (end.images ≡ map untyped staged.images.items) × (left ≡ Some (drop taken input))
 ReadsAll set (Some (Refused at section reason long)) staged input left (Err (faults.Refused r)) = (r ≡ record { section = section; at = at; reason = reason }) × (left ≡ Some (drop (at + long) input))
 ReadsAll set reading staged input left (Err faults.ReadFault) = Unit {0}
 ReadsAll set reading staged input left result = ⊥

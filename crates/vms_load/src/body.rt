@@ -1,17 +1,18 @@
 // Reads the fields and the validations of a part, step by step.
-ghost use Rattle.std.specs.Prelude.{◌≡◌, ◌+◌, ◌≤◌, ◌^◌, ◌∷◌, [], None, OnOk, OnErr, IfErr, IfSome};
+ghost use Rattle.std.specs.Prelude.{◌≡◌, ◌+◌, ◌≤◌, ◌^◌, ◌∷◌, [], List, ℤ, None, OnOk, OnErr, IfErr, IfSome};
 ghost use Rattle.vms_desc.specs.Described.{described};
 ghost use Rattle.vms_desc.specs.Parts.{desc_at};
 ghost use Rattle.vms_frames.specs.Answers.{HasCause};
 ghost use Rattle.vms_walk.specs.Inside.{IsInside, Keeps};
 ghost use Rattle.vms_walk.specs.Steps.{HasSpot, steps_of, spot_slots};
-ghost use Rattle.vms_load.specs.Bodies.{TakesAs, Spends, progress};
+ghost use Rattle.vms_load.specs.Bodies.{HearsTaken, TakesAs, Spends, progress};
+ghost use Rattle.vms_load.specs.Bodies.{IsOfKind, AreOfKinds};
 ghost use Rattle.vms_load.specs.Parts.{bytes_of};
 ghost use Rattle.vms_load.specs.Reading.{take_step, step_long, told, Took, Failed};
 
 use crate::items::{constant, put_number, rule};
-use vms_frames::{Cursor, FrameFault};
 use vms_desc::{Cells, DescSet};
+use vms_frames::{Cursor, FrameFault};
 use vms_image::Image;
 use vms_io::Source;
 use vms_walk::{Spot, Step, Walker, walk};
@@ -25,6 +26,8 @@ pub(crate) fn read_part<S: Source>(
     source: &mut S,
 ) -> Result<(), FrameFault>
     requires spot { HasSpot (described set.now) spot image.old.numbers }
+    requires kinds { (numbers : List ℤ)
+        → AreOfKinds image.old.kinds (spot_slots (described set.now) spot numbers) }
     requires held { cursor.old.held ≡ None }
     requires place { cursor.old.at + bytes_of (described set.now) (desc_at (described set.now) spot.part) ≤ 2 ^ 63 }
     ensures ok { let steps = steps_of (spot_slots (described set.now) spot image.new.numbers) in
@@ -67,6 +70,7 @@ impl<S: Source> Cells for Reader<'_, S> {
 impl<S: Source> Walker for Reader<'_, S> {
     ghost use Rattle.std.specs.Prelude.{◌≡◌, ◌≤◌, ◌^◌, None, refl};
     ghost use Rattle.std.proofs.Common.{◌∙◌};
+    ghost use Rattle.vms_load.specs.Bodies.{IsOfKind};
     ghost use Rattle.vms_load.specs.Reading.{told, Took, Failed};
     ghost use Rattle.vms_load.specs.Reading.{took_none, took_more, failed_after, failed_before};
 
@@ -85,7 +89,8 @@ impl<S: Source> Walker for Reader<'_, S> {
         × Failed xs (told S.left S.given S.faults S.promise a.image.now a.cursor.now.at a.source.now)
         fault (told S.left S.given S.faults S.promise b.image.now b.cursor.now.at b.source.now) };
 
-    ghost may = { λ a step. (a.cursor.now.at ≤ 2 ^ 63) × (a.cursor.now.held ≡ None) };
+    ghost may = { λ a step. (a.cursor.now.at ≤ 2 ^ 63) × (a.cursor.now.held ≡ None)
+        × IsOfKind a.image.now.kinds step };
 
     ghost keeps = { λ xs a b h. h.3.keeps };
 
@@ -113,6 +118,7 @@ fn read_step<S: Source>(
     source: &mut S,
 ) -> Result<(), FrameFault>
     requires inside { IsInside image.old.numbers step }
+    requires of_kind { IsOfKind image.old.kinds step }
     requires place { cursor.old.at ≤ 2 ^ 63 }
     requires held { cursor.old.held ≡ None }
     ensures taken { IfSome (S.left source.old) (λ rest.
@@ -121,6 +127,7 @@ fn read_step<S: Source>(
         TakesAs taken image.new.numbers cursor.new.at (S.left source.new) result) }
     ensures given { Spends (step_long step) (S.given source.old) (S.given source.new) cursor.old.at cursor.new.at result }
     ensures held { OnOk result (cursor.new.held ≡ None) }
+    ensures heard { HearsTaken (λ rest. take_step step (progress image.old.numbers cursor.old.at rest)) image.new.numbers cursor.new.at (S.given source.old) (S.given source.new) result }
     ensures cause { HasCause (S.faults source.old) (S.faults source.new) result }
     ensures promise { S.promise source.new ≡ S.promise source.old }
     ensures kept { image.new ≡ record image.old { numbers = image.new.numbers } }

@@ -14,9 +14,6 @@ pub enum LoadFault {
     /// The source failed; its count of faults has risen.
     #[error("a read has failed")]
     ReadFault,
-    /// Memory is wanting.
-    #[error("out of memory")]
-    NoMemory,
 }
 
 impl LoadFault {

@@ -1,10 +1,11 @@
 // Numbers that count arrays, constants and unused bytes.
-ghost use Rattle.std.specs.Prelude.{◌≡◌, ◌+◌, ◌≤◌, ◌<◌, ◌^◌, true, false, IfSome, OnOk, OnErr, IfErr, ℤ, slice_set, length, None};
-ghost use Rattle.vms_kinds.specs.Codes.{width};
+ghost use Rattle.std.specs.Prelude.{◌≡◌, ◌+◌, ◌≤◌, ◌<◌, ◌^◌, true, false, IfSome, OnOk, OnErr, IfOk, IfErr, ℤ, get_or, slice_set, length, None};
+ghost use Rattle.vms_kinds.specs.Codes.{InRange, width};
+ghost use Rattle.vms_kinds.specs.declared.Kind.TheVariants.{U8};
 ghost use Rattle.vms_spec.specs.Numbers.{exceeds, is_above};
 ghost use Rattle.vms_spec.specs.Taking.{take_number};
 ghost use Rattle.vms_frames.specs.Answers.{HasCause, GivesWithin};
-ghost use Rattle.vms_load.specs.Bodies.{ReadsCapped, ReadsConstant, progress, TakesAs, Spends};
+ghost use Rattle.vms_load.specs.Bodies.{HearsTaken, HearsCapped, HearsConstant, ReadsCapped, ReadsConstant, progress, TakesAs, Spends};
 ghost use Rattle.vms_walk.specs.Steps.{capacities_of};
 
 use vms_frames::{Cursor, FrameFault};
@@ -25,11 +26,13 @@ pub(crate) fn put_number<S: Source>(
     requires place { cursor.old.at ≤ 2 ^ 63 }
     requires held { cursor.old.held ≡ None }
     requires within { cell < length image.old.numbers }
+    requires of_kind { get_or image.old.kinds cell U8 ≡ kind }
     ensures taken { IfSome (S.left source.old) (λ rest.
         let start = progress image.old.numbers cursor.old.at rest in
         let taken = take_number kind (capacities_of most) cell start in
         TakesAs taken image.new.numbers cursor.new.at (S.left source.new) result) }
     ensures given { Spends (width kind) (S.given source.old) (S.given source.new) cursor.old.at cursor.new.at result }
+    ensures heard { HearsTaken (λ rest. take_number kind (capacities_of most) cell (progress image.old.numbers cursor.old.at rest)) image.new.numbers cursor.new.at (S.given source.old) (S.given source.new) result }
     ensures cause { HasCause (S.faults source.old) (S.faults source.new) result }
     ensures promise { S.promise source.new ≡ S.promise source.old }
     ensures kept { image.new ≡ record image.old { numbers = image.new.numbers } }
@@ -51,10 +54,12 @@ fn number<S: Source>(
 ) -> Result<i128, FrameFault>
     requires place { cursor.old.at ≤ 2 ^ 63 }
     requires held { cursor.old.held ≡ None }
+    ensures range { IfOk result (InRange kind) }
     ensures content { ReadsCapped kind (capacities_of most) cursor.old.at (S.left source.old) (S.left source.new) result }
     ensures place { OnOk result (cursor.new.at ≡ cursor.old.at + width kind) }
     ensures held { OnOk result (cursor.new.held ≡ None) }
     ensures given { GivesWithin (λ _. width kind) (width kind) (S.given source.old) (S.given source.new) result }
+    ensures heard { HearsCapped kind (capacities_of most) cursor.old.at (S.given source.old) (S.given source.new) result }
     ensures cause { HasCause (S.faults source.old) (S.faults source.new) result }
     ensures promise { S.promise source.new ≡ S.promise source.old }
 {
@@ -82,6 +87,7 @@ pub(crate) fn constant<S: Source>(
     ensures place { OnOk result (cursor.new.at ≡ cursor.old.at + width kind) }
     ensures held { OnOk result (cursor.new.held ≡ None) }
     ensures given { GivesWithin (λ _. width kind) (width kind) (S.given source.old) (S.given source.new) result }
+    ensures heard { HearsConstant kind value cursor.old.at (S.given source.old) (S.given source.new) result }
     ensures cause { HasCause (S.faults source.old) (S.faults source.new) result }
     ensures promise { S.promise source.new ≡ S.promise source.old }
 {

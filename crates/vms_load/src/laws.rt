@@ -1,9 +1,14 @@
-//! What follows of every load, as the contract of a function without a body. The statement stands in `specs/Exact.antt`.
-ghost use Rattle.vms_load.specs.Exact.{ExactLaw};
+//! What follows of every load, as contracts of functions without a body. The statements stand in `specs/Exact.antt`.
+ghost use Rattle.vms_load.specs.Exact.{ExactLaw, HeardLaw};
 
 /// A load is Ok exactly where the input takes a stream, with its machine, its images and its length, and refused exactly where
 /// it has a fault, at its place, for its device and its reason; but that a read fault may come in place of either.
 #[tactic(auto, using(crate::proofs::ExactLoads::exact_holds))]
 pub fn exact_law()
     ensures { ExactLaw }
+{}
+
+/// What is heard of a refusal ends with the unit at fault: as many bytes were given as stand before its place and in it.
+pub fn heard_law()
+    ensures { HeardLaw }
 {}

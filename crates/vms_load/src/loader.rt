@@ -1,7 +1,9 @@
 // The loader of a set's streams.
-ghost use Rattle.std.specs.Prelude.{◌≡◌, ℕ, List, length, map, IfSome, IfOk, IfErr, OnErr};
+ghost use Rattle.std.specs.Prelude.{◌≡◌, ◌<◌, ℕ, List, length, map, IfSome, IfOk, IfErr, OnOk, OnErr};
 ghost use Rattle.vms_spec.specs.Images.{default_image};
 ghost use Rattle.vms_parts.specs.Views.{set_of};
+ghost use Rattle.vms_load.specs.Good.{AreKept, kept_once};
+ghost use Rattle.vms_image.specs.Typed.{AreImagesOf, state_of as untyped};
 ghost use Rattle.vms_load.specs.Staging.{AreShaped};
 
 use crate::LoadFault;
@@ -10,8 +12,8 @@ use crate::stream::stream;
 use arrayvec::ArrayVec;
 use std::alloc::Global;
 use std::mem::swap;
-use vms_frames::Tail;
 use vms_desc::DescSet;
+use vms_frames::Tail;
 use vms_image::Image;
 use vms_io::{NoMemory, Source};
 
@@ -25,12 +27,14 @@ pub struct Loader {
     // What is read of a stream until all of it is taken.
     staged: Staged,
     ghost kept: { AreShaped (set_of set.parts) images.items },
+    ghost whole: { 0 < taken → AreKept (set_of set.parts) (map untyped images.items) } by { kept_once taken (set_of set.parts) (map untyped images.items) },
     ghost spare: { AreShaped (set_of set.parts) staged.images.items },
 }
 
 impl Loader {
     ghost use Rattle.vms_desc.specs.Described.{described};
     ghost use Rattle.vms_load.specs.Kept.{loads, kept, taken_by};
+    ghost use Rattle.vms_load.specs.Hearing.{HearsLoad};
     ghost use Rattle.vms_load.specs.Loads.{HasCause, Loads, GivesWithin};
     ghost use Rattle.vms_load.specs.Staging.{IsMachine, accepted_of};
 
@@ -70,10 +74,12 @@ impl Loader {
         requires { IsMachine (loads self.old).machines only }
         ensures content { IfSome (S.left source.old) (λ input. Loads (loads self.old) (accepted_of (loads self.old) only) input (S.left source.new) (kept self.new) (taken_by self.new) result) }
         ensures machine { IfOk result (IsMachine (loads self.old).machines) }
+        ensures whole { OnOk result (AreKept (loads self.old) (kept self.new)) }
         ensures images { OnErr result (kept self.new ≡ kept self.old) }
         ensures taken { OnErr result (taken_by self.new ≡ taken_by self.old) }
         ensures set { loads self.new ≡ loads self.old }
         ensures given { GivesWithin (loads self.old) (S.given source.old) (S.given source.new) (taken_by self.new) result }
+        ensures heard { HearsLoad (loads self.old) (accepted_of (loads self.old) only) (S.given source.old) (S.given source.new) (kept self.new) (taken_by self.new) result }
         ensures cause { HasCause (S.faults source.old) (S.faults source.new) result }
         ensures promise { S.promise source.new ≡ S.promise source.old }
     {
@@ -85,8 +91,10 @@ impl Loader {
 
     /// The images of the last stream that was taken, or the defaults before the first.
     pub fn images(&self) -> &[Image]
-        ensures images { result.now ≡ kept self.now }
+        ensures images { map untyped result.now ≡ kept self.now }
+        ensures of { AreImagesOf (loads self.now) result.now }
         ensures shape { AreShaped (loads self.now) result.now }
+        ensures whole { 0 < taken_by self.now → AreKept (loads self.now) (kept self.now) }
     {
         &self.images
     }

@@ -7,15 +7,16 @@ ghost use Rattle.vms_spec.specs.Units.{Configuration, End};
 ghost use Rattle.vms_units.specs.Judged.{ask};
 ghost use Rattle.vms_units.specs.State.{Before, Free, Ended, at_start};
 ghost use Rattle.vms_desc.specs.Described.{described};
+ghost use Rattle.vms_image.specs.Typed.{state_of as untyped};
 ghost use Rattle.vms_load.specs.Reads.{Settles, IsRefused};
-ghost use Rattle.vms_load.specs.Staging.{AreShaped, IsOf, IsMachine, IsAccepted, accepted_of, image_at, state_of};
+ghost use Rattle.vms_load.specs.Staging.{AreShaped, IsOf, IsMachine, IsAccepted, accepted_of, begun_at, state_of};
 
 use crate::LoadFault;
 use crate::fault::refused;
 use arrayvec::ArrayVec;
 use std::alloc::Global;
-use vms_frames::Tail;
 use vms_desc::{DescSet, Text};
+use vms_frames::Tail;
 use vms_image::Image;
 use vms_io::NoMemory;
 use vms_marks::Name;
@@ -36,7 +37,9 @@ pub(crate) struct Staged {
 
 /// The image of each device at its defaults.
 pub(crate) fn defaults(alloc: Global, set: &DescSet) -> Result<Vec<Image>, NoMemory>
-    ensures { IfOk result (λ images. images.items ≡ map (default_image (described set.now)) (described set.now).devices) }
+    ensures states { let set = described set.now in
+        IfOk result (λ images. map untyped images.items ≡ map (default_image set) set.devices) }
+    ensures shaped { IfOk result (λ images. AreShaped (described set.now) images.items) }
 {
     let devices = set.parts().devices.as_slice().len();
     let mut images = Vec::with_capacity(alloc, devices)?;
@@ -61,7 +64,9 @@ pub(crate) fn restart(set: &DescSet, staged: &mut Staged)
 // Makes each image what `Image::new` gives.
 fn reset(set: &DescSet, images: &mut [Image])
     requires { AreShaped (described set.now) images.old }
-    ensures { images.new ≡ map (default_image (described set.now)) (described set.now).devices }
+    ensures states { let set = described set.now in
+        map untyped images.new ≡ map (default_image set) set.devices }
+    ensures shaped { AreShaped (described set.now) images.new }
 {
     for device in 0..images.len() {
         images[device].reset(set, device as u32);
@@ -84,7 +89,7 @@ fn none_came(devices: usize) -> ArrayVec<bool, 64>
 pub(crate) fn begin(set: &DescSet, staged: &mut Staged, device: u32, version: u32)
     requires device { device < length (described set.now).devices }
     requires whole { IsOf (described set.now) staged.old }
-    ensures images { staged.new.images.items ≡ slice_set staged.old.images.items device (image_at (described set.now) device version) }
+    ensures images { staged.new.images.items ≡ slice_set staged.old.images.items device (begun_at (described set.now) device version) }
     ensures came { staged.new.came.items ≡ slice_set staged.old.came.items device true }
     ensures machine { staged.new.machine ≡ staged.old.machine }
     ensures tail { staged.new.tail ≡ staged.old.tail }

@@ -12,6 +12,3 @@ mod mark;
 pub use foot::Foot;
 pub use head::{Head, HeadFault, Name};
 pub use mark::Mark;
-
-#[cfg(test)]
-mod tests;

@@ -1,12 +1,12 @@
 -- The devices of a set one after the other, read as entries.
-use Rattle.std.proofs.Common.{◌≡◌, ℕ, zero, suc, ◌<◌, ◌≤◌, List, [], ◌∷◌, ◌++◌, length, get_or, map, slice_set, Bool, true, false, nat_lt, nat_le, ◌||◌, ◌&&◌, ◌==◌, if◌then◌else◌, Some, None, ℤ, pos, negsuc, Ok, Err, Result, refl, sym, ap, ◌∙◌, subst, arith, get_or-set_other}
+use Rattle.std.proofs.Common.{◌≡◌, ℕ, zero, suc, ◌+◌, ◌<◌, ◌≤◌, List, [], ◌∷◌, ◌++◌, length, get_or, map, slice_set, Bool, true, false, nat_lt, nat_le, ◌||◌, ◌&&◌, ◌==◌, if◌then◌else◌, Some, None, ℤ, pos, negsuc, Ok, Err, Result, refl, sym, ap, ◌∙◌, subst, arith, get_or-set_other, append-nil}
 use Rattle.std.proofs.lemmas.Bool.{ltb-true, ltb-false, eqb-true, and_parts, leb-true, le-leb}
-use Rattle.std.proofs.lemmas.List.{length-map, length-set, get_or-set_same}
+use Rattle.std.proofs.lemmas.List.{length-map, length-set, get_or-set_same, get_or-map}
 use Rattle.std.proofs.Math.ListN.{get_or-eq_default}
 use Rattle.vms_spec.specs.declared.ValuesReason.TheVariants as reasons
 use Rattle.vms_spec.specs.Lists.{every}
 use Rattle.vms_spec.specs.Sets.{Device, Set}
-use Rattle.vms_spec.specs.Layout.{device_cells}
+use Rattle.vms_spec.specs.Layout.{no_cell, device_cells}
 use Rattle.vms_spec.specs.Images.{Image, default_image, own_cells}
 use Rattle.vms_spec.specs.Spelling.{first_line}
 use Rattle.vms_spec.specs.ValuesReading.{BadLine, ReadSubs, ReadDevice, ReadAll, readers, read_desc, read_subs, read_devices, device_read, with_device, then_subs, next_line, is_line}
@@ -14,13 +14,15 @@ use Rattle.vms_laws.specs.Sound.{IsSound, AreSound}
 use Rattle.vms_texts.specs.Texts.{IsShort}
 use Rattle.vms_elements.specs.Lines.{section_line}
 use Rattle.vms_elements.specs.Entries.{Entry, device_entries, devices_entries}
-use Rattle.vms_elements.specs.Reading.{is_short, IsShaped, AreShaped}
+use Rattle.vms_elements.specs.Reading.{is_short, IsShaped, AreShaped, AreUnsaid, AllUnsaid}
 use Rattle.vms_reading.specs.Said.{Said, put_all}
 use Rattle.vms_reading.specs.Taken.{Demand, reason_for, Taken, Follows, Along, Begins, Moved}
 use Rattle.vms_reading.proofs.Coming.{AreShortSaid}
 use Rattle.vms_reading.proofs.Following.{follows_then, along_then, moved_none, moved_then}
 use Rattle.vms_reading.proofs.Numbers.{AreShort}
-use Rattle.vms_reading.proofs.SubsCome.{AreSoundSubs}
+use Rattle.vms_reading.proofs.Unsaid.{unsaid_kept}
+use Rattle.vms_reading.proofs.SecondPass.{IsLined, AreLined}
+use Rattle.vms_reading.proofs.SubsCome.{AreSoundSubs, none_at}
 use Rattle.vms_reading.proofs.DevicesCome.{AllShort, default_numbers, image_of, DeviceRead, DeviceStop, DeviceComes, section_refused, inside_comes, section_read, section_not}
 
 -- ---- numbers of at most 64 bits
@@ -102,6 +104,8 @@ pub record AllRead (set : Set) (devices : List Device) (line : ℕ) (text : List
   pub taken : List Taken
   pub shaped : AreShaped set devices (images_of all.devices)
   pub short : AllShort (images_of all.devices)
+  pub unsaid : AllUnsaid set devices (images_of all.devices)
+  pub lined : AreLined set line devices all.devices
   pub follows : (images : List Image) → AreShaped set devices images → AllShort images → Follows taken (λ es. es ≡ []) (devices_entries set devices images)
   pub along : Along taken (λ es. es ≡ []) (devices_entries set devices (images_of all.devices))
   pub moved : Moved line text taken all.line all.rest
@@ -122,13 +126,19 @@ abbrev pub AllCome : Set → List Device → ℕ → List ℕ → Result ReadAll
 AllCome set devices line text (Ok all) = AllRead set devices line text all
 AllCome set devices line text (Err e) = AllStop set devices line text e
 
+-- entries that have the lines that were taken are as many
+along_long : (taken : List Taken) (es : List Entry) → Along taken (λ es. es ≡ []) es → length es ≡ length taken
+along_long [] es h = ap (λ (l : List Entry). length l) h
+along_long (t ∷ taken) [] h = absurd h
+along_long (t ∷ taken) (e ∷ es) h = ap suc (along_long taken es h.1)
+
 abbrev default_images : Set → List Device → List Image
 default_images set devices = map (λ d. default_image set d) devices
 
 defaults_shaped : (set : Set) (devices : List Device) → AreGoodDevices set devices → AreShaped set devices (default_images set devices)
 defaults_shaped set [] good = tt
 defaults_shaped set (d ∷ devices) good =
-    (record { version = refl; subs = length-map d.subs (λ s. None); cells = length-map (device_cells set d) (λ c. c.default); short = are_short (default_numbers set d) good.2 }, defaults_shaped set devices good.3)
+    (record { version = refl; subs = length-map d.subs (λ s. None); versions = none_at set d d.subs; cells = length-map (device_cells set d) (λ c. c.default); short = are_short (default_numbers set d) good.2 }, defaults_shaped set devices good.3)
 
 defaults_short : (set : Set) (devices : List Device) → AreGoodDevices set devices → AllShort (default_images set devices)
 defaults_short set [] good = tt
@@ -144,7 +154,7 @@ module _ (set : Set) (d : Device) (devices : List Device) (line : ℕ) (text : L
         demand = s.demand;
         images = image ∷ default_images set devices;
         rest = s.rest;
-        shaped = (record { version = refl; subs = s.one_each; cells = s.told.long ∙ length-map (device_cells set d) (λ c. c.default); short = are_short s.numbers fits }, defaults_shaped set devices later);
+        shaped = (record { version = refl; subs = s.one_each; versions = s.versions; cells = s.told.long ∙ length-map (device_cells set d) (λ c. c.default); short = are_short s.numbers fits }, defaults_shaped set devices later);
         short = (fits, defaults_short set devices later);
         follows = λ images shaped short. go images shaped short;
         along = s.along (devices_entries set devices (default_images set devices));
@@ -164,7 +174,7 @@ module _ (set : Set) (d : Device) (devices : List Device) (line : ℕ) (text : L
     image_short = subst (λ (n : List ℤ). AreShort n) (sym x.told.numbers) (short_all (default_numbers set d) x.said x.told.short good)
 
     image_shaped : IsShaped set d image
-    image_shaped = record { version = refl; subs = x.one_each; cells = x.told.long ∙ length-map (device_cells set d) (λ c. c.default); short = are_short r.place.numbers image_short }
+    image_shaped = record { version = refl; subs = x.one_each; versions = x.versions; cells = x.told.long ∙ length-map (device_cells set d) (λ c. c.default); short = are_short r.place.numbers image_short }
 
     follows_both : (taken : List Taken) (P : List Entry → Type 0) → ((images : List Image) → AreShaped set devices images → AllShort images → Follows taken P (devices_entries set devices images))
         → (images : List Image) → AreShaped set (d ∷ devices) images → AllShort images → Follows (x.taken ++ taken) P (devices_entries set (d ∷ devices) images)
@@ -180,6 +190,22 @@ module _ (set : Set) (d : Device) (devices : List Device) (line : ℕ) (text : L
         along_then x.taken taken (λ es. es ≡ devices_entries set devices images) P (device_entries set d image ++ devices_entries set devices images)
         (x.along (devices_entries set devices images)) (λ es is. subst (λ (l : List Entry). Along taken P l) (sym is) h)
 
+    -- a number of which nothing was said is its default
+    image_unsaid : AreUnsaid set d image
+    image_unsaid c lt bare =
+        let room : c < length (device_cells set d) = omega (arith, x.told.long, length-map (device_cells set d) (λ c. c.default)) in
+        ap (λ (n : List ℤ). get_or n c (pos 0)) x.told.numbers
+        ∙ unsaid_kept (default_numbers set d) x.said c (sym (x.heard c) ∙ bare)
+        ∙ get_or-map (λ c. c.default) (device_cells set d) c no_cell (pos 0) room
+
+    image_lined : IsLined set d line (record { image = image; line = line; sub_lines = r.lines })
+    image_lined = record { own = refl; subs = x.lines }
+
+    after_it : r.place.line ≡ line + length (device_entries set d image)
+    after_it =
+        let along = along_long x.taken (device_entries set d image ++ []) (x.along []) in
+        omega (arith, x.moved.further, along, ap (λ (l : List Entry). length l) (append-nil (device_entries set d image)))
+
     others_come : (o : Result ReadAll BadLine) → AllCome set devices r.place.line r.place.rest o
         → AllCome set (d ∷ devices) line text (with_device (record { image = image; line = line; sub_lines = r.lines }) o)
     others_come (Ok all) a =
@@ -187,6 +213,8 @@ module _ (set : Set) (d : Device) (devices : List Device) (line : ℕ) (text : L
           taken = x.taken ++ a.taken;
           shaped = (image_shaped, a.shaped);
           short = (image_short, a.short);
+          unsaid = (image_unsaid, a.unsaid);
+          lined = (image_lined, subst (λ (l : ℕ). AreLined set l devices all.devices) after_it a.lined);
           follows = follows_both a.taken (λ es. es ≡ []) a.follows;
           along = along_both a.taken (λ es. es ≡ []) (images_of all.devices) a.along;
           moved = moved_then line r.place.line all.line text r.place.rest all.rest x.taken a.taken x.moved a.moved;
@@ -222,7 +250,7 @@ module _ (set : Set) (d : Device) (devices : List Device) (line : ℕ) (text : L
 
 pub devices_come : (set : Set) → AreSound set.structs → (devices : List Device) → AreGoodDevices set devices → (line : ℕ) (text : List ℕ) → AllCome set devices line text (read_devices set devices line text)
 devices_come set structs [] good line text =
-    record { taken = []; shaped = tt; short = tt; follows = λ images shaped short. refl; along = refl; moved = moved_none line text }
+    record { taken = []; shaped = tt; short = tt; unsaid = tt; lined = tt; follows = λ images shaped short. refl; along = refl; moved = moved_none line text }
 devices_come set structs (d ∷ devices) good line text =
     by_section set d devices line text good.2 (is_line (section_line d d.desc.version) (first_line text)) refl structs good.0 good.1 good.3 (λ line text. read_devices set devices line text)
     (λ line text. devices_come set structs devices good.3 line text)

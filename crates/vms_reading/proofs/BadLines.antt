@@ -1,16 +1,17 @@
 -- What the first pass finds in a whole text.
-use Rattle.std.proofs.Common.{◌≡◌, ℕ, suc, List, [], ◌∷◌, ◌++◌, length, map, Option, Some, None, refl, sym, ap, ◌∙◌, subst, arith, append-nil, codes}
+use Rattle.std.proofs.Common.{◌≡◌, ℕ, suc, ◌+◌, List, [], ◌∷◌, ◌++◌, length, map, Option, Some, None, refl, sym, ap, ◌∙◌, subst, arith, append-nil, codes}
 use Rattle.vms_spec.specs.declared.ValuesReason.{ValuesReason}
 use Rattle.vms_spec.specs.declared.ValuesReason.TheVariants as reasons
 use Rattle.vms_spec.specs.Sets.{Set}
 use Rattle.vms_spec.specs.Images.{Image}
 use Rattle.vms_spec.specs.Spelling.{first_line}
-use Rattle.vms_spec.specs.ValuesReading.{BadLine, ReadAll, machine_named}
+use Rattle.vms_spec.specs.ValuesReading.{BadLine, ReadAll, machine_named, judge_devices}
 use Rattle.vms_elements.specs.Lines.{text_of}
 use Rattle.vms_elements.specs.Entries.{Entry, entries, devices_entries, entry_line, front_reason}
-use Rattle.vms_elements.specs.Reading.{AreShaped, AreFine, IsBadLine}
+use Rattle.vms_elements.specs.Reading.{AreShaped, AllUnsaid, AreFine, IsBadLine}
 use Rattle.vms_reading.specs.Taken.{Demand, ForMachine, reason_for, Taken, lines_of, AreFineTaken, Follows, Along, Begins, Moved}
 use Rattle.vms_reading.proofs.Following.{reason_same, moved_then}
+use Rattle.vms_reading.proofs.SecondPass.{parts_from, devices_judged}
 use Rattle.vms_reading.proofs.DevicesCome.{AllShort}
 use Rattle.vms_reading.proofs.AllCome.{images_of, AllRead, AllStop}
 
@@ -81,6 +82,8 @@ pub record FirstFine (set : Set) (text : List ℕ) (machine : Option (List ℕ))
   pub named : machine ≡ machine_named set.machines (first_line text)
   pub shaped : AreShaped set set.devices (images_of all.devices)
   pub short : AllShort (images_of all.devices)
+  pub unsaid : AllUnsaid set set.devices (images_of all.devices)
+  pub judged : judge_devices set set.devices all.devices ≡ parts_from set 1 (entries set machine (images_of all.devices))
   pub follows : (images : List Image) → AreShaped set set.devices images → AllShort images → Follows taken (λ es. es ≡ []) (entries set machine images)
   pub along : Along taken (λ es. es ≡ []) (entries set machine (images_of all.devices))
   pub moved : Moved 1 text taken all.line all.rest
@@ -133,6 +136,12 @@ along_machine : (set : Set) (machine : Option (List ℕ)) (images : List Image) 
 along_machine set None images taken P f = f
 along_machine set (Some name) images taken P f = (refl, f)
 
+-- the machine is no part
+parts_machine : (set : Set) (machine : Option (List ℕ)) (line : ℕ) (images : List Image) → line ≡ 1 + length (machine_taken machine)
+    → parts_from set line (devices_entries set set.devices images) ≡ parts_from set 1 (entries set machine images)
+parts_machine set None line images e = ap (λ (l : ℕ). parts_from set l (devices_entries set set.devices images)) e
+parts_machine set (Some name) line images e = ap (λ (l : ℕ). parts_from set l (devices_entries set set.devices images)) e
+
 module _ (set : Set) (text : List ℕ) (machine : Option (List ℕ)) (line : ℕ) (after : List ℕ) (head : Headed set text machine line after) where
   pub stopped_first : (e : BadLine) → AllStop set set.devices line after e → FirstBad set text e.line e.reason
   stopped_first e a =
@@ -181,6 +190,8 @@ module _ (set : Set) (text : List ℕ) (machine : Option (List ℕ)) (line : ℕ
         named = head.named;
         shaped = a.shaped;
         short = a.short;
+        unsaid = a.unsaid;
+        judged = devices_judged set line set.devices all.devices a.lined a.shaped ∙ parts_machine set machine line (images_of all.devices) head.moved.further;
         follows = λ images shaped short. follows_machine set machine images a.taken P (a.follows images shaped short);
         along = along_machine set machine (images_of all.devices) a.taken P a.along;
         moved = moved_then 1 line all.line text after all.rest (machine_taken machine) a.taken head.moved a.moved;

@@ -123,5 +123,8 @@ module _ (set : Set) (well : WellFormed set) where
       (or_else_none (failing 1 (set_rules set) (here parts.Set))
       (or_else (first_answer (struct_fault set.structs) 0 set.structs) (or_else (first_answer (device_fault set) 0 set.devices) (failing 1 (size_rules set) (here parts.Set)))) well).0
 
+  pub clean_named : (name : List ℕ) → is_one_of set.machines name ≡ true → NoFeed name
+  clean_named name h = named_one set.machines name machines_named h
+
   pub clean_machine : (o : Option (List ℕ × List ℕ)) (name : List ℕ) → machine_named set.machines o ≡ Some name → NoFeed name
-  clean_machine o name e = named_one set.machines name machines_named (named_is set.machines o name e)
+  clean_machine o name e = clean_named name (named_is set.machines o name e)

@@ -1,5 +1,5 @@
 -- All devices, read as entries.
-use Rattle.std.proofs.Common.{◌≡◌, ℕ, suc, ◌+◌, List, [], ◌∷◌, ◌++◌, length, map, true, false, Option, Some, None, ℤ, Ok, Err, Result, refl, sym, ap, ◌∙◌, subst, arith, append_assoc}
+use Rattle.std.proofs.Common.{◌≡◌, ℕ, suc, ◌+◌, List, [], ◌∷◌, ◌++◌, length, map, Bool, true, false, ◌||◌, Option, Some, None, ℤ, Ok, Err, Result, refl, sym, ap, ◌∙◌, subst, arith, append_assoc}
 use Rattle.std.proofs.lemmas.List.{length-append, length-map}
 use Rattle.std.specs.List.{flat_map}
 use Rattle.vms_spec.specs.declared.ValuesReason.TheVariants as reasons
@@ -11,14 +11,19 @@ use Rattle.vms_spec.specs.ValuesReading.{Standing, Read, BadLine, ReadSubs, read
 use Rattle.vms_laws.specs.Sound.{IsSound, AreSound}
 use Rattle.vms_laws.proofs.WalkLaws.{zero_plus}
 use Rattle.vms_texts.proofs.Lines.{same_bytes}
-use Rattle.vms_elements.specs.Lines.{section_line}
-use Rattle.vms_elements.specs.Entries.{Entry, OfSection, number_entries, subs_entries, device_entries}
+use Rattle.vms_elements.specs.Elements.{Element}
+use Rattle.vms_elements.specs.Parts.{elements_in}
+use Rattle.vms_elements.specs.Lines.{section_line, printed}
+use Rattle.vms_elements.specs.Entries.{Entry, OfSection, OfNumber, number_entries, subs_entries, device_entries}
+use Rattle.vms_elements.specs.Reading.{has_line, AreAtVersions}
 use Rattle.vms_reading.specs.Said.{Said, Agrees, AreBelow}
 use Rattle.vms_reading.specs.Taken.{Demand, ForSection, ForNumber, reason_for, Taken, Follows, Along, Begins, Moved}
 use Rattle.vms_reading.proofs.SaidLaws.{agrees_front}
 use Rattle.vms_reading.proofs.Following.{follows_then, along_then, moved_none, moved_one, moved_then}
-use Rattle.vms_reading.proofs.Numbers.{AreShort, all_taken, Told, NumbersRead, NumbersStop, NumbersCome, numbers_come}
-use Rattle.vms_reading.proofs.SubsCome.{told_none, told_both, agrees_later, line_taken, SubsRead, SubsStop, SubsCome, AreSoundSubs, cells_long, subs_come}
+use Rattle.vms_reading.proofs.Unsaid.{has_said, said_both, lines_both, lines_said}
+use Rattle.vms_reading.proofs.SecondPass.{sub_numbers, subs_past}
+use Rattle.vms_reading.proofs.Numbers.{AreShort, taken_of, all_taken, Told, NumbersRead, NumbersStop, NumbersCome, numbers_come}
+use Rattle.vms_reading.proofs.SubsCome.{told_none, told_both, agrees_later, line_taken, SubsRead, SubsStop, SubsCome, AreSoundSubs, cells_long, none_at, subs_come}
 
 abbrev pub AllShort : List Image → Type 0
 AllShort [] = Unit {0}
@@ -36,6 +41,9 @@ pub record DeviceRead (set : Set) (d : Device) (line : ℕ) (text : List ℕ) (r
   pub taken : List Taken
   pub told : Told 0 (default_numbers set d) said r.place.numbers
   pub one_each : length r.came ≡ length d.subs
+  pub versions : AreAtVersions d.subs r.came
+  pub heard : (c : ℕ) → has_line (device_entries set d (image_of d r)) c ≡ has_said said c
+  pub lines : r.lines ≡ sub_numbers line (device_entries set d (image_of d r))
   pub follows : (image : Image) (more : List Entry) → length image.came ≡ length d.subs → AreShort image.numbers → Follows taken (λ es. es ≡ more) (device_entries set d image ++ more)
   pub along : (more : List Entry) → Along taken (λ es. es ≡ more) (device_entries set d (image_of d r) ++ more)
   pub moved : Moved line text taken r.place.line r.place.rest
@@ -49,6 +57,7 @@ pub record DeviceStop (set : Set) (d : Device) (line : ℕ) (text : List ℕ) (e
   pub rest : List ℕ
   pub told : Told 0 (default_numbers set d) said numbers
   pub one_each : length came ≡ length d.subs
+  pub versions : AreAtVersions d.subs came
   pub follows : (image : Image) (more : List Entry) → length image.came ≡ length d.subs → AreShort image.numbers → Follows taken (λ es. Begins demand es) (device_entries set d image ++ more)
   pub along : (more : List Entry) → Along taken (λ es. Begins demand es) (device_entries set d (record { version = d.desc.version; came = came; numbers = numbers }) ++ more)
   pub moved : Moved line text taken e.line rest
@@ -73,6 +82,7 @@ module _ (set : Set) (d : Device) (line : ℕ) (text : List ℕ) where
         rest = text;
         told = told_none 0 (default_numbers set d);
         one_each = length-map d.subs (λ s. None);
+        versions = none_at set d d.subs;
         follows = λ image more long short. record { first = OfSection d image; others = _; is = refl; demands = refl };
         along = λ more. record { first = OfSection d (record { version = d.desc.version; came = none_came; numbers = default_numbers set d }); others = _; is = refl; demands = refl };
         moved = moved_none line text;
@@ -118,6 +128,7 @@ module _ (set : Set) (d : Device) (line : ℕ) (text : List ℕ) where
           rest = n.place.rest;
           told = n.told;
           one_each = length-map d.subs (λ s. None);
+          versions = none_at set d d.subs;
           follows = λ image more long short.
               follows_head (all_taken n.said) (λ es. Begins (ForNumber n.element) es) image more (n.follows image.numbers (subs_entries set d image 0 own d.subs image.came ++ more) short);
           along = λ more.
@@ -138,6 +149,7 @@ module _ (set : Set) (d : Device) (line : ℕ) (text : List ℕ) where
           rest = r.rest;
           told = told_both 0 own (default_numbers set d) q.numbers r.numbers n.said r.said (omega arith) (below_own q n) n.told r.told;
           one_each = r.one_each;
+          versions = r.versions;
           follows = λ image more long short.
               follows_head (all_taken n.said ++ r.taken) (λ es. Begins r.demand es) image more
               (follows_then (all_taken n.said) r.taken (λ es. es ≡ subs_entries set d image 0 own d.subs image.came ++ more) (λ es. Begins r.demand es) (behind_head image more)
@@ -155,6 +167,31 @@ module _ (set : Set) (d : Device) (line : ℕ) (text : List ℕ) where
           wrong = r.wrong;
         }
 
+    whole_agrees : (q : Standing) (r : ReadSubs) (n : NumbersRead set d.desc 0 start q) (x : SubsRead set d d.subs 0 own q r) → Agrees (n.said ++ x.said) r.place.numbers
+    whole_agrees q r n x = (told_both 0 own (default_numbers set d) q.numbers r.place.numbers n.said x.said (omega arith) (below_own q n) n.told x.told).agrees
+
+    heard_whole : (q : Standing) (r : ReadSubs) (n : NumbersRead set d.desc 0 start q) (x : SubsRead set d d.subs 0 own q r) (c : ℕ)
+        → has_line (device_entries set d (image_of d r)) c ≡ has_said (n.said ++ x.said) c
+    heard_whole q r n x c =
+        let image = image_of d r in
+        let all = whole_agrees q r n x in
+        let subs = subs_entries set d image 0 own d.subs r.came in
+        lines_both (number_entries set d.desc image.numbers 0) subs c
+        ∙ ap (λ (b : Bool). b || has_line subs c)
+        (ap (λ (l : List Element). has_line (map (λ x. OfNumber x image.numbers) l) c) (n.heard image.numbers (agrees_front n.said x.said image.numbers all)) ∙ lines_said image.numbers n.said c)
+        ∙ ap (λ (b : Bool). has_said n.said c || b) (x.heard image (agrees_later n.said x.said image.numbers all) c)
+        ∙ sym (said_both n.said x.said c)
+
+    lines_whole : (q : Standing) (r : ReadSubs) (n : NumbersRead set d.desc 0 start q) (x : SubsRead set d d.subs 0 own q r) → r.lines ≡ sub_numbers line (device_entries set d (image_of d r))
+    lines_whole q r n x =
+        let image = image_of d r in
+        let all = whole_agrees q r n x in
+        let subs = subs_entries set d image 0 own d.subs r.came in
+        let xs = printed (elements_in set d.desc d.desc.version image.numbers 0) in
+        let further : q.line ≡ suc line + length xs =
+        omega (arith, n.moved.further, length-map n.said (λ (s : Said). taken_of s), ap (λ (l : List Element). length l) (n.heard image.numbers (agrees_front n.said x.said image.numbers all)), length-map n.said (λ (s : Said). s.element)) in
+        x.lines image (agrees_later n.said x.said image.numbers all) ∙ ap (λ (l : ℕ). sub_numbers l subs) further ∙ sym (subs_past (suc line) image.numbers xs subs)
+
     read_whole : (q : Standing) (r : ReadSubs) → NumbersRead set d.desc 0 start q → SubsRead set d d.subs 0 own q r → DeviceRead set d line text r
     read_whole q r n x =
         record {
@@ -162,6 +199,9 @@ module _ (set : Set) (d : Device) (line : ℕ) (text : List ℕ) where
           taken = head ∷ (all_taken n.said ++ x.taken);
           told = told_both 0 own (default_numbers set d) q.numbers r.place.numbers n.said x.said (omega arith) (below_own q n) n.told x.told;
           one_each = x.one_each;
+          versions = x.versions;
+          heard = λ c. heard_whole q r n x c;
+          lines = lines_whole q r n x;
           follows = λ image more long short.
               follows_head (all_taken n.said ++ x.taken) (λ es. es ≡ more) image more
               (follows_then (all_taken n.said) x.taken (λ es. es ≡ subs_entries set d image 0 own d.subs image.came ++ more) (λ es. es ≡ more) (behind_head image more)

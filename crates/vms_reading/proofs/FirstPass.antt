@@ -18,7 +18,7 @@ use Rattle.vms_reading.proofs.BadLines.{FirstBad, FirstFine, Headed, stopped_fir
 
 -- ---- the line of the machine
 
-same_bytes : (name : List ℕ) → bytes_eq name name ≡ true
+pub same_bytes : (name : List ℕ) → bytes_eq name name ≡ true
 same_bytes [] = refl
 same_bytes (b ∷ name) = let e = eq-eqb b b refl in let f = same_bytes name in rw (e, f) refl
 

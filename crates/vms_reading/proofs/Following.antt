@@ -4,7 +4,7 @@ use Rattle.std.proofs.lemmas.List.{map-append, length-append}
 use Rattle.vms_elements.specs.Lines.{text_of}
 use Rattle.vms_elements.specs.Entries.{Entry, OfMachine, OfSection, OfSub, OfNumber, wanted_reason}
 use Rattle.vms_elements.proofs.LinesOf.{text_append}
-use Rattle.vms_reading.specs.Taken.{Demand, demand_of, reason_for, Taken, lines_of, AreFineTaken, Follows, Along, Moved}
+use Rattle.vms_reading.specs.Taken.{demand_of, reason_for, Taken, lines_of, AreFineTaken, Follows, Along, Moved}
 
 -- no state matters for what may stand somewhere
 pub reason_same : (e : Entry) (o : Option (List ℕ × List ℕ)) → wanted_reason e o ≡ reason_for (demand_of e) o
@@ -15,10 +15,6 @@ reason_same (OfSub d image j s at came) None = refl
 reason_same (OfSub d image j s at came) (Some (line, rest)) = refl
 reason_same (OfNumber x numbers) None = refl
 reason_same (OfNumber x numbers) (Some (line, rest)) = refl
-
--- nor what follows the line
-pub reason_line : (demand : Demand) (line rest rest' : List ℕ) → reason_for demand (Some (line, rest)) ≡ reason_for demand (Some (line, rest'))
-reason_line demand line rest rest' = refl
 
 pub follows_then : (taken more : List Taken) (P Q : List Entry → Type 0) (es : List Entry) → Follows taken P es → ((xs : List Entry) → P xs → Follows more Q xs) → Follows (taken ++ more) Q es
 follows_then [] more P Q es f h = h es f

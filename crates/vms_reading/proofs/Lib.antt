@@ -1,4 +1,6 @@
 pub mod SaidLaws
+pub mod Unsaid
+pub mod SecondPass
 pub mod OneLine
 pub mod Wrapped
 pub mod Coming
@@ -16,4 +18,15 @@ pub mod Meeting
 pub mod CleanNames
 pub mod Back
 pub mod CleanSets
+pub mod Matching
+pub mod Accepted
+pub mod Unique
+pub mod BadParts
+pub mod ReadySays
+pub mod ReadyBack
 pub mod Stated
+pub mod FineNumbers
+pub mod Rights
+pub mod ReadyParts
+pub mod Rounds
+pub mod FewLines

@@ -10,11 +10,12 @@ use Rattle.vms_laws.specs.Sound.{IsSound, AreSound}
 use Rattle.vms_texts.specs.Texts.{IsShort}
 use Rattle.vms_texts.proofs.Spells.{number_holds}
 use Rattle.vms_elements.specs.Elements.{Element, shapes, desc_elements}
+use Rattle.vms_elements.specs.Parts.{elements_in}
 use Rattle.vms_elements.specs.Lines.{text_of, printed}
 use Rattle.vms_elements.specs.Entries.{Entry, OfNumber, number_entries}
 use Rattle.vms_reading.specs.Said.{Said, said_line, AreFineLines, Agrees, Meets, AreBelow, AreFrom, put_all, Ran}
 use Rattle.vms_reading.specs.Taken.{ForNumber, reason_for, Taken, lines_of, AreFineTaken, Follows, Along, Begins, Moved}
-use Rattle.vms_reading.proofs.SaidLaws.{ran_none}
+use Rattle.vms_reading.proofs.SaidLaws.{ran_none, meets_all}
 use Rattle.vms_reading.proofs.Coming.{AreShortSaid, ComesTo, At}
 use Rattle.vms_reading.proofs.Wrapped.{under, wrapped}
 use Rattle.vms_reading.proofs.Walk.{part_comes}
@@ -36,7 +37,7 @@ of_numbers n xs = map (λ x. OfNumber x n) xs
 some_same : (y z : ℤ) → Some y ≡ Some z → y ≡ z
 some_same y z e = cc
 
-cancel : (front a b : List ℕ) → front ++ a ≡ front ++ b → a ≡ b
+pub cancel : (front a b : List ℕ) → front ++ a ≡ front ++ b → a ≡ b
 cancel [] a b e = e
 cancel (x ∷ front) a b e = cancel front a b (tail (x ∷ front ++ a) (x ∷ front ++ b) e) where
   rest_of : List ℕ → List ℕ
@@ -46,7 +47,7 @@ cancel (x ∷ front) a b e = cancel front a b (tail (x ∷ front ++ a) (x ∷ fr
   tail : (xs ys : List ℕ) → xs ≡ ys → rest_of xs ≡ rest_of ys
   tail xs ys e = ap rest_of e
 
-number_same : (name : List ℕ) (y z : ℤ) → IsShort y → IsShort z → name ++ (codes " = " ++ signed_decimal y) ≡ name ++ (codes " = " ++ signed_decimal z) → y ≡ z
+pub number_same : (name : List ℕ) (y z : ℤ) → IsShort y → IsShort z → name ++ (codes " = " ++ signed_decimal y) ≡ name ++ (codes " = " ++ signed_decimal z) → y ≡ z
 number_same name y z p q e =
     let same = cancel (codes " = ") (signed_decimal y) (signed_decimal z) (cancel name (codes " = " ++ signed_decimal y) (codes " = " ++ signed_decimal z) e) in
     some_same y z (sym (number_holds y p) ∙ ap number_spelled same ∙ number_holds z q)
@@ -101,6 +102,8 @@ pub record NumbersRead (set : Set) (d : Desc) (at : ℕ) (p q : Standing) : Type
   pub said : List Said
   pub told : Told at p.numbers said q.numbers
   pub below : AreBelow (at + length (desc_cells (struct_cells set) d)) said
+  -- the elements that are printed are those of which something was said
+  pub heard : (n : List ℤ) → Agrees said n → printed (elements_in set d d.version n at) ≡ map (λ (s : Said). s.element) said
   pub follows : (n : List ℤ) (more : List Entry) → AreShort n → Follows (all_taken said) (λ es. es ≡ more) (number_entries set d n at ++ more)
   pub along : (n : List ℤ) (more : List Entry) → Agrees said n → Along (all_taken said) (λ es. es ≡ more) (number_entries set d n at ++ more)
   pub moved : Moved p.line p.rest (all_taken said) q.line q.rest
@@ -140,6 +143,8 @@ module _ (set : Set) (d : Desc) (at : ℕ) (p : Standing) where
         said = f.said;
         told = told_of end q f.said (λ m. []) f.stands;
         below = f.stands.below;
+        heard = λ n agrees.
+            sym (under_none (printed (desc_elements (shapes set) d d.version n at))) ∙ meets_all f.said [] n (total n) agrees (f.stands.meets n) ∙ append-nil (map (λ (s : Said). s.element) f.said);
         follows = λ n more short.
             subst (λ (l : List Entry). Follows (all_taken f.said) (λ es. es ≡ more) (l ++ more)) (entries_are n)
             (follows_meets f.said [] n (total n) more (λ es. es ≡ more) short f.stands.short (f.stands.meets n) refl);

@@ -1,6 +1,6 @@
 -- What is known of a state that agrees with what was said, and one more line.
-use Rattle.std.proofs.Common.{◌≡◌, ◌≢◌, ℕ, ◌<◌, ◌≤◌, List, [], ◌∷◌, ◌++◌, length, get_or, map, slice_set, ℤ, pos, refl, sym, ap, ◌∙◌, arith, append_assoc, get_or-set_other}
-use Rattle.std.proofs.lemmas.List.{map-append, length-append, length-set}
+use Rattle.std.proofs.Common.{◌≡◌, ◌≢◌, ℕ, ◌<◌, ◌≤◌, List, [], ◌∷◌, ◌++◌, get_or, map, slice_set, ℤ, pos, refl, sym, ap, ◌∙◌, arith, append_assoc, get_or-set_other}
+use Rattle.std.proofs.lemmas.List.{map-append, length-append}
 use Rattle.vms_spec.specs.ValuesReading.{Standing}
 use Rattle.vms_elements.specs.Elements.{Element}
 use Rattle.vms_elements.specs.Lines.{text_of}
@@ -82,10 +82,6 @@ fine_more (s ∷ said) more f g = (f.0, fine_more said more f.1 g)
 pub put_more : (n : List ℤ) (said more : List Said) → put_all n (said ++ more) ≡ put_all (put_all n said) more
 put_more n [] more = refl
 put_more n (s ∷ said) more = put_more (slice_set n s.element.cell s.number) said more
-
-pub put_long : (n : List ℤ) (said : List Said) → length (put_all n said) ≡ length n
-put_long n [] = refl
-put_long n (s ∷ said) = put_long (slice_set n s.element.cell s.number) said ∙ length-set n s.element.cell s.number
 
 pub ran_none : (p : Standing) → Ran p [] p
 ran_none p = record { line = omega arith; rest = refl; numbers = refl; fine = tt }

@@ -1,142 +1,109 @@
 -- The laws of reading, as they are stated.
-use Rattle.std.proofs.Common.{◌≡◌, inl, inr, ℕ, suc, ◌+◌, length, Bool, true, false, not, List, [], ◌∷◌, Option, Some, None, sym, ap, ◌∙◌, subst}
+use Rattle.std.proofs.Common.{◌≡◌, inl, inr, ℕ, ◌+◌, length, List, Option, Some, None, refl, sym, ap, ◌∙◌, subst, arith}
 use Rattle.vms_spec.specs.declared.ValuesReason.{ValuesReason}
-use Rattle.vms_spec.specs.declared.ValuesReason.TheVariants as reasons
-use Rattle.vms_spec.specs.Sets.{Sub, Device, Set}
-use Rattle.vms_spec.specs.Layout.{desc_cells, struct_cells}
-use Rattle.vms_spec.specs.Images.{Image, own_slots, own_cells}
-use Rattle.vms_spec.specs.Readiness.{rules_are_true}
+use Rattle.vms_spec.specs.Sets.{Set}
+use Rattle.vms_spec.specs.Images.{Image}
 use Rattle.vms_spec.specs.Spelling.{first_line}
-use Rattle.vms_spec.specs.ValuesReading.{BadLine, ReadDevice, ValuesRead, Values, Bad, values_read, machine_named, answer_of, judge_devices, judge_device, judge_subs, or_bad, if_bad, sub_fails, is_said_well}
+use Rattle.vms_spec.specs.Values.{values_text}
+use Rattle.vms_spec.specs.ValuesReading.{BadLine, ValuesRead, Values, Bad, values_read}
 use Rattle.vms_laws.specs.Laws.{IsFit}
 use Rattle.vms_laws.proofs.WellFormedLaws.{well_good}
 use Rattle.vms_elements.specs.Lines.{text_of}
-use Rattle.vms_elements.specs.Reading.{IsMachineOf, IsBadLine}
+use Rattle.vms_elements.specs.Entries.{entries}
+use Rattle.vms_elements.specs.Reading.{IsText, Says, IsBadLine, IsBadPart, Refused, Reads}
 use Rattle.vms_elements.proofs.EntryLines.{entry_law}
 use Rattle.vms_elements.proofs.LinesOf.{text_is}
-use Rattle.vms_reading.specs.Laws.{IsOfLine, FoundLaw, BadLineLaw, IsPrinted, PrintedBackLaw}
+use Rattle.vms_reading.specs.Laws.{ReadLaw, OnlyLaw, AcceptedLaw, PrintedLaw}
+use Rattle.vms_reading.proofs.SecondPass.{parts_from}
 use Rattle.vms_reading.proofs.GoodDevices.{good_devices}
-use Rattle.vms_reading.proofs.BadLines.{bad_line, fine_text}
+use Rattle.vms_reading.proofs.BadLines.{bad_line}
 use Rattle.vms_reading.proofs.AllCome.{images_of}
 use Rattle.vms_reading.proofs.FirstPass.{FirstPass, first_pass}
 use Rattle.vms_reading.proofs.Back.{bad_back}
 use Rattle.vms_reading.proofs.CleanNames.{clean_entries}
-use Rattle.vms_reading.proofs.CleanSets.{clean_structs, clean_devices, clean_machine, named_is}
+use Rattle.vms_reading.proofs.CleanSets.{clean_structs, clean_devices, clean_machine}
+use Rattle.vms_reading.proofs.ReadyParts.{AreGood}
+use Rattle.vms_reading.proofs.Accepted.{none_says, answer_by, none_answers, none_good, says_ready}
+use Rattle.vms_reading.proofs.BadParts.{FirstPart, first_part, bad_part_found, good_none}
+use Rattle.vms_reading.proofs.Unique.{says_answers}
+use Rattle.vms_reading.proofs.ReadyBack.{text_says}
 
 its_first_pass : (set : Set) (text : List ℕ) → IsFit set → FirstPass set text (values_read set text)
 its_first_pass set text fit = let good = well_good set fit.well fit.heads in first_pass set text good.structs (good_devices set good)
 
-pub bad_line_holds : BadLineLaw
-bad_line_holds set text line reason fit x =
+-- ---- what is read
+
+text_of_ready : (set : Set) (text : List ℕ) (machine : Option (List ℕ)) (images : List Image) → IsFit set → Says set text machine images → AreGood set (entries set machine images) → IsText set text machine images
+text_of_ready set text machine images fit says good =
+    record {
+      named = says.named;
+      ready = says_ready set fit.well (well_good set fit.well fit.heads) text machine images says good;
+      printed = says.printed ∙ ap text_of (entry_law set machine images) ∙ text_is set machine images;
+    }
+
+bad_part : (set : Set) (text : List ℕ) (machine : Option (List ℕ)) (images : List Image) (b : BadLine) → Says set text machine images → FirstPart set 1 (entries set machine images) b → IsBadPart set text b.line b.reason
+bad_part set text machine images b says p =
+    record {
+      machine = machine;
+      images = images;
+      before = p.before;
+      entry = p.entry;
+      after = p.after;
+      says = says;
+      state = p.is;
+      good = p.good;
+      number = p.number ∙ omega arith;
+      bad = p.bad;
+    }
+
+by_parts : (set : Set) (text : List ℕ) (machine : Option (List ℕ)) (images : List Image) (o : Option BadLine) → IsFit set → Says set text machine images → parts_from set 1 (entries set machine images) ≡ o
+    → Reads set text (answer_by machine images o)
+by_parts set text machine images (Some b) fit says e = inr (bad_part set text machine images b says (first_part set 1 (entries set machine images) b e))
+by_parts set text machine images None fit says e = text_of_ready set text machine images fit says (none_good set 1 (entries set machine images) e)
+
+by_pass : (set : Set) (text : List ℕ) (v : ValuesRead) → IsFit set → FirstPass set text v → Reads set text v
+by_pass set text v fit (inl b) = subst (λ (v : ValuesRead). Reads set text v) (sym b.is) (inl (bad_line set text b.line b.reason b.first))
+by_pass set text v fit (inr n) =
+    let images = images_of n.all.devices in
+    subst (λ (v : ValuesRead). Reads set text v) (sym (none_answers set text v n))
+    (by_parts set text n.machine images (parts_from set 1 (entries set n.machine images)) fit (none_says set text v n) refl)
+
+pub read_holds : ReadLaw
+read_holds set text fit = by_pass set text (values_read set text) fit (its_first_pass set text fit)
+
+pub accepted_holds : AcceptedLaw
+accepted_holds set text machine images fit e = subst (λ (v : ValuesRead). Reads set text v) e (read_holds set text fit)
+
+-- ---- and nothing else
+
+line_back : (set : Set) (text : List ℕ) (line : ℕ) (reason : ValuesReason) → IsFit set → IsBadLine set text line reason → values_read set text ≡ Bad line reason
+line_back set text line reason fit x =
     bad_back set text line reason x
     (clean_entries set (clean_structs set fit.well) x.machine x.images (clean_devices set fit.well) (λ name e. clean_machine set fit.well (first_line text) name (sym x.named ∙ e)))
     (values_read set text) (its_first_pass set text fit)
 
--- ---- the second pass finds other reasons
+part_back : (set : Set) (text : List ℕ) (line : ℕ) (reason : ValuesReason) → IsFit set → IsBadPart set text line reason → values_read set text ≡ Bad line reason
+part_back set text line reason fit x =
+    let es = entries set x.machine x.images in
+    let here : 1 + length x.before ≡ line = omega (arith, x.number) in
+    says_answers set fit.well text x.machine x.images x.says (values_read set text) (its_first_pass set text fit)
+    ∙ ap (λ (o : Option BadLine). answer_by x.machine x.images o) (ap (parts_from set 1) x.state ∙ bad_part_found set 1 x.before x.entry x.after reason x.good x.bad)
+    ∙ ap (λ (n : ℕ). Bad n reason) here
 
-IsOther : Option BadLine → Type 0
-IsOther None = Unit {0}
-IsOther (Some b) = IsOfLine b.reason → ⊥
+text_back : (set : Set) (text : List ℕ) (machine : Option (List ℕ)) (images : List Image) → IsFit set → IsText set text machine images → values_read set text ≡ Values machine images
+text_back set text machine images fit t =
+    let s = text_says set text machine images t in
+    says_answers set fit.well text machine images s.says (values_read set text) (its_first_pass set text fit)
+    ∙ ap (λ (o : Option BadLine). answer_by machine images o) (good_none set 1 (entries set machine images) s.good)
 
-if_other : (t : Bool) (line : ℕ) (reason : ValuesReason) → (IsOfLine reason → ⊥) → IsOther (if_bad t line reason)
-unfolding IsOther
-if_other true line reason h = h
-if_other false line reason h = tt
+refused_back : (set : Set) (text : List ℕ) (line : ℕ) (reason : ValuesReason) → IsFit set → Refused set text line reason → values_read set text ≡ Bad line reason
+refused_back set text line reason fit (inl x) = line_back set text line reason fit x
+refused_back set text line reason fit (inr x) = part_back set text line reason fit x
 
-or_other : (x y : Option BadLine) → IsOther x → IsOther y → IsOther (or_bad x y)
-unfolding IsOther
-or_other (Some b) y h g = h
-or_other None y h g = g
+pub only_holds : OnlyLaw
+only_holds set text (Values machine images) fit r = text_back set text machine images fit r
+only_holds set text (Bad line reason) fit r = refused_back set text line reason fit r
 
-subs_other : (set : Set) (d : Device) (image : Image) (j at : ℕ) (subs : List Sub) (came : List (Option ℕ)) (lines : List ℕ) → IsOther (judge_subs set d image j at subs came lines)
-unfolding IsOther
-subs_other set d image j at [] came lines = tt
-subs_other set d image j at (s ∷ subs) [] lines = tt
-subs_other set d image j at (s ∷ subs) (o ∷ came) [] = tt
-subs_other set d image j at (s ∷ subs) (o ∷ came) (line ∷ lines) =
-    let fails = sub_fails set s o image.numbers at in
-    let said_badly = not (is_said_well set d image j s o at) in
-    let next = at + length (desc_cells (struct_cells set) s.desc) in
-    let others = judge_subs set d image (suc j) next subs came lines in
-    or_other (if_bad fails line reasons.Invalid) (or_bad (if_bad said_badly line reasons.Needed) others) (if_other fails line reasons.Invalid (λ h. h))
-    (or_other (if_bad said_badly line reasons.Needed) others (if_other said_badly line reasons.Needed (λ h. h)) (subs_other set d image (suc j) next subs came lines))
-
-devices_other : (set : Set) (devices : List Device) (read : List ReadDevice) → IsOther (judge_devices set devices read)
-unfolding IsOther
-devices_other set [] read = tt
-devices_other set (d ∷ devices) [] = tt
-devices_other set (d ∷ devices) (r ∷ read) =
-    let fails = not (rules_are_true (own_slots set d r.image.version r.image.numbers)) in
-    let subs = judge_subs set d r.image 0 (own_cells set d) d.subs r.image.came r.sub_lines in
-    or_other (judge_device set d r) (judge_devices set devices read)
-    (or_other (if_bad fails r.line reasons.Invalid) subs (if_other fails r.line reasons.Invalid (λ h. h)) (subs_other set d r.image 0 (own_cells set d) d.subs r.image.came r.sub_lines))
-    (devices_other set devices read)
-
-bad_same : (line line' : ℕ) (reason reason' : ValuesReason) → Bad line reason ≡ Bad line' reason' → (line ≡ line') × (reason ≡ reason')
-bad_same line line' reason reason' e = (ap line_of e, ap reason_of e) where
-  line_of : ValuesRead → ℕ
-  line_of (Bad n r) = n
-  line_of (Values machine images) = 0
-
-  reason_of : ValuesRead → ValuesReason
-  reason_of (Bad n r) = r
-  reason_of (Values machine images) = reason
-
-answer_other : (machine : Option (List ℕ)) (read : List ReadDevice) (o : Option BadLine) (line : ℕ) (reason : ValuesReason) → IsOther o → answer_of machine read o ≡ Bad line reason → IsOfLine reason → ⊥
-unfolding IsOther
-answer_other machine read (Some b) line reason h e first = h (subst IsOfLine (sym (bad_same b.line line b.reason reason e).1) first)
-answer_other machine read None line reason h e first = cc
-
-found : (set : Set) (text : List ℕ) (line : ℕ) (reason : ValuesReason) (v : ValuesRead) → IsOfLine reason → v ≡ Bad line reason → FirstPass set text v → IsBadLine set text line reason
-found set text line reason v first e (inl b) =
-    let same = bad_same b.line line b.reason reason (sym b.is ∙ e) in
-    subst (λ (r : ValuesReason). IsBadLine set text line r) same.1 (subst (λ (n : ℕ). IsBadLine set text n b.reason) same.0 (bad_line set text b.line b.reason b.first))
-found set text line reason v first e (inr n) =
-    absurd (answer_other n.machine n.all.devices (judge_devices set set.devices n.all.devices) line reason (devices_other set set.devices n.all.devices) (sym n.is ∙ e) first)
-
-pub found_holds : FoundLaw
-found_holds set text line reason fit first e = found set text line reason (values_read set text) first e (its_first_pass set text fit)
-
--- ---- what is read prints as the text
-
-record Same (machine machine' : Option (List ℕ)) (images images' : List Image) : Type 0 where
-  machines : machine ≡ machine'
-  states : images ≡ images'
-
-values_same : (machine machine' : Option (List ℕ)) (images images' : List Image) → Values machine images ≡ Values machine' images' → Same machine machine' images images'
-values_same machine machine' images images' e = record { machines = ap machine_of e; states = ap states_of e } where
-  machine_of : ValuesRead → Option (List ℕ)
-  machine_of (Values m i) = m
-  machine_of (Bad n r) = None
-
-  states_of : ValuesRead → List Image
-  states_of (Values m i) = i
-  states_of (Bad n r) = []
-
-answer_same : (machine machine' : Option (List ℕ)) (read : List ReadDevice) (images : List Image) (o : Option BadLine) → answer_of machine read o ≡ Values machine' images → Same machine machine' (images_of read) images
-answer_same machine machine' read images (Some b) e = cc
-answer_same machine machine' read images None e = values_same machine machine' (images_of read) images e
-
-named_machine : (set : Set) (text : List ℕ) (machine : Option (List ℕ)) → machine ≡ machine_named set.machines (first_line text) → IsMachineOf set machine
-named_machine set text None e = tt
-named_machine set text (Some name) e = named_is set.machines (first_line text) name (sym e)
-
-printed_back : (set : Set) (text : List ℕ) (machine : Option (List ℕ)) (images : List Image) (v : ValuesRead) → v ≡ Values machine images → FirstPass set text v → IsPrinted set text machine images
-printed_back set text machine images v e (inl b) = no (sym b.is ∙ e) where
-  no : Bad b.line b.reason ≡ Values machine images → IsPrinted set text machine images
-  no f = cc
-printed_back set text machine images v e (inr n) =
-    let f = n.first in
-    let fine = fine_text set text n.machine n.all f n.ends in
-    let same = answer_same n.machine machine n.all.devices images (judge_devices set set.devices n.all.devices) (sym n.is ∙ e) in
-    let mine : IsPrinted set text n.machine (images_of n.all.devices) =
-    record {
-      named = named_machine set text n.machine f.named;
-      shaped = f.shaped;
-      fine = fine.0;
-      printed = fine.1 ∙ ap text_of (entry_law set n.machine (images_of n.all.devices)) ∙ text_is set n.machine (images_of n.all.devices);
-    } in
-    subst (λ (m : Option (List ℕ)). IsPrinted set text m images) same.machines (subst (λ (i : List Image). IsPrinted set text n.machine i) same.states mine)
-
-pub printed_back_holds : PrintedBackLaw
-printed_back_holds set text machine images fit e = printed_back set text machine images (values_read set text) e (its_first_pass set text fit)
+pub printed_holds : PrintedLaw
+printed_holds set machine images fit named ready =
+    text_back set (values_text set machine images) machine images fit (record { named = named; ready = ready; printed = refl })

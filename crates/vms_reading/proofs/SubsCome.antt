@@ -1,5 +1,5 @@
 -- The subsections of a device, read as entries.
-use Rattle.std.proofs.Common.{◌≡◌, ℕ, suc, ◌+◌, ◌≤◌, List, [], ◌∷◌, ◌++◌, length, map, Bool, true, false, if◌then◌else◌, Option, Some, None, ℤ, Ok, Err, Result, refl, sym, ap, ◌∙◌, subst, arith, append_assoc}
+use Rattle.std.proofs.Common.{◌≡◌, ℕ, suc, ◌+◌, ◌≤◌, List, [], ◌∷◌, ◌++◌, length, map, Bool, true, false, ◌||◌, if◌then◌else◌, Option, Some, None, ℤ, Ok, Err, Result, refl, sym, ap, ◌∙◌, subst, arith, append_assoc}
 use Rattle.std.proofs.lemmas.List.{length-append, length-map}
 use Rattle.std.specs.List.{flat_map}
 use Rattle.std.specs.Str.{bytes_eq}
@@ -11,14 +11,19 @@ use Rattle.vms_spec.specs.Spelling.{first_line}
 use Rattle.vms_spec.specs.ValuesReading.{Standing, Read, BadLine, ReadSubs, readers, read_desc, read_subs, read_sub, sub_said, also, then_subs, next_line, rest_of}
 use Rattle.vms_laws.specs.Sound.{IsSound, AreSound}
 use Rattle.vms_texts.proofs.Lines.{line_splits, same_bytes}
-use Rattle.vms_elements.specs.Lines.{sub_line}
-use Rattle.vms_elements.specs.Entries.{Entry, OfSub, number_entries, subs_entries}
+use Rattle.vms_elements.specs.Elements.{Element}
+use Rattle.vms_elements.specs.Parts.{elements_in}
+use Rattle.vms_elements.specs.Lines.{sub_line, printed}
+use Rattle.vms_elements.specs.Entries.{Entry, OfSub, OfNumber, number_entries, subs_entries}
+use Rattle.vms_elements.specs.Reading.{has_line, IsAtVersion, AreAtVersions}
 use Rattle.vms_reading.specs.Said.{Said, Agrees, AreBelow, AreFrom, put_all}
 use Rattle.vms_reading.specs.Taken.{Demand, ForSub, ForNumber, reason_for, Taken, Follows, Along, Begins, Moved}
 use Rattle.vms_reading.proofs.SaidLaws.{agrees_kept, agrees_front, from_less, put_more}
 use Rattle.vms_reading.proofs.Coming.{AreShortSaid}
 use Rattle.vms_reading.proofs.Following.{follows_then, along_then, moved_none, moved_one, moved_then}
-use Rattle.vms_reading.proofs.Numbers.{AreShort, all_taken, Told, NumbersRead, NumbersStop, NumbersCome, numbers_come}
+use Rattle.vms_reading.proofs.Unsaid.{has_said, said_both, lines_both, lines_said}
+use Rattle.vms_reading.proofs.SecondPass.{sub_numbers, subs_past}
+use Rattle.vms_reading.proofs.Numbers.{AreShort, taken_of, all_taken, Told, NumbersRead, NumbersStop, NumbersCome, numbers_come}
 
 -- ---- what was told in two parts
 
@@ -71,6 +76,7 @@ pub record SaidSub (s : Sub) (o : Option (List ℕ × List ℕ)) (came : Option 
   pub rest : List ℕ
   pub is : o ≡ Some (sub_line s came, rest)
   pub fine : reason_for (ForSub s) (Some (sub_line s came, [])) ≡ None
+  pub version : IsAtVersion s came
 
 one_way : (s : Sub) (line rest : List ℕ) (came : Option ℕ) (a b : Bool) → bytes_eq line (sub_line s (Some s.desc.version)) ≡ a → bytes_eq line (sub_line s None) ≡ b
     → (if a then Some (Some s.desc.version) else if b then Some None else None) ≡ Some came → SaidSub s (Some (line, rest)) came
@@ -82,6 +88,7 @@ one_way s line rest (Some v) true b e f h =
       rest = rest;
       is = ap (λ (l : List ℕ). Some (l, rest)) whole;
       fine = ap (λ (l : List ℕ). reason_for (ForSub s) (Some (l, []))) (sym whole) ∙ (rw e refl);
+      version = cc;
     }
 one_way s line rest None true b e f h = cc
 one_way s line rest (Some v) false true e f h = cc
@@ -91,6 +98,7 @@ one_way s line rest None false true e f h =
       rest = rest;
       is = ap (λ (l : List ℕ). Some (l, rest)) whole;
       fine = ap (λ (l : List ℕ). reason_for (ForSub s) (Some (l, []))) (sym whole) ∙ (rw (e, f) refl);
+      version = tt;
     }
 one_way s line rest came false false e f h = cc
 
@@ -109,6 +117,9 @@ module _ (set : Set) (d : Device) where
     pub taken : List Taken
     pub told : Told at p.numbers said r.place.numbers
     pub one_each : length r.came ≡ length subs
+    pub versions : AreAtVersions subs r.came
+    pub heard : (image : Image) → Agrees said image.numbers → (c : ℕ) → has_line (subs_entries set d image j at subs r.came) c ≡ has_said said c
+    pub lines : (image : Image) → Agrees said image.numbers → r.lines ≡ sub_numbers p.line (subs_entries set d image j at subs r.came)
     pub follows : (image : Image) (came : List (Option ℕ)) (more : List Entry) → length came ≡ length subs → AreShort image.numbers
         → Follows taken (λ es. es ≡ more) (subs_entries set d image j at subs came ++ more)
     pub along : (image : Image) (more : List Entry) → Agrees said image.numbers → Along taken (λ es. es ≡ more) (subs_entries set d image j at subs r.came ++ more)
@@ -123,6 +134,7 @@ module _ (set : Set) (d : Device) where
     pub rest : List ℕ
     pub told : Told at p.numbers said numbers
     pub one_each : length came ≡ length subs
+    pub versions : AreAtVersions subs came
     pub follows : (image : Image) (came : List (Option ℕ)) (more : List Entry) → length came ≡ length subs → AreShort image.numbers
         → Follows taken (λ es. Begins demand es) (subs_entries set d image j at subs came ++ more)
     pub along : (image : Image) (more : List Entry) → Agrees said image.numbers → Along taken (λ es. Begins demand es) (subs_entries set d image j at subs came ++ more)
@@ -136,6 +148,10 @@ module _ (set : Set) (d : Device) where
   -- none has come
   abbrev none_of : List Sub → List (Option ℕ)
   none_of subs = map (λ s. None) subs
+
+  pub none_at : (subs : List Sub) → AreAtVersions subs (none_of subs)
+  none_at [] = tt
+  none_at (s ∷ subs) = (tt, none_at subs)
 
   module _ (s : Sub) (subs : List Sub) (j at : ℕ) (p : Standing) where
     abbrev size : ℕ
@@ -152,6 +168,7 @@ module _ (set : Set) (d : Device) where
           rest = p.rest;
           told = told_none at p.numbers;
           one_each = ap suc (length-map subs (λ s. None));
+          versions = (tt, none_at subs);
           follows = λ image came more long short. first_sub image came more long;
           along = λ image more agrees. first_sub image (None ∷ none_of subs) more (ap suc (length-map subs (λ s. None)));
           moved = moved_none p.line p.rest;
@@ -206,6 +223,7 @@ module _ (set : Set) (d : Device) where
             rest = n.place.rest;
             told = n.told;
             one_each = ap suc (length-map subs (λ s. None));
+            versions = (head.version, none_at subs);
             follows = λ image others more long short.
                 follows_head (all_taken n.said) (λ es. Begins (ForNumber n.element) es) image others more long
                 (λ others long. n.follows image.numbers (subs_entries set d image (suc j) (at + size) subs others ++ more) short);
@@ -227,6 +245,7 @@ module _ (set : Set) (d : Device) where
             rest = r.rest;
             told = told_both at (at + size) p.numbers q.numbers r.numbers n.said r.said (omega arith) n.below n.told r.told;
             one_each = ap suc r.one_each;
+            versions = (head.version, r.versions);
             follows = λ image others more long short.
                 follows_head (all_taken n.said ++ r.taken) (λ es. Begins r.demand es) image others more long
                 (λ others long.
@@ -243,6 +262,26 @@ module _ (set : Set) (d : Device) where
             wrong = r.wrong;
           }
 
+      heard_both : (q : Standing) (r : ReadSubs) (n : NumbersRead set s.desc at (next_line p) q) (x : SubsRead subs (suc j) (at + size) q r) (image : Image) → Agrees (n.said ++ x.said) image.numbers
+          → (c : ℕ) → has_line (subs_entries set d image j at (s ∷ subs) (came ∷ r.came)) c ≡ has_said (n.said ++ x.said) c
+      heard_both q r n x image agrees c =
+          let others = subs_entries set d image (suc j) (at + size) subs r.came in
+          lines_both (number_entries set s.desc image.numbers at) others c
+          ∙ ap (λ (b : Bool). b || has_line others c)
+          (ap (λ (l : List Element). has_line (map (λ x. OfNumber x image.numbers) l) c) (n.heard image.numbers (agrees_front n.said x.said image.numbers agrees)) ∙ lines_said image.numbers n.said c)
+          ∙ ap (λ (b : Bool). has_said n.said c || b) (x.heard image (agrees_later n.said x.said image.numbers agrees) c)
+          ∙ sym (said_both n.said x.said c)
+
+      lines_both_parts : (q : Standing) (r : ReadSubs) (n : NumbersRead set s.desc at (next_line p) q) (x : SubsRead subs (suc j) (at + size) q r) (image : Image)
+          → Agrees (n.said ++ x.said) image.numbers → p.line ∷ r.lines ≡ sub_numbers p.line (subs_entries set d image j at (s ∷ subs) (came ∷ r.came))
+      lines_both_parts q r n x image agrees =
+          let others = subs_entries set d image (suc j) (at + size) subs r.came in
+          let xs = printed (elements_in set s.desc s.desc.version image.numbers at) in
+          let further : q.line ≡ suc p.line + length xs =
+          omega (arith, n.moved.further, length-map n.said (λ (s : Said). taken_of s), ap (λ (l : List Element). length l) (n.heard image.numbers (agrees_front n.said x.said image.numbers agrees)), length-map n.said (λ (s : Said). s.element)) in
+          ap (λ (l : List ℕ). p.line ∷ l)
+          (x.lines image (agrees_later n.said x.said image.numbers agrees) ∙ ap (λ (l : ℕ). sub_numbers l others) further ∙ sym (subs_past (suc p.line) image.numbers xs others))
+
       read_behind : (q : Standing) (r : ReadSubs) → NumbersRead set s.desc at (next_line p) q → SubsRead subs (suc j) (at + size) q r
           → SubsRead (s ∷ subs) j at p (record { place = r.place; came = came ∷ r.came; lines = p.line ∷ r.lines })
       read_behind q r n x =
@@ -251,6 +290,9 @@ module _ (set : Set) (d : Device) where
             taken = taken_head ∷ (all_taken n.said ++ x.taken);
             told = told_both at (at + size) p.numbers q.numbers r.place.numbers n.said x.said (omega arith) n.below n.told x.told;
             one_each = ap suc x.one_each;
+            versions = (head.version, x.versions);
+            heard = λ image agrees c. heard_both q r n x image agrees c;
+            lines = λ image agrees. lines_both_parts q r n x image agrees;
             follows = λ image others more long short.
                 follows_head (all_taken n.said ++ x.taken) (λ es. es ≡ more) image others more long
                 (λ others long.
@@ -299,6 +341,9 @@ module _ (set : Set) (d : Device) where
         taken = [];
         told = told_none at p.numbers;
         one_each = refl;
+        versions = tt;
+        heard = λ image agrees c. refl;
+        lines = λ image agrees. refl;
         follows = λ image came more long short. refl;
         along = λ image more agrees. refl;
         moved = moved_none p.line p.rest;

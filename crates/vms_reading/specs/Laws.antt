@@ -1,43 +1,43 @@
 -- What a values text says under a set, and the lines and elements of the set: the laws between the two, each as a statement.
-use Rattle.std.specs.Prelude.{◌≡◌, ℕ, List, Option}
+use Rattle.std.specs.Prelude.{◌≡◌, ℕ, suc, ◌+◌, ◌≤◌, List, length, sum_by, Option}
 use Rattle.vms_spec.specs.declared.ValuesReason.{ValuesReason}
-use Rattle.vms_spec.specs.declared.ValuesReason.TheVariants.{Form, Number, Count, Absent, Invalid, Needed}
-use Rattle.vms_spec.specs.Sets.{Set}
+use Rattle.vms_spec.specs.Sets.{Device, Set}
+use Rattle.vms_spec.specs.Layout.{device_cells}
 use Rattle.vms_spec.specs.Images.{Image}
 use Rattle.vms_spec.specs.Values.{values_text}
-use Rattle.vms_spec.specs.ValuesReading.{values_read, Values, Bad}
+use Rattle.vms_spec.specs.ValuesReading.{values_read, ValuesRead, Values, Bad}
+use Rattle.vms_spec.specs.Streams.{AreReady}
 use Rattle.vms_laws.specs.Laws.{IsFit}
-use Rattle.vms_elements.specs.Entries.{entries}
-use Rattle.vms_elements.specs.Reading.{IsMachineOf, AreShaped, AreFine, IsBadLine}
+use Rattle.vms_elements.specs.Reading.{IsMachineOf, IsText, Reads}
 
--- ---- the first pass
+-- What is read of a text is what its lines mean by the elements of the set: a machine of the set or none and images that may be
+-- written, of which this text is printed; else the first line that may not stand where it does; else the first section or
+-- subsection that is bad.
+abbrev pub ReadLaw : Type 0
+ReadLaw = (set : Set) (text : List ℕ) → IsFit set → Reads set text (values_read set text)
 
--- the reasons that the first pass finds
-abbrev pub IsOfLine : ValuesReason → Type 0
-IsOfLine Form = Unit {0}
-IsOfLine Number = Unit {0}
-IsOfLine Count = Unit {0}
-IsOfLine Absent = Unit {0}
-IsOfLine Invalid = ⊥
-IsOfLine Needed = ⊥
+-- and of what its lines mean nothing else is read
+abbrev pub OnlyLaw : Type 0
+OnlyLaw = (set : Set) (text : List ℕ) (v : ValuesRead) → IsFit set → Reads set text v → values_read set text ≡ v
 
--- the bad line that is read is the first one by the lines and elements of the set
-abbrev pub FoundLaw : Type 0
-FoundLaw = (set : Set) (text : List ℕ) (line : ℕ) (reason : ValuesReason) → IsFit set → IsOfLine reason → values_read set text ≡ Bad line reason → IsBadLine set text line reason
+-- in particular, what is accepted
+abbrev pub AcceptedLaw : Type 0
+AcceptedLaw = (set : Set) (text : List ℕ) (machine : Option (List ℕ)) (images : List Image) → IsFit set → values_read set text ≡ Values machine images → IsText set text machine images
 
--- and that first one is read
-abbrev pub BadLineLaw : Type 0
-BadLineLaw = (set : Set) (text : List ℕ) (line : ℕ) (reason : ValuesReason) → IsFit set → IsBadLine set text line reason → values_read set text ≡ Bad line reason
+-- and what is printed of images that may be written
+abbrev pub PrintedLaw : Type 0
+PrintedLaw = (set : Set) (machine : Option (List ℕ)) (images : List Image) → IsFit set → IsMachineOf set machine → AreReady set images → values_read set (values_text set machine images) ≡ Values machine images
 
--- ---- what is read
+-- ---- lines
 
--- the text that is printed of a machine of the set, or none, and of a state of the set each line of which is fine
-pub record IsPrinted (set : Set) (text : List ℕ) (machine : Option (List ℕ)) (images : List Image) : Type 0 where
-  pub named : IsMachineOf set machine
-  pub shaped : AreShaped set set.devices images
-  pub fine : AreFine (entries set machine images)
-  pub printed : text ≡ values_text set machine images
+-- the lines of a device at most: of its section, its subsections and all its cells
+abbrev pub device_lines : Set → Device → ℕ
+device_lines set d = 1 + (length d.subs + length (device_cells set d))
 
--- what is read of a text prints as that text
-abbrev pub PrintedBackLaw : Type 0
-PrintedBackLaw = (set : Set) (text : List ℕ) (machine : Option (List ℕ)) (images : List Image) → IsFit set → values_read set text ≡ Values machine images → IsPrinted set text machine images
+-- the lines of a text of a set at most, with that of a machine
+abbrev pub most_lines : Set → ℕ
+most_lines set = 1 + sum_by (device_lines set) set.devices
+
+-- a text of any length is refused at one of these lines, or at the one behind them
+abbrev pub LineLaw : Type 0
+LineLaw = (set : Set) (text : List ℕ) (line : ℕ) (reason : ValuesReason) → IsFit set → values_read set text ≡ Bad line reason → line ≤ suc (most_lines set)

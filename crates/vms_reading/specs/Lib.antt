@@ -1,3 +1,4 @@
 pub mod Said
 pub mod Taken
 pub mod Laws
+pub mod Rounds

@@ -69,6 +69,8 @@ fn of_set(alloc: Global, set: &DescSet, what: &str, rest: &str) -> Option<String
         "cell" => format!(in alloc; "{:?}", cell(alloc, set, &words)?).ok(),
         "find" => format!(in alloc; "{:?}", find(set, &words)?).ok(),
         "put" => streams::put(alloc, set, &words),
+        "raw" => streams::raw(alloc, set, &words),
+        "spots" => streams::spots(alloc, set, &words),
         "defaults" => shipped::defaults(alloc, set),
         "described" => shipped::described(alloc, set, rest),
         "serial" => shipped::serial(alloc, set),

@@ -1,5 +1,6 @@
 // The shipped sets and the boards' streams.
 
+use crate::streams::put_number;
 use std::alloc::Global;
 use vms_desc::DescSet;
 use vms_image::Image;
@@ -56,13 +57,13 @@ fn images(alloc: Global, set: &DescSet) -> Option<Vec<Image>> {
 
 // The serial port of the first board at power on.
 fn serial_port(alloc: Global, set: &DescSet) -> Option<Image> {
-    if set.parts().devices.as_slice().len() != 5 || set.cells(4) < 12 {
+    if set.parts().devices.as_slice().len() != 5 {
         return None;
     }
     let mut image = Image::new(alloc, set, 4).ok()?;
-    image.set(0, 12);
-    image.set(2, 1);
-    image.set(5, 0x60);
+    put_number(&mut image, 0, 12)?;
+    put_number(&mut image, 2, 1)?;
+    put_number(&mut image, 5, 0x60)?;
     Some(image)
 }
 

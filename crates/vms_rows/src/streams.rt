@@ -112,14 +112,23 @@ fn kept(alloc: Global, loader: &Loader) -> Option<String> {
         None => String::from_str(alloc, "not ready").ok()?,
     };
     let taken = loader.taken();
-    format!(in alloc; "{taken} taken, {:?}, {stream}", image.numbers()).ok()
+    let numbers = numbers(alloc, image)?;
+    format!(in alloc; "{taken} taken, {:?}, {stream}", numbers.as_slice()).ok()
+}
+
+// The numbers of an image, in order.
+fn numbers(alloc: Global, image: &Image) -> Option<Vec<i128>> {
+    let mut numbers = Vec::new(alloc);
+    for cell in 0..image.len() {
+        numbers.push(image.get(cell)).ok()?;
+    }
+    Some(numbers)
 }
 
 fn fault_text(alloc: Global, fault: LoadFault) -> Option<String> {
     match fault {
         LoadFault::Refused(refusal) => refused(alloc, refusal),
         LoadFault::ReadFault => String::from_str(alloc, "read fault").ok(),
-        LoadFault::NoMemory => None,
     }
 }
 
@@ -147,32 +156,59 @@ fn written(alloc: Global, set: &DescSet, images: &[Image]) -> Option<MemSink> {
 
 /// The stream that is written once these numbers are put into the only device and each of its two subsections has come.
 pub(crate) fn put(alloc: Global, set: &DescSet, words: &[&str]) -> Option<String> {
-    let mut numbers = Vec::new(alloc);
-    for word in words {
-        numbers.push(word.parse().ok()?).ok()?;
-    }
-    let images = vec![in alloc; image_of(alloc, set, &numbers)?].ok()?;
+    let images = vec![in alloc; image_of(alloc, set, words)?].ok()?;
     let sink = written(alloc, set, &images)?;
     hex::encode(alloc, sink.bytes()).ok()
 }
 
-fn image_of(alloc: Global, set: &DescSet, numbers: &[i128]) -> Option<Image> {
+/// The bytes of the only device's image once these numbers are put into it.
+pub(crate) fn raw(alloc: Global, set: &DescSet, words: &[&str]) -> Option<String> {
+    let image = image_of(alloc, set, words)?;
+    hex::encode(alloc, image.raw()).ok()
+}
+
+/// Where the numbers of a device stand in its image's bytes, and how many bytes these are.
+pub(crate) fn spots(alloc: Global, set: &DescSet, words: &[&str]) -> Option<String> {
+    let [device] = words else {
+        return None;
+    };
+    let device = device.parse().ok()?;
+    if device as usize >= set.parts().devices.as_slice().len() {
+        return None;
+    }
+    let mut spots = String::new(alloc);
+    for spot in set.spots(device) {
+        spots
+            .push_str(&format!(in alloc; "{} ", spot.offset).ok()?)
+            .ok()?;
+    }
+    let size = set.image_bytes(device);
+    format!(in alloc; "{spots}of {size}").ok()
+}
+
+fn image_of(alloc: Global, set: &DescSet, words: &[&str]) -> Option<Image> {
     if set.parts().devices.as_slice().len() != 1 {
         return None;
     }
     let mut image = Image::new(alloc, set, 0).ok()?;
-    match numbers {
-        [first] if set.cells(0) == 1 => image.set(0, *first),
-        [first, second, third] if set.cells(0) == 3 => {
-            image.set(0, *first);
-            image.set(1, *second);
-            image.set(2, *third);
-        }
-        _ => return None,
+    if words.len() != image.len() as usize {
+        return None;
     }
     if set.sub_count(0) == 2 {
         image.mark(0, Some(1));
         image.mark(1, Some(1));
     }
+    for (cell, word) in words.iter().enumerate() {
+        put_number(&mut image, cell as u32, word.parse().ok()?)?;
+    }
     Some(image)
+}
+
+/// Puts a number into a cell, if there is such a cell and its kind has the number.
+pub(crate) fn put_number(image: &mut Image, cell: u32, number: i128) -> Option<()> {
+    if cell >= image.len() || !image.fits(cell, number) {
+        return None;
+    }
+    image.set(cell, number);
+    Some(())
 }

@@ -19,6 +19,3 @@ pub use number::LONGEST_WAIT;
 pub use script::read_script;
 pub use trace::print_answer;
 pub use vms_io::WriteFault;
-
-#[cfg(test)]
-mod tests;

@@ -6,6 +6,7 @@ ghost use Rattle.vms_spec.specs.declared.Part.TheVariants as parts;
 ghost use Rattle.vms_desc.specs.Asks.{first_cell};
 ghost use Rattle.vms_desc.specs.Described.{device_at};
 ghost use Rattle.vms_desc.specs.Parts.{sub_at};
+ghost use Rattle.vms_image.specs.Typed.{state_of};
 ghost use Rattle.vms_selfdesc.specs.Entries.{part_entries};
 ghost use Rattle.vms_selfdesc.specs.Listing.{set_in, numbers_in, IsPlace, part_list};
 ghost use Rattle.vms_selfdesc.specs.Needs.{HasDevice};
@@ -32,7 +33,7 @@ fn entries(lister: &Lister, part: Part, sent: bool, cell: u32) -> Result<Vec<Val
 }
 
 fn sub_members(lister: &Lister, device: u32, sub: u32, sent: bool) -> Result<Members, AllocError>
-    requires device { HasDevice (set_in lister.now) device lister.now.image.now }
+    requires device { HasDevice (set_in lister.now) device (state_of lister.now.image.now) }
     requires is_sub { sub < length (device_at (set_in lister.now) device).subs }
     ensures { let set = set_in lister.now in
         let s = sub_at (device_at set device) sub in
@@ -56,10 +57,10 @@ fn sub_members(lister: &Lister, device: u32, sub: u32, sent: bool) -> Result<Mem
 
 // A subsection, whether or not it stands in the stream.
 fn sub_value(lister: &Lister, device: u32, sub: u32) -> Result<Value, AllocError>
-    requires device { HasDevice (set_in lister.now) device lister.now.image.now }
+    requires device { HasDevice (set_in lister.now) device (state_of lister.now.image.now) }
     requires is_sub { sub < length (device_at (set_in lister.now) device).subs }
     ensures { let set = set_in lister.now in
-        let image = lister.now.image.now in
+        let image = state_of lister.now.image.now in
         let at = first_cell set (parts.Sub device sub) in
         let s = sub_at (device_at set device) sub in
         IfOk result (λ v. view v ≡ sub_tree set image.numbers at s (get_or image.came sub None)) }
@@ -69,9 +70,9 @@ fn sub_value(lister: &Lister, device: u32, sub: u32) -> Result<Value, AllocError
 }
 
 fn sub_values(lister: &Lister, device: u32) -> Result<Vec<Value>, AllocError>
-    requires { HasDevice (set_in lister.now) device lister.now.image.now }
+    requires { HasDevice (set_in lister.now) device (state_of lister.now.image.now) }
     ensures { let set = set_in lister.now in
-        let image = lister.now.image.now in
+        let image = state_of lister.now.image.now in
         let d = device_at set device in
         let first = own_cells set d in
         let trees = sub_trees set image.numbers first d.subs image.came in
@@ -86,10 +87,10 @@ fn sub_values(lister: &Lister, device: u32) -> Result<Vec<Value>, AllocError>
 }
 
 fn device_members(lister: &Lister, device: u32) -> Result<Members, AllocError>
-    requires { HasDevice (set_in lister.now) device lister.now.image.now }
+    requires { HasDevice (set_in lister.now) device (state_of lister.now.image.now) }
     ensures { let set = set_in lister.now in
         let d = device_at set device in
-        let image = lister.now.image.now in
+        let image = state_of lister.now.image.now in
         let entries = part_entries set d.desc true image.numbers 0 in
         let subs = sub_trees set image.numbers (own_cells set d) d.subs image.came in
         let members = device_members entries d.instance d.desc.name subs d.desc.version in
@@ -117,9 +118,9 @@ fn device_members(lister: &Lister, device: u32) -> Result<Members, AllocError>
 
 // A device with its subsections.
 pub(crate) fn device_value(lister: &Lister, device: u32) -> Result<Value, AllocError>
-    requires { HasDevice (set_in lister.now) device lister.now.image.now }
+    requires { HasDevice (set_in lister.now) device (state_of lister.now.image.now) }
     ensures { let set = set_in lister.now in
-        IfOk result (λ v. view v ≡ device_tree set (device_at set device) lister.now.image.now) }
+        IfOk result (λ v. view v ≡ device_tree set (device_at set device) (state_of lister.now.image.now)) }
 {
     Ok(Value::Object(device_members(lister, device)?))
 }

@@ -4,6 +4,7 @@ ghost use Rattle.serde_json.specs.Read.{read};
 ghost use Rattle.serde_json.specs.View.{view};
 ghost use Rattle.vms_spec.specs.Streams.{AreReady, longest_text};
 ghost use Rattle.vms_desc.specs.Described.{described};
+ghost use Rattle.vms_image.specs.Typed.{state_of};
 ghost use Rattle.vms_selfdesc.specs.Tree.{device_trees, described_tree, described_text};
 
 use crate::built::{push, put};
@@ -20,10 +21,10 @@ use vms_io::NoMemory;
 /// section, element by element with path, size in bytes and type, and the defaults of the cells that
 /// don't stand there. It has less than 16,777,216 bytes. Fails only where memory is wanting.
 pub fn describe(alloc: Global, set: &DescSet, images: &[Image]) -> Result<String, NoMemory>
-    requires { AreReady (described set.now) images.now }
-    ensures text { let text = described_text (described set.now) images.now in
+    requires { AreReady (described set.now) (map state_of images.now) }
+    ensures text { let text = described_text (described set.now) (map state_of images.now) in
         IfOk result (λ s. string_bytes s ≡ text) }
-    ensures reads { let tree = described_tree (described set.now) images.now in
+    ensures reads { let tree = described_tree (described set.now) (map state_of images.now) in
         IfOk result (λ s. read (string_bytes s) ≡ Some tree) }
     ensures short { IfOk result (λ s. length (string_bytes s) < longest_text) }
 {
@@ -32,8 +33,8 @@ pub fn describe(alloc: Global, set: &DescSet, images: &[Image]) -> Result<String
 }
 
 fn described_value(alloc: Global, set: &DescSet, images: &[Image]) -> Result<Value, AllocError>
-    requires { AreReady (described set.now) images.now }
-    ensures { IfOk result (λ v. view v ≡ described_tree (described set.now) images.now) }
+    requires { AreReady (described set.now) (map state_of images.now) }
+    ensures { IfOk result (λ v. view v ≡ described_tree (described set.now) (map state_of images.now)) }
 {
     let devices = device_values(alloc, set, images)?;
     let mut members = Map::new(alloc);
@@ -42,8 +43,9 @@ fn described_value(alloc: Global, set: &DescSet, images: &[Image]) -> Result<Val
 }
 
 fn device_values(alloc: Global, set: &DescSet, images: &[Image]) -> Result<Vec<Value>, AllocError>
-    requires { AreReady (described set.now) images.now }
-    ensures { let trees = device_trees (described set.now) (described set.now).devices images.now in
+    requires { AreReady (described set.now) (map state_of images.now) }
+    ensures { let states = map state_of images.now in
+        let trees = device_trees (described set.now) (described set.now).devices states in
         IfOk result (λ list. map view list.items ≡ trees) }
 {
     let mut list = Vec::new(alloc);

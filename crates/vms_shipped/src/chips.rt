@@ -2,9 +2,10 @@
 ghost use Rattle.std.specs.Prelude.{◌≡◌, map, IfOk};
 ghost use Rattle.vms_spec.specs.Sets as sets;
 ghost use Rattle.vms_spec.specs.Shipped.{number, timer, i8259_fields, i8259_at_1, i8259_at_2, i8259_at_4, ltim, i8259_with_elcr, pit_channel, channels, i8254_at_1, i8254_at_2};
+ghost use Rattle.vms_shipped.specs.Numbered.{gate_at, i8254_at, i8259_at};
 ghost use Rattle.vms_parts.specs.Views.{field_of, desc_of, device_of, sub_of};
 
-use crate::words::{asks, desc, device, field, number, put_numbers, sub};
+use crate::words::{asks, counting, desc, device, field, lone, number, put_numbers};
 use std::alloc::Global;
 use vms_io::NoMemory;
 use vms_kinds::{Item, Kind};
@@ -37,7 +38,7 @@ fn i8259_fields(alloc: Global) -> Result<Vec<Field>, NoMemory>
     Ok(fields)
 }
 
-pub(crate) fn i8259_at_1(alloc: Global, instance: u32) -> Result<Device, NoMemory>
+fn i8259_at_1(alloc: Global, instance: u32) -> Result<Device, NoMemory>
     ensures { IfOk result (λ d. device_of d ≡ i8259_at_1 instance) }
 {
     let fields = i8259_fields(alloc)?;
@@ -55,7 +56,7 @@ fn i8259_with_elcr(alloc: Global) -> Result<Desc, NoMemory>
     desc(alloc, "i8259", 2, fields)
 }
 
-pub(crate) fn i8259_at_2(alloc: Global, instance: u32) -> Result<Device, NoMemory>
+fn i8259_at_2(alloc: Global, instance: u32) -> Result<Device, NoMemory>
     ensures { IfOk result (λ d. device_of d ≡ i8259_at_2 instance) }
 {
     Ok(device(instance, i8259_with_elcr(alloc)?, Vec::new(alloc)))
@@ -65,15 +66,26 @@ pub(crate) fn i8259_at_2(alloc: Global, instance: u32) -> Result<Device, NoMemor
 fn ltim(alloc: Global) -> Result<Sub, NoMemory>
     ensures { IfOk result (λ s. sub_of s ≡ ltim) }
 {
-    let fields = vec![in alloc; number(alloc, Kind::Bool, "ltim")?]?;
-    sub(alloc, "i8259/ltim", fields, asks(0, 1, Rel::Eq, 1))
+    let field = number(alloc, Kind::Bool, "ltim")?;
+    lone(alloc, "i8259/ltim", field, asks(0, 1, Rel::Eq, 1))
 }
 
-pub(crate) fn i8259_at_4(alloc: Global, instance: u32) -> Result<Device, NoMemory>
+fn i8259_at_4(alloc: Global, instance: u32) -> Result<Device, NoMemory>
     ensures { IfOk result (λ d. device_of d ≡ i8259_at_4 instance) }
 {
     let subs = vec![in alloc; ltim(alloc)?]?;
     Ok(device(instance, i8259_with_elcr(alloc)?, subs))
+}
+
+// The controller of an instance in the shipped set of this number, 1 to 4.
+pub(crate) fn i8259_at(alloc: Global, s: u8, instance: u32) -> Result<Device, NoMemory>
+    ensures { IfOk result (λ d. device_of d ≡ i8259_at s instance) }
+{
+    match s {
+        0 | 1 => i8259_at_1(alloc, instance),
+        2 | 3 => i8259_at_2(alloc, instance),
+        _ => i8259_at_4(alloc, instance),
+    }
 }
 
 // A field that is there where the flag of this number is 1.
@@ -108,15 +120,27 @@ pub(crate) fn pit_channel(alloc: Global, gate: Item) -> Result<Desc, NoMemory>
     desc(alloc, "pit_channel", 1, fields)
 }
 
+// What stands in the gate's byte in the shipped set of this number, 1 to 4.
+pub(crate) fn gate_at(s: u8) -> Item
+    ensures { result ≡ gate_at s }
+{
+    match s {
+        0 | 1 => Item::Equal {
+            kind: Kind::U8,
+            value: 1,
+        },
+        _ => Item::Unused { bytes: 1 },
+    }
+}
+
 fn channels(alloc: Global) -> Result<Field, NoMemory>
     ensures { IfOk result (λ f. field_of f ≡ channels) }
 {
-    let mut channels = field(alloc, "channels", Item::Struct(0))?;
-    channels.count = Count::Fixed(3);
-    Ok(channels)
+    let channels = field(alloc, "channels", Item::Struct(0))?;
+    Ok(counting(channels, Count::Fixed(3)))
 }
 
-pub(crate) fn i8254_at_1(alloc: Global) -> Result<Device, NoMemory>
+fn i8254_at_1(alloc: Global) -> Result<Device, NoMemory>
     ensures { IfOk result (λ d. device_of d ≡ i8254_at_1) }
 {
     let fields = vec![in alloc; channels(alloc)?]?;
@@ -128,16 +152,25 @@ fn three(alloc: Global, kind: Kind, name: &str) -> Result<Field, NoMemory>
     ensures { IfOk result (λ f. field_of f ≡ record (number kind name.now) { count = Count.Fixed 3; since = 2 }) }
 {
     let mut field = number(alloc, kind, name)?;
-    field.count = Count::Fixed(3);
     field.since = 2;
-    Ok(field)
+    Ok(counting(field, Count::Fixed(3)))
 }
 
-pub(crate) fn i8254_at_2(alloc: Global) -> Result<Device, NoMemory>
+fn i8254_at_2(alloc: Global) -> Result<Device, NoMemory>
     ensures { IfOk result (λ d. device_of d ≡ i8254_at_2) }
 {
     let latched = three(alloc, Kind::Bool, "status_latched")?;
     let status = three(alloc, Kind::U8, "status")?;
     let fields = vec![in alloc; channels(alloc)?, latched, status]?;
     Ok(device(0, desc(alloc, "i8254", 2, fields)?, Vec::new(alloc)))
+}
+
+// The timer chip of the shipped set of this number, 1 to 4.
+pub(crate) fn i8254_at(alloc: Global, s: u8) -> Result<Device, NoMemory>
+    ensures { IfOk result (λ d. device_of d ≡ i8254_at s) }
+{
+    match s {
+        0 | 1 => i8254_at_1(alloc),
+        _ => i8254_at_2(alloc),
+    }
 }

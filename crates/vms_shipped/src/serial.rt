@@ -1,9 +1,10 @@
 // The serial port.
 ghost use Rattle.std.specs.Prelude.{◌≡◌, ◌++◌, ◌∷◌, [], map, IfOk, OnOk, negsuc, pos, codes};
 ghost use Rattle.vms_spec.specs.Shipped.{never, number, divider, divisor, serial_fields, fcr, thr_ipending, fifo, timeout, ring, serial};
+ghost use Rattle.vms_shipped.specs.Numbered.{serial_at};
 ghost use Rattle.vms_parts.specs.Views.{field_of, device_of, sub_of};
 
-use crate::words::{asks, desc, device, number, put_numbers, sub, text};
+use crate::words::{asks, counting, desc, device, lone, number, put_numbers, sub, text};
 use std::alloc::Global;
 use vms_io::NoMemory;
 use vms_kinds::Kind;
@@ -52,11 +53,10 @@ fn thr_ipending(alloc: Global) -> Result<Sub, NoMemory>
 {
     let mut pending = number(alloc, Kind::I8, "thr_ipending")?;
     pending.default = -1;
-    let fields = vec![in alloc; pending]?;
-    sub(
+    lone(
         alloc,
         "serial/thr_ipending",
-        fields,
+        pending,
         asks(0, 255, Rel::Ne, 255),
     )
 }
@@ -65,9 +65,8 @@ fn thr_ipending(alloc: Global) -> Result<Sub, NoMemory>
 fn queue(alloc: Global, name: &str, by: u32) -> Result<Field, NoMemory>
     ensures { IfOk result (λ f. field_of f ≡ record (number Kind.U8 name.now) { count = Count.Counted by 16 }) }
 {
-    let mut queue = number(alloc, Kind::U8, name)?;
-    queue.count = Count::Counted { by, capacity: 16 };
-    Ok(queue)
+    let count = Count::Counted { by, capacity: 16 };
+    Ok(counting(number(alloc, Kind::U8, name)?, count))
 }
 
 fn fifo(alloc: Global) -> Result<Sub, NoMemory>
@@ -86,22 +85,15 @@ fn fifo(alloc: Global) -> Result<Sub, NoMemory>
 fn timeout(alloc: Global) -> Result<Sub, NoMemory>
     ensures { IfOk result (λ s. sub_of s ≡ timeout) }
 {
-    let fields = vec![in alloc; moment(alloc, "timeout_at")?]?;
-    sub(
-        alloc,
-        "serial/timeout",
-        fields,
-        asks(0, NEVER, Rel::Ne, NEVER),
-    )
+    let at = moment(alloc, "timeout_at")?;
+    lone(alloc, "serial/timeout", at, asks(0, NEVER, Rel::Ne, NEVER))
 }
 
 // Sixteen bytes of a ring.
 fn ring_data(alloc: Global, name: &str) -> Result<Field, NoMemory>
     ensures { IfOk result (λ f. field_of f ≡ record (number Kind.U8 name.now) { count = Count.Fixed 16 }) }
 {
-    let mut data = number(alloc, Kind::U8, name)?;
-    data.count = Count::Fixed(16);
-    Ok(data)
+    Ok(counting(number(alloc, Kind::U8, name)?, Count::Fixed(16)))
 }
 
 fn ring(alloc: Global) -> Result<Sub, NoMemory>
@@ -116,42 +108,101 @@ fn ring(alloc: Global) -> Result<Sub, NoMemory>
     sub(alloc, "serial/ring", fields, Test::Or(received, to_send))
 }
 
-pub(crate) fn serial_at_1(alloc: Global) -> Result<Device, NoMemory>
+// The first field and those of every version.
+fn old_fields(alloc: Global, first: Field) -> Result<Vec<Field>, NoMemory>
+    ensures { IfOk result (λ fields. map field_of fields.items ≡ field_of first ∷ serial_fields) }
+{
+    let mut fields = vec![in alloc; first]?;
+    put_serial_fields(alloc, &mut fields)?;
+    Ok(fields)
+}
+
+// The first field and the others from version 2 on.
+fn fields_with_fcr(alloc: Global, first: Field) -> Result<Vec<Field>, NoMemory>
+    ensures { IfOk result (λ fields. map field_of fields.items ≡ field_of first ∷ serial_fields ++ fcr ∷ []) }
+{
+    let mut fields = old_fields(alloc, first)?;
+    fields.push(fcr(alloc)?)?;
+    Ok(fields)
+}
+
+fn divider(alloc: Global) -> Result<Field, NoMemory>
+    ensures { IfOk result (λ f. field_of f ≡ divider) }
+{
+    number(alloc, Kind::U16, "divider")
+}
+
+// The subsections up to these versions.
+fn subs_to_2(alloc: Global) -> Result<Vec<Sub>, NoMemory>
+    ensures { IfOk result (λ subs. map sub_of subs.items ≡ thr_ipending ∷ fifo ∷ []) }
+{
+    Ok(vec![in alloc; thr_ipending(alloc)?, fifo(alloc)?]?)
+}
+
+fn subs_to_3(alloc: Global) -> Result<Vec<Sub>, NoMemory>
+    ensures { IfOk result (λ subs. map sub_of subs.items ≡ thr_ipending ∷ fifo ∷ timeout ∷ []) }
+{
+    let mut subs = subs_to_2(alloc)?;
+    subs.push(timeout(alloc)?)?;
+    Ok(subs)
+}
+
+fn subs_to_4(alloc: Global) -> Result<Vec<Sub>, NoMemory>
+    ensures { IfOk result (λ subs. map sub_of subs.items ≡ thr_ipending ∷ fifo ∷ timeout ∷ ring ∷ []) }
+{
+    let mut subs = subs_to_3(alloc)?;
+    subs.push(ring(alloc)?)?;
+    Ok(subs)
+}
+
+// The port of a version with these fields and subsections.
+fn serial(
+    alloc: Global,
+    version: u32,
+    fields: Vec<Field>,
+    subs: Vec<Sub>,
+) -> Result<Device, NoMemory>
+    ensures { IfOk result (λ d. device_of d ≡ serial version (map field_of fields.items) (map sub_of subs.items)) }
+{
+    Ok(device(0, desc(alloc, "serial", version, fields)?, subs))
+}
+
+fn serial_at_1(alloc: Global) -> Result<Device, NoMemory>
     ensures { IfOk result (λ d. device_of d ≡ serial 1 (divider ∷ serial_fields) (thr_ipending ∷ [])) }
 {
-    let mut fields = vec![in alloc; number(alloc, Kind::U16, "divider")?]?;
-    put_serial_fields(alloc, &mut fields)?;
-    let subs = vec![in alloc; thr_ipending(alloc)?]?;
-    Ok(device(0, desc(alloc, "serial", 1, fields)?, subs))
+    let fields = old_fields(alloc, divider(alloc)?)?;
+    serial(alloc, 1, fields, vec![in alloc; thr_ipending(alloc)?]?)
 }
 
-pub(crate) fn serial_at_2(alloc: Global) -> Result<Device, NoMemory>
+fn serial_at_2(alloc: Global) -> Result<Device, NoMemory>
     ensures { IfOk result (λ d. device_of d ≡ serial 2 (divider ∷ serial_fields ++ fcr ∷ []) (thr_ipending ∷ fifo ∷ [])) }
 {
-    let mut fields = vec![in alloc; number(alloc, Kind::U16, "divider")?]?;
-    put_serial_fields(alloc, &mut fields)?;
-    fields.push(fcr(alloc)?)?;
-    let subs = vec![in alloc; thr_ipending(alloc)?, fifo(alloc)?]?;
-    Ok(device(0, desc(alloc, "serial", 2, fields)?, subs))
+    let fields = fields_with_fcr(alloc, divider(alloc)?)?;
+    serial(alloc, 2, fields, subs_to_2(alloc)?)
 }
 
-pub(crate) fn serial_at_3(alloc: Global) -> Result<Device, NoMemory>
+fn serial_at_3(alloc: Global) -> Result<Device, NoMemory>
     ensures { IfOk result (λ d. device_of d ≡ serial 3 (divisor ∷ serial_fields ++ fcr ∷ []) (thr_ipending ∷ fifo ∷ timeout ∷ [])) }
 {
-    let mut fields = vec![in alloc; divisor(alloc)?]?;
-    put_serial_fields(alloc, &mut fields)?;
-    fields.push(fcr(alloc)?)?;
-    let subs = vec![in alloc; thr_ipending(alloc)?, fifo(alloc)?, timeout(alloc)?]?;
-    Ok(device(0, desc(alloc, "serial", 3, fields)?, subs))
+    let fields = fields_with_fcr(alloc, divisor(alloc)?)?;
+    serial(alloc, 3, fields, subs_to_3(alloc)?)
 }
 
-pub(crate) fn serial_at_4(alloc: Global) -> Result<Device, NoMemory>
+fn serial_at_4(alloc: Global) -> Result<Device, NoMemory>
     ensures { IfOk result (λ d. device_of d ≡ serial 4 (divisor ∷ serial_fields ++ fcr ∷ []) (thr_ipending ∷ fifo ∷ timeout ∷ ring ∷ [])) }
 {
-    let mut fields = vec![in alloc; divisor(alloc)?]?;
-    put_serial_fields(alloc, &mut fields)?;
-    fields.push(fcr(alloc)?)?;
-    let mut subs = vec![in alloc; thr_ipending(alloc)?, fifo(alloc)?, timeout(alloc)?]?;
-    subs.push(ring(alloc)?)?;
-    Ok(device(0, desc(alloc, "serial", 4, fields)?, subs))
+    let fields = fields_with_fcr(alloc, divisor(alloc)?)?;
+    serial(alloc, 4, fields, subs_to_4(alloc)?)
+}
+
+// The port of the shipped set of this number, 1 to 4.
+pub(crate) fn serial_at(alloc: Global, s: u8) -> Result<Device, NoMemory>
+    ensures { IfOk result (λ d. device_of d ≡ serial_at s) }
+{
+    match s {
+        0 | 1 => serial_at_1(alloc),
+        2 => serial_at_2(alloc),
+        3 => serial_at_3(alloc),
+        _ => serial_at_4(alloc),
+    }
 }

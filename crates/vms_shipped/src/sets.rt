@@ -1,18 +1,15 @@
 // The shipped sets.
-ghost use Rattle.std.specs.Prelude.{◌≡◌, ◌≤◌, IfOk};
-ghost use Rattle.vms_spec.specs.Shipped.{set_0, set_1, set_2, set_3, set_4};
-ghost use Rattle.vms_shipped.specs.Numbered.{shipped_set};
-ghost use Rattle.vms_parts.specs.Views.{set_of};
+ghost use Rattle.std.specs.Prelude.{◌≡◌, ◌≤◌, map, IfOk};
+ghost use Rattle.vms_spec.specs.Shipped.{set_0};
+ghost use Rattle.vms_shipped.specs.Numbered.{shipped_set, machines_at, devices_at};
+ghost use Rattle.vms_parts.specs.Views.{device_of, set_of};
 
-use crate::chips::{
-    i8254_at_1, i8254_at_2, i8259_at_1, i8259_at_2, i8259_at_4, pit_channel, timer,
-};
-use crate::serial::{serial_at_1, serial_at_2, serial_at_3, serial_at_4};
-use crate::words::text;
+use crate::chips::{gate_at, i8254_at, i8259_at, pit_channel, timer};
+use crate::serial::serial_at;
+use crate::words::{text, texts};
 use std::alloc::Global;
 use vms_io::NoMemory;
-use vms_kinds::{Item, Kind};
-use vms_parts::{Listed, Parts};
+use vms_parts::{Device, Listed, Parts, Text};
 
 /// The parts of the shipped set of this number, as the newest program of that number writes it.
 ///
@@ -23,10 +20,7 @@ pub fn shipped_parts(alloc: Global, s: u8) -> Result<Parts, NoMemory>
 {
     match s {
         0 => isa_0(alloc),
-        1 => isa_1(alloc),
-        2 => isa_2(alloc),
-        3 => isa_3(alloc),
-        _ => isa_4(alloc),
+        _ => board(alloc, s),
     }
 }
 
@@ -41,18 +35,14 @@ fn isa_0(alloc: Global) -> Result<Parts, NoMemory>
     })
 }
 
-fn isa_1(alloc: Global) -> Result<Parts, NoMemory>
-    ensures { IfOk result (λ parts. set_of parts ≡ set_1) }
+// The boards isa-1 to the one of this number.
+fn board(alloc: Global, s: u8) -> Result<Parts, NoMemory>
+    requires { 1 ≤ s }
+    ensures { IfOk result (λ parts. set_of parts ≡ shipped_set s) }
 {
-    let gate = Item::Equal {
-        kind: Kind::U8,
-        value: 1,
-    };
-    let machines = vec![in alloc; text(alloc, "isa-1")?]?;
-    let structs = vec![in alloc; pit_channel(alloc, gate)?]?;
-    let mut devices = vec![in alloc; timer(alloc)?, i8259_at_1(alloc, 0)?, i8259_at_1(alloc, 1)?]?;
-    devices.push(i8254_at_1(alloc)?)?;
-    devices.push(serial_at_1(alloc)?)?;
+    let machines = machines_at(alloc, s)?;
+    let structs = vec![in alloc; pit_channel(alloc, gate_at(s))?]?;
+    let devices = devices_at(alloc, s)?;
     Ok(Parts {
         machines: Listed::new(machines),
         structs: Listed::new(structs),
@@ -60,53 +50,25 @@ fn isa_1(alloc: Global) -> Result<Parts, NoMemory>
     })
 }
 
-fn isa_2(alloc: Global) -> Result<Parts, NoMemory>
-    ensures { IfOk result (λ parts. set_of parts ≡ set_2) }
+fn machines_at(alloc: Global, s: u8) -> Result<Vec<Text>, NoMemory>
+    ensures { IfOk result (λ names. names.items ≡ machines_at s) }
 {
-    let machines = vec![in alloc; text(alloc, "isa-1")?, text(alloc, "isa-2")?]?;
-    let structs = vec![in alloc; pit_channel(alloc, Item::Unused { bytes: 1 })?]?;
-    let mut devices = vec![in alloc; timer(alloc)?, i8259_at_2(alloc, 0)?, i8259_at_2(alloc, 1)?]?;
-    devices.push(i8254_at_2(alloc)?)?;
-    devices.push(serial_at_2(alloc)?)?;
-    Ok(Parts {
-        machines: Listed::new(machines),
-        structs: Listed::new(structs),
-        devices: Listed::new(devices),
-    })
+    match s {
+        0 | 1 => texts(alloc, &["isa-1"]),
+        2 => texts(alloc, &["isa-1", "isa-2"]),
+        3 => texts(alloc, &["isa-1", "isa-2", "isa-3"]),
+        _ => texts(alloc, &["isa-1", "isa-2", "isa-3", "isa-4"]),
+    }
 }
 
-fn isa_3(alloc: Global) -> Result<Parts, NoMemory>
-    ensures { IfOk result (λ parts. set_of parts ≡ set_3) }
+fn devices_at(alloc: Global, s: u8) -> Result<Vec<Device>, NoMemory>
+    ensures { IfOk result (λ devices. map device_of devices.items ≡ devices_at s) }
 {
-    let machines = vec![in alloc;
-        text(alloc, "isa-1")?,
-        text(alloc, "isa-2")?,
-        text(alloc, "isa-3")?,
-    ]?;
-    let structs = vec![in alloc; pit_channel(alloc, Item::Unused { bytes: 1 })?]?;
-    let mut devices = vec![in alloc; timer(alloc)?, i8259_at_2(alloc, 0)?, i8259_at_2(alloc, 1)?]?;
-    devices.push(i8254_at_2(alloc)?)?;
-    devices.push(serial_at_3(alloc)?)?;
-    Ok(Parts {
-        machines: Listed::new(machines),
-        structs: Listed::new(structs),
-        devices: Listed::new(devices),
-    })
-}
-
-fn isa_4(alloc: Global) -> Result<Parts, NoMemory>
-    ensures { IfOk result (λ parts. set_of parts ≡ set_4) }
-{
-    let mut machines = vec![in alloc; text(alloc, "isa-1")?, text(alloc, "isa-2")?]?;
-    machines.push(text(alloc, "isa-3")?)?;
-    machines.push(text(alloc, "isa-4")?)?;
-    let structs = vec![in alloc; pit_channel(alloc, Item::Unused { bytes: 1 })?]?;
-    let mut devices = vec![in alloc; timer(alloc)?, i8259_at_4(alloc, 0)?, i8259_at_4(alloc, 1)?]?;
-    devices.push(i8254_at_2(alloc)?)?;
-    devices.push(serial_at_4(alloc)?)?;
-    Ok(Parts {
-        machines: Listed::new(machines),
-        structs: Listed::new(structs),
-        devices: Listed::new(devices),
-    })
+    let mut devices = Vec::new(alloc);
+    devices.push(timer(alloc)?)?;
+    devices.push(i8259_at(alloc, s, 0)?)?;
+    devices.push(i8259_at(alloc, s, 1)?)?;
+    devices.push(i8254_at(alloc, s)?)?;
+    devices.push(serial_at(alloc, s)?)?;
+    Ok(devices)
 }

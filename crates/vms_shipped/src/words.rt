@@ -15,6 +15,17 @@ pub(crate) fn text(alloc: Global, bytes: &str) -> Result<Text, NoMemory>
     Ok(Text::new(String::from_str(alloc, bytes)?))
 }
 
+// A text for each of these.
+pub(crate) fn texts(alloc: Global, names: &[&str]) -> Result<Vec<Text>, NoMemory>
+    ensures { IfOk result (λ made. made.items ≡ map (λ n. n.now) names.now) }
+{
+    let mut made = Vec::new(alloc);
+    for name in names {
+        made.push(text(alloc, name)?)?;
+    }
+    Ok(made)
+}
+
 pub(crate) fn field(alloc: Global, name: &str, item: Item) -> Result<Field, NoMemory>
     ensures { IfOk result (λ f. field_of f ≡ field name.now item) }
 {
@@ -33,6 +44,14 @@ pub(crate) fn number(alloc: Global, kind: Kind, name: &str) -> Result<Field, NoM
     ensures { IfOk result (λ f. field_of f ≡ number kind name.now) }
 {
     field(alloc, name, Item::Num(kind))
+}
+
+// The field with another count.
+pub(crate) fn counting(mut field: Field, count: Count) -> Field
+    ensures { field_of result ≡ record (field_of field) { count = count } }
+{
+    field.count = count;
+    field
 }
 
 // Puts a number of this kind for each name after the fields that are there.
@@ -89,6 +108,13 @@ pub(crate) fn sub(
         desc: desc(alloc, name, 1, fields)?,
         needed,
     })
+}
+
+// A subsection of one field.
+pub(crate) fn lone(alloc: Global, name: &str, field: Field, needed: Test) -> Result<Sub, NoMemory>
+    ensures { IfOk result (λ s. sub_of s ≡ sub name.now (field_of field ∷ []) (formula needed)) }
+{
+    sub(alloc, name, vec![in alloc; field]?, needed)
 }
 
 // Whether the subsection's own field of this number, masked, is so to a value.

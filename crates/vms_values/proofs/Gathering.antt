@@ -1,17 +1,15 @@
 -- Devices that are read one after the other, and judged.
-use Rattle.std.proofs.Common.{◌≡◌, ℕ, zero, suc, ◌+◌, ◌<◌, ◌≤◌, Bool, true, false, List, [], ◌∷◌, ◌++◌, length, map, take, drop, get_or, if◌then◌else◌, Option, Some, None, Result, Ok, Err, refl, sym, ap, ◌∙◌, subst, arith, append_assoc, append-nil, length-append}
-use Rattle.std.proofs.lemmas.List.{drop_more, drop_all, take_all, take_more, map-append}
+use Rattle.std.proofs.Common.{◌≡◌, ℕ, zero, suc, ◌+◌, ◌<◌, ◌≤◌, Bool, true, false, List, [], ◌∷◌, ◌++◌, length, map, take, drop, if◌then◌else◌, Option, Some, None, Result, Ok, Err, refl, sym, ap, ◌∙◌, arith, append_assoc, length-append}
+use Rattle.std.proofs.lemmas.List.{drop_more, take_more, map-append}
 use Rattle.vms_spec.specs.declared.ValuesReason.TheVariants as reasons
 use Rattle.vms_spec.specs.Sets.{Device, Set}
 use Rattle.vms_spec.specs.Images.{Image, own_cells}
 use Rattle.vms_spec.specs.Spelling.{first_line}
 use Rattle.vms_spec.specs.ValuesReading.{BadLine, Standing, ReadSubs, ReadDevice, ReadAll, readers, read_desc, read_subs, next_line, then_subs, section_line, is_line, with_device, device_read as device_reads, read_device, read_devices, or_bad, judge_device, judge_devices}
 use Rattle.vms_desc.specs.Described.{device_at}
-use Rattle.vms_values.specs.declared.fault.ValuesFault.{ValuesFault}
-use Rattle.vms_values.specs.declared.fault.ValuesFault.TheVariants as faults
 use Rattle.vms_values.specs.declared.devices.Reading.{Reading}
 use Rattle.vms_values.specs.Judging.{bad_of}
-use Rattle.vms_values.specs.DevicesRead.{found, device_read, start_of, DeviceRead, AllRead}
+use Rattle.vms_values.specs.DevicesRead.{found, device_read, start_of, DeviceRead}
 use Rattle.vms_values.proofs.DeviceLemmas.{with_devices}
 
 -- ---- one device
@@ -71,13 +69,6 @@ pub record Gathered (set : Set) (n : ℕ) (start : Result ReadAll BadLine) (firs
   pub whole : with_devices done left ≡ start
   pub so_far : judged ≡ or_bad first (judge_devices set (take n set.devices) done)
 
-pub gathered_none : (set : Set) (start : Result ReadAll BadLine) (first : Option BadLine) (images : List Image) → images ≡ [] → Gathered set 0 start first first images start
-gathered_none set start first images e = record { done = []; count = refl; images_are = sym e; whole = by start; so_far = sym (or_none first ∙ refl) }
-  where
-    by : (r : Result ReadAll BadLine) → with_devices [] r ≡ r
-    by (Ok all) = refl
-    by (Err b) = refl
-
 more_devices : (ds : List ReadDevice) (r : ReadDevice) (x : Result ReadAll BadLine) → with_devices ds (with_device r x) ≡ with_devices (ds ++ r ∷ []) x
 more_devices ds r (Err e) = refl
 more_devices ds r (Ok all) = ap (λ (l : List ReadDevice). let a : ReadAll = record { devices = l; line = all.line; rest = all.rest } in Ok a) (sym (append_assoc ds (r ∷ []) all.devices))
@@ -128,36 +119,4 @@ module _ (set : Set) (i : ℕ) (lt : i < length set.devices) where
             ∙ ap (λ (l : List Device). or_bad first (judge_devices set l (g.done ++ k.r ∷ []))) (sym (take_more set.devices i _ lt));
       }
 
-  pub gathered_stop : (start : Result ReadAll BadLine) (first judged : Option BadLine) (images : List Image) (old : Reading) (b : BadLine)
-      → Gathered set i start first judged images (read_devices set (drop i set.devices) old.lines.line old.lines.rest.now)
-      → device_read set (device_at set i) (start_of set (device_at set i) old) ≡ Err b → start ≡ Err b
-  gathered_stop start first judged images old b g e =
-      sym g.whole ∙ ap (with_devices g.done) (next_device old ∙ ap (after_device (λ line rest. read_devices set (drop (i + 1) set.devices) line rest)) e)
-
 -- ---- answers
-
-pub gathered_all : (set : Set) (n : ℕ) (start : Result ReadAll BadLine) (old new : Reading) (images : List Image)
-    → Gathered set n start (bad_of old.judged) (bad_of new.judged) images (read_devices set (drop n set.devices) new.lines.line new.lines.rest.now) → length set.devices ≡ n
-    → AllRead set start old new (Ok images)
-gathered_all set n start old new images g e =
-    let left : read_devices set (drop n set.devices) new.lines.line new.lines.rest.now ≡ Ok (record { devices = []; line = new.lines.line; rest = new.lines.rest.now }) =
-    ap (λ (l : List Device). read_devices set l new.lines.line new.lines.rest.now) (drop_all n set.devices (omega (arith, e))) in
-    let whole : start ≡ Ok (record { devices = g.done ++ []; line = new.lines.line; rest = new.lines.rest.now }) = sym g.whole ∙ ap (with_devices g.done) left in
-    subst (λ (r : Result ReadAll BadLine). AllRead set r old new (Ok images)) (sym whole) (
-      ap (map (λ r. r.image)) (append-nil g.done) ∙ g.images_are,
-      refl,
-      refl,
-      g.so_far ∙ ap (λ (l : List Device). or_bad (bad_of old.judged) (judge_devices set l g.done)) (take_all n set.devices (omega (arith, e)))
-          ∙ ap (λ (l : List ReadDevice). or_bad (bad_of old.judged) (judge_devices set set.devices l)) (sym (append-nil g.done)),
-    )
-
-pub gathered_bad : (set : Set) (d : Device) (start : Result ReadAll BadLine) (r : Result (ReadDevice × Standing) BadLine) (old mid new : Reading) (e : ValuesFault)
-    → ((b : BadLine) → r ≡ Err b → start ≡ Err b) → DeviceRead set d r mid new (Err e) → AllRead set start old new (Err e)
-gathered_bad set d start (Ok (r, p)) old mid new (faults.Bad line reason) h f = absurd f
-gathered_bad set d start (Err b) old mid new (faults.Bad line reason) h f = subst (λ (x : Result ReadAll BadLine). AllRead set x old new (Err (faults.Bad line reason))) (sym (h b refl)) f
-gathered_bad set d (Ok all) r old mid new faults.NoMemory h f = tt
-gathered_bad set d (Err b) r old mid new faults.NoMemory h f = tt
-
-pub gathered_memory : (set : Set) (start : Result ReadAll BadLine) (old new : Reading) → AllRead set start old new (Err faults.NoMemory)
-gathered_memory set (Ok all) old new = tt
-gathered_memory set (Err b) old new = tt

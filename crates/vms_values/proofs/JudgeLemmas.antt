@@ -5,7 +5,7 @@ use Rattle.std.proofs.lemmas.List.{drop_more, drop_all, drop-map, map-append}
 use Rattle.std.proofs.Math.Seq.{drop-append_seam}
 use Rattle.vms_spec.specs.Numbers.{same_number}
 use Rattle.vms_spec.specs.declared.Part.TheVariants as parts
-use Rattle.vms_spec.specs.Sets.{Set, Device, Sub, AtLeast}
+use Rattle.vms_spec.specs.Sets.{Set, Sub, AtLeast}
 use Rattle.vms_spec.specs.declared.ValuesReason.{ValuesReason}
 use Rattle.vms_spec.specs.declared.ValuesReason.TheVariants as reasons
 use Rattle.vms_desc.proofs.AskLaws.{sub_first, sub_next}
@@ -137,9 +137,6 @@ judged_end set i image lines j e =
     ap (λ (l : List Sub). judge_subs set (device_at set i) image j (first_cell set (parts.Sub i j)) l (drop j image.came) (drop j lines)) (drop_all j (device_at set i).subs (omega (arith, e)))
 
 -- ---- a device
-
-pub own_broken : (set : Set) (d : Device) (r : ReadDevice) → rules_are_true (own_slots set d r.image.version r.image.numbers) ≡ false → judge_device set d r ≡ Some (record { line = r.line; reason = reasons.Invalid })
-own_broken set d r e = ap (λ (b : Bool). or_bad (if_bad (not b) r.line reasons.Invalid) (judge_subs set d r.image 0 (own_cells set d) d.subs r.image.came r.sub_lines)) e
 
 pub own_holds : (set : Set) (i : ℕ) (r : ReadDevice) → rules_are_true (own_slots set (device_at set i) r.image.version r.image.numbers) ≡ true
     → judge_device set (device_at set i) r ≡ judged_from set i r.image r.sub_lines 0

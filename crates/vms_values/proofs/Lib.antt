@@ -19,3 +19,5 @@ pub mod JudgeLemmas
 pub mod ImageRead
 pub mod Gathering
 pub mod WholeText
+pub mod KindsAt
+mod TextRead

@@ -90,14 +90,6 @@ module _ (set : Set) where
       ∙ get_or-map (λ l. codes "." ++ l) names c [] [] (omega (arith, long))
       ∙ ap (λ (l : List (List ℕ)). codes "." ++ get_or l c []) (desc_names ss (same_names set.structs j) d d.version 0 [] [] 0 0)
 
-  -- a number has no name of its own behind its path
-  pub plain_name : (item : Item) → ((j : ℕ) → item ≡ Struct j → ⊥) → (c : ℕ) → c < size_in set item → get_or (item_names set item) c [] ≡ []
-  plain_name (Num kind) other zero lt = refl
-  plain_name (Num kind) other (suc c) lt = absurd (omega arith)
-  plain_name (Equal kind z) other c lt = absurd (omega arith)
-  plain_name (Unused n) other c lt = absurd (omega arith)
-  plain_name (Struct j) other c lt = absurd (other j refl)
-
   -- ---- the fields of a part
 
   -- the names of the fields from k on

@@ -1,7 +1,7 @@
 -- Names from cells: a device's own fields, and its subsections one after the other.
 use Rattle.std.proofs.Common.{◌≡◌, ℕ, suc, ◌+◌, ◌-◌, ◌<◌, ◌≤◌, List, [], ◌∷◌, ◌++◌, length, get_or, drop, map, ℤ, None, refl, sym, ap, ◌∙◌, arith, true, length-append}
 use Rattle.std.specs.List.{flat_map}
-use Rattle.std.proofs.lemmas.List.{drop_more, drop_all, get_or_append_left}
+use Rattle.std.proofs.lemmas.List.{drop_more, get_or_append_left}
 use Rattle.std.proofs.Math.Seq.{get_or-append_right}
 use Rattle.vms_spec.specs.declared.Part.TheVariants as parts
 use Rattle.vms_spec.specs.Sets.{Desc, Sub, Device, Set, AtLeast}
@@ -112,6 +112,3 @@ module _ (set : Set) (well : is_well_formed set ≡ true) (i : ℕ) (lt : i < le
   all_long =
       let d = device_at set i in
       omega (arith, subs_all d.subs sub_long, length-append (desc_cells (struct_cells set) d.desc) (flat_map (λ s. desc_cells (struct_cells set) s.desc) d.subs))
-
-  pub none_left : (j : ℕ) → j ≡ length (device_at set i).subs → length (names_of_subs set i j) ≡ 0
-  none_left j e = ap (λ (l : List Sub). length (subs_names set l)) (drop_all j (device_at set i).subs (omega arith))

@@ -1,21 +1,13 @@
 -- The parts of a printed text.
-use Rattle.std.proofs.Common.{◌≡◌, ℕ, suc, ◌+◌, ◌<◌, ◌≤◌, List, [], ◌∷◌, ◌++◌, length, get_or, drop, map, Option, Result, codes, refl, sym, ap, ◌∙◌, subst, arith, append_assoc, length-append, length-drop}
-use Rattle.std.proofs.lemmas.List.{drop_more, length-map, get_or-map}
+use Rattle.std.proofs.Common.{◌≡◌, ℕ, suc, ◌+◌, ◌<◌, List, [], ◌∷◌, ◌++◌, length, get_or, drop, Option, Result, codes, refl, sym, ap, ◌∙◌, subst, arith, append_assoc, length-drop}
+use Rattle.std.proofs.lemmas.List.{drop_more}
 use Rattle.std.specs.Io.KnownBytes.{Appends}
-use Rattle.vms_kinds.specs.declared.Item.{Item}
-use Rattle.vms_kinds.specs.declared.Item.TheVariants.{Num, Equal, Unused, Struct}
-use Rattle.vms_spec.specs.declared.Count.{Count}
-use Rattle.vms_spec.specs.declared.Count.TheVariants.{One, Fixed, Counted}
-use Rattle.vms_spec.specs.Sets.{Field, Device, Set}
-use Rattle.std.specs.List.{flat_map}
-use Rattle.vms_parts.specs.declared.types.Field.{Field as CodeField}
+use Rattle.vms_spec.specs.Sets.{Device, Set}
 use Rattle.vms_desc.specs.Described.{device_at}
-use Rattle.vms_spec.specs.Layout.{Cell, no_desc, field_cells, cells_from, desc_cells, struct_cells, device_cells}
+use Rattle.vms_spec.specs.Layout.{no_desc}
 use Rattle.vms_spec.specs.Images.{Image}
 use Rattle.vms_spec.specs.Values.{device_lines, devices_lines}
-use Rattle.vms_parts.specs.Views.{field_of}
 use Rattle.vms_values.specs.Written.{Writes}
-use Rattle.vms_values.specs.Plain.{ArePlain, IsPlainDevice, IsNumber, IsOne}
 use Rattle.vms_values.specs.Printing.{IsOf, AreOf}
 use Rattle.vms_values.proofs.Writing.{writes_more}
 
@@ -30,31 +22,7 @@ element_text old mid new path digits piece result p e w =
 pub same_text : {T E : Type 0} (old new : Option (List ℕ)) (text other : List ℕ) (result : Result T E) → text ≡ other → Writes old new text result → Writes old new other result
 same_text old new text other result e w = subst (λ (t : List ℕ). Writes old new t result) e w
 
--- a plain field has one cell
-plain_from : (cs : List (List Cell)) (all : List Field) (i : ℕ) (fs : List Field) → ArePlain fs → length (cells_from cs all i fs) ≡ length fs
-plain_from cs all i [] p = refl
-plain_from cs all i (f ∷ fs) p =
-    length-append (field_cells cs all i f) (cells_from cs all (suc i) fs) ∙ ap (λ (n : ℕ). n + length (cells_from cs all (suc i) fs)) (one f.item f.count p.0.number p.0.one)
-    ∙ ap (λ (n : ℕ). 1 + n) (plain_from cs all (suc i) fs p.1) ∙ omega arith
-  where
-    one : (item : Item) (count : Count) → IsNumber item → IsOne count → length (field_cells cs all i (record f { item = item; count = count })) ≡ 1
-    one (Num kind) One p q = refl
-    one (Num kind) (Fixed n) p q = absurd q
-    one (Num kind) (Counted by most) p q = absurd q
-    one (Equal kind z) count p q = absurd p
-    one (Unused n) count p q = absurd p
-    one (Struct j) count p q = absurd p
-
-pub plain_cells : (set : Set) (d : Device) → IsPlainDevice d → length d.desc.fields ≤ length (device_cells set d)
-plain_cells set d plain =
-    omega (arith, length-append (desc_cells (struct_cells set) d.desc) (flat_map (λ s. desc_cells (struct_cells set) s.desc) d.subs), plain_from (struct_cells set) d.desc.fields 0 d.desc.fields plain.fields)
-
 -- ---- what is left of a list
-
-pub fields_at : (fs : List CodeField) (i : ℕ) (f : CodeField) → i < length fs → f ≡ get_or fs i f → drop i (map field_of fs) ≡ field_of f ∷ drop (i + 1) (map field_of fs)
-fields_at fs i f lt is =
-    drop_more (map field_of fs) i (field_of f) (simp length-map lt)
-    ∙ ap (λ (x : Field). x ∷ drop (i + 1) (map field_of fs)) (get_or-map field_of fs i f (field_of f) lt ∙ ap field_of (sym is))
 
 pub device_left : (set : Set) (k : ℕ) → k < length set.devices → drop k set.devices ≡ device_at set k ∷ drop (k + 1) set.devices
 device_left set k lt = drop_more set.devices k (record { instance = 0; desc = no_desc; subs = [] }) lt

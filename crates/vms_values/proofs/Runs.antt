@@ -52,9 +52,6 @@ module _ (set : Set) where
   pub printed_size : (item : Item) → item_size (cells_of (printers set)) item ≡ size_in set item
   printed_size item = ap (λ (cs : List (List Cell)). item_size cs item) (printed_cells ∙ sym (cells_table set))
 
-  pub printed_own : (spot : Spot) (n : List ℤ) (k : ℕ) → numbers_of (cells_of (printers set)) (desc_at set spot.part) n spot.base k ≡ own_numbers set spot.part n spot.base k
-  printed_own spot n k = ap (λ (cs : List (List Cell)). numbers_of cs (desc_at set spot.part) n spot.base k) printed_cells
-
   pub array_run : (f : Field) (count : ℕ) (path : List ℕ) (n : List ℤ) (at : ℕ) → (f.count ≡ One → ⊥)
       → element_lines (printers set) f.item (path ++ f.name) n at (size_in set f.item) 0 count ≡ run_lines (printers set) f f.count count path n at
   array_run f count path n at other = by_count f.count other

@@ -4,7 +4,8 @@ use Rattle.std.proofs.lemmas.List.{drop_more, take_all, take_more_set}
 use Rattle.vms_spec.specs.declared.Part.TheVariants as parts
 use Rattle.vms_spec.specs.Sets.{Set, Sub, AtLeast}
 use Rattle.vms_spec.specs.Layout.{no_desc, desc_cells, struct_cells}
-use Rattle.vms_spec.specs.Images.{Image, own_cells}
+use Rattle.vms_spec.specs.Images.{own_cells}
+use Rattle.vms_image.specs.Typed.{Typed, state_of}
 use Rattle.vms_spec.specs.Spelling.{first_line}
 use Rattle.vms_spec.specs.ValuesReading.{BadLine, Standing, Read, ReadSubs, readers, read_desc, next_line, sub_said, also, then_subs, read_sub, read_subs}
 use Rattle.vms_desc.specs.Asks.{first_cell}
@@ -12,8 +13,8 @@ use Rattle.vms_desc.specs.Described.{device_at}
 use Rattle.vms_desc.specs.Parts.{sub_at}
 use Rattle.vms_desc.proofs.AskLaws.{sub_next}
 use Rattle.vms_write.specs.Judged.{IsOfDevice}
-use Rattle.vms_values.specs.declared.fault.ValuesFault.{ValuesFault}
-use Rattle.vms_values.specs.declared.fault.ValuesFault.TheVariants as faults
+use Rattle.vms_values.specs.declared.fault.LineFault.{LineFault}
+use Rattle.vms_values.specs.declared.fault.LineFault.TheVariants as faults
 use Rattle.vms_values.specs.declared.taken.Taken.{Taken}
 use Rattle.vms_values.specs.Taken.{place_of}
 use Rattle.vms_values.specs.SubsTaken.{with_came, said_read, sub_read, IsAlike, SubReached, SubsReached}
@@ -114,24 +115,20 @@ subs_end start set at n subs old new lines f none all same =
     subst (λ (r : Result ReadSubs BadLine). SubsReached r old new lines (Ok tt)) (sym whole)
     (refl, append-nil (take n new.image.came) ∙ take_all n new.image.came (omega (arith, all)), append-nil lines, same)
 
-pub subs_memory : (start : Result ReadSubs BadLine) (old new : Taken) (lines : List ℕ) → SubsReached start old new lines (Err faults.NoMemory)
-subs_memory (Ok r) old new lines = tt
-subs_memory (Err b) old new lines = tt
-
-pub subs_bad : (start : Result ReadSubs BadLine) (r : Result (Option ℕ × Standing) BadLine) (j : ℕ) (old new mid : Taken) (lines : List ℕ) (e : ValuesFault)
+pub subs_bad : (start : Result ReadSubs BadLine) (r : Result (Option ℕ × Standing) BadLine) (j : ℕ) (old new mid : Taken) (lines : List ℕ) (e : LineFault)
     → ((b : BadLine) → r ≡ Err b → start ≡ Err b) → SubReached r j mid new (Err e) → SubsReached start old new lines (Err e)
 subs_bad start (Ok (o, q)) j old new mid lines e h f = absurd f
 subs_bad start (Err b) j old new mid lines faults.NoMemory h f = absurd f
 subs_bad start (Err b) j old new mid lines (faults.Bad line reason) h f =
     subst (λ (r : Result ReadSubs BadLine). SubsReached r old new lines (Err (faults.Bad line reason))) (sym (h b refl)) f
 
-pub alike_more : (a b c : Image) → IsAlike a b → IsAlike b c → IsAlike a c
-alike_more a b c h k = record { version = k.version ∙ h.version; subs = k.subs ∙ h.subs; cells = k.cells ∙ h.cells }
+pub alike_more : (a b c : Typed) → IsAlike a b → IsAlike b c → IsAlike a c
+alike_more a b c h k = record { version = k.version ∙ h.version; subs = k.subs ∙ h.subs; cells = k.cells ∙ h.cells; kinds = k.kinds ∙ h.kinds }
 
-pub alike_none : (a : Image) → IsAlike a a
-alike_none a = record { version = refl; subs = refl; cells = refl }
+pub alike_none : (a : Typed) → IsAlike a a
+alike_none a = record { version = refl; subs = refl; cells = refl; kinds = refl }
 
-pub of_alike : (set : Set) (i : ℕ) (a b : Image) → IsOfDevice set i a → IsAlike a b → IsOfDevice set i b
+pub of_alike : (set : Set) (i : ℕ) (a b : Typed) → IsOfDevice set i (state_of a) → IsAlike a b → IsOfDevice set i (state_of b)
 of_alike set i a b h k = record { is_device = h.is_device; cells = k.cells ∙ h.cells; subs = k.subs ∙ h.subs; few = subst (λ (n : ℕ). n ≤ 16384) (sym k.cells) h.few }
 
 pub subs_alike : (r : Result ReadSubs BadLine) (old new : Taken) (lines : List ℕ) → SubsReached r old new lines (Ok tt) → IsAlike old.image new.image

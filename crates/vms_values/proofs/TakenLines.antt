@@ -1,6 +1,8 @@
 -- The line of a cell that may count arrays and may not be there.
 use Rattle.std.proofs.Common.{◌≡◌, ℕ, suc, ◌+◌, Bool, true, false, not, ◌||◌, List, ◌++◌, length, drop, slice_set, if◌then◌else◌, Option, Some, None, Result, Ok, Err, ℤ, codes, refl, sym, ap, ◌∙◌, subst, arith}
 use Rattle.vms_kinds.specs.declared.Kind.{Kind}
+use Rattle.vms_kinds.specs.Codes.{InRange}
+use Rattle.vms_laws.proofs.WellFormedLaws.{ranges}
 use Rattle.vms_spec.specs.declared.ValuesReason.{ValuesReason}
 use Rattle.vms_spec.specs.declared.ValuesReason.TheVariants as reasons
 use Rattle.vms_spec.specs.Numbers.{same_number, exceeds}
@@ -8,7 +10,7 @@ use Rattle.vms_spec.specs.Rules.{in_range}
 use Rattle.vms_spec.specs.Spelling.{begins_with, number_spelled}
 use Rattle.vms_spec.specs.ValuesReading.{Standing, Read, bad, put_line, put_number}
 use Rattle.vms_values.specs.declared.text.Line.{Line}
-use Rattle.vms_values.specs.declared.fault.ValuesFault.{ValuesFault}
+use Rattle.vms_values.specs.declared.fault.LineFault.{LineFault}
 use Rattle.vms_values.specs.FirstLine.{IsFirstLine}
 use Rattle.vms_values.specs.Spelled.{held}
 use Rattle.vms_values.specs.Reading.{IsBad, Reaches}
@@ -18,6 +20,21 @@ use Rattle.vms_values.specs.Taken.{number_judged}
 abbrev taken_number : ℕ → Standing → List ℕ → Result ℤ ValuesReason → Read
 taken_number cell p rest (Ok z) = Ok (record { numbers = slice_set p.numbers cell z; line = suc p.line; rest = rest })
 taken_number cell p rest (Err reason) = bad p reason
+
+-- a number that was judged well is in its kind's range
+judged_is : (z y : ℤ) (a c : Bool) → Ok z ≡ (if a then Err reasons.Count else if c then Ok y else Err reasons.Absent) → z ≡ y
+judged_is z y true c e = cc
+judged_is z y false true e = cc
+judged_is z y false false e = cc
+
+judged_held : (kind : Kind) (caps : List ℕ) (default : ℤ) (present : Bool) (y z : ℤ) (b : Bool) → in_range kind y ≡ b → Ok z ≡ number_judged caps default present (if b then Some y else None) → InRange kind z
+judged_held kind caps default present y z false q e = cc
+judged_held kind caps default present y z true q e =
+    subst (InRange kind) (sym (judged_is z y (exceeds caps y) (present || same_number y default) e)) (ranges kind y q)
+
+pub number_held : (kind : Kind) (caps : List ℕ) (default : ℤ) (present : Bool) (s : Option ℤ) (z : ℤ) → Ok z ≡ number_judged caps default present (held kind s) → InRange kind z
+number_held kind caps default present None z e = cc
+number_held kind caps default present (Some y) z e = judged_held kind caps default present y z (in_range kind y) refl e
 
 module _ (path : List ℕ) (kind : Kind) (caps : List ℕ) (cell : ℕ) (default : ℤ) (present : Bool) (p : Standing) where
   abbrev front : List ℕ
@@ -48,18 +65,8 @@ module _ (path : List ℕ) (kind : Kind) (caps : List ℕ) (cell : ℕ) (default
       by_range rest z (in_range kind z) (exceeds caps z) (present || same_number z default)
       ∙ ap (taken_number cell p rest) (held_judged z (in_range kind z))
 
-  pub none_there : (o : Option (List ℕ × List ℕ)) (now : Standing) (e : ValuesFault) → IsFirstLine o None → IsBad (record { line = p.line; reason = reasons.Form }) e → Reaches (reads o) now (Err e)
-  none_there None now e f b = b
-  none_there (Some said) now e f b = absurd f
-
   begun : (text rest : List ℕ) (b : Bool) → begins_with front text ≡ b → reads (Some (text, rest)) ≡ (if b then puts rest (number_spelled (drop (length front) text)) else bad p reasons.Form)
   begun text rest b e = ap (λ (t : Bool). if t then puts rest (number_spelled (drop (length front) text)) else bad p reasons.Form) e
-
-  pub other_there : (o : Option (List ℕ × List ℕ)) (line : Line) (now : Standing) (e : ValuesFault) → IsFirstLine o (Some line) → begins_with (path ++ codes " = ") line.text.now ≡ false
-      → IsBad (record { line = p.line; reason = reasons.Form }) e → Reaches (reads o) now (Err e)
-  other_there None line now e f n b = absurd f
-  other_there (Some (text, rest)) line now e f n b =
-      subst (λ (r : Read). Reaches r now (Err e)) (sym (begun text rest false (ap (begins_with front) (sym f.0) ∙ n))) b
 
   judged_there : (text rest number : List ℕ) (line : Line) (result : Result ℤ ValuesReason) → line.text.now ≡ text → begins_with (path ++ codes " = ") line.text.now ≡ true
       → number ≡ drop (length (path ++ codes " = ")) line.text.now → result ≡ number_judged caps default present (held kind (number_spelled number))
@@ -84,7 +91,7 @@ module _ (path : List ℕ) (kind : Kind) (caps : List ℕ) (cell : ℕ) (default
       ∙ ap (λ (x : List ℕ). let r : Standing = record { numbers = now.numbers; line = now.line; rest = x } in r) (sym f.1 ∙ sym c) in
       subst (λ (r : Read). Reaches r now (Ok tt)) (sym (judged_there text rest number line (Ok z) f.0 n is j)) e
 
-  pub reason_there : (o : Option (List ℕ × List ℕ)) (line : Line) (number : List ℕ) (reason : ValuesReason) (now : Standing) (e : ValuesFault) → IsFirstLine o (Some line)
+  pub reason_there : (o : Option (List ℕ × List ℕ)) (line : Line) (number : List ℕ) (reason : ValuesReason) (now : Standing) (e : LineFault) → IsFirstLine o (Some line)
       → begins_with (path ++ codes " = ") line.text.now ≡ true → number ≡ drop (length (path ++ codes " = ")) line.text.now
       → Err reason ≡ number_judged caps default present (held kind (number_spelled number))
       → IsBad (record { line = p.line; reason = reason }) e → Reaches (reads o) now (Err e)

@@ -1,6 +1,5 @@
 -- What is left to read of the elements of an array and of the fields of a part.
 use Rattle.std.proofs.Common.{◌≡◌, ℕ, zero, suc, ◌+◌, ◌-◌, ◌*◌, ◌<◌, Bool, not, ◌&&◌, ◌||◌, if◌then◌else◌, List, ◌++◌, length, get_or, drop, slice_set, Option, Some, None, Ok, Err, ℤ, refl, sym, ap, ◌∙◌, arith, codes}
-use Rattle.std.proofs.lemmas.List.{drop_all}
 use Rattle.std.specs.Fmt.{decimal}
 use Rattle.vms_kinds.specs.declared.Item.{Item}
 use Rattle.vms_kinds.specs.declared.Item.TheVariants.{Num, Equal, Unused, Struct}
@@ -74,9 +73,6 @@ module _ (rs : List Reader) (f : Field) (caps path : List ℕ) (present : Bool) 
       → read_elements rs f caps path present at step i (count - i) p ≡ Err b
   elements_stop at i count p b lt e =
       elements_left at i count p lt ∙ ap (λ (r : Read). r >>= λ x. read_elements rs f caps path present (at + step) step (i + 1) (count - (i + 1)) x) e
-
-  pub elements_end : (at i left : ℕ) (p : Standing) → left ≡ 0 → read_elements rs f caps path present at step i left p ≡ Ok p
-  elements_end at i left p e = ap (λ (k : ℕ). read_elements rs f caps path present at step i k p) e
 
 -- ---- the fields of a part
 
@@ -154,6 +150,3 @@ module _ (set : Set) where
   fields_stop d v path present base k cell count most now f p b n e =
       next_read d v path present base k cell count most now f p n
       ∙ ap (λ (r : Read). r >>= λ x. read_fields (readers set) d v path present base (k + 1) (cell + capacity_of f.count * size_in set f.item) (drop (k + 1) d.fields) x) e
-
-  pub fields_end : (d : Desc) (v : ℕ) (path : List ℕ) (present : Bool) (base k cell : ℕ) (p : Standing) → k ≡ length d.fields → read_fields (readers set) d v path present base k cell (drop k d.fields) p ≡ Ok p
-  fields_end d v path present base k cell p e = ap (λ (l : List Field). read_fields (readers set) d v path present base k cell l p) (drop_all k d.fields (omega arith))

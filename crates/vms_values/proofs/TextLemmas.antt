@@ -65,7 +65,3 @@ pub joined_off : (rest piece left after : List ℕ) (whole : Bool) → bytes_eq 
 joined_off rest piece left after whole inv split begins =
     ap (λ (t : Bool). t && bytes_eq (drop (length piece) rest) after) (sym begins)
     ∙ sym (equal-append rest piece after) ∙ ap (bytes_eq rest) (sym split) ∙ inv
-
-pub joined_end : (rest left : List ℕ) (whole : Bool) → bytes_eq rest left ≡ whole → left ≡ [] → (length rest == 0) ≡ whole
-joined_end [] left whole inv none = ap (bytes_eq []) (sym none) ∙ inv
-joined_end (b ∷ rest) left whole inv none = ne_eqb (length (b ∷ rest)) 0 (λ h. omega arith) ∙ ap (bytes_eq (b ∷ rest)) (sym none) ∙ inv

@@ -5,8 +5,8 @@ use Rattle.vms_spec.specs.Sets.{Device, Set}
 use Rattle.vms_spec.specs.Images.{Image, default_image, own_cells}
 use Rattle.vms_spec.specs.Spelling.{first_line}
 use Rattle.vms_spec.specs.ValuesReading.{BadLine, Standing, ReadSubs, ReadDevice, ReadAll, readers, read_desc, read_subs, next_line, then_subs, section_line, is_line, judge_device, judge_devices, or_bad}
-use Rattle.vms_values.specs.declared.fault.ValuesFault.{ValuesFault}
-use Rattle.vms_values.specs.declared.fault.ValuesFault.TheVariants as faults
+use Rattle.vms_values.specs.declared.fault.LineFault.{LineFault}
+use Rattle.vms_values.specs.declared.fault.LineFault.TheVariants as faults
 use Rattle.vms_values.specs.declared.devices.Reading.{Reading}
 use Rattle.vms_values.specs.declared.fault.Values.{Values as Given}
 use Rattle.vms_values.specs.declared.judge.BadLine.{BadLine as Found}
@@ -30,7 +30,7 @@ abbrev pub start_of : Set → Device → Reading → Standing
 start_of set d reading = record { numbers = (default_image set d).numbers; line = reading.lines.line; rest = reading.lines.rest.now }
 
 -- its image, and the first bad line of the second pass so far, or the bad line; memory may be wanting in any case
-abbrev pub DeviceRead : Set → Device → Result (ReadDevice × Standing) BadLine → Reading → Reading → Result Image ValuesFault → Type 0
+abbrev pub DeviceRead : Set → Device → Result (ReadDevice × Standing) BadLine → Reading → Reading → Result Image LineFault → Type 0
 DeviceRead set d (Ok (r, p)) old new (Ok image) =
     (image ≡ r.image) × (new.lines.line ≡ p.line) × (new.lines.rest.now ≡ p.rest) × (bad_of new.judged ≡ or_bad (bad_of old.judged) (judge_device set d r))
 DeviceRead set d (Err b) old new (Ok image) = ⊥
@@ -39,7 +39,7 @@ DeviceRead set d (Err b) old new (Err (faults.Bad line reason)) = IsBad b (fault
 DeviceRead set d r old new (Err faults.NoMemory) = Unit {0}
 
 -- the same for all devices
-abbrev pub AllRead : Set → Result ReadAll BadLine → Reading → Reading → Result (List Image) ValuesFault → Type 0
+abbrev pub AllRead : Set → Result ReadAll BadLine → Reading → Reading → Result (List Image) LineFault → Type 0
 AllRead set (Ok all) old new (Ok images) =
     (map (λ r. r.image) all.devices ≡ images) × (all.line ≡ new.lines.line) × (all.rest ≡ new.lines.rest.now)
     × (bad_of new.judged ≡ or_bad (bad_of old.judged) (judge_devices set set.devices all.devices))
@@ -53,6 +53,6 @@ map_ok f (Ok v) = Ok (f v)
 map_ok f (Err e) = Err e
 
 -- the values, unless there is a bad line
-abbrev pub ToldAs : Option Found → Given → Result Given ValuesFault → Type 0
+abbrev pub ToldAs : Option Found → Given → Result Given LineFault → Type 0
 ToldAs None v result = result ≡ Ok v
 ToldAs (Some b) v result = result ≡ Err (faults.Bad b.line b.reason)

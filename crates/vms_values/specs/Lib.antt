@@ -4,11 +4,9 @@ pub mod Judging
 pub mod Machines
 pub mod Naming
 pub mod Paths
-pub mod Plain
 pub mod Printing
 pub mod Reading
 pub mod Spelled
-pub mod Tables
 pub mod SubsTaken
 pub mod Taken
 pub mod Written

@@ -4,12 +4,12 @@ use Rattle.std.specs.Str.{bytes_eq}
 use Rattle.std.specs.Fmt.{decimal}
 use Rattle.vms_spec.specs.declared.ValuesReason.TheVariants as reasons
 use Rattle.vms_spec.specs.Sets.{Sub, Set}
-use Rattle.vms_spec.specs.Images.{Image}
+use Rattle.vms_image.specs.Typed.{Typed}
 use Rattle.vms_spec.specs.Spelling.{first_line}
 use Rattle.vms_spec.specs.ValuesReading.{BadLine, Standing, Read, ReadSubs, readers, read_desc, next_line, rest_of, sub_line, sub_said}
 use Rattle.vms_values.specs.declared.cursor.Lines.{Lines}
-use Rattle.vms_values.specs.declared.fault.ValuesFault.{ValuesFault}
-use Rattle.vms_values.specs.declared.fault.ValuesFault.TheVariants as faults
+use Rattle.vms_values.specs.declared.fault.LineFault.{LineFault}
+use Rattle.vms_values.specs.declared.fault.LineFault.TheVariants as faults
 use Rattle.vms_values.specs.declared.taken.Taken.{Taken}
 use Rattle.vms_values.specs.Reading.{IsBad}
 use Rattle.vms_values.specs.Taken.{place_of}
@@ -22,7 +22,7 @@ line_said s line =
     else None
 
 -- the line of a subsection was passed, or it is refused
-abbrev pub SubPassed : Option (Option ℕ) → Lines → Lines → Result (Option ℕ) ValuesFault → Type 0
+abbrev pub SubPassed : Option (Option ℕ) → Lines → Lines → Result (Option ℕ) LineFault → Type 0
 SubPassed (Some came) old new (Ok o) = (o ≡ came) × (new.line ≡ suc old.line) × (new.rest.now ≡ rest_of (first_line old.rest.now))
 SubPassed (Some came) old new (Err e) = ⊥
 SubPassed None old new (Ok o) = ⊥
@@ -42,13 +42,14 @@ abbrev pub sub_read : Set → Sub → ℕ → Standing → Result (Option ℕ ×
 sub_read set s at p = said_read set s at p (sub_said s (first_line p.rest))
 
 -- an image of the same device at the same version
-pub record IsAlike (old new : Image) : Type 0 where
+pub record IsAlike (old new : Typed) : Type 0 where
   pub version : new.version ≡ old.version
   pub subs : length new.came ≡ length old.came
   pub cells : length new.numbers ≡ length old.numbers
+  pub kinds : new.kinds ≡ old.kinds
 
 -- it is read and marked as it came, or it is refused
-abbrev pub SubReached : Result (Option ℕ × Standing) BadLine → ℕ → Taken → Taken → Result (Unit {0}) ValuesFault → Type 0
+abbrev pub SubReached : Result (Option ℕ × Standing) BadLine → ℕ → Taken → Taken → Result (Unit {0}) LineFault → Type 0
 SubReached (Ok (o, q)) j old new (Ok u) =
     (q ≡ place_of new) × (new.image.came ≡ slice_set old.image.came j o) × IsAlike old.image new.image
 SubReached (Ok (o, q)) j old new (Err e) = ⊥
@@ -56,7 +57,7 @@ SubReached (Err b) j old new (Ok u) = ⊥
 SubReached (Err b) j old new (Err e) = IsBad b e
 
 -- all are read, with the numbers of their lines, or one is refused; memory may be wanting in any case
-abbrev pub SubsReached : Result ReadSubs BadLine → Taken → Taken → List ℕ → Result (Unit {0}) ValuesFault → Type 0
+abbrev pub SubsReached : Result ReadSubs BadLine → Taken → Taken → List ℕ → Result (Unit {0}) LineFault → Type 0
 SubsReached (Ok r) old new lines (Ok u) =
     (r.place ≡ place_of new) × (r.came ≡ new.image.came) × (r.lines ≡ lines) × IsAlike old.image new.image
 SubsReached (Err b) old new lines (Ok u) = ⊥

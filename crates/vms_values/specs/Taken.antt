@@ -1,14 +1,18 @@
 -- What is read of the lines of a description.
-use Rattle.std.specs.Prelude.{◌≡◌, ℕ, Bool, ◌||◌, if◌then◌else◌, List, length, ◌++◌, ℤ, Option, Some, None, Result, Ok, Err}
+use Rattle.std.specs.Prelude.{◌≡◌, ℕ, ◌+◌, ◌*◌, ◌<◌, Bool, ◌||◌, if◌then◌else◌, List, [], length, map, drop, ◌++◌, ℤ, pos, Option, Some, None, Result, Ok, Err}
 use Rattle.vms_spec.specs.declared.ValuesReason.{ValuesReason}
 use Rattle.vms_spec.specs.declared.ValuesReason.TheVariants as reasons
 use Rattle.vms_spec.specs.Numbers.{same_number, exceeds}
+use Rattle.vms_kinds.specs.declared.Item.{Item}
 use Rattle.vms_kinds.specs.declared.Kind.{Kind}
+use Rattle.vms_desc.specs.Parts.{desc_at}
+use Rattle.vms_walk.specs.Steps.{table, cells_in}
 use Rattle.vms_spec.specs.declared.Count.{Count}
 use Rattle.vms_spec.specs.declared.Count.TheVariants.{One}
-use Rattle.vms_spec.specs.Sets.{Field}
-use Rattle.vms_spec.specs.Layout.{item_size}
-use Rattle.vms_spec.specs.Images.{Image}
+use Rattle.vms_spec.specs.Sets.{Field, Set}
+use Rattle.vms_spec.specs.declared.Part.{Part}
+use Rattle.vms_spec.specs.Layout.{Cell, item_size, item_cells, desc_cells}
+use Rattle.vms_image.specs.Typed.{Typed}
 use Rattle.vms_spec.specs.Spelling.{first_line}
 use Rattle.vms_spec.specs.ValuesReading.{Standing, Read, Reader, put_line, cells_of, read_item, read_elements}
 use Rattle.vms_values.specs.Reading.{standing}
@@ -19,10 +23,29 @@ abbrev pub place_of : Taken → Standing
 place_of taken = standing taken.image.numbers taken.lines
 
 -- only numbers changed
-pub record IsKept (old new : Image) : Type 0 where
+pub record IsKept (old new : Typed) : Type 0 where
   pub version : new.version ≡ old.version
   pub came : new.came ≡ old.came
   pub long : length new.numbers ≡ length old.numbers
+  pub kinds : new.kinds ≡ old.kinds
+
+-- from a cell on, an image's kinds are those of these cells
+pub record AreKinds (kinds : List Kind) (at : ℕ) (cells : List Cell) : Type 0 where
+  pub more : List Kind
+  pub is : drop at kinds ≡ map (λ c. c.kind) cells ++ more
+
+-- the cells of a part of a set
+abbrev pub part_cells : Set → Part → List Cell
+part_cells set part = desc_cells (cells_in (table set)) (desc_at set part)
+
+-- those of one element
+abbrev pub element_cells : List (List Cell) → Item → List Cell
+element_cells structs item = item_cells structs item [] (pos 0)
+
+-- from a cell on, an image's kinds are those of so many elements
+abbrev pub ElementKinds : List (List Cell) → Item → List Kind → ℕ → ℕ → Type 0
+ElementKinds structs item kinds at count =
+    (i : ℕ) → i < count → AreKinds kinds (at + i * item_size structs item) (element_cells structs item)
 
 -- the line of a cell
 abbrev pub line_read : List ℕ → Kind → List ℕ → ℕ → ℤ → Bool → Standing → Read

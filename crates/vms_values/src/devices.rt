@@ -1,20 +1,22 @@
-// Reads values texts of every set.
-ghost use Rattle.std.specs.Prelude.{◌≡◌, ◌<◌, ◌∷◌, ◌++◌, [], length, OnOk};
+// Reads the lines of devices.
+ghost use Rattle.std.specs.Prelude.{◌≡◌, ◌<◌, ◌∷◌, ◌++◌, [], length, map, OnOk, IfOk};
 ghost use Rattle.std.specs.Bool.{OnTrue};
 ghost use Rattle.vms_spec.specs.ValuesReading.{values_read, read_devices as devices_read};
 ghost use Rattle.vms_desc.specs.Described.{described, device_at};
+ghost use Rattle.vms_image.specs.Typed.{state_of, IsImageOf, AreImagesOf};
 ghost use Rattle.vms_write.specs.Judged.{IsOfDevice};
-ghost use Rattle.vms_values.specs.Reading.{ReadsAs};
+ghost use Rattle.vms_values.specs.Reading.{ReadsBy};
 ghost use Rattle.vms_values.specs.DevicesRead.{device_read, start_of, DeviceRead, AllRead, map_ok, ToldAs};
 
+use crate::Values;
 use crate::cursor::Lines;
+use crate::fault::LineFault;
 use crate::judge::{BadLine, judge_device};
 use crate::machine::read_machine;
 use crate::path::Path;
 use crate::read::{bad, push_image, read_section};
 use crate::subsections::read_subs;
 use crate::taken::{Taken, read_part};
-use crate::{Values, ValuesFault};
 use std::alloc::Global;
 use vms_desc::{DescSet, Part};
 use vms_image::Image;
@@ -28,12 +30,10 @@ struct Reading<'a> {
     judged: Option<BadLine>,
 }
 
-/// Reads a values text of a set: the machine that it names and an image for each device, or the first
-/// line at which it isn't one, and why. A line that no text of the set has there goes before a section
-/// or subsection whose validations fail or that isn't sent as it is needed. The text is read once.
-pub fn read_text(alloc: Global, set: &DescSet, text: &[u8]) -> Result<Values, ValuesFault>
-    requires small { length text.now < 4294967296 }
-    ensures { ReadsAs (described set.now) (values_read (described set.now) text.now) result }
+/// Reads the lines of a values text of a set, in both passes.
+pub(crate) fn read_lines(alloc: Global, set: &DescSet, text: &[u8]) -> Result<Values, LineFault>
+    ensures read { ReadsBy (described set.now) (values_read (described set.now) text.now) result }
+    ensures of { IfOk result (λ v. AreImagesOf (described set.now) v.images.items) }
 {
     let start = read_machine(set.parts().machines.as_slice(), text);
     let mut reading = Reading {
@@ -54,32 +54,29 @@ pub fn read_text(alloc: Global, set: &DescSet, text: &[u8]) -> Result<Values, Va
 }
 
 // These values, unless a line is bad in the second pass.
-fn told(judged: Option<BadLine>, values: Values) -> Result<Values, ValuesFault>
+fn told(judged: Option<BadLine>, values: Values) -> Result<Values, LineFault>
     ensures { ToldAs judged values result }
 {
     match judged {
-        Some(BadLine { line, reason }) => Err(ValuesFault::Bad { line, reason }),
+        Some(BadLine { line, reason }) => Err(LineFault::Bad { line, reason }),
         None => Ok(values),
     }
 }
 
 // The images of all devices.
-fn read_images(
-    alloc: Global,
-    set: &DescSet,
-    reading: &mut Reading,
-) -> Result<Vec<Image>, ValuesFault>
+fn read_images(alloc: Global, set: &DescSet, reading: &mut Reading) -> Result<Vec<Image>, LineFault>
     requires few { length (described set.now).devices < 4294967296 }
-    ensures { let set = described set.now in
+    ensures read { let set = described set.now in
         let whole = devices_read set set.devices in
         let read = whole reading.old.lines.line reading.old.lines.rest.now in
-        AllRead set read reading.old reading.new (map_ok (λ v. v.items) result) }
+        AllRead set read reading.old reading.new (map_ok (λ v. map state_of v.items) result) }
+    ensures of { IfOk result (λ v. AreImagesOf (described set.now) v.items) }
 {
     let mut images = Vec::new(alloc);
     for device in 0..set.parts().devices.as_slice().len() as u32 {
         let image = read_image(alloc, set, device, reading)?;
         if !push_image(&mut images, image) {
-            return Err(ValuesFault::NoMemory);
+            return Err(LineFault::NoMemory);
         }
     }
     Ok(images)
@@ -91,12 +88,13 @@ fn read_image(
     set: &DescSet,
     device: u32,
     reading: &mut Reading,
-) -> Result<Image, ValuesFault>
+) -> Result<Image, LineFault>
     requires known { device < length (described set.now).devices }
-    ensures { let d = device_at (described set.now) device in
+    ensures read { let d = device_at (described set.now) device in
         let start = start_of (described set.now) d reading.old in
         let whole = device_read (described set.now) d start in
-        DeviceRead (described set.now) d whole reading.old reading.new result }
+        DeviceRead (described set.now) d whole reading.old reading.new (map_ok state_of result) }
+    ensures of { IfOk result (λ image. IsImageOf (described set.now) device image) }
 {
     let mut taken = Taken {
         image: Image::new(alloc, set, device)?,

@@ -21,12 +21,22 @@ pub enum ValuesFault {
     NoMemory,
 }
 
-impl From<NoMemory> for ValuesFault {
-    ghost use Rattle.vms_values.specs.declared.fault.ValuesFault.TheVariants as faults;
+/// Why the lines of a text give no values. A text may have more lines than `u32` counts, but none of
+/// those is read.
+#[derive(Clone, Copy)]
+pub(crate) enum LineFault {
+    /// The text is refused at this line, counted from 1.
+    Bad { line: usize, reason: ValuesReason },
+    /// Memory is wanting.
+    NoMemory,
+}
+
+impl From<NoMemory> for LineFault {
+    ghost use Rattle.vms_values.specs.declared.fault.LineFault.TheVariants as faults;
 
     ghost from_gives = { λ _ fault. fault ≡ faults.NoMemory };
 
     fn from(_: NoMemory) -> Self {
-        ValuesFault::NoMemory
+        LineFault::NoMemory
     }
 }

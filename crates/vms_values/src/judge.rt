@@ -7,6 +7,7 @@ ghost use Rattle.vms_spec.specs.ValuesReading.{judge_device as device_judged, su
 ghost use Rattle.vms_desc.specs.Asks.{first_cell};
 ghost use Rattle.vms_desc.specs.Described.{described, device_at};
 ghost use Rattle.vms_desc.specs.Parts.{sub_at};
+ghost use Rattle.vms_image.specs.Typed.{state_of};
 ghost use Rattle.vms_walk.specs.Steps.{HasSpot, spot_slots};
 ghost use Rattle.vms_write.specs.Fine.{no_form, settle};
 ghost use Rattle.vms_write.specs.Judged.{IsOfDevice};
@@ -20,7 +21,7 @@ use vms_walk::{Spot, Step, Walker, walk};
 /// A line that is refused, and why.
 #[derive(Clone, Copy, Drop)]
 pub(crate) struct BadLine {
-    pub(crate) line: u32,
+    pub(crate) line: usize,
     pub(crate) reason: ValuesReason,
 }
 
@@ -30,13 +31,13 @@ pub(crate) fn judge_device(
     set: &DescSet,
     device: u32,
     image: &Image,
-    line: u32,
-    sub_lines: &[u32],
+    line: usize,
+    sub_lines: &[usize],
 ) -> Option<BadLine>
-    requires device { IsOfDevice (described set.now) device image.now }
+    requires device { IsOfDevice (described set.now) device (state_of image.now) }
     requires lines { length sub_lines.now ≡ length (device_at (described set.now) device).subs }
     ensures { let d = device_at (described set.now) device in
-        bad_of result ≡ device_judged (described set.now) d (read_of image.now line sub_lines.now) }
+        bad_of result ≡ device_judged (described set.now) d (read_of (state_of image.now) line sub_lines.now) }
 {
     let own = Spot {
         part: Part::Device(device),
@@ -58,9 +59,9 @@ pub(crate) fn judge_device(
 
 // Why the line of a subsection is refused, if so.
 fn judge_sub(set: &DescSet, device: u32, sub: u32, image: &Image) -> Option<ValuesReason>
-    requires device { IsOfDevice (described set.now) device image.now }
+    requires device { IsOfDevice (described set.now) device (state_of image.now) }
     requires is_sub { sub < length (device_at (described set.now) device).subs }
-    ensures { result ≡ sub_judged (described set.now) device sub image.now }
+    ensures { result ≡ sub_judged (described set.now) device sub (state_of image.now) }
 {
     let came = image.came(sub);
     if !holds_sub(set, device, sub, image, came) {
@@ -80,7 +81,7 @@ fn judge_sub(set: &DescSet, device: u32, sub: u32, image: &Image) -> Option<Valu
 
 // Whether the validations of a subsection hold, if it came.
 fn holds_sub(set: &DescSet, device: u32, sub: u32, image: &Image, came: Option<u32>) -> bool
-    requires device { IsOfDevice (described set.now) device image.now }
+    requires device { IsOfDevice (described set.now) device (state_of image.now) }
     requires is_sub { sub < length (device_at (described set.now) device).subs }
     ensures { let set = described set.now in
         let s = sub_at (device_at set device) sub in
@@ -103,7 +104,7 @@ fn holds_sub(set: &DescSet, device: u32, sub: u32, image: &Image, came: Option<u
 
 // Whether all cells of a subsection are at their defaults.
 fn is_bare(set: &DescSet, device: u32, sub: u32, image: &Image) -> bool
-    requires device { IsOfDevice (described set.now) device image.now }
+    requires device { IsOfDevice (described set.now) device (state_of image.now) }
     requires is_sub { sub < length (device_at (described set.now) device).subs }
     ensures { result ≡ sub_defaults (described set.now) device sub image.now.numbers }
 {

@@ -16,11 +16,11 @@ mod shown;
 mod subsections;
 mod taken;
 mod text;
+mod whole;
 
-pub use devices::read_text;
 pub use fault::{Values, ValuesFault};
 pub use name::print_path;
 pub use print::print_values;
-pub use read::read_values;
 pub use vms_io::WriteFault;
 pub use vms_spec::ValuesReason;
+pub use whole::read_text;

@@ -17,8 +17,7 @@ pub(crate) struct Start<'a> {
 
 /// Reads the line of a machine, if the text begins with one that names a machine of these.
 pub(crate) fn read_machine<'a>(machines: &[Text], text: &'a [u8]) -> Start<'a>
-    requires small { length text.now < 4294967296 }
-    requires few { length machines.now < 4294967296 }
+    requires { length machines.now < 4294967296 }
     ensures { StartsAt machines.now text.now (machine_named machines.now (first_line text.now)) result }
 {
     if let Some(line) = next_line(text) {
@@ -45,8 +44,7 @@ pub(crate) fn read_machine<'a>(machines: &[Text], text: &'a [u8]) -> Start<'a>
 /// The number of the machine that a line names, if it does.
 fn machine_in(machines: &[Text], line: &[u8]) -> Option<u32>
     requires { length machines.now < 4294967296 }
-    ensures named { IsMachineLine machines.now line.now result }
-    ensures long { OnSome result (0 < length line.now) }
+    ensures { IsMachineLine machines.now line.now result }
 {
     match line.strip_prefix(b"machine ") {
         Some(name) => find_machine(machines, name),

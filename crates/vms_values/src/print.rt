@@ -1,11 +1,12 @@
 // Prints the values text.
-ghost use Rattle.std.specs.Prelude.{◌≡◌, ◌<◌, length, get_or, None};
+ghost use Rattle.std.specs.Prelude.{◌≡◌, ◌<◌, length, get_or, None, map};
 ghost use Rattle.std.specs.Option.{ForSome};
 ghost use Rattle.vms_io.specs.Causes.{HasCause};
 ghost use Rattle.vms_spec.specs.Images.{own_cells};
 ghost use Rattle.vms_spec.specs.Values.{values_text, machine_line, devices_lines, device_lines, sub_lines};
 ghost use Rattle.vms_desc.specs.Described.{described, device_at};
 ghost use Rattle.vms_parts.specs.Views.{set_of, device_of};
+ghost use Rattle.vms_image.specs.Typed.{state_of};
 ghost use Rattle.vms_values.specs.Written.{Writes};
 ghost use Rattle.vms_values.specs.Printing.{AreOf, IsOf, machine_of, section_text, sub_text, whole_sub};
 
@@ -28,9 +29,9 @@ pub fn print_values<K: Sink>(
     sink: &mut K,
 ) -> Result<(), WriteFault>
     requires named { ForSome machine (λ m. m < length (described set.now).machines) }
-    requires one_each { AreOf (described set.now) (described set.now).devices images.now }
+    requires one_each { AreOf (described set.now) (described set.now).devices (map state_of images.now) }
     ensures written { let name = machine_of (described set.now) machine in
-        let text = values_text (described set.now) name images.now in
+        let text = values_text (described set.now) name (map state_of images.now) in
         Writes (K.written sink.old) (K.written sink.new) text result }
     ensures cause { HasCause (K.faults sink.old) (K.faults sink.new) result }
     ensures promise { K.promise sink.new ≡ K.promise sink.old }
@@ -48,9 +49,9 @@ fn print_all<K: Sink>(
     sink: &mut K,
 ) -> Result<(), Failed>
     requires named { ForSome machine (λ m. m < length (described set.now).machines) }
-    requires one_each { AreOf (described set.now) (described set.now).devices images.now }
+    requires one_each { AreOf (described set.now) (described set.now).devices (map state_of images.now) }
     ensures written { let name = machine_of (described set.now) machine in
-        let text = values_text (described set.now) name images.now in
+        let text = values_text (described set.now) name (map state_of images.now) in
         Writes (K.written sink.old) (K.written sink.new) text result }
     ensures cause { HasCause (K.faults sink.old) (K.faults sink.new) result }
     ensures promise { K.promise sink.new ≡ K.promise sink.old }
@@ -76,9 +77,9 @@ fn print_machine<K: Sink>(parts: &Parts, machine: Option<u32>, sink: &mut K) -> 
 }
 
 fn print_devices<K: Sink>(set: &DescSet, images: &[Image], sink: &mut K) -> Result<(), Failed>
-    requires one_each { AreOf (described set.now) (described set.now).devices images.now }
+    requires one_each { AreOf (described set.now) (described set.now).devices (map state_of images.now) }
     ensures written { let set = described set.now in
-        let text = devices_lines set set.devices images.now in
+        let text = devices_lines set set.devices (map state_of images.now) in
         Writes (K.written sink.old) (K.written sink.new) text result }
     ensures cause { HasCause (K.faults sink.old) (K.faults sink.new) result }
     ensures promise { K.promise sink.new ≡ K.promise sink.old }
@@ -93,9 +94,9 @@ fn print_devices<K: Sink>(set: &DescSet, images: &[Image], sink: &mut K) -> Resu
 fn print_device<K: Sink>(shown: Shown, device: u32, sink: &mut K) -> Result<(), Failed>
     requires is_device { device < length (described shown.set.now).devices }
     requires of { let set = described shown.set.now in
-        IsOf set (device_at set device) shown.image.now }
+        IsOf set (device_at set device) (state_of shown.image.now) }
     ensures written { let set = described shown.entry.set.now in
-        let text = device_lines set (device_at set device) shown.entry.image.now in
+        let text = device_lines set (device_at set device) (state_of shown.entry.image.now) in
         Writes (K.written sink.old) (K.written sink.new) text result }
     ensures cause { HasCause (K.faults sink.old) (K.faults sink.new) result }
     ensures promise { K.promise sink.new ≡ K.promise sink.old }
@@ -133,10 +134,10 @@ fn print_section<K: Sink>(device: &Device, version: u32, sink: &mut K) -> Result
 fn print_subs<K: Sink>(shown: Shown, device: u32, sink: &mut K) -> Result<(), Failed>
     requires is_device { device < length (described shown.set.now).devices }
     requires of { let set = described shown.set.now in
-        IsOf set (device_at set device) shown.image.now }
+        IsOf set (device_at set device) (state_of shown.image.now) }
     ensures written { let set = described shown.entry.set.now in
         let d = device_at set device in
-        let image = shown.entry.image.now in
+        let image = state_of shown.entry.image.now in
         let text = sub_lines set image.numbers (own_cells set d) d.subs image.came in
         Writes (K.written sink.old) (K.written sink.new) text result }
     ensures cause { HasCause (K.faults sink.old) (K.faults sink.new) result }
@@ -153,9 +154,9 @@ fn print_sub<K: Sink>(shown: Shown, device: u32, sub: u32, sink: &mut K) -> Resu
     requires is_sub { let set = described shown.set.now in
         sub < length (device_at set device).subs }
     requires of { let set = described shown.set.now in
-        IsOf set (device_at set device) shown.image.now }
+        IsOf set (device_at set device) (state_of shown.image.now) }
     ensures written { let set = described shown.entry.set.now in
-        let image = shown.entry.image.now in
+        let image = state_of shown.entry.image.now in
         let text = whole_sub set device sub image.numbers (get_or image.came sub None) in
         Writes (K.written sink.old) (K.written sink.new) text result }
     ensures cause { HasCause (K.faults sink.old) (K.faults sink.new) result }

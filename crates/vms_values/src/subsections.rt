@@ -11,13 +11,15 @@ ghost use Rattle.vms_spec.specs.ValuesReading.{sub_line, sub_said as said, read_
 ghost use Rattle.vms_desc.specs.Asks.{first_cell};
 ghost use Rattle.vms_desc.specs.Described.{described, device_at};
 ghost use Rattle.vms_desc.specs.Parts.{sub_at};
+ghost use Rattle.vms_desc.specs.Spots.{kinds_at};
+ghost use Rattle.vms_image.specs.Typed.{state_of};
 ghost use Rattle.vms_parts.specs.Views.{sub_of};
 ghost use Rattle.vms_write.specs.Judged.{IsOfDevice};
 ghost use Rattle.vms_values.specs.Taken.{place_of};
 ghost use Rattle.vms_values.specs.SubsTaken.{line_said, SubPassed, sub_read, SubReached, SubsReached};
 
-use crate::ValuesFault;
 use crate::cursor::Lines;
+use crate::fault::LineFault;
 use crate::path::Path;
 use crate::read::{bad, pass};
 use crate::taken::{Taken, read_part};
@@ -32,9 +34,10 @@ pub(crate) fn read_subs(
     set: &DescSet,
     device: u32,
     taken: &mut Taken,
-    lines: &mut Vec<u32>,
-) -> Result<(), ValuesFault>
-    requires device { IsOfDevice (described set.now) device taken.old.image }
+    lines: &mut Vec<usize>,
+) -> Result<(), LineFault>
+    requires device { IsOfDevice (described set.now) device (state_of taken.old.image) }
+    requires kinds { taken.old.image.kinds ≡ kinds_at (described set.now) device }
     requires none { lines.old.items ≡ [] }
     ensures read { let d = device_at (described set.now) device in
         let whole = subs_read (described set.now) (own_cells (described set.now) d) d.subs in
@@ -44,7 +47,7 @@ pub(crate) fn read_subs(
 {
     for sub in 0..set.sub_count(device) {
         if !push_line(lines, taken.lines.line) {
-            return Err(ValuesFault::NoMemory);
+            return Err(LineFault::NoMemory);
         }
         read_sub(set, device, sub, taken)?;
     }
@@ -52,15 +55,16 @@ pub(crate) fn read_subs(
 }
 
 // Appends the number of a line, or tells that memory is wanting.
-fn push_line(lines: &mut Vec<u32>, line: u32) -> bool
+fn push_line(lines: &mut Vec<usize>, line: usize) -> bool
     ensures { OnTrue result (lines.new.items ≡ lines.old.items ++ line ∷ []) }
 {
     lines.push(line).is_ok()
 }
 
 // The line and the numbers of a subsection.
-fn read_sub(set: &DescSet, device: u32, sub: u32, taken: &mut Taken) -> Result<(), ValuesFault>
-    requires device { IsOfDevice (described set.now) device taken.old.image }
+fn read_sub(set: &DescSet, device: u32, sub: u32, taken: &mut Taken) -> Result<(), LineFault>
+    requires device { IsOfDevice (described set.now) device (state_of taken.old.image) }
+    requires kinds { taken.old.image.kinds ≡ kinds_at (described set.now) device }
     requires is_sub { sub < length (device_at (described set.now) device).subs }
     ensures read { let set = described set.now in
         let s = sub_at (device_at set device) sub in
@@ -80,7 +84,7 @@ fn read_sub(set: &DescSet, device: u32, sub: u32, taken: &mut Taken) -> Result<(
 }
 
 // The version at which a subsection came by its line, if it did.
-fn read_sub_line(sub: &Sub, lines: &mut Lines) -> Result<Option<u32>, ValuesFault>
+fn read_sub_line(sub: &Sub, lines: &mut Lines) -> Result<Option<u32>, LineFault>
     ensures { let o = said (sub_of sub.now) (first_line lines.old.rest.now) in
         SubPassed o lines.old lines.new result }
 {
@@ -98,8 +102,7 @@ fn read_sub_line(sub: &Sub, lines: &mut Lines) -> Result<Option<u32>, ValuesFaul
 
 // What a line says of a subsection: its version, a dash, or nothing of it.
 fn sub_said(sub: &Sub, line: &[u8]) -> Option<Option<u32>>
-    ensures said { result ≡ line_said (sub_of sub.now) line.now }
-    ensures long { OnSome result (0 < length line.now) }
+    ensures { result ≡ line_said (sub_of sub.now) line.now }
 {
     if is_at_version(sub, line) {
         Some(Some(sub.desc.version))
@@ -111,9 +114,8 @@ fn sub_said(sub: &Sub, line: &[u8]) -> Option<Option<u32>>
 }
 
 fn is_at_version(sub: &Sub, line: &[u8]) -> bool
-    ensures same { let version = codes "v" ++ decimal sub.now.desc.version in
+    ensures { let version = codes "v" ++ decimal sub.now.desc.version in
         result ≡ bytes_eq line.now (sub_line (sub_of sub.now) version) }
-    ensures long { OnTrue result (0 < length line.now) }
 {
     let mut version = Buffer::new();
     let version = version.format(sub.desc.version).as_bytes();
@@ -121,8 +123,7 @@ fn is_at_version(sub: &Sub, line: &[u8]) -> bool
 }
 
 fn is_dashed(sub: &Sub, line: &[u8]) -> bool
-    ensures same { result ≡ bytes_eq line.now (sub_line (sub_of sub.now) (codes "-")) }
-    ensures long { OnTrue result (0 < length line.now) }
+    ensures { result ≡ bytes_eq line.now (sub_line (sub_of sub.now) (codes "-")) }
 {
     is_joined(line, &[b"sub ", sub.desc.name.as_bytes(), b" -"])
 }

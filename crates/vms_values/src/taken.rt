@@ -1,5 +1,7 @@
 // Reads the lines of a description: arrays to their counts, and structures.
-ghost use Rattle.std.specs.Prelude.{◌≡◌, ◌+◌, ◌*◌, ◌<◌, ◌≤◌, ◌&&◌, true, length, slice_set};
+ghost use Rattle.std.specs.Prelude.{◌≡◌, ◌+◌, ◌*◌, ◌<◌, ◌≤◌, ◌&&◌, true, length, get_or, slice_set};
+ghost use Rattle.vms_kinds.specs.Codes.{InRange};
+ghost use Rattle.vms_kinds.specs.declared.Kind.TheVariants.{U8};
 ghost use Rattle.vms_spec.specs.Tests.{is_there};
 ghost use Rattle.vms_spec.specs.Layout.{no_parent};
 ghost use Rattle.vms_desc.specs.Asks.{field_at, own_numbers};
@@ -11,14 +13,15 @@ ghost use Rattle.vms_spec.specs.ValuesReading.{readers, read_desc, read_elements
 ghost use Rattle.vms_desc.specs.Described.{described};
 ghost use Rattle.vms_desc.specs.Parts.{desc_at};
 ghost use Rattle.vms_parts.specs.Views.{field_of};
-ghost use Rattle.vms_walk.specs.Steps.{HasSpot, size_in, capacities_of};
+ghost use Rattle.vms_walk.specs.Steps.{HasSpot, table, cells_in, size_in, capacities_of};
 ghost use Rattle.vms_values.specs.Paths.{path_text};
 ghost use Rattle.vms_values.specs.Printing.{IsRun};
 ghost use Rattle.vms_values.specs.Reading.{Reaches};
-ghost use Rattle.vms_values.specs.Taken.{IsKept, place_of, run_read, line_read, number_judged};
+ghost use Rattle.vms_values.specs.Taken.{IsKept, AreKinds, ElementKinds, part_cells, element_cells};
+ghost use Rattle.vms_values.specs.Taken.{place_of, run_read, line_read, number_judged};
 
-use crate::ValuesFault;
 use crate::cursor::Lines;
+use crate::fault::LineFault;
 use crate::numbers::read_number;
 use crate::path::Path;
 use crate::read::{bad, number_text, pass};
@@ -55,8 +58,10 @@ pub(crate) fn read_part(
     path: &Path,
     present: bool,
     taken: &mut Taken,
-) -> Result<(), ValuesFault>
+) -> Result<(), LineFault>
     requires spot { HasSpot (described set.now) spot taken.old.image.numbers }
+    requires kinds { let cells = part_cells (described set.now) spot.part in
+        AreKinds taken.old.image.kinds spot.base cells }
     ensures read { let set = described set.now in
         let d = desc_at set spot.part in
         let text = path_text path.now in
@@ -93,9 +98,11 @@ fn is_present(set: &DescSet, spot: Spot, field: u32, present: bool, image: &Imag
 
 // The lines of a field's elements.
 #[cycle(read)]
-fn read_field(set: &DescSet, run: Run, path: &Path, taken: &mut Taken) -> Result<(), ValuesFault>
+fn read_field(set: &DescSet, run: Run, path: &Path, taken: &mut Taken) -> Result<(), LineFault>
     requires fits { let numbers = taken.old.image.numbers in
         IsRun (described set.now) (field_of run.field.now) run.first run.count numbers }
+    requires kinds { let structs = cells_in (table (described set.now)) in
+        ElementKinds structs run.field.now.item taken.old.image.kinds run.first run.count }
     ensures read { let f = field_of run.entry.field.now in
         let text = path_text path.now in
         let set = described set.now in
@@ -117,12 +124,14 @@ fn read_field(set: &DescSet, run: Run, path: &Path, taken: &mut Taken) -> Result
 
 // The lines of the elements of an array.
 #[cycle(read)]
-fn read_elements(set: &DescSet, run: Run, path: &Path, taken: &mut Taken) -> Result<(), ValuesFault>
+fn read_elements(set: &DescSet, run: Run, path: &Path, taken: &mut Taken) -> Result<(), LineFault>
     requires reaches { uses_below (length (described set.now).structs) run.field.now.item ≡ true }
     requires small { size_in (described set.now) run.field.now.item ≤ 16384 }
     requires room { let size = size_in (described set.now) run.field.now.item in
         run.first + run.count * size ≤ length taken.old.image.numbers }
     requires few { length taken.old.image.numbers ≤ 16384 }
+    requires kinds { let structs = cells_in (table (described set.now)) in
+        ElementKinds structs run.field.now.item taken.old.image.kinds run.first run.count }
     ensures read { let f = field_of run.entry.field.now in
         let text = path_text path.now in
         let set = described set.now in
@@ -148,11 +157,13 @@ fn read_elements(set: &DescSet, run: Run, path: &Path, taken: &mut Taken) -> Res
 
 // The lines of one element, the first of the run.
 #[cycle(read)]
-fn read_item(set: &DescSet, run: Run, path: &Path, taken: &mut Taken) -> Result<(), ValuesFault>
+fn read_item(set: &DescSet, run: Run, path: &Path, taken: &mut Taken) -> Result<(), LineFault>
     requires reaches { uses_below (length (described set.now).structs) run.field.now.item ≡ true }
     requires room { let size = size_in (described set.now) run.field.now.item in
         run.first + size ≤ length taken.old.image.numbers }
     requires few { length taken.old.image.numbers ≤ 16384 }
+    requires kinds { let structs = cells_in (table (described set.now)) in
+        AreKinds taken.old.image.kinds run.first (element_cells structs run.field.now.item) }
     ensures read { let f = field_of run.entry.field.now in
         let text = path_text path.now in
         let set = described set.now in
@@ -178,8 +189,9 @@ fn read_item(set: &DescSet, run: Run, path: &Path, taken: &mut Taken) -> Result<
 }
 
 // The line of a cell, the first of the run.
-fn read_number_line(kind: Kind, run: Run, path: &Path, taken: &mut Taken) -> Result<(), ValuesFault>
+fn read_number_line(kind: Kind, run: Run, path: &Path, taken: &mut Taken) -> Result<(), LineFault>
     requires room { run.first < length taken.old.image.numbers }
+    requires of_kind { get_or taken.old.image.kinds run.first U8 ≡ kind }
     ensures read { let caps = capacities_of run.entry.most in
         let r = run.entry in
         let line = line_read (path_text path.now) kind caps r.first r.field.now.default r.present in
@@ -204,7 +216,8 @@ fn read_number_line(kind: Kind, run: Run, path: &Path, taken: &mut Taken) -> Res
 
 // Puts a number into a cell.
 fn put(taken: &mut Taken, cell: u32, number: i128)
-    requires { cell < length taken.old.image.numbers }
+    requires cell { cell < length taken.old.image.numbers }
+    requires range { InRange (get_or taken.old.image.kinds cell U8) number }
     ensures lines { taken.new.lines ≡ taken.old.lines }
     ensures numbers { taken.new.image.numbers ≡ slice_set taken.old.image.numbers cell number }
     ensures kept { IsKept taken.old.image taken.new.image }

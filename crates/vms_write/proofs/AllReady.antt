@@ -1,17 +1,14 @@
 -- Images that are ready, one after the other.
 use Rattle.std.proofs.Common.{◌≡◌, ℕ, zero, suc, ◌+◌, ◌<◌, ◌≤◌, Bool, true, false, ◌&&◌, ◌==◌, nat_lt, List, [], ◌∷◌, length, get_or, Some, refl, sym, ap, ◌∙◌, subst, arith}
-use Rattle.std.proofs.lemmas.Bool.{ltb-true, ltb-false, eq-eqb}
+use Rattle.std.proofs.lemmas.Bool.{ltb-true, ltb-false}
 use Rattle.vms_spec.specs.Images.{Image}
 use Rattle.vms_spec.specs.Lists.{at}
 use Rattle.vms_spec.specs.Sets.{Set, Device}
-use Rattle.vms_spec.specs.Layout.{device_cells}
 use Rattle.vms_spec.specs.Streams.{IsReady, AreReady}
-use Rattle.vms_spec.specs.Heads.{FitsHeads}
 use Rattle.vms_laws.proofs.PartLaws.{at_inside}
 use Rattle.vms_desc.specs.Described.{device_at}
-use Rattle.vms_desc.specs.Formed.{is_well_formed}
+use Rattle.vms_image.specs.Typed.{Typed, IsImageOf, AreImagesOf}
 use Rattle.vms_write.proofs.Formed.{at_get}
-use Rattle.vms_write.proofs.ReadyImages.{ready_writable}
 
 -- there is an image for each device, and the first n are ready
 pub record AreSoFar (set : Set) (images : List Image) (n : ℕ) : Type 0 where
@@ -55,13 +52,26 @@ all_so_far set images n sofar le = record {
   ready = λ k d image e f. let inside = at_inside images k image f in sofar.ready k d image (omega arith) e f;
 }
 
--- an image of another shape than its device's isn't ready
-pub other_shape : (set : Set) → is_well_formed set ≡ true → FitsHeads set → (i : ℕ) (image : Image) → i < length set.devices
-    → (length image.came == length (device_at set i).subs && length image.numbers == length (device_cells set (device_at set i))) ≡ false
-    → IsReady set (device_at set i) image → ⊥
-other_shape set well heads i image lt other ready =
-    let w = ready_writable set well heads i image lt ready in
-    let came : (length image.came == length (device_at set i).subs) ≡ true = eq-eqb (length image.came) (length (device_at set i).subs) w.came in
-    let cells : (length image.numbers == length (device_cells set (device_at set i))) ≡ true = eq-eqb (length image.numbers) (length (device_cells set (device_at set i))) w.cells in
-    let both : true ≡ false = sym (ap (λ (b : Bool). b && length image.numbers == length (device_cells set (device_at set i))) came ∙ cells) ∙ other in
-    cc
+-- the first n are images of their devices
+pub record AreOfSoFar (set : Set) (images : List Typed) (n : ℕ) : Type 0 where
+  pub each : (k : ℕ) (image : Typed) → k < n → at images k ≡ Some image → IsImageOf set k image
+
+pub none_of : (set : Set) (images : List Typed) → AreOfSoFar set images 0
+none_of set images = record { each = λ k image lt. absurd (omega arith) }
+
+module _ (set : Set) (images : List Typed) (n : ℕ) (image : Typed) (sofar : AreOfSoFar set images n) (lt : n < length images) (is : image ≡ get_or images n image) where
+  of_by : IsImageOf set n image → (k : ℕ) (other : Typed) → k < n + 1 → at images k ≡ Some other → (b : Bool) → nat_lt k n ≡ b → IsImageOf set k other
+  of_by o k other less f true g = sofar.each k other (ltb-true k n g) f
+  of_by o k other less f false g =
+      let same : k ≡ n = omega (arith, ltb-false k n g) in
+      let there : image ≡ other = is ∙ get_at images n image other (ap (at images) (sym same) ∙ f) in
+      subst (λ (m : ℕ). IsImageOf set m other) (sym same) (subst (IsImageOf set n) there o)
+
+  pub one_more_of : IsImageOf set n image → AreOfSoFar set images (n + 1)
+  one_more_of o = record { each = λ k other less f. of_by o k other less f (nat_lt k n) refl }
+
+pub all_of : (set : Set) (images : List Typed) (n : ℕ) → AreOfSoFar set images n → length images ≡ length set.devices → length images ≤ n → AreImagesOf set images
+all_of set images n sofar long le = record {
+  one_each = long;
+  each = λ k image f. let inside = at_inside images k image f in sofar.each k image (omega arith) f;
+}

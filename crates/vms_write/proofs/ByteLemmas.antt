@@ -5,7 +5,8 @@ use Rattle.vms_spec.specs.Layout.{Slot, Number, Constant, Filler, Rule}
 use Rattle.vms_spec.specs.Images.{zeroed}
 use Rattle.vms_walk.specs.Steps.{steps_of}
 use Rattle.vms_walk.specs.declared.step.Step.{Step}
-use Rattle.vms_write.specs.Bytes.{CanWrite, IsInRange, bytes_of}
+use Rattle.vms_kinds.specs.declared.Kind.{Kind}
+use Rattle.vms_write.specs.Bytes.{CanWrite, CanStep, bytes_of}
 
 pub bytes_zeroed : (n : List ℤ) (xs : List Slot) → bytes_of n (steps_of xs) ≡ zeroed n xs
 bytes_zeroed n [] = refl
@@ -14,21 +15,21 @@ bytes_zeroed n (Constant kind z ∷ xs) = ap (λ (l : List ℕ). code kind z ++ 
 bytes_zeroed n (Filler k ∷ xs) = ap (λ (l : List ℕ). replicate k 0 ++ l) (bytes_zeroed n xs)
 bytes_zeroed n (Rule b ∷ xs) = bytes_zeroed n xs
 
-abbrev AllInRange : List ℤ → List Step → Type 0
-AllInRange n [] = Unit {0}
-AllInRange n (x ∷ xs) = IsInRange n x × AllInRange n xs
+abbrev AllCan : List Kind → List Step → Type 0
+AllCan kinds [] = Unit {0}
+AllCan kinds (x ∷ xs) = CanStep kinds x × AllCan kinds xs
 
-all_in_range : (n : List ℤ) (xs : List Slot) → CanWrite n xs → AllInRange n (steps_of xs)
-all_in_range n [] h = tt
-all_in_range n (Number c kind caps ∷ xs) h = (h.0, all_in_range n xs h.1)
-all_in_range n (Constant kind z ∷ xs) h = (h.0, all_in_range n xs h.1)
-all_in_range n (Filler k ∷ xs) h = (tt, all_in_range n xs h)
-all_in_range n (Rule b ∷ xs) h = (tt, all_in_range n xs h)
+all_can : (kinds : List Kind) (xs : List Slot) → CanWrite kinds xs → AllCan kinds (steps_of xs)
+all_can kinds [] h = tt
+all_can kinds (Number c kind caps ∷ xs) h = (h.0, all_can kinds xs h.1)
+all_can kinds (Constant kind z ∷ xs) h = (h.0, all_can kinds xs h.1)
+all_can kinds (Filler k ∷ xs) h = (tt, all_can kinds xs h)
+all_can kinds (Rule b ∷ xs) h = (tt, all_can kinds xs h)
 
-one_of : (n : List ℤ) (xs rest : List Step) (x : Step) → AllInRange n (xs ++ (x ∷ rest)) → IsInRange n x
-one_of n [] rest x h = h.0
-one_of n (y ∷ xs) rest x h = one_of n xs rest x h.1
+one_of : (kinds : List Kind) (xs rest : List Step) (x : Step) → AllCan kinds (xs ++ (x ∷ rest)) → CanStep kinds x
+one_of kinds [] rest x h = h.0
+one_of kinds (y ∷ xs) rest x h = one_of kinds xs rest x h.1
 
 -- any step of these slots
-pub can_write_step : (n : List ℤ) (slots : List Slot) (xs rest : List Step) (x : Step) → CanWrite n slots → steps_of slots ≡ xs ++ (x ∷ rest) → IsInRange n x
-can_write_step n slots xs rest x h e = one_of n xs rest x (subst (AllInRange n) e (all_in_range n slots h))
+pub can_write_step : (kinds : List Kind) (slots : List Slot) (xs rest : List Step) (x : Step) → CanWrite kinds slots → steps_of slots ≡ xs ++ (x ∷ rest) → CanStep kinds x
+can_write_step kinds slots xs rest x h e = one_of kinds xs rest x (subst (AllCan kinds) e (all_can kinds slots h))

@@ -1,10 +1,13 @@
 -- What a ready image has.
-use Rattle.std.proofs.Common.{◌≡◌, ℕ, suc, ◌<◌, ◌≤◌, List, [], ◌∷◌, length, Option, Some, None, ℤ, refl, ap, arith, true}
+use Rattle.std.proofs.Common.{◌≡◌, ℕ, suc, ◌<◌, ◌≤◌, List, [], ◌∷◌, length, get_or, map, Option, Some, None, ℤ, refl, ap, ◌∙◌, arith, true}
+use Rattle.std.proofs.lemmas.List.{get_or-map}
+use Rattle.vms_kinds.specs.declared.Kind.TheVariants.{U8}
 use Rattle.vms_spec.specs.Sets.{Set, Sub, AtLeast}
-use Rattle.vms_spec.specs.Layout.{Slot, Number, Constant, Filler, Rule, no_desc, device_cells}
+use Rattle.vms_spec.specs.Layout.{Slot, Number, Constant, Filler, Rule, Cell, no_cell, no_desc, device_cells}
 use Rattle.vms_spec.specs.Images.{Image, own_cells, own_slots, sub_place, sub_slots, AreVersionsOf}
 use Rattle.vms_spec.specs.Streams.{IsReady}
 use Rattle.vms_spec.specs.WellFormed.{first_fault}
+use Rattle.vms_laws.specs.Cells.{AreCells}
 use Rattle.vms_laws.specs.Good.{IsGood}
 use Rattle.vms_spec.specs.Heads.{FitsHeads}
 use Rattle.vms_laws.proofs.ConstantLaws.{own_constants, part_constants}
@@ -15,6 +18,7 @@ use Rattle.vms_laws.proofs.WellFormedLaws.{well_good}
 use Rattle.vms_desc.specs.Described.{device_at}
 use Rattle.vms_desc.specs.Formed.{is_well_formed}
 use Rattle.vms_desc.specs.Parts.{sub_at}
+use Rattle.vms_desc.specs.Spots.{kinds_at}
 use Rattle.vms_desc.proofs.AskLaws.{few_cells}
 use Rattle.vms_desc.proofs.Bounds.{none_is}
 use Rattle.vms_write.specs.Bytes.{CanWrite}
@@ -23,12 +27,12 @@ use Rattle.vms_write.proofs.Formed.{at_get}
 pub good_of : (set : Set) → is_well_formed set ≡ true → FitsHeads set → IsGood set
 good_of set well heads = well_good set (none_is (first_fault set) well) heads
 
-can_write : (m : List ℤ) (slots : List Slot) → FitSlots m slots → CanWrite m slots
-can_write m [] f = tt
-can_write m (Number a kind caps ∷ slots) f = (f.0, can_write m slots f.2)
-can_write m (Constant kind z ∷ slots) f = (f.0, can_write m slots f.1)
-can_write m (Filler n ∷ slots) f = can_write m slots f
-can_write m (Rule b ∷ slots) f = can_write m slots f
+can_write : (cells : List Cell) (m : List ℤ) (slots : List Slot) → AreCells cells slots → FitSlots m slots → CanWrite (map (λ c. c.kind) cells) slots
+can_write cells m [] are f = tt
+can_write cells m (Number a kind caps ∷ slots) are f = (get_or-map (λ c. c.kind) cells a no_cell U8 are.0.within ∙ are.0.kind, can_write cells m slots are.1 f.2)
+can_write cells m (Constant kind z ∷ slots) are f = (f.0, can_write cells m slots are f.1)
+can_write cells m (Filler n ∷ slots) are f = can_write cells m slots are f
+can_write cells m (Rule b ∷ slots) are f = can_write cells m slots are f
 
 versions_long : (subs : List Sub) (came : List (Option ℕ)) → AreVersionsOf subs came → length came ≡ length subs
 versions_long [] [] h = refl
@@ -42,9 +46,9 @@ pub record IsWritable (set : Set) (i : ℕ) (image : Image) : Type 0 where
   pub few : length image.numbers ≤ 16384
   pub cells : length image.numbers ≡ length (device_cells set (device_at set i))
   pub came : length image.came ≡ length (device_at set i).subs
-  pub own : CanWrite image.numbers (own_slots set (device_at set i) image.version image.numbers)
+  pub own : CanWrite (kinds_at set i) (own_slots set (device_at set i) image.version image.numbers)
   pub subs : (j v : ℕ) → j < length (device_at set i).subs
-      → CanWrite image.numbers (sub_slots set (sub_at (device_at set i) j) v image.numbers (sub_place set (own_cells set (device_at set i)) (device_at set i).subs j))
+      → CanWrite (kinds_at set i) (sub_slots set (sub_at (device_at set i) j) v image.numbers (sub_place set (own_cells set (device_at set i)) (device_at set i).subs j))
 
 pub ready_writable : (set : Set) → is_well_formed set ≡ true → FitsHeads set → (i : ℕ) (image : Image) → i < length set.devices → IsReady set (device_at set i) image → IsWritable set i image
 ready_writable set well heads i image lt r =
@@ -60,11 +64,11 @@ ready_writable set well heads i image lt r =
       cells = long;
       came = versions_long d.subs image.came normal.subs;
       own = let are = own_are set d image.version m in
-          can_write m (own_slots set d image.version m) (fit_slots (device_cells set d) m (own_slots set d image.version m) normal.cells are (own_constants set good i d here image.version 0 m));
+          can_write (device_cells set d) m (own_slots set d image.version m) are (fit_slots (device_cells set d) m (own_slots set d image.version m) normal.cells are (own_constants set good i d here image.version 0 m));
       subs = λ j v lj.
           let s = sub_at d j in
           let from = sub_place set (own_cells set d) d.subs j in
           let there = at_get d.subs j none lj in
           let are = sub_are set d j s v m there in
-          can_write m (sub_slots set s v m from) (fit_slots (device_cells set d) m (sub_slots set s v m from) normal.cells are (part_constants set good i j d s here there v from m));
+          can_write (device_cells set d) m (sub_slots set s v m from) are (fit_slots (device_cells set d) m (sub_slots set s v m from) normal.cells are (part_constants set good i j d s here there v from m));
     }

@@ -1,24 +1,26 @@
 -- The bytes of steps, and which of them can be written.
-use Rattle.std.specs.Prelude.{ℕ, List, [], ◌∷◌, ◌++◌, get_or, replicate, ℤ, pos}
+use Rattle.std.specs.Prelude.{◌≡◌, ℕ, List, [], ◌∷◌, ◌++◌, get_or, replicate, ℤ, pos}
+use Rattle.vms_kinds.specs.declared.Kind.{Kind}
+use Rattle.vms_kinds.specs.declared.Kind.TheVariants.{U8}
 use Rattle.vms_kinds.specs.Codes.{InRange, code}
 use Rattle.vms_spec.specs.Layout as slots
 use Rattle.vms_walk.specs.declared.step.Step.{Step}
 use Rattle.vms_walk.specs.declared.step.Step.TheVariants.{Number, Constant, Filler, Rule}
 
--- the number and the constant of a step are in the range of their kind
-abbrev pub IsInRange : List ℤ → Step → Type 0
-IsInRange numbers (Number cell kind most) = InRange kind (get_or numbers cell (pos 0))
-IsInRange numbers (Constant kind value) = InRange kind value
-IsInRange numbers (Filler bytes) = Unit {0}
-IsInRange numbers (Rule holds) = Unit {0}
+-- the number of a step is of the kind of its cell, and its constant in the range of its kind
+abbrev pub CanStep : List Kind → Step → Type 0
+CanStep kinds (Number cell kind most) = get_or kinds cell U8 ≡ kind
+CanStep kinds (Constant kind value) = InRange kind value
+CanStep kinds (Filler bytes) = Unit {0}
+CanStep kinds (Rule holds) = Unit {0}
 
--- each number of the slots, and each constant, is in the range of its kind
-abbrev pub CanWrite : List ℤ → List slots.Slot → Type 0
-CanWrite numbers [] = Unit {0}
-CanWrite numbers (slots.Number c kind capacities ∷ xs) = InRange kind (get_or numbers c (pos 0)) × CanWrite numbers xs
-CanWrite numbers (slots.Constant kind z ∷ xs) = InRange kind z × CanWrite numbers xs
-CanWrite numbers (slots.Filler n ∷ xs) = CanWrite numbers xs
-CanWrite numbers (slots.Rule b ∷ xs) = CanWrite numbers xs
+-- each number of the slots is of the kind of its cell, and each constant in the range of its kind
+abbrev pub CanWrite : List Kind → List slots.Slot → Type 0
+CanWrite kinds [] = Unit {0}
+CanWrite kinds (slots.Number c kind capacities ∷ xs) = (get_or kinds c U8 ≡ kind) × CanWrite kinds xs
+CanWrite kinds (slots.Constant kind z ∷ xs) = InRange kind z × CanWrite kinds xs
+CanWrite kinds (slots.Filler n ∷ xs) = CanWrite kinds xs
+CanWrite kinds (slots.Rule b ∷ xs) = CanWrite kinds xs
 
 abbrev pub step_bytes : List ℤ → Step → List ℕ
 step_bytes numbers (Number cell kind most) = code kind (get_or numbers cell (pos 0))

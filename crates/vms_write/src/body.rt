@@ -6,7 +6,7 @@ ghost use Rattle.vms_spec.specs.Images.{zeroed};
 ghost use Rattle.vms_desc.specs.Described.{described};
 ghost use Rattle.vms_walk.specs.Inside.{IsInside};
 ghost use Rattle.vms_walk.specs.Steps.{HasSpot, spot_slots};
-ghost use Rattle.vms_write.specs.Bytes.{CanWrite, IsInRange, step_bytes};
+ghost use Rattle.vms_write.specs.Bytes.{CanWrite, CanStep, step_bytes};
 
 use crate::WriteFault;
 use crate::pieces::{append, write_zeros};
@@ -24,7 +24,7 @@ pub(crate) fn write_fields<K: Sink>(
     sink: &mut K,
 ) -> Result<(), WriteFault>
     requires spot { HasSpot (described set.now) spot image.now.numbers }
-    requires can { CanWrite image.now.numbers (spot_slots (described set.now) spot image.now.numbers) }
+    requires can { CanWrite image.now.kinds (spot_slots (described set.now) spot image.now.numbers) }
     ensures ok { let slots = spot_slots (described set.now) spot image.now.numbers in
         let bytes = zeroed image.now.numbers slots in
         OnOk result (Appends (K.written sink.old) (K.written sink.new) bytes) }
@@ -60,7 +60,7 @@ impl<K: Sink> Walker for Writer<'_, K> {
     ghost use Rattle.std.specs.Prelude.{◌≡◌, refl};
     ghost use Rattle.std.proofs.Common.{ap, ◌∙◌};
     ghost use Rattle.vms_walk.proofs.Kept.{keeps_same};
-    ghost use Rattle.vms_write.specs.Bytes.{IsInRange};
+    ghost use Rattle.vms_write.specs.Bytes.{CanStep};
     ghost use Rattle.vms_write.specs.Wrote.{Told, Wrote, Cut, told};
     ghost use Rattle.vms_write.specs.Wrote.{wrote_none, wrote_then, cut_then, cut_before};
 
@@ -72,7 +72,7 @@ impl<K: Sink> Walker for Writer<'_, K> {
     ghost stops = { λ xs a fault b. (b.sink.ghost_name ≡ a.sink.ghost_name) × (b.image ≡ a.image)
         × Cut a.image.now.numbers xs (told K.written K.faults K.promise a.sink.now) (told K.written K.faults K.promise b.sink.now) };
 
-    ghost may = { λ a step. IsInRange a.image.now.numbers step };
+    ghost may = { λ a step. CanStep a.image.now.kinds step };
 
     ghost keeps = { λ xs a b h. keeps_same xs _ _ (ap (λ image. image.now.numbers) h.1) };
 
@@ -97,7 +97,7 @@ impl<K: Sink> Walker for Writer<'_, K> {
 
 fn write_step<K: Sink>(image: &Image, step: Step, sink: &mut K) -> Result<(), WriteFault>
     requires inside { IsInside image.now.numbers step }
-    requires can { IsInRange image.now.numbers step }
+    requires can { CanStep image.now.kinds step }
     ensures ok { let bytes = step_bytes image.now.numbers step in
         OnOk result (Appends (K.written sink.old) (K.written sink.new) bytes) }
     ensures err { let bytes = step_bytes image.now.numbers step in
@@ -106,7 +106,7 @@ fn write_step<K: Sink>(image: &Image, step: Step, sink: &mut K) -> Result<(), Wr
     ensures promise { K.promise sink.new ≡ K.promise sink.old }
 {
     match step {
-        Step::Number { cell, kind, .. } => append(sink, kind.put(image.get(cell)).as_slice()),
+        Step::Number { cell, .. } => append(sink, image.code(cell)),
         Step::Constant { kind, value } => append(sink, kind.put(value).as_slice()),
         Step::Filler { bytes } => write_zeros(bytes, sink),
         Step::Rule { .. } => Ok(()),

@@ -1,9 +1,10 @@
 // Which images may be written.
-ghost use Rattle.std.specs.Prelude.{◌≡◌, ◌<◌, length};
+ghost use Rattle.std.specs.Prelude.{◌≡◌, ◌<◌, length, map};
 ghost use Rattle.std.specs.Bool.{OnTrue, OnFalse};
 ghost use Rattle.vms_spec.specs.Layout.{device_cells};
 ghost use Rattle.vms_spec.specs.Streams.{IsReady, AreReady};
 ghost use Rattle.vms_desc.specs.Described.{described, device_at};
+ghost use Rattle.vms_image.specs.Typed.{state_of, IsImageOf, AreImagesOf};
 ghost use Rattle.vms_write.specs.Judged.{IsOfDevice};
 ghost use Rattle.vms_write.specs.Judged.{own_fine, all_subs_fine, sub_fine_at, is_bare_at, is_sent_fine_at};
 
@@ -22,17 +23,20 @@ pub fn ready(set: &DescSet, device: u32, image: &Image) -> bool
     requires cells { let d = device_at (described set.now) device in
         length image.now.numbers ≡ length (device_cells (described set.now) d) }
     ensures ready { let d = device_at (described set.now) device in
-        OnTrue result (IsReady (described set.now) d image.now) }
+        OnTrue result (IsReady (described set.now) d (state_of image.now)) }
     ensures other { let d = device_at (described set.now) device in
-        OnFalse result (IsReady (described set.now) d image.now → ⊥) }
+        OnFalse result (IsReady (described set.now) d (state_of image.now) → ⊥) }
 {
     is_own_fine(set, device, image) && are_subs_fine(set, device, image)
 }
 
-/// Tells whether these are one image for each device of the set, in its order, each of which may be written.
+/// Tells whether these are one image for each device of the set, in its order, with its cells and their kinds,
+/// each of which may be written.
 pub fn are_ready(set: &DescSet, images: &[Image]) -> bool
-    ensures ready { OnTrue result (AreReady (described set.now) images.now) }
-    ensures other { OnFalse result (AreReady (described set.now) images.now → ⊥) }
+    ensures ready { OnTrue result (AreReady (described set.now) (map state_of images.now)) }
+    ensures of { OnTrue result (AreImagesOf (described set.now) images.now) }
+    ensures other { OnFalse result (AreImagesOf (described set.now) images.now
+        → AreReady (described set.now) (map state_of images.now) → ⊥) }
 {
     if images.len() != set.parts().devices.as_slice().len() {
         return false;
@@ -49,18 +53,20 @@ pub fn are_ready(set: &DescSet, images: &[Image]) -> bool
 fn may_be_written(set: &DescSet, device: u32, image: &Image) -> bool
     requires { device < length (described set.now).devices }
     ensures ready { let d = device_at (described set.now) device in
-        OnTrue result (IsReady (described set.now) d image.now) }
+        OnTrue result (IsReady (described set.now) d (state_of image.now)) }
+    ensures of { OnTrue result (IsImageOf (described set.now) device image.now) }
     ensures other { let d = device_at (described set.now) device in
-        OnFalse result (IsReady (described set.now) d image.now → ⊥) }
+        OnFalse result (IsImageOf (described set.now) device image.now
+        → IsReady (described set.now) d (state_of image.now) → ⊥) }
 {
     image.is_of(set, device) && ready(set, device, image)
 }
 
 // The device's own fields.
 fn is_own_fine(set: &DescSet, device: u32, image: &Image) -> bool
-    requires device { IsOfDevice (described set.now) device image.now }
+    requires device { IsOfDevice (described set.now) device (state_of image.now) }
     ensures { let d = device_at (described set.now) device in
-        result ≡ own_fine (described set.now) d image.now }
+        result ≡ own_fine (described set.now) d (state_of image.now) }
 {
     let version = image.version();
     let own = Spot {
@@ -74,9 +80,9 @@ fn is_own_fine(set: &DescSet, device: u32, image: &Image) -> bool
 
 // The subsections, those that came and the others.
 fn are_subs_fine(set: &DescSet, device: u32, image: &Image) -> bool
-    requires device { IsOfDevice (described set.now) device image.now }
+    requires device { IsOfDevice (described set.now) device (state_of image.now) }
     ensures { let d = device_at (described set.now) device in
-        result ≡ all_subs_fine (described set.now) d image.now }
+        result ≡ all_subs_fine (described set.now) d (state_of image.now) }
 {
     for sub in 0..set.sub_count(device) {
         if !is_sub_fine(set, device, image, sub) {
@@ -87,9 +93,9 @@ fn are_subs_fine(set: &DescSet, device: u32, image: &Image) -> bool
 }
 
 fn is_sub_fine(set: &DescSet, device: u32, image: &Image, sub: u32) -> bool
-    requires device { IsOfDevice (described set.now) device image.now }
+    requires device { IsOfDevice (described set.now) device (state_of image.now) }
     requires is_sub { sub < length (device_at (described set.now) device).subs }
-    ensures { result ≡ sub_fine_at (described set.now) device image.now sub }
+    ensures { result ≡ sub_fine_at (described set.now) device (state_of image.now) sub }
 {
     let needed = set.is_needed(device, sub, image);
     match image.came(sub) {
@@ -100,9 +106,9 @@ fn is_sub_fine(set: &DescSet, device: u32, image: &Image, sub: u32) -> bool
 
 // A subsection that didn't come: all its cells are at their defaults.
 fn is_bare(set: &DescSet, device: u32, image: &Image, sub: u32) -> bool
-    requires device { IsOfDevice (described set.now) device image.now }
+    requires device { IsOfDevice (described set.now) device (state_of image.now) }
     requires is_sub { sub < length (device_at (described set.now) device).subs }
-    ensures { result ≡ is_bare_at (described set.now) device image.now sub }
+    ensures { result ≡ is_bare_at (described set.now) device (state_of image.now) sub }
 {
     let part = Part::Sub(device, sub);
     let first = set.first_cell(part);
@@ -112,9 +118,9 @@ fn is_bare(set: &DescSet, device: u32, image: &Image, sub: u32) -> bool
 
 // One that came.
 fn is_sent_fine(set: &DescSet, device: u32, image: &Image, sub: u32, version: u32) -> bool
-    requires device { IsOfDevice (described set.now) device image.now }
+    requires device { IsOfDevice (described set.now) device (state_of image.now) }
     requires is_sub { sub < length (device_at (described set.now) device).subs }
-    ensures { result ≡ is_sent_fine_at (described set.now) device image.now sub version }
+    ensures { result ≡ is_sent_fine_at (described set.now) device (state_of image.now) sub version }
 {
     let part = Part::Sub(device, sub);
     let spot = Spot {

@@ -5,6 +5,8 @@ ghost use Rattle.vms_io.specs.Causes.{HasCause, AppendsPrefix};
 ghost use Rattle.vms_spec.specs.Images.{own_cells};
 ghost use Rattle.vms_spec.specs.Streams.{IsReady, written_section, written_subs};
 ghost use Rattle.vms_desc.specs.Described.{described, device_at};
+ghost use Rattle.vms_desc.specs.Spots.{kinds_at};
+ghost use Rattle.vms_image.specs.Typed.{state_of};
 ghost use Rattle.vms_write.specs.Writing.{written_sub};
 
 use crate::WriteFault;
@@ -26,12 +28,14 @@ pub fn write_section<K: Sink>(
     sink: &mut K,
 ) -> Result<(), WriteFault>
     requires is_device { device < length (described set.now).devices }
-    requires ready { IsReady (described set.now) (device_at (described set.now) device) image.now }
+    requires kinds { image.now.kinds ≡ kinds_at (described set.now) device }
+    requires ready { let d = device_at (described set.now) device in
+        IsReady (described set.now) d (state_of image.now) }
     ensures ok { let d = device_at (described set.now) device in
-        let bytes = written_section (described set.now) d image.now device in
+        let bytes = written_section (described set.now) d (state_of image.now) device in
         OnOk result (Appends (K.written sink.old) (K.written sink.new) bytes) }
     ensures err { let d = device_at (described set.now) device in
-        let bytes = written_section (described set.now) d image.now device in
+        let bytes = written_section (described set.now) d (state_of image.now) device in
         OnErr result (AppendsPrefix (K.written sink.old) (K.written sink.new) bytes) }
     ensures cause { HasCause (K.faults sink.old) (K.faults sink.new) result }
     ensures promise { K.promise sink.new ≡ K.promise sink.old }
@@ -62,14 +66,18 @@ fn write_subs<K: Sink>(
     sink: &mut K,
 ) -> Result<(), WriteFault>
     requires is_device { device < length (described set.now).devices }
-    requires ready { IsReady (described set.now) (device_at (described set.now) device) image.now }
+    requires kinds { image.now.kinds ≡ kinds_at (described set.now) device }
+    requires ready { let d = device_at (described set.now) device in
+        IsReady (described set.now) d (state_of image.now) }
     ensures ok { let d = device_at (described set.now) device in
         let first = own_cells (described set.now) d in
-        let bytes = written_subs (described set.now) d image.now first d.subs image.now.came in
+        let image = state_of image.now in
+        let bytes = written_subs (described set.now) d image first d.subs image.came in
         OnOk result (Appends (K.written sink.old) (K.written sink.new) bytes) }
     ensures err { let d = device_at (described set.now) device in
         let first = own_cells (described set.now) d in
-        let bytes = written_subs (described set.now) d image.now first d.subs image.now.came in
+        let image = state_of image.now in
+        let bytes = written_subs (described set.now) d image first d.subs image.came in
         OnErr result (AppendsPrefix (K.written sink.old) (K.written sink.new) bytes) }
     ensures cause { HasCause (K.faults sink.old) (K.faults sink.new) result }
     ensures promise { K.promise sink.new ≡ K.promise sink.old }
@@ -90,12 +98,14 @@ fn write_sub<K: Sink>(
 ) -> Result<(), WriteFault>
     requires is_device { device < length (described set.now).devices }
     requires is_sub { sub < length (device_at (described set.now) device).subs }
-    requires ready { IsReady (described set.now) (device_at (described set.now) device) image.now }
+    requires kinds { image.now.kinds ≡ kinds_at (described set.now) device }
+    requires ready { let d = device_at (described set.now) device in
+        IsReady (described set.now) d (state_of image.now) }
     ensures ok { let came = get_or image.now.came sub None in
-        let bytes = written_sub (described set.now) device image.now sub came in
+        let bytes = written_sub (described set.now) device (state_of image.now) sub came in
         OnOk result (Appends (K.written sink.old) (K.written sink.new) bytes) }
     ensures err { let came = get_or image.now.came sub None in
-        let bytes = written_sub (described set.now) device image.now sub came in
+        let bytes = written_sub (described set.now) device (state_of image.now) sub came in
         OnErr result (AppendsPrefix (K.written sink.old) (K.written sink.new) bytes) }
     ensures cause { HasCause (K.faults sink.old) (K.faults sink.new) result }
     ensures promise { K.promise sink.new ≡ K.promise sink.old }

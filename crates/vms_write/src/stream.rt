@@ -6,6 +6,7 @@ ghost use Rattle.vms_io.specs.Causes.{HasCause, AppendsPrefix};
 ghost use Rattle.vms_spec.specs.Lists.{at_option};
 ghost use Rattle.vms_spec.specs.Streams.{written, written_sections, longest_text, stream_head, optional, configuration, trailer, end_mark, AreReady};
 ghost use Rattle.vms_desc.specs.Described.{described};
+ghost use Rattle.vms_image.specs.Typed.{state_of, AreImagesOf};
 
 use crate::WriteFault;
 use crate::heads::{STREAM_HEAD, configuration, marked};
@@ -27,13 +28,16 @@ pub fn write_stream<K: Sink>(
     sink: &mut K,
 ) -> Result<(), WriteFault>
     requires machine { IfSome machine (λ m. m < length (described set.now).machines) }
-    requires ready { AreReady (described set.now) images.now }
+    requires of { AreImagesOf (described set.now) images.now }
+    requires ready { AreReady (described set.now) (map state_of images.now) }
     requires text { IfSome text (λ t. length t.now ≤ longest_text) }
     ensures ok { let named = at_option (described set.now).machines machine in
-        let bytes = written (described set.now) named images.now (option_copied text.entry) in
+        let images = map state_of images.now in
+        let bytes = written (described set.now) named images (option_copied text.entry) in
         OnOk result (Appends (K.written sink.old) (K.written sink.new) bytes) }
     ensures err { let named = at_option (described set.now).machines machine in
-        let bytes = written (described set.now) named images.now (option_copied text.entry) in
+        let images = map state_of images.now in
+        let bytes = written (described set.now) named images (option_copied text.entry) in
         OnErr result (AppendsPrefix (K.written sink.old) (K.written sink.new) bytes) }
     ensures cause { HasCause (K.faults sink.old) (K.faults sink.new) result }
     ensures promise { K.promise sink.new ≡ K.promise sink.old }
@@ -71,12 +75,13 @@ fn write_configuration<K: Sink>(
 }
 
 fn write_sections<K: Sink>(set: &DescSet, images: &[Image], sink: &mut K) -> Result<(), WriteFault>
-    requires ready { AreReady (described set.now) images.now }
+    requires of { AreImagesOf (described set.now) images.now }
+    requires ready { AreReady (described set.now) (map state_of images.now) }
     ensures ok { let all = (described set.now).devices in
-        let bytes = written_sections (described set.now) 0 all images.now in
+        let bytes = written_sections (described set.now) 0 all (map state_of images.now) in
         OnOk result (Appends (K.written sink.old) (K.written sink.new) bytes) }
     ensures err { let all = (described set.now).devices in
-        let bytes = written_sections (described set.now) 0 all images.now in
+        let bytes = written_sections (described set.now) 0 all (map state_of images.now) in
         OnErr result (AppendsPrefix (K.written sink.old) (K.written sink.new) bytes) }
     ensures cause { HasCause (K.faults sink.old) (K.faults sink.new) result }
     ensures promise { K.promise sink.new ≡ K.promise sink.old }

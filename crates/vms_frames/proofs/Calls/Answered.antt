@@ -30,7 +30,7 @@ module _ {X : Type 0} (unit : X → Piece) (long : X → ℕ) where
   answered f at rest left (Err (Refused place reason)) a = (a.0, fails f rest left reason a.1)
   answered f at rest left (Err ReadFault) a = tt
 
-  answers : (f : Found X) (s : Seen) → as_seen unit long f ≡ s → (at : ℕ) (rest : List ℕ) (left : Option (List ℕ)) (r : Result X FrameFault) → Answers long f at rest left r → AnswersSeen unit long s at rest left r
+  pub answers : (f : Found X) (s : Seen) → as_seen unit long f ≡ s → (at : ℕ) (rest : List ℕ) (left : Option (List ℕ)) (r : Result X FrameFault) → Answers long f at rest left r → AnswersSeen unit long s at rest left r
   answers f s e at rest left r a = subst (λ (s : Seen). AnswersSeen unit long s at rest left r) e (answered f at rest left r a)
 
 pub between_answers : (place : Between) (held : Option ℕ) (at : ℕ) (old left : Option (List ℕ)) (r : Result Step FrameFault) → IfSome old (λ rest. Answers step_long (between_found place (ahead held rest)) at (ahead held rest) left r)

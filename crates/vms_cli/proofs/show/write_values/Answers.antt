@@ -1,11 +1,12 @@
-use Rattle.std.proofs.Common.{sym, subst}
+use Rattle.std.proofs.Common.{map, sym, subst}
 use Rattle.vms_spec.specs.Sets.{Set}
 use Rattle.vms_load.specs.Kept.{loads}
+use Rattle.vms_image.specs.Typed.{state_of}
 use Rattle.vms_values.specs.Printing.{AreOf}
 use Rattle.vms_cli.proofs.ShowLemmas.{are_of}
 use Rattle.vms_cli.proofs.show.write_values.Goals as goal
 
 pub print_values-requires-clause-one_each : goal.print_values-requires-clause-one_each
 print_values-requires-clause-one_each g c =
-    subst (λ (s : Set). AreOf s s.devices c.images.result.now) (sym c.set.ensures)
+    subst (λ (s : Set). AreOf s s.devices (map state_of c.images.result.now)) (sym c.set.ensures)
     (are_of (loads c.args.loader.now) c.args.loader.now.set.well_formed c.images.result.now c.images.ensures.shape)

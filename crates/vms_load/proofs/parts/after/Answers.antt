@@ -1,7 +1,6 @@
-use Rattle.std.proofs.Common.{ℕ, ◌+◌, Some, None, Ok, Err, length, slice_set, sym, ap, ◌∙◌, arith}
+use Rattle.std.proofs.Common.{ℕ, ◌+◌, Option, Some, None, Ok, Err, length, slice_set, sym, subst, ap, ◌∙◌, arith}
 use Rattle.std.proofs.lemmas.Result.{err_from_is_err_and}
 use Rattle.vms_spec.specs.Sets.{Device, AtLeast}
-use Rattle.vms_spec.specs.Images.{Image}
 use Rattle.vms_spec.specs.Layout.{no_desc}
 use Rattle.vms_spec.specs.Lists.{at}
 use Rattle.vms_desc.specs.Described.{described}
@@ -12,9 +11,15 @@ use Rattle.vms_frames.specs.Calls.{held_long}
 use Rattle.vms_frames.specs.declared.units.Tail.TheVariants as tails
 use Rattle.vms_spec.specs.Units.{SubHead, Foot}
 use Rattle.vms_load.specs.Heads.{opened_at, sub_opened}
-use Rattle.vms_load.specs.Parts.{subs_due, after_part, state_in, spot_in}
+use Rattle.vms_load.specs.Hearing.{HearsOn}
+use Rattle.vms_load.specs.Parts.{subs_due, after_fields, after_part, state_in, spot_in}
+use Rattle.vms_frames.specs.declared.units.After.{After}
+use Rattle.vms_frames.proofs.HeardLemmas.{heard_as}
+use Rattle.vms_load.specs.declared.parts.Open.{Open}
+use Rattle.vms_load.proofs.HearingLemmas.{hears_judged, on_concerning}
 use Rattle.vms_load.proofs.AfterReads.{after_fault, after_settled, after_next, foot_settled, sub_settled, sub_refused, sub_new, subs_taken}
 use Rattle.vms_load.proofs.SetFacts.{few_subs}
+use Rattle.vms_image.specs.Typed.{Typed, state_of as untyped}
 use Rattle.vms_load.proofs.parts.after.Goals as goal
 
 pub open_sub-requires-clause-few : goal.open_sub-requires-clause-few
@@ -29,15 +34,15 @@ returns-in-Ok-Done-clause-reads g c = λ names state part room.
     let content = rw c.in-Ok-Done.field-0-is at c.in-Ok-Done.ensures.content in
     let place = rw c.in-Ok-Done.field-0-is at c.in-Ok-Done.ensures.place in
     let held = rw c.in-Ok-Done.field-0-is at c.in-Ok-Done.ensures.held in
-    after_settled set names state section part c.args.image.now c.requires.device room c.args.cursor.now c.after_fields.new.self
-    (g.S.Source.left c.args.source.now) (g.S.Source.left c.after_fields.new.source) (Foot section.id) 5 (record section { tail = tails.Footed }) c.args.image.now (Ok None)
-    c.requires.held held content place (foot_settled set names state section part c.args.image.now c.requires.device room c.args.cursor.now.at)
+    after_settled set names state section part (untyped c.args.image.now) c.requires.device room c.args.cursor.now c.after_fields.new.self
+    (g.S.Source.left c.args.source.now) (g.S.Source.left c.after_fields.new.source) (Foot section.id) 5 (record section { tail = tails.Footed }) (untyped c.args.image.now) (Ok None)
+    c.requires.held held content place (foot_settled set names state section part (untyped c.args.image.now) c.requires.device room c.args.cursor.now.at)
 
 pub returns-in-Ok-Next-clause-reads : goal.returns-in-Ok-Next-clause-reads
 returns-in-Ok-Next-clause-reads g c = λ names state part room.
     let content = rw c.in-Ok-Next.field-0-is at c.in-Ok-Next.ensures.content in
     let place = rw c.in-Ok-Next.field-0-is at c.in-Ok-Next.ensures.place in
-    after_next (described c.args.set.now) names state c.args.section.now part c.args.image.now c.requires.device room c.args.cursor.now c.after_fields.new.self
+    after_next (described c.args.set.now) names state c.args.section.now part (untyped c.args.image.now) c.requires.device room c.args.cursor.now c.after_fields.new.self
     (g.S.Source.left c.args.source.now) (g.S.Source.left c.after_fields.new.source) c.requires.held (omega (arith, place)) content
 
 pub returns-in_err-sub-in-Ok-Sub-clause-reads : goal.returns-in_err-sub-in-Ok-Sub-clause-reads
@@ -52,19 +57,19 @@ returns-in_err-sub-in-Ok-Sub-clause-reads g c = λ names state part room.
     ∙ ap (λ (n : ℕ). opened_at n (sub_opened c.args.section.now.device (device_of c.device.result.now) c.args.image.now.came name c.in-Ok-Sub.version)) c.at-at.ensures
     ∙ ap (λ (d : Device). opened_at c.args.cursor.now.at (sub_opened c.args.section.now.device d c.args.image.now.came name c.in-Ok-Sub.version)) c.device.ensures in
     rw (p.1, p.2)
-    (after_settled set names state c.args.section.now part c.args.image.now c.requires.device room c.args.cursor.now c.after_fields.new.self
-    (g.S.Source.left c.args.source.now) (g.S.Source.left c.after_fields.new.source) (SubHead name c.in-Ok-Sub.version) (6 + length name) c.args.section.now c.args.image.now (Err c.in_err-sub-in-Ok-Sub.field-0.0)
+    (after_settled set names state c.args.section.now part (untyped c.args.image.now) c.requires.device room c.args.cursor.now c.after_fields.new.self
+    (g.S.Source.left c.args.source.now) (g.S.Source.left c.after_fields.new.source) (SubHead name c.in-Ok-Sub.version) (6 + length name) c.args.section.now (untyped c.args.image.now) (Err c.in_err-sub-in-Ok-Sub.field-0.0)
     c.requires.held held content place
-    (sub_refused set names state c.args.section.now part c.args.image.now c.requires.device room c.args.cursor.now.at name c.in-Ok-Sub.version c.requires.shaped.came c.in_err-sub-in-Ok-Sub.field-0.0
-    (λ next. state_in state c.args.section.now c.args.image.now (spot_in c.args.section.now next)) is))
+    (sub_refused set names state c.args.section.now part (untyped c.args.image.now) c.requires.device room c.args.cursor.now.at name c.in-Ok-Sub.version c.requires.shaped.subs c.in_err-sub-in-Ok-Sub.field-0.0
+    (λ next. state_in state c.args.section.now (untyped c.args.image.now) (spot_in c.args.section.now next)) is))
 
 pub mark-requires : goal.mark-requires
 mark-requires g c =
     let set = described c.args.set.now in
     let is = sym (c.in_ok-sub-in-Ok-Sub.was) ∙ c.open_sub.ensures.opened
     ∙ ap (λ (d : Device). opened_at c.at-at.result (sub_opened c.args.section.now.device d c.args.image.now.came c.in-Ok-Sub.name.items c.in-Ok-Sub.version)) c.device.ensures in
-    let new = sub_new c.args.section.now.device (device_at set c.args.section.now.device) c.args.image.now.came c.in-Ok-Sub.name.items c.in-Ok-Sub.version c.in_ok-sub-in-Ok-Sub.sub c.at-at.result c.requires.shaped.came is in
-    omega (arith, new.0, c.requires.shaped.came)
+    let new = sub_new c.args.section.now.device (device_at set c.args.section.now.device) c.args.image.now.came c.in-Ok-Sub.name.items c.in-Ok-Sub.version c.in_ok-sub-in-Ok-Sub.sub c.at-at.result c.requires.shaped.subs is in
+    omega (arith, new.0, c.requires.shaped.subs)
 
 pub returns-in_ok-sub-in-Ok-Sub-clause-reads : goal.returns-in_ok-sub-in-Ok-Sub-clause-reads
 returns-in_ok-sub-in-Ok-Sub-clause-reads g c = λ names state part room.
@@ -79,10 +84,10 @@ returns-in_ok-sub-in-Ok-Sub-clause-reads g c = λ names state part room.
     ∙ ap (λ (n : ℕ). opened_at n (sub_opened c.args.section.now.device (device_of c.device.result.now) c.args.image.now.came name v)) c.at-at.ensures
     ∙ ap (λ (d : Device). opened_at c.args.cursor.now.at (sub_opened c.args.section.now.device d c.args.image.now.came name v)) c.device.ensures in
     rw c.mark.ensures
-    (after_settled set names state c.args.section.now part c.args.image.now c.requires.device room c.args.cursor.now c.after_fields.new.self
+    (after_settled set names state c.args.section.now part (untyped c.args.image.now) c.requires.device room c.args.cursor.now c.after_fields.new.self
     (g.S.Source.left c.args.source.now) (g.S.Source.left c.after_fields.new.source) (SubHead name v) (6 + length name) c.args.section.now
-    (record c.args.image.now { came = slice_set c.args.image.now.came j (Some v) }) (Ok (Some (record { sub = Some j; version = v }))) c.requires.held held content place
-    (sub_settled set names state c.args.section.now part c.args.image.now c.requires.device room c.args.cursor.now.at name v c.requires.shaped.came j is))
+    (record (untyped c.args.image.now) { came = slice_set c.args.image.now.came j (Some v) }) (Ok (Some (record { sub = Some j; version = v }))) c.requires.held held content place
+    (sub_settled set names state c.args.section.now part (untyped c.args.image.now) c.requires.device room c.args.cursor.now.at name v c.requires.shaped.subs j is))
 
 pub returns-in_ok-sub-in-Ok-Sub-clause-open : goal.returns-in_ok-sub-in-Ok-Sub-clause-open
 returns-in_ok-sub-in-Ok-Sub-clause-open g c =
@@ -90,8 +95,8 @@ returns-in_ok-sub-in-Ok-Sub-clause-open g c =
     let j = c.in_ok-sub-in-Ok-Sub.sub in
     let is = sym (c.in_ok-sub-in-Ok-Sub.was) ∙ c.open_sub.ensures.opened
     ∙ ap (λ (d : Device). opened_at c.at-at.result (sub_opened c.args.section.now.device d c.args.image.now.came c.in-Ok-Sub.name.items c.in-Ok-Sub.version)) c.device.ensures in
-    let new = sub_new c.args.section.now.device (device_at set c.args.section.now.device) c.args.image.now.came c.in-Ok-Sub.name.items c.in-Ok-Sub.version j c.at-at.result c.requires.shaped.came is in
-    (new.0, ap (λ (image : Image). at image.came j) c.mark.ensures ∙ at_set c.args.image.now.came j (Some c.in-Ok-Sub.version) (omega (arith, new.0, c.requires.shaped.came)))
+    let new = sub_new c.args.section.now.device (device_at set c.args.section.now.device) c.args.image.now.came c.in-Ok-Sub.name.items c.in-Ok-Sub.version j c.at-at.result c.requires.shaped.subs is in
+    (new.0, ap (λ (image : Typed). at image.came j) c.mark.ensures ∙ at_set c.args.image.now.came j (Some c.in-Ok-Sub.version) (omega (arith, new.0, c.requires.shaped.subs)))
 
 pub returns-in_ok-sub-in-Ok-Sub-clause-given : goal.returns-in_ok-sub-in-Ok-Sub-clause-given
 returns-in_ok-sub-in-Ok-Sub-clause-given g c =
@@ -103,9 +108,9 @@ returns-in_ok-sub-in-Ok-Sub-clause-given g c =
     let given = rw c.in-Ok-Sub.field-0-is at c.in-Ok-Sub.ensures.given in
     let is = sym (c.in_ok-sub-in-Ok-Sub.was) ∙ c.open_sub.ensures.opened
     ∙ ap (λ (d : Device). opened_at c.at-at.result (sub_opened c.args.section.now.device d c.args.image.now.came c.in-Ok-Sub.name.items v)) c.device.ensures in
-    let new = sub_new c.args.section.now.device d c.args.image.now.came c.in-Ok-Sub.name.items v j c.at-at.result c.requires.shaped.came is in
-    let due = subs_taken set d.subs c.args.image.now.came j v (record { desc = no_desc; needed = AtLeast 0 }) c.requires.shaped.came new.1 in
-    let same = ap (λ (image : Image). subs_due set d.subs image.came) c.mark.ensures in
+    let new = sub_new c.args.section.now.device d c.args.image.now.came c.in-Ok-Sub.name.items v j c.at-at.result c.requires.shaped.subs is in
+    let due = subs_taken set d.subs c.args.image.now.came j v (record { desc = no_desc; needed = AtLeast 0 }) c.requires.shaped.subs new.1 in
+    let same = ap (λ (image : Typed). subs_due set d.subs image.came) c.mark.ensures in
     let held = rw c.in-Ok-Sub.field-0-is at c.in-Ok-Sub.ensures.held in
     let before = ap held_long c.requires.held in
     let now = ap held_long held in
@@ -114,6 +119,79 @@ returns-in_ok-sub-in-Ok-Sub-clause-given g c =
 pub returns-in-Err-clause-reads : goal.returns-in-Err-clause-reads
 returns-in-Err-clause-reads g c = λ names state part room.
     rw c.concerning.ensures
-    (after_fault (described c.args.set.now) names state c.args.section.now part c.args.image.now c.requires.device room c.args.cursor.now c.after_fields.new.self
+    (after_fault (described c.args.set.now) names state c.args.section.now part (untyped c.args.image.now) c.requires.device room c.args.cursor.now c.after_fields.new.self
     (g.S.Source.left c.args.source.now) (g.S.Source.left c.after_fields.new.source)
-    (after_part (described c.args.set.now) names state c.args.section.now c.args.image.now) c.in-Err.fault c.requires.held c.in-Err.ensures.content)
+    (after_part (described c.args.set.now) names state c.args.section.now (untyped c.args.image.now)) c.in-Err.fault c.requires.held c.in-Err.ensures.content)
+
+-- ---- what is heard
+
+pub returns-in-Ok-Done-clause-heard : goal.returns-in-Ok-Done-clause-heard
+returns-in-Ok-Done-clause-heard g c = λ names state part room.
+    let set = described c.args.set.now in
+    let section = c.args.section.now in
+    let heard = rw c.in-Ok-Done.field-0-is at c.in-Ok-Done.ensures.heard in
+    let place = rw c.in-Ok-Done.field-0-is at c.in-Ok-Done.ensures.place in
+    let held = rw c.in-Ok-Done.field-0-is at c.in-Ok-Done.ensures.held in
+    heard_as (λ more. Unit {0}) (g.S.Source.given c.args.source.now) (g.S.Source.given c.after_fields.new.source)
+    (λ old left h. after_settled set names state section part (untyped c.args.image.now) c.requires.device room c.args.cursor.now c.after_fields.new.self
+    old left (Foot section.id) 5 (record section { tail = tails.Footed }) (untyped c.args.image.now) (Ok None)
+    c.requires.held held h place (foot_settled set names state section part (untyped c.args.image.now) c.requires.device room c.args.cursor.now.at)) heard
+
+pub returns-in-Ok-Next-clause-heard : goal.returns-in-Ok-Next-clause-heard
+returns-in-Ok-Next-clause-heard g c = λ names state part room.
+    let heard = rw c.in-Ok-Next.field-0-is at c.in-Ok-Next.ensures.heard in
+    let place = rw c.in-Ok-Next.field-0-is at c.in-Ok-Next.ensures.place in
+    heard_as (λ more. Unit {0}) (g.S.Source.given c.args.source.now) (g.S.Source.given c.after_fields.new.source)
+    (λ old left h. after_next (described c.args.set.now) names state c.args.section.now part (untyped c.args.image.now) c.requires.device room c.args.cursor.now c.after_fields.new.self
+    old left c.requires.held (omega (arith, place)) h) heard
+
+pub returns-in_err-sub-in-Ok-Sub-clause-heard : goal.returns-in_err-sub-in-Ok-Sub-clause-heard
+returns-in_err-sub-in-Ok-Sub-clause-heard g c = λ names state part room.
+    let set = described c.args.set.now in
+    let name = c.in-Ok-Sub.name.items in
+    let heard = rw c.in-Ok-Sub.field-0-is at c.in-Ok-Sub.ensures.heard in
+    let place = rw c.in-Ok-Sub.field-0-is at c.in-Ok-Sub.ensures.place in
+    let held = rw c.in-Ok-Sub.field-0-is at c.in-Ok-Sub.ensures.held in
+    let e = c.in_err-sub-in-Ok-Sub.field-0.0 in
+    let p = err_from_is_err_and c.from_residual.result c.from_residual.ensures.1 in
+    let is = sym (c.in_err-sub-in-Ok-Sub.was) ∙ c.open_sub.ensures.opened
+    ∙ ap (λ (n : ℕ). opened_at n (sub_opened c.args.section.now.device (device_of c.device.result.now) c.args.image.now.came name c.in-Ok-Sub.version)) c.at-at.ensures
+    ∙ ap (λ (d : Device). opened_at c.args.cursor.now.at (sub_opened c.args.section.now.device d c.args.image.now.came name c.in-Ok-Sub.version)) c.device.ensures in
+    rw (p.1, p.2)
+    (hears_judged {X = Option Open} (g.S.Source.given c.args.source.now) (g.S.Source.given c.after_fields.new.source) (Err e)
+    (λ old left h. after_settled set names state c.args.section.now part (untyped c.args.image.now) c.requires.device room c.args.cursor.now c.after_fields.new.self
+    old left (SubHead name c.in-Ok-Sub.version) (6 + length name) c.args.section.now (untyped c.args.image.now) (Err e)
+    c.requires.held held h place
+    (sub_refused set names state c.args.section.now part (untyped c.args.image.now) c.requires.device room c.args.cursor.now.at name c.in-Ok-Sub.version c.requires.shaped.subs e
+    (λ next. state_in state c.args.section.now (untyped c.args.image.now) (spot_in c.args.section.now next)) is)) heard)
+
+pub returns-in_ok-sub-in-Ok-Sub-clause-heard : goal.returns-in_ok-sub-in-Ok-Sub-clause-heard
+returns-in_ok-sub-in-Ok-Sub-clause-heard g c = λ names state part room.
+    let set = described c.args.set.now in
+    let name = c.in-Ok-Sub.name.items in
+    let j = c.in_ok-sub-in-Ok-Sub.sub in
+    let v = c.in-Ok-Sub.version in
+    let heard = rw c.in-Ok-Sub.field-0-is at c.in-Ok-Sub.ensures.heard in
+    let place = rw c.in-Ok-Sub.field-0-is at c.in-Ok-Sub.ensures.place in
+    let held = rw c.in-Ok-Sub.field-0-is at c.in-Ok-Sub.ensures.held in
+    let is = sym (c.in_ok-sub-in-Ok-Sub.was) ∙ c.open_sub.ensures.opened
+    ∙ ap (λ (n : ℕ). opened_at n (sub_opened c.args.section.now.device (device_of c.device.result.now) c.args.image.now.came name v)) c.at-at.ensures
+    ∙ ap (λ (d : Device). opened_at c.args.cursor.now.at (sub_opened c.args.section.now.device d c.args.image.now.came name v)) c.device.ensures in
+    let from = c.args.cursor.now in
+    let to = c.after_fields.new.self in
+    let begun : Open = record { sub = Some j; version = v } in
+    let P : Typed → Type 0 = λ image. HearsOn (after_fields set names state c.args.section.now part (untyped c.args.image.now)) (after_part set names state c.args.section.now (untyped image)) from to
+    (g.S.Source.given c.args.source.now) (g.S.Source.given c.after_fields.new.source) (Ok (Some begun)) in
+    subst P (sym c.mark.ensures)
+    (heard_as (λ more. Unit {0}) (g.S.Source.given c.args.source.now) (g.S.Source.given c.after_fields.new.source)
+    (λ old left h. after_settled set names state c.args.section.now part (untyped c.args.image.now) c.requires.device room c.args.cursor.now c.after_fields.new.self
+    old left (SubHead name v) (6 + length name) c.args.section.now
+    (record (untyped c.args.image.now) { came = slice_set c.args.image.now.came j (Some v) }) (Ok (Some (record { sub = Some j; version = v }))) c.requires.held held h place
+    (sub_settled set names state c.args.section.now part (untyped c.args.image.now) c.requires.device room c.args.cursor.now.at name v c.requires.shaped.subs j is)) heard)
+
+pub returns-in-Err-clause-heard : goal.returns-in-Err-clause-heard
+returns-in-Err-clause-heard g c = λ names state part room.
+    on_concerning After (Option Open) (Some c.args.section.now.device) (g.S.Source.given c.args.source.now) (g.S.Source.given c.after_fields.new.source) c.in-Err.fault c.concerning.result
+    (after_fields (described c.args.set.now) names state c.args.section.now part (untyped c.args.image.now)) (after_part (described c.args.set.now) names state c.args.section.now (untyped c.args.image.now)) c.args.cursor.now c.after_fields.new.self c.concerning.ensures
+    (λ old left h. after_fault (described c.args.set.now) names state c.args.section.now part (untyped c.args.image.now) c.requires.device room c.args.cursor.now c.after_fields.new.self
+    old left (after_part (described c.args.set.now) names state c.args.section.now (untyped c.args.image.now)) c.in-Err.fault c.requires.held h) c.in-Err.ensures.heard

@@ -3,11 +3,17 @@ use Rattle.std.proofs.lemmas.List.{length-map}
 use Rattle.vms_spec.specs.Sets.{Set}
 use Rattle.vms_parts.specs.Views.{device_of}
 use Rattle.vms_desc.specs.Described.{described}
-use Rattle.vms_load.proofs.StagedLemmas.{made_all}
+use Rattle.vms_load.proofs.StagedLemmas.{made_all, made_shaped}
 use Rattle.vms_load.proofs.staged.defaults.Goals as goal
 
-pub returns : goal.returns
-returns c =
+pub returns-clause-states : goal.returns-clause-states
+returns-clause-states c =
     let set = described c.args.set.now in
     let n = ap length c.as_slice-devices.ensures ∙ sym (length-map c.parts.result.now.devices device_of) ∙ ap (λ (s : Set). length s.devices) c.parts.ensures in
     made_all set c.loop-device.images.items c.loop-device.device c.loop-device.invariant (omega (arith, n, c.loop-device-test.false, c.loop-device.auto.device-end))
+
+pub returns-clause-shaped : goal.returns-clause-shaped
+returns-clause-shaped c =
+    let set = described c.args.set.now in
+    let n = ap length c.as_slice-devices.ensures ∙ sym (length-map c.parts.result.now.devices device_of) ∙ ap (λ (s : Set). length s.devices) c.parts.ensures in
+    made_shaped set c.loop-device.images.items c.loop-device.device c.loop-device.invariant (omega (arith, n, c.loop-device-test.false, c.loop-device.auto.device-end))

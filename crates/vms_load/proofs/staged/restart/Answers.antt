@@ -1,10 +1,11 @@
-use Rattle.std.proofs.Common.{ap, ◌∙◌, sym, length}
+use Rattle.std.proofs.Common.{◌≡◌, map, ap, ◌∙◌, sym, length}
 use Rattle.std.specs.Vec.{with_items}
 use Rattle.std.proofs.lemmas.List.{length-map, with_items_is}
 use Rattle.vms_spec.specs.Sets.{Set}
 use Rattle.vms_spec.specs.Images.{default_image}
 use Rattle.vms_parts.specs.Views.{device_of}
 use Rattle.vms_desc.specs.Described.{described}
+use Rattle.vms_image.specs.Typed.{state_of as untyped}
 use Rattle.vms_load.proofs.StagedLemmas.{starts}
 use Rattle.vms_load.proofs.staged.restart.Goals as goal
 
@@ -13,5 +14,5 @@ returns-clause-state c =
     let set = described c.args.set.now in
     let images = c.args.staged.now.images in
     let n = ap length c.as_slice.ensures ∙ sym (length-map c.parts.result.now.devices device_of) ∙ ap (λ (s : Set). length s.devices) c.parts.ensures in
-    let long = ap length c.reset.ensures ∙ length-map set.devices (default_image set) ∙ sym c.requires.all ∙ sym images.ok.0 in
-    starts set (with_items images c.reset.new.images).items c.none_came-staged.result.items (length c.as_slice.result.now) (with_items_is images c.reset.new.images long ∙ c.reset.ensures) n c.none_came-staged.ensures
+    let long : length c.reset.new.images ≡ images.len = c.reset.ensures.shaped.all ∙ sym c.requires.all ∙ sym images.ok.0 in
+    starts set (map untyped (with_items images c.reset.new.images).items) c.none_came-staged.result.items (length c.as_slice.result.now) (ap (map untyped) (with_items_is images c.reset.new.images long) ∙ c.reset.ensures.states) n c.none_came-staged.ensures

@@ -1,4 +1,4 @@
-use Rattle.std.proofs.Common.{Option, Some, None, Err, ap, ◌∙◌, arith, refl}
+use Rattle.std.proofs.Common.{Option, Some, None, Err, ap, ◌∙◌, arith, refl, subst}
 use Rattle.std.proofs.lemmas.Result.{err_from_is_err_and}
 use Rattle.vms_units.specs.Judge.{judge}
 use Rattle.vms_units.specs.State.{by_state}
@@ -7,9 +7,11 @@ use Rattle.vms_desc.specs.Described.{described}
 use Rattle.vms_frames.specs.declared.units.Between.{Between}
 use Rattle.vms_frames.specs.declared.units.Between.TheVariants.{First}
 use Rattle.vms_frames.specs.Calls.{held_long}
+use Rattle.vms_load.specs.Hearing.{HearsSoFar}
 use Rattle.vms_load.specs.Reads.{reach}
 use Rattle.vms_load.specs.Staging.{accepted_of, state_of, spot_at, stream_due}
 use Rattle.vms_load.proofs.ReadLemmas.{leads_here, leads_on, reads_on, still_on}
+use Rattle.vms_load.proofs.HearingLemmas.{so_far_here, so_far_on, hears_on, hears_still}
 use Rattle.vms_load.proofs.Spending.{given_on}
 use Rattle.vms_load.proofs.stream.sections.Goals as goal
 
@@ -18,6 +20,7 @@ loop-place-init g c =
     let set = described c.args.set.now in
     record {
       reads = leads_here (g.S.Source.left c.args.source.now) (reading_on (judge (by_state set (accepted_of set c.args.only))) (state_of set c.args.staged.now (spot_at (Some First)))) c.args.cursor.now;
+      heard = so_far_here (g.S.Source.given c.args.source.now) (reading_on (judge (by_state set (accepted_of set c.args.only))) (state_of set c.args.staged.now (spot_at (Some First)))) c.args.cursor.now (g.met.S.Source.counted c.args.source.now);
       held = tt;
       whole = c.requires.whole;
       from = omega arith;
@@ -40,6 +43,9 @@ loop-place-preserved g c =
       reads = leads_on (g.S.Source.left c.args.source.now) (g.S.Source.left loop.source) (g.S.Source.left c.turn.new.source) (go (state_of set c.args.staged.now (spot_at (Some First))))
           (go (state_of set loop.staged (spot_at (Some c.in-Some.between)))) (go (state_of set c.turn.new.staged (spot_at c.in_ok-place.place))) from loop.cursor c.turn.new.cursor loop.invariant.from spent.0
           (rw c.in-Some.is at loop.invariant.reads) c.in_ok-place.ensures.reads;
+      heard = so_far_on (g.S.Source.given c.args.source.now) (g.S.Source.given loop.source) (g.S.Source.given c.turn.new.source) (go (state_of set c.args.staged.now (spot_at (Some First))))
+          (go (state_of set loop.staged (spot_at (Some c.in-Some.between)))) (go (state_of set c.turn.new.staged (spot_at c.in_ok-place.place))) from loop.cursor c.turn.new.cursor loop.invariant.from spent.0
+          (rw c.in-Some.is at loop.invariant.heard) c.in_ok-place.ensures.heard;
       held = c.in_ok-place.ensures.held;
       whole = c.in_ok-place.ensures.whole;
       from = omega (arith, loop.invariant.from, spent.0);
@@ -66,6 +72,22 @@ returns-in_err-place-clause-reads g c =
     (reads_on {X = Option Between} first (g.S.Source.left loop.source) left here (go (state_of set loop.staged (spot_at (Some c.in-Some.between)))) (λ next. go (state_of set c.turn.new.staged (spot_at next)))
     from loop.cursor c.turn.new.cursor (Err e) loop.invariant.from tt (rw c.in-Some.is at loop.invariant.reads) c.in_err-place.ensures.reads))
 
+pub returns-in_err-place-clause-heard : goal.returns-in_err-place-clause-heard
+returns-in_err-place-clause-heard g c =
+    let set = described c.args.set.now in
+    let go = reading_on (judge (by_state set (accepted_of set c.args.only))) in
+    let loop = c.loop-place in
+    let from = c.args.cursor.now in
+    let first = g.S.Source.given c.args.source.now in
+    let last = g.S.Source.given c.turn.new.source in
+    let here = go (state_of set c.args.staged.now (spot_at (Some First))) in
+    let e = c.in_err-place.field-0.0 in
+    let p = err_from_is_err_and c.from_residual.result c.from_residual.ensures.1 in
+    rw (p.1, p.2)
+    (hears_still (Option Between) (Unit {0}) first last here (λ next. go (state_of set c.turn.new.staged (spot_at next))) (λ x. go (state_of set c.turn.new.staged (spot_at None))) from c.turn.new.cursor c.turn.new.cursor e
+    (hears_on {X = Option Between} first (g.S.Source.given loop.source) last here (go (state_of set loop.staged (spot_at (Some c.in-Some.between)))) (λ next. go (state_of set c.turn.new.staged (spot_at next)))
+    from loop.cursor c.turn.new.cursor (Err e) loop.invariant.from tt (rw c.in-Some.is at loop.invariant.heard) c.in_err-place.ensures.heard))
+
 pub returns-in_err-place-clause-given : goal.returns-in_err-place-clause-given
 returns-in_err-place-clause-given g c =
     let set = described c.args.set.now in
@@ -81,3 +103,11 @@ loop-place-smaller g c =
     let loop = c.loop-place in
     let due = ap (λ (o : Option Between). stream_due set loop.staged.came.items o) c.in-Some.is in
     omega (arith, due, loop.invariant.due, c.in_ok-place.ensures.given.2, c.in_ok-place.ensures.moved)
+
+pub returns-clause-heard : goal.returns-clause-heard
+returns-clause-heard g c =
+    let set = described c.args.set.now in
+    let go = reading_on (judge (by_state set (accepted_of set c.args.only))) in
+    let loop = c.loop-place in
+    subst (λ (o : Option Between). HearsSoFar (go (state_of set c.args.staged.now (spot_at (Some First)))) (go (state_of set loop.staged (spot_at o))) c.args.cursor.now loop.cursor (g.S.Source.given c.args.source.now) (g.S.Source.given loop.source))
+    c.in_default.is loop.invariant.heard

@@ -6,6 +6,7 @@ use Rattle.vms_laws.specs.Whole.{reading_on}
 use Rattle.vms_desc.specs.Described.{described}
 use Rattle.vms_frames.specs.declared.units.Between.TheVariants.{First}
 use Rattle.vms_load.specs.Reads.{LeadsOn, reach}
+use Rattle.vms_load.specs.Hearing.{HearsSoFar}
 use Rattle.vms_load.specs.Staging.{IsOf, HoldsAt, accepted_of, state_of, spot_at, stream_due}
 use Rattle.vms_load.proofs.stream.sections.Given as goal
 
@@ -15,6 +16,7 @@ invariant-loop-place g l =
     let go = reading_on (judge (by_state set (accepted_of set l.only))) in
     record {
       reads : LeadsOn (go (state_of set l.initial.staged (spot_at (Some First)))) (go (state_of set l.staged (spot_at l.place))) l.initial.cursor l.cursor (g.S.Source.left l.initial.source) (g.S.Source.left l.source);
+      heard : HearsSoFar (go (state_of set l.initial.staged (spot_at (Some First)))) (go (state_of set l.staged (spot_at l.place))) l.initial.cursor l.cursor (g.S.Source.given l.initial.source) (g.S.Source.given l.source);
       held : HoldsAt l.cursor l.place;
       whole : IsOf set l.staged;
       from : l.initial.cursor.at ≤ l.cursor.at;

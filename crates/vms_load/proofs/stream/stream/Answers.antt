@@ -1,15 +1,19 @@
-use Rattle.std.proofs.Common.{List, None, Ok, Err, Bool, true, false, ap, ◌∙◌, arith}
+use Rattle.std.proofs.Common.{List, ℕ, [], ◌≡◌, None, Ok, Err, Bool, true, false, sym, subst, ap, ◌∙◌, arith}
 use Rattle.std.proofs.lemmas.Result.{err_from_is_err_and}
-use Rattle.vms_units.specs.Judge.{judge}
-use Rattle.vms_units.specs.State.{State, Before, Free, by_state}
+use Rattle.vms_units.specs.Judge.{judge, reading}
+use Rattle.vms_units.specs.State.{State, Before, Free, by_state, at_start}
 use Rattle.vms_laws.specs.Whole.{reading_on}
 use Rattle.vms_desc.specs.Described.{described}
 use Rattle.vms_frames.specs.Stands.{Stand}
 use Rattle.vms_frames.specs.Calls.{held_long}
 use Rattle.vms_load.specs.Reads.{reach}
+use Rattle.vms_load.specs.Hearing.{HearsAll}
+use Rattle.vms_load.specs.declared.fault.LoadFault.{LoadFault}
 use Rattle.vms_load.specs.Staging.{accepted_of, state_of, spot_at, sections_due}
 use Rattle.vms_load.proofs.Bounding.{most_small, all_due}
 use Rattle.vms_load.proofs.ReadLemmas.{leads_on, reads_on}
+use Rattle.vms_frames.proofs.HeardLemmas.{heard_both}
+use Rattle.vms_load.proofs.HearingLemmas.{hears_last, hears_on, hears_ended, so_far_on}
 use Rattle.vms_load.proofs.Spending.{given_on}
 use Rattle.vms_load.proofs.StreamReads.{refused_before, closed}
 use Rattle.vms_load.proofs.stream.stream.Goals as goal
@@ -121,3 +125,62 @@ returns-in-Err-clause-given g c =
     let came = ap (λ (s : State). s.came) c.restart.ensures.state in
     let due = ap (λ (l : List Bool). sections_due set set.devices l) came ∙ all_due set set.devices in
     omega (arith, due, c.in_ok-head.ensures.given, c.in_ok-sections.ensures.given, c.in-Err.ensures.given, ap reach c.new-cursor.ensures)
+
+-- ---- what is heard
+
+pub returns-in_err-head-clause-heard : goal.returns-in_err-head-clause-heard
+returns-in_err-head-clause-heard g c =
+    let set = described c.args.set.now in
+    let names = accepted_of set c.args.only in
+    let go = reading_on (judge (by_state set names)) in
+    let start = state_of set c.restart.new.staged Before in
+    let p = err_from_is_err_and c.from_residual.result c.from_residual.ensures.1 in
+    rw (p.1, p.2)
+    (hears_last (Unit {0}) ℕ (g.S.Source.given c.args.source.now) (g.S.Source.given c.head.new.source) c.in_err-head.field-0.0
+    (λ old left h. refused_before set names {X = Unit {0}} c.restart.new.staged start old left (λ x. go (state_of set c.restart.new.staged (Free true false))) c.new-cursor.result c.head.new.cursor
+    c.in_err-head.field-0.0 c.restart.ensures.state (ap (λ (s : Stand). s.at) c.new-cursor.ensures) (ap (λ (s : Stand). s.held) c.new-cursor.ensures) h) (c.in_err-head.ensures.heard set names start))
+
+pub returns-in_err-sections-clause-heard : goal.returns-in_err-sections-clause-heard
+returns-in_err-sections-clause-heard g c =
+    let set = described c.args.set.now in
+    let names = accepted_of set c.args.only in
+    let go = reading_on (judge (by_state set names)) in
+    let start = state_of set c.restart.new.staged Before in
+    let first = g.S.Source.given c.args.source.now in
+    let last = g.S.Source.given c.sections.new.source in
+    let e = c.in_err-sections.field-0.0 in
+    let p = err_from_is_err_and c.from_residual-in_err-sections.result c.from_residual-in_err-sections.ensures.1 in
+    rw (p.1, p.2)
+    (hears_last (Unit {0}) ℕ first last e
+    (λ old left h. refused_before set names {X = Unit {0}} c.sections.new.staged start old left (λ x. go (state_of set c.sections.new.staged (spot_at None))) c.new-cursor.result c.sections.new.cursor e c.restart.ensures.state
+    (ap (λ (s : Stand). s.at) c.new-cursor.ensures) (ap (λ (s : Stand). s.held) c.new-cursor.ensures) h)
+    (hears_on {X = Unit {0}} first (g.S.Source.given c.head.new.source) last (go start) (go (state_of set c.restart.new.staged (Free true false))) (λ x. go (state_of set c.sections.new.staged (spot_at None)))
+    c.new-cursor.result c.head.new.cursor c.sections.new.cursor (Err e) c.in_ok-head.ensures.given.0 tt (c.in_ok-head.ensures.heard set names start) c.in_err-sections.ensures.heard))
+
+pub returns-in-Ok-clause-heard : goal.returns-in-Ok-clause-heard
+returns-in-Ok-clause-heard g c =
+    let set = described c.args.set.now in
+    let names = accepted_of set c.args.only in
+    let go = reading_on (judge (by_state set names)) in
+    let start = state_of set c.restart.new.staged Before in
+    let first = g.S.Source.given c.args.source.now in
+    let lead = so_far_on first (g.S.Source.given c.head.new.source) (g.S.Source.given c.sections.new.source) (go start) (go (state_of set c.restart.new.staged (Free true false))) (go (state_of set c.sections.new.staged (spot_at None)))
+    c.new-cursor.result c.head.new.cursor c.sections.new.cursor c.in_ok-head.ensures.given.0 c.in_ok-sections.ensures.given.0 (c.in_ok-head.ensures.heard set names start) c.in_ok-sections.ensures.heard in
+    subst (λ (n : ℕ). HearsAll set (λ input. reading (by_state set names) (at_start set) input) c.sections.new.staged first (g.S.Source.given c.trailer.new.source) (Ok n)) (sym c.at.ensures)
+    (heard_both (λ more. more ≡ []) first (g.S.Source.given c.sections.new.source) (g.S.Source.given c.trailer.new.source)
+    (λ old mid left l h. closed set names c.sections.new.staged start old mid left c.new-cursor.result c.sections.new.cursor c.trailer.new.self.at (Ok c.in-Ok.field-0)
+    c.restart.ensures.state (ap (λ (s : Stand). s.at) c.new-cursor.ensures) (ap (λ (s : Stand). s.held) c.new-cursor.ensures) c.in_ok-sections.ensures.held l h) lead c.in-Ok.ensures.heard)
+
+pub returns-in-Err-clause-heard : goal.returns-in-Err-clause-heard
+returns-in-Err-clause-heard g c =
+    let set = described c.args.set.now in
+    let names = accepted_of set c.args.only in
+    let go = reading_on (judge (by_state set names)) in
+    let start = state_of set c.restart.new.staged Before in
+    let first = g.S.Source.given c.args.source.now in
+    let lead = so_far_on first (g.S.Source.given c.head.new.source) (g.S.Source.given c.sections.new.source) (go start) (go (state_of set c.restart.new.staged (Free true false))) (go (state_of set c.sections.new.staged (spot_at None)))
+    c.new-cursor.result c.head.new.cursor c.sections.new.cursor c.in_ok-head.ensures.given.0 c.in_ok-sections.ensures.given.0 (c.in_ok-head.ensures.heard set names start) c.in_ok-sections.ensures.heard in
+    subst (λ (f : LoadFault). HearsAll set (λ input. reading (by_state set names) (at_start set) input) c.sections.new.staged first (g.S.Source.given c.trailer.new.source) (Err f)) (sym c.concerning.ensures)
+    (hears_ended (Unit {0}) ℕ None first (g.S.Source.given c.sections.new.source) (g.S.Source.given c.trailer.new.source) c.in-Err.fault
+    (λ old mid left l h. closed set names c.sections.new.staged start old mid left c.new-cursor.result c.sections.new.cursor c.trailer.new.self.at (Err c.in-Err.fault)
+    c.restart.ensures.state (ap (λ (s : Stand). s.at) c.new-cursor.ensures) (ap (λ (s : Stand). s.held) c.new-cursor.ensures) c.in_ok-sections.ensures.held l h) lead c.in-Err.ensures.heard)

@@ -8,9 +8,12 @@ use Rattle.vms_laws.specs.Whole.{reading_on}
 use Rattle.vms_desc.specs.Described.{described}
 use Rattle.vms_frames.specs.declared.units.Between.{Between}
 use Rattle.vms_frames.specs.declared.units.Between.TheVariants as between
+use Rattle.vms_frames.specs.declared.units.Step.{Step}
 use Rattle.vms_frames.specs.declared.units.Step.TheVariants as steps
+use Rattle.vms_frames.proofs.HeardLemmas.{heard_as, heard_both}
 use Rattle.vms_load.specs.Staging.{accepted_of, state_of, spot_of, spot_at, is_first, is_configured}
 use Rattle.vms_load.proofs.ReadLemmas.{settles_err, settles_ok, still_on}
+use Rattle.vms_load.proofs.HearingLemmas.{hears_judged, hears_two, hears_still, on_concerning}
 use Rattle.vms_load.proofs.TurnReads.{turn_fault, turn_settled, turn_section}
 use Rattle.vms_load.proofs.stream.turn.Goals as goal
 
@@ -128,3 +131,126 @@ returns-in-Err-clause-reads g c =
     rw c.concerning.ensures
     (turn_fault set names c.args.staged.now c.args.between {Y = Option Between} c.args.cursor.now c.between.new.self (g.S.Source.left c.args.source.now) (g.S.Source.left c.between.new.source)
     (λ next. reading_on (judge (by_state set names)) (state_of set c.args.staged.now (spot_at next))) c.in-Err.fault c.in-Err.ensures.content)
+
+-- ---- what is heard
+
+pub returns-in_err-configure-in-Ok-Configuration-clause-heard : goal.returns-in_err-configure-in-Ok-Configuration-clause-heard
+returns-in_err-configure-in-Ok-Configuration-clause-heard g c =
+    let set = described c.args.set.now in
+    let names = accepted_of set c.args.only in
+    let at = c.args.between in
+    let state = state_of set c.args.staged.now (spot_of at) in
+    let from = c.args.cursor.now in
+    let step = steps.Configuration c.in-Ok-Configuration.name in
+    let n = 5 + length c.in-Ok-Configuration.name.items in
+    let heard = rw c.in-Ok-Configuration.field-0-is at c.in-Ok-Configuration.ensures.heard in
+    let place = rw c.in-Ok-Configuration.field-0-is at c.in-Ok-Configuration.ensures.place in
+    let held = c.in-Ok-Configuration.ensures.held in
+    let e = c.in_err-configure-in-Ok-Configuration.field-0.0 in
+    let settled = rw c.at-at.ensures at (c.in_err-configure-in-Ok-Configuration.ensures.settles (is_first at) (is_configured at)) in
+    let p = err_from_is_err_and c.from_residual.result c.from_residual.ensures.1 in
+    rw (p.1, p.2)
+    (hears_judged {X = Option Between} (g.S.Source.given c.args.source.now) (g.S.Source.given c.between.new.source) (Err e)
+    (λ old left h. turn_settled set names c.args.staged.now at {Y = Option Between} from c.between.new.self old left step
+    (λ next. state_of set c.configure.new.staged (spot_at next)) (Err e) h place held
+    (settles_err {X = Unit {0}} (ask set names state (Configuration c.in-Ok-Configuration.name.items) n) from.at n (λ x. state_of set c.configure.new.staged (Free false true)) (λ next. state_of set c.configure.new.staged (spot_at next)) e settled)) heard)
+
+pub returns-in_ok-configure-in-Ok-Configuration-clause-heard : goal.returns-in_ok-configure-in-Ok-Configuration-clause-heard
+returns-in_ok-configure-in-Ok-Configuration-clause-heard g c =
+    let set = described c.args.set.now in
+    let names = accepted_of set c.args.only in
+    let at = c.args.between in
+    let state = state_of set c.args.staged.now (spot_of at) in
+    let from = c.args.cursor.now in
+    let step = steps.Configuration c.in-Ok-Configuration.name in
+    let n = 5 + length c.in-Ok-Configuration.name.items in
+    let heard = rw c.in-Ok-Configuration.field-0-is at c.in-Ok-Configuration.ensures.heard in
+    let place = rw c.in-Ok-Configuration.field-0-is at c.in-Ok-Configuration.ensures.place in
+    let held = c.in-Ok-Configuration.ensures.held in
+    let settled = rw c.at-at.ensures at (c.in_ok-configure-in-Ok-Configuration.ensures.settles (is_first at) (is_configured at)) in
+    heard_as (λ more. Unit {0}) (g.S.Source.given c.args.source.now) (g.S.Source.given c.between.new.source)
+    (λ old left h. turn_settled set names c.args.staged.now at {Y = Option Between} from c.between.new.self old left step
+    (λ next. state_of set c.configure.new.staged (spot_at next)) (Ok (Some between.AfterConfiguration)) h place held
+    (settles_ok {X = Unit {0}} (ask set names state (Configuration c.in-Ok-Configuration.name.items) n) from.at n (λ x. state_of set c.configure.new.staged (Free false true)) (λ next. state_of set c.configure.new.staged (spot_at next))
+    c.in_ok-configure-in-Ok-Configuration.field-0 (Some between.AfterConfiguration) refl settled)) heard
+
+pub returns-in_err-end-in-Ok-End-clause-heard : goal.returns-in_err-end-in-Ok-End-clause-heard
+returns-in_err-end-in-Ok-End-clause-heard g c =
+    let set = described c.args.set.now in
+    let names = accepted_of set c.args.only in
+    let at = c.args.between in
+    let state = state_of set c.args.staged.now (spot_of at) in
+    let from = c.args.cursor.now in
+    let heard = rw c.in-Ok-End.field-0-is at c.in-Ok-End.ensures.heard in
+    let place = rw c.in-Ok-End.field-0-is at c.in-Ok-End.ensures.place in
+    let held = c.in-Ok-End.ensures.held in
+    let e = c.in_err-end-in-Ok-End.field-0.0 in
+    let settled = rw c.at-at.ensures at (c.in_err-end-in-Ok-End.ensures.settles set names (is_first at) (is_configured at)) in
+    let p = err_from_is_err_and c.from_residual-in_err-end-in-Ok-End.result c.from_residual-in_err-end-in-Ok-End.ensures.1 in
+    rw (p.1, p.2)
+    (hears_judged {X = Option Between} (g.S.Source.given c.args.source.now) (g.S.Source.given c.between.new.source) (Err e)
+    (λ old left h. turn_settled set names c.args.staged.now at {Y = Option Between} from c.between.new.self old left steps.End
+    (λ next. state_of set c.args.staged.now (spot_at next)) (Err e) h place held
+    (settles_err {X = Unit {0}} (ask set names state End 1) from.at 1 (λ x. state_of set c.args.staged.now Ended) (λ next. state_of set c.args.staged.now (spot_at next)) e settled)) heard)
+
+pub returns-in_ok-end-in-Ok-End-clause-heard : goal.returns-in_ok-end-in-Ok-End-clause-heard
+returns-in_ok-end-in-Ok-End-clause-heard g c =
+    let set = described c.args.set.now in
+    let names = accepted_of set c.args.only in
+    let at = c.args.between in
+    let state = state_of set c.args.staged.now (spot_of at) in
+    let from = c.args.cursor.now in
+    let heard = rw c.in-Ok-End.field-0-is at c.in-Ok-End.ensures.heard in
+    let place = rw c.in-Ok-End.field-0-is at c.in-Ok-End.ensures.place in
+    let held = c.in-Ok-End.ensures.held in
+    let settled = rw c.at-at.ensures at (c.in_ok-end-in-Ok-End.ensures.settles set names (is_first at) (is_configured at)) in
+    heard_as (λ more. Unit {0}) (g.S.Source.given c.args.source.now) (g.S.Source.given c.between.new.source)
+    (λ old left h. turn_settled set names c.args.staged.now at {Y = Option Between} from c.between.new.self old left steps.End
+    (λ next. state_of set c.args.staged.now (spot_at next)) (Ok None) h place held
+    (settles_ok {X = Unit {0}} (ask set names state End 1) from.at 1 (λ x. state_of set c.args.staged.now Ended) (λ next. state_of set c.args.staged.now (spot_at next)) c.in_ok-end-in-Ok-End.field-0 None refl settled)) heard
+
+pub returns-in_err-opened-in-Ok-Section-clause-heard : goal.returns-in_err-opened-in-Ok-Section-clause-heard
+returns-in_err-opened-in-Ok-Section-clause-heard g c =
+    let set = described c.args.set.now in
+    let names = accepted_of set c.args.only in
+    let at = c.args.between in
+    let go = reading_on (judge (by_state set names)) in
+    let from = c.args.cursor.now in
+    let head = c.in-Ok-Section.head in
+    let first = g.S.Source.given c.args.source.now in
+    let last = g.S.Source.given c.opened.new.source in
+    let heard = rw c.in-Ok-Section.field-0-is at c.in-Ok-Section.ensures.heard in
+    let place = rw c.in-Ok-Section.field-0-is at c.in-Ok-Section.ensures.place in
+    let held = c.in-Ok-Section.ensures.held in
+    let e = c.in_err-opened-in-Ok-Section.field-0.0 in
+    let p = err_from_is_err_and c.from_residual-in_err-opened-in-Ok-Section.result c.from_residual-in_err-opened-in-Ok-Section.ensures.1 in
+    rw (p.1, p.2)
+    (hears_still (Unit {0}) (Option Between) first last (go (state_of set c.args.staged.now (spot_of at))) (λ x. go (state_of set c.opened.new.staged (Free false false))) (λ next. go (state_of set c.opened.new.staged (spot_at next)))
+    from c.opened.new.cursor c.opened.new.cursor e
+    (hears_two {X = Unit {0}} first (g.S.Source.given c.between.new.source) last (Err e)
+    (λ old mid left h r. turn_section set names c.args.staged.now at from c.between.new.self c.opened.new.cursor old mid left head c.at-at.result (state_of set c.opened.new.staged (Free false false)) (Err e)
+    c.requires.whole.came h place held c.at-at.ensures r) heard (c.in_err-opened-in-Ok-Section.ensures.heard names (is_first at) (is_configured at))))
+
+pub returns-in_ok-opened-in-Ok-Section-clause-heard : goal.returns-in_ok-opened-in-Ok-Section-clause-heard
+returns-in_ok-opened-in-Ok-Section-clause-heard g c =
+    let set = described c.args.set.now in
+    let names = accepted_of set c.args.only in
+    let at = c.args.between in
+    let from = c.args.cursor.now in
+    let head = c.in-Ok-Section.head in
+    let heard = rw c.in-Ok-Section.field-0-is at c.in-Ok-Section.ensures.heard in
+    let place = rw c.in-Ok-Section.field-0-is at c.in-Ok-Section.ensures.place in
+    let held = c.in-Ok-Section.ensures.held in
+    heard_both (λ more. Unit {0}) (g.S.Source.given c.args.source.now) (g.S.Source.given c.between.new.source) (g.S.Source.given c.opened.new.source)
+    (λ old mid left h r. turn_section set names c.args.staged.now at from c.between.new.self c.opened.new.cursor old mid left head c.at-at.result (state_of set c.opened.new.staged (Free false false))
+    (Ok c.in_ok-opened-in-Ok-Section.field-0) c.requires.whole.came h place held c.at-at.ensures r) heard (c.in_ok-opened-in-Ok-Section.ensures.heard names (is_first at) (is_configured at))
+
+pub returns-in-Err-clause-heard : goal.returns-in-Err-clause-heard
+returns-in-Err-clause-heard g c =
+    let set = described c.args.set.now in
+    let names = accepted_of set c.args.only in
+    let go = reading_on (judge (by_state set names)) in
+    on_concerning Step (Option Between) None (g.S.Source.given c.args.source.now) (g.S.Source.given c.between.new.source) c.in-Err.fault c.concerning.result
+    (go (state_of set c.args.staged.now (spot_of c.args.between))) (λ next. go (state_of set c.args.staged.now (spot_at next))) c.args.cursor.now c.between.new.self c.concerning.ensures
+    (λ old left h. turn_fault set names c.args.staged.now c.args.between {Y = Option Between} c.args.cursor.now c.between.new.self old left
+    (λ next. reading_on (judge (by_state set names)) (state_of set c.args.staged.now (spot_at next))) c.in-Err.fault h) c.in-Err.ensures.heard

@@ -5,6 +5,7 @@ use Rattle.vms_spec.specs.Images.{own_cells}
 use Rattle.vms_desc.specs.Asks.{first_cell}
 use Rattle.vms_desc.specs.Described.{described, device_at}
 use Rattle.vms_desc.specs.Parts.{sub_at}
+use Rattle.vms_image.specs.Typed.{state_of}
 use Rattle.vms_selfdesc.specs.Tree.{sub_tree, sub_trees}
 use Rattle.vms_selfdesc.proofs.Trees.{remain_rest, subs_begin, subs_next}
 use Rattle.vms_selfdesc.proofs.devices.sub_values.Goals as goal
@@ -13,7 +14,7 @@ pub loop-sub-init : goal.loop-sub-init
 loop-sub-init c =
     let set = described c.args.lister.now.set.now in
     let i = c.args.device in
-    let image = c.args.lister.now.image.now in
+    let image = state_of c.args.lister.now.image.now in
     subs_begin set i image
     ∙ ap (λ l. map view l ++ sub_trees set image.numbers (first_cell set (parts.Sub i 0)) (device_at set i).subs image.came) (sym c.new-list.ensures.items)
 
@@ -21,7 +22,7 @@ pub loop-sub-preserved : goal.loop-sub-preserved
 loop-sub-preserved c =
     let set = described c.args.lister.now.set.now in
     let i = c.args.device in
-    let image = c.args.lister.now.image.now in
+    let image = state_of c.args.lister.now.image.now in
     let d = device_at set i in
     let j = c.loop-sub.sub in
     let lt : j < length d.subs = omega (arith, c.sub_count-sub-end.ensures) in

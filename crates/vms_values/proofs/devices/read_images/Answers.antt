@@ -1,16 +1,31 @@
-use Rattle.std.proofs.Common.{◌≡◌, ◌<◌, ◌∷◌, ◌++◌, [], length, ap, arith}
-use Rattle.std.proofs.lemmas.List.{length-map}
+use Rattle.std.proofs.Common.{◌≡◌, ◌<◌, ◌∷◌, ◌++◌, [], length, map, ap, ◌∙◌, arith}
+use Rattle.std.proofs.lemmas.List.{length-map, map-append}
 use Rattle.vms_spec.specs.Sets.{Set}
 use Rattle.vms_parts.specs.Views.{device_of}
 use Rattle.vms_desc.specs.Described.{described}
+use Rattle.vms_image.specs.Typed.{state_of}
 use Rattle.vms_values.proofs.DeviceLemmas.{on_true}
 use Rattle.vms_values.proofs.Gathering.{gathered_next}
+use Rattle.vms_values.proofs.ImageRead.{first_more, first_all}
 use Rattle.vms_values.proofs.devices.read_images.Goals as goal
 
 pub loop-device-preserved : goal.loop-device-preserved
 loop-device-preserved c =
     let set = described c.args.set.now in
     let i = c.loop-device.device in
+    let image = c.in_ok-image.image in
+    let before = c.loop-device.images.items in
     let lt : i < length set.devices = omega (arith, c.loop-device-test.true, ap length c.as_slice.ensures, ap (λ (s : Set). length s.devices) c.parts.ensures, length-map c.parts.result.now.devices device_of) in
-    let pushed : c.push_image.new.images.items ≡ c.loop-device.images.items ++ c.in_ok-image.image ∷ [] = on_true c.push_image.result c.if-not-push_image.false c.push_image.ensures in
-    gathered_next set i lt _ _ c.loop-device.images.items c.push_image.new.images.items c.loop-device.reading c.read_image.new.reading c.in_ok-image.image c.loop-device.invariant c.in_ok-image.ensures pushed
+    let pushed : c.push_image.new.images.items ≡ before ++ image ∷ [] = on_true c.push_image.result c.if-not-push_image.false c.push_image.ensures in
+    let states : map state_of c.push_image.new.images.items ≡ map state_of before ++ state_of image ∷ [] = ap (map state_of) pushed ∙ map-append state_of before (image ∷ []) in
+    record {
+      gathered = gathered_next set i lt _ _ (map state_of before) (map state_of c.push_image.new.images.items) c.loop-device.reading c.read_image.new.reading (state_of image) c.loop-device.invariant.gathered
+          c.in_ok-image.ensures.read states;
+      of = first_more set i before c.push_image.new.images.items image c.loop-device.invariant.of c.in_ok-image.ensures.of pushed;
+    }
+
+pub returns-clause-of : goal.returns-clause-of
+returns-clause-of c =
+    let set = described c.args.set.now in
+    let end : length set.devices ≡ c.loop-device.device = omega (arith, c.loop-device-test.false, ap length c.as_slice.ensures, ap (λ (s : Set). length s.devices) c.parts.ensures, length-map c.parts.result.now.devices device_of) in
+    first_all set c.loop-device.device c.loop-device.images.items c.loop-device.invariant.of end

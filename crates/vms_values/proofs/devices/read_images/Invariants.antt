@@ -1,8 +1,10 @@
-use Rattle.std.proofs.Common.{drop}
+use Rattle.std.proofs.Common.{drop, map}
 use Rattle.vms_spec.specs.ValuesReading.{read_devices}
 use Rattle.vms_desc.specs.Described.{described}
+use Rattle.vms_image.specs.Typed.{state_of}
 use Rattle.vms_values.specs.Judging.{bad_of}
 use Rattle.vms_values.proofs.Gathering.{Gathered}
+use Rattle.vms_values.proofs.ImageRead.{AreFirstImages}
 use Rattle.vms_values.proofs.devices.read_images.Given as goal
 
 abbrev pub invariant-loop-device : goal.invariant-loop-device
@@ -10,5 +12,8 @@ invariant-loop-device l =
     let set = described l.set in
     let first = l.initial.reading in
     let now = l.reading in
-    Gathered set l.device (read_devices set set.devices first.lines.line first.lines.rest.now) (bad_of first.judged) (bad_of now.judged) l.images.items
-    (read_devices set (drop l.device set.devices) now.lines.line now.lines.rest.now)
+    record {
+      gathered : Gathered set l.device (read_devices set set.devices first.lines.line first.lines.rest.now) (bad_of first.judged) (bad_of now.judged) (map state_of l.images.items)
+          (read_devices set (drop l.device set.devices) now.lines.line now.lines.rest.now);
+      of : AreFirstImages set l.device l.images.items;
+    }

@@ -2,6 +2,7 @@ use Rattle.std.proofs.Common.{◌≡◌, ◌<◌, ℕ, true, length, get_or, ref
 use Rattle.vms_spec.specs.Images.{own_slots}
 use Rattle.vms_spec.specs.Readiness.{rules_are_true}
 use Rattle.vms_desc.specs.Described.{described, device_at}
+use Rattle.vms_image.specs.Typed.{state_of}
 use Rattle.vms_values.specs.Judging.{read_of}
 use Rattle.vms_values.proofs.JudgeLemmas.{judged_go, judged_stop, judged_end, own_holds}
 use Rattle.vms_values.proofs.judge.judge_device.Goals as goal
@@ -10,7 +11,7 @@ pub returns-in-Some : goal.returns-in-Some
 returns-in-Some c =
     let set = described c.args.set.now in
     let i = c.args.device in
-    let image = c.args.image.now in
+    let image = state_of c.args.image.now in
     let lines = c.args.sub_lines.now in
     let holds : rules_are_true (own_slots set (device_at set i) image.version image.numbers) ≡ true =
     ap (λ (v : ℕ). rules_are_true (own_slots set (device_at set i) v image.numbers)) (sym c.version.ensures) ∙ sym c.hold_rules.ensures ∙ c.if-not-hold_rules.false in
@@ -25,7 +26,7 @@ pub loop-sub-preserved : goal.loop-sub-preserved
 loop-sub-preserved c =
     let set = described c.args.set.now in
     let i = c.args.device in
-    let image = c.args.image.now in
+    let image = state_of c.args.image.now in
     let lines = c.args.sub_lines.now in
     let j = c.loop-sub.sub in
     let lt : j < length (device_at set i).subs = omega (arith, c.sub_count-sub-end.ensures, c.loop-sub-test.true) in
@@ -37,7 +38,7 @@ pub returns : goal.returns
 returns c =
     let set = described c.args.set.now in
     let i = c.args.device in
-    let image = c.args.image.now in
+    let image = state_of c.args.image.now in
     let lines = c.args.sub_lines.now in
     let holds : rules_are_true (own_slots set (device_at set i) image.version image.numbers) ≡ true =
     ap (λ (v : ℕ). rules_are_true (own_slots set (device_at set i) v image.numbers)) (sym c.version.ensures) ∙ sym c.hold_rules.ensures ∙ c.if-not-hold_rules.false in

@@ -1,9 +1,10 @@
 use Rattle.std.proofs.Common.{◌≡◌}
 use Rattle.vms_desc.specs.Described.{described}
+use Rattle.vms_image.specs.Typed.{state_of}
 use Rattle.vms_values.proofs.JudgeLemmas.{judged_from}
 use Rattle.vms_values.proofs.judge.judge_device.Given as goal
 
 abbrev pub invariant-loop-sub : goal.invariant-loop-sub
 invariant-loop-sub l =
     let set = described l.set in
-    judged_from set l.device l.image l.sub_lines l.sub ≡ judged_from set l.device l.image l.sub_lines 0
+    judged_from set l.device (state_of l.image) l.sub_lines l.sub ≡ judged_from set l.device (state_of l.image) l.sub_lines 0

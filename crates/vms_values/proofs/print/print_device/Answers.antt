@@ -8,6 +8,7 @@ use Rattle.vms_spec.specs.Sets.{Device}
 use Rattle.vms_spec.specs.Values.{printers, desc_lines, sub_lines, device_lines}
 use Rattle.vms_desc.specs.Described.{described, device_at}
 use Rattle.vms_parts.specs.Views.{device_of}
+use Rattle.vms_image.specs.Typed.{state_of}
 use Rattle.vms_values.specs.Printing.{section_text}
 use Rattle.vms_values.proofs.PrintLemmas.{same_text}
 use Rattle.vms_values.proofs.Subs.{own_spot, device_is}
@@ -17,7 +18,7 @@ use Rattle.vms_values.proofs.print.print_device.Goals as goal
 pub returns-in_err-print_section-clause-written : goal.returns-in_err-print_section-clause-written
 returns-in_err-print_section-clause-written g c =
     let set = described c.args.shown.set.now in
-    let image = c.args.shown.image.now in
+    let image = state_of c.args.shown.image.now in
     let d = device_at set c.args.device in
     let line : section_text (device_of c.device.result.now) c.version-version.result ≡ section_text d image.version =
     ap (λ (x : Device). section_text x c.version-version.result) c.device.ensures ∙ ap (section_text d) c.version-version.ensures in
@@ -32,12 +33,12 @@ returns-in_err-print_section-clause-written g c =
 pub print_part-requires : goal.print_part-requires
 print_part-requires g c =
     let set = described c.args.shown.set.now in
-    record { spot = own_spot set c.args.shown.set.now.well_formed c.args.device c.args.shown.image.now c.requires.of c.version-version.result c.requires.is_device }
+    record { spot = own_spot set c.args.shown.set.now.well_formed c.args.device (state_of c.args.shown.image.now) c.requires.of c.version-version.result c.requires.is_device }
 
 pub returns-in_err-print_part-clause-written : goal.returns-in_err-print_part-clause-written
 returns-in_err-print_part-clause-written g c =
     let set = described c.args.shown.set.now in
-    let image = c.args.shown.image.now in
+    let image = state_of c.args.shown.image.now in
     let d = device_at set c.args.device in
     let line : section_text (device_of c.device.result.now) c.version-version.result ≡ section_text d image.version =
     ap (λ (x : Device). section_text x c.version-version.result) c.device.ensures ∙ ap (section_text d) c.version-version.ensures in
@@ -54,7 +55,7 @@ returns-in_err-print_part-clause-written g c =
 pub returns-clause-written : goal.returns-clause-written
 returns-clause-written g c =
     let set = described c.args.shown.set.now in
-    let image = c.args.shown.image.now in
+    let image = state_of c.args.shown.image.now in
     let d = device_at set c.args.device in
     let line : section_text (device_of c.device.result.now) c.version-version.result ≡ section_text d image.version =
     ap (λ (x : Device). section_text x c.version-version.result) c.device.ensures ∙ ap (section_text d) c.version-version.ensures in

@@ -8,6 +8,7 @@ use Rattle.vms_spec.specs.Values.{printers, desc_lines}
 use Rattle.vms_desc.specs.Asks.{first_cell}
 use Rattle.vms_desc.specs.Described.{described, device_at}
 use Rattle.vms_desc.specs.Parts.{sub_at}
+use Rattle.vms_image.specs.Typed.{state_of}
 use Rattle.vms_values.specs.Printing.{sub_text}
 use Rattle.vms_values.proofs.PrintLemmas.{same_text}
 use Rattle.vms_values.proofs.Subs.{sub_spot}
@@ -18,7 +19,7 @@ pub returns-in_err-print_sub_line-clause-written : goal.returns-in_err-print_sub
 returns-in_err-print_sub_line-clause-written g c =
     let set = described c.args.shown.set.now in
     let s = sub_at (device_at set c.args.device) c.args.sub in
-    let image = c.args.shown.image.now in
+    let image = state_of c.args.shown.image.now in
     let line : sub_text c.as_bytes.result.now c.came.result ≡ sub_text s.desc.name (get_or image.came c.args.sub None) =
     ap (λ (x : List ℕ). sub_text x c.came.result) (c.as_bytes.ensures ∙ ap (λ (d : Desc). d.name) c.desc-desc.ensures) ∙ ap (λ (o : Option ℕ). sub_text s.desc.name o) c.came.ensures in
     let p = err_from_is_err_and c.from_residual.result c.from_residual.ensures.1 in
@@ -31,14 +32,14 @@ pub print_part-requires : goal.print_part-requires
 print_part-requires g c =
     let set = described c.args.shown.set.now in
     record {
-      spot = sub_spot set c.args.shown.set.now.well_formed c.args.device c.args.shown.image.now c.requires.of c.desc-desc.result.now.version c.args.sub c.first_cell.result c.requires.is_device c.requires.is_sub c.first_cell.ensures;
+      spot = sub_spot set c.args.shown.set.now.well_formed c.args.device (state_of c.args.shown.image.now) c.requires.of c.desc-desc.result.now.version c.args.sub c.first_cell.result c.requires.is_device c.requires.is_sub c.first_cell.ensures;
     }
 
 pub returns-clause-written : goal.returns-clause-written
 returns-clause-written g c =
     let set = described c.args.shown.set.now in
     let s = sub_at (device_at set c.args.device) c.args.sub in
-    let image = c.args.shown.image.now in
+    let image = state_of c.args.shown.image.now in
     let line : sub_text c.as_bytes.result.now c.came.result ≡ sub_text s.desc.name (get_or image.came c.args.sub None) =
     ap (λ (x : List ℕ). sub_text x c.came.result) (c.as_bytes.ensures ∙ ap (λ (d : Desc). d.name) c.desc-desc.ensures) ∙ ap (λ (o : Option ℕ). sub_text s.desc.name o) c.came.ensures in
     let text = desc_lines (printers set) s.desc [] image.numbers (first_cell set (parts.Sub c.args.device c.args.sub)) in

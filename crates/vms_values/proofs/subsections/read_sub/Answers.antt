@@ -1,17 +1,26 @@
-use Rattle.std.proofs.Common.{◌≡◌, length, ap, arith}
-use Rattle.vms_spec.specs.Images.{Image}
+use Rattle.std.proofs.Common.{◌≡◌, ℕ, length, ap, sym, ◌∙◌, subst, arith}
+use Rattle.vms_spec.specs.declared.Part.TheVariants as parts
 use Rattle.vms_desc.specs.Described.{described}
+use Rattle.vms_desc.specs.Spots.{kinds_at}
 use Rattle.vms_desc.proofs.AskLaws.{sub_inside}
+use Rattle.vms_image.specs.Typed.{Typed}
+use Rattle.vms_values.specs.Taken.{AreKinds, part_cells}
+use Rattle.vms_values.proofs.KindsAt.{sub_kinds}
 use Rattle.vms_values.proofs.subsections.read_sub.Goals as goal
 
-pub read_part-requires : goal.read_part-requires
-read_part-requires c =
+pub read_part-requires-clause-spot : goal.read_part-requires-clause-spot
+read_part-requires-clause-spot c =
     let set = described c.args.set.now in
-    let same : length c.mark.new.self.numbers ≡ length c.args.taken.now.image.numbers = ap (λ (i : Image). length i.numbers) c.mark.ensures in
+    let same : length c.mark.new.self.numbers ≡ length c.args.taken.now.image.numbers = ap (λ (i : Typed). length i.numbers) c.mark.ensures in
     record {
-      spot = record {
-        part = (c.requires.device.is_device, c.requires.is_sub);
-        few = omega (arith, same, c.requires.device.few);
-        room = omega (arith, same, c.first_cell.ensures, sub_inside set c.args.device c.args.sub c.requires.is_sub, c.requires.device.cells);
-      };
+      part = (c.requires.device.is_device, c.requires.is_sub);
+      few = omega (arith, same, c.requires.device.few);
+      room = omega (arith, same, c.first_cell.ensures, sub_inside set c.args.device c.args.sub c.requires.is_sub, c.requires.device.cells);
     }
+
+pub read_part-requires-clause-kinds : goal.read_part-requires-clause-kinds
+read_part-requires-clause-kinds c =
+    let set = described c.args.set.now in
+    let kinds : c.mark.new.self.kinds ≡ kinds_at set c.args.device = ap (λ (i : Typed). i.kinds) c.mark.ensures ∙ c.requires.kinds in
+    subst (λ (k : ℕ). AreKinds c.mark.new.self.kinds k (part_cells set (parts.Sub c.args.device c.args.sub))) (sym c.first_cell.ensures)
+    (sub_kinds set c.args.device c.mark.new.self.kinds kinds c.args.sub c.requires.is_sub)

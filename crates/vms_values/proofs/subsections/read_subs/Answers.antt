@@ -27,6 +27,9 @@ loop-sub-init c =
 pub read_sub-requires-clause-device : goal.read_sub-requires-clause-device
 read_sub-requires-clause-device c = of_alike (described c.args.set.now) c.args.device _ _ c.requires.device c.loop-sub.invariant.alike
 
+pub read_sub-requires-clause-kinds : goal.read_sub-requires-clause-kinds
+read_sub-requires-clause-kinds c = c.loop-sub.invariant.alike.kinds ∙ c.requires.kinds
+
 pub returns-in_err-read_sub-clause-read : goal.returns-in_err-read_sub-clause-read
 returns-in_err-read_sub-clause-read c =
     let set = described c.args.set.now in

@@ -2,6 +2,9 @@ use Rattle.std.proofs.Common.{rules, ◌≡◌, ℕ, ◌+◌, ◌-◌, ◌*◌, 
 use Rattle.std.proofs.lemmas.Bool.{ltb-true}
 use Rattle.std.proofs.lemmas.Result.{err_from_is_err_and}
 use Rattle.vms_kinds.specs.declared.Item.{Item}
+use Rattle.vms_kinds.specs.declared.Kind.{Kind}
+use Rattle.vms_spec.specs.declared.Part.TheVariants as parts
+use Rattle.vms_spec.proofs.Sizes.{elements_fit}
 use Rattle.vms_spec.specs.Sets.{Field, Desc}
 use Rattle.vms_spec.specs.Layout.{no_desc, cells_from, capacity_of, elements_of, struct_cells, item_size}
 use Rattle.vms_spec.specs.Places.{own_cell_count}
@@ -14,10 +17,11 @@ use Rattle.vms_desc.specs.Parts.{desc_at}
 use Rattle.vms_desc.proofs.AskLaws.{found_field}
 use Rattle.vms_walk.specs.Steps.{HasSpot, size_in, table, cells_in, capacities_of}
 use Rattle.vms_walk.proofs.Spots.{size_code, width_code, spot_room, struct_size}
-use Rattle.vms_walk.proofs.Walking.{room_at}
+use Rattle.vms_walk.proofs.Walking.{room_at, fields_at}
 use Rattle.vms_values.specs.Paths.{path_text}
 use Rattle.vms_values.specs.Reading.{Reaches}
-use Rattle.vms_values.specs.Taken.{place_of}
+use Rattle.vms_values.specs.Taken.{AreKinds, ElementKinds, element_cells, place_of}
+use Rattle.vms_values.proofs.KindsAt.{field_kinds, number_kind, struct_kinds}
 use Rattle.vms_values.proofs.Kept.{kept_none, kept_more}
 use Rattle.vms_values.proofs.ReadLemmas.{reached, stopped}
 use Rattle.vms_values.proofs.Readers.{struct_reads}
@@ -63,7 +67,36 @@ read_elements-loop-index-preserved t c =
       kept = kept_more _ _ _ c.loop-index.invariant.kept c.in_ok-read_item.ensures.kept;
     }
 
+pub read_elements-read_item-requires : goal.read_elements-read_item-requires
+read_elements-read_item-requires t c =
+    let set = described c.args.set.now in
+    let cs = cells_in (table set) in
+    let item = c.args.run.field.now.item in
+    let kept = c.loop-index.invariant.kept in
+    let room = room_at c.loop-index.index c.args.run.count (size_in set item) c.args.run.first c.loop-index.first _ (omega (arith, c.loop-index-test.true)) c.loop-index.invariant.here c.requires.room in
+    let here : AreKinds c.args.taken.now.image.kinds c.loop-index.first (element_cells cs item) =
+    subst (λ (p : ℕ). AreKinds c.args.taken.now.image.kinds p (element_cells cs item)) (sym c.loop-index.invariant.here) (c.requires.kinds c.loop-index.index (omega (arith, c.loop-index-test.true))) in
+    let fits : c.loop-index.first + size_in set item ≤ length c.loop-index.taken.image.numbers = omega (arith, room, kept.long) in
+    let few : length c.loop-index.taken.image.numbers ≤ 16384 = omega (arith, kept.long, c.requires.few) in
+    (omega arith, (c.requires.reaches, (fits, (few, subst (λ (ks : List Kind). AreKinds ks c.loop-index.first (element_cells cs item)) (sym kept.kinds) here))))
+
 -- ---- a field
+
+pub read_field-read_item-requires : goal.read_field-read_item-requires
+read_field-read_item-requires t c =
+    let set = described c.args.set.now in
+    let cs = cells_in (table set) in
+    let item = c.args.run.field.now.item in
+    let kinds = c.args.taken.now.image.kinds in
+    let one : c.args.run.count ≡ 1 = c.requires.fits.single c.in-One.is in
+    let zero_on : c.args.run.first + 0 * size_in set item ≡ c.args.run.first = omega arith in
+    let width : c.args.run.count * size_in set item ≡ 1 * size_in set item = ap (λ (n : ℕ). n * size_in set item) one in
+    let room : c.args.run.first + size_in set item ≤ length c.args.taken.now.image.numbers = omega (arith, width, c.requires.fits.room) in
+    (omega arith, (c.requires.fits.reaches, (room, (c.requires.fits.few, subst (λ (p : ℕ). AreKinds kinds p (element_cells cs item)) zero_on (c.requires.kinds 0 (omega (arith, one)))))))
+
+pub read_field-read_elements-requires : goal.read_field-read_elements-requires
+read_field-read_elements-requires t c =
+    (omega arith, (c.requires.fits.reaches, (c.requires.fits.small, (c.requires.fits.room, (c.requires.fits.few, c.requires.kinds)))))
 
 pub read_field-returns-in_default : goal.read_field-returns-in_default
 read_field-returns-in_default t c =
@@ -87,7 +120,14 @@ read_item-read_part-requires t c =
     let lt : j < length set.structs = ltb-true j (length set.structs) (rw c.in-Struct.is at c.requires.reaches) in
     let room = rw c.in-Struct.is at c.requires.room in
     let size = struct_size set c.args.set.now.well_formed j lt in
-    (search rules, record { part = lt; few = c.requires.few; room = omega (arith, room, size) })
+    let spot : HasSpot set (record { part = parts.Struct j; version = c.desc.result.now.version; base = c.args.run.first }) c.args.taken.now.image.numbers =
+    record { part = lt; few = c.requires.few; room = omega (arith, room, size) } in
+    (search rules, (spot, struct_kinds set c.args.set.now.well_formed j lt c.args.taken.now.image.kinds c.args.run.first (rw c.in-Struct.is at c.requires.kinds)))
+
+pub read_item-read_number_line-requires-clause-of_kind : goal.read_item-read_number_line-requires-clause-of_kind
+read_item-read_number_line-requires-clause-of_kind t c =
+    let set = described c.args.set.now in
+    number_kind (cells_in (table set)) c.args.taken.now.image.kinds c.args.run.first c.in-Num.kind (rw c.in-Num.is at c.requires.kinds)
 
 pub read_item-returns-in-Struct-clause-read : goal.read_item-returns-in-Struct-clause-read
 read_item-returns-in-Struct-clause-read t c =
@@ -113,6 +153,7 @@ read_part-loop-field-init t c =
     record {
       reads = refl;
       room = spot_room (described c.args.set.now) c.args.spot c.args.taken.now.image.numbers c.requires.spot;
+      kinds = c.requires.kinds;
       kept = kept_none c.args.taken.now.image;
     }
 
@@ -139,7 +180,12 @@ read_part-read_field-requires t c =
     let comes : IsNext set d spot.version c.args.present spot.base k c.elements.result c.most.result c.is_present.result (field_of f) (place_of c.loop-field.taken) =
     record { inside = lt; found = found; counts = c.elements.ensures; least = c.most.ensures; is = c.is_present.ensures } in
     let lower = next.lower in
-    (omega (arith, lower), next.run)
+    let cs = cells_in (table set) in
+    let kinds = c.loop-field.taken.image.kinds in
+    let left = field_kinds cs d.fields kinds k cell (field_at set spot.part k) (drop k d.fields) (drop (k + 1) d.fields) (fields_at d.fields k lt) c.loop-field.invariant.kinds in
+    let here : ElementKinds cs (field_of f).item kinds cell (capacity_of f.count) = subst (λ (x : Field). ElementKinds cs x.item kinds cell (capacity_of x.count)) (sym found) left.here in
+    let fewer : c.elements.result ≤ capacity_of f.count = omega (arith, count, elements_fit f.count (own_numbers set spot.part n spot.base)) in
+    (omega (arith, lower), (next.run, λ i inside. here i (omega (arith, inside, fewer))))
 
 pub read_part-returns-in_err-read_field-clause-read : goal.read_part-returns-in_err-read_field-clause-read
 read_part-returns-in_err-read_field-clause-read t c =
@@ -221,11 +267,15 @@ read_part-loop-field-preserved t c =
     let small : capacity_of f.count * size_in set f.item ≤ 16384 = omega (arith, next.room, has.few) in
     let width : c.field_cells-cell.result ≡ capacity_of f.count * size_in set f.item =
     width_code set (field_of f) c.field_cells-cell.result (c.field_cells-cell.ensures ∙ ap (λ (x : Field). in_u32 (capacity_of x.count * item_size (struct_cells set) x.item)) (sym found)) small in
+    let left = field_kinds (cells_in (table set)) d.fields c.loop-field.taken.image.kinds k cell (field_at set spot.part k) (drop k d.fields) (drop (k + 1) d.fields) (fields_at d.fields k lt) c.loop-field.invariant.kinds in
     record {
       reads = fields_go set d spot.version (path_text c.args.path.now) c.args.present spot.base k cell c.elements.result c.most.result c.is_present.result (field_of f)
           (place_of c.loop-field.taken) _ c.field_cells-cell.result comes width (reached _ _ c.in_ok-read_field.ensures.read)
           ∙ c.loop-field.invariant.reads;
       room = subst (λ (x : ℕ). (cell + c.field_cells-cell.result) + length (cells_from (cells_in (table set)) d.fields (k + 1) (drop (k + 1) d.fields)) ≤ x) (sym c.in_ok-read_field.ensures.kept.long)
           (subst (λ (w : ℕ). (cell + w) + length (cells_from (cells_in (table set)) d.fields (k + 1) (drop (k + 1) d.fields)) ≤ length n) (sym width) next.later);
+      kinds = subst (λ (ks : List Kind). AreKinds ks (cell + c.field_cells-cell.result) (cells_from (cells_in (table set)) d.fields (k + 1) (drop (k + 1) d.fields))) (sym c.in_ok-read_field.ensures.kept.kinds)
+          (subst (λ (w : ℕ). AreKinds c.loop-field.taken.image.kinds (cell + w) (cells_from (cells_in (table set)) d.fields (k + 1) (drop (k + 1) d.fields))) (sym width)
+          (subst (λ (x : Field). AreKinds c.loop-field.taken.image.kinds (cell + capacity_of x.count * size_in set x.item) (cells_from (cells_in (table set)) d.fields (k + 1) (drop (k + 1) d.fields))) (sym found) left.later));
       kept = kept_more _ _ _ c.loop-field.invariant.kept c.in_ok-read_field.ensures.kept;
     }

@@ -7,7 +7,7 @@ use Rattle.vms_desc.specs.Parts.{desc_at}
 use Rattle.vms_walk.specs.Steps.{size_in, table, cells_in, capacities_of}
 use Rattle.vms_walk.proofs.Ranks.{item_rank, part_rank}
 use Rattle.vms_values.specs.Paths.{path_text}
-use Rattle.vms_values.specs.Taken.{IsKept, place_of}
+use Rattle.vms_values.specs.Taken.{IsKept, AreKinds, place_of}
 use Rattle.vms_values.proofs.taken.+read.Given as goal
 
 abbrev pub decreases-read_elements : goal.decreases-read_elements
@@ -47,5 +47,6 @@ invariant-read_part-loop-field l =
       reads : read_fields (readers set) d l.spot.version path l.present l.spot.base l.field l.cell (drop l.field d.fields) (place_of l.taken)
           ≡ read_desc (readers set) d l.spot.version path l.present l.spot.base (place_of l.initial.taken);
       room : l.cell + length (cells_from (cells_in (table set)) d.fields l.field (drop l.field d.fields)) ≤ length l.taken.image.numbers;
+      kinds : AreKinds l.taken.image.kinds l.cell (cells_from (cells_in (table set)) d.fields l.field (drop l.field d.fields));
       kept : IsKept l.initial.taken.image l.taken.image;
     }

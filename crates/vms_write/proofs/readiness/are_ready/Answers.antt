@@ -1,16 +1,20 @@
-use Rattle.std.proofs.Common.{◌≡◌, length, sym, ap, ◌∙◌, Bool, true, false}
+use Rattle.std.proofs.Common.{◌≡◌, ◌<◌, ◌≤◌, length, map, sym, ap, ◌∙◌, arith, Bool, true, false}
 use Rattle.std.specs.Bool.{OnTrue, OnFalse}
 use Rattle.std.proofs.lemmas.List.{length-map}
 use Rattle.vms_spec.specs.Sets.{Set}
 use Rattle.vms_parts.specs.Views.{device_of}
 use Rattle.vms_desc.specs.Described.{described}
-use Rattle.vms_write.proofs.AllReady.{none_so_far, one_more, not_all, all_so_far}
+use Rattle.vms_image.specs.Typed.{state_of}
+use Rattle.vms_image.proofs.States.{states_long, state_at, image_at}
+use Rattle.vms_write.proofs.AllReady.{none_so_far, none_of, one_more, one_more_of, not_all, all_so_far, all_of}
 use Rattle.vms_write.proofs.readiness.are_ready.Goals as goal
 
 pub loop-device-init : goal.loop-device-init
-loop-device-init c =
-    none_so_far (described c.args.set.now) c.args.images.now
-    (c.if-images-as_slice.false ∙ ap length c.as_slice.ensures ∙ sym (length-map c.parts.result.now.devices device_of) ∙ ap (λ (s : Set). length s.devices) c.parts.ensures)
+loop-device-init c = record {
+  ready = none_so_far (described c.args.set.now) (map state_of c.args.images.now)
+      (states_long c.args.images.now ∙ c.if-images-as_slice.false ∙ ap length c.as_slice.ensures ∙ sym (length-map c.parts.result.now.devices device_of) ∙ ap (λ (s : Set). length s.devices) c.parts.ensures);
+  of = none_of (described c.args.set.now) c.args.images.now;
+}
 
 if_true : {P : Type 0} (b : Bool) → b ≡ true → OnTrue b P → P
 if_true true e h = h
@@ -22,13 +26,32 @@ if_false false e h = h
 
 pub loop-device-preserved : goal.loop-device-preserved
 loop-device-preserved c =
-    one_more (described c.args.set.now) c.args.images.now c.loop-device.device c.index-images-device.result c.loop-device.invariant c.loop-device-test.true c.index-images-device.is
-    (if_true _ c.if-not-may_be_written.false c.may_be_written.ensures.ready)
+    let images = c.args.images.now in
+    let image = c.index-images-device.result in
+    let k = c.loop-device.device in
+    let lt : k < length (map state_of images) = omega (arith, c.loop-device-test.true, states_long images) in
+    record {
+      ready = one_more (described c.args.set.now) (map state_of images) k (state_of image) c.loop-device.invariant.ready lt (state_at images k image c.loop-device-test.true c.index-images-device.is)
+          (if_true _ c.if-not-may_be_written.false c.may_be_written.ensures.ready);
+      of = one_more_of (described c.args.set.now) images k image c.loop-device.invariant.of c.loop-device-test.true c.index-images-device.is (if_true _ c.if-not-may_be_written.false c.may_be_written.ensures.of);
+    }
 
 pub returns-then-not-may_be_written-clause-other : goal.returns-then-not-may_be_written-clause-other
 returns-then-not-may_be_written-clause-other c =
-    not_all (described c.args.set.now) c.args.images.now c.loop-device.device c.index-images-device.result c.loop-device.invariant c.loop-device-test.true c.index-images-device.is
-    (if_false _ c.if-not-may_be_written.true c.may_be_written.ensures.other)
+    let images = c.args.images.now in
+    let image = c.index-images-device.result in
+    let k = c.loop-device.device in
+    let lt : k < length (map state_of images) = omega (arith, c.loop-device-test.true, states_long images) in
+    λ of. not_all (described c.args.set.now) (map state_of images) k (state_of image) c.loop-device.invariant.ready lt (state_at images k image c.loop-device-test.true c.index-images-device.is)
+    (if_false _ c.if-not-may_be_written.true c.may_be_written.ensures.other (of.each k image (image_at images k image c.loop-device-test.true c.index-images-device.is)))
 
 pub returns-clause-ready : goal.returns-clause-ready
-returns-clause-ready c = all_so_far (described c.args.set.now) c.args.images.now c.loop-device.device c.loop-device.invariant c.loop-device-test.false
+returns-clause-ready c =
+    let images = c.args.images.now in
+    let past : length (map state_of images) ≤ c.loop-device.device = omega (arith, c.loop-device-test.false, states_long images) in
+    all_so_far (described c.args.set.now) (map state_of images) c.loop-device.device c.loop-device.invariant.ready past
+
+pub returns-clause-of : goal.returns-clause-of
+returns-clause-of c =
+    let images = c.args.images.now in
+    all_of (described c.args.set.now) images c.loop-device.device c.loop-device.invariant.of (sym (states_long images) ∙ c.loop-device.invariant.ready.long) c.loop-device-test.false

@@ -1,6 +1,11 @@
+use Rattle.std.proofs.Common.{map}
 use Rattle.vms_desc.specs.Described.{described}
-use Rattle.vms_write.proofs.AllReady.{AreSoFar}
+use Rattle.vms_image.specs.Typed.{state_of}
+use Rattle.vms_write.proofs.AllReady.{AreSoFar, AreOfSoFar}
 use Rattle.vms_write.proofs.readiness.are_ready.Given as goal
 
 abbrev pub invariant-loop-device : goal.invariant-loop-device
-invariant-loop-device l = AreSoFar (described l.set) l.images l.device
+invariant-loop-device l = record {
+  ready : AreSoFar (described l.set) (map state_of l.images) l.device;
+  of : AreOfSoFar (described l.set) l.images l.device;
+}

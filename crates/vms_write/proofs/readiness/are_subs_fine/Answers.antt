@@ -3,6 +3,7 @@ use Rattle.vms_spec.specs.declared.Part.TheVariants as parts
 use Rattle.vms_spec.specs.Images.{own_cells}
 use Rattle.vms_desc.specs.Asks.{first_cell}
 use Rattle.vms_desc.specs.Described.{described, device_at}
+use Rattle.vms_image.specs.Typed.{state_of}
 use Rattle.vms_desc.proofs.AskLaws.{sub_first}
 use Rattle.vms_write.specs.Fine.{subs_fine}
 use Rattle.vms_write.specs.Judged.{forms_of}
@@ -13,7 +14,7 @@ pub loop-sub-init : goal.loop-sub-init
 loop-sub-init c =
     let set = described c.args.set.now in
     let d = device_at set c.args.device in
-    let image = c.args.image.now in
+    let image = state_of c.args.image.now in
     ap (λ (k : ℕ). subs_fine set d (forms_of set d) image 0 k d.subs image.came) (sub_first set (own_cells set d) d.subs)
 
 pub loop-sub-preserved : goal.loop-sub-preserved
@@ -21,7 +22,7 @@ loop-sub-preserved c =
     let set = described c.args.set.now in
     let i = c.args.device in
     let d = device_at set i in
-    let image = c.args.image.now in
+    let image = state_of c.args.image.now in
     let j = c.loop-sub.sub in
     let lt : j < length d.subs = omega (arith, c.sub_count-sub-end.ensures) in
     let rest = subs_fine set d (forms_of set d) image (j + 1) (first_cell set (parts.Sub i (j + 1))) (drop (j + 1) d.subs) (drop (j + 1) image.came) in

@@ -2,6 +2,7 @@ use Rattle.std.proofs.Common.{◌≡◌, drop}
 use Rattle.vms_spec.specs.declared.Part.TheVariants as parts
 use Rattle.vms_desc.specs.Asks.{first_cell}
 use Rattle.vms_desc.specs.Described.{described, device_at}
+use Rattle.vms_image.specs.Typed.{state_of}
 use Rattle.vms_write.specs.Fine.{subs_fine}
 use Rattle.vms_write.specs.Judged.{forms_of, all_subs_fine}
 use Rattle.vms_write.proofs.readiness.are_subs_fine.Given as goal
@@ -10,4 +11,4 @@ abbrev pub invariant-loop-sub : goal.invariant-loop-sub
 invariant-loop-sub l =
     let set = described l.set in
     let d = device_at set l.device in
-    subs_fine set d (forms_of set d) l.image l.sub (first_cell set (parts.Sub l.device l.sub)) (drop l.sub d.subs) (drop l.sub l.image.came) ≡ all_subs_fine set d l.image
+    subs_fine set d (forms_of set d) (state_of l.image) l.sub (first_cell set (parts.Sub l.device l.sub)) (drop l.sub d.subs) (drop l.sub l.image.came) ≡ all_subs_fine set d (state_of l.image)

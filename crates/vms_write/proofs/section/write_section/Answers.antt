@@ -5,7 +5,10 @@ use Rattle.vms_io.specs.Causes.{AppendsPrefix}
 use Rattle.vms_spec.specs.Images.{zeroed, own_cells, own_slots}
 use Rattle.vms_spec.specs.Sets.{Device}
 use Rattle.vms_spec.specs.Streams.{section_head, written_subs, foot}
+use Rattle.vms_kinds.specs.declared.Kind.{Kind}
 use Rattle.vms_desc.specs.Described.{described, device_at}
+use Rattle.vms_desc.specs.Spots.{kinds_at}
+use Rattle.vms_image.specs.Typed.{state_of}
 use Rattle.vms_desc.proofs.AskLaws.{own_inside_device}
 use Rattle.vms_write.specs.Bytes.{CanWrite}
 use Rattle.vms_write.proofs.Formed.{device_short}
@@ -21,15 +24,16 @@ section_head-head-requires g c =
 pub write_fields-requires-clause-spot : goal.write_fields-requires-clause-spot
 write_fields-requires-clause-spot g c =
     let set = described c.args.set.now in
-    let w = ready_writable set c.args.set.now.well_formed c.args.set.now.heads c.args.device c.args.image.now c.requires.is_device c.requires.ready in
+    let w = ready_writable set c.args.set.now.well_formed c.args.set.now.heads c.args.device (state_of c.args.image.now) c.requires.is_device c.requires.ready in
     record { part = c.requires.is_device; few = w.few; room = omega (arith, own_inside_device set c.args.device, w.cells) }
 
 pub write_fields-requires-clause-can : goal.write_fields-requires-clause-can
 write_fields-requires-clause-can g c =
     let set = described c.args.set.now in
     let n = c.args.image.now.numbers in
-    let w = ready_writable set c.args.set.now.well_formed c.args.set.now.heads c.args.device c.args.image.now c.requires.is_device c.requires.ready in
-    subst (λ (v : ℕ). CanWrite n (own_slots set (device_at set c.args.device) v n)) (sym c.version-2.ensures) w.own
+    let w = ready_writable set c.args.set.now.well_formed c.args.set.now.heads c.args.device (state_of c.args.image.now) c.requires.is_device c.requires.ready in
+    subst (λ (kinds : List Kind). CanWrite kinds (own_slots set (device_at set c.args.device) c.version-2.result n)) (sym c.requires.kinds)
+    (subst (λ (v : ℕ). CanWrite (kinds_at set c.args.device) (own_slots set (device_at set c.args.device) v n)) (sym c.version-2.ensures) w.own)
 
 pub returns-in_err-append-clause-err : goal.returns-in_err-append-clause-err
 returns-in_err-append-clause-err g c =
@@ -39,7 +43,7 @@ returns-in_err-append-clause-err g c =
     let d = device_at set c.args.device in
     let head = section_head c.args.device d.desc.name d.instance v in
     let own = zeroed n (own_slots set d v n) in
-    let subs = written_subs set d c.args.image.now (own_cells set d) d.subs c.args.image.now.came in
+    let subs = written_subs set d (state_of c.args.image.now) (own_cells set d) d.subs c.args.image.now.came in
     let first : c.as_slice.result.now ≡ head =
     c.as_slice.ensures.value ∙ c.section_head-head.ensures
     ∙ ap (λ (x : List ℕ). section_head c.args.device x c.device-described.result.now.instance c.version.result) c.as_bytes.ensures
@@ -56,7 +60,7 @@ returns-in_err-write_fields-clause-err g c =
     let d = device_at set c.args.device in
     let head = section_head c.args.device d.desc.name d.instance v in
     let own = zeroed n (own_slots set d v n) in
-    let subs = written_subs set d c.args.image.now (own_cells set d) d.subs c.args.image.now.came in
+    let subs = written_subs set d (state_of c.args.image.now) (own_cells set d) d.subs c.args.image.now.came in
     let first : c.as_slice.result.now ≡ head =
     c.as_slice.ensures.value ∙ c.section_head-head.ensures
     ∙ ap (λ (x : List ℕ). section_head c.args.device x c.device-described.result.now.instance c.version.result) c.as_bytes.ensures
@@ -74,7 +78,7 @@ returns-in_err-write_subs-clause-err g c =
     let d = device_at set c.args.device in
     let head = section_head c.args.device d.desc.name d.instance v in
     let own = zeroed n (own_slots set d v n) in
-    let subs = written_subs set d c.args.image.now (own_cells set d) d.subs c.args.image.now.came in
+    let subs = written_subs set d (state_of c.args.image.now) (own_cells set d) d.subs c.args.image.now.came in
     let first : c.as_slice.result.now ≡ head =
     c.as_slice.ensures.value ∙ c.section_head-head.ensures
     ∙ ap (λ (x : List ℕ). section_head c.args.device x c.device-described.result.now.instance c.version.result) c.as_bytes.ensures
@@ -94,7 +98,7 @@ returns-clause-err g c =
     let d = device_at set c.args.device in
     let head = section_head c.args.device d.desc.name d.instance v in
     let own = zeroed n (own_slots set d v n) in
-    let subs = written_subs set d c.args.image.now (own_cells set d) d.subs c.args.image.now.came in
+    let subs = written_subs set d (state_of c.args.image.now) (own_cells set d) d.subs c.args.image.now.came in
     let first : c.as_slice.result.now ≡ head =
     c.as_slice.ensures.value ∙ c.section_head-head.ensures
     ∙ ap (λ (x : List ℕ). section_head c.args.device x c.device-described.result.now.instance c.version.result) c.as_bytes.ensures

@@ -6,7 +6,10 @@ use Rattle.vms_spec.specs.Images.{zeroed, sub_slots}
 use Rattle.vms_spec.specs.Sets.{Desc}
 use Rattle.vms_spec.specs.Streams.{sub_head}
 use Rattle.vms_desc.specs.Asks.{first_cell}
+use Rattle.vms_kinds.specs.declared.Kind.{Kind}
 use Rattle.vms_desc.specs.Described.{described, device_at}
+use Rattle.vms_desc.specs.Spots.{kinds_at}
+use Rattle.vms_image.specs.Typed.{state_of}
 use Rattle.vms_desc.specs.Parts.{sub_at}
 use Rattle.vms_desc.proofs.AskLaws.{sub_inside}
 use Rattle.vms_write.specs.Bytes.{CanWrite}
@@ -19,7 +22,7 @@ use Rattle.vms_write.proofs.section.write_sub.Goals as goal
 pub came-requires : goal.came-requires
 came-requires g c =
     let set = described c.args.set.now in
-    let w = ready_writable set c.args.set.now.well_formed c.args.set.now.heads c.args.device c.args.image.now c.requires.is_device c.requires.ready in
+    let w = ready_writable set c.args.set.now.well_formed c.args.set.now.heads c.args.device (state_of c.args.image.now) c.requires.is_device c.requires.ready in
     omega (arith, w.came, c.requires.is_sub)
 
 pub sub_head-head-requires : goal.sub_head-head-requires
@@ -30,20 +33,22 @@ sub_head-head-requires g c =
 pub write_fields-requires-clause-spot : goal.write_fields-requires-clause-spot
 write_fields-requires-clause-spot g c =
     let set = described c.args.set.now in
-    let w = ready_writable set c.args.set.now.well_formed c.args.set.now.heads c.args.device c.args.image.now c.requires.is_device c.requires.ready in
+    let w = ready_writable set c.args.set.now.well_formed c.args.set.now.heads c.args.device (state_of c.args.image.now) c.requires.is_device c.requires.ready in
     record { part = (c.requires.is_device, c.requires.is_sub); few = w.few; room = omega (arith, c.first_cell.ensures, sub_inside set c.args.device c.args.sub c.requires.is_sub, w.cells) }
 
 pub write_fields-requires-clause-can : goal.write_fields-requires-clause-can
 write_fields-requires-clause-can g c =
     let set = described c.args.set.now in
     let n = c.args.image.now.numbers in
-    let w = ready_writable set c.args.set.now.well_formed c.args.set.now.heads c.args.device c.args.image.now c.requires.is_device c.requires.ready in
-    subst (λ (x : ℕ). CanWrite n (sub_slots set (sub_at (device_at set c.args.device) c.args.sub) c.in-Some.version n x)) (sym c.first_cell.ensures) (w.subs c.args.sub c.in-Some.version c.requires.is_sub)
+    let w = ready_writable set c.args.set.now.well_formed c.args.set.now.heads c.args.device (state_of c.args.image.now) c.requires.is_device c.requires.ready in
+    let s = sub_at (device_at set c.args.device) c.args.sub in
+    subst (λ (kinds : List Kind). CanWrite kinds (sub_slots set s c.in-Some.version n c.first_cell.result)) (sym c.requires.kinds)
+    (subst (λ (x : ℕ). CanWrite (kinds_at set c.args.device) (sub_slots set s c.in-Some.version n x)) (sym c.first_cell.ensures) (w.subs c.args.sub c.in-Some.version c.requires.is_sub))
 
 pub returns-in_err-append-in-Some-clause-err : goal.returns-in_err-append-in-Some-clause-err
 returns-in_err-append-in-Some-clause-err g c =
     let set = described c.args.set.now in
-    let image = c.args.image.now in
+    let image = state_of c.args.image.now in
     let s = sub_at (device_at set c.args.device) c.args.sub in
     let v = c.in-Some.version in
     let head = sub_head s.desc.name v in
@@ -57,7 +62,7 @@ returns-in_err-append-in-Some-clause-err g c =
 pub returns-in_ok-append-in-Some-clause-err : goal.returns-in_ok-append-in-Some-clause-err
 returns-in_ok-append-in-Some-clause-err g c =
     let set = described c.args.set.now in
-    let image = c.args.image.now in
+    let image = state_of c.args.image.now in
     let s = sub_at (device_at set c.args.device) c.args.sub in
     let v = c.in-Some.version in
     let head = sub_head s.desc.name v in

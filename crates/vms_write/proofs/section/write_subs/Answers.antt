@@ -4,6 +4,7 @@ use Rattle.vms_spec.specs.Images.{own_cells}
 use Rattle.vms_spec.specs.Streams.{written_subs}
 use Rattle.vms_desc.specs.Asks.{first_cell}
 use Rattle.vms_desc.specs.Described.{described, device_at}
+use Rattle.vms_image.specs.Typed.{state_of}
 use Rattle.vms_desc.proofs.AskLaws.{sub_first}
 use Rattle.vms_write.specs.Writing.{written_sub}
 use Rattle.vms_walk.proofs.Growing.{Leaves, leaves_all, leaves_rest, leaves_prefix, on_fault}
@@ -16,8 +17,8 @@ loop-sub-init g c =
     let set = described c.args.set.now in
     let d = device_at set c.args.device in
     record {
-      bytes = subst (λ (x : ℕ). Leaves (g.K.Sink.written c.args.sink.now) (g.K.Sink.written c.args.sink.now) (written_subs set d c.args.image.now (own_cells set d) d.subs c.args.image.now.came)
-          (written_subs set d c.args.image.now x d.subs c.args.image.now.came)) (sym (sub_first set (own_cells set d) d.subs)) (leaves_all _ _);
+      bytes = subst (λ (x : ℕ). Leaves (g.K.Sink.written c.args.sink.now) (g.K.Sink.written c.args.sink.now) (written_subs set d (state_of c.args.image.now) (own_cells set d) d.subs c.args.image.now.came)
+          (written_subs set d (state_of c.args.image.now) x d.subs c.args.image.now.came)) (sym (sub_first set (own_cells set d) d.subs)) (leaves_all _ _);
       later = omega arith;
       promise = refl;
     }
@@ -27,7 +28,7 @@ loop-sub-preserved g c =
     let set = described c.args.set.now in
     let i = c.args.device in
     let d = device_at set i in
-    let image = c.args.image.now in
+    let image = state_of c.args.image.now in
     let j = c.loop-sub.sub in
     let w = ready_writable set c.args.set.now.well_formed c.args.set.now.heads i image c.requires.is_device c.requires.ready in
     let lt : j < length d.subs = omega (arith, c.sub_count-sub-end.ensures) in
@@ -44,7 +45,7 @@ returns-in_err-write_sub-clause-err g c =
     let set = described c.args.set.now in
     let i = c.args.device in
     let d = device_at set i in
-    let image = c.args.image.now in
+    let image = state_of c.args.image.now in
     let j = c.loop-sub.sub in
     let w = ready_writable set c.args.set.now.well_formed c.args.set.now.heads i image c.requires.is_device c.requires.ready in
     let lt : j < length d.subs = omega (arith, c.sub_count-sub-end.ensures) in

@@ -1,15 +1,32 @@
-use Rattle.std.proofs.Common.{◌∙◌, ap, refl, sym, length, replicate, None, ℕ, Option}
+use Rattle.std.proofs.Common.{◌≡◌, ◌∙◌, ap, refl, sym, length, replicate, None, ℕ, Option}
 use Rattle.std.proofs.lemmas.List.{length-map}
 use Rattle.vms_spec.specs.Sets.{Device}
-use Rattle.vms_spec.specs.Images.{Image}
-use Rattle.vms_desc.specs.Described.{described, device_at}
 use Rattle.vms_parts.specs.Views.{sub_of}
-use Rattle.vms_image.proofs.Made.{made}
+use Rattle.vms_spots.specs.Spots.{Held}
+use Rattle.vms_desc.specs.Described.{described, device_at}
+use Rattle.vms_image.specs.Typed.{Typed}
+use Rattle.vms_image.proofs.Made.{made, form_kinds, form_count, defaults_fit}
 use Rattle.vms_image.proofs.image.Image.reset.Goals as goal
+
+pub put_defaults-requires : goal.put_defaults-requires
+put_defaults-requires c =
+    let set = described c.args.set.now in
+    let k = c.args.device in
+    let forms = c.cell_forms.result.now in
+    record {
+      few = c.cell_forms.ensures.few;
+      long = ap (λ (i : Typed). length i.numbers) c.self.view_is ∙ c.requires.cells ∙ sym (form_count set k forms c.cell_forms.ensures.forms);
+      kinds = ap (λ (i : Typed). i.kinds) c.self.view_is ∙ c.requires.kinds ∙ sym (form_kinds set k forms c.cell_forms.ensures.forms);
+      range = defaults_fit set k forms c.cell_forms.ensures.forms c.args.set.now.well_formed c.args.set.now.heads c.requires.is_device;
+    }
 
 pub returns : goal.returns
 returns c =
-    made (described c.args.set.now) (device_at (described c.args.set.now) c.args.device) c.device.result.now c.device.ensures
-    c.cell_forms.result.now c.cell_forms.ensures.forms (record { version = c.device.result.now.desc.version; came = c.clear.new.came.items; numbers = c.put_defaults.new.numbers.items }) refl
+    let set = described c.args.set.now in
+    let k = c.args.device in
+    made set k c.cell_forms.result.now c.cell_forms.ensures.forms c.device.result.now c.device.ensures
+    (record { version = c.device.result.now.desc.version; came = c.clear.new.came.items; numbers = c.put_defaults.new.cells.numbers; kinds = c.put_defaults.new.cells.kinds }) refl
     (c.clear.ensures ∙ ap (λ (n : ℕ). replicate {A = Option ℕ} n None)
-    (ap (λ (i : Image). length i.came) c.self.view_is ∙ c.requires.subs ∙ ap (λ (d : Device). length d.subs) (sym c.device.ensures) ∙ length-map c.device.result.now.subs sub_of)) c.put_defaults.ensures
+    (ap (λ (i : Typed). length i.came) c.self.view_is ∙ c.requires.subs ∙ ap (λ (d : Device). length d.subs) (sym c.device.ensures) ∙ length-map c.device.result.now.subs sub_of))
+    (ap (λ (h : Held). h.numbers) c.put_defaults.ensures)
+    (ap (λ (h : Held). h.kinds) c.put_defaults.ensures ∙ ap (λ (i : Typed). i.kinds) c.self.view_is ∙ c.requires.kinds)

@@ -1,0 +1,26 @@
+//! Tests of what no command reaches: the bytes of kinds and marks, the real objects of the outside, a set that is written as a
+//! file, hooks, scripts, and the devices.
+//!
+//! They stand apart from the crates that they test, since a crate with tests is proved twice.
+#![tactic(auto)]
+
+#[cfg(test)]
+mod hooks;
+#[cfg(test)]
+mod kinds;
+#[cfg(test)]
+mod marks;
+#[cfg(test)]
+mod outside;
+#[cfg(test)]
+mod pic;
+#[cfg(test)]
+mod pit;
+#[cfg(test)]
+mod pit_cells;
+#[cfg(test)]
+mod scripts;
+#[cfg(test)]
+mod serial;
+#[cfg(test)]
+mod set_files;

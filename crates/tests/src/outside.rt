@@ -1,0 +1,58 @@
+// Each real object of the outside once, at its trait.
+use std::alloc::Global;
+use std::rt::Files;
+use std::test::Fail;
+use vms_io::{
+    FetchFault, FileShelf, Shelf, Source, StdSink, StdSource, StoreFault, read_exact_of,
+    write_all_of,
+};
+
+fn read_of<S: Source>(source: &mut S, buf: &mut [u8]) -> Option<usize> {
+    read_exact_of(source, buf).ok()
+}
+
+fn fetched<H: Shelf>(alloc: Global, shelf: &mut H, name: &str) -> Result<Vec<u8>, FetchFault> {
+    shelf.fetch(alloc, name, 4)
+}
+
+#[test]
+fn a_slice_gives_its_bytes(rt: HostRuntime) -> Result<(), Fail> {
+    let mut buf = [0; 4];
+    let mut source = StdSource::new(b"ab".as_slice());
+    assert_eq!(rt; read_of(&mut source, &mut buf), Some(2));
+    assert_eq!(rt; buf, [97, 98, 0, 0]);
+    Ok(())
+}
+
+#[test]
+fn a_vector_takes_bytes(rt: HostRuntime) -> Result<(), Fail> {
+    let mut sink = StdSink::new(Vec::new(rt.alloc()));
+    assert!(rt; write_all_of(&mut sink, b"ab").is_ok());
+    Ok(())
+}
+
+#[test]
+fn a_folder_answers_by_name(rt: HostRuntime) -> Result<(), Fail> {
+    let alloc = rt.alloc();
+    rt.create_dir("folder")?;
+    rt.create_dir("folder/inner")?;
+    let mut shelf = FileShelf::new(rt.clone()?, String::from_str(alloc, "folder")?);
+    assert_eq!(rt;
+        fetched(alloc, &mut shelf, "a").err(),
+        Some(FetchFault::NotThere)
+    );
+    assert_eq!(rt;
+        fetched(alloc, &mut shelf, "inner").err(),
+        Some(FetchFault::Failed)
+    );
+    assert_eq!(rt; shelf.store("inner", b"x"), Err(StoreFault::Failed));
+    assert!(rt; shelf.store("a", b"four").is_ok());
+    let bytes = fetched(alloc, &mut shelf, "a").ok().ok_or("held")?;
+    assert_eq!(rt; bytes.as_slice(), b"four".as_slice());
+    assert!(rt; shelf.store("a", b"five!").is_ok());
+    assert_eq!(rt;
+        fetched(alloc, &mut shelf, "a").err(),
+        Some(FetchFault::TooLarge)
+    );
+    Ok(())
+}

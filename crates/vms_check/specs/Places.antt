@@ -1,0 +1,10 @@
+-- The positions of the fields of two sides, as tables.
+use Rattle.std.specs.Prelude.{◌≡◌, ℕ, None, get_or}
+use Rattle.vms_check.specs.Sides.{position_on}
+use Rattle.vms_check.specs.declared.positions.Places.{Places}
+use Rattle.vms_check.specs.declared.side.Side.{Side}
+
+-- each entry is the position of the field of its number, if that is there
+pub record ArePlaces (s t : Side) (places : Places) : Type 0 where
+  pub old : (k : ℕ) → get_or places.in_old k None ≡ position_on s k
+  pub new : (k : ℕ) → get_or places.in_new k None ≡ position_on t k

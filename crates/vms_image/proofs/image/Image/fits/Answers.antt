@@ -1,0 +1,24 @@
+use Rattle.std.specs.Int.{w128}
+use Rattle.std.proofs.lemmas.Int.{to_z-of_z}
+use Rattle.std.proofs.Common.{rules, SFits, ◌≡◌, ◌<◌, ◌↔◌, IsTrue, List, length, get_or, map, sym, ap, ◌∙◌, subst, arith}
+use Rattle.std.proofs.lemmas.List.{get_or-map}
+use Rattle.vms_kinds.specs.Codes.{InRange}
+use Rattle.vms_kinds.specs.declared.Kind.{Kind}
+use Rattle.vms_kinds.specs.declared.Kind.TheVariants.{U8}
+use Rattle.vms_spots.specs.declared.layout.Spot.{Spot}
+use Rattle.vms_spots.specs.Spots.{kinds_of, no_spot}
+use Rattle.vms_spots.proofs.SpotLaws.{kinds_are}
+use Rattle.vms_image.specs.Typed.{Typed}
+use Rattle.vms_image.proofs.image.Image.fits.Goals as goal
+
+pub returns : goal.returns
+returns c =
+    let kinds = c.args.self.now.kinds in
+    let spots = c.spots.result.now in
+    let all : map (λ (s : Spot). s.kind) spots ≡ kinds = ap kinds_of c.spots.ensures.spots ∙ kinds_are 0 c.self.inside.cells.kinds ∙ ap (λ (i : Typed). i.kinds) c.self.view_is in
+    let lt : c.args.cell < length spots = omega (arith, c.spots.ensures.count, ap (λ (i : Typed). length i.numbers) c.self.view_is, c.requires) in
+    let is : get_or kinds c.args.cell U8 ≡ c.kind_at.result =
+    ap (λ (l : List Kind). get_or l c.args.cell U8) (sym all) ∙ get_or-map (λ (s : Spot). s.kind) spots c.args.cell no_spot U8 lt ∙ sym c.kind_at.ensures in
+    let f : SFits w128 c.args.value = search rules in
+    let test = rw (to_z-of_z w128 c.args.value f) at c.in_range.ensures in
+    subst (λ (k : Kind). IsTrue c.in_range.result ↔ InRange k c.args.value) (sym is) test

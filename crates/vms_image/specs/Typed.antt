@@ -1,0 +1,38 @@
+-- An image as it is held: the state that a section carries, and the kind of each cell.
+use Rattle.std.specs.Prelude.{◌≡◌, ℕ, List, length, Option, Some, ℤ}
+use Rattle.vms_kinds.specs.declared.Kind.{Kind}
+use Rattle.vms_spec.specs.Sets.{Set}
+use Rattle.vms_spec.specs.Layout.{device_cells}
+use Rattle.vms_spec.specs.Images.{Image, default_image}
+use Rattle.vms_spec.specs.Lists.{at}
+use Rattle.vms_parts.specs.Devices.{device_at}
+use Rattle.vms_desc.specs.Spots.{kinds_at}
+
+pub record Typed : Type 0 where
+  pub version : ℕ
+  pub came : List (Option ℕ)
+  pub numbers : List ℤ
+  pub kinds : List Kind
+
+-- the state
+abbrev pub state_of : Typed → Image
+state_of image = record { version = image.version; came = image.came; numbers = image.numbers }
+
+-- a state with the kinds of its cells
+abbrev pub typed : List Kind → Image → Typed
+typed kinds image = record { version = image.version; came = image.came; numbers = image.numbers; kinds = kinds }
+
+-- the image of the device of a number at the set's version, with no subsection and all defaults
+abbrev pub default_at : Set → ℕ → Typed
+default_at set device = typed (kinds_at set device) (default_image set (device_at set device))
+
+-- an image of the device of a number: something for each subsection, and its cells with their kinds
+pub record IsImageOf (set : Set) (device : ℕ) (image : Typed) : Type 0 where
+  pub subs : length image.came ≡ length (device_at set device).subs
+  pub cells : length image.numbers ≡ length (device_cells set (device_at set device))
+  pub kinds : image.kinds ≡ kinds_at set device
+
+-- one image for each device of a set, in its order
+pub record AreImagesOf (set : Set) (images : List Typed) : Type 0 where
+  pub one_each : length images ≡ length set.devices
+  pub each : (k : ℕ) (image : Typed) → at images k ≡ Some image → IsImageOf set k image

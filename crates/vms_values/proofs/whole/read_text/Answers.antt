@@ -1,0 +1,24 @@
+use Rattle.std.proofs.Common.{Err, subst, arith}
+use Rattle.vms_spec.specs.ValuesReading.{values_read}
+use Rattle.vms_desc.specs.Described.{described}
+use Rattle.vms_values.specs.Reading.{ReadsBy}
+use Rattle.vms_values.specs.declared.fault.LineFault.{LineFault}
+use Rattle.vms_values.proofs.TextRead.{line_fits, read_means, bad_means}
+use Rattle.vms_values.proofs.whole.read_text.Goals as goal
+
+pub overflow_cast-result : goal.overflow_cast-result
+overflow_cast-result c =
+    let set = described c.args.set.now in
+    let fits = line_fits set c.args.set.now.well_formed c.args.set.now.heads c.args.text.now c.in-Err-Bad.line c.in-Err-Bad.reason
+    (subst (λ (f : LineFault). ReadsBy set (values_read set c.args.text.now) (Err f)) c.in-Err-Bad.field-0-is c.in-Err-Bad.ensures.read) in
+    omega (arith, fits)
+
+pub returns-in-Ok-clause-means : goal.returns-in-Ok-clause-means
+returns-in-Ok-clause-means c =
+    read_means (described c.args.set.now) c.args.set.now.well_formed c.args.set.now.heads c.args.text.now c.in-Ok.values c.in-Ok.ensures.read
+
+pub returns-in-Err-Bad-clause-means : goal.returns-in-Err-Bad-clause-means
+returns-in-Err-Bad-clause-means c =
+    let set = described c.args.set.now in
+    bad_means set c.args.set.now.well_formed c.args.set.now.heads c.args.text.now c.in-Err-Bad.line c.in-Err-Bad.reason
+    (subst (λ (f : LineFault). ReadsBy set (values_read set c.args.text.now) (Err f)) c.in-Err-Bad.field-0-is c.in-Err-Bad.ensures.read)

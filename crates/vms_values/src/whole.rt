@@ -1,0 +1,31 @@
+// Reads values texts of every set.
+ghost use Rattle.std.specs.Prelude.{IfOk};
+ghost use Rattle.vms_spec.specs.ValuesReading.{values_read};
+ghost use Rattle.vms_desc.specs.Described.{described};
+ghost use Rattle.vms_image.specs.Typed.{AreImagesOf};
+ghost use Rattle.vms_values.specs.Reading.{ReadsAs, MeansAs};
+
+use crate::devices::read_lines;
+use crate::fault::LineFault;
+use crate::{Values, ValuesFault};
+use std::alloc::Global;
+use vms_desc::DescSet;
+
+/// Reads a values text of a set: the machine that it names and an image for each device, or the first
+/// line at which it isn't one, and why. A line that no text of the set has there goes before a section
+/// or subsection whose validations fail or that isn't sent as it is needed. The text is read once, and
+/// may have any length. What is accepted may be written.
+pub fn read_text(alloc: Global, set: &DescSet, text: &[u8]) -> Result<Values, ValuesFault>
+    ensures read { ReadsAs (described set.now) (values_read (described set.now) text.now) result }
+    ensures of { IfOk result (λ v. AreImagesOf (described set.now) v.images.items) }
+    ensures means { MeansAs (described set.now) text.now result }
+{
+    match read_lines(alloc, set, text) {
+        Ok(values) => Ok(values),
+        Err(LineFault::Bad { line, reason }) => Err(ValuesFault::Bad {
+            line: line as u32,
+            reason,
+        }),
+        Err(LineFault::NoMemory) => Err(ValuesFault::NoMemory),
+    }
+}
