@@ -32,7 +32,7 @@ bad_words_caused i i' o o' s s' NoMemory c out shelf = absurd c
 caused : (asked : Option Asked) (i i' : Intake) (o o' : Outlet) (s s' : Stock) (e : Ending) → EndsCause asked i i' o o' s s' e → Caused i i' o o' s s' e
 caused None i i' o o' s s' e c = bad_words_caused i i' o o' s s' e c.0 c.2 c.3
 caused (Some (Show set)) i i' o o' s s' e c = show_caused set i i' o o' s s' e c.0 c.1
-caused (Some (Pack name)) i i' o o' s s' e c = pack_caused i i' o o' s s' e c.0 c.2
+caused (Some (Pack set name)) i i' o o' s s' e c = pack_caused i i' o o' s s' e c.0 c.2
 caused (Some (Check old new)) i i' o o' s s' e c = check_caused (asks_shelf old new) i i' o o' s s' e c.0 c.2
 
 module _ (i i' : Intake) (o o' n n' : Outlet) (s s' : Stock) where
@@ -53,7 +53,7 @@ module _ (i i' : Intake) (o o' n n' : Outlet) (s s' : Stock) where
   row_so : (asked : Option Asked) (e : Ending) (status : ℕ) → EndsCause asked i i' o o' s s' e → Tells n n' e status → CanAnswer asked status (around i o n s) (around i' o' n' s')
   row_so None e status c t = bad_words_row e status c t
   row_so (Some (Show set)) e status c t = show_row i i' o o' n n' s s' set e status c t
-  row_so (Some (Pack name)) e status c t = pack_row i i' o o' n n' s s' e status c t
+  row_so (Some (Pack set name)) e status c t = pack_row i i' o o' n n' s s' e status c t
   row_so (Some (Check one other)) e status c t = check_row i i' o o' n n' s s' (asks_shelf one other) e status c t
 
   -- what the call answers

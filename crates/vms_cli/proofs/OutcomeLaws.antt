@@ -6,8 +6,6 @@ use Rattle.vms_io.specs.Causes.{Rose, AppendsPrefix, KeepsPromise}
 use Rattle.vms_io.specs.Shelves.{Held}
 use Rattle.vms_io.specs.Told.{Outlet}
 use Rattle.vms_spec.specs.Numbers.{IsBytes}
-use Rattle.vms_spec.specs.Shipped.{set_0}
-use Rattle.vms_spec.specs.Streams.{written}
 use Rattle.vms_spec.specs.Values.{values_text}
 use Rattle.vms_spec.specs.Images.{Image}
 use Rattle.vms_laws.specs.Laws.{IsFit}
@@ -26,11 +24,11 @@ use Rattle.vms_outcome.proofs.StepLemmas.{IsSound, fetched_gives, one_text, soun
 use Rattle.vms_cli.specs.Answers.{HasOutcome, Answers}
 use Rattle.vms_cli.specs.Check.{checked, compared, compatible_text, verdict}
 use Rattle.vms_cli.specs.Commands.{Asked, Show, Pack, Check, asked_of}
-use Rattle.vms_cli.specs.Laws.{HasOneOutcome, OutcomeLaw, CanBeDone, HasRoom, IsAmple, PromisesKept, CompleteLaw}
-use Rattle.vms_cli.specs.Pack.{packed, packed_by, packs}
+use Rattle.vms_cli.specs.Laws.{HasOneOutcome, OutcomeLaw, CanBePacked, CanBeDone, HasRoom, IsAmple, PromisesKept, CompleteLaw}
+use Rattle.vms_cli.specs.Pack.{described_stream, packed_by, packs}
 use Rattle.vms_cli.specs.Show.{ShowsBy, Values as Printed, Refuses}
 use Rattle.vms_cli.proofs.CheckLemmas.{sound_check}
-use Rattle.vms_cli.proofs.PackLemmas.{sound_pack}
+use Rattle.vms_cli.proofs.PackLemmas.{pack_gives, sound_pack}
 use Rattle.vms_cli.proofs.ShowLemmas.{shown_is, refused_is}
 use Rattle.vms_cli.proofs.VerdictLaws.{StopsAt}
 
@@ -69,9 +67,9 @@ one_shown word input held ok =
 
 -- ---- those of `pack` and `check`
 
-one_packed : (name : List ℕ) (input : List ℕ) (held : Held) → HasOneOutcome (Some (Pack name)) input held
-one_packed name input held =
-    let one = one_text held (packs (Some held) name) (sound_pack (Some held) name) in
+one_packed : (word : SetWord) (name : List ℕ) (input : List ℕ) (held : Held) → HasOneOutcome (Some (Pack word name)) input held
+one_packed word name input held =
+    let one = one_text held (packs (Some held) word name) (sound_pack (Some held) word name) in
     record { outcome = one.outcome; is = one.is; only = one.only }
 
 one_checked : (old new : SetWord) (input : List ℕ) (held : Held) → HasOneOutcome (Some (Check old new)) input held
@@ -82,10 +80,17 @@ one_checked old new input held =
 pub outcome_holds : OutcomeLaw
 outcome_holds None input held ok = record { outcome = ended 2 bad_words 0; is = refl; only = λ other e. e }
 outcome_holds (Some (Show word)) input held ok = one_shown word input held ok
-outcome_holds (Some (Pack name)) input held ok = one_packed name input held
+outcome_holds (Some (Pack word name)) input held ok = one_packed word name input held
 outcome_holds (Some (Check old new)) input held ok = one_checked old new input held
 
 -- ---- completeness
+
+-- a values text that is there is packed
+packs_give : (word : SetWord) (name : List ℕ) (map : Held) → (can : CanBePacked word name map)
+    → packs (Some map) word name ≡ Gives (described_stream can.set can.machine can.images)
+packs_give word name map can =
+    pack_gives (Some map) word name can.set can.text (described_stream can.set can.machine can.images) can.there
+    (fetched_gives longest_file map name can.text can.held can.short) (ap (packed_by can.set) can.reads)
 
 -- what can be done has an outcome of status 0
 record IsDone (asked : Option Asked) (input : Option (List ℕ)) (held : Option Held) : Type 0 where
@@ -109,16 +114,13 @@ can_be (Some (Show word)) input held can = by input can.2
           status = refl;
           note = refl;
         }
-can_be (Some (Pack name)) input None can = absurd can
-can_be (Some (Pack name)) input (Some map) can =
-    let stream = written set_0 can.1 can.2 None in
+can_be (Some (Pack word name)) input None can = absurd can
+can_be (Some (Pack word name)) input (Some map) can =
+    let stream = described_stream can.set can.machine can.images in
     let outcome = done stream (Some map) 0 in
-    let gives : packs (Some map) name ≡ Gives stream =
-    ap (λ (s : Step (List ℕ)). next s (packed set_0)) (fetched_gives longest_file map name can.0 can.3 can.4)
-    ∙ ap (packed_by set_0) can.5 in
     record {
       outcome = outcome;
-      is = subst (λ (s : Step (List ℕ)). HasText (Some map) s outcome) (sym gives) refl;
+      is = subst (λ (s : Step (List ℕ)). HasText (Some map) s outcome) (sym (packs_give word name map can)) refl;
       status = refl;
       note = refl;
     }

@@ -1,5 +1,5 @@
 -- From what a reading and a write say to how `pack` ends.
-use Rattle.std.proofs.Common.{◌≡◌, ℕ, zero, suc, ◌<◌, List, [], ◌∷◌, length, get_or, Option, Some, None, Ok, Err, refl, sym, ap, ◌∙◌, subst, arith, map}
+use Rattle.std.proofs.Common.{◌≡◌, ℕ, zero, suc, ◌<◌, List, [], ◌∷◌, length, get_or, map, Option, Some, None, Ok, Err, refl, sym, ap, ◌∙◌, subst, arith}
 use Rattle.std.specs.Option.{ForSome}
 use Rattle.std.specs.Prelude.{string_bytes}
 use Rattle.std.specs.declared.string.String.{String}
@@ -9,37 +9,36 @@ use Rattle.vms_io.specs.Told.{Outlet}
 use Rattle.vms_spec.specs.Lists.{at, at_option}
 use Rattle.vms_spec.specs.Sets.{Set}
 use Rattle.vms_spec.specs.Images.{Image}
-use Rattle.vms_spec.specs.Shipped.{set_0}
-use Rattle.vms_spec.specs.Streams.{written, AreReady}
+use Rattle.vms_spec.specs.Streams.{AreReady}
+use Rattle.vms_laws.specs.Laws.{IsFit}
 use Rattle.vms_spec.specs.ValuesReading.{ValuesRead, Values, Bad, values_read}
 use Rattle.vms_spec.specs.declared.ValuesReason.{ValuesReason}
-use Rattle.vms_values.specs.Printing.{machine_of}
 use Rattle.vms_image.specs.Typed.{state_of}
+use Rattle.vms_values.specs.Printing.{machine_of}
 use Rattle.vms_values.specs.Reading.{ReadsAs}
 use Rattle.vms_values.specs.declared.fault.Values.{Values as Given}
 use Rattle.vms_values.specs.declared.fault.ValuesFault.TheVariants as faults
-use Rattle.vms_texts.proofs.Backs.{read_holds}
-use Rattle.vms_texts.proofs.Rounds.{timers_ready}
+use Rattle.vms_reading.proofs.Stated.{accepted_holds}
 use Rattle.vms_outcome.specs.declared.ending.Ending.{Ending}
 use Rattle.vms_outcome.specs.declared.ending.Ending.TheVariants.{Done, Refused, BadWords, BadText, NotCompatible, ReadFault, WriteFault, ShelfFault, NotThere, TooLarge, NoMemory}
-use Rattle.vms_outcome.specs.Endings.{Quiet, WritesAs}
-use Rattle.vms_outcome.specs.Fetching.{fetched, longest_file}
-use Rattle.vms_outcome.specs.StepEndings.{TextEnds, WrittenAs}
-use Rattle.vms_outcome.proofs.StepLemmas.{IsSound, sound_fetch, sound_next}
+use Rattle.vms_outcome.specs.Endings.{Quiet}
+use Rattle.vms_outcome.specs.Fetching.{SetText, fetched, fetched_set, longest_file, set_in, word_set}
+use Rattle.vms_outcome.specs.SetWords.{SetWord}
+use Rattle.vms_outcome.specs.StepEndings.{StepAs, TextEnds, WrittenAs}
+use Rattle.vms_outcome.specs.Steps.{Step, Untold, Gives, Ends, next}
+use Rattle.vms_outcome.proofs.StepLemmas.{IsSound, err_text, regroup, sound_fetch, sound_next, sound_set, sound_word, then_text}
 use Rattle.vms_cli.specs.Causes.{WriteCause}
-use Rattle.vms_cli.specs.Pack.{packed, packed_by, packs}
+use Rattle.vms_cli.specs.Pack.{Texts, described_stream, fetched_texts, packed, packed_by, packed_texts, packs}
 use Rattle.vms_cli.specs.ValuesLines.{values_line}
 
-ready_of : (text : List ℕ) (r : ValuesRead) (v : Given) → values_read set_0 text ≡ r → ReadsAs set_0 r (Ok v) → AreReady set_0 (map state_of v.images.items)
-ready_of text (Values machine images) v e reads =
-    subst (λ (l : List Image). AreReady set_0 l) (sym reads.0) (timers_ready images (read_holds text machine images e).ready)
-ready_of text (Bad line reason) v e reads = absurd reads
+ready_of : (set : Set) → IsFit set → (text : List ℕ) (r : ValuesRead) (v : Given) → values_read set text ≡ r → ReadsAs set r (Ok v) → AreReady set (map state_of v.images.items)
+ready_of set fit text (Values machine images) v e reads =
+    subst (λ (l : List Image). AreReady set l) (sym reads.0) (accepted_holds set text machine images fit e).ready
+ready_of set fit text (Bad line reason) v e reads = absurd reads
 
 -- the images of a text that was read are ready
-pub read_ready : (set : Set) (text : List ℕ) (v : Given) → set ≡ set_0 → ReadsAs set (values_read set text) (Ok v) → AreReady set (map state_of v.images.items)
-read_ready set text v is reads =
-    subst (λ (s : Set). AreReady s (map state_of v.images.items)) (sym is)
-    (ready_of text (values_read set_0 text) v refl (subst (λ (s : Set). ReadsAs s (values_read s text) (Ok v)) is reads))
+pub read_ready : (set : Set) → IsFit set → (text : List ℕ) (v : Given) → ReadsAs set (values_read set text) (Ok v) → AreReady set (map state_of v.images.items)
+read_ready set fit text v reads = ready_of set fit text (values_read set text) v refl reads
 
 at_is : {X : Type 0} (xs : List X) (k : ℕ) (d : X) → k < length xs → at xs k ≡ Some (get_or xs k d)
 at_is [] k d l = absurd (omega (arith, l))
@@ -51,27 +50,14 @@ named : (set : Set) (machine : Option ℕ) → ForSome machine (λ m. m < length
 named set None h = refl
 named set (Some m) h = at_is set.machines m [] (h m refl)
 
-wrote : (text : List ℕ) (o o' : Outlet) (e : Ending) → WritesAs text o o' e → WrittenAs text o o' e
-wrote text o o' Done w = w
-wrote text o o' WriteFault w = w.0
-wrote text o o' (Refused line) w = absurd w
-wrote text o o' BadWords w = absurd w
-wrote text o o' (BadText line) w = absurd w
-wrote text o o' (NotCompatible line) w = absurd w
-wrote text o o' ReadFault w = absurd w
-wrote text o o' ShelfFault w = absurd w
-wrote text o o' (NotThere line) w = absurd w
-wrote text o o' (TooLarge line) w = absurd w
-wrote text o o' NoMemory w = absurd w
-
 -- a text that was read, and a write of its stream
 read_by : (set : Set) (r : ValuesRead) (v : Given) (o o' : Outlet) (e : Ending) → ReadsAs set r (Ok v)
-    → WritesAs (written set (at_option set.machines v.machine) (map state_of v.images.items) None) o o' e → TextEnds (packed_by set r) o o' e
+    → WrittenAs (described_stream set (at_option set.machines v.machine) (map state_of v.images.items)) o o' e → TextEnds (packed_by set r) o o' e
 read_by set (Values machine images) v o o' e reads w =
-    let stream : written set (at_option set.machines v.machine) (map state_of v.images.items) None ≡ written set machine images None =
-    ap (λ (m : Option (List ℕ)). written set m (map state_of v.images.items) None) (named set v.machine reads.2 ∙ reads.1)
-    ∙ ap (λ (l : List Image). written set machine l None) reads.0 in
-    wrote (written set machine images None) o o' e (subst (λ (l : List ℕ). WritesAs l o o' e) stream w)
+    let stream : described_stream set (at_option set.machines v.machine) (map state_of v.images.items) ≡ described_stream set machine images =
+    ap (λ (m : Option (List ℕ)). described_stream set m (map state_of v.images.items)) (named set v.machine reads.2 ∙ reads.1)
+    ∙ ap (λ (l : List Image). described_stream set machine l) reads.0 in
+    subst (λ (l : List ℕ). WrittenAs l o o' e) stream w
 read_by set (Bad line reason) v o o' e reads w = absurd reads
 
 -- a text that is refused
@@ -81,16 +67,56 @@ bad_by set (Values machine images) l why line o o' reads said = absurd reads
 bad_by set (Bad m reason) l why line o o' reads said =
     (refl, ap (λ (k : ℕ). values_line k reason) (sym reads.0) ∙ ap (λ (w : ValuesReason). values_line l w) (sym reads.1) ∙ sym said)
 
-module _ (set : Set) (text : List ℕ) (o o' : Outlet) (is : set ≡ set_0) where
+module _ (set : Set) (text : List ℕ) (o o' : Outlet) where
   pub packs_read : (v : Given) (e : Ending) → ReadsAs set (values_read set text) (Ok v)
-      → WritesAs (written set (at_option set.machines v.machine) (map state_of v.images.items) None) o o' e → TextEnds (packed set_0 text) o o' e
-  packs_read v e reads w =
-      subst (λ (s : Set). TextEnds (packed s text) o o' e) is (read_by set (values_read set text) v o o' e reads w)
+      → WrittenAs (described_stream set (at_option set.machines v.machine) (map state_of v.images.items)) o o' e → TextEnds (packed set text) o o' e
+  packs_read v e reads w = read_by set (values_read set text) v o o' e reads w
 
   pub packs_bad : (l : ℕ) (why : ValuesReason) (line : String Global) → ReadsAs set (values_read set text) (Err (faults.Bad l why))
-      → string_bytes line ≡ values_line l why → TextEnds (packed set_0 text) o o' (BadText line)
-  packs_bad l why line reads said =
-      subst (λ (s : Set). TextEnds (packed s text) o o' (BadText line)) is (bad_by set (values_read set text) l why line o o' reads said)
+      → string_bytes line ≡ values_line l why → TextEnds (packed set text) o o' (BadText line)
+  packs_bad l why line reads said = bad_by set (values_read set text) l why line o o' reads said
+
+-- ---- the words' texts
+
+abbrev pub with_values : Option Held → List ℕ → SetText → Step Texts
+with_values held name set = next (fetched longest_file held name) (λ values. Gives (record { set = set; values = values }))
+
+module _ (held : Option Held) (word : SetWord) (name : List ℕ) (o o' : Outlet) (e : Ending) where
+  -- the set ended it
+  pub set_ends : {T : Type 0} (m : T → SetText) → StepAs {A = SetText} {T = T} m (fetched_set held word) (Err e) → TextEnds (packs held word name) o o' e
+  set_ends m h = regroup (fetched_set held word) (with_values held name) packed_texts o o' e
+      (err_text m (λ set. next (with_values held name set) packed_texts) o o' e (fetched_set held word) h)
+
+  -- the values text did
+  pub values_end : {T U : Type 0} (m : T → SetText) (n : U → List ℕ) (t : T) → StepAs m (fetched_set held word) (Ok t)
+      → StepAs {A = List ℕ} {T = U} n (fetched longest_file held name) (Err e) → TextEnds (packs held word name) o o' e
+  values_end m n t first h = regroup (fetched_set held word) (with_values held name) packed_texts o o' e
+      (then_text m (λ set. next (with_values held name set) packed_texts) o o' e (fetched_set held word) t first
+      (regroup (fetched longest_file held name) (λ values. Gives (record { set = m t; values = values })) packed_texts o o' e
+      (err_text n (λ values. packed_texts (record { set = m t; values = values })) o o' e (fetched longest_file held name) h)))
+
+  -- both were there
+  pub texts_end : {T U : Type 0} (m : T → SetText) (n : U → List ℕ) (t : T) (u : U) → StepAs m (fetched_set held word) (Ok t)
+      → StepAs n (fetched longest_file held name) (Ok u) → TextEnds (packed_texts (record { set = m t; values = n u })) o o' e
+      → TextEnds (packs held word name) o o' e
+  texts_end m n t u first second h = regroup (fetched_set held word) (with_values held name) packed_texts o o' e
+      (then_text m (λ set. next (with_values held name set) packed_texts) o o' e (fetched_set held word) t first
+      (regroup (fetched longest_file held name) (λ values. Gives (record { set = m t; values = values })) packed_texts o o' e
+      (then_text n (λ values. packed_texts (record { set = m t; values = values })) o o' e (fetched longest_file held name) u second h)))
+
+-- both texts were there and read
+module _ (held : Option Held) (word : SetWord) (name : List ℕ) (set : Set) (text stream : List ℕ) where
+  gives_by : (t : Step SetText) → next t set_in ≡ Gives set → fetched longest_file held name ≡ Gives text → packed set text ≡ Gives stream
+      → next (next t (with_values held name)) packed_texts ≡ Gives stream
+  gives_by Untold there values reads = absurd (cc)
+  gives_by (Ends status line) there values reads = absurd (cc)
+  gives_by (Gives t) there values reads =
+      ap (λ (s : Step (List ℕ)). next (next s (λ v. Gives (record { set = t; values = v }))) packed_texts) values
+      ∙ ap (λ (s : Step Set). next s (λ x. packed x text)) there ∙ reads
+
+  pub pack_gives : word_set held word ≡ Gives set → fetched longest_file held name ≡ Gives text → packed set text ≡ Gives stream
+      → packs held word name ≡ Gives stream
+  pack_gives there values reads = gives_by (fetched_set held word) there values reads
 
 pub write_quiet : (o o' : Outlet) (e : Ending) → WriteCause o o' e → Quiet o o' e
 write_quiet o o' Done c = tt
@@ -109,7 +135,11 @@ sound_read : (held : Option Held) (set : Set) (r : ValuesRead) → IsSound held 
 sound_read held set (Values machine images) = tt
 sound_read held set (Bad line reason) = omega arith
 
-pub sound_pack : (held : Option Held) (name : List ℕ) → IsSound held (packs held name)
-sound_pack held name =
-    sound_next held (fetched longest_file held name) (packed set_0) (sound_fetch held longest_file name)
-    (λ text. sound_read held set_0 (values_read set_0 text))
+pub sound_pack : (held : Option Held) (word : SetWord) (name : List ℕ) → IsSound held (packs held word name)
+sound_pack held word name =
+    sound_next held (fetched_texts held word name) packed_texts
+    (sound_next held (fetched_set held word) (with_values held name) (sound_word held word)
+    (λ set. sound_next held (fetched longest_file held name) (λ values. Gives (record { set = set; values = values })) (sound_fetch held longest_file name)
+    (λ values. tt)))
+    (λ texts. sound_next held (set_in texts.set) (λ set. packed set texts.values) (sound_set held texts.set)
+    (λ set. sound_read held set (values_read set texts.values)))

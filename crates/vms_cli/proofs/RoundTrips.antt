@@ -1,22 +1,28 @@
 -- Packing and showing, one after the other.
-use Rattle.std.proofs.Common.{◌≡◌, ℕ, ◌<◌, Bool, true, false, nat_le, if◌then◌else◌, List, [], ◌∷◌, length, Option, Some, None, refl, sym, ap, ◌∙◌, subst, arith}
+use Rattle.std.proofs.Common.{◌≡◌, ℕ, ◌<◌, ◌≤◌, Bool, true, false, nat_le, if◌then◌else◌, List, [], ◌∷◌, length, Option, Some, None, IfSome, refl, sym, ap, subst, arith}
 use Rattle.vms_io.specs.Shelves.{Held}
 use Rattle.vms_spec.specs.Images.{Image}
-use Rattle.vms_spec.specs.Shipped.{set_0}
-use Rattle.vms_spec.specs.Streams.{written}
+use Rattle.vms_spec.specs.Sets.{Set}
+use Rattle.vms_spec.specs.Streams.{AreReady, is_one_of}
 use Rattle.vms_spec.specs.Values.{values_text}
 use Rattle.vms_spec.specs.ValuesReading.{ValuesRead, Values, Bad, values_read}
-use Rattle.vms_texts.specs.Texts.{IsTimer, IsMachine}
-use Rattle.vms_texts.proofs.Backs.{printed_holds, read_holds}
-use Rattle.vms_texts.proofs.Rounds.{takes, shown_text}
-use Rattle.vms_outcome.specs.Fetching.{longest_file, text_under}
+use Rattle.vms_laws.specs.Laws.{IsFit}
+use Rattle.vms_units.specs.Streams.{Takes}
+use Rattle.vms_elements.specs.Reading.{IsMachineOf}
+use Rattle.vms_reading.specs.Rounds.{ShowsAs}
+use Rattle.vms_reading.proofs.Rounds.{packed_holds, shown_holds, written_only}
+use Rattle.vms_selfdesc.specs.Tree.{described_text}
+use Rattle.vms_selfdesc.proofs.Bounds.{short_holds}
+use Rattle.vms_outcome.specs.Fetching.{SetText, fetched_set, longest_file, set_in, text_under}
 use Rattle.vms_outcome.specs.Lines.{too_large_line}
 use Rattle.vms_outcome.specs.Outcomes.{Part, Outcome, done, ended}
-use Rattle.vms_outcome.specs.Steps.{Step, Gives, Ends, HasText, next}
+use Rattle.vms_outcome.specs.Steps.{Step, Untold, Gives, Ends, HasText, next}
+use Rattle.vms_outcome.proofs.FileSets.{FitStep, fit_word}
 use Rattle.vms_outcome.proofs.StepLemmas.{fetched_gives}
-use Rattle.vms_cli.specs.Pack.{packed, packed_by, packs}
-use Rattle.vms_cli.specs.Show.{Shows, Values as Printed, Refuses}
 use Rattle.vms_cli.specs.Laws.{PackThenShowLaw, ShowThenPackLaw}
+use Rattle.vms_cli.specs.Pack.{described_stream, packed, packed_by, packed_texts, packs}
+use Rattle.vms_cli.specs.Show.{Shows, ShowsBy, Values as Printed, Refuses}
+use Rattle.vms_cli.proofs.PackLemmas.{pack_gives, with_values}
 
 abbrev first_text : List Part → List ℕ
 first_text [] = []
@@ -25,47 +31,93 @@ first_text (part ∷ parts) = part.text
 same_text : (x y : Outcome) → x ≡ y → first_text x.parts ≡ first_text y.parts
 same_text x y e = ap (λ (o : Outcome). first_text o.parts) e
 
-status_apart : (s : ℕ) (note text : List ℕ) (held : Option Held) (k n : ℕ) → 0 < s → done text held n ≡ ended s note k → ⊥
-status_apart s note text held k n some e = omega (arith, ap (λ (o : Outcome). o.status) e, some)
+-- what is done has a part, and what ends by a status of its own has none
+done_apart : (s : ℕ) (note text : List ℕ) (held : Option Held) (k n : ℕ) → done text held n ≡ ended s note k → ⊥
+done_apart s note text held k n e = parts_apart _ _ (ap (λ (o : Outcome). o.parts) e)
+  where
+    parts_apart : (part : Part) (parts : List Part) → part ∷ parts ≡ [] → ⊥
+    parts_apart part parts e = cc
 
 -- ---- packing and then showing
 
-shown_of : (text stream : List ℕ) (held : Option Held) (r : ValuesRead) → values_read set_0 text ≡ r → HasText held (packed_by set_0 r) (done stream held 0)
-    → Shows set_0 stream held (done text held (length stream))
-shown_of text stream held (Values machine images) e has =
-    let is = read_holds text machine images e in
-    let packed = written set_0 machine images None in
-    let shows : Shows set_0 packed held (done (values_text set_0 machine images) held (length packed)) =
-    Printed (length packed) machine images (takes machine images is.named is.ready) in
-    subst (λ (l : List ℕ). Shows set_0 l held (done text held (length l))) (sym (same_text _ _ has))
-    (subst (λ (t : List ℕ). Shows set_0 packed held (done t held (length packed))) (sym is.printed) shows)
-shown_of text stream held (Bad line reason) e has = absurd (status_apart 3 _ stream held 0 0 (omega arith) has)
+-- a description is short enough for a stream
+fits_text : (set : Set) → IsFit set → (images : List Image) → length (described_text set images) ≤ 16777216
+fits_text set fit images =
+    let short : length (described_text set images) < 16777216 = short_holds.short set fit.well fit.heads images in
+    omega (arith, short)
 
-within_shows : (name text stream : List ℕ) (held : Option Held) (b : Bool)
-    → HasText held (next (if b then Gives text else Ends 9 (too_large_line name)) (packed set_0)) (done stream held 0)
-    → Shows set_0 stream held (done text held (length stream))
-within_shows name text stream held true has = shown_of text stream held (values_read set_0 text) refl has
-within_shows name text stream held false has = absurd (status_apart 9 _ stream held 0 0 (omega arith) has)
+module _ (map : Held) (text stream : List ℕ) where
+  abbrev is_packed : Step (List ℕ) → Type 0
+  is_packed s = HasText (Some map) s (done stream (Some map) 0)
+
+  abbrev is_shown : Step Set → Type 0
+  is_shown s = ShowsBy s (Some stream) (Some map) (done text (Some map) (length stream))
+
+  shown_of : (set : Set) → IsFit set → (r : ValuesRead) → values_read set text ≡ r → is_packed (packed_by set r) → is_shown (Gives set)
+  shown_of set fit (Values machine images) e has =
+      let bytes = described_stream set machine images in
+      let shown = packed_holds set text machine (Some (described_text set images)) images fit (fits_text set fit images) e in
+      let shows : Shows set bytes (Some map) (done (values_text set shown.machine shown.images) (Some map) (length bytes)) =
+      Printed (length bytes) shown.machine shown.images shown.whole in
+      subst (λ (l : List ℕ). Shows set l (Some map) (done text (Some map) (length l))) (sym (same_text _ _ has))
+      (subst (λ (t : List ℕ). Shows set bytes (Some map) (done t (Some map) (length bytes))) shown.printed shows)
+  shown_of set fit (Bad line reason) e has = absurd (done_apart 3 _ stream (Some map) 0 0 has)
+
+  set_shown : (s : Step Set) → FitStep s → is_packed (next s (λ set. packed set text)) → is_shown s
+  set_shown Untold fit has = absurd has
+  set_shown (Gives set) fit has = shown_of set fit (values_read set text) refl has
+  set_shown (Ends status line) fit has = absurd (done_apart status _ stream (Some map) 0 0 has)
+
+  within_shown : (name : List ℕ) (t : SetText) (b : Bool) → FitStep (set_in t)
+      → is_packed (next (next (if b then Gives text else Ends 9 (too_large_line name)) (λ v. Gives (record { set = t; values = v }))) packed_texts)
+      → is_shown (set_in t)
+  within_shown name t true fit has = set_shown (set_in t) fit has
+  within_shown name t false fit has = absurd (done_apart 9 _ stream (Some map) 0 0 has)
+
+  text_shown : (name : List ℕ) (t : Step SetText) → map name ≡ Some text → FitStep (next t set_in)
+      → is_packed (next (next t (with_values (Some map) name)) packed_texts) → is_shown (next t set_in)
+  text_shown name Untold under fit has = absurd has
+  text_shown name (Gives t) under fit has =
+      within_shown name t (nat_le (length text) longest_file) fit
+      (subst (λ (u : Option (List ℕ)). is_packed (next (next (text_under longest_file name u) (λ v. Gives (record { set = t; values = v }))) packed_texts)) under has)
+  text_shown name (Ends status line) under fit has = absurd (done_apart status _ stream (Some map) 0 0 has)
 
 pub pack_then_show : PackThenShowLaw
-pack_then_show name text stream input map under has =
-    within_shows name text stream (Some map) (nat_le (length text) longest_file)
-    (subst (λ (u : Option (List ℕ)). HasText (Some map) (next (text_under longest_file name u) (packed set_0)) (done stream (Some map) 0)) under has)
+pack_then_show word name text stream input map under has =
+    text_shown map text stream name (fetched_set (Some map) word) under (fit_word (Some map) word) has
 
 -- ---- showing and then packing
 
-shown_packs : (machine : Option (List ℕ)) (images : List Image) → IsMachine machine → IsTimer images → (text : List ℕ) (held : Option Held) (n : ℕ) (x : Outcome)
-    → x ≡ done text held n → Shows set_0 (written set_0 machine images None) held x → packed set_0 text ≡ Gives (written set_0 machine images None)
-shown_packs machine images m t text held n x same (Printed taken other others whole) =
-    let text_is : values_text set_0 machine images ≡ text = shown_text machine other images others taken m t whole ∙ same_text _ _ same in
-    ap (λ (l : List ℕ). packed set_0 l) (sym text_is) ∙ ap (packed_by set_0) (printed_holds machine images m t)
-shown_packs machine images m t text held n x same (Refuses place section reason size fault) =
-    absurd (status_apart 1 _ text held _ n (omega arith) (sym same))
+-- the text that is shown of a stream that was written is read as what was written
+reads_back : (set : Set) → IsFit set → (machine : Option (List ℕ)) (images : List Image) → IsMachineOf set machine → AreReady set images
+    → (text : List ℕ) (held : Option Held) (n : ℕ) (x : Outcome) → x ≡ done text held n → Shows set (described_stream set machine images) held x
+    → values_read set text ≡ Values machine images
+reads_back set fit machine images named ready text held n x same (Printed taken other others whole) =
+    let described : Option (List ℕ) = Some (described_text set images) in
+    let bytes = described_stream set machine images in
+    let fits = fits_text set fit images in
+    let all = (written_only set machine described images fit named fits ready).only taken other others whole in
+    let said : ShowsAs set bytes text = record {
+      machine = other;
+      images = others;
+      whole = subst (λ (k : ℕ). Takes set set.machines bytes k other others) all.0 whole;
+      printed = same_text _ _ same;
+    } in
+    shown_holds set machine described images fit named fits ready text said
+reads_back set fit machine images named ready text held n x same (Refuses place section reason size fault) =
+    absurd (done_apart 1 _ text held _ n (sym same))
 
 pub show_then_pack : ShowThenPackLaw
-show_then_pack machine images m t name text input map n under fits shows =
-    let stream = written set_0 machine images None in
-    let gives : packs (Some map) name ≡ Gives stream =
-    ap (λ (s : Step (List ℕ)). next s (packed set_0)) (fetched_gives longest_file map name text under fits)
-    ∙ shown_packs machine images m t text (Some map) n (done text (Some map) n) refl shows in
+show_then_pack word set machine images name text input map there ready named under short n shows =
+    let fit : IsFit set = subst FitStep there (fit_word (Some map) word) in
+    let stream = described_stream set machine images in
+    let outcome = done text (Some map) n in
+    let shown : Shows set stream (Some map) outcome = subst (λ (s : Step Set). ShowsBy s (Some stream) (Some map) outcome) there shows in
+    let reads = reads_back set fit machine images (machine_of_set set machine named) ready text (Some map) n outcome refl shown in
+    let gives : packs (Some map) word name ≡ Gives stream =
+    pack_gives (Some map) word name set text stream there (fetched_gives longest_file map name text under short) (ap (packed_by set) reads) in
     subst (λ (s : Step (List ℕ)). HasText (Some map) s (done stream (Some map) 0)) (sym gives) refl
+  where
+    machine_of_set : (set : Set) (machine : Option (List ℕ)) → IfSome machine (λ m. is_one_of set.machines m ≡ true) → IsMachineOf set machine
+    machine_of_set set None h = tt
+    machine_of_set set (Some name) h = h

@@ -2,9 +2,7 @@
 use Rattle.std.proofs.Common.{◌≡◌, ℕ, suc, ◌+◌, ◌<◌, ◌≤◌, true, List, [], ◌∷◌, length, get_or, map, drop, Option, Some, None, Ok, Err, IfSome, IsSomeAnd, refl, sym, ap, ◌∙◌, subst, arith}
 use Rattle.std.proofs.lemmas.List.{length-map, get_or-map}
 use Rattle.std.specs.Option.{ForSome}
-use Rattle.std.specs.Prelude.{string_bytes}
-use Rattle.std.specs.declared.string.String.{String}
-use Rattle.std.specs.declared.alloc.Global.{Global}
+use Rattle.arrayvec.specs.ArrayVec.{ArrayVec}
 use Rattle.vms_io.specs.Causes.{capped}
 use Rattle.vms_io.specs.Shelves.{Held}
 use Rattle.vms_io.specs.Told.{Intake, Outlet, Stock}
@@ -98,8 +96,8 @@ module _ (set : Set) (fit : IsFit set) (i i' : Intake) (o o' : Outlet) (s s' : S
 
   -- a load that is refused
   pub refused : (images : List Image) (taken : ℕ) (fault : LoadFault) (r : Refusal) → fault ≡ faults.Refused r
-      → (line : String Global) (x : Outcome) → IfSome i.left IsBytes → IfSome i.left (λ bytes. Loads set (accepted_of set None) bytes i'.left images taken (Err fault))
-      → string_bytes line ≡ refused_line set r.at r.section r.reason
+      → (line : ArrayVec ℕ) (x : Outcome) → IfSome i.left IsBytes → IfSome i.left (λ bytes. Loads set (accepted_of set None) bytes i'.left images taken (Err fault))
+      → line.items ≡ refused_line set r.at r.section r.reason
       → IsSomeAnd i.left (λ bytes. Shows set bytes s.held x) → EndsAs i i' o o' s s' (Refused line) x
   refused images taken fault r same line x ok l said shows = told i.left refl ok l shows
     where

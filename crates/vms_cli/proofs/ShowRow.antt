@@ -57,10 +57,9 @@ module _ (i i' : Intake) (o o' n n' : Outlet) (s s' : Stock) where
   show_ends set (TooLarge line) status (inl c) (inl t) = inr (inr (inr (inr (inr (inr (inr (inr (inl (c.0, (t.0, c.2), c.1)))))))))
   show_ends set (TooLarge line) status (inl c) (inr t) = inr (inr (inr (inr (inr (inl (t.0, t.1))))))
   show_ends set (TooLarge line) status (inr c) t = absurd c
-  show_ends set NoMemory status (inl c) (inl t) = inr (inr (inr (inr (inr (inr (inr (inr (inr ((t, c.2))))))))))
+  show_ends set NoMemory status (inl c) (inl t) = inr (inr (inr (inr (inr (inr (inr (inr (inr ((t, c.2, c.1))))))))))
   show_ends set NoMemory status (inl c) (inr t) = inr (inr (inr (inr (inr (inl (t.0, t.1))))))
-  show_ends set NoMemory status (inr c) (inl t) = inr (inr (inr (inr (inr (inr (inr (inr (inr ((t, c))))))))))
-  show_ends set NoMemory status (inr c) (inr t) = inr (inr (inr (inr (inr (inl (t.0, t.1))))))
+  show_ends set NoMemory status (inr c) t = absurd c
   show_ends set BadWords status (inl c) t = absurd c.0
   show_ends set BadWords status (inr c) t = absurd c
   show_ends set (NotCompatible line) status (inl c) t = absurd c.0

@@ -45,7 +45,7 @@ pub upgrade_so : (asked : Option Asked) (status : ℕ) (old new : Outside)
 upgrade_so None status old new all = tt
 upgrade_so (Some (Show word)) status old new all =
     upgrades_by (word_set old.shelf.held word) (fit_word old.shelf.held word) status old new all
-upgrade_so (Some (Pack name)) status old new all = tt
+upgrade_so (Some (Pack set name)) status old new all = tt
 upgrade_so (Some (Check older newer)) status old new all = tt
 
 -- ---- check, and then show

@@ -46,6 +46,6 @@ pub verdict_so : (asked : Option Asked) (left : Option (List ℕ)) (held : Optio
     → ((o : Outcome) → HasOutcome asked left held o → DoesOrStops status old new o) → Verdict asked held status
 verdict_so None left held status old new all = tt
 verdict_so (Some (Show set)) left held status old new all = tt
-verdict_so (Some (Pack name)) left held status old new all = tt
+verdict_so (Some (Pack set name)) left held status old new all = tt
 verdict_so (Some (Check a b)) left held status old new all =
     λ zero. are_compatible status old new zero held (named_sets held a b) (sound_sets held a b) all

@@ -17,7 +17,7 @@ use Rattle.vms_cli.specs.Upgrade.{Upgrade}
 abbrev pub HasOutcome : Option Asked → Option (List ℕ) → Option Held → Outcome → Type 0
 HasOutcome None input held o = o ≡ ended 2 bad_words 0
 HasOutcome (Some (Show set)) input held o = ShowsBy (word_set held set) input held o
-HasOutcome (Some (Pack name)) input held o = HasText held (packs held name) o
+HasOutcome (Some (Pack set name)) input held o = HasText held (packs held set name) o
 HasOutcome (Some (Check old new)) input held o = HasText held (checked held old new) o
 
 -- what words of no listed form can answer: only the notes are touched
@@ -32,7 +32,7 @@ abbrev pub CanAnswer : Option Asked → ℕ → Outside → Outside → Type 0
 CanAnswer None status old new = BadWordsAnswers status old new
 CanAnswer (Some (Show set)) status old new =
     ShowAnswers (is_on_shelf set) (word_set old.shelf.held set) status old new
-CanAnswer (Some (Pack name)) status old new = PackAnswers status old new
+CanAnswer (Some (Pack set name)) status old new = PackAnswers status old new
 CanAnswer (Some (Check one other)) status old new = CheckAnswers (asks_shelf one other) status old new
 
 pub record Answers (words : List (List ℕ)) (status : ℕ) (old new : Outside) : Type 0 where

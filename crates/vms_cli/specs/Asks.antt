@@ -6,5 +6,5 @@ use Rattle.vms_cli.specs.declared.words.Command.TheVariants.{Show, Pack, Check}
 
 abbrev pub asked : Command → commands.Asked
 asked (Show set) = commands.Show (set_asked set)
-asked (Pack values) = commands.Pack values.now
+asked (Pack set values) = commands.Pack (set_asked set) values.now
 asked (Check old new) = commands.Check (set_asked old) (set_asked new)

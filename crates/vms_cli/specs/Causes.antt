@@ -19,7 +19,6 @@ StreamCause input input' out out' (Refused line) = Keeps out.written out'.writte
 StreamCause input input' out out' ReadFault =
     Rose input.faults input'.faults × Keeps out.written out'.written
 StreamCause input input' out out' WriteFault = Rose out.faults out'.faults
-StreamCause input input' out out' NoMemory = Keeps out.written out'.written
 StreamCause input input' out out' _ = ⊥
 
 -- the set wasn't had, and input and out weren't touched; or it was
@@ -95,6 +94,6 @@ CheckCauses asks input input' out out' shelf shelf' ending =
 abbrev pub EndsCause : Option Asked → (input input' : Intake) (out out' : Outlet) (shelf shelf' : Stock) → Ending → Type 0
 EndsCause None input input' out out' shelf shelf' ending = BadWordsCauses input input' out out' shelf shelf' ending
 EndsCause (Some (Show set)) input input' out out' shelf shelf' ending = ShowCauses set input input' out out' shelf shelf' ending
-EndsCause (Some (Pack name)) input input' out out' shelf shelf' ending = PackCauses input input' out out' shelf shelf' ending
+EndsCause (Some (Pack set name)) input input' out out' shelf shelf' ending = PackCauses input input' out out' shelf shelf' ending
 EndsCause (Some (Check old new)) input input' out out' shelf shelf' ending =
     CheckCauses (asks_shelf old new) input input' out out' shelf shelf' ending

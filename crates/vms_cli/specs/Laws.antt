@@ -1,22 +1,21 @@
 -- What follows of all calls, and of packing and showing one after the other.
-use Rattle.std.specs.Prelude.{◌≡◌, ◌⊎◌, ℕ, ◌+◌, ◌<◌, ◌≤◌, true, List, length, Option, Some, None, IsSomeAnd}
+use Rattle.std.specs.Prelude.{◌≡◌, ◌⊎◌, ℕ, ◌+◌, ◌<◌, ◌≤◌, true, List, length, Option, Some, None, IfSome, IsSomeAnd}
 use Rattle.vms_io.specs.Causes.{KeepsPromise}
 use Rattle.vms_io.specs.Shelves.{Held}
 use Rattle.vms_io.specs.Told.{Outlet}
 use Rattle.vms_spec.specs.Images.{Image}
 use Rattle.vms_spec.specs.Numbers.{IsBytes}
-use Rattle.vms_spec.specs.Shipped.{set_0}
-use Rattle.vms_spec.specs.Streams.{written}
+use Rattle.vms_spec.specs.Streams.{AreReady, is_one_of, written}
 use Rattle.vms_spec.specs.ValuesReading.{Values, values_read}
 use Rattle.vms_units.specs.Streams.{Takes}
-use Rattle.vms_texts.specs.Texts.{IsTimer, IsMachine}
 use Rattle.vms_cli.specs.Answers.{HasOutcome, Answers}
 use Rattle.vms_cli.specs.Commands.{Asked, Show, Pack, Check, asked_of}
 use Rattle.vms_outcome.specs.Outcomes.{Outcome, DoesOrStops, done, text_of, Outside}
 use Rattle.vms_outcome.specs.Fetching.{longest_file, named_sets, word_set}
-use Rattle.vms_outcome.specs.SetWords.{SetWord, Shipped}
+use Rattle.vms_outcome.specs.SetWords.{SetWord}
 use Rattle.vms_outcome.specs.Steps.{Gives, Both}
 use Rattle.vms_check.specs.Comparing.{Compatible}
+use Rattle.vms_cli.specs.Pack.{described_stream}
 use Rattle.vms_cli.specs.Upgrade.{IsWritten, shown_newer}
 use Rattle.vms_spec.specs.Sets.{Set}
 
@@ -34,16 +33,25 @@ OutcomeLaw = (asked : Option Asked) (input : List ℕ) (held : Held) → IsBytes
 
 -- ---- completeness
 
+-- a set that a word names, and a values text of it under a name, which isn't too long
+pub record CanBePacked (word : SetWord) (name : List ℕ) (map : Held) : Type 0 where
+  pub set : Set
+  pub there : word_set (Some map) word ≡ Gives set
+  pub text : List ℕ
+  pub held : map name ≡ Some text
+  pub short : length text ≤ longest_file
+  pub machine : Option (List ℕ)
+  pub images : List Image
+  pub reads : values_read set text ≡ Values machine images
+
 -- what a command asks for so that it can be done: of `show` a word that names a set, and a stream of it at the front of the
--- input, of `pack` a values text under the name that isn't too long, of `check` words that name two compatible sets
+-- input, of `pack` a set and a values text of it, of `check` words that name two compatible sets
 abbrev pub CanBeDone : Option Asked → Option (List ℕ) → Option Held → Type 0
 CanBeDone None input held = ⊥
 CanBeDone (Some (Show word)) input held =
     (set : Set) × (word_set held word ≡ Gives set) × IsSomeAnd input (λ bytes. (taken : ℕ) × (machine : Option (List ℕ))
     × (images : List Image) × Takes set set.machines bytes taken machine images)
-CanBeDone (Some (Pack name)) input held =
-    IsSomeAnd held (λ map. (text : List ℕ) × (machine : Option (List ℕ)) × (images : List Image)
-    × (map name ≡ Some text) × (length text ≤ longest_file) × (values_read set_0 text ≡ Values machine images))
+CanBeDone (Some (Pack word name)) input held = IsSomeAnd held (λ map. CanBePacked word name map)
 CanBeDone (Some (Check old new)) input held =
     (sets : Both Set) × (named_sets held old new ≡ Gives sets) × Compatible sets.old sets.new
 
@@ -86,13 +94,15 @@ CheckThenShowLaw = (one other : List (List ℕ)) (old new : SetWord) (sets : Bot
 
 -- where `pack` gives a stream for the text under a name, `show` gives that text for the stream, and takes all of it
 abbrev pub PackThenShowLaw : Type 0
-PackThenShowLaw = (name text stream : List ℕ) (input : Option (List ℕ)) (map : Held) → map name ≡ Some text
-    → HasOutcome (Some (Pack name)) input (Some map) (done stream (Some map) 0)
-    → HasOutcome (Some (Show (Shipped 0))) (Some stream) (Some map) (done text (Some map) (length stream))
+PackThenShowLaw = (word : SetWord) (name text stream : List ℕ) (input : Option (List ℕ)) (map : Held) → map name ≡ Some text
+    → HasOutcome (Some (Pack word name)) input (Some map) (done stream (Some map) 0)
+    → HasOutcome (Some (Show word)) (Some stream) (Some map) (done text (Some map) (length stream))
 
--- where `show` gives a text for a written stream and the text isn't too long, `pack` gives that stream for the text
+-- where `show` gives a text for a stream that was written with its machine and its description, and the text isn't too long,
+-- `pack` gives that stream for the text
 abbrev pub ShowThenPackLaw : Type 0
-ShowThenPackLaw = (machine : Option (List ℕ)) (images : List Image) → IsMachine machine → IsTimer images
-    → (name text : List ℕ) (input : Option (List ℕ)) (map : Held) (n : ℕ) → map name ≡ Some text → length text ≤ longest_file
-    → HasOutcome (Some (Show (Shipped 0))) (Some (written set_0 machine images None)) (Some map) (done text (Some map) n)
-    → HasOutcome (Some (Pack name)) input (Some map) (done (written set_0 machine images None) (Some map) 0)
+ShowThenPackLaw = (word : SetWord) (set : Set) (machine : Option (List ℕ)) (images : List Image) (name text : List ℕ) (input : Option (List ℕ)) (map : Held)
+    → word_set (Some map) word ≡ Gives set → AreReady set images → IfSome machine (λ m. is_one_of set.machines m ≡ true)
+    → map name ≡ Some text → length text ≤ longest_file
+    → (n : ℕ) → HasOutcome (Some (Show word)) (Some (described_stream set machine images)) (Some map) (done text (Some map) n)
+    → HasOutcome (Some (Pack word name)) input (Some map) (done (described_stream set machine images) (Some map) 0)

@@ -1,27 +1,47 @@
 -- The command `pack`: its outcome, and what it can answer.
-use Rattle.std.specs.Prelude.{◌≡◌, ◌⊎◌, ℕ, List, Option, None}
+use Rattle.std.specs.Prelude.{◌≡◌, ◌⊎◌, ℕ, List, Option, Some}
 use Rattle.std.specs.Io.KnownBytes.{Keeps}
 use Rattle.vms_io.specs.Shelves.{Held}
+use Rattle.vms_spec.specs.Images.{Image}
 use Rattle.vms_spec.specs.Sets.{Set}
-use Rattle.vms_spec.specs.Shipped.{set_0}
 use Rattle.vms_spec.specs.Streams.{written}
 use Rattle.vms_spec.specs.ValuesReading.{ValuesRead, Values, Bad, values_read}
-use Rattle.vms_outcome.specs.Fetching.{fetched, longest_file}
+use Rattle.vms_selfdesc.specs.Tree.{described_text}
+use Rattle.vms_outcome.specs.Fetching.{SetText, fetched, fetched_set, longest_file, set_in}
 use Rattle.vms_outcome.specs.Outcomes.{Outside, OutFault, NotesFault, ShelfFault, WantsMemory, EndsBy}
+use Rattle.vms_outcome.specs.SetWords.{SetWord}
 use Rattle.vms_outcome.specs.Steps.{Step, Gives, Ends, next}
 use Rattle.vms_cli.specs.ValuesLines.{values_line}
 
--- the stream of what is read of a values text, or its first bad line
+-- the stream of a machine, or none, and images, with their description behind it
+abbrev pub described_stream : Set → Option (List ℕ) → List Image → List ℕ
+described_stream set machine images = written set machine images (Some (described_text set images))
+
+-- what is read of a values text, or its first bad line
 abbrev pub packed_by : Set → ValuesRead → Step (List ℕ)
-packed_by set (Values machine images) = Gives (written set machine images None)
+packed_by set (Values machine images) = Gives (described_stream set machine images)
 packed_by set (Bad line reason) = Ends 3 (values_line line reason)
 
 abbrev pub packed : Set → List ℕ → Step (List ℕ)
 packed set text = packed_by set (values_read set text)
 
--- the text under the name is fetched, and then read
-abbrev pub packs : Option Held → List ℕ → Step (List ℕ)
-packs held name = next (fetched longest_file held name) (packed set_0)
+-- what two words give: the set, before its file is read, and the values text
+pub record Texts : Type 0 where
+  pub set : SetText
+  pub values : List ℕ
+
+-- the set is fetched, and then the values text
+abbrev pub fetched_texts : Option Held → SetWord → List ℕ → Step Texts
+fetched_texts held word name =
+    next (fetched_set held word) (λ set. next (fetched longest_file held name)
+    (λ values. Gives (record { set = set; values = values })))
+
+-- the set is read, and then the values text
+abbrev pub packed_texts : Texts → Step (List ℕ)
+packed_texts texts = next (set_in texts.set) (λ set. packed set texts.values)
+
+abbrev pub packs : Option Held → SetWord → List ℕ → Step (List ℕ)
+packs held word name = next (fetched_texts held word name) packed_texts
 
 -- what it can answer, told or not
 abbrev pub PackStatus : ℕ → Outside → Outside → Type 0

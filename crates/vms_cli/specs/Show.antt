@@ -49,7 +49,7 @@ ShowStatus asks status old new =
     ⊎ ((asks ≡ true) × ShelfFault status old new × Keeps old.out.written new.out.written × (new.input ≡ old.input))
     ⊎ EndsBefore 8 asks status old new
     ⊎ EndsBefore 9 asks status old new
-    ⊎ (WantsMemory status old new × Keeps old.out.written new.out.written)
+    ⊎ (WantsMemory status old new × Keeps old.out.written new.out.written × (new.input ≡ old.input))
 
 -- `asks` says whether the word is a name, and the step gives its set
 pub record ShowAnswers (asks : Bool) (step : Step Set) (status : ℕ) (old new : Outside) : Type 0 where

@@ -1,35 +1,38 @@
 // The command `pack`: the stream of a values text on the shelf.
-ghost use Rattle.std.specs.Prelude.{◌≡◌, ◌<◌, ◌≤◌, ◌^◌, length, map, IfSome, None};
+ghost use Rattle.std.specs.Prelude.{◌≡◌, ◌<◌, ◌≤◌, ◌^◌, length, map, IfSome};
 ghost use Rattle.vms_io.specs.Told.{Intake, outlet, stock};
 ghost use Rattle.vms_spec.specs.Lists.{at_option};
-ghost use Rattle.vms_spec.specs.Shipped.{set_0};
-ghost use Rattle.vms_spec.specs.Streams.{written, AreReady};
+ghost use Rattle.vms_spec.specs.Streams.{AreReady};
 ghost use Rattle.vms_desc.specs.Described.{described};
-ghost use Rattle.vms_image.specs.Typed.{state_of, AreImagesOf};
-ghost use Rattle.vms_outcome.specs.Endings.{EndsAs, WritesAs};
+ghost use Rattle.vms_image.specs.Typed.{AreImagesOf, state_of};
+ghost use Rattle.vms_outcome.specs.Asks.{set_asked};
+ghost use Rattle.vms_outcome.specs.Endings.{EndsAs};
 ghost use Rattle.vms_outcome.specs.Fetching.{longest_file};
 ghost use Rattle.vms_outcome.specs.Outcomes.{Outcome};
-ghost use Rattle.vms_outcome.specs.StepEndings.{TextEnds};
+ghost use Rattle.vms_outcome.specs.StepEndings.{TextEnds, WrittenAs, text_of};
 ghost use Rattle.vms_outcome.specs.Steps.{HasText};
 ghost use Rattle.vms_cli.specs.Causes.{PackCause, WriteCause};
-ghost use Rattle.vms_cli.specs.Pack.{packed, packs};
+ghost use Rattle.vms_cli.specs.Pack.{described_stream, packed, packed_texts, packs};
 
 use crate::values_notes::values_line;
 use std::alloc::Global;
 use vms_desc::DescSet;
 use vms_io::{Shelf, Sink};
-use vms_outcome::{Ending, LONGEST_FILE, fetch};
+use vms_outcome::{Ending, LONGEST_FILE, SetText, SetWord, fetch, fetch_set, read_fetched};
+use vms_selfdesc::describe;
 use vms_values::{Values, ValuesFault, read_text};
 use vms_write::write_stream;
 
 pub(crate) fn pack<O: Sink, H: Shelf>(
     alloc: Global,
-    name: &str,
+    set: SetWord,
+    values: &str,
     out: &mut O,
     shelf: &mut H,
 ) -> Ending
     ensures content { (input : Intake) (o : Outcome) → input.given < 2 ^ 64
-        → HasText (H.held shelf.old) (packs (H.held shelf.old) name.now) o
+        → HasText (H.held shelf.old)
+        (packs (H.held shelf.old) (set_asked set.entry) values.now) o
         → EndsAs input input (outlet O.Sink out.old) (outlet O.Sink out.new)
         (stock H.Shelf shelf.old) (stock H.Shelf shelf.new) result o }
     ensures cause { PackCause (outlet O.Sink out.old) (outlet O.Sink out.new)
@@ -40,26 +43,42 @@ pub(crate) fn pack<O: Sink, H: Shelf>(
     ensures out_promise { O.promise out.new ≡ O.promise out.old }
     ensures shelf_promise { H.promise shelf.new ≡ H.promise shelf.old }
 {
-    match fetch(alloc, name, LONGEST_FILE, shelf) {
-        Ok(text) => pack_text(alloc, &text, out),
+    let set = match fetch_set(alloc, set, shelf) {
+        Ok(text) => text,
+        Err(ending) => return ending,
+    };
+    match fetch(alloc, values, LONGEST_FILE, shelf) {
+        Ok(text) => pack_texts(alloc, &set, &text, out),
         Err(ending) => ending,
     }
 }
 
-// Once the text is fetched.
-fn pack_text<O: Sink>(alloc: Global, text: &[u8], out: &mut O) -> Ending
+// Once both texts are fetched.
+fn pack_texts<O: Sink>(alloc: Global, set: &SetText, text: &[u8], out: &mut O) -> Ending
     requires { length text.now ≤ longest_file }
-    ensures ends { TextEnds (packed set_0 text.now) (outlet O.Sink out.old) (outlet O.Sink out.new)
-        result }
+    ensures ends { TextEnds (packed_texts (record { set = text_of set.now; values = text.now }))
+        (outlet O.Sink out.old) (outlet O.Sink out.new) result }
     ensures cause { WriteCause (outlet O.Sink out.old) (outlet O.Sink out.new) result }
     ensures count { O.faults out.old ≤ O.faults out.new }
     ensures promise { O.promise out.new ≡ O.promise out.old }
 {
-    let Ok(set) = DescSet::shipped(alloc, 0) else {
-        return Ending::NoMemory;
-    };
-    match read_text(alloc, &set, text) {
-        Ok(values) => write(&set, &values, out),
+    match read_fetched(alloc, set) {
+        Ok(set) => pack_text(alloc, &set, text, out),
+        Err(ending) => ending,
+    }
+}
+
+// Once the set is read.
+fn pack_text<O: Sink>(alloc: Global, set: &DescSet, text: &[u8], out: &mut O) -> Ending
+    requires { length text.now ≤ longest_file }
+    ensures ends { TextEnds (packed (described set.now) text.now) (outlet O.Sink out.old)
+        (outlet O.Sink out.new) result }
+    ensures cause { WriteCause (outlet O.Sink out.old) (outlet O.Sink out.new) result }
+    ensures count { O.faults out.old ≤ O.faults out.new }
+    ensures promise { O.promise out.new ≡ O.promise out.old }
+{
+    match read_text(alloc, set, text) {
+        Ok(values) => write(alloc, set, &values, out),
         Err(ValuesFault::Bad { line, reason }) => match values_line(alloc, line, reason) {
             Ok(line) => Ending::BadText(line),
             Err(_) => Ending::NoMemory,
@@ -68,18 +87,29 @@ fn pack_text<O: Sink>(alloc: Global, text: &[u8], out: &mut O) -> Ending
     }
 }
 
-fn write<O: Sink>(set: &DescSet, values: &Values, out: &mut O) -> Ending
+// The description is made before the first byte is written.
+fn write<O: Sink>(alloc: Global, set: &DescSet, values: &Values, out: &mut O) -> Ending
     requires machine { IfSome values.now.machine (λ m. m < length (described set.now).machines) }
     requires of { AreImagesOf (described set.now) values.now.images.items }
     requires ready { AreReady (described set.now) (map state_of values.now.images.items) }
     ensures written { let set = described set.now in
-        let images = map state_of values.now.images.items in
-        WritesAs (written set (at_option set.machines values.now.machine) images None)
+        let machine = at_option set.machines values.now.machine in
+        WrittenAs (described_stream set machine values.now.images.items)
         (outlet O.Sink out.old) (outlet O.Sink out.new) result }
+    ensures cause { WriteCause (outlet O.Sink out.old) (outlet O.Sink out.new) result }
     ensures count { O.faults out.old ≤ O.faults out.new }
     ensures promise { O.promise out.new ≡ O.promise out.old }
 {
-    match write_stream(set, values.machine, &values.images, None, out) {
+    let Ok(text) = describe(alloc, set, &values.images) else {
+        return Ending::NoMemory;
+    };
+    match write_stream(
+        set,
+        values.machine,
+        &values.images,
+        Some(text.as_str()),
+        out,
+    ) {
         Ok(()) => Ending::Done,
         Err(_) => Ending::WriteFault,
     }

@@ -47,18 +47,13 @@ pub(crate) fn show<I: Source, O: Sink, H: Shelf>(
     ensures shelf_promise { H.promise shelf.new ≡ H.promise shelf.old }
 {
     match loader_of(alloc, set, shelf) {
-        Ok(loader) => show_stream(alloc, loader, input, out),
+        Ok(loader) => show_stream(loader, input, out),
         Err(ending) => ending,
     }
 }
 
 // Once the set is there.
-fn show_stream<I: Source, O: Sink>(
-    alloc: Global,
-    mut loader: Loader,
-    input: &mut I,
-    out: &mut O,
-) -> Ending
+fn show_stream<I: Source, O: Sink>(mut loader: Loader, input: &mut I, out: &mut O) -> Ending
     ensures content { (shelf shelf' : Stock) (o : Outcome) → shelf'.held ≡ shelf.held
         → IsSomeAnd (I.left input.old) (λ bytes. Shows (loads loader) bytes shelf.held o)
         → EndsAs (intake I.Source input.old) (intake I.Source input.new)
@@ -73,10 +68,7 @@ fn show_stream<I: Source, O: Sink>(
 {
     match loader.load(input, None) {
         Ok(machine) => write_values(&loader, machine, out),
-        Err(LoadFault::Refused(refusal)) => match refused_line(alloc, loader.set(), &refusal) {
-            Ok(line) => Ending::Refused(line),
-            Err(_) => Ending::NoMemory,
-        },
+        Err(LoadFault::Refused(refusal)) => Ending::Refused(refused_line(loader.set(), &refusal)),
         Err(LoadFault::ReadFault) => Ending::ReadFault,
     }
 }

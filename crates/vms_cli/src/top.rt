@@ -97,7 +97,7 @@ fn run<I: Source, O: Sink, H: Shelf>(
 {
     match words.command() {
         Some(Command::Show { set }) => show(alloc, set, input, out, shelf),
-        Some(Command::Pack { values }) => pack(alloc, values, out, shelf),
+        Some(Command::Pack { set, values }) => pack(alloc, set, values, out, shelf),
         Some(Command::Check { old, new }) => check(alloc, old, new, out, shelf),
         None => Ending::BadWords,
     }

@@ -17,8 +17,8 @@ use vms_script::is_shelf_name;
 pub(crate) enum Command<'a> {
     /// `show SET`
     Show { set: SetWord<'a> },
-    /// `pack @0 VALUES`
-    Pack { values: &'a str },
+    /// `pack SET VALUES`
+    Pack { set: SetWord<'a>, values: &'a str },
     /// `check OLD NEW`
     Check { old: SetWord<'a>, new: SetWord<'a> },
 }
@@ -95,8 +95,10 @@ fn pair_of<'a>(name: &str, one: &'a str, other: &'a str) -> Option<Command<'a>>
 {
     if name == "check" {
         check_of(one, other)
+    } else if name == "pack" {
+        pack_of(one, other)
     } else {
-        pack_of(name, one, other)
+        None
     }
 }
 
@@ -109,12 +111,11 @@ fn check_of<'a>(old: &'a str, new: &'a str) -> Option<Command<'a>>
     }
 }
 
-fn pack_of<'a>(name: &str, set: &str, values: &'a str) -> Option<Command<'a>>
-    ensures { option_map asked result ≡ pack_of name.now set.now values.now }
+fn pack_of<'a>(set: &'a str, values: &'a str) -> Option<Command<'a>>
+    ensures { option_map asked result ≡ pack_of (set_word set.now) values.now }
 {
-    if name == "pack" && set == "@0" && is_shelf_name(values.as_bytes()) {
-        Some(Command::Pack { values })
-    } else {
-        None
+    match set_word(set) {
+        Some(set) if is_shelf_name(values.as_bytes()) => Some(Command::Pack { set, values }),
+        _ => None,
     }
 }

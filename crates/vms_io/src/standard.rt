@@ -78,7 +78,8 @@ impl<W: Write + Drop> StdSink<W> {
 
     /// Hands on what the writer holds back.
     pub fn flush(&mut self) -> Result<(), Failed>
-        ensures { HasCause (⟦<StdSink<W> as Sink>⟧.faults self.old) (⟦<StdSink<W> as Sink>⟧.faults self.new) result }
+        ensures { HasCause (⟦<StdSink<W> as Sink>⟧.faults self.old)
+            (⟦<StdSink<W> as Sink>⟧.faults self.new) result }
     {
         match self.writer.flush() {
             Ok(()) => Ok(()),

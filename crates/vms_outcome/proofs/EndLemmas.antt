@@ -114,7 +114,7 @@ module _ (i i' : Intake) (o o' n n' : Outlet) (s s' : Stock) where
     left = d.taken.left;
     given = λ zero. d.taken.given;
   }
-  outcome_so (Refused line) status x d c t = ended_so 1 status (string_bytes line) x (λ z. omega (arith, z)) d c.0 c.1 t
+  outcome_so (Refused line) status x d c t = ended_so 1 status line.items x (λ z. omega (arith, z)) d c.0 c.1 t
   outcome_so BadWords status x d c t = ended_so 2 status bad_words x (λ z. omega (arith, z)) d c.0 c.1 t
   outcome_so (BadText line) status x d c t = ended_so 3 status (string_bytes line) x (λ z. omega (arith, z)) d c.0 c.1 t
   outcome_so (NotCompatible line) status x d c t = ended_so 4 status (string_bytes line) x (λ z. omega (arith, z)) d c.0 c.1 t

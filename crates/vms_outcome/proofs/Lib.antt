@@ -1,3 +1,4 @@
 pub mod EndLemmas
 pub mod FileSets
+pub mod LineLemmas
 pub mod StepLemmas

@@ -24,7 +24,7 @@ status_of NoMemory = 10
 
 abbrev pub line_of : Ending → List ℕ
 line_of Done = []
-line_of (Refused line) = string_bytes line
+line_of (Refused line) = line.items
 line_of BadWords = bad_words
 line_of (BadText line) = string_bytes line
 line_of (NotCompatible line) = string_bytes line
@@ -60,7 +60,7 @@ pub record DoneAs (input input' : Intake) (out out' : Outlet) (shelf shelf' : St
 -- what an ending says beside the outcome: that it was done or ended so, or how far it came
 abbrev pub EndsAs : (input input' : Intake) (out out' : Outlet) (shelf shelf' : Stock) → Ending → Outcome → Type 0
 EndsAs input input' out out' shelf shelf' Done o = DoneAs input input' out out' shelf shelf' o
-EndsAs input input' out out' shelf shelf' (Refused line) o = EndsWith 1 (string_bytes line) input input' o
+EndsAs input input' out out' shelf shelf' (Refused line) o = EndsWith 1 line.items input input' o
 EndsAs input input' out out' shelf shelf' BadWords o = EndsWith 2 bad_words input input' o
 EndsAs input input' out out' shelf shelf' (BadText line) o = EndsWith 3 (string_bytes line) input input' o
 EndsAs input input' out out' shelf shelf' (NotCompatible line) o = EndsWith 4 (string_bytes line) input input' o

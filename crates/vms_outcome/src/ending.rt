@@ -1,13 +1,15 @@
 // How a command ends.
 ghost use Rattle.std.specs.Prelude.{◌≡◌};
 
+use crate::refused::Line;
+
 /// How a command ends; each but `Done` has a status and a line of notes, which some bring with them.
 #[derive(Drop)]
 pub enum Ending {
     /// All is done.
     Done,
     /// The stream is refused, with this line.
-    Refused(String),
+    Refused(Line),
     /// The words name no command.
     BadWords,
     /// A values text, a description file or a script is refused, with this line.
@@ -61,7 +63,7 @@ impl Ending {
             Ending::WriteFault => b"write fault\n",
             Ending::ShelfFault => b"shelf fault\n",
             Ending::NoMemory => b"out of memory\n",
-            Ending::Refused(line) => line.as_bytes(),
+            Ending::Refused(line) => line.as_slice(),
             Ending::BadText(line) => line.as_bytes(),
             Ending::NotCompatible(line) => line.as_bytes(),
             Ending::NotThere(line) => line.as_bytes(),

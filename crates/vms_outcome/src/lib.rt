@@ -7,13 +7,15 @@
 mod ending;
 mod fetching;
 mod notes;
+mod refused;
 mod set_notes;
 mod set_words;
 mod words;
 
 pub use ending::Ending;
 pub use fetching::{LONGEST_FILE, SetText, fetch, fetch_set, loader_of, read_fetched};
-pub use notes::{not_there_line, reason_name, refused_line, rule_of, too_large_line};
+pub use notes::{not_there_line, too_large_line};
+pub use refused::{Line, reason_name, refused_line, rule_of};
 pub use set_notes::{mismatch_line, rule_line, shape_line, syntax_line};
 pub use set_words::{SetWord, ShippedSet};
 pub use words::{set_word, shipped_set};

@@ -1,23 +1,55 @@
-use Rattle.std.proofs.Common.{ℕ, List, subst}
+use Rattle.std.proofs.Common.{ℕ, List, Option, Ok, Err, ◌∙◌, subst}
 use Rattle.std.specs.declared.vec.Vec.{Vec}
 use Rattle.std.specs.declared.alloc.Global.{Global}
+use Rattle.vms_io.specs.Shelves.{Held}
 use Rattle.vms_io.specs.Told.{outlet, stock}
-use Rattle.vms_spec.specs.Shipped.{set_0}
+use Rattle.vms_outcome.specs.Asks.{set_asked}
 use Rattle.vms_outcome.specs.Fetching.{fetched, longest_file}
-use Rattle.vms_outcome.specs.StepEndings.{TextEnds}
-use Rattle.vms_outcome.proofs.StepLemmas.{text_ends, then_text}
-use Rattle.vms_cli.specs.Pack.{packed, packs}
-use Rattle.vms_cli.proofs.PackLemmas.{write_quiet}
+use Rattle.vms_outcome.specs.StepEndings.{StepAs, TextEnds, text_of}
+use Rattle.vms_outcome.proofs.EndLemmas.{quiet_same}
+use Rattle.vms_outcome.proofs.StepLemmas.{text_ends}
+use Rattle.vms_cli.specs.Pack.{packed_texts, packs}
+use Rattle.vms_cli.proofs.PackLemmas.{set_ends, texts_end, values_end, write_quiet}
 use Rattle.vms_cli.proofs.pack.pack.Goals as goal
 
-pub returns-in-Ok-clause-content : goal.returns-in-Ok-clause-content
-returns-in-Ok-clause-content g c = λ input o few has.
+abbrev bytes : Vec ℕ Global → List ℕ
+bytes text = text.items
+
+pub returns-in-Ok-fetch-clause-content : goal.returns-in-Ok-fetch-clause-content
+returns-in-Ok-fetch-clause-content g c = λ input o few has.
     let held = g.H.Shelf.held c.args.shelf.now in
-    let name = c.args.name.now in
+    let word = set_asked c.args.set in
+    let name = c.args.values.now in
     let out = outlet g.O.Sink c.args.out.now in
-    let out' = outlet g.O.Sink c.pack_text.new.out in
-    text_ends (packs held name) input out out' (stock g.H.Shelf c.args.shelf.now) (stock g.H.Shelf c.fetch.new.shelf) c.pack_text.result o few
-    c.in-Ok.ensures.held (write_quiet out out' c.pack_text.result c.pack_text.ensures.cause)
-    (then_text (λ (text : Vec ℕ Global). text.items) (packed set_0) out out' c.pack_text.result (fetched longest_file held name)
-    c.in-Ok.text c.in-Ok.ensures.fetched
-    (subst (λ (l : List ℕ). TextEnds (packed set_0 l) out out' c.pack_text.result) c.deref.ensures.value c.pack_text.ensures.ends)) has
+    let out' = outlet g.O.Sink c.pack_texts.new.out in
+    let ending = c.pack_texts.result in
+    let second : StepAs bytes (fetched longest_file held name) (Ok c.in-Ok-fetch.text) =
+    subst (λ (h : Option Held). StepAs bytes (fetched longest_file h name) (Ok c.in-Ok-fetch.text)) c.in-Ok.ensures.held c.in-Ok-fetch.ensures.fetched in
+    text_ends (packs held word name) input out out' (stock g.H.Shelf c.args.shelf.now) (stock g.H.Shelf c.fetch.new.shelf) ending o few
+    (c.in-Ok-fetch.ensures.held ∙ c.in-Ok.ensures.held) (write_quiet out out' ending c.pack_texts.ensures.cause)
+    (texts_end held word name out out' ending text_of bytes c.in-Ok.text c.in-Ok-fetch.text c.in-Ok.ensures.fetched second
+    (subst (λ (l : List ℕ). TextEnds (packed_texts (record { set = text_of c.in-Ok.text; values = l })) out out' ending) c.deref.ensures.value
+    c.pack_texts.ensures.ends)) has
+
+pub returns-in-Err-clause-content : goal.returns-in-Err-clause-content
+returns-in-Err-clause-content g c = λ input o few has.
+    let held = g.H.Shelf.held c.args.shelf.now in
+    let word = set_asked c.args.set in
+    let name = c.args.values.now in
+    let out = outlet g.O.Sink c.args.out.now in
+    let ending = c.in-Err.ending in
+    text_ends (packs held word name) input out out (stock g.H.Shelf c.args.shelf.now) (stock g.H.Shelf c.fetch_set.new.shelf) ending o few
+    c.in-Err.ensures.held (quiet_same out ending) (set_ends held word name out out ending text_of c.in-Err.ensures.fetched) has
+
+pub returns-clause-content : goal.returns-clause-content
+returns-clause-content g c = λ input o few has.
+    let held = g.H.Shelf.held c.args.shelf.now in
+    let word = set_asked c.args.set in
+    let name = c.args.values.now in
+    let out = outlet g.O.Sink c.args.out.now in
+    let ending = c.in-Err-fetch.ending in
+    let second : StepAs bytes (fetched longest_file held name) (Err ending) =
+    subst (λ (h : Option Held). StepAs bytes (fetched longest_file h name) (Err ending)) c.in-Ok.ensures.held c.in-Err-fetch.ensures.fetched in
+    text_ends (packs held word name) input out out (stock g.H.Shelf c.args.shelf.now) (stock g.H.Shelf c.fetch.new.shelf) ending o few
+    (c.in-Err-fetch.ensures.held ∙ c.in-Ok.ensures.held) (quiet_same out ending)
+    (values_end held word name out out ending text_of bytes c.in-Ok.text c.in-Ok.ensures.fetched second) has

@@ -21,20 +21,15 @@ returns-in-Ok-clause-content g c = λ shelf shelf' o held shows.
     (subst (λ (s : Set). WritesAs (values_text s (machine_of s c.in-Ok.machine) (kept c.load.new.self)) out out' c.write_values.result)
     c.in-Ok.ensures.set c.write_values.ensures.written) shows
 
-pub returns-in-Ok-refused_line-clause-content : goal.returns-in-Ok-refused_line-clause-content
-returns-in-Ok-refused_line-clause-content g c = λ shelf shelf' o held shows.
+pub returns-in-Err-Refused-clause-content : goal.returns-in-Err-Refused-clause-content
+returns-in-Err-Refused-clause-content g c = λ shelf shelf' o held shows.
     let set = loads c.args.loader in
     let r = c.in-Err-Refused.refusal in
     refused set (fit_of set c.args.loader.set.well_formed c.args.loader.set.heads) (intake g.I.Source c.args.input.now)
     (intake g.I.Source c.load.new.source) (outlet g.O.Sink c.args.out.now) (outlet g.O.Sink c.args.out.now) shelf shelf' held [] 0
-    c.in-Err-Refused.field-0 r c.in-Err-Refused.field-0-is c.in-Ok-refused_line.line o (g.met.I.Source.octets c.args.input.now)
+    c.in-Err-Refused.field-0 r c.in-Err-Refused.field-0-is c.refused_line.result o (g.met.I.Source.octets c.args.input.now)
     c.in-Err-Refused.ensures.content
-    (c.in-Ok-refused_line.ensures ∙ ap (λ (s : Set). refused_line s r.at r.section r.reason) (c.set.ensures ∙ c.in-Err-Refused.ensures.set)) shows
-
-pub returns-in-Err-Refused-clause-content : goal.returns-in-Err-Refused-clause-content
-returns-in-Err-Refused-clause-content g c = λ shelf shelf' o held shows.
-    let out = outlet g.O.Sink c.args.out.now in
-    comes_to_nothing out out shelf shelf' o.parts (keeps_same out.written) held
+    (c.refused_line.ensures ∙ ap (λ (s : Set). refused_line s r.at r.section r.reason) (c.set.ensures ∙ c.in-Err-Refused.ensures.set)) shows
 
 pub returns-clause-content : goal.returns-clause-content
 returns-clause-content g c = λ shelf shelf' o held shows.
