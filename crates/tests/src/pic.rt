@@ -163,8 +163,7 @@ fn saves_the_registers_in_order(rt: HostRuntime) {
         &[(0x20, 0x11), (0x21, 0x18), (0x21, 0x04), (0x21, 0x01)],
     );
     request_and_serve(&mut board);
-    // the mask, the lowest priority, rotation, the special mask with reads of what is served, and a level
-    // input; and the slave at its second word, in the level mode
+    // the mask, the lowest priority, rotation, the special mask with reads of what is served, and a level input
     write_all(
         &mut board,
         &[
@@ -173,13 +172,12 @@ fn saves_the_registers_in_order(rt: HostRuntime) {
             (0x20, 0x80),
             (0x20, 0x6b),
             (0x4d0, 0x20),
-            (0xa0, 0x19),
         ],
     );
     let master = [
         0x08, 0x02, 0x80, 0x0a, 5, 0x18, 0, 1, 0, 1, 0, 1, 0, 1, 0, 0x20, 0,
     ];
-    let slave = [0, 0, 0, 0, 7, 0, 1, 1, 0, 0, 0, 0, 0, 0, 0, 0, 1];
+    let slave = [0, 0, 0, 0, 7, 0, 0, 0, 0, 0, 0, 0, 0, 0, 0, 0, 0];
     let cells = saved(&rt, &board, 4);
     assert_eq!(&rt; cells.master.as_slice(), master.as_slice());
     assert_eq!(&rt; cells.slave.as_slice(), slave.as_slice());
