@@ -10,7 +10,7 @@ ghost use Rattle.vms_spec.specs.Units.{Head as HeadUnit};
 ghost use Rattle.vms_load.specs.Hearing.{HearsOn, HearsBehind, HearsAll};
 ghost use Rattle.vms_load.specs.Loads.{HasCause};
 ghost use Rattle.vms_load.specs.Reads.{ReadsOn, ReadsBehind, IsBehind, Gives, GivesBehind};
-ghost use Rattle.vms_load.specs.Staging.{AreShaped, IsOf, IsMachine, accepted_of, state_of, spot_of, spot_at, HoldsAt, sections_due, stream_due, ReadsAll, GivesAll};
+ghost use Rattle.vms_load.specs.Staging.{AreShaped, IsOf, IsMachine, accepted_of, state_of, spot_of, spot_at, read_from, HoldsAt, sections_due, stream_due, ReadsAll, GivesAll};
 
 use crate::LoadFault;
 use crate::heads::open_section;
@@ -92,24 +92,15 @@ fn sections<S: Source>(
     requires place { cursor.old.at
         + stream_due (described set.now) staged.old.came.items (Some Between.First) ≤ 2 ^ 63 }
     requires held { cursor.old.held ≡ None }
-    ensures reads { ReadsOn
-        (reading_on (judge (by_state (described set.now) (accepted_of (described set.now) only)))
-        (state_of (described set.now) staged.old (spot_at (Some Between.First))))
-        (λ _.
-        reading_on (judge (by_state (described set.now) (accepted_of (described set.now) only)))
-        (state_of (described set.now) staged.new (spot_at None)))
+    ensures reads { ReadsOn (read_from set.now only staged.old (spot_at (Some Between.First)))
+        (λ _. read_from set.now only staged.new (spot_at None))
         cursor.old cursor.new (S.left source.old) (S.left source.new) result }
     ensures held { OnOk result (cursor.new.held ≡ None) }
     ensures given { Gives (S.given source.old) (S.given source.new) cursor.old cursor.new
         (stream_due (described set.now) staged.old.came.items (Some Between.First)) (λ _. 0)
         result }
-    ensures heard { HearsOn
-        (reading_on (judge (by_state (described set.now) (accepted_of (described set.now) only)))
-        (state_of (described set.now) staged.old (spot_at (Some Between.First))))
-        (λ _.
-        (reading_on
-        (judge (by_state (described set.now) (accepted_of (described set.now) only)))
-        (state_of (described set.now) staged.new (spot_at None))))
+    ensures heard { HearsOn (read_from set.now only staged.old (spot_at (Some Between.First)))
+        (λ _. read_from set.now only staged.new (spot_at None))
         cursor.old cursor.new (S.given source.old) (S.given source.new) result }
     ensures cause { HasCause (S.faults source.old) (S.faults source.new) result }
     ensures promise { S.promise source.new ≡ S.promise source.old }
@@ -136,25 +127,16 @@ fn turn<S: Source>(
     requires whole { IsOf (described set.now) staged.old }
     requires place { cursor.old.at
         + stream_due (described set.now) staged.old.came.items (Some between) ≤ 2 ^ 63 }
-    ensures reads { ReadsOn
-        (reading_on (judge (by_state (described set.now) (accepted_of (described set.now) only)))
-        (state_of (described set.now) staged.old (spot_of between)))
-        (λ next.
-        reading_on (judge (by_state (described set.now) (accepted_of (described set.now) only)))
-        (state_of (described set.now) staged.new (spot_at next)))
+    ensures reads { ReadsOn (read_from set.now only staged.old (spot_of between))
+        (λ next. read_from set.now only staged.new (spot_at next))
         cursor.old cursor.new (S.left source.old) (S.left source.new) result }
     ensures held { IfOk result (HoldsAt cursor.new) }
     ensures given { Gives (S.given source.old) (S.given source.new) cursor.old cursor.new
         (stream_due (described set.now) staged.old.came.items (Some between))
         (stream_due (described set.now) staged.new.came.items) result }
     ensures moved { OnOk result (cursor.old.at < cursor.new.at) }
-    ensures heard { HearsOn
-        (reading_on (judge (by_state (described set.now) (accepted_of (described set.now) only)))
-        (state_of (described set.now) staged.old (spot_of between)))
-        (λ next.
-        (reading_on
-        (judge (by_state (described set.now) (accepted_of (described set.now) only)))
-        (state_of (described set.now) staged.new (spot_at next))))
+    ensures heard { HearsOn (read_from set.now only staged.old (spot_of between))
+        (λ next. read_from set.now only staged.new (spot_at next))
         cursor.old cursor.new (S.given source.old) (S.given source.new) result }
     ensures cause { HasCause (S.faults source.old) (S.faults source.new) result }
     ensures promise { S.promise source.new ≡ S.promise source.old }
