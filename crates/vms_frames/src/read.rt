@@ -69,9 +69,10 @@ pub(crate) fn number<S: Source>(source: &mut S, at: u64, kind: Kind) -> Result<i
         (S.given source.new) result }
     ensures promise { S.promise source.new ≡ S.promise source.old }
 {
-    let mut unit = Unit::new();
-    grow(source, at, &mut unit, kind.width())?;
-    match kind.take(&unit) {
+    let mut room = [0; 8];
+    let code = &mut room[..kind.width()];
+    fill(source, at, code)?;
+    match kind.take(code) {
         Some(value) => Ok(value),
         None => Err(refused(at, Reason::BadBool)),
     }
