@@ -7,7 +7,8 @@ ghost use Rattle.dev_board.specs.Sound.{IsSound};
 ghost use Rattle.dev_images.specs.Images.{cells_in as cells_of};
 ghost use Rattle.vms_desc.specs.Formed.{shipped_set};
 ghost use Rattle.vms_load.specs.Kept.{loads, kept, taken_by};
-ghost use Rattle.vms_board.specs.Comes.{ComesTo, HasCause, GivesWithin, HearsBoard, Takings, HearsTakings, IsUnfit, refusal_of as refusal_by};
+ghost use Rattle.vms_board.specs.Comes.{ComesTo, HasCause, GivesWithin, HearsBoard};
+ghost use Rattle.vms_board.specs.Comes.{Takings, HearsTakings, IsUnfit, refusal_of as refusal_by};
 
 use crate::board::{Board, machine};
 use crate::cells::cells_in;
@@ -39,12 +40,13 @@ impl Board {
     /// order of the devices and of the rules' numbers (`Unsound`), or lines that the master remembers otherwise
     /// than the devices have them (`LinesDisagree`). After an error the board is as it was. No memory is taken.
     pub fn restore<S: Source>(&mut self, source: &mut S) -> Result<(), RestoreFault>
-        ensures content { let level = self.old.state.level in
-            IfSome (S.left source.old) (λ input. ComesTo level self.new input (S.left source.new) result) }
+        ensures content { let level = self.old.state.level in let left = S.left source.new in
+            IfSome (S.left source.old) (λ input. ComesTo level self.new input left result) }
         ensures same { OnErr result (self.new ≡ self.old) }
         ensures sound { IsSound self.new.state }
         ensures level { self.new.state.level ≡ self.old.state.level }
-        ensures given { GivesWithin (S.given source.old) (S.given source.new) self.new.taken result }
+        ensures given { let before = S.given source.old in
+            GivesWithin before (S.given source.new) self.new.taken result }
         ensures heard { let level = self.old.state.level in
             HearsBoard level (S.given source.old) (S.given source.new) self.new result }
         ensures cause { HasCause (S.faults source.old) (S.faults source.new) result }
@@ -63,10 +65,12 @@ fn take<S: Source>(loader: &mut Loader, level: u8, source: &mut S) -> Result<(),
     requires level { IsLevel level }
     requires newest { loads loader.old ≡ shipped_set newest }
     ensures content { let images = kept loader.new in let taken = taken_by loader.new in
-        IfSome (S.left source.old) (λ input. Takings level input (S.left source.new) images taken result) }
+        let left = S.left source.new in
+        IfSome (S.left source.old) (λ input. Takings level input left images taken result) }
     ensures newest { loads loader.new ≡ shipped_set newest }
     ensures cells { OnOk result (AreBoardCells (cells_of (kept loader.new))) }
-    ensures given { GivesWithin (S.given source.old) (S.given source.new) (taken_by loader.new) result }
+    ensures given { let before = S.given source.old in
+        GivesWithin before (S.given source.new) (taken_by loader.new) result }
     ensures heard { let images = kept loader.new in let taken = taken_by loader.new in
         HearsTakings level (S.given source.old) (S.given source.new) images taken result }
     ensures cause { HasCause (S.faults source.old) (S.faults source.new) result }

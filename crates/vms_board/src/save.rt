@@ -70,9 +70,11 @@ impl Board {
     fn saved(&self, alloc: Global, set: u8, shipped: &DescSet) -> Result<Vec<Image>, NoMemory>
         requires may { MaySaveUnder self.now.state.level set }
         requires shipped { described shipped.now ≡ shipped_set set }
-        ensures states { IfOk result (λ images. map state_of images.items ≡ saved_images set self.now.state) }
+        ensures states { let saved = saved_images set self.now.state in
+            IfOk result (λ images. map state_of images.items ≡ saved) }
         ensures of { IfOk result (λ images. AreImagesOf (described shipped.now) images.items) }
-        ensures ready { IfOk result (λ images. AreReady (described shipped.now) (map state_of images.items)) }
+        ensures ready { let set = described shipped.now in
+            IfOk result (λ images. AreReady set (map state_of images.items)) }
     {
         images(alloc, shipped, &self.devices.cells(set))
     }

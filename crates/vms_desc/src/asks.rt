@@ -68,7 +68,9 @@ impl DescSet {
     pub fn field_cells(&self, part: Part, field: u32) -> u32
         requires part { HasPart (described self.now) part }
         requires field { field < length (desc_at (described self.now) part).fields }
-        ensures { result ≡ in_u32 (capacity_of (field_at (described self.now) part field).count * item_size (struct_cells (described self.now)) (field_at (described self.now) part field).item) }
+        ensures { result ≡ in_u32 (capacity_of (field_at (described self.now) part field).count
+            * item_size (struct_cells (described self.now))
+            (field_at (described self.now) part field).item) }
     {
         let field = &self.desc(part).fields.as_slice()[field as usize];
         capacity(field.count).saturating_mul(self.item_cells(field.item))
@@ -109,7 +111,9 @@ impl DescSet {
         requires field { field < length (desc_at (described self.now) part).fields }
         requires few { length (C.numbers cells.now) ≤ 16384 }
         requires own { HasCells (described self.now) part (C.numbers cells.now) base }
-        ensures { result ≡ is_there (field_at (described self.now) part field).test (field_at (described self.now) part field).since version (own_numbers (described self.now) part (C.numbers cells.now) base) no_parent }
+        ensures { result ≡ is_there (field_at (described self.now) part field).test
+            (field_at (described self.now) part field).since version
+            (own_numbers (described self.now) part (C.numbers cells.now) base) no_parent }
     {
         let own = self.scope(part, base);
         let field = &own.fields[field as usize];
@@ -125,7 +129,8 @@ impl DescSet {
         requires field { field < length (desc_at (described self.now) part).fields }
         requires few { length (C.numbers cells.now) ≤ 16384 }
         requires own { HasCells (described self.now) part (C.numbers cells.now) base }
-        ensures { result ≡ elements_of (field_at (described self.now) part field).count (own_numbers (described self.now) part (C.numbers cells.now) base) }
+        ensures { result ≡ elements_of (field_at (described self.now) part field).count
+            (own_numbers (described self.now) part (C.numbers cells.now) base) }
     {
         let own = self.scope(part, base);
         let field = &own.fields[field as usize];
@@ -143,7 +148,8 @@ impl DescSet {
         requires part { HasPart (described self.now) part }
         requires few { length (C.numbers cells.now) ≤ 16384 }
         requires own { HasCells (described self.now) part (C.numbers cells.now) base }
-        ensures { result ≡ all_hold (desc_at (described self.now) part).validate version (own_numbers (described self.now) part (C.numbers cells.now) base) }
+        ensures { result ≡ all_hold (desc_at (described self.now) part).validate version
+            (own_numbers (described self.now) part (C.numbers cells.now) base) }
     {
         let tests = self.desc(part).validate.as_slice();
         all_hold(tests, version, self.scope(part, base), cells)
@@ -153,7 +159,9 @@ impl DescSet {
     pub fn is_needed<C: Cells>(&self, device: u32, sub: u32, cells: &C) -> bool
         requires part { HasPart (described self.now) (parts.Sub device sub) }
         requires few { length (C.numbers cells.now) ≤ 16384 }
-        requires cells { length (device_cells (described self.now) (device_at (described self.now) device)) ≤ length (C.numbers cells.now) }
+        requires cells { length
+            (device_cells (described self.now) (device_at (described self.now) device))
+            ≤ length (C.numbers cells.now) }
         ensures { result ≡ needed_at (described self.now) device sub (C.numbers cells.now) }
     {
         let part = Part::Sub(device, sub);

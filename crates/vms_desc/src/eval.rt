@@ -58,7 +58,8 @@ pub(crate) fn holds<C: Cells>(
     requires own { IsInside (C.numbers cells.now) own }
     requires parent { IsInsideParent (C.numbers cells.now) parent }
     requires few { length (C.numbers cells.now) ≤ 16384 }
-    ensures { result ≡ truth (formula test.now) version (number_of (C.numbers cells.now) own.entry) (number_of_parent (C.numbers cells.now) parent.entry) }
+    ensures { result ≡ truth (formula test.now) version (number_of (C.numbers cells.now) own.entry)
+        (number_of_parent (C.numbers cells.now) parent.entry) }
 {
     match test {
         Test::AtLeast(least) => version >= *least,
@@ -91,7 +92,8 @@ pub(crate) fn all_hold<C: Cells>(tests: &[Test], version: u32, own: Scope, cells
     requires names { every (names_well (may_ask own) nobody) (map formula tests.now) ≡ true }
     requires own { IsInside (C.numbers cells.now) own }
     requires few { length (C.numbers cells.now) ≤ 16384 }
-    ensures { result ≡ all_hold (map formula tests.now) version (number_of (C.numbers cells.now) own.entry) }
+    ensures { result ≡ all_hold (map formula tests.now) version
+        (number_of (C.numbers cells.now) own.entry) }
 {
     for test in tests {
         if !holds(test, version, own, None, cells) {

@@ -16,7 +16,9 @@ pub(crate) fn put_fields(
     fields: &[Field],
     forms: &mut Vec<CellForm>,
 ) -> Result<(), AllocError>
-    ensures { OnOk result (forms.new.items ≡ forms.old.items ++ fields_forms (forms_to (map desc_of structs.now) (length structs.now)) (map field_of fields.now)) }
+    ensures { OnOk result (forms.new.items ≡ forms.old.items
+        ++ fields_forms (forms_to (map desc_of structs.now) (length structs.now))
+        (map field_of fields.now)) }
 {
     for field in fields {
         put_field(structs, field, forms)?;
@@ -26,7 +28,9 @@ pub(crate) fn put_fields(
 
 #[cycle(forms)]
 fn put_field(structs: &[Desc], field: &Field, forms: &mut Vec<CellForm>) -> Result<(), AllocError>
-    ensures { OnOk result (forms.new.items ≡ forms.old.items ++ field_forms (forms_to (map desc_of structs.now) (length structs.now)) (field_of field.now)) }
+    ensures { OnOk result (forms.new.items ≡ forms.old.items
+        ++ field_forms (forms_to (map desc_of structs.now) (length structs.now))
+        (field_of field.now)) }
 {
     for _element in 0..capacity(field.count) {
         put_element(structs, field, forms)?;
@@ -36,7 +40,9 @@ fn put_field(structs: &[Desc], field: &Field, forms: &mut Vec<CellForm>) -> Resu
 
 #[cycle(forms)]
 fn put_element(structs: &[Desc], field: &Field, forms: &mut Vec<CellForm>) -> Result<(), AllocError>
-    ensures { OnOk result (forms.new.items ≡ forms.old.items ++ item_forms (forms_to (map desc_of structs.now) (length structs.now)) field.now.item field.now.default) }
+    ensures { OnOk result (forms.new.items ≡ forms.old.items
+        ++ item_forms (forms_to (map desc_of structs.now) (length structs.now))
+        field.now.item field.now.default) }
 {
     match field.item {
         Item::Num(kind) => forms.push(CellForm {
@@ -55,7 +61,9 @@ fn put_element(structs: &[Desc], field: &Field, forms: &mut Vec<CellForm>) -> Re
 }
 
 fn put_subs(structs: &[Desc], subs: &[Sub], forms: &mut Vec<CellForm>) -> Result<(), AllocError>
-    ensures { OnOk result (forms.new.items ≡ forms.old.items ++ subs_forms (forms_to (map desc_of structs.now) (length structs.now)) (map sub_of subs.now)) }
+    ensures { OnOk result (forms.new.items ≡ forms.old.items
+        ++ subs_forms (forms_to (map desc_of structs.now) (length structs.now))
+        (map sub_of subs.now)) }
 {
     for sub in subs {
         put_fields(structs, sub.desc.fields.as_slice(), forms)?;
@@ -69,7 +77,9 @@ fn device_cells(
     structs: &[Desc],
     device: &Device,
 ) -> Result<Vec<CellForm>, AllocError>
-    ensures { IfOk result (λ forms. forms.items ≡ device_forms (forms_to (map desc_of structs.now) (length structs.now)) (device_of device.now)) }
+    ensures { IfOk result (λ forms.
+        forms.items ≡ device_forms (forms_to (map desc_of structs.now) (length structs.now))
+        (device_of device.now)) }
 {
     let mut forms = Vec::new(alloc);
     put_fields(structs, device.desc.fields.as_slice(), &mut forms)?;

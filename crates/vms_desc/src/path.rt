@@ -40,7 +40,8 @@ impl DescSet {
 
 // The fields of a device, or of the subsection of this number.
 fn placed_at<'a>(device: &'a Device, part: Option<u32>, sizes: &'a [u32]) -> Option<Placed<'a>>
-    ensures { MatchOption result (begin_desc (device_of device.now) part ≡ None) (Begins sizes.now (device_of device.now) part) }
+    ensures { MatchOption result (begin_desc (device_of device.now) part ≡ None)
+        (Begins sizes.now (device_of device.now) part) }
 {
     match part {
         None => Some(Placed {
@@ -77,7 +78,8 @@ fn size_of_subs(sizes: &[u32], subs: &[Sub]) -> u32
 // The cell of a path in a description.
 fn path_cell(parts: &Parts, placed: Placed, path: &[(u32, u32)]) -> Option<u32>
     requires { IsPlaced (set_of parts.now) placed }
-    ensures { result ≡ path_at (set_of parts.now) path.now (length placed.entry.sizes.now) (Some (desc_of placed.entry.desc.now)) placed.entry.base }
+    ensures { result ≡ path_at (set_of parts.now) path.now (length placed.entry.sizes.now)
+        (Some (desc_of placed.entry.desc.now)) placed.entry.base }
 {
     let (first, rest) = path.split_first()?;
     let element = element_at(placed, *first)?;
@@ -93,8 +95,10 @@ fn path_cell(parts: &Parts, placed: Placed, path: &[(u32, u32)]) -> Option<u32>
 
 // The element of a step: of its field number, and its element number.
 fn element_at(placed: Placed, step: (u32, u32)) -> Option<Element>
-    requires { placed.base + fields_size Cells placed.sizes.now (map field_of placed.desc.now.fields) ≤ 16384 }
-    ensures { result ≡ element_of placed.entry.sizes.now (desc_of placed.entry.desc.now) placed.entry.base step }
+    requires { placed.base
+        + fields_size Cells placed.sizes.now (map field_of placed.desc.now.fields) ≤ 16384 }
+    ensures { result ≡ element_of placed.entry.sizes.now (desc_of placed.entry.desc.now)
+        placed.entry.base step }
 {
     let fields = placed.desc.fields.as_slice();
     let field = fields.get(step.0 as usize)?;
@@ -112,7 +116,8 @@ fn element_at(placed: Placed, step: (u32, u32)) -> Option<Element>
 // The structure of this number, if it may be used.
 fn structure<'a>(parts: &'a Parts, sizes: &'a [u32], number: u32, base: u32) -> Option<Placed<'a>>
     requires { length sizes.now ≤ length parts.now.structs }
-    ensures { MatchOption result (length sizes.now ≤ number) (Enters (map desc_of parts.now.structs) sizes.now number base) }
+    ensures { MatchOption result (length sizes.now ≤ number)
+        (Enters (map desc_of parts.now.structs) sizes.now number base) }
 {
     let number = number as usize;
     if number >= sizes.len() {

@@ -47,8 +47,10 @@ pub struct DescSet {
     ghost laid: { layout ≡ layout_of (set_of parts) },
     ghost spotted: { spots ≡ map form_spots layout },
     ghost sized: { sizes ≡ sizes_of (set_of parts) },
-    ghost structs_tabled: { AreTables (sizes_of (set_of parts)) (map (λ d. d.fields) (set_of parts).structs) struct_tables },
-    ghost devices_tabled: { AreDeviceTables (sizes_of (set_of parts)) (set_of parts).devices device_tables },
+    ghost structs_tabled: { AreTables (sizes_of (set_of parts))
+        (map (λ d. d.fields) (set_of parts).structs) struct_tables },
+    ghost devices_tabled: { AreDeviceTables (sizes_of (set_of parts))
+        (set_of parts).devices device_tables },
     ghost small: { (k : ℕ) → length (get_or layout k []) ≤ 16384 },
 }
 
@@ -109,7 +111,8 @@ impl DescSet {
     /// How many cells the device of this number has, with those of its subsections.
     pub fn cells(&self, device: u32) -> u32
         requires { device < length (described self.now).devices }
-        ensures { result ≡ length (device_cells (described self.now) (device_at (described self.now) device)) }
+        ensures { result
+            ≡ length (device_cells (described self.now) (device_at (described self.now) device)) }
     {
         self.cell_forms(device).len() as u32
     }
@@ -117,7 +120,8 @@ impl DescSet {
     /// The kind and the default of each cell of the device of this number, in order.
     pub fn cell_forms(&self, device: u32) -> &[CellForm]
         requires { device < length (described self.now).devices }
-        ensures forms { result.now ≡ map form_of (device_cells (described self.now) (device_at (described self.now) device)) }
+        ensures forms { result.now ≡ map form_of
+            (device_cells (described self.now) (device_at (described self.now) device)) }
         ensures few { length result.now ≤ 16384 }
     {
         self.layout.as_slice()[device as usize].as_slice()
@@ -142,7 +146,8 @@ impl DescSet {
     /// subsections. Of a structure that no device uses it is at most 2^32 - 1.
     pub fn cells_of(&self, desc: Part) -> u32
         requires { HasPart (described self.now) desc }
-        ensures { result ≡ in_u32 (own_cell_count (described self.now) (desc_at (described self.now) desc)) }
+        ensures { result
+            ≡ in_u32 (own_cell_count (described self.now) (desc_at (described self.now) desc)) }
     {
         let starts = self.table(desc).starts.as_slice();
         starts[starts.len() - 1]
@@ -151,7 +156,8 @@ impl DescSet {
     // What walks ask of a part.
     pub(crate) fn table(&self, part: Part) -> &Table
         requires { HasPart (described self.now) part }
-        ensures { IsTable (sizes_of (described self.now)) (desc_at (described self.now) part).fields result.now }
+        ensures { IsTable (sizes_of (described self.now))
+            (desc_at (described self.now) part).fields result.now }
     {
         match part {
             Part::Set => unreachable!(),
@@ -164,7 +170,8 @@ impl DescSet {
     // Of a device and its subsections.
     fn tables_of(&self, device: u32) -> &[Table]
         requires { device < length (described self.now).devices }
-        ensures { AreTables (sizes_of (described self.now)) (device_fields (device_at (described self.now) device)) result.now }
+        ensures { AreTables (sizes_of (described self.now))
+            (device_fields (device_at (described self.now) device)) result.now }
     {
         self.device_tables.as_slice()[device as usize].as_slice()
     }
@@ -200,9 +207,14 @@ impl DescSet {
         requires part { HasPart (described self.now) desc }
         requires placed { is_placed (described self.now) desc (formula test.now) ≡ true }
         requires few { length (C.numbers cells.now) ≤ 16384 }
-        requires own { base + own_cell_count (described self.now) (desc_at (described self.now) desc) ≤ length (C.numbers cells.now) }
+        requires own { base
+            + own_cell_count (described self.now) (desc_at (described self.now) desc)
+            ≤ length (C.numbers cells.now) }
         requires parent { HasParentCells (described self.now) desc (length (C.numbers cells.now)) }
-        ensures { result ≡ truth (formula test.now) version (numbers_of (struct_cells (described self.now)) (desc_at (described self.now) desc) (C.numbers cells.now) base) (parent_of (described self.now) desc (C.numbers cells.now)) }
+        ensures { result ≡ truth (formula test.now) version
+            (numbers_of (struct_cells (described self.now)) (desc_at (described self.now) desc)
+            (C.numbers cells.now) base)
+            (parent_of (described self.now) desc (C.numbers cells.now)) }
     {
         holds(
             test,

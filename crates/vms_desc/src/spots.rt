@@ -25,7 +25,8 @@ impl DescSet {
     /// Where the number of a cell stands in the bytes of an image of the device of this number.
     pub fn spot(&self, device: u32, cell: u32) -> Spot
         requires is_device { device < length (described self.now).devices }
-        requires is_cell { cell < length (device_cells (described self.now) (device_at (described self.now) device)) }
+        requires is_cell { cell
+            < length (device_cells (described self.now) (device_at (described self.now) device)) }
         ensures { result ≡ get_or (spots_of (kinds_at (described self.now) device)) cell no_spot }
     {
         self.spots(device)[cell as usize]

@@ -46,7 +46,8 @@ pub(crate) fn struct_tables(
     sizes: &[u32],
     structs: &[Desc],
 ) -> Result<Vec<Table>, AllocError>
-    ensures { IfOk result (λ tables. AreTables sizes.now (map (λ d. d.fields) (map desc_of structs.now)) tables.items) }
+    ensures { IfOk result (λ tables.
+        AreTables sizes.now (map (λ d. d.fields) (map desc_of structs.now)) tables.items) }
 {
     let mut tables = Vec::new(alloc);
     for desc in structs {
@@ -57,7 +58,8 @@ pub(crate) fn struct_tables(
 
 // Those of a device: its own, and then each subsection's.
 fn part_tables(alloc: Global, sizes: &[u32], device: &Device) -> Result<Vec<Table>, AllocError>
-    ensures { IfOk result (λ tables. AreTables sizes.now (device_fields (device_of device.now)) tables.items) }
+    ensures { IfOk result (λ tables.
+        AreTables sizes.now (device_fields (device_of device.now)) tables.items) }
 {
     let mut tables = Vec::new(alloc);
     tables.push(table_of(alloc, sizes, device.desc.fields.as_slice())?)?;
@@ -72,7 +74,8 @@ pub(crate) fn device_tables(
     sizes: &[u32],
     devices: &[Device],
 ) -> Result<Vec<Listed<Table>>, AllocError>
-    ensures { IfOk result (λ tables. AreDeviceTables sizes.now (map device_of devices.now) tables.items) }
+    ensures { IfOk result (λ tables.
+        AreDeviceTables sizes.now (map device_of devices.now) tables.items) }
 {
     let mut tables = Vec::new(alloc);
     for device in devices {

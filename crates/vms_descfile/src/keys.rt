@@ -16,7 +16,7 @@ pub(crate) fn fits(value: &Value, needed: &[&str], allowed: &[&str]) -> bool
         ≡ fits (map (λ k. k.now) needed.now) (map (λ k. k.now) allowed.now) (view value.now) }
 {
     match value.as_object() {
-        Some(members) => has_no_others(members, needed, allowed) && has_all(value, needed),
+        Some(members) => has_all(value, needed) && has_no_others(members, needed, allowed),
         None => false,
     }
 }

@@ -3,6 +3,7 @@ pub mod HeardParts
 pub mod HeardUnits
 pub mod HeardFirst
 pub mod FillLemmas
+pub mod NumberLemmas
 pub mod UnitLemmas
 pub mod HeadLemmas
 pub mod CutLemmas

@@ -60,7 +60,8 @@ impl Cursor {
     pub fn stream_head<S: Source>(&mut self, source: &mut S) -> Result<(), FrameFault>
         requires place { self.old.at ≤ 2 ^ 63 }
         requires held { self.old.held ≡ None }
-        ensures content { IfSome (S.left source.old) (λ rest. AnswersHead self.old.at rest (S.left source.new) result) }
+        ensures content { IfSome (S.left source.old) (λ rest.
+            AnswersHead self.old.at rest (S.left source.new) result) }
         ensures place { OnOk result (self.new.at ≡ self.old.at + 8) }
         ensures held { OnOk result (self.new.held ≡ None) }
         ensures given { GivesWithin (λ _. 8) 8 (S.given source.old) (S.given source.new) result }
@@ -79,14 +80,18 @@ impl Cursor {
     /// length above 255. A configuration comes directly after the stream head alone.
     pub fn between<S: Source>(&mut self, source: &mut S, place: Between) -> Result<Step, FrameFault>
         requires { self.old.at ≤ 2 ^ 63 }
-        ensures content { ReadsBetween place self.old (S.left source.old) (S.left source.new) result }
+        ensures content { ReadsBetween place self.old (S.left source.old)
+            (S.left source.new) result }
         ensures place { IfOk result (λ step. self.new.at ≡ self.old.at + step_long step) }
         ensures held { OnOk result (self.new.held ≡ None) }
-        ensures given { GivesWithin (step_given self.old.held) 269 (S.given source.old) (S.given source.new) result }
+        ensures given { GivesWithin (step_given self.old.held) 269 (S.given source.old)
+            (S.given source.new) result }
         ensures cause { HasCause (S.faults source.old) (S.faults source.new) result }
-        ensures heard { HearsBetween place self.old.held self.old.at (S.given source.old) (S.given source.new) result }
+        ensures heard { HearsBetween place self.old.held self.old.at (S.given source.old)
+            (S.given source.new) result }
         ensures promise { S.promise source.new ≡ S.promise source.old }
-        ensures configuration { IfOk result (λ step. is_configuration step ≡ true → place ≡ Between.First) }
+        ensures configuration { IfOk result (λ step.
+            is_configuration step ≡ true → place ≡ Between.First) }
     {
         let step = step(source, self.at, place, self.held)?;
         self.held = None;
@@ -99,12 +104,15 @@ impl Cursor {
         requires place { self.old.at ≤ 2 ^ 63 }
         requires held { self.old.held ≡ None }
         ensures range { IfOk result (InRange kind) }
-        ensures content { ReadsNumber kind self.old.at (S.left source.old) (S.left source.new) result }
+        ensures content { ReadsNumber kind self.old.at (S.left source.old)
+            (S.left source.new) result }
         ensures place { OnOk result (self.new.at ≡ self.old.at + width kind) }
         ensures held { OnOk result (self.new.held ≡ None) }
-        ensures given { GivesWithin (λ _. width kind) (width kind) (S.given source.old) (S.given source.new) result }
+        ensures given { GivesWithin (λ _. width kind) (width kind) (S.given source.old)
+            (S.given source.new) result }
         ensures cause { HasCause (S.faults source.old) (S.faults source.new) result }
-        ensures heard { HearsNumber kind self.old.at (S.given source.old) (S.given source.new) result }
+        ensures heard { HearsNumber kind self.old.at (S.given source.old)
+            (S.given source.new) result }
         ensures promise { S.promise source.new ≡ S.promise source.old }
     {
         let value = number(source, self.at, kind)?;
@@ -116,12 +124,15 @@ impl Cursor {
     pub fn skip<S: Source>(&mut self, source: &mut S, bytes: u16) -> Result<(), FrameFault>
         requires place { self.old.at ≤ 2 ^ 63 }
         requires held { self.old.held ≡ None }
-        ensures content { ReadsFiller bytes self.old.at (S.left source.old) (S.left source.new) result }
+        ensures content { ReadsFiller bytes self.old.at (S.left source.old)
+            (S.left source.new) result }
         ensures place { OnOk result (self.new.at ≡ self.old.at + bytes) }
         ensures held { OnOk result (self.new.held ≡ None) }
-        ensures given { GivesWithin (λ _. bytes) bytes (S.given source.old) (S.given source.new) result }
+        ensures given { GivesWithin (λ _. bytes) bytes (S.given source.old)
+            (S.given source.new) result }
         ensures cause { HasCause (S.faults source.old) (S.faults source.new) result }
-        ensures heard { HearsFiller bytes self.old.at (S.given source.old) (S.given source.new) result }
+        ensures heard { HearsFiller bytes self.old.at (S.given source.old)
+            (S.given source.new) result }
         ensures promise { S.promise source.new ≡ S.promise source.old }
     {
         pass(source, self.at, bytes as usize)?;
@@ -141,12 +152,16 @@ impl Cursor {
     ) -> Result<After, FrameFault>
         requires place { self.old.at ≤ 2 ^ 63 }
         requires held { self.old.held ≡ None }
-        ensures content { IfSome (S.left source.old) (λ rest. AnswersBehind (tail_of tail) id self.old.at rest self.new.held (S.left source.new) result) }
+        ensures content { IfSome (S.left source.old) (λ rest.
+            AnswersBehind (tail_of tail) id self.old.at rest self.new.held
+            (S.left source.new) result) }
         ensures place { IfOk result (λ after. self.new.at ≡ self.old.at + after_long after) }
         ensures held { IfOk result (λ after. Holds tail after self.new.held) }
-        ensures given { GivesWithin after_given 261 (S.given source.old) (S.given source.new) result }
+        ensures given { GivesWithin after_given 261 (S.given source.old)
+            (S.given source.new) result }
         ensures cause { HasCause (S.faults source.old) (S.faults source.new) result }
-        ensures heard { HearsBehind tail id self.old.at self.new.held (S.given source.old) (S.given source.new) result }
+        ensures heard { HearsBehind tail id self.old.at self.new.held (S.given source.old)
+            (S.given source.new) result }
         ensures promise { S.promise source.new ≡ S.promise source.old }
     {
         match behind(source, self.at, id, tail)? {
@@ -171,12 +186,16 @@ impl Cursor {
     pub fn trailer<S: Source>(&mut self, source: &mut S) -> Result<(), FrameFault>
         requires place { self.old.at ≤ 2 ^ 63 }
         requires held { self.old.held ≡ None }
-        ensures content { ReadsEnd self.old.at self.new.at (S.left source.old) (S.left source.new) result }
-        ensures place { OnOk result (self.old.at ≤ self.new.at × self.new.at ≤ self.old.at + 16777221) }
+        ensures content { ReadsEnd self.old.at self.new.at (S.left source.old)
+            (S.left source.new) result }
+        ensures place { OnOk result
+            (self.old.at ≤ self.new.at × self.new.at ≤ self.old.at + 16777221) }
         ensures held { OnOk result (self.new.held ≡ None) }
-        ensures given { GivesPast self.old.at self.new.at 16777221 (S.given source.old) (S.given source.new) result }
+        ensures given { GivesPast self.old.at self.new.at 16777221 (S.given source.old)
+            (S.given source.new) result }
         ensures cause { HasCause (S.faults source.old) (S.faults source.new) result }
-        ensures heard { HearsEnding self.old.at self.new.at (S.given source.old) (S.given source.new) result }
+        ensures heard { HearsEnding self.old.at self.new.at (S.given source.old)
+            (S.given source.new) result }
         ensures promise { S.promise source.new ≡ S.promise source.old }
     {
         self.at += trailer(source, self.at)?;

@@ -22,11 +22,17 @@ const PASSAGE: usize = 4096;
 
 /// Fills `buf`, or refuses the unit at `at` where the input ends before.
 pub(crate) fn fill<S: Source>(source: &mut S, at: u64, buf: &mut [u8]) -> Result<(), FrameFault>
-    ensures bytes { OnOk result (Grows (S.left source.old) (S.left source.new) [] buf.new (length buf.old)) }
-    ensures cut { IfErr result (CutsShort (S.left source.old) (S.left source.new) at (length buf.old)) }
-    ensures given { MatchResult result (λ _. S.given source.new ≡ capped (S.given source.old + length buf.old)) (λ _. S.given source.new ≤ S.given source.old + length buf.old) }
-    ensures heard { OnOk result (HearsPart (S.given source.old) (S.given source.new) [] buf.new (length buf.old)) }
-    ensures missed { IfErr result (HearsShort (S.given source.old) (S.given source.new) at (length buf.old)) }
+    ensures bytes { OnOk result
+        (Grows (S.left source.old) (S.left source.new) [] buf.new (length buf.old)) }
+    ensures cut { IfErr result
+        (CutsShort (S.left source.old) (S.left source.new) at (length buf.old)) }
+    ensures given { MatchResult result
+        (λ _. S.given source.new ≡ capped (S.given source.old + length buf.old))
+        (λ _. S.given source.new ≤ S.given source.old + length buf.old) }
+    ensures heard { OnOk result
+        (HearsPart (S.given source.old) (S.given source.new) [] buf.new (length buf.old)) }
+    ensures missed { IfErr result
+        (HearsShort (S.given source.old) (S.given source.new) at (length buf.old)) }
     ensures cause { HasCause (S.faults source.old) (S.faults source.new) result }
     ensures promise { S.promise source.new ≡ S.promise source.old }
 {
@@ -45,13 +51,17 @@ pub(crate) fn grow<S: Source>(
     count: usize,
 ) -> Result<(), FrameFault>
     requires { array_vec_len unit.old + count ≤ 269 }
-    ensures bytes { OnOk result (Grows (S.left source.old) (S.left source.new) unit.old.items unit.new.items count) }
+    ensures bytes { OnOk result
+        (Grows (S.left source.old) (S.left source.new) unit.old.items unit.new.items count) }
     ensures kept { OnOk result (take (length unit.old.items) unit.new.items ≡ unit.old.items) }
     ensures long { OnOk result (length unit.new.items ≡ length unit.old.items + count) }
     ensures cut { IfErr result (CutsShort (S.left source.old) (S.left source.new) at count) }
-    ensures heard { OnOk result (HearsPart (S.given source.old) (S.given source.new) unit.old.items unit.new.items count) }
+    ensures heard { OnOk result
+        (HearsPart (S.given source.old) (S.given source.new) unit.old.items unit.new.items count) }
     ensures missed { IfErr result (HearsShort (S.given source.old) (S.given source.new) at count) }
-    ensures given { MatchResult result (λ _. S.given source.new ≡ capped (S.given source.old + count)) (λ _. S.given source.new ≤ S.given source.old + count) }
+    ensures given { MatchResult result
+        (λ _. S.given source.new ≡ capped (S.given source.old + count))
+        (λ _. S.given source.new ≤ S.given source.old + count) }
     ensures cause { HasCause (S.faults source.old) (S.faults source.new) result }
     ensures promise { S.promise source.new ≡ S.promise source.old }
 {
@@ -68,7 +78,9 @@ pub(crate) fn pass<S: Source>(source: &mut S, at: u64, count: usize) -> Result<(
     ensures cut { IfErr result (CutsShort (S.left source.old) (S.left source.new) at count) }
     ensures heard { OnOk result (HearsPassed (S.given source.old) (S.given source.new) count) }
     ensures missed { IfErr result (HearsShort (S.given source.old) (S.given source.new) at count) }
-    ensures given { MatchResult result (λ _. S.given source.new ≡ capped (S.given source.old + count)) (λ _. S.given source.new ≤ S.given source.old + count) }
+    ensures given { MatchResult result
+        (λ _. S.given source.new ≡ capped (S.given source.old + count))
+        (λ _. S.given source.new ≤ S.given source.old + count) }
     ensures cause { HasCause (S.faults source.old) (S.faults source.new) result }
     ensures promise { S.promise source.new ≡ S.promise source.old }
 {

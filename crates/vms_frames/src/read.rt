@@ -22,10 +22,12 @@ const LONGEST_TEXT: u32 = 16_777_216;
 
 /// The first four bytes of a stream, which tell that it is one.
 pub(crate) fn magic<S: Source>(source: &mut S, at: u64) -> Result<(), FrameFault>
-    ensures content { IfSome (S.left source.old) (λ rest. Answers (λ _. 4) (magic_found rest) at rest (S.left source.new) result) }
+    ensures content { IfSome (S.left source.old) (λ rest.
+        Answers (λ _. 4) (magic_found rest) at rest (S.left source.new) result) }
     ensures given { GivesWithin (λ _. 4) 4 (S.given source.old) (S.given source.new) result }
     ensures cause { HasCause (S.faults source.old) (S.faults source.new) result }
-    ensures heard { HearsUnit (λ _. 4) magic_found [] at (S.given source.old) (S.given source.new) result }
+    ensures heard { HearsUnit (λ _. 4) magic_found [] at (S.given source.old)
+        (S.given source.new) result }
     ensures promise { S.promise source.new ≡ S.promise source.old }
 {
     let mut unit = Unit::new();
@@ -38,10 +40,12 @@ pub(crate) fn magic<S: Source>(source: &mut S, at: u64) -> Result<(), FrameFault
 
 /// The version of the stream's form.
 pub(crate) fn version<S: Source>(source: &mut S, at: u64) -> Result<(), FrameFault>
-    ensures content { IfSome (S.left source.old) (λ rest. Answers (λ _. 4) (version_found rest) at rest (S.left source.new) result) }
+    ensures content { IfSome (S.left source.old) (λ rest.
+        Answers (λ _. 4) (version_found rest) at rest (S.left source.new) result) }
     ensures given { GivesWithin (λ _. 4) 4 (S.given source.old) (S.given source.new) result }
     ensures cause { HasCause (S.faults source.old) (S.faults source.new) result }
-    ensures heard { HearsUnit (λ _. 4) version_found [] at (S.given source.old) (S.given source.new) result }
+    ensures heard { HearsUnit (λ _. 4) version_found [] at (S.given source.old)
+        (S.given source.new) result }
     ensures promise { S.promise source.new ≡ S.promise source.old }
 {
     let mut unit = Unit::new();
@@ -56,15 +60,19 @@ pub(crate) fn version<S: Source>(source: &mut S, at: u64) -> Result<(), FrameFau
 /// A number of this kind.
 pub(crate) fn number<S: Source>(source: &mut S, at: u64, kind: Kind) -> Result<i128, FrameFault>
     ensures range { IfOk result (InRange kind) }
-    ensures content { IfSome (S.left source.old) (λ rest. Answers (λ _. width kind) (number_found kind rest) at rest (S.left source.new) result) }
-    ensures given { GivesWithin (λ _. width kind) (width kind) (S.given source.old) (S.given source.new) result }
+    ensures content { IfSome (S.left source.old) (λ rest.
+        Answers (λ _. width kind) (number_found kind rest) at rest (S.left source.new) result) }
+    ensures given { GivesWithin (λ _. width kind) (width kind) (S.given source.old)
+        (S.given source.new) result }
     ensures cause { HasCause (S.faults source.old) (S.faults source.new) result }
-    ensures heard { HearsUnit (λ _. width kind) (number_found kind) [] at (S.given source.old) (S.given source.new) result }
+    ensures heard { HearsUnit (λ _. width kind) (number_found kind) [] at (S.given source.old)
+        (S.given source.new) result }
     ensures promise { S.promise source.new ≡ S.promise source.old }
 {
-    let mut unit = Unit::new();
-    grow(source, at, &mut unit, kind.width())?;
-    match kind.take(&unit) {
+    let mut room = [0; 8];
+    let code = &mut room[..kind.width()];
+    fill(source, at, code)?;
+    match kind.take(code) {
         Some(value) => Ok(value),
         None => Err(refused(at, Reason::BadBool)),
     }
@@ -77,8 +85,11 @@ pub(crate) fn step<S: Source>(
     between: Between,
     held: Option<u8>,
 ) -> Result<Step, FrameFault>
-    ensures content { IfSome (S.left source.old) (λ left. Answers step_long (between_found between (ahead held left)) at (ahead held left) (S.left source.new) result) }
-    ensures given { GivesWithin (λ step. (step_long step) - (held_long held)) 269 (S.given source.old) (S.given source.new) result }
+    ensures content { IfSome (S.left source.old) (λ left.
+        Answers step_long (between_found between (ahead held left)) at (ahead held left)
+        (S.left source.new) result) }
+    ensures given { GivesWithin (λ step. (step_long step) - (held_long held)) 269
+        (S.given source.old) (S.given source.new) result }
     ensures cause { HasCause (S.faults source.old) (S.faults source.new) result }
     ensures heard { HearsStep between held at (S.given source.old) (S.given source.new) result }
     ensures promise { S.promise source.new ≡ S.promise source.old }
@@ -100,10 +111,15 @@ fn marked<S: Source>(
     unit: Unit,
 ) -> Result<Step, FrameFault>
     requires { length unit.items ≡ 1 }
-    ensures content { IfSome (S.left source.old) (λ more. Answers step_long (mark_found between (unit.items ++ more) (mark_of (get_or unit.items 0 0))) at (unit.items ++ more) (S.left source.new) result) }
-    ensures given { GivesWithin (λ step. (step_long step) - 1) 268 (S.given source.old) (S.given source.new) result }
+    ensures content { IfSome (S.left source.old) (λ more.
+        Answers step_long (mark_found between (unit.items ++ more)
+        (mark_of (get_or unit.items 0 0))) at (unit.items ++ more) (S.left source.new) result) }
+    ensures given { GivesWithin (λ step. (step_long step) - 1) 268 (S.given source.old)
+        (S.given source.new) result }
     ensures cause { HasCause (S.faults source.old) (S.faults source.new) result }
-    ensures heard { HearsUnit step_long (λ all. mark_found between all (mark_of (get_or unit.items 0 0))) unit.items at (S.given source.old) (S.given source.new) result }
+    ensures heard { HearsUnit step_long
+        (λ all. mark_found between all (mark_of (get_or unit.items 0 0))) unit.items at
+        (S.given source.old) (S.given source.new) result }
     ensures promise { S.promise source.new ≡ S.promise source.old }
     ensures place { IfOk result (λ step. is_configuration step ≡ true → between ≡ Between.First) }
 {
@@ -135,10 +151,14 @@ fn sub_reason(between: Between) -> Reason
 fn section<S: Source>(source: &mut S, at: u64, unit: Unit) -> Result<Step, FrameFault>
     requires long { length unit.items ≡ 1 }
     requires mark { get_or unit.items 0 0 ≡ 0x04 }
-    ensures content { IfSome (S.left source.old) (λ more. Answers step_long (head_found (unit.items ++ more)) at (unit.items ++ more) (S.left source.new) result) }
-    ensures given { GivesWithin (λ step. (step_long step) - 1) 268 (S.given source.old) (S.given source.new) result }
+    ensures content { IfSome (S.left source.old) (λ more.
+        Answers step_long (head_found (unit.items ++ more)) at (unit.items ++ more)
+        (S.left source.new) result) }
+    ensures given { GivesWithin (λ step. (step_long step) - 1) 268 (S.given source.old)
+        (S.given source.new) result }
     ensures cause { HasCause (S.faults source.old) (S.faults source.new) result }
-    ensures heard { HearsUnit step_long head_found unit.items at (S.given source.old) (S.given source.new) result }
+    ensures heard { HearsUnit step_long head_found unit.items at (S.given source.old)
+        (S.given source.new) result }
     ensures promise { S.promise source.new ≡ S.promise source.old }
     ensures section { IfOk result (λ step. is_configuration step ≡ false) }
 {
@@ -155,10 +175,14 @@ fn section<S: Source>(source: &mut S, at: u64, unit: Unit) -> Result<Step, Frame
 // A configuration, of which the mark came.
 fn configuration<S: Source>(source: &mut S, at: u64, unit: Unit) -> Result<Step, FrameFault>
     requires { length unit.items ≡ 1 }
-    ensures content { IfSome (S.left source.old) (λ more. Answers step_long (configuration_found (unit.items ++ more)) at (unit.items ++ more) (S.left source.new) result) }
-    ensures given { GivesWithin (λ step. (step_long step) - 1) 268 (S.given source.old) (S.given source.new) result }
+    ensures content { IfSome (S.left source.old) (λ more.
+        Answers step_long (configuration_found (unit.items ++ more)) at (unit.items ++ more)
+        (S.left source.new) result) }
+    ensures given { GivesWithin (λ step. (step_long step) - 1) 268 (S.given source.old)
+        (S.given source.new) result }
     ensures cause { HasCause (S.faults source.old) (S.faults source.new) result }
-    ensures heard { HearsUnit step_long configuration_found unit.items at (S.given source.old) (S.given source.new) result }
+    ensures heard { HearsUnit step_long configuration_found unit.items at (S.given source.old)
+        (S.given source.new) result }
     ensures promise { S.promise source.new ≡ S.promise source.old }
 {
     let mut unit = unit;
@@ -174,10 +198,14 @@ fn configuration<S: Source>(source: &mut S, at: u64, unit: Unit) -> Result<Step,
 // A section that is sent in parts, of which the mark came.
 fn start<S: Source>(source: &mut S, at: u64, unit: Unit) -> Result<Step, FrameFault>
     requires { length unit.items ≡ 1 }
-    ensures content { IfSome (S.left source.old) (λ more. Answers step_long (start_found (unit.items ++ more)) at (unit.items ++ more) (S.left source.new) result) }
-    ensures given { GivesWithin (λ step. (step_long step) - 1) 268 (S.given source.old) (S.given source.new) result }
+    ensures content { IfSome (S.left source.old) (λ more.
+        Answers step_long (start_found (unit.items ++ more)) at (unit.items ++ more)
+        (S.left source.new) result) }
+    ensures given { GivesWithin (λ step. (step_long step) - 1) 268 (S.given source.old)
+        (S.given source.new) result }
     ensures cause { HasCause (S.faults source.old) (S.faults source.new) result }
-    ensures heard { HearsUnit step_long start_found unit.items at (S.given source.old) (S.given source.new) result }
+    ensures heard { HearsUnit step_long start_found unit.items at (S.given source.old)
+        (S.given source.new) result }
     ensures promise { S.promise source.new ≡ S.promise source.old }
     ensures none { IfOk result (λ step. is_configuration step ≡ false) }
 {
@@ -216,11 +244,13 @@ pub(crate) fn behind<S: Source>(
     id: u32,
     tail: Tail,
 ) -> Result<Behind, FrameFault>
-    ensures content { IfSome (S.left source.old) (λ rest. Answers behind_long (behind_found tail id rest) at rest (S.left source.new) result) }
+    ensures content { IfSome (S.left source.old) (λ rest.
+        Answers behind_long (behind_found tail id rest) at rest (S.left source.new) result) }
     ensures next { IfOk result (λ behind. IsNext behind → tail ≡ Tail.Footed → ⊥) }
     ensures given { GivesWithin behind_long 261 (S.given source.old) (S.given source.new) result }
     ensures cause { HasCause (S.faults source.old) (S.faults source.new) result }
-    ensures heard { HearsUnit behind_long (behind_found tail id) [] at (S.given source.old) (S.given source.new) result }
+    ensures heard { HearsUnit behind_long (behind_found tail id) [] at (S.given source.old)
+        (S.given source.new) result }
     ensures promise { S.promise source.new ≡ S.promise source.old }
 {
     let mut unit = Unit::new();
@@ -237,11 +267,16 @@ fn behind_marked<S: Source>(
     unit: Unit,
 ) -> Result<Behind, FrameFault>
     requires { length unit.items ≡ 1 }
-    ensures content { IfSome (S.left source.old) (λ more. Answers behind_long (behind_mark_found tail id (get_or unit.items 0 0) (unit.items ++ more) (mark_of (get_or unit.items 0 0))) at (unit.items ++ more) (S.left source.new) result) }
+    ensures content { IfSome (S.left source.old) (λ more.
+        Answers behind_long (behind_mark_found tail id (get_or unit.items 0 0) (unit.items ++ more)
+        (mark_of (get_or unit.items 0 0))) at (unit.items ++ more) (S.left source.new) result) }
     ensures next { IfOk result (λ behind. IsNext behind → tail ≡ Tail.Footed → ⊥) }
-    ensures given { GivesWithin (λ behind. (behind_long behind) - 1) 260 (S.given source.old) (S.given source.new) result }
+    ensures given { GivesWithin (λ behind. (behind_long behind) - 1) 260 (S.given source.old)
+        (S.given source.new) result }
     ensures cause { HasCause (S.faults source.old) (S.faults source.new) result }
-    ensures heard { HearsUnit behind_long (λ all. behind_mark_found tail id (get_or unit.items 0 0) all (mark_of (get_or unit.items 0 0))) unit.items at (S.given source.old) (S.given source.new) result }
+    ensures heard { HearsUnit behind_long (λ all.
+        behind_mark_found tail id (get_or unit.items 0 0) all (mark_of (get_or unit.items 0 0)))
+        unit.items at (S.given source.old) (S.given source.new) result }
     ensures promise { S.promise source.new ≡ S.promise source.old }
 {
     match begins(tail, Mark::of(unit[0])) {
@@ -269,11 +304,15 @@ fn begins(tail: Tail, mark: Option<Mark>) -> Begins
 // The head of a subsection, of which the mark came.
 fn subsection<S: Source>(source: &mut S, at: u64, unit: Unit) -> Result<Behind, FrameFault>
     requires { length unit.items ≡ 1 }
-    ensures content { IfSome (S.left source.old) (λ more. Answers behind_long (sub_found (unit.items ++ more)) at (unit.items ++ more) (S.left source.new) result) }
+    ensures content { IfSome (S.left source.old) (λ more.
+        Answers behind_long (sub_found (unit.items ++ more)) at (unit.items ++ more)
+        (S.left source.new) result) }
     ensures next { IfOk result (λ behind. IsNext behind → ⊥) }
-    ensures given { GivesWithin (λ behind. (behind_long behind) - 1) 260 (S.given source.old) (S.given source.new) result }
+    ensures given { GivesWithin (λ behind. (behind_long behind) - 1) 260 (S.given source.old)
+        (S.given source.new) result }
     ensures cause { HasCause (S.faults source.old) (S.faults source.new) result }
-    ensures heard { HearsUnit behind_long sub_found unit.items at (S.given source.old) (S.given source.new) result }
+    ensures heard { HearsUnit behind_long sub_found unit.items at (S.given source.old)
+        (S.given source.new) result }
     ensures promise { S.promise source.new ≡ S.promise source.old }
 {
     let mut unit = unit;
@@ -289,11 +328,15 @@ fn subsection<S: Source>(source: &mut S, at: u64, unit: Unit) -> Result<Behind, 
 // The footer of the section with this id, of which the mark came.
 fn footer<S: Source>(source: &mut S, at: u64, id: u32, unit: Unit) -> Result<Behind, FrameFault>
     requires { length unit.items ≡ 1 }
-    ensures content { IfSome (S.left source.old) (λ more. Answers behind_long (foot_found id (unit.items ++ more)) at (unit.items ++ more) (S.left source.new) result) }
+    ensures content { IfSome (S.left source.old) (λ more.
+        Answers behind_long (foot_found id (unit.items ++ more)) at (unit.items ++ more)
+        (S.left source.new) result) }
     ensures next { IfOk result (λ behind. IsNext behind → ⊥) }
-    ensures given { GivesWithin (λ behind. (behind_long behind) - 1) 260 (S.given source.old) (S.given source.new) result }
+    ensures given { GivesWithin (λ behind. (behind_long behind) - 1) 260 (S.given source.old)
+        (S.given source.new) result }
     ensures cause { HasCause (S.faults source.old) (S.faults source.new) result }
-    ensures heard { HearsUnit behind_long (foot_found id) unit.items at (S.given source.old) (S.given source.new) result }
+    ensures heard { HearsUnit behind_long (foot_found id) unit.items at (S.given source.old)
+        (S.given source.new) result }
     ensures promise { S.promise source.new ≡ S.promise source.old }
 {
     let mut unit = unit;
@@ -313,7 +356,8 @@ fn no_footer(at: u64) -> FrameFault
 
 /// What belongs to the stream after its end mark, and how many bytes it has: nothing, or a description section.
 pub(crate) fn trailer<S: Source>(source: &mut S, at: u64) -> Result<u64, FrameFault>
-    ensures content { IfSome (S.left source.old) (λ rest. Answers (λ n. n) (trailer_found rest) at rest (S.left source.new) result) }
+    ensures content { IfSome (S.left source.old) (λ rest.
+        Answers (λ n. n) (trailer_found rest) at rest (S.left source.new) result) }
     ensures most { IfOk result (λ n. n ≤ 16777221) }
     ensures given { GivesWithin (λ n. n) 16777221 (S.given source.old) (S.given source.new) result }
     ensures cause { HasCause (S.faults source.old) (S.faults source.new) result }
@@ -331,12 +375,16 @@ pub(crate) fn trailer<S: Source>(source: &mut S, at: u64) -> Result<u64, FrameFa
 
 // A description section, of which the mark came, and how many bytes it has with its mark.
 fn description<S: Source>(source: &mut S, at: u64) -> Result<u64, FrameFault>
-    ensures content { IfSome (S.left source.old) (λ more. Answers (λ n. n) (description_found (0x06 ∷ more)) at (0x06 ∷ more) (S.left source.new) result) }
+    ensures content { IfSome (S.left source.old) (λ more.
+        Answers (λ n. n) (description_found (0x06 ∷ more)) at (0x06 ∷ more)
+        (S.left source.new) result) }
     ensures least { IfOk result (λ n. 5 ≤ n) }
     ensures most { IfOk result (λ n. n ≤ 16777221) }
-    ensures given { GivesWithin (λ n. n - 1) 16777220 (S.given source.old) (S.given source.new) result }
+    ensures given { GivesWithin (λ n. n - 1) 16777220 (S.given source.old)
+        (S.given source.new) result }
     ensures cause { HasCause (S.faults source.old) (S.faults source.new) result }
-    ensures heard { HearsUnit (λ n. n) description_found (0x06 ∷ []) at (S.given source.old) (S.given source.new) result }
+    ensures heard { HearsUnit (λ n. n) description_found (0x06 ∷ []) at (S.given source.old)
+        (S.given source.new) result }
     ensures promise { S.promise source.new ≡ S.promise source.old }
 {
     let mut length = [0; 4];

@@ -37,7 +37,8 @@ pub struct Hooks<D: Hooked, P: SaveStep<D>, L: LoadStep<D>> {
     pre: P,
     post: L,
     device: PhantomData<D>,
-    ghost facts: { ∥ Saves D.can_save D.saves_as P.may_save P.gives_cells pre × Loads D.can_restore D.restores_to L.may_load L.answers post ∥₁ },
+    ghost facts: { ∥ Saves D.can_save D.saves_as P.may_save P.gives_cells pre
+        × Loads D.can_restore D.restores_to L.may_load L.answers post ∥₁ },
 }
 
 impl<D: Hooked, P: SaveStep<D>, L: LoadStep<D>> Hooks<D, P, L> {
@@ -55,13 +56,15 @@ impl<D: Hooked, P: SaveStep<D>, L: LoadStep<D>> Hooks<D, P, L> {
 
     // Brings out what the struct keeps.
     fn known(&self)
-        ensures { Saves D.can_save D.saves_as P.may_save P.gives_cells self.now.pre × Loads D.can_restore D.restores_to L.may_load L.answers self.now.post }
+        ensures { Saves D.can_save D.saves_as P.may_save P.gives_cells self.now.pre
+            × Loads D.can_restore D.restores_to L.may_load L.answers self.now.post }
     {}
 
     /// The cells of a device that may be saved, made by the stored closure, which is lent the pass.
     pub fn save_with(&self, level: u8, set: u8, moment: u64, device: &D) -> DevCells
         requires { D.can_save record { level = level; set = set; moment = moment } device.now }
-        ensures { D.saves_as record { level = level; set = set; moment = moment } device.now result.items }
+        ensures { D.saves_as record { level = level; set = set; moment = moment }
+            device.now result.items }
     {
         self.known();
         let pass = make_pass(level, set, moment);
@@ -76,8 +79,10 @@ impl<D: Hooked, P: SaveStep<D>, L: LoadStep<D>> Hooks<D, P, L> {
         moment: u64,
         cells: &DevCells,
     ) -> Result<D, HookFault>
-        requires { D.can_restore record { level = level; set = set; moment = moment } cells.now.items }
-        ensures { D.restores_to record { level = level; set = set; moment = moment } cells.now.items result }
+        requires { D.can_restore record { level = level; set = set; moment = moment }
+            cells.now.items }
+        ensures { D.restores_to record { level = level; set = set; moment = moment }
+            cells.now.items result }
     {
         self.known();
         let pass = make_pass(level, set, moment);
@@ -99,7 +104,8 @@ pub fn save_by<D: Hooked + Drop, P: SaveStep<D> + Drop, L: LoadStep<D> + Drop>(
     requires saves { Saves D.can_save D.saves_as P.may_save P.gives_cells pre }
     requires loads { Loads D.can_restore D.restores_to L.may_load L.answers post }
     requires can_save { D.can_save record { level = level; set = set; moment = moment } device.now }
-    ensures { D.saves_as record { level = level; set = set; moment = moment } device.now result.items }
+    ensures { D.saves_as record { level = level; set = set; moment = moment }
+        device.now result.items }
 {
     Hooks::new(pre, post).save_with(level, set, moment, device)
 }
@@ -115,8 +121,10 @@ pub fn load_by<D: Hooked + Drop, P: SaveStep<D> + Drop, L: LoadStep<D> + Drop>(
 ) -> Result<D, HookFault>
     requires saves { Saves D.can_save D.saves_as P.may_save P.gives_cells pre }
     requires loads { Loads D.can_restore D.restores_to L.may_load L.answers post }
-    requires can_restore { D.can_restore record { level = level; set = set; moment = moment } cells.now.items }
-    ensures { D.restores_to record { level = level; set = set; moment = moment } cells.now.items result }
+    requires can_restore { D.can_restore record { level = level; set = set; moment = moment }
+        cells.now.items }
+    ensures { D.restores_to record { level = level; set = set; moment = moment }
+        cells.now.items result }
 {
     Hooks::new(pre, post).load_with(level, set, moment, cells)
 }

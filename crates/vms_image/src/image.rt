@@ -29,7 +29,13 @@ impl Model for Image {
 
     ghost Value = { images.Typed };
 
-    ghost view = { λ a. record { version = a.version; came = a.came.items; numbers = a.cells.numbers; kinds = a.cells.kinds } };
+    ghost view = { λ a.
+        record {
+          version = a.version;
+          came = a.came.items;
+          numbers = a.cells.numbers;
+          kinds = a.cells.kinds;
+        } };
 }
 
 impl Image {
@@ -52,7 +58,8 @@ impl Image {
     pub fn reset(&mut self, set: &DescSet, device: u32)
         requires is_device { device < length (described set.now).devices }
         requires subs { length self.old.came ≡ length (device_at (described set.now) device).subs }
-        requires cells { length self.old.numbers ≡ length (device_cells (described set.now) (device_at (described set.now) device)) }
+        requires cells { length self.old.numbers
+            ≡ length (device_cells (described set.now) (device_at (described set.now) device)) }
         requires kinds { self.old.kinds ≡ kinds_at (described set.now) device }
         ensures { self.new ≡ default_at (described set.now) device }
     {
@@ -90,7 +97,8 @@ impl Image {
     /// The code of a cell's number, which are its bytes in `raw`.
     pub fn code(&self, cell: u32) -> &[u8]
         requires { cell < length self.now.numbers }
-        ensures { result.now ≡ code (get_or self.now.kinds cell U8) (get_or self.now.numbers cell (pos 0)) }
+        ensures { result.now ≡ code (get_or self.now.kinds cell U8)
+            (get_or self.now.numbers cell (pos 0)) }
     {
         self.cells.code(cell)
     }
@@ -190,7 +198,9 @@ fn put_defaults(cells: &mut Buffer, forms: &[CellForm])
     requires few { length forms.now ≤ 16384 }
     requires long { length cells.old.numbers ≡ length forms.now }
     requires kinds { cells.old.kinds ≡ map (λ form. form.kind) forms.now }
-    requires range { (k : ℕ) → k < length forms.now → InRange (get_or (map (λ form. form.kind) forms.now) k U8) (get_or (map (λ form. form.default) forms.now) k (pos 0)) }
+    requires range { (k : ℕ) → k < length forms.now
+        → InRange (get_or (map (λ form. form.kind) forms.now) k U8)
+        (get_or (map (λ form. form.default) forms.now) k (pos 0)) }
     ensures { cells.new ≡ record cells.old { numbers = map (λ form. form.default) forms.now } }
 {
     for (cell, form) in forms.iter().enumerate() {

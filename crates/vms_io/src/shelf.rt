@@ -40,8 +40,10 @@ pub trait Shelf {
     /// Gives the bytes that are held under the name, at most `limit` of them.
     fn fetch(&mut self, alloc: Global, name: &str, limit: u32) -> Result<Vec<u8>, FetchFault>
         ensures fits { IfOk result (λ bytes. length bytes.items ≤ limit) }
-        ensures bytes { IfOk result (λ bytes. IfSome (held self.old) (λ map. map name.now ≡ Some bytes.items)) }
-        ensures refused { IfErr result (λ fault. IfSome (held self.old) (λ map. FetchRefuses (map name.now) limit fault)) }
+        ensures bytes { IfOk result (λ bytes.
+            IfSome (held self.old) (λ map. map name.now ≡ Some bytes.items)) }
+        ensures refused { IfErr result (λ fault.
+            IfSome (held self.old) (λ map. FetchRefuses (map name.now) limit fault)) }
         ensures kept { held self.new ≡ held self.old }
         ensures cause { HasFetchCause (faults self.old) (faults self.new) result }
         ensures promise { promise self.new ≡ promise self.old };
@@ -50,9 +52,12 @@ pub trait Shelf {
     ///
     /// After `Failed` what is held under this name is not told.
     fn store(&mut self, name: &str, piece: &[u8]) -> Result<(), StoreFault>
-        ensures stored { OnOk result (IfToldBoth (held self.old) (held self.new) (λ old new. PutsUnder old new name.now piece.now)) }
-        ensures others { OnErr result (IfToldBoth (held self.old) (held self.new) (λ old new. KeepsOthers old new name.now)) }
-        ensures unchanged { IfErr result (λ fault. fault ≡ StoreFault.NoMemory → held self.new ≡ held self.old) }
+        ensures stored { OnOk result (IfToldBoth (held self.old) (held self.new) (λ old new.
+            PutsUnder old new name.now piece.now)) }
+        ensures others { OnErr result
+            (IfToldBoth (held self.old) (held self.new) (λ old new. KeepsOthers old new name.now)) }
+        ensures unchanged { IfErr result (λ fault.
+            fault ≡ StoreFault.NoMemory → held self.new ≡ held self.old) }
         ensures cause { HasStoreCause (faults self.old) (faults self.new) result }
         ensures promise { promise self.new ≡ promise self.old };
 

@@ -40,7 +40,8 @@ pub trait Source {
 /// Fills `buf`, or gives fewer bytes exactly at the end of input. After `Failed` some first bytes were taken.
 pub fn read_exact_of<S: Source>(source: &mut S, buf: &mut [u8]) -> Result<usize, Failed>
     ensures bound { IfOk result (λ n. n ≤ length buf.old) }
-    ensures bytes { IfOk result (λ n. Consumes (S.left source.old) (S.left source.new) (take n buf.new)) }
+    ensures bytes { IfOk result (λ n.
+        Consumes (S.left source.old) (S.left source.new) (take n buf.new)) }
     ensures end { IfOk result (λ n. n < length buf.old → IsAtEnd (S.left source.new)) }
     ensures given { IfOk result (λ n. S.given source.new ≡ capped (S.given source.old + n)) }
     ensures prefix { OnErr result (Shrinks (S.left source.old) (S.left source.new)) }

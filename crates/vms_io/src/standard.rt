@@ -6,10 +6,15 @@ ghost use Rattle.vms_io.specs.Causes.{HasCause};
 use crate::{Failed, Sink, Source};
 use std::io::{Read, Write};
 
+/// The most bytes that are asked of a reader at once.
+const STAGE: usize = 4096;
+
 /// The bytes of a reader, as a file or a terminal. It tells of them nothing.
 #[derive(Drop)]
 pub struct StdSource<R: Read + Drop> {
     reader: R,
+    // Where the reader puts bytes. A caller's buffer gets those alone that came.
+    staged: [u8; STAGE],
     given: u64,
     faults: u64,
 }
@@ -22,6 +27,7 @@ impl<R: Read + Drop> StdSource<R> {
     {
         StdSource {
             reader,
+            staged: [0; STAGE],
             given: 0,
             faults: 0,
         }
@@ -44,8 +50,8 @@ impl<R: Read + Drop> Source for StdSource<R> {
     ghost octets = { λ s. tt };
 
     fn read(&mut self, buf: &mut [u8]) -> Result<usize, Failed> {
-        let mut staged = [0; 4096];
-        let room = buf.len().min(staged.len());
+        let room = buf.len().min(STAGE);
+        let staged = &mut self.staged[..];
         match self.reader.read(&mut staged[..room]) {
             Ok(count) => {
                 buf[..count].copy_from_slice(&staged[..count]);
@@ -78,7 +84,8 @@ impl<W: Write + Drop> StdSink<W> {
 
     /// Hands on what the writer holds back.
     pub fn flush(&mut self) -> Result<(), Failed>
-        ensures { HasCause (⟦<StdSink<W> as Sink>⟧.faults self.old) (⟦<StdSink<W> as Sink>⟧.faults self.new) result }
+        ensures { HasCause (⟦<StdSink<W> as Sink>⟧.faults self.old)
+            (⟦<StdSink<W> as Sink>⟧.faults self.new) result }
     {
         match self.writer.flush() {
             Ok(()) => Ok(()),

@@ -5,7 +5,11 @@ use Rattle.vms_spec.specs.Sets.{Sub, Device, Set}
 use Rattle.vms_spec.specs.Readings.{Reading, Accepted, Refused}
 use Rattle.vms_spec.specs.Images.{Image, default_image}
 use Rattle.vms_spec.specs.Streams.{is_one_of}
-use Rattle.vms_units.specs.State.{State, Spot, Free, Ended}
+use Rattle.vms_units.specs.Judge.{judge}
+use Rattle.vms_units.specs.State.{State, Spot, Free, Ended, by_state}
+use Rattle.vms_laws.specs.Whole.{reading_on}
+use Rattle.vms_desc.specs.Described.{described}
+use Rattle.vms_desc.specs.declared.set.DescSet.{DescSet}
 use Rattle.vms_frames.specs.Stands.{Stand}
 use Rattle.vms_frames.specs.Calls.{tail_of}
 use Rattle.vms_frames.specs.declared.units.Between.{Between}
@@ -81,6 +85,10 @@ accepted machines (Some machine) = get_or machines machine [] ∷ []
 
 abbrev pub accepted_of : Set → Option ℕ → List (List ℕ)
 accepted_of set only = accepted set.machines only
+
+-- what the rest of an input reads as, at this place of a stream, where this much of it was read
+abbrev pub read_from : DescSet → Option ℕ → Staged → Spot → ℕ → List ℕ → Option (Reading State)
+read_from set only staged spot = reading_on (judge (by_state (described set) (accepted_of (described set) only))) (state_of (described set) staged spot)
 
 -- the number of a machine of this name that is accepted, or none
 abbrev pub IsAccepted : List (List ℕ) → Option ℕ → List ℕ → Option ℕ → Type 0

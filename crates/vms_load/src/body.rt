@@ -29,7 +29,8 @@ pub(crate) fn read_part<S: Source>(
     requires kinds { (numbers : List ℤ)
         → AreOfKinds image.old.kinds (spot_slots (described set.now) spot numbers) }
     requires held { cursor.old.held ≡ None }
-    requires place { cursor.old.at + bytes_of (described set.now) (desc_at (described set.now) spot.part) ≤ 2 ^ 63 }
+    requires place { cursor.old.at
+        + bytes_of (described set.now) (desc_at (described set.now) spot.part) ≤ 2 ^ 63 }
     ensures ok { let steps = steps_of (spot_slots (described set.now) spot image.new.numbers) in
         let old = told S.left S.given S.faults S.promise image.old cursor.old.at source.old in
         let new = told S.left S.given S.faults S.promise image.new cursor.new.at source.new in
@@ -79,14 +80,16 @@ impl<S: Source> Walker for Reader<'_, S> {
     ghost goes = { λ xs a b. (b.image.ghost_name ≡ a.image.ghost_name)
         × (b.cursor.ghost_name ≡ a.cursor.ghost_name)
         × (b.source.ghost_name ≡ a.source.ghost_name)
-        × Took xs (told S.left S.given S.faults S.promise a.image.now a.cursor.now.at a.source.now)
+        × Took xs
+        (told S.left S.given S.faults S.promise a.image.now a.cursor.now.at a.source.now)
         (told S.left S.given S.faults S.promise b.image.now b.cursor.now.at b.source.now)
         × (a.cursor.now.held ≡ None → b.cursor.now.held ≡ None) };
 
     ghost stops = { λ xs a fault b. (b.image.ghost_name ≡ a.image.ghost_name)
         × (b.cursor.ghost_name ≡ a.cursor.ghost_name)
         × (b.source.ghost_name ≡ a.source.ghost_name)
-        × Failed xs (told S.left S.given S.faults S.promise a.image.now a.cursor.now.at a.source.now)
+        × Failed xs
+        (told S.left S.given S.faults S.promise a.image.now a.cursor.now.at a.source.now)
         fault (told S.left S.given S.faults S.promise b.image.now b.cursor.now.at b.source.now) };
 
     ghost may = { λ a step. (a.cursor.now.at ≤ 2 ^ 63) × (a.cursor.now.held ≡ None)
@@ -104,7 +107,8 @@ impl<S: Source> Walker for Reader<'_, S> {
     ghost stops_after = { λ xs ys a b c fault h k.
         (k.0 ∙ h.0, k.1 ∙ h.1, k.2 ∙ h.2, failed_after xs ys _ _ _ fault h.3 k.3) };
 
-    ghost stops_before = { λ xs ys a b fault h. (h.0, h.1, h.2, failed_before xs ys _ _ fault h.3) };
+    ghost stops_before = { λ xs ys a b fault h.
+        (h.0, h.1, h.2, failed_before xs ys _ _ fault h.3) };
 
     fn step(&mut self, step: Step) -> Result<(), FrameFault> {
         read_step(step, self.image, self.cursor, self.source)
@@ -125,9 +129,12 @@ fn read_step<S: Source>(
         let start = progress image.old.numbers cursor.old.at rest in
         let taken = take_step step start in
         TakesAs taken image.new.numbers cursor.new.at (S.left source.new) result) }
-    ensures given { Spends (step_long step) (S.given source.old) (S.given source.new) cursor.old.at cursor.new.at result }
+    ensures given { Spends (step_long step) (S.given source.old) (S.given source.new) cursor.old.at
+        cursor.new.at result }
     ensures held { OnOk result (cursor.new.held ≡ None) }
-    ensures heard { HearsTaken (λ rest. take_step step (progress image.old.numbers cursor.old.at rest)) image.new.numbers cursor.new.at (S.given source.old) (S.given source.new) result }
+    ensures heard { HearsTaken
+        (λ rest. take_step step (progress image.old.numbers cursor.old.at rest)) image.new.numbers
+        cursor.new.at (S.given source.old) (S.given source.new) result }
     ensures cause { HasCause (S.faults source.old) (S.faults source.new) result }
     ensures promise { S.promise source.new ≡ S.promise source.old }
     ensures kept { image.new ≡ record image.old { numbers = image.new.numbers } }

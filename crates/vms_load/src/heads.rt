@@ -22,7 +22,8 @@ pub(crate) fn open_section(
 ) -> Result<u32, LoadFault>
     requires { length came.now ≡ length (described set.now).devices }
     ensures short { length head.now.name.items ≤ 255 }
-    ensures opened { result ≡ opened_at at (section_opened (described set.now) came.now head.now.name.items head.now.instance head.now.version) }
+    ensures opened { result ≡ opened_at at (section_opened (described set.now) came.now
+        head.now.name.items head.now.instance head.now.version) }
 {
     let number = match set.find(&head.name, head.instance) {
         None => return Err(refused(None, at, Reason::UnknownSection)),
@@ -70,7 +71,8 @@ pub(crate) fn open_sub(
     requires long { length image.now.came ≡ length (device_of device.now).subs }
     requires few { length (device_of device.now).subs < 2 ^ 32 }
     ensures short { length name.now.items ≤ 255 }
-    ensures opened { result ≡ opened_at at (sub_opened number (device_of device.now) image.now.came name.now.items version) }
+    ensures opened { result ≡ opened_at at
+        (sub_opened number (device_of device.now) image.now.came name.now.items version) }
 {
     let sub = match find_sub(device.subs.as_slice(), name) {
         None => return Err(refused(Some(number), at, Reason::UnknownSubsection)),

@@ -31,8 +31,13 @@ pub(crate) fn put_number<S: Source>(
         let start = progress image.old.numbers cursor.old.at rest in
         let taken = take_number kind (capacities_of most) cell start in
         TakesAs taken image.new.numbers cursor.new.at (S.left source.new) result) }
-    ensures given { Spends (width kind) (S.given source.old) (S.given source.new) cursor.old.at cursor.new.at result }
-    ensures heard { HearsTaken (λ rest. take_number kind (capacities_of most) cell (progress image.old.numbers cursor.old.at rest)) image.new.numbers cursor.new.at (S.given source.old) (S.given source.new) result }
+    ensures given { Spends (width kind) (S.given source.old) (S.given source.new) cursor.old.at
+        cursor.new.at result }
+    ensures heard { HearsTaken
+        (λ rest.
+        take_number kind (capacities_of most) cell
+        (progress image.old.numbers cursor.old.at rest))
+        image.new.numbers cursor.new.at (S.given source.old) (S.given source.new) result }
     ensures cause { HasCause (S.faults source.old) (S.faults source.new) result }
     ensures promise { S.promise source.new ≡ S.promise source.old }
     ensures kept { image.new ≡ record image.old { numbers = image.new.numbers } }
@@ -55,11 +60,14 @@ fn number<S: Source>(
     requires place { cursor.old.at ≤ 2 ^ 63 }
     requires held { cursor.old.held ≡ None }
     ensures range { IfOk result (InRange kind) }
-    ensures content { ReadsCapped kind (capacities_of most) cursor.old.at (S.left source.old) (S.left source.new) result }
+    ensures content { ReadsCapped kind (capacities_of most) cursor.old.at (S.left source.old)
+        (S.left source.new) result }
     ensures place { OnOk result (cursor.new.at ≡ cursor.old.at + width kind) }
     ensures held { OnOk result (cursor.new.held ≡ None) }
-    ensures given { GivesWithin (λ _. width kind) (width kind) (S.given source.old) (S.given source.new) result }
-    ensures heard { HearsCapped kind (capacities_of most) cursor.old.at (S.given source.old) (S.given source.new) result }
+    ensures given { GivesWithin (λ _. width kind) (width kind) (S.given source.old)
+        (S.given source.new) result }
+    ensures heard { HearsCapped kind (capacities_of most) cursor.old.at (S.given source.old)
+        (S.given source.new) result }
     ensures cause { HasCause (S.faults source.old) (S.faults source.new) result }
     ensures promise { S.promise source.new ≡ S.promise source.old }
 {
@@ -83,11 +91,14 @@ pub(crate) fn constant<S: Source>(
 ) -> Result<(), FrameFault>
     requires place { cursor.old.at ≤ 2 ^ 63 }
     requires held { cursor.old.held ≡ None }
-    ensures content { ReadsConstant kind value cursor.old.at (S.left source.old) (S.left source.new) result }
+    ensures content { ReadsConstant kind value cursor.old.at (S.left source.old)
+        (S.left source.new) result }
     ensures place { OnOk result (cursor.new.at ≡ cursor.old.at + width kind) }
     ensures held { OnOk result (cursor.new.held ≡ None) }
-    ensures given { GivesWithin (λ _. width kind) (width kind) (S.given source.old) (S.given source.new) result }
-    ensures heard { HearsConstant kind value cursor.old.at (S.given source.old) (S.given source.new) result }
+    ensures given { GivesWithin (λ _. width kind) (width kind) (S.given source.old)
+        (S.given source.new) result }
+    ensures heard { HearsConstant kind value cursor.old.at (S.given source.old)
+        (S.given source.new) result }
     ensures cause { HasCause (S.faults source.old) (S.faults source.new) result }
     ensures promise { S.promise source.new ≡ S.promise source.old }
 {

@@ -27,7 +27,9 @@ pub struct Loader {
     // What is read of a stream until all of it is taken.
     staged: Staged,
     ghost kept: { AreShaped (set_of set.parts) images.items },
-    ghost whole: { 0 < taken → AreKept (set_of set.parts) (map untyped images.items) } by { kept_once taken (set_of set.parts) (map untyped images.items) },
+    ghost whole: { 0 < taken → AreKept (set_of set.parts)
+        (map untyped images.items) } by { kept_once taken (set_of set.parts)
+            (map untyped images.items) },
     ghost spare: { AreShaped (set_of set.parts) staged.images.items },
 }
 
@@ -42,7 +44,8 @@ impl Loader {
     /// taken here.
     pub fn new(alloc: Global, set: DescSet) -> Result<Loader, NoMemory>
         ensures set { IfOk result (λ loader. loads loader ≡ described set) }
-        ensures images { IfOk result (λ loader. kept loader ≡ map (default_image (described set)) (described set).devices) }
+        ensures images { IfOk result (λ loader.
+            kept loader ≡ map (default_image (described set)) (described set).devices) }
         ensures taken { IfOk result (λ loader. taken_by loader ≡ 0) }
     {
         let images = defaults(alloc, &set)?;
@@ -72,14 +75,18 @@ impl Loader {
         only: Option<u32>,
     ) -> Result<Option<u32>, LoadFault>
         requires { IsMachine (loads self.old).machines only }
-        ensures content { IfSome (S.left source.old) (λ input. Loads (loads self.old) (accepted_of (loads self.old) only) input (S.left source.new) (kept self.new) (taken_by self.new) result) }
+        ensures content { IfSome (S.left source.old) (λ input.
+            Loads (loads self.old) (accepted_of (loads self.old) only) input (S.left source.new)
+            (kept self.new) (taken_by self.new) result) }
         ensures machine { IfOk result (IsMachine (loads self.old).machines) }
         ensures whole { OnOk result (AreKept (loads self.old) (kept self.new)) }
         ensures images { OnErr result (kept self.new ≡ kept self.old) }
         ensures taken { OnErr result (taken_by self.new ≡ taken_by self.old) }
         ensures set { loads self.new ≡ loads self.old }
-        ensures given { GivesWithin (loads self.old) (S.given source.old) (S.given source.new) (taken_by self.new) result }
-        ensures heard { HearsLoad (loads self.old) (accepted_of (loads self.old) only) (S.given source.old) (S.given source.new) (kept self.new) (taken_by self.new) result }
+        ensures given { GivesWithin (loads self.old) (S.given source.old) (S.given source.new)
+            (taken_by self.new) result }
+        ensures heard { HearsLoad (loads self.old) (accepted_of (loads self.old) only)
+            (S.given source.old) (S.given source.new) (kept self.new) (taken_by self.new) result }
         ensures cause { HasCause (S.faults source.old) (S.faults source.new) result }
         ensures promise { S.promise source.new ≡ S.promise source.old }
     {

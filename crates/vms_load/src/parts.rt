@@ -54,13 +54,25 @@ fn fields<S: Source>(
 ) -> Result<(), LoadFault>
     requires device { section.device < length (described set.now).devices }
     requires shaped { IsImageOf (described set.now) section.device image.old }
-    requires open { IsOpen (device_at (described set.now) section.device) (untyped image.old) part.sub part.version }
+    requires open { IsOpen (device_at (described set.now) section.device) (untyped image.old)
+        part.sub part.version }
     requires held { cursor.old.held ≡ None }
-    requires place { cursor.old.at + bytes_of_part (described set.now) (device_at (described set.now) section.device) part.sub ≤ 2 ^ 63 }
-    ensures reads { (names : List (List ℕ)) (state : State) → section.device < length state.images → ReadsOn (in_fields (described set.now) names state section part.sub (untyped image.old)) (λ _. after_fields (described set.now) names state section part.sub (untyped image.new)) cursor.old cursor.new (S.left source.old) (S.left source.new) result }
+    requires place { cursor.old.at
+        + bytes_of_part (described set.now)
+        (device_at (described set.now) section.device) part.sub
+        ≤ 2 ^ 63 }
+    ensures reads { (names : List (List ℕ)) (state : State) → section.device < length state.images
+        → ReadsOn (in_fields (described set.now) names state section part.sub (untyped image.old))
+        (λ _. after_fields (described set.now) names state section part.sub (untyped image.new))
+        cursor.old cursor.new (S.left source.old) (S.left source.new) result }
     ensures held { OnOk result (cursor.new.held ≡ None) }
-    ensures given { Gives (S.given source.old) (S.given source.new) cursor.old cursor.new (bytes_of_part (described set.now) (device_at (described set.now) section.device) part.sub) (λ _. 0) result }
-    ensures heard { (names : List (List ℕ)) (state : State) → section.device < length state.images → HearsOn (in_fields (described set.now) names state section part.sub (untyped image.old)) (λ _. after_fields (described set.now) names state section part.sub (untyped image.new)) cursor.old cursor.new (S.given source.old) (S.given source.new) result }
+    ensures given { Gives (S.given source.old) (S.given source.new) cursor.old cursor.new
+        (bytes_of_part (described set.now) (device_at (described set.now) section.device) part.sub)
+        (λ _. 0) result }
+    ensures heard { (names : List (List ℕ)) (state : State) → section.device < length state.images
+        → HearsOn (in_fields (described set.now) names state section part.sub (untyped image.old))
+        (λ _. after_fields (described set.now) names state section part.sub (untyped image.new))
+        cursor.old cursor.new (S.given source.old) (S.given source.new) result }
     ensures cause { HasCause (S.faults source.old) (S.faults source.new) result }
     ensures promise { S.promise source.new ≡ S.promise source.old }
     ensures kept { image.new ≡ record image.old { numbers = image.new.numbers } }
@@ -91,13 +103,30 @@ fn after<S: Source>(
     requires shaped { IsImageOf (described set.now) section.old.device image.old }
     requires place { cursor.old.at ≤ 2 ^ 63 }
     requires held { cursor.old.held ≡ None }
-    ensures reads { (names : List (List ℕ)) (state : State) (part : Option ℕ) → section.old.device < length state.images → ReadsOn (after_fields (described set.now) names state section.old part (untyped image.old)) (after_part (described set.now) names state section.new (untyped image.new)) cursor.old cursor.new (S.left source.old) (S.left source.new) result }
+    ensures reads { (names : List (List ℕ)) (state : State) (part : Option ℕ)
+        → section.old.device < length state.images
+        → ReadsOn
+        (after_fields (described set.now) names state section.old part (untyped image.old))
+        (after_part (described set.now) names state section.new (untyped image.new)) cursor.old
+        cursor.new (S.left source.old) (S.left source.new) result }
     ensures moved { IfOk result (IsMoved cursor.old cursor.new) }
     ensures section { IsSame section.old section.new }
     ensures held { IfOk result (HoldsNone cursor.new) }
-    ensures open { IfOk result (OpensNext (device_at (described set.now) section.old.device) (untyped image.new)) }
-    ensures given { Gives (S.given source.old) (S.given source.new) cursor.old cursor.new (subs_due (described set.now) (device_at (described set.now) section.old.device).subs image.old.came + 5) (part_due (described set.now) (device_at (described set.now) section.old.device) image.new.came) result }
-    ensures heard { (names : List (List ℕ)) (state : State) (part : Option ℕ) → section.old.device < length state.images → HearsOn (after_fields (described set.now) names state section.old part (untyped image.old)) (after_part (described set.now) names state section.new (untyped image.new)) cursor.old cursor.new (S.given source.old) (S.given source.new) result }
+    ensures open { IfOk result
+        (OpensNext (device_at (described set.now) section.old.device) (untyped image.new)) }
+    ensures given { Gives (S.given source.old) (S.given source.new) cursor.old cursor.new
+        (subs_due (described set.now)
+        (device_at (described set.now) section.old.device).subs image.old.came
+        + 5)
+        (part_due (described set.now)
+        (device_at (described set.now) section.old.device) image.new.came)
+        result }
+    ensures heard { (names : List (List ℕ)) (state : State) (part : Option ℕ)
+        → section.old.device < length state.images
+        → HearsOn
+        (after_fields (described set.now) names state section.old part (untyped image.old))
+        (after_part (described set.now) names state section.new (untyped image.new)) cursor.old
+        cursor.new (S.given source.old) (S.given source.new) result }
     ensures cause { HasCause (S.faults source.old) (S.faults source.new) result }
     ensures promise { S.promise source.new ≡ S.promise source.old }
     ensures shaped { IsImageOf (described set.now) section.old.device image.new }
@@ -142,11 +171,25 @@ pub(crate) fn read_section<S: Source>(
     requires device { section.old.device < length (described set.now).devices }
     requires shaped { IsImageOf (described set.now) section.old.device image.old }
     requires held { cursor.old.held ≡ None }
-    requires place { cursor.old.at + part_due (described set.now) (device_at (described set.now) section.old.device) image.old.came (Some (record { sub = None; version = image.old.version })) ≤ 2 ^ 63 }
-    ensures reads { (names : List (List ℕ)) (state : State) → section.old.device < length state.images → ReadsOn (in_fields (described set.now) names state section.old None (untyped image.old)) (λ _. after_part (described set.now) names state section.new (untyped image.new) None) cursor.old cursor.new (S.left source.old) (S.left source.new) result }
+    requires place { cursor.old.at
+        + part_due (described set.now) (device_at (described set.now) section.old.device)
+        image.old.came (Some (record { sub = None; version = image.old.version }))
+        ≤ 2 ^ 63 }
+    ensures reads { (names : List (List ℕ)) (state : State)
+        → section.old.device < length state.images
+        → ReadsOn (in_fields (described set.now) names state section.old None (untyped image.old))
+        (λ _. after_part (described set.now) names state section.new (untyped image.new) None)
+        cursor.old cursor.new (S.left source.old) (S.left source.new) result }
     ensures section { IsSame section.old section.new }
-    ensures given { Gives (S.given source.old) (S.given source.new) cursor.old cursor.new (part_due (described set.now) (device_at (described set.now) section.old.device) image.old.came (Some (record { sub = None; version = image.old.version }))) (λ _. 0) result }
-    ensures heard { (names : List (List ℕ)) (state : State) → section.old.device < length state.images → HearsOn (in_fields (described set.now) names state section.old None (untyped image.old)) (λ _. after_part (described set.now) names state section.new (untyped image.new) None) cursor.old cursor.new (S.given source.old) (S.given source.new) result }
+    ensures given { Gives (S.given source.old) (S.given source.new) cursor.old cursor.new
+        (part_due (described set.now) (device_at (described set.now) section.old.device)
+        image.old.came (Some (record { sub = None; version = image.old.version })))
+        (λ _. 0) result }
+    ensures heard { (names : List (List ℕ)) (state : State)
+        → section.old.device < length state.images
+        → HearsOn (in_fields (described set.now) names state section.old None (untyped image.old))
+        (λ _. after_part (described set.now) names state section.new (untyped image.new) None)
+        cursor.old cursor.new (S.given source.old) (S.given source.new) result }
     ensures cause { HasCause (S.faults source.old) (S.faults source.new) result }
     ensures promise { S.promise source.new ≡ S.promise source.old }
     ensures shaped { IsImageOf (described set.now) section.old.device image.new }

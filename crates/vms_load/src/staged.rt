@@ -89,7 +89,8 @@ fn none_came(devices: usize) -> ArrayVec<bool, 64>
 pub(crate) fn begin(set: &DescSet, staged: &mut Staged, device: u32, version: u32)
     requires device { device < length (described set.now).devices }
     requires whole { IsOf (described set.now) staged.old }
-    ensures images { staged.new.images.items ≡ slice_set staged.old.images.items device (begun_at (described set.now) device version) }
+    ensures images { staged.new.images.items ≡ slice_set staged.old.images.items device
+        (begun_at (described set.now) device version) }
     ensures came { staged.new.came.items ≡ slice_set staged.old.came.items device true }
     ensures machine { staged.new.machine ≡ staged.old.machine }
     ensures tail { staged.new.tail ≡ staged.old.tail }
@@ -112,7 +113,13 @@ pub(crate) fn configure(
     requires whole { IsOf (described set.now) staged.old }
     ensures short { length name.now.items ≤ 255 }
     ensures refused { IfErr result IsRefused }
-    ensures settles { (first after : Bool) → Settles (ask (described set.now) (accepted_of (described set.now) only) (state_of (described set.now) staged.old (Free first after)) (Configuration name.now.items) (5 + length name.now.items)) at (λ _. state_of (described set.now) staged.new (Free false true)) (5 + length name.now.items) result }
+    ensures settles { (first after : Bool)
+        → Settles
+        (ask (described set.now) (accepted_of (described set.now) only)
+        (state_of (described set.now) staged.old (Free first after))
+        (Configuration name.now.items) (5 + length name.now.items))
+        at (λ _. state_of (described set.now) staged.new (Free false true))
+        (5 + length name.now.items) result }
     ensures images { staged.new.images.items ≡ staged.old.images.items }
     ensures came { staged.new.came.items ≡ staged.old.came.items }
     ensures whole { IsOf (described set.now) staged.new }
@@ -156,7 +163,9 @@ fn find_machine(machines: &[Text], name: &[u8]) -> Option<u32>
 /// Takes the end mark at this place, before which each device's section must have come.
 pub(crate) fn end(staged: &Staged, at: u64) -> Result<(), LoadFault>
     ensures refused { IfErr result IsRefused }
-    ensures settles { (set : Set) (names : List (List ℕ)) (first after : Bool) → Settles (ask set names (state_of set staged.now (Free first after)) End 1) at (λ _. state_of set staged.now Ended) 1 result }
+    ensures settles { (set : Set) (names : List (List ℕ)) (first after : Bool)
+        → Settles (ask set names (state_of set staged.now (Free first after)) End 1) at
+        (λ _. state_of set staged.now Ended) 1 result }
 {
     match first_missing(&staged.came) {
         None => Ok(()),

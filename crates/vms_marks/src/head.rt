@@ -36,7 +36,8 @@ impl Head {
 
     /// The bytes of the head, from its mark to its version.
     pub fn bytes(&self) -> ArrayVec<u8, 269>
-        ensures { result.items ≡ section_head self.now.id self.now.name.items self.now.instance self.now.version }
+        ensures { result.items ≡ section_head self.now.id self.now.name.items
+            self.now.instance self.now.version }
     {
         let mut bytes = ArrayVec::new();
         bytes.push(Mark::Full.byte());
@@ -53,7 +54,8 @@ impl Head {
         ensures spelled { IfOk result (λ head. head_bytes head ≡ bytes.now) }
         ensures value { IfOk result (λ head. head ≡ head_in bytes.now) }
         ensures mark { (result ≡ Err HeadFault.WrongMark) ↔ HasWrongMark bytes.now }
-        ensures long { (result ≡ Err HeadFault.WrongLength) ↔ ((HasWrongMark bytes.now → ⊥) × HasWrongLength bytes.now) }
+        ensures long { (result ≡ Err HeadFault.WrongLength)
+            ↔ ((HasWrongMark bytes.now → ⊥) × HasWrongLength bytes.now) }
     {
         if let [mark, ..] = bytes
             && *mark != Mark::Full.byte()

@@ -70,7 +70,9 @@ pub fn struct_sizes(
     measure: Measure,
     structs: &[Desc],
 ) -> Result<Vec<u32>, AllocError>
-    ensures { IfOk result (λ sizes. sizes.items ≡ map in_u32 (sizes_to measure (map desc_of structs.now) (length structs.now))) }
+    ensures { IfOk result (λ sizes.
+        sizes.items ≡ map in_u32
+        (sizes_to measure (map desc_of structs.now) (length structs.now))) }
 {
     let mut sizes = Vec::with_capacity(alloc, structs.len())?;
     for desc in structs {

@@ -46,7 +46,10 @@ pub(crate) fn check_inside(
     part: Part,
 ) -> Result<(), DescFault>
     requires { length desc.now.fields ≤ 256 }
-    ensures { Judges (or_else (fields_fault usable (desc_of desc.now) part) (validations_fault (desc_of desc.now) part)) result }
+    ensures { Judges
+        (or_else (fields_fault usable (desc_of desc.now) part)
+        (validations_fault (desc_of desc.now) part))
+        result }
 {
     check_fields(alloc, desc, usable, part)?;
     check_validations(desc, part)

@@ -36,7 +36,8 @@ fn check_device(alloc: Global, parts: &Parts, number: usize) -> Result<(), DescF
     requires there { number < length parts.now.devices }
     requires structs { length parts.now.structs ≤ 64 }
     requires devices { length parts.now.devices ≤ 64 }
-    ensures { Judges (device_fault (set_of parts.now) number (device_at (set_of parts.now) number)) result }
+    ensures { Judges (device_fault (set_of parts.now) number (device_at (set_of parts.now) number))
+        result }
 {
     let part = Part::Device(number as u32);
     lowest(device_rules(parts, number), here(part))?;
@@ -54,7 +55,8 @@ fn check_device(alloc: Global, parts: &Parts, number: usize) -> Result<(), DescF
 // The rules at the device of this number itself.
 fn device_rules(parts: &Parts, number: usize) -> [bool; 8]
     requires { number < length parts.now.devices }
-    ensures { result ≡ device_rules (set_of parts.now) number (device_at (set_of parts.now) number) }
+    ensures { result ≡ device_rules (set_of parts.now) number
+        (device_at (set_of parts.now) number) }
 {
     let device = &parts.devices.as_slice()[number];
     let desc = &device.desc;
@@ -81,20 +83,26 @@ fn is_small_device(device: &Device) -> bool
 #[tactic(auto, using(crate::proofs::DeviceLaws::same_device))]
 fn is_taken(devices: &[Device], number: usize) -> bool
     requires { number < length devices.now }
-    ensures { result ≡ some (is_same_device (numbered (map device_of devices.now) number).desc.name (numbered (map device_of devices.now) number).instance) (take number (map device_of devices.now)) }
+    ensures { result ≡ some
+        (is_same_device (numbered (map device_of devices.now) number).desc.name
+        (numbered (map device_of devices.now) number).instance)
+        (take number (map device_of devices.now)) }
 {
     is_among(&devices[..number], &devices[number])
 }
 
 // Whether one of these devices has the name and the instance of another.
 fn is_among(devices: &[Device], device: &Device) -> bool
-    ensures { result ≡ list_any (λ d. bytes_eq d.desc.name device.now.desc.name && d.instance == device.now.instance) devices.now }
+    ensures { result ≡ list_any
+        (λ d. bytes_eq d.desc.name device.now.desc.name && d.instance == device.now.instance)
+        devices.now }
 {
     devices.iter().any(|other| is_same(other, device))
 }
 
 fn is_same(other: &Device, device: &Device) -> bool
-    ensures { result ≡ (bytes_eq other.now.desc.name device.now.desc.name && other.now.instance == device.now.instance) }
+    ensures { result ≡ (bytes_eq other.now.desc.name device.now.desc.name
+        && other.now.instance == device.now.instance) }
 {
     other.desc.name.as_bytes() == device.desc.name.as_bytes() && other.instance == device.instance
 }
@@ -110,7 +118,10 @@ struct Within<'a> {
 // Judges the subsections of a device.
 fn check_subs(alloc: Global, within: Within) -> Result<(), DescFault>
     requires { length within.device.now.subs ≤ 32 }
-    ensures { Judges (subs_from within.entry.structs within.entry.number (device_of within.entry.device.now) 0 (map sub_of within.entry.device.now.subs)) result }
+    ensures { Judges
+        (subs_from within.entry.structs within.entry.number (device_of within.entry.device.now) 0
+        (map sub_of within.entry.device.now.subs))
+        result }
 {
     let mut names = BTreeSet::new(alloc);
     for (number, sub) in within.device.subs.as_slice().iter().enumerate() {
@@ -124,8 +135,13 @@ fn check_subs(alloc: Global, within: Within) -> Result<(), DescFault>
 fn check_sub(alloc: Global, within: Within, number: usize, is_new: bool) -> Result<(), DescFault>
     requires there { number < length within.device.now.subs }
     requires few { length within.device.now.subs ≤ 32 }
-    requires new { is_new ≡ not (is_one_of (map (λ e. e.desc.name) (take number (map sub_of within.device.now.subs))) (sub_at (device_of within.device.now) number).desc.name) }
-    ensures { Judges (sub_fault within.entry.structs within.entry.number (device_of within.entry.device.now) number (sub_at (device_of within.entry.device.now) number)) result }
+    requires new { is_new ≡ not (is_one_of
+        (map (λ e. e.desc.name) (take number (map sub_of within.device.now.subs)))
+        (sub_at (device_of within.device.now) number).desc.name) }
+    ensures { Judges
+        (sub_fault within.entry.structs within.entry.number (device_of within.entry.device.now)
+        number (sub_at (device_of within.entry.device.now) number))
+        result }
 {
     let part = Part::Sub(within.number, number as u32);
     lowest(sub_rules(within.device, number, is_new), here(part))?;
@@ -137,8 +153,11 @@ fn check_sub(alloc: Global, within: Within, number: usize, is_new: bool) -> Resu
 #[tactic(auto, using(crate::proofs::DeviceLaws::needed_names))]
 fn sub_rules(device: &Device, number: usize, is_new: bool) -> [bool; 8]
     requires there { number < length device.now.subs }
-    requires new { is_new ≡ not (is_one_of (map (λ e. e.desc.name) (take number (map sub_of device.now.subs))) (sub_at (device_of device.now) number).desc.name) }
-    ensures { result ≡ sub_rules (device_of device.now) number (sub_at (device_of device.now) number) }
+    requires new { is_new ≡ not (is_one_of
+        (map (λ e. e.desc.name) (take number (map sub_of device.now.subs)))
+        (sub_at (device_of device.now) number).desc.name) }
+    ensures { result ≡ sub_rules (device_of device.now) number
+        (sub_at (device_of device.now) number) }
 {
     let sub = &device.subs.as_slice()[number];
     let desc = &sub.desc;

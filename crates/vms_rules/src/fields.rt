@@ -116,7 +116,9 @@ fn is_small_item(item: Item) -> bool
 
 // Whether a field is within its limits.
 fn is_small(field: &Field) -> bool
-    ensures { result ≡ (nat_le (length field.now.former) 8 && is_small_optional (option_map formula field.now.test) && is_small_item field.now.item) }
+    ensures { result ≡ (nat_le (length field.now.former) 8
+        && is_small_optional (option_map formula field.now.test)
+        && is_small_item field.now.item) }
 {
     field.former.as_slice().len() <= 8 && is_small_if_any(&field.test) && is_small_item(field.item)
 }
@@ -147,8 +149,11 @@ fn field_rules(judged: Judged, number: usize, field: &Field, is_new: bool) -> [b
     requires there { number < length judged.desc.now.fields }
     requires long { length judged.capacities.now ≡ length judged.desc.now.fields }
     requires least { AreLeast (map field_of judged.desc.now.fields) judged.capacities.now }
-    requires names { is_new ≡ are_new (all_names (take number (map field_of judged.desc.now.fields))) (field.now.name ∷ field.now.former) }
-    ensures { result ≡ field_rules judged.entry.usable (desc_of judged.entry.desc.now) number (field_of field.now) }
+    requires names { is_new ≡ are_new
+        (all_names (take number (map field_of judged.desc.now.fields)))
+        (field.now.name ∷ field.now.former) }
+    ensures { result ≡ field_rules judged.entry.usable (desc_of judged.entry.desc.now) number
+        (field_of field.now) }
 {
     let desc = judged.desc;
     [
@@ -168,7 +173,8 @@ fn counts_well(judged: Judged, number: usize, field: &Field) -> bool
     requires there { number < length judged.desc.now.fields }
     requires long { length judged.capacities.now ≡ length judged.desc.now.fields }
     requires least { AreLeast (map field_of judged.desc.now.fields) judged.capacities.now }
-    ensures { result ≡ counts_well (counted number (map field_of judged.entry.desc.now.fields)) field.now.default }
+    ensures { result ≡ counts_well (counted number (map field_of judged.entry.desc.now.fields))
+        field.now.default }
 {
     default_fits(judged.capacities[number], field)
 }
@@ -181,8 +187,11 @@ fn default_fits(least: Option<u32>, field: &Field) -> bool
 
 // Adds the names of a field, and says whether all are new.
 fn add_field_names<'a>(names: &mut BTreeSet<&'a str>, field: &'a Field) -> Result<bool, AllocError>
-    ensures new { IfOk result (λ are_new. are_new ≡ are_new_to (has_name names.old) (field.now.name ∷ field.now.former)) }
-    ensures added { OnOk result ((n : List ℕ) → has_name names.new n ≡ (is_one_of (field.now.name ∷ field.now.former) n || has_name names.old n)) }
+    ensures new { IfOk result (λ are_new.
+        are_new ≡ are_new_to (has_name names.old) (field.now.name ∷ field.now.former)) }
+    ensures added { OnOk result ((n : List ℕ)
+        → has_name names.new n ≡ (is_one_of (field.now.name ∷ field.now.former) n
+        || has_name names.old n)) }
 {
     let is_new = add_name(names, field.name.as_str())?;
     let are_new = add_names(names, field.former.as_slice())?;

@@ -43,7 +43,8 @@ fn may_name_in(scope: Option<Scope>, number: u32) -> bool
 
 // Whether each field that a test names is one that it may name.
 pub(crate) fn names_well(test: &Test, own: Scope, parent: Option<Scope>) -> bool
-    ensures { result ≡ names_well (may_name own.entry) (may_name_in parent.entry) (formula test.now) }
+    ensures { result ≡ names_well (may_name own.entry) (may_name_in parent.entry)
+        (formula test.now) }
 {
     match test {
         Test::AtLeast(_) | Test::Below(_) => true,

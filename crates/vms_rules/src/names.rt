@@ -51,7 +51,8 @@ pub(crate) fn is_sub_name(device: &[u8], name: &[u8]) -> bool
 // Whether a longer name begins with the device's and a slash.
 fn has_front(device: &[u8], name: &[u8]) -> bool
     requires { length device.now < length name.now }
-    ensures { result ≡ (bytes_eq (take (length device.now) name.now) device.now && (get_or name.now (length device.now) 0 == 47)) }
+    ensures { result ≡ (bytes_eq (take (length device.now) name.now) device.now
+        && (get_or name.now (length device.now) 0 == 47)) }
 {
     &name[..device.len()] == device && name[device.len()] == b'/'
 }
@@ -59,7 +60,8 @@ fn has_front(device: &[u8], name: &[u8]) -> bool
 // Adds a name to a set of names, and says whether it is new.
 pub(crate) fn add_name<'a>(names: &mut BTreeSet<&'a str>, name: &'a str) -> Result<bool, AllocError>
     ensures new { IfOk result (λ is_new. is_new ≡ not (has_name names.old name.now)) }
-    ensures added { OnOk result ((n : List ℕ) → has_name names.new n ≡ with_name (has_name names.old) name.now n) }
+    ensures added { OnOk result
+        ((n : List ℕ) → has_name names.new n ≡ with_name (has_name names.old) name.now n) }
 {
     Ok(names.insert(name)?)
 }
@@ -70,7 +72,8 @@ pub(crate) fn add_names<'a>(
     list: &'a [Text],
 ) -> Result<bool, AllocError>
     ensures new { IfOk result (λ are_new. are_new ≡ are_new_to (has_name names.old) list.now) }
-    ensures added { OnOk result ((n : List ℕ) → has_name names.new n ≡ (is_one_of list.now n || has_name names.old n)) }
+    ensures added { OnOk result
+        ((n : List ℕ) → has_name names.new n ≡ (is_one_of list.now n || has_name names.old n)) }
 {
     let mut are_new = true;
     for name in list {

@@ -48,7 +48,9 @@ fn set_rules(alloc: Global, parts: &Parts) -> Result<[bool; 8], AllocError>
 
 // Whether a set has at most 16 machines, 64 structures and 64 devices.
 fn has_few_parts(parts: &Parts) -> bool
-    ensures { result ≡ (nat_le (length (set_of parts.now).machines) 16 && nat_le (length (set_of parts.now).structs) 64 && nat_le (length (set_of parts.now).devices) 64) }
+    ensures { result ≡ (nat_le (length (set_of parts.now).machines) 16
+        && nat_le (length (set_of parts.now).structs) 64
+        && nat_le (length (set_of parts.now).devices) 64) }
 {
     parts.machines.as_slice().len() <= 16
         && parts.structs.as_slice().len() <= 64

@@ -39,8 +39,11 @@ fn check_struct(
 ) -> Result<(), DescFault>
     requires there { number < length structs.now }
     requires small { length structs.now ≤ 64 }
-    requires rules { rules ≡ struct_rules (map desc_of structs.now) number (desc_at (map desc_of structs.now) number) }
-    ensures { Judges (struct_fault (map desc_of structs.now) number (desc_at (map desc_of structs.now) number)) result }
+    requires rules { rules ≡ struct_rules (map desc_of structs.now) number
+        (desc_at (map desc_of structs.now) number) }
+    ensures { Judges
+        (struct_fault (map desc_of structs.now) number (desc_at (map desc_of structs.now) number))
+        result }
 {
     let part = Part::Struct(number as u32);
     lowest(rules, here(part))?;
@@ -50,9 +53,12 @@ fn check_struct(
 // The rules at the structure of this number itself, whose name is new or not.
 fn struct_rules(structs: &[Desc], number: usize, is_new: bool, depth: u32) -> [bool; 8]
     requires there { number < length structs.now }
-    requires new { is_new ≡ not (is_one_of (map (λ e. e.name) (take number (map desc_of structs.now))) (desc_at (map desc_of structs.now) number).name) }
+    requires new { is_new ≡ not (is_one_of
+        (map (λ e. e.name) (take number (map desc_of structs.now)))
+        (desc_at (map desc_of structs.now) number).name) }
     requires depth { depth ≡ get_or (struct_depths (map desc_of structs.now)) number 0 }
-    ensures { result ≡ struct_rules (map desc_of structs.now) number (desc_at (map desc_of structs.now) number) }
+    ensures { result ≡ struct_rules (map desc_of structs.now) number
+        (desc_at (map desc_of structs.now) number) }
 {
     let desc = &structs[number];
     [

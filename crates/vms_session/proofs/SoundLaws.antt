@@ -77,17 +77,17 @@ back_is_sound level bytes m taken l r =
 
 -- ---- lines
 
-event-is : (event : Event) → IsSpelled event → IsEvent event
-event-is (Read port) h = tt
-event-is (Write port value) h = h.1
-event-is (Byte value) h = h
-event-is (Wait ns) h = tt
-event-is (Wire input up) h = h
-event-is Ack h = tt
+pub event_is : (event : Event) → IsSpelled event → IsEvent event
+event_is (Read port) h = tt
+event_is (Write port value) h = h.1
+event_is (Byte value) h = h
+event_is (Wait ns) h = tt
+event_is (Wire input up) h = h
+event_is Ack h = tt
 
-line-event : (play : Option ℕ) (event : Event) → IsLine play (Happens event) → IsSpelled event
-line-event None event h = h
-line-event (Some level) event h = h
+pub line_event : (play : Option ℕ) (event : Event) → IsLine play (Happens event) → IsSpelled event
+line_event None event h = h
+line_event (Some level) event h = h
 
 same-board : (old new : Session) → new.board ≡ old.board → IsSound old.board → IsSound new.board
 same-board old new e s = subst IsSound (sym e) s
@@ -105,7 +105,7 @@ held-sound (Some bytes) old text new loads s = bytes-sound bytes old text new lo
 
 pub line_sound : (play : Option ℕ) (line : ScriptLine) (old : Session) (text : List ℕ) (new : Session) → IsLine play line → Does line old text new → IsSound old.board → IsSound new.board
 line_sound play (Happens event) old text new good does s =
-    subst IsSound (sym (ap (λ (z : Session). z.board) does.new_is)) (sound_stays_on.event event old.board (event-is event (line-event play event good)) s)
+    subst IsSound (sym (ap (λ (z : Session). z.board) does.new_is)) (sound_stays_on.event event old.board (event_is event (line_event play event good)) s)
 line_sound play (Saves set name) old text new good does s = same-board old new does.board s
 line_sound play (Loads name) old text new good does s = held-sound (old.held name) old text new does s
 

@@ -90,7 +90,9 @@ pub(crate) fn i8259_at(alloc: Global, s: u8, instance: u32) -> Result<Device, No
 
 // A field that is there where the flag of this number is 1.
 fn flagged(alloc: Global, kind: Kind, name: &str, flag: u32) -> Result<Field, NoMemory>
-    ensures { IfOk result (λ f. field_of f ≡ record (number kind name.now) { test = Some (sets.Cell Whose.Own flag 1 Rel.Eq 1) }) }
+    ensures { IfOk result (λ f.
+        field_of f ≡ record (number kind name.now)
+        { test = Some (sets.Cell Whose.Own flag 1 Rel.Eq 1) }) }
 {
     let mut field = number(alloc, kind, name)?;
     field.test = Some(Test::Cell {
@@ -149,7 +151,8 @@ fn i8254_at_1(alloc: Global) -> Result<Device, NoMemory>
 
 // Three numbers that came with version 2.
 fn three(alloc: Global, kind: Kind, name: &str) -> Result<Field, NoMemory>
-    ensures { IfOk result (λ f. field_of f ≡ record (number kind name.now) { count = Count.Fixed 3; since = 2 }) }
+    ensures { IfOk result (λ f.
+        field_of f ≡ record (number kind name.now) { count = Count.Fixed 3; since = 2 }) }
 {
     let mut field = number(alloc, kind, name)?;
     field.since = 2;

@@ -14,7 +14,8 @@ use vms_parts::{Count, Device, Field, Listed, Rel, Sub, Test};
 const NEVER: u64 = u64::MAX;
 
 fn moment(alloc: Global, name: &str) -> Result<Field, NoMemory>
-    ensures { IfOk result (λ f. field_of f ≡ record (number Kind.Timer name.now) { default = pos never }) }
+    ensures { IfOk result (λ f.
+        field_of f ≡ record (number Kind.Timer name.now) { default = pos never }) }
 {
     let mut moment = number(alloc, Kind::Timer, name)?;
     moment.default = NEVER as i128;
@@ -22,7 +23,8 @@ fn moment(alloc: Global, name: &str) -> Result<Field, NoMemory>
 }
 
 fn put_serial_fields(alloc: Global, fields: &mut Vec<Field>) -> Result<(), NoMemory>
-    ensures { OnOk result (map field_of fields.new.items ≡ map field_of fields.old.items ++ serial_fields) }
+    ensures { OnOk result
+        (map field_of fields.new.items ≡ map field_of fields.old.items ++ serial_fields) }
 {
     let bytes = [
         "ier", "iir", "lcr", "mcr", "lsr", "scr", "rbr", "thr", "tsr",
@@ -63,7 +65,8 @@ fn thr_ipending(alloc: Global) -> Result<Sub, NoMemory>
 
 // An array of bytes that the field of this number counts.
 fn queue(alloc: Global, name: &str, by: u32) -> Result<Field, NoMemory>
-    ensures { IfOk result (λ f. field_of f ≡ record (number Kind.U8 name.now) { count = Count.Counted by 16 }) }
+    ensures { IfOk result (λ f.
+        field_of f ≡ record (number Kind.U8 name.now) { count = Count.Counted by 16 }) }
 {
     let count = Count::Counted { by, capacity: 16 };
     Ok(counting(number(alloc, Kind::U8, name)?, count))
@@ -91,7 +94,8 @@ fn timeout(alloc: Global) -> Result<Sub, NoMemory>
 
 // Sixteen bytes of a ring.
 fn ring_data(alloc: Global, name: &str) -> Result<Field, NoMemory>
-    ensures { IfOk result (λ f. field_of f ≡ record (number Kind.U8 name.now) { count = Count.Fixed 16 }) }
+    ensures { IfOk result (λ f.
+        field_of f ≡ record (number Kind.U8 name.now) { count = Count.Fixed 16 }) }
 {
     Ok(counting(number(alloc, Kind::U8, name)?, Count::Fixed(16)))
 }
@@ -119,7 +123,8 @@ fn old_fields(alloc: Global, first: Field) -> Result<Vec<Field>, NoMemory>
 
 // The first field and the others from version 2 on.
 fn fields_with_fcr(alloc: Global, first: Field) -> Result<Vec<Field>, NoMemory>
-    ensures { IfOk result (λ fields. map field_of fields.items ≡ field_of first ∷ serial_fields ++ fcr ∷ []) }
+    ensures { IfOk result (λ fields.
+        map field_of fields.items ≡ field_of first ∷ serial_fields ++ fcr ∷ []) }
 {
     let mut fields = old_fields(alloc, first)?;
     fields.push(fcr(alloc)?)?;
@@ -148,7 +153,8 @@ fn subs_to_3(alloc: Global) -> Result<Vec<Sub>, NoMemory>
 }
 
 fn subs_to_4(alloc: Global) -> Result<Vec<Sub>, NoMemory>
-    ensures { IfOk result (λ subs. map sub_of subs.items ≡ thr_ipending ∷ fifo ∷ timeout ∷ ring ∷ []) }
+    ensures { IfOk result (λ subs.
+        map sub_of subs.items ≡ thr_ipending ∷ fifo ∷ timeout ∷ ring ∷ []) }
 {
     let mut subs = subs_to_3(alloc)?;
     subs.push(ring(alloc)?)?;
@@ -162,34 +168,41 @@ fn serial(
     fields: Vec<Field>,
     subs: Vec<Sub>,
 ) -> Result<Device, NoMemory>
-    ensures { IfOk result (λ d. device_of d ≡ serial version (map field_of fields.items) (map sub_of subs.items)) }
+    ensures { IfOk result (λ d.
+        device_of d ≡ serial version (map field_of fields.items) (map sub_of subs.items)) }
 {
     Ok(device(0, desc(alloc, "serial", version, fields)?, subs))
 }
 
 fn serial_at_1(alloc: Global) -> Result<Device, NoMemory>
-    ensures { IfOk result (λ d. device_of d ≡ serial 1 (divider ∷ serial_fields) (thr_ipending ∷ [])) }
+    ensures { IfOk result (λ d.
+        device_of d ≡ serial 1 (divider ∷ serial_fields) (thr_ipending ∷ [])) }
 {
     let fields = old_fields(alloc, divider(alloc)?)?;
     serial(alloc, 1, fields, vec![in alloc; thr_ipending(alloc)?]?)
 }
 
 fn serial_at_2(alloc: Global) -> Result<Device, NoMemory>
-    ensures { IfOk result (λ d. device_of d ≡ serial 2 (divider ∷ serial_fields ++ fcr ∷ []) (thr_ipending ∷ fifo ∷ [])) }
+    ensures { IfOk result (λ d.
+        device_of d ≡ serial 2 (divider ∷ serial_fields ++ fcr ∷ []) (thr_ipending ∷ fifo ∷ [])) }
 {
     let fields = fields_with_fcr(alloc, divider(alloc)?)?;
     serial(alloc, 2, fields, subs_to_2(alloc)?)
 }
 
 fn serial_at_3(alloc: Global) -> Result<Device, NoMemory>
-    ensures { IfOk result (λ d. device_of d ≡ serial 3 (divisor ∷ serial_fields ++ fcr ∷ []) (thr_ipending ∷ fifo ∷ timeout ∷ [])) }
+    ensures { IfOk result (λ d.
+        device_of d ≡ serial 3 (divisor ∷ serial_fields ++ fcr ∷ [])
+        (thr_ipending ∷ fifo ∷ timeout ∷ [])) }
 {
     let fields = fields_with_fcr(alloc, divisor(alloc)?)?;
     serial(alloc, 3, fields, subs_to_3(alloc)?)
 }
 
 fn serial_at_4(alloc: Global) -> Result<Device, NoMemory>
-    ensures { IfOk result (λ d. device_of d ≡ serial 4 (divisor ∷ serial_fields ++ fcr ∷ []) (thr_ipending ∷ fifo ∷ timeout ∷ ring ∷ [])) }
+    ensures { IfOk result (λ d.
+        device_of d ≡ serial 4 (divisor ∷ serial_fields ++ fcr ∷ [])
+        (thr_ipending ∷ fifo ∷ timeout ∷ ring ∷ [])) }
 {
     let fields = fields_with_fcr(alloc, divisor(alloc)?)?;
     serial(alloc, 4, fields, subs_to_4(alloc)?)

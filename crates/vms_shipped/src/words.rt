@@ -61,7 +61,8 @@ pub(crate) fn put_numbers(
     kind: Kind,
     names: &[&str],
 ) -> Result<(), NoMemory>
-    ensures { OnOk result (map field_of fields.new.items ≡ map field_of fields.old.items ++ numbers kind (map (λ n. n.now) names.now)) }
+    ensures { OnOk result (map field_of fields.new.items
+        ≡ map field_of fields.old.items ++ numbers kind (map (λ n. n.now) names.now)) }
 {
     for name in names {
         fields.push(number(alloc, kind, name)?)?;
@@ -102,7 +103,8 @@ pub(crate) fn sub(
     fields: Vec<Field>,
     needed: Test,
 ) -> Result<Sub, NoMemory>
-    ensures { IfOk result (λ s. sub_of s ≡ sub name.now (map field_of fields.items) (formula needed)) }
+    ensures { IfOk result (λ s.
+        sub_of s ≡ sub name.now (map field_of fields.items) (formula needed)) }
 {
     Ok(Sub {
         desc: desc(alloc, name, 1, fields)?,

@@ -31,7 +31,11 @@ impl Buffer {
     pub fn new(alloc: Global, spots: &[Spot]) -> Result<Buffer, AllocError>
         requires few { length spots.now ≤ 16384 }
         requires laid { spots.now ≡ spots_of (kinds_of spots.now) }
-        ensures { IfOk result (λ b. b ≡ record { kinds = kinds_of spots.now; numbers = replicate (length spots.now) (pos 0) }) }
+        ensures { IfOk result (λ b.
+            b ≡ record {
+              kinds = kinds_of spots.now;
+              numbers = replicate (length spots.now) (pos 0);
+            }) }
     {
         Ok(Buffer {
             spots: spots.to_vec(alloc)?,
@@ -72,7 +76,8 @@ impl Buffer {
     /// The code of a cell's number, which are its bytes.
     pub fn code(&self, cell: u32) -> &[u8]
         requires { cell < length self.now.numbers }
-        ensures { result.now ≡ code (get_or self.now.kinds cell U8) (get_or self.now.numbers cell (pos 0)) }
+        ensures { result.now ≡ code (get_or self.now.kinds cell U8)
+            (get_or self.now.numbers cell (pos 0)) }
     {
         let spot = self.spots[cell as usize];
         let offset = spot.offset as usize;

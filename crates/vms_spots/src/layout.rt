@@ -42,8 +42,10 @@ impl Spot {
 /// below the end of the one before, and the first at 0.
 pub fn lay_out(alloc: Global, forms: &[CellForm]) -> Result<Vec<Spot>, AllocError>
     requires { length forms.now ≤ 16384 }
-    ensures spots { IfOk result (λ spots. spots.items ≡ spots_of (map (λ form. form.kind) forms.now)) }
-    ensures apart { IfOk result (λ spots. AreApart (map (λ form. form.kind) forms.now) spots.items) }
+    ensures spots { IfOk result (λ spots.
+        spots.items ≡ spots_of (map (λ form. form.kind) forms.now)) }
+    ensures apart { IfOk result (λ spots.
+        AreApart (map (λ form. form.kind) forms.now) spots.items) }
 {
     let mut spots = Vec::with_capacity(alloc, forms.len())?;
     let mut end = 0;

@@ -1,4 +1,2 @@
-pub mod Backs
 pub mod Lines
-pub mod Rounds
 pub mod Spells

@@ -1,5 +1,5 @@
 //! Each law is the contract of a function without a body. The statements stand in `specs/Texts.antt`.
-ghost use Rattle.vms_texts.specs.Texts.{NumberLaw, SpelledLaw, PrintedLaw, ReadLaw, PackedLaw, ShownLaw};
+ghost use Rattle.vms_texts.specs.Texts.{NumberLaw, SpelledLaw};
 
 /// The decimal text of a number spells that number.
 #[tactic(auto, using(crate::proofs::Spells::number_holds))]
@@ -11,27 +11,4 @@ pub fn number_law()
 #[tactic(auto, using(crate::proofs::Spells::spelled_holds))]
 pub fn spelled_law()
     ensures { SpelledLaw }
-{}
-
-/// What is printed of a ready image of the first set is read back as that image, with the machine.
-#[tactic(auto, using(crate::proofs::Backs::printed_holds))]
-pub fn printed_law()
-    ensures { PrintedLaw }
-{}
-
-/// A text that is read under the first set is the text that is printed of what was read, and what was read may be
-/// written.
-pub fn read_law()
-    ensures { ReadLaw }
-{}
-
-/// The stream that is written of what a text says shows as that text.
-#[tactic(auto, using(crate::proofs::Rounds::packed_holds))]
-pub fn packed_law()
-    ensures { PackedLaw }
-{}
-
-/// A written stream is written again of the text that it shows as.
-pub fn shown_law()
-    ensures { ShownLaw }
 {}

@@ -37,7 +37,8 @@ pub(crate) fn judge_device(
     requires device { IsOfDevice (described set.now) device (state_of image.now) }
     requires lines { length sub_lines.now ≡ length (device_at (described set.now) device).subs }
     ensures { let d = device_at (described set.now) device in
-        bad_of result ≡ device_judged (described set.now) d (read_of (state_of image.now) line sub_lines.now) }
+        bad_of result
+        ≡ device_judged (described set.now) d (read_of (state_of image.now) line sub_lines.now) }
 {
     let own = Spot {
         part: Part::Device(device),
@@ -184,7 +185,8 @@ impl Walker for Rules<'_> {
 
     ghost keeps = { λ xs a b h. keeps_same xs _ _ (ap (λ image. image.now.numbers) h.0) };
 
-    ghost keeps_stopped = { λ xs a b fault h. keeps_same xs _ _ (ap (λ image. image.now.numbers) h.0) };
+    ghost keeps_stopped = { λ xs a b fault h.
+        keeps_same xs _ _ (ap (λ image. image.now.numbers) h.0) };
 
     ghost none = { λ a. (refl, refl) };
 

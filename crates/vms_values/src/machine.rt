@@ -18,7 +18,8 @@ pub(crate) struct Start<'a> {
 /// Reads the line of a machine, if the text begins with one that names a machine of these.
 pub(crate) fn read_machine<'a>(machines: &[Text], text: &'a [u8]) -> Start<'a>
     requires { length machines.now < 4294967296 }
-    ensures { StartsAt machines.now text.now (machine_named machines.now (first_line text.now)) result }
+    ensures { StartsAt machines.now text.now
+        (machine_named machines.now (first_line text.now)) result }
 {
     if let Some(line) = next_line(text) {
         if let Some(machine) = machine_in(machines, line.text) {

@@ -49,7 +49,8 @@ fn read_natural(digits: &[u8]) -> Option<u64>
 
 /// Tells whether there is a digit, and no zero before others.
 fn is_unpadded(digits: &[u8]) -> bool
-    ensures { result ≡ (length digits.now == 1 || (nat_le 2 (length digits.now) && not (get_or digits.now 0 48 == 48))) }
+    ensures { result ≡ (length digits.now == 1
+        || (nat_le 2 (length digits.now) && not (get_or digits.now 0 48 == 48))) }
 {
     digits.len() == 1 || digits.len() >= 2 && digits[0] != b'0'
 }

@@ -29,7 +29,8 @@ pub fn print_values<K: Sink>(
     sink: &mut K,
 ) -> Result<(), WriteFault>
     requires named { ForSome machine (λ m. m < length (described set.now).machines) }
-    requires one_each { AreOf (described set.now) (described set.now).devices (map state_of images.now) }
+    requires one_each { AreOf (described set.now) (described set.now).devices
+        (map state_of images.now) }
     ensures written { let name = machine_of (described set.now) machine in
         let text = values_text (described set.now) name (map state_of images.now) in
         Writes (K.written sink.old) (K.written sink.new) text result }
@@ -49,7 +50,8 @@ fn print_all<K: Sink>(
     sink: &mut K,
 ) -> Result<(), Failed>
     requires named { ForSome machine (λ m. m < length (described set.now).machines) }
-    requires one_each { AreOf (described set.now) (described set.now).devices (map state_of images.now) }
+    requires one_each { AreOf (described set.now) (described set.now).devices
+        (map state_of images.now) }
     ensures written { let name = machine_of (described set.now) machine in
         let text = values_text (described set.now) name (map state_of images.now) in
         Writes (K.written sink.old) (K.written sink.new) text result }
@@ -77,7 +79,8 @@ fn print_machine<K: Sink>(parts: &Parts, machine: Option<u32>, sink: &mut K) -> 
 }
 
 fn print_devices<K: Sink>(set: &DescSet, images: &[Image], sink: &mut K) -> Result<(), Failed>
-    requires one_each { AreOf (described set.now) (described set.now).devices (map state_of images.now) }
+    requires one_each { AreOf (described set.now) (described set.now).devices
+        (map state_of images.now) }
     ensures written { let set = described set.now in
         let text = devices_lines set set.devices (map state_of images.now) in
         Writes (K.written sink.old) (K.written sink.new) text result }

@@ -37,7 +37,8 @@ pub(crate) fn push_image(images: &mut Vec<Image>, image: Image) -> bool
 
 /// The line of a section.
 pub(crate) fn read_section(device: &Device, lines: &mut Lines) -> Result<(), LineFault>
-    ensures { Passed (is_line (section_line (device_of device.now)) (first_line lines.old.rest.now)) lines.old lines.new result }
+    ensures { Passed (is_line (section_line (device_of device.now)) (first_line lines.old.rest.now))
+        lines.old lines.new result }
 {
     match next_line(lines.rest) {
         Some(line) => {

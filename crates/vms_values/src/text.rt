@@ -17,7 +17,8 @@ pub(crate) struct Line<'a> {
 /// The first line, or `None` exactly where no line feed ends it.
 pub(crate) fn next_line<'a>(rest: &'a [u8]) -> Option<Line<'a>>
     ensures first { IsFirstLine (first_line rest.now) result }
-    ensures long { IfSome result (λ line. length line.text.now + length line.after.now + 1 ≡ length rest.now) }
+    ensures long { IfSome result (λ line.
+        length line.text.now + length line.after.now + 1 ≡ length rest.now) }
 {
     match memchr(b'\n', rest) {
         Some(end) => Some(Line {

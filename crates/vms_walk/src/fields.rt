@@ -49,9 +49,11 @@ fn walk_item<W: Walker>(
         MayCome W.goes W.numbers W.may slots walker.old }
     requires room { cell + size_in (described set.now) item.now ≤ length (W.numbers walker.old) }
     requires few { length (W.numbers walker.old) ≤ 16384 }
-    ensures ok { let slots = item_by (described set.now) item.now most cell (W.numbers walker.new) in
+    ensures ok { let slots = item_by (described set.now)
+        item.now most cell (W.numbers walker.new) in
         OnOk result (W.goes (steps_of slots) walker.old walker.new) }
-    ensures err { let slots = item_by (described set.now) item.now most cell (W.numbers walker.new) in
+    ensures err { let slots = item_by (described set.now)
+        item.now most cell (W.numbers walker.new) in
         IfErr result (λ fault. W.stops (steps_of slots) walker.old fault walker.new) }
 {
     match item {
@@ -91,7 +93,8 @@ fn walk_items<W: Walker>(
     requires may { let slots = elements_by (described set.now) item.now most count first in
         MayCome W.goes W.numbers W.may slots walker.old }
     requires small { size_in (described set.now) item.now ≤ 16384 }
-    requires room { first + count * size_in (described set.now) item.now ≤ length (W.numbers walker.old) }
+    requires room { first + count * size_in (described set.now) item.now
+        ≤ length (W.numbers walker.old) }
     requires few { length (W.numbers walker.old) ≤ 16384 }
     ensures ok { let n = W.numbers walker.new in
         let slots = elements_by (described set.now) item.now most count first n in

@@ -24,7 +24,8 @@ pub(crate) fn write_fields<K: Sink>(
     sink: &mut K,
 ) -> Result<(), WriteFault>
     requires spot { HasSpot (described set.now) spot image.now.numbers }
-    requires can { CanWrite image.now.kinds (spot_slots (described set.now) spot image.now.numbers) }
+    requires can { CanWrite image.now.kinds
+        (spot_slots (described set.now) spot image.now.numbers) }
     ensures ok { let slots = spot_slots (described set.now) spot image.now.numbers in
         let bytes = zeroed image.now.numbers slots in
         OnOk result (Appends (K.written sink.old) (K.written sink.new) bytes) }
@@ -67,16 +68,19 @@ impl<K: Sink> Walker for Writer<'_, K> {
     type Fault = WriteFault;
 
     ghost goes = { λ xs a b. (b.sink.ghost_name ≡ a.sink.ghost_name) × (b.image ≡ a.image)
-        × Wrote a.image.now.numbers xs (told K.written K.faults K.promise a.sink.now) (told K.written K.faults K.promise b.sink.now) };
+        × Wrote a.image.now.numbers xs (told K.written K.faults K.promise a.sink.now)
+        (told K.written K.faults K.promise b.sink.now) };
 
     ghost stops = { λ xs a fault b. (b.sink.ghost_name ≡ a.sink.ghost_name) × (b.image ≡ a.image)
-        × Cut a.image.now.numbers xs (told K.written K.faults K.promise a.sink.now) (told K.written K.faults K.promise b.sink.now) };
+        × Cut a.image.now.numbers xs (told K.written K.faults K.promise a.sink.now)
+        (told K.written K.faults K.promise b.sink.now) };
 
     ghost may = { λ a step. CanStep a.image.now.kinds step };
 
     ghost keeps = { λ xs a b h. keeps_same xs _ _ (ap (λ image. image.now.numbers) h.1) };
 
-    ghost keeps_stopped = { λ xs a b fault h. keeps_same xs _ _ (ap (λ image. image.now.numbers) h.1) };
+    ghost keeps_stopped = { λ xs a b fault h.
+        keeps_same xs _ _ (ap (λ image. image.now.numbers) h.1) };
 
     ghost none = { λ a. (refl, refl, wrote_none _ _) };
 

@@ -77,15 +77,20 @@ impl Walker for Judge<'_> {
 
     ghost keeps = { λ xs a b h. keeps_same xs _ _ (ap (λ image. image.now.numbers) h.0) };
 
-    ghost keeps_stopped = { λ xs a b fault h. keeps_same xs _ _ (ap (λ image. image.now.numbers) h.0) };
+    ghost keeps_stopped = { λ xs a b fault h.
+        keeps_same xs _ _ (ap (λ image. image.now.numbers) h.0) };
 
     ghost none = { λ a. (refl, refl, refl, refl) };
 
     ghost more = { λ xs ys a b c h k.
         let forms = ap (λ forms. forms.now) h.1 in
         let numbers = ap (λ image. image.now.numbers) h.0 in
-        let next = k.2 ∙ ap (λ n. behind n ys) h.2 ∙ sym (behind_append a.next xs ys) in
-        (k.0 ∙ h.0, k.1 ∙ h.1, next, fine_then _ _ _ _ a.next b.next xs ys true forms numbers h.2 h.3 k.3) };
+        let next = k.2 ∙ ap (λ n. behind n ys) h.2 ∙ sym (behind_append a.next xs ys) in (
+          k.0 ∙ h.0,
+          k.1 ∙ h.1,
+          next,
+          fine_then _ _ _ _ a.next b.next xs ys true forms numbers h.2 h.3 k.3,
+        ) };
 
     ghost stops_after = { λ xs ys a b c fault h k.
         let forms = ap (λ forms. forms.now) h.1 in

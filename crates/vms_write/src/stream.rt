@@ -110,8 +110,10 @@ fn write_text<K: Sink>(text: Option<&str>, sink: &mut K) -> Result<(), WriteFaul
 
 fn write_trailer<K: Sink>(text: &str, sink: &mut K) -> Result<(), WriteFault>
     requires { length text.now ≤ longest_text }
-    ensures ok { OnOk result (Appends (K.written sink.old) (K.written sink.new) (trailer text.now)) }
-    ensures err { OnErr result (AppendsPrefix (K.written sink.old) (K.written sink.new) (trailer text.now)) }
+    ensures ok { OnOk result
+        (Appends (K.written sink.old) (K.written sink.new) (trailer text.now)) }
+    ensures err { OnErr result
+        (AppendsPrefix (K.written sink.old) (K.written sink.new) (trailer text.now)) }
     ensures cause { HasCause (K.faults sink.old) (K.faults sink.new) result }
     ensures promise { K.promise sink.new ≡ K.promise sink.old }
 {

@@ -42,7 +42,8 @@ impl MemShelf {
 
     /// Holds these bytes under the name from now on.
     pub fn put(&mut self, name: &str, bytes: Vec<u8>) -> Result<(), NoMemory>
-        ensures ok { OnOk result (PutsUnder (cabinet self.old).held (cabinet self.new).held name.now bytes.items) }
+        ensures ok { OnOk result
+            (PutsUnder (cabinet self.old).held (cabinet self.new).held name.now bytes.items) }
         ensures err { OnErr result ((cabinet self.new).held ≡ (cabinet self.old).held) }
         ensures failing { (cabinet self.new).failing ≡ (cabinet self.old).failing }
         ensures calls { (cabinet self.new).calls ≡ (cabinet self.old).calls }
@@ -68,12 +69,15 @@ impl Shelf for MemShelf {
     fn fetch(&mut self, alloc: Global, name: &str, limit: u32) -> Result<Vec<u8>, FetchFault>
         ensures fits { IfOk result (λ bytes. length bytes.items ≤ limit) }
         ensures bytes { IfOk result (λ bytes. (cabinet self.old).held name.now ≡ Some bytes.items) }
-        ensures refused { IfErr result (λ fault. FetchRefuses ((cabinet self.old).held name.now) limit fault) }
+        ensures refused { IfErr result (λ fault.
+            FetchRefuses ((cabinet self.old).held name.now) limit fault) }
         ensures kept { (cabinet self.new).held ≡ (cabinet self.old).held }
         ensures cause { HasFetchCause (cabinet self.old).faults (cabinet self.new).faults result }
-        ensures promise { is_empty (cabinet self.new).failing ≡ is_empty (cabinet self.old).failing }
+        ensures promise { is_empty (cabinet self.new).failing
+            ≡ is_empty (cabinet self.old).failing }
         ensures counts { CountsFetches (cabinet self.old).faults (cabinet self.new).faults result }
-        ensures fails { (result ≡ Err FetchFault.Failed) ↔ Contains (cabinet self.old).failing (capped ((cabinet self.old).calls + 1)) }
+        ensures fails { (result ≡ Err FetchFault.Failed)
+            ↔ Contains (cabinet self.old).failing (capped ((cabinet self.old).calls + 1)) }
         ensures failing { (cabinet self.new).failing ≡ (cabinet self.old).failing }
         ensures calls { (cabinet self.new).calls ≡ capped ((cabinet self.old).calls + 1) }
     {
@@ -95,13 +99,17 @@ impl Shelf for MemShelf {
     }
 
     fn store(&mut self, name: &str, piece: &[u8]) -> Result<(), StoreFault>
-        ensures stored { OnOk result (PutsUnder (cabinet self.old).held (cabinet self.new).held name.now piece.now) }
-        ensures others { OnErr result (KeepsOthers (cabinet self.old).held (cabinet self.new).held name.now) }
+        ensures stored { OnOk result
+            (PutsUnder (cabinet self.old).held (cabinet self.new).held name.now piece.now) }
+        ensures others { OnErr result
+            (KeepsOthers (cabinet self.old).held (cabinet self.new).held name.now) }
         ensures unchanged { OnErr result ((cabinet self.new).held ≡ (cabinet self.old).held) }
         ensures cause { HasStoreCause (cabinet self.old).faults (cabinet self.new).faults result }
-        ensures promise { is_empty (cabinet self.new).failing ≡ is_empty (cabinet self.old).failing }
+        ensures promise { is_empty (cabinet self.new).failing
+            ≡ is_empty (cabinet self.old).failing }
         ensures counts { CountsStores (cabinet self.old).faults (cabinet self.new).faults result }
-        ensures fails { (result ≡ Err StoreFault.Failed) ↔ Contains (cabinet self.old).failing (capped ((cabinet self.old).calls + 1)) }
+        ensures fails { (result ≡ Err StoreFault.Failed)
+            ↔ Contains (cabinet self.old).failing (capped ((cabinet self.old).calls + 1)) }
         ensures failing { (cabinet self.new).failing ≡ (cabinet self.old).failing }
         ensures calls { (cabinet self.new).calls ≡ capped ((cabinet self.old).calls + 1) }
     {

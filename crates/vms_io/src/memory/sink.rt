@@ -28,7 +28,14 @@ impl MemSink {
     /// An empty sink with all its room in bytes taken, so that no write takes memory. The writes whose
     /// numbers, counted from 1, are `failing` fail, and so does one of a piece that finds no room left.
     pub fn new(alloc: Global, room: u32, failing: Vec<u32>) -> Result<MemSink, NoMemory>
-        ensures { IfOk result (λ s. store s ≡ record { bytes = []; room = room; failing = failing.items; calls = 0; faults = 0 }) }
+        ensures { IfOk result (λ s.
+            store s ≡ record {
+              bytes = [];
+              room = room;
+              failing = failing.items;
+              calls = 0;
+              faults = 0;
+            }) }
     {
         let bytes = Vec::with_capacity(alloc, room as usize).map_err(|_| NoMemory)?;
         Ok(MemSink {
@@ -62,14 +69,18 @@ impl Sink for MemSink {
     fn write(&mut self, piece: &[u8]) -> Result<usize, Failed>
         ensures bound { WritesAtMost result piece.now }
         ensures some { IfOk result (λ n. 0 < length piece.now → 0 < n) }
-        ensures bytes { WriteAppends (Some (store self.old).bytes) (Some (store self.new).bytes) result piece.now }
+        ensures bytes { WriteAppends (Some (store self.old).bytes) (Some (store self.new).bytes)
+            result piece.now }
         ensures cause { HasCause (store self.old).faults (store self.new).faults result }
-        ensures promise { promise_of (store self.new).failing (store self.new).room ≡ promise_of (store self.old).failing (store self.old).room }
-        ensures takes { IfOk result (λ n. n ≡ min ((store self.old).room - length (store self.old).bytes) (length piece.now)) }
+        ensures promise { promise_of (store self.new).failing (store self.new).room
+            ≡ promise_of (store self.old).failing (store self.old).room }
+        ensures takes { IfOk result (λ n.
+            n ≡ min ((store self.old).room - length (store self.old).bytes) (length piece.now)) }
         ensures counts { CountsFailures (store self.old).faults (store self.new).faults result }
         ensures fails { IsErr result ↔ WriteFails (store self.old) (length piece.now) }
         ensures calls { (store self.new).calls ≡ capped ((store self.old).calls + 1) }
-        ensures lists { ((store self.new).room ≡ (store self.old).room) × ((store self.new).failing ≡ (store self.old).failing) }
+        ensures lists { ((store self.new).room ≡ (store self.old).room)
+            × ((store self.new).failing ≡ (store self.old).failing) }
     {
         self.calls = self.calls.saturating_add(1);
         let left = self.room - self.bytes.len();

@@ -30,7 +30,14 @@ impl MemSource {
     /// A source of these bytes. Read k, counted from 1, gives at most the k-th of `pieces`, where 0 counts
     /// as 1, and reads past that list aren't cut; the reads whose numbers are `failing` fail, and no other.
     pub fn new(bytes: Vec<u8>, pieces: Vec<u32>, failing: Vec<u32>) -> Self
-        ensures { supply result ≡ record { left = bytes.items; pieces = pieces.items; failing = failing.items; calls = 0; given = 0; faults = 0 } }
+        ensures { supply result ≡ record {
+          left = bytes.items;
+          pieces = pieces.items;
+          failing = failing.items;
+          calls = 0;
+          given = 0;
+          faults = 0;
+        } }
     {
         MemSource {
             bytes,
@@ -74,16 +81,19 @@ impl Source for MemSource {
 
     fn read(&mut self, buf: &mut [u8]) -> Result<usize, Failed>
         ensures bound { ReadsAtMost result buf.new }
-        ensures bytes { ReadConsumes (Some (supply self.old).left) (Some (supply self.new).left) result buf.new }
+        ensures bytes { ReadConsumes (Some (supply self.old).left) (Some (supply self.new).left)
+            result buf.new }
         ensures rest { IfOk result (λ n. drop n buf.new ≡ drop n buf.old) }
         ensures given { Gives (supply self.old).given (supply self.new).given result }
         ensures cause { HasCause (supply self.old).faults (supply self.new).faults result }
         ensures promise { is_empty (supply self.new).failing ≡ is_empty (supply self.old).failing }
         ensures piece { IfOk result (λ n. n ≡ taken_of (supply self.old) (length buf.old)) }
         ensures counts { CountsFailures (supply self.old).faults (supply self.new).faults result }
-        ensures fails { IsErr result ↔ Contains (supply self.old).failing (capped ((supply self.old).calls + 1)) }
+        ensures fails { IsErr result ↔ Contains (supply self.old).failing
+            (capped ((supply self.old).calls + 1)) }
         ensures calls { (supply self.new).calls ≡ capped ((supply self.old).calls + 1) }
-        ensures lists { ((supply self.new).pieces ≡ (supply self.old).pieces) × ((supply self.new).failing ≡ (supply self.old).failing) }
+        ensures lists { ((supply self.new).pieces ≡ (supply self.old).pieces)
+            × ((supply self.new).failing ≡ (supply self.old).failing) }
     {
         let piece = self.piece();
         self.calls = self.calls.saturating_add(1);

@@ -1,0 +1,45 @@
+-- A number whose code came.
+use Rattle.std.proofs.Common.{◌≡◌, ◌<◌, ℕ, ℤ, Bool, false, if◌then◌else◌, slice_index, List, ◌++◌, length, refl, sym, ap, subst, ◌∙◌, arith, length-append, take_at}
+use Rattle.std.proofs.lemmas.Bool.{false_from_ne_true, ltb-true, lt-ltb}
+use Rattle.byteorder.specs.Endian.{big_number}
+use Rattle.vms_kinds.specs.declared.Kind.{Kind}
+use Rattle.vms_kinds.specs.declared.Kind.TheVariants as kinds
+use Rattle.vms_kinds.specs.Codes.{width, value_of, IsBadBool}
+use Rattle.vms_spec.specs.declared.Reason.TheVariants as reasons
+use Rattle.vms_spec.specs.Judging.{is_bad_bool}
+use Rattle.vms_frames.specs.Found.{Found, Whole, Wrong, number_found}
+use Rattle.vms_frames.proofs.UnitLemmas.{needs_whole}
+
+abbrev found_by : Kind → List ℕ → Bool → Found ℤ
+found_by kind code bad = if bad then Wrong (width kind) reasons.BadBool else Whole (value_of kind code)
+
+-- what stands behind it doesn't matter
+number_came : (kind : Kind) (code rest : List ℕ) → length code ≡ width kind → number_found kind (code ++ rest) ≡ found_by kind code (is_bad_bool kind code)
+number_came kind code rest long =
+    needs_whole (width kind) (code ++ rest) _ (omega (arith, long, length-append code rest))
+    ∙ ap (λ (bytes : List ℕ). found_by kind bytes (is_bad_bool kind bytes)) (take_at code rest (width kind) long)
+
+-- the one byte of a truth value
+first : (code : List ℕ) → big_number 1 code ≡ slice_index code 0
+first code = omega arith
+
+not_bad : (kind : Kind) (code : List ℕ) → length code ≡ width kind → (IsBadBool kind code → ⊥) → is_bad_bool kind code ≡ false
+not_bad kinds.Bool code long good = false_from_ne_true _ (λ e. good (refl, subst (λ (n : ℕ). 1 < n) (first code) (ltb-true 1 _ e)))
+not_bad kinds.U8 code long good = refl
+not_bad kinds.U16 code long good = refl
+not_bad kinds.U32 code long good = refl
+not_bad kinds.U64 code long good = refl
+not_bad kinds.I8 code long good = refl
+not_bad kinds.I16 code long good = refl
+not_bad kinds.I32 code long good = refl
+not_bad kinds.I64 code long good = refl
+not_bad kinds.Timer code long good = refl
+
+pub number_good : (kind : Kind) (code : List ℕ) (value : ℤ) → length code ≡ width kind → (IsBadBool kind code → ⊥) → value ≡ value_of kind code → (rest : List ℕ) → number_found kind (code ++ rest) ≡ Whole value
+number_good kind code value long good is rest =
+    number_came kind code rest long ∙ ap (found_by kind code) (not_bad kind code long good) ∙ ap (λ (z : ℤ). Whole z) (sym is)
+
+pub number_bad : (kind : Kind) (code : List ℕ) → length code ≡ width kind → IsBadBool kind code → (rest : List ℕ) → number_found kind (code ++ rest) ≡ Wrong (width kind) reasons.BadBool
+number_bad kinds.Bool code long bad rest =
+    number_came kinds.Bool code rest long ∙ ap (found_by kinds.Bool code) (lt-ltb 1 _ (subst (λ (n : ℕ). 1 < n) (sym (first code)) bad.1))
+number_bad kind code long bad rest = cc

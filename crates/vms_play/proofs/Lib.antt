@@ -1,0 +1,4 @@
+pub mod CourseLemmas
+pub mod PartLemmas
+pub mod RunLemmas
+pub mod StreamLemmas

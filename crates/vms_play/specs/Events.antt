@@ -1,0 +1,22 @@
+-- The events of a script.
+use Rattle.std.specs.Prelude.{ℕ, List, [], ◌∷◌}
+use Rattle.dev_board.specs.State.{State}
+use Rattle.dev_board.specs.Step.{observe}
+use Rattle.dev_board.specs.declared.event.Event.{Event}
+use Rattle.vms_script.specs.Lines.{ScriptLine, Happens, Saves, Restores}
+use Rattle.vms_session.specs.Laws.{trace_of}
+
+-- what a line lets happen, before more events: one that saves or restores lets nothing happen
+abbrev pub events_in : ScriptLine → List Event → List Event
+events_in (Happens event) events = event ∷ events
+events_in (Saves set name) events = events
+events_in (Restores name) events = events
+
+-- what the lines let happen, in order
+abbrev pub events_of : List ScriptLine → List Event
+events_of [] = []
+events_of (line ∷ lines) = events_in line (events_of lines)
+
+-- the trace that events leave on a board
+abbrev pub trace_from : List Event → State → List ℕ
+trace_from events m = trace_of (observe events m)

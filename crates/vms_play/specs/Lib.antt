@@ -1,0 +1,4 @@
+pub mod Events
+pub mod Parts
+pub mod Playing
+pub mod Streams
