@@ -84,11 +84,15 @@ fn run<I: Source, O: Sink, H: Shelf>(
     out: &mut O,
     shelf: &mut H,
 ) -> Ending
-    ensures content { (o : Outcome) → HasOutcome (asked_of words.now) (I.left input.old) (H.held shelf.old) o
-        → EndsAs (intake I.Source input.old) (intake I.Source input.new) (outlet O.Sink out.old) (outlet O.Sink out.new)
+    ensures content { (o : Outcome)
+        → HasOutcome (asked_of words.now) (I.left input.old) (H.held shelf.old) o
+        → EndsAs (intake I.Source input.old) (intake I.Source input.new)
+        (outlet O.Sink out.old) (outlet O.Sink out.new)
         (stock H.Shelf shelf.old) (stock H.Shelf shelf.new) result o }
-    ensures cause { EndsCause (asked_of words.now) (intake I.Source input.old) (intake I.Source input.new)
-        (outlet O.Sink out.old) (outlet O.Sink out.new) (stock H.Shelf shelf.old) (stock H.Shelf shelf.new) result }
+    ensures cause { EndsCause (asked_of words.now)
+        (intake I.Source input.old) (intake I.Source input.new)
+        (outlet O.Sink out.old) (outlet O.Sink out.new)
+        (stock H.Shelf shelf.old) (stock H.Shelf shelf.new) result }
     ensures input_count { I.faults input.old ≤ I.faults input.new }
     ensures out_count { O.faults out.old ≤ O.faults out.new }
     ensures shelf_count { H.faults shelf.old ≤ H.faults shelf.new }
