@@ -1,5 +1,5 @@
 -- From how `drill` ends and why to its row.
-use Rattle.std.proofs.Common.{◌≡◌, ◌⊎◌, ℕ, List, inl, inr}
+use Rattle.std.proofs.Common.{ℕ, inl, inr}
 use Rattle.vms_io.specs.Told.{Intake, Outlet, Stock}
 use Rattle.vms_outcome.proofs.EndLemmas.{around}
 use Rattle.vms_outcome.specs.Endings.{Caused, Tells}

@@ -1,2 +1,11 @@
 pub mod CauseLemmas
 pub mod DrillRow
+pub mod LoadLemmas
+pub mod LoadOutcome
+pub mod LoadRow
+pub mod PlayLemmas
+pub mod PlayRow
+pub mod SaveLemmas
+pub mod SaveRow
+pub mod ScriptLemmas
+pub mod ScriptSteps

@@ -1,2 +1,6 @@
 pub mod Causes
 pub mod Drill
+pub mod Load
+pub mod Play
+pub mod Save
+pub mod Scripts

@@ -1,5 +1,6 @@
 pub mod CheckLemmas
 pub mod CheckRow
+pub mod ContinuationLemmas
 pub mod EndLemmas
 pub mod OutcomeLaws
 pub mod PackLemmas

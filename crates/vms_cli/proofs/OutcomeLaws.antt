@@ -20,11 +20,22 @@ use Rattle.vms_outcome.specs.Outcomes.{Part, Outcome, DoesOrStops, done, ended, 
 use Rattle.vms_outcome.specs.SetWords.{SetWord}
 use Rattle.vms_outcome.specs.Steps.{Step, Untold, Gives, Ends, Both, HasText, next}
 use Rattle.vms_outcome.proofs.FileSets.{FitStep, fit_word}
-use Rattle.vms_outcome.proofs.StepLemmas.{IsSound, fetched_gives, one_text, sound_word_set}
+use Rattle.vms_outcome.proofs.StepLemmas.{IsSound as IsStepSound, fetched_gives, one_text, sound_word_set}
+use Rattle.dev_board.specs.State.{power_on}
+use Rattle.vms_board.specs.Saving.{saved_stream}
+use Rattle.vms_boards.proofs.ScriptSteps.{script_gives, sound_saved, sound_script}
 use Rattle.vms_boards.specs.Drill.{drill_line}
+use Rattle.dev_board.specs.Step.{after_all, observe}
+use Rattle.vms_boards.proofs.LoadOutcome.{loads_one}
+use Rattle.vms_boards.specs.Load.{LoadsBy, Traces}
+use Rattle.vms_boards.specs.Save.{saved_after}
+use Rattle.vms_boards.specs.Scripts.{scripted}
+use Rattle.vms_session.specs.Laws.{trace_of}
+use Rattle.vms_play.specs.Events.{events_of}
+use Rattle.vms_script.specs.Lines.{ScriptLine}
 use Rattle.vms_cli.specs.Answers.{HasOutcome, Answers}
 use Rattle.vms_cli.specs.Check.{checked, compared, compatible_text, verdict}
-use Rattle.vms_cli.specs.Commands.{Asked, Show, Pack, Check, Drill, asked_of}
+use Rattle.vms_cli.specs.Commands.{Asked, Show, Pack, Check, Save, Load, Drill, asked_of}
 use Rattle.vms_cli.specs.Laws.{HasOneOutcome, OutcomeLaw, CanBePacked, CanBeDone, HasRoom, IsAmple, PromisesKept, CompleteLaw}
 use Rattle.vms_cli.specs.Pack.{described_stream, packed_by, packs}
 use Rattle.vms_cli.specs.Show.{ShowsBy, Values as Printed, Refuses}
@@ -32,6 +43,13 @@ use Rattle.vms_cli.proofs.CheckLemmas.{sound_check}
 use Rattle.vms_cli.proofs.PackLemmas.{pack_gives, sound_pack}
 use Rattle.vms_cli.proofs.ShowLemmas.{shown_is, refused_is}
 use Rattle.vms_cli.proofs.VerdictLaws.{StopsAt}
+
+-- ---- the outcomes of steps
+
+record OneLoads (level : ℕ) (step : Step (List ScriptLine)) (input : List ℕ) (held : Held) : Type 0 where
+  outcome : Outcome
+  is : LoadsBy level step (Some input) (Some held) outcome
+  only : (other : Outcome) → LoadsBy level step (Some input) (Some held) other → other ≡ outcome
 
 -- ---- the outcome of `show`
 
@@ -53,7 +71,7 @@ one_answered set fit input held ok (Faulty place section reason size fault) = re
   only = λ other shows. refused_is set fit input (Some held) place section reason size other ok fault shows;
 }
 
-one_by : (s : Step Set) (input : List ℕ) (held : Held) → IsBytes input → IsSound (Some held) s → FitStep s → OneShown s input held
+one_by : (s : Step Set) (input : List ℕ) (held : Held) → IsBytes input → IsStepSound (Some held) s → FitStep s → OneShown s input held
 one_by Untold input held ok sound fit = absurd (some_none held sound)
   where
     some_none : (map : Held) → Some map ≡ None → ⊥
@@ -78,11 +96,35 @@ one_checked old new input held =
     let one = one_text held (checked (Some held) old new) (sound_check (Some held) old new) in
     record { outcome = one.outcome; is = one.is; only = one.only }
 
+one_saved : (level set : ℕ) (script input : List ℕ) (held : Held) → HasOneOutcome (Some (Save level set script)) input held
+one_saved level set script input held =
+    let one = one_text held (saved_after level set (Some held) script) (sound_saved level set (Some held) script) in
+    record { outcome = one.outcome; is = one.is; only = one.only }
+
+-- ---- the outcome of `load`
+
+one_loads : (level : ℕ) (s : Step (List ScriptLine)) (input : List ℕ) (held : Held) → IsBytes input → IsStepSound (Some held) s → OneLoads level s input held
+one_loads level Untold input held ok sound = absurd (some_none held sound)
+  where
+    some_none : (map : Held) → Some map ≡ None → ⊥
+    some_none map e = cc
+one_loads level (Ends status line) input held ok sound = record { outcome = ended status line 0; is = refl; only = λ other e. e }
+one_loads level (Gives lines) input held ok sound =
+    let one = loads_one level lines input (Some held) ok in
+    record { outcome = one.outcome; is = one.is; only = one.only }
+
+one_loaded : (level : ℕ) (script input : List ℕ) (held : Held) → IsBytes input → HasOneOutcome (Some (Load level script)) input held
+one_loaded level script input held ok =
+    let one = one_loads level (scripted None (Some held) script) input held ok (sound_script None (Some held) script) in
+    record { outcome = one.outcome; is = one.is; only = one.only }
+
 pub outcome_holds : OutcomeLaw
 outcome_holds None input held ok = record { outcome = ended 2 bad_words 0; is = refl; only = λ other e. e }
 outcome_holds (Some (Show word)) input held ok = one_shown word input held ok
 outcome_holds (Some (Pack word name)) input held ok = one_packed word name input held
 outcome_holds (Some (Check old new)) input held ok = one_checked old new input held
+outcome_holds (Some (Save level set script)) input held ok = one_saved level set script input held
+outcome_holds (Some (Load level script)) input held ok = one_loaded level script input held ok
 outcome_holds (Some (Drill level seed count)) input held ok =
     record { outcome = done (drill_line level seed count) (Some held) 0; is = refl; only = λ other e. e }
 
@@ -124,6 +166,28 @@ can_be (Some (Pack word name)) input (Some map) can =
     record {
       outcome = outcome;
       is = subst (λ (s : Step (List ℕ)). HasText (Some map) s outcome) (sym (packs_give word name map can)) refl;
+      status = refl;
+      note = refl;
+    }
+can_be (Some (Save level set script)) input None can = absurd can
+can_be (Some (Save level set script)) input (Some map) can =
+    let stream = saved_stream set (after_all (events_of can.lines) (power_on level)) in
+    let outcome = done stream (Some map) 0 in
+    record {
+      outcome = outcome;
+      is = subst (λ (s : Step (List ScriptLine)). HasText (Some map) (next s (λ lines. Gives (saved_stream set (after_all (events_of lines) (power_on level))))) outcome)
+          (sym (script_gives None map script can.text can.lines can.held can.short can.reads)) refl;
+      status = refl;
+      note = refl;
+    }
+can_be (Some (Load level script)) input None can = absurd can.0
+can_be (Some (Load level script)) None (Some map) can = absurd can.1
+can_be (Some (Load level script)) (Some bytes) (Some map) can =
+    let outcome = done (trace_of (observe (events_of can.0.lines) can.1.0)) (Some map) can.1.1 in
+    record {
+      outcome = outcome;
+      is = subst (λ (s : Step (List ScriptLine)). LoadsBy level s (Some bytes) (Some map) outcome)
+          (sym (script_gives None map script can.0.text can.0.lines can.0.held can.0.short can.0.reads)) (Traces can.1.0 can.1.1 can.1.2);
       status = refl;
       note = refl;
     }

@@ -7,8 +7,12 @@ use Rattle.vms_outcome.specs.Lines.{bad_words}
 use Rattle.vms_outcome.specs.Outcomes.{Outcome, done, ended, Outside, DoesOrStops, NotesFault, CountsStand, PromisesStay}
 use Rattle.vms_outcome.specs.Steps.{HasText}
 use Rattle.vms_boards.specs.Drill.{DrillAnswers, drill_line}
+use Rattle.vms_boards.specs.Load.{LoadAnswers, LoadsBy}
+use Rattle.vms_boards.specs.Save.{SaveAnswers, saved_after}
+use Rattle.vms_boards.specs.Scripts.{scripted}
 use Rattle.vms_cli.specs.Check.{checked, asks_shelf, CheckAnswers, Verdict}
-use Rattle.vms_cli.specs.Commands.{Asked, Show, Pack, Check, Drill, asked_of}
+use Rattle.vms_cli.specs.Commands.{Asked, Show, Pack, Check, Save, Load, Drill, asked_of}
+use Rattle.vms_cli.specs.Continuation.{Continuation}
 use Rattle.vms_cli.specs.Pack.{packs, PackAnswers}
 use Rattle.vms_cli.specs.Show.{ShowsBy, ShowAnswers}
 use Rattle.vms_cli.specs.Upgrade.{Upgrade}
@@ -20,6 +24,8 @@ HasOutcome None input held o = o ≡ ended 2 bad_words 0
 HasOutcome (Some (Show set)) input held o = ShowsBy (word_set held set) input held o
 HasOutcome (Some (Pack set name)) input held o = HasText held (packs held set name) o
 HasOutcome (Some (Check old new)) input held o = HasText held (checked held old new) o
+HasOutcome (Some (Save level set script)) input held o = HasText held (saved_after level set held script) o
+HasOutcome (Some (Load level script)) input held o = LoadsBy level (scripted None held script) input held o
 HasOutcome (Some (Drill level seed count)) input held o = o ≡ done (drill_line level seed count) held 0
 
 -- what words of no listed form can answer: only the notes are touched
@@ -36,6 +42,9 @@ CanAnswer (Some (Show set)) status old new =
     ShowAnswers (is_on_shelf set) (word_set old.shelf.held set) status old new
 CanAnswer (Some (Pack set name)) status old new = PackAnswers status old new
 CanAnswer (Some (Check one other)) status old new = CheckAnswers (asks_shelf one other) status old new
+CanAnswer (Some (Save level set script)) status old new = SaveAnswers status old new
+CanAnswer (Some (Load level script)) status old new =
+    LoadAnswers (scripted None old.shelf.held script) status old new
 CanAnswer (Some (Drill level seed count)) status old new = DrillAnswers status old new
 
 pub record Answers (words : List (List ℕ)) (status : ℕ) (old new : Outside) : Type 0 where
@@ -45,5 +54,7 @@ pub record Answers (words : List (List ℕ)) (status : ℕ) (old new : Outside) 
   pub verdict : Verdict (asked_of words) old.shelf.held status
   -- and of such sets the newer shows what the older wrote as carried
   pub upgrade : Upgrade (asked_of words) status old new
+  -- and the stream of a board is loaded as that board going on
+  pub continuation : Continuation (asked_of words) status old new
   pub counts : CountsStand old new
   pub promises : PromisesStay old new

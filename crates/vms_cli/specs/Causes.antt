@@ -8,9 +8,10 @@ use Rattle.vms_outcome.specs.declared.ending.Ending.TheVariants.{Done, Refused, 
 use Rattle.vms_outcome.specs.Endings.{SetCause}
 use Rattle.vms_outcome.specs.Fetching.{is_on_shelf, word_set}
 use Rattle.vms_outcome.specs.SetWords.{SetWord}
-use Rattle.vms_boards.specs.Causes.{DrillCauses}
+use Rattle.vms_boards.specs.Causes.{DrillCauses, LoadCauses, SaveCauses}
+use Rattle.vms_boards.specs.Scripts.{scripted}
 use Rattle.vms_cli.specs.Check.{asks_shelf}
-use Rattle.vms_cli.specs.Commands.{Asked, Show, Pack, Check, Drill}
+use Rattle.vms_cli.specs.Commands.{Asked, Show, Pack, Check, Save, Load, Drill}
 use Rattle.vms_cli.specs.Show.{GivesWithin}
 
 -- once the set of `show` is there
@@ -98,5 +99,9 @@ EndsCause (Some (Show set)) input input' out out' shelf shelf' ending = ShowCaus
 EndsCause (Some (Pack set name)) input input' out out' shelf shelf' ending = PackCauses input input' out out' shelf shelf' ending
 EndsCause (Some (Check old new)) input input' out out' shelf shelf' ending =
     CheckCauses (asks_shelf old new) input input' out out' shelf shelf' ending
+EndsCause (Some (Save level set script)) input input' out out' shelf shelf' ending =
+    SaveCauses input input' out out' shelf shelf' ending
+EndsCause (Some (Load level script)) input input' out out' shelf shelf' ending =
+    LoadCauses (scripted None shelf.held script) input input' out out' shelf shelf' ending
 EndsCause (Some (Drill level seed count)) input input' out out' shelf shelf' ending =
     DrillCauses input input' out out' shelf shelf' ending

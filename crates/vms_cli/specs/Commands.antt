@@ -1,18 +1,21 @@
 -- The commands that the words can name.
-use Rattle.std.specs.Prelude.{ℕ, if◌then◌else◌, nat_le, List, [], ◌∷◌, Option, Some, None, Result, Ok, Err, codes}
+use Rattle.std.specs.Prelude.{ℕ, if◌then◌else◌, ◌&&◌, nat_le, List, [], ◌∷◌, Option, Some, None, Result, Ok, Err, codes}
 use Rattle.std.specs.Str.{bytes_eq}
 use Rattle.vms_spec.specs.Lists.{position}
 use Rattle.vms_spec.specs.Spelling.{number_spelled}
 use Rattle.vms_script.specs.Names.{is_shelf_name}
 use Rattle.vms_script.specs.Views.{number_read}
 use Rattle.vms_script.specs.declared.line.ScriptReason.{ScriptReason}
-use Rattle.vms_outcome.specs.SetWords.{SetWord, set_word}
+use Rattle.vms_outcome.specs.SetWords.{SetWord, set_word, shipped_number}
 
--- prints the values text of a stream, writes the stream of a values text on the shelf, compares two sets, or drills a board
+-- prints the values text of a stream, writes the stream of a values text on the shelf, compares two sets, writes the stream of
+-- a board under a set after a script, lets a script go on from the board that a stream restores, or drills a board
 pub data Asked : Type 0 where
   Show : SetWord → Asked
   Pack : SetWord → List ℕ → Asked
   Check : (old new : SetWord) → Asked
+  Save : (level set : ℕ) → List ℕ → Asked
+  Load : ℕ → List ℕ → Asked
   Drill : (level seed count : ℕ) → Asked
 
 abbrev pub show_of : Option SetWord → Option Asked
@@ -27,12 +30,6 @@ abbrev pub pack_of : Option SetWord → List ℕ → Option Asked
 pack_of None values = None
 pack_of (Some set) values = if is_shelf_name values then Some (Pack set values) else None
 
--- a command with two words behind its name
-unfoldable pub pair_of : List ℕ → List ℕ → List ℕ → Option Asked
-pair_of name one other =
-    if bytes_eq name (codes "check") then check_of (set_word one) (set_word other)
-    else if bytes_eq name (codes "pack") then pack_of (set_word one) other else None
-
 -- the words of the boards, by level
 abbrev pub board_words : List (List ℕ)
 board_words = codes "isa-1" ∷ codes "isa-2" ∷ codes "isa-3" ∷ codes "isa-4" ∷ []
@@ -40,6 +37,18 @@ board_words = codes "isa-1" ∷ codes "isa-2" ∷ codes "isa-3" ∷ codes "isa-4
 -- the level of the board that a word names
 abbrev pub board_level : List ℕ → Option ℕ
 board_level word = position (bytes_eq word) 1 board_words
+
+-- of a board and a script
+abbrev pub load_of : Option ℕ → List ℕ → Option Asked
+load_of None script = None
+load_of (Some level) script = if is_shelf_name script then Some (Load level script) else None
+
+-- a command with two words behind its name
+unfoldable pub pair_of : List ℕ → List ℕ → List ℕ → Option Asked
+pair_of name one other =
+    if bytes_eq name (codes "check") then check_of (set_word one) (set_word other)
+    else if bytes_eq name (codes "pack") then pack_of (set_word one) other
+    else if bytes_eq name (codes "load") then load_of (board_level one) other else None
 
 abbrev pub told : Result ℕ ScriptReason → Option ℕ
 told (Ok n) = Some n
@@ -61,10 +70,17 @@ abbrev pub drill_of : Option ℕ → Option ℕ → Option ℕ → Option Asked
 drill_of (Some level) (Some seed) (Some count) = Some (Drill level seed count)
 drill_of _ _ _ = None
 
+-- of a shipped set at or above the board
+abbrev pub save_of : Option ℕ → Option ℕ → List ℕ → Option Asked
+save_of (Some level) (Some set) script =
+    if nat_le level set && is_shelf_name script then Some (Save level set script) else None
+save_of _ _ script = None
+
 -- a command with three words behind its name
 unfoldable pub triple_of : List ℕ → List ℕ → List ℕ → List ℕ → Option Asked
 triple_of name one two three =
-    if bytes_eq name (codes "drill") then drill_of (board_level one) (number_word two) (few_events (number_word three)) else None
+    if bytes_eq name (codes "drill") then drill_of (board_level one) (number_word two) (few_events (number_word three))
+    else if bytes_eq name (codes "save") then save_of (board_level one) (shipped_number two) three else None
 
 abbrev pub asked_of : List (List ℕ) → Option Asked
 asked_of (name ∷ set ∷ []) = if bytes_eq name (codes "show") then show_of (set_word set) else None

@@ -1,5 +1,5 @@
 -- What follows of all calls, and of packing and showing one after the other.
-use Rattle.std.specs.Prelude.{◌≡◌, ◌⊎◌, ℕ, ◌+◌, ◌<◌, ◌≤◌, true, List, length, Option, Some, None, IfSome, IsSomeAnd}
+use Rattle.std.specs.Prelude.{◌≡◌, ◌⊎◌, ℕ, ◌+◌, ◌<◌, ◌≤◌, true, List, length, Option, Some, None, Ok, IfSome, IsSomeAnd}
 use Rattle.vms_io.specs.Causes.{KeepsPromise}
 use Rattle.vms_io.specs.Shelves.{Held}
 use Rattle.vms_io.specs.Told.{Outlet}
@@ -9,12 +9,17 @@ use Rattle.vms_spec.specs.Streams.{AreReady, is_one_of, written}
 use Rattle.vms_spec.specs.ValuesReading.{Values, values_read}
 use Rattle.vms_units.specs.Streams.{Takes}
 use Rattle.vms_cli.specs.Answers.{HasOutcome, Answers}
-use Rattle.vms_cli.specs.Commands.{Asked, Show, Pack, Check, Drill, asked_of}
+use Rattle.vms_cli.specs.Commands.{Asked, Show, Pack, Check, Save, Load, Drill, asked_of}
 use Rattle.vms_outcome.specs.Outcomes.{Outcome, DoesOrStops, done, text_of, Outside}
 use Rattle.vms_outcome.specs.Fetching.{longest_file, named_sets, word_set}
 use Rattle.vms_outcome.specs.SetWords.{SetWord}
 use Rattle.vms_outcome.specs.Steps.{Gives, Both}
 use Rattle.vms_check.specs.Comparing.{Compatible}
+use Rattle.dev_board.specs.State.{State}
+use Rattle.vms_board.specs.Restoring.{Back, Restores}
+use Rattle.vms_script.specs.Lines.{ScriptLine}
+use Rattle.vms_script.specs.Script.{script_read}
+use Rattle.vms_boards.specs.Scripts.{longest_script}
 use Rattle.vms_cli.specs.Pack.{described_stream}
 use Rattle.vms_cli.specs.Upgrade.{IsWritten, shown_newer}
 use Rattle.vms_spec.specs.Sets.{Set}
@@ -44,8 +49,17 @@ pub record CanBePacked (word : SetWord) (name : List ℕ) (map : Held) : Type 0 
   pub images : List Image
   pub reads : values_read set text ≡ Values machine images
 
+-- a script under a name, which isn't too long and is in its grammar, of a session on a board of a level where one is named
+pub record CanBeRead (play : Option ℕ) (name : List ℕ) (map : Held) : Type 0 where
+  pub text : List ℕ
+  pub held : map name ≡ Some text
+  pub short : length text ≤ longest_script
+  pub lines : List ScriptLine
+  pub reads : script_read play text ≡ Ok lines
+
 -- what a command asks for so that it can be done: of `show` a word that names a set, and a stream of it at the front of the
--- input, of `pack` a set and a values text of it, of `check` words that name two compatible sets, of `drill` nothing
+-- input, of `pack` a set and a values text of it, of `check` words that name two compatible sets, of `save`
+-- a script, of `load` a script and a stream of a board at the front of the input, of `drill` nothing
 abbrev pub CanBeDone : Option Asked → Option (List ℕ) → Option Held → Type 0
 CanBeDone None input held = ⊥
 CanBeDone (Some (Show word)) input held =
@@ -54,6 +68,10 @@ CanBeDone (Some (Show word)) input held =
 CanBeDone (Some (Pack word name)) input held = IsSomeAnd held (λ map. CanBePacked word name map)
 CanBeDone (Some (Check old new)) input held =
     (sets : Both Set) × (named_sets held old new ≡ Gives sets) × Compatible sets.old sets.new
+CanBeDone (Some (Save level set script)) input held = IsSomeAnd held (λ map. CanBeRead None script map)
+CanBeDone (Some (Load level script)) input held =
+    IsSomeAnd held (λ map. CanBeRead None script map) × IsSomeAnd input (λ bytes. (board : State) × (taken : ℕ)
+    × Restores level bytes (Back board taken))
 CanBeDone (Some (Drill level seed count)) input held = Unit {0}
 
 -- a sink that promises no fault while it has room for so many bytes more

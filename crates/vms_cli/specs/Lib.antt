@@ -3,6 +3,7 @@ pub mod Asks
 pub mod Causes
 pub mod Check
 pub mod Commands
+pub mod Continuation
 pub mod Laws
 pub mod Pack
 pub mod Show

@@ -12,7 +12,7 @@ use crate::pack::pack;
 use crate::show::show;
 use crate::{Command, Words};
 use std::alloc::Global;
-use vms_boards::drill_board;
+use vms_boards::{drill_board, load_board, save_board};
 use vms_io::{Shelf, Sink, Source, write_all_of};
 use vms_outcome::Ending;
 
@@ -25,7 +25,7 @@ const WRITE_FAULT: u8 = 6;
 /// | 0 | done; the text stands on out |
 /// | 1 | the stream is refused |
 /// | 2 | the words name no command |
-/// | 3 | a values text or a description file is refused |
+/// | 3 | a values text, a script or a description file is refused |
 /// | 4 | the sets aren't compatible |
 /// | 5 | the input failed |
 /// | 6 | out or notes failed |
@@ -35,7 +35,7 @@ const WRITE_FAULT: u8 = 6;
 /// | 10 | memory is wanting |
 ///
 /// One line goes to notes for each status but 0. On statuses but 0 and 6 out is untouched. Nothing of the input is
-/// taken but by `show`.
+/// taken but by `show` and `load`.
 pub fn vmstate<I: Source, O: Sink, N: Sink, H: Shelf>(
     alloc: Global,
     words: &Words,
@@ -104,6 +104,8 @@ fn run<I: Source, O: Sink, H: Shelf>(
         Some(Command::Show { set }) => show(alloc, set, input, out, shelf),
         Some(Command::Pack { set, values }) => pack(alloc, set, values, out, shelf),
         Some(Command::Check { old, new }) => check(alloc, old, new, out, shelf),
+        Some(Command::Save(saving)) => save_board(alloc, saving, out, shelf),
+        Some(Command::Load(loading)) => load_board(alloc, loading, input, out, shelf),
         Some(Command::Drill { board, seed, count }) => drill_board(
             alloc,
             board.level,

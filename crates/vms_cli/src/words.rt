@@ -1,17 +1,18 @@
 // The words after the program's name.
-ghost use Rattle.std.specs.Prelude.{◌≡◌, ◌∷◌, ◌++◌, [], OnOk, OnErr, None, codes, if◌then◌else◌};
+ghost use Rattle.std.specs.Prelude.{◌≡◌, ◌∷◌, ◌++◌, [], OnOk, OnErr, Some, None, codes, if◌then◌else◌};
 ghost use Rattle.std.specs.Str.{bytes_eq};
 ghost use Rattle.std.specs.Option.{option_map};
-ghost use Rattle.vms_outcome.specs.SetWords.{set_word};
+ghost use Rattle.vms_outcome.specs.SetWords.{set_word, shipped_number};
 ghost use Rattle.vms_cli.specs.Asks.{asked};
-ghost use Rattle.vms_cli.specs.Commands.{asked_of, board_level, check_of, drill_of, few_events, number_word, pack_of, pair_of, show_of, triple_of};
+ghost use Rattle.vms_cli.specs.Commands.{asked_of, board_level, check_of, drill_of, few_events, load_of, number_word, pack_of, pair_of, save_of, show_of, triple_of};
 
 use crate::board_words::{board_word, events_word, number_word};
 use crate::boards::BoardWord;
 use std::alloc::Global;
 use std::marker::Model;
+use vms_boards::{OnBoard, Saving};
 use vms_io::NoMemory;
-use vms_outcome::{SetWord, set_word};
+use vms_outcome::{SetWord, ShippedSet, set_word, shipped_set};
 use vms_script::is_shelf_name;
 
 /// What the words ask for.
@@ -31,6 +32,10 @@ pub(crate) enum Command<'a> {
         old: SetWord<'a>,
         new: SetWord<'a>,
     },
+    /// `save BOARD SET SCRIPT`
+    Save(Saving<'a>),
+    /// `load BOARD SCRIPT`
+    Load(OnBoard<'a>),
     /// `drill BOARD SEED COUNT`
     Drill {
         board: BoardWord,
@@ -119,6 +124,8 @@ fn pair_of<'a>(name: &str, one: &'a str, other: &'a str) -> Option<Command<'a>>
         check_of(one, other)
     } else if name == "pack" {
         pack_of(one, other)
+    } else if name == "load" {
+        load_of(one, other)
     } else {
         None
     }
@@ -142,13 +149,29 @@ fn pack_of<'a>(set: &'a str, values: &'a str) -> Option<Command<'a>>
     }
 }
 
+fn load_of<'a>(board: &str, script: &'a str) -> Option<Command<'a>>
+    ensures { option_map asked result ≡ load_of (board_level board.now) script.now }
+{
+    match board_word(board) {
+        Some(board) if is_shelf_name(script.as_bytes()) => {
+            Some(Command::Load(OnBoard {
+                level: board.level,
+                script,
+            }))
+        }
+        _ => None,
+    }
+}
+
 // A command with three words behind its name.
 #[tactic(auto, unfolding(crate::specs::Commands::triple_of))]
-fn triple_of<'a>(name: &str, one: &str, two: &str, three: &str) -> Option<Command<'a>>
+fn triple_of<'a>(name: &str, one: &str, two: &str, three: &'a str) -> Option<Command<'a>>
     ensures { option_map asked result ≡ triple_of name.now one.now two.now three.now }
 {
     if name == "drill" {
         drill_of(one, two, three)
+    } else if name == "save" {
+        save_of(one, two, three)
     } else {
         None
     }
@@ -161,5 +184,27 @@ fn drill_of<'a>(board: &str, seed: &str, count: &str) -> Option<Command<'a>>
     match (board_word(board), number_word(seed), events_word(count)) {
         (Some(board), Some(seed), Some(count)) => Some(Command::Drill { board, seed, count }),
         _ => None,
+    }
+}
+
+fn save_of<'a>(board: &str, set: &str, script: &'a str) -> Option<Command<'a>>
+    ensures { option_map asked result ≡ save_of (board_level board.now) (shipped_number set.now)
+        script.now }
+{
+    match (board_word(board), shipped_set(set)) {
+        (Some(board), Some(set)) => saving_of(board, set, script),
+        _ => None,
+    }
+}
+
+// The set is at or above the board.
+fn saving_of<'a>(board: BoardWord, set: ShippedSet, script: &'a str) -> Option<Command<'a>>
+    ensures { option_map asked result ≡ save_of (Some board.level) (Some set.number) script.now }
+{
+    let (level, set) = (board.level, set.number);
+    if level <= set && is_shelf_name(script.as_bytes()) {
+        Some(Command::Save(Saving { level, set, script }))
+    } else {
+        None
     }
 }

@@ -1,5 +1,4 @@
 use Rattle.std.proofs.Common.{List, ℕ, refl, subst, ◌∙◌}
-use Rattle.std.specs.Prelude.{string_bytes}
 use Rattle.vms_io.specs.Told.{outlet}
 use Rattle.vms_outcome.proofs.StepLemmas.{text_ends}
 use Rattle.vms_outcome.specs.StepEndings.{TextEnds}

@@ -1,0 +1,48 @@
+use Rattle.std.proofs.Common.{List, None, refl, sym, inl, inr, subst}
+use Rattle.std.specs.declared.alloc.Global.{Global}
+use Rattle.std.specs.declared.vec.Vec.{Vec}
+use Rattle.vms_io.specs.Told.{intake, outlet, stock}
+use Rattle.vms_outcome.proofs.EndLemmas.{keeps_same, quiet_same}
+use Rattle.vms_outcome.proofs.StepLemmas.{ended_by, had_by}
+use Rattle.vms_script.specs.Lines.{ScriptLine}
+use Rattle.vms_script.specs.Views.{lines_view}
+use Rattle.vms_script.specs.declared.line.Line.{Line}
+use Rattle.vms_boards.proofs.LoadLemmas.{gives_none, gives_some, loads_under}
+use Rattle.vms_boards.specs.Scripts.{scripted}
+use Rattle.vms_boards.proofs.load.load_board.Goals as goal
+
+abbrev view : Vec Line Global → List ScriptLine
+view l = lines_view l.items
+
+pub returns-in-Ok-clause-content : goal.returns-in-Ok-clause-content
+returns-in-Ok-clause-content g c = λ o has.
+    let held = g.H.Shelf.held c.args.shelf.now in
+    let left = g.I.Source.left c.args.input.now in
+    let level = c.args.asked.level in
+    let loads = had_by view (loads_under level left held) (scripted None held c.args.asked.script.now) c.in-Ok.lines o c.in-Ok.ensures.read has in
+    c.load_lines.ensures.content (stock g.H.Shelf c.args.shelf.now) (stock g.H.Shelf c.script_of.new.shelf) o c.in-Ok.ensures.held
+    (subst (λ (l : List Line). loads_under level left held (lines_view l) o) (sym c.deref.ensures.value) loads)
+
+pub returns-in-Ok-clause-cause : goal.returns-in-Ok-clause-cause
+returns-in-Ok-clause-cause g c = inr c.load_lines.ensures.cause
+
+pub returns-in-Ok-clause-given : goal.returns-in-Ok-clause-given
+returns-in-Ok-clause-given g c =
+    gives_some view (scripted None (g.H.Shelf.held c.args.shelf.now) c.args.asked.script.now) c.in-Ok.lines
+    (intake g.I.Source c.args.input.now) (intake g.I.Source c.load_lines.new.input) c.in-Ok.ensures.read c.load_lines.ensures.given
+
+pub returns-in-Err-clause-content : goal.returns-in-Err-clause-content
+returns-in-Err-clause-content g c = λ o has.
+    let held = g.H.Shelf.held c.args.shelf.now in
+    let left = g.I.Source.left c.args.input.now in
+    let out = outlet g.O.Sink c.args.out.now in
+    ended_by view (loads_under c.args.asked.level left held) (scripted None held c.args.asked.script.now)
+    (intake g.I.Source c.args.input.now) out out (stock g.H.Shelf c.args.shelf.now) (stock g.H.Shelf c.script_of.new.shelf)
+    c.in-Err.ending o c.in-Err.ensures.held (quiet_same out c.in-Err.ending) c.in-Err.ensures.read has
+
+pub returns-in-Err-clause-cause : goal.returns-in-Err-clause-cause
+returns-in-Err-clause-cause g c = inl (c.in-Err.ensures.cause, refl, keeps_same (g.O.Sink.written c.args.out.now))
+
+pub returns-in-Err-clause-given : goal.returns-in-Err-clause-given
+returns-in-Err-clause-given g c =
+    gives_none (scripted None (g.H.Shelf.held c.args.shelf.now) c.args.asked.script.now) (intake g.I.Source c.args.input.now)

@@ -1,0 +1,25 @@
+use Rattle.std.proofs.Common.{ℕ, ap, ◌∙◌, sym, subst}
+use Rattle.dev_board.specs.State.{State}
+use Rattle.vms_io.specs.Told.{outlet}
+use Rattle.vms_outcome.proofs.EndLemmas.{comes_to_nothing, keeps_same}
+use Rattle.vms_script.specs.Views.{lines_view}
+use Rattle.vms_boards.proofs.LoadLemmas.{loads_under}
+use Rattle.vms_boards.proofs.SaveLemmas.{at_level}
+use Rattle.vms_boards.proofs.load.load_lines.Goals as goal
+
+pub returns-clause-content : goal.returns-clause-content
+returns-clause-content g c = λ shelf shelf' o held loads.
+    let level = ap (λ (m : State). m.level) c.in-Ok.ensures.state ∙ at_level c.args.level in
+    c.load_on.ensures.content shelf shelf' o held
+    (subst (λ (l : ℕ). loads_under l (g.I.Source.left c.args.input.now) shelf.held (lines_view c.args.lines.now) o) (sym level) loads)
+
+-- without memory nothing was done
+pub returns-in_default-clause-content : goal.returns-in_default-clause-content
+returns-in_default-clause-content g c = λ shelf shelf' o held loads.
+    let out = outlet g.O.Sink c.args.out.now in
+    comes_to_nothing out out shelf shelf' o.parts (keeps_same out.written) held
+
+pub returns-in_default-shipped-clause-content : goal.returns-in_default-shipped-clause-content
+returns-in_default-shipped-clause-content g c = λ shelf shelf' o held loads.
+    let out = outlet g.O.Sink c.args.out.now in
+    comes_to_nothing out out shelf shelf' o.parts (keeps_same out.written) held

@@ -1,0 +1,139 @@
+// The command `load`: what goes on, by a script, from the board that a stream restores.
+ghost use Rattle.std.specs.Prelude.{◌≡◌, ◌+◌, ◌≤◌, IsSomeAnd, None};
+ghost use Rattle.dev_base.specs.Levels.{IsLevel};
+ghost use Rattle.dev_base.specs.declared.limits.TheConstants.{NEWEST as newest};
+ghost use Rattle.dev_board.specs.Laws.{AreEvents};
+ghost use Rattle.vms_desc.specs.Described.{described};
+ghost use Rattle.vms_desc.specs.Formed.{shipped_set};
+ghost use Rattle.vms_io.specs.Told.{Stock, intake, outlet, stock};
+ghost use Rattle.vms_load.specs.Staging.{most_given};
+ghost use Rattle.vms_outcome.specs.Endings.{EndsAs, WritesAs};
+ghost use Rattle.vms_outcome.specs.Outcomes.{Outcome};
+ghost use Rattle.vms_play.specs.Events.{events_of, trace_from};
+ghost use Rattle.vms_script.specs.Grammar.{AreLines};
+ghost use Rattle.vms_script.specs.Views.{lines_view};
+ghost use Rattle.vms_boards.specs.Causes.{LoadCause, StreamCause};
+ghost use Rattle.vms_boards.specs.Load.{LoadGives, Loads, LoadsBy};
+ghost use Rattle.vms_boards.specs.Scripts.{scripted};
+
+use crate::asked::OnBoard;
+use crate::scripts::script_of;
+use dev_base::NEWEST;
+use std::alloc::Global;
+use vms_board::{Board, RestoreFault};
+use vms_desc::DescSet;
+use vms_io::{Shelf, Sink, Source};
+use vms_outcome::{Ending, refused_line};
+use vms_play::trace;
+use vms_script::Line;
+
+/// Restores a board from the input's stream, and writes the trace of a script's events on it.
+///
+/// The script is there, and all memory is taken, before anything of the input is.
+pub fn load_board<I: Source, O: Sink, H: Shelf>(
+    alloc: Global,
+    asked: OnBoard,
+    input: &mut I,
+    out: &mut O,
+    shelf: &mut H,
+) -> Ending
+    ensures content { (o : Outcome) → LoadsBy asked.entry.level
+        (scripted None (H.held shelf.old) asked.entry.script.now)
+        (I.left input.old) (H.held shelf.old) o
+        → EndsAs (intake I.Source input.old) (intake I.Source input.new)
+        (outlet O.Sink out.old) (outlet O.Sink out.new)
+        (stock H.Shelf shelf.old) (stock H.Shelf shelf.new) result o }
+    ensures cause { LoadCause (intake I.Source input.old) (intake I.Source input.new)
+        (outlet O.Sink out.old) (outlet O.Sink out.new)
+        (stock H.Shelf shelf.old) (stock H.Shelf shelf.new) result }
+    ensures given { LoadGives (scripted None (H.held shelf.old) asked.entry.script.now)
+        (intake I.Source input.old) (intake I.Source input.new) }
+    ensures held { H.held shelf.new ≡ H.held shelf.old }
+    ensures input_count { I.faults input.old ≤ I.faults input.new }
+    ensures out_count { O.faults out.old ≤ O.faults out.new }
+    ensures shelf_count { H.faults shelf.old ≤ H.faults shelf.new }
+    ensures input_promise { I.promise input.new ≡ I.promise input.old }
+    ensures out_promise { O.promise out.new ≡ O.promise out.old }
+    ensures shelf_promise { H.promise shelf.new ≡ H.promise shelf.old }
+{
+    match script_of(alloc, asked.script, None, shelf) {
+        Ok(lines) => load_lines(alloc, asked.level, &lines, input, out),
+        Err(ending) => ending,
+    }
+}
+
+// Once the script is there.
+fn load_lines<I: Source, O: Sink>(
+    alloc: Global,
+    level: u8,
+    lines: &[Line],
+    input: &mut I,
+    out: &mut O,
+) -> Ending
+    requires level { IsLevel level }
+    requires lines { AreLines None (lines_view lines.now) }
+    ensures content { (shelf shelf' : Stock) (o : Outcome) → shelf'.held ≡ shelf.held
+        → IsSomeAnd (I.left input.old)
+        (λ bytes. Loads level (lines_view lines.now) bytes shelf.held o)
+        → EndsAs (intake I.Source input.old) (intake I.Source input.new)
+        (outlet O.Sink out.old) (outlet O.Sink out.new) shelf shelf' result o }
+    ensures cause { StreamCause (intake I.Source input.old) (intake I.Source input.new)
+        (outlet O.Sink out.old) (outlet O.Sink out.new) result }
+    ensures given { I.given input.new ≤ I.given input.old + most_given (shipped_set newest) }
+    ensures input_count { I.faults input.old ≤ I.faults input.new }
+    ensures out_count { O.faults out.old ≤ O.faults out.new }
+    ensures input_promise { I.promise input.new ≡ I.promise input.old }
+    ensures out_promise { O.promise out.new ≡ O.promise out.old }
+{
+    let Ok(mut board) = Board::new(alloc, level) else {
+        return Ending::NoMemory;
+    };
+    let Ok(set) = DescSet::shipped(alloc, NEWEST) else {
+        return Ending::NoMemory;
+    };
+    load_on(&mut board, &set, lines, input, out)
+}
+
+// Once a board and its set are there.
+fn load_on<I: Source, O: Sink>(
+    board: &mut Board,
+    set: &DescSet,
+    lines: &[Line],
+    input: &mut I,
+    out: &mut O,
+) -> Ending
+    requires set { described set.now ≡ shipped_set newest }
+    requires lines { AreLines None (lines_view lines.now) }
+    ensures content { (shelf shelf' : Stock) (o : Outcome) → shelf'.held ≡ shelf.held
+        → IsSomeAnd (I.left input.old)
+        (λ bytes. Loads board.old.state.level (lines_view lines.now) bytes shelf.held o)
+        → EndsAs (intake I.Source input.old) (intake I.Source input.new)
+        (outlet O.Sink out.old) (outlet O.Sink out.new) shelf shelf' result o }
+    ensures cause { StreamCause (intake I.Source input.old) (intake I.Source input.new)
+        (outlet O.Sink out.old) (outlet O.Sink out.new) result }
+    ensures given { I.given input.new ≤ I.given input.old + most_given (shipped_set newest) }
+    ensures input_count { I.faults input.old ≤ I.faults input.new }
+    ensures out_count { O.faults out.old ≤ O.faults out.new }
+    ensures input_promise { I.promise input.new ≡ I.promise input.old }
+    ensures out_promise { O.promise out.new ≡ O.promise out.old }
+{
+    match board.restore(input) {
+        Ok(()) => go_on(board, lines, out),
+        Err(RestoreFault::Refused(refusal)) => Ending::Refused(refused_line(set, &refusal)),
+        Err(RestoreFault::ReadFault) => Ending::ReadFault,
+    }
+}
+
+// Once the board is restored.
+fn go_on<O: Sink>(board: &mut Board, lines: &[Line], out: &mut O) -> Ending
+    requires { AreEvents (events_of (lines_view lines.now)) }
+    ensures written { let text = trace_from (events_of (lines_view lines.now)) board.old.state in
+        WritesAs text (outlet O.Sink out.old) (outlet O.Sink out.new) result }
+    ensures count { O.faults out.old ≤ O.faults out.new }
+    ensures promise { O.promise out.new ≡ O.promise out.old }
+{
+    match trace(board, lines, out) {
+        Ok(()) => Ending::Done,
+        Err(_) => Ending::WriteFault,
+    }
+}
