@@ -17,7 +17,7 @@ use Rattle.vms_desc.specs.Formed.{is_well_formed}
 use Rattle.vms_desc.specs.Parts.{desc_at}
 use Rattle.vms_desc.proofs.Clean.{reach, field_clean, struct_clean}
 use Rattle.vms_selfdesc.specs.Entries.{Entry, listers, array_entries, element_entries, item_entries}
-use Rattle.vms_selfdesc.specs.Listing.{is_field_sent, item_list, elements_list, field_list, part_list}
+use Rattle.vms_selfdesc.specs.Listing.{is_field_sent, item_list, field_list, part_list}
 use Rattle.vms_selfdesc.specs.Needs.{HasPlace, HasElements}
 use Rattle.vms_selfdesc.proofs.Listed.{fewer_room, one_small}
 use Rattle.vms_selfdesc.proofs.Ranks.{item_rank, part_rank, reach_whole, uses_more, rank_below}
@@ -28,7 +28,7 @@ use Rattle.vms_selfdesc.proofs.Structures.{AllBelow, all_below, struct_cells_are
 
 pub record FieldNeeds (set : Set) (part : Part) (f : Field) (cell count : ℕ) (n : List ℤ) : Type 0 where
   pub elements : HasElements set f cell count n
-  pub lower : item_rank f.item + 1 < part_rank set part + 2
+  pub lower : item_rank f.item + 2 < part_rank set part + 3
 
 pub field_needs : (set : Set) → is_well_formed set ≡ true → (part : Part) (base : ℕ) (n : List ℤ) → HasPlace set part base n → (k cell count : ℕ) (f : Field) → k < length (desc_at set part).fields
     → f ≡ field_at set part k → count ≤ capacity_of (field_at set part k).count
@@ -38,7 +38,7 @@ field_needs set well part base n h k cell count f lt is fewer room =
     let clean = field_clean set well part h.has k lt in
     let sound = field_sound set well part h.has k lt in
     let size = item_size (struct_cells set) g.item in
-    let lower : item_rank g.item + 1 < part_rank set part + 2 = rank_below (reach set part) g.item clean.uses in
+    let lower : item_rank g.item + 2 < part_rank set part + 3 = rank_below (reach set part) g.item clean.uses in
     let elements : HasElements set g cell count n = record {
       reaches = uses_more (reach set part) (length set.structs) g.item (reach_whole set part h.has) clean.uses;
       default = (and_parts (defaults_well g.item g.default) (counts_well (counted k (desc_at set part).fields) g.default) sound.1.1.1.1.1.0).0;
@@ -57,21 +57,19 @@ array_many one One n path at step other = absurd (other refl)
 array_many one (Fixed m) n path at step other = refl
 array_many one (Counted by most) n path at step other = refl
 
--- an array's elements are its field's entries
-pub field_many : (set : Set) (part : Part) (base k : ℕ) (sent : Bool) (n : List ℤ) (path : List ℕ) (cell : ℕ) (f : Field) (there : Bool) (whole : List ℕ) (count : ℕ)
+-- a run of its elements is the field's entries
+pub field_run : (set : Set) (part : Part) (base k : ℕ) (sent : Bool) (n : List ℤ) (path : List ℕ) (cell : ℕ) (f : Field) (there : Bool) (whole : List ℕ) (count : ℕ)
     → f ≡ field_at set part k → there ≡ is_field_sent set part base k sent n → whole ≡ path ++ f.name
-    → count ≡ elements_of (field_at set part k).count (own_numbers set part n base) → (f.count ≡ One → ⊥)
-    → elements_list set f there n whole cell count ≡ field_list set part base k sent n path cell
-field_many set part base k sent n path cell f there whole count is is_there is_whole is_count other =
+    → count ≡ elements_of (field_at set part k).count (own_numbers set part n base)
+    → array_entries (item_list set f there n) f.count count whole cell (item_size (struct_cells set) f.item) ≡ field_list set part base k sent n path cell
+field_run set part base k sent n path cell f there whole count is is_there is_whole is_count =
     let g = field_at set part k in
-    let size = item_size (struct_cells set) g.item in
     let sent' = is_field_sent set part base k sent n in
-    let other' : g.count ≡ One → ⊥ = λ e. other (ap (λ (x : Field). x.count) is ∙ e) in
-    ap (λ (x : Bool). elements_list set f x n whole cell count) is_there
-    ∙ ap (λ (x : List ℕ). elements_list set f sent' n x cell count) is_whole
-    ∙ ap (λ (x : ℕ). elements_list set f sent' n (path ++ f.name) cell x) is_count
-    ∙ ap (λ (x : Field). elements_list set x sent' n (path ++ x.name) cell (elements_of g.count (own_numbers set part n base))) is
-    ∙ sym (array_many (item_list set g sent' n) g.count (elements_of g.count (own_numbers set part n base)) (path ++ g.name) cell size other')
+    let run = λ (x : Field) (b : Bool) (p : List ℕ) (m : ℕ). array_entries (item_list set x b n) x.count m p cell (item_size (struct_cells set) x.item) in
+    ap (λ (x : Bool). run f x whole count) is_there
+    ∙ ap (λ (x : List ℕ). run f sent' x count) is_whole
+    ∙ ap (λ (x : ℕ). run f sent' (path ++ f.name) x) is_count
+    ∙ ap (λ (x : Field). run x sent' (path ++ x.name) (elements_of g.count (own_numbers set part n base))) is
 
 -- ---- structures
 
@@ -88,7 +86,7 @@ module _ (set : Set) (well : is_well_formed set ≡ true) (item : Item) (j : ℕ
       let size = ap (item_size (struct_cells set)) is in
       record { has = struct_there; few = few; room = omega (arith, cells, size, room) }
 
-  pub struct_lower : part_rank set (parts.Struct j) + 3 < item_rank item
+  pub struct_lower : part_rank set (parts.Struct j) + 4 < item_rank item
   struct_lower =
       let rank = ap item_rank is in
       omega (arith, rank)

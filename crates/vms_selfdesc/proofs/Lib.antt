@@ -4,10 +4,13 @@ pub mod EntryLong
 pub mod FieldNeeds
 pub mod Fits
 pub mod Lengths
+pub mod Following
 pub mod Listed
 pub mod OfElements
+pub mod Paths
 pub mod Plain
 pub mod Ranks
+pub mod ReadBack
 pub mod ReadyDevices
 mod Rows
 pub mod Shapes
@@ -15,3 +18,4 @@ pub mod Sound
 pub mod Soundness
 pub mod Structures
 pub mod Trees
+pub mod WholeText

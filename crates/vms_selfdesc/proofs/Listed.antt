@@ -1,29 +1,67 @@
--- Lists of values that grow by the entries of elements and fields, one after the other.
-use Rattle.std.proofs.Common.{◌≡◌, ℕ, suc, ◌+◌, ◌*◌, ◌-◌, ◌<◌, ◌≤◌, List, [], ◌++◌, length, length-append, append_assoc, get_or, map, drop, ℤ, sym, ap, ◌∙◌, arith, Bool}
+-- Entries of elements and fields, written one after the other.
+use Rattle.std.proofs.Common.{◌≡◌, ℕ, suc, ◌+◌, ◌*◌, ◌-◌, ◌<◌, ◌≤◌, List, [], ◌∷◌, ◌++◌, length, String, string_bytes, refl, subst, length-append, append_assoc, get_or, map, drop, ℤ, sym, ap, ◌∙◌, arith, Bool}
 use Rattle.std.proofs.lemmas.List.{drop_more, drop_all, append-nil, map-append}
-use Rattle.serde_json.specs.View.{view}
-use Rattle.serde_json.specs.declared.value.Value.{Value}
+use Rattle.std.specs.declared.alloc.Global.{Global}
+use Rattle.json.specs.Token.{Token}
+use Rattle.json.specs.Written.{Written}
+use Rattle.serde_json.specs.Data.{Data}
 use Rattle.vms_spec.specs.Sets.{Field}
 use Rattle.vms_spec.specs.Layout.{Cell, no_field, field_cells, cells_from, item_size, capacity_of}
 use Rattle.vms_spec.proofs.Sizes.{field_size}
 use Rattle.vms_selfdesc.specs.Entries.{Entry, Lister, element_path, element_entries, field_entries, entries_from}
-use Rattle.vms_selfdesc.specs.Listing.{Adds}
+use Rattle.vms_selfdesc.specs.Drafts.{tree_tokens, trees_tokens, AreRead, Follows, Adds}
+use Rattle.vms_selfdesc.specs.Listing.{Lists}
 use Rattle.vms_selfdesc.specs.Tree.{entry_tree}
+use Rattle.vms_selfdesc.specs.declared.draft.Draft.{Draft}
+use Rattle.vms_selfdesc.proofs.Following.{further}
 
--- of the whole that is to be added, this is left
-abbrev pub Leaves : List Value → List Value → List Entry → List Entry → Type 0
-Leaves old now whole left = map view old ++ map entry_tree whole ≡ map view now ++ map entry_tree left
+-- of the whole that is to be listed, the entries `done` were, and these are left
+pub record Leaves (old now : Draft) (whole left : List Entry) : Type 0 where
+  pub done : List Entry
+  pub split : whole ≡ done ++ left
+  pub lists : Lists old now done
 
-pub leaves_rest : (old now new : List Value) (whole left part rest : List Entry) → left ≡ part ++ rest → Leaves old now whole left → Adds now new part → Leaves old new whole rest
-leaves_rest old now new whole left part rest e h adds =
-    h ∙ ap (λ l. map view now ++ map entry_tree l) e ∙ ap (λ l. map view now ++ l) (map-append entry_tree part rest)
-    ∙ sym (append_assoc (map view now) (map entry_tree part) (map entry_tree rest)) ∙ ap (λ l. l ++ map entry_tree rest) (sym adds)
+trees_append : (ds es : List Data) → trees_tokens (ds ++ es) ≡ trees_tokens ds ++ trees_tokens es
+trees_append [] es = refl
+trees_append (d ∷ ds) es = ap (λ (ts : List Token). tree_tokens d ++ ts) (trees_append ds es) ∙ sym (append_assoc (tree_tokens d) (trees_tokens ds) (trees_tokens es))
 
-pub leaves_none : (old now : List Value) (whole left : List Entry) → left ≡ [] → Leaves old now whole left → Adds old now whole
-leaves_none old now whole left e h = sym (h ∙ ap (λ l. map view now ++ map entry_tree l) e ∙ append-nil (map view now))
+read_append : (ds es : List Data) → AreRead ds → AreRead es → AreRead (ds ++ es)
+read_append [] es p q = q
+read_append (d ∷ ds) es p q = (p.0, read_append ds es p.1 q)
 
-pub adds_none : (old : List Value) → Adds old old []
-adds_none old = sym (append-nil (map view old))
+pub adds_further : (a b c : Draft) (ds es : List Data) → Adds a b ds → Adds b c es → Adds a c (ds ++ es)
+adds_further a b c ds es p q = record {
+  wrote = subst (λ (ts : List Token). Follows a.json c.json ts) (sym (trees_append ds es)) (further p.wrote q.wrote);
+  read = read_append ds es p.read q.read;
+  path = q.path ∙ p.path;
+}
+
+pub adds_none : (a b : Draft) → b.json ≡ a.json → string_bytes b.path ≡ string_bytes a.path → Adds a b []
+adds_none a b same path = record {
+  wrote = record { before = ap (λ (w : Written). w.before) same; tokens = ap (λ (w : Written). w.tokens) same ∙ sym (append-nil a.json.tokens) };
+  read = tt;
+  path = path;
+}
+
+-- what was written under a path that was gone into and left again
+pub leave_path : (old : Draft) (inside left : String Global) (new : Draft) (ds : List Data) → Adds (record { json = old.json; path = inside }) new ds → string_bytes left ≡ string_bytes old.path
+    → Adds old (record { json = new.json; path = left }) ds
+leave_path old inside left new ds adds back = record { wrote = adds.wrote; read = adds.read; path = back }
+
+pub leaves_rest : (old now new : Draft) (whole left part rest : List Entry) → left ≡ part ++ rest → Leaves old now whole left → Lists now new part → Leaves old new whole rest
+leaves_rest old now new whole left part rest e h lists = record {
+  done = h.done ++ part;
+  split = h.split ∙ ap (λ (l : List Entry). h.done ++ l) e ∙ sym (append_assoc h.done part rest);
+  lists = subst (λ (ds : List Data). Adds old new ds) (sym (map-append entry_tree h.done part))
+      (adds_further old now new (map entry_tree h.done) (map entry_tree part) h.lists lists);
+}
+
+pub leaves_none : (old now : Draft) (whole left : List Entry) → left ≡ [] → Leaves old now whole left → Lists old now whole
+leaves_none old now whole left e h =
+    subst (λ (l : List Entry). Lists old now l) (sym (h.split ∙ ap (λ (l : List Entry). h.done ++ l) e ∙ append-nil h.done)) h.lists
+
+pub leaves_all : (old : Draft) (whole : List Entry) → Leaves old old whole whole
+leaves_all old whole = record { done = []; split = refl; lists = adds_none old old refl refl }
 
 -- ---- elements
 

@@ -11,11 +11,11 @@ use Rattle.vms_desc.specs.Parts.{HasPart}
 use Rattle.vms_desc.proofs.Clean.{reach}
 
 abbrev pub item_rank : Item → ℕ
-item_rank (Struct j) = 4 * j + 4
+item_rank (Struct j) = 5 * j + 5
 item_rank item = 0
 
 abbrev pub part_rank : Set → Part → ℕ
-part_rank set part = 4 * reach set part
+part_rank set part = 5 * reach set part
 
 pub reach_whole : (set : Set) (part : Part) → HasPart set part → reach set part ≤ length set.structs
 reach_whole set parts.Set h = absurd h
@@ -29,7 +29,7 @@ uses_more j k (Equal kind z) le e = refl
 uses_more j k (Unused b) le e = refl
 uses_more j k (Struct i) le e = let lt : i < j = ltb-true i j e in lt-ltb i k (omega arith)
 
-pub rank_below : (r : ℕ) (item : Item) → uses_below r item ≡ true → item_rank item + 1 < 4 * r + 2
+pub rank_below : (r : ℕ) (item : Item) → uses_below r item ≡ true → item_rank item + 2 < 5 * r + 3
 rank_below r (Num kind) e = omega arith
 rank_below r (Equal kind z) e = omega arith
 rank_below r (Unused b) e = omega arith

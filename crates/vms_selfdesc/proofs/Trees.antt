@@ -1,9 +1,12 @@
--- Lists of values that grow by trees, one after the other.
-use Rattle.std.proofs.Common.{◌≡◌, ℕ, ◌+◌, ◌<◌, ◌≤◌, List, [], ◌∷◌, ◌++◌, length, append_assoc, get_or, map, drop, None, sym, ap, ◌∙◌}
+-- Trees that are written one after the other.
+use Rattle.std.proofs.Common.{◌≡◌, ℕ, ◌+◌, ◌<◌, ◌≤◌, List, [], ◌∷◌, ◌++◌, length, append_assoc, get_or, drop, None, string_bytes, refl, sym, ap, subst, ◌∙◌}
 use Rattle.std.proofs.lemmas.List.{drop_more, drop_all, append-nil}
-use Rattle.serde_json.specs.Data.{Data}
-use Rattle.serde_json.specs.View.{view}
-use Rattle.serde_json.specs.declared.value.Value.{Value}
+use Rattle.json.specs.Token.{Token, begin_array, end_array}
+use Rattle.json.specs.Tree.{items_tokens as json_items_tokens}
+use Rattle.json.specs.Written.{Written}
+use Rattle.serde_json.specs.Data.{Data, array}
+use Rattle.serde_json.specs.View.{items_of}
+use Rattle.serde_json.specs.Written.{items_outline}
 use Rattle.vms_spec.specs.declared.Part.TheVariants as parts
 use Rattle.vms_spec.specs.Sets.{Set, Sub, AtLeast}
 use Rattle.vms_spec.specs.Layout.{no_desc}
@@ -12,18 +15,45 @@ use Rattle.vms_desc.specs.Asks.{first_cell}
 use Rattle.vms_desc.specs.Described.{device_at}
 use Rattle.vms_desc.specs.Parts.{sub_at}
 use Rattle.vms_desc.proofs.AskLaws.{sub_next, sub_first}
+use Rattle.vms_selfdesc.specs.Drafts.{IsRead, tree_tokens, trees_tokens, Follows, Adds}
+use Rattle.vms_selfdesc.specs.declared.draft.Draft.{Draft}
+use Rattle.vms_selfdesc.proofs.Listed.{adds_further, adds_none}
 use Rattle.vms_selfdesc.specs.Tree.{sub_tree, sub_trees, device_tree, device_trees}
 
--- of these trees, this is left
-abbrev pub Remain : List Value → List Data → List Data → Type 0
-Remain now whole left = whole ≡ map view now ++ left
+-- of the whole, the trees `done` were written, and these are left
+pub record Remain (old now : Draft) (whole left : List Data) : Type 0 where
+  pub done : List Data
+  pub split : whole ≡ done ++ left
+  pub adds : Adds old now done
 
-pub remain_rest : (now new : List Value) (whole left rest : List Data) (x : Data) (v : Value) → left ≡ x ∷ rest → Remain now whole left → view v ≡ x → map view new ≡ map view now ++ view v ∷ [] → Remain new whole rest
-remain_rest now new whole left rest x v e h is pushed =
-    h ∙ ap (λ l. map view now ++ l) e ∙ ap (λ y. map view now ++ y ∷ rest) (sym is) ∙ sym (append_assoc (map view now) (view v ∷ []) rest) ∙ ap (λ l. l ++ rest) (sym pushed)
+pub remain_rest : (old now new : Draft) (whole left rest : List Data) (x : Data) → left ≡ x ∷ rest → Remain old now whole left → Adds now new (x ∷ []) → Remain old new whole rest
+remain_rest old now new whole left rest x e h adds = record {
+  done = h.done ++ x ∷ [];
+  split = h.split ∙ ap (λ (l : List Data). h.done ++ l) e ∙ sym (append_assoc h.done (x ∷ []) rest);
+  adds = adds_further old now new h.done (x ∷ []) h.adds adds;
+}
 
-pub remain_none : (now : List Value) (whole left : List Data) → left ≡ [] → Remain now whole left → map view now ≡ whole
-remain_none now whole left e h = sym (h ∙ ap (λ l. map view now ++ l) e ∙ append-nil (map view now))
+pub remain_none : (old now : Draft) (whole left : List Data) → left ≡ [] → Remain old now whole left → Adds old now whole
+remain_none old now whole left e h =
+    subst (λ (l : List Data). Adds old now l) (sym (h.split ∙ ap (λ (l : List Data). h.done ++ l) e ∙ append-nil h.done)) h.adds
+
+pub remain_all : (old : Draft) (whole left : List Data) → whole ≡ left → Remain old old whole left
+remain_all old whole left e = record { done = []; split = e; adds = adds_none old old refl refl }
+
+pub adds_one : (a b : Draft) (d : Data) → Follows a.json b.json (tree_tokens d) → IsRead d → string_bytes b.path ≡ string_bytes a.path → Adds a b (d ∷ [])
+adds_one a b d f read path = record {
+  wrote = subst (λ (ts : List Token). Follows a.json b.json ts) (sym (append-nil (tree_tokens d))) f;
+  read = (read, tt);
+  path = path;
+}
+
+-- the tokens of an array
+pub items_tokens : (ds : List Data) → json_items_tokens (items_outline (items_of ds)) ≡ trees_tokens ds ++ end_array ∷ []
+items_tokens [] = refl
+items_tokens (d ∷ ds) = ap (λ (ts : List Token). tree_tokens d ++ ts) (items_tokens ds) ∙ sym (append_assoc (tree_tokens d) (trees_tokens ds) (end_array ∷ []))
+
+pub array_follows : {a b : Written} (ds : List Data) → Follows a b (begin_array ∷ (trees_tokens ds ++ end_array ∷ [])) → Follows a b (tree_tokens (array (items_of ds)))
+array_follows {a} {b} ds f = subst (λ (ts : List Token). Follows a b (begin_array ∷ ts)) (sym (items_tokens ds)) f
 
 -- ---- subsections
 

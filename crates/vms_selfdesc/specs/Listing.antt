@@ -1,7 +1,5 @@
--- What the calls that go over fields add to a list, over the parts of a set.
-use Rattle.std.specs.Prelude.{◌≡◌, ℕ, Bool, ◌&&◌, List, ◌++◌, map, ℤ, string_bytes}
-use Rattle.serde_json.specs.View.{view}
-use Rattle.serde_json.specs.declared.value.Value.{Value}
+-- What the calls that go over fields write, over the parts of a set.
+use Rattle.std.specs.Prelude.{ℕ, Bool, ◌&&◌, List, map, ℤ, string_bytes}
 use Rattle.vms_spec.specs.declared.Part.{Part}
 use Rattle.vms_spec.specs.Sets.{Set, Field}
 use Rattle.vms_spec.specs.Tests.{is_there}
@@ -9,16 +7,18 @@ use Rattle.vms_spec.specs.Layout.{no_parent, item_size, struct_cells}
 use Rattle.vms_desc.specs.Asks.{field_at, own_numbers}
 use Rattle.vms_desc.specs.Described.{described}
 use Rattle.vms_desc.specs.Parts.{desc_at}
-use Rattle.vms_selfdesc.specs.Entries.{Entry, listers, item_entries, element_entries, field_entries, desc_entries}
+use Rattle.vms_selfdesc.specs.Drafts.{Adds}
+use Rattle.vms_selfdesc.specs.Entries.{Entry, listers, item_entries, element_entries, array_entries, field_entries, desc_entries}
 use Rattle.vms_selfdesc.specs.Needs.{HasPlace, HasElements}
 use Rattle.vms_selfdesc.specs.Tree.{entry_tree}
+use Rattle.vms_selfdesc.specs.declared.draft.Draft.{Draft}
 use Rattle.vms_selfdesc.specs.declared.fields.At.{At}
 use Rattle.vms_selfdesc.specs.declared.fields.Lister.{Lister}
 use Rattle.vms_selfdesc.specs.declared.fields.Place.{Place}
 
--- the list has grown by the trees of these entries
-abbrev pub Adds : List Value → List Value → List Entry → Type 0
-Adds old new entries = map view new ≡ map view old ++ map entry_tree entries
+-- the trees of these entries were written
+abbrev pub Lists : Draft → Draft → List Entry → Type 0
+Lists old new entries = Adds old new (map entry_tree entries)
 
 -- whether field k of a part stands in the stream
 abbrev pub is_field_sent : Set → Part → ℕ → ℕ → Bool → List ℤ → Bool
@@ -57,15 +57,21 @@ IsPlace l part cell = HasPlace (set_in l) part cell (numbers_in l)
 abbrev pub AreElements : Lister → Field → ℕ → ℕ → Type 0
 AreElements l f cell n = HasElements (set_in l) f cell n (numbers_in l)
 
-abbrev pub item_at : Lister → Field → Place → List Entry
-item_at l f place = item_list (set_in l) f place.sent (numbers_in l) (string_bytes place.path) place.cell
+abbrev pub item_at : Lister → Field → Place → Draft → List Entry
+item_at l f place draft = item_list (set_in l) f place.sent (numbers_in l) (string_bytes draft.path) place.cell
 
-abbrev pub elements_at : Lister → Field → Place → ℕ → List Entry
-elements_at l f place n = elements_list (set_in l) f place.sent (numbers_in l) (string_bytes place.path) place.cell n
+abbrev pub elements_at : Lister → Field → Place → ℕ → Draft → List Entry
+elements_at l f place n draft = elements_list (set_in l) f place.sent (numbers_in l) (string_bytes draft.path) place.cell n
 
-abbrev pub field_within : Lister → Part → Place → At → List Entry
-field_within l part within at =
-    field_list (set_in l) part within.cell at.field within.sent (numbers_in l) (string_bytes within.path) at.cell
+abbrev pub run_at : Lister → Field → Place → ℕ → Draft → List Entry
+run_at l f place n draft =
+    let set = set_in l in
+    array_entries (item_list set f place.sent (numbers_in l)) f.count n (string_bytes draft.path) place.cell
+    (item_size (struct_cells set) f.item)
 
-abbrev pub part_at : Lister → Part → Place → List Entry
-part_at l part place = part_list (set_in l) part place.sent (numbers_in l) (string_bytes place.path) place.cell
+abbrev pub field_within : Lister → Part → Place → At → Draft → List Entry
+field_within l part within at draft =
+    field_list (set_in l) part within.cell at.field within.sent (numbers_in l) (string_bytes draft.path) at.cell
+
+abbrev pub part_at : Lister → Part → Place → Draft → List Entry
+part_at l part place draft = part_list (set_in l) part place.sent (numbers_in l) (string_bytes draft.path) place.cell

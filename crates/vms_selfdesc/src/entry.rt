@@ -1,13 +1,13 @@
 // The entries of elements.
-ghost use Rattle.std.specs.Prelude.{◌≡◌, IfOk, IfSome, string_bytes};
-ghost use Rattle.serde_json.specs.View.{view, members_view};
+ghost use Rattle.std.specs.Prelude.{◌≡◌, None, OnOk};
+ghost use Rattle.vms_selfdesc.specs.Drafts.{Gives, PutsSent};
 ghost use Rattle.vms_selfdesc.specs.Entries.{kind_word, cell_entry, sent_entry, absent_entry};
 ghost use Rattle.vms_selfdesc.specs.Needs.{IsWide};
-ghost use Rattle.vms_selfdesc.specs.Tree.{entry_tree, sent_members};
+ghost use Rattle.vms_selfdesc.specs.Tree.{entry_tree};
 
-use crate::built::{Members, integer_value, natural_value, put, text_value};
-use serde_json::{Map, Value};
-use std::alloc::{AllocError, Global};
+use crate::draft::{put_integer, put_natural, put_text};
+use json::Writer;
+use std::alloc::AllocError;
 use vms_kinds::Kind;
 
 fn kind_word(kind: Kind) -> &'static str
@@ -27,55 +27,59 @@ fn kind_word(kind: Kind) -> &'static str
     }
 }
 
-// What stands in the stream: its path, size and type.
-fn sent_members(alloc: Global, path: String, size: u64, word: &str) -> Result<Members, AllocError>
-    ensures { let members = sent_members (string_bytes path) size word.now in
-        IfOk result (λ m. members_view m.entries ≡ members) }
+// The members of each entry: its path, size and type.
+fn put_members(json: &mut Writer, path: &str, size: u64, word: &str) -> Result<(), AllocError>
+    ensures { OnOk result (PutsSent json.old json.new path.now size word.now) }
 {
-    let mut members = Map::new(alloc);
-    put(alloc, &mut members, "name", Value::String(path))?;
-    put(alloc, &mut members, "size", natural_value(size))?;
-    put(alloc, &mut members, "type", text_value(alloc, word)?)?;
-    Ok(members)
+    put_text(json, "name", path)?;
+    put_natural(json, "size", size)?;
+    put_text(json, "type", word)?;
+    Ok(())
 }
 
-pub(crate) fn sent_value(
-    alloc: Global,
-    path: String,
+// What stands in the stream.
+pub(crate) fn write_sent(
+    json: &mut Writer,
+    path: &str,
     size: u64,
     word: &str,
-) -> Result<Value, AllocError>
-    ensures { let entry = sent_entry (string_bytes path) size word.now in
-        IfOk result (λ v. view v ≡ entry_tree entry) }
+) -> Result<(), AllocError>
+    ensures { let entry = sent_entry path.now size word.now in
+        OnOk result (Gives json.old json.new (entry_tree entry)) }
 {
-    Ok(Value::Object(sent_members(alloc, path, size, word)?))
+    json.begin_object()?;
+    put_members(json, path, size, word)?;
+    json.end_object()?;
+    Ok(())
 }
 
-fn absent_value(alloc: Global, path: String, word: &str, default: i128) -> Result<Value, AllocError>
+fn write_absent(json: &mut Writer, path: &str, word: &str, default: i128) -> Result<(), AllocError>
     requires { IsWide default }
-    ensures { let entry = absent_entry (string_bytes path) word.now default in
-        IfOk result (λ v. view v ≡ entry_tree entry) }
+    ensures { let entry = absent_entry path.now word.now default in
+        OnOk result (Gives json.old json.new (entry_tree entry)) }
 {
-    let mut members = sent_members(alloc, path, 0, word)?;
-    put(alloc, &mut members, "value", integer_value(default))?;
-    Ok(Value::Object(members))
+    json.begin_object()?;
+    put_members(json, path, 0, word)?;
+    put_integer(json, "value", default)?;
+    json.end_object()?;
+    Ok(())
 }
 
 // A cell, which stands in the stream or doesn't and then holds its default.
-pub(crate) fn cell_value(
-    alloc: Global,
-    path: String,
+pub(crate) fn write_cell(
+    json: &mut Writer,
+    path: &str,
     sent: bool,
     kind: Kind,
     default: i128,
-) -> Result<Value, AllocError>
+) -> Result<(), AllocError>
     requires { IsWide default }
-    ensures { let entry = cell_entry sent (string_bytes path) kind default in
-        IfOk result (λ v. view v ≡ entry_tree entry) }
+    ensures { let entry = cell_entry sent path.now kind default in
+        OnOk result (Gives json.old json.new (entry_tree entry)) }
 {
     if sent {
-        sent_value(alloc, path, kind.width() as u64, kind_word(kind))
+        write_sent(json, path, kind.width() as u64, kind_word(kind))
     } else {
-        absent_value(alloc, path, kind_word(kind), default)
+        write_absent(json, path, kind_word(kind), default)
     }
 }

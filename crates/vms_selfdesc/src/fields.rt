@@ -1,35 +1,34 @@
 // The entries of the fields of a part, arrays and structures expanded.
-ghost use Rattle.std.specs.Prelude.{◌≡◌, ◌<◌, ◌≤◌, ◌+◌, ◌*◌, ◌++◌, length, IfOk, OnOk, string_bytes, decimal};
+ghost use Rattle.std.specs.Prelude.{◌≡◌, ◌<◌, ◌≤◌, ◌+◌, ◌*◌, [], ◌∷◌, length, take, OnOk, string_bytes};
+ghost use Rattle.std.specs.Str.{IsUtf8};
 ghost use Rattle.vms_spec.specs.Layout.{capacity_of, item_size, struct_cells};
 ghost use Rattle.vms_parts.specs.Views.{field_of};
 ghost use Rattle.vms_desc.specs.Asks.{field_at};
 ghost use Rattle.vms_desc.specs.Parts.{desc_at};
-ghost use Rattle.vms_selfdesc.specs.Entries.{element_path, listed_if, sent_entry};
-ghost use Rattle.vms_selfdesc.specs.Listing.{Adds, is_field_sent, set_in, numbers_in};
+ghost use Rattle.vms_selfdesc.specs.Entries.{cell_entry, element_path, listed_if, sent_entry};
+ghost use Rattle.vms_selfdesc.specs.Listing.{Lists, is_field_sent, set_in, numbers_in};
 ghost use Rattle.vms_selfdesc.specs.Listing.{IsPlace, AreElements};
-ghost use Rattle.vms_selfdesc.specs.Listing.{item_at, elements_at, field_within, part_at};
+ghost use Rattle.vms_selfdesc.specs.Needs.{IsWide};
+ghost use Rattle.vms_selfdesc.specs.Listing.{item_at, elements_at, run_at, field_within, part_at};
 
-use crate::built::push;
-use crate::entry::{cell_value, sent_value};
-use serde_json::Value;
-use std::alloc::{AllocError, Global};
+use crate::draft::Draft;
+use crate::entry::{write_cell, write_sent};
+use std::alloc::AllocError;
 use vms_desc::{Count, DescSet, Field, Part};
 use vms_image::Image;
-use vms_kinds::Item;
+use vms_kinds::{Item, Kind};
 
 // What the fields are gone over with.
 #[derive(Clone, Copy)]
 pub(crate) struct Lister<'a> {
-    pub(crate) alloc: Global,
     pub(crate) set: &'a DescSet,
     pub(crate) image: &'a Image,
 }
 
-// Where a part or an element stands: whether in the stream, its path, and its first cell.
-#[derive(Drop)]
+// Where a part or an element stands: whether in the stream, and its first cell.
+#[derive(Clone, Copy)]
 pub(crate) struct Place {
     pub(crate) sent: bool,
-    pub(crate) path: String,
     pub(crate) cell: u32,
 }
 
@@ -40,18 +39,20 @@ struct At {
     cell: u32,
 }
 
-// The path of a field.
-fn field_path(alloc: Global, path: &str, name: &str) -> Result<String, AllocError>
-    ensures { IfOk result (λ s. string_bytes s ≡ path.now ++ name.now) }
+// Goes on to the element of an array that has this number.
+fn enter_element(path: &mut String, number: u32) -> Result<(), AllocError>
+    ensures { OnOk result (string_bytes path.new ≡ element_path (string_bytes path.old) number) }
 {
-    format!(in alloc; "{path}{name}")
+    write!(path, "[{number}]")
 }
 
-// The path of the element of an array that has this number.
-fn element_path(alloc: Global, path: &str, number: u32) -> Result<String, AllocError>
-    ensures { IfOk result (λ s. string_bytes s ≡ element_path path.now number) }
+// Goes back to the first bytes of a path.
+fn leave(path: &mut String, kept: usize)
+    requires within { kept ≤ length (string_bytes path.old) }
+    requires text { IsUtf8 (take kept (string_bytes path.old)) }
+    ensures { string_bytes path.new ≡ take kept (string_bytes path.old) }
 {
-    format!(in alloc; "{path}[{number}]")
+    path.truncate(kept);
 }
 
 // One element of a field.
@@ -59,45 +60,46 @@ fn element_path(alloc: Global, path: &str, number: u32) -> Result<String, AllocE
 fn list_item(
     lister: &Lister,
     field: &Field,
-    mut place: Place,
-    list: &mut Vec<Value>,
+    place: Place,
+    draft: &mut Draft,
 ) -> Result<(), AllocError>
     requires { AreElements lister.now (field_of field.now) place.cell 1 }
-    ensures { let entries = item_at lister.now (field_of field.now) place in
-        OnOk result (Adds list.old.items list.new.items entries) }
+    ensures { let entries = item_at lister.now (field_of field.now) place draft.old in
+        OnOk result (Lists draft.old draft.new entries) }
 {
     match field.item {
-        Item::Num(kind) => {
-            let entry = cell_value(lister.alloc, place.path, place.sent, kind, field.default)?;
-            push(list, entry)
-        }
-        Item::Equal { kind, .. } => {
-            list_sent(lister.alloc, place, kind.width() as u64, "equal", list)
-        }
-        Item::Unused { bytes } => list_sent(lister.alloc, place, bytes as u64, "unused", list),
+        Item::Num(kind) => list_cell(place.sent, kind, field.default, draft),
+        Item::Equal { kind, .. } => list_sent(place.sent, kind.width() as u64, "equal", draft),
+        Item::Unused { bytes } => list_sent(place.sent, bytes as u64, "unused", draft),
         Item::Struct(number) => {
-            place.path.push_str(".")?;
-            list_part(lister, Part::Struct(number), place, list)
+            let kept = draft.path.len();
+            draft.path.push_str(".")?;
+            list_part(lister, Part::Struct(number), place, draft)?;
+            leave(&mut draft.path, kept);
+            Ok(())
         }
     }
 }
 
-// What has no cell, where it stands in the stream.
-fn list_sent(
-    alloc: Global,
-    place: Place,
-    size: u64,
-    word: &str,
-    list: &mut Vec<Value>,
-) -> Result<(), AllocError>
-    ensures { let entry = sent_entry (string_bytes place.path) size word.now in
-        OnOk result (Adds list.old.items list.new.items (listed_if place.sent entry)) }
+// A cell, whether or not it stands in the stream.
+fn list_cell(sent: bool, kind: Kind, default: i128, draft: &mut Draft) -> Result<(), AllocError>
+    requires { IsWide default }
+    ensures { let entry = cell_entry sent (string_bytes draft.old.path) kind default in
+        OnOk result (Lists draft.old draft.new (entry ∷ [])) }
 {
-    if place.sent {
-        push(list, sent_value(alloc, place.path, size, word)?)
-    } else {
-        Ok(())
+    write_cell(&mut draft.json, draft.path.as_str(), sent, kind, default)?;
+    Ok(())
+}
+
+// What has no cell, where it stands in the stream.
+fn list_sent(sent: bool, size: u64, word: &str, draft: &mut Draft) -> Result<(), AllocError>
+    ensures { let entry = sent_entry (string_bytes draft.old.path) size word.now in
+        OnOk result (Lists draft.old draft.new (listed_if sent entry)) }
+{
+    if sent {
+        write_sent(&mut draft.json, draft.path.as_str(), size, word)?;
     }
+    Ok(())
 }
 
 // Elements one after the other, as many as are printed.
@@ -107,33 +109,31 @@ fn list_elements(
     field: &Field,
     place: Place,
     count: u32,
-    list: &mut Vec<Value>,
+    draft: &mut Draft,
 ) -> Result<(), AllocError>
     requires { AreElements lister.now (field_of field.now) place.cell count }
-    ensures { let entries = elements_at lister.now (field_of field.now) place count in
-        OnOk result (Adds list.old.items list.new.items entries) }
+    ensures { let entries = elements_at lister.now (field_of field.now) place count draft.old in
+        OnOk result (Lists draft.old draft.new entries) }
 {
     let size = lister.set.item_cells(field.item);
+    let kept = draft.path.len();
     let mut cell = place.cell;
     for number in 0..count {
-        let element = Place {
-            sent: place.sent,
-            path: element_path(lister.alloc, place.path.as_str(), number)?,
-            cell,
-        };
-        list_item(lister, field, element, list)?;
+        enter_element(&mut draft.path, number)?;
+        list_item(lister, field, Place { cell, ..place }, draft)?;
+        leave(&mut draft.path, kept);
         cell += size;
     }
     Ok(())
 }
 
 // Whether a field of a part stands in the stream.
-fn is_sent(lister: &Lister, part: Part, within: &Place, field: u32) -> bool
-    requires place { IsPlace lister.now part within.now.cell }
+fn is_sent(lister: &Lister, part: Part, within: Place, field: u32) -> bool
+    requires place { IsPlace lister.now part within.cell }
     requires field { field < length (desc_at (set_in lister.now) part).fields }
     ensures { let set = set_in lister.now in
         let numbers = numbers_in lister.now in
-        result ≡ is_field_sent set part within.now.cell field within.now.sent numbers }
+        result ≡ is_field_sent set part within.cell field within.sent numbers }
 {
     let version = lister.set.desc(part).version;
     within.sent
@@ -147,32 +147,51 @@ fn is_sent(lister: &Lister, part: Part, within: &Place, field: u32) -> bool
 fn list_field(
     lister: &Lister,
     part: Part,
-    within: &Place,
+    within: Place,
     at: At,
-    list: &mut Vec<Value>,
+    draft: &mut Draft,
 ) -> Result<(), AllocError>
-    requires place { IsPlace lister.now part within.now.cell }
+    requires place { IsPlace lister.now part within.cell }
     requires field { at.field < length (desc_at (set_in lister.now) part).fields }
     requires room { let set = set_in lister.now in
         let f = field_at set part at.field in
         let cells = capacity_of f.count * item_size (struct_cells set) f.item in
         at.cell + cells ≤ length (numbers_in lister.now) }
-    ensures { let entries = field_within lister.now part within.now at in
-        OnOk result (Adds list.old.items list.new.items entries) }
+    ensures { let entries = field_within lister.now part within at draft.old in
+        OnOk result (Lists draft.old draft.new entries) }
 {
     let set = lister.set;
     let field = &set.desc(part).fields.as_slice()[at.field as usize];
+    let sent = is_sent(lister, part, within, at.field);
+    let count = set.elements(part, within.cell, at.field, lister.image);
+    let kept = draft.path.len();
+    draft.path.push_str(field.name.as_str())?;
     let place = Place {
-        sent: is_sent(lister, part, within, at.field),
-        path: field_path(lister.alloc, within.path.as_str(), field.name.as_str())?,
+        sent,
         cell: at.cell,
     };
+    list_run(lister, field, place, count, draft)?;
+    leave(&mut draft.path, kept);
+    Ok(())
+}
+
+// The elements of a field under its path, of which an array has so many.
+#[cycle(list)]
+fn list_run(
+    lister: &Lister,
+    field: &Field,
+    place: Place,
+    count: u32,
+    draft: &mut Draft,
+) -> Result<(), AllocError>
+    requires one { AreElements lister.now (field_of field.now) place.cell 1 }
+    requires all { AreElements lister.now (field_of field.now) place.cell count }
+    ensures { let entries = run_at lister.now (field_of field.now) place count draft.old in
+        OnOk result (Lists draft.old draft.new entries) }
+{
     match field.count {
-        Count::One => list_item(lister, field, place, list),
-        _ => {
-            let count = set.elements(part, within.cell, at.field, lister.image);
-            list_elements(lister, field, place, count, list)
-        }
+        Count::One => list_item(lister, field, place, draft),
+        _ => list_elements(lister, field, place, count, draft),
     }
 }
 
@@ -182,15 +201,15 @@ pub(crate) fn list_part(
     lister: &Lister,
     part: Part,
     place: Place,
-    list: &mut Vec<Value>,
+    draft: &mut Draft,
 ) -> Result<(), AllocError>
     requires { IsPlace lister.now part place.cell }
-    ensures { let entries = part_at lister.now part place in
-        OnOk result (Adds list.old.items list.new.items entries) }
+    ensures { let entries = part_at lister.now part place draft.old in
+        OnOk result (Lists draft.old draft.new entries) }
 {
     let mut cell = place.cell;
     for field in 0..lister.set.field_count(part) {
-        list_field(lister, part, &place, At { field, cell }, list)?;
+        list_field(lister, part, place, At { field, cell }, draft)?;
         cell += lister.set.field_cells(part, field);
     }
     Ok(())

@@ -1,8 +1,8 @@
 //! Self-descriptions: what a stream has, as JSON that is read without its set.
 #![tactic(auto)]
 
-mod built;
 mod devices;
+mod draft;
 mod entry;
 mod fields;
 mod laws;

@@ -1,16 +1,16 @@
 // The self-description of a set's images.
-ghost use Rattle.std.specs.Prelude.{◌≡◌, ◌<◌, Some, map, length, IfOk, string_bytes};
+ghost use Rattle.std.specs.Prelude.{◌≡◌, ◌<◌, ◌∷◌, [], Some, map, length, IfOk, OnOk, string_bytes};
 ghost use Rattle.serde_json.specs.Read.{read};
-ghost use Rattle.serde_json.specs.View.{view};
 ghost use Rattle.vms_spec.specs.Streams.{AreReady, longest_text};
 ghost use Rattle.vms_desc.specs.Described.{described};
 ghost use Rattle.vms_image.specs.Typed.{state_of};
+ghost use Rattle.vms_selfdesc.specs.Drafts.{Adds};
 ghost use Rattle.vms_selfdesc.specs.Tree.{device_trees, described_tree, described_text};
 
-use crate::built::{push, put};
-use crate::devices::device_value;
+use crate::devices::write_device;
+use crate::draft::Draft;
 use crate::fields::Lister;
-use serde_json::{Map, Value};
+use json::Writer;
 use std::alloc::{AllocError, Global};
 use vms_desc::DescSet;
 use vms_image::Image;
@@ -28,31 +28,42 @@ pub fn describe(alloc: Global, set: &DescSet, images: &[Image]) -> Result<String
         IfOk result (λ s. read (string_bytes s) ≡ Some tree) }
     ensures short { IfOk result (λ s. length (string_bytes s) < longest_text) }
 {
-    let value = described_value(alloc, set, images)?;
-    Ok(value.to_string(alloc)?)
+    let mut draft = Draft {
+        json: Writer::new(Vec::new(alloc)),
+        path: String::new(alloc),
+    };
+    write_tree(set, images, &mut draft)?;
+    let Draft { json, .. } = draft;
+    match String::from_utf8(json.into_inner()) {
+        Ok(text) => Ok(text),
+        Err(_) => unreachable!(),
+    }
 }
 
-fn described_value(alloc: Global, set: &DescSet, images: &[Image]) -> Result<Value, AllocError>
-    requires { AreReady (described set.now) (map state_of images.now) }
-    ensures { IfOk result (λ v. view v ≡ described_tree (described set.now) (map state_of images.now)) }
+fn write_tree(set: &DescSet, images: &[Image], draft: &mut Draft) -> Result<(), AllocError>
+    requires ready { AreReady (described set.now) (map state_of images.now) }
+    requires no_path { string_bytes draft.old.path ≡ [] }
+    ensures { let tree = described_tree (described set.now) (map state_of images.now) in
+        OnOk result (Adds draft.old draft.new (tree ∷ [])) }
 {
-    let devices = device_values(alloc, set, images)?;
-    let mut members = Map::new(alloc);
-    put(alloc, &mut members, "devices", Value::Array(devices))?;
-    Ok(Value::Object(members))
+    draft.json.begin_object()?;
+    draft.json.key("devices")?;
+    draft.json.begin_array()?;
+    write_devices(set, images, draft)?;
+    draft.json.end_array()?;
+    draft.json.end_object()?;
+    Ok(())
 }
 
-fn device_values(alloc: Global, set: &DescSet, images: &[Image]) -> Result<Vec<Value>, AllocError>
-    requires { AreReady (described set.now) (map state_of images.now) }
+fn write_devices(set: &DescSet, images: &[Image], draft: &mut Draft) -> Result<(), AllocError>
+    requires ready { AreReady (described set.now) (map state_of images.now) }
+    requires no_path { string_bytes draft.old.path ≡ [] }
     ensures { let states = map state_of images.now in
         let trees = device_trees (described set.now) (described set.now).devices states in
-        IfOk result (λ list. map view list.items ≡ trees) }
+        OnOk result (Adds draft.old draft.new trees) }
 {
-    let mut list = Vec::new(alloc);
     for (device, image) in images.iter().enumerate() {
-        let lister = Lister { alloc, set, image };
-        let value = device_value(&lister, device as u32)?;
-        push(&mut list, value)?;
+        write_device(&Lister { set, image }, device as u32, draft)?;
     }
-    Ok(list)
+    Ok(())
 }

@@ -1,4 +1,5 @@
-use Rattle.std.proofs.Common.{rules, arith, sym, ap, ◌∙◌, subst, ◌≡◌, ℕ, ◌+◌, ◌*◌, ◌-◌, ◌<◌, List, ◌++◌, length, map, drop, OnOk, string_bytes}
+use Rattle.std.proofs.Common.{rules, arith, sym, ap, ◌∙◌, subst, ◌≡◌, ℕ, ◌+◌, ◌*◌, ◌-◌, ◌<◌, List, ◌++◌, length, map, drop, codes, OnOk, string_bytes, decimal}
+use Rattle.vms_spec.specs.declared.Count.{Count}
 use Rattle.vms_spec.specs.Sets.{Desc}
 use Rattle.vms_spec.specs.Layout.{item_size, struct_cells, capacity_of}
 use Rattle.vms_spec.proofs.Sizes.{elements_fit}
@@ -7,10 +8,12 @@ use Rattle.vms_desc.specs.Asks.{field_at, own_numbers}
 use Rattle.vms_desc.specs.Described.{described}
 use Rattle.vms_desc.specs.Parts.{desc_at}
 use Rattle.vms_desc.proofs.AskLaws.{found_field}
-use Rattle.vms_selfdesc.specs.Entries.{Entry, listers, element_path, element_entries, entries_from}
-use Rattle.vms_selfdesc.specs.Listing.{Adds, item_list, elements_list, field_list, part_list}
-use Rattle.vms_selfdesc.proofs.Listed.{leaves_rest, elements_next, next_element, fields_next, field_room}
-use Rattle.vms_selfdesc.proofs.FieldNeeds.{field_needs, some_elements, field_many, struct_place, struct_lower, struct_list, width_code}
+use Rattle.vms_selfdesc.specs.Entries.{Entry, listers, element_path, element_entries, array_entries, entries_from}
+use Rattle.vms_selfdesc.specs.Listing.{Lists, item_list, elements_list, field_list, part_list}
+use Rattle.vms_selfdesc.proofs.Listed.{leaves_rest, leave_path, elements_next, next_element, fields_next, field_room}
+use Rattle.vms_selfdesc.proofs.FieldNeeds.{field_needs, some_elements, array_many, field_run, struct_place, struct_lower, struct_list, width_code}
+use Rattle.vms_selfdesc.specs.declared.draft.Draft.{Draft}
+use Rattle.vms_selfdesc.proofs.Paths.{path_long, enters}
 use Rattle.vms_selfdesc.proofs.fields.+list.Goals as goal
 
 -- ---- one element
@@ -25,63 +28,87 @@ list_item-list_part-requires t c =
     let place = struct_place set well item j c.in-Struct.is c.requires.reaches c.args.lister.now.image.now.numbers c.args.place.cell c.requires.few c.requires.room in
     (search rules, place)
 
-pub list_item-returns-in_ok-push_str-in-Struct : goal.list_item-returns-in_ok-push_str-in-Struct
-list_item-returns-in_ok-push_str-in-Struct t c =
+pub list_item-leave-requires-clause-text : goal.list_item-leave-requires-clause-text
+list_item-leave-requires-clause-text t c =
+    (enters c.args.draft.now.path c.list_part.new.draft.path c.len-kept.result (codes ".") (c.len-kept.ensures ∙ path_long c.args.draft.now.path)
+    (c.in_ok-list_part-in-Struct.ensures.path ∙ c.in_ok-push_str-in-Struct.ensures.bytes)).text
+
+pub list_item-returns-in_ok-list_part-in-Struct : goal.list_item-returns-in_ok-list_part-in-Struct
+list_item-returns-in_ok-list_part-in-Struct t c =
     let set = described c.args.lister.now.set.now in
     let well = c.args.lister.now.set.now.well_formed in
     let item = c.args.field.now.item in
     let j = c.in-Struct.number in
     let n = c.args.lister.now.image.now.numbers in
-    let same = struct_list set well item j c.in-Struct.is c.requires.reaches c.args.field.now.default c.args.place.sent (string_bytes c.args.place.path) (string_bytes c.push_str.new.self) n c.args.place.cell c.in_ok-push_str-in-Struct.ensures.bytes in
-    subst (λ (l : List Entry). OnOk c.list_part.result (Adds c.args.list.now.items c.list_part.new.list.items l)) same c.list_part.ensures
+    let draft = c.args.draft.now in
+    let same = struct_list set well item j c.in-Struct.is c.requires.reaches c.args.field.now.default c.args.place.sent (string_bytes draft.path) (string_bytes c.push_str.new.self) n c.args.place.cell
+    c.in_ok-push_str-in-Struct.ensures.bytes in
+    let entered = enters draft.path c.list_part.new.draft.path c.len-kept.result (codes ".") (c.len-kept.ensures ∙ path_long c.args.draft.now.path)
+    (c.in_ok-list_part-in-Struct.ensures.path ∙ c.in_ok-push_str-in-Struct.ensures.bytes) in
+    subst (λ (l : List Entry). Lists draft (record { json = c.list_part.new.draft.json; path = c.leave.new.path }) l) same
+    (leave_path draft c.push_str.new.self c.leave.new.path c.list_part.new.draft _ c.in_ok-list_part-in-Struct.ensures (c.leave.ensures ∙ entered.back))
 
 -- ---- elements
+
+pub list_elements-leave-requires-clause-text : goal.list_elements-leave-requires-clause-text
+list_elements-leave-requires-clause-text t c =
+    let now = c.loop-number.draft.path in
+    let kept = c.len-kept.ensures ∙ path_long c.args.draft.now.path ∙ ap length (sym c.loop-number.invariant.lists.lists.path) in
+    (enters now c.list_item.new.draft.path c.len-kept.result (codes "[" ++ (decimal c.loop-number.number ++ codes "]")) kept (c.in_ok-list_item.ensures.path ∙ c.in_ok-enter_element.ensures)).text
 
 pub list_elements-loop-number-preserved : goal.list_elements-loop-number-preserved
 list_elements-loop-number-preserved t c =
     let set = described c.args.lister.now.set.now in
     let f = field_of c.args.field.now in
     let n = c.args.lister.now.image.now.numbers in
-    let path = string_bytes c.args.place.path in
+    let path = string_bytes c.args.draft.now.path in
     let size = item_size (struct_cells set) f.item in
     let one = item_list set f c.args.place.sent n in
     let i = c.loop-number.number in
+    let now = c.loop-number.draft in
     let inv = c.loop-number.invariant in
     let width : c.item_cells-size.result ≡ size = omega (arith, c.item_cells-size.ensures, c.requires.small) in
     let moved : c.loop-number.cell + c.item_cells-size.result ≡ c.loop-number.cell + size = omega (arith, width) in
+    let kept = c.len-kept.ensures ∙ path_long c.args.draft.now.path ∙ ap length (sym inv.lists.lists.path) in
+    let entered = enters now.path c.list_item.new.draft.path c.len-kept.result (codes "[" ++ (decimal i ++ codes "]")) kept (c.in_ok-list_item.ensures.path ∙ c.in_ok-enter_element.ensures) in
+    let new : Draft = record { json = c.list_item.new.draft.json; path = c.leave.new.path } in
+    let listed = leave_path now c.enter_element.new.path c.leave.new.path c.list_item.new.draft _ c.in_ok-list_item.ensures (c.leave.ensures ∙ entered.back) in
     record {
-      adds = leaves_rest c.args.list.now.items c.loop-number.list.items c.list_item.new.list.items
+      lists = leaves_rest c.args.draft.now now new
           (elements_list set f c.args.place.sent n path c.args.place.cell c.args.count)
           (element_entries one path c.loop-number.cell size i (c.args.count - i))
           (one (element_path path i) c.loop-number.cell)
           (element_entries one path (c.loop-number.cell + c.item_cells-size.result) size (i + 1) (c.args.count - (i + 1)))
           (elements_next one path c.loop-number.cell size i c.args.count c.loop-number-test.true
           ∙ ap (λ (x : ℕ). one (element_path path i) c.loop-number.cell ++ element_entries one path x size (i + 1) (c.args.count - (i + 1))) (sym moved))
-          inv.adds
-          (subst (λ (p : List ℕ). Adds c.loop-number.list.items c.list_item.new.list.items (one p c.loop-number.cell))
-          (c.in_ok-element_path.ensures ∙ ap (λ (p : List ℕ). element_path p i) c.as_str.ensures.value) c.in_ok-list_item.ensures);
+          inv.lists
+          (subst (λ (p : List ℕ). Lists now new (one p c.loop-number.cell))
+          (c.in_ok-enter_element.ensures ∙ ap (λ (p : List ℕ). element_path p i) inv.lists.lists.path) listed);
       here = moved ∙ next_element size c.args.place.cell i c.loop-number.cell inv.here;
     }
 
 -- ---- one field
 
-pub list_field-list_item-requires : goal.list_field-list_item-requires
-list_field-list_item-requires t c =
+pub list_run-returns-in-One : goal.list_run-returns-in-One
+list_run-returns-in-One t c =
     let set = described c.args.lister.now.set.now in
-    let well = c.args.lister.now.set.now.well_formed in
-    let part = c.args.part in
-    let k = c.args.at.field in
-    let f = c.index-as_slice-at.result in
+    let f = field_of c.args.field.now in
     let n = c.args.lister.now.image.now.numbers in
-    let fields = ap (map field_of) c.as_slice.ensures ∙ ap (λ (d : Desc). d.fields) c.desc.ensures in
-    let is : field_of f ≡ field_at set part k = found_field c.as_slice.result.now (desc_at set part).fields k f fields c.requires.field c.index-as_slice-at.is in
-    let needs = field_needs set well part c.args.within.now.cell n c.requires.place k c.args.at.cell 1 (field_of f) c.requires.field is
-    (some_elements set well part c.args.within.now.cell n c.requires.place k c.requires.field) c.requires.room in
-    let lower = needs.lower in
-    (search rules, needs.elements)
+    let draft = c.args.draft.now in
+    subst (λ (k : Count). OnOk c.list_item.result (Lists draft c.list_item.new.draft
+    (array_entries (item_list set f c.args.place.sent n) k c.args.count (string_bytes draft.path) c.args.place.cell (item_size (struct_cells set) f.item)))) (sym c.in-One.is) c.list_item.ensures
 
-pub list_field-list_elements-requires : goal.list_field-list_elements-requires
-list_field-list_elements-requires t c =
+pub list_run-returns-in_default : goal.list_run-returns-in_default
+list_run-returns-in_default t c =
+    let set = described c.args.lister.now.set.now in
+    let f = field_of c.args.field.now in
+    let n = c.args.lister.now.image.now.numbers in
+    let draft = c.args.draft.now in
+    subst (λ (l : List Entry). OnOk c.list_elements.result (Lists draft c.list_elements.new.draft l))
+    (sym (array_many (item_list set f c.args.place.sent n) f.count c.args.count (string_bytes draft.path) c.args.place.cell (item_size (struct_cells set) f.item) c.in_default.not-One)) c.list_elements.ensures
+
+pub list_field-list_run-requires : goal.list_field-list_run-requires
+list_field-list_run-requires t c =
     let set = described c.args.lister.now.set.now in
     let well = c.args.lister.now.set.now.well_formed in
     let part = c.args.part in
@@ -90,26 +117,35 @@ list_field-list_elements-requires t c =
     let n = c.args.lister.now.image.now.numbers in
     let fields = ap (map field_of) c.as_slice.ensures ∙ ap (λ (d : Desc). d.fields) c.desc.ensures in
     let is : field_of f ≡ field_at set part k = found_field c.as_slice.result.now (desc_at set part).fields k f fields c.requires.field c.index-as_slice-at.is in
-    let fewer = elements_fit (field_at set part k).count (own_numbers set part n c.args.within.now.cell) in
-    let needs = field_needs set well part c.args.within.now.cell n c.requires.place k c.args.at.cell c.elements-count.result (field_of f) c.requires.field is
+    let needs = field_needs set well part c.args.within.cell n c.requires.place k c.args.at.cell 1 (field_of f) c.requires.field is
+    (some_elements set well part c.args.within.cell n c.requires.place k c.requires.field) c.requires.room in
+    let fewer = elements_fit (field_at set part k).count (own_numbers set part n c.args.within.cell) in
+    let all = field_needs set well part c.args.within.cell n c.requires.place k c.args.at.cell c.elements-count.result (field_of f) c.requires.field is
     (omega (arith, fewer, c.elements-count.ensures)) c.requires.room in
     let lower = needs.lower in
-    (search rules, needs.elements)
+    (search rules, (needs.elements, all.elements))
 
-pub list_field-returns-in_default : goal.list_field-returns-in_default
-list_field-returns-in_default t c =
+pub list_field-leave-requires-clause-text : goal.list_field-leave-requires-clause-text
+list_field-leave-requires-clause-text t c =
+    (enters c.args.draft.now.path c.list_run.new.draft.path c.len-kept.result c.as_str.result.now (c.len-kept.ensures ∙ path_long c.args.draft.now.path)
+    (c.in_ok-list_run.ensures.path ∙ c.in_ok-push_str.ensures.bytes)).text
+
+pub list_field-returns : goal.list_field-returns
+list_field-returns t c =
     let set = described c.args.lister.now.set.now in
     let part = c.args.part in
     let k = c.args.at.field in
     let f = c.index-as_slice-at.result in
     let n = c.args.lister.now.image.now.numbers in
+    let draft = c.args.draft.now in
     let fields = ap (map field_of) c.as_slice.ensures ∙ ap (λ (d : Desc). d.fields) c.desc.ensures in
     let is : field_of f ≡ field_at set part k = found_field c.as_slice.result.now (desc_at set part).fields k f fields c.requires.field c.index-as_slice-at.is in
-    let same = field_many set part c.args.within.now.cell k c.args.within.now.sent n (string_bytes c.args.within.now.path) c.args.at.cell (field_of f) c.is_sent.result
-    (string_bytes c.in_ok-field_path.field-0) c.elements-count.result is c.is_sent.ensures
-    (c.in_ok-field_path.ensures ∙ ap (λ (p : List ℕ). p ++ c.as_str-2.result.now) c.as_str.ensures.value ∙ ap (λ (name : List ℕ). string_bytes c.args.within.now.path ++ name) c.as_str-2.ensures)
-    c.elements-count.ensures c.in_default.not-One in
-    subst (λ (l : List Entry). OnOk c.list_elements.result (Adds c.args.list.now.items c.list_elements.new.list.items l)) same c.list_elements.ensures
+    let same = field_run set part c.args.within.cell k c.args.within.sent n (string_bytes draft.path) c.args.at.cell (field_of f) c.is_sent-sent.result
+    (string_bytes c.push_str.new.self) c.elements-count.result is c.is_sent-sent.ensures
+    (c.in_ok-push_str.ensures.bytes ∙ ap (λ (name : List ℕ). string_bytes draft.path ++ name) c.as_str.ensures) c.elements-count.ensures in
+    let entered = enters draft.path c.list_run.new.draft.path c.len-kept.result c.as_str.result.now (c.len-kept.ensures ∙ path_long c.args.draft.now.path) (c.in_ok-list_run.ensures.path ∙ c.in_ok-push_str.ensures.bytes) in
+    subst (λ (l : List Entry). Lists draft (record { json = c.list_run.new.draft.json; path = c.leave.new.path }) l) same
+    (leave_path draft c.push_str.new.self c.leave.new.path c.list_run.new.draft _ c.in_ok-list_run.ensures (c.leave.ensures ∙ entered.back))
 
 -- ---- the fields of a part
 
@@ -144,23 +180,25 @@ list_part-loop-field-preserved t c =
     let d = desc_at set part in
     let k = c.loop-field.field in
     let cell = c.loop-field.cell in
-    let path = string_bytes c.args.place.path in
+    let path = string_bytes c.args.draft.now.path in
     let lt : k < length d.fields = omega (arith, c.field_count-field-end.ensures) in
     let f = field_at set part k in
     let w = capacity_of f.count * item_size (struct_cells set) f.item in
     let own = own_numbers set part n c.args.place.cell in
-    let room = field_room (struct_cells set) d.fields k cell (length n) lt c.loop-field.invariant.room in
+    let inv = c.loop-field.invariant in
+    let room = field_room (struct_cells set) d.fields k cell (length n) lt inv.room in
     let width = width_code c.field_cells-cell.result w cell (length n) c.field_cells-cell.ensures room.here c.requires.few in
     let moved : cell + c.field_cells-cell.result ≡ cell + w = omega (arith, width) in
     let left = λ (x : ℕ). entries_from (struct_cells set) (listers set) d.version own c.args.place.sent path n x (drop (k + 1) d.fields) in
     record {
-      adds = leaves_rest c.args.list.now.items c.loop-field.list.items c.list_field.new.list.items
+      lists = leaves_rest c.args.draft.now c.loop-field.draft c.list_field.new.draft
           (part_list set part c.args.place.sent n path c.args.place.cell)
           (entries_from (struct_cells set) (listers set) d.version own c.args.place.sent path n cell (drop k d.fields))
           (field_list set part c.args.place.cell k c.args.place.sent n path cell)
           (left (cell + c.field_cells-cell.result))
           (fields_next (struct_cells set) (listers set) d.version own c.args.place.sent path n cell k d.fields lt
           ∙ ap (λ (x : ℕ). field_list set part c.args.place.cell k c.args.place.sent n path cell ++ left x) (sym moved))
-          c.loop-field.invariant.adds c.in_ok-list_field.ensures;
+          inv.lists
+          (subst (λ (p : List ℕ). Lists c.loop-field.draft c.list_field.new.draft (field_list set part c.args.place.cell k c.args.place.sent n p cell)) inv.lists.lists.path c.in_ok-list_field.ensures);
       room = omega (arith, moved, room.later);
     }

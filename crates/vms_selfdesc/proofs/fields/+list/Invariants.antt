@@ -16,21 +16,24 @@ decreases-list_item l = item_rank l.field.now.item
 abbrev pub decreases-list_elements : goal.decreases-list_elements
 decreases-list_elements l = item_rank l.field.now.item + 1
 
+abbrev pub decreases-list_run : goal.decreases-list_run
+decreases-list_run l = item_rank l.field.now.item + 2
+
 abbrev pub decreases-list_field : goal.decreases-list_field
-decreases-list_field l = part_rank (described l.lister.now.set.now) l.part + 2
+decreases-list_field l = part_rank (described l.lister.now.set.now) l.part + 3
 
 abbrev pub decreases-list_part : goal.decreases-list_part
-decreases-list_part l = part_rank (described l.lister.now.set.now) l.part + 3
+decreases-list_part l = part_rank (described l.lister.now.set.now) l.part + 4
 
 abbrev pub invariant-list_elements-loop-number : goal.invariant-list_elements-loop-number
 invariant-list_elements-loop-number l =
     let set = described l.lister.set.now in
     let f = field_of l.field in
     let n = l.lister.image.now.numbers in
-    let path = string_bytes l.place.path in
+    let path = string_bytes l.initial.draft.path in
     let size = item_size (struct_cells set) f.item in
     record {
-      adds : Leaves l.initial.list.items l.list.items (elements_list set f l.place.sent n path l.place.cell l.count)
+      lists : Leaves l.initial.draft l.draft (elements_list set f l.place.sent n path l.place.cell l.count)
           (element_entries (item_list set f l.place.sent n) path l.cell size l.number (l.count - l.number));
       here : l.cell ≡ l.place.cell + l.number * size;
     }
@@ -39,10 +42,10 @@ abbrev pub invariant-list_part-loop-field : goal.invariant-list_part-loop-field
 invariant-list_part-loop-field l =
     let set = described l.lister.set.now in
     let n = l.lister.image.now.numbers in
-    let path = string_bytes l.place.path in
+    let path = string_bytes l.initial.draft.path in
     let d = desc_at set l.part in
     record {
-      adds : Leaves l.initial.list.items l.list.items (part_list set l.part l.place.sent n path l.place.cell)
+      lists : Leaves l.initial.draft l.draft (part_list set l.part l.place.sent n path l.place.cell)
           (entries_from (struct_cells set) (listers set) d.version (own_numbers set l.part n l.place.cell) l.place.sent path n l.cell (drop l.field d.fields));
       room : l.cell + length (cells_from (struct_cells set) d.fields l.field (drop l.field d.fields)) ≤ length n;
     }

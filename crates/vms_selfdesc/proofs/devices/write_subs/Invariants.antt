@@ -6,12 +6,12 @@ use Rattle.vms_desc.specs.Described.{described, device_at}
 use Rattle.vms_image.specs.Typed.{state_of}
 use Rattle.vms_selfdesc.specs.Tree.{sub_trees}
 use Rattle.vms_selfdesc.proofs.Trees.{Remain}
-use Rattle.vms_selfdesc.proofs.devices.sub_values.Given as goal
+use Rattle.vms_selfdesc.proofs.devices.write_subs.Given as goal
 
 abbrev pub invariant-loop-sub : goal.invariant-loop-sub
 invariant-loop-sub l =
     let set = described l.lister.set.now in
     let d = device_at set l.device in
     let image = state_of l.lister.image.now in
-    Remain l.list.items (sub_trees set image.numbers (own_cells set d) d.subs image.came)
+    Remain l.initial.draft l.draft (sub_trees set image.numbers (own_cells set d) d.subs image.came)
     (sub_trees set image.numbers (first_cell set (parts.Sub l.device l.sub)) (drop l.sub d.subs) (drop l.sub image.came))

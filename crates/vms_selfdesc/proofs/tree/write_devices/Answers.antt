@@ -1,0 +1,47 @@
+use Rattle.std.proofs.Common.{◌+◌, ◌<◌, ◌≤◌, ◌∙◌, length, drop, map, refl, arith}
+use Rattle.vms_desc.specs.Described.{described, device_at}
+use Rattle.vms_image.specs.Typed.{state_of}
+use Rattle.vms_image.proofs.States.{states_long, state_at}
+use Rattle.vms_selfdesc.specs.Tree.{device_tree, device_trees}
+use Rattle.vms_selfdesc.proofs.ReadyDevices.{ready_device}
+use Rattle.vms_selfdesc.proofs.Trees.{remain_all, remain_rest, remain_none, devices_next, devices_end}
+use Rattle.vms_selfdesc.proofs.tree.write_devices.Goals as goal
+
+pub loop-device-init : goal.loop-device-init
+loop-device-init c = remain_all c.args.draft.now _ _ refl
+
+pub write_device-requires-clause-device : goal.write_device-requires-clause-device
+write_device-requires-clause-device c =
+    let set = described c.args.set.now in
+    let images = c.args.images.now in
+    let k = c.loop-device.device in
+    let image = c.index-images-device.result in
+    let lt : k < length (map state_of images) = omega (arith, c.loop-device-test.true, states_long images) in
+    ready_device set c.args.set.now.well_formed (map state_of images) c.requires.ready k (state_of image) lt (state_at images k image c.loop-device-test.true c.index-images-device.is)
+
+pub write_device-requires-clause-no_path : goal.write_device-requires-clause-no_path
+write_device-requires-clause-no_path c = c.loop-device.invariant.adds.path ∙ c.requires.no_path
+
+pub loop-device-preserved : goal.loop-device-preserved
+loop-device-preserved c =
+    let set = described c.args.set.now in
+    let images = c.args.images.now in
+    let states = map state_of images in
+    let k = c.loop-device.device in
+    let image = c.index-images-device.result in
+    let lt : k < length states = omega (arith, c.loop-device-test.true, states_long images) in
+    let device : k < length set.devices = omega (arith, lt, c.requires.ready.one_each) in
+    remain_rest c.args.draft.now c.loop-device.draft c.write_device.new.draft
+    (device_trees set set.devices states)
+    (device_trees set (drop k set.devices) (drop k states))
+    (device_trees set (drop (k + 1) set.devices) (drop (k + 1) states))
+    (device_tree set (device_at set k) (state_of image))
+    (devices_next set states k (state_of image) device lt (state_at images k image c.loop-device-test.true c.index-images-device.is)) c.loop-device.invariant c.in_ok-write_device.ensures
+
+pub returns : goal.returns
+returns c =
+    let set = described c.args.set.now in
+    let images = c.args.images.now in
+    let k = c.loop-device.device in
+    let past : length set.devices ≤ k = omega (arith, c.loop-device-test.false, states_long images, c.requires.ready.one_each) in
+    remain_none c.args.draft.now c.loop-device.draft _ _ (devices_end set (map state_of images) k past) c.loop-device.invariant
