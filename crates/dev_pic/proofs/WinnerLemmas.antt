@@ -1,9 +1,10 @@
 -- The searches through the priority order, one place at a time.
-use Rattle.std.proofs.Common.{◌≡◌, ℕ, ◌+◌, ◌<◌, Bool, true, false, cond, List, [], ◌∷◌, Some, None, drop, refl, arith, ◌∙◌, ap, sym, find, get_or}
+use Rattle.std.proofs.Common.{◌≡◌, ℕ, ◌+◌, ◌%◌, ◌^◌, ◌<◌, Bool, true, false, ◌==◌, cond, List, [], ◌∷◌, Some, None, drop, refl, arith, ◌∙◌, ap, sym, find, get_or}
+use Rattle.std.proofs.Math.Nat.{zero-div}
 use Rattle.std.proofs.lemmas.List.{at_drop_more}
 use Rattle.std.proofs.lemmas.List.FromFn.{get_or-map-range_with_len}
 use Rattle.dev_base.specs.Bits.{has}
-use Rattle.dev_pic.specs.Winner.{input_at, order, before, ready_among}
+use Rattle.dev_pic.specs.Winner.{input_at, order, before, ready_among, winner_of}
 
 -- the first of a list that passes q before any passes p
 find-before : (p q : ℕ → Bool) (x : ℕ) (xs : List ℕ) → find q (before p (x ∷ xs)) ≡ cond (p x) None (cond (q x) (Some x) (find q (before p xs)))
@@ -28,3 +29,17 @@ pub find-more : (lowest inputs place input : ℕ) → place < 8 → input ≡ in
 find-more lowest inputs place input within is =
     at_drop_more (find (has inputs)) (order lowest) place 0 within
     ∙ ap (λ x. cond (has inputs x) (Some x) (find (has inputs) (drop (place + 1) (order lowest)))) (at_place lowest place input within is)
+
+-- nothing is found where nothing passes
+find-none : (p : ℕ → Bool) → ((x : ℕ) → p x ≡ false) → (xs : List ℕ) → find p xs ≡ None
+find-none p none [] = refl
+find-none p none (x ∷ xs) = ap (λ (t : Bool). cond t (Some x) (find p xs)) (none x) ∙ find-none p none xs
+
+nothing_has : (input : ℕ) → has 0 input ≡ false
+nothing_has input = ap (λ (n : ℕ). (n % 2) == 1) (zero-div (2 ^ input))
+
+-- nothing is served where nothing is requested
+pub unrequested : (lowest requests served : ℕ) → requests ≡ 0 → None ≡ winner_of lowest requests served
+unfolding winner_of ready_among
+unrequested lowest requests served none =
+    sym (ap (λ (r : ℕ). winner_of lowest r served) none ∙ find-none (has 0) nothing_has (before (has served) (order lowest)))

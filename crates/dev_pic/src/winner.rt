@@ -17,6 +17,9 @@ pub(crate) fn first_ready(lowest: u8, requests: u8, served: u8) -> Option<u8>
     ensures winner { result ≡ winner_of lowest requests served }
     ensures input { IfSome result (λ winner. winner < 8) }
 {
+    if requests == 0 {
+        return None;
+    }
     for place in 0..8 {
         let input = input_at(lowest, place);
         if has(served, input) {

@@ -1,8 +1,12 @@
 use Rattle.std.proofs.Common.{arith, refl, sym, ◌∙◌}
 use Rattle.std.proofs.lemmas.Grind.{common_steps}
 use Rattle.dev_pic.specs.Winner.{winner_of, ready_among}
-use Rattle.dev_pic.proofs.WinnerLemmas.{ready_among-more}
+use Rattle.dev_pic.proofs.WinnerLemmas.{ready_among-more, unrequested}
 use Rattle.dev_pic.proofs.winner.first_ready.Goals as goal
+
+pub returns-then-requests-eq0-clause-winner : goal.returns-then-requests-eq0-clause-winner
+returns-then-requests-eq0-clause-winner c =
+    unrequested c.args.lowest c.args.requests c.args.served c.if-requests-eq0.true
 
 pub loop-place-init : goal.loop-place-init
 unfolding winner_of
