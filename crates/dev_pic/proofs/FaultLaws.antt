@@ -1,10 +1,10 @@
 -- What the pair's hooks answer of two chips' cells tells the pair, or the chip and its rule.
-use Rattle.std.proofs.Common.{◌≡◌, ℕ, ℤ, ◌<◌, ◌≤◌, Bool, List, ◌++◌, length, take, drop, Option, Some, None, Result, Ok, Err, refl, sym, ap, subst, ◌∙◌, arith}
+use Rattle.std.proofs.Common.{◌≡◌, ℕ, ℤ, ◌<◌, ◌≤◌, List, ◌++◌, take, drop, Option, Some, None, Result, Ok, Err, refl, sym, ap, subst, ◌∙◌, arith}
 use Rattle.vms_hooks.specs.Numbers.{Numbers}
 use Rattle.vms_hooks.specs.declared.fault.HookFault.{HookFault}
 use Rattle.dev_base.proofs.RuleLaws.{first_failing_is_first, hook-ok, judged-ok}
 use Rattle.dev_base.specs.Hooks.{hook_result}
-use Rattle.dev_base.specs.Rules.{first_failing, judged_by, judged, MeansFailing, IsFirstFailing}
+use Rattle.dev_base.specs.Rules.{first_failing, judged_by, MeansFailing, IsFirstFailing}
 use Rattle.dev_pic.proofs.CellLemmas.{first_part, second_part}
 use Rattle.dev_base.specs.declared.limits.TheConstants.{NEWEST}
 use Rattle.dev_pic.proofs.RestoredLaws.{made_of}

@@ -5,6 +5,7 @@ pub mod InitLaws
 pub mod LineLaws
 pub mod ModeLaws
 pub mod PairLaws
+pub mod PlaceLemmas
 pub mod RestoredLaws
 pub mod SavedLaws
 pub mod StepLaws

@@ -1,9 +1,10 @@
 -- The searches through the priority order, one place at a time.
-use Rattle.std.proofs.Common.{◌≡◌, ℕ, ◌+◌, ◌<◌, Bool, true, false, cond, List, [], ◌∷◌, Some, None, drop, refl, arith, ◌∙◌, ap, sym, find, get_or}
+use Rattle.std.proofs.Common.{◌≡◌, ℕ, zero, suc, ◌+◌, ◌<◌, ◌≤◌, Bool, true, false, cond, List, [], ◌∷◌, Some, None, drop, refl, arith, ◌∙◌, ap, sym, find, get_or, ⊎_elim}
+use Rattle.std.proofs.lemmas.Bool.{cases_lt}
 use Rattle.std.proofs.lemmas.List.{at_drop_more}
 use Rattle.std.proofs.lemmas.List.FromFn.{get_or-map-range_with_len}
 use Rattle.dev_base.specs.Bits.{has}
-use Rattle.dev_pic.specs.Winner.{input_at, order, before, ready_among}
+use Rattle.dev_pic.specs.Winner.{input_at, order, before, ready_among, winner_of, highest_of, IsFirstPlace}
 
 -- the first of a list that passes q before any passes p
 find-before : (p q : ℕ → Bool) (x : ℕ) (xs : List ℕ) → find q (before p (x ∷ xs)) ≡ cond (p x) None (cond (q x) (Some x) (find q (before p xs)))
@@ -28,3 +29,64 @@ pub find-more : (lowest inputs place input : ℕ) → place < 8 → input ≡ in
 find-more lowest inputs place input within is =
     at_drop_more (find (has inputs)) (order lowest) place 0 within
     ∙ ap (λ x. cond (has inputs x) (Some x) (find (has inputs) (drop (place + 1) (order lowest)))) (at_place lowest place input within is)
+
+module _ (lowest requests served : ℕ) where
+  -- where no place so far is requested or served, the search goes on behind them
+  below : (place : ℕ) → place ≤ 8 → ((other : ℕ) → other < place → has requests (input_at lowest other) ≡ false)
+      → ((other : ℕ) → other < place → has served (input_at lowest other) ≡ false) → ready_among requests served (drop place (order lowest)) ≡ winner_of lowest requests served
+  unfolding winner_of
+  below zero most unasked unserved = refl
+  below (suc place) most unasked unserved =
+      let next : suc place ≡ place + 1 = omega arith in
+      let passed = unserved place (omega arith) in
+      let skipped = unasked place (omega arith) in
+      ap (λ (k : ℕ). ready_among requests served (drop k (order lowest))) next
+      ∙ sym (rw (passed, skipped) at (ready_among-more lowest requests served place (input_at lowest place) (omega arith) refl))
+      ∙ below place (omega arith) (λ other h. unasked other (omega arith)) (λ other h. unserved other (omega arith))
+
+  -- the first request wins where it stands before the first input in service
+  pub wins : (first other : ℕ) → IsFirstPlace lowest requests first → IsFirstPlace lowest served other → first < other → Some (input_at lowest first) ≡ winner_of lowest requests served
+  wins first other asked serving before =
+      let passed = serving.before first before in
+      let requested = asked.there (omega (arith, serving.most, before)) in
+      sym (rw (passed, requested) at (ready_among-more lowest requests served first (input_at lowest first) (omega (arith, serving.most, before)) refl))
+      ∙ below first asked.most asked.before (λ k h. serving.before k (omega (arith, h, before)))
+
+  -- behind the last place there is nothing
+  no_more : None ≡ ready_among requests served (drop 8 (order lowest))
+  unfolding ready_among
+  no_more = refl
+
+  -- and else nothing does
+  pub loses : (first other : ℕ) → IsFirstPlace lowest requests first → IsFirstPlace lowest served other → other ≤ first → None ≡ winner_of lowest requests served
+  loses first other asked serving before = ⊎_elim here ends (cases_lt other 8) where
+    here : other < 8 → None ≡ winner_of lowest requests served
+    here within =
+        let served_there = serving.there within in
+        sym (rw served_there at (ready_among-more lowest requests served other (input_at lowest other) within refl))
+        ∙ below other serving.most (λ k h. asked.before k (omega (arith, h, before))) serving.before
+
+    ends : 8 ≤ other → None ≡ winner_of lowest requests served
+    ends from =
+        no_more ∙ below 8 (omega arith) (λ k h. asked.before k (omega (arith, h, before, from))) (λ k h. serving.before k (omega (arith, h, from)))
+
+module _ (lowest inputs : ℕ) where
+  find_below : (place : ℕ) → place ≤ 8 → ((other : ℕ) → other < place → has inputs (input_at lowest other) ≡ false) → find (has inputs) (drop place (order lowest)) ≡ highest_of lowest inputs
+  unfolding highest_of
+  find_below zero most missing = refl
+  find_below (suc place) most missing =
+      let next : suc place ≡ place + 1 = omega arith in
+      let passed = missing place (omega arith) in
+      ap (λ (k : ℕ). find (has inputs) (drop k (order lowest))) next
+      ∙ sym (rw passed at (find-more lowest inputs place (input_at lowest place) (omega arith) refl))
+      ∙ find_below place (omega arith) (λ other h. missing other (omega arith))
+
+  -- the first place of a set has its highest input
+  pub is_highest : (first : ℕ) → IsFirstPlace lowest inputs first → first < 8 → Some (input_at lowest first) ≡ highest_of lowest inputs
+  is_highest first is within =
+      let there = is.there within in
+      sym (rw there at (find-more lowest inputs first (input_at lowest first) within refl)) ∙ find_below first is.most is.before
+
+  pub has_none : (first : ℕ) → IsFirstPlace lowest inputs first → 8 ≤ first → None ≡ highest_of lowest inputs
+  has_none first is from =
+      find_below 8 (omega arith) (λ k h. is.before k (omega (arith, h, from)))

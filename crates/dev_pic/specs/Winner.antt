@@ -11,6 +11,12 @@ input_at lowest place = (lowest + 1 + place) % 8
 abbrev pub order : ℕ → List ℕ
 order lowest = map (input_at lowest) (range_with_len 0 8)
 
+-- the first place of the priority order whose input is in a set, 8 where none is
+pub record IsFirstPlace (lowest inputs place : ℕ) : Type 0 where
+  pub most : place ≤ 8
+  pub before : (other : ℕ) → other < place → has inputs (input_at lowest other) ≡ false
+  pub there : place < 8 → has inputs (input_at lowest place) ≡ true
+
 -- the inputs of a list that come before the first one that passes
 abbrev pub before : (ℕ → Bool) → List ℕ → List ℕ
 before test [] = []

@@ -1,8 +1,6 @@
 // Which input is served next.
 ghost use Rattle.std.specs.Prelude.{◌≡◌, ◌<◌, IfSome};
-ghost use Rattle.dev_pic.specs.Winner.{input_at as input_at_of, winner_of, highest_of};
-
-use dev_base::has;
+ghost use Rattle.dev_pic.specs.Winner.{input_at as input_at_of, IsFirstPlace, winner_of, highest_of};
 
 /// The input at a place of the priority order; place 0 has the highest priority.
 fn input_at(lowest: u8, place: u8) -> u8
@@ -12,21 +10,25 @@ fn input_at(lowest: u8, place: u8) -> u8
     lowest.wrapping_add(1 + place) % 8
 }
 
+/// The first place of the priority order whose input is in a set, 8 where none is.
+#[tactic(auto, using(crate::proofs::PlaceLemmas::is_first))]
+fn first_place(lowest: u8, inputs: u8) -> u8
+    ensures { IsFirstPlace lowest inputs result }
+{
+    inputs.rotate_right(u32::from(lowest) + 1).trailing_zeros() as u8
+}
+
 /// The first requested input, in priority order, that comes before every input in service.
 pub(crate) fn first_ready(lowest: u8, requests: u8, served: u8) -> Option<u8>
     ensures winner { result ≡ winner_of lowest requests served }
     ensures input { IfSome result (λ winner. winner < 8) }
 {
-    for place in 0..8 {
-        let input = input_at(lowest, place);
-        if has(served, input) {
-            return None;
-        }
-        if has(requests, input) {
-            return Some(input);
-        }
+    let requested = first_place(lowest, requests);
+    if requested < first_place(lowest, served) {
+        Some(input_at(lowest, requested))
+    } else {
+        None
     }
-    None
 }
 
 /// The input of highest priority in a set.
@@ -34,11 +36,10 @@ pub(crate) fn highest(lowest: u8, inputs: u8) -> Option<u8>
     ensures highest { result ≡ highest_of lowest inputs }
     ensures input { IfSome result (λ input. input < 8) }
 {
-    for place in 0..8 {
-        let input = input_at(lowest, place);
-        if has(inputs, input) {
-            return Some(input);
-        }
+    let first = first_place(lowest, inputs);
+    if first < 8 {
+        Some(input_at(lowest, first))
+    } else {
+        None
     }
-    None
 }

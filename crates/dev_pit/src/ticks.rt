@@ -13,8 +13,9 @@ pub(crate) fn ticks(load: u64, now: u64) -> u64
     ensures ticks { result ≡ ticks_of load now }
     ensures small { result < 4800000000000000 }
 {
-    let nanoseconds = u128::from(now - load);
-    (nanoseconds * u128::from(CLOCK_HERTZ) / u128::from(NANOSECONDS)) as u64
+    // Whole seconds and the rest, since 64 bits don't hold the product of the whole.
+    let gone = now - load;
+    gone / NANOSECONDS * CLOCK_HERTZ + gone % NANOSECONDS * CLOCK_HERTZ / NANOSECONDS
 }
 
 /// The number of ticks that a written count stands for, 1 to 65,536: a count of 0 is the greatest.

@@ -1,6 +1,7 @@
 -- What contracts see of lines, parts of lines and readings.
 use Rattle.std.specs.Prelude.{◌≡◌, ℕ, ◌^◌, nat_lt, if◌then◌else◌, List, map, Option, Some, None, Result, Ok, Err, ℤ, pos, negsuc}
 use Rattle.arrayvec.specs.ArrayString.{ArrayString}
+use Rattle.dev_board.specs.declared.event.Event as board_events
 use Rattle.vms_script.specs.Lines.{ScriptLine, Happens, Saves, Restores, Read}
 use Rattle.vms_script.specs.Script.{Reading}
 use Rattle.vms_script.specs.declared.line.Line.{Line}
@@ -23,6 +24,16 @@ lines_view lines = map line_view lines
 abbrev pub read_view : Result Line ScriptReason → Read
 read_view (Ok line) = Ok (line_view line)
 read_view (Err reason) = Err reason
+
+-- an event that was read, or the reason of its line
+abbrev pub event_view : Result board_events.Event ScriptReason → Read
+event_view (Ok event) = Ok (Happens event)
+event_view (Err reason) = Err reason
+
+-- where an event was asked for what its line says, else what another line does
+abbrev pub event_or : Read → Option (Result board_events.Event ScriptReason) → Read
+event_or other None = other
+event_or other (Some event) = event_view event
 
 -- a name, if there is one
 abbrev pub name_view : Option ArrayString → Option (List ℕ)

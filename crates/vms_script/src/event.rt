@@ -1,30 +1,50 @@
 // Lines that are events.
-ghost use Rattle.std.specs.Prelude.{◌≡◌, ◌<◌, option_copied};
+ghost use Rattle.std.specs.Prelude.{◌≡◌, ◌<◌, ℕ, Option, option_copied};
 ghost use Rattle.std.specs.Bool.{OnTrue};
 ghost use Rattle.dev_board.specs.Wires.{is_wire as is_wire_of};
-ghost use Rattle.vms_script.specs.Lines.{in_line, byte_line, wait_line, out_line, wire_line};
-ghost use Rattle.vms_script.specs.Views.{read_view};
+ghost use Rattle.vms_script.specs.Lines.{in_line, byte_line, wait_line, out_line, wire_line, line_of_words, play_line};
+ghost use Rattle.vms_script.specs.Views.{event_view, event_or};
 ghost use Rattle.vms_script.specs.Words.{level_spelled, first_word};
 
 use crate::hex::{byte_of, port_of};
-use crate::line::{Line, ScriptReason};
+use crate::line::ScriptReason;
 use crate::number::{LONGEST_WAIT, number_of};
 use crate::split::split_word;
 use dev_board::{Event, is_wire};
 
-/// `in PPPP`, by what stands behind the first word.
-pub(crate) fn read_in(port: &[u8]) -> Result<Line, ScriptReason>
-    ensures { read_view result ≡ in_line port.now }
+/// The event of a line by its first word and what stands behind it, or `None` where the word is no event's.
+pub(crate) fn read_event(word: &[u8], rest: &[u8]) -> Option<Result<Event, ScriptReason>>
+    ensures { (play : Option ℕ) → line_of_words play word.now rest.now
+        ≡ event_or (play_line play word.now rest.now) result }
+{
+    if word == b"in".as_slice() {
+        Some(read_in(rest))
+    } else if word == b"out".as_slice() {
+        Some(read_out(rest))
+    } else if word == b"byte".as_slice() {
+        Some(read_byte(rest))
+    } else if word == b"wait".as_slice() {
+        Some(read_wait(rest))
+    } else if word == b"wire".as_slice() {
+        Some(read_wire(rest))
+    } else {
+        None
+    }
+}
+
+// `in PPPP`, by what stands behind the first word.
+fn read_in(port: &[u8]) -> Result<Event, ScriptReason>
+    ensures { event_view result ≡ in_line port.now }
 {
     match port_of(port) {
-        Some(port) => Ok(Line::Event(Event::Read { port })),
+        Some(port) => Ok(Event::Read { port }),
         None => Err(ScriptReason::Form),
     }
 }
 
-/// `out PPPP VV`.
-pub(crate) fn read_out(words: &[u8]) -> Result<Line, ScriptReason>
-    ensures { read_view result ≡ out_line (first_word words.now) }
+// `out PPPP VV`.
+fn read_out(words: &[u8]) -> Result<Event, ScriptReason>
+    ensures { event_view result ≡ out_line (first_word words.now) }
 {
     let split = split_word(words);
     let Some(port) = port_of(split.word) else {
@@ -34,29 +54,29 @@ pub(crate) fn read_out(words: &[u8]) -> Result<Line, ScriptReason>
         return Err(ScriptReason::Form);
     };
     match byte_of(value) {
-        Some(value) => Ok(Line::Event(Event::Write { port, value })),
+        Some(value) => Ok(Event::Write { port, value }),
         None => Err(ScriptReason::Form),
     }
 }
 
-/// `byte VV`.
-pub(crate) fn read_byte(value: &[u8]) -> Result<Line, ScriptReason>
-    ensures { read_view result ≡ byte_line value.now }
+// `byte VV`.
+fn read_byte(value: &[u8]) -> Result<Event, ScriptReason>
+    ensures { event_view result ≡ byte_line value.now }
 {
     match byte_of(value) {
-        Some(value) => Ok(Line::Event(Event::Byte { value })),
+        Some(value) => Ok(Event::Byte { value }),
         None => Err(ScriptReason::Form),
     }
 }
 
-/// `wait N`, with N at most `LONGEST_WAIT`.
-pub(crate) fn read_wait(number: &[u8]) -> Result<Line, ScriptReason>
-    ensures { read_view result ≡ wait_line number.now }
+// `wait N`, with N at most `LONGEST_WAIT`.
+fn read_wait(number: &[u8]) -> Result<Event, ScriptReason>
+    ensures { event_view result ≡ wait_line number.now }
 {
     match number_of(number) {
         Ok(ns) => {
             if ns <= LONGEST_WAIT {
-                Ok(Line::Event(Event::Wait { ns }))
+                Ok(Event::Wait { ns })
             } else {
                 Err(ScriptReason::Range)
             }
@@ -65,9 +85,9 @@ pub(crate) fn read_wait(number: &[u8]) -> Result<Line, ScriptReason>
     }
 }
 
-/// `wire N 0` or `wire N 1`, with N one of 1, 3, 5, 6, 7 and 8 to 15.
-pub(crate) fn read_wire(words: &[u8]) -> Result<Line, ScriptReason>
-    ensures { read_view result ≡ wire_line (first_word words.now) }
+// `wire N 0` or `wire N 1`, with N one of 1, 3, 5, 6, 7 and 8 to 15.
+fn read_wire(words: &[u8]) -> Result<Event, ScriptReason>
+    ensures { event_view result ≡ wire_line (first_word words.now) }
 {
     let split = split_word(words);
     let Some(level) = split.rest else {
@@ -80,7 +100,7 @@ pub(crate) fn read_wire(words: &[u8]) -> Result<Line, ScriptReason>
         Ok(input) => {
             if names_wire(input) {
                 let input = input as u8;
-                Ok(Line::Event(Event::Wire { input, up }))
+                Ok(Event::Wire { input, up })
             } else {
                 Err(ScriptReason::Range)
             }

@@ -5,7 +5,7 @@ ghost use Rattle.vms_script.specs.Lines.{line_read, line_of_words};
 ghost use Rattle.vms_script.specs.Script.{script_read};
 ghost use Rattle.vms_script.specs.Views.{read_view, ReadsAs};
 
-use crate::event::{read_byte, read_in, read_out, read_wait, read_wire};
+use crate::event::read_event;
 use crate::line::{Line, ScriptFault, ScriptReason};
 use crate::session::read_session;
 use crate::split::{next_line, split_word};
@@ -79,20 +79,12 @@ fn read_line(line: &[u8], play: Option<u8>) -> Result<Line, ScriptReason>
 fn read_words(play: Option<u8>, word: &[u8], rest: &[u8]) -> Result<Line, ScriptReason>
     ensures { read_view result ≡ line_of_words play word.now rest.now }
 {
-    if word == b"in".as_slice() {
-        read_in(rest)
-    } else if word == b"out".as_slice() {
-        read_out(rest)
-    } else if word == b"byte".as_slice() {
-        read_byte(rest)
-    } else if word == b"wait".as_slice() {
-        read_wait(rest)
-    } else if word == b"wire".as_slice() {
-        read_wire(rest)
-    } else {
-        match play {
+    match read_event(word, rest) {
+        Some(Ok(event)) => Ok(Line::Event(event)),
+        Some(Err(reason)) => Err(reason),
+        None => match play {
             Some(level) => read_session(level, word, rest),
             None => Err(ScriptReason::Form),
-        }
+        },
     }
 }

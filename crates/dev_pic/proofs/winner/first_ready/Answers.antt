@@ -1,33 +1,16 @@
-use Rattle.std.proofs.Common.{arith, refl, sym, ◌∙◌}
-use Rattle.std.proofs.lemmas.Grind.{common_steps}
-use Rattle.dev_pic.specs.Winner.{winner_of, ready_among}
-use Rattle.dev_pic.proofs.WinnerLemmas.{ready_among-more}
+use Rattle.std.proofs.Common.{Some, ap, ◌∙◌}
+use Rattle.dev_pic.proofs.WinnerLemmas.{wins, loses}
 use Rattle.dev_pic.proofs.winner.first_ready.Goals as goal
 
-pub loop-place-init : goal.loop-place-init
-unfolding winner_of
-loop-place-init c = refl
-
-pub returns-then-has-clause-winner : goal.returns-then-has-clause-winner
-returns-then-has-clause-winner c =
+pub returns-then-requested-first_place-clause-winner :
+    goal.returns-then-requested-first_place-clause-winner
+returns-then-requested-first_place-clause-winner c =
     let a = c.args in
-    let served = sym c.has.ensures ∙ c.if-has.true in
-    sym (c.loop-place.invariant ∙ (rw served at (ready_among-more a.lowest a.requests a.served c.loop-place.place _ (omega arith) c.input_at-input.ensures)))
+    ap (λ input. Some input) c.input_at.ensures
+    ∙ wins a.lowest a.requests a.served _ _ c.first_place-requested.ensures c.first_place.ensures c.if-requested-first_place.true
 
-pub returns-then-has-2-clause-winner : goal.returns-then-has-2-clause-winner
-returns-then-has-2-clause-winner c =
+pub returns-else-requested-first_place-clause-winner :
+    goal.returns-else-requested-first_place-clause-winner
+returns-else-requested-first_place-clause-winner c =
     let a = c.args in
-    let passed = sym c.has.ensures ∙ c.if-has.false in
-    let requested = sym c.has-in-loop-place.ensures ∙ c.if-has-2.true in
-    sym (c.loop-place.invariant ∙ (rw (passed, requested) at (ready_among-more a.lowest a.requests a.served c.loop-place.place _ (omega arith) c.input_at-input.ensures)))
-
-pub loop-place-preserved : goal.loop-place-preserved
-loop-place-preserved c =
-    let a = c.args in
-    let passed = sym c.has.ensures ∙ c.if-has.false in
-    let unasked = sym c.has-in-loop-place.ensures ∙ c.if-has-2.false in
-    c.loop-place.invariant ∙ (rw (passed, unasked) at (ready_among-more a.lowest a.requests a.served c.loop-place.place _ (omega arith) c.input_at-input.ensures))
-
-pub returns-clause-winner : goal.returns-clause-winner
-unfolding ready_among
-returns-clause-winner c = grind (arith, common_steps)
+    loses a.lowest a.requests a.served _ _ c.first_place-requested.ensures c.first_place.ensures c.if-requested-first_place.false
