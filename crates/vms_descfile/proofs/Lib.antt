@@ -10,7 +10,9 @@ pub mod FloatLaws
 pub mod KeyLaws
 pub mod ListLaws
 pub mod NameLaws
+pub mod NodeLaws
 pub mod ObjectLaws
+pub mod ReadingLaws
 mod Rows
 pub mod SetBack
 pub mod SetLaws

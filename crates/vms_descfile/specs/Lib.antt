@@ -6,5 +6,6 @@ pub mod Files
 pub mod Given
 pub mod Index
 pub mod Keys
+pub mod Nodes
 pub mod Tests
 pub mod Written
