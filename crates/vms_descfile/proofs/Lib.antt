@@ -1,4 +1,5 @@
 pub mod AnswerLaws
+pub mod AskedLaws
 pub mod BuiltLaws
 pub mod DepthLaws
 pub mod DescBack

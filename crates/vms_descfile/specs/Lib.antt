@@ -1,4 +1,5 @@
 pub mod Answers
+pub mod Asked
 pub mod Descs
 pub mod Fields
 pub mod Fitting

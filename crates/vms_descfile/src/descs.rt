@@ -8,6 +8,7 @@ ghost use Rattle.vms_descfile.specs.Answers.{Answers};
 ghost use Rattle.vms_descfile.specs.Tests.{names_seen, names_if};
 ghost use Rattle.vms_descfile.specs.Descs.{head_of, head_seen, minimum_or, desc_as, rest_of, struct_in, struct_of};
 
+use crate::asked::is_asked;
 use crate::fault::Fault;
 use crate::field_names::FieldNames;
 use crate::fields::FieldIn;
@@ -106,7 +107,7 @@ fn read_asked(alloc: Global, asks: bool, value: &Node) -> Result<Desc, Fault>
     ensures { Answers desc_seen (struct_in (names_if asks (view value.now)) (view value.now))
         result }
 {
-    if asks {
+    if is_asked(asks, value) {
         let names = FieldNames::of(alloc, value)?;
         read_struct(alloc, Some(&names), value)
     } else {

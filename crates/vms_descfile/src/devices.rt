@@ -7,6 +7,7 @@ ghost use Rattle.vms_descfile.specs.Answers.{Answers};
 ghost use Rattle.vms_descfile.specs.Tests.{names_seen, names_if, scope_seen};
 ghost use Rattle.vms_descfile.specs.Descs.{sub_in, sub_of, Whole as TheWhole, whole_seen, whole_in, whole_of, device_in, device_of};
 
+use crate::asked::is_asked;
 use crate::descs::{read_head, read_rest};
 use crate::fault::Fault;
 use crate::field_names::FieldNames;
@@ -115,7 +116,7 @@ fn read_whole_asked(alloc: Global, asks: bool, value: &Node) -> Result<Whole, Fa
     ensures { Answers whole_seen (whole_in asks (names_if asks (view value.now)) (view value.now))
         result }
 {
-    if asks {
+    if is_asked(asks, value) {
         let names = FieldNames::of(alloc, value)?;
         read_whole(alloc, asks, Some(&names), value)
     } else {

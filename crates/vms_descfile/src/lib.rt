@@ -1,6 +1,7 @@
 //! Description files: sets of descriptions as JSON.
 #![tactic(auto)]
 
+mod asked;
 mod built;
 mod cells;
 mod descs;
