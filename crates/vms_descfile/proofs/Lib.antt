@@ -1,4 +1,5 @@
 pub mod AnswerLaws
+pub mod AskedLaws
 pub mod BuiltLaws
 pub mod DepthLaws
 pub mod DescBack
@@ -10,7 +11,9 @@ pub mod FloatLaws
 pub mod KeyLaws
 pub mod ListLaws
 pub mod NameLaws
+pub mod NodeLaws
 pub mod ObjectLaws
+pub mod ReadingLaws
 mod Rows
 pub mod SetBack
 pub mod SetLaws

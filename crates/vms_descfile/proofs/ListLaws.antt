@@ -2,8 +2,8 @@
 use Rattle.std.proofs.Common.{◌≡◌, ℕ, ◌+◌, ◌<◌, ◌≤◌, List, [], ◌∷◌, ◌++◌, length, get_or, map, refl, ap, sym, subst, ◌∙◌, drop, decimal, append_assoc}
 use Rattle.std.proofs.lemmas.List.{drop_all, append-nil, map-append}
 use Rattle.serde_json.specs.Data.{Data}
-use Rattle.serde_json.specs.View.{view, items_view}
-use Rattle.serde_json.specs.declared.value.Value.{Value}
+use Rattle.vms_descfile.specs.Nodes.{view, items_view}
+use Rattle.vms_descfile.specs.declared.node.Node.{Node}
 use Rattle.vms_parts.proofs.Items.{drop_is}
 use Rattle.vms_descfile.specs.declared.fault.Fault.{Fault}
 use Rattle.vms_descfile.specs.declared.fault.Fault.TheVariants as faults
@@ -22,14 +22,14 @@ before_none (good rest) = refl
 before_none (bad path) = refl
 
 -- from the item of the number i on
-abbrev pub from : {A : Type 0} → (Data → Answer A) → List Value → ℕ → Answer (List A)
+abbrev pub from : {A : Type 0} → (Data → Answer A) → List Node → ℕ → Answer (List A)
 from says xs i = each_from says i (items_view (drop i xs))
 
-from_item : {A : Type 0} (says : Data → Answer A) (xs : List Value) (i : ℕ) (x : Value) → i < length xs → x ≡ get_or xs i x
+from_item : {A : Type 0} (says : Data → Answer A) (xs : List Node) (i : ℕ) (x : Node) → i < length xs → x ≡ get_or xs i x
     → from says xs i ≡ next (under (decimal i) (says (view x))) (λ a. changed (λ list. a ∷ list) (from says xs (i + 1)))
 from_item says xs i x lt is = ap (λ l. each_from says i (items_view l)) (drop_is xs i x lt is)
 
-pub goes_on : {A T : Type 0} (m : T → A) (says : Data → Answer A) (xs : List Value) (i : ℕ) (x : Value) (whole : Answer (List A)) (done : List T) (t : T)
+pub goes_on : {A T : Type 0} (m : T → A) (says : Data → Answer A) (xs : List Node) (i : ℕ) (x : Node) (whole : Answer (List A)) (done : List T) (t : T)
     → whole ≡ before (map m done) (from says xs i) → i < length xs → x ≡ get_or xs i x → says (view x) ≡ good (m t)
     → whole ≡ before (map m (done ++ t ∷ [])) (from says xs (i + 1))
 goes_on m says xs i x whole done t e lt is said =
@@ -44,13 +44,13 @@ refused done key answer f (faults.Shape path) faults.NoMemory said is = tt
 refused done key answer f faults.NoMemory (faults.Shape p) said is = absurd is
 refused done key answer f faults.NoMemory faults.NoMemory said is = tt
 
-pub stops : {A : Type 0} (says : Data → Answer A) (xs : List Value) (i : ℕ) (x : Value) (whole : Answer (List A)) (done : List A) (fault result : Fault)
+pub stops : {A : Type 0} (says : Data → Answer A) (xs : List Node) (i : ℕ) (x : Node) (whole : Answer (List A)) (done : List A) (fault result : Fault)
     → whole ≡ before done (from says xs i) → i < length xs → x ≡ get_or xs i x → Refuses (says (view x)) fault → IsUnder (decimal i) fault result
     → Refuses whole result
 stops says xs i x whole done fault result e lt is said under_it =
     subst (λ a. Refuses a result) (sym (e ∙ ap (before done) (from_item says xs i x lt is)))
     (refused done (decimal i) (says (view x)) (λ a. changed (λ list. a ∷ list) (from says xs (i + 1))) fault result said under_it)
 
-pub ends : {A : Type 0} (says : Data → Answer A) (xs : List Value) (i : ℕ) (whole : Answer (List A)) (done : List A)
+pub ends : {A : Type 0} (says : Data → Answer A) (xs : List Node) (i : ℕ) (whole : Answer (List A)) (done : List A)
     → whole ≡ before done (from says xs i) → length xs ≤ i → whole ≡ good done
 ends says xs i whole done e le = e ∙ ap (λ l. before done (each_from says i (items_view l))) (drop_all i xs le) ∙ ap good (append-nil done)

@@ -8,8 +8,8 @@ use Rattle.std.proofs.lemmas.List.Folds.{position_or_len_push}
 use Rattle.std.proofs.lemmas.List.Sums.{prefix_len-le-length}
 use Rattle.std.proofs.lemmas.Slice.Eq.{bytes_eq-Decides}
 use Rattle.serde_json.specs.Find.{get, as_str}
-use Rattle.serde_json.specs.View.{view, items_view}
-use Rattle.serde_json.specs.declared.value.Value.{Value}
+use Rattle.vms_descfile.specs.Nodes.{view, items_view}
+use Rattle.vms_descfile.specs.declared.node.Node.{Node}
 use Rattle.vms_spec.specs.Lists.{or_else}
 use Rattle.vms_descfile.specs.Tests.{text_or_none, names_of}
 use Rattle.vms_descfile.specs.Index.{first_of}
@@ -51,15 +51,15 @@ position_push p xs y =
 
 -- ---- the names of fields
 
-names_append : (xs ys : List Value) → names_of (items_view (xs ++ ys)) ≡ names_of (items_view xs) ++ names_of (items_view ys)
+names_append : (xs ys : List Node) → names_of (items_view (xs ++ ys)) ≡ names_of (items_view xs) ++ names_of (items_view ys)
 names_append [] ys = refl
 names_append (x ∷ xs) ys = ap (λ l. text_or_none (option_and_then as_str (get (codes "name") (view x))) ∷ l) (names_append xs ys)
 
-names_length : (xs : List Value) → length (names_of (items_view xs)) ≡ length xs
+names_length : (xs : List Node) → length (names_of (items_view xs)) ≡ length xs
 names_length [] = refl
 names_length (x ∷ xs) = ap suc (names_length xs)
 
-pub one_named : (fields : List Value) (i : ℕ) (x : Value) (name q : List ℕ) → i < length fields → x ≡ get_or fields i x
+pub one_named : (fields : List Node) (i : ℕ) (x : Node) (name q : List ℕ) → i < length fields → x ≡ get_or fields i x
     → name ≡ text_or_none (option_and_then as_str (get (codes "name") (view x)))
     → first_of (names_of (items_view (take (i + 1) fields))) q
     ≡ or_else (first_of (names_of (items_view (take i fields))) q) (if bytes_eq name q then Some i else None)

@@ -2,8 +2,8 @@
 use Rattle.std.proofs.Common.{◌≡◌, ℕ, zero, suc, ◌-◌, ◌<◌, List, [], ◌∷◌, get_or, length, refl, ap, sym, subst, ◌∙◌, arith, Result, Some}
 use native.Mathlib.Numerals.{unary_clauses}
 use Rattle.serde_json.specs.Data.{Data}
-use Rattle.serde_json.specs.View.{view, items_view}
-use Rattle.serde_json.specs.declared.value.Value.{Value}
+use Rattle.vms_descfile.specs.Nodes.{view, items_view}
+use Rattle.vms_descfile.specs.declared.node.Node.{Node}
 use Rattle.vms_parts.specs.Views.{formula}
 use Rattle.vms_parts.specs.declared.types.Test.{Test}
 use Rattle.vms_descfile.specs.declared.cells.Form.{Form}
@@ -35,13 +35,13 @@ refused_changed f x faults.NoMemory said = tt
 
 -- ---- lists of two
 
-pub not_two : (xs : List Value) → (length xs ≡ 2 → ⊥) → two_in (Some (items_view xs)) ≡ bad []
+pub not_two : (xs : List Node) → (length xs ≡ 2 → ⊥) → two_in (Some (items_view xs)) ≡ bad []
 not_two [] other = refl
 not_two (x ∷ []) other = refl
 not_two (x ∷ y ∷ []) other = absurd (other refl)
 not_two (x ∷ y ∷ z ∷ xs) other = refl
 
-pub just_two : (xs : List Value) (a b : Value) → length xs ≡ 2 → a ≡ get_or xs 0 a → b ≡ get_or xs 1 b
+pub just_two : (xs : List Node) (a b : Node) → length xs ≡ 2 → a ≡ get_or xs 0 a → b ≡ get_or xs 1 b
     → two_in (Some (items_view xs)) ≡ good (record { first = view a; second = view b })
 just_two [] a b e is_a is_b = absurd (omega (arith, e))
 just_two (x ∷ []) a b e is_a is_b = absurd (omega (arith, e))

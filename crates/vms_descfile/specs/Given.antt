@@ -1,8 +1,8 @@
 -- What reading a file answers.
 use Rattle.std.specs.Prelude.{◌≡◌, Option, Some, None, Result, Ok, Err}
 use Rattle.serde_json.specs.Data.{Data}
-use Rattle.serde_json.specs.View.{view}
-use Rattle.serde_json.specs.declared.value.Value.{Value}
+use Rattle.vms_descfile.specs.Nodes.{view}
+use Rattle.vms_descfile.specs.declared.node.Node.{Node}
 use Rattle.vms_desc.specs.declared.set.DescSet.{DescSet}
 use Rattle.vms_desc.specs.Described.{described}
 use Rattle.vms_descfile.specs.declared.fault.Fault.{Fault}
@@ -20,7 +20,7 @@ Gives said (Err (file_faults.IllFormed rule place)) = said ≡ IllFormed (record
 Gives said (Err file_faults.NoMemory) = Unit {0}
 
 -- the value, if the text has one
-abbrev pub GivesValue : Option Data → Result Value FileFault → Type 0
+abbrev pub GivesValue : Option Data → Result Node FileFault → Type 0
 GivesValue found (Ok value) = found ≡ Some (view value)
 GivesValue found (Err file_faults.Syntax) = found ≡ None
 GivesValue found (Err file_faults.NoMemory) = Unit {0}

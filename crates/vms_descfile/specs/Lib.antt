@@ -1,4 +1,5 @@
 pub mod Answers
+pub mod Asked
 pub mod Descs
 pub mod Fields
 pub mod Fitting
@@ -6,5 +7,6 @@ pub mod Files
 pub mod Given
 pub mod Index
 pub mod Keys
+pub mod Nodes
 pub mod Tests
 pub mod Written

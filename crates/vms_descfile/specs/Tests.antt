@@ -5,8 +5,8 @@ use denote.Ref.{Bor}
 use Rattle.std.specs.Str.{bytes_eq}
 use Rattle.serde_json.specs.Data.{Data, Items, no_items, item}
 use Rattle.serde_json.specs.Find.{get, as_array, as_str}
-use Rattle.serde_json.specs.View.{view}
-use Rattle.serde_json.specs.declared.value.Value.{Value}
+use Rattle.vms_descfile.specs.Nodes.{view}
+use Rattle.vms_descfile.specs.declared.node.Node.{Node}
 use Rattle.vms_spec.specs.declared.Rel.{Rel}
 use Rattle.vms_spec.specs.declared.Rel.TheVariants as rels
 use Rattle.vms_spec.specs.declared.Whose.TheVariants.{Own, Parent}
@@ -126,7 +126,7 @@ abbrev pub two_of : Data → Answer Pair
 two_of d = two_in (as_array d)
 
 -- as the code has them
-abbrev pub pair_seen : Bor Value × Bor Value → Pair
+abbrev pub pair_seen : Bor Node × Bor Node → Pair
 pair_seen two = record { first = view two.0.now; second = view two.1.now }
 
 -- what both say

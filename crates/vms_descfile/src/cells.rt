@@ -2,7 +2,7 @@
 ghost use Rattle.std.specs.Prelude.{◌≡◌, IfOk, IfErr, Option, Some, None};
 ghost use Rattle.serde_json.specs.Data.{item, no_items, Data};
 ghost use Rattle.serde_json.specs.Find.{as_array};
-ghost use Rattle.serde_json.specs.View.{view};
+ghost use Rattle.vms_descfile.specs.Nodes.{view};
 ghost use Rattle.vms_spec.specs.Sets as sets;
 ghost use Rattle.vms_spec.specs.declared.Rel.{Rel as TheRel};
 ghost use Rattle.vms_parts.specs.Views.{formula};
@@ -13,8 +13,8 @@ use crate::fault::Fault;
 use crate::keys::fits;
 use crate::members::at;
 use crate::names::{NameIn, Names, Scope};
+use crate::node::Node;
 use crate::words::{Reads, U32, U64};
-use serde_json::Value;
 use std::alloc::Global;
 use vms_desc::{Rel, Test, Whose};
 
@@ -54,7 +54,7 @@ impl Join {
     }
 }
 
-pub(crate) fn form_of(value: &Value) -> Form
+pub(crate) fn form_of(value: &Node) -> Form
     ensures { result ≡ form_of (view value.now) }
 {
     if fits(value, &["at_least"], &[]) {
@@ -105,7 +105,7 @@ impl Reads for RelOf {
 
     ghost says = { λ _. rel_of };
 
-    fn read(&self, alloc: Global, value: &Value) -> Result<Rel, Fault> {
+    fn read(&self, alloc: Global, value: &Node) -> Result<Rel, Fault> {
         match value.as_str().and_then(rel_named) {
             Some(rel) => Ok(rel),
             None => Err(Fault::here(alloc)),
@@ -114,7 +114,7 @@ impl Reads for RelOf {
 }
 
 // A number of the description.
-pub(crate) fn read_own(alloc: Global, scope: Scope, value: &Value) -> Result<Test, Fault>
+pub(crate) fn read_own(alloc: Global, scope: Scope, value: &Node) -> Result<Test, Fault>
     ensures { Answers formula (own_cell (scope_seen scope.entry) (view value.now)) result }
 {
     let field = at(alloc, &NameIn(scope.own), "field", value)?;
@@ -131,7 +131,7 @@ pub(crate) fn read_own(alloc: Global, scope: Scope, value: &Value) -> Result<Tes
 }
 
 // A number of the device.
-pub(crate) fn read_parent(alloc: Global, names: Names, value: &Value) -> Result<Test, Fault>
+pub(crate) fn read_parent(alloc: Global, names: Names, value: &Node) -> Result<Test, Fault>
     ensures { Answers formula (parent_cell (names_seen names.entry) (view value.now)) result }
 {
     let rel = at(alloc, &RelOf, "is", value)?;

@@ -1,13 +1,14 @@
 // Descriptions, and structures.
 ghost use Rattle.std.specs.Prelude.{◌≡◌, map, IfOk};
 ghost use Rattle.std.specs.Option.{option_map};
-ghost use Rattle.serde_json.specs.View.{view};
+ghost use Rattle.vms_descfile.specs.Nodes.{view};
 ghost use Rattle.vms_spec.specs.Sets as sets;
 ghost use Rattle.vms_parts.specs.Views.{field_of as field_seen, formula, desc_of as desc_seen};
 ghost use Rattle.vms_descfile.specs.Answers.{Answers};
 ghost use Rattle.vms_descfile.specs.Tests.{names_seen, names_if};
 ghost use Rattle.vms_descfile.specs.Descs.{head_of, head_seen, minimum_or, desc_as, rest_of, struct_in, struct_of};
 
+use crate::asked::is_asked;
 use crate::fault::Fault;
 use crate::field_names::FieldNames;
 use crate::fields::FieldIn;
@@ -15,9 +16,9 @@ use crate::keys::fits;
 use crate::lists::ListOf;
 use crate::members::{at, at_or, maybe_at};
 use crate::names::{Names, Scope};
+use crate::node::Node;
 use crate::tests::TestIn;
 use crate::words::{Reads, TextOf, U32};
-use serde_json::Value;
 use std::alloc::Global;
 use vms_desc::{Desc, Field, Listed, Test, Text};
 
@@ -29,7 +30,7 @@ pub(crate) struct Head {
     name: Text,
 }
 
-pub(crate) fn read_head(alloc: Global, names: Names, value: &Value) -> Result<Head, Fault>
+pub(crate) fn read_head(alloc: Global, names: Names, value: &Node) -> Result<Head, Fault>
     ensures { Answers head_seen (head_of (names_seen names.entry) (view value.now)) result }
 {
     let fields = at(alloc, &ListOf(FieldIn(names)), "fields", value)?;
@@ -47,7 +48,7 @@ pub(crate) fn read_rest(
     alloc: Global,
     names: Names,
     head: Head,
-    value: &Value,
+    value: &Node,
 ) -> Result<Desc, Fault>
     ensures { Answers desc_seen (rest_of (names_seen names.entry) (head_seen head)
         (view value.now)) result }
@@ -89,7 +90,7 @@ impl Reads for StructOf {
 
     ghost says = { λ s. struct_of s.asks };
 
-    fn read(&self, alloc: Global, value: &Value) -> Result<Desc, Fault> {
+    fn read(&self, alloc: Global, value: &Node) -> Result<Desc, Fault> {
         if fits(
             value,
             &["fields", "name", "version"],
@@ -102,11 +103,11 @@ impl Reads for StructOf {
     }
 }
 
-fn read_asked(alloc: Global, asks: bool, value: &Value) -> Result<Desc, Fault>
+fn read_asked(alloc: Global, asks: bool, value: &Node) -> Result<Desc, Fault>
     ensures { Answers desc_seen (struct_in (names_if asks (view value.now)) (view value.now))
         result }
 {
-    if asks {
+    if is_asked(asks, value) {
         let names = FieldNames::of(alloc, value)?;
         read_struct(alloc, Some(&names), value)
     } else {
@@ -114,7 +115,7 @@ fn read_asked(alloc: Global, asks: bool, value: &Value) -> Result<Desc, Fault>
     }
 }
 
-fn read_struct(alloc: Global, names: Names, value: &Value) -> Result<Desc, Fault>
+fn read_struct(alloc: Global, names: Names, value: &Node) -> Result<Desc, Fault>
     ensures { Answers desc_seen (struct_in (names_seen names.entry) (view value.now)) result }
 {
     let head = read_head(alloc, names, value)?;

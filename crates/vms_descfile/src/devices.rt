@@ -1,12 +1,13 @@
 // Devices and their subsections.
 ghost use Rattle.std.specs.Prelude.{◌≡◌, map, Some};
-ghost use Rattle.serde_json.specs.View.{view};
+ghost use Rattle.vms_descfile.specs.Nodes.{view};
 ghost use Rattle.vms_spec.specs.Sets as sets;
 ghost use Rattle.vms_parts.specs.Views.{desc_of as desc_seen, sub_of as sub_seen, device_of as device_seen};
 ghost use Rattle.vms_descfile.specs.Answers.{Answers};
 ghost use Rattle.vms_descfile.specs.Tests.{names_seen, names_if, scope_seen};
 ghost use Rattle.vms_descfile.specs.Descs.{sub_in, sub_of, Whole as TheWhole, whole_seen, whole_in, whole_of, device_in, device_of};
 
+use crate::asked::is_asked;
 use crate::descs::{read_head, read_rest};
 use crate::fault::Fault;
 use crate::field_names::FieldNames;
@@ -14,9 +15,9 @@ use crate::keys::fits;
 use crate::lists::ListOf;
 use crate::members::{at, at_or};
 use crate::names::{Names, Scope};
+use crate::node::Node;
 use crate::tests::TestIn;
 use crate::words::{Reads, U32};
-use serde_json::Value;
 use std::alloc::Global;
 use vms_desc::{Desc, Device, Listed, Sub};
 
@@ -36,7 +37,7 @@ impl<'a> Reads for SubOf<'a> {
 
     ghost says = { λ s. sub_of s.asks (names_seen s.parent) };
 
-    fn read(&self, alloc: Global, value: &Value) -> Result<Sub, Fault> {
+    fn read(&self, alloc: Global, value: &Node) -> Result<Sub, Fault> {
         if fits(
             value,
             &["needed", "fields", "name", "version"],
@@ -49,7 +50,7 @@ impl<'a> Reads for SubOf<'a> {
     }
 }
 
-fn read_sub_asked(alloc: Global, asks: bool, parent: Names, value: &Value) -> Result<Sub, Fault>
+fn read_sub_asked(alloc: Global, asks: bool, parent: Names, value: &Node) -> Result<Sub, Fault>
     ensures { Answers sub_seen (sub_in
         (record { own = names_if asks (view value.now); parent = Some (names_seen parent.entry) })
         (view value.now)) result }
@@ -62,7 +63,7 @@ fn read_sub_asked(alloc: Global, asks: bool, parent: Names, value: &Value) -> Re
     }
 }
 
-fn read_sub(alloc: Global, own: Names, parent: Names, value: &Value) -> Result<Sub, Fault>
+fn read_sub(alloc: Global, own: Names, parent: Names, value: &Node) -> Result<Sub, Fault>
     ensures { Answers sub_seen (sub_in
         (record { own = names_seen own.entry; parent = Some (names_seen parent.entry) })
         (view value.now)) result }
@@ -98,7 +99,7 @@ impl Reads for WholeOf {
 
     ghost says = { λ s. whole_of s.asks };
 
-    fn read(&self, alloc: Global, value: &Value) -> Result<Whole, Fault> {
+    fn read(&self, alloc: Global, value: &Node) -> Result<Whole, Fault> {
         if fits(
             value,
             &["fields", "name", "version"],
@@ -111,11 +112,11 @@ impl Reads for WholeOf {
     }
 }
 
-fn read_whole_asked(alloc: Global, asks: bool, value: &Value) -> Result<Whole, Fault>
+fn read_whole_asked(alloc: Global, asks: bool, value: &Node) -> Result<Whole, Fault>
     ensures { Answers whole_seen (whole_in asks (names_if asks (view value.now)) (view value.now))
         result }
 {
-    if asks {
+    if is_asked(asks, value) {
         let names = FieldNames::of(alloc, value)?;
         read_whole(alloc, asks, Some(&names), value)
     } else {
@@ -123,7 +124,7 @@ fn read_whole_asked(alloc: Global, asks: bool, value: &Value) -> Result<Whole, F
     }
 }
 
-fn read_whole(alloc: Global, asks: bool, names: Names, value: &Value) -> Result<Whole, Fault>
+fn read_whole(alloc: Global, asks: bool, names: Names, value: &Node) -> Result<Whole, Fault>
     ensures { Answers whole_seen (whole_in asks (names_seen names.entry) (view value.now)) result }
 {
     let head = read_head(alloc, names, value)?;
@@ -152,7 +153,7 @@ impl Reads for DeviceOf {
 
     ghost says = { λ s. device_of s.asks };
 
-    fn read(&self, alloc: Global, value: &Value) -> Result<Device, Fault> {
+    fn read(&self, alloc: Global, value: &Node) -> Result<Device, Fault> {
         if fits(value, &["desc", "instance"], &[]) {
             read_device(alloc, self.asks, value)
         } else {
@@ -161,7 +162,7 @@ impl Reads for DeviceOf {
     }
 }
 
-fn read_device(alloc: Global, asks: bool, value: &Value) -> Result<Device, Fault>
+fn read_device(alloc: Global, asks: bool, value: &Node) -> Result<Device, Fault>
     ensures { Answers device_seen (device_in asks (view value.now)) result }
 {
     let whole = at(alloc, &WholeOf { asks }, "desc", value)?;

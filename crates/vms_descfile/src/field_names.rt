@@ -2,11 +2,11 @@
 ghost use Rattle.std.specs.Prelude.{◌≡◌, List, ℕ, Some, Option, IfOk, OnOk, codes, option_and_then};
 ghost use Rattle.vms_spec.specs.Lists.{or_else};
 ghost use Rattle.serde_json.specs.Find.{get, as_str};
-ghost use Rattle.serde_json.specs.View.{view, items_view};
+ghost use Rattle.vms_descfile.specs.Nodes.{view, items_view};
 ghost use Rattle.vms_descfile.specs.Tests.{names_in, names_of, text_or_none};
 ghost use Rattle.vms_descfile.specs.Index.{first_of, number_of, IsIndex, at_name};
 
-use serde_json::Value;
+use crate::node::Node;
 use std::alloc::{AllocError, Global};
 use std::collections::BTreeMap;
 
@@ -18,7 +18,7 @@ pub(crate) struct FieldNames {
 
 impl FieldNames {
     // Of the fields of a description.
-    pub(crate) fn of(alloc: Global, value: &Value) -> Result<FieldNames, AllocError>
+    pub(crate) fn of(alloc: Global, value: &Node) -> Result<FieldNames, AllocError>
         ensures { IfOk result (λ names. number_of names.first
             ≡ first_of (names_in (view value.now))) }
     {
@@ -34,16 +34,16 @@ impl FieldNames {
     }
 }
 
-fn index_in(alloc: Global, value: &Value) -> Result<BTreeMap<String, usize>, AllocError>
+fn index_in(alloc: Global, value: &Node) -> Result<BTreeMap<String, usize>, AllocError>
     ensures { IfOk result (λ first. IsIndex first (names_in (view value.now))) }
 {
-    match value.get("fields").and_then(Value::as_array) {
+    match value.get("fields").and_then(Node::as_list) {
         Some(fields) => index_of(alloc, fields),
         None => Ok(BTreeMap::new(alloc)),
     }
 }
 
-fn index_of(alloc: Global, fields: &[Value]) -> Result<BTreeMap<String, usize>, AllocError>
+fn index_of(alloc: Global, fields: &[Node]) -> Result<BTreeMap<String, usize>, AllocError>
     ensures { IfOk result (λ first. IsIndex first (names_of (items_view fields.now))) }
 {
     let mut first = BTreeMap::new(alloc);
@@ -69,11 +69,11 @@ fn put_first(
     Ok(())
 }
 
-fn name_of(field: &Value) -> &str
+fn name_of<'a>(field: &Node<'a>) -> &'a str
     ensures { result.now
         ≡ text_or_none (option_and_then as_str (get (codes "name") (view field.now))) }
 {
-    match field.get("name").and_then(Value::as_str) {
+    match field.get("name").and_then(Node::as_str) {
         Some(name) => name,
         None => "",
     }

@@ -2,7 +2,7 @@
 ghost use Rattle.std.specs.Prelude.{◌≡◌, map, option_and_then, codes};
 ghost use Rattle.std.specs.Option.{option_map};
 ghost use Rattle.serde_json.specs.Find.{get, as_str};
-ghost use Rattle.serde_json.specs.View.{view};
+ghost use Rattle.vms_descfile.specs.Nodes.{view};
 ghost use Rattle.vms_spec.specs.Sets as sets;
 ghost use Rattle.vms_parts.specs.Views.{field_of as field_seen, formula};
 ghost use Rattle.vms_descfile.specs.declared.sort.Sort.{Sort as TheSort};
@@ -15,10 +15,10 @@ use crate::keys::{fits, has};
 use crate::lists::ListOf;
 use crate::members::{at, at_or, maybe_at};
 use crate::names::{NameIn, Names, Scope};
+use crate::node::Node;
 use crate::sort::Sort;
 use crate::tests::TestIn;
 use crate::words::{Integer, Reads, TextOf, U16, U32};
-use serde_json::Value;
 use std::alloc::Global;
 use vms_desc::{Count, Field, Listed, Test, Text};
 use vms_kinds::{Item, Kind};
@@ -74,7 +74,7 @@ impl Reads for SortOf {
 
     ghost says = { λ _. sort_of };
 
-    fn read(&self, alloc: Global, value: &Value) -> Result<Sort, Fault> {
+    fn read(&self, alloc: Global, value: &Node) -> Result<Sort, Fault> {
         match value.as_str().and_then(sort_named) {
             Some(sort) => Ok(sort),
             None => Err(Fault::here(alloc)),
@@ -83,7 +83,7 @@ impl Reads for SortOf {
 }
 
 // An array has either a fixed length, or a number that counts it and a capacity.
-fn counts_fit(value: &Value) -> bool
+fn counts_fit(value: &Node) -> bool
     ensures { result ≡ counts_fit (view value.now) }
 {
     if has(value, "counted") {
@@ -94,7 +94,7 @@ fn counts_fit(value: &Value) -> bool
 }
 
 // The keys that go by the kind.
-fn sort_fits(sort: Option<Sort>, value: &Value) -> bool
+fn sort_fits(sort: Option<Sort>, value: &Node) -> bool
     ensures { result ≡ sort_fits sort (view value.now) }
 {
     match sort {
@@ -119,18 +119,18 @@ fn sort_fits(sort: Option<Sort>, value: &Value) -> bool
     }
 }
 
-fn sort_in(value: &Value) -> Option<Sort>
+fn sort_in(value: &Node) -> Option<Sort>
     ensures { result
         ≡ option_and_then sort_named
         (option_and_then as_str (get (codes "kind") (view value.now))) }
 {
     value
         .get("kind")
-        .and_then(Value::as_str)
+        .and_then(Node::as_str)
         .and_then(sort_named)
 }
 
-fn field_fits(value: &Value) -> bool
+fn field_fits(value: &Node) -> bool
     ensures { result ≡ field_fits (view value.now) }
 {
     fits(value, &NEEDED, &ALLOWED) && counts_fit(value) && sort_fits(sort_in(value), value)
@@ -151,7 +151,7 @@ fn count_as(capacity: Option<u32>, count: Option<u32>, counted: Option<u32>) -> 
     }
 }
 
-fn read_count(alloc: Global, names: Names, value: &Value) -> Result<Count, Fault>
+fn read_count(alloc: Global, names: Names, value: &Node) -> Result<Count, Fault>
     ensures { Answers (λ c. c) (count_of (names_seen names.entry) (view value.now)) result }
 {
     let capacity = maybe_at(alloc, &U32, "capacity", value)?;
@@ -185,7 +185,7 @@ pub(crate) struct Front {
     former: Listed<Text>,
 }
 
-fn read_front(alloc: Global, names: Names, value: &Value) -> Result<Front, Fault>
+fn read_front(alloc: Global, names: Names, value: &Node) -> Result<Front, Fault>
     ensures { Answers front_seen (front_of (names_seen names.entry) (view value.now)) result }
 {
     let count = read_count(alloc, names, value)?;
@@ -202,7 +202,7 @@ fn read_front(alloc: Global, names: Names, value: &Value) -> Result<Front, Fault
 }
 
 // Where a field is there.
-fn read_presence(alloc: Global, names: Names, value: &Value) -> Result<Option<Test>, Fault>
+fn read_presence(alloc: Global, names: Names, value: &Node) -> Result<Option<Test>, Fault>
     ensures { Answers (option_map formula) (presence_of (names_seen names.entry) (view value.now))
         result }
 {
@@ -214,7 +214,7 @@ fn read_presence(alloc: Global, names: Names, value: &Value) -> Result<Option<Te
 }
 
 // The kind and what comes after it.
-fn read_after(alloc: Global, names: Names, front: Front, value: &Value) -> Result<Field, Fault>
+fn read_after(alloc: Global, names: Names, front: Front, value: &Node) -> Result<Field, Fault>
     ensures { Answers field_seen (field_after (names_seen names.entry) (front_seen front)
         (view value.now)) result }
 {
@@ -235,7 +235,7 @@ fn read_after(alloc: Global, names: Names, front: Front, value: &Value) -> Resul
     })
 }
 
-fn read_field(alloc: Global, names: Names, value: &Value) -> Result<Field, Fault>
+fn read_field(alloc: Global, names: Names, value: &Node) -> Result<Field, Fault>
     ensures { Answers field_seen (field_in (names_seen names.entry) (view value.now)) result }
 {
     let front = read_front(alloc, names, value)?;
@@ -255,7 +255,7 @@ impl<'a> Reads for FieldIn<'a> {
 
     ghost says = { λ s. field_of (names_seen s.0) };
 
-    fn read(&self, alloc: Global, value: &Value) -> Result<Field, Fault> {
+    fn read(&self, alloc: Global, value: &Node) -> Result<Field, Fault> {
         if field_fits(value) {
             read_field(alloc, self.0, value)
         } else {

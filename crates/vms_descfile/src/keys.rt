@@ -1,40 +1,39 @@
 // The keys of objects.
-ghost use Rattle.std.specs.Prelude.{◌≡◌, ◌++◌, ◌||◌, map, string_bytes};
-ghost use Rattle.std.specs.BTreeMap.{keys};
+ghost use Rattle.std.specs.Prelude.{◌≡◌, ◌++◌, ◌||◌, map};
 ghost use Rattle.std.specs.List.{list_all, list_any};
 ghost use Rattle.std.specs.Str.{bytes_eq};
-ghost use Rattle.serde_json.specs.View.{view, members_view};
+ghost use Rattle.vms_descfile.specs.Nodes.{view, members_view};
 ghost use Rattle.vms_spec.specs.Streams.{is_one_of};
 ghost use Rattle.vms_descfile.specs.Keys.{has, has_all, fits, has_no_others};
 
-use serde_json::{Map, Value};
+use crate::node::Node;
 
 // Whether a value is an object with each of the first keys, and no others than those and the
 // second.
-pub(crate) fn fits(value: &Value, needed: &[&str], allowed: &[&str]) -> bool
+pub(crate) fn fits(value: &Node, needed: &[&str], allowed: &[&str]) -> bool
     ensures { result
         ≡ fits (map (λ k. k.now) needed.now) (map (λ k. k.now) allowed.now) (view value.now) }
 {
-    match value.as_object() {
+    match value.as_members() {
         Some(members) => has_all(value, needed) && has_no_others(members, needed, allowed),
         None => false,
     }
 }
 
 // Whether a member has this key.
-pub(crate) fn has(value: &Value, key: &str) -> bool
+pub(crate) fn has(value: &Node, key: &str) -> bool
     ensures { result ≡ has key.now (view value.now) }
 {
     value.get(key).is_some()
 }
 
-fn has_all(value: &Value, keys: &[&str]) -> bool
+fn has_all(value: &Node, keys: &[&str]) -> bool
     ensures { result ≡ has_all (map (λ k. k.now) keys.now) (view value.now) }
 {
     has_each(value, keys)
 }
 
-fn has_each(value: &Value, keys: &[&str]) -> bool
+fn has_each(value: &Node, keys: &[&str]) -> bool
     ensures { result ≡ list_all (λ k. has k.now (view value.now)) keys.now }
 {
     keys.iter().all(|key| has(value, key))
@@ -52,22 +51,19 @@ fn is_one_of(keys: &[&str], key: &str) -> bool
     is_among(keys, key)
 }
 
-fn has_keys(members: &Map<String, Value>, needed: &[&str], allowed: &[&str]) -> bool
+fn has_keys(members: &[(&str, Node)], needed: &[&str], allowed: &[&str]) -> bool
     ensures { result
-        ≡ list_all (λ k. is_one_of (map (λ n. n.now) needed.now) (string_bytes k)
-        || is_one_of (map (λ n. n.now) allowed.now) (string_bytes k)) (keys members.now) }
+        ≡ list_all (λ m. is_one_of (map (λ n. n.now) needed.now) m.0.now
+        || is_one_of (map (λ n. n.now) allowed.now) m.0.now) members.now }
 {
-    members
-        .keys()
-        .all(|key| is_one_of(needed, key) || is_one_of(allowed, key))
+    members.iter().all(|member| is_one_of(needed, member.0) || is_one_of(allowed, member.0))
 }
 
 // Whether the members have no other keys than these.
-
-fn has_no_others(members: &Map<String, Value>, needed: &[&str], allowed: &[&str]) -> bool
+fn has_no_others(members: &[(&str, Node)], needed: &[&str], allowed: &[&str]) -> bool
     ensures { result
         ≡ has_no_others (map (λ k. k.now) needed.now ++ map (λ k. k.now) allowed.now)
-        (members_view members.now.entries) }
+        (members_view members.now) }
 {
     has_keys(members, needed, allowed)
 }

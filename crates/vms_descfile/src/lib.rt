@@ -1,6 +1,7 @@
 //! Description files: sets of descriptions as JSON.
 #![tactic(auto)]
 
+mod asked;
 mod built;
 mod cells;
 mod descs;
@@ -15,6 +16,9 @@ mod keys;
 mod lists;
 mod members;
 mod names;
+mod node;
+mod number;
+mod parse;
 mod read;
 mod set_file;
 mod sort;

@@ -1,12 +1,12 @@
 // Lists.
 ghost use Rattle.std.specs.Prelude.{◌≡◌, ◌++◌, ◌∷◌, [], List, map, OnOk, OnErr, IfErr};
-ghost use Rattle.serde_json.specs.View.{view, items_view};
+ghost use Rattle.vms_descfile.specs.Nodes.{view, items_view};
 ghost use Rattle.vms_descfile.specs.Answers.{Answers, list_of, each_from};
 ghost use Rattle.vms_descfile.specs.declared.fault.Fault.TheVariants as faults;
 
 use crate::fault::Fault;
+use crate::node::Node;
 use crate::words::Reads;
-use serde_json::Value;
 use std::alloc::Global;
 use vms_desc::Listed;
 
@@ -26,8 +26,8 @@ where
 
     ghost says = { λ s. list_of (R.says s.0) };
 
-    fn read(&self, alloc: Global, value: &Value) -> Result<Listed<R::Out>, Fault> {
-        match value.as_array() {
+    fn read(&self, alloc: Global, value: &Node) -> Result<Listed<R::Out>, Fault> {
+        match value.as_list() {
             Some(items) => Ok(Listed::new(read_each(alloc, &self.0, items)?)),
             None => Err(Fault::here(alloc)),
         }
@@ -35,7 +35,7 @@ where
 }
 
 // What all items say.
-fn read_each<R: Reads>(alloc: Global, reader: &R, items: &[Value]) -> Result<Vec<R::Out>, Fault>
+fn read_each<R: Reads>(alloc: Global, reader: &R, items: &[Node]) -> Result<Vec<R::Out>, Fault>
 where
     R::Out: Drop,
     ensures { Answers (λ v. map R.means v.items)

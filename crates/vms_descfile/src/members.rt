@@ -1,12 +1,12 @@
 // The members of objects.
 ghost use Rattle.std.specs.Prelude.{◌≡◌, None, option_map};
-ghost use Rattle.serde_json.specs.View.{view};
+ghost use Rattle.vms_descfile.specs.Nodes.{view};
 ghost use Rattle.vms_descfile.specs.Answers.{Answers, list_of};
 ghost use Rattle.vms_descfile.specs.Keys.{at, at_or, maybe_at};
 
 use crate::fault::Fault;
+use crate::node::Node;
 use crate::words::Reads;
-use serde_json::Value;
 use std::alloc::Global;
 
 // What the member of a key says.
@@ -14,7 +14,7 @@ pub(crate) fn at<R: Reads>(
     alloc: Global,
     reader: &R,
     key: &str,
-    value: &Value,
+    value: &Node,
 ) -> Result<R::Out, Fault>
     ensures { Answers R.means (at (R.says reader.now) key.now (view value.now)) result }
 {
@@ -32,7 +32,7 @@ pub(crate) fn at_or<R: Reads>(
     alloc: Global,
     reader: &R,
     key: &str,
-    value: &Value,
+    value: &Node,
     default: R::Out,
 ) -> Result<R::Out, Fault>
 where
@@ -54,7 +54,7 @@ pub(crate) fn maybe_at<R: Reads>(
     alloc: Global,
     reader: &R,
     key: &str,
-    value: &Value,
+    value: &Node,
 ) -> Result<Option<R::Out>, Fault>
     ensures { Answers (option_map R.means) (maybe_at (R.says reader.now) key.now (view value.now))
         result }

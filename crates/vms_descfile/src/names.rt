@@ -1,14 +1,14 @@
 // The names of fields.
 ghost use Rattle.std.specs.Prelude.{◌≡◌, ℕ, min};
 ghost use Rattle.std.specs.Option.{option_map};
-ghost use Rattle.serde_json.specs.View.{view};
+ghost use Rattle.vms_descfile.specs.Nodes.{view};
 ghost use Rattle.vms_descfile.specs.Answers.{Answers};
 ghost use Rattle.vms_descfile.specs.Tests.{names_seen, number_in, name_in};
 
 use crate::fault::Fault;
 use crate::field_names::FieldNames;
+use crate::node::Node;
 use crate::words::Reads;
-use serde_json::Value;
 use std::alloc::Global;
 
 // Where names are looked up: nowhere in the first walk, in which each name stands for the field 0.
@@ -47,7 +47,7 @@ impl<'a> Reads for NameIn<'a> {
 
     ghost says = { λ s. name_in (names_seen s.0) };
 
-    fn read(&self, alloc: Global, value: &Value) -> Result<u32, Fault> {
+    fn read(&self, alloc: Global, value: &Node) -> Result<u32, Fault> {
         match value.as_str() {
             Some(name) => number_in(alloc, self.0, name),
             None => Err(Fault::here(alloc)),

@@ -1,6 +1,6 @@
 // Reads a description file.
 ghost use Rattle.std.specs.Prelude.{◌≡◌, Some, None};
-ghost use Rattle.serde_json.specs.View.{view};
+ghost use Rattle.vms_descfile.specs.Nodes.{view};
 ghost use Rattle.vms_spec.specs.WellFormed.{first_fault};
 ghost use Rattle.vms_parts.specs.Views.{set_of as set_seen};
 ghost use Rattle.vms_descfile.specs.Answers.{Answers};
@@ -14,9 +14,12 @@ use crate::fault::Fault;
 use crate::keys::fits;
 use crate::lists::ListOf;
 use crate::members::at;
+use crate::node::Node;
+use crate::parse::{NoNode, read_node};
 use crate::words::TextOf;
-use serde_json::Value;
+use json::Scratch;
 use std::alloc::Global;
+use std::str;
 use vms_desc::{DescFault, DescSet, Parts};
 
 /// The set that a description file says. Else the fault is `Syntax` where the bytes are no JSON
@@ -25,7 +28,8 @@ use vms_desc::{DescFault, DescSet, Parts};
 pub fn read_set(alloc: Global, text: &[u8]) -> Result<DescSet, FileFault>
     ensures { Gives (file_said text.now) result }
 {
-    let value = match read_value(alloc, text) {
+    let mut scratch = Scratch::new(alloc);
+    let value = match read_value(alloc, text, &mut scratch) {
         Ok(value) => value,
         Err(fault) => return Err(fault),
     };
@@ -47,24 +51,26 @@ fn make_set(alloc: Global, parts: Parts) -> Result<DescSet, FileFault>
 }
 
 // The value of a text.
-fn read_value(alloc: Global, text: &[u8]) -> Result<Value, FileFault>
+fn read_value<'a>(
+    alloc: Global,
+    text: &'a [u8],
+    scratch: &'a mut Scratch,
+) -> Result<Node<'a>, FileFault>
     ensures { GivesValue (value_in text.now) result }
 {
-    match Value::from_slice(alloc, text) {
+    let Ok(text) = str::from_utf8(text) else {
+        return Err(FileFault::Syntax);
+    };
+    match read_node(alloc, text, scratch) {
         Ok(value) => Ok(value),
-        Err(error) => {
-            if error.is_memory() {
-                Err(FileFault::NoMemory)
-            } else {
-                Err(FileFault::Syntax)
-            }
-        }
+        Err(NoNode::Syntax) => Err(FileFault::Syntax),
+        Err(NoNode::NoMemory) => Err(FileFault::NoMemory),
     }
 }
 
 // The parts that a value says. One walk that looks names up is enough where it finds no fault; else
 // a fault that a walk without names finds comes first.
-fn read_parts(alloc: Global, value: &Value) -> Result<Parts, Fault>
+fn read_parts(alloc: Global, value: &Node) -> Result<Parts, Fault>
     ensures { Answers set_seen (parts_of (view value.now)) result }
 {
     match read_walk(alloc, true, value) {
@@ -76,7 +82,7 @@ fn read_parts(alloc: Global, value: &Value) -> Result<Parts, Fault>
     }
 }
 
-fn read_walk(alloc: Global, asks: bool, value: &Value) -> Result<Parts, Fault>
+fn read_walk(alloc: Global, asks: bool, value: &Node) -> Result<Parts, Fault>
     ensures { Answers set_seen (set_of asks (view value.now)) result }
 {
     if fits(value, &["devices", "machines", "structs"], &[]) {
@@ -86,7 +92,7 @@ fn read_walk(alloc: Global, asks: bool, value: &Value) -> Result<Parts, Fault>
     }
 }
 
-fn read_members(alloc: Global, asks: bool, value: &Value) -> Result<Parts, Fault>
+fn read_members(alloc: Global, asks: bool, value: &Node) -> Result<Parts, Fault>
     ensures { Answers set_seen (set_in asks (view value.now)) result }
 {
     let devices = at(alloc, &ListOf(DeviceOf { asks }), "devices", value)?;

@@ -2,7 +2,7 @@
 ghost use Rattle.std.specs.Prelude.{◌≡◌, IfOk, IfErr, Some, codes};
 ghost use Rattle.serde_json.specs.Data.{Data, array, item, no_items};
 ghost use Rattle.serde_json.specs.Find.{get};
-ghost use Rattle.serde_json.specs.View.{view, items_view};
+ghost use Rattle.vms_descfile.specs.Nodes.{view, items_view};
 ghost use Rattle.vms_spec.specs.Sets.{Formula, Not};
 ghost use Rattle.vms_parts.specs.Views.{formula};
 ghost use Rattle.vms_descfile.specs.Answers.{Answer, Answers, Refuses, under, changed};
@@ -14,8 +14,8 @@ use crate::cells::{Form, Join, Leaf, form_of, read_own, read_parent};
 use crate::fault::Fault;
 use crate::members::at;
 use crate::names::Scope;
+use crate::node::Node;
 use crate::words::{Reads, U32};
-use serde_json::Value;
 use std::alloc::Global;
 use vms_desc::Test;
 
@@ -35,13 +35,13 @@ impl<'a> Reads for TestIn<'a> {
 
     ghost says = { λ s. test_of (scope_seen s.0) };
 
-    fn read(&self, alloc: Global, value: &Value) -> Result<Test, Fault> {
+    fn read(&self, alloc: Global, value: &Node) -> Result<Test, Fault> {
         read_test(alloc, DEEPEST, self.0, value)
     }
 }
 
 // A test that nests at most so deep.
-fn read_test(alloc: Global, depth: u8, scope: Scope, value: &Value) -> Result<Test, Fault>
+fn read_test(alloc: Global, depth: u8, scope: Scope, value: &Node) -> Result<Test, Fault>
     ensures { Answers formula (test_within depth (scope_seen scope.entry) (view value.now)) result }
 {
     if depth == 0 {
@@ -65,7 +65,7 @@ fn read_test(alloc: Global, depth: u8, scope: Scope, value: &Value) -> Result<Te
 }
 
 // A test without tests in it.
-fn read_leaf(alloc: Global, leaf: Leaf, scope: Scope, value: &Value) -> Result<Test, Fault>
+fn read_leaf(alloc: Global, leaf: Leaf, scope: Scope, value: &Node) -> Result<Test, Fault>
     ensures { Answers formula (leaf_as leaf (scope_seen scope.entry) (view value.now)) result }
 {
     match leaf {
@@ -91,11 +91,11 @@ fn negated(alloc: Global, inner: Result<Test, Fault>) -> Result<Test, Fault>
 }
 
 // The items of a list of two under a key.
-fn two_items<'a>(
+fn two_items<'v, 'a>(
     alloc: Global,
-    value: &'a Value,
+    value: &'v Node<'a>,
     key: &str,
-) -> Result<(&'a Value, &'a Value), Fault>
+) -> Result<(&'v Node<'a>, &'v Node<'a>), Fault>
     ensures { Answers pair_seen (said_at two_of key.now (view value.now)) result }
 {
     match value.get(key) {
@@ -107,16 +107,19 @@ fn two_items<'a>(
     }
 }
 
-fn two_of<'a>(alloc: Global, list: &'a Value) -> Result<(&'a Value, &'a Value), Fault>
+fn two_of<'v, 'a>(alloc: Global, list: &'v Node<'a>) -> Result<(&'v Node<'a>, &'v Node<'a>), Fault>
     ensures { Answers pair_seen (two_of (view list.now)) result }
 {
-    match list.as_array() {
+    match list.as_list() {
         Some(items) => two_in(alloc, items),
         None => Err(Fault::here(alloc)),
     }
 }
 
-fn two_in<'a>(alloc: Global, items: &'a [Value]) -> Result<(&'a Value, &'a Value), Fault>
+fn two_in<'v, 'a>(
+    alloc: Global,
+    items: &'v [Node<'a>],
+) -> Result<(&'v Node<'a>, &'v Node<'a>), Fault>
     ensures { Answers pair_seen (two_in (Some (items_view items.now))) result }
 {
     if items.len() != 2 {

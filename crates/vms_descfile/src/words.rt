@@ -2,12 +2,13 @@
 ghost use Rattle.std.specs.Prelude.{◌≡◌, List, ℕ, ℤ, OnSome};
 ghost use Rattle.std.specs.Str.{bytes_eq};
 ghost use Rattle.serde_json.specs.Data.{Data};
-ghost use Rattle.serde_json.specs.View.{view};
+ghost use Rattle.vms_descfile.specs.Nodes.{view};
 ghost use Rattle.vms_descfile.specs.Answers.{Answer, Answers, given};
 ghost use Rattle.vms_descfile.specs.Keys.{natural, u16_of, u32_of, u64_of, integer_of, text_of};
 
 use crate::fault::Fault;
-use serde_json::{Number, Value};
+use crate::node::Node;
+use serde_json::Number;
 use std::alloc::Global;
 use vms_desc::Text;
 
@@ -23,12 +24,12 @@ pub(crate) trait Reads {
     // What a value says.
     ghost says: { Self → Data → Answer Meaning };
 
-    fn read(&self, alloc: Global, value: &Value) -> Result<Self::Out, Fault>
+    fn read(&self, alloc: Global, value: &Node) -> Result<Self::Out, Fault>
         ensures { Answers means (says self.now (view value.now)) result };
 }
 
 // A whole number from 0 on, up to the greatest that may be.
-fn read_natural(alloc: Global, most: u64, value: &Value) -> Result<u64, Fault>
+fn read_natural(alloc: Global, most: u64, value: &Node) -> Result<u64, Fault>
     ensures { Answers (λ n. n) (natural most (view value.now)) result }
 {
     match value.as_u64() {
@@ -49,7 +50,7 @@ impl Reads for U32 {
 
     ghost says = { λ _. u32_of };
 
-    fn read(&self, alloc: Global, value: &Value) -> Result<u32, Fault> {
+    fn read(&self, alloc: Global, value: &Node) -> Result<u32, Fault> {
         Ok(read_natural(alloc, u32::MAX as u64, value)? as u32)
     }
 }
@@ -66,7 +67,7 @@ impl Reads for TextOf {
 
     ghost says = { λ _. text_of };
 
-    fn read(&self, alloc: Global, value: &Value) -> Result<Text, Fault> {
+    fn read(&self, alloc: Global, value: &Node) -> Result<Text, Fault> {
         match value.as_str() {
             Some(text) => Ok(Text::new(String::from_str(alloc, text)?)),
             None => Err(Fault::here(alloc)),
@@ -86,7 +87,7 @@ impl Reads for U16 {
 
     ghost says = { λ _. u16_of };
 
-    fn read(&self, alloc: Global, value: &Value) -> Result<u16, Fault> {
+    fn read(&self, alloc: Global, value: &Node) -> Result<u16, Fault> {
         Ok(read_natural(alloc, u16::MAX as u64, value)? as u16)
     }
 }
@@ -103,7 +104,7 @@ impl Reads for U64 {
 
     ghost says = { λ _. u64_of };
 
-    fn read(&self, alloc: Global, value: &Value) -> Result<u64, Fault> {
+    fn read(&self, alloc: Global, value: &Node) -> Result<u64, Fault> {
         read_natural(alloc, u64::MAX, value)
     }
 }
@@ -121,7 +122,7 @@ impl Reads for Integer {
 
     ghost says = { λ _. integer_of };
 
-    fn read(&self, alloc: Global, value: &Value) -> Result<i128, Fault> {
+    fn read(&self, alloc: Global, value: &Node) -> Result<i128, Fault> {
         match value.as_number().and_then(Number::as_i128) {
             Some(number) => Ok(number),
             None => Err(Fault::here(alloc)),

@@ -1,5 +1,5 @@
 use Rattle.std.proofs.Common.{Bool, Some, sym, subst, ap, ◌∙◌}
-use Rattle.serde_json.specs.View.{view}
+use Rattle.vms_descfile.specs.Nodes.{view}
 use Rattle.vms_parts.specs.Views.{sub_of as sub_seen}
 use Rattle.vms_descfile.specs.Answers.{Answers}
 use Rattle.vms_descfile.specs.Tests.{Names, names_if, names_seen}

@@ -1,5 +1,5 @@
 use Rattle.std.proofs.Common.{take}
-use Rattle.serde_json.specs.View.{items_view}
+use Rattle.vms_descfile.specs.Nodes.{items_view}
 use Rattle.vms_descfile.specs.Tests.{names_of}
 use Rattle.vms_descfile.specs.Index.{IsIndex}
 use Rattle.vms_descfile.proofs.field_names.index_of.Given as goal

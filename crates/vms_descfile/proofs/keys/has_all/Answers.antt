@@ -1,5 +1,5 @@
 use Rattle.std.proofs.Common.{◌∙◌}
-use Rattle.serde_json.specs.View.{view}
+use Rattle.vms_descfile.specs.Nodes.{view}
 use Rattle.vms_descfile.proofs.KeyLaws.{all_has}
 use Rattle.vms_descfile.proofs.keys.has_all.Goals as goal
 

@@ -1,4 +1,4 @@
-use Rattle.serde_json.specs.View.{view}
+use Rattle.vms_descfile.specs.Nodes.{view}
 use Rattle.vms_descfile.proofs.WalkLaws.{asked_is, first_is, later_is}
 use Rattle.vms_descfile.proofs.read.read_parts.Goals as goal
 

@@ -1,5 +1,5 @@
 use Rattle.std.proofs.Common.{Err, sym, subst, ap, ◌∙◌}
-use Rattle.serde_json.specs.View.{view}
+use Rattle.vms_descfile.specs.Nodes.{view}
 use Rattle.vms_descfile.specs.Files.{Said, parts_said, parts_of}
 use Rattle.vms_descfile.specs.Given.{Gives}
 use Rattle.vms_descfile.proofs.FileLaws.{no_json, said_by, shape_said}

@@ -1,10 +1,13 @@
-use Rattle.serde_json.specs.View.{view}
-use Rattle.std.proofs.lemmas.Bool.{false≢true}
+use Rattle.std.proofs.Common.{sym, ap, ◌∙◌}
+use Rattle.serde_json.specs.Read.{read}
+use Rattle.vms_descfile.specs.Nodes.{view}
 use Rattle.vms_descfile.proofs.FileLaws.{has_value, has_none}
 use Rattle.vms_descfile.proofs.read.read_value.Goals as goal
 
-pub returns-in-Ok : goal.returns-in-Ok
-returns-in-Ok c = has_value c.args.text.now (view c.in-Ok.value) c.in-Ok.ensures.ok.0 c.in-Ok.ensures.ok.1
+pub returns-in_default : goal.returns-in_default
+returns-in_default c = has_none c.args.text.now (λ utf8. absurd (c.in_default.ensures.cases.0 utf8))
 
-pub returns-else-is_memory : goal.returns-else-is_memory
-returns-else-is_memory c = has_none c.args.text.now (c.in-Err.ensures.err (λ wanting. false≢true (c.if-is_memory.ensures.1 wanting)))
+pub returns-in-Ok-read_node : goal.returns-in-Ok-read_node
+returns-in-Ok-read_node c =
+    let cases = c.in-Ok.ensures.cases in
+    has_value c.args.text.now (view c.in-Ok-read_node.value) cases.1 (ap read (sym cases.0) ∙ c.in-Ok-read_node.ensures.ok)

@@ -1,5 +1,5 @@
 use Rattle.std.proofs.Common.{◌≡◌, ◌-◌, [], refl, sym, subst, ap, ◌∙◌, arith, codes, Err}
-use Rattle.serde_json.specs.View.{view}
+use Rattle.vms_descfile.specs.Nodes.{view}
 use Rattle.vms_spec.specs.Sets.{Not}
 use Rattle.vms_parts.specs.Views.{formula}
 use Rattle.vms_descfile.specs.declared.cells.Form.TheVariants as forms

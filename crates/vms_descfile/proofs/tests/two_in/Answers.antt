@@ -1,5 +1,5 @@
 use Rattle.std.proofs.Common.{Some, sym, subst}
-use Rattle.serde_json.specs.View.{items_view}
+use Rattle.vms_descfile.specs.Nodes.{items_view}
 use Rattle.vms_descfile.specs.Answers.{Refuses}
 use Rattle.vms_descfile.specs.Tests.{two_in}
 use Rattle.vms_descfile.proofs.TestLaws.{not_two, just_two}
