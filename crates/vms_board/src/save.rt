@@ -11,6 +11,7 @@ ghost use Rattle.vms_board.specs.declared.save.SaveFault.TheVariants as faults;
 
 use crate::board::{Board, machine};
 use crate::images::images;
+use dev_base::NEWEST;
 use std::alloc::Global;
 use thiserror::Error;
 use vms_desc::DescSet;
@@ -58,11 +59,32 @@ impl Board {
         ensures count { K.faults sink.old ≤ K.faults sink.new }
         ensures promise { K.promise sink.new ≡ K.promise sink.old }
     {
-        let machine = machine(self.devices.level());
+        if set == NEWEST {
+            return self.save_by(alloc, set, self.loader.set(), sink);
+        }
         let shipped = DescSet::shipped(alloc, set)?;
-        let images = self.saved(alloc, set, &shipped)?;
-        let text = describe(alloc, &shipped, &images)?;
-        write_stream(&shipped, Some(machine), &images, Some(&text), sink)?;
+        self.save_by(alloc, set, &shipped, sink)
+    }
+
+    // Appends the board's stream under the shipped set of a number.
+    fn save_by<K: Sink>(
+        &self,
+        alloc: Global,
+        set: u8,
+        shipped: &DescSet,
+        sink: &mut K,
+    ) -> Result<(), SaveFault>
+        requires may { MaySaveUnder self.now.state.level set }
+        requires shipped { described shipped.now ≡ shipped_set set }
+        ensures content { let bytes = saved_stream set self.now.state in
+            Saves bytes (outlet K.Sink sink.old) (outlet K.Sink sink.new) result }
+        ensures count { K.faults sink.old ≤ K.faults sink.new }
+        ensures promise { K.promise sink.new ≡ K.promise sink.old }
+    {
+        let machine = machine(self.devices.level());
+        let images = self.saved(alloc, set, shipped)?;
+        let text = describe(alloc, shipped, &images)?;
+        write_stream(shipped, Some(machine), &images, Some(&text), sink)?;
         Ok(())
     }
 

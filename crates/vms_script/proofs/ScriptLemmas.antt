@@ -5,8 +5,10 @@ use Rattle.std.proofs.lemmas.List.{append-nil}
 use Rattle.vms_spec.specs.Spelling.{first_line, longer_line}
 use Rattle.vms_script.specs.Lines.{ScriptLine, Read, line_read}
 use Rattle.vms_script.specs.Script.{Split, Reading, lines_of, begun, bad, also, with_line, unended, tail_read, lines_read, text_read}
-use Rattle.vms_script.specs.Views.{SaysLines, IsBadAt, line_view, lines_view}
+use Rattle.vms_script.specs.Views.{SaysLines, IsBadAt, IsPut, IsRefusal, ReadsAs}
 use Rattle.vms_script.specs.declared.line.Line.{Line}
+use Rattle.vms_script.specs.declared.line.ScriptFault.{ScriptFault}
+use Rattle.vms_script.specs.declared.line.ScriptFault.TheVariants.{Bad, NoMemory}
 use Rattle.vms_script.specs.declared.line.ScriptReason.{ScriptReason}
 use Rattle.vms_script.specs.declared.line.ScriptReason.TheVariants as reasons
 
@@ -94,9 +96,28 @@ reads_lines reading lines e = subst (λ (r : Reading). SaysLines r lines) (sym e
 pub reads_bad : (reading : Reading) (number : ℕ) (reason : ScriptReason) → reading ≡ bad number reason → IsBadAt reading number reason
 reads_bad reading number reason e = subst (λ (r : Reading). IsBadAt r number reason) (sym e) (refl, refl)
 
-pub view_push : (lines : List Line) (line : Line) → lines_view (lines ++ line ∷ []) ≡ lines_view lines ++ line_view line ∷ []
-view_push [] line = refl
-view_push (first ∷ lines) line = ap (λ (rest : List ScriptLine). line_view first ∷ rest) (view_push lines line)
+-- what a line says stands behind what was said before
+pub line_put : (before : List ScriptLine) (play : Option ℕ) (number : ℕ) (text line after : List ℕ) (all : List ScriptLine) → first_line text ≡ Some (line, after) → IsPut (line_read play line) before all
+    → after_lines all (text_read play (number + 1) after) ≡ after_lines before (text_read play number text)
+line_put before play number text line after all first put = by (line_read play line) refl put where
+  by : (read : Read) → line_read play line ≡ read → IsPut read before all → after_lines all (text_read play (number + 1) after) ≡ after_lines before (text_read play number text)
+  by (Ok said) good h =
+      ap (λ (lines : List ScriptLine). after_lines lines (text_read play (number + 1) after)) h
+      ∙ line_goes before play number text line after said first good
+  by (Err reason) bad h = absurd h
+
+-- a last line that says something lacks its end alone
+pub put_unended : (before all : List ScriptLine) (read : Read) → IsPut read before all → tail_reason read ≡ reasons.NoEnd
+put_unended before all (Ok line) h = refl
+put_unended before all (Err reason) h = absurd h
+
+-- a line that is refused is the text's first bad one
+pub refused : {V : Type 0} (lines : V) (items : V → List Line) (reading : Reading) (read : Read) (number : ℕ) (fault : ScriptFault)
+    → ((reason : ScriptReason) → read ≡ Err reason → reading ≡ bad number reason) → IsRefusal read number fault → ReadsAs items reading (Err fault)
+refused lines items reading (Ok line) number (Bad n reason) is h = absurd h
+refused lines items reading (Err why) number (Bad n reason) is h =
+    reads_bad reading n reason (is why refl ∙ ap (λ (k : ℕ). bad k why) (sym h.0) ∙ ap (λ (r : ScriptReason). bad n r) (sym h.1))
+refused lines items reading read number NoMemory is h = tt
 
 pub is_empty : (text : List ℕ) → (length text == 0) ≡ true → length text ≡ 0
 is_empty text e = eqb-true (length text) 0 e

@@ -1,5 +1,5 @@
 -- What contracts see of lines, parts of lines and readings.
-use Rattle.std.specs.Prelude.{◌≡◌, ℕ, ◌^◌, nat_lt, if◌then◌else◌, List, map, Option, Some, None, Result, Ok, Err, ℤ, pos, negsuc}
+use Rattle.std.specs.Prelude.{◌≡◌, ℕ, ◌^◌, nat_lt, if◌then◌else◌, List, [], ◌∷◌, ◌++◌, map, Option, Some, None, Result, Ok, Err, ℤ, pos, negsuc}
 use Rattle.arrayvec.specs.ArrayString.{ArrayString}
 use Rattle.dev_board.specs.declared.event.Event as board_events
 use Rattle.vms_script.specs.Lines.{ScriptLine, Happens, Saves, Restores, Read}
@@ -24,6 +24,17 @@ lines_view lines = map line_view lines
 abbrev pub read_view : Result Line ScriptReason → Read
 read_view (Ok line) = Ok (line_view line)
 read_view (Err reason) = Err reason
+
+-- what is read of a line stands behind the lines before it
+abbrev pub IsPut : Read → List ScriptLine → List ScriptLine → Type 0
+IsPut (Ok line) old new = new ≡ old ++ line ∷ []
+IsPut (Err reason) old new = ⊥
+
+-- the line of a number is refused for this reason; memory may be wanting in any case
+abbrev pub IsRefusal : Read → ℕ → ScriptFault → Type 0
+IsRefusal (Ok line) number (Bad n reason) = ⊥
+IsRefusal (Err why) number (Bad n reason) = (n ≡ number) × (reason ≡ why)
+IsRefusal read number NoMemory = Unit {0}
 
 -- an event that was read, or the reason of its line
 abbrev pub event_view : Result board_events.Event ScriptReason → Read

@@ -1,9 +1,8 @@
 // Reads scripts.
-ghost use Rattle.std.specs.Prelude.{◌≡◌, ◌<◌, ◌++◌, ◌∷◌, [], length, OnOk};
-ghost use Rattle.std.specs.Bool.{OnTrue};
-ghost use Rattle.vms_script.specs.Lines.{line_read, line_of_words};
+ghost use Rattle.std.specs.Prelude.{◌≡◌, ◌<◌, ◌++◌, ◌∷◌, [], length, IfErr, OnOk};
+ghost use Rattle.vms_script.specs.Lines.{line_of_words, line_read, play_line};
 ghost use Rattle.vms_script.specs.Script.{script_read};
-ghost use Rattle.vms_script.specs.Views.{read_view, ReadsAs};
+ghost use Rattle.vms_script.specs.Views.{line_view, lines_view, read_view, IsPut, IsRefusal, ReadsAs};
 
 use crate::event::read_event;
 use crate::line::{Line, ScriptFault, ScriptReason};
@@ -23,13 +22,9 @@ pub fn read_script(alloc: Global, text: &[u8], play: Option<u8>) -> Result<Vec<L
     let mut rest = text;
     let mut number = 1;
     while let Some(next) = next_line(rest) {
-        match read_line(next.text, play) {
-            Ok(line) => {
-                if !push_line(&mut lines, line) {
-                    return Err(ScriptFault::NoMemory);
-                }
-            }
-            Err(reason) => return Err(bad(number, reason)),
+        match put_line(&mut lines, number, next.text, play) {
+            Ok(()) => {}
+            Err(fault) => return Err(fault),
         }
         rest = next.after;
         number += 1;
@@ -37,17 +32,79 @@ pub fn read_script(alloc: Global, text: &[u8], play: Option<u8>) -> Result<Vec<L
     if rest.is_empty() {
         return Ok(lines);
     }
-    match read_line(rest, play) {
-        Ok(_) => Err(bad(number, ScriptReason::NoEnd)),
-        Err(reason) => Err(bad(number, reason)),
+    match put_line(&mut lines, number, rest, play) {
+        Ok(()) => Err(bad(number, ScriptReason::NoEnd)),
+        Err(fault) => Err(fault),
+    }
+}
+
+// Appends what a line without its line feed says, or tells that it says nothing.
+fn put_line(
+    lines: &mut Vec<Line>,
+    number: u32,
+    text: &[u8],
+    play: Option<u8>,
+) -> Result<(), ScriptFault>
+    ensures put { let read = line_read play text.now in
+        OnOk result (IsPut read (lines_view lines.old.items) (lines_view lines.new.items)) }
+    ensures refused { IfErr result (IsRefusal (line_read play text.now) number) }
+    ensures long { OnOk result (0 < length text.now) }
+{
+    let split = split_word(text);
+    match split.rest {
+        Some(rest) => put_words(lines, number, play, split.word, rest),
+        None => {
+            if split.word == b"ack".as_slice() {
+                push_line(lines, Line::Event(Event::Ack))
+            } else {
+                Err(bad(number, ScriptReason::Form))
+            }
+        }
+    }
+}
+
+// Appends what a line says by its first word and what stands behind it.
+fn put_words(
+    lines: &mut Vec<Line>,
+    number: u32,
+    play: Option<u8>,
+    word: &[u8],
+    rest: &[u8],
+) -> Result<(), ScriptFault>
+    ensures put { let read = line_of_words play word.now rest.now in
+        OnOk result (IsPut read (lines_view lines.old.items) (lines_view lines.new.items)) }
+    ensures refused { IfErr result (IsRefusal (line_of_words play word.now rest.now) number) }
+{
+    match read_event(word, rest) {
+        Some(Ok(event)) => push_line(lines, Line::Event(event)),
+        Some(Err(reason)) => Err(bad(number, reason)),
+        None => match read_play(play, word, rest) {
+            Ok(line) => push_line(lines, line),
+            Err(reason) => Err(bad(number, reason)),
+        },
+    }
+}
+
+// A line that only a session has.
+fn read_play(play: Option<u8>, word: &[u8], rest: &[u8]) -> Result<Line, ScriptReason>
+    ensures { read_view result ≡ play_line play word.now rest.now }
+{
+    match play {
+        Some(level) => read_session(level, word, rest),
+        None => Err(ScriptReason::Form),
     }
 }
 
 // Appends a line, or tells that memory is wanting.
-fn push_line(lines: &mut Vec<Line>, line: Line) -> bool
-    ensures { OnTrue result (lines.new.items ≡ lines.old.items ++ line ∷ []) }
+fn push_line(lines: &mut Vec<Line>, line: Line) -> Result<(), ScriptFault>
+    ensures put { let all = lines_view lines.old.items ++ line_view line ∷ [] in
+        OnOk result (lines_view lines.new.items ≡ all) }
+    ensures wanting { IfErr result (λ fault. fault ≡ ScriptFault.NoMemory) }
 {
-    lines.push(line).is_ok()
+    match lines.push(line) {
+        Ok(()) => Ok(()),
+        Err(_) => Err(ScriptFault::NoMemory),
+    }
 }
 
 // The fault at a line.
@@ -55,36 +112,4 @@ fn bad(line: u32, reason: ScriptReason) -> ScriptFault
     ensures { result ≡ ScriptFault.Bad line reason }
 {
     ScriptFault::Bad { line, reason }
-}
-
-// A line without its line feed.
-fn read_line(line: &[u8], play: Option<u8>) -> Result<Line, ScriptReason>
-    ensures read { read_view result ≡ line_read play line.now }
-    ensures long { OnOk result (0 < length line.now) }
-{
-    let split = split_word(line);
-    match split.rest {
-        Some(rest) => read_words(play, split.word, rest),
-        None => {
-            if split.word == b"ack".as_slice() {
-                Ok(Line::Event(Event::Ack))
-            } else {
-                Err(ScriptReason::Form)
-            }
-        }
-    }
-}
-
-// A line by its first word and what stands behind it.
-fn read_words(play: Option<u8>, word: &[u8], rest: &[u8]) -> Result<Line, ScriptReason>
-    ensures { read_view result ≡ line_of_words play word.now rest.now }
-{
-    match read_event(word, rest) {
-        Some(Ok(event)) => Ok(Line::Event(event)),
-        Some(Err(reason)) => Err(reason),
-        None => match play {
-            Some(level) => read_session(level, word, rest),
-            None => Err(ScriptReason::Form),
-        },
-    }
 }
