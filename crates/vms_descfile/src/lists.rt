@@ -10,6 +10,9 @@ use crate::words::Reads;
 use std::alloc::Global;
 use vms_desc::Listed;
 
+// No list of a well-formed set is longer.
+const LONGEST: usize = 256;
+
 // A list whose items are read so.
 #[derive(Clone, Copy)]
 pub(crate) struct ListOf<R>(pub(crate) R);
@@ -41,7 +44,7 @@ where
     ensures { Answers (λ v. map R.means v.items)
         (each_from (R.says reader.now) 0 (items_view items.now)) result }
 {
-    let mut list = Vec::new(alloc);
+    let mut list = Vec::with_capacity(alloc, items.len().min(LONGEST))?;
     for (i, item) in items.iter().enumerate() {
         match reader.read(alloc, item) {
             Ok(out) => put(&mut list, out)?,

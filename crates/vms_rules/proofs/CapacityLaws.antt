@@ -5,7 +5,7 @@ use Rattle.std.proofs.lemmas.Bool.Decides.{nat_tests}
 use Rattle.vms_spec.specs.Layout.{counted}
 use Rattle.vms_spec.specs.Rules.{int_le, counts_well}
 use Rattle.vms_spec.specs.Sets.{Field}
-use Rattle.vms_parts.specs.Capacities.{lesser, least_from, least_of, AreLeast}
+use Rattle.vms_parts.specs.Capacities.{lesser, least_from, AreLeast}
 use Rattle.vms_rules.specs.Capacities.{fits}
 
 both_below : (n a b : ℕ) → nat_le n (min a b) ≡ (nat_le n a && nat_le n b)

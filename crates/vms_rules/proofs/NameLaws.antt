@@ -1,12 +1,12 @@
 -- Names and sets of names.
-use Rattle.std.proofs.Common.{◌≡◌, ℕ, ◌+◌, ◌<◌, ◌≤◌, List, [], ◌∷◌, ◌++◌, length, length-take, length-append, get_or, drop, take, Bool, true, false, refl, sym, ap, subst, ◌∙◌, arith}
+use Rattle.std.proofs.Common.{◌≡◌, ℕ, ◌+◌, ◌<◌, ◌≤◌, List, [], ◌∷◌, ◌++◌, length, length-take, length-append, get_or, drop, take, Bool, true, false, Ordering, Less, Equal, Greater, refl, sym, ap, subst, ◌∙◌, arith}
 use Rattle.std.specs.Prelude.{◌&&◌, ◌||◌, not, nat_eq}
 use Rattle.std.specs.BTreeSet.{BTreeSet, UpdatesBy}
 use Rattle.std.specs.Set.{KeepsOthers}
 use Rattle.std.specs.Map.{IsKeyTest, AreApart}
-use Rattle.std.specs.Cmp.{eq_by_cmp_equiv}
-use Rattle.std.specs.Cmp.Lexicographic.{unequal, slice_cmp, nat_list_cmp_total, nat_list_eq_equiv}
-use Rattle.std.specs.Ordering.{nat_cmp, is_eq}
+use Rattle.std.specs.Cmp.{IsTotalOrder, eq_by_cmp_equiv, then_total, on_total, nat_cmp_total}
+use Rattle.std.specs.Cmp.Lexicographic.{unequal, slice_cmp, nat_list_cmp_total}
+use Rattle.std.specs.Ordering.{nat_cmp, is_eq, eq_by_cmp, ordering_then}
 use Rattle.std.specs.List.{list_all, list_any}
 use Rattle.std.specs.Str.{bytes_eq}
 use Rattle.std.proofs.lemmas.List.{take_more}
@@ -17,7 +17,7 @@ use Rattle.vms_spec.specs.Lists.{every}
 use Rattle.vms_spec.specs.Names.{is_name_byte, is_name, is_sub_name}
 use Rattle.vms_spec.specs.Streams.{is_one_of}
 use Rattle.vms_parts.proofs.Items.{drop_is}
-use Rattle.vms_rules.specs.NameSets.{has_name, with_name, are_new_to}
+use Rattle.vms_rules.specs.NameSets.{ending, by_ending, has_name, with_name, are_new_to}
 
 -- ---- whole lists
 
@@ -31,11 +31,22 @@ all_names_of most (n ∷ names) = ap (λ (r : Bool). is_name most n && r) (all_n
 
 -- ---- sets
 
-apart : (bs cs ks : List ℕ) → bytes_eq bs cs ≡ false → bytes_eq bs ks ≡ true → bytes_eq cs ks ≡ false
-apart bs cs ks n y = nat_list_eq_equiv.symm cs ks ∙ sym (nat_list_eq_equiv.congr bs ks cs y) ∙ n
+in_order : IsTotalOrder by_ending
+in_order = then_total (on_total (λ (t : ℕ × List ℕ). t.0) nat_cmp_total) (on_total (λ (t : ℕ × List ℕ). t.1) nat_list_cmp_total)
 
-apart_in_order : (bs cs ks : List ℕ) → bytes_eq bs cs ≡ false → is_eq (slice_cmp nat_cmp bs ks) ≡ true → is_eq (slice_cmp nat_cmp cs ks) ≡ false
-apart_in_order bs cs ks n y = is_eq-slice_cmp cs ks ∙ apart bs cs ks n (sym (is_eq-slice_cmp bs ks) ∙ y)
+second_differs : (a b : Ordering) → is_eq b ≡ false → is_eq (ordering_then a b) ≡ false
+second_differs Less b e = refl
+second_differs Equal b e = e
+second_differs Greater b e = refl
+
+apart_in_order : (name n : List ℕ) (k : ℕ × List ℕ) → bytes_eq name n ≡ false → eq_by_cmp by_ending (ending name, name) k ≡ true
+    → eq_by_cmp by_ending (ending n, n) k ≡ false
+apart_in_order name n k differ same =
+    let equal = eq_by_cmp_equiv in_order in
+    let new : ℕ × List ℕ = (ending name, name) in
+    let other : ℕ × List ℕ = (ending n, n) in
+    equal.symm other k ∙ sym (equal.congr new k other same)
+    ∙ second_differs (nat_cmp (ending name) (ending n)) (slice_cmp nat_cmp name n) (is_eq-slice_cmp name n ∙ differ)
 
 other_keys : {K : Type 0} (eq : K → K → Bool) (test : K → Bool) (old new : List K) → KeepsOthers eq test old new
     → (other : K → Bool) → IsKeyTest eq other → AreApart test other → list_any other new ≡ list_any other old
@@ -46,12 +57,16 @@ or_is : (b c r : Bool) → (b ≡ true → r ≡ true) → (b ≡ false → r �
 or_is true c r left right = left refl
 or_is false c r left right = right refl
 
-pub name_added : (names after : BTreeSet (Bor (List ℕ))) (name : List ℕ) → UpdatesBy (λ x y. slice_cmp nat_cmp x.now y.now) (λ k. slice_cmp nat_cmp name k.now) names after true
+abbrev pub seen : ℕ × Bor (List ℕ) → ℕ × List ℕ
+seen k = (k.0, k.1.now)
+
+pub name_added : (names after : BTreeSet (ℕ × Bor (List ℕ))) (name : List ℕ)
+    → UpdatesBy (λ x y. by_ending (seen x) (seen y)) (λ k. by_ending (ending name, name) (seen k)) names after true
     → (n : List ℕ) → has_name after n ≡ with_name (has_name names) name n
 name_added names after name h n =
     or_is (bytes_eq name n) (has_name names n) (has_name after n)
     (λ y. subst (λ l. has_name after l ≡ true) ((bytes_eq-Decides name n).0 y) h.1)
-    (λ e. other_keys _ _ _ _ h.3 _ (λ x y. (eq_by_cmp_equiv nat_list_cmp_total).congr n x.now y.now) (λ k. apart_in_order name n k.now e))
+    (λ e. other_keys _ _ _ _ h.3 _ (λ x y. (eq_by_cmp_equiv in_order).congr (ending n, n) (seen x) (seen y)) (λ k. apart_in_order name n (seen k) e))
 
 -- ---- lists of names that are new to a set
 

@@ -3,9 +3,8 @@ use Rattle.std.proofs.Common.{◌≡◌, ℕ, suc, ◌≤◌, List, [], ◌∷�
 use Rattle.std.specs.Prelude.{◌||◌, ◌&&◌, not, nat_le}
 use Rattle.std.specs.BTreeMap.{is_at}
 use Rattle.std.specs.BTreeSet.{BTreeSet}
-use Rattle.std.specs.Cmp.Lexicographic.{slice_cmp, nat_list_eq_equiv}
+use Rattle.std.specs.Cmp.Lexicographic.{nat_list_eq_equiv}
 use Rattle.std.specs.List.{list_any}
-use Rattle.std.specs.Ordering.{nat_cmp}
 use denote.Ref.{Bor}
 use Rattle.std.specs.Str.{bytes_eq}
 use Rattle.std.proofs.lemmas.Bool.{and_parts, leb-true}
@@ -19,7 +18,7 @@ use Rattle.vms_rules.specs.declared.fault.DescFault.{DescFault}
 use Rattle.vms_rules.specs.Judged.{IsFirst}
 use Rattle.vms_rules.specs.Walks.{structs_from, devices_from}
 use Rattle.vms_rules.proofs.WalkLaws.{first_stops, first_good, later_stops}
-use Rattle.vms_rules.specs.NameSets.{has_name, with_name, are_new_to}
+use Rattle.vms_rules.specs.NameSets.{ending, by_ending, has_name, with_name, are_new_to}
 
 -- ---- distinct names
 
@@ -61,8 +60,8 @@ none_of_none had (n ∷ names) empty = ap (λ (b : Bool). not b && none had name
 pub distinct_is : (had : List ℕ → Bool) (names : List (List ℕ)) → ((n : List ℕ) → had n ≡ false) → are_new_to had names ≡ are_distinct names
 distinct_is had names empty = new_and_distinct had names ∙ ap (λ (b : Bool). b && are_distinct names) (none_of_none had names empty)
 
-pub empty_has_none : (names : BTreeSet (Bor (List ℕ))) → names.keys ≡ [] → (n : List ℕ) → has_name names n ≡ false
-empty_has_none names e n = ap (λ (keys : List (Bor (List ℕ))). list_any (is_at (λ k. slice_cmp nat_cmp n k.now)) keys) e
+pub empty_has_none : (names : BTreeSet (ℕ × Bor (List ℕ))) → names.keys ≡ [] → (n : List ℕ) → has_name names n ≡ false
+empty_has_none names e n = ap (λ (keys : List (ℕ × Bor (List ℕ))). list_any (is_at (λ k. by_ending (ending n, n) (k.0, k.1.now))) keys) e
 
 -- ---- the number of parts
 

@@ -19,7 +19,7 @@ use crate::DescFault;
 use crate::capacities::fits;
 use crate::fault::lowest;
 use crate::formulas::{Scope, is_small_if_any, may_name, names_well};
-use crate::names::{add_name, add_names, are_names, is_name};
+use crate::names::{Ended, add_name, add_names, are_names, is_name};
 use std::alloc::{AllocError, Global};
 use std::collections::BTreeSet;
 use vms_kinds::{Item, Kind};
@@ -186,7 +186,10 @@ fn default_fits(least: Option<u32>, field: &Field) -> bool
 }
 
 // Adds the names of a field, and says whether all are new.
-fn add_field_names<'a>(names: &mut BTreeSet<&'a str>, field: &'a Field) -> Result<bool, AllocError>
+fn add_field_names<'a>(
+    names: &mut BTreeSet<Ended<'a>>,
+    field: &'a Field,
+) -> Result<bool, AllocError>
     ensures new { IfOk result (λ are_new.
         are_new ≡ are_new_to (has_name names.old) (field.now.name ∷ field.now.former)) }
     ensures added { OnOk result ((n : List ℕ)

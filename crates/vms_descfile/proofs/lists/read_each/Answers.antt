@@ -5,7 +5,7 @@ use Rattle.vms_descfile.proofs.lists.read_each.Goals as goal
 pub loop-i-init : goal.loop-i-init
 loop-i-init g c =
     let whole = from (g.R.Reads.says c.args.reader.now) c.args.items.now 0 in
-    before_none whole ∙ ap (λ l. before (map g.R.Reads.means l) whole) (sym c.new-list.ensures.items)
+    before_none whole ∙ ap (λ l. before (map g.R.Reads.means l) whole) (sym c.in_ok-list.ensures.items)
 
 pub returns-in-Err : goal.returns-in-Err
 returns-in-Err g c =

@@ -1,4 +1,4 @@
-use Rattle.std.proofs.Common.{◌≡◌, ◌∙◌, map, length, arith}
+use Rattle.std.proofs.Common.{◌∙◌, map, arith}
 use Rattle.std.proofs.lemmas.List.{length-map}
 use Rattle.vms_parts.specs.Views.{field_of}
 use Rattle.vms_rules.proofs.CapacityLaws.{least_fits}
