@@ -11,14 +11,17 @@ use vms_write::{are_ready, write_stream};
 /// where `fail` stands before one; and what the loader keeps then.
 pub(crate) fn again(alloc: Global, set: DescSet, row: &str) -> Option<String> {
     let mut loader = Loader::new(alloc, set).ok()?;
+    all_of(alloc, &mut loader, row)
+}
+
+fn all_of(alloc: Global, loader: &mut Loader, row: &str) -> Option<String> {
     let mut answers = String::new(alloc);
     for stream in row.split(';') {
-        answers
-            .push_str(&loaded(alloc, &mut loader, stream.trim())?)
-            .ok()?;
+        let answer = loaded(alloc, loader, stream.trim())?;
+        answers.push_str(&answer).ok()?;
         answers.push_str("; ").ok()?;
     }
-    answers.push_str(&kept(alloc, &loader)?).ok()?;
+    answers.push_str(&kept(alloc, loader)?).ok()?;
     Some(answers)
 }
 

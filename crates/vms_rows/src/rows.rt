@@ -49,25 +49,23 @@ fn is_as_wanted<R: AllocGlobal + Print>(rt: &R, set: &str, row: &str) -> io::Res
 // What comes of a row.
 fn answer(alloc: Global, set: &str, asked: &str) -> Option<String> {
     let (what, rest) = asked.split_once(' ').unwrap_or((asked, ""));
-    if what == "part" {
-        return unsaid::judged(alloc, &words(alloc, rest)?);
+    match what {
+        "part" => unsaid::judged(alloc, &words(alloc, rest)?),
+        "again" => loads::again(alloc, set_of(alloc, set)?, rest),
+        _ => of_set(alloc, &set_of(alloc, set)?, what, rest),
     }
-    let set = set_of(alloc, set)?;
-    if what == "again" {
-        return loads::again(alloc, set, rest);
-    }
-    of_set(alloc, &set, what, &words(alloc, rest)?)
 }
 
 // What comes of a row that asks a set.
-fn of_set(alloc: Global, set: &DescSet, what: &str, words: &[&str]) -> Option<String> {
+fn of_set(alloc: Global, set: &DescSet, what: &str, rest: &str) -> Option<String> {
+    let words = words(alloc, rest)?;
     match what {
         "cells" => format!(in alloc; "{:?}", cells(set)).ok(),
-        "cell" => format!(in alloc; "{:?}", cell(alloc, set, words)?).ok(),
-        "find" => format!(in alloc; "{:?}", find(set, words)?).ok(),
-        "raw" => images::raw(alloc, set, words),
-        "spots" => images::spots(alloc, set, words),
-        "described" => images::described(alloc, set, words),
+        "cell" => format!(in alloc; "{:?}", cell(alloc, set, &words)?).ok(),
+        "find" => format!(in alloc; "{:?}", find(set, &words)?).ok(),
+        "raw" => images::raw(alloc, set, &words),
+        "spots" => images::spots(alloc, set, &words),
+        "described" => images::described(alloc, set, &words),
         _ => None,
     }
 }

@@ -9,13 +9,12 @@ use vms_kinds::{Item, Kind};
 
 /// What is wrong with the parts of which one is as the words say.
 pub(crate) fn judged(alloc: Global, words: &[&str]) -> Option<String> {
-    match DescSet::new(alloc, parts(alloc, words)?) {
-        Ok(_) => String::from_str(alloc, "well formed").ok(),
-        Err(DescFault::IllFormed { rule, place }) => {
+    match DescSet::new(alloc, parts(alloc, words)?).err()? {
+        DescFault::IllFormed { rule, place } => {
             let place = place_text(alloc, place)?;
             format!(in alloc; "rule {rule} at {place}").ok()
         }
-        Err(DescFault::NoMemory) => None,
+        DescFault::NoMemory => None,
     }
 }
 
@@ -30,31 +29,55 @@ fn place_text(alloc: Global, place: Place) -> Option<String> {
 
 // A structure `s` and a device `box` with a subsection `box/s`.
 fn parts(alloc: Global, words: &[&str]) -> Option<Parts> {
-    let structure = desc(alloc, "s", one_field(alloc)?, Vec::new(alloc))?;
+    let mut devices = Vec::new(alloc);
+    devices.push(device(alloc, words)?).ok()?;
     Some(Parts {
         machines: Listed::new(Vec::new(alloc)),
-        structs: Listed::new(vec![in alloc; structure].ok()?),
-        devices: Listed::new(vec![in alloc; device(alloc, words)?].ok()?),
+        structs: Listed::new(structs(alloc)?),
+        devices: Listed::new(devices),
     })
 }
 
+fn structs(alloc: Global) -> Option<Vec<Desc>> {
+    let mut structs = Vec::new(alloc);
+    structs
+        .push(desc(alloc, "s", one_field(alloc)?, Vec::new(alloc))?)
+        .ok()?;
+    Some(structs)
+}
+
 fn device(alloc: Global, words: &[&str]) -> Option<Device> {
-    let mut validate = Vec::new(alloc);
-    let mut needed = Test::AtLeast(0);
-    match words {
-        ["validate", words @ ..] => validate.push(test(alloc, words)?).ok()?,
-        ["needed", words @ ..] => needed = test(alloc, words)?,
-        _ => {}
-    }
-    let sub = Sub {
-        desc: desc(alloc, "box/s", one_field(alloc)?, Vec::new(alloc))?,
-        needed,
-    };
+    let subs = subs(alloc, words)?;
     Some(Device {
         instance: 0,
-        desc: desc(alloc, "box", fields(alloc, words)?, validate)?,
-        subs: Listed::new(vec![in alloc; sub].ok()?),
+        desc: desc(alloc, "box", fields(alloc, words)?, validate(alloc, words)?)?,
+        subs: Listed::new(subs),
     })
+}
+
+fn validate(alloc: Global, words: &[&str]) -> Option<Vec<Test>> {
+    let mut tests = Vec::new(alloc);
+    if let ["validate", words @ ..] = words {
+        tests.push(test(alloc, words)?).ok()?;
+    }
+    Some(tests)
+}
+
+fn subs(alloc: Global, words: &[&str]) -> Option<Vec<Sub>> {
+    let mut subs = Vec::new(alloc);
+    subs.push(Sub {
+        desc: desc(alloc, "box/s", one_field(alloc)?, Vec::new(alloc))?,
+        needed: needed(alloc, words)?,
+    })
+    .ok()?;
+    Some(subs)
+}
+
+fn needed(alloc: Global, words: &[&str]) -> Option<Test> {
+    match words {
+        ["needed", words @ ..] => test(alloc, words),
+        _ => Some(Test::AtLeast(0)),
+    }
 }
 
 fn desc(alloc: Global, name: &str, fields: Vec<Field>, validate: Vec<Test>) -> Option<Desc> {
@@ -69,22 +92,24 @@ fn desc(alloc: Global, name: &str, fields: Vec<Field>, validate: Vec<Test>) -> O
 
 // A number, the field that the words say, a number, an array, and a number of a later version.
 fn fields(alloc: Global, words: &[&str]) -> Option<Vec<Field>> {
-    let mut array = number(alloc, "p")?;
+    let mut fields = Vec::new(alloc);
+    for name in ["a", "b", "c", "p", "l"] {
+        fields.push(number(alloc, name)?).ok()?;
+    }
+    let [_, said, _, array, later] = fields.as_mut_slice() else {
+        return None;
+    };
+    say(alloc, said, words)?;
     array.count = Count::Fixed(2);
-    let mut later = number(alloc, "l")?;
     later.since = 2;
-    let said = said(alloc, words)?;
-    vec![in alloc; number(alloc, "a")?, said, number(alloc, "c")?, array, later].ok()
+    Some(fields)
 }
 
-fn said(alloc: Global, words: &[&str]) -> Option<Field> {
-    let mut field = number(alloc, "b")?;
+fn say(alloc: Global, field: &mut Field, words: &[&str]) -> Option<()> {
     match words {
         ["counted", by] => {
-            field.count = Count::Counted {
-                by: by.parse().ok()?,
-                capacity: 2,
-            };
+            let by = by.parse().ok()?;
+            field.count = Count::Counted { by, capacity: 2 };
         }
         ["default", item, default] => {
             field.item = item_of(item)?;
@@ -93,7 +118,7 @@ fn said(alloc: Global, words: &[&str]) -> Option<Field> {
         ["test", words @ ..] => field.test = Some(test(alloc, words)?),
         _ => {}
     }
-    Some(field)
+    Some(())
 }
 
 fn one_field(alloc: Global) -> Option<Vec<Field>> {
