@@ -1,14 +1,13 @@
-//! Runs rows about sets that are given as data: which are well formed, where their cells lie, and which streams they take.
+//! Runs rows about sets that no command shows: where cells lie and stand, loads one after the other, and parts that no
+//! description file says.
 //!
-//! The words name the files, which lie in `data/`; `docs/cases.md` has their form.
+//! The words name the files of rows, which lie in `data/`; `docs/cases.md` has their form.
 #![tactic(auto)]
 
-mod formula;
-mod parts;
-mod pattern;
+mod images;
+mod loads;
 mod rows;
-mod shipped;
-mod streams;
+mod unsaid;
 
 use std::process::ExitCode;
 use std::{env, fs, io};
