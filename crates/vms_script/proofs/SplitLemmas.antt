@@ -1,6 +1,6 @@
 -- The first line of a text, and the first word of a line.
-use Rattle.std.proofs.Common.{◌≡◌, ℕ, zero, suc, ◌+◌, ◌<◌, Bool, List, [], ◌∷◌, length, get_or, take, drop, Option, Some, None, if◌then◌else◌, refl, sym, ap, ◌∙◌, subst, arith}
-use Rattle.std.proofs.lemmas.Bool.{ne_eqb, eq-eqb, eqb-true}
+use Rattle.std.proofs.Common.{◌≡◌, ℕ, zero, suc, ◌+◌, ◌<◌, ◌≤◌, Bool, List, [], ◌∷◌, length, get_or, take, drop, Option, Some, None, if◌then◌else◌, refl, sym, ap, ◌∙◌, subst, arith, ⊎_elim}
+use Rattle.std.proofs.lemmas.Bool.{cases_lt, ne_eqb, eq-eqb, eqb-true}
 use Rattle.memchr.specs.Find.{Nowhere, NoneBefore, Passes, is_byte}
 use Rattle.vms_spec.specs.Spelling.{first_line, longer_line}
 use Rattle.vms_script.specs.Splits.{IsFirstLine}
@@ -8,7 +8,7 @@ use Rattle.vms_script.specs.Words.{first_word, longer_word}
 use Rattle.vms_script.specs.declared.split.NextLine.{NextLine}
 
 -- a byte stands at a place, and not before it
-abbrev NotBefore : ℕ → List ℕ → ℕ → Type 0
+abbrev pub NotBefore : ℕ → List ℕ → ℕ → Type 0
 NotBefore byte xs i = (k : ℕ) → k < i → get_or xs k 0 ≡ byte → ⊥
 
 line_at : (xs : List ℕ) (i : ℕ) → i < length xs → get_or xs i 0 ≡ 10 → NotBefore 10 xs i → first_line xs ≡ Some (take i xs, drop (suc i) xs)
@@ -51,15 +51,24 @@ one_word (b ∷ xs) none =
     ∙ ap (longer_word b) (one_word xs (λ k h. none (suc k) (omega arith)))
 
 -- the first blank ends the first word
-pub found_word : (xs : List ℕ) (i : ℕ) → NoneBefore (Passes (is_byte 32) xs) 0 (length xs) i → Passes (is_byte 32) xs i → first_word xs ≡ (take i xs, Some (drop (i + 1) xs))
-found_word xs i n p =
-    let e : first_word xs ≡ (take i xs, Some (drop (suc i) xs)) =
-    word_at xs i n.high (eqb-true (get_or xs i 0) 32 p) (λ k h is. n.before k (omega arith) h (eq-eqb (get_or xs k 0) 32 is)) in
+pub found_word : (xs : List ℕ) (i : ℕ) → i < length xs → get_or xs i 0 ≡ 32 → NotBefore 32 xs i → first_word xs ≡ (take i xs, Some (drop (i + 1) xs))
+found_word xs i lt is before =
     let s : suc i ≡ i + 1 = omega arith in
-    e ∙ ap (λ (k : ℕ). (take i xs, Some (drop k xs))) s
+    word_at xs i lt is before ∙ ap (λ (k : ℕ). (take i xs, Some (drop k xs))) s
 
-pub no_blank : (xs : List ℕ) → Nowhere (Passes (is_byte 32) xs) 0 (length xs) → first_word xs ≡ (xs, None)
-no_blank xs n = one_word xs (λ k h is. n k (omega arith) h (eq-eqb (get_or xs k 0) 32 is))
+pub no_blank : (xs : List ℕ) (i : ℕ) → length xs ≤ i → NotBefore 32 xs i → first_word xs ≡ (xs, None)
+no_blank xs i end none = one_word xs (λ k h is. none k (omega (arith, h, end)) is)
+
+-- nothing was found so far
+pub none_yet : (byte : ℕ) (xs : List ℕ) → NotBefore byte xs 0
+none_yet byte xs k h is = absurd (omega (arith, h))
+
+pub none_here : (byte : ℕ) (xs : List ℕ) (i : ℕ) → (get_or xs i 0 ≡ byte → ⊥) → NotBefore byte xs i → NotBefore byte xs (i + 1)
+none_here byte xs i other before k h is = ⊎_elim (λ lt. before k lt is) here (cases_lt k i) where
+  here : i ≤ k → ⊥
+  here from =
+      let same : i ≡ k = omega (arith, h, from) in
+      other (ap (λ (n : ℕ). get_or xs n 0) same ∙ is)
 
 -- what a line that was found says of the text
 pub first_is : (o : Option (List ℕ × List ℕ)) (line : NextLine) → IsFirstLine o (Some line) → o ≡ Some (line.text.now, line.after.now)

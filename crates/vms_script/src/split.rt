@@ -40,14 +40,16 @@ pub(crate) fn split_word<'a>(line: &'a [u8]) -> FirstWord<'a>
     ensures word { result.word.now ≡ (first_word line.now).0 }
     ensures rest { option_copied result.rest ≡ (first_word line.now).1 }
 {
-    match memchr(b' ', line) {
-        Some(end) => FirstWord {
-            word: &line[..end],
-            rest: Some(&line[end + 1..]),
-        },
-        None => FirstWord {
-            word: line,
-            rest: None,
-        },
+    for (place, byte) in line.iter().enumerate() {
+        if *byte == b' ' {
+            return FirstWord {
+                word: &line[..place],
+                rest: Some(&line[place + 1..]),
+            };
+        }
+    }
+    FirstWord {
+        word: line,
+        rest: None,
     }
 }
