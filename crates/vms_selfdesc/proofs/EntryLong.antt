@@ -10,7 +10,8 @@ use Rattle.vms_kinds.specs.declared.Kind.TheVariants as kinds
 use Rattle.vms_kinds.specs.Codes.{width}
 use Rattle.vms_selfdesc.specs.Entries.{kind_word, sent_entry, absent_entry}
 use Rattle.vms_selfdesc.specs.Tree.{natural, entry_tree}
-use Rattle.vms_selfdesc.proofs.Plain.{IsPlain, quoted_long}
+use Rattle.vms_selfdesc.specs.Drafts.{IsPlain}
+use Rattle.vms_selfdesc.proofs.Plain.{quoted_long}
 
 -- a member of an object, with what comes after it
 pub member_long : (later : Bool) (k : List ℕ) (d : Data) (ms : Members)

@@ -18,7 +18,8 @@ use Rattle.vms_spec.proofs.Sizes.{elements_fit}
 use Rattle.vms_parts.proofs.Tables.{first_at, first_long}
 use Rattle.vms_selfdesc.specs.Entries.{Entry, Lister, no_lister, kind_word, sent_entry, listed_if, item_entries, element_path, element_entries, array_entries, field_entries, entries_from, desc_entries}
 use Rattle.vms_selfdesc.specs.Tree.{entry_tree}
-use Rattle.vms_selfdesc.proofs.Plain.{IsPlain, IsShort, plain_append, element_plain, element_long, dot_plain}
+use Rattle.vms_selfdesc.specs.Drafts.{IsPlain}
+use Rattle.vms_selfdesc.proofs.Plain.{IsShort, plain_append, element_plain, element_long, dot_plain}
 use Rattle.vms_selfdesc.proofs.EntryLong.{sent_long, absent_long, word_short, width_short, equal_short, unused_short}
 
 -- the texts of these entries are no longer than this
@@ -109,7 +110,7 @@ elements_long one w long path at step i (suc n) p le =
     let lt : i < 16384 = omega arith in
     let element = element_path path i in
     append_long (length path + 7 + w) (one element at) (element_entries one path (at + step) step (suc i) n)
-    (longer (length element + w) (length path + 7 + w) (one element at) (omega (arith, element_long path i lt)) (long element at (element_plain path i lt p)))
+    (longer (length element + w) (length path + 7 + w) (one element at) (omega (arith, element_long path i lt)) (long element at (element_plain path i (omega arith) p)))
     (elements_long one w long path (at + step) step (suc i) n p (omega arith))
 
 -- there are no more of them than their items, unless they have none

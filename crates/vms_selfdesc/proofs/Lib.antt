@@ -3,12 +3,15 @@ pub mod ElementLaws
 pub mod EntryLong
 pub mod FieldNeeds
 pub mod Fits
+pub mod Keys
 pub mod Lengths
 pub mod Following
 pub mod Listed
 pub mod OfElements
+pub mod MemberTexts
 pub mod Paths
 pub mod Plain
+pub mod PlainNames
 pub mod Ranks
 pub mod ReadBack
 pub mod ReadyDevices

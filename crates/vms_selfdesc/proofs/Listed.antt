@@ -1,15 +1,14 @@
 -- Entries of elements and fields, written one after the other.
-use Rattle.std.proofs.Common.{◌≡◌, ℕ, suc, ◌+◌, ◌*◌, ◌-◌, ◌<◌, ◌≤◌, List, [], ◌∷◌, ◌++◌, length, String, string_bytes, refl, subst, length-append, append_assoc, get_or, map, drop, ℤ, sym, ap, ◌∙◌, arith, Bool}
+use Rattle.std.proofs.Common.{◌≡◌, ℕ, suc, ◌+◌, ◌*◌, ◌-◌, ◌<◌, ◌≤◌, List, [], ◌∷◌, ◌++◌, length, String, string_bytes, refl, subst, length-append, append_assoc, get_or, map, drop, ℤ, sym, ap, ◌∙◌, arith, Bool, true}
 use Rattle.std.proofs.lemmas.List.{drop_more, drop_all, append-nil, map-append}
 use Rattle.std.specs.declared.alloc.Global.{Global}
-use Rattle.json.specs.Token.{Token}
-use Rattle.json.specs.Written.{Written}
 use Rattle.serde_json.specs.Data.{Data}
+use Rattle.serde_json.specs.Written.{compact_text, comma_if}
 use Rattle.vms_spec.specs.Sets.{Field}
 use Rattle.vms_spec.specs.Layout.{Cell, no_field, field_cells, cells_from, item_size, capacity_of}
 use Rattle.vms_spec.proofs.Sizes.{field_size}
 use Rattle.vms_selfdesc.specs.Entries.{Entry, Lister, element_path, element_entries, field_entries, entries_from}
-use Rattle.vms_selfdesc.specs.Drafts.{tree_tokens, trees_tokens, AreRead, Follows, Adds}
+use Rattle.vms_selfdesc.specs.Drafts.{texts, after, AreSound, Adds}
 use Rattle.vms_selfdesc.specs.Listing.{Lists}
 use Rattle.vms_selfdesc.specs.Tree.{entry_tree}
 use Rattle.vms_selfdesc.specs.declared.draft.Draft.{Draft}
@@ -21,32 +20,45 @@ pub record Leaves (old now : Draft) (whole left : List Entry) : Type 0 where
   pub split : whole ≡ done ++ left
   pub lists : Lists old now done
 
-trees_append : (ds es : List Data) → trees_tokens (ds ++ es) ≡ trees_tokens ds ++ trees_tokens es
-trees_append [] es = refl
-trees_append (d ∷ ds) es = ap (λ (ts : List Token). tree_tokens d ++ ts) (trees_append ds es) ∙ sym (append_assoc (tree_tokens d) (trees_tokens ds) (trees_tokens es))
+texts_append : (later : Bool) (ds es : List Data) → texts later (ds ++ es) ≡ texts later ds ++ texts (after later ds) es
+texts_append later [] es = refl
+texts_append later (d ∷ ds) es =
+    ap (λ (t : List ℕ). comma_if later ++ (compact_text d ++ t)) (texts_append true ds es)
+    ∙ ap (λ (t : List ℕ). comma_if later ++ t) (sym (append_assoc (compact_text d) (texts true ds) (texts (after true ds) es)))
+    ∙ sym (append_assoc (comma_if later) (compact_text d ++ texts true ds) (texts (after true ds) es))
+    ∙ ap (λ (b : Bool). (comma_if later ++ (compact_text d ++ texts true ds)) ++ texts b es) (after_true ds)
+  where
+    after_true : (ds : List Data) → after true ds ≡ true
+    after_true [] = refl
+    after_true (d ∷ ds) = refl
 
-read_append : (ds es : List Data) → AreRead ds → AreRead es → AreRead (ds ++ es)
-read_append [] es p q = q
-read_append (d ∷ ds) es p q = (p.0, read_append ds es p.1 q)
+after_append : (later : Bool) (ds es : List Data) → after later (ds ++ es) ≡ after (after later ds) es
+after_append later [] es = refl
+after_append later (d ∷ ds) [] = refl
+after_append later (d ∷ ds) (e ∷ es) = refl
+
+sound_append : (ds es : List Data) → AreSound ds → AreSound es → AreSound (ds ++ es)
+sound_append [] es p q = q
+sound_append (d ∷ ds) es p q = (p.0, sound_append ds es p.1 q)
 
 pub adds_further : (a b c : Draft) (ds es : List Data) → Adds a b ds → Adds b c es → Adds a c (ds ++ es)
 adds_further a b c ds es p q = record {
-  wrote = subst (λ (ts : List Token). Follows a.json c.json ts) (sym (trees_append ds es)) (further p.wrote q.wrote);
-  read = read_append ds es p.read q.read;
+  text =
+      further a.text b.text c.text _ _ p.text q.text
+      ∙ ap (λ (l : Bool). string_bytes a.text ++ (texts a.later ds ++ texts l es)) p.later
+      ∙ ap (λ (t : List ℕ). string_bytes a.text ++ t) (sym (texts_append a.later ds es));
+  later = q.later ∙ ap (λ (l : Bool). after l es) p.later ∙ sym (after_append a.later ds es);
+  sound = sound_append ds es p.sound q.sound;
   path = q.path ∙ p.path;
 }
 
-pub adds_none : (a b : Draft) → b.json ≡ a.json → string_bytes b.path ≡ string_bytes a.path → Adds a b []
-adds_none a b same path = record {
-  wrote = record { before = ap (λ (w : Written). w.before) same; tokens = ap (λ (w : Written). w.tokens) same ∙ sym (append-nil a.json.tokens) };
-  read = tt;
-  path = path;
-}
+pub adds_none : (a : Draft) → Adds a a []
+adds_none a = record { text = sym (append-nil (string_bytes a.text)); later = refl; sound = tt; path = refl }
 
 -- what was written under a path that was gone into and left again
-pub leave_path : (old : Draft) (inside left : String Global) (new : Draft) (ds : List Data) → Adds (record { json = old.json; path = inside }) new ds → string_bytes left ≡ string_bytes old.path
-    → Adds old (record { json = new.json; path = left }) ds
-leave_path old inside left new ds adds back = record { wrote = adds.wrote; read = adds.read; path = back }
+pub leave_path : (old : Draft) (inside left : String Global) (new : Draft) (ds : List Data) → Adds (record { text = old.text; path = inside; later = old.later }) new ds
+    → string_bytes left ≡ string_bytes old.path → Adds old (record { text = new.text; path = left; later = new.later }) ds
+leave_path old inside left new ds adds back = record { text = adds.text; later = adds.later; sound = adds.sound; path = back }
 
 pub leaves_rest : (old now new : Draft) (whole left part rest : List Entry) → left ≡ part ++ rest → Leaves old now whole left → Lists now new part → Leaves old new whole rest
 leaves_rest old now new whole left part rest e h lists = record {
@@ -61,7 +73,7 @@ leaves_none old now whole left e h =
     subst (λ (l : List Entry). Lists old now l) (sym (h.split ∙ ap (λ (l : List Entry). h.done ++ l) e ∙ append-nil h.done)) h.lists
 
 pub leaves_all : (old : Draft) (whole : List Entry) → Leaves old old whole whole
-leaves_all old whole = record { done = []; split = refl; lists = adds_none old old refl refl }
+leaves_all old whole = record { done = []; split = refl; lists = adds_none old }
 
 -- ---- elements
 

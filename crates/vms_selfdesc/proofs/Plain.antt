@@ -8,17 +8,14 @@ use Rattle.std.specs.Str.{bytes_eq}
 use Rattle.json.specs.Print.{escape, escape_byte, quoted}
 use Rattle.vms_spec.specs.Lists.{every}
 use Rattle.vms_spec.specs.Names.{is_name_byte, is_name, is_sub_name}
+use Rattle.vms_selfdesc.specs.Drafts.{IsPlain}
 use Rattle.vms_selfdesc.specs.Entries.{element_path}
-
-abbrev pub IsPlain : List ℕ → Type 0
-IsPlain [] = Unit {0}
-IsPlain (x ∷ xs) = (escape_byte x ≡ x ∷ []) × IsPlain xs
 
 pub plain_append : (xs ys : List ℕ) → IsPlain xs → IsPlain ys → IsPlain (xs ++ ys)
 plain_append [] ys p q = q
 plain_append (x ∷ xs) ys p q = (p.0, plain_append xs ys p.1 q)
 
-plain_escape : (xs : List ℕ) → IsPlain xs → escape xs ≡ xs
+pub plain_escape : (xs : List ℕ) → IsPlain xs → escape xs ≡ xs
 plain_escape [] p = refl
 plain_escape (x ∷ xs) p = ap (λ l. l ++ escape xs) p.0 ∙ ap (λ l. x ∷ l) (plain_escape xs p.1)
 
@@ -109,12 +106,12 @@ digits_plain : (n : ℕ) → n < 2 ^ 64 → IsPlain (decimal n)
 digits_plain n small = decimal_by_steps (λ n ds. IsPlain ds) (λ n l. (plain_byte (48 + n) (omega arith) (λ e. omega (arith, e, l)), tt))
     (λ n ds l h. plain_append ds ((48 + n % 10) ∷ []) h (plain_byte (48 + n % 10) (omega arith) (λ e. omega (arith, e)), tt)) n small
 
--- of an element with a number of five digits
-pub element_plain : (path : List ℕ) (i : ℕ) → i < 16384 → IsPlain path → IsPlain (element_path path i)
+-- of an element with a number of 64 bits
+pub element_plain : (path : List ℕ) (i : ℕ) → i < 2 ^ 64 → IsPlain path → IsPlain (element_path path i)
 element_plain path i lt p =
     let open_mark : IsPlain (91 ∷ []) = (plain_byte 91 (omega arith) (λ e. omega (arith, e)), tt) in
     let close_mark : IsPlain (93 ∷ []) = (plain_byte 93 (omega arith) (λ e. omega (arith, e)), tt) in
-    plain_append path (91 ∷ (decimal i ++ 93 ∷ [])) p (open_mark.0, plain_append (decimal i) (93 ∷ []) (digits_plain i (omega arith)) close_mark)
+    plain_append path (91 ∷ (decimal i ++ 93 ∷ [])) p (open_mark.0, plain_append (decimal i) (93 ∷ []) (digits_plain i lt) close_mark)
 
 pub element_long : (path : List ℕ) (i : ℕ) → i < 16384 → length (element_path path i) ≤ length path + 7
 element_long path i lt =

@@ -1,12 +1,11 @@
 -- Trees that are written one after the other.
-use Rattle.std.proofs.Common.{◌≡◌, ℕ, ◌+◌, ◌<◌, ◌≤◌, List, [], ◌∷◌, ◌++◌, length, append_assoc, get_or, drop, None, string_bytes, refl, sym, ap, subst, ◌∙◌}
+use Rattle.std.proofs.Common.{◌≡◌, ℕ, Bool, true, false, ◌+◌, ◌<◌, ◌≤◌, List, [], ◌∷◌, ◌++◌, length, append_assoc, get_or, drop, codes, None, String, string_bytes, refl, sym, ap, subst, ◌∙◌}
 use Rattle.std.proofs.lemmas.List.{drop_more, drop_all, append-nil}
-use Rattle.json.specs.Token.{Token, begin_array, end_array}
-use Rattle.json.specs.Tree.{items_tokens as json_items_tokens}
-use Rattle.json.specs.Written.{Written}
-use Rattle.serde_json.specs.Data.{Data, array}
+use Rattle.std.specs.declared.alloc.Global.{Global}
+use Rattle.json.specs.Print.{escape_byte, quoted}
+use Rattle.serde_json.specs.Data.{Data, string, boolean, array, object, Members, no_members, member, put}
 use Rattle.serde_json.specs.View.{items_of}
-use Rattle.serde_json.specs.Written.{items_outline}
+use Rattle.serde_json.specs.Written.{compact_text, items_text, members_text, comma_if}
 use Rattle.vms_spec.specs.declared.Part.TheVariants as parts
 use Rattle.vms_spec.specs.Sets.{Set, Sub, AtLeast}
 use Rattle.vms_spec.specs.Layout.{no_desc}
@@ -15,10 +14,13 @@ use Rattle.vms_desc.specs.Asks.{first_cell}
 use Rattle.vms_desc.specs.Described.{device_at}
 use Rattle.vms_desc.specs.Parts.{sub_at}
 use Rattle.vms_desc.proofs.AskLaws.{sub_next, sub_first}
-use Rattle.vms_selfdesc.specs.Drafts.{IsRead, tree_tokens, trees_tokens, Follows, Adds}
+use Rattle.vms_selfdesc.specs.Drafts.{IsSound, Extends, Begins, Adds, Lays, member_text, texts}
 use Rattle.vms_selfdesc.specs.declared.draft.Draft.{Draft}
+use Rattle.vms_selfdesc.proofs.Following.{further}
 use Rattle.vms_selfdesc.proofs.Listed.{adds_further, adds_none}
-use Rattle.vms_selfdesc.specs.Tree.{sub_tree, sub_trees, device_tree, device_trees}
+use Rattle.vms_selfdesc.proofs.MemberTexts.{member_last}
+use Rattle.vms_selfdesc.proofs.ReadBack.{array_sound, whole_sound}
+use Rattle.vms_selfdesc.specs.Tree.{natural, sub_tree, sub_trees, device_tree, device_trees}
 
 -- of the whole, the trees `done` were written, and these are left
 pub record Remain (old now : Draft) (whole left : List Data) : Type 0 where
@@ -38,22 +40,94 @@ remain_none old now whole left e h =
     subst (λ (l : List Data). Adds old now l) (sym (h.split ∙ ap (λ (l : List Data). h.done ++ l) e ∙ append-nil h.done)) h.adds
 
 pub remain_all : (old : Draft) (whole left : List Data) → whole ≡ left → Remain old old whole left
-remain_all old whole left e = record { done = []; split = e; adds = adds_none old old refl refl }
+remain_all old whole left e = record { done = []; split = e; adds = adds_none old }
 
-pub adds_one : (a b : Draft) (d : Data) → Follows a.json b.json (tree_tokens d) → IsRead d → string_bytes b.path ≡ string_bytes a.path → Adds a b (d ∷ [])
-adds_one a b d f read path = record {
-  wrote = subst (λ (ts : List Token). Follows a.json b.json ts) (sym (append-nil (tree_tokens d))) f;
-  read = (read, tt);
-  path = path;
+-- the texts of trees with the bracket after them
+items_texts : (later : Bool) (ds : List Data) → items_text later (items_of ds) ≡ texts later ds ++ 93 ∷ []
+items_texts later [] = refl
+items_texts later (d ∷ ds) =
+    ap (λ (t : List ℕ). comma_if later ++ (compact_text d ++ t)) (items_texts true ds)
+    ∙ ap (λ (t : List ℕ). comma_if later ++ t) (sym (append_assoc (compact_text d) (texts true ds) (93 ∷ [])))
+    ∙ sym (append_assoc (comma_if later) (compact_text d ++ texts true ds) (93 ∷ []))
+
+pub lays : (a : Draft) (s : String Global) (b c : Draft) (ds : List Data) → Extends a.text s (91 ∷ []) → Adds (record { text = s; path = a.path; later = false }) b ds → Extends b.text c.text (93 ∷ [])
+    → string_bytes c.path ≡ string_bytes b.path → Lays a c (array (items_of ds))
+lays a s b c ds opens adds close path = record {
+  text =
+      further a.text s c.text _ _ opens (further s b.text c.text _ _ adds.text close)
+      ∙ ap (λ (t : List ℕ). string_bytes a.text ++ 91 ∷ t) (sym (items_texts false ds));
+  sound = array_sound ds adds.sound;
+  path = path ∙ adds.path;
 }
 
--- the tokens of an array
-pub items_tokens : (ds : List Data) → json_items_tokens (items_outline (items_of ds)) ≡ trees_tokens ds ++ end_array ∷ []
-items_tokens [] = refl
-items_tokens (d ∷ ds) = ap (λ (ts : List Token). tree_tokens d ++ ts) (items_tokens ds) ∙ sym (append_assoc (tree_tokens d) (trees_tokens ds) (end_array ∷ []))
+front_text : (s : List ℕ) → codes "{\"fields\":" ++ s ≡ 123 ∷ (quoted (codes "fields") ++ 58 ∷ s)
+unfolding escape_byte
+front_text s = refl
 
-pub array_follows : {a b : Written} (ds : List Data) → Follows a b (begin_array ∷ (trees_tokens ds ++ end_array ∷ [])) → Follows a b (tree_tokens (array (items_of ds)))
-array_follows {a} {b} ds f = subst (λ (ts : List Token). Follows a b (begin_array ∷ ts)) (sym (items_tokens ds)) f
+-- an object that begins with fields
+pub fields_adds : (a b l e : Draft) (d list : Data) (ms : Members) (rest : List ℕ) → Begins a b (codes "{\"fields\":") → Lays b l list → Extends l.text e.text rest → members_text true ms ≡ rest
+    → d ≡ object (member (codes "fields") list ms) → IsSound d → e.later ≡ true → string_bytes e.path ≡ string_bytes l.path → Adds a e (d ∷ [])
+fields_adds a b l e d list ms rest begun lays more is same sound later path = record {
+  text = further a.text l.text e.text _ _ (further a.text b.text l.text _ _ begun.text lays.text) more ∙ ap (λ (s : List ℕ). string_bytes a.text ++ s) pieces;
+  later = later;
+  sound = (sound, tt);
+  path = path ∙ lays.path ∙ begun.keeps.path;
+}
+  where
+    pieces : ((comma_if a.later ++ codes "{\"fields\":") ++ compact_text list) ++ rest ≡ comma_if a.later ++ (compact_text d ++ [])
+    pieces =
+        append_assoc (comma_if a.later ++ codes "{\"fields\":") (compact_text list) rest
+        ∙ append_assoc (comma_if a.later) (codes "{\"fields\":") (compact_text list ++ rest)
+        ∙ ap (λ (s : List ℕ). comma_if a.later ++ s) (front_text (compact_text list ++ rest))
+        ∙ ap (λ (s : List ℕ). comma_if a.later ++ (123 ∷ (quoted (codes "fields") ++ 58 ∷ (compact_text list ++ s)))) (sym is)
+        ∙ ap (λ (x : Data). comma_if a.later ++ compact_text x) (sym same)
+        ∙ ap (λ (s : List ℕ). comma_if a.later ++ s) (sym (append-nil (compact_text d)))
+
+-- the members of a subsection after its fields
+pub head_text : (name : List ℕ) (sent : Bool) (version : ℕ)
+    → members_text true (member (codes "name") (string name) (member (codes "sent") (boolean sent) (member (codes "version") (natural version) no_members)))
+    ≡ (member_text (codes "name") (string name) ++ (member_text (codes "sent") (boolean sent) ++ member_text (codes "version") (natural version))) ++ codes "}"
+head_text name sent version =
+    let n = member_text (codes "name") (string name) in
+    let s = member_text (codes "sent") (boolean sent) in
+    let v = member_text (codes "version") (natural version) in
+    let last = member (codes "version") (natural version) no_members in
+    member_last (codes "name") (string name) (member (codes "sent") (boolean sent) last) (s ++ (v ++ codes "}"))
+    (member_last (codes "sent") (boolean sent) last (v ++ codes "}") (member_last (codes "version") (natural version) no_members (codes "}") refl))
+    ∙ ap (λ (t : List ℕ). n ++ t) (sym (append_assoc s v (codes "}"))) ∙ sym (append_assoc n (s ++ v) (codes "}"))
+
+-- those of a device
+abbrev pub tail_members : ℕ → List ℕ → Data → ℕ → Members
+tail_members instance name subs version =
+    member (codes "instance_id") (natural instance) (member (codes "name") (string name) (member (codes "subsections") subs (member (codes "version") (natural version) no_members)))
+
+pub device_text : (instance : ℕ) (name : List ℕ) (subs : Data) (version : ℕ) → members_text true (tail_members instance name subs version)
+    ≡ (member_text (codes "instance_id") (natural instance) ++ member_text (codes "name") (string name))
+    ++ (codes ",\"subsections\":" ++ (compact_text subs ++ (member_text (codes "version") (natural version) ++ codes "}")))
+unfolding escape_byte
+device_text instance name subs version =
+    let i = member_text (codes "instance_id") (natural instance) in
+    let n = member_text (codes "name") (string name) in
+    let v = member_text (codes "version") (natural version) in
+    let rest = codes ",\"subsections\":" ++ (compact_text subs ++ (v ++ codes "}")) in
+    let last = member (codes "subsections") subs (member (codes "version") (natural version) no_members) in
+    member_last (codes "instance_id") (natural instance) (member (codes "name") (string name) last) (n ++ rest)
+    (member_last (codes "name") (string name) last rest
+    (ap (λ (t : List ℕ). codes ",\"subsections\":" ++ (compact_text subs ++ t)) (member_last (codes "version") (natural version) no_members (codes "}") refl)))
+    ∙ sym (append_assoc i n rest)
+
+-- the whole
+pub whole_lays : (a : Draft) (s : String Global) (b c : Draft) (ds : List Data) → Extends a.text s (codes "{\"devices\":[") → Adds (record { text = s; path = a.path; later = false }) b ds
+    → Extends b.text c.text (codes "]}") → string_bytes c.path ≡ string_bytes b.path → Lays a c (object (put (codes "devices") (array (items_of ds)) no_members))
+unfolding escape_byte
+whole_lays a s b c ds opens adds close path = record {
+  text =
+      further a.text s c.text _ _ opens (further s b.text c.text _ _ adds.text close)
+      ∙ ap (λ (t : List ℕ). string_bytes a.text ++ (codes "{\"devices\":[" ++ t))
+      (sym (append_assoc (texts false ds) (93 ∷ []) (125 ∷ [])) ∙ ap (λ (t : List ℕ). t ++ 125 ∷ []) (sym (items_texts false ds)));
+  sound = whole_sound ds (array_sound ds adds.sound);
+  path = path ∙ adds.path;
+}
 
 -- ---- subsections
 

@@ -1,72 +1,96 @@
--- What the calls that write JSON add to what is written.
-use Rattle.std.specs.Prelude.{◌≡◌, ℕ, Bool, List, [], ◌∷◌, ◌++◌, Some, string_bytes, codes}
-use Rattle.json.specs.Token.{Token, key}
-use Rattle.json.specs.Tree.{json_tokens}
-use Rattle.json.specs.Written.{Written}
+-- What the calls that write a description add to its text.
+use Rattle.std.specs.Prelude.{◌≡◌, ℕ, Bool, true, List, [], ◌∷◌, ◌++◌, Some, String, string_bytes, codes, decimal}
+use Rattle.std.specs.declared.alloc.Global.{Global}
+use Rattle.json.specs.Print.{escape_byte, quoted}
+use Rattle.json.specs.Tree.{HasNumbers}
 use Rattle.serde_json.specs.Data.{Data, string, boolean}
 use Rattle.serde_json.specs.Read.{of_json}
-use Rattle.serde_json.specs.Written.{outline}
+use Rattle.serde_json.specs.Written.{outline, compact_text, comma_if}
+use Rattle.vms_kinds.specs.declared.Kind.{Kind}
+use Rattle.vms_kinds.specs.Codes.{width}
+use Rattle.vms_selfdesc.specs.Entries.{kind_word}
 use Rattle.vms_selfdesc.specs.Tree.{natural}
 use Rattle.vms_selfdesc.specs.declared.draft.Draft.{Draft}
 
-abbrev pub tree_tokens : Data → List Token
-tree_tokens d = json_tokens (outline d)
+-- JSON escapes no byte of the text
+abbrev pub IsPlain : List ℕ → Type 0
+IsPlain [] = Unit {0}
+IsPlain (x ∷ xs) = (escape_byte x ≡ x ∷ []) × IsPlain xs
 
--- of trees, one after the other
-abbrev pub trees_tokens : List Data → List Token
-trees_tokens [] = []
-trees_tokens (d ∷ ds) = tree_tokens d ++ trees_tokens ds
+-- the tree is read back from its text: each number's text is a number, and members come in order
+pub record IsSound (d : Data) : Type 0 where
+  pub read : of_json (outline d) ≡ Some d
+  pub numbers : HasNumbers (outline d)
 
--- what is written for a tree is read as that tree
-abbrev pub IsRead : Data → Type 0
-IsRead d = of_json (outline d) ≡ Some d
+abbrev pub AreSound : List Data → Type 0
+AreSound [] = Unit {0}
+AreSound (d ∷ ds) = IsSound d × AreSound ds
 
-abbrev pub AreRead : List Data → Type 0
-AreRead [] = Unit {0}
-AreRead (d ∷ ds) = IsRead d × AreRead ds
+-- ---- texts
 
--- these tokens come after the others
-pub record Follows (old new : Written) (ts : List Token) : Type 0 where
-  pub before : new.before ≡ old.before
-  pub tokens : new.tokens ≡ old.tokens ++ ts
+-- a member after others
+abbrev pub member_text : List ℕ → Data → List ℕ
+member_text k d = 44 ∷ (quoted k ++ 58 ∷ compact_text d)
 
--- a tree
-pub record Gives (old new : Written) (d : Data) : Type 0 where
-  pub wrote : Follows old new (tree_tokens d)
-  pub read : IsRead d
+-- of trees in an array, where something stands before the first or not
+abbrev pub texts : Bool → List Data → List ℕ
+texts later [] = []
+texts later (d ∷ ds) = comma_if later ++ (compact_text d ++ texts true ds)
+
+-- whether something stands before the next tree
+abbrev pub after : Bool → List Data → Bool
+after later [] = later
+after later (d ∷ ds) = true
+
+-- what comes after the path of a cell that stands in the stream
+abbrev pub cell_tail : Kind → List ℕ
+cell_tail kind = codes "\",\"size\":" ++ (decimal (width kind) ++ (codes ",\"type\":\"" ++ (kind_word kind ++ codes "\"}")))
+
+-- ---- what a call adds
+
+-- the text has grown by these bytes
+abbrev pub Extends : String Global → String Global → List ℕ → Type 0
+Extends old new bytes = string_bytes new ≡ string_bytes old ++ bytes
 
 -- a member of an object
-pub record Puts (old new : Written) (k : List ℕ) (d : Data) : Type 0 where
-  pub wrote : Follows old new (key k ∷ tree_tokens d)
-  pub read : IsRead d
+pub record Puts (old new : String Global) (k : List ℕ) (d : Data) : Type 0 where
+  pub text : Extends old new (member_text k d)
+  pub sound : IsSound d
 
--- the members of what stands in the stream
-pub record PutsSent (old new : Written) (path : List ℕ) (size : ℕ) (type : List ℕ) : Type 0 where
-  pub wrote : Follows old new (
-      key (codes "name") ∷ (tree_tokens (string path)
-      ++ (key (codes "size") ∷ (tree_tokens (natural size) ++ (key (codes "type") ∷ tree_tokens (string type))))))
-  pub read : IsRead (natural size)
+-- the members of an entry after its path
+pub record PutsSize (old new : String Global) (size : ℕ) (type : List ℕ) : Type 0 where
+  pub text : Extends old new (member_text (codes "size") (natural size) ++ member_text (codes "type") (string type))
+  pub sound : IsSound (natural size)
 
--- trees, one after the other, and the path is as before
+-- those of a subsection after its fields
+pub record PutsSub (old new : String Global) (name : List ℕ) (sent : Bool) (version : ℕ) : Type 0 where
+  pub text : Extends old new (member_text (codes "name") (string name) ++ (member_text (codes "sent") (boolean sent) ++ member_text (codes "version") (natural version)))
+  pub sound : IsSound (natural version)
+
+-- those of a device between its fields and its subsections
+pub record PutsName (old new : String Global) (instance : ℕ) (name : List ℕ) : Type 0 where
+  pub text : Extends old new (member_text (codes "instance_id") (natural instance) ++ member_text (codes "name") (string name))
+  pub sound : IsSound (natural instance)
+
+-- the path and what stands before the next tree are as before
+pub record Keeps (old new : Draft) : Type 0 where
+  pub path : string_bytes new.path ≡ string_bytes old.path
+  pub later : new.later ≡ old.later
+
+-- the beginning of a tree in an array
+pub record Begins (old new : Draft) (front : List ℕ) : Type 0 where
+  pub text : Extends old.text new.text (comma_if old.later ++ front)
+  pub keeps : Keeps old new
+
+-- trees in an array, and the path is as before
 pub record Adds (old new : Draft) (ds : List Data) : Type 0 where
-  pub wrote : Follows old.json new.json (trees_tokens ds)
-  pub read : AreRead ds
+  pub text : Extends old.text new.text (texts old.later ds)
+  pub later : new.later ≡ after old.later ds
+  pub sound : AreSound ds
   pub path : string_bytes new.path ≡ string_bytes old.path
 
--- a member, and the path is as before
-pub record Sets (old new : Draft) (k : List ℕ) (d : Data) : Type 0 where
-  pub puts : Puts old.json new.json k d
+-- an array, and the path is as before
+pub record Lays (old new : Draft) (d : Data) : Type 0 where
+  pub text : Extends old.text new.text (compact_text d)
+  pub sound : IsSound d
   pub path : string_bytes new.path ≡ string_bytes old.path
-
--- the members of a subsection after its fields
-pub record PutsSub (old new : Written) (name : List ℕ) (sent : Bool) (version : ℕ) : Type 0 where
-  pub wrote : Follows old new (
-      key (codes "name") ∷ (tree_tokens (string name)
-      ++ (key (codes "sent") ∷ (tree_tokens (boolean sent) ++ (key (codes "version") ∷ tree_tokens (natural version))))))
-  pub read : IsRead (natural version)
-
--- the members of a device between its fields and its subsections
-pub record PutsName (old new : Written) (instance : ℕ) (name : List ℕ) : Type 0 where
-  pub wrote : Follows old new (
-      key (codes "instance_id") ∷ (tree_tokens (natural instance) ++ (key (codes "name") ∷ tree_tokens (string name))))
-  pub read : IsRead (natural instance)

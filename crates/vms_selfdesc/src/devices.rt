@@ -1,6 +1,6 @@
 // The descriptions of devices and their subsections.
-ghost use Rattle.std.specs.Prelude.{◌≡◌, ◌<◌, [], ◌∷◌, None, codes, length, get_or, OnOk, string_bytes};
-ghost use Rattle.serde_json.specs.Data.{array, string};
+ghost use Rattle.std.specs.Prelude.{◌≡◌, ◌<◌, [], ◌∷◌, None, length, get_or, OnOk, string_bytes};
+ghost use Rattle.serde_json.specs.Data.{array};
 ghost use Rattle.serde_json.specs.View.{items_of};
 ghost use Rattle.vms_spec.specs.Images.{own_cells};
 ghost use Rattle.vms_spec.specs.declared.Part.TheVariants as parts;
@@ -8,20 +8,18 @@ ghost use Rattle.vms_desc.specs.Asks.{first_cell};
 ghost use Rattle.vms_desc.specs.Described.{device_at};
 ghost use Rattle.vms_desc.specs.Parts.{sub_at};
 ghost use Rattle.vms_image.specs.Typed.{state_of};
-ghost use Rattle.vms_selfdesc.specs.Drafts.{Adds, Sets, PutsSub, PutsName};
-ghost use Rattle.vms_selfdesc.specs.Entries.{part_entries};
+ghost use Rattle.vms_selfdesc.specs.Drafts.{Adds, IsPlain, Lays, PutsSub, PutsName};
 ghost use Rattle.vms_selfdesc.specs.Listing.{set_in, numbers_in, IsPlace, part_list};
 ghost use Rattle.vms_selfdesc.specs.Needs.{HasDevice};
 ghost use Rattle.vms_selfdesc.specs.Tree.{entry_tree, list_tree, sub_tree, sub_trees, device_tree};
 
-use crate::draft::{Draft, put_flag, put_natural, put_text};
+use crate::draft::{Draft, begin, put_flag, put_natural, put_text};
 use crate::fields::{Lister, Place, list_part};
-use json::Writer;
 use std::alloc::AllocError;
 use vms_desc::{Desc, Device, Part};
 
 // The entries of the fields of a part.
-fn put_fields(
+fn write_fields(
     lister: &Lister,
     part: Part,
     place: Place,
@@ -31,22 +29,23 @@ fn put_fields(
     requires no_path { string_bytes draft.old.path ≡ [] }
     ensures { let numbers = numbers_in lister.now in
         let entries = part_list (set_in lister.now) part place.sent numbers [] place.cell in
-        OnOk result (Sets draft.old draft.new (codes "fields") (list_tree entry_tree entries)) }
+        OnOk result (Lays draft.old draft.new (list_tree entry_tree entries)) }
 {
-    draft.json.key("fields")?;
-    draft.json.begin_array()?;
+    draft.text.push_str("[")?;
+    draft.later = false;
     list_part(lister, part, place, draft)?;
-    draft.json.end_array()?;
+    draft.text.push_str("]")?;
     Ok(())
 }
 
 // The members of a subsection after its fields.
-fn put_sub_head(json: &mut Writer, desc: &Desc, sent: bool) -> Result<(), AllocError>
-    ensures { OnOk result (PutsSub json.old json.new desc.now.name sent desc.now.version) }
+fn put_sub_head(text: &mut String, desc: &Desc, sent: bool) -> Result<(), AllocError>
+    requires { IsPlain desc.now.name }
+    ensures { OnOk result (PutsSub text.old text.new desc.now.name sent desc.now.version) }
 {
-    put_text(json, "name", desc.name.as_str())?;
-    put_flag(json, "sent", sent)?;
-    put_natural(json, "version", desc.version as u64)?;
+    put_text(text, "name", desc.name.as_str())?;
+    put_flag(text, "sent", sent)?;
+    put_natural(text, "version", desc.version as u64)?;
     Ok(())
 }
 
@@ -65,14 +64,16 @@ fn write_sub(lister: &Lister, device: u32, sub: u32, draft: &mut Draft) -> Resul
     let part = Part::Sub(device, sub);
     let sent = lister.image.came(sub).is_some();
     let cell = lister.set.first_cell(part);
-    draft.json.begin_object()?;
-    put_fields(lister, part, Place { sent, cell }, draft)?;
-    put_sub_head(&mut draft.json, lister.set.desc(part), sent)?;
-    draft.json.end_object()?;
+    begin(draft, "{\"fields\":")?;
+    write_fields(lister, part, Place { sent, cell }, draft)?;
+    put_sub_head(&mut draft.text, lister.set.desc(part), sent)?;
+    draft.text.push_str("}")?;
+    draft.later = true;
     Ok(())
 }
 
-fn write_subs(lister: &Lister, device: u32, draft: &mut Draft) -> Result<(), AllocError>
+// The subsections, one after the other.
+fn write_each(lister: &Lister, device: u32, draft: &mut Draft) -> Result<(), AllocError>
     requires device { HasDevice (set_in lister.now) device (state_of lister.now.image.now) }
     requires no_path { string_bytes draft.old.path ≡ [] }
     ensures { let set = set_in lister.now in
@@ -87,28 +88,29 @@ fn write_subs(lister: &Lister, device: u32, draft: &mut Draft) -> Result<(), All
     Ok(())
 }
 
-fn put_subs(lister: &Lister, device: u32, draft: &mut Draft) -> Result<(), AllocError>
+fn write_subs(lister: &Lister, device: u32, draft: &mut Draft) -> Result<(), AllocError>
     requires device { HasDevice (set_in lister.now) device (state_of lister.now.image.now) }
     requires no_path { string_bytes draft.old.path ≡ [] }
     ensures { let set = set_in lister.now in
         let image = state_of lister.now.image.now in
         let d = device_at set device in
         let trees = sub_trees set image.numbers (own_cells set d) d.subs image.came in
-        OnOk result (Sets draft.old draft.new (codes "subsections") (array (items_of trees))) }
+        OnOk result (Lays draft.old draft.new (array (items_of trees))) }
 {
-    draft.json.key("subsections")?;
-    draft.json.begin_array()?;
-    write_subs(lister, device, draft)?;
-    draft.json.end_array()?;
+    draft.text.push_str("[")?;
+    draft.later = false;
+    write_each(lister, device, draft)?;
+    draft.text.push_str("]")?;
     Ok(())
 }
 
 // The members of a device between its fields and its subsections.
-fn put_name(json: &mut Writer, device: &Device) -> Result<(), AllocError>
-    ensures { OnOk result (PutsName json.old json.new device.now.instance device.now.desc.name) }
+fn put_name(text: &mut String, device: &Device) -> Result<(), AllocError>
+    requires { IsPlain device.now.desc.name }
+    ensures { OnOk result (PutsName text.old text.new device.now.instance device.now.desc.name) }
 {
-    put_natural(json, "instance_id", device.instance as u64)?;
-    put_text(json, "name", device.desc.name.as_str())?;
+    put_natural(text, "instance_id", device.instance as u64)?;
+    put_text(text, "name", device.desc.name.as_str())?;
     Ok(())
 }
 
@@ -129,11 +131,13 @@ pub(crate) fn write_device(
         sent: true,
         cell: 0,
     };
-    draft.json.begin_object()?;
-    put_fields(lister, Part::Device(device), place, draft)?;
-    put_name(&mut draft.json, described)?;
-    put_subs(lister, device, draft)?;
-    put_natural(&mut draft.json, "version", described.desc.version as u64)?;
-    draft.json.end_object()?;
+    begin(draft, "{\"fields\":")?;
+    write_fields(lister, Part::Device(device), place, draft)?;
+    put_name(&mut draft.text, described)?;
+    draft.text.push_str(",\"subsections\":")?;
+    write_subs(lister, device, draft)?;
+    put_natural(&mut draft.text, "version", described.desc.version as u64)?;
+    draft.text.push_str("}")?;
+    draft.later = true;
     Ok(())
 }

@@ -1,62 +1,98 @@
-// What is written of a description, as JSON: a token after the other.
-ghost use Rattle.std.specs.Prelude.{◌≡◌, true, pos, int_lt, OnOk};
+// What is written of a description, as JSON without blanks.
+ghost use Rattle.std.specs.Prelude.{◌≡◌, ◌++◌, true, pos, codes, int_lt, OnOk};
 ghost use Rattle.serde_json.specs.Data.{string, boolean, number};
 ghost use Rattle.serde_json.specs.Find.{of_integer};
-ghost use Rattle.vms_selfdesc.specs.Drafts.{Puts};
+ghost use Rattle.serde_json.specs.Written.{compact_text};
+ghost use Rattle.vms_selfdesc.specs.Drafts.{Begins, Extends, IsPlain, Puts};
 ghost use Rattle.vms_selfdesc.specs.Needs.{IsWide};
 ghost use Rattle.vms_selfdesc.specs.Tree.{natural};
 
-use json::Writer;
 use std::alloc::AllocError;
 
-// What is written so far, and the path of the element that comes next.
+// The text so far, the path of the element that comes next, and whether one stands before it in its
+// array.
 #[derive(Drop)]
 pub(crate) struct Draft {
-    pub(crate) json: Writer,
+    pub(crate) text: String,
     pub(crate) path: String,
+    pub(crate) later: bool,
 }
 
-pub(crate) fn put_text(json: &mut Writer, key: &str, text: &str) -> Result<(), AllocError>
-    ensures { OnOk result (Puts json.old json.new key.now (string text.now)) }
+// Begins an object of an array.
+pub(crate) fn begin(draft: &mut Draft, front: &str) -> Result<(), AllocError>
+    ensures { OnOk result (Begins draft.old draft.new front.now) }
 {
-    json.key(key)?;
-    json.string(text)?;
+    if draft.later {
+        draft.text.push_str(",")?;
+    }
+    draft.text.push_str(front)?;
     Ok(())
 }
 
-pub(crate) fn put_flag(json: &mut Writer, key: &str, flag: bool) -> Result<(), AllocError>
-    ensures { OnOk result (Puts json.old json.new key.now (boolean flag)) }
+fn put_key(text: &mut String, key: &str) -> Result<(), AllocError>
+    ensures { OnOk result (Extends text.old text.new (codes ",\"" ++ (key.now ++ codes "\":"))) }
 {
-    json.key(key)?;
-    json.boolean(flag)?;
+    text.push_str(",\"")?;
+    text.push_str(key)?;
+    text.push_str("\":")?;
     Ok(())
 }
 
-pub(crate) fn put_natural(json: &mut Writer, key: &str, number: u64) -> Result<(), AllocError>
-    ensures { OnOk result (Puts json.old json.new key.now (natural number)) }
+pub(crate) fn put_text(text: &mut String, key: &str, value: &str) -> Result<(), AllocError>
+    requires key { IsPlain key.now }
+    requires value { IsPlain value.now }
+    ensures { OnOk result (Puts text.old text.new key.now (string value.now)) }
 {
-    json.key(key)?;
-    json.u64(number)?;
+    put_key(text, key)?;
+    text.push_str("\"")?;
+    text.push_str(value)?;
+    text.push_str("\"")?;
+    Ok(())
+}
+
+fn flag_word(flag: bool) -> &'static str
+    ensures { result.now ≡ compact_text (boolean flag) }
+{
+    if flag { "true" } else { "false" }
+}
+
+pub(crate) fn put_flag(text: &mut String, key: &str, flag: bool) -> Result<(), AllocError>
+    requires { IsPlain key.now }
+    ensures { OnOk result (Puts text.old text.new key.now (boolean flag)) }
+{
+    put_key(text, key)?;
+    text.push_str(flag_word(flag))?;
+    Ok(())
+}
+
+pub(crate) fn put_natural(text: &mut String, key: &str, number: u64) -> Result<(), AllocError>
+    requires { IsPlain key.now }
+    ensures { OnOk result (Puts text.old text.new key.now (natural number)) }
+{
+    put_key(text, key)?;
+    write!(text, "{number}")?;
     Ok(())
 }
 
 // A number of 64 bits, with or without a sign.
-pub(crate) fn put_integer(json: &mut Writer, key: &str, value: i128) -> Result<(), AllocError>
-    requires { IsWide value }
-    ensures { OnOk result (Puts json.old json.new key.now (number (of_integer value))) }
+pub(crate) fn put_integer(text: &mut String, key: &str, value: i128) -> Result<(), AllocError>
+    requires key { IsPlain key.now }
+    requires wide { IsWide value }
+    ensures { OnOk result (Puts text.old text.new key.now (number (of_integer value))) }
 {
     if value < 0 {
-        put_negative(json, key, value as i64)
+        put_negative(text, key, value as i64)
     } else {
-        put_natural(json, key, value as u64)
+        put_natural(text, key, value as u64)
     }
 }
 
-fn put_negative(json: &mut Writer, key: &str, value: i64) -> Result<(), AllocError>
-    requires { int_lt value (pos 0) ≡ true }
-    ensures { OnOk result (Puts json.old json.new key.now (number (of_integer value))) }
+fn put_negative(text: &mut String, key: &str, value: i64) -> Result<(), AllocError>
+    requires key { IsPlain key.now }
+    requires negative { int_lt value (pos 0) ≡ true }
+    ensures { OnOk result (Puts text.old text.new key.now (number (of_integer value))) }
 {
-    json.key(key)?;
-    json.i64(value)?;
+    put_key(text, key)?;
+    write!(text, "{value}")?;
     Ok(())
 }

@@ -1,12 +1,11 @@
 // The entries of elements.
-ghost use Rattle.std.specs.Prelude.{◌≡◌, None, OnOk};
-ghost use Rattle.vms_selfdesc.specs.Drafts.{Gives, PutsSent};
+ghost use Rattle.std.specs.Prelude.{◌≡◌, [], ◌∷◌, true, pos, OnOk, string_bytes};
+ghost use Rattle.vms_selfdesc.specs.Drafts.{IsPlain, PutsSize, cell_tail};
 ghost use Rattle.vms_selfdesc.specs.Entries.{kind_word, cell_entry, sent_entry, absent_entry};
+ghost use Rattle.vms_selfdesc.specs.Listing.{Lists};
 ghost use Rattle.vms_selfdesc.specs.Needs.{IsWide};
-ghost use Rattle.vms_selfdesc.specs.Tree.{entry_tree};
 
-use crate::draft::{put_integer, put_natural, put_text};
-use json::Writer;
+use crate::draft::{Draft, begin, put_integer, put_natural, put_text};
 use std::alloc::AllocError;
 use vms_kinds::Kind;
 
@@ -27,59 +26,95 @@ fn kind_word(kind: Kind) -> &'static str
     }
 }
 
-// The members of each entry: its path, size and type.
-fn put_members(json: &mut Writer, path: &str, size: u64, word: &str) -> Result<(), AllocError>
-    ensures { OnOk result (PutsSent json.old json.new path.now size word.now) }
+// What comes after the path of a cell that stands in the stream.
+fn cell_tail(kind: Kind) -> &'static str
+    ensures { result.now ≡ cell_tail kind }
 {
-    put_text(json, "name", path)?;
-    put_natural(json, "size", size)?;
-    put_text(json, "type", word)?;
+    match kind {
+        Kind::U8 => "\",\"size\":1,\"type\":\"u8\"}",
+        Kind::U16 => "\",\"size\":2,\"type\":\"u16\"}",
+        Kind::U32 => "\",\"size\":4,\"type\":\"u32\"}",
+        Kind::U64 => "\",\"size\":8,\"type\":\"u64\"}",
+        Kind::I8 => "\",\"size\":1,\"type\":\"i8\"}",
+        Kind::I16 => "\",\"size\":2,\"type\":\"i16\"}",
+        Kind::I32 => "\",\"size\":4,\"type\":\"i32\"}",
+        Kind::I64 => "\",\"size\":8,\"type\":\"i64\"}",
+        Kind::Bool => "\",\"size\":1,\"type\":\"bool\"}",
+        Kind::Timer => "\",\"size\":8,\"type\":\"timer\"}",
+    }
+}
+
+// A cell that stands in the stream.
+fn write_present(draft: &mut Draft, kind: Kind) -> Result<(), AllocError>
+    requires { IsPlain (string_bytes draft.old.path) }
+    ensures { let entry = cell_entry true (string_bytes draft.old.path) kind (pos 0) in
+        OnOk result (Lists draft.old draft.new (entry ∷ [])) }
+{
+    begin(draft, "{\"name\":\"")?;
+    draft.text.push_str(draft.path.as_str())?;
+    draft.text.push_str(cell_tail(kind))?;
+    draft.later = true;
+    Ok(())
+}
+
+// The members of an entry after its path.
+fn put_size(text: &mut String, size: u64, word: &str) -> Result<(), AllocError>
+    requires { IsPlain word.now }
+    ensures { OnOk result (PutsSize text.old text.new size word.now) }
+{
+    put_natural(text, "size", size)?;
+    put_text(text, "type", word)?;
     Ok(())
 }
 
 // What stands in the stream.
-pub(crate) fn write_sent(
-    json: &mut Writer,
-    path: &str,
-    size: u64,
-    word: &str,
-) -> Result<(), AllocError>
-    ensures { let entry = sent_entry path.now size word.now in
-        OnOk result (Gives json.old json.new (entry_tree entry)) }
+pub(crate) fn write_sent(draft: &mut Draft, size: u64, word: &str) -> Result<(), AllocError>
+    requires path { IsPlain (string_bytes draft.old.path) }
+    requires word { IsPlain word.now }
+    ensures { let entry = sent_entry (string_bytes draft.old.path) size word.now in
+        OnOk result (Lists draft.old draft.new (entry ∷ [])) }
 {
-    json.begin_object()?;
-    put_members(json, path, size, word)?;
-    json.end_object()?;
+    begin(draft, "{\"name\":\"")?;
+    draft.text.push_str(draft.path.as_str())?;
+    draft.text.push_str("\"")?;
+    put_size(&mut draft.text, size, word)?;
+    draft.text.push_str("}")?;
+    draft.later = true;
     Ok(())
 }
 
-fn write_absent(json: &mut Writer, path: &str, word: &str, default: i128) -> Result<(), AllocError>
-    requires { IsWide default }
-    ensures { let entry = absent_entry path.now word.now default in
-        OnOk result (Gives json.old json.new (entry_tree entry)) }
+fn write_absent(draft: &mut Draft, word: &str, default: i128) -> Result<(), AllocError>
+    requires path { IsPlain (string_bytes draft.old.path) }
+    requires word { IsPlain word.now }
+    requires wide { IsWide default }
+    ensures { let entry = absent_entry (string_bytes draft.old.path) word.now default in
+        OnOk result (Lists draft.old draft.new (entry ∷ [])) }
 {
-    json.begin_object()?;
-    put_members(json, path, 0, word)?;
-    put_integer(json, "value", default)?;
-    json.end_object()?;
+    begin(draft, "{\"name\":\"")?;
+    draft.text.push_str(draft.path.as_str())?;
+    draft.text.push_str("\"")?;
+    put_size(&mut draft.text, 0, word)?;
+    put_integer(&mut draft.text, "value", default)?;
+    draft.text.push_str("}")?;
+    draft.later = true;
     Ok(())
 }
 
 // A cell, which stands in the stream or doesn't and then holds its default.
 pub(crate) fn write_cell(
-    json: &mut Writer,
-    path: &str,
+    draft: &mut Draft,
     sent: bool,
     kind: Kind,
     default: i128,
 ) -> Result<(), AllocError>
-    requires { IsWide default }
-    ensures { let entry = cell_entry sent path.now kind default in
-        OnOk result (Gives json.old json.new (entry_tree entry)) }
+    requires path { IsPlain (string_bytes draft.old.path) }
+    requires wide { IsWide default }
+    ensures { let entry = cell_entry sent (string_bytes draft.old.path) kind default in
+        OnOk result (Lists draft.old draft.new (entry ∷ [])) }
 {
     if sent {
-        write_sent(json, path, kind.width() as u64, kind_word(kind))
+        write_present(draft, kind)
     } else {
-        write_absent(json, path, kind_word(kind), default)
+        write_absent(draft, kind_word(kind), default)
     }
 }

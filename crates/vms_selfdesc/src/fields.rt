@@ -5,10 +5,10 @@ ghost use Rattle.vms_spec.specs.Layout.{capacity_of, item_size, struct_cells};
 ghost use Rattle.vms_parts.specs.Views.{field_of};
 ghost use Rattle.vms_desc.specs.Asks.{field_at};
 ghost use Rattle.vms_desc.specs.Parts.{desc_at};
-ghost use Rattle.vms_selfdesc.specs.Entries.{cell_entry, element_path, listed_if, sent_entry};
+ghost use Rattle.vms_selfdesc.specs.Drafts.{IsPlain};
+ghost use Rattle.vms_selfdesc.specs.Entries.{element_path, listed_if, sent_entry};
 ghost use Rattle.vms_selfdesc.specs.Listing.{Lists, is_field_sent, set_in, numbers_in};
 ghost use Rattle.vms_selfdesc.specs.Listing.{IsPlace, AreElements};
-ghost use Rattle.vms_selfdesc.specs.Needs.{IsWide};
 ghost use Rattle.vms_selfdesc.specs.Listing.{item_at, elements_at, run_at, field_within, part_at};
 
 use crate::draft::Draft;
@@ -16,7 +16,7 @@ use crate::entry::{write_cell, write_sent};
 use std::alloc::AllocError;
 use vms_desc::{Count, DescSet, Field, Part};
 use vms_image::Image;
-use vms_kinds::{Item, Kind};
+use vms_kinds::Item;
 
 // What the fields are gone over with.
 #[derive(Clone, Copy)]
@@ -63,14 +63,15 @@ fn list_item(
     place: Place,
     draft: &mut Draft,
 ) -> Result<(), AllocError>
-    requires { AreElements lister.now (field_of field.now) place.cell 1 }
+    requires cells { AreElements lister.now (field_of field.now) place.cell 1 }
+    requires path { IsPlain (string_bytes draft.old.path) }
     ensures { let entries = item_at lister.now (field_of field.now) place draft.old in
         OnOk result (Lists draft.old draft.new entries) }
 {
     match field.item {
-        Item::Num(kind) => list_cell(place.sent, kind, field.default, draft),
-        Item::Equal { kind, .. } => list_sent(place.sent, kind.width() as u64, "equal", draft),
-        Item::Unused { bytes } => list_sent(place.sent, bytes as u64, "unused", draft),
+        Item::Num(kind) => write_cell(draft, place.sent, kind, field.default),
+        Item::Equal { kind, .. } => list_sent(draft, place.sent, kind.width() as u64, "equal"),
+        Item::Unused { bytes } => list_sent(draft, place.sent, bytes as u64, "unused"),
         Item::Struct(number) => {
             let kept = draft.path.len();
             draft.path.push_str(".")?;
@@ -81,23 +82,15 @@ fn list_item(
     }
 }
 
-// A cell, whether or not it stands in the stream.
-fn list_cell(sent: bool, kind: Kind, default: i128, draft: &mut Draft) -> Result<(), AllocError>
-    requires { IsWide default }
-    ensures { let entry = cell_entry sent (string_bytes draft.old.path) kind default in
-        OnOk result (Lists draft.old draft.new (entry ∷ [])) }
-{
-    write_cell(&mut draft.json, draft.path.as_str(), sent, kind, default)?;
-    Ok(())
-}
-
 // What has no cell, where it stands in the stream.
-fn list_sent(sent: bool, size: u64, word: &str, draft: &mut Draft) -> Result<(), AllocError>
+fn list_sent(draft: &mut Draft, sent: bool, size: u64, word: &str) -> Result<(), AllocError>
+    requires path { IsPlain (string_bytes draft.old.path) }
+    requires word { IsPlain word.now }
     ensures { let entry = sent_entry (string_bytes draft.old.path) size word.now in
         OnOk result (Lists draft.old draft.new (listed_if sent entry)) }
 {
     if sent {
-        write_sent(&mut draft.json, draft.path.as_str(), size, word)?;
+        write_sent(draft, size, word)?;
     }
     Ok(())
 }
@@ -111,7 +104,8 @@ fn list_elements(
     count: u32,
     draft: &mut Draft,
 ) -> Result<(), AllocError>
-    requires { AreElements lister.now (field_of field.now) place.cell count }
+    requires cells { AreElements lister.now (field_of field.now) place.cell count }
+    requires path { IsPlain (string_bytes draft.old.path) }
     ensures { let entries = elements_at lister.now (field_of field.now) place count draft.old in
         OnOk result (Lists draft.old draft.new entries) }
 {
@@ -157,6 +151,7 @@ fn list_field(
         let f = field_at set part at.field in
         let cells = capacity_of f.count * item_size (struct_cells set) f.item in
         at.cell + cells ≤ length (numbers_in lister.now) }
+    requires path { IsPlain (string_bytes draft.old.path) }
     ensures { let entries = field_within lister.now part within at draft.old in
         OnOk result (Lists draft.old draft.new entries) }
 {
@@ -186,6 +181,7 @@ fn list_run(
 ) -> Result<(), AllocError>
     requires one { AreElements lister.now (field_of field.now) place.cell 1 }
     requires all { AreElements lister.now (field_of field.now) place.cell count }
+    requires path { IsPlain (string_bytes draft.old.path) }
     ensures { let entries = run_at lister.now (field_of field.now) place count draft.old in
         OnOk result (Lists draft.old draft.new entries) }
 {
@@ -203,7 +199,8 @@ pub(crate) fn list_part(
     place: Place,
     draft: &mut Draft,
 ) -> Result<(), AllocError>
-    requires { IsPlace lister.now part place.cell }
+    requires place { IsPlace lister.now part place.cell }
+    requires path { IsPlain (string_bytes draft.old.path) }
     ensures { let entries = part_at lister.now part place draft.old in
         OnOk result (Lists draft.old draft.new entries) }
 {

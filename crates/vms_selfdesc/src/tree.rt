@@ -1,16 +1,15 @@
 // The self-description of a set's images.
-ghost use Rattle.std.specs.Prelude.{◌≡◌, ◌<◌, ◌∷◌, [], Some, map, length, IfOk, OnOk, string_bytes};
+ghost use Rattle.std.specs.Prelude.{◌≡◌, ◌<◌, [], false, Some, map, length, IfOk, OnOk, string_bytes};
 ghost use Rattle.serde_json.specs.Read.{read};
 ghost use Rattle.vms_spec.specs.Streams.{AreReady, longest_text};
 ghost use Rattle.vms_desc.specs.Described.{described};
 ghost use Rattle.vms_image.specs.Typed.{state_of};
-ghost use Rattle.vms_selfdesc.specs.Drafts.{Adds};
+ghost use Rattle.vms_selfdesc.specs.Drafts.{Adds, Lays};
 ghost use Rattle.vms_selfdesc.specs.Tree.{device_trees, described_tree, described_text};
 
 use crate::devices::write_device;
 use crate::draft::Draft;
 use crate::fields::Lister;
-use json::Writer;
 use std::alloc::{AllocError, Global};
 use vms_desc::DescSet;
 use vms_image::Image;
@@ -29,29 +28,25 @@ pub fn describe(alloc: Global, set: &DescSet, images: &[Image]) -> Result<String
     ensures short { IfOk result (λ s. length (string_bytes s) < longest_text) }
 {
     let mut draft = Draft {
-        json: Writer::new(Vec::new(alloc)),
+        text: String::new(alloc),
         path: String::new(alloc),
+        later: false,
     };
     write_tree(set, images, &mut draft)?;
-    let Draft { json, .. } = draft;
-    match String::from_utf8(json.into_inner()) {
-        Ok(text) => Ok(text),
-        Err(_) => unreachable!(),
-    }
+    let Draft { text, .. } = draft;
+    Ok(text)
 }
 
 fn write_tree(set: &DescSet, images: &[Image], draft: &mut Draft) -> Result<(), AllocError>
     requires ready { AreReady (described set.now) (map state_of images.now) }
     requires no_path { string_bytes draft.old.path ≡ [] }
+    requires first { draft.old.later ≡ false }
     ensures { let tree = described_tree (described set.now) (map state_of images.now) in
-        OnOk result (Adds draft.old draft.new (tree ∷ [])) }
+        OnOk result (Lays draft.old draft.new tree) }
 {
-    draft.json.begin_object()?;
-    draft.json.key("devices")?;
-    draft.json.begin_array()?;
+    draft.text.push_str("{\"devices\":[")?;
     write_devices(set, images, draft)?;
-    draft.json.end_array()?;
-    draft.json.end_object()?;
+    draft.text.push_str("]}")?;
     Ok(())
 }
 

@@ -1,10 +1,23 @@
-use Rattle.std.proofs.Common.{ℕ, List, codes, subst}
+use Rattle.std.proofs.Common.{ℕ, List, codes, sym, subst}
 use Rattle.serde_json.specs.Data.{string}
-use Rattle.vms_selfdesc.specs.Drafts.{Puts}
+use Rattle.vms_selfdesc.specs.Drafts.{IsPlain, Puts}
 use Rattle.vms_selfdesc.proofs.Following.{further}
+use Rattle.vms_selfdesc.proofs.Keys.{plain_instance_id, plain_name}
 use Rattle.vms_selfdesc.proofs.devices.put_name.Goals as goal
+
+pub put_natural-requires : goal.put_natural-requires
+put_natural-requires c = plain_instance_id
+
+pub put_text-requires-clause-key : goal.put_text-requires-clause-key
+put_text-requires-clause-key c = plain_name
+
+pub put_text-requires-clause-value : goal.put_text-requires-clause-value
+put_text-requires-clause-value c = subst IsPlain (sym c.as_str.ensures) c.requires
 
 pub returns : goal.returns
 returns c =
-    let name = subst (λ (name : List ℕ). Puts c.put_natural.new.json c.put_text.new.json (codes "name") (string name)) c.as_str.ensures c.in_ok-put_text.ensures in
-    record { wrote = further c.in_ok-put_natural.ensures.wrote name.wrote; read = c.in_ok-put_natural.ensures.read }
+    let a = c.args.text.now in
+    let numbered = c.put_natural.new.text in
+    let end = c.put_text.new.text in
+    let name = subst (λ (name : List ℕ). Puts numbered end (codes "name") (string name)) c.as_str.ensures c.in_ok-put_text.ensures in
+    record { text = further a numbered end _ _ c.in_ok-put_natural.ensures.text name.text; sound = c.in_ok-put_natural.ensures.sound }

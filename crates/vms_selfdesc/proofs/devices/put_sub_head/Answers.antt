@@ -1,13 +1,30 @@
-use Rattle.std.proofs.Common.{ℕ, List, codes, subst}
+use Rattle.std.proofs.Common.{ℕ, List, codes, sym, subst}
 use Rattle.serde_json.specs.Data.{string}
-use Rattle.vms_selfdesc.specs.Drafts.{Puts}
+use Rattle.vms_selfdesc.specs.Drafts.{IsPlain, Puts}
 use Rattle.vms_selfdesc.proofs.Following.{further}
+use Rattle.vms_selfdesc.proofs.Keys.{plain_name, plain_sent, plain_version}
 use Rattle.vms_selfdesc.proofs.devices.put_sub_head.Goals as goal
+
+pub put_text-requires-clause-key : goal.put_text-requires-clause-key
+put_text-requires-clause-key c = plain_name
+
+pub put_text-requires-clause-value : goal.put_text-requires-clause-value
+put_text-requires-clause-value c = subst IsPlain (sym c.as_str.ensures) c.requires
+
+pub put_flag-requires : goal.put_flag-requires
+put_flag-requires c = plain_sent
+
+pub put_natural-requires : goal.put_natural-requires
+put_natural-requires c = plain_version
 
 pub returns : goal.returns
 returns c =
-    let name = subst (λ (name : List ℕ). Puts c.args.json.now c.put_text.new.json (codes "name") (string name)) c.as_str.ensures c.in_ok-put_text.ensures in
+    let a = c.args.text.now in
+    let named = c.put_text.new.text in
+    let flagged = c.put_flag.new.text in
+    let end = c.put_natural.new.text in
+    let name = subst (λ (name : List ℕ). Puts a named (codes "name") (string name)) c.as_str.ensures c.in_ok-put_text.ensures in
     record {
-      wrote = further name.wrote (further c.in_ok-put_flag.ensures.wrote c.in_ok-put_natural.ensures.wrote);
-      read = c.in_ok-put_natural.ensures.read;
+      text = further a named end _ _ name.text (further named flagged end _ _ c.in_ok-put_flag.ensures.text c.in_ok-put_natural.ensures.text);
+      sound = c.in_ok-put_natural.ensures.sound;
     }

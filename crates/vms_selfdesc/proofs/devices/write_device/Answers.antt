@@ -1,27 +1,41 @@
-use Rattle.std.proofs.Common.{[], ◌∷◌, true, ap, ◌∙◌, subst, arith}
-use Rattle.serde_json.specs.Data.{Data, object}
+use Rattle.std.proofs.Common.{[], ◌∷◌, true, ap, ◌∙◌, subst, arith, refl, sym}
+use Rattle.serde_json.specs.Data.{Data, array, object}
+use Rattle.serde_json.specs.View.{items_of}
 use Rattle.vms_spec.specs.Sets.{Device}
 use Rattle.vms_spec.specs.Images.{own_cells}
 use Rattle.vms_desc.specs.Described.{described, device_at}
 use Rattle.vms_image.specs.Typed.{state_of}
 use Rattle.vms_desc.proofs.AskLaws.{own_inside_device}
-use Rattle.vms_selfdesc.specs.Drafts.{Adds}
+use Rattle.vms_selfdesc.specs.Drafts.{Adds, IsPlain}
 use Rattle.vms_selfdesc.specs.Entries.{part_entries}
-use Rattle.vms_selfdesc.specs.Tree.{sub_trees, device_members}
+use Rattle.vms_selfdesc.specs.Tree.{entry_tree, list_tree, sub_trees, device_members}
 use Rattle.vms_selfdesc.specs.declared.draft.Draft.{Draft}
-use Rattle.vms_selfdesc.proofs.Following.{follow, further}
-use Rattle.vms_selfdesc.proofs.ReadBack.{device_read}
-use Rattle.vms_selfdesc.proofs.Trees.{adds_one}
+use Rattle.vms_selfdesc.proofs.Following.{further}
+use Rattle.vms_selfdesc.proofs.Keys.{plain_version}
+use Rattle.vms_selfdesc.proofs.PlainNames.{device_plain}
+use Rattle.vms_selfdesc.proofs.ReadBack.{device_sound}
+use Rattle.vms_selfdesc.proofs.Trees.{fields_adds, tail_members, device_text}
 use Rattle.vms_selfdesc.proofs.devices.write_device.Goals as goal
 
-pub put_fields-requires-clause-place : goal.put_fields-requires-clause-place
-put_fields-requires-clause-place c =
+pub write_fields-requires-clause-place : goal.write_fields-requires-clause-place
+write_fields-requires-clause-place c =
     let set = described c.args.lister.now.set.now in
     let device = c.requires.device in
     record { has = device.has; few = device.few; room = omega (arith, own_inside_device set c.args.device, device.cells) }
 
-pub put_subs-requires-clause-no_path : goal.put_subs-requires-clause-no_path
-put_subs-requires-clause-no_path c = c.in_ok-put_fields.ensures.path ∙ c.requires.no_path
+pub write_fields-requires-clause-no_path : goal.write_fields-requires-clause-no_path
+write_fields-requires-clause-no_path c = c.in_ok-begin.ensures.keeps.path ∙ c.requires.no_path
+
+pub put_name-requires : goal.put_name-requires
+put_name-requires c =
+    let set = described c.args.lister.now.set.now in
+    subst IsPlain (sym (ap (λ (d : Device). d.desc.name) c.device-described.ensures)) (device_plain set c.args.lister.now.set.now.well_formed c.args.device c.requires.device.has)
+
+pub write_subs-requires-clause-no_path : goal.write_subs-requires-clause-no_path
+write_subs-requires-clause-no_path c = c.in_ok-write_fields.ensures.path ∙ c.in_ok-begin.ensures.keeps.path ∙ c.requires.no_path
+
+pub put_natural-requires : goal.put_natural-requires
+put_natural-requires c = plain_version
 
 pub returns : goal.returns
 returns c =
@@ -30,16 +44,19 @@ returns c =
     let image = state_of lister.image.now in
     let d = device_at set c.args.device in
     let code = c.device-described.result.now in
-    let fields = c.in_ok-put_fields.ensures in
+    let fields = c.in_ok-write_fields.ensures in
     let name = c.in_ok-put_name.ensures in
-    let subs = c.in_ok-put_subs.ensures in
+    let subs = c.in_ok-write_subs.ensures in
     let version = c.in_ok-put_natural.ensures in
     let entries = part_entries set d.desc true image.numbers 0 in
     let trees = sub_trees set image.numbers (own_cells set d) d.subs image.came in
-    let end : Draft = record { json = c.end_object.new.self; path = c.put_subs.new.draft.path } in
-    let adds = adds_one c.args.draft.now end (object (device_members entries code.instance code.desc.name trees code.desc.version))
-    (further (follow c.in_ok-begin_object.ensures)
-    (further fields.puts.wrote (further name.wrote (further subs.puts.wrote (further version.wrote (follow c.in_ok-end_object.ensures))))))
-    (device_read entries code.instance code.desc.name trees code.desc.version fields.puts.read name.read subs.puts.read version.read) (subs.path ∙ fields.path) in
+    let laid = c.write_fields.new.draft in
+    let end : Draft = record { text = c.push_str-2.new.self; path = c.write_subs.new.draft.path; later = true } in
+    let last = further c.write_subs.new.draft.text c.put_natural.new.text end.text _ _ version.text c.in_ok-push_str-2.ensures.bytes in
+    let inner = further c.push_str.new.self c.write_subs.new.draft.text end.text _ _ subs.text last in
+    let rest = further laid.text c.put_name.new.text end.text _ _ name.text (further c.put_name.new.text c.push_str.new.self end.text _ _ c.in_ok-push_str.ensures.bytes inner) in
+    let adds = fields_adds c.args.draft.now c.begin.new.draft laid end (object (device_members entries code.instance code.desc.name trees code.desc.version)) (list_tree entry_tree entries)
+    (tail_members code.instance code.desc.name (array (items_of trees)) code.desc.version) _ c.in_ok-begin.ensures fields rest (device_text code.instance code.desc.name (array (items_of trees)) code.desc.version) refl
+    (device_sound entries code.instance code.desc.name trees code.desc.version fields.sound name.sound subs.sound version.sound) refl subs.path in
     let same = ap (λ (x : Device). object (device_members entries x.instance x.desc.name trees x.desc.version)) c.device-described.ensures in
     subst (λ (x : Data). Adds c.args.draft.now end (x ∷ [])) same adds

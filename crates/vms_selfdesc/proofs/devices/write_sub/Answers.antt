@@ -1,22 +1,23 @@
-use Rattle.std.proofs.Common.{ℕ, Bool, List, [], ◌∷◌, None, is_some, get_or, ap, ◌∙◌, subst, arith}
-use Rattle.serde_json.specs.Data.{Data, object}
+use Rattle.std.proofs.Common.{true, ℕ, Bool, List, [], ◌∷◌, None, is_some, get_or, ap, ◌∙◌, subst, arith, codes, refl, sym}
+use Rattle.serde_json.specs.Data.{Data, string, boolean, object, no_members, member}
 use Rattle.vms_spec.specs.Sets.{Desc}
 use Rattle.vms_spec.specs.declared.Part.TheVariants as parts
 use Rattle.vms_desc.specs.Described.{described}
 use Rattle.vms_desc.specs.Parts.{desc_at}
 use Rattle.vms_desc.proofs.AskLaws.{sub_inside}
-use Rattle.vms_selfdesc.specs.Drafts.{Adds}
+use Rattle.vms_selfdesc.specs.Drafts.{Adds, IsPlain}
 use Rattle.vms_selfdesc.specs.Entries.{part_entries}
 use Rattle.vms_selfdesc.specs.Listing.{numbers_in}
-use Rattle.vms_selfdesc.specs.Tree.{sub_members}
+use Rattle.vms_selfdesc.specs.Tree.{natural, entry_tree, list_tree, sub_members}
 use Rattle.vms_selfdesc.specs.declared.draft.Draft.{Draft}
-use Rattle.vms_selfdesc.proofs.Following.{follow, further}
-use Rattle.vms_selfdesc.proofs.ReadBack.{sub_read}
-use Rattle.vms_selfdesc.proofs.Trees.{adds_one}
+use Rattle.vms_selfdesc.proofs.Following.{further}
+use Rattle.vms_selfdesc.proofs.PlainNames.{sub_plain}
+use Rattle.vms_selfdesc.proofs.ReadBack.{sub_sound}
+use Rattle.vms_selfdesc.proofs.Trees.{fields_adds, head_text}
 use Rattle.vms_selfdesc.proofs.devices.write_sub.Goals as goal
 
-pub put_fields-requires-clause-place : goal.put_fields-requires-clause-place
-put_fields-requires-clause-place c =
+pub write_fields-requires-clause-place : goal.write_fields-requires-clause-place
+write_fields-requires-clause-place c =
     let set = described c.args.lister.now.set.now in
     let device = c.requires.device in
     record {
@@ -24,6 +25,14 @@ put_fields-requires-clause-place c =
       few = device.few;
       room = omega (arith, c.first_cell-cell.ensures, sub_inside set c.args.device c.args.sub c.requires.is_sub, device.cells);
     }
+
+pub write_fields-requires-clause-no_path : goal.write_fields-requires-clause-no_path
+write_fields-requires-clause-no_path c = c.in_ok-begin.ensures.keeps.path ∙ c.requires.no_path
+
+pub put_sub_head-requires : goal.put_sub_head-requires
+put_sub_head-requires c =
+    let set = described c.args.lister.now.set.now in
+    subst IsPlain (sym (ap (λ (d : Desc). d.name) c.desc.ensures)) (sub_plain set c.args.lister.now.set.now.well_formed c.args.device c.args.sub c.requires.device.has c.requires.is_sub)
 
 pub returns : goal.returns
 returns c =
@@ -33,13 +42,16 @@ returns c =
     let sent = c.is_some-sent.result in
     let cell = c.first_cell-cell.result in
     let desc = c.desc.result.now in
-    let fields = c.in_ok-put_fields.ensures in
+    let fields = c.in_ok-write_fields.ensures in
     let head = c.in_ok-put_sub_head.ensures in
-    let tree = λ (sent : Bool) (name : List ℕ) (version cell : ℕ). object (sub_members (part_entries set (desc_at set part) sent (numbers_in lister) cell) name sent version) in
-    let end : Draft = record { json = c.end_object.new.self; path = c.put_fields.new.draft.path } in
-    let adds = adds_one c.args.draft.now end (tree sent desc.name desc.version cell)
-    (further (follow c.in_ok-begin_object.ensures) (further fields.puts.wrote (further head.wrote (follow c.in_ok-end_object.ensures))))
-    (sub_read (part_entries set (desc_at set part) sent (numbers_in lister) cell) desc.name sent desc.version fields.puts.read head.read) fields.path in
+    let entries = λ (sent : Bool) (cell : ℕ). part_entries set (desc_at set part) sent (numbers_in lister) cell in
+    let tree = λ (sent : Bool) (name : List ℕ) (version cell : ℕ). object (sub_members (entries sent cell) name sent version) in
+    let laid = c.write_fields.new.draft in
+    let end : Draft = record { text = c.push_str.new.self; path = laid.path; later = true } in
+    let adds = fields_adds c.args.draft.now c.begin.new.draft laid end (tree sent desc.name desc.version cell) (list_tree entry_tree (entries sent cell))
+    (member (codes "name") (string desc.name) (member (codes "sent") (boolean sent) (member (codes "version") (natural desc.version) no_members))) _ c.in_ok-begin.ensures fields
+    (further laid.text c.put_sub_head.new.text end.text _ _ head.text c.in_ok-push_str.ensures.bytes) (head_text desc.name sent desc.version) refl
+    (sub_sound (entries sent cell) desc.name sent desc.version fields.sound head.sound) refl refl in
     let same =
     ap (λ (x : Bool). tree x desc.name desc.version cell) (c.is_some-sent.ensures ∙ ap is_some c.came.ensures)
     ∙ ap (λ (d : Desc). tree (is_some (get_or lister.image.now.came c.args.sub None)) d.name d.version cell) c.desc.ensures

@@ -1,9 +1,10 @@
-use Rattle.vms_selfdesc.proofs.Following.{follow, further}
-use Rattle.vms_selfdesc.proofs.ReadBack.{natural_read}
+use Rattle.std.proofs.Common.{decimal, refl}
+use Rattle.vms_selfdesc.specs.Tree.{natural}
+use Rattle.vms_selfdesc.proofs.MemberTexts.{puts}
+use Rattle.vms_selfdesc.proofs.ReadBack.{natural_sound}
 use Rattle.vms_selfdesc.proofs.draft.put_natural.Goals as goal
 
 pub returns : goal.returns
-returns c = record {
-  wrote = further (follow c.in_ok-key.ensures) (follow c.in_ok-u64.ensures);
-  read = natural_read c.args.number c.ranges.number.fits;
-}
+returns c =
+    puts c.args.text.now c.put_key.new.text c.write.new.self c.args.key.now (decimal c.args.number) (natural c.args.number) c.requires c.in_ok-put_key.ensures c.in_ok-write.ensures.bytes
+    refl (natural_sound c.args.number c.ranges.number.fits)

@@ -1,18 +1,14 @@
-use Rattle.std.proofs.Common.{ℕ, ◌∷◌, [], List, ◌∙◌, sym, ap, subst, w64}
+use Rattle.std.proofs.Common.{◌∙◌, sym, ap, w64}
 use Rattle.std.specs.Fmt.{signed_decimal}
 use Rattle.std.proofs.Math.Facts.{to_z-of_z}
-use Rattle.json.specs.Token.{key, number}
-use Rattle.vms_selfdesc.specs.Drafts.{Follows}
-use Rattle.vms_selfdesc.proofs.Following.{follow, further}
-use Rattle.vms_selfdesc.proofs.ReadBack.{negative_read}
+use Rattle.serde_json.specs.Data.{number}
+use Rattle.serde_json.specs.Find.{of_integer}
+use Rattle.vms_selfdesc.proofs.MemberTexts.{puts}
+use Rattle.vms_selfdesc.proofs.ReadBack.{negative_sound}
 use Rattle.vms_selfdesc.proofs.draft.put_negative.Goals as goal
 
 pub returns : goal.returns
 returns c =
-    let n = negative_read c.args.value c.ranges.value.sfits c.requires in
-    let text = ap signed_decimal (to_z-of_z {w = w64} c.ranges.value) ∙ sym n.text in
-    record {
-      wrote = subst (λ (s : List ℕ). Follows c.args.json.now c.i64.new.self (key c.args.key.now ∷ number s ∷ [])) text
-          (further (follow c.in_ok-key.ensures) (follow c.in_ok-i64.ensures));
-      read = n.read;
-    }
+    let n = negative_sound c.args.value c.ranges.value.sfits c.requires.negative in
+    puts c.args.text.now c.put_key.new.text c.write.new.self c.args.key.now _ (number (of_integer c.args.value)) c.requires.key c.in_ok-put_key.ensures c.in_ok-write.ensures.bytes
+    (ap signed_decimal (to_z-of_z {w = w64} c.ranges.value) ∙ sym n.text) n.sound

@@ -1,6 +1,6 @@
-use Rattle.std.proofs.Common.{rules, arith, sym, ap, ◌∙◌, subst, ◌≡◌, ℕ, ◌+◌, ◌*◌, ◌-◌, ◌<◌, List, ◌++◌, length, map, drop, codes, OnOk, string_bytes, decimal}
+use Rattle.std.proofs.Common.{rules, arith, sym, ap, ◌∙◌, subst, ◌≡◌, ℕ, ◌+◌, ◌*◌, ◌-◌, ◌<◌, ◌^◌, List, ◌++◌, length, map, drop, codes, OnOk, string_bytes, decimal}
 use Rattle.vms_spec.specs.declared.Count.{Count}
-use Rattle.vms_spec.specs.Sets.{Desc}
+use Rattle.vms_spec.specs.Sets.{Desc, Field}
 use Rattle.vms_spec.specs.Layout.{item_size, struct_cells, capacity_of}
 use Rattle.vms_spec.proofs.Sizes.{elements_fit}
 use Rattle.vms_parts.specs.Views.{field_of}
@@ -10,9 +10,14 @@ use Rattle.vms_desc.specs.Parts.{desc_at}
 use Rattle.vms_desc.proofs.AskLaws.{found_field}
 use Rattle.vms_selfdesc.specs.Entries.{Entry, listers, element_path, element_entries, array_entries, entries_from}
 use Rattle.vms_selfdesc.specs.Listing.{Lists, item_list, elements_list, field_list, part_list}
-use Rattle.vms_selfdesc.proofs.Listed.{leaves_rest, leave_path, elements_next, next_element, fields_next, field_room}
+use Rattle.vms_selfdesc.proofs.Listed.{leaves_rest, leave_path, element_room, elements_next, next_element, fields_next, field_room}
 use Rattle.vms_selfdesc.proofs.FieldNeeds.{field_needs, some_elements, array_many, field_run, struct_place, struct_lower, struct_list, width_code}
 use Rattle.vms_selfdesc.specs.declared.draft.Draft.{Draft}
+use Rattle.vms_selfdesc.specs.Drafts.{IsPlain}
+use Rattle.vms_selfdesc.specs.Needs.{HasElements}
+use Rattle.vms_selfdesc.proofs.Keys.{plain_equal, plain_unused}
+use Rattle.vms_selfdesc.proofs.Plain.{plain_append, element_plain, dot_plain}
+use Rattle.vms_selfdesc.proofs.PlainNames.{field_plain}
 use Rattle.vms_selfdesc.proofs.Paths.{path_long, enters}
 use Rattle.vms_selfdesc.proofs.fields.+list.Goals as goal
 
@@ -24,9 +29,9 @@ list_item-list_part-requires t c =
     let well = c.args.lister.now.set.now.well_formed in
     let item = c.args.field.now.item in
     let j = c.in-Struct.number in
-    let lower = struct_lower set well item j c.in-Struct.is c.requires.reaches in
-    let place = struct_place set well item j c.in-Struct.is c.requires.reaches c.args.lister.now.image.now.numbers c.args.place.cell c.requires.few c.requires.room in
-    (search rules, place)
+    let lower = struct_lower set well item j c.in-Struct.is c.requires.cells.reaches in
+    let place = struct_place set well item j c.in-Struct.is c.requires.cells.reaches c.args.lister.now.image.now.numbers c.args.place.cell c.requires.cells.few c.requires.cells.room in
+    (search rules, (place, subst IsPlain (sym c.in_ok-push_str-in-Struct.ensures.bytes) (dot_plain (string_bytes c.args.draft.now.path) c.requires.path)))
 
 pub list_item-leave-requires-clause-text : goal.list_item-leave-requires-clause-text
 list_item-leave-requires-clause-text t c =
@@ -41,14 +46,38 @@ list_item-returns-in_ok-list_part-in-Struct t c =
     let j = c.in-Struct.number in
     let n = c.args.lister.now.image.now.numbers in
     let draft = c.args.draft.now in
-    let same = struct_list set well item j c.in-Struct.is c.requires.reaches c.args.field.now.default c.args.place.sent (string_bytes draft.path) (string_bytes c.push_str.new.self) n c.args.place.cell
+    let same = struct_list set well item j c.in-Struct.is c.requires.cells.reaches c.args.field.now.default c.args.place.sent (string_bytes draft.path) (string_bytes c.push_str.new.self) n c.args.place.cell
     c.in_ok-push_str-in-Struct.ensures.bytes in
     let entered = enters draft.path c.list_part.new.draft.path c.len-kept.result (codes ".") (c.len-kept.ensures ∙ path_long c.args.draft.now.path)
     (c.in_ok-list_part-in-Struct.ensures.path ∙ c.in_ok-push_str-in-Struct.ensures.bytes) in
-    subst (λ (l : List Entry). Lists draft (record { json = c.list_part.new.draft.json; path = c.leave.new.path }) l) same
+    subst (λ (l : List Entry). Lists draft (record { text = c.list_part.new.draft.text; path = c.leave.new.path; later = c.list_part.new.draft.later }) l) same
     (leave_path draft c.push_str.new.self c.leave.new.path c.list_part.new.draft _ c.in_ok-list_part-in-Struct.ensures (c.leave.ensures ∙ entered.back))
 
+pub list_item-list_sent-requires-clause-word : goal.list_item-list_sent-requires-clause-word
+list_item-list_sent-requires-clause-word t c = plain_equal
+
+pub list_item-list_sent-requires-in-Unused-clause-word : goal.list_item-list_sent-requires-in-Unused-clause-word
+list_item-list_sent-requires-in-Unused-clause-word t c = plain_unused
+
 -- ---- elements
+
+pub list_elements-list_item-requires : goal.list_elements-list_item-requires
+list_elements-list_item-requires t c =
+    let set = described c.args.lister.now.set.now in
+    let cells = c.requires.cells in
+    let i = c.loop-number.number in
+    let inv = c.loop-number.invariant in
+    let path = string_bytes c.args.draft.now.path in
+    let elements : HasElements set (field_of c.args.field.now) c.loop-number.cell 1 c.args.lister.now.image.now.numbers = record {
+      reaches = cells.reaches;
+      default = cells.default;
+      few = cells.few;
+      small = cells.small;
+      room = element_room (item_size (struct_cells set) c.args.field.now.item) c.args.place.cell i c.args.count c.loop-number.cell (length c.args.lister.now.image.now.numbers) c.loop-number-test.true inv.here cells.room;
+    } in
+    let small : i < 2 ^ 64 = omega (arith, c.loop-number-test.true, c.ranges.count.fits) in
+    let plain = subst IsPlain (sym (c.in_ok-enter_element.ensures ∙ ap (λ (p : List ℕ). element_path p i) inv.lists.lists.path)) (element_plain path i small c.requires.path) in
+    (search rules, (elements, plain))
 
 pub list_elements-leave-requires-clause-text : goal.list_elements-leave-requires-clause-text
 list_elements-leave-requires-clause-text t c =
@@ -67,11 +96,11 @@ list_elements-loop-number-preserved t c =
     let i = c.loop-number.number in
     let now = c.loop-number.draft in
     let inv = c.loop-number.invariant in
-    let width : c.item_cells-size.result ≡ size = omega (arith, c.item_cells-size.ensures, c.requires.small) in
+    let width : c.item_cells-size.result ≡ size = omega (arith, c.item_cells-size.ensures, c.requires.cells.small) in
     let moved : c.loop-number.cell + c.item_cells-size.result ≡ c.loop-number.cell + size = omega (arith, width) in
     let kept = c.len-kept.ensures ∙ path_long c.args.draft.now.path ∙ ap length (sym inv.lists.lists.path) in
     let entered = enters now.path c.list_item.new.draft.path c.len-kept.result (codes "[" ++ (decimal i ++ codes "]")) kept (c.in_ok-list_item.ensures.path ∙ c.in_ok-enter_element.ensures) in
-    let new : Draft = record { json = c.list_item.new.draft.json; path = c.leave.new.path } in
+    let new : Draft = record { text = c.list_item.new.draft.text; path = c.leave.new.path; later = c.list_item.new.draft.later } in
     let listed = leave_path now c.enter_element.new.path c.leave.new.path c.list_item.new.draft _ c.in_ok-list_item.ensures (c.leave.ensures ∙ entered.back) in
     record {
       lists = leaves_rest c.args.draft.now now new
@@ -123,7 +152,10 @@ list_field-list_run-requires t c =
     let all = field_needs set well part c.args.within.cell n c.requires.place k c.args.at.cell c.elements-count.result (field_of f) c.requires.field is
     (omega (arith, fewer, c.elements-count.ensures)) c.requires.room in
     let lower = needs.lower in
-    (search rules, (needs.elements, all.elements))
+    let name = field_plain set well part k c.requires.place.has c.requires.field in
+    let plain = subst IsPlain (sym (c.in_ok-push_str.ensures.bytes ∙ ap (λ (x : List ℕ). string_bytes c.args.draft.now.path ++ x) (c.as_str.ensures ∙ ap (λ (x : Field). x.name) is)))
+    (plain_append (string_bytes c.args.draft.now.path) (field_at set part k).name c.requires.path name) in
+    (search rules, (needs.elements, (all.elements, plain)))
 
 pub list_field-leave-requires-clause-text : goal.list_field-leave-requires-clause-text
 list_field-leave-requires-clause-text t c =
@@ -144,7 +176,7 @@ list_field-returns t c =
     (string_bytes c.push_str.new.self) c.elements-count.result is c.is_sent-sent.ensures
     (c.in_ok-push_str.ensures.bytes ∙ ap (λ (name : List ℕ). string_bytes draft.path ++ name) c.as_str.ensures) c.elements-count.ensures in
     let entered = enters draft.path c.list_run.new.draft.path c.len-kept.result c.as_str.result.now (c.len-kept.ensures ∙ path_long c.args.draft.now.path) (c.in_ok-list_run.ensures.path ∙ c.in_ok-push_str.ensures.bytes) in
-    subst (λ (l : List Entry). Lists draft (record { json = c.list_run.new.draft.json; path = c.leave.new.path }) l) same
+    subst (λ (l : List Entry). Lists draft (record { text = c.list_run.new.draft.text; path = c.leave.new.path; later = c.list_run.new.draft.later }) l) same
     (leave_path draft c.push_str.new.self c.leave.new.path c.list_run.new.draft _ c.in_ok-list_run.ensures (c.leave.ensures ∙ entered.back))
 
 -- ---- the fields of a part
@@ -157,7 +189,7 @@ list_part-list_field-requires t c =
     let k = c.loop-field.field in
     let lt : k < length fs = omega (arith, c.field_count-field-end.ensures) in
     let room = field_room (struct_cells set) fs k c.loop-field.cell (length n) lt c.loop-field.invariant.room in
-    (search rules, (c.requires, (lt, room.here)))
+    (search rules, (c.requires.place, (lt, (room.here, subst IsPlain (sym c.loop-field.invariant.lists.lists.path) c.requires.path))))
 
 pub list_part-overflow_add-cell : goal.list_part-overflow_add-cell
 list_part-overflow_add-cell t c =
@@ -169,8 +201,8 @@ list_part-overflow_add-cell t c =
     let f = field_at set c.args.part k in
     let w = capacity_of f.count * item_size (struct_cells set) f.item in
     let room = field_room (struct_cells set) fs k c.loop-field.cell (length n) lt c.loop-field.invariant.room in
-    let width = width_code c.field_cells-cell.result w c.loop-field.cell (length n) c.field_cells-cell.ensures room.here c.requires.few in
-    omega (arith, width, room.here, c.requires.few)
+    let width = width_code c.field_cells-cell.result w c.loop-field.cell (length n) c.field_cells-cell.ensures room.here c.requires.place.few in
+    omega (arith, width, room.here, c.requires.place.few)
 
 pub list_part-loop-field-preserved : goal.list_part-loop-field-preserved
 list_part-loop-field-preserved t c =
@@ -187,7 +219,7 @@ list_part-loop-field-preserved t c =
     let own = own_numbers set part n c.args.place.cell in
     let inv = c.loop-field.invariant in
     let room = field_room (struct_cells set) d.fields k cell (length n) lt inv.room in
-    let width = width_code c.field_cells-cell.result w cell (length n) c.field_cells-cell.ensures room.here c.requires.few in
+    let width = width_code c.field_cells-cell.result w cell (length n) c.field_cells-cell.ensures room.here c.requires.place.few in
     let moved : cell + c.field_cells-cell.result ≡ cell + w = omega (arith, width) in
     let left = λ (x : ℕ). entries_from (struct_cells set) (listers set) d.version own c.args.place.sent path n x (drop (k + 1) d.fields) in
     record {

@@ -6,7 +6,7 @@ use Rattle.vms_desc.specs.Described.{described, device_at}
 use Rattle.vms_image.specs.Typed.{state_of}
 use Rattle.vms_selfdesc.specs.Tree.{sub_trees}
 use Rattle.vms_selfdesc.proofs.Trees.{Remain}
-use Rattle.vms_selfdesc.proofs.devices.write_subs.Given as goal
+use Rattle.vms_selfdesc.proofs.devices.write_each.Given as goal
 
 abbrev pub invariant-loop-sub : goal.invariant-loop-sub
 invariant-loop-sub l =
