@@ -1,9 +1,11 @@
 pub mod CauseLemmas
 pub mod DrillRow
+pub mod HeardLemmas
 pub mod LoadLemmas
 pub mod LoadOutcome
 pub mod LoadRow
 pub mod PlayLemmas
+pub mod PlayOutcome
 pub mod PlayRow
 pub mod SaveLemmas
 pub mod SaveRow

@@ -10,10 +10,11 @@ use Rattle.vms_outcome.specs.declared.ending.Ending.{Ending}
 use Rattle.vms_outcome.specs.declared.ending.Ending.TheVariants.{Done, Refused, BadWords, BadText, NotCompatible, ReadFault, WriteFault, ShelfFault, NotThere, TooLarge, NoMemory}
 use Rattle.vms_boards.proofs.CauseLemmas.{unread_caused, stream_caused}
 use Rattle.vms_boards.specs.Causes.{NoScript, StreamCause, LoadCauses}
-use Rattle.vms_boards.specs.Load.{LoadStatus, LoadAnswers}
+use Rattle.vms_boards.proofs.HeardLemmas.{refusal_row}
+use Rattle.vms_boards.specs.Load.{LoadStatus, LoadAnswers, Loads}
 
-module _ (i i' : Intake) (o o' n n' : Outlet) (s s' : Stock) (step : Step (List ScriptLine)) where
-  pub load_caused : (e : Ending) → LoadCauses step i i' o o' s s' e → Caused i i' o o' s s' e
+module _ (i i' : Intake) (o o' n n' : Outlet) (s s' : Stock) (level : ℕ) (step : Step (List ScriptLine)) where
+  pub load_caused : (e : Ending) → LoadCauses level step i i' o o' s s' e → Caused i i' o o' s s' e
   load_caused e c = elim c.0 [ inl a ↦ unread_caused i i' o o' s s' e a.0 a.2 c.2 | inr b ↦ stream_caused i i' o o' s s' e b c.2 ]
 
   unread : (e : Ending) (status : ℕ) → NoScript s s' e → i' ≡ i → Keeps o.written o'.written → Tells n n' e status → LoadStatus status (around i o n s) (around i' o' n' s')
@@ -51,9 +52,10 @@ module _ (i i' : Intake) (o o' n n' : Outlet) (s s' : Stock) (step : Step (List 
   streamed NoMemory status c (inl t) = inr (inr (inr (inr (inr (inr (inr (inr (inr ((t, c.0, c.1))))))))))
   streamed NoMemory status c (inr t) = inr (inr (inr (inr (inr (inl (t.0, t.1))))))
 
-  pub load_row : (e : Ending) (status : ℕ) → LoadCauses step i i' o o' s s' e → Tells n n' e status → LoadAnswers step status (around i o n s) (around i' o' n' s')
+  pub load_row : (e : Ending) (status : ℕ) → LoadCauses level step i i' o o' s s' e → Tells n n' e status → LoadAnswers level step status (around i o n s) (around i' o' n' s')
   load_row e status c t = record {
     ends = elim c.0 [ inl a ↦ unread e status a.0 a.1 a.2 t | inr b ↦ streamed e status b t ];
     given = c.1;
     held = c.2;
+    refused = refusal_row (List ScriptLine) step (λ lines bytes x. Loads level lines bytes s.held x) i i' o o' n n' s s' e status c.3 t;
   }

@@ -1,12 +1,13 @@
 -- The endings of each command of boards with their causes, told or not.
-use Rattle.std.specs.Prelude.{◌≡◌, ◌⊎◌, Result, Ok, Err}
+use Rattle.std.specs.Prelude.{◌≡◌, ◌⊎◌, ℕ, List, Result, Ok, Err}
 use Rattle.std.specs.Io.KnownBytes.{Keeps}
 use Rattle.vms_io.specs.Causes.{Rose}
 use Rattle.vms_io.specs.Told.{Intake, Outlet, Stock}
 use Rattle.vms_outcome.specs.Steps.{Step}
 use Rattle.vms_outcome.specs.declared.ending.Ending.{Ending}
 use Rattle.vms_outcome.specs.declared.ending.Ending.TheVariants.{Done, Refused, BadText, ReadFault, WriteFault, ShelfFault, NotThere, TooLarge, NoMemory}
-use Rattle.vms_boards.specs.Load.{LoadGives}
+use Rattle.vms_script.specs.Lines.{ScriptLine}
+use Rattle.vms_boards.specs.Load.{LoadGives, LoadHears}
 
 -- of reading a script
 abbrev pub ReadCause : {T : Type 0} → Result T Ending → Type 0
@@ -75,9 +76,10 @@ SaveCauses input input' out out' shelf shelf' ending =
 abbrev pub DrillCauses : (input input' : Intake) (out out' : Outlet) (shelf shelf' : Stock) → Ending → Type 0
 DrillCauses input input' out out' shelf shelf' ending = WriteCause out out' ending × (input' ≡ input) × (shelf' ≡ shelf)
 
-abbrev pub LoadCauses : {A : Type 0} → Step A → (input input' : Intake) (out out' : Outlet) (shelf shelf' : Stock) → Ending → Type 0
-LoadCauses step input input' out out' shelf shelf' ending =
+abbrev pub LoadCauses : ℕ → Step (List ScriptLine) → (input input' : Intake) (out out' : Outlet) (shelf shelf' : Stock) → Ending → Type 0
+LoadCauses level step input input' out out' shelf shelf' ending =
     LoadCause input input' out out' shelf shelf' ending × LoadGives step input input' × (shelf'.held ≡ shelf.held)
+    × LoadHears level step shelf.held input.given input'.given ending
 
 abbrev pub PlayCauses : (input input' : Intake) (out out' : Outlet) (shelf shelf' : Stock) → Ending → Type 0
 PlayCauses input input' out out' shelf shelf' ending = PlayCause out out' shelf shelf' ending × (input' ≡ input)

@@ -13,11 +13,13 @@ use Rattle.vms_load.specs.Staging.{most_given}
 use Rattle.vms_outcome.specs.Lines.{refused_line}
 use Rattle.vms_outcome.specs.Outcomes.{Outcome, done, ended, Outside, ReadFault, OutFault, NotesFault, ShelfFault, WantsMemory, EndsBefore, EndsBy}
 use Rattle.vms_outcome.specs.Steps.{Step, Ends, HasBy}
+use Rattle.vms_outcome.specs.declared.ending.Ending.{Ending}
 use Rattle.vms_play.specs.Events.{events_of}
 use Rattle.vms_script.specs.Lines.{ScriptLine}
 use Rattle.vms_session.specs.Laws.{trace_of}
 use Rattle.vms_spec.specs.declared.Reason.{Reason}
 use Rattle.vms_units.specs.Faults.{Fault}
+use Rattle.vms_boards.specs.Heard.{HearsBy, Refuses}
 
 -- the trace of the script's events on the board that the input restores; or where and why the input is refused, up to the end
 -- of the unit at fault, or because the stream is no board's; the shelf tells the same as before
@@ -39,6 +41,15 @@ abbrev pub LoadGives : {A : Type 0} → Step A → Intake → Intake → Type 0
 LoadGives (Ends status line) input input' = input' ≡ input
 LoadGives step input input' = input'.given ≤ input.given + most_given (shipped_set NEWEST)
 
+-- what is heard of a refusal: the script that the step gave, and bytes that this refusal takes to the last
+abbrev pub LoadHears : ℕ → Step (List ScriptLine) → Option Held → ℕ → ℕ → Ending → Type 0
+LoadHears level step held before now ending =
+    HearsBy (List ScriptLine) step (λ lines bytes o. Loads level lines bytes held o) before now ending
+
+abbrev pub LoadRefuses : ℕ → Step (List ScriptLine) → Outside → Outside → Type 0
+LoadRefuses level step old new =
+    Refuses (List ScriptLine) step (λ lines bytes o. Loads level lines bytes old.shelf.held o) old new
+
 -- what it can answer, told or not
 abbrev pub LoadStatus : ℕ → Outside → Outside → Type 0
 LoadStatus status old new =
@@ -53,7 +64,9 @@ LoadStatus status old new =
     ⊎ EndsBefore 9 true status old new
     ⊎ (WantsMemory status old new × Keeps old.out.written new.out.written × (new.input ≡ old.input))
 
-pub record LoadAnswers (step : Step (List ScriptLine)) (status : ℕ) (old new : Outside) : Type 0 where
+pub record LoadAnswers (level : ℕ) (step : Step (List ScriptLine)) (status : ℕ) (old new : Outside) : Type 0 where
   pub ends : LoadStatus status old new
   pub given : LoadGives step old.input new.input
+  -- exactly the bytes of the refusal are taken
+  pub refused : status ≡ 1 → LoadRefuses level step old new
   pub held : new.shelf.held ≡ old.shelf.held

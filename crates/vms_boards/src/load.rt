@@ -1,10 +1,11 @@
 // The command `load`: what goes on, by a script, from the board that a stream restores.
-ghost use Rattle.std.specs.Prelude.{◌≡◌, ◌+◌, ◌≤◌, IsSomeAnd, None};
+ghost use Rattle.std.specs.Prelude.{◌≡◌, ◌+◌, ◌≤◌, IsSomeAnd, None, Option};
 ghost use Rattle.dev_base.specs.Levels.{IsLevel};
 ghost use Rattle.dev_base.specs.declared.limits.TheConstants.{NEWEST as newest};
 ghost use Rattle.dev_board.specs.Laws.{AreEvents};
 ghost use Rattle.vms_desc.specs.Described.{described};
 ghost use Rattle.vms_desc.specs.Formed.{shipped_set};
+ghost use Rattle.vms_io.specs.Shelves.{Held};
 ghost use Rattle.vms_io.specs.Told.{Stock, intake, outlet, stock};
 ghost use Rattle.vms_load.specs.Staging.{most_given};
 ghost use Rattle.vms_outcome.specs.Endings.{EndsAs, WritesAs};
@@ -13,7 +14,8 @@ ghost use Rattle.vms_play.specs.Events.{events_of, trace_from};
 ghost use Rattle.vms_script.specs.Grammar.{AreLines};
 ghost use Rattle.vms_script.specs.Views.{lines_view};
 ghost use Rattle.vms_boards.specs.Causes.{LoadCause, StreamCause};
-ghost use Rattle.vms_boards.specs.Load.{LoadGives, Loads, LoadsBy};
+ghost use Rattle.vms_boards.specs.Heard.{HearsEnd};
+ghost use Rattle.vms_boards.specs.Load.{LoadGives, LoadHears, Loads, LoadsBy};
 ghost use Rattle.vms_boards.specs.Scripts.{scripted};
 
 use crate::asked::OnBoard;
@@ -48,6 +50,9 @@ pub fn load_board<I: Source, O: Sink, H: Shelf>(
         (stock H.Shelf shelf.old) (stock H.Shelf shelf.new) result }
     ensures given { LoadGives (scripted None (H.held shelf.old) asked.entry.script.now)
         (intake I.Source input.old) (intake I.Source input.new) }
+    ensures heard { LoadHears asked.entry.level
+        (scripted None (H.held shelf.old) asked.entry.script.now) (H.held shelf.old)
+        (I.given input.old) (I.given input.new) result }
     ensures held { H.held shelf.new ≡ H.held shelf.old }
     ensures input_count { I.faults input.old ≤ I.faults input.new }
     ensures out_count { O.faults out.old ≤ O.faults out.new }
@@ -80,6 +85,9 @@ fn load_lines<I: Source, O: Sink>(
     ensures cause { StreamCause (intake I.Source input.old) (intake I.Source input.new)
         (outlet O.Sink out.old) (outlet O.Sink out.new) result }
     ensures given { I.given input.new ≤ I.given input.old + most_given (shipped_set newest) }
+    ensures heard { (held : Option Held)
+        → HearsEnd (λ bytes o. Loads level (lines_view lines.now) bytes held o)
+        (I.given input.old) (I.given input.new) result }
     ensures input_count { I.faults input.old ≤ I.faults input.new }
     ensures out_count { O.faults out.old ≤ O.faults out.new }
     ensures input_promise { I.promise input.new ≡ I.promise input.old }
@@ -112,6 +120,9 @@ fn load_on<I: Source, O: Sink>(
     ensures cause { StreamCause (intake I.Source input.old) (intake I.Source input.new)
         (outlet O.Sink out.old) (outlet O.Sink out.new) result }
     ensures given { I.given input.new ≤ I.given input.old + most_given (shipped_set newest) }
+    ensures heard { (held : Option Held) → let level = board.old.state.level in
+        HearsEnd (λ bytes o. Loads level (lines_view lines.now) bytes held o)
+        (I.given input.old) (I.given input.new) result }
     ensures input_count { I.faults input.old ≤ I.faults input.new }
     ensures out_count { O.faults out.old ≤ O.faults out.new }
     ensures input_promise { I.promise input.new ≡ I.promise input.old }

@@ -9,10 +9,11 @@ use Rattle.vms_outcome.proofs.EndLemmas.{around, outcome_so, same_keeps}
 use Rattle.vms_cli.specs.Answers.{Answers, BadWordsAnswers, CanAnswer, HasOutcome}
 use Rattle.vms_cli.specs.Causes.{BadWordsCauses, EndsCause, IsBadWords}
 use Rattle.vms_cli.specs.Check.{asks_shelf}
-use Rattle.vms_cli.specs.Commands.{Asked, Show, Pack, Check, Save, Load, Drill, asked_of}
+use Rattle.vms_cli.specs.Commands.{Asked, Show, Pack, Check, Save, Load, Drill, Play, asked_of}
 use Rattle.vms_cli.proofs.CheckRow.{check_caused, check_row}
 use Rattle.vms_boards.proofs.DrillRow.{drill_caused, drill_row}
 use Rattle.vms_boards.proofs.LoadRow.{load_caused, load_row}
+use Rattle.vms_boards.proofs.PlayRow.{play_caused, play_row}
 use Rattle.vms_boards.proofs.SaveRow.{save_caused, save_row}
 use Rattle.vms_boards.specs.Scripts.{scripted}
 use Rattle.vms_cli.proofs.ContinuationLemmas.{continues_so}
@@ -40,7 +41,8 @@ caused (Some (Show set)) i i' o o' s s' e c = show_caused set i i' o o' s s' e c
 caused (Some (Pack set name)) i i' o o' s s' e c = pack_caused i i' o o' s s' e c.0 c.2
 caused (Some (Check old new)) i i' o o' s s' e c = check_caused (asks_shelf old new) i i' o o' s s' e c.0 c.2
 caused (Some (Save level set script)) i i' o o' s s' e c = save_caused i i' o o' o o' s s' e c
-caused (Some (Load level script)) i i' o o' s s' e c = load_caused i i' o o' o o' s s' (scripted None s.held script) e c
+caused (Some (Load level script)) i i' o o' s s' e c = load_caused i i' o o' o o' s s' level (scripted None s.held script) e c
+caused (Some (Play level script)) i i' o o' s s' e c = play_caused i i' o o' o o' s s' e c
 caused (Some (Drill level seed count)) i i' o o' s s' e c = drill_caused i i' o o' o o' s s' e c
 
 module _ (i i' : Intake) (o o' n n' : Outlet) (s s' : Stock) where
@@ -64,7 +66,8 @@ module _ (i i' : Intake) (o o' n n' : Outlet) (s s' : Stock) where
   row_so (Some (Pack set name)) e status c t = pack_row i i' o o' n n' s s' e status c t
   row_so (Some (Check one other)) e status c t = check_row i i' o o' n n' s s' (asks_shelf one other) e status c t
   row_so (Some (Save level set script)) e status c t = save_row i i' o o' n n' s s' e status c t
-  row_so (Some (Load level script)) e status c t = load_row i i' o o' n n' s s' (scripted None s.held script) e status c t
+  row_so (Some (Load level script)) e status c t = load_row i i' o o' n n' s s' level (scripted None s.held script) e status c t
+  row_so (Some (Play level script)) e status c t = play_row i i' o o' n n' s s' e status c t
   row_so (Some (Drill level seed count)) e status c t = drill_row i i' o o' n n' s s' e status c t
 
   -- what the call answers

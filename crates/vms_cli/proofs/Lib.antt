@@ -10,3 +10,4 @@ pub mod ShowLemmas
 pub mod ShowRow
 pub mod UpgradeLemmas
 pub mod VerdictLaws
+pub mod WordLaws

@@ -1,5 +1,5 @@
 -- Each call has one outcome, and what can be done is done.
-use Rattle.std.proofs.Common.{◌≡◌, ℕ, zero, suc, ◌+◌, ◌<◌, ◌≤◌, ◌⊎◌, List, [], ◌∷◌, length, length-append, take, Option, Some, None, IsSomeAnd, refl, sym, ap, ◌∙◌, subst, arith, inl, inr}
+use Rattle.std.proofs.Common.{◌≡◌, ℕ, zero, suc, ◌+◌, ◌<◌, ◌≤◌, ◌⊎◌, List, [], ◌∷◌, length, length-append, take, Option, Some, None, Ok, Err, IsSomeAnd, refl, sym, ap, ◌∙◌, subst, arith, inl, inr}
 use Rattle.std.proofs.lemmas.List.{length-take}
 use Rattle.std.specs.Io.KnownBytes.{Appends}
 use Rattle.vms_io.specs.Causes.{Rose, AppendsPrefix, KeepsPromise}
@@ -14,7 +14,7 @@ use Rattle.vms_units.specs.Streams.{Takes}
 use Rattle.vms_units.proofs.Stated.{either_holds}
 use Rattle.vms_check.specs.declared.mismatch.Mismatch.{Mismatch}
 use Rattle.vms_spec.specs.Sets.{Set}
-use Rattle.vms_outcome.specs.Fetching.{longest_file, word_set}
+use Rattle.vms_outcome.specs.Fetching.{fetched, longest_file, word_set}
 use Rattle.vms_outcome.specs.Lines.{bad_words, read_fault, write_fault, shelf_fault, out_of_memory, refused_line}
 use Rattle.vms_outcome.specs.Outcomes.{Part, Outcome, DoesOrStops, done, ended, text_of, text_begun, Outside, HasPart}
 use Rattle.vms_outcome.specs.SetWords.{SetWord}
@@ -26,16 +26,22 @@ use Rattle.vms_board.specs.Saving.{saved_stream}
 use Rattle.vms_boards.proofs.ScriptSteps.{script_gives, sound_saved, sound_script}
 use Rattle.vms_boards.specs.Drill.{drill_line}
 use Rattle.dev_board.specs.Step.{after_all, observe}
+use Rattle.dev_base.specs.Levels.{IsLevel}
 use Rattle.vms_boards.proofs.LoadOutcome.{loads_one}
+use Rattle.vms_boards.proofs.PlayOutcome.{has_end, one_outcome}
+use Rattle.vms_boards.specs.Play.{PlaysBy}
 use Rattle.vms_boards.specs.Load.{LoadsBy, Traces}
 use Rattle.vms_boards.specs.Save.{saved_after}
-use Rattle.vms_boards.specs.Scripts.{scripted}
-use Rattle.vms_session.specs.Laws.{trace_of}
+use Rattle.vms_boards.specs.Scripts.{longest_script, said_lines, scripted}
+use Rattle.vms_session.specs.Laws.{HoldsAll, trace_of}
 use Rattle.vms_play.specs.Events.{events_of}
+use Rattle.vms_script.proofs.GrammarOnly.{reads_exactly}
+use Rattle.vms_script.specs.Grammar.{AreLines}
 use Rattle.vms_script.specs.Lines.{ScriptLine}
+use Rattle.vms_script.specs.Script.{Reading, script_read}
 use Rattle.vms_cli.specs.Answers.{HasOutcome, Answers}
 use Rattle.vms_cli.specs.Check.{checked, compared, compatible_text, verdict}
-use Rattle.vms_cli.specs.Commands.{Asked, Show, Pack, Check, Save, Load, Drill, asked_of}
+use Rattle.vms_cli.specs.Commands.{Asked, Show, Pack, Check, Save, Load, Drill, Play, asked_of}
 use Rattle.vms_cli.specs.Laws.{HasOneOutcome, OutcomeLaw, CanBePacked, CanBeDone, HasRoom, IsAmple, PromisesKept, CompleteLaw}
 use Rattle.vms_cli.specs.Pack.{described_stream, packed_by, packs}
 use Rattle.vms_cli.specs.Show.{ShowsBy, Values as Printed, Refuses}
@@ -118,14 +124,54 @@ one_loaded level script input held ok =
     let one = one_loads level (scripted None (Some held) script) input held ok (sound_script None (Some held) script) in
     record { outcome = one.outcome; is = one.is; only = one.only }
 
+-- ---- the outcome of `play`
+
+-- a script that the shelf gives is one of sessions
+abbrev AreStepLines : ℕ → Step (List ScriptLine) → Type 0
+AreStepLines level Untold = Unit {0}
+AreStepLines level (Gives lines) = AreLines (Some level) lines
+AreStepLines level (Ends status line) = Unit {0}
+
+said_script : (level : ℕ) (text : List ℕ) (r : Reading) → script_read (Some level) text ≡ r → AreStepLines level (said_lines r)
+said_script level text (Ok lines) e = (reads_exactly.only (Some level) text lines e).0
+said_script level text (Err fault) e = tt
+
+step_lines : (level : ℕ) (s : Step (List ℕ)) → AreStepLines level (next s (λ text. said_lines (script_read (Some level) text)))
+step_lines level Untold = tt
+step_lines level (Gives text) = said_script level text (script_read (Some level) text) refl
+step_lines level (Ends status line) = tt
+
+record OnePlays (level : ℕ) (step : Step (List ScriptLine)) (held : Held) : Type 0 where
+  outcome : Outcome
+  is : PlaysBy level step (Some held) outcome
+  only : (other : Outcome) → PlaysBy level step (Some held) other → other ≡ outcome
+
+one_plays : (level : ℕ) (s : Step (List ScriptLine)) (held : Held) → AreStepLines level s → IsLevel level → HoldsAll held → IsStepSound (Some held) s → OnePlays level s held
+one_plays level Untold held are is holds sound = absurd (some_none held sound)
+  where
+    some_none : (map : Held) → Some map ≡ None → ⊥
+    some_none map e = cc
+one_plays level (Ends status line) held are is holds sound = record { outcome = ended status line 0; is = refl; only = λ other e. e }
+one_plays level (Gives lines) held are is holds sound =
+    let end = has_end level lines held is are holds in
+    record { outcome = end.0; is = end.1; only = λ other p. one_outcome level lines held is are holds end.0 other end.1 p }
+
+one_played : (level : ℕ) (script input : List ℕ) (held : Held) → IsLevel level → HoldsAll held → HasOneOutcome (Some (Play level script)) input held
+one_played level script input held is holds =
+    let step = scripted (Some level) (Some held) script in
+    let are = step_lines level (fetched longest_script (Some held) script) in
+    let one = one_plays level step held are is holds (sound_script (Some level) (Some held) script) in
+    record { outcome = one.outcome; is = one.is; only = one.only }
+
 pub outcome_holds : OutcomeLaw
-outcome_holds None input held ok = record { outcome = ended 2 bad_words 0; is = refl; only = λ other e. e }
-outcome_holds (Some (Show word)) input held ok = one_shown word input held ok
-outcome_holds (Some (Pack word name)) input held ok = one_packed word name input held
-outcome_holds (Some (Check old new)) input held ok = one_checked old new input held
-outcome_holds (Some (Save level set script)) input held ok = one_saved level set script input held
-outcome_holds (Some (Load level script)) input held ok = one_loaded level script input held ok
-outcome_holds (Some (Drill level seed count)) input held ok =
+outcome_holds None input held ok by = record { outcome = ended 2 bad_words 0; is = refl; only = λ other e. e }
+outcome_holds (Some (Show word)) input held ok by = one_shown word input held ok
+outcome_holds (Some (Pack word name)) input held ok by = one_packed word name input held
+outcome_holds (Some (Check old new)) input held ok by = one_checked old new input held
+outcome_holds (Some (Save level set script)) input held ok by = one_saved level set script input held
+outcome_holds (Some (Load level script)) input held ok by = one_loaded level script input held ok
+outcome_holds (Some (Play level script)) input held ok by = one_played level script input held by.0 by.1
+outcome_holds (Some (Drill level seed count)) input held ok by =
     record { outcome = done (drill_line level seed count) (Some held) 0; is = refl; only = λ other e. e }
 
 -- ---- completeness
@@ -190,6 +236,18 @@ can_be (Some (Load level script)) (Some bytes) (Some map) can =
           (sym (script_gives None map script can.0.text can.0.lines can.0.held can.0.short can.0.reads)) (Traces can.1.0 can.1.1 can.1.2);
       status = refl;
       note = refl;
+    }
+can_be (Some (Play level script)) input None can = absurd can
+can_be (Some (Play level script)) input (Some map) can =
+    let read = can.1 in
+    let are : AreLines (Some level) read.lines = (reads_exactly.only (Some level) read.text read.lines read.reads).0 in
+    let end = has_end level read.lines map can.0.0 are can.0.1 in
+    record {
+      outcome = end.0;
+      is = subst (λ (s : Step (List ScriptLine)). PlaysBy level s (Some map) end.0)
+          (sym (script_gives (Some level) map script read.text read.lines read.held read.short read.reads)) end.1;
+      status = ap (λ (o : Outcome). o.status) end.1.outcome;
+      note = ap (λ (o : Outcome). o.note) end.1.outcome;
     }
 can_be (Some (Drill level seed count)) input held can =
     record { outcome = done (drill_line level seed count) held 0; is = refl; status = refl; note = refl }

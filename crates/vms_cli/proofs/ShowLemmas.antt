@@ -1,5 +1,5 @@
 -- From what a load and a write say to how `show` ends.
-use Rattle.std.proofs.Common.{◌≡◌, ℕ, suc, ◌+◌, ◌<◌, ◌≤◌, true, List, [], ◌∷◌, length, get_or, map, drop, Option, Some, None, Ok, Err, IfSome, IsSomeAnd, refl, sym, ap, ◌∙◌, subst, arith}
+use Rattle.std.proofs.Common.{◌≡◌, ℕ, suc, ◌+◌, ◌<◌, ◌≤◌, Bool, true, List, [], ◌∷◌, length, get_or, map, drop, Option, Some, None, Ok, Err, IfSome, IsSomeAnd, refl, sym, ap, ◌∙◌, subst, arith}
 use Rattle.std.proofs.lemmas.List.{length-map, get_or-map}
 use Rattle.std.specs.Option.{ForSome}
 use Rattle.arrayvec.specs.ArrayVec.{ArrayVec}
@@ -31,13 +31,17 @@ use Rattle.vms_image.specs.Typed.{Typed, state_of}
 use Rattle.vms_values.specs.Printing.{AreOf, IsOf, machine_of}
 use Rattle.vms_outcome.specs.declared.ending.Ending.{Ending}
 use Rattle.vms_outcome.specs.declared.ending.Ending.TheVariants.{Refused}
-use Rattle.vms_outcome.specs.Endings.{EndsAs, WritesAs}
+use Rattle.vms_outcome.specs.Endings.{EndsAs, SetCause, WritesAs}
 use Rattle.vms_outcome.specs.Lines.{refused_line}
 use Rattle.vms_outcome.specs.Outcomes.{Outcome, done, ended, TakesBytes}
 use Rattle.vms_outcome.specs.StepEndings.{StepAs}
 use Rattle.vms_outcome.specs.Steps.{Step, Untold, Gives, Ends}
 use Rattle.vms_outcome.proofs.EndLemmas.{text_written}
-use Rattle.vms_cli.specs.Show.{GivesWithin, Shows, Values, Refuses, most_of_all}
+use Rattle.vms_load.proofs.ExactLoads.{heard_holds}
+use Rattle.vms_load.specs.Hearing.{HearsLoad}
+use Rattle.vms_boards.proofs.HeardLemmas.{IsOther, all_of}
+use Rattle.vms_boards.specs.Heard.{Hears}
+use Rattle.vms_cli.specs.Show.{GivesWithin, Shows, ShowsWell, Values, Refuses, most_of_all}
 
 abbrev no_device : Device
 no_device = record { instance = 0; desc = no_desc; subs = [] }
@@ -155,3 +159,19 @@ pub gives_within : {T : Type 0} (m : T → Set) (step : Step Set) (t : T) (i i' 
 gives_within m Untold t i i' h within most = omega (arith, within, most)
 gives_within m (Gives set) t i i' h within most = subst (λ (y : Set). i'.given ≤ i.given + most_given y) h within
 gives_within m (Ends status line) t i i' h within most = absurd h
+
+-- ---- what is heard of a refusal
+
+pub set_other : (asks : Bool) (s s' : Stock) (e : Ending) → SetCause asks s s' e → IsOther e
+set_other asks s s' (Refused line) c = absurd c
+set_other asks s s' e c = tt
+
+pub heard_refused : (set : Set) → IsFit set → (held : Option Held) (before now : ℕ) (images : List Image) (taken : ℕ) (fault : LoadFault) (r : Refusal) → fault ≡ faults.Refused r
+    → (line : ArrayVec ℕ) → line.items ≡ refused_line set r.at r.section r.reason → HearsLoad set (accepted_of set None) before now images taken (Err fault)
+    → Hears (ShowsWell held set) line.items before now
+heard_refused set fit held before now images taken fault r same line said h =
+    let first : HearsLoad set (accepted_of set None) before now images taken (Err (faults.Refused r)) =
+    subst (λ (f : LoadFault). HearsLoad set (accepted_of set None) before now images taken (Err f)) same h in
+    let e = heard_holds set (accepted_of set None) before now images taken r first in
+    all_of (ShowsWell held set) e.bytes (refused_line set r.at r.section r.reason) line.items (r.at + e.size) before now
+    (fit.well, Refuses r.at r.section r.reason e.size e.fault) said e.ends (e.given ∙ ap (λ (n : ℕ). capped (before + n)) (sym e.ends))

@@ -8,7 +8,9 @@ use Rattle.vms_outcome.specs.Fetching.{is_on_shelf, word_set}
 use Rattle.vms_outcome.specs.SetWords.{SetWord}
 use Rattle.vms_outcome.proofs.EndLemmas.{around}
 use Rattle.vms_cli.specs.Causes.{ShowCause, ShowCauses}
-use Rattle.vms_cli.specs.Show.{ShowStatus, ShowAnswers}
+use Rattle.vms_boards.proofs.HeardLemmas.{refusal_row}
+use Rattle.vms_spec.specs.Sets.{Set}
+use Rattle.vms_cli.specs.Show.{ShowStatus, ShowAnswers, ShowsWell}
 
 pub show_caused : (set : SetWord) (i i' : Intake) (o o' : Outlet) (s s' : Stock) (e : Ending) → ShowCause (is_on_shelf set) i i' o o' s s' e
     → s'.held ≡ s.held → Caused i i' o o' s s' e
@@ -67,4 +69,10 @@ module _ (i i' : Intake) (o o' n n' : Outlet) (s s' : Stock) where
 
   pub show_row : (set : SetWord) (e : Ending) (status : ℕ) → ShowCauses set i i' o o' s s' e → Tells n n' e status
       → ShowAnswers (is_on_shelf set) (word_set s.held set) status (around i o n s) (around i' o' n' s')
-  show_row set e status c t = record { ends = show_ends set e status c.0 t; held = c.1; unasked = c.2; given = c.3 }
+  show_row set e status c t = record {
+    ends = show_ends set e status c.0 t;
+    held = c.1;
+    unasked = c.2;
+    given = c.3;
+    refused = refusal_row Set (word_set s.held set) (ShowsWell s.held) i i' o o' n n' s s' e status c.4 t;
+  }

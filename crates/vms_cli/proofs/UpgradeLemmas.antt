@@ -17,7 +17,7 @@ use Rattle.vms_outcome.proofs.FileSets.{FitStep, fit_word}
 use Rattle.vms_cli.specs.Answers.{HasOutcome}
 use Rattle.vms_cli.specs.Check.{AreCompatible, Verdict}
 use Rattle.vms_cli.specs.Laws.{CheckThenShowLaw}
-use Rattle.vms_cli.specs.Commands.{Asked, Show, Pack, Check, Save, Load, Drill}
+use Rattle.vms_cli.specs.Commands.{Asked, Show, Pack, Check, Save, Load, Drill, Play}
 use Rattle.vms_cli.specs.Show.{Shows, ShowsBy, Values as Printed}
 use Rattle.vms_cli.specs.Upgrade.{IsWritten, Upgrade, UpgradesTo, shown_newer}
 
@@ -49,6 +49,7 @@ upgrade_so (Some (Pack set name)) status old new all = tt
 upgrade_so (Some (Check older newer)) status old new all = tt
 upgrade_so (Some (Save level set script)) status old new all = tt
 upgrade_so (Some (Load level script)) status old new all = tt
+upgrade_so (Some (Play level script)) status old new all = tt
 upgrade_so (Some (Drill level seed count)) status old new all = tt
 
 -- ---- check, and then show

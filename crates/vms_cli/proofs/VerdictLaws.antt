@@ -6,7 +6,7 @@ use Rattle.vms_check.specs.Comparing.{first_mismatch}
 use Rattle.vms_check.specs.declared.mismatch.Mismatch.{Mismatch}
 use Rattle.vms_cli.specs.Answers.{HasOutcome}
 use Rattle.vms_cli.specs.Check.{AreCompatible, Verdict, compared, verdict}
-use Rattle.vms_cli.specs.Commands.{Asked, Show, Pack, Check, Save, Load, Drill}
+use Rattle.vms_cli.specs.Commands.{Asked, Show, Pack, Check, Save, Load, Drill, Play}
 use Rattle.vms_outcome.specs.Fetching.{named_sets}
 use Rattle.vms_outcome.specs.Outcomes.{Outcome, Outside, DoesOrStops, ended, HasPart, ReadFault, OutFault, NotesFault, ShelfFault, WantsMemory}
 use Rattle.vms_outcome.specs.SetLines.{mismatch_line}
@@ -51,4 +51,5 @@ verdict_so (Some (Check a b)) left held status old new all =
     λ zero. are_compatible status old new zero held (named_sets held a b) (sound_sets held a b) all
 verdict_so (Some (Save level set script)) left held status old new all = tt
 verdict_so (Some (Load level script)) left held status old new all = tt
+verdict_so (Some (Play level script)) left held status old new all = tt
 verdict_so (Some (Drill level seed count)) left held status old new all = tt

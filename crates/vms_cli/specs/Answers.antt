@@ -8,10 +8,11 @@ use Rattle.vms_outcome.specs.Outcomes.{Outcome, done, ended, Outside, DoesOrStop
 use Rattle.vms_outcome.specs.Steps.{HasText}
 use Rattle.vms_boards.specs.Drill.{DrillAnswers, drill_line}
 use Rattle.vms_boards.specs.Load.{LoadAnswers, LoadsBy}
+use Rattle.vms_boards.specs.Play.{PlayAnswers, PlaysBy}
 use Rattle.vms_boards.specs.Save.{SaveAnswers, saved_after}
 use Rattle.vms_boards.specs.Scripts.{scripted}
 use Rattle.vms_cli.specs.Check.{checked, asks_shelf, CheckAnswers, Verdict}
-use Rattle.vms_cli.specs.Commands.{Asked, Show, Pack, Check, Save, Load, Drill, asked_of}
+use Rattle.vms_cli.specs.Commands.{Asked, Show, Pack, Check, Save, Load, Drill, Play, asked_of}
 use Rattle.vms_cli.specs.Continuation.{Continuation}
 use Rattle.vms_cli.specs.Pack.{packs, PackAnswers}
 use Rattle.vms_cli.specs.Show.{ShowsBy, ShowAnswers}
@@ -26,6 +27,7 @@ HasOutcome (Some (Pack set name)) input held o = HasText held (packs held set na
 HasOutcome (Some (Check old new)) input held o = HasText held (checked held old new) o
 HasOutcome (Some (Save level set script)) input held o = HasText held (saved_after level set held script) o
 HasOutcome (Some (Load level script)) input held o = LoadsBy level (scripted None held script) input held o
+HasOutcome (Some (Play level script)) input held o = PlaysBy level (scripted (Some level) held script) held o
 HasOutcome (Some (Drill level seed count)) input held o = o ≡ done (drill_line level seed count) held 0
 
 -- what words of no listed form can answer: only the notes are touched
@@ -44,7 +46,8 @@ CanAnswer (Some (Pack set name)) status old new = PackAnswers status old new
 CanAnswer (Some (Check one other)) status old new = CheckAnswers (asks_shelf one other) status old new
 CanAnswer (Some (Save level set script)) status old new = SaveAnswers status old new
 CanAnswer (Some (Load level script)) status old new =
-    LoadAnswers (scripted None old.shelf.held script) status old new
+    LoadAnswers level (scripted None old.shelf.held script) status old new
+CanAnswer (Some (Play level script)) status old new = PlayAnswers status old new
 CanAnswer (Some (Drill level seed count)) status old new = DrillAnswers status old new
 
 pub record Answers (words : List (List ℕ)) (status : ℕ) (old new : Outside) : Type 0 where

@@ -8,11 +8,11 @@ use Rattle.vms_outcome.specs.declared.ending.Ending.TheVariants.{Done, Refused, 
 use Rattle.vms_outcome.specs.Endings.{SetCause}
 use Rattle.vms_outcome.specs.Fetching.{is_on_shelf, word_set}
 use Rattle.vms_outcome.specs.SetWords.{SetWord}
-use Rattle.vms_boards.specs.Causes.{DrillCauses, LoadCauses, SaveCauses}
+use Rattle.vms_boards.specs.Causes.{DrillCauses, LoadCauses, PlayCauses, SaveCauses}
 use Rattle.vms_boards.specs.Scripts.{scripted}
 use Rattle.vms_cli.specs.Check.{asks_shelf}
-use Rattle.vms_cli.specs.Commands.{Asked, Show, Pack, Check, Save, Load, Drill}
-use Rattle.vms_cli.specs.Show.{GivesWithin}
+use Rattle.vms_cli.specs.Commands.{Asked, Show, Pack, Check, Save, Load, Drill, Play}
+use Rattle.vms_cli.specs.Show.{GivesWithin, ShowHears}
 
 -- once the set of `show` is there
 abbrev pub StreamCause : (input input' : Intake) (out out' : Outlet) → Ending → Type 0
@@ -83,6 +83,7 @@ abbrev pub ShowCauses : SetWord → (input input' : Intake) (out out' : Outlet) 
 ShowCauses set input input' out out' shelf shelf' ending =
     ShowCause (is_on_shelf set) input input' out out' shelf shelf' ending × (shelf'.held ≡ shelf.held)
     × (is_on_shelf set ≡ false → shelf' ≡ shelf) × GivesWithin (word_set shelf.held set) input input'
+    × ShowHears (word_set shelf.held set) shelf.held input.given input'.given ending
 
 abbrev pub PackCauses : (input input' : Intake) (out out' : Outlet) (shelf shelf' : Stock) → Ending → Type 0
 PackCauses input input' out out' shelf shelf' ending =
@@ -102,6 +103,8 @@ EndsCause (Some (Check old new)) input input' out out' shelf shelf' ending =
 EndsCause (Some (Save level set script)) input input' out out' shelf shelf' ending =
     SaveCauses input input' out out' shelf shelf' ending
 EndsCause (Some (Load level script)) input input' out out' shelf shelf' ending =
-    LoadCauses (scripted None shelf.held script) input input' out out' shelf shelf' ending
+    LoadCauses level (scripted None shelf.held script) input input' out out' shelf shelf' ending
 EndsCause (Some (Drill level seed count)) input input' out out' shelf shelf' ending =
     DrillCauses input input' out out' shelf shelf' ending
+EndsCause (Some (Play level script)) input input' out out' shelf shelf' ending =
+    PlayCauses input input' out out' shelf shelf' ending

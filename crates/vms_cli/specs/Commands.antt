@@ -9,7 +9,8 @@ use Rattle.vms_script.specs.declared.line.ScriptReason.{ScriptReason}
 use Rattle.vms_outcome.specs.SetWords.{SetWord, set_word, shipped_number}
 
 -- prints the values text of a stream, writes the stream of a values text on the shelf, compares two sets, writes the stream of
--- a board under a set after a script, lets a script go on from the board that a stream restores, or drills a board
+-- a board under a set after a script, lets a script go on from the board that a stream restores, drills a
+-- board, or plays a session
 pub data Asked : Type 0 where
   Show : SetWord → Asked
   Pack : SetWord → List ℕ → Asked
@@ -17,6 +18,7 @@ pub data Asked : Type 0 where
   Save : (level set : ℕ) → List ℕ → Asked
   Load : ℕ → List ℕ → Asked
   Drill : (level seed count : ℕ) → Asked
+  Play : ℕ → List ℕ → Asked
 
 abbrev pub show_of : Option SetWord → Option Asked
 show_of None = None
@@ -43,12 +45,17 @@ abbrev pub load_of : Option ℕ → List ℕ → Option Asked
 load_of None script = None
 load_of (Some level) script = if is_shelf_name script then Some (Load level script) else None
 
+abbrev pub play_of : Option ℕ → List ℕ → Option Asked
+play_of None script = None
+play_of (Some level) script = if is_shelf_name script then Some (Play level script) else None
+
 -- a command with two words behind its name
 unfoldable pub pair_of : List ℕ → List ℕ → List ℕ → Option Asked
 pair_of name one other =
     if bytes_eq name (codes "check") then check_of (set_word one) (set_word other)
     else if bytes_eq name (codes "pack") then pack_of (set_word one) other
-    else if bytes_eq name (codes "load") then load_of (board_level one) other else None
+    else if bytes_eq name (codes "load") then load_of (board_level one) other
+    else if bytes_eq name (codes "play") then play_of (board_level one) other else None
 
 abbrev pub told : Result ℕ ScriptReason → Option ℕ
 told (Ok n) = Some n

@@ -3,26 +3,28 @@ use Rattle.std.specs.Prelude.{◌≡◌, ℕ, List, length, Option, None, Some}
 use Rattle.dev_board.specs.Saved.{MaySaveUnder}
 use Rattle.dev_board.specs.Sound.{IsSound}
 use Rattle.dev_board.specs.State.{State}
-use Rattle.vms_board.specs.Saving.{saved_stream}
 use Rattle.vms_boards.specs.Scripts.{scripted}
 use Rattle.vms_outcome.specs.Outcomes.{Outcome, Outside, DoesOrStops, done}
 use Rattle.vms_outcome.specs.Steps.{Step, Untold, Gives, Ends}
 use Rattle.vms_play.specs.Events.{events_of, trace_from}
 use Rattle.vms_script.specs.Lines.{ScriptLine}
+use Rattle.vms_session.specs.Laws.{HasRoomFor, stream_with}
 use Rattle.vms_cli.specs.Commands.{Asked, Load}
 
--- the outcome of `load` on what a board saved under a set: the trace of that board itself going on, and all of the stream taken
-abbrev pub goes_on : ℕ → State → List ScriptLine → Outside → Outcome
-goes_on set m lines old = done (trace_from (events_of lines) m) old.shelf.held (length (saved_stream set m))
+-- the outcome of `load` on what a board saved under a set, with a description text or without one: the trace of that board
+-- itself going on, and all of the stream taken
+abbrev pub goes_on : ℕ → State → Option (List ℕ) → List ScriptLine → Outside → Outcome
+goes_on set m text lines old = done (trace_from (events_of lines) m) old.shelf.held (length (stream_with set m text))
 
 -- The continuation clause, where the script is told: whichever set from the level on a sound board of the level was saved
--- under, an input that is the stream of what it saved leaves the trace of that board going on.
+-- under, an input that is the stream of what it saved, with any description text that a stream may have or none, leaves the
+-- trace of that board going on.
 abbrev pub ContinuesBy : ℕ → Step (List ScriptLine) → ℕ → Outside → Outside → Type 0
 ContinuesBy level Untold status old new = Unit {0}
 ContinuesBy level (Ends own line) status old new = Unit {0}
 ContinuesBy level (Gives lines) status old new =
-    (set : ℕ) (m : State) → IsSound m → m.level ≡ level → MaySaveUnder level set
-    → old.input.left ≡ Some (saved_stream set m) → DoesOrStops status old new (goes_on set m lines old)
+    (set : ℕ) (m : State) (text : Option (List ℕ)) → IsSound m → m.level ≡ level → MaySaveUnder level set → HasRoomFor text
+    → old.input.left ≡ Some (stream_with set m text) → DoesOrStops status old new (goes_on set m text lines old)
 
 abbrev pub Continuation : Option Asked → ℕ → Outside → Outside → Type 0
 Continuation (Some (Load level script)) status old new =

@@ -9,7 +9,7 @@ use Rattle.vms_spec.specs.Streams.{AreReady, is_one_of, written}
 use Rattle.vms_spec.specs.ValuesReading.{Values, values_read}
 use Rattle.vms_units.specs.Streams.{Takes}
 use Rattle.vms_cli.specs.Answers.{HasOutcome, Answers}
-use Rattle.vms_cli.specs.Commands.{Asked, Show, Pack, Check, Save, Load, Drill, asked_of}
+use Rattle.vms_cli.specs.Commands.{Asked, Show, Pack, Check, Save, Load, Drill, Play, asked_of}
 use Rattle.vms_outcome.specs.Outcomes.{Outcome, DoesOrStops, done, text_of, Outside}
 use Rattle.vms_outcome.specs.Fetching.{longest_file, named_sets, word_set}
 use Rattle.vms_outcome.specs.SetWords.{SetWord}
@@ -19,6 +19,8 @@ use Rattle.dev_board.specs.State.{State}
 use Rattle.vms_board.specs.Restoring.{Back, Restores}
 use Rattle.vms_script.specs.Lines.{ScriptLine}
 use Rattle.vms_script.specs.Script.{script_read}
+use Rattle.dev_base.specs.Levels.{IsLevel}
+use Rattle.vms_session.specs.Laws.{HoldsAll}
 use Rattle.vms_boards.specs.Scripts.{longest_script}
 use Rattle.vms_cli.specs.Pack.{described_stream}
 use Rattle.vms_cli.specs.Upgrade.{IsWritten, shown_newer}
@@ -32,9 +34,19 @@ pub record HasOneOutcome (asked : Option Asked) (input : List ℕ) (held : Held)
   pub is : HasOutcome asked (Some input) (Some held) outcome
   pub only : (other : Outcome) → HasOutcome asked (Some input) (Some held) other → other ≡ outcome
 
+-- what the outcome of `play` goes by: a level that there is, as any board that words name has, and a shelf of bytes
+abbrev pub GoesBy : Option Asked → Held → Type 0
+GoesBy (Some (Play level script)) held = IsLevel level × HoldsAll held
+GoesBy asked held = Unit {0}
+
 -- whatever words, bytes and shelf there are
 abbrev pub OutcomeLaw : Type 0
-OutcomeLaw = (asked : Option Asked) (input : List ℕ) (held : Held) → IsBytes input → HasOneOutcome asked input held
+OutcomeLaw = (asked : Option Asked) (input : List ℕ) (held : Held) → IsBytes input → GoesBy asked held
+    → HasOneOutcome asked input held
+
+-- whatever the words are, of a shelf of bytes
+abbrev pub WordsLaw : Type 0
+WordsLaw = (words : List (List ℕ)) (held : Held) → HoldsAll held → GoesBy (asked_of words) held
 
 -- ---- completeness
 
@@ -59,7 +71,8 @@ pub record CanBeRead (play : Option ℕ) (name : List ℕ) (map : Held) : Type 0
 
 -- what a command asks for so that it can be done: of `show` a word that names a set, and a stream of it at the front of the
 -- input, of `pack` a set and a values text of it, of `check` words that name two compatible sets, of `save`
--- a script, of `load` a script and a stream of a board at the front of the input, of `drill` nothing
+-- a script, of `load` a script and a stream of a board at the front of the input, of `play` a script on a shelf of bytes, of
+-- `drill` nothing
 abbrev pub CanBeDone : Option Asked → Option (List ℕ) → Option Held → Type 0
 CanBeDone None input held = ⊥
 CanBeDone (Some (Show word)) input held =
@@ -72,6 +85,8 @@ CanBeDone (Some (Save level set script)) input held = IsSomeAnd held (λ map. Ca
 CanBeDone (Some (Load level script)) input held =
     IsSomeAnd held (λ map. CanBeRead None script map) × IsSomeAnd input (λ bytes. (board : State) × (taken : ℕ)
     × Restores level bytes (Back board taken))
+CanBeDone (Some (Play level script)) input held =
+    IsSomeAnd held (λ map. GoesBy (Some (Play level script)) map × CanBeRead (Some level) script map)
 CanBeDone (Some (Drill level seed count)) input held = Unit {0}
 
 -- a sink that promises no fault while it has room for so many bytes more

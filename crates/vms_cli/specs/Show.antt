@@ -7,12 +7,15 @@ use Rattle.vms_spec.specs.declared.Reason.{Reason}
 use Rattle.vms_spec.specs.Images.{Image}
 use Rattle.vms_spec.specs.Sets.{Set}
 use Rattle.vms_spec.specs.Values.{values_text}
+use Rattle.vms_spec.specs.WellFormed.{WellFormed}
 use Rattle.vms_units.specs.Faults.{Fault}
 use Rattle.vms_units.specs.Streams.{Takes}
 use Rattle.vms_load.specs.Staging.{most_given}
 use Rattle.vms_outcome.specs.Lines.{refused_line}
 use Rattle.vms_outcome.specs.Outcomes.{Outcome, done, ended, Outside, ReadFault, OutFault, NotesFault, ShelfFault, WantsMemory, EndsBefore, EndsBy}
 use Rattle.vms_outcome.specs.Steps.{Step, Untold, Gives, Ends, HasBy}
+use Rattle.vms_outcome.specs.declared.ending.Ending.{Ending}
+use Rattle.vms_boards.specs.Heard.{HearsBy, Refuses as RefusesBy}
 
 -- the values text of the stream that the input takes, or where and why the input is refused, up to the end of the unit at
 -- fault; the shelf tells the same as before
@@ -37,6 +40,14 @@ GivesWithin Untold input input' = input'.given ≤ input.given + most_of_all
 GivesWithin (Gives set) input input' = input'.given ≤ input.given + most_given set
 GivesWithin (Ends status line) input input' = input' ≡ input
 
+-- the outcome under a set, which is well formed
+abbrev pub ShowsWell : Option Held → Set → List ℕ → Outcome → Type 0
+ShowsWell held set bytes o = WellFormed set × Shows set bytes held o
+
+-- what is heard of a refusal: the set that the step gave, and bytes that this refusal takes to the last
+abbrev pub ShowHears : Step Set → Option Held → ℕ → ℕ → Ending → Type 0
+ShowHears step held before now ending = HearsBy Set step (ShowsWell held) before now ending
+
 -- what it can answer, told or not
 abbrev pub ShowStatus : Bool → ℕ → Outside → Outside → Type 0
 ShowStatus asks status old new =
@@ -55,5 +66,7 @@ ShowStatus asks status old new =
 pub record ShowAnswers (asks : Bool) (step : Step Set) (status : ℕ) (old new : Outside) : Type 0 where
   pub ends : ShowStatus asks status old new
   pub given : GivesWithin step old.input new.input
+  -- exactly the bytes of the refusal are taken
+  pub refused : status ≡ 1 → RefusesBy Set step (ShowsWell old.shelf.held) old new
   pub held : new.shelf.held ≡ old.shelf.held
   pub unasked : asks ≡ false → new.shelf ≡ old.shelf

@@ -1,10 +1,12 @@
 //! Each law is the contract of a function without a body. The statements stand in `specs/Laws.antt`.
-ghost use Rattle.vms_cli.specs.Laws.{CheckThenShowLaw, OutcomeLaw, CompleteLaw, PackThenShowLaw, ShowThenPackLaw};
+ghost use Rattle.vms_cli.specs.Laws.{CheckThenShowLaw, OutcomeLaw, CompleteLaw, PackThenShowLaw, ShowThenPackLaw, WordsLaw};
 
-/// Whatever words, input of bytes and shelf there are, a call has an outcome, and no other.
-#[tactic(auto, using(crate::proofs::OutcomeLaws::outcome_holds))]
+/// Whatever words, input of bytes and shelf there are, a call has an outcome, and no other; of `play` the shelf is one of
+/// bytes.
+#[tactic(auto, using(crate::proofs::OutcomeLaws::outcome_holds, crate::proofs::WordLaws::words_hold))]
 pub fn outcome_law()
-    ensures { OutcomeLaw }
+    ensures one { OutcomeLaw }
+    ensures words { WordsLaw }
 {}
 
 /// Where the words name a command, what it goes by is there and in its grammar, no object lists failing calls, and out and

@@ -1,5 +1,6 @@
 // The command `show`: the values text of a stream.
-ghost use Rattle.std.specs.Prelude.{◌≡◌, ◌+◌, ◌≤◌, ◌<◌, false, length, IfSome, IsSomeAnd};
+ghost use Rattle.std.specs.Prelude.{◌≡◌, ◌+◌, ◌≤◌, ◌<◌, false, length, IfSome, IsSomeAnd, Option};
+ghost use Rattle.vms_io.specs.Shelves.{Held};
 ghost use Rattle.vms_io.specs.Told.{Stock, intake, outlet, stock};
 ghost use Rattle.vms_spec.specs.Values.{values_text};
 ghost use Rattle.vms_load.specs.Kept.{loads, kept};
@@ -10,7 +11,8 @@ ghost use Rattle.vms_outcome.specs.Endings.{EndsAs, WritesAs};
 ghost use Rattle.vms_cli.specs.Causes.{ShowCause, StreamCause};
 ghost use Rattle.vms_outcome.specs.Fetching.{is_on_shelf, word_set};
 ghost use Rattle.vms_outcome.specs.Outcomes.{Outcome};
-ghost use Rattle.vms_cli.specs.Show.{GivesWithin, Shows, ShowsBy};
+ghost use Rattle.vms_boards.specs.Heard.{HearsEnd};
+ghost use Rattle.vms_cli.specs.Show.{GivesWithin, ShowHears, Shows, ShowsBy, ShowsWell};
 
 use std::alloc::Global;
 use vms_io::{Shelf, Sink, Source};
@@ -36,6 +38,9 @@ pub(crate) fn show<I: Source, O: Sink, H: Shelf>(
         (stock H.Shelf shelf.old) (stock H.Shelf shelf.new) result }
     ensures given { GivesWithin (word_set (H.held shelf.old) (set_asked set.entry))
         (intake I.Source input.old) (intake I.Source input.new) }
+    ensures heard { let held = H.held shelf.old in
+        ShowHears (word_set held (set_asked set.entry)) held
+        (I.given input.old) (I.given input.new) result }
     ensures unasked { is_on_shelf (set_asked set.entry) ≡ false
         → stock H.Shelf shelf.new ≡ stock H.Shelf shelf.old }
     ensures held { H.held shelf.new ≡ H.held shelf.old }
@@ -61,6 +66,8 @@ fn show_stream<I: Source, O: Sink>(mut loader: Loader, input: &mut I, out: &mut 
     ensures cause { StreamCause (intake I.Source input.old) (intake I.Source input.new)
         (outlet O.Sink out.old) (outlet O.Sink out.new) result }
     ensures given { I.given input.new ≤ I.given input.old + most_given (loads loader) }
+    ensures heard { (held : Option Held) → HearsEnd (ShowsWell held (loads loader))
+        (I.given input.old) (I.given input.new) result }
     ensures input_count { I.faults input.old ≤ I.faults input.new }
     ensures out_count { O.faults out.old ≤ O.faults out.new }
     ensures input_promise { I.promise input.new ≡ I.promise input.old }

@@ -12,7 +12,7 @@ use crate::pack::pack;
 use crate::show::show;
 use crate::{Command, Words};
 use std::alloc::Global;
-use vms_boards::{drill_board, load_board, save_board};
+use vms_boards::{drill_board, load_board, play_board, save_board};
 use vms_io::{Shelf, Sink, Source, write_all_of};
 use vms_outcome::Ending;
 
@@ -106,6 +106,7 @@ fn run<I: Source, O: Sink, H: Shelf>(
         Some(Command::Check { old, new }) => check(alloc, old, new, out, shelf),
         Some(Command::Save(saving)) => save_board(alloc, saving, out, shelf),
         Some(Command::Load(loading)) => load_board(alloc, loading, input, out, shelf),
+        Some(Command::Play(playing)) => play_board(alloc, playing, out, shelf),
         Some(Command::Drill { board, seed, count }) => drill_board(
             alloc,
             board.level,

@@ -4,7 +4,7 @@ ghost use Rattle.std.specs.Str.{bytes_eq};
 ghost use Rattle.std.specs.Option.{option_map};
 ghost use Rattle.vms_outcome.specs.SetWords.{set_word, shipped_number};
 ghost use Rattle.vms_cli.specs.Asks.{asked};
-ghost use Rattle.vms_cli.specs.Commands.{asked_of, board_level, check_of, drill_of, few_events, load_of, number_word, pack_of, pair_of, save_of, show_of, triple_of};
+ghost use Rattle.vms_cli.specs.Commands.{asked_of, board_level, check_of, drill_of, few_events, load_of, number_word, pack_of, pair_of, play_of, save_of, show_of, triple_of};
 
 use crate::board_words::{board_word, events_word, number_word};
 use crate::boards::BoardWord;
@@ -36,6 +36,8 @@ pub(crate) enum Command<'a> {
     Save(Saving<'a>),
     /// `load BOARD SCRIPT`
     Load(OnBoard<'a>),
+    /// `play BOARD SCRIPT`
+    Play(OnBoard<'a>),
     /// `drill BOARD SEED COUNT`
     Drill {
         board: BoardWord,
@@ -126,6 +128,8 @@ fn pair_of<'a>(name: &str, one: &'a str, other: &'a str) -> Option<Command<'a>>
         pack_of(one, other)
     } else if name == "load" {
         load_of(one, other)
+    } else if name == "play" {
+        play_of(one, other)
     } else {
         None
     }
@@ -155,6 +159,20 @@ fn load_of<'a>(board: &str, script: &'a str) -> Option<Command<'a>>
     match board_word(board) {
         Some(board) if is_shelf_name(script.as_bytes()) => {
             Some(Command::Load(OnBoard {
+                level: board.level,
+                script,
+            }))
+        }
+        _ => None,
+    }
+}
+
+fn play_of<'a>(board: &str, script: &'a str) -> Option<Command<'a>>
+    ensures { option_map asked result ≡ play_of (board_level board.now) script.now }
+{
+    match board_word(board) {
+        Some(board) if is_shelf_name(script.as_bytes()) => {
+            Some(Command::Play(OnBoard {
                 level: board.level,
                 script,
             }))

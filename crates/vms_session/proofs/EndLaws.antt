@@ -1,5 +1,5 @@
 -- Each session has a trace and an end.
-use Rattle.std.proofs.Common.{◌≡◌, ◌≢◌, ◌⊎◌, inl, inr, ℕ, ◌<◌, ◌≤◌, ◌++◌, Bool, true, false, if◌then◌else◌, List, [], ◌∷◌, length, Option, Some, None, Result, Ok, Err, nat_lt, arith, refl, sym, ap, subst, ◌∙◌}
+use Rattle.std.proofs.Common.{◌≡◌, inl, inr, ℕ, ◌<◌, ◌≤◌, ◌++◌, Bool, true, false, if◌then◌else◌, List, [], ◌∷◌, length, Option, Some, None, Result, Ok, Err, nat_lt, arith, refl, sym, subst, ◌∙◌}
 use Rattle.std.specs.Str.{bytes_eq}
 use Rattle.std.proofs.lemmas.Slice.Eq.{bytes_eq-Decides}
 use Rattle.std.proofs.lemmas.Bool.Decides.{nat_tests}
@@ -27,7 +27,7 @@ use Rattle.vms_board.specs.Restoring.{TakesBoard, misfit_section, misfit_reason,
 use Rattle.vms_board.specs.Saving.{machine_of, saved_stream}
 use Rattle.vms_session.specs.Laws.{HoldsBytes, HasAnEnd, SessionsEnd}
 use Rattle.vms_session.specs.Lines.{saved_line, restored_line, missing_line, too_large_line, refused_line}
-use Rattle.vms_session.specs.Session.{Session, Leaves, Stores, ComesTo, IsTooLarge, IsLoaded, LoadsBytes, LoadsHeld, Does, Plays, longest_stream}
+use Rattle.vms_session.specs.Session.{Session, IsTooLarge, IsLoaded, LoadsHeld, Does, longest_stream}
 
 -- ---- what bytes come to
 
@@ -137,8 +137,8 @@ held-end name old None there comes held = record {
 held-end name old (Some bytes) there comes held =
     bytes-end name bytes old (nat_lt longest_stream (length bytes)) refl there comes held
 
-may-save : (level set : ℕ) → is_set_of level set ≡ true → MaySaveUnder level set
-may-save level set e = record { level_le_set = grind (arith, nat_tests, e); set_le_newest = grind (arith, nat_tests, e) }
+pub may_save : (level set : ℕ) → is_set_of level set ≡ true → MaySaveUnder level set
+may_save level set e = record { level_le_set = grind (arith, nat_tests, e); set_le_newest = grind (arith, nat_tests, e) }
 
 saved-ends : (set : ℕ) (name : List ℕ) (old : Session) → MaySaveUnder old.board.level set → IsSound old.board → still old.board.level old.held → LineEnds (Saves set name) old
 saved-ends set name old may s held =
@@ -158,7 +158,7 @@ line-ends (Happens event) old good s held = record {
   does = record { text_is = refl; new_is = refl };
   held = held;
 }
-line-ends (Saves set name) old good s held = saved-ends set name old (may-save old.board.level set good.0) s held
+line-ends (Saves set name) old good s held = saved-ends set name old (may_save old.board.level set good.0) s held
 line-ends (Loads name) old good s held = held-end name old (old.held name) refl (held name) held
 
 -- ---- scripts

@@ -2,6 +2,9 @@ pub mod EndLaws
 pub mod LengthLaws
 pub mod OneLaws
 pub mod RoomLemmas
+pub mod ScriptLaws
 pub mod SessionLaws
 pub mod SoundLaws
+pub mod StreamBytes
 pub mod StreamLaws
+pub mod TextBytes

@@ -1,5 +1,5 @@
 -- What bytes are to a restore is one thing, and what a line does is one thing.
-use Rattle.std.proofs.Common.{◌≡◌, ◌≢◌, ◌⊎◌, inl, inr, ℕ, ◌<◌, ◌≤◌, Bool, true, false, List, [], ◌∷◌, length, Option, Some, None, Result, Ok, Err, arith, refl, sym, ap, subst, ◌∙◌}
+use Rattle.std.proofs.Common.{◌≡◌, ◌≢◌, ◌⊎◌, inl, inr, ℕ, Bool, true, false, List, [], ◌∷◌, Option, Some, None, Result, Ok, Err, arith, refl, sym, ap, subst, ◌∙◌}
 use Rattle.std.specs.Str.{bytes_eq}
 use Rattle.std.proofs.lemmas.Slice.Eq.{bytes_eq-Decides}
 use Rattle.dev_base.specs.declared.limits.TheConstants.{NEWEST}
@@ -17,14 +17,13 @@ use Rattle.vms_spec.specs.Images.{Image}
 use Rattle.vms_spec.specs.Numbers.{IsBytes}
 use Rattle.vms_spec.specs.declared.Reason.{Reason}
 use Rattle.vms_units.proofs.Stated.{one_stream_holds, one_fault_holds, never_both_holds}
-use Rattle.vms_units.specs.StreamLaws.{AreOneFault}
 use Rattle.vms_session.proofs.EndLaws.{bytes_come}
 use Rattle.vms_session.proofs.StreamLaws.{well}
 use Rattle.vms_board.specs.Restoring.{TakesBoard, IsFaultAt, IsMisfitAt, misfit_section, misfit_reason, Restore, Back, Refused, Restores}
 use Rattle.vms_board.specs.Saving.{machine_of, saved_stream}
 use Rattle.vms_session.specs.Laws.{HoldsBytes, ReadsBytes, BytesAreOne, LinesAreOne, IsOneEnd}
-use Rattle.vms_session.specs.Lines.{saved_line, restored_line, missing_line, too_large_line, refused_line}
-use Rattle.vms_session.specs.Session.{Session, Leaves, Stores, ComesTo, IsTooLarge, IsLoaded, LoadsBytes, LoadsHeld, Does, longest_stream}
+use Rattle.vms_session.specs.Lines.{restored_line, missing_line, too_large_line, refused_line}
+use Rattle.vms_session.specs.Session.{Session, Leaves, ComesTo, IsTooLarge, IsLoaded, LoadsBytes, LoadsHeld, Does}
 
 -- ---- what bytes come to
 

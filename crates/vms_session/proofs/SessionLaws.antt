@@ -4,7 +4,7 @@ use Rattle.dev_board.proofs.ClockLaws.{clock_goes_on}
 use Rattle.dev_board.proofs.RestoredLaws.{restored_is_sound}
 use Rattle.dev_images.specs.Images.{cells_in}
 use Rattle.vms_script.specs.Lines.{ScriptLine, Happens, Saves, Restores as Loads}
-use Rattle.vms_board.specs.Restoring.{Restore, Back, Refused}
+use Rattle.vms_board.specs.Restoring.{Back, Refused}
 use Rattle.vms_session.specs.Laws.{IsTaken, RefusalsLeave, LevelStays}
 use Rattle.vms_session.specs.Session.{Session, IsTooLarge, IsLoaded, LoadsBytes, LoadsHeld, Does, Plays}
 

@@ -1,12 +1,12 @@
 -- The stream that is written of a board restores one that is like it.
-use Rattle.std.proofs.Common.{◌≡◌, inl, inr, ℕ, zero, suc, ◌+◌, ◌<◌, ◌≤◌, ◌++◌, ◌||◌, Bool, true, false, is_none, List, [], ◌∷◌, length, Option, Some, None, Result, Ok, Err, arith, refl, sym, ap, subst, ◌∙◌, append-nil}
+use Rattle.std.proofs.Common.{◌≡◌, inl, inr, ℕ, zero, suc, ◌≤◌, ◌||◌, Bool, true, false, List, [], ◌∷◌, length, Option, Some, Result, Ok, Err, arith, refl, sym, ap, subst, ◌∙◌, append-nil}
 use Rattle.std.specs.Str.{bytes_eq}
 use Rattle.std.proofs.lemmas.Slice.Eq.{bytes_eq-Decides}
 use Rattle.dev_base.specs.declared.limits.TheConstants.{NEWEST}
 use Rattle.dev_board.proofs.AlikeLaws.{alike_stays}
 use Rattle.dev_board.proofs.SavedLaws.{saved_comes_back}
 use Rattle.dev_board.specs.Saved.{MaySaveUnder, saved, carried as board_carried, restored}
-use Rattle.dev_board.specs.Sound.{IsSound, Alike}
+use Rattle.dev_board.specs.Sound.{IsSound}
 use Rattle.dev_board.specs.State.{State}
 use Rattle.dev_board.specs.Step.{observe}
 use Rattle.dev_board.specs.declared.event.Event.{Event}
@@ -27,17 +27,16 @@ use Rattle.vms_spec.specs.Images.{Image}
 use Rattle.vms_spec.specs.Layout.{first}
 use Rattle.vms_spec.specs.Numbers.{IsBytes}
 use Rattle.vms_spec.specs.Sets.{Set}
-use Rattle.vms_spec.specs.Shipped.{set_4}
-use Rattle.vms_spec.specs.Streams.{is_one_of, longest_text}
+use Rattle.vms_spec.specs.Streams.{is_one_of}
 use Rattle.vms_spec.specs.declared.Reason.{Reason}
 use Rattle.vms_spec.specs.WellFormed.{WellFormed, first_fault}
 use Rattle.vms_units.proofs.Stated.{one_stream_holds, never_both_holds}
 use Rattle.vms_units.specs.StreamLaws.{IsWholeStream}
-use Rattle.vms_units.specs.Streams.{IsStream, Takes}
+use Rattle.vms_units.specs.Streams.{Takes}
 use Rattle.vms_upgrade.proofs.Upgraded.{upgrade_stands}
-use Rattle.vms_board.specs.Restoring.{TakesBoard, IsMisfitAt, Restore, Back, Refused, Restores}
+use Rattle.vms_board.specs.Restoring.{TakesBoard, Back, Refused, Restores}
 use Rattle.vms_board.specs.Saving.{machine_of, saved_text, saved_stream}
-use Rattle.vms_session.specs.Laws.{StreamComesBack, StreamsComeBack, trace_of, IsContinued, BoardsGoOn}
+use Rattle.vms_session.specs.Laws.{StreamComesBack, StreamsComeBack, trace_of, HasRoomFor, IsContinued, BoardsGoOn, stream_with}
 
 -- ---- answers
 
@@ -119,7 +118,10 @@ named (suc level) (suc (suc (suc (suc (suc set))))) l m h = absurd (omega (arith
 
 -- ---- what is written of a board
 
-module _ (set : ℕ) (m : State) (s : IsSound m) (may : MaySaveUnder m.level set) where
+module _ (set : ℕ) (m : State) (text : Option (List ℕ)) (short : HasRoomFor text) (s : IsSound m) (may : MaySaveUnder m.level set) where
+  abbrev stream : List ℕ
+  stream = stream_with set m text
+
   abbrev images-back : List Image
   images-back = carried (shipped_set set) (shipped_set 4) (saved_images set m)
 
@@ -129,77 +131,89 @@ module _ (set : ℕ) (m : State) (s : IsSound m) (may : MaySaveUnder m.level set
   set-least : 1 ≤ set
   set-least = let a = least in let b = may.level_le_set in omega (arith, a, b)
 
-  short : length (saved_text set m) ≤ longest_text
-  short = let l = shipped_holds.shipped set may.set_le_newest (saved_images set m) in omega (arith, l)
-
-  whole : IsWholeStream (shipped_set 4) (shipped_set 4).machines (saved_stream set m) (Some (machine_of m.level)) images-back (Some (saved_text set m))
-  unfolding saved_stream
+  whole : IsWholeStream (shipped_set 4) (shipped_set 4).machines stream (Some (machine_of m.level)) images-back text
+  unfolding stream_with
   whole =
       upgrade_stands (shipped_set set) (shipped_set 4) (well set) (well 4) (compatible set set-least may.set_le_newest)
-      (Some (machine_of m.level)) (Some (saved_text set m)) (saved_images set m)
+      (Some (machine_of m.level)) text (saved_images set m)
       (named m.level set least may.level_le_set may.set_le_newest) short (saved_are_ready.images set m s may)
 
-  taken-all : Takes (shipped_set 4) (shipped_set 4).machines (saved_stream set m) (length (saved_stream set m)) (Some (machine_of m.level)) images-back
+  taken-all : Takes (shipped_set 4) (shipped_set 4).machines stream (length stream) (Some (machine_of m.level)) images-back
   taken-all =
-      subst (λ (input : List ℕ). Takes (shipped_set 4) (shipped_set 4).machines input (length (saved_stream set m)) (Some (machine_of m.level)) images-back)
-      (append-nil (saved_stream set m)) (whole.taken [] (λ e. refl))
+      subst (λ (input : List ℕ). Takes (shipped_set 4) (shipped_set 4).machines input (length stream) (Some (machine_of m.level)) images-back)
+      (append-nil stream) (whole.taken [] (λ e. refl))
 
-  takes : Takes (shipped_set NEWEST) (machine_of m.level ∷ []) (saved_stream set m) (length (saved_stream set m)) (Some (machine_of m.level)) images-back
-  takes = alone (shipped_set 4) (shipped_set 4).machines (saved_stream set m) (length (saved_stream set m)) (machine_of m.level) images-back taken-all
+  takes : Takes (shipped_set NEWEST) (machine_of m.level ∷ []) stream (length stream) (Some (machine_of m.level)) images-back
+  takes = alone (shipped_set 4) (shipped_set 4).machines stream (length stream) (machine_of m.level) images-back taken-all
 
   cells-back : cells_in images-back ≡ board_carried set (saved set m)
   cells-back = saved_is_carried.cells set m s may
 
-  abbrev there : Restore
-  there = Back (saved_comes_back.back set m s may).back (length (saved_stream set m))
+  abbrev back-to : State
+  back-to = (saved_comes_back.back set m s may).back
 
-  images-restore : restored m.level (cells_in images-back) ≡ Ok (saved_comes_back.back set m s may).back
+  images-restore : restored m.level (cells_in images-back) ≡ Ok back-to
   images-restore = ap (λ (cells : BoardCells). restored m.level cells) cells-back ∙ (saved_comes_back.back set m s may).restored
 
-  same-images : (images : List Image) (taken : ℕ) → TakesBoard m.level (saved_stream set m) taken images → (images ≡ images-back) × (taken ≡ length (saved_stream set m))
+  there : Restores m.level stream (Back back-to (length stream))
+  there = (images-back, (Some (machine_of m.level), takes), images-restore)
+
+  same-images : (images : List Image) (taken : ℕ) → TakesBoard m.level stream taken images → (images ≡ images-back) × (taken ≡ length stream)
   same-images images taken t =
-      let same = one_stream_holds (shipped_set 4) (machine_of m.level ∷ []) (well 4) shipped_stands.4.heads (saved_stream set m) taken (length (saved_stream set m)) t.0 (Some (machine_of m.level)) images images-back t.1 takes in
+      let same = one_stream_holds (shipped_set 4) (machine_of m.level ∷ []) (well 4) shipped_stands.4.heads stream taken (length stream) t.0 (Some (machine_of m.level)) images images-back t.1 takes in
       (same.states, same.lengths)
 
-  same-restore : (images : List Image) (taken : ℕ) → TakesBoard m.level (saved_stream set m) taken images → restored m.level (cells_in images) ≡ Ok (saved_comes_back.back set m s may).back
+  same-restore : (images : List Image) (taken : ℕ) → TakesBoard m.level stream taken images → restored m.level (cells_in images) ≡ Ok back-to
   same-restore images taken t =
       ap (λ (i : List Image). restored m.level (cells_in i)) (same-images images taken t).0 ∙ images-restore
 
-  only-back : (other : State) (taken : ℕ) → Restores m.level (saved_stream set m) (Back other taken) → (other ≡ (saved_comes_back.back set m s may).back) × (taken ≡ length (saved_stream set m))
+  only-back : (other : State) (taken : ℕ) → Restores m.level stream (Back other taken) → (other ≡ back-to) × (taken ≡ length stream)
   only-back other taken r =
       (ok-same other _ _ r.2 (same-restore r.0 taken r.1), (same-images r.0 taken r.1).1)
 
-  never-refused : IsBytes (saved_stream set m) → (place : ℕ) (section : Option ℕ) (reason : Reason) → Restores m.level (saved_stream set m) (Refused place section reason) → ⊥
+  never-refused : IsBytes stream → (place : ℕ) (section : Option ℕ) (reason : Reason) → Restores m.level stream (Refused place section reason) → ⊥
   never-refused bytes place section reason (inl fault) =
-      never_both_holds (shipped_set 4) (machine_of m.level ∷ []) (well 4) shipped_stands.4.heads (saved_stream set m) bytes (length (saved_stream set m)) (Some (machine_of m.level)) images-back place section reason fault.0 takes fault.1
+      never_both_holds (shipped_set 4) (machine_of m.level ∷ []) (well 4) shipped_stands.4.heads stream bytes (length stream) (Some (machine_of m.level)) images-back place section reason fault.0 takes fault.1
   never-refused bytes place section reason (inr misfit) =
       err-not-ok misfit.misfit _ _ misfit.fails (same-restore misfit.images place misfit.taken)
 
-  comes-back : StreamComesBack set m
-  comes-back = record {
-    back = (saved_comes_back.back set m s may).back;
-    alike = (saved_comes_back.back set m s may).alike;
-    cells = (saved_comes_back.back set m s may).restored;
-    restores = (images-back, (Some (machine_of m.level), takes), images-restore);
-    only = only-back;
-    accepted = never-refused;
-  }
+-- ---- what a board saves, with its own description
+
+short : (set : ℕ) (m : State) → MaySaveUnder m.level set → HasRoomFor (Some (saved_text set m))
+short set m may = let l = shipped_holds.shipped set may.set_le_newest (saved_images set m) in omega (arith, l)
+
+own : (set : ℕ) (m : State) → saved_stream set m ≡ stream_with set m (Some (saved_text set m))
+unfolding saved_stream stream_with
+own set m = refl
+
+comes-back : (set : ℕ) (m : State) → IsSound m → MaySaveUnder m.level set → StreamComesBack set m
+unfolding saved_stream stream_with
+comes-back set m s may =
+    let text = Some (saved_text set m) in
+    record {
+      back = (saved_comes_back.back set m s may).back;
+      alike = (saved_comes_back.back set m s may).alike;
+      cells = (saved_comes_back.back set m s may).restored;
+      restores = there set m text (short set m may) s may;
+      only = only-back set m text (short set m may) s may;
+      accepted = never-refused set m text (short set m may) s may;
+    }
 
 pub streams_come_back : StreamsComeBack
 streams_come_back = record { stream = comes-back }
 
 -- ---- a script on a loaded board
 
-goes-on : (set : ℕ) (m : State) (events : List Event) → IsSound m → MaySaveUnder m.level set → IsContinued set m events
-goes-on set m events s may =
-    let back = comes-back set m s may in
+goes-on : (set : ℕ) (m : State) (text : Option (List ℕ)) (events : List Event) → IsSound m → MaySaveUnder m.level set → HasRoomFor text → IsContinued set m text events
+goes-on set m text events s may room =
+    let back = saved_comes_back.back set m s may in
     let same : observe events back.back ≡ observe events m = alike_stays.answers events m back.back back.alike in
     record {
-      there = record { board = back.back; restored = back.restores; trace_is = ap trace_of (sym same) };
+      there = record { board = back.back; restored = there set m text room s may; trace_is = ap trace_of (sym same) };
       only = λ taken trace goes.
-          let is = back.only goes.board taken goes.restored in
+          let is = only-back set m text room s may goes.board taken goes.restored in
           (is.1, goes.trace_is ∙ ap (λ (n : State). trace_of (observe events n)) is.0 ∙ ap trace_of same);
     }
 
 pub boards_go_on : BoardsGoOn
-boards_go_on = record { on = goes-on }
+boards_go_on = record { on = goes-on; own = own }

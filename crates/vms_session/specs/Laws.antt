@@ -1,18 +1,22 @@
 -- Laws of streams of boards and of sessions that contracts name.
-use Rattle.std.specs.Prelude.{◌≡◌, ◌⊎◌, ℕ, ◌<◌, ◌++◌, List, [], ◌∷◌, length, Option, Some, None, Ok}
+use Rattle.std.specs.Prelude.{◌≡◌, ◌⊎◌, ℕ, ◌<◌, ◌≤◌, ◌++◌, List, [], ◌∷◌, length, Option, Some, None, Ok, IfSome}
 use Rattle.dev_board.specs.Saved.{MaySaveUnder, saved, carried, restored}
 use Rattle.dev_board.specs.Sound.{IsSound, Alike}
 use Rattle.dev_board.specs.State.{State}
 use Rattle.dev_board.specs.Step.{observe}
 use Rattle.dev_board.specs.declared.event.Answer.{Answer}
 use Rattle.dev_board.specs.declared.event.Event.{Event}
+use Rattle.dev_images.specs.Images.{saved_images}
+use Rattle.vms_desc.specs.Formed.{shipped_set}
+use Rattle.vms_io.specs.Shelves.{Held}
 use Rattle.vms_spec.specs.Numbers.{IsBytes}
+use Rattle.vms_spec.specs.Streams.{longest_text, written}
 use Rattle.vms_spec.specs.declared.Reason.{Reason}
 use Rattle.vms_script.specs.Grammar.{IsLine, AreLines}
 use Rattle.vms_script.specs.Lines.{ScriptLine, Restores as Loads}
 use Rattle.vms_script.specs.Trace.{trace_line}
 use Rattle.vms_board.specs.Restoring.{Restore, Back, Refused, Restores}
-use Rattle.vms_board.specs.Saving.{saved_stream}
+use Rattle.vms_board.specs.Saving.{machine_of, saved_text, saved_stream}
 use Rattle.vms_session.specs.Lines.{restored_line}
 use Rattle.vms_session.specs.Session.{Session, Does, Plays}
 
@@ -85,6 +89,24 @@ pub record LinesAreOne : Type 0 where
   pub line : (line : ScriptLine) (old : Session) (text text' : List ℕ) (new new' : Session) → ReadsBytes line old
       → Does line old text new → Does line old text' new' → IsOneEnd text text' new new'
 
+-- bytes are held under each name
+abbrev pub HoldsAll : Held → Type 0
+HoldsAll held = (name : List ℕ) → HoldsBytes (held name)
+
+-- a script of a session of the board's level leaves one trace and one session, where the board is sound and bytes are held, and
+-- bytes are held after it
+pub record SessionsAreOne : Type 0 where
+  pub one : (lines : List ScriptLine) (old : Session) (trace trace' : List ℕ) (new new' : Session)
+      → AreLines (Some old.board.level) lines → IsSound old.board → HoldsAll old.held
+      → Plays lines old trace new → Plays lines old trace' new' → IsOneEnd trace trace' new new'
+  pub holds : (lines : List ScriptLine) (old : Session) (trace : List ℕ) (new : Session)
+      → AreLines (Some old.board.level) lines → IsSound old.board → HoldsAll old.held
+      → Plays lines old trace new → HoldsAll new.held
+
+-- the stream that is written of a sound board is bytes
+pub record StreamsAreBytes : Type 0 where
+  pub bytes : (set : ℕ) (m : State) → IsSound m → MaySaveUnder m.level set → IsBytes (saved_stream set m)
+
 -- the stream that is written of a sound board has less than 65,536 bytes
 pub record StreamsAreShort : Type 0 where
   pub short : (set : ℕ) (m : State) → IsSound m → MaySaveUnder m.level set → length (saved_stream set m) < 65536
@@ -102,12 +124,23 @@ pub record GoesOn (level : ℕ) (bytes : List ℕ) (events : List Event) (taken 
   pub restored : Restores level bytes (Back board taken)
   pub trace_is : trace ≡ trace_of (observe events board)
 
--- on the stream that is written of a sound board under any set from its level on, they leave the trace of that board itself
--- going on, and all bytes are taken
-pub record IsContinued (set : ℕ) (m : State) (events : List Event) : Type 0 where
-  pub there : GoesOn m.level (saved_stream set m) events (length (saved_stream set m)) (trace_of (observe events m))
-  pub only : (taken : ℕ) (trace : List ℕ) → GoesOn m.level (saved_stream set m) events taken trace
-      → (taken ≡ length (saved_stream set m)) × (trace ≡ trace_of (observe events m))
+-- the stream that is written of a board under a set, with this description text or without one; a board saves itself with its
+-- own
+unfoldable pub stream_with : ℕ → State → Option (List ℕ) → List ℕ
+stream_with set m text = written (shipped_set set) (Some (machine_of m.level)) (saved_images set m) text
+
+-- a description section has room for the text
+abbrev pub HasRoomFor : Option (List ℕ) → Type 0
+HasRoomFor text = IfSome text (λ t. length t ≤ longest_text)
+
+-- on this stream of a sound board, under any set from its level on, they leave the trace of that board itself going on, and all
+-- bytes are taken
+pub record IsContinued (set : ℕ) (m : State) (text : Option (List ℕ)) (events : List Event) : Type 0 where
+  pub there : GoesOn m.level (stream_with set m text) events (length (stream_with set m text)) (trace_of (observe events m))
+  pub only : (taken : ℕ) (trace : List ℕ) → GoesOn m.level (stream_with set m text) events taken trace
+      → (taken ≡ length (stream_with set m text)) × (trace ≡ trace_of (observe events m))
 
 pub record BoardsGoOn : Type 0 where
-  pub on : (set : ℕ) (m : State) (events : List Event) → IsSound m → MaySaveUnder m.level set → IsContinued set m events
+  pub on : (set : ℕ) (m : State) (text : Option (List ℕ)) (events : List Event) → IsSound m → MaySaveUnder m.level set
+      → HasRoomFor text → IsContinued set m text events
+  pub own : (set : ℕ) (m : State) → saved_stream set m ≡ stream_with set m (Some (saved_text set m))

@@ -1,6 +1,7 @@
 // Laws of streams of boards and of sessions, each in a clause of a function that does nothing.
 ghost use Rattle.vms_session.specs.Laws.{StreamsComeBack, StreamsAreShort, BoardsGoOn, RefusalsLeave};
 ghost use Rattle.vms_session.specs.Laws.{LevelStays, SessionsStaySound, SessionsEnd, BytesAreOne, LinesAreOne};
+ghost use Rattle.vms_session.specs.Laws.{StreamsAreBytes, SessionsAreOne};
 
 /// The stream that is written of a sound board under any set from its level on restores a board that is like it, and the
 /// restore takes all of it: whatever a restore makes of these bytes is that board, and none is a refusal.
@@ -15,8 +16,14 @@ pub fn short_law()
     ensures { StreamsAreShort }
 {}
 
-/// On the stream that is written of a sound board under any set from its level on, every list of events leaves the trace
-/// of that board itself going on.
+/// The stream that is written of a sound board is bytes: each number of it is below 256.
+#[tactic(auto, using(crate::proofs::StreamBytes::streams_are_bytes))]
+pub fn octets_law()
+    ensures { StreamsAreBytes }
+{}
+
+/// On the stream that is written of a sound board under any set from its level on, with any description text that a stream
+/// may have or none, every list of events leaves the trace of that board itself going on.
 #[tactic(auto, using(crate::proofs::StreamLaws::boards_go_on))]
 pub fn continuation_law()
     ensures { BoardsGoOn }
@@ -57,4 +64,10 @@ pub fn bytes_law()
 #[tactic(auto, using(crate::proofs::OneLaws::lines_are_one))]
 pub fn line_law()
     ensures { LinesAreOne }
+{}
+
+/// A script of a session leaves one trace and one session, where bytes are held, and bytes are held after it.
+#[tactic(auto, using(crate::proofs::ScriptLaws::sessions_are_one))]
+pub fn script_law()
+    ensures { SessionsAreOne }
 {}

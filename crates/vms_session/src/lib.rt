@@ -6,7 +6,7 @@ mod laws;
 mod streams;
 
 pub use laws::{
-    bytes_law, continuation_law, end_law, level_law, line_law, refusal_law, short_law, sound_law,
-    stream_law,
+    bytes_law, continuation_law, end_law, level_law, line_law, octets_law, refusal_law, script_law,
+    short_law, sound_law, stream_law,
 };
 pub use streams::{restore_from, stream_of};

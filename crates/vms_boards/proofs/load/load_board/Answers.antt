@@ -1,13 +1,17 @@
-use Rattle.std.proofs.Common.{List, None, refl, sym, inl, inr, subst}
+use Rattle.std.proofs.Common.{List, ℕ, None, refl, sym, inl, inr, subst}
 use Rattle.std.specs.declared.alloc.Global.{Global}
 use Rattle.std.specs.declared.vec.Vec.{Vec}
 use Rattle.vms_io.specs.Told.{intake, outlet, stock}
 use Rattle.vms_outcome.proofs.EndLemmas.{keeps_same, quiet_same}
+use Rattle.vms_outcome.specs.Outcomes.{Outcome}
 use Rattle.vms_outcome.proofs.StepLemmas.{ended_by, had_by}
 use Rattle.vms_script.specs.Lines.{ScriptLine}
 use Rattle.vms_script.specs.Views.{lines_view}
 use Rattle.vms_script.specs.declared.line.Line.{Line}
+use Rattle.vms_boards.proofs.HeardLemmas.{given_so, heard_so, other_heard, script_other}
 use Rattle.vms_boards.proofs.LoadLemmas.{gives_none, gives_some, loads_under}
+use Rattle.vms_boards.specs.Heard.{HearsEnd}
+use Rattle.vms_boards.specs.Load.{Loads}
 use Rattle.vms_boards.specs.Scripts.{scripted}
 use Rattle.vms_boards.proofs.load.load_board.Goals as goal
 
@@ -46,3 +50,23 @@ returns-in-Err-clause-cause g c = inl (c.in-Err.ensures.cause, refl, keeps_same 
 pub returns-in-Err-clause-given : goal.returns-in-Err-clause-given
 returns-in-Err-clause-given g c =
     gives_none (scripted None (g.H.Shelf.held c.args.shelf.now) c.args.asked.script.now) (intake g.I.Source c.args.input.now)
+
+-- ---- what is heard
+
+pub returns-in-Ok-clause-heard : goal.returns-in-Ok-clause-heard
+returns-in-Ok-clause-heard g c =
+    let held = g.H.Shelf.held c.args.shelf.now in
+    let level = c.args.asked.level in
+    let outcome : List ScriptLine → List ℕ → Outcome → Type 0 = λ lines bytes o. Loads level lines bytes held o in
+    let before = g.I.Source.given c.args.input.now in
+    let now = g.I.Source.given c.load_lines.new.input in
+    heard_so (List ScriptLine) (scripted None held c.args.asked.script.now) outcome (view c.in-Ok.lines) before now c.load_lines.result
+    (given_so (List ScriptLine) (Vec Line Global) view (scripted None held c.args.asked.script.now) c.in-Ok.lines c.in-Ok.ensures.read)
+    (subst (λ (l : List Line). HearsEnd (outcome (lines_view l)) before now c.load_lines.result) c.deref.ensures.value (c.load_lines.ensures.heard held))
+
+pub returns-in-Err-clause-heard : goal.returns-in-Err-clause-heard
+returns-in-Err-clause-heard g c =
+    let held = g.H.Shelf.held c.args.shelf.now in
+    let given = g.I.Source.given c.args.input.now in
+    other_heard (List ScriptLine) (scripted None held c.args.asked.script.now) (λ lines bytes o. Loads c.args.asked.level lines bytes held o) given given c.in-Err.ending
+    (script_other (stock g.H.Shelf c.args.shelf.now) (stock g.H.Shelf c.script_of.new.shelf) c.in-Err.ending c.in-Err.ensures.cause)

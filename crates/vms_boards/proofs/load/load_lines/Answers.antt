@@ -5,6 +5,8 @@ use Rattle.vms_outcome.proofs.EndLemmas.{comes_to_nothing, keeps_same}
 use Rattle.vms_script.specs.Views.{lines_view}
 use Rattle.vms_boards.proofs.LoadLemmas.{loads_under}
 use Rattle.vms_boards.proofs.SaveLemmas.{at_level}
+use Rattle.vms_boards.specs.Heard.{HearsEnd}
+use Rattle.vms_boards.specs.Load.{Loads}
 use Rattle.vms_boards.proofs.load.load_lines.Goals as goal
 
 pub returns-clause-content : goal.returns-clause-content
@@ -23,3 +25,9 @@ pub returns-in_default-shipped-clause-content : goal.returns-in_default-shipped-
 returns-in_default-shipped-clause-content g c = λ shelf shelf' o held loads.
     let out = outlet g.O.Sink c.args.out.now in
     comes_to_nothing out out shelf shelf' o.parts (keeps_same out.written) held
+
+pub returns-clause-heard : goal.returns-clause-heard
+returns-clause-heard g c = λ held.
+    let level = ap (λ (m : State). m.level) c.in-Ok.ensures.state ∙ at_level c.args.level in
+    subst (λ (l : ℕ). HearsEnd (λ bytes o. Loads l (lines_view c.args.lines.now) bytes held o) (g.I.Source.given c.args.input.now) (g.I.Source.given c.load_on.new.input) c.load_on.result)
+    level (c.load_on.ensures.heard held)

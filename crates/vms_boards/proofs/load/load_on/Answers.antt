@@ -8,7 +8,9 @@ use Rattle.vms_play.proofs.RunLemmas.{lines_are_events}
 use Rattle.vms_play.specs.Events.{events_of, trace_from}
 use Rattle.vms_script.specs.Views.{lines_view}
 use Rattle.vms_spec.specs.Sets.{Set}
+use Rattle.vms_boards.proofs.HeardLemmas.{other_end, restore_heard, written_other}
 use Rattle.vms_boards.proofs.LoadLemmas.{refused, trace_cause, traced}
+use Rattle.vms_boards.specs.Load.{Loads}
 use Rattle.vms_boards.proofs.load.load_on.Goals as goal
 
 pub go_on-requires : goal.go_on-requires
@@ -41,3 +43,17 @@ pub returns-in-Err-ReadFault-clause-content : goal.returns-in-Err-ReadFault-clau
 returns-in-Err-ReadFault-clause-content g c = λ shelf shelf' o held loads.
     let out = outlet g.O.Sink c.args.out.now in
     comes_to_nothing out out shelf shelf' o.parts (keeps_same out.written) held
+
+-- ---- what is heard
+
+pub returns-in-Ok-clause-heard : goal.returns-in-Ok-clause-heard
+returns-in-Ok-clause-heard g c = λ held.
+    other_end (λ bytes o. Loads c.args.board.now.state.level (lines_view c.args.lines.now) bytes held o) (g.I.Source.given c.args.input.now) (g.I.Source.given c.restore.new.source) c.go_on.result
+    (written_other (trace_from (events_of (lines_view c.args.lines.now)) c.restore.new.self.state) (outlet g.O.Sink c.args.out.now) (outlet g.O.Sink c.go_on.new.out) c.go_on.result c.go_on.ensures.written)
+
+pub returns-in-Err-Refused-clause-heard : goal.returns-in-Err-Refused-clause-heard
+returns-in-Err-Refused-clause-heard g c = λ held.
+    let r = c.in-Err-Refused.refusal in
+    restore_heard c.args.board.now.state.level (lines_view c.args.lines.now) held (g.I.Source.given c.args.input.now) (g.I.Source.given c.restore.new.source) r c.refused_line.result
+    (c.refused_line.ensures ∙ ap (λ (s : Set). refused_line s r.at r.section r.reason) c.requires.set)
+    c.restore.new.self c.in-Err-Refused.field-0 c.in-Err-Refused.field-0-is c.in-Err-Refused.ensures.heard

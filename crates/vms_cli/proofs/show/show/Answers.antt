@@ -2,10 +2,14 @@ use Rattle.std.proofs.Common.{refl, inl, inr}
 use Rattle.vms_io.specs.Told.{intake, outlet, stock}
 use Rattle.vms_load.specs.Kept.{loads}
 use Rattle.vms_outcome.specs.Asks.{set_asked}
-use Rattle.vms_outcome.specs.Fetching.{word_set}
+use Rattle.vms_outcome.specs.Fetching.{is_on_shelf, word_set}
 use Rattle.vms_outcome.proofs.EndLemmas.{keeps_same, quiet_same}
 use Rattle.vms_outcome.proofs.StepLemmas.{ended_by, had_by}
-use Rattle.vms_cli.proofs.ShowLemmas.{gives_none, gives_within, most_for, shows_under}
+use Rattle.vms_boards.proofs.HeardLemmas.{given_so, heard_so, other_heard}
+use Rattle.vms_load.specs.declared.loader.Loader.{Loader}
+use Rattle.vms_spec.specs.Sets.{Set}
+use Rattle.vms_cli.specs.Show.{ShowsWell}
+use Rattle.vms_cli.proofs.ShowLemmas.{set_other, gives_none, gives_within, most_for, shows_under}
 use Rattle.vms_cli.proofs.show.show.Goals as goal
 
 pub returns-in-Ok-clause-content : goal.returns-in-Ok-clause-content
@@ -38,3 +42,19 @@ returns-in-Err-clause-cause g c =
 pub returns-in-Err-clause-given : goal.returns-in-Err-clause-given
 returns-in-Err-clause-given g c =
     gives_none (word_set (g.H.Shelf.held c.args.shelf.now) (set_asked c.args.set)) (intake g.I.Source c.args.input.now)
+
+-- ---- what is heard
+
+pub returns-in-Ok-clause-heard : goal.returns-in-Ok-clause-heard
+returns-in-Ok-clause-heard g c =
+    let held = g.H.Shelf.held c.args.shelf.now in
+    let step = word_set held (set_asked c.args.set) in
+    heard_so Set step (ShowsWell held) (loads c.in-Ok.loader) (g.I.Source.given c.args.input.now) (g.I.Source.given c.show_stream.new.input) c.show_stream.result
+    (given_so Set Loader loads step c.in-Ok.loader c.in-Ok.ensures.had) (c.show_stream.ensures.heard held)
+
+pub returns-in-Err-clause-heard : goal.returns-in-Err-clause-heard
+returns-in-Err-clause-heard g c =
+    let held = g.H.Shelf.held c.args.shelf.now in
+    let given = g.I.Source.given c.args.input.now in
+    other_heard Set (word_set held (set_asked c.args.set)) (ShowsWell held) given given c.in-Err.ending
+    (set_other (is_on_shelf (set_asked c.args.set)) (stock g.H.Shelf c.args.shelf.now) (stock g.H.Shelf c.loader_of.new.shelf) c.in-Err.ending c.in-Err.ensures.cause)

@@ -3,11 +3,13 @@ use Rattle.vms_io.specs.Told.{intake, outlet}
 use Rattle.vms_spec.specs.Sets.{Set}
 use Rattle.vms_spec.specs.Values.{values_text}
 use Rattle.vms_values.specs.Printing.{machine_of}
-use Rattle.vms_load.specs.Kept.{loads, kept}
+use Rattle.vms_load.specs.Kept.{loads, kept, taken_by}
 use Rattle.vms_outcome.specs.Endings.{WritesAs}
 use Rattle.vms_outcome.specs.Lines.{refused_line}
 use Rattle.vms_outcome.proofs.EndLemmas.{comes_to_nothing, keeps_same}
-use Rattle.vms_cli.proofs.ShowLemmas.{fit_of, loaded, refused}
+use Rattle.vms_boards.proofs.HeardLemmas.{other_end, written_other}
+use Rattle.vms_cli.proofs.ShowLemmas.{fit_of, heard_refused, loaded, refused}
+use Rattle.vms_cli.specs.Show.{ShowsWell}
 use Rattle.vms_cli.proofs.show.show_stream.Goals as goal
 
 pub returns-in-Ok-clause-content : goal.returns-in-Ok-clause-content
@@ -35,3 +37,24 @@ pub returns-clause-content : goal.returns-clause-content
 returns-clause-content g c = λ shelf shelf' o held shows.
     let out = outlet g.O.Sink c.args.out.now in
     comes_to_nothing out out shelf shelf' o.parts (keeps_same out.written) held
+
+-- ---- what is heard
+
+pub returns-in-Ok-clause-heard : goal.returns-in-Ok-clause-heard
+returns-in-Ok-clause-heard g c = λ held.
+    let set = loads c.args.loader in
+    let out = outlet g.O.Sink c.args.out.now in
+    let out' = outlet g.O.Sink c.write_values.new.out in
+    other_end (ShowsWell held set) (g.I.Source.given c.args.input.now) (g.I.Source.given c.load.new.source) c.write_values.result
+    (written_other (values_text set (machine_of set c.in-Ok.machine) (kept c.load.new.self)) out out' c.write_values.result
+    (subst (λ (s : Set). WritesAs (values_text s (machine_of s c.in-Ok.machine) (kept c.load.new.self)) out out' c.write_values.result)
+    c.in-Ok.ensures.set c.write_values.ensures.written))
+
+pub returns-in-Err-Refused-clause-heard : goal.returns-in-Err-Refused-clause-heard
+returns-in-Err-Refused-clause-heard g c = λ held.
+    let set = loads c.args.loader in
+    let r = c.in-Err-Refused.refusal in
+    heard_refused set (fit_of set c.args.loader.set.well_formed c.args.loader.set.heads) held (g.I.Source.given c.args.input.now) (g.I.Source.given c.load.new.source)
+    (kept c.load.new.self) (taken_by c.load.new.self) c.in-Err-Refused.field-0 r c.in-Err-Refused.field-0-is c.refused_line.result
+    (c.refused_line.ensures ∙ ap (λ (s : Set). refused_line s r.at r.section r.reason) (c.set.ensures ∙ c.in-Err-Refused.ensures.set))
+    c.in-Err-Refused.ensures.heard

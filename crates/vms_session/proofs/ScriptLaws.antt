@@ -1,0 +1,93 @@
+-- A script of a session leaves one trace and one session, and what the shelf holds stays bytes.
+use Rattle.std.proofs.Common.{◌≡◌, ◌≢◌, ℕ, ◌++◌, Bool, true, false, List, [], ◌∷◌, Option, Some, None, refl, sym, ap, ◌∙◌, subst}
+use Rattle.std.specs.Str.{bytes_eq}
+use Rattle.std.proofs.lemmas.Slice.Eq.{bytes_eq-Decides}
+use Rattle.dev_board.specs.Sound.{IsSound}
+use Rattle.vms_board.specs.Restoring.{Back, Refused}
+use Rattle.vms_board.specs.Saving.{saved_stream}
+use Rattle.vms_io.specs.Shelves.{Held, PutsUnder}
+use Rattle.vms_script.specs.Grammar.{AreLines, IsLine}
+use Rattle.vms_script.specs.Lines.{ScriptLine, Happens, Saves, Restores as Loads}
+use Rattle.vms_session.proofs.EndLaws.{may_save}
+use Rattle.vms_session.proofs.OneLaws.{one_end}
+use Rattle.vms_session.proofs.SessionLaws.{line_level}
+use Rattle.vms_session.proofs.SoundLaws.{sessions_stay_sound}
+use Rattle.vms_session.proofs.StreamBytes.{streams_are_bytes}
+use Rattle.vms_session.specs.Laws.{HoldsAll, HoldsBytes, IsOneEnd, ReadsBytes, SessionsAreOne}
+use Rattle.vms_session.specs.Session.{Session, Does, IsLoaded, IsTooLarge, LoadsHeld, Plays}
+use Rattle.vms_spec.specs.Numbers.{IsBytes}
+
+-- ---- what is held stays bytes
+
+puts-bytes : (old new : Held) (name bytes : List ℕ) → PutsUnder old new name bytes → IsBytes bytes → HoldsAll old → HoldsAll new
+puts-bytes old new name bytes p ok holds = λ other. by other (bytes_eq other name) refl
+  where
+    by : (other : List ℕ) (t : Bool) → bytes_eq other name ≡ t → HoldsBytes (new other)
+    by other true e = subst HoldsBytes (sym (ap new ((bytes_eq-Decides other name).0 e) ∙ p.there)) ok
+    by other false e =
+        let ne : other ≢ name = λ same. let f = (bytes_eq-Decides other name).1 same in cc (sym e ∙ f) in
+        subst HoldsBytes (sym (p.others other ne)) (holds other)
+
+abbrev held-of : Session → Held
+held-of s = s.held
+
+loads-same : (under : Option (List ℕ)) (old : Session) (text : List ℕ) (new : Session) → LoadsHeld under old text new → held-of new ≡ held-of old
+loads-same None old text new h = ap held-of h.new_is
+loads-same (Some bytes) old text new (IsTooLarge long h) = ap held-of h.new_is
+loads-same (Some bytes) old text new (IsLoaded (Back m taken) few restores h) = ap held-of h.new_is
+loads-same (Some bytes) old text new (IsLoaded (Refused place section reason) few restores h) = ap held-of h.new_is
+
+pub reads_bytes : (line : ScriptLine) (old : Session) → HoldsAll old.held → ReadsBytes line old
+reads_bytes (Happens event) old holds = tt
+reads_bytes (Saves set name) old holds = tt
+reads_bytes (Loads name) old holds = holds name
+
+pub line_holds : (line : ScriptLine) (old : Session) (text : List ℕ) (new : Session) → IsLine (Some old.board.level) line → Does line old text new → IsSound old.board
+    → HoldsAll old.held → HoldsAll new.held
+line_holds (Happens event) old text new good does s holds = subst HoldsAll (sym (ap held-of does.new_is)) holds
+line_holds (Saves set name) old text new good does s holds =
+    puts-bytes old.held new.held name (saved_stream set old.board) does.held (streams_are_bytes.bytes set old.board s (may_save old.board.level set good.0)) holds
+line_holds (Loads name) old text new good does s holds = subst HoldsAll (sym (loads-same (old.held name) old text new does)) holds
+
+-- ---- scripts
+
+-- what a line leaves for those after it: its level, a sound board, and bytes
+pub record Follows (level : ℕ) (after : Session) : Type 0 where
+  pub at : after.board.level ≡ level
+  pub sound : IsSound after.board
+  pub holds : HoldsAll after.held
+
+good-at : (level : ℕ) (line : ScriptLine) (old : Session) → Follows level old → IsLine (Some level) line → IsLine (Some old.board.level) line
+good-at level line old f good = subst (λ (l : ℕ). IsLine (Some l) line) (sym f.at) good
+
+pub line_follows : (level : ℕ) (line : ScriptLine) (old : Session) (text : List ℕ) (new : Session) → IsLine (Some level) line → Does line old text new → Follows level old → Follows level new
+line_follows level line old text new good does f = record {
+  at = line_level line old text new does ∙ f.at;
+  sound = sessions_stay_sound.line (Some level) line old text new good does f.sound;
+  holds = line_holds line old text new (good-at level line old f good) does f.sound f.holds;
+}
+
+lines-one : (level : ℕ) (lines : List ScriptLine) (old : Session) (trace trace' : List ℕ) (new new' : Session) → AreLines (Some level) lines → Follows level old
+    → Plays lines old trace new → Plays lines old trace' new' → IsOneEnd trace trace' new new'
+lines-one level [] old trace trace' new new' are f p q = record { texts = p.0 ∙ sym q.0; ends = p.1 ∙ sym q.1 }
+lines-one level (line ∷ lines) old trace trace' new new' are f p q =
+    let one = one_end line old p.0 q.0 p.2 q.2 (reads_bytes line old f.holds) p.3 q.3 in
+    let rest = lines-one level lines p.2 p.1 q.1 new new' are.1 (line_follows level line old p.0 p.2 are.0 p.3 f) p.4
+    (subst (λ (z : Session). Plays lines z q.1 new') (sym one.ends) q.4) in
+    record {
+      texts = p.5 ∙ ap (λ (t : List ℕ). t ++ p.1) one.texts ∙ ap (λ (t : List ℕ). q.0 ++ t) rest.texts ∙ sym q.5;
+      ends = rest.ends;
+    }
+
+lines-follow : (level : ℕ) (lines : List ScriptLine) (old : Session) (trace : List ℕ) (new : Session) → AreLines (Some level) lines → Follows level old → Plays lines old trace new → Follows level new
+lines-follow level [] old trace new are f p = subst (Follows level) (sym p.1) f
+lines-follow level (line ∷ lines) old trace new are f p =
+    lines-follow level lines p.2 p.1 new are.1 (line_follows level line old p.0 p.2 are.0 p.3 f) p.4
+
+pub sessions_are_one : SessionsAreOne
+sessions_are_one = record {
+  one = λ lines old trace trace' new new' are sound holds p q.
+      lines-one old.board.level lines old trace trace' new new' are (record { at = refl; sound = sound; holds = holds }) p q;
+  holds = λ lines old trace new are sound holds p.
+      (lines-follow old.board.level lines old trace new are (record { at = refl; sound = sound; holds = holds }) p).holds;
+}
