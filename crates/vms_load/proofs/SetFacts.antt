@@ -1,5 +1,5 @@
 -- What each description set has.
-use Rattle.std.proofs.Common.{◌≡◌, ℕ, ◌+◌, ◌<◌, ◌≤◌, List, [], ◌∷◌, ◌++◌, length, get_or, map, Option, Some, None, ℤ, refl, sym, ap, ◌∙◌, subst, arith, true, ◌&&◌, nat_le}
+use Rattle.std.proofs.Common.{◌≡◌, ℕ, ◌+◌, ◌<◌, ◌≤◌, List, [], ◌∷◌, ◌++◌, length, map, Option, Some, None, ℤ, refl, sym, ap, ◌∙◌, subst, arith, true, ◌&&◌, nat_le}
 use Rattle.vms_spec.specs.Sets.{Set, Sub, Desc, AtLeast}
 use Rattle.std.proofs.lemmas.Bool.{and_parts, leb-true}
 use Rattle.vms_spec.specs.Layout.{Slot, Number, Constant, Filler, Rule, Cell, no_cell, no_desc, desc_slots, device_cells}

@@ -64,6 +64,11 @@ shape_of set images k image s lt is =
 pub image_begun : (images first : List Typed) (k : ℕ) (image here : Typed) → here ≡ get_or images k here → images ≡ slice_set first k image → k < length first → here ≡ image
 image_begun images first k image here is e lt = is ∙ ap (λ (l : List Typed). get_or l k here) e ∙ get_set first k image here lt
 
+-- it was at its defaults before
+pub begun_here : (set : Set) (new old : List Typed) (k v : ℕ) → new ≡ slice_set old k (record (get_or old k no_image) { version = v })
+    → get_or old k no_image ≡ default_at set k → new ≡ slice_set old k (begun_at set k v)
+begun_here set new old k v e f = e ∙ ap (λ (x : Typed). let y : Typed = record x { version = v } in slice_set old k y) f
+
 -- ---- all at their defaults
 
 module _ (set : Set) (images : List Typed) (long : length images ≡ length set.devices) (each : (k : ℕ) → k < length images → get_or images k no_image ≡ default_at set k) where
@@ -220,3 +225,30 @@ sections_taken set (d ∷ devices) (false ∷ came) zero none long e = omega ari
 sections_taken set (d ∷ devices) (true ∷ came) zero none long e = cc
 sections_taken set (d ∷ devices) (false ∷ came) (suc k) none long e = omega (arith, sections_taken set devices came k none (omega arith) e)
 sections_taken set (d ∷ devices) (true ∷ came) (suc k) none long e = sections_taken set devices came k none (omega arith) e
+
+-- what hasn't come stays as it is where the image of one that has come is put
+pub still_fresh : (set : Set) (old new : List Typed) (came now : List Bool) (k : ℕ) (x image : Typed) → k < length came → now ≡ slice_set came k true
+    → new ≡ slice_set old k x → ((j : ℕ) → at came j ≡ Some false → get_or old j no_image ≡ default_at set j)
+    → (j : ℕ) → at now j ≡ Some false → get_or (slice_set new k image) j no_image ≡ default_at set j
+still_fresh set old new came now k x image lt now_is new_is fresh j e =
+    let here : at (slice_set came k true) j ≡ Some false = sym (ap (λ (l : List Bool). at l j) now_is) ∙ e in
+    same_or_not j k (get_or (slice_set new k image) j no_image ≡ default_at set j)
+    (λ same. absurd (true_false (sym (at_set came k true lt) ∙ ap (at (slice_set came k true)) (sym same) ∙ here)))
+    (λ ne.
+    get_other new k j image no_image ne ∙ ap (λ (l : List Typed). get_or l j no_image) new_is ∙ get_other old k j x no_image ne
+    ∙ fresh j (sym (at_other came k j true ne) ∙ here))
+  where
+    true_false : Some true ≡ Some false → ⊥
+    true_false b = cc
+
+    at_set : (xs : List Bool) (k : ℕ) (x : Bool) → k < length xs → at (slice_set xs k x) k ≡ Some x
+    at_set [] k x lt = absurd (omega arith)
+    at_set (y ∷ xs) zero x lt = refl
+    at_set (y ∷ xs) (suc k) x lt = at_set xs k x (omega arith)
+
+    at_other : (xs : List Bool) (k j : ℕ) (x : Bool) → (j ≡ k → ⊥) → at (slice_set xs k x) j ≡ at xs j
+    at_other [] k j x ne = refl
+    at_other (y ∷ xs) zero zero x ne = absurd (ne refl)
+    at_other (y ∷ xs) zero (suc j) x ne = refl
+    at_other (y ∷ xs) (suc k) zero x ne = refl
+    at_other (y ∷ xs) (suc k) (suc j) x ne = at_other xs k j x (λ e. ne (ap suc e))

@@ -4,6 +4,7 @@ use Rattle.vms_io.specs.Causes.{capped}
 use Rattle.vms_spec.specs.Sets.{Sub, Device, Set}
 use Rattle.vms_spec.specs.Readings.{Reading, Accepted, Refused}
 use Rattle.vms_spec.specs.Images.{Image, default_image}
+use Rattle.vms_spec.specs.Lists.{at}
 use Rattle.vms_spec.specs.Streams.{is_one_of}
 use Rattle.vms_units.specs.Judge.{judge}
 use Rattle.vms_units.specs.State.{State, Spot, Free, Ended, by_state}
@@ -39,6 +40,8 @@ pub record IsOf (set : Set) (staged : Staged) : Type 0 where
   pub images : AreShaped set staged.images.items
   pub came : length staged.came.items ≡ length set.devices
   pub machine : IsMachine set.machines staged.machine
+  -- of a device that hasn't come it is at its defaults
+  pub fresh : (k : ℕ) → at staged.came.items k ≡ Some false → get_or staged.images.items k no_image ≡ default_at set k
 
 -- the image of device k at a version, before its fields come
 abbrev pub image_at : Set → ℕ → ℕ → Image

@@ -1,5 +1,5 @@
 // What is read of a stream so far.
-ghost use Rattle.std.specs.Prelude.{◌≡◌, ◌<◌, ◌≤◌, ◌+◌, ◌^◌, Bool, not, true, false, ℕ, List, length, map, replicate, slice_set, IfErr, IfOk, IfSome, Some, None};
+ghost use Rattle.std.specs.Prelude.{◌≡◌, ◌<◌, ◌≤◌, ◌+◌, ◌^◌, Bool, not, true, false, ℕ, List, length, get_or, map, replicate, slice_set, IfErr, IfOk, IfSome, Some, None};
 ghost use Rattle.vms_spec.specs.Sets.{Set};
 ghost use Rattle.vms_spec.specs.Images.{default_image};
 ghost use Rattle.vms_spec.specs.Lists.{position};
@@ -7,9 +7,9 @@ ghost use Rattle.vms_spec.specs.Units.{Configuration, End};
 ghost use Rattle.vms_units.specs.Judged.{ask};
 ghost use Rattle.vms_units.specs.State.{Before, Free, Ended, at_start};
 ghost use Rattle.vms_desc.specs.Described.{described};
-ghost use Rattle.vms_image.specs.Typed.{state_of as untyped};
+ghost use Rattle.vms_image.specs.Typed.{default_at, state_of as untyped};
 ghost use Rattle.vms_load.specs.Reads.{Settles, IsRefused};
-ghost use Rattle.vms_load.specs.Staging.{AreShaped, IsOf, IsMachine, IsAccepted, accepted_of, begun_at, state_of};
+ghost use Rattle.vms_load.specs.Staging.{AreShaped, IsOf, IsMachine, IsAccepted, accepted_of, no_image, state_of};
 
 use crate::LoadFault;
 use crate::fault::refused;
@@ -67,6 +67,8 @@ fn reset(set: &DescSet, images: &mut [Image])
     ensures states { let set = described set.now in
         map untyped images.new ≡ map (default_image set) set.devices }
     ensures shaped { AreShaped (described set.now) images.new }
+    ensures each { (k : ℕ) → k < length images.new
+        → get_or images.new k no_image ≡ default_at (described set.now) k }
 {
     for device in 0..images.len() {
         images[device].reset(set, device as u32);
@@ -85,20 +87,18 @@ fn none_came(devices: usize) -> ArrayVec<bool, 64>
     came
 }
 
-/// Begins the section of a device at a version: it has come, and its image is at its defaults.
-pub(crate) fn begin(set: &DescSet, staged: &mut Staged, device: u32, version: u32)
-    requires device { device < length (described set.now).devices }
-    requires whole { IsOf (described set.now) staged.old }
+/// Begins the section of a device at a version: it has come.
+pub(crate) fn begin(staged: &mut Staged, device: u32, version: u32)
+    requires image { device < length staged.old.images.items }
+    requires device { device < length staged.old.came.items }
     ensures images { staged.new.images.items ≡ slice_set staged.old.images.items device
-        (begun_at (described set.now) device version) }
+        (record (get_or staged.old.images.items device no_image) { version = version }) }
     ensures came { staged.new.came.items ≡ slice_set staged.old.came.items device true }
     ensures machine { staged.new.machine ≡ staged.old.machine }
     ensures tail { staged.new.tail ≡ staged.old.tail }
 {
     staged.came[device as usize] = true;
-    let image = &mut staged.images[device as usize];
-    image.reset(set, device);
-    image.set_version(version);
+    staged.images[device as usize].set_version(version);
 }
 
 /// Takes the configuration at this place, which names an accepted machine.

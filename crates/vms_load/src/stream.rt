@@ -206,7 +206,7 @@ fn opened<S: Source>(
     ensures short { length head.now.name.items ≤ 255 }
 {
     let device = open_section(set, &staged.came, head, at)?;
-    begin(set, staged, device, head.version);
+    begin(staged, device, head.version);
     let mut section = Section {
         device,
         id: head.id,

@@ -2,7 +2,6 @@ use Rattle.std.proofs.Common.{◌≡◌, map, ap, ◌∙◌, sym, length}
 use Rattle.std.specs.Vec.{with_items}
 use Rattle.std.proofs.lemmas.List.{length-map, with_items_is}
 use Rattle.vms_spec.specs.Sets.{Set}
-use Rattle.vms_spec.specs.Images.{default_image}
 use Rattle.vms_parts.specs.Views.{device_of}
 use Rattle.vms_desc.specs.Described.{described}
 use Rattle.vms_image.specs.Typed.{state_of as untyped}

@@ -1,4 +1,4 @@
-use Rattle.std.proofs.Common.{◌<◌, map, List, [], Some, None, Bool, false, Ok, Err, length, slice_set, sym, ap, ◌∙◌, subst, arith}
+use Rattle.std.proofs.Common.{rules, ◌<◌, map, List, [], Some, None, Bool, false, Ok, Err, length, slice_set, sym, ap, ◌∙◌, subst, arith}
 use Rattle.std.proofs.lemmas.Result.{err_from_is_err_and}
 use Rattle.std.proofs.lemmas.List.{length-set, length-map}
 use Rattle.vms_image.specs.Typed.{Typed, state_of as untyped, IsImageOf}
@@ -11,13 +11,13 @@ use Rattle.vms_desc.specs.Described.{described}
 use Rattle.vms_parts.specs.Devices.{device_at}
 use Rattle.vms_load.specs.Heads.{opened_at, section_opened}
 use Rattle.vms_load.specs.Parts.{subs_due, part_due}
-use Rattle.vms_load.specs.Staging.{begun_at, name_of, state_of, sections_due}
+use Rattle.vms_load.specs.Staging.{AreShaped, begun_at, name_of, state_of, sections_due}
 use Rattle.vms_frames.specs.Calls.{tail_of}
 use Rattle.vms_load.proofs.ReadLemmas.{read_behind}
 use Rattle.vms_frames.proofs.HeardLemmas.{heard_as}
 use Rattle.vms_load.proofs.HearingLemmas.{behind_here, hears_so}
 use Rattle.vms_load.proofs.OpenedReads.{head_unit, head_long, begun, section_refused, section_reads, ended_in, ends_later}
-use Rattle.vms_load.proofs.StagedLemmas.{image_begun, default_shaped, section_new, sections_taken}
+use Rattle.vms_load.proofs.StagedLemmas.{image_begun, begun_here, shaped_put, still_fresh, default_shaped, section_new, sections_taken}
 use Rattle.vms_load.proofs.Spending.{gives_behind}
 use Rattle.vms_load.proofs.stream.opened.Goals as goal
 
@@ -31,12 +31,19 @@ returns-in_err-device-clause-reads g c = λ names first after bytes behind.
     (section_refused set names c.args.staged.now first after head c.args.at c.args.cursor.now bytes (g.S.Source.left c.args.source.now)
     (λ (x : Unit {0}). reading_on (judge (by_state set names)) (state_of set c.args.staged.now (Free false false))) c.in_err-device.field-0.0 c.requires.whole.came is behind.taken)
 
+pub begin-requires-clause-image : goal.begin-requires-clause-image
+begin-requires-clause-image g c =
+    let set = described c.args.set.now in
+    let head = c.args.head.now in
+    let is = sym (c.in_ok-device.was) ∙ c.open_section.ensures.opened ∙ ap (λ (came : List Bool). opened_at c.args.at (section_opened set came head.name.items head.instance head.version)) c.deref.ensures.0 in
+    omega (arith, c.requires.whole.images.all, (section_new set c.args.staged.now.came.items head.name.items head.instance head.version c.in_ok-device.device c.args.at c.requires.whole.came is).0)
+
 pub begin-requires-clause-device : goal.begin-requires-clause-device
 begin-requires-clause-device g c =
     let set = described c.args.set.now in
     let head = c.args.head.now in
     let is = sym (c.in_ok-device.was) ∙ c.open_section.ensures.opened ∙ ap (λ (came : List Bool). opened_at c.args.at (section_opened set came head.name.items head.instance head.version)) c.deref.ensures.0 in
-    (section_new set c.args.staged.now.came.items head.name.items head.instance head.version c.in_ok-device.device c.args.at c.requires.whole.came is).0
+    omega (arith, c.requires.whole.came, (section_new set c.args.staged.now.came.items head.name.items head.instance head.version c.in_ok-device.device c.args.at c.requires.whole.came is).0)
 
 pub index_mut-image-requires : goal.index_mut-image-requires
 index_mut-image-requires g c =
@@ -61,7 +68,8 @@ read_section-requires-clause-shaped g c =
     let k = c.in_ok-device.device in
     let is = sym (c.in_ok-device.was) ∙ c.open_section.ensures.opened ∙ ap (λ (came : List Bool). opened_at c.args.at (section_opened set came head.name.items head.instance head.version)) c.deref.ensures.0 in
     let new = section_new set c.args.staged.now.came.items head.name.items head.instance head.version k c.args.at c.requires.whole.came is in
-    let image = image_begun c.begin.new.staged.images.items c.args.staged.now.images.items k (begun_at set k head.version) c.index_mut-image.result.now c.index_mut-image.ensures.value c.begin.ensures.images (omega (arith, new.0, c.requires.whole.images.all)) in
+    let began = begun_here set c.begin.new.staged.images.items c.args.staged.now.images.items k head.version c.begin.ensures.images (c.requires.whole.fresh k new.1) in
+    let image = image_begun c.begin.new.staged.images.items c.args.staged.now.images.items k (begun_at set k head.version) c.index_mut-image.result.now c.index_mut-image.ensures.value began (omega (arith, new.0, c.requires.whole.images.all)) in
     subst (λ (x : Typed). IsImageOf set k x) (sym image) (default_shaped set k head.version)
 
 pub read_section-requires-clause-place : goal.read_section-requires-clause-place
@@ -71,7 +79,8 @@ read_section-requires-clause-place g c =
     let k = c.in_ok-device.device in
     let is = sym (c.in_ok-device.was) ∙ c.open_section.ensures.opened ∙ ap (λ (came : List Bool). opened_at c.args.at (section_opened set came head.name.items head.instance head.version)) c.deref.ensures.0 in
     let new = section_new set c.args.staged.now.came.items head.name.items head.instance head.version k c.args.at c.requires.whole.came is in
-    let image = image_begun c.begin.new.staged.images.items c.args.staged.now.images.items k (begun_at set k head.version) c.index_mut-image.result.now c.index_mut-image.ensures.value c.begin.ensures.images (omega (arith, new.0, c.requires.whole.images.all)) in
+    let began = begun_here set c.begin.new.staged.images.items c.args.staged.now.images.items k head.version c.begin.ensures.images (c.requires.whole.fresh k new.1) in
+    let image = image_begun c.begin.new.staged.images.items c.args.staged.now.images.items k (begun_at set k head.version) c.index_mut-image.result.now c.index_mut-image.ensures.value began (omega (arith, new.0, c.requires.whole.images.all)) in
     let due = sections_taken set set.devices c.args.staged.now.came.items k (record { instance = 0; desc = no_desc; subs = [] }) c.requires.whole.came new.1 in
     let same = ap (λ (x : Typed). subs_due set (device_at set k).subs x.came) image in
     omega (arith, due, same, c.requires.place)
@@ -84,13 +93,14 @@ returns-in_err-read_section-clause-reads g c = λ names first after bytes behind
     let old = c.args.staged.now in
     let is = sym (c.in_ok-device.was) ∙ c.open_section.ensures.opened ∙ ap (λ (came : List Bool). opened_at c.args.at (section_opened set came head.name.items head.instance head.version)) c.deref.ensures.0 in
     let new = section_new set old.came.items head.name.items head.instance head.version k c.args.at c.requires.whole.came is in
+    let began = begun_here set c.begin.new.staged.images.items c.args.staged.now.images.items k head.version c.begin.ensures.images (c.requires.whole.fresh k new.1) in
     let room : k < length old.images.items = omega (arith, new.0, c.requires.whole.images.all) in
-    let image = image_begun c.begin.new.staged.images.items old.images.items k (begun_at set k head.version) c.index_mut-image.result.now c.index_mut-image.ensures.value c.begin.ensures.images room in
+    let image = image_begun c.begin.new.staged.images.items old.images.items k (begun_at set k head.version) c.index_mut-image.result.now c.index_mut-image.ensures.value began room in
     let now = c.read_section.new.section in
     let final = ended_in (name_of set c.begin.new.staged.machine) (map untyped (slice_set c.begin.new.staged.images.items k c.read_section.new.image)) c.begin.new.staged.came.items (tail_of now.tail) in
     let machine = ap (name_of set) c.begin.ensures.machine in
     let last = ends_later (name_of set old.machine) (name_of set c.begin.new.staged.machine) c.begin.new.staged.images.items old.images.items old.came.items c.begin.new.staged.came.items k now.device (begun_at set k head.version)
-    c.read_section.new.image (tail_of now.tail) machine c.begin.ensures.images c.begin.ensures.came c.in_err-read_section.ensures.section.0 in
+    c.read_section.new.image (tail_of now.tail) machine began c.begin.ensures.came c.in_err-read_section.ensures.section.0 in
     let go = reading_on (judge (by_state set names)) in
     let v = ask set names (state_of set old (Free first after)) (head_unit head) (head_long head) in
     let onward = section_reads set names old first after head k c.args.at c.args.cursor.now c.read_section.new.cursor (untyped c.index_mut-image.result.now) (untyped c.read_section.new.image) c.begin.new.staged.tail now final
@@ -109,13 +119,14 @@ returns-clause-reads g c = λ names first after bytes behind.
     let old = c.args.staged.now in
     let is = sym (c.in_ok-device.was) ∙ c.open_section.ensures.opened ∙ ap (λ (came : List Bool). opened_at c.args.at (section_opened set came head.name.items head.instance head.version)) c.deref.ensures.0 in
     let new = section_new set old.came.items head.name.items head.instance head.version k c.args.at c.requires.whole.came is in
+    let began = begun_here set c.begin.new.staged.images.items c.args.staged.now.images.items k head.version c.begin.ensures.images (c.requires.whole.fresh k new.1) in
     let room : k < length old.images.items = omega (arith, new.0, c.requires.whole.images.all) in
-    let image = image_begun c.begin.new.staged.images.items old.images.items k (begun_at set k head.version) c.index_mut-image.result.now c.index_mut-image.ensures.value c.begin.ensures.images room in
+    let image = image_begun c.begin.new.staged.images.items old.images.items k (begun_at set k head.version) c.index_mut-image.result.now c.index_mut-image.ensures.value began room in
     let now = c.read_section.new.section in
     let final = ended_in (name_of set c.begin.new.staged.machine) (map untyped (slice_set c.begin.new.staged.images.items k c.read_section.new.image)) c.begin.new.staged.came.items (tail_of now.tail) in
     let machine = ap (name_of set) c.begin.ensures.machine in
     let last = ends_later (name_of set old.machine) (name_of set c.begin.new.staged.machine) c.begin.new.staged.images.items old.images.items old.came.items c.begin.new.staged.came.items k now.device (begun_at set k head.version)
-    c.read_section.new.image (tail_of now.tail) machine c.begin.ensures.images c.begin.ensures.came c.in_ok-read_section.ensures.section.0 in
+    c.read_section.new.image (tail_of now.tail) machine began c.begin.ensures.came c.in_ok-read_section.ensures.section.0 in
     let go = reading_on (judge (by_state set names)) in
     let v = ask set names (state_of set old (Free first after)) (head_unit head) (head_long head) in
     let onward = section_reads set names old first after head k c.args.at c.args.cursor.now c.read_section.new.cursor (untyped c.index_mut-image.result.now) (untyped c.read_section.new.image) c.begin.new.staged.tail now final
@@ -133,7 +144,8 @@ returns-clause-given g c =
     let first = c.args.staged.now in
     let is = sym (c.in_ok-device.was) ∙ c.open_section.ensures.opened ∙ ap (λ (came : List Bool). opened_at c.args.at (section_opened set came head.name.items head.instance head.version)) c.deref.ensures.0 in
     let new = section_new set first.came.items head.name.items head.instance head.version k c.args.at c.requires.whole.came is in
-    let image = image_begun c.begin.new.staged.images.items first.images.items k (begun_at set k head.version) c.index_mut-image.result.now c.index_mut-image.ensures.value c.begin.ensures.images (omega (arith, new.0, c.requires.whole.images.all)) in
+    let began = begun_here set c.begin.new.staged.images.items c.args.staged.now.images.items k head.version c.begin.ensures.images (c.requires.whole.fresh k new.1) in
+    let image = image_begun c.begin.new.staged.images.items first.images.items k (begun_at set k head.version) c.index_mut-image.result.now c.index_mut-image.ensures.value began (omega (arith, new.0, c.requires.whole.images.all)) in
     let due = sections_taken set set.devices first.came.items k (record { instance = 0; desc = no_desc; subs = [] }) c.requires.whole.came new.1 in
     let same = ap (λ (x : Typed). subs_due set (device_at set k).subs x.came) image in
     let here = part_due set (device_at set k) c.index_mut-image.result.now.came (Some (record { sub = None; version = c.index_mut-image.result.now.version })) in
@@ -149,7 +161,8 @@ returns-in_err-read_section-clause-given g c =
     let first = c.args.staged.now in
     let is = sym (c.in_ok-device.was) ∙ c.open_section.ensures.opened ∙ ap (λ (came : List Bool). opened_at c.args.at (section_opened set came head.name.items head.instance head.version)) c.deref.ensures.0 in
     let new = section_new set first.came.items head.name.items head.instance head.version k c.args.at c.requires.whole.came is in
-    let image = image_begun c.begin.new.staged.images.items first.images.items k (begun_at set k head.version) c.index_mut-image.result.now c.index_mut-image.ensures.value c.begin.ensures.images (omega (arith, new.0, c.requires.whole.images.all)) in
+    let began = begun_here set c.begin.new.staged.images.items c.args.staged.now.images.items k head.version c.begin.ensures.images (c.requires.whole.fresh k new.1) in
+    let image = image_begun c.begin.new.staged.images.items first.images.items k (begun_at set k head.version) c.index_mut-image.result.now c.index_mut-image.ensures.value began (omega (arith, new.0, c.requires.whole.images.all)) in
     let due = sections_taken set set.devices first.came.items k (record { instance = 0; desc = no_desc; subs = [] }) c.requires.whole.came new.1 in
     let same = ap (λ (x : Typed). subs_due set (device_at set k).subs x.came) image in
     let here = part_due set (device_at set k) c.index_mut-image.result.now.came (Some (record { sub = None; version = c.index_mut-image.result.now.version })) in
@@ -181,13 +194,14 @@ returns-in_err-read_section-clause-heard g c = λ names first after.
     let old = c.args.staged.now in
     let is = sym (c.in_ok-device.was) ∙ c.open_section.ensures.opened ∙ ap (λ (came : List Bool). opened_at c.args.at (section_opened set came head.name.items head.instance head.version)) c.deref.ensures.0 in
     let new = section_new set old.came.items head.name.items head.instance head.version k c.args.at c.requires.whole.came is in
+    let began = begun_here set c.begin.new.staged.images.items c.args.staged.now.images.items k head.version c.begin.ensures.images (c.requires.whole.fresh k new.1) in
     let room : k < length old.images.items = omega (arith, new.0, c.requires.whole.images.all) in
-    let image = image_begun c.begin.new.staged.images.items old.images.items k (begun_at set k head.version) c.index_mut-image.result.now c.index_mut-image.ensures.value c.begin.ensures.images room in
+    let image = image_begun c.begin.new.staged.images.items old.images.items k (begun_at set k head.version) c.index_mut-image.result.now c.index_mut-image.ensures.value began room in
     let now = c.read_section.new.section in
     let final = ended_in (name_of set c.begin.new.staged.machine) (map untyped (slice_set c.begin.new.staged.images.items k c.read_section.new.image)) c.begin.new.staged.came.items (tail_of now.tail) in
     let machine = ap (name_of set) c.begin.ensures.machine in
     let last = ends_later (name_of set old.machine) (name_of set c.begin.new.staged.machine) c.begin.new.staged.images.items old.images.items old.came.items c.begin.new.staged.came.items k now.device (begun_at set k head.version)
-    c.read_section.new.image (tail_of now.tail) machine c.begin.ensures.images c.begin.ensures.came c.in_err-read_section.ensures.section.0 in
+    c.read_section.new.image (tail_of now.tail) machine began c.begin.ensures.came c.in_err-read_section.ensures.section.0 in
     let go = reading_on (judge (by_state set names)) in
     let v = ask set names (state_of set old (Free first after)) (head_unit head) (head_long head) in
     let e = c.in_err-read_section.field-0.0 in
@@ -207,13 +221,14 @@ returns-clause-heard g c = λ names first after.
     let old = c.args.staged.now in
     let is = sym (c.in_ok-device.was) ∙ c.open_section.ensures.opened ∙ ap (λ (came : List Bool). opened_at c.args.at (section_opened set came head.name.items head.instance head.version)) c.deref.ensures.0 in
     let new = section_new set old.came.items head.name.items head.instance head.version k c.args.at c.requires.whole.came is in
+    let began = begun_here set c.begin.new.staged.images.items c.args.staged.now.images.items k head.version c.begin.ensures.images (c.requires.whole.fresh k new.1) in
     let room : k < length old.images.items = omega (arith, new.0, c.requires.whole.images.all) in
-    let image = image_begun c.begin.new.staged.images.items old.images.items k (begun_at set k head.version) c.index_mut-image.result.now c.index_mut-image.ensures.value c.begin.ensures.images room in
+    let image = image_begun c.begin.new.staged.images.items old.images.items k (begun_at set k head.version) c.index_mut-image.result.now c.index_mut-image.ensures.value began room in
     let now = c.read_section.new.section in
     let final = ended_in (name_of set c.begin.new.staged.machine) (map untyped (slice_set c.begin.new.staged.images.items k c.read_section.new.image)) c.begin.new.staged.came.items (tail_of now.tail) in
     let machine = ap (name_of set) c.begin.ensures.machine in
     let last = ends_later (name_of set old.machine) (name_of set c.begin.new.staged.machine) c.begin.new.staged.images.items old.images.items old.came.items c.begin.new.staged.came.items k now.device (begun_at set k head.version)
-    c.read_section.new.image (tail_of now.tail) machine c.begin.ensures.images c.begin.ensures.came c.in_ok-read_section.ensures.section.0 in
+    c.read_section.new.image (tail_of now.tail) machine began c.begin.ensures.came c.in_ok-read_section.ensures.section.0 in
     let go = reading_on (judge (by_state set names)) in
     let v = ask set names (state_of set old (Free first after)) (head_unit head) (head_long head) in
     heard_as (λ more. Unit {0}) (g.S.Source.given c.args.source.now) (g.S.Source.given c.read_section.new.source)
@@ -221,3 +236,39 @@ returns-clause-heard g c = λ names first after.
     (section_reads set names old first after head k c.args.at c.args.cursor.now c.read_section.new.cursor (untyped c.index_mut-image.result.now) (untyped c.read_section.new.image) c.begin.new.staged.tail now final
     before left (Ok c.in_ok-read_section.field-0) c.requires.whole.came new.0 is (ap untyped image) c.begin.ensures.tail last r))
     (c.in_ok-read_section.ensures.heard names (begun set names old first after k) (omega (arith, room, length-map old.images.items untyped)))
+
+pub returns-in_err-read_section-clause-whole : goal.returns-in_err-read_section-clause-whole
+returns-in_err-read_section-clause-whole g c =
+    let set = described c.args.set.now in
+    let head = c.args.head.now in
+    let k = c.in_ok-device.device in
+    let old = c.args.staged.now in
+    let is = sym (c.in_ok-device.was) ∙ c.open_section.ensures.opened ∙ ap (λ (came : List Bool). opened_at c.args.at (section_opened set came head.name.items head.instance head.version)) c.deref.ensures.0 in
+    let new = section_new set old.came.items head.name.items head.instance head.version k c.args.at c.requires.whole.came is in
+    let began = begun_here set c.begin.new.staged.images.items old.images.items k head.version c.begin.ensures.images (c.requires.whole.fresh k new.1) in
+    let shaped = subst (AreShaped set) (sym began) (shaped_put set old.images.items k (begun_at set k head.version) c.requires.whole.images new.0 (default_shaped set k head.version)) in
+    record {
+      images = shaped_put set c.begin.new.staged.images.items k c.read_section.new.image shaped new.0 c.read_section.ensures.shaped;
+      came = search rules;
+      machine = search rules;
+      fresh = still_fresh set old.images.items c.begin.new.staged.images.items old.came.items c.begin.new.staged.came.items k (begun_at set k head.version) c.read_section.new.image
+          (omega (arith, c.requires.whole.came, new.0)) c.begin.ensures.came began c.requires.whole.fresh;
+    }
+
+pub returns-clause-whole : goal.returns-clause-whole
+returns-clause-whole g c =
+    let set = described c.args.set.now in
+    let head = c.args.head.now in
+    let k = c.in_ok-device.device in
+    let old = c.args.staged.now in
+    let is = sym (c.in_ok-device.was) ∙ c.open_section.ensures.opened ∙ ap (λ (came : List Bool). opened_at c.args.at (section_opened set came head.name.items head.instance head.version)) c.deref.ensures.0 in
+    let new = section_new set old.came.items head.name.items head.instance head.version k c.args.at c.requires.whole.came is in
+    let began = begun_here set c.begin.new.staged.images.items old.images.items k head.version c.begin.ensures.images (c.requires.whole.fresh k new.1) in
+    let shaped = subst (AreShaped set) (sym began) (shaped_put set old.images.items k (begun_at set k head.version) c.requires.whole.images new.0 (default_shaped set k head.version)) in
+    record {
+      images = shaped_put set c.begin.new.staged.images.items k c.read_section.new.image shaped new.0 c.read_section.ensures.shaped;
+      came = search rules;
+      machine = search rules;
+      fresh = still_fresh set old.images.items c.begin.new.staged.images.items old.came.items c.begin.new.staged.came.items k (begun_at set k head.version) c.read_section.new.image
+          (omega (arith, c.requires.whole.came, new.0)) c.begin.ensures.came began c.requires.whole.fresh;
+    }
