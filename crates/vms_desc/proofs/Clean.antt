@@ -10,9 +10,11 @@ use Rattle.vms_spec.specs.declared.Part.TheVariants as parts
 use Rattle.vms_spec.specs.Lists.{every, or_else, first_answer}
 use Rattle.vms_spec.specs.Sets.{Formula, AtLeast, Field, Desc, Set}
 use Rattle.vms_spec.specs.Layout.{capacity_of, no_desc, no_field}
+use Rattle.vms_spec.specs.Names.{is_name, is_name_byte}
 use Rattle.vms_spec.specs.Rules.{is_steady_in, names_well, nobody, test_names_well, count_names_well, uses_below, has_good_count, field_rules, validation_rules}
 use Rattle.vms_spec.specs.WellFormed.{failing, has_few, here, in_field, fields_fault, validations_fault, struct_rules, struct_fault, sub_rules, sub_fault, device_rules, device_fault, set_rules, size_rules, desc_fault, first_fault}
 use Rattle.vms_parts.specs.Devices.{device_at}
+use Rattle.vms_rules.proofs.SetLaws.{few_parts}
 use Rattle.vms_desc.specs.Formed.{is_well_formed}
 use Rattle.vms_desc.specs.Parts.{HasPart, desc_at, sub_at}
 use Rattle.vms_desc.proofs.Bounds.{AllTrue, all_true, or_else_none, none_is}
@@ -35,6 +37,7 @@ pub record IsCleanField (k : ℕ) (d : Desc) (i : ℕ) (f : Field) : Type 0 wher
   pub count : count_names_well d i f.count ≡ true
   pub uses : uses_below k f.item ≡ true
   pub some : 1 ≤ capacity_of f.count
+  pub name : length f.name ≤ 32
 
 pub record IsClean (k : ℕ) (d : Desc) (rules : List Bool) : Type 0 where
   pub own : AllTrue rules
@@ -56,11 +59,23 @@ both_parts : (test count : Bool) → test && count ≡ true → (test ≡ true) 
 both_parts true count e = (refl, e)
 both_parts false count e = cc
 
+short_name : (most : ℕ) (name : List ℕ) (others : Bool) → is_name most name && others ≡ true → length name ≤ most
+short_name most name others e =
+    let rules = (both_parts (is_name most name) others e).0 in
+    let long = (both_parts (nat_le 1 (length name) && nat_le (length name) most) (every is_name_byte name) rules).0 in
+    leb-true (length name) most (both_parts (nat_le 1 (length name)) (nat_le (length name) most) long).1
+
 clean_field : (k : ℕ) (d : Desc) (part : Part) (i : ℕ) (f : Field) → failing 1 (field_rules k d i f) (in_field part i) ≡ None → IsCleanField k d i f
 clean_field k d part i f e =
     let rules = all_true 1 (field_rules k d i f) (in_field part i) e in
     let names = both_parts (test_names_well d i f.test) (count_names_well d i f.count) rules.1.1.1.0 in
-    record { test = names.0; count = names.1; uses = rules.1.1.1.1.0; some = some_elements f.item f.count rules.1.1.1.1.1.1.1.0 }
+    record {
+      test = names.0;
+      count = names.1;
+      uses = rules.1.1.1.1.0;
+      some = some_elements f.item f.count rules.1.1.1.1.1.1.1.0;
+      name = short_name 32 f.name (every (is_name 32) f.former) rules.0;
+    }
 
 clean_validations : (d : Desc) (part : Part) (i : ℕ) (ts : List Formula) → first_answer (λ i t. failing 1 (validation_rules d t) (here part)) i ts ≡ None → every (names_well (is_steady_in d) nobody) ts ≡ true
 clean_validations d part i [] e = refl
@@ -105,6 +120,13 @@ module _ (set : Set) (well : is_well_formed set ≡ true) where
       let a = or_else_none (failing 1 (set_rules set) (here parts.Set)) (or_else (first_answer (struct_fault set.structs) 0 set.structs) devices) (none_is (first_fault set) well) in
       let b = or_else_none (first_answer (struct_fault set.structs) 0 set.structs) devices a.1 in
       (b.0, (or_else_none (first_answer (device_fault set) 0 set.devices) last b.1).0)
+
+  pub few_structs : length set.structs ≤ 64
+  unfolding first_fault
+  few_structs =
+      let devices = or_else (first_answer (device_fault set) 0 set.devices) (failing 1 (size_rules set) (here parts.Set)) in
+      (few_parts set (here parts.Set)
+      (or_else_none (failing 1 (set_rules set) (here parts.Set)) (or_else (first_answer (struct_fault set.structs) 0 set.structs) devices) (none_is (first_fault set) well)).0).0
 
   device_faults : (i : ℕ) → i < length set.devices
       → (desc_fault (length set.structs) (device_at set i).desc (parts.Device i) (device_rules set i (device_at set i)) ≡ None) × (first_answer (sub_fault (length set.structs) i (device_at set i)) 0 (device_at set i).subs ≡ None)

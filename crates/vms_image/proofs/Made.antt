@@ -8,7 +8,7 @@ use Rattle.vms_kinds.specs.Codes.{InRange}
 use Rattle.vms_spec.specs.Sets as sets
 use Rattle.vms_spec.specs.Heads.{FitsHeads}
 use Rattle.vms_spec.specs.Lists.{at}
-use Rattle.vms_spec.specs.Layout.{Cell, no_cell, device_cells}
+use Rattle.vms_spec.specs.Layout.{no_cell, device_cells}
 use Rattle.vms_spec.specs.WellFormed.{first_fault}
 use Rattle.vms_laws.specs.Good.{DefaultsFit}
 use Rattle.vms_laws.proofs.WellFormedLaws.{well_good}

@@ -1,7 +1,6 @@
 -- The states of images, one after the other.
-use Rattle.std.proofs.Common.{◌≡◌, ℕ, zero, suc, ◌<◌, List, [], ◌∷◌, Some, length, get_or, map, refl, sym, ap, ◌∙◌, arith}
+use Rattle.std.proofs.Common.{◌≡◌, ℕ, zero, suc, ◌<◌, List, [], ◌∷◌, Some, length, get_or, map, sym, ap, ◌∙◌, arith}
 use Rattle.std.proofs.lemmas.List.{length-map, get_or-map}
-use Rattle.vms_spec.specs.Images.{Image}
 use Rattle.vms_spec.specs.Lists.{at}
 use Rattle.vms_image.specs.Typed.{Typed, state_of}
 

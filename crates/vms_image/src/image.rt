@@ -65,6 +65,7 @@ impl Image {
     {
         self.version = set.device(device).desc.version;
         clear(&mut self.came);
+        self.cells.clear();
         put_defaults(&mut self.cells, set.cell_forms(device));
     }
 
@@ -193,10 +194,10 @@ fn clear(came: &mut Vec<Option<u32>>)
     }
 }
 
-// Each cell holds its default.
+// Each cell, which is 0, gets its default.
 fn put_defaults(cells: &mut Buffer, forms: &[CellForm])
     requires few { length forms.now ≤ 16384 }
-    requires long { length cells.old.numbers ≡ length forms.now }
+    requires zero { cells.old.numbers ≡ replicate (length forms.now) (pos 0) }
     requires kinds { cells.old.kinds ≡ map (λ form. form.kind) forms.now }
     requires range { (k : ℕ) → k < length forms.now
         → InRange (get_or (map (λ form. form.kind) forms.now) k U8)
@@ -204,6 +205,20 @@ fn put_defaults(cells: &mut Buffer, forms: &[CellForm])
     ensures { cells.new ≡ record cells.old { numbers = map (λ form. form.default) forms.now } }
 {
     for (cell, form) in forms.iter().enumerate() {
-        cells.set(cell as u32, form.default);
+        put_default(cells, cell as u32, form.default);
+    }
+}
+
+// A cell, which is 0, gets its default.
+fn put_default(cells: &mut Buffer, cell: u32, default: i128)
+    requires cell { cell < length cells.old.numbers }
+    requires zero { get_or cells.old.numbers cell (pos 0) ≡ pos 0 }
+    requires range { InRange (get_or cells.old.kinds cell U8) default }
+    ensures { cells.new ≡ record cells.old {
+      numbers = slice_set cells.old.numbers cell default;
+    } }
+{
+    if default != 0 {
+        cells.set(cell, default);
     }
 }

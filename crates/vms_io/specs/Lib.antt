@@ -1,5 +1,6 @@
 pub mod Cabinets
 pub mod Causes
+pub mod Gathered
 pub mod Memory
 pub mod Shelves
 pub mod Supplies

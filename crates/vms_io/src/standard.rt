@@ -1,22 +1,30 @@
 // The outside over a reader and a writer of std, with a count of their errors.
-ghost use Rattle.std.specs.Prelude.{◌≡◌, ◌+◌, ◌-◌, ◌^◌, ◌<◌, ℕ, min, None, Some, false};
+ghost use Rattle.std.specs.Prelude.{◌≡◌, ◌+◌, ◌-◌, ◌^◌, ◌<◌, ◌≤◌, ℕ, min, None, Some, false, OnOk, IsErr};
 ghost use Rattle.std.proofs.Common.{arith};
+ghost use Rattle.std.specs.Io.KnownBytes.{Keeps};
 ghost use Rattle.vms_io.specs.Causes.{HasCause};
 
 use crate::{Failed, Sink, Source};
-use std::io::{Read, Write};
+use std::io::{ErrorKind, Read, Write};
 
-/// The most bytes that are asked of a reader at once.
-const STAGE: usize = 4096;
+/// So many bytes are asked of a reader at once.
+const STAGE: usize = 8192;
+
+/// So many bytes are gathered for a writer.
+const GATHER: usize = 8192;
 
 /// The bytes of a reader, as a file or a terminal. It tells of them nothing.
 #[derive(Drop)]
 pub struct StdSource<R: Read + Drop> {
     reader: R,
-    // Where the reader puts bytes. A caller's buffer gets those alone that came.
+    // What the reader gave and a caller didn't get yet stands here, between two places.
     staged: [u8; STAGE],
+    begin: usize,
+    end: usize,
     given: u64,
     faults: u64,
+    ghost order: { begin ≤ end },
+    ghost within: { end ≤ 8192 },
 }
 
 impl<R: Read + Drop> StdSource<R> {
@@ -28,6 +36,8 @@ impl<R: Read + Drop> StdSource<R> {
         StdSource {
             reader,
             staged: [0; STAGE],
+            begin: 0,
+            end: 0,
             given: 0,
             faults: 0,
         }
@@ -50,36 +60,56 @@ impl<R: Read + Drop> Source for StdSource<R> {
     ghost octets = { λ s. tt };
 
     fn read(&mut self, buf: &mut [u8]) -> Result<usize, Failed> {
-        let room = buf.len().min(STAGE);
-        let staged = &mut self.staged[..];
-        match self.reader.read(&mut staged[..room]) {
-            Ok(count) => {
-                buf[..count].copy_from_slice(&staged[..count]);
-                self.given = self.given.saturating_add(count as u64);
-                Ok(count)
-            }
-            Err(_) => {
-                self.faults = self.faults.saturating_add(1);
-                Err(Failed)
+        if self.begin == self.end {
+            match self.reader.read(&mut self.staged[..]) {
+                Ok(count) => {
+                    self.begin = 0;
+                    self.end = count;
+                }
+                Err(_) => {
+                    self.faults = self.faults.saturating_add(1);
+                    return Err(Failed);
+                }
             }
         }
+        let count = buf.len().min(self.end - self.begin);
+        let staged = &self.staged[..];
+        buf[..count].copy_from_slice(&staged[self.begin..self.begin + count]);
+        self.begin += count;
+        self.given = self.given.saturating_add(count as u64);
+        Ok(count)
     }
 }
 
-/// A writer, as a file or a terminal. It tells what the writer tells.
+/// A writer, as a file or a terminal, which gets bytes as so many are gathered, and at a flush. It tells what the
+/// writer tells and what is gathered.
 #[derive(Drop)]
 pub struct StdSink<W: Write + Drop> {
     writer: W,
+    // What the writer is still to get stands here, between two places.
+    gathered: [u8; GATHER],
+    begin: usize,
+    end: usize,
     faults: u64,
+    ghost order: { begin ≤ end },
+    ghost within: { end ≤ 8192 },
 }
 
 impl<W: Write + Drop> StdSink<W> {
+    ghost use Rattle.vms_io.specs.Gathered.{told, between};
+
     /// The sink over this writer, without a fault so far.
     pub fn new(writer: W) -> Self
         ensures faults { ⟦<StdSink<W> as Sink>⟧.faults result ≡ 0 }
         ensures written { ⟦<StdSink<W> as Sink>⟧.written result ≡ W.contents writer }
     {
-        StdSink { writer, faults: 0 }
+        StdSink {
+            writer,
+            gathered: [0; GATHER],
+            begin: 0,
+            end: 0,
+            faults: 0,
+        }
     }
 
     /// Hands on what the writer holds back.
@@ -87,18 +117,43 @@ impl<W: Write + Drop> StdSink<W> {
         ensures { HasCause (⟦<StdSink<W> as Sink>⟧.faults self.old)
             (⟦<StdSink<W> as Sink>⟧.faults self.new) result }
     {
+        self.hand_on()?;
         match self.writer.flush() {
             Ok(()) => Ok(()),
-            Err(_) => {
-                self.faults = self.faults.saturating_add(1);
-                Err(Failed)
+            Err(_) => failed(&mut self.faults),
+        }
+    }
+
+    // Hands on all that is gathered. What a failure leaves stays.
+    fn hand_on(&mut self) -> Result<(), Failed>
+        ensures bytes { Keeps (told (W.contents self.old.writer)
+            (between self.old.gathered self.old.begin self.old.end))
+            (told (W.contents self.new.writer)
+            (between self.new.gathered self.new.begin self.new.end)) }
+        ensures empty { OnOk result (self.new.end ≡ 0) }
+        ensures cause { HasCause self.old.faults self.new.faults result }
+    {
+        for _ in 0..u64::MAX {
+            if self.begin == self.end {
+                self.begin = 0;
+                self.end = 0;
+                return Ok(());
+            }
+            let gathered = &self.gathered[..];
+            match self.writer.write(&gathered[self.begin..self.end]) {
+                Ok(count) if count > 0 => self.begin += count,
+                Err(error) if error.kind() == ErrorKind::Interrupted => {}
+                _ => break,
             }
         }
+        failed(&mut self.faults)
     }
 }
 
 impl<W: Write + Drop> Sink for StdSink<W> {
-    ghost written = { λ s. W.contents s.writer };
+    ghost use Rattle.vms_io.specs.Gathered.{told, between};
+
+    ghost written = { λ s. told (W.contents s.writer) (between s.gathered s.begin s.end) };
 
     ghost faults = { λ s. s.faults };
 
@@ -107,12 +162,23 @@ impl<W: Write + Drop> Sink for StdSink<W> {
     ghost promised = { λ s. tt };
 
     fn write(&mut self, piece: &[u8]) -> Result<usize, Failed> {
-        match self.writer.write(piece) {
-            Ok(count) if count > 0 || piece.is_empty() => Ok(count),
-            _ => {
-                self.faults = self.faults.saturating_add(1);
-                Err(Failed)
-            }
+        if self.end == GATHER {
+            self.hand_on()?;
         }
+        let count = piece.len().min(GATHER - self.end);
+        let end = self.end + count;
+        let gathered = &mut self.gathered[..];
+        gathered[self.end..end].copy_from_slice(&piece[..count]);
+        self.end = end;
+        Ok(count)
     }
+}
+
+// Counts a failure.
+fn failed(faults: &mut u64) -> Result<(), Failed>
+    ensures cause { HasCause faults.old faults.new result }
+    ensures error { IsErr result }
+{
+    *faults = faults.saturating_add(1);
+    Err(Failed)
 }

@@ -1,14 +1,14 @@
 -- What a buffer holds, and what stays when a number is put into it.
-use Rattle.std.proofs.Common.{◌≡◌, ℕ, zero, suc, ◌+◌, ◌-◌, ◌*◌, ◌<◌, ◌≤◌, List, [], ◌∷◌, ◌++◌, length, get_or, take, drop, map, replicate, set, slice_index, ℤ, pos, negsuc, refl, sym, ap, ◌∙◌, subst, arith, length-append}
+use Rattle.std.proofs.Common.{◌≡◌, ℕ, ◌+◌, ◌-◌, ◌<◌, ◌≤◌, List, [], ◌∷◌, ◌++◌, length, get_or, take, drop, map, replicate, set, ℤ, pos, negsuc, sym, ap, ◌∙◌, subst, arith, length-append}
 use Rattle.std.proofs.lemmas.Int.{ints}
 use Rattle.std.proofs.lemmas.List.{length-replicate, get_or_read, length-map, get_or-map, get_or-replicate, replicate-append-replicate}
 use Rattle.vms_kinds.specs.declared.Kind.{Kind}
 use Rattle.vms_kinds.specs.declared.Kind.TheVariants.{U8, U16, U32, U64, I8, I16, I32, I64, Bool, Timer}
-use Rattle.vms_kinds.specs.Codes.{width, code, value_of, InRange, IsBadBool}
+use Rattle.vms_kinds.specs.Codes.{width, code, InRange, IsBadBool}
 use Rattle.vms_spec.proofs.KindLaws.{length-code}
 use Rattle.vms_spots.specs.declared.layout.Spot.{Spot}
-use Rattle.vms_spots.specs.Spots.{aligned, spots_from, spots_of, end_from, bytes_of, no_spot, kinds_of, raw_from, raw_of, AreOf, number_at, Held, held, IsHeld}
-use Rattle.vms_spots.proofs.SpotLaws.{aligned_is, spot_is, code_at, number_is, numbers_are, set_fits, set_raw, code_0, range_0, end_after}
+use Rattle.vms_spots.specs.Spots.{aligned, spots_of, end_from, bytes_of, no_spot, kinds_of, raw_from, raw_of, AreOf, number_at, Held, held, IsHeld}
+use Rattle.vms_spots.proofs.SpotLaws.{aligned_is, spot_is, code_at, numbers_are, set_fits, set_raw, code_0, range_0, end_after}
 use Rattle.vms_spots.proofs.LayoutLaws.{few_bytes}
 
 -- as many bytes as the spots want
@@ -191,3 +191,16 @@ starts spots bytes n few laid size e =
     subst (λ (m : ℕ). Holds spots (replicate m (pos 0)) bytes) long
     (holds spots (replicate (length kinds) (pos 0)) bytes few laid (zeros_fit kinds)
     (e ∙ ap (λ (m : ℕ). replicate m 0) (size ∙ sym all) ∙ sym (zeros 0 kinds)))
+
+-- 0 in each place holds 0 at each spot
+pub clears : (spots : List Spot) (bytes new : List ℕ) (seen : Held) → held spots bytes ≡ seen → IsHeld spots bytes → new ≡ replicate (length bytes) 0
+    → IsHeld spots new × (held spots new ≡ record seen { numbers = replicate (length seen.numbers) (pos 0) })
+clears spots bytes new seen same h e =
+    let kinds = kinds_of spots in
+    let numbers = map (number_at bytes) spots in
+    let size : length bytes ≡ bytes_of kinds = omega (arith, ap length h.raw, raw_long 0 kinds numbers h.fit.long) in
+    let r = starts spots new (length bytes) h.few h.laid size e in
+    let seen_is : held spots new ≡ record seen { numbers = replicate (length seen.numbers) (pos 0) } =
+    r.seen ∙ ap (λ (n : ℕ). let y : Held = record { kinds = kinds; numbers = replicate n (pos 0) } in y) (sym (length-map spots (number_at bytes)))
+    ∙ ap (λ (x : Held). let y : Held = record x { numbers = replicate (length x.numbers) (pos 0) } in y) same in
+    (r.held_is, seen_is)

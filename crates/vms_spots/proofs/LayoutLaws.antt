@@ -1,5 +1,5 @@
 -- Spots that are laid out one after the other.
-use Rattle.std.proofs.Common.{◌≡◌, Option, Some, ℕ, zero, suc, ◌+◌, ◌-◌, ◌*◌, ◌<◌, ◌≤◌, List, [], ◌∷◌, ◌++◌, length, get_or, drop, map, refl, sym, ap, ◌∙◌, arith, append_assoc, append-nil}
+use Rattle.std.proofs.Common.{◌≡◌, Some, ℕ, suc, ◌+◌, ◌-◌, ◌*◌, ◌<◌, ◌≤◌, List, [], ◌∷◌, ◌++◌, length, get_or, drop, map, refl, sym, ap, ◌∙◌, arith, append_assoc, append-nil}
 use Rattle.std.proofs.lemmas.List.{drop_all, drop_more, length-map}
 use Rattle.std.proofs.lemmas.Option.{slice_get_within, get_or_from_slice_get}
 use Rattle.std.specs.List.{slice_get}
@@ -7,8 +7,8 @@ use Rattle.vms_kinds.specs.declared.Kind.{Kind}
 use Rattle.vms_kinds.specs.Codes.{width}
 use Rattle.vms_parts.specs.declared.types.CellForm.{CellForm}
 use Rattle.vms_spots.specs.declared.layout.Spot.{Spot}
-use Rattle.vms_spots.specs.Spots.{aligned, spots_from, spots_of, end_from, bytes_of, no_spot, kinds_of}
-use Rattle.vms_spots.proofs.SpotLaws.{aligned_is, spots_long, last_end, spot_is, end_small}
+use Rattle.vms_spots.specs.Spots.{aligned, spots_from, spots_of, bytes_of, no_spot, kinds_of}
+use Rattle.vms_spots.proofs.SpotLaws.{aligned_is, last_end, end_small}
 
 abbrev pub kinds_in : List CellForm → List Kind
 kinds_in forms = map (λ form. form.kind) forms

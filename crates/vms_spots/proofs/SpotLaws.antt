@@ -1,14 +1,14 @@
 -- The spots of kinds: each at a multiple of its width, inside the buffer, apart from the others; and what stands there.
-use Rattle.std.proofs.Common.{◌≡◌, ◌⊎◌, inl, inr, ℕ, zero, suc, ◌+◌, ◌-◌, ◌*◌, ◌/◌, ◌%◌, ◌<◌, ◌≤◌, List, [], ◌∷◌, ◌++◌, length, get_or, take, drop, map, replicate, set, ℤ, pos, negsuc, refl, sym, ap, ◌∙◌, subst, arith, append_assoc, length-append}
+use Rattle.std.proofs.Common.{◌≡◌, ◌⊎◌, inl, inr, ℕ, zero, suc, ◌+◌, ◌-◌, ◌*◌, ◌%◌, ◌<◌, ◌≤◌, List, [], ◌∷◌, ◌++◌, length, get_or, take, drop, map, replicate, set, ℤ, pos, refl, sym, ap, ◌∙◌, subst, arith, append_assoc, length-append}
 use Rattle.std.proofs.lemmas.Int.{ints}
-use Rattle.std.proofs.lemmas.List.{length-replicate, length-map, length-set, drop_at, take_at, get_or-map, set-get_or, ext_get_or, get_or-set_same, get_or-set_other, get_or-replicate}
+use Rattle.std.proofs.lemmas.List.{length-replicate, length-map, length-set, drop_at, take_at, get_or-map, set-get_or, ext_get_or, get_or-set_same, get_or-set_other}
 use Rattle.std.proofs.lemmas.Bool.{cases_eq}
 use Rattle.vms_kinds.specs.declared.Kind.{Kind}
 use Rattle.vms_kinds.specs.declared.Kind.TheVariants.{U8, U16, U32, U64, I8, I16, I32, I64, Bool, Timer}
-use Rattle.vms_kinds.specs.Codes.{width, code, value_of, InRange, IsBadBool}
+use Rattle.vms_kinds.specs.Codes.{width, code, value_of, InRange}
 use Rattle.vms_spec.proofs.KindLaws.{length-code, value_code}
 use Rattle.vms_spots.specs.declared.layout.Spot.{Spot}
-use Rattle.vms_spots.specs.Spots.{aligned, spots_from, spots_of, end_from, bytes_of, no_spot, kinds_of, raw_from, raw_of, AreOf, number_at, AreApart}
+use Rattle.vms_spots.specs.Spots.{aligned, spots_from, spots_of, end_from, no_spot, kinds_of, raw_from, raw_of, AreOf, number_at, AreApart}
 
 -- ---- the least multiple
 

@@ -1,7 +1,7 @@
 -- Spots and bytes, written down by hand.
 use Rattle.std.proofs.Common.{◌≡◌, ℕ, List, [], ◌∷◌, map, pos, refl}
 use Rattle.vms_kinds.specs.declared.Kind.{Kind}
-use Rattle.vms_kinds.specs.declared.Kind.TheVariants.{U8, U16, U32, U64, Bool, Timer}
+use Rattle.vms_kinds.specs.declared.Kind.TheVariants.{U8, U16}
 use Rattle.vms_kinds.specs.Codes.{code}
 use Rattle.vms_spots.specs.Spots.{spots_of, bytes_of, raw_of}
 

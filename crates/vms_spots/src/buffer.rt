@@ -43,6 +43,15 @@ impl Buffer {
         })
     }
 
+    /// Puts 0 into each cell.
+    pub fn clear(&mut self)
+        ensures { self.new ≡ record self.old {
+          numbers = replicate (length self.old.numbers) (pos 0);
+        } }
+    {
+        self.bytes.fill(0);
+    }
+
     /// How many numbers it has.
     pub fn len(&self) -> u32
         ensures { result ≡ length self.now.numbers }

@@ -21,3 +21,4 @@ pub mod Gathering
 pub mod WholeText
 pub mod KindsAt
 mod TextRead
+pub mod Fronts

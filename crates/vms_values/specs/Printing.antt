@@ -1,5 +1,5 @@
 -- What is printed, and of which images.
-use Rattle.std.specs.Prelude.{◌≡◌, ℕ, ◌+◌, ◌*◌, ◌<◌, ◌≤◌, ◌^◌, true, map, List, [], ◌∷◌, ◌++◌, length, get_or, Option, ℤ, codes}
+use Rattle.std.specs.Prelude.{◌≡◌, ℕ, ◌+◌, ◌*◌, ◌<◌, ◌≤◌, ◌^◌, true, map, List, [], ◌∷◌, ◌++◌, length, get_or, take, Option, ℤ, codes}
 use Rattle.std.specs.Option.{option_map}
 use Rattle.std.specs.Fmt.{decimal}
 use Rattle.vms_spec.specs.declared.Count.{Count}
@@ -7,6 +7,9 @@ use Rattle.vms_spec.specs.declared.Count.TheVariants.{One}
 use Rattle.vms_spec.specs.Sets.{Field, Device, Set}
 use Rattle.vms_spec.specs.Layout.{device_cells, item_size}
 use Rattle.vms_spec.specs.Rules.{uses_below}
+use Rattle.vms_kinds.specs.declared.Item.{Item}
+use Rattle.vms_kinds.specs.declared.Item.TheVariants.{Struct}
+use Rattle.vms_spec.specs.declared.Part.{Part}
 use Rattle.vms_spec.specs.declared.Part.TheVariants as parts
 use Rattle.vms_desc.specs.Asks.{first_cell}
 use Rattle.vms_desc.specs.Described.{device_at}
@@ -39,6 +42,24 @@ pub record IsRun (set : Set) (f : Field) (first count : ℕ) (numbers : List ℤ
   pub room : first + count * size_in set f.item ≤ length numbers
   pub single : f.count ≡ One → count ≡ 1
   pub few : length numbers ≤ 16384
+
+-- ---- how long lines grow
+
+-- so many bytes at most come behind the path of an item, besides 54 of its own: 128 for each structure that it may go into
+abbrev pub below : Item → ℕ
+below (Struct j) = 128 * (j + 1)
+below item = 0
+
+-- so many come behind the path of a part's fields
+abbrev pub below_part : Set → Part → ℕ
+below_part set (parts.Struct j) = 128 * (j + 1)
+below_part set part = 128 * (length set.structs + 1)
+
+-- a line still begins with another
+abbrev pub Stays : List ℕ → List ℕ → Type 0
+Stays front line = take (length front) line ≡ front
+
+-- ---- lines
 
 -- the lines of so many elements of a field, under the path before it
 abbrev pub run_lines : List Printer → Field → Count → ℕ → List ℕ → List ℤ → ℕ → List ℕ

@@ -5,6 +5,7 @@ mod cursor;
 mod devices;
 mod fault;
 mod judge;
+mod line;
 mod lines;
 mod machine;
 mod name;

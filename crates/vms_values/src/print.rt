@@ -11,8 +11,7 @@ ghost use Rattle.vms_values.specs.Written.{Writes};
 ghost use Rattle.vms_values.specs.Printing.{AreOf, IsOf, machine_of, section_text, sub_text, whole_sub};
 
 use crate::lines::write_pieces;
-use crate::path::Path;
-use crate::shown::{Shown, print_part};
+use crate::shown::{Shown, print_lines};
 use itoa::Buffer;
 use vms_desc::{DescSet, Device, Part, Parts};
 use vms_image::Image;
@@ -112,7 +111,7 @@ fn print_device<K: Sink>(shown: Shown, device: u32, sink: &mut K) -> Result<(), 
         version,
         base: 0,
     };
-    print_part(shown, own, &Path::Top, sink)?;
+    print_lines(shown, own, sink)?;
     print_subs(shown, device, sink)
 }
 
@@ -173,7 +172,7 @@ fn print_sub<K: Sink>(shown: Shown, device: u32, sub: u32, sink: &mut K) -> Resu
         version: desc.version,
         base: shown.set.first_cell(part),
     };
-    print_part(shown, spot, &Path::Top, sink)
+    print_lines(shown, spot, sink)
 }
 
 // The line of a subsection: the version at which it came, or a dash.

@@ -5,7 +5,7 @@ ghost use Rattle.std.specs.Prelude.{◌≡◌, if◌then◌else◌};
 
 use std::alloc::Global;
 use std::env;
-use std::io::{BufReader, BufWriter, ErrorKind};
+use std::io::ErrorKind;
 use std::process::ExitCode;
 use vms_cli::{Words, vmstate};
 use vms_io::{FileShelf, NoMemory, Sink, StdSink, StdSource, write_all_of};
@@ -19,21 +19,17 @@ fn main(rt: HostRuntime) -> ExitCode {
     let Ok(words) = words(&rt, alloc) else {
         return ExitCode::from(OUT_OF_MEMORY);
     };
-    let Ok(reader) = BufReader::new(alloc, rt.stdin()) else {
-        return ExitCode::from(OUT_OF_MEMORY);
-    };
-    let Ok(writer) = BufWriter::new(alloc, rt.stdout()) else {
-        return ExitCode::from(OUT_OF_MEMORY);
-    };
     let Ok(mut shelf) = shelf(&rt, alloc) else {
         return ExitCode::from(OUT_OF_MEMORY);
     };
-    let mut input = StdSource::new(reader);
-    let mut out = StdSink::new(writer);
+    let mut input = StdSource::new(rt.stdin());
+    let mut out = StdSink::new(rt.stdout());
     let mut notes = StdSink::new(rt.stderr());
     let status = vmstate(alloc, &words, &mut input, &mut out, &mut notes, &mut shelf);
     let flushed = out.flush().is_ok();
-    ExitCode::from(late_status(status, flushed, &mut notes))
+    let status = late_status(status, flushed, &mut notes);
+    let _told = notes.flush();
+    ExitCode::from(status)
 }
 
 // The words after the program's name; one empty word where one of them isn't UTF-8.

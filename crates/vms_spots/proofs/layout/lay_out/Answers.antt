@@ -1,4 +1,4 @@
-use Rattle.std.proofs.Common.{◌≡◌, [], subst, sym, List}
+use Rattle.std.proofs.Common.{subst, sym, List}
 use Rattle.vms_spots.specs.declared.layout.Spot.{Spot}
 use Rattle.vms_spots.proofs.LayoutLaws.{LaidOut, kinds_in, begins, goes, ends}
 use Rattle.vms_spots.proofs.SpotLaws.{are_apart}

@@ -30,13 +30,13 @@ returns-in_err-print_section-clause-written g c =
     rw p.1 (subst (AppendsPrefix old new) (device_is set d image)
     (prefix_front old new (section_text d image.version ++ own) subs (prefix_front old new (section_text d image.version) own (subst (AppendsPrefix old new) line c.in_err-print_section.ensures.written))))
 
-pub print_part-requires : goal.print_part-requires
-print_part-requires g c =
+pub print_lines-requires : goal.print_lines-requires
+print_lines-requires g c =
     let set = described c.args.shown.set.now in
     record { spot = own_spot set c.args.shown.set.now.well_formed c.args.device (state_of c.args.shown.image.now) c.requires.of c.version-version.result c.requires.is_device }
 
-pub returns-in_err-print_part-clause-written : goal.returns-in_err-print_part-clause-written
-returns-in_err-print_part-clause-written g c =
+pub returns-in_err-print_lines-clause-written : goal.returns-in_err-print_lines-clause-written
+returns-in_err-print_lines-clause-written g c =
     let set = described c.args.shown.set.now in
     let image = state_of c.args.shown.image.now in
     let d = device_at set c.args.device in
@@ -46,11 +46,11 @@ returns-in_err-print_part-clause-written g c =
     let subs = sub_lines set image.numbers (own_cells set d) d.subs image.came in
     let old = g.K.Sink.written c.args.sink.now in
     let mid = g.K.Sink.written c.print_section.new.sink in
-    let new = g.K.Sink.written c.print_part.new.sink in
-    let p = err_from_is_err_and c.from_residual-in_err-print_part.result c.from_residual-in_err-print_part.ensures.1 in
+    let new = g.K.Sink.written c.print_lines.new.sink in
+    let p = err_from_is_err_and c.from_residual-in_err-print_lines.result c.from_residual-in_err-print_lines.ensures.1 in
     rw p.1 (subst (AppendsPrefix old new) (device_is set d image)
     (prefix_front old new (section_text d image.version ++ own) subs
-    (prefix_more old mid new (section_text d image.version) own (subst (Appends old mid) line c.in_ok-print_section.ensures.written) c.in_err-print_part.ensures.written)))
+    (prefix_more old mid new (section_text d image.version) own (subst (Appends old mid) line c.in_ok-print_section.ensures.written) c.in_err-print_lines.ensures.written)))
 
 pub returns-clause-written : goal.returns-clause-written
 returns-clause-written g c =
@@ -63,8 +63,8 @@ returns-clause-written g c =
     let subs = sub_lines set image.numbers (own_cells set d) d.subs image.came in
     let old = g.K.Sink.written c.args.sink.now in
     let mid = g.K.Sink.written c.print_section.new.sink in
-    let last = g.K.Sink.written c.print_part.new.sink in
+    let last = g.K.Sink.written c.print_lines.new.sink in
     let new = g.K.Sink.written c.print_subs.new.sink in
     same_text old new ((section_text d image.version ++ own) ++ subs) (device_lines set d image) c.print_subs.result (device_is set d image)
     (writes_more old last new (section_text d image.version ++ own) subs c.print_subs.result
-    (Appends-trans old mid last (section_text d image.version) own (subst (Appends old mid) line c.in_ok-print_section.ensures.written) c.in_ok-print_part.ensures.written) c.print_subs.ensures.written)
+    (Appends-trans old mid last (section_text d image.version) own (subst (Appends old mid) line c.in_ok-print_section.ensures.written) c.in_ok-print_lines.ensures.written) c.print_subs.ensures.written)

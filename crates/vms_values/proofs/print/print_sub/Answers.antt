@@ -28,8 +28,8 @@ returns-in_err-print_sub_line-clause-written g c =
     rw p.1 (prefix_front old new (sub_text s.desc.name (get_or image.came c.args.sub None)) (desc_lines (printers set) s.desc [] image.numbers (first_cell set (parts.Sub c.args.device c.args.sub)))
     (subst (AppendsPrefix old new) line c.in_err-print_sub_line.ensures.written))
 
-pub print_part-requires : goal.print_part-requires
-print_part-requires g c =
+pub print_lines-requires : goal.print_lines-requires
+print_lines-requires g c =
     let set = described c.args.shown.set.now in
     record {
       spot = sub_spot set c.args.shown.set.now.well_formed c.args.device (state_of c.args.shown.image.now) c.requires.of c.desc-desc.result.now.version c.args.sub c.first_cell.result c.requires.is_device c.requires.is_sub c.first_cell.ensures;
@@ -45,7 +45,7 @@ returns-clause-written g c =
     let text = desc_lines (printers set) s.desc [] image.numbers (first_cell set (parts.Sub c.args.device c.args.sub)) in
     let old = g.K.Sink.written c.args.sink.now in
     let mid = g.K.Sink.written c.print_sub_line.new.sink in
-    let new = g.K.Sink.written c.print_part.new.sink in
-    writes_more old mid new (sub_text s.desc.name (get_or image.came c.args.sub None)) text c.print_part.result
+    let new = g.K.Sink.written c.print_lines.new.sink in
+    writes_more old mid new (sub_text s.desc.name (get_or image.came c.args.sub None)) text c.print_lines.result
     (subst (Appends old mid) line c.in_ok-print_sub_line.ensures.written)
-    (same_text mid new (desc_lines (printers set) s.desc [] image.numbers c.first_cell.result) text c.print_part.result (ap (desc_lines (printers set) s.desc [] image.numbers) c.first_cell.ensures) c.print_part.ensures.written)
+    (same_text mid new (desc_lines (printers set) s.desc [] image.numbers c.first_cell.result) text c.print_lines.result (ap (desc_lines (printers set) s.desc [] image.numbers) c.first_cell.ensures) c.print_lines.ensures.written)

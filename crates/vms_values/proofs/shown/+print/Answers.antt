@@ -1,10 +1,10 @@
-use Rattle.std.proofs.Common.{rules, arith, ◌≡◌, ◌+◌, ◌*◌, ◌-◌, ◌<◌, ◌≤◌, List, ◌++◌, ℕ, length, map, drop, codes, refl, sym, ap, ◌∙◌, subst}
+use Rattle.std.proofs.Common.{rules, arith, ◌≡◌, ◌+◌, ◌*◌, ◌-◌, ◌<◌, ◌≤◌, List, ◌++◌, ℕ, length, length-append, get_or, map, drop, codes, refl, sym, ap, ◌∙◌, subst}
 use Rattle.std.proofs.lemmas.Result.{err_from_is_err_and}
 use Rattle.std.proofs.lemmas.Bool.{ltb-true}
 use Rattle.vms_kinds.specs.declared.Item.{Item}
 use Rattle.vms_spec.specs.Sets.{Field, Desc}
-use Rattle.vms_spec.specs.Layout.{numbers_of, capacity_of, elements_of, item_size, struct_cells, cells_from}
-use Rattle.vms_spec.specs.Values.{printers, element_lines, item_lines, field_lines}
+use Rattle.vms_spec.specs.Layout.{no_desc, numbers_of, capacity_of, elements_of, item_size, struct_cells, cells_from}
+use Rattle.vms_spec.specs.Values.{printers, element_lines, item_lines, field_lines, desc_lines}
 use Rattle.std.specs.Fmt.{decimal}
 use Rattle.vms_parts.specs.Sizes.{in_u32}
 use Rattle.vms_parts.specs.Views.{field_of}
@@ -15,12 +15,12 @@ use Rattle.vms_desc.proofs.AskLaws.{found_field}
 use Rattle.vms_walk.specs.Steps.{size_in, table, cells_in}
 use Rattle.vms_walk.proofs.Spots.{size_code, width_code, struct_size, spot_room}
 use Rattle.vms_walk.proofs.Walking.{room_at}
-use Rattle.vms_values.specs.Paths.{path_text}
-use Rattle.vms_values.specs.Printing.{run_lines}
+use Rattle.vms_values.specs.Printing.{run_lines, below, Stays}
 use Rattle.vms_values.proofs.Printers.{cells_of, struct_lines}
 use Rattle.vms_values.proofs.PrintLemmas.{same_text}
 use Rattle.vms_values.proofs.Runs.{array_run, elements_left, no_elements, no_fields, next_run}
 use Rattle.vms_values.proofs.Writing.{owes_all, owes_from, owes_less, owes_still, owes_none}
+use Rattle.vms_values.proofs.Fronts.{stays, stays_is, stays_then, stays_element, cut_is, field_short}
 use Rattle.vms_values.proofs.shown.+print.Goals as goal
 
 -- ---- elements
@@ -30,7 +30,8 @@ print_elements-loop-index-init g t c =
     let set = described c.args.shown.set.now in
     let all : c.args.run.count - 0 ≡ c.args.run.count = omega arith in
     record {
-      owes = owes_from _ _ _ (ap (λ (k : ℕ). element_lines (printers set) c.args.item.now (path_text c.args.path.now) c.args.shown.image.now.numbers c.args.run.first (size_in set c.args.item.now) 0 k) (sym all));
+      owes = owes_from _ _ _ (ap (λ (k : ℕ). element_lines (printers set) c.args.item.now c.args.line.now c.args.shown.image.now.numbers c.args.run.first (size_in set c.args.item.now) 0 k) (sym all));
+      line = stays c.args.line.now;
       here = grind arith;
       later = omega arith;
       promise = refl;
@@ -40,16 +41,33 @@ pub print_elements-print_item-requires : goal.print_elements-print_item-requires
 print_elements-print_item-requires g t c =
     let set = described c.args.shown.set.now in
     let room = room_at c.loop-index.index c.args.run.count (size_in set c.args.item.now) c.args.run.first c.loop-index.cell (length c.args.shown.image.now.numbers) c.loop-index-test.true c.loop-index.invariant.here c.requires.room in
-    λ κs h. (search rules, (search rules, (c.requires.reaches, (room, c.requires.few))))
+    let kept = cut_is c.args.line.now c.loop-index.line c.cut.new.self c.len-kept.result c.cut.ensures c.len-kept.ensures c.loop-index.invariant.line in
+    let short : length c.push_index.new.self + 54 + below c.args.item.now ≤ 8320 = omega (arith, ap length kept, c.push_index.ensures.long, c.requires.short) in
+    λ κs h. (search rules, (search rules, (c.requires.reaches, (room, (c.requires.few, short)))))
 
 pub print_elements-returns-in_err-print_item-clause-written :
     goal.print_elements-returns-in_err-print_item-clause-written
 print_elements-returns-in_err-print_item-clause-written g t c =
     let set = described c.args.shown.set.now in
+    let ps = printers set in
+    let item = c.args.item.now in
+    let n = c.args.shown.image.now.numbers in
+    let i = c.loop-index.index in
+    let kept = cut_is c.args.line.now c.loop-index.line c.cut.new.self c.len-kept.result c.cut.ensures c.len-kept.ensures c.loop-index.invariant.line in
+    let path : c.push_index.new.self ≡ c.args.line.now ++ codes "[" ++ decimal i ++ codes "]" = c.push_index.ensures.text ∙ ap (λ (l : List ℕ). l ++ codes "[" ++ decimal i ++ codes "]") kept in
+    let rest = element_lines ps item c.args.line.now n (c.loop-index.cell + size_in set item) (size_in set item) (i + 1) (c.args.run.count - (i + 1)) in
     let p = err_from_is_err_and c.from_residual.result c.from_residual.ensures.1 in
     rw p.1 (owes_still _ _ _ _ _ _ _ c.loop-index.invariant.owes
-    (elements_left (printers set) c.args.item.now (path_text c.args.path.now) c.args.shown.image.now.numbers c.loop-index.cell (size_in set c.args.item.now) c.loop-index.index c.args.run.count c.loop-index-test.true)
+    (elements_left ps item c.args.line.now n c.loop-index.cell (size_in set item) i c.args.run.count c.loop-index-test.true
+    ∙ ap (λ (l : List ℕ). item_lines ps item l n c.loop-index.cell ++ rest) (sym path))
     c.in_err-print_item.ensures.written)
+
+pub print_elements-returns-in_err-print_item-clause-line :
+    goal.print_elements-returns-in_err-print_item-clause-line
+print_elements-returns-in_err-print_item-clause-line g t c =
+    let kept = cut_is c.args.line.now c.loop-index.line c.cut.new.self c.len-kept.result c.cut.ensures c.len-kept.ensures c.loop-index.invariant.line in
+    let path = c.push_index.ensures.text ∙ ap (λ (l : List ℕ). l ++ codes "[" ++ decimal c.loop-index.index ++ codes "]") kept in
+    stays_then _ _ _ (stays_element c.args.line.now (decimal c.loop-index.index) c.push_index.new.self path) c.in_err-print_item.ensures.line
 
 pub print_elements-overflow_add-cell : goal.print_elements-overflow_add-cell
 print_elements-overflow_add-cell g t c =
@@ -65,16 +83,20 @@ print_elements-loop-index-preserved g t c =
     let i = c.loop-index.index in
     let cell = c.loop-index.cell in
     let ps = printers set in
-    let path = path_text c.args.path.now in
+    let path = c.args.line.now in
     let n = c.args.shown.image.now.numbers in
     let size : c.item_cells-size.result ≡ size_in set item = size_code set item c.item_cells-size.result c.item_cells-size.ensures c.requires.small in
     let one : (i + 1) * size_in set item ≡ i * size_in set item + size_in set item = grind arith in
     let rest = λ (s : ℕ). element_lines ps item path n (cell + s) (size_in set item) (i + 1) (c.args.run.count - (i + 1)) in
+    let kept = cut_is c.args.line.now c.loop-index.line c.cut.new.self c.len-kept.result c.cut.ensures c.len-kept.ensures c.loop-index.invariant.line in
+    let element : c.push_index.new.self ≡ path ++ codes "[" ++ decimal i ++ codes "]" = c.push_index.ensures.text ∙ ap (λ (l : List ℕ). l ++ codes "[" ++ decimal i ++ codes "]") kept in
     record {
       owes = owes_less _ _ _ _ _ _ _ c.loop-index.invariant.owes
           (elements_left ps item path n cell (size_in set item) i c.args.run.count c.loop-index-test.true
-          ∙ ap (λ (s : ℕ). item_lines ps item (path ++ codes "[" ++ decimal i ++ codes "]") n cell ++ rest s) (sym size))
+          ∙ ap (λ (s : ℕ). item_lines ps item (path ++ codes "[" ++ decimal i ++ codes "]") n cell ++ rest s) (sym size)
+          ∙ ap (λ (l : List ℕ). item_lines ps item l n cell ++ rest c.item_cells-size.result) (sym element))
           c.in_ok-print_item.ensures.written;
+      line = stays_then _ _ _ (stays_element path (decimal i) c.push_index.new.self element) c.in_ok-print_item.ensures.line;
       here = omega (arith, one, size, c.loop-index.invariant.here);
       later = omega (arith, c.in_ok-print_item.ensures.cause, c.loop-index.invariant.later);
       promise = c.in_ok-print_item.ensures.promise ∙ c.loop-index.invariant.promise;
@@ -85,7 +107,7 @@ print_elements-returns-clause-written g t c =
     let set = described c.args.shown.set.now in
     let none : c.args.run.count - c.loop-index.index ≡ 0 = omega arith in
     owes_none _ _ _ _ c.loop-index.invariant.owes
-    (no_elements (printers set) c.args.item.now (path_text c.args.path.now) c.args.shown.image.now.numbers c.loop-index.cell (size_in set c.args.item.now) c.loop-index.index (c.args.run.count - c.loop-index.index) none)
+    (no_elements (printers set) c.args.item.now c.args.line.now c.args.shown.image.now.numbers c.loop-index.cell (size_in set c.args.item.now) c.loop-index.index (c.args.run.count - c.loop-index.index) none)
 
 -- ---- a field
 
@@ -96,21 +118,29 @@ print_field-print_item-requires g t c =
     let size = size_in (described c.args.shown.set.now) c.args.field.now.item in
     let room : c.args.run.first + 1 * size ≤ length c.args.shown.image.now.numbers = subst (λ (k : ℕ). c.args.run.first + k * size ≤ length c.args.shown.image.now.numbers) one fits.room in
     let same : 1 * size ≡ size = grind arith in
-    λ κs h. (search rules, (search rules, (fits.reaches, (omega (arith, room, same), fits.few))))
+    let named : c.push.new.self ≡ c.args.line.now ++ c.args.field.now.name = c.push.ensures ∙ ap (λ (l : List ℕ). c.args.line.now ++ l) c.as_bytes.ensures in
+    let short : length c.push.new.self + 54 + below c.args.field.now.item ≤ 8320 =
+    omega (arith, ap length named, length-append c.args.line.now c.args.field.now.name, c.requires.name, c.requires.short) in
+    λ κs h. (search rules, (search rules, (fits.reaches, (omega (arith, room, same), (fits.few, short)))))
 
 pub print_field-print_elements-requires : goal.print_field-print_elements-requires
 print_field-print_elements-requires g t c =
     let fits = c.requires.fits in
-    λ κs h. (search rules, (search rules, (fits.reaches, (fits.small, (fits.room, fits.few)))))
+    let named : c.push.new.self ≡ c.args.line.now ++ c.args.field.now.name = c.push.ensures ∙ ap (λ (l : List ℕ). c.args.line.now ++ l) c.as_bytes.ensures in
+    let short : length c.push.new.self + 96 + below c.args.field.now.item ≤ 8320 =
+    omega (arith, ap length named, length-append c.args.line.now c.args.field.now.name, c.requires.name, c.requires.short) in
+    λ κs h. (search rules, (search rules, (fits.reaches, (fits.small, (fits.room, (fits.few, short))))))
 
 pub print_field-returns-in_default : goal.print_field-returns-in_default
 print_field-returns-in_default g t c =
     let set = described c.args.shown.set.now in
     let f = field_of c.args.field.now in
+    let named : c.push.new.self ≡ c.args.line.now ++ f.name = c.push.ensures ∙ ap (λ (l : List ℕ). c.args.line.now ++ l) c.as_bytes.ensures in
     record {
+      line = stays_then _ _ _ (stays_is c.args.line.now f.name c.push.new.self named) c.print_elements.ensures.line;
       written = same_text _ _ _ _ _
-          (ap (λ (name : List ℕ). element_lines (printers set) f.item (path_text c.args.path.now ++ name) c.args.shown.image.now.numbers c.args.run.first (size_in set f.item) 0 c.args.run.count) c.as_bytes.ensures
-          ∙ array_run set f c.args.run.count (path_text c.args.path.now) c.args.shown.image.now.numbers c.args.run.first c.in_default.not-One)
+          (ap (λ (l : List ℕ). element_lines (printers set) f.item l c.args.shown.image.now.numbers c.args.run.first (size_in set f.item) 0 c.args.run.count) named
+          ∙ array_run set f c.args.run.count c.args.line.now c.args.shown.image.now.numbers c.args.run.first c.in_default.not-One)
           c.print_elements.ensures.written;
       cause = c.print_elements.ensures.cause;
       promise = c.print_elements.ensures.promise;
@@ -125,7 +155,9 @@ print_item-print_part-requires g t c =
     let lt : j < length set.structs = ltb-true j (length set.structs) (rw c.in-Struct.is at c.requires.reaches) in
     let room = rw c.in-Struct.is at c.requires.room in
     let size = struct_size set c.args.shown.set.now.well_formed j lt in
-    λ κs h. (search rules, (search rules, record { part = lt; few = c.requires.few; room = omega (arith, room, size) }))
+    let short = rw c.in-Struct.is at c.requires.short in
+    let grown : length c.push.new.self + 128 * (j + 1) ≤ 8320 = omega (arith, ap length c.push.ensures, length-append c.args.line.now (codes "."), short) in
+    λ κs h. (search rules, (search rules, (record { part = lt; few = c.requires.few; room = omega (arith, room, size) }, grown)))
 
 pub print_item-returns-in-Struct-clause-written : goal.print_item-returns-in-Struct-clause-written
 print_item-returns-in-Struct-clause-written g t c =
@@ -133,8 +165,10 @@ print_item-returns-in-Struct-clause-written g t c =
     let j = c.in-Struct.number in
     let lt : j < length set.structs = ltb-true j (length set.structs) (rw c.in-Struct.is at c.requires.reaches) in
     let n = c.args.shown.image.now.numbers in
-    let path = path_text c.args.path.now in
-    same_text _ _ _ _ _ (sym (ap (λ (i : Item). item_lines (printers set) i path n c.args.cell) c.in-Struct.is ∙ struct_lines set c.args.shown.set.now.well_formed j lt path n c.args.cell)) c.print_part.ensures.written
+    let path = c.args.line.now in
+    same_text _ _ _ _ _
+    (ap (λ (l : List ℕ). desc_lines (printers set) (get_or set.structs j no_desc) l n c.args.cell) c.push.ensures
+    ∙ sym (ap (λ (i : Item). item_lines (printers set) i path n c.args.cell) c.in-Struct.is ∙ struct_lines set c.args.shown.set.now.well_formed j lt path n c.args.cell)) c.print_part.ensures.written
 
 -- ---- a part
 
@@ -142,6 +176,7 @@ pub print_part-loop-field-init : goal.print_part-loop-field-init
 print_part-loop-field-init g t c =
     record {
       owes = owes_all _ _;
+      line = stays c.args.line.now;
       room = spot_room (described c.args.shown.set.now) c.args.spot c.args.shown.image.now.numbers c.requires.spot;
       later = omega arith;
       promise = refl;
@@ -160,9 +195,11 @@ print_part-print_field-requires g t c =
     let fields : map field_of c.as_slice.result.now ≡ d.fields = ap (map field_of) c.as_slice.ensures ∙ ap (λ (x : Desc). x.fields) c.desc.ensures in
     let found : field_of f ≡ field_at set spot.part k = found_field c.as_slice.result.now d.fields k f fields lt c.index-as_slice-field.is in
     let count : c.elements.result ≡ elements_of f.count (own_numbers set spot.part n spot.base) = c.elements.ensures ∙ ap (λ (x : Field). elements_of x.count (own_numbers set spot.part n spot.base)) (sym found) in
-    let next = next_run set c.args.shown.set.now.well_formed spot (path_text c.args.path.now) n c.requires.spot k cell c.elements.result (field_of f) lt found count c.loop-field.invariant.room in
+    let next = next_run set c.args.shown.set.now.well_formed spot c.args.line.now n c.requires.spot k cell c.elements.result (field_of f) lt found count c.loop-field.invariant.room in
     let lower = next.lower in
-    λ κs h. (search rules, (search rules, next.run))
+    let kept = cut_is c.args.line.now c.loop-field.line c.cut.new.self c.len-kept.result c.cut.ensures c.len-kept.ensures c.loop-field.invariant.line in
+    let short = field_short set c.args.shown.set.now.well_formed spot.part c.requires.spot.part k lt (field_of f) found in
+    λ κs h. (search rules, (search rules, (next.run, (short.0, omega (arith, ap length kept, short.1, c.requires.short)))))
 
 pub print_part-returns-in_err-print_field-clause-written :
     goal.print_part-returns-in_err-print_field-clause-written
@@ -178,9 +215,19 @@ print_part-returns-in_err-print_field-clause-written g t c =
     let fields : map field_of c.as_slice.result.now ≡ d.fields = ap (map field_of) c.as_slice.ensures ∙ ap (λ (x : Desc). x.fields) c.desc.ensures in
     let found : field_of f ≡ field_at set spot.part k = found_field c.as_slice.result.now d.fields k f fields lt c.index-as_slice-field.is in
     let count : c.elements.result ≡ elements_of f.count (own_numbers set spot.part n spot.base) = c.elements.ensures ∙ ap (λ (x : Field). elements_of x.count (own_numbers set spot.part n spot.base)) (sym found) in
-    let next = next_run set c.args.shown.set.now.well_formed spot (path_text c.args.path.now) n c.requires.spot k cell c.elements.result (field_of f) lt found count c.loop-field.invariant.room in
+    let next = next_run set c.args.shown.set.now.well_formed spot c.args.line.now n c.requires.spot k cell c.elements.result (field_of f) lt found count c.loop-field.invariant.room in
+    let kept = cut_is c.args.line.now c.loop-field.line c.cut.new.self c.len-kept.result c.cut.ensures c.len-kept.ensures c.loop-field.invariant.line in
+    let own = numbers_of (cells_of (printers set)) d n spot.base in
+    let rest = field_lines (printers set) d.fields own c.args.line.now n (k + 1) (cell + capacity_of f.count * size_in set f.item) (drop (k + 1) d.fields) in
     let p = err_from_is_err_and c.from_residual.result c.from_residual.ensures.1 in
-    rw p.1 (owes_still _ _ _ _ _ _ _ c.loop-field.invariant.owes next.lines c.in_err-print_field.ensures.written)
+    rw p.1 (owes_still _ _ _ _ _ _ _ c.loop-field.invariant.owes
+    (next.lines ∙ ap (λ (l : List ℕ). run_lines (printers set) (field_of f) f.count c.elements.result l n cell ++ rest) (sym kept)) c.in_err-print_field.ensures.written)
+
+pub print_part-returns-in_err-print_field-clause-line :
+    goal.print_part-returns-in_err-print_field-clause-line
+print_part-returns-in_err-print_field-clause-line g t c =
+    let kept = cut_is c.args.line.now c.loop-field.line c.cut.new.self c.len-kept.result c.cut.ensures c.len-kept.ensures c.loop-field.invariant.line in
+    stays_then _ _ _ (subst (Stays c.args.line.now) (sym kept) (stays c.args.line.now)) c.in_err-print_field.ensures.line
 
 pub print_part-overflow_add-cell : goal.print_part-overflow_add-cell
 print_part-overflow_add-cell g t c =
@@ -195,7 +242,7 @@ print_part-overflow_add-cell g t c =
     let fields : map field_of c.as_slice.result.now ≡ d.fields = ap (map field_of) c.as_slice.ensures ∙ ap (λ (x : Desc). x.fields) c.desc.ensures in
     let found : field_of f ≡ field_at set spot.part k = found_field c.as_slice.result.now d.fields k f fields lt c.index-as_slice-field.is in
     let count : c.elements.result ≡ elements_of f.count (own_numbers set spot.part n spot.base) = c.elements.ensures ∙ ap (λ (x : Field). elements_of x.count (own_numbers set spot.part n spot.base)) (sym found) in
-    let next = next_run set c.args.shown.set.now.well_formed spot (path_text c.args.path.now) n c.requires.spot k cell c.elements.result (field_of f) lt found count c.loop-field.invariant.room in
+    let next = next_run set c.args.shown.set.now.well_formed spot c.args.line.now n c.requires.spot k cell c.elements.result (field_of f) lt found count c.loop-field.invariant.room in
     let small : capacity_of f.count * size_in set f.item ≤ 16384 = omega (arith, next.room, c.requires.spot.few) in
     let width : c.field_cells-cell.result ≡ capacity_of f.count * size_in set f.item =
     width_code set (field_of f) c.field_cells-cell.result (c.field_cells-cell.ensures ∙ ap (λ (x : Field). in_u32 (capacity_of x.count * item_size (struct_cells set) x.item)) (sym found)) small in
@@ -214,16 +261,19 @@ print_part-loop-field-preserved g t c =
     let fields : map field_of c.as_slice.result.now ≡ d.fields = ap (map field_of) c.as_slice.ensures ∙ ap (λ (x : Desc). x.fields) c.desc.ensures in
     let found : field_of f ≡ field_at set spot.part k = found_field c.as_slice.result.now d.fields k f fields lt c.index-as_slice-field.is in
     let count : c.elements.result ≡ elements_of f.count (own_numbers set spot.part n spot.base) = c.elements.ensures ∙ ap (λ (x : Field). elements_of x.count (own_numbers set spot.part n spot.base)) (sym found) in
-    let next = next_run set c.args.shown.set.now.well_formed spot (path_text c.args.path.now) n c.requires.spot k cell c.elements.result (field_of f) lt found count c.loop-field.invariant.room in
+    let next = next_run set c.args.shown.set.now.well_formed spot c.args.line.now n c.requires.spot k cell c.elements.result (field_of f) lt found count c.loop-field.invariant.room in
     let small : capacity_of f.count * size_in set f.item ≤ 16384 = omega (arith, next.room, c.requires.spot.few) in
     let width : c.field_cells-cell.result ≡ capacity_of f.count * size_in set f.item =
     width_code set (field_of f) c.field_cells-cell.result (c.field_cells-cell.ensures ∙ ap (λ (x : Field). in_u32 (capacity_of x.count * item_size (struct_cells set) x.item)) (sym found)) small in
-    let path = path_text c.args.path.now in
+    let path = c.args.line.now in
     let own = numbers_of (cells_of (printers set)) d n spot.base in
     let rest = λ (w : ℕ). field_lines (printers set) d.fields own path n (k + 1) (cell + w) (drop (k + 1) d.fields) in
+    let kept = cut_is path c.loop-field.line c.cut.new.self c.len-kept.result c.cut.ensures c.len-kept.ensures c.loop-field.invariant.line in
     record {
       owes = owes_less _ _ _ _ _ _ _ c.loop-field.invariant.owes
-          (next.lines ∙ ap (λ (w : ℕ). run_lines (printers set) (field_of f) f.count c.elements.result path n cell ++ rest w) (sym width)) c.in_ok-print_field.ensures.written;
+          (next.lines ∙ ap (λ (w : ℕ). run_lines (printers set) (field_of f) f.count c.elements.result path n cell ++ rest w) (sym width)
+          ∙ ap (λ (l : List ℕ). run_lines (printers set) (field_of f) f.count c.elements.result l n cell ++ rest c.field_cells-cell.result) (sym kept)) c.in_ok-print_field.ensures.written;
+      line = stays_then _ _ _ (subst (Stays path) (sym kept) (stays path)) c.in_ok-print_field.ensures.line;
       room = subst (λ (w : ℕ). (cell + w) + length (cells_from (cells_in (table set)) d.fields (k + 1) (drop (k + 1) d.fields)) ≤ length n) (sym width) next.later;
       later = omega (arith, c.in_ok-print_field.ensures.cause, c.loop-field.invariant.later);
       promise = c.in_ok-print_field.ensures.promise ∙ c.loop-field.invariant.promise;
@@ -237,4 +287,4 @@ print_part-returns-clause-written g t c =
     let d = desc_at set spot.part in
     let end : c.loop-field.field ≡ length d.fields = omega (arith, c.field_count-field-end.ensures) in
     owes_none _ _ _ _ c.loop-field.invariant.owes
-    (no_fields set d.fields (numbers_of (cells_of (printers set)) d n spot.base) (path_text c.args.path.now) n c.loop-field.field c.loop-field.cell end)
+    (no_fields set d.fields (numbers_of (cells_of (printers set)) d n spot.base) c.args.line.now n c.loop-field.field c.loop-field.cell end)

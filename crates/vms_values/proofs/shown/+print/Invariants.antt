@@ -5,7 +5,7 @@ use Rattle.vms_desc.specs.Described.{described}
 use Rattle.vms_desc.specs.Parts.{desc_at}
 use Rattle.vms_walk.specs.Steps.{size_in, table, cells_in}
 use Rattle.vms_walk.proofs.Ranks.{item_rank, part_rank}
-use Rattle.vms_values.specs.Paths.{path_text}
+use Rattle.vms_values.specs.Printing.{Stays}
 use Rattle.vms_values.proofs.Printers.{cells_of}
 use Rattle.vms_values.proofs.Writing.{Owes}
 use Rattle.vms_values.proofs.shown.+print.Given as goal
@@ -31,8 +31,9 @@ invariant-print_elements-loop-index g l =
     let size = size_in set l.item in
     record {
       owes : Owes (g.K.Sink.written l.initial.sink) (g.K.Sink.written l.sink)
-          (element_lines ps l.item (path_text l.path) n run.first size 0 run.count)
-          (element_lines ps l.item (path_text l.path) n l.cell size l.index (run.count - l.index));
+          (element_lines ps l.item l.initial.line n run.first size 0 run.count)
+          (element_lines ps l.item l.initial.line n l.cell size l.index (run.count - l.index));
+      line : Stays l.initial.line l.line;
       here : l.cell ≡ run.first + l.index * size;
       later : g.K.Sink.faults l.initial.sink ≤ g.K.Sink.faults l.sink;
       promise : g.K.Sink.promise l.sink ≡ g.K.Sink.promise l.initial.sink;
@@ -47,7 +48,8 @@ invariant-print_part-loop-field g l =
     let own = numbers_of (cells_of ps) d n l.spot.base in
     record {
       owes : Owes (g.K.Sink.written l.initial.sink) (g.K.Sink.written l.sink)
-          (desc_lines ps d (path_text l.path) n l.spot.base) (field_lines ps d.fields own (path_text l.path) n l.field l.cell (drop l.field d.fields));
+          (desc_lines ps d l.initial.line n l.spot.base) (field_lines ps d.fields own l.initial.line n l.field l.cell (drop l.field d.fields));
+      line : Stays l.initial.line l.line;
       room : l.cell + length (cells_from (cells_in (table set)) d.fields l.field (drop l.field d.fields)) ≤ length n;
       later : g.K.Sink.faults l.initial.sink ≤ g.K.Sink.faults l.sink;
       promise : g.K.Sink.promise l.sink ≡ g.K.Sink.promise l.initial.sink;

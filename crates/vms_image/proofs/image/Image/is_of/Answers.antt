@@ -1,10 +1,8 @@
-use Rattle.std.proofs.Common.{◌≡◌, ◌∙◌, ap, sym, rules, arith, length, map, true, IsTrue, List}
+use Rattle.std.proofs.Common.{◌≡◌, ◌∙◌, ap, sym, rules, arith, length, true}
 use Rattle.std.proofs.lemmas.List.{length-map}
-use Rattle.vms_kinds.specs.declared.Kind.{Kind}
 use Rattle.vms_parts.specs.Views.{sub_of}
 use Rattle.vms_spec.specs.Sets.{Device}
 use Rattle.vms_spec.specs.Layout.{device_cells}
-use Rattle.vms_spots.specs.declared.layout.Spot.{Spot}
 use Rattle.vms_spots.specs.Spots.{spots_of, kinds_of}
 use Rattle.vms_spots.proofs.SpotLaws.{kinds_are, spots_long}
 use Rattle.vms_desc.specs.Described.{described, device_at}

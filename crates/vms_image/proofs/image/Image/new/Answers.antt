@@ -1,7 +1,5 @@
-use Rattle.std.proofs.Common.{◌≡◌, ◌∙◌, ap, refl, sym, arith, length, replicate, map, pos, None, ℕ, ℤ, Option, List}
-use Rattle.std.proofs.lemmas.List.{length-map, length-replicate}
-use Rattle.vms_kinds.specs.declared.Kind.{Kind}
-use Rattle.vms_parts.specs.Views.{form_of}
+use Rattle.std.proofs.Common.{◌≡◌, ◌∙◌, ap, refl, sym, length, replicate, pos, None, ℕ, Option}
+use Rattle.std.proofs.lemmas.List.{length-map}
 use Rattle.vms_spec.specs.Layout.{device_cells}
 use Rattle.vms_spots.specs.Spots.{Held, kinds_of}
 use Rattle.vms_desc.specs.Described.{described, device_at}
@@ -18,11 +16,12 @@ put_defaults-requires c =
     let k = c.args.device in
     let forms = c.cell_forms.result.now in
     let kinds : kinds_of c.spots.result.now ≡ kinds_at set k = spot_kinds set k c.spots.result.now c.spots.ensures.spots in
+    let long : length c.spots.result.now ≡ length forms =
+    sym (length-map c.spots.result.now (λ s. s.kind)) ∙ ap length kinds
+    ∙ length-map (device_cells set (device_at set k)) (λ x. x.kind) ∙ sym (form_count set k forms c.cell_forms.ensures.forms) in
     record {
       few = c.cell_forms.ensures.few;
-      long = ap (λ (h : Held). length h.numbers) c.in_ok-cells.ensures ∙ length-replicate (length c.spots.result.now) (pos 0)
-          ∙ sym (length-map c.spots.result.now (λ s. s.kind)) ∙ ap length kinds
-          ∙ length-map (device_cells set (device_at set k)) (λ x. x.kind) ∙ sym (form_count set k forms c.cell_forms.ensures.forms);
+      zero = ap (λ (h : Held). h.numbers) c.in_ok-cells.ensures ∙ ap (λ (n : ℕ). replicate n (pos 0)) long;
       kinds = ap (λ (h : Held). h.kinds) c.in_ok-cells.ensures ∙ kinds ∙ sym (form_kinds set k forms c.cell_forms.ensures.forms);
       range = defaults_fit set k forms c.cell_forms.ensures.forms c.args.set.now.well_formed c.args.set.now.heads c.requires;
     }

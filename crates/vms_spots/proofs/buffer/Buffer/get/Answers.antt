@@ -1,11 +1,11 @@
 use Rattle.std.proofs.Common.{◌≡◌, refl, ◌∙◌, sym, ap, subst, pos, arith, rules, ℕ, ℤ, List, get_or, take, drop, ◌-◌}
 use Rattle.std.specs.Int.{w128}
-use Rattle.std.proofs.lemmas.Int.{to_z-of_z, ints}
+use Rattle.std.proofs.lemmas.Int.{to_z-of_z}
 use mir.Val.{SFits}
 use Rattle.vms_kinds.specs.Codes.{width, value_of, InRange, IsBadBool}
 use Rattle.vms_kinds.specs.declared.Kind.{Kind}
 use Rattle.vms_kinds.specs.declared.Kind.TheVariants.{U8}
-use Rattle.vms_spots.specs.Spots.{number_at, Held}
+use Rattle.vms_spots.specs.Spots.{Held}
 use Rattle.vms_spots.proofs.BufferLaws.{at_cell, AtSpot}
 use Rattle.vms_spots.proofs.buffer.Buffer.get.Goals as goal
 

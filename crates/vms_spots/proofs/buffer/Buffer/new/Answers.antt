@@ -1,7 +1,7 @@
-use Rattle.std.proofs.Common.{◌≡◌, ◌∙◌, sym, ap, pos, List, ℕ, ℤ, length, replicate, subst}
+use Rattle.std.proofs.Common.{◌≡◌, ◌∙◌, sym, ap, List, subst}
 use Rattle.vms_spots.specs.declared.layout.Spot.{Spot}
-use Rattle.vms_spots.specs.Spots.{spots_of, kinds_of, held, IsHeld, Held}
-use Rattle.vms_spots.proofs.BufferLaws.{starts, Holds}
+use Rattle.vms_spots.specs.Spots.{held, IsHeld}
+use Rattle.vms_spots.proofs.BufferLaws.{starts}
 use Rattle.vms_spots.proofs.buffer.Buffer.new.Goals as goal
 
 pub invariant_of-result : goal.invariant_of-result

@@ -1,13 +1,13 @@
-use Rattle.std.proofs.Common.{◌≡◌, ◌∙◌, sym, ap, subst, pos, arith, rules, ℕ, ℤ, List, get_or, take, drop, ◌-◌, ◌++◌, length, set, length-drop, length-take}
+use Rattle.std.proofs.Common.{◌≡◌, ◌∙◌, sym, ap, subst, arith, rules, ℕ, ℤ, List, get_or, take, drop, ◌-◌, ◌++◌, length, set, length-drop, length-take}
 use Rattle.std.specs.Int.{w128}
 use Rattle.std.specs.Vec.{with_items}
-use Rattle.std.proofs.lemmas.Int.{to_z-of_z, ints}
+use Rattle.std.proofs.lemmas.Int.{to_z-of_z}
 use Rattle.std.proofs.lemmas.List.{with_items_is}
 use Rattle.vms_kinds.specs.Codes.{width, code, InRange}
 use Rattle.vms_kinds.specs.declared.Kind.{Kind}
 use Rattle.vms_kinds.specs.declared.Kind.TheVariants.{U8}
 use Rattle.vms_spec.proofs.KindLaws.{length-code}
-use Rattle.vms_spots.specs.Spots.{number_at, Held, held, IsHeld}
+use Rattle.vms_spots.specs.Spots.{Held, held, IsHeld}
 use Rattle.vms_spots.proofs.BufferLaws.{at_cell, AtSpot, puts_seen}
 use Rattle.vms_spots.proofs.buffer.Buffer.set.Goals as goal
 

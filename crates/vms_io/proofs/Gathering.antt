@@ -1,0 +1,60 @@
+-- What is gathered for a writer, and handed on.
+use Rattle.std.proofs.Common.{◌≡◌, ℕ, ◌+◌, ◌-◌, ◌≤◌, List, [], ◌++◌, length, take, drop, Option, Some, None, Result, Ok, Err, sym, ap, ◌∙◌, subst, arith, append_assoc, take-append-drop, drop-drop, length-take}
+use Rattle.std.proofs.lemmas.List.{drop-take, drop_all, drop-append-le}
+use Rattle.std.specs.Io.KnownBytes.{Keeps, Appends}
+use Rattle.vms_io.specs.Causes.{HasCause}
+use Rattle.vms_io.specs.Gathered.{told, between}
+
+-- a part of the room, taken from its first place
+pub part_is : (room : List ℕ) (b e : ℕ) → b ≤ e → take (e - b) (drop b room) ≡ between room b e
+part_is room b e le =
+    let sum : b + (e - b) ≡ e = omega arith in
+    sym (drop-take b (e - b) room) ∙ ap (λ (n : ℕ). drop b (take n room)) sum
+
+-- the writer took the first n of them
+pub handed : (a x y : Option (List ℕ)) (room part : List ℕ) (b e n : ℕ) → b ≤ e → part ≡ take (e - b) (drop b room)
+    → Appends x y (take n part) → Keeps a (told x (between room b e)) → Keeps a (told y (between room (b + n) e))
+handed None x y room part b e n le is p k = tt
+handed (Some zs) None y room part b e n le is p k = absurd k
+handed (Some zs) (Some xs) None room part b e n le is p k = absurd p
+handed (Some zs) (Some xs) (Some ys) room part b e n le is p k =
+    let whole : part ≡ between room b e = is ∙ part_is room b e le in
+    let rest : between room (b + n) e ≡ drop n part = sym (drop-drop n b (take e room)) ∙ ap (drop n) (sym whole) in
+    ap (λ (l : List ℕ). l ++ between room (b + n) e) p
+    ∙ ap (λ (l : List ℕ). (xs ++ take n part) ++ l) rest
+    ∙ append_assoc xs (take n part) (drop n part)
+    ∙ ap (λ (l : List ℕ). xs ++ l) (take-append-drop n part ∙ whole)
+    ∙ k
+
+-- all are handed on
+pub emptied : (a x : Option (List ℕ)) (room : List ℕ) (b e : ℕ) → b ≡ e → Keeps a (told x (between room b e)) → Keeps a (told x (between room 0 0))
+emptied a x room b e same k =
+    let none : between room b e ≡ [] = drop_all b (take e room) (omega (arith, same, length-take e room)) in
+    subst (λ (l : List ℕ). Keeps a (told x l)) none k
+
+-- more are gathered
+pub gathers : (x : Option (List ℕ)) (room new more : List ℕ) (b e f : ℕ) → b ≤ e → e ≤ length room
+    → take f new ≡ take e room ++ more → Appends (told x (between room b e)) (told x (between new b f)) more
+gathers None room new more b e f le fits is = tt
+gathers (Some xs) room new more b e f le fits is =
+    ap (λ (l : List ℕ). xs ++ drop b l) is
+    ∙ ap (λ (l : List ℕ). xs ++ l) (drop-append-le b (take e room) more (omega (arith, length-take e room)))
+    ∙ sym (append_assoc xs (drop b (take e room)) more)
+
+-- first handed on, then gathered
+pub kept_then : (a b c : Option (List ℕ)) (more : List ℕ) → Keeps a b → Appends b c more → Appends a c more
+kept_then None b c more p q = tt
+kept_then (Some x) None c more p q = absurd p
+kept_then (Some x) (Some y) None more p q = absurd q
+kept_then (Some x) (Some y) (Some z) more p q = q ∙ ap (λ (l : List ℕ). l ++ more) p
+
+-- the writer took nothing
+pub still_told : (a x y : Option (List ℕ)) (waiting : List ℕ) → Keeps x y → Keeps a (told x waiting) → Keeps a (told y waiting)
+still_told None x y waiting p k = tt
+still_told (Some z) None y waiting p k = absurd k
+still_told (Some z) (Some x) None waiting p k = absurd p
+still_told (Some z) (Some x) (Some y) waiting p k = ap (λ (l : List ℕ). l ++ waiting) p ∙ k
+
+pub later_cause : {T E : Type 0} (a b c : ℕ) (result : Result T E) → a ≤ b → HasCause b c result → HasCause a c result
+later_cause a b c (Ok x) le h = record { later = omega (arith, le, h.later); failed = tt }
+later_cause a b c (Err x) le h = record { later = omega (arith, le, h.later); failed = omega (arith, le, h.failed) }

@@ -1,0 +1,11 @@
+use Rattle.std.proofs.Common.{◌≡◌}
+use Rattle.std.specs.Io.KnownBytes.{Keeps}
+use Rattle.vms_io.specs.Gathered.{told, between}
+use Rattle.vms_io.proofs.standard.StdSink.hand_on.Given as goal
+
+abbrev pub invariant-loop : goal.invariant-loop
+invariant-loop g l = record {
+  bytes : Keeps (told (g.W.Write.contents l.initial.self.writer) (between l.initial.self.gathered l.initial.self.begin l.initial.self.end))
+      (told (g.W.Write.contents l.self.writer) (between l.self.gathered l.self.begin l.self.end));
+  faults : l.self.faults ≡ l.initial.self.faults;
+}

@@ -1,0 +1,8 @@
+use Rattle.std.proofs.Common.{arith, ap, length}
+use Rattle.vms_desc.specs.Described.{described}
+use Rattle.vms_values.proofs.Fronts.{part_short}
+use Rattle.vms_values.proofs.shown.print_lines.Goals as goal
+
+pub print_part-requires-clause-short : goal.print_part-requires-clause-short
+print_part-requires-clause-short g c =
+    omega (arith, ap length c.new.ensures, part_short (described c.args.shown.set.now) c.args.shown.set.now.well_formed c.args.spot.part c.requires.spot.part)
