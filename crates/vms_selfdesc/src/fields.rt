@@ -13,6 +13,7 @@ ghost use Rattle.vms_selfdesc.specs.Listing.{item_at, elements_at, run_at, field
 
 use crate::draft::Draft;
 use crate::entry::{write_cell, write_sent};
+use itoa::Buffer;
 use std::alloc::AllocError;
 use vms_desc::{Count, DescSet, Field, Part};
 use vms_image::Image;
@@ -43,7 +44,11 @@ struct At {
 fn enter_element(path: &mut String, number: u32) -> Result<(), AllocError>
     ensures { OnOk result (string_bytes path.new ≡ element_path (string_bytes path.old) number) }
 {
-    write!(path, "[{number}]")
+    let mut digits = Buffer::new();
+    path.push_str("[")?;
+    path.push_str(digits.format(number))?;
+    path.push_str("]")?;
+    Ok(())
 }
 
 // Goes back to the first bytes of a path.
