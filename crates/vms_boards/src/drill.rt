@@ -33,7 +33,8 @@ pub fn drill_board<O: Sink>(alloc: Global, level: u8, seed: u64, count: u32, out
 }
 
 fn write_text<O: Sink>(text: &[u8], out: &mut O) -> Ending
-    ensures ends { TextEnds (Gives text.now) (outlet O.Sink out.old) (outlet O.Sink out.new) result }
+    ensures ends { TextEnds (Gives text.now)
+        (outlet O.Sink out.old) (outlet O.Sink out.new) result }
     ensures cause { WriteCause (outlet O.Sink out.old) (outlet O.Sink out.new) result }
     ensures count { O.faults out.old ≤ O.faults out.new }
     ensures promise { O.promise out.new ≡ O.promise out.old }

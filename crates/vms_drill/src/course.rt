@@ -46,7 +46,8 @@ impl Course {
     pub(crate) fn step(&mut self, alloc: Global) -> Result<(), NoMemory>
         requires going { IsInCourse self.old }
         requires room { self.old.done + 1 < 2 ^ 32 }
-        ensures view { OnOk result (course_view self.new ≡ with_drill_event (course_view self.old)) }
+        ensures view { OnOk result
+            (course_view self.new ≡ with_drill_event (course_view self.old)) }
         ensures going { OnOk result (IsInCourse self.new) }
     {
         let answer = self.board.event(self.events.next_event());
