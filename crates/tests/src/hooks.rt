@@ -18,9 +18,13 @@ impl Hooked for Echo {
 
     ghost can_restore = { λ numbers cells. length cells < 97 };
 
-    ghost saves_as = { λ numbers echo cells. cells ≡ pos echo.digit ∷ pos numbers.level ∷ pos numbers.set ∷ pos numbers.moment ∷ [] };
+    ghost saves_as = { λ numbers echo cells. cells
+        ≡ pos echo.digit ∷ pos numbers.level ∷ pos numbers.set ∷ pos numbers.moment ∷ [] };
 
-    ghost restores_to = { λ numbers cells outcome. outcome ≡ (if nat_lt (length cells) numbers.moment then Ok (record { digit = numbers.set }) else Err (record { rule = numbers.level })) };
+    ghost restores_to = { λ numbers cells outcome. outcome
+        ≡ (if nat_lt (length cells) numbers.moment
+        then Ok (record { digit = numbers.set })
+        else Err (record { rule = numbers.level })) };
 }
 
 fn saved(digit: u8, level: u8, set: u8, moment: u64) -> DevCells
@@ -51,7 +55,8 @@ fn loaded(cells: &DevCells, level: u8, set: u8, moment: u64) -> Result<Echo, Hoo
 }
 
 fn cells_of(pass: &Pass, echo: &Echo) -> DevCells
-    ensures { result.items ≡ pos echo.now.digit ∷ pos pass.now.level ∷ pos pass.now.set ∷ pos pass.now.moment ∷ [] }
+    ensures { result.items
+        ≡ pos echo.now.digit ∷ pos pass.now.level ∷ pos pass.now.set ∷ pos pass.now.moment ∷ [] }
 {
     let mut cells = ArrayVec::new();
     let _fits = cells.try_extend_from_slice(&[
@@ -64,7 +69,10 @@ fn cells_of(pass: &Pass, echo: &Echo) -> DevCells
 }
 
 fn echo_of(pass: &Pass, cells: &DevCells) -> Result<Echo, HookFault>
-    ensures { result ≡ (if nat_lt (length cells.now.items) pass.now.moment then Ok (record { digit = pass.now.set }) else Err (record { rule = pass.now.level })) }
+    ensures { result
+        ≡ (if nat_lt (length cells.now.items) pass.now.moment
+        then Ok (record { digit = pass.now.set })
+        else Err (record { rule = pass.now.level })) }
 {
     if (cells.len() as u64) < pass.now() {
         Ok(Echo { digit: pass.set() })
