@@ -189,7 +189,8 @@ fn read_item(set: &DescSet, run: Run, path: &mut Line, taken: &mut Taken) -> Res
     ensures read { let f = field_of run.entry.field.now in
         let set = described set.now in
         let caps = capacities_of run.entry.most in
-        let whole = read_item (readers set) f caps path.old run.entry.present run.entry.first f.item in
+        let r = run.entry in
+        let whole = read_item (readers set) f caps path.old r.present r.first f.item in
         Reaches (whole (place_of taken.old)) (place_of taken.new) result }
     ensures kept { IsKept taken.old.image taken.new.image }
     ensures path { Stays path.old path.new }
