@@ -1,11 +1,10 @@
 -- A text that is read line by line.
-use Rattle.std.proofs.Common.{◌≡◌, ℕ, ◌+◌, ◌<◌, Bool, true, false, ◌&&◌, ◌||◌, ◌==◌, List, [], ◌∷◌, ◌++◌, length, get_or, drop, Option, Some, None, Ok, Err, codes, refl, sym, ap, ◌∙◌, subst, arith, append_assoc, drop-drop, length-append, MatchOption}
+use Rattle.std.proofs.Common.{◌≡◌, ℕ, ◌+◌, ◌<◌, Bool, true, false, ◌&&◌, ◌||◌, ◌==◌, List, [], ◌∷◌, ◌++◌, length, get_or, drop, Option, Some, None, Ok, Err, refl, sym, ap, ◌∙◌, subst, arith, drop-drop, length-append, MatchOption}
 use Rattle.std.proofs.lemmas.List.{drop_more, get_or_read}
 use Rattle.std.proofs.lemmas.Bool.{eqb-true}
 use Rattle.std.proofs.lemmas.Slice.Eq.{bytes_eq-Decides}
 use Rattle.std.specs.Str.{bytes_eq}
 use Rattle.std.specs.Borrow.{Bor}
-use Rattle.vms_spec.specs.Layout.{first}
 use Rattle.vms_spec.specs.Streams.{is_one_of}
 use Rattle.vms_values.specs.Machines.{IsMachine}
 use Rattle.vms_spec.specs.Spelling.{begins_with}
@@ -33,30 +32,6 @@ pub strip_is : (front line : List ℕ) (result : Option (Bor (List ℕ)))
     → MatchOption result (begins_with front line ≡ false) (λ x. (begins_with front line ≡ true) × (x.now ≡ drop (length front) line) × (length x.now + length front ≡ length line)) → Strips front line result
 strip_is front line None h = h
 strip_is front line (Some r) h = (h.0, h.1)
-
-pub index_strips : (line first second digits piece : List ℕ) (result : Option (Bor (List ℕ))) → piece ≡ digits → begins_with (codes "[") line ≡ true → first ≡ drop 1 line
-    → begins_with piece first ≡ true → second ≡ drop (length piece) first → Strips (codes "]") second result → Strips (codes "[" ++ (digits ++ codes "]")) line result
-index_strips line first second digits piece result e p a q b s =
-    subst (λ (d : List ℕ). Strips (codes "[" ++ (d ++ codes "]")) line result) e
-    (strips_then (codes "[") (piece ++ codes "]") line first result p a (strips_then piece (codes "]") first second result q b s))
-
-pub index_not : (line first digits piece : List ℕ) → piece ≡ digits → begins_with (codes "[") line ≡ true → first ≡ drop 1 line
-    → begins_with piece first ≡ false → begins_with (codes "[" ++ (digits ++ codes "]")) line ≡ false
-index_not line first digits piece e p a q =
-    subst (λ (d : List ℕ). begins_with (codes "[" ++ (d ++ codes "]")) line ≡ false) e
-    (begins-append line (codes "[") (piece ++ codes "]") ∙ ap (λ (t : Bool). t && begins_with (piece ++ codes "]") (drop 1 line)) p
-    ∙ ap (begins_with (piece ++ codes "]")) (sym a) ∙ strips_not piece (codes "]") first q)
-
-pub element_strips : (path digits line mid : List ℕ) (result : Option (Bor (List ℕ))) → begins_with path line ≡ true → mid ≡ drop (length path) line
-    → Strips (codes "[" ++ (digits ++ codes "]")) mid result → Strips (path ++ codes "[" ++ digits ++ codes "]") line result
-element_strips path digits line mid result p e s =
-    subst (λ (t : List ℕ). Strips t line result) (sym (append_assoc path (codes "[") (digits ++ codes "]")) ∙ sym (append_assoc (path ++ codes "[") digits (codes "]")))
-    (strips_then path (codes "[" ++ (digits ++ codes "]")) line mid result p e s)
-
-pub element_not : (path digits line : List ℕ) → begins_with path line ≡ false → begins_with (path ++ codes "[" ++ digits ++ codes "]") line ≡ false
-element_not path digits line p =
-    subst (λ (t : List ℕ). begins_with t line ≡ false) (sym (append_assoc path (codes "[") (digits ++ codes "]")) ∙ sym (append_assoc (path ++ codes "[") digits (codes "]")))
-    (strips_not path (codes "[" ++ (digits ++ codes "]")) line p)
 
 -- ---- where a reading stands
 

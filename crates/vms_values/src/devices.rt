@@ -13,7 +13,6 @@ use crate::cursor::Lines;
 use crate::fault::LineFault;
 use crate::judge::{BadLine, judge_device};
 use crate::machine::read_machine;
-use crate::path::Path;
 use crate::read::{bad, push_image, read_section};
 use crate::subsections::read_subs;
 use crate::taken::{Taken, read_part};
@@ -108,7 +107,7 @@ fn read_image(
         version: taken.image.version(),
         base: 0,
     };
-    read_part(set, own, &Path::Top, true, &mut taken)?;
+    read_part(set, own, &mut taken)?;
     read_subs(set, device, &mut taken, &mut sub_lines)?;
     reading.lines = taken.lines;
     if reading.judged.is_none() {

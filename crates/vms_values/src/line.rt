@@ -1,4 +1,4 @@
-// The line that is printed next.
+// The line that is printed next, or the path with which the line begins that is read next.
 ghost use Rattle.std.specs.Prelude.{◌≡◌, ◌+◌, ◌≤◌, ◌++◌, [], take, length, codes};
 ghost use Rattle.std.specs.Fmt.{decimal};
 
@@ -8,7 +8,7 @@ use std::marker::Model;
 /// A line has no more bytes: the names of 65 fields, one in the other, their elements and a number.
 const LONGEST: usize = 8320;
 
-/// A line, from its first byte on. What is printed next keeps of it the front that the lines share.
+/// A line, from its first byte on. What comes next keeps of it the front that the lines share.
 #[derive(Drop)]
 pub(crate) struct Line {
     bytes: [u8; LONGEST],

@@ -4,7 +4,6 @@ ghost use Rattle.std.specs.Fmt.{decimal};
 ghost use Rattle.vms_io.specs.Causes.{HasCause};
 ghost use Rattle.vms_values.specs.Written.{Writes};
 ghost use Rattle.vms_values.specs.Paths.{path_text};
-ghost use Rattle.vms_values.specs.Spelled.{Strips};
 
 use crate::lines::write_pieces;
 use itoa::Buffer;
@@ -50,40 +49,5 @@ pub(crate) fn write_path<K: Sink>(sink: &mut K, path: &Path) -> Result<(), Faile
             write_path(sink, path)?;
             write_all_of(sink, b".")
         }
-    }
-}
-
-/// What stands in a line after a path, if it begins with it.
-pub(crate) fn strip_path<'a>(path: &Path, line: &'a [u8]) -> Option<&'a [u8]>
-    ensures { Strips (path_text path.now) line.now result }
-{
-    match path {
-        Path::Top => Some(line),
-        Path::Field { before, name } => match strip_path(before, line) {
-            Some(rest) => rest.strip_prefix(*name),
-            None => None,
-        },
-        Path::Element { array, index } => match strip_path(array, line) {
-            Some(rest) => strip_index(rest, *index),
-            None => None,
-        },
-        Path::Inside(path) => match strip_path(path, line) {
-            Some(rest) => rest.strip_prefix(b"."),
-            None => None,
-        },
-    }
-}
-
-/// What stands after an element's number in brackets.
-fn strip_index<'a>(line: &'a [u8], index: u32) -> Option<&'a [u8]>
-    ensures { Strips (codes "[" ++ (decimal index ++ codes "]")) line.now result }
-{
-    let mut digits = Buffer::new();
-    match line.strip_prefix(b"[") {
-        Some(rest) => match rest.strip_prefix(digits.format(index).as_bytes()) {
-            Some(rest) => rest.strip_prefix(b"]"),
-            None => None,
-        },
-        None => None,
     }
 }

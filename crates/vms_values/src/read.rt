@@ -5,14 +5,13 @@ ghost use Rattle.std.specs.Str.{bytes_eq};
 ghost use Rattle.vms_spec.specs.Spelling.{first_line};
 ghost use Rattle.vms_spec.specs.ValuesReading.{section_line, is_line};
 ghost use Rattle.vms_parts.specs.Views.{device_of};
-ghost use Rattle.vms_values.specs.Paths.{path_text};
 ghost use Rattle.vms_values.specs.Spelled.{Strips};
 ghost use Rattle.vms_values.specs.Reading.{Passed};
 
 use crate::cursor::Lines;
 use crate::fault::LineFault;
-use crate::path::{Path, strip_path};
-use crate::text::{Line, is_joined, next_line};
+use crate::line::Line;
+use crate::text::{Line as TextLine, is_joined, next_line};
 use itoa::Buffer;
 use vms_desc::Device;
 use vms_image::Image;
@@ -65,7 +64,7 @@ fn is_section(device: &Device, line: &[u8]) -> bool
 }
 
 /// Goes on after a line.
-pub(crate) fn pass<'a>(lines: &mut Lines<'a>, next: Line<'a>)
+pub(crate) fn pass<'a>(lines: &mut Lines<'a>, next: TextLine<'a>)
     requires { length next.text.now + length next.after.now + 1 ≡ length lines.old.rest.now }
     ensures number { lines.new.line ≡ lines.old.line + 1 }
     ensures rest { lines.new.rest.now ≡ next.entry.after.now }
@@ -75,10 +74,10 @@ pub(crate) fn pass<'a>(lines: &mut Lines<'a>, next: Line<'a>)
 }
 
 /// What stands for the number in the line of a cell, if the line begins as it must.
-pub(crate) fn number_text<'a>(path: &Path, line: &'a [u8]) -> Option<&'a [u8]>
-    ensures { Strips (path_text path.now ++ codes " = ") line.now result }
+pub(crate) fn number_text<'a>(path: &Line, line: &'a [u8]) -> Option<&'a [u8]>
+    ensures { Strips (path.now ++ codes " = ") line.now result }
 {
-    match strip_path(path, line) {
+    match line.strip_prefix(path.text()) {
         Some(rest) => rest.strip_prefix(b" = "),
         None => None,
     }

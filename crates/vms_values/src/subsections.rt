@@ -20,7 +20,6 @@ ghost use Rattle.vms_values.specs.SubsTaken.{line_said, SubPassed, sub_read, Sub
 
 use crate::cursor::Lines;
 use crate::fault::LineFault;
-use crate::path::Path;
 use crate::read::{bad, pass};
 use crate::taken::{Taken, read_part};
 use crate::text::{is_joined, next_line};
@@ -80,7 +79,7 @@ fn read_sub(set: &DescSet, device: u32, sub: u32, taken: &mut Taken) -> Result<(
         version: described.desc.version,
         base: set.first_cell(part),
     };
-    read_part(set, spot, &Path::Top, true, taken)
+    read_part(set, spot, taken)
 }
 
 // The version at which a subsection came by its line, if it did.

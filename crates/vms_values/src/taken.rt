@@ -1,5 +1,5 @@
 // Reads the lines of a description: arrays to their counts, and structures.
-ghost use Rattle.std.specs.Prelude.{◌≡◌, ◌+◌, ◌*◌, ◌<◌, ◌≤◌, ◌&&◌, true, length, get_or, slice_set};
+ghost use Rattle.std.specs.Prelude.{[], ◌≡◌, ◌+◌, ◌*◌, ◌<◌, ◌≤◌, ◌&&◌, true, length, get_or, slice_set};
 ghost use Rattle.vms_kinds.specs.Codes.{InRange};
 ghost use Rattle.vms_kinds.specs.declared.Kind.TheVariants.{U8};
 ghost use Rattle.vms_spec.specs.Tests.{is_there};
@@ -14,16 +14,15 @@ ghost use Rattle.vms_desc.specs.Described.{described};
 ghost use Rattle.vms_desc.specs.Parts.{desc_at};
 ghost use Rattle.vms_parts.specs.Views.{field_of};
 ghost use Rattle.vms_walk.specs.Steps.{HasSpot, table, cells_in, size_in, capacities_of};
-ghost use Rattle.vms_values.specs.Paths.{path_text};
-ghost use Rattle.vms_values.specs.Printing.{IsRun};
+ghost use Rattle.vms_values.specs.Printing.{IsRun, Stays, below, below_part};
 ghost use Rattle.vms_values.specs.Reading.{Reaches};
 ghost use Rattle.vms_values.specs.Taken.{IsKept, AreKinds, ElementKinds, part_cells, element_cells};
 ghost use Rattle.vms_values.specs.Taken.{place_of, run_read, line_read, number_judged};
 
 use crate::cursor::Lines;
 use crate::fault::LineFault;
+use crate::line::Line;
 use crate::numbers::read_number;
-use crate::path::Path;
 use crate::read::{bad, number_text, pass};
 use crate::text::next_line;
 use vms_desc::{Count, DescSet, Field, Part};
@@ -50,25 +49,41 @@ struct Run<'a> {
     present: bool,
 }
 
-/// Reads the lines of a part, or of one element of a structure, which is `present` or not.
+/// Reads the lines of a part.
+pub(crate) fn read_part(set: &DescSet, spot: Spot, taken: &mut Taken) -> Result<(), LineFault>
+    requires spot { HasSpot (described set.now) spot taken.old.image.numbers }
+    requires kinds { let cells = part_cells (described set.now) spot.part in
+        AreKinds taken.old.image.kinds spot.base cells }
+    ensures read { let set = described set.now in
+        let d = desc_at set spot.part in
+        let whole = read_desc (readers set) d spot.version [] true spot.base in
+        Reaches (whole (place_of taken.old)) (place_of taken.new) result }
+    ensures kept { IsKept taken.old.image taken.new.image }
+{
+    read_under(set, spot, &mut Line::new(), true, taken)
+}
+
+// The lines of a part, or of one element of a structure, which is `present` or not, under a path.
 #[cycle(read)]
-pub(crate) fn read_part(
+fn read_under(
     set: &DescSet,
     spot: Spot,
-    path: &Path,
+    path: &mut Line,
     present: bool,
     taken: &mut Taken,
 ) -> Result<(), LineFault>
     requires spot { HasSpot (described set.now) spot taken.old.image.numbers }
     requires kinds { let cells = part_cells (described set.now) spot.part in
         AreKinds taken.old.image.kinds spot.base cells }
+    requires short { length path.old + below_part (described set.now) spot.part ≤ 8320 }
     ensures read { let set = described set.now in
         let d = desc_at set spot.part in
-        let text = path_text path.now in
-        let whole = read_desc (readers set) d spot.version text present spot.base in
+        let whole = read_desc (readers set) d spot.version path.old present spot.base in
         Reaches (whole (place_of taken.old)) (place_of taken.new) result }
     ensures kept { IsKept taken.old.image taken.new.image }
+    ensures path { Stays path.old path.new }
 {
+    let kept = path.len();
     let mut cell = spot.base;
     for field in 0..set.field_count(spot.part) {
         let run = Run {
@@ -78,6 +93,7 @@ pub(crate) fn read_part(
             most: set.most(spot.part, field),
             present: is_present(set, spot, field, present, &taken.image),
         };
+        path.cut(kept);
         read_field(set, run, path, taken)?;
         cell += set.field_cells(spot.part, field);
     }
@@ -98,33 +114,38 @@ fn is_present(set: &DescSet, spot: Spot, field: u32, present: bool, image: &Imag
 
 // The lines of a field's elements.
 #[cycle(read)]
-fn read_field(set: &DescSet, run: Run, path: &Path, taken: &mut Taken) -> Result<(), LineFault>
+fn read_field(set: &DescSet, run: Run, path: &mut Line, taken: &mut Taken) -> Result<(), LineFault>
     requires fits { let numbers = taken.old.image.numbers in
         IsRun (described set.now) (field_of run.field.now) run.first run.count numbers }
     requires kinds { let structs = cells_in (table (described set.now)) in
         ElementKinds structs run.field.now.item taken.old.image.kinds run.first run.count }
+    requires name { length (field_of run.field.now).name ≤ 32 }
+    requires short { let item = run.field.now.item in
+        length path.old + 128 + below item ≤ 8320 }
     ensures read { let f = field_of run.entry.field.now in
-        let text = path_text path.now in
         let set = described set.now in
         let caps = capacities_of run.entry.most in
         let r = run.entry in
-        let whole = run_read (readers set) f f.count caps text r.present r.first r.count in
+        let whole = run_read (readers set) f f.count caps path.old r.present r.first r.count in
         Reaches (whole (place_of taken.old)) (place_of taken.new) result }
     ensures kept { IsKept taken.old.image taken.new.image }
+    ensures path { Stays path.old path.new }
 {
-    let path = Path::Field {
-        before: &*path,
-        name: run.field.name.as_bytes(),
-    };
+    path.push(run.field.name.as_bytes());
     match run.field.count {
-        Count::One => read_item(set, run, &path, taken),
-        _ => read_elements(set, run, &path, taken),
+        Count::One => read_item(set, run, path, taken),
+        _ => read_elements(set, run, path, taken),
     }
 }
 
 // The lines of the elements of an array.
 #[cycle(read)]
-fn read_elements(set: &DescSet, run: Run, path: &Path, taken: &mut Taken) -> Result<(), LineFault>
+fn read_elements(
+    set: &DescSet,
+    run: Run,
+    path: &mut Line,
+    taken: &mut Taken,
+) -> Result<(), LineFault>
     requires reaches { uses_below (length (described set.now).structs) run.field.now.item ≡ true }
     requires small { size_in (described set.now) run.field.now.item ≤ 16384 }
     requires room { let size = size_in (described set.now) run.field.now.item in
@@ -132,24 +153,24 @@ fn read_elements(set: &DescSet, run: Run, path: &Path, taken: &mut Taken) -> Res
     requires few { length taken.old.image.numbers ≤ 16384 }
     requires kinds { let structs = cells_in (table (described set.now)) in
         ElementKinds structs run.field.now.item taken.old.image.kinds run.first run.count }
+    requires short { length path.old + 96 + below run.field.now.item ≤ 8320 }
     ensures read { let f = field_of run.entry.field.now in
-        let text = path_text path.now in
         let set = described set.now in
         let size = size_in set f.item in
         let caps = capacities_of run.entry.most in
         let r = run.entry in
-        let whole = read_elements (readers set) f caps text r.present r.first size 0 r.count in
+        let whole = read_elements (readers set) f caps path.old r.present r.first size 0 r.count in
         Reaches (whole (place_of taken.old)) (place_of taken.new) result }
     ensures kept { IsKept taken.old.image taken.new.image }
+    ensures path { Stays path.old path.new }
 {
     let size = set.item_cells(run.field.item);
+    let kept = path.len();
     let mut first = run.first;
     for index in 0..run.count {
-        let path = Path::Element {
-            array: &*path,
-            index,
-        };
-        read_item(set, Run { first, ..run }, &path, taken)?;
+        path.cut(kept);
+        path.push_index(index);
+        read_item(set, Run { first, ..run }, path, taken)?;
         first += size;
     }
     Ok(())
@@ -157,23 +178,25 @@ fn read_elements(set: &DescSet, run: Run, path: &Path, taken: &mut Taken) -> Res
 
 // The lines of one element, the first of the run.
 #[cycle(read)]
-fn read_item(set: &DescSet, run: Run, path: &Path, taken: &mut Taken) -> Result<(), LineFault>
+fn read_item(set: &DescSet, run: Run, path: &mut Line, taken: &mut Taken) -> Result<(), LineFault>
     requires reaches { uses_below (length (described set.now).structs) run.field.now.item ≡ true }
     requires room { let size = size_in (described set.now) run.field.now.item in
         run.first + size ≤ length taken.old.image.numbers }
     requires few { length taken.old.image.numbers ≤ 16384 }
     requires kinds { let structs = cells_in (table (described set.now)) in
         AreKinds taken.old.image.kinds run.first (element_cells structs run.field.now.item) }
+    requires short { length path.old + 54 + below run.field.now.item ≤ 8320 }
     ensures read { let f = field_of run.entry.field.now in
-        let text = path_text path.now in
         let set = described set.now in
         let caps = capacities_of run.entry.most in
-        let whole = read_item (readers set) f caps text run.entry.present run.entry.first f.item in
+        let r = run.entry in
+        let whole = read_item (readers set) f caps path.old r.present r.first f.item in
         Reaches (whole (place_of taken.old)) (place_of taken.new) result }
     ensures kept { IsKept taken.old.image taken.new.image }
+    ensures path { Stays path.old path.new }
 {
     match run.field.item {
-        Item::Num(kind) => read_number_line(kind, run, path, taken),
+        Item::Num(kind) => read_number_line(kind, run, &*path, taken),
         Item::Equal { .. } => Ok(()),
         Item::Unused { .. } => Ok(()),
         Item::Struct(number) => {
@@ -183,18 +206,19 @@ fn read_item(set: &DescSet, run: Run, path: &Path, taken: &mut Taken) -> Result<
                 version: set.desc(part).version,
                 base: run.first,
             };
-            read_part(set, spot, &Path::Inside(&*path), run.present, taken)
+            path.push(b".");
+            read_under(set, spot, path, run.present, taken)
         }
     }
 }
 
 // The line of a cell, the first of the run.
-fn read_number_line(kind: Kind, run: Run, path: &Path, taken: &mut Taken) -> Result<(), LineFault>
+fn read_number_line(kind: Kind, run: Run, path: &Line, taken: &mut Taken) -> Result<(), LineFault>
     requires room { run.first < length taken.old.image.numbers }
     requires of_kind { get_or taken.old.image.kinds run.first U8 ≡ kind }
     ensures read { let caps = capacities_of run.entry.most in
         let r = run.entry in
-        let line = line_read (path_text path.now) kind caps r.first r.field.now.default r.present in
+        let line = line_read (path.now) kind caps r.first r.field.now.default r.present in
         Reaches (line (place_of taken.old)) (place_of taken.new) result }
     ensures kept { IsKept taken.old.image taken.new.image }
 {

@@ -1,12 +1,16 @@
-use Rattle.std.proofs.Common.{codes}
-use Rattle.vms_values.specs.Paths.{path_text}
+use Rattle.std.proofs.Common.{◌≡◌, ℕ, List, ◌++◌, codes, false, subst}
+use Rattle.vms_spec.specs.Spelling.{begins_with}
+use Rattle.vms_values.specs.Spelled.{Strips}
 use Rattle.vms_values.proofs.ReadLemmas.{strips_then, strips_not, strip_is}
 use Rattle.vms_values.proofs.read.number_text.Goals as goal
 
 pub returns-in-Some : goal.returns-in-Some
 returns-in-Some c =
-    strips_then (path_text c.args.path.now) (codes " = ") c.args.line.now c.in-Some.rest.now c.strip_prefix.result c.in-Some.ensures.0 c.in-Some.ensures.1
-    (strip_is (codes " = ") c.in-Some.rest.now c.strip_prefix.result c.strip_prefix.ensures.cases)
+    subst (λ (path : List ℕ). Strips (path ++ codes " = ") c.args.line.now c.strip_prefix-in-Some.result) c.text.ensures
+    (strips_then c.text.result.now (codes " = ") c.args.line.now c.in-Some.rest.now c.strip_prefix-in-Some.result c.in-Some.ensures.cases.0 c.in-Some.ensures.cases.1
+    (strip_is (codes " = ") c.in-Some.rest.now c.strip_prefix-in-Some.result c.strip_prefix-in-Some.ensures.cases))
 
 pub returns-in-None : goal.returns-in-None
-returns-in-None c = strips_not (path_text c.args.path.now) (codes " = ") c.args.line.now c.in-None.ensures
+returns-in-None c =
+    subst (λ (path : List ℕ). begins_with (path ++ codes " = ") c.args.line.now ≡ false) c.text.ensures
+    (strips_not c.text.result.now (codes " = ") c.args.line.now c.in-None.ensures.cases)

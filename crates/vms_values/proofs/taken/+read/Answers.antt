@@ -1,4 +1,4 @@
-use Rattle.std.proofs.Common.{rules, ◌≡◌, ℕ, ◌+◌, ◌-◌, ◌*◌, ◌<◌, ◌≤◌, ◌++◌, List, length, get_or, drop, map, codes, refl, sym, ap, ◌∙◌, subst, arith}
+use Rattle.std.proofs.Common.{rules, ◌≡◌, ℕ, ◌+◌, ◌-◌, ◌*◌, ◌<◌, ◌≤◌, ◌++◌, List, length, length-append, get_or, drop, map, codes, refl, sym, ap, ◌∙◌, subst, arith}
 use Rattle.std.proofs.lemmas.Bool.{ltb-true}
 use Rattle.std.proofs.lemmas.Result.{err_from_is_err_and}
 use Rattle.vms_kinds.specs.declared.Item.{Item}
@@ -18,9 +18,11 @@ use Rattle.vms_desc.proofs.AskLaws.{found_field}
 use Rattle.vms_walk.specs.Steps.{HasSpot, size_in, table, cells_in, capacities_of}
 use Rattle.vms_walk.proofs.Spots.{size_code, width_code, spot_room, struct_size}
 use Rattle.vms_walk.proofs.Walking.{room_at, fields_at}
-use Rattle.vms_values.specs.Paths.{path_text}
+use Rattle.std.specs.Fmt.{decimal}
+use Rattle.vms_values.specs.Printing.{below, Stays}
 use Rattle.vms_values.specs.Reading.{Reaches}
 use Rattle.vms_values.specs.Taken.{AreKinds, ElementKinds, element_cells, place_of}
+use Rattle.vms_values.proofs.Fronts.{stays, stays_is, stays_then, stays_element, cut_is, field_short}
 use Rattle.vms_values.proofs.KindsAt.{field_kinds, number_kind, struct_kinds}
 use Rattle.vms_values.proofs.Kept.{kept_none, kept_more}
 use Rattle.vms_values.proofs.ReadLemmas.{reached, stopped}
@@ -35,11 +37,22 @@ pub read_elements-returns-in_err-read_item-clause-read : goal.read_elements-retu
 read_elements-returns-in_err-read_item-clause-read t c =
     let set = described c.args.set.now in
     let f = field_of c.args.run.field.now in
+    let front = cut_is c.args.path.now c.loop-index.path c.cut.new.self c.len-kept.result c.cut.ensures c.len-kept.ensures c.loop-index.invariant.path in
+    let path : c.push_index.new.self ≡ c.args.path.now ++ codes "[" ++ decimal c.loop-index.index ++ codes "]" =
+    c.push_index.ensures.text ∙ ap (λ (l : List ℕ). l ++ codes "[" ++ decimal c.loop-index.index ++ codes "]") front in
     let p = err_from_is_err_and c.from_residual.result c.from_residual.ensures.1 in
     rw (p.1, p.2) (stopped _ _ _ _ _
-    (λ b same. sym c.loop-index.invariant.reads ∙ elements_stop (readers set) f (capacities_of c.args.run.most) (path_text c.args.path.now) c.args.run.present (size_in set f.item)
-    c.loop-index.first c.loop-index.index c.args.run.count (place_of c.loop-index.taken) b c.loop-index-test.true same)
+    (λ b same. sym c.loop-index.invariant.reads ∙ elements_stop (readers set) f (capacities_of c.args.run.most) c.args.path.now c.args.run.present (size_in set f.item)
+    c.loop-index.first c.loop-index.index c.args.run.count (place_of c.loop-index.taken) b c.loop-index-test.true
+    (ap (λ (l : List ℕ). read_item (readers set) f (capacities_of c.args.run.most) l c.args.run.present c.loop-index.first f.item (place_of c.loop-index.taken)) (sym path) ∙ same))
     c.in_err-read_item.ensures.read)
+
+pub read_elements-returns-in_err-read_item-clause-path : goal.read_elements-returns-in_err-read_item-clause-path
+read_elements-returns-in_err-read_item-clause-path t c =
+    let front = cut_is c.args.path.now c.loop-index.path c.cut.new.self c.len-kept.result c.cut.ensures c.len-kept.ensures c.loop-index.invariant.path in
+    let path : c.push_index.new.self ≡ c.args.path.now ++ codes "[" ++ decimal c.loop-index.index ++ codes "]" =
+    c.push_index.ensures.text ∙ ap (λ (l : List ℕ). l ++ codes "[" ++ decimal c.loop-index.index ++ codes "]") front in
+    stays_then _ _ _ (stays_element c.args.path.now (decimal c.loop-index.index) c.push_index.new.self path) c.in_err-read_item.ensures.path
 
 pub read_elements-overflow_add-first : goal.read_elements-overflow_add-first
 read_elements-overflow_add-first t c =
@@ -57,14 +70,19 @@ read_elements-loop-index-preserved t c =
     let size = size_code set f.item c.item_cells-size.result c.item_cells-size.ensures c.requires.small in
     let one : (i + 1) * size_in set f.item ≡ i * size_in set f.item + size_in set f.item = grind arith in
     let caps = capacities_of c.args.run.most in
-    let path = path_text c.args.path.now in
+    let front = cut_is c.args.path.now c.loop-index.path c.cut.new.self c.len-kept.result c.cut.ensures c.len-kept.ensures c.loop-index.invariant.path in
+    let element : c.push_index.new.self ≡ c.args.path.now ++ codes "[" ++ decimal c.loop-index.index ++ codes "]" =
+    c.push_index.ensures.text ∙ ap (λ (l : List ℕ). l ++ codes "[" ++ decimal c.loop-index.index ++ codes "]") front in
+    let path = c.args.path.now in
     record {
       reads = ap (λ (s : ℕ). read_elements (readers set) f caps path c.args.run.present (c.loop-index.first + s) (size_in set f.item) (i + 1) (c.args.run.count - (i + 1)) (place_of c.read_item.new.taken)) size
           ∙ elements_go (readers set) f caps path c.args.run.present (size_in set f.item) c.loop-index.first i c.args.run.count (place_of c.loop-index.taken) _ c.loop-index-test.true
-          (reached _ _ c.in_ok-read_item.ensures.read)
+          (ap (λ (l : List ℕ). read_item (readers set) f caps l c.args.run.present c.loop-index.first f.item (place_of c.loop-index.taken)) (sym element)
+          ∙ reached _ _ c.in_ok-read_item.ensures.read)
           ∙ c.loop-index.invariant.reads;
       here = omega (arith, one, size, c.loop-index.invariant.here);
       kept = kept_more _ _ _ c.loop-index.invariant.kept c.in_ok-read_item.ensures.kept;
+      path = stays_then _ _ _ (stays_element c.args.path.now (decimal i) c.push_index.new.self element) c.in_ok-read_item.ensures.path;
     }
 
 pub read_elements-read_item-requires : goal.read_elements-read_item-requires
@@ -78,7 +96,9 @@ read_elements-read_item-requires t c =
     subst (λ (p : ℕ). AreKinds c.args.taken.now.image.kinds p (element_cells cs item)) (sym c.loop-index.invariant.here) (c.requires.kinds c.loop-index.index (omega (arith, c.loop-index-test.true))) in
     let fits : c.loop-index.first + size_in set item ≤ length c.loop-index.taken.image.numbers = omega (arith, room, kept.long) in
     let few : length c.loop-index.taken.image.numbers ≤ 16384 = omega (arith, kept.long, c.requires.few) in
-    (omega arith, (c.requires.reaches, (fits, (few, subst (λ (ks : List Kind). AreKinds ks c.loop-index.first (element_cells cs item)) (sym kept.kinds) here))))
+    let front = cut_is c.args.path.now c.loop-index.path c.cut.new.self c.len-kept.result c.cut.ensures c.len-kept.ensures c.loop-index.invariant.path in
+    let short : length c.push_index.new.self + 54 + below item ≤ 8320 = omega (arith, ap length front, c.push_index.ensures.long, c.requires.short) in
+    (omega arith, (c.requires.reaches, (fits, (few, (subst (λ (ks : List Kind). AreKinds ks c.loop-index.first (element_cells cs item)) (sym kept.kinds) here, short)))))
 
 -- ---- a field
 
@@ -92,29 +112,37 @@ read_field-read_item-requires t c =
     let zero_on : c.args.run.first + 0 * size_in set item ≡ c.args.run.first = omega arith in
     let width : c.args.run.count * size_in set item ≡ 1 * size_in set item = ap (λ (n : ℕ). n * size_in set item) one in
     let room : c.args.run.first + size_in set item ≤ length c.args.taken.now.image.numbers = omega (arith, width, c.requires.fits.room) in
-    (omega arith, (c.requires.fits.reaches, (room, (c.requires.fits.few, subst (λ (p : ℕ). AreKinds kinds p (element_cells cs item)) zero_on (c.requires.kinds 0 (omega (arith, one)))))))
+    let named : c.push.new.self ≡ c.args.path.now ++ (field_of c.args.run.field.now).name = c.push.ensures ∙ ap (λ (l : List ℕ). c.args.path.now ++ l) c.as_bytes.ensures in
+    let short : length c.push.new.self + 54 + below c.args.run.field.now.item ≤ 8320 =
+    omega (arith, ap length named, length-append c.args.path.now (field_of c.args.run.field.now).name, c.requires.name, c.requires.short) in
+    (omega arith, (c.requires.fits.reaches, (room, (c.requires.fits.few, (subst (λ (p : ℕ). AreKinds kinds p (element_cells cs item)) zero_on (c.requires.kinds 0 (omega (arith, one))), short)))))
 
 pub read_field-read_elements-requires : goal.read_field-read_elements-requires
 read_field-read_elements-requires t c =
-    (omega arith, (c.requires.fits.reaches, (c.requires.fits.small, (c.requires.fits.room, (c.requires.fits.few, c.requires.kinds)))))
+    let named : c.push.new.self ≡ c.args.path.now ++ (field_of c.args.run.field.now).name = c.push.ensures ∙ ap (λ (l : List ℕ). c.args.path.now ++ l) c.as_bytes.ensures in
+    let short : length c.push.new.self + 96 + below c.args.run.field.now.item ≤ 8320 =
+    omega (arith, ap length named, length-append c.args.path.now (field_of c.args.run.field.now).name, c.requires.name, c.requires.short) in
+    (omega arith, (c.requires.fits.reaches, (c.requires.fits.small, (c.requires.fits.room, (c.requires.fits.few, (c.requires.kinds, short))))))
 
 pub read_field-returns-in_default : goal.read_field-returns-in_default
 read_field-returns-in_default t c =
     let set = described c.args.set.now in
     let f = field_of c.args.run.field.now in
     let p = place_of c.args.taken.now in
+    let named : c.push.new.self ≡ c.args.path.now ++ (field_of c.args.run.field.now).name = c.push.ensures ∙ ap (λ (l : List ℕ). c.args.path.now ++ l) c.as_bytes.ensures in
     record {
       read = subst (λ (r : Read). Reaches r (place_of c.read_elements.new.taken) c.read_elements.result)
-          (ap (λ (name : List ℕ). read_elements (readers set) f (capacities_of c.args.run.most) (path_text c.args.path.now ++ name) c.args.run.present c.args.run.first (size_in set f.item) 0 c.args.run.count p) c.as_bytes.ensures
-          ∙ array_read set f c.args.run.count (capacities_of c.args.run.most) (path_text c.args.path.now) c.args.run.present c.args.run.first p c.in_default.not-One)
+          (ap (λ (l : List ℕ). read_elements (readers set) f (capacities_of c.args.run.most) l c.args.run.present c.args.run.first (size_in set f.item) 0 c.args.run.count p) named
+          ∙ array_read set f c.args.run.count (capacities_of c.args.run.most) c.args.path.now c.args.run.present c.args.run.first p c.in_default.not-One)
           c.read_elements.ensures.read;
       kept = c.read_elements.ensures.kept;
+      path = stays_then _ _ _ (stays_is c.args.path.now f.name c.push.new.self named) c.read_elements.ensures.path;
     }
 
 -- ---- an element
 
-pub read_item-read_part-requires : goal.read_item-read_part-requires
-read_item-read_part-requires t c =
+pub read_item-read_under-requires : goal.read_item-read_under-requires
+read_item-read_under-requires t c =
     let set = described c.args.set.now in
     let j = c.in-Struct.number in
     let lt : j < length set.structs = ltb-true j (length set.structs) (rw c.in-Struct.is at c.requires.reaches) in
@@ -122,7 +150,9 @@ read_item-read_part-requires t c =
     let size = struct_size set c.args.set.now.well_formed j lt in
     let spot : HasSpot set (record { part = parts.Struct j; version = c.desc.result.now.version; base = c.args.run.first }) c.args.taken.now.image.numbers =
     record { part = lt; few = c.requires.few; room = omega (arith, room, size) } in
-    (search rules, (spot, struct_kinds set c.args.set.now.well_formed j lt c.args.taken.now.image.kinds c.args.run.first (rw c.in-Struct.is at c.requires.kinds)))
+    let short = rw c.in-Struct.is at c.requires.short in
+    let grown : length c.push.new.self + 128 * (j + 1) ≤ 8320 = omega (arith, ap length c.push.ensures, length-append c.args.path.now (codes "."), short) in
+    (search rules, (spot, (struct_kinds set c.args.set.now.well_formed j lt c.args.taken.now.image.kinds c.args.run.first (rw c.in-Struct.is at c.requires.kinds), grown)))
 
 pub read_item-read_number_line-requires-clause-of_kind : goal.read_item-read_number_line-requires-clause-of_kind
 read_item-read_number_line-requires-clause-of_kind t c =
@@ -137,28 +167,30 @@ read_item-returns-in-Struct-clause-read t c =
     let lt : j < length set.structs = ltb-true j (length set.structs) (rw c.in-Struct.is at c.requires.reaches) in
     let d = get_or set.structs j no_desc in
     let version : c.desc.result.now.version ≡ d.version = ap (λ (x : Desc). x.version) c.desc.ensures in
-    let path = path_text c.args.path.now in
+    let path = c.args.path.now in
     let p = place_of c.args.taken.now in
     let caps = capacities_of c.args.run.most in
-    subst (λ (r : Read). Reaches r (place_of c.read_part.new.taken) c.read_part.result)
-    (ap (λ (v : ℕ). read_desc (readers set) d v (path ++ codes ".") c.args.run.present c.args.run.first p) version
+    subst (λ (r : Read). Reaches r (place_of c.read_under.new.taken) c.read_under.result)
+    (ap (λ (l : List ℕ). read_desc (readers set) d c.desc.result.now.version l c.args.run.present c.args.run.first p) c.push.ensures
+    ∙ ap (λ (v : ℕ). read_desc (readers set) d v (path ++ codes ".") c.args.run.present c.args.run.first p) version
     ∙ sym (ap (λ (i : Item). read_item (readers set) f caps path c.args.run.present c.args.run.first i p) c.in-Struct.is
     ∙ struct_reads set c.args.set.now.well_formed j lt f caps path c.args.run.present c.args.run.first p))
-    c.read_part.ensures.read
+    c.read_under.ensures.read
 
 -- ---- a part
 
-pub read_part-loop-field-init : goal.read_part-loop-field-init
-read_part-loop-field-init t c =
+pub read_under-loop-field-init : goal.read_under-loop-field-init
+read_under-loop-field-init t c =
     record {
       reads = refl;
       room = spot_room (described c.args.set.now) c.args.spot c.args.taken.now.image.numbers c.requires.spot;
       kinds = c.requires.kinds;
       kept = kept_none c.args.taken.now.image;
+      path = stays c.args.path.now;
     }
 
-pub read_part-read_field-requires : goal.read_part-read_field-requires
-read_part-read_field-requires t c =
+pub read_under-read_field-requires : goal.read_under-read_field-requires
+read_under-read_field-requires t c =
     let set = described c.args.set.now in
     let spot = c.args.spot in
     let n = c.loop-field.taken.image.numbers in
@@ -176,7 +208,7 @@ read_part-read_field-requires t c =
       room = subst (λ (x : ℕ). spot.base + own_cell_count set d ≤ x) (sym long) c.requires.spot.room;
     } in
     let count : c.elements.result ≡ elements_of f.count (own_numbers set spot.part n spot.base) = c.elements.ensures ∙ ap (λ (x : Field). elements_of x.count (own_numbers set spot.part n spot.base)) (sym found) in
-    let next = next_run set c.args.set.now.well_formed spot (path_text c.args.path.now) n has k cell c.elements.result (field_of f) lt found count c.loop-field.invariant.room in
+    let next = next_run set c.args.set.now.well_formed spot c.args.path.now n has k cell c.elements.result (field_of f) lt found count c.loop-field.invariant.room in
     let comes : IsNext set d spot.version c.args.present spot.base k c.elements.result c.most.result c.is_present.result (field_of f) (place_of c.loop-field.taken) =
     record { inside = lt; found = found; counts = c.elements.ensures; least = c.most.ensures; is = c.is_present.ensures } in
     let lower = next.lower in
@@ -185,10 +217,13 @@ read_part-read_field-requires t c =
     let left = field_kinds cs d.fields kinds k cell (field_at set spot.part k) (drop k d.fields) (drop (k + 1) d.fields) (fields_at d.fields k lt) c.loop-field.invariant.kinds in
     let here : ElementKinds cs (field_of f).item kinds cell (capacity_of f.count) = subst (λ (x : Field). ElementKinds cs x.item kinds cell (capacity_of x.count)) (sym found) left.here in
     let fewer : c.elements.result ≤ capacity_of f.count = omega (arith, count, elements_fit f.count (own_numbers set spot.part n spot.base)) in
-    (omega (arith, lower), (next.run, λ i inside. here i (omega (arith, inside, fewer))))
+    let front = cut_is c.args.path.now c.loop-field.path c.cut.new.self c.len-kept.result c.cut.ensures c.len-kept.ensures c.loop-field.invariant.path in
+    let short = field_short set c.args.set.now.well_formed spot.part c.requires.spot.part k lt (field_of f) found in
+    (omega (arith, lower), (next.run, ((λ i inside. here i (omega (arith, inside, fewer))), (short.0, omega (arith, ap length front, short.1, c.requires.short)))))
 
-pub read_part-returns-in_err-read_field-clause-read : goal.read_part-returns-in_err-read_field-clause-read
-read_part-returns-in_err-read_field-clause-read t c =
+pub read_under-returns-in_err-read_field-clause-read : goal.read_under-returns-in_err-read_field-clause-read
+read_under-returns-in_err-read_field-clause-read t c =
+    let front = cut_is c.args.path.now c.loop-field.path c.cut.new.self c.len-kept.result c.cut.ensures c.len-kept.ensures c.loop-field.invariant.path in
     let set = described c.args.set.now in
     let spot = c.args.spot in
     let n = c.loop-field.taken.image.numbers in
@@ -206,17 +241,22 @@ read_part-returns-in_err-read_field-clause-read t c =
       room = subst (λ (x : ℕ). spot.base + own_cell_count set d ≤ x) (sym long) c.requires.spot.room;
     } in
     let count : c.elements.result ≡ elements_of f.count (own_numbers set spot.part n spot.base) = c.elements.ensures ∙ ap (λ (x : Field). elements_of x.count (own_numbers set spot.part n spot.base)) (sym found) in
-    let next = next_run set c.args.set.now.well_formed spot (path_text c.args.path.now) n has k cell c.elements.result (field_of f) lt found count c.loop-field.invariant.room in
+    let next = next_run set c.args.set.now.well_formed spot c.args.path.now n has k cell c.elements.result (field_of f) lt found count c.loop-field.invariant.room in
     let comes : IsNext set d spot.version c.args.present spot.base k c.elements.result c.most.result c.is_present.result (field_of f) (place_of c.loop-field.taken) =
     record { inside = lt; found = found; counts = c.elements.ensures; least = c.most.ensures; is = c.is_present.ensures } in
     let p = err_from_is_err_and c.from_residual.result c.from_residual.ensures.1 in
     rw (p.1, p.2) (stopped _ _ _ _ _
-    (λ b same. sym c.loop-field.invariant.reads ∙ fields_stop set d spot.version (path_text c.args.path.now) c.args.present spot.base k cell c.elements.result c.most.result c.is_present.result (field_of f)
+    (λ b same. sym c.loop-field.invariant.reads ∙ fields_stop set d spot.version c.args.path.now c.args.present spot.base k cell c.elements.result c.most.result c.is_present.result (field_of f)
     (place_of c.loop-field.taken) b comes same)
-    c.in_err-read_field.ensures.read)
+    (rw front at c.in_err-read_field.ensures.read))
 
-pub read_part-overflow_add-cell : goal.read_part-overflow_add-cell
-read_part-overflow_add-cell t c =
+pub read_under-returns-in_err-read_field-clause-path : goal.read_under-returns-in_err-read_field-clause-path
+read_under-returns-in_err-read_field-clause-path t c =
+    let front = cut_is c.args.path.now c.loop-field.path c.cut.new.self c.len-kept.result c.cut.ensures c.len-kept.ensures c.loop-field.invariant.path in
+    stays_then _ _ _ (subst (Stays c.args.path.now) (sym front) (stays c.args.path.now)) c.in_err-read_field.ensures.path
+
+pub read_under-overflow_add-cell : goal.read_under-overflow_add-cell
+read_under-overflow_add-cell t c =
     let set = described c.args.set.now in
     let spot = c.args.spot in
     let n = c.loop-field.taken.image.numbers in
@@ -234,7 +274,7 @@ read_part-overflow_add-cell t c =
       room = subst (λ (x : ℕ). spot.base + own_cell_count set d ≤ x) (sym long) c.requires.spot.room;
     } in
     let count : c.elements.result ≡ elements_of f.count (own_numbers set spot.part n spot.base) = c.elements.ensures ∙ ap (λ (x : Field). elements_of x.count (own_numbers set spot.part n spot.base)) (sym found) in
-    let next = next_run set c.args.set.now.well_formed spot (path_text c.args.path.now) n has k cell c.elements.result (field_of f) lt found count c.loop-field.invariant.room in
+    let next = next_run set c.args.set.now.well_formed spot c.args.path.now n has k cell c.elements.result (field_of f) lt found count c.loop-field.invariant.room in
     let comes : IsNext set d spot.version c.args.present spot.base k c.elements.result c.most.result c.is_present.result (field_of f) (place_of c.loop-field.taken) =
     record { inside = lt; found = found; counts = c.elements.ensures; least = c.most.ensures; is = c.is_present.ensures } in
     let small : capacity_of f.count * size_in set f.item ≤ 16384 = omega (arith, next.room, has.few) in
@@ -242,8 +282,9 @@ read_part-overflow_add-cell t c =
     width_code set (field_of f) c.field_cells-cell.result (c.field_cells-cell.ensures ∙ ap (λ (x : Field). in_u32 (capacity_of x.count * item_size (struct_cells set) x.item)) (sym found)) small in
     omega (arith, width, next.room, has.few)
 
-pub read_part-loop-field-preserved : goal.read_part-loop-field-preserved
-read_part-loop-field-preserved t c =
+pub read_under-loop-field-preserved : goal.read_under-loop-field-preserved
+read_under-loop-field-preserved t c =
+    let front = cut_is c.args.path.now c.loop-field.path c.cut.new.self c.len-kept.result c.cut.ensures c.len-kept.ensures c.loop-field.invariant.path in
     let set = described c.args.set.now in
     let spot = c.args.spot in
     let n = c.loop-field.taken.image.numbers in
@@ -261,7 +302,7 @@ read_part-loop-field-preserved t c =
       room = subst (λ (x : ℕ). spot.base + own_cell_count set d ≤ x) (sym long) c.requires.spot.room;
     } in
     let count : c.elements.result ≡ elements_of f.count (own_numbers set spot.part n spot.base) = c.elements.ensures ∙ ap (λ (x : Field). elements_of x.count (own_numbers set spot.part n spot.base)) (sym found) in
-    let next = next_run set c.args.set.now.well_formed spot (path_text c.args.path.now) n has k cell c.elements.result (field_of f) lt found count c.loop-field.invariant.room in
+    let next = next_run set c.args.set.now.well_formed spot c.args.path.now n has k cell c.elements.result (field_of f) lt found count c.loop-field.invariant.room in
     let comes : IsNext set d spot.version c.args.present spot.base k c.elements.result c.most.result c.is_present.result (field_of f) (place_of c.loop-field.taken) =
     record { inside = lt; found = found; counts = c.elements.ensures; least = c.most.ensures; is = c.is_present.ensures } in
     let small : capacity_of f.count * size_in set f.item ≤ 16384 = omega (arith, next.room, has.few) in
@@ -269,8 +310,8 @@ read_part-loop-field-preserved t c =
     width_code set (field_of f) c.field_cells-cell.result (c.field_cells-cell.ensures ∙ ap (λ (x : Field). in_u32 (capacity_of x.count * item_size (struct_cells set) x.item)) (sym found)) small in
     let left = field_kinds (cells_in (table set)) d.fields c.loop-field.taken.image.kinds k cell (field_at set spot.part k) (drop k d.fields) (drop (k + 1) d.fields) (fields_at d.fields k lt) c.loop-field.invariant.kinds in
     record {
-      reads = fields_go set d spot.version (path_text c.args.path.now) c.args.present spot.base k cell c.elements.result c.most.result c.is_present.result (field_of f)
-          (place_of c.loop-field.taken) _ c.field_cells-cell.result comes width (reached _ _ c.in_ok-read_field.ensures.read)
+      reads = fields_go set d spot.version c.args.path.now c.args.present spot.base k cell c.elements.result c.most.result c.is_present.result (field_of f)
+          (place_of c.loop-field.taken) _ c.field_cells-cell.result comes width (reached _ _ (rw front at c.in_ok-read_field.ensures.read))
           ∙ c.loop-field.invariant.reads;
       room = subst (λ (x : ℕ). (cell + c.field_cells-cell.result) + length (cells_from (cells_in (table set)) d.fields (k + 1) (drop (k + 1) d.fields)) ≤ x) (sym c.in_ok-read_field.ensures.kept.long)
           (subst (λ (w : ℕ). (cell + w) + length (cells_from (cells_in (table set)) d.fields (k + 1) (drop (k + 1) d.fields)) ≤ length n) (sym width) next.later);
@@ -278,4 +319,5 @@ read_part-loop-field-preserved t c =
           (subst (λ (w : ℕ). AreKinds c.loop-field.taken.image.kinds (cell + w) (cells_from (cells_in (table set)) d.fields (k + 1) (drop (k + 1) d.fields))) (sym width)
           (subst (λ (x : Field). AreKinds c.loop-field.taken.image.kinds (cell + capacity_of x.count * size_in set x.item) (cells_from (cells_in (table set)) d.fields (k + 1) (drop (k + 1) d.fields))) (sym found) left.later));
       kept = kept_more _ _ _ c.loop-field.invariant.kept c.in_ok-read_field.ensures.kept;
+      path = stays_then _ _ _ (subst (Stays c.args.path.now) (sym front) (stays c.args.path.now)) c.in_ok-read_field.ensures.path;
     }

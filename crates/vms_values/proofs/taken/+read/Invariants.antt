@@ -6,7 +6,7 @@ use Rattle.vms_desc.specs.Described.{described}
 use Rattle.vms_desc.specs.Parts.{desc_at}
 use Rattle.vms_walk.specs.Steps.{size_in, table, cells_in, capacities_of}
 use Rattle.vms_walk.proofs.Ranks.{item_rank, part_rank}
-use Rattle.vms_values.specs.Paths.{path_text}
+use Rattle.vms_values.specs.Printing.{Stays}
 use Rattle.vms_values.specs.Taken.{IsKept, AreKinds, place_of}
 use Rattle.vms_values.proofs.taken.+read.Given as goal
 
@@ -19,8 +19,8 @@ decreases-read_field l = item_rank l.run.field.now.item + 2
 abbrev pub decreases-read_item : goal.decreases-read_item
 decreases-read_item l = item_rank l.run.field.now.item
 
-abbrev pub decreases-read_part : goal.decreases-read_part
-decreases-read_part l = part_rank (described l.set.now) l.spot.part + 3
+abbrev pub decreases-read_under : goal.decreases-read_under
+decreases-read_under l = part_rank (described l.set.now) l.spot.part + 3
 
 abbrev pub invariant-read_elements-loop-index : goal.invariant-read_elements-loop-index
 invariant-read_elements-loop-index l =
@@ -30,23 +30,25 @@ invariant-read_elements-loop-index l =
     let f = field_of run.field.now in
     let size = size_in set f.item in
     let caps = capacities_of run.most in
-    let path = path_text l.path in
+    let path = l.initial.path in
     record {
       reads : read_elements rs f caps path run.present l.first size l.index (run.count - l.index) (place_of l.taken)
           ≡ read_elements rs f caps path run.present run.first size 0 run.count (place_of l.initial.taken);
       here : l.first ≡ run.first + l.index * size;
       kept : IsKept l.initial.taken.image l.taken.image;
+      path : Stays l.initial.path l.path;
     }
 
-abbrev pub invariant-read_part-loop-field : goal.invariant-read_part-loop-field
-invariant-read_part-loop-field l =
+abbrev pub invariant-read_under-loop-field : goal.invariant-read_under-loop-field
+invariant-read_under-loop-field l =
     let set = described l.set in
     let d = desc_at set l.spot.part in
-    let path = path_text l.path in
+    let path = l.initial.path in
     record {
       reads : read_fields (readers set) d l.spot.version path l.present l.spot.base l.field l.cell (drop l.field d.fields) (place_of l.taken)
           ≡ read_desc (readers set) d l.spot.version path l.present l.spot.base (place_of l.initial.taken);
       room : l.cell + length (cells_from (cells_in (table set)) d.fields l.field (drop l.field d.fields)) ≤ length l.taken.image.numbers;
       kinds : AreKinds l.taken.image.kinds l.cell (cells_from (cells_in (table set)) d.fields l.field (drop l.field d.fields));
       kept : IsKept l.initial.taken.image l.taken.image;
+      path : Stays l.initial.path l.path;
     }

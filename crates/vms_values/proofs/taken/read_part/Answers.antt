@@ -1,0 +1,8 @@
+use Rattle.std.proofs.Common.{length, ap, arith}
+use Rattle.vms_desc.specs.Described.{described}
+use Rattle.vms_values.proofs.Fronts.{part_short}
+use Rattle.vms_values.proofs.taken.read_part.Goals as goal
+
+pub read_under-requires-clause-short : goal.read_under-requires-clause-short
+read_under-requires-clause-short c =
+    omega (arith, ap length c.new.ensures, part_short (described c.args.set.now) c.args.set.now.well_formed c.args.spot.part c.requires.spot.part)
