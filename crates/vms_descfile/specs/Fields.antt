@@ -1,15 +1,15 @@
 -- What the fields of a file say.
-use Rattle.std.specs.Prelude.{ℕ, Bool, true, ◌&&◌, not, if◌then◌else◌, List, [], ◌∷◌, Option, Some, None, option_and_then, ℤ, pos, codes}
+use Rattle.std.specs.Prelude.{ℕ, Bool, true, ◌&&◌, not, if◌then◌else◌, List, [], ◌∷◌, Option, Some, None, option_map, option_and_then, ℤ, pos, codes}
 use Rattle.std.specs.Str.{bytes_eq}
 use Rattle.serde_json.specs.Data.{Data}
 use Rattle.serde_json.specs.Find.{get, as_str}
 use Rattle.vms_kinds.specs.declared.Kind.{Kind}
-use Rattle.vms_kinds.specs.declared.Kind.TheVariants as kinds
 use Rattle.vms_kinds.specs.declared.Item.{Item}
 use Rattle.vms_kinds.specs.declared.Item.TheVariants as items
 use Rattle.vms_spec.specs.declared.Count.{Count}
 use Rattle.vms_spec.specs.declared.Count.TheVariants.{One, Fixed, Counted}
 use Rattle.vms_spec.specs.Sets.{Formula, Field}
+use Rattle.vms_words.specs.Words.{kind_named}
 use Rattle.vms_descfile.specs.Answers.{Answer, good, next, given, list_of}
 use Rattle.vms_descfile.specs.Keys.{has, fits, judged, at, at_or, maybe_at, u16_of, u32_of, integer_of, text_of}
 use Rattle.vms_descfile.specs.Tests.{Names, name_in, test_of}
@@ -21,19 +21,9 @@ use Rattle.vms_descfile.specs.declared.sort.Sort.TheVariants as sorts
 
 abbrev pub sort_named : List ℕ → Option Sort
 sort_named word =
-    if bytes_eq word (codes "u8") then Some (sorts.Number kinds.U8)
-    else if bytes_eq word (codes "u16") then Some (sorts.Number kinds.U16)
-    else if bytes_eq word (codes "u32") then Some (sorts.Number kinds.U32)
-    else if bytes_eq word (codes "u64") then Some (sorts.Number kinds.U64)
-    else if bytes_eq word (codes "i8") then Some (sorts.Number kinds.I8)
-    else if bytes_eq word (codes "i16") then Some (sorts.Number kinds.I16)
-    else if bytes_eq word (codes "i32") then Some (sorts.Number kinds.I32)
-    else if bytes_eq word (codes "i64") then Some (sorts.Number kinds.I64)
-    else if bytes_eq word (codes "bool") then Some (sorts.Number kinds.Bool)
-    else if bytes_eq word (codes "timer") then Some (sorts.Number kinds.Timer)
-    else if bytes_eq word (codes "unused") then Some sorts.Unused
+    if bytes_eq word (codes "unused") then Some sorts.Unused
     else if bytes_eq word (codes "struct") then Some sorts.Struct
-    else None
+    else option_map sorts.Number (kind_named word)
 
 abbrev pub sort_of : Data → Answer Sort
 sort_of d = next (text_of d) (λ word. given (sort_named word))

@@ -4,8 +4,6 @@ use Rattle.std.specs.Prelude.{ℕ, Bool, true, false, ◌==◌, if◌then◌else
 use Rattle.serde_json.specs.Data.{Data, number, unsigned, string, array, object, no_items, item, Members, no_members, put, null}
 use Rattle.serde_json.specs.Find.{of_integer}
 use Rattle.serde_json.specs.View.{items_of}
-use Rattle.vms_kinds.specs.declared.Kind.{Kind}
-use Rattle.vms_kinds.specs.declared.Kind.TheVariants as kinds
 use Rattle.vms_kinds.specs.declared.Item.{Item}
 use Rattle.vms_kinds.specs.declared.Item.TheVariants as items
 use Rattle.vms_spec.specs.declared.Rel.{Rel}
@@ -14,6 +12,7 @@ use Rattle.vms_spec.specs.declared.Whose.TheVariants.{Own, Parent}
 use Rattle.vms_spec.specs.declared.Count.{Count}
 use Rattle.vms_spec.specs.declared.Count.TheVariants.{Fixed, Counted}
 use Rattle.vms_spec.specs.Sets.{Formula, AtLeast, Below, Cell, Not, And, Or, Field, Desc, Sub, Device, Set}
+use Rattle.vms_words.specs.Words.{kind_word}
 
 abbrev pub list_file : {A : Type 0} → (A → Data) → List A → Data
 list_file f list = array (items_of (map f list))
@@ -72,18 +71,6 @@ test_file own parent (And s t) = only (codes "and") (pair_file (test_file own pa
 test_file own parent (Or s t) = only (codes "or") (pair_file (test_file own parent s) (test_file own parent t))
 
 -- ---- fields
-
-abbrev pub kind_word : Kind → List ℕ
-kind_word kinds.U8 = codes "u8"
-kind_word kinds.U16 = codes "u16"
-kind_word kinds.U32 = codes "u32"
-kind_word kinds.U64 = codes "u64"
-kind_word kinds.I8 = codes "i8"
-kind_word kinds.I16 = codes "i16"
-kind_word kinds.I32 = codes "i32"
-kind_word kinds.I64 = codes "i64"
-kind_word kinds.Bool = codes "bool"
-kind_word kinds.Timer = codes "timer"
 
 abbrev pub item_word : Item → List ℕ
 item_word (items.Num kind) = kind_word kind

@@ -3,7 +3,7 @@ ghost use Rattle.std.specs.Prelude.{◌≡◌, [], map, get_or, codes, option_ma
 ghost use Rattle.serde_json.specs.View.{view, members_view};
 ghost use Rattle.serde_json.specs.Data.{no_members, string};
 ghost use Rattle.vms_parts.specs.Views.{field_of as field_seen, formula};
-ghost use Rattle.vms_descfile.specs.Written.{own_names, item_word, kind_word, capacity_in, length_in, counter_in, equal_in, size_in, struct_in, is_zero, front_file, field_file, natural_file, integer_file, given_as, test_file};
+ghost use Rattle.vms_descfile.specs.Written.{own_names, item_word, capacity_in, length_in, counter_in, equal_in, size_in, struct_in, is_zero, front_file, field_file, natural_file, integer_file, given_as, test_file};
 
 use crate::built::{
     Members, TextFile, Writes, integer_value, natural_value, put, put_list, put_natural,
@@ -13,7 +13,8 @@ use crate::test_file::{TestFile, name_value};
 use serde_json::{Map, Value};
 use std::alloc::{AllocError, Global};
 use vms_desc::{Count, Field, Test};
-use vms_kinds::{Item, Kind};
+use vms_kinds::Item;
+use vms_words::kind_word;
 
 // A field of a description with these fields.
 #[derive(Clone, Copy)]
@@ -24,23 +25,6 @@ impl<'a> Writes<Field> for FieldFile<'a> {
 
     fn write(&self, alloc: Global, item: &Field) -> Result<Value, AllocError> {
         field_value(alloc, self.0, item)
-    }
-}
-
-fn kind_word(kind: Kind) -> &'static str
-    ensures { result.now ≡ kind_word kind }
-{
-    match kind {
-        Kind::U8 => "u8",
-        Kind::U16 => "u16",
-        Kind::U32 => "u32",
-        Kind::U64 => "u64",
-        Kind::I8 => "i8",
-        Kind::I16 => "i16",
-        Kind::I32 => "i32",
-        Kind::I64 => "i64",
-        Kind::Bool => "bool",
-        Kind::Timer => "timer",
     }
 }
 

@@ -21,7 +21,8 @@ use crate::tests::TestIn;
 use crate::words::{Integer, Reads, TextOf, U16, U32};
 use std::alloc::Global;
 use vms_desc::{Count, Field, Listed, Test, Text};
-use vms_kinds::{Item, Kind};
+use vms_kinds::Item;
+use vms_words::kind_named;
 
 const NEEDED: [&str; 2] = ["kind", "name"];
 
@@ -32,32 +33,12 @@ const ALLOWED: [&str; 10] = [
 fn sort_named(word: &str) -> Option<Sort>
     ensures { result ≡ sort_named word.now }
 {
-    if word == "u8" {
-        Some(Sort::Number(Kind::U8))
-    } else if word == "u16" {
-        Some(Sort::Number(Kind::U16))
-    } else if word == "u32" {
-        Some(Sort::Number(Kind::U32))
-    } else if word == "u64" {
-        Some(Sort::Number(Kind::U64))
-    } else if word == "i8" {
-        Some(Sort::Number(Kind::I8))
-    } else if word == "i16" {
-        Some(Sort::Number(Kind::I16))
-    } else if word == "i32" {
-        Some(Sort::Number(Kind::I32))
-    } else if word == "i64" {
-        Some(Sort::Number(Kind::I64))
-    } else if word == "bool" {
-        Some(Sort::Number(Kind::Bool))
-    } else if word == "timer" {
-        Some(Sort::Number(Kind::Timer))
-    } else if word == "unused" {
+    if word == "unused" {
         Some(Sort::Unused)
     } else if word == "struct" {
         Some(Sort::Struct)
     } else {
-        None
+        kind_named(word).map(Sort::Number)
     }
 }
 

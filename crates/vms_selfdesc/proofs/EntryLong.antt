@@ -8,7 +8,8 @@ use Rattle.serde_json.specs.Written.{compact_text, members_text, number_text, co
 use Rattle.vms_kinds.specs.declared.Kind.{Kind}
 use Rattle.vms_kinds.specs.declared.Kind.TheVariants as kinds
 use Rattle.vms_kinds.specs.Codes.{width}
-use Rattle.vms_selfdesc.specs.Entries.{kind_word, sent_entry, absent_entry}
+use Rattle.vms_words.specs.Words.{kind_word}
+use Rattle.vms_selfdesc.specs.Entries.{sent_entry, absent_entry}
 use Rattle.vms_selfdesc.specs.Tree.{natural, entry_tree}
 use Rattle.vms_selfdesc.specs.Drafts.{IsPlain}
 use Rattle.vms_selfdesc.proofs.Plain.{quoted_long}

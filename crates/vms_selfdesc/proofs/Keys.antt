@@ -4,7 +4,7 @@ use Rattle.json.specs.Print.{escape_byte}
 use Rattle.vms_kinds.specs.declared.Kind.{Kind}
 use Rattle.vms_kinds.specs.declared.Kind.TheVariants as kinds
 use Rattle.vms_selfdesc.specs.Drafts.{IsPlain}
-use Rattle.vms_selfdesc.specs.Entries.{kind_word}
+use Rattle.vms_words.specs.Words.{kind_word}
 
 pub plain_size : IsPlain (codes "size")
 unfolding escape_byte

@@ -7,7 +7,7 @@ use Rattle.serde_json.specs.Written.{compact_text, members_text, comma_if}
 use Rattle.vms_kinds.specs.declared.Kind.{Kind}
 use Rattle.vms_kinds.specs.Codes.{width}
 use Rattle.vms_selfdesc.specs.Drafts.{IsPlain, IsSound, Extends, Puts, Adds, Begins, member_text, cell_tail}
-use Rattle.vms_selfdesc.specs.Entries.{kind_word}
+use Rattle.vms_words.specs.Words.{kind_word}
 use Rattle.vms_selfdesc.specs.Tree.{natural}
 use Rattle.vms_selfdesc.specs.declared.draft.Draft.{Draft}
 use Rattle.vms_selfdesc.proofs.Following.{further}

@@ -2,7 +2,6 @@
 -- for each cell that doesn't stand there and that the values text prints.
 use Rattle.std.specs.Prelude.{ℕ, zero, suc, ◌+◌, ◌*◌, Bool, true, false, ◌&&◌, List, [], ◌∷◌, ◌++◌, length, get_or, Option, Some, None, ℤ, decimal, codes}
 use Rattle.vms_kinds.specs.declared.Kind.{Kind}
-use Rattle.vms_kinds.specs.declared.Kind.TheVariants as kinds
 use Rattle.vms_kinds.specs.declared.Item.{Item}
 use Rattle.vms_kinds.specs.declared.Item.TheVariants.{Num, Equal, Unused, Struct}
 use Rattle.vms_kinds.specs.Codes.{width}
@@ -11,18 +10,7 @@ use Rattle.vms_spec.specs.declared.Count.TheVariants.{One}
 use Rattle.vms_spec.specs.Sets.{Field, Desc, Set}
 use Rattle.vms_spec.specs.Tests.{is_there}
 use Rattle.vms_spec.specs.Layout.{Cell, first, item_size, capacity_of, elements_of, numbers_of, no_parent, struct_cells}
-
-abbrev pub kind_word : Kind → List ℕ
-kind_word kinds.U8 = codes "u8"
-kind_word kinds.U16 = codes "u16"
-kind_word kinds.U32 = codes "u32"
-kind_word kinds.U64 = codes "u64"
-kind_word kinds.I8 = codes "i8"
-kind_word kinds.I16 = codes "i16"
-kind_word kinds.I32 = codes "i32"
-kind_word kinds.I64 = codes "i64"
-kind_word kinds.Bool = codes "bool"
-kind_word kinds.Timer = codes "timer"
+use Rattle.vms_words.specs.Words.{kind_word}
 
 -- the path as in the values text, how many bytes stand in the stream, the type, and the default of a cell that doesn't
 -- stand there

@@ -1,30 +1,14 @@
 // The entries of elements.
 ghost use Rattle.std.specs.Prelude.{◌≡◌, [], ◌∷◌, true, pos, OnOk, string_bytes};
 ghost use Rattle.vms_selfdesc.specs.Drafts.{IsPlain, PutsSize, cell_tail};
-ghost use Rattle.vms_selfdesc.specs.Entries.{kind_word, cell_entry, sent_entry, absent_entry};
+ghost use Rattle.vms_selfdesc.specs.Entries.{cell_entry, sent_entry, absent_entry};
 ghost use Rattle.vms_selfdesc.specs.Listing.{Lists};
 ghost use Rattle.vms_selfdesc.specs.Needs.{IsWide};
 
 use crate::draft::{Draft, begin, put_integer, put_natural, put_text};
 use std::alloc::AllocError;
 use vms_kinds::Kind;
-
-fn kind_word(kind: Kind) -> &'static str
-    ensures { result.now ≡ kind_word kind }
-{
-    match kind {
-        Kind::U8 => "u8",
-        Kind::U16 => "u16",
-        Kind::U32 => "u32",
-        Kind::U64 => "u64",
-        Kind::I8 => "i8",
-        Kind::I16 => "i16",
-        Kind::I32 => "i32",
-        Kind::I64 => "i64",
-        Kind::Bool => "bool",
-        Kind::Timer => "timer",
-    }
-}
+use vms_words::kind_word;
 
 // What comes after the path of a cell that stands in the stream.
 fn cell_tail(kind: Kind) -> &'static str

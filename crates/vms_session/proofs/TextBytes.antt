@@ -19,7 +19,8 @@ use Rattle.vms_spec.specs.Layout.{Cell, no_parent, item_size, capacity_of, eleme
 use Rattle.vms_spec.specs.Numbers.{IsBytes}
 use Rattle.vms_spec.specs.Sets.{Field, Desc, Sub, Device, Set}
 use Rattle.vms_spec.specs.Tests.{is_there}
-use Rattle.vms_selfdesc.specs.Entries.{Entry, Lister, no_lister, kind_word, sent_entry, listed_if, item_entries, element_path, element_entries, array_entries, field_entries, entries_from, desc_entries, listers, part_entries}
+use Rattle.vms_words.specs.Words.{kind_word}
+use Rattle.vms_selfdesc.specs.Entries.{Entry, Lister, no_lister, sent_entry, listed_if, item_entries, element_path, element_entries, array_entries, field_entries, entries_from, desc_entries, listers, part_entries}
 use Rattle.vms_selfdesc.specs.Tree.{entry_tree, sub_tree, sub_trees, device_tree, device_trees, described_tree, described_text}
 
 -- ---- lists of bytes

@@ -2,7 +2,8 @@ use Rattle.std.proofs.Common.{true, ◌++◌, refl, string_bytes, ap, ◌∙◌,
 use Rattle.serde_json.specs.Data.{no_members}
 use Rattle.serde_json.specs.Written.{members_text}
 use Rattle.vms_kinds.specs.Codes.{width}
-use Rattle.vms_selfdesc.specs.Entries.{sent_entry, kind_word}
+use Rattle.vms_words.specs.Words.{kind_word}
+use Rattle.vms_selfdesc.specs.Entries.{sent_entry}
 use Rattle.vms_selfdesc.specs.Tree.{entry_tree}
 use Rattle.vms_selfdesc.specs.declared.draft.Draft.{Draft}
 use Rattle.vms_selfdesc.proofs.EntryLong.{width_short}

@@ -1,0 +1,40 @@
+-- A kind and its word tell one another.
+use Rattle.std.proofs.Common.{◌≡◌, ℕ, List, Bool, true, false, Option, Some, if◌then◌else◌, refl, ap, ◌∙◌}
+use Rattle.std.proofs.lemmas.Slice.Eq.{bytes_eq-Decides}
+use Rattle.std.specs.Str.{bytes_eq}
+use Rattle.vms_kinds.specs.declared.Kind.{Kind}
+use Rattle.vms_kinds.specs.declared.Kind.TheVariants as kinds
+use Rattle.vms_words.specs.Words.{kind_word, kind_if, kind_named, TellsKind}
+
+-- what is answered for a word has that word
+abbrev HasWord : List ℕ → Option Kind → Type 0
+HasWord word named = (kind : Kind) → named ≡ Some kind → word ≡ kind_word kind
+
+by_test : (same : Bool) (word : List ℕ) (kind : Kind) (other : Option Kind)
+    → (same ≡ true → word ≡ kind_word kind) → HasWord word other → HasWord word (if same then Some kind else other)
+by_test true word kind other has others k is = let one : kind ≡ k = cc in has refl ∙ ap kind_word one
+by_test false word kind other has others k is = others k is
+
+tried : (word : List ℕ) (kind : Kind) (other : Option Kind) → HasWord word other → HasWord word (kind_if word kind other)
+tried word kind other others = by_test (bytes_eq word (kind_word kind)) word kind other (bytes_eq-Decides word (kind_word kind)).0 others
+
+has_word : (word : List ℕ) → HasWord word (kind_named word)
+has_word word =
+    tried word kinds.U8 _ (tried word kinds.U16 _ (tried word kinds.U32 _ (tried word kinds.U64 _
+    (tried word kinds.I8 _ (tried word kinds.I16 _ (tried word kinds.I32 _ (tried word kinds.I64 _
+    (tried word kinds.Bool _ (tried word kinds.Timer _ (λ kind is. cc))))))))))
+
+pub word_named : (kind : Kind) → kind_named (kind_word kind) ≡ Some kind
+word_named kinds.U8 = refl
+word_named kinds.U16 = refl
+word_named kinds.U32 = refl
+word_named kinds.U64 = refl
+word_named kinds.I8 = refl
+word_named kinds.I16 = refl
+word_named kinds.I32 = refl
+word_named kinds.I64 = refl
+word_named kinds.Bool = refl
+word_named kinds.Timer = refl
+
+pub tells_kind : (word : List ℕ) → TellsKind word (kind_named word)
+tells_kind word kind = (has_word word kind, λ same. ap kind_named same ∙ word_named kind)

@@ -1,0 +1,57 @@
+//! The words that texts have for the kinds of number: those of description files, and those of
+//! self-descriptions.
+#![tactic(auto)]
+
+ghost use Rattle.std.specs.Prelude.{◌≡◌};
+ghost use Rattle.vms_words.specs.Words.{kind_word, kind_named, TellsKind};
+
+use vms_kinds::Kind;
+
+/// The word of a kind.
+pub fn kind_word(kind: Kind) -> &'static str
+    ensures { result.now ≡ kind_word kind }
+{
+    match kind {
+        Kind::U8 => "u8",
+        Kind::U16 => "u16",
+        Kind::U32 => "u32",
+        Kind::U64 => "u64",
+        Kind::I8 => "i8",
+        Kind::I16 => "i16",
+        Kind::I32 => "i32",
+        Kind::I64 => "i64",
+        Kind::Bool => "bool",
+        Kind::Timer => "timer",
+    }
+}
+
+/// The kind of a word, or `None` exactly for any other text.
+#[tactic(auto, using(crate::proofs::WordLaws::tells_kind))]
+pub fn kind_named(word: &str) -> Option<Kind>
+    ensures kind { result ≡ kind_named word.now }
+    ensures right { TellsKind word.now result }
+{
+    if word == "u8" {
+        Some(Kind::U8)
+    } else if word == "u16" {
+        Some(Kind::U16)
+    } else if word == "u32" {
+        Some(Kind::U32)
+    } else if word == "u64" {
+        Some(Kind::U64)
+    } else if word == "i8" {
+        Some(Kind::I8)
+    } else if word == "i16" {
+        Some(Kind::I16)
+    } else if word == "i32" {
+        Some(Kind::I32)
+    } else if word == "i64" {
+        Some(Kind::I64)
+    } else if word == "bool" {
+        Some(Kind::Bool)
+    } else if word == "timer" {
+        Some(Kind::Timer)
+    } else {
+        None
+    }
+}
