@@ -19,22 +19,10 @@ use Rattle.vms_desc.specs.Formed.{is_well_formed}
 use Rattle.vms_parts.specs.Sizes.{in_u32, size_of, fields_size, sizes_to}
 use Rattle.vms_parts.specs.Views.{form_of, layout_of}
 use Rattle.vms_desc.proofs.CellSizes.{cells_size, struct_sizes}
-use Rattle.vms_parts.proofs.Tables.{first_long}
+use Rattle.vms_spec.proofs.Faultless.{or_else_none, AllTrue, all_true}
+use Rattle.vms_spec.proofs.Tables.{first_long}
 
 -- ---- no fault at the set
-
-pub or_else_none : {X : Type 0} (x y : Option X) → or_else x y ≡ None → (x ≡ None) × (y ≡ None)
-or_else_none (Some x) y e = cc
-or_else_none None y e = (refl, e)
-
-abbrev pub AllTrue : List Bool → Type 0
-AllTrue [] = Unit {0}
-AllTrue (b ∷ rules) = (b ≡ true) × AllTrue rules
-
-pub all_true : (r : ℕ) (rules : List Bool) (p : Place) → failing r rules p ≡ None → AllTrue rules
-all_true r [] p e = tt
-all_true r (true ∷ rules) p e = (refl, all_true (suc r) rules p e)
-all_true r (false ∷ rules) p e = cc
 
 pub none_is : {X : Type 0} (o : Option X) → is_none o ≡ true → o ≡ None
 none_is None h = refl

@@ -14,7 +14,7 @@ use Rattle.vms_parts.specs.Sizes.{in_u32, fields_size}
 use Rattle.vms_parts.specs.Views.{field_of, sub_of, desc_of, form_of, layout_of}
 use Rattle.vms_parts.proofs.Items.{drop_is}
 use Rattle.vms_parts.proofs.SizeLaws.{capped_fields}
-use Rattle.vms_parts.proofs.Tables.{first_long}
+use Rattle.vms_spec.proofs.Tables.{first_long}
 use Rattle.vms_desc.specs.declared.path.Placed.{Placed}
 use Rattle.vms_desc.specs.Numbers.{sizes_of}
 use Rattle.vms_desc.specs.Paths.{subs_size, begin_desc, begin_base, Begins, IsPlaced}
