@@ -1,20 +1,17 @@
 -- What well-formed sets have no more of than they may.
-use Rattle.std.proofs.Common.{◌≡◌, ℕ, zero, suc, ◌+◌, ◌*◌, ◌<◌, ◌≤◌, List, [], ◌∷◌, ◌++◌, length, length-append, get_or, map, refl, sym, ap, ◌∙◌, arith, subst, Bool, true, false, ◌&&◌, nat_le, Option, Some, None, is_none}
+use Rattle.std.proofs.Common.{◌≡◌, ℕ, zero, suc, ◌+◌, ◌*◌, ◌≤◌, List, [], ◌∷◌, ◌++◌, length, length-append, get_or, map, refl, sym, ap, ◌∙◌, arith, true, ◌&&◌, nat_le, Option, Some, None, is_none}
 use Rattle.std.specs.List.{flat_map}
 use Rattle.std.proofs.lemmas.Bool.{and_parts, leb-true}
-use Rattle.std.proofs.lemmas.List.{length-map, map-append}
-use Rattle.std.proofs.Math.ListN.{get_or-map}
+use Rattle.std.proofs.lemmas.List.{length-map}
 use Rattle.std.proofs.lemmas.Simd.{map-map}
 use Rattle.vms_kinds.specs.declared.Item.{Item}
 use Rattle.vms_kinds.specs.declared.Item.TheVariants.{Num, Equal, Unused, Struct}
 use Rattle.vms_spec.specs.declared.Part.TheVariants as parts
-use Rattle.vms_spec.specs.declared.Place.{Place}
 use Rattle.vms_spec.specs.Lists.{or_else, first_answer}
 use Rattle.vms_spec.specs.Sets.{Field, Desc, Sub, Device, Set}
-use Rattle.vms_spec.specs.Layout.{Cell, first, no_desc, capacity_of, desc_cells, struct_cells, device_cells}
-use Rattle.vms_spec.specs.WellFormed.{SetFault, failing, here, struct_fault, device_fault, set_rules, size_rules, first_fault, item_count, items_in, struct_items, subs_items, devices_items}
+use Rattle.vms_spec.specs.Layout.{first, no_desc, capacity_of, desc_cells, struct_cells, device_cells}
+use Rattle.vms_spec.specs.WellFormed.{failing, here, struct_fault, device_fault, set_rules, size_rules, first_fault, item_count, items_in, struct_items, subs_items, devices_items}
 use Rattle.vms_parts.specs.declared.sizes.Measure.TheVariants.{Cells, Items}
-use Rattle.vms_parts.specs.declared.types.CellForm.{CellForm}
 use Rattle.vms_desc.specs.Formed.{is_well_formed}
 use Rattle.vms_parts.specs.Sizes.{in_u32, size_of, fields_size, sizes_to}
 use Rattle.vms_parts.specs.Views.{form_of, layout_of}

@@ -1,8 +1,8 @@
 -- Forms that are put one after the other.
-use Rattle.std.proofs.Common.{◌≡◌, ℕ, zero, suc, ◌+◌, ◌-◌, ◌<◌, ◌≤◌, List, [], ◌∷◌, ◌++◌, length, get_or, drop, take, map, refl, sym, ap, ◌∙◌, arith, append_assoc, append-nil, take_all}
+use Rattle.std.proofs.Common.{◌≡◌, ℕ, suc, ◌+◌, ◌-◌, ◌<◌, ◌≤◌, List, [], ◌∷◌, ◌++◌, length, get_or, drop, take, map, refl, sym, ap, ◌∙◌, arith, append_assoc, append-nil, take_all}
 use Rattle.std.proofs.lemmas.List.{drop_all, length-map, take-map, length-take-le, get_or_past}
 use Rattle.vms_spec.specs.Sets as sets
-use Rattle.vms_spec.specs.Layout.{first, no_desc, times, device_cells}
+use Rattle.vms_spec.specs.Layout.{no_desc, times, device_cells}
 use Rattle.vms_parts.specs.declared.types.CellForm.{CellForm}
 use Rattle.vms_parts.specs.declared.types.Field.{Field}
 use Rattle.vms_parts.specs.declared.types.Desc.{Desc}

@@ -1,9 +1,9 @@
 -- Tables, made row by row.
-use Rattle.std.proofs.Common.{◌≡◌, ℕ, zero, suc, ◌+◌, ◌*◌, ◌<◌, ◌≤◌, List, [], ◌∷◌, ◌++◌, length, length-append, get_or, take, map, Option, None, refl, sym, ap, ◌∙◌, subst, arith, Bool, true, false, nat_lt}
+use Rattle.std.proofs.Common.{◌≡◌, ℕ, zero, suc, ◌+◌, ◌*◌, ◌<◌, ◌≤◌, List, [], ◌∷◌, ◌++◌, length, length-append, get_or, take, map, refl, sym, ap, ◌∙◌, subst, arith, Bool, true, false, nat_lt}
 use Rattle.std.proofs.lemmas.Bool.{ltb-true, ltb-false}
-use Rattle.std.proofs.lemmas.List.{get_or_append_left, length-map, map-append}
+use Rattle.std.proofs.lemmas.List.{get_or_append_left, length-map}
 use Rattle.vms_spec.specs.Layout.{capacity_of, no_field, no_desc}
-use Rattle.vms_spec.specs.Sets.{Field, Desc, Sub, Device, AtLeast}
+use Rattle.vms_spec.specs.Sets.{Field, Sub, Device, AtLeast}
 use Rattle.std.proofs.Math.ListN.{get_or-map}
 use Rattle.vms_desc.specs.Parts.{sub_at}
 use Rattle.vms_parts.specs.declared.sizes.Measure.TheVariants.{Cells}

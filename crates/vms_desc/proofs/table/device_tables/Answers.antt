@@ -1,4 +1,4 @@
-use Rattle.std.proofs.Common.{◌≡◌, ◌∙◌, ◌+◌, ◌<◌, ap, subst, sym, map, take, List, ◌++◌, ◌∷◌, [], ℕ, Some, length, arith, below_more}
+use Rattle.std.proofs.Common.{◌≡◌, ◌∙◌, ◌+◌, ap, subst, sym, map, take, List, ◌++◌, ◌∷◌, [], ℕ, Some, arith, below_more}
 use Rattle.std.proofs.lemmas.List.{length-map}
 use Rattle.vms_spec.specs.Lists.{at}
 use Rattle.vms_spec.specs.Sets as sets

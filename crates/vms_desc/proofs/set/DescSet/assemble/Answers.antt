@@ -6,7 +6,6 @@ use Rattle.vms_parts.specs.declared.sizes.Measure.TheVariants.{Cells}
 use Rattle.vms_parts.specs.Sizes.{in_u32, sizes_to}
 use Rattle.vms_parts.specs.Views.{set_of, desc_of, device_of}
 use Rattle.vms_parts.specs.declared.types.Device.{Device}
-use Rattle.vms_desc.specs.Heads.{HeadsFit}
 use Rattle.vms_desc.specs.Numbers.{sizes_of}
 use Rattle.vms_desc.specs.Spots.{form_spots}
 use Rattle.vms_desc.specs.Tables.{AreTables, AreDeviceTables}
