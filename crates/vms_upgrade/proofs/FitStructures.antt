@@ -6,13 +6,14 @@ use Rattle.vms_spec.specs.Layout.{no_desc, Cell, Meaning, meanings, field_cells,
 use Rattle.vms_spec.specs.declared.Part.{Part}
 use Rattle.vms_spec.specs.declared.Part.TheVariants as parts
 use Rattle.vms_spec.specs.Rules.{is_steady_in}
-use Rattle.vms_parts.proofs.Tables.{first_at, first_long}
+use Rattle.vms_spec.proofs.Tables.{first_at, first_long}
 use Rattle.vms_check.specs.Reducing.{presence}
 use Rattle.vms_check.specs.Comparing.{Entry, entry_of, present_from, present, position_from, Comparer, no_comparer, comparer_of, comparers, compare_desc, compare_fields, compare_validations}
 use Rattle.vms_check.specs.Carrying.{Carrier, no_carrier, carrier_of, carriers, carry_desc}
 use Rattle.vms_upgrade.specs.Segments.{FitsAt}
 use Rattle.vms_upgrade.proofs.Segments.{fits_at, fits_left, fits_right}
-use Rattle.vms_upgrade.proofs.Pairing.{cells_in, or_else_none, AreKnown, all_known}
+use Rattle.vms_spec.proofs.Faultless.{or_else_none}
+use Rattle.vms_upgrade.proofs.Pairing.{cells_in, AreKnown, all_known}
 use Rattle.vms_upgrade.proofs.Linking.{zip_of}
 use Rattle.vms_upgrade.proofs.Premises.{OldGood, OldFields, NewGood, NewFields}
 use Rattle.vms_upgrade.proofs.Prefixes.{struct_cells_at}

@@ -8,7 +8,7 @@ use Rattle.vms_spec.specs.Sets.{Formula, Field, Desc}
 use Rattle.vms_spec.specs.Layout.{no_desc, Cell, Slot, Meaning, no_meaning, meanings, field_cells, cells_from, desc_cells, desc_slots, numbers_of}
 use Rattle.vms_spec.specs.declared.Part.TheVariants as parts
 use Rattle.vms_spec.specs.Rules.{is_steady_in}
-use Rattle.vms_parts.proofs.Tables.{first_at, first_long}
+use Rattle.vms_spec.proofs.Tables.{first_at, first_long}
 use Rattle.vms_check.specs.Reducing.{presence}
 use Rattle.vms_check.specs.Comparing.{Entry, present, Comparer, no_comparer, comparer_of, comparers, compare_desc}
 use Rattle.vms_check.specs.Carrying.{Carrier, no_carrier, carrier_of, carriers, carry_desc, carry_from, carry_next, entries_left}
