@@ -28,7 +28,7 @@ again_8 : (bs : List ℕ) → length bs ≡ 8 → IsBytes bs → big_bytes 8 (bi
 again_8 bs len ok = be_bytes_8 bs (big_number 8 bs) len ok (omega arith)
 
 -- the bytes of a width are those of the number in them
-again : (kind : Kind) (bs : List ℕ) → length bs ≡ width kind → IsBytes bs → big_bytes (width kind) (big_number (width kind) bs) ≡ bs
+pub again : (kind : Kind) (bs : List ℕ) → length bs ≡ width kind → IsBytes bs → big_bytes (width kind) (big_number (width kind) bs) ≡ bs
 again U8 bs len ok = again_1 bs len ok
 again U16 bs len ok = again_2 bs len ok
 again U32 bs len ok = again_4 bs len ok
@@ -91,7 +91,7 @@ plain_code I32 z s h = cc
 plain_code I64 z s h = cc
 
 -- what the bytes of a signed number give
-signed_take : (kind : Kind) (bs : List ℕ) → is_signed kind ≡ true → length bs ≡ width kind → IsBytes bs
+pub signed_take : (kind : Kind) (bs : List ℕ) → is_signed kind ≡ true → length bs ≡ width kind → IsBytes bs
     → InRange kind (twos_complement (width kind) (big_number (width kind) bs)) × (bs ≡ code kind (twos_complement (width kind) (big_number (width kind) bs)))
 unfolding code
 signed_take I8 bs s len ok = (range_8 _ (below_1 bs ok), sym (ap (big_bytes 1) (two_8 _ (below_1 bs ok)) ∙ again_1 bs len ok))
@@ -106,7 +106,7 @@ signed_take Bool z s len ok = cc
 signed_take Timer z s len ok = cc
 
 -- what the bytes of another number give
-plain_take : (kind : Kind) (bs : List ℕ) → is_signed kind ≡ false → length bs ≡ width kind → IsBytes bs → (IsBadBool kind bs → ⊥)
+pub plain_take : (kind : Kind) (bs : List ℕ) → is_signed kind ≡ false → length bs ≡ width kind → IsBytes bs → (IsBadBool kind bs → ⊥)
     → InRange kind (pos (big_number (width kind) bs)) × (bs ≡ code kind (pos (big_number (width kind) bs)))
 plain_take kind bs s len ok bad = let r = in_range kind bs s ok bad in (r, sym (sym (plain_code kind _ s r) ∙ again kind bs len ok)) where
   in_range : (kind : Kind) (bs : List ℕ) → is_signed kind ≡ false → IsBytes bs → (IsBadBool kind bs → ⊥) → InRange kind (pos (big_number (width kind) bs))
@@ -122,7 +122,7 @@ plain_take kind bs s len ok bad = let r = in_range kind bs s ok bad in (r, sym (
   in_range I64 bs s ok bad = cc
 
 -- a signed number fits its own width, and is there the residue
-pub as_i8 : (z : ℤ) → InRange I8 z → SFits w8 z × (cast_unsigned w8 z ≡ residue 1 z)
+as_i8 : (z : ℤ) → InRange I8 z → SFits w8 z × (cast_unsigned w8 z ≡ residue 1 z)
 as_i8 (pos n) h = (omega (arith, ints), omega (arith, ints))
 as_i8 (negsuc n) h = (omega (arith, ints), omega (arith, ints))
 
