@@ -27,6 +27,13 @@ pub(crate) struct Cut<'a> {
 #[derive(Drop)]
 pub(crate) struct Case<'a> {
     pub name: &'a str,
+    pub call: Call<'a>,
+    pub wanted: Wanted<'a>,
+}
+
+/// A call of the program.
+#[derive(Drop)]
+pub(crate) struct Call<'a> {
     pub words: Option<Vec<&'a str>>,
     pub input: Vec<u8>,
     /// The sizes in which the input is read.
@@ -37,7 +44,12 @@ pub(crate) struct Case<'a> {
     /// The bytes for which out and notes have room.
     pub rooms: (u32, u32),
     pub shelf: Named,
-    pub wanted: Answer,
+}
+
+/// What must come of a call.
+#[derive(Drop)]
+pub(crate) struct Wanted<'a> {
+    pub answer: Answer,
     /// Whether out and notes may end before their wanted end.
     pub may_be_begun: bool,
     /// What comes where the input ends early, by the least length.
@@ -77,26 +89,44 @@ impl<'a> Case<'a> {
         shared: &Shared,
         entry: Entry<'a>,
     ) -> Result<Case<'a>> {
-        let alloc = rt.alloc();
         entry.has_only(&KEYS)?;
-        let shelf = shelf(rt, shared, entry)?;
-        let wanted = wanted(rt, &shared.known, entry, &shelf)?;
+        let name = entry.text("name")?.context("a case without a name")?;
+        let call = Call::read(rt, shared, entry)?;
+        let wanted = Wanted::read(rt, &shared.known, entry, &call.shelf)?;
+        Ok(Case { name, call, wanted })
+    }
+}
+
+impl<'a> Call<'a> {
+    fn read<R: Files + AllocGlobal>(rt: &R, shared: &Shared, entry: Entry<'a>) -> Result<Call<'a>> {
+        let alloc = rt.alloc();
         let room = entry.number("room")?.unwrap_or(ROOM);
         let notes_room = entry.number("notes_room")?.unwrap_or(ROOM);
-        Ok(Case {
-            name: entry.text("name")?.context("a case without a name")?,
+        let input = entry.text("input")?.unwrap_or("");
+        Ok(Call {
             words: entry.texts(alloc, "words")?,
-            input: shared
-                .known
-                .bytes(alloc, entry.text("input")?.unwrap_or(""))?,
+            input: shared.known.bytes(alloc, input)?,
             pieces: pieces(alloc, entry)?,
-            fails: calls(alloc, entry.entry("fails")?)?,
             each_fails: each(alloc, entry.entry("each_fails")?)?,
+            fails: calls(alloc, entry.entry("fails")?)?,
             rooms: (room, notes_room),
-            shelf,
-            wanted,
+            shelf: shelf(rt, shared, entry)?,
+        })
+    }
+}
+
+impl<'a> Wanted<'a> {
+    // What a case wants, with what lay on the shelf before.
+    fn read<R: Files + AllocGlobal>(
+        rt: &R,
+        known: &Known,
+        entry: Entry<'a>,
+        before: &Named,
+    ) -> Result<Wanted<'a>> {
+        Ok(Wanted {
             may_be_begun: entry.flag("begun")?,
-            cuts: cuts(alloc, entry)?,
+            cuts: cuts(rt.alloc(), entry)?,
+            answer: answer(rt, known, entry, before)?,
         })
     }
 }
@@ -144,26 +174,33 @@ fn each(alloc: Global, entry: Option<Entry>) -> Result<Vec<(Object, u32)>> {
     Ok(each)
 }
 
-// The answer that a case wants, with what lay on the shelf before.
-fn wanted<R: Files + AllocGlobal>(
+fn answer<R: Files + AllocGlobal>(
     rt: &R,
     known: &Known,
     entry: Entry,
     before: &Named,
 ) -> Result<Answer> {
     let alloc = rt.alloc();
-    let out = match entry.text("stream")? {
-        Some(row) => known.bytes(alloc, row)?,
-        None => entry.text("out")?.unwrap_or("").as_bytes().to_vec(alloc)?,
-    };
     let status = u8::try_from(entry.number("status")?.unwrap_or(0)).ok();
+    let status = status.context("no status")?;
+    let taken = entry.number("taken")?.map(|taken| taken as usize);
+    let line = entry.text("line")?.unwrap_or("");
+    let after = entry.entry("after")?;
     Ok(Answer {
-        status: status.context("no status")?,
-        out,
-        notes: notes(alloc, entry.text("line")?.unwrap_or(""))?,
-        taken: entry.number("taken")?.map(|taken| taken as usize),
-        shelf: with(rt, known, entry.entry("after")?, before)?,
+        status,
+        out: out(alloc, known, entry)?,
+        notes: notes(alloc, line)?,
+        taken,
+        shelf: with(rt, known, after, before)?,
     })
+}
+
+fn out(alloc: Global, known: &Known, entry: Entry) -> Result<Vec<u8>> {
+    if let Some(row) = entry.text("stream")? {
+        return known.bytes(alloc, row);
+    }
+    let text = entry.text("out")?.unwrap_or("");
+    Ok(text.as_bytes().to_vec(alloc)?)
 }
 
 /// The notes of a line, or no notes where it is empty.

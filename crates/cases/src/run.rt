@@ -54,28 +54,51 @@ pub(crate) struct Outside<'a, 'b> {
     pub names: &'a Named,
 }
 
+// The objects of a call.
+#[derive(Drop)]
+struct Objects {
+    input: MemSource,
+    out: MemSink,
+    notes: MemSink,
+    shelf: MemShelf,
+}
+
 /// Calls the program and looks at what stands outside then.
 pub(crate) fn answer(alloc: Global, outside: &Outside) -> Result<Answer> {
     let words = words(alloc, outside.words).context("memory")?;
-    let mut input = source(alloc, outside)?;
-    let mut out = sink(
+    let mut objects = Objects::of(alloc, outside)?;
+    let status = vmstate(
         alloc,
-        outside.rooms.0,
-        failing(alloc, outside, Object::Writes)?,
-    )?;
-    let mut notes = sink(
-        alloc,
-        outside.rooms.1,
-        failing(alloc, outside, Object::Notes)?,
-    )?;
-    let mut shelf = shelf(alloc, outside)?;
-    let status = vmstate(alloc, &words, &mut input, &mut out, &mut notes, &mut shelf);
+        &words,
+        &mut objects.input,
+        &mut objects.out,
+        &mut objects.notes,
+        &mut objects.shelf,
+    );
+    seen(alloc, outside, status, &mut objects)
+}
+
+impl Objects {
+    fn of(alloc: Global, outside: &Outside) -> Result<Objects> {
+        let (room, notes_room) = outside.rooms;
+        Ok(Objects {
+            input: source(alloc, outside)?,
+            out: sink(alloc, room, failing(alloc, outside, Object::Writes)?)?,
+            notes: sink(alloc, notes_room, failing(alloc, outside, Object::Notes)?)?,
+            shelf: shelf(alloc, outside)?,
+        })
+    }
+}
+
+// What stands outside after a call.
+fn seen(alloc: Global, outside: &Outside, status: u8, objects: &mut Objects) -> Result<Answer> {
+    let left = left(&mut objects.input);
     Ok(Answer {
         status,
-        out: out.bytes().to_vec(alloc)?,
-        notes: notes.bytes().to_vec(alloc)?,
-        taken: Some(outside.input.len().saturating_sub(left(&mut input))),
-        shelf: held(alloc, &mut shelf, outside.names)?,
+        out: objects.out.bytes().to_vec(alloc)?,
+        notes: objects.notes.bytes().to_vec(alloc)?,
+        taken: Some(outside.input.len().saturating_sub(left)),
+        shelf: held(alloc, &mut objects.shelf, outside.names)?,
     })
 }
 

@@ -1,7 +1,7 @@
 // The runs of a case: in each size of pieces, with each failing call, and cut at each length.
 
 use crate::answer::Answer;
-use crate::case::{Case, Shared, notes};
+use crate::case::{Case, Cut, Shared, notes};
 use crate::run::{Object, Outside, answer};
 use crate::shelf::copied;
 use anyhow::Result;
@@ -20,17 +20,17 @@ pub(crate) struct Run {
 /// The runs of a case.
 pub(crate) fn runs(alloc: Global, case: &Case) -> Result<Vec<Run>> {
     let mut runs = Vec::new(alloc);
-    let whole = case.input.len();
-    for piece in &case.pieces {
-        if case.each_fails.is_empty() {
+    let whole = case.call.input.len();
+    for piece in &case.call.pieces {
+        if case.call.each_fails.is_empty() {
             runs.push(run_of(*piece, whole, None))?;
         }
-        for (object, last) in &case.each_fails {
+        for (object, last) in &case.call.each_fails {
             for number in 1..=*last {
                 runs.push(run_of(*piece, whole, Some((*object, number))))?;
             }
         }
-        if !case.cuts.is_empty() {
+        if !case.wanted.cuts.is_empty() {
             for long in 0..whole {
                 runs.push(run_of(*piece, long, None))?;
             }
@@ -50,66 +50,67 @@ pub(crate) fn difference(
     case: &Case,
     run: &Run,
 ) -> Result<Option<String>> {
+    let cut = wanted_of_cut(alloc, case, run.long)?;
+    let wanted = cut.as_ref().unwrap_or(&case.wanted.answer);
     let came = answer(alloc, &outside(shared, case, run))?;
-    match wanted_of_cut(alloc, case, run.long)? {
-        Some(wanted) => compared(alloc, case, run, &came, &wanted),
-        None => compared(alloc, case, run, &came, &case.wanted),
+    if came.fits(wanted, case.wanted.may_be_begun) {
+        return Ok(None);
     }
+    Ok(Some(told(alloc, case, run, &came, wanted)?))
 }
 
 fn outside<'a, 'b>(shared: &'a Shared<'b>, case: &'a Case<'b>, run: &'a Run) -> Outside<'a, 'b> {
     Outside {
-        words: case.words.as_ref().unwrap_or(&shared.words).as_slice(),
-        input: case.input.get(..run.long).unwrap_or(&[]),
+        words: case.call.words.as_ref().unwrap_or(&shared.words).as_slice(),
+        input: case.call.input.get(..run.long).unwrap_or(&[]),
         piece: run.piece,
-        fails: &case.fails,
+        fails: &case.call.fails,
         alone: run.alone,
-        rooms: case.rooms,
-        shelf: &case.shelf,
-        names: &case.wanted.shelf,
+        rooms: case.call.rooms,
+        shelf: &case.call.shelf,
+        names: &case.wanted.answer.shelf,
     }
 }
 
 // The answer that is wanted where the input ends early; none where it is that of the whole case.
 fn wanted_of_cut(alloc: Global, case: &Case, long: usize) -> Result<Option<Answer>> {
-    if long >= case.input.len() {
+    if long >= case.call.input.len() {
         return Ok(None);
     }
-    let mut line = "";
-    for cut in &case.cuts {
-        if cut.from <= long {
-            line = cut.line;
-        }
-    }
-    let whole = &case.wanted;
+    let whole = &case.wanted.answer;
+    let line = line_at(&case.wanted.cuts, long);
+    let out = if line.is_empty() {
+        whole.out.as_slice()
+    } else {
+        &[]
+    };
     Ok(Some(Answer {
         status: if line.is_empty() { whole.status } else { 1 },
-        out: if line.is_empty() {
-            whole.out.clone()?
-        } else {
-            Vec::new(alloc)
-        },
+        out: out.to_vec(alloc)?,
         notes: notes(alloc, line)?,
         taken: Some(long),
         shelf: copied(alloc, &whole.shelf)?,
     }))
 }
 
-fn compared(
-    alloc: Global,
-    case: &Case,
-    run: &Run,
-    came: &Answer,
-    wanted: &Answer,
-) -> Result<Option<String>> {
-    if came.fits(wanted, case.may_be_begun) {
-        return Ok(None);
+// The line of an input of this length, which is empty where the input is whole.
+fn line_at<'a>(cuts: &[Cut<'a>], long: usize) -> &'a str {
+    let mut line = "";
+    for cut in cuts {
+        if cut.from <= long {
+            line = cut.line;
+        }
     }
+    line
+}
+
+// A difference in three lines.
+fn told(alloc: Global, case: &Case, run: &Run, came: &Answer, wanted: &Answer) -> Result<String> {
+    let name = case.name;
     let label = label(alloc, case, run)?;
     let wanted = wanted.line(alloc)?;
     let came = came.line(alloc)?;
-    let name = case.name;
-    Ok(Some(format!(in alloc; "  {name}{label}\n    wanted: {wanted}\n    came:   {came}\n")?))
+    Ok(format!(in alloc; "  {name}{label}\n    wanted: {wanted}\n    came:   {came}\n")?)
 }
 
 // What is particular to a run.
@@ -118,7 +119,7 @@ fn label(alloc: Global, case: &Case, run: &Run) -> Result<String> {
     if run.piece > 0 {
         label.push_str(&format!(in alloc; ", in pieces of {}", run.piece)?)?;
     }
-    if run.long < case.input.len() {
+    if run.long < case.call.input.len() {
         label.push_str(&format!(in alloc; ", cut at {}", run.long)?)?;
     }
     if let Some((object, number)) = run.alone {

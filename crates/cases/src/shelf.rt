@@ -12,9 +12,16 @@ use std::rt::Files;
 pub(crate) fn copied(alloc: Global, named: &Named) -> Result<Named> {
     let mut copy = BTreeMap::new(alloc);
     for (name, bytes) in named {
-        copy.insert(name.clone()?, bytes.clone()?)?;
+        put(alloc, &mut copy, name.as_str(), bytes.clone()?)?;
     }
     Ok(copy)
+}
+
+/// Puts bytes beside others, under a name.
+pub(crate) fn put(alloc: Global, named: &mut Named, name: &str, bytes: Vec<u8>) -> Result<()> {
+    let name = String::from_str(alloc, name)?;
+    named.insert(name, bytes)?;
+    Ok(())
 }
 
 /// What lies on a shelf once what a table names is put beside what lay there.
@@ -24,36 +31,53 @@ pub(crate) fn with<R: Files + AllocGlobal>(
     table: Option<Entry>,
     before: &Named,
 ) -> Result<Named> {
-    let alloc = rt.alloc();
-    let mut shelf = copied(alloc, before)?;
+    let mut shelf = copied(rt.alloc(), before)?;
     if let Some(table) = table {
-        for name in table.names(alloc)? {
-            let content = table.entry(name)?.context("nothing under a name")?;
-            let bytes = content_of(rt, known, content)?;
-            shelf.insert(String::from_str(alloc, name)?, bytes)?;
-        }
+        put_all(rt, known, table, &mut shelf)?;
     }
     Ok(shelf)
 }
 
-// What a content stands for: a text, a row of bytes, or a file beside the topics; and so many times.
+fn put_all<R: Files + AllocGlobal>(
+    rt: &R,
+    known: &Known,
+    table: Entry,
+    shelf: &mut Named,
+) -> Result<()> {
+    let names = table.names(rt.alloc())?;
+    for name in &names {
+        let content = table.entry(name)?.context("nothing under a name")?;
+        put(rt.alloc(), shelf, name, content_of(rt, known, content)?)?;
+    }
+    Ok(())
+}
+
+// What a content stands for, so many times.
 fn content_of<R: Files + AllocGlobal>(rt: &R, known: &Known, content: Entry) -> Result<Vec<u8>> {
-    let alloc = rt.alloc();
     content.has_only(&["text", "bytes", "file", "times"])?;
-    let once = if let Some(file) = content.text("file")? {
-        fs::read(rt, file).context(format_args!("reading {file}"))?
-    } else if let Some(row) = content.text("bytes")? {
-        known.bytes(alloc, row)?
-    } else {
-        content
-            .text("text")?
-            .unwrap_or("")
-            .as_bytes()
-            .to_vec(alloc)?
-    };
-    let mut bytes = Vec::new(alloc);
-    for _ in 0..content.number("times")?.unwrap_or(1) {
+    let times = content.number("times")?.unwrap_or(1);
+    let once = once(rt, known, content)?;
+    let mut bytes = Vec::new(rt.alloc());
+    for _ in 0..times {
         bytes.extend_from_slice(&once)?;
     }
     Ok(bytes)
+}
+
+// A text, a row of bytes, or a file beside the topics.
+fn once<R: Files + AllocGlobal>(rt: &R, known: &Known, content: Entry) -> Result<Vec<u8>> {
+    let alloc = rt.alloc();
+    if let Some(file) = content.text("file")? {
+        return file_of(rt, file);
+    }
+    if let Some(row) = content.text("bytes")? {
+        return known.bytes(alloc, row);
+    }
+    let text = content.text("text")?.unwrap_or("");
+    Ok(text.as_bytes().to_vec(alloc)?)
+}
+
+/// The bytes of a file beside the topics.
+pub(crate) fn file_of<R: Files + AllocGlobal>(rt: &R, file: &str) -> Result<Vec<u8>> {
+    Ok(fs::read(rt, file).context(format_args!("reading {file}"))?)
 }

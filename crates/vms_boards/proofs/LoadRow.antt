@@ -10,7 +10,7 @@ use Rattle.vms_outcome.specs.declared.ending.Ending.{Ending}
 use Rattle.vms_outcome.specs.declared.ending.Ending.TheVariants.{Done, Refused, BadWords, BadText, NotCompatible, ReadFault, WriteFault, ShelfFault, NotThere, TooLarge, NoMemory}
 use Rattle.vms_boards.proofs.CauseLemmas.{unread_caused, stream_caused}
 use Rattle.vms_boards.specs.Causes.{NoScript, StreamCause, LoadCauses}
-use Rattle.vms_boards.proofs.HeardLemmas.{refusal_row}
+use Rattle.vms_boards.proofs.HeardLemmas.{refusal_row, stream_row}
 use Rattle.vms_boards.specs.Load.{LoadStatus, LoadAnswers, Loads}
 
 module _ (i i' : Intake) (o o' n n' : Outlet) (s s' : Stock) (level : ℕ) (step : Step (List ScriptLine)) where
@@ -57,5 +57,6 @@ module _ (i i' : Intake) (o o' n n' : Outlet) (s s' : Stock) (level : ℕ) (step
     ends = elim c.0 [ inl a ↦ unread e status a.0 a.1 a.2 t | inr b ↦ streamed e status b t ];
     given = c.1;
     held = c.2;
+    taken = stream_row (List ScriptLine) step (λ lines bytes x. Loads level lines bytes s.held x) i i' o o' n n' s s' e status c.3 t;
     refused = refusal_row (List ScriptLine) step (λ lines bytes x. Loads level lines bytes s.held x) i i' o o' n n' s s' e status c.3 t;
   }

@@ -1,5 +1,5 @@
 -- A script has one outcome of `play`, whatever bytes the shelf holds.
-use Rattle.std.proofs.Common.{◌≡◌, ℕ, List, [], ◌∷◌, Option, Some, sym, ap, ◌∙◌, refl, subst}
+use Rattle.std.proofs.Common.{◌≡◌, ℕ, List, [], ◌∷◌, Some, sym, ap, ◌∙◌, refl, subst}
 use Rattle.dev_base.specs.Levels.{IsLevel}
 use Rattle.dev_board.proofs.SoundLaws.{power_on-sound}
 use Rattle.vms_io.specs.Shelves.{Held}

@@ -79,7 +79,7 @@ DrillCauses input input' out out' shelf shelf' ending = WriteCause out out' endi
 abbrev pub LoadCauses : ℕ → Step (List ScriptLine) → (input input' : Intake) (out out' : Outlet) (shelf shelf' : Stock) → Ending → Type 0
 LoadCauses level step input input' out out' shelf shelf' ending =
     LoadCause input input' out out' shelf shelf' ending × LoadGives step input input' × (shelf'.held ≡ shelf.held)
-    × LoadHears level step shelf.held input.given input'.given ending
+    × LoadHears level step shelf.held input.given input'.given out out' ending
 
 abbrev pub PlayCauses : (input input' : Intake) (out out' : Outlet) (shelf shelf' : Stock) → Ending → Type 0
 PlayCauses input input' out out' shelf shelf' ending = PlayCause out out' shelf shelf' ending × (input' ≡ input)

@@ -8,7 +8,7 @@ use Rattle.vms_board.specs.Restoring.{Back, IsMisfitAt, Restores}
 use Rattle.vms_board.specs.Saving.{machine_of}
 use Rattle.vms_desc.specs.Formed.{shipped_set}
 use Rattle.vms_io.specs.Shelves.{Held}
-use Rattle.vms_io.specs.Told.{Intake}
+use Rattle.vms_io.specs.Told.{Intake, Outlet}
 use Rattle.vms_load.specs.Staging.{most_given}
 use Rattle.vms_outcome.specs.Lines.{refused_line}
 use Rattle.vms_outcome.specs.Outcomes.{Outcome, done, ended, Outside, ReadFault, OutFault, NotesFault, ShelfFault, WantsMemory, EndsBefore, EndsBy}
@@ -19,7 +19,7 @@ use Rattle.vms_script.specs.Lines.{ScriptLine}
 use Rattle.vms_session.specs.Laws.{trace_of}
 use Rattle.vms_spec.specs.declared.Reason.{Reason}
 use Rattle.vms_units.specs.Faults.{Fault}
-use Rattle.vms_boards.specs.Heard.{HearsBy, Refuses}
+use Rattle.vms_boards.specs.Heard.{HearsBy, Refuses, Takes}
 
 -- the trace of the script's events on the board that the input restores; or where and why the input is refused, up to the end
 -- of the unit at fault, or because the stream is no board's; the shelf tells the same as before
@@ -41,10 +41,14 @@ abbrev pub LoadGives : {A : Type 0} → Step A → Intake → Intake → Type 0
 LoadGives (Ends status line) input input' = input' ≡ input
 LoadGives step input input' = input'.given ≤ input.given + most_given (shipped_set NEWEST)
 
--- what is heard of a refusal: the script that the step gave, and bytes that this refusal takes to the last
-abbrev pub LoadHears : ℕ → Step (List ScriptLine) → Option Held → ℕ → ℕ → Ending → Type 0
-LoadHears level step held before now ending =
-    HearsBy (List ScriptLine) step (λ lines bytes o. Loads level lines bytes held o) before now ending
+-- what is heard of a stream or of a refusal: the script that the step gave, and bytes that the outcome takes to the last
+abbrev pub LoadHears : ℕ → Step (List ScriptLine) → Option Held → (before now : ℕ) (out out' : Outlet) → Ending → Type 0
+LoadHears level step held before now out out' ending =
+    HearsBy (List ScriptLine) step (λ lines bytes o. Loads level lines bytes held o) held before now out out' ending
+
+abbrev pub LoadTakes : ℕ → Step (List ScriptLine) → Outside → Outside → Type 0
+LoadTakes level step old new =
+    Takes (List ScriptLine) step (λ lines bytes o. Loads level lines bytes old.shelf.held o) old new
 
 abbrev pub LoadRefuses : ℕ → Step (List ScriptLine) → Outside → Outside → Type 0
 LoadRefuses level step old new =
@@ -67,6 +71,7 @@ LoadStatus status old new =
 pub record LoadAnswers (level : ℕ) (step : Step (List ScriptLine)) (status : ℕ) (old new : Outside) : Type 0 where
   pub ends : LoadStatus status old new
   pub given : LoadGives step old.input new.input
-  -- exactly the bytes of the refusal are taken
+  -- exactly the bytes of the stream are taken, or those of the refusal
+  pub taken : status ≡ 0 → LoadTakes level step old new
   pub refused : status ≡ 1 → LoadRefuses level step old new
   pub held : new.shelf.held ≡ old.shelf.held

@@ -52,7 +52,8 @@ pub fn load_board<I: Source, O: Sink, H: Shelf>(
         (intake I.Source input.old) (intake I.Source input.new) }
     ensures heard { LoadHears asked.entry.level
         (scripted None (H.held shelf.old) asked.entry.script.now) (H.held shelf.old)
-        (I.given input.old) (I.given input.new) result }
+        (I.given input.old) (I.given input.new)
+        (outlet O.Sink out.old) (outlet O.Sink out.new) result }
     ensures held { H.held shelf.new ≡ H.held shelf.old }
     ensures input_count { I.faults input.old ≤ I.faults input.new }
     ensures out_count { O.faults out.old ≤ O.faults out.new }
@@ -86,8 +87,9 @@ fn load_lines<I: Source, O: Sink>(
         (outlet O.Sink out.old) (outlet O.Sink out.new) result }
     ensures given { I.given input.new ≤ I.given input.old + most_given (shipped_set newest) }
     ensures heard { (held : Option Held)
-        → HearsEnd (λ bytes o. Loads level (lines_view lines.now) bytes held o)
-        (I.given input.old) (I.given input.new) result }
+        → HearsEnd (λ bytes o. Loads level (lines_view lines.now) bytes held o) held
+        (I.given input.old) (I.given input.new)
+        (outlet O.Sink out.old) (outlet O.Sink out.new) result }
     ensures input_count { I.faults input.old ≤ I.faults input.new }
     ensures out_count { O.faults out.old ≤ O.faults out.new }
     ensures input_promise { I.promise input.new ≡ I.promise input.old }
@@ -121,8 +123,9 @@ fn load_on<I: Source, O: Sink>(
         (outlet O.Sink out.old) (outlet O.Sink out.new) result }
     ensures given { I.given input.new ≤ I.given input.old + most_given (shipped_set newest) }
     ensures heard { (held : Option Held) → let level = board.old.state.level in
-        HearsEnd (λ bytes o. Loads level (lines_view lines.now) bytes held o)
-        (I.given input.old) (I.given input.new) result }
+        HearsEnd (λ bytes o. Loads level (lines_view lines.now) bytes held o) held
+        (I.given input.old) (I.given input.new)
+        (outlet O.Sink out.old) (outlet O.Sink out.new) result }
     ensures input_count { I.faults input.old ≤ I.faults input.new }
     ensures out_count { O.faults out.old ≤ O.faults out.new }
     ensures input_promise { I.promise input.new ≡ I.promise input.old }

@@ -6,10 +6,6 @@ use Rattle.vms_spec.specs.declared.Place.{Place}
 use Rattle.vms_spec.specs.Lists.{at, every, some, or_else, first_answer}
 use Rattle.vms_check.specs.Comparing.{failing_pair}
 
-pub or_else_none : {X : Type 0} (x y : Option X) → or_else x y ≡ None → (x ≡ None) × (y ≡ None)
-or_else_none (Some x) y e = absurd (cc)
-or_else_none None y e = (refl, e)
-
 pub both_none : {X : Type 0} (x y : Option X) → x ≡ None → y ≡ None → or_else x y ≡ None
 both_none x y e f = ap (λ o. or_else o y) e ∙ f
 
@@ -38,18 +34,6 @@ some_at p (y ∷ xs) (suc i) x h e = right (p y) (some p xs) (some_at p xs i x h
     right : (a b : Bool) → b ≡ true → (a || b) ≡ true
     right true b e = refl
     right false b e = e
-
-pub answers_none : {X Y : Type 0} (f : ℕ → X → Option Y) (i : ℕ) (xs : List X) → first_answer f i xs ≡ None → (j : ℕ) (x : X) → at xs j ≡ Some x → f (i + j) x ≡ None
-answers_none f i [] e j x h = absurd (cc)
-answers_none f i (y ∷ xs) e zero x h =
-    let p = or_else_none (f i y) (first_answer f (suc i) xs) e in
-    let same : y ≡ x = cc in
-    let plus : i + 0 ≡ i = omega arith in
-    ap (λ (k : ℕ). f k x) plus ∙ ap (f i) (sym same) ∙ p.0
-answers_none f i (y ∷ xs) e (suc j) x h =
-    let p = or_else_none (f i y) (first_answer f (suc i) xs) e in
-    let plus : i + suc j ≡ suc i + j = omega arith in
-    ap (λ (k : ℕ). f k x) plus ∙ answers_none f (suc i) xs p.1 j x h
 
 pub none_answers : {X Y : Type 0} (f : ℕ → X → Option Y) (i : ℕ) (xs : List X) → ((j : ℕ) (x : X) → at xs j ≡ Some x → f (i + j) x ≡ None) → first_answer f i xs ≡ None
 none_answers f i [] h = refl

@@ -10,7 +10,7 @@ use Rattle.vms_spec.specs.Lists.{or_else}
 use Rattle.vms_spec.specs.Rules.{uses_below}
 use Rattle.vms_spec.specs.Sets.{Formula, Field, Desc, Set}
 use Rattle.vms_spec.specs.WellFormed.{in_field}
-use Rattle.vms_parts.proofs.Tables.{first_at, first_long}
+use Rattle.vms_spec.proofs.Tables.{first_at, first_long}
 use Rattle.vms_desc.specs.Formed.{is_well_formed}
 use Rattle.vms_desc.specs.Parts.{HasPart, desc_at}
 use Rattle.vms_desc.proofs.Clean.{reach, field_clean, struct_clean}

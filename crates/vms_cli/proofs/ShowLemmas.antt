@@ -1,5 +1,5 @@
 -- From what a load and a write say to how `show` ends.
-use Rattle.std.proofs.Common.{◌≡◌, ℕ, suc, ◌+◌, ◌<◌, ◌≤◌, Bool, true, List, [], ◌∷◌, length, get_or, map, drop, Option, Some, None, Ok, Err, IfSome, IsSomeAnd, refl, sym, ap, ◌∙◌, subst, arith}
+use Rattle.std.proofs.Common.{◌≡◌, ℕ, suc, ◌+◌, ◌<◌, ◌≤◌, Bool, true, List, [], ◌∷◌, ◌++◌, append-nil, length, get_or, map, drop, Option, Some, None, Ok, Err, IfSome, IsSomeAnd, refl, sym, ap, ◌∙◌, subst, arith}
 use Rattle.std.proofs.lemmas.List.{length-map, get_or-map}
 use Rattle.std.specs.Option.{ForSome}
 use Rattle.arrayvec.specs.ArrayVec.{ArrayVec}
@@ -30,7 +30,7 @@ use Rattle.vms_desc.proofs.AskLaws.{few_cells}
 use Rattle.vms_image.specs.Typed.{Typed, state_of}
 use Rattle.vms_values.specs.Printing.{AreOf, IsOf, machine_of}
 use Rattle.vms_outcome.specs.declared.ending.Ending.{Ending}
-use Rattle.vms_outcome.specs.declared.ending.Ending.TheVariants.{Refused}
+use Rattle.vms_outcome.specs.declared.ending.Ending.TheVariants.{Done, Refused}
 use Rattle.vms_outcome.specs.Endings.{EndsAs, SetCause, WritesAs}
 use Rattle.vms_outcome.specs.Lines.{refused_line}
 use Rattle.vms_outcome.specs.Outcomes.{Outcome, done, ended, TakesBytes}
@@ -39,8 +39,8 @@ use Rattle.vms_outcome.specs.Steps.{Step, Untold, Gives, Ends}
 use Rattle.vms_outcome.proofs.EndLemmas.{text_written}
 use Rattle.vms_load.proofs.ExactLoads.{heard_holds}
 use Rattle.vms_load.specs.Hearing.{HearsLoad}
-use Rattle.vms_boards.proofs.HeardLemmas.{IsOther, all_of}
-use Rattle.vms_boards.specs.Heard.{Hears}
+use Rattle.vms_boards.proofs.HeardLemmas.{IsOther, all_of, all_taken, some-is, written_end}
+use Rattle.vms_boards.specs.Heard.{Hears, HearsEnd}
 use Rattle.vms_cli.specs.Show.{GivesWithin, Shows, ShowsWell, Values, Refuses, most_of_all}
 
 abbrev no_device : Device
@@ -160,9 +160,10 @@ gives_within m Untold t i i' h within most = omega (arith, within, most)
 gives_within m (Gives set) t i i' h within most = subst (λ (y : Set). i'.given ≤ i.given + most_given y) h within
 gives_within m (Ends status line) t i i' h within most = absurd h
 
--- ---- what is heard of a refusal
+-- ---- what is heard of a stream or of a refusal
 
 pub set_other : (asks : Bool) (s s' : Stock) (e : Ending) → SetCause asks s s' e → IsOther e
+set_other asks s s' Done c = absurd c
 set_other asks s s' (Refused line) c = absurd c
 set_other asks s s' e c = tt
 
@@ -175,3 +176,16 @@ heard_refused set fit held before now images taken fault r same line said h =
     let e = heard_holds set (accepted_of set None) before now images taken r first in
     all_of (ShowsWell held set) e.bytes (refused_line set r.at r.section r.reason) line.items (r.at + e.size) before now
     (fit.well, Refuses r.at r.section r.reason e.size e.fault) said e.ends (e.given ∙ ap (λ (n : ℕ). capped (before + n)) (sym e.ends))
+
+-- a stream was taken from all of the bytes, and its text was written, or some of it
+pub heard_shown : (set : Set) → IsFit set → (held : Option Held) (before now : ℕ) (o o' : Outlet) (images : List Image) (taken : ℕ) (machine : Option ℕ) (e : Ending)
+    → HearsLoad set (accepted_of set None) before now images taken (Ok machine) → WritesAs (values_text set (machine_of set machine) images) o o' e
+    → HearsEnd (ShowsWell held set) held before now o o' e
+heard_shown set fit held before now o o' images taken machine e h w =
+    let said = h.says [] refl in
+    let name = machine_of set machine in
+    let takes : Takes set set.machines (h.bytes ++ []) taken name images = subst (λ (m : Option (List ℕ)). Takes set set.machines (h.bytes ++ []) taken m images) (same_machine set machine) said.0 in
+    let none : [] ≡ drop taken (h.bytes ++ []) = some-is [] (drop taken (h.bytes ++ [])) said.1 in
+    let here : Takes set set.machines h.bytes taken name images = subst (λ (l : List ℕ). Takes set set.machines l taken name images) (append-nil h.bytes) takes in
+    written_end (ShowsWell held set) held h.bytes (values_text set name images) taken before now o o' e
+    (fit.well, Values taken name images here) (all_taken set set.machines h.bytes taken name images takes none) h.given w

@@ -8,7 +8,7 @@ use Rattle.vms_outcome.specs.Fetching.{is_on_shelf, word_set}
 use Rattle.vms_outcome.specs.SetWords.{SetWord}
 use Rattle.vms_outcome.proofs.EndLemmas.{around}
 use Rattle.vms_cli.specs.Causes.{ShowCause, ShowCauses}
-use Rattle.vms_boards.proofs.HeardLemmas.{refusal_row}
+use Rattle.vms_boards.proofs.HeardLemmas.{refusal_row, stream_row}
 use Rattle.vms_spec.specs.Sets.{Set}
 use Rattle.vms_cli.specs.Show.{ShowStatus, ShowAnswers, ShowsWell}
 
@@ -74,5 +74,6 @@ module _ (i i' : Intake) (o o' n n' : Outlet) (s s' : Stock) where
     held = c.1;
     unasked = c.2;
     given = c.3;
+    taken = stream_row Set (word_set s.held set) (ShowsWell s.held) i i' o o' n n' s s' e status c.4 t;
     refused = refusal_row Set (word_set s.held set) (ShowsWell s.held) i i' o o' n n' s s' e status c.4 t;
   }

@@ -6,7 +6,7 @@ use Rattle.vms_io.specs.Shelves.{Held}
 use Rattle.vms_outcome.specs.SetWords.{SetWord, set_word, shipped_number}
 use Rattle.vms_script.specs.Names.{is_shelf_name}
 use Rattle.vms_session.specs.Laws.{HoldsAll}
-use Rattle.vms_cli.specs.Commands.{Asked, Show, Pack, Check, Save, Load, Drill, Play, asked_of, board_level, check_of, drill_of, few_events, load_of, number_word, pack_of, pair_of, play_of, save_of, show_of, triple_of}
+use Rattle.vms_cli.specs.Commands.{Asked, Pack, Save, Load, Play, board_level, check_of, drill_of, few_events, load_of, number_word, pack_of, pair_of, play_of, save_of, show_of, triple_of}
 use Rattle.vms_cli.specs.Laws.{GoesBy, WordsLaw}
 
 -- ---- levels

@@ -83,7 +83,7 @@ abbrev pub ShowCauses : SetWord → (input input' : Intake) (out out' : Outlet) 
 ShowCauses set input input' out out' shelf shelf' ending =
     ShowCause (is_on_shelf set) input input' out out' shelf shelf' ending × (shelf'.held ≡ shelf.held)
     × (is_on_shelf set ≡ false → shelf' ≡ shelf) × GivesWithin (word_set shelf.held set) input input'
-    × ShowHears (word_set shelf.held set) shelf.held input.given input'.given ending
+    × ShowHears (word_set shelf.held set) shelf.held input.given input'.given out out' ending
 
 abbrev pub PackCauses : (input input' : Intake) (out out' : Outlet) (shelf shelf' : Stock) → Ending → Type 0
 PackCauses input input' out out' shelf shelf' ending =

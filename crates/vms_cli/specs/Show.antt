@@ -2,7 +2,7 @@
 use Rattle.std.specs.Prelude.{◌≡◌, ◌⊎◌, ℕ, ◌+◌, ◌≤◌, ◌^◌, Bool, true, false, List, Option, IsSomeAnd}
 use Rattle.std.specs.Io.KnownBytes.{Keeps}
 use Rattle.vms_io.specs.Shelves.{Held}
-use Rattle.vms_io.specs.Told.{Intake}
+use Rattle.vms_io.specs.Told.{Intake, Outlet}
 use Rattle.vms_spec.specs.declared.Reason.{Reason}
 use Rattle.vms_spec.specs.Images.{Image}
 use Rattle.vms_spec.specs.Sets.{Set}
@@ -15,7 +15,7 @@ use Rattle.vms_outcome.specs.Lines.{refused_line}
 use Rattle.vms_outcome.specs.Outcomes.{Outcome, done, ended, Outside, ReadFault, OutFault, NotesFault, ShelfFault, WantsMemory, EndsBefore, EndsBy}
 use Rattle.vms_outcome.specs.Steps.{Step, Untold, Gives, Ends, HasBy}
 use Rattle.vms_outcome.specs.declared.ending.Ending.{Ending}
-use Rattle.vms_boards.specs.Heard.{HearsBy, Refuses as RefusesBy}
+use Rattle.vms_boards.specs.Heard.{HearsBy, Refuses as RefusesBy, Takes as TakesBy}
 
 -- the values text of the stream that the input takes, or where and why the input is refused, up to the end of the unit at
 -- fault; the shelf tells the same as before
@@ -44,9 +44,9 @@ GivesWithin (Ends status line) input input' = input' ≡ input
 abbrev pub ShowsWell : Option Held → Set → List ℕ → Outcome → Type 0
 ShowsWell held set bytes o = WellFormed set × Shows set bytes held o
 
--- what is heard of a refusal: the set that the step gave, and bytes that this refusal takes to the last
-abbrev pub ShowHears : Step Set → Option Held → ℕ → ℕ → Ending → Type 0
-ShowHears step held before now ending = HearsBy Set step (ShowsWell held) before now ending
+-- what is heard of a stream or of a refusal: the set that the step gave, and bytes that the outcome takes to the last
+abbrev pub ShowHears : Step Set → Option Held → (before now : ℕ) (out out' : Outlet) → Ending → Type 0
+ShowHears step held before now out out' ending = HearsBy Set step (ShowsWell held) held before now out out' ending
 
 -- what it can answer, told or not
 abbrev pub ShowStatus : Bool → ℕ → Outside → Outside → Type 0
@@ -66,7 +66,8 @@ ShowStatus asks status old new =
 pub record ShowAnswers (asks : Bool) (step : Step Set) (status : ℕ) (old new : Outside) : Type 0 where
   pub ends : ShowStatus asks status old new
   pub given : GivesWithin step old.input new.input
-  -- exactly the bytes of the refusal are taken
+  -- exactly the bytes of the stream are taken, or those of the refusal
+  pub taken : status ≡ 0 → TakesBy Set step (ShowsWell old.shelf.held) old new
   pub refused : status ≡ 1 → RefusesBy Set step (ShowsWell old.shelf.held) old new
   pub held : new.shelf.held ≡ old.shelf.held
   pub unasked : asks ≡ false → new.shelf ≡ old.shelf

@@ -40,7 +40,8 @@ pub(crate) fn show<I: Source, O: Sink, H: Shelf>(
         (intake I.Source input.old) (intake I.Source input.new) }
     ensures heard { let held = H.held shelf.old in
         ShowHears (word_set held (set_asked set.entry)) held
-        (I.given input.old) (I.given input.new) result }
+        (I.given input.old) (I.given input.new)
+        (outlet O.Sink out.old) (outlet O.Sink out.new) result }
     ensures unasked { is_on_shelf (set_asked set.entry) ≡ false
         → stock H.Shelf shelf.new ≡ stock H.Shelf shelf.old }
     ensures held { H.held shelf.new ≡ H.held shelf.old }
@@ -66,8 +67,9 @@ fn show_stream<I: Source, O: Sink>(mut loader: Loader, input: &mut I, out: &mut 
     ensures cause { StreamCause (intake I.Source input.old) (intake I.Source input.new)
         (outlet O.Sink out.old) (outlet O.Sink out.new) result }
     ensures given { I.given input.new ≤ I.given input.old + most_given (loads loader) }
-    ensures heard { (held : Option Held) → HearsEnd (ShowsWell held (loads loader))
-        (I.given input.old) (I.given input.new) result }
+    ensures heard { (held : Option Held) → HearsEnd (ShowsWell held (loads loader)) held
+        (I.given input.old) (I.given input.new)
+        (outlet O.Sink out.old) (outlet O.Sink out.new) result }
     ensures input_count { I.faults input.old ≤ I.faults input.new }
     ensures out_count { O.faults out.old ≤ O.faults out.new }
     ensures input_promise { I.promise input.new ≡ I.promise input.old }

@@ -1,40 +1,25 @@
 -- What well-formed sets have no more of than they may.
-use Rattle.std.proofs.Common.{◌≡◌, ℕ, zero, suc, ◌+◌, ◌*◌, ◌<◌, ◌≤◌, List, [], ◌∷◌, ◌++◌, length, length-append, get_or, map, refl, sym, ap, ◌∙◌, arith, subst, Bool, true, false, ◌&&◌, nat_le, Option, Some, None, is_none}
+use Rattle.std.proofs.Common.{◌≡◌, ℕ, zero, suc, ◌+◌, ◌*◌, ◌≤◌, List, [], ◌∷◌, ◌++◌, length, length-append, get_or, map, refl, sym, ap, ◌∙◌, arith, true, ◌&&◌, nat_le, Option, Some, None, is_none}
 use Rattle.std.specs.List.{flat_map}
 use Rattle.std.proofs.lemmas.Bool.{and_parts, leb-true}
-use Rattle.std.proofs.lemmas.List.{length-map, map-append}
-use Rattle.std.proofs.Math.ListN.{get_or-map}
+use Rattle.std.proofs.lemmas.List.{length-map}
 use Rattle.std.proofs.lemmas.Simd.{map-map}
 use Rattle.vms_kinds.specs.declared.Item.{Item}
 use Rattle.vms_kinds.specs.declared.Item.TheVariants.{Num, Equal, Unused, Struct}
 use Rattle.vms_spec.specs.declared.Part.TheVariants as parts
-use Rattle.vms_spec.specs.declared.Place.{Place}
 use Rattle.vms_spec.specs.Lists.{or_else, first_answer}
 use Rattle.vms_spec.specs.Sets.{Field, Desc, Sub, Device, Set}
-use Rattle.vms_spec.specs.Layout.{Cell, first, no_desc, capacity_of, desc_cells, struct_cells, device_cells}
-use Rattle.vms_spec.specs.WellFormed.{SetFault, failing, here, struct_fault, device_fault, set_rules, size_rules, first_fault, item_count, items_in, struct_items, subs_items, devices_items}
+use Rattle.vms_spec.specs.Layout.{first, no_desc, capacity_of, desc_cells, struct_cells, device_cells}
+use Rattle.vms_spec.specs.WellFormed.{failing, here, struct_fault, device_fault, set_rules, size_rules, first_fault, item_count, items_in, struct_items, subs_items, devices_items}
 use Rattle.vms_parts.specs.declared.sizes.Measure.TheVariants.{Cells, Items}
-use Rattle.vms_parts.specs.declared.types.CellForm.{CellForm}
 use Rattle.vms_desc.specs.Formed.{is_well_formed}
 use Rattle.vms_parts.specs.Sizes.{in_u32, size_of, fields_size, sizes_to}
 use Rattle.vms_parts.specs.Views.{form_of, layout_of}
 use Rattle.vms_desc.proofs.CellSizes.{cells_size, struct_sizes}
-use Rattle.vms_parts.proofs.Tables.{first_long}
+use Rattle.vms_spec.proofs.Faultless.{or_else_none, AllTrue, all_true}
+use Rattle.vms_spec.proofs.Tables.{first_long}
 
 -- ---- no fault at the set
-
-pub or_else_none : {X : Type 0} (x y : Option X) → or_else x y ≡ None → (x ≡ None) × (y ≡ None)
-or_else_none (Some x) y e = cc
-or_else_none None y e = (refl, e)
-
-abbrev pub AllTrue : List Bool → Type 0
-AllTrue [] = Unit {0}
-AllTrue (b ∷ rules) = (b ≡ true) × AllTrue rules
-
-pub all_true : (r : ℕ) (rules : List Bool) (p : Place) → failing r rules p ≡ None → AllTrue rules
-all_true r [] p e = tt
-all_true r (true ∷ rules) p e = (refl, all_true (suc r) rules p e)
-all_true r (false ∷ rules) p e = cc
 
 pub none_is : {X : Type 0} (o : Option X) → is_none o ≡ true → o ≡ None
 none_is None h = refl

@@ -1,9 +1,8 @@
 -- The sizes of structures are the numbers of their cells, and the forms of cells those of their forms.
-use Rattle.std.proofs.Common.{◌≡◌, ℕ, zero, suc, ◌+◌, ◌*◌, ◌<◌, ◌≤◌, List, [], ◌∷◌, ◌++◌, length, length-append, get_or, map, refl, sym, ap, ◌∙◌, arith, append_assoc, ℤ, pos}
+use Rattle.std.proofs.Common.{◌≡◌, ℕ, zero, suc, ◌*◌, List, [], ◌∷◌, ◌++◌, length, length-append, get_or, map, refl, sym, ap, ◌∙◌, arith, ℤ}
 use Rattle.std.specs.List.{flat_map}
-use Rattle.std.proofs.lemmas.List.{map-append, length-map}
+use Rattle.std.proofs.lemmas.List.{map-append}
 use Rattle.std.proofs.Math.ListN.{get_or-map}
-use Rattle.std.proofs.lemmas.Simd.{map-map}
 use Rattle.vms_kinds.specs.declared.Item.{Item}
 use Rattle.vms_kinds.specs.declared.Item.TheVariants.{Num, Equal, Unused, Struct}
 use Rattle.vms_spec.specs.Sets.{Field, Desc, Sub, Device, Set}
@@ -11,10 +10,9 @@ use Rattle.vms_spec.specs.Layout.{Cell, first, no_desc, times, counted, capacity
 use Rattle.vms_spec.proofs.Sizes.{field_size}
 use Rattle.vms_parts.specs.declared.sizes.Measure.TheVariants.{Cells}
 use Rattle.vms_parts.specs.declared.types.CellForm.{CellForm}
-use Rattle.vms_parts.specs.Sizes.{in_u32, size_of, fields_size, sizes_to}
+use Rattle.vms_parts.specs.Sizes.{size_of, fields_size, sizes_to}
 use Rattle.vms_desc.specs.Forms.{item_forms, field_forms, fields_forms, subs_forms, device_forms, forms_to}
 use Rattle.vms_parts.specs.Views.{form_of}
-use Rattle.vms_parts.proofs.Tables.{first_long}
 
 -- ---- sizes
 

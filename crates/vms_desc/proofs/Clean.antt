@@ -1,5 +1,5 @@
 -- What a well-formed set has, part by part.
-use Rattle.std.proofs.Common.{◌≡◌, ℕ, zero, suc, ◌+◌, ◌<◌, ◌≤◌, List, [], ◌∷◌, length, get_or, Option, None, refl, ap, ◌∙◌, subst, arith, Bool, true, false, ◌&&◌, nat_le}
+use Rattle.std.proofs.Common.{◌≡◌, ℕ, suc, ◌+◌, ◌<◌, ◌≤◌, List, [], ◌∷◌, length, get_or, None, refl, ap, ◌∙◌, subst, arith, Bool, true, false, ◌&&◌, nat_le}
 use Rattle.std.proofs.lemmas.Bool.{leb-true}
 use Rattle.vms_kinds.specs.declared.Item.{Item}
 use Rattle.vms_kinds.specs.declared.Item.TheVariants.{Num, Equal, Unused, Struct}
@@ -17,17 +17,8 @@ use Rattle.vms_parts.specs.Devices.{device_at}
 use Rattle.vms_rules.proofs.SetLaws.{few_parts}
 use Rattle.vms_desc.specs.Formed.{is_well_formed}
 use Rattle.vms_desc.specs.Parts.{HasPart, desc_at, sub_at}
-use Rattle.vms_desc.proofs.Bounds.{AllTrue, all_true, or_else_none, none_is}
-
-no_answer : {X Y : Type 0} (f : ℕ → X → Option Y) (i : ℕ) (xs : List X) → first_answer f i xs ≡ None → (j : ℕ) (d : X) → j < length xs → f (i + j) (get_or xs j d) ≡ None
-no_answer f i [] e j d lt = absurd (omega arith)
-no_answer f i (x ∷ xs) e zero d lt =
-    let plus : i + 0 ≡ i = omega arith in
-    ap (λ (k : ℕ). f k x) plus ∙ (or_else_none (f i x) (first_answer f (suc i) xs) e).0
-no_answer f i (x ∷ xs) e (suc j) d lt =
-    let plus : i + suc j ≡ suc i + j = omega arith in
-    let lt' : j < length xs = omega arith in
-    ap (λ (k : ℕ). f k (get_or xs j d)) plus ∙ no_answer f (suc i) xs (or_else_none (f i x) (first_answer f (suc i) xs) e).1 j d lt'
+use Rattle.vms_spec.proofs.Faultless.{AllTrue, all_true, or_else_none, no_answer}
+use Rattle.vms_desc.proofs.Bounds.{none_is}
 
 -- ---- one description
 

@@ -1,12 +1,11 @@
 -- Numbers by sizes are the numbers of the definition.
-use Rattle.std.proofs.Common.{◌≡◌, ℕ, zero, suc, ◌+◌, ◌*◌, ◌<◌, ◌≤◌, List, [], ◌∷◌, ◌++◌, length, length-append, get_or, take, map, refl, sym, ap, ◌∙◌, arith, Bool, not, ◌&&◌, ◌||◌, bit_and, ℤ, pos, min, nat_le, true, false}
-use Rattle.std.specs.List.{flat_map}
+use Rattle.std.proofs.Common.{◌≡◌, ℕ, zero, suc, ◌+◌, ◌*◌, ◌<◌, ◌≤◌, List, [], ◌∷◌, length, get_or, take, map, refl, sym, ap, ◌∙◌, arith, Bool, not, ◌&&◌, ◌||◌, bit_and, ℤ, pos, min, nat_le, true, false}
 use Rattle.std.proofs.lemmas.Bool.{leb-true, leb-false}
 use Rattle.std.proofs.lemmas.List.{take_all}
 use Rattle.std.proofs.lemmas.Simd.{map-map}
 use Rattle.vms_kinds.specs.Codes.{width, residue}
 use Rattle.vms_spec.specs.declared.Whose.TheVariants.{Own, Parent}
-use Rattle.vms_spec.specs.Sets.{Formula, AtLeast, Below, Cell, Not, And, Or, Field, Desc, Sub, Device, Set}
+use Rattle.vms_spec.specs.Sets.{Formula, AtLeast, Below, Cell, Not, And, Or, Field, Desc, Set}
 use Rattle.vms_spec.specs.Tests.{truth, compares}
 use Rattle.vms_spec.specs.Layout.{Cell as OneCell, no_field, kind_of, capacity_of, place_of, field_cells, desc_cells, struct_cells, numbers_of}
 use Rattle.vms_spec.proofs.Sizes.{field_size}

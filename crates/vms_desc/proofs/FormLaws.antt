@@ -1,8 +1,8 @@
 -- Forms that are put one after the other.
-use Rattle.std.proofs.Common.{◌≡◌, ℕ, zero, suc, ◌+◌, ◌-◌, ◌<◌, ◌≤◌, List, [], ◌∷◌, ◌++◌, length, get_or, drop, take, map, refl, sym, ap, ◌∙◌, arith, append_assoc, append-nil, take_all}
+use Rattle.std.proofs.Common.{◌≡◌, ℕ, suc, ◌+◌, ◌-◌, ◌<◌, ◌≤◌, List, [], ◌∷◌, ◌++◌, length, get_or, drop, take, map, refl, sym, ap, ◌∙◌, arith, append_assoc, append-nil, take_all}
 use Rattle.std.proofs.lemmas.List.{drop_all, length-map, take-map, length-take-le, get_or_past}
 use Rattle.vms_spec.specs.Sets as sets
-use Rattle.vms_spec.specs.Layout.{first, no_desc, times, device_cells}
+use Rattle.vms_spec.specs.Layout.{no_desc, times, device_cells}
 use Rattle.vms_parts.specs.declared.types.CellForm.{CellForm}
 use Rattle.vms_parts.specs.declared.types.Field.{Field}
 use Rattle.vms_parts.specs.declared.types.Desc.{Desc}
@@ -13,7 +13,7 @@ use Rattle.vms_desc.proofs.CellSizes.{device_forms_are}
 use Rattle.vms_desc.specs.Forms.{field_forms, fields_forms, subs_forms, device_forms, forms_to}
 use Rattle.vms_parts.specs.Views.{field_of, desc_of, sub_of, device_of, set_of, form_of, layout_of}
 use Rattle.vms_parts.proofs.Items.{drop_is, get_map_at}
-use Rattle.vms_parts.proofs.Tables.{first_at, first_take, first_long}
+use Rattle.vms_spec.proofs.Tables.{first_at, first_take, first_long}
 
 -- what is there and what is still to come is the whole
 pub fields_go : (ts : List (List CellForm)) (fields : List Field) (i : ℕ) (f : Field) (out new whole : List CellForm) → i < length fields → f ≡ get_or fields i f

@@ -1,6 +1,11 @@
 -- Numbers of heads, device by device.
-use Rattle.std.proofs.Common.{◌≡◌, ℕ, zero, suc, ◌<◌, List, [], ◌∷◌, length, get_or, map, Some, sym, ap, ◌∙◌, arith}
+use Rattle.std.proofs.Common.{◌≡◌, ℕ, zero, suc, ◌<◌, List, [], ◌∷◌, length, get_or, map, Some, sym, ap, ◌∙◌, subst, arith}
+use Rattle.vms_spec.specs.Heads.{FitsHeads}
 use Rattle.vms_spec.specs.Lists.{at}
+use Rattle.vms_parts.specs.declared.types.Device.{Device}
+use Rattle.vms_parts.specs.declared.types.Parts.{Parts}
+use Rattle.vms_parts.specs.Views.{set_of, device_of}
+use Rattle.vms_desc.specs.Heads.{HeadsFit}
 
 pub at_within : {X : Type 0} (xs : List X) (i : ℕ) (x : X) → at xs i ≡ Some x → i < length xs
 at_within [] i x e = cc
@@ -12,3 +17,12 @@ pub at_mapped : {X Y : Type 0} (f : X → Y) (xs : List X) (i : ℕ) (x : X) (y 
 at_mapped f [] i x y is e = cc
 at_mapped f (z ∷ xs) zero x y is e = let g : f z ≡ y = cc in sym g ∙ ap f (sym is)
 at_mapped f (z ∷ xs) (suc i) x y is e = at_mapped f xs i x y is e
+
+-- what the code has device by device, of a set
+pub heads_of : (parts : Parts) (devices : List Device) → devices ≡ parts.devices → HeadsFit (map device_of devices) → FitsHeads (set_of parts)
+heads_of parts devices is h =
+    let all : HeadsFit (map device_of parts.devices) = subst (λ (l : List Device). HeadsFit (map device_of l)) is h in
+    record {
+      instance = λ k d e. ((all.each k d e).instance, (all.each k d e).version);
+      sub_version = λ k j d s e f. ((all.each k d e).subs j s f).version;
+    }

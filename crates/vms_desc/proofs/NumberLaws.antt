@@ -1,7 +1,5 @@
 -- Where the numbers of fields stand.
-use Rattle.std.proofs.Common.{◌≡◌, ℕ, zero, suc, ◌+◌, ◌*◌, ◌<◌, ◌≤◌, ◌^◌, List, [], ◌∷◌, length, get_or, take, map, refl, sym, ap, ◌∙◌, arith, Bool, true, false, ◌&&◌, Option, Some, None}
-use Rattle.std.proofs.lemmas.List.{take-map}
-use Rattle.std.proofs.lemmas.Bool.{and_parts}
+use Rattle.std.proofs.Common.{◌≡◌, ℕ, zero, suc, ◌*◌, ◌<◌, List, [], ◌∷◌, length, take, map, refl, arith, true, ◌&&◌}
 use Rattle.vms_kinds.specs.declared.Item.{Item}
 use Rattle.vms_kinds.specs.declared.Item.TheVariants.{Num, Equal, Unused, Struct}
 use Rattle.vms_spec.specs.declared.Count.{Count}
@@ -12,8 +10,8 @@ use Rattle.vms_spec.specs.Layout.{capacity_of}
 use Rattle.vms_spec.specs.Rules.{is_num, is_one}
 use Rattle.vms_parts.specs.declared.sizes.Measure.TheVariants.{Cells}
 use Rattle.vms_parts.specs.declared.types.Field.{Field}
-use Rattle.vms_desc.specs.Parts.{is_number, is_number_in}
-use Rattle.vms_parts.specs.Sizes.{in_u32, size_of, fields_size}
+use Rattle.vms_desc.specs.Parts.{is_number}
+use Rattle.vms_parts.specs.Sizes.{size_of, fields_size}
 use Rattle.vms_parts.specs.Views.{field_of}
 
 one_size : (sizes : List ℕ) (item : Item) (c : Count) → is_num item && is_one c ≡ true → capacity_of c * size_of Cells sizes item ≡ 1

@@ -1,5 +1,5 @@
 -- Where paths begin.
-use Rattle.std.proofs.Common.{◌≡◌, ℕ, zero, suc, ◌+◌, ◌<◌, ◌≤◌, List, [], ◌∷◌, length, length-append, get_or, take, drop, map, refl, sym, ap, ◌∙◌, arith, Option, Some, None}
+use Rattle.std.proofs.Common.{◌≡◌, ℕ, zero, suc, ◌+◌, ◌≤◌, List, [], ◌∷◌, length, length-append, get_or, take, map, refl, sym, ap, ◌∙◌, arith, Option, Some, None}
 use Rattle.std.specs.List.{flat_map}
 use Rattle.std.proofs.lemmas.List.{length-map}
 use Rattle.std.proofs.lemmas.Simd.{map-map}
@@ -9,35 +9,29 @@ use Rattle.vms_spec.specs.Layout.{Cell, first, desc_cells, struct_cells, device_
 use Rattle.vms_spec.specs.Images.{sub_place, own_cells}
 use Rattle.vms_spec.specs.Places.{path_at, cell_in, desc_of_sub}
 use Rattle.vms_parts.specs.declared.sizes.Measure.TheVariants.{Cells}
-use Rattle.vms_parts.specs.declared.types.Sub.{Sub}
-use Rattle.vms_parts.specs.Sizes.{in_u32, fields_size}
-use Rattle.vms_parts.specs.Views.{field_of, sub_of, desc_of, form_of, layout_of}
-use Rattle.vms_parts.proofs.Items.{drop_is}
-use Rattle.vms_parts.proofs.SizeLaws.{capped_fields}
-use Rattle.vms_parts.proofs.Tables.{first_long}
+use Rattle.vms_parts.specs.Sizes.{in_u32, fields_size, subs_size}
+use Rattle.vms_parts.specs.Views.{desc_of, form_of, layout_of}
+use Rattle.vms_parts.proofs.SizeLaws.{capped_fields, capped_subs}
+use Rattle.vms_spec.proofs.Tables.{first_long}
 use Rattle.vms_desc.specs.declared.path.Placed.{Placed}
 use Rattle.vms_desc.specs.Numbers.{sizes_of}
-use Rattle.vms_desc.specs.Paths.{subs_size, begin_desc, begin_base, Begins, IsPlaced}
+use Rattle.vms_desc.specs.Paths.{begin_desc, begin_base, Begins, IsPlaced}
 use Rattle.vms_desc.proofs.CellSizes.{cells_size}
 
 -- ---- the sizes of subsections
 
-subs_cells : (cs : List (List Cell)) (subs : List sets.Sub) → length (flat_map (λ s. desc_cells cs s.desc) subs) ≡ subs_size (map length cs) subs
+subs_cells : (cs : List (List Cell)) (subs : List sets.Sub) → length (flat_map (λ s. desc_cells cs s.desc) subs) ≡ subs_size Cells (map length cs) subs
 subs_cells cs [] = refl
 subs_cells cs (s ∷ subs) =
     length-append (desc_cells cs s.desc) (flat_map (λ s. desc_cells cs s.desc) subs) ∙ omega (arith, cells_size cs s.desc.fields 0 s.desc.fields, subs_cells cs subs)
 
-subs_capped : (sizes : List ℕ) (subs : List sets.Sub) → in_u32 (subs_size (map in_u32 sizes) subs) ≡ in_u32 (subs_size sizes subs)
-subs_capped sizes [] = refl
-subs_capped sizes (s ∷ subs) = omega (arith, capped_fields Cells sizes s.desc.fields, subs_capped sizes subs)
-
-subs_less : (sizes : List ℕ) (subs : List sets.Sub) (j : ℕ) → subs_size sizes (take j subs) ≤ subs_size sizes subs
+subs_less : (sizes : List ℕ) (subs : List sets.Sub) (j : ℕ) → subs_size Cells sizes (take j subs) ≤ subs_size Cells sizes subs
 subs_less sizes [] zero = omega arith
 subs_less sizes [] (suc j) = omega arith
 subs_less sizes (s ∷ subs) zero = omega arith
 subs_less sizes (s ∷ subs) (suc j) = omega (arith, subs_less sizes subs j)
 
-sub_room : (sizes : List ℕ) (subs : List sets.Sub) (j : ℕ) (s : sets.Sub) → at subs j ≡ Some s → subs_size sizes (take j subs) + fields_size Cells sizes s.desc.fields ≤ subs_size sizes subs
+sub_room : (sizes : List ℕ) (subs : List sets.Sub) (j : ℕ) (s : sets.Sub) → at subs j ≡ Some s → subs_size Cells sizes (take j subs) + fields_size Cells sizes s.desc.fields ≤ subs_size Cells sizes subs
 sub_room sizes [] j s e = cc
 sub_room sizes (r ∷ subs) zero s e =
     let same : r ≡ s = cc in
@@ -45,26 +39,13 @@ sub_room sizes (r ∷ subs) zero s e =
     omega (arith, size)
 sub_room sizes (r ∷ subs) (suc j) s e = omega (arith, sub_room sizes subs j s e)
 
-place_of_sub : (set : sets.Set) (base : ℕ) (subs : List sets.Sub) (j : ℕ) → sub_place set base subs j ≡ base + subs_size (map length (struct_cells set)) (take j subs)
+place_of_sub : (set : sets.Set) (base : ℕ) (subs : List sets.Sub) (j : ℕ) → sub_place set base subs j ≡ base + subs_size Cells (map length (struct_cells set)) (take j subs)
 place_of_sub set base [] zero = omega arith
 place_of_sub set base [] (suc j) = omega arith
 place_of_sub set base (s ∷ subs) zero = omega arith
 place_of_sub set base (s ∷ subs) (suc j) =
     let c = cells_size (struct_cells set) s.desc.fields 0 s.desc.fields in
     omega (arith, c, place_of_sub set (base + length (desc_cells (struct_cells set) s.desc)) subs j)
-
--- ---- sums over subsections
-
-sum_of_two : (s p r : ℕ) → in_u32 (in_u32 (s + in_u32 p) + r) ≡ in_u32 (s + (p + r))
-sum_of_two s p r = omega arith
-
-pub subs_more : (sizes : List ℕ) (subs : List Sub) (i sum own whole : ℕ) (s : Sub) → i < length subs → s ≡ get_or subs i s
-    → own ≡ in_u32 (fields_size Cells sizes (map field_of s.desc.fields)) → in_u32 (sum + subs_size sizes (map sub_of (drop i subs))) ≡ whole
-    → in_u32 (in_u32 (sum + own) + subs_size sizes (map sub_of (drop (i + 1) subs))) ≡ whole
-subs_more sizes subs i sum own whole s lt is size e =
-    ap (λ (n : ℕ). in_u32 (in_u32 (sum + n) + subs_size sizes (map sub_of (drop (i + 1) subs)))) size
-    ∙ sum_of_two sum (fields_size Cells sizes (map field_of s.desc.fields)) (subs_size sizes (map sub_of (drop (i + 1) subs)))
-    ∙ ap (λ (l : List Sub). in_u32 (sum + subs_size sizes (map sub_of l))) (sym (drop_is subs i s lt is)) ∙ e
 
 -- ---- where a path begins
 
@@ -88,7 +69,7 @@ module _ (set : sets.Set) (d : sets.Device) (few : length (device_cells set d) �
   abbrev lengths : List ℕ
   lengths = map length (struct_cells set)
 
-  all_few : fields_size Cells lengths d.desc.fields + subs_size lengths d.subs ≤ 16384
+  all_few : fields_size Cells lengths d.desc.fields + subs_size Cells lengths d.subs ≤ 16384
   all_few =
       omega (
         arith,
@@ -104,8 +85,8 @@ module _ (set : sets.Set) (d : sets.Device) (few : length (device_cells set d) �
       let capped : sizes_of set ≡ map in_u32 lengths = sym (map-map in_u32 length (struct_cells set)) in
       let own : in_u32 (fields_size Cells (sizes_of set) d.desc.fields) ≡ in_u32 (fields_size Cells lengths d.desc.fields) =
       ap (λ (l : List ℕ). in_u32 (fields_size Cells l d.desc.fields)) capped ∙ capped_fields Cells lengths d.desc.fields in
-      let before : in_u32 (subs_size (sizes_of set) (take j d.subs)) ≡ in_u32 (subs_size lengths (take j d.subs)) =
-      ap (λ (l : List ℕ). in_u32 (subs_size l (take j d.subs))) capped ∙ subs_capped lengths (take j d.subs) in
+      let before : in_u32 (subs_size Cells (sizes_of set) (take j d.subs)) ≡ in_u32 (subs_size Cells lengths (take j d.subs)) =
+      ap (λ (l : List ℕ). in_u32 (subs_size Cells l (take j d.subs))) capped ∙ capped_subs Cells lengths (take j d.subs) in
       omega (arith, own, before, all_few, subs_less lengths d.subs j, place_of_sub set (own_cells set d) d.subs j, cells_size (struct_cells set) d.desc.fields 0 d.desc.fields)
 
   sub_has_room : (j : ℕ) (e : sets.Desc) (o : Option sets.Sub) → at d.subs j ≡ o → desc_of_sub o ≡ Some e → base_of set d (Some j) + length (desc_cells (struct_cells set) e) ≤ 16384

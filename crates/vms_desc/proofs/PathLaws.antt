@@ -15,7 +15,7 @@ use Rattle.vms_parts.specs.declared.sizes.Measure.TheVariants.{Cells}
 use Rattle.vms_parts.specs.declared.types.Field.{Field}
 use Rattle.vms_parts.specs.Sizes.{in_u32, size_of, fields_size}
 use Rattle.vms_parts.specs.Views.{field_of, desc_of}
-use Rattle.vms_parts.proofs.Tables.{first_long, first_at}
+use Rattle.vms_spec.proofs.Tables.{first_long, first_at}
 use Rattle.vms_desc.specs.declared.path.Placed.{Placed}
 use Rattle.vms_desc.specs.declared.path.Element.{Element}
 use Rattle.vms_desc.specs.Paths.{element_in, element_of, Enters, IsPlaced}

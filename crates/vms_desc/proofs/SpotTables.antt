@@ -3,7 +3,7 @@ use Rattle.std.proofs.Common.{◌≡◌, ℕ, ◌<◌, ◌≤◌, List, [], leng
 use Rattle.std.proofs.lemmas.List.{length-map, get_or-map}
 use Rattle.std.proofs.lemmas.Simd.{map-map}
 use Rattle.vms_kinds.specs.declared.Kind.{Kind}
-use Rattle.vms_spec.specs.Sets.{Set, Device}
+use Rattle.vms_spec.specs.Sets.{Set}
 use Rattle.vms_spec.specs.Layout.{no_desc, device_cells}
 use Rattle.vms_parts.specs.Devices.{device_at}
 use Rattle.vms_parts.specs.Views.{form_of, layout_of}

@@ -1,9 +1,9 @@
 -- Tables, made row by row.
-use Rattle.std.proofs.Common.{◌≡◌, ℕ, zero, suc, ◌+◌, ◌*◌, ◌<◌, ◌≤◌, List, [], ◌∷◌, ◌++◌, length, length-append, get_or, take, map, Option, None, refl, sym, ap, ◌∙◌, subst, arith, Bool, true, false, nat_lt}
+use Rattle.std.proofs.Common.{◌≡◌, ℕ, zero, suc, ◌+◌, ◌*◌, ◌<◌, ◌≤◌, List, [], ◌∷◌, ◌++◌, length, length-append, get_or, take, map, refl, sym, ap, ◌∙◌, subst, arith, Bool, true, false, nat_lt}
 use Rattle.std.proofs.lemmas.Bool.{ltb-true, ltb-false}
-use Rattle.std.proofs.lemmas.List.{get_or_append_left, length-map, map-append}
+use Rattle.std.proofs.lemmas.List.{get_or_append_left, length-map}
 use Rattle.vms_spec.specs.Layout.{capacity_of, no_field, no_desc}
-use Rattle.vms_spec.specs.Sets.{Field, Desc, Sub, Device, AtLeast}
+use Rattle.vms_spec.specs.Sets.{Field, Sub, Device, AtLeast}
 use Rattle.std.proofs.Math.ListN.{get_or-map}
 use Rattle.vms_desc.specs.Parts.{sub_at}
 use Rattle.vms_parts.specs.declared.sizes.Measure.TheVariants.{Cells}
@@ -12,14 +12,9 @@ use Rattle.vms_parts.specs.Sizes.{in_u32, size_of, fields_size}
 use Rattle.vms_parts.specs.declared.types.Device.{Device as CodeDevice}
 use Rattle.vms_parts.specs.Views.{field_of, device_of}
 use Rattle.vms_parts.proofs.Items.{get_map_at}
+use Rattle.vms_spec.proofs.Tables.{last_is}
 use Rattle.vms_desc.specs.declared.table.Table.{Table}
 use Rattle.vms_desc.specs.Tables.{AreStarts, IsTable, no_table, AreTables, device_fields, AreDeviceTables}
-
-last_of : {X : Type 0} (xs : List X) (x d : X) (k : ℕ) → length xs ≡ k → get_or (xs ++ x ∷ []) k d ≡ x
-last_of [] x d zero e = refl
-last_of [] x d (suc k) e = absurd (omega arith)
-last_of (y ∷ xs) x d zero e = absurd (omega arith)
-last_of (y ∷ xs) x d (suc k) e = last_of xs x d k (omega arith)
 
 -- what holds of each that is there holds with one more
 one_more : {X : Type 0} (P : ℕ → X → Type 0) (xs : List X) (x d : X) → ((k : ℕ) → k < length xs → P k (get_or xs k d)) → P (length xs) x → (k : ℕ) → k < suc (length xs) → P k (get_or (xs ++ x ∷ []) k d)
@@ -30,7 +25,7 @@ one_more P xs x d h here k lt = by_test (nat_lt k (length xs)) refl
     by_test false e =
         let le : length xs ≤ k = ltb-false k (length xs) e in
         let same : length xs ≡ k = omega arith in
-        subst (P k) (sym (last_of xs x d k same)) (subst (λ (i : ℕ). P i x) same here)
+        subst (P k) (sym (last_is xs x d k same)) (subst (λ (i : ℕ). P i x) same here)
 
 -- ---- where fields begin
 
@@ -96,8 +91,8 @@ tables_more sizes descs tables fields t h x =
         by_test false e =
             let le : length descs ≤ k = ltb-false k (length descs) e in
             let same : length descs ≡ k = omega arith in
-            subst (λ (y : Table). IsTable sizes (get_or (descs ++ fields ∷ []) k []) y) (sym (last_of tables t no_table k (h.long ∙ same)))
-            (subst (λ (fs : List Field). IsTable sizes fs t) (sym (last_of descs fields [] k same)) x)
+            subst (λ (y : Table). IsTable sizes (get_or (descs ++ fields ∷ []) k []) y) (sym (last_is tables t no_table k (h.long ∙ same)))
+            (subst (λ (fs : List Field). IsTable sizes fs t) (sym (last_is descs fields [] k same)) x)
 
 -- the next of the descriptions that a list of the code has
 pub tables_next : {X Y : Type 0} (view : X → Y) (fields : Y → List Field) (sizes : List ℕ) (front : List (List Field)) (items : List X) (i : ℕ) (x : X) (tables : List Table) (t : Table) → i < length items → x ≡ get_or items i x
@@ -155,8 +150,8 @@ devices_more sizes devices tables d t h x =
         by_test false e =
             let le : length devices ≤ k = ltb-false k (length devices) e in
             let same : length devices ≡ k = omega arith in
-            subst (λ (y : List Table). AreTables sizes (device_fields (get_or (devices ++ d ∷ []) k (record { instance = 0; desc = no_desc; subs = [] }))) y) (sym (last_of tables t [] k (h.long ∙ same)))
-            (subst (λ (y : Device). AreTables sizes (device_fields y) t) (sym (last_of devices d (record { instance = 0; desc = no_desc; subs = [] }) k same)) x)
+            subst (λ (y : List Table). AreTables sizes (device_fields (get_or (devices ++ d ∷ []) k (record { instance = 0; desc = no_desc; subs = [] }))) y) (sym (last_is tables t [] k (h.long ∙ same)))
+            (subst (λ (y : Device). AreTables sizes (device_fields y) t) (sym (last_is devices d (record { instance = 0; desc = no_desc; subs = [] }) k same)) x)
 
 pub devices_next : (sizes : List ℕ) (devices : List CodeDevice) (i : ℕ) (x : CodeDevice) (tables : List (List Table)) (t : List Table) → i < length devices → x ≡ get_or devices i x
     → AreDeviceTables sizes (map device_of (take i devices)) tables → AreTables sizes (device_fields (device_of x)) t → AreDeviceTables sizes (map device_of (take (i + 1) devices)) (tables ++ t ∷ [])

@@ -1,5 +1,5 @@
 -- What stands in four bytes of a head.
-use Rattle.std.specs.Prelude.{◌≡◌, ℕ, ◌^◌, ◌<◌, Some}
+use Rattle.std.specs.Prelude.{◌≡◌, ℕ, ◌^◌, ◌<◌, List, Some}
 use Rattle.vms_spec.specs.Lists.{at}
 use Rattle.vms_spec.specs.Sets.{Sub, Device}
 
@@ -10,3 +10,6 @@ pub record FitsHead (d : Device) : Type 0 where
   pub instance : d.instance < 2 ^ 32
   pub version : d.desc.version < 2 ^ 32
   pub subs : (j : ℕ) (s : Sub) → at d.subs j ≡ Some s → FitsSub s
+
+pub record HeadsFit (devices : List Device) : Type 0 where
+  pub each : (k : ℕ) (d : Device) → at devices k ≡ Some d → FitsHead d

@@ -1,5 +1,5 @@
 -- Which parts a set has, and what stands there.
-use Rattle.std.specs.Prelude.{ℕ, ◌<◌, ◌≤◌, ◌+◌, ◌&&◌, Bool, false, List, [], length, get_or, Option, Some, None, ℤ}
+use Rattle.std.specs.Prelude.{ℕ, ◌<◌, ◌≤◌, ◌&&◌, Bool, false, List, length, get_or, Option, Some, None, ℤ}
 use Rattle.vms_spec.specs.declared.Part.{Part}
 use Rattle.vms_spec.specs.declared.Part.TheVariants as parts
 use Rattle.vms_spec.specs.Lists.{at}

@@ -1,11 +1,11 @@
 -- Paths by the sizes of structures.
-use Rattle.std.specs.Prelude.{◌≡◌, ℕ, ◌+◌, ◌*◌, ◌<◌, ◌≤◌, nat_lt, if◌then◌else◌, List, [], ◌∷◌, length, get_or, take, map, Option, Some, None}
+use Rattle.std.specs.Prelude.{◌≡◌, ℕ, ◌+◌, ◌*◌, ◌<◌, ◌≤◌, nat_lt, if◌then◌else◌, List, length, get_or, take, map, Option, Some, None}
 use Rattle.vms_spec.specs.Lists.{at}
 use Rattle.vms_spec.specs.Layout.{no_desc, first, capacity_of, desc_cells}
 use Rattle.vms_spec.specs.Places.{desc_of_sub}
 use Rattle.vms_spec.specs.Sets as sets
 use Rattle.vms_parts.specs.declared.sizes.Measure.TheVariants.{Cells}
-use Rattle.vms_parts.specs.Sizes.{in_u32, size_of, fields_size}
+use Rattle.vms_parts.specs.Sizes.{in_u32, size_of, fields_size, subs_size}
 use Rattle.vms_parts.specs.Views.{desc_of}
 use Rattle.vms_desc.specs.declared.path.Placed.{Placed}
 use Rattle.vms_desc.specs.declared.path.Element.{Element}
@@ -21,10 +21,6 @@ element_in sizes d base step (Some f) =
 abbrev pub element_of : List ℕ → sets.Desc → ℕ → (ℕ × ℕ) → Option Element
 element_of sizes d base step = element_in sizes d base step (at d.fields step.0)
 
-abbrev pub subs_size : List ℕ → List sets.Sub → ℕ
-subs_size sizes [] = 0
-subs_size sizes (s ∷ subs) = fields_size Cells sizes s.desc.fields + subs_size sizes subs
-
 -- where a path begins: in the fields of the device, or of a subsection
 abbrev pub begin_desc : sets.Device → Option ℕ → Option sets.Desc
 begin_desc d None = Some d.desc
@@ -32,7 +28,7 @@ begin_desc d (Some j) = desc_of_sub (at d.subs j)
 
 abbrev pub begin_base : List ℕ → sets.Device → Option ℕ → ℕ
 begin_base sizes d None = 0
-begin_base sizes d (Some j) = in_u32 (in_u32 (fields_size Cells sizes d.desc.fields) + in_u32 (subs_size sizes (take j d.subs)))
+begin_base sizes d (Some j) = in_u32 (in_u32 (fields_size Cells sizes d.desc.fields) + in_u32 (subs_size Cells sizes (take j d.subs)))
 
 pub record Begins (sizes : List ℕ) (d : sets.Device) (part : Option ℕ) (p : Placed) : Type 0 where
   pub desc : begin_desc d part ≡ Some (desc_of p.desc.now)

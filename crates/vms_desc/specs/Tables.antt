@@ -1,7 +1,7 @@
 -- What is worked out once for each description.
 use Rattle.std.specs.Prelude.{◌≡◌, ℕ, suc, ◌<◌, ◌≤◌, List, [], ◌∷◌, length, get_or, take, map}
 use Rattle.vms_spec.specs.Layout.{no_desc}
-use Rattle.vms_spec.specs.Sets.{Field, Desc, Sub, Device}
+use Rattle.vms_spec.specs.Sets.{Field, Device}
 use Rattle.vms_parts.specs.declared.sizes.Measure.TheVariants.{Cells}
 use Rattle.vms_parts.specs.Sizes.{in_u32, fields_size}
 use Rattle.vms_parts.specs.Capacities.{AreLeast}

@@ -6,7 +6,6 @@
 mod asks;
 mod eval;
 mod forms;
-mod heads;
 mod judged;
 mod path;
 mod set;

@@ -2,14 +2,14 @@
 ghost use Rattle.std.specs.Prelude.{◌≡◌, ◌≤◌, ◌+◌, length, map, Some, None, MatchOption};
 ghost use Rattle.vms_spec.specs.Places.{path_at, cell_at};
 ghost use Rattle.vms_parts.specs.Sizes.{in_u32, fields_size};
-ghost use Rattle.vms_parts.specs.Views.{field_of, desc_of, sub_of, device_of, set_of};
+ghost use Rattle.vms_parts.specs.Views.{field_of, desc_of, device_of, set_of};
 ghost use Rattle.vms_desc.specs.Described.{described};
-ghost use Rattle.vms_desc.specs.Paths.{element_of, subs_size, begin_desc, Begins, Enters, IsPlaced};
+ghost use Rattle.vms_desc.specs.Paths.{element_of, begin_desc, Begins, Enters, IsPlaced};
 ghost use Rattle.vms_parts.specs.declared.sizes.Measure.TheVariants.{Cells};
 
-use crate::{Desc, DescSet, Device, Parts, Sub};
+use crate::{Desc, DescSet, Device, Parts};
 use vms_kinds::Item;
-use vms_parts::{Measure, capacity, item_size, size_of_fields};
+use vms_parts::{Measure, capacity, item_size, size_of_fields, size_of_subs};
 
 // A description whose first cell is `base`, and how many cells the structures have that it may use.
 #[derive(Clone, Copy)]
@@ -53,7 +53,11 @@ fn placed_at<'a>(device: &'a Device, part: Option<u32>, sizes: &'a [u32]) -> Opt
             let subs = device.subs.as_slice();
             let sub = subs.get(number as usize)?;
             let own = size_of_fields(Measure::Cells, sizes, device.desc.fields.as_slice());
-            let base = own.saturating_add(size_of_subs(sizes, &subs[..number as usize]));
+            let base = own.saturating_add(size_of_subs(
+                Measure::Cells,
+                sizes,
+                &subs[..number as usize],
+            ));
             Some(Placed {
                 desc: &sub.desc,
                 base,
@@ -61,18 +65,6 @@ fn placed_at<'a>(device: &'a Device, part: Option<u32>, sizes: &'a [u32]) -> Opt
             })
         }
     }
-}
-
-// How many cells these subsections have, at most 2^32 - 1.
-fn size_of_subs(sizes: &[u32], subs: &[Sub]) -> u32
-    ensures { result ≡ in_u32 (subs_size sizes.now (map sub_of subs.now)) }
-{
-    let mut sum: u32 = 0;
-    for sub in subs {
-        let own = size_of_fields(Measure::Cells, sizes, sub.desc.fields.as_slice());
-        sum = sum.saturating_add(own);
-    }
-    sum
 }
 
 // The cell of a path in a description.

@@ -18,7 +18,6 @@ ghost use Rattle.vms_parts.specs.Views.{set_of, formula, desc_of, device_of, for
 
 use crate::eval::{Scope, holds};
 use crate::forms::layout;
-use crate::heads::fit_heads;
 use crate::spots::device_spots;
 use crate::table::{Table, device_tables, struct_tables};
 use crate::{CellForm, Cells, Desc, Device, Listed, Part, Parts, Test};
@@ -70,7 +69,6 @@ impl DescSet {
         requires { is_well_formed (set_of parts) ≡ true }
         ensures { IfOk result (λ set. described set ≡ set_of parts) }
     {
-        fit_heads(&parts);
         let layout = layout(alloc, &parts)?;
         let spots = device_spots(alloc, layout.as_slice())?;
         let sizes = struct_sizes(alloc, Measure::Cells, parts.structs.as_slice())?;

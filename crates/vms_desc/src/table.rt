@@ -1,6 +1,7 @@
 // What walks ask of descriptions again and again, worked out once.
-ghost use Rattle.std.specs.Prelude.{◌≡◌, ◌∷◌, length, map, IfOk};
+ghost use Rattle.std.specs.Prelude.{◌≡◌, ◌∷◌, ◌<◌, ◌^◌, length, map, IfOk, OnOk};
 ghost use Rattle.vms_parts.specs.Views.{field_of, desc_of, sub_of, device_of};
+ghost use Rattle.vms_desc.specs.Heads.{FitsHead, HeadsFit};
 ghost use Rattle.vms_desc.specs.Tables.{AreStarts, IsTable, AreTables, AreDeviceTables, device_fields};
 
 use std::alloc::{AllocError, Global};
@@ -56,14 +57,18 @@ pub(crate) fn struct_tables(
     Ok(tables)
 }
 
-// Those of a device: its own, and then each subsection's.
+// Those of a device: its own, and then each subsection's. By their types its numbers fit their heads.
 fn part_tables(alloc: Global, sizes: &[u32], device: &Device) -> Result<Vec<Table>, AllocError>
-    ensures { IfOk result (λ tables.
+    ensures tables { IfOk result (λ tables.
         AreTables sizes.now (device_fields (device_of device.now)) tables.items) }
+    ensures heads { OnOk result (FitsHead (device_of device.now)) }
 {
+    let _instance = device.instance;
+    let _version = device.desc.version;
     let mut tables = Vec::new(alloc);
     tables.push(table_of(alloc, sizes, device.desc.fields.as_slice())?)?;
     for sub in device.subs.as_slice() {
+        let _version = sub.desc.version;
         tables.push(table_of(alloc, sizes, sub.desc.fields.as_slice())?)?;
     }
     Ok(tables)
@@ -74,8 +79,9 @@ pub(crate) fn device_tables(
     sizes: &[u32],
     devices: &[Device],
 ) -> Result<Vec<Listed<Table>>, AllocError>
-    ensures { IfOk result (λ tables.
+    ensures tables { IfOk result (λ tables.
         AreDeviceTables sizes.now (map device_of devices.now) tables.items) }
+    ensures heads { OnOk result (HeadsFit (map device_of devices.now)) }
 {
     let mut tables = Vec::new(alloc);
     for device in devices {

@@ -1,5 +1,5 @@
 -- A field's file says the field again.
-use Rattle.std.proofs.Common.{◌≡◌, ℕ, ◌≤◌, List, [], ◌∷◌, get_or, map, Bool, true, false, not, ◌&&◌, ◌==◌, if◌then◌else◌, Option, Some, None, option_map, is_some, ℤ, pos, negsuc, int_le, int_lt, refl, sym, ap, ◌∙◌, subst, codes, arith}
+use Rattle.std.proofs.Common.{◌≡◌, ℕ, ◌≤◌, List, [], ◌∷◌, get_or, map, Bool, true, false, not, ◌&&◌, ◌==◌, if◌then◌else◌, Option, Some, None, option_map, is_some, ℤ, pos, negsuc, int_le, int_lt, IfSome, refl, sym, ap, ◌∙◌, subst, codes, arith}
 use Rattle.std.specs.Option.{option_and_then}
 use Rattle.std.proofs.lemmas.Bool.{and_parts, and_from, eqb-true, false≢true}
 use Rattle.std.proofs.lemmas.Int.{ints}
@@ -21,7 +21,7 @@ use Rattle.vms_descfile.specs.Answers.{good, given, list_of}
 use Rattle.vms_descfile.specs.Keys.{fits, at, at_or, maybe_at, u16_of, u32_of, integer_of, text_of}
 use Rattle.vms_descfile.specs.Tests.{Names, number_in, name_in, test_of}
 use Rattle.vms_descfile.specs.Fields.{sort_named, sort_of, counts_fit, sort_fits, field_needs, field_allows, field_fits, count_as, count_of, item_as, front_of, field_after, field_in, field_of}
-use Rattle.vms_descfile.specs.Fitting.{FitsItem, FitsCount, FitsField}
+use Rattle.vms_descfile.specs.Fitting.{FitsField}
 use Rattle.vms_descfile.specs.Written.{natural_file, integer_file, is_zero, item_word, capacity_in, length_in, counter_in, equal_in, size_in, struct_in, test_file, front_file, field_file}
 use Rattle.vms_descfile.proofs.ObjectLaws.{Table, put_if, members_in, object_of, or_none, got, table_fits, kept, listed, given_if, unless_if, list_if}
 use Rattle.vms_descfile.proofs.AnswerLaws.{next_good, judged_good, at_good, maybe_good, default_good, list_or_good, natural_good, integer_good}
@@ -168,27 +168,15 @@ constant_good (items.Struct j) z well y is = cc
 
 -- ---- what its parts say
 
-size_good : (item : Item) → FitsItem item → (n : ℕ) → size_in item ≡ Some n → u16_of (natural_file n) ≡ good n
-size_good (items.Num kind) fits n is = cc
-size_good (items.Equal kind v) fits n is = cc
-size_good (items.Unused m) fits n is = let same : m ≡ n = cc in natural_good 65535 n (subst (λ (k : ℕ). k ≤ 65535) same fits)
-size_good (items.Struct j) fits n is = cc
+most_of : (most : ℕ) (o : Option ℕ) → IfSome o (λ n. n ≤ most) → (n : ℕ) → o ≡ Some n → n ≤ most
+most_of most None fits n is = cc
+most_of most (Some m) fits n is = let same : m ≡ n = cc in subst (λ (k : ℕ). k ≤ most) same fits
 
-struct_good : (item : Item) → FitsItem item → (n : ℕ) → struct_in item ≡ Some n → u32_of (natural_file n) ≡ good n
-struct_good (items.Num kind) fits n is = cc
-struct_good (items.Equal kind v) fits n is = cc
-struct_good (items.Unused m) fits n is = cc
-struct_good (items.Struct j) fits n is = let same : j ≡ n = cc in natural_good 4294967295 n (subst (λ (k : ℕ). k ≤ 4294967295) same fits)
+size_good : (o : Option ℕ) → IfSome o (λ n. n ≤ 65535) → (n : ℕ) → o ≡ Some n → u16_of (natural_file n) ≡ good n
+size_good o fits n is = natural_good 65535 n (most_of 65535 o fits n is)
 
-capacity_good : (c : Count) → FitsCount c → (n : ℕ) → capacity_in c ≡ Some n → u32_of (natural_file n) ≡ good n
-capacity_good One fits n is = cc
-capacity_good (Fixed m) fits n is = cc
-capacity_good (Counted by m) fits n is = let same : m ≡ n = cc in natural_good 4294967295 n (subst (λ (k : ℕ). k ≤ 4294967295) same fits)
-
-length_good : (c : Count) → FitsCount c → (n : ℕ) → length_in c ≡ Some n → u32_of (natural_file n) ≡ good n
-length_good One fits n is = cc
-length_good (Fixed m) fits n is = let same : m ≡ n = cc in natural_good 4294967295 n (subst (λ (k : ℕ). k ≤ 4294967295) same fits)
-length_good (Counted by m) fits n is = cc
+number_good : (o : Option ℕ) → IfSome o (λ n. n ≤ 4294967295) → (n : ℕ) → o ≡ Some n → u32_of (natural_file n) ≡ good n
+number_good o fits n is = natural_good 4294967295 n (most_of 4294967295 o fits n is)
 
 count_made : (asks : Bool) (c : Count)
     → count_as (option_map (λ n. n) (capacity_in c)) (option_map (λ n. n) (length_in c)) (option_map (number_shown asks) (counter_in c)) ≡ count_shown asks c
@@ -232,9 +220,9 @@ module _ (asks : Bool) (own : List (List ℕ)) (names : Names) (may : ℕ → Bo
       let table = field_table own f in
       let d = object_of table in
       next_good (maybe_at u32_of (codes "capacity") d) (option_map (λ n. n) (capacity_in f.count)) _ _
-      (maybe_good u32_of natural_file (λ n. n) (codes "capacity") d (capacity_in f.count) (got (codes "capacity") table _ (or_none _)) (capacity_good f.count fits.count))
+      (maybe_good u32_of natural_file (λ n. n) (codes "capacity") d (capacity_in f.count) (got (codes "capacity") table _ (or_none _)) (number_good (capacity_in f.count) fits.count.capacity))
       (next_good (maybe_at u32_of (codes "count") d) (option_map (λ n. n) (length_in f.count)) _ _
-      (maybe_good u32_of natural_file (λ n. n) (codes "count") d (length_in f.count) (got (codes "count") table _ (or_none _)) (length_good f.count fits.count))
+      (maybe_good u32_of natural_file (λ n. n) (codes "count") d (length_in f.count) (got (codes "count") table _ (or_none _)) (number_good (length_in f.count) fits.count.length))
       (next_good (maybe_at (name_in names) (codes "counted") d) (option_map (number_shown asks) (counter_in f.count)) _ _
       (maybe_good (name_in names) (λ k. string (get_or own k [])) (number_shown asks) (codes "counted") d (counter_in f.count) (got (codes "counted") table _ (or_none _)) named.counter)
       (ap good (count_made asks f.count))))
@@ -268,9 +256,9 @@ module _ (asks : Bool) (own : List (List ℕ)) (names : Names) (may : ℕ → Bo
       (default_good u32_of (codes "since") d (natural_file f.since) 0 f.since (f.since == 0) (got (codes "since") table _ (or_none _))
       (λ e. sym (eqb-true f.since 0 e)) (λ e. natural_good 4294967295 f.since fits.since))
       (next_good (maybe_at u16_of (codes "size") d) (option_map (λ n. n) (size_in f.item)) _ _
-      (maybe_good u16_of natural_file (λ n. n) (codes "size") d (size_in f.item) (got (codes "size") table _ (or_none _)) (size_good f.item fits.item))
+      (maybe_good u16_of natural_file (λ n. n) (codes "size") d (size_in f.item) (got (codes "size") table _ (or_none _)) (size_good (size_in f.item) fits.item.bytes))
       (next_good (maybe_at u32_of (codes "struct") d) (option_map (λ n. n) (struct_in f.item)) _ _
-      (maybe_good u32_of natural_file (λ n. n) (codes "struct") d (struct_in f.item) (got (codes "struct") table _ (or_none _)) (struct_good f.item fits.item))
+      (maybe_good u32_of natural_file (λ n. n) (codes "struct") d (struct_in f.item) (got (codes "struct") table _ (or_none _)) (number_good (struct_in f.item) fits.item.number))
       (next_good (maybe_at (test_of (record { own = names; parent = None })) (codes "test") d) (option_map (test_shown asks) f.test) _ _
       (maybe_good (test_of (record { own = names; parent = None })) (test_file own []) (test_shown asks) (codes "test") d f.test (got (codes "test") table _ (or_none _)) named.test)
       (ap good (field_made asks f)))))))

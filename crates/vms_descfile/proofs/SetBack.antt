@@ -12,7 +12,7 @@ use Rattle.vms_descfile.specs.Keys.{fits as keys_fit, at, at_or, u32_of, text_of
 use Rattle.vms_descfile.specs.Tests.{Names, Scope, test_of}
 use Rattle.vms_descfile.specs.Descs.{desc_needs, desc_allows, head_of, struct_of, sub_in, sub_of, Whole, whole_in, whole_of, device_of}
 use Rattle.vms_descfile.specs.Files.{set_of, parts_of}
-use Rattle.vms_descfile.specs.Fitting.{FitsTest, FitsSub, FitsDevice, FitsSet}
+use Rattle.vms_descfile.specs.Fitting.{FitsTest, FitsSub, FitsWhole, FitsDevice, FitsSet}
 use Rattle.vms_descfile.specs.Written.{natural_file, own_names, test_file, desc_members, struct_file, sub_file, whole_file, device_file, set_file}
 use Rattle.vms_descfile.proofs.ObjectLaws.{Table, put_if, object_of, or_none, got, table_fits, listed, list_if}
 use Rattle.vms_descfile.proofs.AnswerLaws.{next_good, judged_good, at_good, list_good, list_or_good, natural_good}
@@ -85,7 +85,7 @@ abbrev whole_shown : Bool → Device → Whole
 whole_shown asks d = record { desc = desc_shown asks d.desc; subs = map (sub_shown asks) d.subs }
 
 whole_back : (asks : Bool) (n : ℕ) (d : Device) (rules : List Bool) (c : Clean n d.desc rules) → has_few d.desc ≡ true
-    → ((j : ℕ) (s : Sub) → item_at d.subs j ≡ Some s → Clean n s.desc (sub_rules d j s)) → FitsDevice d → whole_of asks (whole_file d) ≡ good (whole_shown asks d)
+    → ((j : ℕ) (s : Sub) → item_at d.subs j ≡ Some s → Clean n s.desc (sub_rules d j s)) → FitsWhole d → whole_of asks (whole_file d) ≡ good (whole_shown asks d)
 whole_back asks n d rules c few subs_clean fits =
     let own = own_names d.desc.fields in
     let o = object_of (whole_table d) in
@@ -108,7 +108,7 @@ device_back : (asks : Bool) (n : ℕ) (d : Device) (rules : List Bool) (c : Clea
 device_back asks n d rules c few subs_clean fits =
     let o = device_file d in
     next_good (at (whole_of asks) (codes "desc") o) (whole_shown asks d) _ _
-    (at_good (whole_of asks) (codes "desc") o (whole_file d) (whole_shown asks d) refl (whole_back asks n d rules c few subs_clean fits))
+    (at_good (whole_of asks) (codes "desc") o (whole_file d) (whole_shown asks d) refl (whole_back asks n d rules c few subs_clean fits.whole))
     (ap (changed (λ instance. record { instance = instance; desc = desc_shown asks d.desc; subs = map (sub_shown asks) d.subs }))
     (at_good u32_of (codes "instance") o (natural_file d.instance) d.instance refl (natural_good 4294967295 d.instance fits.instance)))
 

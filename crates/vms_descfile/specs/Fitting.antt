@@ -1,11 +1,10 @@
 -- Numbers of a set that fit the types that hold them.
-use Rattle.std.specs.Prelude.{◌≡◌, ◌≤◌, ℕ, Option, Some, None}
+use Rattle.std.specs.Prelude.{◌≡◌, ◌≤◌, ℕ, Option, Some, None, IfSome}
 use Rattle.vms_kinds.specs.declared.Item.{Item}
-use Rattle.vms_kinds.specs.declared.Item.TheVariants as items
 use Rattle.vms_spec.specs.declared.Count.{Count}
-use Rattle.vms_spec.specs.declared.Count.TheVariants.{Fixed, Counted}
 use Rattle.vms_spec.specs.Lists.{at}
 use Rattle.vms_spec.specs.Sets.{Formula, AtLeast, Below, Cell, Not, And, Or, Field, Desc, Sub, Device, Set}
+use Rattle.vms_descfile.specs.Written.{capacity_in, length_in, size_in, struct_in}
 
 abbrev pub FitsTest : Formula → Type 0
 FitsTest (AtLeast n) = n ≤ 4294967295
@@ -19,15 +18,13 @@ abbrev pub FitsOptional : Option Formula → Type 0
 FitsOptional None = Unit {0}
 FitsOptional (Some t) = FitsTest t
 
-abbrev pub FitsCount : Count → Type 0
-FitsCount (Fixed n) = n ≤ 4294967295
-FitsCount (Counted by capacity) = capacity ≤ 4294967295
-FitsCount _ = Unit {0}
+pub record FitsCount (count : Count) : Type 0 where
+  pub capacity : IfSome (capacity_in count) (λ n. n ≤ 4294967295)
+  pub length : IfSome (length_in count) (λ n. n ≤ 4294967295)
 
-abbrev pub FitsItem : Item → Type 0
-FitsItem (items.Unused n) = n ≤ 65535
-FitsItem (items.Struct j) = j ≤ 4294967295
-FitsItem _ = Unit {0}
+pub record FitsItem (item : Item) : Type 0 where
+  pub bytes : IfSome (size_in item) (λ n. n ≤ 65535)
+  pub number : IfSome (struct_in item) (λ n. n ≤ 4294967295)
 
 pub record FitsField (f : Field) : Type 0 where
   pub item : FitsItem f.item
@@ -45,10 +42,14 @@ pub record FitsSub (s : Sub) : Type 0 where
   pub desc : FitsDesc s.desc
   pub needed : FitsTest s.needed
 
-pub record FitsDevice (d : Device) : Type 0 where
-  pub instance : d.instance ≤ 4294967295
+-- of a device without its instance id
+pub record FitsWhole (d : Device) : Type 0 where
   pub desc : FitsDesc d.desc
   pub subs : (i : ℕ) (s : Sub) → at d.subs i ≡ Some s → FitsSub s
+
+pub record FitsDevice (d : Device) : Type 0 where
+  pub instance : d.instance ≤ 4294967295
+  pub whole : FitsWhole d
 
 pub record FitsSet (set : Set) : Type 0 where
   pub structs : (i : ℕ) (d : Desc) → at set.structs i ≡ Some d → FitsDesc d

@@ -1,15 +1,18 @@
 -- What reading a file answers.
-use Rattle.std.specs.Prelude.{◌≡◌, Option, Some, None, Result, Ok, Err}
+use Rattle.std.specs.Prelude.{◌≡◌, ℕ, List, Option, Some, None, Result, Ok, Err}
 use Rattle.serde_json.specs.Data.{Data}
 use Rattle.vms_descfile.specs.Nodes.{view}
 use Rattle.vms_descfile.specs.declared.node.Node.{Node}
 use Rattle.vms_desc.specs.declared.set.DescSet.{DescSet}
 use Rattle.vms_desc.specs.Described.{described}
+use Rattle.vms_spec.specs.WellFormed.{first_fault}
+use Rattle.vms_parts.specs.declared.types.Parts.{Parts as FileParts}
+use Rattle.vms_parts.specs.Views.{set_of}
 use Rattle.vms_descfile.specs.declared.fault.Fault.{Fault}
 use Rattle.vms_descfile.specs.declared.fault.Fault.TheVariants as faults
 use Rattle.vms_descfile.specs.declared.file_fault.FileFault.{FileFault}
 use Rattle.vms_descfile.specs.declared.file_fault.FileFault.TheVariants as file_faults
-use Rattle.vms_descfile.specs.Files.{Said, Parts, Syntax, Shape, IllFormed, path_said}
+use Rattle.vms_descfile.specs.Files.{Said, Parts, Syntax, Shape, IllFormed, path_said, judged_said, file_said}
 
 -- the set of what is said, or the fault that is said; memory may be wanting in any case
 abbrev pub Gives : Said → Result DescSet FileFault → Type 0
@@ -25,6 +28,11 @@ GivesValue found (Ok value) = found ≡ Some (view value)
 GivesValue found (Err file_faults.Syntax) = found ≡ None
 GivesValue found (Err file_faults.NoMemory) = Unit {0}
 GivesValue found (Err fault) = ⊥
+
+-- the parts that a text says, whether well formed or not, or the fault that is said
+abbrev pub SaysParts : List ℕ → Result FileParts FileFault → Type 0
+SaysParts text (Ok parts) = file_said text ≡ judged_said (set_of parts) (first_fault (set_of parts))
+SaysParts text (Err fault) = Gives (file_said text) (Err fault)
 
 -- the fault of a whole file
 abbrev pub IsFileFault : Fault → FileFault → Type 0

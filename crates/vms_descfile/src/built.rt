@@ -1,7 +1,8 @@
 // Values of JSON, and the members of objects.
-ghost use Rattle.std.specs.Prelude.{◌≡◌, ◌++◌, ◌∷◌, [], map, IfOk, OnOk};
+ghost use Rattle.std.specs.Prelude.{◌≡◌, ◌++◌, ◌∷◌, [], ℕ, Some, map, IfOk, OnOk};
 ghost use Rattle.serde_json.specs.Data.{Data, string, put};
 ghost use Rattle.serde_json.specs.View.{view, items_view, members_view};
+ghost use Rattle.vms_spec.specs.Lists.{at};
 ghost use Rattle.vms_descfile.specs.Written.{list_file, list_as, natural_file, integer_file, given_as, unless};
 
 use serde_json::{Map, Number, Value};
@@ -13,8 +14,12 @@ pub(crate) trait Writes<T> {
     // The value's file.
     ghost file: { Self → T → Data };
 
+    // That its numbers fit the types that hold them.
+    ghost fits: { Self → T → Type 0 };
+
     fn write(&self, alloc: Global, item: &T) -> Result<Value, AllocError>
-        ensures { IfOk result (λ v. view v ≡ file self.now item.now) };
+        ensures file { IfOk result (λ v. view v ≡ file self.now item.now) }
+        ensures fits { OnOk result (fits self.now item.now) };
 }
 
 pub(crate) fn text_value(alloc: Global, text: &str) -> Result<Value, AllocError>
@@ -29,6 +34,8 @@ pub(crate) struct TextFile;
 
 impl Writes<Text> for TextFile {
     ghost file = { λ _ text. string text };
+
+    ghost fits = { λ _ _. Unit {0} };
 
     fn write(&self, alloc: Global, item: &Text) -> Result<Value, AllocError> {
         text_value(alloc, item.as_str())
@@ -61,7 +68,8 @@ pub(crate) fn list_value<T, W: Writes<T>>(
     writer: &W,
     items: &[T],
 ) -> Result<Value, AllocError>
-    ensures { IfOk result (λ v. view v ≡ list_file (W.file writer.now) items.now) }
+    ensures file { IfOk result (λ v. view v ≡ list_file (W.file writer.now) items.now) }
+    ensures fits { OnOk result ((i : ℕ) (x : T) → at items.now i ≡ Some x → W.fits writer.now x) }
 {
     Ok(Value::Array(written(alloc, writer, items)?))
 }
@@ -71,7 +79,8 @@ fn written<T, W: Writes<T>>(
     writer: &W,
     items: &[T],
 ) -> Result<Vec<Value>, AllocError>
-    ensures { IfOk result (λ list. map view list.items ≡ map (W.file writer.now) items.now) }
+    ensures file { IfOk result (λ list. map view list.items ≡ map (W.file writer.now) items.now) }
+    ensures fits { OnOk result ((i : ℕ) (x : T) → at items.now i ≡ Some x → W.fits writer.now x) }
 {
     let mut list = Vec::new(alloc);
     for item in items {
@@ -138,8 +147,9 @@ pub(crate) fn put_list<T, W: Writes<T>>(
     writer: &W,
     items: &[T],
 ) -> Result<(), AllocError>
-    ensures { OnOk result (members_view members.new.entries
+    ensures file { OnOk result (members_view members.new.entries
         ≡ list_as key.now (W.file writer.now) items.now (members_view members.old.entries)) }
+    ensures fits { OnOk result ((i : ℕ) (x : T) → at items.now i ≡ Some x → W.fits writer.now x) }
 {
     if items.is_empty() {
         return Ok(());

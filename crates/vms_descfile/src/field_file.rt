@@ -1,8 +1,9 @@
 // The files of fields.
-ghost use Rattle.std.specs.Prelude.{◌≡◌, [], map, get_or, codes, option_map, IfOk, OnOk};
+ghost use Rattle.std.specs.Prelude.{◌≡◌, [], map, get_or, codes, option_map, ◌≤◌, IfOk, OnOk, IfSome};
 ghost use Rattle.serde_json.specs.View.{view, members_view};
 ghost use Rattle.serde_json.specs.Data.{no_members, string};
 ghost use Rattle.vms_parts.specs.Views.{field_of as field_seen, formula};
+ghost use Rattle.vms_descfile.specs.Fitting.{FitsCount, FitsField, FitsOptional};
 ghost use Rattle.vms_descfile.specs.Written.{own_names, item_word, capacity_in, length_in, counter_in, equal_in, size_in, struct_in, is_zero, front_file, field_file, natural_file, integer_file, given_as, test_file};
 
 use crate::built::{
@@ -23,6 +24,8 @@ pub(crate) struct FieldFile<'a>(pub(crate) &'a [Field]);
 impl<'a> Writes<Field> for FieldFile<'a> {
     ghost file = { λ s f. field_file (own_names (map field_seen s.0.now)) (field_seen f) };
 
+    ghost fits = { λ _ f. FitsField (field_seen f) };
+
     fn write(&self, alloc: Global, item: &Field) -> Result<Value, AllocError> {
         field_value(alloc, self.0, item)
     }
@@ -39,7 +42,8 @@ fn item_word(item: Item) -> &'static str
 }
 
 fn capacity_in(count: Count) -> Option<u64>
-    ensures { result ≡ capacity_in count }
+    ensures number { result ≡ capacity_in count }
+    ensures fits { IfSome result (λ n. n ≤ 4294967295) }
 {
     match count {
         Count::Counted { capacity, .. } => Some(capacity as u64),
@@ -48,7 +52,8 @@ fn capacity_in(count: Count) -> Option<u64>
 }
 
 fn length_in(count: Count) -> Option<u64>
-    ensures { result ≡ length_in count }
+    ensures number { result ≡ length_in count }
+    ensures fits { IfSome result (λ n. n ≤ 4294967295) }
 {
     match count {
         Count::Fixed(length) => Some(length as u64),
@@ -57,7 +62,8 @@ fn length_in(count: Count) -> Option<u64>
 }
 
 fn size_in(item: Item) -> Option<u64>
-    ensures { result ≡ size_in item }
+    ensures number { result ≡ size_in item }
+    ensures fits { IfSome result (λ n. n ≤ 65535) }
 {
     match item {
         Item::Unused { bytes } => Some(bytes as u64),
@@ -66,7 +72,8 @@ fn size_in(item: Item) -> Option<u64>
 }
 
 fn struct_in(item: Item) -> Option<u64>
-    ensures { result ≡ struct_in item }
+    ensures number { result ≡ struct_in item }
+    ensures fits { IfSome result (λ n. n ≤ 4294967295) }
 {
     match item {
         Item::Struct(number) => Some(number as u64),
@@ -114,9 +121,10 @@ fn put_test(
     own: &[Field],
     test: &Option<Test>,
 ) -> Result<(), AllocError>
-    ensures { OnOk result (members_view members.new.entries
+    ensures file { OnOk result (members_view members.new.entries
         ≡ given_as (codes "test") (test_file (own_names (map field_seen own.now)) [])
         (option_map formula test.now) (members_view members.old.entries)) }
+    ensures fits { OnOk result (FitsOptional (option_map formula test.now)) }
 {
     match test {
         Some(test) => {
@@ -135,8 +143,9 @@ fn put_front(
     field: &Field,
 ) -> Result<(), AllocError>
     requires { members_view members.old.entries ≡ no_members }
-    ensures { OnOk result (members_view members.new.entries
+    ensures file { OnOk result (members_view members.new.entries
         ≡ front_file (own_names (map field_seen own.now)) (field_seen field.now)) }
+    ensures fits { OnOk result (FitsCount field.now.count) }
 {
     put_natural(alloc, members, "capacity", capacity_in(field.count))?;
     put_natural(alloc, members, "count", length_in(field.count))?;
@@ -148,8 +157,9 @@ fn put_front(
 }
 
 fn field_value(alloc: Global, own: &[Field], field: &Field) -> Result<Value, AllocError>
-    ensures { IfOk result (λ v. view v
+    ensures file { IfOk result (λ v. view v
         ≡ field_file (own_names (map field_seen own.now)) (field_seen field.now)) }
+    ensures fits { OnOk result (FitsField (field_seen field.now)) }
 {
     let mut members = Map::new(alloc);
     put_front(alloc, &mut members, own, field)?;

@@ -6,7 +6,7 @@ ghost use Rattle.vms_descfile.specs.Nodes.{view, members_view};
 ghost use Rattle.vms_spec.specs.Streams.{is_one_of};
 ghost use Rattle.vms_descfile.specs.Keys.{has, has_all, fits, has_no_others};
 
-use crate::node::Node;
+use crate::node::{Node, is_key};
 
 // Whether a value is an object with each of the first keys, and no others than those and the
 // second.
@@ -42,7 +42,7 @@ fn has_each(value: &Node, keys: &[&str]) -> bool
 fn is_among(keys: &[&str], key: &str) -> bool
     ensures { result ≡ list_any (λ k. bytes_eq k.now key.now) keys.now }
 {
-    keys.iter().any(|other| *other == key)
+    keys.iter().any(|other| is_key(other, key))
 }
 
 fn is_one_of(keys: &[&str], key: &str) -> bool

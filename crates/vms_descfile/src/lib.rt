@@ -11,7 +11,6 @@ mod field_file;
 mod field_names;
 mod fields;
 mod file_fault;
-mod fit;
 mod keys;
 mod lists;
 mod members;

@@ -1,5 +1,6 @@
 // JSON values as trees over their text.
 ghost use Rattle.std.specs.Prelude.{◌≡◌, option_map, option_and_then};
+ghost use Rattle.std.specs.Str.{bytes_eq};
 ghost use Rattle.serde_json.specs.Find.{as_number, as_str, as_array, as_object, as_u64, get, get_member};
 ghost use Rattle.serde_json.specs.View.{number_view};
 ghost use Rattle.vms_descfile.specs.Nodes.{view, items_view, members_view};
@@ -88,9 +89,16 @@ fn find<'v, 'a>(members: &'v Vec<(&'a str, Node<'a>)>, key: &str) -> Option<&'v 
     while left > 0 {
         left -= 1;
         let member = &members[left];
-        if member.0 == key {
+        if is_key(member.0, key) {
             return Some(&member.1);
         }
     }
     None
+}
+
+// Whether two keys are the same. Most differ in length.
+pub(crate) fn is_key(key: &str, other: &str) -> bool
+    ensures { result ≡ bytes_eq key.now other.now }
+{
+    key.len() == other.len() && key == other
 }

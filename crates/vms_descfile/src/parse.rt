@@ -135,7 +135,8 @@ fn read_members<'a>(
         → converted (λ ms. of_members ms no_members)
         (members (value depth) (length reader.old) reader.old) ≡ None }
 {
-    let mut found = Vec::new(alloc);
+    // Most objects have two members, a field's name and its kind.
+    let mut found = Vec::with_capacity(alloc, 2)?;
     'members: while let Some(name) = reader.next_key()? {
         let member = read(alloc, reader, depth)?;
         found.push((name, member))?;

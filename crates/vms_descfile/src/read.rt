@@ -5,7 +5,7 @@ ghost use Rattle.vms_spec.specs.WellFormed.{first_fault};
 ghost use Rattle.vms_parts.specs.Views.{set_of as set_seen};
 ghost use Rattle.vms_descfile.specs.Answers.{Answers};
 ghost use Rattle.vms_descfile.specs.Files.{set_in, set_of, parts_of, value_in, file_said, judged_said};
-ghost use Rattle.vms_descfile.specs.Given.{Gives, GivesValue};
+ghost use Rattle.vms_descfile.specs.Given.{Gives, GivesValue, SaysParts};
 
 use crate::FileFault;
 use crate::descs::StructOf;
@@ -28,13 +28,24 @@ use vms_desc::{DescFault, DescSet, Parts};
 pub fn read_set(alloc: Global, text: &[u8]) -> Result<DescSet, FileFault>
     ensures { Gives (file_said text.now) result }
 {
+    match read_file(alloc, text) {
+        Ok(parts) => make_set(alloc, parts),
+        Err(fault) => Err(fault),
+    }
+}
+
+// The parts that a description file says, well formed or not. The tree of its values is given back
+// before the set is made.
+fn read_file(alloc: Global, text: &[u8]) -> Result<Parts, FileFault>
+    ensures { SaysParts text.now result }
+{
     let mut scratch = Scratch::new(alloc);
     let value = match read_value(alloc, text, &mut scratch) {
         Ok(value) => value,
         Err(fault) => return Err(fault),
     };
     match read_parts(alloc, &value) {
-        Ok(parts) => make_set(alloc, parts),
+        Ok(parts) => Ok(parts),
         Err(fault) => Err(FileFault::of(alloc, fault)),
     }
 }

@@ -1,8 +1,9 @@
 // The files of descriptions, devices and sets.
-ghost use Rattle.std.specs.Prelude.{◌≡◌, map, IfOk};
+ghost use Rattle.std.specs.Prelude.{◌≡◌, map, IfOk, OnOk};
 ghost use Rattle.serde_json.specs.Data.{object};
 ghost use Rattle.serde_json.specs.View.{view, members_view};
 ghost use Rattle.vms_parts.specs.Views.{field_of, desc_of, sub_of, device_of, set_of};
+ghost use Rattle.vms_descfile.specs.Fitting.{FitsDesc, FitsSub, FitsDevice, FitsWhole, FitsSet};
 ghost use Rattle.vms_descfile.specs.Written.{own_names, desc_members, struct_file, sub_file, whole_file, device_file, set_file};
 
 use crate::built::{
@@ -15,7 +16,8 @@ use std::alloc::{AllocError, Global};
 use vms_desc::{Desc, Device, Field, Parts, Sub};
 
 fn desc_members(alloc: Global, desc: &Desc) -> Result<Members, AllocError>
-    ensures { IfOk result (λ m. members_view m.entries ≡ desc_members (desc_of desc.now)) }
+    ensures file { IfOk result (λ m. members_view m.entries ≡ desc_members (desc_of desc.now)) }
+    ensures fits { OnOk result (FitsDesc (desc_of desc.now)) }
 {
     let own = desc.fields.as_slice();
     let mut members = Map::new(alloc);
@@ -62,6 +64,8 @@ struct StructFile;
 impl Writes<Desc> for StructFile {
     ghost file = { λ _ d. struct_file (desc_of d) };
 
+    ghost fits = { λ _ d. FitsDesc (desc_of d) };
+
     fn write(&self, alloc: Global, item: &Desc) -> Result<Value, AllocError> {
         Ok(Value::Object(desc_members(alloc, item)?))
     }
@@ -73,6 +77,8 @@ struct SubFile<'a>(&'a [Field]);
 
 impl<'a> Writes<Sub> for SubFile<'a> {
     ghost file = { λ s sub. sub_file (own_names (map field_of s.0.now)) (sub_of sub) };
+
+    ghost fits = { λ _ sub. FitsSub (sub_of sub) };
 
     fn write(&self, alloc: Global, item: &Sub) -> Result<Value, AllocError> {
         let mut members = desc_members(alloc, &item.desc)?;
@@ -91,14 +97,16 @@ impl<'a> Writes<Sub> for SubFile<'a> {
 }
 
 fn whole_value(alloc: Global, device: &Device) -> Result<Value, AllocError>
-    ensures { IfOk result (λ v. view v ≡ whole_file (device_of device.now)) }
+    ensures file { IfOk result (λ v. view v ≡ whole_file (device_of device.now)) }
+    ensures fits { OnOk result (FitsWhole (device_of device.now)) }
 {
     Ok(Value::Object(whole_members(alloc, device)?))
 }
 
 fn whole_members(alloc: Global, device: &Device) -> Result<Members, AllocError>
-    ensures { IfOk result (λ m. object (members_view m.entries)
+    ensures file { IfOk result (λ m. object (members_view m.entries)
         ≡ whole_file (device_of device.now)) }
+    ensures fits { OnOk result (FitsWhole (device_of device.now)) }
 {
     let mut members = desc_members(alloc, &device.desc)?;
     let sub = SubFile(device.desc.fields.as_slice());
@@ -118,6 +126,8 @@ struct DeviceFile;
 impl Writes<Device> for DeviceFile {
     ghost file = { λ _ d. device_file (device_of d) };
 
+    ghost fits = { λ _ d. FitsDevice (device_of d) };
+
     fn write(&self, alloc: Global, item: &Device) -> Result<Value, AllocError> {
         let mut members = Map::new(alloc);
         put(alloc, &mut members, "desc", whole_value(alloc, item)?)?;
@@ -133,13 +143,16 @@ impl Writes<Device> for DeviceFile {
 
 // The file of a set of these parts.
 pub(crate) fn set_value(alloc: Global, parts: &Parts) -> Result<Value, AllocError>
-    ensures { IfOk result (λ v. view v ≡ set_file (set_of parts.now)) }
+    ensures file { IfOk result (λ v. view v ≡ set_file (set_of parts.now)) }
+    ensures fits { OnOk result (FitsSet (set_of parts.now)) }
 {
     Ok(Value::Object(set_members(alloc, parts)?))
 }
 
 fn set_members(alloc: Global, parts: &Parts) -> Result<Members, AllocError>
-    ensures { IfOk result (λ m. object (members_view m.entries) ≡ set_file (set_of parts.now)) }
+    ensures file { IfOk result (λ m. object (members_view m.entries)
+        ≡ set_file (set_of parts.now)) }
+    ensures fits { OnOk result (FitsSet (set_of parts.now)) }
 {
     let mut members = Map::new(alloc);
     let devices = list_value(alloc, &DeviceFile, parts.devices.as_slice())?;

@@ -1,8 +1,9 @@
 // The files of tests.
-ghost use Rattle.std.specs.Prelude.{◌≡◌, [], map, get_or, IfOk};
+ghost use Rattle.std.specs.Prelude.{◌≡◌, [], map, get_or, IfOk, OnOk};
 ghost use Rattle.serde_json.specs.Data.{string, object, put};
 ghost use Rattle.serde_json.specs.View.{view, members_view};
 ghost use Rattle.vms_parts.specs.Views.{formula, field_of as field_seen};
+ghost use Rattle.vms_descfile.specs.Fitting.{FitsTest};
 ghost use Rattle.vms_descfile.specs.Written.{test_file, only, compared_file, rel_file, own_names, pair_file};
 
 use crate::built::{Members, Writes, natural_value, put, text_value};
@@ -21,6 +22,8 @@ impl<'a> Writes<Test> for TestFile<'a> {
     ghost file = { λ s t. test_file (own_names (map field_seen s.own.now))
         (own_names (map field_seen s.parent.now)) (formula t) };
 
+    ghost fits = { λ _ t. FitsTest (formula t) };
+
     fn write(&self, alloc: Global, item: &Test) -> Result<Value, AllocError> {
         test_value(alloc, self.own, self.parent, item)
     }
@@ -32,9 +35,10 @@ fn test_value(
     parent: &[Field],
     test: &Test,
 ) -> Result<Value, AllocError>
-    ensures { IfOk result (λ v. view v
+    ensures file { IfOk result (λ v. view v
         ≡ test_file (own_names (map field_seen own.now)) (own_names (map field_seen parent.now))
         (formula test.now)) }
+    ensures fits { OnOk result (FitsTest (formula test.now)) }
 {
     match test {
         Test::AtLeast(least) => only(alloc, "at_least", natural_value(*least as u64)),

@@ -5,7 +5,6 @@ ghost use Rattle.vms_desc.specs.Described.{described};
 ghost use Rattle.vms_descfile.specs.Files.{file_said, Parts};
 ghost use Rattle.vms_descfile.specs.Written.{set_file};
 
-use crate::fit::fit_parts;
 use crate::set_file::set_value;
 use std::alloc::Global;
 use vms_desc::DescSet;
@@ -19,7 +18,6 @@ pub fn write_set(alloc: Global, set: &DescSet) -> Result<String, NoMemory>
     ensures reads_back { IfOk result (λ s. file_said (string_bytes s) ≡ Parts (described set.now)) }
 {
     let parts = set.parts();
-    fit_parts(parts);
     let value = set_value(alloc, parts)?;
     Ok(value.to_string(alloc)?)
 }

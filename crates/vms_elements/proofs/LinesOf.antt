@@ -15,7 +15,8 @@ use Rattle.vms_spec.proofs.Sizes.{elements_fit}
 use Rattle.vms_elements.specs.Elements.{Element, Shape, no_shape, shape, shapes, cells_in, dotted, behind, single, Rule, item_elements, Stand, stand_of, array_elements, field_elements, elements_from, desc_elements, index_text}
 use Rattle.vms_elements.specs.Parts.{is_number}
 use Rattle.vms_elements.specs.Lines.{text_of, printed, number_line, number_lines, section_line, sub_line, subs_lines, device_lines, devices_lines, machine_lines, values_lines}
-use Rattle.vms_elements.proofs.Tables.{both, two_more, first_long, shapes_cells}
+use Rattle.vms_spec.proofs.Tables.{first_long}
+use Rattle.vms_elements.proofs.Tables.{both, two_more, shapes_cells}
 use Rattle.vms_elements.proofs.SlotsOf.{below_true, past_false}
 
 pub text_append : (xs ys : List (List ℕ)) → text_of (xs ++ ys) ≡ text_of xs ++ text_of ys

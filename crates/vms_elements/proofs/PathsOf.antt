@@ -11,7 +11,8 @@ use Rattle.vms_spec.specs.Layout.{Cell, no_desc, first, counted, capacity_of, it
 use Rattle.vms_spec.specs.Places.{item_at, element_at, path_at}
 use Rattle.vms_elements.specs.Elements.{What, Element, Shape, no_shape, shape, cells_in, dotted, behind, single, Number, Rule, item_elements, Stand, stand_of, array_elements, field_elements, elements_from, desc_elements, index_text}
 use Rattle.vms_elements.specs.Parts.{is_number, elements_in, inner_field, last_field, field_named, IsFieldOf}
-use Rattle.vms_elements.proofs.Tables.{first_at, first_long, shapes_cells}
+use Rattle.vms_spec.proofs.Tables.{first_at, first_long}
+use Rattle.vms_elements.proofs.Tables.{shapes_cells}
 use Rattle.vms_elements.proofs.Members.{Each, each_append, each_map, Has, has_left, has_right, has_map}
 
 at_get : {X : Type 0} (xs : List X) (i : ℕ) (d : X) → i < length xs → at xs i ≡ Some (get_or xs i d)

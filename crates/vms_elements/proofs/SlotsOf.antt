@@ -11,7 +11,8 @@ use Rattle.vms_spec.specs.Layout as slots
 use Rattle.vms_spec.proofs.Sizes.{elements_fit}
 use Rattle.vms_elements.specs.Elements.{Element, Shape, no_shape, shape, shapes, cells_in, dotted, behind, single, Rule, item_elements, Stand, stand_of, array_elements, field_elements, elements_from, desc_elements, index_text}
 use Rattle.vms_elements.specs.Parts.{slot_of, slots_of, elements_in}
-use Rattle.vms_elements.proofs.Tables.{both, two_more, first_long, shapes_cells}
+use Rattle.vms_spec.proofs.Tables.{first_long}
+use Rattle.vms_elements.proofs.Tables.{both, two_more, shapes_cells}
 
 pick_append : {B : Type 0} (b : Bool) (x : B) (xs ys zs : List B) → xs ≡ ys ++ zs → (if b then x ∷ xs else xs) ≡ (if b then x ∷ ys else ys) ++ zs
 pick_append true x xs ys zs e = ap (λ l. x ∷ l) e

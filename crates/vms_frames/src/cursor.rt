@@ -100,6 +100,7 @@ impl Cursor {
     }
 
     /// Reads a number of this kind. It is refused as `Truncated` or `BadBool`.
+    #[inline(always)]
     pub fn number<S: Source>(&mut self, source: &mut S, kind: Kind) -> Result<i128, FrameFault>
         requires place { self.old.at ≤ 2 ^ 63 }
         requires held { self.old.held ≡ None }

@@ -20,6 +20,9 @@ pub(crate) type Unit = ArrayVec<u8, LONGEST>;
 /// Bytes that aren't held are read past in pieces of at most so many.
 const PASSAGE: usize = 4096;
 
+/// So few are read past at once.
+const FEW: usize = 64;
+
 /// Fills `buf`, or refuses the unit at `at` where the input ends before.
 pub(crate) fn fill<S: Source>(source: &mut S, at: u64, buf: &mut [u8]) -> Result<(), FrameFault>
     ensures bytes { OnOk result
@@ -84,6 +87,10 @@ pub(crate) fn pass<S: Source>(source: &mut S, at: u64, count: usize) -> Result<(
     ensures cause { HasCause (S.faults source.old) (S.faults source.new) result }
     ensures promise { S.promise source.new ≡ S.promise source.old }
 {
+    if count <= FEW {
+        let mut few = [0; FEW];
+        return fill(source, at, &mut few[..count]);
+    }
     let mut passage = [0; PASSAGE];
     let mut ahead = count;
     while ahead > 0 {

@@ -1,11 +1,11 @@
 -- The bytes of a number and back, kind by kind.
-use Rattle.std.proofs.Common.{◌≡◌, ℕ, ◌^◌, ◌<◌, List, [], ◌∷◌, length, ℤ, pos, negsuc, get_or, slice_index, arith, refl, ap, ◌∙◌, sym, subst, Bool as Truth, if◌then◌else◌, true, false, ◌++◌, drop}
-use Rattle.std.specs.Int.{w64, w128}
+use Rattle.std.proofs.Common.{◌≡◌, ℕ, ◌^◌, ◌<◌, List, [], ◌∷◌, length, ℤ, pos, negsuc, get_or, slice_index, arith, refl, ap, ◌∙◌, sym, subst, true, false, ◌++◌, drop, ◌≤◌, slice_set}
+use Rattle.std.specs.Int.{Width, w8, w16, w32, w64, w128, cast_unsigned}
 use Rattle.std.proofs.lemmas.Nat.{be_bytes_2, be_bytes_4, be_bytes_8}
 use Rattle.std.proofs.lemmas.Int.{ints, to_z-of_z}
 use mir.Val.{SFits, to_z, of_z}
 use lib.IntN.{nat_abs}
-use Rattle.byteorder.specs.Endian.{big_bytes, big_number, low_bytes, twos_complement}
+use Rattle.byteorder.specs.Endian.{big_bytes, big_number, twos_complement}
 use Rattle.vms_kinds.specs.declared.Kind.{Kind}
 use Rattle.vms_kinds.specs.declared.Kind.TheVariants.{U8, U16, U32, U64, I8, I16, I32, I64, Bool, Timer}
 use Rattle.vms_kinds.specs.Codes.{width, residue, code, InRange, IsBadBool, is_signed, value_of}
@@ -39,22 +39,6 @@ again I32 bs len ok = again_4 bs len ok
 again I64 bs len ok = again_8 bs len ok
 again Bool bs len ok = again_1 bs len ok
 again Timer bs len ok = again_8 bs len ok
-
-low_8 : (z : ℤ) → InRange I8 z → low_bytes w64 1 z ≡ residue 1 z
-low_8 (pos n) h = omega (arith, ints)
-low_8 (negsuc n) h = omega (arith, ints)
-
-low_16 : (z : ℤ) → InRange I16 z → low_bytes w64 2 z ≡ residue 2 z
-low_16 (pos n) h = omega (arith, ints)
-low_16 (negsuc n) h = omega (arith, ints)
-
-low_32 : (z : ℤ) → InRange I32 z → low_bytes w64 4 z ≡ residue 4 z
-low_32 (pos n) h = omega (arith, ints)
-low_32 (negsuc n) h = omega (arith, ints)
-
-low_64 : (z : ℤ) → InRange I64 z → low_bytes w64 8 z ≡ residue 8 z
-low_64 (pos n) h = omega (arith, ints)
-low_64 (negsuc n) h = omega (arith, ints)
 
 two_8 : (n : ℕ) → n < 2 ^ 8 → residue 1 (twos_complement 1 n) ≡ n
 two_8 n h = grind (arith, ints)
@@ -92,22 +76,8 @@ below_4 bs ok = omega (arith, ok 0, ok 1, ok 2, ok 3)
 below_8 : (bs : List ℕ) → IsBytes bs → big_number 8 bs < 2 ^ 64
 below_8 bs ok = omega (arith, ok 0, ok 1, ok 2, ok 3, ok 4, ok 5, ok 6, ok 7)
 
--- a signed number's bytes
-pub signed_code : (kind : Kind) (z : ℤ) → is_signed kind ≡ true → InRange kind z → big_bytes (width kind) (low_bytes w64 (width kind) z) ≡ code kind z
-unfolding code
-signed_code I8 z s h = ap (big_bytes 1) (low_8 z h)
-signed_code I16 z s h = ap (big_bytes 2) (low_16 z h)
-signed_code I32 z s h = ap (big_bytes 4) (low_32 z h)
-signed_code I64 z s h = ap (big_bytes 8) (low_64 z h)
-signed_code U8 z s h = cc
-signed_code U16 z s h = cc
-signed_code U32 z s h = cc
-signed_code U64 z s h = cc
-signed_code Bool z s h = cc
-signed_code Timer z s h = cc
-
 -- another number's bytes
-pub plain_code : (kind : Kind) (n : ℕ) → is_signed kind ≡ false → InRange kind (pos n) → big_bytes (width kind) n ≡ code kind (pos n)
+plain_code : (kind : Kind) (n : ℕ) → is_signed kind ≡ false → InRange kind (pos n) → big_bytes (width kind) n ≡ code kind (pos n)
 unfolding code
 plain_code U8 n s h = ap (big_bytes 1) (omega (arith, ints))
 plain_code U16 n s h = ap (big_bytes 2) (omega (arith, ints))
@@ -151,28 +121,48 @@ plain_take kind bs s len ok bad = let r = in_range kind bs s ok bad in (r, sym (
   in_range I32 bs s ok bad = cc
   in_range I64 bs s ok bad = cc
 
-fits_64 : (kind : Kind) (z : ℤ) → is_signed kind ≡ true → InRange kind z → SFits w64 z
-fits_64 I8 z s h = omega (arith, ints)
-fits_64 I16 z s h = omega (arith, ints)
-fits_64 I32 z s h = omega (arith, ints)
-fits_64 I64 z s h = omega (arith, ints)
-fits_64 U8 z s h = cc
-fits_64 U16 z s h = cc
-fits_64 U32 z s h = cc
-fits_64 U64 z s h = cc
-fits_64 Bool z s h = cc
-fits_64 Timer z s h = cc
+-- a signed number fits its own width, and is there the residue
+as_i8 : (z : ℤ) → InRange I8 z → SFits w8 z × (cast_unsigned w8 z ≡ residue 1 z)
+as_i8 (pos n) h = (omega (arith, ints), omega (arith, ints))
+as_i8 (negsuc n) h = (omega (arith, ints), omega (arith, ints))
+
+pub as_i16 : (z : ℤ) → InRange I16 z → SFits w16 z × (cast_unsigned w16 z ≡ residue 2 z)
+as_i16 (pos n) h = (omega (arith, ints), omega (arith, ints))
+as_i16 (negsuc n) h = (omega (arith, ints), omega (arith, ints))
+
+pub as_i32 : (z : ℤ) → InRange I32 z → SFits w32 z × (cast_unsigned w32 z ≡ residue 4 z)
+as_i32 (pos n) h = (omega (arith, ints), omega (arith, ints))
+as_i32 (negsuc n) h = (omega (arith, ints), omega (arith, ints))
+
+pub as_i64 : (z : ℤ) → InRange I64 z → SFits w64 z × (cast_unsigned w64 z ≡ residue 8 z)
+as_i64 (pos n) h = (omega (arith, ints), omega (arith, ints))
+as_i64 (negsuc n) h = (omega (arith, ints), omega (arith, ints))
+
+-- what is cast from 128 bits to a width that it fits
+cast_back : (w : Width) (z : ℤ) → SFits w128 z → SFits w z → to_z w (of_z w (to_z w128 (of_z w128 z))) ≡ z
+cast_back w z f g = ap (λ (v : ℤ). to_z w (of_z w v)) (to_z-of_z w128 z f) ∙ to_z-of_z w z g
+
+-- one byte, put in front
+first_put : (old : List ℕ) (n : ℕ) → 1 ≤ length old → n < 256 → slice_set old 0 n ≡ big_bytes 1 n ++ drop 1 old
+first_put [] n some h = absurd (omega arith)
+first_put (x ∷ old) n some h = ap (λ v. v ∷ old) (omega arith)
 
 -- what a write of a signed number leaves
-pub written_signed : (kind : Kind) (z : ℤ) (w : ℕ) (old new : List ℕ) → w ≡ width kind → is_signed kind ≡ true → InRange kind z → SFits w128 z
-    → new ≡ big_bytes w (low_bytes w64 w (to_z w64 (of_z w64 (to_z w128 (of_z w128 z))))) ++ drop w old
+pub written_signed : (kind k : Kind) (w : Width) (z : ℤ) (old new : List ℕ) → kind ≡ k → InRange kind z → SFits w128 z
+    → (InRange k z → SFits w z × (cast_unsigned w z ≡ residue (width k) z))
+    → new ≡ big_bytes (width k) (cast_unsigned w (to_z w (of_z w (to_z w128 (of_z w128 z))))) ++ drop (width k) old
     → new ≡ code kind z ++ drop (width kind) old
-written_signed kind z w old new ew s h f e =
-    let g : SFits w64 z = fits_64 kind z s h in
-    e ∙ ap (λ (v : ℤ). big_bytes w (low_bytes w64 w (to_z w64 (of_z w64 v))) ++ drop w old) (to_z-of_z w128 z f)
-    ∙ ap (λ (v : ℤ). big_bytes w (low_bytes w64 w v) ++ drop w old) (to_z-of_z w64 z g)
-    ∙ ap (λ (v : ℕ). big_bytes v (low_bytes w64 v z) ++ drop v old) ew
-    ∙ ap (λ (v : List ℕ). v ++ drop (width kind) old) (signed_code kind z s h)
+unfolding code
+written_signed kind k w z old new is h f fits e =
+    let g : SFits w z × (cast_unsigned w z ≡ residue (width k) z) = fits (subst (λ (x : Kind). InRange x z) is h) in
+    e ∙ ap (λ (v : ℕ). big_bytes (width k) v ++ drop (width k) old) (ap (cast_unsigned w) (cast_back w z f g.0) ∙ g.1)
+    ∙ ap (λ (x : Kind). code x z ++ drop (width x) old) (sym is)
+
+pub written_i8 : (kind : Kind) (z : ℤ) (old : List ℕ) (n : ℕ) → kind ≡ I8 → InRange kind z → SFits w128 z → 1 ≤ length old → n < 256
+    → n ≡ cast_unsigned w8 (to_z w8 (of_z w8 (to_z w128 (of_z w128 z))))
+    → slice_set old 0 n ≡ code kind z ++ drop (width kind) old
+written_i8 kind z old n is h f some small e =
+    written_signed kind I8 w8 z old _ is h f (as_i8 z) (first_put old n some small ∙ ap (λ (v : ℕ). big_bytes 1 v ++ drop 1 old) e)
 
 not_negative : (kind : Kind) (n : ℕ) → is_signed kind ≡ false → InRange kind (negsuc n) → ⊥
 not_negative U8 n s h = omega (arith, ints)
@@ -196,14 +186,26 @@ written_plain kind (pos n) w old new ew s h f e =
     ∙ ap (λ (v : List ℕ). v ++ drop (width kind) old) (plain_code kind n s h)
 written_plain kind (negsuc n) w old new ew s h f e = absurd (not_negative kind n s h)
 
+-- what a write of one byte leaves
+pub written_byte : (kind : Kind) (z : ℤ) (old : List ℕ) → 1 ≡ width kind → is_signed kind ≡ false → InRange kind z → SFits w128 z → 1 ≤ length old
+    → nat_abs (to_z w128 (of_z w128 z)) < 256
+    → slice_set old 0 (nat_abs (to_z w128 (of_z w128 z))) ≡ code kind z ++ drop (width kind) old
+written_byte kind z old ew s h f some small = written_plain kind z 1 old _ ew s h f (first_put old _ some small)
+
 -- what a reading gives, at the number that stands for it
 pub taken : (kind : Kind) (bs : List ℕ) (y z : ℤ) → z ≡ y → InRange kind y × (bs ≡ code kind y) → InRange kind z × (bs ≡ code kind z)
 taken kind bs y z e h = let P : ℤ → Type 0 = λ v. InRange kind v × (bs ≡ code kind v) in subst P (sym e) h
 
-pub signed_value : (kind : Kind) (bs : List ℕ) (w : ℕ) (z : ℤ) → w ≡ width kind → is_signed kind ≡ true → z ≡ twos_complement w (big_number w bs) → z ≡ value_of kind bs
-signed_value kind bs w z ew s e =
-    e ∙ ap (λ (k : ℕ). twos_complement k (big_number k bs)) ew ∙ ap (λ (b : Truth). if b then twos_complement (width kind) (big_number (width kind) bs) else pos (big_number (width kind) bs)) (sym s)
-
-pub plain_value : (kind : Kind) (bs : List ℕ) (w : ℕ) (z : ℤ) → w ≡ width kind → is_signed kind ≡ false → z ≡ pos (big_number w bs) → z ≡ value_of kind bs
-plain_value kind bs w z ew s e =
-    e ∙ ap (λ (k : ℕ). pos (big_number k bs)) ew ∙ ap (λ (b : Truth). if b then twos_complement (width kind) (big_number (width kind) bs) else pos (big_number (width kind) bs)) (sym s)
+-- what bytes give
+pub value_taken : (kind : Kind) (bs : List ℕ) → length bs ≡ width kind → IsBytes bs → (IsBadBool kind bs → ⊥)
+    → InRange kind (value_of kind bs) × (bs ≡ code kind (value_of kind bs))
+value_taken U8 bs len ok bad = plain_take U8 bs refl len ok bad
+value_taken U16 bs len ok bad = plain_take U16 bs refl len ok bad
+value_taken U32 bs len ok bad = plain_take U32 bs refl len ok bad
+value_taken U64 bs len ok bad = plain_take U64 bs refl len ok bad
+value_taken Bool bs len ok bad = plain_take Bool bs refl len ok bad
+value_taken Timer bs len ok bad = plain_take Timer bs refl len ok bad
+value_taken I8 bs len ok bad = signed_take I8 bs refl len ok
+value_taken I16 bs len ok bad = signed_take I16 bs refl len ok
+value_taken I32 bs len ok bad = signed_take I32 bs refl len ok
+value_taken I64 bs len ok bad = signed_take I64 bs refl len ok

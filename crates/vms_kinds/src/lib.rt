@@ -5,7 +5,7 @@
 #![tactic(auto)]
 
 ghost use Rattle.std.specs.Prelude.{◌++◌, drop, ◌≡◌, ◌<◌, ◌≤◌, ◌↔◌, ◌*◌, ◌^◌, length, IsTrue, IfSome, IsNone};
-ghost use Rattle.vms_kinds.specs.Codes.{width, lowest, highest, InRange, is_signed, code, value_of, IsBadBool};
+ghost use Rattle.vms_kinds.specs.Codes.{width, lowest, highest, InRange, code, value_of, IsBadBool};
 
 use arrayvec::ArrayVec;
 use byteorder::{BigEndian, ByteOrder};
@@ -107,24 +107,21 @@ impl Kind {
         out
     }
 
-    // Tells whether the kind has negative numbers.
-    fn is_signed(self) -> bool
-        ensures { result ≡ is_signed self }
-    {
-        matches!(self, Kind::I8 | Kind::I16 | Kind::I32 | Kind::I64)
-    }
-
-    // Puts the code into the front of `bytes`.
-    fn write(self, value: i128, bytes: &mut [u8])
+    /// Puts the code of a number in range into the front of `bytes`; the rest stays.
+    pub fn write(self, value: i128, bytes: &mut [u8])
         requires range { InRange self value }
-        requires room { 8 ≤ length bytes.old }
+        requires room { width self ≤ length bytes.old }
         ensures { bytes.new ≡ code self value ++ drop (width self) bytes.old }
     {
-        let width = self.width();
-        if self.is_signed() {
-            BigEndian::write_int(bytes, value as i64, width);
-        } else {
-            BigEndian::write_uint(bytes, value as u64, width);
+        match self {
+            Kind::U8 | Kind::Bool => bytes[0] = value as u8,
+            Kind::U16 => BigEndian::write_u16(bytes, value as u16),
+            Kind::U32 => BigEndian::write_u32(bytes, value as u32),
+            Kind::U64 | Kind::Timer => BigEndian::write_u64(bytes, value as u64),
+            Kind::I8 => bytes[0] = (value as i8).cast_unsigned(),
+            Kind::I16 => BigEndian::write_i16(bytes, value as i16),
+            Kind::I32 => BigEndian::write_i32(bytes, value as i32),
+            Kind::I64 => BigEndian::write_i64(bytes, value as i64),
         }
     }
 
@@ -142,13 +139,26 @@ impl Kind {
         ensures value { IfSome result (λ value. value ≡ value_of self bytes.now) }
         ensures none { IsNone result ↔ IsBadBool self bytes.now }
     {
-        let width = self.width();
-        if self.is_signed() {
-            return Some(BigEndian::read_int(bytes, width) as i128);
-        }
         if self.is_bad_bool(bytes[0]) {
             return None;
         }
-        Some(BigEndian::read_uint(bytes, width) as i128)
+        Some(self.read(bytes))
+    }
+
+    // The number that the bytes stand for.
+    fn read(self, bytes: &[u8]) -> i128
+        requires { length bytes.now ≡ width self }
+        ensures { result ≡ value_of self bytes.now }
+    {
+        match self {
+            Kind::U8 | Kind::Bool => bytes[0] as i128,
+            Kind::U16 => BigEndian::read_u16(bytes) as i128,
+            Kind::U32 => BigEndian::read_u32(bytes) as i128,
+            Kind::U64 | Kind::Timer => BigEndian::read_u64(bytes) as i128,
+            Kind::I8 => bytes[0].cast_signed() as i128,
+            Kind::I16 => BigEndian::read_i16(bytes) as i128,
+            Kind::I32 => BigEndian::read_i32(bytes) as i128,
+            Kind::I64 => BigEndian::read_i64(bytes) as i128,
+        }
     }
 }

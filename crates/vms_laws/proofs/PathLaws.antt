@@ -1,8 +1,7 @@
 -- The cell of a path is one of the device's.
-use Rattle.std.proofs.Common.{◌≡◌, ℕ, zero, suc, ◌+◌, ◌*◌, ◌<◌, ◌≤◌, List, [], ◌∷◌, ◌++◌, length, length-append, get_or, Option, Some, None, refl, sym, ap, ◌∙◌, subst, arith, Bool, true, false, nat_lt, if◌then◌else◌}
+use Rattle.std.proofs.Common.{◌≡◌, ℕ, zero, suc, ◌+◌, ◌*◌, ◌<◌, ◌≤◌, List, [], ◌∷◌, length, length-append, get_or, Option, Some, None, refl, sym, ap, ◌∙◌, subst, arith, Bool, true, false, nat_lt, if◌then◌else◌}
 use Rattle.std.specs.List.{flat_map}
-use Rattle.std.proofs.lemmas.Bool.{ltb-true, ltb-false}
-use Rattle.std.proofs.lemmas.List.{get_or_append_left}
+use Rattle.std.proofs.lemmas.Bool.{ltb-true}
 use Rattle.vms_kinds.specs.declared.Item.{Item}
 use Rattle.vms_kinds.specs.declared.Item.TheVariants.{Num, Equal, Unused, Struct}
 use Rattle.vms_spec.specs.Lists.{at}
@@ -12,40 +11,7 @@ use Rattle.vms_spec.specs.Images.{sub_place, own_cells}
 use Rattle.vms_spec.specs.Places.{item_at, element_at, path_at, desc_of_sub, cell_in, cell_at, size_of_device, cell_count}
 use Rattle.vms_laws.proofs.Places.{place_up}
 use Rattle.vms_spec.proofs.Sizes.{field_size}
-
--- ---- tables by number
-
-first_long : {B : Type 0} (f : List B → Desc → B) (ds : List Desc) (k : ℕ) → length (first f ds k) ≡ k
-unfolding first
-first_long f ds zero = refl
-first_long f ds (suc k) =
-    let e = first_long f ds k in
-    length-append (first f ds k) (f (first f ds k) (get_or ds k no_desc) ∷ []) ∙ omega (arith, e)
-
-last_is : {B : Type 0} (xs : List B) (x d : B) (k : ℕ) → length xs ≡ k → get_or (xs ++ x ∷ []) k d ≡ x
-last_is [] x d zero e = refl
-last_is [] x d (suc k) e = absurd (omega arith)
-last_is (y ∷ xs) x d zero e = absurd (omega arith)
-last_is (y ∷ xs) x d (suc k) e = last_is xs x d k (omega arith)
-
--- an entry is made from the earlier ones
-at_step : {B : Type 0} (f : List B → Desc → B) (ds : List Desc) (d : B) (k j : ℕ) → j < suc k → (j < k → get_or (first f ds k) j d ≡ f (first f ds j) (get_or ds j no_desc))
-    → (b : Bool) → nat_lt j k ≡ b → get_or (first f ds k ++ f (first f ds k) (get_or ds k no_desc) ∷ []) j d ≡ f (first f ds j) (get_or ds j no_desc)
-at_step f ds d k j lt earlier true e =
-    let l : j < k = ltb-true j k e in
-    let long = first_long f ds k in
-    get_or_append_left (first f ds k) (f (first f ds k) (get_or ds k no_desc) ∷ []) d j (omega (arith, long)) ∙ earlier l
-at_step f ds d k j lt earlier false e =
-    let le : k ≤ j = ltb-false j k e in
-    let same : k ≡ j = omega arith in
-    ap (λ (i : ℕ). get_or (first f ds k ++ f (first f ds k) (get_or ds k no_desc) ∷ []) i d) (sym same)
-    ∙ last_is (first f ds k) (f (first f ds k) (get_or ds k no_desc)) d k (first_long f ds k)
-    ∙ ap (λ (i : ℕ). f (first f ds i) (get_or ds i no_desc)) same
-
-first_at : {B : Type 0} (f : List B → Desc → B) (ds : List Desc) (d : B) (k j : ℕ) → j < k → get_or (first f ds k) j d ≡ f (first f ds j) (get_or ds j no_desc)
-unfolding first
-first_at f ds d zero j lt = absurd (omega arith)
-first_at f ds d (suc k) j lt = at_step f ds d k j lt (λ l. first_at f ds d k j l) (nat_lt j k) refl
+use Rattle.vms_spec.proofs.Tables.{first_at}
 
 -- ---- places
 

@@ -14,7 +14,6 @@ use Rattle.vms_spec.specs.declared.Count.TheVariants.{One, Fixed, Counted}
 use Rattle.vms_spec.specs.declared.Whose.TheVariants.{Own, Parent}
 use Rattle.vms_spec.specs.declared.Part.{Part}
 use Rattle.vms_spec.specs.declared.Part.TheVariants as parts
-use Rattle.vms_spec.specs.declared.Place.{Place}
 use Rattle.vms_spec.specs.Lists.{at, position, some, or_else, first_answer}
 use Rattle.vms_spec.specs.Sets.{Formula, AtLeast, Below, Cell, Not, And, Or, Field, Desc, Sub, Device, Set}
 use Rattle.vms_spec.specs.Layout.{Cell as OneCell, no_field, no_desc, times, counted, capacity_of, item_cells, field_cells, cells_from, desc_cells, struct_cells, device_cells, first}
@@ -26,34 +25,10 @@ use Rattle.vms_spec.specs.WellFormed.{failing, here, in_field, fields_fault, val
 use Rattle.vms_laws.specs.Sound.{IsNumber, IsOne, IsEarlier, NamesEarlier, IsSoundTest, IsSoundCount, IsSoundField, AreSoundFields, IsSound}
 use Rattle.vms_laws.specs.Good.{DefaultsFit, ConstantFits, ConstantsFit, IsGood}
 use Rattle.vms_spec.specs.Heads.{FitsHeads}
+use Rattle.vms_spec.proofs.Faultless.{or_else_none, answers_none, AllTrue, all_true}
 use Rattle.vms_laws.proofs.PartLaws.{at_inside}
 
 -- ---- no fault anywhere
-
-or_else_none : {X : Type 0} (x y : Option X) → or_else x y ≡ None → (x ≡ None) × (y ≡ None)
-or_else_none (Some x) y e = cc
-or_else_none None y e = (refl, e)
-
-no_answer : {X Y : Type 0} (f : ℕ → X → Option Y) (i : ℕ) (xs : List X) → first_answer f i xs ≡ None → (j : ℕ) (x : X) → at xs j ≡ Some x → f (i + j) x ≡ None
-no_answer f i [] e j x h = cc
-no_answer f i (y ∷ xs) e zero x h =
-    let p = or_else_none (f i y) (first_answer f (suc i) xs) e in
-    let same : y ≡ x = cc in
-    let plus : i + 0 ≡ i = omega arith in
-    ap (λ (k : ℕ). f k x) plus ∙ ap (f i) (sym same) ∙ p.0
-no_answer f i (y ∷ xs) e (suc j) x h =
-    let p = or_else_none (f i y) (first_answer f (suc i) xs) e in
-    let plus : i + suc j ≡ suc i + j = omega arith in
-    ap (λ (k : ℕ). f k x) plus ∙ no_answer f (suc i) xs p.1 j x h
-
-abbrev pub AllTrue : List Bool → Type 0
-AllTrue [] = Unit {0}
-AllTrue (b ∷ rules) = (b ≡ true) × AllTrue rules
-
-all_true : (r : ℕ) (rules : List Bool) (p : Place) → failing r rules p ≡ None → AllTrue rules
-all_true r [] p e = tt
-all_true r (true ∷ rules) p e = (refl, all_true (suc r) rules p e)
-all_true r (false ∷ rules) p e = cc
 
 -- what holds of a description without a fault
 pub record Clean (k : ℕ) (d : Desc) (rules : List Bool) : Type 0 where
@@ -68,13 +43,13 @@ clean k d part rules e =
     record {
       own = all_true 1 rules (here part) a.0;
       fields = λ i f h. all_true 1 (field_rules k d i f) (in_field part i) (field_clean i f h b.0);
-      validations = λ i t h. all_true 1 (validation_rules d t) (here part) (no_answer (λ i t. failing 1 (validation_rules d t) (here part)) 0 d.validate b.1 i t h);
+      validations = λ i t h. all_true 1 (validation_rules d t) (here part) (answers_none (λ i t. failing 1 (validation_rules d t) (here part)) 0 d.validate b.1 i t h);
     }
   where
     field_clean : (i : ℕ) (f : Field) → at d.fields i ≡ Some f → fields_fault k d part ≡ None → failing 1 (field_rules k d i f) (in_field part i) ≡ None
     field_clean i f h e =
         let plus : 0 + i ≡ i = omega arith in
-        subst (λ (i : ℕ). failing 1 (field_rules k d i f) (in_field part i) ≡ None) plus (no_answer (λ i f. failing 1 (field_rules k d i f) (in_field part i)) 0 d.fields e i f h)
+        subst (λ (i : ℕ). failing 1 (field_rules k d i f) (in_field part i) ≡ None) plus (answers_none (λ i f. failing 1 (field_rules k d i f) (in_field part i)) 0 d.fields e i f h)
 
 -- ---- tests and counts name earlier single numbers
 
@@ -321,14 +296,14 @@ module _ (set : Set) (well : WellFormed set) where
   struct_clean j d e =
       let plus : 0 + j ≡ j = omega arith in
       clean j d (parts.Struct j) (struct_rules set.structs j d)
-      (subst (λ (i : ℕ). struct_fault set.structs i d ≡ None) plus (no_answer (struct_fault set.structs) 0 set.structs parts_clean.0 j d e))
+      (subst (λ (i : ℕ). struct_fault set.structs i d ≡ None) plus (answers_none (struct_fault set.structs) 0 set.structs parts_clean.0 j d e))
 
   -- the device's own part, and its subsections
   pub device_parts : (k : ℕ) (d : Device) → at set.devices k ≡ Some d
       → Clean (length set.structs) d.desc (device_rules set k d) × (first_answer (sub_fault (length set.structs) k d) 0 d.subs ≡ None)
   device_parts k d e =
       let plus : 0 + k ≡ k = omega arith in
-      let none = subst (λ (i : ℕ). device_fault set i d ≡ None) plus (no_answer (device_fault set) 0 set.devices parts_clean.1 k d e) in
+      let none = subst (λ (i : ℕ). device_fault set i d ≡ None) plus (answers_none (device_fault set) 0 set.devices parts_clean.1 k d e) in
       let p = or_else_none (desc_fault (length set.structs) d.desc (parts.Device k) (device_rules set k d)) (first_answer (sub_fault (length set.structs) k d) 0 d.subs) none in
       (clean (length set.structs) d.desc (parts.Device k) (device_rules set k d) p.0, p.1)
 
@@ -336,7 +311,7 @@ module _ (set : Set) (well : WellFormed set) where
   sub_clean k j d s e f =
       let plus : 0 + j ≡ j = omega arith in
       clean (length set.structs) s.desc (parts.Sub k j) (sub_rules d j s)
-      (subst (λ (i : ℕ). sub_fault (length set.structs) k d i s ≡ None) plus (no_answer (sub_fault (length set.structs) k d) 0 d.subs (device_parts k d e).1 j s f))
+      (subst (λ (i : ℕ). sub_fault (length set.structs) k d i s ≡ None) plus (answers_none (sub_fault (length set.structs) k d) 0 d.subs (device_parts k d e).1 j s f))
 
   -- structure m, of which there may be none
   struct_fits : (structs : List (List OneCell)) → AllFit structs → (m : ℕ) (o : Option Desc) → at set.structs m ≡ o → Fit (desc_cells structs (get_or set.structs m no_desc))

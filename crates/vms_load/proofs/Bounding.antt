@@ -14,7 +14,7 @@ use Rattle.vms_spec.specs.WellFormed.{item_count, items_in, struct_items, subs_i
 use Rattle.vms_desc.specs.Formed.{is_well_formed}
 use Rattle.vms_desc.proofs.Bounds.{few_items, few_devices}
 use Rattle.vms_parts.specs.Devices.{device_at}
-use Rattle.vms_parts.proofs.Tables.{first_long}
+use Rattle.vms_spec.proofs.Tables.{first_long}
 use Rattle.vms_load.specs.Bounds.{item_bytes, fields_bytes, desc_bytes, struct_bytes}
 use Rattle.vms_load.specs.Parts.{bytes_of, subs_due}
 use Rattle.vms_load.specs.Staging.{section_bytes, sections_due, subs_bytes, devices_most}

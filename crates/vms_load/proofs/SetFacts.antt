@@ -24,7 +24,8 @@ use Rattle.vms_desc.specs.Asks.{first_cell}
 use Rattle.vms_desc.specs.Parts.{HasPart, desc_at, sub_at}
 use Rattle.vms_desc.specs.Spots.{kinds_at}
 use Rattle.vms_desc.proofs.AskLaws.{few_cells, own_inside_device, sub_inside}
-use Rattle.vms_desc.proofs.Bounds.{none_is, AllTrue, all_true, or_else_none}
+use Rattle.vms_spec.proofs.Faultless.{AllTrue, all_true, or_else_none}
+use Rattle.vms_desc.proofs.Bounds.{none_is}
 use Rattle.vms_load.specs.Parts.{IsIn, part_of, part_desc, part_base}
 use Rattle.vms_walk.specs.Steps.{HasSpot, table, spot_slots, steps_of}
 use Rattle.vms_walk.specs.declared.step.Step.{Step}

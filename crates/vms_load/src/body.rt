@@ -110,11 +110,13 @@ impl<S: Source> Walker for Reader<'_, S> {
     ghost stops_before = { λ xs ys a b fault h.
         (h.0, h.1, h.2, failed_before xs ys _ _ fault h.3) };
 
+    #[inline(always)]
     fn step(&mut self, step: Step) -> Result<(), FrameFault> {
         read_step(step, self.image, self.cursor, self.source)
     }
 }
 
+#[inline(always)]
 fn read_step<S: Source>(
     step: Step,
     image: &mut Image,

@@ -15,6 +15,7 @@ use vms_kinds::Kind;
 use vms_spec::Reason;
 
 /// The number of a cell, which is put there. It is at most `most`, where one is given.
+#[inline(always)]
 pub(crate) fn put_number<S: Source>(
     cursor: &mut Cursor,
     source: &mut S,
@@ -51,6 +52,7 @@ pub(crate) fn put_number<S: Source>(
 }
 
 // A number. It is at most `most`: the least of the capacities of the arrays that it counts, whether or not they are there.
+#[inline(always)]
 fn number<S: Source>(
     cursor: &mut Cursor,
     source: &mut S,

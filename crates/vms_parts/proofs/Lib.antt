@@ -1,4 +1,3 @@
 pub mod CapacityLaws
 pub mod Items
 pub mod SizeLaws
-pub mod Tables

@@ -1,5 +1,5 @@
 -- Sums that end at 2 ^ 32 - 1.
-use Rattle.std.proofs.Common.{◌≡◌, ℕ, zero, suc, ◌+◌, ◌-◌, ◌*◌, ◌^◌, ◌<◌, ◌≤◌, min, List, [], ◌∷◌, ◌++◌, length, get_or, drop, map, refl, sym, ap, ◌∙◌, subst, arith, add-one}
+use Rattle.std.proofs.Common.{◌≡◌, ℕ, zero, suc, ◌+◌, ◌*◌, ◌^◌, ◌<◌, ◌≤◌, List, [], ◌∷◌, ◌++◌, length, get_or, drop, map, refl, sym, ap, ◌∙◌, arith, add-one}
 use Rattle.std.proofs.lemmas.List.{drop_all, map-append}
 use Rattle.vms_kinds.specs.declared.Item.{Item}
 use Rattle.vms_kinds.specs.declared.Item.TheVariants.{Num, Equal, Unused, Struct}
@@ -8,8 +8,9 @@ use Rattle.vms_spec.specs.Layout.{capacity_of, first, no_desc}
 use Rattle.vms_parts.specs.declared.sizes.Measure.{Measure}
 use Rattle.vms_parts.specs.declared.types.Field.{Field}
 use Rattle.vms_parts.specs.declared.types.Desc.{Desc}
-use Rattle.vms_parts.specs.Sizes.{in_u32, size_of, fields_size, sizes_to}
-use Rattle.vms_parts.specs.Views.{field_of, desc_of}
+use Rattle.vms_parts.specs.declared.types.Sub.{Sub}
+use Rattle.vms_parts.specs.Sizes.{in_u32, size_of, fields_size, subs_size, sizes_to}
+use Rattle.vms_parts.specs.Views.{field_of, sub_of, desc_of}
 use Rattle.vms_parts.proofs.Items.{drop_is, get_map_at}
 
 capped_sum : (s p r : ℕ) → in_u32 (in_u32 (s + in_u32 p) + r) ≡ in_u32 (s + (p + r))
@@ -27,6 +28,20 @@ pub sum_ends : (m : Measure) (sizes : List ℕ) (fields : List Field) (i sum who
 sum_ends m sizes fields i sum whole all small e =
     let s : sum ≡ in_u32 (sum + 0) = omega arith in
     s ∙ ap (λ (fs : List Field). in_u32 (sum + fields_size m sizes (map field_of fs))) (sym (drop_all i fields all)) ∙ e
+
+pub subs_more : (m : Measure) (sizes : List ℕ) (subs : List Sub) (i sum own whole : ℕ) (s : Sub) → i < length subs → s ≡ get_or subs i s
+    → own ≡ in_u32 (fields_size m sizes (map field_of s.desc.fields)) → in_u32 (sum + subs_size m sizes (map sub_of (drop i subs))) ≡ whole
+    → in_u32 (in_u32 (sum + own) + subs_size m sizes (map sub_of (drop (i + 1) subs))) ≡ whole
+subs_more m sizes subs i sum own whole s lt is size e =
+    ap (λ (n : ℕ). in_u32 (in_u32 (sum + n) + subs_size m sizes (map sub_of (drop (i + 1) subs)))) size
+    ∙ capped_sum sum (fields_size m sizes (map field_of s.desc.fields)) (subs_size m sizes (map sub_of (drop (i + 1) subs)))
+    ∙ ap (λ (l : List Sub). in_u32 (sum + subs_size m sizes (map sub_of l))) (sym (drop_is subs i s lt is)) ∙ e
+
+pub subs_end : (m : Measure) (sizes : List ℕ) (subs : List Sub) (i sum whole : ℕ) → length subs ≤ i → sum < 2 ^ 32
+    → in_u32 (sum + subs_size m sizes (map sub_of (drop i subs))) ≡ whole → sum ≡ whole
+subs_end m sizes subs i sum whole all small e =
+    let s : sum ≡ in_u32 (sum + 0) = omega arith in
+    s ∙ ap (λ (l : List Sub). in_u32 (sum + subs_size m sizes (map sub_of l))) (sym (drop_all i subs all)) ∙ e
 
 -- sizes of structures that end at 2 ^ 32 - 1 serve as well
 pub capped_product : (c s : ℕ) → in_u32 (c * in_u32 s) ≡ in_u32 (c * s)
@@ -54,6 +69,10 @@ capped_fields m sizes (f ∷ fs) =
     let e : in_u32 (capacity_of f.count * size_of m (map in_u32 sizes) f.item) ≡ in_u32 (capacity_of f.count * size_of m sizes f.item) = capped_item m sizes (capacity_of f.count) f.item in
     let r : in_u32 (fields_size m (map in_u32 sizes) fs) ≡ in_u32 (fields_size m sizes fs) = capped_fields m sizes fs in
     omega (arith, e, r)
+
+pub capped_subs : (m : Measure) (sizes : List ℕ) (subs : List sets.Sub) → in_u32 (subs_size m (map in_u32 sizes) subs) ≡ in_u32 (subs_size m sizes subs)
+capped_subs m sizes [] = refl
+capped_subs m sizes (s ∷ subs) = omega (arith, capped_fields m sizes s.desc.fields, capped_subs m sizes subs)
 
 -- one structure more
 pub sizes_more : (m : Measure) (structs : List Desc) (sizes : List ℕ) (i : ℕ) (d : Desc) (size : ℕ) → d ≡ get_or structs i d → i < length structs

@@ -3,7 +3,7 @@
 use Rattle.std.specs.Prelude.{ℕ, ◌+◌, ◌*◌, ◌-◌, ◌^◌, min, List, [], ◌∷◌, get_or}
 use Rattle.vms_kinds.specs.declared.Item.{Item}
 use Rattle.vms_kinds.specs.declared.Item.TheVariants.{Num, Equal, Unused, Struct}
-use Rattle.vms_spec.specs.Sets.{Field, Desc}
+use Rattle.vms_spec.specs.Sets.{Field, Desc, Sub}
 use Rattle.vms_spec.specs.Layout.{first, capacity_of}
 use Rattle.vms_parts.specs.declared.sizes.Measure.{Measure}
 use Rattle.vms_parts.specs.declared.sizes.Measure.TheVariants.{Cells, Items}
@@ -26,6 +26,11 @@ size_of m sizes (Struct j) = get_or sizes j 0
 abbrev pub fields_size : Measure → List ℕ → List Field → ℕ
 fields_size m sizes [] = 0
 fields_size m sizes (f ∷ fs) = capacity_of f.count * size_of m sizes f.item + fields_size m sizes fs
+
+-- the fields of subsections
+abbrev pub subs_size : Measure → List ℕ → List Sub → ℕ
+subs_size m sizes [] = 0
+subs_size m sizes (s ∷ subs) = fields_size m sizes s.desc.fields + subs_size m sizes subs
 
 -- the sizes of the first k structures
 abbrev pub sizes_to : Measure → List Desc → ℕ → List ℕ

@@ -10,6 +10,6 @@ mod types;
 
 pub use capacities::least_capacities;
 pub use listed::{Listed, Text};
-pub use sizes::{Measure, capacity, item_size, size_of_fields, struct_sizes};
+pub use sizes::{Measure, capacity, item_size, size_of_fields, size_of_subs, struct_sizes};
 pub use types::{CellForm, Desc, Device, Field, Parts, Sub, Test};
 pub use vms_spec::{Count, Part, Place, Rel, Whose};

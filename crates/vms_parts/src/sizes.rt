@@ -1,10 +1,10 @@
 // How many cells and items descriptions have.
 ghost use Rattle.std.specs.Prelude.{◌≡◌, length, map, get_or, IfOk};
 ghost use Rattle.vms_spec.specs.Layout.{capacity_of};
-ghost use Rattle.vms_parts.specs.Sizes.{in_u32, constant_size, size_of, fields_size, sizes_to};
-ghost use Rattle.vms_parts.specs.Views.{desc_of, field_of};
+ghost use Rattle.vms_parts.specs.Sizes.{in_u32, constant_size, size_of, fields_size, subs_size, sizes_to};
+ghost use Rattle.vms_parts.specs.Views.{desc_of, field_of, sub_of};
 
-use crate::{Count, Desc, Field};
+use crate::{Count, Desc, Field, Sub};
 use std::alloc::{AllocError, Global};
 use vms_kinds::Item;
 
@@ -60,6 +60,18 @@ pub fn size_of_fields(measure: Measure, sizes: &[u32], fields: &[Field]) -> u32
     for field in fields {
         let size = item_size(measure, sizes, field.item);
         sum = sum.saturating_add(capacity(field.count).saturating_mul(size));
+    }
+    sum
+}
+
+// The size of the fields of these subsections, at most 2^32 - 1.
+pub fn size_of_subs(measure: Measure, sizes: &[u32], subs: &[Sub]) -> u32
+    ensures { result ≡ in_u32 (subs_size measure sizes.now (map sub_of subs.now)) }
+{
+    let mut sum: u32 = 0;
+    for sub in subs {
+        let own = size_of_fields(measure, sizes, sub.desc.fields.as_slice());
+        sum = sum.saturating_add(own);
     }
     sum
 }

@@ -12,6 +12,7 @@ use Rattle.vms_spec.specs.Streams.{is_one_of}
 use Rattle.vms_spec.specs.Spelling.{begins_with}
 use Rattle.vms_spec.specs.ValuesReading.{machine_named}
 use Rattle.vms_spec.specs.WellFormed.{WellFormed, first_fault, failing, here, set_rules, struct_fault, struct_rules, device_fault, device_rules, sub_rules, size_rules, SetFault}
+use Rattle.vms_spec.proofs.Faultless.{or_else_none}
 use Rattle.vms_laws.proofs.WellFormedLaws.{Clean, struct_clean, device_parts, sub_clean, get_none, get_at}
 use Rattle.vms_texts.proofs.Lines.{same_bytes}
 use Rattle.vms_reading.proofs.Feeds.{NoFeed, feed_append}
@@ -63,10 +64,6 @@ subs_from (s ∷ subs) h = let c = h 0 s refl in (c.0, c.1, subs_from subs (λ j
 devices_from : (devices : List Device) → ((k : ℕ) (d : Device) → at devices k ≡ Some d → NoFeed d.desc.name × AreCleanFields d.desc.fields × AreCleanSubs d.subs) → AreCleanDevices devices
 devices_from [] h = tt
 devices_from (d ∷ devices) h = let c = h 0 d refl in (c.0, c.1, c.2, devices_from devices (λ k t e. h (suc k) t e))
-
-or_else_none : (x y : Option SetFault) → or_else x y ≡ None → (x ≡ None) × (y ≡ None)
-or_else_none None y e = (refl, e)
-or_else_none (Some x) y e = cc
 
 first_true : (b : Bool) (rules : List Bool) (place : Place) → failing 1 (b ∷ rules) place ≡ None → b ≡ true
 first_true true rules place e = refl

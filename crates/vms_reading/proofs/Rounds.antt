@@ -12,7 +12,7 @@ use Rattle.vms_spec.specs.Streams.{IsConfiguration, IsTrailer, optional, configu
 use Rattle.vms_spec.specs.Values.{values_text}
 use Rattle.vms_spec.specs.ValuesReading.{values_read}
 use Rattle.vms_spec.specs.WellFormed.{WellFormed, SetFault, failing, first_fault, here, set_rules}
-use Rattle.vms_laws.proofs.WellFormedLaws.{AllTrue}
+use Rattle.vms_spec.proofs.Faultless.{machine_short, few_devices}
 use Rattle.vms_units.specs.Streams.{Takes}
 use Rattle.vms_units.proofs.Stated.{one_stream_holds, written_holds}
 use Rattle.vms_texts.proofs.Lines.{same_bytes}
@@ -20,43 +20,10 @@ use Rattle.vms_elements.specs.Reading.{IsMachineOf}
 use Rattle.vms_reading.specs.Rounds.{FitsText, WrittenLaw, PackedLaw, ShownLaw}
 use Rattle.vms_reading.proofs.Stated.{accepted_holds, printed_holds}
 
-all_true : (r : ℕ) (rules : List Bool) (p : Place) → failing r rules p ≡ None → AllTrue rules
-all_true r [] p h = tt
-all_true r (true ∷ rules) p h = (refl, all_true (suc r) rules p h)
-all_true r (false ∷ rules) p h = absurd (cc)
-
-or_else_none : (x y : Option SetFault) → or_else x y ≡ None → x ≡ None
-or_else_none None y e = refl
-or_else_none (Some x) y e = cc
-
-every_one : (p : List ℕ → Bool) (names : List (List ℕ)) (name : List ℕ) → every p names ≡ true → is_one_of names name ≡ true → p name ≡ true
-every_one p [] name h e = absurd (cc)
-every_one p (n ∷ names) name h e =
-    let both = and_parts (p n) (every p names) h in
-    go (bytes_eq n name) refl e both.0 (λ g. every_one p names name both.1 g)
-  where
-    go : (c : Bool) → bytes_eq n name ≡ c → (c || is_one_of names name) ≡ true → p n ≡ true → (is_one_of names name ≡ true → p name ≡ true) → p name ≡ true
-    go true is g here later = ap p (sym (same_bytes n name is)) ∙ here
-    go false is g here later = later g
-
 module _ (set : Set) (well : WellFormed set) where
-  set_true : AllTrue (set_rules set)
-  unfolding first_fault
-  set_true = all_true 1 (set_rules set) (here parts.Set) (or_else_none (failing 1 (set_rules set) (here parts.Set)) _ well)
-
-  name_short : (name : List ℕ) → is_one_of set.machines name ≡ true → length name ≤ 64
-  name_short name h =
-      let short = every_one (is_name 64) set.machines name set_true.0 h in
-      let p = and_parts (nat_le 1 (length name) && nat_le (length name) 64) (every is_name_byte name) short in
-      leb-true (length name) 64 (and_parts (nat_le 1 (length name)) (nat_le (length name) 64) p.0).1
-
-  few_devices : length set.devices ≤ 64
-  few_devices =
-      leb-true (length set.devices) 64 (and_parts (nat_le (length set.machines) 16 && nat_le (length set.structs) 64) (nat_le (length set.devices) 64) set_true.1.1.1.1.1.1.0).1
-
   configured : (machine : Option (List ℕ)) → IsMachineOf set machine → IsConfiguration set.machines machine (optional configuration machine)
   configured None h = refl
-  configured (Some name) h = (h, let s = name_short name h in omega arith, refl)
+  configured (Some name) h = (h, let s = machine_short set well name h in omega arith, refl)
 
 trailed : (described : Option (List ℕ)) → FitsText described → IsTrailer described (optional trailer described)
 trailed None h = refl

@@ -16,7 +16,8 @@ use Rattle.vms_laws.specs.Sound.{IsNumber, IsOne, IsEarlier, IsSoundField, AreSo
 use Rattle.vms_laws.proofs.Places.{there_same, elements_same, place_next}
 use Rattle.vms_laws.proofs.WalkLaws.{drop_next, zero_plus, place_first}
 use Rattle.vms_elements.specs.Elements.{Element, Number, Shape, no_shape, shape, shapes, cells_in, dotted, behind, single, Rule, item_elements, Stand, stand_of, array_elements, field_elements, elements_from, desc_elements, index_text}
-use Rattle.vms_elements.proofs.Tables.{both, two_more, first_long, shapes_cells}
+use Rattle.vms_spec.proofs.Tables.{first_long}
+use Rattle.vms_elements.proofs.Tables.{both, two_more, shapes_cells}
 use Rattle.vms_elements.proofs.SlotsOf.{below_true, past_false}
 use Rattle.vms_reading.specs.Said.{Said, Agrees}
 use Rattle.vms_reading.proofs.OneLine.{spot}

@@ -1,5 +1,5 @@
 -- The machines of a set, and the whole walk.
-use Rattle.std.proofs.Common.{◌≡◌, ℕ, suc, ◌≤◌, List, [], ◌∷◌, length, Bool, true, false, Option, None, refl, ap, ◌∙◌}
+use Rattle.std.proofs.Common.{◌≡◌, ℕ, ◌≤◌, List, [], ◌∷◌, length, Bool, true, false, Option, None, refl, ap, ◌∙◌}
 use Rattle.std.specs.Prelude.{◌||◌, ◌&&◌, not, nat_le}
 use Rattle.std.specs.BTreeMap.{is_at}
 use Rattle.std.specs.BTreeSet.{BTreeSet}
@@ -14,6 +14,7 @@ use Rattle.vms_spec.specs.Lists.{or_else}
 use Rattle.vms_spec.specs.Sets as sets
 use Rattle.vms_spec.specs.Streams.{is_one_of}
 use Rattle.vms_spec.specs.WellFormed.{SetFault, failing, here, are_distinct, set_rules, size_rules, first_fault}
+use Rattle.vms_spec.proofs.Faultless.{all_true}
 use Rattle.vms_rules.specs.declared.fault.DescFault.{DescFault}
 use Rattle.vms_rules.specs.Judged.{IsFirst}
 use Rattle.vms_rules.specs.Walks.{structs_from, devices_from}
@@ -64,15 +65,6 @@ pub empty_has_none : (names : BTreeSet (ℕ × Bor (List ℕ))) → names.keys �
 empty_has_none names e n = ap (λ (keys : List (ℕ × Bor (List ℕ))). list_any (is_at (λ k. by_ending (ending n, n) (k.0, k.1.now))) keys) e
 
 -- ---- the number of parts
-
-abbrev pub AllTrue : List Bool → Type 0
-AllTrue [] = Unit {0}
-AllTrue (b ∷ rules) = (b ≡ true) × AllTrue rules
-
-pub all_true : (r : ℕ) (rules : List Bool) (p : Place) → failing r rules p ≡ None → AllTrue rules
-all_true r [] p e = tt
-all_true r (true ∷ rules) p e = (refl, all_true (suc r) rules p e)
-all_true r (false ∷ rules) p e = cc
 
 pub few_parts : (set : sets.Set) (p : Place) → failing 1 (set_rules set) p ≡ None → (length set.structs ≤ 64) × (length set.devices ≤ 64)
 few_parts set p e =

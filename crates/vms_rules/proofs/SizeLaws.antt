@@ -10,11 +10,10 @@ use Rattle.vms_spec.specs.Sets as sets
 use Rattle.vms_spec.specs.WellFormed.{item_count, items_in, struct_items, subs_items, devices_items}
 use Rattle.vms_parts.specs.declared.sizes.Measure.TheVariants.{Items}
 use Rattle.vms_parts.specs.declared.types.Device.{Device}
-use Rattle.vms_parts.specs.declared.types.Sub.{Sub}
-use Rattle.vms_parts.specs.Sizes.{in_u32, size_of, fields_size, sizes_to}
+use Rattle.vms_parts.specs.Sizes.{in_u32, size_of, fields_size, subs_size, sizes_to}
 use Rattle.vms_parts.specs.Views.{field_of, sub_of, device_of}
 use Rattle.vms_parts.proofs.Items.{drop_is}
-use Rattle.vms_parts.proofs.SizeLaws.{capped_fields}
+use Rattle.vms_parts.proofs.SizeLaws.{capped_fields, capped_subs}
 
 -- ---- items by sizes
 
@@ -28,6 +27,10 @@ pub items_are : (sizes : List ℕ) (fs : List sets.Field) → items_in sizes fs 
 items_are sizes [] = refl
 items_are sizes (f ∷ fs) = ap (λ (n : ℕ). capacity_of f.count * n + items_in sizes fs) (item_is sizes f.item) ∙ ap (λ (n : ℕ). capacity_of f.count * size_of Items sizes f.item + n) (items_are sizes fs)
 
+pub subs_are : (sizes : List ℕ) (subs : List sets.Sub) → subs_items sizes subs ≡ subs_size Items sizes subs
+subs_are sizes [] = refl
+subs_are sizes (s ∷ subs) = ap (λ (n : ℕ). n + subs_items sizes subs) (items_are sizes s.desc.fields) ∙ ap (λ (n : ℕ). fields_size Items sizes s.desc.fields + n) (subs_are sizes subs)
+
 items_to : (ds : List sets.Desc) (k : ℕ) → first (λ sizes d. items_in sizes d.fields) ds k ≡ sizes_to Items ds k
 unfolding first
 items_to ds zero = refl
@@ -40,13 +43,12 @@ items_to ds (suc k) =
 capped_items : (sizes : List ℕ) (fs : List sets.Field) → in_u32 (items_in (map in_u32 sizes) fs) ≡ in_u32 (items_in sizes fs)
 capped_items sizes fs = ap in_u32 (items_are (map in_u32 sizes) fs) ∙ capped_fields Items sizes fs ∙ ap in_u32 (sym (items_are sizes fs))
 
-capped_subs : (sizes : List ℕ) (subs : List sets.Sub) → in_u32 (subs_items (map in_u32 sizes) subs) ≡ in_u32 (subs_items sizes subs)
-capped_subs sizes [] = refl
-capped_subs sizes (s ∷ subs) = omega (arith, capped_items sizes s.desc.fields, capped_subs sizes subs)
+items_of_subs : (sizes : List ℕ) (subs : List sets.Sub) → in_u32 (subs_items (map in_u32 sizes) subs) ≡ in_u32 (subs_items sizes subs)
+items_of_subs sizes subs = ap in_u32 (subs_are (map in_u32 sizes) subs) ∙ capped_subs Items sizes subs ∙ ap in_u32 (sym (subs_are sizes subs))
 
 capped_devices : (sizes : List ℕ) (devices : List sets.Device) → in_u32 (devices_items (map in_u32 sizes) devices) ≡ in_u32 (devices_items sizes devices)
 capped_devices sizes [] = refl
-capped_devices sizes (d ∷ devices) = omega (arith, capped_items sizes d.desc.fields, capped_subs sizes d.subs, capped_devices sizes devices)
+capped_devices sizes (d ∷ devices) = omega (arith, capped_items sizes d.desc.fields, items_of_subs sizes d.subs, capped_devices sizes devices)
 
 same_limit : (n : ℕ) → nat_le (in_u32 n) 16384 ≡ nat_le n 16384
 same_limit n = grind (arith, nat_tests)
@@ -60,25 +62,8 @@ few_items structs devices sizes items is e =
 
 -- ---- sums
 
-sum_of_two : (s p r : ℕ) → in_u32 (in_u32 (s + in_u32 p) + r) ≡ in_u32 (s + (p + r))
-sum_of_two s p r = omega arith
-
 sum_of_three : (s p q r : ℕ) → in_u32 (in_u32 (in_u32 (s + in_u32 p) + in_u32 q) + r) ≡ in_u32 (s + (p + (q + r)))
 sum_of_three s p q r = omega arith
-
-pub subs_more : (sizes : List ℕ) (subs : List Sub) (i sum own whole : ℕ) (s : Sub) → i < length subs → s ≡ get_or subs i s
-    → own ≡ in_u32 (fields_size Items sizes (map field_of s.desc.fields)) → in_u32 (sum + subs_items sizes (map sub_of (drop i subs))) ≡ whole
-    → in_u32 (in_u32 (sum + own) + subs_items sizes (map sub_of (drop (i + 1) subs))) ≡ whole
-subs_more sizes subs i sum own whole s lt is size e =
-    ap (λ (n : ℕ). in_u32 (in_u32 (sum + n) + subs_items sizes (map sub_of (drop (i + 1) subs)))) (size ∙ ap in_u32 (sym (items_are sizes (map field_of s.desc.fields))))
-    ∙ sum_of_two sum (items_in sizes (map field_of s.desc.fields)) (subs_items sizes (map sub_of (drop (i + 1) subs)))
-    ∙ ap (λ (l : List Sub). in_u32 (sum + subs_items sizes (map sub_of l))) (sym (drop_is subs i s lt is)) ∙ e
-
-pub subs_end : (sizes : List ℕ) (subs : List Sub) (i sum whole : ℕ) → length subs ≤ i → sum < 2 ^ 32
-    → in_u32 (sum + subs_items sizes (map sub_of (drop i subs))) ≡ whole → sum ≡ whole
-subs_end sizes subs i sum whole all small e =
-    let s : sum ≡ in_u32 (sum + 0) = omega arith in
-    s ∙ ap (λ (l : List Sub). in_u32 (sum + subs_items sizes (map sub_of l))) (sym (drop_all i subs all)) ∙ e
 
 pub devices_more : (sizes : List ℕ) (devices : List Device) (i sum own subs whole : ℕ) (d : Device) → i < length devices → d ≡ get_or devices i d
     → own ≡ in_u32 (fields_size Items sizes (map field_of d.desc.fields)) → subs ≡ in_u32 (subs_items sizes (map sub_of d.subs))

@@ -13,7 +13,7 @@ use Rattle.vms_parts.specs.declared.types.Field.{Field}
 use Rattle.vms_parts.specs.declared.types.Desc.{Desc}
 use Rattle.vms_parts.specs.Views.{field_of, desc_of}
 use Rattle.vms_parts.proofs.Items.{drop_is, get_map_at}
-use Rattle.vms_parts.proofs.Tables.{first_long}
+use Rattle.vms_spec.proofs.Tables.{first_long}
 use Rattle.vms_rules.specs.NameSets.{with_name}
 use Rattle.vms_rules.proofs.NameLaws.{is_one_more}
 

@@ -1,8 +1,8 @@
 // The rules at a set, and the whole walk.
 ghost use Rattle.std.specs.Prelude.{◌≡◌, ◌&&◌, IfOk, length, map, nat_le};
-ghost use Rattle.vms_spec.specs.WellFormed.{first_fault, set_rules, size_rules, subs_items, devices_items};
+ghost use Rattle.vms_spec.specs.WellFormed.{first_fault, set_rules, size_rules, devices_items};
 ghost use Rattle.vms_parts.specs.Sizes.{in_u32};
-ghost use Rattle.vms_parts.specs.Views.{sub_of, device_of, set_of};
+ghost use Rattle.vms_parts.specs.Views.{device_of, set_of};
 ghost use Rattle.vms_rules.specs.Judged.{Judges};
 
 use crate::DescFault;
@@ -13,7 +13,7 @@ use crate::names::{add_names, are_names};
 use crate::structs::check_structs;
 use std::alloc::{AllocError, Global};
 use std::collections::BTreeSet;
-use vms_parts::{Device, Measure, Part, Parts, Sub, size_of_fields, struct_sizes};
+use vms_parts::{Device, Measure, Part, Parts, size_of_fields, size_of_subs, struct_sizes};
 
 /// Judges the parts of a description set: `Ok` exactly where they are well formed, and else the first place at which a
 /// rule fails with the lowest rule that fails there, unless memory is wanting.
@@ -73,19 +73,8 @@ fn devices_items(sizes: &[u32], devices: &[Device]) -> u32
     let mut sum: u32 = 0;
     for device in devices {
         let own = size_of_fields(Measure::Items, sizes, device.desc.fields.as_slice());
-        let subs = subs_items(sizes, device.subs.as_slice());
+        let subs = size_of_subs(Measure::Items, sizes, device.subs.as_slice());
         sum = sum.saturating_add(own).saturating_add(subs);
-    }
-    sum
-}
-
-fn subs_items(sizes: &[u32], subs: &[Sub]) -> u32
-    ensures { result ≡ in_u32 (subs_items sizes.now (map sub_of subs.now)) }
-{
-    let mut sum: u32 = 0;
-    for sub in subs {
-        let own = size_of_fields(Measure::Items, sizes, sub.desc.fields.as_slice());
-        sum = sum.saturating_add(own);
     }
     sum
 }

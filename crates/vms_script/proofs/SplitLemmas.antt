@@ -2,7 +2,8 @@
 use Rattle.std.proofs.Common.{◌≡◌, ℕ, zero, suc, ◌+◌, ◌<◌, ◌≤◌, Bool, List, [], ◌∷◌, length, get_or, take, drop, Option, Some, None, if◌then◌else◌, refl, sym, ap, ◌∙◌, subst, arith, ⊎_elim}
 use Rattle.std.proofs.lemmas.Bool.{cases_lt, ne_eqb, eq-eqb, eqb-true}
 use Rattle.memchr.specs.Find.{Nowhere, NoneBefore, Passes, is_byte}
-use Rattle.vms_spec.specs.Spelling.{first_line, longer_line}
+use Rattle.vms_spec.specs.Spelling.{first_line}
+use Rattle.vms_texts.proofs.FirstLine.{line_at, no_line_in}
 use Rattle.vms_script.specs.Splits.{IsFirstLine}
 use Rattle.vms_script.specs.Words.{first_word, longer_word}
 use Rattle.vms_script.specs.declared.split.NextLine.{NextLine}
@@ -10,19 +11,6 @@ use Rattle.vms_script.specs.declared.split.NextLine.{NextLine}
 -- a byte stands at a place, and not before it
 abbrev pub NotBefore : ℕ → List ℕ → ℕ → Type 0
 NotBefore byte xs i = (k : ℕ) → k < i → get_or xs k 0 ≡ byte → ⊥
-
-line_at : (xs : List ℕ) (i : ℕ) → i < length xs → get_or xs i 0 ≡ 10 → NotBefore 10 xs i → first_line xs ≡ Some (take i xs, drop (suc i) xs)
-line_at [] i lt is before = absurd (omega arith)
-line_at (b ∷ xs) zero lt is before = ap (λ (t : Bool). if t then Some ([], xs) else longer_line b (first_line xs)) (eq-eqb b 10 is)
-line_at (b ∷ xs) (suc i) lt is before =
-    ap (λ (t : Bool). if t then Some ([], xs) else longer_line b (first_line xs)) (ne_eqb b 10 (before 0 (omega arith)))
-    ∙ ap (longer_line b) (line_at xs i (omega arith) is (λ k h. before (suc k) (omega arith)))
-
-no_line_in : (xs : List ℕ) → NotBefore 10 xs (length xs) → first_line xs ≡ None
-no_line_in [] none = refl
-no_line_in (b ∷ xs) none =
-    ap (λ (t : Bool). if t then Some ([], xs) else longer_line b (first_line xs)) (ne_eqb b 10 (none 0 (omega arith)))
-    ∙ ap (longer_line b) (no_line_in xs (λ k h. none (suc k) (omega arith)))
 
 pub found_line : (xs : List ℕ) (i : ℕ) (line : NextLine) → NoneBefore (Passes (is_byte 10) xs) 0 (length xs) i → Passes (is_byte 10) xs i
     → line.text.now ≡ take i xs → line.after.now ≡ drop (i + 1) xs → IsFirstLine (first_line xs) (Some line)

@@ -4,7 +4,7 @@ use Rattle.vms_spec.specs.declared.Part.{Part}
 use Rattle.vms_spec.specs.declared.Part.TheVariants as parts
 use Rattle.vms_spec.specs.Sets.{Set}
 use Rattle.vms_spec.specs.Layout.{Cell, first, no_desc, desc_cells, struct_cells}
-use Rattle.vms_parts.proofs.Tables.{first_at}
+use Rattle.vms_spec.proofs.Tables.{first_at}
 use Rattle.vms_elements.specs.Elements.{Shape, no_shape, shape, shapes, cells_in}
 use Rattle.vms_elements.specs.Parts.{elements_in}
 use Rattle.vms_elements.proofs.Tables.{shapes_cells}

@@ -15,7 +15,7 @@ use Rattle.vms_spec.specs.Tests.{is_there}
 use Rattle.vms_spec.specs.Layout.{Cell, no_desc, no_parent, first, item_size, capacity_of, elements_of, numbers_of}
 use Rattle.vms_spec.specs.WellFormed.{item_count, items_in, item_depth, deepest}
 use Rattle.vms_spec.proofs.Sizes.{elements_fit}
-use Rattle.vms_parts.proofs.Tables.{first_at, first_long}
+use Rattle.vms_spec.proofs.Tables.{first_at, first_long}
 use Rattle.vms_words.specs.Words.{kind_word}
 use Rattle.vms_selfdesc.specs.Entries.{Entry, Lister, no_lister, sent_entry, listed_if, item_entries, element_path, element_entries, array_entries, field_entries, entries_from, desc_entries}
 use Rattle.vms_selfdesc.specs.Tree.{entry_tree}

@@ -18,11 +18,11 @@ use Rattle.vms_spec.specs.Layout.{no_desc, counted}
 use Rattle.vms_spec.specs.Names.{is_name}
 use Rattle.vms_spec.specs.Rules.{int_le, in_range, defaults_well, counts_well, is_small_item, is_small_optional, field_rules}
 use Rattle.vms_spec.specs.WellFormed.{failing, in_field, struct_depths, struct_rules, has_few, deepest}
-use Rattle.vms_parts.proofs.Tables.{first_long}
+use Rattle.vms_spec.proofs.Tables.{first_long}
 use Rattle.vms_rules.proofs.StructLaws.{deepest_small}
 use Rattle.vms_desc.specs.Formed.{is_well_formed}
 use Rattle.vms_desc.specs.Parts.{HasPart, desc_at}
-use Rattle.vms_desc.proofs.Bounds.{AllTrue, all_true, or_else_none}
+use Rattle.vms_spec.proofs.Faultless.{AllTrue, all_true, or_else_none}
 use Rattle.vms_desc.proofs.Clean.{reach}
 use Rattle.vms_selfdesc.proofs.Fits.{IsSmall, IsSoundField, AreSound}
 use Rattle.vms_selfdesc.proofs.Plain.{name_short}

@@ -9,7 +9,7 @@ use Rattle.vms_spec.specs.Sets.{Field, Desc, Set}
 use Rattle.vms_spec.specs.Rules.{uses_below}
 use Rattle.vms_spec.specs.Tests.{is_there}
 use Rattle.vms_spec.specs.Layout.{Cell, no_desc, no_field, no_parent, first, times, item_cells, item_size, field_cells, cells_from, desc_cells, struct_cells, capacity_of, counted, elements_of, numbers_of, place_of, kind_of}
-use Rattle.vms_parts.proofs.Tables.{first_at}
+use Rattle.vms_spec.proofs.Tables.{first_at}
 use Rattle.vms_selfdesc.specs.Entries.{Entry, Lister, no_lister, item_entries, array_entries, field_entries, entries_from, desc_entries, listers}
 
 -- each field that is a structure has one of a number below k

@@ -1,11 +1,12 @@
 // The entries of elements.
-ghost use Rattle.std.specs.Prelude.{◌≡◌, [], ◌∷◌, true, pos, OnOk, string_bytes};
-ghost use Rattle.vms_selfdesc.specs.Drafts.{IsPlain, PutsSize, cell_tail};
+ghost use Rattle.std.specs.Prelude.{◌≡◌, [], ◌∷◌, ◌++◌, true, pos, codes, OnOk, string_bytes};
+ghost use Rattle.serde_json.specs.Written.{comma_if};
+ghost use Rattle.vms_selfdesc.specs.Drafts.{Begins, IsPlain, PutsSize, cell_tail};
 ghost use Rattle.vms_selfdesc.specs.Entries.{cell_entry, sent_entry, absent_entry};
 ghost use Rattle.vms_selfdesc.specs.Listing.{Lists};
 ghost use Rattle.vms_selfdesc.specs.Needs.{IsWide};
 
-use crate::draft::{Draft, begin, put_integer, put_natural, put_text};
+use crate::draft::{Draft, put_integer, put_natural, put_text};
 use std::alloc::AllocError;
 use vms_kinds::Kind;
 use vms_words::kind_word;
@@ -28,13 +29,32 @@ fn cell_tail(kind: Kind) -> &'static str
     }
 }
 
+// What begins an entry, after another or as the first.
+fn entry_front(later: bool) -> &'static str
+    ensures { result.now ≡ comma_if later ++ codes "{\"name\":\"" }
+{
+    if later {
+        ",{\"name\":\""
+    } else {
+        "{\"name\":\""
+    }
+}
+
+// Begins an entry, up to its path.
+fn begin_entry(draft: &mut Draft) -> Result<(), AllocError>
+    ensures { OnOk result (Begins draft.old draft.new (codes "{\"name\":\"")) }
+{
+    draft.text.push_str(entry_front(draft.later))?;
+    Ok(())
+}
+
 // A cell that stands in the stream.
 fn write_present(draft: &mut Draft, kind: Kind) -> Result<(), AllocError>
     requires { IsPlain (string_bytes draft.old.path) }
     ensures { let entry = cell_entry true (string_bytes draft.old.path) kind (pos 0) in
         OnOk result (Lists draft.old draft.new (entry ∷ [])) }
 {
-    begin(draft, "{\"name\":\"")?;
+    begin_entry(draft)?;
     draft.text.push_str(draft.path.as_str())?;
     draft.text.push_str(cell_tail(kind))?;
     draft.later = true;
@@ -58,7 +78,7 @@ pub(crate) fn write_sent(draft: &mut Draft, size: u64, word: &str) -> Result<(),
     ensures { let entry = sent_entry (string_bytes draft.old.path) size word.now in
         OnOk result (Lists draft.old draft.new (entry ∷ [])) }
 {
-    begin(draft, "{\"name\":\"")?;
+    begin_entry(draft)?;
     draft.text.push_str(draft.path.as_str())?;
     draft.text.push_str("\"")?;
     put_size(&mut draft.text, size, word)?;
@@ -74,7 +94,7 @@ fn write_absent(draft: &mut Draft, word: &str, default: i128) -> Result<(), Allo
     ensures { let entry = absent_entry (string_bytes draft.old.path) word.now default in
         OnOk result (Lists draft.old draft.new (entry ∷ [])) }
 {
-    begin(draft, "{\"name\":\"")?;
+    begin_entry(draft)?;
     draft.text.push_str(draft.path.as_str())?;
     draft.text.push_str("\"")?;
     put_size(&mut draft.text, 0, word)?;

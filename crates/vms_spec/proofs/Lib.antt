@@ -2,6 +2,8 @@ pub mod KindLaws
 pub mod Rows
 pub mod Boxes
 pub mod Sizes
+pub mod Tables
+pub mod Faultless
 mod PlaceRows
 mod WellFormedRows
 mod ReadyRows

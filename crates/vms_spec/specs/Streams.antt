@@ -1,6 +1,6 @@
 -- Streams: which bytes are a stream of a set, what an input takes, and which stream the writer gives. Bytes are numbers
 -- below 256; the definitions don't ask it, since an input has no others.
-use Rattle.std.specs.Prelude.{◌≡◌, ℕ, suc, ◌+◌, ◌<◌, ◌≤◌, Bool, true, false, List, [], ◌∷◌, ◌++◌, length, Option, Some, None, ◌||◌, map, slice_set}
+use Rattle.std.specs.Prelude.{◌≡◌, ℕ, suc, ◌+◌, ◌≤◌, Bool, true, false, List, [], ◌∷◌, ◌++◌, length, Option, Some, None, ◌||◌, slice_set}
 use Rattle.std.specs.Str.{bytes_eq}
 use Rattle.byteorder.specs.Endian.{big_bytes}
 use Rattle.vms_spec.specs.Sets.{Sub, Device, Set}

@@ -103,7 +103,7 @@ impl Buffer {
         let spot = self.spots[cell as usize];
         let offset = spot.offset as usize;
         let end = spot.end() as usize;
-        self.bytes[offset..end].copy_from_slice(spot.kind.put(value).as_slice());
+        spot.kind.write(value, &mut self.bytes[offset..end]);
     }
 
     /// The bytes: the code of each number at its spot, and 0 elsewhere.

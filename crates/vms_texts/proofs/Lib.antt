@@ -1,2 +1,3 @@
+pub mod FirstLine
 pub mod Lines
 pub mod Spells

@@ -6,18 +6,19 @@ use Rattle.vms_spec.specs.Layout.{no_desc, Cell, Meaning, meanings, field_cells,
 use Rattle.vms_spec.specs.declared.Part.{Part}
 use Rattle.vms_spec.specs.declared.Part.TheVariants as parts
 use Rattle.vms_spec.specs.Rules.{is_steady_in}
-use Rattle.vms_parts.proofs.Tables.{first_at, first_long}
+use Rattle.vms_spec.proofs.Tables.{first_at, first_long}
 use Rattle.vms_check.specs.Reducing.{presence}
 use Rattle.vms_check.specs.Comparing.{Entry, entry_of, present_from, present, position_from, Comparer, no_comparer, comparer_of, comparers, compare_desc, compare_fields, compare_validations}
 use Rattle.vms_check.specs.Carrying.{Carrier, no_carrier, carrier_of, carriers, carry_desc}
 use Rattle.vms_upgrade.specs.Segments.{FitsAt}
 use Rattle.vms_upgrade.proofs.Segments.{fits_at, fits_left, fits_right}
-use Rattle.vms_upgrade.proofs.Pairing.{cells_in, or_else_none, AreKnown, all_known}
+use Rattle.vms_spec.proofs.Faultless.{or_else_none}
+use Rattle.vms_upgrade.proofs.Pairing.{cells_in, AreKnown, all_known}
 use Rattle.vms_upgrade.proofs.Linking.{zip_of}
 use Rattle.vms_upgrade.proofs.Premises.{OldGood, OldFields, NewGood, NewFields}
 use Rattle.vms_upgrade.proofs.Prefixes.{struct_cells_at}
 use Rattle.vms_upgrade.proofs.Counts.{old_fields}
-use Rattle.vms_upgrade.proofs.Structures.{OldStructs, NewStructs, new_below, plain_below, plains_further}
+use Rattle.vms_upgrade.proofs.Structures.{OldStructs, NewStructs, new_below, plain_below, plains_further, comparer_last, comparer_earlier, carrier_last, carrier_earlier}
 use Rattle.vms_upgrade.proofs.Bounds.{indexed, present_increasing, OldStand, NewSingle}
 use Rattle.vms_upgrade.proofs.Fitting.{FitCells, GoodCells, good_fields, DefaultsGood, FitTable, OldReady, follow_all, fit_from}
 
@@ -111,24 +112,6 @@ module _ (olds news : List Desc) (numbers : List ℤ) (old : OldStructs olds) (n
   abbrev new_at : ℕ → Desc
   new_at j = get_or news j no_desc
 
-  comparer_last : (k : ℕ) → get_or (ks (suc k)) k no_comparer ≡ comparer_of (ks k) xs ys olds k (new_at k)
-  comparer_last k =
-      let row = λ (earlier : List Comparer) (d : Desc). comparer_of earlier xs ys olds (length earlier) d in
-      first_at row news no_comparer (suc k) k (omega arith) ∙ ap (λ (q : ℕ). comparer_of (ks k) xs ys olds q (new_at k)) (first_long row news k)
-
-  comparer_earlier : (k j : ℕ) → j < k → get_or (ks (suc k)) j no_comparer ≡ get_or (ks k) j no_comparer
-  comparer_earlier k j h =
-      let row = λ (earlier : List Comparer) (d : Desc). comparer_of earlier xs ys olds (length earlier) d in
-      first_at row news no_comparer (suc k) j (omega arith) ∙ sym (first_at row news no_comparer k j h)
-
-  carrier_last : (k : ℕ) → get_or (cs (suc k)) k no_carrier ≡ carrier_of (cs k) xs ys olds (new_at k)
-  carrier_last k = first_at (λ (earlier : List Carrier) (d : Desc). carrier_of earlier xs ys olds d) news no_carrier (suc k) k (omega arith)
-
-  carrier_earlier : (k j : ℕ) → j < k → get_or (cs (suc k)) j no_carrier ≡ get_or (cs k) j no_carrier
-  carrier_earlier k j h =
-      let row = λ (earlier : List Carrier) (d : Desc). carrier_of earlier xs ys olds d in
-      first_at row news no_carrier (suc k) j (omega arith) ∙ sym (first_at row news no_carrier k j h)
-
   abbrev Fits : ℕ → ℕ → ℕ → Type 0
   Fits k i j = get_or (ks k) j no_comparer i ≡ None → (p : ℕ) → FitsAt (get_or xs i []) numbers p → FitCells (get_or ys j []) (get_or (cs k) j no_carrier i numbers p)
 
@@ -144,18 +127,18 @@ module _ (olds news : List Desc) (numbers : List ℤ) (old : OldStructs olds) (n
       let b = new_at k in
       let below_a = plain_below i a.fields a.fields (old i lt_i).fields in
       let below_b = new_below k (is_steady_in b) b.fields (new k lt).fields in
-      let none' : compare_desc (ks k) xs ys a b a.version b.version (parts.Struct i) (parts.Struct k) ≡ None = subst (λ (c : Comparer). c i ≡ None) (comparer_last k) none in
+      let none' : compare_desc (ks k) xs ys a b a.version b.version (parts.Struct i) (parts.Struct k) ≡ None = subst (λ (c : Comparer). c i ≡ None) (comparer_last xs ys olds news k) none in
       let fits' : FitsAt (desc_cells xs a) numbers p = subst (λ (l : List Cell). FitsAt l numbers p) (struct_cells_at olds (length olds) i lt_i below_a) fits in
       let plain = plains_further i (length olds) a.fields a.fields (omega arith) (old i lt_i).fields in
       let done = desc_fits (ks k) (cs k) ms ys a b a.version b.version (parts.Struct i) (parts.Struct k) numbers p (length olds) k table none'
       (old_fields xs (length olds) a.fields numbers p fits' a.fields (λ by most h. h) plain) (new k lt).fields (defaults_good k lt) fits' in
       subst (λ (l : List Cell). FitCells l (get_or (cs (suc k)) k no_carrier i numbers p)) (sym (struct_cells_at news (length news) k lt below_b))
-      (subst (λ (c : Carrier). FitCells (desc_cells ys b) (c i numbers p)) (sym (carrier_last k)) done)
+      (subst (λ (c : Carrier). FitCells (desc_cells ys b) (c i numbers p)) (sym (carrier_last xs ys olds news k)) done)
 
   fits_earlier : (k : ℕ) → KnownFits k → (i j : ℕ) → i < length olds → j < k → Fits (suc k) i j
   fits_earlier k table i j lt_i lt_j none p fits =
-      subst (λ (c : Carrier). FitCells (get_or ys j []) (c i numbers p)) (sym (carrier_earlier k j lt_j))
-      (table.fits i j lt_i lt_j (subst (λ (c : Comparer). c i ≡ None) (comparer_earlier k j lt_j) none) p fits)
+      subst (λ (c : Carrier). FitCells (get_or ys j []) (c i numbers p)) (sym (carrier_earlier xs ys olds news k j lt_j))
+      (table.fits i j lt_i lt_j (subst (λ (c : Comparer). c i ≡ None) (comparer_earlier xs ys olds news k j lt_j) none) p fits)
 
   fits_next : (k : ℕ) → k < length news → KnownFits k → (i j : ℕ) → i < length olds → j < suc k → Fits (suc k) i j
   fits_next k lt table i j lt_i lt_j =

@@ -12,7 +12,8 @@ use Rattle.vms_spec.specs.Sets.{Formula, AtLeast, Below, Cell, Not, And, Or, Fie
 use Rattle.vms_spec.specs.Layout.{no_desc, counted}
 use Rattle.vms_spec.specs.Rules.{names_well, nobody, is_steady, is_steady_in, is_earlier_in, test_names_well, count_names_well, is_counting, uses_below, defaults_well, counts_well, has_good_count, field_rules, validation_rules}
 use Rattle.vms_spec.specs.WellFormed.{WellFormed, struct_rules, device_rules, sub_rules}
-use Rattle.vms_laws.proofs.WellFormedLaws.{AllTrue, Clean, ranges, within, struct_clean, device_parts, sub_clean}
+use Rattle.vms_spec.proofs.Faultless.{AllTrue}
+use Rattle.vms_laws.proofs.WellFormedLaws.{Clean, ranges, within, struct_clean, device_parts, sub_clean}
 use Rattle.vms_upgrade.proofs.SameTests.{NamedRest}
 use Rattle.vms_upgrade.proofs.Linking.{ItemBelow}
 use Rattle.vms_upgrade.proofs.Describing.{steady}

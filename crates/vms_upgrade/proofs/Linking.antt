@@ -15,7 +15,8 @@ use Rattle.vms_check.specs.Carrying.{Carrier, no_carrier, defaults, carry_item, 
 use Rattle.vms_upgrade.specs.Segments.{Holds}
 use Rattle.vms_upgrade.proofs.Segments.{holds_left, holds_right, holds_at}
 use Rattle.vms_spec.proofs.Sizes.{size_same, field_size}
-use Rattle.vms_upgrade.proofs.Pairing.{or_else_none, first_good}
+use Rattle.vms_spec.proofs.Faultless.{or_else_none}
+use Rattle.vms_upgrade.proofs.Pairing.{first_good}
 
 -- ---- pairs
 

@@ -16,10 +16,6 @@ use Rattle.vms_upgrade.proofs.Segments.{fits_left, fits_right, fits_at}
 
 -- ---- tools
 
-pub or_else_none : {A : Type 0} (x y : Option A) → or_else x y ≡ None → (x ≡ None) × (y ≡ None)
-or_else_none None y h = (refl, h)
-or_else_none (Some z) y h = cc
-
 pub first_good : (r : ℕ) (x : Bool) (rules : List (ℕ × Bool)) (p q : Place) → failing_pair ((r, x) ∷ rules) p q ≡ None → (x ≡ true) × (failing_pair rules p q ≡ None)
 first_good r true rules p q h = (refl, h)
 first_good r false rules p q h = cc

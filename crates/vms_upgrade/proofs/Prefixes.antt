@@ -8,7 +8,7 @@ use Rattle.vms_kinds.specs.Codes.{width, residue}
 use Rattle.vms_spec.specs.Sets.{Field, Desc}
 use Rattle.vms_spec.specs.Tests.{is_there}
 use Rattle.vms_spec.specs.Layout.{Cell, Slot, Rule, Meaning, no_desc, no_field, no_parent, no_meaning, meaning, meanings, times, counted, capacity_of, item_cells, field_cells, cells_from, desc_cells, elements_of, item_slots, slots_from, desc_slots, numbers_of, place_of, kind_of, all_hold}
-use Rattle.vms_parts.proofs.Tables.{first_at}
+use Rattle.vms_spec.proofs.Tables.{first_at}
 use Rattle.vms_upgrade.proofs.Linking.{ItemBelow, FieldsBelow}
 use Rattle.vms_upgrade.proofs.Pairing.{cells_in}
 

@@ -17,7 +17,8 @@ use Rattle.vms_check.specs.Comparing.{Compatible, failing_pair, first_mismatch, 
 use Rattle.vms_check.specs.Carrying.{carried, carried_device, carried_at, no_image}
 use Rattle.vms_laws.proofs.WellFormedLaws.{device_found}
 use Rattle.vms_upgrade.specs.Laws.{ArePaired, DeviceLaw}
-use Rattle.vms_upgrade.proofs.Pairing.{or_else_none, first_good}
+use Rattle.vms_spec.proofs.Faultless.{or_else_none}
+use Rattle.vms_upgrade.proofs.Pairing.{first_good}
 use Rattle.vms_upgrade.proofs.Orders.{Among, NotIn, Apart, Wait, each_comes}
 use Rattle.vms_upgrade.proofs.SubFacts.{none_at, saved}
 use Rattle.vms_upgrade.proofs.Wholes.{section_whole}

@@ -8,7 +8,7 @@ use Rattle.vms_spec.specs.Sets.{Formula, Field, Desc}
 use Rattle.vms_spec.specs.Layout.{no_desc, Cell, Slot, Meaning, no_meaning, meanings, field_cells, cells_from, desc_cells, desc_slots, numbers_of}
 use Rattle.vms_spec.specs.declared.Part.TheVariants as parts
 use Rattle.vms_spec.specs.Rules.{is_steady_in}
-use Rattle.vms_parts.proofs.Tables.{first_at, first_long}
+use Rattle.vms_spec.proofs.Tables.{first_at, first_long}
 use Rattle.vms_check.specs.Reducing.{presence}
 use Rattle.vms_check.specs.Comparing.{Entry, present, Comparer, no_comparer, comparer_of, comparers, compare_desc}
 use Rattle.vms_check.specs.Carrying.{Carrier, no_carrier, carrier_of, carriers, carry_desc, carry_from, carry_next, entries_left}
@@ -52,6 +52,27 @@ OldStructs olds = (i : ℕ) → i < length olds → OldStruct i (get_or olds i n
 
 abbrev pub NewStructs : List Desc → Type 0
 NewStructs news = (j : ℕ) → j < length news → NewStruct j (get_or news j no_desc)
+
+-- ---- the rows of the tables, one more and the earlier ones
+
+module _ (x y : List (List Cell)) (olds news : List Desc) where
+  pub comparer_last : (k : ℕ) → get_or (comparers x y olds news (suc k)) k no_comparer ≡ comparer_of (comparers x y olds news k) x y olds k (get_or news k no_desc)
+  comparer_last k =
+      let row = λ (earlier : List Comparer) (d : Desc). comparer_of earlier x y olds (length earlier) d in
+      first_at row news no_comparer (suc k) k (omega arith) ∙ ap (λ (q : ℕ). comparer_of (comparers x y olds news k) x y olds q (get_or news k no_desc)) (first_long row news k)
+
+  pub comparer_earlier : (k j : ℕ) → j < k → get_or (comparers x y olds news (suc k)) j no_comparer ≡ get_or (comparers x y olds news k) j no_comparer
+  comparer_earlier k j h =
+      let row = λ (earlier : List Comparer) (d : Desc). comparer_of earlier x y olds (length earlier) d in
+      first_at row news no_comparer (suc k) j (omega arith) ∙ sym (first_at row news no_comparer k j h)
+
+  pub carrier_last : (k : ℕ) → get_or (carriers x y olds news (suc k)) k no_carrier ≡ carrier_of (carriers x y olds news k) x y olds (get_or news k no_desc)
+  carrier_last k = first_at (λ (earlier : List Carrier) (d : Desc). carrier_of earlier x y olds d) news no_carrier (suc k) k (omega arith)
+
+  pub carrier_earlier : (k j : ℕ) → j < k → get_or (carriers x y olds news (suc k)) j no_carrier ≡ get_or (carriers x y olds news k) j no_carrier
+  carrier_earlier k j h =
+      let row = λ (earlier : List Carrier) (d : Desc). carrier_of earlier x y olds d in
+      first_at row news no_carrier (suc k) j (omega arith) ∙ sym (first_at row news no_carrier k j h)
 
 module _ (olds news : List Desc) (numbers numbers' : List ℤ) where
   abbrev ms : List Meaning
@@ -109,35 +130,17 @@ module _ (olds news : List Desc) (numbers numbers' : List ℤ) where
     abbrev new_at : ℕ → Desc
     new_at j = get_or news j no_desc
 
-    comparer_last : (k : ℕ) → get_or (ks (suc k)) k no_comparer ≡ comparer_of (ks k) x y olds k (new_at k)
-    comparer_last k =
-        let row = λ (earlier : List Comparer) (d : Desc). comparer_of earlier x y olds (length earlier) d in
-        first_at row news no_comparer (suc k) k (omega arith) ∙ ap (λ (q : ℕ). comparer_of (ks k) x y olds q (new_at k)) (first_long row news k)
-
-    comparer_earlier : (k j : ℕ) → j < k → get_or (ks (suc k)) j no_comparer ≡ get_or (ks k) j no_comparer
-    comparer_earlier k j h =
-        let row = λ (earlier : List Comparer) (d : Desc). comparer_of earlier x y olds (length earlier) d in
-        first_at row news no_comparer (suc k) j (omega arith) ∙ sym (first_at row news no_comparer k j h)
-
-    carrier_last : (k : ℕ) → get_or (cs (suc k)) k no_carrier ≡ carrier_of (cs k) x y olds (new_at k)
-    carrier_last k = first_at (λ (earlier : List Carrier) (d : Desc). carrier_of earlier x y olds d) news no_carrier (suc k) k (omega arith)
-
-    carrier_earlier : (k j : ℕ) → j < k → get_or (cs (suc k)) j no_carrier ≡ get_or (cs k) j no_carrier
-    carrier_earlier k j h =
-        let row = λ (earlier : List Carrier) (d : Desc). carrier_of earlier x y olds d in
-        first_at row news no_carrier (suc k) j (omega arith) ∙ sym (first_at row news no_carrier k j h)
-
     sized_next : (k : ℕ) → k < length news → KnownTable k → (j i p : ℕ) → j < suc k → length (get_or (cs (suc k)) j no_carrier i numbers p) ≡ length (get_or y j [])
     sized_next k lt table j i p h =
         let le : j ≤ k = omega arith in
         let below = new_below k (is_steady_in (new_at k)) (new_at k).fields (new k lt).fields in
         let last : length (get_or (cs (suc k)) k no_carrier i numbers p) ≡ length (get_or y k []) =
-        ap (λ (c : Carrier). length (c i numbers p)) (carrier_last k)
+        ap (λ (c : Carrier). length (c i numbers p)) (carrier_last x y olds news k)
         ∙ carry_desc_size k table (old_at i) (new_at k) (old_at i).version (new_at k).version p below
         ∙ sym (ap (λ (l : List Cell). length l) (struct_cells_at news (length news) k lt below)) in
         let go : (j ≡ k) ⊎ (j < k) → length (get_or (cs (suc k)) j no_carrier i numbers p) ≡ length (get_or y j []) = elim [
           | inl same ↦ subst (λ (q : ℕ). length (get_or (cs (suc k)) q no_carrier i numbers p) ≡ length (get_or y q [])) (sym same) last
-          | inr less ↦ ap (λ (c : Carrier). length (c i numbers p)) (carrier_earlier k j less) ∙ table.sized j i p less
+          | inr less ↦ ap (λ (c : Carrier). length (c i numbers p)) (carrier_earlier x y olds news k j less) ∙ table.sized j i p less
         ] in
         go (eq-or-lt_of_le le)
 
@@ -152,9 +155,9 @@ module _ (olds news : List Desc) (numbers numbers' : List ℤ) where
         let below_a = plain_below i a.fields a.fields (old i lt_i).fields in
         let below_b = new_below k (is_steady_in b) b.fields (new k lt).fields in
         let none' : compare_desc (ks k) x y a b a.version b.version (parts.Struct i) (parts.Struct k) ≡ None =
-        subst (λ (c : Comparer). c i ≡ None) (comparer_last k) none in
+        subst (λ (c : Comparer). c i ≡ None) (comparer_last x y olds news k) none in
         let fits' : FitsAt (desc_cells x a) numbers p = subst (λ (l : List Cell). FitsAt l numbers p) (struct_cells_at olds (length olds) i lt_i below_a) fits in
-        let held' : Holds numbers' q (carry_desc (cs k) x y numbers a.version b.version a b p) = subst (λ (c : Carrier). Holds numbers' q (c i numbers p)) (carrier_last k) held in
+        let held' : Holds numbers' q (carry_desc (cs k) x y numbers a.version b.version a b p) = subst (λ (c : Carrier). Holds numbers' q (c i numbers p)) (carrier_last x y olds news k) held in
         let plain = plains_further i (length olds) a.fields a.fields (omega arith) (old i lt_i).fields in
         let done = desc_carries (ks k) (cs k) ms ns a b a.version b.version (parts.Struct i) (parts.Struct k) numbers numbers' p q (length olds) k table none'
         (old_fields x (length olds) a.fields numbers p fits' a.fields (λ by most h. h) plain) (new k lt).fields (new k lt).rules fits' held' in
@@ -163,8 +166,8 @@ module _ (olds news : List Desc) (numbers numbers' : List ℤ) where
 
     carried_earlier : (k : ℕ) → KnownTable k → (i j : ℕ) → i < length olds → j < k → Carried (suc k) i j
     carried_earlier k table i j lt_i lt_j none p q fits held =
-        table.carried i j lt_i lt_j (subst (λ (c : Comparer). c i ≡ None) (comparer_earlier k j lt_j) none) p q fits
-        (subst (λ (c : Carrier). Holds numbers' q (c i numbers p)) (carrier_earlier k j lt_j) held)
+        table.carried i j lt_i lt_j (subst (λ (c : Comparer). c i ≡ None) (comparer_earlier x y olds news k j lt_j) none) p q fits
+        (subst (λ (c : Carrier). Holds numbers' q (c i numbers p)) (carrier_earlier x y olds news k j lt_j) held)
 
     carried_next : (k : ℕ) → k < length news → KnownTable k → (i j : ℕ) → i < length olds → j < suc k → Carried (suc k) i j
     carried_next k lt table i j lt_i lt_j =
@@ -197,22 +200,22 @@ module _ (olds news : List Desc) (numbers numbers' : List ℤ) where
         let below_a = plain_below i a.fields a.fields (old i lt_i).fields in
         let below_b = new_below k (is_steady_in b) b.fields (new k lt).fields in
         let none' : compare_desc (ks k) x y a b a.version b.version (parts.Struct i) (parts.Struct k) ≡ None =
-        subst (λ (c : Comparer). c i ≡ None) (comparer_last k) none in
+        subst (λ (c : Comparer). c i ≡ None) (comparer_last x y olds news k) none in
         let fits' : FitsAt (desc_cells x a) numbers p = subst (λ (l : List Cell). FitsAt l numbers p) (struct_cells_at olds (length olds) i lt_i below_a) fits in
         let carried = carry_desc (cs k) x y numbers a.version b.version a b p in
-        let held' : Holds numbers' q carried = subst (λ (c : Carrier). Holds numbers' q (c i numbers p)) (carrier_last k) held in
+        let held' : Holds numbers' q carried = subst (λ (c : Carrier). Holds numbers' q (c i numbers p)) (carrier_last x y olds news k) held in
         let plain = plains_further i (length olds) a.fields a.fields (omega arith) (old i lt_i).fields in
         let done = desc_settles (ks k) (cs k) ms ns a b a.version b.version (parts.Struct i) (parts.Struct k) numbers numbers' p q (length olds) k table rows none'
         (old_fields x (length olds) a.fields numbers p fits' a.fields (λ by most h. h) plain) (new k lt).fields fits' held' in
-        subst (λ (c : Carrier). Settled ((get_or ns k no_meaning).slots numbers' q) q (get_or y k []) (c i numbers p)) (sym (carrier_last k))
+        subst (λ (c : Carrier). Settled ((get_or ns k no_meaning).slots numbers' q) q (get_or y k []) (c i numbers p)) (sym (carrier_last x y olds news k))
         (subst (λ (l : List Cell). Settled ((get_or ns k no_meaning).slots numbers' q) q l carried) (sym (struct_cells_at news (length news) k lt below_b))
         (subst (λ (l : List Slot). Settled l q (desc_cells y b) carried) (sym (struct_slots news (length news) k numbers' q lt below_b)) done))
 
     row_earlier : (k : ℕ) → KnownRows k → (i j : ℕ) → i < length olds → j < k → Row (suc k) i j
     row_earlier k rows i j lt_i lt_j none p q fits held =
-        subst (λ (c : Carrier). Settled ((get_or ns j no_meaning).slots numbers' q) q (get_or y j []) (c i numbers p)) (sym (carrier_earlier k j lt_j))
-        (rows i j lt_i lt_j (subst (λ (c : Comparer). c i ≡ None) (comparer_earlier k j lt_j) none) p q fits
-        (subst (λ (c : Carrier). Holds numbers' q (c i numbers p)) (carrier_earlier k j lt_j) held))
+        subst (λ (c : Carrier). Settled ((get_or ns j no_meaning).slots numbers' q) q (get_or y j []) (c i numbers p)) (sym (carrier_earlier x y olds news k j lt_j))
+        (rows i j lt_i lt_j (subst (λ (c : Comparer). c i ≡ None) (comparer_earlier x y olds news k j lt_j) none) p q fits
+        (subst (λ (c : Carrier). Holds numbers' q (c i numbers p)) (carrier_earlier x y olds news k j lt_j) held))
 
     row_next : (k : ℕ) → k < length news → KnownTable k → KnownRows k → (i j : ℕ) → i < length olds → j < suc k → Row (suc k) i j
     row_next k lt table rows i j lt_i lt_j =

@@ -19,7 +19,8 @@ use Rattle.vms_laws.proofs.WellFormedLaws.{sub_found}
 use Rattle.vms_upgrade.specs.Laws.{IsSaved}
 use Rattle.vms_upgrade.specs.Segments.{FitsAt}
 use Rattle.vms_upgrade.proofs.Segments.{fits_left, fits_right, rules_left, rules_right}
-use Rattle.vms_upgrade.proofs.Pairing.{or_else_none, first_good}
+use Rattle.vms_spec.proofs.Faultless.{or_else_none}
+use Rattle.vms_upgrade.proofs.Pairing.{first_good}
 use Rattle.vms_upgrade.proofs.Good.{sub_good}
 use Rattle.vms_upgrade.proofs.Parts.{good_cells}
 use Rattle.vms_upgrade.proofs.Subsections.{Came, Stayed, Facts}

@@ -15,48 +15,16 @@ use Rattle.vms_spec.specs.Streams.{IsConfiguration, IsTrailer, configuration, tr
 use Rattle.vms_spec.specs.WellFormed.{WellFormed, failing, first_fault, here, set_rules}
 use Rattle.vms_check.specs.Comparing.{Compatible}
 use Rattle.vms_check.specs.Carrying.{carried, no_image}
-use Rattle.vms_laws.proofs.WellFormedLaws.{AllTrue}
+use Rattle.vms_spec.proofs.Faultless.{every_one, machine_short, few_devices}
 use Rattle.vms_upgrade.specs.Laws.{UpgradeLaw}
-use Rattle.vms_upgrade.proofs.Pairing.{or_else_none}
 use Rattle.vms_upgrade.proofs.Streaming.{device_order, rules, spell, each_once}
-
-all_true : (r : ℕ) (rules : List Bool) (p : Place) → failing r rules p ≡ None → AllTrue rules
-all_true r [] p h = tt
-all_true r (true ∷ rules) p h = (refl, all_true (suc r) rules p h)
-all_true r (false ∷ rules) p h = absurd (cc)
-
--- what holds of all names holds of one of them
-every_one : (p : List ℕ → Bool) (names : List (List ℕ)) (name : List ℕ) → every p names ≡ true → is_one_of names name ≡ true → p name ≡ true
-every_one p [] name h e = absurd (cc)
-every_one p (n ∷ names) name h e =
-    let both = and_parts (p n) (every p names) h in
-    let choice : (c : Bool) → bytes_eq n name ≡ c → (c || is_one_of names name) ≡ true → p name ≡ true = elim [
-      | true ↦ λ is g. ap p (sym ((bytes_eq-Decides n name).0 is)) ∙ both.0
-      | false ↦ λ is g. every_one p names name both.1 g
-    ] in
-    choice (bytes_eq n name) refl e
-
-module _ (set : Set) (well : WellFormed set) where
-  set_true : AllTrue (set_rules set)
-  unfolding first_fault
-  set_true = all_true 1 (set_rules set) (here parts.Set) (or_else_none (failing 1 (set_rules set) (here parts.Set)) _ well).0
-
-  name_short : (name : List ℕ) → is_one_of set.machines name ≡ true → length name ≤ 64
-  name_short name h =
-      let short = every_one (is_name 64) set.machines name set_true.0 h in
-      let p = and_parts (nat_le 1 (length name) && nat_le (length name) 64) (every is_name_byte name) short in
-      leb-true (length name) 64 (and_parts (nat_le 1 (length name)) (nat_le (length name) 64) p.0).1
-
-  devices_few : length set.devices ≤ 64
-  devices_few =
-      leb-true (length set.devices) 64 (and_parts (nat_le (length set.machines) 16 && nat_le (length set.structs) 64) (nat_le (length set.devices) 64) set_true.1.1.1.1.1.1.0).1
 
 module _ (old new : Set) (good_old : WellFormed old) (good_new : WellFormed new) (none : Compatible old new) where
   configured : (machine : Option (List ℕ)) → IfSome machine (λ m. is_one_of old.machines m ≡ true) → IsConfiguration new.machines machine (optional configuration machine)
   configured None h = refl
   configured (Some name) h =
       let r = rules old new good_old good_new none in
-      (every_one (is_one_of new.machines) old.machines name r.machines h, omega (arith, name_short old good_old name h), refl)
+      (every_one (is_one_of new.machines) old.machines name r.machines h, omega (arith, machine_short old good_old name h), refl)
 
   described : (text : Option (List ℕ)) → IfSome text (λ t. length t ≤ longest_text) → IsTrailer text (optional trailer text)
   described None h = refl
@@ -80,7 +48,7 @@ module _ (old new : Set) (good_old : WellFormed old) (good_new : WellFormed new)
     spelled = spell old new good_old good_new none images 0 old.devices images ready.one_each
         (λ j. let s : 0 + j ≡ j = omega arith in ap (λ (k : ℕ). at old.devices k) s)
         (λ j. let s : 0 + j ≡ j = omega arith in ap (λ (k : ℕ). get_or images k (no_image old new)) s)
-        ready.ready (omega (arith, devices_few old good_old));
+        ready.ready (omega (arith, few_devices old good_old));
     tail = optional trailer text;
     described = described text short;
     whole = refl;

@@ -16,6 +16,7 @@ pub mod Takes
 pub mod Kept
 pub mod SubsReading
 pub mod JudgeLemmas
+pub mod Unruled
 pub mod ImageRead
 pub mod Gathering
 pub mod WholeText

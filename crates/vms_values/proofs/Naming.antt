@@ -27,7 +27,8 @@ use Rattle.vms_walk.proofs.Spots.{cells_table, struct_size}
 use Rattle.vms_walk.proofs.Walking.{fields_at}
 use Rattle.vms_elements.specs.Elements.{Shape, no_shape, shape, shapes, cells_in, dotted, item_elements, stand_of, field_elements, elements_from, desc_elements, index_text}
 use Rattle.vms_elements.specs.Parts.{names_of}
-use Rattle.vms_elements.proofs.Tables.{first_at, shapes_cells}
+use Rattle.vms_spec.proofs.Tables.{first_at}
+use Rattle.vms_elements.proofs.Tables.{shapes_cells}
 use Rattle.vms_elements.proofs.CellsOf.{AreShapes, are_shapes, item_has, field_has, desc_has}
 use Rattle.vms_elements.proofs.Names.{SameNames, same_names, names_append, names_long, names_dotted, item_names as item_same, fields_names, desc_names, desc_names_are, array_name}
 use Rattle.vms_values.specs.Naming.{usable, part_names, item_names, field_name}

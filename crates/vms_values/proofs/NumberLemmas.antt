@@ -1,19 +1,15 @@
 -- Numbers as they are spelled.
-use Rattle.std.proofs.Common.{◌≡◌, ℕ, ◌+◌, ◌-◌, ◌*◌, ◌^◌, ◌<◌, ◌≤◌, Bool, true, false, not, ◌&&◌, ◌||◌, ◌==◌, nat_le, nat_lt, List, [], ◌∷◌, length, get_or, drop, Option, Some, None, if◌then◌else◌, refl, sym, ap, ◌∙◌, arith}
-use Rattle.std.proofs.lemmas.Bool.{ltb-true, ltb-false}
-use Rattle.std.proofs.lemmas.List.{drop_more, drop_all}
+use Rattle.std.proofs.Common.{◌≡◌, ℕ, ◌+◌, ◌-◌, ◌*◌, ◌^◌, ◌<◌, ◌≤◌, Bool, true, false, not, ◌&&◌, ◌||◌, ◌==◌, nat_le, nat_lt, List, [], ◌∷◌, zero, suc, ◌++◌, take, length, get_or, drop, Option, Some, None, if◌then◌else◌, refl, sym, ap, ◌∙◌, subst, arith, length-drop}
+use Rattle.std.proofs.lemmas.Bool.{ltb-true, ltb-false, leb-true, and_parts}
+use Rattle.std.proofs.Math.Nat.{pow-suc}
+use Rattle.std.proofs.lemmas.List.{drop_more, drop_all, take_all, take-append-drop}
 use Rattle.std.proofs.lemmas.Bool.Decides.{nat_tests}
 use Rattle.std.specs.Option.{option_and_then}
 use Rattle.vms_spec.specs.Lists.{every}
 use Rattle.vms_spec.specs.Spelling.{is_digit, natural_from}
-use Rattle.vms_values.specs.Spelled.{with_digit, natural_spelled}
+use Rattle.vms_values.specs.Spelled.{with_digit, natural_spelled, read_from}
 
 -- ---- digits
-
--- the number with these further digits, one by one
-abbrev pub read_from : ℕ → List ℕ → Option ℕ
-read_from n [] = Some n
-read_from n (b ∷ bs) = option_and_then (λ m. read_from m bs) (with_digit n b)
 
 natural_up : (n : ℕ) (bs : List ℕ) → n ≤ natural_from n bs
 natural_up n [] = omega arith
@@ -74,8 +70,66 @@ pub digit_stops : (value i d : ℕ) (text : List ℕ) → i < length text → wi
 digit_stops value i d text lt e =
     ap (read_from value) (drop_more text i d lt) ∙ ap (λ (o : Option ℕ). option_and_then (λ m. read_from m (drop (i + 1) text)) o) e
 
+pub digit_goes : (value i d m : ℕ) (text : List ℕ) → i < length text → with_digit value (get_or text i d) ≡ Some m → read_from m (drop (i + 1) text) ≡ read_from value (drop i text)
+digit_goes value i d m text lt e =
+    sym (ap (read_from value) (drop_more text i d lt) ∙ ap (λ (o : Option ℕ). option_and_then (λ m. read_from m (drop (i + 1) text)) o) e)
+
 pub digits_end : (value i : ℕ) (text : List ℕ) → length text ≤ i → Some value ≡ read_from value (drop i text)
 digits_end value i text le = sym (ap (read_from value) (drop_all i text le))
+
+-- ---- a few digits
+
+-- those of a front, and then the others
+pub read_append : (n : ℕ) (xs ys : List ℕ) → read_from n (xs ++ ys) ≡ option_and_then (λ m. read_from m ys) (read_from n xs)
+read_append n [] ys = refl
+read_append n (b ∷ xs) ys = by (with_digit n b) (λ m. read_append m xs ys)
+  where
+    by : (o : Option ℕ) → ((m : ℕ) → read_from m (xs ++ ys) ≡ option_and_then (λ k. read_from k ys) (read_from m xs)) → option_and_then (λ m. read_from m (xs ++ ys)) o ≡ option_and_then (λ m. read_from m ys) (option_and_then (λ m. read_from m xs) o)
+    by None later = refl
+    by (Some m) later = later m
+
+pub read_rest : (few : ℕ) (text : List ℕ) → few ≤ length text
+    → read_from 0 text ≡ option_and_then (λ m. read_from m (take (length text - few) (drop few text))) (read_from 0 (take few text))
+read_rest few text le =
+    let long : length (drop few text) ≡ length text - few = length-drop few text in
+    let rest : take (length text - few) (drop few text) ≡ drop few text = take_all (length text - few) (drop few text) (omega (arith, long)) in
+    ap (read_from 0) (sym (take-append-drop few text)) ∙ read_append 0 (take few text) (drop few text)
+    ∙ ap (λ (l : List ℕ). option_and_then (λ m. read_from m l) (read_from 0 (take few text))) (sym rest)
+
+ten_up : (i k : ℕ) → 10 ^ i ≤ 10 ^ (i + k)
+ten_up i zero =
+    let same : i + 0 ≡ i = omega arith in
+    omega (arith, ap (λ (n : ℕ). 10 ^ n) same)
+ten_up i (suc k) =
+    let next : i + suc k ≡ suc (i + k) = omega arith in
+    let more : 10 ^ (i + suc k) ≡ 10 ^ (i + k) * 10 = ap (λ (n : ℕ). 10 ^ n) next ∙ pow-suc 10 (i + k) in
+    omega (arith, more, ten_up i k)
+
+-- room for one more digit
+pub few_fit : (i n : ℕ) → n < 10 ^ i → i < 19 → n * 10 + 9 < 2 ^ 64
+few_fit i n lt le =
+    let all : i + (18 - i) ≡ 18 = omega (arith, le) in
+    let up : 10 ^ i ≤ 10 ^ 18 = subst (λ (k : ℕ). 10 ^ i ≤ 10 ^ k) all (ten_up i (18 - i)) in
+    omega (arith, lt, up)
+
+digit_low : (b : ℕ) → is_digit b ≡ true → b ≤ 57
+digit_low b e = leb-true b 57 (and_parts (nat_le 48 b) (nat_le b 57) e).1
+
+digit_up : (n b m : ℕ) → with_digit n b ≡ Some m → m ≤ n * 10 + 9
+digit_up n b m e = by (is_digit b) (nat_lt (n * 10 + (b - 48)) (2 ^ 64)) refl e
+  where
+    by : (d s : Bool) → is_digit b ≡ d → (if d && s then Some (n * 10 + (b - 48)) else None) ≡ Some m → m ≤ n * 10 + 9
+    by true true h e =
+        let is : n * 10 + (b - 48) ≡ m = cc in
+        omega (arith, is, digit_low b h)
+    by true false h e = cc
+    by false s h e = cc
+
+pub few_next : (i n d m : ℕ) (text : List ℕ) → n < 10 ^ i → with_digit n (get_or text i d) ≡ Some m → m < 10 ^ (i + 1)
+few_next i n d m text lt e =
+    let one : i + 1 ≡ suc i = omega arith in
+    let more : 10 ^ (i + 1) ≡ 10 ^ i * 10 = ap (λ (k : ℕ). 10 ^ k) one ∙ pow-suc 10 i in
+    omega (arith, more, lt, digit_up n (get_or text i d) m e)
 
 -- ---- ranges
 

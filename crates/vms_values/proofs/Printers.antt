@@ -13,7 +13,7 @@ use Rattle.vms_spec.specs.Sets.{Field, Desc, Set}
 use Rattle.vms_spec.specs.Rules.{uses_below}
 use Rattle.vms_spec.specs.Layout.{Cell, no_desc, no_field, kind_of, first, item_cells, item_size, times, desc_cells, field_cells, place_of, numbers_of, elements_of, capacity_of, counted}
 use Rattle.vms_spec.specs.Values.{Printer, no_printer, printer, printers, item_lines, element_lines, array_lines, field_lines, desc_lines}
-use Rattle.vms_parts.proofs.Tables.{first_at}
+use Rattle.vms_spec.proofs.Tables.{first_at}
 use Rattle.vms_desc.specs.Formed.{is_well_formed}
 use Rattle.vms_desc.proofs.Clean.{struct_clean}
 use Rattle.vms_walk.proofs.Prefixes.{AllBelow, all_below}

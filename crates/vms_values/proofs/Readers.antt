@@ -14,7 +14,7 @@ use Rattle.vms_spec.specs.Tests.{is_there}
 use Rattle.vms_spec.specs.Rules.{uses_below}
 use Rattle.vms_spec.specs.Layout.{Cell, no_desc, no_field, no_parent, kind_of, first, item_cells, item_size, times, desc_cells, field_cells, place_of, numbers_of, elements_of, capacity_of, counted}
 use Rattle.vms_spec.specs.ValuesReading.{Reader, Standing, Read, ◌>>=◌, no_reader, reader, readers, cells_of, read_item, read_elements, read_array, read_field, read_fields, read_desc}
-use Rattle.vms_parts.proofs.Tables.{first_at}
+use Rattle.vms_spec.proofs.Tables.{first_at}
 use Rattle.vms_desc.specs.Formed.{is_well_formed}
 use Rattle.vms_desc.proofs.Clean.{struct_clean}
 use Rattle.vms_walk.proofs.Prefixes.{AllBelow, all_below}

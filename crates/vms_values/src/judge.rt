@@ -1,7 +1,7 @@
 // Judges the sections and subsections of what was read.
-ghost use Rattle.std.specs.Prelude.{◌≡◌, ◌<◌, ◌≤◌, ◌-◌, not, [], length, get_or, pos};
+ghost use Rattle.std.specs.Prelude.{◌≡◌, ◌<◌, ◌==◌, not, length};
+ghost use Rattle.std.specs.List.{list_all};
 ghost use Rattle.vms_spec.specs.declared.Part.TheVariants as parts;
-ghost use Rattle.vms_spec.specs.Numbers.{same_number};
 ghost use Rattle.vms_spec.specs.Readiness.{rules_are_true};
 ghost use Rattle.vms_spec.specs.ValuesReading.{judge_device as device_judged, sub_fails};
 ghost use Rattle.vms_desc.specs.Asks.{first_cell};
@@ -9,14 +9,14 @@ ghost use Rattle.vms_desc.specs.Described.{described, device_at};
 ghost use Rattle.vms_desc.specs.Parts.{sub_at};
 ghost use Rattle.vms_image.specs.Typed.{state_of};
 ghost use Rattle.vms_walk.specs.Steps.{HasSpot, spot_slots};
-ghost use Rattle.vms_write.specs.Fine.{no_form, settle};
 ghost use Rattle.vms_write.specs.Judged.{IsOfDevice};
 ghost use Rattle.vms_values.specs.Judging.{bad_of, read_of, sub_judged, sub_defaults};
 
-use vms_desc::{CellForm, Cells, DescSet, Part};
+use vms_desc::{Cells, Desc, DescSet, Part};
 use vms_image::Image;
 use vms_spec::ValuesReason;
 use vms_walk::{Spot, Step, Walker, walk};
+use vms_write::is_bare;
 
 /// A line that is refused, and why.
 #[derive(Clone, Copy, Drop)]
@@ -71,7 +71,7 @@ fn judge_sub(set: &DescSet, device: u32, sub: u32, image: &Image) -> Option<Valu
     let well = if set.is_needed(device, sub, image) {
         came.is_some()
     } else {
-        came.is_none() && is_bare(set, device, sub, image)
+        came.is_none() && has_defaults(set, device, sub, image)
     };
     if well {
         None
@@ -104,42 +104,38 @@ fn holds_sub(set: &DescSet, device: u32, sub: u32, image: &Image, came: Option<u
 }
 
 // Whether all cells of a subsection are at their defaults.
-fn is_bare(set: &DescSet, device: u32, sub: u32, image: &Image) -> bool
+fn has_defaults(set: &DescSet, device: u32, sub: u32, image: &Image) -> bool
     requires device { IsOfDevice (described set.now) device (state_of image.now) }
     requires is_sub { sub < length (device_at (described set.now) device).subs }
     ensures { result ≡ sub_defaults (described set.now) device sub image.now.numbers }
 {
-    let part = Part::Sub(device, sub);
-    let first = set.first_cell(part);
-    let end = first + set.cells_of(part);
-    are_default(image, set.cell_forms(device), first, end)
+    is_bare(set, device, image, sub)
 }
 
-// Whether the cells from one up to another are at their defaults.
-fn are_default(image: &Image, forms: &[CellForm], first: u32, end: u32) -> bool
-    requires forms { length forms.now ≡ length image.now.numbers }
-    requires end { end ≤ length image.now.numbers }
-    ensures { result ≡ settle [] forms.now image.now.numbers first (end - first) }
-{
-    for cell in first..end {
-        if !is_default(image, forms, cell) {
-            return false;
-        }
-    }
-    true
-}
-
-fn is_default(image: &Image, forms: &[CellForm], cell: u32) -> bool
-    requires forms { length forms.now ≡ length image.now.numbers }
-    requires inside { cell < length image.now.numbers }
-    ensures { let default = (get_or forms.now cell no_form).default in
-        result ≡ same_number (get_or image.now.numbers cell (pos 0)) default }
-{
-    image.get(cell) == forms[cell as usize].default
-}
-
-// Whether the validations hold of a part and of the structures that are sent in it.
+// Whether the validations hold of a part and of the structures that are sent in it. Where no structure
+// has any, the part's own are asked, and its cells aren't walked over.
 fn hold_rules(set: &DescSet, spot: Spot, image: &Image) -> bool
+    requires spot { HasSpot (described set.now) spot image.now.numbers }
+    ensures { let slots = spot_slots (described set.now) spot image.now.numbers in
+        result ≡ rules_are_true slots }
+{
+    if are_unruled(set.parts().structs.as_slice()) {
+        set.holds_rules(spot.part, spot.base, spot.version, image)
+    } else {
+        walk_rules(set, spot, image)
+    }
+}
+
+// Whether none of these has validations.
+fn are_unruled(structs: &[Desc]) -> bool
+    ensures { result ≡ list_all (λ d. length d.validate == 0) structs.now }
+{
+    structs
+        .iter()
+        .all(|desc| desc.validate.as_slice().is_empty())
+}
+
+fn walk_rules(set: &DescSet, spot: Spot, image: &Image) -> bool
     requires spot { HasSpot (described set.now) spot image.now.numbers }
     ensures { let slots = spot_slots (described set.now) spot image.now.numbers in
         result ≡ rules_are_true slots }

@@ -1,7 +1,7 @@
 // Numbers as they are spelled.
-ghost use Rattle.std.specs.Prelude.{◌≡◌, ◌&&◌, ◌||◌, ◌==◌, nat_le, not, Some, length, get_or};
+ghost use Rattle.std.specs.Prelude.{◌≡◌, ◌<◌, ◌≤◌, ◌+◌, ◌*◌, ◌^◌, ◌&&◌, ◌||◌, ◌==◌, nat_le, not, Some, length, get_or};
 ghost use Rattle.vms_spec.specs.Spelling.{number_spelled};
-ghost use Rattle.vms_values.specs.Spelled.{natural_spelled, with_digit, held};
+ghost use Rattle.vms_values.specs.Spelled.{natural_spelled, read_from, with_digit, held};
 
 use vms_kinds::Kind;
 
@@ -32,6 +32,9 @@ fn if_held(kind: Kind, number: i128) -> Option<i128>
     }
 }
 
+/// So few digits spell a number below 2^64, whatever they are.
+const FEW: usize = 19;
+
 /// The number of these digits, or `None` exactly where they are no digits, have a leading zero, or spell
 /// 2^64 or more.
 fn read_natural(digits: &[u8]) -> Option<u64>
@@ -40,11 +43,37 @@ fn read_natural(digits: &[u8]) -> Option<u64>
     if !is_unpadded(digits) {
         return None;
     }
-    let mut value: u64 = 0;
-    for digit in digits {
+    let few = digits.len().min(FEW);
+    let mut value = read_few(&digits[..few])?;
+    let rest = &digits[few..];
+    for digit in rest {
         value = next_value(value, *digit)?;
     }
     Some(value)
+}
+
+/// The number of a few digits, or `None` exactly where one is no digit.
+fn read_few(digits: &[u8]) -> Option<u64>
+    requires { length digits.now ≤ 19 }
+    ensures { result ≡ read_from 0 digits.now }
+{
+    let mut value: u64 = 0;
+    for digit in digits {
+        value = next_of_few(value, *digit)?;
+    }
+    Some(value)
+}
+
+/// A number with one more digit, for which there is room, or `None` exactly where that is no digit.
+fn next_of_few(value: u64, digit: u8) -> Option<u64>
+    requires { value * 10 + 9 < 2 ^ 64 }
+    ensures { result ≡ with_digit value digit }
+{
+    if digit.is_ascii_digit() {
+        Some(value * 10 + u64::from(digit - b'0'))
+    } else {
+        None
+    }
 }
 
 /// Tells whether there is a digit, and no zero before others.

@@ -9,7 +9,7 @@ use Rattle.vms_spec.specs.Sets.{Field, Desc}
 use Rattle.vms_spec.specs.Tests.{is_there}
 use Rattle.vms_spec.specs.Rules.{uses_below}
 use Rattle.vms_spec.specs.Layout.{Slot, Cell, Rule, Meaning, no_meaning, no_desc, no_field, no_parent, kind_of, item_cells, item_slots, item_size, times, field_slots, slots_from, desc_slots, desc_cells, field_cells, cells_from, place_of, numbers_of, elements_of, capacity_of, counted, all_hold, meaning, meanings}
-use Rattle.vms_parts.proofs.Tables.{first_at}
+use Rattle.vms_spec.proofs.Tables.{first_at}
 use Rattle.vms_walk.specs.Steps.{cells_in}
 
 -- each field that is a structure has one of a number below k

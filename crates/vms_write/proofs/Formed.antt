@@ -9,7 +9,8 @@ use Rattle.vms_spec.specs.WellFormed.{failing, here, set_rules, size_rules, stru
 use Rattle.vms_desc.specs.Formed.{is_well_formed}
 use Rattle.vms_desc.specs.Described.{device_at}
 use Rattle.vms_desc.specs.Parts.{sub_at}
-use Rattle.vms_desc.proofs.Bounds.{AllTrue, all_true, or_else_none, none_is}
+use Rattle.vms_spec.proofs.Faultless.{AllTrue, all_true, or_else_none}
+use Rattle.vms_desc.proofs.Bounds.{none_is}
 use Rattle.vms_desc.proofs.Clean.{device_clean, sub_clean}
 
 every_at : {X : Type 0} (p : X → Bool) (xs : List X) (i : ℕ) (d : X) → every p xs ≡ true → i < length xs → p (get_or xs i d) ≡ true

@@ -9,7 +9,7 @@ mod readiness;
 mod section;
 mod stream;
 
-pub use readiness::{are_ready, ready};
+pub use readiness::{are_ready, is_bare, ready};
 pub use section::write_section;
 pub use stream::write_stream;
 pub use vms_io::WriteFault;

@@ -104,8 +104,8 @@ fn is_sub_fine(set: &DescSet, device: u32, image: &Image, sub: u32) -> bool
     }
 }
 
-// A subsection that didn't come: all its cells are at their defaults.
-fn is_bare(set: &DescSet, device: u32, image: &Image, sub: u32) -> bool
+/// Tells whether all cells of a subsection are at their defaults, as they are where it didn't come.
+pub fn is_bare(set: &DescSet, device: u32, image: &Image, sub: u32) -> bool
     requires device { IsOfDevice (described set.now) device (state_of image.now) }
     requires is_sub { sub < length (device_at (described set.now) device).subs }
     ensures { result ≡ is_bare_at (described set.now) device (state_of image.now) sub }

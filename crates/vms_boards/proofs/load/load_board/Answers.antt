@@ -60,13 +60,16 @@ returns-in-Ok-clause-heard g c =
     let outcome : List ScriptLine → List ℕ → Outcome → Type 0 = λ lines bytes o. Loads level lines bytes held o in
     let before = g.I.Source.given c.args.input.now in
     let now = g.I.Source.given c.load_lines.new.input in
-    heard_so (List ScriptLine) (scripted None held c.args.asked.script.now) outcome (view c.in-Ok.lines) before now c.load_lines.result
+    let out = outlet g.O.Sink c.args.out.now in
+    let out' = outlet g.O.Sink c.load_lines.new.out in
+    heard_so (List ScriptLine) (scripted None held c.args.asked.script.now) outcome (view c.in-Ok.lines) held before now out out' c.load_lines.result
     (given_so (List ScriptLine) (Vec Line Global) view (scripted None held c.args.asked.script.now) c.in-Ok.lines c.in-Ok.ensures.read)
-    (subst (λ (l : List Line). HearsEnd (outcome (lines_view l)) before now c.load_lines.result) c.deref.ensures.value (c.load_lines.ensures.heard held))
+    (subst (λ (l : List Line). HearsEnd (outcome (lines_view l)) held before now out out' c.load_lines.result) c.deref.ensures.value (c.load_lines.ensures.heard held))
 
 pub returns-in-Err-clause-heard : goal.returns-in-Err-clause-heard
 returns-in-Err-clause-heard g c =
     let held = g.H.Shelf.held c.args.shelf.now in
     let given = g.I.Source.given c.args.input.now in
-    other_heard (List ScriptLine) (scripted None held c.args.asked.script.now) (λ lines bytes o. Loads c.args.asked.level lines bytes held o) given given c.in-Err.ending
+    let out = outlet g.O.Sink c.args.out.now in
+    other_heard (List ScriptLine) (scripted None held c.args.asked.script.now) (λ lines bytes o. Loads c.args.asked.level lines bytes held o) held given given out out c.in-Err.ending
     (script_other (stock g.H.Shelf c.args.shelf.now) (stock g.H.Shelf c.script_of.new.shelf) c.in-Err.ending c.in-Err.ensures.cause)

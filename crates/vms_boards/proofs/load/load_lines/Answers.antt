@@ -29,5 +29,6 @@ returns-in_default-shipped-clause-content g c = λ shelf shelf' o held loads.
 pub returns-clause-heard : goal.returns-clause-heard
 returns-clause-heard g c = λ held.
     let level = ap (λ (m : State). m.level) c.in-Ok.ensures.state ∙ at_level c.args.level in
-    subst (λ (l : ℕ). HearsEnd (λ bytes o. Loads l (lines_view c.args.lines.now) bytes held o) (g.I.Source.given c.args.input.now) (g.I.Source.given c.load_on.new.input) c.load_on.result)
+    subst (λ (l : ℕ). HearsEnd (λ bytes o. Loads l (lines_view c.args.lines.now) bytes held o) held (g.I.Source.given c.args.input.now) (g.I.Source.given c.load_on.new.input)
+    (outlet g.O.Sink c.args.out.now) (outlet g.O.Sink c.load_on.new.out) c.load_on.result)
     level (c.load_on.ensures.heard held)

@@ -8,9 +8,8 @@ use Rattle.vms_play.proofs.RunLemmas.{lines_are_events}
 use Rattle.vms_play.specs.Events.{events_of, trace_from}
 use Rattle.vms_script.specs.Views.{lines_view}
 use Rattle.vms_spec.specs.Sets.{Set}
-use Rattle.vms_boards.proofs.HeardLemmas.{other_end, restore_heard, written_other}
+use Rattle.vms_boards.proofs.HeardLemmas.{restore_heard, trace_heard}
 use Rattle.vms_boards.proofs.LoadLemmas.{refused, trace_cause, traced}
-use Rattle.vms_boards.specs.Load.{Loads}
 use Rattle.vms_boards.proofs.load.load_on.Goals as goal
 
 pub go_on-requires : goal.go_on-requires
@@ -48,8 +47,8 @@ returns-in-Err-ReadFault-clause-content g c = λ shelf shelf' o held loads.
 
 pub returns-in-Ok-clause-heard : goal.returns-in-Ok-clause-heard
 returns-in-Ok-clause-heard g c = λ held.
-    other_end (λ bytes o. Loads c.args.board.now.state.level (lines_view c.args.lines.now) bytes held o) (g.I.Source.given c.args.input.now) (g.I.Source.given c.restore.new.source) c.go_on.result
-    (written_other (trace_from (events_of (lines_view c.args.lines.now)) c.restore.new.self.state) (outlet g.O.Sink c.args.out.now) (outlet g.O.Sink c.go_on.new.out) c.go_on.result c.go_on.ensures.written)
+    trace_heard c.args.board.now.state.level (lines_view c.args.lines.now) held (g.I.Source.given c.args.input.now) (g.I.Source.given c.restore.new.source)
+    (outlet g.O.Sink c.args.out.now) (outlet g.O.Sink c.go_on.new.out) c.restore.new.self c.go_on.result c.in-Ok.ensures.heard c.go_on.ensures.written
 
 pub returns-in-Err-Refused-clause-heard : goal.returns-in-Err-Refused-clause-heard
 returns-in-Err-Refused-clause-heard g c = λ held.

@@ -49,12 +49,14 @@ pub returns-in-Ok-clause-heard : goal.returns-in-Ok-clause-heard
 returns-in-Ok-clause-heard g c =
     let held = g.H.Shelf.held c.args.shelf.now in
     let step = word_set held (set_asked c.args.set) in
-    heard_so Set step (ShowsWell held) (loads c.in-Ok.loader) (g.I.Source.given c.args.input.now) (g.I.Source.given c.show_stream.new.input) c.show_stream.result
+    heard_so Set step (ShowsWell held) (loads c.in-Ok.loader) held (g.I.Source.given c.args.input.now) (g.I.Source.given c.show_stream.new.input)
+    (outlet g.O.Sink c.args.out.now) (outlet g.O.Sink c.show_stream.new.out) c.show_stream.result
     (given_so Set Loader loads step c.in-Ok.loader c.in-Ok.ensures.had) (c.show_stream.ensures.heard held)
 
 pub returns-in-Err-clause-heard : goal.returns-in-Err-clause-heard
 returns-in-Err-clause-heard g c =
     let held = g.H.Shelf.held c.args.shelf.now in
     let given = g.I.Source.given c.args.input.now in
-    other_heard Set (word_set held (set_asked c.args.set)) (ShowsWell held) given given c.in-Err.ending
+    let out = outlet g.O.Sink c.args.out.now in
+    other_heard Set (word_set held (set_asked c.args.set)) (ShowsWell held) held given given out out c.in-Err.ending
     (set_other (is_on_shelf (set_asked c.args.set)) (stock g.H.Shelf c.args.shelf.now) (stock g.H.Shelf c.loader_of.new.shelf) c.in-Err.ending c.in-Err.ensures.cause)

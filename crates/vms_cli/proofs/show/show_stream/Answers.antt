@@ -7,9 +7,7 @@ use Rattle.vms_load.specs.Kept.{loads, kept, taken_by}
 use Rattle.vms_outcome.specs.Endings.{WritesAs}
 use Rattle.vms_outcome.specs.Lines.{refused_line}
 use Rattle.vms_outcome.proofs.EndLemmas.{comes_to_nothing, keeps_same}
-use Rattle.vms_boards.proofs.HeardLemmas.{other_end, written_other}
-use Rattle.vms_cli.proofs.ShowLemmas.{fit_of, heard_refused, loaded, refused}
-use Rattle.vms_cli.specs.Show.{ShowsWell}
+use Rattle.vms_cli.proofs.ShowLemmas.{fit_of, heard_refused, heard_shown, loaded, refused}
 use Rattle.vms_cli.proofs.show.show_stream.Goals as goal
 
 pub returns-in-Ok-clause-content : goal.returns-in-Ok-clause-content
@@ -45,10 +43,10 @@ returns-in-Ok-clause-heard g c = λ held.
     let set = loads c.args.loader in
     let out = outlet g.O.Sink c.args.out.now in
     let out' = outlet g.O.Sink c.write_values.new.out in
-    other_end (ShowsWell held set) (g.I.Source.given c.args.input.now) (g.I.Source.given c.load.new.source) c.write_values.result
-    (written_other (values_text set (machine_of set c.in-Ok.machine) (kept c.load.new.self)) out out' c.write_values.result
+    heard_shown set (fit_of set c.args.loader.set.well_formed c.args.loader.set.heads) held (g.I.Source.given c.args.input.now) (g.I.Source.given c.load.new.source) out out'
+    (kept c.load.new.self) (taken_by c.load.new.self) c.in-Ok.machine c.write_values.result c.in-Ok.ensures.heard
     (subst (λ (s : Set). WritesAs (values_text s (machine_of s c.in-Ok.machine) (kept c.load.new.self)) out out' c.write_values.result)
-    c.in-Ok.ensures.set c.write_values.ensures.written))
+    c.in-Ok.ensures.set c.write_values.ensures.written)
 
 pub returns-in-Err-Refused-clause-heard : goal.returns-in-Err-Refused-clause-heard
 returns-in-Err-Refused-clause-heard g c = λ held.

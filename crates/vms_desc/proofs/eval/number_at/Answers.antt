@@ -1,4 +1,4 @@
-use Rattle.std.proofs.Common.{◌≡◌, ap, sym, rules, ◌∙◌, arith, length, ℕ, ℤ, get_or, map, List, pos, ◌+◌, ◌<◌, ◌≤◌, min, subst}
+use Rattle.std.proofs.Common.{◌≡◌, ap, sym, rules, ◌∙◌, arith, length, ℕ, ℤ, get_or, map, pos, ◌+◌, ◌<◌, min}
 use Rattle.std.proofs.lemmas.Int.{to_z-of_z}
 use Rattle.std.proofs.lemmas.List.{length-map}
 use mir.Syntax.{w128}
@@ -11,7 +11,6 @@ use Rattle.vms_parts.specs.declared.types.Field.{Field}
 use Rattle.vms_parts.specs.Views.{field_of}
 use Rattle.vms_parts.proofs.Items.{get_map_at}
 use Rattle.vms_desc.specs.Numbers.{place_in}
-use Rattle.vms_desc.specs.Scopes.{IsInside}
 use Rattle.vms_desc.specs.declared.eval.Scope.{Scope}
 use Rattle.vms_desc.proofs.NumberLaws.{number_there}
 use Rattle.vms_desc.proofs.eval.number_at.Goals as goal

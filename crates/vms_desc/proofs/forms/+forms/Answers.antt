@@ -1,4 +1,4 @@
-use Rattle.std.proofs.Common.{◌≡◌, ◌++◌, List, [], ap, sym, ◌∙◌, length, map, append-nil, take, get_or, arith}
+use Rattle.std.proofs.Common.{◌≡◌, ◌++◌, List, ap, sym, ◌∙◌, length, map, append-nil, take, arith}
 use Rattle.vms_kinds.specs.declared.Item.{Item}
 use Rattle.vms_spec.specs.Layout.{capacity_of}
 use Rattle.vms_parts.specs.declared.types.CellForm.{CellForm}

@@ -1,4 +1,4 @@
-use Rattle.std.proofs.Common.{◌∙◌, ap, sym, length, ◌≡◌, map, take, arith}
+use Rattle.std.proofs.Common.{◌∙◌, ap, length, arith}
 use Rattle.vms_desc.proofs.FormLaws.{layout_is}
 use Rattle.vms_desc.proofs.forms.layout.Goals as goal
 

@@ -6,9 +6,9 @@ use Rattle.vms_spec.specs.Sets as sets
 use Rattle.vms_parts.specs.declared.sizes.Measure.TheVariants.{Cells}
 use Rattle.vms_parts.specs.declared.types.Field.{Field}
 use Rattle.vms_parts.specs.declared.types.Sub.{Sub}
-use Rattle.vms_parts.specs.Sizes.{in_u32, fields_size}
+use Rattle.vms_parts.specs.Sizes.{in_u32, fields_size, subs_size}
 use Rattle.vms_parts.specs.Views.{field_of, sub_of, device_of}
-use Rattle.vms_desc.specs.Paths.{subs_size, begin_desc, begin_base}
+use Rattle.vms_desc.specs.Paths.{begin_desc, begin_base}
 use Rattle.vms_desc.proofs.PathLaws.{at_there}
 use Rattle.vms_desc.proofs.path.placed_at.Goals as goal
 
@@ -21,8 +21,8 @@ returns-in_ok-sub-in-Some c =
     let s = c.in_ok-sub-in-Some.sub.now in
     let own : c.size_of_fields-own.result ≡ in_u32 (fields_size Cells sizes d.desc.fields) =
     c.size_of_fields-own.ensures ∙ ap (λ (l : List Field). in_u32 (fields_size Cells sizes (map field_of l))) c.as_slice.ensures in
-    let before : c.size_of_subs.result ≡ in_u32 (subs_size sizes (take j d.subs)) =
-    c.size_of_subs.ensures ∙ ap (λ (l : List Sub). in_u32 (subs_size sizes (map sub_of (take j l)))) c.as_slice-subs.ensures ∙ ap (λ (l : List sets.Sub). in_u32 (subs_size sizes l)) (sym (take-map sub_of j c.args.device.now.subs)) in
+    let before : c.size_of_subs.result ≡ in_u32 (subs_size Cells sizes (take j d.subs)) =
+    c.size_of_subs.ensures ∙ ap (λ (l : List Sub). in_u32 (subs_size Cells sizes (map sub_of (take j l)))) c.as_slice-subs.ensures ∙ ap (λ (l : List sets.Sub). in_u32 (subs_size Cells sizes l)) (sym (take-map sub_of j c.args.device.now.subs)) in
     record {
       desc = ap (begin_desc d) c.in-Some.is ∙ ap (λ (l : List Sub). desc_of_sub (at (map sub_of l) j)) (sym c.as_slice-subs.ensures)
           ∙ ap desc_of_sub (at_there sub_of subs j s c.in_ok-sub-in-Some.ensures.lookup.3.0 c.in_ok-sub-in-Some.ensures.lookup.1);

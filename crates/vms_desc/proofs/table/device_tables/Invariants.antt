@@ -1,7 +1,13 @@
-use Rattle.std.proofs.Common.{map, take}
+use Rattle.std.proofs.Common.{◌≡◌, ℕ, ◌<◌, map, take, Some}
+use Rattle.vms_spec.specs.Lists.{at}
+use Rattle.vms_spec.specs.Sets as sets
 use Rattle.vms_parts.specs.Views.{device_of}
+use Rattle.vms_desc.specs.Heads.{FitsHead}
 use Rattle.vms_desc.specs.Tables.{AreDeviceTables}
 use Rattle.vms_desc.proofs.table.device_tables.Given as goal
 
 abbrev pub invariant-loop-device : goal.invariant-loop-device
-invariant-loop-device l = AreDeviceTables l.sizes (map device_of (take l.device-index l.devices)) l.tables.items
+invariant-loop-device l = record {
+  tables : AreDeviceTables l.sizes (map device_of (take l.device-index l.devices)) l.tables.items;
+  heads : (k : ℕ) → k < l.device-index → (d : sets.Device) → at (map device_of l.devices) k ≡ Some d → FitsHead d;
+}

@@ -1,4 +1,4 @@
-use Rattle.std.proofs.Common.{◌≡◌, ◌∙◌, ◌+◌, ap, subst, sym, map, take, List, ◌++◌, ◌∷◌, []}
+use Rattle.std.proofs.Common.{◌+◌, subst, sym, map, take, List, []}
 use Rattle.vms_spec.specs.Sets as sets
 use Rattle.vms_parts.specs.declared.types.Field.{Field}
 use Rattle.vms_parts.specs.Views.{field_of, desc_of}

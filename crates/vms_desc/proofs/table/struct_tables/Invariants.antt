@@ -1,4 +1,4 @@
-use Rattle.std.proofs.Common.{map, take, [], ◌++◌}
+use Rattle.std.proofs.Common.{map, take}
 use Rattle.vms_parts.specs.Views.{desc_of}
 use Rattle.vms_desc.specs.Tables.{AreTables}
 use Rattle.vms_desc.proofs.table.struct_tables.Given as goal

@@ -6,8 +6,8 @@ use Rattle.vms_descfile.specs.Nodes.{view, members_view}
 use Rattle.vms_descfile.proofs.NodeLaws.{get_member-push}
 use Rattle.vms_descfile.proofs.node.find.Goals as goal
 
-pub returns-then-eq : goal.returns-then-eq
-returns-then-eq c =
+pub returns-then-is_key : goal.returns-then-is_key
+returns-then-is_key c =
     let xs = c.args.members.now.items in
     let i = c.loop-left.left - 1 in
     let m = c.index-member.result.now in

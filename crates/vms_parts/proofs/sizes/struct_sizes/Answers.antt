@@ -1,4 +1,4 @@
-use Rattle.std.proofs.Common.{ap, ◌∙◌, sym, ◌≡◌, map, List, ℕ}
+use Rattle.std.proofs.Common.{ap, ◌∙◌, map, List, ℕ}
 use Rattle.vms_spec.specs.Layout.{first}
 use Rattle.vms_parts.specs.declared.types.Field.{Field}
 use Rattle.vms_parts.specs.Views.{field_of}

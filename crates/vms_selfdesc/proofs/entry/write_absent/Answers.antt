@@ -20,7 +20,7 @@ put_integer-requires-clause-key c = plain_value
 pub returns : goal.returns
 returns c =
     let a = c.args.draft.now in
-    let b = c.begin.new.draft in
+    let b = c.begin_entry.new.draft in
     let path = string_bytes a.path in
     let type = c.args.word.now in
     let value = number (of_integer c.args.default) in
@@ -31,7 +31,7 @@ returns c =
     let rest = further c.put_size.new.text c.put_integer.new.text end.text _ _ put.text c.in_ok-push_str-3.ensures.bytes
     ∙ ap (λ s. string_bytes c.put_size.new.text ++ s) (sym (member_last (codes "value") value no_members (codes "}") refl)) in
     let tail = further c.push_str-2.new.self c.put_size.new.text end.text _ _ c.in_ok-put_size.ensures.text rest in
-    entry_adds a b mid end (entry_tree (absent_entry path type c.args.default)) 0 type last (members_text true (size_members 0 type last)) c.requires.path c.in_ok-begin.ensures
+    entry_adds a b mid end (entry_tree (absent_entry path type c.args.default)) 0 type last (members_text true (size_members 0 type last)) c.requires.path c.in_ok-begin_entry.ensures
     (c.in_ok-push_str.ensures.bytes ∙ ap (λ s. string_bytes b.text ++ s) c.as_str.ensures.value)
     (further mid.text c.push_str-2.new.self end.text _ _ c.in_ok-push_str-2.ensures.bytes (tail ∙ ap (λ s. string_bytes c.push_str-2.new.self ++ s) (size_text 0 type last (members_text true last) refl)))
-    refl refl (absent_sound path type c.args.default put.sound) refl c.in_ok-begin.ensures.keeps.path
+    refl refl (absent_sound path type c.args.default put.sound) refl c.in_ok-begin_entry.ensures.keeps.path

@@ -14,13 +14,13 @@ use Rattle.vms_selfdesc.proofs.entry.write_present.Goals as goal
 pub returns : goal.returns
 returns c =
     let a = c.args.draft.now in
-    let b = c.begin.new.draft in
+    let b = c.begin_entry.new.draft in
     let path = string_bytes a.path in
     let size = width c.args.kind in
     let type = kind_word c.args.kind in
     let mid : Draft = record { text = c.push_str.new.self; path = b.path; later = b.later } in
     let end : Draft = record { text = c.push_str-2.new.self; path = b.path; later = true } in
-    entry_adds a b mid end (entry_tree (sent_entry path size type)) size type no_members (members_text true (size_members size type no_members)) c.requires c.in_ok-begin.ensures
+    entry_adds a b mid end (entry_tree (sent_entry path size type)) size type no_members (members_text true (size_members size type no_members)) c.requires c.in_ok-begin_entry.ensures
     (c.in_ok-push_str.ensures.bytes ∙ ap (λ s. string_bytes b.text ++ s) c.as_str.ensures.value)
     (c.in_ok-push_str-2.ensures.bytes ∙ ap (λ s. string_bytes mid.text ++ s) (c.cell_tail.ensures ∙ tail_text c.args.kind))
-    refl refl (sent_sound path size type (natural_sound size (omega (arith, width_short c.args.kind)))) refl c.in_ok-begin.ensures.keeps.path
+    refl refl (sent_sound path size type (natural_sound size (omega (arith, width_short c.args.kind)))) refl c.in_ok-begin_entry.ensures.keeps.path

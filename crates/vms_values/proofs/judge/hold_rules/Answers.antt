@@ -1,18 +1,13 @@
-use Rattle.std.proofs.Common.{List, ℤ, ap, sym, ◌∙◌}
-use Rattle.vms_spec.specs.Readiness.{rules_are_true}
+use Rattle.std.proofs.Common.{◌≡◌, map, ap, sym, ◌∙◌}
+use Rattle.vms_spec.specs.Sets.{Set}
 use Rattle.vms_desc.specs.Described.{described}
-use Rattle.vms_walk.specs.Steps.{spot_slots}
-use Rattle.vms_values.proofs.JudgeLemmas.{steps_true}
+use Rattle.vms_parts.specs.Views.{desc_of}
+use Rattle.vms_values.proofs.Unruled.{own_rules}
 use Rattle.vms_values.proofs.judge.hold_rules.Goals as goal
 
-pub returns-in-Ok : goal.returns-in-Ok
-returns-in-Ok c =
+pub returns-then-are_unruled : goal.returns-then-are_unruled
+returns-then-are_unruled c =
     let set = described c.args.set.now in
-    let slots = spot_slots set c.args.spot c.walk.new.walker.image.now.numbers in
-    sym (ap (λ (n : List ℤ). rules_are_true (spot_slots set c.args.spot n)) (sym (ap (λ image. image.now.numbers) c.in-Ok.ensures.ok.0)) ∙ sym (steps_true slots) ∙ c.in-Ok.ensures.ok.1)
-
-pub returns-in-Err : goal.returns-in-Err
-returns-in-Err c =
-    let set = described c.args.set.now in
-    let slots = spot_slots set c.args.spot c.walk.new.walker.image.now.numbers in
-    sym (ap (λ (n : List ℤ). rules_are_true (spot_slots set c.args.spot n)) (sym (ap (λ image. image.now.numbers) c.in-Err.ensures.err.0)) ∙ sym (steps_true slots) ∙ c.in-Err.ensures.err.1)
+    let ds = c.as_slice.result.now in
+    let same : map desc_of ds ≡ set.structs = ap (map desc_of) c.as_slice.ensures ∙ ap (λ (s : Set). s.structs) c.parts.ensures in
+    c.holds_rules.ensures ∙ own_rules set ds c.args.spot c.args.image.now.numbers same (sym c.are_unruled.ensures ∙ c.if-are_unruled.true)

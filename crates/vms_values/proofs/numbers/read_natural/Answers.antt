@@ -1,15 +1,37 @@
-use Rattle.std.proofs.Common.{sym, ◌∙◌, ◌≡◌, true}
-use Rattle.vms_values.proofs.NumberLemmas.{unpadded, read_natural, digit_stops, digits_end}
+use Rattle.std.proofs.Common.{◌≡◌, ℕ, ◌-◌, true, List, length, take, drop, None, sym, ap, ◌∙◌, arith}
+use Rattle.std.specs.Option.{option_and_then}
+use Rattle.vms_values.specs.Spelled.{read_from}
+use Rattle.vms_values.proofs.NumberLemmas.{unpadded, read_natural, read_rest, digit_stops, digits_end}
 use Rattle.vms_values.proofs.numbers.read_natural.Goals as goal
+
+-- the digits after the first few
+abbrev rest_of : ℕ → List ℕ → List ℕ
+rest_of few text = take (length text - few) (drop few text)
 
 pub returns-in_err-value : goal.returns-in_err-value
 returns-in_err-value c =
-    let form : unpadded c.args.digits.now ≡ true = sym c.is_unpadded.ensures ∙ c.if-not-is_unpadded.false in
-    rw c.from_residual.ensures
-    (sym (digit_stops c.loop-digit.value c.loop-digit.digit-index _ c.args.digits.now c.loop-digit-test.true (sym c.next_value.ensures ∙ c.in_err-value.was))
-    ∙ c.loop-digit.invariant ∙ read_natural c.args.digits.now form)
+    let text = c.args.digits.now in
+    let few = c.min-few.result in
+    let form : unpadded text ≡ true = sym c.is_unpadded.ensures ∙ c.if-not-is_unpadded.false in
+    let none : read_from 0 text ≡ None = read_rest few text (omega (arith, c.min-few.ensures)) ∙ ap (option_and_then (λ m. read_from m (rest_of few text))) (sym c.read_few.ensures ∙ c.in_err-value.was) in
+    rw c.from_residual.ensures (sym none ∙ read_natural text form)
+
+pub loop-digit-init : goal.loop-digit-init
+loop-digit-init c =
+    let text = c.args.digits.now in
+    let few = c.min-few.result in
+    sym (read_rest few text (omega (arith, c.min-few.ensures)) ∙ ap (option_and_then (λ m. read_from m (rest_of few text))) (sym c.read_few.ensures ∙ c.in_ok-value.was))
+
+pub returns-in_err-value-2 : goal.returns-in_err-value-2
+returns-in_err-value-2 c =
+    let text = c.args.digits.now in
+    let form : unpadded text ≡ true = sym c.is_unpadded.ensures ∙ c.if-not-is_unpadded.false in
+    rw c.from_residual-in_err-value-2.ensures
+    (sym (digit_stops c.loop-digit.value c.loop-digit.digit-index _ (rest_of c.min-few.result text) c.loop-digit-test.true (sym c.next_value.ensures ∙ c.in_err-value-2.was))
+    ∙ c.loop-digit.invariant ∙ read_natural text form)
 
 pub returns : goal.returns
 returns c =
-    let form : unpadded c.args.digits.now ≡ true = sym c.is_unpadded.ensures ∙ c.if-not-is_unpadded.false in
-    digits_end c.loop-digit.value c.loop-digit.digit-index c.args.digits.now c.loop-digit-test.false ∙ c.loop-digit.invariant ∙ read_natural c.args.digits.now form
+    let text = c.args.digits.now in
+    let form : unpadded text ≡ true = sym c.is_unpadded.ensures ∙ c.if-not-is_unpadded.false in
+    digits_end c.loop-digit.value c.loop-digit.digit-index (rest_of c.min-few.result text) c.loop-digit-test.false ∙ c.loop-digit.invariant ∙ read_natural text form

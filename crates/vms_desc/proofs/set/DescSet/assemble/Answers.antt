@@ -9,6 +9,7 @@ use Rattle.vms_parts.specs.declared.types.Device.{Device}
 use Rattle.vms_desc.specs.Numbers.{sizes_of}
 use Rattle.vms_desc.specs.Spots.{form_spots}
 use Rattle.vms_desc.specs.Tables.{AreTables, AreDeviceTables}
+use Rattle.vms_desc.proofs.HeadLaws.{heads_of}
 use Rattle.vms_desc.proofs.Bounds.{few_devices, small_layout, sizes_are}
 use Rattle.vms_desc.proofs.set.DescSet.assemble.Goals as goal
 
@@ -26,7 +27,7 @@ invariant_of-result c =
     let same-2 : c.deref-2.result.now ≡ sizes_of set = c.deref-2.ensures.value ∙ sized in
     record {
       well_formed = c.requires;
-      heads = c.fit_heads.ensures;
+      heads = heads_of c.args.parts c.as_slice-4.result.now c.as_slice-4.ensures c.in_ok-devices.ensures.heads;
       few = omega (arith, few_devices set c.requires, length-map c.args.parts.devices device_of);
       laid = c.in_ok-layout.ensures;
       spotted = c.new.ensures ∙ c.in_ok-spots.ensures ∙ ap (λ (l : List (List CellForm)). map form_spots l) c.as_slice.ensures;
@@ -36,6 +37,6 @@ invariant_of-result c =
           (subst (λ (l : List Desc). AreTables c.deref.result.now (map (λ d. d.fields) (map desc_of l)) c.in_ok-structs.structs.items) c.as_slice-3.ensures c.in_ok-structs.ensures));
       devices_tabled = subst (AreDeviceTables (sizes_of set) set.devices) (sym c.new-4.ensures)
           (subst (λ (l : List ℕ). AreDeviceTables l set.devices c.in_ok-devices.devices.items) same-2
-          (subst (λ (l : List Device). AreDeviceTables c.deref-2.result.now (map device_of l) c.in_ok-devices.devices.items) c.as_slice-4.ensures c.in_ok-devices.ensures));
+          (subst (λ (l : List Device). AreDeviceTables c.deref-2.result.now (map device_of l) c.in_ok-devices.devices.items) c.as_slice-4.ensures c.in_ok-devices.ensures.tables));
       small = λ k. subst (λ (l : List (List CellForm)). length (get_or l k []) ≤ 16384) (sym c.in_ok-layout.ensures) (small_layout set c.requires k);
     }

@@ -1,4 +1,4 @@
-use Rattle.std.proofs.Common.{◌≡◌, ◌∙◌, ◌-◌, ◌+◌, suc, ap, sym, arith, ℕ, List, length, get_or, take}
+use Rattle.std.proofs.Common.{◌≡◌, ◌∙◌, ◌-◌, ap, arith, ℕ, List, length, get_or}
 use Rattle.std.proofs.lemmas.List.{take_all}
 use Rattle.vms_spec.specs.Sets.{Field}
 use Rattle.vms_parts.specs.declared.sizes.Measure.TheVariants.{Cells}

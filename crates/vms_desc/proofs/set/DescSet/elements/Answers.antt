@@ -1,11 +1,11 @@
-use Rattle.std.proofs.Common.{◌≡◌, ◌∙◌, sym, ap, subst, ℕ, min}
+use Rattle.std.proofs.Common.{◌≡◌, ◌∙◌, sym, ap, ℕ, min}
 use Rattle.vms_spec.specs.declared.Count.{Count}
 use Rattle.vms_spec.specs.declared.Count.TheVariants.{Counted}
 use Rattle.vms_spec.specs.Sets.{Field}
 use Rattle.vms_spec.specs.Layout.{elements_of}
 use Rattle.vms_parts.specs.declared.types.Field.{Field as CodeField}
 use Rattle.vms_parts.specs.Views.{field_of}
-use Rattle.vms_desc.specs.Asks.{own_numbers, HasCells}
+use Rattle.vms_desc.specs.Asks.{own_numbers}
 use Rattle.vms_desc.specs.Described.{described}
 use Rattle.vms_desc.specs.Parts.{desc_at}
 use Rattle.vms_desc.proofs.EvalParts.{own_inside}

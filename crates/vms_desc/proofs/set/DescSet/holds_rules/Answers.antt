@@ -1,8 +1,8 @@
-use Rattle.std.proofs.Common.{◌≡◌, ◌∙◌, sym, ap, subst, List, map, ℕ}
+use Rattle.std.proofs.Common.{◌≡◌, ◌∙◌, ap, List, map}
 use Rattle.vms_spec.specs.Sets.{Formula, Desc}
 use Rattle.vms_spec.specs.Layout.{all_hold}
 use Rattle.vms_parts.specs.Views.{formula}
-use Rattle.vms_desc.specs.Asks.{own_numbers, HasCells}
+use Rattle.vms_desc.specs.Asks.{own_numbers}
 use Rattle.vms_desc.specs.Described.{described}
 use Rattle.vms_desc.specs.Parts.{desc_at}
 use Rattle.vms_desc.proofs.EvalParts.{own_inside}

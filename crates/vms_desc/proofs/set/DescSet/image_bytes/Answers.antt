@@ -1,4 +1,4 @@
-use Rattle.std.proofs.Common.{◌≡◌, ◌∙◌, ap}
+use Rattle.std.proofs.Common.{◌∙◌, ap}
 use Rattle.vms_spots.specs.Spots.{bytes_of}
 use Rattle.vms_desc.specs.Described.{described}
 use Rattle.vms_desc.specs.Spots.{kinds_at}

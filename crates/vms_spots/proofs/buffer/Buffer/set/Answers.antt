@@ -1,12 +1,12 @@
-use Rattle.std.proofs.Common.{◌≡◌, ◌∙◌, sym, ap, subst, arith, rules, ℕ, ℤ, List, get_or, take, drop, ◌-◌, ◌++◌, length, set, length-drop, length-take}
+use Rattle.std.proofs.Common.{◌≡◌, ◌∙◌, sym, ap, subst, arith, rules, ℕ, ℤ, List, get_or, take, drop, ◌-◌, ◌++◌, length, set, [], length-take}
+use mir.Val.{to_z, of_z}
 use Rattle.std.specs.Int.{w128}
 use Rattle.std.specs.Vec.{with_items}
 use Rattle.std.proofs.lemmas.Int.{to_z-of_z}
-use Rattle.std.proofs.lemmas.List.{with_items_is}
+use Rattle.std.proofs.lemmas.List.{append-nil, drop_all, with_items_is}
 use Rattle.vms_kinds.specs.Codes.{width, code, InRange}
 use Rattle.vms_kinds.specs.declared.Kind.{Kind}
 use Rattle.vms_kinds.specs.declared.Kind.TheVariants.{U8}
-use Rattle.vms_spec.proofs.KindLaws.{length-code}
 use Rattle.vms_spots.specs.Spots.{Held, held, IsHeld}
 use Rattle.vms_spots.proofs.BufferLaws.{at_cell, AtSpot, puts_seen}
 use Rattle.vms_spots.proofs.buffer.Buffer.set.Goals as goal
@@ -15,41 +15,25 @@ pub end-end-requires : goal.end-end-requires
 end-end-requires c =
     (at_cell c.self.inside.spots.items c.self.inside.bytes.items c.args.cell c.index-spot.result.now c.args.self.now c.self.view_is c.self.invariant c.requires.cell c.index-spot.ensures).small
 
-pub slice_bounds-copy_from_slice-end : goal.slice_bounds-copy_from_slice-end
-slice_bounds-copy_from_slice-end c =
+pub slice_bounds-write-end : goal.slice_bounds-write-end
+slice_bounds-write-end c =
     let a : AtSpot c.self.inside.spots.items c.self.inside.bytes.items c.args.cell c.index-spot.result.now =
     at_cell c.self.inside.spots.items c.self.inside.bytes.items c.args.cell c.index-spot.result.now c.args.self.now c.self.view_is c.self.invariant c.requires.cell c.index-spot.ensures in
     search (rules, a.inside, c.end-end.ensures, c.deref_mut.ensures.value)
 
-pub put-requires : goal.put-requires
-put-requires c =
+pub write-requires-clause-range : goal.write-requires-clause-range
+write-requires-clause-range c =
     let s = c.index-spot.result.now in
     let a : AtSpot c.self.inside.spots.items c.self.inside.bytes.items c.args.cell s =
     at_cell c.self.inside.spots.items c.self.inside.bytes.items c.args.cell s c.args.self.now c.self.view_is c.self.invariant c.requires.cell c.index-spot.ensures in
     let kind : get_or c.args.self.now.kinds c.args.cell U8 ≡ s.kind = sym (a.kind ∙ ap (λ (x : Held). get_or x.kinds c.args.cell U8) c.self.view_is) in
     subst (λ (z : ℤ). InRange s.kind z) (sym (to_z-of_z w128 c.args.value c.ranges.value)) (subst (λ (k : Kind). InRange k c.args.value) kind c.requires.range)
 
-pub copy_from_slice-requires : goal.copy_from_slice-requires
-copy_from_slice-requires c =
-    let s = c.index-spot.result.now in
-    let a : AtSpot c.self.inside.spots.items c.self.inside.bytes.items c.args.cell s =
-    at_cell c.self.inside.spots.items c.self.inside.bytes.items c.args.cell s c.args.self.now c.self.view_is c.self.invariant c.requires.cell c.index-spot.ensures in
-    let part : length c.as_slice.result.now ≡ width s.kind = ap length (c.as_slice.ensures.value ∙ c.put.ensures) ∙ length-code s.kind _ in
-    omega (
-      arith,
-      part,
-      a.inside,
-      c.end-end.ensures,
-      ap length c.deref_mut.ensures.value,
-      length-drop s.offset c.deref_mut.result.now,
-      length-take (c.end-end.result - s.offset) (drop s.offset c.deref_mut.result.now),
-    )
-
 -- the bytes afterwards
 abbrev after : goal.After-self-1 → List ℕ
 after c =
     take c.index-spot.result.now.offset c.deref_mut.result.now
-    ++ (c.copy_from_slice.new.self ++ drop (c.end-end.result - c.index-spot.result.now.offset) (drop c.index-spot.result.now.offset c.deref_mut.result.now))
+    ++ (c.write.new.bytes ++ drop (c.end-end.result - c.index-spot.result.now.offset) (drop c.index-spot.result.now.offset c.deref_mut.result.now))
 
 record Stored (c : goal.After-self-1) : Type 0 where
   held_is : IsHeld c.self.inside.spots.items (after c)
@@ -60,14 +44,17 @@ stored : (c : goal.After-self-1) → Stored c
 stored c =
     let s = c.index-spot.result.now in
     let wide : c.end-end.result - s.offset ≡ width s.kind = omega (arith, c.end-end.ensures) in
-    let part : c.copy_from_slice.new.self ≡ code s.kind c.args.value =
-    c.copy_from_slice.ensures.after ∙ c.as_slice.ensures.value ∙ c.put.ensures ∙ ap (code s.kind) (to_z-of_z w128 c.args.value c.ranges.value) in
-    let new : after c ≡ take s.offset c.self.inside.bytes.items ++ (c.copy_from_slice.new.self ++ drop (c.end-end.result - s.offset) (drop s.offset c.self.inside.bytes.items)) =
-    ap (λ (l : List ℕ). take s.offset l ++ (c.copy_from_slice.new.self ++ drop (c.end-end.result - s.offset) (drop s.offset l))) c.deref_mut.ensures.value in
+    let old : List ℕ = take (c.end-end.result - s.offset) (drop s.offset c.deref_mut.result.now) in
+    let none : drop (width s.kind) old ≡ [] = drop_all (width s.kind) old (omega (arith, wide, length-take (c.end-end.result - s.offset) (drop s.offset c.deref_mut.result.now))) in
+    let part : c.write.new.bytes ≡ code s.kind c.args.value =
+    c.write.ensures ∙ ap (λ (l : List ℕ). code s.kind (to_z w128 (of_z w128 c.args.value)) ++ l) none
+    ∙ append-nil (code s.kind (to_z w128 (of_z w128 c.args.value))) ∙ ap (code s.kind) (to_z-of_z w128 c.args.value c.ranges.value) in
+    let new : after c ≡ take s.offset c.self.inside.bytes.items ++ (c.write.new.bytes ++ drop (c.end-end.result - s.offset) (drop s.offset c.self.inside.bytes.items)) =
+    ap (λ (l : List ℕ). take s.offset l ++ (c.write.new.bytes ++ drop (c.end-end.result - s.offset) (drop s.offset l))) c.deref_mut.ensures.value in
     let r : IsHeld c.self.inside.spots.items (after c)
     × (held c.self.inside.spots.items (after c) ≡ record c.args.self.now { numbers = set c.args.self.now.numbers c.args.cell c.args.value })
     × (length (after c) ≡ length c.self.inside.bytes.items) =
-    puts_seen c.self.inside.spots.items c.self.inside.bytes.items (after c) c.copy_from_slice.new.self c.args.cell (c.end-end.result - s.offset) c.args.value s
+    puts_seen c.self.inside.spots.items c.self.inside.bytes.items (after c) c.write.new.bytes c.args.cell (c.end-end.result - s.offset) c.args.value s
     c.args.self.now c.self.view_is c.self.invariant c.requires.cell c.index-spot.ensures c.requires.range part wide new in
     record {
       held_is = r.0;

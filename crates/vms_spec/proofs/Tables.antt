@@ -1,5 +1,5 @@
 -- Tables by number: what stands at a number is made from the earlier ones alone.
-use Rattle.std.proofs.Common.{◌≡◌, ℕ, zero, suc, ◌+◌, ◌<◌, ◌≤◌, List, [], ◌∷◌, ◌++◌, length, length-append, get_or, take, refl, sym, ap, ◌∙◌, arith, Bool, true, false, nat_lt}
+use Rattle.std.proofs.Common.{◌≡◌, ℕ, zero, suc, ◌<◌, ◌≤◌, List, [], ◌∷◌, ◌++◌, length, length-append, get_or, take, refl, sym, ap, ◌∙◌, arith, Bool, true, false, nat_lt}
 use Rattle.std.proofs.lemmas.Bool.{ltb-true, ltb-false}
 use Rattle.std.proofs.lemmas.List.{get_or_append_left, get_or-take}
 use Rattle.vms_spec.specs.Sets.{Desc}
@@ -12,7 +12,7 @@ first_long f ds (suc k) =
     let e = first_long f ds k in
     length-append (first f ds k) (f (first f ds k) (get_or ds k no_desc) ∷ []) ∙ omega (arith, e)
 
-last_is : {B : Type 0} (xs : List B) (x d : B) (k : ℕ) → length xs ≡ k → get_or (xs ++ x ∷ []) k d ≡ x
+pub last_is : {B : Type 0} (xs : List B) (x d : B) (k : ℕ) → length xs ≡ k → get_or (xs ++ x ∷ []) k d ≡ x
 last_is [] x d zero e = refl
 last_is [] x d (suc k) e = absurd (omega arith)
 last_is (y ∷ xs) x d zero e = absurd (omega arith)

@@ -1,0 +1,18 @@
+use Rattle.std.proofs.Common.{Err, sym, subst, ap, ◌∙◌}
+use Rattle.vms_descfile.specs.Nodes.{view}
+use Rattle.vms_descfile.specs.Files.{Said, parts_said, parts_of}
+use Rattle.vms_descfile.specs.Given.{Gives}
+use Rattle.vms_descfile.proofs.FileLaws.{no_json, said_by, shape_said}
+use Rattle.vms_descfile.proofs.read.read_file.Goals as goal
+
+pub returns-in-Err : goal.returns-in-Err
+returns-in-Err c = no_json c.args.text.now c.in-Err.fault c.in-Err.ensures
+
+pub returns-in-Ok-read_parts : goal.returns-in-Ok-read_parts
+returns-in-Ok-read_parts c = sym (said_by c.args.text.now (view c.in-Ok.value) c.in-Ok.ensures) ∙ ap parts_said c.in-Ok-read_parts.ensures
+
+pub returns : goal.returns
+returns c =
+    let d = view c.in-Ok.value in
+    subst (λ (s : Said). Gives s (Err c.of.result)) (said_by c.args.text.now d c.in-Ok.ensures)
+    (shape_said (parts_of d) c.in-Err-read_parts.fault c.of.result c.in-Err-read_parts.ensures c.of.ensures)

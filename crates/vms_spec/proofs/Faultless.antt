@@ -1,0 +1,78 @@
+-- A set without a fault: nothing that is asked in order answers, and each rule holds.
+use Rattle.std.proofs.Common.{◌≡◌, ℕ, zero, suc, ◌+◌, ◌<◌, ◌≤◌, List, [], ◌∷◌, length, get_or, Option, Some, None, refl, sym, ap, ◌∙◌, arith, Bool, true, false, ◌&&◌, ◌||◌, nat_le}
+use Rattle.std.specs.Str.{bytes_eq}
+use Rattle.std.proofs.lemmas.Slice.Eq.{bytes_eq-Decides}
+use Rattle.std.proofs.lemmas.Bool.{and_parts, leb-true}
+use Rattle.vms_spec.specs.declared.Part.TheVariants as parts
+use Rattle.vms_spec.specs.declared.Place.{Place}
+use Rattle.vms_spec.specs.Lists.{at, every, or_else, first_answer}
+use Rattle.vms_spec.specs.Names.{is_name, is_name_byte}
+use Rattle.vms_spec.specs.Sets.{Set}
+use Rattle.vms_spec.specs.Streams.{is_one_of}
+use Rattle.vms_spec.specs.WellFormed.{failing, first_fault, here, set_rules, WellFormed}
+
+pub or_else_none : {X : Type 0} (x y : Option X) → or_else x y ≡ None → (x ≡ None) × (y ≡ None)
+or_else_none (Some x) y e = cc
+or_else_none None y e = (refl, e)
+
+-- what stands at a number was asked with it
+pub answers_none : {X Y : Type 0} (f : ℕ → X → Option Y) (i : ℕ) (xs : List X) → first_answer f i xs ≡ None → (j : ℕ) (x : X) → at xs j ≡ Some x → f (i + j) x ≡ None
+answers_none f i [] e j x h = cc
+answers_none f i (y ∷ xs) e zero x h =
+    let p = or_else_none (f i y) (first_answer f (suc i) xs) e in
+    let same : y ≡ x = cc in
+    let plus : i + 0 ≡ i = omega arith in
+    ap (λ (k : ℕ). f k x) plus ∙ ap (f i) (sym same) ∙ p.0
+answers_none f i (y ∷ xs) e (suc j) x h =
+    let p = or_else_none (f i y) (first_answer f (suc i) xs) e in
+    let plus : i + suc j ≡ suc i + j = omega arith in
+    ap (λ (k : ℕ). f k x) plus ∙ answers_none f (suc i) xs p.1 j x h
+
+pub no_answer : {X Y : Type 0} (f : ℕ → X → Option Y) (i : ℕ) (xs : List X) → first_answer f i xs ≡ None → (j : ℕ) (d : X) → j < length xs → f (i + j) (get_or xs j d) ≡ None
+no_answer f i [] e j d lt = absurd (omega arith)
+no_answer f i (x ∷ xs) e zero d lt =
+    let plus : i + 0 ≡ i = omega arith in
+    ap (λ (k : ℕ). f k x) plus ∙ (or_else_none (f i x) (first_answer f (suc i) xs) e).0
+no_answer f i (x ∷ xs) e (suc j) d lt =
+    let plus : i + suc j ≡ suc i + j = omega arith in
+    let lt' : j < length xs = omega arith in
+    ap (λ (k : ℕ). f k (get_or xs j d)) plus ∙ no_answer f (suc i) xs (or_else_none (f i x) (first_answer f (suc i) xs) e).1 j d lt'
+
+-- ---- rules
+
+abbrev pub AllTrue : List Bool → Type 0
+AllTrue [] = Unit {0}
+AllTrue (b ∷ rules) = (b ≡ true) × AllTrue rules
+
+pub all_true : (r : ℕ) (rules : List Bool) (p : Place) → failing r rules p ≡ None → AllTrue rules
+all_true r [] p e = tt
+all_true r (true ∷ rules) p e = (refl, all_true (suc r) rules p e)
+all_true r (false ∷ rules) p e = cc
+
+-- ---- the set itself
+
+-- what holds of all names holds of one of them
+pub every_one : (p : List ℕ → Bool) (names : List (List ℕ)) (name : List ℕ) → every p names ≡ true → is_one_of names name ≡ true → p name ≡ true
+every_one p [] name h e = absurd (cc)
+every_one p (n ∷ names) name h e =
+    let both = and_parts (p n) (every p names) h in
+    go (bytes_eq n name) refl e both.0 (λ g. every_one p names name both.1 g)
+  where
+    go : (c : Bool) → bytes_eq n name ≡ c → (c || is_one_of names name) ≡ true → p n ≡ true → (is_one_of names name ≡ true → p name ≡ true) → p name ≡ true
+    go true is g here later = ap p (sym ((bytes_eq-Decides n name).0 is)) ∙ here
+    go false is g here later = later g
+
+module _ (set : Set) (well : WellFormed set) where
+  set_true : AllTrue (set_rules set)
+  unfolding first_fault
+  set_true = all_true 1 (set_rules set) (here parts.Set) (or_else_none (failing 1 (set_rules set) (here parts.Set)) _ well).0
+
+  pub machine_short : (name : List ℕ) → is_one_of set.machines name ≡ true → length name ≤ 64
+  machine_short name h =
+      let short = every_one (is_name 64) set.machines name set_true.0 h in
+      let p = and_parts (nat_le 1 (length name) && nat_le (length name) 64) (every is_name_byte name) short in
+      leb-true (length name) 64 (and_parts (nat_le 1 (length name)) (nat_le (length name) 64) p.0).1
+
+  pub few_devices : length set.devices ≤ 64
+  few_devices =
+      leb-true (length set.devices) 64 (and_parts (nat_le (length set.machines) 16 && nat_le (length set.structs) 64) (nat_le (length set.devices) 64) set_true.1.1.1.1.1.1.0).1

@@ -1,0 +1,11 @@
+use Rattle.std.proofs.Common.{◌∙◌, arith}
+use Rattle.vms_desc.specs.Described.{described}
+use Rattle.vms_desc.proofs.AskLaws.{sub_inside}
+use Rattle.vms_values.proofs.JudgeLemmas.{bare_defaults}
+use Rattle.vms_values.proofs.judge.has_defaults.Goals as goal
+
+pub returns : goal.returns
+returns c =
+    let set = described c.args.set.now in
+    let inside = sub_inside set c.args.device c.args.sub c.requires.is_sub in
+    c.is_bare.ensures ∙ bare_defaults set c.args.device c.args.sub c.args.image.now.numbers c.requires.is_sub (omega (arith, inside, c.requires.device.cells))

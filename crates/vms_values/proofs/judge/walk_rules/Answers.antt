@@ -1,0 +1,18 @@
+use Rattle.std.proofs.Common.{List, ℤ, ap, sym, ◌∙◌}
+use Rattle.vms_spec.specs.Readiness.{rules_are_true}
+use Rattle.vms_desc.specs.Described.{described}
+use Rattle.vms_walk.specs.Steps.{spot_slots}
+use Rattle.vms_values.proofs.JudgeLemmas.{steps_true}
+use Rattle.vms_values.proofs.judge.walk_rules.Goals as goal
+
+pub returns-in-Ok : goal.returns-in-Ok
+returns-in-Ok c =
+    let set = described c.args.set.now in
+    let slots = spot_slots set c.args.spot c.walk.new.walker.image.now.numbers in
+    sym (ap (λ (n : List ℤ). rules_are_true (spot_slots set c.args.spot n)) (sym (ap (λ image. image.now.numbers) c.in-Ok.ensures.ok.0)) ∙ sym (steps_true slots) ∙ c.in-Ok.ensures.ok.1)
+
+pub returns-in-Err : goal.returns-in-Err
+returns-in-Err c =
+    let set = described c.args.set.now in
+    let slots = spot_slots set c.args.spot c.walk.new.walker.image.now.numbers in
+    sym (ap (λ (n : List ℤ). rules_are_true (spot_slots set c.args.spot n)) (sym (ap (λ image. image.now.numbers) c.in-Err.ensures.err.0)) ∙ sym (steps_true slots) ∙ c.in-Err.ensures.err.1)

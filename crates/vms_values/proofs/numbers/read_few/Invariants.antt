@@ -1,0 +1,6 @@
+use Rattle.std.proofs.Common.{◌≡◌, ◌<◌, ◌^◌, drop}
+use Rattle.vms_values.specs.Spelled.{read_from}
+use Rattle.vms_values.proofs.numbers.read_few.Given as goal
+
+abbrev pub invariant-loop-digit : goal.invariant-loop-digit
+invariant-loop-digit l = (read_from l.value (drop l.digit-index l.digits) ≡ read_from 0 l.digits) × (l.value < 10 ^ l.digit-index)
