@@ -41,6 +41,7 @@ fn entry_front(later: bool) -> &'static str
 }
 
 // Begins an entry, up to its path.
+#[inline(always)]
 fn begin_entry(draft: &mut Draft) -> Result<(), AllocError>
     ensures { OnOk result (Begins draft.old draft.new (codes "{\"name\":\"")) }
 {

@@ -94,11 +94,13 @@ impl<K: Sink> Walker for Writer<'_, K> {
 
     ghost stops_before = { λ xs ys a b fault h. (h.0, h.1, cut_before _ xs ys _ _ h.2) };
 
+    #[inline(always)]
     fn step(&mut self, step: Step) -> Result<(), WriteFault> {
         write_step(self.image, step, self.sink)
     }
 }
 
+#[inline(always)]
 fn write_step<K: Sink>(image: &Image, step: Step, sink: &mut K) -> Result<(), WriteFault>
     requires inside { IsInside image.now.numbers step }
     requires can { CanStep image.now.kinds step }
