@@ -2,37 +2,45 @@
 use Rattle.std.proofs.Common.{◌≡◌}
 use Rattle.std.specs.Io.KnownBytes.{Keeps}
 use Rattle.vms_io.specs.Told.{Intake, Outlet, Stock}
+use Rattle.vms_outcome.proofs.TextRow.{text_caused}
 use Rattle.vms_outcome.specs.Endings.{Caused, Quiet}
+use Rattle.vms_outcome.specs.Texts.{TextCause}
 use Rattle.vms_outcome.specs.declared.ending.Ending.{Ending}
 use Rattle.vms_outcome.specs.declared.ending.Ending.TheVariants.{Done, Refused, BadWords, BadText, NotCompatible, ReadFault, WriteFault, ShelfFault, NotThere, TooLarge, NoMemory}
 use Rattle.vms_boards.specs.Causes.{NoScript, WriteCause, StreamCause, LinesCause}
 
+module _ (o o' : Outlet) (s s' : Stock) where
+  -- a script that isn't had, with nothing written, is a cause of a command that makes a text
+  pub unread_text : (e : Ending) → NoScript s s' e → Keeps o.written o'.written → TextCause o o' s s' e
+  unread_text Done c k = absurd c
+  unread_text (Refused line) c k = absurd c
+  unread_text BadWords c k = absurd c
+  unread_text (BadText line) c k = k
+  unread_text (NotCompatible line) c k = absurd c
+  unread_text ReadFault c k = absurd c
+  unread_text WriteFault c k = absurd c
+  unread_text ShelfFault c k = (c, k)
+  unread_text (NotThere line) c k = k
+  unread_text (TooLarge line) c k = k
+  unread_text NoMemory c k = k
+
+  -- and so is what a write says
+  pub written_text : (e : Ending) → WriteCause o o' e → TextCause o o' s s' e
+  written_text Done c = tt
+  written_text (Refused line) c = absurd c
+  written_text BadWords c = absurd c
+  written_text (BadText line) c = absurd c
+  written_text (NotCompatible line) c = absurd c
+  written_text ReadFault c = absurd c
+  written_text WriteFault c = c
+  written_text ShelfFault c = absurd c
+  written_text (NotThere line) c = absurd c
+  written_text (TooLarge line) c = absurd c
+  written_text NoMemory c = c
+
 module _ (i i' : Intake) (o o' : Outlet) (s s' : Stock) where
   pub unread_caused : (e : Ending) → NoScript s s' e → Keeps o.written o'.written → s'.held ≡ s.held → Caused i i' o o' s s' e
-  unread_caused Done c k same = absurd c
-  unread_caused (Refused line) c k same = absurd c
-  unread_caused BadWords c k same = absurd c
-  unread_caused (BadText line) c k same = (k, same)
-  unread_caused (NotCompatible line) c k same = absurd c
-  unread_caused ReadFault c k same = absurd c
-  unread_caused WriteFault c k same = absurd c
-  unread_caused ShelfFault c k same = c
-  unread_caused (NotThere line) c k same = (k, same)
-  unread_caused (TooLarge line) c k same = (k, same)
-  unread_caused NoMemory c k same = tt
-
-  pub written_caused : (e : Ending) → WriteCause o o' e → Caused i i' o o' s s' e
-  written_caused Done c = tt
-  written_caused (Refused line) c = absurd c
-  written_caused BadWords c = absurd c
-  written_caused (BadText line) c = absurd c
-  written_caused (NotCompatible line) c = absurd c
-  written_caused ReadFault c = absurd c
-  written_caused WriteFault c = c
-  written_caused ShelfFault c = absurd c
-  written_caused (NotThere line) c = absurd c
-  written_caused (TooLarge line) c = absurd c
-  written_caused NoMemory c = tt
+  unread_caused e c k same = text_caused i i' o o' s s' e (unread_text o o' s s' e c k) same
 
   pub stream_caused : (e : Ending) → StreamCause i i' o o' e → s'.held ≡ s.held → Caused i i' o o' s s' e
   stream_caused Done c same = tt

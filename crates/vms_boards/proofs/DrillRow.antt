@@ -1,17 +1,18 @@
 -- From how `drill` ends and why to its row.
-use Rattle.std.proofs.Common.{ℕ, inl, inr}
+use Rattle.std.proofs.Common.{ℕ, ap, inl, inr}
 use Rattle.vms_io.specs.Told.{Intake, Outlet, Stock}
 use Rattle.vms_outcome.proofs.EndLemmas.{around}
+use Rattle.vms_outcome.proofs.TextRow.{text_caused}
 use Rattle.vms_outcome.specs.Endings.{Caused, Tells}
 use Rattle.vms_outcome.specs.declared.ending.Ending.{Ending}
 use Rattle.vms_outcome.specs.declared.ending.Ending.TheVariants.{Done, Refused, BadWords, BadText, NotCompatible, ReadFault, WriteFault, ShelfFault, NotThere, TooLarge, NoMemory}
-use Rattle.vms_boards.proofs.CauseLemmas.{written_caused}
+use Rattle.vms_boards.proofs.CauseLemmas.{written_text}
 use Rattle.vms_boards.specs.Causes.{WriteCause, DrillCauses}
 use Rattle.vms_boards.specs.Drill.{DrillStatus, DrillAnswers}
 
 module _ (i i' : Intake) (o o' n n' : Outlet) (s s' : Stock) where
   pub drill_caused : (e : Ending) → DrillCauses i i' o o' s s' e → Caused i i' o o' s s' e
-  drill_caused e c = written_caused i i' o o' s s' e c.0
+  drill_caused e c = text_caused i i' o o' s s' e (written_text o o' s s' e c.0) (ap (λ (x : Stock). x.held) c.2)
 
   written : (e : Ending) (status : ℕ) → WriteCause o o' e → Tells n n' e status → DrillStatus status (around i o n s) (around i' o' n' s')
   written Done status c t = inl (t.0)

@@ -8,6 +8,5 @@ pub mod PlayLemmas
 pub mod PlayOutcome
 pub mod PlayRow
 pub mod SaveLemmas
-pub mod SaveRow
 pub mod ScriptLemmas
 pub mod ScriptSteps

@@ -1,38 +1,21 @@
 -- From how `play` ends and why to its row.
 use Rattle.std.proofs.Common.{ℕ, inl, inr}
-use Rattle.std.specs.Io.KnownBytes.{Keeps}
 use Rattle.vms_io.specs.Told.{Intake, Outlet, Stock}
 use Rattle.vms_outcome.proofs.EndLemmas.{around}
+use Rattle.vms_outcome.proofs.TextRow.{text_status}
 use Rattle.vms_outcome.specs.Endings.{Caused, Tells}
+use Rattle.vms_outcome.specs.Texts.{ShelfStatus}
 use Rattle.vms_outcome.specs.declared.ending.Ending.{Ending}
 use Rattle.vms_outcome.specs.declared.ending.Ending.TheVariants.{Done, Refused, BadWords, BadText, NotCompatible, ReadFault, WriteFault, ShelfFault, NotThere, TooLarge, NoMemory}
-use Rattle.vms_boards.proofs.CauseLemmas.{unread_caused, lines_caused}
-use Rattle.vms_boards.specs.Causes.{NoScript, LinesCause, PlayCauses}
-use Rattle.vms_boards.specs.Play.{PlayStatus, PlayAnswers}
+use Rattle.vms_boards.proofs.CauseLemmas.{unread_caused, unread_text, lines_caused}
+use Rattle.vms_boards.specs.Causes.{LinesCause, PlayCauses}
+use Rattle.vms_boards.specs.Play.{PlayAnswers}
 
 module _ (i i' : Intake) (o o' n n' : Outlet) (s s' : Stock) where
   pub play_caused : (e : Ending) → PlayCauses i i' o o' s s' e → Caused i i' o o' s s' e
   play_caused e c = elim c.0 [ inl a ↦ unread_caused i i' o o' s s' e a.0 a.1 a.2 | inr b ↦ lines_caused i i' o o' s s' e b ]
 
-  unread : (e : Ending) (status : ℕ) → NoScript s s' e → Keeps o.written o'.written → Tells n n' e status → PlayStatus status (around i o n s) (around i' o' n' s')
-  unread Done status c k t = absurd c
-  unread (Refused line) status c k t = absurd c
-  unread BadWords status c k t = absurd c
-  unread (BadText line) status c k (inl t) = inr (inl (t.0, k))
-  unread (BadText line) status c k (inr t) = inr (inr (inr (inl (t.0, t.1))))
-  unread (NotCompatible line) status c k t = absurd c
-  unread ReadFault status c k t = absurd c
-  unread WriteFault status c k t = absurd c
-  unread ShelfFault status c k (inl t) = inr (inr (inr (inr (inl (t.0, c, t.1)))))
-  unread ShelfFault status c k (inr t) = inr (inr (inr (inl (t.0, t.1))))
-  unread (NotThere line) status c k (inl t) = inr (inr (inr (inr (inr (inl (t.0, k))))))
-  unread (NotThere line) status c k (inr t) = inr (inr (inr (inl (t.0, t.1))))
-  unread (TooLarge line) status c k (inl t) = inr (inr (inr (inr (inr (inr (inl (t.0, k)))))))
-  unread (TooLarge line) status c k (inr t) = inr (inr (inr (inl (t.0, t.1))))
-  unread NoMemory status c k (inl t) = inr (inr (inr (inr (inr (inr (inr ((t.0, t.1))))))))
-  unread NoMemory status c k (inr t) = inr (inr (inr (inl (t.0, t.1))))
-
-  played : (e : Ending) (status : ℕ) → LinesCause o o' s s' e → Tells n n' e status → PlayStatus status (around i o n s) (around i' o' n' s')
+  played : (e : Ending) (status : ℕ) → LinesCause o o' s s' e → Tells n n' e status → ShelfStatus status (around i o n s) (around i' o' n' s')
   played Done status c t = inl (t.0)
   played (Refused line) status c t = absurd c
   played BadWords status c t = absurd c
@@ -50,6 +33,6 @@ module _ (i i' : Intake) (o o' n n' : Outlet) (s s' : Stock) where
 
   pub play_row : (e : Ending) (status : ℕ) → PlayCauses i i' o o' s s' e → Tells n n' e status → PlayAnswers status (around i o n s) (around i' o' n' s')
   play_row e status c t = record {
-    ends = elim c.0 [ inl a ↦ unread e status a.0 a.1 t | inr b ↦ played e status b t ];
+    ends = elim c.0 [ inl a ↦ text_status i i' o o' n n' s s' e status (unread_text o o' s s' e a.0 a.1) t | inr b ↦ played e status b t ];
     input = c.1;
   }

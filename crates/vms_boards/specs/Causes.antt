@@ -36,11 +36,6 @@ WriteCause out out' WriteFault = Rose out.faults out'.faults
 WriteCause out out' NoMemory = Keeps out.written out'.written
 WriteCause out out' ending = ⊥
 
--- of `save`: the script wasn't had, and out wasn't touched; or it was
-abbrev pub SaveCause : (out out' : Outlet) (shelf shelf' : Stock) → Ending → Type 0
-SaveCause out out' shelf shelf' ending =
-    (NoScript shelf shelf' ending × Keeps out.written out'.written) ⊎ WriteCause out out' ending
-
 -- of `load`, once the script is there
 abbrev pub StreamCause : (input input' : Intake) (out out' : Outlet) → Ending → Type 0
 StreamCause input input' out out' Done = Unit {0}
@@ -68,10 +63,6 @@ PlayCause out out' shelf shelf' ending =
     ⊎ LinesCause out out' shelf shelf' ending
 
 -- ---- with what each command leaves
-
-abbrev pub SaveCauses : (input input' : Intake) (out out' : Outlet) (shelf shelf' : Stock) → Ending → Type 0
-SaveCauses input input' out out' shelf shelf' ending =
-    SaveCause out out' shelf shelf' ending × (input' ≡ input) × (shelf'.held ≡ shelf.held)
 
 abbrev pub DrillCauses : (input input' : Intake) (out out' : Outlet) (shelf shelf' : Stock) → Ending → Type 0
 DrillCauses input input' out out' shelf shelf' ending = WriteCause out out' ending × (input' ≡ input) × (shelf' ≡ shelf)

@@ -1,8 +1,9 @@
 -- The command `play`: its outcome, and what it can answer.
-use Rattle.std.specs.Prelude.{◌≡◌, ◌⊎◌, ℕ, List, [], Option, IsSomeAnd}
+use Rattle.std.specs.Prelude.{◌≡◌, ℕ, List, [], Option, IsSomeAnd}
 use Rattle.vms_io.specs.Shelves.{Held}
-use Rattle.vms_outcome.specs.Outcomes.{Outcome, Part, Outside, OutFault, NotesFault, ShelfFault, WantsMemory, EndsBy}
+use Rattle.vms_outcome.specs.Outcomes.{Outcome, Part, Outside}
 use Rattle.vms_outcome.specs.Steps.{Step, HasBy}
+use Rattle.vms_outcome.specs.Texts.{ShelfStatus}
 use Rattle.vms_outcome.specs.declared.ending.Ending.{Ending}
 use Rattle.vms_outcome.specs.declared.ending.Ending.TheVariants as endings
 use Rattle.vms_play.specs.Parts.{PlaysParts}
@@ -23,19 +24,8 @@ abbrev pub PlaysBy : ℕ → Step (List ScriptLine) → Option Held → Outcome 
 PlaysBy level step held o = HasBy (λ lines x. IsSomeAnd held (λ map. PlaysAll level lines map x)) step o
 
 -- what it can answer, told or not
-abbrev pub PlayStatus : ℕ → Outside → Outside → Type 0
-PlayStatus status old new =
-    (status ≡ 0)
-    ⊎ EndsBy 3 status old new
-    ⊎ OutFault status old new
-    ⊎ NotesFault status old new
-    ⊎ ShelfFault status old new
-    ⊎ EndsBy 8 status old new
-    ⊎ EndsBy 9 status old new
-    ⊎ WantsMemory status old new
-
 pub record PlayAnswers (status : ℕ) (old new : Outside) : Type 0 where
-  pub ends : PlayStatus status old new
+  pub ends : ShelfStatus status old new
   pub input : new.input ≡ old.input
 
 -- how a session that stopped ends

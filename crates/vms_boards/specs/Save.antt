@@ -1,13 +1,11 @@
--- The command `save`: its outcome, and what it can answer.
-use Rattle.std.specs.Prelude.{◌≡◌, ◌⊎◌, ℕ, List, Option, None, Result, Ok, Err}
-use Rattle.std.specs.Io.KnownBytes.{Keeps}
+-- The command `save`: the stream that it writes.
+use Rattle.std.specs.Prelude.{ℕ, List, Option, None, Result, Ok, Err}
 use Rattle.dev_board.specs.State.{power_on}
 use Rattle.dev_board.specs.Step.{after_all}
 use Rattle.vms_board.specs.Saving.{saved_stream}
 use Rattle.vms_board.specs.declared.save.SaveFault.{SaveFault}
 use Rattle.vms_board.specs.declared.save.SaveFault.TheVariants as faults
 use Rattle.vms_io.specs.Shelves.{Held}
-use Rattle.vms_outcome.specs.Outcomes.{Outside, OutFault, NotesFault, ShelfFault, WantsMemory, EndsBy}
 use Rattle.vms_outcome.specs.Steps.{Step, Gives, next}
 use Rattle.vms_outcome.specs.declared.ending.Ending.{Ending}
 use Rattle.vms_outcome.specs.declared.ending.Ending.TheVariants as endings
@@ -18,23 +16,6 @@ use Rattle.vms_boards.specs.Scripts.{scripted}
 abbrev pub saved_after : (level set : ℕ) → Option Held → List ℕ → Step (List ℕ)
 saved_after level set held name =
     next (scripted None held name) (λ lines. Gives (saved_stream set (after_all (events_of lines) (power_on level))))
-
--- what it can answer, told or not
-abbrev pub SaveStatus : ℕ → Outside → Outside → Type 0
-SaveStatus status old new =
-    (status ≡ 0)
-    ⊎ EndsBy 3 status old new
-    ⊎ OutFault status old new
-    ⊎ NotesFault status old new
-    ⊎ (ShelfFault status old new × Keeps old.out.written new.out.written)
-    ⊎ EndsBy 8 status old new
-    ⊎ EndsBy 9 status old new
-    ⊎ (WantsMemory status old new × Keeps old.out.written new.out.written)
-
-pub record SaveAnswers (status : ℕ) (old new : Outside) : Type 0 where
-  pub ends : SaveStatus status old new
-  pub input : new.input ≡ old.input
-  pub held : new.shelf.held ≡ old.shelf.held
 
 -- how a save of a board ends
 abbrev pub ending_by : Result Unit SaveFault → Ending

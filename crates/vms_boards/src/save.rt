@@ -1,19 +1,18 @@
 // The command `save`: the stream of a board after a script.
-ghost use Rattle.std.specs.Prelude.{◌≡◌, ◌^◌, ◌<◌, ◌≤◌, None};
+ghost use Rattle.std.specs.Prelude.{◌≡◌, ◌≤◌, None};
 ghost use Rattle.dev_base.specs.Levels.{IsLevel};
 ghost use Rattle.dev_board.specs.Saved.{MaySaveUnder};
 ghost use Rattle.dev_board.specs.State.{power_on};
 ghost use Rattle.dev_board.specs.Step.{after_all};
 ghost use Rattle.vms_board.specs.Saving.{saved_stream};
-ghost use Rattle.vms_io.specs.Told.{Intake, outlet, stock};
-ghost use Rattle.vms_outcome.specs.Endings.{EndsAs};
-ghost use Rattle.vms_outcome.specs.Outcomes.{Outcome};
+ghost use Rattle.vms_io.specs.Told.{outlet, stock};
 ghost use Rattle.vms_outcome.specs.StepEndings.{TextEnds};
-ghost use Rattle.vms_outcome.specs.Steps.{Gives, HasText};
+ghost use Rattle.vms_outcome.specs.Steps.{Gives};
+ghost use Rattle.vms_outcome.specs.Texts.{TextCause, TextContent};
 ghost use Rattle.vms_play.specs.Events.{events_of};
 ghost use Rattle.vms_script.specs.Grammar.{AreLines};
 ghost use Rattle.vms_script.specs.Views.{lines_view};
-ghost use Rattle.vms_boards.specs.Causes.{SaveCause, WriteCause};
+ghost use Rattle.vms_boards.specs.Causes.{WriteCause};
 ghost use Rattle.vms_boards.specs.Save.{ending_by, saved_after};
 
 use crate::asked::Saving;
@@ -32,12 +31,11 @@ pub fn save_board<O: Sink, H: Shelf>(
     out: &mut O,
     shelf: &mut H,
 ) -> Ending
-    ensures content { (input : Intake) (o : Outcome) → input.given < 2 ^ 64
-        → HasText (H.held shelf.old)
-        (saved_after asked.entry.level asked.entry.set (H.held shelf.old) asked.entry.script.now) o
-        → EndsAs input input (outlet O.Sink out.old) (outlet O.Sink out.new)
-        (stock H.Shelf shelf.old) (stock H.Shelf shelf.new) result o }
-    ensures cause { SaveCause (outlet O.Sink out.old) (outlet O.Sink out.new)
+    ensures content { TextContent
+        (saved_after asked.entry.level asked.entry.set (H.held shelf.old) asked.entry.script.now)
+        (outlet O.Sink out.old) (outlet O.Sink out.new)
+        (stock H.Shelf shelf.old) (stock H.Shelf shelf.new) result }
+    ensures cause { TextCause (outlet O.Sink out.old) (outlet O.Sink out.new)
         (stock H.Shelf shelf.old) (stock H.Shelf shelf.new) result }
     ensures held { H.held shelf.new ≡ H.held shelf.old }
     ensures out_count { O.faults out.old ≤ O.faults out.new }

@@ -6,6 +6,7 @@ use Rattle.vms_outcome.specs.declared.ending.Ending.TheVariants.{Done, Refused, 
 use Rattle.vms_outcome.specs.Endings.{Caused, EndsAs, Tells}
 use Rattle.vms_outcome.specs.Outcomes.{Outcome, CountsStand, DoesOrStops, PromisesStay}
 use Rattle.vms_outcome.proofs.EndLemmas.{around, outcome_so, same_keeps}
+use Rattle.vms_outcome.proofs.TextRow.{text_caused, text_row}
 use Rattle.vms_cli.specs.Answers.{Answers, BadWordsAnswers, CanAnswer, HasOutcome}
 use Rattle.vms_cli.specs.Causes.{BadWordsCauses, EndsCause, IsBadWords}
 use Rattle.vms_cli.specs.Check.{asks_shelf}
@@ -14,10 +15,8 @@ use Rattle.vms_cli.proofs.CheckRow.{check_caused, check_row}
 use Rattle.vms_boards.proofs.DrillRow.{drill_caused, drill_row}
 use Rattle.vms_boards.proofs.LoadRow.{load_caused, load_row}
 use Rattle.vms_boards.proofs.PlayRow.{play_caused, play_row}
-use Rattle.vms_boards.proofs.SaveRow.{save_caused, save_row}
 use Rattle.vms_boards.specs.Scripts.{scripted}
 use Rattle.vms_cli.proofs.ContinuationLemmas.{continues_so}
-use Rattle.vms_cli.proofs.PackRow.{pack_caused, pack_row}
 use Rattle.vms_cli.proofs.ShowRow.{show_caused, show_row}
 use Rattle.vms_cli.proofs.UpgradeLemmas.{upgrade_so}
 use Rattle.vms_cli.proofs.VerdictLaws.{verdict_so}
@@ -38,9 +37,9 @@ bad_words_caused i i' o o' s s' NoMemory c out shelf = absurd c
 caused : (asked : Option Asked) (i i' : Intake) (o o' : Outlet) (s s' : Stock) (e : Ending) → EndsCause asked i i' o o' s s' e → Caused i i' o o' s s' e
 caused None i i' o o' s s' e c = bad_words_caused i i' o o' s s' e c.0 c.2 c.3
 caused (Some (Show set)) i i' o o' s s' e c = show_caused set i i' o o' s s' e c.0 c.1
-caused (Some (Pack set name)) i i' o o' s s' e c = pack_caused i i' o o' s s' e c.0 c.2
+caused (Some (Pack set name)) i i' o o' s s' e c = text_caused i i' o o' s s' e c.0 c.2
 caused (Some (Check old new)) i i' o o' s s' e c = check_caused (asks_shelf old new) i i' o o' s s' e c.0 c.2
-caused (Some (Save level set script)) i i' o o' s s' e c = save_caused i i' o o' o o' s s' e c
+caused (Some (Save level set script)) i i' o o' s s' e c = text_caused i i' o o' s s' e c.0 c.2
 caused (Some (Load level script)) i i' o o' s s' e c = load_caused i i' o o' o o' s s' level (scripted None s.held script) e c
 caused (Some (Play level script)) i i' o o' s s' e c = play_caused i i' o o' o o' s s' e c
 caused (Some (Drill level seed count)) i i' o o' s s' e c = drill_caused i i' o o' o o' s s' e c
@@ -63,9 +62,9 @@ module _ (i i' : Intake) (o o' n n' : Outlet) (s s' : Stock) where
   row_so : (asked : Option Asked) (e : Ending) (status : ℕ) → EndsCause asked i i' o o' s s' e → Tells n n' e status → CanAnswer asked status (around i o n s) (around i' o' n' s')
   row_so None e status c t = bad_words_row e status c t
   row_so (Some (Show set)) e status c t = show_row i i' o o' n n' s s' set e status c t
-  row_so (Some (Pack set name)) e status c t = pack_row i i' o o' n n' s s' e status c t
+  row_so (Some (Pack set name)) e status c t = text_row i i' o o' n n' s s' e status c t
   row_so (Some (Check one other)) e status c t = check_row i i' o o' n n' s s' (asks_shelf one other) e status c t
-  row_so (Some (Save level set script)) e status c t = save_row i i' o o' n n' s s' e status c t
+  row_so (Some (Save level set script)) e status c t = text_row i i' o o' n n' s s' e status c t
   row_so (Some (Load level script)) e status c t = load_row i i' o o' n n' s s' level (scripted None s.held script) e status c t
   row_so (Some (Play level script)) e status c t = play_row i i' o o' n n' s s' e status c t
   row_so (Some (Drill level seed count)) e status c t = drill_row i i' o o' n n' s s' e status c t

@@ -4,7 +4,6 @@ pub mod ContinuationLemmas
 pub mod EndLemmas
 pub mod OutcomeLaws
 pub mod PackLemmas
-pub mod PackRow
 pub mod RoundTrips
 pub mod ShowLemmas
 pub mod ShowRow

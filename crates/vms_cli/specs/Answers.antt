@@ -6,15 +6,16 @@ use Rattle.vms_outcome.specs.Fetching.{is_on_shelf, word_set}
 use Rattle.vms_outcome.specs.Lines.{bad_words}
 use Rattle.vms_outcome.specs.Outcomes.{Outcome, done, ended, Outside, DoesOrStops, NotesFault, CountsStand, PromisesStay}
 use Rattle.vms_outcome.specs.Steps.{HasText}
+use Rattle.vms_outcome.specs.Texts.{TextAnswers}
 use Rattle.vms_boards.specs.Drill.{DrillAnswers, drill_line}
 use Rattle.vms_boards.specs.Load.{LoadAnswers, LoadsBy}
 use Rattle.vms_boards.specs.Play.{PlayAnswers, PlaysBy}
-use Rattle.vms_boards.specs.Save.{SaveAnswers, saved_after}
+use Rattle.vms_boards.specs.Save.{saved_after}
 use Rattle.vms_boards.specs.Scripts.{scripted}
 use Rattle.vms_cli.specs.Check.{checked, asks_shelf, CheckAnswers, Verdict}
 use Rattle.vms_cli.specs.Commands.{Asked, Show, Pack, Check, Save, Load, Drill, Play, asked_of}
 use Rattle.vms_cli.specs.Continuation.{Continuation}
-use Rattle.vms_cli.specs.Pack.{packs, PackAnswers}
+use Rattle.vms_cli.specs.Pack.{packs}
 use Rattle.vms_cli.specs.Show.{ShowsBy, ShowAnswers}
 use Rattle.vms_cli.specs.Upgrade.{Upgrade}
 
@@ -42,9 +43,9 @@ abbrev pub CanAnswer : Option Asked → ℕ → Outside → Outside → Type 0
 CanAnswer None status old new = BadWordsAnswers status old new
 CanAnswer (Some (Show set)) status old new =
     ShowAnswers (is_on_shelf set) (word_set old.shelf.held set) status old new
-CanAnswer (Some (Pack set name)) status old new = PackAnswers status old new
+CanAnswer (Some (Pack set name)) status old new = TextAnswers status old new
 CanAnswer (Some (Check one other)) status old new = CheckAnswers (asks_shelf one other) status old new
-CanAnswer (Some (Save level set script)) status old new = SaveAnswers status old new
+CanAnswer (Some (Save level set script)) status old new = TextAnswers status old new
 CanAnswer (Some (Load level script)) status old new =
     LoadAnswers level (scripted None old.shelf.held script) status old new
 CanAnswer (Some (Play level script)) status old new = PlayAnswers status old new

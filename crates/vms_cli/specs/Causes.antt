@@ -8,7 +8,8 @@ use Rattle.vms_outcome.specs.declared.ending.Ending.TheVariants.{Done, Refused, 
 use Rattle.vms_outcome.specs.Endings.{SetCause}
 use Rattle.vms_outcome.specs.Fetching.{is_on_shelf, word_set}
 use Rattle.vms_outcome.specs.SetWords.{SetWord}
-use Rattle.vms_boards.specs.Causes.{DrillCauses, LoadCauses, PlayCauses, SaveCauses}
+use Rattle.vms_outcome.specs.Texts.{TextCauses}
+use Rattle.vms_boards.specs.Causes.{DrillCauses, LoadCauses, PlayCauses}
 use Rattle.vms_boards.specs.Scripts.{scripted}
 use Rattle.vms_cli.specs.Check.{asks_shelf}
 use Rattle.vms_cli.specs.Commands.{Asked, Show, Pack, Check, Save, Load, Drill, Play}
@@ -36,16 +37,6 @@ WriteCause out out' (BadText line) = Keeps out.written out'.written
 WriteCause out out' WriteFault = Rose out.faults out'.faults
 WriteCause out out' NoMemory = Keeps out.written out'.written
 WriteCause out out' _ = ⊥
-
-abbrev pub PackCause : (out out' : Outlet) (shelf shelf' : Stock) → Ending → Type 0
-PackCause out out' shelf shelf' Done = Unit {0}
-PackCause out out' shelf shelf' (BadText line) = Keeps out.written out'.written
-PackCause out out' shelf shelf' WriteFault = Rose out.faults out'.faults
-PackCause out out' shelf shelf' ShelfFault = Rose shelf.faults shelf'.faults × Keeps out.written out'.written
-PackCause out out' shelf shelf' (NotThere line) = Keeps out.written out'.written
-PackCause out out' shelf shelf' (TooLarge line) = Keeps out.written out'.written
-PackCause out out' shelf shelf' NoMemory = Keeps out.written out'.written
-PackCause out out' shelf shelf' _ = ⊥
 
 -- once the sets are fetched
 abbrev pub CompareCause : Bool → Outlet → Outlet → Ending → Type 0
@@ -85,10 +76,6 @@ ShowCauses set input input' out out' shelf shelf' ending =
     × (is_on_shelf set ≡ false → shelf' ≡ shelf) × GivesWithin (word_set shelf.held set) input input'
     × ShowHears (word_set shelf.held set) shelf.held input.given input'.given out out' ending
 
-abbrev pub PackCauses : (input input' : Intake) (out out' : Outlet) (shelf shelf' : Stock) → Ending → Type 0
-PackCauses input input' out out' shelf shelf' ending =
-    PackCause out out' shelf shelf' ending × (input' ≡ input) × (shelf'.held ≡ shelf.held)
-
 abbrev pub CheckCauses : Bool → (input input' : Intake) (out out' : Outlet) (shelf shelf' : Stock) → Ending → Type 0
 CheckCauses asks input input' out out' shelf shelf' ending =
     CheckCause asks out out' shelf shelf' ending × (input' ≡ input) × (shelf'.held ≡ shelf.held)
@@ -97,11 +84,11 @@ CheckCauses asks input input' out out' shelf shelf' ending =
 abbrev pub EndsCause : Option Asked → (input input' : Intake) (out out' : Outlet) (shelf shelf' : Stock) → Ending → Type 0
 EndsCause None input input' out out' shelf shelf' ending = BadWordsCauses input input' out out' shelf shelf' ending
 EndsCause (Some (Show set)) input input' out out' shelf shelf' ending = ShowCauses set input input' out out' shelf shelf' ending
-EndsCause (Some (Pack set name)) input input' out out' shelf shelf' ending = PackCauses input input' out out' shelf shelf' ending
+EndsCause (Some (Pack set name)) input input' out out' shelf shelf' ending = TextCauses input input' out out' shelf shelf' ending
 EndsCause (Some (Check old new)) input input' out out' shelf shelf' ending =
     CheckCauses (asks_shelf old new) input input' out out' shelf shelf' ending
 EndsCause (Some (Save level set script)) input input' out out' shelf shelf' ending =
-    SaveCauses input input' out out' shelf shelf' ending
+    TextCauses input input' out out' shelf shelf' ending
 EndsCause (Some (Load level script)) input input' out out' shelf shelf' ending =
     LoadCauses level (scripted None shelf.held script) input input' out out' shelf shelf' ending
 EndsCause (Some (Drill level seed count)) input input' out out' shelf shelf' ending =

@@ -1,6 +1,5 @@
--- The command `pack`: its outcome, and what it can answer.
-use Rattle.std.specs.Prelude.{◌≡◌, ◌⊎◌, ℕ, List, Option, Some}
-use Rattle.std.specs.Io.KnownBytes.{Keeps}
+-- The command `pack`: the stream that it writes.
+use Rattle.std.specs.Prelude.{ℕ, List, Option, Some}
 use Rattle.vms_io.specs.Shelves.{Held}
 use Rattle.vms_spec.specs.Images.{Image}
 use Rattle.vms_spec.specs.Sets.{Set}
@@ -8,7 +7,6 @@ use Rattle.vms_spec.specs.Streams.{written}
 use Rattle.vms_spec.specs.ValuesReading.{ValuesRead, Values, Bad, values_read}
 use Rattle.vms_selfdesc.specs.Tree.{described_text}
 use Rattle.vms_outcome.specs.Fetching.{SetText, fetched, fetched_set, longest_file, set_in}
-use Rattle.vms_outcome.specs.Outcomes.{Outside, OutFault, NotesFault, ShelfFault, WantsMemory, EndsBy}
 use Rattle.vms_outcome.specs.SetWords.{SetWord}
 use Rattle.vms_outcome.specs.Steps.{Step, Gives, Ends, next}
 use Rattle.vms_cli.specs.ValuesLines.{values_line}
@@ -42,20 +40,3 @@ packed_texts texts = next (set_in texts.set) (λ set. packed set texts.values)
 
 abbrev pub packs : Option Held → SetWord → List ℕ → Step (List ℕ)
 packs held word name = next (fetched_texts held word name) packed_texts
-
--- what it can answer, told or not
-abbrev pub PackStatus : ℕ → Outside → Outside → Type 0
-PackStatus status old new =
-    (status ≡ 0)
-    ⊎ EndsBy 3 status old new
-    ⊎ OutFault status old new
-    ⊎ NotesFault status old new
-    ⊎ (ShelfFault status old new × Keeps old.out.written new.out.written)
-    ⊎ EndsBy 8 status old new
-    ⊎ EndsBy 9 status old new
-    ⊎ (WantsMemory status old new × Keeps old.out.written new.out.written)
-
-pub record PackAnswers (status : ℕ) (old new : Outside) : Type 0 where
-  pub ends : PackStatus status old new
-  pub input : new.input ≡ old.input
-  pub held : new.shelf.held ≡ old.shelf.held

@@ -1,16 +1,15 @@
 // The command `check`: whether a newer set reads what an older one writes.
-ghost use Rattle.std.specs.Prelude.{◌≡◌, ◌≤◌, ◌<◌, ◌^◌, ◌||◌, false};
-ghost use Rattle.vms_io.specs.Told.{Intake, outlet, stock};
+ghost use Rattle.std.specs.Prelude.{◌≡◌, ◌≤◌, ◌||◌, false};
+ghost use Rattle.vms_io.specs.Told.{outlet, stock};
 ghost use Rattle.vms_desc.specs.Described.{described};
 ghost use Rattle.vms_check.specs.Comparing.{first_mismatch};
 ghost use Rattle.vms_outcome.specs.Asks.{set_asked};
 ghost use Rattle.vms_cli.specs.Check.{asks_shelf, checked, compared, verdict};
-ghost use Rattle.vms_outcome.specs.Endings.{EndsAs};
 ghost use Rattle.vms_cli.specs.Causes.{CheckCause, CompareCause};
 ghost use Rattle.vms_outcome.specs.Fetching.{is_text, sets_in};
-ghost use Rattle.vms_outcome.specs.Outcomes.{Outcome};
 ghost use Rattle.vms_outcome.specs.StepEndings.{TextEnds, text_of};
-ghost use Rattle.vms_outcome.specs.Steps.{HasText, next};
+ghost use Rattle.vms_outcome.specs.Steps.{next};
+ghost use Rattle.vms_outcome.specs.Texts.{TextContent};
 
 use std::alloc::Global;
 use vms_check::Verdict;
@@ -25,11 +24,10 @@ pub(crate) fn check<O: Sink, H: Shelf>(
     out: &mut O,
     shelf: &mut H,
 ) -> Ending
-    ensures content { (input : Intake) (o : Outcome) → input.given < 2 ^ 64
-        → HasText (H.held shelf.old)
-        (checked (H.held shelf.old) (set_asked old.entry) (set_asked new.entry)) o
-        → EndsAs input input (outlet O.Sink out.old) (outlet O.Sink out.new)
-        (stock H.Shelf shelf.old) (stock H.Shelf shelf.new) result o }
+    ensures content { TextContent
+        (checked (H.held shelf.old) (set_asked old.entry) (set_asked new.entry))
+        (outlet O.Sink out.old) (outlet O.Sink out.new)
+        (stock H.Shelf shelf.old) (stock H.Shelf shelf.new) result }
     ensures cause { CheckCause (asks_shelf (set_asked old.entry) (set_asked new.entry))
         (outlet O.Sink out.old) (outlet O.Sink out.new)
         (stock H.Shelf shelf.old) (stock H.Shelf shelf.new) result }

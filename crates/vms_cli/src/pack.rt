@@ -1,17 +1,15 @@
 // The command `pack`: the stream of a values text on the shelf.
-ghost use Rattle.std.specs.Prelude.{◌≡◌, ◌<◌, ◌≤◌, ◌^◌, length, map, IfSome};
-ghost use Rattle.vms_io.specs.Told.{Intake, outlet, stock};
+ghost use Rattle.std.specs.Prelude.{◌≡◌, ◌<◌, ◌≤◌, length, map, IfSome};
+ghost use Rattle.vms_io.specs.Told.{outlet, stock};
 ghost use Rattle.vms_spec.specs.Lists.{at_option};
 ghost use Rattle.vms_spec.specs.Streams.{AreReady};
 ghost use Rattle.vms_desc.specs.Described.{described};
 ghost use Rattle.vms_image.specs.Typed.{AreImagesOf, state_of};
 ghost use Rattle.vms_outcome.specs.Asks.{set_asked};
-ghost use Rattle.vms_outcome.specs.Endings.{EndsAs};
 ghost use Rattle.vms_outcome.specs.Fetching.{longest_file};
-ghost use Rattle.vms_outcome.specs.Outcomes.{Outcome};
 ghost use Rattle.vms_outcome.specs.StepEndings.{TextEnds, WrittenAs, text_of};
-ghost use Rattle.vms_outcome.specs.Steps.{HasText};
-ghost use Rattle.vms_cli.specs.Causes.{PackCause, WriteCause};
+ghost use Rattle.vms_outcome.specs.Texts.{TextCause, TextContent};
+ghost use Rattle.vms_cli.specs.Causes.{WriteCause};
 ghost use Rattle.vms_cli.specs.Pack.{described_stream, packed, packed_texts, packs};
 
 use crate::values_notes::values_line;
@@ -30,12 +28,10 @@ pub(crate) fn pack<O: Sink, H: Shelf>(
     out: &mut O,
     shelf: &mut H,
 ) -> Ending
-    ensures content { (input : Intake) (o : Outcome) → input.given < 2 ^ 64
-        → HasText (H.held shelf.old)
-        (packs (H.held shelf.old) (set_asked set.entry) values.now) o
-        → EndsAs input input (outlet O.Sink out.old) (outlet O.Sink out.new)
-        (stock H.Shelf shelf.old) (stock H.Shelf shelf.new) result o }
-    ensures cause { PackCause (outlet O.Sink out.old) (outlet O.Sink out.new)
+    ensures content { TextContent (packs (H.held shelf.old) (set_asked set.entry) values.now)
+        (outlet O.Sink out.old) (outlet O.Sink out.new)
+        (stock H.Shelf shelf.old) (stock H.Shelf shelf.new) result }
+    ensures cause { TextCause (outlet O.Sink out.old) (outlet O.Sink out.new)
         (stock H.Shelf shelf.old) (stock H.Shelf shelf.new) result }
     ensures held { H.held shelf.new ≡ H.held shelf.old }
     ensures out_count { O.faults out.old ≤ O.faults out.new }

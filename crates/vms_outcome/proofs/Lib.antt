@@ -2,3 +2,4 @@ pub mod EndLemmas
 pub mod FileSets
 pub mod LineLemmas
 pub mod StepLemmas
+pub mod TextRow

@@ -7,3 +7,4 @@ pub mod SetLines
 pub mod SetWords
 pub mod StepEndings
 pub mod Steps
+pub mod Texts

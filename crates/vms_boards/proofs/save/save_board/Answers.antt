@@ -1,4 +1,4 @@
-use Rattle.std.proofs.Common.{None, List, inl, inr, subst}
+use Rattle.std.proofs.Common.{None, List, subst}
 use Rattle.std.specs.declared.alloc.Global.{Global}
 use Rattle.std.specs.declared.vec.Vec.{Vec}
 use Rattle.dev_board.specs.State.{power_on}
@@ -13,7 +13,7 @@ use Rattle.vms_play.specs.Events.{events_of}
 use Rattle.vms_script.specs.Lines.{ScriptLine}
 use Rattle.vms_script.specs.Views.{lines_view}
 use Rattle.vms_script.specs.declared.line.Line.{Line}
-use Rattle.vms_boards.proofs.CauseLemmas.{written_quiet}
+use Rattle.vms_boards.proofs.CauseLemmas.{unread_text, written_quiet, written_text}
 use Rattle.vms_boards.specs.Save.{saved_after}
 use Rattle.vms_boards.specs.Scripts.{scripted}
 use Rattle.vms_boards.proofs.save.save_board.Goals as goal
@@ -33,7 +33,9 @@ returns-in-Ok-clause-content g c = λ input o few has.
     c.deref.ensures.value c.save_after.ensures.ends)) has
 
 pub returns-in-Ok-clause-cause : goal.returns-in-Ok-clause-cause
-returns-in-Ok-clause-cause g c = inr c.save_after.ensures.cause
+returns-in-Ok-clause-cause g c =
+    written_text (outlet g.O.Sink c.args.out.now) (outlet g.O.Sink c.save_after.new.out) (stock g.H.Shelf c.args.shelf.now) (stock g.H.Shelf c.script_of.new.shelf)
+    c.save_after.result c.save_after.ensures.cause
 
 pub returns-in-Err-clause-content : goal.returns-in-Err-clause-content
 returns-in-Err-clause-content g c = λ input o few has.
@@ -47,4 +49,6 @@ returns-in-Err-clause-content g c = λ input o few has.
     out out c.in-Err.ending (scripted None held name) c.in-Err.ensures.read) has
 
 pub returns-in-Err-clause-cause : goal.returns-in-Err-clause-cause
-returns-in-Err-clause-cause g c = inl (c.in-Err.ensures.cause, keeps_same (g.O.Sink.written c.args.out.now))
+returns-in-Err-clause-cause g c =
+    let out = outlet g.O.Sink c.args.out.now in
+    unread_text out out (stock g.H.Shelf c.args.shelf.now) (stock g.H.Shelf c.script_of.new.shelf) c.in-Err.ending c.in-Err.ensures.cause (keeps_same out.written)
