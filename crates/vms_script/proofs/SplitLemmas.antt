@@ -1,29 +1,11 @@
--- The first line of a text, and the first word of a line.
-use Rattle.std.proofs.Common.{◌≡◌, ℕ, zero, suc, ◌+◌, ◌<◌, ◌≤◌, Bool, List, [], ◌∷◌, length, get_or, take, drop, Option, Some, None, if◌then◌else◌, refl, sym, ap, ◌∙◌, subst, arith, ⊎_elim}
-use Rattle.std.proofs.lemmas.Bool.{cases_lt, ne_eqb, eq-eqb, eqb-true}
-use Rattle.memchr.specs.Find.{Nowhere, NoneBefore, Passes, is_byte}
-use Rattle.vms_spec.specs.Spelling.{first_line}
-use Rattle.vms_texts.proofs.FirstLine.{line_at, no_line_in}
-use Rattle.vms_script.specs.Splits.{IsFirstLine}
+-- The first word of a line.
+use Rattle.std.proofs.Common.{◌≡◌, ℕ, zero, suc, ◌+◌, ◌<◌, ◌≤◌, Bool, List, [], ◌∷◌, length, get_or, take, drop, Some, None, if◌then◌else◌, refl, ap, ◌∙◌, arith, ⊎_elim}
+use Rattle.std.proofs.lemmas.Bool.{cases_lt, ne_eqb, eq-eqb}
 use Rattle.vms_script.specs.Words.{first_word, longer_word}
-use Rattle.vms_script.specs.declared.split.NextLine.{NextLine}
 
 -- a byte stands at a place, and not before it
 abbrev pub NotBefore : ℕ → List ℕ → ℕ → Type 0
 NotBefore byte xs i = (k : ℕ) → k < i → get_or xs k 0 ≡ byte → ⊥
-
-pub found_line : (xs : List ℕ) (i : ℕ) (line : NextLine) → NoneBefore (Passes (is_byte 10) xs) 0 (length xs) i → Passes (is_byte 10) xs i
-    → line.text.now ≡ take i xs → line.after.now ≡ drop (i + 1) xs → IsFirstLine (first_line xs) (Some line)
-found_line xs i line n p text after =
-    let e : first_line xs ≡ Some (take i xs, drop (suc i) xs) =
-    line_at xs i n.high (eqb-true (get_or xs i 0) 10 p) (λ k h is. n.before k (omega arith) h (eq-eqb (get_or xs k 0) 10 is)) in
-    let s : i + 1 ≡ suc i = omega arith in
-    subst (λ (o : Option (List ℕ × List ℕ)). IsFirstLine o (Some line)) (sym e) (text, after ∙ ap (λ (k : ℕ). drop k xs) s)
-
-pub no_line : (xs : List ℕ) → Nowhere (Passes (is_byte 10) xs) 0 (length xs) → IsFirstLine (first_line xs) None
-no_line xs n =
-    let e : first_line xs ≡ None = no_line_in xs (λ k h is. n k (omega arith) h (eq-eqb (get_or xs k 0) 10 is)) in
-    subst (λ (o : Option (List ℕ × List ℕ)). IsFirstLine o None) (sym e) tt
 
 word_at : (xs : List ℕ) (i : ℕ) → i < length xs → get_or xs i 0 ≡ 32 → NotBefore 32 xs i → first_word xs ≡ (take i xs, Some (drop (suc i) xs))
 word_at [] i lt is before = absurd (omega arith)
@@ -57,12 +39,3 @@ none_here byte xs i other before k h is = ⊎_elim (λ lt. before k lt is) here 
   here from =
       let same : i ≡ k = omega (arith, h, from) in
       other (ap (λ (n : ℕ). get_or xs n 0) same ∙ is)
-
--- what a line that was found says of the text
-pub first_is : (o : Option (List ℕ × List ℕ)) (line : NextLine) → IsFirstLine o (Some line) → o ≡ Some (line.text.now, line.after.now)
-first_is None line h = absurd h
-first_is (Some (text, after)) line h = ap (λ (t : List ℕ). Some (t, after)) (sym h.0) ∙ ap (λ (a : List ℕ). Some (line.text.now, a)) (sym h.1)
-
-pub first_none : (o : Option (List ℕ × List ℕ)) → IsFirstLine o None → o ≡ None
-first_none None h = refl
-first_none (Some (text, after)) h = absurd h

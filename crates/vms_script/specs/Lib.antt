@@ -3,7 +3,6 @@ pub mod Lines
 pub mod Names
 pub mod Refusal
 pub mod Script
-pub mod Splits
 pub mod Trace
 pub mod Views
 pub mod Words

@@ -7,9 +7,10 @@ ghost use Rattle.vms_script.specs.Views.{line_view, lines_view, read_view, IsPut
 use crate::event::read_event;
 use crate::line::{Line, ScriptFault, ScriptReason};
 use crate::session::read_session;
-use crate::split::{next_line, split_word};
+use crate::split::split_word;
 use dev_board::Event;
 use std::alloc::Global;
+use vms_words::next_line;
 
 /// Reads a script: its lines, or the first bad one, counted from 1, with the lowest reason. Where `play` is
 /// the level of a board, `save` and `restore` are lines as well. The text has fewer than 2^32 bytes, and is

@@ -9,9 +9,9 @@ use Rattle.vms_spec.specs.Numbers.{same_number, exceeds}
 use Rattle.vms_spec.specs.Rules.{in_range}
 use Rattle.vms_spec.specs.Spelling.{begins_with, number_spelled}
 use Rattle.vms_spec.specs.ValuesReading.{Standing, Read, bad, put_line, put_number}
-use Rattle.vms_values.specs.declared.text.Line.{Line}
+use Rattle.vms_words.specs.Lines.{IsFirstLine}
+use Rattle.vms_words.specs.declared.line.NextLine.{NextLine}
 use Rattle.vms_values.specs.declared.fault.LineFault.{LineFault}
-use Rattle.vms_values.specs.FirstLine.{IsFirstLine}
 use Rattle.vms_values.specs.Spelled.{held}
 use Rattle.vms_values.specs.Reading.{IsBad, Reaches}
 use Rattle.vms_values.specs.Taken.{number_judged}
@@ -68,7 +68,7 @@ module _ (path : List ℕ) (kind : Kind) (caps : List ℕ) (cell : ℕ) (default
   begun : (text rest : List ℕ) (b : Bool) → begins_with front text ≡ b → reads (Some (text, rest)) ≡ (if b then puts rest (number_spelled (drop (length front) text)) else bad p reasons.Form)
   begun text rest b e = ap (λ (t : Bool). if t then puts rest (number_spelled (drop (length front) text)) else bad p reasons.Form) e
 
-  judged_there : (text rest number : List ℕ) (line : Line) (result : Result ℤ ValuesReason) → line.text.now ≡ text → begins_with (path ++ codes " = ") line.text.now ≡ true
+  judged_there : (text rest number : List ℕ) (line : NextLine) (result : Result ℤ ValuesReason) → line.text.now ≡ text → begins_with (path ++ codes " = ") line.text.now ≡ true
       → number ≡ drop (length (path ++ codes " = ")) line.text.now → result ≡ number_judged caps default present (held kind (number_spelled number))
       → reads (Some (text, rest)) ≡ taken_number cell p rest result
   judged_there text rest number line result t n is j =
@@ -77,7 +77,7 @@ module _ (path : List ℕ) (kind : Kind) (caps : List ℕ) (cell : ℕ) (default
       ∙ ap (λ (l : List ℕ). taken_number cell p rest (number_judged caps default present (held kind (number_spelled l)))) (sym (is ∙ ap (drop (length front)) t))
       ∙ ap (taken_number cell p rest) (sym j)
 
-  pub number_there : (o : Option (List ℕ × List ℕ)) (line : Line) (number : List ℕ) (z : ℤ) (now : Standing) → IsFirstLine o (Some line)
+  pub number_there : (o : Option (List ℕ × List ℕ)) (line : NextLine) (number : List ℕ) (z : ℤ) (now : Standing) → IsFirstLine o (Some line)
       → begins_with (path ++ codes " = ") line.text.now ≡ true → number ≡ drop (length (path ++ codes " = ")) line.text.now
       → Ok z ≡ number_judged caps default present (held kind (number_spelled number))
       → now.numbers ≡ slice_set p.numbers cell z → now.line ≡ p.line + 1 → now.rest ≡ line.after.now → Reaches (reads o) now (Ok tt)
@@ -91,7 +91,7 @@ module _ (path : List ℕ) (kind : Kind) (caps : List ℕ) (cell : ℕ) (default
       ∙ ap (λ (x : List ℕ). let r : Standing = record { numbers = now.numbers; line = now.line; rest = x } in r) (sym f.1 ∙ sym c) in
       subst (λ (r : Read). Reaches r now (Ok tt)) (sym (judged_there text rest number line (Ok z) f.0 n is j)) e
 
-  pub reason_there : (o : Option (List ℕ × List ℕ)) (line : Line) (number : List ℕ) (reason : ValuesReason) (now : Standing) (e : LineFault) → IsFirstLine o (Some line)
+  pub reason_there : (o : Option (List ℕ × List ℕ)) (line : NextLine) (number : List ℕ) (reason : ValuesReason) (now : Standing) (e : LineFault) → IsFirstLine o (Some line)
       → begins_with (path ++ codes " = ") line.text.now ≡ true → number ≡ drop (length (path ++ codes " = ")) line.text.now
       → Err reason ≡ number_judged caps default present (held kind (number_spelled number))
       → IsBad (record { line = p.line; reason = reason }) e → Reaches (reads o) now (Err e)

@@ -1,29 +1,7 @@
--- Lines, and the front of a line.
-use Rattle.std.proofs.Common.{◌≡◌, ℕ, zero, suc, ◌+◌, ◌<◌, Bool, true, false, ◌&&◌, ◌==◌, List, [], ◌∷◌, ◌++◌, length, get_or, take, drop, Option, Some, None, if◌then◌else◌, refl, sym, ap, ◌∙◌, subst, arith}
-use Rattle.std.proofs.lemmas.Bool.{ne_eqb, eq-eqb, eqb-true}
+-- The front of a line.
+use Rattle.std.proofs.Common.{◌≡◌, ℕ, Bool, true, false, ◌&&◌, ◌==◌, List, [], ◌∷◌, ◌++◌, length, drop, refl, sym, ap, ◌∙◌}
 use Rattle.std.specs.Str.{bytes_eq}
-use Rattle.memchr.specs.Find.{Nowhere, NoneBefore, Passes, is_byte}
-use Rattle.vms_spec.specs.Spelling.{first_line, begins_with}
-use Rattle.vms_texts.proofs.FirstLine.{line_at, no_line_in}
-use Rattle.vms_values.specs.FirstLine.{IsFirstLine}
-use Rattle.vms_values.specs.declared.text.Line.{Line}
-
--- ---- the first line feed
-
-pub found_line : (xs : List ℕ) (i : ℕ) (line : Line) → NoneBefore (Passes (is_byte 10) xs) 0 (length xs) i → Passes (is_byte 10) xs i
-    → line.text.now ≡ take i xs → line.after.now ≡ drop (i + 1) xs → IsFirstLine (first_line xs) (Some line)
-found_line xs i line n p text after =
-    let e : first_line xs ≡ Some (take i xs, drop (suc i) xs) =
-    line_at xs i n.high (eqb-true (get_or xs i 0) 10 p) (λ k h is. n.before k (omega arith) h (eq-eqb (get_or xs k 0) 10 is)) in
-    let s : i + 1 ≡ suc i = omega arith in
-    subst (λ (o : Option (List ℕ × List ℕ)). IsFirstLine o (Some line)) (sym e) (text, after ∙ ap (λ (k : ℕ). drop k xs) s)
-
-pub no_line : (xs : List ℕ) → Nowhere (Passes (is_byte 10) xs) 0 (length xs) → IsFirstLine (first_line xs) None
-no_line xs n =
-    let e : first_line xs ≡ None = no_line_in xs (λ k h is. n k (omega arith) h (eq-eqb (get_or xs k 0) 10 is)) in
-    subst (λ (o : Option (List ℕ × List ℕ)). IsFirstLine o None) (sym e) tt
-
--- ---- the front of a line
+use Rattle.vms_spec.specs.Spelling.{begins_with}
 
 pub and_assoc : (a b c : Bool) → (a && (b && c)) ≡ ((a && b) && c)
 and_assoc true b c = refl

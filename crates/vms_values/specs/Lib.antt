@@ -1,5 +1,4 @@
 pub mod DevicesRead
-pub mod FirstLine
 pub mod Judging
 pub mod Machines
 pub mod Naming

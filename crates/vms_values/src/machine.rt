@@ -5,8 +5,8 @@ ghost use Rattle.vms_spec.specs.ValuesReading.{machine_named};
 ghost use Rattle.vms_values.specs.Machines.{IsMachine, IsMachineLine, StartsAt};
 
 use crate::cursor::Lines;
-use crate::text::next_line;
 use vms_desc::Text;
+use vms_words::next_line;
 
 /// The number of the machine that a text names, and what follows.
 #[derive(Clone, Copy)]

@@ -11,11 +11,12 @@ ghost use Rattle.vms_values.specs.Reading.{Passed};
 use crate::cursor::Lines;
 use crate::fault::LineFault;
 use crate::line::Line;
-use crate::text::{Line as TextLine, is_joined, next_line};
+use crate::text::is_joined;
 use itoa::Buffer;
 use vms_desc::Device;
 use vms_image::Image;
 use vms_spec::ValuesReason;
+use vms_words::{NextLine, next_line};
 
 /// The fault at the next line.
 pub(crate) fn bad(lines: &Lines, reason: ValuesReason) -> LineFault
@@ -64,7 +65,7 @@ fn is_section(device: &Device, line: &[u8]) -> bool
 }
 
 /// Goes on after a line.
-pub(crate) fn pass<'a>(lines: &mut Lines<'a>, next: TextLine<'a>)
+pub(crate) fn pass<'a>(lines: &mut Lines<'a>, next: NextLine<'a>)
     requires { length next.text.now + length next.after.now + 1 ≡ length lines.old.rest.now }
     ensures number { lines.new.line ≡ lines.old.line + 1 }
     ensures rest { lines.new.rest.now ≡ next.entry.after.now }

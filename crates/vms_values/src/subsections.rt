@@ -22,11 +22,12 @@ use crate::cursor::Lines;
 use crate::fault::LineFault;
 use crate::read::{bad, pass};
 use crate::taken::{Taken, read_part};
-use crate::text::{is_joined, next_line};
+use crate::text::is_joined;
 use itoa::Buffer;
 use vms_desc::{DescSet, Part, Sub};
 use vms_spec::ValuesReason;
 use vms_walk::Spot;
+use vms_words::next_line;
 
 /// Reads the subsections of a device, and puts the numbers of their lines behind one another.
 pub(crate) fn read_subs(

@@ -24,12 +24,12 @@ use crate::fault::LineFault;
 use crate::line::Line;
 use crate::numbers::read_number;
 use crate::read::{bad, number_text, pass};
-use crate::text::next_line;
 use vms_desc::{Count, DescSet, Field, Part};
 use vms_image::Image;
 use vms_kinds::{Item, Kind};
 use vms_spec::ValuesReason;
 use vms_walk::Spot;
+use vms_words::next_line;
 
 /// What is read of a device so far, and what is left of the text.
 #[derive(Drop)]

@@ -1,10 +1,13 @@
-//! The words that texts have for the kinds of number: those of description files, and those of
-//! self-descriptions.
+//! Words and lines of texts: the words of the kinds of number, in description files and in
+//! self-descriptions, and the first line of a text.
 #![tactic(auto)]
 
 ghost use Rattle.std.specs.Prelude.{◌≡◌};
 ghost use Rattle.vms_words.specs.Words.{kind_word, kind_named, TellsKind};
 
+mod line;
+
+pub use line::{NextLine, next_line};
 use vms_kinds::Kind;
 
 /// The word of a kind.

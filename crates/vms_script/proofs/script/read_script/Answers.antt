@@ -5,7 +5,7 @@ use Rattle.vms_script.specs.Script.{bad, script_read}
 use Rattle.vms_script.specs.Views.{lines_view}
 use Rattle.vms_script.specs.declared.line.ScriptReason.{ScriptReason}
 use Rattle.vms_script.proofs.ScriptLemmas.{line_put, line_stops, text_ends, tail_reason, tail_stops, reads_lines, reads_bad, put_unended, refused, is_empty, is_some}
-use Rattle.vms_script.proofs.SplitLemmas.{first_is, first_none}
+use Rattle.vms_words.proofs.LineLaws.{first_is, first_none}
 use Rattle.vms_script.proofs.script.read_script.Goals as goal
 
 pub returns-in-Err : goal.returns-in-Err

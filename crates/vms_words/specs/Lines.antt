@@ -1,9 +1,9 @@
 -- The first line of a text.
 use Rattle.std.specs.Prelude.{◌≡◌, ℕ, List, Option, Some, None}
-use Rattle.vms_values.specs.declared.text.Line.{Line}
+use Rattle.vms_words.specs.declared.line.NextLine.{NextLine}
 
 -- a line and what stands after it, or none
-abbrev pub IsFirstLine : Option (List ℕ × List ℕ) → Option Line → Type 0
+abbrev pub IsFirstLine : Option (List ℕ × List ℕ) → Option NextLine → Type 0
 IsFirstLine None None = Unit {0}
 IsFirstLine None (Some line) = ⊥
 IsFirstLine (Some said) None = ⊥

@@ -1,7 +1,7 @@
 use Rattle.std.proofs.lemmas.Grind.{common_steps}
 use Rattle.std.proofs.Common.{arith}
-use Rattle.vms_script.proofs.SplitLemmas.{found_line, no_line}
-use Rattle.vms_script.proofs.split.next_line.Goals as goal
+use Rattle.vms_words.proofs.LineLaws.{found_line, no_line}
+use Rattle.vms_words.proofs.line.next_line.Goals as goal
 
 pub returns-in-Some-clause-first : goal.returns-in-Some-clause-first
 returns-in-Some-clause-first c =

@@ -1,0 +1,30 @@
+-- The first line of a text.
+use Rattle.std.proofs.Common.{◌≡◌, ℕ, suc, ◌+◌, List, length, get_or, take, drop, Option, Some, None, refl, sym, ap, ◌∙◌, subst, arith}
+use Rattle.std.proofs.lemmas.Bool.{eq-eqb, eqb-true}
+use Rattle.memchr.specs.Find.{Nowhere, NoneBefore, Passes, is_byte}
+use Rattle.vms_spec.specs.Spelling.{first_line}
+use Rattle.vms_texts.proofs.FirstLine.{line_at, no_line_in}
+use Rattle.vms_words.specs.Lines.{IsFirstLine}
+use Rattle.vms_words.specs.declared.line.NextLine.{NextLine}
+
+pub found_line : (xs : List ℕ) (i : ℕ) (line : NextLine) → NoneBefore (Passes (is_byte 10) xs) 0 (length xs) i → Passes (is_byte 10) xs i
+    → line.text.now ≡ take i xs → line.after.now ≡ drop (i + 1) xs → IsFirstLine (first_line xs) (Some line)
+found_line xs i line n p text after =
+    let e : first_line xs ≡ Some (take i xs, drop (suc i) xs) =
+    line_at xs i n.high (eqb-true (get_or xs i 0) 10 p) (λ k h is. n.before k (omega arith) h (eq-eqb (get_or xs k 0) 10 is)) in
+    let s : i + 1 ≡ suc i = omega arith in
+    subst (λ (o : Option (List ℕ × List ℕ)). IsFirstLine o (Some line)) (sym e) (text, after ∙ ap (λ (k : ℕ). drop k xs) s)
+
+pub no_line : (xs : List ℕ) → Nowhere (Passes (is_byte 10) xs) 0 (length xs) → IsFirstLine (first_line xs) None
+no_line xs n =
+    let e : first_line xs ≡ None = no_line_in xs (λ k h is. n k (omega arith) h (eq-eqb (get_or xs k 0) 10 is)) in
+    subst (λ (o : Option (List ℕ × List ℕ)). IsFirstLine o None) (sym e) tt
+
+-- what a line that was found says of the text
+pub first_is : (o : Option (List ℕ × List ℕ)) (line : NextLine) → IsFirstLine o (Some line) → o ≡ Some (line.text.now, line.after.now)
+first_is None line h = absurd h
+first_is (Some (text, after)) line h = ap (λ (t : List ℕ). Some (t, after)) (sym h.0) ∙ ap (λ (a : List ℕ). Some (line.text.now, a)) (sym h.1)
+
+pub first_none : (o : Option (List ℕ × List ℕ)) → IsFirstLine o None → o ≡ None
+first_none None h = refl
+first_none (Some (text, after)) h = absurd h

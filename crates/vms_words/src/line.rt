@@ -1,0 +1,28 @@
+// Lines of a text.
+ghost use Rattle.std.specs.Prelude.{◌≡◌, ◌+◌, length, IfSome};
+ghost use Rattle.vms_spec.specs.Spelling.{first_line};
+ghost use Rattle.vms_words.specs.Lines.{IsFirstLine};
+
+use memchr::memchr;
+
+/// A line without its line feed, and what stands after it.
+#[derive(Clone, Copy)]
+pub struct NextLine<'a> {
+    pub text: &'a [u8],
+    pub after: &'a [u8],
+}
+
+/// The first line, or `None` exactly where no line feed ends it.
+pub fn next_line<'a>(rest: &'a [u8]) -> Option<NextLine<'a>>
+    ensures first { IsFirstLine (first_line rest.now) result }
+    ensures long { IfSome result (λ line.
+        length line.text.now + length line.after.now + 1 ≡ length rest.now) }
+{
+    match memchr(b'\n', rest) {
+        Some(end) => Some(NextLine {
+            text: &rest[..end],
+            after: &rest[end + 1..],
+        }),
+        None => None,
+    }
+}
