@@ -1,64 +1,14 @@
--- A number that counts arrays is within the capacities of all where it is within the least of them.
-use Rattle.std.proofs.Common.{◌≡◌, ℕ, ◌<◌, ◌≤◌, min, List, [], ◌∷◌, take, slice_set, Option, Some, None, ℤ, pos, negsuc, refl, sym, ap, ◌∙◌, arith, Bool, true, false, ◌||◌, nat_lt, if◌then◌else◌}
-use Rattle.std.proofs.lemmas.Bool.{ltb-true, ltb-false, lt-ltb}
+-- A number that counts arrays, taken within the least of their capacities.
+use Rattle.std.proofs.Common.{◌≡◌, ℕ, List, take, slice_set, ap, Bool, if◌then◌else◌}
 use Rattle.vms_kinds.specs.declared.Kind.{Kind}
 use Rattle.vms_kinds.specs.Codes.{width, value_of}
 use Rattle.vms_spec.specs.declared.Reason.TheVariants as reasons
-use Rattle.vms_spec.specs.Numbers.{exceeds, is_above}
 use Rattle.vms_spec.specs.Judging.{is_bad_bool}
 use Rattle.vms_spec.specs.Taking.{Progress, refuse, on, if_whole, take_number}
-use Rattle.vms_parts.specs.Capacities.{lesser, least_from, least_of}
+use Rattle.vms_parts.specs.Capacities.{least_of}
 use Rattle.vms_walk.specs.Steps.{capacities_of}
-
-or_assoc : (a b c : Bool) → ((a || b) || c) ≡ (a || (b || c))
-or_assoc true b c = refl
-or_assoc false b c = refl
-
-pub or_false : (a : Bool) → (a || false) ≡ a
-or_false true = refl
-or_false false = refl
-
--- ---- the least of capacities
-
-same_tests : (a b : Bool) → (a ≡ true → b ≡ true) → (b ≡ true → a ≡ true) → a ≡ b
-same_tests true b f g = sym (f refl)
-same_tests false true f g = g refl
-same_tests false false f g = refl
-
-above_lesser : (k m n : ℕ) → nat_lt (min k m) n ≡ (nat_lt k n || nat_lt m n)
-above_lesser k m n = same_tests (nat_lt (min k m) n) (nat_lt k n || nat_lt m n) (λ e. forth e (nat_lt k n) refl) (λ e. back (nat_lt k n) refl e)
-  where
-    forth : nat_lt (min k m) n ≡ true → (b : Bool) → nat_lt k n ≡ b → (b || nat_lt m n) ≡ true
-    forth e true f = refl
-    forth e false f =
-        let least : min k m < n = ltb-true (min k m) n e in
-        let up : n ≤ k = ltb-false k n f in
-        lt-ltb m n (omega arith)
-
-    back : (b : Bool) → nat_lt k n ≡ b → (b || nat_lt m n) ≡ true → nat_lt (min k m) n ≡ true
-    back true f e =
-        let lt : k < n = ltb-true k n f in
-        lt-ltb (min k m) n (omega arith)
-    back false f e =
-        let lt : m < n = ltb-true m n e in
-        lt-ltb (min k m) n (omega arith)
-
-exceeds_lesser : (o : Option ℕ) (m : ℕ) (z : ℤ) → exceeds (capacities_of (lesser o m)) z ≡ (exceeds (capacities_of o) z || is_above z m)
-exceeds_lesser None m z = or_false (is_above z m)
-exceeds_lesser (Some k) m (pos n) =
-    or_false (nat_lt (min k m) n) ∙ above_lesser k m n ∙ ap (λ (b : Bool). b || nat_lt m n) (sym (or_false (nat_lt k n)))
-exceeds_lesser (Some k) m (negsuc n) = refl
-
-exceeds_from : (o : Option ℕ) (caps : List ℕ) (z : ℤ) → exceeds (capacities_of (least_from o caps)) z ≡ (exceeds (capacities_of o) z || exceeds caps z)
-exceeds_from o [] z = sym (or_false (exceeds (capacities_of o) z))
-exceeds_from o (m ∷ caps) z =
-    exceeds_from (lesser o m) caps z ∙ ap (λ (b : Bool). b || exceeds caps z) (exceeds_lesser o m z) ∙ or_assoc (exceeds (capacities_of o) z) (is_above z m) (exceeds caps z)
-
--- a number is above the least of these capacities where it is above one of them
-exceeds_least : (caps : List ℕ) (z : ℤ) → exceeds (capacities_of (least_of caps)) z ≡ exceeds caps z
-exceeds_least caps z = exceeds_from None caps z
-
--- ---- what is taken
+use Rattle.vms_walk.proofs.Least.{exceeds_least}
+pub use Rattle.vms_walk.proofs.Least.{or_false}
 
 pub number_least : (kind : Kind) (caps : List ℕ) (cell : ℕ) (p : Progress) → take_number kind (capacities_of (least_of caps)) cell p ≡ take_number kind caps cell p
 number_least kind caps cell p =

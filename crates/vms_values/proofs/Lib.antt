@@ -10,7 +10,6 @@ pub mod Runs
 pub mod Subs
 pub mod Naming
 pub mod NamingSubs
-pub mod Least
 pub mod Readers
 pub mod Takes
 pub mod Kept

@@ -19,7 +19,7 @@ use Rattle.vms_walk.specs.Steps.{size_in, capacities_of}
 use Rattle.vms_walk.proofs.Spots.{cells_table}
 use Rattle.vms_walk.proofs.Walking.{fields_at}
 use Rattle.vms_values.specs.Taken.{run_read}
-use Rattle.vms_values.proofs.Least.{exceeds_least}
+use Rattle.vms_walk.proofs.Least.{exceeds_least}
 use Rattle.vms_values.proofs.Readers.{readers_cells, then_same}
 
 -- ---- of the capacities that a number counts, the least is enough

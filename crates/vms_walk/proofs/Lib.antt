@@ -9,3 +9,4 @@ pub mod Ranks
 pub mod Results
 pub mod Spots
 pub mod Walking
+pub mod Least
