@@ -20,7 +20,7 @@ pub(crate) type Unit = ArrayVec<u8, LONGEST>;
 /// Bytes that aren't held are read past in pieces of at most so many.
 const PASSAGE: usize = 4096;
 
-/// So few are read past at once.
+/// So few are held or read past at once, in room of their own size.
 const FEW: usize = 64;
 
 /// Fills `buf`, or refuses the unit at `at` where the input ends before.
@@ -68,10 +68,38 @@ pub(crate) fn grow<S: Source>(
     ensures cause { HasCause (S.faults source.old) (S.faults source.new) result }
     ensures promise { S.promise source.new ≡ S.promise source.old }
 {
-    let mut room = [0; LONGEST];
-    let bytes = &mut room[..count];
-    fill(source, at, bytes)?;
-    let _fits = unit.try_extend_from_slice(bytes);
+    if count <= FEW {
+        return grow_by(source, at, unit, &mut [0; FEW][..count]);
+    }
+    grow_by(source, at, unit, &mut [0; LONGEST][..count])
+}
+
+// Appends the next bytes to the unit at `at`, as many as `buf` has room for, or refuses it.
+fn grow_by<S: Source>(
+    source: &mut S,
+    at: u64,
+    unit: &mut Unit,
+    buf: &mut [u8],
+) -> Result<(), FrameFault>
+    requires { array_vec_len unit.old + length buf.old ≤ 269 }
+    ensures bytes { OnOk result
+        (Grows (S.left source.old) (S.left source.new) unit.old.items unit.new.items (length buf.old)) }
+    ensures kept { OnOk result (take (length unit.old.items) unit.new.items ≡ unit.old.items) }
+    ensures long { OnOk result (length unit.new.items ≡ length unit.old.items + length buf.old) }
+    ensures cut { IfErr result
+        (CutsShort (S.left source.old) (S.left source.new) at (length buf.old)) }
+    ensures heard { let n = length buf.old in OnOk result
+        (HearsPart (S.given source.old) (S.given source.new) unit.old.items unit.new.items n) }
+    ensures missed { IfErr result
+        (HearsShort (S.given source.old) (S.given source.new) at (length buf.old)) }
+    ensures given { MatchResult result
+        (λ _. S.given source.new ≡ capped (S.given source.old + length buf.old))
+        (λ _. S.given source.new ≤ S.given source.old + length buf.old) }
+    ensures cause { HasCause (S.faults source.old) (S.faults source.new) result }
+    ensures promise { S.promise source.new ≡ S.promise source.old }
+{
+    fill(source, at, buf)?;
+    let _fits = unit.try_extend_from_slice(buf);
     Ok(())
 }
 
