@@ -13,10 +13,10 @@ use Rattle.vms_check.specs.Carrying.{Carrier, no_carrier, carrier_of, carriers, 
 use Rattle.vms_upgrade.specs.Segments.{FitsAt}
 use Rattle.vms_upgrade.proofs.Segments.{fits_at, fits_left, fits_right}
 use Rattle.vms_spec.proofs.Faultless.{or_else_none}
+use Rattle.vms_spec.proofs.Prefixes.{struct_cells_at}
 use Rattle.vms_upgrade.proofs.Pairing.{cells_in, AreKnown, all_known}
 use Rattle.vms_upgrade.proofs.Linking.{zip_of}
 use Rattle.vms_upgrade.proofs.Premises.{OldGood, OldFields, NewGood, NewFields}
-use Rattle.vms_upgrade.proofs.Prefixes.{struct_cells_at}
 use Rattle.vms_upgrade.proofs.Counts.{old_fields}
 use Rattle.vms_upgrade.proofs.Structures.{OldStructs, NewStructs, new_below, plain_below, plains_further, comparer_last, comparer_earlier, carrier_last, carrier_earlier}
 use Rattle.vms_upgrade.proofs.Bounds.{indexed, present_increasing, OldStand, NewSingle}
