@@ -1,14 +1,11 @@
 -- A structure has the same cells and entries in each table that reaches it.
-use Rattle.std.proofs.Common.{◌≡◌, ℕ, zero, suc, ◌+◌, ◌*◌, ◌<◌, List, [], ◌∷◌, ◌++◌, length, get_or, ℤ, pos, refl, sym, ap, ◌∙◌, arith, Bool, true, ◌&&◌}
+use Rattle.std.proofs.Common.{◌≡◌, ℕ, ◌+◌, ◌*◌, ◌<◌, List, [], ◌∷◌, ◌++◌, length, get_or, ℤ, refl, ap, ◌∙◌, arith, Bool, ◌&&◌}
 use mathlib.Core.Path.{fun_ext}
-use Rattle.std.proofs.lemmas.Bool.{ltb-true}
 use Rattle.vms_kinds.specs.declared.Item.{Item}
 use Rattle.vms_kinds.specs.declared.Item.TheVariants.{Num, Equal, Unused, Struct}
-use Rattle.vms_kinds.specs.Codes.{width, residue}
-use Rattle.vms_spec.specs.Sets.{Field, Desc, Set}
-use Rattle.vms_spec.specs.Rules.{uses_below}
+use Rattle.vms_spec.specs.Sets.{Field, Set}
 use Rattle.vms_spec.specs.Tests.{is_there}
-use Rattle.vms_spec.specs.Layout.{Cell, no_desc, no_field, no_parent, first, times, item_cells, item_size, field_cells, cells_from, desc_cells, struct_cells, capacity_of, counted, elements_of, numbers_of, place_of, kind_of}
+use Rattle.vms_spec.specs.Layout.{Cell, no_desc, no_parent, first, item_size, desc_cells, struct_cells, capacity_of, elements_of, numbers_of}
 use Rattle.vms_spec.proofs.Prefixes.{ItemBelow, FieldsBelow, desc_cells_same, first_same}
 use Rattle.vms_spec.proofs.Tables.{first_at}
 use Rattle.vms_selfdesc.specs.Entries.{Entry, Lister, no_lister, item_entries, array_entries, field_entries, entries_from, desc_entries, listers}

@@ -1,6 +1,6 @@
 -- What well-formedness gives to the laws on pairs of sets.
 use Rattle.std.proofs.Common.{◌≡◌, ℕ, zero, suc, ◌+◌, ◌<◌, Bool, true, List, [], ◌∷◌, length, get_or, Option, Some, None, refl, subst, arith, ℤ, nat_lt}
-use Rattle.std.proofs.lemmas.Bool.{and_parts, and_from, ltb-true}
+use Rattle.std.proofs.lemmas.Bool.{and_parts, and_from}
 use Rattle.vms_kinds.specs.declared.Kind.TheVariants.{U8, U16, U32, U64, I8, I16, I32, I64, Bool as Truth, Timer}
 use Rattle.vms_kinds.specs.declared.Item.{Item}
 use Rattle.vms_kinds.specs.declared.Item.TheVariants.{Num, Equal, Unused, Struct}
@@ -13,7 +13,7 @@ use Rattle.vms_spec.specs.Layout.{no_desc, counted}
 use Rattle.vms_spec.specs.Rules.{names_well, nobody, is_steady, is_steady_in, is_earlier_in, test_names_well, count_names_well, is_counting, uses_below, defaults_well, counts_well, has_good_count, field_rules, validation_rules}
 use Rattle.vms_spec.specs.WellFormed.{WellFormed, struct_rules, device_rules, sub_rules}
 use Rattle.vms_spec.proofs.Faultless.{AllTrue}
-use Rattle.vms_spec.proofs.Prefixes.{ItemBelow, item_below}
+use Rattle.vms_spec.proofs.Prefixes.{item_below}
 use Rattle.vms_laws.proofs.WellFormedLaws.{Clean, ranges, within, struct_clean, device_parts, sub_clean}
 use Rattle.vms_upgrade.proofs.SameTests.{NamedRest}
 use Rattle.vms_upgrade.proofs.Describing.{steady}

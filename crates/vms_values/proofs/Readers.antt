@@ -1,18 +1,13 @@
 -- What is read of a structure is the same in each table that reaches it.
-use Rattle.std.proofs.Common.{◌≡◌, ℕ, zero, suc, ◌+◌, ◌<◌, ◌≤◌, Bool, true, ◌&&◌, List, [], ◌∷◌, ◌++◌, length, get_or, Ok, Err, ℤ, pos, refl, sym, ap, ◌∙◌, arith, codes}
-use mathlib.Core.Path.{fun_ext}
-use Rattle.std.proofs.lemmas.Bool.{ltb-true}
-use Rattle.std.proofs.lemmas.List.{map-append}
+use Rattle.std.proofs.Common.{◌≡◌, ℕ, zero, suc, ◌+◌, ◌<◌, Bool, true, ◌&&◌, List, [], ◌∷◌, ◌++◌, length, get_or, Ok, Err, pos, refl, ap, ◌∙◌, arith, codes}
 use Rattle.std.specs.Fmt.{decimal}
 use Rattle.vms_kinds.specs.declared.Item.{Item}
 use Rattle.vms_kinds.specs.declared.Item.TheVariants.{Num, Equal, Unused, Struct}
-use Rattle.vms_kinds.specs.Codes.{width, residue}
 use Rattle.vms_spec.specs.declared.Count.{Count}
 use Rattle.vms_spec.specs.declared.Count.TheVariants.{One, Fixed, Counted}
 use Rattle.vms_spec.specs.Sets.{Field, Desc, Set}
 use Rattle.vms_spec.specs.Tests.{is_there}
-use Rattle.vms_spec.specs.Rules.{uses_below}
-use Rattle.vms_spec.specs.Layout.{Cell, no_desc, no_field, no_parent, kind_of, first, item_cells, item_size, times, desc_cells, field_cells, place_of, numbers_of, elements_of, capacity_of, counted}
+use Rattle.vms_spec.specs.Layout.{Cell, no_desc, no_parent, first, item_size, desc_cells, field_cells, numbers_of, elements_of, counted}
 use Rattle.vms_spec.specs.ValuesReading.{Reader, Standing, Read, ◌>>=◌, no_reader, reader, readers, cells_of, read_item, read_elements, read_array, read_field, read_fields, read_desc}
 use Rattle.vms_spec.proofs.Prefixes.{ItemBelow, FieldsBelow, all_below, item_cells_same, field_cells_same, own_same, row_same, first_cells, first_same}
 use Rattle.vms_spec.proofs.Tables.{first_at}
