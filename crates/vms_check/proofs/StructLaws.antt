@@ -14,6 +14,7 @@ use Rattle.vms_spec.proofs.Tables.{first_at, first_long}
 use Rattle.vms_desc.specs.Formed.{is_well_formed}
 use Rattle.vms_desc.specs.Parts.{HasPart, desc_at}
 use Rattle.vms_desc.proofs.Clean.{reach, field_clean, struct_clean}
+use Rattle.vms_desc.proofs.Ranks.{reach_whole}
 use Rattle.vms_check.specs.Comparing.{Comparer, Entry, compare_desc, compare_fields, compare_validations, comparer_of, entry_of, failing_pair, no_comparer, pair_rules, pair_structs, position_from, present, present_from}
 use Rattle.vms_check.specs.Reducing.{presence}
 use Rattle.vms_check.specs.Pairs.{struct_mismatch, table}
@@ -92,12 +93,6 @@ module _ (old new : Set) (well : is_well_formed new ≡ true) where
       ∙ ap (λ (u : ℕ). compare_desc (table old new) x y a b v u (parts.Struct i) (parts.Struct j)) (sym is_w)
 
 -- ---- which structures a part uses
-
-reach_whole : (set : Set) (part : Part) → HasPart set part → reach set part ≤ length set.structs
-reach_whole set parts.Set h = absurd h
-reach_whole set (parts.Struct j) h = omega arith
-reach_whole set (parts.Device i) h = omega arith
-reach_whole set (parts.Sub i j) h = omega arith
 
 pub uses_at : (set : Set) → is_well_formed set ≡ true → (part : Part) → HasPart set part → (k : ℕ) → k < length (desc_at set part).fields → (f : Field) → f ≡ get_or (desc_at set part).fields k no_field → (j : ℕ) → f.item ≡ Struct j
     → (j < reach set part) × (j < length set.structs)

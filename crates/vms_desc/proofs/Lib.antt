@@ -12,3 +12,4 @@ pub mod Clean
 pub mod HeadLaws
 pub mod TablesMade
 pub mod SpotTables
+pub mod Ranks

@@ -6,7 +6,8 @@ use Rattle.vms_spec.specs.Sets.{Field, Desc, Set}
 use Rattle.vms_spec.specs.Layout.{Cell, no_desc, first, times, counted, capacity_of, item_cells, item_size, field_cells, cells_from, desc_cells, struct_cells, numbers_of, all_hold}
 use Rattle.vms_elements.specs.Elements.{What, Element, Shape, no_shape, shape, shapes, cells_in, dotted, behind, single, Number, Constant, Filler, Rule, item_elements, Stand, stand_of, array_elements, field_elements, elements_from, desc_elements, index_text}
 use Rattle.vms_elements.specs.Parts.{cells_with, cells_of, elements_in}
-use Rattle.vms_elements.proofs.Tables.{both, one_more, shapes_cells, cells_at}
+use Rattle.vms_spec.proofs.Tables.{one_more}
+use Rattle.vms_elements.proofs.Tables.{both, shapes_cells, cells_at}
 
 with_append : (w : What) (xs ys : List Cell) → cells_with w (xs ++ ys) ≡ cells_with w xs ++ ys
 with_append w xs ys = elim w as (λ w. cells_with w (xs ++ ys) ≡ cells_with w xs ++ ys) [ Number cell ↦ refl | Constant kind z ↦ refl | Filler n ↦ refl | Rule b ↦ refl ]

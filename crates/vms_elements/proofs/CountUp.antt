@@ -7,7 +7,7 @@ use Rattle.vms_spec.specs.Layout.{Cell, no_desc, first, counted, capacity_of, it
 use Rattle.vms_spec.proofs.Sizes.{size_same}
 use Rattle.vms_elements.specs.Elements.{What, Element, Shape, no_shape, shape, shapes, cells_in, dotted, behind, single, Number, Constant, Filler, Rule, item_elements, Stand, stand_of, array_elements, field_elements, elements_from, desc_elements, index_text}
 use Rattle.vms_elements.specs.Parts.{cells_with, cells_of, is_number, numbers_in, CountsUp, elements_in}
-use Rattle.vms_elements.proofs.Tables.{one_more}
+use Rattle.vms_spec.proofs.Tables.{one_more}
 use Rattle.vms_elements.proofs.CellsOf.{cells_behind, item_has, field_has, AreShapes, are_shapes}
 
 pick_append : {B : Type 0} (b : Bool) (x : B) (xs ys zs : List B) → xs ≡ ys ++ zs → (if b then x ∷ xs else xs) ≡ (if b then x ∷ ys else ys) ++ zs

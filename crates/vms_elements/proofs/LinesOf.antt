@@ -16,6 +16,7 @@ use Rattle.vms_elements.specs.Elements.{Element, Shape, no_shape, shape, shapes,
 use Rattle.vms_elements.specs.Parts.{is_number}
 use Rattle.vms_elements.specs.Lines.{text_of, printed, number_line, number_lines, section_line, sub_line, subs_lines, device_lines, devices_lines, machine_lines, values_lines}
 use Rattle.vms_spec.proofs.Tables.{first_long}
+use Rattle.vms_spec.proofs.Prefixes.{first_cells}
 use Rattle.vms_elements.proofs.Tables.{both, two_more, shapes_cells}
 use Rattle.vms_elements.proofs.SlotsOf.{below_true, past_false}
 
@@ -184,15 +185,8 @@ module _ (ss : List Shape) (ps : List Printer) (cells : cells_in ss ≡ printed_
       ∙ fields_printed path d.fields v own n 0 at d.fields
       ∙ ap (λ (cs : List (List Cell)). field_lines ps d.fields (numbers_of cs d n at) path n 0 at d.fields) cells
 
-printers_cells : (ds : List Desc) (k : ℕ) → printed_cells (first printer ds k) ≡ first desc_cells ds k
-unfolding first
-printers_cells ds zero = refl
-printers_cells ds (suc k) =
-    map-append (λ p. p.cells) (first printer ds k) (printer (first printer ds k) (get_or ds k no_desc) ∷ [])
-    ∙ ap (λ (cs : List (List Cell)). cs ++ desc_cells cs (get_or ds k no_desc) ∷ []) (printers_cells ds k)
-
 same_cells : (ds : List Desc) (k : ℕ) → cells_in (first shape ds k) ≡ printed_cells (first printer ds k)
-same_cells ds k = shapes_cells ds k ∙ sym (printers_cells ds k)
+same_cells ds k = shapes_cells ds k ∙ sym (first_cells (λ (p : Printer). p.cells) printer (λ ps d. refl) ds k)
 
 are_printed : (ds : List Desc) (k : ℕ) → ArePrinted (first shape ds k) (first printer ds k)
 unfolding first

@@ -8,7 +8,8 @@ use Rattle.vms_spec.specs.Sets.{Field, Desc}
 use Rattle.vms_spec.specs.Layout.{no_desc, first, counted, capacity_of, item_size, field_cells, desc_cells, numbers_of, all_hold}
 use Rattle.vms_elements.specs.Elements.{Element, Shape, no_shape, shape, cells_in, dotted, behind, single, Rule, item_elements, Stand, stand_of, array_elements, field_elements, elements_from, desc_elements, index_text}
 use Rattle.vms_elements.specs.Parts.{absent, is_number, numbers_in, cells_of, names_of}
-use Rattle.vms_elements.proofs.Tables.{both, one_more}
+use Rattle.vms_spec.proofs.Tables.{one_more}
+use Rattle.vms_elements.proofs.Tables.{both}
 use Rattle.vms_elements.proofs.CountUp.{numbers_append, numbers_long}
 
 pub names_append : (xs ys : List Element) → names_of (xs ++ ys) ≡ names_of xs ++ names_of ys

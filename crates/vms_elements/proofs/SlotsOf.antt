@@ -1,7 +1,6 @@
 -- The elements that stand in the bytes are the slots.
 use Rattle.std.proofs.Common.{◌≡◌, ℕ, zero, suc, ◌+◌, ◌<◌, ◌≤◌, List, [], ◌∷◌, ◌++◌, length, get_or, map, ℤ, refl, sym, ap, ◌∙◌, arith, Bool, true, false, ◌&&◌, nat_lt, if◌then◌else◌}
 use Rattle.std.proofs.lemmas.Bool.{ltb-true, ltb-false}
-use Rattle.std.proofs.lemmas.List.{map-append}
 use Rattle.vms_kinds.specs.declared.Item.{Item}
 use Rattle.vms_kinds.specs.declared.Item.TheVariants.{Num, Equal, Unused, Struct}
 use Rattle.vms_spec.specs.Sets.{Field, Desc, Set}
@@ -12,6 +11,7 @@ use Rattle.vms_spec.proofs.Sizes.{elements_fit}
 use Rattle.vms_elements.specs.Elements.{Element, Shape, no_shape, shape, shapes, cells_in, dotted, behind, single, Rule, item_elements, Stand, stand_of, array_elements, field_elements, elements_from, desc_elements, index_text}
 use Rattle.vms_elements.specs.Parts.{slot_of, slots_of, elements_in}
 use Rattle.vms_spec.proofs.Tables.{first_long}
+use Rattle.vms_spec.proofs.Prefixes.{first_cells}
 use Rattle.vms_elements.proofs.Tables.{both, two_more, shapes_cells}
 
 pick_append : {B : Type 0} (b : Bool) (x : B) (xs ys zs : List B) → xs ≡ ys ++ zs → (if b then x ∷ xs else xs) ≡ (if b then x ∷ ys else ys) ++ zs
@@ -136,15 +136,8 @@ module _ (ss : List Shape) (ms : List Meaning) (cells : cells_in ss ≡ meant_ce
       ∙ ap (λ (l : List Slot). l ++ slots.Rule (all_hold d.validate v own) ∷ []) (fields_meant d.fields v own n 0 at d.fields)
       ∙ ap (λ (cs : List (List Cell)). slots_from ms d.fields v (numbers_of cs d n at) n 0 at d.fields ++ slots.Rule (all_hold d.validate v (numbers_of cs d n at)) ∷ []) cells
 
-meanings_cells : (ds : List Desc) (k : ℕ) → meant_cells (meanings ds k) ≡ first desc_cells ds k
-unfolding first
-meanings_cells ds zero = refl
-meanings_cells ds (suc k) =
-    map-append (λ m. m.cells) (meanings ds k) (meaning (meanings ds k) (get_or ds k no_desc) ∷ [])
-    ∙ ap (λ (cs : List (List Cell)). cs ++ desc_cells cs (get_or ds k no_desc) ∷ []) (meanings_cells ds k)
-
 pub same_cells : (ds : List Desc) (k : ℕ) → cells_in (first shape ds k) ≡ meant_cells (meanings ds k)
-same_cells ds k = shapes_cells ds k ∙ sym (meanings_cells ds k)
+same_cells ds k = shapes_cells ds k ∙ sym (first_cells (λ (m : Meaning). m.cells) meaning (λ ms d. refl) ds k)
 
 pub are_meant : (ds : List Desc) (k : ℕ) → AreMeant (first shape ds k) (meanings ds k)
 unfolding first

@@ -7,6 +7,7 @@ use Rattle.vms_spec.specs.Sets.{Field, Desc}
 use Rattle.vms_spec.specs.Tests.{is_there}
 use Rattle.vms_spec.specs.Layout.{Slot, Rule, Meaning, no_meaning, no_desc, item_slots, item_size, times, field_slots, slots_from, desc_slots, field_cells, numbers_of, elements_of, counted, all_hold, no_parent, first, meaning, meanings}
 use Rattle.vms_spec.specs.Images.{has_cell}
+use Rattle.vms_spec.proofs.Tables.{one_more}
 use Rattle.vms_laws.proofs.Names.{names_append}
 
 -- none of the slots has a number below the cell
@@ -33,23 +34,16 @@ pub record MeansAbove (m : Meaning) : Type 0 where
   pub means : (at : ℕ) (numbers : List ℤ) → IsAbove at (m.slots numbers at)
 
 abbrev pub MeanAbove : List Meaning → Type 0
-MeanAbove [] = Unit {0}
-MeanAbove (m ∷ ms) = MeansAbove m × MeanAbove ms
+MeanAbove ms = (j : ℕ) → MeansAbove (get_or ms j no_meaning)
 
-above_at : (ms : List Meaning) (j : ℕ) → MeanAbove ms → MeansAbove (get_or ms j no_meaning)
-above_at [] j h = record { means = λ at numbers. above_none at }
-above_at (m ∷ ms) zero h = h.0
-above_at (m ∷ ms) (suc j) h = above_at ms j h.1
-
-more_above : (ms : List Meaning) (m : Meaning) → MeanAbove ms → MeansAbove m → MeanAbove (ms ++ m ∷ [])
-more_above [] m h x = (x, tt)
-more_above (y ∷ ms) m h x = (h.0, more_above ms m h.1 x)
+none_above : MeansAbove no_meaning
+none_above = record { means = λ at numbers. above_none at }
 
 pub item_above : (ms : List Meaning) → MeanAbove ms → (item : Item) (caps : List ℕ) (numbers : List ℤ) (at : ℕ) → IsAbove at (item_slots ms item caps numbers at)
 item_above ms h (Num kind) caps numbers at = record { below = λ c lt. ap (λ (b : Bool). b || false) (not_same at c lt) }
 item_above ms h (Equal kind y) caps numbers at = record { below = λ c lt. refl }
 item_above ms h (Unused n) caps numbers at = record { below = λ c lt. refl }
-item_above ms h (Struct j) caps numbers at = (above_at ms j h).means at numbers
+item_above ms h (Struct j) caps numbers at = (h j).means at numbers
 
 pub items_above : (ms : List Meaning) → MeanAbove ms → (item : Item) (caps : List ℕ) (numbers : List ℤ) (n at step : ℕ) → IsAbove at (times n (item_slots ms item caps numbers) at step)
 items_above ms h item caps numbers zero at step = above_none at
@@ -80,7 +74,7 @@ desc_above ms h d v numbers at =
 
 pub meanings_above : (ds : List Desc) (k : ℕ) → MeanAbove (meanings ds k)
 unfolding first
-meanings_above ds zero = tt
+meanings_above ds zero = λ j. none_above
 meanings_above ds (suc k) =
-    more_above (meanings ds k) (meaning (meanings ds k) (get_or ds k no_desc)) (meanings_above ds k)
+    one_more MeansAbove no_meaning none_above (meanings ds k) (meanings_above ds k) (meaning (meanings ds k) (get_or ds k no_desc))
     (record { means = λ at numbers. desc_above (meanings ds k) (meanings_above ds k) (get_or ds k no_desc) (get_or ds k no_desc).version numbers at })

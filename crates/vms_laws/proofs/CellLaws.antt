@@ -1,7 +1,8 @@
 -- The numbers that stand in the bytes of a description are its cells.
 use Rattle.std.proofs.Common.{◌≡◌, ℕ, zero, suc, ◌+◌, ◌<◌, ◌≤◌, List, [], ◌∷◌, ◌++◌, length, get_or, map, drop, ℤ, refl, sym, ap, ◌∙◌, subst, arith, append_assoc, Bool, true, false, if◌then◌else◌}
 use Rattle.std.proofs.Math.Seq.{drop-append_seam}
-use Rattle.std.proofs.lemmas.List.{drop-drop, map-append}
+use Rattle.std.proofs.lemmas.List.{drop-drop}
+use Rattle.std.proofs.Math.ListN.{get_or-map}
 use Rattle.vms_kinds.specs.declared.Item.{Item}
 use Rattle.vms_kinds.specs.declared.Item.TheVariants.{Num, Equal, Unused, Struct}
 use Rattle.vms_spec.specs.Sets.{Field, Desc}
@@ -9,6 +10,8 @@ use Rattle.vms_spec.specs.Tests.{is_there}
 use Rattle.vms_spec.specs.Layout.{Slot, Number, Constant, Filler, Rule, Cell, no_cell, Meaning, no_meaning, no_desc, item_cells, item_slots, item_size, times, field_slots, slots_from, desc_slots, desc_cells, cells_from, field_cells, numbers_of, elements_of, capacity_of, counted, all_hold, no_parent, first, meaning, meanings}
 use Rattle.vms_laws.specs.Cells.{AreCells}
 use Rattle.vms_spec.proofs.Sizes.{size_same, elements_fit}
+use Rattle.vms_spec.proofs.Prefixes.{first_cells}
+use Rattle.vms_spec.proofs.Tables.{one_more}
 
 -- from a place on, these cells stand in a list
 pub record Stands (all : List Cell) (at : ℕ) (cells : List Cell) : Type 0 where
@@ -44,25 +47,13 @@ pub record MeansCells (m : Meaning) : Type 0 where
   pub means : (all : List Cell) (at : ℕ) (numbers : List ℤ) → Stands all at m.cells → AreCells all (m.slots numbers at)
 
 abbrev pub MeanCells : List Meaning → Type 0
-MeanCells [] = Unit {0}
-MeanCells (m ∷ ms) = MeansCells m × MeanCells ms
+MeanCells ms = (j : ℕ) → MeansCells (get_or ms j no_meaning)
 
-means_at : (ms : List Meaning) (j : ℕ) → MeanCells ms → MeansCells (get_or ms j no_meaning)
-means_at [] j h = record { means = λ all at numbers s. tt }
-means_at (m ∷ ms) zero h = h.0
-means_at (m ∷ ms) (suc j) h = means_at ms j h.1
-
-means_append : (ms : List Meaning) (m : Meaning) → MeanCells ms → MeansCells m → MeanCells (ms ++ m ∷ [])
-means_append [] m h x = (x, tt)
-means_append (y ∷ ms) m h x = (h.0, means_append ms m h.1 x)
+none_means : MeansCells no_meaning
+none_means = record { means = λ all at numbers s. tt }
 
 abbrev cells_in : List Meaning → List (List Cell)
 cells_in ms = map (λ m. m.cells) ms
-
-get_cells : (ms : List Meaning) (j : ℕ) → get_or (cells_in ms) j [] ≡ (get_or ms j no_meaning).cells
-get_cells [] j = refl
-get_cells (m ∷ ms) zero = refl
-get_cells (m ∷ ms) (suc j) = get_cells ms j
 
 pub item_are : (ms : List Meaning) → MeanCells ms → (item : Item) (caps : List ℕ) (z : ℤ) (all : List Cell) (at : ℕ) (numbers : List ℤ)
     → Stands all at (item_cells (cells_in ms) item caps z) → AreCells all (item_slots ms item caps numbers at)
@@ -71,7 +62,7 @@ item_are ms h (Num kind) caps z all at numbers s =
     (record { within = x.0; kind = ap (λ (c : Cell). c.kind) x.1; capacities = ap (λ (c : Cell). c.capacities) x.1 }, tt)
 item_are ms h (Equal kind y) caps z all at numbers s = tt
 item_are ms h (Unused n) caps z all at numbers s = tt
-item_are ms h (Struct j) caps z all at numbers s = (means_at ms j h).means all at numbers (subst (λ (cs : List Cell). Stands all at cs) (get_cells ms j) s)
+item_are ms h (Struct j) caps z all at numbers s = (h j).means all at numbers (subst (λ (cs : List Cell). Stands all at cs) (get_or-map (λ (m : Meaning). m.cells) ms j no_meaning) s)
 
 pub items_are : (ms : List Meaning) → MeanCells ms → (item : Item) (caps : List ℕ) (z : ℤ) (all : List Cell) (n k at a step : ℕ) (numbers : List ℤ) → k ≤ n
     → Stands all at (times n (λ _. item_cells (cells_in ms) item caps z) a step) → AreCells all (times k (item_slots ms item caps numbers) at (item_size (cells_in ms) item))
@@ -113,16 +104,11 @@ desc_are ms h d v at numbers all s =
 
 pub meanings_are : (ds : List Desc) (k : ℕ) → MeanCells (meanings ds k)
 unfolding first
-meanings_are ds zero = tt
+meanings_are ds zero = λ j. none_means
 meanings_are ds (suc k) =
-    means_append (meanings ds k) (meaning (meanings ds k) (get_or ds k no_desc)) (meanings_are ds k)
+    one_more MeansCells no_meaning none_means (meanings ds k) (meanings_are ds k) (meaning (meanings ds k) (get_or ds k no_desc))
     (record { means = λ all at numbers s. desc_are (meanings ds k) (meanings_are ds k) (get_or ds k no_desc) (get_or ds k no_desc).version at numbers all s })
 
 -- the cells of the first k structures, made either way
 pub cells_first : (ds : List Desc) (k : ℕ) → cells_in (meanings ds k) ≡ first desc_cells ds k
-unfolding first
-cells_first ds zero = refl
-cells_first ds (suc k) =
-    map-append (λ (m : Meaning). m.cells) (meanings ds k) (meaning (meanings ds k) (get_or ds k no_desc) ∷ [])
-    ∙ ap (λ (cs : List (List Cell)). cs ++ desc_cells (cells_in (meanings ds k)) (get_or ds k no_desc) ∷ []) (cells_first ds k)
-    ∙ ap (λ (cs : List (List Cell)). first desc_cells ds k ++ desc_cells cs (get_or ds k no_desc) ∷ []) (cells_first ds k)
+cells_first ds k = first_cells (λ (m : Meaning). m.cells) meaning (λ ms d. refl) ds k

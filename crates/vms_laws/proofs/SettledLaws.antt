@@ -1,5 +1,6 @@
 -- The slots of a description depend on its own cells alone.
 use Rattle.std.proofs.Common.{◌≡◌, ℕ, zero, suc, ◌+◌, ◌*◌, ◌<◌, ◌≤◌, List, [], ◌∷◌, ◌++◌, length, length-append, get_or, map, drop, ℤ, pos, refl, sym, ap, ◌∙◌, arith, Bool, if◌then◌else◌}
+use Rattle.std.proofs.Math.ListN.{get_or-map}
 use Rattle.vms_kinds.specs.Codes.{width, residue}
 use Rattle.vms_kinds.specs.declared.Item.{Item}
 use Rattle.vms_kinds.specs.declared.Item.TheVariants.{Num, Equal, Unused, Struct}
@@ -9,6 +10,7 @@ use Rattle.vms_spec.specs.Layout.{Slot, Rule, Cell, Meaning, no_meaning, no_desc
 use Rattle.vms_laws.specs.Sound.{IsSound, AreSound, IsSoundField, AreSoundFields, IsEarlier}
 use Rattle.vms_laws.proofs.Places.{there_same, elements_same, hold_same, place_next, place_end, place_up, place_below}
 use Rattle.vms_spec.proofs.Sizes.{field_size, elements_fit}
+use Rattle.vms_spec.proofs.Tables.{one_more}
 use Rattle.vms_laws.proofs.WalkLaws.{drop_next, mul_less, place_first, zero_plus}
 
 -- the numbers of the cells from low on and below end are the same
@@ -28,32 +30,20 @@ pub record MeansSettled (m : Meaning) : Type 0 where
   pub means : (at low end : ℕ) (n k : List ℤ) → low ≤ at → at + length m.cells ≤ end → SameIn low end n k → m.slots k at ≡ m.slots n at
 
 abbrev pub MeanSettled : List Meaning → Type 0
-MeanSettled [] = Unit {0}
-MeanSettled (m ∷ ms) = MeansSettled m × MeanSettled ms
+MeanSettled ms = (j : ℕ) → MeansSettled (get_or ms j no_meaning)
+
+none_settled : MeansSettled no_meaning
+none_settled = record { means = λ at low end n k up le s. refl }
 
 abbrev pub cells_in : List Meaning → List (List Cell)
 cells_in ms = map (λ m. m.cells) ms
-
-settled_at : (ms : List Meaning) (j : ℕ) → MeanSettled ms → MeansSettled (get_or ms j no_meaning)
-settled_at [] j h = record { means = λ at low end n k up le s. refl }
-settled_at (m ∷ ms) zero h = h.0
-settled_at (m ∷ ms) (suc j) h = settled_at ms j h.1
-
-more_settled : (ms : List Meaning) (m : Meaning) → MeanSettled ms → MeansSettled m → MeanSettled (ms ++ m ∷ [])
-more_settled [] m h x = (x, tt)
-more_settled (y ∷ ms) m h x = (h.0, more_settled ms m h.1 x)
-
-get_cells : (ms : List Meaning) (j : ℕ) → get_or (cells_in ms) j [] ≡ (get_or ms j no_meaning).cells
-get_cells [] j = refl
-get_cells (m ∷ ms) zero = refl
-get_cells (m ∷ ms) (suc j) = get_cells ms j
 
 pub item_settled : (ms : List Meaning) → MeanSettled ms → (item : Item) (caps : List ℕ) (at low end : ℕ) (n k : List ℤ) → low ≤ at → at + item_size (cells_in ms) item ≤ end → SameIn low end n k
     → item_slots ms item caps k at ≡ item_slots ms item caps n at
 item_settled ms h (Num kind) caps at low end n k up le s = refl
 item_settled ms h (Equal kind z) caps at low end n k up le s = refl
 item_settled ms h (Unused c) caps at low end n k up le s = refl
-item_settled ms h (Struct j) caps at low end n k up le s = (settled_at ms j h).means at low end n k up (omega (arith, ap length (get_cells ms j))) s
+item_settled ms h (Struct j) caps at low end n k up le s = (h j).means at low end n k up (omega (arith, ap length (get_or-map (λ (m : Meaning). m.cells) ms j no_meaning))) s
 
 items_settled : (ms : List Meaning) → MeanSettled ms → (item : Item) (caps : List ℕ) (c at low end : ℕ) (n k : List ℤ) → low ≤ at → at + c * item_size (cells_in ms) item ≤ end → SameIn low end n k
     → times c (item_slots ms item caps k) at (item_size (cells_in ms) item) ≡ times c (item_slots ms item caps n) at (item_size (cells_in ms) item)
@@ -106,10 +96,10 @@ desc_settled ms h d v base low end n k sound up le s =
 
 pub meanings_settled : (ds : List Desc) → AreSound ds → (k : ℕ) → k ≤ length ds → MeanSettled (meanings ds k)
 unfolding first
-meanings_settled ds sound zero le = tt
+meanings_settled ds sound zero le = λ j. none_settled
 meanings_settled ds sound (suc k) le =
     let h : MeanSettled (meanings ds k) = meanings_settled ds sound k (omega arith) in
-    more_settled (meanings ds k) (meaning (meanings ds k) (get_or ds k no_desc)) h
+    one_more MeansSettled no_meaning none_settled (meanings ds k) h (meaning (meanings ds k) (get_or ds k no_desc))
     (record { means = λ at low end n m up fit s. desc_settled (meanings ds k) h (get_or ds k no_desc) (get_or ds k no_desc).version at low end n m (sound k (omega arith)) up fit s })
 
 pub slots_within : (ds : List Desc) → AreSound ds → (d : Desc) (v base low end : ℕ) (n k : List ℤ) → IsSound d → low ≤ base

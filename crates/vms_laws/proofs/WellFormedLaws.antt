@@ -26,6 +26,7 @@ use Rattle.vms_laws.specs.Sound.{IsNumber, IsOne, IsEarlier, NamesEarlier, IsSou
 use Rattle.vms_laws.specs.Good.{DefaultsFit, ConstantFits, ConstantsFit, IsGood}
 use Rattle.vms_spec.specs.Heads.{FitsHeads}
 use Rattle.vms_spec.proofs.Faultless.{or_else_none, answers_none, AllTrue, all_true}
+use Rattle.vms_spec.proofs.Tables.{one_more}
 use Rattle.vms_laws.proofs.PartLaws.{at_inside}
 
 -- ---- no fault anywhere
@@ -194,23 +195,13 @@ fit_times zero xs at' step p = tt
 fit_times (suc n) xs at' step p = fit_append xs (times n (λ _. xs) (at' + step) step) p (fit_times n xs (at' + step) step p)
 
 abbrev AllFit : List (List OneCell) → Type 0
-AllFit [] = Unit {0}
-AllFit (cells ∷ structs) = Fit cells × AllFit structs
-
-all_append : (xs : List (List OneCell)) (cells : List OneCell) → AllFit xs → Fit cells → AllFit (xs ++ cells ∷ [])
-all_append [] cells p q = (q, tt)
-all_append (x ∷ xs) cells p q = (p.0, all_append xs cells p.1 q)
-
-fit_struct : (structs : List (List OneCell)) (j : ℕ) → AllFit structs → Fit (get_or structs j [])
-fit_struct [] j p = tt
-fit_struct (x ∷ xs) zero p = p.0
-fit_struct (x ∷ xs) (suc j) p = fit_struct xs j p.1
+AllFit structs = (j : ℕ) → Fit (get_or structs j [])
 
 fit_item : (structs : List (List OneCell)) → AllFit structs → (item : Item) (caps : List ℕ) (z : ℤ) → defaults_well item z ≡ true → counts_well caps z ≡ true → Fit (item_cells structs item caps z)
 fit_item structs all (Num kind) caps z e f = ((ranges kind z e, within caps z f), tt)
 fit_item structs all (Equal kind y) caps z e f = tt
 fit_item structs all (Unused n) caps z e f = tt
-fit_item structs all (Struct j) caps z e f = fit_struct structs j all
+fit_item structs all (Struct j) caps z e f = all j
 
 -- the rule on defaults at each field of a description, from one on
 record FieldsFit (fields : List Field) (i : ℕ) (fs : List Field) : Type 0 where
@@ -322,10 +313,10 @@ module _ (set : Set) (well : WellFormed set) where
 
   structs_fit : (m : ℕ) → AllFit (first desc_cells set.structs m)
   unfolding first
-  structs_fit zero = tt
+  structs_fit zero = λ j. tt
   structs_fit (suc m) =
       let all = structs_fit m in
-      all_append (first desc_cells set.structs m) (desc_cells (first desc_cells set.structs m) (get_or set.structs m no_desc)) all
+      one_more Fit [] tt (first desc_cells set.structs m) all (desc_cells (first desc_cells set.structs m) (get_or set.structs m no_desc))
       (struct_fits (first desc_cells set.structs m) all m (at set.structs m) refl)
 
   part_fits : (d : Desc) (rules : List Bool) → Clean (length set.structs) d rules → Fit (desc_cells (struct_cells set) d)

@@ -12,7 +12,7 @@ use Rattle.vms_elements.specs.Elements.{Element, Shape, no_shape, shape, shapes,
 use Rattle.vms_elements.specs.Parts.{is_number, elements_in}
 use Rattle.vms_elements.specs.Lines.{printed}
 use Rattle.vms_elements.specs.Entries.{Entry, OfNumber, number_entries, subs_entries, device_entries, devices_entries, entries}
-use Rattle.vms_elements.proofs.Tables.{one_more}
+use Rattle.vms_spec.proofs.Tables.{one_more}
 use Rattle.vms_reading.proofs.Feeds.{NoFeed, feed_append, decimal_feed}
 use Rattle.vms_reading.proofs.Meeting.{AreClean}
 

@@ -11,7 +11,7 @@ use Rattle.vms_spec.specs.Names.{is_name_byte, is_name, is_sub_name}
 use Rattle.vms_spec.specs.Streams.{is_one_of}
 use Rattle.vms_spec.specs.Spelling.{begins_with}
 use Rattle.vms_spec.specs.ValuesReading.{machine_named}
-use Rattle.vms_spec.specs.WellFormed.{WellFormed, first_fault, failing, here, set_rules, struct_fault, struct_rules, device_fault, device_rules, sub_rules, size_rules, SetFault}
+use Rattle.vms_spec.specs.WellFormed.{WellFormed, first_fault, failing, here, set_rules, struct_fault, struct_rules, device_fault, device_rules, sub_rules, size_rules}
 use Rattle.vms_spec.proofs.Faultless.{or_else_none}
 use Rattle.vms_laws.proofs.WellFormedLaws.{Clean, struct_clean, device_parts, sub_clean, get_none, get_at}
 use Rattle.vms_texts.proofs.Lines.{same_bytes}

@@ -17,7 +17,7 @@ use Rattle.vms_elements.specs.Lines.{printed, number_line}
 use Rattle.vms_elements.specs.Entries.{OfNumber, have_defaults, line_reason}
 use Rattle.vms_elements.specs.Reading.{AreFine, has_line}
 use Rattle.vms_elements.proofs.Members.{Each, each_append, each_map}
-use Rattle.vms_elements.proofs.Tables.{one_more}
+use Rattle.vms_spec.proofs.Tables.{one_more}
 use Rattle.vms_reading.proofs.FineNumbers.{line_number, fits_reason}
 use Rattle.vms_reading.proofs.Numbers.{AreShort, of_numbers}
 use Rattle.vms_reading.proofs.Rights.{IsRight, AreRight, AreBare, IsNumberOf, IsNoNumber, view}

@@ -1,21 +1,14 @@
 -- Streams of any set, written and shown.
-use Rattle.std.proofs.Common.{◌≡◌, ℕ, suc, ◌≤◌, Bool, true, false, ◌&&◌, ◌||◌, nat_le, List, [], ◌∷◌, length, Option, Some, None, refl, sym, ap, ◌∙◌, subst, arith, append-nil}
-use Rattle.std.proofs.lemmas.Bool.{and_parts, leb-true}
-use Rattle.std.specs.Str.{bytes_eq}
-use Rattle.vms_spec.specs.declared.Part.TheVariants as parts
-use Rattle.vms_spec.specs.declared.Place.{Place}
-use Rattle.vms_spec.specs.Lists.{every, or_else}
-use Rattle.vms_spec.specs.Names.{is_name, is_name_byte}
+use Rattle.std.proofs.Common.{◌≡◌, ℕ, List, [], length, Option, Some, None, refl, sym, ap, ◌∙◌, subst, arith, append-nil}
 use Rattle.vms_spec.specs.Sets.{Set}
 use Rattle.vms_spec.specs.Images.{Image}
-use Rattle.vms_spec.specs.Streams.{IsConfiguration, IsTrailer, optional, configuration, trailer, is_one_of, written, AreReady}
+use Rattle.vms_spec.specs.Streams.{IsConfiguration, IsTrailer, optional, configuration, trailer, written, AreReady}
 use Rattle.vms_spec.specs.Values.{values_text}
 use Rattle.vms_spec.specs.ValuesReading.{values_read}
-use Rattle.vms_spec.specs.WellFormed.{WellFormed, SetFault, failing, first_fault, here, set_rules}
+use Rattle.vms_spec.specs.WellFormed.{WellFormed}
 use Rattle.vms_spec.proofs.Faultless.{machine_short, few_devices}
 use Rattle.vms_units.specs.Streams.{Takes}
 use Rattle.vms_units.proofs.Stated.{one_stream_holds, written_holds}
-use Rattle.vms_texts.proofs.Lines.{same_bytes}
 use Rattle.vms_elements.specs.Reading.{IsMachineOf}
 use Rattle.vms_reading.specs.Rounds.{FitsText, WrittenLaw, PackedLaw, ShownLaw}
 use Rattle.vms_reading.proofs.Stated.{accepted_holds, printed_holds}

@@ -2,7 +2,6 @@
 use Rattle.std.proofs.Common.{◌≡◌, ℕ, zero, suc, ◌+◌, ◌*◌, ◌<◌, ◌≤◌, List, [], ◌∷◌, ◌++◌, length, get_or, map, drop, ℤ, Bool, true, false, ◌&&◌, nat_lt, refl, sym, ap, ◌∙◌, subst, arith, append_assoc, append-nil, length-append, codes}
 use Rattle.std.specs.Fmt.{decimal}
 use Rattle.std.proofs.lemmas.Bool.{ltb-true, ltb-false}
-use Rattle.std.proofs.lemmas.List.{map-append}
 use Rattle.vms_kinds.specs.declared.Item.{Item}
 use Rattle.vms_kinds.specs.declared.Item.TheVariants.{Num, Equal, Unused, Struct}
 use Rattle.vms_kinds.specs.Codes.{width, residue}
@@ -17,6 +16,7 @@ use Rattle.vms_laws.proofs.Places.{there_same, elements_same, place_next}
 use Rattle.vms_laws.proofs.WalkLaws.{drop_next, zero_plus, place_first}
 use Rattle.vms_elements.specs.Elements.{Element, Number, Shape, no_shape, shape, shapes, cells_in, dotted, behind, single, Rule, item_elements, Stand, stand_of, array_elements, field_elements, elements_from, desc_elements, index_text}
 use Rattle.vms_spec.proofs.Tables.{first_long}
+use Rattle.vms_spec.proofs.Prefixes.{first_cells}
 use Rattle.vms_elements.proofs.Tables.{both, two_more, shapes_cells}
 use Rattle.vms_elements.proofs.SlotsOf.{below_true, past_false}
 use Rattle.vms_reading.specs.Said.{Said, Agrees}
@@ -280,11 +280,7 @@ module _ (total : List ℤ → List Element) (start : Standing) (low : ℕ) wher
   -- ---- structures
 
   readers_cells : (ds : List Desc) (k : ℕ) → cells_of (first reader ds k) ≡ first desc_cells ds k
-  unfolding first
-  readers_cells ds zero = refl
-  readers_cells ds (suc k) =
-      map-append (λ r. r.cells) (first reader ds k) (reader (first reader ds k) (get_or ds k no_desc) ∷ [])
-      ∙ ap (λ (cs : List (List Cell)). cs ++ desc_cells cs (get_or ds k no_desc) ∷ []) (readers_cells ds k)
+  readers_cells ds k = first_cells (λ (r : Reader). r.cells) reader (λ rs d. refl) ds k
 
   same_cells : (ds : List Desc) (k : ℕ) → cells_in (first shape ds k) ≡ cells_of (first reader ds k)
   same_cells ds k = shapes_cells ds k ∙ sym (readers_cells ds k)

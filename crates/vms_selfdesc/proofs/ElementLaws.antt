@@ -14,11 +14,12 @@ use Rattle.vms_desc.proofs.Clean.{reach, field_clean}
 use Rattle.vms_selfdesc.specs.Entries.{no_lister, listers, part_entries}
 use Rattle.vms_selfdesc.specs.OfElements.{entries_of, ElementsLaw}
 use Rattle.vms_selfdesc.proofs.OfElements.{of_desc}
-use Rattle.vms_selfdesc.proofs.Ranks.{reach_whole}
-use Rattle.vms_selfdesc.proofs.Structures.{AllBelow, all_below, struct_entries_are}
+use Rattle.vms_desc.proofs.Ranks.{reach_whole}
+use Rattle.vms_selfdesc.proofs.Structures.{struct_entries_are}
+use Rattle.vms_spec.proofs.Prefixes.{FieldsBelow, all_below}
 
 module _ (set : Set) (well : is_well_formed set ≡ true) where
-  part_below : (part : Part) → HasPart set part → AllBelow (reach set part) (desc_at set part).fields
+  part_below : (part : Part) → HasPart set part → FieldsBelow (reach set part) (desc_at set part).fields
   part_below part h = all_below (reach set part) (desc_at set part).fields (λ i lt. (field_clean set well part h i lt).uses)
 
   -- the cells of the earlier structures, in the table before structure k

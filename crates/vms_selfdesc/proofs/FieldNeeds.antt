@@ -20,9 +20,10 @@ use Rattle.vms_selfdesc.specs.Entries.{Entry, listers, array_entries, element_en
 use Rattle.vms_selfdesc.specs.Listing.{is_field_sent, item_list, field_list, part_list}
 use Rattle.vms_selfdesc.specs.Needs.{HasPlace, HasElements}
 use Rattle.vms_selfdesc.proofs.Listed.{fewer_room, one_small}
-use Rattle.vms_selfdesc.proofs.Ranks.{item_rank, part_rank, reach_whole, uses_more, rank_below}
+use Rattle.vms_desc.proofs.Ranks.{item_rank, part_rank, reach_whole, uses_more, rank_below}
 use Rattle.vms_selfdesc.proofs.Sound.{field_sound}
-use Rattle.vms_selfdesc.proofs.Structures.{AllBelow, all_below, struct_cells_are, struct_entries_are}
+use Rattle.vms_selfdesc.proofs.Structures.{struct_cells_are, struct_entries_are}
+use Rattle.vms_spec.proofs.Prefixes.{FieldsBelow, all_below}
 
 -- ---- elements of a field
 
@@ -77,7 +78,7 @@ module _ (set : Set) (well : is_well_formed set ≡ true) (item : Item) (j : ℕ
   pub struct_there : j < length set.structs
   struct_there = ltb-true j (length set.structs) (subst (λ x. uses_below (length set.structs) x ≡ true) is reaches)
 
-  below : AllBelow j (get_or set.structs j no_desc).fields
+  below : FieldsBelow j (get_or set.structs j no_desc).fields
   below = all_below j (get_or set.structs j no_desc).fields (λ i l. ((struct_clean set well j struct_there).fields i l).uses)
 
   pub struct_place : (n : List ℤ) (cell : ℕ) → length n ≤ 16384 → cell + 1 * item_size (struct_cells set) item ≤ length n → HasPlace set (parts.Struct j) cell n

@@ -12,7 +12,6 @@ pub mod MemberTexts
 pub mod Paths
 pub mod Plain
 pub mod PlainNames
-pub mod Ranks
 pub mod ReadBack
 pub mod ReadyDevices
 mod Rows

@@ -1,20 +1,19 @@
 -- The entries of a part are those of its elements.
 use Rattle.std.proofs.Common.{◌≡◌, ℕ, zero, suc, ◌+◌, ◌*◌, ◌<◌, ◌≤◌, List, [], ◌∷◌, ◌++◌, length, append_assoc, get_or, map, ℤ, pos, Bool, true, false, ◌&&◌, nat_lt, refl, sym, ap, ◌∙◌, arith, Option}
-use Rattle.std.proofs.lemmas.Bool.{ltb-true, le-ltb, lt-ltb}
+use Rattle.std.proofs.lemmas.Bool.{le-ltb, lt-ltb}
 use Rattle.std.proofs.lemmas.List.{append-nil}
 use Rattle.vms_kinds.specs.declared.Item.{Item}
 use Rattle.vms_kinds.specs.declared.Item.TheVariants.{Num, Equal, Unused, Struct}
 use Rattle.vms_spec.specs.declared.Count.{Count}
 use Rattle.vms_spec.specs.declared.Count.TheVariants.{One, Fixed, Counted}
 use Rattle.vms_spec.specs.Sets.{Formula, Field, Desc}
-use Rattle.vms_spec.specs.Rules.{uses_below}
 use Rattle.vms_spec.specs.Tests.{is_there}
 use Rattle.vms_spec.specs.Layout.{Cell, no_parent, item_size, capacity_of, elements_of, counted, field_cells, numbers_of, desc_cells, all_hold}
 use Rattle.vms_spec.proofs.Sizes.{field_size, elements_fit}
 use Rattle.vms_elements.specs.Elements.{What, Number, Constant, Filler, Rule, Element, Shape, no_shape, cells_in, index_text, dotted, behind, single, item_elements, Stand, array_elements, field_elements, elements_from, desc_elements}
 use Rattle.vms_selfdesc.specs.Entries.{Entry, Lister, no_lister, cell_entry, sent_entry, listed_if, item_entries, element_path, element_entries, array_entries, field_entries, entries_from, desc_entries}
 use Rattle.vms_selfdesc.specs.OfElements.{entry_of, entries_of}
-use Rattle.vms_selfdesc.proofs.Structures.{AllBelow, item_cells_same, own_same}
+use Rattle.vms_spec.proofs.Prefixes.{ItemBelow, FieldsBelow, item_cells_same, own_same}
 
 of_append : (sent : Bool) (path : List ℕ) (xs ys : List Element) → entries_of sent path (xs ++ ys) ≡ entries_of sent path xs ++ entries_of sent path ys
 of_append sent path [] ys = refl
@@ -97,7 +96,7 @@ module _ (f : Field) (stand : Stand) (part : ℕ → List Element) (step : ℕ) 
 
 module _ (cells : List (List Cell)) (ls : List Lister) (shapes : List Shape) (k : ℕ) (agree : (i : ℕ) → i < k → get_or (cells_in shapes) i [] ≡ get_or cells i [])
     (fit : (i : ℕ) → i < k → (sent : Bool) (path : List ℕ) (n : List ℤ) (at : ℕ) → entries_of sent path ((get_or shapes i no_shape).elements n at) ≡ get_or ls i no_lister sent path n at) where
-  of_item : (item : Item) (caps : List ℕ) (z : ℤ) (sent : Bool) (path : List ℕ) (n : List ℤ) (at : ℕ) → uses_below k item ≡ true
+  of_item : (item : Item) (caps : List ℕ) (z : ℤ) (sent : Bool) (path : List ℕ) (n : List ℤ) (at : ℕ) → ItemBelow k item
       → entries_of sent path (item_elements shapes item caps z n at) ≡ item_entries ls item z sent path n at
   of_item (Num kind) caps z sent path n at e =
       ap (λ p. cell_entry (sent && true) p kind z ∷ []) (append-nil path) ∙ ap (λ b. cell_entry b path kind z ∷ []) (and_true sent)
@@ -107,7 +106,7 @@ module _ (cells : List (List Cell)) (ls : List Lister) (shapes : List Shape) (k 
   of_item (Unused m) caps z sent path n at e =
       append-nil (listed_if (sent && true) (sent_entry (path ++ []) m _))
       ∙ ap (λ p. listed_if (sent && true) (sent_entry p m _)) (append-nil path) ∙ ap (λ b. listed_if b (sent_entry path m _)) (and_true sent)
-  of_item (Struct j) caps z sent path n at e = of_dotted sent path ((get_or shapes j no_shape).elements n at) ∙ fit j (ltb-true j k e) sent (path ++ 46 ∷ []) n at
+  of_item (Struct j) caps z sent path n at e = of_dotted sent path ((get_or shapes j no_shape).elements n at) ∙ fit j e sent (path ++ 46 ∷ []) n at
 
   -- a field of this count
   of_count : (name : List ℕ) (former : List (List ℕ)) (item : Item) (since : ℕ) (test : Option Formula) (default : ℤ) (count : Count) (number : ℕ) (there : Bool) (own : ℕ → ℕ) (part : ℕ → List Element) (step : ℕ) (sent : Bool)
@@ -129,7 +128,7 @@ module _ (cells : List (List Cell)) (ls : List Lister) (shapes : List Shape) (k 
       many (record { name = name; former = former; item = item; count = Counted by m; since = since; test = test; default = default }) (record { number = number; count = elements_of (Counted by m) own; there = there }) part step sent path one
       (λ e a. is (path ++ (name ++ index_text (Counted by m) e)) a ∙ ap (λ p. one p a) (sym (append_assoc path name (index_text (Counted by m) e)))) 0 m at (elements_of (Counted by m) own) (omega arith) (elements_fit (Counted by m) own)
 
-  of_field : (fields : List Field) (v : ℕ) (own : ℕ → ℕ) (sent : Bool) (path : List ℕ) (n : List ℤ) (i at : ℕ) (f : Field) → uses_below k f.item ≡ true
+  of_field : (fields : List Field) (v : ℕ) (own : ℕ → ℕ) (sent : Bool) (path : List ℕ) (n : List ℤ) (i at : ℕ) (f : Field) → ItemBelow k f.item
       → entries_of sent path (field_elements shapes fields v own n i at f) ≡ field_entries cells ls v own sent path n at f
   of_field fields v own sent path n i at f e =
       let there = is_there f.test f.since v own no_parent in
@@ -139,7 +138,7 @@ module _ (cells : List (List Cell)) (ls : List Lister) (shapes : List Shape) (k 
       (λ p a. of_item f.item (counted i fields) f.default (sent && there) p n a e)
       ∙ ap (λ s. array_entries (λ p a. item_entries ls f.item f.default (sent && there) p n a) f.count (elements_of f.count own) (path ++ f.name) at s) size
 
-  of_fields : (fields : List Field) (v : ℕ) (own : ℕ → ℕ) (sent : Bool) (path : List ℕ) (n : List ℤ) (i at : ℕ) (fs : List Field) → AllBelow k fs
+  of_fields : (fields : List Field) (v : ℕ) (own : ℕ → ℕ) (sent : Bool) (path : List ℕ) (n : List ℤ) (i at : ℕ) (fs : List Field) → FieldsBelow k fs
       → entries_of sent path (elements_from shapes fields v own n i at fs) ≡ entries_from cells ls v own sent path n at fs
   of_fields fields v own sent path n i at [] b = refl
   of_fields fields v own sent path n i at (f ∷ fs) b =
@@ -151,7 +150,7 @@ module _ (cells : List (List Cell)) (ls : List Lister) (shapes : List Shape) (k 
       ∙ ap (λ l. field_entries cells ls v own sent path n at f ++ l) (of_fields fields v own sent path n (suc i) rest fs b.1)
       ∙ ap (λ s. field_entries cells ls v own sent path n at f ++ entries_from cells ls v own sent path n (at + s) fs) step
 
-  pub of_desc : (d : Desc) (sent : Bool) (path : List ℕ) (n : List ℤ) (at : ℕ) → AllBelow k d.fields
+  pub of_desc : (d : Desc) (sent : Bool) (path : List ℕ) (n : List ℤ) (at : ℕ) → FieldsBelow k d.fields
       → entries_of sent path (desc_elements shapes d d.version n at) ≡ desc_entries cells ls d sent path n at
   of_desc d sent path n at b =
       let own = numbers_of (cells_in shapes) d n at in

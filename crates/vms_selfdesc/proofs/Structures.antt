@@ -1,70 +1,30 @@
 -- A structure has the same cells and entries in each table that reaches it.
-use Rattle.std.proofs.Common.{◌≡◌, ℕ, zero, suc, ◌+◌, ◌*◌, ◌<◌, List, [], ◌∷◌, ◌++◌, length, get_or, ℤ, pos, refl, sym, ap, ◌∙◌, arith, Bool, true, ◌&&◌}
+use Rattle.std.proofs.Common.{◌≡◌, ℕ, ◌+◌, ◌*◌, ◌<◌, List, [], ◌∷◌, ◌++◌, length, get_or, ℤ, refl, ap, ◌∙◌, arith, Bool, ◌&&◌}
 use mathlib.Core.Path.{fun_ext}
-use Rattle.std.proofs.lemmas.Bool.{ltb-true}
 use Rattle.vms_kinds.specs.declared.Item.{Item}
 use Rattle.vms_kinds.specs.declared.Item.TheVariants.{Num, Equal, Unused, Struct}
-use Rattle.vms_kinds.specs.Codes.{width, residue}
-use Rattle.vms_spec.specs.Sets.{Field, Desc, Set}
-use Rattle.vms_spec.specs.Rules.{uses_below}
+use Rattle.vms_spec.specs.Sets.{Field, Set}
 use Rattle.vms_spec.specs.Tests.{is_there}
-use Rattle.vms_spec.specs.Layout.{Cell, no_desc, no_field, no_parent, first, times, item_cells, item_size, field_cells, cells_from, desc_cells, struct_cells, capacity_of, counted, elements_of, numbers_of, place_of, kind_of}
+use Rattle.vms_spec.specs.Layout.{Cell, no_desc, no_parent, first, item_size, desc_cells, struct_cells, capacity_of, elements_of, numbers_of}
+use Rattle.vms_spec.proofs.Prefixes.{ItemBelow, FieldsBelow, desc_cells_same, first_same}
 use Rattle.vms_spec.proofs.Tables.{first_at}
 use Rattle.vms_selfdesc.specs.Entries.{Entry, Lister, no_lister, item_entries, array_entries, field_entries, entries_from, desc_entries, listers}
 
--- each field that is a structure has one of a number below k
-abbrev pub AllBelow : ℕ → List Field → Type 0
-AllBelow k [] = Unit {0}
-AllBelow k (f ∷ fs) = (uses_below k f.item ≡ true) × AllBelow k fs
-
-pub all_below : (k : ℕ) (fs : List Field) → ((i : ℕ) → i < length fs → uses_below k (get_or fs i no_field).item ≡ true) → AllBelow k fs
-all_below k [] h = tt
-all_below k (f ∷ fs) h = (h 0 (omega arith), all_below k fs (λ i lt. h (suc i) (omega arith)))
-
--- ---- cells
-
-module _ (j : ℕ) (cs Cs : List (List Cell)) (agree : (i : ℕ) → i < j → get_or cs i [] ≡ get_or Cs i []) where
-  pub item_cells_same : (item : Item) (caps : List ℕ) (z : ℤ) → uses_below j item ≡ true → item_cells cs item caps z ≡ item_cells Cs item caps z
-  item_cells_same (Num kind) caps z e = refl
-  item_cells_same (Equal kind y) caps z e = refl
-  item_cells_same (Unused n) caps z e = refl
-  item_cells_same (Struct i) caps z e = agree i (ltb-true i j e)
-
-  cells_same : (fields : List Field) (i : ℕ) (fs : List Field) → AllBelow j fs → cells_from cs fields i fs ≡ cells_from Cs fields i fs
-  cells_same fields i [] b = refl
-  cells_same fields i (f ∷ fs) b =
-      ap (λ (l : List Cell). times (capacity_of f.count) (λ _. l) 0 0 ++ cells_from cs fields (suc i) fs) (item_cells_same f.item (counted i fields) f.default b.0)
-      ∙ ap (λ (l : List Cell). field_cells Cs fields i f ++ l) (cells_same fields (suc i) fs b.1)
-
-  place_same : (fields : List Field) (i at : ℕ) (fs : List Field) (k : ℕ) → AllBelow j fs → place_of cs fields i at fs k ≡ place_of Cs fields i at fs k
-  place_same fields i at [] k b = refl
-  place_same fields i at (f ∷ fs) zero b = refl
-  place_same fields i at (f ∷ fs) (suc k) b =
-      ap (λ (l : List Cell). place_of cs fields (suc i) (at + length (times (capacity_of f.count) (λ _. l) 0 0)) fs k) (item_cells_same f.item (counted i fields) f.default b.0)
-      ∙ place_same fields (suc i) (at + length (field_cells Cs fields i f)) fs k b.1
-
-  -- the numbers of its fields
-  pub own_same : (d : Desc) (n : List ℤ) (at : ℕ) → AllBelow j d.fields → numbers_of cs d n at ≡ numbers_of Cs d n at
-  own_same d n at b =
-      fun_ext (λ (k : ℕ). ap (λ (c : ℕ). residue (width (kind_of (get_or d.fields k no_field).item)) (get_or n c (pos 0))) (place_same d.fields 0 at d.fields k b))
-
--- ---- entries
-
 module _ (cells : List (List Cell)) (j : ℕ) (ls Ls : List Lister) (agree : (i : ℕ) → i < j → get_or ls i no_lister ≡ get_or Ls i no_lister) where
-  item_entries_same : (item : Item) (z : ℤ) (sent : Bool) (path : List ℕ) (n : List ℤ) (at : ℕ) → uses_below j item ≡ true
+  item_entries_same : (item : Item) (z : ℤ) (sent : Bool) (path : List ℕ) (n : List ℤ) (at : ℕ) → ItemBelow j item
       → item_entries ls item z sent path n at ≡ item_entries Ls item z sent path n at
   item_entries_same (Num kind) z sent path n at e = refl
   item_entries_same (Equal kind y) z sent path n at e = refl
   item_entries_same (Unused k) z sent path n at e = refl
-  item_entries_same (Struct i) z sent path n at e = ap (λ (l : Lister). l sent (path ++ 46 ∷ []) n at) (agree i (ltb-true i j e))
+  item_entries_same (Struct i) z sent path n at e = ap (λ (l : Lister). l sent (path ++ 46 ∷ []) n at) (agree i e)
 
-  field_entries_same : (v : ℕ) (own : ℕ → ℕ) (sent : Bool) (path : List ℕ) (n : List ℤ) (at : ℕ) (f : Field) → uses_below j f.item ≡ true
+  field_entries_same : (v : ℕ) (own : ℕ → ℕ) (sent : Bool) (path : List ℕ) (n : List ℤ) (at : ℕ) (f : Field) → ItemBelow j f.item
       → field_entries cells ls v own sent path n at f ≡ field_entries cells Ls v own sent path n at f
   field_entries_same v own sent path n at f e =
       ap (λ (one : List ℕ → ℕ → List Entry). array_entries one f.count (elements_of f.count own) (path ++ f.name) at (item_size cells f.item))
       (fun_ext (λ (p : List ℕ). fun_ext (λ (a : ℕ). item_entries_same f.item f.default (sent && is_there f.test f.since v own no_parent) p n a e)))
 
-  entries_same : (v : ℕ) (own : ℕ → ℕ) (sent : Bool) (path : List ℕ) (n : List ℤ) (at : ℕ) (fs : List Field) → AllBelow j fs
+  entries_same : (v : ℕ) (own : ℕ → ℕ) (sent : Bool) (path : List ℕ) (n : List ℤ) (at : ℕ) (fs : List Field) → FieldsBelow j fs
       → entries_from cells ls v own sent path n at fs ≡ entries_from cells Ls v own sent path n at fs
   entries_same v own sent path n at [] b = refl
   entries_same v own sent path n at (f ∷ fs) b =
@@ -74,15 +34,14 @@ module _ (cells : List (List Cell)) (j : ℕ) (ls Ls : List Lister) (agree : (i 
 
 -- ---- a structure of a set
 
-module _ (set : Set) (j : ℕ) (lt : j < length set.structs) (below : AllBelow j (get_or set.structs j no_desc).fields) where
+module _ (set : Set) (j : ℕ) (lt : j < length set.structs) (below : FieldsBelow j (get_or set.structs j no_desc).fields) where
   pub struct_cells_are : get_or (struct_cells set) j [] ≡ desc_cells (struct_cells set) (get_or set.structs j no_desc)
   struct_cells_are =
       let ds = set.structs in
       let d = get_or ds j no_desc in
       let k = length ds in
       first_at desc_cells ds [] k j lt
-      ∙ cells_same j (first desc_cells ds j) (first desc_cells ds k)
-      (λ i l. let m : i < k = omega arith in first_at desc_cells ds [] j i l ∙ sym (first_at desc_cells ds [] k i m)) d.fields 0 d.fields below
+      ∙ desc_cells_same j (first desc_cells ds j) (first desc_cells ds k) (λ i l. first_same desc_cells ds [] j k i (omega arith) l) d below
 
   pub struct_entries_are : (sent : Bool) (path : List ℕ) (n : List ℤ) (at : ℕ)
       → get_or (listers set) j no_lister sent path n at ≡ desc_entries (struct_cells set) (listers set) (get_or set.structs j no_desc) sent path n at
@@ -93,5 +52,5 @@ module _ (set : Set) (j : ℕ) (lt : j < length set.structs) (below : AllBelow j
       let f = desc_entries (struct_cells set) in
       ap (λ (l : Lister). l sent path n at) (first_at f ds no_lister k j lt)
       ∙ entries_same (struct_cells set) j (first f ds j) (first f ds k)
-      (λ i l. let m : i < k = omega arith in first_at f ds no_lister j i l ∙ sym (first_at f ds no_lister k i m))
+      (λ i l. first_same f ds no_lister j k i (omega arith) l)
       d.version (numbers_of (struct_cells set) d n at) sent path n at d.fields below

@@ -3,6 +3,7 @@ pub mod Rows
 pub mod Boxes
 pub mod Sizes
 pub mod Tables
+pub mod Prefixes
 pub mod Faultless
 mod PlaceRows
 mod WellFormedRows

@@ -31,6 +31,13 @@ at_step f ds d k j lt earlier false e =
     ∙ last_is (first f ds k) (f (first f ds k) (get_or ds k no_desc)) d k (first_long f ds k)
     ∙ ap (λ (i : ℕ). f (first f ds i) (get_or ds i no_desc)) same
 
+-- each of a list and of one more
+pub one_more : {A : Type 0} (P : A → Type 0) (a0 : A) → P a0 → (xs : List A) → ((j : ℕ) → P (get_or xs j a0)) → (a : A) → P a → (j : ℕ) → P (get_or (xs ++ a ∷ []) j a0)
+one_more P a0 p0 [] all a p zero = p
+one_more P a0 p0 [] all a p (suc j) = p0
+one_more P a0 p0 (x ∷ xs) all a p zero = all zero
+one_more P a0 p0 (x ∷ xs) all a p (suc j) = one_more P a0 p0 xs (λ k. all (suc k)) a p j
+
 pub first_at : {B : Type 0} (f : List B → Desc → B) (ds : List Desc) (d : B) (k j : ℕ) → j < k → get_or (first f ds k) j d ≡ f (first f ds j) (get_or ds j no_desc)
 unfolding first
 first_at f ds d zero j lt = absurd (omega arith)

@@ -16,7 +16,7 @@ use Rattle.vms_spec.specs.Layout.{Cell, times, counted, capacity_of, item_cells,
 use Rattle.vms_spec.specs.Images.{FitsCell}
 use Rattle.vms_spec.specs.Lists.{at as item_at}
 use Rattle.vms_spec.specs.Rules.{is_num, is_one}
-use Rattle.vms_upgrade.proofs.Linking.{ItemBelow}
+use Rattle.vms_spec.proofs.Prefixes.{ItemBelow}
 use Rattle.vms_upgrade.specs.Segments.{FitsAt}
 use Rattle.vms_upgrade.proofs.Segments.{fits_right}
 use Rattle.vms_upgrade.proofs.Describing.{Steady}

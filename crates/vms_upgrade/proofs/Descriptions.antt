@@ -10,8 +10,9 @@ use Rattle.vms_upgrade.proofs.SameTests.{Agree}
 use Rattle.vms_upgrade.specs.Segments.{Holds, FitsAt, Carries}
 use Rattle.vms_upgrade.proofs.Segments.{holds_at, fits_at, carries_append}
 use Rattle.vms_spec.proofs.Faultless.{or_else_none}
+use Rattle.vms_spec.proofs.Prefixes.{FieldsBelow}
 use Rattle.vms_upgrade.proofs.Pairing.{cells_in, entries_slots, slots_entries, all_known, fit_entries}
-use Rattle.vms_upgrade.proofs.Linking.{FieldsBelow, zip_of, linked}
+use Rattle.vms_upgrade.proofs.Linking.{zip_of, linked}
 use Rattle.vms_upgrade.proofs.Settling.{Settled, settled_more}
 use Rattle.vms_upgrade.proofs.Premises.{Table, SettledTable, RulesNamed, OldFields, NewFields}
 use Rattle.vms_upgrade.proofs.Agreeing.{agree_from}

@@ -19,9 +19,10 @@ use Rattle.vms_upgrade.proofs.SameTests.{Agree, NamedRest, same_there}
 use Rattle.vms_upgrade.specs.Segments.{Holds, FitsAt, Carries}
 use Rattle.vms_upgrade.proofs.Segments.{holds_left, holds_right, holds_at, fits_left, fits_right, fits_at, carries_nil, carries_append, carries_number, carries_constant, carries_filler}
 use Rattle.vms_spec.proofs.Sizes.{size_same, elements_fit}
+use Rattle.vms_spec.proofs.Prefixes.{ItemBelow}
 use Rattle.vms_laws.proofs.ReadyLaws.{same_is}
 use Rattle.vms_upgrade.proofs.Pairing.{kinds_same, cells_in, slots_at, entries_slots, IsKnown, AreKnown, FitEntries}
-use Rattle.vms_upgrade.proofs.Linking.{ItemBelow, PairGood, decoded, Linked, linked, carry_item_size}
+use Rattle.vms_upgrade.proofs.Linking.{PairGood, decoded, Linked, linked, carry_item_size}
 use Rattle.vms_upgrade.proofs.Describing.{numbers_length, constant_length, there_here}
 use Rattle.vms_upgrade.proofs.Premises.{Table, IsSingle, CountFits, CountNamed, OldGood}
 

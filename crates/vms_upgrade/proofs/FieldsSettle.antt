@@ -16,8 +16,9 @@ use Rattle.vms_upgrade.proofs.SameTests.{Agree, same_there}
 use Rattle.vms_upgrade.specs.Segments.{Holds, FitsAt}
 use Rattle.vms_upgrade.proofs.Segments.{holds_left, holds_right, holds_at, fits_left, fits_right, fits_at}
 use Rattle.vms_spec.proofs.Sizes.{size_same, field_size, elements_fit}
+use Rattle.vms_spec.proofs.Prefixes.{ItemBelow, FieldsBelow}
 use Rattle.vms_upgrade.proofs.Pairing.{cells_in, slots_at, IsKnown, AreKnown, FitEntries}
-use Rattle.vms_upgrade.proofs.Linking.{ItemBelow, FieldsBelow, defaults_size, PairGood, decoded, Linked, linked, carry_item_size, carry_field_size}
+use Rattle.vms_upgrade.proofs.Linking.{defaults_size, PairGood, decoded, Linked, linked, carry_item_size, carry_field_size}
 use Rattle.vms_upgrade.proofs.Settling.{Settled, settled_defaults, settled_empty, settled_append, settled_at, same_defaults, has_itself}
 use Rattle.vms_upgrade.proofs.Describing.{there_here}
 use Rattle.vms_upgrade.proofs.Premises.{covered_empty, Table, OldGood}

@@ -1,22 +1,21 @@
 -- The carried numbers fit new's cells: a description, and then structures by induction on new's number.
-use Rattle.std.proofs.Common.{◌≡◌, ◌⊎◌, inl, inr, ℕ, zero, suc, ◌+◌, ◌<◌, ◌≤◌, List, [], ◌∷◌, ◌++◌, length, get_or, Option, Some, None, sym, ap, ◌∙◌, subst, arith, ℤ}
+use Rattle.std.proofs.Common.{◌≡◌, ◌⊎◌, inl, inr, ℕ, zero, suc, ◌+◌, ◌<◌, ◌≤◌, List, [], ◌∷◌, ◌++◌, length, get_or, Option, Some, None, sym, subst, arith, ℤ}
 use Rattle.std.proofs.Math.Nat.{eq-or-lt_of_le}
 use Rattle.vms_spec.specs.Sets.{Formula, Field, Desc}
 use Rattle.vms_spec.specs.Layout.{no_desc, Cell, Meaning, meanings, field_cells, cells_from, desc_cells, numbers_of}
 use Rattle.vms_spec.specs.declared.Part.{Part}
 use Rattle.vms_spec.specs.declared.Part.TheVariants as parts
 use Rattle.vms_spec.specs.Rules.{is_steady_in}
-use Rattle.vms_spec.proofs.Tables.{first_at, first_long}
 use Rattle.vms_check.specs.Reducing.{presence}
-use Rattle.vms_check.specs.Comparing.{Entry, entry_of, present_from, present, position_from, Comparer, no_comparer, comparer_of, comparers, compare_desc, compare_fields, compare_validations}
-use Rattle.vms_check.specs.Carrying.{Carrier, no_carrier, carrier_of, carriers, carry_desc}
+use Rattle.vms_check.specs.Comparing.{Entry, entry_of, present_from, present, position_from, Comparer, no_comparer, comparers, compare_desc, compare_fields, compare_validations}
+use Rattle.vms_check.specs.Carrying.{Carrier, no_carrier, carriers, carry_desc}
 use Rattle.vms_upgrade.specs.Segments.{FitsAt}
 use Rattle.vms_upgrade.proofs.Segments.{fits_at, fits_left, fits_right}
 use Rattle.vms_spec.proofs.Faultless.{or_else_none}
+use Rattle.vms_spec.proofs.Prefixes.{struct_cells_at}
 use Rattle.vms_upgrade.proofs.Pairing.{cells_in, AreKnown, all_known}
 use Rattle.vms_upgrade.proofs.Linking.{zip_of}
 use Rattle.vms_upgrade.proofs.Premises.{OldGood, OldFields, NewGood, NewFields}
-use Rattle.vms_upgrade.proofs.Prefixes.{struct_cells_at}
 use Rattle.vms_upgrade.proofs.Counts.{old_fields}
 use Rattle.vms_upgrade.proofs.Structures.{OldStructs, NewStructs, new_below, plain_below, plains_further, comparer_last, comparer_earlier, carrier_last, carrier_earlier}
 use Rattle.vms_upgrade.proofs.Bounds.{indexed, present_increasing, OldStand, NewSingle}

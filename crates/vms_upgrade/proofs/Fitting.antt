@@ -19,7 +19,8 @@ use Rattle.std.specs.Prelude.{◌≤ℤ◌}
 use Rattle.vms_kinds.specs.Codes.{highest, InRange}
 use Rattle.vms_spec.specs.Rules.{is_num}
 use Rattle.vms_spec.specs.Images.{FitsCell, FitCells as AreFit}
-use Rattle.vms_upgrade.proofs.Linking.{ItemBelow, FieldsBelow, Zip, Matched, decoded}
+use Rattle.vms_spec.proofs.Prefixes.{ItemBelow, FieldsBelow}
+use Rattle.vms_upgrade.proofs.Linking.{Zip, Matched, decoded}
 use Rattle.vms_upgrade.proofs.Describing.{not_covered}
 use Rattle.vms_upgrade.proofs.Bounds.{Indexed, OldStand, NewSingle, caps_follow}
 

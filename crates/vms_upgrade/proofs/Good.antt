@@ -1,6 +1,6 @@
 -- What well-formedness gives to the laws on pairs of sets.
 use Rattle.std.proofs.Common.{◌≡◌, ℕ, zero, suc, ◌+◌, ◌<◌, Bool, true, List, [], ◌∷◌, length, get_or, Option, Some, None, refl, subst, arith, ℤ, nat_lt}
-use Rattle.std.proofs.lemmas.Bool.{and_parts, and_from, ltb-true}
+use Rattle.std.proofs.lemmas.Bool.{and_parts, and_from}
 use Rattle.vms_kinds.specs.declared.Kind.TheVariants.{U8, U16, U32, U64, I8, I16, I32, I64, Bool as Truth, Timer}
 use Rattle.vms_kinds.specs.declared.Item.{Item}
 use Rattle.vms_kinds.specs.declared.Item.TheVariants.{Num, Equal, Unused, Struct}
@@ -13,9 +13,9 @@ use Rattle.vms_spec.specs.Layout.{no_desc, counted}
 use Rattle.vms_spec.specs.Rules.{names_well, nobody, is_steady, is_steady_in, is_earlier_in, test_names_well, count_names_well, is_counting, uses_below, defaults_well, counts_well, has_good_count, field_rules, validation_rules}
 use Rattle.vms_spec.specs.WellFormed.{WellFormed, struct_rules, device_rules, sub_rules}
 use Rattle.vms_spec.proofs.Faultless.{AllTrue}
+use Rattle.vms_spec.proofs.Prefixes.{item_below}
 use Rattle.vms_laws.proofs.WellFormedLaws.{Clean, ranges, within, struct_clean, device_parts, sub_clean}
 use Rattle.vms_upgrade.proofs.SameTests.{NamedRest}
-use Rattle.vms_upgrade.proofs.Linking.{ItemBelow}
 use Rattle.vms_upgrade.proofs.Describing.{steady}
 use Rattle.vms_upgrade.proofs.Premises.{IsSingle, CountNamed, NewFields, RulesNamed}
 use Rattle.vms_upgrade.proofs.Counts.{IsCounting, Counter, CountKnown, OldPlains}
@@ -73,12 +73,6 @@ count_known d k (Fixed n) h = tt
 count_known d k (Counted by most) h =
     let p = and_parts (is_earlier_in d k by) (is_counting (at d.fields by)) h in
     counter d.fields by d.minimum (at d.fields by) refl (earlier_steady d k by p.0) p.1
-
-item_below : (k : ℕ) (i : Item) → uses_below k i ≡ true → ItemBelow k i
-item_below k (Num kind) h = tt
-item_below k (Equal kind z) h = tt
-item_below k (Unused n) h = tt
-item_below k (Struct j) h = ltb-true j k h
 
 single : (i : Item) (c : Count) → has_good_count i c ≡ true → IsSingle i c
 single (Num kind) c h = tt

@@ -13,7 +13,6 @@ pub mod Orders
 pub mod Pairing
 pub mod Parts
 pub mod PositionRead
-pub mod Prefixes
 pub mod Premises
 pub mod Presence
 pub mod RulesCarry

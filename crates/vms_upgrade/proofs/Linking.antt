@@ -14,20 +14,12 @@ use Rattle.vms_check.specs.Comparing.{Entry, entry_of, present_from, same_rest, 
 use Rattle.vms_check.specs.Carrying.{Carrier, no_carrier, defaults, carry_item, carry_items, carry_field, carry_next, carry_from, entries_left, default_field}
 use Rattle.vms_upgrade.specs.Segments.{Holds}
 use Rattle.vms_upgrade.proofs.Segments.{holds_left, holds_right, holds_at}
+use Rattle.vms_spec.proofs.Prefixes.{ItemBelow, FieldsBelow}
 use Rattle.vms_spec.proofs.Sizes.{size_same, field_size}
 use Rattle.vms_spec.proofs.Faultless.{or_else_none}
 use Rattle.vms_upgrade.proofs.Pairing.{first_good}
 
 -- ---- pairs
-
--- an item uses a structure of a number below k
-abbrev pub ItemBelow : ℕ → Item → Type 0
-ItemBelow k (Struct j) = j < k
-ItemBelow k _ = Unit {0}
-
-abbrev pub FieldsBelow : ℕ → List Field → Type 0
-FieldsBelow k [] = Unit {0}
-FieldsBelow k (f ∷ fs) = ItemBelow k f.item × FieldsBelow k fs
 
 pub defaults_size : (cells : List Cell) → length (defaults cells) ≡ length cells
 defaults_size cells = length-map cells (λ (c : Cell). c.default)

@@ -5,7 +5,7 @@ use Rattle.vms_kinds.specs.declared.Kind.{Kind}
 use Rattle.vms_kinds.specs.declared.Kind.TheVariants.{U8, U16, U32, U64, I8, I16, I32, I64, Bool as Truth, Timer}
 use Rattle.vms_kinds.specs.Codes.{width, residue}
 use Rattle.vms_spec.specs.declared.Place.{Place}
-use Rattle.vms_spec.specs.Lists.{at, or_else}
+use Rattle.vms_spec.specs.Lists.{at}
 use Rattle.vms_spec.specs.Sets.{Formula, Field}
 use Rattle.vms_spec.specs.Layout.{Cell, Slot, Meaning, no_field, no_parent, counted, field_cells, cells_from, elements_of, times, item_slots, item_size, field_slots, slots_from, place_of, kind_of}
 use Rattle.vms_check.specs.Reducing.{presence}

@@ -8,12 +8,12 @@ use Rattle.vms_spec.specs.declared.Count.TheVariants.{One, Fixed, Counted}
 use Rattle.vms_spec.specs.Sets.{Formula, Field}
 use Rattle.vms_spec.specs.Layout.{Cell, Meaning, no_meaning, item_cells}
 use Rattle.vms_spec.specs.Rules.{names_well, nobody, is_one}
+use Rattle.vms_spec.proofs.Prefixes.{ItemBelow}
 use Rattle.vms_check.specs.Comparing.{Entry, position_from, same_place, is_covered, Comparer, no_comparer}
 use Rattle.vms_check.specs.Carrying.{Carrier, no_carrier}
 use Rattle.vms_upgrade.proofs.SameTests.{NamedRest}
 use Rattle.vms_upgrade.specs.Segments.{Holds, FitsAt, Carries}
 use Rattle.vms_upgrade.proofs.Pairing.{cells_in}
-use Rattle.vms_upgrade.proofs.Linking.{ItemBelow}
 use Rattle.vms_upgrade.proofs.Settling.{Settled}
 
 pub later_new : (j p q : ℕ) (fs : List Entry) → p < q → same_place (Some p) (position_from q fs j) ≡ true → ⊥

@@ -9,16 +9,16 @@ use Rattle.vms_spec.specs.Layout.{no_desc, Cell, Slot, Meaning, no_meaning, mean
 use Rattle.vms_spec.specs.declared.Part.TheVariants as parts
 use Rattle.vms_spec.specs.Rules.{is_steady_in}
 use Rattle.vms_spec.proofs.Tables.{first_at, first_long}
+use Rattle.vms_spec.proofs.Prefixes.{ItemBelow, FieldsBelow, struct_slots, struct_cells_at}
 use Rattle.vms_check.specs.Reducing.{presence}
 use Rattle.vms_check.specs.Comparing.{Entry, present, Comparer, no_comparer, comparer_of, comparers, compare_desc}
 use Rattle.vms_check.specs.Carrying.{Carrier, no_carrier, carrier_of, carriers, carry_desc, carry_from, carry_next, entries_left}
 use Rattle.vms_upgrade.proofs.Pairing.{cells_in}
 use Rattle.vms_upgrade.specs.Segments.{Holds, FitsAt, Carries}
 use Rattle.vms_upgrade.proofs.Settling.{Settled}
-use Rattle.vms_upgrade.proofs.Linking.{ItemBelow, FieldsBelow, defaults_size, carry_field_size}
+use Rattle.vms_upgrade.proofs.Linking.{defaults_size, carry_field_size}
 use Rattle.vms_upgrade.proofs.Premises.{Table, NewFields, RulesNamed, SettledTable}
 use Rattle.vms_upgrade.proofs.Descriptions.{desc_carries, desc_settles}
-use Rattle.vms_upgrade.proofs.Prefixes.{struct_slots, struct_cells_at}
 use Rattle.vms_upgrade.proofs.Counts.{OldPlains, old_fields}
 
 -- what is asked of old's structures, and of new's: each uses those before it

@@ -1,18 +1,12 @@
 -- What the older set writes is a stream of the newer, with the carried images.
-use Rattle.std.proofs.Common.{◌≡◌, ℕ, suc, ◌+◌, ◌≤◌, Bool, true, false, ◌&&◌, ◌||◌, List, [], ◌∷◌, length, get_or, Option, Some, None, IfSome, refl, ap, ◌∙◌, sym, arith, nat_le}
-use Rattle.std.specs.Str.{bytes_eq}
-use Rattle.std.proofs.lemmas.Slice.Eq.{bytes_eq-Decides}
-use Rattle.std.proofs.lemmas.Bool.{and_parts, leb-true}
+use Rattle.std.proofs.Common.{◌≡◌, ℕ, ◌+◌, ◌≤◌, true, List, length, get_or, Option, Some, None, IfSome, refl, ap, arith}
 use Rattle.std.proofs.lemmas.List.{length-map}
-use Rattle.vms_spec.specs.declared.Part.TheVariants as parts
-use Rattle.vms_spec.specs.declared.Place.{Place}
-use Rattle.vms_spec.specs.Lists.{at, every}
-use Rattle.vms_spec.specs.Names.{is_name, is_name_byte}
+use Rattle.vms_spec.specs.Lists.{at}
 use Rattle.vms_spec.specs.Sets.{Set}
 use Rattle.vms_spec.specs.Images.{Image}
 use Rattle.vms_units.specs.Streams.{IsStream}
 use Rattle.vms_spec.specs.Streams.{IsConfiguration, IsTrailer, configuration, trailer, optional, longest_text, is_one_of, written, written_sections, AreReady}
-use Rattle.vms_spec.specs.WellFormed.{WellFormed, failing, first_fault, here, set_rules}
+use Rattle.vms_spec.specs.WellFormed.{WellFormed}
 use Rattle.vms_check.specs.Comparing.{Compatible}
 use Rattle.vms_check.specs.Carrying.{carried, no_image}
 use Rattle.vms_spec.proofs.Faultless.{every_one, machine_short, few_devices}

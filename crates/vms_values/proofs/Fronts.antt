@@ -12,7 +12,7 @@ use Rattle.vms_desc.specs.Asks.{field_at}
 use Rattle.vms_desc.specs.Formed.{is_well_formed}
 use Rattle.vms_desc.specs.Parts.{HasPart, desc_at}
 use Rattle.vms_desc.proofs.Clean.{reach, field_clean, few_structs}
-use Rattle.vms_walk.proofs.Ranks.{reach_whole}
+use Rattle.vms_desc.proofs.Ranks.{reach_whole}
 use Rattle.vms_values.specs.Printing.{below, below_part, Stays}
 
 pub stays : (line : List ℕ) → Stays line line

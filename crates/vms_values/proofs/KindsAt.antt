@@ -19,7 +19,7 @@ use Rattle.vms_desc.specs.Formed.{is_well_formed}
 use Rattle.vms_desc.specs.Parts.{sub_at}
 use Rattle.vms_desc.specs.Spots.{kinds_at}
 use Rattle.vms_walk.specs.Steps.{table, cells_in}
-use Rattle.vms_walk.proofs.Prefixes.{all_below, struct_cells_at}
+use Rattle.vms_spec.proofs.Prefixes.{all_below, struct_cells_at}
 use Rattle.vms_walk.proofs.Spots.{cells_table}
 use Rattle.vms_desc.proofs.Clean.{struct_clean}
 use Rattle.vms_write.proofs.Formed.{at_get}
@@ -104,7 +104,7 @@ pub struct_kinds : (set : Set) → is_well_formed set ≡ true → (j : ℕ) →
     → AreKinds kinds at (item_cells (cells_in (table set)) (Struct j) [] (pos 0)) → AreKinds kinds at (part_cells set (parts.Struct j))
 struct_kinds set well j lt kinds at s =
     let below = all_below j (get_or set.structs j no_desc).fields (λ i l. ((struct_clean set well j lt).fields i l).uses) in
-    subst (AreKinds kinds at) (struct_cells_at set.structs j lt below) s
+    subst (AreKinds kinds at) (struct_cells_at set.structs (length set.structs) j lt below) s
 
 -- ---- the parts of a device
 

@@ -22,7 +22,7 @@ use Rattle.vms_desc.specs.Formed.{is_well_formed}
 use Rattle.vms_desc.specs.Parts.{HasPart, desc_at}
 use Rattle.vms_desc.proofs.Clean.{reach, field_clean}
 use Rattle.vms_walk.specs.Steps.{size_in}
-use Rattle.vms_walk.proofs.Ranks.{item_rank, part_rank, reach_whole, uses_more, rank_below}
+use Rattle.vms_desc.proofs.Ranks.{item_rank, part_rank, reach_whole, uses_more, rank_below}
 use Rattle.vms_walk.proofs.Spots.{cells_table, struct_size}
 use Rattle.vms_walk.proofs.Walking.{fields_at}
 use Rattle.vms_elements.specs.Elements.{Shape, no_shape, shape, shapes, cells_in, dotted, item_elements, stand_of, field_elements, elements_from, desc_elements, index_text}
@@ -175,7 +175,7 @@ module _ (set : Set) where
       ∙ ap (λ (i : ℕ). mine ++ names_of (elements_from ss all 0 no_parent [] i 0 (drop (k + 1) all))) one in
       record {
         uses = uses_more (reach set part) (length set.structs) f.item le uses;
-        lower = rank_below (reach set part) f.item uses;
+        lower = omega (arith, rank_below (reach set part) f.item uses);
         some = here (λ (x : Field). 1 ≤ capacity_of x.count) clean.some;
         long = ap length split ∙ length-append mine (names_from part (k + 1)) ∙ ap (λ (n : ℕ). n + length (names_from part (k + 1))) many;
         here = λ small. ap (λ (l : List (List ℕ)). get_or l left []) split ∙ get_or_append_left mine (names_from part (k + 1)) [] left (omega (arith, many, small))

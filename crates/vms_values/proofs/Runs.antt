@@ -16,7 +16,7 @@ use Rattle.vms_desc.specs.Parts.{desc_at}
 use Rattle.vms_desc.proofs.Clean.{reach}
 use Rattle.vms_walk.specs.declared.fields.Spot.{Spot}
 use Rattle.vms_walk.specs.Steps.{HasSpot, size_in, table, cells_in}
-use Rattle.vms_walk.proofs.Ranks.{item_rank, part_rank, reach_whole, uses_more, rank_below}
+use Rattle.vms_desc.proofs.Ranks.{item_rank, part_rank, reach_whole, uses_more, rank_below}
 use Rattle.vms_walk.proofs.Spots.{next_field, cells_table}
 use Rattle.vms_walk.proofs.Walking.{fields_at, one_fits, room_for_less}
 use Rattle.vms_values.specs.Printing.{IsRun, run_lines}
@@ -100,7 +100,7 @@ module _ (set : Set) where
           single = λ e. there ∙ single_count f.count (own_numbers set spot.part n spot.base) e;
           few = h.few;
         };
-        lower = rank_below (reach set spot.part) f.item uses;
+        lower = omega (arith, rank_below (reach set spot.part) f.item uses);
         room = fits;
         later = here (λ (x : Field). (cell + capacity_of x.count * size_in set x.item) + length (cells_from (cells_in (table set)) all (k + 1) (drop (k + 1) all)) ≤ length n) next.later;
         lines = ap (λ (l : List Field). field_lines ps all own path n k cell l) at

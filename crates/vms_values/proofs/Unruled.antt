@@ -9,7 +9,7 @@ use Rattle.vms_spec.specs.Tests.{is_there}
 use Rattle.vms_spec.specs.Layout.{Cell, Slot, Number, Constant, Filler, Rule, Meaning, no_meaning, no_desc, item_slots, item_size, times, field_slots, slots_from, desc_slots, field_cells, numbers_of, elements_of, counted, all_hold, no_parent, first, meaning, meanings}
 use Rattle.vms_spec.specs.Readiness.{rules_are_true}
 use Rattle.vms_laws.proofs.CellLaws.{cells_first}
-use Rattle.vms_elements.proofs.Tables.{one_more}
+use Rattle.vms_spec.proofs.Tables.{one_more}
 use Rattle.vms_parts.specs.declared.types.Desc.{Desc as Described}
 use Rattle.vms_parts.specs.declared.types.Test.{Test}
 use Rattle.vms_parts.specs.Views.{desc_of, formula}

@@ -4,8 +4,6 @@ pub mod Kept
 pub mod Local
 pub mod Order
 pub mod Parts
-pub mod Prefixes
-pub mod Ranks
 pub mod Results
 pub mod Spots
 pub mod Walking

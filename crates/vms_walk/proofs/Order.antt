@@ -1,6 +1,7 @@
 -- The slots of a description have their cells in ascending order, between its first cell and its end.
 use Rattle.std.proofs.Common.{◌≡◌, ℕ, zero, suc, ◌+◌, ◌*◌, ◌<◌, ◌≤◌, List, [], ◌∷◌, ◌++◌, length, length-append, get_or, ℤ, refl, sym, ap, ◌∙◌, subst, arith, Bool, true, false, if◌then◌else◌, ◌==◌, ◌||◌}
 use Rattle.std.proofs.lemmas.Bool.{eqb-true}
+use Rattle.std.proofs.Math.ListN.{get_or-map}
 use Rattle.vms_kinds.specs.declared.Item.{Item}
 use Rattle.vms_kinds.specs.declared.Item.TheVariants.{Num, Equal, Unused, Struct}
 use Rattle.vms_spec.specs.Sets.{Field, Desc}
@@ -8,6 +9,7 @@ use Rattle.vms_spec.specs.Tests.{is_there}
 use Rattle.vms_spec.specs.Images.{has_cell}
 use Rattle.vms_spec.specs.Layout.{Slot, Number, Constant, Filler, Rule, Cell, Meaning, no_meaning, no_desc, item_slots, item_size, times, field_slots, slots_from, desc_slots, desc_cells, cells_from, field_cells, numbers_of, elements_of, capacity_of, counted, all_hold, no_parent, first, meaning, meanings}
 use Rattle.vms_spec.proofs.Sizes.{field_size, elements_fit}
+use Rattle.vms_spec.proofs.Tables.{one_more}
 use Rattle.vms_walk.specs.Steps.{cells_in}
 use Rattle.vms_walk.proofs.Walking.{room_for_less}
 
@@ -71,22 +73,10 @@ pub record MeansAscends (m : Meaning) : Type 0 where
   pub means : (at : ℕ) (n : List ℤ) → Ascends at (at + length m.cells) (m.slots n at)
 
 abbrev pub MeanAscends : List Meaning → Type 0
-MeanAscends [] = Unit {0}
-MeanAscends (m ∷ ms) = MeansAscends m × MeanAscends ms
+MeanAscends ms = (j : ℕ) → MeansAscends (get_or ms j no_meaning)
 
-means_at : (ms : List Meaning) (j : ℕ) → MeanAscends ms → MeansAscends (get_or ms j no_meaning)
-means_at [] j h = record { means = λ at n. omega arith }
-means_at (m ∷ ms) zero h = h.0
-means_at (m ∷ ms) (suc j) h = means_at ms j h.1
-
-means_more : (ms : List Meaning) (m : Meaning) → MeanAscends ms → MeansAscends m → MeanAscends (ms ++ m ∷ [])
-means_more [] m h x = (x, tt)
-means_more (y ∷ ms) m h x = (h.0, means_more ms m h.1 x)
-
-get_cells : (ms : List Meaning) (j : ℕ) → get_or (cells_in ms) j [] ≡ (get_or ms j no_meaning).cells
-get_cells [] j = refl
-get_cells (m ∷ ms) zero = refl
-get_cells (m ∷ ms) (suc j) = get_cells ms j
+none_ascends : MeansAscends no_meaning
+none_ascends = record { means = λ at n. omega arith }
 
 module _ (ms : List Meaning) (known : MeanAscends ms) where
   item_ascends : (item : Item) (caps : List ℕ) (n : List ℤ) (at : ℕ) → Ascends at (at + item_size (cells_in ms) item) (item_slots ms item caps n at)
@@ -94,7 +84,7 @@ module _ (ms : List Meaning) (known : MeanAscends ms) where
   item_ascends (Equal kind z) caps n at = omega arith
   item_ascends (Unused k) caps n at = omega arith
   item_ascends (Struct j) caps n at =
-      subst (λ (cs : List Cell). Ascends at (at + length cs) ((get_or ms j no_meaning).slots n at)) (sym (get_cells ms j)) ((means_at ms j known).means at n)
+      subst (λ (cs : List Cell). Ascends at (at + length cs) ((get_or ms j no_meaning).slots n at)) (sym (get_or-map (λ (m : Meaning). m.cells) ms j no_meaning)) ((known j).means at n)
 
   items_ascend : (item : Item) (caps : List ℕ) (n : List ℤ) (k at : ℕ) → Ascends at (at + k * item_size (cells_in ms) item) (times k (item_slots ms item caps n) at (item_size (cells_in ms) item))
   items_ascend item caps n zero at = omega arith
@@ -136,7 +126,7 @@ module _ (ms : List Meaning) (known : MeanAscends ms) where
 
 pub meanings_ascend : (ds : List Desc) (k : ℕ) → MeanAscends (meanings ds k)
 unfolding first
-meanings_ascend ds zero = tt
+meanings_ascend ds zero = λ j. none_ascends
 meanings_ascend ds (suc k) =
-    means_more (meanings ds k) (meaning (meanings ds k) (get_or ds k no_desc)) (meanings_ascend ds k)
+    one_more MeansAscends no_meaning none_ascends (meanings ds k) (meanings_ascend ds k) (meaning (meanings ds k) (get_or ds k no_desc))
     (record { means = λ at n. desc_ascends (meanings ds k) (meanings_ascend ds k) (get_or ds k no_desc) (get_or ds k no_desc).version n at })

@@ -8,6 +8,7 @@ use Rattle.vms_spec.specs.Tests.{is_there}
 use Rattle.vms_spec.specs.Rules.{uses_below}
 use Rattle.vms_parts.specs.Capacities.{least_of}
 use Rattle.vms_spec.specs.Layout.{Cell, no_desc, no_parent, item_slots, item_size, slots_from, desc_slots, desc_cells, cells_from, struct_cells, numbers_of, elements_of, capacity_of, counted, times}
+use Rattle.vms_spec.proofs.Prefixes.{FieldsBelow, all_below, struct_slots, struct_cells_at}
 use Rattle.vms_laws.proofs.CellLaws.{cells_first}
 use Rattle.vms_parts.specs.Sizes.{in_u32}
 use Rattle.vms_desc.specs.Asks.{field_at, own_numbers}
@@ -16,8 +17,7 @@ use Rattle.vms_desc.specs.Parts.{desc_at}
 use Rattle.vms_desc.proofs.Clean.{reach, field_clean, struct_clean}
 use Rattle.vms_walk.specs.declared.fields.Spot.{Spot}
 use Rattle.vms_walk.specs.Steps.{table, cells_in, HasSpot, spot_numbers, spot_slots, slots_at, present_of, size_in, capacities_of, elements_slots, steps_of}
-use Rattle.vms_walk.proofs.Prefixes.{AllBelow, all_below, struct_slots, struct_cells_at}
-use Rattle.vms_walk.proofs.Ranks.{item_rank, part_rank, reach_whole, uses_more, rank_below}
+use Rattle.vms_desc.proofs.Ranks.{item_rank, part_rank, reach_whole, uses_more, rank_below}
 use Rattle.vms_walk.proofs.Walking.{slots_next, room_next, fields_at, one_fits, room_for_less, present_slots, present_fits, steps_bare, steps_append, times_next}
 
 pub cells_table : (set : Set) → cells_in (table set) ≡ struct_cells set
@@ -49,15 +49,15 @@ present_then set spot n f b count e t c =
 -- ---- structures
 
 module _ (set : Set) (well : is_well_formed set ≡ true) (j : ℕ) (lt : j < length set.structs) where
-  below : AllBelow j (get_or set.structs j no_desc).fields
+  below : FieldsBelow j (get_or set.structs j no_desc).fields
   below = all_below j (get_or set.structs j no_desc).fields (λ i l. ((struct_clean set well j lt).fields i l).uses)
 
   pub struct_spot : (v cell : ℕ) (n : List ℤ) → v ≡ (get_or set.structs j no_desc).version
       → (caps : List ℕ) → item_slots (table set) (Struct j) caps n cell ≡ spot_slots set (record { part = parts.Struct j; version = v; base = cell }) n
-  struct_spot v cell n e caps = struct_slots set.structs j n cell lt below ∙ ap (λ (x : ℕ). desc_slots (table set) (get_or set.structs j no_desc) x n cell) (sym e)
+  struct_spot v cell n e caps = struct_slots set.structs (length set.structs) j n cell lt below ∙ ap (λ (x : ℕ). desc_slots (table set) (get_or set.structs j no_desc) x n cell) (sym e)
 
   pub struct_size : size_in set (Struct j) ≡ length (desc_cells (struct_cells set) (get_or set.structs j no_desc))
-  struct_size = ap length (struct_cells_at set.structs j lt below) ∙ ap (λ (cs : List (List Cell)). length (desc_cells cs (get_or set.structs j no_desc))) (cells_table set)
+  struct_size = ap length (struct_cells_at set.structs (length set.structs) j lt below) ∙ ap (λ (cs : List (List Cell)). length (desc_cells cs (get_or set.structs j no_desc))) (cells_table set)
 
 -- ---- the next field
 
@@ -113,7 +113,7 @@ field_needs set well spot n h k cell count item most lt is there least room =
     let size : size_in set item ≡ size_in set f.item = ap (size_in set) is in
     record {
       uses = uses_more (reach set spot.part) (length set.structs) item (reach_whole set spot.part h.part) uses;
-      lower = rank_below (reach set spot.part) item uses;
+      lower = omega (arith, rank_below (reach set spot.part) item uses);
       small = omega (arith, size, one_fits (capacity_of f.count) (size_in set f.item) cell (length n) 16384 clean.some room h.few);
       room = subst (λ (x : ℕ). cell + count * x ≤ length n) (sym size) (room_for_less count (capacity_of f.count) (size_in set f.item) cell (length n) fewer room);
       steps = ap steps_of (present_slots (table set) all spot.version own n k cell f)

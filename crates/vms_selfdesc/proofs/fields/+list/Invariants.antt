@@ -7,7 +7,7 @@ use Rattle.vms_desc.specs.Parts.{desc_at}
 use Rattle.vms_selfdesc.specs.Entries.{element_entries, entries_from, listers}
 use Rattle.vms_selfdesc.specs.Listing.{item_list, elements_list, part_list}
 use Rattle.vms_selfdesc.proofs.Listed.{Leaves}
-use Rattle.vms_selfdesc.proofs.Ranks.{item_rank, part_rank}
+use Rattle.vms_desc.proofs.Ranks.{item_rank, part_rank}
 use Rattle.vms_selfdesc.proofs.fields.+list.Given as goal
 
 abbrev pub decreases-list_item : goal.decreases-list_item

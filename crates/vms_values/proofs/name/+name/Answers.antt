@@ -11,7 +11,7 @@ use Rattle.vms_desc.specs.Parts.{desc_at}
 use Rattle.vms_desc.proofs.AskLaws.{found_field}
 use Rattle.vms_walk.specs.Steps.{size_in}
 use Rattle.vms_walk.proofs.Spots.{size_code, width_code, struct_size}
-use Rattle.vms_walk.proofs.Ranks.{item_rank, part_rank}
+use Rattle.vms_desc.proofs.Ranks.{item_rank, part_rank}
 use Rattle.vms_walk.proofs.Walking.{one_fits}
 use Rattle.vms_spec.specs.Rules.{uses_below}
 use Rattle.std.proofs.Math.Nat.{mod-lt}

@@ -4,7 +4,7 @@ use Rattle.vms_spec.specs.Values.{printers, desc_lines, element_lines, field_lin
 use Rattle.vms_desc.specs.Described.{described}
 use Rattle.vms_desc.specs.Parts.{desc_at}
 use Rattle.vms_walk.specs.Steps.{size_in, table, cells_in}
-use Rattle.vms_walk.proofs.Ranks.{item_rank, part_rank}
+use Rattle.vms_desc.proofs.Ranks.{item_rank, part_rank}
 use Rattle.vms_values.specs.Printing.{Stays}
 use Rattle.vms_values.proofs.Printers.{cells_of}
 use Rattle.vms_values.proofs.Writing.{Owes}

@@ -5,7 +5,7 @@ use Rattle.vms_parts.specs.Views.{field_of}
 use Rattle.vms_desc.specs.Described.{described}
 use Rattle.vms_desc.specs.Parts.{desc_at}
 use Rattle.vms_walk.specs.Steps.{size_in, table, cells_in, capacities_of}
-use Rattle.vms_walk.proofs.Ranks.{item_rank, part_rank}
+use Rattle.vms_desc.proofs.Ranks.{item_rank, part_rank}
 use Rattle.vms_values.specs.Printing.{Stays}
 use Rattle.vms_values.specs.Taken.{IsKept, AreKinds, place_of}
 use Rattle.vms_values.proofs.taken.+read.Given as goal
