@@ -6,6 +6,7 @@
 
 mod ending;
 mod fetching;
+mod line_parts;
 mod notes;
 mod refused;
 mod set_notes;
@@ -14,8 +15,9 @@ mod words;
 
 pub use ending::Ending;
 pub use fetching::{LONGEST_FILE, SetText, fetch, fetch_set, loader_of, read_fetched};
+pub use line_parts::{append, append_number, append_reason};
 pub use notes::{not_there_line, too_large_line};
-pub use refused::{Line, reason_name, refused_line, rule_of};
+pub use refused::{Line, refused_line};
 pub use set_notes::{mismatch_line, rule_line, shape_line, syntax_line};
 pub use set_words::{SetWord, ShippedSet};
 pub use words::{set_word, shipped_set};

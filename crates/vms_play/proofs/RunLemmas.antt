@@ -58,6 +58,9 @@ unfolding after_all
 after_level [] m = refl
 after_level (event ∷ events) m = after_level events (step event m).1 ∙ clock_goes_on.level event m
 
+pub level_next : (line : ScriptLine) (m m' : State) → m' ≡ after_all (events_in line []) m → m'.level ≡ m.level
+level_next line m m' done = ap (λ (b : State). b.level) done ∙ after_level (events_in line []) m
+
 after-line : (line : ScriptLine) (rest : List Event) (m : State) → after_all rest (after_all (events_in line []) m) ≡ after_all (events_in line rest) m
 unfolding after_all
 after-line (Happens event) rest m = refl

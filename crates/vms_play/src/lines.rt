@@ -36,6 +36,8 @@ pub fn play<K: Sink, H: Shelf>(
         (stock H.Shelf shelf.old) (stock H.Shelf shelf.new) board.new.state result }
     ensures cause { HasPlayCause (outlet K.Sink out.old) (outlet K.Sink out.new)
         (stock H.Shelf shelf.old) (stock H.Shelf shelf.new) result }
+    ensures sound { IsSound board.new.state }
+    ensures level { board.new.state.level ≡ board.old.state.level }
     ensures out_count { K.faults out.old ≤ K.faults out.new }
     ensures shelf_count { H.faults shelf.old ≤ H.faults shelf.new }
     ensures out_promise { K.promise out.new ≡ K.promise out.old }

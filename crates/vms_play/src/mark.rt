@@ -1,14 +1,13 @@
 // The lines that a session's own lines leave in its trace, each made whole without memory.
-ghost use Rattle.std.specs.Prelude.{◌≡◌, ◌+◌, ◌++◌, ◌≤◌, decimal, length};
+ghost use Rattle.std.specs.Prelude.{◌≡◌, ◌≤◌, length};
 ghost use Rattle.dev_base.specs.declared.limits.TheConstants.{NEWEST};
 ghost use Rattle.vms_desc.specs.Formed.{shipped_set};
-ghost use Rattle.vms_outcome.specs.Lines.{reason_text, section_text};
+ghost use Rattle.vms_outcome.specs.Lines.{section_text};
 ghost use Rattle.vms_session.specs.Lines.{refused_line, restored_line, saved_line};
 
 use arrayvec::ArrayVec;
-use itoa::Buffer;
-use vms_load::{Reason, Refusal};
-use vms_outcome::{reason_name, rule_of};
+use vms_load::Refusal;
+use vms_outcome::{append, append_number, append_reason};
 
 /// A line of a trace, which has at most 64 bytes.
 pub(crate) type Mark = ArrayVec<u8, 64>;
@@ -59,38 +58,6 @@ pub(crate) fn refused_mark(refusal: &Refusal) -> Mark
     append_reason(&mut line, refusal.reason);
     append(&mut line, b"\n");
     line
-}
-
-// Appends bytes that there is room for.
-fn append(line: &mut Mark, more: &[u8])
-    requires { length line.old.items + length more.now ≤ 64 }
-    ensures { line.new.items ≡ line.old.items ++ more.now }
-{
-    let _fits = line.try_extend_from_slice(more);
-}
-
-// Appends the digits of a number, 20 at most.
-fn append_number(line: &mut Mark, number: u64)
-    requires { length line.old.items + 20 ≤ 64 }
-    ensures items { line.new.items ≡ line.old.items ++ decimal number }
-    ensures few { length line.new.items ≤ length line.old.items + 20 }
-{
-    let mut buffer = Buffer::new();
-    append(line, buffer.format(number).as_bytes());
-}
-
-// Appends a reason's name, and for a device's rule a blank and its number.
-fn append_reason(line: &mut Mark, reason: Reason)
-    requires { length line.old.items + 22 ≤ 64 }
-    ensures items { line.new.items ≡ line.old.items ++ reason_text reason }
-    ensures few { length line.new.items ≤ length line.old.items + 22 }
-{
-    append(line, reason_name(reason).as_bytes());
-    if let Some(rule) = rule_of(reason) {
-        let mut buffer = Buffer::new();
-        append(line, b" ");
-        append(line, buffer.format(rule).as_bytes());
-    }
 }
 
 // A device of the newest set by its name and instance, or a dash.

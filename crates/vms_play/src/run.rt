@@ -32,6 +32,10 @@ pub fn trace<K: Sink>(board: &mut Board, lines: &[Line], out: &mut K) -> Result<
         OnOk result (Appends (K.written out.old) (K.written out.new) text) }
     ensures err { let text = trace_from (events_of (lines_view lines.now)) board.old.state in
         OnErr result (AppendsPrefix (K.written out.old) (K.written out.new) text) }
+    ensures state { let events = events_of (lines_view lines.now) in
+        OnOk result (board.new.state ≡ after_all events board.old.state) }
+    ensures level { board.new.state.level ≡ board.old.state.level }
+    ensures taken { board.new.taken ≡ board.old.taken }
     ensures cause { HasCause (K.faults out.old) (K.faults out.new) result }
     ensures promise { K.promise out.new ≡ K.promise out.old }
 {
@@ -64,6 +68,7 @@ fn trace_line<K: Sink>(board: &mut Board, line: &Line, out: &mut K) -> Result<()
         OnErr result (AppendsPrefix (K.written out.old) (K.written out.new) text) }
     ensures state { let events = events_in (line_view line.now) [] in
         board.new.state ≡ after_all events board.old.state }
+    ensures taken { board.new.taken ≡ board.old.taken }
     ensures cause { HasCause (K.faults out.old) (K.faults out.new) result }
     ensures promise { K.promise out.new ≡ K.promise out.old }
 {
