@@ -34,8 +34,9 @@ const WRITE_FAULT: u8 = 6;
 /// | 9 | what a name holds is too large |
 /// | 10 | memory is wanting |
 ///
-/// One line goes to notes for each status but 0. On statuses but 0 and 6 out is untouched. Nothing of the input is
-/// taken but by `show` and `load`.
+/// One line goes to notes for each status but 0. On statuses but 0 and 6 out is untouched, but for `play`: on 7 and 10
+/// the traces of the lines before the one that failed stand on it. Nothing of the input is taken but by `show` and
+/// `load`.
 pub fn vmstate<I: Source, O: Sink, N: Sink, H: Shelf>(
     alloc: Global,
     words: &Words,
