@@ -14,7 +14,7 @@ use Rattle.vms_script.specs.Lines.{ScriptLine}
 use Rattle.vms_session.specs.Session.{Session}
 use Rattle.vms_outcome.specs.declared.ending.Ending.{Ending}
 use Rattle.vms_outcome.specs.declared.ending.Ending.TheVariants.{Done, Refused, BadWords, BadText, NotCompatible, ReadFault, WriteFault, ShelfFault, NotThere, TooLarge, NoMemory}
-use Rattle.vms_play.proofs.CourseLemmas.{holds_since, rose_since}
+use Rattle.vms_play.proofs.CourseLemmas.{holds_since, lines_come, rose_since}
 use Rattle.vms_play.specs.Playing.{HasPlayCause}
 use Rattle.vms_play.specs.declared.line.PlayFault.TheVariants as faults
 use Rattle.vms_boards.specs.Causes.{LinesCause}
@@ -51,7 +51,7 @@ module _ (level : ℕ) (lines : List ScriptLine) (i : Intake) (o o' : Outlet) (s
       by None e h = absurd h
       by (Some map) e h =
           let ends = at-power-on (Err fault) content map h.parts h.new e h.plays in
-          subst (λ (y : Outcome). ComesTo o o' s s' y.parts) (sym h.outcome) ends
+          subst (λ (y : Outcome). ComesTo o o' s s' y.parts) (sym h.outcome) (lines_come h.parts h.new o o' s s' board' fault ends)
 
   -- by each fault
   pub stopped_by : (fault : PlayFault) → Content lines board board' o o' s s' (Err fault) → IsSomeAnd s.held (λ map. PlaysAll level lines map x) → EndsAs i i o o' s s' (ending_by fault) x

@@ -15,7 +15,7 @@ use Rattle.vms_script.specs.declared.line.Line.{Line}
 use Rattle.vms_session.specs.Session.{Session, Does}
 use Rattle.vms_play.proofs.PartLemmas.{text_next, held_next, rest_next, begun_next, begun_whole, text_all, held_all}
 use Rattle.vms_play.specs.Parts.{part_of, PlaysParts}
-use Rattle.vms_play.specs.Playing.{session_of, LineEnds, LinesEnd, HasPlayCause}
+use Rattle.vms_play.specs.Playing.{session_of, LineEnds, LinesEnd, StopsBehind, HasPlayCause}
 use Rattle.vms_play.specs.declared.line.PlayFault.{PlayFault}
 use Rattle.vms_play.specs.declared.line.PlayFault.TheVariants.{WriteFault, ShelfFault, NoMemory}
 
@@ -97,16 +97,14 @@ module _ (i : ℕ) (line : ScriptLine) (left : List ScriptLine) (parts : List Pa
       }
 
   -- all that was begun is whole
-  whole : out''.written ≡ out'.written → HoldsBut shelf.faults shelf''.faults (held_after shelf.held (take i parts)) shelf''.held → ComesTo out out'' shelf shelf'' parts
+  whole : out''.written ≡ out'.written → HoldsBut shelf.faults shelf''.faults (held_after shelf.held (take i parts)) shelf''.held → StopsBehind out out'' shelf shelf'' parts
   whole same held = record {
-    begun = i;
-    bytes = length (text_of parts);
-    text = subst (Appends out.written out''.written) (sym (begun_whole i (length (text_of parts)) parts (omega arith)))
-        (subst (λ (w : Option (List ℕ)). Appends out.written w (text_of (take i parts))) (sym same) course.text);
+    done = i;
+    text = subst (λ (w : Option (List ℕ)). Appends out.written w (text_of (take i parts))) (sym same) course.text;
     held = held;
   }
 
-  pub course_stops : (fault : PlayFault) → shelf.faults ≤ shelf'.faults → Content line board board' out' out'' shelf' shelf'' (Err fault) → ComesTo out out'' shelf shelf'' parts
+  pub course_stops : (fault : PlayFault) → shelf.faults ≤ shelf'.faults → Content line board board' out' out'' shelf' shelf'' (Err fault) → LinesEnd parts new out out'' shelf shelf'' board' (Err fault)
   course_stops WriteFault le content =
       let ends = content course.holds text between course.told course.rest.3 in
       record {
@@ -136,8 +134,23 @@ module _ (i : ℕ) (line : ScriptLine) (left said : List ScriptLine) (split : sa
       subst (λ (n : ℕ). InCourse n left parts new board' out out'' shelf shelf'') one
       (course_goes i line left parts new board board' out out' out'' shelf shelf' shelf'' begun content)
 
-  pub stop_course : (fault : PlayFault) → shelf.faults ≤ shelf'.faults → Content line board board' out' out'' shelf' shelf'' (Err fault) → ComesTo out out'' shelf shelf'' parts
+  pub stop_course : (fault : PlayFault) → shelf.faults ≤ shelf'.faults → Content line board board' out' out'' shelf' shelf'' (Err fault) → LinesEnd parts new out out'' shelf shelf'' board' (Err fault)
   stop_course fault le content = course_stops i line left parts new board board' out out' out'' shelf shelf' shelf'' begun fault le content
+
+-- parts that are done are parts that were begun, with all of the last one's text
+behind_comes : (out out' : Outlet) (shelf shelf' : Stock) (parts : List Part) → StopsBehind out out' shelf shelf' parts → ComesTo out out' shelf shelf' parts
+behind_comes out out' shelf shelf' parts h = record {
+  begun = h.done;
+  bytes = length (text_of parts);
+  text = subst (Appends out.written out'.written) (sym (begun_whole h.done (length (text_of parts)) parts (omega arith))) h.text;
+  held = h.held;
+}
+
+pub lines_come : (parts : List Part) (new : Session) (out out' : Outlet) (shelf shelf' : Stock) (board : State) (fault : PlayFault)
+    → LinesEnd parts new out out' shelf shelf' board (Err fault) → ComesTo out out' shelf shelf' parts
+lines_come parts new out out' shelf shelf' board WriteFault h = h
+lines_come parts new out out' shelf shelf' board ShelfFault h = behind_comes out out' shelf shelf' parts h
+lines_come parts new out out' shelf shelf' board NoMemory h = behind_comes out out' shelf shelf' parts h
 
 pub course_ends : (i : ℕ) (parts : List Part) (new : Session) (board : State) (out out' : Outlet) (shelf shelf' : Stock)
     → InCourse i [] parts new board out out' shelf shelf' → LinesEnd parts new out out' shelf shelf' board (Ok tt)

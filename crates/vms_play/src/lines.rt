@@ -18,8 +18,8 @@ use vms_script::Line;
 
 /// Plays the lines of a session on a board and a shelf, and appends their trace.
 ///
-/// After an error the shelf is as after some first lines, and of their trace all stands on the sink but for some last
-/// bytes of the last one's text. After a shelf fault what is held under one name may not be told.
+/// After an error the shelf is as after some first lines, and of their trace all stands on the sink but for some bytes
+/// of the last one's text at a write fault. After a shelf fault what is held under one name may not be told.
 pub fn play<K: Sink, H: Shelf>(
     alloc: Global,
     lines: &[Line],
