@@ -1,12 +1,12 @@
 -- A board that words name has a level.
-use Rattle.std.proofs.Common.{◌≡◌, ℕ, Bool, true, false, ◌&&◌, if◌then◌else◌, nat_le, List, [], ◌∷◌, Option, Some, None, codes, arith}
+use Rattle.std.proofs.Common.{◌≡◌, ℕ, Bool, true, false, if◌then◌else◌, nat_le, List, [], ◌∷◌, Option, Some, None, codes, arith}
 use Rattle.std.specs.Str.{bytes_eq}
 use Rattle.dev_base.specs.Levels.{IsLevel}
 use Rattle.vms_io.specs.Shelves.{Held}
 use Rattle.vms_outcome.specs.SetWords.{SetWord, set_word, shipped_number}
 use Rattle.vms_script.specs.Names.{is_shelf_name}
 use Rattle.vms_session.specs.Laws.{HoldsAll}
-use Rattle.vms_cli.specs.Commands.{Asked, Pack, Save, Load, Play, board_level, check_of, drill_of, few_events, load_of, number_word, pack_of, pair_of, play_of, save_of, show_of, triple_of}
+use Rattle.vms_cli.specs.Commands.{Asked, Pack, Save, board_level, check_of, drill_of, few_events, load_of, number_word, on_board, pack_of, pair_of, play_of, save_of, show_of, triple_of}
 use Rattle.vms_cli.specs.Laws.{GoesBy, WordsLaw}
 
 -- ---- levels
@@ -47,20 +47,23 @@ module _ (held : Held) (holds : HoldsAll held) where
   pack-goes None values = tt
   pack-goes (Some set) values = either-goes (is_shelf_name values) (Some (Pack set values)) None tt tt
 
-  load-goes : (level : Option ℕ) (script : List ℕ) → GoesBy (load_of level script) held
-  load-goes None script = tt
-  load-goes (Some level) script = either-goes (is_shelf_name script) (Some (Load level script)) None tt tt
+  load-goes : (board : Option (ℕ × List ℕ)) → GoesBy (load_of board) held
+  load-goes None = tt
+  load-goes (Some (level, script)) = tt
 
-  play-goes : (level : Option ℕ) (script : List ℕ) → HasLevel level → GoesBy (play_of level script) held
+  play-if : (b : Bool) (level : ℕ) (script : List ℕ) → IsLevel level → GoesBy (play_of (if b then Some (level, script) else None)) held
+  play-if true level script is = (is, holds)
+  play-if false level script is = tt
+
+  play-goes : (level : Option ℕ) (script : List ℕ) → HasLevel level → GoesBy (play_of (on_board level script)) held
   play-goes None script is = tt
-  play-goes (Some level) script is = either-goes (is_shelf_name script) (Some (Play level script)) None (is, holds) tt
+  play-goes (Some level) script is = play-if (is_shelf_name script) level script is
 
-  save-goes : (level set : Option ℕ) (script : List ℕ) → GoesBy (save_of level set script) held
-  save-goes None None script = tt
-  save-goes None (Some set) script = tt
-  save-goes (Some level) None script = tt
-  save-goes (Some level) (Some set) script =
-      either-goes (nat_le level set && is_shelf_name script) (Some (Save level set script)) None tt tt
+  save-goes : (board : Option (ℕ × List ℕ)) (set : Option ℕ) → GoesBy (save_of board set) held
+  save-goes None None = tt
+  save-goes None (Some set) = tt
+  save-goes (Some board) None = tt
+  save-goes (Some (level, script)) (Some set) = either-goes (nat_le level set) (Some (Save level set script)) None tt tt
 
   drill-goes : (level seed count : Option ℕ) → GoesBy (drill_of level seed count) held
   drill-goes None None None = tt
@@ -77,16 +80,16 @@ module _ (held : Held) (holds : HoldsAll held) where
   pair-goes name one other =
       either-goes (bytes_eq name (codes "check")) (check_of (set_word one) (set_word other)) _ (check-goes (set_word one) (set_word other))
       (either-goes (bytes_eq name (codes "pack")) (pack_of (set_word one) other) _ (pack-goes (set_word one) other)
-      (either-goes (bytes_eq name (codes "load")) (load_of (board_level one) other) _ (load-goes (board_level one) other)
-      (either-goes (bytes_eq name (codes "play")) (play_of (board_level one) other) None (play-goes (board_level one) other (board-level one)) tt)))
+      (either-goes (bytes_eq name (codes "load")) (load_of (on_board (board_level one) other)) _ (load-goes (on_board (board_level one) other))
+      (either-goes (bytes_eq name (codes "play")) (play_of (on_board (board_level one) other)) None (play-goes (board_level one) other (board-level one)) tt)))
 
   triple-goes : (name one two three : List ℕ) → GoesBy (triple_of name one two three) held
   unfolding triple_of
   triple-goes name one two three =
       either-goes (bytes_eq name (codes "drill")) (drill_of (board_level one) (number_word two) (few_events (number_word three))) _
       (drill-goes (board_level one) (number_word two) (few_events (number_word three)))
-      (either-goes (bytes_eq name (codes "save")) (save_of (board_level one) (shipped_number two) three) None
-      (save-goes (board_level one) (shipped_number two) three) tt)
+      (either-goes (bytes_eq name (codes "save")) (save_of (on_board (board_level one) three) (shipped_number two)) None
+      (save-goes (on_board (board_level one) three) (shipped_number two)) tt)
 
 pub words_hold : WordsLaw
 words_hold [] held holds = tt

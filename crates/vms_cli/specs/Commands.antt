@@ -1,5 +1,5 @@
 -- The commands that the words can name.
-use Rattle.std.specs.Prelude.{ℕ, if◌then◌else◌, ◌&&◌, nat_le, List, [], ◌∷◌, Option, Some, None, Result, Ok, Err, codes}
+use Rattle.std.specs.Prelude.{ℕ, if◌then◌else◌, nat_le, List, [], ◌∷◌, Option, Some, None, Result, Ok, Err, codes}
 use Rattle.std.specs.Str.{bytes_eq}
 use Rattle.vms_spec.specs.Lists.{position}
 use Rattle.vms_spec.specs.Spelling.{number_spelled}
@@ -40,22 +40,26 @@ board_words = codes "isa-1" ∷ codes "isa-2" ∷ codes "isa-3" ∷ codes "isa-4
 abbrev pub board_level : List ℕ → Option ℕ
 board_level word = position (bytes_eq word) 1 board_words
 
--- of a board and a script
-abbrev pub load_of : Option ℕ → List ℕ → Option Asked
-load_of None script = None
-load_of (Some level) script = if is_shelf_name script then Some (Load level script) else None
+-- the level of a board, and the name of a script
+abbrev pub on_board : Option ℕ → List ℕ → Option (ℕ × List ℕ)
+on_board None script = None
+on_board (Some level) script = if is_shelf_name script then Some (level, script) else None
 
-abbrev pub play_of : Option ℕ → List ℕ → Option Asked
-play_of None script = None
-play_of (Some level) script = if is_shelf_name script then Some (Play level script) else None
+abbrev pub load_of : Option (ℕ × List ℕ) → Option Asked
+load_of None = None
+load_of (Some (level, script)) = Some (Load level script)
+
+abbrev pub play_of : Option (ℕ × List ℕ) → Option Asked
+play_of None = None
+play_of (Some (level, script)) = Some (Play level script)
 
 -- a command with two words behind its name
 unfoldable pub pair_of : List ℕ → List ℕ → List ℕ → Option Asked
 pair_of name one other =
     if bytes_eq name (codes "check") then check_of (set_word one) (set_word other)
     else if bytes_eq name (codes "pack") then pack_of (set_word one) other
-    else if bytes_eq name (codes "load") then load_of (board_level one) other
-    else if bytes_eq name (codes "play") then play_of (board_level one) other else None
+    else if bytes_eq name (codes "load") then load_of (on_board (board_level one) other)
+    else if bytes_eq name (codes "play") then play_of (on_board (board_level one) other) else None
 
 abbrev pub told : Result ℕ ScriptReason → Option ℕ
 told (Ok n) = Some n
@@ -78,16 +82,15 @@ drill_of (Some level) (Some seed) (Some count) = Some (Drill level seed count)
 drill_of _ _ _ = None
 
 -- of a shipped set at or above the board
-abbrev pub save_of : Option ℕ → Option ℕ → List ℕ → Option Asked
-save_of (Some level) (Some set) script =
-    if nat_le level set && is_shelf_name script then Some (Save level set script) else None
-save_of _ _ script = None
+abbrev pub save_of : Option (ℕ × List ℕ) → Option ℕ → Option Asked
+save_of (Some (level, script)) (Some set) = if nat_le level set then Some (Save level set script) else None
+save_of _ _ = None
 
 -- a command with three words behind its name
 unfoldable pub triple_of : List ℕ → List ℕ → List ℕ → List ℕ → Option Asked
 triple_of name one two three =
     if bytes_eq name (codes "drill") then drill_of (board_level one) (number_word two) (few_events (number_word three))
-    else if bytes_eq name (codes "save") then save_of (board_level one) (shipped_number two) three else None
+    else if bytes_eq name (codes "save") then save_of (on_board (board_level one) three) (shipped_number two) else None
 
 abbrev pub asked_of : List (List ℕ) → Option Asked
 asked_of (name ∷ set ∷ []) = if bytes_eq name (codes "show") then show_of (set_word set) else None

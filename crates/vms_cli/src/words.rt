@@ -4,7 +4,7 @@ ghost use Rattle.std.specs.Str.{bytes_eq};
 ghost use Rattle.std.specs.Option.{option_map};
 ghost use Rattle.vms_outcome.specs.SetWords.{set_word, shipped_number};
 ghost use Rattle.vms_cli.specs.Asks.{asked};
-ghost use Rattle.vms_cli.specs.Commands.{asked_of, board_level, check_of, drill_of, few_events, load_of, number_word, pack_of, pair_of, play_of, save_of, show_of, triple_of};
+ghost use Rattle.vms_cli.specs.Commands.{asked_of, board_level, check_of, drill_of, few_events, number_word, on_board, pack_of, pair_of, save_of, show_of, triple_of};
 
 use crate::board_words::{board_word, events_word, number_word};
 use crate::boards::BoardWord;
@@ -12,7 +12,7 @@ use std::alloc::Global;
 use std::marker::Model;
 use vms_boards::{OnBoard, Saving};
 use vms_io::NoMemory;
-use vms_outcome::{SetWord, ShippedSet, set_word, shipped_set};
+use vms_outcome::{SetWord, set_word, shipped_set};
 use vms_script::is_shelf_name;
 
 /// What the words ask for.
@@ -127,9 +127,9 @@ fn pair_of<'a>(name: &str, one: &'a str, other: &'a str) -> Option<Command<'a>>
     } else if name == "pack" {
         pack_of(one, other)
     } else if name == "load" {
-        load_of(one, other)
+        on_board(one, other).map(Command::Load)
     } else if name == "play" {
-        play_of(one, other)
+        on_board(one, other).map(Command::Play)
     } else {
         None
     }
@@ -153,29 +153,17 @@ fn pack_of<'a>(set: &'a str, values: &'a str) -> Option<Command<'a>>
     }
 }
 
-fn load_of<'a>(board: &str, script: &'a str) -> Option<Command<'a>>
-    ensures { option_map asked result ≡ load_of (board_level board.now) script.now }
+// A board and a script.
+fn on_board<'a>(board: &str, script: &'a str) -> Option<OnBoard<'a>>
+    ensures { option_map (λ asked. (asked.level, asked.script.now)) result
+        ≡ on_board (board_level board.now) script.now }
 {
     match board_word(board) {
         Some(board) if is_shelf_name(script.as_bytes()) => {
-            Some(Command::Load(OnBoard {
+            Some(OnBoard {
                 level: board.level,
                 script,
-            }))
-        }
-        _ => None,
-    }
-}
-
-fn play_of<'a>(board: &str, script: &'a str) -> Option<Command<'a>>
-    ensures { option_map asked result ≡ play_of (board_level board.now) script.now }
-{
-    match board_word(board) {
-        Some(board) if is_shelf_name(script.as_bytes()) => {
-            Some(Command::Play(OnBoard {
-                level: board.level,
-                script,
-            }))
+            })
         }
         _ => None,
     }
@@ -205,24 +193,19 @@ fn drill_of<'a>(board: &str, seed: &str, count: &str) -> Option<Command<'a>>
     }
 }
 
-fn save_of<'a>(board: &str, set: &str, script: &'a str) -> Option<Command<'a>>
-    ensures { option_map asked result ≡ save_of (board_level board.now) (shipped_number set.now)
-        script.now }
-{
-    match (board_word(board), shipped_set(set)) {
-        (Some(board), Some(set)) => saving_of(board, set, script),
-        _ => None,
-    }
-}
-
 // The set is at or above the board.
-fn saving_of<'a>(board: BoardWord, set: ShippedSet, script: &'a str) -> Option<Command<'a>>
-    ensures { option_map asked result ≡ save_of (Some board.level) (Some set.number) script.now }
+fn save_of<'a>(board: &str, set: &str, script: &'a str) -> Option<Command<'a>>
+    ensures { option_map asked result
+        ≡ save_of (on_board (board_level board.now) script.now) (shipped_number set.now) }
 {
-    let (level, set) = (board.level, set.number);
-    if level <= set && is_shelf_name(script.as_bytes()) {
-        Some(Command::Save(Saving { level, set, script }))
-    } else {
-        None
+    match (on_board(board, script), shipped_set(set)) {
+        (Some(asked), Some(set)) if asked.level <= set.number => {
+            Some(Command::Save(Saving {
+                level: asked.level,
+                set: set.number,
+                script: asked.script,
+            }))
+        }
+        _ => None,
     }
 }
