@@ -97,8 +97,8 @@ module _ (i : ℕ) (line : ScriptLine) (left : List ScriptLine) (parts : List Pa
       }
 
   -- all that was begun is whole
-  whole : out''.written ≡ out'.written → HoldsBut shelf.faults shelf''.faults (held_after shelf.held (take i parts)) shelf''.held → StopsBehind out out'' shelf shelf'' parts
-  whole same held = record {
+  whole : (ShelfIs : List Part → Type 0) → out''.written ≡ out'.written → ShelfIs (take i parts) → StopsBehind out out'' parts ShelfIs
+  whole ShelfIs same held = record {
     done = i;
     text = subst (λ (w : Option (List ℕ)). Appends out.written w (text_of (take i parts))) (sym same) course.text;
     held = held;
@@ -116,11 +116,11 @@ module _ (i : ℕ) (line : ScriptLine) (left : List ScriptLine) (parts : List Pa
       }
   course_stops ShelfFault le content =
       let ends = content course.holds text between course.told course.rest.3 in
-      whole (ap (λ (o : Outlet). o.written) ends.0)
+      whole (λ (done : List Part). HoldsBut shelf.faults shelf''.faults (held_after shelf.held done) shelf''.held) (ap (λ (o : Outlet). o.written) ends.0)
       (holds_since shelf.faults shelf'.faults shelf''.faults (held_after shelf.held (take i parts)) shelf''.held shelf'.held le course.held ends.1)
   course_stops NoMemory le content =
       let ends = content course.holds text between course.told course.rest.3 in
-      whole (ap (λ (o : Outlet). o.written) ends.0) (inl (ends.1 ∙ course.held))
+      whole (λ (done : List Part). shelf''.held ≡ held_after shelf.held done) (ap (λ (o : Outlet). o.written) ends.0) (ends.1 ∙ course.held)
 
 -- the same of lines that begin with this one
 module _ (i : ℕ) (line : ScriptLine) (left said : List ScriptLine) (split : said ≡ line ∷ left) (parts : List Part) (new : Session) (board board' : State) (out out' out'' : Outlet) (shelf shelf' shelf'' : Stock)
@@ -138,7 +138,9 @@ module _ (i : ℕ) (line : ScriptLine) (left said : List ScriptLine) (split : sa
   stop_course fault le content = course_stops i line left parts new board board' out out' out'' shelf shelf' shelf'' begun fault le content
 
 -- parts that are done are parts that were begun, with all of the last one's text
-behind_comes : (out out' : Outlet) (shelf shelf' : Stock) (parts : List Part) → StopsBehind out out' shelf shelf' parts → ComesTo out out' shelf shelf' parts
+behind_comes : (out out' : Outlet) (shelf shelf' : Stock) (parts : List Part)
+    → StopsBehind out out' parts (λ (done : List Part). HoldsBut shelf.faults shelf'.faults (held_after shelf.held done) shelf'.held)
+    → ComesTo out out' shelf shelf' parts
 behind_comes out out' shelf shelf' parts h = record {
   begun = h.done;
   bytes = length (text_of parts);
@@ -150,7 +152,8 @@ pub lines_come : (parts : List Part) (new : Session) (out out' : Outlet) (shelf 
     → LinesEnd parts new out out' shelf shelf' board (Err fault) → ComesTo out out' shelf shelf' parts
 lines_come parts new out out' shelf shelf' board WriteFault h = h
 lines_come parts new out out' shelf shelf' board ShelfFault h = behind_comes out out' shelf shelf' parts h
-lines_come parts new out out' shelf shelf' board NoMemory h = behind_comes out out' shelf shelf' parts h
+lines_come parts new out out' shelf shelf' board NoMemory h =
+    behind_comes out out' shelf shelf' parts (record { done = h.done; text = h.text; held = inl h.held })
 
 pub course_ends : (i : ℕ) (parts : List Part) (new : Session) (board : State) (out out' : Outlet) (shelf shelf' : Stock)
     → InCourse i [] parts new board out out' shelf shelf' → LinesEnd parts new out out' shelf shelf' board (Ok tt)

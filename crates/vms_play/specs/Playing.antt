@@ -26,21 +26,22 @@ LineEnds text after out out' shelf shelf' board (Err faults.ShelfFault) =
     (out' ≡ out) × HoldsBut shelf.faults shelf'.faults shelf.held shelf'.held
 LineEnds text after out out' shelf shelf' board (Err faults.NoMemory) = (out' ≡ out) × (shelf'.held ≡ shelf.held)
 
--- The first k parts are done, and of the next one nothing stands on out: there are the texts of these parts, and the shelf is
--- as after them, or all of it but for one name where its count of faults rose, as after a store that failed.
-pub record StopsBehind (out out' : Outlet) (shelf shelf' : Stock) (parts : List Part) : Type 0 where
+-- The first k parts are done, and of the next one nothing stands on out; the shelf is as these leave it.
+pub record StopsBehind (out out' : Outlet) (parts : List Part) (ShelfIs : List Part → Type 0) : Type 0 where
   pub done : ℕ
   pub text : Appends out.written out'.written (text_of (take done parts))
-  pub held : HoldsBut shelf.faults shelf'.faults (held_after shelf.held (take done parts)) shelf'.held
+  pub held : ShelfIs (take done parts)
 
 -- Lines that are these parts and leave this session: all is done; or, at a write fault, they come to some of the parts and
--- some of the last one's text; or they stop behind some of them.
+-- some of the last one's text; or they stop behind some of them. After a shelf fault one name may not be told.
 abbrev pub LinesEnd : List Part → Session → (out out' : Outlet) (shelf shelf' : Stock) → State → Result Unit PlayFault → Type 0
 LinesEnd parts new out out' shelf shelf' board (Ok u) =
     Appends out.written out'.written (text_of parts) × (shelf'.held ≡ held_after shelf.held parts) × (board ≡ new.board)
 LinesEnd parts new out out' shelf shelf' board (Err faults.WriteFault) = ComesTo out out' shelf shelf' parts
-LinesEnd parts new out out' shelf shelf' board (Err faults.ShelfFault) = StopsBehind out out' shelf shelf' parts
-LinesEnd parts new out out' shelf shelf' board (Err faults.NoMemory) = StopsBehind out out' shelf shelf' parts
+LinesEnd parts new out out' shelf shelf' board (Err faults.ShelfFault) =
+    StopsBehind out out' parts (λ done. HoldsBut shelf.faults shelf'.faults (held_after shelf.held done) shelf'.held)
+LinesEnd parts new out out' shelf shelf' board (Err faults.NoMemory) =
+    StopsBehind out out' parts (λ done. shelf'.held ≡ held_after shelf.held done)
 
 -- a write fault comes only where the sink's count rose, and a shelf fault only where the shelf's did
 abbrev pub HasPlayCause : (out out' : Outlet) (shelf shelf' : Stock) → Result Unit PlayFault → Type 0
