@@ -1,5 +1,5 @@
 -- Drills, with the streams of their saves.
-use Rattle.std.specs.Prelude.{ℕ, zero, suc, ◌+◌, ◌-◌, if◌then◌else◌, List, length}
+use Rattle.std.specs.Prelude.{ℕ, zero, suc, ◌+◌, ◌-◌, if◌then◌else◌, length}
 use Rattle.dev_board.specs.State.{State}
 use Rattle.dev_board.specs.Step.{step}
 use Rattle.dev_board.specs.declared.event.Answer.{Answer}

@@ -1,5 +1,5 @@
 -- Laws of drills that contracts name.
-use Rattle.std.specs.Prelude.{◌≡◌, ℕ, ◌+◌, ◌*◌, ◌≤◌}
+use Rattle.std.specs.Prelude.{◌≡◌, ℕ, ◌*◌, ◌≤◌}
 use Rattle.dev_base.specs.Levels.{IsLevel}
 use Rattle.dev_drill.specs.Fold.{begun, drilled, counted_all, nothing}
 use Rattle.dev_drill.specs.Events.{events_after}

@@ -1,5 +1,5 @@
 -- What contracts see of a drill in its course and of its summary.
-use Rattle.std.specs.Prelude.{ℕ, ◌*◌, ◌≤◌}
+use Rattle.std.specs.Prelude.{◌*◌, ◌≤◌}
 use Rattle.dev_board.specs.Sound.{IsSound}
 use Rattle.dev_drill.specs.Views.{tally_view}
 use Rattle.vms_drill.specs.Drill.{Drill, Summary}

@@ -1,13 +1,13 @@
 -- Lines of a session, one after the other.
-use Rattle.std.proofs.Common.{◌≡◌, ◌⊎◌, inl, inr, ℕ, zero, suc, ◌+◌, ◌<◌, ◌≤◌, List, [], ◌∷◌, ◌++◌, length, take, drop, get_or, Option, Some, None, Result, Ok, Err, refl, sym, ap, subst, ◌∙◌, arith}
+use Rattle.std.proofs.Common.{◌≡◌, inl, inr, ℕ, suc, ◌+◌, ◌<◌, ◌≤◌, List, [], ◌∷◌, length, take, drop, get_or, Option, Some, Result, Ok, Err, refl, sym, ap, subst, ◌∙◌, arith}
 use Rattle.std.proofs.lemmas.List.{drop_all, drop_more}
 use Rattle.std.proofs.KnownBytes.{Appends-nil, Appends-trans}
 use Rattle.std.specs.Io.KnownBytes.{Appends}
 use Rattle.dev_board.specs.State.{State}
-use Rattle.vms_io.specs.Causes.{AppendsPrefix, Rose}
+use Rattle.vms_io.specs.Causes.{Rose}
 use Rattle.vms_io.specs.Shelves.{Held, IfToldBoth, KeepsOthers}
 use Rattle.vms_io.specs.Told.{Outlet, Stock}
-use Rattle.vms_outcome.specs.Outcomes.{Part, text_of, text_begun, held_after, HoldsBut, ComesTo}
+use Rattle.vms_outcome.specs.Outcomes.{Part, text_of, held_after, HoldsBut, ComesTo}
 use Rattle.vms_script.specs.Grammar.{IsLine, AreLines}
 use Rattle.vms_script.specs.Lines.{ScriptLine}
 use Rattle.vms_script.specs.Views.{line_view, lines_view}

@@ -1,10 +1,10 @@
 -- Parts of a session, one after the other.
-use Rattle.std.proofs.Common.{◌≡◌, ◌⊎◌, inl, inr, ℕ, zero, suc, ◌+◌, ◌≤◌, List, [], ◌∷◌, ◌++◌, length, take, drop, Option, Some, refl, sym, ap, subst, ◌∙◌, append_assoc, append-nil, arith, length-append}
+use Rattle.std.proofs.Common.{◌≡◌, ℕ, zero, suc, ◌≤◌, List, [], ◌∷◌, ◌++◌, length, take, drop, Option, Some, refl, sym, ap, ◌∙◌, append_assoc, append-nil, arith, length-append}
 use Rattle.std.proofs.lemmas.List.{take_all}
 use Rattle.vms_io.specs.Shelves.{Held}
 use Rattle.vms_outcome.specs.Outcomes.{Part, text_of, text_begun, held_after}
 use Rattle.vms_script.specs.Lines.{ScriptLine}
-use Rattle.vms_session.specs.Session.{Session, Does, Plays}
+use Rattle.vms_session.specs.Session.{Session, Plays}
 use Rattle.vms_play.specs.Parts.{part_of, PlaysParts}
 
 module _ (part : Part) (rest : List Part) where

@@ -1,5 +1,5 @@
 -- What a stream of the shelf comes to, and a line that is written.
-use Rattle.std.proofs.Common.{◌≡◌, ℕ, ◌<◌, ◌≤◌, List, length, Option, Some, Result, Ok, Err, arith, sym, ap, subst, ◌∙◌}
+use Rattle.std.proofs.Common.{◌≡◌, ℕ, ◌≤◌, List, length, Option, Some, Result, Ok, Err, arith, sym, ap, subst}
 use Rattle.std.specs.Io.KnownBytes.{Appends}
 use Rattle.dev_base.specs.declared.limits.TheConstants.{NEWEST}
 use Rattle.dev_board.specs.State.{State}

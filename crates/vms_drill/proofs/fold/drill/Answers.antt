@@ -1,5 +1,4 @@
-use Rattle.std.proofs.Common.{◌≡◌, ℕ, ◌+◌, ◌-◌, ◌∙◌, sym, ap, arith}
-use Rattle.dev_board.specs.State.{State}
+use Rattle.std.proofs.Common.{◌≡◌, ◌+◌, ◌-◌, ◌∙◌, ap, arith}
 use Rattle.vms_board.specs.Standing.{Standing}
 use Rattle.vms_drill.specs.Drill.{Drill, drill_begun, drilled_on, summary_of}
 use Rattle.vms_drill.specs.Views.{course_view}

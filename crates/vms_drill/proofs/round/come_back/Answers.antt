@@ -1,4 +1,4 @@
-use Rattle.std.proofs.Common.{◌≡◌, ℕ, ◌<◌, length, sym, ap, ◌∙◌, subst, arith}
+use Rattle.std.proofs.Common.{◌≡◌, ℕ, length, ap, ◌∙◌, subst, arith}
 use Rattle.dev_board.specs.Saved.{MaySaveUnder}
 use Rattle.dev_drill.specs.Fold.{came_back, set_of}
 use Rattle.vms_session.proofs.LengthLaws.{streams_are_short}

@@ -1,4 +1,4 @@
-use Rattle.std.proofs.Common.{◌≡◌, ℕ, List, [], Some, Err, ◌+◌, ◌<◌, ◌≤◌, length, drop, refl, sym, ap, subst, ◌∙◌, arith}
+use Rattle.std.proofs.Common.{ℕ, Some, Err, ◌+◌, ◌<◌, ◌≤◌, length, drop, refl, sym, subst, ◌∙◌, arith}
 use Rattle.vms_io.specs.Told.{outlet, stock}
 use Rattle.vms_script.specs.Grammar.{IsLine}
 use Rattle.vms_script.specs.Views.{line_view, lines_view}

@@ -1,4 +1,4 @@
-use Rattle.std.proofs.Common.{◌≡◌, ℕ, List, ◌+◌, ◌<◌, ◌≤◌, length, drop, sym, ap, ◌∙◌, arith}
+use Rattle.std.proofs.Common.{◌+◌, ◌<◌, ◌≤◌, length, drop, sym, ap, ◌∙◌, arith}
 use Rattle.dev_board.specs.State.{State}
 use Rattle.vms_script.specs.Views.{line_view, lines_view}
 use Rattle.vms_play.specs.Events.{events_of}

@@ -1,4 +1,4 @@
-use Rattle.std.proofs.Common.{◌≡◌, ℕ, List, [], ◌+◌, ◌<◌, ◌≤◌, length, drop, Result, Ok, Err, OnErr, sym, ap, ◌∙◌, arith}
+use Rattle.std.proofs.Common.{[], ◌+◌, ◌<◌, ◌≤◌, length, drop, Result, Ok, Err, OnErr, sym, ◌∙◌, arith}
 use Rattle.vms_io.specs.Causes.{AppendsPrefix}
 use Rattle.vms_script.specs.Views.{line_view, lines_view}
 use Rattle.vms_play.specs.Events.{events_in, events_of, trace_from}

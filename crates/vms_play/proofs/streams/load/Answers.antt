@@ -1,4 +1,4 @@
-use Rattle.std.proofs.Common.{◌≡◌, ap, ◌∙◌}
+use Rattle.std.proofs.Common.{ap, ◌∙◌}
 use Rattle.vms_board.specs.Standing.{Standing}
 use Rattle.vms_session.specs.Lines.{restored_line}
 use Rattle.vms_play.specs.Playing.{session_of}
