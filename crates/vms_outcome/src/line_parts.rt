@@ -6,14 +6,7 @@ ghost use Rattle.vms_outcome.specs.Lines.{reason_name, reason_text, rule_of};
 use arrayvec::ArrayVec;
 use itoa::Buffer;
 use vms_load::Reason;
-
-/// Appends bytes that there is room for.
-pub fn append<const N: usize>(line: &mut ArrayVec<u8, N>, more: &[u8])
-    requires { length line.old.items + length more.now ≤ N }
-    ensures { line.new.items ≡ line.old.items ++ more.now }
-{
-    let _fits = line.try_extend_from_slice(more);
-}
+use vms_words::append;
 
 /// Appends the digits of a number, 20 at most.
 #[tactic(auto, using(crate::proofs::LineLemmas::number_short))]

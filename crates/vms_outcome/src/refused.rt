@@ -3,10 +3,11 @@ ghost use Rattle.std.specs.Prelude.{◌≡◌, ◌+◌, ◌++◌, ◌≤◌, ◌
 ghost use Rattle.vms_desc.specs.Described.{described, device_at};
 ghost use Rattle.vms_outcome.specs.Lines.{device_text, refused_line, section_text};
 
-use crate::line_parts::{append, append_number, append_reason};
+use crate::line_parts::{append_number, append_reason};
 use arrayvec::ArrayVec;
 use vms_desc::DescSet;
 use vms_load::Refusal;
+use vms_words::append;
 
 /// A line of at most 256 bytes, which is made without memory.
 pub type Line = ArrayVec<u8, 256>;

@@ -7,7 +7,8 @@ ghost use Rattle.vms_session.specs.Lines.{refused_line, restored_line, saved_lin
 
 use arrayvec::ArrayVec;
 use vms_load::Refusal;
-use vms_outcome::{append, append_number, append_reason};
+use vms_outcome::{append_number, append_reason};
+use vms_words::append;
 
 /// A line of a trace, which has at most 64 bytes.
 pub(crate) type Mark = ArrayVec<u8, 64>;

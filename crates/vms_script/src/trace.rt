@@ -8,6 +8,7 @@ use crate::hex::digits_of;
 use arrayvec::ArrayVec;
 use dev_board::Answer;
 use vms_io::{Sink, WriteFault, write_all_of};
+use vms_words::append;
 
 /// Appends the line of an answer: the value as two hexadecimal digits or `--`, a blank, `1` or `0` for the
 /// interrupt output, where bytes were sent a blank and their digits, and a line feed. After an error a prefix
@@ -38,14 +39,6 @@ fn line_of(answer: &Answer) -> ArrayVec<u8, 40>
     append_sent(&mut line, answer.sent.as_slice());
     append(&mut line, b"\n");
     line
-}
-
-// Appends bytes that there is room for.
-fn append(line: &mut ArrayVec<u8, 40>, more: &[u8])
-    requires { length line.old.items + length more.now ≤ 40 }
-    ensures { line.new.items ≡ line.old.items ++ more.now }
-{
-    let _fits = line.try_extend_from_slice(more);
 }
 
 // The two digits of a value, or two dashes.

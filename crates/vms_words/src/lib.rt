@@ -1,5 +1,5 @@
 //! Words and lines of texts: the words of the kinds of number, in description files and in
-//! self-descriptions, and the first line of a text.
+//! self-descriptions, the first line of a text, and what lines are made of.
 #![tactic(auto)]
 
 ghost use Rattle.std.specs.Prelude.{◌≡◌};
@@ -7,7 +7,7 @@ ghost use Rattle.vms_words.specs.Words.{kind_word, kind_named, TellsKind};
 
 mod line;
 
-pub use line::{NextLine, next_line};
+pub use line::{NextLine, append, next_line};
 use vms_kinds::Kind;
 
 /// The word of a kind.

@@ -1,8 +1,9 @@
 // Lines of a text.
-ghost use Rattle.std.specs.Prelude.{◌≡◌, ◌+◌, length, IfSome};
+ghost use Rattle.std.specs.Prelude.{◌≡◌, ◌+◌, ◌++◌, ◌≤◌, length, IfSome};
 ghost use Rattle.vms_spec.specs.Spelling.{first_line};
 ghost use Rattle.vms_words.specs.Lines.{IsFirstLine};
 
+use arrayvec::ArrayVec;
 use memchr::memchr;
 
 /// A line without its line feed, and what stands after it.
@@ -25,4 +26,12 @@ pub fn next_line<'a>(rest: &'a [u8]) -> Option<NextLine<'a>>
         }),
         None => None,
     }
+}
+
+/// Appends bytes to a line that has room for them.
+pub fn append<const N: usize>(line: &mut ArrayVec<u8, N>, more: &[u8])
+    requires { length line.old.items + length more.now ≤ N }
+    ensures { line.new.items ≡ line.old.items ++ more.now }
+{
+    let _fits = line.try_extend_from_slice(more);
 }
