@@ -2,7 +2,7 @@
 ghost use Rattle.std.specs.Prelude.{◌≡◌, ◌+◌, ◌/◌, ◌≤◌, ◌++◌, [], ◌∷◌, pos, length, take, drop, IfOk};
 ghost use Rattle.dev_base.specs.Levels.{IsLevel, MayRestore};
 ghost use Rattle.dev_base.specs.declared.limits.TheConstants.{LAST_MOMENT as last_moment, NEWEST as newest};
-ghost use Rattle.dev_pic.specs.Cells.{kinds as pic_kinds, IsChipCells};
+ghost use Rattle.dev_pic.specs.Cells.{IsChipCells};
 ghost use Rattle.dev_pit.specs.Cells.{IsPitCells};
 ghost use Rattle.dev_serial.specs.Cells.{IsPortCells};
 ghost use Rattle.dev_serial.specs.Rules.{same};

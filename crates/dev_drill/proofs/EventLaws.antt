@@ -1,11 +1,11 @@
 -- The events of a drill are such that there are.
-use Rattle.std.proofs.Common.{◌≡◌, ℕ, zero, suc, ◌+◌, ◌<◌, ◌%◌, ◌/◌, ◌==◌, true, IsTrue, get_or, arith, refl}
+use Rattle.std.proofs.Common.{◌≡◌, ℕ, zero, suc, ◌+◌, ◌<◌, ◌%◌, true, IsTrue, get_or, arith, refl}
 use Rattle.std.proofs.Math.Nat.{mod-add-mod}
 use Rattle.dev_board.specs.Laws.{IsEvent, AreEvents}
 use Rattle.dev_board.proofs.WireBits.{names}
 use Rattle.dev_board.specs.Step.{names_wire}
 use Rattle.dev_board.specs.Wires.{is_wire}
-use Rattle.dev_drill.specs.Events.{next_number, ports, wires, event_by, event_of, events_after}
+use Rattle.dev_drill.specs.Events.{next_number, wires, event_by, event_of, events_after}
 use Rattle.dev_drill.specs.Laws.{EventsAreGood}
 
 -- the remainder of a sum goes by that of its first part

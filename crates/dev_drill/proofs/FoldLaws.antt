@@ -1,5 +1,5 @@
 -- What saves leave of a drill.
-use Rattle.std.proofs.Common.{◌≡◌, ℕ, zero, suc, ◌+◌, ◌-◌, ◌%◌, ◌≤◌, Bool, true, false, if◌then◌else◌, Result, Ok, Err, arith, refl, sym, ap, subst, ◌∙◌}
+use Rattle.std.proofs.Common.{◌≡◌, ℕ, zero, suc, ◌+◌, ◌-◌, ◌≤◌, Bool, true, false, if◌then◌else◌, Result, arith, refl, sym, ap, subst, ◌∙◌}
 use Rattle.dev_base.specs.declared.limits.TheConstants.{NEWEST}
 use Rattle.dev_base.specs.Levels.{IsLevel}
 use Rattle.dev_board.proofs.AlikeLaws.{alike_stays, likeness}
@@ -16,7 +16,7 @@ use Rattle.dev_board.specs.declared.event.Event.{Event}
 use Rattle.dev_board.specs.declared.misfit.Misfit.{Misfit}
 use Rattle.dev_drill.proofs.EventLaws.{event-is}
 use Rattle.dev_drill.specs.Events.{next_number, event_of, events_after}
-use Rattle.dev_drill.specs.Fold.{Course, counted, counted_all, is_save_due, set_of, saves_of, back_of, came_back, after_save, with_event, begun, drilled}
+use Rattle.dev_drill.specs.Fold.{Course, counted, counted_all, set_of, back_of, came_back, after_save, with_event, begun, drilled}
 use Rattle.dev_drill.specs.Laws.{IsAsUnsaved, SavesLeaveCounts}
 
 -- the set of a save is one under which the board may be saved

@@ -1,5 +1,5 @@
 -- What is left of events without saves, once one of them has happened.
-use Rattle.std.proofs.Common.{◌≡◌, ℕ, suc, ◌+◌, ◌-◌, List, ◌∷◌, refl, sym, ap, ◌∙◌}
+use Rattle.std.proofs.Common.{◌≡◌, ℕ, suc, ◌-◌, refl, sym, ap, ◌∙◌}
 use Rattle.dev_board.specs.State.{State}
 use Rattle.dev_board.specs.Step.{step, observe, after_all}
 use Rattle.dev_board.specs.declared.event.Answer.{Answer}

@@ -2,7 +2,6 @@
 use Rattle.std.specs.Prelude.{◌≡◌, ℕ}
 use Rattle.dev_base.specs.Levels.{IsLevel}
 use Rattle.dev_board.specs.Laws.{AreEvents}
-use Rattle.dev_board.specs.Saved.{MaySaveUnder}
 use Rattle.dev_board.specs.Sound.{IsSound, Alike}
 use Rattle.dev_board.specs.State.{power_on}
 use Rattle.dev_board.specs.Step.{observe, after_all}

@@ -1,5 +1,5 @@
 // When a drill saves its board, and under which set.
-ghost use Rattle.std.specs.Prelude.{◌≡◌, ◌≤◌};
+ghost use Rattle.std.specs.Prelude.{◌≡◌};
 ghost use Rattle.dev_base.specs.Levels.{IsLevel};
 ghost use Rattle.dev_board.specs.Saved.{MaySaveUnder};
 ghost use Rattle.dev_drill.specs.Fold.{is_save_due, set_of};

@@ -1,5 +1,5 @@
 // The cells of the chip.
-ghost use Rattle.std.specs.Prelude.{◌≡◌, ◌<◌, ◌≤◌, length};
+ghost use Rattle.std.specs.Prelude.{◌≡◌, ◌≤◌, length};
 ghost use Rattle.dev_pit.specs.Cells.{channel_cells, status_cells, three_cells, channel_at, IsChannelAt};
 
 use crate::channel::Channel;

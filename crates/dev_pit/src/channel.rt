@@ -1,5 +1,5 @@
 // A counter as its fields travel.
-ghost use Rattle.std.specs.Prelude.{◌≡◌, ◌<◌, ◌≤◌};
+ghost use Rattle.std.specs.Prelude.{◌≡◌, ◌<◌};
 ghost use Rattle.dev_pit.specs.Channel.{channel_of, counter_from, registers_hold, moment_holds, status_holds, toggles_hold};
 
 use crate::counter::Counter;

@@ -1,5 +1,5 @@
 // What a byte at the control port asks for.
-ghost use Rattle.std.specs.Prelude.{◌≡◌, ◌<◌};
+ghost use Rattle.std.specs.Prelude.{◌≡◌};
 ghost use Rattle.dev_pit.specs.Control.{control_word, IsWord};
 
 use crate::mode::{Access, Mode};

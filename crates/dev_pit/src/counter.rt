@@ -1,5 +1,5 @@
 // One counter.
-ghost use Rattle.std.specs.Prelude.{◌≡◌, ℕ, ◌<◌, ◌≤◌, ◌+◌, ◌*◌, ◌/◌, ◌%◌, ◌^◌, IsTrue, ◌↔◌};
+ghost use Rattle.std.specs.Prelude.{◌≡◌, ◌<◌, ◌≤◌, ◌+◌, ◌*◌, ◌/◌, ◌%◌, IsTrue, ◌↔◌};
 ghost use Rattle.dev_pit.specs.Count.{down as down_of, square as square_of};
 
 use crate::mode::{Access, Mode};
@@ -31,7 +31,7 @@ pub(crate) struct Counter {
 }
 
 impl Counter {
-    ghost use Rattle.dev_pit.specs.Counter.{LoadedBy, live_of, live_since, out_of, out_since, edge_of, edge_since, status_of, powered_on, latched, status_latched, read_back, programmed, loaded, written, written_low_first, read_of, counted_of};
+    ghost use Rattle.dev_pit.specs.Counter.{LoadedBy, live_of, out_of, edge_of, status_of, powered_on, latched, status_latched, read_back, programmed, loaded, written, read_of, counted_of};
 
     /// The counter at power on.
     #[tactic(auto, unfolding(crate::specs::Counter::powered_on))]

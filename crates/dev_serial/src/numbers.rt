@@ -2,7 +2,7 @@
 ghost use Rattle.std.specs.Prelude.{◌≡◌, ◌≤◌, ◌+◌, ◌++◌, if◌then◌else◌, [], length};
 ghost use Rattle.dev_base.specs.Tables.{since};
 ghost use Rattle.dev_serial.specs.Port.{is_thr_empty};
-ghost use Rattle.dev_serial.specs.PortNumbers.{single_byte as single_byte_of, fcr_number, ipending_of, fifo_bytes as fifo_bytes_of, due_number, shift_number, moment_number};
+ghost use Rattle.dev_serial.specs.PortNumbers.{single_byte as single_byte_of, fcr_number, ipending_of, fifo_bytes as fifo_bytes_of, due_number, shift_number};
 
 use crate::interrupt::Interrupt;
 use crate::levels::{FIFOS_SINCE, RINGS_SINCE, TIMEOUT_SINCE};

@@ -1,5 +1,5 @@
 // The receiving part of a port.
-ghost use Rattle.std.specs.Prelude.{◌≡◌, ◌≤◌, length, [], false};
+ghost use Rattle.std.specs.Prelude.{◌≡◌, ◌≤◌, length, false};
 
 use crate::mode::{LONGEST_CHARACTER, Mode};
 use arrayvec::ArrayVec;

@@ -1,7 +1,7 @@
 // A serial port.
 ghost use Rattle.dev_serial.specs.Access.{msr_of, switch_of as switch_of_number};
 ghost use Rattle.dev_base.specs.Levels.{IsLevel};
-ghost use Rattle.std.specs.Prelude.{◌≡◌, ◌≤◌, ◌+◌, length, nat_le, ◌&&◌};
+ghost use Rattle.std.specs.Prelude.{◌≡◌, ◌≤◌, ◌+◌, length, ◌&&◌};
 
 use crate::interrupt::Interrupt;
 use crate::levels::{FIFOS_SINCE, TIMEOUT_SINCE};
@@ -52,7 +52,6 @@ impl Model for Serial {
 
 impl Serial {
     ghost use Rattle.dev_serial.specs.Transmit.{IsSentAfter};
-    ghost use Rattle.dev_serial.specs.Receive.{taken, taken_at};
     ghost use Rattle.dev_serial.specs.Port.{power_on, mode_of, is_data_ready, has_timed_out, interrupt, line_of};
     ghost use Rattle.dev_serial.specs.Access.{lsr_of, byte_read, id_read, lsr_read, read_of, thr_written, ier_written, receiver_cleared, transmitter_cleared, fcr_written, written, came_in, advanced};
 

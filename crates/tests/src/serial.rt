@@ -1,6 +1,5 @@
 // Scripts against the data sheets' registers, and cells against the rules.
 ghost use Rattle.std.specs.Prelude.{◌≡◌, ◌+◌, ◌≤◌, length, IsTrue};
-ghost use Rattle.dev_base.specs.Levels.{IsLevel};
 ghost use Rattle.dev_serial.specs.Cells.{kinds as kinds_of, IsArray, IsPortCells};
 ghost use Rattle.dev_serial.specs.Saved.{CanSave, CanRestore, hook_restored};
 

@@ -1,5 +1,5 @@
 -- What is heard of a stream or of a refusal, from the step before to the answer of a call.
-use Rattle.std.proofs.Common.{◌≡◌, inl, inr, ℕ, ◌+◌, ◌≤◌, List, [], ◌∷◌, ◌++◌, length, drop, Option, Some, Ok, Err, arith, refl, sym, ap, ◌∙◌, subst, append-nil, length-append, length-drop}
+use Rattle.std.proofs.Common.{◌≡◌, inl, inr, ℕ, ◌+◌, List, [], ◌∷◌, ◌++◌, length, drop, Option, Some, Ok, Err, arith, refl, sym, ap, ◌∙◌, subst, append-nil, length-append, length-drop}
 use Rattle.arrayvec.specs.ArrayVec.{ArrayVec}
 use Rattle.dev_base.specs.declared.limits.TheConstants.{NEWEST}
 use Rattle.vms_board.specs.Comes.{HearsBoard, IsRefused}

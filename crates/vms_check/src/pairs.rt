@@ -1,12 +1,10 @@
 // The rules at two fields of the same position.
-ghost use Rattle.std.specs.Prelude.{◌≡◌, map, length};
-ghost use Rattle.std.specs.Option.{option_map};
-ghost use Rattle.vms_parts.specs.Views.{field_of};
+ghost use Rattle.std.specs.Prelude.{◌≡◌, length};
 ghost use Rattle.vms_spec.specs.Layout.{counted};
 ghost use Rattle.vms_check.specs.Comparing.{same_count, same_reduced, same_rest, absent_hold, bound};
 ghost use Rattle.vms_check.specs.Pairs.{IsOn, entry, failing_number, rules_on, uncovered_on};
 ghost use Rattle.vms_check.specs.Places.{ArePlaces};
-ghost use Rattle.vms_check.specs.Sides.{IsSide, desc_on, field_reduced, position_on};
+ghost use Rattle.vms_check.specs.Sides.{IsSide, desc_on, position_on};
 
 use crate::capacities::{absent_hold, greatest};
 use crate::items::{holds_as_much, is_covered, same_constant, same_item};

@@ -1,7 +1,6 @@
 // The fields that are there at a version.
-ghost use Rattle.std.specs.Prelude.{◌≤◌, length};
 ghost use Rattle.vms_check.specs.Pairs.{IsNext};
-ghost use Rattle.vms_check.specs.Sides.{IsSide, desc_on};
+ghost use Rattle.vms_check.specs.Sides.{IsSide};
 
 use crate::reducing::is_present;
 use crate::side::{Side, fields_of};

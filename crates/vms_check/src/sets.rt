@@ -1,7 +1,7 @@
 // Two whole sets: machines, devices, and then each device with its subsections.
 ghost use Rattle.std.specs.Prelude.{◌≡◌, ◌<◌, ◌≤◌, length, map, Some, None};
 ghost use Rattle.vms_desc.specs.Described.{described, device_at};
-ghost use Rattle.vms_desc.specs.Parts.{HasPart, desc_at, sub_at};
+ghost use Rattle.vms_desc.specs.Parts.{HasPart, sub_at};
 ghost use Rattle.vms_parts.specs.Views.{desc_of, sub_of, device_of};
 ghost use Rattle.vms_spec.specs.declared.Part.TheVariants as parts;
 ghost use Rattle.vms_spec.specs.Judging.{find_sub};

@@ -1,5 +1,5 @@
 -- A stream that a board wrote is loaded as that board going on.
-use Rattle.std.proofs.Common.{◌≡◌, ℕ, List, length, Option, None, Some, sym, subst}
+use Rattle.std.proofs.Common.{ℕ, List, length, Option, None, Some, sym, subst}
 use Rattle.std.specs.Prelude.{IsSomeAnd}
 use Rattle.dev_board.specs.Saved.{MaySaveUnder}
 use Rattle.vms_board.specs.Restoring.{Back, Restores}

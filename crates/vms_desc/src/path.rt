@@ -1,7 +1,7 @@
 // The cell of a path.
 ghost use Rattle.std.specs.Prelude.{◌≡◌, ◌≤◌, ◌+◌, length, map, Some, None, MatchOption};
 ghost use Rattle.vms_spec.specs.Places.{path_at, cell_at};
-ghost use Rattle.vms_parts.specs.Sizes.{in_u32, fields_size};
+ghost use Rattle.vms_parts.specs.Sizes.{fields_size};
 ghost use Rattle.vms_parts.specs.Views.{field_of, desc_of, device_of, set_of};
 ghost use Rattle.vms_desc.specs.Described.{described};
 ghost use Rattle.vms_desc.specs.Paths.{element_of, begin_desc, Begins, Enters, IsPlaced};

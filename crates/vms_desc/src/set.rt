@@ -1,6 +1,5 @@
 // A well-formed description set.
-ghost use Rattle.std.specs.Prelude.{true, [], get_or, ◌≤◌, ◌<◌, ◌+◌, ◌==◌, ◌&&◌, ◌≡◌, ℕ, length, IfOk, IfSome, map};
-ghost use Rattle.std.specs.Option.{option_map};
+ghost use Rattle.std.specs.Prelude.{true, [], get_or, ◌≤◌, ◌<◌, ◌+◌, ◌==◌, ◌&&◌, ◌≡◌, ℕ, length, IfOk, map};
 ghost use Rattle.std.specs.Str.{bytes_eq};
 ghost use Rattle.vms_spec.specs.Layout.{device_cells, struct_cells, numbers_of};
 ghost use Rattle.vms_spec.specs.Places.{own_cell_count};

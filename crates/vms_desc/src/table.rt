@@ -1,6 +1,6 @@
 // What walks ask of descriptions again and again, worked out once.
-ghost use Rattle.std.specs.Prelude.{◌≡◌, ◌∷◌, ◌<◌, ◌^◌, length, map, IfOk, OnOk};
-ghost use Rattle.vms_parts.specs.Views.{field_of, desc_of, sub_of, device_of};
+ghost use Rattle.std.specs.Prelude.{◌<◌, ◌^◌, map, IfOk, OnOk};
+ghost use Rattle.vms_parts.specs.Views.{field_of, desc_of, device_of};
 ghost use Rattle.vms_desc.specs.Heads.{FitsHead, HeadsFit};
 ghost use Rattle.vms_desc.specs.Tables.{AreStarts, IsTable, AreTables, AreDeviceTables, device_fields};
 

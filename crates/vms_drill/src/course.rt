@@ -1,8 +1,6 @@
 // A drill in its course.
-ghost use Rattle.std.specs.Prelude.{◌≡◌, ◌+◌, ◌*◌, ◌^◌, ◌<◌, ◌≤◌, IfOk, OnOk};
+ghost use Rattle.std.specs.Prelude.{◌≡◌, ◌+◌, ◌^◌, ◌<◌, IfOk, OnOk};
 ghost use Rattle.dev_base.specs.Levels.{IsLevel};
-ghost use Rattle.dev_board.specs.Sound.{IsSound};
-ghost use Rattle.dev_drill.specs.Fold.{saves_of};
 ghost use Rattle.vms_drill.specs.Drill.{drill_begun, summary_of, with_drill_event};
 ghost use Rattle.vms_drill.specs.Views.{course_view, summary_view, IsInCourse};
 

@@ -1,12 +1,12 @@
 -- The lines of the entries are the lines of the values text.
-use Rattle.std.proofs.Common.{◌≡◌, ℕ, suc, ◌+◌, List, [], ◌∷◌, ◌++◌, length, map, Option, Some, None, ℤ, refl, sym, ap, ◌∙◌}
+use Rattle.std.proofs.Common.{◌≡◌, ℕ, suc, ◌+◌, List, [], ◌∷◌, ◌++◌, length, map, Option, Some, None, ℤ, refl, ap, ◌∙◌}
 use Rattle.std.proofs.lemmas.List.{map-append}
 use Rattle.vms_spec.specs.Sets.{Desc, Sub, Device, Set}
 use Rattle.vms_spec.specs.Layout.{desc_cells, struct_cells}
 use Rattle.vms_spec.specs.Images.{Image, own_cells}
 use Rattle.vms_elements.specs.Elements.{Element}
 use Rattle.vms_elements.specs.Parts.{elements_in}
-use Rattle.vms_elements.specs.Lines.{printed, number_line, number_lines, subs_lines, device_lines, devices_lines, values_lines}
+use Rattle.vms_elements.specs.Lines.{printed, number_line, number_lines, subs_lines, device_lines, devices_lines}
 use Rattle.vms_elements.specs.Entries.{OfNumber, number_entries, subs_entries, device_entries, devices_entries, entry_line}
 use Rattle.vms_elements.specs.Laws.{EntryLaw}
 

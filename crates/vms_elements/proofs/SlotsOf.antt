@@ -5,7 +5,7 @@ use Rattle.vms_kinds.specs.declared.Item.{Item}
 use Rattle.vms_kinds.specs.declared.Item.TheVariants.{Num, Equal, Unused, Struct}
 use Rattle.vms_spec.specs.Sets.{Field, Desc, Set}
 use Rattle.vms_spec.specs.Tests.{is_there}
-use Rattle.vms_spec.specs.Layout.{Cell, Slot, Meaning, no_meaning, no_desc, first, times, counted, capacity_of, elements_of, item_cells, item_size, item_slots, field_cells, field_slots, slots_from, desc_slots, desc_cells, numbers_of, all_hold, no_parent, meaning, meanings}
+use Rattle.vms_spec.specs.Layout.{Cell, Slot, Meaning, no_meaning, no_desc, first, times, counted, capacity_of, elements_of, item_size, item_slots, field_cells, field_slots, slots_from, desc_slots, desc_cells, numbers_of, all_hold, no_parent, meaning, meanings}
 use Rattle.vms_spec.specs.Layout as slots
 use Rattle.vms_spec.proofs.Sizes.{elements_fit}
 use Rattle.vms_elements.specs.Elements.{Element, Shape, no_shape, shape, shapes, cells_in, dotted, behind, single, Rule, item_elements, Stand, stand_of, array_elements, field_elements, elements_from, desc_elements, index_text}

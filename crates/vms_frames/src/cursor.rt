@@ -1,5 +1,5 @@
 // Where a stream is read.
-ghost use Rattle.std.specs.Prelude.{◌≡◌, true, ◌+◌, ◌^◌, ◌≤◌, None, ℕ, IfOk, OnOk, IfSome};
+ghost use Rattle.std.specs.Prelude.{◌≡◌, true, ◌+◌, ◌^◌, ◌≤◌, None, IfOk, OnOk, IfSome};
 ghost use Rattle.vms_kinds.specs.Codes.{InRange, width};
 ghost use Rattle.vms_frames.specs.Stands.{Stand};
 ghost use Rattle.vms_frames.specs.Found.{step_long, is_configuration};

@@ -1,5 +1,5 @@
 // The bytes of one unit, as they come.
-ghost use Rattle.std.specs.Prelude.{◌≡◌, ◌+◌, ◌≤◌, [], length, take, IfErr, OnOk, MatchResult, IfSome};
+ghost use Rattle.std.specs.Prelude.{◌≡◌, ◌+◌, ◌≤◌, [], length, take, IfErr, OnOk, MatchResult};
 ghost use Rattle.arrayvec.specs.ArrayVec.{array_vec_len};
 ghost use Rattle.vms_io.specs.Causes.{capped};
 ghost use Rattle.vms_frames.specs.Answers.{Grows, CutsShort, IsPassed, HasCause};

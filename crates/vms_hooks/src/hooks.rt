@@ -1,7 +1,5 @@
 // A struct of two stored closures, with what is known of them.
-ghost use Rattle.std.specs.Prelude.{◌≡◌, ℕ, ℤ, List, Result, Ok, Err, IfOk};
-ghost use Rattle.std.specs.Borrow.{Bor};
-ghost use Rattle.arrayvec.specs.ArrayVec.{ArrayVec};
+ghost use Rattle.std.specs.Prelude.{ℤ, List, Result};
 ghost use Rattle.vms_hooks.specs.Facts.{Saves, Loads};
 ghost use Rattle.vms_hooks.specs.Numbers.{Numbers};
 ghost use Rattle.vms_hooks.specs.declared.fault.HookFault.{HookFault};

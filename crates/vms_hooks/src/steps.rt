@@ -1,5 +1,5 @@
 // What can be called on a pass and a device, and on a pass and cells.
-ghost use Rattle.std.specs.Prelude.{◌≡◌, ℤ, Result};
+ghost use Rattle.std.specs.Prelude.{ℤ, Result};
 ghost use Rattle.std.specs.Borrow.{Bor};
 ghost use Rattle.arrayvec.specs.ArrayVec.{ArrayVec};
 ghost use Rattle.vms_hooks.specs.Numbers.{Numbers};

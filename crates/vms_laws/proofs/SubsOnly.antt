@@ -7,7 +7,7 @@ use Rattle.vms_spec.specs.Sets.{Device, Set, Sub}
 use Rattle.vms_spec.specs.Layout.{Slot, Number, Constant, Filler, Rule, Cell, no_cell, device_cells}
 use Rattle.vms_spec.specs.Images.{Image, default_image, own_slots, own_cells, sub_slots, came_slots, image_slots, Spells, RulesHold, has_cell, IsNormal, IsValid, IsVersionOf}
 use Rattle.vms_spec.specs.Streams
-use Rattle.vms_spec.specs.Streams.{at, section_head, sub_head, foot, be32}
+use Rattle.vms_spec.specs.Streams.{at, sub_head}
 use Rattle.vms_spec.specs.Taking.{take_desc, takers}
 use Rattle.vms_laws.proofs.Names.{or_false, names_append}
 use Rattle.vms_laws.proofs.BodyLaws.{at_set}

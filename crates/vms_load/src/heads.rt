@@ -1,6 +1,5 @@
 // What the heads of sections and subsections open.
-ghost use Rattle.std.specs.Prelude.{◌≡◌, ◌<◌, ◌≤◌, ◌==◌, ◌^◌, length, get_or, map, Some};
-ghost use Rattle.std.specs.Str.{bytes_eq};
+ghost use Rattle.std.specs.Prelude.{◌≡◌, ◌<◌, ◌≤◌, ◌==◌, ◌^◌, length, map, Some};
 ghost use Rattle.vms_spec.specs.Judging.{find_sub};
 ghost use Rattle.vms_desc.specs.Described.{described};
 ghost use Rattle.vms_parts.specs.Views.{desc_of, device_of, sub_of};

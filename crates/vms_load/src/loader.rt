@@ -1,5 +1,5 @@
 // The loader of a set's streams.
-ghost use Rattle.std.specs.Prelude.{◌≡◌, ◌<◌, ℕ, List, length, map, IfSome, IfOk, IfErr, OnOk, OnErr};
+ghost use Rattle.std.specs.Prelude.{◌≡◌, ◌<◌, map, IfSome, IfOk, OnOk, OnErr};
 ghost use Rattle.vms_spec.specs.Images.{default_image};
 ghost use Rattle.vms_parts.specs.Views.{set_of};
 ghost use Rattle.vms_load.specs.Good.{AreKept, kept_once};

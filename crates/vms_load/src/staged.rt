@@ -1,5 +1,5 @@
 // What is read of a stream so far.
-ghost use Rattle.std.specs.Prelude.{◌≡◌, ◌<◌, ◌≤◌, ◌+◌, ◌^◌, Bool, not, true, false, ℕ, List, length, get_or, map, replicate, slice_set, IfErr, IfOk, IfSome, Some, None};
+ghost use Rattle.std.specs.Prelude.{◌≡◌, ◌<◌, ◌≤◌, ◌+◌, ◌^◌, Bool, not, true, false, ℕ, List, length, get_or, map, replicate, slice_set, IfErr, IfOk, Some, None};
 ghost use Rattle.vms_spec.specs.Sets.{Set};
 ghost use Rattle.vms_spec.specs.Images.{default_image};
 ghost use Rattle.vms_spec.specs.Lists.{position};

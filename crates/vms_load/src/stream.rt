@@ -1,5 +1,5 @@
 // A whole stream, unit by unit and section by section.
-ghost use Rattle.std.specs.Prelude.{◌≡◌, ◌+◌, ◌<◌, ◌≤◌, ◌^◌, Bool, true, false, ℕ, List, Some, None, length, drop, IfSome, IfOk, OnOk};
+ghost use Rattle.std.specs.Prelude.{◌≡◌, ◌+◌, ◌<◌, ◌≤◌, ◌^◌, Bool, true, false, ℕ, List, Some, None, length, IfSome, IfOk, OnOk};
 ghost use Rattle.vms_spec.specs.Sets.{Set};
 ghost use Rattle.vms_units.specs.Judge.{judge, reading};
 ghost use Rattle.vms_units.specs.State.{State, Before, Free, by_state, at_start};

@@ -1,6 +1,6 @@
 // The lines of notes about sets.
 ghost use Rattle.std.specs.Prelude.{◌≡◌, IfOk, string_bytes};
-ghost use Rattle.vms_outcome.specs.SetLines.{field_text, mismatch_line, part_text, place_text, rule_line, shape_line, syntax_line};
+ghost use Rattle.vms_outcome.specs.SetLines.{mismatch_line, part_text, place_text, rule_line, shape_line, syntax_line};
 
 use std::alloc::Global;
 use vms_check::Mismatch;

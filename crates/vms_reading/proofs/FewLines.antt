@@ -7,7 +7,6 @@ use Rattle.vms_spec.specs.declared.ValuesReason.{ValuesReason}
 use Rattle.vms_spec.specs.Sets.{Desc, Sub, Device, Set}
 use Rattle.vms_spec.specs.Layout.{Cell, desc_cells, struct_cells}
 use Rattle.vms_spec.specs.Images.{Image, own_cells}
-use Rattle.vms_spec.specs.ValuesReading.{values_read, Bad}
 use Rattle.vms_elements.specs.Elements.{Element}
 use Rattle.vms_elements.specs.Parts.{cells_of, elements_in}
 use Rattle.vms_elements.specs.Lines.{printed}

@@ -9,7 +9,7 @@ use Rattle.vms_spec.specs.Lists.{at, or_else}
 use Rattle.vms_spec.specs.Sets.{Desc, Sub, Device, Set}
 use Rattle.vms_spec.specs.Layout.{Cell, no_cell, Slot, desc_cells, struct_cells, device_cells}
 use Rattle.vms_spec.specs.Layout as slots
-use Rattle.vms_spec.specs.Images.{Image, own_cells, own_slots, sub_slots, came_slots, image_slots, has_cell, RulesHold}
+use Rattle.vms_spec.specs.Images.{Image, own_cells, own_slots, sub_slots, came_slots, has_cell, RulesHold}
 use Rattle.vms_spec.specs.Readiness.{rules_are_true}
 use Rattle.vms_spec.specs.Streams.{is_needed, ComeAsNeeded, IsReady}
 use Rattle.vms_laws.proofs.Names.{names_append}

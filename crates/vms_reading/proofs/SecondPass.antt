@@ -17,7 +17,7 @@ use Rattle.vms_spec.specs.ValuesReading as reading
 use Rattle.vms_elements.specs.Elements.{Number, Constant, Filler, Rule, Element, What}
 use Rattle.vms_elements.specs.Parts.{is_number, cells_with, cells_of, slots_of, numbers_in, CountsUp, elements_in}
 use Rattle.vms_elements.specs.Lines.{printed}
-use Rattle.vms_elements.specs.Entries.{Entry, OfMachine, OfSection, OfSub, OfNumber, number_entries, subs_entries, device_entries, devices_entries, if_not, rules_hold, has_default, have_defaults, sub_holds, has_come, came_well, part_reason}
+use Rattle.vms_elements.specs.Entries.{Entry, OfMachine, OfSection, OfSub, OfNumber, subs_entries, device_entries, devices_entries, if_not, rules_hold, has_default, have_defaults, sub_holds, has_come, came_well, part_reason}
 use Rattle.vms_elements.specs.Reading.{AreShaped}
 use Rattle.vms_elements.proofs.CellsOf.{elements_cells}
 use Rattle.vms_elements.proofs.SlotsOf.{elements_slots}

@@ -1,5 +1,5 @@
 // Lines that are events.
-ghost use Rattle.std.specs.Prelude.{◌≡◌, ◌<◌, ℕ, Option, option_copied};
+ghost use Rattle.std.specs.Prelude.{◌≡◌, ◌<◌, ℕ, Option};
 ghost use Rattle.std.specs.Bool.{OnTrue};
 ghost use Rattle.dev_board.specs.Wires.{is_wire as is_wire_of};
 ghost use Rattle.vms_script.specs.Lines.{in_line, byte_line, wait_line, out_line, wire_line, line_of_words, play_line};

@@ -1,5 +1,5 @@
 // Names on the shelf.
-ghost use Rattle.std.specs.Prelude.{◌≡◌, ◌&&◌, ◌==◌, nat_le, length, get_or, true, IfSome, IsSome};
+ghost use Rattle.std.specs.Prelude.{◌≡◌, ◌&&◌, ◌==◌, nat_le, length, get_or, true};
 ghost use Rattle.std.specs.List.{list_all};
 ghost use Rattle.vms_script.specs.Names.{is_name_byte, is_shelf_name};
 ghost use Rattle.vms_script.specs.Lines.{name_spelled};

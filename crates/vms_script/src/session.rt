@@ -1,5 +1,5 @@
 // Lines that only a session has.
-ghost use Rattle.std.specs.Prelude.{◌≡◌, ◌&&◌, nat_le};
+ghost use Rattle.std.specs.Prelude.{◌≡◌, ◌&&◌};
 ghost use Rattle.vms_script.specs.Lines.{save_line, restore_line, session_line, is_set_of};
 ghost use Rattle.vms_script.specs.Views.{read_view};
 ghost use Rattle.vms_script.specs.Words.{first_word};

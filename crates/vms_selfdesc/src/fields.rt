@@ -1,5 +1,5 @@
 // The entries of the fields of a part, arrays and structures expanded.
-ghost use Rattle.std.specs.Prelude.{◌≡◌, ◌<◌, ◌≤◌, ◌+◌, ◌*◌, [], ◌∷◌, length, take, OnOk, string_bytes};
+ghost use Rattle.std.specs.Prelude.{◌≡◌, ◌<◌, ◌≤◌, ◌+◌, ◌*◌, length, take, OnOk, string_bytes};
 ghost use Rattle.std.specs.Str.{IsUtf8};
 ghost use Rattle.vms_spec.specs.Layout.{capacity_of, item_size, struct_cells};
 ghost use Rattle.vms_parts.specs.Views.{field_of};

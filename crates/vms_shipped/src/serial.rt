@@ -1,5 +1,5 @@
 // The serial port.
-ghost use Rattle.std.specs.Prelude.{◌≡◌, ◌++◌, ◌∷◌, [], map, IfOk, OnOk, negsuc, pos, codes};
+ghost use Rattle.std.specs.Prelude.{◌≡◌, ◌++◌, ◌∷◌, [], map, IfOk, OnOk, pos};
 ghost use Rattle.vms_spec.specs.Shipped.{never, number, divider, divisor, serial_fields, fcr, thr_ipending, fifo, timeout, ring, serial};
 ghost use Rattle.vms_shipped.specs.Numbered.{serial_at};
 ghost use Rattle.vms_parts.specs.Views.{field_of, device_of, sub_of};

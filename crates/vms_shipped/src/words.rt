@@ -1,5 +1,5 @@
 // Words for tables of fields.
-ghost use Rattle.std.specs.Prelude.{◌≡◌, ◌++◌, ◌∷◌, [], map, pos, IfOk, OnOk, ℕ, List};
+ghost use Rattle.std.specs.Prelude.{◌≡◌, ◌++◌, ◌∷◌, [], map, IfOk, OnOk};
 ghost use Rattle.vms_spec.specs.Sets as sets;
 ghost use Rattle.vms_spec.specs.Shipped.{field, number, numbers, desc, device, sub};
 ghost use Rattle.vms_parts.specs.Views.{formula, field_of, desc_of, device_of, sub_of};

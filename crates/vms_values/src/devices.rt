@@ -1,10 +1,8 @@
 // Reads the lines of devices.
-ghost use Rattle.std.specs.Prelude.{◌≡◌, ◌<◌, ◌∷◌, ◌++◌, [], length, map, OnOk, IfOk};
-ghost use Rattle.std.specs.Bool.{OnTrue};
+ghost use Rattle.std.specs.Prelude.{◌<◌, length, map, IfOk};
 ghost use Rattle.vms_spec.specs.ValuesReading.{values_read, read_devices as devices_read};
 ghost use Rattle.vms_desc.specs.Described.{described, device_at};
 ghost use Rattle.vms_image.specs.Typed.{state_of, IsImageOf, AreImagesOf};
-ghost use Rattle.vms_write.specs.Judged.{IsOfDevice};
 ghost use Rattle.vms_values.specs.Reading.{ReadsBy};
 ghost use Rattle.vms_values.specs.DevicesRead.{device_read, start_of, DeviceRead, AllRead, map_ok, ToldAs};
 

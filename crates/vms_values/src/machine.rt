@@ -1,5 +1,5 @@
 // The line that names a machine.
-ghost use Rattle.std.specs.Prelude.{◌<◌, length, OnSome};
+ghost use Rattle.std.specs.Prelude.{◌<◌, length};
 ghost use Rattle.vms_spec.specs.Spelling.{first_line};
 ghost use Rattle.vms_spec.specs.ValuesReading.{machine_named};
 ghost use Rattle.vms_values.specs.Machines.{IsMachine, IsMachineLine, StartsAt};

@@ -30,7 +30,7 @@ pub enum Step {
 
 /// What is done at each step. It may change numbers, but of the cells alone at which it is called.
 pub trait Walker: Cells {
-    ghost use Rattle.std.specs.Prelude.{◌≡◌, List, [], ◌∷◌, ◌++◌, length};
+    ghost use Rattle.std.specs.Prelude.{List, [], ◌∷◌, ◌++◌};
     ghost use Rattle.vms_walk.specs.declared.step.Step.{Step as OneStep};
     ghost use Rattle.vms_walk.specs.Inside.{IsInside, Keeps};
 

@@ -62,7 +62,7 @@ impl<K: Sink> Walker for Writer<'_, K> {
     ghost use Rattle.std.proofs.Common.{ap, ◌∙◌};
     ghost use Rattle.vms_walk.proofs.Kept.{keeps_same};
     ghost use Rattle.vms_write.specs.Bytes.{CanStep};
-    ghost use Rattle.vms_write.specs.Wrote.{Told, Wrote, Cut, told};
+    ghost use Rattle.vms_write.specs.Wrote.{Wrote, Cut, told};
     ghost use Rattle.vms_write.specs.Wrote.{wrote_none, wrote_then, cut_then, cut_before};
 
     type Fault = WriteFault;

@@ -1,8 +1,6 @@
-use Rattle.std.proofs.Common.{◌≡◌, ℕ, suc, ◌+◌, ◌-◌, ◌*◌, ◌<◌, ◌≤◌, arith, refl, sym, ap, ◌∙◌}
+use Rattle.std.proofs.Common.{◌≡◌, ℕ, suc, ◌+◌, ◌-◌, arith, sym, ap, ◌∙◌}
 use Rattle.dev_board.specs.State.{State, power_on}
-use Rattle.dev_drill.specs.Fold.{Counts, nothing}
 use Rattle.dev_drill.specs.Views.{tally_view}
-use Rattle.dev_drill.specs.declared.tally.Tally.{Tally}
 use Rattle.dev_drill.proofs.UnsavedLemmas.{board_left, counts_left, board_goes, counts_go, board_done, counts_done}
 use Rattle.dev_drill.proofs.unsaved.without_saves.Goals as goal
 
