@@ -17,10 +17,4 @@ mod pic;
 #[cfg(test)]
 mod pit;
 #[cfg(test)]
-mod pit_cells;
-#[cfg(test)]
-mod scripts;
-#[cfg(test)]
-mod serial;
-#[cfg(test)]
 mod set_files;
