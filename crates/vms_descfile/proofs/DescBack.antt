@@ -13,14 +13,16 @@ use Rattle.vms_spec.specs.Rules.{nodes, depth, is_small_test, is_small_optional,
 use Rattle.vms_spec.specs.Layout.{counted}
 use Rattle.vms_spec.specs.WellFormed.{has_few}
 use Rattle.vms_laws.proofs.WellFormedLaws.{Clean}
-use Rattle.vms_descfile.specs.Answers.{good, under, changed, list_of}
-use Rattle.vms_descfile.specs.Index.{first_of}
-use Rattle.vms_descfile.specs.Keys.{fits as keys_fit, member_or, at, at_or, maybe_at, u32_of, text_of}
-use Rattle.vms_descfile.specs.Tests.{Names, Scope, names_of, names_of_list, names_if, text_or_none, number_in, test_of}
-use Rattle.vms_descfile.specs.Fields.{field_of}
-use Rattle.vms_descfile.specs.Descs.{desc_needs, desc_allows, Head, head_of, minimum_or, rest_of, struct_in, struct_of}
-use Rattle.vms_descfile.specs.Fitting.{FitsTest, FitsOptional, FitsDesc}
-use Rattle.vms_descfile.specs.Written.{list_file, natural_file, own_names, counter_in, test_file, field_file, desc_members, struct_file}
+use Rattle.vms_members.specs.Answers.{good, under, changed, list_of}
+use Rattle.vms_nodes.specs.Index.{first_of, names_of, names_of_list, text_or_none}
+use Rattle.vms_nodes.specs.Keys.{fits as keys_fit}
+use Rattle.vms_members.specs.Members.{member_or, at, at_or, maybe_at, u32_of, text_of}
+use Rattle.vms_members.specs.Names.{Names, Scope, names_if, number_in}
+use Rattle.vms_descread.specs.Tests.{test_of}
+use Rattle.vms_descread.specs.Fields.{field_of}
+use Rattle.vms_descread.specs.Descs.{desc_needs, desc_allows, Head, head_of, minimum_or, rest_of, struct_in, struct_of}
+use Rattle.vms_descwrite.specs.Fitting.{FitsTest, FitsOptional, FitsDesc}
+use Rattle.vms_descwrite.specs.Written.{list_file, natural_file, own_names, counter_in, test_file, field_file, desc_members, struct_file}
 use Rattle.vms_descfile.proofs.ObjectLaws.{Table, put_if, members_in, object_of, found, or_none, got, table_fits, kept, listed, unless_if, list_if}
 use Rattle.vms_descfile.proofs.AnswerLaws.{next_good, judged_good, at_good, list_good, list_or_good, natural_good}
 use Rattle.vms_descfile.proofs.ShownLaws.{asked, number_shown, test_shown, field_shown, desc_shown}

@@ -13,9 +13,9 @@ use Rattle.vms_spec.specs.Rules.{is_steady, is_steady_in, is_earlier_in}
 use Rattle.vms_spec.specs.WellFormed.{has_few}
 use Rattle.vms_laws.proofs.WellFormedLaws.{Clean}
 use Rattle.vms_laws.proofs.PartLaws.{at_inside}
-use Rattle.vms_descfile.specs.Answers.{good}
-use Rattle.vms_descfile.specs.Tests.{number_in, numbered}
-use Rattle.vms_descfile.specs.Written.{own_names}
+use Rattle.vms_members.specs.Answers.{good}
+use Rattle.vms_members.specs.Names.{number_in, numbered}
+use Rattle.vms_descwrite.specs.Written.{own_names}
 use Rattle.vms_descfile.proofs.ShownLaws.{asked, number_shown}
 
 neither : (ns ms : List (List ℕ)) (n : List ℕ) → is_one_of (ns ++ ms) n ≡ false → is_one_of ms n ≡ false

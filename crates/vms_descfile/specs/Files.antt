@@ -1,30 +1,12 @@
 -- What a description file says.
-use Rattle.std.specs.Prelude.{ℕ, Bool, true, false, if◌then◌else◌, List, [], ◌∷◌, Option, Some, None, codes}
+use Rattle.std.specs.Prelude.{ℕ, if◌then◌else◌, List, [], ◌∷◌, Option, Some, None, codes}
 use Rattle.std.specs.Str.{is_utf8}
 use Rattle.serde_json.specs.Data.{Data}
 use Rattle.serde_json.specs.Read.{read}
 use Rattle.vms_spec.specs.Sets.{Set}
 use Rattle.vms_spec.specs.WellFormed.{SetFault, first_fault}
-use Rattle.vms_descfile.specs.Answers.{Answer, good, bad, next, list_of}
-use Rattle.vms_descfile.specs.Keys.{fits, judged, at, text_of}
-use Rattle.vms_descfile.specs.Descs.{struct_of, device_of}
-
-abbrev pub set_in : Bool → Data → Answer Set
-set_in asks d =
-    next (at (list_of (device_of asks)) (codes "devices") d) (λ devices.
-    next (at (list_of text_of) (codes "machines") d) (λ machines.
-    next (at (list_of (struct_of asks)) (codes "structs") d) (λ structs.
-    good (record { machines = machines; structs = structs; devices = devices }))))
-
--- one walk
-abbrev pub set_of : Bool → Data → Answer Set
-set_of asks d = judged (fits (codes "devices" ∷ codes "machines" ∷ codes "structs" ∷ []) [] d) (set_in asks d)
-
--- the parts that a value says: the second walk looks the names up, where the first found no fault
-unfoldable pub parts_of : Data → Answer Set
-parts_of d = next (set_of false d) (λ unasked. set_of true d)
-
--- ---- what a text says
+use Rattle.vms_members.specs.Answers.{Answer, good, bad}
+use Rattle.vms_descread.specs.Descs.{parts_of}
 
 pub data Said : Type 0 where
   -- these parts, which are well formed

@@ -1,12 +1,2 @@
-pub mod Answers
-pub mod Asked
-pub mod Descs
-pub mod Fields
-pub mod Fitting
 pub mod Files
 pub mod Given
-pub mod Index
-pub mod Keys
-pub mod Nodes
-pub mod Tests
-pub mod Written

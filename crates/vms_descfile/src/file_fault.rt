@@ -1,9 +1,9 @@
 // Why a file gives no set.
 ghost use Rattle.vms_descfile.specs.Given.{IsFileFault};
 
-use crate::fault::Fault;
 use std::alloc::Global;
 use vms_desc::{Place, Text};
+use vms_members::Fault;
 
 /// Why a description file gives no set.
 #[derive(Drop)]

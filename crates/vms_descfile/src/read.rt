@@ -1,26 +1,17 @@
 // Reads a description file.
-ghost use Rattle.std.specs.Prelude.{◌≡◌, Some, None};
-ghost use Rattle.vms_descfile.specs.Nodes.{view};
 ghost use Rattle.vms_spec.specs.WellFormed.{first_fault};
 ghost use Rattle.vms_parts.specs.Views.{set_of as set_seen};
-ghost use Rattle.vms_descfile.specs.Answers.{Answers};
-ghost use Rattle.vms_descfile.specs.Files.{set_in, set_of, parts_of, value_in, file_said, judged_said};
+ghost use Rattle.vms_descfile.specs.Files.{value_in, file_said, judged_said};
 ghost use Rattle.vms_descfile.specs.Given.{Gives, GivesValue, SaysParts};
 
 use crate::FileFault;
-use crate::descs::StructOf;
-use crate::devices::DeviceOf;
-use crate::fault::Fault;
-use crate::keys::fits;
-use crate::lists::ListOf;
-use crate::members::at;
-use crate::node::Node;
-use crate::parse::{NoNode, read_node};
-use crate::words::TextOf;
 use json::Scratch;
 use std::alloc::Global;
 use std::str;
 use vms_desc::{DescFault, DescSet, Parts};
+use vms_descread::read_parts;
+use vms_nodes::Node;
+use vms_parse::{NoNode, read_node};
 
 /// The set that a description file says. Else the fault is `Syntax` where the bytes are no JSON
 /// value, the first path at which the value isn't of the shape of a file, or the first place at
@@ -77,41 +68,4 @@ fn read_value<'a>(
         Err(NoNode::Syntax) => Err(FileFault::Syntax),
         Err(NoNode::NoMemory) => Err(FileFault::NoMemory),
     }
-}
-
-// The parts that a value says. One walk that looks names up is enough where it finds no fault; else
-// a fault that a walk without names finds comes first.
-fn read_parts(alloc: Global, value: &Node) -> Result<Parts, Fault>
-    ensures { Answers set_seen (parts_of (view value.now)) result }
-{
-    match read_walk(alloc, true, value) {
-        Ok(parts) => Ok(parts),
-        Err(fault) => match read_walk(alloc, false, value) {
-            Ok(_unasked) => Err(fault),
-            Err(first) => Err(first),
-        },
-    }
-}
-
-fn read_walk(alloc: Global, asks: bool, value: &Node) -> Result<Parts, Fault>
-    ensures { Answers set_seen (set_of asks (view value.now)) result }
-{
-    if fits(value, &["devices", "machines", "structs"], &[]) {
-        read_members(alloc, asks, value)
-    } else {
-        Err(Fault::here(alloc))
-    }
-}
-
-fn read_members(alloc: Global, asks: bool, value: &Node) -> Result<Parts, Fault>
-    ensures { Answers set_seen (set_in asks (view value.now)) result }
-{
-    let devices = at(alloc, &ListOf(DeviceOf { asks }), "devices", value)?;
-    let machines = at(alloc, &ListOf(TextOf), "machines", value)?;
-    let structs = at(alloc, &ListOf(StructOf { asks }), "structs", value)?;
-    Ok(Parts {
-        machines,
-        structs,
-        devices,
-    })
 }

@@ -3,11 +3,11 @@ ghost use Rattle.std.specs.Prelude.{◌≡◌, IfOk, string_bytes};
 ghost use Rattle.serde_json.specs.Written.{compact_text};
 ghost use Rattle.vms_desc.specs.Described.{described};
 ghost use Rattle.vms_descfile.specs.Files.{file_said, Parts};
-ghost use Rattle.vms_descfile.specs.Written.{set_file};
+ghost use Rattle.vms_descwrite.specs.Written.{set_file};
 
-use crate::set_file::set_value;
 use std::alloc::Global;
 use vms_desc::DescSet;
+use vms_descwrite::set_value;
 use vms_io::NoMemory;
 
 /// The description file of a set: JSON without blanks, each object's keys in byte order, and no

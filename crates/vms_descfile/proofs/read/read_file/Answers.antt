@@ -1,6 +1,7 @@
 use Rattle.std.proofs.Common.{Err, sym, subst, ap, ◌∙◌}
-use Rattle.vms_descfile.specs.Nodes.{view}
-use Rattle.vms_descfile.specs.Files.{Said, parts_said, parts_of}
+use Rattle.vms_nodes.specs.Nodes.{view}
+use Rattle.vms_descread.specs.Descs.{parts_of}
+use Rattle.vms_descfile.specs.Files.{Said, parts_said}
 use Rattle.vms_descfile.specs.Given.{Gives}
 use Rattle.vms_descfile.proofs.FileLaws.{no_json, said_by, shape_said}
 use Rattle.vms_descfile.proofs.read.read_file.Goals as goal

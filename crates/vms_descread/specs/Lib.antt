@@ -1,0 +1,3 @@
+pub mod Descs
+pub mod Fields
+pub mod Tests

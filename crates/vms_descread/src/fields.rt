@@ -1,0 +1,243 @@
+// The fields of descriptions.
+ghost use Rattle.std.specs.Prelude.{◌≡◌, map, option_and_then, codes};
+ghost use Rattle.std.specs.Option.{option_map};
+ghost use Rattle.serde_json.specs.Find.{get, as_str};
+ghost use Rattle.vms_nodes.specs.Nodes.{view};
+ghost use Rattle.vms_spec.specs.Sets as sets;
+ghost use Rattle.vms_parts.specs.Views.{field_of as field_seen, formula};
+ghost use Rattle.vms_descread.specs.declared.sort.Sort.{Sort as TheSort};
+ghost use Rattle.vms_members.specs.Answers.{Answers};
+ghost use Rattle.vms_members.specs.Names.{names_seen};
+ghost use Rattle.vms_descread.specs.Fields.{sort_named, sort_of, counts_fit, sort_fits, field_needs, field_allows, field_fits, count_as, count_of, item_as, or_zero, number_item, front_seen, front_of, presence_of, field_after, field_in, field_of};
+
+use crate::sort::Sort;
+use crate::tests::TestIn;
+use std::alloc::Global;
+use vms_kinds::Item;
+use vms_members::{
+    Fault, Integer, ListOf, NameIn, Names, Reads, Scope, TextOf, U16, U32, at, at_or, maybe_at,
+};
+use vms_nodes::{Node, fits, has};
+use vms_parts::{Count, Field, Listed, Test, Text};
+use vms_words::kind_named;
+
+const NEEDED: [&str; 2] = ["kind", "name"];
+
+const ALLOWED: [&str; 10] = [
+    "capacity", "count", "counted", "default", "equal", "former", "since", "size", "struct", "test",
+];
+
+fn sort_named(word: &str) -> Option<Sort>
+    ensures { result ≡ sort_named word.now }
+{
+    if word == "unused" {
+        Some(Sort::Unused)
+    } else if word == "struct" {
+        Some(Sort::Struct)
+    } else {
+        kind_named(word).map(Sort::Number)
+    }
+}
+
+// What `kind` says.
+#[derive(Clone, Copy)]
+struct SortOf;
+
+impl Reads for SortOf {
+    type Out = Sort;
+
+    ghost Meaning = { TheSort };
+
+    ghost means = { λ sort. sort };
+
+    ghost says = { λ _. sort_of };
+
+    fn read(&self, alloc: Global, value: &Node) -> Result<Sort, Fault> {
+        match value.as_str().and_then(sort_named) {
+            Some(sort) => Ok(sort),
+            None => Err(Fault::here(alloc)),
+        }
+    }
+}
+
+// An array has either a fixed length, or a number that counts it and a capacity.
+fn counts_fit(value: &Node) -> bool
+    ensures { result ≡ counts_fit (view value.now) }
+{
+    if has(value, "counted") {
+        has(value, "capacity") && !has(value, "count")
+    } else {
+        !has(value, "capacity")
+    }
+}
+
+// The keys that go by the kind.
+fn sort_fits(sort: Option<Sort>, value: &Node) -> bool
+    ensures { result ≡ sort_fits sort (view value.now) }
+{
+    match sort {
+        None => true,
+        Some(Sort::Number(_)) => {
+            !has(value, "size")
+                && !has(value, "struct")
+                && !(has(value, "equal") && has(value, "default"))
+        }
+        Some(Sort::Unused) => {
+            has(value, "size")
+                && !has(value, "struct")
+                && !has(value, "equal")
+                && !has(value, "default")
+        }
+        Some(Sort::Struct) => {
+            has(value, "struct")
+                && !has(value, "size")
+                && !has(value, "equal")
+                && !has(value, "default")
+        }
+    }
+}
+
+fn sort_in(value: &Node) -> Option<Sort>
+    ensures { result
+        ≡ option_and_then sort_named
+        (option_and_then as_str (get (codes "kind") (view value.now))) }
+{
+    value
+        .get("kind")
+        .and_then(Node::as_str)
+        .and_then(sort_named)
+}
+
+fn field_fits(value: &Node) -> bool
+    ensures { result ≡ field_fits (view value.now) }
+{
+    fits(value, &NEEDED, &ALLOWED) && counts_fit(value) && sort_fits(sort_in(value), value)
+}
+
+fn count_as(capacity: Option<u32>, count: Option<u32>, counted: Option<u32>) -> Count
+    ensures { result ≡ count_as capacity count counted }
+{
+    match counted {
+        Some(by) => Count::Counted {
+            by,
+            capacity: capacity.unwrap_or(0),
+        },
+        None => match count {
+            Some(length) => Count::Fixed(length),
+            None => Count::One,
+        },
+    }
+}
+
+fn read_count(alloc: Global, names: Names, value: &Node) -> Result<Count, Fault>
+    ensures { Answers (λ c. c) (count_of (names_seen names.entry) (view value.now)) result }
+{
+    let capacity = maybe_at(alloc, &U32, "capacity", value)?;
+    let count = maybe_at(alloc, &U32, "count", value)?;
+    let counted = maybe_at(alloc, &NameIn(names), "counted", value)?;
+    Ok(count_as(capacity, count, counted))
+}
+
+// The item of a kind, with what stands under `equal`, `size` and `struct`.
+fn item_as(sort: Sort, equal: Option<i128>, size: Option<u16>, number: Option<u32>) -> Item
+    ensures { result ≡ item_as sort equal size number }
+{
+    match sort {
+        Sort::Number(kind) => match equal {
+            Some(value) => Item::Equal { kind, value },
+            None => Item::Num(kind),
+        },
+        Sort::Unused => Item::Unused {
+            bytes: size.unwrap_or(0),
+        },
+        Sort::Struct => Item::Struct(number.unwrap_or(0)),
+    }
+}
+
+// The members before the kind, in the order of their keys.
+#[derive(Drop)]
+pub(crate) struct Front {
+    count: Count,
+    default: i128,
+    equal: Option<i128>,
+    former: Listed<Text>,
+}
+
+fn read_front(alloc: Global, names: Names, value: &Node) -> Result<Front, Fault>
+    ensures { Answers front_seen (front_of (names_seen names.entry) (view value.now)) result }
+{
+    let count = read_count(alloc, names, value)?;
+    let default = at_or(alloc, &Integer, "default", value, 0)?;
+    let equal = maybe_at(alloc, &Integer, "equal", value)?;
+    let none = Listed::new(Vec::new(alloc));
+    let former = at_or(alloc, &ListOf(TextOf), "former", value, none)?;
+    Ok(Front {
+        count,
+        default,
+        equal,
+        former,
+    })
+}
+
+// Where a field is there.
+fn read_presence(alloc: Global, names: Names, value: &Node) -> Result<Option<Test>, Fault>
+    ensures { Answers (option_map formula) (presence_of (names_seen names.entry) (view value.now))
+        result }
+{
+    let scope = Scope {
+        own: names,
+        parent: None,
+    };
+    maybe_at(alloc, &TestIn(scope), "test", value)
+}
+
+// The kind and what comes after it.
+fn read_after(alloc: Global, names: Names, front: Front, value: &Node) -> Result<Field, Fault>
+    ensures { Answers field_seen (field_after (names_seen names.entry) (front_seen front)
+        (view value.now)) result }
+{
+    let sort = at(alloc, &SortOf, "kind", value)?;
+    let name = at(alloc, &TextOf, "name", value)?;
+    let since = at_or(alloc, &U32, "since", value, 0)?;
+    let size = maybe_at(alloc, &U16, "size", value)?;
+    let number = maybe_at(alloc, &U32, "struct", value)?;
+    let test = read_presence(alloc, names, value)?;
+    Ok(Field {
+        name,
+        former: front.former,
+        item: item_as(sort, front.equal, size, number),
+        count: front.count,
+        since,
+        test,
+        default: front.default,
+    })
+}
+
+fn read_field(alloc: Global, names: Names, value: &Node) -> Result<Field, Fault>
+    ensures { Answers field_seen (field_in (names_seen names.entry) (view value.now)) result }
+{
+    let front = read_front(alloc, names, value)?;
+    read_after(alloc, names, front, value)
+}
+
+// A field, whose tests and count name fields.
+#[derive(Clone, Copy)]
+pub(crate) struct FieldIn<'a>(pub(crate) Names<'a>);
+
+impl<'a> Reads for FieldIn<'a> {
+    type Out = Field;
+
+    ghost Meaning = { sets.Field };
+
+    ghost means = { field_seen };
+
+    ghost says = { λ s. field_of (names_seen s.0) };
+
+    fn read(&self, alloc: Global, value: &Node) -> Result<Field, Fault> {
+        if field_fits(value) {
+            read_field(alloc, self.0, value)
+        } else {
+            Err(Fault::here(alloc))
+        }
+    }
+}

@@ -1,0 +1,13 @@
+//! The parts of sets, read from JSON values: tests, fields, descriptions and devices.
+#![tactic(auto)]
+
+mod cells;
+mod descs;
+mod devices;
+mod fields;
+mod parts;
+mod sort;
+mod tests;
+
+pub use parts::read_parts;
+pub use sort::Sort;

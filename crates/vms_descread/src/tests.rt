@@ -1,0 +1,157 @@
+// Tests.
+ghost use Rattle.std.specs.Prelude.{◌≡◌, IfOk, IfErr, Some, codes};
+ghost use Rattle.serde_json.specs.Data.{Data, array, item, no_items};
+ghost use Rattle.serde_json.specs.Find.{get};
+ghost use Rattle.vms_nodes.specs.Nodes.{view, items_view};
+ghost use Rattle.vms_spec.specs.Sets.{Formula, Not};
+ghost use Rattle.vms_parts.specs.Views.{formula};
+ghost use Rattle.vms_members.specs.Answers.{Answer, Answers, Refuses, under, changed};
+ghost use Rattle.vms_members.specs.declared.fault.Fault.TheVariants as faults;
+ghost use Rattle.vms_members.specs.Members.{at as said_at};
+ghost use Rattle.vms_members.specs.Names.{scope_seen};
+ghost use Rattle.vms_descread.specs.Tests.{test_within, test_of, leaf_as, pair_seen, two_of, two_in, both, joined, key_of};
+
+use crate::cells::{Form, Join, Leaf, form_of, read_own, read_parent};
+use std::alloc::Global;
+use vms_members::{Fault, Reads, Scope, U32, at};
+use vms_nodes::Node;
+use vms_parts::Test;
+
+// No value that is read nests deeper.
+const DEEPEST: u8 = 127;
+
+// A test of the description, or a needed test.
+#[derive(Clone, Copy)]
+pub(crate) struct TestIn<'a>(pub(crate) Scope<'a>);
+
+impl<'a> Reads for TestIn<'a> {
+    type Out = Test;
+
+    ghost Meaning = { Formula };
+
+    ghost means = { formula };
+
+    ghost says = { λ s. test_of (scope_seen s.0) };
+
+    fn read(&self, alloc: Global, value: &Node) -> Result<Test, Fault> {
+        read_test(alloc, DEEPEST, self.0, value)
+    }
+}
+
+// A test that nests at most so deep.
+fn read_test(alloc: Global, depth: u8, scope: Scope, value: &Node) -> Result<Test, Fault>
+    ensures { Answers formula (test_within depth (scope_seen scope.entry) (view value.now)) result }
+{
+    if depth == 0 {
+        return Err(Fault::here(alloc));
+    }
+    match form_of(value) {
+        Form::Leaf(leaf) => read_leaf(alloc, leaf, scope, value),
+        Form::Not => match value.get("not") {
+            Some(inner) => negated(alloc, read_test(alloc, depth - 1, scope, inner)),
+            None => Err(Fault::here(alloc)),
+        },
+        Form::Two(join) => match two_items(alloc, value, join.key()) {
+            Ok((first, second)) => {
+                let first = read_test(alloc, depth - 1, scope, first);
+                let second = read_test(alloc, depth - 1, scope, second);
+                both(alloc, join, first, second)
+            }
+            Err(fault) => Err(fault),
+        },
+    }
+}
+
+// A test without tests in it.
+fn read_leaf(alloc: Global, leaf: Leaf, scope: Scope, value: &Node) -> Result<Test, Fault>
+    ensures { Answers formula (leaf_as leaf (scope_seen scope.entry) (view value.now)) result }
+{
+    match leaf {
+        Leaf::AtLeast => Ok(Test::AtLeast(at(alloc, &U32, "at_least", value)?)),
+        Leaf::Below => Ok(Test::Below(at(alloc, &U32, "below", value)?)),
+        Leaf::Own => read_own(alloc, scope, value),
+        Leaf::Parent => match scope.parent {
+            Some(names) => read_parent(alloc, names, value),
+            None => Err(Fault::here(alloc)),
+        },
+        Leaf::None => Err(Fault::here(alloc)),
+    }
+}
+
+fn negated(alloc: Global, inner: Result<Test, Fault>) -> Result<Test, Fault>
+    ensures { (x : Answer Formula) → Answers formula x inner
+        → Answers formula (changed Not (under (codes "not") x)) result }
+{
+    match inner {
+        Ok(test) => Ok(Test::Not(Box::new(alloc, test)?)),
+        Err(fault) => Err(fault.under(alloc, "not")),
+    }
+}
+
+// The items of a list of two under a key.
+fn two_items<'v, 'a>(
+    alloc: Global,
+    value: &'v Node<'a>,
+    key: &str,
+) -> Result<(&'v Node<'a>, &'v Node<'a>), Fault>
+    ensures { Answers pair_seen (said_at two_of key.now (view value.now)) result }
+{
+    match value.get(key) {
+        Some(list) => match two_of(alloc, list) {
+            Ok(two) => Ok(two),
+            Err(fault) => Err(fault.under(alloc, key)),
+        },
+        None => Err(Fault::here(alloc)),
+    }
+}
+
+fn two_of<'v, 'a>(alloc: Global, list: &'v Node<'a>) -> Result<(&'v Node<'a>, &'v Node<'a>), Fault>
+    ensures { Answers pair_seen (two_of (view list.now)) result }
+{
+    match list.as_list() {
+        Some(items) => two_in(alloc, items),
+        None => Err(Fault::here(alloc)),
+    }
+}
+
+fn two_in<'v, 'a>(
+    alloc: Global,
+    items: &'v [Node<'a>],
+) -> Result<(&'v Node<'a>, &'v Node<'a>), Fault>
+    ensures { Answers pair_seen (two_in (Some (items_view items.now))) result }
+{
+    if items.len() != 2 {
+        return Err(Fault::here(alloc));
+    }
+    Ok((&items[0], &items[1]))
+}
+
+// Both tests of a list of two.
+fn both(
+    alloc: Global,
+    join: Join,
+    first: Result<Test, Fault>,
+    second: Result<Test, Fault>,
+) -> Result<Test, Fault>
+    ensures { (x y : Answer Formula) → Answers formula x first → Answers formula y second
+        → Answers formula (under (key_of join) (both (joined join) x y)) result }
+{
+    match first {
+        Ok(first) => match second {
+            Ok(second) => pair(alloc, join, first, second),
+            Err(fault) => Err(fault.under(alloc, "1").under(alloc, join.key())),
+        },
+        Err(fault) => Err(fault.under(alloc, "0").under(alloc, join.key())),
+    }
+}
+
+fn pair(alloc: Global, join: Join, first: Test, second: Test) -> Result<Test, Fault>
+    ensures ok { IfOk result (λ t. formula t ≡ joined join (formula first) (formula second)) }
+    ensures err { IfErr result (λ fault. fault ≡ faults.NoMemory) }
+{
+    let (first, second) = (Box::new(alloc, first)?, Box::new(alloc, second)?);
+    match join {
+        Join::And => Ok(Test::And(first, second)),
+        Join::Or => Ok(Test::Or(first, second)),
+    }
+}

@@ -1,0 +1,5 @@
+pub mod BuiltLaws
+pub mod DepthLaws
+pub mod FitLaws
+pub mod FloatLaws
+pub mod SetLaws

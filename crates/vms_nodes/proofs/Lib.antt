@@ -1,0 +1,4 @@
+pub mod AskingLaws
+pub mod KeyLaws
+pub mod NameLaws
+pub mod NodeLaws

@@ -1,0 +1,4 @@
+pub mod Asked
+pub mod Index
+pub mod Keys
+pub mod Nodes
