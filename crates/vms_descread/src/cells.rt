@@ -1,14 +1,12 @@
 // The forms of tests, and tests on numbers.
-ghost use Rattle.std.specs.Prelude.{◌≡◌, IfOk, IfErr, Option, Some, None};
-ghost use Rattle.serde_json.specs.Data.{item, no_items, Data};
-ghost use Rattle.serde_json.specs.Find.{as_array};
+ghost use Rattle.std.specs.Prelude.{◌≡◌, Option, Some, None};
 ghost use Rattle.vms_nodes.specs.Nodes.{view};
 ghost use Rattle.vms_spec.specs.Sets as sets;
 ghost use Rattle.vms_spec.specs.declared.Rel.{Rel as TheRel};
 ghost use Rattle.vms_parts.specs.Views.{formula};
 ghost use Rattle.vms_members.specs.Answers.{Answers};
 ghost use Rattle.vms_members.specs.Names.{scope_seen, names_seen};
-ghost use Rattle.vms_descread.specs.Tests.{form_of, key_of, rel_named, rel_of, own_cell, parent_cell, test_within, test_of};
+ghost use Rattle.vms_descread.specs.Tests.{form_of, key_of, rel_named, rel_of, own_cell, parent_cell};
 
 use std::alloc::Global;
 use vms_members::{Fault, NameIn, Names, Reads, Scope, U32, U64, at};

@@ -1,12 +1,11 @@
 // Descriptions, and structures.
-ghost use Rattle.std.specs.Prelude.{◌≡◌, map, IfOk};
-ghost use Rattle.std.specs.Option.{option_map};
+ghost use Rattle.std.specs.Prelude.{◌≡◌, map};
 ghost use Rattle.vms_nodes.specs.Nodes.{view};
 ghost use Rattle.vms_spec.specs.Sets as sets;
-ghost use Rattle.vms_parts.specs.Views.{field_of as field_seen, formula, desc_of as desc_seen};
+ghost use Rattle.vms_parts.specs.Views.{formula, desc_of as desc_seen};
 ghost use Rattle.vms_members.specs.Answers.{Answers};
 ghost use Rattle.vms_members.specs.Names.{names_seen, names_if};
-ghost use Rattle.vms_descread.specs.Descs.{head_of, head_seen, minimum_or, desc_as, rest_of, struct_in, struct_of};
+ghost use Rattle.vms_descread.specs.Descs.{head_of, head_seen, desc_as, rest_of, struct_in, struct_of};
 
 use crate::fields::FieldIn;
 use crate::tests::TestIn;

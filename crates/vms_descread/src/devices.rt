@@ -1,10 +1,10 @@
 // Devices and their subsections.
-ghost use Rattle.std.specs.Prelude.{◌≡◌, map, Some};
+ghost use Rattle.std.specs.Prelude.{Some};
 ghost use Rattle.vms_nodes.specs.Nodes.{view};
 ghost use Rattle.vms_spec.specs.Sets as sets;
-ghost use Rattle.vms_parts.specs.Views.{desc_of as desc_seen, sub_of as sub_seen, device_of as device_seen};
+ghost use Rattle.vms_parts.specs.Views.{sub_of as sub_seen, device_of as device_seen};
 ghost use Rattle.vms_members.specs.Answers.{Answers};
-ghost use Rattle.vms_members.specs.Names.{names_seen, names_if, scope_seen};
+ghost use Rattle.vms_members.specs.Names.{names_seen, names_if};
 ghost use Rattle.vms_descread.specs.Descs.{sub_in, sub_of, Whole as TheWhole, whole_seen, whole_in, whole_of, device_in, device_of};
 
 use crate::descs::{read_head, read_rest};

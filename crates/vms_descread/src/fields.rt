@@ -8,7 +8,7 @@ ghost use Rattle.vms_parts.specs.Views.{field_of as field_seen, formula};
 ghost use Rattle.vms_descread.specs.declared.sort.Sort.{Sort as TheSort};
 ghost use Rattle.vms_members.specs.Answers.{Answers};
 ghost use Rattle.vms_members.specs.Names.{names_seen};
-ghost use Rattle.vms_descread.specs.Fields.{sort_named, sort_of, counts_fit, sort_fits, field_needs, field_allows, field_fits, count_as, count_of, item_as, or_zero, number_item, front_seen, front_of, presence_of, field_after, field_in, field_of};
+ghost use Rattle.vms_descread.specs.Fields.{sort_named, sort_of, counts_fit, sort_fits, field_fits, count_as, count_of, item_as, front_seen, front_of, presence_of, field_after, field_in, field_of};
 
 use crate::sort::Sort;
 use crate::tests::TestIn;

@@ -1,11 +1,10 @@
 // Tests.
 ghost use Rattle.std.specs.Prelude.{◌≡◌, IfOk, IfErr, Some, codes};
-ghost use Rattle.serde_json.specs.Data.{Data, array, item, no_items};
 ghost use Rattle.serde_json.specs.Find.{get};
 ghost use Rattle.vms_nodes.specs.Nodes.{view, items_view};
 ghost use Rattle.vms_spec.specs.Sets.{Formula, Not};
 ghost use Rattle.vms_parts.specs.Views.{formula};
-ghost use Rattle.vms_members.specs.Answers.{Answer, Answers, Refuses, under, changed};
+ghost use Rattle.vms_members.specs.Answers.{Answer, Answers, under, changed};
 ghost use Rattle.vms_members.specs.declared.fault.Fault.TheVariants as faults;
 ghost use Rattle.vms_members.specs.Members.{at as said_at};
 ghost use Rattle.vms_members.specs.Names.{scope_seen};

@@ -1,7 +1,7 @@
 // Values of JSON, and the members of objects.
 ghost use Rattle.std.specs.Prelude.{◌≡◌, ◌++◌, ◌∷◌, [], ℕ, Some, map, IfOk, OnOk};
 ghost use Rattle.serde_json.specs.Data.{Data, string, put};
-ghost use Rattle.serde_json.specs.View.{view, items_view, members_view};
+ghost use Rattle.serde_json.specs.View.{view, members_view};
 ghost use Rattle.vms_spec.specs.Lists.{at};
 ghost use Rattle.vms_descwrite.specs.Written.{list_file, list_as, natural_file, integer_file, given_as, unless};
 

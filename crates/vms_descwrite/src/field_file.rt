@@ -4,7 +4,7 @@ ghost use Rattle.serde_json.specs.View.{view, members_view};
 ghost use Rattle.serde_json.specs.Data.{no_members, string};
 ghost use Rattle.vms_parts.specs.Views.{field_of as field_seen, formula};
 ghost use Rattle.vms_descwrite.specs.Fitting.{FitsCount, FitsField, FitsOptional};
-ghost use Rattle.vms_descwrite.specs.Written.{own_names, item_word, capacity_in, length_in, counter_in, equal_in, size_in, struct_in, is_zero, front_file, field_file, natural_file, integer_file, given_as, test_file};
+ghost use Rattle.vms_descwrite.specs.Written.{own_names, item_word, capacity_in, length_in, counter_in, equal_in, size_in, struct_in, is_zero, front_file, field_file, integer_file, given_as, test_file};
 
 use crate::built::{
     Members, TextFile, Writes, integer_value, natural_value, put, put_list, put_natural,

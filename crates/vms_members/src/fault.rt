@@ -1,6 +1,6 @@
 // Faults, and where they are.
 ghost use Rattle.std.specs.Prelude.{◌≡◌, [], IfOk, decimal};
-ghost use Rattle.vms_members.specs.Answers.{joined, IsUnder, Refuses, bad, Answer};
+ghost use Rattle.vms_members.specs.Answers.{joined, IsUnder};
 ghost use Rattle.vms_members.specs.declared.fault.Fault.TheVariants as faults;
 
 use std::alloc::{AllocError, AllocFailed, Global};

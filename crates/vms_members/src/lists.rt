@@ -1,6 +1,6 @@
 // Lists.
-ghost use Rattle.std.specs.Prelude.{◌≡◌, ◌++◌, ◌∷◌, [], List, map, OnOk, OnErr, IfErr};
-ghost use Rattle.vms_nodes.specs.Nodes.{view, items_view};
+ghost use Rattle.std.specs.Prelude.{◌≡◌, ◌++◌, ◌∷◌, [], List, map, OnOk, IfErr};
+ghost use Rattle.vms_nodes.specs.Nodes.{items_view};
 ghost use Rattle.vms_members.specs.Answers.{Answers, list_of, each_from};
 ghost use Rattle.vms_members.specs.declared.fault.Fault.TheVariants as faults;
 

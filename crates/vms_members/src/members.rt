@@ -1,7 +1,7 @@
 // The members of objects.
-ghost use Rattle.std.specs.Prelude.{◌≡◌, None, option_map};
+ghost use Rattle.std.specs.Prelude.{None, option_map};
 ghost use Rattle.vms_nodes.specs.Nodes.{view};
-ghost use Rattle.vms_members.specs.Answers.{Answers, list_of};
+ghost use Rattle.vms_members.specs.Answers.{Answers};
 ghost use Rattle.vms_members.specs.Members.{at, at_or, maybe_at};
 
 use crate::fault::Fault;

@@ -1,7 +1,5 @@
 // The names of fields.
-ghost use Rattle.std.specs.Prelude.{◌≡◌, ℕ, min};
-ghost use Rattle.std.specs.Option.{option_map};
-ghost use Rattle.vms_nodes.specs.Nodes.{view};
+ghost use Rattle.std.specs.Prelude.{ℕ, min};
 ghost use Rattle.vms_members.specs.Answers.{Answers};
 ghost use Rattle.vms_members.specs.Names.{names_seen, number_in, name_in};
 

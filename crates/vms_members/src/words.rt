@@ -1,9 +1,8 @@
 // What stands for one value: numbers, texts, kinds.
-ghost use Rattle.std.specs.Prelude.{◌≡◌, List, ℕ, ℤ, OnSome};
-ghost use Rattle.std.specs.Str.{bytes_eq};
+ghost use Rattle.std.specs.Prelude.{List, ℕ, ℤ};
 ghost use Rattle.serde_json.specs.Data.{Data};
 ghost use Rattle.vms_nodes.specs.Nodes.{view};
-ghost use Rattle.vms_members.specs.Answers.{Answer, Answers, given};
+ghost use Rattle.vms_members.specs.Answers.{Answer, Answers};
 ghost use Rattle.vms_members.specs.Members.{natural, u16_of, u32_of, u64_of, integer_of, text_of};
 
 use crate::fault::Fault;

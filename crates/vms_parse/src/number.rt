@@ -1,6 +1,5 @@
 // The numbers of JSON texts.
 ghost use Rattle.std.specs.Prelude.{◌≡◌, ◌<◌, ◌==◌, true, false, option_map, slice_index, length, IsTrue};
-ghost use Rattle.fast_float.specs.Text.{Parts};
 ghost use Rattle.serde_json.specs.Read.{number_of, number_from, float_of};
 ghost use Rattle.serde_json.specs.View.{number_view};
 
