@@ -5,8 +5,7 @@ use Rattle.std.proofs.lemmas.List.{append-nil}
 use Rattle.vms_spec.specs.Spelling.{first_line, longer_line}
 use Rattle.vms_script.specs.Lines.{ScriptLine, Read, line_read}
 use Rattle.vms_script.specs.Script.{Split, Reading, lines_of, begun, bad, also, with_line, unended, tail_read, lines_read, text_read}
-use Rattle.vms_script.specs.Views.{SaysLines, IsBadAt, IsPut, IsRefusal, ReadsAs}
-use Rattle.vms_script.specs.declared.line.Line.{Line}
+use Rattle.vms_script.specs.Views.{SaysLines, IsBadAt, IsPut, IsRefusal, ReadsLines}
 use Rattle.vms_script.specs.declared.line.ScriptFault.{ScriptFault}
 use Rattle.vms_script.specs.declared.line.ScriptFault.TheVariants.{Bad, NoMemory}
 use Rattle.vms_script.specs.declared.line.ScriptReason.{ScriptReason}
@@ -112,8 +111,8 @@ put_unended before all (Ok line) h = refl
 put_unended before all (Err reason) h = absurd h
 
 -- a line that is refused is the text's first bad one
-pub refused : {V : Type 0} (lines : V) (items : V → List Line) (reading : Reading) (read : Read) (number : ℕ) (fault : ScriptFault)
-    → ((reason : ScriptReason) → read ≡ Err reason → reading ≡ bad number reason) → IsRefusal read number fault → ReadsAs items reading (Err fault)
+pub refused : {V : Type 0} (lines : V) (items : V → List ScriptLine) (reading : Reading) (read : Read) (number : ℕ) (fault : ScriptFault)
+    → ((reason : ScriptReason) → read ≡ Err reason → reading ≡ bad number reason) → IsRefusal read number fault → ReadsLines items reading (Err fault)
 refused lines items reading (Ok line) number (Bad n reason) is h = absurd h
 refused lines items reading (Err why) number (Bad n reason) is h =
     reads_bad reading n reason (is why refl ∙ ap (λ (k : ℕ). bad k why) (sym h.0) ∙ ap (λ (r : ScriptReason). bad n r) (sym h.1))

@@ -20,10 +20,18 @@ line_view (Restore name) = Restores name.bytes
 abbrev pub lines_view : List Line → List ScriptLine
 lines_view lines = map line_view lines
 
+-- events, as the lines of a script that has no others
+abbrev pub event_lines : List board_events.Event → List ScriptLine
+event_lines events = map Happens events
+
+-- what was kept of a line, or its reason
+abbrev pub kept_view : {L : Type 0} → (L → ScriptLine) → Result L ScriptReason → Read
+kept_view said (Ok line) = Ok (said line)
+kept_view said (Err reason) = Err reason
+
 -- a line that was read, or its reason
 abbrev pub read_view : Result Line ScriptReason → Read
-read_view (Ok line) = Ok (line_view line)
-read_view (Err reason) = Err reason
+read_view read = kept_view line_view read
 
 -- what is read of a line stands behind the lines before it
 abbrev pub IsPut : Read → List ScriptLine → List ScriptLine → Type 0
@@ -74,7 +82,10 @@ IsBadAt (Ok said) line reason = ⊥
 IsBadAt (Err fault) line reason = (line ≡ fault.line) × (reason ≡ fault.reason)
 
 -- the lines or the first bad one; memory may be wanting in any case
+abbrev pub ReadsLines : {V : Type 0} → (V → List ScriptLine) → Reading → Result V ScriptFault → Type 0
+ReadsLines lines reading (Ok v) = SaysLines reading (lines v)
+ReadsLines lines reading (Err (Bad line reason)) = IsBadAt reading line reason
+ReadsLines lines reading (Err NoMemory) = Unit {0}
+
 abbrev pub ReadsAs : {V : Type 0} → (V → List Line) → Reading → Result V ScriptFault → Type 0
-ReadsAs items reading (Ok v) = SaysLines reading (lines_view (items v))
-ReadsAs items reading (Err (Bad line reason)) = IsBadAt reading line reason
-ReadsAs items reading (Err NoMemory) = Unit {0}
+ReadsAs items reading result = ReadsLines (λ v. lines_view (items v)) reading result

@@ -3,6 +3,7 @@
 
 mod event;
 mod hex;
+mod kept;
 mod laws;
 mod line;
 mod name;
@@ -16,6 +17,6 @@ pub use laws::{grammar_law, refusal_law};
 pub use line::{Line, ScriptFault, ScriptReason};
 pub use name::is_shelf_name;
 pub use number::{LONGEST_WAIT, number_of};
-pub use script::read_script;
+pub use script::{read_events, read_script};
 pub use trace::print_answer;
 pub use vms_io::WriteFault;

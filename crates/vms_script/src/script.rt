@@ -1,12 +1,12 @@
 // Reads scripts.
-ghost use Rattle.std.specs.Prelude.{◌≡◌, ◌<◌, ◌++◌, ◌∷◌, [], length, IfErr, OnOk};
-ghost use Rattle.vms_script.specs.Lines.{line_of_words, line_read, play_line};
+ghost use Rattle.std.specs.Prelude.{◌≡◌, ◌<◌, ◌++◌, ◌∷◌, [], None, length, map, IfErr, OnOk};
+ghost use Rattle.vms_script.specs.Lines.{line_of_words, line_read};
 ghost use Rattle.vms_script.specs.Script.{script_read};
-ghost use Rattle.vms_script.specs.Views.{line_view, lines_view, read_view, IsPut, IsRefusal, ReadsAs};
+ghost use Rattle.vms_script.specs.Views.{event_lines, IsPut, IsRefusal, ReadsAs, ReadsLines};
 
 use crate::event::read_event;
+use crate::kept::Kept;
 use crate::line::{Line, ScriptFault, ScriptReason};
-use crate::session::read_session;
 use crate::split::split_word;
 use dev_board::Event;
 use std::alloc::Global;
@@ -18,6 +18,24 @@ use vms_words::next_line;
 pub fn read_script(alloc: Global, text: &[u8], play: Option<u8>) -> Result<Vec<Line>, ScriptFault>
     requires { length text.now < 4294967296 }
     ensures { ReadsAs (λ lines. lines.items) (script_read play text.now) result }
+{
+    read_lines(alloc, text, play)
+}
+
+/// Reads a script of events alone, where `save` and `restore` are no lines: its events, one for each line, or
+/// the first bad line as `read_script` does. The text has fewer than 2^32 bytes, and is read once.
+pub fn read_events(alloc: Global, text: &[u8]) -> Result<Vec<Event>, ScriptFault>
+    requires { length text.now < 4294967296 }
+    ensures { ReadsLines (λ events. event_lines events.items) (script_read None text.now) result }
+{
+    read_lines(alloc, text, None)
+}
+
+// Reads a script, and keeps something of each line.
+fn read_lines<L: Kept>(alloc: Global, text: &[u8], play: Option<u8>) -> Result<Vec<L>, ScriptFault>
+    requires small { length text.now < 4294967296 }
+    requires keeps { L.keeps play }
+    ensures { ReadsLines (λ lines. map L.said lines.items) (script_read play text.now) result }
 {
     let mut lines = Vec::new(alloc);
     let mut rest = text;
@@ -40,14 +58,15 @@ pub fn read_script(alloc: Global, text: &[u8], play: Option<u8>) -> Result<Vec<L
 }
 
 // Appends what a line without its line feed says, or tells that it says nothing.
-fn put_line(
-    lines: &mut Vec<Line>,
+fn put_line<L: Kept>(
+    lines: &mut Vec<L>,
     number: u32,
     text: &[u8],
     play: Option<u8>,
 ) -> Result<(), ScriptFault>
+    requires keeps { L.keeps play }
     ensures put { let read = line_read play text.now in
-        OnOk result (IsPut read (lines_view lines.old.items) (lines_view lines.new.items)) }
+        OnOk result (IsPut read (map L.said lines.old.items) (map L.said lines.new.items)) }
     ensures refused { IfErr result (IsRefusal (line_read play text.now) number) }
     ensures long { OnOk result (0 < length text.now) }
 {
@@ -56,7 +75,7 @@ fn put_line(
         Some(rest) => put_words(lines, number, play, split.word, rest),
         None => {
             if split.word == b"ack".as_slice() {
-                push_line(lines, Line::Event(Event::Ack))
+                push_line(lines, L::of_event(Event::Ack))
             } else {
                 Err(bad(number, ScriptReason::Form))
             }
@@ -65,41 +84,32 @@ fn put_line(
 }
 
 // Appends what a line says by its first word and what stands behind it.
-fn put_words(
-    lines: &mut Vec<Line>,
+fn put_words<L: Kept>(
+    lines: &mut Vec<L>,
     number: u32,
     play: Option<u8>,
     word: &[u8],
     rest: &[u8],
 ) -> Result<(), ScriptFault>
+    requires keeps { L.keeps play }
     ensures put { let read = line_of_words play word.now rest.now in
-        OnOk result (IsPut read (lines_view lines.old.items) (lines_view lines.new.items)) }
+        OnOk result (IsPut read (map L.said lines.old.items) (map L.said lines.new.items)) }
     ensures refused { IfErr result (IsRefusal (line_of_words play word.now rest.now) number) }
 {
     match read_event(word, rest) {
-        Some(Ok(event)) => push_line(lines, Line::Event(event)),
+        Some(Ok(event)) => push_line(lines, L::of_event(event)),
         Some(Err(reason)) => Err(bad(number, reason)),
-        None => match read_play(play, word, rest) {
+        None => match L::of_session(play, word, rest) {
             Ok(line) => push_line(lines, line),
             Err(reason) => Err(bad(number, reason)),
         },
     }
 }
 
-// A line that only a session has.
-fn read_play(play: Option<u8>, word: &[u8], rest: &[u8]) -> Result<Line, ScriptReason>
-    ensures { read_view result ≡ play_line play word.now rest.now }
-{
-    match play {
-        Some(level) => read_session(level, word, rest),
-        None => Err(ScriptReason::Form),
-    }
-}
-
 // Appends a line, or tells that memory is wanting.
-fn push_line(lines: &mut Vec<Line>, line: Line) -> Result<(), ScriptFault>
-    ensures put { let all = lines_view lines.old.items ++ line_view line ∷ [] in
-        OnOk result (lines_view lines.new.items ≡ all) }
+fn push_line<L: Kept>(lines: &mut Vec<L>, line: L) -> Result<(), ScriptFault>
+    ensures put { let all = map L.said lines.old.items ++ L.said line ∷ [] in
+        OnOk result (map L.said lines.new.items ≡ all) }
     ensures wanting { IfErr result (λ fault. fault ≡ ScriptFault.NoMemory) }
 {
     match lines.push(line) {

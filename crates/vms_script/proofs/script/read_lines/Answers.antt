@@ -1,59 +1,58 @@
-use Rattle.std.proofs.Common.{sym, ap, ◌∙◌, arith}
+use Rattle.std.proofs.Common.{sym, ap, ◌∙◌, arith, map}
 use Rattle.vms_spec.specs.Spelling.{first_line}
 use Rattle.vms_script.specs.Lines.{line_read}
 use Rattle.vms_script.specs.Script.{bad, script_read}
-use Rattle.vms_script.specs.Views.{lines_view}
 use Rattle.vms_script.specs.declared.line.ScriptReason.{ScriptReason}
 use Rattle.vms_script.proofs.ScriptLemmas.{line_put, line_stops, text_ends, tail_reason, tail_stops, reads_lines, reads_bad, put_unended, refused, is_empty, is_some}
 use Rattle.vms_words.proofs.LineLaws.{first_is, first_none}
-use Rattle.vms_script.proofs.script.read_script.Goals as goal
+use Rattle.vms_script.proofs.script.read_lines.Goals as goal
 
 pub returns-in-Err : goal.returns-in-Err
 unfolding script_read
-returns-in-Err c =
+returns-in-Err g c =
     let next = c.in-Some.next in
-    refused c.loop-next.lines (λ lines. lines.items) _ (line_read c.args.play next.text.now) c.loop-next.number c.in-Err.fault
+    refused c.loop-next.lines (λ lines. map g.L.Kept.said lines.items) _ (line_read c.args.play next.text.now) c.loop-next.number c.in-Err.fault
     (λ reason stops. sym c.loop-next.invariant.reads
-    ∙ line_stops (lines_view c.loop-next.lines.items) c.args.play c.loop-next.number c.loop-next.rest.now next.text.now next.after.now reason
+    ∙ line_stops (map g.L.Kept.said c.loop-next.lines.items) c.args.play c.loop-next.number c.loop-next.rest.now next.text.now next.after.now reason
     (first_is (first_line c.loop-next.rest.now) next c.in-Some.ensures.first) stops)
     c.in-Err.ensures.refused
 
 pub loop-next-preserved : goal.loop-next-preserved
-loop-next-preserved c =
+loop-next-preserved g c =
     let next = c.in-Some.next in
     record {
       counted = omega (arith, c.loop-next.invariant.counted, c.in-Some.ensures.long, c.in-Ok.ensures.long);
       reads =
-          line_put (lines_view c.loop-next.lines.items) c.args.play c.loop-next.number c.loop-next.rest.now next.text.now next.after.now (lines_view c.put_line.new.lines.items)
+          line_put (map g.L.Kept.said c.loop-next.lines.items) c.args.play c.loop-next.number c.loop-next.rest.now next.text.now next.after.now (map g.L.Kept.said c.put_line.new.lines.items)
           (first_is (first_line c.loop-next.rest.now) next c.in-Some.ensures.first) c.in-Ok.ensures.put
           ∙ c.loop-next.invariant.reads;
     }
 
 pub returns-then-is_empty : goal.returns-then-is_empty
 unfolding script_read
-returns-then-is_empty c =
-    reads_lines _ (lines_view c.loop-next.lines.items)
+returns-then-is_empty g c =
+    reads_lines _ (map g.L.Kept.said c.loop-next.lines.items)
     (sym c.loop-next.invariant.reads
-    ∙ text_ends (lines_view c.loop-next.lines.items) c.args.play c.loop-next.number c.loop-next.rest.now
+    ∙ text_ends (map g.L.Kept.said c.loop-next.lines.items) c.args.play c.loop-next.number c.loop-next.rest.now
     (first_none (first_line c.loop-next.rest.now) c.in_default.ensures.first) (is_empty c.loop-next.rest.now (sym c.is_empty.ensures ∙ c.if-is_empty.true)))
 
 pub returns-in-Ok-put_line : goal.returns-in-Ok-put_line
 unfolding script_read
-returns-in-Ok-put_line c =
+returns-in-Ok-put_line g c =
     rw c.bad.ensures
     (reads_bad _ c.loop-next.number _
     (sym c.loop-next.invariant.reads
-    ∙ tail_stops (lines_view c.loop-next.lines.items) c.args.play c.loop-next.number c.loop-next.rest.now
+    ∙ tail_stops (map g.L.Kept.said c.loop-next.lines.items) c.args.play c.loop-next.number c.loop-next.rest.now
     (first_none (first_line c.loop-next.rest.now) c.in_default.ensures.first) (is_some c.loop-next.rest.now (sym c.is_empty.ensures ∙ c.if-is_empty.false))
     ∙ ap (λ (reason : ScriptReason). bad c.loop-next.number reason)
-    (put_unended (lines_view c.loop-next.lines.items) (lines_view c.put_line-2.new.lines.items) (line_read c.args.play c.loop-next.rest.now) c.in-Ok-put_line.ensures.put)))
+    (put_unended (map g.L.Kept.said c.loop-next.lines.items) (map g.L.Kept.said c.put_line-2.new.lines.items) (line_read c.args.play c.loop-next.rest.now) c.in-Ok-put_line.ensures.put)))
 
 pub returns : goal.returns
 unfolding script_read
-returns c =
-    refused c.loop-next.lines (λ lines. lines.items) _ (line_read c.args.play c.loop-next.rest.now) c.loop-next.number c.in-Err-put_line.fault
+returns g c =
+    refused c.loop-next.lines (λ lines. map g.L.Kept.said lines.items) _ (line_read c.args.play c.loop-next.rest.now) c.loop-next.number c.in-Err-put_line.fault
     (λ reason stops. sym c.loop-next.invariant.reads
-    ∙ tail_stops (lines_view c.loop-next.lines.items) c.args.play c.loop-next.number c.loop-next.rest.now
+    ∙ tail_stops (map g.L.Kept.said c.loop-next.lines.items) c.args.play c.loop-next.number c.loop-next.rest.now
     (first_none (first_line c.loop-next.rest.now) c.in_default.ensures.first) (is_some c.loop-next.rest.now (sym c.is_empty.ensures ∙ c.if-is_empty.false))
     ∙ ap (λ read. bad c.loop-next.number (tail_reason read)) stops)
     c.in-Err-put_line.ensures.refused

@@ -1,0 +1,61 @@
+// What is kept of the lines of a script.
+ghost use Rattle.std.specs.Prelude.{◌≡◌, ℕ, Option, None};
+ghost use Rattle.vms_script.specs.Lines.{Happens, ScriptLine, play_line};
+ghost use Rattle.vms_script.specs.Views.{kept_view};
+
+use crate::line::{Line, ScriptReason};
+use crate::session::read_session;
+use dev_board::Event;
+
+/// What is kept of a line.
+pub(crate) trait Kept: Drop {
+    /// The line that it is.
+    ghost said: { Self → ScriptLine };
+
+    /// The scripts of which every line is kept, by the level of their session's board, if they have one.
+    ghost keeps: { Option ℕ → Type 0 };
+
+    /// What is kept of an event.
+    fn of_event(event: Event) -> Self
+        ensures { said result ≡ Happens event };
+
+    /// What is kept of a line that only a session has, by its first word and what stands behind it.
+    fn of_session(play: Option<u8>, word: &[u8], rest: &[u8]) -> Result<Self, ScriptReason>
+        requires { keeps play }
+        ensures { kept_view said result ≡ play_line play word.now rest.now };
+}
+
+/// Every line is kept.
+impl Kept for Line {
+    ghost use Rattle.vms_script.specs.Views.{line_view};
+
+    ghost said = { line_view };
+
+    ghost keeps = { λ play. Unit {0} };
+
+    fn of_event(event: Event) -> Self {
+        Line::Event(event)
+    }
+
+    fn of_session(play: Option<u8>, word: &[u8], rest: &[u8]) -> Result<Self, ScriptReason> {
+        match play {
+            Some(level) => read_session(level, word, rest),
+            None => Err(ScriptReason::Form),
+        }
+    }
+}
+
+/// Events alone are kept, of scripts that have no session.
+impl Kept for Event {
+    ghost said = { Happens };
+
+    ghost keeps = { λ play. play ≡ None };
+
+    fn of_event(event: Event) -> Self {
+        event
+    }
+
+    fn of_session(_: Option<u8>, _: &[u8], _: &[u8]) -> Result<Self, ScriptReason> {
+        Err(ScriptReason::Form)
+    }
+}
