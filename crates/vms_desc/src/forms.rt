@@ -6,7 +6,7 @@ ghost use Rattle.vms_parts.specs.Views.{desc_of, field_of, sub_of, device_of, se
 use crate::{CellForm, Desc, Device, Field, Listed, Parts, Sub};
 use std::alloc::{AllocError, Global};
 use vms_kinds::Item;
-use vms_parts::capacity;
+use vms_parts::{Measure, capacity, size_of_fields, size_of_subs};
 
 // Puts the forms of the cells of these fields after those that are there. `structs` are the structures that
 // they may use.
@@ -71,9 +71,10 @@ fn put_subs(structs: &[Desc], subs: &[Sub], forms: &mut Vec<CellForm>) -> Result
     Ok(())
 }
 
-// The forms of a device's cells: its fields', and then each subsection's.
+// The forms of a device's cells: its fields', and then each subsection's. Each structure has so many cells.
 fn device_cells(
     alloc: Global,
+    sizes: &[u32],
     structs: &[Desc],
     device: &Device,
 ) -> Result<Vec<CellForm>, AllocError>
@@ -81,19 +82,26 @@ fn device_cells(
         forms.items ≡ device_forms (forms_to (map desc_of structs.now) (length structs.now))
         (device_of device.now)) }
 {
-    let mut forms = Vec::new(alloc);
-    put_fields(structs, device.desc.fields.as_slice(), &mut forms)?;
-    put_subs(structs, device.subs.as_slice(), &mut forms)?;
+    let (fields, subs) = (device.desc.fields.as_slice(), device.subs.as_slice());
+    let own = size_of_fields(Measure::Cells, sizes, fields);
+    let cells = own.saturating_add(size_of_subs(Measure::Cells, sizes, subs));
+    let mut forms = Vec::with_capacity(alloc, cells as usize)?;
+    put_fields(structs, fields, &mut forms)?;
+    put_subs(structs, subs, &mut forms)?;
     Ok(forms)
 }
 
 // Those of each device, in order.
-pub(crate) fn layout(alloc: Global, parts: &Parts) -> Result<Listed<Listed<CellForm>>, AllocError>
+pub(crate) fn layout(
+    alloc: Global,
+    sizes: &[u32],
+    parts: &Parts,
+) -> Result<Listed<Listed<CellForm>>, AllocError>
     ensures { IfOk result (λ layout. layout ≡ layout_of (set_of parts.now)) }
 {
     let mut layout = Vec::new(alloc);
     for device in parts.devices.as_slice() {
-        let forms = device_cells(alloc, parts.structs.as_slice(), device)?;
+        let forms = device_cells(alloc, sizes, parts.structs.as_slice(), device)?;
         layout.push(Listed::new(forms))?;
     }
     Ok(Listed::new(layout))

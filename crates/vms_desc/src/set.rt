@@ -68,9 +68,9 @@ impl DescSet {
         requires { is_well_formed (set_of parts) ≡ true }
         ensures { IfOk result (λ set. described set ≡ set_of parts) }
     {
-        let layout = layout(alloc, &parts)?;
-        let spots = device_spots(alloc, layout.as_slice())?;
         let sizes = struct_sizes(alloc, Measure::Cells, parts.structs.as_slice())?;
+        let layout = layout(alloc, &sizes, &parts)?;
+        let spots = device_spots(alloc, layout.as_slice())?;
         let structs = struct_tables(alloc, &sizes, parts.structs.as_slice())?;
         let devices = device_tables(alloc, &sizes, parts.devices.as_slice())?;
         Ok(DescSet {
