@@ -2,6 +2,7 @@
 ghost use Rattle.std.specs.Prelude.{◌≡◌, ◌+◌, ◌*◌, ◌<◌, ◌≤◌, ◌++◌, [], true, codes, length};
 ghost use Rattle.std.specs.Fmt.{signed_decimal};
 ghost use Rattle.vms_io.specs.Causes.{HasCause};
+ghost use Rattle.vms_kinds.specs.declared.Item.TheVariants as items;
 ghost use Rattle.vms_spec.specs.Rules.{uses_below};
 ghost use Rattle.vms_spec.specs.Values.{printers, line_end, desc_lines, element_lines, item_lines};
 ghost use Rattle.vms_desc.specs.Described.{described};
@@ -48,6 +49,7 @@ pub(crate) fn print_lines<K: Sink>(shown: Shown, spot: Spot, sink: &mut K) -> Re
 
 // The lines of a part, or of one element of a structure, under the path that stands in the line.
 #[cycle(print)]
+#[inline(always)]
 fn print_part<K: Sink>(
     shown: Shown,
     spot: Spot,
@@ -83,6 +85,7 @@ fn print_part<K: Sink>(
 
 // The lines of a field's elements.
 #[cycle(print)]
+#[inline(always)]
 fn print_field<K: Sink>(
     shown: Shown,
     field: &Field,
@@ -112,6 +115,7 @@ fn print_field<K: Sink>(
 
 // The lines of the elements of an array.
 #[cycle(print)]
+#[inline(always)]
 fn print_elements<K: Sink>(
     shown: Shown,
     item: &Item,
@@ -148,6 +152,7 @@ fn print_elements<K: Sink>(
 
 // The lines of one element, whose first cell is `cell`.
 #[cycle(print)]
+#[inline(always)]
 fn print_item<K: Sink>(
     shown: Shown,
     item: &Item,
@@ -172,17 +177,41 @@ fn print_item<K: Sink>(
         Item::Num(_) => print_number(shown.image.get(cell), line, sink),
         Item::Equal { .. } => Ok(()),
         Item::Unused { .. } => Ok(()),
-        Item::Struct(number) => {
-            let part = Part::Struct(*number);
-            let spot = Spot {
-                part,
-                version: shown.set.desc(part).version,
-                base: cell,
-            };
-            line.push(b".");
-            print_part(shown, spot, line, sink)
-        }
+        Item::Struct(number) => print_struct(shown, *number, cell, line, sink),
     }
+}
+
+// The lines of an element of the structure of this number, under the path that stands in the line. The cycle closes here
+// alone, so all else is laid into its callers, where it is known what kind of part is printed.
+#[cycle(print)]
+fn print_struct<K: Sink>(
+    shown: Shown,
+    number: u32,
+    cell: u32,
+    line: &mut Line,
+    sink: &mut K,
+) -> Result<(), Failed>
+    requires reaches { number < length (described shown.set.now).structs }
+    requires room { let size = size_in (described shown.set.now) (items.Struct number) in
+        cell + size ≤ length shown.image.now.numbers }
+    requires few { length shown.image.now.numbers ≤ 16384 }
+    requires short { length line.old + 54 + 128 * (number + 1) ≤ 8320 }
+    ensures written { let ps = printers (described shown.entry.set.now) in
+        let n = shown.entry.image.now.numbers in
+        let text = item_lines ps (items.Struct number) line.old n cell in
+        Writes (K.written sink.old) (K.written sink.new) text result }
+    ensures line { Stays line.old line.new }
+    ensures cause { HasCause (K.faults sink.old) (K.faults sink.new) result }
+    ensures promise { K.promise sink.new ≡ K.promise sink.old }
+{
+    let part = Part::Struct(number);
+    let spot = Spot {
+        part,
+        version: shown.set.desc(part).version,
+        base: cell,
+    };
+    line.push(b".");
+    print_part(shown, spot, line, sink)
 }
 
 // The line of a cell, of which the path is there.

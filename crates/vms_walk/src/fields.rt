@@ -1,5 +1,6 @@
 // The walk: the fields of a description in order, arrays and structures expanded.
-ghost use Rattle.std.specs.Prelude.{◌≡◌, ◌<◌, ◌≤◌, ◌+◌, ◌*◌, true, length, OnOk, IfErr};
+ghost use Rattle.std.specs.Prelude.{◌≡◌, ◌<◌, ◌≤◌, ◌+◌, ◌*◌, true, None, length, OnOk, IfErr};
+ghost use Rattle.vms_kinds.specs.declared.Item.TheVariants as items;
 ghost use Rattle.vms_spec.specs.Layout.{capacity_of};
 ghost use Rattle.vms_spec.specs.Rules.{uses_below};
 ghost use Rattle.vms_desc.specs.Asks.{field_at};
@@ -22,6 +23,7 @@ pub struct Spot {
 }
 
 // How many elements of a field stand in the bytes: none where the field isn't there.
+#[inline(always)]
 fn present<C: Cells>(set: &DescSet, spot: Spot, field: u32, cells: &C) -> u32
     requires spot { HasSpot (described set.now) spot (C.numbers cells.now) }
     requires field { field < length (desc_at (described set.now) spot.part).fields }
@@ -37,6 +39,7 @@ fn present<C: Cells>(set: &DescSet, spot: Spot, field: u32, cells: &C) -> u32
 
 // One element of a field, whose first cell is `cell`. A number counts `most` at most.
 #[cycle(walk)]
+#[inline(always)]
 fn walk_item<W: Walker>(
     set: &DescSet,
     item: &Item,
@@ -67,20 +70,45 @@ fn walk_item<W: Walker>(
             value: *value,
         }),
         Item::Unused { bytes } => walker.step(Step::Filler { bytes: *bytes }),
-        Item::Struct(number) => {
-            let part = Part::Struct(*number);
-            let spot = Spot {
-                part,
-                version: set.desc(part).version,
-                base: cell,
-            };
-            walk(set, spot, walker)
-        }
+        Item::Struct(number) => walk_struct(set, *number, cell, walker),
     }
+}
+
+// One element of the structure of this number. The cycle closes here alone, so all else is laid into its callers, where
+// it is known what kind of part is walked over.
+#[cycle(walk)]
+fn walk_struct<W: Walker>(
+    set: &DescSet,
+    number: u32,
+    cell: u32,
+    walker: &mut W,
+) -> Result<(), W::Fault>
+    requires reaches { uses_below (length (described set.now).structs) (items.Struct number)
+        ≡ true }
+    requires may { let slots = item_by (described set.now) (items.Struct number) None cell in
+        MayCome W.goes W.numbers W.may slots walker.old }
+    requires room { cell + size_in (described set.now) (items.Struct number)
+        ≤ length (W.numbers walker.old) }
+    requires few { length (W.numbers walker.old) ≤ 16384 }
+    ensures ok { let slots = item_by (described set.now)
+        (items.Struct number) None cell (W.numbers walker.new) in
+        OnOk result (W.goes (steps_of slots) walker.old walker.new) }
+    ensures err { let slots = item_by (described set.now)
+        (items.Struct number) None cell (W.numbers walker.new) in
+        IfErr result (λ fault. W.stops (steps_of slots) walker.old fault walker.new) }
+{
+    let part = Part::Struct(number);
+    let spot = Spot {
+        part,
+        version: set.desc(part).version,
+        base: cell,
+    };
+    walk(set, spot, walker)
 }
 
 // Elements one after the other, of which the first has the first cell `first`.
 #[cycle(walk)]
+#[inline(always)]
 fn walk_items<W: Walker>(
     set: &DescSet,
     item: &Item,
@@ -114,6 +142,7 @@ fn walk_items<W: Walker>(
 
 // One field, whose first cell is `cell`.
 #[cycle(walk)]
+#[inline(always)]
 fn walk_field<W: Walker>(
     set: &DescSet,
     spot: Spot,
@@ -142,6 +171,7 @@ fn walk_field<W: Walker>(
 
 /// Goes through what stands in the bytes of a part, in order, and then to the end of it.
 #[cycle(walk)]
+#[inline(always)]
 pub fn walk<W: Walker>(set: &DescSet, spot: Spot, walker: &mut W) -> Result<(), W::Fault>
     requires spot { HasSpot (described set.now) spot (W.numbers walker.old) }
     requires may { MayCome W.goes W.numbers W.may (spot_slots (described set.now) spot) walker.old }

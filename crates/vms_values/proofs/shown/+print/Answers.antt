@@ -148,27 +148,40 @@ print_field-returns-in_default g t c =
 
 -- ---- an element
 
-pub print_item-print_part-requires : goal.print_item-print_part-requires
-print_item-print_part-requires g t c =
+pub print_item-print_struct-requires : goal.print_item-print_struct-requires
+print_item-print_struct-requires g t c =
     let set = described c.args.shown.set.now in
     let j = c.in-Struct.number in
     let lt : j < length set.structs = ltb-true j (length set.structs) (rw c.in-Struct.is at c.requires.reaches) in
     let room = rw c.in-Struct.is at c.requires.room in
-    let size = struct_size set c.args.shown.set.now.well_formed j lt in
     let short = rw c.in-Struct.is at c.requires.short in
-    let grown : length c.push.new.self + 128 * (j + 1) ≤ 8320 = omega (arith, ap length c.push.ensures, length-append c.args.line.now (codes "."), short) in
-    λ κs h. (search rules, (search rules, (record { part = lt; few = c.requires.few; room = omega (arith, room, size) }, grown)))
+    λ κs h. (search rules, (search rules, (lt, (room, (c.requires.few, short)))))
 
 pub print_item-returns-in-Struct-clause-written : goal.print_item-returns-in-Struct-clause-written
 print_item-returns-in-Struct-clause-written g t c =
+    let ps = printers (described c.args.shown.set.now) in
+    same_text _ _ _ _ _
+    (ap (λ (i : Item). item_lines ps i c.args.line.now c.args.shown.image.now.numbers c.args.cell) (sym c.in-Struct.is)) c.print_struct.ensures.written
+
+-- ---- an element of a structure
+
+pub print_struct-print_part-requires : goal.print_struct-print_part-requires
+print_struct-print_part-requires g t c =
     let set = described c.args.shown.set.now in
-    let j = c.in-Struct.number in
-    let lt : j < length set.structs = ltb-true j (length set.structs) (rw c.in-Struct.is at c.requires.reaches) in
+    let j = c.args.number in
+    let lt = c.requires.reaches in
+    let size = struct_size set c.args.shown.set.now.well_formed j lt in
+    let grown : length c.push.new.self + 128 * (j + 1) ≤ 8320 = omega (arith, ap length c.push.ensures, length-append c.args.line.now (codes "."), c.requires.short) in
+    λ κs h. (search rules, (search rules, (record { part = lt; few = c.requires.few; room = omega (arith, c.requires.room, size) }, grown)))
+
+pub print_struct-returns-clause-written : goal.print_struct-returns-clause-written
+print_struct-returns-clause-written g t c =
+    let set = described c.args.shown.set.now in
+    let j = c.args.number in
     let n = c.args.shown.image.now.numbers in
-    let path = c.args.line.now in
     same_text _ _ _ _ _
     (ap (λ (l : List ℕ). desc_lines (printers set) (get_or set.structs j no_desc) l n c.args.cell) c.push.ensures
-    ∙ sym (ap (λ (i : Item). item_lines (printers set) i path n c.args.cell) c.in-Struct.is ∙ struct_lines set c.args.shown.set.now.well_formed j lt path n c.args.cell)) c.print_part.ensures.written
+    ∙ sym (struct_lines set c.args.shown.set.now.well_formed j c.requires.reaches c.args.line.now n c.args.cell)) c.print_part.ensures.written
 
 -- ---- a part
 

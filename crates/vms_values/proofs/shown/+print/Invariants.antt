@@ -19,6 +19,9 @@ decreases-print_field g l = item_rank l.field.now.item + 2
 abbrev pub decreases-print_item : goal.decreases-print_item
 decreases-print_item g l = item_rank l.item.now
 
+abbrev pub decreases-print_struct : goal.decreases-print_struct
+decreases-print_struct g l = 5 * l.number + 4
+
 abbrev pub decreases-print_part : goal.decreases-print_part
 decreases-print_part g l = part_rank (described l.shown.set.now) l.spot.part + 3
 

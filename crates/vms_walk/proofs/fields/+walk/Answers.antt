@@ -397,44 +397,64 @@ walk_item-step-requires-in-Unused-clause-may g t c =
     let here = λ (x : Item). steps_of (item_slots (table set) x (capacities_of c.args.most) (g.W.Cells.numbers c.args.walker.now) c.args.cell) in
     c.requires.may [] [] _ c.args.walker.now (g.met.W.Walker.none c.args.walker.now) (ap here c.in-Unused.is)
 
-pub walk_item-walk-requires : goal.walk_item-walk-requires
-walk_item-walk-requires g t c =
+pub walk_item-walk_struct-requires : goal.walk_item-walk_struct-requires
+walk_item-walk_struct-requires g t c =
     let set = described c.args.set.now in
     let N = g.W.Cells.numbers in
     let n = N c.args.walker.now in
-    let j = c.in-Struct.number in
-    let well = c.args.set.now.well_formed in
-    let lt : j < length set.structs = ltb-true j (length set.structs) (subst (λ (x : Item). uses_below (length set.structs) x ≡ true) c.in-Struct.is c.requires.reaches) in
-    let version : c.desc.result.now.version ≡ (get_or set.structs j no_desc).version = ap (λ (d : Desc). d.version) c.desc.ensures in
-    let caps = capacities_of c.args.most in
-    let slots = λ (m : List ℤ). ap (λ (x : Item). item_slots (table set) x caps m c.args.cell) c.in-Struct.is ∙ struct_spot set well j lt c.desc.result.now.version c.args.cell m version caps in
-    let size = ap (size_in set) c.in-Struct.is ∙ struct_size set well j lt in
-    let spot : HasSpot set (record { part = parts.Struct j; version = c.desc.result.now.version; base = c.args.cell }) n =
-    record { part = lt; few = c.requires.few; room = omega (arith, size, c.requires.room) } in
-    λ κs h. (search rules, (search rules, (search rules, (spot, λ ys zs x d k e. c.requires.may ys zs x d k (ap steps_of (slots (N d)) ∙ e)))))
+    let is = c.in-Struct.is in
+    let reaches = subst (λ (x : Item). uses_below (length set.structs) x ≡ true) is c.requires.reaches in
+    let room = subst (λ (x : Item). c.args.cell + size_in set x ≤ length n) is c.requires.room in
+    let slots = λ (m : List ℤ). ap (λ (x : Item). item_slots (table set) x (capacities_of c.args.most) m c.args.cell) is in
+    λ κs h. (search rules, (search rules, (search rules, (reaches, (λ ys zs x d k e. c.requires.may ys zs x d k (ap steps_of (slots (N d)) ∙ e), (room, c.requires.few))))))
 
 pub walk_item-returns-in-Struct-clause-ok : goal.walk_item-returns-in-Struct-clause-ok
 walk_item-returns-in-Struct-clause-ok g t c =
     let set = described c.args.set.now in
     let N = g.W.Cells.numbers in
-    let n = N c.args.walker.now in
-    let j = c.in-Struct.number in
-    let well = c.args.set.now.well_formed in
-    let lt : j < length set.structs = ltb-true j (length set.structs) (subst (λ (x : Item). uses_below (length set.structs) x ≡ true) c.in-Struct.is c.requires.reaches) in
-    let version : c.desc.result.now.version ≡ (get_or set.structs j no_desc).version = ap (λ (d : Desc). d.version) c.desc.ensures in
-    let caps = capacities_of c.args.most in
-    let slots = λ (m : List ℤ). ap (λ (x : Item). item_slots (table set) x caps m c.args.cell) c.in-Struct.is ∙ struct_spot set well j lt c.desc.result.now.version c.args.cell m version caps in
-    subst (λ (l : List Slot). OnOk c.walk.result (g.W.Walker.goes (steps_of l) c.args.walker.now c.walk.new.walker)) (sym (slots (N c.walk.new.walker))) c.walk.ensures.ok
+    let slots = λ (m : List ℤ). ap (λ (x : Item). item_slots (table set) x (capacities_of c.args.most) m c.args.cell) c.in-Struct.is in
+    subst (λ (l : List Slot). OnOk c.walk_struct.result (g.W.Walker.goes (steps_of l) c.args.walker.now c.walk_struct.new.walker)) (sym (slots (N c.walk_struct.new.walker))) c.walk_struct.ensures.ok
 
 pub walk_item-returns-in-Struct-clause-err : goal.walk_item-returns-in-Struct-clause-err
 walk_item-returns-in-Struct-clause-err g t c =
     let set = described c.args.set.now in
     let N = g.W.Cells.numbers in
+    let slots = λ (m : List ℤ). ap (λ (x : Item). item_slots (table set) x (capacities_of c.args.most) m c.args.cell) c.in-Struct.is in
+    subst (λ (l : List Slot). IfErr c.walk_struct.result (λ fault. g.W.Walker.stops (steps_of l) c.args.walker.now fault c.walk_struct.new.walker)) (sym (slots (N c.walk_struct.new.walker))) c.walk_struct.ensures.err
+
+-- ---- an element of a structure
+
+pub walk_struct-walk-requires : goal.walk_struct-walk-requires
+walk_struct-walk-requires g t c =
+    let set = described c.args.set.now in
+    let N = g.W.Cells.numbers in
     let n = N c.args.walker.now in
-    let j = c.in-Struct.number in
+    let j = c.args.number in
     let well = c.args.set.now.well_formed in
-    let lt : j < length set.structs = ltb-true j (length set.structs) (subst (λ (x : Item). uses_below (length set.structs) x ≡ true) c.in-Struct.is c.requires.reaches) in
+    let lt : j < length set.structs = ltb-true j (length set.structs) c.requires.reaches in
     let version : c.desc.result.now.version ≡ (get_or set.structs j no_desc).version = ap (λ (d : Desc). d.version) c.desc.ensures in
-    let caps = capacities_of c.args.most in
-    let slots = λ (m : List ℤ). ap (λ (x : Item). item_slots (table set) x caps m c.args.cell) c.in-Struct.is ∙ struct_spot set well j lt c.desc.result.now.version c.args.cell m version caps in
+    let slots = λ (m : List ℤ). struct_spot set well j lt c.desc.result.now.version c.args.cell m version [] in
+    let size = struct_size set well j lt in
+    let spot : HasSpot set (record { part = parts.Struct j; version = c.desc.result.now.version; base = c.args.cell }) n =
+    record { part = lt; few = c.requires.few; room = omega (arith, size, c.requires.room) } in
+    λ κs h. (search rules, (search rules, (search rules, (spot, λ ys zs x d k e. c.requires.may ys zs x d k (ap steps_of (slots (N d)) ∙ e)))))
+
+pub walk_struct-returns-clause-ok : goal.walk_struct-returns-clause-ok
+walk_struct-returns-clause-ok g t c =
+    let set = described c.args.set.now in
+    let N = g.W.Cells.numbers in
+    let j = c.args.number in
+    let lt : j < length set.structs = ltb-true j (length set.structs) c.requires.reaches in
+    let version : c.desc.result.now.version ≡ (get_or set.structs j no_desc).version = ap (λ (d : Desc). d.version) c.desc.ensures in
+    let slots = λ (m : List ℤ). struct_spot set c.args.set.now.well_formed j lt c.desc.result.now.version c.args.cell m version [] in
+    subst (λ (l : List Slot). OnOk c.walk.result (g.W.Walker.goes (steps_of l) c.args.walker.now c.walk.new.walker)) (sym (slots (N c.walk.new.walker))) c.walk.ensures.ok
+
+pub walk_struct-returns-clause-err : goal.walk_struct-returns-clause-err
+walk_struct-returns-clause-err g t c =
+    let set = described c.args.set.now in
+    let N = g.W.Cells.numbers in
+    let j = c.args.number in
+    let lt : j < length set.structs = ltb-true j (length set.structs) c.requires.reaches in
+    let version : c.desc.result.now.version ≡ (get_or set.structs j no_desc).version = ap (λ (d : Desc). d.version) c.desc.ensures in
+    let slots = λ (m : List ℤ). struct_spot set c.args.set.now.well_formed j lt c.desc.result.now.version c.args.cell m version [] in
     subst (λ (l : List Slot). IfErr c.walk.result (λ fault. g.W.Walker.stops (steps_of l) c.args.walker.now fault c.walk.new.walker)) (sym (slots (N c.walk.new.walker))) c.walk.ensures.err

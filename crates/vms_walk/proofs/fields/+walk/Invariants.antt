@@ -9,6 +9,9 @@ use Rattle.vms_walk.proofs.fields.+walk.Given as goal
 abbrev pub decreases-walk_item : goal.decreases-walk_item
 decreases-walk_item g l = item_rank l.item.now
 
+abbrev pub decreases-walk_struct : goal.decreases-walk_struct
+decreases-walk_struct g l = 5 * l.number + 4
+
 abbrev pub decreases-walk_items : goal.decreases-walk_items
 decreases-walk_items g l = item_rank l.item.now + 1
 
