@@ -1,55 +1,54 @@
--- The events of lines, one after the other.
+-- Events, one after the other.
 use Rattle.std.proofs.Common.{◌≡◌, ℕ, suc, ◌+◌, ◌<◌, ◌≤◌, List, [], ◌∷◌, ◌++◌, length, take, drop, get_or, Option, refl, sym, ap, subst, ◌∙◌, append_assoc, append-nil, arith, length-append}
 use Rattle.std.proofs.KnownBytes.{Appends-nil, Appends-trans}
-use Rattle.std.proofs.lemmas.List.{drop_all}
+use Rattle.std.proofs.lemmas.List.{drop_all, drop_more}
 use Rattle.std.specs.Io.KnownBytes.{Appends}
 use lib.Seq.{take-append-le}
 use Rattle.dev_board.proofs.ClockLaws.{clock_goes_on}
-use Rattle.dev_board.specs.Laws.{AreEvents}
+use Rattle.dev_board.specs.Laws.{AreEvents, IsEvent}
 use Rattle.dev_board.specs.State.{State}
 use Rattle.dev_board.specs.Step.{step, observe, after_all}
 use Rattle.dev_board.specs.declared.event.Event.{Event}
+use Rattle.dev_board.specs.declared.event.Event.TheVariants.{Read}
 use Rattle.vms_io.specs.Causes.{AppendsPrefix}
 use Rattle.vms_script.specs.Grammar.{AreLines}
 use Rattle.vms_script.specs.Lines.{ScriptLine, Happens, Saves, Restores}
 use Rattle.vms_script.specs.Trace.{trace_line}
-use Rattle.vms_script.specs.Views.{line_view, lines_view}
-use Rattle.vms_script.specs.declared.line.Line.{Line}
+use Rattle.vms_script.specs.Views.{event_lines}
 use Rattle.vms_session.proofs.SoundLaws.{event_is, line_event}
-use Rattle.vms_play.proofs.CourseLemmas.{lines_next}
-use Rattle.vms_play.specs.Events.{events_in, events_of, trace_from}
+use Rattle.vms_play.specs.Events.{events_of, trace_from}
 
 -- ---- events
 
-pub left_next : (lines : List Line) (i : ℕ) (line : Line) → i < length lines → line ≡ get_or lines i line
-    → events_of (lines_view (drop i lines)) ≡ events_in (line_view line) (events_of (lines_view (drop (i + 1) lines)))
-left_next lines i line lt is = ap events_of (lines_next lines i line lt is)
+abbrev pub event_at : List Event → ℕ → Event
+event_at events i = get_or events i (Read 0)
 
-pub none_left : (lines : List Line) (i : ℕ) → length lines ≤ i → events_of (lines_view (drop i lines)) ≡ []
-none_left lines i le = ap (λ (l : List Line). events_of (lines_view l)) (drop_all i lines le)
+pub left_next : (events : List Event) (i : ℕ) → i < length events → drop i events ≡ event_at events i ∷ drop (i + 1) events
+left_next events i lt = drop_more events i (Read 0) lt
 
-here-are : (line : ScriptLine) (rest : List Event) → AreEvents (events_in line rest) → AreEvents (events_in line [])
-here-are (Happens event) rest are = (are.0, tt)
-here-are (Saves set name) rest are = tt
-here-are (Restores name) rest are = tt
+pub none_left : (events : List Event) (i : ℕ) → length events ≤ i → drop i events ≡ []
+none_left events i le = drop_all i events le
 
-rest-are : (line : ScriptLine) (rest : List Event) → AreEvents (events_in line rest) → AreEvents rest
-rest-are (Happens event) rest are = are.1
-rest-are (Saves set name) rest are = are
-rest-are (Restores name) rest are = are
+pub first_event : (event : Event) (rest events : List Event) → events ≡ event ∷ rest → AreEvents events → IsEvent event
+first_event event rest events e are = let both : AreEvents (event ∷ rest) = subst AreEvents e are in both.0
 
-pub first_events : (line : ScriptLine) (rest events : List Event) → events ≡ events_in line rest → AreEvents events → AreEvents (events_in line [])
-first_events line rest events e are = here-are line rest (subst AreEvents e are)
-
-pub later_events : (line : ScriptLine) (rest events : List Event) → events ≡ events_in line rest → AreEvents events → AreEvents rest
-later_events line rest events e are = rest-are line rest (subst AreEvents e are)
+pub later_events : (event : Event) (rest events : List Event) → events ≡ event ∷ rest → AreEvents events → AreEvents rest
+later_events event rest events e are = let both : AreEvents (event ∷ rest) = subst AreEvents e are in both.1
 
 -- lines that may stand in a script let events happen that there are
-pub lines_are_events : (play : Option ℕ) (lines : List ScriptLine) → AreLines play lines → AreEvents (events_of lines)
+lines_are_events : (play : Option ℕ) (lines : List ScriptLine) → AreLines play lines → AreEvents (events_of lines)
 lines_are_events play [] are = tt
 lines_are_events play (Happens event ∷ lines) are = (event_is event (line_event play event are.0), lines_are_events play lines are.1)
 lines_are_events play (Saves set name ∷ lines) are = lines_are_events play lines are.1
 lines_are_events play (Restores name ∷ lines) are = lines_are_events play lines are.1
+
+-- the events of lines that are events
+pub events_back : (events : List Event) → events_of (event_lines events) ≡ events
+events_back [] = refl
+events_back (event ∷ events) = ap (λ (es : List Event). event ∷ es) (events_back events)
+
+pub are_events : (play : Option ℕ) (events : List Event) → AreLines play (event_lines events) → AreEvents events
+are_events play events are = subst AreEvents (events_back events) (lines_are_events play (event_lines events) are)
 
 -- ---- the board
 
@@ -58,18 +57,12 @@ unfolding after_all
 after_level [] m = refl
 after_level (event ∷ events) m = after_level events (step event m).1 ∙ clock_goes_on.level event m
 
-pub level_next : (line : ScriptLine) (m m' : State) → m' ≡ after_all (events_in line []) m → m'.level ≡ m.level
-level_next line m m' done = ap (λ (b : State). b.level) done ∙ after_level (events_in line []) m
+pub level_next : (event : Event) (m m' : State) → m' ≡ (step event m).1 → m'.level ≡ m.level
+level_next event m m' done = ap (λ (b : State). b.level) done ∙ clock_goes_on.level event m
 
-after-line : (line : ScriptLine) (rest : List Event) (m : State) → after_all rest (after_all (events_in line []) m) ≡ after_all (events_in line rest) m
+pub after_next : (event : Event) (rest events : List Event) (m m' : State) → events ≡ event ∷ rest → m' ≡ (step event m).1 → after_all rest m' ≡ after_all events m
 unfolding after_all
-after-line (Happens event) rest m = refl
-after-line (Saves set name) rest m = refl
-after-line (Restores name) rest m = refl
-
-pub after_next : (line : ScriptLine) (rest events : List Event) (m m' : State) → events ≡ events_in line rest → m' ≡ after_all (events_in line []) m → after_all rest m' ≡ after_all events m
-after_next line rest events m m' e done =
-    ap (after_all rest) done ∙ after-line line rest m ∙ sym (ap (λ (es : List Event). after_all es m) e)
+after_next event rest events m m' e done = ap (after_all rest) done ∙ sym (ap (λ (es : List Event). after_all es m) e)
 
 pub after_none : (events : List Event) (m : State) → events ≡ [] → after_all events m ≡ m
 unfolding after_all
@@ -83,16 +76,11 @@ pub record Owes (old new : Option (List ℕ)) (whole left : List ℕ) : Type 0 w
   pub written : Appends old new done
   pub split : done ++ left ≡ whole
 
-trace-line : (line : ScriptLine) (rest : List Event) (m : State) → trace_from (events_in line rest) m ≡ trace_from (events_in line []) m ++ trace_from rest (after_all (events_in line []) m)
-unfolding after_all observe
-trace-line (Happens event) rest m = ap (λ (t : List ℕ). t ++ trace_from rest (step event m).1) (sym (append-nil (trace_line (step event m).0)))
-trace-line (Saves set name) rest m = refl
-trace-line (Restores name) rest m = refl
-
-pub trace_next : (line : ScriptLine) (rest events : List Event) (m m' : State) → events ≡ events_in line rest → m' ≡ after_all (events_in line []) m
-    → trace_from events m ≡ trace_from (events_in line []) m ++ trace_from rest m'
-trace_next line rest events m m' e done =
-    ap (λ (es : List Event). trace_from es m) e ∙ trace-line line rest m ∙ sym (ap (λ (b : State). trace_from (events_in line []) m ++ trace_from rest b) done)
+pub trace_next : (event : Event) (rest events : List Event) (m m' : State) → events ≡ event ∷ rest → m' ≡ (step event m).1
+    → trace_from events m ≡ trace_line (step event m).0 ++ trace_from rest m'
+unfolding observe
+trace_next event rest events m m' e done =
+    ap (λ (es : List Event). trace_from es m) e ∙ sym (ap (λ (b : State). trace_line (step event m).0 ++ trace_from rest b) done)
 
 pub trace_none : (events : List Event) (m : State) → events ≡ [] → trace_from events m ≡ []
 unfolding observe
