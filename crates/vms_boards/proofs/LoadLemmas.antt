@@ -5,6 +5,7 @@ use Rattle.std.specs.Prelude.{IsSomeAnd}
 use Rattle.dev_base.specs.declared.limits.TheConstants.{NEWEST}
 use Rattle.dev_board.specs.State.{State}
 use Rattle.dev_board.specs.Step.{observe}
+use Rattle.dev_board.specs.declared.event.Event.{Event}
 use Rattle.vms_board.specs.Comes.{IsRefused}
 use Rattle.vms_board.specs.Restoring.{Back, Refused, Restores}
 use Rattle.vms_board.specs.Saving.{machine_of}
@@ -19,8 +20,10 @@ use Rattle.vms_outcome.specs.Lines.{refused_line}
 use Rattle.vms_outcome.specs.Outcomes.{Outcome, TakesBytes, done, ended}
 use Rattle.vms_outcome.specs.declared.ending.Ending.{Ending}
 use Rattle.vms_outcome.specs.declared.ending.Ending.TheVariants as endings
-use Rattle.vms_play.specs.Events.{events_of}
+use Rattle.vms_play.proofs.RunLemmas.{events_back}
+use Rattle.vms_play.specs.Events.{events_of, trace_from}
 use Rattle.vms_script.specs.Lines.{ScriptLine}
+use Rattle.vms_script.specs.Views.{event_lines}
 use Rattle.vms_session.proofs.OneLaws.{one_restore, no_fault}
 use Rattle.vms_session.specs.Laws.{trace_of}
 use Rattle.vms_spec.specs.Numbers.{IsBytes}
@@ -121,6 +124,10 @@ module _ (level : ℕ) (lines : List ScriptLine) where
           → IsSomeAnd left (λ bytes. Loads level lines bytes s.held x) → EndsWith 1 line.items i i' x
       by None e ok c l = absurd l
       by (Some bytes) e ok c l = ends bytes e (refusal-is bytes None i'.left s.held r x ok c l)
+
+-- the trace of events is that of their lines
+pub written_events : (events : List Event) (m : State) (o o' : Outlet) (e : Ending) → WritesAs (trace_from events m) o o' e → WritesAs (trace_from (events_of (event_lines events)) m) o o' e
+written_events events m o o' e w = subst (λ (es : List Event). WritesAs (trace_from es m) o o' e) (sym (events_back events)) w
 
 -- ---- causes
 

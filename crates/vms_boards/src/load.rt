@@ -10,24 +10,23 @@ ghost use Rattle.vms_io.specs.Told.{Stock, intake, outlet, stock};
 ghost use Rattle.vms_load.specs.Staging.{most_given};
 ghost use Rattle.vms_outcome.specs.Endings.{EndsAs, WritesAs};
 ghost use Rattle.vms_outcome.specs.Outcomes.{Outcome};
-ghost use Rattle.vms_play.specs.Events.{events_of, trace_from};
-ghost use Rattle.vms_script.specs.Grammar.{AreLines};
-ghost use Rattle.vms_script.specs.Views.{lines_view};
+ghost use Rattle.vms_play.specs.Events.{trace_from};
+ghost use Rattle.vms_script.specs.Views.{event_lines};
 ghost use Rattle.vms_boards.specs.Causes.{LoadCause, StreamCause};
 ghost use Rattle.vms_boards.specs.Heard.{HearsEnd};
 ghost use Rattle.vms_boards.specs.Load.{LoadGives, LoadHears, Loads, LoadsBy};
 ghost use Rattle.vms_boards.specs.Scripts.{scripted};
 
 use crate::asked::OnBoard;
-use crate::scripts::script_of;
+use crate::scripts::events_of;
 use dev_base::NEWEST;
+use dev_board::Event;
 use std::alloc::Global;
 use vms_board::{Board, RestoreFault};
 use vms_desc::DescSet;
 use vms_io::{Shelf, Sink, Source};
 use vms_outcome::{Ending, refused_line};
 use vms_play::trace;
-use vms_script::Line;
 
 /// Restores a board from the input's stream, and writes the trace of a script's events on it.
 ///
@@ -62,32 +61,32 @@ pub fn load_board<I: Source, O: Sink, H: Shelf>(
     ensures out_promise { O.promise out.new ≡ O.promise out.old }
     ensures shelf_promise { H.promise shelf.new ≡ H.promise shelf.old }
 {
-    match script_of(alloc, asked.script, None, shelf) {
-        Ok(lines) => load_lines(alloc, asked.level, &lines, input, out),
+    match events_of(alloc, asked.script, shelf) {
+        Ok(events) => load_events(alloc, asked.level, &events, input, out),
         Err(ending) => ending,
     }
 }
 
 // Once the script is there.
-fn load_lines<I: Source, O: Sink>(
+fn load_events<I: Source, O: Sink>(
     alloc: Global,
     level: u8,
-    lines: &[Line],
+    events: &[Event],
     input: &mut I,
     out: &mut O,
 ) -> Ending
     requires level { IsLevel level }
-    requires lines { AreLines None (lines_view lines.now) }
+    requires events { AreEvents events.now }
     ensures content { (shelf shelf' : Stock) (o : Outcome) → shelf'.held ≡ shelf.held
         → IsSomeAnd (I.left input.old)
-        (λ bytes. Loads level (lines_view lines.now) bytes shelf.held o)
+        (λ bytes. Loads level (event_lines events.now) bytes shelf.held o)
         → EndsAs (intake I.Source input.old) (intake I.Source input.new)
         (outlet O.Sink out.old) (outlet O.Sink out.new) shelf shelf' result o }
     ensures cause { StreamCause (intake I.Source input.old) (intake I.Source input.new)
         (outlet O.Sink out.old) (outlet O.Sink out.new) result }
     ensures given { I.given input.new ≤ I.given input.old + most_given (shipped_set newest) }
     ensures heard { (held : Option Held)
-        → HearsEnd (λ bytes o. Loads level (lines_view lines.now) bytes held o) held
+        → HearsEnd (λ bytes o. Loads level (event_lines events.now) bytes held o) held
         (I.given input.old) (I.given input.new)
         (outlet O.Sink out.old) (outlet O.Sink out.new) result }
     ensures input_count { I.faults input.old ≤ I.faults input.new }
@@ -101,29 +100,29 @@ fn load_lines<I: Source, O: Sink>(
     let Ok(set) = DescSet::shipped(alloc, NEWEST) else {
         return Ending::NoMemory;
     };
-    load_on(&mut board, &set, lines, input, out)
+    load_on(&mut board, &set, events, input, out)
 }
 
 // Once a board and its set are there.
 fn load_on<I: Source, O: Sink>(
     board: &mut Board,
     set: &DescSet,
-    lines: &[Line],
+    events: &[Event],
     input: &mut I,
     out: &mut O,
 ) -> Ending
     requires set { described set.now ≡ shipped_set newest }
-    requires lines { AreLines None (lines_view lines.now) }
+    requires events { AreEvents events.now }
     ensures content { (shelf shelf' : Stock) (o : Outcome) → shelf'.held ≡ shelf.held
         → IsSomeAnd (I.left input.old)
-        (λ bytes. Loads board.old.state.level (lines_view lines.now) bytes shelf.held o)
+        (λ bytes. Loads board.old.state.level (event_lines events.now) bytes shelf.held o)
         → EndsAs (intake I.Source input.old) (intake I.Source input.new)
         (outlet O.Sink out.old) (outlet O.Sink out.new) shelf shelf' result o }
     ensures cause { StreamCause (intake I.Source input.old) (intake I.Source input.new)
         (outlet O.Sink out.old) (outlet O.Sink out.new) result }
     ensures given { I.given input.new ≤ I.given input.old + most_given (shipped_set newest) }
     ensures heard { (held : Option Held) → let level = board.old.state.level in
-        HearsEnd (λ bytes o. Loads level (lines_view lines.now) bytes held o) held
+        HearsEnd (λ bytes o. Loads level (event_lines events.now) bytes held o) held
         (I.given input.old) (I.given input.new)
         (outlet O.Sink out.old) (outlet O.Sink out.new) result }
     ensures input_count { I.faults input.old ≤ I.faults input.new }
@@ -132,21 +131,21 @@ fn load_on<I: Source, O: Sink>(
     ensures out_promise { O.promise out.new ≡ O.promise out.old }
 {
     match board.restore(input) {
-        Ok(()) => go_on(board, lines, out),
+        Ok(()) => go_on(board, events, out),
         Err(RestoreFault::Refused(refusal)) => Ending::Refused(refused_line(set, &refusal)),
         Err(RestoreFault::ReadFault) => Ending::ReadFault,
     }
 }
 
 // Once the board is restored.
-fn go_on<O: Sink>(board: &mut Board, lines: &[Line], out: &mut O) -> Ending
-    requires { AreEvents (events_of (lines_view lines.now)) }
-    ensures written { let text = trace_from (events_of (lines_view lines.now)) board.old.state in
+fn go_on<O: Sink>(board: &mut Board, events: &[Event], out: &mut O) -> Ending
+    requires { AreEvents events.now }
+    ensures written { let text = trace_from events.now board.old.state in
         WritesAs text (outlet O.Sink out.old) (outlet O.Sink out.new) result }
     ensures count { O.faults out.old ≤ O.faults out.new }
     ensures promise { O.promise out.new ≡ O.promise out.old }
 {
-    match trace(board, lines, out) {
+    match trace(board, events, out) {
         Ok(()) => Ending::Done,
         Err(_) => Ending::WriteFault,
     }

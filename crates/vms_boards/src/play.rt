@@ -11,7 +11,7 @@ ghost use Rattle.vms_boards.specs.Play.{PlaysAll, PlaysBy, ending_by};
 ghost use Rattle.vms_boards.specs.Scripts.{scripted};
 
 use crate::asked::OnBoard;
-use crate::scripts::script_of;
+use crate::scripts::session_of;
 use std::alloc::Global;
 use vms_board::Board;
 use vms_io::{Shelf, Sink};
@@ -39,7 +39,7 @@ pub fn play_board<O: Sink, H: Shelf>(
     ensures out_promise { O.promise out.new ≡ O.promise out.old }
     ensures shelf_promise { H.promise shelf.new ≡ H.promise shelf.old }
 {
-    match script_of(alloc, asked.script, Some(asked.level), shelf) {
+    match session_of(alloc, asked.script, asked.level, shelf) {
         Ok(lines) => play_lines(alloc, asked.level, &lines, out, shelf),
         Err(ending) => ending,
     }

@@ -1,6 +1,7 @@
 // The command `save`: the stream of a board after a script.
-ghost use Rattle.std.specs.Prelude.{◌≡◌, ◌≤◌, None};
+ghost use Rattle.std.specs.Prelude.{◌≡◌, ◌≤◌};
 ghost use Rattle.dev_base.specs.Levels.{IsLevel};
+ghost use Rattle.dev_board.specs.Laws.{AreEvents};
 ghost use Rattle.dev_board.specs.Saved.{MaySaveUnder};
 ghost use Rattle.dev_board.specs.State.{power_on};
 ghost use Rattle.dev_board.specs.Step.{after_all};
@@ -9,20 +10,17 @@ ghost use Rattle.vms_io.specs.Told.{outlet, stock};
 ghost use Rattle.vms_outcome.specs.StepEndings.{TextEnds};
 ghost use Rattle.vms_outcome.specs.Steps.{Gives};
 ghost use Rattle.vms_outcome.specs.Texts.{TextCause, TextContent};
-ghost use Rattle.vms_play.specs.Events.{events_of};
-ghost use Rattle.vms_script.specs.Grammar.{AreLines};
-ghost use Rattle.vms_script.specs.Views.{lines_view};
 ghost use Rattle.vms_boards.specs.Causes.{WriteCause};
 ghost use Rattle.vms_boards.specs.Save.{ending_by, saved_after};
 
 use crate::asked::Saving;
-use crate::scripts::script_of;
+use crate::scripts::events_of;
+use dev_board::Event;
 use std::alloc::Global;
 use vms_board::{Board, SaveFault};
 use vms_io::{Shelf, Sink};
 use vms_outcome::Ending;
 use vms_play::run_events;
-use vms_script::Line;
 
 /// Writes the stream of a board, at power on, after the events of a script.
 pub fn save_board<O: Sink, H: Shelf>(
@@ -43,18 +41,18 @@ pub fn save_board<O: Sink, H: Shelf>(
     ensures out_promise { O.promise out.new ≡ O.promise out.old }
     ensures shelf_promise { H.promise shelf.new ≡ H.promise shelf.old }
 {
-    match script_of(alloc, asked.script, None, shelf) {
-        Ok(lines) => save_after(alloc, asked.level, asked.set, &lines, out),
+    match events_of(alloc, asked.script, shelf) {
+        Ok(events) => save_after(alloc, asked.level, asked.set, &events, out),
         Err(ending) => ending,
     }
 }
 
 // Once the script is there.
-fn save_after<O: Sink>(alloc: Global, level: u8, set: u8, lines: &[Line], out: &mut O) -> Ending
+fn save_after<O: Sink>(alloc: Global, level: u8, set: u8, events: &[Event], out: &mut O) -> Ending
     requires level { IsLevel level }
     requires may { MaySaveUnder level set }
-    requires lines { AreLines None (lines_view lines.now) }
-    ensures ends { let board = after_all (events_of (lines_view lines.now)) (power_on level) in
+    requires events { AreEvents events.now }
+    ensures ends { let board = after_all events.now (power_on level) in
         TextEnds (Gives (saved_stream set board)) (outlet O.Sink out.old)
         (outlet O.Sink out.new) result }
     ensures cause { WriteCause (outlet O.Sink out.old) (outlet O.Sink out.new) result }
@@ -64,7 +62,7 @@ fn save_after<O: Sink>(alloc: Global, level: u8, set: u8, lines: &[Line], out: &
     let Ok(mut board) = Board::new(alloc, level) else {
         return Ending::NoMemory;
     };
-    run_events(&mut board, lines);
+    run_events(&mut board, events);
     ending_of(board.save(alloc, set, out))
 }
 

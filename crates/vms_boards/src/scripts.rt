@@ -1,52 +1,73 @@
 // Scripts that the words name: fetched from the shelf, and then read.
-ghost use Rattle.std.specs.Prelude.{◌≡◌, ◌<◌, ◌≤◌, IfOk, length, string_bytes};
+ghost use Rattle.std.specs.Prelude.{◌≡◌, ◌≤◌, List, None, Ok, Some, IfOk, string_bytes};
+ghost use Rattle.dev_board.specs.Laws.{AreEvents};
 ghost use Rattle.vms_io.specs.Told.{stock};
 ghost use Rattle.vms_outcome.specs.StepEndings.{StepAs};
 ghost use Rattle.vms_script.specs.Grammar.{AreLines};
-ghost use Rattle.vms_script.specs.Script.{script_read};
-ghost use Rattle.vms_script.specs.Views.{lines_view};
+ghost use Rattle.vms_script.specs.Lines.{ScriptLine};
+ghost use Rattle.vms_script.specs.Script.{Reading};
+ghost use Rattle.vms_script.specs.Views.{event_lines, lines_view, ReadsLines};
 ghost use Rattle.vms_boards.specs.Causes.{ReadCause, ScriptCause};
 ghost use Rattle.vms_boards.specs.Scripts.{said_lines, script_line, script_reason_text, scripted};
 
+use dev_board::Event;
 use std::alloc::Global;
 use vms_io::{NoMemory, Shelf};
 use vms_outcome::{Ending, fetch};
-use vms_script::{Line, ScriptFault, ScriptReason, read_script};
+use vms_script::{Line, ScriptFault, ScriptReason, read_events, read_script};
 
 /// The greatest script, in bytes.
 pub const LONGEST_SCRIPT: u32 = 4_194_304;
 
-/// The lines of the script under a name, of a session on a board of a level where one is named; or how the command
-/// ends.
-pub(crate) fn script_of<H: Shelf>(
+/// The lines of the session's script under a name, on a board of a level; or how the command ends.
+pub(crate) fn session_of<H: Shelf>(
     alloc: Global,
     name: &str,
-    play: Option<u8>,
+    level: u8,
     shelf: &mut H,
 ) -> Result<Vec<Line>, Ending>
     ensures read { StepAs (λ lines. lines_view lines.items)
-        (scripted play (H.held shelf.old) name.now) result }
-    ensures good { IfOk result (λ lines. AreLines play (lines_view lines.items)) }
+        (scripted (Some level) (H.held shelf.old) name.now) result }
+    ensures good { IfOk result (λ lines. AreLines (Some level) (lines_view lines.items)) }
     ensures cause { ScriptCause (stock H.Shelf shelf.old) (stock H.Shelf shelf.new) result }
     ensures held { H.held shelf.new ≡ H.held shelf.old }
     ensures count { H.faults shelf.old ≤ H.faults shelf.new }
     ensures promise { H.promise shelf.new ≡ H.promise shelf.old }
 {
     match fetch(alloc, name, LONGEST_SCRIPT, shelf) {
-        Ok(text) => read(alloc, &text, play),
+        Ok(text) => had(alloc, read_script(alloc, &text, Some(level))),
         Err(ending) => Err(ending),
     }
 }
 
-// The lines that a text says.
-fn read(alloc: Global, text: &[u8], play: Option<u8>) -> Result<Vec<Line>, Ending>
-    requires { length text.now < 4294967296 }
-    ensures read { StepAs (λ lines. lines_view lines.items)
-        (said_lines (script_read play text.now)) result }
-    ensures good { IfOk result (λ lines. AreLines play (lines_view lines.items)) }
+/// The events of the script under a name; or how the command ends.
+pub(crate) fn events_of<H: Shelf>(
+    alloc: Global,
+    name: &str,
+    shelf: &mut H,
+) -> Result<Vec<Event>, Ending>
+    ensures read { StepAs (λ events. event_lines events.items)
+        (scripted None (H.held shelf.old) name.now) result }
+    ensures good { IfOk result (λ events. AreEvents events.items) }
+    ensures cause { ScriptCause (stock H.Shelf shelf.old) (stock H.Shelf shelf.new) result }
+    ensures held { H.held shelf.new ≡ H.held shelf.old }
+    ensures count { H.faults shelf.old ≤ H.faults shelf.new }
+    ensures promise { H.promise shelf.new ≡ H.promise shelf.old }
+{
+    match fetch(alloc, name, LONGEST_SCRIPT, shelf) {
+        Ok(text) => had(alloc, read_events(alloc, &text)),
+        Err(ending) => Err(ending),
+    }
+}
+
+// What was read of a script, or how the command ends.
+fn had<T: Drop>(alloc: Global, read: Result<T, ScriptFault>) -> Result<T, Ending>
+    ensures read { (lines : T → List ScriptLine) (reading : Reading) → ReadsLines lines reading read
+        → StepAs lines (said_lines reading) result }
+    ensures same { IfOk result (λ t. read ≡ Ok t) }
     ensures cause { ReadCause result }
 {
-    match read_script(alloc, text, play) {
+    match read {
         Ok(lines) => Ok(lines),
         Err(ScriptFault::Bad { line, reason }) => match script_line(alloc, line, reason) {
             Ok(line) => Err(Ending::BadText(line)),

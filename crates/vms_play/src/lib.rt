@@ -1,4 +1,4 @@
-//! What goes over the lines of a script: their events on a board, the trace of these, and whole sessions.
+//! What goes over events and the lines of sessions: events on a board, their trace, and whole sessions.
 #![tactic(auto)]
 
 mod line;

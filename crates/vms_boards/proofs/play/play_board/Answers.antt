@@ -21,7 +21,7 @@ returns-in-Ok-clause-content g c = λ input o few has.
     let level = c.args.asked.level in
     let plays = had_by (λ (l : Vec Line Global). lines_view l.items) (λ (lines : List ScriptLine) (x : Outcome). IsSomeAnd held (λ map. PlaysAll level lines map x))
     (scripted (Some level) held c.args.asked.script.now) c.in-Ok.lines o c.in-Ok.ensures.read has in
-    ends_since input input (outlet g.O.Sink c.args.out.now) (outlet g.O.Sink c.play_lines.new.out) (stock g.H.Shelf c.args.shelf.now) (stock g.H.Shelf c.script_of.new.shelf)
+    ends_since input input (outlet g.O.Sink c.args.out.now) (outlet g.O.Sink c.play_lines.new.out) (stock g.H.Shelf c.args.shelf.now) (stock g.H.Shelf c.session_of.new.shelf)
     (stock g.H.Shelf c.play_lines.new.shelf) c.in-Ok.ensures.held c.in-Ok.ensures.count o c.play_lines.result
     (c.play_lines.ensures.content input o few
     (subst (λ (h : Option Held). IsSomeAnd h (λ map. PlaysAll level (lines_view c.deref.result.now) map o)) (sym c.in-Ok.ensures.held)
@@ -29,7 +29,7 @@ returns-in-Ok-clause-content g c = λ input o few has.
 
 pub returns-in-Ok-clause-cause : goal.returns-in-Ok-clause-cause
 returns-in-Ok-clause-cause g c =
-    inr (lines_since (outlet g.O.Sink c.args.out.now) (outlet g.O.Sink c.play_lines.new.out) (stock g.H.Shelf c.args.shelf.now) (stock g.H.Shelf c.script_of.new.shelf)
+    inr (lines_since (outlet g.O.Sink c.args.out.now) (outlet g.O.Sink c.play_lines.new.out) (stock g.H.Shelf c.args.shelf.now) (stock g.H.Shelf c.session_of.new.shelf)
     (stock g.H.Shelf c.play_lines.new.shelf) c.play_lines.result c.in-Ok.ensures.count c.play_lines.ensures.cause)
 
 pub returns-in-Err-clause-content : goal.returns-in-Err-clause-content
@@ -38,7 +38,7 @@ returns-in-Err-clause-content g c = λ input o few has.
     let level = c.args.asked.level in
     let out = outlet g.O.Sink c.args.out.now in
     ended_by (λ (l : Vec Line Global). lines_view l.items) (λ (lines : List ScriptLine) (x : Outcome). IsSomeAnd held (λ map. PlaysAll level lines map x))
-    (scripted (Some level) held c.args.asked.script.now) input out out (stock g.H.Shelf c.args.shelf.now) (stock g.H.Shelf c.script_of.new.shelf)
+    (scripted (Some level) held c.args.asked.script.now) input out out (stock g.H.Shelf c.args.shelf.now) (stock g.H.Shelf c.session_of.new.shelf)
     c.in-Err.ending o c.in-Err.ensures.held (quiet_same out c.in-Err.ending) c.in-Err.ensures.read has
 
 pub returns-in-Err-clause-cause : goal.returns-in-Err-clause-cause

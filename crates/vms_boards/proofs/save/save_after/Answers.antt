@@ -1,4 +1,4 @@
-use Rattle.std.proofs.Common.{◌≡◌, ℕ, None, sym, ap, ◌∙◌, subst}
+use Rattle.std.proofs.Common.{◌≡◌, ℕ, sym, ap, ◌∙◌, subst}
 use Rattle.dev_board.specs.Saved.{MaySaveUnder}
 use Rattle.dev_board.specs.State.{State, power_on}
 use Rattle.dev_board.specs.Step.{after_all}
@@ -7,15 +7,9 @@ use Rattle.vms_io.specs.Told.{outlet}
 use Rattle.vms_outcome.specs.StepEndings.{TextEnds}
 use Rattle.vms_outcome.specs.Steps.{Gives}
 use Rattle.vms_outcome.specs.declared.ending.Ending.{Ending}
-use Rattle.vms_play.proofs.RunLemmas.{lines_are_events}
-use Rattle.vms_play.specs.Events.{events_of}
-use Rattle.vms_script.specs.Views.{lines_view}
 use Rattle.vms_boards.proofs.SaveLemmas.{saved_ends, saved_cause, at_level}
 use Rattle.vms_boards.specs.Causes.{WriteCause}
 use Rattle.vms_boards.proofs.save.save_after.Goals as goal
-
-pub run_events-requires : goal.run_events-requires
-run_events-requires g c = lines_are_events None (lines_view c.args.lines.now) c.requires.lines
 
 pub save-requires : goal.save-requires
 save-requires g c =
@@ -25,7 +19,7 @@ save-requires g c =
 
 pub returns-clause-ends : goal.returns-clause-ends
 returns-clause-ends g c =
-    let events = events_of (lines_view c.args.lines.now) in
+    let events = c.args.events.now in
     let board : c.run_events.new.board.state ≡ after_all events (power_on c.args.level) = c.run_events.ensures.state ∙ ap (after_all events) c.in-Ok.ensures.state in
     subst (λ (e : Ending). TextEnds (Gives (saved_stream c.args.set (after_all events (power_on c.args.level)))) (outlet g.O.Sink c.args.out.now) (outlet g.O.Sink c.save.new.sink) e)
     (sym c.ending_of.ensures)
