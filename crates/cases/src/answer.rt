@@ -26,19 +26,29 @@ impl Answer {
 
     /// The answer in a line.
     pub(crate) fn line(&self, alloc: Global) -> Result<String, AllocError> {
-        let mut line = format!(in alloc; "status {}, out ", self.status)?;
-        line.push_str(&printed(alloc, &self.out)?)?;
-        line.push_str(", notes ")?;
-        line.push_str(&printed(alloc, &self.notes)?)?;
-        if let Some(taken) = self.taken {
-            line.push_str(&format!(in alloc; ", taken {taken}")?)?;
-        }
-        for (name, bytes) in &self.shelf {
-            line.push_str(&format!(in alloc; ", {name} ")?)?;
-            line.push_str(&printed(alloc, bytes)?)?;
-        }
-        Ok(line)
+        let status = self.status;
+        let out = printed(alloc, &self.out)?;
+        let notes = printed(alloc, &self.notes)?;
+        let taken = taken_text(alloc, self.taken)?;
+        let shelf = shelf_text(alloc, &self.shelf)?;
+        format!(in alloc; "status {status}, out {out}, notes {notes}{taken}{shelf}")
     }
+}
+
+fn taken_text(alloc: Global, taken: Option<usize>) -> Result<String, AllocError> {
+    match taken {
+        Some(taken) => format!(in alloc; ", taken {taken}"),
+        None => Ok(String::new(alloc)),
+    }
+}
+
+fn shelf_text(alloc: Global, shelf: &Named) -> Result<String, AllocError> {
+    let mut text = String::new(alloc);
+    for (name, bytes) in shelf {
+        let bytes = printed(alloc, bytes)?;
+        text.push_str(&format!(in alloc; ", {name} {bytes}")?)?;
+    }
+    Ok(text)
 }
 
 fn is_text(came: &[u8], wanted: &[u8], may_be_begun: bool) -> bool {

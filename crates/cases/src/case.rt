@@ -3,11 +3,10 @@
 use crate::answer::Answer;
 use crate::bytes::{Known, Named};
 use crate::entry::Entry;
-use crate::run::{Calls, Object};
+use crate::run::Object;
 use crate::shelf::with;
 use anyhow::{Context, Result};
 use std::alloc::Global;
-use std::rt::Files;
 
 /// What the cases of a topic share.
 #[derive(Drop)]
@@ -38,12 +37,19 @@ pub(crate) struct Call<'a> {
     pub input: Vec<u8>,
     /// The sizes in which the input is read.
     pub pieces: Vec<u32>,
-    pub fails: Calls,
-    /// Objects with the number up to which each call fails alone, in a run of its own.
-    pub each_fails: Vec<(Object, u32)>,
+    pub faults: Faults,
     /// The bytes for which out and notes have room.
     pub rooms: (u32, u32),
     pub shelf: Named,
+}
+
+/// The calls of objects that fail, by their numbers from 1 on.
+#[derive(Drop)]
+pub(crate) struct Faults {
+    /// Those that fail in every run.
+    pub fails: Vec<(Object, u32)>,
+    /// The number up to which each call of an object fails alone, in a run of its own.
+    pub each: Vec<(Object, u32)>,
 }
 
 /// What must come of a call.
@@ -84,22 +90,17 @@ const ROOM: u32 = 65_536;
 
 impl<'a> Case<'a> {
     /// Reads a case.
-    pub(crate) fn read<R: Files + AllocGlobal>(
-        rt: &R,
-        shared: &Shared,
-        entry: Entry<'a>,
-    ) -> Result<Case<'a>> {
+    pub(crate) fn read(alloc: Global, shared: &Shared, entry: Entry<'a>) -> Result<Case<'a>> {
         entry.has_only(&KEYS)?;
         let name = entry.text("name")?.context("a case without a name")?;
-        let call = Call::read(rt, shared, entry)?;
-        let wanted = Wanted::read(rt, &shared.known, entry, &call.shelf)?;
+        let call = Call::read(alloc, shared, entry)?;
+        let wanted = Wanted::read(alloc, &shared.known, entry, &call.shelf)?;
         Ok(Case { name, call, wanted })
     }
 }
 
 impl<'a> Call<'a> {
-    fn read<R: Files + AllocGlobal>(rt: &R, shared: &Shared, entry: Entry<'a>) -> Result<Call<'a>> {
-        let alloc = rt.alloc();
+    fn read(alloc: Global, shared: &Shared, entry: Entry<'a>) -> Result<Call<'a>> {
         let room = entry.number("room")?.unwrap_or(ROOM);
         let notes_room = entry.number("notes_room")?.unwrap_or(ROOM);
         let input = entry.text("input")?.unwrap_or("");
@@ -107,32 +108,22 @@ impl<'a> Call<'a> {
             words: entry.texts(alloc, "words")?,
             input: shared.known.bytes(alloc, input)?,
             pieces: pieces(alloc, entry)?,
-            each_fails: each(alloc, entry.entry("each_fails")?)?,
-            fails: calls(alloc, entry.entry("fails")?)?,
+            faults: Faults::read(alloc, entry)?,
             rooms: (room, notes_room),
-            shelf: shelf(rt, shared, entry)?,
+            shelf: with(alloc, &shared.known, entry.entry("shelf")?, &shared.shelf)?,
         })
     }
 }
 
 impl<'a> Wanted<'a> {
     // What a case wants, with what lay on the shelf before.
-    fn read<R: Files + AllocGlobal>(
-        rt: &R,
-        known: &Known,
-        entry: Entry<'a>,
-        before: &Named,
-    ) -> Result<Wanted<'a>> {
+    fn read(alloc: Global, known: &Known, entry: Entry<'a>, before: &Named) -> Result<Wanted<'a>> {
         Ok(Wanted {
             may_be_begun: entry.flag("begun")?,
-            cuts: cuts(rt.alloc(), entry)?,
-            answer: answer(rt, known, entry, before)?,
+            cuts: cuts(alloc, entry)?,
+            answer: answer(alloc, known, entry, before)?,
         })
     }
-}
-
-fn shelf<R: Files + AllocGlobal>(rt: &R, shared: &Shared, entry: Entry) -> Result<Named> {
-    with(rt, &shared.known, entry.entry("shelf")?, &shared.shelf)
 }
 
 // The sizes of pieces, or 0, for any size, where none is given.
@@ -144,19 +135,24 @@ fn pieces(alloc: Global, entry: Entry) -> Result<Vec<u32>> {
     Ok(pieces)
 }
 
-fn calls(alloc: Global, entry: Option<Entry>) -> Result<Calls> {
-    let mut calls = Calls {
-        reads: Vec::new(alloc),
-        writes: Vec::new(alloc),
-        notes: Vec::new(alloc),
-        shelf: Vec::new(alloc),
-    };
+impl Faults {
+    fn read(alloc: Global, entry: Entry) -> Result<Faults> {
+        Ok(Faults {
+            fails: calls(alloc, entry.entry("fails")?)?,
+            each: each(alloc, entry.entry("each_fails")?)?,
+        })
+    }
+}
+
+fn calls(alloc: Global, entry: Option<Entry>) -> Result<Vec<(Object, u32)>> {
+    let mut calls = Vec::new(alloc);
     if let Some(entry) = entry {
         entry.has_only(&OBJECTS)?;
-        calls.reads = entry.numbers(alloc, "reads")?;
-        calls.writes = entry.numbers(alloc, "writes")?;
-        calls.notes = entry.numbers(alloc, "notes")?;
-        calls.shelf = entry.numbers(alloc, "shelf")?;
+        for (key, object) in OBJECTS.iter().zip(ALL_OBJECTS) {
+            for number in &entry.numbers(alloc, key)? {
+                calls.push((object, *number))?;
+            }
+        }
     }
     Ok(calls)
 }
@@ -174,13 +170,7 @@ fn each(alloc: Global, entry: Option<Entry>) -> Result<Vec<(Object, u32)>> {
     Ok(each)
 }
 
-fn answer<R: Files + AllocGlobal>(
-    rt: &R,
-    known: &Known,
-    entry: Entry,
-    before: &Named,
-) -> Result<Answer> {
-    let alloc = rt.alloc();
+fn answer(alloc: Global, known: &Known, entry: Entry, before: &Named) -> Result<Answer> {
     let status = u8::try_from(entry.number("status")?.unwrap_or(0)).ok();
     let status = status.context("no status")?;
     let taken = entry.number("taken")?.map(|taken| taken as usize);
@@ -191,7 +181,7 @@ fn answer<R: Files + AllocGlobal>(
         out: out(alloc, known, entry)?,
         notes: notes(alloc, line)?,
         taken,
-        shelf: with(rt, known, after, before)?,
+        shelf: with(alloc, known, after, before)?,
     })
 }
 

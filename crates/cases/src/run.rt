@@ -8,26 +8,6 @@ use std::collections::BTreeMap;
 use vms_cli::{Words, vmstate};
 use vms_io::{FetchFault, MemShelf, MemSink, MemSource, Shelf, Source};
 
-/// The numbers of failing calls, counted from 1.
-#[derive(Drop)]
-pub(crate) struct Calls {
-    pub reads: Vec<u32>,
-    pub writes: Vec<u32>,
-    pub notes: Vec<u32>,
-    pub shelf: Vec<u32>,
-}
-
-impl Calls {
-    fn of(&self, object: Object) -> &[u32] {
-        match object {
-            Object::Reads => &self.reads,
-            Object::Writes => &self.writes,
-            Object::Notes => &self.notes,
-            Object::Shelf => &self.shelf,
-        }
-    }
-}
-
 /// An object of the outside, whose calls may fail.
 #[derive(Clone, Copy, Debug, PartialEq, Eq)]
 pub(crate) enum Object {
@@ -44,9 +24,8 @@ pub(crate) struct Outside<'a, 'b> {
     pub input: &'a [u8],
     /// The greatest size of a read; 0 for any.
     pub piece: u32,
-    /// The calls that fail, or the one that fails alone.
-    pub fails: &'a Calls,
-    pub alone: Option<(Object, u32)>,
+    /// The calls that fail, counted from 1 for each object.
+    pub fails: &'a [(Object, u32)],
     /// The bytes for which out and notes have room.
     pub rooms: (u32, u32),
     pub shelf: &'a Named,
@@ -112,12 +91,11 @@ fn words(alloc: Global, given: &[&str]) -> Option<Words> {
 
 // The numbers of an object's failing calls.
 fn failing(alloc: Global, outside: &Outside, object: Object) -> Result<Vec<u32>> {
-    let Some((alone, number)) = outside.alone else {
-        return Ok(outside.fails.of(object).to_vec(alloc)?);
-    };
     let mut numbers = Vec::new(alloc);
-    if alone == object {
-        numbers.push(number)?;
+    for (failing, number) in outside.fails {
+        if *failing == object {
+            numbers.push(*number)?;
+        }
     }
     Ok(numbers)
 }

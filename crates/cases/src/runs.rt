@@ -5,7 +5,7 @@ use crate::case::{Case, Cut, Shared, notes};
 use crate::run::{Object, Outside, answer};
 use crate::shelf::copied;
 use anyhow::Result;
-use std::alloc::Global;
+use std::alloc::{AllocError, Global};
 
 /// One run of a case.
 #[derive(Drop)]
@@ -22,10 +22,10 @@ pub(crate) fn runs(alloc: Global, case: &Case) -> Result<Vec<Run>> {
     let mut runs = Vec::new(alloc);
     let whole = case.call.input.len();
     for piece in &case.call.pieces {
-        if case.call.each_fails.is_empty() {
+        if case.call.faults.each.is_empty() {
             runs.push(run_of(*piece, whole, None))?;
         }
-        for (object, last) in &case.call.each_fails {
+        for (object, last) in &case.call.faults.each {
             for number in 1..=*last {
                 runs.push(run_of(*piece, whole, Some((*object, number))))?;
             }
@@ -64,8 +64,10 @@ fn outside<'a, 'b>(shared: &'a Shared<'b>, case: &'a Case<'b>, run: &'a Run) -> 
         words: case.call.words.as_ref().unwrap_or(&shared.words).as_slice(),
         input: case.call.input.get(..run.long).unwrap_or(&[]),
         piece: run.piece,
-        fails: &case.call.fails,
-        alone: run.alone,
+        fails: match &run.alone {
+            Some(alone) => std::slice::from_ref(alone),
+            None => case.call.faults.fails.as_slice(),
+        },
         rooms: case.call.rooms,
         shelf: &case.call.shelf,
         names: &case.wanted.answer.shelf,
@@ -107,23 +109,35 @@ fn line_at<'a>(cuts: &[Cut<'a>], long: usize) -> &'a str {
 // A difference in three lines.
 fn told(alloc: Global, case: &Case, run: &Run, came: &Answer, wanted: &Answer) -> Result<String> {
     let name = case.name;
-    let label = label(alloc, case, run)?;
+    let piece = piece_text(alloc, run.piece)?;
+    let cut = cut_text(alloc, case, run.long)?;
+    let alone = alone_text(alloc, run.alone)?;
     let wanted = wanted.line(alloc)?;
     let came = came.line(alloc)?;
-    Ok(format!(in alloc; "  {name}{label}\n    wanted: {wanted}\n    came:   {came}\n")?)
+    Ok(format!(in alloc;
+        "  {name}{piece}{cut}{alone}\n    wanted: {wanted}\n    came:   {came}\n"
+    )?)
 }
 
-// What is particular to a run.
-fn label(alloc: Global, case: &Case, run: &Run) -> Result<String> {
-    let mut label = String::new(alloc);
-    if run.piece > 0 {
-        label.push_str(&format!(in alloc; ", in pieces of {}", run.piece)?)?;
+// What is particular to a run: the size of its pieces, how much of the input there is, and the call that fails.
+
+fn piece_text(alloc: Global, piece: u32) -> Result<String, AllocError> {
+    match piece {
+        0 => Ok(String::new(alloc)),
+        piece => format!(in alloc; ", in pieces of {piece}"),
     }
-    if run.long < case.call.input.len() {
-        label.push_str(&format!(in alloc; ", cut at {}", run.long)?)?;
+}
+
+fn cut_text(alloc: Global, case: &Case, long: usize) -> Result<String, AllocError> {
+    if long < case.call.input.len() {
+        return format!(in alloc; ", cut at {long}");
     }
-    if let Some((object, number)) = run.alone {
-        label.push_str(&format!(in alloc; ", {object:?} failing at {number}")?)?;
+    Ok(String::new(alloc))
+}
+
+fn alone_text(alloc: Global, alone: Option<(Object, u32)>) -> Result<String, AllocError> {
+    match alone {
+        Some((object, number)) => format!(in alloc; ", {object:?} failing at {number}"),
+        None => Ok(String::new(alloc)),
     }
-    Ok(label)
 }

@@ -5,8 +5,6 @@ use crate::entry::Entry;
 use anyhow::{Context, Result};
 use std::alloc::Global;
 use std::collections::BTreeMap;
-use std::fs;
-use std::rt::Files;
 
 /// The same bytes by the same names.
 pub(crate) fn copied(alloc: Global, named: &Named) -> Result<Named> {
@@ -25,59 +23,45 @@ pub(crate) fn put(alloc: Global, named: &mut Named, name: &str, bytes: Vec<u8>) 
 }
 
 /// What lies on a shelf once what a table names is put beside what lay there.
-pub(crate) fn with<R: Files + AllocGlobal>(
-    rt: &R,
+pub(crate) fn with(
+    alloc: Global,
     known: &Known,
     table: Option<Entry>,
     before: &Named,
 ) -> Result<Named> {
-    let mut shelf = copied(rt.alloc(), before)?;
+    let mut shelf = copied(alloc, before)?;
     if let Some(table) = table {
-        put_all(rt, known, table, &mut shelf)?;
+        put_all(alloc, known, table, &mut shelf)?;
     }
     Ok(shelf)
 }
 
-fn put_all<R: Files + AllocGlobal>(
-    rt: &R,
-    known: &Known,
-    table: Entry,
-    shelf: &mut Named,
-) -> Result<()> {
-    let names = table.names(rt.alloc())?;
+fn put_all(alloc: Global, known: &Known, table: Entry, shelf: &mut Named) -> Result<()> {
+    let names = table.names(alloc)?;
     for name in &names {
         let content = table.entry(name)?.context("nothing under a name")?;
-        put(rt.alloc(), shelf, name, content_of(rt, known, content)?)?;
+        put(alloc, shelf, name, content_of(alloc, known, content)?)?;
     }
     Ok(())
 }
 
 // What a content stands for, so many times.
-fn content_of<R: Files + AllocGlobal>(rt: &R, known: &Known, content: Entry) -> Result<Vec<u8>> {
-    content.has_only(&["text", "bytes", "file", "times"])?;
+fn content_of(alloc: Global, known: &Known, content: Entry) -> Result<Vec<u8>> {
+    content.has_only(&["text", "bytes", "times"])?;
     let times = content.number("times")?.unwrap_or(1);
-    let once = once(rt, known, content)?;
-    let mut bytes = Vec::new(rt.alloc());
+    let once = once(alloc, known, content)?;
+    let mut bytes = Vec::new(alloc);
     for _ in 0..times {
         bytes.extend_from_slice(&once)?;
     }
     Ok(bytes)
 }
 
-// A text, a row of bytes, or a file beside the topics.
-fn once<R: Files + AllocGlobal>(rt: &R, known: &Known, content: Entry) -> Result<Vec<u8>> {
-    let alloc = rt.alloc();
-    if let Some(file) = content.text("file")? {
-        return file_of(rt, file);
-    }
+// A text or a row of bytes.
+fn once(alloc: Global, known: &Known, content: Entry) -> Result<Vec<u8>> {
     if let Some(row) = content.text("bytes")? {
         return known.bytes(alloc, row);
     }
     let text = content.text("text")?.unwrap_or("");
     Ok(text.as_bytes().to_vec(alloc)?)
-}
-
-/// The bytes of a file beside the topics.
-pub(crate) fn file_of<R: Files + AllocGlobal>(rt: &R, file: &str) -> Result<Vec<u8>> {
-    Ok(fs::read(rt, file).context(format_args!("reading {file}"))?)
 }

@@ -4,9 +4,9 @@ use crate::bytes::{Known, Named};
 use crate::case::{Case, Shared};
 use crate::entry::Entry;
 use crate::runs::{difference, runs};
-use crate::shelf::{file_of, put, with};
+use crate::shelf::{put, with};
 use anyhow::{Context, Result};
-use std::alloc::Global;
+use std::alloc::{AllocError, Global};
 use std::collections::BTreeMap;
 use std::fs;
 use std::rt::Files;
@@ -27,8 +27,12 @@ pub(crate) fn is_as_wanted<R: Files + AllocGlobal + Print>(rt: &R, name: &str) -
     let table = table_of(rt, name)?;
     let topic = Entry::new(&table);
     topic.has_only(&["about", "wrong", "words", "bytes", "files", "shelf", "case"])?;
-    let tally = run_cases(rt, topic).context(format_args!("in {name}"))?;
-    tell(rt, name, topic, &tally)
+    let files = files(rt, topic.entry("files")?)?;
+    let tally = run_cases(rt.alloc(), topic, files).context(format_args!("in {name}"))?;
+    let about = topic.text("about")?.unwrap_or("");
+    let text = tally.text(rt.alloc(), name, about)?;
+    print!(rt; "{text}")?;
+    Ok(tally.is_wanted(topic.flag("wrong")?))
 }
 
 fn table_of<R: Files + AllocGlobal>(rt: &R, name: &str) -> Result<Table> {
@@ -38,9 +42,8 @@ fn table_of<R: Files + AllocGlobal>(rt: &R, name: &str) -> Result<Table> {
     Ok(toml::table_from_str(alloc, &text).context(format_args!("in {path}"))?)
 }
 
-fn run_cases<R: Files + AllocGlobal>(rt: &R, topic: Entry) -> Result<Tally> {
-    let alloc = rt.alloc();
-    let mut shared = shared(rt, topic)?;
+fn run_cases(alloc: Global, topic: Entry, files: Named) -> Result<Tally> {
+    let mut shared = shared(alloc, topic, files)?;
     let mut tally = Tally {
         cases: 0,
         runs: 0,
@@ -49,42 +52,42 @@ fn run_cases<R: Files + AllocGlobal>(rt: &R, topic: Entry) -> Result<Tally> {
     };
     let entries = topic.entries(alloc, "case")?;
     for entry in &entries {
-        one_case(rt, *entry, &mut shared, &mut tally)?;
+        one_case(alloc, *entry, &mut shared, &mut tally)?;
     }
     Ok(tally)
 }
 
-fn one_case<R: Files + AllocGlobal>(
-    rt: &R,
-    entry: Entry,
-    shared: &mut Shared,
-    tally: &mut Tally,
-) -> Result<()> {
-    let case = Case::read(rt, shared, entry).context(format_args!("case {}", tally.cases))?;
-    run_case(rt.alloc(), shared, &case, tally)
+fn one_case(alloc: Global, entry: Entry, shared: &mut Shared, tally: &mut Tally) -> Result<()> {
+    let case = Case::read(alloc, shared, entry).context(format_args!("case {}", tally.cases))?;
+    run_case(alloc, shared, &case, tally)
 }
 
-fn tell<R: Print>(rt: &R, name: &str, topic: Entry, tally: &Tally) -> Result<bool> {
-    let about = topic.text("about")?.unwrap_or("");
-    let is_wrong = topic.flag("wrong")?;
-    let Tally {
-        cases,
-        runs,
-        different,
-        differences,
-    } = tally;
-    println!(rt; "{name}: {cases} cases, {runs} runs, {different} different ({about})")?;
-    print!(rt; "{differences}")?;
-    Ok(*different == if is_wrong { *cases } else { 0 })
+impl Tally {
+    // Tells whether as many cases differ as must.
+    fn is_wanted(&self, is_wrong: bool) -> bool {
+        self.different == if is_wrong { self.cases } else { 0 }
+    }
+
+    // What is printed of a topic.
+    fn text(&self, alloc: Global, name: &str, about: &str) -> Result<String, AllocError> {
+        let Tally {
+            cases,
+            runs,
+            different,
+            differences,
+        } = self;
+        format!(in alloc;
+            "{name}: {cases} cases, {runs} runs, {different} different ({about})\n{differences}"
+        )
+    }
 }
 
-fn shared<'a, R: Files + AllocGlobal>(rt: &R, topic: Entry<'a>) -> Result<Shared<'a>> {
-    let alloc = rt.alloc();
+fn shared<'a>(alloc: Global, topic: Entry<'a>, files: Named) -> Result<Shared<'a>> {
     let known = Known {
         rows: topic.entry("bytes")?,
-        outs: files(rt, topic.entry("files")?)?,
+        outs: files,
     };
-    let shelf = with(rt, &known, topic.entry("shelf")?, &BTreeMap::new(alloc))?;
+    let shelf = with(alloc, &known, topic.entry("shelf")?, &BTreeMap::new(alloc))?;
     let words = topic.texts(alloc, "words")?;
     Ok(Shared {
         words: words.unwrap_or_else(|| Vec::new(alloc)),
@@ -100,7 +103,8 @@ fn files<R: Files + AllocGlobal>(rt: &R, table: Option<Entry>) -> Result<Named> 
         let names = table.names(rt.alloc())?;
         for name in &names {
             let file = table.text(name)?.context("no file under a name")?;
-            put(rt.alloc(), &mut files, name, file_of(rt, file)?)?;
+            let bytes = fs::read(rt, file).context(format_args!("reading {file}"))?;
+            put(rt.alloc(), &mut files, name, bytes)?;
         }
     }
     Ok(files)

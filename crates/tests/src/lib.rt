@@ -9,12 +9,18 @@ mod hooks;
 #[cfg(test)]
 mod kinds;
 #[cfg(test)]
+mod loads;
+#[cfg(test)]
 mod marks;
 #[cfg(test)]
 mod outside;
+#[cfg(test)]
+mod parts;
 #[cfg(test)]
 mod pic;
 #[cfg(test)]
 mod pit;
 #[cfg(test)]
 mod set_files;
+#[cfg(test)]
+mod sets;
