@@ -1,5 +1,6 @@
-//! Tests of what no command reaches: the bytes of kinds and marks, the real objects of the outside, a set that is written as a
-//! file, hooks, scripts, and the devices.
+//! Tests of what no command reaches: where cells lie in sets and stand in images, loads one after the other, parts that no file
+//! says, a set that is written as a file, the bytes of kinds and marks, the real objects of the outside, hooks, and what no board
+//! shows of the devices.
 //!
 //! They stand apart from the crates that they test, since a crate with tests is proved twice.
 #![tactic(auto)]

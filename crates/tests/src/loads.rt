@@ -106,7 +106,7 @@ fn load_all(
         return Err("no image".into());
     };
     for (cell, number) in numbers.iter().enumerate() {
-        let cell = cell as u32;
+        let cell = u32::try_from(cell).ok().ok_or("a cell")?;
         assert!(rt; cell < image.len());
         assert!(rt; image.get(cell) == *number);
     }
