@@ -16,8 +16,6 @@ use vms_boards::{drill_board, load_board, play_board, save_board};
 use vms_io::{Shelf, Sink, Source, write_all_of};
 use vms_outcome::Ending;
 
-const WRITE_FAULT: u8 = 6;
-
 /// Runs the command that the words name over the input, out, notes and the shelf, and answers the status.
 ///
 /// | status | meaning |
@@ -74,7 +72,7 @@ fn tell<N: Sink>(notes: &mut N, ending: &Ending) -> u8
     }
     match write_all_of(notes, ending.line()) {
         Ok(()) => ending.status(),
-        Err(_) => WRITE_FAULT,
+        Err(_) => Ending::WriteFault.status(),
     }
 }
 

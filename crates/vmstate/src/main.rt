@@ -2,6 +2,8 @@
 #![tactic(auto)]
 
 ghost use Rattle.std.specs.Prelude.{◌≡◌, if◌then◌else◌};
+ghost use Rattle.vms_outcome.specs.declared.ending.Ending.TheVariants as endings;
+ghost use Rattle.vms_outcome.specs.Endings.{status_of};
 
 use std::alloc::Global;
 use std::env;
@@ -9,18 +11,15 @@ use std::io::ErrorKind;
 use std::process::ExitCode;
 use vms_cli::{Words, vmstate};
 use vms_io::{FileShelf, NoMemory, Sink, StdSink, StdSource, write_all_of};
-
-const OUT_OF_MEMORY: u8 = 10;
-
-const WRITE_FAULT: u8 = 6;
+use vms_outcome::Ending;
 
 fn main(rt: HostRuntime) -> ExitCode {
     let alloc = rt.alloc();
     let Ok(words) = words(&rt, alloc) else {
-        return ExitCode::from(OUT_OF_MEMORY);
+        return ExitCode::from(Ending::NoMemory.status());
     };
     let Ok(mut shelf) = shelf(&rt, alloc) else {
-        return ExitCode::from(OUT_OF_MEMORY);
+        return ExitCode::from(Ending::NoMemory.status());
     };
     let mut input = StdSource::new(rt.stdin());
     let mut out = StdSink::new(rt.stdout());
@@ -55,13 +54,14 @@ fn shelf(rt: &HostRuntime, alloc: Global) -> Result<FileShelf<HostRuntime>, NoMe
 
 // The status, or that of a write fault where the last bytes of out weren't taken.
 fn late_status<N: Sink>(status: u8, flushed: bool, notes: &mut N) -> u8
-    ensures { result ≡ (if flushed then status else WRITE_FAULT) }
+    ensures { result ≡ (if flushed then status else status_of endings.WriteFault) }
 {
     if flushed {
         return status;
     }
-    if status != WRITE_FAULT {
-        let _told = write_all_of(notes, b"write fault\n");
+    let fault = Ending::WriteFault;
+    if status != fault.status() {
+        let _told = write_all_of(notes, fault.line());
     }
-    WRITE_FAULT
+    fault.status()
 }
