@@ -1,5 +1,5 @@
 -- Images of numbers, made cell by cell and subsection by subsection.
-use Rattle.std.proofs.Common.{map, Some, subst, ◌≡◌, ℕ, zero, suc, ◌+◌, ◌<◌, ◌≤◌, List, [], ◌∷◌, length, get_or, None, ℤ, pos, refl, sym, ap, ◌∙◌, arith}
+use Rattle.std.proofs.Common.{map, Some, subst, ◌≡◌, ℕ, zero, suc, ◌+◌, ◌<◌, ◌≤◌, List, [], ◌∷◌, ◌++◌, length, get_or, None, ℤ, pos, refl, sym, ap, ◌∙◌, arith}
 use Rattle.std.proofs.lemmas.List.{ext_get_or}
 use Rattle.vms_desc.specs.Described.{device_at}
 use Rattle.vms_image.proofs.Made.{same_image}
@@ -88,6 +88,13 @@ five_images set a b c d e l = sym (five-devices set set.devices a b c d e l)
 -- the same with the kinds of their cells
 abbrev pub typed_five : Set → List ℤ → List ℤ → List ℤ → List ℤ → List ℤ → List Typed
 typed_five set a b c d e = typed_of set 0 a ∷ typed_of set 1 b ∷ typed_of set 2 c ∷ typed_of set 3 d ∷ typed_of set 4 e ∷ []
+
+-- five images that were appended one after the other
+pub five_appended : (a b c d e f : List Typed) (v w x y z : Typed) → a ≡ [] → b ≡ a ++ v ∷ [] → c ≡ b ++ w ∷ [] → d ≡ c ++ x ∷ [] → e ≡ d ++ y ∷ []
+    → f ≡ e ++ z ∷ [] → f ≡ v ∷ w ∷ x ∷ y ∷ z ∷ []
+five_appended a b c d e f v w x y z n p q r s t =
+    let then : (more : List Typed) (l m : List Typed) → l ≡ m → l ++ more ≡ m ++ more = λ more l m same. ap (λ (k : List Typed). k ++ more) same in
+    t ∙ then (z ∷ []) e _ (s ∙ then (y ∷ []) d _ (r ∙ then (x ∷ []) c _ (q ∙ then (w ∷ []) b _ (p ∙ then (v ∷ []) a [] n))))
 
 -- the images that were made of the cells of a board's devices
 pub five_are : (set : Set) (cells : BoardCells) (v w x y z : Typed) (a b c d e : List ℤ)

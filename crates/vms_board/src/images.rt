@@ -25,13 +25,13 @@ pub(crate) fn images(
         IfOk result (λ images. map state_of images.items ≡ all) }
     ensures of { IfOk result (λ images. AreImagesOf (described set.now) images.items) }
 {
-    Ok(vec![in alloc;
-        image(alloc, set, 0, &cells.timer)?,
-        image(alloc, set, 1, &cells.master)?,
-        image(alloc, set, 2, &cells.slave)?,
-        image(alloc, set, 3, &cells.pit)?,
-        image(alloc, set, 4, &cells.serial)?,
-    ]?)
+    let mut images = Vec::with_capacity(alloc, 5)?;
+    images.push(image(alloc, set, 0, &cells.timer)?)?;
+    images.push(image(alloc, set, 1, &cells.master)?)?;
+    images.push(image(alloc, set, 2, &cells.slave)?)?;
+    images.push(image(alloc, set, 3, &cells.pit)?)?;
+    images.push(image(alloc, set, 4, &cells.serial)?)?;
+    Ok(images)
 }
 
 // The image of a device with these numbers.
