@@ -17,13 +17,18 @@ pub(crate) fn read_event(word: &[u8], rest: &[u8]) -> Option<Result<Event, Scrip
     ensures { (play : Option ℕ) → line_of_words play word.now rest.now
         ≡ event_or (play_line play word.now rest.now) result }
 {
-    match word {
-        b"in" => Some(read_in(rest)),
-        b"out" => Some(read_out(rest)),
-        b"byte" => Some(read_byte(rest)),
-        b"wait" => Some(read_wait(rest)),
-        b"wire" => Some(read_wire(rest)),
-        _ => None,
+    if word == b"in".as_slice() {
+        Some(read_in(rest))
+    } else if word == b"out".as_slice() {
+        Some(read_out(rest))
+    } else if word == b"byte".as_slice() {
+        Some(read_byte(rest))
+    } else if word == b"wait".as_slice() {
+        Some(read_wait(rest))
+    } else if word == b"wire".as_slice() {
+        Some(read_wire(rest))
+    } else {
+        None
     }
 }
 
