@@ -3,8 +3,9 @@
 #![tactic(auto)]
 
 mod chips;
+mod made;
+mod rows;
 mod serial;
 mod sets;
-mod words;
 
 pub use sets::shipped_parts;

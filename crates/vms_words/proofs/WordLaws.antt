@@ -1,5 +1,6 @@
 -- A kind and its word tell one another.
-use Rattle.std.proofs.Common.{◌≡◌, ℕ, List, Bool, true, false, Option, Some, if◌then◌else◌, refl, ap, ◌∙◌}
+use Rattle.std.proofs.Common.{◌≡◌, ℕ, ◌+◌, ◌<◌, ◌≤◌, List, [], ◌∷◌, length, get_or, drop, Bool, true, false, Option, Some, None, if◌then◌else◌, refl, sym, ap, ◌∙◌, subst}
+use Rattle.std.proofs.lemmas.List.{drop_more, drop_all}
 use Rattle.std.proofs.lemmas.Slice.Eq.{bytes_eq-Decides}
 use Rattle.std.specs.Str.{bytes_eq}
 use Rattle.vms_kinds.specs.declared.Kind.{Kind}
@@ -38,3 +39,29 @@ word_named kinds.Timer = refl
 
 pub tells_kind : (word : List ℕ) → TellsKind word (kind_named word)
 tells_kind word kind = (has_word word kind, λ same. ap kind_named same ∙ word_named kind)
+
+pub told : (word : List ℕ) (named : Option Kind) → kind_named word ≡ named → TellsKind word named
+told word named e = subst (TellsKind word) e (tells_kind word)
+
+-- ---- the kinds tried one by one
+
+-- the first of these kinds that has the word
+abbrev pub named_in : List ℕ → List Kind → Option Kind
+named_in word [] = None
+named_in word (kind ∷ kinds) = kind_if word kind (named_in word kinds)
+
+-- a kind is tried: it has the word, or the kinds after it are left
+pub this_kind : (word text : List ℕ) (kinds : List Kind) (i : ℕ) (d : Kind) → i < length kinds → text ≡ kind_word (get_or kinds i d)
+    → bytes_eq word text ≡ true → named_in word (drop i kinds) ≡ Some (get_or kinds i d)
+this_kind word text kinds i d lt e same =
+    ap (named_in word) (drop_more kinds i d lt)
+    ∙ ap (λ (b : Bool). if b then Some (get_or kinds i d) else named_in word (drop (i + 1) kinds)) (ap (bytes_eq word) (sym e) ∙ same)
+
+pub other_kind : (word text : List ℕ) (kinds : List Kind) (i : ℕ) (d : Kind) → i < length kinds → text ≡ kind_word (get_or kinds i d)
+    → bytes_eq word text ≡ false → named_in word (drop i kinds) ≡ named_in word (drop (i + 1) kinds)
+other_kind word text kinds i d lt e same =
+    ap (named_in word) (drop_more kinds i d lt)
+    ∙ ap (λ (b : Bool). if b then Some (get_or kinds i d) else named_in word (drop (i + 1) kinds)) (ap (bytes_eq word) (sym e) ∙ same)
+
+pub no_kind : (word : List ℕ) (kinds : List Kind) (i : ℕ) → length kinds ≤ i → named_in word (drop i kinds) ≡ None
+no_kind word kinds i h = ap (named_in word) (drop_all i kinds h)

@@ -10,6 +10,19 @@ mod line;
 pub use line::{NextLine, append, next_line};
 use vms_kinds::Kind;
 
+const KINDS: [Kind; 10] = [
+    Kind::U8,
+    Kind::U16,
+    Kind::U32,
+    Kind::U64,
+    Kind::I8,
+    Kind::I16,
+    Kind::I32,
+    Kind::I64,
+    Kind::Bool,
+    Kind::Timer,
+];
+
 /// The word of a kind.
 pub fn kind_word(kind: Kind) -> &'static str
     ensures { result.now ≡ kind_word kind }
@@ -29,32 +42,14 @@ pub fn kind_word(kind: Kind) -> &'static str
 }
 
 /// The kind of a word, or `None` exactly for any other text.
-#[tactic(auto, using(crate::proofs::WordLaws::tells_kind))]
 pub fn kind_named(word: &str) -> Option<Kind>
     ensures kind { result ≡ kind_named word.now }
     ensures right { TellsKind word.now result }
 {
-    if word == "u8" {
-        Some(Kind::U8)
-    } else if word == "u16" {
-        Some(Kind::U16)
-    } else if word == "u32" {
-        Some(Kind::U32)
-    } else if word == "u64" {
-        Some(Kind::U64)
-    } else if word == "i8" {
-        Some(Kind::I8)
-    } else if word == "i16" {
-        Some(Kind::I16)
-    } else if word == "i32" {
-        Some(Kind::I32)
-    } else if word == "i64" {
-        Some(Kind::I64)
-    } else if word == "bool" {
-        Some(Kind::Bool)
-    } else if word == "timer" {
-        Some(Kind::Timer)
-    } else {
-        None
+    for kind in KINDS {
+        if word == kind_word(kind) {
+            return Some(kind);
+        }
     }
+    None
 }

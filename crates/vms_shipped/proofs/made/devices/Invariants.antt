@@ -1,0 +1,7 @@
+use Rattle.std.proofs.Common.{◌≡◌, map, take}
+use Rattle.vms_parts.specs.Views.{device_of}
+use Rattle.vms_shipped.specs.Rows.{device_in}
+use Rattle.vms_shipped.proofs.made.devices.Given as goal
+
+abbrev pub invariant-loop-row : goal.invariant-loop-row
+invariant-loop-row l = map device_of l.devices.items ≡ map device_in (take l.row-index l.rows)

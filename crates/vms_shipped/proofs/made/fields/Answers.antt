@@ -1,0 +1,8 @@
+use Rattle.std.proofs.Common.{refl}
+use Rattle.vms_shipped.specs.Rows.{fields_in, all_in}
+use Rattle.vms_shipped.proofs.RowLaws.{one_less}
+use Rattle.vms_shipped.proofs.made.fields.Goals as goal
+
+pub loop-row-preserved : goal.loop-row-preserved
+loop-row-preserved c =
+    one_less fields_in all_in (λ x xs. refl) c.args.rows.now _ _ _ _ _ c.loop-row-test.true c.in_ok-put.ensures c.loop-row.invariant

@@ -1,0 +1,7 @@
+use Rattle.std.proofs.Common.{◌≡◌, ◌++◌, map, drop}
+use Rattle.vms_parts.specs.Views.{field_of}
+use Rattle.vms_shipped.specs.Rows.{all_in}
+use Rattle.vms_shipped.proofs.made.fields.Given as goal
+
+abbrev pub invariant-loop-row : goal.invariant-loop-row
+invariant-loop-row l = map field_of l.fields.items ++ all_in (drop l.row-index l.rows) ≡ all_in l.rows

@@ -1,0 +1,7 @@
+use Rattle.std.proofs.Common.{◌≡◌, map, take}
+use Rattle.vms_parts.specs.Views.{sub_of}
+use Rattle.vms_shipped.specs.Rows.{sub_in}
+use Rattle.vms_shipped.proofs.made.subs.Given as goal
+
+abbrev pub invariant-loop-row : goal.invariant-loop-row
+invariant-loop-row l = map sub_of l.subs.items ≡ map sub_in (take l.row-index l.rows)

@@ -1,0 +1,183 @@
+// The parts that rows of tables stand for.
+ghost use Rattle.std.specs.Prelude.{◌≡◌, ◌++◌, map, IfOk, OnOk};
+ghost use Rattle.vms_spec.specs.Sets as sets;
+ghost use Rattle.vms_spec.specs.Shipped.{numbers};
+ghost use Rattle.vms_parts.specs.Views.{formula, field_of, desc_of, device_of, sub_of, set_of};
+ghost use Rattle.vms_shipped.specs.Rows.{field_in, fields_in, all_in, desc_in, asked_in, needed_in, sub_in, device_in, set_in};
+
+use crate::rows::{Asked, BYTE, DescRow, DeviceRow, FieldRow, Needed, Rows, SetRow, SubRow};
+use std::alloc::Global;
+use vms_io::NoMemory;
+use vms_kinds::{Item, Kind};
+use vms_parts::{Desc, Device, Field, Listed, Parts, Rel, Sub, Test, Text, Whose};
+
+fn text(alloc: Global, bytes: &str) -> Result<Text, NoMemory>
+    ensures { IfOk result (λ t. t ≡ bytes.now) }
+{
+    Ok(Text::new(String::from_str(alloc, bytes)?))
+}
+
+// A text for each of these.
+fn texts(alloc: Global, names: &[&str]) -> Result<Listed<Text>, NoMemory>
+    ensures { IfOk result (λ made. made ≡ map (λ n. n.now) names.now) }
+{
+    let mut made = Vec::new(alloc);
+    for name in names {
+        made.push(text(alloc, name)?)?;
+    }
+    Ok(Listed::new(made))
+}
+
+// Whether a field of the description's own is so.
+fn test(asked: Asked) -> Test
+    ensures { formula result ≡ asked_in asked }
+{
+    Test::Cell {
+        whose: Whose::Own,
+        field: asked.field,
+        mask: asked.mask,
+        rel: asked.rel,
+        value: asked.value,
+    }
+}
+
+fn field(alloc: Global, row: &FieldRow) -> Result<Field, NoMemory>
+    ensures { IfOk result (λ f. field_of f ≡ field_in row.now) }
+{
+    Ok(Field {
+        name: text(alloc, row.name)?,
+        former: texts(alloc, row.former)?,
+        item: row.item,
+        count: row.count,
+        since: row.since,
+        test: row.asked.map(test),
+        default: row.default,
+    })
+}
+
+// Puts a number of this kind for each name after the fields that are there.
+fn put_numbers(
+    alloc: Global,
+    fields: &mut Vec<Field>,
+    kind: Kind,
+    names: &'static [&'static str],
+) -> Result<(), NoMemory>
+    ensures { OnOk result (map field_of fields.new.items
+        ≡ map field_of fields.old.items ++ numbers kind (map (λ n. n.now) names.now)) }
+{
+    for name in names {
+        let row = FieldRow {
+            name: *name,
+            item: Item::Num(kind),
+            ..BYTE
+        };
+        fields.push(field(alloc, &row)?)?;
+    }
+    Ok(())
+}
+
+// Puts the fields of a row after those that are there.
+fn put(alloc: Global, fields: &mut Vec<Field>, rows: &Rows) -> Result<(), NoMemory>
+    ensures { OnOk result
+        (map field_of fields.new.items ≡ map field_of fields.old.items ++ fields_in rows.now) }
+{
+    match rows {
+        Rows::Numbers(kind, names) => put_numbers(alloc, fields, *kind, *names),
+        Rows::One(row) => Ok(fields.push(field(alloc, row)?)?),
+    }
+}
+
+fn fields(alloc: Global, rows: &[Rows]) -> Result<Listed<Field>, NoMemory>
+    ensures { IfOk result (λ fields. map field_of fields ≡ all_in rows.now) }
+{
+    let mut fields = Vec::new(alloc);
+    for row in rows {
+        put(alloc, &mut fields, row)?;
+    }
+    Ok(Listed::new(fields))
+}
+
+fn desc(alloc: Global, row: &DescRow) -> Result<Desc, NoMemory>
+    ensures { IfOk result (λ d. desc_of d ≡ desc_in row.now) }
+{
+    Ok(Desc {
+        name: text(alloc, row.name)?,
+        version: row.version,
+        minimum: 1,
+        fields: fields(alloc, row.rows)?,
+        validate: Listed::new(Vec::new(alloc)),
+    })
+}
+
+fn descs(alloc: Global, rows: &[DescRow]) -> Result<Listed<Desc>, NoMemory>
+    ensures { IfOk result (λ descs. map desc_of descs ≡ map desc_in rows.now) }
+{
+    let mut descs = Vec::new(alloc);
+    for row in rows {
+        descs.push(desc(alloc, row)?)?;
+    }
+    Ok(Listed::new(descs))
+}
+
+fn needed(alloc: Global, needed: Needed) -> Result<Test, NoMemory>
+    ensures { IfOk result (λ t. formula t ≡ needed_in needed) }
+{
+    match needed {
+        Needed::Only(asked) => Ok(test(asked)),
+        Needed::Either(one, other) => {
+            let one = Box::new(alloc, test(one))?;
+            let other = Box::new(alloc, test(other))?;
+            Ok(Test::Or(one, other))
+        }
+    }
+}
+
+fn sub(alloc: Global, row: &SubRow) -> Result<Sub, NoMemory>
+    ensures { IfOk result (λ s. sub_of s ≡ sub_in row.now) }
+{
+    Ok(Sub {
+        desc: desc(alloc, &row.desc)?,
+        needed: needed(alloc, row.needed)?,
+    })
+}
+
+fn subs(alloc: Global, rows: &[SubRow]) -> Result<Listed<Sub>, NoMemory>
+    ensures { IfOk result (λ subs. map sub_of subs ≡ map sub_in rows.now) }
+{
+    let mut subs = Vec::new(alloc);
+    for row in rows {
+        subs.push(sub(alloc, row)?)?;
+    }
+    Ok(Listed::new(subs))
+}
+
+fn device(alloc: Global, row: &DeviceRow) -> Result<Device, NoMemory>
+    ensures { IfOk result (λ d. device_of d ≡ device_in row.now) }
+{
+    Ok(Device {
+        instance: row.instance,
+        desc: desc(alloc, &row.desc)?,
+        subs: subs(alloc, row.subs)?,
+    })
+}
+
+fn devices(alloc: Global, rows: &[DeviceRow]) -> Result<Listed<Device>, NoMemory>
+    ensures { IfOk result (λ devices. map device_of devices ≡ map device_in rows.now) }
+{
+    let mut devices = Vec::new(alloc);
+    for row in rows {
+        devices.push(device(alloc, row)?)?;
+    }
+    Ok(Listed::new(devices))
+}
+
+/// The parts of a set.
+pub(crate) fn parts(alloc: Global, row: &SetRow) -> Result<Parts, NoMemory>
+    ensures { IfOk result (λ parts. set_of parts ≡ set_in row.now) }
+{
+    Ok(Parts {
+        machines: texts(alloc, row.machines)?,
+        structs: descs(alloc, row.structs)?,
+        devices: devices(alloc, row.devices)?,
+    })
+}
