@@ -2,7 +2,9 @@
 //! says, a set that is written as a file, the bytes of kinds and marks, the real objects of the outside, hooks, and what no board
 //! shows of the devices.
 //!
-//! They stand apart from the crates that they test, since a crate with tests is proved twice.
+//! They stand apart from the crates that they test, since a crate with tests is proved twice. Each test is proved itself, and
+//! one that holds a set, an image or a loader through its `?` and asserts is dear: so a test hands it to a function that lends it
+//! on, and rows are statics.
 #![tactic(auto)]
 
 #[cfg(test)]

@@ -18,22 +18,51 @@ fn image(rt: &impl Abort, alloc: Global, set: &DescSet) -> Result<Image, Fail> {
     Ok(Image::new(alloc, set, 0).ok().ok_or("memory")?)
 }
 
+/// Puts a number into a cell that it fits.
+fn put(rt: &impl Abort, image: &mut Image, cell: u32, number: i128) {
+    assert!(rt; cell < image.len() && image.fits(cell, number));
+    image.set(cell, number);
+}
+
+fn put_all(rt: &impl Abort, image: &mut Image, numbers: &[i128; 3]) {
+    for (cell, number) in numbers.iter().enumerate() {
+        put(rt, image, cell as u32, *number);
+    }
+}
+
+/// Tells whether an image with these numbers has these bytes.
+fn has_bytes(
+    rt: &(impl Abort + AllocGlobal),
+    set: &DescSet,
+    numbers: &[i128; 3],
+    bytes: &[u8; 6],
+) -> Result<bool, Fail> {
+    let mut image = image(rt, rt.alloc(), set)?;
+    put_all(rt, &mut image, numbers);
+    Ok(image.raw() == bytes.as_slice())
+}
+
+static IN_BYTES: [([i128; 3], [u8; 6]); 2] = [
+    ([2, 1, 65_535], [2, 0, 0, 1, 255, 255]),
+    ([0, 0, 0], [0; 6]),
+];
+
+fn all_have_bytes(rt: &(impl Abort + AllocGlobal), set: &DescSet) -> Result<bool, Fail> {
+    for (numbers, bytes) in &IN_BYTES {
+        if !has_bytes(rt, set, numbers, bytes)? {
+            return Ok(false);
+        }
+    }
+    Ok(true)
+}
+
+fn images_have_bytes(rt: &(impl Abort + AllocGlobal), set: DescSet) -> Result<bool, Fail> {
+    all_have_bytes(rt, &set)
+}
+
 #[test]
 fn an_image_has_its_numbers_in_its_bytes(rt: HostRuntime) -> Result<(), Fail> {
-    let set = set_of(rt.alloc(), COUNTED)?;
-    let rows: [([i128; 3], [u8; 6]); 2] = [
-        ([2, 1, 65_535], [2, 0, 0, 1, 255, 255]),
-        ([0, 0, 0], [0; 6]),
-    ];
-    for (numbers, bytes) in rows {
-        let mut image = image(&rt, rt.alloc(), &set)?;
-        for (cell, number) in numbers.iter().enumerate() {
-            let cell = cell as u32;
-            assert!(rt; cell < image.len() && image.fits(cell, *number));
-            image.set(cell, *number);
-        }
-        assert!(rt; image.raw() == bytes.as_slice());
-    }
+    assert!(rt; images_have_bytes(&rt, set_of(rt.alloc(), COUNTED)?)?);
     Ok(())
 }
 
@@ -47,15 +76,36 @@ fn written(alloc: Global, set: &DescSet, images: &[Image], text: Option<&str>) -
     sink.bytes().to_vec(alloc).ok()
 }
 
+fn defaults(rt: &(impl Abort + AllocGlobal), set: &DescSet) -> Result<Vec<Image>, Fail> {
+    let mut images = Vec::new(rt.alloc());
+    images.push(image(rt, rt.alloc(), set)?)?;
+    Ok(images)
+}
+
+/// The stream of a device at its defaults with a description of this text.
+fn described(
+    rt: &(impl Abort + AllocGlobal),
+    set: &DescSet,
+    text: &str,
+) -> Result<Option<Vec<u8>>, Fail> {
+    let images = defaults(rt, set)?;
+    Ok(written(rt.alloc(), set, &images, Some(text)))
+}
+
+fn defaults_described(
+    rt: &(impl Abort + AllocGlobal),
+    set: DescSet,
+    text: &str,
+) -> Result<Option<Vec<u8>>, Fail> {
+    described(rt, &set, text)
+}
+
 #[test]
 fn a_description_has_a_text_of_ones_own(rt: HostRuntime) -> Result<(), Fail> {
-    let alloc = rt.alloc();
-    let set = shipped(&rt, alloc, 0)?;
-    let images = vec![in alloc; image(&rt, alloc, &set)?]?;
-    let stream = written(alloc, &set, &images, Some("{}")).ok_or("ready")?;
     let wanted =
         b"QEVM\0\0\0\x03\x04\0\0\0\0\x05timer\0\0\0\0\0\0\0\x01\0\0\0\0\0\0\0\0\x7e\0\0\0\0\0\x06\0\0\0\x02{}";
-    assert!(rt; stream.as_slice() == wanted.as_slice());
+    let stream = defaults_described(&rt, shipped(&rt, rt.alloc(), 0)?, "{}")?;
+    assert!(rt; stream.as_deref() == Some(wanted.as_slice()));
     Ok(())
 }
 
@@ -67,51 +117,91 @@ enum Comes {
     ReadFault,
 }
 
-/// Loads bytes one by one, of which the 20th read fails where the load must end so.
-fn load_of(alloc: Global, loader: &mut Loader, bytes: &[u8], wanted: Comes) -> Result<Comes, Fail> {
+/// Bytes that come one by one, of which the 20th read fails if it must.
+fn source_of(alloc: Global, bytes: &[u8], fails: bool) -> Result<MemSource, Fail> {
     let mut pieces = Vec::new(alloc);
     for _ in bytes {
         pieces.push(1)?;
     }
     let mut failing = Vec::new(alloc);
-    if wanted == Comes::ReadFault {
+    if fails {
         failing.push(20)?;
     }
-    let mut source = MemSource::new(bytes.to_vec(alloc)?, pieces, failing);
-    Ok(match loader.load(&mut source, None) {
+    Ok(MemSource::new(bytes.to_vec(alloc)?, pieces, failing))
+}
+
+fn end_of_load(loader: &mut Loader, source: &mut MemSource) -> Comes {
+    match loader.load(source, None) {
         Ok(_) => Comes::Taken,
         Err(LoadFault::Refused(refusal)) => {
             Comes::Refused(refusal.at, refusal.section, refusal.reason)
         }
         Err(LoadFault::ReadFault) => Comes::ReadFault,
-    })
+    }
 }
 
-/// Loads streams one after the other, and then asks how many bytes were taken last, the first device's numbers, and the stream
-/// that is written of what is kept, if it is ready.
+/// Loads bytes one by one, of which the 20th read fails where the load must end so.
+fn load_of(alloc: Global, loader: &mut Loader, bytes: &[u8], wanted: Comes) -> Result<Comes, Fail> {
+    let mut source = source_of(alloc, bytes, wanted == Comes::ReadFault)?;
+    Ok(end_of_load(loader, &mut source))
+}
+
+/// How many bytes were taken last, the first device's numbers, and the stream that is written of what is kept, if it is ready.
+type Kept<'a> = (u64, &'a [i128], Option<&'a [u8]>);
+
+fn has_number(image: &Image, cell: usize, number: i128) -> bool {
+    match u32::try_from(cell) {
+        Ok(cell) => cell < image.len() && image.get(cell) == number,
+        Err(_) => false,
+    }
+}
+
+fn has_numbers(image: &Image, numbers: &[i128]) -> bool {
+    for (cell, number) in numbers.iter().enumerate() {
+        if !has_number(image, cell, *number) {
+            return false;
+        }
+    }
+    true
+}
+
+fn first_has(images: &[Image], numbers: &[i128]) -> bool {
+    match images {
+        [image, ..] => has_numbers(image, numbers),
+        [] => false,
+    }
+}
+
+fn keeps(rt: &(impl Abort + AllocGlobal), loader: &Loader, kept: Kept) {
+    let (taken, numbers, stream) = kept;
+    assert!(rt; loader.taken() == taken);
+    assert!(rt; first_has(loader.images(), numbers));
+    let written = written(rt.alloc(), loader.set(), loader.images(), None);
+    assert!(rt; written.as_deref() == stream);
+}
+
+fn load_each(
+    rt: &(impl Abort + AllocGlobal),
+    loader: &mut Loader,
+    streams: &[(&[u8], Comes)],
+) -> Result<(), Fail> {
+    for (bytes, wanted) in streams {
+        let came = load_of(rt.alloc(), loader, bytes, *wanted)?;
+        assert!(rt; came == *wanted);
+    }
+    Ok(())
+}
+
+/// Loads streams one after the other, and then asks what is kept.
 fn load_all(
     rt: &(impl Abort + AllocGlobal),
     set: DescSet,
     streams: &[(&[u8], Comes)],
-    kept: (u64, &[i128], Option<&[u8]>),
+    kept: Kept,
 ) -> Result<(), Fail> {
-    let alloc = rt.alloc();
-    let mut loader = Loader::new(alloc, set).ok().ok_or("memory")?;
-    for (bytes, wanted) in streams {
-        assert!(rt; load_of(alloc, &mut loader, bytes, *wanted)? == *wanted);
-    }
-    let (taken, numbers, stream) = kept;
-    assert!(rt; loader.taken() == taken);
-    let [image, ..] = loader.images() else {
-        return Err("no image".into());
-    };
-    for (cell, number) in numbers.iter().enumerate() {
-        let cell = u32::try_from(cell).ok().ok_or("a cell")?;
-        assert!(rt; cell < image.len());
-        assert!(rt; image.get(cell) == *number);
-    }
-    let written = written(alloc, loader.set(), loader.images(), None);
-    assert!(rt; written.as_deref() == stream);
+    let mut loader = Loader::new(rt.alloc(), set).ok().ok_or("memory")?;
+    load_each(rt, &mut loader, streams)?;
+    keeps(rt, &loader, kept);
     Ok(())
 }
 
@@ -132,7 +222,7 @@ fn a_refused_stream_leaves_the_last_one(rt: HostRuntime) -> Result<(), Fail> {
         (BAD_FOOTER, refused),
         (NONE, Comes::Taken),
     ];
-    let two: (u64, &[i128], Option<&[u8]>) = (36, &[2, 1, 65_535], Some(TWO));
+    let two: Kept = (36, &[2, 1, 65_535], Some(TWO));
     load_all(&rt, set_of(rt.alloc(), COUNTED)?, &all[..1], two)?;
     load_all(&rt, set_of(rt.alloc(), COUNTED)?, &all[..2], two)?;
     load_all(
@@ -155,24 +245,33 @@ fn what_an_older_stream_leaves_may_not_be_ready(rt: HostRuntime) -> Result<(), F
     )
 }
 
+/// A timer's stream that names its machine and has a section of its own number.
+const NAMED: &[u8] =
+    b"QEVM\0\0\0\x03\x07\0\0\0\x05isa-0\x04\0\0\0\x09\x05timer\0\0\0\0\0\0\0\x01\x7e\0\0\0\0\0\0\0\x7e\0\0\0\x09\0";
+
+/// The stream that is written of it.
+const KEPT: &[u8] =
+    b"QEVM\0\0\0\x03\x04\0\0\0\0\x05timer\0\0\0\0\0\0\0\x01\x7e\0\0\0\0\0\0\0\x7e\0\0\0\0\0";
+
+const TIMER: &[u8] =
+    b"QEVM\0\0\0\x03\x04\0\0\0\0\x05timer\0\0\0\0\0\0\0\x01\0\0\0\0\0\0\0\0\x7e\0\0\0\0\0";
+
+/// The same without its end.
+const CUT: &[u8] =
+    b"QEVM\0\0\0\x03\x04\0\0\0\0\x05timer\0\0\0\0\0\0\0\x01\0\0\0\0\0\0\0\0\x7e\0\0\0\0";
+
 #[test]
 fn a_fault_leaves_the_last_one(rt: HostRuntime) -> Result<(), Fail> {
-    let named: &[u8] =
-        b"QEVM\0\0\0\x03\x07\0\0\0\x05isa-0\x04\0\0\0\x09\x05timer\0\0\0\0\0\0\0\x01\x7e\0\0\0\0\0\0\0\x7e\0\0\0\x09\0";
-    let bare: &[u8] =
-        b"QEVM\0\0\0\x03\x04\0\0\0\0\x05timer\0\0\0\0\0\0\0\x01\0\0\0\0\0\0\0\0\x7e\0\0\0\0\0";
-    let kept: &[u8] =
-        b"QEVM\0\0\0\x03\x04\0\0\0\0\x05timer\0\0\0\0\0\0\0\x01\x7e\0\0\0\0\0\0\0\x7e\0\0\0\0\0";
     let streams = [
-        (named, Comes::Taken),
-        (&bare[..40], Comes::Refused(40, None, Reason::Truncated)),
-        (bare, Comes::ReadFault),
+        (NAMED, Comes::Taken),
+        (CUT, Comes::Refused(40, None, Reason::Truncated)),
+        (TIMER, Comes::ReadFault),
     ];
     let set = shipped(&rt, rt.alloc(), 0)?;
     load_all(
         &rt,
         set,
         &streams,
-        (51, &[9_079_256_848_778_919_936], Some(kept)),
+        (51, &[9_079_256_848_778_919_936], Some(KEPT)),
     )
 }

@@ -1,5 +1,6 @@
 // Each real object of the outside once, at its trait.
 use std::alloc::Global;
+use std::process::Abort;
 use std::rt::Files;
 use std::test::Fail;
 use vms_io::{
@@ -31,28 +32,30 @@ fn a_vector_takes_bytes(rt: HostRuntime) -> Result<(), Fail> {
     Ok(())
 }
 
+fn refusal<H: Shelf>(alloc: Global, shelf: &mut H, name: &str) -> Option<FetchFault> {
+    fetched(alloc, shelf, name).err()
+}
+
+fn holds<H: Shelf>(alloc: Global, shelf: &mut H, name: &str, bytes: &[u8]) -> bool {
+    fetched(alloc, shelf, name).is_ok_and(|held| held.as_slice() == bytes)
+}
+
 #[test]
 fn a_folder_answers_by_name(rt: HostRuntime) -> Result<(), Fail> {
     let alloc = rt.alloc();
     rt.create_dir("folder")?;
     rt.create_dir("folder/inner")?;
     let mut shelf = FileShelf::new(rt.clone()?, String::from_str(alloc, "folder")?);
-    assert_eq!(rt;
-        fetched(alloc, &mut shelf, "a").err(),
-        Some(FetchFault::NotThere)
-    );
-    assert_eq!(rt;
-        fetched(alloc, &mut shelf, "inner").err(),
-        Some(FetchFault::Failed)
-    );
-    assert_eq!(rt; shelf.store("inner", b"x"), Err(StoreFault::Failed));
-    assert!(rt; shelf.store("a", b"four").is_ok());
-    let bytes = fetched(alloc, &mut shelf, "a").ok().ok_or("held")?;
-    assert_eq!(rt; bytes.as_slice(), b"four".as_slice());
-    assert!(rt; shelf.store("a", b"five!").is_ok());
-    assert_eq!(rt;
-        fetched(alloc, &mut shelf, "a").err(),
-        Some(FetchFault::TooLarge)
-    );
+    answers_by_name(&rt, alloc, &mut shelf);
     Ok(())
+}
+
+fn answers_by_name<H: Shelf>(rt: &impl Abort, alloc: Global, shelf: &mut H) {
+    assert!(rt; refusal(alloc, shelf, "a") == Some(FetchFault::NotThere));
+    assert!(rt; refusal(alloc, shelf, "inner") == Some(FetchFault::Failed));
+    assert!(rt; shelf.store("inner", b"x") == Err(StoreFault::Failed));
+    assert!(rt; shelf.store("a", b"four").is_ok());
+    assert!(rt; holds(alloc, shelf, "a", b"four"));
+    assert!(rt; shelf.store("a", b"five!").is_ok());
+    assert!(rt; refusal(alloc, shelf, "a") == Some(FetchFault::TooLarge));
 }

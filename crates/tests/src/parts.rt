@@ -22,6 +22,10 @@ enum Said {
     Needed(Asks),
 }
 
+fn not(alloc: Global, test: Test) -> Result<Test, Fail> {
+    Ok(Test::Not(Box::new(alloc, test)?))
+}
+
 fn test(alloc: Global, asks: Asks) -> Result<Test, Fail> {
     let (whose, field, deep) = asks;
     let mut test = Test::Cell {
@@ -32,7 +36,7 @@ fn test(alloc: Global, asks: Asks) -> Result<Test, Fail> {
         value: 0,
     };
     for _ in 0..deep {
-        test = Test::Not(Box::new(alloc, test)?);
+        test = not(alloc, test)?;
     }
     Ok(test)
 }
@@ -138,45 +142,54 @@ const OWN: Whose = Whose::Own;
 
 const PARENT: Whose = Whose::Parent;
 
+const CONSTANT: Item = Item::Equal {
+    kind: Kind::I8,
+    value: 1,
+};
+
+/// Parts, and the rule that they break at a place.
+static BROKEN: [(Said, u8, (Part, Option<u32>)); 22] = [
+    (Said::Counted(5), 4, FIELD),
+    (Said::Counted(4_294_967_295), 4, FIELD),
+    (
+        Said::Default(Item::Num(Kind::Timer), 18_446_744_073_709_551_616),
+        6,
+        FIELD,
+    ),
+    (Said::Default(CONSTANT, 1), 6, FIELD),
+    (Said::Default(Item::Unused { bytes: 1 }, 1), 6, FIELD),
+    (Said::Default(Item::Struct(0), -1), 6, FIELD),
+    (Said::Test((OWN, 5, 0)), 4, FIELD),
+    (Said::Test((PARENT, 0, 0)), 4, FIELD),
+    (Said::Test((PARENT, 1, 0)), 4, FIELD),
+    (Said::Test((PARENT, 2, 0)), 4, FIELD),
+    (Said::Test((PARENT, 3, 0)), 4, FIELD),
+    // a test that is too deep and asks a field that isn't there
+    (Said::Test((OWN, 9, 16)), 4, FIELD),
+    (Said::Validate((OWN, 5, 0)), 4, DEVICE),
+    (Said::Validate((PARENT, 0, 0)), 4, DEVICE),
+    (Said::Validate((PARENT, 1, 0)), 4, DEVICE),
+    (Said::Validate((PARENT, 2, 0)), 4, DEVICE),
+    (Said::Validate((PARENT, 3, 0)), 4, DEVICE),
+    (Said::Needed((OWN, 1, 0)), 4, SUB),
+    (Said::Needed((OWN, 2, 0)), 4, SUB),
+    (Said::Needed((OWN, 3, 0)), 4, SUB),
+    (Said::Needed((OWN, 4, 0)), 4, SUB),
+    (Said::Needed((OWN, 5, 0)), 4, SUB),
+];
+
+fn breaks(alloc: Global, said: Said, rule: u8, place: Place) -> Result<bool, Fail> {
+    Ok(fault(alloc, said)? == DescFault::IllFormed { rule, place })
+}
+
 #[test]
 fn parts_that_no_file_says_break_a_rule(rt: HostRuntime) -> Result<(), Fail> {
-    let constant = Item::Equal {
-        kind: Kind::I8,
-        value: 1,
-    };
-    let unused = Item::Unused { bytes: 1 };
-    let rows: [(Said, u8, (Part, Option<u32>)); 22] = [
-        (Said::Counted(5), 4, FIELD),
-        (Said::Counted(4_294_967_295), 4, FIELD),
-        (
-            Said::Default(Item::Num(Kind::Timer), 18_446_744_073_709_551_616),
-            6,
-            FIELD,
-        ),
-        (Said::Default(constant, 1), 6, FIELD),
-        (Said::Default(unused, 1), 6, FIELD),
-        (Said::Default(Item::Struct(0), -1), 6, FIELD),
-        (Said::Test((OWN, 5, 0)), 4, FIELD),
-        (Said::Test((PARENT, 0, 0)), 4, FIELD),
-        (Said::Test((PARENT, 1, 0)), 4, FIELD),
-        (Said::Test((PARENT, 2, 0)), 4, FIELD),
-        (Said::Test((PARENT, 3, 0)), 4, FIELD),
-        // a test that is too deep and asks a field that isn't there
-        (Said::Test((OWN, 9, 16)), 4, FIELD),
-        (Said::Validate((OWN, 5, 0)), 4, DEVICE),
-        (Said::Validate((PARENT, 0, 0)), 4, DEVICE),
-        (Said::Validate((PARENT, 1, 0)), 4, DEVICE),
-        (Said::Validate((PARENT, 2, 0)), 4, DEVICE),
-        (Said::Validate((PARENT, 3, 0)), 4, DEVICE),
-        (Said::Needed((OWN, 1, 0)), 4, SUB),
-        (Said::Needed((OWN, 2, 0)), 4, SUB),
-        (Said::Needed((OWN, 3, 0)), 4, SUB),
-        (Said::Needed((OWN, 4, 0)), 4, SUB),
-        (Said::Needed((OWN, 5, 0)), 4, SUB),
-    ];
-    for (said, rule, (part, field)) in rows {
-        let place = Place { part, field };
-        assert!(rt; fault(rt.alloc(), said)? == DescFault::IllFormed { rule, place });
+    for (said, rule, (part, field)) in &BROKEN {
+        let place = Place {
+            part: *part,
+            field: *field,
+        };
+        assert!(rt; breaks(rt.alloc(), *said, *rule, place)?);
     }
     Ok(())
 }

@@ -1,30 +1,36 @@
 // Edges of inputs that are low, as no board gives them to more than its input 0.
 use dev_pic::PicPair;
+use std::process::Abort;
+
+/// ICW1 to ICW4 of both chips: vectors from 0x08 and from 0x70.
+static SET_UP: [(u16, u8); 8] = [
+    (0x20, 0x11),
+    (0x21, 0x08),
+    (0x21, 0x04),
+    (0x21, 0x01),
+    (0xa0, 0x11),
+    (0xa1, 0x70),
+    (0xa1, 0x02),
+    (0xa1, 0x01),
+];
+
+fn write(rt: &impl Abort, pair: &mut PicPair, port: u16, value: u8) {
+    assert!(rt; pair.is_port(port));
+    pair.write(port, value);
+}
 
 #[test]
 fn an_edge_requests_an_input_that_is_low(rt: HostRuntime) {
     let mut pair = PicPair::new(2);
-    // ICW1 to ICW4 of both chips: vectors from 0x08 and from 0x70
-    for (port, value) in [
-        (0x20, 0x11),
-        (0x21, 0x08),
-        (0x21, 0x04),
-        (0x21, 0x01),
-        (0xa0, 0x11),
-        (0xa1, 0x70),
-        (0xa1, 0x02),
-        (0xa1, 0x01),
-    ] {
-        assert!(rt; pair.is_port(port));
-        pair.write(port, value);
+    for (port, value) in &SET_UP {
+        write(&rt, &mut pair, *port, *value);
     }
     // one of the cascade input is not used
     pair.settle(0, 0x0004);
     assert!(rt; !pair.int());
     pair.settle(0, 0x0101);
-    assert_eq!(rt; pair.lines(), 0x0004);
-    assert_eq!(rt; pair.ack(), 0x08);
-    assert!(rt; pair.is_port(0x20));
-    pair.write(0x20, 0x20);
-    assert_eq!(rt; pair.ack(), 0x70);
+    assert!(rt; pair.lines() == 0x0004);
+    assert!(rt; pair.ack() == 0x08);
+    write(&rt, &mut pair, 0x20, 0x20);
+    assert!(rt; pair.ack() == 0x70);
 }

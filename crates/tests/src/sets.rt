@@ -4,6 +4,7 @@ use std::process::Abort;
 use std::test::Fail;
 use vms_desc::DescSet;
 use vms_descfile::read_set;
+use vms_spots::Spot;
 
 /// A number and an array that it counts.
 pub(crate) const COUNTED: &str =
@@ -28,103 +29,145 @@ pub(crate) fn shipped(rt: &impl Abort, alloc: Global, number: u8) -> Result<Desc
     Ok(DescSet::shipped(alloc, number).ok().ok_or("memory")?)
 }
 
-/// How many cells the first device has.
-fn count(rt: &impl Abort, set: &DescSet) -> u32 {
-    assert!(rt; !set.parts().devices.as_slice().is_empty());
-    set.cells(0)
+/// What is asked of a set, and what it must answer.
+#[derive(Clone, Copy)]
+enum Asked {
+    /// How many cells the first device has.
+    Count(u32),
+    /// The cell of a device or of one of its subsections at a path.
+    Cell(u32, Option<u32>, &'static [(u32, u32)], Option<u32>),
+    /// The device of a name and an instance.
+    Device(&'static [u8], u32, Option<u32>),
+    /// The offsets at which the numbers of a device stand, and in how many bytes.
+    Stand(u32, &'static [u32], u32),
 }
 
-/// A device, a subsection, a path, and its cell.
-type Row<'a> = (u32, Option<u32>, &'a [(u32, u32)], Option<u32>);
-
-fn lie(rt: &impl Abort, set: &DescSet, rows: &[Row]) {
-    for (device, sub, path, cell) in rows {
-        assert!(rt; set.cell(*device, *sub, path) == *cell);
+fn count(set: &DescSet) -> Option<u32> {
+    if set.parts().devices.as_slice().is_empty() {
+        return None;
     }
+    Some(set.cells(0))
 }
 
-#[test]
-fn cells_lie_in_the_order_of_fields(rt: HostRuntime) -> Result<(), Fail> {
-    let set = set_of(rt.alloc(), COUNTED)?;
-    assert!(rt; count(&rt, &set) == 3);
-    let rows: [Row; 8] = [
-        (0, None, &[(0, 0)], Some(0)),
-        (0, None, &[(1, 1)], Some(2)),
-        (0, None, &[(1, 2)], None),
-        (0, None, &[(0, 1)], None),
-        (0, None, &[(2, 0)], None),
-        (0, None, &[], None),
-        (0, Some(0), &[(0, 0)], None),
-        (1, None, &[(0, 0)], None),
-    ];
-    lie(&rt, &set, &rows);
-    Ok(())
-}
-
-#[test]
-fn constants_and_unused_bytes_have_no_cell(rt: HostRuntime) -> Result<(), Fail> {
-    let set = set_of(rt.alloc(), FLAG)?;
-    assert!(rt; count(&rt, &set) == 1);
-    Ok(())
-}
-
-#[test]
-fn cells_of_structures_and_subsections_follow(rt: HostRuntime) -> Result<(), Fail> {
-    let set = set_of(rt.alloc(), NESTED)?;
-    let rows: [Row; 8] = [
-        (0, None, &[(1, 0), (0, 0)], Some(0)),
-        (0, None, &[(1, 2), (1, 1)], Some(8)),
-        (0, None, &[(1, 3), (0, 0)], None),
-        (0, None, &[(1, 2)], None),
-        (0, None, &[(1, 2), (1, 1), (0, 0)], None),
-        (0, None, &[(0, 0)], None),
-        (0, Some(0), &[(1, 0)], Some(10)),
-        (0, Some(1), &[(1, 0)], None),
-    ];
-    lie(&rt, &set, &rows);
-    Ok(())
-}
-
-#[test]
-fn devices_are_found_by_name_and_instance(rt: HostRuntime) -> Result<(), Fail> {
-    let rows: [(u8, &[u8], u32, Option<u32>); 8] = [
-        (0, b"timer", 0, Some(0)),
-        (0, b"timer", 1, None),
-        (0, b"time", 0, None),
-        (1, b"i8259", 1, Some(2)),
-        (2, b"i8254", 0, Some(3)),
-        (3, b"serial", 0, Some(4)),
-        (4, b"serial", 0, Some(4)),
-        (4, b"i8259/ltim", 0, None),
-    ];
-    for (number, name, instance, device) in rows {
-        let set = shipped(&rt, rt.alloc(), number)?;
-        assert!(rt; set.find(name, instance) == device);
-    }
-    assert!(rt; count(&rt, &shipped(&rt, rt.alloc(), 0)?) == 1);
-    Ok(())
-}
-
-/// Tells whether the numbers of a device stand at these offsets in so many bytes.
-fn stand(rt: &impl Abort, set: &DescSet, device: u32, offsets: &[u32], bytes: u32) -> bool {
-    assert!(rt; (device as usize) < set.parts().devices.as_slice().len());
-    let spots = set.spots(device);
+fn are_at(spots: &[Spot], offsets: &[u32]) -> bool {
     spots.len() == offsets.len()
         && spots
             .iter()
             .zip(offsets)
             .all(|(spot, offset)| spot.offset == *offset)
+}
+
+fn stand(set: &DescSet, device: u32, offsets: &[u32], bytes: u32) -> bool {
+    (device as usize) < set.parts().devices.as_slice().len()
+        && are_at(set.spots(device), offsets)
         && set.image_bytes(device) == bytes
 }
 
+fn answers(set: &DescSet, asked: Asked) -> bool {
+    match asked {
+        Asked::Count(cells) => count(set) == Some(cells),
+        Asked::Cell(device, sub, path, cell) => set.cell(device, sub, path) == cell,
+        Asked::Device(name, instance, device) => set.find(name, instance) == device,
+        Asked::Stand(device, offsets, bytes) => stand(set, device, offsets, bytes),
+    }
+}
+
+fn answers_all(set: &DescSet, rows: &[Asked]) -> bool {
+    for asked in rows {
+        if !answers(set, *asked) {
+            return false;
+        }
+    }
+    true
+}
+
+fn ask(rt: &impl Abort, set: DescSet, rows: &[Asked]) {
+    assert!(rt; answers_all(&set, rows));
+}
+
+static OF_COUNTED: [Asked; 9] = [
+    Asked::Count(3),
+    Asked::Cell(0, None, &[(0, 0)], Some(0)),
+    Asked::Cell(0, None, &[(1, 1)], Some(2)),
+    Asked::Cell(0, None, &[(1, 2)], None),
+    Asked::Cell(0, None, &[(0, 1)], None),
+    Asked::Cell(0, None, &[(2, 0)], None),
+    Asked::Cell(0, None, &[], None),
+    Asked::Cell(0, Some(0), &[(0, 0)], None),
+    Asked::Cell(1, None, &[(0, 0)], None),
+];
+
+#[test]
+fn cells_lie_in_the_order_of_fields(rt: HostRuntime) -> Result<(), Fail> {
+    ask(&rt, set_of(rt.alloc(), COUNTED)?, &OF_COUNTED);
+    Ok(())
+}
+
+#[test]
+fn constants_and_unused_bytes_have_no_cell(rt: HostRuntime) -> Result<(), Fail> {
+    ask(&rt, set_of(rt.alloc(), FLAG)?, &[Asked::Count(1)]);
+    Ok(())
+}
+
+static OF_NESTED: [Asked; 8] = [
+    Asked::Cell(0, None, &[(1, 0), (0, 0)], Some(0)),
+    Asked::Cell(0, None, &[(1, 2), (1, 1)], Some(8)),
+    Asked::Cell(0, None, &[(1, 3), (0, 0)], None),
+    Asked::Cell(0, None, &[(1, 2)], None),
+    Asked::Cell(0, None, &[(1, 2), (1, 1), (0, 0)], None),
+    Asked::Cell(0, None, &[(0, 0)], None),
+    Asked::Cell(0, Some(0), &[(1, 0)], Some(10)),
+    Asked::Cell(0, Some(1), &[(1, 0)], None),
+];
+
+#[test]
+fn cells_of_structures_and_subsections_follow(rt: HostRuntime) -> Result<(), Fail> {
+    ask(&rt, set_of(rt.alloc(), NESTED)?, &OF_NESTED);
+    Ok(())
+}
+
+/// Shipped sets, and what they answer.
+static OF_SHIPPED: [(u8, &[Asked]); 5] = [
+    (
+        0,
+        &[
+            Asked::Device(b"timer", 0, Some(0)),
+            Asked::Device(b"timer", 1, None),
+            Asked::Device(b"time", 0, None),
+            Asked::Count(1),
+        ],
+    ),
+    (1, &[Asked::Device(b"i8259", 1, Some(2))]),
+    (2, &[Asked::Device(b"i8254", 0, Some(3))]),
+    (3, &[Asked::Device(b"serial", 0, Some(4))]),
+    (
+        4,
+        &[
+            Asked::Device(b"serial", 0, Some(4)),
+            Asked::Device(b"i8259/ltim", 0, None),
+        ],
+    ),
+];
+
+#[test]
+fn devices_are_found_by_name_and_instance(rt: HostRuntime) -> Result<(), Fail> {
+    for (number, rows) in &OF_SHIPPED {
+        ask(&rt, shipped(&rt, rt.alloc(), *number)?, rows);
+    }
+    Ok(())
+}
+
+/// The offsets of the serial port's numbers.
+static SERIAL: [u32; 48] = [
+    0, 2, 3, 4, 5, 6, 7, 8, 9, 10, 16, 24, 25, 26, 27, 28, 29, 30, 31, 32, 33, 34, 35, 36, 37, 38,
+    39, 40, 41, 42, 43, 44, 45, 46, 47, 48, 49, 50, 51, 52, 53, 54, 55, 56, 57, 58, 59, 64,
+];
+
 #[test]
 fn numbers_stand_at_multiples_of_their_width(rt: HostRuntime) -> Result<(), Fail> {
-    let alloc = rt.alloc();
-    assert!(rt; stand(&rt, &set_of(alloc, COUNTED)?, 0, &[0, 2, 4], 6));
-    let serial = [
-        0, 2, 3, 4, 5, 6, 7, 8, 9, 10, 16, 24, 25, 26, 27, 28, 29, 30, 31, 32, 33, 34, 35, 36, 37,
-        38, 39, 40, 41, 42, 43, 44, 45, 46, 47, 48, 49, 50, 51, 52, 53, 54, 55, 56, 57, 58, 59, 64,
-    ];
-    assert!(rt; stand(&rt, &shipped(&rt, alloc, 3)?, 4, &serial, 72));
+    let counted = [Asked::Stand(0, &[0, 2, 4], 6)];
+    ask(&rt, set_of(rt.alloc(), COUNTED)?, &counted);
+    let serial = [Asked::Stand(4, &SERIAL, 72)];
+    ask(&rt, shipped(&rt, rt.alloc(), 3)?, &serial);
     Ok(())
 }
