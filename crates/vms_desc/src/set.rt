@@ -55,7 +55,7 @@ pub struct DescSet {
 impl DescSet {
     ghost use Rattle.vms_desc.specs.Described.{described, device_at};
 
-    /// The shipped set of this number, as the newest program of that number writes it.
+    /// The shipped set of this number, 0 to 4. Fails only where memory is wanting.
     pub fn shipped(alloc: Global, s: u8) -> Result<DescSet, NoMemory>
         requires { s ≤ 4 }
         ensures { IfOk result (λ set. described set ≡ shipped_set s) }

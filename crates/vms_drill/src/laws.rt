@@ -8,7 +8,7 @@ pub fn course_law()
     ensures { CoursesAreSame }
 {}
 
-/// The streams of a drill have less than 65,536 bytes each.
+/// The streams of a drill have together at most 65,536 bytes for each of its events.
 #[tactic(auto, using(crate::proofs::DrillLaws::sizes_are_small))]
 pub fn size_law()
     ensures { SizesAreSmall }

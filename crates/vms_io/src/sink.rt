@@ -6,6 +6,7 @@ ghost use Rattle.vms_io.specs.Causes.{HasCause, KeepsPromise, AppendsPrefix};
 
 use crate::Failed;
 
+/// Takes bytes one after the other, in pieces of any length.
 pub trait Sink {
     /// The bytes written, where they are known.
     ghost written: { Self → Option (List ℕ) };

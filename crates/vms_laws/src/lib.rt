@@ -1,5 +1,5 @@
-//! Laws of the format's definitions: that the judge, which computes, and the relations, which say what is meant, agree, and
-//! that what the writer gives is a stream.
+//! Laws of the parts of the format: which sets are good, that a path's cell is one of the device's, that the test of readiness
+//! agrees with the relation, and that zeroed bytes are bytes of the slots.
 #![tactic(auto)]
 
 pub mod laws;

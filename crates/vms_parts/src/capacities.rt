@@ -6,7 +6,7 @@ ghost use Rattle.vms_parts.specs.Capacities.{AreLeast, lesser, lowered_at, count
 use crate::{Count, Field};
 use std::alloc::{AllocError, Global};
 
-// Of each field the least of the capacities of the arrays whose elements it counts, or none where it counts none.
+/// Of each field the least of the capacities of the arrays whose elements it counts, or none where it counts none.
 pub fn least_capacities(alloc: Global, fields: &[Field]) -> Result<Vec<Option<u32>>, AllocError>
     ensures { IfOk result (λ table. AreLeast (map field_of fields.now) table.items) }
 {

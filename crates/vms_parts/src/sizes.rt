@@ -8,14 +8,14 @@ use crate::{Count, Desc, Field, Sub};
 use std::alloc::{AllocError, Global};
 use vms_kinds::Item;
 
-// What is counted. Constants and unused bytes are items and have no cell.
+/// What is counted. Constants and unused bytes are items and have no cell.
 #[derive(Clone, Copy)]
 pub enum Measure {
     Cells,
     Items,
 }
 
-// For how many elements a field has cells.
+/// For how many elements a field has cells.
 pub fn capacity(count: Count) -> u32
     ensures { result ≡ capacity_of count }
 {
@@ -26,7 +26,7 @@ pub fn capacity(count: Count) -> u32
     }
 }
 
-// The size of one element.
+/// The size of one element.
 pub fn item_size(measure: Measure, sizes: &[u32], item: Item) -> u32
     ensures { result ≡ size_of measure sizes.now item }
 {
@@ -52,7 +52,7 @@ fn at_or_zero(sizes: &[u32], number: u32) -> u32
     sizes.get(number as usize).copied().unwrap_or(0)
 }
 
-// The size of these fields, at most 2^32 - 1.
+/// The size of these fields, at most 2^32 - 1.
 pub fn size_of_fields(measure: Measure, sizes: &[u32], fields: &[Field]) -> u32
     ensures { result ≡ in_u32 (fields_size measure sizes.now (map field_of fields.now)) }
 {
@@ -64,7 +64,7 @@ pub fn size_of_fields(measure: Measure, sizes: &[u32], fields: &[Field]) -> u32
     sum
 }
 
-// The size of the fields of these subsections, at most 2^32 - 1.
+/// The size of the fields of these subsections, at most 2^32 - 1.
 pub fn size_of_subs(measure: Measure, sizes: &[u32], subs: &[Sub]) -> u32
     ensures { result ≡ in_u32 (subs_size measure sizes.now (map sub_of subs.now)) }
 {
@@ -76,7 +76,7 @@ pub fn size_of_subs(measure: Measure, sizes: &[u32], subs: &[Sub]) -> u32
     sum
 }
 
-// The size of each structure, at most 2^32 - 1.
+/// The size of each structure, at most 2^32 - 1.
 pub fn struct_sizes(
     alloc: Global,
     measure: Measure,

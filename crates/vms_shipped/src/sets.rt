@@ -46,9 +46,7 @@ const SET_4: SetRow = SetRow {
     devices: &[TIMER, FIRST_AT_4, SECOND_AT_4, I8254_AT_2, SERIAL_AT_4],
 };
 
-/// The parts of the shipped set of this number, as the newest program of that number writes it.
-///
-/// Numbers are 0 to 4; the answer is an error only where memory is wanting.
+/// The parts of the shipped set of this number, 0 to 4. The answer is an error only where memory is wanting.
 pub fn shipped_parts(alloc: Global, s: u8) -> Result<Parts, NoMemory>
     requires { s ≤ 4 }
     ensures { IfOk result (λ parts. set_of parts ≡ shipped_set s) }

@@ -1,4 +1,4 @@
--- Streams: which bytes are a stream of a set, what an input takes, and which stream the writer gives. Bytes are numbers
+-- The pieces of streams, and which stream the writer gives. Bytes are numbers
 -- below 256; the definitions don't ask it, since an input has no others.
 use Rattle.std.specs.Prelude.{◌≡◌, ℕ, suc, ◌+◌, ◌≤◌, Bool, true, false, List, [], ◌∷◌, ◌++◌, length, Option, Some, None, ◌||◌, slice_set}
 use Rattle.std.specs.Str.{bytes_eq}

@@ -1,5 +1,5 @@
-//! The definitions of the format: what a description set means, which bytes are a stream of it, what the
-//! writer gives and where an input is refused.
+//! The definitions of the format: what a description set means, of which pieces streams are made, what the
+//! writer gives, and how values texts are printed and read.
 //!
 //! The definitions stand in `specs/`, one module a subject. The crate's code is the few enums without
 //! pointers that the definitions and the public types of the crates above share.

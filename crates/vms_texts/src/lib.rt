@@ -1,4 +1,4 @@
-//! Laws of the values text.
+//! Laws of numbers as texts spell them.
 #![tactic(auto)]
 
 pub mod laws;
