@@ -1,4 +1,3 @@
 pub mod EventLaws
 pub mod FoldLaws
 pub mod Rows
-pub mod UnsavedLemmas

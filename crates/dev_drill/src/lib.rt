@@ -5,10 +5,8 @@ mod events;
 mod laws;
 mod schedule;
 mod tally;
-mod unsaved;
 
 pub use events::Events;
 pub use laws::{events_law, saves_law};
 pub use schedule::{BETWEEN_SAVES, is_save_due, set_of};
 pub use tally::Tally;
-pub use unsaved::{Unsaved, without_saves};

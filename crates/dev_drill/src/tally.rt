@@ -5,10 +5,12 @@ ghost use Rattle.dev_drill.specs.Views.{tally_view};
 
 use dev_board::Answer;
 
-/// How many bytes left the serial port, and after how many events the interrupt output was high.
+/// What the answers of a board to its events come to.
 #[derive(Clone, Copy, Debug, PartialEq, Eq)]
 pub struct Tally {
+    /// How many bytes left the serial port.
     pub sent: u64,
+    /// After how many events the interrupt output was high.
     pub raised: u64,
 }
 

@@ -43,7 +43,7 @@ impl Board {
     ghost use Rattle.dev_board.specs.Step.{step, names_wire};
     ghost use Rattle.dev_board.specs.Sound.{IsSound};
 
-    /// The board of a level at power on. All memory that a restore needs is taken here.
+    /// The board of a level at power on, or want of memory. All memory that a restore needs is taken here.
     pub fn new(alloc: Global, level: u8) -> Result<Board, NoMemory>
         requires { IsLevel level }
         ensures state { IfOk result (λ board. board.state ≡ power_on level) }

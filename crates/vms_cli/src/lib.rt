@@ -11,6 +11,6 @@ mod top;
 mod values_notes;
 mod words;
 
-pub use top::vmstate;
+pub use top::{tell, vmstate};
 pub(crate) use words::Command;
 pub use words::Words;

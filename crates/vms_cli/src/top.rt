@@ -61,8 +61,9 @@ pub fn vmstate<I: Source, O: Sink, N: Sink, H: Shelf>(
     tell(notes, &ending)
 }
 
-// Writes the line of an ending, and answers its status, or that of a write fault. Of what is done nothing is told.
-fn tell<N: Sink>(notes: &mut N, ending: &Ending) -> u8
+/// Writes the line of an ending to notes, and answers its status, or 6 where notes failed. Of what is done nothing is
+/// told.
+pub fn tell<N: Sink>(notes: &mut N, ending: &Ending) -> u8
     ensures tells { Tells (outlet N.Sink notes.old) (outlet N.Sink notes.new) ending.now result }
     ensures count { N.faults notes.old ≤ N.faults notes.new }
     ensures promise { N.promise notes.new ≡ N.promise notes.old }

@@ -18,6 +18,7 @@ pub trait SaveStep<D>: CallsToSave<D> {
     /// The cells that it may give.
     ghost gives_cells: { Self → Bor Numbers → Bor D → ArrayVec ℤ → Type 0 };
 
+    /// The cells of a device.
     fn save(&self, pass: &Pass, device: &D) -> DevCells
         requires { may_save self.now pass device }
         ensures { gives_cells self.now pass.entry device.entry result };
@@ -41,6 +42,7 @@ pub trait LoadStep<D>: CallsToLoad<D> {
     /// What it may answer.
     ghost answers: { Self → Bor Numbers → Bor (ArrayVec ℤ) → Result D HookFault → Type 0 };
 
+    /// The device that cells restore, or the first rule that fails.
     fn load(&self, pass: &Pass, cells: &DevCells) -> Result<D, HookFault>
         requires { may_load self.now pass cells }
         ensures { answers self.now pass.entry cells.entry result };

@@ -10,7 +10,7 @@ use crate::keys::has;
 use crate::node::Node;
 
 /// Whether a walk that looks names up may ask one of a description: in a validation, in a
-/// subsection, or in a test or a count of a field.
+/// subsection, or in a test or a count of a field. Where `asks` is false it asks nothing.
 pub fn is_asked(asks: bool, value: &Node) -> bool
     ensures { result ≡ (asks && asks_names (view value.now)) }
 {

@@ -63,6 +63,7 @@ pub struct Sub {
 /// A device: a section of this name and instance id.
 #[derive(Drop)]
 pub struct Device {
+    /// The instance id, which tells devices of one name apart.
     pub instance: u32,
     pub desc: Desc,
     pub subs: Listed<Sub>,

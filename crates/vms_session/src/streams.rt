@@ -14,7 +14,7 @@ use vms_load::Refusal;
 /// The room in which a stream is made, in bytes. No board's stream fills it.
 const ROOM: u32 = 65_536;
 
-/// The stream of a board under a shipped set, from the board's level to the newest.
+/// The stream of a board under a shipped set, from the board's level to the newest, or want of memory.
 pub fn stream_of(alloc: Global, board: &Board, set: u8) -> Result<Vec<u8>, NoMemory>
     requires sound { IsSound board.now.state }
     requires may { MaySaveUnder board.now.state.level set }

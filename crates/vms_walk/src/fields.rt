@@ -18,7 +18,9 @@ use vms_kinds::Item;
 #[derive(Clone, Copy, Drop)]
 pub struct Spot {
     pub part: Part,
+    /// The version at which the part's fields are there.
     pub version: u32,
+    /// The number of its first cell in the device.
     pub base: u32,
 }
 

@@ -46,6 +46,7 @@ pub trait Walker: Cells {
     /// A step may come in this state.
     ghost may: { Self → OneStep → Type 0 };
 
+    /// Takes a step, or stops at it with a fault.
     fn step(&mut self, step: Step) -> Result<(), Self::Fault>
         requires inside { IsInside (Self.numbers self.old) step }
         requires may { may self.old step }
@@ -56,18 +57,22 @@ pub trait Walker: Cells {
     ghost keeps: { (xs : List OneStep) (a b : Self)
         → goes xs a b → Keeps xs (Self.numbers a) (Self.numbers b) };
 
+    /// The same where it stops.
     ghost keeps_stopped: { (xs : List OneStep) (a b : Self) (fault : Self.Fault)
         → stops xs a fault b → Keeps xs (Self.numbers a) (Self.numbers b) };
 
-    /// Steps after steps.
+    /// No steps leave it as it is.
     ghost none: { (a : Self) → goes [] a a };
 
+    /// Steps after steps lead on.
     ghost more: { (xs ys : List OneStep) (a b c : Self)
         → goes xs a b → goes ys b c → goes (xs ++ ys) a c };
 
+    /// Where it stops after other steps, it stops within all.
     ghost stops_after: { (xs ys : List OneStep) (a b c : Self) (fault : Self.Fault)
         → goes xs a b → stops ys b fault c → stops (xs ++ ys) a fault c };
 
+    /// Where it stops, further steps change nothing.
     ghost stops_before: { (xs ys : List OneStep) (a b : Self) (fault : Self.Fault)
         → stops xs a fault b → stops (xs ++ ys) a fault b };
 }

@@ -9,26 +9,35 @@ use std::alloc::Global;
 use std::env;
 use std::io::ErrorKind;
 use std::process::ExitCode;
-use vms_cli::{Words, vmstate};
-use vms_io::{FileShelf, NoMemory, Sink, StdSink, StdSource, write_all_of};
+use vms_cli::{Words, tell, vmstate};
+use vms_io::{FileShelf, NoMemory, Sink, StdSink, StdSource};
 use vms_outcome::Ending;
 
 fn main(rt: HostRuntime) -> ExitCode {
-    let alloc = rt.alloc();
-    let Ok(words) = words(&rt, alloc) else {
-        return ExitCode::from(Ending::NoMemory.status());
-    };
-    let Ok(mut shelf) = shelf(&rt, alloc) else {
-        return ExitCode::from(Ending::NoMemory.status());
-    };
-    let mut input = StdSource::new(rt.stdin());
     let mut out = StdSink::new(rt.stdout());
     let mut notes = StdSink::new(rt.stderr());
-    let status = vmstate(alloc, &words, &mut input, &mut out, &mut notes, &mut shelf);
+    let status = run(&rt, &mut out, &mut notes);
     let flushed = out.flush().is_ok();
-    let status = late_status(status, flushed, &mut notes);
-    let _told = notes.flush();
-    ExitCode::from(status)
+    if !flushed {
+        // this line in place of the call's own, which wasn't handed on yet
+        notes = StdSink::new(rt.stderr());
+        let _status = tell(&mut notes, &Ending::WriteFault);
+    }
+    let told = notes.flush().is_ok();
+    ExitCode::from(last_status(status, flushed && told))
+}
+
+// The call, over the standard input and the current folder.
+fn run<O: Sink, N: Sink>(rt: &HostRuntime, out: &mut O, notes: &mut N) -> u8 {
+    let alloc = rt.alloc();
+    let Ok(words) = words(rt, alloc) else {
+        return tell(notes, &Ending::NoMemory);
+    };
+    let Ok(mut shelf) = shelf(rt, alloc) else {
+        return tell(notes, &Ending::NoMemory);
+    };
+    let mut input = StdSource::new(rt.stdin());
+    vmstate(alloc, &words, &mut input, out, notes, &mut shelf)
 }
 
 // The words after the program's name; one empty word where one of them isn't UTF-8.
@@ -52,16 +61,13 @@ fn shelf(rt: &HostRuntime, alloc: Global) -> Result<FileShelf<HostRuntime>, NoMe
     Ok(FileShelf::new(rt.clone()?, folder))
 }
 
-// The status, or that of a write fault where the last bytes of out weren't taken.
-fn late_status<N: Sink>(status: u8, flushed: bool, notes: &mut N) -> u8
-    ensures { result ≡ (if flushed then status else status_of endings.WriteFault) }
+// The status, or that of a write fault where the last bytes of out or notes weren't taken.
+fn last_status(status: u8, taken: bool) -> u8
+    ensures { result ≡ (if taken then status else status_of endings.WriteFault) }
 {
-    if flushed {
-        return status;
+    if taken {
+        status
+    } else {
+        Ending::WriteFault.status()
     }
-    let fault = Ending::WriteFault;
-    if status != fault.status() {
-        let _told = write_all_of(notes, fault.line());
-    }
-    fault.status()
 }
