@@ -18,7 +18,7 @@ use vms_desc::DescSet;
 use vms_io::{Shelf, Sink};
 use vms_outcome::{Ending, LONGEST_FILE, SetText, SetWord, fetch, fetch_set, read_fetched};
 use vms_selfdesc::describe;
-use vms_values::{Values, ValuesFault, read_text};
+use vms_values::{Values, ValuesFault, read_values};
 use vms_write::write_stream;
 
 pub(crate) fn pack<O: Sink, H: Shelf>(
@@ -73,7 +73,7 @@ fn pack_text<O: Sink>(alloc: Global, set: &DescSet, text: &[u8], out: &mut O) ->
     ensures count { O.faults out.old ≤ O.faults out.new }
     ensures promise { O.promise out.new ≡ O.promise out.old }
 {
-    match read_text(alloc, set, text) {
+    match read_values(alloc, set, text) {
         Ok(values) => write(alloc, set, &values, out),
         Err(ValuesFault::Bad { line, reason }) => match values_line(alloc, line, reason) {
             Ok(line) => Ending::BadText(line),

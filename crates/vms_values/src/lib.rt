@@ -24,4 +24,4 @@ pub use name::print_path;
 pub use print::print_values;
 pub use vms_io::WriteFault;
 pub use vms_spec::ValuesReason;
-pub use whole::read_text;
+pub use whole::read_values;

@@ -15,7 +15,7 @@ use vms_desc::DescSet;
 /// line at which it isn't one, and why. A line that no text of the set has there goes before a section
 /// or subsection whose validations fail or that isn't sent as it is needed. The text is read once, and
 /// may have any length. What is accepted may be written.
-pub fn read_text(alloc: Global, set: &DescSet, text: &[u8]) -> Result<Values, ValuesFault>
+pub fn read_values(alloc: Global, set: &DescSet, text: &[u8]) -> Result<Values, ValuesFault>
     ensures read { ReadsAs (described set.now) (values_read (described set.now) text.now) result }
     ensures of { IfOk result (λ v. AreImagesOf (described set.now) v.images.items) }
     ensures means { MeansAs (described set.now) text.now result }

@@ -4,7 +4,7 @@ use Rattle.vms_desc.specs.Described.{described}
 use Rattle.vms_values.specs.Reading.{ReadsBy}
 use Rattle.vms_values.specs.declared.fault.LineFault.{LineFault}
 use Rattle.vms_values.proofs.TextRead.{line_fits, read_means, bad_means}
-use Rattle.vms_values.proofs.whole.read_text.Goals as goal
+use Rattle.vms_values.proofs.whole.read_values.Goals as goal
 
 pub overflow_cast-result : goal.overflow_cast-result
 overflow_cast-result c =
