@@ -1,10 +1,10 @@
-// Each real object of the outside once, at its trait.
+// Each real object of the outside once, at its trait, and a shelf in memory whose calls fail.
 use std::alloc::Global;
 use std::process::Abort;
 use std::rt::Files;
 use std::test::Fail;
 use vms_io::{
-    FetchFault, FileShelf, Shelf, Source, StdSink, StdSource, StoreFault, read_exact_of,
+    FetchFault, FileShelf, MemShelf, Shelf, Source, StdSink, StdSource, StoreFault, read_exact_of,
     write_all_of,
 };
 
@@ -58,4 +58,19 @@ fn answers_by_name<H: Shelf>(rt: &impl Abort, alloc: Global, shelf: &mut H) {
     assert!(rt; holds(alloc, shelf, "a", b"four"));
     assert!(rt; shelf.store("a", b"five!").is_ok());
     assert!(rt; refusal(alloc, shelf, "a") == Some(FetchFault::TooLarge));
+}
+
+fn fails_at_1_and_3<H: Shelf>(alloc: Global, shelf: &mut H) -> bool {
+    refusal(alloc, shelf, "a") == Some(FetchFault::Failed)
+        && shelf.store("a", b"four").is_ok()
+        && refusal(alloc, shelf, "a") == Some(FetchFault::Failed)
+        && holds(alloc, shelf, "a", b"four")
+}
+
+#[test]
+fn a_shelf_in_memory_fails_at_the_listed_calls(rt: HostRuntime) -> Result<(), Fail> {
+    let alloc = rt.alloc();
+    let mut shelf = MemShelf::new(alloc, vec![in alloc; 1, 3]?);
+    assert!(rt; fails_at_1_and_3(alloc, &mut shelf));
+    Ok(())
 }
