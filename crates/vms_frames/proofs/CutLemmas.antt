@@ -1,6 +1,6 @@
 -- The forms of units that are read in two parts, where bytes are wanting and where all came.
 use Rattle.std.proofs.Common.{◌≡◌, ℕ, ◌+◌, ◌<◌, ◌≤◌, List, ◌++◌, length, get_or, drop, take_all, length-drop, sym, ap, ◌∙◌, arith, length-append, Bool, if◌then◌else◌, nat_lt}
-use Rattle.std.proofs.lemmas.Bool.{le-ltb, eq-eqb}
+use Rattle.std.proofs.lemmas.Bool.{le-ltb, lt-ltb, eq-eqb}
 use Rattle.arrayvec.specs.ArrayVec.{ArrayVec}
 use Rattle.vms_spec.specs.declared.Reason.TheVariants as reasons
 use Rattle.vms_spec.specs.Judging.{number_at, bytes_at}
@@ -48,6 +48,15 @@ begun unit rest some low =
 
 pub configuration_cut : (unit rest : List ℕ) → 5 ≤ length unit → number_at 4 1 unit ≤ 255 → length unit + length rest < 5 + number_at 4 1 unit → configuration_found (unit ++ rest) ≡ Cut
 configuration_cut unit rest some low few = begun unit rest some low ∙ needs_cut (5 + number_at 4 1 unit) (unit ++ rest) _ (omega (arith, few, length-append unit rest))
+
+-- a length that is at fault
+pub configuration_above : (unit rest : List ℕ) → length unit ≡ 5 → 255 < number_at 4 1 unit → configuration_found (unit ++ rest) ≡ Wrong 5 reasons.WrongMachine
+unfolding named
+configuration_above unit rest long high =
+    let all = unit ++ rest in
+    let n = number_at 4 1 unit in
+    needs_whole 5 all _ (omega (arith, long, length-append unit rest)) ∙ ap (λ (k : ℕ). named k all) (number_of_unit 4 1 unit rest (omega (arith, long)))
+    ∙ ap (λ (b : Bool). if b then Wrong 5 reasons.WrongMachine else needs (5 + n) all (Whole (Configuration (record { items = bytes_at n 5 all })))) (lt-ltb 255 n high)
 
 pub configuration_whole : (unit rest : List ℕ) (name : ArrayVec ℕ) → length unit ≡ 5 + number_at 4 1 unit → number_at 4 1 unit ≤ 255 → name.items ≡ bytes_at (number_at 4 1 unit) 5 unit
     → configuration_found (unit ++ rest) ≡ Whole (Configuration name)

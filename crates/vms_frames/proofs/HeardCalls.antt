@@ -90,7 +90,7 @@ no_read at (Good x n) rest left = tt
 no_read at (Bad n why) rest left = tt
 no_read at Short rest left = tt
 
-head_fails : (at : ℕ) (e : FrameFault) (old left : Option (List ℕ)) → IfSome old (λ rest. Answers (λ (x : Unit {0}). 4) (magic_found rest) at rest left (Err e)) → IfSome old (λ rest. AnswersHead at rest left (Err e))
+pub head_fails : (at : ℕ) (e : FrameFault) (old left : Option (List ℕ)) → IfSome old (λ rest. Answers (λ (x : Unit {0}). 4) (magic_found rest) at rest left (Err e)) → IfSome old (λ rest. AnswersHead at rest left (Err e))
 head_fails at (Refused place reason) None left h = tt
 head_fails at (Refused place reason) (Some rest) left h =
     no_magic at (seen AMagic nothing_known rest) rest left place reason (answers (λ (x : Unit {0}). Magic (take 4 rest)) (λ (x : Unit {0}). 4) (magic_found rest) _ (magic_seen rest) at rest left (Err (Refused place reason)) h)

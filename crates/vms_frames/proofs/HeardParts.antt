@@ -39,7 +39,7 @@ bytes_first (suc n) (x ∷ xs) ok zero = ok 0
 bytes_first (suc n) (x ∷ xs) ok (suc i) = bytes_first n xs (λ j. ok (suc j)) i
 
 -- a part that came is put behind those before it
-behind : (a b : Option (List ℕ)) (n : ℕ) (old new all : List ℕ) → all ≡ old ++ new → Grows a b [] new n → Grows a b old all n
+pub behind : (a b : Option (List ℕ)) (n : ℕ) (old new all : List ℕ) → all ≡ old ++ new → Grows a b [] new n → Grows a b old all n
 behind None b n old new all e g = tt
 behind (Some rest) b n old new all e g = (g.0, e ∙ ap (λ (l : List ℕ). old ++ l) g.1, g.2)
 

@@ -1,6 +1,7 @@
 -- What is heard of a whole unit, whose bytes come one part after the other.
 use Rattle.std.proofs.Common.{◌≡◌, ℕ, ◌+◌, ◌<◌, ◌≤◌, ◌^◌, List, [], ◌∷◌, ◌++◌, length, drop, drop_at, Option, Some, None, Result, Ok, Err, IfSome, refl, sym, ap, subst, ◌∙◌, arith}
 use Rattle.std.proofs.lemmas.List.{drop-drop}
+use Rattle.std.specs.Io.KnownBytes.{Consumes}
 use Rattle.vms_io.specs.Causes.{capped}
 use Rattle.vms_spec.specs.declared.Reason.{Reason}
 use Rattle.vms_frames.specs.declared.fault.FrameFault.{FrameFault}
@@ -29,7 +30,7 @@ module _ {X : Type 0} (long : X → ℕ) (found : List ℕ → Found X) where
   unit_short a b unit at n (Refused place reason) s is = heard_as (λ more. more ≡ []) a b (λ old left s. short long found old left unit at n (Refused place reason) s is) s
   unit_short a b unit at n ReadFault s is = tt
 
-  passed : (unit : List ℕ) (at n : ℕ) (x : X) → length unit + n ≡ long x → ((rest : List ℕ) → n ≤ length rest → found (unit ++ rest) ≡ Whole x) → (old left : Option (List ℕ)) → IsPassed old left n
+  pub passed : (unit : List ℕ) (at n : ℕ) (x : X) → length unit + n ≡ long x → ((rest : List ℕ) → n ≤ length rest → found (unit ++ rest) ≡ Whole x) → (old left : Option (List ℕ)) → IsPassed old left n
       → IfSome old (λ rest. Answers long (found (unit ++ rest)) at (unit ++ rest) left (Ok x))
   passed unit at n x e is None left p = tt
   passed unit at n x e is (Some rest) left p = (
@@ -57,3 +58,10 @@ pub trailer_on : (a b c at : ℕ) (result : Result ℕ FrameFault) → b ≡ cap
 trailer_on a b c at (Ok n) e h = record { bytes = 0x06 ∷ h.bytes; octets = bytes_more 0x06 h.bytes (omega arith) h.octets; given = omega (arith, e, h.given); says = λ more f. h.says more tt }
 trailer_on a b c at (Err (Refused place reason)) e h = record { bytes = 0x06 ∷ h.bytes; octets = bytes_more 0x06 h.bytes (omega arith) h.octets; given = omega (arith, e, h.given); says = λ more f. h.says more f }
 trailer_on a b c at (Err ReadFault) e h = tt
+
+-- the same of what is left, where the source tells it
+pub trailer_behind : (old mid left : Option (List ℕ)) (bytes : List ℕ) (at : ℕ) (result : Result ℕ FrameFault) → bytes ≡ 0x06 ∷ [] → Consumes old mid bytes
+    → IfSome mid (λ more. Answers (λ n. n) (description_found (0x06 ∷ more)) at (0x06 ∷ more) left result) → IfSome old (λ rest. Answers (λ n. n) (trailer_found rest) at rest left result)
+trailer_behind None mid left bytes at result is took h = tt
+trailer_behind (Some rest) None left bytes at result is took h = absurd took
+trailer_behind (Some rest) (Some more) left bytes at result is took h = subst (λ (l : List ℕ). Answers (λ (n : ℕ). n) (trailer_found l) at l left result) (sym (took ∙ ap (λ (l : List ℕ). l ++ more) is)) h

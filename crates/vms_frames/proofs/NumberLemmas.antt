@@ -1,14 +1,14 @@
--- A number whose code came.
-use Rattle.std.proofs.Common.{◌≡◌, ◌<◌, ℕ, ℤ, Bool, false, if◌then◌else◌, slice_index, List, ◌++◌, length, refl, sym, ap, subst, ◌∙◌, arith, length-append, take_at}
-use Rattle.std.proofs.lemmas.Bool.{false_from_ne_true, ltb-true, lt-ltb}
+-- A number whose code came, and the version of a stream.
+use Rattle.std.proofs.Common.{◌≡◌, ◌<◌, ◌==◌, ℕ, ℤ, Bool, false, if◌then◌else◌, slice_index, List, ◌++◌, length, refl, sym, ap, subst, ◌∙◌, arith, length-append, take_at}
+use Rattle.std.proofs.lemmas.Bool.{false_from_ne_true, ne_eqb, ltb-true, lt-ltb}
 use Rattle.byteorder.specs.Endian.{big_number}
 use Rattle.vms_kinds.specs.declared.Kind.{Kind}
 use Rattle.vms_kinds.specs.declared.Kind.TheVariants as kinds
 use Rattle.vms_kinds.specs.Codes.{width, value_of, IsBadBool}
 use Rattle.vms_spec.specs.declared.Reason.TheVariants as reasons
-use Rattle.vms_spec.specs.Judging.{is_bad_bool}
-use Rattle.vms_frames.specs.Found.{Found, Whole, Wrong, number_found}
-use Rattle.vms_frames.proofs.UnitLemmas.{needs_whole}
+use Rattle.vms_spec.specs.Judging.{is_bad_bool, number_at}
+use Rattle.vms_frames.specs.Found.{Found, Whole, Wrong, number_found, version_found}
+use Rattle.vms_frames.proofs.UnitLemmas.{needs_whole, number_of_unit}
 
 abbrev found_by : Kind → List ℕ → Bool → Found ℤ
 found_by kind code bad = if bad then Wrong (width kind) reasons.BadBool else Whole (value_of kind code)
@@ -43,3 +43,17 @@ pub number_bad : (kind : Kind) (code : List ℕ) → length code ≡ width kind 
 number_bad kinds.Bool code long bad rest =
     number_came kinds.Bool code rest long ∙ ap (found_by kinds.Bool code) (lt-ltb 1 _ (subst (λ (n : ℕ). 1 < n) (sym (first code)) bad.1))
 number_bad kind code long bad rest = cc
+
+-- ---- the version of a stream
+
+by_version : ℕ → Found (Unit {0})
+by_version n = if n == 3 then Whole tt else if n == 2 then Wrong 4 reasons.OldStream else Wrong 4 reasons.BadVersion
+
+-- no version that is known
+pub version_bad : (unit rest : List ℕ) → length unit ≡ 4 → (number_at 4 0 unit ≡ 3 → ⊥) → (number_at 4 0 unit ≡ 2 → ⊥) → version_found (unit ++ rest) ≡ Wrong 4 reasons.BadVersion
+unfolding by_version
+version_bad unit rest long good old =
+    let n = number_at 4 0 unit in
+    needs_whole 4 (unit ++ rest) _ (omega (arith, long, length-append unit rest)) ∙ ap by_version (number_of_unit 4 0 unit rest (omega (arith, long)))
+    ∙ ap (λ (b : Bool). if b then Whole tt else if n == 2 then Wrong 4 reasons.OldStream else Wrong 4 reasons.BadVersion) (ne_eqb n 3 good)
+    ∙ ap (λ (b : Bool). if b then Wrong 4 reasons.OldStream else Wrong 4 reasons.BadVersion) (ne_eqb n 2 old)

@@ -1,4 +1,4 @@
-use Rattle.std.proofs.Common.{arith, take_all, length-drop, ◌-◌, ap, sym, ◌∙◌, ℕ, List, ◌≡◌, ◌+◌, length, get_or, drop, Err, Result}
+use Rattle.std.proofs.Common.{rules, arith, take_all, length-drop, ◌-◌, ap, sym, ◌∙◌, ℕ, List, ◌≡◌, ◌+◌, length, get_or, drop, Err, Result}
 use Rattle.std.proofs.lemmas.Result.{err_from_is_err_and}
 use Rattle.vms_frames.specs.declared.units.Step.{Step}
 use Rattle.vms_frames.specs.declared.fault.FrameFault.{FrameFault}
@@ -34,3 +34,24 @@ returns-clause-heard g c =
     (unit_on step_long start_found (g.S.Source.given c.grow.new.source) now now one two c.args.at _ end c.in_ok-grow-2.ensures.heard
     (unit_refused step_long start_found now two c.args.at (6 + get_or two 5 0) c.start_reason.result c.refused.result c.refused.ensures (g.met.S.Source.counted c.grow-2.new.source) long
     (λ rest. start_whole two rest long ∙ ap (λ (r : Reason). Wrong (6 + get_or two 5 0) r) (sym why))))
+
+pub returns-in_err-grow : goal.returns-in_err-grow
+returns-in_err-grow g c = search rules
+
+pub returns-in_err-grow-2-clause-content : goal.returns-in_err-grow-2-clause-content
+returns-in_err-grow-2-clause-content g c = search rules
+
+pub returns-in_err-grow-2-clause-given : goal.returns-in_err-grow-2-clause-given
+returns-in_err-grow-2-clause-given g c = search rules
+
+pub returns-in_err-grow-2-clause-cause : goal.returns-in_err-grow-2-clause-cause
+returns-in_err-grow-2-clause-cause g c = search rules
+
+pub returns-clause-content : goal.returns-clause-content
+returns-clause-content g c = search rules
+
+pub returns-clause-given : goal.returns-clause-given
+returns-clause-given g c = search rules
+
+pub returns-clause-cause : goal.returns-clause-cause
+returns-clause-cause g c = search rules
