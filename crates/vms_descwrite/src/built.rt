@@ -63,11 +63,7 @@ fn push(list: &mut Vec<Value>, value: Value) -> Result<(), AllocError>
     serde_json::push(list, value)
 }
 
-pub(crate) fn list_value<T, W: Writes<T>>(
-    alloc: Global,
-    writer: &W,
-    items: &[T],
-) -> Result<Value, AllocError>
+fn list_value<T, W: Writes<T>>(alloc: Global, writer: &W, items: &[T]) -> Result<Value, AllocError>
     ensures file { IfOk result (λ v. view v ≡ list_file (W.file writer.now) items.now) }
     ensures fits { OnOk result ((i : ℕ) (x : T) → at items.now i ≡ Some x → W.fits writer.now x) }
 {
@@ -104,6 +100,33 @@ pub(crate) fn put(
         ≡ put key.now (view value) (members_view members.old.entries)) }
 {
     serde_json::put(members, alloc, key, value)
+}
+
+pub(crate) fn put_text(
+    alloc: Global,
+    members: &mut Members,
+    key: &str,
+    text: &str,
+) -> Result<(), AllocError>
+    ensures { OnOk result (members_view members.new.entries
+        ≡ put key.now (string text.now) (members_view members.old.entries)) }
+{
+    put(alloc, members, key, text_value(alloc, text)?)
+}
+
+pub(crate) fn put_items<T, W: Writes<T>>(
+    alloc: Global,
+    members: &mut Members,
+    key: &str,
+    writer: &W,
+    items: &[T],
+) -> Result<(), AllocError>
+    ensures file { OnOk result (members_view members.new.entries
+        ≡ put key.now (list_file (W.file writer.now) items.now)
+        (members_view members.old.entries)) }
+    ensures fits { OnOk result ((i : ℕ) (x : T) → at items.now i ≡ Some x → W.fits writer.now x) }
+{
+    put(alloc, members, key, list_value(alloc, writer, items)?)
 }
 
 // A number that may be left out.
@@ -154,5 +177,5 @@ pub(crate) fn put_list<T, W: Writes<T>>(
     if items.is_empty() {
         return Ok(());
     }
-    put(alloc, members, key, list_value(alloc, writer, items)?)
+    put_items(alloc, members, key, writer, items)
 }

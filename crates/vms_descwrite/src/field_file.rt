@@ -7,8 +7,8 @@ ghost use Rattle.vms_descwrite.specs.Fitting.{FitsCount, FitsField, FitsOptional
 ghost use Rattle.vms_descwrite.specs.Written.{own_names, item_word, capacity_in, length_in, counter_in, equal_in, size_in, struct_in, is_zero, front_file, field_file, integer_file, given_as, test_file};
 
 use crate::built::{
-    Members, TextFile, Writes, integer_value, natural_value, put, put_list, put_natural,
-    put_unless, text_value,
+    Members, TextFile, Writes, integer_value, natural_value, put, put_list, put_natural, put_text,
+    put_unless,
 };
 use crate::test_file::{TestFile, name_value};
 use serde_json::{Map, Value};
@@ -163,18 +163,8 @@ fn field_value(alloc: Global, own: &[Field], field: &Field) -> Result<Value, All
 {
     let mut members = Map::new(alloc);
     put_front(alloc, &mut members, own, field)?;
-    put(
-        alloc,
-        &mut members,
-        "kind",
-        text_value(alloc, item_word(field.item))?,
-    )?;
-    put(
-        alloc,
-        &mut members,
-        "name",
-        text_value(alloc, field.name.as_str())?,
-    )?;
+    put_text(alloc, &mut members, "kind", item_word(field.item))?;
+    put_text(alloc, &mut members, "name", field.name.as_str())?;
     let since = natural_value(field.since as u64);
     put_unless(alloc, &mut members, field.since == 0, "since", since)?;
     put_natural(alloc, &mut members, "size", size_in(field.item))?;

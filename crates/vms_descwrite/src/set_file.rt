@@ -7,7 +7,7 @@ ghost use Rattle.vms_descwrite.specs.Fitting.{FitsDesc, FitsSub, FitsDevice, Fit
 ghost use Rattle.vms_descwrite.specs.Written.{own_names, desc_members, struct_file, sub_file, whole_file, device_file, set_file};
 
 use crate::built::{
-    Members, TextFile, Writes, list_value, natural_value, put, put_list, put_unless, text_value,
+    Members, TextFile, Writes, natural_value, put, put_items, put_list, put_text, put_unless,
 };
 use crate::field_file::FieldFile;
 use crate::test_file::TestFile;
@@ -21,12 +21,7 @@ fn desc_members(alloc: Global, desc: &Desc) -> Result<Members, AllocError>
 {
     let own = desc.fields.as_slice();
     let mut members = Map::new(alloc);
-    put(
-        alloc,
-        &mut members,
-        "fields",
-        list_value(alloc, &FieldFile(own), own)?,
-    )?;
+    put_items(alloc, &mut members, "fields", &FieldFile(own), own)?;
     let minimum = natural_value(desc.minimum as u64);
     put_unless(
         alloc,
@@ -35,12 +30,7 @@ fn desc_members(alloc: Global, desc: &Desc) -> Result<Members, AllocError>
         "minimum",
         minimum,
     )?;
-    put(
-        alloc,
-        &mut members,
-        "name",
-        text_value(alloc, desc.name.as_str())?,
-    )?;
+    put_text(alloc, &mut members, "name", desc.name.as_str())?;
     let test = TestFile { own, parent: &[] };
     put_list(
         alloc,
@@ -155,11 +145,11 @@ fn set_members(alloc: Global, parts: &Parts) -> Result<Members, AllocError>
     ensures fits { OnOk result (FitsSet (set_of parts.now)) }
 {
     let mut members = Map::new(alloc);
-    let devices = list_value(alloc, &DeviceFile, parts.devices.as_slice())?;
-    put(alloc, &mut members, "devices", devices)?;
-    let machines = list_value(alloc, &TextFile, parts.machines.as_slice())?;
-    put(alloc, &mut members, "machines", machines)?;
-    let structs = list_value(alloc, &StructFile, parts.structs.as_slice())?;
-    put(alloc, &mut members, "structs", structs)?;
+    let devices = parts.devices.as_slice();
+    put_items(alloc, &mut members, "devices", &DeviceFile, devices)?;
+    let machines = parts.machines.as_slice();
+    put_items(alloc, &mut members, "machines", &TextFile, machines)?;
+    let structs = parts.structs.as_slice();
+    put_items(alloc, &mut members, "structs", &StructFile, structs)?;
     Ok(members)
 }

@@ -60,12 +60,12 @@ fn test_value(
         Test::And(first, second) => {
             let first = test_value(alloc, own, parent, first)?;
             let second = test_value(alloc, own, parent, second)?;
-            only(alloc, "and", pair(alloc, first, second)?)
+            both(alloc, "and", first, second)
         }
         Test::Or(first, second) => {
             let first = test_value(alloc, own, parent, first)?;
             let second = test_value(alloc, own, parent, second)?;
-            only(alloc, "or", pair(alloc, first, second)?)
+            both(alloc, "or", first, second)
         }
     }
 }
@@ -95,10 +95,11 @@ fn only(alloc: Global, key: &str, value: Value) -> Result<Value, AllocError>
     Ok(Value::Object(members))
 }
 
-fn pair(alloc: Global, first: Value, second: Value) -> Result<Value, AllocError>
-    ensures { IfOk result (λ v. view v ≡ pair_file (view first) (view second)) }
+// An object of one member, which has two values.
+fn both(alloc: Global, key: &str, first: Value, second: Value) -> Result<Value, AllocError>
+    ensures { IfOk result (λ v. view v ≡ only key.now (pair_file (view first) (view second))) }
 {
-    Ok(Value::Array(vec![in alloc; first, second]?))
+    only(alloc, key, Value::Array(vec![in alloc; first, second]?))
 }
 
 // The members of a test on a number but for the field's name.

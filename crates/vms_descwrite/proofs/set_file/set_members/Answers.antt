@@ -7,11 +7,11 @@ use Rattle.vms_descwrite.proofs.SetLaws.{set_built}
 use Rattle.vms_descwrite.proofs.set_file.set_members.Goals as goal
 
 pub returns-clause-file : goal.returns-clause-file
-returns-clause-file c = set_built c.args.parts.now _ _ _ _ _ _ _ _ _ _ c.as_slice.ensures c.as_slice-2.ensures c.as_slice-3.ensures (ap members_view c.new-members.ensures.empty)
-    c.in_ok-devices.ensures.file c.in_ok-put.ensures c.in_ok-machines.ensures.file c.in_ok-put-2.ensures c.in_ok-structs.ensures.file c.in_ok-put-3.ensures
+returns-clause-file c = set_built c.args.parts.now _ _ _ _ _ _ _ c.as_slice-devices.ensures c.as_slice-machines.ensures c.as_slice-structs.ensures (ap members_view c.new-members.ensures.empty)
+    c.in_ok-put_items.ensures.file c.in_ok-put_items-2.ensures.file c.in_ok-put_items-3.ensures.file
 
 pub returns-clause-fits : goal.returns-clause-fits
 returns-clause-fits c = record {
-  structs = mapped_of desc_of FitsDesc c.as_slice-3.result.now c.args.parts.now.structs c.as_slice-3.ensures c.in_ok-structs.ensures.fits;
-  devices = mapped_of device_of FitsDevice c.as_slice.result.now c.args.parts.now.devices c.as_slice.ensures c.in_ok-devices.ensures.fits;
+  structs = mapped_of desc_of FitsDesc c.as_slice-structs.result.now c.args.parts.now.structs c.as_slice-structs.ensures c.in_ok-put_items-3.ensures.fits;
+  devices = mapped_of device_of FitsDevice c.as_slice-devices.result.now c.args.parts.now.devices c.as_slice-devices.ensures c.in_ok-put_items.ensures.fits;
 }
