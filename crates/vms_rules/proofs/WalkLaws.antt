@@ -34,6 +34,9 @@ later_stops x y e none h = subst (λ (o : Option SetFault). IsFirst o e) (sym (f
 pub both_good : (x y : Option SetFault) → x ≡ None → y ≡ None → or_else x y ≡ None
 both_good x y none h = first_good x y none ∙ h
 
+pub judged_after : {X : Type 0} (x y : Option SetFault) (r : Result X DescFault) → x ≡ None → Judges y r → Judges (or_else x y) r
+judged_after x y r none h = subst (λ (o : Option SetFault). Judges o r) (sym (first_good x y none)) h
+
 -- ---- over a list
 
 head_is : {X Y : Type 0} (f : ℕ → Y → Option SetFault) (g : X → Y) (xs : List X) (i : ℕ) (x : X) → i < length xs → x ≡ get_or xs i x

@@ -3,10 +3,11 @@ ghost use Rattle.std.specs.Prelude.{◌≡◌, ◌<◌, ◌≤◌, ◌==◌, ◌
 ghost use Rattle.std.specs.List.{list_any};
 ghost use Rattle.std.specs.Str.{bytes_eq};
 ghost use Rattle.vms_spec.specs.Lists.{some};
+ghost use Rattle.vms_spec.specs.Rules.{is_small_test};
 ghost use Rattle.vms_spec.specs.Streams.{is_one_of};
 ghost use Rattle.vms_spec.specs.WellFormed.{has_few, is_same_device, sub_rules, sub_fault, device_rules, device_fault};
 ghost use Rattle.vms_parts.specs.Devices.{device_at};
-ghost use Rattle.vms_parts.specs.Views.{desc_of, sub_of, device_of, set_of};
+ghost use Rattle.vms_parts.specs.Views.{formula, desc_of, sub_of, device_of, set_of};
 ghost use Rattle.vms_rules.specs.Judged.{Judges};
 ghost use Rattle.vms_rules.specs.Walks.{subs_from, devices_from, sub_at, numbered};
 
@@ -17,7 +18,7 @@ use crate::formulas::{is_small, names_well};
 use crate::names::{add_name, is_name, is_sub_name};
 use std::alloc::Global;
 use std::collections::BTreeSet;
-use vms_parts::{Device, Part, Parts};
+use vms_parts::{Device, Part, Parts, Sub};
 
 // Judges the devices of a set.
 pub(crate) fn check_devices(alloc: Global, parts: &Parts) -> Result<(), DescFault>
@@ -173,7 +174,15 @@ fn sub_rules(device: &Device, number: usize, is_new: bool) -> [bool; 8]
         names,
         true,
         true,
-        has_few(desc) && is_small(&sub.needed),
+        is_small_sub(sub),
         true,
     ]
+}
+
+// Whether a subsection has few fields and validations, and a small test.
+fn is_small_sub(sub: &Sub) -> bool
+    ensures { result ≡ (has_few (desc_of sub.now.desc)
+        && is_small_test (formula sub.now.needed)) }
+{
+    has_few(&sub.desc) && is_small(&sub.needed)
 }

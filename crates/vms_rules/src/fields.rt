@@ -18,7 +18,7 @@ ghost use Rattle.vms_rules.specs.Naming.{may_name};
 use crate::DescFault;
 use crate::capacities::fits;
 use crate::fault::lowest;
-use crate::formulas::{Scope, is_small_if_any, may_name, names_well};
+use crate::formulas::{Scope, field_at, is_small_if_any, may_name, names_well};
 use crate::names::{Ended, add_name, add_names, are_names, is_name};
 use std::alloc::{AllocError, Global};
 use std::collections::BTreeSet;
@@ -72,7 +72,7 @@ fn count_names_well(desc: &Desc, number: usize, count: Count) -> bool
 fn is_counting(fields: &[Field], number: u32) -> bool
     ensures { result ≡ is_counting (at (map field_of fields.now) number) }
 {
-    match fields.get(number as usize) {
+    match field_at(fields, number) {
         Some(field) => matches!(field.item, Item::Num(Kind::U8 | Kind::U16 | Kind::U32)),
         None => false,
     }

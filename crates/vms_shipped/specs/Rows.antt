@@ -1,5 +1,5 @@
 -- What the rows of the tables of shipped sets stand for.
-use Rattle.std.specs.Prelude.{ℕ, List, [], ◌∷◌, ◌++◌, map}
+use Rattle.std.specs.Prelude.{List, [], ◌∷◌, ◌++◌, map}
 use Rattle.std.specs.Option.{option_map}
 use Rattle.vms_spec.specs.Sets as sets
 use Rattle.vms_spec.specs.declared.Whose.TheVariants.{Own}

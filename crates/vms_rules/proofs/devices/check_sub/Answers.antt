@@ -1,0 +1,30 @@
+use Rattle.std.proofs.Common.{◌≡◌, List, Bool, None, get_or, sym, ap, subst, ◌∙◌}
+use Rattle.vms_spec.specs.declared.Part.TheVariants as parts
+use Rattle.vms_spec.specs.declared.Place.{Place}
+use Rattle.vms_spec.specs.Layout.{no_desc}
+use Rattle.vms_spec.specs.Lists.{or_else}
+use Rattle.vms_spec.specs.Sets as sets
+use Rattle.vms_spec.specs.WellFormed.{failing, here, fields_fault, validations_fault, sub_rules}
+use Rattle.vms_parts.specs.declared.types.Sub.{Sub}
+use Rattle.vms_parts.specs.Views.{sub_of, device_of}
+use Rattle.vms_parts.proofs.Items.{get_map_at}
+use Rattle.vms_rules.specs.Judged.{Judges}
+use Rattle.vms_rules.specs.Walks.{sub_at}
+use Rattle.vms_rules.proofs.WalkLaws.{judged_after}
+use Rattle.vms_rules.proofs.devices.check_sub.Goals as goal
+
+pub returns : goal.returns
+returns c =
+    let w = c.args.within in
+    let j = c.args.number in
+    let part = parts.Sub w.number j in
+    let device = device_of w.device.now in
+    let s = sub_at device j in
+    let x = c.index-as_slice-number.result in
+    let is : x ≡ get_or w.device.now.subs j x = c.index-as_slice-number.is ∙ ap (λ (l : List Sub). get_or l j x) c.as_slice.ensures in
+    let at : s ≡ sub_of x = get_map_at sub_of w.device.now.subs j x (record { desc = no_desc; needed = sets.AtLeast 0 }) c.requires.there is in
+    let good : failing 1 (sub_rules device j s) (here part) ≡ None =
+    ap (λ (q : Place). failing 1 (sub_rules device j s) q) (sym c.here.ensures)
+    ∙ ap (λ (r : List Bool). failing 1 r c.here.result) (sym c.sub_rules.ensures) ∙ c.in_ok-lowest.ensures in
+    judged_after (failing 1 (sub_rules device j s) (here part)) (or_else (fields_fault w.structs s.desc part) (validations_fault s.desc part)) c.check_inside.result good
+    (subst (λ (y : sets.Sub). Judges (or_else (fields_fault w.structs y.desc part) (validations_fault y.desc part)) c.check_inside.result) (sym at) c.check_inside.ensures)

@@ -1,0 +1,26 @@
+use Rattle.std.proofs.Common.{◌≡◌, List, Bool, None, map, sym, ap, subst, ◌∙◌}
+use Rattle.vms_spec.specs.declared.Part.TheVariants.{Struct}
+use Rattle.vms_spec.specs.declared.Place.{Place}
+use Rattle.vms_spec.specs.Layout.{no_desc}
+use Rattle.vms_spec.specs.Lists.{or_else}
+use Rattle.vms_spec.specs.Sets as sets
+use Rattle.vms_spec.specs.WellFormed.{failing, here, fields_fault, validations_fault, struct_rules}
+use Rattle.vms_parts.specs.Views.{desc_of}
+use Rattle.vms_parts.proofs.Items.{get_map_at}
+use Rattle.vms_rules.specs.Judged.{Judges}
+use Rattle.vms_rules.specs.Walks.{desc_at}
+use Rattle.vms_rules.proofs.WalkLaws.{judged_after}
+use Rattle.vms_rules.proofs.structs.check_struct.Goals as goal
+
+pub returns : goal.returns
+returns c =
+    let structs = map desc_of c.args.structs.now in
+    let i = c.args.number in
+    let d = desc_at structs i in
+    let x = c.index-structs-number.result in
+    let at : d ≡ desc_of x = get_map_at desc_of c.args.structs.now i x no_desc c.requires.there c.index-structs-number.is in
+    let good : failing 1 (struct_rules structs i d) (here (Struct i)) ≡ None =
+    ap (λ (q : Place). failing 1 (struct_rules structs i d) q) (sym c.here.ensures)
+    ∙ ap (λ (r : List Bool). failing 1 r c.here.result) (sym c.requires.rules) ∙ c.in_ok-lowest.ensures in
+    judged_after (failing 1 (struct_rules structs i d) (here (Struct i))) (or_else (fields_fault i d (Struct i)) (validations_fault d (Struct i))) c.check_inside.result good
+    (subst (λ (y : sets.Desc). Judges (or_else (fields_fault i y (Struct i)) (validations_fault y (Struct i))) c.check_inside.result) (sym at) c.check_inside.ensures)
