@@ -13,11 +13,27 @@ use Rattle.vms_parts.proofs.Items.{get_map_at}
 use Rattle.vms_rules.specs.Judged.{IsFirst, Judges}
 use Rattle.vms_rules.specs.Walks.{subs_from}
 use Rattle.vms_rules.proofs.DeviceLaws.{inside_stops, subs_left}
-use Rattle.vms_rules.proofs.WalkLaws.{stops_by}
+use Rattle.vms_rules.proofs.WalkLaws.{stops_by, first_stops}
 use Rattle.vms_rules.proofs.devices.check_device.Goals as goal
 
 inside : ℕ → sets.Device → ℕ → Option SetFault
 inside k d i = or_else (fields_fault k d.desc (parts.Device i)) (validations_fault d.desc (parts.Device i))
+
+pub returns-in_err-lowest : goal.returns-in_err-lowest
+unfolding inside
+returns-in_err-lowest c =
+    let set = set_of c.args.parts.now in
+    let i = c.args.number in
+    let d = device_at set i in
+    let k = length set.structs in
+    let e = c.in_err-lowest.field-0.0 in
+    let rules = failing 1 (device_rules set i d) (here (parts.Device i)) in
+    let first : IsFirst rules e =
+    subst (λ (o : Option SetFault). IsFirst o e)
+    (ap (λ (r : List Bool). failing 1 r c.here.result) c.device_rules.ensures ∙ ap (λ (q : Place). failing 1 (device_rules set i d) q) c.here.ensures)
+    c.in_err-lowest.ensures in
+    stops_by (device_fault set i d) c.from_residual.result e c.from_residual.ensures.1
+    (first_stops (or_else rules (inside k d i)) (subs_from k i d 0 d.subs) e (first_stops rules (inside k d i) e first))
 
 pub returns-in_err-check_inside : goal.returns-in_err-check_inside
 unfolding inside

@@ -1,17 +1,35 @@
-use Rattle.std.proofs.Common.{◌≡◌, List, Bool, None, get_or, sym, ap, subst, ◌∙◌}
+use Rattle.std.proofs.Common.{◌≡◌, List, Bool, Option, None, get_or, sym, ap, subst, ◌∙◌}
 use Rattle.vms_spec.specs.declared.Part.TheVariants as parts
 use Rattle.vms_spec.specs.declared.Place.{Place}
 use Rattle.vms_spec.specs.Layout.{no_desc}
 use Rattle.vms_spec.specs.Lists.{or_else}
 use Rattle.vms_spec.specs.Sets as sets
-use Rattle.vms_spec.specs.WellFormed.{failing, here, fields_fault, validations_fault, sub_rules}
+use Rattle.vms_spec.specs.WellFormed.{SetFault, failing, here, fields_fault, validations_fault, sub_rules, sub_fault}
 use Rattle.vms_parts.specs.declared.types.Sub.{Sub}
 use Rattle.vms_parts.specs.Views.{sub_of, device_of}
 use Rattle.vms_parts.proofs.Items.{get_map_at}
-use Rattle.vms_rules.specs.Judged.{Judges}
+use Rattle.vms_rules.specs.Judged.{IsFirst, Judges}
 use Rattle.vms_rules.specs.Walks.{sub_at}
-use Rattle.vms_rules.proofs.WalkLaws.{judged_after}
+use Rattle.vms_rules.proofs.WalkLaws.{stops_by, first_stops, judged_after}
 use Rattle.vms_rules.proofs.devices.check_sub.Goals as goal
+
+pub sub_rules-requires-clause-new : goal.sub_rules-requires-clause-new
+sub_rules-requires-clause-new c = c.requires.new
+
+pub returns-in_err-lowest : goal.returns-in_err-lowest
+returns-in_err-lowest c =
+    let w = c.args.within in
+    let j = c.args.number in
+    let part = parts.Sub w.number j in
+    let device = device_of w.device.now in
+    let s = sub_at device j in
+    let e = c.in_err-lowest.field-0.0 in
+    let first : IsFirst (failing 1 (sub_rules device j s) (here part)) e =
+    subst (λ (o : Option SetFault). IsFirst o e)
+    (ap (λ (r : List Bool). failing 1 r c.here.result) c.sub_rules.ensures ∙ ap (λ (q : Place). failing 1 (sub_rules device j s) q) c.here.ensures)
+    c.in_err-lowest.ensures in
+    stops_by (sub_fault w.structs w.number device j s) c.from_residual.result e c.from_residual.ensures.1
+    (first_stops (failing 1 (sub_rules device j s) (here part)) (or_else (fields_fault w.structs s.desc part) (validations_fault s.desc part)) e first)
 
 pub returns : goal.returns
 returns c =
