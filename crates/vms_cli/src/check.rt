@@ -6,7 +6,7 @@ ghost use Rattle.vms_check.specs.Comparing.{first_mismatch};
 ghost use Rattle.vms_outcome.specs.Asks.{set_asked};
 ghost use Rattle.vms_cli.specs.Check.{asks_shelf, checked, compared, verdict};
 ghost use Rattle.vms_cli.specs.Causes.{CheckCause, CompareCause};
-ghost use Rattle.vms_outcome.specs.Fetching.{is_text, sets_in};
+ghost use Rattle.vms_outcome.specs.Fetching.{is_text, set_in, sets_in};
 ghost use Rattle.vms_outcome.specs.StepEndings.{TextEnds, text_of};
 ghost use Rattle.vms_outcome.specs.Steps.{next};
 ghost use Rattle.vms_outcome.specs.Texts.{TextContent};
@@ -60,15 +60,26 @@ fn check_texts<O: Sink>(alloc: Global, old: &SetText, new: &SetText, out: &mut O
     ensures count { O.faults out.old ≤ O.faults out.new }
     ensures promise { O.promise out.new ≡ O.promise out.old }
 {
-    let old = match read_fetched(alloc, old) {
-        Ok(set) => set,
-        Err(ending) => return ending,
-    };
-    let new = match read_fetched(alloc, new) {
-        Ok(set) => set,
-        Err(ending) => return ending,
-    };
-    compare(alloc, &old, &new, out)
+    match read_fetched(alloc, old) {
+        Ok(old) => check_text(alloc, &old, new, out),
+        Err(ending) => ending,
+    }
+}
+
+// Once the old set is read.
+fn check_text<O: Sink>(alloc: Global, old: &DescSet, new: &SetText, out: &mut O) -> Ending
+    ensures ends { TextEnds
+        (next (set_in (text_of new.now)) (λ set. verdict (first_mismatch (described old.now) set)))
+        (outlet O.Sink out.old) (outlet O.Sink out.new) result }
+    ensures cause { CompareCause (is_text (text_of new.now))
+        (outlet O.Sink out.old) (outlet O.Sink out.new) result }
+    ensures count { O.faults out.old ≤ O.faults out.new }
+    ensures promise { O.promise out.new ≡ O.promise out.old }
+{
+    match read_fetched(alloc, new) {
+        Ok(new) => compare(alloc, old, &new, out),
+        Err(ending) => ending,
+    }
 }
 
 fn compare<O: Sink>(alloc: Global, old: &DescSet, new: &DescSet, out: &mut O) -> Ending

@@ -53,21 +53,21 @@ pub(crate) fn show<I: Source, O: Sink, H: Shelf>(
     ensures shelf_promise { H.promise shelf.new ≡ H.promise shelf.old }
 {
     match loader_of(alloc, set, shelf) {
-        Ok(loader) => show_stream(loader, input, out),
+        Ok(mut loader) => show_stream(&mut loader, input, out),
         Err(ending) => ending,
     }
 }
 
 // Once the set is there.
-fn show_stream<I: Source, O: Sink>(mut loader: Loader, input: &mut I, out: &mut O) -> Ending
+fn show_stream<I: Source, O: Sink>(loader: &mut Loader, input: &mut I, out: &mut O) -> Ending
     ensures content { (shelf shelf' : Stock) (o : Outcome) → shelf'.held ≡ shelf.held
-        → IsSomeAnd (I.left input.old) (λ bytes. Shows (loads loader) bytes shelf.held o)
+        → IsSomeAnd (I.left input.old) (λ bytes. Shows (loads loader.old) bytes shelf.held o)
         → EndsAs (intake I.Source input.old) (intake I.Source input.new)
         (outlet O.Sink out.old) (outlet O.Sink out.new) shelf shelf' result o }
     ensures cause { StreamCause (intake I.Source input.old) (intake I.Source input.new)
         (outlet O.Sink out.old) (outlet O.Sink out.new) result }
-    ensures given { I.given input.new ≤ I.given input.old + most_given (loads loader) }
-    ensures heard { (held : Option Held) → HearsEnd (ShowsWell held (loads loader)) held
+    ensures given { I.given input.new ≤ I.given input.old + most_given (loads loader.old) }
+    ensures heard { (held : Option Held) → HearsEnd (ShowsWell held (loads loader.old)) held
         (I.given input.old) (I.given input.new)
         (outlet O.Sink out.old) (outlet O.Sink out.new) result }
     ensures input_count { I.faults input.old ≤ I.faults input.new }
@@ -76,7 +76,7 @@ fn show_stream<I: Source, O: Sink>(mut loader: Loader, input: &mut I, out: &mut 
     ensures out_promise { O.promise out.new ≡ O.promise out.old }
 {
     match loader.load(input, None) {
-        Ok(machine) => write_values(&loader, machine, out),
+        Ok(machine) => write_values(loader, machine, out),
         Err(LoadFault::Refused(refusal)) => Ending::Refused(refused_line(loader.set(), &refusal)),
         Err(LoadFault::ReadFault) => Ending::ReadFault,
     }

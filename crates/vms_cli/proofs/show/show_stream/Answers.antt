@@ -12,10 +12,10 @@ use Rattle.vms_cli.proofs.show.show_stream.Goals as goal
 
 pub returns-in-Ok-clause-content : goal.returns-in-Ok-clause-content
 returns-in-Ok-clause-content g c = λ shelf shelf' o held shows.
-    let set = loads c.args.loader in
+    let set = loads c.args.loader.now in
     let out = outlet g.O.Sink c.args.out.now in
     let out' = outlet g.O.Sink c.write_values.new.out in
-    loaded set (fit_of set c.args.loader.set.well_formed c.args.loader.set.heads) (intake g.I.Source c.args.input.now)
+    loaded set (fit_of set c.args.loader.now.set.well_formed c.args.loader.now.set.heads) (intake g.I.Source c.args.input.now)
     (intake g.I.Source c.load.new.source) out out' shelf shelf' held _ _ c.in-Ok.machine c.write_values.result o
     (g.met.I.Source.octets c.args.input.now) c.in-Ok.ensures.content c.in-Ok.ensures.given.0
     (subst (λ (s : Set). WritesAs (values_text s (machine_of s c.in-Ok.machine) (kept c.load.new.self)) out out' c.write_values.result)
@@ -23,16 +23,16 @@ returns-in-Ok-clause-content g c = λ shelf shelf' o held shows.
 
 pub returns-in-Err-Refused-clause-content : goal.returns-in-Err-Refused-clause-content
 returns-in-Err-Refused-clause-content g c = λ shelf shelf' o held shows.
-    let set = loads c.args.loader in
+    let set = loads c.args.loader.now in
     let r = c.in-Err-Refused.refusal in
-    refused set (fit_of set c.args.loader.set.well_formed c.args.loader.set.heads) (intake g.I.Source c.args.input.now)
+    refused set (fit_of set c.args.loader.now.set.well_formed c.args.loader.now.set.heads) (intake g.I.Source c.args.input.now)
     (intake g.I.Source c.load.new.source) (outlet g.O.Sink c.args.out.now) (outlet g.O.Sink c.args.out.now) shelf shelf' held [] 0
     c.in-Err-Refused.field-0 r c.in-Err-Refused.field-0-is c.refused_line.result o (g.met.I.Source.octets c.args.input.now)
     c.in-Err-Refused.ensures.content
     (c.refused_line.ensures ∙ ap (λ (s : Set). refused_line s r.at r.section r.reason) (c.set.ensures ∙ c.in-Err-Refused.ensures.set)) shows
 
-pub returns-clause-content : goal.returns-clause-content
-returns-clause-content g c = λ shelf shelf' o held shows.
+pub returns-in-Err-ReadFault-clause-content : goal.returns-in-Err-ReadFault-clause-content
+returns-in-Err-ReadFault-clause-content g c = λ shelf shelf' o held shows.
     let out = outlet g.O.Sink c.args.out.now in
     comes_to_nothing out out shelf shelf' o.parts (keeps_same out.written) held
 
@@ -40,19 +40,19 @@ returns-clause-content g c = λ shelf shelf' o held shows.
 
 pub returns-in-Ok-clause-heard : goal.returns-in-Ok-clause-heard
 returns-in-Ok-clause-heard g c = λ held.
-    let set = loads c.args.loader in
+    let set = loads c.args.loader.now in
     let out = outlet g.O.Sink c.args.out.now in
     let out' = outlet g.O.Sink c.write_values.new.out in
-    heard_shown set (fit_of set c.args.loader.set.well_formed c.args.loader.set.heads) held (g.I.Source.given c.args.input.now) (g.I.Source.given c.load.new.source) out out'
+    heard_shown set (fit_of set c.args.loader.now.set.well_formed c.args.loader.now.set.heads) held (g.I.Source.given c.args.input.now) (g.I.Source.given c.load.new.source) out out'
     (kept c.load.new.self) (taken_by c.load.new.self) c.in-Ok.machine c.write_values.result c.in-Ok.ensures.heard
     (subst (λ (s : Set). WritesAs (values_text s (machine_of s c.in-Ok.machine) (kept c.load.new.self)) out out' c.write_values.result)
     c.in-Ok.ensures.set c.write_values.ensures.written)
 
 pub returns-in-Err-Refused-clause-heard : goal.returns-in-Err-Refused-clause-heard
 returns-in-Err-Refused-clause-heard g c = λ held.
-    let set = loads c.args.loader in
+    let set = loads c.args.loader.now in
     let r = c.in-Err-Refused.refusal in
-    heard_refused set (fit_of set c.args.loader.set.well_formed c.args.loader.set.heads) held (g.I.Source.given c.args.input.now) (g.I.Source.given c.load.new.source)
+    heard_refused set (fit_of set c.args.loader.now.set.well_formed c.args.loader.now.set.heads) held (g.I.Source.given c.args.input.now) (g.I.Source.given c.load.new.source)
     (kept c.load.new.self) (taken_by c.load.new.self) c.in-Err-Refused.field-0 r c.in-Err-Refused.field-0-is c.refused_line.result
     (c.refused_line.ensures ∙ ap (λ (s : Set). refused_line s r.at r.section r.reason) (c.set.ensures ∙ c.in-Err-Refused.ensures.set))
     c.in-Err-Refused.ensures.heard

@@ -1,0 +1,13 @@
+use Rattle.vms_io.specs.Told.{outlet}
+use Rattle.vms_desc.specs.Described.{described}
+use Rattle.vms_cli.specs.Check.{compared}
+use Rattle.vms_outcome.specs.Fetching.{set_in}
+use Rattle.vms_outcome.specs.StepEndings.{text_of}
+use Rattle.vms_outcome.proofs.StepLemmas.{first_ends}
+use Rattle.vms_cli.proofs.CheckLemmas.{first_gives}
+use Rattle.vms_cli.proofs.check.check_texts.Goals as goal
+
+pub returns-in-Ok-clause-ends : goal.returns-in-Ok-clause-ends
+returns-in-Ok-clause-ends g c =
+    first_gives described compared (outlet g.O.Sink c.args.out.now) (outlet g.O.Sink c.check_text.new.out) c.check_text.result
+    (set_in (text_of c.args.old.now)) (set_in (text_of c.args.new.now)) c.in-Ok.old c.in-Ok.ensures.read c.check_text.ensures.ends
