@@ -1,7 +1,9 @@
 // A board and what happens to it.
 ghost use Rattle.std.specs.Prelude.{◌≡◌, ◌-◌, ◌<◌, ℕ, Some, length, IsTrue, IfOk};
 ghost use Rattle.dev_base.specs.Levels.{IsLevel};
+ghost use Rattle.dev_base.specs.declared.limits.TheConstants.{NEWEST as newest};
 ghost use Rattle.dev_board.specs.Saved.{MaySaveUnder};
+ghost use Rattle.vms_desc.specs.Described.{described};
 ghost use Rattle.vms_desc.specs.Formed.{shipped_set};
 ghost use Rattle.vms_spec.specs.Lists.{at};
 ghost use Rattle.vms_board.specs.Saving.{machine_of};
@@ -84,6 +86,13 @@ impl Board {
         ensures { result ≡ self.now.state.moment }
     {
         self.devices.now()
+    }
+
+    /// The newest shipped set, under whose descriptions a stream is restored. A refusal names its devices.
+    pub fn set(&self) -> &DescSet
+        ensures { described result.now ≡ shipped_set newest }
+    {
+        self.loader.set()
     }
 
     /// How many bytes the last stream that the board was restored from has, or 0 before the first.

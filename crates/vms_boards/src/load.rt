@@ -3,7 +3,6 @@ ghost use Rattle.std.specs.Prelude.{◌≡◌, ◌+◌, ◌≤◌, IsSomeAnd, No
 ghost use Rattle.dev_base.specs.Levels.{IsLevel};
 ghost use Rattle.dev_base.specs.declared.limits.TheConstants.{NEWEST as newest};
 ghost use Rattle.dev_board.specs.Laws.{AreEvents};
-ghost use Rattle.vms_desc.specs.Described.{described};
 ghost use Rattle.vms_desc.specs.Formed.{shipped_set};
 ghost use Rattle.vms_io.specs.Shelves.{Held};
 ghost use Rattle.vms_io.specs.Told.{Stock, intake, outlet, stock};
@@ -19,11 +18,9 @@ ghost use Rattle.vms_boards.specs.Scripts.{scripted};
 
 use crate::asked::OnBoard;
 use crate::scripts::events_of;
-use dev_base::NEWEST;
 use dev_board::Event;
 use std::alloc::Global;
 use vms_board::{Board, RestoreFault};
-use vms_desc::DescSet;
 use vms_io::{Shelf, Sink, Source};
 use vms_outcome::{Ending, refused_line};
 use vms_play::trace;
@@ -97,22 +94,17 @@ fn load_events<I: Source, O: Sink>(
     let Ok(mut board) = Board::new(alloc, level) else {
         return Ending::NoMemory;
     };
-    let Ok(set) = DescSet::shipped(alloc, NEWEST) else {
-        return Ending::NoMemory;
-    };
-    load_on(&mut board, &set, events, input, out)
+    load_on(&mut board, events, input, out)
 }
 
 // Once a board and its set are there.
 fn load_on<I: Source, O: Sink>(
     board: &mut Board,
-    set: &DescSet,
     events: &[Event],
     input: &mut I,
     out: &mut O,
 ) -> Ending
-    requires set { described set.now ≡ shipped_set newest }
-    requires events { AreEvents events.now }
+    requires { AreEvents events.now }
     ensures content { (shelf shelf' : Stock) (o : Outcome) → shelf'.held ≡ shelf.held
         → IsSomeAnd (I.left input.old)
         (λ bytes. Loads board.old.state.level (event_lines events.now) bytes shelf.held o)
@@ -132,7 +124,7 @@ fn load_on<I: Source, O: Sink>(
 {
     match board.restore(input) {
         Ok(()) => go_on(board, events, out),
-        Err(RestoreFault::Refused(refusal)) => Ending::Refused(refused_line(set, &refusal)),
+        Err(RestoreFault::Refused(refusal)) => Ending::Refused(refused_line(board.set(), &refusal)),
         Err(RestoreFault::ReadFault) => Ending::ReadFault,
     }
 }

@@ -21,11 +21,6 @@ returns-in_default-clause-content g c = λ shelf shelf' o held loads.
     let out = outlet g.O.Sink c.args.out.now in
     comes_to_nothing out out shelf shelf' o.parts (keeps_same out.written) held
 
-pub returns-in_default-shipped-clause-content : goal.returns-in_default-shipped-clause-content
-returns-in_default-shipped-clause-content g c = λ shelf shelf' o held loads.
-    let out = outlet g.O.Sink c.args.out.now in
-    comes_to_nothing out out shelf shelf' o.parts (keeps_same out.written) held
-
 pub returns-clause-heard : goal.returns-clause-heard
 returns-clause-heard g c = λ held.
     let level = ap (λ (m : State). m.level) c.in-Ok.ensures.state ∙ at_level c.args.level in

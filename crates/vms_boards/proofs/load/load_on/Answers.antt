@@ -33,7 +33,7 @@ returns-in-Err-Refused-clause-content g c = λ shelf shelf' o held loads.
     out out shelf shelf' r c.refused_line.result o (g.met.I.Source.octets c.args.input.now)
     (subst (λ (e : RestoreFault). IfSome (g.I.Source.left c.args.input.now) (λ (b : List ℕ). ComesTo level c.restore.new.self b left (Err e)))
     c.in-Err-Refused.field-0-is c.in-Err-Refused.ensures.content)
-    (c.refused_line.ensures ∙ ap (λ (s : Set). refused_line s r.at r.section r.reason) c.requires.set) loads
+    (c.refused_line.ensures ∙ ap (λ (s : Set). refused_line s r.at r.section r.reason) c.set.ensures) loads
 
 pub returns-in-Err-ReadFault-clause-content : goal.returns-in-Err-ReadFault-clause-content
 returns-in-Err-ReadFault-clause-content g c = λ shelf shelf' o held loads.
@@ -52,5 +52,5 @@ pub returns-in-Err-Refused-clause-heard : goal.returns-in-Err-Refused-clause-hea
 returns-in-Err-Refused-clause-heard g c = λ held.
     let r = c.in-Err-Refused.refusal in
     restore_heard c.args.board.now.state.level (event_lines c.args.events.now) held (g.I.Source.given c.args.input.now) (g.I.Source.given c.restore.new.source) r c.refused_line.result
-    (c.refused_line.ensures ∙ ap (λ (s : Set). refused_line s r.at r.section r.reason) c.requires.set)
+    (c.refused_line.ensures ∙ ap (λ (s : Set). refused_line s r.at r.section r.reason) c.set.ensures)
     c.restore.new.self c.in-Err-Refused.field-0 c.in-Err-Refused.field-0-is c.in-Err-Refused.ensures.heard
