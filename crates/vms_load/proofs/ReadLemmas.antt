@@ -158,15 +158,3 @@ read_behind go v next long at bytes to end left new result b up r =
     ) in
     reads_on (Some bytes) (Some (drop long bytes)) new (λ place rest. behind go at v (at + long) (drop long bytes)) (behind go at v) next start to end result (omega (arith, b.place)) up
     lead (subst (λ (o : Option (List ℕ)). ReadsOn (behind go at v) next to end o new result) b.taken r)
-
--- what is settled beside other answers
-pub settles_err : {X Y : Type 0} (v : Verdict State) (at n : ℕ) (next : X → State) (other : Y → State) (e : LoadFault) → Settles v at next n (Err e) → Settles v at other n (Err e)
-settles_err (Goes m s) at n next other e h = h
-settles_err (Faulty section reason m) at n next other (faults.Refused r) h = h
-settles_err (Faulty section reason m) at n next other faults.ReadFault h = h
-settles_err (Over end) at n next other e h = h
-
-pub settles_ok : {X Y : Type 0} (v : Verdict State) (at n : ℕ) (next : X → State) (other : Y → State) (x : X) (y : Y) → next x ≡ other y → Settles v at next n (Ok x) → Settles v at other n (Ok y)
-settles_ok (Goes m s) at n next other x y e h = (h.0 ∙ e, h.1)
-settles_ok (Faulty section reason m) at n next other x y e h = h
-settles_ok (Over end) at n next other x y e h = h

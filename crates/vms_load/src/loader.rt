@@ -2,6 +2,7 @@
 ghost use Rattle.std.specs.Prelude.{◌≡◌, ◌<◌, map, IfSome, IfOk, OnOk, OnErr};
 ghost use Rattle.vms_spec.specs.Images.{default_image};
 ghost use Rattle.vms_parts.specs.Views.{set_of};
+ghost use Rattle.vms_desc.specs.Described.{described};
 ghost use Rattle.vms_load.specs.Good.{AreKept, kept_once};
 ghost use Rattle.vms_image.specs.Typed.{AreImagesOf, state_of as untyped};
 ghost use Rattle.vms_load.specs.Staging.{AreShaped};
@@ -48,13 +49,7 @@ impl Loader {
             kept loader ≡ map (default_image (described set)) (described set).devices) }
         ensures taken { IfOk result (λ loader. taken_by loader ≡ 0) }
     {
-        let images = defaults(alloc, &set)?;
-        let staged = Staged {
-            images: defaults(alloc, &set)?,
-            came: ArrayVec::new(),
-            machine: None,
-            tail: Tail::Unknown,
-        };
+        let (images, staged) = room(alloc, &set)?;
         Ok(Loader {
             set,
             images,
@@ -119,4 +114,21 @@ impl Loader {
     {
         &self.set
     }
+}
+
+// The images that a loader of the set keeps, and what it reads of a stream, before it has taken any.
+fn room(alloc: Global, set: &DescSet) -> Result<(Vec<Image>, Staged), NoMemory>
+    ensures states { let set = described set.now in IfOk result (λ room.
+        map untyped room.0.items ≡ map (default_image set) set.devices) }
+    ensures shaped { IfOk result (λ room. AreShaped (described set.now) room.0.items) }
+    ensures spare { IfOk result (λ room. AreShaped (described set.now) room.1.images.items) }
+{
+    let images = defaults(alloc, set)?;
+    let staged = Staged {
+        images: defaults(alloc, set)?,
+        came: ArrayVec::new(),
+        machine: None,
+        tail: Tail::Unknown,
+    };
+    Ok((images, staged))
 }

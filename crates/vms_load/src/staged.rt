@@ -5,18 +5,18 @@ ghost use Rattle.vms_spec.specs.Images.{default_image};
 ghost use Rattle.vms_spec.specs.Lists.{position};
 ghost use Rattle.vms_spec.specs.Units.{Configuration, End};
 ghost use Rattle.vms_units.specs.Judged.{ask};
-ghost use Rattle.vms_units.specs.State.{Before, Free, Ended, at_start};
+ghost use Rattle.vms_units.specs.State.{Before, Free, at_start};
 ghost use Rattle.vms_desc.specs.Described.{described};
 ghost use Rattle.vms_image.specs.Typed.{default_at, state_of as untyped};
 ghost use Rattle.vms_load.specs.Reads.{Settles, IsRefused};
-ghost use Rattle.vms_load.specs.Staging.{AreShaped, IsOf, IsMachine, IsAccepted, accepted_of, no_image, state_of};
+ghost use Rattle.vms_load.specs.Staging.{AreShaped, IsOf, IsMachine, IsAccepted, accepted_of, no_image, state_of, spot_at};
 
 use crate::LoadFault;
 use crate::fault::refused;
 use arrayvec::ArrayVec;
 use std::alloc::Global;
 use vms_desc::{DescSet, Text};
-use vms_frames::Tail;
+use vms_frames::{Between, Tail};
 use vms_image::Image;
 use vms_io::NoMemory;
 use vms_marks::Name;
@@ -101,16 +101,17 @@ pub(crate) fn begin(staged: &mut Staged, device: u32, version: u32)
     staged.images[device as usize].set_version(version);
 }
 
-/// Takes the configuration at this place, which names an accepted machine.
+/// Takes the configuration at this place, which names an accepted machine, and answers the place after it.
 pub(crate) fn configure(
     set: &DescSet,
     only: Option<u32>,
     staged: &mut Staged,
     name: &Name,
     at: u64,
-) -> Result<(), LoadFault>
+) -> Result<Option<Between>, LoadFault>
     requires machine { IsMachine (described set.now).machines only }
     requires whole { IsOf (described set.now) staged.old }
+    ensures next { IfOk result (λ next. next ≡ Some Between.AfterConfiguration) }
     ensures short { length name.now.items ≤ 255 }
     ensures refused { IfErr result IsRefused }
     ensures settles { (first after : Bool)
@@ -118,7 +119,7 @@ pub(crate) fn configure(
         (ask (described set.now) (accepted_of (described set.now) only)
         (state_of (described set.now) staged.old (Free first after))
         (Configuration name.now.items) (5 + length name.now.items))
-        at (λ _. state_of (described set.now) staged.new (Free false true))
+        at (λ next. state_of (described set.now) staged.new (spot_at next))
         (5 + length name.now.items) result }
     ensures images { staged.new.images.items ≡ staged.old.images.items }
     ensures came { staged.new.came.items ≡ staged.old.came.items }
@@ -129,7 +130,7 @@ pub(crate) fn configure(
         Some(machine) => {
             staged.machine = Some(machine);
             staged.tail = Tail::Footed;
-            Ok(())
+            Ok(Some(Between::AfterConfiguration))
         }
     }
 }
@@ -160,15 +161,16 @@ fn find_machine(machines: &[Text], name: &[u8]) -> Option<u32>
     None
 }
 
-/// Takes the end mark at this place, before which each device's section must have come.
-pub(crate) fn end(staged: &Staged, at: u64) -> Result<(), LoadFault>
+/// Takes the end mark at this place, before which each device's section must have come: no place is after it.
+pub(crate) fn end(staged: &Staged, at: u64) -> Result<Option<Between>, LoadFault>
+    ensures next { IfOk result (λ next. next ≡ None) }
     ensures refused { IfErr result IsRefused }
     ensures settles { (set : Set) (names : List (List ℕ)) (first after : Bool)
         → Settles (ask set names (state_of set staged.now (Free first after)) End 1) at
-        (λ _. state_of set staged.now Ended) 1 result }
+        (λ next. state_of set staged.now (spot_at next)) 1 result }
 {
     match first_missing(&staged.came) {
-        None => Ok(()),
+        None => Ok(None),
         Some(device) => Err(refused(Some(device), at, Reason::MissingSection)),
     }
 }

@@ -144,18 +144,12 @@ fn turn<S: Source>(
 {
     let at = cursor.at();
     match cursor.between(source, between) {
-        Ok(Step::Configuration(name)) => {
-            configure(set, only, staged, &name, at)?;
-            Ok(Some(Between::AfterConfiguration))
-        }
+        Ok(Step::Configuration(name)) => configure(set, only, staged, &name, at),
         Ok(Step::Section(head)) => {
             opened(set, staged, &head, at, cursor, source)?;
             Ok(Some(Between::Later))
         }
-        Ok(Step::End) => {
-            end(staged, at)?;
-            Ok(None)
-        }
+        Ok(Step::End) => end(staged, at),
         Err(fault) => Err(LoadFault::concerning(None, fault)),
     }
 }

@@ -16,7 +16,6 @@ use vms_io::Sink;
 use vms_walk::{Spot, Step, Walker, walk};
 
 // Appends the bytes of a part.
-#[tactic(auto, using(crate::proofs::ByteLemmas::bytes_zeroed))]
 pub(crate) fn write_fields<K: Sink>(
     set: &DescSet,
     spot: Spot,

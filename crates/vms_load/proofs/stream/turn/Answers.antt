@@ -1,92 +1,46 @@
-use Rattle.std.proofs.Common.{◌+◌, Option, Some, None, Ok, Err, false, true, length, refl}
+use Rattle.std.proofs.Common.{Option, None, Ok, Err, false}
 use Rattle.std.proofs.lemmas.Result.{err_from_is_err_and}
-use Rattle.vms_spec.specs.Units.{Configuration, End}
 use Rattle.vms_units.specs.Judge.{judge}
-use Rattle.vms_units.specs.Judged.{ask}
-use Rattle.vms_units.specs.State.{Free, Ended, by_state}
+use Rattle.vms_units.specs.State.{Free, by_state}
 use Rattle.vms_laws.specs.Whole.{reading_on}
 use Rattle.vms_desc.specs.Described.{described}
 use Rattle.vms_frames.specs.declared.units.Between.{Between}
 use Rattle.vms_frames.specs.declared.units.Between.TheVariants as between
 use Rattle.vms_frames.specs.declared.units.Step.{Step}
 use Rattle.vms_frames.specs.declared.units.Step.TheVariants as steps
-use Rattle.vms_frames.proofs.HeardLemmas.{heard_as, heard_both}
+use Rattle.vms_frames.proofs.HeardLemmas.{heard_both}
 use Rattle.vms_load.specs.Staging.{accepted_of, state_of, spot_of, spot_at, is_first, is_configured}
-use Rattle.vms_load.proofs.ReadLemmas.{settles_err, settles_ok, still_on}
+use Rattle.vms_load.proofs.ReadLemmas.{still_on}
 use Rattle.vms_load.proofs.HearingLemmas.{hears_judged, hears_two, hears_still, on_concerning}
 use Rattle.vms_load.proofs.TurnReads.{turn_fault, turn_settled, turn_section}
 use Rattle.vms_load.proofs.stream.turn.Goals as goal
 
-pub returns-in_err-configure-in-Ok-Configuration-clause-reads : goal.returns-in_err-configure-in-Ok-Configuration-clause-reads
-returns-in_err-configure-in-Ok-Configuration-clause-reads g c =
+pub returns-in-Ok-Configuration-clause-reads : goal.returns-in-Ok-Configuration-clause-reads
+returns-in-Ok-Configuration-clause-reads g c =
     let set = described c.args.set.now in
     let names = accepted_of set c.args.only in
     let at = c.args.between in
-    let state = state_of set c.args.staged.now (spot_of at) in
     let from = c.args.cursor.now in
     let step = steps.Configuration c.in-Ok-Configuration.name in
-    let n = 5 + length c.in-Ok-Configuration.name.items in
     let content = rw c.in-Ok-Configuration.field-0-is at c.in-Ok-Configuration.ensures.content in
     let place = rw c.in-Ok-Configuration.field-0-is at c.in-Ok-Configuration.ensures.place in
     let held = c.in-Ok-Configuration.ensures.held in
-    let e = c.in_err-configure-in-Ok-Configuration.field-0.0 in
-    let settled = rw c.at-at.ensures at (c.in_err-configure-in-Ok-Configuration.ensures.settles (is_first at) (is_configured at)) in
-    let p = err_from_is_err_and c.from_residual.result c.from_residual.ensures.1 in
-    rw (p.1, p.2)
-    (turn_settled set names c.args.staged.now at {Y = Option Between} from c.between.new.self (g.S.Source.left c.args.source.now) (g.S.Source.left c.between.new.source) step
-    (λ next. state_of set c.configure.new.staged (spot_at next)) (Err e) content place held
-    (settles_err {X = Unit {0}} (ask set names state (Configuration c.in-Ok-Configuration.name.items) n) from.at n (λ x. state_of set c.configure.new.staged (Free false true)) (λ next. state_of set c.configure.new.staged (spot_at next)) e settled))
-
-pub returns-in_ok-configure-in-Ok-Configuration-clause-reads : goal.returns-in_ok-configure-in-Ok-Configuration-clause-reads
-returns-in_ok-configure-in-Ok-Configuration-clause-reads g c =
-    let set = described c.args.set.now in
-    let names = accepted_of set c.args.only in
-    let at = c.args.between in
-    let state = state_of set c.args.staged.now (spot_of at) in
-    let from = c.args.cursor.now in
-    let step = steps.Configuration c.in-Ok-Configuration.name in
-    let n = 5 + length c.in-Ok-Configuration.name.items in
-    let content = rw c.in-Ok-Configuration.field-0-is at c.in-Ok-Configuration.ensures.content in
-    let place = rw c.in-Ok-Configuration.field-0-is at c.in-Ok-Configuration.ensures.place in
-    let held = c.in-Ok-Configuration.ensures.held in
-    let settled = rw c.at-at.ensures at (c.in_ok-configure-in-Ok-Configuration.ensures.settles (is_first at) (is_configured at)) in
+    let settled = rw c.at-at.ensures at (c.configure.ensures.settles (is_first at) (is_configured at)) in
     turn_settled set names c.args.staged.now at {Y = Option Between} from c.between.new.self (g.S.Source.left c.args.source.now) (g.S.Source.left c.between.new.source) step
-    (λ next. state_of set c.configure.new.staged (spot_at next)) (Ok (Some between.AfterConfiguration)) content place held
-    (settles_ok {X = Unit {0}} (ask set names state (Configuration c.in-Ok-Configuration.name.items) n) from.at n (λ x. state_of set c.configure.new.staged (Free false true)) (λ next. state_of set c.configure.new.staged (spot_at next))
-    c.in_ok-configure-in-Ok-Configuration.field-0 (Some between.AfterConfiguration) refl settled)
+    (λ next. state_of set c.configure.new.staged (spot_at next)) c.configure.result content place held settled
 
-pub returns-in_err-end-in-Ok-End-clause-reads : goal.returns-in_err-end-in-Ok-End-clause-reads
-returns-in_err-end-in-Ok-End-clause-reads g c =
+pub returns-in-Ok-End-clause-reads : goal.returns-in-Ok-End-clause-reads
+returns-in-Ok-End-clause-reads g c =
     let set = described c.args.set.now in
     let names = accepted_of set c.args.only in
     let at = c.args.between in
-    let state = state_of set c.args.staged.now (spot_of at) in
     let from = c.args.cursor.now in
     let content = rw c.in-Ok-End.field-0-is at c.in-Ok-End.ensures.content in
     let place = rw c.in-Ok-End.field-0-is at c.in-Ok-End.ensures.place in
     let held = c.in-Ok-End.ensures.held in
-    let e = c.in_err-end-in-Ok-End.field-0.0 in
-    let settled = rw c.at-at.ensures at (c.in_err-end-in-Ok-End.ensures.settles set names (is_first at) (is_configured at)) in
-    let p = err_from_is_err_and c.from_residual-in_err-end-in-Ok-End.result c.from_residual-in_err-end-in-Ok-End.ensures.1 in
-    rw (p.1, p.2)
-    (turn_settled set names c.args.staged.now at {Y = Option Between} from c.between.new.self (g.S.Source.left c.args.source.now) (g.S.Source.left c.between.new.source) steps.End
-    (λ next. state_of set c.args.staged.now (spot_at next)) (Err e) content place held
-    (settles_err {X = Unit {0}} (ask set names state End 1) from.at 1 (λ x. state_of set c.args.staged.now Ended) (λ next. state_of set c.args.staged.now (spot_at next)) e settled))
-
-pub returns-in_ok-end-in-Ok-End-clause-reads : goal.returns-in_ok-end-in-Ok-End-clause-reads
-returns-in_ok-end-in-Ok-End-clause-reads g c =
-    let set = described c.args.set.now in
-    let names = accepted_of set c.args.only in
-    let at = c.args.between in
-    let state = state_of set c.args.staged.now (spot_of at) in
-    let from = c.args.cursor.now in
-    let content = rw c.in-Ok-End.field-0-is at c.in-Ok-End.ensures.content in
-    let place = rw c.in-Ok-End.field-0-is at c.in-Ok-End.ensures.place in
-    let held = c.in-Ok-End.ensures.held in
-    let settled = rw c.at-at.ensures at (c.in_ok-end-in-Ok-End.ensures.settles set names (is_first at) (is_configured at)) in
+    let settled = rw c.at-at.ensures at (c.end.ensures.settles set names (is_first at) (is_configured at)) in
     turn_settled set names c.args.staged.now at {Y = Option Between} from c.between.new.self (g.S.Source.left c.args.source.now) (g.S.Source.left c.between.new.source) steps.End
-    (λ next. state_of set c.args.staged.now (spot_at next)) (Ok None) content place held
-    (settles_ok {X = Unit {0}} (ask set names state End 1) from.at 1 (λ x. state_of set c.args.staged.now Ended) (λ next. state_of set c.args.staged.now (spot_at next)) c.in_ok-end-in-Ok-End.field-0 None refl settled)
+    (λ next. state_of set c.args.staged.now (spot_at next)) c.end.result content place held settled
 
 pub returns-in_err-opened-in-Ok-Section-clause-reads : goal.returns-in_err-opened-in-Ok-Section-clause-reads
 returns-in_err-opened-in-Ok-Section-clause-reads g c =
@@ -102,7 +56,7 @@ returns-in_err-opened-in-Ok-Section-clause-reads g c =
     let place = rw c.in-Ok-Section.field-0-is at c.in-Ok-Section.ensures.place in
     let held = c.in-Ok-Section.ensures.held in
     let e = c.in_err-opened-in-Ok-Section.field-0.0 in
-    let p = err_from_is_err_and c.from_residual-in_err-opened-in-Ok-Section.result c.from_residual-in_err-opened-in-Ok-Section.ensures.1 in
+    let p = err_from_is_err_and c.from_residual.result c.from_residual.ensures.1 in
     rw (p.1, p.2)
     (still_on {X = Unit {0}} {Y = Option Between} first (go (state_of set c.args.staged.now (spot_of at))) (λ x. go (state_of set c.opened.new.staged (Free false false))) (λ next. go (state_of set c.opened.new.staged (spot_at next)))
     from c.opened.new.cursor c.opened.new.cursor left e
@@ -134,80 +88,34 @@ returns-in-Err-clause-reads g c =
 
 -- ---- what is heard
 
-pub returns-in_err-configure-in-Ok-Configuration-clause-heard : goal.returns-in_err-configure-in-Ok-Configuration-clause-heard
-returns-in_err-configure-in-Ok-Configuration-clause-heard g c =
+pub returns-in-Ok-Configuration-clause-heard : goal.returns-in-Ok-Configuration-clause-heard
+returns-in-Ok-Configuration-clause-heard g c =
     let set = described c.args.set.now in
     let names = accepted_of set c.args.only in
     let at = c.args.between in
-    let state = state_of set c.args.staged.now (spot_of at) in
     let from = c.args.cursor.now in
     let step = steps.Configuration c.in-Ok-Configuration.name in
-    let n = 5 + length c.in-Ok-Configuration.name.items in
     let heard = rw c.in-Ok-Configuration.field-0-is at c.in-Ok-Configuration.ensures.heard in
     let place = rw c.in-Ok-Configuration.field-0-is at c.in-Ok-Configuration.ensures.place in
     let held = c.in-Ok-Configuration.ensures.held in
-    let e = c.in_err-configure-in-Ok-Configuration.field-0.0 in
-    let settled = rw c.at-at.ensures at (c.in_err-configure-in-Ok-Configuration.ensures.settles (is_first at) (is_configured at)) in
-    let p = err_from_is_err_and c.from_residual.result c.from_residual.ensures.1 in
-    rw (p.1, p.2)
-    (hears_judged {X = Option Between} (g.S.Source.given c.args.source.now) (g.S.Source.given c.between.new.source) (Err e)
+    let settled = rw c.at-at.ensures at (c.configure.ensures.settles (is_first at) (is_configured at)) in
+    hears_judged {X = Option Between} (g.S.Source.given c.args.source.now) (g.S.Source.given c.between.new.source) c.configure.result
     (λ old left h. turn_settled set names c.args.staged.now at {Y = Option Between} from c.between.new.self old left step
-    (λ next. state_of set c.configure.new.staged (spot_at next)) (Err e) h place held
-    (settles_err {X = Unit {0}} (ask set names state (Configuration c.in-Ok-Configuration.name.items) n) from.at n (λ x. state_of set c.configure.new.staged (Free false true)) (λ next. state_of set c.configure.new.staged (spot_at next)) e settled)) heard)
+    (λ next. state_of set c.configure.new.staged (spot_at next)) c.configure.result h place held settled) heard
 
-pub returns-in_ok-configure-in-Ok-Configuration-clause-heard : goal.returns-in_ok-configure-in-Ok-Configuration-clause-heard
-returns-in_ok-configure-in-Ok-Configuration-clause-heard g c =
+pub returns-in-Ok-End-clause-heard : goal.returns-in-Ok-End-clause-heard
+returns-in-Ok-End-clause-heard g c =
     let set = described c.args.set.now in
     let names = accepted_of set c.args.only in
     let at = c.args.between in
-    let state = state_of set c.args.staged.now (spot_of at) in
-    let from = c.args.cursor.now in
-    let step = steps.Configuration c.in-Ok-Configuration.name in
-    let n = 5 + length c.in-Ok-Configuration.name.items in
-    let heard = rw c.in-Ok-Configuration.field-0-is at c.in-Ok-Configuration.ensures.heard in
-    let place = rw c.in-Ok-Configuration.field-0-is at c.in-Ok-Configuration.ensures.place in
-    let held = c.in-Ok-Configuration.ensures.held in
-    let settled = rw c.at-at.ensures at (c.in_ok-configure-in-Ok-Configuration.ensures.settles (is_first at) (is_configured at)) in
-    heard_as (λ more. Unit {0}) (g.S.Source.given c.args.source.now) (g.S.Source.given c.between.new.source)
-    (λ old left h. turn_settled set names c.args.staged.now at {Y = Option Between} from c.between.new.self old left step
-    (λ next. state_of set c.configure.new.staged (spot_at next)) (Ok (Some between.AfterConfiguration)) h place held
-    (settles_ok {X = Unit {0}} (ask set names state (Configuration c.in-Ok-Configuration.name.items) n) from.at n (λ x. state_of set c.configure.new.staged (Free false true)) (λ next. state_of set c.configure.new.staged (spot_at next))
-    c.in_ok-configure-in-Ok-Configuration.field-0 (Some between.AfterConfiguration) refl settled)) heard
-
-pub returns-in_err-end-in-Ok-End-clause-heard : goal.returns-in_err-end-in-Ok-End-clause-heard
-returns-in_err-end-in-Ok-End-clause-heard g c =
-    let set = described c.args.set.now in
-    let names = accepted_of set c.args.only in
-    let at = c.args.between in
-    let state = state_of set c.args.staged.now (spot_of at) in
     let from = c.args.cursor.now in
     let heard = rw c.in-Ok-End.field-0-is at c.in-Ok-End.ensures.heard in
     let place = rw c.in-Ok-End.field-0-is at c.in-Ok-End.ensures.place in
     let held = c.in-Ok-End.ensures.held in
-    let e = c.in_err-end-in-Ok-End.field-0.0 in
-    let settled = rw c.at-at.ensures at (c.in_err-end-in-Ok-End.ensures.settles set names (is_first at) (is_configured at)) in
-    let p = err_from_is_err_and c.from_residual-in_err-end-in-Ok-End.result c.from_residual-in_err-end-in-Ok-End.ensures.1 in
-    rw (p.1, p.2)
-    (hears_judged {X = Option Between} (g.S.Source.given c.args.source.now) (g.S.Source.given c.between.new.source) (Err e)
+    let settled = rw c.at-at.ensures at (c.end.ensures.settles set names (is_first at) (is_configured at)) in
+    hears_judged {X = Option Between} (g.S.Source.given c.args.source.now) (g.S.Source.given c.between.new.source) c.end.result
     (λ old left h. turn_settled set names c.args.staged.now at {Y = Option Between} from c.between.new.self old left steps.End
-    (λ next. state_of set c.args.staged.now (spot_at next)) (Err e) h place held
-    (settles_err {X = Unit {0}} (ask set names state End 1) from.at 1 (λ x. state_of set c.args.staged.now Ended) (λ next. state_of set c.args.staged.now (spot_at next)) e settled)) heard)
-
-pub returns-in_ok-end-in-Ok-End-clause-heard : goal.returns-in_ok-end-in-Ok-End-clause-heard
-returns-in_ok-end-in-Ok-End-clause-heard g c =
-    let set = described c.args.set.now in
-    let names = accepted_of set c.args.only in
-    let at = c.args.between in
-    let state = state_of set c.args.staged.now (spot_of at) in
-    let from = c.args.cursor.now in
-    let heard = rw c.in-Ok-End.field-0-is at c.in-Ok-End.ensures.heard in
-    let place = rw c.in-Ok-End.field-0-is at c.in-Ok-End.ensures.place in
-    let held = c.in-Ok-End.ensures.held in
-    let settled = rw c.at-at.ensures at (c.in_ok-end-in-Ok-End.ensures.settles set names (is_first at) (is_configured at)) in
-    heard_as (λ more. Unit {0}) (g.S.Source.given c.args.source.now) (g.S.Source.given c.between.new.source)
-    (λ old left h. turn_settled set names c.args.staged.now at {Y = Option Between} from c.between.new.self old left steps.End
-    (λ next. state_of set c.args.staged.now (spot_at next)) (Ok None) h place held
-    (settles_ok {X = Unit {0}} (ask set names state End 1) from.at 1 (λ x. state_of set c.args.staged.now Ended) (λ next. state_of set c.args.staged.now (spot_at next)) c.in_ok-end-in-Ok-End.field-0 None refl settled)) heard
+    (λ next. state_of set c.args.staged.now (spot_at next)) c.end.result h place held settled) heard
 
 pub returns-in_err-opened-in-Ok-Section-clause-heard : goal.returns-in_err-opened-in-Ok-Section-clause-heard
 returns-in_err-opened-in-Ok-Section-clause-heard g c =
@@ -223,7 +131,7 @@ returns-in_err-opened-in-Ok-Section-clause-heard g c =
     let place = rw c.in-Ok-Section.field-0-is at c.in-Ok-Section.ensures.place in
     let held = c.in-Ok-Section.ensures.held in
     let e = c.in_err-opened-in-Ok-Section.field-0.0 in
-    let p = err_from_is_err_and c.from_residual-in_err-opened-in-Ok-Section.result c.from_residual-in_err-opened-in-Ok-Section.ensures.1 in
+    let p = err_from_is_err_and c.from_residual.result c.from_residual.ensures.1 in
     rw (p.1, p.2)
     (hears_still (Unit {0}) (Option Between) first last (go (state_of set c.args.staged.now (spot_of at))) (λ x. go (state_of set c.opened.new.staged (Free false false))) (λ next. go (state_of set c.opened.new.staged (spot_at next)))
     from c.opened.new.cursor c.opened.new.cursor e
