@@ -34,8 +34,7 @@ fn write_fields(
     draft.text.push_str("[")?;
     draft.later = false;
     list_part(lister, part, place, draft)?;
-    draft.text.push_str("]")?;
-    Ok(())
+    draft.text.push_str("]")
 }
 
 // The members of a subsection after its fields.
@@ -45,8 +44,7 @@ fn put_sub_head(text: &mut String, desc: &Desc, sent: bool) -> Result<(), AllocE
 {
     put_text(text, "name", desc.name.as_str())?;
     put_flag(text, "sent", sent)?;
-    put_natural(text, "version", desc.version as u64)?;
-    Ok(())
+    put_natural(text, "version", desc.version as u64)
 }
 
 // A subsection, whether or not it stands in the stream.
@@ -100,8 +98,7 @@ fn write_subs(lister: &Lister, device: u32, draft: &mut Draft) -> Result<(), All
     draft.text.push_str("[")?;
     draft.later = false;
     write_each(lister, device, draft)?;
-    draft.text.push_str("]")?;
-    Ok(())
+    draft.text.push_str("]")
 }
 
 // The members of a device between its fields and its subsections.

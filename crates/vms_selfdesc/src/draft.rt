@@ -25,8 +25,7 @@ pub(crate) fn begin(draft: &mut Draft, front: &str) -> Result<(), AllocError>
     if draft.later {
         draft.text.push_str(",")?;
     }
-    draft.text.push_str(front)?;
-    Ok(())
+    draft.text.push_str(front)
 }
 
 fn put_key(text: &mut String, key: &str) -> Result<(), AllocError>
@@ -34,8 +33,7 @@ fn put_key(text: &mut String, key: &str) -> Result<(), AllocError>
 {
     text.push_str(",\"")?;
     text.push_str(key)?;
-    text.push_str("\":")?;
-    Ok(())
+    text.push_str("\":")
 }
 
 pub(crate) fn put_text(text: &mut String, key: &str, value: &str) -> Result<(), AllocError>
@@ -46,8 +44,7 @@ pub(crate) fn put_text(text: &mut String, key: &str, value: &str) -> Result<(), 
     put_key(text, key)?;
     text.push_str("\"")?;
     text.push_str(value)?;
-    text.push_str("\"")?;
-    Ok(())
+    text.push_str("\"")
 }
 
 fn flag_word(flag: bool) -> &'static str
@@ -61,8 +58,7 @@ pub(crate) fn put_flag(text: &mut String, key: &str, flag: bool) -> Result<(), A
     ensures { OnOk result (Puts text.old text.new key.now (boolean flag)) }
 {
     put_key(text, key)?;
-    text.push_str(flag_word(flag))?;
-    Ok(())
+    text.push_str(flag_word(flag))
 }
 
 pub(crate) fn put_natural(text: &mut String, key: &str, number: u64) -> Result<(), AllocError>
@@ -70,8 +66,7 @@ pub(crate) fn put_natural(text: &mut String, key: &str, number: u64) -> Result<(
     ensures { OnOk result (Puts text.old text.new key.now (natural number)) }
 {
     put_key(text, key)?;
-    write!(text, "{number}")?;
-    Ok(())
+    write!(text, "{number}")
 }
 
 // A number of 64 bits, with or without a sign.
@@ -93,6 +88,5 @@ fn put_negative(text: &mut String, key: &str, value: i64) -> Result<(), AllocErr
     ensures { OnOk result (Puts text.old text.new key.now (number (of_integer value))) }
 {
     put_key(text, key)?;
-    write!(text, "{value}")?;
-    Ok(())
+    write!(text, "{value}")
 }

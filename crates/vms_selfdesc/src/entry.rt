@@ -68,8 +68,7 @@ fn put_size(text: &mut String, size: u64, word: &str) -> Result<(), AllocError>
     ensures { OnOk result (PutsSize text.old text.new size word.now) }
 {
     put_natural(text, "size", size)?;
-    put_text(text, "type", word)?;
-    Ok(())
+    put_text(text, "type", word)
 }
 
 // What stands in the stream.

@@ -47,8 +47,7 @@ fn enter_element(path: &mut String, number: u32) -> Result<(), AllocError>
     let mut digits = Buffer::new();
     path.push_str("[")?;
     path.push_str(digits.format(number))?;
-    path.push_str("]")?;
-    Ok(())
+    path.push_str("]")
 }
 
 // Goes back to the first bytes of a path.

@@ -46,8 +46,7 @@ fn write_tree(set: &DescSet, images: &[Image], draft: &mut Draft) -> Result<(), 
 {
     draft.text.push_str("{\"devices\":[")?;
     write_devices(set, images, draft)?;
-    draft.text.push_str("]}")?;
-    Ok(())
+    draft.text.push_str("]}")
 }
 
 fn write_devices(set: &DescSet, images: &[Image], draft: &mut Draft) -> Result<(), AllocError>

@@ -1,6 +1,6 @@
 -- Devices that are read one after the other, and judged.
-use Rattle.std.proofs.Common.{◌≡◌, ℕ, zero, suc, ◌+◌, ◌<◌, ◌≤◌, Bool, true, false, List, [], ◌∷◌, ◌++◌, length, map, take, drop, if◌then◌else◌, Option, Some, None, Result, Ok, Err, refl, sym, ap, ◌∙◌, arith, append_assoc, length-append}
-use Rattle.std.proofs.lemmas.List.{drop_more, take_more, map-append}
+use Rattle.std.proofs.Common.{◌≡◌, ℕ, zero, suc, ◌+◌, ◌<◌, ◌≤◌, Bool, true, false, List, [], ◌∷◌, ◌++◌, length, map, take, drop, if◌then◌else◌, Option, Some, None, Result, Ok, Err, refl, sym, ap, ◌∙◌, arith, subst, append_assoc, append-nil, length-append}
+use Rattle.std.proofs.lemmas.List.{drop_more, drop_all, take_more, take_all, map-append}
 use Rattle.vms_spec.specs.declared.ValuesReason.TheVariants as reasons
 use Rattle.vms_spec.specs.Sets.{Device, Set}
 use Rattle.vms_spec.specs.Images.{Image, own_cells}
@@ -9,7 +9,9 @@ use Rattle.vms_spec.specs.ValuesReading.{BadLine, Standing, ReadSubs, ReadDevice
 use Rattle.vms_desc.specs.Described.{device_at}
 use Rattle.vms_values.specs.declared.devices.Reading.{Reading}
 use Rattle.vms_values.specs.Judging.{bad_of}
-use Rattle.vms_values.specs.DevicesRead.{found, device_read, start_of, DeviceRead}
+use Rattle.vms_values.specs.DevicesRead.{found, device_read, start_of, DeviceRead, AllRead}
+use Rattle.vms_values.specs.declared.fault.LineFault.{LineFault}
+use Rattle.vms_values.specs.declared.fault.LineFault.TheVariants as faults
 use Rattle.vms_values.proofs.DeviceLemmas.{with_devices}
 
 -- ---- one device
@@ -95,6 +97,20 @@ module _ (set : Set) (i : ℕ) (lt : i < length set.devices) where
   given (Ok (r, p)) old new image e h = record { r = r; p = p; read = e; same = h.0; line = h.1; rest = h.2; judged = h.3 }
   given (Err b) old new image e h = absurd h
 
+  refused : (x : Result (ReadDevice × Standing) BadLine) (start : Result ReadAll BadLine) (done : List ReadDevice) (go : ℕ → List ℕ → Result ReadAll BadLine) (begun old new : Reading) (e : LineFault)
+      → with_devices done (after_device go x) ≡ start → DeviceRead set (device_at set i) x old new (Err e) → AllRead set start begun new (Err e)
+  refused (Ok (r, p)) start done go begun old new (faults.Bad line reason) w h = absurd h
+  refused (Ok (r, p)) start done go begun old new faults.NoMemory w h = tt
+  refused (Err b) start done go begun old new (faults.Bad line reason) w h = subst (λ (s : Result ReadAll BadLine). AllRead set s begun new (Err (faults.Bad line reason))) w h
+  refused (Err b) start done go begun old new faults.NoMemory w h = tt
+
+  pub gathered_refused : (start : Result ReadAll BadLine) (first judged : Option BadLine) (images : List Image) (begun old new : Reading) (e : LineFault)
+      → Gathered set i start first judged images (read_devices set (drop i set.devices) old.lines.line old.lines.rest.now)
+      → DeviceRead set (device_at set i) (device_read set (device_at set i) (start_of set (device_at set i) old)) old new (Err e) → AllRead set start begun new (Err e)
+  gathered_refused start first judged images begun old new e g h =
+      let d = device_at set i in
+      refused (device_read set d (start_of set d old)) start g.done (λ line rest. read_devices set (drop (i + 1) set.devices) line rest) begun old new e (ap (with_devices g.done) (sym (next_device old)) ∙ g.whole) h
+
   pub gathered_next : (start : Result ReadAll BadLine) (first : Option BadLine) (images more : List Image) (old new : Reading) (image : Image)
       → Gathered set i start first (bad_of old.judged) images (read_devices set (drop i set.devices) old.lines.line old.lines.rest.now)
       → DeviceRead set (device_at set i) (device_read set (device_at set i) (start_of set (device_at set i) old)) old new (Ok image) → more ≡ images ++ image ∷ []
@@ -119,4 +135,18 @@ module _ (set : Set) (i : ℕ) (lt : i < length set.devices) where
             ∙ ap (λ (l : List Device). or_bad first (judge_devices set l (g.done ++ k.r ∷ []))) (sym (take_more set.devices i _ lt));
       }
 
--- ---- answers
+-- all devices are read
+pub gathered_all : (set : Set) (n : ℕ) (start : Result ReadAll BadLine) (images : List Image) (begun now : Reading) → length set.devices ≡ n
+    → Gathered set n start (bad_of begun.judged) (bad_of now.judged) images (read_devices set (drop n set.devices) now.lines.line now.lines.rest.now) → AllRead set start begun now (Ok images)
+gathered_all set n start images begun now e g =
+    let first = bad_of begun.judged in
+    let none : drop n set.devices ≡ [] = drop_all n set.devices (omega (arith, e)) in
+    let all : take n set.devices ≡ set.devices = take_all n set.devices (omega (arith, e)) in
+    let same : g.done ++ [] ≡ g.done = append-nil g.done in
+    subst (λ (s : Result ReadAll BadLine). AllRead set s begun now (Ok images))
+    (ap (λ (l : List Device). with_devices g.done (read_devices set l now.lines.line now.lines.rest.now)) (sym none) ∙ g.whole) (
+      ap (map (λ r. r.image)) same ∙ g.images_are,
+      refl,
+      refl,
+      g.so_far ∙ ap (λ (l : List Device). or_bad first (judge_devices set l g.done)) all ∙ ap (λ (l : List ReadDevice). or_bad first (judge_devices set set.devices l)) (sym same),
+    )

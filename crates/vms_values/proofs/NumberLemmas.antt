@@ -1,12 +1,12 @@
 -- Numbers as they are spelled.
-use Rattle.std.proofs.Common.{◌≡◌, ℕ, ◌+◌, ◌-◌, ◌*◌, ◌^◌, ◌<◌, ◌≤◌, Bool, true, false, not, ◌&&◌, ◌||◌, ◌==◌, nat_le, nat_lt, List, [], ◌∷◌, zero, suc, ◌++◌, take, length, get_or, drop, Option, Some, None, if◌then◌else◌, refl, sym, ap, ◌∙◌, subst, arith, length-drop}
+use Rattle.std.proofs.Common.{◌≡◌, ℕ, ◌+◌, ◌-◌, ◌*◌, ◌^◌, ◌<◌, ◌≤◌, Bool, true, false, not, ◌&&◌, ◌||◌, ◌==◌, nat_le, nat_lt, List, [], ◌∷◌, zero, suc, ◌++◌, take, length, get_or, drop, Option, Some, None, if◌then◌else◌, refl, sym, ap, ◌∙◌, subst, arith, length-drop, ℤ, pos}
 use Rattle.std.proofs.lemmas.Bool.{ltb-true, ltb-false, leb-true, and_parts}
 use Rattle.std.proofs.Math.Nat.{pow-suc}
 use Rattle.std.proofs.lemmas.List.{drop_more, drop_all, take_all, take-append-drop}
 use Rattle.std.proofs.lemmas.Bool.Decides.{nat_tests}
 use Rattle.std.specs.Option.{option_and_then}
 use Rattle.vms_spec.specs.Lists.{every}
-use Rattle.vms_spec.specs.Spelling.{is_digit, natural_from}
+use Rattle.vms_spec.specs.Spelling.{is_digit, are_digits, natural_from, number_spelled}
 use Rattle.vms_values.specs.Spelled.{with_digit, natural_spelled, read_from}
 
 -- ---- digits
@@ -134,3 +134,13 @@ few_next i n d m text lt e =
 -- ---- ranges
 
 -- ---- signs
+
+-- ---- a number without a sign
+
+pub spelled_is : (text : List ℕ) (value : ℕ) → Some value ≡ natural_spelled text → number_spelled text ≡ Some (pos value)
+spelled_is text value e = by (natural_from 0 text) _ (are_digits text) (nat_lt (natural_from 0 text) (2 ^ 64)) e
+  where
+    by : (n : ℕ) (other : Option ℤ) (a b : Bool) → Some value ≡ (if a && b then Some n else None) → (if a then Some (pos n) else other) ≡ Some (pos value)
+    by n other true true e = let same : value ≡ n = cc in ap (λ (k : ℕ). Some (pos k)) (sym same)
+    by n other true false e = cc
+    by n other false b e = cc

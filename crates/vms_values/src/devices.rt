@@ -1,8 +1,8 @@
 // Reads the lines of devices.
-ghost use Rattle.std.specs.Prelude.{◌<◌, length, map, IfOk};
+ghost use Rattle.std.specs.Prelude.{◌≡◌, ◌<◌, [], length, map, IfOk, OnOk};
 ghost use Rattle.vms_spec.specs.ValuesReading.{values_read, read_devices as devices_read};
 ghost use Rattle.vms_desc.specs.Described.{described, device_at};
-ghost use Rattle.vms_image.specs.Typed.{state_of, IsImageOf, AreImagesOf};
+ghost use Rattle.vms_image.specs.Typed.{state_of, default_at, IsImageOf, AreImagesOf};
 ghost use Rattle.vms_values.specs.Reading.{ReadsBy};
 ghost use Rattle.vms_values.specs.DevicesRead.{device_read, start_of, DeviceRead, AllRead, map_ok, ToldAs};
 
@@ -97,7 +97,30 @@ fn read_image(
         image: Image::new(alloc, set, device)?,
         lines: reading.lines,
     };
-    let mut sub_lines = Vec::new(alloc);
+    read_device(set, device, &mut taken, &mut Vec::new(alloc), reading)?;
+    Ok(taken.image)
+}
+
+// Reads the lines of a device over its defaults, and judges them. `sub_lines` takes the numbers of the
+// lines of its subsections.
+fn read_device<'a>(
+    set: &DescSet,
+    device: u32,
+    taken: &mut Taken<'a>,
+    sub_lines: &mut Vec<usize>,
+    reading: &mut Reading<'a>,
+) -> Result<(), LineFault>
+    requires known { device < length (described set.now).devices }
+    requires defaults { taken.old.image ≡ default_at (described set.now) device }
+    requires lines { taken.old.lines ≡ reading.old.lines }
+    requires none { sub_lines.old.items ≡ [] }
+    ensures read { let d = device_at (described set.now) device in
+        let start = start_of (described set.now) d reading.old in
+        let whole = device_read (described set.now) d start in
+        let image = state_of taken.new.image in
+        DeviceRead (described set.now) d whole reading.old reading.new (map_ok (λ u. image) result) }
+    ensures of { OnOk result (IsImageOf (described set.now) device taken.new.image) }
+{
     let line = taken.lines.line;
     read_section(set.device(device), &mut taken.lines)?;
     let own = Spot {
@@ -105,11 +128,11 @@ fn read_image(
         version: taken.image.version(),
         base: 0,
     };
-    read_part(set, own, &mut taken)?;
-    read_subs(set, device, &mut taken, &mut sub_lines)?;
+    read_part(set, own, taken)?;
+    read_subs(set, device, taken, sub_lines)?;
     reading.lines = taken.lines;
     if reading.judged.is_none() {
-        reading.judged = judge_device(set, device, &taken.image, line, &sub_lines);
+        reading.judged = judge_device(set, device, &taken.image, line, sub_lines);
     }
-    Ok(taken.image)
+    Ok(())
 }

@@ -1,3 +1,7 @@
+use Rattle.std.proofs.lemmas.Result.{on_ok_weaker}
+use Rattle.std.proofs.Common.{codes}
+use Rattle.serde_json.specs.Data.{string}
+use Rattle.vms_selfdesc.specs.Drafts.{Puts, PutsSize}
 use Rattle.vms_selfdesc.proofs.Following.{further}
 use Rattle.vms_selfdesc.proofs.Keys.{plain_size, plain_type}
 use Rattle.vms_selfdesc.proofs.entry.put_size.Goals as goal
@@ -9,7 +13,10 @@ pub put_text-requires-clause-key : goal.put_text-requires-clause-key
 put_text-requires-clause-key c = plain_type
 
 pub returns : goal.returns
-returns c = record {
-  text = further c.args.text.now c.put_natural.new.text c.put_text.new.text _ _ c.in_ok-put_natural.ensures.text c.in_ok-put_text.ensures.text;
-  sound = c.in_ok-put_natural.ensures.sound;
-}
+returns c =
+    on_ok_weaker {P = Puts c.put_natural.new.text c.put_text.new.text (codes "type") (string c.args.word.now)} {Q = PutsSize c.args.text.now c.put_text.new.text c.args.size c.args.word.now} _
+    (λ type. record {
+      text = further c.args.text.now c.put_natural.new.text c.put_text.new.text _ _ c.in_ok-put_natural.ensures.text type.text;
+      sound = c.in_ok-put_natural.ensures.sound;
+    })
+    c.put_text.ensures

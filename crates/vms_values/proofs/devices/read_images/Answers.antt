@@ -1,11 +1,12 @@
-use Rattle.std.proofs.Common.{◌≡◌, ◌<◌, ◌∷◌, ◌++◌, [], length, map, ap, ◌∙◌, arith}
+use Rattle.std.proofs.Common.{rules, ◌≡◌, ◌<◌, ◌∷◌, ◌++◌, [], length, map, ap, ◌∙◌, arith}
+use Rattle.std.proofs.lemmas.Result.{err_from_is_err_and}
 use Rattle.std.proofs.lemmas.List.{length-map, map-append}
 use Rattle.vms_spec.specs.Sets.{Set}
 use Rattle.vms_parts.specs.Views.{device_of}
 use Rattle.vms_desc.specs.Described.{described}
 use Rattle.vms_image.specs.Typed.{state_of}
 use Rattle.vms_values.proofs.DeviceLemmas.{on_true}
-use Rattle.vms_values.proofs.Gathering.{gathered_next}
+use Rattle.vms_values.proofs.Gathering.{gathered_next, gathered_refused, gathered_all}
 use Rattle.vms_values.proofs.ImageRead.{first_more, first_all}
 use Rattle.vms_values.proofs.devices.read_images.Goals as goal
 
@@ -29,3 +30,20 @@ returns-clause-of c =
     let set = described c.args.set.now in
     let end : length set.devices ≡ c.loop-device.device = omega (arith, c.loop-device-test.false, ap length c.as_slice.ensures, ap (λ (s : Set). length s.devices) c.parts.ensures, length-map c.parts.result.now.devices device_of) in
     first_all set c.loop-device.device c.loop-device.images.items c.loop-device.invariant.of end
+
+pub returns-in_err-image-clause-read : goal.returns-in_err-image-clause-read
+returns-in_err-image-clause-read c =
+    let set = described c.args.set.now in
+    let i = c.loop-device.device in
+    let lt : i < length set.devices = omega (arith, c.loop-device-test.true, ap length c.as_slice.ensures, ap (λ (s : Set). length s.devices) c.parts.ensures, length-map c.parts.result.now.devices device_of) in
+    let p = err_from_is_err_and c.from_residual.result c.from_residual.ensures.1 in
+    rw (p.1, p.2) (gathered_refused set i lt _ _ _ _ c.args.reading.now c.loop-device.reading c.read_image.new.reading c.in_err-image.field-0.0 c.loop-device.invariant.gathered c.in_err-image.ensures.read)
+
+pub returns-in_err-image-clause-of : goal.returns-in_err-image-clause-of
+returns-in_err-image-clause-of c = search rules
+
+pub returns-clause-read : goal.returns-clause-read
+returns-clause-read c =
+    let set = described c.args.set.now in
+    let end : length set.devices ≡ c.loop-device.device = omega (arith, c.loop-device-test.false, ap length c.as_slice.ensures, ap (λ (s : Set). length s.devices) c.parts.ensures, length-map c.parts.result.now.devices device_of) in
+    gathered_all set c.loop-device.device _ (map state_of c.loop-device.images.items) c.args.reading.now c.loop-device.reading end c.loop-device.invariant.gathered

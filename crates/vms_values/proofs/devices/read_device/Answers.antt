@@ -1,0 +1,61 @@
+use Rattle.std.proofs.Common.{◌≡◌, ℕ, length, ap, ◌∙◌}
+use Rattle.vms_spec.specs.Sets.{Set}
+use Rattle.vms_desc.specs.Described.{described}
+use Rattle.vms_desc.specs.Spots.{kinds_at}
+use Rattle.vms_image.specs.Typed.{Typed, state_of, IsImageOf}
+use Rattle.vms_write.specs.Judged.{IsOfDevice}
+use Rattle.vms_values.specs.Taken.{IsKept}
+use Rattle.vms_values.specs.SubsTaken.{IsAlike}
+use Rattle.vms_values.proofs.ImageRead.{default_of, default_kinds, own_spot, alike_kept, image_of}
+use Rattle.vms_values.proofs.KindsAt.{own_kinds}
+use Rattle.vms_values.proofs.SubsReading.{of_alike, subs_alike}
+use Rattle.vms_values.proofs.devices.read_device.Goals as goal
+
+pub read_part-requires-clause-spot : goal.read_part-requires-clause-spot
+read_part-requires-clause-spot c =
+    let set = described c.args.set.now in
+    let of = default_of set c.args.set.now.well_formed c.args.device c.requires.known c.args.taken.now.image c.requires.defaults in
+    own_spot set c.args.device c.version.result c.args.taken.now.image of
+
+pub read_part-requires-clause-kinds : goal.read_part-requires-clause-kinds
+read_part-requires-clause-kinds c =
+    let set = described c.args.set.now in
+    own_kinds set c.args.device c.args.taken.now.image.kinds (default_kinds set c.args.device c.args.taken.now.image c.requires.defaults)
+
+pub read_subs-requires-clause-device : goal.read_subs-requires-clause-device
+read_subs-requires-clause-device c =
+    let set = described c.args.set.now in
+    let of = default_of set c.args.set.now.well_formed c.args.device c.requires.known c.args.taken.now.image c.requires.defaults in
+    of_alike set c.args.device _ _ of (alike_kept _ _ c.in_ok-read_part.ensures.kept)
+
+pub read_subs-requires-clause-kinds : goal.read_subs-requires-clause-kinds
+read_subs-requires-clause-kinds c =
+    c.in_ok-read_part.ensures.kept.kinds ∙ default_kinds (described c.args.set.now) c.args.device c.args.taken.now.image c.requires.defaults
+
+pub judge_device-reading-requires-clause-device : goal.judge_device-reading-requires-clause-device
+judge_device-reading-requires-clause-device c =
+    let set = described c.args.set.now in
+    let of = default_of set c.args.set.now.well_formed c.args.device c.requires.known c.args.taken.now.image c.requires.defaults in
+    of_alike set c.args.device _ _ (of_alike set c.args.device _ _ of (alike_kept _ _ c.in_ok-read_part.ensures.kept)) (subs_alike _ _ _ _ c.in_ok-read_subs.ensures.read)
+
+pub judge_device-reading-requires-clause-lines : goal.judge_device-reading-requires-clause-lines
+judge_device-reading-requires-clause-lines c = ap length c.deref.ensures.value ∙ c.in_ok-read_subs.ensures.count
+
+-- an image of the device, from its defaults on
+read_on : (set : Set) (i : ℕ) (a b c : Typed) → IsOfDevice set i (state_of a) → a.kinds ≡ kinds_at set i → IsKept a b → IsAlike b c → IsImageOf set i c
+read_on set i a b c of kinds kept subs =
+    image_of set i c (of_alike set i b c (of_alike set i a b of (alike_kept a b kept)) subs) (subs.kinds ∙ kept.kinds ∙ kinds)
+
+pub returns-then-is_none-clause-of : goal.returns-then-is_none-clause-of
+returns-then-is_none-clause-of c =
+    let set = described c.args.set.now in
+    let image = c.args.taken.now.image in
+    let of = default_of set c.args.set.now.well_formed c.args.device c.requires.known image c.requires.defaults in
+    read_on set c.args.device image _ _ of (default_kinds set c.args.device image c.requires.defaults) c.in_ok-read_part.ensures.kept (subs_alike _ _ _ _ c.in_ok-read_subs.ensures.read)
+
+pub returns-else-is_none-clause-of : goal.returns-else-is_none-clause-of
+returns-else-is_none-clause-of c =
+    let set = described c.args.set.now in
+    let image = c.args.taken.now.image in
+    let of = default_of set c.args.set.now.well_formed c.args.device c.requires.known image c.requires.defaults in
+    read_on set c.args.device image _ _ of (default_kinds set c.args.device image c.requires.defaults) c.in_ok-read_part.ensures.kept (subs_alike _ _ _ _ c.in_ok-read_subs.ensures.read)

@@ -1,0 +1,26 @@
+use Rattle.std.proofs.Common.{◌≡◌, ℕ, List, [], ◌++◌, codes, ap, ◌∙◌, append_assoc}
+use Rattle.std.specs.Fmt.{signed_decimal}
+use Rattle.std.specs.Int.{w128}
+use Rattle.std.proofs.Math.Facts.{to_z-of_z}
+use Rattle.std.proofs.KnownBytes.{Appends-nil}
+use Rattle.vms_spec.specs.Values.{line_end}
+use Rattle.vms_values.proofs.Fronts.{stays_is}
+use Rattle.vms_values.proofs.PrintLemmas.{same_text}
+use Rattle.vms_values.proofs.Writing.{writes_last}
+use Rattle.vms_values.proofs.shown.print_number.Goals as goal
+
+-- the line, of three pieces after the path
+pieced : (path a b d line e : List ℕ) → a ≡ path ++ codes " = " → e ≡ d → b ≡ a ++ e → line ≡ b ++ line_end → line ≡ path ++ (codes " = " ++ (d ++ line_end))
+pieced path a b d line e f is g h =
+    h ∙ ap (λ (l : List ℕ). l ++ line_end) (g ∙ ap (λ (l : List ℕ). l ++ e) f ∙ ap (λ (l : List ℕ). (path ++ codes " = ") ++ l) is)
+    ∙ append_assoc (path ++ codes " = ") d line_end ∙ append_assoc path (codes " = ") (d ++ line_end)
+
+pub returns-clause-written : goal.returns-clause-written
+returns-clause-written g c =
+    let line = pieced c.args.line.now _ _ (signed_decimal c.args.number) c.push-3.new.self _ c.push.ensures (c.as_bytes.ensures.value ∙ c.format.ensures.text ∙ ap signed_decimal (to_z-of_z {w = w128} c.ranges.number)) c.push-2.ensures c.push-3.ensures in
+    same_text _ _ _ _ _ (c.text.ensures ∙ line) (writes_last _ _ _ [] _ _ (Appends-nil _) c.write_all_of.ensures.ok c.write_all_of.ensures.err)
+
+pub returns-clause-line : goal.returns-clause-line
+returns-clause-line g c =
+    let line = pieced c.args.line.now _ _ (signed_decimal c.args.number) c.push-3.new.self _ c.push.ensures (c.as_bytes.ensures.value ∙ c.format.ensures.text ∙ ap signed_decimal (to_z-of_z {w = w128} c.ranges.number)) c.push-2.ensures c.push-3.ensures in
+    stays_is _ _ _ line
