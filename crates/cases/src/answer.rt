@@ -2,6 +2,7 @@
 
 use crate::bytes::Named;
 use std::alloc::{AllocError, Global};
+use std::collections::BTreeMap;
 
 /// What stands outside after a call, and its status.
 #[derive(Drop)]
@@ -15,6 +16,17 @@ pub(crate) struct Answer {
 }
 
 impl Answer {
+    /// No bytes anywhere, and status 0.
+    pub(crate) fn new(alloc: Global) -> Answer {
+        Answer {
+            status: 0,
+            out: Vec::new(alloc),
+            notes: Vec::new(alloc),
+            taken: None,
+            shelf: BTreeMap::new(alloc),
+        }
+    }
+
     /// Tells whether this is the wanted answer, of which out and notes may be a beginning alone where that is allowed.
     pub(crate) fn fits(&self, wanted: &Answer, may_be_begun: bool) -> bool {
         self.status == wanted.status
@@ -24,31 +36,30 @@ impl Answer {
             && is_same(&self.shelf, &wanted.shelf)
     }
 
-    /// The answer in a line.
-    pub(crate) fn line(&self, alloc: Global) -> Result<String, AllocError> {
-        let status = self.status;
-        let out = printed(alloc, &self.out)?;
-        let notes = printed(alloc, &self.notes)?;
-        let taken = taken_text(alloc, self.taken)?;
-        let shelf = shelf_text(alloc, &self.shelf)?;
-        format!(in alloc; "status {status}, out {out}, notes {notes}{taken}{shelf}")
+    /// Tells the answer in a line.
+    pub(crate) fn tell(&self, alloc: Global, text: &mut String) -> Result<(), AllocError> {
+        text.push_str(&format!(in alloc; "status {}", self.status)?)?;
+        tell_bytes(alloc, "out", &self.out, text)?;
+        tell_bytes(alloc, "notes", &self.notes, text)?;
+        if let Some(taken) = self.taken {
+            text.push_str(&format!(in alloc; ", taken {taken}")?)?;
+        }
+        for (name, bytes) in &self.shelf {
+            tell_bytes(alloc, name.as_str(), bytes, text)?;
+        }
+        Ok(())
     }
 }
 
-fn taken_text(alloc: Global, taken: Option<usize>) -> Result<String, AllocError> {
-    match taken {
-        Some(taken) => format!(in alloc; ", taken {taken}"),
-        None => Ok(String::new(alloc)),
-    }
-}
-
-fn shelf_text(alloc: Global, shelf: &Named) -> Result<String, AllocError> {
-    let mut text = String::new(alloc);
-    for (name, bytes) in shelf {
-        let bytes = printed(alloc, bytes)?;
-        text.push_str(&format!(in alloc; ", {name} {bytes}")?)?;
-    }
-    Ok(text)
+fn tell_bytes(
+    alloc: Global,
+    name: &str,
+    bytes: &[u8],
+    text: &mut String,
+) -> Result<(), AllocError> {
+    let bytes = printed(alloc, bytes)?;
+    text.push_str(&format!(in alloc; ", {name} {bytes}")?)?;
+    Ok(())
 }
 
 fn is_text(came: &[u8], wanted: &[u8], may_be_begun: bool) -> bool {
