@@ -36,19 +36,33 @@ impl Answer {
             && is_same(&self.shelf, &wanted.shelf)
     }
 
-    /// Tells the answer in a line.
-    pub(crate) fn tell(&self, alloc: Global, text: &mut String) -> Result<(), AllocError> {
-        text.push_str(&format!(in alloc; "status {}", self.status)?)?;
+    /// Tells the answer in a line, after what it is.
+    pub(crate) fn tell(
+        &self,
+        alloc: Global,
+        what: &str,
+        text: &mut String,
+    ) -> Result<(), AllocError> {
+        text.push_str(&format!(in alloc; "{what}status {}", self.status)?)?;
         tell_bytes(alloc, "out", &self.out, text)?;
         tell_bytes(alloc, "notes", &self.notes, text)?;
-        if let Some(taken) = self.taken {
-            text.push_str(&format!(in alloc; ", taken {taken}")?)?;
-        }
-        for (name, bytes) in &self.shelf {
-            tell_bytes(alloc, name.as_str(), bytes, text)?;
-        }
-        Ok(())
+        tell_taken(alloc, self.taken, text)?;
+        tell_shelf(alloc, &self.shelf, text)
     }
+}
+
+fn tell_taken(alloc: Global, taken: Option<usize>, text: &mut String) -> Result<(), AllocError> {
+    if let Some(taken) = taken {
+        text.push_str(&format!(in alloc; ", taken {taken}")?)?;
+    }
+    Ok(())
+}
+
+fn tell_shelf(alloc: Global, shelf: &Named, text: &mut String) -> Result<(), AllocError> {
+    for (name, bytes) in shelf {
+        tell_bytes(alloc, name.as_str(), bytes, text)?;
+    }
+    Ok(())
 }
 
 fn tell_bytes(

@@ -4,7 +4,7 @@ use crate::answer::Answer;
 use crate::bytes::{Known, Named};
 use crate::entry::{Entry, number};
 use crate::run::Object;
-use crate::shelf::{add_either, copy, put_all};
+use crate::shelf::{add_either, put_beside};
 use anyhow::{Context, Result};
 use std::alloc::{AllocError, Global};
 use std::collections::BTreeMap;
@@ -130,17 +130,22 @@ impl<'a> Call<'a> {
     }
 
     fn read(&mut self, alloc: Global, shared: &Shared<'a>, entry: Entry<'a>) -> Result<()> {
-        let room = entry.number("room")?.unwrap_or(ROOM);
-        let notes_room = entry.number("notes_room")?.unwrap_or(ROOM);
-        self.rooms = (room, notes_room);
+        self.rooms = rooms(entry)?;
         let input = entry.text("input")?.unwrap_or("");
         add_words(entry, &shared.words, &mut self.words)?;
         shared.known.add(alloc, input, &mut self.input)?;
         add_pieces(entry, &mut self.pieces)?;
         self.faults.read(entry)?;
-        copy(alloc, &shared.shelf, &mut self.shelf)?;
-        put_all(alloc, &shared.known, entry.entry("shelf")?, &mut self.shelf)
+        let shelf = entry.entry("shelf")?;
+        put_beside(alloc, &shared.known, shelf, &shared.shelf, &mut self.shelf)
     }
+}
+
+// The bytes for which out and notes have room.
+fn rooms(entry: Entry) -> Result<(u32, u32)> {
+    let room = entry.number("room")?.unwrap_or(ROOM);
+    let notes_room = entry.number("notes_room")?.unwrap_or(ROOM);
+    Ok((room, notes_room))
 }
 
 // Adds the words of a case, or those that the cases share where it has none.
@@ -177,9 +182,9 @@ impl Faults {
 
 fn add_calls(entry: Entry, calls: &mut Vec<(Object, u32)>) -> Result<()> {
     entry.has_only(&OBJECTS)?;
-    for (key, object) in OBJECTS.iter().zip(ALL_OBJECTS) {
+    for (key, object) in OBJECTS.iter().zip(&ALL_OBJECTS) {
         for call in entry.list(key)? {
-            calls.push((object, number(call)?))?;
+            calls.push((*object, number(call)?))?;
         }
     }
     Ok(())
@@ -187,9 +192,9 @@ fn add_calls(entry: Entry, calls: &mut Vec<(Object, u32)>) -> Result<()> {
 
 fn add_last_calls(entry: Entry, calls: &mut Vec<(Object, u32)>) -> Result<()> {
     entry.has_only(&OBJECTS)?;
-    for (key, object) in OBJECTS.iter().zip(ALL_OBJECTS) {
+    for (key, object) in OBJECTS.iter().zip(&ALL_OBJECTS) {
         if let Some(last) = entry.number(key)? {
-            calls.push((object, last))?;
+            calls.push((*object, last))?;
         }
     }
     Ok(())
@@ -213,11 +218,18 @@ impl<'a> Wanted<'a> {
         before: &Named,
     ) -> Result<()> {
         self.may_be_begun = entry.flag("begun")?;
-        for cut in entry.list("cut")? {
-            self.cuts.push(cut_of(Entry::of(cut)?)?)?;
-        }
-        read_answer(alloc, known, entry, before, &mut self.answer)
+        add_cuts(entry, &mut self.cuts)?;
+        read_answer(alloc, known, entry, &mut self.answer)?;
+        let after = entry.entry("after")?;
+        put_beside(alloc, known, after, before, &mut self.answer.shelf)
     }
+}
+
+fn add_cuts<'a>(entry: Entry<'a>, cuts: &mut Vec<Cut<'a>>) -> Result<()> {
+    for cut in entry.list("cut")? {
+        cuts.push(cut_of(Entry::of(cut)?)?)?;
+    }
+    Ok(())
 }
 
 fn cut_of<'a>(entry: Entry<'a>) -> Result<Cut<'a>> {
@@ -227,22 +239,15 @@ fn cut_of<'a>(entry: Entry<'a>) -> Result<Cut<'a>> {
     Ok(Cut { from, line })
 }
 
-fn read_answer(
-    alloc: Global,
-    known: &Known,
-    entry: Entry,
-    before: &Named,
-    answer: &mut Answer,
-) -> Result<()> {
+// Reads the answer but for the shelf.
+fn read_answer(alloc: Global, known: &Known, entry: Entry, answer: &mut Answer) -> Result<()> {
     let status = u8::try_from(entry.number("status")?.unwrap_or(0)).ok();
     answer.status = status.context("no status")?;
     answer.taken = entry.number("taken")?.map(|taken| taken as usize);
     let line = entry.text("line")?.unwrap_or("");
-    let after = entry.entry("after")?;
     add_either(alloc, known, entry, ["stream", "out"], &mut answer.out)?;
     add_notes(line, &mut answer.notes)?;
-    copy(alloc, before, &mut answer.shelf)?;
-    put_all(alloc, known, after, &mut answer.shelf)
+    Ok(())
 }
 
 /// Adds the notes of a line, or no notes where it is empty.

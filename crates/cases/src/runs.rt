@@ -76,10 +76,8 @@ fn is_answer_different(
         return Ok(false);
     }
     tell_run(alloc, case, run, text)?;
-    text.push_str("\n    wanted: ")?;
-    wanted.tell(alloc, text)?;
-    text.push_str("\n    came:   ")?;
-    came.tell(alloc, text)?;
+    wanted.tell(alloc, "\n    wanted: ", text)?;
+    came.tell(alloc, "\n    came:   ", text)?;
     text.push_str("\n")?;
     Ok(true)
 }

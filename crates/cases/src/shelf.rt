@@ -8,9 +8,14 @@ use std::alloc::Global;
 /// Puts copies of bytes beside others, under their names.
 pub(crate) fn copy(alloc: Global, named: &Named, copy: &mut Named) -> Result<()> {
     for (name, bytes) in named {
-        put(alloc, copy, name.as_str(), bytes.clone()?)?;
+        put_copy(alloc, copy, name.as_str(), bytes)?;
     }
     Ok(())
+}
+
+/// Puts a copy of bytes beside others, under a name.
+pub(crate) fn put_copy(alloc: Global, named: &mut Named, name: &str, bytes: &[u8]) -> Result<()> {
+    put(alloc, named, name, bytes.to_vec(alloc)?)
 }
 
 /// Puts bytes beside others, under a name.
@@ -18,6 +23,18 @@ pub(crate) fn put(alloc: Global, named: &mut Named, name: &str, bytes: Vec<u8>) 
     let name = String::from_str(alloc, name)?;
     named.insert(name, bytes)?;
     Ok(())
+}
+
+/// Puts on a shelf what lay on another, and what a table names beside it.
+pub(crate) fn put_beside(
+    alloc: Global,
+    known: &Known,
+    table: Option<Entry>,
+    before: &Named,
+    shelf: &mut Named,
+) -> Result<()> {
+    copy(alloc, before, shelf)?;
+    put_all(alloc, known, table, shelf)
 }
 
 /// Puts what a table names on a shelf.
@@ -29,20 +46,26 @@ pub(crate) fn put_all(
 ) -> Result<()> {
     if let Some(table) = table {
         for name in table.names() {
-            let content = table.entry(name)?.context("nothing under a name")?;
-            put(alloc, shelf, name, content_of(alloc, known, content)?)?;
+            put_content(alloc, known, table, name, shelf)?;
         }
     }
     Ok(())
 }
 
-// What a content stands for, so many times.
-fn content_of(alloc: Global, known: &Known, content: Entry) -> Result<Vec<u8>> {
+fn put_content(
+    alloc: Global,
+    known: &Known,
+    table: Entry,
+    name: &str,
+    shelf: &mut Named,
+) -> Result<()> {
+    let content = table.entry(name)?.context("nothing under a name")?;
     let mut bytes = Vec::new(alloc);
     add_content(alloc, known, content, &mut bytes)?;
-    Ok(bytes)
+    put(alloc, shelf, name, bytes)
 }
 
+// Adds what a content stands for, so many times.
 fn add_content(alloc: Global, known: &Known, content: Entry, bytes: &mut Vec<u8>) -> Result<()> {
     content.has_only(&["text", "bytes", "times"])?;
     let times = content.number("times")?.unwrap_or(1);

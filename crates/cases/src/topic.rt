@@ -4,7 +4,7 @@ use crate::bytes::{Known, Named};
 use crate::case::{Case, Shared};
 use crate::entry::Entry;
 use crate::runs::{is_different, runs};
-use crate::shelf::{put, put_all};
+use crate::shelf::{put, put_all, put_copy};
 use anyhow::{Context, Result};
 use std::alloc::Global;
 use std::collections::BTreeMap;
@@ -33,10 +33,13 @@ pub(crate) fn is_as_wanted<R: Files + AllocGlobal + Print>(rt: &R, name: &str) -
 }
 
 fn table_of<R: Files + AllocGlobal>(rt: &R, name: &str) -> Result<Table> {
-    let alloc = rt.alloc();
-    let path = format!(in alloc; "{name}.toml")?;
-    let text = fs::read_to_string(rt, path.as_str()).context(format_args!("reading {path}"))?;
-    Ok(toml::table_from_str(alloc, &text).context(format_args!("in {path}"))?)
+    let path = format!(in rt.alloc(); "{name}.toml")?;
+    table_at(rt, path.as_str())
+}
+
+fn table_at<R: Files + AllocGlobal>(rt: &R, path: &str) -> Result<Table> {
+    let text = fs::read_to_string(rt, path).context(format_args!("reading {path}"))?;
+    toml::table_from_str(rt.alloc(), &text).context(format_args!("in {path}"))
 }
 
 fn run_topic<R: Files + AllocGlobal>(
@@ -57,10 +60,19 @@ fn run_topic<R: Files + AllocGlobal>(
 fn read_files<R: Files + AllocGlobal>(rt: &R, table: Entry, files: &mut Named) -> Result<()> {
     for name in table.names() {
         let file = table.text(name)?.context("no file under a name")?;
-        let bytes = fs::read(rt, file).context(format_args!("reading {file}"))?;
-        put(rt.alloc(), files, name, bytes)?;
+        read_file(rt, name, file, files)?;
     }
     Ok(())
+}
+
+fn read_file<R: Files + AllocGlobal>(
+    rt: &R,
+    name: &str,
+    file: &str,
+    files: &mut Named,
+) -> Result<()> {
+    let bytes = fs::read(rt, file).context(format_args!("reading {file}"))?;
+    put(rt.alloc(), files, name, bytes)
 }
 
 fn run_cases<'a>(
@@ -86,8 +98,8 @@ fn one_case<'a>(
     let read = case.read(alloc, shared, entry);
     read.context(format_args!("case {}", tally.cases))?;
     run_case(alloc, &case, tally)?;
-    let out = case.wanted.answer.out.clone()?;
-    put(alloc, &mut shared.known.outs, case.name, out)
+    let out = &case.wanted.answer.out;
+    put_copy(alloc, &mut shared.known.outs, case.name, out)
 }
 
 // Runs a case up to its first difference.
