@@ -33,7 +33,7 @@ impl Answer {
             && is_text(&self.out, &wanted.out, may_be_begun)
             && is_text(&self.notes, &wanted.notes, may_be_begun)
             && (wanted.taken.is_none() || self.taken == wanted.taken)
-            && is_same(&self.shelf, &wanted.shelf)
+            && self.shelf == wanted.shelf
     }
 
     /// Tells the answer in a line, after what it is.
@@ -78,13 +78,6 @@ fn tell_bytes(
 
 fn is_text(came: &[u8], wanted: &[u8], may_be_begun: bool) -> bool {
     came == wanted || may_be_begun && wanted.starts_with(came)
-}
-
-fn is_same(came: &Named, wanted: &Named) -> bool {
-    came.len() == wanted.len()
-        && came.iter().all(|(name, bytes)| wanted
-            .get(name.as_str())
-            .is_some_and(|other| other == bytes))
 }
 
 const LONGEST: usize = 400;

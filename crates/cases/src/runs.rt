@@ -49,7 +49,7 @@ fn run_of(piece: u32, long: usize, alone: Option<(Object, u32)>) -> Run {
     Run { piece, long, alone }
 }
 
-/// Tells whether in this run another answer came than is wanted, and in the text then which.
+/// Tells whether another answer came in this run than is wanted, and then adds both to the text.
 pub(crate) fn is_different(
     alloc: Global,
     case: &Case,
