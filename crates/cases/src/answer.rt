@@ -2,6 +2,7 @@
 
 use crate::bytes::Named;
 use std::alloc::{AllocError, Global};
+use std::collections::BTreeMap;
 
 /// What stands outside after a call, and its status.
 #[derive(Drop)]
@@ -15,51 +16,68 @@ pub(crate) struct Answer {
 }
 
 impl Answer {
+    /// No bytes anywhere, and status 0.
+    pub(crate) fn new(alloc: Global) -> Answer {
+        Answer {
+            status: 0,
+            out: Vec::new(alloc),
+            notes: Vec::new(alloc),
+            taken: None,
+            shelf: BTreeMap::new(alloc),
+        }
+    }
+
     /// Tells whether this is the wanted answer, of which out and notes may be a beginning alone where that is allowed.
     pub(crate) fn fits(&self, wanted: &Answer, may_be_begun: bool) -> bool {
         self.status == wanted.status
             && is_text(&self.out, &wanted.out, may_be_begun)
             && is_text(&self.notes, &wanted.notes, may_be_begun)
             && (wanted.taken.is_none() || self.taken == wanted.taken)
-            && is_same(&self.shelf, &wanted.shelf)
+            && self.shelf == wanted.shelf
     }
 
-    /// The answer in a line.
-    pub(crate) fn line(&self, alloc: Global) -> Result<String, AllocError> {
-        let status = self.status;
-        let out = printed(alloc, &self.out)?;
-        let notes = printed(alloc, &self.notes)?;
-        let taken = taken_text(alloc, self.taken)?;
-        let shelf = shelf_text(alloc, &self.shelf)?;
-        format!(in alloc; "status {status}, out {out}, notes {notes}{taken}{shelf}")
-    }
-}
-
-fn taken_text(alloc: Global, taken: Option<usize>) -> Result<String, AllocError> {
-    match taken {
-        Some(taken) => format!(in alloc; ", taken {taken}"),
-        None => Ok(String::new(alloc)),
+    /// Tells the answer in a line, after what it is.
+    pub(crate) fn tell(
+        &self,
+        alloc: Global,
+        what: &str,
+        text: &mut String,
+    ) -> Result<(), AllocError> {
+        text.push_str(&format!(in alloc; "{what}status {}", self.status)?)?;
+        tell_bytes(alloc, "out", &self.out, text)?;
+        tell_bytes(alloc, "notes", &self.notes, text)?;
+        tell_taken(alloc, self.taken, text)?;
+        tell_shelf(alloc, &self.shelf, text)
     }
 }
 
-fn shelf_text(alloc: Global, shelf: &Named) -> Result<String, AllocError> {
-    let mut text = String::new(alloc);
+fn tell_taken(alloc: Global, taken: Option<usize>, text: &mut String) -> Result<(), AllocError> {
+    if let Some(taken) = taken {
+        text.push_str(&format!(in alloc; ", taken {taken}")?)?;
+    }
+    Ok(())
+}
+
+fn tell_shelf(alloc: Global, shelf: &Named, text: &mut String) -> Result<(), AllocError> {
     for (name, bytes) in shelf {
-        let bytes = printed(alloc, bytes)?;
-        text.push_str(&format!(in alloc; ", {name} {bytes}")?)?;
+        tell_bytes(alloc, name.as_str(), bytes, text)?;
     }
-    Ok(text)
+    Ok(())
+}
+
+fn tell_bytes(
+    alloc: Global,
+    name: &str,
+    bytes: &[u8],
+    text: &mut String,
+) -> Result<(), AllocError> {
+    let bytes = printed(alloc, bytes)?;
+    text.push_str(&format!(in alloc; ", {name} {bytes}")?)?;
+    Ok(())
 }
 
 fn is_text(came: &[u8], wanted: &[u8], may_be_begun: bool) -> bool {
     came == wanted || may_be_begun && wanted.starts_with(came)
-}
-
-fn is_same(came: &Named, wanted: &Named) -> bool {
-    came.len() == wanted.len()
-        && came.iter().all(|(name, bytes)| wanted
-            .get(name.as_str())
-            .is_some_and(|other| other == bytes))
 }
 
 const LONGEST: usize = 400;

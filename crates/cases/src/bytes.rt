@@ -1,7 +1,7 @@
 // Rows of bytes: hexadecimal, `$NAME` for a row of the topic, `@NAME` for a file or for what an earlier case has put out, and parts of these.
 
 use crate::entry::Entry;
-use anyhow::{Context, Result, bail};
+use anyhow::{Context, Result};
 use std::alloc::Global;
 use std::collections::BTreeMap;
 
@@ -18,27 +18,34 @@ pub(crate) struct Known<'a> {
 }
 
 impl Known<'_> {
-    /// The bytes of a row.
-    pub(crate) fn bytes(&self, alloc: Global, row: &str) -> Result<Vec<u8>> {
-        let mut bytes = Vec::new(alloc);
+    /// Adds the bytes of a row to others.
+    pub(crate) fn add(&self, alloc: Global, row: &str, bytes: &mut Vec<u8>) -> Result<()> {
         for part in row.split_ascii_whitespace() {
-            bytes.extend_from_slice(self.part(alloc, part)?.as_slice())?;
+            self.add_part(alloc, part, bytes)?;
         }
-        Ok(bytes)
+        Ok(())
     }
 
-    fn part(&self, alloc: Global, part: &str) -> Result<Vec<u8>> {
+    fn add_part(&self, alloc: Global, part: &str, bytes: &mut Vec<u8>) -> Result<()> {
         let (name, range) = part.split_once('[').unwrap_or((part, ""));
         if let Some(name) = name.strip_prefix('$') {
-            let row = self.row(name)?.context(format_args!("no row {name}"))?;
-            return within(alloc, &digits(alloc, row)?, range);
+            return self.add_row(alloc, name, range, bytes);
         }
         if let Some(name) = name.strip_prefix('@') {
             let out = self.outs.get(name);
             let out = out.context(format_args!("no file or earlier case {name}"))?;
-            return within(alloc, out, range);
+            bytes.extend_from_slice(within(out, range)?)?;
+            return Ok(());
         }
-        digits(alloc, part)
+        add_digits(alloc, part, bytes)
+    }
+
+    fn add_row(&self, alloc: Global, name: &str, range: &str, bytes: &mut Vec<u8>) -> Result<()> {
+        let row = self.row(name)?.context(format_args!("no row {name}"))?;
+        let mut whole = Vec::new(alloc);
+        add_digits(alloc, row, &mut whole)?;
+        bytes.extend_from_slice(within(&whole, range)?)?;
+        Ok(())
     }
 
     fn row(&self, name: &str) -> Result<Option<&str>> {
@@ -49,28 +56,26 @@ impl Known<'_> {
     }
 }
 
-// The bytes of hexadecimal digits with blanks.
-fn digits(alloc: Global, row: &str) -> Result<Vec<u8>> {
-    let mut bytes = Vec::new(alloc);
+// Adds the bytes of hexadecimal digits with blanks.
+fn add_digits(alloc: Global, row: &str, bytes: &mut Vec<u8>) -> Result<()> {
     for digits in row.split_ascii_whitespace() {
         bytes.extend_from_slice(hex::decode(alloc, digits)?.as_slice())?;
     }
-    Ok(bytes)
+    Ok(())
 }
 
 // The part of the bytes from the first number up to the second, as in `2..5]`; all of them where no range is given.
-fn within(alloc: Global, bytes: &[u8], range: &str) -> Result<Vec<u8>> {
+fn within<'a>(bytes: &'a [u8], range: &str) -> Result<&'a [u8]> {
     if range.is_empty() {
-        return Ok(bytes.to_vec(alloc)?);
+        return Ok(bytes);
     }
     let range = range.strip_suffix(']').context("no ] at the end")?;
     let (from, to) = range.split_once("..").context("no .. in a range")?;
     let from = bound(from, 0)?;
     let to = bound(to, bytes.len())?;
-    match bytes.get(from..to) {
-        Some(bytes) => Ok(bytes.to_vec(alloc)?),
-        None => bail!("no such range: {range}"),
-    }
+    bytes
+        .get(from..to)
+        .context(format_args!("no such range: {range}"))
 }
 
 fn bound(digits: &str, default: usize) -> Result<usize> {

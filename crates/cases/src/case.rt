@@ -2,11 +2,12 @@
 
 use crate::answer::Answer;
 use crate::bytes::{Known, Named};
-use crate::entry::Entry;
+use crate::entry::{Entry, number};
 use crate::run::Object;
-use crate::shelf::with;
+use crate::shelf::{add_either, put_beside};
 use anyhow::{Context, Result};
-use std::alloc::Global;
+use std::alloc::{AllocError, Global};
+use std::collections::BTreeMap;
 
 /// What the cases of a topic share.
 #[derive(Drop)]
@@ -33,7 +34,7 @@ pub(crate) struct Case<'a> {
 /// A call of the program.
 #[derive(Drop)]
 pub(crate) struct Call<'a> {
-    pub words: Option<Vec<&'a str>>,
+    pub words: Vec<&'a str>,
     pub input: Vec<u8>,
     /// The sizes in which the input is read.
     pub pieces: Vec<u32>,
@@ -89,127 +90,172 @@ const ALL_OBJECTS: [Object; 4] = [Object::Reads, Object::Writes, Object::Notes, 
 const ROOM: u32 = 65_536;
 
 impl<'a> Case<'a> {
+    /// A case before it is read.
+    pub(crate) fn new(alloc: Global) -> Case<'a> {
+        Case {
+            name: "",
+            call: Call::new(alloc),
+            wanted: Wanted::new(alloc),
+        }
+    }
+
     /// Reads a case.
-    pub(crate) fn read(alloc: Global, shared: &Shared, entry: Entry<'a>) -> Result<Case<'a>> {
+    pub(crate) fn read(
+        &mut self,
+        alloc: Global,
+        shared: &Shared<'a>,
+        entry: Entry<'a>,
+    ) -> Result<()> {
         entry.has_only(&KEYS)?;
-        let name = entry.text("name")?.context("a case without a name")?;
-        let call = Call::read(alloc, shared, entry)?;
-        let wanted = Wanted::read(alloc, &shared.known, entry, &call.shelf)?;
-        Ok(Case { name, call, wanted })
+        self.name = entry.text("name")?.context("a case without a name")?;
+        self.call.read(alloc, shared, entry)?;
+        let before = &self.call.shelf;
+        self.wanted.read(alloc, &shared.known, entry, before)
     }
 }
 
 impl<'a> Call<'a> {
-    fn read(alloc: Global, shared: &Shared, entry: Entry<'a>) -> Result<Call<'a>> {
-        let room = entry.number("room")?.unwrap_or(ROOM);
-        let notes_room = entry.number("notes_room")?.unwrap_or(ROOM);
+    fn new(alloc: Global) -> Call<'a> {
+        Call {
+            words: Vec::new(alloc),
+            input: Vec::new(alloc),
+            pieces: Vec::new(alloc),
+            faults: Faults {
+                fails: Vec::new(alloc),
+                each: Vec::new(alloc),
+            },
+            rooms: (ROOM, ROOM),
+            shelf: BTreeMap::new(alloc),
+        }
+    }
+
+    fn read(&mut self, alloc: Global, shared: &Shared<'a>, entry: Entry<'a>) -> Result<()> {
+        self.rooms = rooms(entry)?;
         let input = entry.text("input")?.unwrap_or("");
-        Ok(Call {
-            words: entry.texts(alloc, "words")?,
-            input: shared.known.bytes(alloc, input)?,
-            pieces: pieces(alloc, entry)?,
-            faults: Faults::read(alloc, entry)?,
-            rooms: (room, notes_room),
-            shelf: with(alloc, &shared.known, entry.entry("shelf")?, &shared.shelf)?,
-        })
+        add_words(entry, &shared.words, &mut self.words)?;
+        shared.known.add(alloc, input, &mut self.input)?;
+        add_pieces(entry, &mut self.pieces)?;
+        self.faults.read(entry)?;
+        let shelf = entry.entry("shelf")?;
+        put_beside(alloc, &shared.known, shelf, &shared.shelf, &mut self.shelf)
     }
 }
 
-impl<'a> Wanted<'a> {
-    // What a case wants, with what lay on the shelf before.
-    fn read(alloc: Global, known: &Known, entry: Entry<'a>, before: &Named) -> Result<Wanted<'a>> {
-        Ok(Wanted {
-            may_be_begun: entry.flag("begun")?,
-            cuts: cuts(alloc, entry)?,
-            answer: answer(alloc, known, entry, before)?,
-        })
-    }
+// The bytes for which out and notes have room.
+fn rooms(entry: Entry) -> Result<(u32, u32)> {
+    let room = entry.number("room")?.unwrap_or(ROOM);
+    let notes_room = entry.number("notes_room")?.unwrap_or(ROOM);
+    Ok((room, notes_room))
 }
 
-// The sizes of pieces, or 0, for any size, where none is given.
-fn pieces(alloc: Global, entry: Entry) -> Result<Vec<u32>> {
-    let mut pieces = entry.numbers(alloc, "pieces")?;
+// Adds the words of a case, or those that the cases share where it has none.
+fn add_words<'a>(entry: Entry<'a>, shared: &[&'a str], words: &mut Vec<&'a str>) -> Result<()> {
+    if entry.has("words") {
+        return entry.add_texts("words", words);
+    }
+    words.extend_from_slice(shared)?;
+    Ok(())
+}
+
+// Adds the sizes of pieces, or 0, for any size, where none is given.
+fn add_pieces(entry: Entry, pieces: &mut Vec<u32>) -> Result<()> {
+    for piece in entry.list("pieces")? {
+        pieces.push(number(piece)?)?;
+    }
     if pieces.is_empty() {
         pieces.push(0)?;
     }
-    Ok(pieces)
+    Ok(())
 }
 
 impl Faults {
-    fn read(alloc: Global, entry: Entry) -> Result<Faults> {
-        Ok(Faults {
-            fails: calls(alloc, entry.entry("fails")?)?,
-            each: each(alloc, entry.entry("each_fails")?)?,
-        })
+    fn read(&mut self, entry: Entry) -> Result<()> {
+        if let Some(fails) = entry.entry("fails")? {
+            add_calls(fails, &mut self.fails)?;
+        }
+        if let Some(each) = entry.entry("each_fails")? {
+            add_last_calls(each, &mut self.each)?;
+        }
+        Ok(())
     }
 }
 
-fn calls(alloc: Global, entry: Option<Entry>) -> Result<Vec<(Object, u32)>> {
-    let mut calls = Vec::new(alloc);
-    if let Some(entry) = entry {
-        entry.has_only(&OBJECTS)?;
-        for (key, object) in OBJECTS.iter().zip(ALL_OBJECTS) {
-            for number in &entry.numbers(alloc, key)? {
-                calls.push((object, *number))?;
-            }
+fn add_calls(entry: Entry, calls: &mut Vec<(Object, u32)>) -> Result<()> {
+    entry.has_only(&OBJECTS)?;
+    for (key, object) in OBJECTS.iter().zip(&ALL_OBJECTS) {
+        for call in entry.list(key)? {
+            calls.push((*object, number(call)?))?;
         }
     }
-    Ok(calls)
+    Ok(())
 }
 
-fn each(alloc: Global, entry: Option<Entry>) -> Result<Vec<(Object, u32)>> {
-    let mut each = Vec::new(alloc);
-    if let Some(entry) = entry {
-        entry.has_only(&OBJECTS)?;
-        for (key, object) in OBJECTS.iter().zip(ALL_OBJECTS) {
-            if let Some(last) = entry.number(key)? {
-                each.push((object, last))?;
-            }
+fn add_last_calls(entry: Entry, calls: &mut Vec<(Object, u32)>) -> Result<()> {
+    entry.has_only(&OBJECTS)?;
+    for (key, object) in OBJECTS.iter().zip(&ALL_OBJECTS) {
+        if let Some(last) = entry.number(key)? {
+            calls.push((*object, last))?;
         }
     }
-    Ok(each)
+    Ok(())
 }
 
-fn answer(alloc: Global, known: &Known, entry: Entry, before: &Named) -> Result<Answer> {
+impl<'a> Wanted<'a> {
+    fn new(alloc: Global) -> Wanted<'a> {
+        Wanted {
+            answer: Answer::new(alloc),
+            may_be_begun: false,
+            cuts: Vec::new(alloc),
+        }
+    }
+
+    // Reads what a case wants, with what lay on the shelf before.
+    fn read(
+        &mut self,
+        alloc: Global,
+        known: &Known,
+        entry: Entry<'a>,
+        before: &Named,
+    ) -> Result<()> {
+        self.may_be_begun = entry.flag("begun")?;
+        add_cuts(entry, &mut self.cuts)?;
+        read_answer(alloc, known, entry, &mut self.answer)?;
+        let after = entry.entry("after")?;
+        put_beside(alloc, known, after, before, &mut self.answer.shelf)
+    }
+}
+
+fn add_cuts<'a>(entry: Entry<'a>, cuts: &mut Vec<Cut<'a>>) -> Result<()> {
+    for cut in entry.list("cut")? {
+        cuts.push(cut_of(Entry::of(cut)?)?)?;
+    }
+    Ok(())
+}
+
+fn cut_of<'a>(entry: Entry<'a>) -> Result<Cut<'a>> {
+    entry.has_only(&["from", "line"])?;
+    let from = entry.number("from")?.context("a cut without from")? as usize;
+    let line = entry.text("line")?.context("a cut without a line")?;
+    Ok(Cut { from, line })
+}
+
+// Reads the answer but for the shelf.
+fn read_answer(alloc: Global, known: &Known, entry: Entry, answer: &mut Answer) -> Result<()> {
     let status = u8::try_from(entry.number("status")?.unwrap_or(0)).ok();
-    let status = status.context("no status")?;
-    let taken = entry.number("taken")?.map(|taken| taken as usize);
+    answer.status = status.context("no status")?;
+    answer.taken = entry.number("taken")?.map(|taken| taken as usize);
     let line = entry.text("line")?.unwrap_or("");
-    let after = entry.entry("after")?;
-    Ok(Answer {
-        status,
-        out: out(alloc, known, entry)?,
-        notes: notes(alloc, line)?,
-        taken,
-        shelf: with(alloc, known, after, before)?,
-    })
+    add_either(alloc, known, entry, ["stream", "out"], &mut answer.out)?;
+    add_notes(line, &mut answer.notes)?;
+    Ok(())
 }
 
-fn out(alloc: Global, known: &Known, entry: Entry) -> Result<Vec<u8>> {
-    if let Some(row) = entry.text("stream")? {
-        return known.bytes(alloc, row);
+/// Adds the notes of a line, or no notes where it is empty.
+pub(crate) fn add_notes(line: &str, notes: &mut Vec<u8>) -> Result<(), AllocError> {
+    if line.is_empty() {
+        return Ok(());
     }
-    let text = entry.text("out")?.unwrap_or("");
-    Ok(text.as_bytes().to_vec(alloc)?)
-}
-
-/// The notes of a line, or no notes where it is empty.
-pub(crate) fn notes(alloc: Global, line: &str) -> Result<Vec<u8>> {
-    let mut notes = line.as_bytes().to_vec(alloc)?;
-    if !notes.is_empty() {
-        notes.push(b'\n')?;
-    }
-    Ok(notes)
-}
-
-fn cuts<'a>(alloc: Global, entry: Entry<'a>) -> Result<Vec<Cut<'a>>> {
-    let mut cuts = Vec::new(alloc);
-    for cut in entry.entries(alloc, "cut")? {
-        cut.has_only(&["from", "line"])?;
-        cuts.push(Cut {
-            from: cut.number("from")?.context("a cut without from")? as usize,
-            line: cut.text("line")?.context("a cut without a line")?,
-        })?;
-    }
-    Ok(cuts)
+    notes.extend_from_slice(line.as_bytes())?;
+    notes.push(b'\n')?;
+    Ok(())
 }

@@ -1,7 +1,7 @@
 // What stands in a table of a file.
 
 use anyhow::{Context, Result, bail};
-use std::alloc::Global;
+use std::collections::btree_map::Keys;
 use toml::{Table, Value};
 
 /// A table of a topic's file.
@@ -15,6 +15,12 @@ impl<'a> Entry<'a> {
         Entry { table }
     }
 
+    /// What is listed as a table.
+    pub(crate) fn of(value: &'a Value) -> Result<Entry<'a>> {
+        let table = value.as_table().context("no table in a list")?;
+        Ok(Entry { table })
+    }
+
     /// Refuses a table that has another key than these.
     pub(crate) fn has_only(&self, keys: &[&str]) -> Result<()> {
         for key in self.table.keys() {
@@ -26,12 +32,12 @@ impl<'a> Entry<'a> {
     }
 
     /// The names of what stands in the table, in order.
-    pub(crate) fn names(&self, alloc: Global) -> Result<Vec<&'a str>> {
-        let mut names = Vec::new(alloc);
-        for key in self.table.keys() {
-            names.push(key.as_str())?;
-        }
-        Ok(names)
+    pub(crate) fn names(&self) -> Keys<'a, String, Value> {
+        self.table.keys()
+    }
+
+    pub(crate) fn has(&self, key: &str) -> bool {
+        self.table.contains_key(key)
     }
 
     pub(crate) fn text(&self, key: &str) -> Result<Option<&'a str>> {
@@ -57,24 +63,12 @@ impl<'a> Entry<'a> {
         }
     }
 
-    pub(crate) fn numbers(&self, alloc: Global, key: &str) -> Result<Vec<u32>> {
-        let mut numbers = Vec::new(alloc);
-        for value in self.list(key)? {
-            numbers.push(number(value)?)?;
-        }
-        Ok(numbers)
-    }
-
-    /// The texts of a list, or none where the key isn't there.
-    pub(crate) fn texts(&self, alloc: Global, key: &str) -> Result<Option<Vec<&'a str>>> {
-        if !self.table.contains_key(key) {
-            return Ok(None);
-        }
-        let mut texts = Vec::new(alloc);
+    /// Adds the texts of a list to others.
+    pub(crate) fn add_texts(&self, key: &str, texts: &mut Vec<&'a str>) -> Result<()> {
         for value in self.list(key)? {
             texts.push(value.as_str().context("no text in a list")?)?;
         }
-        Ok(Some(texts))
+        Ok(())
     }
 
     pub(crate) fn entry(&self, key: &str) -> Result<Option<Entry<'a>>> {
@@ -85,17 +79,8 @@ impl<'a> Entry<'a> {
         }
     }
 
-    pub(crate) fn entries(&self, alloc: Global, key: &str) -> Result<Vec<Entry<'a>>> {
-        let mut entries = Vec::new(alloc);
-        for value in self.list(key)? {
-            let table = value.as_table().context("no table in a list")?;
-            entries.push(Entry { table })?;
-        }
-        Ok(entries)
-    }
-
-    // What is listed, which is nothing where the key isn't there.
-    fn list(&self, key: &str) -> Result<&'a [Value]> {
+    /// What is listed, which is nothing where the key isn't there.
+    pub(crate) fn list(&self, key: &str) -> Result<&'a [Value]> {
         match self.table.get(key) {
             None => Ok(&[]),
             Some(Value::Array(values)) => Ok(values.as_slice()),
@@ -104,7 +89,8 @@ impl<'a> Entry<'a> {
     }
 }
 
-fn number(value: &Value) -> Result<u32> {
+/// A number that is listed.
+pub(crate) fn number(value: &Value) -> Result<u32> {
     match value {
         Value::Integer(number) => u32::try_from(*number).ok().context("out of range"),
         _ => bail!("no number"),

@@ -2,9 +2,9 @@
 
 use crate::answer::Answer;
 use crate::bytes::Named;
+use crate::shelf::put;
 use anyhow::{Context, Result, bail};
 use std::alloc::Global;
-use std::collections::BTreeMap;
 use vms_cli::{Words, vmstate};
 use vms_io::{FetchFault, MemShelf, MemSink, MemSource, Shelf, Source};
 
@@ -44,17 +44,25 @@ struct Objects {
 
 /// Calls the program and looks at what stands outside then.
 pub(crate) fn answer(alloc: Global, outside: &Outside) -> Result<Answer> {
-    let words = words(alloc, outside.words).context("memory")?;
     let mut objects = Objects::of(alloc, outside)?;
-    let status = vmstate(
+    let status = call(alloc, outside.words, &mut objects)?;
+    let mut answer = Answer::new(alloc);
+    answer.status = status;
+    see(alloc, outside, &mut objects, &mut answer)?;
+    Ok(answer)
+}
+
+// The program's status.
+fn call(alloc: Global, given: &[&str], objects: &mut Objects) -> Result<u8> {
+    let words = words(alloc, given).context("memory")?;
+    Ok(vmstate(
         alloc,
         &words,
         &mut objects.input,
         &mut objects.out,
         &mut objects.notes,
         &mut objects.shelf,
-    );
-    seen(alloc, outside, status, &mut objects)
+    ))
 }
 
 impl Objects {
@@ -62,23 +70,25 @@ impl Objects {
         let (room, notes_room) = outside.rooms;
         Ok(Objects {
             input: source(alloc, outside)?,
-            out: sink(alloc, room, failing(alloc, outside, Object::Writes)?)?,
-            notes: sink(alloc, notes_room, failing(alloc, outside, Object::Notes)?)?,
+            out: sink(alloc, outside, Object::Writes, room)?,
+            notes: sink(alloc, outside, Object::Notes, notes_room)?,
             shelf: shelf(alloc, outside)?,
         })
     }
 }
 
-// What stands outside after a call.
-fn seen(alloc: Global, outside: &Outside, status: u8, objects: &mut Objects) -> Result<Answer> {
+// Puts into the answer what stands outside after a call.
+fn see(alloc: Global, outside: &Outside, objects: &mut Objects, answer: &mut Answer) -> Result<()> {
     let left = left(&mut objects.input);
-    Ok(Answer {
-        status,
-        out: objects.out.bytes().to_vec(alloc)?,
-        notes: objects.notes.bytes().to_vec(alloc)?,
-        taken: Some(outside.input.len().saturating_sub(left)),
-        shelf: held(alloc, &mut objects.shelf, outside.names)?,
-    })
+    answer.taken = Some(outside.input.len().saturating_sub(left));
+    answer.out.extend_from_slice(objects.out.bytes())?;
+    answer.notes.extend_from_slice(objects.notes.bytes())?;
+    for name in outside.names.keys() {
+        if let Some(bytes) = fetched(alloc, &mut objects.shelf, name.as_str())? {
+            put(alloc, &mut answer.shelf, name.as_str(), bytes)?;
+        }
+    }
+    Ok(())
 }
 
 fn words(alloc: Global, given: &[&str]) -> Option<Words> {
@@ -100,7 +110,8 @@ fn failing(alloc: Global, outside: &Outside, object: Object) -> Result<Vec<u32>>
     Ok(numbers)
 }
 
-fn sink(alloc: Global, room: u32, failing: Vec<u32>) -> Result<MemSink> {
+fn sink(alloc: Global, outside: &Outside, object: Object, room: u32) -> Result<MemSink> {
+    let failing = failing(alloc, outside, object)?;
     MemSink::new(alloc, room, failing).ok().context("memory")
 }
 
@@ -134,24 +145,17 @@ fn left(source: &mut MemSource) -> usize {
 
 fn shelf(alloc: Global, outside: &Outside) -> Result<MemShelf> {
     let mut shelf = MemShelf::new(alloc, failing(alloc, outside, Object::Shelf)?);
-    for (name, bytes) in outside.shelf {
-        shelf
-            .put(name.as_str(), bytes.clone()?)
-            .ok()
-            .context("memory")?;
-    }
+    lay(outside.shelf, &mut shelf)?;
     Ok(shelf)
 }
 
-// What a shelf holds under these names.
-fn held(alloc: Global, shelf: &mut MemShelf, names: &Named) -> Result<Named> {
-    let mut held = BTreeMap::new(alloc);
-    for name in names.keys() {
-        if let Some(bytes) = fetched(alloc, shelf, name.as_str())? {
-            held.insert(name.clone()?, bytes)?;
-        }
+// Lays contents on a shelf.
+fn lay(contents: &Named, shelf: &mut MemShelf) -> Result<()> {
+    for (name, bytes) in contents {
+        let put = shelf.put(name.as_str(), bytes.clone()?);
+        put.ok().context("memory")?;
     }
-    Ok(held)
+    Ok(())
 }
 
 // What a shelf holds under a name, past the calls that fail.

@@ -4,15 +4,18 @@ use crate::bytes::{Known, Named};
 use crate::entry::Entry;
 use anyhow::{Context, Result};
 use std::alloc::Global;
-use std::collections::BTreeMap;
 
-/// The same bytes by the same names.
-pub(crate) fn copied(alloc: Global, named: &Named) -> Result<Named> {
-    let mut copy = BTreeMap::new(alloc);
+/// Puts copies of bytes beside others, under their names.
+pub(crate) fn copy(alloc: Global, named: &Named, copy: &mut Named) -> Result<()> {
     for (name, bytes) in named {
-        put(alloc, &mut copy, name.as_str(), bytes.clone()?)?;
+        put_copy(alloc, copy, name.as_str(), bytes)?;
     }
-    Ok(copy)
+    Ok(())
+}
+
+/// Puts a copy of bytes beside others, under a name.
+pub(crate) fn put_copy(alloc: Global, named: &mut Named, name: &str, bytes: &[u8]) -> Result<()> {
+    put(alloc, named, name, bytes.to_vec(alloc)?)
 }
 
 /// Puts bytes beside others, under a name.
@@ -22,46 +25,71 @@ pub(crate) fn put(alloc: Global, named: &mut Named, name: &str, bytes: Vec<u8>) 
     Ok(())
 }
 
-/// What lies on a shelf once what a table names is put beside what lay there.
-pub(crate) fn with(
+/// Puts on a shelf what lay on another, and what a table names beside it.
+pub(crate) fn put_beside(
     alloc: Global,
     known: &Known,
     table: Option<Entry>,
     before: &Named,
-) -> Result<Named> {
-    let mut shelf = copied(alloc, before)?;
-    if let Some(table) = table {
-        put_all(alloc, known, table, &mut shelf)?;
-    }
-    Ok(shelf)
+    shelf: &mut Named,
+) -> Result<()> {
+    copy(alloc, before, shelf)?;
+    put_all(alloc, known, table, shelf)
 }
 
-fn put_all(alloc: Global, known: &Known, table: Entry, shelf: &mut Named) -> Result<()> {
-    let names = table.names(alloc)?;
-    for name in &names {
-        let content = table.entry(name)?.context("nothing under a name")?;
-        put(alloc, shelf, name, content_of(alloc, known, content)?)?;
+/// Puts what a table names on a shelf.
+pub(crate) fn put_all(
+    alloc: Global,
+    known: &Known,
+    table: Option<Entry>,
+    shelf: &mut Named,
+) -> Result<()> {
+    if let Some(table) = table {
+        for name in table.names() {
+            put_content(alloc, known, table, name, shelf)?;
+        }
     }
     Ok(())
 }
 
-// What a content stands for, so many times.
-fn content_of(alloc: Global, known: &Known, content: Entry) -> Result<Vec<u8>> {
+fn put_content(
+    alloc: Global,
+    known: &Known,
+    table: Entry,
+    name: &str,
+    shelf: &mut Named,
+) -> Result<()> {
+    let content = table.entry(name)?.context("nothing under a name")?;
+    let mut bytes = Vec::new(alloc);
+    add_content(alloc, known, content, &mut bytes)?;
+    put(alloc, shelf, name, bytes)
+}
+
+// Adds what a content stands for, so many times.
+fn add_content(alloc: Global, known: &Known, content: Entry, bytes: &mut Vec<u8>) -> Result<()> {
     content.has_only(&["text", "bytes", "times"])?;
     let times = content.number("times")?.unwrap_or(1);
-    let once = once(alloc, known, content)?;
-    let mut bytes = Vec::new(alloc);
+    let mut once = Vec::new(alloc);
+    add_either(alloc, known, content, ["bytes", "text"], &mut once)?;
     for _ in 0..times {
         bytes.extend_from_slice(&once)?;
     }
-    Ok(bytes)
+    Ok(())
 }
 
-// A text or a row of bytes.
-fn once(alloc: Global, known: &Known, content: Entry) -> Result<Vec<u8>> {
-    if let Some(row) = content.text("bytes")? {
-        return known.bytes(alloc, row);
+/// Adds a row of bytes under the first key, or else a text under the second.
+pub(crate) fn add_either(
+    alloc: Global,
+    known: &Known,
+    content: Entry,
+    keys: [&str; 2],
+    bytes: &mut Vec<u8>,
+) -> Result<()> {
+    let [row, text] = keys;
+    if let Some(row) = content.text(row)? {
+        return known.add(alloc, row, bytes);
     }
-    let text = content.text("text")?.unwrap_or("");
-    Ok(text.as_bytes().to_vec(alloc)?)
+    let text = content.text(text)?.unwrap_or("");
+    bytes.extend_from_slice(text.as_bytes())?;
+    Ok(())
 }

@@ -3,10 +3,10 @@
 use crate::bytes::{Known, Named};
 use crate::case::{Case, Shared};
 use crate::entry::Entry;
-use crate::runs::{difference, runs};
-use crate::shelf::{put, with};
+use crate::runs::{is_different, runs};
+use crate::shelf::{put, put_all, put_copy};
 use anyhow::{Context, Result};
-use std::alloc::{AllocError, Global};
+use std::alloc::Global;
 use std::collections::BTreeMap;
 use std::fs;
 use std::rt::Files;
@@ -26,102 +26,142 @@ struct Tally {
 pub(crate) fn is_as_wanted<R: Files + AllocGlobal + Print>(rt: &R, name: &str) -> Result<bool> {
     let table = table_of(rt, name)?;
     let topic = Entry::new(&table);
-    topic.has_only(&["about", "wrong", "words", "bytes", "files", "shelf", "case"])?;
-    let files = files(rt, topic.entry("files")?)?;
-    let tally = run_cases(rt.alloc(), topic, files).context(format_args!("in {name}"))?;
-    let about = topic.text("about")?.unwrap_or("");
-    let text = tally.text(rt.alloc(), name, about)?;
-    print!(rt; "{text}")?;
+    let mut tally = Tally::new(rt.alloc());
+    run_topic(rt, name, topic, &mut tally)?;
+    print_tally(rt, name, topic, &tally)?;
     Ok(tally.is_wanted(topic.flag("wrong")?))
 }
 
 fn table_of<R: Files + AllocGlobal>(rt: &R, name: &str) -> Result<Table> {
-    let alloc = rt.alloc();
-    let path = format!(in alloc; "{name}.toml")?;
-    let text = fs::read_to_string(rt, path.as_str()).context(format_args!("reading {path}"))?;
-    Ok(toml::table_from_str(alloc, &text).context(format_args!("in {path}"))?)
+    let path = format!(in rt.alloc(); "{name}.toml")?;
+    table_at(rt, path.as_str())
 }
 
-fn run_cases(alloc: Global, topic: Entry, files: Named) -> Result<Tally> {
-    let mut shared = shared(alloc, topic, files)?;
-    let mut tally = Tally {
-        cases: 0,
-        runs: 0,
-        different: 0,
-        differences: String::new(alloc),
-    };
-    let entries = topic.entries(alloc, "case")?;
-    for entry in &entries {
-        one_case(alloc, *entry, &mut shared, &mut tally)?;
+fn table_at<R: Files + AllocGlobal>(rt: &R, path: &str) -> Result<Table> {
+    let text = fs::read_to_string(rt, path).context(format_args!("reading {path}"))?;
+    toml::table_from_str(rt.alloc(), &text).context(format_args!("in {path}"))
+}
+
+fn run_topic<R: Files + AllocGlobal>(
+    rt: &R,
+    name: &str,
+    topic: Entry,
+    tally: &mut Tally,
+) -> Result<()> {
+    topic.has_only(&["about", "wrong", "words", "bytes", "files", "shelf", "case"])?;
+    let mut shared = Shared::new(rt.alloc());
+    if let Some(files) = topic.entry("files")? {
+        read_files(rt, files, &mut shared.known.outs)?;
     }
-    Ok(tally)
+    run_cases(rt.alloc(), topic, &mut shared, tally).context(format_args!("in {name}"))
 }
 
-fn one_case(alloc: Global, entry: Entry, shared: &mut Shared, tally: &mut Tally) -> Result<()> {
-    let case = Case::read(alloc, shared, entry).context(format_args!("case {}", tally.cases))?;
-    run_case(alloc, shared, &case, tally)
-}
-
-impl Tally {
-    // Tells whether as many cases differ as must.
-    fn is_wanted(&self, is_wrong: bool) -> bool {
-        self.different == if is_wrong { self.cases } else { 0 }
+// Reads the files beside the topics that a table names.
+fn read_files<R: Files + AllocGlobal>(rt: &R, table: Entry, files: &mut Named) -> Result<()> {
+    for name in table.names() {
+        let file = table.text(name)?.context("no file under a name")?;
+        read_file(rt, name, file, files)?;
     }
+    Ok(())
+}
 
-    // What is printed of a topic.
-    fn text(&self, alloc: Global, name: &str, about: &str) -> Result<String, AllocError> {
-        let Tally {
-            cases,
-            runs,
-            different,
-            differences,
-        } = self;
-        format!(in alloc;
-            "{name}: {cases} cases, {runs} runs, {different} different ({about})\n{differences}"
-        )
+fn read_file<R: Files + AllocGlobal>(
+    rt: &R,
+    name: &str,
+    file: &str,
+    files: &mut Named,
+) -> Result<()> {
+    let bytes = fs::read(rt, file).context(format_args!("reading {file}"))?;
+    put(rt.alloc(), files, name, bytes)
+}
+
+fn run_cases<'a>(
+    alloc: Global,
+    topic: Entry<'a>,
+    shared: &mut Shared<'a>,
+    tally: &mut Tally,
+) -> Result<()> {
+    shared.read(alloc, topic)?;
+    for case in topic.list("case")? {
+        one_case(alloc, Entry::of(case)?, shared, tally)?;
     }
+    Ok(())
 }
 
-fn shared<'a>(alloc: Global, topic: Entry<'a>, files: Named) -> Result<Shared<'a>> {
-    let known = Known {
-        rows: topic.entry("bytes")?,
-        outs: files,
-    };
-    let shelf = with(alloc, &known, topic.entry("shelf")?, &BTreeMap::new(alloc))?;
-    let words = topic.texts(alloc, "words")?;
-    Ok(Shared {
-        words: words.unwrap_or_else(|| Vec::new(alloc)),
-        shelf,
-        known,
-    })
+fn one_case<'a>(
+    alloc: Global,
+    entry: Entry<'a>,
+    shared: &mut Shared<'a>,
+    tally: &mut Tally,
+) -> Result<()> {
+    let mut case = Case::new(alloc);
+    let read = case.read(alloc, shared, entry);
+    read.context(format_args!("case {}", tally.cases))?;
+    run_case(alloc, &case, tally)?;
+    let out = &case.wanted.answer.out;
+    put_copy(alloc, &mut shared.known.outs, case.name, out)
 }
 
-// The bytes of the files beside the topics that a table names.
-fn files<R: Files + AllocGlobal>(rt: &R, table: Option<Entry>) -> Result<Named> {
-    let mut files = BTreeMap::new(rt.alloc());
-    if let Some(table) = table {
-        let names = table.names(rt.alloc())?;
-        for name in &names {
-            let file = table.text(name)?.context("no file under a name")?;
-            let bytes = fs::read(rt, file).context(format_args!("reading {file}"))?;
-            put(rt.alloc(), &mut files, name, bytes)?;
-        }
-    }
-    Ok(files)
-}
-
-// Runs a case up to its first difference, and keeps what it puts out under its name.
-fn run_case(alloc: Global, shared: &mut Shared, case: &Case, tally: &mut Tally) -> Result<()> {
+// Runs a case up to its first difference.
+fn run_case(alloc: Global, case: &Case, tally: &mut Tally) -> Result<()> {
     tally.cases = tally.cases.saturating_add(1);
     let runs = runs(alloc, case)?;
     for run in &runs {
         tally.runs = tally.runs.saturating_add(1);
-        if let Some(difference) = difference(alloc, shared, case, run)? {
+        if is_different(alloc, case, run, &mut tally.differences)? {
             tally.different = tally.different.saturating_add(1);
-            tally.differences.push_str(&difference)?;
             break;
         }
     }
-    let out = case.wanted.answer.out.clone()?;
-    put(alloc, &mut shared.known.outs, case.name, out)
+    Ok(())
+}
+
+impl Tally {
+    fn new(alloc: Global) -> Tally {
+        Tally {
+            cases: 0,
+            runs: 0,
+            different: 0,
+            differences: String::new(alloc),
+        }
+    }
+
+    // Tells whether as many cases differ as must.
+    fn is_wanted(&self, is_wrong: bool) -> bool {
+        self.different == if is_wrong { self.cases } else { 0 }
+    }
+}
+
+fn print_tally<R: Print>(rt: &R, name: &str, topic: Entry, tally: &Tally) -> Result<()> {
+    let about = topic.text("about")?.unwrap_or("");
+    let Tally {
+        cases,
+        runs,
+        different,
+        differences,
+    } = tally;
+    print!(rt;
+        "{name}: {cases} cases, {runs} runs, {different} different ({about})\n{differences}"
+    )?;
+    Ok(())
+}
+
+impl<'a> Shared<'a> {
+    fn new(alloc: Global) -> Shared<'a> {
+        Shared {
+            words: Vec::new(alloc),
+            shelf: BTreeMap::new(alloc),
+            known: Known {
+                rows: None,
+                outs: BTreeMap::new(alloc),
+            },
+        }
+    }
+
+    // Reads what the cases of a topic share.
+    fn read(&mut self, alloc: Global, topic: Entry<'a>) -> Result<()> {
+        self.known.rows = topic.entry("bytes")?;
+        put_all(alloc, &self.known, topic.entry("shelf")?, &mut self.shelf)?;
+        topic.add_texts("words", &mut self.words)
+    }
 }
