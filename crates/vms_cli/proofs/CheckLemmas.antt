@@ -1,5 +1,5 @@
 -- Of `check`: what is untouched where it ends, and that its steps are told where the shelf is.
-use Rattle.std.proofs.Common.{Bool, List, ℕ, Option, Some, None, Ok, Err, arith, subst}
+use Rattle.std.proofs.Common.{Bool, List, ℕ, Option, Some, None, Ok, arith, subst}
 use Rattle.vms_io.specs.Shelves.{Held}
 use Rattle.vms_io.specs.Told.{Outlet}
 use Rattle.vms_check.specs.declared.mismatch.Mismatch.{Mismatch}

@@ -1,5 +1,5 @@
 -- What a ready image has.
-use Rattle.std.proofs.Common.{◌≡◌, ℕ, suc, ◌<◌, ◌≤◌, List, [], ◌∷◌, length, get_or, map, Option, Some, None, ℤ, refl, ap, ◌∙◌, arith, true}
+use Rattle.std.proofs.Common.{◌≡◌, ℕ, suc, ◌<◌, ◌≤◌, List, [], ◌∷◌, length, map, Option, Some, None, ℤ, refl, ap, ◌∙◌, arith, true}
 use Rattle.std.proofs.lemmas.List.{get_or-map}
 use Rattle.vms_kinds.specs.declared.Kind.TheVariants.{U8}
 use Rattle.vms_spec.specs.Sets.{Set, Sub, AtLeast}

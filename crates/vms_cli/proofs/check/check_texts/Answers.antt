@@ -3,7 +3,6 @@ use Rattle.vms_desc.specs.Described.{described}
 use Rattle.vms_cli.specs.Check.{compared}
 use Rattle.vms_outcome.specs.Fetching.{set_in}
 use Rattle.vms_outcome.specs.StepEndings.{text_of}
-use Rattle.vms_outcome.proofs.StepLemmas.{first_ends}
 use Rattle.vms_cli.proofs.CheckLemmas.{first_gives}
 use Rattle.vms_cli.proofs.check.check_texts.Goals as goal
 
