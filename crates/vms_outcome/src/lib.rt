@@ -17,7 +17,7 @@ pub use ending::Ending;
 pub use fetching::{LONGEST_FILE, SetText, fetch, fetch_set, loader_of, read_fetched};
 pub use line_parts::{append_number, append_reason};
 pub use notes::{not_there_line, too_large_line};
-pub use refused::{Line, refused_line};
+pub use refused::{Line, append_section, refused_line};
 pub use set_notes::{mismatch_line, rule_line, shape_line, syntax_line};
 pub use set_words::{SetWord, ShippedSet};
 pub use words::{set_word, shipped_set};

@@ -29,9 +29,13 @@ pub fn refused_line(set: &DescSet, refusal: &Refusal) -> Line
     line
 }
 
-// The name and instance of a device, or a dash.
-fn append_section(line: &mut Line, set: &DescSet, section: Option<u32>)
-    requires { length line.old.items ≤ 40 }
+/// Appends the name and instance of a set's device, or a dash where there is none, to a line that has room for 121 bytes.
+pub fn append_section<const N: usize>(
+    line: &mut ArrayVec<u8, N>,
+    set: &DescSet,
+    section: Option<u32>,
+)
+    requires { length line.old.items + 121 ≤ N }
     ensures items { line.new.items ≡ line.old.items ++ section_text (described set.now) section }
     ensures few { length line.new.items ≤ length line.old.items + 121 }
 {
@@ -43,9 +47,9 @@ fn append_section(line: &mut Line, set: &DescSet, section: Option<u32>)
     }
 }
 
-fn append_device(line: &mut Line, set: &DescSet, device: u32)
+fn append_device<const N: usize>(line: &mut ArrayVec<u8, N>, set: &DescSet, device: u32)
     requires is_device { device < length (described set.now).devices }
-    requires room { length line.old.items ≤ 40 }
+    requires room { length line.old.items + 121 ≤ N }
     ensures items { let d = device_at (described set.now) device in
         line.new.items ≡ line.old.items ++ device_text (Some d) }
     ensures few { length line.new.items ≤ length line.old.items + 121 }

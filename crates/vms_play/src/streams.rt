@@ -10,10 +10,11 @@ ghost use Rattle.vms_play.specs.Playing.{session_of};
 ghost use Rattle.vms_play.specs.Streams.{LoadsAs, ShelfCause, StoresAs};
 
 use crate::line::PlayFault;
-use crate::mark::{Mark, mark, refused_mark, restored_mark};
+use crate::mark::{mark, refused_mark, restored_mark};
 use std::alloc::Global;
 use vms_board::Board;
 use vms_io::{FetchFault, Shelf, StoreFault};
+use vms_outcome::Line;
 use vms_session::{restore_from, stream_of};
 
 /// The greatest stream that is fetched from the shelf, in bytes.
@@ -52,7 +53,7 @@ pub(crate) fn restore<H: Shelf>(
     board: &mut Board,
     name: &str,
     shelf: &mut H,
-) -> Result<Mark, PlayFault>
+) -> Result<Line, PlayFault>
     requires { IsSound board.old.state }
     ensures loaded { (held : Held) (text : List ℕ) (new : Session) → H.held shelf.old ≡ Some held
         → LoadsHeld (held name.now) (session_of board.old.state held) text new
@@ -74,7 +75,7 @@ pub(crate) fn restore<H: Shelf>(
 }
 
 // Makes a board the one that a stream restores, if it restores one; answers the line of what it came to.
-fn load(alloc: Global, board: &mut Board, stream: Vec<u8>) -> Mark
+fn load(alloc: Global, board: &mut Board, stream: Vec<u8>) -> Line
     requires few { length stream.items ≤ longest_stream }
     requires sound { IsSound board.old.state }
     ensures text { (held : Held) (text : List ℕ) (new : Session)
@@ -87,6 +88,6 @@ fn load(alloc: Global, board: &mut Board, stream: Vec<u8>) -> Mark
 {
     match restore_from(alloc, board, stream) {
         Ok(()) => restored_mark(board.taken()),
-        Err(refusal) => refused_mark(&refusal),
+        Err(refusal) => refused_mark(board.set(), &refusal),
     }
 }

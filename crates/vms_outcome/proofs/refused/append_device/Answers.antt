@@ -5,7 +5,7 @@ use Rattle.vms_write.proofs.Formed.{device_short}
 use Rattle.vms_outcome.proofs.refused.append_device.Goals as goal
 
 pub append-requires : goal.append-requires
-append-requires c =
+append-requires g c =
     let set = described c.args.set.now in
     omega (
       arith,
@@ -15,7 +15,7 @@ append-requires c =
     )
 
 pub append-requires-2 : goal.append-requires-2
-append-requires-2 c =
+append-requires-2 g c =
     let set = described c.args.set.now in
     let name = simp length-append at (ap length c.append.ensures) in
     omega (
@@ -27,7 +27,7 @@ append-requires-2 c =
     )
 
 pub append_number-requires : goal.append_number-requires
-append_number-requires c =
+append_number-requires g c =
     let set = described c.args.set.now in
     let name = simp length-append at (ap length c.append.ensures) in
     let slash = simp length-append at (ap length c.append-2.ensures) in
@@ -41,7 +41,7 @@ append_number-requires c =
     )
 
 pub returns-clause-few : goal.returns-clause-few
-returns-clause-few c =
+returns-clause-few g c =
     let set = described c.args.set.now in
     let name = simp length-append at (ap length c.append.ensures) in
     let slash = simp length-append at (ap length c.append-2.ensures) in

@@ -1,6 +1,7 @@
 use Rattle.std.proofs.Common.{ap, ◌∙◌}
 use Rattle.vms_board.specs.Standing.{Standing}
-use Rattle.vms_session.specs.Lines.{restored_line}
+use Rattle.vms_spec.specs.Sets.{Set}
+use Rattle.vms_session.specs.Lines.{refused_line, restored_line}
 use Rattle.vms_play.specs.Playing.{session_of}
 use Rattle.vms_play.proofs.StreamLemmas.{back_text, back_board, refused_text, refused_board}
 use Rattle.vms_play.proofs.streams.load.Goals as goal
@@ -19,6 +20,7 @@ returns-in-Ok-clause-board c = λ held text new loads.
 pub returns-in-Err-clause-text : goal.returns-in-Err-clause-text
 returns-in-Err-clause-text c = λ held text new loads.
     c.refused_mark.ensures
+    ∙ ap (λ (s : Set). refused_line s c.in-Err.refusal.at c.in-Err.refusal.section c.in-Err.refusal.reason) c.set.ensures
     ∙ refused_text c.args.stream.items (session_of c.args.board.now.state held) text new c.in-Err.ensures.octets c.requires.few loads
     c.in-Err.refusal.at c.in-Err.refusal.section c.in-Err.refusal.reason c.in-Err.ensures.refused
 
