@@ -9,7 +9,8 @@ use Rattle.vms_io.specs.Causes.{AppendsPrefix}
 use Rattle.vms_io.specs.Told.{Outlet, Stock}
 use Rattle.vms_session.proofs.OneLaws.{one_restore}
 use Rattle.vms_session.specs.Lines.{restored_line, refused_line}
-use Rattle.vms_session.specs.Session.{Session, ComesTo, IsTooLarge, IsLoaded, LoadsBytes, longest_stream}
+use Rattle.vms_session.specs.Session.{Session, ComesTo, IsTooLarge, IsLoaded, LoadsBytes}
+use Rattle.vms_outcome.specs.Fetching.{longest_file}
 use Rattle.vms_spec.specs.Numbers.{IsBytes}
 use Rattle.vms_spec.specs.declared.Reason.{Reason}
 use Rattle.vms_play.specs.Playing.{LineEnds, WritesText}
@@ -17,13 +18,13 @@ use Rattle.vms_play.specs.declared.line.PlayFault.{PlayFault}
 use Rattle.vms_play.specs.declared.line.PlayFault.TheVariants.{WriteFault, ShelfFault, NoMemory}
 
 -- bytes that a board reads come to what they restore
-comes : (bytes : List ℕ) (old : Session) (text : List ℕ) (new : Session) (r : Restore) → IsBytes bytes → length bytes ≤ longest_stream → Restores old.board.level bytes r
+comes : (bytes : List ℕ) (old : Session) (text : List ℕ) (new : Session) (r : Restore) → IsBytes bytes → length bytes ≤ longest_file → Restores old.board.level bytes r
     → LoadsBytes bytes old text new → ComesTo r old text new
 comes bytes old text new r ok few restores (IsTooLarge long left) = absurd (omega (arith, few, long))
 comes bytes old text new r ok few restores (IsLoaded other some others left) =
     subst (λ (x : Restore). ComesTo x old text new) (one_restore old.board.level bytes ok other r others restores) left
 
-module _ (bytes : List ℕ) (old : Session) (text : List ℕ) (new : Session) (ok : IsBytes bytes) (few : length bytes ≤ longest_stream) (loads : LoadsBytes bytes old text new) where
+module _ (bytes : List ℕ) (old : Session) (text : List ℕ) (new : Session) (ok : IsBytes bytes) (few : length bytes ≤ longest_file) (loads : LoadsBytes bytes old text new) where
   pub back_text : (m : State) (taken : ℕ) → Restores old.board.level bytes (Back m taken) → restored_line taken ≡ text
   back_text m taken r = sym (comes bytes old text new (Back m taken) ok few r loads).text_is
 

@@ -5,7 +5,8 @@ ghost use Rattle.dev_board.specs.Sound.{IsSound};
 ghost use Rattle.vms_board.specs.Saving.{saved_stream};
 ghost use Rattle.vms_io.specs.Shelves.{Held};
 ghost use Rattle.vms_io.specs.Told.{stock};
-ghost use Rattle.vms_session.specs.Session.{LoadsBytes, LoadsHeld, Session, longest_stream};
+ghost use Rattle.vms_outcome.specs.Fetching.{longest_file};
+ghost use Rattle.vms_session.specs.Session.{LoadsBytes, LoadsHeld, Session};
 ghost use Rattle.vms_play.specs.Playing.{session_of};
 ghost use Rattle.vms_play.specs.Streams.{LoadsAs, ShelfCause, StoresAs};
 
@@ -14,11 +15,8 @@ use crate::mark::{mark, refused_mark, restored_mark};
 use std::alloc::Global;
 use vms_board::Board;
 use vms_io::{FetchFault, Shelf, StoreFault};
-use vms_outcome::Line;
+use vms_outcome::{LONGEST_FILE, Line};
 use vms_session::{restore_from, stream_of};
-
-/// The greatest stream that is fetched from the shelf, in bytes.
-const LONGEST_STREAM: u32 = 1_048_576;
 
 /// Stores a board's stream under a set and a name; answers how many bytes it has.
 pub(crate) fn save<H: Shelf>(
@@ -65,7 +63,7 @@ pub(crate) fn restore<H: Shelf>(
     ensures count { H.faults shelf.old ≤ H.faults shelf.new }
     ensures promise { H.promise shelf.new ≡ H.promise shelf.old }
 {
-    match shelf.fetch(alloc, name, LONGEST_STREAM) {
+    match shelf.fetch(alloc, name, LONGEST_FILE) {
         Ok(stream) => Ok(load(alloc, board, stream)),
         Err(FetchFault::NotThere) => Ok(mark(b"missing\n")),
         Err(FetchFault::TooLarge) => Ok(mark(b"too large\n")),
@@ -76,7 +74,7 @@ pub(crate) fn restore<H: Shelf>(
 
 // Makes a board the one that a stream restores, if it restores one; answers the line of what it came to.
 fn load(alloc: Global, board: &mut Board, stream: Vec<u8>) -> Line
-    requires few { length stream.items ≤ longest_stream }
+    requires few { length stream.items ≤ longest_file }
     requires sound { IsSound board.old.state }
     ensures text { (held : Held) (text : List ℕ) (new : Session)
         → LoadsBytes stream.items (session_of board.old.state held) text new → result.items ≡ text }

@@ -27,7 +27,8 @@ use Rattle.vms_board.specs.Restoring.{TakesBoard, misfit_section, misfit_reason,
 use Rattle.vms_board.specs.Saving.{machine_of, saved_stream}
 use Rattle.vms_session.specs.Laws.{HoldsBytes, HasAnEnd, SessionsEnd}
 use Rattle.vms_session.specs.Lines.{saved_line, restored_line, missing_line, too_large_line, refused_line}
-use Rattle.vms_session.specs.Session.{Session, IsTooLarge, IsLoaded, LoadsHeld, Does, longest_stream}
+use Rattle.vms_session.specs.Session.{Session, IsTooLarge, IsLoaded, LoadsHeld, Does}
+use Rattle.vms_outcome.specs.Fetching.{longest_file}
 
 -- ---- what bytes come to
 
@@ -95,7 +96,7 @@ record LineEnds (line : ScriptLine) (old : Session) : Type 0 where
 abbrev still : (level : ℕ) (held : Held) → Type 0
 still level held = (name : List ℕ) → HeldComes level (held name)
 
-restored-ends : (name bytes : List ℕ) (old : Session) (restore : Restore) → old.held name ≡ Some bytes → length bytes ≤ longest_stream
+restored-ends : (name bytes : List ℕ) (old : Session) (restore : Restore) → old.held name ≡ Some bytes → length bytes ≤ longest_file
     → Restores old.board.level bytes restore → still old.board.level old.held → LineEnds (Loads name) old
 restored-ends name bytes old (Back m taken) there few restores held = record {
   text = restored_line taken;
@@ -112,10 +113,10 @@ restored-ends name bytes old (Refused place section reason) there few restores h
   held = held;
 }
 
-bytes-end : (name bytes : List ℕ) (old : Session) (b : Bool) → nat_lt longest_stream (length bytes) ≡ b → old.held name ≡ Some bytes
+bytes-end : (name bytes : List ℕ) (old : Session) (b : Bool) → nat_lt longest_file (length bytes) ≡ b → old.held name ≡ Some bytes
     → Comes old.board.level bytes → still old.board.level old.held → LineEnds (Loads name) old
 bytes-end name bytes old true e there comes held =
-    let long : longest_stream < length bytes = grind (arith, nat_tests, e) in
+    let long : longest_file < length bytes = grind (arith, nat_tests, e) in
     record {
       text = too_large_line;
       new = old;
@@ -123,7 +124,7 @@ bytes-end name bytes old true e there comes held =
       held = held;
     }
 bytes-end name bytes old false e there comes held =
-    let few : length bytes ≤ longest_stream = grind (arith, nat_tests, e) in
+    let few : length bytes ≤ longest_file = grind (arith, nat_tests, e) in
     restored-ends name bytes old comes.0 there few comes.1 held
 
 held-end : (name : List ℕ) (old : Session) (under : Option (List ℕ)) → old.held name ≡ under → HeldComes old.board.level under
@@ -135,7 +136,7 @@ held-end name old None there comes held = record {
   held = held;
 }
 held-end name old (Some bytes) there comes held =
-    bytes-end name bytes old (nat_lt longest_stream (length bytes)) refl there comes held
+    bytes-end name bytes old (nat_lt longest_file (length bytes)) refl there comes held
 
 pub may_save : (level set : ℕ) → is_set_of level set ≡ true → MaySaveUnder level set
 may_save level set e = record { level_le_set = grind (arith, nat_tests, e); set_le_newest = grind (arith, nat_tests, e) }

@@ -10,11 +10,8 @@ use Rattle.vms_script.specs.Lines.{ScriptLine, Happens, Saves, Restores as Loads
 use Rattle.vms_script.specs.Trace.{trace_line}
 use Rattle.vms_board.specs.Restoring.{Restore, Back, Refused, Restores}
 use Rattle.vms_board.specs.Saving.{saved_stream}
+use Rattle.vms_outcome.specs.Fetching.{longest_file}
 use Rattle.vms_session.specs.Lines.{saved_line, restored_line, missing_line, too_large_line, refused_line}
-
--- the greatest stream that is fetched from the shelf, in bytes
-abbrev pub longest_stream : ℕ
-longest_stream = 1048576
 
 -- the board and what the shelf holds
 pub record Session : Type 0 where
@@ -44,8 +41,8 @@ ComesTo (Refused place section reason) old text new =
 
 -- a stream of the shelf is too large, or is what it is to a restore
 pub data LoadsBytes (bytes : List ℕ) (old : Session) (text : List ℕ) (new : Session) : Type 0 where
-  IsTooLarge : longest_stream < length bytes → Leaves too_large_line old text new → LoadsBytes bytes old text new
-  IsLoaded : (restore : Restore) → length bytes ≤ longest_stream → Restores old.board.level bytes restore
+  IsTooLarge : longest_file < length bytes → Leaves too_large_line old text new → LoadsBytes bytes old text new
+  IsLoaded : (restore : Restore) → length bytes ≤ longest_file → Restores old.board.level bytes restore
       → ComesTo restore old text new → LoadsBytes bytes old text new
 
 abbrev pub LoadsHeld : Option (List ℕ) → Session → List ℕ → Session → Type 0
