@@ -1,12 +1,13 @@
 -- What is saved of a sound board are ready images.
 use Rattle.std.proofs.Common.{◌≡◌, ℕ, zero, suc, ◌≤◌, List, [], ◌∷◌, length, Some, ℤ, refl, ap, subst, arith}
+use Rattle.std.specs.List.{slice_get}
 use Rattle.dev_board.proofs.SavedLaws.{saved_are_cells}
 use Rattle.dev_board.specs.Saved.{saved, AreSavedCells}
 use Rattle.dev_board.specs.State.{State}
 use Rattle.vms_desc.specs.Formed.{shipped_set}
 use Rattle.vms_spec.specs.Images.{Image}
 use Rattle.vms_spec.specs.Sets.{Device, Set}
-use Rattle.vms_spec.specs.Streams.{at, IsReady, AreReady}
+use Rattle.vms_spec.specs.Streams.{IsReady, AreReady}
 use Rattle.dev_images.specs.Images.{image_of, images_of, lists_of}
 use Rattle.dev_images.specs.Laws.{SavedAreReady}
 use Rattle.dev_images.proofs.ChipReady.{chip_is_ready}
@@ -28,7 +29,7 @@ counts set [] (numbers ∷ lists) h = absurd h
 counts set (d ∷ devices) [] h = absurd h
 counts set (d ∷ devices) (numbers ∷ lists) h = ap suc (counts set devices lists h.1)
 
-all-ready : (set : Set) (devices : List Device) (lists : List (List ℤ)) → AllReady set devices lists → (k : ℕ) (d : Device) (image : Image) → at devices k ≡ Some d → at (images_of set devices lists) k ≡ Some image → IsReady set d image
+all-ready : (set : Set) (devices : List Device) (lists : List (List ℤ)) → AllReady set devices lists → (k : ℕ) (d : Device) (image : Image) → slice_get devices k ≡ Some d → slice_get (images_of set devices lists) k ≡ Some image → IsReady set d image
 unfolding AllReady
 all-ready set [] [] h k d image e f = cc
 all-ready set [] (numbers ∷ lists) h k d image e f = absurd h

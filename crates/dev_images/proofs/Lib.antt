@@ -2,6 +2,7 @@ pub mod BoardCarried
 pub mod BoardReady
 pub mod Carried
 pub mod ChipReady
+pub mod KindsAre
 pub mod NormalBoard
 pub mod NormalCells
 pub mod NormalSerial

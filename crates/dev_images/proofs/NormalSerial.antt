@@ -1,7 +1,7 @@
 -- A normal image of the newest set's serial port has the cells that a port may be restored from.
 use Rattle.std.proofs.Common.{◌≡◌, ◌≢◌, ℕ, zero, suc, ◌+◌, ◌<◌, ◌≤◌, Bool, true, false, ◌&&◌, ◌||◌, ◌==◌, List, [], ◌∷◌, ◌++◌, length, get_or, take, drop, min, map, Option, Some, None, ℤ, pos, negsuc, ◌≤ℤ◌, refl, sym, ◌∙◌, subst, arith}
 use Rattle.std.proofs.lemmas.Bool.{and_parts, leb-true, ltb-true}
-use Rattle.vms_laws.proofs.ReadyLaws.{same_is}
+use Rattle.vms_bodies.proofs.ReadyLaws.{same_is}
 use Rattle.vms_spec.specs.Numbers.{same_number}
 use Rattle.vms_spec.specs.Sets.{Set, Device, Sub}
 use Rattle.dev_images.specs.Laws.{serial_at_4}

@@ -2,7 +2,7 @@
 use Rattle.std.proofs.Common.{◌≡◌, ℕ, zero, suc, ◌+◌, ◌<◌, ◌≤◌, Bool, true, false, ◌&&◌, ◌||◌, ◌==◌, cond, List, [], ◌∷◌, ◌++◌, length, get_or, take, drop, replicate, map, Option, Some, None, ℤ, pos, refl, sym, ap, ◌∙◌, subst, arith}
 use Rattle.std.specs.List.{flat_map}
 use Rattle.std.proofs.lemmas.Bool.{and_parts, eq-eqb}
-use Rattle.vms_laws.proofs.ReadyLaws.{is_same}
+use Rattle.vms_bodies.proofs.ReadyLaws.{is_same}
 use Rattle.vms_spec.specs.Images.{has_cell, own_slots, sub_slots, came_slots, own_cells, image_slots, RulesHold}
 use Rattle.vms_spec.specs.Layout.{Cell, Slot, Number, times, desc_cells, struct_cells, device_cells}
 use Rattle.vms_spec.specs.Numbers.{same_number}

@@ -3,8 +3,8 @@ use Rattle.std.proofs.Common.{◌≡◌, ℕ, zero, suc, ◌+◌, ◌<◌, ◌�
 use Rattle.std.specs.List.{AllByRecursion}
 use Rattle.vms_kinds.specs.Codes.{InRange}
 use Rattle.vms_kinds.specs.declared.Kind.{Kind}
-use Rattle.vms_laws.proofs.ReadyLaws.{same_is}
-use Rattle.vms_laws.proofs.WellFormedLaws.{within}
+use Rattle.vms_bodies.proofs.ReadyLaws.{same_is}
+use Rattle.vms_spec.proofs.WellFormedLaws.{within}
 use Rattle.vms_spec.specs.Rules.{counts_well}
 use Rattle.vms_spec.specs.Numbers.{same_number}
 use Rattle.std.proofs.lemmas.Bool.{and_parts, eqb-true}

@@ -10,7 +10,7 @@ use Rattle.vms_kinds.specs.declared.Kind.TheVariants.{U8, I8, Timer}
 use Rattle.vms_spec.specs.Layout.{first, device_cells, times, Cell, Slot, Number, Rule}
 use Rattle.vms_spec.specs.Images.{RulesHold}
 use Rattle.vms_spec.specs.Rules.{counts_well}
-use Rattle.vms_laws.proofs.ReadyLaws.{counted_well}
+use Rattle.vms_bodies.proofs.ReadyLaws.{counted_well}
 use Rattle.std.proofs.lemmas.Grind.{and_numeral}
 use Rattle.dev_serial.specs.Cells.{IsArray}
 use Rattle.vms_spec.specs.Shipped.{set_1, set_2, set_3, set_4, never, thr_ipending, fifo, timeout, ring}

@@ -1,5 +1,6 @@
 -- Laws of the images of a board's devices that contracts name.
 use Rattle.std.specs.Prelude.{◌≡◌, ℕ, ℤ, Some, Ok, length, List, [], ◌∷◌, ◌++◌}
+use Rattle.std.specs.List.{slice_get}
 use Rattle.dev_base.specs.Cells.{AreOf}
 use Rattle.dev_board.specs.Saved.{timer_kinds, MaySaveUnder, AreBoardCells, saved, carried as board_carried, restored}
 use Rattle.dev_board.specs.Step.{observe}
@@ -15,7 +16,7 @@ use Rattle.dev_serial.specs.Laws.{AreSaved as AreSerialCells}
 use Rattle.vms_check.specs.Carrying.{carried_device, carried}
 use Rattle.vms_spec.specs.Sets.{Set, Device}
 use Rattle.vms_spec.specs.Shipped.{set_1, set_2, set_3, set_4, timer, i8259_at_1, i8259_at_2, i8259_at_4, i8254_at_1, i8254_at_2, serial, serial_fields, divider, divisor, fcr, thr_ipending, fifo, timeout, ring}
-use Rattle.vms_spec.specs.Streams.{at, IsReady, AreReady}
+use Rattle.vms_spec.specs.Streams.{IsReady, AreReady}
 use Rattle.vms_spec.specs.Images.{Image, IsNormal}
 use Rattle.dev_images.specs.Images.{image_of, saved_images, cells_in}
 
@@ -111,4 +112,4 @@ pub record ImagesComeBack : Type 0 where
 
 -- normal images of the newest set, one for each device, have the cells that a board may be restored from
 pub record NormalMayBeRestored : Type 0 where
-  pub cells : (images : List Image) → length images ≡ length set_4.devices → ((k : ℕ) (d : Device) (image : Image) → at set_4.devices k ≡ Some d → at images k ≡ Some image → IsNormal set_4 d image) → AreBoardCells (cells_in images)
+  pub cells : (images : List Image) → length images ≡ length set_4.devices → ((k : ℕ) (d : Device) (image : Image) → slice_get set_4.devices k ≡ Some d → slice_get images k ≡ Some image → IsNormal set_4 d image) → AreBoardCells (cells_in images)

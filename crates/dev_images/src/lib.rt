@@ -1,6 +1,7 @@
-//! The images of a board's devices under the shipped sets.
+//! The images of a board's devices under the shipped sets, and the kinds of their cells.
 #![tactic(auto)]
 
+pub mod kinds;
 mod laws;
 
 pub use laws::{

@@ -1,5 +1,6 @@
 -- Images of numbers, made cell by cell and subsection by subsection.
 use Rattle.std.proofs.Common.{map, Some, subst, ◌≡◌, ℕ, zero, suc, ◌+◌, ◌<◌, ◌≤◌, List, [], ◌∷◌, ◌++◌, length, get_or, None, ℤ, pos, refl, sym, ap, ◌∙◌, arith}
+use Rattle.std.specs.List.{slice_get}
 use Rattle.std.proofs.lemmas.List.{ext_get_or}
 use Rattle.vms_desc.specs.Described.{device_at}
 use Rattle.vms_image.proofs.Made.{same_image}
@@ -9,7 +10,6 @@ use Rattle.vms_spec.specs.Layout.{no_desc}
 use Rattle.vms_spec.specs.Sets.{AtLeast, Sub, Device, Set}
 use Rattle.dev_board.specs.declared.cells.BoardCells.{BoardCells}
 use Rattle.dev_images.specs.Images.{bare, image_of, images_of, lists_of, needed_from}
-use Rattle.vms_spec.specs.Lists.{at}
 use Rattle.vms_board.specs.Imaging.{FitDevice, HasCells, typed_of, needed_at, version_needed}
 
 -- the cells below a place have their numbers
@@ -124,7 +124,7 @@ is-at set k numbers image f e =
     subst (λ (i : Typed). IsImageOf set k i) same (is-of set k numbers f)
 
 each-of : (set : Set) (cells : BoardCells) → HasCells set (lists_of cells) → (k : ℕ) (image : Typed)
-    → at (typed_five set cells.timer.items cells.master.items cells.slave.items cells.pit.items cells.serial.items) k ≡ Some image → IsImageOf set k image
+    → slice_get (typed_five set cells.timer.items cells.master.items cells.slave.items cells.pit.items cells.serial.items) k ≡ Some image → IsImageOf set k image
 each-of set cells h zero image e = is-at set 0 cells.timer.items image (h.each 0 (omega arith)) e
 each-of set cells h (suc zero) image e = is-at set 1 cells.master.items image (h.each 1 (omega arith)) e
 each-of set cells h (suc (suc zero)) image e = is-at set 2 cells.slave.items image (h.each 2 (omega arith)) e

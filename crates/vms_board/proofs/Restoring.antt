@@ -1,5 +1,6 @@
 -- What a load brings to a board.
 use Rattle.std.proofs.Common.{◌≡◌, inl, inr, ℕ, zero, suc, ◌-◌, ◌<◌, ◌≤◌, List, [], ◌∷◌, length, get_or, Option, Some, None, IfSome, Ok, Err, Result, refl, sym, ap, ◌∙◌, subst, arith}
+use Rattle.std.specs.List.{slice_get}
 use Rattle.std.proofs.lemmas.Bool.{leb-true}
 use Rattle.dev_base.specs.Levels.{IsLevel}
 use Rattle.dev_base.specs.declared.limits.TheConstants.{NEWEST}
@@ -21,10 +22,9 @@ use Rattle.vms_load.specs.declared.fault.LoadFault.{LoadFault}
 use Rattle.vms_load.specs.declared.fault.LoadFault.TheVariants as loads
 use Rattle.vms_spec.specs.Images.{Image}
 use Rattle.vms_spec.specs.Layout.{device_cells, first}
-use Rattle.vms_spec.specs.Lists.{at}
 use Rattle.vms_spec.specs.Sets.{Set}
-use Rattle.vms_units.specs.Faults.{Fault}
-use Rattle.vms_units.specs.Streams.{Takes}
+use Rattle.vms_stream.specs.Faults.{Fault}
+use Rattle.vms_stream.specs.Streams.{Takes}
 use Rattle.vms_board.specs.Comes.{ComesTo, HearsBoard, Takings, HearsTakings, IsUnfit, refusal_of}
 use Rattle.vms_board.specs.Saving.{machine_of}
 use Rattle.vms_board.specs.Standing.{Standing}
@@ -164,7 +164,7 @@ five_of images s = s.one_each
 pub room : (images : List Typed) (k : ℕ) (image : Typed) → AreImagesOf (shipped_set NEWEST) images → k < 5 → image ≡ get_or images k image → length image.numbers ≤ 96
 room images k image s lt is =
     let five = five_of images s in
-    let here : at images k ≡ Some image = at_get images k image (omega (arith, five, lt)) ∙ ap (λ (i : Typed). Some i) (sym is) in
+    let here : slice_get images k ≡ Some image = at_get images k image (omega (arith, five, lt)) ∙ ap (λ (i : Typed). Some i) (sym is) in
     let n = (s.each k image here).cells in
     let most = few k lt in
     omega (arith, n, most)

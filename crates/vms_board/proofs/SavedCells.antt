@@ -1,5 +1,6 @@
 -- The cells of a board that is saved, and its machine, under the shipped sets.
 use Rattle.std.proofs.Common.{◌≡◌, ℕ, zero, suc, ◌-◌, ◌<◌, ◌≤◌, List, [], ◌∷◌, length, get_or, map, Option, Some, Result, Ok, Err, ℤ, pos, refl, sym, ap, ◌∙◌, subst, arith}
+use Rattle.std.specs.List.{slice_get}
 use Rattle.std.specs.Io.KnownBytes.{Appends}
 use Rattle.dev_board.specs.Saved.{saved, MaySaveUnder}
 use Rattle.dev_board.specs.Sound.{IsSound}
@@ -17,7 +18,6 @@ use Rattle.vms_kinds.specs.declared.Kind.TheVariants.{U8}
 use Rattle.std.proofs.lemmas.List.{length-map, get_or-map}
 use Rattle.vms_spec.specs.Images.{Image, FitCells}
 use Rattle.vms_spec.specs.Layout.{Cell, no_cell, device_cells}
-use Rattle.vms_spec.specs.Lists.{at}
 use Rattle.vms_spec.specs.Sets.{Set}
 use Rattle.vms_selfdesc.specs.Tree.{described_text}
 use Rattle.vms_spec.specs.Streams.{written, AreReady}
@@ -82,7 +82,7 @@ saved_has_cells s m sound may =
 
 -- ---- machines
 
-pub machine_at : (s level : ℕ) → 1 ≤ level → level ≤ s → s ≤ 4 → at (shipped_set s).machines (level - 1) ≡ Some (machine_of level)
+pub machine_at : (s level : ℕ) → 1 ≤ level → level ≤ s → s ≤ 4 → slice_get (shipped_set s).machines (level - 1) ≡ Some (machine_of level)
 machine_at s zero l le h = absurd (omega (arith, l))
 machine_at zero (suc level) l le h = absurd (omega (arith, le))
 machine_at (suc zero) (suc zero) l le h = refl
@@ -101,7 +101,7 @@ machine_at (suc (suc (suc (suc zero)))) (suc (suc (suc (suc zero)))) l le h = re
 machine_at (suc (suc (suc (suc zero)))) (suc (suc (suc (suc (suc level))))) l le h = absurd (omega (arith, le))
 machine_at (suc (suc (suc (suc (suc s))))) (suc level) l le h = absurd (omega (arith, h))
 
-at_below : {X : Type 0} (xs : List X) (k : ℕ) (x : X) → at xs k ≡ Some x → k < length xs
+at_below : {X : Type 0} (xs : List X) (k : ℕ) (x : X) → slice_get xs k ≡ Some x → k < length xs
 at_below [] k x e = cc
 at_below (y ∷ xs) zero x e = omega arith
 at_below (y ∷ xs) (suc k) x e = let below = at_below xs k x e in omega (arith, below)
@@ -113,14 +113,14 @@ machine_below s level l le h = at_below (shipped_set s).machines (level - 1) (ma
 
 -- what is written of the images that were made is the board's stream
 pub saved_bytes : (s level : ℕ) (m : State) (set : Set) (made listed sent : List Image) (told text : List ℕ) (machine : ℕ) → level ≡ m.level → MaySaveUnder m.level s
-    → ((n : ℕ) → MaySaveUnder level n → at (shipped_set n).machines machine ≡ Some (machine_of level))
+    → ((n : ℕ) → MaySaveUnder level n → slice_get (shipped_set n).machines machine ≡ Some (machine_of level))
     → set ≡ shipped_set s → made ≡ saved_images s m → listed ≡ made → sent ≡ made → told ≡ described_text set listed → text ≡ told
-    → written set (at set.machines machine) sent (Some text) ≡ saved_stream s m
+    → written set (slice_get set.machines machine) sent (Some text) ≡ saved_stream s m
 unfolding saved_stream
 saved_bytes s level m set made listed sent told text machine same may named e f g h t u =
-    let name : at (shipped_set s).machines machine ≡ Some (machine_of m.level) =
+    let name : slice_get (shipped_set s).machines machine ≡ Some (machine_of m.level) =
     named s (subst (λ (n : ℕ). MaySaveUnder n s) (sym same) may) ∙ ap (λ (n : ℕ). Some (machine_of n)) same in
-    ap (λ (x : Set). written x (at x.machines machine) sent (Some text)) e
+    ap (λ (x : Set). written x (slice_get x.machines machine) sent (Some text)) e
     ∙ ap (λ (o : Option (List ℕ)). written (shipped_set s) o sent (Some text)) name
     ∙ ap (λ (l : List Image). written (shipped_set s) (Some (machine_of m.level)) l (Some text)) (h ∙ f)
     ∙ ap (λ (x : List ℕ). written (shipped_set s) (Some (machine_of m.level)) (saved_images s m) (Some x))

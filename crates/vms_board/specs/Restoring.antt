@@ -10,8 +10,8 @@ use Rattle.vms_desc.specs.Formed.{shipped_set}
 use Rattle.vms_spec.specs.Images.{Image}
 use Rattle.vms_spec.specs.declared.Reason.{Reason}
 use Rattle.vms_spec.specs.declared.Reason.TheVariants as reasons
-use Rattle.vms_units.specs.Faults.{Fault}
-use Rattle.vms_units.specs.Streams.{Takes}
+use Rattle.vms_stream.specs.Faults.{Fault}
+use Rattle.vms_stream.specs.Streams.{Takes}
 use Rattle.vms_board.specs.Saving.{machine_of}
 
 -- what a restore comes to: a board, and how many bytes its stream has; or a place, a device or none, and a reason

@@ -1,11 +1,11 @@
 // A board and what happens to it.
+ghost use Rattle.std.specs.List.{slice_get};
 ghost use Rattle.std.specs.Prelude.{◌≡◌, ◌-◌, ◌<◌, ℕ, Some, length, IsTrue, IfOk};
 ghost use Rattle.dev_base.specs.Levels.{IsLevel};
 ghost use Rattle.dev_base.specs.declared.limits.TheConstants.{NEWEST as newest};
 ghost use Rattle.dev_board.specs.Saved.{MaySaveUnder};
 ghost use Rattle.vms_desc.specs.Described.{described};
 ghost use Rattle.vms_desc.specs.Formed.{shipped_set};
-ghost use Rattle.vms_spec.specs.Lists.{at};
 ghost use Rattle.vms_board.specs.Saving.{machine_of};
 
 use dev_base::NEWEST;
@@ -108,7 +108,7 @@ pub(crate) fn machine(level: u8) -> u32
     requires { IsLevel level }
     ensures number { result ≡ level - 1 }
     ensures named { (s : ℕ) → MaySaveUnder level s
-        → at (shipped_set s).machines result ≡ Some (machine_of level) }
+        → slice_get (shipped_set s).machines result ≡ Some (machine_of level) }
     ensures below { (s : ℕ) → MaySaveUnder level s → result < length (shipped_set s).machines }
 {
     u32::from(level - 1)

@@ -1,10 +1,11 @@
 -- Two descriptions: no rule fails exactly where they fit as the rules say.
 use Rattle.std.proofs.Common.{◌≡◌, inl, inr, ℕ, zero, suc, List, [], ◌∷◌, ◌++◌, length, get_or, Bool, true, false, Option, Some, None, refl, sym, ap, ◌∙◌, subst, arith}
+use Rattle.std.specs.List.{slice_get}
 use Rattle.vms_kinds.specs.declared.Item.{Item}
 use Rattle.vms_kinds.specs.declared.Item.TheVariants.{Num, Equal, Unused, Struct}
 use Rattle.vms_spec.specs.declared.Part.{Part}
 use Rattle.vms_spec.specs.Layout.{Cell}
-use Rattle.vms_spec.specs.Lists.{at, or_else}
+use Rattle.vms_spec.specs.Lists.{or_else}
 use Rattle.vms_spec.specs.Rules.{uses_below}
 use Rattle.vms_spec.specs.Sets.{Formula, Field, Desc}
 use Rattle.vms_spec.specs.WellFormed.{here, in_field}
@@ -25,7 +26,7 @@ one_below : (k i : ℕ) (f : Field) (o : Option (Option Formula)) (es : List Ent
 one_below k i f None es h rest = rest
 one_below k i f (Some left) es h rest = (h, rest)
 
-pub all_uses : (k v i : ℕ) (fs : List Field) → ((j : ℕ) (f : Field) → at fs j ≡ Some f → uses_below k f.item ≡ true) → AllBelow k (fields_from v i fs)
+pub all_uses : (k v i : ℕ) (fs : List Field) → ((j : ℕ) (f : Field) → slice_get fs j ≡ Some f → uses_below k f.item ≡ true) → AllBelow k (fields_from v i fs)
 all_uses k v i [] h = tt
 all_uses k v i (f ∷ fs) h = one_below k i f (presence v f.test f.since) _ (h 0 f refl) (all_uses k v (suc i) fs (λ j g e. h (suc j) g e))
 
@@ -43,7 +44,7 @@ module _ (same : ℕ → ℕ → Bool) (structs : List Comparer) (k : ℕ) (a b 
 
   pub record FieldsFit (es fs : List Entry) : Type 0 where
     pub as_many : length es ≡ length fs
-    pub pairs : (p : ℕ) (e f : Entry) → at es p ≡ Some e → at fs p ≡ Some f → ArePaired same a b v w e f
+    pub pairs : (p : ℕ) (e f : Entry) → slice_get es p ≡ Some e → slice_get fs p ≡ Some f → ArePaired same a b v w e f
 
   -- structures that compare well are so said
   abbrev Said : Type 0
@@ -72,8 +73,8 @@ module _ (same : ℕ → ℕ → Bool) (structs : List Comparer) (k : ℕ) (a b 
         pairs = by_place (paired_so same structs a b v w in_a in_b e f (in_field in_a e.index) (in_field in_b f.index) first.0 (said_by said e f below.0 later.0)) rest.pairs;
       }
     where
-      by_place : ArePaired same a b v w e f → ((p : ℕ) (g h : Entry) → at es p ≡ Some g → at fs p ≡ Some h → ArePaired same a b v w g h)
-          → (p : ℕ) (g h : Entry) → at (e ∷ es) p ≡ Some g → at (f ∷ fs) p ≡ Some h → ArePaired same a b v w g h
+      by_place : ArePaired same a b v w e f → ((p : ℕ) (g h : Entry) → slice_get es p ≡ Some g → slice_get fs p ≡ Some h → ArePaired same a b v w g h)
+          → (p : ℕ) (g h : Entry) → slice_get (e ∷ es) p ≡ Some g → slice_get (f ∷ fs) p ≡ Some h → ArePaired same a b v w g h
       by_place here rest zero g h x y =
           let left : e ≡ g = cc in
           let right : f ≡ h = cc in

@@ -1,9 +1,10 @@
 -- Tests over lists and numbered rules, and what they say of each place.
 use Rattle.std.proofs.Common.{◌≡◌, ℕ, zero, suc, ◌+◌, ◌<◌, List, [], ◌∷◌, length, get_or, Bool, true, false, Option, Some, None, refl, sym, ap, ◌∙◌, arith}
 use Rattle.std.specs.Prelude.{◌&&◌, ◌||◌}
+use Rattle.std.specs.List.{slice_get, list_all, list_any}
 use Rattle.std.proofs.lemmas.Bool.{and_parts}
 use Rattle.vms_spec.specs.declared.Place.{Place}
-use Rattle.vms_spec.specs.Lists.{at, every, some, or_else, first_answer}
+use Rattle.vms_spec.specs.Lists.{or_else, first_answer}
 use Rattle.vms_check.specs.Comparing.{failing_pair}
 
 pub both_none : {X : Type 0} (x y : Option X) → x ≡ None → y ≡ None → or_else x y ≡ None
@@ -17,35 +18,35 @@ pub pass : (rule : ℕ) (b : Bool) (rules : List (ℕ × Bool)) (p q : Place) �
 pass rule true rules p q e f = f
 pass rule false rules p q e f = absurd (cc)
 
-pub every_at : {X : Type 0} (p : X → Bool) (xs : List X) (i : ℕ) (x : X) → every p xs ≡ true → at xs i ≡ Some x → p x ≡ true
+pub every_at : {X : Type 0} (p : X → Bool) (xs : List X) (i : ℕ) (x : X) → list_all p xs ≡ true → slice_get xs i ≡ Some x → p x ≡ true
 every_at p [] i x e h = absurd (cc)
-every_at p (y ∷ xs) zero x e h = let same : y ≡ x = cc in ap p (sym same) ∙ (and_parts (p y) (every p xs) e).0
-every_at p (y ∷ xs) (suc i) x e h = every_at p xs i x (and_parts (p y) (every p xs) e).1 h
+every_at p (y ∷ xs) zero x e h = let same : y ≡ x = cc in ap p (sym same) ∙ (and_parts (p y) (list_all p xs) e).0
+every_at p (y ∷ xs) (suc i) x e h = every_at p xs i x (and_parts (p y) (list_all p xs) e).1 h
 
-pub at_every : {X : Type 0} (p : X → Bool) (xs : List X) → ((i : ℕ) (x : X) → at xs i ≡ Some x → p x ≡ true) → every p xs ≡ true
+pub at_every : {X : Type 0} (p : X → Bool) (xs : List X) → ((i : ℕ) (x : X) → slice_get xs i ≡ Some x → p x ≡ true) → list_all p xs ≡ true
 at_every p [] h = refl
-at_every p (x ∷ xs) h = ap (λ (b : Bool). b && every p xs) (h 0 x refl) ∙ at_every p xs (λ i y e. h (suc i) y e)
+at_every p (x ∷ xs) h = ap (λ (b : Bool). b && list_all p xs) (h 0 x refl) ∙ at_every p xs (λ i y e. h (suc i) y e)
 
-pub some_at : {X : Type 0} (p : X → Bool) (xs : List X) (i : ℕ) (x : X) → at xs i ≡ Some x → p x ≡ true → some p xs ≡ true
+pub some_at : {X : Type 0} (p : X → Bool) (xs : List X) (i : ℕ) (x : X) → slice_get xs i ≡ Some x → p x ≡ true → list_any p xs ≡ true
 some_at p [] i x h e = absurd (cc)
-some_at p (y ∷ xs) zero x h e = let same : y ≡ x = cc in ap (λ (b : Bool). b || some p xs) (ap p same ∙ e)
-some_at p (y ∷ xs) (suc i) x h e = right (p y) (some p xs) (some_at p xs i x h e)
+some_at p (y ∷ xs) zero x h e = let same : y ≡ x = cc in ap (λ (b : Bool). b || list_any p xs) (ap p same ∙ e)
+some_at p (y ∷ xs) (suc i) x h e = right (p y) (list_any p xs) (some_at p xs i x h e)
   where
     right : (a b : Bool) → b ≡ true → (a || b) ≡ true
     right true b e = refl
     right false b e = e
 
-pub none_answers : {X Y : Type 0} (f : ℕ → X → Option Y) (i : ℕ) (xs : List X) → ((j : ℕ) (x : X) → at xs j ≡ Some x → f (i + j) x ≡ None) → first_answer f i xs ≡ None
+pub none_answers : {X Y : Type 0} (f : ℕ → X → Option Y) (i : ℕ) (xs : List X) → ((j : ℕ) (x : X) → slice_get xs j ≡ Some x → f (i + j) x ≡ None) → first_answer f i xs ≡ None
 none_answers f i [] h = refl
 none_answers f i (x ∷ xs) h =
     let plus : i ≡ i + 0 = omega arith in
     both_none (f i x) (first_answer f (suc i) xs) (ap (λ (k : ℕ). f k x) plus ∙ h 0 x refl)
     (none_answers f (suc i) xs (λ j y e. let more : suc i + j ≡ i + suc j = omega arith in ap (λ (k : ℕ). f k y) more ∙ h (suc j) y e))
 
-pub same_at : {X : Type 0} (xs : List X) (i : ℕ) (x y : X) → at xs i ≡ Some x → at xs i ≡ Some y → x ≡ y
+pub same_at : {X : Type 0} (xs : List X) (i : ℕ) (x y : X) → slice_get xs i ≡ Some x → slice_get xs i ≡ Some y → x ≡ y
 same_at xs i x y e f = let same : Some x ≡ Some y = sym e ∙ f in cc
 
-pub at_get : {X : Type 0} (xs : List X) (k : ℕ) (d : X) → k < length xs → at xs k ≡ Some (get_or xs k d)
+pub at_get : {X : Type 0} (xs : List X) (k : ℕ) (d : X) → k < length xs → slice_get xs k ≡ Some (get_or xs k d)
 at_get [] k d lt = absurd (omega arith)
 at_get (x ∷ xs) zero d lt = refl
 at_get (x ∷ xs) (suc k) d lt = at_get xs k d (omega arith)

@@ -1,12 +1,12 @@
 -- What a number can be is at most each capacity that it counts.
 use Rattle.std.proofs.Common.{◌≡◌, ℕ, zero, suc, ◌≤◌, min, List, [], ◌∷◌, ◌++◌, Bool, true, false, Some, refl, sym, ap, ◌∙◌, subst, arith}
 use Rattle.std.specs.Prelude.{◌==◌, if◌then◌else◌}
+use Rattle.std.specs.List.{slice_get}
 use Rattle.std.proofs.lemmas.Bool.{eq-eqb}
 use Rattle.vms_kinds.specs.declared.Item.{Item}
 use Rattle.vms_spec.specs.declared.Count.{Count}
 use Rattle.vms_spec.specs.declared.Count.TheVariants.{One, Fixed, Counted}
 use Rattle.vms_spec.specs.Layout.{counted}
-use Rattle.vms_spec.specs.Lists.{at}
 use Rattle.vms_spec.specs.Sets.{Field}
 use Rattle.vms_check.specs.Comparing.{bound, least_of}
 
@@ -48,14 +48,14 @@ append_same : (xs ys zs : List ℕ) → (xs ++ ys) ++ zs ≡ xs ++ (ys ++ zs)
 append_same [] ys zs = refl
 append_same (x ∷ xs) ys zs = ap (λ (l : List ℕ). x ∷ l) (append_same xs ys zs)
 
-counted_has : (i : ℕ) (fs : List Field) (k : ℕ) (g : Field) (most : ℕ) → at fs k ≡ Some g → g.count ≡ Counted i most → (xs : List ℕ) × (ys : List ℕ) × (counted i fs ≡ xs ++ most ∷ ys)
+counted_has : (i : ℕ) (fs : List Field) (k : ℕ) (g : Field) (most : ℕ) → slice_get fs k ≡ Some g → g.count ≡ Counted i most → (xs : List ℕ) × (ys : List ℕ) × (counted i fs ≡ xs ++ most ∷ ys)
 counted_has i [] k g most there is = absurd (cc)
 counted_has i (f ∷ fs) zero g most there is = let same : f ≡ g = cc in ([], counted i fs, counted_here i most f fs (ap (λ (h : Field). h.count) same ∙ is))
 counted_has i (f ∷ fs) (suc k) g most there is =
     let rest = counted_has i fs k g most there is in
     (counted i (f ∷ []) ++ rest.0, rest.1, counted_next i f fs ∙ ap (λ (l : List ℕ). counted i (f ∷ []) ++ l) rest.2 ∙ sym (append_same (counted i (f ∷ [])) rest.0 (most ∷ rest.1)))
 
-pub bound_counts : (item : Item) (i : ℕ) (fs : List Field) (k : ℕ) (g : Field) (most : ℕ) → at fs k ≡ Some g → g.count ≡ Counted i most → bound item (counted i fs) ≤ most
+pub bound_counts : (item : Item) (i : ℕ) (fs : List Field) (k : ℕ) (g : Field) (most : ℕ) → slice_get fs k ≡ Some g → g.count ≡ Counted i most → bound item (counted i fs) ≤ most
 bound_counts item i fs k g most there is =
     let has = counted_has i fs k g most there is in
     subst (λ (l : List ℕ). bound item l ≤ most) (sym has.2) (bound_within item has.0 most has.1)

@@ -1,6 +1,7 @@
 -- A well-formed set is compatible to itself.
 use Rattle.std.proofs.Common.{◌≡◌, inr, ℕ, zero, suc, ◌+◌, ◌<◌, ◌≤◌, List, [], ◌∷◌, ◌++◌, length, get_or, Bool, true, false, Option, Some, None, refl, sym, ap, ◌∙◌, subst, arith}
 use Rattle.std.specs.Prelude.{◌&&◌, ◌||◌, ◌==◌, nat_le, nat_lt}
+use Rattle.std.specs.List.{slice_get}
 use Rattle.std.specs.Str.{bytes_eq}
 use Rattle.std.proofs.lemmas.Bool.{and_parts, eq-eqb, eqb-true, le-leb, leb-true}
 use Rattle.std.proofs.lemmas.Slice.Eq.{bytes_eq-Decides}
@@ -8,15 +9,14 @@ use Rattle.vms_kinds.specs.declared.Item.{Item}
 use Rattle.vms_kinds.specs.declared.Item.TheVariants.{Struct}
 use Rattle.vms_spec.specs.declared.Count.{Count}
 use Rattle.vms_spec.specs.declared.Count.TheVariants.{Counted}
-use Rattle.vms_spec.specs.Judging.{find_device}
+use Rattle.vms_spec.specs.Lookup.{find_device}
 use Rattle.vms_spec.specs.Layout.{no_desc}
-use Rattle.vms_spec.specs.Lists.{at}
 use Rattle.vms_spec.specs.Readiness.{is_version_of}
 use Rattle.vms_spec.specs.Rules.{count_names_well, is_counting, is_earlier_in, is_steady_in, names_well, nobody, test_names_well}
 use Rattle.vms_spec.specs.Sets.{Formula, Field, Desc, Sub, Device, Set}
 use Rattle.vms_spec.specs.Streams.{is_one_of}
 use Rattle.vms_spec.specs.WellFormed.{WellFormed, struct_rules, device_rules, sub_rules}
-use Rattle.vms_laws.proofs.WellFormedLaws.{Clean, struct_clean, device_parts, sub_clean, device_found, sub_found}
+use Rattle.vms_spec.proofs.WellFormedLaws.{Clean, struct_clean, device_parts, sub_clean, device_found, sub_found}
 use Rattle.vms_check.specs.Comparing.{Compatible, Entry, entry_of, is_found, same_reduced}
 use Rattle.vms_check.specs.Fitting.{ArePaired, DescsFit, DevicesFit, IsSubFor, fields_at}
 use Rattle.vms_check.specs.Reducing.{presence, reduced}
@@ -30,19 +30,19 @@ use Rattle.vms_check.proofs.SetsFit.{so_fits}
 
 record IsEntry (v i : ℕ) (fs : List Field) (e : Entry) : Type 0 where
   pub number : ℕ
-  pub there : at fs number ≡ Some e.field
+  pub there : slice_get fs number ≡ Some e.field
   pub index : e.index ≡ i + number
   pub left : presence v e.field.test e.field.since ≡ Some e.rest
 
-entry_is : (v i : ℕ) (fs : List Field) (p : ℕ) (e : Entry) → at (fields_from v i fs) p ≡ Some e → IsEntry v i fs e
+entry_is : (v i : ℕ) (fs : List Field) (p : ℕ) (e : Entry) → slice_get (fields_from v i fs) p ≡ Some e → IsEntry v i fs e
 entry_is v i [] p e h = absurd (cc)
 entry_is v i (f ∷ fs) p e h = by_presence (λ q g. entry_is v (suc i) fs q e g) (presence v f.test f.since) refl p h
   where
     later : IsEntry v (suc i) fs e → IsEntry v i (f ∷ fs) e
     later x = let is = x.index in record { number = suc x.number; there = x.there; index = omega (arith, is); left = x.left }
 
-    by_presence : ((q : ℕ) → at (fields_from v (suc i) fs) q ≡ Some e → IsEntry v (suc i) fs e)
-        → (o : Option (Option Formula)) → presence v f.test f.since ≡ o → (p : ℕ) → at (entry_of i 0 f o ++ fields_from v (suc i) fs) p ≡ Some e → IsEntry v i (f ∷ fs) e
+    by_presence : ((q : ℕ) → slice_get (fields_from v (suc i) fs) q ≡ Some e → IsEntry v (suc i) fs e)
+        → (o : Option (Option Formula)) → presence v f.test f.since ≡ o → (p : ℕ) → slice_get (entry_of i 0 f o ++ fields_from v (suc i) fs) p ≡ Some e → IsEntry v i (f ∷ fs) e
     by_presence rec None is p h = later (rec p h)
     by_presence rec (Some rest) is zero h =
         let same : record { index = i; place = 0; field = f; rest = rest } ≡ e = cc in
@@ -62,8 +62,8 @@ module _ (d : Desc) (v : ℕ) (low : d.minimum ≤ v) where
   equal i j = i == j
 
   record IsNamedWell : Type 0 where
-    pub fields : (i : ℕ) (f : Field) → at d.fields i ≡ Some f → (test_names_well d i f.test ≡ true) × (count_names_well d i f.count ≡ true)
-    pub validations : (i : ℕ) (t : Formula) → at d.validate i ≡ Some t → names_well (is_steady_in d) nobody t ≡ true
+    pub fields : (i : ℕ) (f : Field) → slice_get d.fields i ≡ Some f → (test_names_well d i f.test ≡ true) × (count_names_well d i f.count ≡ true)
+    pub validations : (i : ℕ) (t : Formula) → slice_get d.validate i ≡ Some t → names_well (is_steady_in d) nobody t ≡ true
 
   steady : (k : ℕ) → is_steady_in d k ≡ true → HasPosition positions k
   steady k e = steady_there d v k low e
@@ -76,12 +76,12 @@ module _ (d : Desc) (v : ℕ) (low : d.minimum ≤ v) where
   test_self i (Some t) since e = reduced_self positions (is_earlier_in d i) (earlier i) v t e
 
   counts : (i : ℕ) (c : Count) → count_names_well d i c ≡ true → (by most : ℕ) → c ≡ Counted by most → HasPosition positions by
-  counts i c e by most is = earlier i by (and_parts (is_earlier_in d i by) (is_counting (at d.fields by)) (subst (λ (x : Count). count_names_well d i x ≡ true) is e)).0
+  counts i c e by most is = earlier i by (and_parts (is_earlier_in d i by) (is_counting (slice_get d.fields by)) (subst (λ (x : Count). count_names_well d i x ≡ true) is e)).0
 
   structs_equal : (x : Item) (i j : ℕ) → x ≡ Struct i → x ≡ Struct j → (i == j) ≡ true
   structs_equal x i j is_i is_j = let same : Struct i ≡ Struct j = sym is_i ∙ is_j in let numbers : i ≡ j = cc in eq-eqb i j numbers
 
-  pair_self : IsNamedWell → (p : ℕ) (e : Entry) → at (fields_at d v) p ≡ Some e → ArePaired equal d d v v e e
+  pair_self : IsNamedWell → (p : ℕ) (e : Entry) → slice_get (fields_at d v) p ≡ Some e → ArePaired equal d d v v e e
   pair_self well p e h =
       let x = entry_is v 0 d.fields p e h in
       let names = well.fields x.number e.field x.there in
@@ -127,11 +127,11 @@ module _ (set : Set) (well : WellFormed set) where
   abbrev same : ℕ → ℕ → Bool
   same i j = i == j
 
-  struct_at : (j : ℕ) (o : Option Desc) → at set.structs j ≡ o → j < length set.structs
+  struct_at : (j : ℕ) (o : Option Desc) → slice_get set.structs j ≡ o → j < length set.structs
       → DescsFit same (get_or set.structs j no_desc) (get_or set.structs j no_desc) (get_or set.structs j no_desc).version (get_or set.structs j no_desc).version
   struct_at j None e lt = absurd (none_inside set.structs j lt e)
     where
-      none_inside : {X : Type 0} (xs : List X) (k : ℕ) → k < length xs → at xs k ≡ None → ⊥
+      none_inside : {X : Type 0} (xs : List X) (k : ℕ) → k < length xs → slice_get xs k ≡ None → ⊥
       none_inside [] k lt e = omega arith
       none_inside (x ∷ xs) zero lt e = cc
       none_inside (x ∷ xs) (suc k) lt e = none_inside xs k (omega arith) e
@@ -144,9 +144,9 @@ module _ (set : Set) (well : WellFormed set) where
       → DescsFit same (get_or set.structs i no_desc) (get_or set.structs j no_desc) (get_or set.structs i no_desc).version (get_or set.structs j no_desc).version
   structs_self i j lt e =
       subst (λ (k : ℕ). DescsFit same (get_or set.structs k no_desc) (get_or set.structs j no_desc) (get_or set.structs k no_desc).version (get_or set.structs j no_desc).version) (sym (eqb-true i j e))
-      (struct_at j (at set.structs j) refl lt)
+      (struct_at j (slice_get set.structs j) refl lt)
 
-  sub_self : (k j : ℕ) (d : Device) (s : Sub) → at set.devices k ≡ Some d → at d.subs j ≡ Some s → IsSubFor same s d j s
+  sub_self : (k j : ℕ) (d : Device) (s : Sub) → slice_get set.devices k ≡ Some d → slice_get d.subs j ≡ Some s → IsSubFor same s d j s
   sub_self k j d s there inside =
       let c = sub_clean set well k j d s there inside in
       let low : s.desc.minimum ≤ s.desc.version = leb-true s.desc.minimum s.desc.version c.own.1.1.0 in
@@ -157,7 +157,7 @@ module _ (set : Set) (well : WellFormed set) where
         fits = clean_self (length set.structs) s.desc (sub_rules d j s) c low;
       }
 
-  device_self : (k : ℕ) (d : Device) → at set.devices k ≡ Some d → DevicesFit same d d
+  device_self : (k : ℕ) (d : Device) → slice_get set.devices k ≡ Some d → DevicesFit same d d
   device_self k d there =
       let c = (device_parts set well k d there).0 in
       let low : d.desc.minimum ≤ d.desc.version = leb-true d.desc.minimum d.desc.version c.own.1.1.0 in
@@ -167,14 +167,14 @@ module _ (set : Set) (well : WellFormed set) where
         subs = λ j s inside. (j, s, sub_self k j d s there inside);
       }
 
-  found_self : (i k : ℕ) (d e : Device) → at set.devices i ≡ Some d → find_device 0 set.devices d.desc.name d.instance ≡ Some k → at set.devices k ≡ Some e → DevicesFit same d e
+  found_self : (i k : ℕ) (d e : Device) → slice_get set.devices i ≡ Some d → find_device 0 set.devices d.desc.name d.instance ≡ Some k → slice_get set.devices k ≡ Some e → DevicesFit same d e
   found_self i k d e inside found there =
       let both : Some i ≡ Some k = sym (device_found set well i d inside) ∙ found in
       let number : i ≡ k = cc in
-      let same_device : d ≡ e = same_at set.devices i d e inside (ap (at set.devices) number ∙ there) in
+      let same_device : d ≡ e = same_at set.devices i d e inside (ap (slice_get set.devices) number ∙ there) in
       subst (λ (x : Device). DevicesFit same d x) same_device (device_self i d inside)
 
-  machine_self : (names : List (List ℕ)) (i : ℕ) (m : List ℕ) → at names i ≡ Some m → is_one_of names m ≡ true
+  machine_self : (names : List (List ℕ)) (i : ℕ) (m : List ℕ) → slice_get names i ≡ Some m → is_one_of names m ≡ true
   machine_self [] i m e = absurd (cc)
   machine_self (n ∷ names) zero m e = let is : n ≡ m = cc in ap (λ (b : Bool). b || is_one_of names m) (ap (λ (x : List ℕ). bytes_eq x m) is ∙ same_bytes m)
   machine_self (n ∷ names) (suc i) m e = right (bytes_eq n m) (machine_self names i m e)

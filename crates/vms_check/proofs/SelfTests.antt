@@ -1,6 +1,7 @@
 -- What is left of a test is the same as itself, where each number that it names has a position.
 use Rattle.std.proofs.Common.{◌≡◌, ℕ, zero, suc, ◌<◌, ◌≤◌, List, [], ◌∷◌, length, get_or, Bool, true, false, Option, Some, None, ℤ, pos, negsuc, refl, sym, ap, ◌∙◌, arith}
 use Rattle.std.specs.Prelude.{◌&&◌, ◌==◌, nat_le, if◌then◌else◌}
+use Rattle.std.specs.List.{slice_get}
 use Rattle.std.proofs.lemmas.Bool.{and_parts, eq-eqb, le-leb, leb-true}
 use Rattle.vms_kinds.specs.declared.Item.{Item}
 use Rattle.vms_kinds.specs.declared.Item.TheVariants.{Num, Equal, Unused, Struct}
@@ -8,7 +9,6 @@ use Rattle.vms_spec.specs.declared.Count.{Count}
 use Rattle.vms_spec.specs.declared.Count.TheVariants.{One, Fixed, Counted}
 use Rattle.vms_spec.specs.declared.Whose.TheVariants.{Own, Parent}
 use Rattle.vms_spec.specs.Layout.{no_field}
-use Rattle.vms_spec.specs.Lists.{at}
 use Rattle.vms_spec.specs.Numbers.{same_number}
 use Rattle.vms_spec.specs.Rules.{has_no_test, is_num, is_one, is_steady, is_steady_in, names_well, nobody}
 use Rattle.vms_spec.specs.Sets.{Formula, AtLeast, Below, Cell, Not, And, Or, Field, Desc}
@@ -29,12 +29,12 @@ HasPosition o k = (p : ℕ) × (o k ≡ Some p)
 same_here : (x : Option ℕ) (p : ℕ) → x ≡ Some p → same_place x x ≡ true
 same_here x p e = ap (λ (y : Option ℕ). same_place y y) e ∙ itself p
 
-inside : {X : Type 0} (xs : List X) (k : ℕ) (x : X) → at xs k ≡ Some x → k < length xs
+inside : {X : Type 0} (xs : List X) (k : ℕ) (x : X) → slice_get xs k ≡ Some x → k < length xs
 inside [] k x e = absurd (cc)
 inside (y ∷ xs) zero x e = omega arith
 inside (y ∷ xs) (suc k) x e = let lt : k < length xs = inside xs k x e in omega (arith, lt)
 
-pub get_is : {X : Type 0} (xs : List X) (k : ℕ) (d x : X) → at xs k ≡ Some x → get_or xs k d ≡ x
+pub get_is : {X : Type 0} (xs : List X) (k : ℕ) (d x : X) → slice_get xs k ≡ Some x → get_or xs k d ≡ x
 get_is [] k d x e = absurd (cc)
 get_is (y ∷ xs) zero d x e = cc
 get_is (y ∷ xs) (suc k) d x e = get_is xs k d x e
@@ -45,9 +45,9 @@ no_test (Some t) e = absurd (cc)
 
 -- a steady field is there from the minimum on
 pub steady_there : (d : Desc) (v k : ℕ) → d.minimum ≤ v → is_steady_in d k ≡ true → HasPosition (position_in v d.fields) k
-steady_there d v k low e = by_field (at d.fields k) refl e
+steady_there d v k low e = by_field (slice_get d.fields k) refl e
   where
-    by_field : (o : Option Field) → at d.fields k ≡ o → is_steady d.minimum o ≡ true → HasPosition (position_in v d.fields) k
+    by_field : (o : Option Field) → slice_get d.fields k ≡ o → is_steady d.minimum o ≡ true → HasPosition (position_in v d.fields) k
     by_field None is s = absurd (cc)
     by_field (Some f) is s =
         let a = and_parts (is_num f.item && is_one f.count && has_no_test f.test) (nat_le f.since d.minimum) s in

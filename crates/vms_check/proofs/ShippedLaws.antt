@@ -1,9 +1,9 @@
 -- The shipped sets, each beside every later one.
 use Rattle.std.proofs.Common.{◌≡◌, ℕ, zero, suc, ◌<◌, ◌≤◌, List, [], ◌∷◌, length, get_or, Bool, true, refl, sym, ap, ◌∙◌, arith}
 use Rattle.std.specs.Prelude.{◌&&◌, is_none}
+use Rattle.std.specs.List.{list_all}
 use Rattle.std.proofs.lemmas.Bool.{and_parts}
 use Rattle.vms_spec.specs.Layout.{first}
-use Rattle.vms_spec.specs.Lists.{every}
 use Rattle.vms_spec.specs.Sets.{Set}
 use Rattle.vms_spec.specs.Shipped.{set_1, set_2, set_3, set_4}
 use Rattle.vms_desc.specs.Formed.{shipped_set}
@@ -16,19 +16,19 @@ are_compatible old new = is_none (first_mismatch old new)
 -- each is compatible to each later one
 abbrev in_order : List Set → Bool
 in_order [] = true
-in_order (set ∷ sets) = every (are_compatible set) sets && in_order sets
+in_order (set ∷ sets) = list_all (are_compatible set) sets && in_order sets
 
-later : (old : Set) (sets : List Set) (j : ℕ) (d : Set) → every (are_compatible old) sets ≡ true → j < length sets → are_compatible old (get_or sets j d) ≡ true
+later : (old : Set) (sets : List Set) (j : ℕ) (d : Set) → list_all (are_compatible old) sets ≡ true → j < length sets → are_compatible old (get_or sets j d) ≡ true
 later old [] j d e lt = absurd (omega arith)
-later old (s ∷ sets) zero d e lt = (and_parts (are_compatible old s) (every (are_compatible old) sets) e).0
-later old (s ∷ sets) (suc j) d e lt = later old sets j d (and_parts (are_compatible old s) (every (are_compatible old) sets) e).1 (omega arith)
+later old (s ∷ sets) zero d e lt = (and_parts (are_compatible old s) (list_all (are_compatible old) sets) e).0
+later old (s ∷ sets) (suc j) d e lt = later old sets j d (and_parts (are_compatible old s) (list_all (are_compatible old) sets) e).1 (omega arith)
 
 pair : (sets : List Set) (i j : ℕ) (d : Set) → in_order sets ≡ true → i < j → j < length sets → are_compatible (get_or sets i d) (get_or sets j d) ≡ true
 pair [] i j d e less lt = absurd (omega arith)
 pair (s ∷ sets) zero zero d e less lt = absurd (omega arith)
-pair (s ∷ sets) zero (suc j) d e less lt = later s sets j d (and_parts (every (are_compatible s) sets) (in_order sets) e).0 (omega arith)
+pair (s ∷ sets) zero (suc j) d e less lt = later s sets j d (and_parts (list_all (are_compatible s) sets) (in_order sets) e).0 (omega arith)
 pair (s ∷ sets) (suc i) zero d e less lt = absurd (omega arith)
-pair (s ∷ sets) (suc i) (suc j) d e less lt = pair sets i j d (and_parts (every (are_compatible s) sets) (in_order sets) e).1 (omega arith) (omega arith)
+pair (s ∷ sets) (suc i) (suc j) d e less lt = pair sets i j d (and_parts (list_all (are_compatible s) sets) (in_order sets) e).1 (omega arith) (omega arith)
 
 -- from set 1 on
 abbrev shipped : List Set

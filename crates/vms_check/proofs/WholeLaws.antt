@@ -1,10 +1,11 @@
 -- Two whole sets: the devices that one of them doesn't have, and those that are found by their names.
 use Rattle.std.proofs.Common.{◌≡◌, ℕ, suc, ◌-◌, ◌<◌, ◌≤◌, List, [], ◌∷◌, length, Bool, true, false, Option, Some, None, refl, sym, ap, ◌∙◌, arith}
 use Rattle.std.specs.Prelude.{not, if◌then◌else◌}
+use Rattle.std.specs.List.{slice_get}
 use Rattle.vms_spec.specs.declared.Part.TheVariants as parts
 use Rattle.vms_spec.specs.declared.Place.{Place}
-use Rattle.vms_spec.specs.Judging.{find_device, find_sub, index}
-use Rattle.vms_spec.specs.Lists.{at, first_answer, or_else, position}
+use Rattle.vms_spec.specs.Lookup.{find_device, find_sub, index}
+use Rattle.vms_spec.specs.Lists.{first_answer, or_else, position}
 use Rattle.vms_spec.specs.Sets.{Device, Set, Sub}
 use Rattle.vms_spec.specs.WellFormed.{here}
 use Rattle.vms_parts.specs.Devices.{device_at}
@@ -97,17 +98,17 @@ device_found old new i d name instance o k is_name is_instance e some =
     let inside = device_in new.devices name instance o k e some in
     let found : find_device 0 new.devices d.desc.name d.instance ≡ Some k =
     ap (λ (n : List ℕ). find_device 0 new.devices n d.instance) (sym is_name) ∙ ap (find_device 0 new.devices name) (sym is_instance) ∙ sym e ∙ some in
-    ap (compare_device old new i d (Some k)) (sym (at_get new.devices k _ inside)) ∙ ap (λ (x : Option ℕ). compare_device old new i d x (at new.devices (index x))) (sym found)
+    ap (compare_device old new i d (Some k)) (sym (at_get new.devices k _ inside)) ∙ ap (λ (x : Option ℕ). compare_device old new i d x (slice_get new.devices (index x))) (sym found)
 
 pub sub_found : (old new : Set) (i k j : ℕ) (e : Device) (s : Sub) (name : List ℕ) (o : Option ℕ) (l : ℕ) → name ≡ s.desc.name → o ≡ find_sub 0 e.subs name → o ≡ Some l
     → compare_sub old new i k j s (Some l) (Some (sub_at e l)) ≡ compare_subs old new i k e j s
 sub_found old new i k j e s name o l is_name is some =
     let inside = sub_in e.subs name o l is some in
     let found : find_sub 0 e.subs s.desc.name ≡ Some l = ap (find_sub 0 e.subs) (sym is_name) ∙ sym is ∙ some in
-    ap (compare_sub old new i k j s (Some l)) (sym (at_get e.subs l _ inside)) ∙ ap (λ (x : Option ℕ). compare_sub old new i k j s x (at e.subs (index x))) (sym found)
+    ap (compare_sub old new i k j s (Some l)) (sym (at_get e.subs l _ inside)) ∙ ap (λ (x : Option ℕ). compare_sub old new i k j s x (slice_get e.subs (index x))) (sym found)
 
 pub sub_unknown : (old new : Set) (i k j : ℕ) (e : Device) (s : Sub) (name : List ℕ) (o : Option ℕ) → name ≡ s.desc.name → o ≡ find_sub 0 e.subs name → o ≡ None
     → Some (record { rule = 13; in_old = here (parts.Sub i j); in_new = here (parts.Device k) }) ≡ compare_subs old new i k e j s
 sub_unknown old new i k j e s name o is_name is none =
     let found : find_sub 0 e.subs s.desc.name ≡ None = ap (find_sub 0 e.subs) (sym is_name) ∙ sym is ∙ none in
-    ap (λ (x : Option ℕ). compare_sub old new i k j s x (at e.subs (index x))) (sym found)
+    ap (λ (x : Option ℕ). compare_sub old new i k j s x (slice_get e.subs (index x))) (sym found)

@@ -2,15 +2,14 @@
 -- older number where its field is paired with one of the same kind and the older cell stands in the bytes; any other cell holds
 -- its default. Versions and the subsections that came are the older ones.
 use Rattle.std.specs.Prelude.{ℕ, zero, suc, ◌+◌, if◌then◌else◌, List, [], ◌∷◌, ◌++◌, length, get_or, map, Option, Some, None, ℤ, pos}
-use Rattle.std.specs.List.{flat_map}
+use Rattle.std.specs.List.{flat_map, slice_get}
 use Rattle.vms_kinds.specs.declared.Item.{Item}
 use Rattle.vms_kinds.specs.declared.Item.TheVariants.{Num, Struct}
-use Rattle.vms_spec.specs.Lists.{at}
 use Rattle.vms_spec.specs.Sets.{Formula, Field, Desc, Sub, Device, Set}
 use Rattle.vms_spec.specs.Tests.{is_there}
 use Rattle.vms_spec.specs.Layout.{Cell, first, no_desc, no_parent, item_cells, item_size, field_cells, desc_cells, capacity_of, elements_of, numbers_of, struct_cells}
 use Rattle.vms_spec.specs.Images.{Image, own_cells, sub_place}
-use Rattle.vms_spec.specs.Judging.{find_device, find_sub, index}
+use Rattle.vms_spec.specs.Lookup.{find_device, find_sub, index}
 use Rattle.vms_check.specs.Reducing.{presence}
 use Rattle.vms_check.specs.Comparing.{Entry, present, same_kind}
 
@@ -95,12 +94,12 @@ module _ (old new : Set) where
   abbrev pub carried_sub : Device → Image → Sub → List ℤ
   carried_sub d image t =
       let found = find_sub 0 d.subs t.desc.name in
-      carry_sub d image t found (at d.subs (index found)) (at image.came (index found))
+      carry_sub d image t found (slice_get d.subs (index found)) (slice_get image.came (index found))
 
   abbrev pub carried_device : Device → Device → Image → Image
   carried_device d e image = record {
     version = image.version;
-    came = map (λ t. let found = find_sub 0 d.subs t.desc.name in sub_came found (at image.came (index found))) e.subs;
+    came = map (λ t. let found = find_sub 0 d.subs t.desc.name in sub_came found (slice_get image.came (index found))) e.subs;
     numbers = carrying image.numbers image.version d.desc e.desc 0 ++ flat_map (carried_sub d image) e.subs;
   }
 
@@ -113,4 +112,4 @@ module _ (old new : Set) where
 
   -- the image of each device of new, from old's device of its name and instance
   unfoldable pub carried : List Image → List Image
-  carried images = map (λ e. let found = find_device 0 old.devices e.desc.name e.instance in carried_at images e found (at old.devices (index found))) new.devices
+  carried images = map (λ e. let found = find_device 0 old.devices e.desc.name e.instance in carried_at images e found (slice_get old.devices (index found))) new.devices

@@ -1,6 +1,7 @@
 -- Which sets are compatible: the first rule that fails, with a place on each side. Present fields are paired by position, and
 -- nothing is said of bytes.
 use Rattle.std.specs.Prelude.{ℕ, suc, ◌+◌, ◌*◌, Bool, true, false, ◌&&◌, ◌||◌, ◌==◌, nat_le, min, if◌then◌else◌, List, [], ◌∷◌, ◌++◌, length, get_or, Option, Some, None, ℤ, pos, negsuc, ◌≡◌}
+use Rattle.std.specs.List.{slice_get, list_all, list_any}
 use Rattle.std.specs.Str.{bytes_eq}
 use Rattle.vms_kinds.specs.declared.Kind.{Kind}
 use Rattle.vms_kinds.specs.declared.Kind.TheVariants.{U8, U16, U32, U64, I8, I16, I32, I64, Bool as Truth, Timer}
@@ -15,12 +16,12 @@ use Rattle.vms_spec.specs.declared.Whose.TheVariants.{Own}
 use Rattle.vms_spec.specs.declared.Part.{Part}
 use Rattle.vms_spec.specs.declared.Part.TheVariants as parts
 use Rattle.vms_spec.specs.declared.Place.{Place}
-use Rattle.vms_spec.specs.Lists.{at, every, some, or_else, first_answer}
+use Rattle.vms_spec.specs.Lists.{or_else, first_answer}
 use Rattle.vms_spec.specs.Numbers.{same_number}
 use Rattle.vms_spec.specs.Sets.{Formula, Cell, Not, And, Or, Field, Desc, Sub, Device, Set}
 use Rattle.vms_spec.specs.Layout.{Cell as CellOf, first, no_desc, counted, field_cells, struct_cells}
 use Rattle.vms_spec.specs.Streams.{is_one_of}
-use Rattle.vms_spec.specs.Judging.{find_device, find_sub, index}
+use Rattle.vms_spec.specs.Lookup.{find_device, find_sub, index}
 use Rattle.vms_spec.specs.WellFormed.{here, in_field}
 use Rattle.vms_spec.specs.Readiness.{is_version_of}
 use Rattle.vms_check.specs.declared.mismatch.Mismatch.{Mismatch}
@@ -36,14 +37,14 @@ pub record Entry : Type 0 where
   pub rest : Option Formula
 
 abbrev pub entry_of : ℕ → ℕ → Field → Option (Option Formula) → List Entry
-entry_of i at f None = []
-entry_of i at f (Some rest) = record { index = i; place = at; field = f; rest = rest } ∷ []
+entry_of i slice_get f None = []
+entry_of i slice_get f (Some rest) = record { index = i; place = slice_get; field = f; rest = rest } ∷ []
 
 -- those from field i on, whose cells begin at a place, with the cells of the structures at hand
 abbrev pub present_from : List (List CellOf) → List Field → ℕ → ℕ → ℕ → List Field → List Entry
-present_from structs all v i at [] = []
-present_from structs all v i at (f ∷ fs) =
-    entry_of i at f (presence v f.test f.since) ++ present_from structs all v (suc i) (at + length (field_cells structs all i f)) fs
+present_from structs all v i slice_get [] = []
+present_from structs all v i slice_get (f ∷ fs) =
+    entry_of i slice_get f (presence v f.test f.since) ++ present_from structs all v (suc i) (slice_get + length (field_cells structs all i f)) fs
 
 abbrev pub present : List (List CellOf) → Desc → ℕ → List Entry
 present structs d v = present_from structs d.fields v 0 0 d.fields
@@ -154,7 +155,7 @@ has_room v i n f (Counted by most) = if by == i && is_absent v f then nat_le n m
 has_room v i n f _ = true
 
 abbrev pub absent_hold : ℕ → ℕ → ℕ → List Field → Bool
-absent_hold v i n fields = every (λ f. has_room v i n f f.count) fields
+absent_hold v i n fields = list_all (λ f. has_room v i n f f.count) fields
 
 abbrev pub same_constant : Item → Item → Bool
 same_constant (Equal k y) (Equal l z) = same_number y z
@@ -214,10 +215,10 @@ module _ (structs : List Comparer) (a b : Desc) (v w : ℕ) (in_a in_b : Part) (
 
   abbrev pub is_kept : Reduced → Bool
   is_kept (Known true) = true
-  is_kept r = some (λ s. same_reduced o n (reduced v s) r) a.validate
+  is_kept r = list_any (λ s. same_reduced o n (reduced v s) r) a.validate
 
   abbrev pub compare_validations : Option Mismatch
-  compare_validations = failing_pair ((15, every (λ t. is_kept (reduced w t)) b.validate) ∷ []) (here in_a) (here in_b)
+  compare_validations = failing_pair ((15, list_all (λ t. is_kept (reduced w t)) b.validate) ∷ []) (here in_a) (here in_b)
 
 -- x and y are the cells of the structures on each side
 abbrev pub compare_desc : List Comparer → (x y : List (List CellOf)) → (a b : Desc) (v w : ℕ) → Part → Part → Option Mismatch
@@ -259,7 +260,7 @@ module _ (old new : Set) where
   abbrev pub compare_subs : ℕ → ℕ → Device → ℕ → Sub → Option Mismatch
   compare_subs i k e j s =
       let found = find_sub 0 e.subs s.desc.name in
-      compare_sub i k j s found (at e.subs (index found))
+      compare_sub i k j s found (slice_get e.subs (index found))
 
   -- a device and its subsections are taken at old's versions on both sides
   abbrev pub compare_device : ℕ → Device → Option ℕ → Option Device → Option Mismatch
@@ -275,10 +276,10 @@ module _ (old new : Set) where
   -- machines, devices of old in new, devices of new in old, and then device by device
   unfoldable pub first_mismatch : Option Mismatch
   first_mismatch =
-      or_else (failing_pair ((1, every (is_one_of new.machines) old.machines) ∷ []) (here parts.Set) (here parts.Set))
+      or_else (failing_pair ((1, list_all (is_one_of new.machines) old.machines) ∷ []) (here parts.Set) (here parts.Set))
       (or_else (first_answer (λ i d. failing_pair ((2, is_in new d) ∷ []) (here (parts.Device i)) (here parts.Set)) 0 old.devices)
       (or_else (first_answer (λ i d. failing_pair ((3, is_in old d) ∷ []) (here parts.Set) (here (parts.Device i))) 0 new.devices)
-      (first_answer (λ i d. compare_device i d (paired_device d) (at new.devices (index (paired_device d)))) 0 old.devices)))
+      (first_answer (λ i d. compare_device i d (paired_device d) (slice_get new.devices (index (paired_device d)))) 0 old.devices)))
 
 -- no rule fails
 abbrev pub Compatible : Set → Set → Type 0

@@ -1,11 +1,11 @@
 -- What the fifteen rules say where they hold, as a relation. The walk of Comparing gives the first rule that fails; a law says
 -- that it finds none exactly where these hold.
 use Rattle.std.specs.Prelude.{◌≡◌, ◌⊎◌, ◌≤◌, ◌<◌, ℕ, Bool, true, false, List, length, get_or, Option, Some}
+use Rattle.std.specs.List.{slice_get, list_any}
 use Rattle.vms_kinds.specs.declared.Item.TheVariants.{Struct}
 use Rattle.vms_spec.specs.declared.Count.TheVariants.{Counted}
-use Rattle.vms_spec.specs.Judging.{find_device, find_sub}
+use Rattle.vms_spec.specs.Lookup.{find_device, find_sub}
 use Rattle.vms_spec.specs.Layout.{counted, no_desc}
-use Rattle.vms_spec.specs.Lists.{at, some}
 use Rattle.vms_spec.specs.Readiness.{is_version_of}
 use Rattle.vms_spec.specs.Sets.{Formula, Field, Desc, Sub, Device, Set}
 use Rattle.vms_spec.specs.Streams.{is_one_of}
@@ -34,7 +34,7 @@ module _ (same : ℕ → ℕ → Bool) (a b : Desc) (v w : ℕ) where
     pub names : names_match e.field f.field ≡ true
     -- rule 11: the capacity, and that of each array of new that this number counts and that isn't there
     pub capacities : holds_as_much e.field.count f.field.count ≡ true
-    pub room : (k : ℕ) (g : Field) (most : ℕ) → at b.fields k ≡ Some g → is_absent w g ≡ true → g.count ≡ Counted f.index most → bound e.field.item (counted e.index a.fields) ≤ most
+    pub room : (k : ℕ) (g : Field) (most : ℕ) → slice_get b.fields k ≡ Some g → is_absent w g ≡ true → g.count ≡ Counted f.index most → bound e.field.item (counted e.index a.fields) ≤ most
     -- rule 12
     pub constants : same_constant e.field.item f.field.item ≡ true
     -- their structures
@@ -47,18 +47,18 @@ module _ (same : ℕ → ℕ → Bool) (a b : Desc) (v w : ℕ) where
 
   -- a reduced validation of new is true, or an old one
   abbrev pub IsKept : Reduced → Type 0
-  IsKept r = (r ≡ Known true) ⊎ (some (λ s. same_reduced in_old in_new (reduced v s) r) a.validate ≡ true)
+  IsKept r = (r ≡ Known true) ⊎ (list_any (λ s. same_reduced in_old in_new (reduced v s) r) a.validate ≡ true)
 
   -- two descriptions: rules 5 and 6, 7 to 12, and 15
   pub record DescsFit : Type 0 where
     pub as_many : length (fields_at a v) ≡ length (fields_at b w)
-    pub pairs : (p : ℕ) (e f : Entry) → at (fields_at a v) p ≡ Some e → at (fields_at b w) p ≡ Some f → ArePaired e f
-    pub validations : (k : ℕ) (t : Formula) → at b.validate k ≡ Some t → IsKept (reduced w t)
+    pub pairs : (p : ℕ) (e f : Entry) → slice_get (fields_at a v) p ≡ Some e → slice_get (fields_at b w) p ≡ Some f → ArePaired e f
+    pub validations : (k : ℕ) (t : Formula) → slice_get b.validate k ≡ Some t → IsKept (reduced w t)
 
 -- subsection l of new for one of old: rules 13 and 14, and the description's
 pub record IsSubFor (same : ℕ → ℕ → Bool) (s : Sub) (e : Device) (l : ℕ) (t : Sub) : Type 0 where
   pub found : find_sub 0 e.subs s.desc.name ≡ Some l
-  pub there : at e.subs l ≡ Some t
+  pub there : slice_get e.subs l ≡ Some t
   pub version : is_version_of t.desc s.desc.version ≡ true
   pub fits : DescsFit same s.desc t.desc s.desc.version s.desc.version
 
@@ -66,19 +66,19 @@ pub record IsSubFor (same : ℕ → ℕ → Bool) (s : Sub) (e : Device) (l : �
 pub record DevicesFit (same : ℕ → ℕ → Bool) (d e : Device) : Type 0 where
   pub version : is_version_of e.desc d.desc.version ≡ true
   pub fits : DescsFit same d.desc e.desc d.desc.version d.desc.version
-  pub subs : (j : ℕ) (s : Sub) → at d.subs j ≡ Some s → (l : ℕ) × (t : Sub) × IsSubFor same s e l t
+  pub subs : (j : ℕ) (s : Sub) → slice_get d.subs j ≡ Some s → (l : ℕ) × (t : Sub) × IsSubFor same s e l t
 
 -- two sets
 pub record SetsFit (same : ℕ → ℕ → Bool) (old new : Set) : Type 0 where
   -- rules 1 to 3
-  pub machines : (i : ℕ) (m : List ℕ) → at old.machines i ≡ Some m → is_one_of new.machines m ≡ true
-  pub kept : (i : ℕ) (d : Device) → at old.devices i ≡ Some d → is_in new d ≡ true
-  pub known : (i : ℕ) (d : Device) → at new.devices i ≡ Some d → is_in old d ≡ true
+  pub machines : (i : ℕ) (m : List ℕ) → slice_get old.machines i ≡ Some m → is_one_of new.machines m ≡ true
+  pub kept : (i : ℕ) (d : Device) → slice_get old.devices i ≡ Some d → is_in new d ≡ true
+  pub known : (i : ℕ) (d : Device) → slice_get new.devices i ≡ Some d → is_in old d ≡ true
   -- each structure at its own version
   pub structs : (i j : ℕ) → j < length new.structs → same i j ≡ true
       → DescsFit same (get_or old.structs i no_desc) (get_or new.structs j no_desc) (get_or old.structs i no_desc).version (get_or new.structs j no_desc).version
   -- the devices of one name and instance
-  pub devices : (i k : ℕ) (d e : Device) → at old.devices i ≡ Some d → find_device 0 new.devices d.desc.name d.instance ≡ Some k → at new.devices k ≡ Some e → DevicesFit same d e
+  pub devices : (i k : ℕ) (d e : Device) → slice_get old.devices i ≡ Some d → find_device 0 new.devices d.desc.name d.instance ≡ Some k → slice_get new.devices k ≡ Some e → DevicesFit same d e
 
 -- all rules hold, with some choice of the structures that compare well
 abbrev pub Fits : Set → Set → Type 0

@@ -1,10 +1,11 @@
 -- What the comparison of two sets answers of machines, names and parts.
 use Rattle.std.specs.Prelude.{ℕ, Bool, not, [], ◌∷◌, Option, Some, None}
+use Rattle.std.specs.List.{slice_get, list_all}
 use Rattle.vms_spec.specs.declared.Part.{Part}
 use Rattle.vms_spec.specs.declared.Part.TheVariants as parts
 use Rattle.vms_spec.specs.Layout.{struct_cells}
-use Rattle.vms_spec.specs.Lists.{at, every, first_answer, or_else}
-use Rattle.vms_spec.specs.Judging.{index}
+use Rattle.vms_spec.specs.Lists.{first_answer, or_else}
+use Rattle.vms_spec.specs.Lookup.{index}
 use Rattle.vms_spec.specs.Readiness.{is_version_of}
 use Rattle.vms_spec.specs.Sets.{Device, Set}
 use Rattle.vms_spec.specs.Streams.{is_one_of}
@@ -28,7 +29,7 @@ is_missing set d = not (is_in set d)
 
 module _ (old new : Set) where
   abbrev pub machines_mismatch : Option Mismatch
-  machines_mismatch = failing_pair ((1, every (is_one_of new.machines) old.machines) ∷ []) (here parts.Set) (here parts.Set)
+  machines_mismatch = failing_pair ((1, list_all (is_one_of new.machines) old.machines) ∷ []) (here parts.Set) (here parts.Set)
 
   -- devices that one of the sets doesn't have
   abbrev pub lost_mismatch : Option Mismatch
@@ -38,7 +39,7 @@ module _ (old new : Set) where
 
   -- device i of the older set, beside the one of the newer that has its name and instance
   abbrev pub device_mismatch : ℕ → Device → Option Mismatch
-  device_mismatch i d = compare_device old new i d (paired_device old new d) (at new.devices (index (paired_device old new d)))
+  device_mismatch i d = compare_device old new i d (paired_device old new d) (slice_get new.devices (index (paired_device old new d)))
 
 -- a part of the older set beside one of a newer set, at the older one's version, which a rule says that the newer reads
 abbrev pub part_mismatch : ℕ → Side → Set → Part → Option Mismatch

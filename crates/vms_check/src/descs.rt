@@ -1,8 +1,8 @@
 // A description on each side: its present fields in pairs, structures before the next pair, and then its validations.
+ghost use Rattle.std.specs.List.{list_all, list_any};
 ghost use Rattle.std.specs.Prelude.{◌≡◌, ◌<◌, length, map, true};
 ghost use Rattle.vms_desc.specs.Described.{described};
 ghost use Rattle.vms_parts.specs.Views.{formula};
-ghost use Rattle.vms_spec.specs.Lists.{every, some};
 ghost use Rattle.vms_check.specs.Pairs.{IsOn, all_fields_on, desc_mismatch, is_kept_test, is_left, pair_mismatch, struct_mismatch, validations_on};
 ghost use Rattle.vms_check.specs.Places.{ArePlaces};
 ghost use Rattle.vms_check.specs.Sides.{IsSide, as_reduced, is_whole_left};
@@ -23,7 +23,7 @@ fn is_among(old: Side, new: Side, places: &Places, tests: &[Test], left: Left) -
     requires new { IsSide new }
     requires places { ArePlaces old new places.now }
     requires whole { is_whole_left new.version left ≡ true }
-    ensures { result ≡ some (is_left old.entry new.entry (as_reduced new.entry.version left.entry))
+    ensures { result ≡ list_any (is_left old.entry new.entry (as_reduced new.entry.version left.entry))
         (map formula tests.now) }
 {
     for test in tests {
@@ -51,7 +51,7 @@ fn are_kept(old: Side, new: Side, places: &Places, tests: &[Test]) -> bool
     requires old { IsSide old }
     requires new { IsSide new }
     requires places { ArePlaces old new places.now }
-    ensures { result ≡ every (is_kept_test old.entry new.entry) (map formula tests.now) }
+    ensures { result ≡ list_all (is_kept_test old.entry new.entry) (map formula tests.now) }
 {
     for test in tests {
         if !is_kept(old, new, places, test) {

@@ -1,11 +1,12 @@
 // Two whole sets: machines, devices, and then each device with its subsections.
+ghost use Rattle.std.specs.List.{list_all};
 ghost use Rattle.std.specs.Prelude.{◌≡◌, ◌<◌, ◌≤◌, length, map, Some, None};
 ghost use Rattle.vms_desc.specs.Described.{described, device_at};
 ghost use Rattle.vms_desc.specs.Parts.{HasPart, sub_at};
 ghost use Rattle.vms_parts.specs.Views.{desc_of, sub_of, device_of};
 ghost use Rattle.vms_spec.specs.declared.Part.TheVariants as parts;
-ghost use Rattle.vms_spec.specs.Judging.{find_sub};
-ghost use Rattle.vms_spec.specs.Lists.{every, first_answer, position};
+ghost use Rattle.vms_spec.specs.Lookup.{find_sub};
+ghost use Rattle.vms_spec.specs.Lists.{first_answer, position};
 ghost use Rattle.vms_spec.specs.Readiness.{is_version_of};
 ghost use Rattle.vms_spec.specs.Streams.{is_one_of};
 ghost use Rattle.vms_check.specs.Comparing.{compare_device, compare_subs, first_mismatch, is_in};
@@ -43,7 +44,7 @@ fn first_mismatch(old: &DescSet, new: &DescSet) -> Option<Mismatch>
 // ---- machines and the names of devices
 
 fn are_all_in(names: &[Text], known: &[Text]) -> bool
-    ensures { result ≡ every (is_one_of known.now) names.now }
+    ensures { result ≡ list_all (is_one_of known.now) names.now }
 {
     for name in names {
         if !is_one_of(known, name.as_bytes()) {

@@ -3,14 +3,14 @@ use Rattle.std.proofs.Common.{Bool, List, ℕ, Option, Some, None, Ok, arith, su
 use Rattle.vms_io.specs.Shelves.{Held}
 use Rattle.vms_io.specs.Told.{Outlet}
 use Rattle.vms_check.specs.declared.mismatch.Mismatch.{Mismatch}
-use Rattle.vms_outcome.specs.declared.ending.Ending.{Ending}
-use Rattle.vms_outcome.specs.declared.ending.Ending.TheVariants.{Done, Refused, BadWords, BadText, NotCompatible, ReadFault, WriteFault, ShelfFault, NotThere, TooLarge, NoMemory}
-use Rattle.vms_outcome.specs.Endings.{Quiet}
-use Rattle.vms_outcome.specs.Fetching.{named_sets}
-use Rattle.vms_outcome.specs.SetWords.{SetWord}
-use Rattle.vms_outcome.specs.StepEndings.{StepAs, TextEnds}
-use Rattle.vms_outcome.specs.Steps.{Both, Ends, Gives, Step, Untold, both, next}
-use Rattle.vms_outcome.proofs.StepLemmas.{IsSound, regroup, sound_next, sound_sets}
+use Rattle.vms_commands.specs.declared.ending.Ending.{Ending}
+use Rattle.vms_commands.specs.declared.ending.Ending.TheVariants.{Done, Refused, BadWords, BadText, NotCompatible, ReadFault, WriteFault, ShelfFault, NotThere, TooLarge, NoMemory}
+use Rattle.vms_commands.specs.Endings.{Quiet}
+use Rattle.vms_commands.specs.Fetching.{named_sets}
+use Rattle.vms_commands.specs.SetWords.{SetWord}
+use Rattle.vms_commands.specs.StepEndings.{StepAs, TextEnds}
+use Rattle.vms_commands.specs.Steps.{Both, Ends, Gives, Step, Untold, both, next}
+use Rattle.vms_commands.proofs.StepLemmas.{IsSound, regroup, sound_next, sound_sets}
 use Rattle.vms_cli.specs.Causes.{CompareCause}
 use Rattle.vms_cli.specs.Check.{checked, compared, verdict}
 

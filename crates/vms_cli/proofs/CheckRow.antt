@@ -1,10 +1,10 @@
 -- From how `check` ends and why to its row.
 use Rattle.std.proofs.Common.{◌≡◌, ℕ, Bool, inl, inr}
 use Rattle.vms_io.specs.Told.{Intake, Outlet, Stock}
-use Rattle.vms_outcome.specs.declared.ending.Ending.{Ending}
-use Rattle.vms_outcome.specs.declared.ending.Ending.TheVariants.{Done, Refused, BadWords, BadText, NotCompatible, ReadFault, WriteFault, ShelfFault, NotThere, TooLarge, NoMemory}
-use Rattle.vms_outcome.specs.Endings.{Caused, Tells}
-use Rattle.vms_outcome.proofs.EndLemmas.{around}
+use Rattle.vms_commands.specs.declared.ending.Ending.{Ending}
+use Rattle.vms_commands.specs.declared.ending.Ending.TheVariants.{Done, Refused, BadWords, BadText, NotCompatible, ReadFault, WriteFault, ShelfFault, NotThere, TooLarge, NoMemory}
+use Rattle.vms_commands.specs.Endings.{Caused, Tells}
+use Rattle.vms_commands.proofs.EndLemmas.{around}
 use Rattle.vms_cli.specs.Causes.{CheckCause, CheckCauses}
 use Rattle.vms_cli.specs.Check.{CheckAnswers}
 

@@ -3,11 +3,11 @@ use Rattle.std.proofs.Common.{ℕ, List, length, Option, None, Some, sym, subst}
 use Rattle.std.specs.Prelude.{IsSomeAnd}
 use Rattle.dev_board.specs.Saved.{MaySaveUnder}
 use Rattle.vms_board.specs.Restoring.{Back, Restores}
-use Rattle.vms_boards.specs.Load.{Loads, LoadsBy, Traces}
-use Rattle.vms_boards.specs.Scripts.{scripted}
-use Rattle.vms_outcome.specs.Outcomes.{Outcome, Outside, DoesOrStops, done}
-use Rattle.vms_outcome.specs.Steps.{Step, Untold, Gives, Ends}
-use Rattle.vms_play.specs.Events.{events_of}
+use Rattle.vms_board_commands.specs.Load.{Loads, LoadsBy, Traces}
+use Rattle.vms_board_commands.specs.Scripts.{scripted}
+use Rattle.vms_commands.specs.Outcomes.{Outcome, Outside, DoesOrStops, done}
+use Rattle.vms_commands.specs.Steps.{Step, Untold, Gives, Ends}
+use Rattle.vms_session.specs.Events.{events_of}
 use Rattle.vms_script.specs.Lines.{ScriptLine}
 use Rattle.vms_session.proofs.StreamLaws.{boards_go_on}
 use Rattle.vms_session.specs.Laws.{stream_with}

@@ -1,21 +1,21 @@
 -- From how a call ends and why to what it answers.
 use Rattle.std.proofs.Common.{◌≡◌, ℕ, List, Option, Some, None, ap, inl, inr}
 use Rattle.vms_io.specs.Told.{Intake, Outlet, Stock}
-use Rattle.vms_outcome.specs.declared.ending.Ending.{Ending}
-use Rattle.vms_outcome.specs.declared.ending.Ending.TheVariants.{Done, Refused, BadWords, BadText, NotCompatible, ReadFault, WriteFault, ShelfFault, NotThere, TooLarge, NoMemory}
-use Rattle.vms_outcome.specs.Endings.{Caused, EndsAs, Tells}
-use Rattle.vms_outcome.specs.Outcomes.{Outcome, CountsStand, DoesOrStops, PromisesStay}
-use Rattle.vms_outcome.proofs.EndLemmas.{around, outcome_so, same_keeps}
-use Rattle.vms_outcome.proofs.TextRow.{text_caused, text_row}
+use Rattle.vms_commands.specs.declared.ending.Ending.{Ending}
+use Rattle.vms_commands.specs.declared.ending.Ending.TheVariants.{Done, Refused, BadWords, BadText, NotCompatible, ReadFault, WriteFault, ShelfFault, NotThere, TooLarge, NoMemory}
+use Rattle.vms_commands.specs.Endings.{Caused, EndsAs, Tells}
+use Rattle.vms_commands.specs.Outcomes.{Outcome, CountsStand, DoesOrStops, PromisesStay}
+use Rattle.vms_commands.proofs.EndLemmas.{around, outcome_so, same_keeps}
+use Rattle.vms_commands.proofs.TextRow.{text_caused, text_row}
 use Rattle.vms_cli.specs.Answers.{Answers, BadWordsAnswers, CanAnswer, HasOutcome}
 use Rattle.vms_cli.specs.Causes.{BadWordsCauses, EndsCause, IsBadWords}
 use Rattle.vms_cli.specs.Check.{asks_shelf}
 use Rattle.vms_cli.specs.Commands.{Asked, Show, Pack, Check, Save, Load, Drill, Play, asked_of}
 use Rattle.vms_cli.proofs.CheckRow.{check_caused, check_row}
-use Rattle.vms_boards.proofs.DrillRow.{drill_caused, drill_row}
-use Rattle.vms_boards.proofs.LoadRow.{load_caused, load_row}
-use Rattle.vms_boards.proofs.PlayRow.{play_caused, play_row}
-use Rattle.vms_boards.specs.Scripts.{scripted}
+use Rattle.vms_board_commands.proofs.DrillRow.{drill_caused, drill_row}
+use Rattle.vms_board_commands.proofs.LoadRow.{load_caused, load_row}
+use Rattle.vms_board_commands.proofs.PlayRow.{play_caused, play_row}
+use Rattle.vms_board_commands.specs.Scripts.{scripted}
 use Rattle.vms_cli.proofs.ContinuationLemmas.{continues_so}
 use Rattle.vms_cli.proofs.ShowRow.{show_caused, show_row}
 use Rattle.vms_cli.proofs.UpgradeLemmas.{upgrade_so}

@@ -8,33 +8,33 @@ use Rattle.vms_io.specs.Told.{Outlet}
 use Rattle.vms_spec.specs.Numbers.{IsBytes}
 use Rattle.vms_spec.specs.Values.{values_text}
 use Rattle.vms_spec.specs.Images.{Image}
-use Rattle.vms_laws.specs.Laws.{IsFit}
-use Rattle.vms_units.specs.StreamLaws.{Answer, Taken, Faulty}
-use Rattle.vms_units.specs.Streams.{Takes}
-use Rattle.vms_units.proofs.Stated.{either_holds}
+use Rattle.vms_spec.specs.Good.{IsFit}
+use Rattle.vms_stream.specs.StreamLaws.{Answer, Taken, Faulty}
+use Rattle.vms_stream.specs.Streams.{Takes}
+use Rattle.vms_stream.proofs.Stated.{either_holds}
 use Rattle.vms_check.specs.declared.mismatch.Mismatch.{Mismatch}
 use Rattle.vms_spec.specs.Sets.{Set}
-use Rattle.vms_outcome.specs.Fetching.{fetched, longest_file, word_set}
-use Rattle.vms_outcome.specs.Lines.{bad_words, read_fault, write_fault, shelf_fault, out_of_memory, refused_line}
-use Rattle.vms_outcome.specs.Outcomes.{Part, Outcome, DoesOrStops, done, ended, text_of, text_begun, Outside, HasPart}
-use Rattle.vms_outcome.specs.SetWords.{SetWord}
-use Rattle.vms_outcome.specs.Steps.{Step, Untold, Gives, Ends, Both, HasText, next}
-use Rattle.vms_outcome.proofs.FileSets.{FitStep, fit_word}
-use Rattle.vms_outcome.proofs.StepLemmas.{IsSound as IsStepSound, fetched_gives, one_text, sound_word_set}
+use Rattle.vms_commands.specs.Fetching.{fetched, longest_file, word_set}
+use Rattle.vms_commands.specs.Lines.{bad_words, read_fault, write_fault, shelf_fault, out_of_memory, refused_line}
+use Rattle.vms_commands.specs.Outcomes.{Part, Outcome, DoesOrStops, done, ended, text_of, text_begun, Outside, HasPart}
+use Rattle.vms_commands.specs.SetWords.{SetWord}
+use Rattle.vms_commands.specs.Steps.{Step, Untold, Gives, Ends, Both, HasText, next}
+use Rattle.vms_commands.proofs.FileSets.{FitStep, fit_word}
+use Rattle.vms_commands.proofs.StepLemmas.{IsSound as IsStepSound, fetched_gives, one_text, sound_word_set}
 use Rattle.dev_board.specs.State.{power_on}
 use Rattle.vms_board.specs.Saving.{saved_stream}
-use Rattle.vms_boards.proofs.ScriptSteps.{script_gives, sound_saved, sound_script}
-use Rattle.vms_boards.specs.Drill.{drill_line}
+use Rattle.vms_board_commands.proofs.ScriptSteps.{script_gives, sound_saved, sound_script}
+use Rattle.vms_board_commands.specs.Drill.{drill_line}
 use Rattle.dev_board.specs.Step.{after_all, observe}
 use Rattle.dev_base.specs.Levels.{IsLevel}
-use Rattle.vms_boards.proofs.LoadOutcome.{loads_one}
-use Rattle.vms_boards.proofs.PlayOutcome.{has_end, one_outcome}
-use Rattle.vms_boards.specs.Play.{PlaysBy}
-use Rattle.vms_boards.specs.Load.{LoadsBy, Traces}
-use Rattle.vms_boards.specs.Save.{saved_after}
-use Rattle.vms_boards.specs.Scripts.{longest_script, said_lines, scripted}
+use Rattle.vms_board_commands.proofs.LoadOutcome.{loads_one}
+use Rattle.vms_board_commands.proofs.PlayOutcome.{has_end, one_outcome}
+use Rattle.vms_board_commands.specs.Play.{PlaysBy}
+use Rattle.vms_board_commands.specs.Load.{LoadsBy, Traces}
+use Rattle.vms_board_commands.specs.Save.{saved_after}
+use Rattle.vms_board_commands.specs.Scripts.{longest_script, said_lines, scripted}
 use Rattle.vms_session.specs.Laws.{HoldsAll, trace_of}
-use Rattle.vms_play.specs.Events.{events_of}
+use Rattle.vms_session.specs.Events.{events_of}
 use Rattle.vms_script.proofs.GrammarOnly.{reads_exactly}
 use Rattle.vms_script.specs.Grammar.{AreLines}
 use Rattle.vms_script.specs.Lines.{ScriptLine}

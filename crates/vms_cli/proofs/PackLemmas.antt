@@ -2,15 +2,16 @@
 use Rattle.std.proofs.Common.{◌≡◌, ℕ, zero, suc, ◌<◌, List, [], ◌∷◌, length, get_or, map, Option, Some, None, Ok, Err, refl, sym, ap, ◌∙◌, subst, arith}
 use Rattle.std.specs.Option.{ForSome}
 use Rattle.std.specs.Prelude.{string_bytes}
+use Rattle.std.specs.List.{slice_get}
 use Rattle.std.specs.declared.string.String.{String}
 use Rattle.std.specs.declared.alloc.Global.{Global}
 use Rattle.vms_io.specs.Shelves.{Held}
 use Rattle.vms_io.specs.Told.{Outlet}
-use Rattle.vms_spec.specs.Lists.{at, at_option}
+use Rattle.vms_spec.specs.Lists.{at_option}
 use Rattle.vms_spec.specs.Sets.{Set}
 use Rattle.vms_spec.specs.Images.{Image}
 use Rattle.vms_spec.specs.Streams.{AreReady}
-use Rattle.vms_laws.specs.Laws.{IsFit}
+use Rattle.vms_spec.specs.Good.{IsFit}
 use Rattle.vms_spec.specs.ValuesReading.{ValuesRead, Values, Bad, values_read}
 use Rattle.vms_spec.specs.declared.ValuesReason.{ValuesReason}
 use Rattle.vms_image.specs.Typed.{state_of}
@@ -18,15 +19,15 @@ use Rattle.vms_values.specs.Printing.{machine_of}
 use Rattle.vms_values.specs.Reading.{ReadsAs}
 use Rattle.vms_values.specs.declared.fault.Values.{Values as Given}
 use Rattle.vms_values.specs.declared.fault.ValuesFault.TheVariants as faults
-use Rattle.vms_reading.proofs.Stated.{accepted_holds}
-use Rattle.vms_outcome.specs.declared.ending.Ending.{Ending}
-use Rattle.vms_outcome.specs.declared.ending.Ending.TheVariants.{Done, Refused, BadWords, BadText, NotCompatible, ReadFault, WriteFault, ShelfFault, NotThere, TooLarge, NoMemory}
-use Rattle.vms_outcome.specs.Endings.{Quiet}
-use Rattle.vms_outcome.specs.Fetching.{SetText, fetched, fetched_set, longest_file, set_in, word_set}
-use Rattle.vms_outcome.specs.SetWords.{SetWord}
-use Rattle.vms_outcome.specs.StepEndings.{StepAs, TextEnds, WrittenAs}
-use Rattle.vms_outcome.specs.Steps.{Step, Untold, Gives, Ends, next}
-use Rattle.vms_outcome.proofs.StepLemmas.{IsSound, err_text, regroup, sound_fetch, sound_next, sound_set, sound_word, then_text}
+use Rattle.vms_values_laws.proofs.Stated.{accepted_holds}
+use Rattle.vms_commands.specs.declared.ending.Ending.{Ending}
+use Rattle.vms_commands.specs.declared.ending.Ending.TheVariants.{Done, Refused, BadWords, BadText, NotCompatible, ReadFault, WriteFault, ShelfFault, NotThere, TooLarge, NoMemory}
+use Rattle.vms_commands.specs.Endings.{Quiet}
+use Rattle.vms_commands.specs.Fetching.{SetText, fetched, fetched_set, longest_file, set_in, word_set}
+use Rattle.vms_commands.specs.SetWords.{SetWord}
+use Rattle.vms_commands.specs.StepEndings.{StepAs, TextEnds, WrittenAs}
+use Rattle.vms_commands.specs.Steps.{Step, Untold, Gives, Ends, next}
+use Rattle.vms_commands.proofs.StepLemmas.{IsSound, err_text, regroup, sound_fetch, sound_next, sound_set, sound_word, then_text}
 use Rattle.vms_cli.specs.Causes.{WriteCause}
 use Rattle.vms_cli.specs.Pack.{Texts, described_stream, fetched_texts, packed, packed_by, packed_texts, packs}
 use Rattle.vms_cli.specs.ValuesLines.{values_line}
@@ -40,7 +41,7 @@ ready_of set fit text (Bad line reason) v e reads = absurd reads
 pub read_ready : (set : Set) → IsFit set → (text : List ℕ) (v : Given) → ReadsAs set (values_read set text) (Ok v) → AreReady set (map state_of v.images.items)
 read_ready set fit text v reads = ready_of set fit text (values_read set text) v refl reads
 
-at_is : {X : Type 0} (xs : List X) (k : ℕ) (d : X) → k < length xs → at xs k ≡ Some (get_or xs k d)
+at_is : {X : Type 0} (xs : List X) (k : ℕ) (d : X) → k < length xs → slice_get xs k ≡ Some (get_or xs k d)
 at_is [] k d l = absurd (omega (arith, l))
 at_is (x ∷ xs) zero d l = refl
 at_is (x ∷ xs) (suc k) d l = at_is xs k d (omega (arith, l))

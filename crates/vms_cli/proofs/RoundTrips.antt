@@ -6,19 +6,19 @@ use Rattle.vms_spec.specs.Sets.{Set}
 use Rattle.vms_spec.specs.Streams.{AreReady, is_one_of}
 use Rattle.vms_spec.specs.Values.{values_text}
 use Rattle.vms_spec.specs.ValuesReading.{ValuesRead, Values, Bad, values_read}
-use Rattle.vms_laws.specs.Laws.{IsFit}
-use Rattle.vms_units.specs.Streams.{Takes}
+use Rattle.vms_spec.specs.Good.{IsFit}
+use Rattle.vms_stream.specs.Streams.{Takes}
 use Rattle.vms_elements.specs.Reading.{IsMachineOf}
-use Rattle.vms_reading.specs.Rounds.{ShowsAs}
-use Rattle.vms_reading.proofs.Rounds.{packed_holds, shown_holds, written_only}
+use Rattle.vms_values_laws.specs.Rounds.{ShowsAs}
+use Rattle.vms_values_laws.proofs.Rounds.{packed_holds, shown_holds, written_only}
 use Rattle.vms_selfdesc.specs.Tree.{described_text}
 use Rattle.vms_selfdesc.proofs.Bounds.{short_holds}
-use Rattle.vms_outcome.specs.Fetching.{SetText, fetched_set, longest_file, set_in, text_under}
-use Rattle.vms_outcome.specs.Lines.{too_large_line}
-use Rattle.vms_outcome.specs.Outcomes.{Part, Outcome, done, ended}
-use Rattle.vms_outcome.specs.Steps.{Step, Untold, Gives, Ends, HasText, next}
-use Rattle.vms_outcome.proofs.FileSets.{FitStep, fit_word}
-use Rattle.vms_outcome.proofs.StepLemmas.{fetched_gives}
+use Rattle.vms_commands.specs.Fetching.{SetText, fetched_set, longest_file, set_in, text_under}
+use Rattle.vms_commands.specs.Lines.{too_large_line}
+use Rattle.vms_commands.specs.Outcomes.{Part, Outcome, done, ended}
+use Rattle.vms_commands.specs.Steps.{Step, Untold, Gives, Ends, HasText, next}
+use Rattle.vms_commands.proofs.FileSets.{FitStep, fit_word}
+use Rattle.vms_commands.proofs.StepLemmas.{fetched_gives}
 use Rattle.vms_cli.specs.Laws.{PackThenShowLaw, ShowThenPackLaw}
 use Rattle.vms_cli.specs.Pack.{described_stream, packed, packed_by, packed_texts, packs}
 use Rattle.vms_cli.specs.Show.{Shows, ShowsBy, Values as Printed, Refuses}

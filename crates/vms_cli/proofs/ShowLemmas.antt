@@ -13,10 +13,10 @@ use Rattle.vms_spec.specs.Layout.{no_desc}
 use Rattle.vms_spec.specs.Sets.{Device, Set}
 use Rattle.vms_spec.specs.Images.{Image}
 use Rattle.vms_spec.specs.Values.{values_text}
-use Rattle.vms_laws.specs.Laws.{IsFit}
-use Rattle.vms_units.specs.Faults.{Fault}
-use Rattle.vms_units.specs.Streams.{Takes}
-use Rattle.vms_units.proofs.Stated.{one_stream_holds, never_both_holds, one_fault_holds}
+use Rattle.vms_spec.specs.Good.{IsFit}
+use Rattle.vms_stream.specs.Faults.{Fault}
+use Rattle.vms_stream.specs.Streams.{Takes}
+use Rattle.vms_stream.proofs.Stated.{one_stream_holds, never_both_holds, one_fault_holds}
 use Rattle.vms_frames.specs.declared.fault.Refusal.{Refusal}
 use Rattle.vms_load.specs.Loads.{Loads}
 use Rattle.vms_load.specs.Staging.{IsMachine, AreShaped, no_image, name_of, accepted_of, most_given}
@@ -29,18 +29,18 @@ use Rattle.vms_desc.specs.Formed.{is_well_formed}
 use Rattle.vms_desc.proofs.AskLaws.{few_cells}
 use Rattle.vms_image.specs.Typed.{Typed, state_of}
 use Rattle.vms_values.specs.Printing.{AreOf, IsOf, machine_of}
-use Rattle.vms_outcome.specs.declared.ending.Ending.{Ending}
-use Rattle.vms_outcome.specs.declared.ending.Ending.TheVariants.{Done, Refused}
-use Rattle.vms_outcome.specs.Endings.{EndsAs, SetCause, WritesAs}
-use Rattle.vms_outcome.specs.Lines.{refused_line}
-use Rattle.vms_outcome.specs.Outcomes.{Outcome, done, ended, TakesBytes}
-use Rattle.vms_outcome.specs.StepEndings.{StepAs}
-use Rattle.vms_outcome.specs.Steps.{Step, Untold, Gives, Ends}
-use Rattle.vms_outcome.proofs.EndLemmas.{text_written}
+use Rattle.vms_commands.specs.declared.ending.Ending.{Ending}
+use Rattle.vms_commands.specs.declared.ending.Ending.TheVariants.{Done, Refused}
+use Rattle.vms_commands.specs.Endings.{EndsAs, SetCause, WritesAs}
+use Rattle.vms_commands.specs.Lines.{refused_line}
+use Rattle.vms_commands.specs.Outcomes.{Outcome, done, ended, TakesBytes}
+use Rattle.vms_commands.specs.StepEndings.{StepAs}
+use Rattle.vms_commands.specs.Steps.{Step, Untold, Gives, Ends}
+use Rattle.vms_commands.proofs.EndLemmas.{text_written}
 use Rattle.vms_load.proofs.ExactLoads.{heard_holds}
 use Rattle.vms_load.specs.Hearing.{HearsLoad}
-use Rattle.vms_boards.proofs.HeardLemmas.{IsOther, all_of, all_taken, some-is, written_end}
-use Rattle.vms_boards.specs.Heard.{Hears, HearsEnd}
+use Rattle.vms_board_commands.proofs.HeardLemmas.{IsOther, all_of, all_taken, some-is, written_end}
+use Rattle.vms_board_commands.specs.Heard.{Hears, HearsEnd}
 use Rattle.vms_cli.specs.Show.{GivesWithin, Shows, ShowsWell, Values, Refuses, most_of_all}
 
 abbrev no_device : Device

@@ -1,14 +1,14 @@
 -- From how `show` ends and why to its row.
 use Rattle.std.proofs.Common.{◌≡◌, ℕ, inl, inr}
 use Rattle.vms_io.specs.Told.{Intake, Outlet, Stock}
-use Rattle.vms_outcome.specs.declared.ending.Ending.{Ending}
-use Rattle.vms_outcome.specs.declared.ending.Ending.TheVariants.{Done, Refused, BadWords, BadText, NotCompatible, ReadFault, WriteFault, ShelfFault, NotThere, TooLarge, NoMemory}
-use Rattle.vms_outcome.specs.Endings.{Caused, Tells}
-use Rattle.vms_outcome.specs.Fetching.{is_on_shelf, word_set}
-use Rattle.vms_outcome.specs.SetWords.{SetWord}
-use Rattle.vms_outcome.proofs.EndLemmas.{around}
+use Rattle.vms_commands.specs.declared.ending.Ending.{Ending}
+use Rattle.vms_commands.specs.declared.ending.Ending.TheVariants.{Done, Refused, BadWords, BadText, NotCompatible, ReadFault, WriteFault, ShelfFault, NotThere, TooLarge, NoMemory}
+use Rattle.vms_commands.specs.Endings.{Caused, Tells}
+use Rattle.vms_commands.specs.Fetching.{is_on_shelf, word_set}
+use Rattle.vms_commands.specs.SetWords.{SetWord}
+use Rattle.vms_commands.proofs.EndLemmas.{around}
 use Rattle.vms_cli.specs.Causes.{ShowCause, ShowCauses}
-use Rattle.vms_boards.proofs.HeardLemmas.{refusal_row, stream_row}
+use Rattle.vms_board_commands.proofs.HeardLemmas.{refusal_row, stream_row}
 use Rattle.vms_spec.specs.Sets.{Set}
 use Rattle.vms_cli.specs.Show.{ShowStatus, ShowAnswers, ShowsWell}
 

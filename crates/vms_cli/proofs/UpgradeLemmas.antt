@@ -5,15 +5,15 @@ use Rattle.vms_spec.specs.Images.{Image}
 use Rattle.vms_spec.specs.Sets.{Set}
 use Rattle.vms_spec.specs.Streams.{written}
 use Rattle.vms_spec.specs.WellFormed.{WellFormed}
-use Rattle.vms_laws.specs.Laws.{IsFit}
+use Rattle.vms_spec.specs.Good.{IsFit}
 use Rattle.vms_check.specs.Comparing.{Compatible}
 use Rattle.vms_check.specs.Carrying.{carried}
-use Rattle.vms_units.specs.Streams.{Takes}
-use Rattle.vms_upgrade.proofs.Upgraded.{upgrade_stands}
-use Rattle.vms_outcome.specs.Fetching.{SetText, fetched_set, named_sets, set_in, sets_in, word_set}
-use Rattle.vms_outcome.specs.Outcomes.{Outcome, Outside, DoesOrStops}
-use Rattle.vms_outcome.specs.Steps.{Step, Untold, Gives, Ends, Both, both, next}
-use Rattle.vms_outcome.proofs.FileSets.{FitStep, fit_word}
+use Rattle.vms_stream.specs.Streams.{Takes}
+use Rattle.vms_check_laws.proofs.Upgraded.{upgrade_stands}
+use Rattle.vms_commands.specs.Fetching.{SetText, fetched_set, named_sets, set_in, sets_in, word_set}
+use Rattle.vms_commands.specs.Outcomes.{Outcome, Outside, DoesOrStops}
+use Rattle.vms_commands.specs.Steps.{Step, Untold, Gives, Ends, Both, both, next}
+use Rattle.vms_commands.proofs.FileSets.{FitStep, fit_word}
 use Rattle.vms_cli.specs.Answers.{HasOutcome}
 use Rattle.vms_cli.specs.Check.{AreCompatible, Verdict}
 use Rattle.vms_cli.specs.Laws.{CheckThenShowLaw}

@@ -7,11 +7,11 @@ use Rattle.vms_check.specs.declared.mismatch.Mismatch.{Mismatch}
 use Rattle.vms_cli.specs.Answers.{HasOutcome}
 use Rattle.vms_cli.specs.Check.{AreCompatible, Verdict, compared, verdict}
 use Rattle.vms_cli.specs.Commands.{Asked, Show, Pack, Check, Save, Load, Drill, Play}
-use Rattle.vms_outcome.specs.Fetching.{named_sets}
-use Rattle.vms_outcome.specs.Outcomes.{Outcome, Outside, DoesOrStops, ended, HasPart, ReadFault, OutFault, NotesFault, ShelfFault, WantsMemory}
-use Rattle.vms_outcome.specs.SetLines.{mismatch_line}
-use Rattle.vms_outcome.specs.Steps.{Step, Untold, Gives, Ends, Both, HasText, next}
-use Rattle.vms_outcome.proofs.StepLemmas.{IsSound, sound_sets}
+use Rattle.vms_commands.specs.Fetching.{named_sets}
+use Rattle.vms_commands.specs.Outcomes.{Outcome, Outside, DoesOrStops, ended, HasPart, ReadFault, OutFault, NotesFault, ShelfFault, WantsMemory}
+use Rattle.vms_commands.specs.SetLines.{mismatch_line}
+use Rattle.vms_commands.specs.Steps.{Step, Untold, Gives, Ends, Both, HasText, next}
+use Rattle.vms_commands.proofs.StepLemmas.{IsSound, sound_sets}
 
 -- why a call stops on its way
 abbrev pub StopsAt : ℕ → Outside → Outside → Outcome → Type 0

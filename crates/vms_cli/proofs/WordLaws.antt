@@ -3,7 +3,7 @@ use Rattle.std.proofs.Common.{ℕ, Bool, true, false, if◌then◌else◌, nat_l
 use Rattle.std.specs.Str.{bytes_eq}
 use Rattle.dev_base.specs.Levels.{IsLevel}
 use Rattle.vms_io.specs.Shelves.{Held}
-use Rattle.vms_outcome.specs.SetWords.{SetWord, set_word, shipped_number}
+use Rattle.vms_commands.specs.SetWords.{SetWord, set_word, shipped_number}
 use Rattle.vms_script.specs.Names.{is_shelf_name}
 use Rattle.vms_session.specs.Laws.{HoldsAll}
 use Rattle.vms_cli.specs.Commands.{Asked, Pack, Save, board_level, check_of, drill_of, few_events, load_of, number_word, on_board, pack_of, pair_of, play_of, save_of, show_of, triple_of}

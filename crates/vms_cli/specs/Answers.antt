@@ -2,16 +2,16 @@
 use Rattle.std.specs.Prelude.{◌≡◌, ◌⊎◌, ℕ, List, Option, Some, None}
 use Rattle.std.specs.Io.KnownBytes.{Appends}
 use Rattle.vms_io.specs.Shelves.{Held}
-use Rattle.vms_outcome.specs.Fetching.{is_on_shelf, word_set}
-use Rattle.vms_outcome.specs.Lines.{bad_words}
-use Rattle.vms_outcome.specs.Outcomes.{Outcome, done, ended, Outside, DoesOrStops, NotesFault, CountsStand, PromisesStay}
-use Rattle.vms_outcome.specs.Steps.{HasText}
-use Rattle.vms_outcome.specs.Texts.{TextAnswers}
-use Rattle.vms_boards.specs.Drill.{DrillAnswers, drill_line}
-use Rattle.vms_boards.specs.Load.{LoadAnswers, LoadsBy}
-use Rattle.vms_boards.specs.Play.{PlayAnswers, PlaysBy}
-use Rattle.vms_boards.specs.Save.{saved_after}
-use Rattle.vms_boards.specs.Scripts.{scripted}
+use Rattle.vms_commands.specs.Fetching.{is_on_shelf, word_set}
+use Rattle.vms_commands.specs.Lines.{bad_words}
+use Rattle.vms_commands.specs.Outcomes.{Outcome, done, ended, Outside, DoesOrStops, NotesFault, CountsStand, PromisesStay}
+use Rattle.vms_commands.specs.Steps.{HasText}
+use Rattle.vms_commands.specs.Texts.{TextAnswers}
+use Rattle.vms_board_commands.specs.Drill.{DrillAnswers, drill_line}
+use Rattle.vms_board_commands.specs.Load.{LoadAnswers, LoadsBy}
+use Rattle.vms_board_commands.specs.Play.{PlayAnswers, PlaysBy}
+use Rattle.vms_board_commands.specs.Save.{saved_after}
+use Rattle.vms_board_commands.specs.Scripts.{scripted}
 use Rattle.vms_cli.specs.Check.{checked, asks_shelf, CheckAnswers, Verdict}
 use Rattle.vms_cli.specs.Commands.{Asked, Show, Pack, Check, Save, Load, Drill, Play, asked_of}
 use Rattle.vms_cli.specs.Continuation.{Continuation}

@@ -1,5 +1,5 @@
 -- The command of the code, as what is asked.
-use Rattle.vms_outcome.specs.Asks.{set_asked}
+use Rattle.vms_commands.specs.Asks.{set_asked}
 use Rattle.vms_cli.specs.Commands as commands
 use Rattle.vms_cli.specs.declared.words.Command.{Command}
 use Rattle.vms_cli.specs.declared.words.Command.TheVariants.{Show, Pack, Check, Save, Load, Drill, Play}

@@ -3,14 +3,14 @@ use Rattle.std.specs.Prelude.{◌≡◌, ◌⊎◌, Bool, true, false, Option, S
 use Rattle.std.specs.Io.KnownBytes.{Keeps}
 use Rattle.vms_io.specs.Causes.{Rose}
 use Rattle.vms_io.specs.Told.{Intake, Outlet, Stock}
-use Rattle.vms_outcome.specs.declared.ending.Ending.{Ending}
-use Rattle.vms_outcome.specs.declared.ending.Ending.TheVariants.{Done, Refused, BadWords, BadText, NotCompatible, ReadFault, WriteFault, ShelfFault, NotThere, TooLarge, NoMemory}
-use Rattle.vms_outcome.specs.Endings.{SetCause}
-use Rattle.vms_outcome.specs.Fetching.{is_on_shelf, word_set}
-use Rattle.vms_outcome.specs.SetWords.{SetWord}
-use Rattle.vms_outcome.specs.Texts.{TextCauses}
-use Rattle.vms_boards.specs.Causes.{DrillCauses, LoadCauses, PlayCauses}
-use Rattle.vms_boards.specs.Scripts.{scripted}
+use Rattle.vms_commands.specs.declared.ending.Ending.{Ending}
+use Rattle.vms_commands.specs.declared.ending.Ending.TheVariants.{Done, Refused, BadWords, BadText, NotCompatible, ReadFault, WriteFault, ShelfFault, NotThere, TooLarge, NoMemory}
+use Rattle.vms_commands.specs.Endings.{SetCause}
+use Rattle.vms_commands.specs.Fetching.{is_on_shelf, word_set}
+use Rattle.vms_commands.specs.SetWords.{SetWord}
+use Rattle.vms_commands.specs.Texts.{TextCauses}
+use Rattle.vms_board_commands.specs.Causes.{DrillCauses, LoadCauses, PlayCauses}
+use Rattle.vms_board_commands.specs.Scripts.{scripted}
 use Rattle.vms_cli.specs.Check.{asks_shelf}
 use Rattle.vms_cli.specs.Commands.{Asked, Show, Pack, Check, Save, Load, Drill, Play}
 use Rattle.vms_cli.specs.Show.{GivesWithin, ShowHears}

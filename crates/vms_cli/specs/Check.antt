@@ -5,12 +5,12 @@ use Rattle.vms_io.specs.Shelves.{Held}
 use Rattle.vms_spec.specs.Sets.{Set}
 use Rattle.vms_check.specs.Comparing.{first_mismatch, Compatible}
 use Rattle.vms_check.specs.declared.mismatch.Mismatch.{Mismatch}
-use Rattle.vms_outcome.specs.SetWords.{SetWord}
+use Rattle.vms_commands.specs.SetWords.{SetWord}
 use Rattle.vms_cli.specs.Commands.{Asked, Check}
-use Rattle.vms_outcome.specs.Fetching.{named_sets, is_on_shelf}
-use Rattle.vms_outcome.specs.Outcomes.{Outside, OutFault, NotesFault, ShelfFault, WantsMemory, EndsBy}
-use Rattle.vms_outcome.specs.SetLines.{mismatch_line}
-use Rattle.vms_outcome.specs.Steps.{Step, Untold, Gives, Ends, next, Both}
+use Rattle.vms_commands.specs.Fetching.{named_sets, is_on_shelf}
+use Rattle.vms_commands.specs.Outcomes.{Outside, OutFault, NotesFault, ShelfFault, WantsMemory, EndsBy}
+use Rattle.vms_commands.specs.SetLines.{mismatch_line}
+use Rattle.vms_commands.specs.Steps.{Step, Untold, Gives, Ends, next, Both}
 
 abbrev pub compatible_text : List ℕ
 compatible_text = codes "compatible" ++ 10 ∷ []

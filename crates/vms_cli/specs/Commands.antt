@@ -6,7 +6,7 @@ use Rattle.vms_spec.specs.Spelling.{number_spelled}
 use Rattle.vms_script.specs.Names.{is_shelf_name}
 use Rattle.vms_script.specs.Views.{number_read}
 use Rattle.vms_script.specs.declared.line.ScriptReason.{ScriptReason}
-use Rattle.vms_outcome.specs.SetWords.{SetWord, set_word, shipped_number}
+use Rattle.vms_commands.specs.SetWords.{SetWord, set_word, shipped_number}
 
 -- prints the values text of a stream, writes the stream of a values text on the shelf, compares two sets, writes the stream of
 -- a board under a set after a script, lets a script go on from the board that a stream restores, drills a

@@ -3,10 +3,10 @@ use Rattle.std.specs.Prelude.{◌≡◌, ℕ, List, length, Option, None, Some}
 use Rattle.dev_board.specs.Saved.{MaySaveUnder}
 use Rattle.dev_board.specs.Sound.{IsSound}
 use Rattle.dev_board.specs.State.{State}
-use Rattle.vms_boards.specs.Scripts.{scripted}
-use Rattle.vms_outcome.specs.Outcomes.{Outcome, Outside, DoesOrStops, done}
-use Rattle.vms_outcome.specs.Steps.{Step, Untold, Gives, Ends}
-use Rattle.vms_play.specs.Events.{events_of, trace_from}
+use Rattle.vms_board_commands.specs.Scripts.{scripted}
+use Rattle.vms_commands.specs.Outcomes.{Outcome, Outside, DoesOrStops, done}
+use Rattle.vms_commands.specs.Steps.{Step, Untold, Gives, Ends}
+use Rattle.vms_session.specs.Events.{events_of, trace_from}
 use Rattle.vms_script.specs.Lines.{ScriptLine}
 use Rattle.vms_session.specs.Laws.{HasRoomFor, stream_with}
 use Rattle.vms_cli.specs.Commands.{Asked, Load}

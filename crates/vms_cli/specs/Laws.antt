@@ -7,13 +7,13 @@ use Rattle.vms_spec.specs.Images.{Image}
 use Rattle.vms_spec.specs.Numbers.{IsBytes}
 use Rattle.vms_spec.specs.Streams.{AreReady, is_one_of, written}
 use Rattle.vms_spec.specs.ValuesReading.{Values, values_read}
-use Rattle.vms_units.specs.Streams.{Takes}
+use Rattle.vms_stream.specs.Streams.{Takes}
 use Rattle.vms_cli.specs.Answers.{HasOutcome, Answers}
 use Rattle.vms_cli.specs.Commands.{Asked, Show, Pack, Check, Save, Load, Drill, Play, asked_of}
-use Rattle.vms_outcome.specs.Outcomes.{Outcome, DoesOrStops, done, text_of, Outside}
-use Rattle.vms_outcome.specs.Fetching.{longest_file, named_sets, word_set}
-use Rattle.vms_outcome.specs.SetWords.{SetWord}
-use Rattle.vms_outcome.specs.Steps.{Gives, Both}
+use Rattle.vms_commands.specs.Outcomes.{Outcome, DoesOrStops, done, text_of, Outside}
+use Rattle.vms_commands.specs.Fetching.{longest_file, named_sets, word_set}
+use Rattle.vms_commands.specs.SetWords.{SetWord}
+use Rattle.vms_commands.specs.Steps.{Gives, Both}
 use Rattle.vms_check.specs.Comparing.{Compatible}
 use Rattle.dev_board.specs.State.{State}
 use Rattle.vms_board.specs.Restoring.{Back, Restores}
@@ -21,7 +21,7 @@ use Rattle.vms_script.specs.Lines.{ScriptLine}
 use Rattle.vms_script.specs.Script.{script_read}
 use Rattle.dev_base.specs.Levels.{IsLevel}
 use Rattle.vms_session.specs.Laws.{HoldsAll}
-use Rattle.vms_boards.specs.Scripts.{longest_script}
+use Rattle.vms_board_commands.specs.Scripts.{longest_script}
 use Rattle.vms_cli.specs.Pack.{described_stream}
 use Rattle.vms_cli.specs.Upgrade.{IsWritten, shown_newer}
 use Rattle.vms_spec.specs.Sets.{Set}

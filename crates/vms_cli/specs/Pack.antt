@@ -6,9 +6,9 @@ use Rattle.vms_spec.specs.Sets.{Set}
 use Rattle.vms_spec.specs.Streams.{written}
 use Rattle.vms_spec.specs.ValuesReading.{ValuesRead, Values, Bad, values_read}
 use Rattle.vms_selfdesc.specs.Tree.{described_text}
-use Rattle.vms_outcome.specs.Fetching.{SetText, fetched, fetched_set, longest_file, set_in}
-use Rattle.vms_outcome.specs.SetWords.{SetWord}
-use Rattle.vms_outcome.specs.Steps.{Step, Gives, Ends, next}
+use Rattle.vms_commands.specs.Fetching.{SetText, fetched, fetched_set, longest_file, set_in}
+use Rattle.vms_commands.specs.SetWords.{SetWord}
+use Rattle.vms_commands.specs.Steps.{Step, Gives, Ends, next}
 use Rattle.vms_cli.specs.ValuesLines.{values_line}
 
 -- the stream of a machine, or none, and images, with their description behind it

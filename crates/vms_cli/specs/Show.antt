@@ -8,14 +8,14 @@ use Rattle.vms_spec.specs.Images.{Image}
 use Rattle.vms_spec.specs.Sets.{Set}
 use Rattle.vms_spec.specs.Values.{values_text}
 use Rattle.vms_spec.specs.WellFormed.{WellFormed}
-use Rattle.vms_units.specs.Faults.{Fault}
-use Rattle.vms_units.specs.Streams.{Takes}
+use Rattle.vms_stream.specs.Faults.{Fault}
+use Rattle.vms_stream.specs.Streams.{Takes}
 use Rattle.vms_load.specs.Staging.{most_given}
-use Rattle.vms_outcome.specs.Lines.{refused_line}
-use Rattle.vms_outcome.specs.Outcomes.{Outcome, done, ended, Outside, ReadFault, OutFault, NotesFault, ShelfFault, WantsMemory, EndsBefore, EndsBy}
-use Rattle.vms_outcome.specs.Steps.{Step, Untold, Gives, Ends, HasBy}
-use Rattle.vms_outcome.specs.declared.ending.Ending.{Ending}
-use Rattle.vms_boards.specs.Heard.{HearsBy, Refuses as RefusesBy, Takes as TakesBy}
+use Rattle.vms_commands.specs.Lines.{refused_line}
+use Rattle.vms_commands.specs.Outcomes.{Outcome, done, ended, Outside, ReadFault, OutFault, NotesFault, ShelfFault, WantsMemory, EndsBefore, EndsBy}
+use Rattle.vms_commands.specs.Steps.{Step, Untold, Gives, Ends, HasBy}
+use Rattle.vms_commands.specs.declared.ending.Ending.{Ending}
+use Rattle.vms_board_commands.specs.Heard.{HearsBy, Refuses as RefusesBy, Takes as TakesBy}
 
 -- the values text of the stream that the input takes, or where and why the input is refused, up to the end of the unit at
 -- fault; the shelf tells the same as before

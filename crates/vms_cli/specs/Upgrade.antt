@@ -7,9 +7,9 @@ use Rattle.vms_spec.specs.Values.{values_text}
 use Rattle.vms_spec.specs.WellFormed.{WellFormed}
 use Rattle.vms_check.specs.Comparing.{Compatible}
 use Rattle.vms_check.specs.Carrying.{carried}
-use Rattle.vms_outcome.specs.Fetching.{word_set}
-use Rattle.vms_outcome.specs.Outcomes.{Outcome, Outside, DoesOrStops, done}
-use Rattle.vms_outcome.specs.Steps.{Step, Untold, Gives, Ends}
+use Rattle.vms_commands.specs.Fetching.{word_set}
+use Rattle.vms_commands.specs.Outcomes.{Outcome, Outside, DoesOrStops, done}
+use Rattle.vms_commands.specs.Steps.{Step, Untold, Gives, Ends}
 use Rattle.vms_cli.specs.Commands.{Asked, Show}
 
 -- what an older set writes: ready images of it, with a machine of its own or none, and any description text that a stream may

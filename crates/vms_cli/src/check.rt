@@ -3,19 +3,19 @@ ghost use Rattle.std.specs.Prelude.{◌≡◌, ◌≤◌, ◌||◌, false};
 ghost use Rattle.vms_io.specs.Told.{outlet, stock};
 ghost use Rattle.vms_desc.specs.Described.{described};
 ghost use Rattle.vms_check.specs.Comparing.{first_mismatch};
-ghost use Rattle.vms_outcome.specs.Asks.{set_asked};
+ghost use Rattle.vms_commands.specs.Asks.{set_asked};
 ghost use Rattle.vms_cli.specs.Check.{asks_shelf, checked, compared, verdict};
 ghost use Rattle.vms_cli.specs.Causes.{CheckCause, CompareCause};
-ghost use Rattle.vms_outcome.specs.Fetching.{is_text, set_in, sets_in};
-ghost use Rattle.vms_outcome.specs.StepEndings.{TextEnds, text_of};
-ghost use Rattle.vms_outcome.specs.Steps.{next};
-ghost use Rattle.vms_outcome.specs.Texts.{TextContent};
+ghost use Rattle.vms_commands.specs.Fetching.{is_text, set_in, sets_in};
+ghost use Rattle.vms_commands.specs.StepEndings.{TextEnds, text_of};
+ghost use Rattle.vms_commands.specs.Steps.{next};
+ghost use Rattle.vms_commands.specs.Texts.{TextContent};
 
 use std::alloc::Global;
 use vms_check::Verdict;
+use vms_commands::{Ending, SetText, SetWord, fetch_set, mismatch_line, read_fetched};
 use vms_desc::DescSet;
 use vms_io::{Shelf, Sink, write_all_of};
-use vms_outcome::{Ending, SetText, SetWord, fetch_set, mismatch_line, read_fetched};
 
 pub(crate) fn check<O: Sink, H: Shelf>(
     alloc: Global,

@@ -6,18 +6,18 @@ ghost use Rattle.vms_spec.specs.Values.{values_text};
 ghost use Rattle.vms_load.specs.Kept.{loads, kept};
 ghost use Rattle.vms_load.specs.Staging.{most_given};
 ghost use Rattle.vms_values.specs.Printing.{machine_of};
-ghost use Rattle.vms_outcome.specs.Asks.{set_asked};
-ghost use Rattle.vms_outcome.specs.Endings.{EndsAs, WritesAs};
+ghost use Rattle.vms_commands.specs.Asks.{set_asked};
+ghost use Rattle.vms_commands.specs.Endings.{EndsAs, WritesAs};
 ghost use Rattle.vms_cli.specs.Causes.{ShowCause, StreamCause};
-ghost use Rattle.vms_outcome.specs.Fetching.{is_on_shelf, word_set};
-ghost use Rattle.vms_outcome.specs.Outcomes.{Outcome};
-ghost use Rattle.vms_boards.specs.Heard.{HearsEnd};
+ghost use Rattle.vms_commands.specs.Fetching.{is_on_shelf, word_set};
+ghost use Rattle.vms_commands.specs.Outcomes.{Outcome};
+ghost use Rattle.vms_board_commands.specs.Heard.{HearsEnd};
 ghost use Rattle.vms_cli.specs.Show.{GivesWithin, ShowHears, Shows, ShowsBy, ShowsWell};
 
 use std::alloc::Global;
+use vms_commands::{Ending, SetWord, loader_of, refused_line};
 use vms_io::{Shelf, Sink, Source};
 use vms_load::{LoadFault, Loader};
-use vms_outcome::{Ending, SetWord, loader_of, refused_line};
 use vms_values::print_values;
 
 pub(crate) fn show<I: Source, O: Sink, H: Shelf>(

@@ -3,18 +3,18 @@ ghost use Rattle.std.specs.Prelude.{◌≡◌, ◌≤◌};
 ghost use Rattle.vms_io.specs.Told.{intake, outlet, stock};
 ghost use Rattle.vms_cli.specs.Answers.{HasOutcome, Answers};
 ghost use Rattle.vms_cli.specs.Commands.{asked_of};
-ghost use Rattle.vms_outcome.specs.Endings.{EndsAs, Tells};
+ghost use Rattle.vms_commands.specs.Endings.{EndsAs, Tells};
 ghost use Rattle.vms_cli.specs.Causes.{EndsCause};
-ghost use Rattle.vms_outcome.specs.Outcomes.{Outcome};
+ghost use Rattle.vms_commands.specs.Outcomes.{Outcome};
 
 use crate::check::check;
 use crate::pack::pack;
 use crate::show::show;
 use crate::{Command, Words};
 use std::alloc::Global;
-use vms_boards::{drill_board, load_board, play_board, save_board};
+use vms_board_commands::{drill_board, load_board, play_board, save_board};
+use vms_commands::Ending;
 use vms_io::{Shelf, Sink, Source, write_all_of};
-use vms_outcome::Ending;
 
 /// Runs the command that the words name over the input, out, notes and the shelf, and answers the status.
 ///

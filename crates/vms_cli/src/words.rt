@@ -2,7 +2,7 @@
 ghost use Rattle.std.specs.Prelude.{◌≡◌, ◌∷◌, ◌++◌, [], OnOk, OnErr, Some, None, codes, if◌then◌else◌};
 ghost use Rattle.std.specs.Str.{bytes_eq};
 ghost use Rattle.std.specs.Option.{option_map};
-ghost use Rattle.vms_outcome.specs.SetWords.{set_word, shipped_number};
+ghost use Rattle.vms_commands.specs.SetWords.{set_word, shipped_number};
 ghost use Rattle.vms_cli.specs.Asks.{asked};
 ghost use Rattle.vms_cli.specs.Commands.{asked_of, board_level, check_of, drill_of, few_events, number_word, on_board, pack_of, pair_of, save_of, show_of, triple_of};
 
@@ -10,9 +10,9 @@ use crate::board_words::{board_word, events_word, number_word};
 use crate::boards::BoardWord;
 use std::alloc::Global;
 use std::marker::Model;
-use vms_boards::{OnBoard, Saving};
+use vms_board_commands::{OnBoard, Saving};
+use vms_commands::{SetWord, set_word, shipped_set};
 use vms_io::NoMemory;
-use vms_outcome::{SetWord, set_word, shipped_set};
 use vms_script::is_shelf_name;
 
 /// What the words ask for.

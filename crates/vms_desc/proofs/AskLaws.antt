@@ -1,12 +1,12 @@
 -- What tests and counts of a well-formed set ask is there, and what it says is what the definition says.
 use Rattle.std.proofs.Common.{◌≡◌, ℕ, zero, suc, ◌+◌, ◌<◌, ◌≤◌, List, [], ◌∷◌, length, length-append, get_or, map, Option, Some, None, refl, sym, ap, ◌∙◌, subst, arith, Bool, true, ◌&&◌, ℤ}
-use Rattle.std.specs.List.{flat_map}
+use Rattle.std.specs.List.{flat_map, slice_get, list_all}
 use Rattle.std.proofs.lemmas.Bool.{and_parts}
+use Rattle.vms_spec.specs.declared.TheConstants.{MOST_ITEMS}
 use Rattle.vms_spec.specs.declared.Count.TheVariants.{Counted}
 use Rattle.vms_spec.specs.declared.Whose.TheVariants.{Own, Parent}
 use Rattle.vms_spec.specs.declared.Part.{Part}
 use Rattle.vms_spec.specs.declared.Part.TheVariants as parts
-use Rattle.vms_spec.specs.Lists.{at, every}
 use Rattle.vms_spec.specs.Sets.{Formula, AtLeast, Below, Cell, Not, And, Or, Field, Desc, Sub, Device, Set}
 use Rattle.vms_spec.specs.Tests.{truth}
 use Rattle.vms_spec.specs.Images.{own_cells, sub_place}
@@ -34,7 +34,7 @@ use Rattle.vms_desc.proofs.EvalParts.{own_number}
 -- ---- what tests name
 
 steady_number : (d : Desc) (j : ℕ) → is_steady_in d j ≡ true → is_number_in d.fields j ≡ true
-steady_number d j e = by_field (at d.fields j) e
+steady_number d j e = by_field (slice_get d.fields j) e
   where
     by_field : (o : Option Field) → is_steady d.minimum o ≡ true → is_number o ≡ true
     by_field None e = cc
@@ -59,11 +59,11 @@ names_more own more parent others h i (Or s t) e =
 earlier_number : (d : Desc) (k j : ℕ) → is_earlier_in d k j ≡ true → is_number_in d.fields j ≡ true
 earlier_number d k j e = steady_number d j (and_parts _ (is_steady_in d j) e).1
 
-every_more : (own more parent : ℕ → Bool) → ((j : ℕ) → own j ≡ true → more j ≡ true) → (ts : List Formula) → every (names_well own parent) ts ≡ true → every (names_well more parent) ts ≡ true
+every_more : (own more parent : ℕ → Bool) → ((j : ℕ) → own j ≡ true → more j ≡ true) → (ts : List Formula) → list_all (names_well own parent) ts ≡ true → list_all (names_well more parent) ts ≡ true
 every_more own more parent h [] e = refl
 every_more own more parent h (t ∷ ts) e =
-    let p = and_parts (names_well own parent t) (every (names_well own parent) ts) e in
-    ap (λ (b : Bool). b && every (names_well more parent) ts) (names_more own more parent parent h (λ j x. x) t p.0) ∙ every_more own more parent h ts p.1
+    let p = and_parts (names_well own parent t) (list_all (names_well own parent) ts) e in
+    ap (λ (b : Bool). b && list_all (names_well more parent) ts) (names_more own more parent parent h (λ j x. x) t p.0) ∙ every_more own more parent h ts p.1
 
 test_names : (d : Desc) (k : ℕ) (test : Option Formula) (t : Formula) → test ≡ Some t → test_names_well d k test ≡ true → names_well (is_number_in d.fields) nobody t ≡ true
 test_names d k None t is e = cc
@@ -86,14 +86,14 @@ module _ (set : Set) (well : is_well_formed set ≡ true) where
   field_counts part h k lt f fs by most is own e =
       let d = desc_at set part in
       let c : count_names_well d k (Counted by most) ≡ true = ap (count_names_well d k) (sym is) ∙ ap (λ (g : Field). count_names_well d k g.count) fs ∙ (field_clean set well part h k lt).count in
-      ap (λ (l : List Field). is_number_in l by) e ∙ earlier_number d k by (and_parts (is_earlier_in d k by) (is_counting (at d.fields by)) c).0
+      ap (λ (l : List Field). is_number_in l by) e ∙ earlier_number d k by (and_parts (is_earlier_in d k by) (is_counting (slice_get d.fields by)) c).0
 
   -- the validations
   pub rules_name : (part : Part) → HasPart set part → (own : Scope) → fields_in own ≡ (desc_at set part).fields → (ts : List Formula) → ts ≡ (desc_at set part).validate
-      → every (names_well (is_number_in (fields_in own)) nobody) ts ≡ true
+      → list_all (names_well (is_number_in (fields_in own)) nobody) ts ≡ true
   rules_name part h own e ts is =
       let d = desc_at set part in
-      ap (λ (l : List Field). every (names_well (is_number_in l) nobody) ts) e ∙ ap (every (names_well (is_number_in d.fields) nobody)) is
+      ap (λ (l : List Field). list_all (names_well (is_number_in l) nobody) ts) e ∙ ap (list_all (names_well (is_number_in d.fields) nobody)) is
       ∙ every_more (is_steady_in d) (is_number_in d.fields) nobody (steady_number d) d.validate (validate_clean set well part h)
 
   -- a needed test
@@ -126,7 +126,7 @@ all_hold_same [] v own now h = refl
 all_hold_same (t ∷ ts) v own now h =
     ap (λ (b : Bool). b && all_hold ts v own) (truth_same t v own now no_parent no_parent h (λ k. refl)) ∙ ap (λ (b : Bool). truth t v now no_parent && b) (all_hold_same ts v own now h)
 
-module _ (set : Set) (part : Part) (base : ℕ) (own : Scope) (numbers : List ℤ) (s : IsScope set (desc_at set part) base own) (few : length numbers ≤ 16384) (room : HasCells set part numbers base) where
+module _ (set : Set) (part : Part) (base : ℕ) (own : Scope) (numbers : List ℤ) (s : IsScope set (desc_at set part) base own) (few : length numbers ≤ MOST_ITEMS) (room : HasCells set part numbers base) where
   pub same_number : (k : ℕ) → number_of numbers own k ≡ own_numbers set part numbers base k
   same_number k = own_number set (desc_at set part) base own numbers s few room k
 
@@ -180,7 +180,7 @@ own_inside_device set i =
     let d = device_at set i in
     omega (arith, length-append (desc_cells (struct_cells set) d.desc) (flat_map (λ s. desc_cells (struct_cells set) s.desc) d.subs))
 
-pub few_cells : (set : Set) → is_well_formed set ≡ true → (i : ℕ) → length (device_cells set (device_at set i)) ≤ 16384
+pub few_cells : (set : Set) → is_well_formed set ≡ true → (i : ℕ) → length (device_cells set (device_at set i)) ≤ MOST_ITEMS
 few_cells set well i =
     let here : get_or (layout_of set) i [] ≡ map form_of (device_cells set (device_at set i)) = get_or-map (λ d. map form_of (device_cells set d)) set.devices i (record { instance = 0; desc = no_desc; subs = [] }) in
     omega (arith, small_layout set well i, ap length here, length-map (device_cells set (device_at set i)) form_of)

@@ -6,6 +6,7 @@ use Rattle.std.proofs.lemmas.List.{length-map}
 use Rattle.std.proofs.lemmas.Simd.{map-map}
 use Rattle.vms_kinds.specs.declared.Item.{Item}
 use Rattle.vms_kinds.specs.declared.Item.TheVariants.{Num, Equal, Unused, Struct}
+use Rattle.vms_spec.specs.declared.TheConstants.{MOST_ITEMS}
 use Rattle.vms_spec.specs.declared.Part.TheVariants as parts
 use Rattle.vms_spec.specs.Lists.{or_else, first_answer}
 use Rattle.vms_spec.specs.Sets.{Field, Desc, Sub, Device, Set}
@@ -45,10 +46,10 @@ few_devices set h =
     let b = c.first.1.1.1.1.1.1.0 in
     leb-true (length set.devices) 64 (and_parts (nat_le (length set.machines) 16 && nat_le (length set.structs) 64) (nat_le (length set.devices) 64) b).1
 
-pub few_items : (set : Set) → is_well_formed set ≡ true → devices_items (struct_items set.structs) set.devices ≤ 16384
+pub few_items : (set : Set) → is_well_formed set ≡ true → devices_items (struct_items set.structs) set.devices ≤ MOST_ITEMS
 few_items set h =
     let c = set_clean set h in
-    leb-true (devices_items (struct_items set.structs) set.devices) 16384 c.last.1.1.1.1.1.1.0
+    leb-true (devices_items (struct_items set.structs) set.devices) MOST_ITEMS c.last.1.1.1.1.1.1.0
 
 -- ---- there are no more cells than items
 
@@ -132,7 +133,7 @@ devices_less set [] k = omega arith
 devices_less set (d ∷ devices) zero = omega (arith, length-map (device_cells set d) form_of, device_less set d)
 devices_less set (d ∷ devices) (suc k) = omega (arith, devices_less set devices k)
 
-pub small_layout : (set : Set) → is_well_formed set ≡ true → (k : ℕ) → length (get_or (layout_of set) k []) ≤ 16384
+pub small_layout : (set : Set) → is_well_formed set ≡ true → (k : ℕ) → length (get_or (layout_of set) k []) ≤ MOST_ITEMS
 small_layout set h k = omega (arith, few_items set h, devices_less set set.devices k)
 
 pub sizes_are : (set : Set) → map in_u32 (sizes_to Cells set.structs (length set.structs)) ≡ map (λ cells. in_u32 (length cells)) (struct_cells set)

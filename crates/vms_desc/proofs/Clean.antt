@@ -1,5 +1,6 @@
 -- What a well-formed set has, part by part.
 use Rattle.std.proofs.Common.{◌≡◌, ℕ, suc, ◌+◌, ◌<◌, ◌≤◌, List, [], ◌∷◌, length, get_or, None, refl, ap, ◌∙◌, subst, arith, Bool, true, false, ◌&&◌, nat_le}
+use Rattle.std.specs.List.{list_all}
 use Rattle.std.proofs.lemmas.Bool.{leb-true}
 use Rattle.vms_kinds.specs.declared.Item.{Item}
 use Rattle.vms_kinds.specs.declared.Item.TheVariants.{Num, Equal, Unused, Struct}
@@ -7,7 +8,7 @@ use Rattle.vms_spec.specs.declared.Count.{Count}
 use Rattle.vms_spec.specs.declared.Count.TheVariants.{One, Fixed, Counted}
 use Rattle.vms_spec.specs.declared.Part.{Part}
 use Rattle.vms_spec.specs.declared.Part.TheVariants as parts
-use Rattle.vms_spec.specs.Lists.{every, or_else, first_answer}
+use Rattle.vms_spec.specs.Lists.{or_else, first_answer}
 use Rattle.vms_spec.specs.Sets.{Formula, AtLeast, Field, Desc, Set}
 use Rattle.vms_spec.specs.Layout.{capacity_of, no_desc, no_field}
 use Rattle.vms_spec.specs.Names.{is_name, is_name_byte}
@@ -33,7 +34,7 @@ pub record IsCleanField (k : ℕ) (d : Desc) (i : ℕ) (f : Field) : Type 0 wher
 pub record IsClean (k : ℕ) (d : Desc) (rules : List Bool) : Type 0 where
   pub own : AllTrue rules
   pub fields : (i : ℕ) → i < length d.fields → IsCleanField k d i (get_or d.fields i no_field)
-  pub validate : every (names_well (is_steady_in d) nobody) d.validate ≡ true
+  pub validate : list_all (names_well (is_steady_in d) nobody) d.validate ≡ true
 
 some_elements : (item : Item) (count : Count) → has_good_count item count ≡ true → 1 ≤ capacity_of count
 some_elements item One e = omega arith
@@ -53,7 +54,7 @@ both_parts false count e = cc
 short_name : (most : ℕ) (name : List ℕ) (others : Bool) → is_name most name && others ≡ true → length name ≤ most
 short_name most name others e =
     let rules = (both_parts (is_name most name) others e).0 in
-    let long = (both_parts (nat_le 1 (length name) && nat_le (length name) most) (every is_name_byte name) rules).0 in
+    let long = (both_parts (nat_le 1 (length name) && nat_le (length name) most) (list_all is_name_byte name) rules).0 in
     leb-true (length name) most (both_parts (nat_le 1 (length name)) (nat_le (length name) most) long).1
 
 clean_field : (k : ℕ) (d : Desc) (part : Part) (i : ℕ) (f : Field) → failing 1 (field_rules k d i f) (in_field part i) ≡ None → IsCleanField k d i f
@@ -65,15 +66,15 @@ clean_field k d part i f e =
       count = names.1;
       uses = rules.1.1.1.1.0;
       some = some_elements f.item f.count rules.1.1.1.1.1.1.1.0;
-      name = short_name 32 f.name (every (is_name 32) f.former) rules.0;
+      name = short_name 32 f.name (list_all (is_name 32) f.former) rules.0;
     }
 
-clean_validations : (d : Desc) (part : Part) (i : ℕ) (ts : List Formula) → first_answer (λ i t. failing 1 (validation_rules d t) (here part)) i ts ≡ None → every (names_well (is_steady_in d) nobody) ts ≡ true
+clean_validations : (d : Desc) (part : Part) (i : ℕ) (ts : List Formula) → first_answer (λ i t. failing 1 (validation_rules d t) (here part)) i ts ≡ None → list_all (names_well (is_steady_in d) nobody) ts ≡ true
 clean_validations d part i [] e = refl
 clean_validations d part i (t ∷ ts) e =
     let p = or_else_none (failing 1 (validation_rules d t) (here part)) (first_answer (λ i t. failing 1 (validation_rules d t) (here part)) (suc i) ts) e in
     let rules = all_true 1 (validation_rules d t) (here part) p.0 in
-    ap (λ (b : Bool). b && every (names_well (is_steady_in d) nobody) ts) rules.1.1.1.0 ∙ clean_validations d part (suc i) ts p.1
+    ap (λ (b : Bool). b && list_all (names_well (is_steady_in d) nobody) ts) rules.1.1.1.0 ∙ clean_validations d part (suc i) ts p.1
 
 clean : (k : ℕ) (d : Desc) (part : Part) (rules : List Bool) → desc_fault k d part rules ≡ None → IsClean k d rules
 clean k d part rules e =
@@ -152,7 +153,7 @@ module _ (set : Set) (well : is_well_formed set ≡ true) where
   field_clean (parts.Device k) h i lt = (device_clean k h).fields i lt
   field_clean (parts.Sub k j) h i lt = (sub_clean k j h.0 h.1).fields i lt
 
-  pub validate_clean : (part : Part) → HasPart set part → every (names_well (is_steady_in (desc_at set part)) nobody) (desc_at set part).validate ≡ true
+  pub validate_clean : (part : Part) → HasPart set part → list_all (names_well (is_steady_in (desc_at set part)) nobody) (desc_at set part).validate ≡ true
   validate_clean parts.Set h = absurd h
   validate_clean (parts.Struct j) h = (struct_clean j h).validate
   validate_clean (parts.Device k) h = (device_clean k h).validate

@@ -4,6 +4,7 @@ use Rattle.std.proofs.lemmas.Bool.{leb-true, leb-false}
 use Rattle.std.proofs.lemmas.List.{take_all}
 use Rattle.std.proofs.lemmas.Simd.{map-map}
 use Rattle.vms_kinds.specs.Codes.{width, residue}
+use Rattle.vms_spec.specs.declared.TheConstants.{MOST_ITEMS}
 use Rattle.vms_spec.specs.declared.Whose.TheVariants.{Own, Parent}
 use Rattle.vms_spec.specs.Sets.{Formula, AtLeast, Below, Cell, Not, And, Or, Field, Desc, Set}
 use Rattle.vms_spec.specs.Tests.{truth, compares}
@@ -57,14 +58,14 @@ take_min k xs = by_test (nat_le k (length xs)) refl
         take_all (min k (length xs)) xs (omega arith) ∙ sym (take_all k xs (omega arith))
 
 -- sizes that end at 2 ^ 32 - 1 serve where there are few cells
-pub exact : (cs : List (List OneCell)) (fs : List Field) → fields_size Cells (map length cs) fs ≤ 16384
+pub exact : (cs : List (List OneCell)) (fs : List Field) → fields_size Cells (map length cs) fs ≤ MOST_ITEMS
     → fields_size Cells (map (λ cells. in_u32 (length cells)) cs) fs ≡ fields_size Cells (map length cs) fs
 exact cs fs few =
     let e : in_u32 (fields_size Cells (map in_u32 (map length cs)) fs) ≡ in_u32 (fields_size Cells (map length cs) fs) = capped_fields Cells (map length cs) fs in
     let m : fields_size Cells (map in_u32 (map length cs)) fs ≡ fields_size Cells (map (λ cells. in_u32 (length cells)) cs) fs = ap (λ (l : List ℕ). fields_size Cells l fs) (map-map in_u32 length cs) in
     omega (arith, e, m, few)
 
-module _ (set : Set) (d : Desc) (few : length (desc_cells (struct_cells set) d) ≤ 16384) where
+module _ (set : Set) (d : Desc) (few : length (desc_cells (struct_cells set) d) ≤ MOST_ITEMS) where
   pub inside_is : fields_size Cells (sizes_of set) d.fields ≡ length (desc_cells (struct_cells set) d)
   inside_is =
       let c = cells_size (struct_cells set) d.fields 0 d.fields in

@@ -1,5 +1,6 @@
 -- What a test asks of a part and of its device.
 use Rattle.std.proofs.Common.{◌≡◌, ℕ, ◌+◌, ◌<◌, ◌≤◌, List, length, refl, sym, ap, ◌∙◌, arith, subst, Bool, true, Option, Some, None, ℤ}
+use Rattle.vms_spec.specs.declared.TheConstants.{MOST_ITEMS}
 use Rattle.vms_spec.specs.declared.Part.{Part}
 use Rattle.vms_spec.specs.declared.Part.TheVariants as parts
 use Rattle.vms_spec.specs.Rules.{names_well}
@@ -29,8 +30,8 @@ placed set part base own parent t s p h =
     ap (λ (fs : List Field). names_well (is_number_in fs) (may_ask_parent parent) t) s.fields
     ∙ ap (λ (f : ℕ → Bool). names_well (is_number_in (desc_at set part).fields) f t) (parent_asked set part parent p) ∙ h
 
-module _ (set : Set) (d : Desc) (base : ℕ) (own : Scope) (numbers : List ℤ) (s : IsScope set d base own) (few : length numbers ≤ 16384) (room : base + length (desc_cells (struct_cells set) d) ≤ length numbers) where
-  small : length (desc_cells (struct_cells set) d) ≤ 16384
+module _ (set : Set) (d : Desc) (base : ℕ) (own : Scope) (numbers : List ℤ) (s : IsScope set d base own) (few : length numbers ≤ MOST_ITEMS) (room : base + length (desc_cells (struct_cells set) d) ≤ length numbers) where
+  small : length (desc_cells (struct_cells set) d) ≤ MOST_ITEMS
   small = omega arith
 
   pub own_inside : IsInside numbers own
@@ -53,7 +54,7 @@ module _ (set : Set) (d : Desc) (base : ℕ) (own : Scope) (numbers : List ℤ) 
 zero_first : (n m : ℕ) → n ≤ m → 0 + n ≤ m
 zero_first n m le = omega arith
 
-pub parent_inside : (set : Set) (part : Part) (parent : Option Scope) (numbers : List ℤ) → IsParent set part parent → length numbers ≤ 16384 → HasParentCells set part (length numbers) → IsInsideParent numbers parent
+pub parent_inside : (set : Set) (part : Part) (parent : Option Scope) (numbers : List ℤ) → IsParent set part parent → length numbers ≤ MOST_ITEMS → HasParentCells set part (length numbers) → IsInsideParent numbers parent
 parent_inside set part None numbers p few h = tt
 parent_inside set parts.Set (Some s) numbers p few h = absurd p
 parent_inside set (parts.Struct j) (Some s) numbers p few h = absurd p
@@ -61,7 +62,7 @@ parent_inside set (parts.Device i) (Some s) numbers p few h = absurd p
 parent_inside set (parts.Sub i j) (Some s) numbers p few h =
     own_inside set (device_at set i).desc 0 s numbers p few (zero_first (length (desc_cells (struct_cells set) (device_at set i).desc)) (length numbers) h)
 
-parent_number : (set : Set) (part : Part) (parent : Option Scope) (numbers : List ℤ) → IsParent set part parent → length numbers ≤ 16384 → HasParentCells set part (length numbers)
+parent_number : (set : Set) (part : Part) (parent : Option Scope) (numbers : List ℤ) → IsParent set part parent → length numbers ≤ MOST_ITEMS → HasParentCells set part (length numbers)
     → (k : ℕ) → number_of_parent numbers parent k ≡ parent_of set part numbers k
 parent_number set parts.Set None numbers p few h k = refl
 parent_number set (parts.Struct j) None numbers p few h k = refl
@@ -74,7 +75,7 @@ parent_number set (parts.Sub i j) (Some s) numbers p few h k =
     own_number set (device_at set i).desc 0 s numbers p few (zero_first (length (desc_cells (struct_cells set) (device_at set i).desc)) (length numbers) h) k
 
 pub truth_is : (set : Set) (part : Part) (base : ℕ) (own : Scope) (parent : Option Scope) (numbers : List ℤ) (t : Formula) (v : ℕ) → IsScope set (desc_at set part) base own → IsParent set part parent
-    → length numbers ≤ 16384 → base + length (desc_cells (struct_cells set) (desc_at set part)) ≤ length numbers → HasParentCells set part (length numbers)
+    → length numbers ≤ MOST_ITEMS → base + length (desc_cells (struct_cells set) (desc_at set part)) ≤ length numbers → HasParentCells set part (length numbers)
     → truth t v (number_of numbers own) (number_of_parent numbers parent) ≡ truth t v (numbers_of (struct_cells set) (desc_at set part) numbers base) (parent_of set part numbers)
 truth_is set part base own parent numbers t v s p few room h =
     truth_same t v (number_of numbers own) (numbers_of (struct_cells set) (desc_at set part) numbers base) (number_of_parent numbers parent) (parent_of set part numbers)

@@ -1,9 +1,9 @@
 -- Where paths begin.
 use Rattle.std.proofs.Common.{◌≡◌, ℕ, zero, suc, ◌+◌, ◌≤◌, List, [], ◌∷◌, length, length-append, get_or, take, map, refl, sym, ap, ◌∙◌, arith, Option, Some, None}
-use Rattle.std.specs.List.{flat_map}
+use Rattle.std.specs.List.{flat_map, slice_get}
 use Rattle.std.proofs.lemmas.List.{length-map}
 use Rattle.std.proofs.lemmas.Simd.{map-map}
-use Rattle.vms_spec.specs.Lists.{at}
+use Rattle.vms_spec.specs.declared.TheConstants.{MOST_ITEMS}
 use Rattle.vms_spec.specs.Sets as sets
 use Rattle.vms_spec.specs.Layout.{Cell, first, desc_cells, struct_cells, device_cells}
 use Rattle.vms_spec.specs.Images.{sub_place, own_cells}
@@ -31,7 +31,7 @@ subs_less sizes [] (suc j) = omega arith
 subs_less sizes (s ∷ subs) zero = omega arith
 subs_less sizes (s ∷ subs) (suc j) = omega (arith, subs_less sizes subs j)
 
-sub_room : (sizes : List ℕ) (subs : List sets.Sub) (j : ℕ) (s : sets.Sub) → at subs j ≡ Some s → subs_size Cells sizes (take j subs) + fields_size Cells sizes s.desc.fields ≤ subs_size Cells sizes subs
+sub_room : (sizes : List ℕ) (subs : List sets.Sub) (j : ℕ) (s : sets.Sub) → slice_get subs j ≡ Some s → subs_size Cells sizes (take j subs) + fields_size Cells sizes s.desc.fields ≤ subs_size Cells sizes subs
 sub_room sizes [] j s e = cc
 sub_room sizes (r ∷ subs) zero s e =
     let same : r ≡ s = cc in
@@ -65,11 +65,11 @@ pub nowhere : (set : sets.Set) (path : List (ℕ × ℕ)) (below base : ℕ) →
 nowhere set [] below base = refl
 nowhere set (step ∷ path) below base = refl
 
-module _ (set : sets.Set) (d : sets.Device) (few : length (device_cells set d) ≤ 16384) where
+module _ (set : sets.Set) (d : sets.Device) (few : length (device_cells set d) ≤ MOST_ITEMS) where
   abbrev lengths : List ℕ
   lengths = map length (struct_cells set)
 
-  all_few : fields_size Cells lengths d.desc.fields + subs_size Cells lengths d.subs ≤ 16384
+  all_few : fields_size Cells lengths d.desc.fields + subs_size Cells lengths d.subs ≤ MOST_ITEMS
   all_few =
       omega (
         arith,
@@ -89,7 +89,7 @@ module _ (set : sets.Set) (d : sets.Device) (few : length (device_cells set d) �
       ap (λ (l : List ℕ). in_u32 (subs_size Cells l (take j d.subs))) capped ∙ capped_subs Cells lengths (take j d.subs) in
       omega (arith, own, before, all_few, subs_less lengths d.subs j, place_of_sub set (own_cells set d) d.subs j, cells_size (struct_cells set) d.desc.fields 0 d.desc.fields)
 
-  sub_has_room : (j : ℕ) (e : sets.Desc) (o : Option sets.Sub) → at d.subs j ≡ o → desc_of_sub o ≡ Some e → base_of set d (Some j) + length (desc_cells (struct_cells set) e) ≤ 16384
+  sub_has_room : (j : ℕ) (e : sets.Desc) (o : Option sets.Sub) → slice_get d.subs j ≡ o → desc_of_sub o ≡ Some e → base_of set d (Some j) + length (desc_cells (struct_cells set) e) ≤ MOST_ITEMS
   sub_has_room j e None there is = cc
   sub_has_room j e (Some s) there is =
       let same : s.desc ≡ e = cc in
@@ -104,12 +104,12 @@ module _ (set : sets.Set) (d : sets.Device) (few : length (device_cells set d) �
         cells_size (struct_cells set) s.desc.fields 0 s.desc.fields,
       )
 
-  has_room : (part : Option ℕ) (e : sets.Desc) → begin_desc d part ≡ Some e → base_of set d part + length (desc_cells (struct_cells set) e) ≤ 16384
+  has_room : (part : Option ℕ) (e : sets.Desc) → begin_desc d part ≡ Some e → base_of set d part + length (desc_cells (struct_cells set) e) ≤ MOST_ITEMS
   has_room None e is =
       let same : d.desc ≡ e = cc in
       let size : length (desc_cells (struct_cells set) d.desc) ≡ length (desc_cells (struct_cells set) e) = ap (λ (x : sets.Desc). length (desc_cells (struct_cells set) x)) same in
       omega (arith, size, all_few, cells_size (struct_cells set) d.desc.fields 0 d.desc.fields)
-  has_room (Some j) e is = sub_has_room j e (at d.subs j) refl is
+  has_room (Some j) e is = sub_has_room j e (slice_get d.subs j) refl is
 
   pub begins_placed : (part : Option ℕ) (p : Placed) → Begins (sizes_of set) d part p → IsPlaced set p
   begins_placed part p begins =
@@ -123,12 +123,12 @@ module _ (set : sets.Set) (d : sets.Device) (few : length (device_cells set d) �
         room = omega (arith, base, cells, has_room part (desc_of p.desc.now) begins.desc);
       }
 
-get_there : {X Y : Type 0} (g : X → Y) (xs : List X) (i : ℕ) (x : X) (d : Y) → at xs i ≡ Some x → get_or (map g xs) i d ≡ g x
+get_there : {X Y : Type 0} (g : X → Y) (xs : List X) (i : ℕ) (x : X) (d : Y) → slice_get xs i ≡ Some x → get_or (map g xs) i d ≡ g x
 get_there g [] i x d e = cc
 get_there g (y ∷ xs) zero x d e = let same : y ≡ x = cc in ap g same
 get_there g (y ∷ xs) (suc i) x d e = get_there g xs i x d e
 
-pub few_of_device : (set : sets.Set) (k : ℕ) (d : sets.Device) → at set.devices k ≡ Some d → length (get_or (layout_of set) k []) ≤ 16384 → length (device_cells set d) ≤ 16384
+pub few_of_device : (set : sets.Set) (k : ℕ) (d : sets.Device) → slice_get set.devices k ≡ Some d → length (get_or (layout_of set) k []) ≤ MOST_ITEMS → length (device_cells set d) ≤ MOST_ITEMS
 few_of_device set k d there few =
     let forms : length (get_or (layout_of set) k []) ≡ length (map form_of (device_cells set d)) = ap length (get_there (λ d. map form_of (device_cells set d)) set.devices k d [] there) in
     omega (arith, few, forms, length-map (device_cells set d) form_of)

@@ -1,13 +1,14 @@
 -- The cell of a path by the sizes of structures.
 use Rattle.std.proofs.Common.{◌≡◌, ℕ, zero, suc, ◌+◌, ◌*◌, ◌<◌, ◌≤◌, List, [], ◌∷◌, length, length-take-le, get_or, take, map, refl, sym, ap, subst, ◌∙◌, arith, Bool, true, false, Option, Some, None}
 use Rattle.std.specs.Prelude.{nat_lt, nat_le, if◌then◌else◌}
+use Rattle.std.specs.List.{slice_get}
 use Rattle.std.proofs.lemmas.Bool.{ltb-true, lt-ltb, leb-true, leb-false}
 use Rattle.std.proofs.lemmas.List.{take_all, take-append-le, take-map}
 use Rattle.std.proofs.Math.ListN.{get_or-map}
 use Rattle.vms_kinds.specs.declared.Kind.{Kind}
 use Rattle.vms_kinds.specs.declared.Item.{Item}
 use Rattle.vms_kinds.specs.declared.Item.TheVariants.{Num, Equal, Unused, Struct}
-use Rattle.vms_spec.specs.Lists.{at}
+use Rattle.vms_spec.specs.declared.TheConstants.{MOST_ITEMS}
 use Rattle.vms_spec.specs.Sets as sets
 use Rattle.vms_spec.specs.Layout.{Cell, first, no_desc, capacity_of, place_of, item_size, desc_cells}
 use Rattle.vms_spec.specs.Places.{item_at, element_at, path_at}
@@ -24,12 +25,12 @@ use Rattle.vms_desc.proofs.EvalLaws.{place_is, take_less, exact}
 
 -- ---- one element
 
-pub at_there : {X Y : Type 0} (g : X → Y) (xs : List X) (i : ℕ) (x : X) → i < length xs → x ≡ get_or xs i x → at (map g xs) i ≡ Some (g x)
+pub at_there : {X Y : Type 0} (g : X → Y) (xs : List X) (i : ℕ) (x : X) → i < length xs → x ≡ get_or xs i x → slice_get (map g xs) i ≡ Some (g x)
 at_there g [] i x lt is = absurd (omega arith)
 at_there g (y ∷ xs) zero x lt is = ap (λ z. Some (g z)) (sym is)
 at_there g (y ∷ xs) (suc i) x lt is = at_there g xs i x (omega arith) is
 
-field_room : (sizes : List ℕ) (fs : List sets.Field) (i : ℕ) (f : sets.Field) → at fs i ≡ Some f
+field_room : (sizes : List ℕ) (fs : List sets.Field) (i : ℕ) (f : sets.Field) → slice_get fs i ≡ Some f
     → fields_size Cells sizes (take i fs) + capacity_of f.count * size_of Cells sizes f.item ≤ fields_size Cells sizes fs
 field_room sizes [] i f e = cc
 field_room sizes (g ∷ fs) zero f e =
@@ -41,20 +42,20 @@ field_room sizes (g ∷ fs) (suc i) f e = omega (arith, field_room sizes fs i f 
 element_room : (e n size : ℕ) → e < n → e * size + size ≤ n * size
 element_room e n size lt = grind arith
 
-pub element_fits : (sizes : List ℕ) (fs : List sets.Field) (base i e : ℕ) (f : sets.Field) → at fs i ≡ Some f → e < capacity_of f.count → base + fields_size Cells sizes fs ≤ 16384
-    → base + fields_size Cells sizes (take i fs) + e * size_of Cells sizes f.item + size_of Cells sizes f.item ≤ 16384
+pub element_fits : (sizes : List ℕ) (fs : List sets.Field) (base i e : ℕ) (f : sets.Field) → slice_get fs i ≡ Some f → e < capacity_of f.count → base + fields_size Cells sizes fs ≤ MOST_ITEMS
+    → base + fields_size Cells sizes (take i fs) + e * size_of Cells sizes f.item + size_of Cells sizes f.item ≤ MOST_ITEMS
 element_fits sizes fs base i e f there lt few =
     omega (arith, field_room sizes fs i f there, element_room e (capacity_of f.count) (size_of Cells sizes f.item) lt, few)
 
 -- the fields before it are few too
-pub before_fits : (sizes : List ℕ) (fields : List Field) (base i before : ℕ) → base + fields_size Cells sizes (map field_of fields) ≤ 16384
+pub before_fits : (sizes : List ℕ) (fields : List Field) (base i before : ℕ) → base + fields_size Cells sizes (map field_of fields) ≤ MOST_ITEMS
     → before ≡ in_u32 (fields_size Cells sizes (map field_of (take i fields))) → before ≡ fields_size Cells sizes (take i (map field_of fields))
 before_fits sizes fields base i before few e =
     let t : in_u32 (fields_size Cells sizes (map field_of (take i fields))) ≡ in_u32 (fields_size Cells sizes (take i (map field_of fields))) =
     ap (λ (l : List sets.Field). in_u32 (fields_size Cells sizes l)) (sym (take-map field_of i fields)) in
     omega (arith, e, t, few, take_less sizes (map field_of fields) i)
 
-pub element_is : (sizes : List ℕ) (d : sets.Desc) (base cell : ℕ) (step : ℕ × ℕ) (f : sets.Field) → at d.fields step.0 ≡ Some f → step.1 < capacity_of f.count
+pub element_is : (sizes : List ℕ) (d : sets.Desc) (base cell : ℕ) (step : ℕ × ℕ) (f : sets.Field) → slice_get d.fields step.0 ≡ Some f → step.1 < capacity_of f.count
     → cell ≡ base + fields_size Cells sizes (take step.0 d.fields) + step.1 * size_of Cells sizes f.item
     → Some (record { item = f.item; cell = cell }) ≡ element_of sizes d base step
 element_is sizes d base cell step f there lt is =
@@ -66,20 +67,20 @@ abbrev cell_by : List ℕ → sets.Desc → ℕ → (ℕ × ℕ) → sets.Field 
 cell_by sizes d base step f = base + fields_size Cells sizes (take step.0 d.fields) + step.1 * size_of Cells sizes f.item
 
 -- an element ends among the cells
-within_in : (sizes : List ℕ) (d : sets.Desc) (base : ℕ) (step : ℕ × ℕ) (el : Element) (o : Option sets.Field) → at d.fields step.0 ≡ o → base + fields_size Cells sizes d.fields ≤ 16384
-    → Some el ≡ element_in sizes d base step o → el.cell + size_of Cells sizes el.item ≤ 16384
+within_in : (sizes : List ℕ) (d : sets.Desc) (base : ℕ) (step : ℕ × ℕ) (el : Element) (o : Option sets.Field) → slice_get d.fields step.0 ≡ o → base + fields_size Cells sizes d.fields ≤ MOST_ITEMS
+    → Some el ≡ element_in sizes d base step o → el.cell + size_of Cells sizes el.item ≤ MOST_ITEMS
 within_in sizes d base step el None there few e = cc
 within_in sizes d base step el (Some f) there few e = by_test (nat_lt step.1 (capacity_of f.count)) refl e where
-  by_test : (b : Bool) → nat_lt step.1 (capacity_of f.count) ≡ b → Some el ≡ (if b then Some (record { item = f.item; cell = cell_by sizes d base step f }) else None) → el.cell + size_of Cells sizes el.item ≤ 16384
+  by_test : (b : Bool) → nat_lt step.1 (capacity_of f.count) ≡ b → Some el ≡ (if b then Some (record { item = f.item; cell = cell_by sizes d base step f }) else None) → el.cell + size_of Cells sizes el.item ≤ MOST_ITEMS
   by_test false t e = cc
   by_test true t e =
       let same : el ≡ record { item = f.item; cell = cell_by sizes d base step f } = cc in
-      subst (λ (x : Element). x.cell + size_of Cells sizes x.item ≤ 16384) (sym same)
+      subst (λ (x : Element). x.cell + size_of Cells sizes x.item ≤ MOST_ITEMS) (sym same)
       (element_fits sizes d.fields base step.0 step.1 f there (ltb-true step.1 (capacity_of f.count) t) few)
 
-pub element_within : (sizes : List ℕ) (d : sets.Desc) (base : ℕ) (step : ℕ × ℕ) (el : Element) → base + fields_size Cells sizes d.fields ≤ 16384
-    → Some el ≡ element_of sizes d base step → el.cell + size_of Cells sizes el.item ≤ 16384
-element_within sizes d base step el few e = within_in sizes d base step el (at d.fields step.0) refl few e
+pub element_within : (sizes : List ℕ) (d : sets.Desc) (base : ℕ) (step : ℕ × ℕ) (el : Element) → base + fields_size Cells sizes d.fields ≤ MOST_ITEMS
+    → Some el ≡ element_of sizes d base step → el.cell + size_of Cells sizes el.item ≤ MOST_ITEMS
+element_within sizes d base step el few e = within_in sizes d base step el (slice_get d.fields step.0) refl few e
 
 -- ---- sizes that end at 2 ^ 32 - 1
 
@@ -109,17 +110,17 @@ module _ (set : sets.Set) (p : Placed) (placed : IsPlaced set p) where
   abbrev fields : List sets.Field
   fields = (desc_of p.desc.now).fields
 
-  few_cells : p.base + fields_size Cells (map length cells) fields ≤ 16384
+  few_cells : p.base + fields_size Cells (map length cells) fields ≤ MOST_ITEMS
   few_cells = omega (arith, cells_size cells fields 0 fields, placed.room)
 
-  pub few_by_sizes : p.base + fields_size Cells p.sizes.now (desc_of p.desc.now).fields ≤ 16384
+  pub few_by_sizes : p.base + fields_size Cells p.sizes.now (desc_of p.desc.now).fields ≤ MOST_ITEMS
   few_by_sizes =
       let x = exact cells fields (omega (arith, few_cells)) in
       let s : fields_size Cells p.sizes.now fields ≡ fields_size Cells (map (λ cells. in_u32 (length cells)) cells) fields = ap (λ (l : List ℕ). fields_size Cells l fields) placed.sized in
       omega (arith, x, s, few_cells)
 
   -- the cell of an element
-  same_cell : (i e : ℕ) (f : sets.Field) → at fields i ≡ Some f → e < capacity_of f.count
+  same_cell : (i e : ℕ) (f : sets.Field) → slice_get fields i ≡ Some f → e < capacity_of f.count
       → p.base + fields_size Cells p.sizes.now (take i fields) + e * size_of Cells p.sizes.now f.item ≡ place_of cells fields 0 p.base fields i + e * item_size cells f.item
   same_cell i e f there lt =
       let front : fields_size Cells p.sizes.now (take i fields) ≡ fields_size Cells (map length cells) (take i fields) =
@@ -132,16 +133,16 @@ module _ (set : sets.Set) (p : Placed) (placed : IsPlaced set p) where
   -- what is left of a path at an element
   abbrev pub after : List (ℕ × ℕ) → Option Element → Option ℕ
   after path None = None
-  after path (Some el) = item_at (λ j cell. if nat_lt j (length p.sizes.now) then path_at set path j (at set.structs j) cell else None) path el.item el.cell
+  after path (Some el) = item_at (λ j cell. if nat_lt j (length p.sizes.now) then path_at set path j (slice_get set.structs j) cell else None) path el.item el.cell
 
   abbrev by_cells : (ℕ × ℕ) → sets.Field → ℕ
   by_cells step f = place_of cells fields 0 p.base fields step.0 + step.1 * item_size cells f.item
 
   abbrev goes : List (ℕ × ℕ) → Item → ℕ → Option ℕ
-  goes path item cell = item_at (λ j cell. if nat_lt j (length p.sizes.now) then path_at set path j (at set.structs j) cell else None) path item cell
+  goes path item cell = item_at (λ j cell. if nat_lt j (length p.sizes.now) then path_at set path j (slice_get set.structs j) cell else None) path item cell
 
-  after_is : (path : List (ℕ × ℕ)) (step : ℕ × ℕ) (o : Option sets.Field) → at fields step.0 ≡ o
-      → element_at cells (desc_of p.desc.now) p.base step.0 step.1 o (item_at (λ j cell. if nat_lt j (length p.sizes.now) then path_at set path j (at set.structs j) cell else None) path)
+  after_is : (path : List (ℕ × ℕ)) (step : ℕ × ℕ) (o : Option sets.Field) → slice_get fields step.0 ≡ o
+      → element_at cells (desc_of p.desc.now) p.base step.0 step.1 o (item_at (λ j cell. if nat_lt j (length p.sizes.now) then path_at set path j (slice_get set.structs j) cell else None) path)
       ≡ after path (element_in p.sizes.now (desc_of p.desc.now) p.base step o)
   after_is path step None there = refl
   after_is path step (Some f) there = by_test (nat_lt step.1 (capacity_of f.count)) refl where
@@ -152,10 +153,10 @@ module _ (set : sets.Set) (p : Placed) (placed : IsPlaced set p) where
 
   pub path_is : (path : List (ℕ × ℕ)) (step : ℕ × ℕ)
       → path_at set (step ∷ path) (length p.sizes.now) (Some (desc_of p.desc.now)) p.base ≡ after path (element_of p.sizes.now (desc_of p.desc.now) p.base step)
-  path_is path step = after_is path step (at fields step.0) refl
+  path_is path step = after_is path step (slice_get fields step.0) refl
 
   -- the structure that an element is
-  pub inner_placed : (number cell : ℕ) (inner : Placed) → Enters set.structs p.sizes.now number cell inner → cell + size_of Cells p.sizes.now (Struct number) ≤ 16384 → IsPlaced set inner
+  pub inner_placed : (number cell : ℕ) (inner : Placed) → Enters set.structs p.sizes.now number cell inner → cell + size_of Cells p.sizes.now (Struct number) ≤ MOST_ITEMS → IsPlaced set inner
   inner_placed number cell inner enters few =
       let long : length inner.sizes.now ≡ number = ap length enters.sizes_are ∙ length-take-le number p.sizes.now (omega (arith, enters.known)) in
       let cut : take number p.sizes.now ≡ map (λ cells. in_u32 (length cells)) (first desc_cells set.structs number) =
@@ -173,11 +174,11 @@ module _ (set : sets.Set) (p : Placed) (placed : IsPlaced set p) where
 -- ---- where a path goes on
 
 -- in a structure
-pub in_struct : (set : sets.Set) (below : ℕ) (path : List (ℕ × ℕ)) (j cell : ℕ) (d : sets.Desc) → j < below → at set.structs j ≡ Some d
-    → item_at (λ j cell. if nat_lt j below then path_at set path j (at set.structs j) cell else None) path (Struct j) cell ≡ path_at set path j (Some d) cell
+pub in_struct : (set : sets.Set) (below : ℕ) (path : List (ℕ × ℕ)) (j cell : ℕ) (d : sets.Desc) → j < below → slice_get set.structs j ≡ Some d
+    → item_at (λ j cell. if nat_lt j below then path_at set path j (slice_get set.structs j) cell else None) path (Struct j) cell ≡ path_at set path j (Some d) cell
 in_struct set below [] j cell d lt there = refl
 in_struct set below (step ∷ path) j cell d lt there =
-    ap (λ (b : Bool). if b then path_at set (step ∷ path) j (at set.structs j) cell else None) (lt-ltb j below lt) ∙ ap (λ (o : Option sets.Desc). path_at set (step ∷ path) j o cell) there
+    ap (λ (b : Bool). if b then path_at set (step ∷ path) j (slice_get set.structs j) cell else None) (lt-ltb j below lt) ∙ ap (λ (o : Option sets.Desc). path_at set (step ∷ path) j o cell) there
 
 -- at a number
 pub at_number : (inside : ℕ → ℕ → Option ℕ) (path : List (ℕ × ℕ)) (kind : Kind) (cell : ℕ) → path ≡ [] → item_at inside path (Num kind) cell ≡ Some cell
@@ -187,7 +188,7 @@ pub no_items : {X : Type 0} (xs : List X) → length xs ≡ 0 → xs ≡ []
 no_items [] e = refl
 no_items (x ∷ xs) e = absurd (omega arith)
 
-pub at_known : {X : Type 0} (xs : List X) (i : ℕ) (d : X) → i < length xs → at xs i ≡ Some (get_or xs i d)
+pub at_known : {X : Type 0} (xs : List X) (i : ℕ) (d : X) → i < length xs → slice_get xs i ≡ Some (get_or xs i d)
 at_known [] i d lt = absurd (omega arith)
 at_known (x ∷ xs) zero d lt = refl
 at_known (x ∷ xs) (suc i) d lt = at_known xs i d (omega arith)

@@ -3,6 +3,7 @@ use Rattle.std.proofs.Common.{◌≡◌, ℕ, ◌<◌, ◌≤◌, List, [], leng
 use Rattle.std.proofs.lemmas.List.{length-map, get_or-map}
 use Rattle.std.proofs.lemmas.Simd.{map-map}
 use Rattle.vms_kinds.specs.declared.Kind.{Kind}
+use Rattle.vms_spec.specs.declared.TheConstants.{MOST_ITEMS}
 use Rattle.vms_spec.specs.Sets.{Set}
 use Rattle.vms_spec.specs.Layout.{no_desc, device_cells}
 use Rattle.vms_parts.specs.Devices.{device_at}
@@ -31,7 +32,7 @@ module _ (set : Set) (layout : List (List CellForm)) (spots : List (List Spot)) 
       of_forms ∙ ap form_spots forms_are
       ∙ ap spots_of (map-map (λ form. form.kind) form_of (device_cells set (device_at set k)))
 
-  pub few_spots : length (get_or layout k []) ≤ 16384 → length here ≤ 16384
+  pub few_spots : length (get_or layout k []) ≤ MOST_ITEMS → length here ≤ MOST_ITEMS
   few_spots few =
       let kinds : List Kind = map (λ form. form.kind) (get_or layout k []) in
       omega (arith, few, ap length of_forms, spots_long 0 kinds, length-map (get_or layout k []) (λ form. form.kind))

@@ -1,6 +1,6 @@
 -- What stands in four bytes of a head.
 use Rattle.std.specs.Prelude.{◌≡◌, ℕ, ◌^◌, ◌<◌, List, Some}
-use Rattle.vms_spec.specs.Lists.{at}
+use Rattle.std.specs.List.{slice_get}
 use Rattle.vms_spec.specs.Sets.{Sub, Device}
 
 pub record FitsSub (s : Sub) : Type 0 where
@@ -9,7 +9,7 @@ pub record FitsSub (s : Sub) : Type 0 where
 pub record FitsHead (d : Device) : Type 0 where
   pub instance : d.instance < 2 ^ 32
   pub version : d.desc.version < 2 ^ 32
-  pub subs : (j : ℕ) (s : Sub) → at d.subs j ≡ Some s → FitsSub s
+  pub subs : (j : ℕ) (s : Sub) → slice_get d.subs j ≡ Some s → FitsSub s
 
 pub record HeadsFit (devices : List Device) : Type 0 where
-  pub each : (k : ℕ) (d : Device) → at devices k ≡ Some d → FitsHead d
+  pub each : (k : ℕ) (d : Device) → slice_get devices k ≡ Some d → FitsHead d

@@ -1,8 +1,8 @@
 -- Which parts a set has, and what stands there.
 use Rattle.std.specs.Prelude.{ℕ, ◌<◌, ◌≤◌, ◌&&◌, Bool, false, List, length, get_or, Option, Some, None, ℤ}
+use Rattle.std.specs.List.{slice_get}
 use Rattle.vms_spec.specs.declared.Part.{Part}
 use Rattle.vms_spec.specs.declared.Part.TheVariants as parts
-use Rattle.vms_spec.specs.Lists.{at}
 use Rattle.vms_spec.specs.Places.{own_cell_count}
 use Rattle.vms_spec.specs.Rules.{is_num, is_one, names_well, nobody}
 use Rattle.vms_spec.specs.Sets.{Formula, AtLeast, Field, Desc, Sub, Device, Set}
@@ -40,7 +40,7 @@ is_number None = false
 is_number (Some f) = is_num f.item && is_one f.count
 
 abbrev pub is_number_in : List Field → ℕ → Bool
-is_number_in fields k = is_number (at fields k)
+is_number_in fields k = is_number (slice_get fields k)
 
 abbrev pub is_number_of_parent : Set → Part → ℕ → Bool
 is_number_of_parent set (parts.Sub i j) = is_number_in (device_at set i).desc.fields

@@ -1,6 +1,7 @@
 -- Paths by the sizes of structures.
 use Rattle.std.specs.Prelude.{◌≡◌, ℕ, ◌+◌, ◌*◌, ◌<◌, ◌≤◌, nat_lt, if◌then◌else◌, List, length, get_or, take, map, Option, Some, None}
-use Rattle.vms_spec.specs.Lists.{at}
+use Rattle.std.specs.List.{slice_get}
+use Rattle.vms_spec.specs.declared.TheConstants.{MOST_ITEMS}
 use Rattle.vms_spec.specs.Layout.{no_desc, first, capacity_of, desc_cells}
 use Rattle.vms_spec.specs.Places.{desc_of_sub}
 use Rattle.vms_spec.specs.Sets as sets
@@ -19,12 +20,12 @@ element_in sizes d base step (Some f) =
     else None
 
 abbrev pub element_of : List ℕ → sets.Desc → ℕ → (ℕ × ℕ) → Option Element
-element_of sizes d base step = element_in sizes d base step (at d.fields step.0)
+element_of sizes d base step = element_in sizes d base step (slice_get d.fields step.0)
 
 -- where a path begins: in the fields of the device, or of a subsection
 abbrev pub begin_desc : sets.Device → Option ℕ → Option sets.Desc
 begin_desc d None = Some d.desc
-begin_desc d (Some j) = desc_of_sub (at d.subs j)
+begin_desc d (Some j) = desc_of_sub (slice_get d.subs j)
 
 abbrev pub begin_base : List ℕ → sets.Device → Option ℕ → ℕ
 begin_base sizes d None = 0
@@ -46,4 +47,4 @@ pub record Enters (structs : List sets.Desc) (sizes : List ℕ) (number base : �
 pub record IsPlaced (set : sets.Set) (p : Placed) : Type 0 where
   pub known : length p.sizes.now ≤ length set.structs
   pub sized : p.sizes.now ≡ map (λ cells. in_u32 (length cells)) (first desc_cells set.structs (length p.sizes.now))
-  pub room : p.base + length (desc_cells (first desc_cells set.structs (length p.sizes.now)) (desc_of p.desc.now)) ≤ 16384
+  pub room : p.base + length (desc_cells (first desc_cells set.structs (length p.sizes.now)) (desc_of p.desc.now)) ≤ MOST_ITEMS

@@ -1,4 +1,5 @@
 // What a walk over a set asks of it.
+ghost use Rattle.vms_spec.specs.declared.TheConstants.{MOST_ITEMS};
 ghost use Rattle.std.specs.Prelude.{◌≡◌, ◌<◌, ◌≤◌, ◌*◌, length};
 ghost use Rattle.vms_spec.specs.Layout.{capacity_of, elements_of, counted, all_hold, item_size, struct_cells, device_cells, no_parent};
 ghost use Rattle.vms_spec.specs.Tests.{is_there};
@@ -109,7 +110,7 @@ impl DescSet {
     ) -> bool
         requires part { HasPart (described self.now) part }
         requires field { field < length (desc_at (described self.now) part).fields }
-        requires few { length (C.numbers cells.now) ≤ 16384 }
+        requires few { length (C.numbers cells.now) ≤ MOST_ITEMS }
         requires own { HasCells (described self.now) part (C.numbers cells.now) base }
         ensures { result ≡ is_there (field_at (described self.now) part field).test
             (field_at (described self.now) part field).since version
@@ -127,7 +128,7 @@ impl DescSet {
     pub fn elements<C: Cells>(&self, part: Part, base: u32, field: u32, cells: &C) -> u32
         requires part { HasPart (described self.now) part }
         requires field { field < length (desc_at (described self.now) part).fields }
-        requires few { length (C.numbers cells.now) ≤ 16384 }
+        requires few { length (C.numbers cells.now) ≤ MOST_ITEMS }
         requires own { HasCells (described self.now) part (C.numbers cells.now) base }
         ensures { result ≡ elements_of (field_at (described self.now) part field).count
             (own_numbers (described self.now) part (C.numbers cells.now) base) }
@@ -146,7 +147,7 @@ impl DescSet {
     /// Whether all validations of a part hold.
     pub fn holds_rules<C: Cells>(&self, part: Part, base: u32, version: u32, cells: &C) -> bool
         requires part { HasPart (described self.now) part }
-        requires few { length (C.numbers cells.now) ≤ 16384 }
+        requires few { length (C.numbers cells.now) ≤ MOST_ITEMS }
         requires own { HasCells (described self.now) part (C.numbers cells.now) base }
         ensures { result ≡ all_hold (desc_at (described self.now) part).validate version
             (own_numbers (described self.now) part (C.numbers cells.now) base) }
@@ -158,7 +159,7 @@ impl DescSet {
     /// Whether a subsection of a device is needed, by the numbers of the device's cells.
     pub fn is_needed<C: Cells>(&self, device: u32, sub: u32, cells: &C) -> bool
         requires part { HasPart (described self.now) (parts.Sub device sub) }
-        requires few { length (C.numbers cells.now) ≤ 16384 }
+        requires few { length (C.numbers cells.now) ≤ MOST_ITEMS }
         requires cells { length
             (device_cells (described self.now) (device_at (described self.now) device))
             ≤ length (C.numbers cells.now) }

@@ -1,8 +1,9 @@
 // The truth of tests.
+ghost use Rattle.vms_spec.specs.declared.TheConstants.{MOST_ITEMS};
+ghost use Rattle.std.specs.List.{list_all};
 ghost use Rattle.std.specs.Prelude.{◌≡◌, ◌+◌, ◌≤◌, ◌<◌, ◌*◌, ◌^◌, true, length, get_or, map, pos};
 ghost use Rattle.vms_kinds.specs.Codes.{width, residue};
 ghost use Rattle.vms_spec.specs.Layout.{kind_of, all_hold};
-ghost use Rattle.vms_spec.specs.Lists.{every};
 ghost use Rattle.vms_spec.specs.Rules.{names_well, nobody};
 ghost use Rattle.vms_spec.specs.Tests.{truth, compares};
 ghost use Rattle.vms_parts.specs.Views.{formula};
@@ -57,7 +58,7 @@ pub(crate) fn holds<C: Cells>(
     requires names { names_well (may_ask own) (may_ask_parent parent) (formula test.now) ≡ true }
     requires own { IsInside (C.numbers cells.now) own }
     requires parent { IsInsideParent (C.numbers cells.now) parent }
-    requires few { length (C.numbers cells.now) ≤ 16384 }
+    requires few { length (C.numbers cells.now) ≤ MOST_ITEMS }
     ensures { result ≡ truth (formula test.now) version (number_of (C.numbers cells.now) own.entry)
         (number_of_parent (C.numbers cells.now) parent.entry) }
 {
@@ -89,9 +90,9 @@ pub(crate) fn holds<C: Cells>(
 
 // Whether all tests of a description hold at a version.
 pub(crate) fn all_hold<C: Cells>(tests: &[Test], version: u32, own: Scope, cells: &C) -> bool
-    requires names { every (names_well (may_ask own) nobody) (map formula tests.now) ≡ true }
+    requires names { list_all (names_well (may_ask own) nobody) (map formula tests.now) ≡ true }
     requires own { IsInside (C.numbers cells.now) own }
-    requires few { length (C.numbers cells.now) ≤ 16384 }
+    requires few { length (C.numbers cells.now) ≤ MOST_ITEMS }
     ensures { result ≡ all_hold (map formula tests.now) version
         (number_of (C.numbers cells.now) own.entry) }
 {
@@ -107,7 +108,7 @@ pub(crate) fn all_hold<C: Cells>(tests: &[Test], version: u32, own: Scope, cells
 pub(crate) fn number_at<C: Cells>(scope: Scope, field: u32, cells: &C) -> u64
     requires asked { may_ask scope field ≡ true }
     requires inside { IsInside (C.numbers cells.now) scope }
-    requires few { length (C.numbers cells.now) ≤ 16384 }
+    requires few { length (C.numbers cells.now) ≤ MOST_ITEMS }
     ensures { result ≡ number_of (C.numbers cells.now) scope.entry field }
 {
     let field = field as usize;
@@ -118,7 +119,7 @@ pub(crate) fn number_at<C: Cells>(scope: Scope, field: u32, cells: &C) -> u64
 fn parent_number<C: Cells>(parent: Option<Scope>, field: u32, cells: &C) -> u64
     requires asked { may_ask_parent parent field ≡ true }
     requires inside { IsInsideParent (C.numbers cells.now) parent }
-    requires few { length (C.numbers cells.now) ≤ 16384 }
+    requires few { length (C.numbers cells.now) ≤ MOST_ITEMS }
     ensures { result ≡ number_of_parent (C.numbers cells.now) parent.entry field }
 {
     match parent {

@@ -1,4 +1,5 @@
 // The cell of a path.
+ghost use Rattle.vms_spec.specs.declared.TheConstants.{MOST_ITEMS};
 ghost use Rattle.std.specs.Prelude.{◌≡◌, ◌≤◌, ◌+◌, length, map, Some, None, MatchOption};
 ghost use Rattle.vms_spec.specs.Places.{path_at, cell_at};
 ghost use Rattle.vms_parts.specs.Sizes.{fields_size};
@@ -88,7 +89,7 @@ fn path_cell(parts: &Parts, placed: Placed, path: &[(u32, u32)]) -> Option<u32>
 // The element of a step: of its field number, and its element number.
 fn element_at(placed: Placed, step: (u32, u32)) -> Option<Element>
     requires { placed.base
-        + fields_size Cells placed.sizes.now (map field_of placed.desc.now.fields) ≤ 16384 }
+        + fields_size Cells placed.sizes.now (map field_of placed.desc.now.fields) ≤ MOST_ITEMS }
     ensures { result ≡ element_of placed.entry.sizes.now (desc_of placed.entry.desc.now)
         placed.entry.base step }
 {

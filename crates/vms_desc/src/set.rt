@@ -1,10 +1,11 @@
 // A well-formed description set.
+ghost use Rattle.vms_spec.specs.declared.TheConstants.{MOST_ITEMS};
 ghost use Rattle.std.specs.Prelude.{true, [], get_or, ◌≤◌, ◌<◌, ◌+◌, ◌==◌, ◌&&◌, ◌≡◌, ℕ, length, IfOk, map};
 ghost use Rattle.std.specs.Str.{bytes_eq};
 ghost use Rattle.vms_spec.specs.Layout.{device_cells, struct_cells, numbers_of};
 ghost use Rattle.vms_spec.specs.Places.{own_cell_count};
 ghost use Rattle.vms_spec.specs.Tests.{truth};
-ghost use Rattle.vms_spec.specs.Judging.{find_device};
+ghost use Rattle.vms_spec.specs.Lookup.{find_device};
 ghost use Rattle.vms_spec.specs.Heads.{FitsHeads};
 ghost use Rattle.vms_desc.specs.Formed.{is_well_formed, shipped_set};
 ghost use Rattle.vms_desc.specs.Numbers.{sizes_of};
@@ -49,7 +50,7 @@ pub struct DescSet {
         (map (λ d. d.fields) (set_of parts).structs) struct_tables },
     ghost devices_tabled: { AreDeviceTables (sizes_of (set_of parts))
         (set_of parts).devices device_tables },
-    ghost small: { (k : ℕ) → length (get_or layout k []) ≤ 16384 },
+    ghost small: { (k : ℕ) → length (get_or layout k []) ≤ MOST_ITEMS },
 }
 
 impl DescSet {
@@ -119,7 +120,7 @@ impl DescSet {
         requires { device < length (described self.now).devices }
         ensures forms { result.now ≡ map form_of
             (device_cells (described self.now) (device_at (described self.now) device)) }
-        ensures few { length result.now ≤ 16384 }
+        ensures few { length result.now ≤ MOST_ITEMS }
     {
         self.layout.as_slice()[device as usize].as_slice()
     }
@@ -203,7 +204,7 @@ impl DescSet {
     ) -> bool
         requires part { HasPart (described self.now) desc }
         requires placed { is_placed (described self.now) desc (formula test.now) ≡ true }
-        requires few { length (C.numbers cells.now) ≤ 16384 }
+        requires few { length (C.numbers cells.now) ≤ MOST_ITEMS }
         requires own { base
             + own_cell_count (described self.now) (desc_at (described self.now) desc)
             ≤ length (C.numbers cells.now) }

@@ -1,4 +1,5 @@
 // Where the numbers of devices stand in their images' bytes.
+ghost use Rattle.vms_spec.specs.declared.TheConstants.{MOST_ITEMS};
 ghost use Rattle.std.specs.Prelude.{◌≡◌, ◌<◌, ◌≤◌, ℕ, [], length, get_or, map, IfOk};
 ghost use Rattle.vms_spec.specs.Layout.{device_cells};
 ghost use Rattle.vms_desc.specs.Described.{described, device_at};
@@ -17,7 +18,7 @@ impl DescSet {
         requires { device < length (described self.now).devices }
         ensures spots { result.now ≡ spots_of (kinds_at (described self.now) device) }
         ensures apart { AreApart (kinds_at (described self.now) device) result.now }
-        ensures few { length result.now ≤ 16384 }
+        ensures few { length result.now ≤ MOST_ITEMS }
     {
         self.spots.as_slice()[device as usize].as_slice()
     }
@@ -47,7 +48,7 @@ pub(crate) fn device_spots(
     alloc: Global,
     layout: &[Listed<CellForm>],
 ) -> Result<Vec<Listed<Spot>>, AllocError>
-    requires { (k : ℕ) → length (get_or layout.now k []) ≤ 16384 }
+    requires { (k : ℕ) → length (get_or layout.now k []) ≤ MOST_ITEMS }
     ensures { IfOk result (λ spots. spots.items ≡ map form_spots layout.now) }
 {
     let mut spots = Vec::with_capacity(alloc, layout.len())?;

@@ -1,12 +1,12 @@
 -- Good answers: of members, of lists, and of numbers and texts as they are written.
 use Rattle.std.proofs.Common.{◌≡◌, ℕ, suc, ◌+◌, ◌≤◌, List, [], ◌∷◌, map, Bool, true, false, if◌then◌else◌, Option, Some, None, option_map, ℤ, pos, negsuc, refl, ap, ◌∙◌, decimal, int_le, int_lt, ◌&&◌}
+use Rattle.std.specs.List.{slice_get}
 use Rattle.std.proofs.lemmas.Bool.{le-leb}
 use Rattle.serde_json.specs.Data.{Data, number, null}
 use Rattle.serde_json.specs.Find.{get, of_integer}
 use Rattle.serde_json.specs.View.{items_of}
-use Rattle.vms_spec.specs.Lists.{at as item_at}
-use Rattle.vms_members.specs.Answers.{Answer, good, bad, under, next, changed, each_from, list_of}
-use Rattle.vms_members.specs.Members.{member_of, member_or, at, at_or, maybe_at, natural, integer_of, judged}
+use Rattle.vms_json.specs.Answers.{Answer, good, bad, under, next, changed, each_from, list_of}
+use Rattle.vms_json.specs.Members.{member_of, member_or, at, at_or, maybe_at, natural, integer_of, judged}
 use Rattle.vms_descwrite.specs.Written.{list_file, natural_file, integer_file}
 use Rattle.vms_descfile.proofs.ObjectLaws.{kept, listed}
 
@@ -35,18 +35,18 @@ default_good says key d e default a false there is said = ap (member_or default 
 -- ---- lists
 
 pub each_good : {A B : Type 0} (says : Data → Answer B) (file : A → Data) (shown : A → B) (i : ℕ) (xs : List A)
-    → ((k : ℕ) (x : A) → item_at xs k ≡ Some x → says (file x) ≡ good (shown x)) → each_from says i (items_of (map file xs)) ≡ good (map shown xs)
+    → ((k : ℕ) (x : A) → slice_get xs k ≡ Some x → says (file x) ≡ good (shown x)) → each_from says i (items_of (map file xs)) ≡ good (map shown xs)
 each_good says file shown i [] said = refl
 each_good says file shown i (x ∷ xs) said =
     next_good (under (decimal i) (says (file x))) (shown x) _ _ (ap (under (decimal i)) (said 0 x refl))
     (ap (changed (λ list. shown x ∷ list)) (each_good says file shown (i + 1) xs (λ k y e. said (suc k) y e)))
 
 pub list_good : {A B : Type 0} (says : Data → Answer B) (file : A → Data) (shown : A → B) (xs : List A)
-    → ((k : ℕ) (x : A) → item_at xs k ≡ Some x → says (file x) ≡ good (shown x)) → list_of says (list_file file xs) ≡ good (map shown xs)
+    → ((k : ℕ) (x : A) → slice_get xs k ≡ Some x → says (file x) ≡ good (shown x)) → list_of says (list_file file xs) ≡ good (map shown xs)
 list_good says file shown xs said = each_good says file shown 0 xs said
 
 pub list_or_good : {A B : Type 0} (says : Data → Answer B) (file : A → Data) (shown : A → B) (key : List ℕ) (d : Data) (xs : List A)
-    → get key d ≡ listed file xs → ((k : ℕ) (x : A) → item_at xs k ≡ Some x → says (file x) ≡ good (shown x))
+    → get key d ≡ listed file xs → ((k : ℕ) (x : A) → slice_get xs k ≡ Some x → says (file x) ≡ good (shown x))
     → at_or [] (list_of says) key d ≡ good (map shown xs)
 list_or_good says file shown key d [] there said = ap (member_or [] (list_of says) key) there
 list_or_good says file shown key d (x ∷ xs) there said =

@@ -1,23 +1,23 @@
 -- The files of descriptions, devices and sets say these again.
 use Rattle.std.proofs.Common.{◌≡◌, ℕ, ◌≤◌, List, [], ◌∷◌, get_or, length, map, Bool, true, false, ◌&&◌, ◌==◌, nat_le, Option, Some, None, refl, sym, ap, ◌∙◌, subst, codes, arith}
+use Rattle.std.specs.List.{slice_get}
 use Rattle.std.specs.Option.{option_and_then}
 use Rattle.std.proofs.lemmas.Bool.{and_parts, eqb-true, leb-true, false≢true}
 use Rattle.serde_json.specs.Data.{Data, Members, string, object, put}
 use Rattle.serde_json.specs.Find.{get, as_str, as_array}
 use Rattle.serde_json.specs.View.{items_of}
-use Rattle.vms_spec.specs.Lists.{at as item_at}
 use Rattle.vms_spec.specs.Sets.{Formula, Field, Desc}
 use Rattle.vms_spec.specs.declared.Count.{Count}
 use Rattle.vms_spec.specs.declared.Count.TheVariants.{One, Fixed, Counted}
 use Rattle.vms_spec.specs.Rules.{nodes, depth, is_small_test, is_small_optional, is_small_item, is_steady_in, is_earlier_in, names_well, nobody, test_names_well, count_names_well, is_counting, defaults_well, counts_well}
 use Rattle.vms_spec.specs.Layout.{counted}
 use Rattle.vms_spec.specs.WellFormed.{has_few}
-use Rattle.vms_laws.proofs.WellFormedLaws.{Clean}
-use Rattle.vms_members.specs.Answers.{good, under, changed, list_of}
-use Rattle.vms_nodes.specs.Index.{first_of, names_of, names_of_list, text_or_none}
-use Rattle.vms_nodes.specs.Keys.{fits as keys_fit}
-use Rattle.vms_members.specs.Members.{member_or, at, at_or, maybe_at, u32_of, text_of}
-use Rattle.vms_members.specs.Names.{Names, Scope, names_if, number_in}
+use Rattle.vms_spec.proofs.WellFormedLaws.{Clean}
+use Rattle.vms_json.specs.Answers.{good, under, changed, list_of}
+use Rattle.vms_json.specs.Index.{first_of, names_of, names_of_list, text_or_none}
+use Rattle.vms_json.specs.Keys.{fits as keys_fit}
+use Rattle.vms_json.specs.Members.{member_or, at, at_or, maybe_at, u32_of, text_of}
+use Rattle.vms_json.specs.Names.{Names, Scope, names_if, number_in}
 use Rattle.vms_descread.specs.Tests.{test_of}
 use Rattle.vms_descread.specs.Fields.{field_of}
 use Rattle.vms_descread.specs.Descs.{desc_needs, desc_allows, Head, head_of, minimum_or, rest_of, struct_in, struct_of}
@@ -57,7 +57,7 @@ counter_back asks d i (Fixed n) found well k is = cc
 counter_back asks d i (Counted by capacity) found well k is =
     let same : by ≡ k = cc in
     subst (λ (j : ℕ). number_in (asked asks (own_names d.fields)) (get_or (own_names d.fields) j []) ≡ good (number_shown asks j)) same
-    (earlier_found asks d i by found (and_parts (is_earlier_in d i by) (is_counting (item_at d.fields by)) well).0)
+    (earlier_found asks d i by found (and_parts (is_earlier_in d i by) (is_counting (slice_get d.fields by)) well).0)
 
 field_test_back : (asks : Bool) (d : Desc) (i : ℕ) (o : Option Formula) → Found asks d → test_names_well d i o ≡ true → is_small_optional o ≡ true → FitsOptional o
     → (t : Formula) → o ≡ Some t → test_of (own_scope asks (own_names d.fields)) (test_file (own_names d.fields) [] t) ≡ good (test_shown asks t)
@@ -68,7 +68,7 @@ field_test_back asks d i (Some s) found well small fits t is =
     (own_test_back asks (own_names d.fields) (is_earlier_in d i) (λ k e. earlier_found asks d i k found e) s small fits well)
 
 module _ (asks : Bool) (n : ℕ) (d : Desc) (rules : List Bool) (c : Clean n d rules) (found : Found asks d) (fits : FitsDesc d) where
-  fields_back : (i : ℕ) (f : Field) → item_at d.fields i ≡ Some f
+  fields_back : (i : ℕ) (f : Field) → slice_get d.fields i ≡ Some f
       → field_of (asked asks (own_names d.fields)) (field_file (own_names d.fields) f) ≡ good (field_shown asks f)
   fields_back i f there =
       let clean = c.fields i f there in
@@ -82,7 +82,7 @@ module _ (asks : Bool) (n : ℕ) (d : Desc) (rules : List Bool) (c : Clean n d r
         test = field_test_back asks d i f.test found names.0 small_test.1 fit.test;
       })
 
-  validate_back : (i : ℕ) (t : Formula) → item_at d.validate i ≡ Some t
+  validate_back : (i : ℕ) (t : Formula) → slice_get d.validate i ≡ Some t
       → test_of (own_scope asks (own_names d.fields)) (test_file (own_names d.fields) [] t) ≡ good (test_shown asks t)
   validate_back i t there =
       let clean = c.validations i t there in

@@ -14,13 +14,13 @@ use Rattle.vms_spec.specs.declared.Count.TheVariants.{One, Fixed, Counted}
 use Rattle.vms_spec.specs.Sets.{Formula, Field}
 use Rattle.vms_spec.specs.Rules.{in_range, defaults_well}
 use Rattle.vms_spec.specs.Numbers.{same_number}
-use Rattle.vms_laws.proofs.WellFormedLaws.{ranges}
+use Rattle.vms_spec.proofs.WellFormedLaws.{ranges}
 use Rattle.vms_descread.specs.declared.sort.Sort.{Sort}
 use Rattle.vms_descread.specs.declared.sort.Sort.TheVariants as sorts
-use Rattle.vms_members.specs.Answers.{good, given, list_of}
-use Rattle.vms_nodes.specs.Keys.{fits}
-use Rattle.vms_members.specs.Members.{at, at_or, maybe_at, u16_of, u32_of, integer_of, text_of}
-use Rattle.vms_members.specs.Names.{Names, number_in, name_in}
+use Rattle.vms_json.specs.Answers.{good, given, list_of}
+use Rattle.vms_json.specs.Keys.{fits}
+use Rattle.vms_json.specs.Members.{at, at_or, maybe_at, u16_of, u32_of, integer_of, text_of}
+use Rattle.vms_json.specs.Names.{Names, number_in, name_in}
 use Rattle.vms_descread.specs.Tests.{test_of}
 use Rattle.vms_descread.specs.Fields.{sort_named, sort_of, counts_fit, sort_fits, field_needs, field_allows, field_fits, count_as, count_of, item_as, front_of, field_after, field_in, field_of}
 use Rattle.vms_descwrite.specs.Fitting.{FitsField}

@@ -5,11 +5,11 @@ use Rattle.std.proofs.lemmas.Str.{IsUtf8-from_is_utf8, is_utf8-from_IsUtf8}
 use Rattle.serde_json.specs.Data.{Data}
 use Rattle.serde_json.specs.Read.{read}
 use Rattle.vms_spec.specs.Sets.{Set}
-use Rattle.vms_members.specs.declared.fault.Fault.{Fault}
-use Rattle.vms_members.specs.declared.fault.Fault.TheVariants as faults
+use Rattle.vms_json.specs.declared.fault.Fault.{Fault}
+use Rattle.vms_json.specs.declared.fault.Fault.TheVariants as faults
 use Rattle.vms_descfile.specs.declared.file_fault.FileFault.{FileFault}
 use Rattle.vms_descfile.specs.declared.file_fault.FileFault.TheVariants as file_faults
-use Rattle.vms_members.specs.Answers.{Answer, Refuses}
+use Rattle.vms_json.specs.Answers.{Answer, Refuses}
 use Rattle.vms_descread.specs.Descs.{parts_of}
 use Rattle.vms_descfile.specs.Files.{Shape, parts_said, value_said, value_in, file_said}
 use Rattle.vms_descfile.specs.Given.{Gives, GivesValue, IsFileFault}

@@ -1,20 +1,19 @@
 -- The fields that a test or a count may name are found by their names.
 use Rattle.std.proofs.Common.{◌≡◌, ℕ, zero, suc, ◌+◌, ◌<◌, ◌≤◌, List, [], ◌∷◌, ◌++◌, length, get_or, take, min, Bool, true, false, not, cond, nat_lt, nat_le, Option, Some, None, refl, ap, ◌∙◌, arith}
-use Rattle.std.specs.List.{position, position_or_len}
+use Rattle.std.specs.List.{position, position_or_len, slice_get}
 use Rattle.std.specs.Str.{bytes_eq}
 use Rattle.std.proofs.lemmas.Bool.{and_parts, or_parts, not-true, leb-true, lt-ltb}
 use Rattle.std.proofs.lemmas.List.{length-map}
 use Rattle.std.proofs.lemmas.Slice.Eq.{bytes_eq-Decides}
-use Rattle.vms_spec.specs.Lists.{at}
 use Rattle.vms_spec.specs.Sets.{Field, Desc}
 use Rattle.vms_spec.specs.Names.{all_names, are_new}
 use Rattle.vms_spec.specs.Streams.{is_one_of}
 use Rattle.vms_spec.specs.Rules.{is_steady, is_steady_in, is_earlier_in}
 use Rattle.vms_spec.specs.WellFormed.{has_few}
-use Rattle.vms_laws.proofs.WellFormedLaws.{Clean}
-use Rattle.vms_laws.proofs.PartLaws.{at_inside}
-use Rattle.vms_members.specs.Answers.{good}
-use Rattle.vms_members.specs.Names.{number_in, numbered}
+use Rattle.vms_spec.proofs.WellFormedLaws.{Clean}
+use Rattle.std.proofs.lemmas.Option.{slice_get_within}
+use Rattle.vms_json.specs.Answers.{good}
+use Rattle.vms_json.specs.Names.{number_in, numbered}
 use Rattle.vms_descwrite.specs.Written.{own_names}
 use Rattle.vms_descfile.proofs.ShownLaws.{asked, number_shown}
 
@@ -35,7 +34,7 @@ one_more : {i k : ℕ} → i ≡ k → 1 + i ≡ suc k
 one_more e = omega (arith, e)
 
 -- no field before it has the name
-first_place : (fields : List Field) (k : ℕ) (f : Field) → at fields k ≡ Some f → is_one_of (all_names (take k fields)) f.name ≡ false
+first_place : (fields : List Field) (k : ℕ) (f : Field) → slice_get fields k ≡ Some f → is_one_of (all_names (take k fields)) f.name ≡ false
     → position_or_len (λ n. bytes_eq n f.name) (own_names fields) ≡ k
 first_place [] k f there none = cc
 first_place (g ∷ fields) zero f there none =
@@ -46,20 +45,20 @@ first_place (g ∷ fields) (suc k) f there none =
     later (λ n. bytes_eq n f.name) g.name (own_names fields) parts.0
     ∙ one_more (first_place fields k f there (neither g.former (all_names (take k fields)) f.name parts.1))
 
-name_got : (fields : List Field) (k : ℕ) (f : Field) → at fields k ≡ Some f → get_or (own_names fields) k [] ≡ f.name
+name_got : (fields : List Field) (k : ℕ) (f : Field) → slice_get fields k ≡ Some f → get_or (own_names fields) k [] ≡ f.name
 name_got [] k f there = cc
 name_got (g ∷ fields) zero f there = let same : g ≡ f = cc in ap (λ (h : Field). h.name) same
 name_got (g ∷ fields) (suc k) f there = name_got fields k f there
 
-number_found : (asks : Bool) (fields : List Field) (k : ℕ) (f : Field) → length fields ≤ 256 → at fields k ≡ Some f
+number_found : (asks : Bool) (fields : List Field) (k : ℕ) (f : Field) → length fields ≤ 256 → slice_get fields k ≡ Some f
     → is_one_of (all_names (take k fields)) f.name ≡ false
     → number_in (asked asks (own_names fields)) (get_or (own_names fields) k []) ≡ good (number_shown asks k)
 number_found false fields k f few there none = refl
 number_found true fields k f few there none =
     let names = own_names fields in
-    let inside : k < length names = omega (arith, at_inside fields k f there, length-map fields (λ (g : Field). g.name)) in
+    let inside : k < length names = omega (arith, slice_get_within fields k f there, length-map fields (λ (g : Field). g.name)) in
     let place = first_place fields k f there none in
-    let least : min k 4294967295 ≡ k = omega (arith, at_inside fields k f there) in
+    let least : min k 4294967295 ≡ k = omega (arith, slice_get_within fields k f there) in
     let is_position : position (λ n. bytes_eq n f.name) names ≡ Some k =
     ap (λ (i : ℕ). cond (nat_lt i (length names)) (Some i) None) place ∙ ap (λ (b : Bool). cond b (Some k) None) (lt-ltb k (length names) inside) in
     ap (λ n. numbered (position (λ m. bytes_eq m n) names)) (name_got fields k f there) ∙ ap numbered is_position ∙ ap good least
@@ -71,9 +70,9 @@ pub record Found (asks : Bool) (d : Desc) : Type 0 where
   pub number : (k : ℕ) → is_steady_in d k ≡ true → number_in (asked asks (own_names d.fields)) (get_or (own_names d.fields) k []) ≡ good (number_shown asks k)
 
 pub all_found : (asks : Bool) (n : ℕ) (d : Desc) (rules : List Bool) → Clean n d rules → has_few d ≡ true → Found asks d
-all_found asks n d rules c few = record { number = λ k steady. by_field k (at d.fields k) refl steady }
+all_found asks n d rules c few = record { number = λ k steady. by_field k (slice_get d.fields k) refl steady }
   where
-    by_field : (k : ℕ) (o : Option Field) → at d.fields k ≡ o → is_steady d.minimum o ≡ true
+    by_field : (k : ℕ) (o : Option Field) → slice_get d.fields k ≡ o → is_steady d.minimum o ≡ true
         → number_in (asked asks (own_names d.fields)) (get_or (own_names d.fields) k []) ≡ good (number_shown asks k)
     by_field k None there steady = cc
     by_field k (Some f) there steady =

@@ -1,16 +1,16 @@
 -- The files of subsections, devices and sets say these again.
 use Rattle.std.proofs.Common.{◌≡◌, ℕ, List, [], ◌∷◌, get_or, length, map, Bool, true, false, nat_le, Some, refl, ap, ◌∙◌, codes, arith}
+use Rattle.std.specs.List.{slice_get}
 use Rattle.std.proofs.lemmas.Bool.{and_parts, leb-true}
 use Rattle.serde_json.specs.Data.{Members, string, object, put}
-use Rattle.vms_spec.specs.Lists.{at as item_at}
 use Rattle.vms_spec.specs.Sets.{Formula, Desc, Sub, Device, Set}
 use Rattle.vms_spec.specs.Rules.{nodes, depth, is_small_test, is_steady_in, names_well}
 use Rattle.vms_spec.specs.WellFormed.{WellFormed, has_few, struct_depths, struct_rules, sub_rules, device_rules}
-use Rattle.vms_laws.proofs.WellFormedLaws.{Clean, struct_clean, device_parts, sub_clean}
-use Rattle.vms_members.specs.Answers.{good, changed, list_of}
-use Rattle.vms_nodes.specs.Keys.{fits as keys_fit}
-use Rattle.vms_members.specs.Members.{at, at_or, u32_of, text_of}
-use Rattle.vms_members.specs.Names.{Names, Scope}
+use Rattle.vms_spec.proofs.WellFormedLaws.{Clean, struct_clean, device_parts, sub_clean}
+use Rattle.vms_json.specs.Answers.{good, changed, list_of}
+use Rattle.vms_json.specs.Keys.{fits as keys_fit}
+use Rattle.vms_json.specs.Members.{at, at_or, u32_of, text_of}
+use Rattle.vms_json.specs.Names.{Names, Scope}
 use Rattle.vms_descread.specs.Tests.{test_of}
 use Rattle.vms_descread.specs.Descs.{desc_needs, desc_allows, head_of, struct_of, sub_in, sub_of, Whole, whole_in, whole_of, device_of, set_of, parts_of}
 use Rattle.vms_descwrite.specs.Fitting.{FitsTest, FitsSub, FitsWhole, FitsDevice, FitsSet}
@@ -86,7 +86,7 @@ abbrev whole_shown : Bool → Device → Whole
 whole_shown asks d = record { desc = desc_shown asks d.desc; subs = map (sub_shown asks) d.subs }
 
 whole_back : (asks : Bool) (n : ℕ) (d : Device) (rules : List Bool) (c : Clean n d.desc rules) → has_few d.desc ≡ true
-    → ((j : ℕ) (s : Sub) → item_at d.subs j ≡ Some s → Clean n s.desc (sub_rules d j s)) → FitsWhole d → whole_of asks (whole_file d) ≡ good (whole_shown asks d)
+    → ((j : ℕ) (s : Sub) → slice_get d.subs j ≡ Some s → Clean n s.desc (sub_rules d j s)) → FitsWhole d → whole_of asks (whole_file d) ≡ good (whole_shown asks d)
 whole_back asks n d rules c few subs_clean fits =
     let own = own_names d.desc.fields in
     let o = object_of (whole_table d) in
@@ -105,7 +105,7 @@ whole_back asks n d rules c few subs_clean fits =
     (ap (changed (λ desc. record { desc = desc; subs = map (sub_shown asks) d.subs })) (rest_back asks n d.desc rules c found fits.desc o (whole_has d)))))
 
 device_back : (asks : Bool) (n : ℕ) (d : Device) (rules : List Bool) (c : Clean n d.desc rules) → has_few d.desc ≡ true
-    → ((j : ℕ) (s : Sub) → item_at d.subs j ≡ Some s → Clean n s.desc (sub_rules d j s)) → FitsDevice d → device_of asks (device_file d) ≡ good (device_shown asks d)
+    → ((j : ℕ) (s : Sub) → slice_get d.subs j ≡ Some s → Clean n s.desc (sub_rules d j s)) → FitsDevice d → device_of asks (device_file d) ≡ good (device_shown asks d)
 device_back asks n d rules c few subs_clean fits =
     let o = device_file d in
     next_good (at (whole_of asks) (codes "desc") o) (whole_shown asks d) _ _
@@ -116,13 +116,13 @@ device_back asks n d rules c few subs_clean fits =
 -- ---- sets
 
 module _ (set : Set) (well : WellFormed set) (fits : FitsSet set) where
-  structs_back : (asks : Bool) (i : ℕ) (d : Desc) → item_at set.structs i ≡ Some d → struct_of asks (struct_file d) ≡ good (desc_shown asks d)
+  structs_back : (asks : Bool) (i : ℕ) (d : Desc) → slice_get set.structs i ≡ Some d → struct_of asks (struct_file d) ≡ good (desc_shown asks d)
   structs_back asks i d there =
       let c = struct_clean set well i d there in
       let few = and_parts (has_few d) (nat_le (get_or (struct_depths set.structs) i 0) 4) c.own.1.1.1.1.1.1.0 in
       struct_back asks i d (struct_rules set.structs i d) c few.0 (fits.structs i d there)
 
-  devices_back : (asks : Bool) (i : ℕ) (d : Device) → item_at set.devices i ≡ Some d → device_of asks (device_file d) ≡ good (device_shown asks d)
+  devices_back : (asks : Bool) (i : ℕ) (d : Device) → slice_get set.devices i ≡ Some d → device_of asks (device_file d) ≡ good (device_shown asks d)
   devices_back asks i d there =
       let c = (device_parts set well i d there).0 in
       let few = and_parts (has_few d.desc) (nat_le (length d.subs) 32) c.own.1.1.1.1.1.1.0 in

@@ -3,8 +3,8 @@ use Rattle.std.proofs.Common.{◌≡◌, ℕ, List, [], ◌∷◌, map, Bool, tr
 use Rattle.vms_spec.specs.declared.Count.{Count}
 use Rattle.vms_spec.specs.declared.Count.TheVariants.{One, Fixed, Counted}
 use Rattle.vms_spec.specs.Sets.{Formula, AtLeast, Below, Cell, Not, And, Or, Field, Desc, Sub, Device, Set}
-use Rattle.vms_nodes.specs.Index.{first_of}
-use Rattle.vms_members.specs.Names.{Names}
+use Rattle.vms_json.specs.Index.{first_of}
+use Rattle.vms_json.specs.Names.{Names}
 
 abbrev pub asked : Bool → List (List ℕ) → Names
 asked false names = None

@@ -5,7 +5,7 @@ use Rattle.serde_json.specs.Data.{Data}
 use Rattle.serde_json.specs.Read.{read}
 use Rattle.vms_spec.specs.Sets.{Set}
 use Rattle.vms_spec.specs.WellFormed.{SetFault, first_fault}
-use Rattle.vms_members.specs.Answers.{Answer, good, bad}
+use Rattle.vms_json.specs.Answers.{Answer, good, bad}
 use Rattle.vms_descread.specs.Descs.{parts_of}
 
 pub data Said : Type 0 where

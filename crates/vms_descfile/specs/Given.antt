@@ -1,15 +1,15 @@
 -- What reading a file answers.
 use Rattle.std.specs.Prelude.{◌≡◌, ℕ, List, Option, Some, None, Result, Ok, Err}
 use Rattle.serde_json.specs.Data.{Data}
-use Rattle.vms_nodes.specs.Nodes.{view}
-use Rattle.vms_nodes.specs.declared.node.Node.{Node}
+use Rattle.vms_json.specs.Nodes.{view}
+use Rattle.vms_json.specs.declared.node.Node.{Node}
 use Rattle.vms_desc.specs.declared.set.DescSet.{DescSet}
 use Rattle.vms_desc.specs.Described.{described}
 use Rattle.vms_spec.specs.WellFormed.{first_fault}
 use Rattle.vms_parts.specs.declared.types.Parts.{Parts as FileParts}
 use Rattle.vms_parts.specs.Views.{set_of}
-use Rattle.vms_members.specs.declared.fault.Fault.{Fault}
-use Rattle.vms_members.specs.declared.fault.Fault.TheVariants as faults
+use Rattle.vms_json.specs.declared.fault.Fault.{Fault}
+use Rattle.vms_json.specs.declared.fault.Fault.TheVariants as faults
 use Rattle.vms_descfile.specs.declared.file_fault.FileFault.{FileFault}
 use Rattle.vms_descfile.specs.declared.file_fault.FileFault.TheVariants as file_faults
 use Rattle.vms_descfile.specs.Files.{Said, Parts, Syntax, Shape, IllFormed, path_said, judged_said, file_said}

@@ -3,7 +3,7 @@ ghost use Rattle.vms_descfile.specs.Given.{IsFileFault};
 
 use std::alloc::Global;
 use vms_desc::{Place, Text};
-use vms_members::Fault;
+use vms_json::Fault;
 
 /// Why a description file gives no set.
 #[derive(Drop)]

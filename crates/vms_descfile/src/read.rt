@@ -10,8 +10,7 @@ use std::alloc::Global;
 use std::str;
 use vms_desc::{DescFault, DescSet, Parts};
 use vms_descread::read_parts;
-use vms_nodes::Node;
-use vms_parse::{NoNode, read_node};
+use vms_json::{NoNode, Node, read_node};
 
 /// The set that a description file says. Else the fault is `Syntax` where the bytes are no JSON
 /// value, the first path at which the value isn't of the shape of a file, or the first place at

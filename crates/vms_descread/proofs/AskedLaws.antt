@@ -3,13 +3,13 @@ use Rattle.std.proofs.Common.{◌≡◌, ℕ, ◌+◌, Bool, true, false, ◌&&�
 use Rattle.std.proofs.lemmas.Bool.{false≢true, or_parts}
 use Rattle.serde_json.specs.Data.{Data, Items, no_items, item}
 use Rattle.serde_json.specs.Find.{get, as_array}
-use Rattle.vms_members.specs.Answers.{Answer, good, bad, under, next, changed, each_from, each_of, list_of}
-use Rattle.vms_nodes.specs.Keys.{has}
-use Rattle.vms_members.specs.Members.{judged, member_of, member_or, at, at_or, maybe_at, u16_of, u32_of, text_of}
-use Rattle.vms_members.specs.Names.{Names, names_if, name_in}
+use Rattle.vms_json.specs.Answers.{Answer, good, bad, under, next, changed, each_from, each_of, list_of}
+use Rattle.vms_json.specs.Keys.{has}
+use Rattle.vms_json.specs.Members.{judged, member_of, member_or, at, at_or, maybe_at, u16_of, u32_of, text_of}
+use Rattle.vms_json.specs.Names.{Names, names_if, name_in}
 use Rattle.vms_descread.specs.Fields.{Front, sort_of, count_as, count_of, front_of, presence_of, field_after, field_of, field_fits}
 use Rattle.vms_descread.specs.Descs.{Head, head_of, rest_of, struct_in, sub_of, whole_in}
-use Rattle.vms_nodes.specs.Asked.{asks_a_name, some_ask, asks_in, asks_names}
+use Rattle.vms_json.specs.Asked.{asks_a_name, some_ask, asks_in, asks_names}
 
 -- ---- a member that isn't there
 

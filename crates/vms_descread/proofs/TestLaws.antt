@@ -2,15 +2,15 @@
 use Rattle.std.proofs.Common.{◌≡◌, ℕ, zero, suc, ◌-◌, ◌<◌, List, [], ◌∷◌, get_or, length, refl, ap, sym, subst, ◌∙◌, arith, Result, Some}
 use native.Mathlib.Numerals.{unary_clauses}
 use Rattle.serde_json.specs.Data.{Data}
-use Rattle.vms_nodes.specs.Nodes.{view, items_view}
-use Rattle.vms_nodes.specs.declared.node.Node.{Node}
+use Rattle.vms_json.specs.Nodes.{view, items_view}
+use Rattle.vms_json.specs.declared.node.Node.{Node}
 use Rattle.vms_parts.specs.Views.{formula}
 use Rattle.vms_parts.specs.declared.types.Test.{Test}
 use Rattle.vms_descread.specs.declared.cells.Form.{Form}
-use Rattle.vms_members.specs.declared.fault.Fault.{Fault}
-use Rattle.vms_members.specs.declared.fault.Fault.TheVariants as faults
-use Rattle.vms_members.specs.Answers.{Answer, good, bad, under, next, changed, Refuses, Answers, IsUnder}
-use Rattle.vms_members.specs.Names.{Scope}
+use Rattle.vms_json.specs.declared.fault.Fault.{Fault}
+use Rattle.vms_json.specs.declared.fault.Fault.TheVariants as faults
+use Rattle.vms_json.specs.Answers.{Answer, good, bad, under, next, changed, Refuses, Answers, IsUnder}
+use Rattle.vms_json.specs.Names.{Scope}
 use Rattle.vms_descread.specs.Tests.{test_within, test_as, form_of, two_in}
 
 -- a test that may nest goes by its form

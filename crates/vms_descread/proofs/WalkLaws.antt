@@ -8,11 +8,11 @@ use Rattle.vms_descread.specs.declared.cells.Form.{Form}
 use Rattle.vms_descread.specs.declared.cells.Form.TheVariants as forms
 use Rattle.vms_descread.specs.declared.cells.Leaf.{Leaf}
 use Rattle.vms_descread.specs.declared.cells.Leaf.TheVariants as leaves
-use Rattle.vms_members.specs.declared.fault.Fault.{Fault}
-use Rattle.vms_members.specs.declared.fault.Fault.TheVariants as faults
-use Rattle.vms_members.specs.Answers.{Answer, good, bad, under, next, changed, each_from, each_of, list_of, Refuses}
-use Rattle.vms_members.specs.Members.{judged, member_of, member_or, at, at_or, maybe_at, u16_of, u32_of, integer_of, text_of, u64_of}
-use Rattle.vms_members.specs.Names.{Names, Scope, names_if, name_in}
+use Rattle.vms_json.specs.declared.fault.Fault.{Fault}
+use Rattle.vms_json.specs.declared.fault.Fault.TheVariants as faults
+use Rattle.vms_json.specs.Answers.{Answer, good, bad, under, next, changed, each_from, each_of, list_of, Refuses}
+use Rattle.vms_json.specs.Members.{judged, member_of, member_or, at, at_or, maybe_at, u16_of, u32_of, integer_of, text_of, u64_of}
+use Rattle.vms_json.specs.Names.{Names, Scope, names_if, name_in}
 use Rattle.vms_descread.specs.Tests.{key_of, rel_of, two_of, own_cell, parent_cell, with_parent, leaf_as, both, test_as, test_within, test_of}
 use Rattle.vms_descread.specs.Fields.{Front, sort_of, count_of, front_of, field_after, field_of}
 use Rattle.vms_descread.specs.Descs.{Head, head_of, rest_of, struct_of, sub_of, whole_of, device_of, set_of, parts_of}

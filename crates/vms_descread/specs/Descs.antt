@@ -5,10 +5,10 @@ use Rattle.vms_spec.specs.Sets.{Formula, Field, Desc, Sub, Device, Set}
 use Rattle.vms_parts.specs.Views.{field_of as field_seen, desc_of as desc_seen, sub_of as sub_seen}
 use Rattle.vms_descread.specs.declared.descs.Head as declared
 use Rattle.vms_descread.specs.declared.devices.Whole as whole
-use Rattle.vms_members.specs.Answers.{Answer, good, next, changed, list_of}
-use Rattle.vms_nodes.specs.Keys.{fits}
-use Rattle.vms_members.specs.Members.{judged, at, at_or, maybe_at, u32_of, text_of}
-use Rattle.vms_members.specs.Names.{Names, Scope, names_if}
+use Rattle.vms_json.specs.Answers.{Answer, good, next, changed, list_of}
+use Rattle.vms_json.specs.Keys.{fits}
+use Rattle.vms_json.specs.Members.{judged, at, at_or, maybe_at, u32_of, text_of}
+use Rattle.vms_json.specs.Names.{Names, Scope, names_if}
 use Rattle.vms_descread.specs.Tests.{test_of}
 use Rattle.vms_descread.specs.Fields.{field_of}
 

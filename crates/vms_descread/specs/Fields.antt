@@ -10,10 +10,10 @@ use Rattle.vms_spec.specs.declared.Count.{Count}
 use Rattle.vms_spec.specs.declared.Count.TheVariants.{One, Fixed, Counted}
 use Rattle.vms_spec.specs.Sets.{Formula, Field}
 use Rattle.vms_words.specs.Words.{kind_named}
-use Rattle.vms_members.specs.Answers.{Answer, good, next, given, list_of}
-use Rattle.vms_nodes.specs.Keys.{has, fits}
-use Rattle.vms_members.specs.Members.{judged, at, at_or, maybe_at, u16_of, u32_of, integer_of, text_of}
-use Rattle.vms_members.specs.Names.{Names, name_in}
+use Rattle.vms_json.specs.Answers.{Answer, good, next, given, list_of}
+use Rattle.vms_json.specs.Keys.{has, fits}
+use Rattle.vms_json.specs.Members.{judged, at, at_or, maybe_at, u16_of, u32_of, integer_of, text_of}
+use Rattle.vms_json.specs.Names.{Names, name_in}
 use Rattle.vms_descread.specs.Tests.{test_of}
 use Rattle.vms_descread.specs.declared.fields.Front as declared
 use Rattle.vms_descread.specs.declared.sort.Sort.{Sort}

@@ -4,9 +4,9 @@ use denote.Ref.{Bor}
 use Rattle.std.specs.Str.{bytes_eq}
 use Rattle.serde_json.specs.Data.{Data, Items, no_items, item}
 use Rattle.serde_json.specs.Find.{as_array}
-use Rattle.vms_nodes.specs.Nodes.{view}
-use Rattle.vms_nodes.specs.declared.node.Node.{Node}
-use Rattle.vms_nodes.specs.Keys.{fits}
+use Rattle.vms_json.specs.Nodes.{view}
+use Rattle.vms_json.specs.declared.node.Node.{Node}
+use Rattle.vms_json.specs.Keys.{fits}
 use Rattle.vms_spec.specs.declared.Rel.{Rel}
 use Rattle.vms_spec.specs.declared.Rel.TheVariants as rels
 use Rattle.vms_spec.specs.declared.Whose.TheVariants.{Own, Parent}
@@ -17,9 +17,9 @@ use Rattle.vms_descread.specs.declared.cells.Leaf.{Leaf}
 use Rattle.vms_descread.specs.declared.cells.Leaf.TheVariants as leaves
 use Rattle.vms_descread.specs.declared.cells.Join.{Join}
 use Rattle.vms_descread.specs.declared.cells.Join.TheVariants as joins
-use Rattle.vms_members.specs.Answers.{Answer, good, bad, under, next, changed, given}
-use Rattle.vms_members.specs.Members.{at, u32_of, u64_of, text_of}
-use Rattle.vms_members.specs.Names.{Names, Scope, name_in}
+use Rattle.vms_json.specs.Answers.{Answer, good, bad, under, next, changed, given}
+use Rattle.vms_json.specs.Members.{at, u32_of, u64_of, text_of}
+use Rattle.vms_json.specs.Names.{Names, Scope, name_in}
 
 abbrev pub rel_named : List ℕ → Option Rel
 rel_named word =

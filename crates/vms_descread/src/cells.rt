@@ -1,16 +1,15 @@
 // The forms of tests, and tests on numbers.
 ghost use Rattle.std.specs.Prelude.{◌≡◌, Option, Some, None};
-ghost use Rattle.vms_nodes.specs.Nodes.{view};
+ghost use Rattle.vms_json.specs.Nodes.{view};
 ghost use Rattle.vms_spec.specs.Sets as sets;
 ghost use Rattle.vms_spec.specs.declared.Rel.{Rel as TheRel};
 ghost use Rattle.vms_parts.specs.Views.{formula};
-ghost use Rattle.vms_members.specs.Answers.{Answers};
-ghost use Rattle.vms_members.specs.Names.{scope_seen, names_seen};
+ghost use Rattle.vms_json.specs.Answers.{Answers};
+ghost use Rattle.vms_json.specs.Names.{scope_seen, names_seen};
 ghost use Rattle.vms_descread.specs.Tests.{form_of, key_of, rel_named, rel_of, own_cell, parent_cell};
 
 use std::alloc::Global;
-use vms_members::{Fault, NameIn, Names, Reads, Scope, U32, U64, at};
-use vms_nodes::{Node, fits};
+use vms_json::{Fault, NameIn, Names, Node, Reads, Scope, U32, U64, at, fits};
 use vms_parts::{Rel, Test, Whose};
 
 // The forms of tests, by their keys.

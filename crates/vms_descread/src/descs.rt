@@ -1,17 +1,19 @@
 // Descriptions, and structures.
 ghost use Rattle.std.specs.Prelude.{◌≡◌, map};
-ghost use Rattle.vms_nodes.specs.Nodes.{view};
+ghost use Rattle.vms_json.specs.Nodes.{view};
 ghost use Rattle.vms_spec.specs.Sets as sets;
 ghost use Rattle.vms_parts.specs.Views.{formula, desc_of as desc_seen};
-ghost use Rattle.vms_members.specs.Answers.{Answers};
-ghost use Rattle.vms_members.specs.Names.{names_seen, names_if};
+ghost use Rattle.vms_json.specs.Answers.{Answers};
+ghost use Rattle.vms_json.specs.Names.{names_seen, names_if};
 ghost use Rattle.vms_descread.specs.Descs.{head_of, head_seen, desc_as, rest_of, struct_in, struct_of};
 
 use crate::fields::FieldIn;
 use crate::tests::TestIn;
 use std::alloc::Global;
-use vms_members::{Fault, ListOf, Names, Reads, Scope, TextOf, U32, at, at_or, maybe_at};
-use vms_nodes::{FieldNames, Node, fits, is_asked};
+use vms_json::{
+    Fault, FieldNames, ListOf, Names, Node, Reads, Scope, TextOf, U32, at, at_or, fits, is_asked,
+    maybe_at,
+};
 use vms_parts::{Desc, Field, Listed, Test, Text};
 
 // The members of a description up to its name, in the order of their keys.

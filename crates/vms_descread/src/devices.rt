@@ -1,17 +1,18 @@
 // Devices and their subsections.
 ghost use Rattle.std.specs.Prelude.{Some};
-ghost use Rattle.vms_nodes.specs.Nodes.{view};
+ghost use Rattle.vms_json.specs.Nodes.{view};
 ghost use Rattle.vms_spec.specs.Sets as sets;
 ghost use Rattle.vms_parts.specs.Views.{sub_of as sub_seen, device_of as device_seen};
-ghost use Rattle.vms_members.specs.Answers.{Answers};
-ghost use Rattle.vms_members.specs.Names.{names_seen, names_if};
+ghost use Rattle.vms_json.specs.Answers.{Answers};
+ghost use Rattle.vms_json.specs.Names.{names_seen, names_if};
 ghost use Rattle.vms_descread.specs.Descs.{sub_in, sub_of, Whole as TheWhole, whole_seen, whole_in, whole_of, device_in, device_of};
 
 use crate::descs::{read_head, read_rest};
 use crate::tests::TestIn;
 use std::alloc::Global;
-use vms_members::{Fault, ListOf, Names, Reads, Scope, U32, at, at_or};
-use vms_nodes::{FieldNames, Node, fits, is_asked};
+use vms_json::{
+    Fault, FieldNames, ListOf, Names, Node, Reads, Scope, U32, at, at_or, fits, is_asked,
+};
 use vms_parts::{Desc, Device, Listed, Sub};
 
 // A subsection, whose needed test may name fields of the device.

@@ -2,22 +2,22 @@
 ghost use Rattle.std.specs.Prelude.{◌≡◌, map, option_and_then, codes};
 ghost use Rattle.std.specs.Option.{option_map};
 ghost use Rattle.serde_json.specs.Find.{get, as_str};
-ghost use Rattle.vms_nodes.specs.Nodes.{view};
+ghost use Rattle.vms_json.specs.Nodes.{view};
 ghost use Rattle.vms_spec.specs.Sets as sets;
 ghost use Rattle.vms_parts.specs.Views.{field_of as field_seen, formula};
 ghost use Rattle.vms_descread.specs.declared.sort.Sort.{Sort as TheSort};
-ghost use Rattle.vms_members.specs.Answers.{Answers};
-ghost use Rattle.vms_members.specs.Names.{names_seen};
+ghost use Rattle.vms_json.specs.Answers.{Answers};
+ghost use Rattle.vms_json.specs.Names.{names_seen};
 ghost use Rattle.vms_descread.specs.Fields.{sort_named, sort_of, counts_fit, sort_fits, field_fits, count_as, count_of, item_as, front_seen, front_of, presence_of, field_after, field_in, field_of};
 
 use crate::sort::Sort;
 use crate::tests::TestIn;
 use std::alloc::Global;
-use vms_kinds::Item;
-use vms_members::{
-    Fault, Integer, ListOf, NameIn, Names, Reads, Scope, TextOf, U16, U32, at, at_or, maybe_at,
+use vms_json::{
+    Fault, Integer, ListOf, NameIn, Names, Node, Reads, Scope, TextOf, U16, U32, at, at_or, fits,
+    has, maybe_at,
 };
-use vms_nodes::{Node, fits, has};
+use vms_kinds::Item;
 use vms_parts::{Count, Field, Listed, Test, Text};
 use vms_words::kind_named;
 

@@ -1,14 +1,13 @@
 // The parts of a set.
-ghost use Rattle.vms_nodes.specs.Nodes.{view};
+ghost use Rattle.vms_json.specs.Nodes.{view};
 ghost use Rattle.vms_parts.specs.Views.{set_of as set_seen};
-ghost use Rattle.vms_members.specs.Answers.{Answers};
+ghost use Rattle.vms_json.specs.Answers.{Answers};
 ghost use Rattle.vms_descread.specs.Descs.{set_in, set_of, parts_of};
 
 use crate::descs::StructOf;
 use crate::devices::DeviceOf;
 use std::alloc::Global;
-use vms_members::{Fault, ListOf, TextOf, at};
-use vms_nodes::{Node, fits};
+use vms_json::{Fault, ListOf, Node, TextOf, at, fits};
 use vms_parts::Parts;
 
 /// The parts that a value says. One walk that looks names up is enough where it finds no fault;

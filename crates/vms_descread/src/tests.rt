@@ -1,19 +1,18 @@
 // Tests.
 ghost use Rattle.std.specs.Prelude.{◌≡◌, IfOk, IfErr, Some, codes};
 ghost use Rattle.serde_json.specs.Find.{get};
-ghost use Rattle.vms_nodes.specs.Nodes.{view, items_view};
+ghost use Rattle.vms_json.specs.Nodes.{view, items_view};
 ghost use Rattle.vms_spec.specs.Sets.{Formula, Not};
 ghost use Rattle.vms_parts.specs.Views.{formula};
-ghost use Rattle.vms_members.specs.Answers.{Answer, Answers, under, changed};
-ghost use Rattle.vms_members.specs.declared.fault.Fault.TheVariants as faults;
-ghost use Rattle.vms_members.specs.Members.{at as said_at};
-ghost use Rattle.vms_members.specs.Names.{scope_seen};
+ghost use Rattle.vms_json.specs.Answers.{Answer, Answers, under, changed};
+ghost use Rattle.vms_json.specs.declared.fault.Fault.TheVariants as faults;
+ghost use Rattle.vms_json.specs.Members.{at as said_at};
+ghost use Rattle.vms_json.specs.Names.{scope_seen};
 ghost use Rattle.vms_descread.specs.Tests.{test_within, test_of, leaf_as, pair_seen, two_of, two_in, both, joined, key_of};
 
 use crate::cells::{Form, Join, Leaf, form_of, read_own, read_parent};
 use std::alloc::Global;
-use vms_members::{Fault, Reads, Scope, U32, at};
-use vms_nodes::Node;
+use vms_json::{Fault, Node, Reads, Scope, U32, at};
 use vms_parts::Test;
 
 // No value that is read nests deeper.

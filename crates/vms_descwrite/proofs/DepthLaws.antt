@@ -1,12 +1,12 @@
 -- The file of a well-formed set nests less than what is read back.
 use Rattle.std.proofs.Common.{◌≡◌, ℕ, suc, ◌+◌, ◌≤◌, List, [], ◌∷◌, map, Bool, true, false, nat_le, Option, Some, None, ℤ, pos, negsuc, codes, get_or, Ordering, Less, Equal, Greater, int_le, int_lt, ◌&&◌, ◌==◌, if◌then◌else◌, arith, length, subst, refl}
+use Rattle.std.specs.List.{slice_get}
 use Rattle.std.specs.Ordering.{nat_cmp, match_ordering}
 use Rattle.std.specs.Cmp.Lexicographic.{slice_cmp}
 use Rattle.std.proofs.lemmas.Bool.{and_parts, leb-true}
 use Rattle.serde_json.specs.Data.{Data, Members, no_members, member, put, string, number, null, depth, items_depth, members_depth}
 use Rattle.serde_json.specs.Find.{of_integer}
 use Rattle.serde_json.specs.View.{items_of}
-use Rattle.vms_spec.specs.Lists.{at}
 use Rattle.vms_spec.specs.Sets.{Formula, AtLeast, Below, Cell, Not, And, Or, Field, Desc, Sub, Device, Set}
 use Rattle.vms_spec.specs.declared.Whose.TheVariants.{Own, Parent}
 use Rattle.vms_spec.specs.declared.Rel.{Rel}
@@ -14,7 +14,7 @@ use Rattle.vms_spec.specs.declared.Rel.TheVariants as rels
 use Rattle.vms_spec.specs.Rules.{nodes, is_small_test, is_small_optional, is_small_item}
 use Rattle.vms_spec.specs.Rules as rules
 use Rattle.vms_spec.specs.WellFormed.{WellFormed, has_few, struct_rules, device_rules, sub_rules}
-use Rattle.vms_laws.proofs.WellFormedLaws.{Clean, struct_clean, device_parts, sub_clean}
+use Rattle.vms_spec.proofs.WellFormedLaws.{Clean, struct_clean, device_parts, sub_clean}
 use Rattle.vms_descwrite.specs.Written.{list_file, natural_file, given_as, unless, list_as, own_names, is_zero, item_word, capacity_in, length_in, counter_in, equal_in, size_in, struct_in, rel_file, compared_file, test_file, integer_file, front_file, field_file, desc_members, struct_file, sub_file, whole_file, device_file, set_file}
 
 in_order : (n : ℕ) (o : Ordering) (a b c : Members) → members_depth a ≤ n → members_depth b ≤ n → members_depth c ≤ n → members_depth (match_ordering o a b c) ≤ n
@@ -28,7 +28,7 @@ put_nests n k d (member l e ms) p q =
     let rest = put_nests n k d ms p (omega arith) in
     in_order n (slice_cmp nat_cmp k l) (member k d (member l e ms)) (member l d ms) (member l e (put k d ms)) (omega arith) (omega arith) (omega arith)
 
-items_nest : {A : Type 0} (n : ℕ) (f : A → Data) (xs : List A) → ((i : ℕ) (x : A) → at xs i ≡ Some x → depth (f x) ≤ n) → items_depth (items_of (map f xs)) ≤ n
+items_nest : {A : Type 0} (n : ℕ) (f : A → Data) (xs : List A) → ((i : ℕ) (x : A) → slice_get xs i ≡ Some x → depth (f x) ≤ n) → items_depth (items_of (map f xs)) ≤ n
 items_nest n f [] all = omega arith
 items_nest n f (x ∷ xs) all =
     let here = all 0 x refl in
@@ -43,7 +43,7 @@ unless_nests : (n : ℕ) (b : Bool) (k : List ℕ) (d : Data) (ms : Members) →
 unless_nests n true k d ms p q = q
 unless_nests n false k d ms p q = put_nests n k d ms p q
 
-list_nests : {A : Type 0} (n : ℕ) (k : List ℕ) (f : A → Data) (xs : List A) (ms : Members) → ((i : ℕ) (x : A) → at xs i ≡ Some x → depth (f x) ≤ n)
+list_nests : {A : Type 0} (n : ℕ) (k : List ℕ) (f : A → Data) (xs : List A) (ms : Members) → ((i : ℕ) (x : A) → slice_get xs i ≡ Some x → depth (f x) ≤ n)
     → members_depth ms ≤ suc n → members_depth (list_as k f xs ms) ≤ suc n
 list_nests n k f [] ms all q = q
 list_nests n k f (x ∷ xs) ms all q =
@@ -118,12 +118,12 @@ field_nests own f small =
     omega arith
 
 module _ (n : ℕ) (d : Desc) (rules : List Bool) (c : Clean n d rules) where
-  each_field_nests : (i : ℕ) (f : Field) → at d.fields i ≡ Some f → depth (field_file (own_names d.fields) f) ≤ 33
+  each_field_nests : (i : ℕ) (f : Field) → slice_get d.fields i ≡ Some f → depth (field_file (own_names d.fields) f) ≤ 33
   each_field_nests i f there =
       let small = and_parts (nat_le (length f.former) 8 && is_small_optional f.test) (is_small_item f.item) (c.fields i f there).1.1.1.1.1.1.0 in
       field_nests (own_names d.fields) f (and_parts (nat_le (length f.former) 8) (is_small_optional f.test) small.0).1
 
-  each_test_nests : (i : ℕ) (t : Formula) → at d.validate i ≡ Some t → depth (test_file (own_names d.fields) [] t) ≤ 33
+  each_test_nests : (i : ℕ) (t : Formula) → slice_get d.validate i ≡ Some t → depth (test_file (own_names d.fields) [] t) ≤ 33
   each_test_nests i t there = let nests = small_nests (own_names d.fields) [] t (c.validations i t there).1.1.1.1.1.1.0 in omega arith
 
   desc_nests : members_depth (desc_members d) ≤ 34
@@ -145,10 +145,10 @@ sub_nests parent n s rules c small =
     omega arith
 
 module _ (set : Set) (well : WellFormed set) where
-  struct_nests : (i : ℕ) (d : Desc) → at set.structs i ≡ Some d → depth (struct_file d) ≤ 38
+  struct_nests : (i : ℕ) (d : Desc) → slice_get set.structs i ≡ Some d → depth (struct_file d) ≤ 38
   struct_nests i d there = let members = desc_nests i d (struct_rules set.structs i d) (struct_clean set well i d there) in omega arith
 
-  whole_nests : (i : ℕ) (d : Device) → at set.devices i ≡ Some d → depth (whole_file d) ≤ 37
+  whole_nests : (i : ℕ) (d : Device) → slice_get set.devices i ≡ Some d → depth (whole_file d) ≤ 37
   whole_nests i d there =
       let own = own_names d.desc.fields in
       let desc = desc_nests (length set.structs) d.desc (device_rules set i d) (device_parts set well i d there).0 in
@@ -157,7 +157,7 @@ module _ (set : Set) (well : WellFormed set) where
       sub_nests own (length set.structs) s (sub_rules d j s) c (and_parts (has_few s.desc) (is_small_test s.needed) c.own.1.1.1.1.1.1.0).1) (omega arith) in
       omega arith
 
-  device_nests : (i : ℕ) (d : Device) → at set.devices i ≡ Some d → depth (device_file d) ≤ 38
+  device_nests : (i : ℕ) (d : Device) → slice_get set.devices i ≡ Some d → depth (device_file d) ≤ 38
   device_nests i d there = let whole = whole_nests i d there in omega arith
 
   pub set_nests : depth (set_file set) ≤ 127

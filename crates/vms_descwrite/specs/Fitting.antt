@@ -1,8 +1,8 @@
 -- Numbers of a set that fit the types that hold them.
 use Rattle.std.specs.Prelude.{◌≡◌, ◌≤◌, ℕ, Option, Some, None, IfSome}
+use Rattle.std.specs.List.{slice_get}
 use Rattle.vms_kinds.specs.declared.Item.{Item}
 use Rattle.vms_spec.specs.declared.Count.{Count}
-use Rattle.vms_spec.specs.Lists.{at}
 use Rattle.vms_spec.specs.Sets.{Formula, AtLeast, Below, Cell, Not, And, Or, Field, Desc, Sub, Device, Set}
 use Rattle.vms_descwrite.specs.Written.{capacity_in, length_in, size_in, struct_in}
 
@@ -35,8 +35,8 @@ pub record FitsField (f : Field) : Type 0 where
 pub record FitsDesc (d : Desc) : Type 0 where
   pub version : d.version ≤ 4294967295
   pub minimum : d.minimum ≤ 4294967295
-  pub fields : (i : ℕ) (f : Field) → at d.fields i ≡ Some f → FitsField f
-  pub validate : (i : ℕ) (t : Formula) → at d.validate i ≡ Some t → FitsTest t
+  pub fields : (i : ℕ) (f : Field) → slice_get d.fields i ≡ Some f → FitsField f
+  pub validate : (i : ℕ) (t : Formula) → slice_get d.validate i ≡ Some t → FitsTest t
 
 pub record FitsSub (s : Sub) : Type 0 where
   pub desc : FitsDesc s.desc
@@ -45,12 +45,12 @@ pub record FitsSub (s : Sub) : Type 0 where
 -- of a device without its instance id
 pub record FitsWhole (d : Device) : Type 0 where
   pub desc : FitsDesc d.desc
-  pub subs : (i : ℕ) (s : Sub) → at d.subs i ≡ Some s → FitsSub s
+  pub subs : (i : ℕ) (s : Sub) → slice_get d.subs i ≡ Some s → FitsSub s
 
 pub record FitsDevice (d : Device) : Type 0 where
   pub instance : d.instance ≤ 4294967295
   pub whole : FitsWhole d
 
 pub record FitsSet (set : Set) : Type 0 where
-  pub structs : (i : ℕ) (d : Desc) → at set.structs i ≡ Some d → FitsDesc d
-  pub devices : (i : ℕ) (d : Device) → at set.devices i ≡ Some d → FitsDevice d
+  pub structs : (i : ℕ) (d : Desc) → slice_get set.structs i ≡ Some d → FitsDesc d
+  pub devices : (i : ℕ) (d : Device) → slice_get set.devices i ≡ Some d → FitsDevice d

@@ -5,10 +5,10 @@ use Rattle.dev_board.proofs.SoundLaws.{sound_stays_on}
 use Rattle.dev_board.specs.Sound.{IsSound, Alike}
 use Rattle.dev_board.specs.State.{State, power_on}
 use Rattle.dev_board.specs.Step.{step, after_all}
-use Rattle.dev_drill.proofs.EventLaws.{event-is}
-use Rattle.dev_drill.proofs.FoldLaws.{saves_leave_counts, save_may, save-left}
-use Rattle.dev_drill.specs.Events.{next_number, event_of, events_after}
-use Rattle.dev_drill.specs.Fold.{Course, drilled, is_save_due, saves_of}
+use Rattle.vms_drill.proofs.EventLaws.{event-is}
+use Rattle.vms_drill.proofs.FoldLaws.{saves_leave_counts, save_may, save-left}
+use Rattle.vms_drill.specs.Events.{next_number, event_of, events_after}
+use Rattle.vms_drill.specs.Fold.{Course, drilled, is_save_due, saves_of}
 use Rattle.vms_session.proofs.LengthLaws.{streams_are_short}
 use Rattle.vms_drill.specs.Drill.{Drill, drill_begun, bytes_after, stream_long, with_drill_event, drilled_on}
 use Rattle.vms_drill.specs.Laws.{IsAsUnsaved, CoursesAreSame, SizesAreSmall}

@@ -3,7 +3,7 @@ use Rattle.std.proofs.Common.{◌≡◌, ℕ, List, length, Option, sym, ap, ◌
 use Rattle.dev_board.specs.Saved.{MaySaveUnder}
 use Rattle.dev_board.specs.Sound.{IsSound}
 use Rattle.dev_board.specs.State.{State}
-use Rattle.dev_drill.specs.Fold.{back_of, came_back}
+use Rattle.vms_drill.specs.Fold.{back_of, came_back}
 use Rattle.vms_board.specs.Restoring.{Back, Refused, Restores}
 use Rattle.vms_board.specs.Saving.{saved_stream}
 use Rattle.vms_session.proofs.StreamLaws.{streams_come_back}

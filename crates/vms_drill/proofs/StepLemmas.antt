@@ -4,8 +4,8 @@ use Rattle.dev_board.specs.State.{State}
 use Rattle.dev_board.specs.Step.{step}
 use Rattle.dev_board.specs.declared.event.Answer.{Answer}
 use Rattle.dev_board.specs.declared.event.Event.{Event}
-use Rattle.dev_drill.specs.Events.{next_number, event_of}
-use Rattle.dev_drill.specs.Fold.{Counts, counted, is_save_due, set_of, saves_of, came_back, after_save}
+use Rattle.vms_drill.specs.Events.{next_number, event_of}
+use Rattle.vms_drill.specs.Fold.{Counts, counted, is_save_due, set_of, saves_of, came_back, after_save}
 use Rattle.vms_board.specs.Saving.{saved_stream}
 use Rattle.vms_drill.specs.Drill.{Drill, bytes_after, taken_after, stream_long, drill_on, drilled_on, with_drill_event}
 

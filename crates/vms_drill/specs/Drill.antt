@@ -3,8 +3,8 @@ use Rattle.std.specs.Prelude.{ℕ, zero, suc, ◌+◌, ◌-◌, if◌then◌else
 use Rattle.dev_board.specs.State.{State}
 use Rattle.dev_board.specs.Step.{step}
 use Rattle.dev_board.specs.declared.event.Answer.{Answer}
-use Rattle.dev_drill.specs.Events.{next_number, event_of}
-use Rattle.dev_drill.specs.Fold.{Course, begun, went_on, is_save_due, set_of, saves_of}
+use Rattle.vms_drill.specs.Events.{next_number, event_of}
+use Rattle.vms_drill.specs.Fold.{Course, begun, went_on, is_save_due, set_of, saves_of}
 use Rattle.vms_board.specs.Saving.{saved_stream}
 
 -- a drill in its course: events, board and counts; how many bytes the streams so far have together; and how many the last of

@@ -1,8 +1,8 @@
 -- Laws of drills that contracts name.
 use Rattle.std.specs.Prelude.{◌≡◌, ℕ, ◌*◌, ◌≤◌}
 use Rattle.dev_base.specs.Levels.{IsLevel}
-use Rattle.dev_drill.specs.Fold.{begun, drilled, counted_all, nothing}
-use Rattle.dev_drill.specs.Events.{events_after}
+use Rattle.vms_drill.specs.Fold.{begun, drilled, counted_all, nothing}
+use Rattle.vms_drill.specs.Events.{events_after}
 use Rattle.dev_board.specs.Sound.{IsSound, Alike}
 use Rattle.dev_board.specs.State.{power_on}
 use Rattle.dev_board.specs.Step.{observe, after_all}

@@ -1,7 +1,7 @@
 -- What contracts see of a drill in its course and of its summary.
 use Rattle.std.specs.Prelude.{◌*◌, ◌≤◌}
 use Rattle.dev_board.specs.Sound.{IsSound}
-use Rattle.dev_drill.specs.Views.{tally_view}
+use Rattle.vms_drill.specs.Tallies.{tally_view}
 use Rattle.vms_drill.specs.Drill.{Drill, Summary}
 use Rattle.vms_drill.specs.declared.course.Course.{Course}
 use Rattle.vms_drill.specs.declared.fold.Summary as declared

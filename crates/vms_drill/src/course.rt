@@ -6,7 +6,7 @@ ghost use Rattle.vms_drill.specs.Views.{course_view, summary_view, IsInCourse};
 
 use crate::fold::{Drilled, Summary};
 use crate::round::come_back;
-use dev_drill::{BETWEEN_SAVES, Events, Tally, is_save_due};
+use crate::{BETWEEN_SAVES, Events, Tally, is_save_due};
 use std::alloc::Global;
 use vms_board::Board;
 use vms_io::NoMemory;

@@ -1,4 +1,5 @@
 // Laws of drills, each in a clause of a function that does nothing.
+ghost use Rattle.vms_drill.specs.EventLaws.{EventsAreGood, SavesLeaveCounts};
 ghost use Rattle.vms_drill.specs.Laws.{CoursesAreSame, SizesAreSmall};
 
 /// A drill's board is that of its events and saves alone, what its streams weigh beside it, and so its events, the bytes
@@ -12,4 +13,17 @@ pub fn course_law()
 #[tactic(auto, using(crate::proofs::DrillLaws::sizes_are_small))]
 pub fn size_law()
     ensures { SizesAreSmall }
+{}
+
+/// The events of a drill are such that there are: their bytes are bytes, and their wires wires.
+#[tactic(auto, using(crate::proofs::EventLaws::events_are_good))]
+pub fn events_law()
+    ensures { EventsAreGood }
+{}
+
+/// What the answers of a drill come to is what those of the same events without any save come to, and its
+/// board is like the board after them.
+#[tactic(auto, using(crate::proofs::FoldLaws::saves_leave_counts))]
+pub fn saves_law()
+    ensures { SavesLeaveCounts }
 {}

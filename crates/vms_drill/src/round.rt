@@ -1,10 +1,10 @@
 // A board that goes on as the one that its own stream restores.
 ghost use Rattle.std.specs.Prelude.{◌≡◌, ◌<◌, length, IfOk, OnOk};
 ghost use Rattle.dev_board.specs.Sound.{IsSound};
-ghost use Rattle.dev_drill.specs.Fold.{came_back, set_of};
+ghost use Rattle.vms_drill.specs.Fold.{came_back, set_of};
 ghost use Rattle.vms_board.specs.Saving.{saved_stream};
 
-use dev_drill::set_of;
+use crate::set_of;
 use std::alloc::Global;
 use vms_board::Board;
 use vms_io::NoMemory;

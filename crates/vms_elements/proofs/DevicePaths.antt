@@ -1,10 +1,9 @@
 -- The paths of a device's cells.
 use Rattle.std.proofs.Common.{◌≡◌, ℕ, zero, suc, ◌+◌, ◌-◌, ◌<◌, ◌≤◌, List, [], ◌∷◌, length, get_or, length-append, refl, sym, ap, ◌∙◌, subst, arith, Bool, true, false, nat_lt, if◌then◌else◌, Option, Some, None, inl, inr}
-use Rattle.std.specs.List.{flat_map}
+use Rattle.std.specs.List.{flat_map, slice_get}
 use Rattle.std.proofs.lemmas.Bool.{ltb-true, ltb-false}
 use Rattle.std.proofs.lemmas.List.{get_or_append_left}
 use Rattle.std.proofs.Math.Seq.{get_or-append_right}
-use Rattle.vms_spec.specs.Lists.{at}
 use Rattle.vms_spec.specs.Sets.{Desc, Sub, Device, Set}
 use Rattle.vms_spec.specs.Layout.{Cell, no_cell, desc_cells, struct_cells, device_cells}
 use Rattle.vms_spec.specs.Images.{sub_place, own_cells}
@@ -123,7 +122,7 @@ module _ (set : Set) where
 
   -- the cell of a path in subsection j
   abbrev InSub : ℕ → List Sub → ℕ → List (ℕ × ℕ) → ℕ → Type 0
-  InSub base subs j path c = path_at set path (length set.structs) (desc_of_sub (at subs j)) (sub_place set base subs j) ≡ Some c
+  InSub base subs j path c = path_at set path (length set.structs) (desc_of_sub (slice_get subs j)) (sub_place set base subs j) ≡ Some c
 
   no_desc_path : (path : List (ℕ × ℕ)) (below base c : ℕ) → path_at set path below None base ≡ Some c → ⊥
   no_desc_path [] below base c h = cc
@@ -168,7 +167,7 @@ module _ (set : Set) where
     sub : ℕ
     path : List (ℕ × ℕ)
     has_it : InSub base subs sub path (base + k)
-    names : IsFieldOf (get_or (subs_cells subs) k no_cell) (field_named set path (desc_of_sub (at subs sub)))
+    names : IsFieldOf (get_or (subs_cells subs) k no_cell) (field_named set path (desc_of_sub (slice_get subs sub)))
 
   sub_path : (base : ℕ) (subs : List Sub) (k : ℕ) → k < length (subs_cells subs) → HasSubPath base subs k
   sub_path base [] k lt = absurd (omega arith)
@@ -196,10 +195,10 @@ module _ (set : Set) where
             sub = suc p.sub;
             path = p.path;
             has_it = p.has_it ∙ ap Some place;
-            names = subst (λ (x : Cell). IsFieldOf x (field_named set p.path (desc_of_sub (at subs p.sub)))) (sym (get_or-append_right here (subs_cells subs) k no_cell le)) p.names;
+            names = subst (λ (x : Cell). IsFieldOf x (field_named set p.path (desc_of_sub (slice_get subs p.sub)))) (sym (get_or-append_right here (subs_cells subs) k no_cell le)) p.names;
           }
 
-  device_path : (k : ℕ) (d : Device) (c : ℕ) → at set.devices k ≡ Some d → c < length (device_cells set d) → HasPath set k d c
+  device_path : (k : ℕ) (d : Device) (c : ℕ) → slice_get set.devices k ≡ Some d → c < length (device_cells set d) → HasPath set k d c
   device_path k d c there lt = by_test (nat_lt c (own_cells set d)) refl
     where
       own : List Cell
@@ -223,11 +222,11 @@ module _ (set : Set) where
             part = Some p.sub;
             path = p.path;
             has = ap (λ (o : Option Device). cell_in set o (Some p.sub) p.path) there ∙ p.has_it ∙ ap Some (omega arith);
-            names = subst (λ (x : Cell). IsFieldOf x (field_named set p.path (desc_of_sub (at d.subs p.sub)))) (sym (get_or-append_right own (subs_cells d.subs) c no_cell le)) p.names;
+            names = subst (λ (x : Cell). IsFieldOf x (field_named set p.path (desc_of_sub (slice_get d.subs p.sub)))) (sym (get_or-append_right own (subs_cells d.subs) c no_cell le)) p.names;
           }
 
 pub distinct_law : DistinctLaw
-distinct_law set k part part' path path' c h e = same_at set (at set.devices k) part part' path path' c h e
+distinct_law set k part part' path path' c h e = same_at set (slice_get set.devices k) part part' path path' c h e
 
 pub path_law : PathLaw
 path_law set k d c there lt = device_path set k d c there lt

@@ -1,11 +1,11 @@
 -- The path of each number has its cell and names a field of its kind and default; and a path that has a cell is a number's.
 use Rattle.std.proofs.Common.{◌≡◌, ℕ, zero, suc, ◌+◌, ◌*◌, ◌<◌, ◌≤◌, List, [], ◌∷◌, ◌++◌, length, get_or, map, ℤ, refl, sym, ap, ◌∙◌, subst, arith, Bool, true, false, ◌&&◌, nat_lt, if◌then◌else◌, Option, Some, None}
 use Rattle.std.proofs.Common.{inl}
+use Rattle.std.specs.List.{slice_get}
 use Rattle.std.proofs.lemmas.Bool.{ltb-true, ltb-false}
 use Rattle.vms_kinds.specs.declared.Kind.{Kind}
 use Rattle.vms_kinds.specs.declared.Item.{Item}
 use Rattle.vms_kinds.specs.declared.Item.TheVariants.{Num, Equal, Unused, Struct}
-use Rattle.vms_spec.specs.Lists.{at}
 use Rattle.vms_spec.specs.Sets.{Field, Desc, Set}
 use Rattle.vms_spec.specs.Layout.{Cell, no_desc, first, counted, capacity_of, item_size, field_cells, desc_cells, place_of, numbers_of, all_hold}
 use Rattle.vms_spec.specs.Places.{item_at, element_at, path_at}
@@ -15,12 +15,12 @@ use Rattle.vms_spec.proofs.Tables.{first_at, first_long}
 use Rattle.vms_elements.proofs.Tables.{shapes_cells}
 use Rattle.vms_elements.proofs.Members.{Each, each_append, each_map, Has, has_left, has_right, has_map}
 
-at_get : {X : Type 0} (xs : List X) (i : ℕ) (d : X) → i < length xs → at xs i ≡ Some (get_or xs i d)
+at_get : {X : Type 0} (xs : List X) (i : ℕ) (d : X) → i < length xs → slice_get xs i ≡ Some (get_or xs i d)
 at_get [] i d lt = absurd (omega arith)
 at_get (x ∷ xs) zero d lt = refl
 at_get (x ∷ xs) (suc i) d lt = at_get xs i d (omega arith)
 
-get_at : {X : Type 0} (xs : List X) (i : ℕ) (d x : X) → at xs i ≡ Some x → get_or xs i d ≡ x
+get_at : {X : Type 0} (xs : List X) (i : ℕ) (d x : X) → slice_get xs i ≡ Some x → get_or xs i d ≡ x
 get_at [] i d x e = cc
 get_at (y ∷ xs) zero d x e = cc
 get_at (y ∷ xs) (suc i) d x e = get_at xs i d x e
@@ -38,8 +38,8 @@ pub is_lt : (a b : ℕ) → a < b → nat_lt a b ≡ true
 is_lt a b lt = lt_true a b lt (nat_lt a b) refl
 
 -- an element of a field that there is
-element_is : (cs : List (List Cell)) (d : Desc) (base i e place : ℕ) (f : Field) (go : Item → ℕ → Option ℕ) → at d.fields i ≡ Some f → nat_lt e (capacity_of f.count) ≡ true
-    → place_of cs d.fields 0 base d.fields i + e * item_size cs f.item ≡ place → element_at cs d base i e (at d.fields i) go ≡ go f.item place
+element_is : (cs : List (List Cell)) (d : Desc) (base i e place : ℕ) (f : Field) (go : Item → ℕ → Option ℕ) → slice_get d.fields i ≡ Some f → nat_lt e (capacity_of f.count) ≡ true
+    → place_of cs d.fields 0 base d.fields i + e * item_size cs f.item ≡ place → element_at cs d base i e (slice_get d.fields i) go ≡ go f.item place
 element_is cs d base i e place f go there below is =
     ap (λ (o : Option Field). element_at cs d base i e o go) there
     ∙ ap (λ (b : Bool). if b then go f.item (place_of cs d.fields 0 base d.fields i + e * item_size cs f.item) else None) below
@@ -47,7 +47,7 @@ element_is cs d base i e place f go there below is =
 
 module _ (set : Set) where
   abbrev into : ℕ → List (ℕ × ℕ) → ℕ → ℕ → Option ℕ
-  into below path j cell = if nat_lt j below then path_at set path j (at set.structs j) cell else None
+  into below path j cell = if nat_lt j below then path_at set path j (slice_get set.structs j) cell else None
 
   -- ---- each number's path
 
@@ -56,24 +56,24 @@ module _ (set : Set) where
 
   abbrev TellsItem : ℕ → Field → ℕ → Element → Type 0
   TellsItem below f place x = (cell : Cell) → x.what ≡ Number cell
-      → (item_at (into below x.path) x.path f.item place ≡ Some x.cell) × IsFieldOf cell (last_field (λ j. field_named set x.path (at set.structs j)) x.path (Some f))
+      → (item_at (into below x.path) x.path f.item place ≡ Some x.cell) × IsFieldOf cell (last_field (λ j. field_named set x.path (slice_get set.structs j)) x.path (Some f))
 
   abbrev Complete : ℕ → Type 0
   Complete below = (d : Desc) (v : ℕ) (n : List ℤ) (base : ℕ) → Each (Tells below d base) (desc_elements (first shape set.structs below) d v n base)
 
-  dotted_tells : (below : ℕ) (f : Field) (j place : ℕ) (d : Desc) → f.item ≡ Struct j → nat_lt j below ≡ true → at set.structs j ≡ Some d
+  dotted_tells : (below : ℕ) (f : Field) (j place : ℕ) (d : Desc) → f.item ≡ Struct j → nat_lt j below ≡ true → slice_get set.structs j ≡ Some d
       → (x : Element) → Tells j d place x → TellsItem below f place (dotted x)
   dotted_tells below f j place d is lt there x tells cell what = by_path x.path (tells cell what)
     where
       by_path : (p : List (ℕ × ℕ)) → (path_at set p j (Some d) place ≡ Some x.cell) × IsFieldOf cell (field_named set p (Some d))
-          → (item_at (into below p) p f.item place ≡ Some x.cell) × IsFieldOf cell (last_field (λ j. field_named set p (at set.structs j)) p (Some f))
+          → (item_at (into below p) p f.item place ≡ Some x.cell) × IsFieldOf cell (last_field (λ j. field_named set p (slice_get set.structs j)) p (Some f))
       by_path [] (h, k) = absurd k
       by_path (step ∷ p) (h, k) = (
         ap (λ (i : Item). item_at (into below (step ∷ p)) (step ∷ p) i place) is
-            ∙ ap (λ (b : Bool). if b then path_at set (step ∷ p) j (at set.structs j) place else None) lt
+            ∙ ap (λ (b : Bool). if b then path_at set (step ∷ p) j (slice_get set.structs j) place else None) lt
             ∙ ap (λ (o : Option Desc). path_at set (step ∷ p) j o place) there ∙ h,
         subst (λ (o : Option Field). IsFieldOf cell o)
-            (sym (ap (λ (i : Item). inner_field (λ j. field_named set (step ∷ p) (at set.structs j)) i) is ∙ ap (λ (o : Option Desc). field_named set (step ∷ p) o) there)) k,
+            (sym (ap (λ (i : Item). inner_field (λ j. field_named set (step ∷ p) (slice_get set.structs j)) i) is ∙ ap (λ (o : Option Desc). field_named set (step ∷ p) o) there)) k,
       )
 
   num_tells : (below : ℕ) (f : Field) (caps : List ℕ) (place : ℕ) (kind : Kind) → f.item ≡ Num kind
@@ -119,15 +119,15 @@ module _ (set : Set) where
   abbrev sizes : ℕ → List (List Cell)
   sizes below = first desc_cells set.structs below
 
-  behind_tells : (below : ℕ) (d : Desc) (base i e place : ℕ) (f : Field) (text : List ℕ) (c p : Bool) → at d.fields i ≡ Some f → nat_lt e (capacity_of f.count) ≡ true
+  behind_tells : (below : ℕ) (d : Desc) (base i e place : ℕ) (f : Field) (text : List ℕ) (c p : Bool) → slice_get d.fields i ≡ Some f → nat_lt e (capacity_of f.count) ≡ true
       → place_of (sizes below) d.fields 0 base d.fields i + e * item_size (sizes below) f.item ≡ place → (x : Element) → TellsItem below f place x → Tells below d base (behind (i, e) text c p x)
   behind_tells below d base i e place f text c p there lt is x tells cell what =
       let t = tells cell what in (
         element_is (sizes below) d base i e place f (item_at (into below x.path) x.path) there lt is ∙ t.0,
-        subst (λ (o : Option Field). IsFieldOf cell (last_field (λ j. field_named set x.path (at set.structs j)) x.path o)) (sym there) t.1,
+        subst (λ (o : Option Field). IsFieldOf cell (last_field (λ j. field_named set x.path (slice_get set.structs j)) x.path o)) (sym there) t.1,
       )
 
-  array_tells : (below : ℕ) (d : Desc) (base i : ℕ) (f : Field) (stand : Stand) (part : ℕ → List Element) (step : ℕ) → stand.number ≡ i → at d.fields i ≡ Some f
+  array_tells : (below : ℕ) (d : Desc) (base i : ℕ) (f : Field) (stand : Stand) (part : ℕ → List Element) (step : ℕ) → stand.number ≡ i → slice_get d.fields i ≡ Some f
       → step ≡ item_size (sizes below) f.item → ((place : ℕ) → Each (TellsItem below f place) (part place))
       → (e n place : ℕ) → e + n ≤ capacity_of f.count → place_of (sizes below) d.fields 0 base d.fields i + e * step ≡ place → Each (Tells below d base) (array_elements f stand part step e n place)
   array_tells below d base i f stand part step same there size h e zero place le is = tt
@@ -145,19 +145,19 @@ module _ (set : Set) where
 
   -- the fields from i on are those of the description
   record Among (cs : List (List Cell)) (d : Desc) (base i place : ℕ) (fs : List Field) : Type 0 where
-    stands : (k : ℕ) → at d.fields (i + k) ≡ at fs k
+    stands : (k : ℕ) → slice_get d.fields (i + k) ≡ slice_get fs k
     places : (k : ℕ) → place_of cs d.fields 0 base d.fields (i + k) ≡ place_of cs d.fields i place fs k
 
   next_among : (cs : List (List Cell)) (d : Desc) (base i place : ℕ) (f : Field) (fs : List Field) → Among cs d base i place (f ∷ fs)
       → Among cs d base (suc i) (place + length (field_cells cs d.fields i f)) fs
   next_among cs d base i place f fs a = record {
-    stands = λ k. let e : suc i + k ≡ i + suc k = omega arith in ap (at d.fields) e ∙ a.stands (suc k);
+    stands = λ k. let e : suc i + k ≡ i + suc k = omega arith in ap (slice_get d.fields) e ∙ a.stands (suc k);
     places = λ k. let e : suc i + k ≡ i + suc k = omega arith in ap (place_of cs d.fields 0 base d.fields) e ∙ a.places (suc k);
   }
 
   all_among : (cs : List (List Cell)) (d : Desc) (base : ℕ) → Among cs d base 0 base d.fields
   all_among cs d base = record {
-    stands = λ k. let e : 0 + k ≡ k = omega arith in ap (at d.fields) e;
+    stands = λ k. let e : 0 + k ≡ k = omega arith in ap (slice_get d.fields) e;
     places = λ k. let e : 0 + k ≡ k = omega arith in ap (place_of cs d.fields 0 base d.fields) e;
   }
 
@@ -173,7 +173,7 @@ module _ (set : Set) where
       let here : place_of (sizes below) d.fields 0 base d.fields i ≡ place = ap (place_of (sizes below) d.fields 0 base d.fields) (sym zero_more) ∙ a.places 0 in
       each_append (Tells below d base) (field_elements ss d.fields v own n i place f) (elements_from ss d.fields v own n (suc i) (place + length (field_cells (cells_in ss) d.fields i f)) fs)
       (array_tells below d base i f (stand_of i f v own) (item_elements ss f.item caps f.default n) (item_size (cells_in ss) f.item) refl
-      (ap (at d.fields) (sym zero_more) ∙ a.stands 0) (ap (λ (cs : List (List Cell)). item_size cs f.item) cells)
+      (ap (slice_get d.fields) (sym zero_more) ∙ a.stands 0) (ap (λ (cs : List (List Cell)). item_size cs f.item) cells)
       (λ p. item_tells below le earlier f caps n p f.item refl) 0 (capacity_of f.count) place (omega arith) (omega (arith, none, here)))
       (fields_tell below le earlier d base v own n (suc i) (place + length (field_cells (cells_in ss) d.fields i f)) fs
       (subst (λ (cs : List (List Cell)). Among (sizes below) d base (suc i) (place + length (field_cells cs d.fields i f)) fs) (sym cells) (next_among (sizes below) d base i place f fs a)))
@@ -223,7 +223,7 @@ module _ (set : Set) where
       (in_array f stand part step i path c same (suc e) n (place + step) k (omega arith) (subst (λ (q : ℕ). Has (IsAt path c) (part q)) next h)))
 
   in_fields : (ss : List Shape) (fields : List Field) (v : ℕ) (own : ℕ → ℕ) (n : List ℤ) (path : List (ℕ × ℕ)) (c e : ℕ) (f : Field)
-      → e < capacity_of f.count → (i place : ℕ) (fs : List Field) (k : ℕ) → at fs k ≡ Some f
+      → e < capacity_of f.count → (i place : ℕ) (fs : List Field) (k : ℕ) → slice_get fs k ≡ Some f
       → Has (IsAt path c) (item_elements ss f.item (counted (i + k) fields) f.default n (place_of (cells_in ss) fields i place fs k + e * item_size (cells_in ss) f.item))
       → Has (IsAt ((i + k, e) ∷ path) c) (elements_from ss fields v own n i place fs)
   in_fields ss fields v own n path c e f lt i place [] k there h = cc
@@ -263,7 +263,7 @@ module _ (set : Set) where
       d : Desc
       d = get_or set.structs j no_desc
 
-      by_test : (b : Bool) → nat_lt j below ≡ b → (if b then path_at set (s ∷ path) j (at set.structs j) place else None) ≡ Some c
+      by_test : (b : Bool) → nat_lt j below ≡ b → (if b then path_at set (s ∷ path) j (slice_get set.structs j) place else None) ≡ Some c
           → Has (IsAt (s ∷ path) c) (map dotted ((get_or ss j no_shape).elements n place))
       by_test false t h = cc
       by_test true t h =
@@ -274,7 +274,7 @@ module _ (set : Set) where
           (has_map (IsAt (s ∷ path) c) (IsAt (s ∷ path) c) dotted (λ x p. p) (desc_elements (first shape set.structs j) d d.version n place)
           (sound j d place c (omega arith) (ap (λ (o : Option Desc). path_at set (s ∷ path) j o place) (sym there) ∙ h) d.version n))
 
-  in_desc : (path : List (ℕ × ℕ)) → Sound path → (below : ℕ) → below ≤ length set.structs → (d : Desc) (base i e c : ℕ) (o : Option Field) → at d.fields i ≡ o
+  in_desc : (path : List (ℕ × ℕ)) → Sound path → (below : ℕ) → below ≤ length set.structs → (d : Desc) (base i e c : ℕ) (o : Option Field) → slice_get d.fields i ≡ o
       → element_at (sizes below) d base i e o (item_at (into below path) path) ≡ Some c
       → (v : ℕ) (n : List ℤ) → Has (IsAt ((i, e) ∷ path) c) (desc_elements (first shape set.structs below) d v n base)
   in_desc path sound below few d base i e c None there h v n = cc
@@ -303,7 +303,7 @@ module _ (set : Set) where
 
   sound : (path : List (ℕ × ℕ)) → Sound path
   sound [] below d base c few h v n = cc
-  sound (s ∷ path) below d base c few h v n = in_desc path (sound path) below few d base s.0 s.1 c (at d.fields s.0) refl h v n
+  sound (s ∷ path) below d base c few h v n = in_desc path (sound path) below few d base s.0 s.1 c (slice_get d.fields s.0) refl h v n
 
   pub path_stands : (path : List (ℕ × ℕ)) (d : Desc) (base c : ℕ) → path_at set path (length set.structs) (Some d) base ≡ Some c → (v : ℕ) (n : List ℤ) → Has (IsAt path c) (elements_in set d v n base)
   path_stands path d base c h v n = sound path (length set.structs) d base c (omega arith) h v n

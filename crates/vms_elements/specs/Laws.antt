@@ -1,6 +1,6 @@
 -- What the list of elements means in the words of the definitions, and which paths cells have.
 use Rattle.std.specs.Prelude.{◌≡◌, ℕ, ◌<◌, List, length, map, get_or, Option, Some, None, ℤ}
-use Rattle.vms_spec.specs.Lists.{at}
+use Rattle.std.specs.List.{slice_get}
 use Rattle.vms_spec.specs.Sets.{Desc, Device, Set}
 use Rattle.vms_spec.specs.Layout.{no_cell, desc_cells, struct_cells, device_cells, desc_slots, meanings}
 use Rattle.vms_spec.specs.Images.{Image, image_slots}
@@ -50,7 +50,7 @@ DistinctLaw = (set : Set) (k : ℕ) (part part' : Option ℕ) (path path' : List
 -- the description that a part of a device names: its own, or a subsection's
 abbrev pub part_desc : Device → Option ℕ → Option Desc
 part_desc d None = Some d.desc
-part_desc d (Some j) = desc_of_sub (at d.subs j)
+part_desc d (Some j) = desc_of_sub (slice_get d.subs j)
 
 -- a path of a cell, which names a field of the cell's kind and default
 pub record HasPath (set : Set) (k : ℕ) (d : Device) (c : ℕ) : Type 0 where
@@ -61,4 +61,4 @@ pub record HasPath (set : Set) (k : ℕ) (d : Device) (c : ℕ) : Type 0 where
 
 -- each cell of a device has a path
 abbrev pub PathLaw : Type 0
-PathLaw = (set : Set) (k : ℕ) (d : Device) (c : ℕ) → at set.devices k ≡ Some d → c < length (device_cells set d) → HasPath set k d c
+PathLaw = (set : Set) (k : ℕ) (d : Device) (c : ℕ) → slice_get set.devices k ≡ Some d → c < length (device_cells set d) → HasPath set k d c

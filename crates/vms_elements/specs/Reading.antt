@@ -1,8 +1,8 @@
 -- Which machine and images a text stands for, and of any other text the first bad line of the first bad pass.
 use Rattle.std.specs.Prelude.{◌≡◌, ◌⊎◌, ℕ, suc, ◌<◌, Bool, true, false, ◌||◌, ◌==◌, List, [], ◌∷◌, ◌++◌, length, get_or, map, Option, Some, None, ℤ, pos}
+use Rattle.std.specs.List.{list_all}
 use Rattle.vms_kinds.specs.declared.Kind.TheVariants.{U64, I64}
 use Rattle.vms_spec.specs.declared.ValuesReason.{ValuesReason}
-use Rattle.vms_spec.specs.Lists.{every}
 use Rattle.vms_spec.specs.Rules.{in_range}
 use Rattle.vms_spec.specs.Sets.{Sub, Device, Set}
 use Rattle.vms_spec.specs.Layout.{no_cell, device_cells}
@@ -49,7 +49,7 @@ pub record IsShaped (set : Set) (d : Device) (image : Image) : Type 0 where
   pub subs : length image.came ≡ length d.subs
   pub versions : AreAtVersions d.subs image.came
   pub cells : length image.numbers ≡ length (device_cells set d)
-  pub short : every is_short image.numbers ≡ true
+  pub short : list_all is_short image.numbers ≡ true
 
 abbrev pub AreShaped : Set → List Device → List Image → Type 0
 AreShaped set [] [] = Unit {0}

@@ -2,7 +2,7 @@
 use Rattle.std.proofs.Common.{◌≡◌, ℕ, ◌+◌, ◌<◌, ◌≤◌, List, ◌++◌, length, get_or, take, drop, Option, Ok, IfSome, sym, ap, ◌∙◌, arith, length-append, length-drop}
 use Rattle.std.proofs.lemmas.List.{get_or-take, length-take-le}
 use Rattle.arrayvec.specs.ArrayVec.{ArrayVec}
-use Rattle.vms_spec.specs.Judging.{number_at, bytes_at}
+use Rattle.vms_spec.specs.Lookup.{number_at, bytes_at}
 use Rattle.vms_marks.specs.declared.head.Head.{Head}
 use Rattle.vms_marks.specs.Heads.{head_in}
 use Rattle.vms_frames.specs.declared.units.Step.TheVariants.{Section}

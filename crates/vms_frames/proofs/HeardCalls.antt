@@ -3,11 +3,11 @@ use Rattle.std.proofs.Common.{◌≡◌, ℕ, ◌+◌, List, [], take, drop, Opt
 use Rattle.vms_kinds.specs.declared.Kind.{Kind}
 use Rattle.vms_kinds.specs.Codes.{width}
 use Rattle.vms_spec.specs.declared.Reason.{Reason}
-use Rattle.vms_spec.specs.Judging.{number_at}
+use Rattle.vms_spec.specs.Lookup.{number_at}
 use Rattle.vms_spec.specs.Units.{Magic, Version}
-use Rattle.vms_units.specs.Dues.{AMagic}
-use Rattle.vms_units.specs.Seen.{Seen, Good, Bad, Short, seen}
-use Rattle.vms_units.specs.Taking.{nothing_known}
+use Rattle.vms_stream.specs.Dues.{AMagic}
+use Rattle.vms_stream.specs.Seen.{Seen, Good, Bad, Short, seen}
+use Rattle.vms_stream.specs.Taking.{nothing_known}
 use Rattle.vms_frames.specs.declared.fault.FrameFault.{FrameFault}
 use Rattle.vms_frames.specs.declared.fault.FrameFault.TheVariants.{Refused, ReadFault}
 use Rattle.vms_frames.specs.declared.units.Between.{Between}

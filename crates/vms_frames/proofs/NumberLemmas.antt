@@ -6,7 +6,7 @@ use Rattle.vms_kinds.specs.declared.Kind.{Kind}
 use Rattle.vms_kinds.specs.declared.Kind.TheVariants as kinds
 use Rattle.vms_kinds.specs.Codes.{width, value_of, IsBadBool}
 use Rattle.vms_spec.specs.declared.Reason.TheVariants as reasons
-use Rattle.vms_spec.specs.Judging.{is_bad_bool, number_at}
+use Rattle.vms_spec.specs.Lookup.{is_bad_bool, number_at}
 use Rattle.vms_frames.specs.Found.{Found, Whole, Wrong, number_found, version_found}
 use Rattle.vms_frames.proofs.UnitLemmas.{needs_whole, number_of_unit}
 

@@ -5,13 +5,13 @@ use Rattle.vms_kinds.specs.Codes.{width}
 use Rattle.vms_spec.specs.Layout.{Number as NumberSlot, Filler as FillerSlot}
 use Rattle.vms_spec.specs.declared.Reason.{Reason}
 use Rattle.vms_spec.specs.declared.Reason.TheVariants as reasons
-use Rattle.vms_spec.specs.Judging.{number_at}
+use Rattle.vms_spec.specs.Lookup.{number_at}
 use Rattle.vms_spec.specs.Units.{Piece, Magic, Version, Number, Filler, Configuration, Head, SubHead, Foot, End}
-use Rattle.vms_units.specs.SoFar.{Known, no_image}
-use Rattle.vms_units.specs.SoFar as tails
-use Rattle.vms_units.specs.Dues.{Due, AMagic, AVersion, AfterFields, begins_next, Between as IsBetween, AfterEnd, Field}
-use Rattle.vms_units.specs.Seen.{Seen, Good, Bad, Short, seen}
-use Rattle.vms_units.specs.Taking.{nothing_known}
+use Rattle.vms_stream.specs.SoFar.{Known, no_image}
+use Rattle.vms_stream.specs.SoFar as tails
+use Rattle.vms_stream.specs.Dues.{Due, AMagic, AVersion, AfterFields, begins_next, Between as IsBetween, AfterEnd, Field}
+use Rattle.vms_stream.specs.Seen.{Seen, Good, Bad, Short, seen}
+use Rattle.vms_stream.specs.Taking.{nothing_known}
 use Rattle.vms_frames.specs.Stands.{Stand}
 use Rattle.vms_frames.specs.Found.{step_long}
 use Rattle.vms_frames.specs.declared.fault.FrameFault.{FrameFault}

@@ -7,7 +7,7 @@ use Rattle.vms_kinds.specs.Codes.{width, value_of}
 use Rattle.vms_spec.specs.declared.Reason.{Reason}
 use Rattle.vms_spec.specs.declared.Reason.TheVariants as reasons
 use Rattle.vms_spec.specs.Streams.{magic, longest_text}
-use Rattle.vms_spec.specs.Judging.{number_at, bytes_at, is_bad_bool}
+use Rattle.vms_spec.specs.Lookup.{number_at, bytes_at, is_bad_bool}
 use Rattle.vms_marks.specs.declared.mark.Mark.{Mark}
 use Rattle.vms_marks.specs.declared.mark.Mark.TheVariants as marks
 use Rattle.vms_marks.specs.Marks.{mark_of}

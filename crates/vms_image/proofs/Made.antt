@@ -1,5 +1,6 @@
 -- The image of a device at the set's version, with no subsection and all defaults.
 use Rattle.std.proofs.Common.{◌≡◌, ℕ, zero, suc, ◌<◌, List, [], ◌∷◌, Option, Some, None, ℤ, pos, length, get_or, map, replicate, true, sym, ap, ◌∙◌, subst, refl, arith}
+use Rattle.std.specs.List.{slice_get}
 use Rattle.std.proofs.lemmas.List.{length-map, get_or-map}
 use Rattle.std.proofs.lemmas.Simd.{map-map}
 use Rattle.vms_kinds.specs.declared.Kind.{Kind}
@@ -7,11 +8,10 @@ use Rattle.vms_kinds.specs.declared.Kind.TheVariants.{U8}
 use Rattle.vms_kinds.specs.Codes.{InRange}
 use Rattle.vms_spec.specs.Sets as sets
 use Rattle.vms_spec.specs.Heads.{FitsHeads}
-use Rattle.vms_spec.specs.Lists.{at}
 use Rattle.vms_spec.specs.Layout.{no_cell, device_cells}
 use Rattle.vms_spec.specs.WellFormed.{first_fault}
-use Rattle.vms_laws.specs.Good.{DefaultsFit}
-use Rattle.vms_laws.proofs.WellFormedLaws.{well_good}
+use Rattle.vms_spec.specs.Good.{DefaultsFit}
+use Rattle.vms_spec.proofs.WellFormedLaws.{well_good}
 use Rattle.vms_parts.specs.Devices.{device_at}
 use Rattle.vms_parts.specs.Views.{device_of, sub_of, form_of}
 use Rattle.vms_parts.specs.declared.types.Device.{Device}
@@ -36,7 +36,7 @@ same_image a b v c n k =
     ∙ ap (λ (x : List ℤ). let i : Typed = record { version = b.version; came = b.came; numbers = x; kinds = a.kinds } in i) n
     ∙ ap (λ (x : List Kind). let i : Typed = record { version = b.version; came = b.came; numbers = b.numbers; kinds = x } in i) k
 
-at_get : {X : Type 0} (xs : List X) (k : ℕ) (d : X) → k < length xs → at xs k ≡ Some (get_or xs k d)
+at_get : {X : Type 0} (xs : List X) (k : ℕ) (d : X) → k < length xs → slice_get xs k ≡ Some (get_or xs k d)
 at_get [] k d lt = absurd (omega arith)
 at_get (x ∷ xs) zero d lt = refl
 at_get (x ∷ xs) (suc k) d lt = at_get xs k d (omega arith)

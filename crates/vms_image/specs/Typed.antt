@@ -1,10 +1,10 @@
 -- An image as it is held: the state that a section carries, and the kind of each cell.
 use Rattle.std.specs.Prelude.{◌≡◌, ℕ, List, length, Option, Some, ℤ}
+use Rattle.std.specs.List.{slice_get}
 use Rattle.vms_kinds.specs.declared.Kind.{Kind}
 use Rattle.vms_spec.specs.Sets.{Set}
 use Rattle.vms_spec.specs.Layout.{device_cells}
 use Rattle.vms_spec.specs.Images.{Image, default_image}
-use Rattle.vms_spec.specs.Lists.{at}
 use Rattle.vms_parts.specs.Devices.{device_at}
 use Rattle.vms_desc.specs.Spots.{kinds_at}
 
@@ -35,4 +35,4 @@ pub record IsImageOf (set : Set) (device : ℕ) (image : Typed) : Type 0 where
 -- one image for each device of a set, in its order
 pub record AreImagesOf (set : Set) (images : List Typed) : Type 0 where
   pub one_each : length images ≡ length set.devices
-  pub each : (k : ℕ) (image : Typed) → at images k ≡ Some image → IsImageOf set k image
+  pub each : (k : ℕ) (image : Typed) → slice_get images k ≡ Some image → IsImageOf set k image

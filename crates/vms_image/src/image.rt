@@ -1,4 +1,5 @@
 // The state of a device.
+ghost use Rattle.vms_spec.specs.declared.TheConstants.{MOST_ITEMS};
 ghost use Rattle.std.specs.Prelude.{◌≡◌, ◌<◌, ◌≤◌, ◌↔◌, IsTrue, ℕ, Option, None, pos, length, get_or, slice_set, map, replicate, IfOk};
 ghost use Rattle.vms_desc.specs.Described.{described, device_at};
 ghost use Rattle.vms_desc.specs.Spots.{kinds_at};
@@ -196,7 +197,7 @@ fn clear(came: &mut Vec<Option<u32>>)
 
 // Each cell, which is 0, gets its default.
 fn put_defaults(cells: &mut Buffer, forms: &[CellForm])
-    requires few { length forms.now ≤ 16384 }
+    requires few { length forms.now ≤ MOST_ITEMS }
     requires zero { cells.old.numbers ≡ replicate (length forms.now) (pos 0) }
     requires kinds { cells.old.kinds ≡ map (λ form. form.kind) forms.now }
     requires range { (k : ℕ) → k < length forms.now

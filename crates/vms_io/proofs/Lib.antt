@@ -1,3 +1,5 @@
 pub mod Filling
 pub mod Gathering
 pub mod PutLemmas
+pub mod ReadingLemmas
+pub mod WritingLemmas

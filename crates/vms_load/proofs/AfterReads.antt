@@ -1,28 +1,29 @@
 -- What stands behind the fields of a part, as the judge reads it.
 use Rattle.std.proofs.Common.{◌≡◌, ℕ, zero, suc, ◌+◌, ◌-◌, ◌<◌, ◌≤◌, List, [], ◌∷◌, length, drop, get_or, slice_set, Option, Some, None, Bool, true, false, nat_lt, if◌then◌else◌, Result, Ok, Err, IfSome, refl, sym, ap, ◌∙◌, subst, arith}
+use Rattle.std.specs.List.{slice_get}
 use Rattle.std.proofs.lemmas.List.{drop_all}
 use Rattle.vms_spec.specs.declared.Reason.TheVariants as reasons
 use Rattle.std.specs.Str.{bytes_eq}
-use Rattle.vms_spec.specs.Lists.{at, position}
+use Rattle.vms_spec.specs.Lists.{position}
 use Rattle.vms_spec.specs.Sets.{Sub, Device, Set}
 use Rattle.vms_spec.specs.Layout.{Slot}
 use Rattle.vms_spec.specs.Images.{Image}
 use Rattle.vms_spec.specs.SoFar.{part_slots, put_version, subs_of}
 use Rattle.vms_spec.specs.Readings.{Verdict, Reading, reading_after}
-use Rattle.vms_spec.specs.Judging.{find_sub, did_come}
+use Rattle.vms_spec.specs.Lookup.{find_sub, did_come}
 use Rattle.vms_spec.specs.Units.{Piece, SubHead, Foot}
-use Rattle.vms_laws.specs.Whole.{reading_on}
-use Rattle.vms_laws.proofs.BodyLaws.{at_set, set_twice}
-use Rattle.vms_laws.proofs.FrameLaws.{one_unit}
-use Rattle.vms_units.specs.SoFar.{Tail, Bare as IsBare}
-use Rattle.vms_units.specs.Dues.{AfterFields, Due, begins_next, rules_hold, due_field}
-use Rattle.vms_units.specs.Judge.{judge, owes}
-use Rattle.vms_units.specs.Judged.{ask, judge_seen, begins_section}
-use Rattle.vms_units.specs.Seen.{Good, seen}
-use Rattle.vms_units.specs.State.{State, Inside, Free, image_at, or_none, slots_at, due_by, known_at, after, by_state}
-use Rattle.vms_units.proofs.Calls.Judged.{judged_holds, next_holds, seen_holds}
-use Rattle.vms_units.proofs.Finding.Advancing.{advances}
-use Rattle.vms_units.proofs.Judging.Mirrors.{solid}
+use Rattle.vms_bodies.specs.Whole.{reading_on}
+use Rattle.vms_bodies.proofs.BodyLaws.{at_set, set_twice}
+use Rattle.vms_bodies.proofs.FrameLaws.{one_unit}
+use Rattle.vms_stream.specs.SoFar.{Tail, Bare as IsBare}
+use Rattle.vms_stream.specs.Dues.{AfterFields, Due, begins_next, rules_hold, due_field}
+use Rattle.vms_stream.specs.Judge.{judge, owes}
+use Rattle.vms_stream.specs.Judged.{ask, judge_seen, begins_section}
+use Rattle.vms_stream.specs.Seen.{Good, seen}
+use Rattle.vms_stream.specs.State.{State, Inside, Free, image_at, or_none, slots_at, due_by, known_at, after, by_state}
+use Rattle.vms_stream.proofs.Calls.Judged.{judged_holds, next_holds, seen_holds}
+use Rattle.vms_stream.proofs.Finding.Advancing.{advances}
+use Rattle.vms_stream.proofs.Judging.Mirrors.{solid}
 use Rattle.vms_parts.specs.Devices.{device_at}
 use Rattle.vms_desc.specs.Parts.{sub_at}
 use Rattle.vms_frames.specs.Stands.{Stand}
@@ -59,7 +60,7 @@ module _ (set : Set) (names : List (List ℕ)) (state : State) (section : Sectio
   abbrev t : Tail
   t = tail_of section.tail
 
-  there : at set.devices section.device ≡ Some (device_at set section.device)
+  there : slice_get set.devices section.device ≡ Some (device_at set section.device)
   there = at_get set.devices section.device _ here
 
   image_is : image_at inner ≡ image
@@ -162,7 +163,7 @@ module _ (set : Set) (names : List (List ℕ)) (state : State) (section : Sectio
 
     after_sub : (j : ℕ) → find_sub 0 (device_at set section.device).subs name ≡ Some j → after set inner (SubHead name v) ≡ state_in state section (marked j) (Inside section.device section.id (Some j) 0)
     after_sub j e =
-        let found : position (λ (s : Sub). bytes_eq s.desc.name name) 0 (subs_of (at set.devices section.device)) ≡ Some j =
+        let found : position (λ (s : Sub). bytes_eq s.desc.name name) 0 (subs_of (slice_get set.devices section.device)) ≡ Some j =
         ap (λ (o : Option Device). position (λ (s : Sub). bytes_eq s.desc.name name) 0 (subs_of o)) there ∙ e in
         let put : Image → Option ℕ → List Image = λ i o. slice_set (slice_set state.images section.device image) section.device (record i { came = put_version i.came o v }) in
         ap (λ (o : Option ℕ). into (put (image_at inner) o) o) found
@@ -204,18 +205,18 @@ unless_came k j s came v i place e = by_tests (nat_lt s.desc.version v) (nat_lt 
     by_tests false false None e = (cc, refl)
 
 pub sub_new : (k : ℕ) (d : Device) (came : List (Option ℕ)) (name : List ℕ) (v j place : ℕ) → length came ≡ length d.subs → Ok j ≡ opened_at place (sub_opened k d came name v)
-    → (j < length d.subs) × (at came j ≡ Some None)
+    → (j < length d.subs) × (slice_get came j ≡ Some None)
 sub_new k d came name v j place long e = by_found (find_sub 0 d.subs name) refl
   where
-    by_found : (found : Option ℕ) → find_sub 0 d.subs name ≡ found → (j < length d.subs) × (at came j ≡ Some None)
+    by_found : (found : Option ℕ) → find_sub 0 d.subs name ≡ found → (j < length d.subs) × (slice_get came j ≡ Some None)
     by_found None f = let h : Ok j ≡ opened_at place (unfit (Some k) reasons.UnknownSubsection) = e ∙ ap (opened_at place) (unknown_sub k d came name v f) in cc
     by_found (Some i) f =
         let u = unless_came k i (sub_at d i) (get_or came i None) v j place (e ∙ ap (opened_at place) (known_sub k d came name v i long f)) in
         let lt : i < length d.subs = sub_below d.subs name i f in
-        let new : at came i ≡ Some None = at_get came i None (omega (arith, lt, long)) ∙ ap (λ (o : Option ℕ). Some o) u.1 in
-        (omega (arith, u.0, lt), ap (λ (n : ℕ). at came n) u.0 ∙ new)
+        let new : slice_get came i ≡ Some None = at_get came i None (omega (arith, lt, long)) ∙ ap (λ (o : Option ℕ). Some o) u.1 in
+        (omega (arith, u.0, lt), ap (λ (n : ℕ). slice_get came n) u.0 ∙ new)
 
-pub subs_taken : (set : Set) (subs : List Sub) (came : List (Option ℕ)) (j v : ℕ) (none : Sub) → length came ≡ length subs → at came j ≡ Some None
+pub subs_taken : (set : Set) (subs : List Sub) (came : List (Option ℕ)) (j v : ℕ) (none : Sub) → length came ≡ length subs → slice_get came j ≡ Some None
     → subs_due set subs (slice_set came j (Some v)) + (261 + bytes_of set (get_or subs j none).desc) ≡ subs_due set subs came
 subs_taken set subs [] j v none long e = cc
 subs_taken set [] (o ∷ came) j v none long e = absurd (omega arith)

@@ -10,11 +10,11 @@ use Rattle.vms_spec.specs.Numbers.{same_number, exceeds, is_truth, is_above}
 use Rattle.vms_spec.specs.Layout.{Slot, Number as NumberSlot, Constant as ConstantSlot, Filler as FillerSlot}
 use Rattle.vms_spec.specs.Taking.{Taken, Progress, take_number, take_constant, take_filler}
 use Rattle.vms_spec.specs.Units.{Piece, Number, Constant, Filler}
-use Rattle.vms_units.specs.Dues.{raw, Field}
-use Rattle.vms_units.specs.Finding.{Whole, Cut}
-use Rattle.vms_units.specs.Seen.{Seen, Good, Bad, Short, seen, seen_in}
-use Rattle.vms_units.specs.Taking.{nothing_known, put, taken_by, take_slot}
-use Rattle.vms_units.proofs.Bodies.Takes.{number_taken, constant_taken, filler_taken}
+use Rattle.vms_stream.specs.Dues.{raw, Field}
+use Rattle.vms_stream.specs.Finding.{Whole, Cut}
+use Rattle.vms_stream.specs.Seen.{Seen, Good, Bad, Short, seen, seen_in}
+use Rattle.vms_stream.specs.Taking.{nothing_known, put, taken_by, take_slot}
+use Rattle.vms_stream.proofs.Bodies.Takes.{number_taken, constant_taken, filler_taken}
 use Rattle.vms_frames.specs.Calls.{AnswersSeen, Fails, ReadsNumber, ReadsFiller}
 use Rattle.vms_frames.specs.declared.fault.FrameFault.{FrameFault}
 use Rattle.vms_frames.specs.declared.fault.FrameFault.TheVariants as faults

@@ -1,12 +1,12 @@
 -- How many bytes the streams of a well-formed set have at most.
 use Rattle.std.proofs.Common.{◌≡◌, ℕ, zero, suc, ◌+◌, ◌*◌, ◌^◌, ◌<◌, ◌≤◌, List, [], ◌∷◌, ◌++◌, length, get_or, map, None, Some, false, true, nat_le, refl, sym, ap, ◌∙◌, subst, arith}
+use Rattle.std.specs.List.{slice_get}
 use Rattle.std.proofs.lemmas.Bool.{and_parts, leb-true}
 use Rattle.vms_kinds.specs.declared.Kind.{Kind}
 use Rattle.vms_kinds.specs.declared.Kind.TheVariants as kinds
 use Rattle.vms_kinds.specs.declared.Item.{Item}
 use Rattle.vms_kinds.specs.declared.Item.TheVariants.{Num, Equal, Unused, Struct}
 use Rattle.vms_kinds.specs.Codes.{width}
-use Rattle.vms_spec.specs.Lists.{at}
 use Rattle.vms_spec.specs.Sets.{Field, Desc, Sub, Device, Set}
 use Rattle.vms_spec.specs.Layout.{first, no_desc, capacity_of}
 use Rattle.vms_spec.specs.Rules.{is_small_item}
@@ -19,7 +19,7 @@ use Rattle.vms_load.specs.Bounds.{item_bytes, fields_bytes, desc_bytes, struct_b
 use Rattle.vms_load.specs.Parts.{bytes_of, subs_due}
 use Rattle.vms_load.specs.Staging.{section_bytes, sections_due, subs_bytes, devices_most}
 use Rattle.vms_load.proofs.SetFacts.{well_of, few_subs}
-use Rattle.vms_laws.proofs.PartLaws.{at_inside}
+use Rattle.std.proofs.lemmas.Option.{slice_get_within}
 use Rattle.vms_load.proofs.HeadLemmas.{get_at}
 use Rattle.vms_load.proofs.SmallItems.{AreSmall, struct_small, part_small}
 
@@ -88,26 +88,26 @@ module _ (set : Set) (well : is_well_formed set ≡ true) where
   desc_small : (d : Desc) → AreSmall d.fields → bytes_of set d ≤ 4096 * items_in (struct_items set.structs) d.fields
   desc_small d small = fields_small (struct_bytes set.structs (length set.structs)) (struct_items set.structs) (structs_small set.structs (struct_small set (well_of set well)) (length set.structs) (omega arith)) d.fields small
 
-  subs_small : (subs : List Sub) → ((j : ℕ) (s : Sub) → at subs j ≡ Some s → AreSmall s.desc.fields) → subs_bytes set subs ≤ 4096 * subs_items (struct_items set.structs) subs
+  subs_small : (subs : List Sub) → ((j : ℕ) (s : Sub) → slice_get subs j ≡ Some s → AreSmall s.desc.fields) → subs_bytes set subs ≤ 4096 * subs_items (struct_items set.structs) subs
   subs_small [] h = omega arith
   subs_small (s ∷ subs) h = omega (arith, desc_small s.desc (h 0 s refl), subs_small subs (λ j t e. h (suc j) t e))
 
-  devices_small : (devices : List Device) → ((k : ℕ) (d : Device) → at devices k ≡ Some d → AreSmall d.desc.fields × (length d.subs ≤ 32) × ((j : ℕ) (s : Sub) → at d.subs j ≡ Some s → AreSmall s.desc.fields))
+  devices_small : (devices : List Device) → ((k : ℕ) (d : Device) → slice_get devices k ≡ Some d → AreSmall d.desc.fields × (length d.subs ≤ 32) × ((j : ℕ) (s : Sub) → slice_get d.subs j ≡ Some s → AreSmall s.desc.fields))
       → devices_most set devices ≤ 8626 * length devices + 4096 * devices_items (struct_items set.structs) devices
   devices_small [] h = omega arith
   devices_small (d ∷ devices) h =
       let here = h 0 d refl in
       omega (arith, here.1, desc_small d.desc here.0, subs_small d.subs here.2, devices_small devices (λ k e x. h (suc k) e x))
 
-  part_of_device : (k : ℕ) (d : Device) → at set.devices k ≡ Some d → AreSmall d.desc.fields × (length d.subs ≤ 32) × ((j : ℕ) (s : Sub) → at d.subs j ≡ Some s → AreSmall s.desc.fields)
+  part_of_device : (k : ℕ) (d : Device) → slice_get set.devices k ≡ Some d → AreSmall d.desc.fields × (length d.subs ≤ 32) × ((j : ℕ) (s : Sub) → slice_get d.subs j ≡ Some s → AreSmall s.desc.fields)
   part_of_device k d e =
-      let lt : k < length set.devices = at_inside set.devices k d e in
+      let lt : k < length set.devices = slice_get_within set.devices k d e in
       let same : device_at set k ≡ d = get_at set.devices k d _ e in (
         subst (λ (x : Device). AreSmall x.desc.fields) same (part_small set (well_of set well) k None lt tt),
         subst (λ (x : Device). length x.subs ≤ 32) same (few_subs set well k lt),
         λ j s f.
-            let g : at (device_at set k).subs j ≡ Some s = ap (λ (x : Device). at x.subs j) same ∙ f in
-            subst (λ (x : Sub). AreSmall x.desc.fields) (get_at (device_at set k).subs j s _ g) (part_small set (well_of set well) k (Some j) lt (at_inside (device_at set k).subs j s g)),
+            let g : slice_get (device_at set k).subs j ≡ Some s = ap (λ (x : Device). slice_get x.subs j) same ∙ f in
+            subst (λ (x : Sub). AreSmall x.desc.fields) (get_at (device_at set k).subs j s _ g) (part_small set (well_of set well) k (Some j) lt (slice_get_within (device_at set k).subs j s g)),
       )
 
   -- so many bytes are no place above 2 ^ 63

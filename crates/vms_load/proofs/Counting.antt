@@ -3,7 +3,7 @@ use Rattle.std.proofs.Common.{◌≡◌, ℕ, List, take, slice_set, ap, Bool, i
 use Rattle.vms_kinds.specs.declared.Kind.{Kind}
 use Rattle.vms_kinds.specs.Codes.{width, value_of}
 use Rattle.vms_spec.specs.declared.Reason.TheVariants as reasons
-use Rattle.vms_spec.specs.Judging.{is_bad_bool}
+use Rattle.vms_spec.specs.Lookup.{is_bad_bool}
 use Rattle.vms_spec.specs.Taking.{Progress, refuse, on, if_whole, take_number}
 use Rattle.vms_parts.specs.Capacities.{least_of}
 use Rattle.vms_walk.specs.Steps.{capacities_of}

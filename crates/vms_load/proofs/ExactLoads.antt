@@ -4,14 +4,14 @@ use Rattle.vms_io.specs.Causes.{capped}
 use Rattle.vms_spec.specs.Units.{Piece, spell, spelled}
 use Rattle.std.specs.Prelude.{Result}
 use Rattle.vms_spec.specs.declared.Reason.{Reason}
-use Rattle.vms_units.specs.Faults.{Fault, Why, Fails, Cut, Wrong}
+use Rattle.vms_stream.specs.Faults.{Fault, Why, Fails, Cut, Wrong}
 use Rattle.vms_spec.specs.Images.{Image}
 use Rattle.vms_spec.specs.Numbers.{IsBytes}
 use Rattle.vms_spec.specs.Sets.{Set}
-use Rattle.vms_units.specs.Streams.{Takes}
+use Rattle.vms_stream.specs.Streams.{Takes}
 use Rattle.vms_spec.specs.WellFormed.{WellFormed}
 use Rattle.vms_spec.specs.Heads.{FitsHeads}
-use Rattle.vms_units.proofs.Stated.{one_stream_holds, never_both_holds, one_fault_holds}
+use Rattle.vms_stream.proofs.Stated.{one_stream_holds, never_both_holds, one_fault_holds}
 use Rattle.vms_load.specs.Exact.{GivesStream, IsRefusedAt, ExactLaw, HeardLaw}
 use Rattle.vms_load.specs.Loads.{Loads}
 use Rattle.vms_load.specs.Staging.{name_of}

@@ -1,29 +1,30 @@
 -- What the loader opens by a head is what the rows say of the head.
 use Rattle.std.proofs.Common.{◌≡◌, ℕ, zero, suc, ◌<◌, List, [], ◌∷◌, length, get_or, Option, Some, None, Result, Ok, Err, refl, sym, ap, ◌∙◌, arith, Bool, true, false, not, nat_lt, if◌then◌else◌}
+use Rattle.std.specs.List.{slice_get}
 use Rattle.vms_spec.specs.declared.Reason.{Reason}
 use Rattle.vms_spec.specs.declared.Reason.TheVariants as reasons
-use Rattle.vms_spec.specs.Lists.{at, at_option, position}
+use Rattle.vms_spec.specs.Lists.{at_option, position}
 use Rattle.std.specs.Str.{bytes_eq}
 use Rattle.vms_spec.specs.Sets.{Set, Device, Sub}
-use Rattle.vms_spec.specs.Judging.{index, did_come, find_sub}
+use Rattle.vms_spec.specs.Lookup.{index, did_come, find_sub}
 use Rattle.vms_spec.specs.Units.{Piece, Head, SubHead}
 use Rattle.vms_spec.specs.SoFar.{device_named, subs_of}
-use Rattle.vms_laws.proofs.HeadFound.{found_is}
-use Rattle.vms_laws.proofs.SubHeads.{sub_is}
-use Rattle.vms_laws.proofs.PartLaws.{at_inside}
+use Rattle.vms_bodies.proofs.HeadFound.{found_is}
+use Rattle.vms_bodies.proofs.SubHeads.{sub_is}
+use Rattle.std.proofs.lemmas.Option.{slice_get_within}
 use Rattle.vms_load.specs.Heads.{Unfit, opened_unless, section_opened, device_opened, sub_opened, sub_opened_at}
-use Rattle.vms_units.specs.Table.{first_row, is_none, test_some, asking}
-use Rattle.vms_units.specs.SoFar.{Known}
-use Rattle.vms_units.specs.Judged.{ask}
-use Rattle.vms_units.specs.Judge.{by_row}
-use Rattle.vms_units.specs.State.{State, open_at, image_at, known_at, after, by_state}
+use Rattle.vms_stream.specs.Table.{first_row, is_none, test_some, asking}
+use Rattle.vms_stream.specs.SoFar.{Known}
+use Rattle.vms_stream.specs.Judged.{ask}
+use Rattle.vms_stream.specs.Judge.{by_row}
+use Rattle.vms_stream.specs.State.{State, open_at, image_at, known_at, after, by_state}
 use Rattle.vms_spec.specs.Readings.{Verdict, Goes, Faulty}
 
 abbrev pub unfit_for : Result ℕ Unfit → Option (Option ℕ × Reason)
 unfit_for (Ok k) = None
 unfit_for (Err why) = Some (why.section, why.reason)
 
-there : {X : Type 0} (xs : List X) (k : ℕ) (d : X) → k < length xs → at xs k ≡ Some (get_or xs k d)
+there : {X : Type 0} (xs : List X) (k : ℕ) (d : X) → k < length xs → slice_get xs k ≡ Some (get_or xs k d)
 there [] k d lt = absurd (omega arith)
 there (x ∷ xs) zero d lt = refl
 there (x ∷ xs) (suc k) d lt = there xs k d (omega arith)
@@ -51,14 +52,14 @@ head_opened : (set : Set) (names : List (List ℕ)) (k : Known) (id : ℕ) (name
     → first_row (asking set names k (Head id name instance v)) ≡ unfit_for (section_opened set k.came name instance v)
 head_opened set names k id name instance v long = by (device_named set name instance) refl
   where
-    by : (o : Option ℕ) → device_named set name instance ≡ o → head_rows o (at_option set.devices o) (at_option k.came o) v ≡ unfit_for (device_opened v o (at set.devices (index o)) (get_or k.came (index o) false))
+    by : (o : Option ℕ) → device_named set name instance ≡ o → head_rows o (at_option set.devices o) (at_option k.came o) v ≡ unfit_for (device_opened v o (slice_get set.devices (index o)) (get_or k.came (index o) false))
     by None e = refl
     by (Some j) e =
         let f = found_is set.devices 0 name instance j e in
         let i : f.i ≡ j = (let x = f.is in omega arith) in
-        let d : at set.devices j ≡ Some f.device = ap (at set.devices) (sym i) ∙ f.there in
-        let inside : j < length k.came = (let x = at_inside set.devices j f.device d in omega (arith, long)) in
-        ap (λ (o : Option Device). head_rows (Some j) o (at k.came j) v) d ∙ ap (λ (o : Option Bool). head_rows (Some j) (Some f.device) o v) (there k.came j false inside)
+        let d : slice_get set.devices j ≡ Some f.device = ap (slice_get set.devices) (sym i) ∙ f.there in
+        let inside : j < length k.came = (let x = slice_get_within set.devices j f.device d in omega (arith, long)) in
+        ap (λ (o : Option Device). head_rows (Some j) o (slice_get k.came j) v) d ∙ ap (λ (o : Option Bool). head_rows (Some j) (Some f.device) o v) (there k.came j false inside)
         ∙ known_head j f.device (get_or k.came j false) v ∙ ap (λ (o : Option Device). unfit_for (device_opened v (Some j) o (get_or k.came j false))) (sym d)
 
 -- ---- subsections
@@ -82,7 +83,7 @@ known_sub k j s came v = by (nat_lt s.desc.version v) (nat_lt v s.desc.minimum) 
     by false false None = refl
     by false false (Some n) = refl
 
-sub_is_opened : (set : Set) (names : List (List ℕ)) (y : Known) (k : ℕ) (d : Device) (name : List ℕ) (v : ℕ) → y.section ≡ Some k → at set.devices k ≡ Some d → length y.image.came ≡ length d.subs
+sub_is_opened : (set : Set) (names : List (List ℕ)) (y : Known) (k : ℕ) (d : Device) (name : List ℕ) (v : ℕ) → y.section ≡ Some k → slice_get set.devices k ≡ Some d → length y.image.came ≡ length d.subs
     → first_row (asking set names y (SubHead name v)) ≡ unfit_for (sub_opened k d y.image.came name v)
 sub_is_opened set names y k d name v section here long =
     ap (λ (o : Option ℕ). of o (sub_by (at_option set.devices o)) (subs_of (at_option set.devices o))) section
@@ -94,17 +95,17 @@ sub_is_opened set names y k d name v section here long =
     of : Option ℕ → Option ℕ → List Sub → Option (Option ℕ × Reason)
     of section o subs = sub_rows section o (at_option subs o) (at_option y.image.came o) v
 
-    by : (o : Option ℕ) → find_sub 0 d.subs name ≡ o → sub_rows (Some k) o (at_option d.subs o) (at_option y.image.came o) v ≡ unfit_for (sub_opened_at k v o (at d.subs (index o)) (at y.image.came (index o)))
+    by : (o : Option ℕ) → find_sub 0 d.subs name ≡ o → sub_rows (Some k) o (at_option d.subs o) (at_option y.image.came o) v ≡ unfit_for (sub_opened_at k v o (slice_get d.subs (index o)) (slice_get y.image.came (index o)))
     by None e = refl
     by (Some j) e =
         let f = sub_is d.subs 0 name j e in
         let i : f.i ≡ j = (let x = f.is in omega arith) in
-        let s : at d.subs j ≡ Some f.sub = ap (at d.subs) (sym i) ∙ f.there in
-        let inside : j < length y.image.came = (let x = at_inside d.subs j f.sub s in omega (arith, long)) in
+        let s : slice_get d.subs j ≡ Some f.sub = ap (slice_get d.subs) (sym i) ∙ f.there in
+        let inside : j < length y.image.came = (let x = slice_get_within d.subs j f.sub s in omega (arith, long)) in
         let c = there y.image.came j None inside in
-        ap (λ (o : Option Sub). sub_rows (Some k) (Some j) o (at y.image.came j) v) s ∙ ap (λ (o : Option (Option ℕ)). sub_rows (Some k) (Some j) (Some f.sub) o v) c
+        ap (λ (o : Option Sub). sub_rows (Some k) (Some j) o (slice_get y.image.came j) v) s ∙ ap (λ (o : Option (Option ℕ)). sub_rows (Some k) (Some j) (Some f.sub) o v) c
         ∙ known_sub k j f.sub (get_or y.image.came j None) v
-        ∙ ap (λ (o : Option Sub). unfit_for (sub_opened_at k v (Some j) o (Some (get_or y.image.came j None)))) (sym s) ∙ ap (λ (o : Option (Option ℕ)). unfit_for (sub_opened_at k v (Some j) (at d.subs j) o)) (sym c)
+        ∙ ap (λ (o : Option Sub). unfit_for (sub_opened_at k v (Some j) o (Some (get_or y.image.came j None)))) (sym s) ∙ ap (λ (o : Option (Option ℕ)). unfit_for (sub_opened_at k v (Some j) (slice_get d.subs j) o)) (sym c)
 
 -- ---- the verdict
 
@@ -124,7 +125,7 @@ section_judged set names s id name instance v n long =
     ap (λ (o : Option (Option ℕ × Reason)). by_row (by_state set names) o n (after set s (Head id name instance v))) (head_opened set names (known_at set s) id name instance v long)
     ∙ by_unfit set names s (Head id name instance v) n (section_opened set s.came name instance v)
 
-pub sub_judged : (set : Set) (names : List (List ℕ)) (s : State) (k : ℕ) (d : Device) (name : List ℕ) (v n : ℕ) → open_at s.spot ≡ Some k → at set.devices k ≡ Some d → length (image_at s).came ≡ length d.subs
+pub sub_judged : (set : Set) (names : List (List ℕ)) (s : State) (k : ℕ) (d : Device) (name : List ℕ) (v n : ℕ) → open_at s.spot ≡ Some k → slice_get set.devices k ≡ Some d → length (image_at s).came ≡ length d.subs
     → ask set names s (SubHead name v) n ≡ verdict set names s (SubHead name v) n (sub_opened k d (image_at s).came name v)
 sub_judged set names s k d name v n section here long =
     ap (λ (o : Option (Option ℕ × Reason)). by_row (by_state set names) o n (after set s (SubHead name v))) (sub_is_opened set names (known_at set s) k d name v section here long)

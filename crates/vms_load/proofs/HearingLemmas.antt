@@ -9,7 +9,7 @@ use Rattle.vms_frames.specs.Heard.{HeardOn, HearsEnd, Hears as FrameHears}
 use Rattle.vms_frames.proofs.HeardLemmas.{heard_none, heard_both, heard_as, heard_last}
 use Rattle.vms_load.specs.Good.{AreKept}
 use Rattle.vms_spec.specs.Readings.{Verdict}
-use Rattle.vms_units.specs.State.{State}
+use Rattle.vms_stream.specs.State.{State}
 use Rattle.vms_load.specs.Reads.{Onward, ReadsOn, IsBehind, ReadsBehind, concerning}
 use Rattle.vms_load.specs.Hearing.{Hears, HearsLast, HearsOn, HearsBehind, HearsSoFar, HearsLoad}
 use Rattle.vms_load.specs.declared.fault.LoadFault.{LoadFault}

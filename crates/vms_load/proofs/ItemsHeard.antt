@@ -1,6 +1,6 @@
 -- What is heard of a number that is capped, and of a constant.
 use Rattle.std.proofs.Common.{◌≡◌, ℕ, ◌<◌, ◌^◌, List, [], Result, Ok, Err, OnOk, IfErr, ℤ, Bool, true, false, refl, sym, subst, arith}
-use Rattle.vms_laws.proofs.ReadyLaws.{same_is}
+use Rattle.vms_bodies.proofs.ReadyLaws.{same_is}
 use Rattle.vms_kinds.specs.declared.Kind.{Kind}
 use Rattle.vms_spec.specs.declared.Reason.TheVariants as reasons
 use Rattle.vms_spec.specs.Numbers.{exceeds, same_number}

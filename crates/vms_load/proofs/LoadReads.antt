@@ -6,11 +6,11 @@ use Rattle.vms_spec.specs.Images.{Image}
 use Rattle.vms_spec.specs.WellFormed.{WellFormed}
 use Rattle.vms_spec.specs.Readings.{Reading, Accepted, Refused}
 use Rattle.vms_spec.specs.Heads.{FitsHeads}
-use Rattle.vms_units.specs.Streams.{Takes}
-use Rattle.vms_units.specs.Judge.{reading}
-use Rattle.vms_units.specs.State.{State, by_state, at_start}
-use Rattle.vms_units.proofs.Stated.{accepted_holds}
-use Rattle.vms_units.proofs.Judging.Mirrors.{state_refuses}
+use Rattle.vms_stream.specs.Streams.{Takes}
+use Rattle.vms_stream.specs.Judge.{reading}
+use Rattle.vms_stream.specs.State.{State, by_state, at_start}
+use Rattle.vms_stream.proofs.Stated.{accepted_holds}
+use Rattle.vms_stream.proofs.Judging.Mirrors.{state_refuses}
 use Rattle.vms_frames.specs.declared.fault.Refusal.{Refusal}
 use Rattle.vms_frames.proofs.HeardLemmas.{bytes_both, no_bytes}
 use Rattle.vms_image.specs.Typed.{state_of as untyped}

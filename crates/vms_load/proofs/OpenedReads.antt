@@ -7,14 +7,14 @@ use Rattle.vms_spec.specs.Images.{Image}
 use Rattle.vms_spec.specs.Units.{Piece, Head as HeadUnit}
 use Rattle.vms_spec.specs.SoFar.{fresh, mark_come}
 use Rattle.vms_spec.specs.Readings.{Verdict, Goes}
-use Rattle.vms_spec.specs.Judging.{find_device}
-use Rattle.vms_laws.specs.Whole.{reading_on}
-use Rattle.vms_laws.proofs.BodyLaws.{set_twice}
-use Rattle.vms_units.specs.SoFar as tails
-use Rattle.vms_units.specs.SoFar.{put_image}
-use Rattle.vms_units.specs.Judge.{judge}
-use Rattle.vms_units.specs.Judged.{ask}
-use Rattle.vms_units.specs.State.{State, Free, Inside, inside, after, by_state}
+use Rattle.vms_spec.specs.Lookup.{find_device}
+use Rattle.vms_bodies.specs.Whole.{reading_on}
+use Rattle.vms_bodies.proofs.BodyLaws.{set_twice}
+use Rattle.vms_stream.specs.SoFar as tails
+use Rattle.vms_stream.specs.SoFar.{put_image}
+use Rattle.vms_stream.specs.Judge.{judge}
+use Rattle.vms_stream.specs.Judged.{ask}
+use Rattle.vms_stream.specs.State.{State, Free, Inside, inside, after, by_state}
 use Rattle.vms_marks.specs.declared.head.Head.{Head}
 use Rattle.vms_frames.specs.Stands.{Stand}
 use Rattle.vms_frames.specs.declared.units.Tail.{Tail}

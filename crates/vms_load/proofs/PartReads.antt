@@ -1,26 +1,26 @@
 -- What a reader of a part takes is what the judge reads there.
 use Rattle.std.proofs.lemmas.List.{drop-drop, drop_all}
 use Rattle.std.proofs.Common.{◌≡◌, ℕ, ◌+◌, ◌-◌, ◌<◌, ◌≤◌, List, length, drop, Option, Some, None, [], Result, Ok, Err, IfSome, OnOk, ℤ, refl, sym, ap, ◌∙◌, subst, arith}
+use Rattle.std.specs.List.{slice_get}
 use Rattle.vms_spec.specs.declared.Reason.{Reason}
-use Rattle.vms_spec.specs.Lists.{at}
 use Rattle.vms_spec.specs.Sets.{Desc, Sub, Device, Set}
 use Rattle.vms_spec.specs.Layout.{meanings, desc_slots, device_cells}
 use Rattle.vms_spec.specs.Images.{Image}
 use Rattle.vms_spec.specs.Readings.{Reading, Refused}
 use Rattle.vms_spec.specs.SoFar.{part_slots, slots_of_sub}
-use Rattle.vms_units.specs.State.{State, Inside, by_state}
-use Rattle.vms_units.specs.Judge.{judge}
-use Rattle.vms_laws.specs.Whole.{reading_on}
-use Rattle.vms_units.proofs.Bodies.Body.{Reads as ReadsBody, body_read, after_read}
+use Rattle.vms_stream.specs.State.{State, Inside, by_state}
+use Rattle.vms_stream.specs.Judge.{judge}
+use Rattle.vms_bodies.specs.Whole.{reading_on}
+use Rattle.vms_stream.proofs.Bodies.Body.{Reads as ReadsBody, body_read, after_read}
 use Rattle.vms_frames.specs.Stands.{Stand}
 use Rattle.vms_frames.specs.Calls.{ahead, tail_of}
 use Rattle.vms_spec.specs.Taking.{Taken, Progress, take_desc, takers}
-use Rattle.vms_laws.specs.Good.{IsGood}
-use Rattle.vms_laws.specs.Sound.{IsSound}
-use Rattle.vms_laws.specs.Cells.{AreCells}
-use Rattle.vms_laws.proofs.LeftLaws.{Leaves, desc_leaves}
-use Rattle.vms_laws.proofs.PartLaws.{sub_are}
-use Rattle.vms_laws.proofs.SectionLaws.{own_are}
+use Rattle.vms_spec.specs.Good.{IsGood}
+use Rattle.vms_spec.specs.Sound.{IsSound}
+use Rattle.vms_bodies.specs.Cells.{AreCells}
+use Rattle.vms_bodies.proofs.LeftLaws.{Leaves, desc_leaves}
+use Rattle.vms_bodies.proofs.PartLaws.{sub_are}
+use Rattle.vms_bodies.proofs.SectionLaws.{own_are}
 use Rattle.vms_parts.specs.Devices.{device_at}
 use Rattle.vms_desc.specs.Parts.{sub_at}
 use Rattle.vms_frames.specs.declared.fault.FrameFault.{FrameFault}
@@ -44,10 +44,10 @@ module _ (set : Set) (good : IsGood set) (section : Section) (here : section.dev
   abbrev device : Device
   device = device_at set section.device
 
-  there : at set.devices section.device ≡ Some device
+  there : slice_get set.devices section.device ≡ Some device
   there = at_get set.devices section.device _ here
 
-  sub_there : (j : ℕ) → j < length device.subs → at device.subs j ≡ Some (sub_at device j)
+  sub_there : (j : ℕ) → j < length device.subs → slice_get device.subs j ≡ Some (sub_at device j)
   sub_there j lt = at_get device.subs j _ lt
 
   part_sound : (o : Option ℕ) → IsIn device o → IsSound (part_desc device o)
@@ -63,7 +63,7 @@ module _ (set : Set) (good : IsGood set) (section : Section) (here : section.dev
         → part_slots set (Some device) (record image { numbers = m }) o ≡ desc_slots (meanings set.structs (length set.structs)) (part_desc device o) v m (part_base set device o)
     slots_are None h m = ap (λ (w : ℕ). desc_slots (meanings set.structs (length set.structs)) device.desc w m 0) (sym h)
     slots_are (Some j) h m =
-        ap (λ (s : Option Sub). slots_of_sub set device (record image { numbers = m }) j s (at image.came j)) (sub_there j h.0)
+        ap (λ (s : Option Sub). slots_of_sub set device (record image { numbers = m }) j s (slice_get image.came j)) (sub_there j h.0)
         ∙ ap (λ (came : Option (Option ℕ)). slots_of_sub set device (record image { numbers = m }) j (Some (sub_at device j)) came) h.1
 
     -- the state before the section's image is put

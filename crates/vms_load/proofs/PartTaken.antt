@@ -6,13 +6,13 @@ use Rattle.vms_spec.specs.Sets.{Desc, Set}
 use Rattle.vms_spec.specs.Images.{has_cell}
 use Rattle.vms_spec.specs.Layout.{Slot, Number, Constant, Filler, Rule, meanings, desc_slots}
 use Rattle.vms_spec.specs.Taking.{Taken, Progress, Refusal, ◌>>=◌, takers, take_desc, take_number}
-use Rattle.vms_laws.specs.Sound.{IsSound, AreSound}
-use Rattle.vms_laws.proofs.AboveLaws.{IsAbove, desc_above, meanings_above}
-use Rattle.vms_laws.proofs.Places.{SameBelow, same_refl, same_less, same_trans}
-use Rattle.vms_laws.proofs.WalkLaws.{Keeps, Keeping, Gives, ComesTo, take_slot, number_keeps, constant_keeps, filler_keeps, rule_keeps, set_desc_comes}
+use Rattle.vms_spec.specs.Sound.{IsSound, AreSound}
+use Rattle.vms_bodies.proofs.AboveLaws.{IsAbove, desc_above, meanings_above}
+use Rattle.vms_bodies.proofs.Places.{SameBelow, same_refl, same_less, same_trans}
+use Rattle.vms_bodies.proofs.WalkLaws.{Keeps, Keeping, Gives, ComesTo, take_slot, number_keeps, constant_keeps, filler_keeps, rule_keeps, set_desc_comes}
 use Rattle.vms_frames.specs.declared.fault.FrameFault.{FrameFault}
 use Rattle.vms_frames.specs.declared.fault.FrameFault.TheVariants as faults
-use Rattle.vms_walk.specs.declared.step.Step.{Step}
+use Rattle.vms_walk.specs.declared.step.WalkStep.{WalkStep}
 use Rattle.vms_walk.specs.Steps.{step_of, steps_of}
 use Rattle.vms_walk.proofs.Walking.{steps_append}
 use Rattle.vms_walk.proofs.Kept.{neither}
@@ -81,7 +81,7 @@ module _ (set : Set) (structs : AreSound set.structs) (d : Desc) (sound : IsSoun
     later : (cell : ℕ) (done rest : List Slot) (q : Progress) → slots n ≡ done ++ rest → take_steps (steps_of done) p ≡ Ok q → IsAbove cell rest → SameBelow cell q.numbers n
     later cell done rest q e t above =
         let parts : steps_of (slots n) ≡ steps_of done ++ steps_of rest = ap steps_of e ∙ steps_append done rest in
-        let last : n ≡ last_numbers (steps_of rest) q = ends ∙ ap (λ (l : List Step). last_numbers l p) parts ∙ last_taken (steps_of done) (steps_of rest) p q t in
+        let last : n ≡ last_numbers (steps_of rest) q = ends ∙ ap (λ (l : List WalkStep). last_numbers l p) parts ∙ last_taken (steps_of done) (steps_of rest) p q t in
         subst (SameBelow cell q.numbers) (sym last) (last_below cell rest q above)
 
     -- the next slot
@@ -89,11 +89,11 @@ module _ (set : Set) (structs : AreSound set.structs) (d : Desc) (sound : IsSoun
         → IsAbove further rest → Gives slots Holds Fails further (done ++ slot ∷ []) t
     next slot further done rest q (Ok r) e h split above =
         let step : take_steps (steps_of (done ++ slot ∷ [])) p ≡ Ok r =
-        ap (λ (l : List Step). take_steps l p) (steps_append done (slot ∷ [])) ∙ take_append (steps_of done) (step_of slot ∷ []) p
+        ap (λ (l : List WalkStep). take_steps l p) (steps_append done (slot ∷ [])) ∙ take_append (steps_of done) (step_of slot ∷ []) p
         ∙ ap (λ (t : Taken). t >>= take_steps (step_of slot ∷ [])) h ∙ ap (λ (t : Taken). t >>= take_steps []) e in
         (step, later further (done ++ slot ∷ []) rest r (split ∙ sym (append_assoc done (slot ∷ []) rest)) step above)
     next slot further done rest q (Err x) e h split above =
-        ap (λ (l : List Slot). take_steps (steps_of l) p) split ∙ ap (λ (l : List Step). take_steps l p) (steps_append done (slot ∷ rest)) ∙ take_append (steps_of done) (step_of slot ∷ steps_of rest) p
+        ap (λ (l : List Slot). take_steps (steps_of l) p) split ∙ ap (λ (l : List WalkStep). take_steps l p) (steps_append done (slot ∷ rest)) ∙ take_append (steps_of done) (step_of slot ∷ steps_of rest) p
         ∙ ap (λ (t : Taken). t >>= take_steps (step_of slot ∷ steps_of rest)) h ∙ ap (λ (t : Taken). t >>= take_steps (steps_of rest)) e
 
     keeping : Keeping slots Holds Fails
@@ -122,10 +122,10 @@ module _ (set : Set) (structs : AreSound set.structs) (d : Desc) (sound : IsSoun
   abbrev part_taken : Progress → Taken
   part_taken p = take_desc (takers set.structs (length set.structs)) d v base p
 
-  ok_numbers : (xs : List Step) (p q : Progress) → take_steps xs p ≡ Ok q → q.numbers ≡ last_numbers xs p
-  ok_numbers xs p q e = sym (ap (λ (l : List Step). last_numbers l p) (sym (append-nil xs)) ∙ last_taken xs [] p q e)
+  ok_numbers : (xs : List WalkStep) (p q : Progress) → take_steps xs p ≡ Ok q → q.numbers ≡ last_numbers xs p
+  ok_numbers xs p q e = sym (ap (λ (l : List WalkStep). last_numbers l p) (sym (append-nil xs)) ∙ last_taken xs [] p q e)
 
-  ends_ok : (xs : List Step) (p : Progress) (numbers : List ℤ) (place : ℕ) (left : Option (List ℕ)) (t : Taken) → take_steps xs p ≡ t → TakesAs t numbers place left (Ok tt) → numbers ≡ last_numbers xs p
+  ends_ok : (xs : List WalkStep) (p : Progress) (numbers : List ℤ) (place : ℕ) (left : Option (List ℕ)) (t : Taken) → take_steps xs p ≡ t → TakesAs t numbers place left (Ok tt) → numbers ≡ last_numbers xs p
   ends_ok xs p numbers place left (Ok q) e h = h.0 ∙ ok_numbers xs p q e
   ends_ok xs p numbers place left (Err r) e h = absurd h
 

@@ -5,9 +5,9 @@ use Rattle.vms_spec.specs.declared.Reason.{Reason}
 use Rattle.vms_spec.specs.declared.Reason.TheVariants as reasons
 use Rattle.vms_spec.specs.Readings.{Verdict, Goes, Faulty, Over, Reading, Refused, reading_after}
 use Rattle.vms_spec.specs.Units.{Piece}
-use Rattle.vms_units.specs.State.{State}
-use Rattle.vms_units.specs.Seen.{Seen, Good, Bad, Short}
-use Rattle.vms_units.specs.Judged.{judge_seen}
+use Rattle.vms_stream.specs.State.{State}
+use Rattle.vms_stream.specs.Seen.{Seen, Good, Bad, Short}
+use Rattle.vms_stream.specs.Judged.{judge_seen}
 use Rattle.vms_frames.specs.Stands.{Stand}
 use Rattle.vms_frames.specs.Calls.{ahead, Fails, AnswersSeen}
 use Rattle.vms_frames.specs.declared.fault.FrameFault.{FrameFault}

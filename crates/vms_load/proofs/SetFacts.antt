@@ -12,12 +12,12 @@ use Rattle.vms_spec.specs.WellFormed.{first_fault, WellFormed, has_few, failing,
 use Rattle.vms_spec.specs.declared.Part.{Part}
 use Rattle.vms_spec.specs.declared.Part.TheVariants as parts
 use Rattle.vms_spec.specs.Lists.{or_else, first_answer}
-use Rattle.vms_laws.specs.Cells.{AreCells}
-use Rattle.vms_laws.specs.Good.{IsGood}
-use Rattle.vms_laws.proofs.PartLaws.{sub_are}
-use Rattle.vms_laws.proofs.SectionLaws.{own_are}
+use Rattle.vms_bodies.specs.Cells.{AreCells}
+use Rattle.vms_spec.specs.Good.{IsGood}
+use Rattle.vms_bodies.proofs.PartLaws.{sub_are}
+use Rattle.vms_bodies.proofs.SectionLaws.{own_are}
 use Rattle.vms_spec.specs.Heads.{FitsHeads}
-use Rattle.vms_laws.proofs.WellFormedLaws.{well_good, device_parts}
+use Rattle.vms_spec.proofs.WellFormedLaws.{well_good, device_parts}
 use Rattle.vms_parts.specs.Devices.{device_at}
 use Rattle.vms_desc.specs.Formed.{is_well_formed}
 use Rattle.vms_desc.specs.Asks.{first_cell}
@@ -28,9 +28,9 @@ use Rattle.vms_spec.proofs.Faultless.{AllTrue, all_true, or_else_none}
 use Rattle.vms_desc.proofs.Bounds.{none_is}
 use Rattle.vms_load.specs.Parts.{IsIn, part_of, part_desc, part_base}
 use Rattle.vms_walk.specs.Steps.{HasSpot, table, spot_slots, steps_of}
-use Rattle.vms_walk.specs.declared.step.Step.{Step}
+use Rattle.vms_walk.specs.declared.step.WalkStep.{WalkStep}
 use Rattle.vms_load.specs.Bodies.{IsOfKind, AreOfKinds}
-use Rattle.vms_walk.specs.declared.fields.Spot.{Spot}
+use Rattle.vms_walk.specs.declared.fields.PartAt.{PartAt}
 use Rattle.vms_load.proofs.HeadLemmas.{at_get}
 
 pub well_of : (set : Set) → is_well_formed set ≡ true → WellFormed set
@@ -57,7 +57,7 @@ module _ (set : Set) (well : is_well_formed set ≡ true) (k : ℕ) (lt : k < le
   inside None h = omega (arith, own_inside_device set k)
   inside (Some j) h = sub_inside set k j h
 
-  pub part_spot : (sub : Option ℕ) → IsIn (device_at set k) sub → (n : List ℤ) → length n ≡ length (device_cells set (device_at set k)) → (spot : Spot) → spot.part ≡ part_of k sub → spot.base ≡ first_cell set spot.part
+  pub part_spot : (sub : Option ℕ) → IsIn (device_at set k) sub → (n : List ℤ) → length n ≡ length (device_cells set (device_at set k)) → (spot : PartAt) → spot.part ≡ part_of k sub → spot.base ≡ first_cell set spot.part
       → HasSpot set spot n
   part_spot sub h n long spot part base =
       let here : spot.base ≡ first_cell set (part_of k sub) = base ∙ ap (first_cell set) part in
@@ -84,7 +84,7 @@ desc_kinds set k (Some j) h v n =
     let none : Sub = record { desc = no_desc; needed = AtLeast 0 } in
     of_kinds (device_cells set d) (sub_slots set (sub_at d j) v n (sub_place set (own_cells set d) d.subs j)) (sub_are set d j (sub_at d j) v n (at_get d.subs j none h))
 
-pub part_kinds : (set : Set) (k : ℕ) (sub : Option ℕ) → IsIn (device_at set k) sub → (spot : Spot) → spot.part ≡ part_of k sub → spot.base ≡ first_cell set spot.part → (n : List ℤ)
+pub part_kinds : (set : Set) (k : ℕ) (sub : Option ℕ) → IsIn (device_at set k) sub → (spot : PartAt) → spot.part ≡ part_of k sub → spot.base ≡ first_cell set spot.part → (n : List ℤ)
     → AreOfKinds (kinds_at set k) (spot_slots set spot n)
 part_kinds set k sub h spot part base n =
     let v = spot.version in
@@ -95,7 +95,7 @@ part_kinds set k sub h spot part base n =
     subst (AreOfKinds (kinds_at set k)) (sym is) (desc_kinds set k sub h v n)
 
 -- the next of these steps is of its cell's kind
-abbrev AllOfKinds : List Kind → List Step → Type 0
+abbrev AllOfKinds : List Kind → List WalkStep → Type 0
 AllOfKinds kinds [] = Unit {0}
 AllOfKinds kinds (x ∷ xs) = IsOfKind kinds x × AllOfKinds kinds xs
 
@@ -106,11 +106,11 @@ all_of_kinds kinds (Constant kind z ∷ xs) h = (tt, all_of_kinds kinds xs h)
 all_of_kinds kinds (Filler n ∷ xs) h = (tt, all_of_kinds kinds xs h)
 all_of_kinds kinds (Rule b ∷ xs) h = (tt, all_of_kinds kinds xs h)
 
-one_of_kinds : (kinds : List Kind) (xs rest : List Step) (x : Step) → AllOfKinds kinds (xs ++ (x ∷ rest)) → IsOfKind kinds x
+one_of_kinds : (kinds : List Kind) (xs rest : List WalkStep) (x : WalkStep) → AllOfKinds kinds (xs ++ (x ∷ rest)) → IsOfKind kinds x
 one_of_kinds kinds [] rest x h = h.0
 one_of_kinds kinds (y ∷ xs) rest x h = one_of_kinds kinds xs rest x h.1
 
-pub step_kind : (kinds : List Kind) (slots : List Slot) (xs rest : List Step) (x : Step) → AreOfKinds kinds slots → steps_of slots ≡ xs ++ (x ∷ rest) → IsOfKind kinds x
+pub step_kind : (kinds : List Kind) (slots : List Slot) (xs rest : List WalkStep) (x : WalkStep) → AreOfKinds kinds slots → steps_of slots ≡ xs ++ (x ∷ rest) → IsOfKind kinds x
 step_kind kinds slots xs rest x h e = one_of_kinds kinds xs rest x (subst (AllOfKinds kinds) e (all_of_kinds kinds slots h))
 
 pub few_subs : (set : Set) → is_well_formed set ≡ true → (k : ℕ) → k < length set.devices → length (device_at set k).subs ≤ 32

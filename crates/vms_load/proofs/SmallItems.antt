@@ -1,14 +1,14 @@
 -- The items of a well-formed set have few unused bytes.
 use Rattle.std.proofs.Common.{◌≡◌, ℕ, suc, ◌<◌, List, [], ◌∷◌, length, get_or, Option, Some, None, Bool, true, ◌&&◌, nat_le, refl}
+use Rattle.std.specs.List.{slice_get}
 use Rattle.std.proofs.lemmas.Bool.{and_parts}
-use Rattle.vms_spec.specs.Lists.{at}
 use Rattle.vms_spec.specs.Sets.{Field, Desc, Set}
 use Rattle.vms_spec.specs.Layout.{no_desc}
 use Rattle.vms_spec.specs.Rules.{is_small_item, is_small_optional}
 use Rattle.vms_spec.specs.WellFormed.{WellFormed}
 use Rattle.vms_parts.specs.Devices.{device_at}
 use Rattle.vms_desc.specs.Parts.{sub_at}
-use Rattle.vms_laws.proofs.WellFormedLaws.{Clean, struct_clean, device_parts, sub_clean}
+use Rattle.vms_spec.proofs.WellFormedLaws.{Clean, struct_clean, device_parts, sub_clean}
 use Rattle.vms_load.specs.Parts.{IsIn, part_desc}
 use Rattle.vms_load.proofs.HeadLemmas.{at_get}
 
@@ -16,7 +16,7 @@ abbrev pub AreSmall : List Field → Type 0
 AreSmall [] = Unit {0}
 AreSmall (f ∷ fs) = (is_small_item f.item ≡ true) × AreSmall fs
 
-are_small : (fs : List Field) → ((i : ℕ) (f : Field) → at fs i ≡ Some f → is_small_item f.item ≡ true) → AreSmall fs
+are_small : (fs : List Field) → ((i : ℕ) (f : Field) → slice_get fs i ≡ Some f → is_small_item f.item ≡ true) → AreSmall fs
 are_small [] h = tt
 are_small (f ∷ fs) h = (h 0 f refl, are_small fs (λ i g e. h (suc i) g e))
 

@@ -1,18 +1,18 @@
 -- What is read of a stream so far, device by device.
 use Rattle.std.proofs.Common.{◌≡◌, ℕ, zero, suc, ◌+◌, ◌<◌, ◌≤◌, List, [], ◌∷◌, ◌++◌, length, length-append, get_or, map, replicate, drop, slice_set, Option, Some, None, Bool, true, false, ◌||◌, nat_lt, if◌then◌else◌, Ok, refl, sym, ap, ◌∙◌, subst, arith}
+use Rattle.std.specs.List.{slice_get}
 use Rattle.std.specs.Str.{bytes_eq}
 use Rattle.std.proofs.lemmas.List.{length-map, length-set, drop_more, ext_get_or, get_or-map, map-set}
 use Rattle.std.proofs.Math.ListN.{get_or-append}
 use Rattle.std.proofs.Math.Seq.{get_or-append_seam}
 use Rattle.std.proofs.lemmas.Slice.Eq.{bytes_eq-Decides}
-use Rattle.vms_spec.specs.Lists.{at}
 use Rattle.vms_spec.specs.Sets.{Device, Set}
 use Rattle.vms_spec.specs.Images.{Image, default_image}
 use Rattle.vms_spec.specs.Streams.{is_one_of}
 use Rattle.vms_spec.specs.declared.Reason.TheVariants as reasons
-use Rattle.vms_spec.specs.Judging.{find_device}
-use Rattle.vms_units.specs.SoFar.{Unknown}
-use Rattle.vms_units.specs.State.{State, Before, at_start}
+use Rattle.vms_spec.specs.Lookup.{find_device}
+use Rattle.vms_stream.specs.SoFar.{Unknown}
+use Rattle.vms_stream.specs.State.{State, Before, at_start}
 use Rattle.vms_parts.specs.Devices.{device_at}
 use Rattle.vms_load.specs.Heads.{unfit, opened_at, opened_unless, reason_against, section_opened}
 use Rattle.vms_image.specs.Typed.{Typed, state_of as untyped, default_at, IsImageOf, AreImagesOf}
@@ -149,7 +149,7 @@ begun_states set new old k v e = ap (map untyped) e ∙ map-set untyped old k (b
 pub shaped_states : (set : Set) (images : List Typed) → AreShaped set images → length (map untyped images) ≡ length set.devices
 shaped_states set images s = length-map images untyped ∙ s.all
 
-get_there : (images : List Typed) (k : ℕ) (image : Typed) → at images k ≡ Some image → (k < length images) × (get_or images k no_image ≡ image)
+get_there : (images : List Typed) (k : ℕ) (image : Typed) → slice_get images k ≡ Some image → (k < length images) × (get_or images k no_image ≡ image)
 get_there [] k image e = cc
 get_there (x ∷ xs) zero image e = (omega arith, cc)
 get_there (x ∷ xs) (suc k) image e =
@@ -206,18 +206,18 @@ unless_came k d came v i place e = by_tests came (nat_lt d.desc.version v) (nat_
     by_tests false false false e = (cc, refl)
 
 pub section_new : (set : Set) (came : List Bool) (name : List ℕ) (instance v k place : ℕ) → length came ≡ length set.devices → Ok k ≡ opened_at place (section_opened set came name instance v)
-    → (k < length set.devices) × (at came k ≡ Some false)
+    → (k < length set.devices) × (slice_get came k ≡ Some false)
 section_new set came name instance v k place long e = by_found (find_device 0 set.devices name instance) refl
   where
-    by_found : (found : Option ℕ) → find_device 0 set.devices name instance ≡ found → (k < length set.devices) × (at came k ≡ Some false)
+    by_found : (found : Option ℕ) → find_device 0 set.devices name instance ≡ found → (k < length set.devices) × (slice_get came k ≡ Some false)
     by_found None f = let h : Ok k ≡ opened_at place (unfit None reasons.UnknownSection) = e ∙ ap (opened_at place) (unknown set came name instance v f) in cc
     by_found (Some i) f =
         let u = unless_came i (device_at set i) (get_or came i false) v k place (e ∙ ap (opened_at place) (known set came name instance v i f)) in
         let lt : i < length set.devices = device_below set.devices name instance i f in
-        let new : at came i ≡ Some false = at_get came i false (omega (arith, lt, long)) ∙ ap (λ (b : Bool). Some b) u.1 in
-        (omega (arith, u.0, lt), ap (λ (n : ℕ). at came n) u.0 ∙ new)
+        let new : slice_get came i ≡ Some false = at_get came i false (omega (arith, lt, long)) ∙ ap (λ (b : Bool). Some b) u.1 in
+        (omega (arith, u.0, lt), ap (λ (n : ℕ). slice_get came n) u.0 ∙ new)
 
-pub sections_taken : (set : Set) (devices : List Device) (came : List Bool) (k : ℕ) (none : Device) → length came ≡ length devices → at came k ≡ Some false
+pub sections_taken : (set : Set) (devices : List Device) (came : List Bool) (k : ℕ) (none : Device) → length came ≡ length devices → slice_get came k ≡ Some false
     → sections_due set devices (slice_set came k true) + section_bytes set (get_or devices k none) ≡ sections_due set devices came
 sections_taken set devices [] k none long e = cc
 sections_taken set [] (b ∷ came) k none long e = absurd (omega arith)
@@ -228,12 +228,12 @@ sections_taken set (d ∷ devices) (true ∷ came) (suc k) none long e = section
 
 -- what hasn't come stays as it is where the image of one that has come is put
 pub still_fresh : (set : Set) (old new : List Typed) (came now : List Bool) (k : ℕ) (x image : Typed) → k < length came → now ≡ slice_set came k true
-    → new ≡ slice_set old k x → ((j : ℕ) → at came j ≡ Some false → get_or old j no_image ≡ default_at set j)
-    → (j : ℕ) → at now j ≡ Some false → get_or (slice_set new k image) j no_image ≡ default_at set j
+    → new ≡ slice_set old k x → ((j : ℕ) → slice_get came j ≡ Some false → get_or old j no_image ≡ default_at set j)
+    → (j : ℕ) → slice_get now j ≡ Some false → get_or (slice_set new k image) j no_image ≡ default_at set j
 still_fresh set old new came now k x image lt now_is new_is fresh j e =
-    let here : at (slice_set came k true) j ≡ Some false = sym (ap (λ (l : List Bool). at l j) now_is) ∙ e in
+    let here : slice_get (slice_set came k true) j ≡ Some false = sym (ap (λ (l : List Bool). slice_get l j) now_is) ∙ e in
     same_or_not j k (get_or (slice_set new k image) j no_image ≡ default_at set j)
-    (λ same. absurd (true_false (sym (at_set came k true lt) ∙ ap (at (slice_set came k true)) (sym same) ∙ here)))
+    (λ same. absurd (true_false (sym (at_set came k true lt) ∙ ap (slice_get (slice_set came k true)) (sym same) ∙ here)))
     (λ ne.
     get_other new k j image no_image ne ∙ ap (λ (l : List Typed). get_or l j no_image) new_is ∙ get_other old k j x no_image ne
     ∙ fresh j (sym (at_other came k j true ne) ∙ here))
@@ -241,12 +241,12 @@ still_fresh set old new came now k x image lt now_is new_is fresh j e =
     true_false : Some true ≡ Some false → ⊥
     true_false b = cc
 
-    at_set : (xs : List Bool) (k : ℕ) (x : Bool) → k < length xs → at (slice_set xs k x) k ≡ Some x
+    at_set : (xs : List Bool) (k : ℕ) (x : Bool) → k < length xs → slice_get (slice_set xs k x) k ≡ Some x
     at_set [] k x lt = absurd (omega arith)
     at_set (y ∷ xs) zero x lt = refl
     at_set (y ∷ xs) (suc k) x lt = at_set xs k x (omega arith)
 
-    at_other : (xs : List Bool) (k j : ℕ) (x : Bool) → (j ≡ k → ⊥) → at (slice_set xs k x) j ≡ at xs j
+    at_other : (xs : List Bool) (k j : ℕ) (x : Bool) → (j ≡ k → ⊥) → slice_get (slice_set xs k x) j ≡ slice_get xs j
     at_other [] k j x ne = refl
     at_other (y ∷ xs) zero zero x ne = absurd (ne refl)
     at_other (y ∷ xs) zero (suc j) x ne = refl

@@ -8,7 +8,7 @@ use Rattle.vms_spec.specs.Layout.{Slot, Rule, Meaning, no_meaning, no_desc, item
 use Rattle.vms_spec.proofs.Sizes.{elements_fit}
 use Rattle.vms_spec.proofs.Tables.{first_long}
 use Rattle.vms_desc.specs.Parts.{desc_at}
-use Rattle.vms_walk.specs.declared.fields.Spot.{Spot}
+use Rattle.vms_walk.specs.declared.fields.PartAt.{PartAt}
 use Rattle.vms_walk.specs.Steps.{steps_of, cells_in, spot_slots}
 use Rattle.vms_walk.proofs.Walking.{steps_append}
 use Rattle.vms_load.specs.Bounds.{item_bytes, field_bytes, fields_bytes, desc_bytes, struct_bytes}
@@ -83,6 +83,6 @@ structs_bound ds (suc k) =
     bounds_more (meanings ds k) (struct_bytes ds k) (meaning (meanings ds k) d) (desc_bytes (struct_bytes ds k) d) (first_long meaning ds k ∙ sym (first_long desc_bytes ds k)) h
     (λ n at. desc_bound (meanings ds k) (struct_bytes ds k) h d d.version n at)
 
-pub part_bound : (set : Set) (spot : Spot) (n : List ℤ) → steps_long (steps_of (spot_slots set spot n)) ≤ bytes_of set (desc_at set spot.part)
+pub part_bound : (set : Set) (spot : PartAt) (n : List ℤ) → steps_long (steps_of (spot_slots set spot n)) ≤ bytes_of set (desc_at set spot.part)
 part_bound set spot n =
     desc_bound (meanings set.structs (length set.structs)) (struct_bytes set.structs (length set.structs)) (structs_bound set.structs (length set.structs)) (desc_at set spot.part) spot.version n spot.base

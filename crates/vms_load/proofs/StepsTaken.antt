@@ -6,7 +6,7 @@ use Rattle.vms_frames.specs.Answers.{HasCause}
 use Rattle.vms_frames.specs.declared.fault.FrameFault.{FrameFault}
 use Rattle.vms_frames.specs.declared.fault.FrameFault.TheVariants as faults
 use Rattle.vms_frames.proofs.HeardLemmas.{heard_as, hears_as}
-use Rattle.vms_walk.specs.declared.step.Step.{Step}
+use Rattle.vms_walk.specs.declared.step.WalkStep.{WalkStep}
 use Rattle.vms_walk.specs.Inside.{Keeps}
 use Rattle.vms_load.specs.Bodies.{TakesAs, Spends, HearsTaken}
 use Rattle.vms_load.specs.Reading.{take_step, take_steps, last_numbers, numbers_then, step_long, Told, from, with_left, Took, Failed, IsTaken, IsStopped, IfRefused}
@@ -19,7 +19,7 @@ pub if_err : {X E : Type 0} {P Q : E → Type 0} (r : Result X E) → ((e : E) �
 if_err (Ok x) f p = tt
 if_err (Err e) f p = f e p
 
-module _ (x : Step) where
+module _ (x : WalkStep) where
   abbrev TakesOne : Told → Told → Result (Unit {0}) FrameFault → Type 0
   TakesOne a b r = IfSome a.left (λ rest. TakesAs (take_step x (from a rest)) b.image.numbers b.place b.left r)
 

@@ -3,23 +3,23 @@ use Rattle.std.proofs.Common.{◌≡◌, ℕ, ◌+◌, ◌-◌, ◌≤◌, ◌==
 use Rattle.std.proofs.lemmas.List.{drop-drop}
 use Rattle.vms_spec.specs.declared.Reason.{Reason}
 use Rattle.vms_spec.specs.Sets.{Set}
-use Rattle.vms_spec.specs.Judging.{number_at, bytes_at}
+use Rattle.vms_spec.specs.Lookup.{number_at, bytes_at}
 use Rattle.vms_spec.specs.Streams.{longest_text}
 use Rattle.vms_spec.specs.Units.{Piece, Long, Mark, Description}
 use Rattle.vms_spec.specs.Readings.{Verdict, Goes, Reading, Accepted, Refused, reading_after}
-use Rattle.vms_laws.specs.Whole.{reading_on}
-use Rattle.vms_laws.proofs.FrameLaws.{one_unit}
-use Rattle.vms_units.specs.Dues.{AfterEnd}
-use Rattle.vms_units.specs.Table.{first_row, alone}
-use Rattle.vms_units.specs.Finding.{Whole, Cut, needs, text_at, trailer_at}
-use Rattle.vms_units.specs.Seen.{Seen, Good, Bad, Short, seen, seen_by, seen_in}
-use Rattle.vms_units.specs.Judge.{judge, reading}
-use Rattle.vms_units.specs.Judged.{ask, judge_seen}
-use Rattle.vms_units.specs.State.{State, Ended, Over, by_state, at_start}
-use Rattle.vms_units.specs.Taking.{nothing_known}
-use Rattle.vms_units.proofs.Calls.Judged.{judged_holds}
-use Rattle.vms_units.proofs.Finding.Advancing.{advances}
-use Rattle.vms_units.proofs.Judging.Mirrors.{solid}
+use Rattle.vms_bodies.specs.Whole.{reading_on}
+use Rattle.vms_bodies.proofs.FrameLaws.{one_unit}
+use Rattle.vms_stream.specs.Dues.{AfterEnd}
+use Rattle.vms_stream.specs.Table.{first_row, alone}
+use Rattle.vms_stream.specs.Finding.{Whole, Cut, needs, text_at, trailer_at}
+use Rattle.vms_stream.specs.Seen.{Seen, Good, Bad, Short, seen, seen_by, seen_in}
+use Rattle.vms_stream.specs.Judge.{judge, reading}
+use Rattle.vms_stream.specs.Judged.{ask, judge_seen}
+use Rattle.vms_stream.specs.State.{State, Ended, Over, by_state, at_start}
+use Rattle.vms_stream.specs.Taking.{nothing_known}
+use Rattle.vms_stream.proofs.Calls.Judged.{judged_holds}
+use Rattle.vms_stream.proofs.Finding.Advancing.{advances}
+use Rattle.vms_stream.proofs.Judging.Mirrors.{solid}
 use Rattle.vms_frames.specs.Stands.{Stand}
 use Rattle.vms_frames.specs.Calls.{ahead, Fails, AnswersEnd, ReadsEnd}
 use Rattle.vms_frames.specs.declared.fault.FrameFault.{FrameFault}

@@ -2,22 +2,22 @@
 use Rattle.std.proofs.Common.{◌≡◌, ℕ, ◌+◌, ◌-◌, ◌≤◌, nat_lt, if◌then◌else◌, Bool, true, false, List, length, take, drop, Option, Some, None, Result, Ok, Err, IfSome, OnOk, refl, sym, ap, ◌∙◌, subst, arith}
 use Rattle.vms_spec.specs.Sets.{Set}
 use Rattle.vms_spec.specs.declared.Reason.{Reason}
-use Rattle.vms_spec.specs.Judging.{number_at}
+use Rattle.vms_spec.specs.Lookup.{number_at}
 use Rattle.vms_spec.specs.Units.{Piece, Magic, Version}
 use Rattle.vms_spec.specs.Readings.{Verdict, Goes, Reading, reading_after}
-use Rattle.vms_laws.specs.Whole.{reading_on}
-use Rattle.vms_laws.proofs.FrameLaws.{one_unit}
-use Rattle.vms_units.specs.Dues.{Due, AMagic, AVersion, Between as IsBetween}
-use Rattle.vms_units.specs.Table.{first_row, alone}
-use Rattle.vms_units.specs.Finding.{Whole, Cut}
-use Rattle.vms_units.specs.Judge.{judge}
-use Rattle.vms_units.specs.Judged.{ask, judge_seen}
-use Rattle.vms_units.specs.Seen.{Seen, Good, Bad, Short, seen, seen_by, seen_in}
-use Rattle.vms_units.specs.State.{State, Spot, Before, Headed, Free, by_state}
-use Rattle.vms_units.specs.Taking.{nothing_known}
-use Rattle.vms_units.proofs.Calls.Judged.{judged_holds}
-use Rattle.vms_units.proofs.Finding.Advancing.{advances}
-use Rattle.vms_units.proofs.Judging.Mirrors.{solid}
+use Rattle.vms_bodies.specs.Whole.{reading_on}
+use Rattle.vms_bodies.proofs.FrameLaws.{one_unit}
+use Rattle.vms_stream.specs.Dues.{Due, AMagic, AVersion, Between as IsBetween}
+use Rattle.vms_stream.specs.Table.{first_row, alone}
+use Rattle.vms_stream.specs.Finding.{Whole, Cut}
+use Rattle.vms_stream.specs.Judge.{judge}
+use Rattle.vms_stream.specs.Judged.{ask, judge_seen}
+use Rattle.vms_stream.specs.Seen.{Seen, Good, Bad, Short, seen, seen_by, seen_in}
+use Rattle.vms_stream.specs.State.{State, Spot, Before, Headed, Free, by_state}
+use Rattle.vms_stream.specs.Taking.{nothing_known}
+use Rattle.vms_stream.proofs.Calls.Judged.{judged_holds}
+use Rattle.vms_stream.proofs.Finding.Advancing.{advances}
+use Rattle.vms_stream.proofs.Judging.Mirrors.{solid}
 use Rattle.vms_marks.specs.declared.head.Head.{Head}
 use Rattle.vms_frames.specs.Stands.{Stand}
 use Rattle.vms_frames.specs.Found.{step_long}

@@ -3,22 +3,22 @@ use Rattle.std.specs.Prelude.{◌≡◌, ℕ, ◌+◌, ◌-◌, ◌≤◌, List,
 use Rattle.vms_io.specs.Causes.{capped}
 use Rattle.vms_kinds.specs.declared.Kind.{Kind}
 use Rattle.vms_kinds.specs.declared.Kind.TheVariants.{U8}
-use Rattle.vms_walk.specs.declared.step.Step.{Step}
-use Rattle.vms_walk.specs.declared.step.Step.TheVariants as steps
+use Rattle.vms_walk.specs.declared.step.WalkStep.{WalkStep}
+use Rattle.vms_walk.specs.declared.step.WalkStep.TheVariants as steps
 use Rattle.vms_kinds.specs.Codes.{width}
 use Rattle.vms_spec.specs.Layout.{Slot, Number as NumberSlot, Constant as ConstantSlot, Filler as FillerSlot, Rule as RuleSlot}
 use Rattle.vms_spec.specs.Taking.{Taken, Progress}
 use Rattle.vms_spec.specs.Units.{Number, Constant}
-use Rattle.vms_units.specs.Dues.{Field}
-use Rattle.vms_units.specs.Seen.{seen}
-use Rattle.vms_units.specs.Taking.{nothing_known}
+use Rattle.vms_stream.specs.Dues.{Field}
+use Rattle.vms_stream.specs.Seen.{seen}
+use Rattle.vms_stream.specs.Taking.{nothing_known}
 use Rattle.vms_frames.specs.Calls.{AnswersSeen}
 use Rattle.vms_frames.specs.Heard.{Hears}
 use Rattle.vms_frames.specs.declared.fault.FrameFault.{FrameFault}
 use Rattle.vms_frames.specs.declared.fault.FrameFault.TheVariants as faults
 
 -- the number of a step is of the kind of its cell
-abbrev pub IsOfKind : List Kind → Step → Type 0
+abbrev pub IsOfKind : List Kind → WalkStep → Type 0
 IsOfKind kinds (steps.Number cell kind most) = get_or kinds cell U8 ≡ kind
 IsOfKind kinds (steps.Constant kind value) = Unit {0}
 IsOfKind kinds (steps.Filler bytes) = Unit {0}

@@ -2,11 +2,11 @@
 use Rattle.std.specs.Prelude.{◌≡◌, ℕ, ◌+◌, List, length, Option, Result, Ok, Err}
 use Rattle.vms_io.specs.Causes.{capped}
 use Rattle.vms_spec.specs.declared.Reason.{Reason}
-use Rattle.vms_units.specs.Faults.{Fault}
+use Rattle.vms_stream.specs.Faults.{Fault}
 use Rattle.vms_spec.specs.Images.{Image}
 use Rattle.vms_spec.specs.Numbers.{IsBytes}
 use Rattle.vms_spec.specs.Sets.{Set}
-use Rattle.vms_units.specs.Streams.{Takes}
+use Rattle.vms_stream.specs.Streams.{Takes}
 use Rattle.vms_spec.specs.WellFormed.{WellFormed}
 use Rattle.vms_spec.specs.Heads.{FitsHeads}
 use Rattle.vms_frames.specs.declared.fault.Refusal.{Refusal}

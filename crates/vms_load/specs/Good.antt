@@ -1,7 +1,7 @@
 -- What the images are that a loader keeps.
 use Rattle.std.specs.Prelude.{◌≡◌, ℕ, ◌<◌, List, [], ◌∷◌, length, Option, Some, None}
+use Rattle.std.specs.List.{slice_get}
 use Rattle.std.proofs.Props.{props}
-use Rattle.vms_spec.specs.Lists.{at}
 use Rattle.vms_spec.specs.Layout.{Slot, Number, Constant, Filler, Rule}
 use Rattle.vms_spec.specs.Sets.{Sub, Device, Set}
 use Rattle.vms_spec.specs.Images.{Image, AreVersionsOf, RulesHold, IsNormal, IsValid}
@@ -14,7 +14,7 @@ pub record IsKept (set : Set) (d : Device) (image : Image) : Type 0 where
 -- one for each device
 pub record AreKept (set : Set) (images : List Image) : Type 0 where
   pub one_each : length images ≡ length set.devices
-  pub each : (k : ℕ) (d : Device) (image : Image) → at set.devices k ≡ Some d → at images k ≡ Some image → IsKept set d image
+  pub each : (k : ℕ) (d : Device) (image : Image) → slice_get set.devices k ≡ Some d → slice_get images k ≡ Some image → IsKept set d image
 
 -- ---- these facts hold in one way
 

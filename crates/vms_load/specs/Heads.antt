@@ -1,11 +1,11 @@
 -- What a head opens: the device or the subsection that it names, or the reason against it. The reasons are tried in the order
 -- of the table.
 use Rattle.std.specs.Prelude.{ℕ, Bool, false, nat_lt, if◌then◌else◌, List, get_or, Option, Some, None, Result, Ok, Err}
+use Rattle.std.specs.List.{slice_get}
 use Rattle.vms_spec.specs.declared.Reason.{Reason}
 use Rattle.vms_spec.specs.declared.Reason.TheVariants as reasons
-use Rattle.vms_spec.specs.Lists.{at}
 use Rattle.vms_spec.specs.Sets.{Desc, Sub, Device, Set}
-use Rattle.vms_spec.specs.Judging.{find_device, find_sub, index, did_come}
+use Rattle.vms_spec.specs.Lookup.{find_device, find_sub, index, did_come}
 use Rattle.vms_load.specs.declared.fault.LoadFault.{LoadFault}
 use Rattle.vms_load.specs.declared.fault.LoadFault.TheVariants.{Refused}
 
@@ -51,7 +51,7 @@ device_opened v None d came = unfit None reasons.UnknownSection
 abbrev pub section_opened : Set → List Bool → List ℕ → ℕ → ℕ → Result ℕ Unfit
 section_opened set came name instance v =
     let found = find_device 0 set.devices name instance in
-    device_opened v found (at set.devices (index found)) (get_or came (index found) false)
+    device_opened v found (slice_get set.devices (index found)) (get_or came (index found) false)
 
 -- subsection j of device k at a version, where it has come or not
 abbrev pub sub_opened_at : ℕ → ℕ → Option ℕ → Option Sub → Option (Option ℕ) → Result ℕ Unfit
@@ -62,7 +62,7 @@ sub_opened_at k v j s came = unfit (Some k) reasons.UnknownSubsection
 abbrev pub sub_opened : ℕ → Device → List (Option ℕ) → List ℕ → ℕ → Result ℕ Unfit
 sub_opened k d came name v =
     let found = find_sub 0 d.subs name in
-    sub_opened_at k v found (at d.subs (index found)) (at came (index found))
+    sub_opened_at k v found (slice_get d.subs (index found)) (slice_get came (index found))
 
 -- the answer of a call that opens what a head at this place names
 abbrev pub opened_at : ℕ → Result ℕ Unfit → Result ℕ LoadFault

@@ -2,7 +2,7 @@
 use Rattle.std.specs.Prelude.{ℕ, List, Option, Result, Ok, Err, IfSome}
 use Rattle.vms_spec.specs.Sets.{Set}
 use Rattle.vms_spec.specs.Images.{Image}
-use Rattle.vms_units.specs.State.{State}
+use Rattle.vms_stream.specs.State.{State}
 use Rattle.vms_spec.specs.Readings.{Reading, Verdict}
 use Rattle.vms_frames.specs.Stands.{Stand}
 use Rattle.vms_frames.specs.Heard.{HeardOn, HeardLast}

@@ -3,8 +3,8 @@ use Rattle.std.specs.Prelude.{◌≡◌, ℕ, ◌+◌, ◌≤◌, List, drop, Op
 use Rattle.vms_io.specs.Causes.{Rose, capped}
 use Rattle.vms_spec.specs.Sets.{Set}
 use Rattle.vms_spec.specs.Images.{Image}
-use Rattle.vms_units.specs.Streams.{Takes}
-use Rattle.vms_units.specs.Faults.{Fault}
+use Rattle.vms_stream.specs.Streams.{Takes}
+use Rattle.vms_stream.specs.Faults.{Fault}
 use Rattle.vms_load.specs.Staging.{name_of, most_given}
 use Rattle.vms_load.specs.declared.fault.LoadFault.{LoadFault}
 use Rattle.vms_load.specs.declared.fault.LoadFault.TheVariants as faults

@@ -1,16 +1,16 @@
 -- The parts of a section, which are read into an image of its device.
 use Rattle.std.specs.Prelude.{◌≡◌, ℕ, ◌+◌, ◌<◌, ◌≤◌, false, List, [], ◌∷◌, length, slice_set, Option, Some, None}
+use Rattle.std.specs.List.{slice_get}
 use Rattle.vms_spec.specs.Sets.{Desc, Sub, Device, Set}
 use Rattle.vms_spec.specs.declared.Part.{Part}
 use Rattle.vms_spec.specs.declared.Part.TheVariants as parts
-use Rattle.vms_spec.specs.Lists.{at}
 use Rattle.vms_spec.specs.Images.{Image, sub_place, own_cells}
 use Rattle.vms_spec.specs.SoFar.{part_slots}
-use Rattle.vms_units.specs.Judge.{judge}
-use Rattle.vms_units.specs.State.{State, Spot, Free, Inside, by_state}
+use Rattle.vms_stream.specs.Judge.{judge}
+use Rattle.vms_stream.specs.State.{State, Spot, Free, Inside, by_state}
 use Rattle.vms_frames.specs.Stands.{Stand}
 use Rattle.vms_frames.specs.Calls.{tail_of}
-use Rattle.vms_laws.specs.Whole.{reading_on}
+use Rattle.vms_bodies.specs.Whole.{reading_on}
 use Rattle.vms_parts.specs.Devices.{device_at}
 use Rattle.vms_desc.specs.Parts.{sub_at}
 use Rattle.vms_load.specs.Bounds.{desc_bytes, struct_bytes}
@@ -40,7 +40,7 @@ part_of k (Some j) = parts.Sub k j
 -- a part that has begun in an image
 abbrev pub IsOpen : Device → Image → Option ℕ → ℕ → Type 0
 IsOpen d image None version = version ≡ image.version
-IsOpen d image (Some j) version = (j < length d.subs) × (at image.came j ≡ Some (Some version))
+IsOpen d image (Some j) version = (j < length d.subs) × (slice_get image.came j ≡ Some (Some version))
 
 abbrev pub OpensNext : Device → Image → Option Open → Type 0
 OpensNext d image None = Unit {0}

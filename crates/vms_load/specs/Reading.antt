@@ -9,21 +9,21 @@ use Rattle.vms_frames.specs.Heard.{HeardOn, Hears}
 use Rattle.vms_frames.proofs.HeardLemmas.{heard_none, heard_both, hears_both, hears_as}
 use Rattle.vms_frames.specs.declared.fault.FrameFault.{FrameFault}
 use Rattle.vms_frames.specs.declared.fault.FrameFault.TheVariants as faults
-use Rattle.vms_walk.specs.declared.step.Step.{Step}
-use Rattle.vms_walk.specs.declared.step.Step.TheVariants.{Number, Constant, Filler, Rule}
+use Rattle.vms_walk.specs.declared.step.WalkStep.{WalkStep}
+use Rattle.vms_walk.specs.declared.step.WalkStep.TheVariants.{Number, Constant, Filler, Rule}
 use Rattle.vms_walk.specs.Inside.{Keeps}
 use Rattle.vms_walk.specs.Steps.{capacities_of}
 use Rattle.vms_walk.proofs.Kept.{keeps_same, keeps_more, keeps_front}
 use Rattle.vms_load.specs.Bodies.{TakesAs, Spends, progress}
 
 -- what is taken at a step, and at steps one after the other
-abbrev pub take_step : Step → Progress → Taken
+abbrev pub take_step : WalkStep → Progress → Taken
 take_step (Number cell kind most) p = take_number kind (capacities_of most) cell p
 take_step (Constant kind value) p = take_constant kind value p
 take_step (Filler bytes) p = take_filler bytes p
 take_step (Rule holds) p = take_rule holds p
 
-abbrev pub take_steps : List Step → Progress → Taken
+abbrev pub take_steps : List WalkStep → Progress → Taken
 take_steps [] p = Ok p
 take_steps (x ∷ xs) p = take_step x p >>= take_steps xs
 
@@ -32,18 +32,18 @@ abbrev pub numbers_then : Taken → List ℤ → (Progress → List ℤ) → Lis
 numbers_then (Ok q) numbers more = more q
 numbers_then (Err e) numbers more = numbers
 
-abbrev pub last_numbers : List Step → Progress → List ℤ
+abbrev pub last_numbers : List WalkStep → Progress → List ℤ
 last_numbers [] p = p.numbers
 last_numbers (x ∷ xs) p = numbers_then (take_step x p) p.numbers (last_numbers xs)
 
 -- how many bytes steps have
-abbrev pub step_long : Step → ℕ
+abbrev pub step_long : WalkStep → ℕ
 step_long (Number cell kind most) = width kind
 step_long (Constant kind value) = width kind
 step_long (Filler bytes) = bytes
 step_long (Rule holds) = 0
 
-abbrev pub steps_long : List Step → ℕ
+abbrev pub steps_long : List WalkStep → ℕ
 steps_long [] = 0
 steps_long (x ∷ xs) = step_long x + steps_long xs
 
@@ -74,11 +74,11 @@ abbrev pub with_left : Told → Option (List ℕ) → Told
 with_left t left = record t { left = left }
 
 -- these steps take what was taken, or are refused there
-abbrev pub IsTaken : List Step → Told → Told → Result (Unit {0}) FrameFault → Type 0
+abbrev pub IsTaken : List WalkStep → Told → Told → Result (Unit {0}) FrameFault → Type 0
 IsTaken xs old new result = IfSome old.left (λ rest. TakesAs (take_steps xs (from old rest)) new.image.numbers new.place new.left result)
 
 -- these steps were taken
-pub record Took (xs : List Step) (old new : Told) : Type 0 where
+pub record Took (xs : List WalkStep) (old new : Told) : Type 0 where
   pub taken : IsTaken xs old new (Ok tt)
   pub heard : HeardOn old.given new.given (λ a b. IsTaken xs (with_left old a) (with_left new b) (Ok tt))
   pub given : Spends {X = Unit {0}} (steps_long xs) old.given new.given old.place new.place (Ok tt)
@@ -92,11 +92,11 @@ abbrev pub IfRefused : FrameFault → Type 0 → Type 0
 IfRefused (faults.Refused at reason) P = P
 IfRefused faults.ReadFault P = Unit {0}
 
-abbrev pub IsStopped : List Step → Told → FrameFault → Told → Type 0
+abbrev pub IsStopped : List WalkStep → Told → FrameFault → Told → Type 0
 IsStopped xs old fault new = IfSome old.left (λ rest. IfRefused fault (new.image.numbers ≡ last_numbers xs (from old rest)))
 
 -- some first of the steps were, and then a fault came
-pub record Failed (xs : List Step) (old : Told) (fault : FrameFault) (new : Told) : Type 0 where
+pub record Failed (xs : List WalkStep) (old : Told) (fault : FrameFault) (new : Told) : Type 0 where
   pub taken : IsTaken xs old new (Err fault)
   pub stopped : IsStopped xs old fault new
   pub heard : Hears {X = Unit {0}} old.given new.given (λ a b. IsTaken xs (with_left old a) (with_left new b) (Err fault) × IsStopped xs (with_left old a) fault (with_left new b)) (Err fault)
@@ -108,20 +108,20 @@ pub record Failed (xs : List Step) (old : Told) (fault : FrameFault) (new : Told
 
 -- ---- laws
 
-on_both : (xs ys zs : List Step) → ((p : Progress) → take_steps zs p ≡ (take_steps xs p >>= take_steps ys)) → (t : Taken) → (t >>= take_steps zs) ≡ ((t >>= take_steps xs) >>= take_steps ys)
+on_both : (xs ys zs : List WalkStep) → ((p : Progress) → take_steps zs p ≡ (take_steps xs p >>= take_steps ys)) → (t : Taken) → (t >>= take_steps zs) ≡ ((t >>= take_steps xs) >>= take_steps ys)
 on_both xs ys zs h (Ok p) = h p
 on_both xs ys zs h (Err e) = refl
 
-pub take_append : (xs ys : List Step) (p : Progress) → take_steps (xs ++ ys) p ≡ (take_steps xs p >>= take_steps ys)
+pub take_append : (xs ys : List WalkStep) (p : Progress) → take_steps (xs ++ ys) p ≡ (take_steps xs p >>= take_steps ys)
 take_append [] ys p = refl
 take_append (x ∷ xs) ys p = on_both xs ys (xs ++ ys) (λ q. take_append xs ys q) (take_step x p)
 
-pub long_append : (xs ys : List Step) → steps_long (xs ++ ys) ≡ steps_long xs + steps_long ys
+pub long_append : (xs ys : List WalkStep) → steps_long (xs ++ ys) ≡ steps_long xs + steps_long ys
 long_append [] ys = omega arith
 long_append (x ∷ xs) ys = omega (arith, long_append xs ys)
 
 -- the numbers behind steps that are taken, and where further ones follow
-pub last_taken : (xs ys : List Step) (p q : Progress) → take_steps xs p ≡ Ok q → last_numbers (xs ++ ys) p ≡ last_numbers ys q
+pub last_taken : (xs ys : List WalkStep) (p q : Progress) → take_steps xs p ≡ Ok q → last_numbers (xs ++ ys) p ≡ last_numbers ys q
 last_taken [] ys p q e = ap (λ (t : Taken). numbers_then t p.numbers (last_numbers ys)) e
 last_taken (x ∷ xs) ys p q e = go (take_step x p) (λ r. last_taken xs ys r q) e
   where
@@ -131,7 +131,7 @@ last_taken (x ∷ xs) ys p q e = go (take_step x p) (λ r. last_taken xs ys r q)
     go (Err r) h e = cc
 
 -- where they are refused, nothing follows
-pub last_refused : (xs ys : List Step) (p : Progress) (e : Refusal) → take_steps xs p ≡ Err e → last_numbers (xs ++ ys) p ≡ last_numbers xs p
+pub last_refused : (xs ys : List WalkStep) (p : Progress) (e : Refusal) → take_steps xs p ≡ Err e → last_numbers (xs ++ ys) p ≡ last_numbers xs p
 last_refused [] ys p r e = cc
 last_refused (x ∷ xs) ys p r e = go (take_step x p) (λ q. last_refused xs ys q r) e
   where
@@ -170,7 +170,7 @@ at_rest : (P : List ℕ → Type 0) (o : Option (List ℕ)) (rest : List ℕ) �
 at_rest P o rest e h = subst (λ (o : Option (List ℕ)). IfSome o P) e h
 
 -- taken up to here, and then further on
-join : (t : Taken) (ys : List Step) (b c : Told) (r : Result (Unit {0}) FrameFault) → TakesAs t b.image.numbers b.place b.left (Ok tt)
+join : (t : Taken) (ys : List WalkStep) (b c : Told) (r : Result (Unit {0}) FrameFault) → TakesAs t b.image.numbers b.place b.left (Ok tt)
     → IfSome b.left (λ rest. TakesAs (take_steps ys (from b rest)) c.image.numbers c.place c.left r) → TakesAs (t >>= take_steps ys) c.image.numbers c.place c.left r
 join t ys b c r h k =
     let to = leads t b h in
@@ -180,7 +180,7 @@ always : (t : Taken) (n : List ℤ) (place : ℕ) (left : Option (List ℕ)) →
 always (Ok p) n place left = tt
 always (Err e) n place left = tt
 
-stop_early : (t : Taken) (ys : List Step) (fault : FrameFault) (n : List ℤ) (place : ℕ) (left : Option (List ℕ)) → TakesAs t n place left (Err fault) → TakesAs (t >>= take_steps ys) n place left (Err fault)
+stop_early : (t : Taken) (ys : List WalkStep) (fault : FrameFault) (n : List ℤ) (place : ℕ) (left : Option (List ℕ)) → TakesAs t n place left (Err fault) → TakesAs (t >>= take_steps ys) n place left (Err fault)
 stop_early (Ok p) ys (faults.Refused at reason) n place left h = absurd h
 stop_early (Ok p) ys faults.ReadFault n place left h = always (take_steps ys p) n place left
 stop_early (Err e) ys fault n place left h = h
@@ -203,11 +203,11 @@ took_none a few = record {
     none None e = tt
     none (Some rest) e = (refl, refl, sym e)
 
-taken_more : (xs ys : List Step) (a b c : Told) (r : Result (Unit {0}) FrameFault) → IsTaken xs a b (Ok tt) → IsTaken ys b c r → IsTaken (xs ++ ys) a c r
+taken_more : (xs ys : List WalkStep) (a b c : Told) (r : Result (Unit {0}) FrameFault) → IsTaken xs a b (Ok tt) → IsTaken ys b c r → IsTaken (xs ++ ys) a c r
 taken_more xs ys a b c r h k =
     on_known a.left (λ rest t. subst (λ (x : Taken). TakesAs x c.image.numbers c.place c.left r) (sym (take_append xs ys (from a rest))) (join (take_steps xs (from a rest)) ys b c r t k)) h
 
-pub took_more : (xs ys : List Step) (a b c : Told) → Took xs a b → Took ys b c → Took (xs ++ ys) a c
+pub took_more : (xs ys : List WalkStep) (a b c : Told) → Took xs a b → Took ys b c → Took (xs ++ ys) a c
 took_more xs ys a b c h k = record {
   taken = taken_more xs ys a b c (Ok tt) h.taken k.taken;
   heard = heard_both (λ more. Unit {0}) a.given b.given c.given (λ x y z p q. taken_more xs ys (with_left a x) (with_left b y) (with_left c z) (Ok tt) p q) h.heard k.heard;
@@ -226,12 +226,12 @@ if_refused : {P Q : Type 0} (fault : FrameFault) → (P → Q) → IfRefused fau
 if_refused (faults.Refused at reason) f h = f h
 if_refused faults.ReadFault f h = tt
 
-stopped_more : (xs ys : List Step) (a b c : Told) (fault : FrameFault) → IsTaken xs a b (Ok tt) → IsStopped ys b fault c → IsStopped (xs ++ ys) a fault c
+stopped_more : (xs ys : List WalkStep) (a b c : Told) (fault : FrameFault) → IsTaken xs a b (Ok tt) → IsStopped ys b fault c → IsStopped (xs ++ ys) a fault c
 stopped_more xs ys a b c fault h k = on_known a.left (λ rest t.
     let to = leads (take_steps xs (from a rest)) b t in
     if_refused fault (λ e. e ∙ sym (last_taken xs ys (from a rest) (from b to.rest) to.is)) (at_rest _ b.left to.rest to.left k)) h
 
-pub failed_after : (xs ys : List Step) (a b c : Told) (fault : FrameFault) → Took xs a b → Failed ys b fault c → Failed (xs ++ ys) a fault c
+pub failed_after : (xs ys : List WalkStep) (a b c : Told) (fault : FrameFault) → Took xs a b → Failed ys b fault c → Failed (xs ++ ys) a fault c
 failed_after xs ys a b c fault h k = record {
   taken = taken_more xs ys a b c (Err fault) h.taken k.taken;
   stopped = stopped_more xs ys a b c fault h.taken k.stopped;
@@ -256,15 +256,15 @@ both_refused : {P Q R : Type 0} (fault : FrameFault) → (P → Q → R) → IfR
 both_refused (faults.Refused at reason) f h k = f h k
 both_refused faults.ReadFault f h k = tt
 
-taken_before : (xs ys : List Step) (a b : Told) (fault : FrameFault) → IsTaken xs a b (Err fault) → IsTaken (xs ++ ys) a b (Err fault)
+taken_before : (xs ys : List WalkStep) (a b : Told) (fault : FrameFault) → IsTaken xs a b (Err fault) → IsTaken (xs ++ ys) a b (Err fault)
 taken_before xs ys a b fault h = on_known a.left (λ rest t. subst (λ (x : Taken). TakesAs x b.image.numbers b.place b.left (Err fault)) (sym (take_append xs ys (from a rest))) (stop_early (take_steps xs (from a rest)) ys fault b.image.numbers b.place b.left t)) h
 
-stopped_before : (xs ys : List Step) (a b : Told) (fault : FrameFault) → IsTaken xs a b (Err fault) → IsStopped xs a fault b → IsStopped (xs ++ ys) a fault b
+stopped_before : (xs ys : List WalkStep) (a b : Told) (fault : FrameFault) → IsTaken xs a b (Err fault) → IsStopped xs a fault b → IsStopped (xs ++ ys) a fault b
 stopped_before xs ys a b fault h k = on_two a.left (λ rest t s.
     both_refused fault (λ (e : last_numbers (xs ++ ys) (from a rest) ≡ last_numbers xs (from a rest)) f. f ∙ sym e)
     (refused_is (take_steps xs (from a rest)) b.image.numbers b.place b.left fault t (λ r e. last_refused xs ys (from a rest) r e)) s) h k
 
-pub failed_before : (xs ys : List Step) (a b : Told) (fault : FrameFault) → Failed xs a fault b → Failed (xs ++ ys) a fault b
+pub failed_before : (xs ys : List WalkStep) (a b : Told) (fault : FrameFault) → Failed xs a fault b → Failed (xs ++ ys) a fault b
 failed_before xs ys a b fault h = record {
   taken = taken_before xs ys a b fault h.taken;
   stopped = stopped_before xs ys a b fault h.taken h.stopped;

@@ -2,7 +2,7 @@
 use Rattle.std.specs.Prelude.{◌≡◌, ℕ, ◌+◌, ◌-◌, ◌≤◌, List, drop, Option, Some, None, Result, Ok, Err, IfSome}
 use Rattle.vms_io.specs.Causes.{capped}
 use Rattle.vms_spec.specs.Readings.{Verdict, Goes, Faulty, Over, Reading, Accepted, Refused}
-use Rattle.vms_units.specs.State.{State}
+use Rattle.vms_stream.specs.State.{State}
 use Rattle.vms_frames.specs.Stands.{Stand}
 use Rattle.vms_frames.specs.Calls.{ahead, held_long}
 use Rattle.vms_frames.specs.declared.fault.FrameFault.{FrameFault}

@@ -1,14 +1,14 @@
 -- What is read of a stream so far.
 use Rattle.std.specs.Prelude.{◌≡◌, ℕ, ◌+◌, ◌*◌, ◌<◌, ◌≤◌, Bool, true, false, List, [], ◌∷◌, length, get_or, map, drop, Option, Some, None, Result, Ok, Err}
+use Rattle.std.specs.List.{slice_get}
 use Rattle.vms_io.specs.Causes.{capped}
 use Rattle.vms_spec.specs.Sets.{Sub, Device, Set}
 use Rattle.vms_spec.specs.Readings.{Reading, Accepted, Refused}
 use Rattle.vms_spec.specs.Images.{Image, default_image}
-use Rattle.vms_spec.specs.Lists.{at}
 use Rattle.vms_spec.specs.Streams.{is_one_of}
-use Rattle.vms_units.specs.Judge.{judge}
-use Rattle.vms_units.specs.State.{State, Spot, Free, Ended, by_state}
-use Rattle.vms_laws.specs.Whole.{reading_on}
+use Rattle.vms_stream.specs.Judge.{judge}
+use Rattle.vms_stream.specs.State.{State, Spot, Free, Ended, by_state}
+use Rattle.vms_bodies.specs.Whole.{reading_on}
 use Rattle.vms_desc.specs.Described.{described}
 use Rattle.vms_desc.specs.declared.set.DescSet.{DescSet}
 use Rattle.vms_frames.specs.Stands.{Stand}
@@ -41,7 +41,7 @@ pub record IsOf (set : Set) (staged : Staged) : Type 0 where
   pub came : length staged.came.items ≡ length set.devices
   pub machine : IsMachine set.machines staged.machine
   -- of a device that hasn't come it is at its defaults
-  pub fresh : (k : ℕ) → at staged.came.items k ≡ Some false → get_or staged.images.items k no_image ≡ default_at set k
+  pub fresh : (k : ℕ) → slice_get staged.came.items k ≡ Some false → get_or staged.images.items k no_image ≡ default_at set k
 
 -- the image of device k at a version, before its fields come
 abbrev pub image_at : Set → ℕ → ℕ → Image

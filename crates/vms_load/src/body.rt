@@ -15,12 +15,12 @@ use vms_desc::{Cells, DescSet};
 use vms_frames::{Cursor, FrameFault};
 use vms_image::Image;
 use vms_io::Source;
-use vms_walk::{Spot, Step, Walker, walk};
+use vms_walk::{PartAt, WalkStep, Walker, walk};
 
 /// The fields and the validations of a description.
 pub(crate) fn read_part<S: Source>(
     set: &DescSet,
-    spot: Spot,
+    spot: PartAt,
     image: &mut Image,
     cursor: &mut Cursor,
     source: &mut S,
@@ -111,14 +111,14 @@ impl<S: Source> Walker for Reader<'_, S> {
         (h.0, h.1, h.2, failed_before xs ys _ _ fault h.3) };
 
     #[inline(always)]
-    fn step(&mut self, step: Step) -> Result<(), FrameFault> {
+    fn step(&mut self, step: WalkStep) -> Result<(), FrameFault> {
         read_step(step, self.image, self.cursor, self.source)
     }
 }
 
 #[inline(always)]
 fn read_step<S: Source>(
-    step: Step,
+    step: WalkStep,
     image: &mut Image,
     cursor: &mut Cursor,
     source: &mut S,
@@ -144,9 +144,11 @@ fn read_step<S: Source>(
     ensures stopped { OnErr result (image.new ≡ image.old) }
 {
     match step {
-        Step::Number { cell, kind, most } => put_number(cursor, source, kind, most, image, cell),
-        Step::Constant { kind, value } => constant(cursor, source, kind, value),
-        Step::Filler { bytes } => cursor.skip(source, bytes),
-        Step::Rule { holds } => rule(holds, cursor),
+        WalkStep::Number { cell, kind, most } => put_number(
+            cursor, source, kind, most, image, cell,
+        ),
+        WalkStep::Constant { kind, value } => constant(cursor, source, kind, value),
+        WalkStep::Filler { bytes } => cursor.skip(source, bytes),
+        WalkStep::Rule { holds } => rule(holds, cursor),
     }
 }

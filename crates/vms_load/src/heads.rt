@@ -1,6 +1,6 @@
 // What the heads of sections and subsections open.
 ghost use Rattle.std.specs.Prelude.{◌≡◌, ◌<◌, ◌≤◌, ◌==◌, ◌^◌, length, map, Some};
-ghost use Rattle.vms_spec.specs.Judging.{find_sub};
+ghost use Rattle.vms_spec.specs.Lookup.{find_sub};
 ghost use Rattle.vms_desc.specs.Described.{described};
 ghost use Rattle.vms_parts.specs.Views.{desc_of, device_of, sub_of};
 ghost use Rattle.vms_load.specs.Heads.{section_opened, sub_opened, opened_at, reason_against, reason_against_version, reason_against_sub};

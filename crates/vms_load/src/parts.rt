@@ -1,6 +1,6 @@
 // The parts of a section: the device's own fields, and subsections.
 ghost use Rattle.std.specs.Prelude.{◌≡◌, ◌+◌, ◌<◌, ◌≤◌, ◌^◌, ℕ, List, Option, Some, None, length, IfOk, OnOk};
-ghost use Rattle.vms_units.specs.State.{State};
+ghost use Rattle.vms_stream.specs.State.{State};
 ghost use Rattle.vms_desc.specs.Described.{described};
 ghost use Rattle.vms_parts.specs.Devices.{device_at};
 ghost use Rattle.vms_image.specs.Typed.{IsImageOf, state_of as untyped};
@@ -16,7 +16,7 @@ use vms_desc::{DescSet, Part};
 use vms_frames::{After, Cursor, Tail};
 use vms_image::Image;
 use vms_io::Source;
-use vms_walk::Spot;
+use vms_walk::PartAt;
 
 /// The section that is read: the number of its device, its id, and whether the sections of the stream have footers.
 #[derive(Clone, Copy)]
@@ -80,7 +80,7 @@ fn fields<S: Source>(
 {
     let number = part_of(section.device, part.sub);
     let base = set.first_cell(number);
-    let spot = Spot {
+    let spot = PartAt {
         part: number,
         version: part.version,
         base,

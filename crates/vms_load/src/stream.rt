@@ -1,11 +1,11 @@
 // A whole stream, unit by unit and section by section.
 ghost use Rattle.std.specs.Prelude.{◌≡◌, ◌+◌, ◌<◌, ◌≤◌, ◌^◌, Bool, true, false, ℕ, List, Some, None, length, IfSome, IfOk, OnOk};
 ghost use Rattle.vms_spec.specs.Sets.{Set};
-ghost use Rattle.vms_units.specs.Judge.{judge, reading};
-ghost use Rattle.vms_units.specs.State.{State, Before, Free, by_state, at_start};
-ghost use Rattle.vms_laws.specs.Whole.{reading_on};
+ghost use Rattle.vms_stream.specs.Judge.{judge, reading};
+ghost use Rattle.vms_stream.specs.State.{State, Before, Free, by_state, at_start};
+ghost use Rattle.vms_bodies.specs.Whole.{reading_on};
 ghost use Rattle.vms_desc.specs.Described.{described};
-ghost use Rattle.vms_units.specs.Judged.{ask};
+ghost use Rattle.vms_stream.specs.Judged.{ask};
 ghost use Rattle.vms_spec.specs.Units.{Head as HeadUnit};
 ghost use Rattle.vms_load.specs.Hearing.{HearsOn, HearsBehind, HearsAll};
 ghost use Rattle.vms_load.specs.Loads.{HasCause};

@@ -3,7 +3,7 @@ use Rattle.std.proofs.Common.{◌≡◌, ℕ, ◌+◌, ◌<◌, ◌^◌, List, [
 use Rattle.std.proofs.lemmas.List.{drop-drop}
 use Rattle.byteorder.specs.Endian.{big_number}
 use Rattle.vms_spec.specs.Streams.{be32}
-use Rattle.vms_spec.specs.Judging.{number_at, bytes_at}
+use Rattle.vms_spec.specs.Lookup.{number_at, bytes_at}
 use Rattle.vms_spec.proofs.KindLaws.{be32_read}
 use Rattle.vms_marks.specs.declared.head.Head.{Head}
 use Rattle.vms_marks.specs.Heads.{head_bytes, head_in}

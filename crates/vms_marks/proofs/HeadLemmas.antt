@@ -6,7 +6,7 @@ use Rattle.vms_kinds.specs.declared.Kind.TheVariants.{U32}
 use Rattle.vms_kinds.proofs.CodeLemmas.{again}
 use Rattle.vms_spec.specs.Streams.{be32}
 use Rattle.vms_spec.specs.Numbers.{IsBytes}
-use Rattle.vms_spec.specs.Judging.{number_at}
+use Rattle.vms_spec.specs.Lookup.{number_at}
 use Rattle.vms_marks.specs.Heads.{head_bytes, head_in}
 
 -- four bytes are those of the number in them

@@ -1,7 +1,7 @@
 -- What the bytes of a section head and of a footer say, and why bytes are no section head.
 use Rattle.std.specs.Prelude.{◌≢◌, ℕ, ◌+◌, ◌<◌, ◌⊎◌, List, [], ◌∷◌, length, get_or}
 use Rattle.vms_spec.specs.Streams.{section_head}
-use Rattle.vms_spec.specs.Judging.{number_at, bytes_at}
+use Rattle.vms_spec.specs.Lookup.{number_at, bytes_at}
 use Rattle.vms_marks.specs.declared.head.Head.{Head}
 
 -- the bytes of a head

@@ -5,7 +5,7 @@ use Rattle.std.specs.List.{list_any}
 use Rattle.std.specs.Str.{bytes_eq}
 use Rattle.std.proofs.lemmas.List.{take_more, map-append, take-map, length-map}
 use Rattle.vms_spec.specs.declared.Whose.TheVariants.{Own, Parent}
-use Rattle.vms_spec.specs.Lists.{some, or_else, first_answer}
+use Rattle.vms_spec.specs.Lists.{or_else, first_answer}
 use Rattle.vms_spec.specs.Rules.{names_well}
 use Rattle.vms_spec.specs.Sets as sets
 use Rattle.vms_spec.specs.Sets.{Formula, AtLeast, Below, Cell, Not, And, Or}
@@ -22,13 +22,13 @@ use Rattle.vms_rules.specs.NameSets.{with_name}
 use Rattle.vms_rules.proofs.NameLaws.{is_one_more}
 use Rattle.vms_rules.proofs.WalkLaws.{first_stops, first_good, later_stops, both_good}
 
-any_same : (name : List ℕ) (instance : ℕ) (devices : List Device) → some (is_same_device name instance) (map device_of devices) ≡ list_any (λ d. bytes_eq d.desc.name name && d.instance == instance) devices
+any_same : (name : List ℕ) (instance : ℕ) (devices : List Device) → list_any (is_same_device name instance) (map device_of devices) ≡ list_any (λ d. bytes_eq d.desc.name name && d.instance == instance) devices
 any_same name instance [] = refl
 any_same name instance (d ∷ devices) = ap (λ (b : Bool). (bytes_eq d.desc.name name && d.instance == instance) || b) (any_same name instance devices)
 
 pub same_device : (name : List ℕ) (instance k : ℕ) (devices : List Device)
-    → some (is_same_device name instance) (take k (map device_of devices)) ≡ list_any (λ d. bytes_eq d.desc.name name && d.instance == instance) (take k devices)
-same_device name instance k devices = ap (some (is_same_device name instance)) (take-map device_of k devices) ∙ any_same name instance (take k devices)
+    → list_any (is_same_device name instance) (take k (map device_of devices)) ≡ list_any (λ d. bytes_eq d.desc.name name && d.instance == instance) (take k devices)
+same_device name instance k devices = ap (list_any (is_same_device name instance)) (take-map device_of k devices) ∙ any_same name instance (take k devices)
 
 -- ---- the walk
 

@@ -1,9 +1,9 @@
 -- Which earlier fields a field may name.
 use Rattle.std.proofs.Common.{◌≡◌, ℕ, zero, suc, ◌+◌, ◌<◌, List, [], ◌∷◌, ◌++◌, append_assoc, length, get_or, take, map, Bool, true, false, refl, sym, ap, ◌∙◌, arith}
 use Rattle.std.specs.Prelude.{◌&&◌, ◌||◌, not, nat_lt}
+use Rattle.std.specs.List.{slice_get}
 use Rattle.std.proofs.lemmas.Bool.Decides.{nat_tests}
 use Rattle.vms_spec.specs.declared.Whose.TheVariants.{Own, Parent}
-use Rattle.vms_spec.specs.Lists.{at}
 use Rattle.vms_spec.specs.Sets as sets
 use Rattle.vms_spec.specs.Sets.{Formula, AtLeast, Below, Cell, Not, And, Or}
 use Rattle.vms_spec.specs.Rules.{is_steady, names_well}
@@ -29,12 +29,12 @@ and_false : (b : Bool) → (b && false) ≡ false
 and_false true = refl
 and_false false = refl
 
-pub earlier_is : (fields : List Field) (m k i : ℕ) → is_steady m (at (map field_of (take k fields)) i) ≡ (nat_lt i k && is_steady m (at (map field_of fields) i))
+pub earlier_is : (fields : List Field) (m k i : ℕ) → is_steady m (slice_get (map field_of (take k fields)) i) ≡ (nat_lt i k && is_steady m (slice_get (map field_of fields) i))
 earlier_is [] m zero i = sym (and_false (nat_lt i 0))
 earlier_is [] m (suc k) i = sym (and_false (nat_lt i (suc k)))
-earlier_is (f ∷ fields) m zero i = ap (λ (b : Bool). b && is_steady m (at (map field_of (f ∷ fields)) i)) (sym (none_before i))
-earlier_is (f ∷ fields) m (suc k) zero = ap (λ (b : Bool). b && is_steady m (at (map field_of (f ∷ fields)) 0)) (sym (first_before k))
-earlier_is (f ∷ fields) m (suc k) (suc i) = earlier_is fields m k i ∙ ap (λ (b : Bool). b && is_steady m (at (map field_of fields) i)) (sym (one_less i k))
+earlier_is (f ∷ fields) m zero i = ap (λ (b : Bool). b && is_steady m (slice_get (map field_of (f ∷ fields)) i)) (sym (none_before i))
+earlier_is (f ∷ fields) m (suc k) zero = ap (λ (b : Bool). b && is_steady m (slice_get (map field_of (f ∷ fields)) 0)) (sym (first_before k))
+earlier_is (f ∷ fields) m (suc k) (suc i) = earlier_is fields m k i ∙ ap (λ (b : Bool). b && is_steady m (slice_get (map field_of fields) i)) (sym (one_less i k))
 
 pub named_in : (own known parent : ℕ → Bool) (t : Formula) → ((i : ℕ) → own i ≡ known i) → names_well own parent t ≡ names_well known parent t
 named_in own known parent (AtLeast n) same = refl

@@ -13,7 +13,6 @@ use Rattle.std.proofs.lemmas.List.{take_more}
 use Rattle.std.proofs.lemmas.Map.Text.{is_eq-slice_cmp}
 use Rattle.std.proofs.lemmas.Slice.Eq.{bytes_eq-Decides}
 use denote.Ref.{Bor}
-use Rattle.vms_spec.specs.Lists.{every}
 use Rattle.vms_spec.specs.Names.{is_name_byte, is_name, is_sub_name}
 use Rattle.vms_spec.specs.Streams.{is_one_of}
 use Rattle.vms_parts.proofs.Items.{drop_is}
@@ -21,11 +20,11 @@ use Rattle.vms_rules.specs.NameSets.{ending, by_ending, has_name, with_name, are
 
 -- ---- whole lists
 
-pub all_name_bytes : (bytes : List ℕ) → list_all is_name_byte bytes ≡ every is_name_byte bytes
+pub all_name_bytes : (bytes : List ℕ) → list_all is_name_byte bytes ≡ list_all is_name_byte bytes
 all_name_bytes [] = refl
 all_name_bytes (b ∷ bytes) = ap (λ (r : Bool). is_name_byte b && r) (all_name_bytes bytes)
 
-pub all_names_of : (most : ℕ) (names : List (List ℕ)) → list_all (is_name most) names ≡ every (is_name most) names
+pub all_names_of : (most : ℕ) (names : List (List ℕ)) → list_all (is_name most) names ≡ list_all (is_name most) names
 all_names_of most [] = refl
 all_names_of most (n ∷ names) = ap (λ (r : Bool). is_name most n && r) (all_names_of most names)
 

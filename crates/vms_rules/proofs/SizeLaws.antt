@@ -5,6 +5,7 @@ use Rattle.std.proofs.lemmas.Bool.Decides.{nat_tests}
 use Rattle.std.proofs.lemmas.List.{drop_all}
 use Rattle.vms_kinds.specs.declared.Item.{Item}
 use Rattle.vms_kinds.specs.declared.Item.TheVariants.{Num, Equal, Unused, Struct}
+use Rattle.vms_spec.specs.declared.TheConstants.{MOST_ITEMS}
 use Rattle.vms_spec.specs.Layout.{capacity_of, first, no_desc}
 use Rattle.vms_spec.specs.Sets as sets
 use Rattle.vms_spec.specs.WellFormed.{item_count, items_in, struct_items, subs_items, devices_items}
@@ -50,15 +51,15 @@ capped_devices : (sizes : List ℕ) (devices : List sets.Device) → in_u32 (dev
 capped_devices sizes [] = refl
 capped_devices sizes (d ∷ devices) = omega (arith, capped_items sizes d.desc.fields, items_of_subs sizes d.subs, capped_devices sizes devices)
 
-same_limit : (n : ℕ) → nat_le (in_u32 n) 16384 ≡ nat_le n 16384
+same_limit : (n : ℕ) → nat_le (in_u32 n) MOST_ITEMS ≡ nat_le n MOST_ITEMS
 same_limit n = grind (arith, nat_tests)
 
 pub few_items : (structs : List sets.Desc) (devices : List sets.Device) (sizes : List ℕ) (items : ℕ) → sizes ≡ map in_u32 (sizes_to Items structs (length structs))
-    → items ≡ in_u32 (devices_items sizes devices) → nat_le items 16384 ≡ nat_le (devices_items (struct_items structs) devices) 16384
+    → items ≡ in_u32 (devices_items sizes devices) → nat_le items MOST_ITEMS ≡ nat_le (devices_items (struct_items structs) devices) MOST_ITEMS
 few_items structs devices sizes items is e =
-    ap (λ (n : ℕ). nat_le n 16384) (e ∙ ap (λ (l : List ℕ). in_u32 (devices_items l devices)) is ∙ capped_devices (sizes_to Items structs (length structs)) devices)
+    ap (λ (n : ℕ). nat_le n MOST_ITEMS) (e ∙ ap (λ (l : List ℕ). in_u32 (devices_items l devices)) is ∙ capped_devices (sizes_to Items structs (length structs)) devices)
     ∙ same_limit (devices_items (sizes_to Items structs (length structs)) devices)
-    ∙ ap (λ (l : List ℕ). nat_le (devices_items l devices) 16384) (sym (items_to structs (length structs)))
+    ∙ ap (λ (l : List ℕ). nat_le (devices_items l devices) MOST_ITEMS) (sym (items_to structs (length structs)))
 
 -- ---- sums
 

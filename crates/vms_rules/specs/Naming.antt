@@ -1,6 +1,6 @@
 -- Which fields a test may name.
 use Rattle.std.specs.Prelude.{ℕ, Bool, ◌&&◌, map, Option, Some, None}
-use Rattle.vms_spec.specs.Lists.{at}
+use Rattle.std.specs.List.{slice_get}
 use Rattle.vms_spec.specs.Sets.{Field}
 use Rattle.vms_spec.specs.Rules.{is_num, is_one, has_no_test, is_steady, nobody}
 use Rattle.vms_parts.specs.Views.{field_of}
@@ -12,7 +12,7 @@ is_single f = is_num f.item && is_one f.count && has_no_test f.test
 
 -- one that is there at every version from the minimum on
 abbrev pub may_name : Scope → ℕ → Bool
-may_name s i = is_steady s.minimum (at (map field_of s.fields.now) i)
+may_name s i = is_steady s.minimum (slice_get (map field_of s.fields.now) i)
 
 abbrev pub may_name_in : Option Scope → ℕ → Bool
 may_name_in None = nobody

@@ -2,7 +2,6 @@
 ghost use Rattle.std.specs.Prelude.{◌≡◌, ◌<◌, ◌≤◌, ◌==◌, ◌&&◌, length, map, take, not, nat_le};
 ghost use Rattle.std.specs.List.{list_any};
 ghost use Rattle.std.specs.Str.{bytes_eq};
-ghost use Rattle.vms_spec.specs.Lists.{some};
 ghost use Rattle.vms_spec.specs.Rules.{is_small_test};
 ghost use Rattle.vms_spec.specs.Streams.{is_one_of};
 ghost use Rattle.vms_spec.specs.WellFormed.{has_few, is_same_device, sub_rules, sub_fault, device_rules, device_fault};
@@ -84,7 +83,7 @@ fn is_small_device(device: &Device) -> bool
 #[tactic(auto, using(crate::proofs::DeviceLaws::same_device))]
 fn is_taken(devices: &[Device], number: usize) -> bool
     requires { number < length devices.now }
-    ensures { result ≡ some
+    ensures { result ≡ list_any
         (is_same_device (numbered (map device_of devices.now) number).desc.name
         (numbered (map device_of devices.now) number).instance)
         (take number (map device_of devices.now)) }

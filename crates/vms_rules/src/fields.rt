@@ -1,10 +1,10 @@
 // The rules at the fields of a description.
+ghost use Rattle.std.specs.List.{list_all, slice_get};
 ghost use Rattle.std.specs.Prelude.{◌≡◌, ◌<◌, ◌≤◌, ◌&&◌, ◌||◌, ◌∷◌, ℕ, List, IfOk, OnOk, length, map, take, nat_le};
 ghost use Rattle.std.specs.Option.{option_map};
 ghost use Rattle.vms_spec.specs.Names.{all_names, are_new};
 ghost use Rattle.vms_spec.specs.Layout.{counted};
 ghost use Rattle.vms_spec.specs.Rules.{counts_well, test_names_well, count_names_well, is_counting, uses_below, defaults_well, is_small_item, has_good_count, is_small_optional, is_earlier_in, in_range, field_rules};
-ghost use Rattle.vms_spec.specs.Lists.{at, every};
 ghost use Rattle.vms_spec.specs.Names.{is_name};
 ghost use Rattle.vms_spec.specs.WellFormed.{fields_fault};
 ghost use Rattle.vms_spec.specs.Streams.{is_one_of};
@@ -40,7 +40,7 @@ fn earlier(desc: &Desc, number: usize) -> Scope<'_>
 // Whether the names of a field are names.
 #[tactic(auto, using(crate::proofs::NameLaws::all_names_of))]
 fn has_good_names(field: &Field) -> bool
-    ensures { result ≡ (is_name 32 field.now.name && every (is_name 32) field.now.former) }
+    ensures { result ≡ (is_name 32 field.now.name && list_all (is_name 32) field.now.former) }
 {
     is_name(32, field.name.as_bytes()) && are_names(32, field.former.as_slice())
 }
@@ -70,7 +70,7 @@ fn count_names_well(desc: &Desc, number: usize, count: Count) -> bool
 
 // Whether the field of this number has a kind that counts.
 fn is_counting(fields: &[Field], number: u32) -> bool
-    ensures { result ≡ is_counting (at (map field_of fields.now) number) }
+    ensures { result ≡ is_counting (slice_get (map field_of fields.now) number) }
 {
     match field_at(fields, number) {
         Some(field) => matches!(field.item, Item::Num(Kind::U8 | Kind::U16 | Kind::U32)),

@@ -1,7 +1,7 @@
 // What the rules ask of tests.
+ghost use Rattle.std.specs.List.{slice_get};
 ghost use Rattle.std.specs.Prelude.{◌≡◌, Option, map};
 ghost use Rattle.std.specs.Option.{option_map};
-ghost use Rattle.vms_spec.specs.Lists.{at};
 ghost use Rattle.vms_spec.specs.Rules.{is_small_test, is_small_optional, nodes, depth, names_well};
 ghost use Rattle.vms_parts.specs.Sizes.{in_u32};
 ghost use Rattle.vms_parts.specs.Views.{formula, field_of};
@@ -29,7 +29,7 @@ pub(crate) fn may_name(scope: Scope, number: u32) -> bool
 
 // The field of this number.
 pub(crate) fn field_at(fields: &[Field], number: u32) -> Option<&Field>
-    ensures { option_map (λ f. field_of f.now) result ≡ at (map field_of fields.now) number }
+    ensures { option_map (λ f. field_of f.now) result ≡ slice_get (map field_of fields.now) number }
 {
     fields.get(number as usize)
 }

@@ -14,6 +14,7 @@ use crate::structs::check_structs;
 use std::alloc::{AllocError, Global};
 use std::collections::BTreeSet;
 use vms_parts::{Device, Measure, Part, Parts, size_of_fields, size_of_subs, struct_sizes};
+use vms_spec::MOST_ITEMS;
 
 /// Judges the parts of a description set: `Ok` exactly where they are well formed, and else the first place at which a
 /// rule fails with the lowest rule that fails there, unless memory is wanting.
@@ -63,7 +64,16 @@ fn size_rules(alloc: Global, parts: &Parts) -> Result<[bool; 8], AllocError>
 {
     let sizes = struct_sizes(alloc, Measure::Items, parts.structs.as_slice())?;
     let items = devices_items(sizes.as_slice(), parts.devices.as_slice());
-    Ok([true, true, true, true, true, true, items <= 16384, true])
+    Ok([
+        true,
+        true,
+        true,
+        true,
+        true,
+        true,
+        items <= MOST_ITEMS,
+        true,
+    ])
 }
 
 // How many items the devices have, at most 2^32 - 1.

@@ -1,9 +1,9 @@
 -- Hexadecimal digits, spelled and read.
 use Rattle.std.proofs.Common.{◌≡◌, ℕ, ◌+◌, ◌-◌, ◌*◌, ◌/◌, ◌%◌, ◌<◌, ◌≤◌, Bool, true, false, not, ◌&&◌, ◌==◌, nat_le, nat_lt, cond, List, [], ◌∷◌, ◌++◌, Option, Some, None, if◌then◌else◌, refl, sym, ap, ◌∙◌, arith}
+use Rattle.std.specs.List.{list_all}
 use Rattle.std.proofs.lemmas.Bool.{ne_eqb, le-leb, lt-leb, leb-true, and_parts, ltb-true, ltb-false}
 use Rattle.std.proofs.lemmas.Bool.Decides.{nat_tests}
 use Rattle.std.specs.Char.{digit_char}
-use Rattle.vms_spec.specs.Lists.{every}
 use Rattle.vms_spec.specs.Spelling.{is_digit}
 use Rattle.vms_script.specs.Grammar.{port_text}
 use Rattle.vms_script.specs.Words.{digit_spelled, joined, byte_spelled, port_spelled, byte_text}
@@ -148,7 +148,7 @@ port_is (a ∷ b ∷ c ∷ d ∷ f ∷ text) p e = cc
 -- ---- digits are neither blanks nor line feeds
 
 abbrev pub lacks : ℕ → List ℕ → Bool
-lacks byte text = every (λ b. not (b == byte)) text
+lacks byte text = list_all (λ b. not (b == byte)) text
 
 char_up : (d : ℕ) → 48 ≤ digit_char d
 char_up d = by (nat_lt d 10) refl where
@@ -171,9 +171,9 @@ lacks-append byte (x ∷ xs) ys h i =
 pub port_lacks : (byte p : ℕ) → byte < 48 → lacks byte (port_text p) ≡ true
 port_lacks byte p h = lacks-append byte (byte_text (p / 256)) (byte_text (p % 256)) (byte_lacks byte (p / 256) h) (byte_lacks byte (p % 256) h)
 
-pub digits_lack : (byte : ℕ) (text : List ℕ) → byte < 48 → every is_digit text ≡ true → lacks byte text ≡ true
+pub digits_lack : (byte : ℕ) (text : List ℕ) → byte < 48 → list_all is_digit text ≡ true → lacks byte text ≡ true
 digits_lack byte [] h e = refl
 digits_lack byte (b ∷ text) h e =
-    let parts = and_parts (is_digit b) (every is_digit text) e in
+    let parts = and_parts (is_digit b) (list_all is_digit text) e in
     let up : 48 ≤ b = leb-true 48 b (and_parts (nat_le 48 b) (nat_le b 57) parts.0).0 in
     rw (other b byte h up, digits_lack byte text h parts.1) refl

@@ -8,7 +8,7 @@ use Rattle.std.proofs.lemmas.Bool.Decides.{nat_tests}
 use Rattle.std.proofs.lemmas.Fmt.{digits_decimal}
 use Rattle.dev_board.specs.declared.event.Event.{Event}
 use Rattle.dev_board.specs.declared.event.Event.TheVariants as events
-use Rattle.vms_texts.proofs.Spells.{numerals, number_holds}
+use Rattle.vms_words.proofs.Spells.{numerals, number_holds}
 use Rattle.vms_script.specs.Grammar.{port_text, event_text, line_text, script_text, IsEvent, IsLine, AreLines}
 use Rattle.dev_board.specs.Wires.{is_wire}
 use Rattle.vms_script.specs.Lines.{ScriptLine, Happens, Saves, Restores, Read, or_form, or_range, number_in, is_wait, is_set_of, out_line, wire_line, set_spelled, save_line, line_read}

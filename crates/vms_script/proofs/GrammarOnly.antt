@@ -6,7 +6,7 @@ use Rattle.std.specs.Str.{bytes_eq}
 use Rattle.std.proofs.lemmas.Bool.{eqb-true, and_parts, ltb-true, ltb-false}
 use Rattle.dev_board.specs.declared.event.Event.TheVariants as events
 use Rattle.vms_spec.specs.Spelling.{number_spelled, begins_with}
-use Rattle.vms_texts.proofs.Spells.{spelled_holds}
+use Rattle.vms_words.proofs.Spells.{spelled_holds}
 use Rattle.vms_script.specs.Grammar.{port_text, line_text, script_text, IsLine, AreLines, ReadsExactly}
 use Rattle.dev_board.specs.Wires.{is_wire}
 use Rattle.vms_script.specs.Lines.{ScriptLine, Happens, Saves, Restores, Read, or_form, or_range, number_in, is_wait, is_set_of, in_line, byte_line, wait_line, out_line, wire_line, set_spelled, name_spelled, save_line, restore_line, session_line, play_line, line_of_words, line_split, line_read}

@@ -1,6 +1,6 @@
 // Numbers of lines.
+ghost use Rattle.std.specs.List.{list_all};
 ghost use Rattle.std.specs.Prelude.{◌≡◌, ◌+◌, ◌-◌, ◌*◌, ◌&&◌, ◌||◌, ◌==◌, nat_le, not, length, get_or};
-ghost use Rattle.vms_spec.specs.Lists.{every};
 ghost use Rattle.vms_spec.specs.Spelling.{number_spelled, is_digit, are_digits, natural_from};
 ghost use Rattle.vms_script.specs.Views.{number_read, below_2_64};
 
@@ -42,7 +42,7 @@ fn are_digits(text: &[u8]) -> bool
 }
 
 fn are_all_digits(text: &[u8]) -> bool
-    ensures { result ≡ every is_digit text.now }
+    ensures { result ≡ list_all is_digit text.now }
 {
     for b in text {
         if !b.is_ascii_digit() {

@@ -8,7 +8,7 @@ use Rattle.vms_spec.specs.Shipped.{set_0, set_1, set_2, set_3, set_4}
 use Rattle.vms_spec.specs.Streams.{longest_text}
 use Rattle.vms_spec.specs.Layout.{first, no_desc}
 use Rattle.vms_spec.specs.WellFormed.{struct_items, devices_items, device_rules, sub_rules}
-use Rattle.vms_laws.proofs.WellFormedStreams.{shipped_stands}
+use Rattle.vms_spec.proofs.ShippedSets.{shipped_stands}
 use Rattle.vms_desc.specs.Described.{device_at}
 use Rattle.vms_desc.specs.Formed.{is_well_formed, shipped_set}
 use Rattle.vms_desc.specs.Parts.{sub_at}

@@ -3,6 +3,7 @@ use Rattle.std.proofs.Common.{◌≡◌, ℕ, ◌+◌, ◌*◌, ◌<◌, ◌≤�
 use Rattle.std.proofs.lemmas.Bool.{ltb-true}
 use Rattle.vms_kinds.specs.declared.Item.{Item}
 use Rattle.vms_kinds.specs.declared.Item.TheVariants.{Struct}
+use Rattle.vms_spec.specs.declared.TheConstants.{MOST_ITEMS}
 use Rattle.vms_spec.specs.declared.Count.{Count}
 use Rattle.vms_spec.specs.declared.Count.TheVariants.{One, Fixed, Counted}
 use Rattle.vms_spec.specs.declared.Part.{Part}
@@ -44,7 +45,7 @@ field_needs set well part base n h k cell count f lt is fewer room =
       reaches = uses_more (reach set part) (length set.structs) g.item (reach_whole set part h.has) clean.uses;
       default = (and_parts (defaults_well g.item g.default) (counts_well (counted k (desc_at set part).fields) g.default) sound.1.1.1.1.1.0).0;
       few = h.few;
-      small = one_small (capacity_of g.count) size cell (length n) 16384 clean.some room h.few;
+      small = one_small (capacity_of g.count) size cell (length n) MOST_ITEMS clean.some room h.few;
       room = fewer_room count (capacity_of g.count) size cell (length n) fewer room;
     } in
     subst (λ x. FieldNeeds set part x cell count n) (sym is) (record { elements = elements; lower = lower })
@@ -81,7 +82,7 @@ module _ (set : Set) (well : is_well_formed set ≡ true) (item : Item) (j : ℕ
   below : FieldsBelow j (get_or set.structs j no_desc).fields
   below = all_below j (get_or set.structs j no_desc).fields (λ i l. ((struct_clean set well j struct_there).fields i l).uses)
 
-  pub struct_place : (n : List ℤ) (cell : ℕ) → length n ≤ 16384 → cell + 1 * item_size (struct_cells set) item ≤ length n → HasPlace set (parts.Struct j) cell n
+  pub struct_place : (n : List ℤ) (cell : ℕ) → length n ≤ MOST_ITEMS → cell + 1 * item_size (struct_cells set) item ≤ length n → HasPlace set (parts.Struct j) cell n
   struct_place n cell few room =
       let cells = ap length (struct_cells_are set j struct_there below) in
       let size = ap (item_size (struct_cells set)) is in
@@ -101,5 +102,5 @@ module _ (set : Set) (well : is_well_formed set ≡ true) (item : Item) (j : ℕ
 
 -- ---- widths as the code has them
 
-pub width_code : (width w cell n : ℕ) → width ≡ in_u32 w → cell + w ≤ n → n ≤ 16384 → width ≡ w
+pub width_code : (width w cell n : ℕ) → width ≡ in_u32 w → cell + w ≤ n → n ≤ MOST_ITEMS → width ≡ w
 width_code width w cell n e room few = omega (arith, e, room, few)

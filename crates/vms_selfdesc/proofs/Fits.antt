@@ -8,6 +8,7 @@ use Rattle.serde_json.specs.Find.{of_integer}
 use Rattle.vms_kinds.specs.declared.Item.{Item}
 use Rattle.vms_kinds.specs.declared.Item.TheVariants.{Num, Equal, Unused, Struct}
 use Rattle.vms_kinds.specs.Codes.{width}
+use Rattle.vms_spec.specs.declared.TheConstants.{MOST_ITEMS}
 use Rattle.vms_spec.specs.declared.Count.{Count}
 use Rattle.vms_spec.specs.declared.Count.TheVariants.{One, Fixed, Counted}
 use Rattle.vms_spec.specs.Sets.{Field, Desc}
@@ -62,7 +63,7 @@ AreSound (f ∷ fs) = IsSoundField f × AreSound fs
 -- its entries are no more than its items, and each is so long by the path and the depth
 pub record Fits (l : Lister) (items depth : ℕ) : Type 0 where
   pub few : (sent : Bool) (path : List ℕ) (n : List ℤ) (at : ℕ) → length (l sent path n at) ≤ items
-  pub long : (sent : Bool) (path : List ℕ) (n : List ℤ) (at : ℕ) → IsPlain path → items ≤ 16384 → AreLong (length path + 40 * depth + 67) (l sent path n at)
+  pub long : (sent : Bool) (path : List ℕ) (n : List ℤ) (at : ℕ) → IsPlain path → items ≤ MOST_ITEMS → AreLong (length path + 40 * depth + 67) (l sent path n at)
 
 abbrev pub FitTables : List Lister → List ℕ → List ℕ → Type 0
 FitTables ls sizes depths = (j : ℕ) → Fits (get_or ls j no_lister) (get_or sizes j 0) (get_or depths j 0)
@@ -84,7 +85,7 @@ module _ (ls : List Lister) (sizes depths : List ℕ) (fit : FitTables ls sizes 
   item_few (Unused k) z sent path n at = sent_few sent (sent_entry path k _)
   item_few (Struct j) z sent path n at = (fit j).few sent (path ++ 46 ∷ []) n at
 
-  item_long : (item : Item) (z : ℤ) (sent : Bool) (path : List ℕ) (n : List ℤ) (at : ℕ) → IsPlain path → IsSmall item z → item_count sizes item ≤ 16384
+  item_long : (item : Item) (z : ℤ) (sent : Bool) (path : List ℕ) (n : List ℤ) (at : ℕ) → IsPlain path → IsSmall item z → item_count sizes item ≤ MOST_ITEMS
       → AreLong (length path + 40 * item_depth depths item + 68) (item_entries ls item z sent path n at)
   item_long (Num kind) z true path n at p small few = (omega (arith, sent_long path (width kind) (kind_word kind) p (width_short kind) (word_short kind)), tt)
   item_long (Num kind) z false path n at p small few = (omega (arith, absent_long path (kind_word kind) z p (word_short kind) small), tt)
@@ -105,10 +106,10 @@ elements_few one c few path at step i (suc n) =
     omega (arith, length-append (one (element_path path i) at) (element_entries one path (at + step) step (suc i) n), here, rest, more)
 
 elements_long : (one : List ℕ → ℕ → List Entry) (w : ℕ) → ((path : List ℕ) (at : ℕ) → IsPlain path → AreLong (length path + w) (one path at))
-    → (path : List ℕ) (at step i n : ℕ) → IsPlain path → i + n ≤ 16384 → AreLong (length path + 7 + w) (element_entries one path at step i n)
+    → (path : List ℕ) (at step i n : ℕ) → IsPlain path → i + n ≤ MOST_ITEMS → AreLong (length path + 7 + w) (element_entries one path at step i n)
 elements_long one w long path at step i zero p le = tt
 elements_long one w long path at step i (suc n) p le =
-    let lt : i < 16384 = omega arith in
+    let lt : i < MOST_ITEMS = omega arith in
     let element = element_path path i in
     append_long (length path + 7 + w) (one element at) (element_entries one path (at + step) step (suc i) n)
     (longer (length element + w) (length path + 7 + w) (one element at) (omega (arith, element_long path i lt)) (long element at (element_plain path i (omega arith) p)))
@@ -128,15 +129,15 @@ one_fewer m c most some le =
     omega (arith, fewer_items 1 m c some, one)
 
 many_long : (one : List ℕ → ℕ → List Entry) (w c m : ℕ) → ((path : List ℕ) (at : ℕ) → length (one path at) ≤ c)
-    → (c ≤ 16384 → (path : List ℕ) (at : ℕ) → IsPlain path → AreLong (length path + w) (one path at))
-    → (path : List ℕ) (at step n : ℕ) → IsPlain path → n ≤ m → m * c ≤ 16384 → AreLong (length path + 7 + w) (element_entries one path at step 0 n)
+    → (c ≤ MOST_ITEMS → (path : List ℕ) (at : ℕ) → IsPlain path → AreLong (length path + w) (one path at))
+    → (path : List ℕ) (at step n : ℕ) → IsPlain path → n ≤ m → m * c ≤ MOST_ITEMS → AreLong (length path + 7 + w) (element_entries one path at step 0 n)
 many_long one w zero m few long path at step n p le items =
     let none : n * 0 ≡ 0 = omega arith in
     none_long _ (element_entries one path at step 0 n) (omega (arith, elements_few one 0 few path at step 0 n, none))
 many_long one w (suc c) m few long path at step zero p le items = tt
 many_long one w (suc c) m few long path at step (suc n) p le items =
     let parts : suc n * suc c ≡ suc n + suc n * c = grind arith in
-    elements_long one w (long (one_fewer m (suc c) 16384 (omega arith) items)) path at step 0 (suc n) p (omega (arith, fewer_items (suc n) m (suc c) le, parts))
+    elements_long one w (long (one_fewer m (suc c) MOST_ITEMS (omega arith) items)) path at step 0 (suc n) p (omega (arith, fewer_items (suc n) m (suc c) le, parts))
 
 array_few : (one : List ℕ → ℕ → List Entry) (c : ℕ) → ((path : List ℕ) (at : ℕ) → length (one path at) ≤ c) → (count : Count) (n : ℕ) (path : List ℕ) (at step : ℕ) → n ≤ capacity_of count
     → length (array_entries one count n path at step) ≤ capacity_of count * c
@@ -145,8 +146,8 @@ array_few one c few (Fixed m) n path at step le = omega (arith, elements_few one
 array_few one c few (Counted by m) n path at step le = omega (arith, elements_few one c few path at step 0 n, fewer_items n m c le)
 
 array_long : (one : List ℕ → ℕ → List Entry) (w c : ℕ) → ((path : List ℕ) (at : ℕ) → length (one path at) ≤ c)
-    → (c ≤ 16384 → (path : List ℕ) (at : ℕ) → IsPlain path → AreLong (length path + w) (one path at))
-    → (count : Count) (n : ℕ) (path : List ℕ) (at step : ℕ) → IsPlain path → n ≤ capacity_of count → capacity_of count * c ≤ 16384 → AreLong (length path + 7 + w) (array_entries one count n path at step)
+    → (c ≤ MOST_ITEMS → (path : List ℕ) (at : ℕ) → IsPlain path → AreLong (length path + w) (one path at))
+    → (count : Count) (n : ℕ) (path : List ℕ) (at step : ℕ) → IsPlain path → n ≤ capacity_of count → capacity_of count * c ≤ MOST_ITEMS → AreLong (length path + 7 + w) (array_entries one count n path at step)
 array_long one w c few long One n path at step p le items = longer (length path + w) (length path + 7 + w) (one path at) (omega arith) (long (omega arith) path at p)
 array_long one w c few long (Fixed m) n path at step p le items = many_long one w c m few long path at step n p le items
 array_long one w c few long (Counted by m) n path at step p le items = many_long one w c m few long path at step n p le items
@@ -163,7 +164,7 @@ module _ (cells : List (List Cell)) (ls : List Lister) (sizes depths : List ℕ)
       (elements_of f.count own) (path ++ f.name) at (item_size cells f.item) (elements_fit f.count own) in
       omega (arith, length-append (field_entries cells ls v own sent path n at f) (entries_from cells ls v own sent path n next fs), here, entries_few v own sent path n next fs)
 
-  pub entries_long : (v : ℕ) (own : ℕ → ℕ) (sent : Bool) (path : List ℕ) (n : List ℤ) (at : ℕ) (fs : List Field) → IsPlain path → AreSound fs → items_in sizes fs ≤ 16384
+  pub entries_long : (v : ℕ) (own : ℕ → ℕ) (sent : Bool) (path : List ℕ) (n : List ℤ) (at : ℕ) (fs : List Field) → IsPlain path → AreSound fs → items_in sizes fs ≤ MOST_ITEMS
       → AreLong (length path + 40 * deepest depths fs + 107) (entries_from cells ls v own sent path n at fs)
   entries_long v own sent path n at [] p sound items = tt
   entries_long v own sent path n at (f ∷ fs) p sound items =
@@ -171,8 +172,8 @@ module _ (cells : List (List Cell)) (ls : List Lister) (sizes depths : List ℕ)
       let next = at + capacity_of f.count * item_size cells f.item in
       let whole = length path + 40 * deepest depths (f ∷ fs) + 107 in
       let w = 40 * item_depth depths f.item + 68 in
-      let fewer : capacity_of f.count * item_count sizes f.item ≤ 16384 = omega arith in
-      let fewer' : items_in sizes fs ≤ 16384 = omega arith in
+      let fewer : capacity_of f.count * item_count sizes f.item ≤ MOST_ITEMS = omega arith in
+      let fewer' : items_in sizes fs ≤ MOST_ITEMS = omega arith in
       let name = sound.0.name in
       let field = array_long (λ path at. item_entries ls f.item f.default there path n at) w (item_count sizes f.item) (λ path at. item_few ls sizes depths fit f.item f.default there path n at)
       (λ few path at p. longer _ _ _ (omega arith) (item_long ls sizes depths fit f.item f.default there path n at p sound.0.small few)) f.count

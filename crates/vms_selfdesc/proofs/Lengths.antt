@@ -1,11 +1,12 @@
 -- How long the text of the described tree is: at most 300 bytes for each item, subsection and device.
 use Rattle.std.proofs.Common.{◌≡◌, ℕ, suc, ◌+◌, ◌*◌, ◌<◌, ◌≤◌, List, [], ◌∷◌, length, length-append, map, ℤ, Bool, true, false, refl, arith, Option, is_some, codes}
+use Rattle.std.specs.List.{slice_get}
 use Rattle.json.specs.Print.{quoted, escape_byte}
 use Rattle.serde_json.specs.Data.{Data, no_members, member, object, array, string, boolean}
 use Rattle.serde_json.specs.View.{items_of}
 use Rattle.serde_json.specs.Written.{compact_text, items_text}
+use Rattle.vms_spec.specs.declared.TheConstants.{MOST_ITEMS}
 use Rattle.vms_spec.specs.declared.Part.TheVariants as parts
-use Rattle.vms_spec.specs.Lists.{at}
 use Rattle.vms_spec.specs.Sets.{Desc, Sub, Device, Set}
 use Rattle.vms_spec.specs.Layout.{desc_cells, struct_cells, numbers_of}
 use Rattle.vms_spec.specs.Images.{Image, own_cells}
@@ -151,7 +152,7 @@ module _ (set : Set) (well : is_well_formed set ≡ true) where
   fit : FitTables (listers set) (struct_items set.structs) (struct_depths set.structs)
   fit = tables_fit (struct_cells set) set.structs (length set.structs) (λ j lt. part_sound set well (parts.Struct j) lt) (length set.structs) (omega arith)
 
-  part_weight : (d : Desc) (sent : Bool) (n : List ℤ) (at : ℕ) → AreSound d.fields → items_in (struct_items set.structs) d.fields ≤ 16384
+  part_weight : (d : Desc) (sent : Bool) (n : List ℤ) (at : ℕ) → AreSound d.fields → items_in (struct_items set.structs) d.fields ≤ MOST_ITEMS
       → weight (map entry_tree (part_entries set d sent n at)) ≤ 300 * items_in (struct_items set.structs) d.fields
   part_weight d sent n at sound few =
       let sizes = struct_items set.structs in
@@ -163,7 +164,7 @@ module _ (set : Set) (well : is_well_formed set ≡ true) where
       let long = longer (0 + 40 * deepest depths d.fields + 107) 299 es (omega arith) (entries_long (struct_cells set) (listers set) sizes depths fit d.version own sent [] n at d.fields tt sound few) in
       omega (arith, entries_weight es 299 long, count)
 
-  subs_weight : (n : List ℤ) (at : ℕ) (subs : List Sub) (came : List (Option ℕ)) → AreShortSubs subs → subs_items (struct_items set.structs) subs ≤ 16384
+  subs_weight : (n : List ℤ) (at : ℕ) (subs : List Sub) (came : List (Option ℕ)) → AreShortSubs subs → subs_items (struct_items set.structs) subs ≤ MOST_ITEMS
       → weight (sub_trees set n at subs came) ≤ 300 * subs_items (struct_items set.structs) subs + 300 * length subs
   subs_weight n at [] came p few = omega arith
   subs_weight n at (s ∷ subs) [] p few = omega arith
@@ -175,7 +176,7 @@ module _ (set : Set) (well : is_well_formed set ≡ true) where
       let rest = subs_weight n (at + length (desc_cells (struct_cells set) s.desc)) subs came p.1 (omega arith) in
       omega (arith, here, one, rest)
 
-  devices_weight : (devices : List Device) (images : List Image) → AreShortDevices devices → devices_items (struct_items set.structs) devices ≤ 16384
+  devices_weight : (devices : List Device) (images : List Image) → AreShortDevices devices → devices_items (struct_items set.structs) devices ≤ MOST_ITEMS
       → weight (device_trees set devices images) ≤ 300 * (devices_items (struct_items set.structs) devices + subs_of devices + length devices)
   devices_weight [] images p few = omega arith
   devices_weight (d ∷ devices) [] p few = omega arith
@@ -189,6 +190,6 @@ module _ (set : Set) (well : is_well_formed set ≡ true) where
       let rest = devices_weight devices images p.3 (omega arith) in
       omega (arith, here, subs, one, rest)
 
-  pub text_long : (images : List Image) → AreShortDevices set.devices → devices_items (struct_items set.structs) set.devices ≤ 16384
+  pub text_long : (images : List Image) → AreShortDevices set.devices → devices_items (struct_items set.structs) set.devices ≤ MOST_ITEMS
       → length (described_text set images) ≤ 300 * (devices_items (struct_items set.structs) set.devices + subs_of set.devices + length set.devices) + 14
   text_long images p few = omega (arith, whole_long (device_trees set set.devices images), devices_weight set.devices images p few)

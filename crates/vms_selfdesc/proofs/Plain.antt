@@ -1,12 +1,13 @@
 -- Texts in which JSON escapes nothing: names of a set, and paths.
 use Rattle.std.proofs.Common.{◌≡◌, ℕ, ◌+◌, ◌<◌, ◌≤◌, List, [], ◌∷◌, ◌++◌, length, length-append, Bool, true, false, ◌&&◌, ◌||◌, ◌==◌, nat_lt, nat_le, drop, take, refl, ap, sym, ◌∙◌, arith, subst, decimal, ◌^◌, ◌%◌}
+use Rattle.std.specs.List.{list_all}
 use Rattle.std.proofs.lemmas.Bool.{and_parts, leb-true, eqb-true, ne_eqb, le-ltb}
 use Rattle.std.proofs.lemmas.Fmt.{decimal_by_steps, length-decimal-le}
 use Rattle.std.proofs.lemmas.List.{take-append-drop}
 use Rattle.std.proofs.lemmas.Slice.Eq.{bytes_eq-Decides}
 use Rattle.std.specs.Str.{bytes_eq}
 use Rattle.json.specs.Print.{escape, escape_byte, quoted}
-use Rattle.vms_spec.specs.Lists.{every}
+use Rattle.vms_spec.specs.declared.TheConstants.{MOST_ITEMS}
 use Rattle.vms_spec.specs.Names.{is_name_byte, is_name, is_sub_name}
 use Rattle.vms_selfdesc.specs.Drafts.{IsPlain}
 use Rattle.vms_selfdesc.specs.Entries.{element_path}
@@ -71,9 +72,9 @@ name_byte x e =
     one : (b : ℕ) → x == b ≡ true → (x ≡ b → escape_byte x ≡ x ∷ []) → escape_byte x ≡ x ∷ []
     one b e f = f (eqb-true x b e)
 
-name_bytes : (xs : List ℕ) → every is_name_byte xs ≡ true → IsPlain xs
+name_bytes : (xs : List ℕ) → list_all is_name_byte xs ≡ true → IsPlain xs
 name_bytes [] e = tt
-name_bytes (x ∷ xs) e = let p = and_parts (is_name_byte x) (every is_name_byte xs) e in (name_byte x p.0, name_bytes xs p.1)
+name_bytes (x ∷ xs) e = let p = and_parts (is_name_byte x) (list_all is_name_byte xs) e in (name_byte x p.0, name_bytes xs p.1)
 
 -- a text of at most so many bytes that is written as it is
 pub record IsShort (most : ℕ) (name : List ℕ) : Type 0 where
@@ -82,7 +83,7 @@ pub record IsShort (most : ℕ) (name : List ℕ) : Type 0 where
 
 pub name_short : (most : ℕ) (name : List ℕ) → is_name most name ≡ true → IsShort most name
 name_short most name e =
-    let p = and_parts (nat_le 1 (length name) && nat_le (length name) most) (every is_name_byte name) e in
+    let p = and_parts (nat_le 1 (length name) && nat_le (length name) most) (list_all is_name_byte name) e in
     let q = and_parts (nat_le 1 (length name)) (nat_le (length name) most) p.0 in
     record { plain = name_bytes name p.1; short = leb-true (length name) most q.1 }
 
@@ -113,7 +114,7 @@ element_plain path i lt p =
     let close_mark : IsPlain (93 ∷ []) = (plain_byte 93 (omega arith) (λ e. omega (arith, e)), tt) in
     plain_append path (91 ∷ (decimal i ++ 93 ∷ [])) p (open_mark.0, plain_append (decimal i) (93 ∷ []) (digits_plain i lt) close_mark)
 
-pub element_long : (path : List ℕ) (i : ℕ) → i < 16384 → length (element_path path i) ≤ length path + 7
+pub element_long : (path : List ℕ) (i : ℕ) → i < MOST_ITEMS → length (element_path path i) ≤ length path + 7
 element_long path i lt =
     omega (arith, length-append path (91 ∷ (decimal i ++ 93 ∷ [])), length-append (decimal i) (93 ∷ []), length-decimal-le 5 i (omega arith) (omega arith) (omega arith))
 

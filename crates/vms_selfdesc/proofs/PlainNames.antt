@@ -1,9 +1,9 @@
 -- The names of a well-formed set are written as they are.
 use Rattle.std.proofs.Common.{◌≡◌, ℕ, ◌<◌, length, true}
+use Rattle.std.specs.List.{list_all}
 use Rattle.std.proofs.lemmas.Bool.{and_parts}
 use Rattle.vms_spec.specs.declared.Part.{Part}
 use Rattle.vms_spec.specs.declared.Part.TheVariants as parts
-use Rattle.vms_spec.specs.Lists.{every}
 use Rattle.vms_spec.specs.Names.{is_name}
 use Rattle.vms_spec.specs.Sets.{Set}
 use Rattle.vms_spec.specs.WellFormed.{device_rules, sub_rules}
@@ -20,7 +20,7 @@ module _ (set : Set) (well : is_well_formed set ≡ true) where
   field_plain part k h lt =
       let f = field_at set part k in
       let rules = field_sound set well part h k lt in
-      (name_short 32 f.name (and_parts (is_name 32 f.name) (every (is_name 32) f.former) rules.0).0).plain
+      (name_short 32 f.name (and_parts (is_name 32 f.name) (list_all (is_name 32) f.former) rules.0).0).plain
 
   pub device_plain : (i : ℕ) → i < length set.devices → IsPlain (device_at set i).desc.name
   device_plain i lt =

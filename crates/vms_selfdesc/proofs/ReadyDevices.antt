@@ -1,6 +1,6 @@
 -- Ready images are images of their devices.
 use Rattle.std.proofs.Common.{◌≡◌, ℕ, suc, ◌<◌, List, [], ◌∷◌, length, get_or, Option, Some, None, refl, ap, sym, ◌∙◌, arith, true, zero}
-use Rattle.vms_spec.specs.Lists.{at}
+use Rattle.std.specs.List.{slice_get}
 use Rattle.vms_spec.specs.Sets.{Set, Sub}
 use Rattle.vms_spec.specs.Layout.{no_desc}
 use Rattle.vms_spec.specs.Images.{Image, AreVersionsOf}
@@ -17,7 +17,7 @@ versions_long (s ∷ subs) [] h = absurd h
 versions_long (s ∷ subs) (None ∷ came) h = ap suc (versions_long subs came h)
 versions_long (s ∷ subs) (Some v ∷ came) h = ap suc (versions_long subs came h.1)
 
-pub at_get : {X : Type 0} (xs : List X) (i : ℕ) (d : X) → i < length xs → at xs i ≡ Some (get_or xs i d)
+pub at_get : {X : Type 0} (xs : List X) (i : ℕ) (d : X) → i < length xs → slice_get xs i ≡ Some (get_or xs i d)
 at_get [] i d lt = absurd (omega arith)
 at_get (x ∷ xs) zero d lt = refl
 at_get (x ∷ xs) (suc i) d lt = at_get xs i d (omega arith)

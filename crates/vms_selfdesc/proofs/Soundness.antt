@@ -1,5 +1,6 @@
 -- What well-formed sets say of names, sizes and depths.
 use Rattle.std.proofs.Common.{◌≡◌, ℕ, suc, ◌+◌, ◌<◌, ◌≤◌, ◌^◌, List, [], ◌∷◌, length, get_or, ℤ, pos, negsuc, Bool, true, false, ◌&&◌, nat_lt, nat_le, refl, arith, None}
+use Rattle.std.specs.List.{list_all}
 use Rattle.std.proofs.lemmas.Bool.{and_parts, leb-true, ltb-true, ltb-false}
 use Rattle.std.proofs.lemmas.Fmt.{length-decimal-le}
 use Rattle.std.proofs.Math.ListN.{get_or-eq_default}
@@ -12,7 +13,7 @@ use Rattle.vms_kinds.specs.declared.Item.TheVariants.{Num, Equal, Unused, Struct
 use Rattle.vms_kinds.specs.Codes.{lowest, highest}
 use Rattle.vms_spec.specs.declared.Part.{Part}
 use Rattle.vms_spec.specs.declared.Part.TheVariants as parts
-use Rattle.vms_spec.specs.Lists.{every, first_answer}
+use Rattle.vms_spec.specs.Lists.{first_answer}
 use Rattle.vms_spec.specs.Sets.{Field, Desc, Set}
 use Rattle.vms_spec.specs.Layout.{no_desc, counted}
 use Rattle.vms_spec.specs.Names.{is_name}
@@ -72,7 +73,7 @@ small_item (Struct j) z e f = tt
 
 sound_field : (k : ℕ) (d : Desc) (i : ℕ) (f : Field) → AllTrue (field_rules k d i f) → IsSoundField f
 sound_field k d i f rules =
-    let names = and_parts (is_name 32 f.name) (every (is_name 32) f.former) rules.0 in
+    let names = and_parts (is_name 32 f.name) (list_all (is_name 32) f.former) rules.0 in
     let defaults = and_parts (defaults_well f.item f.default) (counts_well (counted i d.fields) f.default) rules.1.1.1.1.1.0 in
     let limits = and_parts (nat_le (length f.former) 8 && is_small_optional f.test) (is_small_item f.item) rules.1.1.1.1.1.1.0 in
     record { name = name_short 32 f.name names.0; small = small_item f.item f.default defaults.0 limits.1 }

@@ -1,5 +1,6 @@
 -- What the calls of this crate need.
 use Rattle.std.specs.Prelude.{◌≡◌, ℕ, ◌+◌, ◌*◌, ◌<◌, ◌≤◌, true, ◌&&◌, List, length, ℤ, pos, negsuc, int_le, int_lt}
+use Rattle.vms_spec.specs.declared.TheConstants.{MOST_ITEMS}
 use Rattle.vms_spec.specs.Sets.{Set, Field}
 use Rattle.vms_spec.specs.Rules.{uses_below, defaults_well}
 use Rattle.vms_spec.specs.Layout.{item_size, struct_cells, device_cells}
@@ -16,15 +17,15 @@ IsWide z = (int_le (negsuc 0x7fff_ffff_ffff_ffff) z && int_lt z (pos 0x1_0000_00
 -- the cells of a part, or of one element of a structure, are among the numbers from a place on
 pub record HasPlace (set : Set) (part : Part) (cell : ℕ) (numbers : List ℤ) : Type 0 where
   pub has : HasPart set part
-  pub few : length numbers ≤ 16384
+  pub few : length numbers ≤ MOST_ITEMS
   pub room : HasCells set part numbers cell
 
 -- and those of n elements of a field are
 pub record HasElements (set : Set) (f : Field) (cell n : ℕ) (numbers : List ℤ) : Type 0 where
   pub reaches : uses_below (length set.structs) f.item ≡ true
   pub default : defaults_well f.item f.default ≡ true
-  pub few : length numbers ≤ 16384
-  pub small : item_size (struct_cells set) f.item ≤ 16384
+  pub few : length numbers ≤ MOST_ITEMS
+  pub small : item_size (struct_cells set) f.item ≤ MOST_ITEMS
   pub room : cell + n * item_size (struct_cells set) f.item ≤ length numbers
 
 -- the image is one of device i
@@ -32,4 +33,4 @@ pub record HasDevice (set : Set) (i : ℕ) (image : Image) : Type 0 where
   pub has : i < length set.devices
   pub cells : length image.numbers ≡ length (device_cells set (device_at set i))
   pub subs : length image.came ≡ length (device_at set i).subs
-  pub few : length image.numbers ≤ 16384
+  pub few : length image.numbers ≤ MOST_ITEMS

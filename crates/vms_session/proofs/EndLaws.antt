@@ -12,14 +12,14 @@ use Rattle.dev_board.specs.declared.misfit.Misfit.{Misfit}
 use Rattle.dev_images.specs.Images.{cells_in}
 use Rattle.vms_desc.specs.Formed.{shipped_set}
 use Rattle.vms_io.specs.Shelves.{Held, PutsUnder}
-use Rattle.vms_laws.proofs.WellFormedStreams.{shipped_stands}
+use Rattle.vms_spec.proofs.ShippedSets.{shipped_stands}
 use Rattle.vms_script.specs.Grammar.{IsLine, AreLines}
 use Rattle.vms_script.specs.Lines.{ScriptLine, Happens, Saves, Restores as Loads, is_set_of}
 use Rattle.vms_script.specs.Trace.{trace_line}
 use Rattle.vms_spec.specs.Images.{Image}
 use Rattle.vms_spec.specs.Numbers.{IsBytes}
-use Rattle.vms_units.proofs.Stated.{either_holds}
-use Rattle.vms_units.specs.StreamLaws.{Answer, Taken, Faulty}
+use Rattle.vms_stream.proofs.Stated.{either_holds}
+use Rattle.vms_stream.specs.StreamLaws.{Answer, Taken, Faulty}
 use Rattle.vms_session.proofs.SessionLaws.{line_level}
 use Rattle.vms_session.proofs.SoundLaws.{sessions_stay_sound}
 use Rattle.vms_session.proofs.StreamLaws.{streams_come_back, well}
@@ -28,7 +28,7 @@ use Rattle.vms_board.specs.Saving.{machine_of, saved_stream}
 use Rattle.vms_session.specs.Laws.{HoldsBytes, HasAnEnd, SessionsEnd}
 use Rattle.vms_session.specs.Lines.{saved_line, restored_line, missing_line, too_large_line, refused_line}
 use Rattle.vms_session.specs.Session.{Session, IsTooLarge, IsLoaded, LoadsHeld, Does}
-use Rattle.vms_outcome.specs.Fetching.{longest_file}
+use Rattle.vms_commands.specs.Fetching.{longest_file}
 
 -- ---- what bytes come to
 

@@ -10,13 +10,13 @@ use Rattle.dev_board.specs.declared.misfit.Misfit.{Misfit}
 use Rattle.dev_images.specs.Images.{cells_in}
 use Rattle.vms_desc.specs.Formed.{shipped_set}
 use Rattle.vms_io.specs.Shelves.{Held, PutsUnder}
-use Rattle.vms_laws.proofs.WellFormedStreams.{shipped_stands}
+use Rattle.vms_spec.proofs.ShippedSets.{shipped_stands}
 use Rattle.vms_script.specs.Lines.{ScriptLine, Happens, Saves, Restores as Loads}
 use Rattle.vms_script.specs.Trace.{trace_line}
 use Rattle.vms_spec.specs.Images.{Image}
 use Rattle.vms_spec.specs.Numbers.{IsBytes}
 use Rattle.vms_spec.specs.declared.Reason.{Reason}
-use Rattle.vms_units.proofs.Stated.{one_stream_holds, one_fault_holds, never_both_holds}
+use Rattle.vms_stream.proofs.Stated.{one_stream_holds, one_fault_holds, never_both_holds}
 use Rattle.vms_session.proofs.EndLaws.{bytes_come}
 use Rattle.vms_session.proofs.StreamLaws.{well}
 use Rattle.vms_board.specs.Restoring.{TakesBoard, IsFaultAt, IsMisfitAt, misfit_section, misfit_reason, Restore, Back, Refused, Restores}

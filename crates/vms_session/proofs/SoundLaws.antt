@@ -1,6 +1,7 @@
 -- What is restored is sound, and so a session keeps its board sound.
 use Rattle.std.proofs.Common.{◌≡◌, ◌⊎◌, inl, inr, ℕ, zero, suc, ◌∙◌, Bool, true, false, List, [], ◌∷◌, map, Option, Some, None, refl, sym, ap, subst}
 use Rattle.std.specs.Prelude.{slice_set}
+use Rattle.std.specs.List.{slice_get}
 use Rattle.dev_base.specs.Levels.{IsLevel}
 use Rattle.dev_board.proofs.RestoredLaws.{restored_is_sound}
 use Rattle.dev_board.proofs.SoundLaws.{sound_stays_on}
@@ -16,30 +17,29 @@ use Rattle.vms_desc.specs.Formed.{shipped_set}
 use Rattle.vms_script.specs.Grammar.{IsEvent as IsSpelled, IsLine, AreLines}
 use Rattle.vms_script.specs.Lines.{ScriptLine, Happens, Saves, Restores as Loads}
 use Rattle.vms_spec.specs.Images.{Image, IsNormal}
-use Rattle.vms_spec.specs.Lists.{at}
 use Rattle.vms_spec.specs.Sets.{Device, Set}
 use Rattle.vms_spec.specs.Streams.{AllCame, EachOnce}
-use Rattle.vms_units.specs.Streams.{HasSection, SectionsSpell}
+use Rattle.vms_stream.specs.Streams.{HasSection, SectionsSpell}
 use Rattle.vms_board.specs.Restoring.{TakesBoard, Back, Refused, Restores}
 use Rattle.vms_session.specs.Laws.{SessionsStaySound}
 use Rattle.vms_session.specs.Session.{Session, IsTooLarge, IsLoaded, LoadsBytes, LoadsHeld, Does, Plays}
 
 -- ---- each device of a stream that is taken has a normal image
 
-none-left : (came : List Bool) (k : ℕ) → AllCame came → at came k ≡ Some false → ⊥
+none-left : (came : List Bool) (k : ℕ) → AllCame came → slice_get came k ≡ Some false → ⊥
 none-left [] k all new = cc
 none-left (true ∷ came) zero all new = cc
 none-left (true ∷ came) (suc k) all new = none-left came k all new
 none-left (false ∷ came) k all new = absurd all
 
-set-or-same : (came : List Bool) (j k : ℕ) → (k ≡ j) ⊎ (at (slice_set came j true) k ≡ at came k)
+set-or-same : (came : List Bool) (j k : ℕ) → (k ≡ j) ⊎ (slice_get (slice_set came j true) k ≡ slice_get came k)
 set-or-same [] j k = inr refl
 set-or-same (c ∷ came) zero zero = inl refl
 set-or-same (c ∷ came) zero (suc k) = inr refl
 set-or-same (c ∷ came) (suc j) zero = inr refl
 set-or-same (c ∷ came) (suc j) (suc k) = elim (set-or-same came j k) [ inl e ↦ inl (ap suc e) | inr e ↦ inr e ]
 
-not-yet : (devices : List Device) (k : ℕ) (d : Device) → at devices k ≡ Some d → at (map (λ (e : Device). false) devices) k ≡ Some false
+not-yet : (devices : List Device) (k : ℕ) (d : Device) → slice_get devices k ≡ Some d → slice_get (map (λ (e : Device). false) devices) k ≡ Some false
 not-yet [] k d e = cc
 not-yet (x ∷ devices) zero d e = refl
 not-yet (x ∷ devices) (suc k) d e = not-yet devices k d e
@@ -55,12 +55,12 @@ of-section set footed k (Some x) (Some y) bytes d image h e f =
 
 normal-in : (set : Set) (footed : Bool) (images : List Image) (order : List ℕ) (came : List Bool) (bytes : List ℕ)
     → EachOnce came order → SectionsSpell set footed images order bytes → (k : ℕ) (d : Device) (image : Image)
-    → at came k ≡ Some false → at set.devices k ≡ Some d → at images k ≡ Some image → IsNormal set d image
+    → slice_get came k ≡ Some false → slice_get set.devices k ≡ Some d → slice_get images k ≡ Some image → IsNormal set d image
 normal-in set footed images [] came bytes once spelled k d image new here there = absurd (none-left came k once new)
 normal-in set footed images (j ∷ order) came bytes once spelled k d image new here there =
     elim (set-or-same came j k) [
-      | inl e ↦ of-section set footed j (at set.devices j) (at images j) spelled.0 d image spelled.2
-          (ap (at set.devices) (sym e) ∙ here) (ap (at images) (sym e) ∙ there)
+      | inl e ↦ of-section set footed j (slice_get set.devices j) (slice_get images j) spelled.0 d image spelled.2
+          (ap (slice_get set.devices) (sym e) ∙ here) (ap (slice_get images) (sym e) ∙ there)
       | inr e ↦ normal-in set footed images order (slice_set came j true) spelled.1 once.1 spelled.3 k d image (e ∙ new) here there
     ]
 

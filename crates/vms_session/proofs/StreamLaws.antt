@@ -21,7 +21,7 @@ use Rattle.vms_check.specs.Comparing.{Compatible, first_mismatch}
 use Rattle.vms_desc.proofs.Bounds.{none_is}
 use Rattle.vms_desc.proofs.Formed.{formed}
 use Rattle.vms_desc.specs.Formed.{shipped_set}
-use Rattle.vms_laws.proofs.WellFormedStreams.{shipped_stands}
+use Rattle.vms_spec.proofs.ShippedSets.{shipped_stands}
 use Rattle.vms_selfdesc.proofs.Bounds.{shipped_holds}
 use Rattle.vms_spec.specs.Images.{Image}
 use Rattle.vms_spec.specs.Layout.{first}
@@ -30,10 +30,10 @@ use Rattle.vms_spec.specs.Sets.{Set}
 use Rattle.vms_spec.specs.Streams.{is_one_of}
 use Rattle.vms_spec.specs.declared.Reason.{Reason}
 use Rattle.vms_spec.specs.WellFormed.{WellFormed, first_fault}
-use Rattle.vms_units.proofs.Stated.{one_stream_holds, never_both_holds}
-use Rattle.vms_units.specs.StreamLaws.{IsWholeStream}
-use Rattle.vms_units.specs.Streams.{Takes}
-use Rattle.vms_upgrade.proofs.Upgraded.{upgrade_stands}
+use Rattle.vms_stream.proofs.Stated.{one_stream_holds, never_both_holds}
+use Rattle.vms_stream.specs.StreamLaws.{IsWholeStream}
+use Rattle.vms_stream.specs.Streams.{Takes}
+use Rattle.vms_check_laws.proofs.Upgraded.{upgrade_stands}
 use Rattle.vms_board.specs.Restoring.{TakesBoard, Back, Refused, Restores}
 use Rattle.vms_board.specs.Saving.{machine_of, saved_text, saved_stream}
 use Rattle.vms_session.specs.Laws.{StreamComesBack, StreamsComeBack, trace_of, HasRoomFor, IsContinued, BoardsGoOn, stream_with}

@@ -1,7 +1,7 @@
 -- The lines that a session's own lines leave in its trace.
 use Rattle.std.specs.Prelude.{ℕ, List, [], ◌∷◌, ◌++◌, Option, codes}
 use Rattle.std.specs.Fmt.{decimal}
-use Rattle.vms_outcome.specs.Lines.{section_text, reason_text}
+use Rattle.vms_commands.specs.Lines.{section_text, reason_text}
 use Rattle.vms_spec.specs.Sets.{Set}
 use Rattle.vms_spec.specs.declared.Reason.{Reason}
 

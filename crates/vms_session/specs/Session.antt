@@ -10,7 +10,7 @@ use Rattle.vms_script.specs.Lines.{ScriptLine, Happens, Saves, Restores as Loads
 use Rattle.vms_script.specs.Trace.{trace_line}
 use Rattle.vms_board.specs.Restoring.{Restore, Back, Refused, Restores}
 use Rattle.vms_board.specs.Saving.{saved_stream}
-use Rattle.vms_outcome.specs.Fetching.{longest_file}
+use Rattle.vms_commands.specs.Fetching.{longest_file}
 use Rattle.vms_session.specs.Lines.{saved_line, restored_line, missing_line, too_large_line, refused_line}
 
 -- the board and what the shelf holds

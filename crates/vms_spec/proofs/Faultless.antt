@@ -1,11 +1,12 @@
 -- A set without a fault: nothing that is asked in order answers, and each rule holds.
 use Rattle.std.proofs.Common.{◌≡◌, ℕ, zero, suc, ◌+◌, ◌<◌, ◌≤◌, List, [], ◌∷◌, length, get_or, Option, Some, None, refl, sym, ap, ◌∙◌, arith, Bool, true, false, ◌&&◌, ◌||◌, nat_le}
+use Rattle.std.specs.List.{slice_get, list_all}
 use Rattle.std.specs.Str.{bytes_eq}
 use Rattle.std.proofs.lemmas.Slice.Eq.{bytes_eq-Decides}
 use Rattle.std.proofs.lemmas.Bool.{and_parts, leb-true}
 use Rattle.vms_spec.specs.declared.Part.TheVariants as parts
 use Rattle.vms_spec.specs.declared.Place.{Place}
-use Rattle.vms_spec.specs.Lists.{at, every, or_else, first_answer}
+use Rattle.vms_spec.specs.Lists.{or_else, first_answer}
 use Rattle.vms_spec.specs.Names.{is_name, is_name_byte}
 use Rattle.vms_spec.specs.Sets.{Set}
 use Rattle.vms_spec.specs.Streams.{is_one_of}
@@ -16,7 +17,7 @@ or_else_none (Some x) y e = cc
 or_else_none None y e = (refl, e)
 
 -- what stands at a number was asked with it
-pub answers_none : {X Y : Type 0} (f : ℕ → X → Option Y) (i : ℕ) (xs : List X) → first_answer f i xs ≡ None → (j : ℕ) (x : X) → at xs j ≡ Some x → f (i + j) x ≡ None
+pub answers_none : {X Y : Type 0} (f : ℕ → X → Option Y) (i : ℕ) (xs : List X) → first_answer f i xs ≡ None → (j : ℕ) (x : X) → slice_get xs j ≡ Some x → f (i + j) x ≡ None
 answers_none f i [] e j x h = cc
 answers_none f i (y ∷ xs) e zero x h =
     let p = or_else_none (f i y) (first_answer f (suc i) xs) e in
@@ -52,10 +53,10 @@ all_true r (false ∷ rules) p e = cc
 -- ---- the set itself
 
 -- what holds of all names holds of one of them
-pub every_one : (p : List ℕ → Bool) (names : List (List ℕ)) (name : List ℕ) → every p names ≡ true → is_one_of names name ≡ true → p name ≡ true
+pub every_one : (p : List ℕ → Bool) (names : List (List ℕ)) (name : List ℕ) → list_all p names ≡ true → is_one_of names name ≡ true → p name ≡ true
 every_one p [] name h e = absurd (cc)
 every_one p (n ∷ names) name h e =
-    let both = and_parts (p n) (every p names) h in
+    let both = and_parts (p n) (list_all p names) h in
     go (bytes_eq n name) refl e both.0 (λ g. every_one p names name both.1 g)
   where
     go : (c : Bool) → bytes_eq n name ≡ c → (c || is_one_of names name) ≡ true → p n ≡ true → (is_one_of names name ≡ true → p name ≡ true) → p name ≡ true
@@ -70,7 +71,7 @@ module _ (set : Set) (well : WellFormed set) where
   pub machine_short : (name : List ℕ) → is_one_of set.machines name ≡ true → length name ≤ 64
   machine_short name h =
       let short = every_one (is_name 64) set.machines name set_true.0 h in
-      let p = and_parts (nat_le 1 (length name) && nat_le (length name) 64) (every is_name_byte name) short in
+      let p = and_parts (nat_le 1 (length name) && nat_le (length name) 64) (list_all is_name_byte name) short in
       leb-true (length name) 64 (and_parts (nat_le 1 (length name)) (nat_le (length name) 64) p.0).1
 
   pub few_devices : length set.devices ≤ 64

@@ -8,7 +8,7 @@ use Rattle.vms_kinds.specs.declared.Kind.{Kind}
 use Rattle.vms_kinds.specs.declared.Kind.TheVariants.{U8, U16, U32, U64, I8, I16, I32, I64, Bool, Timer}
 use Rattle.vms_kinds.specs.Codes.{width, residue, code, InRange, value_of}
 use Rattle.vms_spec.specs.Streams.{be32}
-use Rattle.vms_spec.specs.Judging.{is_bad_bool}
+use Rattle.vms_spec.specs.Lookup.{is_bad_bool}
 
 read_back : (w x : ℕ) → x < 256 ^ w → big_number w (big_bytes w x) ≡ x
 read_back w x h = ap (big_from 0 w) (sym (append-nil (big_bytes w x))) ∙ big_number-reads_back w x [] h

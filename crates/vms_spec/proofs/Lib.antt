@@ -5,6 +5,8 @@ pub mod Sizes
 pub mod Tables
 pub mod Prefixes
 pub mod Faultless
+pub mod WellFormedLaws
+pub mod ShippedSets
 mod PlaceRows
 mod WellFormedRows
 mod ReadyRows

@@ -1,8 +1,8 @@
 -- Which images may be written.
 use Rattle.std.proofs.Common.{◌≡◌, ℕ, List, [], ◌∷◌, map, Bool, true, false, Option, Some, None, pos, negsuc, refl}
+use Rattle.std.specs.List.{list_all}
 use Rattle.vms_spec.specs.Layout.{first}
 use Rattle.vms_spec.specs.Sets.{Device, Set}
-use Rattle.vms_spec.specs.Lists.{every}
 use Rattle.vms_spec.specs.Images.{Image, default_image}
 use Rattle.vms_spec.specs.Readiness.{is_normal, is_ready}
 use Rattle.vms_spec.specs.Shipped.{set_0, set_1, set_2, set_3, set_4}
@@ -10,7 +10,7 @@ use Rattle.vms_spec.proofs.Boxes.{counted_set, subsection_set, tested_set, mixed
 
 -- whether each device's default image is ready
 abbrev defaults_are_ready : Set → Bool
-defaults_are_ready set = every (λ (d : Device). is_ready set d (default_image set d)) set.devices
+defaults_are_ready set = list_all (λ (d : Device). is_ready set d (default_image set d)) set.devices
 
 writes_the_defaults_of_set_0 : defaults_are_ready set_0 ≡ true
 unfolding first
@@ -34,7 +34,7 @@ writes_the_defaults_of_set_4 = refl
 
 -- of the one device of a set
 abbrev of_box : (Set → Device → Image → Bool) → Set → Image → Bool
-of_box test set image = every (λ (d : Device). test set d image) set.devices
+of_box test set image = list_all (λ (d : Device). test set d image) set.devices
 
 abbrev image_of : List (Option ℕ) → List ℕ → Image
 image_of came numbers = record { version = 1; came = came; numbers = map pos numbers }

@@ -9,7 +9,7 @@ pub mod Streams
 pub mod Units
 pub mod SoFar
 pub mod Readings
-pub mod Judging
+pub mod Lookup
 pub mod Taking
 pub mod Values
 pub mod Spelling
@@ -17,6 +17,8 @@ pub mod ValuesReading
 pub mod Names
 pub mod Rules
 pub mod WellFormed
+pub mod Sound
+pub mod Good
 pub mod Readiness
 pub mod Heads
 pub mod Shipped

@@ -1,7 +1,7 @@
 -- Names in a description set: their form, and that they are distinct.
 use Rattle.std.specs.Prelude.{ℕ, ◌+◌, Bool, true, not, ◌&&◌, ◌||◌, ◌==◌, nat_le, List, [], ◌∷◌, ◌++◌, length, take, drop}
+use Rattle.std.specs.List.{list_all}
 use Rattle.std.specs.Str.{bytes_eq}
-use Rattle.vms_spec.specs.Lists.{every}
 use Rattle.vms_spec.specs.Sets.{Field}
 use Rattle.vms_spec.specs.Streams.{is_one_of}
 
@@ -12,7 +12,7 @@ is_name_byte b =
 
 -- a name of 1 to so many bytes
 abbrev pub is_name : ℕ → List ℕ → Bool
-is_name most name = nat_le 1 (length name) && nat_le (length name) most && every is_name_byte name
+is_name most name = nat_le 1 (length name) && nat_le (length name) most && list_all is_name_byte name
 
 -- the device's name, a slash, and a tail of 1 to 64 bytes
 abbrev pub is_sub_name : List ℕ → List ℕ → Bool

@@ -1,8 +1,8 @@
 -- The cell of a path, and how many cells and devices there are.
 use Rattle.std.specs.Prelude.{ℕ, ◌+◌, ◌*◌, nat_lt, if◌then◌else◌, List, [], ◌∷◌, length, Option, Some, None}
+use Rattle.std.specs.List.{slice_get}
 use Rattle.vms_kinds.specs.declared.Item.{Item}
 use Rattle.vms_kinds.specs.declared.Item.TheVariants.{Num, Struct}
-use Rattle.vms_spec.specs.Lists.{at}
 use Rattle.vms_spec.specs.Sets.{Field, Desc, Sub, Device, Set}
 use Rattle.vms_spec.specs.Layout.{Cell, first, desc_cells, struct_cells, device_cells, place_of, item_size, capacity_of}
 use Rattle.vms_spec.specs.Images.{sub_place, own_cells}
@@ -13,7 +13,7 @@ size_of_device set (Some d) = length (device_cells set d)
 
 -- how many cells device k has, those of its subsections among them; 0 where there is no such device
 abbrev pub cell_count : Set → ℕ → ℕ
-cell_count set k = size_of_device set (at set.devices k)
+cell_count set k = size_of_device set (slice_get set.devices k)
 
 -- how many cells the fields of one description have
 abbrev pub own_cell_count : Set → Desc → ℕ
@@ -41,8 +41,8 @@ abbrev pub path_at : Set → List (ℕ × ℕ) → ℕ → Option Desc → ℕ �
 path_at set [] below d base = None
 path_at set (step ∷ path) below None base = None
 path_at set (step ∷ path) below (Some d) base =
-    element_at (first desc_cells set.structs below) d base step.0 step.1 (at d.fields step.0)
-    (item_at (λ j cell. if nat_lt j below then path_at set path j (at set.structs j) cell else None) path)
+    element_at (first desc_cells set.structs below) d base step.0 step.1 (slice_get d.fields step.0)
+    (item_at (λ j cell. if nat_lt j below then path_at set path j (slice_get set.structs j) cell else None) path)
 
 abbrev pub desc_of_sub : Option Sub → Option Desc
 desc_of_sub None = None
@@ -51,9 +51,9 @@ desc_of_sub (Some s) = Some s.desc
 abbrev pub cell_in : Set → Option Device → Option ℕ → List (ℕ × ℕ) → Option ℕ
 cell_in set None part path = None
 cell_in set (Some d) None path = path_at set path (length set.structs) (Some d.desc) 0
-cell_in set (Some d) (Some j) path = path_at set path (length set.structs) (desc_of_sub (at d.subs j)) (sub_place set (own_cells set d) d.subs j)
+cell_in set (Some d) (Some j) path = path_at set path (length set.structs) (desc_of_sub (slice_get d.subs j)) (sub_place set (own_cells set d) d.subs j)
 
 -- The cell of a path in device k: in its own fields, or in those of the subsection that is named. None exactly where
 -- there is no such cell.
 abbrev pub cell_at : Set → ℕ → Option ℕ → List (ℕ × ℕ) → Option ℕ
-cell_at set k part path = cell_in set (at set.devices k) part path
+cell_at set k part path = cell_in set (slice_get set.devices k) part path

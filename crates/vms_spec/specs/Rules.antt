@@ -1,5 +1,6 @@
 -- What the rules of well-formed sets ask of a test, an item and a field.
 use Rattle.std.specs.Prelude.{ℕ, ◌+◌, Bool, true, false, ◌&&◌, nat_lt, nat_le, max, List, [], ◌∷◌, length, take, Option, Some, None, ℤ, pos, negsuc}
+use Rattle.std.specs.List.{slice_get, list_all}
 use Rattle.vms_kinds.specs.declared.Kind.{Kind}
 use Rattle.vms_kinds.specs.declared.Kind.TheVariants.{U8, U16, U32}
 use Rattle.vms_kinds.specs.declared.Item.{Item}
@@ -8,7 +9,6 @@ use Rattle.vms_kinds.specs.Codes.{lowest, highest}
 use Rattle.vms_spec.specs.declared.Count.{Count}
 use Rattle.vms_spec.specs.declared.Count.TheVariants.{One, Fixed, Counted}
 use Rattle.vms_spec.specs.declared.Whose.TheVariants.{Own, Parent}
-use Rattle.vms_spec.specs.Lists.{at, every}
 use Rattle.vms_spec.specs.Numbers.{same_number}
 use Rattle.vms_spec.specs.Sets.{Formula, AtLeast, Below, Cell, Not, And, Or, Field, Desc}
 use Rattle.vms_spec.specs.Layout.{counted}
@@ -58,7 +58,7 @@ is_steady minimum None = false
 is_steady minimum (Some f) = is_num f.item && is_one f.count && has_no_test f.test && nat_le f.since minimum
 
 abbrev pub is_steady_in : Desc → ℕ → Bool
-is_steady_in d i = is_steady d.minimum (at d.fields i)
+is_steady_in d i = is_steady d.minimum (slice_get d.fields i)
 
 -- the same, and it stands before field k
 abbrev pub is_earlier_in : Desc → ℕ → ℕ → Bool
@@ -95,7 +95,7 @@ is_counting None = false
 is_counting (Some f) = is_counting_item f.item
 
 abbrev pub count_names_well : Desc → ℕ → Count → Bool
-count_names_well d k (Counted by most) = is_earlier_in d k by && is_counting (at d.fields by)
+count_names_well d k (Counted by most) = is_earlier_in d k by && is_counting (slice_get d.fields by)
 count_names_well d k _ = true
 
 -- a structure that is used has a number below k
@@ -121,7 +121,7 @@ defaults_well (Struct j) z = same_number z (pos 0)
 
 -- the default is at most each capacity that the number counts
 abbrev pub counts_well : List ℕ → ℤ → Bool
-counts_well capacities z = every (λ most. int_le z (pos most)) capacities
+counts_well capacities z = list_all (λ most. int_le z (pos most)) capacities
 
 abbrev pub is_small_item : Item → Bool
 is_small_item (Unused n) = nat_le 1 n && nat_le n 4096
@@ -139,7 +139,7 @@ has_good_count item (Counted by most) = nat_le 1 most
 -- field i of a description that may use the structures of numbers below k
 abbrev pub field_rules : ℕ → Desc → ℕ → Field → List Bool
 field_rules k d i f =
-    (is_name 32 f.name && every (is_name 32) f.former)
+    (is_name 32 f.name && list_all (is_name 32) f.former)
     ∷ are_new (all_names (take i d.fields)) (f.name ∷ f.former)
     ∷ true
     ∷ (test_names_well d i f.test && count_names_well d i f.count)

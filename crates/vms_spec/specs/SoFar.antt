@@ -1,7 +1,8 @@
 -- What the units so far say: which devices came, which section is open, and what its fields hold.
 use Rattle.std.specs.Prelude.{ℕ, Bool, true, false, ◌&&◌, ◌==◌, List, [], ◌∷◌, map, slice_set, Option, Some, None}
+use Rattle.std.specs.List.{slice_get}
 use Rattle.std.specs.Str.{bytes_eq}
-use Rattle.vms_spec.specs.Lists.{at, at_option, position}
+use Rattle.vms_spec.specs.Lists.{at_option, position}
 use Rattle.vms_spec.specs.Sets.{Sub, Device, Set}
 use Rattle.vms_spec.specs.Layout.{Slot}
 use Rattle.vms_spec.specs.Images.{Image, own_slots, sub_slots, sub_place, own_cells, default_image}
@@ -82,7 +83,7 @@ module _ (set : Set) where
   abbrev pub part_slots : Option Device → Image → Option ℕ → List Slot
   part_slots None i p = []
   part_slots (Some d) i None = own_slots set d i.version i.numbers
-  part_slots (Some d) i (Some j) = slots_of_sub d i j (at d.subs j) (at i.came j)
+  part_slots (Some d) i (Some j) = slots_of_sub d i j (slice_get d.subs j) (slice_get i.came j)
 
   -- those of the part whose fields come, by the numbers so far
   abbrev pub slots : List Piece → List Slot

@@ -1,7 +1,7 @@
 -- Lines of a text, and numbers as they are spelled: decimal, without leading zeros, a minus before a negative one.
 use Rattle.std.specs.Prelude.{ℕ, ◌+◌, ◌-◌, ◌*◌, Bool, not, ◌&&◌, ◌||◌, ◌==◌, nat_le, if◌then◌else◌, List, [], ◌∷◌, length, get_or, take, drop, Option, Some, None, ℤ, pos, negsuc}
+use Rattle.std.specs.List.{list_all}
 use Rattle.std.specs.Str.{bytes_eq}
-use Rattle.vms_spec.specs.Lists.{every}
 
 -- the bytes before the first line feed and those after it; none where no line feed comes
 abbrev pub longer_line : ℕ → Option (List ℕ × List ℕ) → Option (List ℕ × List ℕ)
@@ -20,7 +20,7 @@ is_digit b = nat_le 48 b && nat_le b 57
 
 -- one digit or more, the first of several not 0
 abbrev pub are_digits : List ℕ → Bool
-are_digits text = every is_digit text && (length text == 1 || (nat_le 2 (length text) && not (get_or text 0 48 == 48)))
+are_digits text = list_all is_digit text && (length text == 1 || (nat_le 2 (length text) && not (get_or text 0 48 == 48)))
 
 -- the number of these digits, where those before them have a number
 abbrev pub natural_from : ℕ → List ℕ → ℕ

@@ -1,10 +1,10 @@
 -- The pieces of streams, and which stream the writer gives. Bytes are numbers
 -- below 256; the definitions don't ask it, since an input has no others.
 use Rattle.std.specs.Prelude.{◌≡◌, ℕ, suc, ◌+◌, ◌≤◌, Bool, true, false, List, [], ◌∷◌, ◌++◌, length, Option, Some, None, ◌||◌, slice_set}
+use Rattle.std.specs.List.{slice_get}
 use Rattle.std.specs.Str.{bytes_eq}
 use Rattle.byteorder.specs.Endian.{big_bytes}
 use Rattle.vms_spec.specs.Sets.{Sub, Device, Set}
-pub use Rattle.vms_spec.specs.Lists.{at}
 use Rattle.vms_spec.specs.Layout.{desc_cells, struct_cells, numbers_of}
 use Rattle.vms_spec.specs.Tests.{truth}
 use Rattle.vms_spec.specs.Images.{Image, IsNormal, IsValid, Spells, zeroed, own_slots, sub_slots, sub_place, own_cells}
@@ -59,13 +59,13 @@ AreAll (Some v ∷ left) = ⊥
 -- the order names each subsection that is left to come, and each once: what came is taken out of what is left
 abbrev pub ComesOnce : List (Option ℕ) → List ℕ → Type 0
 ComesOnce left [] = AreAll left
-ComesOnce left (j ∷ order) = ((v : ℕ) × (at left j ≡ Some (Some v))) × ComesOnce (slice_set left j None) order
+ComesOnce left (j ∷ order) = ((v : ℕ) × (slice_get left j ≡ Some (Some v))) × ComesOnce (slice_set left j None) order
 
 -- the subsections, in this order, have these bytes
 abbrev pub SubsSpell : Set → Device → Image → List ℕ → List ℕ → Type 0
 SubsSpell set d image [] bytes = bytes ≡ []
 SubsSpell set d image (j ∷ order) bytes =
-    (front rest : List ℕ) × SubSpells set d image j (at d.subs j) (at image.came j) front × SubsSpell set d image order rest × (bytes ≡ front ++ rest)
+    (front rest : List ℕ) × SubSpells set d image j (slice_get d.subs j) (slice_get image.came j) front × SubsSpell set d image order rest × (bytes ≡ front ++ rest)
 
 -- ---- whole streams
 
@@ -77,7 +77,7 @@ AllCame (false ∷ came) = ⊥
 -- the order names each device that has not come, and each once
 abbrev pub EachOnce : List Bool → List ℕ → Type 0
 EachOnce came [] = AllCame came
-EachOnce came (k ∷ order) = (at came k ≡ Some false) × EachOnce (slice_set came k true) order
+EachOnce came (k ∷ order) = (slice_get came k ≡ Some false) × EachOnce (slice_set came k true) order
 
 abbrev pub is_one_of : List (List ℕ) → List ℕ → Bool
 is_one_of [] name = false
@@ -118,15 +118,15 @@ pub record IsReady (set : Set) (d : Device) (image : Image) : Type 0 where
 -- a ready image for each device
 pub record AreReady (set : Set) (images : List Image) : Type 0 where
   pub one_each : length images ≡ length set.devices
-  pub ready : (k : ℕ) (d : Device) (image : Image) → at set.devices k ≡ Some d → at images k ≡ Some image → IsReady set d image
+  pub ready : (k : ℕ) (d : Device) (image : Image) → slice_get set.devices k ≡ Some d → slice_get images k ≡ Some image → IsReady set d image
 
 -- the subsections that came, in the description's order, where the cells of the first of these begin at a place
 abbrev pub written_subs : Set → Device → Image → ℕ → List Sub → List (Option ℕ) → List ℕ
-written_subs set d image at [] came = []
-written_subs set d image at (s ∷ subs) [] = []
-written_subs set d image at (s ∷ subs) (None ∷ came) = written_subs set d image (at + length (desc_cells (struct_cells set) s.desc)) subs came
-written_subs set d image at (s ∷ subs) (Some v ∷ came) =
-    sub_head s.desc.name v ++ zeroed image.numbers (sub_slots set s v image.numbers at) ++ written_subs set d image (at + length (desc_cells (struct_cells set) s.desc)) subs came
+written_subs set d image slice_get [] came = []
+written_subs set d image slice_get (s ∷ subs) [] = []
+written_subs set d image slice_get (s ∷ subs) (None ∷ came) = written_subs set d image (slice_get + length (desc_cells (struct_cells set) s.desc)) subs came
+written_subs set d image slice_get (s ∷ subs) (Some v ∷ came) =
+    sub_head s.desc.name v ++ zeroed image.numbers (sub_slots set s v image.numbers slice_get) ++ written_subs set d image (slice_get + length (desc_cells (struct_cells set) s.desc)) subs came
 
 abbrev pub written_section : Set → Device → Image → ℕ → List ℕ
 written_section set d image id =

@@ -11,7 +11,7 @@ use Rattle.vms_spec.specs.Sets.{Field, Desc}
 use Rattle.vms_spec.specs.Tests.{is_there}
 use Rattle.vms_spec.specs.Layout.{Cell, counted, item_size, field_cells, desc_cells, numbers_of, elements_of, all_hold, no_parent, first}
 use Rattle.vms_spec.specs.Numbers.{same_number, exceeds}
-use Rattle.vms_spec.specs.Judging.{is_bad_bool}
+use Rattle.vms_spec.specs.Lookup.{is_bad_bool}
 
 -- the numbers of all cells so far, the place, and the bytes that are left
 pub record Progress : Type 0 where

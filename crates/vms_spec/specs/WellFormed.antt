@@ -1,13 +1,15 @@
 -- Which sets are well formed, and the first fault of one that isn't: the first place, in the order of the walk below, at which
 -- one of the eight rules fails, with the lowest rule that fails there. Each place has a list of its rules, in their order.
 use Rattle.std.specs.Prelude.{◌≡◌, ℕ, suc, ◌+◌, ◌*◌, Bool, true, false, not, ◌&&◌, ◌==◌, nat_le, max, List, [], ◌∷◌, length, get_or, take, map, Option, Some, None}
+use Rattle.std.specs.List.{list_all, list_any}
 use Rattle.std.specs.Str.{bytes_eq}
 use Rattle.vms_kinds.specs.declared.Item.{Item}
 use Rattle.vms_kinds.specs.declared.Item.TheVariants.{Struct}
+use Rattle.vms_spec.specs.declared.TheConstants.{MOST_ITEMS}
 use Rattle.vms_spec.specs.declared.Part.{Part}
 use Rattle.vms_spec.specs.declared.Part.TheVariants as parts
 use Rattle.vms_spec.specs.declared.Place.{Place}
-use Rattle.vms_spec.specs.Lists.{every, some, or_else, first_answer}
+use Rattle.vms_spec.specs.Lists.{or_else, first_answer}
 use Rattle.vms_spec.specs.Sets.{Field, Desc, Sub, Device, Set}
 use Rattle.vms_spec.specs.Layout.{first, capacity_of}
 use Rattle.vms_spec.specs.Streams.{is_one_of}
@@ -98,7 +100,7 @@ is_same_device name instance d = bytes_eq d.desc.name name && d.instance == inst
 abbrev pub device_rules : Set → ℕ → Device → List Bool
 device_rules set i d =
     is_name 100 d.desc.name
-    ∷ not (some (is_same_device d.desc.name d.instance) (take i set.devices))
+    ∷ not (list_any (is_same_device d.desc.name d.instance) (take i set.devices))
     ∷ nat_le d.desc.minimum d.desc.version
     ∷ true ∷ true ∷ true
     ∷ (has_few d.desc && nat_le (length d.subs) 32)
@@ -117,7 +119,7 @@ are_distinct (n ∷ names) = not (is_one_of names n) && are_distinct names
 
 abbrev pub set_rules : Set → List Bool
 set_rules set =
-    every (is_name 64) set.machines
+    list_all (is_name 64) set.machines
     ∷ are_distinct set.machines
     ∷ true ∷ true ∷ true ∷ true
     ∷ (nat_le (length set.machines) 16 && nat_le (length set.structs) 64 && nat_le (length set.devices) 64)
@@ -146,7 +148,7 @@ devices_items sizes [] = 0
 devices_items sizes (d ∷ devices) = items_in sizes d.desc.fields + (subs_items sizes d.subs + devices_items sizes devices)
 
 abbrev pub size_rules : Set → List Bool
-size_rules set = true ∷ true ∷ true ∷ true ∷ true ∷ true ∷ nat_le (devices_items (struct_items set.structs) set.devices) 16384 ∷ true ∷ []
+size_rules set = true ∷ true ∷ true ∷ true ∷ true ∷ true ∷ nat_le (devices_items (struct_items set.structs) set.devices) MOST_ITEMS ∷ true ∷ []
 
 -- the walk: the set, the structures, the devices each with its subsections, and the set again for its number of items
 unfoldable pub first_fault : Set → Option SetFault

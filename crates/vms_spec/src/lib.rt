@@ -5,6 +5,10 @@
 //! pointers that the definitions and the public types of the crates above share.
 #![tactic(auto)]
 
+/// How many items the devices of a well-formed set have together at most: what stands in an array counts
+/// as often as it may stand there.
+pub const MOST_ITEMS: u32 = 16_384;
+
 /// How a masked number is compared with a value in a test.
 #[derive(Clone, Copy, Debug, PartialEq, Eq)]
 pub enum Rel {

@@ -5,6 +5,7 @@ use Rattle.std.proofs.lemmas.List.{length-replicate, get_or_read, length-map, ge
 use Rattle.vms_kinds.specs.declared.Kind.{Kind}
 use Rattle.vms_kinds.specs.declared.Kind.TheVariants.{U8, U16, U32, U64, I8, I16, I32, I64, Bool, Timer}
 use Rattle.vms_kinds.specs.Codes.{width, code, InRange, IsBadBool}
+use Rattle.vms_spec.specs.declared.TheConstants.{MOST_ITEMS}
 use Rattle.vms_spec.proofs.KindLaws.{length-code}
 use Rattle.vms_spots.specs.declared.layout.Spot.{Spot}
 use Rattle.vms_spots.specs.Spots.{aligned, spots_of, end_from, bytes_of, no_spot, kinds_of, raw_from, raw_of, AreOf, number_at, Held, held, IsHeld}
@@ -108,7 +109,7 @@ pub record Holds (spots : List Spot) (numbers : List ℤ) (bytes : List ℕ) : T
   pub long : length bytes ≡ bytes_of (kinds_of spots)
 
 -- the bytes of numbers in range hold them
-pub holds : (spots : List Spot) (numbers : List ℤ) (bytes : List ℕ) → length spots ≤ 16384 → spots ≡ spots_of (kinds_of spots)
+pub holds : (spots : List Spot) (numbers : List ℤ) (bytes : List ℕ) → length spots ≤ MOST_ITEMS → spots ≡ spots_of (kinds_of spots)
     → AreOf (kinds_of spots) numbers → bytes ≡ raw_of (kinds_of spots) numbers → Holds spots numbers bytes
 holds spots numbers bytes few laid are raw =
     let kinds = kinds_of spots in
@@ -182,7 +183,7 @@ zeros_fit kinds = record {
   fits = λ k lt. subst (λ (z : ℤ). InRange (get_or kinds k U8) z) (sym (get_or-replicate (length kinds) k (pos 0) (pos 0) lt)) (range_0 (get_or kinds k U8));
 }
 
-pub starts : (spots : List Spot) (bytes : List ℕ) (n : ℕ) → length spots ≤ 16384 → spots ≡ spots_of (kinds_of spots)
+pub starts : (spots : List Spot) (bytes : List ℕ) (n : ℕ) → length spots ≤ MOST_ITEMS → spots ≡ spots_of (kinds_of spots)
     → n ≡ bytes_of (kinds_of spots) → bytes ≡ replicate n 0 → Holds spots (replicate (length spots) (pos 0)) bytes
 starts spots bytes n few laid size e =
     let kinds = kinds_of spots in

@@ -1,4 +1,5 @@
 -- Spots that are laid out one after the other.
+use Rattle.vms_spec.specs.declared.TheConstants.{MOST_ITEMS}
 use Rattle.std.proofs.Common.{◌≡◌, Some, ℕ, suc, ◌+◌, ◌-◌, ◌*◌, ◌<◌, ◌≤◌, List, [], ◌∷◌, ◌++◌, length, get_or, drop, map, refl, sym, ap, ◌∙◌, arith, append_assoc, append-nil}
 use Rattle.std.proofs.lemmas.List.{drop_all, drop_more, length-map}
 use Rattle.std.proofs.lemmas.Option.{slice_get_within, get_or_from_slice_get}
@@ -49,10 +50,10 @@ pub record IsLast (kinds : List Kind) (s : Spot) : Type 0 where
   pub bound : bytes_of kinds ≤ 131072
 
 -- no more than 8 bytes for each
-pub few_bytes : (kinds : List Kind) → length kinds ≤ 16384 → bytes_of kinds ≤ 131072
+pub few_bytes : (kinds : List Kind) → length kinds ≤ MOST_ITEMS → bytes_of kinds ≤ 131072
 few_bytes kinds few = omega (arith, end_small 0 kinds 0 (omega arith))
 
-pub is_last : (spots : List Spot) (s : Spot) (n : ℕ) → length spots ≤ 16384 → spots ≡ spots_of (kinds_of spots)
+pub is_last : (spots : List Spot) (s : Spot) (n : ℕ) → length spots ≤ MOST_ITEMS → spots ≡ spots_of (kinds_of spots)
     → length spots ≡ suc n → s ≡ get_or spots n no_spot → IsLast (kinds_of spots) s
 is_last spots s n few laid long is =
     let kinds = kinds_of spots in
@@ -63,7 +64,7 @@ is_last spots s n few laid long is =
     record { small = omega (arith, end, bound); end = end; bound = bound }
 
 -- so it is where a list has a last one
-pub last_is : (spots : List Spot) (s : Spot) → length spots ≤ 16384 → spots ≡ spots_of (kinds_of spots)
+pub last_is : (spots : List Spot) (s : Spot) → length spots ≤ MOST_ITEMS → spots ≡ spots_of (kinds_of spots)
     → slice_get spots (length spots - 1) ≡ Some s → IsLast (kinds_of spots) s
 last_is spots s few laid got =
     let n = length spots - 1 in

@@ -1,4 +1,5 @@
 -- Where the numbers of a state lie in one buffer of bytes, and what stands there.
+use Rattle.vms_spec.specs.declared.TheConstants.{MOST_ITEMS}
 use Rattle.std.specs.Prelude.{◌≡◌, ℕ, ◌+◌, ◌-◌, ◌*◌, ◌/◌, ◌%◌, ◌<◌, ◌≤◌, List, [], ◌∷◌, ◌++◌, length, get_or, map, replicate, take, drop, ℤ, pos}
 use Rattle.vms_kinds.specs.declared.Kind.{Kind}
 use Rattle.vms_kinds.specs.declared.Kind.TheVariants.{U8}
@@ -68,7 +69,7 @@ held spots bytes = record { kinds = kinds_of spots; numbers = map (number_at byt
 
 -- the spots are those of their kinds, and the bytes are those of numbers in range
 pub record IsHeld (spots : List Spot) (bytes : List ℕ) : Type 0 where
-  pub few : length spots ≤ 16384
+  pub few : length spots ≤ MOST_ITEMS
   pub laid : spots ≡ spots_of (kinds_of spots)
   pub fit : AreOf (kinds_of spots) (map (number_at bytes) spots)
   pub raw : bytes ≡ raw_of (kinds_of spots) (map (number_at bytes) spots)

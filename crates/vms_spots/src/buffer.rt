@@ -1,4 +1,5 @@
 // The bytes of a state.
+ghost use Rattle.vms_spec.specs.declared.TheConstants.{MOST_ITEMS};
 ghost use Rattle.std.specs.Prelude.{◌≡◌, ◌≤◌, ◌<◌, length, get_or, slice_set, replicate, pos, IfOk};
 ghost use Rattle.vms_kinds.specs.Codes.{InRange, code};
 ghost use Rattle.vms_kinds.specs.declared.Kind.TheVariants.{U8};
@@ -29,7 +30,7 @@ impl Model for Buffer {
 impl Buffer {
     /// The buffer of these spots, with 0 at each.
     pub fn new(alloc: Global, spots: &[Spot]) -> Result<Buffer, AllocError>
-        requires few { length spots.now ≤ 16384 }
+        requires few { length spots.now ≤ MOST_ITEMS }
         requires laid { spots.now ≡ spots_of (kinds_of spots.now) }
         ensures { IfOk result (λ b.
             b ≡ record {

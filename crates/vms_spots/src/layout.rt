@@ -1,4 +1,5 @@
 // Where numbers lie.
+ghost use Rattle.vms_spec.specs.declared.TheConstants.{MOST_ITEMS};
 ghost use Rattle.std.specs.Prelude.{◌≡◌, ◌≤◌, ◌+◌, length, map, IfOk};
 ghost use Rattle.vms_kinds.specs.Codes.{width};
 ghost use Rattle.vms_spots.specs.Spots.{aligned, spots_of, kinds_of, bytes_of, AreApart};
@@ -41,7 +42,7 @@ impl Spot {
 /// The spots of cells of these forms, in order: each at the least multiple of its kind's width that isn't
 /// below the end of the one before, and the first at 0.
 pub fn lay_out(alloc: Global, forms: &[CellForm]) -> Result<Vec<Spot>, AllocError>
-    requires { length forms.now ≤ 16384 }
+    requires { length forms.now ≤ MOST_ITEMS }
     ensures spots { IfOk result (λ spots.
         spots.items ≡ spots_of (map (λ form. form.kind) forms.now)) }
     ensures apart { IfOk result (λ spots.
@@ -59,7 +60,7 @@ pub fn lay_out(alloc: Global, forms: &[CellForm]) -> Result<Vec<Spot>, AllocErro
 
 /// How many bytes numbers at these spots take: the end of the last, or 0 where there is none.
 pub fn size(spots: &[Spot]) -> u32
-    requires few { length spots.now ≤ 16384 }
+    requires few { length spots.now ≤ MOST_ITEMS }
     requires laid { spots.now ≡ spots_of (kinds_of spots.now) }
     ensures size { result ≡ bytes_of (kinds_of spots.now) }
     ensures bound { result ≤ 131072 }

@@ -13,6 +13,7 @@ use Rattle.vms_desc.specs.Formed.{is_well_formed}
 use Rattle.vms_desc.specs.Parts.{HasPart, desc_at}
 use Rattle.vms_desc.proofs.Clean.{reach, field_clean, few_structs}
 use Rattle.vms_desc.proofs.Ranks.{reach_whole}
+use Rattle.vms_values.specs.declared.line.TheConstants.{LONGEST}
 use Rattle.vms_values.specs.Printing.{below, below_part, Stays}
 
 pub stays : (line : List ℕ) → Stays line line
@@ -71,5 +72,5 @@ field_short set well part h k lt f is =
     (omega (arith, ap (λ (x : Field). length x.name) is, clean.name), omega (arith, below_reach set part h, below_uses (reach set part) f.item uses))
 
 -- all of a part
-pub part_short : (set : Set) → is_well_formed set ≡ true → (part : Part) → HasPart set part → below_part set part ≤ 8320
+pub part_short : (set : Set) → is_well_formed set ≡ true → (part : Part) → HasPart set part → below_part set part ≤ LONGEST
 part_short set well part h = omega (arith, below_reach set part h, reach_whole set part h, few_structs set well)

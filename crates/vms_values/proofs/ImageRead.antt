@@ -1,6 +1,6 @@
 -- Images of a device, from its defaults on.
 use Rattle.std.proofs.Common.{◌≡◌, ℕ, ◌+◌, ◌<◌, true, zero, suc, List, [], ◌∷◌, ◌++◌, Some, length, ap, sym, ◌∙◌, subst, arith, length-append}
-use Rattle.std.specs.List.{flat_map}
+use Rattle.std.specs.List.{flat_map, slice_get}
 use Rattle.std.proofs.lemmas.List.{length-map}
 use Rattle.vms_spec.specs.declared.Part.TheVariants as parts
 use Rattle.vms_spec.specs.Sets.{Set}
@@ -9,7 +9,6 @@ use Rattle.vms_spec.specs.Layout.{device_cells, desc_cells, struct_cells}
 use Rattle.vms_desc.specs.Described.{device_at}
 use Rattle.vms_desc.specs.Formed.{is_well_formed}
 use Rattle.vms_desc.specs.Spots.{kinds_at}
-use Rattle.vms_spec.specs.Lists.{at}
 use Rattle.vms_desc.proofs.AskLaws.{few_cells}
 use Rattle.vms_walk.specs.Steps.{HasSpot}
 use Rattle.vms_write.specs.Judged.{IsOfDevice}
@@ -47,7 +46,7 @@ default_kinds set i image e = ap (λ (x : Typed). x.kinds) e
 
 -- ---- images one after the other
 
-at_more : {X : Type 0} (P : ℕ → X → Type 0) (xs : List X) (y : X) → ((k : ℕ) (z : X) → at xs k ≡ Some z → P k z) → P (length xs) y → (k : ℕ) (z : X) → at (xs ++ y ∷ []) k ≡ Some z → P k z
+at_more : {X : Type 0} (P : ℕ → X → Type 0) (xs : List X) (y : X) → ((k : ℕ) (z : X) → slice_get xs k ≡ Some z → P k z) → P (length xs) y → (k : ℕ) (z : X) → slice_get (xs ++ y ∷ []) k ≡ Some z → P k z
 at_more P [] y h p zero z e = let same : y ≡ z = cc in subst (P 0) same p
 at_more P [] y h p (suc k) z e = cc
 at_more P (x ∷ xs) y h p zero z e = h zero z e
@@ -56,13 +55,13 @@ at_more {X} P (x ∷ xs) y h p (suc k) z e = at_more (λ (j : ℕ) (w : X). P (s
 -- so many images, each of its device
 pub record AreFirstImages (set : Set) (n : ℕ) (images : List Typed) : Type 0 where
   pub count : length images ≡ n
-  pub each : (k : ℕ) (image : Typed) → at images k ≡ Some image → IsImageOf set k image
+  pub each : (k : ℕ) (image : Typed) → slice_get images k ≡ Some image → IsImageOf set k image
 
 pub first_more : (set : Set) (n : ℕ) (images more : List Typed) (image : Typed) → AreFirstImages set n images → IsImageOf set n image → more ≡ images ++ image ∷ [] → AreFirstImages set (n + 1) more
 first_more set n images more image a o e = record {
   count = ap length e ∙ length-append images (image ∷ []) ∙ ap (λ (k : ℕ). k + 1) a.count;
   each = λ k other f.
-      at_more (IsImageOf set) images image a.each (subst (λ (k : ℕ). IsImageOf set k image) (sym a.count) o) k other (ap (λ (l : List Typed). at l k) (sym e) ∙ f);
+      at_more (IsImageOf set) images image a.each (subst (λ (k : ℕ). IsImageOf set k image) (sym a.count) o) k other (ap (λ (l : List Typed). slice_get l k) (sym e) ∙ f);
 }
 
 pub first_all : (set : Set) (n : ℕ) (images : List Typed) → AreFirstImages set n images → length set.devices ≡ n → AreImagesOf set images

@@ -1,6 +1,6 @@
 -- The kinds of cells, where these stand among those of an image.
 use Rattle.std.proofs.Common.{◌≡◌, ℕ, zero, suc, ◌+◌, ◌*◌, ◌<◌, List, [], ◌∷◌, ◌++◌, length, get_or, map, drop, ℤ, pos, refl, sym, ap, ◌∙◌, subst, arith, append_assoc, append-nil, Some, true}
-use Rattle.std.specs.List.{flat_map}
+use Rattle.std.specs.List.{flat_map, slice_get}
 use Rattle.std.proofs.Math.Seq.{drop-append_seam}
 use Rattle.std.proofs.lemmas.List.{drop-drop, map-append, length-map}
 use Rattle.vms_kinds.specs.declared.Item.{Item}
@@ -8,7 +8,6 @@ use Rattle.vms_kinds.specs.declared.Item.TheVariants.{Num, Equal, Unused, Struct
 use Rattle.vms_kinds.specs.declared.Kind.{Kind}
 use Rattle.vms_kinds.specs.declared.Kind.TheVariants.{U8}
 use Rattle.vms_spec.specs.declared.Part.TheVariants as parts
-use Rattle.vms_spec.specs.Lists.{at}
 use Rattle.vms_spec.specs.Sets.{Set, Field, Device, Sub, AtLeast}
 use Rattle.vms_spec.specs.Images.{own_cells, sub_place}
 use Rattle.vms_spec.specs.Layout.{Cell, no_desc, item_cells, item_size, field_cells, cells_from, desc_cells, struct_cells, times, capacity_of, counted}
@@ -108,7 +107,7 @@ struct_kinds set well j lt kinds at s =
 
 -- ---- the parts of a device
 
-subs_kinds : (set : Set) (kinds : List Kind) (from : ℕ) (subs : List Sub) (j : ℕ) (s : Sub) → at subs j ≡ Some s
+subs_kinds : (set : Set) (kinds : List Kind) (from : ℕ) (subs : List Sub) (j : ℕ) (s : Sub) → slice_get subs j ≡ Some s
     → AreKinds kinds from (flat_map (λ s. desc_cells (struct_cells set) s.desc) subs) → AreKinds kinds (sub_place set from subs j) (desc_cells (struct_cells set) s.desc)
 subs_kinds set kinds from [] j s e h = cc
 subs_kinds set kinds from (t ∷ subs) zero s e h =
@@ -140,6 +139,6 @@ module _ (set : Set) (i : ℕ) (kinds : List Kind) (are : kinds ≡ kinds_at set
       let none : Sub = record { desc = no_desc; needed = AtLeast 0 } in
       let from : 0 + length own ≡ own_cells set d = omega arith in
       let rest : AreKinds kinds (own_cells set d) others = subst (λ (k : ℕ). AreKinds kinds k others) from (rest_kinds kinds 0 own others all_kinds) in
-      let here : at d.subs j ≡ Some (sub_at d j) = at_get d.subs j none lt in
+      let here : slice_get d.subs j ≡ Some (sub_at d j) = at_get d.subs j none lt in
       subst (λ (cs : List (List Cell)). AreKinds kinds (first_cell set (parts.Sub i j)) (desc_cells cs (sub_at d j).desc)) (sym (cells_table set))
       (subs_kinds set kinds (own_cells set d) d.subs j (sub_at d j) here rest)

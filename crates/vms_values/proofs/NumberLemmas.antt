@@ -1,11 +1,11 @@
 -- Numbers as they are spelled.
 use Rattle.std.proofs.Common.{◌≡◌, ℕ, ◌+◌, ◌-◌, ◌*◌, ◌^◌, ◌<◌, ◌≤◌, Bool, true, false, not, ◌&&◌, ◌||◌, ◌==◌, nat_le, nat_lt, List, [], ◌∷◌, zero, suc, ◌++◌, take, length, get_or, drop, Option, Some, None, if◌then◌else◌, refl, sym, ap, ◌∙◌, subst, arith, length-drop, ℤ, pos}
+use Rattle.std.specs.List.{list_all}
 use Rattle.std.proofs.lemmas.Bool.{ltb-true, ltb-false, leb-true, and_parts}
 use Rattle.std.proofs.Math.Nat.{pow-suc}
 use Rattle.std.proofs.lemmas.List.{drop_more, drop_all, take_all, take-append-drop}
 use Rattle.std.proofs.lemmas.Bool.Decides.{nat_tests}
 use Rattle.std.specs.Option.{option_and_then}
-use Rattle.vms_spec.specs.Lists.{every}
 use Rattle.vms_spec.specs.Spelling.{is_digit, are_digits, natural_from, number_spelled}
 use Rattle.vms_values.specs.Spelled.{with_digit, natural_spelled, read_from}
 
@@ -34,26 +34,26 @@ none_if false n = refl
 
 -- one digit more, where those after it are read so
 read_more : (n b m : ℕ) (bs : List ℕ) → m ≡ n * 10 + (b - 48) → (d s : Bool) → is_digit b ≡ d → nat_lt m (2 ^ 64) ≡ s
-    → (m < 2 ^ 64 → read_from m bs ≡ bounded (every is_digit bs) (natural_from m bs))
-    → option_and_then (λ k. read_from k bs) (if is_digit b && nat_lt m (2 ^ 64) then Some m else None) ≡ bounded (is_digit b && every is_digit bs) (natural_from m bs)
+    → (m < 2 ^ 64 → read_from m bs ≡ bounded (list_all is_digit bs) (natural_from m bs))
+    → option_and_then (λ k. read_from k bs) (if is_digit b && nat_lt m (2 ^ 64) then Some m else None) ≡ bounded (is_digit b && list_all is_digit bs) (natural_from m bs)
 read_more n b m bs is false s e f later =
     ap (λ (t : Bool). option_and_then (λ k. read_from k bs) (if t && nat_lt m (2 ^ 64) then Some m else None)) e
-    ∙ sym (ap (λ (t : Bool). bounded (t && every is_digit bs) (natural_from m bs)) e)
+    ∙ sym (ap (λ (t : Bool). bounded (t && list_all is_digit bs) (natural_from m bs)) e)
 read_more n b m bs is true true e f later =
     ap (λ (t : Bool). option_and_then (λ k. read_from k bs) (if t && nat_lt m (2 ^ 64) then Some m else None)) e
     ∙ ap (λ (t : Bool). option_and_then (λ k. read_from k bs) (if t then Some m else None)) f
     ∙ later (ltb-true m (2 ^ 64) f)
-    ∙ sym (ap (λ (t : Bool). bounded (t && every is_digit bs) (natural_from m bs)) e)
+    ∙ sym (ap (λ (t : Bool). bounded (t && list_all is_digit bs) (natural_from m bs)) e)
 read_more n b m bs is true false e f later =
     let up : 2 ^ 64 ≤ m = ltb-false m (2 ^ 64) f in
     let over : nat_lt (natural_from m bs) (2 ^ 64) ≡ false = not_lt (natural_from m bs) (2 ^ 64) (omega (arith, natural_up m bs)) in
     ap (λ (t : Bool). option_and_then (λ k. read_from k bs) (if t && nat_lt m (2 ^ 64) then Some m else None)) e
     ∙ ap (λ (t : Bool). option_and_then (λ k. read_from k bs) (if t then Some m else None)) f
-    ∙ sym (none_if (every is_digit bs) (natural_from m bs))
-    ∙ sym (ap (λ (t : Bool). if every is_digit bs && t then Some (natural_from m bs) else None) over)
-    ∙ sym (ap (λ (t : Bool). bounded (t && every is_digit bs) (natural_from m bs)) e)
+    ∙ sym (none_if (list_all is_digit bs) (natural_from m bs))
+    ∙ sym (ap (λ (t : Bool). if list_all is_digit bs && t then Some (natural_from m bs) else None) over)
+    ∙ sym (ap (λ (t : Bool). bounded (t && list_all is_digit bs) (natural_from m bs)) e)
 
-pub read_is : (n : ℕ) (bs : List ℕ) → n < 2 ^ 64 → read_from n bs ≡ bounded (every is_digit bs) (natural_from n bs)
+pub read_is : (n : ℕ) (bs : List ℕ) → n < 2 ^ 64 → read_from n bs ≡ bounded (list_all is_digit bs) (natural_from n bs)
 read_is n [] lt = sym (ap (λ (t : Bool). if t then Some n else None) (is_lt n (2 ^ 64) lt))
 read_is n (b ∷ bs) lt = read_more n b (n * 10 + (b - 48)) bs refl (is_digit b) (nat_lt (n * 10 + (b - 48)) (2 ^ 64)) refl refl (read_is (n * 10 + (b - 48)) bs)
 
@@ -64,7 +64,7 @@ unpadded text = length text == 1 || (nat_le 2 (length text) && not (get_or text 
 pub read_natural : (text : List ℕ) → unpadded text ≡ true → read_from 0 text ≡ natural_spelled text
 read_natural text e =
     read_is 0 text (omega arith)
-    ∙ ap (λ (t : Bool). bounded t (natural_from 0 text)) (sym (and_true (every is_digit text)) ∙ ap (λ (t : Bool). every is_digit text && t) (sym e))
+    ∙ ap (λ (t : Bool). bounded t (natural_from 0 text)) (sym (and_true (list_all is_digit text)) ∙ ap (λ (t : Bool). list_all is_digit text && t) (sym e))
 
 pub digit_stops : (value i d : ℕ) (text : List ℕ) → i < length text → with_digit value (get_or text i d) ≡ None → read_from value (drop i text) ≡ None
 digit_stops value i d text lt e =

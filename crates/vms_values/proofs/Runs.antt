@@ -3,6 +3,7 @@ use Rattle.std.proofs.Common.{◌≡◌, ℕ, suc, ◌+◌, ◌-◌, ◌*◌, �
 use Rattle.std.proofs.lemmas.List.{drop_all}
 use Rattle.std.specs.Fmt.{decimal}
 use Rattle.vms_kinds.specs.declared.Item.{Item}
+use Rattle.vms_spec.specs.declared.TheConstants.{MOST_ITEMS}
 use Rattle.vms_spec.specs.declared.Count.{Count}
 use Rattle.vms_spec.specs.declared.Count.TheVariants.{One, Fixed, Counted}
 use Rattle.vms_spec.specs.Sets.{Field, Set}
@@ -14,7 +15,7 @@ use Rattle.vms_desc.specs.Asks.{field_at, own_numbers}
 use Rattle.vms_desc.specs.Formed.{is_well_formed}
 use Rattle.vms_desc.specs.Parts.{desc_at}
 use Rattle.vms_desc.proofs.Clean.{reach}
-use Rattle.vms_walk.specs.declared.fields.Spot.{Spot}
+use Rattle.vms_walk.specs.declared.fields.PartAt.{PartAt}
 use Rattle.vms_walk.specs.Steps.{HasSpot, size_in, table, cells_in}
 use Rattle.vms_desc.proofs.Ranks.{item_rank, part_rank, reach_whole, uses_more, rank_below}
 use Rattle.vms_walk.proofs.Spots.{next_field, cells_table}
@@ -62,7 +63,7 @@ module _ (set : Set) where
       by_count (Counted by most) other = ap (λ (s : ℕ). element_lines (printers set) f.item (path ++ f.name) n at s 0 count) (sym (printed_size f.item))
 
   -- the next field: its elements are among the numbers, and its lines come next
-  pub record NextRun (spot : Spot) (path : List ℕ) (n : List ℤ) (k cell count : ℕ) (f : Field) : Type 0 where
+  pub record NextRun (spot : PartAt) (path : List ℕ) (n : List ℤ) (k cell count : ℕ) (f : Field) : Type 0 where
     pub run : IsRun set f cell count n
     pub lower : item_rank f.item + 1 < part_rank set spot.part + 2
     pub room : cell + capacity_of f.count * size_in set f.item ≤ length n
@@ -72,7 +73,7 @@ module _ (set : Set) where
         ++ field_lines (printers set) (desc_at set spot.part).fields (numbers_of (cells_of (printers set)) (desc_at set spot.part) n spot.base) path n (k + 1)
         (cell + capacity_of f.count * size_in set f.item) (drop (k + 1) (desc_at set spot.part).fields)
 
-  pub next_run : is_well_formed set ≡ true → (spot : Spot) (path : List ℕ) (n : List ℤ) → HasSpot set spot n → (k cell count : ℕ) (f : Field) → k < length (desc_at set spot.part).fields
+  pub next_run : is_well_formed set ≡ true → (spot : PartAt) (path : List ℕ) (n : List ℤ) → HasSpot set spot n → (k cell count : ℕ) (f : Field) → k < length (desc_at set spot.part).fields
       → f ≡ field_at set spot.part k → count ≡ elements_of f.count (own_numbers set spot.part n spot.base)
       → cell + length (cells_from (cells_in (table set)) (desc_at set spot.part).fields k (drop k (desc_at set spot.part).fields)) ≤ length n → NextRun spot path n k cell count f
   next_run well spot path n h k cell count f lt is there room =
@@ -95,7 +96,7 @@ module _ (set : Set) where
       record {
         run = record {
           reaches = uses_more (reach set spot.part) (length set.structs) f.item (reach_whole set spot.part h.part) uses;
-          small = one_fits (capacity_of f.count) (size_in set f.item) cell (length n) 16384 some fits h.few;
+          small = one_fits (capacity_of f.count) (size_in set f.item) cell (length n) MOST_ITEMS some fits h.few;
           room = room_for_less count (capacity_of f.count) (size_in set f.item) cell (length n) fewer fits;
           single = λ e. there ∙ single_count f.count (own_numbers set spot.part n spot.base) e;
           few = h.few;

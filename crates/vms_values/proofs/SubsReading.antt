@@ -1,6 +1,7 @@
 -- Subsections that are read one after the other.
 use Rattle.std.proofs.Common.{◌≡◌, ℕ, ◌+◌, ◌<◌, ◌≤◌, true, List, [], ◌∷◌, ◌++◌, length, take, drop, slice_set, Option, Some, None, Result, Ok, Err, refl, sym, ap, ◌∙◌, subst, arith, append_assoc, append-nil}
 use Rattle.std.proofs.lemmas.List.{drop_more, take_all, take_more_set}
+use Rattle.vms_spec.specs.declared.TheConstants.{MOST_ITEMS}
 use Rattle.vms_spec.specs.declared.Part.TheVariants as parts
 use Rattle.vms_spec.specs.Sets.{Set, Sub, AtLeast}
 use Rattle.vms_spec.specs.Layout.{no_desc, desc_cells, struct_cells}
@@ -129,7 +130,7 @@ pub alike_none : (a : Typed) → IsAlike a a
 alike_none a = record { version = refl; subs = refl; cells = refl; kinds = refl }
 
 pub of_alike : (set : Set) (i : ℕ) (a b : Typed) → IsOfDevice set i (state_of a) → IsAlike a b → IsOfDevice set i (state_of b)
-of_alike set i a b h k = record { is_device = h.is_device; cells = k.cells ∙ h.cells; subs = k.subs ∙ h.subs; few = subst (λ (n : ℕ). n ≤ 16384) (sym k.cells) h.few }
+of_alike set i a b h k = record { is_device = h.is_device; cells = k.cells ∙ h.cells; subs = k.subs ∙ h.subs; few = subst (λ (n : ℕ). n ≤ MOST_ITEMS) (sym k.cells) h.few }
 
 pub subs_alike : (r : Result ReadSubs BadLine) (old new : Taken) (lines : List ℕ) → SubsReached r old new lines (Ok tt) → IsAlike old.image new.image
 subs_alike (Ok r) old new lines h = h.3

@@ -2,7 +2,7 @@
 use Rattle.std.proofs.Common.{◌≡◌, ℕ, suc, ◌+◌, Bool, true, false, not, ◌||◌, List, ◌++◌, length, drop, slice_set, if◌then◌else◌, Option, Some, None, Result, Ok, Err, ℤ, codes, refl, sym, ap, ◌∙◌, subst, arith}
 use Rattle.vms_kinds.specs.declared.Kind.{Kind}
 use Rattle.vms_kinds.specs.Codes.{InRange}
-use Rattle.vms_laws.proofs.WellFormedLaws.{ranges}
+use Rattle.vms_spec.proofs.WellFormedLaws.{ranges}
 use Rattle.vms_spec.specs.declared.ValuesReason.{ValuesReason}
 use Rattle.vms_spec.specs.declared.ValuesReason.TheVariants as reasons
 use Rattle.vms_spec.specs.Numbers.{same_number, exceeds}

@@ -8,16 +8,16 @@ use Rattle.vms_spec.specs.Layout.{no_desc}
 use Rattle.vms_spec.specs.ValuesReading.{values_read, ValuesRead, Values, Bad}
 use Rattle.vms_spec.specs.WellFormed.{first_fault}
 use Rattle.vms_spec.specs.Images.{Image}
-use Rattle.vms_laws.specs.Laws.{IsFit}
+use Rattle.vms_spec.specs.Good.{IsFit}
 use Rattle.vms_elements.specs.Reading.{IsText, Refused, Reads}
 use Rattle.vms_image.specs.Typed.{state_of}
 use Rattle.vms_desc.specs.Formed.{is_well_formed}
 use Rattle.vms_desc.proofs.AskLaws.{few_cells}
 use Rattle.vms_desc.proofs.Bounds.{few_devices, none_is}
 use Rattle.vms_desc.proofs.Clean.{few_subs}
-use Rattle.vms_reading.specs.Laws.{device_lines, most_lines}
-use Rattle.vms_reading.proofs.FewLines.{line_holds}
-use Rattle.vms_reading.proofs.Stated.{read_holds}
+use Rattle.vms_values_laws.specs.Laws.{device_lines, most_lines}
+use Rattle.vms_values_laws.proofs.FewLines.{line_holds}
+use Rattle.vms_values_laws.proofs.Stated.{read_holds}
 use Rattle.vms_values.specs.Reading.{ReadsBy, MeansAs}
 use Rattle.vms_values.specs.declared.fault.Values.{Values as Given}
 use Rattle.vms_values.specs.declared.fault.LineFault.TheVariants as faults

@@ -8,14 +8,14 @@ use Rattle.vms_spec.specs.Sets.{Field, Desc, Set, Formula}
 use Rattle.vms_spec.specs.Tests.{is_there}
 use Rattle.vms_spec.specs.Layout.{Cell, Slot, Number, Constant, Filler, Rule, Meaning, no_meaning, no_desc, item_slots, item_size, times, field_slots, slots_from, desc_slots, field_cells, numbers_of, elements_of, counted, all_hold, no_parent, first, meaning, meanings}
 use Rattle.vms_spec.specs.Readiness.{rules_are_true}
-use Rattle.vms_laws.proofs.CellLaws.{cells_first}
+use Rattle.vms_bodies.proofs.CellLaws.{cells_first}
 use Rattle.vms_spec.proofs.Tables.{one_more}
 use Rattle.vms_parts.specs.declared.types.Desc.{Desc as Described}
 use Rattle.vms_parts.specs.declared.types.Test.{Test}
 use Rattle.vms_parts.specs.Views.{desc_of, formula}
 use Rattle.vms_desc.specs.Asks.{own_numbers}
 use Rattle.vms_desc.specs.Parts.{desc_at}
-use Rattle.vms_walk.specs.declared.fields.Spot.{Spot}
+use Rattle.vms_walk.specs.declared.fields.PartAt.{PartAt}
 use Rattle.vms_walk.specs.Steps.{spot_slots}
 
 -- the rules of each structure are true
@@ -88,7 +88,7 @@ unruled_at (d ∷ ds) h k = by d.validate (list_all (λ d. length d.validate == 
     by [] rest h later (suc k) = later h k
     by (t ∷ ts) rest h later k = absurd (omega (arith, eqb-true (length (t ∷ ts)) 0 (and_parts _ _ h).0))
 
-pub own_rules : (set : Set) (ds : List Described) (spot : Spot) (n : List ℤ) → map desc_of ds ≡ set.structs → list_all (λ d. length d.validate == 0) ds ≡ true
+pub own_rules : (set : Set) (ds : List Described) (spot : PartAt) (n : List ℤ) → map desc_of ds ≡ set.structs → list_all (λ d. length d.validate == 0) ds ≡ true
     → all_hold (desc_at set spot.part).validate spot.version (own_numbers set spot.part n spot.base) ≡ rules_are_true (spot_slots set spot n)
 own_rules set ds spot n same h =
     let none : (k : ℕ) → (get_or set.structs k no_desc).validate ≡ [] = λ k. ap (λ (l : List Desc). (get_or l k no_desc).validate) (sym same) ∙ unruled_at ds h k in

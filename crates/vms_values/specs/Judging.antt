@@ -11,8 +11,8 @@ use Rattle.vms_spec.specs.ValuesReading.{BadLine, ReadDevice, sub_fails, is_said
 use Rattle.vms_desc.specs.Asks.{first_cell}
 use Rattle.vms_desc.specs.Described.{device_at}
 use Rattle.vms_desc.specs.Parts.{sub_at}
-use Rattle.vms_walk.specs.declared.step.Step.{Step}
-use Rattle.vms_walk.specs.declared.step.Step.TheVariants.{Number, Constant, Filler, Rule}
+use Rattle.vms_walk.specs.declared.step.WalkStep.{WalkStep}
+use Rattle.vms_walk.specs.declared.step.WalkStep.TheVariants.{Number, Constant, Filler, Rule}
 use Rattle.vms_values.specs.declared.judge.BadLine.{BadLine as Found}
 
 -- a bad line, as the definitions have it
@@ -44,7 +44,7 @@ sub_defaults set i j numbers =
 -- ---- steps
 
 -- whether the validations hold at each end among them
-abbrev pub steps_hold : List Step → Bool
+abbrev pub steps_hold : List WalkStep → Bool
 steps_hold [] = true
 steps_hold (Number cell kind most ∷ xs) = steps_hold xs
 steps_hold (Constant kind value ∷ xs) = steps_hold xs
@@ -55,7 +55,7 @@ and_assoc : (a b c : Bool) → ((a && b) && c) ≡ (a && (b && c))
 and_assoc true b c = refl
 and_assoc false b c = refl
 
-hold_append : (xs ys : List Step) → steps_hold (xs ++ ys) ≡ (steps_hold xs && steps_hold ys)
+hold_append : (xs ys : List WalkStep) → steps_hold (xs ++ ys) ≡ (steps_hold xs && steps_hold ys)
 hold_append [] ys = refl
 hold_append (Number cell kind most ∷ xs) ys = hold_append xs ys
 hold_append (Constant kind value ∷ xs) ys = hold_append xs ys
@@ -63,8 +63,8 @@ hold_append (Filler bytes ∷ xs) ys = hold_append xs ys
 hold_append (Rule holds ∷ xs) ys = ap (λ (b : Bool). holds && b) (hold_append xs ys) ∙ sym (and_assoc holds (steps_hold xs) (steps_hold ys))
 
 -- steps after steps at which they hold, and steps after others
-pub hold_then : (xs ys : List Step) (b : Bool) → steps_hold xs ≡ true → steps_hold ys ≡ b → steps_hold (xs ++ ys) ≡ b
+pub hold_then : (xs ys : List WalkStep) (b : Bool) → steps_hold xs ≡ true → steps_hold ys ≡ b → steps_hold (xs ++ ys) ≡ b
 hold_then xs ys b e f = hold_append xs ys ∙ ap (λ (c : Bool). c && steps_hold ys) e ∙ f
 
-pub fail_before : (xs ys : List Step) → steps_hold xs ≡ false → steps_hold (xs ++ ys) ≡ false
+pub fail_before : (xs ys : List WalkStep) → steps_hold xs ≡ false → steps_hold (xs ++ ys) ≡ false
 fail_before xs ys e = hold_append xs ys ∙ ap (λ (c : Bool). c && steps_hold ys) e

@@ -1,6 +1,7 @@
 -- The paths of the cells of a part, as text.
 use Rattle.std.specs.Prelude.{◌≡◌, ◌<◌, ◌≤◌, ℕ, ◌/◌, ◌%◌, List, [], ◌++◌, get_or, pos}
 use Rattle.vms_kinds.specs.declared.Item.{Item}
+use Rattle.vms_spec.specs.declared.TheConstants.{MOST_ITEMS}
 use Rattle.vms_spec.specs.declared.Part.{Part}
 use Rattle.vms_spec.specs.declared.Part.TheVariants as parts
 use Rattle.vms_spec.specs.Sets.{Field, Set}
@@ -34,6 +35,6 @@ field_name set f cell =
 -- the part of a device in which a cell stands, and which of the part's cells it is
 pub record IsInPart (set : Set) (device cell : ℕ) (own : Own) : Type 0 where
   pub part : HasPart set own.part
-  pub small : own_cell_count set (desc_at set own.part) ≤ 16384
+  pub small : own_cell_count set (desc_at set own.part) ≤ MOST_ITEMS
   pub inside : own.cell < own_cell_count set (desc_at set own.part)
   pub same : get_or (part_names set own.part) own.cell [] ≡ cell_name set (device_at set device) cell

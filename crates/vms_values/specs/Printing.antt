@@ -2,6 +2,7 @@
 use Rattle.std.specs.Prelude.{◌≡◌, ℕ, ◌+◌, ◌*◌, ◌<◌, ◌≤◌, ◌^◌, true, map, List, [], ◌∷◌, ◌++◌, length, get_or, take, Option, ℤ, codes}
 use Rattle.std.specs.Option.{option_map}
 use Rattle.std.specs.Fmt.{decimal}
+use Rattle.vms_spec.specs.declared.TheConstants.{MOST_ITEMS}
 use Rattle.vms_spec.specs.declared.Count.{Count}
 use Rattle.vms_spec.specs.declared.Count.TheVariants.{One}
 use Rattle.vms_spec.specs.Sets.{Field, Device, Set}
@@ -38,10 +39,10 @@ AreOf set (d ∷ devices) (image ∷ images) = IsOf set d image × AreOf set dev
 -- so many elements of a field from a cell on are among the numbers; one is one
 pub record IsRun (set : Set) (f : Field) (first count : ℕ) (numbers : List ℤ) : Type 0 where
   pub reaches : uses_below (length set.structs) f.item ≡ true
-  pub small : size_in set f.item ≤ 16384
+  pub small : size_in set f.item ≤ MOST_ITEMS
   pub room : first + count * size_in set f.item ≤ length numbers
   pub single : f.count ≡ One → count ≡ 1
-  pub few : length numbers ≤ 16384
+  pub few : length numbers ≤ MOST_ITEMS
 
 -- ---- how long lines grow
 

@@ -18,7 +18,7 @@ use std::alloc::Global;
 use vms_desc::{DescSet, Part};
 use vms_image::Image;
 use vms_spec::ValuesReason;
-use vms_walk::Spot;
+use vms_walk::PartAt;
 
 /// What is left of a text, and the first bad line of the second pass so far.
 #[derive(Clone, Copy, Drop)]
@@ -123,7 +123,7 @@ fn read_device<'a>(
 {
     let line = taken.lines.line;
     read_section(set.device(device), &mut taken.lines)?;
-    let own = Spot {
+    let own = PartAt {
         part: Part::Device(device),
         version: taken.image.version(),
         base: 0,

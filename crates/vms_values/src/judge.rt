@@ -15,7 +15,7 @@ ghost use Rattle.vms_values.specs.Judging.{bad_of, read_of, sub_judged, sub_defa
 use vms_desc::{Cells, Desc, DescSet, Part};
 use vms_image::Image;
 use vms_spec::ValuesReason;
-use vms_walk::{Spot, Step, Walker, walk};
+use vms_walk::{PartAt, WalkStep, Walker, walk};
 use vms_write::is_bare;
 
 /// A line that is refused, and why.
@@ -40,7 +40,7 @@ pub(crate) fn judge_device(
         bad_of result
         ≡ device_judged (described set.now) d (read_of (state_of image.now) line sub_lines.now) }
 {
-    let own = Spot {
+    let own = PartAt {
         part: Part::Device(device),
         version: image.version(),
         base: 0,
@@ -92,7 +92,7 @@ fn holds_sub(set: &DescSet, device: u32, sub: u32, image: &Image, came: Option<u
     match came {
         Some(version) => {
             let part = Part::Sub(device, sub);
-            let spot = Spot {
+            let spot = PartAt {
                 part,
                 version,
                 base: set.first_cell(part),
@@ -114,7 +114,7 @@ fn has_defaults(set: &DescSet, device: u32, sub: u32, image: &Image) -> bool
 
 // Whether the validations hold of a part and of the structures that are sent in it. Where no structure
 // has any, the part's own are asked, and its cells aren't walked over.
-fn hold_rules(set: &DescSet, spot: Spot, image: &Image) -> bool
+fn hold_rules(set: &DescSet, spot: PartAt, image: &Image) -> bool
     requires spot { HasSpot (described set.now) spot image.now.numbers }
     ensures { let slots = spot_slots (described set.now) spot image.now.numbers in
         result ≡ rules_are_true slots }
@@ -135,7 +135,7 @@ fn are_unruled(structs: &[Desc]) -> bool
         .all(|desc| desc.validate.as_slice().is_empty())
 }
 
-fn walk_rules(set: &DescSet, spot: Spot, image: &Image) -> bool
+fn walk_rules(set: &DescSet, spot: PartAt, image: &Image) -> bool
     requires spot { HasSpot (described set.now) spot image.now.numbers }
     ensures { let slots = spot_slots (described set.now) spot image.now.numbers in
         result ≡ rules_are_true slots }
@@ -192,10 +192,10 @@ impl Walker for Rules<'_> {
 
     ghost stops_before = { λ xs ys a b fault h. (h.0, fail_before xs ys h.1) };
 
-    fn step(&mut self, step: Step) -> Result<(), Broken> {
+    fn step(&mut self, step: WalkStep) -> Result<(), Broken> {
         match step {
-            Step::Rule { holds } => { if holds { Ok(()) } else { Err(Broken) } }
-            Step::Number { .. } | Step::Constant { .. } | Step::Filler { .. } => Ok(()),
+            WalkStep::Rule { holds } => { if holds { Ok(()) } else { Err(Broken) } }
+            WalkStep::Number { .. } | WalkStep::Constant { .. } | WalkStep::Filler { .. } => Ok(()),
         }
     }
 }

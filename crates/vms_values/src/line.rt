@@ -17,12 +17,13 @@ pub(crate) struct Line {
 
 impl Model for Line {
     ghost use Rattle.std.specs.Prelude.{◌≤◌, ℕ, List, take};
+    ghost use Rattle.vms_values.specs.declared.line.TheConstants.{LONGEST};
 
     ghost Value = { List ℕ };
 
     ghost view = { λ l. take l.len l.bytes };
 
-    ghost invariant = { λ l. l.len ≤ 8320 };
+    ghost invariant = { λ l. l.len ≤ LONGEST };
 }
 
 impl Line {
@@ -53,7 +54,7 @@ impl Line {
 
     /// Appends a piece.
     pub(crate) fn push(&mut self, piece: &[u8])
-        requires { length self.old + length piece.now ≤ 8320 }
+        requires { length self.old + length piece.now ≤ LONGEST }
         ensures { self.new ≡ self.old ++ piece.now }
     {
         let end = self.len + piece.len();
@@ -64,7 +65,7 @@ impl Line {
 
     /// Appends the number of an element in brackets.
     pub(crate) fn push_index(&mut self, index: u32)
-        requires { length self.old + 42 ≤ 8320 }
+        requires { length self.old + 42 ≤ LONGEST }
         ensures text { self.new ≡ self.old ++ codes "[" ++ decimal index ++ codes "]" }
         ensures long { length self.new ≤ length self.old + 42 }
     {

@@ -1,4 +1,5 @@
 // Prints the path of a cell.
+ghost use Rattle.vms_spec.specs.declared.TheConstants.{MOST_ITEMS};
 ghost use Rattle.std.specs.Prelude.{◌≡◌, ◌<◌, ◌≤◌, ◌*◌, ◌++◌, [], true, length, get_or};
 ghost use Rattle.vms_io.specs.Causes.{HasCause};
 ghost use Rattle.vms_spec.specs.Layout.{capacity_of, device_cells};
@@ -85,7 +86,7 @@ fn print_name<K: Sink>(
 ) -> Result<(), Failed>
     requires part { HasPart (described set.now) part }
     requires small { let d = desc_at (described set.now) part in
-        own_cell_count (described set.now) d ≤ 16384 }
+        own_cell_count (described set.now) d ≤ MOST_ITEMS }
     requires cell { let d = desc_at (described set.now) part in
         cell < own_cell_count (described set.now) d }
     ensures written { let names = part_names (described set.now) part in
@@ -116,7 +117,7 @@ fn print_element<K: Sink>(
     sink: &mut K,
 ) -> Result<(), Failed>
     requires reaches { uses_below (length (described set.now).structs) field.now.item ≡ true }
-    requires small { size_in (described set.now) field.now.item ≤ 16384 }
+    requires small { size_in (described set.now) field.now.item ≤ MOST_ITEMS }
     requires cell { let size = size_in (described set.now) field.now.item in
         cell < capacity_of field.now.count * size }
     ensures written { let name = field_name (described set.now) (field_of field.now) cell in
@@ -153,7 +154,7 @@ fn print_inside<K: Sink>(
     sink: &mut K,
 ) -> Result<(), Failed>
     requires reaches { uses_below (length (described set.now).structs) item.now ≡ true }
-    requires small { size_in (described set.now) item.now ≤ 16384 }
+    requires small { size_in (described set.now) item.now ≤ MOST_ITEMS }
     requires cell { cell < size_in (described set.now) item.now }
     ensures written { let names = item_names (described set.now) item.now in
         let text = path_text path.now ++ get_or names cell [] in

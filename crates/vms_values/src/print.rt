@@ -16,7 +16,7 @@ use itoa::Buffer;
 use vms_desc::{DescSet, Device, Part, Parts};
 use vms_image::Image;
 use vms_io::{Failed, Sink, WriteFault};
-use vms_walk::Spot;
+use vms_walk::PartAt;
 
 /// Appends the values text of these images, one for each device of the set, with a line for the machine of
 /// this number of the set if one is named. The images are to be normal. After an error some first bytes of
@@ -106,7 +106,7 @@ fn print_device<K: Sink>(shown: Shown, device: u32, sink: &mut K) -> Result<(), 
     let version = shown.image.version();
     print_section(shown.set.device(device), version, sink)?;
     let part = Part::Device(device);
-    let own = Spot {
+    let own = PartAt {
         part,
         version,
         base: 0,
@@ -167,7 +167,7 @@ fn print_sub<K: Sink>(shown: Shown, device: u32, sub: u32, sink: &mut K) -> Resu
     let part = Part::Sub(device, sub);
     let desc = shown.set.desc(part);
     print_sub_line(desc.name.as_bytes(), shown.image.came(sub), sink)?;
-    let spot = Spot {
+    let spot = PartAt {
         part,
         version: desc.version,
         base: shown.set.first_cell(part),

@@ -1,4 +1,6 @@
 // Prints the lines of a description: arrays to their counts, and structures.
+ghost use Rattle.vms_values.specs.declared.line.TheConstants.{LONGEST};
+ghost use Rattle.vms_spec.specs.declared.TheConstants.{MOST_ITEMS};
 ghost use Rattle.std.specs.Prelude.{◌≡◌, ◌+◌, ◌*◌, ◌<◌, ◌≤◌, ◌++◌, [], true, codes, length};
 ghost use Rattle.std.specs.Fmt.{signed_decimal};
 ghost use Rattle.vms_io.specs.Causes.{HasCause};
@@ -18,7 +20,7 @@ use vms_desc::{Count, DescSet, Field, Part};
 use vms_image::Image;
 use vms_io::{Failed, Sink, write_all_of};
 use vms_kinds::Item;
-use vms_walk::Spot;
+use vms_walk::PartAt;
 
 /// An image of a device of a set.
 #[derive(Clone, Copy)]
@@ -35,7 +37,7 @@ struct Run {
 }
 
 /// Appends the lines of a part.
-pub(crate) fn print_lines<K: Sink>(shown: Shown, spot: Spot, sink: &mut K) -> Result<(), Failed>
+pub(crate) fn print_lines<K: Sink>(shown: Shown, spot: PartAt, sink: &mut K) -> Result<(), Failed>
     requires spot { HasSpot (described shown.set.now) spot shown.image.now.numbers }
     ensures written { let set = described shown.entry.set.now in
         let d = desc_at set spot.part in
@@ -52,12 +54,12 @@ pub(crate) fn print_lines<K: Sink>(shown: Shown, spot: Spot, sink: &mut K) -> Re
 #[inline(always)]
 fn print_part<K: Sink>(
     shown: Shown,
-    spot: Spot,
+    spot: PartAt,
     line: &mut Line,
     sink: &mut K,
 ) -> Result<(), Failed>
     requires spot { HasSpot (described shown.set.now) spot shown.image.now.numbers }
-    requires short { length line.old + below_part (described shown.set.now) spot.part ≤ 8320 }
+    requires short { length line.old + below_part (described shown.set.now) spot.part ≤ LONGEST }
     ensures written { let set = described shown.entry.set.now in
         let d = desc_at set spot.part in
         let n = shown.entry.image.now.numbers in
@@ -96,7 +98,7 @@ fn print_field<K: Sink>(
     requires fits { let set = described shown.set.now in
         IsRun set (field_of field.now) run.first run.count shown.image.now.numbers }
     requires name { length (field_of field.now).name ≤ 32 }
-    requires short { length line.old + 128 + below (field_of field.now).item ≤ 8320 }
+    requires short { length line.old + 128 + below (field_of field.now).item ≤ LONGEST }
     ensures written { let set = described shown.entry.set.now in
         let n = shown.entry.image.now.numbers in
         let f = field_of field.now in
@@ -124,11 +126,11 @@ fn print_elements<K: Sink>(
     sink: &mut K,
 ) -> Result<(), Failed>
     requires reaches { uses_below (length (described shown.set.now).structs) item.now ≡ true }
-    requires small { size_in (described shown.set.now) item.now ≤ 16384 }
+    requires small { size_in (described shown.set.now) item.now ≤ MOST_ITEMS }
     requires room { let size = size_in (described shown.set.now) item.now in
         run.first + run.count * size ≤ length shown.image.now.numbers }
-    requires few { length shown.image.now.numbers ≤ 16384 }
-    requires short { length line.old + 96 + below item.now ≤ 8320 }
+    requires few { length shown.image.now.numbers ≤ MOST_ITEMS }
+    requires short { length line.old + 96 + below item.now ≤ LONGEST }
     ensures written { let ps = printers (described shown.entry.set.now) in
         let n = shown.entry.image.now.numbers in
         let size = size_in (described shown.entry.set.now) item.now in
@@ -163,8 +165,8 @@ fn print_item<K: Sink>(
     requires reaches { uses_below (length (described shown.set.now).structs) item.now ≡ true }
     requires room { let size = size_in (described shown.set.now) item.now in
         cell + size ≤ length shown.image.now.numbers }
-    requires few { length shown.image.now.numbers ≤ 16384 }
-    requires short { length line.old + 54 + below item.now ≤ 8320 }
+    requires few { length shown.image.now.numbers ≤ MOST_ITEMS }
+    requires short { length line.old + 54 + below item.now ≤ LONGEST }
     ensures written { let ps = printers (described shown.entry.set.now) in
         let n = shown.entry.image.now.numbers in
         let text = item_lines ps item.now line.old n cell in
@@ -194,8 +196,8 @@ fn print_struct<K: Sink>(
     requires reaches { number < length (described shown.set.now).structs }
     requires room { let size = size_in (described shown.set.now) (items.Struct number) in
         cell + size ≤ length shown.image.now.numbers }
-    requires few { length shown.image.now.numbers ≤ 16384 }
-    requires short { length line.old + 54 + 128 * (number + 1) ≤ 8320 }
+    requires few { length shown.image.now.numbers ≤ MOST_ITEMS }
+    requires short { length line.old + 54 + 128 * (number + 1) ≤ LONGEST }
     ensures written { let ps = printers (described shown.entry.set.now) in
         let n = shown.entry.image.now.numbers in
         let text = item_lines ps (items.Struct number) line.old n cell in
@@ -205,7 +207,7 @@ fn print_struct<K: Sink>(
     ensures promise { K.promise sink.new ≡ K.promise sink.old }
 {
     let part = Part::Struct(number);
-    let spot = Spot {
+    let spot = PartAt {
         part,
         version: shown.set.desc(part).version,
         base: cell,
@@ -216,7 +218,7 @@ fn print_struct<K: Sink>(
 
 // The line of a cell, of which the path is there.
 fn print_number<K: Sink>(number: i128, line: &mut Line, sink: &mut K) -> Result<(), Failed>
-    requires short { length line.old + 54 ≤ 8320 }
+    requires short { length line.old + 54 ≤ LONGEST }
     ensures written { let tail = codes " = " ++ (signed_decimal number ++ line_end) in
         Writes (K.written sink.old) (K.written sink.new) (line.old ++ tail) result }
     ensures line { Stays line.old line.new }

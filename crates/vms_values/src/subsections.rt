@@ -26,7 +26,7 @@ use crate::text::is_joined;
 use itoa::Buffer;
 use vms_desc::{DescSet, Part, Sub};
 use vms_spec::ValuesReason;
-use vms_walk::Spot;
+use vms_walk::PartAt;
 use vms_words::next_line;
 
 /// Reads the subsections of a device, and puts the numbers of their lines behind one another.
@@ -75,7 +75,7 @@ fn read_sub(set: &DescSet, device: u32, sub: u32, taken: &mut Taken) -> Result<(
     let came = read_sub_line(described, &mut taken.lines)?;
     taken.image.mark(sub, came);
     let part = Part::Sub(device, sub);
-    let spot = Spot {
+    let spot = PartAt {
         part,
         version: described.desc.version,
         base: set.first_cell(part),

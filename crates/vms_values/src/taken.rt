@@ -1,4 +1,6 @@
 // Reads the lines of a description: arrays to their counts, and structures.
+ghost use Rattle.vms_values.specs.declared.line.TheConstants.{LONGEST};
+ghost use Rattle.vms_spec.specs.declared.TheConstants.{MOST_ITEMS};
 ghost use Rattle.std.specs.Prelude.{[], ◌≡◌, ◌+◌, ◌*◌, ◌<◌, ◌≤◌, ◌&&◌, true, length, get_or, slice_set};
 ghost use Rattle.vms_kinds.specs.Codes.{InRange};
 ghost use Rattle.vms_kinds.specs.declared.Kind.TheVariants.{U8};
@@ -28,7 +30,7 @@ use vms_desc::{Count, DescSet, Field, Part};
 use vms_image::Image;
 use vms_kinds::{Item, Kind};
 use vms_spec::ValuesReason;
-use vms_walk::Spot;
+use vms_walk::PartAt;
 use vms_words::next_line;
 
 /// What is read of a device so far, and what is left of the text.
@@ -50,7 +52,7 @@ struct Run<'a> {
 }
 
 /// Reads the lines of a part.
-pub(crate) fn read_part(set: &DescSet, spot: Spot, taken: &mut Taken) -> Result<(), LineFault>
+pub(crate) fn read_part(set: &DescSet, spot: PartAt, taken: &mut Taken) -> Result<(), LineFault>
     requires spot { HasSpot (described set.now) spot taken.old.image.numbers }
     requires kinds { let cells = part_cells (described set.now) spot.part in
         AreKinds taken.old.image.kinds spot.base cells }
@@ -67,7 +69,7 @@ pub(crate) fn read_part(set: &DescSet, spot: Spot, taken: &mut Taken) -> Result<
 #[cycle(read)]
 fn read_under(
     set: &DescSet,
-    spot: Spot,
+    spot: PartAt,
     path: &mut Line,
     present: bool,
     taken: &mut Taken,
@@ -75,7 +77,7 @@ fn read_under(
     requires spot { HasSpot (described set.now) spot taken.old.image.numbers }
     requires kinds { let cells = part_cells (described set.now) spot.part in
         AreKinds taken.old.image.kinds spot.base cells }
-    requires short { length path.old + below_part (described set.now) spot.part ≤ 8320 }
+    requires short { length path.old + below_part (described set.now) spot.part ≤ LONGEST }
     ensures read { let set = described set.now in
         let d = desc_at set spot.part in
         let whole = read_desc (readers set) d spot.version path.old present spot.base in
@@ -101,7 +103,7 @@ fn read_under(
 }
 
 // Whether a field is there, of a part that is present or not.
-fn is_present(set: &DescSet, spot: Spot, field: u32, present: bool, image: &Image) -> bool
+fn is_present(set: &DescSet, spot: PartAt, field: u32, present: bool, image: &Image) -> bool
     requires spot { HasSpot (described set.now) spot image.now.numbers }
     requires field { field < length (desc_at (described set.now) spot.part).fields }
     ensures { let set = described set.now in
@@ -121,7 +123,7 @@ fn read_field(set: &DescSet, run: Run, path: &mut Line, taken: &mut Taken) -> Re
         ElementKinds structs run.field.now.item taken.old.image.kinds run.first run.count }
     requires name { length (field_of run.field.now).name ≤ 32 }
     requires short { let item = run.field.now.item in
-        length path.old + 128 + below item ≤ 8320 }
+        length path.old + 128 + below item ≤ LONGEST }
     ensures read { let f = field_of run.entry.field.now in
         let set = described set.now in
         let caps = capacities_of run.entry.most in
@@ -147,13 +149,13 @@ fn read_elements(
     taken: &mut Taken,
 ) -> Result<(), LineFault>
     requires reaches { uses_below (length (described set.now).structs) run.field.now.item ≡ true }
-    requires small { size_in (described set.now) run.field.now.item ≤ 16384 }
+    requires small { size_in (described set.now) run.field.now.item ≤ MOST_ITEMS }
     requires room { let size = size_in (described set.now) run.field.now.item in
         run.first + run.count * size ≤ length taken.old.image.numbers }
-    requires few { length taken.old.image.numbers ≤ 16384 }
+    requires few { length taken.old.image.numbers ≤ MOST_ITEMS }
     requires kinds { let structs = cells_in (table (described set.now)) in
         ElementKinds structs run.field.now.item taken.old.image.kinds run.first run.count }
-    requires short { length path.old + 96 + below run.field.now.item ≤ 8320 }
+    requires short { length path.old + 96 + below run.field.now.item ≤ LONGEST }
     ensures read { let f = field_of run.entry.field.now in
         let set = described set.now in
         let size = size_in set f.item in
@@ -182,10 +184,10 @@ fn read_item(set: &DescSet, run: Run, path: &mut Line, taken: &mut Taken) -> Res
     requires reaches { uses_below (length (described set.now).structs) run.field.now.item ≡ true }
     requires room { let size = size_in (described set.now) run.field.now.item in
         run.first + size ≤ length taken.old.image.numbers }
-    requires few { length taken.old.image.numbers ≤ 16384 }
+    requires few { length taken.old.image.numbers ≤ MOST_ITEMS }
     requires kinds { let structs = cells_in (table (described set.now)) in
         AreKinds taken.old.image.kinds run.first (element_cells structs run.field.now.item) }
-    requires short { length path.old + 54 + below run.field.now.item ≤ 8320 }
+    requires short { length path.old + 54 + below run.field.now.item ≤ LONGEST }
     ensures read { let f = field_of run.entry.field.now in
         let set = described set.now in
         let caps = capacities_of run.entry.most in
@@ -201,7 +203,7 @@ fn read_item(set: &DescSet, run: Run, path: &mut Line, taken: &mut Taken) -> Res
         Item::Unused { .. } => Ok(()),
         Item::Struct(number) => {
             let part = Part::Struct(number);
-            let spot = Spot {
+            let spot = PartAt {
                 part,
                 version: set.desc(part).version,
                 base: run.first,

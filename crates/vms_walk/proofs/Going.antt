@@ -2,19 +2,20 @@
 use Rattle.std.proofs.Common.{◌≡◌, ℕ, suc, ◌+◌, ◌*◌, ◌<◌, ◌≤◌, List, [], ◌∷◌, ◌++◌, length, get_or, take, ℤ, refl, sym, ap, ◌∙◌, subst, arith, append_assoc, append-nil, pos, Option, Bool, true}
 use Rattle.std.proofs.lemmas.List.{take_all}
 use Rattle.vms_kinds.specs.declared.Item.{Item}
+use Rattle.vms_spec.specs.declared.TheConstants.{MOST_ITEMS}
 use Rattle.vms_spec.specs.Sets.{Field, Set}
 use Rattle.vms_spec.specs.Layout.{Slot, Rule, item_slots, slots_from, field_slots, all_hold, capacity_of, counted}
 use Rattle.vms_spec.specs.Places.{own_cell_count}
-use Rattle.vms_laws.specs.Good.{IsGood}
-use Rattle.vms_laws.proofs.Places.{SameBelow}
-use Rattle.vms_laws.proofs.AboveLaws.{item_above, field_above, meanings_above}
+use Rattle.vms_spec.specs.Good.{IsGood}
+use Rattle.vms_bodies.proofs.Places.{SameBelow}
+use Rattle.vms_bodies.proofs.AboveLaws.{item_above, field_above, meanings_above}
 use Rattle.vms_parts.specs.Capacities.{least_of}
 use Rattle.vms_desc.specs.Asks.{field_at}
 use Rattle.vms_desc.specs.Formed.{is_well_formed}
 use Rattle.vms_desc.specs.Parts.{HasPart, desc_at}
-use Rattle.vms_walk.specs.declared.step.Step.{Step}
-use Rattle.vms_walk.specs.declared.step.Step.TheVariants as steps
-use Rattle.vms_walk.specs.declared.fields.Spot.{Spot}
+use Rattle.vms_walk.specs.declared.step.WalkStep.{WalkStep}
+use Rattle.vms_walk.specs.declared.step.WalkStep.TheVariants as steps
+use Rattle.vms_walk.specs.declared.fields.PartAt.{PartAt}
 use Rattle.vms_walk.specs.Inside.{Keeps}
 use Rattle.vms_walk.specs.Steps.{steps_of, table, spot_numbers, spot_slots, slots_at, size_in, capacities_of, elements_slots, present_of, cell_of, HasSpot, MayCome}
 use Rattle.vms_walk.proofs.Walking.{steps_append, part_next}
@@ -23,21 +24,21 @@ use Rattle.vms_walk.proofs.Parts.{times_more, times_split, fields_split, fields_
 use Rattle.vms_walk.proofs.Local.{keeps_below, keeps_first, items_local, fields_local, present_local, part_sound, set_settled}
 
 -- the laws of a walker
-pub record Laws {S F : Type 0} (N : S → List ℤ) (goes : List Step → S → S → Type 0) (stops : List Step → S → F → S → Type 0) : Type 0 where
-  pub more : (xs ys : List Step) (a b c : S) → goes xs a b → goes ys b c → goes (xs ++ ys) a c
-  pub after : (xs ys : List Step) (a b c : S) (f : F) → goes xs a b → stops ys b f c → stops (xs ++ ys) a f c
-  pub before : (xs ys : List Step) (a b : S) (f : F) → stops xs a f b → stops (xs ++ ys) a f b
-  pub keeps : (xs : List Step) (a b : S) → goes xs a b → Keeps xs (N a) (N b)
-  pub stopped : (xs : List Step) (a b : S) (f : F) → stops xs a f b → Keeps xs (N a) (N b)
+pub record Laws {S F : Type 0} (N : S → List ℤ) (goes : List WalkStep → S → S → Type 0) (stops : List WalkStep → S → F → S → Type 0) : Type 0 where
+  pub more : (xs ys : List WalkStep) (a b c : S) → goes xs a b → goes ys b c → goes (xs ++ ys) a c
+  pub after : (xs ys : List WalkStep) (a b c : S) (f : F) → goes xs a b → stops ys b f c → stops (xs ++ ys) a f c
+  pub before : (xs ys : List WalkStep) (a b : S) (f : F) → stops xs a f b → stops (xs ++ ys) a f b
+  pub keeps : (xs : List WalkStep) (a b : S) → goes xs a b → Keeps xs (N a) (N b)
+  pub stopped : (xs : List WalkStep) (a b : S) (f : F) → stops xs a f b → Keeps xs (N a) (N b)
 
-module _ {S F : Type 0} (N : S → List ℤ) (goes : List Step → S → S → Type 0) (stops : List Step → S → F → S → Type 0) (may : S → Step → Type 0) (laws : Laws N goes stops) where
+module _ {S F : Type 0} (N : S → List ℤ) (goes : List WalkStep → S → S → Type 0) (stops : List WalkStep → S → F → S → Type 0) (may : S → WalkStep → Type 0) (laws : Laws N goes stops) where
   go_on : (xs ys whole : List Slot) (a b c : S) → whole ≡ xs ++ ys → goes (steps_of xs) a b → goes (steps_of ys) b c → goes (steps_of whole) a c
-  go_on xs ys whole a b c e h k = subst (λ (l : List Step). goes l a c) (sym (ap steps_of e ∙ steps_append xs ys)) (laws.more (steps_of xs) (steps_of ys) a b c h k)
+  go_on xs ys whole a b c e h k = subst (λ (l : List WalkStep). goes l a c) (sym (ap steps_of e ∙ steps_append xs ys)) (laws.more (steps_of xs) (steps_of ys) a b c h k)
 
   stop_at : (xs ys rest whole : List Slot) (a b c : S) (f : F) → whole ≡ xs ++ (ys ++ rest) → goes (steps_of xs) a b → stops (steps_of ys) b f c → stops (steps_of whole) a f c
   stop_at xs ys rest whole a b c f e h k =
-      let parts = ap steps_of e ∙ steps_append xs (ys ++ rest) ∙ ap (λ (l : List Step). steps_of xs ++ l) (steps_append ys rest) in
-      subst (λ (l : List Step). stops l a f c) (sym parts) (laws.after (steps_of xs) (steps_of ys ++ steps_of rest) a b c f h (laws.before (steps_of ys) (steps_of rest) b c f k))
+      let parts = ap steps_of e ∙ steps_append xs (ys ++ rest) ∙ ap (λ (l : List WalkStep). steps_of xs ++ l) (steps_append ys rest) in
+      subst (λ (l : List WalkStep). stops l a f c) (sym parts) (laws.after (steps_of xs) (steps_of ys ++ steps_of rest) a b c f h (laws.before (steps_of ys) (steps_of rest) b c f k))
 
   module _ (set : Set) (good : IsGood set) where
     -- ---- elements
@@ -78,7 +79,7 @@ module _ {S F : Type 0} (N : S → List ℤ) (goes : List Step → S → S → T
 
     -- ---- fields
 
-    module _ (spot : Spot) (has : HasPart set spot.part) (i cell : ℕ) (here : cell ≡ cell_of set spot i) where
+    module _ (spot : PartAt) (has : HasPart set spot.part) (i cell : ℕ) (here : cell ≡ cell_of set spot i) where
       -- the slots of a field are those of its elements, so many as there are by the numbers below it
       pub field_slots_are : (well : is_well_formed set ≡ true) (n m : List ℤ) → length m ≡ length n → HasSpot set spot n → (count : ℕ) (item : Item) (most : Option ℕ) → i < length (desc_at set spot.part).fields
           → item ≡ (field_at set spot.part i).item → count ≡ present_of (field_at set spot.part i) spot.version (spot_numbers set spot n) → most ≡ least_of (counted i (desc_at set spot.part).fields)
@@ -86,7 +87,7 @@ module _ {S F : Type 0} (N : S → List ℤ) (goes : List Step → S → S → T
           → steps_of (slots_at set spot m i cell) ≡ steps_of (elements_slots set item most m count cell)
       field_slots_are well n m long h count item most lt is there least room s =
           let same = present_local (table set) (set_settled set good) (desc_at set spot.part) (part_sound set good spot.part has) spot.version spot.base i n m lt (subst (λ (x : ℕ). SameBelow x n m) here s) in
-          let few : HasSpot set spot m = record { part = has; few = subst (λ (x : ℕ). x ≤ 16384) (sym long) h.few; room = subst (λ (x : ℕ). spot.base + own_cell_count set (desc_at set spot.part) ≤ x) (sym long) h.room } in
+          let few : HasSpot set spot m = record { part = has; few = subst (λ (x : ℕ). x ≤ MOST_ITEMS) (sym long) h.few; room = subst (λ (x : ℕ). spot.base + own_cell_count set (desc_at set spot.part) ≤ x) (sym long) h.room } in
           (field_needs set well spot m few i cell count item most lt is (there ∙ sym same) least (subst (λ (x : ℕ). cell + capacity_of (field_at set spot.part i).count * size_in set (field_at set spot.part i).item ≤ x) (sym long) room)).steps
 
       module _ (a b : S) (le : i ≤ length (desc_at set spot.part).fields)

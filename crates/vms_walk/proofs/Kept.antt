@@ -3,11 +3,11 @@ use Rattle.std.proofs.Common.{◌≡◌, ℕ, List, [], ◌∷◌, ◌++◌, len
 use Rattle.std.proofs.lemmas.List.{get_or-set_other}
 use Rattle.std.proofs.lemmas.Bool.{eq-eqb}
 use Rattle.vms_kinds.specs.declared.Kind.{Kind}
-use Rattle.vms_walk.specs.declared.step.Step.{Step}
-use Rattle.vms_walk.specs.declared.step.Step.TheVariants.{Number, Constant, Filler, Rule}
+use Rattle.vms_walk.specs.declared.step.WalkStep.{WalkStep}
+use Rattle.vms_walk.specs.declared.step.WalkStep.TheVariants.{Number, Constant, Filler, Rule}
 use Rattle.vms_walk.specs.Inside.{has_step, Keeps}
 
-pub has_append : (xs ys : List Step) (c : ℕ) → has_step (xs ++ ys) c ≡ (has_step xs c || has_step ys c)
+pub has_append : (xs ys : List WalkStep) (c : ℕ) → has_step (xs ++ ys) c ≡ (has_step xs c || has_step ys c)
 has_append [] ys c = refl
 has_append (Number k kind most ∷ xs) ys c = ap (λ (b : Bool). (k == c) || b) (has_append xs ys c) ∙ or_assoc (k == c) (has_step xs c) (has_step ys c)
   where
@@ -23,18 +23,18 @@ neither true b e = cc
 neither false b e = (refl, e)
 
 -- no number is put
-pub keeps_same : (xs : List Step) (n m : List ℤ) → m ≡ n → Keeps xs n m
+pub keeps_same : (xs : List WalkStep) (n m : List ℤ) → m ≡ n → Keeps xs n m
 keeps_same xs n m e = record { long = ap length e; same = λ c h. ap (λ (l : List ℤ). get_or l c (pos 0)) e }
 
 -- steps and further ones
-pub keeps_more : (xs ys : List Step) (n m k : List ℤ) → Keeps xs n m → Keeps ys m k → Keeps (xs ++ ys) n k
+pub keeps_more : (xs ys : List WalkStep) (n m k : List ℤ) → Keeps xs n m → Keeps ys m k → Keeps (xs ++ ys) n k
 keeps_more xs ys n m k p q = record {
   long = q.long ∙ p.long;
   same = λ c e. let none = neither (has_step xs c) (has_step ys c) (sym (has_append xs ys c) ∙ e) in q.same c none.1 ∙ p.same c none.0;
 }
 
 -- some first of the steps
-pub keeps_front : (xs ys : List Step) (n m : List ℤ) → Keeps xs n m → Keeps (xs ++ ys) n m
+pub keeps_front : (xs ys : List WalkStep) (n m : List ℤ) → Keeps xs n m → Keeps (xs ++ ys) n m
 keeps_front xs ys n m p = record {
   long = p.long;
   same = λ c e. let none = neither (has_step xs c) (has_step ys c) (sym (has_append xs ys c) ∙ e) in p.same c none.0;

@@ -1,27 +1,27 @@
 -- The slots up to a place depend on the cells below it alone.
 use Rattle.std.proofs.Common.{◌≡◌, ℕ, zero, suc, ◌+◌, ◌*◌, ◌<◌, ◌≤◌, List, [], ◌∷◌, ◌++◌, length, get_or, take, drop, ℤ, refl, sym, ap, ◌∙◌, subst, arith, Bool, true, if◌then◌else◌, ◌||◌, ◌==◌, Some}
+use Rattle.std.specs.List.{slice_get}
 use Rattle.std.proofs.lemmas.List.{drop_more}
 use Rattle.vms_kinds.specs.declared.Item.{Item}
 use Rattle.vms_spec.specs.declared.Part.{Part}
 use Rattle.vms_spec.specs.declared.Part.TheVariants as parts
 use Rattle.vms_spec.specs.Sets.{Field, Desc, Set}
 use Rattle.vms_spec.specs.Tests.{is_there}
-use Rattle.vms_spec.specs.Lists.{at}
 use Rattle.vms_spec.specs.Images.{has_cell}
 use Rattle.vms_spec.specs.Layout.{Slot, Number, Constant, Filler, Rule, Meaning, item_slots, item_size, times, field_slots, slots_from, field_cells, place_of, numbers_of, no_field, no_parent, elements_of}
 use Rattle.vms_spec.specs.WellFormed.{first_fault}
-use Rattle.vms_laws.specs.Sound.{IsSound, IsSoundField, AreSoundFields, IsEarlier}
-use Rattle.vms_laws.specs.Good.{IsGood}
+use Rattle.vms_spec.specs.Sound.{IsSound, IsSoundField, AreSoundFields, IsEarlier}
+use Rattle.vms_spec.specs.Good.{IsGood}
 use Rattle.vms_spec.specs.Heads.{FitsHeads}
-use Rattle.vms_laws.proofs.Places.{SameBelow, same_less, place_next, own_same, there_same, elements_same}
-use Rattle.vms_laws.proofs.AboveLaws.{IsAbove}
-use Rattle.vms_laws.proofs.SettledLaws.{SameIn, MeanSettled, item_settled, field_settled, meanings_settled}
-use Rattle.vms_laws.proofs.WellFormedLaws.{well_good}
+use Rattle.vms_bodies.proofs.Places.{SameBelow, same_less, place_next, own_same, there_same, elements_same}
+use Rattle.vms_bodies.proofs.AboveLaws.{IsAbove}
+use Rattle.vms_bodies.proofs.SettledLaws.{SameIn, MeanSettled, item_settled, field_settled, meanings_settled}
+use Rattle.vms_spec.proofs.WellFormedLaws.{well_good}
 use Rattle.vms_desc.specs.Formed.{is_well_formed}
 use Rattle.vms_desc.specs.Described.{device_at}
 use Rattle.vms_desc.specs.Parts.{HasPart, desc_at, sub_at}
 use Rattle.vms_desc.proofs.Bounds.{none_is}
-use Rattle.vms_walk.specs.declared.step.Step.{Step}
+use Rattle.vms_walk.specs.declared.step.WalkStep.{WalkStep}
 use Rattle.vms_walk.specs.Inside.{has_step, Keeps}
 use Rattle.vms_walk.specs.Steps.{table, cells_in, steps_of, present_of}
 use Rattle.vms_walk.proofs.Kept.{has_append, neither}
@@ -40,9 +40,9 @@ pub keeps_below : (cell : ℕ) (xs : List Slot) (n m : List ℤ) → IsAbove cel
 keeps_below cell xs n m above k = record { same = λ c lt. k.same c (has_step_of xs c ∙ above.below c lt) }
 
 -- the same, after some first of the steps
-pub keeps_first : (cell : ℕ) (xs : List Slot) (ys zs : List Step) (n m : List ℤ) → steps_of xs ≡ ys ++ zs → IsAbove cell xs → Keeps ys n m → SameBelow cell n m
+pub keeps_first : (cell : ℕ) (xs : List Slot) (ys zs : List WalkStep) (n m : List ℤ) → steps_of xs ≡ ys ++ zs → IsAbove cell xs → Keeps ys n m → SameBelow cell n m
 keeps_first cell xs ys zs n m e above k = record {
-  same = λ c lt. k.same c (neither (has_step ys c) (has_step zs c) (sym (has_append ys zs c) ∙ ap (λ (l : List Step). has_step l c) (sym e) ∙ has_step_of xs c ∙ above.below c lt)).0;
+  same = λ c lt. k.same c (neither (has_step ys c) (has_step zs c) (sym (has_append ys zs c) ∙ ap (λ (l : List WalkStep). has_step l c) (sym e) ∙ has_step_of xs c ∙ above.below c lt)).0;
 }
 
 pub in_below : (cell : ℕ) (n m : List ℤ) → SameBelow cell n m → SameIn 0 cell n m
@@ -117,7 +117,7 @@ module _ (ms : List Meaning) (settled : MeanSettled ms) (d : Desc) (sound : IsSo
 
 -- ---- sound parts
 
-at_get : {A : Type 0} (xs : List A) (k : ℕ) (x : A) → k < length xs → at xs k ≡ Some (get_or xs k x)
+at_get : {A : Type 0} (xs : List A) (k : ℕ) (x : A) → k < length xs → slice_get xs k ≡ Some (get_or xs k x)
 at_get [] k x lt = absurd (omega arith)
 at_get (y ∷ ys) zero x lt = refl
 at_get (y ∷ ys) (suc k) x lt = at_get ys k x (omega arith)

@@ -2,6 +2,7 @@
 use Rattle.std.proofs.Common.{◌≡◌, ℕ, suc, ◌+◌, ◌*◌, ◌<◌, ◌≤◌, List, ◌++◌, length, get_or, drop, ℤ, refl, sym, ap, ◌∙◌, subst, arith, Bool, true, if◌then◌else◌, Option}
 use Rattle.vms_kinds.specs.declared.Item.{Item}
 use Rattle.vms_kinds.specs.declared.Item.TheVariants.{Struct}
+use Rattle.vms_spec.specs.declared.TheConstants.{MOST_ITEMS}
 use Rattle.vms_spec.specs.declared.Part.TheVariants as parts
 use Rattle.vms_spec.specs.Sets.{Set, Field}
 use Rattle.vms_spec.specs.Tests.{is_there}
@@ -9,13 +10,13 @@ use Rattle.vms_spec.specs.Rules.{uses_below}
 use Rattle.vms_parts.specs.Capacities.{least_of}
 use Rattle.vms_spec.specs.Layout.{Cell, no_desc, no_parent, item_slots, item_size, slots_from, desc_slots, desc_cells, cells_from, struct_cells, numbers_of, elements_of, capacity_of, counted, times}
 use Rattle.vms_spec.proofs.Prefixes.{FieldsBelow, all_below, struct_slots, struct_cells_at}
-use Rattle.vms_laws.proofs.CellLaws.{cells_first}
+use Rattle.vms_bodies.proofs.CellLaws.{cells_first}
 use Rattle.vms_parts.specs.Sizes.{in_u32}
 use Rattle.vms_desc.specs.Asks.{field_at, own_numbers}
 use Rattle.vms_desc.specs.Formed.{is_well_formed}
 use Rattle.vms_desc.specs.Parts.{desc_at}
 use Rattle.vms_desc.proofs.Clean.{reach, field_clean, struct_clean}
-use Rattle.vms_walk.specs.declared.fields.Spot.{Spot}
+use Rattle.vms_walk.specs.declared.fields.PartAt.{PartAt}
 use Rattle.vms_walk.specs.Steps.{table, cells_in, HasSpot, spot_numbers, spot_slots, slots_at, present_of, size_in, capacities_of, elements_slots, steps_of}
 use Rattle.vms_desc.proofs.Ranks.{item_rank, part_rank, reach_whole, uses_more, rank_below}
 use Rattle.vms_walk.proofs.Walking.{slots_next, room_next, fields_at, one_fits, room_for_less, present_slots, present_fits, steps_bare, steps_append, times_next}
@@ -23,25 +24,25 @@ use Rattle.vms_walk.proofs.Walking.{slots_next, room_next, fields_at, one_fits, 
 pub cells_table : (set : Set) → cells_in (table set) ≡ struct_cells set
 cells_table set = cells_first set.structs (length set.structs)
 
-pub spot_room : (set : Set) (spot : Spot) (n : List ℤ) → HasSpot set spot n → spot.base + length (desc_cells (cells_in (table set)) (desc_at set spot.part)) ≤ length n
+pub spot_room : (set : Set) (spot : PartAt) (n : List ℤ) → HasSpot set spot n → spot.base + length (desc_cells (cells_in (table set)) (desc_at set spot.part)) ≤ length n
 spot_room set spot n h = subst (λ (cs : List (List Cell)). spot.base + length (desc_cells cs (desc_at set spot.part)) ≤ length n) (sym (cells_table set)) h.room
 
-pub own_is : (set : Set) (spot : Spot) (n : List ℤ) → own_numbers set spot.part n spot.base ≡ spot_numbers set spot n
+pub own_is : (set : Set) (spot : PartAt) (n : List ℤ) → own_numbers set spot.part n spot.base ≡ spot_numbers set spot n
 own_is set spot n = ap (λ (cs : List (List Cell)). numbers_of cs (desc_at set spot.part) n spot.base) (sym (cells_table set))
 
 -- sizes as the code has them
-pub size_code : (set : Set) (item : Item) (size : ℕ) → size ≡ in_u32 (item_size (struct_cells set) item) → size_in set item ≤ 16384 → size ≡ size_in set item
+pub size_code : (set : Set) (item : Item) (size : ℕ) → size ≡ in_u32 (item_size (struct_cells set) item) → size_in set item ≤ MOST_ITEMS → size ≡ size_in set item
 size_code set item size e small =
     let same : item_size (struct_cells set) item ≡ size_in set item = ap (λ (cs : List (List Cell)). item_size cs item) (sym (cells_table set)) in
     omega (arith, e, same, small)
 
-pub width_code : (set : Set) (f : Field) (width : ℕ) → width ≡ in_u32 (capacity_of f.count * item_size (struct_cells set) f.item) → capacity_of f.count * size_in set f.item ≤ 16384
+pub width_code : (set : Set) (f : Field) (width : ℕ) → width ≡ in_u32 (capacity_of f.count * item_size (struct_cells set) f.item) → capacity_of f.count * size_in set f.item ≤ MOST_ITEMS
     → width ≡ capacity_of f.count * size_in set f.item
 width_code set f width e small =
     let same : capacity_of f.count * item_size (struct_cells set) f.item ≡ capacity_of f.count * size_in set f.item = ap (λ (cs : List (List Cell)). capacity_of f.count * item_size cs f.item) (sym (cells_table set)) in
     omega (arith, e, same, small)
 
-pub present_then : (set : Set) (spot : Spot) (n : List ℤ) (f : Field) (b : Bool) (count : ℕ) → b ≡ is_there f.test f.since spot.version (own_numbers set spot.part n spot.base) no_parent → b ≡ true
+pub present_then : (set : Set) (spot : PartAt) (n : List ℤ) (f : Field) (b : Bool) (count : ℕ) → b ≡ is_there f.test f.since spot.version (own_numbers set spot.part n spot.base) no_parent → b ≡ true
     → count ≡ elements_of f.count (own_numbers set spot.part n spot.base) → count ≡ present_of f spot.version (spot_numbers set spot n)
 present_then set spot n f b count e t c =
     c ∙ ap (λ (x : Bool). if x then elements_of f.count (own_numbers set spot.part n spot.base) else 0) (sym t ∙ e) ∙ ap (λ (own : ℕ → ℕ). present_of f spot.version own) (own_is set spot n)
@@ -61,7 +62,7 @@ module _ (set : Set) (well : is_well_formed set ≡ true) (j : ℕ) (lt : j < le
 
 -- ---- the next field
 
-pub record Next (set : Set) (spot : Spot) (n : List ℤ) (k cell : ℕ) : Type 0 where
+pub record Next (set : Set) (spot : PartAt) (n : List ℤ) (k cell : ℕ) : Type 0 where
   pub slots : slots_from (table set) (desc_at set spot.part).fields spot.version (spot_numbers set spot n) n k cell (drop k (desc_at set spot.part).fields)
       ≡ slots_at set spot n k cell
       ++ slots_from (table set) (desc_at set spot.part).fields spot.version (spot_numbers set spot n) n (k + 1) (cell + capacity_of (field_at set spot.part k).count * size_in set (field_at set spot.part k).item)
@@ -72,7 +73,7 @@ pub record Next (set : Set) (spot : Spot) (n : List ℤ) (k cell : ℕ) : Type 0
   pub uses : uses_below (reach set spot.part) (field_at set spot.part k).item ≡ true
   pub some : 1 ≤ capacity_of (field_at set spot.part k).count
 
-pub next_field : (set : Set) → is_well_formed set ≡ true → (spot : Spot) (n : List ℤ) → HasSpot set spot n → (k cell : ℕ) → k < length (desc_at set spot.part).fields
+pub next_field : (set : Set) → is_well_formed set ≡ true → (spot : PartAt) (n : List ℤ) → HasSpot set spot n → (k cell : ℕ) → k < length (desc_at set spot.part).fields
     → cell + length (cells_from (cells_in (table set)) (desc_at set spot.part).fields k (drop k (desc_at set spot.part).fields)) ≤ length n → Next set spot n k cell
 next_field set well spot n h k cell lt room =
     let all = (desc_at set spot.part).fields in
@@ -92,14 +93,14 @@ next_field set well spot n h k cell lt room =
 -- ---- what the calls of the walk need
 
 -- one field: its elements are of this item, and so many stand in the bytes
-pub record FieldNeeds (set : Set) (spot : Spot) (n : List ℤ) (k cell count : ℕ) (item : Item) (most : Option ℕ) : Type 0 where
+pub record FieldNeeds (set : Set) (spot : PartAt) (n : List ℤ) (k cell count : ℕ) (item : Item) (most : Option ℕ) : Type 0 where
   pub uses : uses_below (length set.structs) item ≡ true
   pub lower : item_rank item + 1 < part_rank set spot.part + 2
-  pub small : size_in set item ≤ 16384
+  pub small : size_in set item ≤ MOST_ITEMS
   pub room : cell + count * size_in set item ≤ length n
   pub steps : steps_of (slots_at set spot n k cell) ≡ steps_of (elements_slots set item most n count cell)
 
-pub field_needs : (set : Set) → is_well_formed set ≡ true → (spot : Spot) (n : List ℤ) → HasSpot set spot n → (k cell count : ℕ) (item : Item) (most : Option ℕ) → k < length (desc_at set spot.part).fields
+pub field_needs : (set : Set) → is_well_formed set ≡ true → (spot : PartAt) (n : List ℤ) → HasSpot set spot n → (k cell count : ℕ) (item : Item) (most : Option ℕ) → k < length (desc_at set spot.part).fields
     → item ≡ (field_at set spot.part k).item → count ≡ present_of (field_at set spot.part k) spot.version (spot_numbers set spot n) → most ≡ least_of (counted k (desc_at set spot.part).fields)
     → cell + capacity_of (field_at set spot.part k).count * size_in set (field_at set spot.part k).item ≤ length n → FieldNeeds set spot n k cell count item most
 field_needs set well spot n h k cell count item most lt is there least room =
@@ -114,7 +115,7 @@ field_needs set well spot n h k cell count item most lt is there least room =
     record {
       uses = uses_more (reach set spot.part) (length set.structs) item (reach_whole set spot.part h.part) uses;
       lower = omega (arith, rank_below (reach set spot.part) item uses);
-      small = omega (arith, size, one_fits (capacity_of f.count) (size_in set f.item) cell (length n) 16384 clean.some room h.few);
+      small = omega (arith, size, one_fits (capacity_of f.count) (size_in set f.item) cell (length n) MOST_ITEMS clean.some room h.few);
       room = subst (λ (x : ℕ). cell + count * x ≤ length n) (sym size) (room_for_less count (capacity_of f.count) (size_in set f.item) cell (length n) fewer room);
       steps = ap steps_of (present_slots (table set) all spot.version own n k cell f)
           ∙ ap (λ (x : ℕ). steps_of (times x (item_slots (table set) f.item caps n) cell (size_in set f.item))) (sym there)

@@ -8,19 +8,19 @@ use Rattle.vms_spec.specs.Tests.{is_there}
 use Rattle.vms_spec.specs.Layout.{Slot, Cell, Meaning, item_slots, item_size, times, field_slots, slots_from, field_cells, cells_from, elements_of, capacity_of, counted, no_parent, no_field}
 use Rattle.vms_spec.proofs.Sizes.{field_size, elements_fit}
 use Rattle.vms_parts.specs.Capacities.{least_of}
-use Rattle.vms_walk.specs.declared.step.Step.{Step}
-use Rattle.vms_walk.specs.declared.step.Step.TheVariants as steps
+use Rattle.vms_walk.specs.declared.step.WalkStep.{WalkStep}
+use Rattle.vms_walk.specs.declared.step.WalkStep.TheVariants as steps
 use Rattle.vms_walk.specs.Steps.{step_of, steps_of, cells_in, present_of, capacities_of}
 
 pub steps_append : (xs ys : List Slot) → steps_of (xs ++ ys) ≡ steps_of xs ++ steps_of ys
 steps_append [] ys = refl
-steps_append (x ∷ xs) ys = ap (λ (l : List Step). step_of x ∷ l) (steps_append xs ys)
+steps_append (x ∷ xs) ys = ap (λ (l : List WalkStep). step_of x ∷ l) (steps_append xs ys)
 
 -- a step of a part is one of the whole
-pub part_next : (before here rest whole : List Slot) (ys zs : List Step) (x : Step) → whole ≡ before ++ (here ++ rest) → steps_of here ≡ ys ++ (x ∷ zs)
+pub part_next : (before here rest whole : List Slot) (ys zs : List WalkStep) (x : WalkStep) → whole ≡ before ++ (here ++ rest) → steps_of here ≡ ys ++ (x ∷ zs)
     → steps_of whole ≡ (steps_of before ++ ys) ++ (x ∷ (zs ++ steps_of rest))
 part_next before here rest whole ys zs x e f =
-    ap steps_of e ∙ steps_append before (here ++ rest) ∙ ap (λ (l : List Step). steps_of before ++ l) (steps_append here rest ∙ ap (λ (l : List Step). l ++ steps_of rest) f ∙ append_assoc ys (x ∷ zs) (steps_of rest))
+    ap steps_of e ∙ steps_append before (here ++ rest) ∙ ap (λ (l : List WalkStep). steps_of before ++ l) (steps_append here rest ∙ ap (λ (l : List WalkStep). l ++ steps_of rest) f ∙ append_assoc ys (x ∷ zs) (steps_of rest))
     ∙ sym (append_assoc (steps_of before) ys (x ∷ (zs ++ steps_of rest)))
 
 -- the first of the elements that are left
@@ -38,7 +38,7 @@ pub steps_bare : (ms : List Meaning) (n : List ℤ) (item : Item) (caps : List �
 steps_bare ms n (Num kind) caps zero at step = refl
 steps_bare ms n (Num kind) caps (suc k) at step =
     ap (λ (o : Option ℕ). steps.Number at kind o ∷ steps_of (times k (item_slots ms (Num kind) caps n) (at + step) step)) (sym (least_again (least_of caps)))
-    ∙ ap (λ (l : List Step). steps.Number at kind (least_of (capacities_of (least_of caps))) ∷ l) (steps_bare ms n (Num kind) caps k (at + step) step)
+    ∙ ap (λ (l : List WalkStep). steps.Number at kind (least_of (capacities_of (least_of caps))) ∷ l) (steps_bare ms n (Num kind) caps k (at + step) step)
 steps_bare ms n (Equal kind z) caps k at step = refl
 steps_bare ms n (Unused b) caps k at step = refl
 steps_bare ms n (Struct j) caps k at step = refl

@@ -2,24 +2,25 @@
 use Rattle.std.specs.Prelude.{◌≡◌, ℕ, ◌≤◌, List, [], ◌∷◌, ◌++◌, length, map, ℤ, Option, Some, None, if◌then◌else◌}
 use Rattle.vms_kinds.specs.declared.Item.{Item}
 use Rattle.vms_parts.specs.Capacities.{least_of}
+use Rattle.vms_spec.specs.declared.TheConstants.{MOST_ITEMS}
 use Rattle.vms_spec.specs.Sets.{Set, Field}
 use Rattle.vms_spec.specs.Tests.{is_there}
 use Rattle.vms_spec.specs.Layout.{Cell, Meaning, meanings, Slot, numbers_of, no_parent, elements_of, item_slots, item_size, times, field_slots, desc_slots, place_of}
 use Rattle.vms_spec.specs.Layout as slots
 use Rattle.vms_desc.specs.Asks.{field_at, HasCells}
 use Rattle.vms_desc.specs.Parts.{HasPart, desc_at}
-use Rattle.vms_walk.specs.declared.step.Step.{Step}
-use Rattle.vms_walk.specs.declared.step.Step.TheVariants as steps
-use Rattle.vms_walk.specs.declared.fields.Spot.{Spot}
+use Rattle.vms_walk.specs.declared.step.WalkStep.{WalkStep}
+use Rattle.vms_walk.specs.declared.step.WalkStep.TheVariants as steps
+use Rattle.vms_walk.specs.declared.fields.PartAt.{PartAt}
 
 -- what comes at a slot: of the capacities that a number counts, the least
-abbrev pub step_of : Slot → Step
+abbrev pub step_of : Slot → WalkStep
 step_of (slots.Number cell kind capacities) = steps.Number cell kind (least_of capacities)
 step_of (slots.Constant kind value) = steps.Constant kind value
 step_of (slots.Filler bytes) = steps.Filler bytes
 step_of (slots.Rule holds) = steps.Rule holds
 
-abbrev pub steps_of : List Slot → List Step
+abbrev pub steps_of : List Slot → List WalkStep
 steps_of xs = map step_of xs
 
 -- what the structures of a set mean, and their cells
@@ -30,20 +31,20 @@ abbrev pub cells_in : List Meaning → List (List Cell)
 cells_in ms = map (λ m. m.cells) ms
 
 -- a part of the set, or one element of a structure, whose cells are among the numbers
-pub record HasSpot (set : Set) (spot : Spot) (numbers : List ℤ) : Type 0 where
+pub record HasSpot (set : Set) (spot : PartAt) (numbers : List ℤ) : Type 0 where
   pub part : HasPart set spot.part
-  pub few : length numbers ≤ 16384
+  pub few : length numbers ≤ MOST_ITEMS
   pub room : HasCells set spot.part numbers spot.base
 
 -- the numbers of its fields
-abbrev pub spot_numbers : Set → Spot → List ℤ → ℕ → ℕ
+abbrev pub spot_numbers : Set → PartAt → List ℤ → ℕ → ℕ
 spot_numbers set spot numbers = numbers_of (cells_in (table set)) (desc_at set spot.part) numbers spot.base
 
 -- its slots, and those of its field k, whose first cell is given
-abbrev pub spot_slots : Set → Spot → List ℤ → List Slot
+abbrev pub spot_slots : Set → PartAt → List ℤ → List Slot
 spot_slots set spot numbers = desc_slots (table set) (desc_at set spot.part) spot.version numbers spot.base
 
-abbrev pub slots_at : Set → Spot → List ℤ → ℕ → ℕ → List Slot
+abbrev pub slots_at : Set → PartAt → List ℤ → ℕ → ℕ → List Slot
 slots_at set spot numbers k cell = field_slots (table set) (desc_at set spot.part).fields spot.version (spot_numbers set spot numbers) numbers k cell (field_at set spot.part k)
 
 -- how many elements of a field stand in the bytes: none where the field isn't there
@@ -70,13 +71,13 @@ item_by set item most cell numbers = item_slots (table set) item (capacities_of 
 abbrev pub elements_by : Set → Item → Option ℕ → ℕ → ℕ → List ℤ → List Slot
 elements_by set item most count first numbers = elements_slots set item most numbers count first
 
-abbrev pub field_by : Set → Spot → ℕ → ℕ → List ℤ → List Slot
+abbrev pub field_by : Set → PartAt → ℕ → ℕ → List ℤ → List Slot
 field_by set spot k cell numbers = slots_at set spot numbers k cell
 
 -- where the cells of field k begin
-abbrev pub cell_of : Set → Spot → ℕ → ℕ
+abbrev pub cell_of : Set → PartAt → ℕ → ℕ
 cell_of set spot k = place_of (cells_in (table set)) (desc_at set spot.part).fields 0 spot.base (desc_at set spot.part).fields k
 
 -- wherever one comes within these slots, the next step may come
-abbrev pub MayCome : {S : Type 0} → (List Step → S → S → Type 0) → (S → List ℤ) → (S → Step → Type 0) → (List ℤ → List Slot) → S → Type 0
-MayCome {S} goes numbers may slots_by a = (xs rest : List Step) (x : Step) (b : S) → goes xs a b → steps_of (slots_by (numbers b)) ≡ xs ++ (x ∷ rest) → may b x
+abbrev pub MayCome : {S : Type 0} → (List WalkStep → S → S → Type 0) → (S → List ℤ) → (S → WalkStep → Type 0) → (List ℤ → List Slot) → S → Type 0
+MayCome {S} goes numbers may slots_by a = (xs rest : List WalkStep) (x : WalkStep) (b : S) → goes xs a b → steps_of (slots_by (numbers b)) ≡ xs ++ (x ∷ rest) → may b x

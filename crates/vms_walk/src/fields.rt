@@ -1,4 +1,5 @@
 // The walk: the fields of a description in order, arrays and structures expanded.
+ghost use Rattle.vms_spec.specs.declared.TheConstants.{MOST_ITEMS};
 ghost use Rattle.std.specs.Prelude.{◌≡◌, ◌<◌, ◌≤◌, ◌+◌, ◌*◌, true, None, length, OnOk, IfErr};
 ghost use Rattle.vms_kinds.specs.declared.Item.TheVariants as items;
 ghost use Rattle.vms_spec.specs.Layout.{capacity_of};
@@ -10,13 +11,13 @@ ghost use Rattle.vms_walk.specs.Steps.{HasSpot, MayCome};
 ghost use Rattle.vms_walk.specs.Steps.{spot_numbers, present_of, size_in, cell_of};
 ghost use Rattle.vms_walk.specs.Steps.{steps_of, spot_slots, field_by, elements_by, item_by};
 
-use crate::{Step, Walker};
+use crate::{WalkStep, Walker};
 use vms_desc::{Cells, DescSet, Part};
 use vms_kinds::Item;
 
 /// A part of a set at a version, or one element of a structure, and its first cell.
 #[derive(Clone, Copy, Drop)]
-pub struct Spot {
+pub struct PartAt {
     pub part: Part,
     /// The version at which the part's fields are there.
     pub version: u32,
@@ -26,7 +27,7 @@ pub struct Spot {
 
 // How many elements of a field stand in the bytes: none where the field isn't there.
 #[inline(always)]
-fn present<C: Cells>(set: &DescSet, spot: Spot, field: u32, cells: &C) -> u32
+fn present<C: Cells>(set: &DescSet, spot: PartAt, field: u32, cells: &C) -> u32
     requires spot { HasSpot (described set.now) spot (C.numbers cells.now) }
     requires field { field < length (desc_at (described set.now) spot.part).fields }
     ensures { let numbers = spot_numbers (described set.now) spot (C.numbers cells.now) in
@@ -53,7 +54,7 @@ fn walk_item<W: Walker>(
     requires may { let slots = item_by (described set.now) item.now most cell in
         MayCome W.goes W.numbers W.may slots walker.old }
     requires room { cell + size_in (described set.now) item.now ≤ length (W.numbers walker.old) }
-    requires few { length (W.numbers walker.old) ≤ 16384 }
+    requires few { length (W.numbers walker.old) ≤ MOST_ITEMS }
     ensures ok { let slots = item_by (described set.now)
         item.now most cell (W.numbers walker.new) in
         OnOk result (W.goes (steps_of slots) walker.old walker.new) }
@@ -62,16 +63,16 @@ fn walk_item<W: Walker>(
         IfErr result (λ fault. W.stops (steps_of slots) walker.old fault walker.new) }
 {
     match item {
-        Item::Num(kind) => walker.step(Step::Number {
+        Item::Num(kind) => walker.step(WalkStep::Number {
             cell,
             kind: *kind,
             most,
         }),
-        Item::Equal { kind, value } => walker.step(Step::Constant {
+        Item::Equal { kind, value } => walker.step(WalkStep::Constant {
             kind: *kind,
             value: *value,
         }),
-        Item::Unused { bytes } => walker.step(Step::Filler { bytes: *bytes }),
+        Item::Unused { bytes } => walker.step(WalkStep::Filler { bytes: *bytes }),
         Item::Struct(number) => walk_struct(set, *number, cell, walker),
     }
 }
@@ -91,7 +92,7 @@ fn walk_struct<W: Walker>(
         MayCome W.goes W.numbers W.may slots walker.old }
     requires room { cell + size_in (described set.now) (items.Struct number)
         ≤ length (W.numbers walker.old) }
-    requires few { length (W.numbers walker.old) ≤ 16384 }
+    requires few { length (W.numbers walker.old) ≤ MOST_ITEMS }
     ensures ok { let slots = item_by (described set.now)
         (items.Struct number) None cell (W.numbers walker.new) in
         OnOk result (W.goes (steps_of slots) walker.old walker.new) }
@@ -100,7 +101,7 @@ fn walk_struct<W: Walker>(
         IfErr result (λ fault. W.stops (steps_of slots) walker.old fault walker.new) }
 {
     let part = Part::Struct(number);
-    let spot = Spot {
+    let spot = PartAt {
         part,
         version: set.desc(part).version,
         base: cell,
@@ -122,10 +123,10 @@ fn walk_items<W: Walker>(
     requires reaches { uses_below (length (described set.now).structs) item.now ≡ true }
     requires may { let slots = elements_by (described set.now) item.now most count first in
         MayCome W.goes W.numbers W.may slots walker.old }
-    requires small { size_in (described set.now) item.now ≤ 16384 }
+    requires small { size_in (described set.now) item.now ≤ MOST_ITEMS }
     requires room { first + count * size_in (described set.now) item.now
         ≤ length (W.numbers walker.old) }
-    requires few { length (W.numbers walker.old) ≤ 16384 }
+    requires few { length (W.numbers walker.old) ≤ MOST_ITEMS }
     ensures ok { let n = W.numbers walker.new in
         let slots = elements_by (described set.now) item.now most count first n in
         OnOk result (W.goes (steps_of slots) walker.old walker.new) }
@@ -147,7 +148,7 @@ fn walk_items<W: Walker>(
 #[inline(always)]
 fn walk_field<W: Walker>(
     set: &DescSet,
-    spot: Spot,
+    spot: PartAt,
     field: u32,
     cell: u32,
     walker: &mut W,
@@ -174,7 +175,7 @@ fn walk_field<W: Walker>(
 /// Goes through what stands in the bytes of a part, in order, and then to the end of it.
 #[cycle(walk)]
 #[inline(always)]
-pub fn walk<W: Walker>(set: &DescSet, spot: Spot, walker: &mut W) -> Result<(), W::Fault>
+pub fn walk<W: Walker>(set: &DescSet, spot: PartAt, walker: &mut W) -> Result<(), W::Fault>
     requires spot { HasSpot (described set.now) spot (W.numbers walker.old) }
     requires may { MayCome W.goes W.numbers W.may (spot_slots (described set.now) spot) walker.old }
     ensures ok { let slots = spot_slots (described set.now) spot (W.numbers walker.new) in
@@ -188,5 +189,5 @@ pub fn walk<W: Walker>(set: &DescSet, spot: Spot, walker: &mut W) -> Result<(), 
         cell += set.field_cells(spot.part, field);
     }
     let holds = set.holds_rules(spot.part, spot.base, spot.version, walker);
-    walker.step(Step::Rule { holds })
+    walker.step(WalkStep::Rule { holds })
 }

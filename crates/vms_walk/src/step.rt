@@ -6,7 +6,7 @@ use vms_kinds::Kind;
 
 /// One thing that stands in the bytes of a description, or the end of its fields.
 #[derive(Clone, Copy, Drop)]
-pub enum Step {
+pub enum WalkStep {
     /// The number of a cell, which is at most `most`, if it counts elements.
     Number {
         cell: u32,
@@ -31,7 +31,7 @@ pub enum Step {
 /// What is done at each step. It may change numbers, but of the cells alone at which it is called.
 pub trait Walker: Cells {
     ghost use Rattle.std.specs.Prelude.{List, [], ◌∷◌, ◌++◌};
-    ghost use Rattle.vms_walk.specs.declared.step.Step.{Step as OneStep};
+    ghost use Rattle.vms_walk.specs.declared.step.WalkStep.{WalkStep as OneStep};
     ghost use Rattle.vms_walk.specs.Inside.{IsInside, Keeps};
 
     /// Why it stops.
@@ -47,7 +47,7 @@ pub trait Walker: Cells {
     ghost may: { Self → OneStep → Type 0 };
 
     /// Takes a step, or stops at it with a fault.
-    fn step(&mut self, step: Step) -> Result<(), Self::Fault>
+    fn step(&mut self, step: WalkStep) -> Result<(), Self::Fault>
         requires inside { IsInside (Self.numbers self.old) step }
         requires may { may self.old step }
         ensures ok { OnOk result (goes (step ∷ []) self.old self.new) }

@@ -3,7 +3,7 @@ use Rattle.std.proofs.Common.{◌≡◌, ℕ, suc, ◌+◌, List, length, get_or
 use Rattle.std.proofs.lemmas.Bool.{eq-eqb, eqb-true}
 use Rattle.memchr.specs.Find.{Nowhere, NoneBefore, Passes, is_byte}
 use Rattle.vms_spec.specs.Spelling.{first_line}
-use Rattle.vms_texts.proofs.FirstLine.{line_at, no_line_in}
+use Rattle.vms_words.proofs.FirstLine.{line_at, no_line_in}
 use Rattle.vms_words.specs.Lines.{IsFirstLine}
 use Rattle.vms_words.specs.declared.line.NextLine.{NextLine}
 

@@ -1,10 +1,12 @@
 //! Words and lines of texts: the words of the kinds of number, in description files and in
-//! self-descriptions, the first line of a text, and what lines are made of.
+//! self-descriptions, the first line of a text, what lines are made of, and laws of numbers as texts
+//! spell them.
 #![tactic(auto)]
 
 ghost use Rattle.std.specs.Prelude.{◌≡◌};
 ghost use Rattle.vms_words.specs.Words.{kind_word, kind_named, TellsKind};
 
+pub mod laws;
 mod line;
 
 pub use line::{NextLine, append, next_line};

@@ -1,11 +1,11 @@
 -- Images that are ready, one after the other.
 use Rattle.std.proofs.Common.{◌≡◌, ℕ, zero, suc, ◌+◌, ◌<◌, ◌≤◌, Bool, true, false, nat_lt, List, [], ◌∷◌, length, get_or, Some, refl, sym, ap, ◌∙◌, subst, arith}
+use Rattle.std.specs.List.{slice_get}
 use Rattle.std.proofs.lemmas.Bool.{ltb-true, ltb-false}
 use Rattle.vms_spec.specs.Images.{Image}
-use Rattle.vms_spec.specs.Lists.{at}
 use Rattle.vms_spec.specs.Sets.{Set, Device}
 use Rattle.vms_spec.specs.Streams.{IsReady, AreReady}
-use Rattle.vms_laws.proofs.PartLaws.{at_inside}
+use Rattle.std.proofs.lemmas.Option.{slice_get_within}
 use Rattle.vms_desc.specs.Described.{device_at}
 use Rattle.vms_image.specs.Typed.{Typed, IsImageOf, AreImagesOf}
 use Rattle.vms_write.proofs.Formed.{at_get}
@@ -13,12 +13,12 @@ use Rattle.vms_write.proofs.Formed.{at_get}
 -- there is an image for each device, and the first n are ready
 pub record AreSoFar (set : Set) (images : List Image) (n : ℕ) : Type 0 where
   pub long : length images ≡ length set.devices
-  pub ready : (k : ℕ) (d : Device) (image : Image) → k < n → at set.devices k ≡ Some d → at images k ≡ Some image → IsReady set d image
+  pub ready : (k : ℕ) (d : Device) (image : Image) → k < n → slice_get set.devices k ≡ Some d → slice_get images k ≡ Some image → IsReady set d image
 
 pub none_so_far : (set : Set) (images : List Image) → length images ≡ length set.devices → AreSoFar set images 0
 none_so_far set images long = record { long = long; ready = λ k d image lt. absurd (omega arith) }
 
-get_at : {X : Type 0} (xs : List X) (i : ℕ) (d x : X) → at xs i ≡ Some x → get_or xs i d ≡ x
+get_at : {X : Type 0} (xs : List X) (i : ℕ) (d x : X) → slice_get xs i ≡ Some x → get_or xs i d ≡ x
 get_at [] i d x e = cc
 get_at (y ∷ xs) zero d x e = cc
 get_at (y ∷ xs) (suc i) d x e = get_at xs i d x e
@@ -29,12 +29,12 @@ any_default (x ∷ xs) zero a b lt = refl
 any_default (x ∷ xs) (suc n) a b lt = any_default xs n a b (omega arith)
 
 module _ (set : Set) (images : List Image) (n : ℕ) (image : Image) (sofar : AreSoFar set images n) (lt : n < length images) (is : image ≡ get_or images n image) where
-  ready_by : IsReady set (device_at set n) image → (k : ℕ) (d : Device) (other : Image) → k < n + 1 → at set.devices k ≡ Some d → at images k ≡ Some other → (b : Bool) → nat_lt k n ≡ b → IsReady set d other
+  ready_by : IsReady set (device_at set n) image → (k : ℕ) (d : Device) (other : Image) → k < n + 1 → slice_get set.devices k ≡ Some d → slice_get images k ≡ Some other → (b : Bool) → nat_lt k n ≡ b → IsReady set d other
   ready_by r k d other less e f true g = sofar.ready k d other (ltb-true k n g) e f
   ready_by r k d other less e f false g =
       let same : k ≡ n = omega (arith, ltb-false k n g) in
-      let device : device_at set n ≡ d = get_at set.devices n _ d (ap (at set.devices) (sym same) ∙ e) in
-      let there : image ≡ other = is ∙ get_at images n image other (ap (at images) (sym same) ∙ f) in
+      let device : device_at set n ≡ d = get_at set.devices n _ d (ap (slice_get set.devices) (sym same) ∙ e) in
+      let there : image ≡ other = is ∙ get_at images n image other (ap (slice_get images) (sym same) ∙ f) in
       subst (λ (x : Device). IsReady set x other) device (subst (IsReady set (device_at set n)) there r)
 
   pub one_more : IsReady set (device_at set n) image → AreSoFar set images (n + 1)
@@ -43,28 +43,28 @@ module _ (set : Set) (images : List Image) (n : ℕ) (image : Image) (sofar : Ar
   -- one that isn't ready is missing from all
   pub not_all : (IsReady set (device_at set n) image → ⊥) → AreReady set images → ⊥
   not_all r all =
-      let here : at images n ≡ Some image = at_get images n image lt ∙ ap (λ (x : Image). Some x) (sym is) in
+      let here : slice_get images n ≡ Some image = at_get images n image lt ∙ ap (λ (x : Image). Some x) (sym is) in
       r (all.ready n (device_at set n) image (at_get set.devices n _ (omega (arith, all.one_each))) here)
 
 pub all_so_far : (set : Set) (images : List Image) (n : ℕ) → AreSoFar set images n → length images ≤ n → AreReady set images
 all_so_far set images n sofar le = record {
   one_each = sofar.long;
-  ready = λ k d image e f. let inside = at_inside images k image f in sofar.ready k d image (omega arith) e f;
+  ready = λ k d image e f. let inside = slice_get_within images k image f in sofar.ready k d image (omega arith) e f;
 }
 
 -- the first n are images of their devices
 pub record AreOfSoFar (set : Set) (images : List Typed) (n : ℕ) : Type 0 where
-  pub each : (k : ℕ) (image : Typed) → k < n → at images k ≡ Some image → IsImageOf set k image
+  pub each : (k : ℕ) (image : Typed) → k < n → slice_get images k ≡ Some image → IsImageOf set k image
 
 pub none_of : (set : Set) (images : List Typed) → AreOfSoFar set images 0
 none_of set images = record { each = λ k image lt. absurd (omega arith) }
 
 module _ (set : Set) (images : List Typed) (n : ℕ) (image : Typed) (sofar : AreOfSoFar set images n) (lt : n < length images) (is : image ≡ get_or images n image) where
-  of_by : IsImageOf set n image → (k : ℕ) (other : Typed) → k < n + 1 → at images k ≡ Some other → (b : Bool) → nat_lt k n ≡ b → IsImageOf set k other
+  of_by : IsImageOf set n image → (k : ℕ) (other : Typed) → k < n + 1 → slice_get images k ≡ Some other → (b : Bool) → nat_lt k n ≡ b → IsImageOf set k other
   of_by o k other less f true g = sofar.each k other (ltb-true k n g) f
   of_by o k other less f false g =
       let same : k ≡ n = omega (arith, ltb-false k n g) in
-      let there : image ≡ other = is ∙ get_at images n image other (ap (at images) (sym same) ∙ f) in
+      let there : image ≡ other = is ∙ get_at images n image other (ap (slice_get images) (sym same) ∙ f) in
       subst (λ (m : ℕ). IsImageOf set m other) (sym same) (subst (IsImageOf set n) there o)
 
   pub one_more_of : IsImageOf set n image → AreOfSoFar set images (n + 1)
@@ -73,5 +73,5 @@ module _ (set : Set) (images : List Typed) (n : ℕ) (image : Typed) (sofar : Ar
 pub all_of : (set : Set) (images : List Typed) (n : ℕ) → AreOfSoFar set images n → length images ≡ length set.devices → length images ≤ n → AreImagesOf set images
 all_of set images n sofar long le = record {
   one_each = long;
-  each = λ k image f. let inside = at_inside images k image f in sofar.each k image (omega arith) f;
+  each = λ k image f. let inside = slice_get_within images k image f in sofar.each k image (omega arith) f;
 }

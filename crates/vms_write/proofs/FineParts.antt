@@ -9,10 +9,10 @@ use Rattle.vms_spec.specs.Rules.{in_range, counts_well}
 use Rattle.vms_spec.specs.Sets.{Field, Desc}
 use Rattle.vms_spec.specs.Layout.{Cell, no_cell, Slot, Number, Constant, Filler, Rule, Meaning, item_slots, item_cells, item_size, times, field_slots, field_cells, capacity_of, desc_slots, desc_cells}
 use Rattle.vms_spec.specs.Images.{has_cell}
-use Rattle.vms_laws.specs.Cells.{AreCells}
-use Rattle.vms_laws.proofs.AboveLaws.{IsAbove}
-use Rattle.vms_laws.proofs.CellLaws.{Stands, MeanCells, item_are, items_are, field_are, desc_are}
-use Rattle.vms_laws.proofs.Names.{names_append}
+use Rattle.vms_bodies.specs.Cells.{AreCells}
+use Rattle.vms_bodies.proofs.AboveLaws.{IsAbove}
+use Rattle.vms_bodies.proofs.CellLaws.{Stands, MeanCells, item_are, items_are, field_are, desc_are}
+use Rattle.vms_bodies.proofs.Names.{names_append}
 use Rattle.vms_spec.proofs.Sizes.{length-times, size_same, field_size}
 use Rattle.vms_parts.specs.declared.types.CellForm.{CellForm}
 use Rattle.vms_write.specs.Fine.{no_form, are_fit, settle, is_fine}

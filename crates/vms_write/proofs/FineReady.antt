@@ -1,9 +1,8 @@
 -- What the judging walk finds fine is ready, and what is ready it finds fine.
 use Rattle.std.proofs.Common.{◌≡◌, ℕ, zero, suc, ◌+◌, ◌<◌, ◌≤◌, List, [], ◌∷◌, ◌++◌, length, length-append, get_or, map, Option, Some, None, ℤ, pos, refl, sym, ap, ◌∙◌, subst, arith, Bool, true, false, not, ◌&&◌, ◌||◌, ◌==◌}
 use Rattle.std.specs.Bool.{OnTrue, OnFalse}
-use Rattle.std.specs.List.{flat_map}
+use Rattle.std.specs.List.{flat_map, slice_get}
 use Rattle.std.proofs.lemmas.Bool.{and_parts, leb-true, eqb-true, eq-eqb}
-use Rattle.vms_spec.specs.Lists.{at}
 use Rattle.vms_spec.specs.Numbers.{same_number}
 use Rattle.vms_spec.specs.Sets.{Set, Device, Sub, Desc, AtLeast}
 use Rattle.vms_spec.specs.Layout.{Cell, no_cell, no_desc, Slot, Number, Constant, Filler, Rule, meanings, desc_cells, desc_slots, struct_cells, device_cells}
@@ -11,18 +10,18 @@ use Rattle.vms_spec.specs.Images.{Image, has_cell, own_cells, own_slots, sub_slo
 use Rattle.vms_spec.specs.Streams.{is_needed, IsReady}
 use Rattle.vms_spec.specs.Readiness.{come_as_needed}
 use Rattle.vms_spec.specs.Rules.{in_range, counts_well}
-use Rattle.vms_laws.specs.Cells.{AreCells}
-use Rattle.vms_laws.specs.Good.{IsGood, DefaultsFit}
-use Rattle.vms_laws.proofs.AboveLaws.{IsAbove, above_none, above_append, above_less, desc_above, meanings_above}
-use Rattle.vms_laws.proofs.CellLaws.{cells_first, meanings_are}
-use Rattle.vms_laws.proofs.ConstantLaws.{constants_append, own_constants, part_constants}
-use Rattle.vms_laws.proofs.FineLaws.{image_are}
-use Rattle.vms_laws.proofs.NormalFound.{named_fits}
-use Rattle.vms_laws.proofs.PartLaws.{parts_together}
-use Rattle.vms_laws.proofs.ReadyLaws.{ranged, counted_well, same_is, is_same, needed_are, are_needed}
-use Rattle.vms_laws.proofs.SectionLaws.{AreConstants, fit_slots}
-use Rattle.vms_laws.proofs.SpellLaws.{FitSlots}
-use Rattle.vms_laws.proofs.WellFormedLaws.{ranges, within}
+use Rattle.vms_bodies.specs.Cells.{AreCells}
+use Rattle.vms_spec.specs.Good.{IsGood, DefaultsFit}
+use Rattle.vms_bodies.proofs.AboveLaws.{IsAbove, above_none, above_append, above_less, desc_above, meanings_above}
+use Rattle.vms_bodies.proofs.CellLaws.{cells_first, meanings_are}
+use Rattle.vms_bodies.proofs.ConstantLaws.{constants_append, own_constants, part_constants}
+use Rattle.vms_bodies.proofs.FineLaws.{image_are}
+use Rattle.vms_bodies.proofs.NormalFound.{named_fits}
+use Rattle.vms_bodies.proofs.PartLaws.{parts_together}
+use Rattle.vms_bodies.proofs.ReadyLaws.{ranged, counted_well, same_is, is_same, needed_are, are_needed}
+use Rattle.vms_bodies.proofs.SectionLaws.{AreConstants, fit_slots}
+use Rattle.vms_bodies.proofs.SpellLaws.{FitSlots}
+use Rattle.vms_spec.proofs.WellFormedLaws.{ranges, within}
 use Rattle.vms_parts.specs.Views.{form_of}
 use Rattle.vms_parts.specs.declared.types.CellForm.{CellForm}
 use Rattle.vms_desc.specs.Described.{device_at}
@@ -174,7 +173,7 @@ whole_fine set d forms image e =
 -- ---- readiness
 
 -- subsections came at versions of theirs
-versions_are : (set : Set) (d : Device) (image : Image) (j : ℕ) (subs : List Sub) (came : List (Option ℕ)) → ((k : ℕ) (s : Sub) → at subs k ≡ Some s → s.desc.minimum ≤ s.desc.version)
+versions_are : (set : Set) (d : Device) (image : Image) (j : ℕ) (subs : List Sub) (came : List (Option ℕ)) → ((k : ℕ) (s : Sub) → slice_get subs k ≡ Some s → s.desc.minimum ≤ s.desc.version)
     → come_as_needed set d image j subs came ≡ true → AreVersionsOf subs came
 versions_are set d image j [] [] h e = tt
 versions_are set d image j [] (o ∷ came) h e = cc
@@ -197,7 +196,7 @@ cell_fits : (all : List Cell) (n : List ℤ) (slots : List Slot) (c : ℕ) → c
 cell_fits all n slots c lt fine a f h true e = named_fits all n slots c e f a
 cell_fits all n slots c lt fine a f h false e = subst (λ (z : ℤ). FitsCell (get_or all c no_cell) z) (sym (h e)) (fine c lt)
 
-image_constants : (set : Set) → IsGood set → (k : ℕ) (d : Device) (image : Image) → at set.devices k ≡ Some d → AreConstants (image_slots set d image)
+image_constants : (set : Set) → IsGood set → (k : ℕ) (d : Device) (image : Image) → slice_get set.devices k ≡ Some d → AreConstants (image_slots set d image)
 image_constants set good k d image e =
     let n = image.numbers in
     constants_append (own_slots set d image.version n) (came_slots set d n (own_cells set d) d.subs image.came) (own_constants set good k d e image.version 0 n)
@@ -205,22 +204,22 @@ image_constants set good k d image e =
 
 module _ (set : Set) (well : is_well_formed set ≡ true) (good : IsGood set) (i : ℕ) (lt : i < length set.devices) (image : Image)
     (cells : length image.numbers ≡ length (device_cells set (device_at set i))) (subs : length image.came ≡ length (device_at set i).subs) (forms : List CellForm) (is : forms ≡ map form_of (device_cells set (device_at set i))) where
-  found : at set.devices i ≡ Some (device_at set i)
+  found : slice_get set.devices i ≡ Some (device_at set i)
   found = at_get set.devices i (record { instance = 0; desc = no_desc; subs = [] }) lt
 
-  lowest : (k : ℕ) (s : Sub) → at (device_at set i).subs k ≡ Some s → s.desc.minimum ≤ s.desc.version
+  lowest : (k : ℕ) (s : Sub) → slice_get (device_at set i).subs k ≡ Some s → s.desc.minimum ≤ s.desc.version
   lowest k s e =
       let d = device_at set i in
       let inside = within_list d.subs k s e in
       let same : sub_at d k ≡ s = there d.subs k (record { desc = no_desc; needed = AtLeast 0 }) s e in
       subst (λ (x : Sub). x.desc.minimum ≤ x.desc.version) same (leb-true (sub_at d k).desc.minimum (sub_at d k).desc.version (sub_clean set well i k lt inside).own.1.1.0)
     where
-      within_list : (xs : List Sub) (k : ℕ) (s : Sub) → at xs k ≡ Some s → k < length xs
+      within_list : (xs : List Sub) (k : ℕ) (s : Sub) → slice_get xs k ≡ Some s → k < length xs
       within_list [] k s e = cc
       within_list (x ∷ xs) zero s e = omega arith
       within_list (x ∷ xs) (suc k) s e = omega (arith, within_list xs k s e)
 
-      there : (xs : List Sub) (k : ℕ) (none s : Sub) → at xs k ≡ Some s → get_or xs k none ≡ s
+      there : (xs : List Sub) (k : ℕ) (none s : Sub) → slice_get xs k ≡ Some s → get_or xs k none ≡ s
       there [] k none s e = cc
       there (x ∷ xs) zero none s e = cc
       there (x ∷ xs) (suc k) none s e = there xs k none s e

@@ -1,8 +1,9 @@
 -- Names of a well-formed set are short.
 use Rattle.std.proofs.Common.{◌≡◌, ℕ, zero, suc, ◌+◌, ◌<◌, ◌≤◌, List, [], ◌∷◌, length, length-drop, get_or, drop, Some, refl, sym, subst, arith, Bool, true, ◌&&◌, nat_le}
+use Rattle.std.specs.List.{slice_get, list_all}
 use Rattle.std.proofs.lemmas.Bool.{and_parts, leb-true}
 use Rattle.vms_spec.specs.declared.Part.TheVariants as parts
-use Rattle.vms_spec.specs.Lists.{at, every, or_else, first_answer}
+use Rattle.vms_spec.specs.Lists.{or_else, first_answer}
 use Rattle.vms_spec.specs.Sets.{Set}
 use Rattle.vms_spec.specs.Names.{is_name, is_name_byte}
 use Rattle.vms_spec.specs.WellFormed.{failing, here, set_rules, size_rules, struct_fault, device_fault, first_fault}
@@ -13,19 +14,19 @@ use Rattle.vms_spec.proofs.Faultless.{AllTrue, all_true, or_else_none}
 use Rattle.vms_desc.proofs.Bounds.{none_is}
 use Rattle.vms_desc.proofs.Clean.{device_clean, sub_clean}
 
-every_at : {X : Type 0} (p : X → Bool) (xs : List X) (i : ℕ) (d : X) → every p xs ≡ true → i < length xs → p (get_or xs i d) ≡ true
+every_at : {X : Type 0} (p : X → Bool) (xs : List X) (i : ℕ) (d : X) → list_all p xs ≡ true → i < length xs → p (get_or xs i d) ≡ true
 every_at p [] i d e lt = absurd (omega arith)
-every_at p (x ∷ xs) zero d e lt = (and_parts (p x) (every p xs) e).0
-every_at p (x ∷ xs) (suc i) d e lt = every_at p xs i d (and_parts (p x) (every p xs) e).1 (omega arith)
+every_at p (x ∷ xs) zero d e lt = (and_parts (p x) (list_all p xs) e).0
+every_at p (x ∷ xs) (suc i) d e lt = every_at p xs i d (and_parts (p x) (list_all p xs) e).1 (omega arith)
 
 name_short : (most : ℕ) (name : List ℕ) → is_name most name ≡ true → length name ≤ most
 name_short most name e =
-    let p = and_parts (nat_le 1 (length name) && nat_le (length name) most) (every is_name_byte name) e in
+    let p = and_parts (nat_le 1 (length name) && nat_le (length name) most) (list_all is_name_byte name) e in
     let q = and_parts (nat_le 1 (length name)) (nat_le (length name) most) p.0 in
     leb-true (length name) most q.1
 
 -- what stands at a number
-pub at_get : {X : Type 0} (xs : List X) (i : ℕ) (d : X) → i < length xs → at xs i ≡ Some (get_or xs i d)
+pub at_get : {X : Type 0} (xs : List X) (i : ℕ) (d : X) → i < length xs → slice_get xs i ≡ Some (get_or xs i d)
 at_get [] i d lt = absurd (omega arith)
 at_get (x ∷ xs) zero d lt = refl
 at_get (x ∷ xs) (suc i) d lt = at_get xs i d (omega arith)

@@ -2,19 +2,20 @@
 use Rattle.std.proofs.Common.{◌≡◌, ℕ, suc, ◌<◌, ◌≤◌, List, [], ◌∷◌, length, map, Option, Some, None, ℤ, refl, ap, ◌∙◌, arith, true}
 use Rattle.std.proofs.lemmas.List.{get_or-map}
 use Rattle.vms_kinds.specs.declared.Kind.TheVariants.{U8}
+use Rattle.vms_spec.specs.declared.TheConstants.{MOST_ITEMS}
 use Rattle.vms_spec.specs.Sets.{Set, Sub, AtLeast}
 use Rattle.vms_spec.specs.Layout.{Slot, Number, Constant, Filler, Rule, Cell, no_cell, no_desc, device_cells}
 use Rattle.vms_spec.specs.Images.{Image, own_cells, own_slots, sub_place, sub_slots, AreVersionsOf}
 use Rattle.vms_spec.specs.Streams.{IsReady}
 use Rattle.vms_spec.specs.WellFormed.{first_fault}
-use Rattle.vms_laws.specs.Cells.{AreCells}
-use Rattle.vms_laws.specs.Good.{IsGood}
+use Rattle.vms_bodies.specs.Cells.{AreCells}
+use Rattle.vms_spec.specs.Good.{IsGood}
 use Rattle.vms_spec.specs.Heads.{FitsHeads}
-use Rattle.vms_laws.proofs.ConstantLaws.{own_constants, part_constants}
-use Rattle.vms_laws.proofs.PartLaws.{sub_are}
-use Rattle.vms_laws.proofs.SectionLaws.{fit_slots, own_are}
-use Rattle.vms_laws.proofs.SpellLaws.{FitSlots}
-use Rattle.vms_laws.proofs.WellFormedLaws.{well_good}
+use Rattle.vms_bodies.proofs.ConstantLaws.{own_constants, part_constants}
+use Rattle.vms_bodies.proofs.PartLaws.{sub_are}
+use Rattle.vms_bodies.proofs.SectionLaws.{fit_slots, own_are}
+use Rattle.vms_bodies.proofs.SpellLaws.{FitSlots}
+use Rattle.vms_spec.proofs.WellFormedLaws.{well_good}
 use Rattle.vms_desc.specs.Described.{device_at}
 use Rattle.vms_desc.specs.Formed.{is_well_formed}
 use Rattle.vms_desc.specs.Parts.{sub_at}
@@ -43,7 +44,7 @@ versions_long (s ∷ subs) (Some v ∷ came) h = ap suc (versions_long subs came
 
 -- device i of a set has an image whose bytes can be written
 pub record IsWritable (set : Set) (i : ℕ) (image : Image) : Type 0 where
-  pub few : length image.numbers ≤ 16384
+  pub few : length image.numbers ≤ MOST_ITEMS
   pub cells : length image.numbers ≡ length (device_cells set (device_at set i))
   pub came : length image.came ≡ length (device_at set i).subs
   pub own : CanWrite (kinds_at set i) (own_slots set (device_at set i) image.version image.numbers)

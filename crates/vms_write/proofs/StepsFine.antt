@@ -8,11 +8,11 @@ use Rattle.vms_spec.specs.Rules.{in_range, int_le, counts_well}
 use Rattle.vms_spec.specs.Layout.{Slot, Number, Constant, Filler, Rule, Cell, desc_cells}
 use Rattle.vms_spec.specs.Images.{has_cell}
 use Rattle.vms_spec.specs.Places.{own_cell_count}
-use Rattle.vms_laws.proofs.CellLaws.{cells_first}
+use Rattle.vms_bodies.proofs.CellLaws.{cells_first}
 use Rattle.vms_parts.specs.Capacities.{lesser, least_from, least_of}
 use Rattle.vms_parts.specs.declared.types.CellForm.{CellForm}
 use Rattle.vms_desc.specs.Parts.{desc_at}
-use Rattle.vms_walk.specs.declared.fields.Spot.{Spot}
+use Rattle.vms_walk.specs.declared.fields.PartAt.{PartAt}
 use Rattle.vms_walk.specs.Steps.{steps_of, table, spot_slots}
 use Rattle.vms_walk.proofs.Order.{Ascends, below_from, from_end, desc_ascends, meanings_ascend}
 use Rattle.vms_write.specs.Fine.{no_form, is_within, are_fit, settle, is_fine}
@@ -124,13 +124,13 @@ slots_fine forms n at end (Rule b ∷ xs) h =
 
 -- ---- a part of a set
 
-part_ascends : (set : Set) (spot : Spot) (n : List ℤ) → Ascends spot.base (spot.base + own_cell_count set (desc_at set spot.part)) (spot_slots set spot n)
+part_ascends : (set : Set) (spot : PartAt) (n : List ℤ) → Ascends spot.base (spot.base + own_cell_count set (desc_at set spot.part)) (spot_slots set spot n)
 part_ascends set spot n =
     subst (λ (cs : List (List Cell)). Ascends spot.base (spot.base + length (desc_cells cs (desc_at set spot.part))) (spot_slots set spot n)) (cells_first set.structs (length set.structs))
     (desc_ascends (table set) (meanings_ascend set.structs (length set.structs)) (desc_at set spot.part) spot.version n spot.base)
 
 -- the walk over a part comes to its end
-pub part_fine : (set : Set) (spot : Spot) (forms : List CellForm) (n : List ℤ) (end : ℕ) → end ≡ spot.base + own_cell_count set (desc_at set spot.part)
+pub part_fine : (set : Set) (spot : PartAt) (forms : List CellForm) (n : List ℤ) (end : ℕ) → end ≡ spot.base + own_cell_count set (desc_at set spot.part)
     → are_steps_fine forms n spot.base (steps_of (spot_slots set spot n)) ≡ true
     → settle [] forms n (behind spot.base (steps_of (spot_slots set spot n))) (end - behind spot.base (steps_of (spot_slots set spot n)))
     ≡ is_fine forms n (spot_slots set spot n) spot.base (own_cell_count set (desc_at set spot.part))
@@ -144,7 +144,7 @@ part_fine set spot forms n end e fine =
     ∙ ap (is_fine forms n (spot_slots set spot n) spot.base) long
 
 -- it stops
-pub part_unfit : (set : Set) (spot : Spot) (forms : List CellForm) (n : List ℤ) → are_steps_fine forms n spot.base (steps_of (spot_slots set spot n)) ≡ false
+pub part_unfit : (set : Set) (spot : PartAt) (forms : List CellForm) (n : List ℤ) → are_steps_fine forms n spot.base (steps_of (spot_slots set spot n)) ≡ false
     → false ≡ is_fine forms n (spot_slots set spot n) spot.base (own_cell_count set (desc_at set spot.part))
 part_unfit set spot forms n fine =
     let steps = steps_of (spot_slots set spot n) in
@@ -156,7 +156,7 @@ part_unfit set spot forms n fine =
     ∙ ap (is_fine forms n (spot_slots set spot n) spot.base) long
 
 -- no cell behind a part's steps is past its end
-pub behind_end : (set : Set) (spot : Spot) (n : List ℤ) → behind spot.base (steps_of (spot_slots set spot n)) ≤ spot.base + own_cell_count set (desc_at set spot.part)
+pub behind_end : (set : Set) (spot : PartAt) (n : List ℤ) → behind spot.base (steps_of (spot_slots set spot n)) ≤ spot.base + own_cell_count set (desc_at set spot.part)
 behind_end set spot n = go spot.base _ (spot_slots set spot n) (part_ascends set spot n)
   where
     go : (at end : ℕ) (xs : List Slot) → Ascends at end xs → behind at (steps_of xs) ≤ end

@@ -4,11 +4,11 @@ use Rattle.vms_kinds.specs.declared.Kind.{Kind}
 use Rattle.vms_kinds.specs.declared.Kind.TheVariants.{U8}
 use Rattle.vms_kinds.specs.Codes.{InRange, code}
 use Rattle.vms_spec.specs.Layout as slots
-use Rattle.vms_walk.specs.declared.step.Step.{Step}
-use Rattle.vms_walk.specs.declared.step.Step.TheVariants.{Number, Constant, Filler, Rule}
+use Rattle.vms_walk.specs.declared.step.WalkStep.{WalkStep}
+use Rattle.vms_walk.specs.declared.step.WalkStep.TheVariants.{Number, Constant, Filler, Rule}
 
 -- the number of a step is of the kind of its cell, and its constant in the range of its kind
-abbrev pub CanStep : List Kind → Step → Type 0
+abbrev pub CanStep : List Kind → WalkStep → Type 0
 CanStep kinds (Number cell kind most) = get_or kinds cell U8 ≡ kind
 CanStep kinds (Constant kind value) = InRange kind value
 CanStep kinds (Filler bytes) = Unit {0}
@@ -22,12 +22,12 @@ CanWrite kinds (slots.Constant kind z ∷ xs) = InRange kind z × CanWrite kinds
 CanWrite kinds (slots.Filler n ∷ xs) = CanWrite kinds xs
 CanWrite kinds (slots.Rule b ∷ xs) = CanWrite kinds xs
 
-abbrev pub step_bytes : List ℤ → Step → List ℕ
+abbrev pub step_bytes : List ℤ → WalkStep → List ℕ
 step_bytes numbers (Number cell kind most) = code kind (get_or numbers cell (pos 0))
 step_bytes numbers (Constant kind value) = code kind value
 step_bytes numbers (Filler bytes) = replicate bytes 0
 step_bytes numbers (Rule holds) = []
 
-abbrev pub bytes_of : List ℤ → List Step → List ℕ
+abbrev pub bytes_of : List ℤ → List WalkStep → List ℕ
 bytes_of numbers [] = []
 bytes_of numbers (x ∷ xs) = step_bytes numbers x ++ bytes_of numbers xs

@@ -13,12 +13,12 @@ use crate::pieces::{append, write_zeros};
 use vms_desc::{Cells, DescSet};
 use vms_image::Image;
 use vms_io::Sink;
-use vms_walk::{Spot, Step, Walker, walk};
+use vms_walk::{PartAt, WalkStep, Walker, walk};
 
 // Appends the bytes of a part.
 pub(crate) fn write_fields<K: Sink>(
     set: &DescSet,
-    spot: Spot,
+    spot: PartAt,
     image: &Image,
     sink: &mut K,
 ) -> Result<(), WriteFault>
@@ -94,13 +94,13 @@ impl<K: Sink> Walker for Writer<'_, K> {
     ghost stops_before = { λ xs ys a b fault h. (h.0, h.1, cut_before _ xs ys _ _ h.2) };
 
     #[inline(always)]
-    fn step(&mut self, step: Step) -> Result<(), WriteFault> {
+    fn step(&mut self, step: WalkStep) -> Result<(), WriteFault> {
         write_step(self.image, step, self.sink)
     }
 }
 
 #[inline(always)]
-fn write_step<K: Sink>(image: &Image, step: Step, sink: &mut K) -> Result<(), WriteFault>
+fn write_step<K: Sink>(image: &Image, step: WalkStep, sink: &mut K) -> Result<(), WriteFault>
     requires inside { IsInside image.now.numbers step }
     requires can { CanStep image.now.kinds step }
     ensures ok { let bytes = step_bytes image.now.numbers step in
@@ -111,9 +111,9 @@ fn write_step<K: Sink>(image: &Image, step: Step, sink: &mut K) -> Result<(), Wr
     ensures promise { K.promise sink.new ≡ K.promise sink.old }
 {
     match step {
-        Step::Number { cell, .. } => append(sink, image.code(cell)),
-        Step::Constant { kind, value } => append(sink, kind.put(value).as_slice()),
-        Step::Filler { bytes } => write_zeros(bytes, sink),
-        Step::Rule { .. } => Ok(()),
+        WalkStep::Number { cell, .. } => append(sink, image.code(cell)),
+        WalkStep::Constant { kind, value } => append(sink, kind.put(value).as_slice()),
+        WalkStep::Filler { bytes } => write_zeros(bytes, sink),
+        WalkStep::Rule { .. } => Ok(()),
     }
 }

@@ -1,4 +1,5 @@
 // Whether a part of an image is fine, step by step.
+ghost use Rattle.vms_spec.specs.declared.TheConstants.{MOST_ITEMS};
 ghost use Rattle.std.specs.Prelude.{◌≡◌, ◌<◌, ◌≤◌, ◌-◌, [], length, get_or, pos};
 ghost use Rattle.vms_spec.specs.Places.{own_cell_count};
 ghost use Rattle.vms_spec.specs.Rules.{in_range};
@@ -12,11 +13,11 @@ ghost use Rattle.vms_write.specs.Steps.{is_number_fine};
 use vms_desc::{CellForm, Cells, DescSet};
 use vms_image::Image;
 use vms_kinds::Kind;
-use vms_walk::{Spot, Step, Walker, walk};
+use vms_walk::{PartAt, WalkStep, Walker, walk};
 
 // Whether each number of a part is in range and counts no more than there is room for, each of its cells that
 // doesn't stand in the bytes is at its default, and its validations hold, those of its structures among them.
-pub(crate) fn is_part_fine(set: &DescSet, spot: Spot, image: &Image, forms: &[CellForm]) -> bool
+pub(crate) fn is_part_fine(set: &DescSet, spot: PartAt, image: &Image, forms: &[CellForm]) -> bool
     requires spot { HasSpot (described set.now) spot image.now.numbers }
     requires forms { length forms.now ≡ length image.now.numbers }
     ensures { let slots = spot_slots (described set.now) spot image.now.numbers in
@@ -72,7 +73,7 @@ impl Walker for Judge<'_> {
     ghost stops = { λ xs a fault b. (b.image ≡ a.image)
         × (are_steps_fine a.forms.now a.image.now.numbers a.next xs ≡ false) };
 
-    ghost may = { λ a step. (length a.image.now.numbers ≤ 16384)
+    ghost may = { λ a step. (length a.image.now.numbers ≤ MOST_ITEMS)
         × (length a.forms.now ≡ length a.image.now.numbers) };
 
     ghost keeps = { λ xs a b h. keeps_same xs _ _ (ap (λ image. image.now.numbers) h.0) };
@@ -99,9 +100,9 @@ impl Walker for Judge<'_> {
 
     ghost stops_before = { λ xs ys a b fault h. (h.0, fine_before _ _ a.next xs ys h.1) };
 
-    fn step(&mut self, step: Step) -> Result<(), Unfit> {
+    fn step(&mut self, step: WalkStep) -> Result<(), Unfit> {
         match step {
-            Step::Number { cell, kind, most } => {
+            WalkStep::Number { cell, kind, most } => {
                 if !is_number_fine(kind, most, self.image.get(cell)) {
                     return Err(Unfit);
                 }
@@ -111,8 +112,8 @@ impl Walker for Judge<'_> {
                 self.next = cell + 1;
                 Ok(())
             }
-            Step::Constant { .. } | Step::Filler { .. } => Ok(()),
-            Step::Rule { holds } => { if holds { Ok(()) } else { Err(Unfit) } }
+            WalkStep::Constant { .. } | WalkStep::Filler { .. } => Ok(()),
+            WalkStep::Rule { holds } => { if holds { Ok(()) } else { Err(Unfit) } }
         }
     }
 }

@@ -11,7 +11,7 @@ ghost use Rattle.vms_write.specs.Judged.{own_fine, all_subs_fine, sub_fine_at, i
 use crate::fine::{are_default, is_part_fine};
 use vms_desc::{DescSet, Part};
 use vms_image::Image;
-use vms_walk::Spot;
+use vms_walk::PartAt;
 
 /// Tells whether the image of a device may be written: it is at the set's version, each number is in range
 /// and counts no more than there is room for, what doesn't stand in the bytes is at its default, the
@@ -69,7 +69,7 @@ fn is_own_fine(set: &DescSet, device: u32, image: &Image) -> bool
         result ≡ own_fine (described set.now) d (state_of image.now) }
 {
     let version = image.version();
-    let own = Spot {
+    let own = PartAt {
         part: Part::Device(device),
         version,
         base: 0,
@@ -123,7 +123,7 @@ fn is_sent_fine(set: &DescSet, device: u32, image: &Image, sub: u32, version: u3
     ensures { result ≡ is_sent_fine_at (described set.now) device (state_of image.now) sub version }
 {
     let part = Part::Sub(device, sub);
-    let spot = Spot {
+    let spot = PartAt {
         part,
         version,
         base: set.first_cell(part),

@@ -17,7 +17,7 @@ use vms_desc::{DescSet, Part};
 use vms_image::Image;
 use vms_io::Sink;
 use vms_marks::Foot;
-use vms_walk::Spot;
+use vms_walk::PartAt;
 
 /// Appends the section of a device that is ready, with the device's number as its id. After a fault a
 /// prefix of it was appended.
@@ -48,7 +48,7 @@ pub fn write_section<K: Sink>(
         image.version(),
     );
     append(sink, head.as_slice())?;
-    let own = Spot {
+    let own = PartAt {
         part: Part::Device(device),
         version: image.version(),
         base: 0,
@@ -115,7 +115,7 @@ fn write_sub<K: Sink>(
             let part = Part::Sub(device, sub);
             let head = sub_head(set.desc(part).name.as_bytes(), version);
             append(sink, head.as_slice())?;
-            let spot = Spot {
+            let spot = PartAt {
                 part,
                 version,
                 base: set.first_cell(part),

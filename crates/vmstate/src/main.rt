@@ -2,16 +2,16 @@
 #![tactic(auto)]
 
 ghost use Rattle.std.specs.Prelude.{◌≡◌, if◌then◌else◌};
-ghost use Rattle.vms_outcome.specs.declared.ending.Ending.TheVariants as endings;
-ghost use Rattle.vms_outcome.specs.Endings.{status_of};
+ghost use Rattle.vms_commands.specs.declared.ending.Ending.TheVariants as endings;
+ghost use Rattle.vms_commands.specs.Endings.{status_of};
 
 use std::alloc::Global;
 use std::env;
 use std::io::ErrorKind;
 use std::process::ExitCode;
 use vms_cli::{Words, tell, vmstate};
+use vms_commands::Ending;
 use vms_io::{FileShelf, NoMemory, Sink, StdSink, StdSource};
-use vms_outcome::Ending;
 
 fn main(rt: HostRuntime) -> ExitCode {
     let mut out = StdSink::new(rt.stdout());

@@ -5,9 +5,9 @@ use Rattle.vms_kinds.specs.Codes.{width}
 use Rattle.vms_spec.specs.declared.Reason.{Reason}
 use Rattle.vms_spec.specs.Layout.{Number as NumberSlot, Filler as FillerSlot}
 use Rattle.vms_spec.specs.Units.{Piece, Number, Filler}
-use Rattle.vms_units.specs.Dues.{Field, AfterEnd}
-use Rattle.vms_units.specs.Seen.{Seen, seen}
-use Rattle.vms_units.specs.Taking.{nothing_known}
+use Rattle.vms_stream.specs.Dues.{Field, AfterEnd}
+use Rattle.vms_stream.specs.Seen.{Seen, seen}
+use Rattle.vms_stream.specs.Taking.{nothing_known}
 use Rattle.vms_frames.specs.declared.fault.FrameFault.{FrameFault}
 use Rattle.vms_frames.specs.declared.fault.FrameFault.TheVariants.{Refused, ReadFault}
 use Rattle.vms_frames.specs.declared.units.Between.{Between}

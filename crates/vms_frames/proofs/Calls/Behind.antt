@@ -3,13 +3,13 @@ use Rattle.std.proofs.Common.{◌≡◌, ℕ, ◌+◌, List, [], ◌∷◌, leng
 use Rattle.std.proofs.lemmas.Bool.{le-ltb, eqb-true}
 use Rattle.vms_spec.specs.declared.Reason.{Reason}
 use Rattle.vms_spec.specs.declared.Reason.TheVariants as reasons
-use Rattle.vms_spec.specs.Judging.{number_at, bytes_at}
+use Rattle.vms_spec.specs.Lookup.{number_at, bytes_at}
 use Rattle.vms_spec.specs.Units.{Foot, Mark}
-use Rattle.vms_laws.proofs.BodyOnly.{if_false}
-use Rattle.vms_units.specs.SoFar.{Tail, Unknown, Footed, Bare}
-use Rattle.vms_units.specs.Dues.{AfterFields, is_foot, is_next, begins_next}
-use Rattle.vms_units.specs.Finding.{Whole, Cut, needs, sub_at, between_at, behind_at}
-use Rattle.vms_units.specs.Seen.{Seen, Bad, seen, seen_in, seen_by}
+use Rattle.vms_bodies.proofs.BodyOnly.{if_false}
+use Rattle.vms_stream.specs.SoFar.{Tail, Unknown, Footed, Bare}
+use Rattle.vms_stream.specs.Dues.{AfterFields, is_foot, is_next, begins_next}
+use Rattle.vms_stream.specs.Finding.{Whole, Cut, needs, sub_at, between_at, behind_at}
+use Rattle.vms_stream.specs.Seen.{Seen, Bad, seen, seen_in, seen_by}
 use Rattle.vms_frames.specs.declared.fault.FrameFault.{FrameFault}
 use Rattle.vms_frames.specs.declared.fault.FrameFault.TheVariants.{Refused, ReadFault}
 use Rattle.vms_marks.specs.declared.mark.Mark.{Mark as AMark}

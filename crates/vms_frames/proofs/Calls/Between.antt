@@ -4,9 +4,9 @@ use Rattle.std.proofs.lemmas.Bool.{le-ltb, eqb-true}
 use Rattle.std.proofs.lemmas.List.{length-take-le}
 use Rattle.vms_spec.specs.declared.Reason.{Reason}
 use Rattle.vms_spec.specs.declared.Reason.TheVariants as reasons
-use Rattle.vms_spec.specs.Judging.{number_at, bytes_at}
+use Rattle.vms_spec.specs.Lookup.{number_at, bytes_at}
 use Rattle.vms_spec.specs.Units.{Piece, Configuration, Long, Head, End, Start, Mark}
-use Rattle.vms_laws.proofs.BodyOnly.{if_false, if_true}
+use Rattle.vms_bodies.proofs.BodyOnly.{if_false, if_true}
 use Rattle.vms_marks.specs.declared.mark.Mark.{Mark as AMark}
 use Rattle.vms_marks.specs.declared.mark.Mark.TheVariants as marks
 use Rattle.vms_marks.specs.Marks.{mark_of}
@@ -16,11 +16,11 @@ use Rattle.vms_frames.specs.declared.units.Between.TheVariants.{First, AfterConf
 use Rattle.vms_frames.specs.declared.units.Step.{Step}
 use Rattle.vms_frames.specs.declared.units.Step.TheVariants as steps
 use Rattle.vms_frames.specs.Found.{Found as Answer, Whole as IsWhole, Wrong, Cut as IsCut, needs as wants, between_found, mark_found, head_found, start_found, start_reason, configuration_found, step_long}
-use Rattle.vms_units.specs.Dues.{Between as IsBetween}
-use Rattle.vms_units.specs.Table.{first_row, is_ram, alone}
-use Rattle.vms_units.specs.Finding.{Found, Whole, Cut, needs, start_at, head_at, text_at, between_at}
-use Rattle.vms_units.specs.Seen.{Good, Bad, seen, seen_in, seen_by}
-use Rattle.vms_units.specs.Taking.{nothing_known}
+use Rattle.vms_stream.specs.Dues.{Between as IsBetween}
+use Rattle.vms_stream.specs.Table.{first_row, is_ram, alone}
+use Rattle.vms_stream.specs.Finding.{Found, Whole, Cut, needs, start_at, head_at, text_at, between_at}
+use Rattle.vms_stream.specs.Seen.{Good, Bad, seen, seen_in, seen_by}
+use Rattle.vms_stream.specs.Taking.{nothing_known}
 use Rattle.vms_frames.specs.Calls.{unit_of_step, due_of}
 use Rattle.vms_frames.proofs.Calls.Cursors.{framed, nested, one_le, as_seen}
 

@@ -7,23 +7,23 @@ use Rattle.vms_kinds.specs.Codes.{width, value_of}
 use Rattle.vms_spec.specs.declared.Reason.{Reason}
 use Rattle.vms_spec.specs.declared.Reason.TheVariants as reasons
 use Rattle.vms_spec.specs.Numbers.{is_truth, is_above}
-use Rattle.vms_spec.specs.Judging.{is_bad_bool, number_at, bytes_at}
+use Rattle.vms_spec.specs.Lookup.{is_bad_bool, number_at, bytes_at}
 use Rattle.vms_spec.specs.Layout.{Number as NumberSlot, Filler as FillerSlot}
 use Rattle.vms_spec.specs.Units.{Piece, Magic, Version, Number, Filler, SubHead, Foot, Mark}
 use Rattle.std.specs.Str.{bytes_eq}
 use Rattle.vms_spec.specs.Streams.{magic}
-use Rattle.vms_laws.proofs.FaultFields.{raw_same, bad_same}
-use Rattle.vms_laws.proofs.BodyOnly.{if_true}
+use Rattle.vms_bodies.proofs.FaultFields.{raw_same, bad_same}
+use Rattle.vms_bodies.proofs.BodyOnly.{if_true}
 use Rattle.vms_frames.specs.declared.units.Behind.{Behind}
 use Rattle.vms_frames.specs.declared.units.Behind.TheVariants.{Sub, Next, Done}
 use Rattle.vms_frames.specs.Found.{Found as Answer, Whole as IsWhole, Wrong, Cut as IsCut, needs as wants, magic_found, version_found, number_found, skip_found, sub_found, foot_found, behind_long}
-use Rattle.vms_units.specs.Dues.{Due, AMagic, AVersion, Field, AfterFields, raw}
-use Rattle.vms_units.specs.Table.{first_row, alone}
-use Rattle.vms_units.specs.Finding.{Whole, Cut, needs, sub_at}
-use Rattle.vms_units.specs.Seen.{Seen, Good, Bad, Short, seen, seen_in, seen_by}
-use Rattle.vms_units.specs.Taking.{nothing_known}
+use Rattle.vms_stream.specs.Dues.{Due, AMagic, AVersion, Field, AfterFields, raw}
+use Rattle.vms_stream.specs.Table.{first_row, alone}
+use Rattle.vms_stream.specs.Finding.{Whole, Cut, needs, sub_at}
+use Rattle.vms_stream.specs.Seen.{Seen, Good, Bad, Short, seen, seen_in, seen_by}
+use Rattle.vms_stream.specs.Taking.{nothing_known}
 use Rattle.vms_frames.specs.Calls.{in_section}
-use Rattle.vms_units.specs.SoFar.{Tail, Footed, Known}
+use Rattle.vms_stream.specs.SoFar.{Tail, Footed, Known}
 
 -- what is found, as it is seen
 abbrev pub as_seen : {X : Type 0} → (X → Piece) → (X → ℕ) → Answer X → Seen

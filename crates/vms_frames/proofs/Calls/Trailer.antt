@@ -4,15 +4,15 @@ use Rattle.std.proofs.lemmas.Bool.{le-ltb}
 use Rattle.vms_spec.specs.declared.Reason.{Reason}
 use Rattle.vms_spec.specs.declared.Reason.TheVariants as reasons
 use Rattle.vms_spec.specs.Streams.{longest_text}
-use Rattle.vms_spec.specs.Judging.{number_at, bytes_at}
+use Rattle.vms_spec.specs.Lookup.{number_at, bytes_at}
 use Rattle.vms_spec.specs.Units.{Piece, Description, Long, Mark}
-use Rattle.vms_laws.proofs.BodyOnly.{if_false}
+use Rattle.vms_bodies.proofs.BodyOnly.{if_false}
 use Rattle.vms_frames.specs.Found.{Found as Answer, Whole as IsWhole, Wrong, needs as wants, text_found, trailer_found}
-use Rattle.vms_units.specs.Dues.{AfterEnd}
-use Rattle.vms_units.specs.Table.{first_row, alone}
-use Rattle.vms_units.specs.Finding.{Found, Whole, Cut, needs, text_at, trailer_at}
-use Rattle.vms_units.specs.Seen.{seen, seen_in, seen_by}
-use Rattle.vms_units.specs.Taking.{nothing_known}
+use Rattle.vms_stream.specs.Dues.{AfterEnd}
+use Rattle.vms_stream.specs.Table.{first_row, alone}
+use Rattle.vms_stream.specs.Finding.{Found, Whole, Cut, needs, text_at, trailer_at}
+use Rattle.vms_stream.specs.Seen.{seen, seen_in, seen_by}
+use Rattle.vms_stream.specs.Taking.{nothing_known}
 use Rattle.vms_frames.proofs.Calls.Cursors.{framed, nested, one_le, as_seen}
 
 -- the description that stands there

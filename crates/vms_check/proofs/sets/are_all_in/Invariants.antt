@@ -1,7 +1,7 @@
 use Rattle.std.proofs.Common.{◌≡◌, drop}
-use Rattle.vms_spec.specs.Lists.{every}
+use Rattle.std.specs.List.{list_all}
 use Rattle.vms_spec.specs.Streams.{is_one_of}
 use Rattle.vms_check.proofs.sets.are_all_in.Given as goal
 
 abbrev pub invariant-loop-name : goal.invariant-loop-name
-invariant-loop-name l = every (is_one_of l.known) (drop l.name-index l.names) ≡ every (is_one_of l.known) l.names
+invariant-loop-name l = list_all (is_one_of l.known) (drop l.name-index l.names) ≡ list_all (is_one_of l.known) l.names

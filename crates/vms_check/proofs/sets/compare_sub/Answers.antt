@@ -1,7 +1,7 @@
 use Rattle.std.proofs.Common.{◌≡◌, List, length, map, ap, ◌∙◌, arith}
 use Rattle.std.proofs.lemmas.List.{length-map}
 use Rattle.vms_spec.specs.declared.Part.TheVariants as parts
-use Rattle.vms_spec.specs.Judging.{find_sub}
+use Rattle.vms_spec.specs.Lookup.{find_sub}
 use Rattle.vms_spec.specs.Sets.{Desc, Device, Sub}
 use Rattle.vms_parts.specs.declared.types.Sub.{Sub as CodeSub}
 use Rattle.vms_parts.specs.Views.{sub_of}

@@ -1,5 +1,5 @@
 use Rattle.std.proofs.Common.{◌≡◌, drop, map}
-use Rattle.vms_spec.specs.Judging.{find_sub}
+use Rattle.vms_spec.specs.Lookup.{find_sub}
 use Rattle.vms_parts.specs.Views.{sub_of}
 use Rattle.vms_check.proofs.sets.find_sub.Given as goal
 

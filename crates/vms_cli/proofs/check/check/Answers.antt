@@ -1,13 +1,13 @@
 use Rattle.std.proofs.Common.{Ok, Err, Option, ◌∙◌, subst}
 use Rattle.vms_io.specs.Shelves.{Held}
 use Rattle.vms_io.specs.Told.{outlet, stock}
-use Rattle.vms_outcome.specs.Asks.{set_asked}
+use Rattle.vms_commands.specs.Asks.{set_asked}
 use Rattle.vms_cli.specs.Check.{checked, compared}
-use Rattle.vms_outcome.specs.Fetching.{fetched_set, sets_in}
-use Rattle.vms_outcome.specs.StepEndings.{StepAs, text_of}
-use Rattle.vms_outcome.specs.Steps.{both, next}
-use Rattle.vms_outcome.proofs.StepLemmas.{both_give, regroup, second_ends, text_ends}
-use Rattle.vms_outcome.proofs.EndLemmas.{quiet_same}
+use Rattle.vms_commands.specs.Fetching.{fetched_set, sets_in}
+use Rattle.vms_commands.specs.StepEndings.{StepAs, text_of}
+use Rattle.vms_commands.specs.Steps.{both, next}
+use Rattle.vms_commands.proofs.StepLemmas.{both_give, regroup, second_ends, text_ends}
+use Rattle.vms_commands.proofs.EndLemmas.{quiet_same}
 use Rattle.vms_cli.proofs.CheckLemmas.{compare_quiet}
 use Rattle.vms_cli.proofs.check.check.Goals as goal
 

@@ -1,8 +1,8 @@
 use Rattle.vms_io.specs.Told.{outlet}
 use Rattle.vms_desc.specs.Described.{described}
 use Rattle.vms_cli.specs.Check.{compared}
-use Rattle.vms_outcome.specs.Fetching.{set_in}
-use Rattle.vms_outcome.specs.StepEndings.{text_of}
+use Rattle.vms_commands.specs.Fetching.{set_in}
+use Rattle.vms_commands.specs.StepEndings.{text_of}
 use Rattle.vms_cli.proofs.CheckLemmas.{first_gives}
 use Rattle.vms_cli.proofs.check.check_texts.Goals as goal
 

@@ -3,11 +3,11 @@ use Rattle.std.specs.declared.vec.Vec.{Vec}
 use Rattle.std.specs.declared.alloc.Global.{Global}
 use Rattle.vms_io.specs.Shelves.{Held}
 use Rattle.vms_io.specs.Told.{outlet, stock}
-use Rattle.vms_outcome.specs.Asks.{set_asked}
-use Rattle.vms_outcome.specs.Fetching.{fetched, longest_file}
-use Rattle.vms_outcome.specs.StepEndings.{StepAs, TextEnds, text_of}
-use Rattle.vms_outcome.proofs.EndLemmas.{quiet_same}
-use Rattle.vms_outcome.proofs.StepLemmas.{text_ends}
+use Rattle.vms_commands.specs.Asks.{set_asked}
+use Rattle.vms_commands.specs.Fetching.{fetched, longest_file}
+use Rattle.vms_commands.specs.StepEndings.{StepAs, TextEnds, text_of}
+use Rattle.vms_commands.proofs.EndLemmas.{quiet_same}
+use Rattle.vms_commands.proofs.StepLemmas.{text_ends}
 use Rattle.vms_cli.specs.Pack.{packed_texts, packs}
 use Rattle.vms_cli.proofs.PackLemmas.{set_ends, texts_end, values_end, write_quiet}
 use Rattle.vms_cli.proofs.pack.pack.Goals as goal

@@ -1,8 +1,8 @@
 use Rattle.vms_io.specs.Told.{outlet}
 use Rattle.vms_desc.specs.Described.{described}
-use Rattle.vms_outcome.specs.Fetching.{set_in}
-use Rattle.vms_outcome.specs.StepEndings.{text_of}
-use Rattle.vms_outcome.proofs.StepLemmas.{then_text}
+use Rattle.vms_commands.specs.Fetching.{set_in}
+use Rattle.vms_commands.specs.StepEndings.{text_of}
+use Rattle.vms_commands.proofs.StepLemmas.{then_text}
 use Rattle.vms_cli.specs.Pack.{packed}
 use Rattle.vms_cli.proofs.pack.pack_texts.Goals as goal
 

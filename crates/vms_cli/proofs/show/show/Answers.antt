@@ -1,11 +1,11 @@
 use Rattle.std.proofs.Common.{refl, inl, inr}
 use Rattle.vms_io.specs.Told.{intake, outlet, stock}
 use Rattle.vms_load.specs.Kept.{loads}
-use Rattle.vms_outcome.specs.Asks.{set_asked}
-use Rattle.vms_outcome.specs.Fetching.{is_on_shelf, word_set}
-use Rattle.vms_outcome.proofs.EndLemmas.{keeps_same, quiet_same}
-use Rattle.vms_outcome.proofs.StepLemmas.{ended_by, had_by}
-use Rattle.vms_boards.proofs.HeardLemmas.{given_so, heard_so, other_heard}
+use Rattle.vms_commands.specs.Asks.{set_asked}
+use Rattle.vms_commands.specs.Fetching.{is_on_shelf, word_set}
+use Rattle.vms_commands.proofs.EndLemmas.{keeps_same, quiet_same}
+use Rattle.vms_commands.proofs.StepLemmas.{ended_by, had_by}
+use Rattle.vms_board_commands.proofs.HeardLemmas.{given_so, heard_so, other_heard}
 use Rattle.vms_load.specs.declared.loader.Loader.{Loader}
 use Rattle.vms_spec.specs.Sets.{Set}
 use Rattle.vms_cli.specs.Show.{ShowsWell}

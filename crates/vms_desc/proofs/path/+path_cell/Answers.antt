@@ -1,7 +1,8 @@
 use Rattle.std.proofs.Common.{◌≡◌, ◌+◌, ◌≤◌, [], List, ℕ, Some, None, length, length-take-le, sym, ap, subst, ◌∙◌, arith}
 use Rattle.std.specs.Prelude.{nat_lt, if◌then◌else◌}
+use Rattle.std.specs.List.{slice_get}
 use Rattle.std.proofs.lemmas.Bool.{eqb-true}
-use Rattle.vms_spec.specs.Lists.{at}
+use Rattle.vms_spec.specs.declared.TheConstants.{MOST_ITEMS}
 use Rattle.vms_spec.specs.Layout.{no_desc}
 use Rattle.vms_kinds.specs.declared.Item.{Item}
 use Rattle.vms_kinds.specs.declared.Item.TheVariants.{Struct}
@@ -21,8 +22,8 @@ path_cell-requires t c =
     let set = set_of c.args.parts.now in
     let p = c.args.placed in
     let el = c.in_ok-element.element in
-    let within : el.cell + size_of Cells p.sizes.now el.item ≤ 16384 = element_within p.sizes.now (desc_of p.desc.now) p.base c.in_ok-first.first.now el (few_by_sizes set p c.requires) c.in_ok-element.ensures in
-    let few : el.cell + size_of Cells p.sizes.now (Struct c.in-Struct.number) ≤ 16384 = subst (λ (i : Item). el.cell + size_of Cells p.sizes.now i ≤ 16384) c.in-Struct.is within in
+    let within : el.cell + size_of Cells p.sizes.now el.item ≤ MOST_ITEMS = element_within p.sizes.now (desc_of p.desc.now) p.base c.in_ok-first.first.now el (few_by_sizes set p c.requires) c.in_ok-element.ensures in
+    let few : el.cell + size_of Cells p.sizes.now (Struct c.in-Struct.number) ≤ MOST_ITEMS = subst (λ (i : Item). el.cell + size_of Cells p.sizes.now i ≤ MOST_ITEMS) c.in-Struct.is within in
     let placed : IsPlaced set c.in_ok-inner-in-Struct.inner = inner_placed set p c.requires c.in-Struct.number el.cell c.in_ok-inner-in-Struct.inner c.in_ok-inner-in-Struct.ensures few in
     (omega (arith, c.in_ok-first.ensures.cases.1), placed)
 
@@ -38,7 +39,7 @@ returns-in-Num t c =
     (ap (λ (path : List (ℕ × ℕ)). path_at set path (length p.sizes.now) (Some (desc_of p.desc.now)) p.base) c.in_ok-first.ensures.cases.0
     ∙ path_is set p c.requires rest step ∙ ap (after set p c.requires rest) (sym c.in_ok-element.ensures)
     ∙ ap (λ (i : Item). after set p c.requires rest (Some (record { item = i; cell = el.cell }))) c.in-Num.is
-    ∙ at_number (λ j cell. if nat_lt j (length p.sizes.now) then path_at set rest j (at set.structs j) cell else None) rest c.in-Num.field-0 el.cell none)
+    ∙ at_number (λ j cell. if nat_lt j (length p.sizes.now) then path_at set rest j (slice_get set.structs j) cell else None) rest c.in-Num.field-0 el.cell none)
 
 pub returns-in_ok-inner-in-Struct : goal.returns-in_ok-inner-in-Struct
 returns-in_ok-inner-in-Struct t c =
@@ -51,7 +52,7 @@ returns-in_ok-inner-in-Struct t c =
     let j = c.in-Struct.number in
     let enters = c.in_ok-inner-in-Struct.ensures in
     let long : length inner.sizes.now ≡ j = ap length enters.sizes_are ∙ length-take-le j p.sizes.now (omega (arith, enters.known)) in
-    let there : at set.structs j ≡ Some (desc_of inner.desc.now) = at_known set.structs j no_desc (omega (arith, enters.known, c.requires.known)) ∙ ap Some (sym enters.desc) in
+    let there : slice_get set.structs j ≡ Some (desc_of inner.desc.now) = at_known set.structs j no_desc (omega (arith, enters.known, c.requires.known)) ∙ ap Some (sym enters.desc) in
     let whole : path_at set c.args.path.now (length p.sizes.now) (Some (desc_of p.desc.now)) p.base ≡ path_at set rest j (Some (desc_of inner.desc.now)) el.cell =
     ap (λ (path : List (ℕ × ℕ)). path_at set path (length p.sizes.now) (Some (desc_of p.desc.now)) p.base) c.in_ok-first.ensures.cases.0
     ∙ path_is set p c.requires rest step ∙ ap (after set p c.requires rest) (sym c.in_ok-element.ensures)

@@ -1,5 +1,6 @@
 use Rattle.std.proofs.Common.{◌≡◌, ◌+◌, ◌*◌, ◌<◌, ◌≤◌, List, ℕ, Some, length, get_or, take, map, sym, ap, ◌∙◌, arith}
-use Rattle.vms_spec.specs.Lists.{at}
+use Rattle.std.specs.List.{slice_get}
+use Rattle.vms_spec.specs.declared.TheConstants.{MOST_ITEMS}
 use Rattle.vms_spec.specs.Layout.{capacity_of}
 use Rattle.vms_parts.specs.declared.sizes.Measure.TheVariants.{Cells}
 use Rattle.vms_parts.specs.declared.types.Field.{Field}
@@ -11,17 +12,17 @@ use Rattle.vms_desc.proofs.path.element_at.Goals as goal
 
 -- what is known of the element of a step
 record Found (p : Placed) (step : ℕ × ℕ) (field : Field) (before size : ℕ) : Type 0 where
-  pub there : at (desc_of p.desc.now).fields step.0 ≡ Some (field_of field)
+  pub there : slice_get (desc_of p.desc.now).fields step.0 ≡ Some (field_of field)
   pub before_is : before ≡ fields_size Cells p.sizes.now (take step.0 (desc_of p.desc.now).fields)
   pub size_is : size ≡ size_of Cells p.sizes.now field.item
   pub product : step.1 * size ≡ step.1 * size_of Cells p.sizes.now field.item
-  pub few : p.base + before + step.1 * size ≤ 16384
+  pub few : p.base + before + step.1 * size ≤ MOST_ITEMS
 
 found : (p : Placed) (step : ℕ × ℕ) (fields : List Field) (field : Field) (before size : ℕ) → fields ≡ p.desc.now.fields → step.0 < length fields → field ≡ get_or fields step.0 field
-    → p.base + fields_size Cells p.sizes.now (map field_of p.desc.now.fields) ≤ 16384 → step.1 < capacity_of field.count
+    → p.base + fields_size Cells p.sizes.now (map field_of p.desc.now.fields) ≤ MOST_ITEMS → step.1 < capacity_of field.count
     → before ≡ in_u32 (fields_size Cells p.sizes.now (map field_of (take step.0 fields))) → size ≡ size_of Cells p.sizes.now field.item → Found p step field before size
 found p step fields field before size same lt is few inside front size_is =
-    let there : at (desc_of p.desc.now).fields step.0 ≡ Some (field_of field) = ap (λ (l : List Field). at (map field_of l) step.0) (sym same) ∙ at_there field_of fields step.0 field lt is in
+    let there : slice_get (desc_of p.desc.now).fields step.0 ≡ Some (field_of field) = ap (λ (l : List Field). slice_get (map field_of l) step.0) (sym same) ∙ at_there field_of fields step.0 field lt is in
     let before_is : before ≡ fields_size Cells p.sizes.now (take step.0 (desc_of p.desc.now).fields) =
     before_fits p.sizes.now p.desc.now.fields p.base step.0 before few (front ∙ ap (λ (l : List Field). in_u32 (fields_size Cells p.sizes.now (map field_of (take step.0 l)))) same) in
     let product : step.1 * size ≡ step.1 * size_of Cells p.sizes.now field.item = ap (λ (n : ℕ). step.1 * n) size_is in

@@ -1,6 +1,6 @@
 use Rattle.std.proofs.Common.{◌≡◌, ◌+◌, List, ℕ, take, map, refl, sym, ap, ◌∙◌}
+use Rattle.std.specs.List.{slice_get}
 use Rattle.std.proofs.lemmas.List.{take-map}
-use Rattle.vms_spec.specs.Lists.{at}
 use Rattle.vms_spec.specs.Places.{desc_of_sub}
 use Rattle.vms_spec.specs.Sets as sets
 use Rattle.vms_parts.specs.declared.sizes.Measure.TheVariants.{Cells}
@@ -24,7 +24,7 @@ returns-in_ok-sub-in-Some c =
     let before : c.size_of_subs.result ≡ in_u32 (subs_size Cells sizes (take j d.subs)) =
     c.size_of_subs.ensures ∙ ap (λ (l : List Sub). in_u32 (subs_size Cells sizes (map sub_of (take j l)))) c.as_slice-subs.ensures ∙ ap (λ (l : List sets.Sub). in_u32 (subs_size Cells sizes l)) (sym (take-map sub_of j c.args.device.now.subs)) in
     record {
-      desc = ap (begin_desc d) c.in-Some.is ∙ ap (λ (l : List Sub). desc_of_sub (at (map sub_of l) j)) (sym c.as_slice-subs.ensures)
+      desc = ap (begin_desc d) c.in-Some.is ∙ ap (λ (l : List Sub). desc_of_sub (slice_get (map sub_of l) j)) (sym c.as_slice-subs.ensures)
           ∙ ap desc_of_sub (at_there sub_of subs j s c.in_ok-sub-in-Some.ensures.lookup.3.0 c.in_ok-sub-in-Some.ensures.lookup.1);
       base = c.saturating_add-base.ensures ∙ ap (λ (n : ℕ). in_u32 (n + c.size_of_subs.result)) own ∙ ap (λ (n : ℕ). in_u32 (in_u32 (fields_size Cells sizes d.desc.fields) + n)) before
           ∙ ap (begin_base sizes d) (sym c.in-Some.is);

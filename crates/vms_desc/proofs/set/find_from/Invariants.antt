@@ -1,5 +1,5 @@
 use Rattle.std.proofs.Common.{◌≡◌, drop, map}
-use Rattle.vms_spec.specs.Judging.{find_device}
+use Rattle.vms_spec.specs.Lookup.{find_device}
 use Rattle.vms_parts.specs.Views.{device_of}
 use Rattle.vms_desc.proofs.set.find_from.Given as goal
 

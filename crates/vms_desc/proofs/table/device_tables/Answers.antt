@@ -1,6 +1,6 @@
 use Rattle.std.proofs.Common.{◌≡◌, ◌∙◌, ◌+◌, ap, subst, sym, map, take, List, ◌++◌, ◌∷◌, [], ℕ, Some, arith, below_more}
+use Rattle.std.specs.List.{slice_get}
 use Rattle.std.proofs.lemmas.List.{length-map}
-use Rattle.vms_spec.specs.Lists.{at}
 use Rattle.vms_spec.specs.Sets as sets
 use Rattle.vms_parts.specs.Views.{device_of}
 use Rattle.vms_desc.specs.Heads.{FitsHead}
@@ -20,7 +20,7 @@ loop-device-preserved c =
       tables = subst (AreDeviceTables sizes (map device_of (take (i + 1) devices)))
           (ap (λ (x : List Table). c.loop-device.tables.items ++ x ∷ []) (sym c.new.ensures) ∙ sym c.in_ok-push.ensures.items)
           (devices_next sizes devices i c.device-item.result c.loop-device.tables.items t c.loop-device-test.true c.device-item.is c.loop-device.invariant.tables c.in_ok-part_tables.ensures.tables);
-      heads = below_more (λ (k : ℕ). (d : sets.Device) → at (map device_of devices) k ≡ Some d → FitsHead d) i c.loop-device.invariant.heads
+      heads = below_more (λ (k : ℕ). (d : sets.Device) → slice_get (map device_of devices) k ≡ Some d → FitsHead d) i c.loop-device.invariant.heads
           (λ d e. subst FitsHead (sym (at_mapped device_of devices i c.device-item.result d c.device-item.is e)) c.in_ok-part_tables.ensures.heads);
     }
 

@@ -1,5 +1,5 @@
 use Rattle.std.proofs.Common.{◌≡◌, ℕ, ◌<◌, map, take, Some}
-use Rattle.vms_spec.specs.Lists.{at}
+use Rattle.std.specs.List.{slice_get}
 use Rattle.vms_spec.specs.Sets as sets
 use Rattle.vms_parts.specs.Views.{device_of}
 use Rattle.vms_desc.specs.Heads.{FitsHead}
@@ -9,5 +9,5 @@ use Rattle.vms_desc.proofs.table.device_tables.Given as goal
 abbrev pub invariant-loop-device : goal.invariant-loop-device
 invariant-loop-device l = record {
   tables : AreDeviceTables l.sizes (map device_of (take l.device-index l.devices)) l.tables.items;
-  heads : (k : ℕ) → k < l.device-index → (d : sets.Device) → at (map device_of l.devices) k ≡ Some d → FitsHead d;
+  heads : (k : ℕ) → k < l.device-index → (d : sets.Device) → slice_get (map device_of l.devices) k ≡ Some d → FitsHead d;
 }

@@ -1,6 +1,6 @@
 use Rattle.std.proofs.Common.{◌≡◌, ◌∙◌, ◌+◌, ap, subst, sym, map, take, List, ◌++◌, ◌∷◌, [], ◌<◌, length, get_or, arith, ℕ, Some, below_more}
+use Rattle.std.specs.List.{slice_get}
 use Rattle.std.proofs.lemmas.List.{length-map}
-use Rattle.vms_spec.specs.Lists.{at}
 use Rattle.vms_spec.specs.Sets as sets
 use Rattle.vms_parts.specs.declared.types.Field.{Field}
 use Rattle.vms_parts.specs.declared.types.Sub.{Sub}
@@ -24,7 +24,7 @@ loop-sub-preserved c =
     record {
       tables = subst (AreTables sizes (front ++ map (λ (s : sets.Sub). s.desc.fields) (map sub_of (take (i + 1) subs)))) (sym c.in_ok-push-2.ensures.items)
           (tables_next sub_of (λ (s : sets.Sub). s.desc.fields) sizes front subs i c.sub-item.result c.loop-sub.tables.items t lt is c.loop-sub.invariant.tables here);
-      heads = below_more (λ (k : ℕ). (s : sets.Sub) → at (map sub_of subs) k ≡ Some s → FitsSub s) i c.loop-sub.invariant.heads
+      heads = below_more (λ (k : ℕ). (s : sets.Sub) → slice_get (map sub_of subs) k ≡ Some s → FitsSub s) i c.loop-sub.invariant.heads
           (λ s e. subst FitsSub (sym (at_mapped sub_of subs i c.sub-item.result s is e)) (record { version = omega arith }));
     }
 

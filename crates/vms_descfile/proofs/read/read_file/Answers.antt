@@ -1,5 +1,5 @@
 use Rattle.std.proofs.Common.{Err, sym, subst, ap, ◌∙◌}
-use Rattle.vms_nodes.specs.Nodes.{view}
+use Rattle.vms_json.specs.Nodes.{view}
 use Rattle.vms_descread.specs.Descs.{parts_of}
 use Rattle.vms_descfile.specs.Files.{Said, parts_said}
 use Rattle.vms_descfile.specs.Given.{Gives}

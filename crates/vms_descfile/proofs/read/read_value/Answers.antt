@@ -1,6 +1,6 @@
 use Rattle.std.proofs.Common.{sym, ap, ◌∙◌}
 use Rattle.serde_json.specs.Read.{read}
-use Rattle.vms_nodes.specs.Nodes.{view}
+use Rattle.vms_json.specs.Nodes.{view}
 use Rattle.vms_descfile.proofs.FileLaws.{has_value, has_none}
 use Rattle.vms_descfile.proofs.read.read_value.Goals as goal
 

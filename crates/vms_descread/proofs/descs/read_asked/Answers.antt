@@ -2,10 +2,10 @@ use Rattle.std.proofs.Common.{Bool, Some, sym, subst, ap, ◌∙◌}
 use Rattle.std.proofs.lemmas.Bool.{and_parts}
 use Rattle.vms_spec.specs.Sets.{Desc}
 use Rattle.vms_parts.specs.Views.{desc_of as desc_seen}
-use Rattle.vms_nodes.specs.Nodes.{view}
-use Rattle.vms_members.specs.Answers.{Answer, Answers}
-use Rattle.vms_nodes.specs.Asked.{asks_names}
-use Rattle.vms_members.specs.Names.{Names, names_if}
+use Rattle.vms_json.specs.Nodes.{view}
+use Rattle.vms_json.specs.Answers.{Answer, Answers}
+use Rattle.vms_json.specs.Asked.{asks_names}
+use Rattle.vms_json.specs.Names.{Names, names_if}
 use Rattle.vms_descread.specs.Descs.{struct_in}
 use Rattle.vms_descread.proofs.AskedLaws.{struct_unasked}
 use Rattle.vms_descread.proofs.descs.read_asked.Goals as goal

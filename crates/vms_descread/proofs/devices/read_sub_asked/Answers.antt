@@ -1,8 +1,8 @@
 use Rattle.std.proofs.Common.{Bool, Some, sym, subst, ap, ◌∙◌}
-use Rattle.vms_nodes.specs.Nodes.{view}
+use Rattle.vms_json.specs.Nodes.{view}
 use Rattle.vms_parts.specs.Views.{sub_of as sub_seen}
-use Rattle.vms_members.specs.Answers.{Answers}
-use Rattle.vms_members.specs.Names.{Names, names_if, names_seen}
+use Rattle.vms_json.specs.Answers.{Answers}
+use Rattle.vms_json.specs.Names.{Names, names_if, names_seen}
 use Rattle.vms_descread.specs.Descs.{sub_in}
 use Rattle.vms_descread.proofs.devices.read_sub_asked.Goals as goal
 

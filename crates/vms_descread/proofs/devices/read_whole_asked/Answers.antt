@@ -1,9 +1,9 @@
 use Rattle.std.proofs.Common.{Bool, Some, sym, subst, ap, ◌∙◌}
 use Rattle.std.proofs.lemmas.Bool.{and_parts}
-use Rattle.vms_nodes.specs.Nodes.{view}
-use Rattle.vms_members.specs.Answers.{Answer, Answers}
-use Rattle.vms_nodes.specs.Asked.{asks_names}
-use Rattle.vms_members.specs.Names.{Names, names_if}
+use Rattle.vms_json.specs.Nodes.{view}
+use Rattle.vms_json.specs.Answers.{Answer, Answers}
+use Rattle.vms_json.specs.Asked.{asks_names}
+use Rattle.vms_json.specs.Names.{Names, names_if}
 use Rattle.vms_descread.specs.Descs.{Whole, whole_in, whole_seen}
 use Rattle.vms_descread.proofs.AskedLaws.{whole_unasked}
 use Rattle.vms_descread.proofs.devices.read_whole_asked.Goals as goal

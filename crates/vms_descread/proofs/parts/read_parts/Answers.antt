@@ -1,4 +1,4 @@
-use Rattle.vms_nodes.specs.Nodes.{view}
+use Rattle.vms_json.specs.Nodes.{view}
 use Rattle.vms_descread.proofs.WalkLaws.{asked_is, first_is, later_is}
 use Rattle.vms_descread.proofs.parts.read_parts.Goals as goal
 

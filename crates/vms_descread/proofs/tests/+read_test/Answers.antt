@@ -1,11 +1,11 @@
 use Rattle.std.proofs.Common.{◌≡◌, ◌-◌, [], refl, sym, subst, ap, ◌∙◌, arith, codes, Err}
-use Rattle.vms_nodes.specs.Nodes.{view}
+use Rattle.vms_json.specs.Nodes.{view}
 use Rattle.vms_spec.specs.Sets.{Not}
 use Rattle.vms_parts.specs.Views.{formula}
 use Rattle.vms_descread.specs.declared.cells.Form.TheVariants as forms
-use Rattle.vms_members.specs.Answers.{Answers, good, bad, next, changed, under, Refuses}
-use Rattle.vms_members.specs.Members.{at, member_of}
-use Rattle.vms_members.specs.Names.{scope_seen}
+use Rattle.vms_json.specs.Answers.{Answers, good, bad, next, changed, under, Refuses}
+use Rattle.vms_json.specs.Members.{at, member_of}
+use Rattle.vms_json.specs.Names.{scope_seen}
 use Rattle.vms_descread.specs.Tests.{test_within, two_of, key_of, joined, both, pair_seen}
 use Rattle.vms_descread.proofs.TestLaws.{by_form, refused_next}
 use Rattle.vms_descread.proofs.tests.+read_test.Goals as goal

@@ -1,6 +1,6 @@
 use Rattle.std.proofs.Common.{Some, sym, subst}
-use Rattle.vms_nodes.specs.Nodes.{items_view}
-use Rattle.vms_members.specs.Answers.{Refuses}
+use Rattle.vms_json.specs.Nodes.{items_view}
+use Rattle.vms_json.specs.Answers.{Refuses}
 use Rattle.vms_descread.specs.Tests.{two_in}
 use Rattle.vms_descread.proofs.TestLaws.{not_two, just_two}
 use Rattle.vms_descread.proofs.tests.two_in.Goals as goal

@@ -1,8 +1,8 @@
 use Rattle.std.proofs.Common.{◌≡◌, ◌++◌, ℕ, Some, map, ap, sym, subst, ◌∙◌, below_more, arith}
+use Rattle.std.specs.List.{slice_get}
 use Rattle.std.proofs.lemmas.List.{drop_all, append-nil}
 use Rattle.serde_json.specs.View.{view}
-use Rattle.vms_spec.specs.Lists.{at}
-use Rattle.vms_laws.proofs.PartLaws.{at_inside}
+use Rattle.std.proofs.lemmas.Option.{slice_get_within}
 use Rattle.vms_descwrite.proofs.BuiltLaws.{listed_on}
 use Rattle.vms_descwrite.proofs.FitLaws.{at_is}
 use Rattle.vms_descwrite.proofs.built.written.Goals as goal
@@ -15,7 +15,7 @@ loop-item-preserved g c =
     record {
       file = listed_on f xs i c.item-item.result c.loop-item.list.items c.push.new.list.items c.in_ok-value.value c.loop-item-test.true c.item-item.is
           c.in_ok-value.ensures.file c.in_ok-push.ensures c.loop-item.invariant.file;
-      fits = below_more (λ (k : ℕ). (x : g.row.T.Denot) → at xs k ≡ Some x → g.W.Writes.fits c.args.writer.now x) i c.loop-item.invariant.fits
+      fits = below_more (λ (k : ℕ). (x : g.row.T.Denot) → slice_get xs k ≡ Some x → g.W.Writes.fits c.args.writer.now x) i c.loop-item.invariant.fits
           (λ x there. subst (g.W.Writes.fits c.args.writer.now) (at_is xs i c.item-item.result x c.item-item.is there) c.in_ok-value.ensures.fits);
     }
 
@@ -27,4 +27,4 @@ returns-clause-file g c =
     sym (c.loop-item.invariant.file ∙ ap (λ l. done ++ map f l) (drop_all c.loop-item.item-index xs c.loop-item-test.false) ∙ append-nil done)
 
 pub returns-clause-fits : goal.returns-clause-fits
-returns-clause-fits g c = λ i x there. c.loop-item.invariant.fits i (omega (arith, at_inside c.args.items.now i x there)) x there
+returns-clause-fits g c = λ i x there. c.loop-item.invariant.fits i (omega (arith, slice_get_within c.args.items.now i x there)) x there

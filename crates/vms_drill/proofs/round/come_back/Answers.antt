@@ -1,6 +1,6 @@
 use Rattle.std.proofs.Common.{◌≡◌, ℕ, length, ap, ◌∙◌, subst, arith}
 use Rattle.dev_board.specs.Saved.{MaySaveUnder}
-use Rattle.dev_drill.specs.Fold.{came_back, set_of}
+use Rattle.vms_drill.specs.Fold.{came_back, set_of}
 use Rattle.vms_session.proofs.LengthLaws.{streams_are_short}
 use Rattle.vms_drill.proofs.RoundLemmas.{board_back, long_back, never_refused}
 use Rattle.vms_drill.proofs.round.come_back.Goals as goal

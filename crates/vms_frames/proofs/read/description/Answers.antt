@@ -1,6 +1,6 @@
 use Rattle.std.proofs.Common.{rules, arith, ap, sym, refl, ◌∙◌, ℕ, List, [], ◌∷◌, ◌++◌, ◌≡◌, ◌≤◌, ◌+◌, length, Ok, Err, Result}
 use Rattle.std.proofs.lemmas.Result.{err_from_is_err_and}
-use Rattle.vms_spec.specs.Judging.{number_at}
+use Rattle.vms_spec.specs.Lookup.{number_at}
 use Rattle.vms_frames.specs.declared.fault.FrameFault.{FrameFault}
 use Rattle.vms_frames.specs.Found.{Whole, description_found}
 use Rattle.vms_frames.proofs.CutLemmas.{text_cut, text_whole}

@@ -1,7 +1,7 @@
 use Rattle.std.proofs.Common.{arith, take_all, length-drop, ap, ◌∙◌, ◌-◌, take, drop, ℕ, List, ◌≡◌, ◌+◌, length, get_or, Ok, Err, Result}
 use Rattle.std.proofs.lemmas.Result.{err_from_is_err_and}
 use Rattle.byteorder.specs.Endian.{big_number}
-use Rattle.vms_spec.specs.Judging.{number_at, bytes_at}
+use Rattle.vms_spec.specs.Lookup.{number_at, bytes_at}
 use Rattle.vms_frames.specs.declared.units.Behind.{Behind}
 use Rattle.vms_frames.specs.declared.units.Behind.TheVariants.{Sub}
 use Rattle.vms_frames.specs.declared.fault.FrameFault.{FrameFault}

@@ -1,6 +1,6 @@
 use Rattle.std.proofs.Common.{rules, ◌≡◌, [], length, Err}
 use Rattle.vms_spec.specs.declared.Reason.TheVariants as reasons
-use Rattle.vms_spec.specs.Judging.{number_at}
+use Rattle.vms_spec.specs.Lookup.{number_at}
 use Rattle.vms_frames.specs.Found.{version_found}
 use Rattle.vms_frames.specs.Heard.{HearsPart}
 use Rattle.vms_frames.proofs.HeardUnits.{unit_on, unit_refused}

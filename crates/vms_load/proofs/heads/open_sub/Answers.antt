@@ -1,7 +1,7 @@
 use Rattle.std.proofs.Common.{◌≡◌, ◌<◌, sym, ap, ◌∙◌, arith, length, Option, Some, None, ℕ, Err, List, map}
 use Rattle.std.proofs.lemmas.List.{length-map}
 use Rattle.vms_spec.specs.Sets.{Sub}
-use Rattle.vms_spec.specs.Judging.{find_sub}
+use Rattle.vms_spec.specs.Lookup.{find_sub}
 use Rattle.vms_parts.specs.Views.{sub_of, device_of}
 use Rattle.vms_parts.specs.declared.types.Sub.{Sub as CodeSub}
 use Rattle.vms_parts.proofs.Items.{get_map_at}

@@ -4,7 +4,7 @@ use Rattle.std.proofs.lemmas.Int.{to_z-of_z}
 use Rattle.std.proofs.lemmas.Result.{err_from_is_err_and}
 use Rattle.vms_spec.specs.declared.Reason.TheVariants as reasons
 use Rattle.vms_frames.specs.declared.fault.FrameFault.TheVariants as faults
-use Rattle.vms_laws.proofs.ReadyLaws.{is_same}
+use Rattle.vms_bodies.proofs.ReadyLaws.{is_same}
 use Rattle.vms_load.specs.Bodies.{ReadsConstant}
 use Rattle.vms_load.proofs.BodyLemmas.{constant_ok, constant_other}
 use Rattle.vms_load.proofs.ItemsHeard.{are_others, hears_constant, hears_other, hears_no_constant}

@@ -4,7 +4,7 @@ use Rattle.vms_desc.specs.Parts.{desc_at}
 use Rattle.vms_desc.specs.Asks.{first_cell}
 use Rattle.vms_parts.specs.Devices.{device_at}
 use Rattle.vms_kinds.specs.declared.Kind.{Kind}
-use Rattle.vms_walk.specs.declared.fields.Spot.{Spot}
+use Rattle.vms_walk.specs.declared.fields.PartAt.{PartAt}
 use Rattle.vms_walk.specs.Steps.{spot_slots}
 use Rattle.vms_load.specs.Bodies.{AreOfKinds}
 use Rattle.vms_walk.proofs.Local.{part_sound}
@@ -32,7 +32,7 @@ read_part-requires-clause-kinds g c = λ n.
     let set = described c.args.set.now in
     let k = c.args.section.device in
     let sub = c.args.part.sub in
-    let spot : Spot = record { part = c.part_of-number.result; version = c.args.part.version; base = c.first_cell-base.result } in
+    let spot : PartAt = record { part = c.part_of-number.result; version = c.args.part.version; base = c.first_cell-base.result } in
     subst (λ (ks : List Kind). AreOfKinds ks (spot_slots set spot n)) (sym c.requires.shaped.kinds)
     (part_kinds set k sub (open_in (device_at set k) (untyped c.args.image.now) sub c.args.part.version c.requires.open) spot c.part_of-number.ensures c.first_cell-base.ensures n)
 
@@ -54,7 +54,7 @@ returns-in-Ok-clause-reads g c = λ names state room.
     let first = c.first_cell-base.ensures ∙ ap (first_cell set) c.part_of-number.ensures ∙ base_is set k sub in
     let a : Told = told g.S.Source.left g.S.Source.given g.S.Source.faults g.S.Source.promise c.args.image.now c.args.cursor.now.at c.args.source.now in
     let b : Told = told g.S.Source.left g.S.Source.given g.S.Source.faults g.S.Source.promise c.read_part.new.image c.read_part.new.cursor.at c.read_part.new.source in
-    let spot : Spot = record { part = part; version = c.args.part.version; base = base } in
+    let spot : PartAt = record { part = part; version = c.args.part.version; base = base } in
     let has = part_spot set c.args.set.now.well_formed k c.requires.device sub (open_in (device_at set k) (untyped c.args.image.now) sub c.args.part.version c.requires.open) c.args.image.now.numbers c.requires.shaped.cells spot c.part_of-number.ensures c.first_cell-base.ensures in
     let taken = part_took set good.structs (desc_at set part) (part_sound set good part has.part) c.args.part.version base a b c.in-Ok.ensures.ok.taken in
     fields_answer set good c.args.section c.requires.device sub c.args.part.version names state (untyped c.args.image.now) (desc_at set part) base desc first
@@ -73,7 +73,7 @@ returns-in-Err-clause-reads g c = λ names state room.
     let first = c.first_cell-base.ensures ∙ ap (first_cell set) c.part_of-number.ensures ∙ base_is set k sub in
     let a : Told = told g.S.Source.left g.S.Source.given g.S.Source.faults g.S.Source.promise c.args.image.now c.args.cursor.now.at c.args.source.now in
     let b : Told = told g.S.Source.left g.S.Source.given g.S.Source.faults g.S.Source.promise c.read_part.new.image c.read_part.new.cursor.at c.read_part.new.source in
-    let spot : Spot = record { part = part; version = c.args.part.version; base = base } in
+    let spot : PartAt = record { part = part; version = c.args.part.version; base = base } in
     let has = part_spot set c.args.set.now.well_formed k c.requires.device sub (open_in (device_at set k) (untyped c.args.image.now) sub c.args.part.version c.requires.open) c.args.image.now.numbers c.requires.shaped.cells spot c.part_of-number.ensures c.first_cell-base.ensures in
     let taken = part_failed set good.structs (desc_at set part) (part_sound set good part has.part) c.args.part.version base a b c.in-Err.fault c.in-Err.ensures.err.taken c.in-Err.ensures.err.stopped in
     rw c.concerning.ensures
@@ -93,7 +93,7 @@ returns-in-Ok-clause-heard g c = λ names state room.
     let first = c.first_cell-base.ensures ∙ ap (first_cell set) c.part_of-number.ensures ∙ base_is set k sub in
     let a : Told = told g.S.Source.left g.S.Source.given g.S.Source.faults g.S.Source.promise c.args.image.now c.args.cursor.now.at c.args.source.now in
     let b : Told = told g.S.Source.left g.S.Source.given g.S.Source.faults g.S.Source.promise c.read_part.new.image c.read_part.new.cursor.at c.read_part.new.source in
-    let spot : Spot = record { part = part; version = c.args.part.version; base = base } in
+    let spot : PartAt = record { part = part; version = c.args.part.version; base = base } in
     let has = part_spot set c.args.set.now.well_formed k c.requires.device sub (open_in (device_at set k) (untyped c.args.image.now) sub c.args.part.version c.requires.open) c.args.image.now.numbers c.requires.shaped.cells spot c.part_of-number.ensures c.first_cell-base.ensures in
     heard_as (λ more. Unit {0}) (g.S.Source.given c.args.source.now) (g.S.Source.given c.read_part.new.source)
     (λ x y h. fields_answer set good c.args.section c.requires.device sub c.args.part.version names state (untyped c.args.image.now) (desc_at set part) base desc first
@@ -113,7 +113,7 @@ returns-in-Err-clause-heard g c = λ names state room.
     let first = c.first_cell-base.ensures ∙ ap (first_cell set) c.part_of-number.ensures ∙ base_is set k sub in
     let a : Told = told g.S.Source.left g.S.Source.given g.S.Source.faults g.S.Source.promise c.args.image.now c.args.cursor.now.at c.args.source.now in
     let b : Told = told g.S.Source.left g.S.Source.given g.S.Source.faults g.S.Source.promise c.read_part.new.image c.read_part.new.cursor.at c.read_part.new.source in
-    let spot : Spot = record { part = part; version = c.args.part.version; base = base } in
+    let spot : PartAt = record { part = part; version = c.args.part.version; base = base } in
     let has = part_spot set c.args.set.now.well_formed k c.requires.device sub (open_in (device_at set k) (untyped c.args.image.now) sub c.args.part.version c.requires.open) c.args.image.now.numbers c.requires.shaped.cells spot c.part_of-number.ensures c.first_cell-base.ensures in
     on_concerning (Unit {0}) (Unit {0}) (Some k) (g.S.Source.given c.args.source.now) (g.S.Source.given c.read_part.new.source) c.in-Err.fault c.concerning.result
     (in_fields set names state c.args.section sub (untyped c.args.image.now)) (λ x. after_fields set names state c.args.section sub (untyped c.read_part.new.image)) c.args.cursor.now c.read_part.new.cursor c.concerning.ensures
@@ -127,7 +127,7 @@ returns-in-Ok-clause-given g c =
     let set = described c.args.set.now in
     let part = c.part_of-number.result in
     let desc = ap (desc_at set) c.part_of-number.ensures ∙ desc_is set c.args.section.device c.args.part.sub in
-    let spot : Spot = record { part = part; version = c.args.part.version; base = c.first_cell-base.result } in
+    let spot : PartAt = record { part = part; version = c.args.part.version; base = c.first_cell-base.result } in
     let bound = part_bound set spot c.read_part.new.image.numbers in
     let spent = c.in-Ok.ensures.ok.given in
     let before = ap held_long c.requires.held in
@@ -139,6 +139,6 @@ returns-in-Err-clause-given g c =
     let set = described c.args.set.now in
     let part = c.part_of-number.result in
     let desc = ap (desc_at set) c.part_of-number.ensures ∙ desc_is set c.args.section.device c.args.part.sub in
-    let spot : Spot = record { part = part; version = c.args.part.version; base = c.first_cell-base.result } in
+    let spot : PartAt = record { part = part; version = c.args.part.version; base = c.first_cell-base.result } in
     let bound = part_bound set spot c.read_part.new.image.numbers in
     omega (arith, ap (bytes_of set) desc, bound, c.in-Err.ensures.err.given)

@@ -1,6 +1,6 @@
 use Rattle.std.proofs.Common.{◌≡◌, ◌+◌, ◌-◌, ◌<◌, ◌≤◌, ℕ, List, Some, None, length}
 use Rattle.vms_io.specs.Causes.{capped}
-use Rattle.vms_units.specs.State.{State}
+use Rattle.vms_stream.specs.State.{State}
 use Rattle.vms_desc.specs.Described.{described}
 use Rattle.vms_parts.specs.Devices.{device_at}
 use Rattle.vms_load.specs.Reads.{LeadsOn, reach}

@@ -1,7 +1,7 @@
 use Rattle.std.proofs.Common.{true, false, None, Ok, Err}
-use Rattle.vms_units.specs.Judge.{judge}
-use Rattle.vms_units.specs.State.{Before, Free, by_state}
-use Rattle.vms_laws.specs.Whole.{reading_on}
+use Rattle.vms_stream.specs.Judge.{judge}
+use Rattle.vms_stream.specs.State.{Before, Free, by_state}
+use Rattle.vms_bodies.specs.Whole.{reading_on}
 use Rattle.vms_frames.proofs.HeardLemmas.{heard_as}
 use Rattle.vms_load.proofs.HearingLemmas.{on_concerning}
 use Rattle.vms_load.proofs.TurnReads.{head_read}

@@ -3,10 +3,10 @@ use Rattle.std.proofs.lemmas.Result.{err_from_is_err_and}
 use Rattle.std.proofs.lemmas.List.{length-set, length-map}
 use Rattle.vms_image.specs.Typed.{Typed, state_of as untyped, IsImageOf}
 use Rattle.vms_spec.specs.Layout.{no_desc}
-use Rattle.vms_units.specs.Judge.{judge}
-use Rattle.vms_units.specs.Judged.{ask}
-use Rattle.vms_units.specs.State.{Free, by_state}
-use Rattle.vms_laws.specs.Whole.{reading_on}
+use Rattle.vms_stream.specs.Judge.{judge}
+use Rattle.vms_stream.specs.Judged.{ask}
+use Rattle.vms_stream.specs.State.{Free, by_state}
+use Rattle.vms_bodies.specs.Whole.{reading_on}
 use Rattle.vms_desc.specs.Described.{described}
 use Rattle.vms_parts.specs.Devices.{device_at}
 use Rattle.vms_load.specs.Heads.{opened_at, section_opened}

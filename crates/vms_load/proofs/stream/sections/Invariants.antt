@@ -1,8 +1,8 @@
 use Rattle.std.proofs.Common.{◌≡◌, ◌+◌, ◌-◌, ◌≤◌, Some}
 use Rattle.vms_io.specs.Causes.{capped}
-use Rattle.vms_units.specs.Judge.{judge}
-use Rattle.vms_units.specs.State.{by_state}
-use Rattle.vms_laws.specs.Whole.{reading_on}
+use Rattle.vms_stream.specs.Judge.{judge}
+use Rattle.vms_stream.specs.State.{by_state}
+use Rattle.vms_bodies.specs.Whole.{reading_on}
 use Rattle.vms_desc.specs.Described.{described}
 use Rattle.vms_frames.specs.declared.units.Between.TheVariants.{First}
 use Rattle.vms_load.specs.Reads.{LeadsOn, reach}

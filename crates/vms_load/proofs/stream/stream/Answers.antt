@@ -1,8 +1,8 @@
 use Rattle.std.proofs.Common.{List, ℕ, [], ◌≡◌, None, Ok, Err, Bool, true, false, sym, subst, ap, ◌∙◌, arith}
 use Rattle.std.proofs.lemmas.Result.{err_from_is_err_and}
-use Rattle.vms_units.specs.Judge.{judge, reading}
-use Rattle.vms_units.specs.State.{State, Before, Free, by_state, at_start}
-use Rattle.vms_laws.specs.Whole.{reading_on}
+use Rattle.vms_stream.specs.Judge.{judge, reading}
+use Rattle.vms_stream.specs.State.{State, Before, Free, by_state, at_start}
+use Rattle.vms_bodies.specs.Whole.{reading_on}
 use Rattle.vms_desc.specs.Described.{described}
 use Rattle.vms_frames.specs.Stands.{Stand}
 use Rattle.vms_frames.specs.Calls.{held_long}

@@ -1,8 +1,8 @@
 use Rattle.std.proofs.Common.{Option, None, Ok, Err, false}
 use Rattle.std.proofs.lemmas.Result.{err_from_is_err_and}
-use Rattle.vms_units.specs.Judge.{judge}
-use Rattle.vms_units.specs.State.{Free, by_state}
-use Rattle.vms_laws.specs.Whole.{reading_on}
+use Rattle.vms_stream.specs.Judge.{judge}
+use Rattle.vms_stream.specs.State.{Free, by_state}
+use Rattle.vms_bodies.specs.Whole.{reading_on}
 use Rattle.vms_desc.specs.Described.{described}
 use Rattle.vms_frames.specs.declared.units.Between.{Between}
 use Rattle.vms_frames.specs.declared.units.Between.TheVariants as between

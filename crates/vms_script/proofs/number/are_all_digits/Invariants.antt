@@ -1,7 +1,7 @@
 use Rattle.std.proofs.Common.{◌≡◌, drop}
-use Rattle.vms_spec.specs.Lists.{every}
+use Rattle.std.specs.List.{list_all}
 use Rattle.vms_spec.specs.Spelling.{is_digit}
 use Rattle.vms_script.proofs.number.are_all_digits.Given as goal
 
 abbrev pub invariant-loop-b : goal.invariant-loop-b
-invariant-loop-b l = every is_digit (drop l.b-index l.text) ≡ every is_digit l.text
+invariant-loop-b l = list_all is_digit (drop l.b-index l.text) ≡ list_all is_digit l.text

@@ -1,6 +1,7 @@
 use Rattle.std.proofs.Common.{rules, arith, ◌≡◌, ◌+◌, ◌*◌, ◌-◌, ◌%◌, ◌<◌, ◌≤◌, true, List, [], ◌++◌, ℕ, length, get_or, map, codes, append_assoc, refl, sym, ap, ◌∙◌, subst}
 use Rattle.std.proofs.lemmas.Bool.{ltb-true}
 use Rattle.vms_kinds.specs.declared.Item.{Item}
+use Rattle.vms_spec.specs.declared.TheConstants.{MOST_ITEMS}
 use Rattle.vms_spec.specs.declared.Part.TheVariants as parts
 use Rattle.vms_spec.specs.Sets.{Field, Desc}
 use Rattle.vms_spec.specs.Layout.{capacity_of}
@@ -121,7 +122,7 @@ print_name-print_element-requires g t c =
     let f = field_at set part k in
     let lt : k < length (desc_at set part).fields = omega (arith, c.field_count-field-end.ensures, c.loop-field-test.true) in
     let next = next_names set c.args.set.now.well_formed part c.requires.part k left f lt refl in
-    let small : capacity_of f.count * size_in set f.item ≤ 16384 = omega (arith, next.long, c.loop-field.invariant.few) in
+    let small : capacity_of f.count * size_in set f.item ≤ MOST_ITEMS = omega (arith, next.long, c.loop-field.invariant.few) in
     let width : c.field_cells-size.result ≡ capacity_of f.count * size_in set f.item = width_code set f c.field_cells-size.result c.field_cells-size.ensures small in
     let code = c.index-as_slice-field.result in
     let fields : map field_of c.as_slice.result.now ≡ (desc_at set part).fields = ap (map field_of) c.as_slice.ensures ∙ ap (λ (x : Desc). x.fields) c.desc.ensures in
@@ -130,7 +131,7 @@ print_name-print_element-requires g t c =
     let at = λ (P : Field → Type 0) (p : P f). subst P (sym found) p in
     let uses = at (λ (x : Field). uses_below (length set.structs) x.item ≡ true) next.uses in
     let lower = at (λ (x : Field). item_rank x.item + 1 < part_rank set part + 2) next.lower in
-    let one = at (λ (x : Field). size_in set x.item ≤ 16384) (one_fits (capacity_of f.count) (size_in set f.item) 0 16384 16384 next.some (omega (arith, small)) (omega arith)) in
+    let one = at (λ (x : Field). size_in set x.item ≤ MOST_ITEMS) (one_fits (capacity_of f.count) (size_in set f.item) 0 MOST_ITEMS MOST_ITEMS next.some (omega (arith, small)) (omega arith)) in
     let inside = at (λ (x : Field). left < capacity_of x.count * size_in set x.item) here in
     λ κs h. (search rules, (search rules, (uses, (one, inside))))
 
@@ -143,7 +144,7 @@ print_name-returns-then-left-size-clause-written g t c =
     let f = field_at set part k in
     let lt : k < length (desc_at set part).fields = omega (arith, c.field_count-field-end.ensures, c.loop-field-test.true) in
     let next = next_names set c.args.set.now.well_formed part c.requires.part k left f lt refl in
-    let small : capacity_of f.count * size_in set f.item ≤ 16384 = omega (arith, next.long, c.loop-field.invariant.few) in
+    let small : capacity_of f.count * size_in set f.item ≤ MOST_ITEMS = omega (arith, next.long, c.loop-field.invariant.few) in
     let width : c.field_cells-size.result ≡ capacity_of f.count * size_in set f.item = width_code set f c.field_cells-size.result c.field_cells-size.ensures small in
     let code = c.index-as_slice-field.result in
     let fields : map field_of c.as_slice.result.now ≡ (desc_at set part).fields = ap (map field_of) c.as_slice.ensures ∙ ap (λ (x : Desc). x.fields) c.desc.ensures in
@@ -168,7 +169,7 @@ print_name-loop-field-preserved g t c =
     let f = field_at set part k in
     let lt : k < length (desc_at set part).fields = omega (arith, c.field_count-field-end.ensures, c.loop-field-test.true) in
     let next = next_names set c.args.set.now.well_formed part c.requires.part k left f lt refl in
-    let small : capacity_of f.count * size_in set f.item ≤ 16384 = omega (arith, next.long, c.loop-field.invariant.few) in
+    let small : capacity_of f.count * size_in set f.item ≤ MOST_ITEMS = omega (arith, next.long, c.loop-field.invariant.few) in
     let width : c.field_cells-size.result ≡ capacity_of f.count * size_in set f.item = width_code set f c.field_cells-size.result c.field_cells-size.ensures small in
     let past : capacity_of f.count * size_in set f.item ≤ left = omega (arith, width, c.if-left-size.false) in
     record {

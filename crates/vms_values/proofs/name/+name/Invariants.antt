@@ -1,3 +1,4 @@
+use Rattle.vms_spec.specs.declared.TheConstants.{MOST_ITEMS}
 use Rattle.std.proofs.Common.{◌≡◌, ◌+◌, ◌<◌, ◌≤◌, [], length, get_or}
 use Rattle.vms_desc.specs.Described.{described}
 use Rattle.vms_desc.proofs.Ranks.{item_rank, part_rank}
@@ -20,6 +21,6 @@ invariant-print_name-loop-field g l =
     record {
       same : get_or (part_names set l.part) l.fn.cell [] ≡ get_or (names_from set l.part l.field) l.left [];
       room : l.left < length (names_from set l.part l.field);
-      few : length (names_from set l.part l.field) ≤ 16384;
+      few : length (names_from set l.part l.field) ≤ MOST_ITEMS;
       untouched : l.sink ≡ l.initial.sink;
     }

@@ -2,6 +2,7 @@ use Rattle.std.proofs.Common.{rules, arith, ◌≡◌, ◌+◌, ◌*◌, ◌-◌
 use Rattle.std.proofs.lemmas.Result.{err_from_is_err_and}
 use Rattle.std.proofs.lemmas.Bool.{ltb-true}
 use Rattle.vms_kinds.specs.declared.Item.{Item}
+use Rattle.vms_spec.specs.declared.TheConstants.{MOST_ITEMS}
 use Rattle.vms_spec.specs.Sets.{Field, Desc}
 use Rattle.vms_spec.specs.Layout.{no_desc, numbers_of, capacity_of, elements_of, item_size, struct_cells, cells_from}
 use Rattle.vms_spec.specs.Values.{printers, element_lines, item_lines, field_lines, desc_lines}
@@ -21,6 +22,7 @@ use Rattle.vms_values.proofs.PrintLemmas.{same_text}
 use Rattle.vms_values.proofs.Runs.{array_run, elements_left, no_elements, no_fields, next_run}
 use Rattle.vms_values.proofs.Writing.{owes_all, owes_from, owes_less, owes_still, owes_none}
 use Rattle.vms_values.proofs.Fronts.{stays, stays_is, stays_then, stays_element, cut_is, field_short}
+use Rattle.vms_values.specs.declared.line.TheConstants.{LONGEST}
 use Rattle.vms_values.proofs.shown.+print.Goals as goal
 
 -- ---- elements
@@ -42,7 +44,7 @@ print_elements-print_item-requires g t c =
     let set = described c.args.shown.set.now in
     let room = room_at c.loop-index.index c.args.run.count (size_in set c.args.item.now) c.args.run.first c.loop-index.cell (length c.args.shown.image.now.numbers) c.loop-index-test.true c.loop-index.invariant.here c.requires.room in
     let kept = cut_is c.args.line.now c.loop-index.line c.cut.new.self c.len-kept.result c.cut.ensures c.len-kept.ensures c.loop-index.invariant.line in
-    let short : length c.push_index.new.self + 54 + below c.args.item.now ≤ 8320 = omega (arith, ap length kept, c.push_index.ensures.long, c.requires.short) in
+    let short : length c.push_index.new.self + 54 + below c.args.item.now ≤ LONGEST = omega (arith, ap length kept, c.push_index.ensures.long, c.requires.short) in
     λ κs h. (search rules, (search rules, (c.requires.reaches, (room, (c.requires.few, short)))))
 
 pub print_elements-returns-in_err-print_item-clause-written :
@@ -119,7 +121,7 @@ print_field-print_item-requires g t c =
     let room : c.args.run.first + 1 * size ≤ length c.args.shown.image.now.numbers = subst (λ (k : ℕ). c.args.run.first + k * size ≤ length c.args.shown.image.now.numbers) one fits.room in
     let same : 1 * size ≡ size = grind arith in
     let named : c.push.new.self ≡ c.args.line.now ++ c.args.field.now.name = c.push.ensures ∙ ap (λ (l : List ℕ). c.args.line.now ++ l) c.as_bytes.ensures in
-    let short : length c.push.new.self + 54 + below c.args.field.now.item ≤ 8320 =
+    let short : length c.push.new.self + 54 + below c.args.field.now.item ≤ LONGEST =
     omega (arith, ap length named, length-append c.args.line.now c.args.field.now.name, c.requires.name, c.requires.short) in
     λ κs h. (search rules, (search rules, (fits.reaches, (omega (arith, room, same), (fits.few, short)))))
 
@@ -127,7 +129,7 @@ pub print_field-print_elements-requires : goal.print_field-print_elements-requir
 print_field-print_elements-requires g t c =
     let fits = c.requires.fits in
     let named : c.push.new.self ≡ c.args.line.now ++ c.args.field.now.name = c.push.ensures ∙ ap (λ (l : List ℕ). c.args.line.now ++ l) c.as_bytes.ensures in
-    let short : length c.push.new.self + 96 + below c.args.field.now.item ≤ 8320 =
+    let short : length c.push.new.self + 96 + below c.args.field.now.item ≤ LONGEST =
     omega (arith, ap length named, length-append c.args.line.now c.args.field.now.name, c.requires.name, c.requires.short) in
     λ κs h. (search rules, (search rules, (fits.reaches, (fits.small, (fits.room, (fits.few, short))))))
 
@@ -171,7 +173,7 @@ print_struct-print_part-requires g t c =
     let j = c.args.number in
     let lt = c.requires.reaches in
     let size = struct_size set c.args.shown.set.now.well_formed j lt in
-    let grown : length c.push.new.self + 128 * (j + 1) ≤ 8320 = omega (arith, ap length c.push.ensures, length-append c.args.line.now (codes "."), c.requires.short) in
+    let grown : length c.push.new.self + 128 * (j + 1) ≤ LONGEST = omega (arith, ap length c.push.ensures, length-append c.args.line.now (codes "."), c.requires.short) in
     λ κs h. (search rules, (search rules, (record { part = lt; few = c.requires.few; room = omega (arith, c.requires.room, size) }, grown)))
 
 pub print_struct-returns-clause-written : goal.print_struct-returns-clause-written
@@ -256,7 +258,7 @@ print_part-overflow_add-cell g t c =
     let found : field_of f ≡ field_at set spot.part k = found_field c.as_slice.result.now d.fields k f fields lt c.index-as_slice-field.is in
     let count : c.elements.result ≡ elements_of f.count (own_numbers set spot.part n spot.base) = c.elements.ensures ∙ ap (λ (x : Field). elements_of x.count (own_numbers set spot.part n spot.base)) (sym found) in
     let next = next_run set c.args.shown.set.now.well_formed spot c.args.line.now n c.requires.spot k cell c.elements.result (field_of f) lt found count c.loop-field.invariant.room in
-    let small : capacity_of f.count * size_in set f.item ≤ 16384 = omega (arith, next.room, c.requires.spot.few) in
+    let small : capacity_of f.count * size_in set f.item ≤ MOST_ITEMS = omega (arith, next.room, c.requires.spot.few) in
     let width : c.field_cells-cell.result ≡ capacity_of f.count * size_in set f.item =
     width_code set (field_of f) c.field_cells-cell.result (c.field_cells-cell.ensures ∙ ap (λ (x : Field). in_u32 (capacity_of x.count * item_size (struct_cells set) x.item)) (sym found)) small in
     omega (arith, width, next.room, c.requires.spot.few)
@@ -275,7 +277,7 @@ print_part-loop-field-preserved g t c =
     let found : field_of f ≡ field_at set spot.part k = found_field c.as_slice.result.now d.fields k f fields lt c.index-as_slice-field.is in
     let count : c.elements.result ≡ elements_of f.count (own_numbers set spot.part n spot.base) = c.elements.ensures ∙ ap (λ (x : Field). elements_of x.count (own_numbers set spot.part n spot.base)) (sym found) in
     let next = next_run set c.args.shown.set.now.well_formed spot c.args.line.now n c.requires.spot k cell c.elements.result (field_of f) lt found count c.loop-field.invariant.room in
-    let small : capacity_of f.count * size_in set f.item ≤ 16384 = omega (arith, next.room, c.requires.spot.few) in
+    let small : capacity_of f.count * size_in set f.item ≤ MOST_ITEMS = omega (arith, next.room, c.requires.spot.few) in
     let width : c.field_cells-cell.result ≡ capacity_of f.count * size_in set f.item =
     width_code set (field_of f) c.field_cells-cell.result (c.field_cells-cell.ensures ∙ ap (λ (x : Field). in_u32 (capacity_of x.count * item_size (struct_cells set) x.item)) (sym found)) small in
     let path = c.args.line.now in

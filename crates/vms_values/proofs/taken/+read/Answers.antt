@@ -3,6 +3,7 @@ use Rattle.std.proofs.lemmas.Bool.{ltb-true}
 use Rattle.std.proofs.lemmas.Result.{err_from_is_err_and}
 use Rattle.vms_kinds.specs.declared.Item.{Item}
 use Rattle.vms_kinds.specs.declared.Kind.{Kind}
+use Rattle.vms_spec.specs.declared.TheConstants.{MOST_ITEMS}
 use Rattle.vms_spec.specs.declared.Part.TheVariants as parts
 use Rattle.vms_spec.proofs.Sizes.{elements_fit}
 use Rattle.vms_spec.specs.Sets.{Field, Desc}
@@ -29,6 +30,7 @@ use Rattle.vms_values.proofs.ReadLemmas.{reached, stopped}
 use Rattle.vms_values.proofs.Readers.{struct_reads}
 use Rattle.vms_values.proofs.Runs.{next_run}
 use Rattle.vms_values.proofs.Takes.{elements_go, elements_stop, array_read, IsNext, fields_go, fields_stop}
+use Rattle.vms_values.specs.declared.line.TheConstants.{LONGEST}
 use Rattle.vms_values.proofs.taken.+read.Goals as goal
 
 -- ---- the elements of an array
@@ -95,9 +97,9 @@ read_elements-read_item-requires t c =
     let here : AreKinds c.args.taken.now.image.kinds c.loop-index.first (element_cells cs item) =
     subst (λ (p : ℕ). AreKinds c.args.taken.now.image.kinds p (element_cells cs item)) (sym c.loop-index.invariant.here) (c.requires.kinds c.loop-index.index (omega (arith, c.loop-index-test.true))) in
     let fits : c.loop-index.first + size_in set item ≤ length c.loop-index.taken.image.numbers = omega (arith, room, kept.long) in
-    let few : length c.loop-index.taken.image.numbers ≤ 16384 = omega (arith, kept.long, c.requires.few) in
+    let few : length c.loop-index.taken.image.numbers ≤ MOST_ITEMS = omega (arith, kept.long, c.requires.few) in
     let front = cut_is c.args.path.now c.loop-index.path c.cut.new.self c.len-kept.result c.cut.ensures c.len-kept.ensures c.loop-index.invariant.path in
-    let short : length c.push_index.new.self + 54 + below item ≤ 8320 = omega (arith, ap length front, c.push_index.ensures.long, c.requires.short) in
+    let short : length c.push_index.new.self + 54 + below item ≤ LONGEST = omega (arith, ap length front, c.push_index.ensures.long, c.requires.short) in
     (omega arith, (c.requires.reaches, (fits, (few, (subst (λ (ks : List Kind). AreKinds ks c.loop-index.first (element_cells cs item)) (sym kept.kinds) here, short)))))
 
 -- ---- a field
@@ -113,14 +115,14 @@ read_field-read_item-requires t c =
     let width : c.args.run.count * size_in set item ≡ 1 * size_in set item = ap (λ (n : ℕ). n * size_in set item) one in
     let room : c.args.run.first + size_in set item ≤ length c.args.taken.now.image.numbers = omega (arith, width, c.requires.fits.room) in
     let named : c.push.new.self ≡ c.args.path.now ++ (field_of c.args.run.field.now).name = c.push.ensures ∙ ap (λ (l : List ℕ). c.args.path.now ++ l) c.as_bytes.ensures in
-    let short : length c.push.new.self + 54 + below c.args.run.field.now.item ≤ 8320 =
+    let short : length c.push.new.self + 54 + below c.args.run.field.now.item ≤ LONGEST =
     omega (arith, ap length named, length-append c.args.path.now (field_of c.args.run.field.now).name, c.requires.name, c.requires.short) in
     (omega arith, (c.requires.fits.reaches, (room, (c.requires.fits.few, (subst (λ (p : ℕ). AreKinds kinds p (element_cells cs item)) zero_on (c.requires.kinds 0 (omega (arith, one))), short)))))
 
 pub read_field-read_elements-requires : goal.read_field-read_elements-requires
 read_field-read_elements-requires t c =
     let named : c.push.new.self ≡ c.args.path.now ++ (field_of c.args.run.field.now).name = c.push.ensures ∙ ap (λ (l : List ℕ). c.args.path.now ++ l) c.as_bytes.ensures in
-    let short : length c.push.new.self + 96 + below c.args.run.field.now.item ≤ 8320 =
+    let short : length c.push.new.self + 96 + below c.args.run.field.now.item ≤ LONGEST =
     omega (arith, ap length named, length-append c.args.path.now (field_of c.args.run.field.now).name, c.requires.name, c.requires.short) in
     (omega arith, (c.requires.fits.reaches, (c.requires.fits.small, (c.requires.fits.room, (c.requires.fits.few, (c.requires.kinds, short))))))
 
@@ -151,7 +153,7 @@ read_item-read_under-requires t c =
     let spot : HasSpot set (record { part = parts.Struct j; version = c.desc.result.now.version; base = c.args.run.first }) c.args.taken.now.image.numbers =
     record { part = lt; few = c.requires.few; room = omega (arith, room, size) } in
     let short = rw c.in-Struct.is at c.requires.short in
-    let grown : length c.push.new.self + 128 * (j + 1) ≤ 8320 = omega (arith, ap length c.push.ensures, length-append c.args.path.now (codes "."), short) in
+    let grown : length c.push.new.self + 128 * (j + 1) ≤ LONGEST = omega (arith, ap length c.push.ensures, length-append c.args.path.now (codes "."), short) in
     (search rules, (spot, (struct_kinds set c.args.set.now.well_formed j lt c.args.taken.now.image.kinds c.args.run.first (rw c.in-Struct.is at c.requires.kinds), grown)))
 
 pub read_item-read_number_line-requires-clause-of_kind : goal.read_item-read_number_line-requires-clause-of_kind
@@ -204,7 +206,7 @@ read_under-read_field-requires t c =
     let long = c.loop-field.invariant.kept.long in
     let has : HasSpot set spot n = record {
       part = c.requires.spot.part;
-      few = subst (λ (x : ℕ). x ≤ 16384) (sym long) c.requires.spot.few;
+      few = subst (λ (x : ℕ). x ≤ MOST_ITEMS) (sym long) c.requires.spot.few;
       room = subst (λ (x : ℕ). spot.base + own_cell_count set d ≤ x) (sym long) c.requires.spot.room;
     } in
     let count : c.elements.result ≡ elements_of f.count (own_numbers set spot.part n spot.base) = c.elements.ensures ∙ ap (λ (x : Field). elements_of x.count (own_numbers set spot.part n spot.base)) (sym found) in
@@ -237,7 +239,7 @@ read_under-returns-in_err-read_field-clause-read t c =
     let long = c.loop-field.invariant.kept.long in
     let has : HasSpot set spot n = record {
       part = c.requires.spot.part;
-      few = subst (λ (x : ℕ). x ≤ 16384) (sym long) c.requires.spot.few;
+      few = subst (λ (x : ℕ). x ≤ MOST_ITEMS) (sym long) c.requires.spot.few;
       room = subst (λ (x : ℕ). spot.base + own_cell_count set d ≤ x) (sym long) c.requires.spot.room;
     } in
     let count : c.elements.result ≡ elements_of f.count (own_numbers set spot.part n spot.base) = c.elements.ensures ∙ ap (λ (x : Field). elements_of x.count (own_numbers set spot.part n spot.base)) (sym found) in
@@ -270,14 +272,14 @@ read_under-overflow_add-cell t c =
     let long = c.loop-field.invariant.kept.long in
     let has : HasSpot set spot n = record {
       part = c.requires.spot.part;
-      few = subst (λ (x : ℕ). x ≤ 16384) (sym long) c.requires.spot.few;
+      few = subst (λ (x : ℕ). x ≤ MOST_ITEMS) (sym long) c.requires.spot.few;
       room = subst (λ (x : ℕ). spot.base + own_cell_count set d ≤ x) (sym long) c.requires.spot.room;
     } in
     let count : c.elements.result ≡ elements_of f.count (own_numbers set spot.part n spot.base) = c.elements.ensures ∙ ap (λ (x : Field). elements_of x.count (own_numbers set spot.part n spot.base)) (sym found) in
     let next = next_run set c.args.set.now.well_formed spot c.args.path.now n has k cell c.elements.result (field_of f) lt found count c.loop-field.invariant.room in
     let comes : IsNext set d spot.version c.args.present spot.base k c.elements.result c.most.result c.is_present.result (field_of f) (place_of c.loop-field.taken) =
     record { inside = lt; found = found; counts = c.elements.ensures; least = c.most.ensures; is = c.is_present.ensures } in
-    let small : capacity_of f.count * size_in set f.item ≤ 16384 = omega (arith, next.room, has.few) in
+    let small : capacity_of f.count * size_in set f.item ≤ MOST_ITEMS = omega (arith, next.room, has.few) in
     let width : c.field_cells-cell.result ≡ capacity_of f.count * size_in set f.item =
     width_code set (field_of f) c.field_cells-cell.result (c.field_cells-cell.ensures ∙ ap (λ (x : Field). in_u32 (capacity_of x.count * item_size (struct_cells set) x.item)) (sym found)) small in
     omega (arith, width, next.room, has.few)
@@ -298,14 +300,14 @@ read_under-loop-field-preserved t c =
     let long = c.loop-field.invariant.kept.long in
     let has : HasSpot set spot n = record {
       part = c.requires.spot.part;
-      few = subst (λ (x : ℕ). x ≤ 16384) (sym long) c.requires.spot.few;
+      few = subst (λ (x : ℕ). x ≤ MOST_ITEMS) (sym long) c.requires.spot.few;
       room = subst (λ (x : ℕ). spot.base + own_cell_count set d ≤ x) (sym long) c.requires.spot.room;
     } in
     let count : c.elements.result ≡ elements_of f.count (own_numbers set spot.part n spot.base) = c.elements.ensures ∙ ap (λ (x : Field). elements_of x.count (own_numbers set spot.part n spot.base)) (sym found) in
     let next = next_run set c.args.set.now.well_formed spot c.args.path.now n has k cell c.elements.result (field_of f) lt found count c.loop-field.invariant.room in
     let comes : IsNext set d spot.version c.args.present spot.base k c.elements.result c.most.result c.is_present.result (field_of f) (place_of c.loop-field.taken) =
     record { inside = lt; found = found; counts = c.elements.ensures; least = c.most.ensures; is = c.is_present.ensures } in
-    let small : capacity_of f.count * size_in set f.item ≤ 16384 = omega (arith, next.room, has.few) in
+    let small : capacity_of f.count * size_in set f.item ≤ MOST_ITEMS = omega (arith, next.room, has.few) in
     let width : c.field_cells-cell.result ≡ capacity_of f.count * size_in set f.item =
     width_code set (field_of f) c.field_cells-cell.result (c.field_cells-cell.ensures ∙ ap (λ (x : Field). in_u32 (capacity_of x.count * item_size (struct_cells set) x.item)) (sym found)) small in
     let left = field_kinds (cells_in (table set)) d.fields c.loop-field.taken.image.kinds k cell (field_at set spot.part k) (drop k d.fields) (drop (k + 1) d.fields) (fields_at d.fields k lt) c.loop-field.invariant.kinds in

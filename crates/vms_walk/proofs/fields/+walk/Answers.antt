@@ -1,22 +1,23 @@
 use Rattle.std.proofs.Common.{rules, arith, refl, sym, ap, ◌∙◌, subst, ◌≡◌, ℕ, ℤ, ◌+◌, ◌*◌, ◌<◌, ◌≤◌, List, [], ◌∷◌, length, get_or, map, drop, Bool, true, OnOk, IfErr, Option}
 use Rattle.std.proofs.lemmas.Bool.{ltb-true}
 use Rattle.vms_kinds.specs.declared.Item.{Item}
+use Rattle.vms_spec.specs.declared.TheConstants.{MOST_ITEMS}
 use Rattle.vms_spec.specs.declared.Part.TheVariants as parts
 use Rattle.vms_spec.specs.Sets.{Field, Desc}
 use Rattle.vms_spec.specs.Rules.{uses_below}
 use Rattle.vms_spec.specs.Layout.{Slot, no_desc, item_slots, cells_from, capacity_of, all_hold}
 use Rattle.vms_spec.specs.Places.{own_cell_count}
-use Rattle.vms_laws.proofs.Places.{SameBelow}
+use Rattle.vms_bodies.proofs.Places.{SameBelow}
 use Rattle.vms_spec.proofs.Sizes.{field_size}
-use Rattle.vms_laws.proofs.WalkLaws.{place_first}
-use Rattle.vms_laws.proofs.AboveLaws.{items_above, meanings_above}
+use Rattle.vms_bodies.proofs.WalkLaws.{place_first}
+use Rattle.vms_bodies.proofs.AboveLaws.{items_above, meanings_above}
 use Rattle.vms_parts.specs.Views.{field_of}
 use Rattle.vms_desc.specs.Asks.{field_at}
 use Rattle.vms_desc.specs.Described.{described}
 use Rattle.vms_desc.specs.Parts.{desc_at}
 use Rattle.vms_desc.proofs.AskLaws.{found_field}
-use Rattle.vms_walk.specs.declared.step.Step.{Step}
-use Rattle.vms_walk.specs.declared.step.Step.TheVariants as steps
+use Rattle.vms_walk.specs.declared.step.WalkStep.{WalkStep}
+use Rattle.vms_walk.specs.declared.step.WalkStep.TheVariants as steps
 use Rattle.vms_walk.specs.Steps.{steps_of, table, cells_in, spot_numbers, spot_slots, slots_at, size_in, capacities_of, elements_slots, HasSpot, MayCome}
 use Rattle.vms_walk.proofs.Results.{ok_then, err_then, err_is}
 use Rattle.vms_walk.proofs.Walking.{room_at, least_again}
@@ -97,7 +98,7 @@ walk_items-walk_item-requires g t c =
             c.requires.reaches,
             (
               items_may N g.W.Walker.goes g.W.Walker.stops g.W.Walker.may laws set fine item most first i cell inv.here a b inv.way c.args.count (omega arith) c.requires.may,
-              (subst (λ (x : ℕ). cell + size_in set item ≤ x) (sym inv.long) room, subst (λ (x : ℕ). x ≤ 16384) (sym inv.long) c.requires.few),
+              (subst (λ (x : ℕ). cell + size_in set item ≤ x) (sym inv.long) room, subst (λ (x : ℕ). x ≤ MOST_ITEMS) (sym inv.long) c.requires.few),
             ),
           ),
         ),
@@ -171,7 +172,7 @@ walk_field-returns-clause-ok g t c =
     ok_then c.walk_items.result
     (λ h.
     let kept = laws.keeps _ a b h in
-    subst (λ (l : List Step). g.W.Walker.goes l a b) (sym (are (N b) kept.long (keeps_below cell slots n (N b) (items_above (table set) (meanings_above set.structs (length set.structs)) f.item (capacities_of most) (N b) count cell (size_in set f.item)) kept))) h)
+    subst (λ (l : List WalkStep). g.W.Walker.goes l a b) (sym (are (N b) kept.long (keeps_below cell slots n (N b) (items_above (table set) (meanings_above set.structs (length set.structs)) f.item (capacities_of most) (N b) count cell (size_in set f.item)) kept))) h)
     c.walk_items.ensures.ok
 
 pub walk_field-returns-clause-err : goal.walk_field-returns-clause-err
@@ -197,7 +198,7 @@ walk_field-returns-clause-err g t c =
     err_then (λ fault. g.W.Walker.stops (steps_of slots) a fault b) (λ fault. g.W.Walker.stops (steps_of (slots_at set spot (N b) k cell)) a fault b) c.walk_items.result
     (λ fault h.
     let kept = laws.stopped _ a b fault h in
-    subst (λ (l : List Step). g.W.Walker.stops l a fault b) (sym (are (N b) kept.long (keeps_below cell slots n (N b) (items_above (table set) (meanings_above set.structs (length set.structs)) f.item (capacities_of most) (N b) count cell (size_in set f.item)) kept))) h)
+    subst (λ (l : List WalkStep). g.W.Walker.stops l a fault b) (sym (are (N b) kept.long (keeps_below cell slots n (N b) (items_above (table set) (meanings_above set.structs (length set.structs)) f.item (capacities_of most) (N b) count cell (size_in set f.item)) kept))) h)
     c.walk_items.ensures.err
 
 -- ---- the fields of a description
@@ -230,7 +231,7 @@ walk-loop-field-preserved g t c =
     let le : i ≤ length all = omega (arith, c.field_count-field-end.ensures) in
     let lt : i < length all = omega (arith, c.field_count-field-end.ensures) in
     let has : HasSpot set spot (N b) =
-    record { part = part; few = subst (λ (x : ℕ). x ≤ 16384) (sym inv.long) c.requires.spot.few; room = subst (λ (x : ℕ). spot.base + own_cell_count set (desc_at set spot.part) ≤ x) (sym inv.long) c.requires.spot.room } in
+    record { part = part; few = subst (λ (x : ℕ). x ≤ MOST_ITEMS) (sym inv.long) c.requires.spot.few; room = subst (λ (x : ℕ). spot.base + own_cell_count set (desc_at set spot.part) ≤ x) (sym inv.long) c.requires.spot.room } in
     let next = next_field set c.args.set.now.well_formed spot (N b) has i cell lt inv.room in
     let f = field_at set spot.part i in
     let w = capacity_of f.count * size_in set f.item in
@@ -284,7 +285,7 @@ walk-walk_field-requires g t c =
     let le : i ≤ length all = omega (arith, c.field_count-field-end.ensures) in
     let lt : i < length all = omega (arith, c.field_count-field-end.ensures) in
     let has : HasSpot set spot (N b) =
-    record { part = part; few = subst (λ (x : ℕ). x ≤ 16384) (sym inv.long) c.requires.spot.few; room = subst (λ (x : ℕ). spot.base + own_cell_count set (desc_at set spot.part) ≤ x) (sym inv.long) c.requires.spot.room } in
+    record { part = part; few = subst (λ (x : ℕ). x ≤ MOST_ITEMS) (sym inv.long) c.requires.spot.few; room = subst (λ (x : ℕ). spot.base + own_cell_count set (desc_at set spot.part) ≤ x) (sym inv.long) c.requires.spot.room } in
     let next = next_field set c.args.set.now.well_formed spot (N b) has i cell lt inv.room in
     let f = field_at set spot.part i in
     let w = capacity_of f.count * size_in set f.item in
@@ -307,7 +308,7 @@ walk-overflow_add-cell g t c =
     let le : i ≤ length all = omega (arith, c.field_count-field-end.ensures) in
     let lt : i < length all = omega (arith, c.field_count-field-end.ensures) in
     let has : HasSpot set spot (N b) =
-    record { part = part; few = subst (λ (x : ℕ). x ≤ 16384) (sym inv.long) c.requires.spot.few; room = subst (λ (x : ℕ). spot.base + own_cell_count set (desc_at set spot.part) ≤ x) (sym inv.long) c.requires.spot.room } in
+    record { part = part; few = subst (λ (x : ℕ). x ≤ MOST_ITEMS) (sym inv.long) c.requires.spot.few; room = subst (λ (x : ℕ). spot.base + own_cell_count set (desc_at set spot.part) ≤ x) (sym inv.long) c.requires.spot.room } in
     let next = next_field set c.args.set.now.well_formed spot (N b) has i cell lt inv.room in
     let f = field_at set spot.part i in
     let w = capacity_of f.count * size_in set f.item in

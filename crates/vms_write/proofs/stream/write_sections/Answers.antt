@@ -1,5 +1,5 @@
 use Rattle.std.proofs.Common.{◌≡◌, ◌+◌, ◌<◌, ◌∙◌, length, drop, map, arith, Some}
-use Rattle.vms_spec.specs.Lists.{at}
+use Rattle.std.specs.List.{slice_get}
 use Rattle.vms_spec.specs.Streams.{written_section, written_sections}
 use Rattle.vms_desc.specs.Described.{described, device_at}
 use Rattle.vms_image.specs.Typed.{state_of}
@@ -37,7 +37,7 @@ write_section-requires-clause-ready g c =
     let i = c.loop-device.device in
     let image = c.index-images-device.result in
     let lt : i < length set.devices = omega (arith, c.requires.of.one_each) in
-    let here : at c.args.images.now i ≡ Some image = image_at c.args.images.now i image c.loop-device-test.true c.index-images-device.is in
+    let here : slice_get c.args.images.now i ≡ Some image = image_at c.args.images.now i image c.loop-device-test.true c.index-images-device.is in
     c.requires.ready.ready i (device_at set i) (state_of image) (at_get set.devices i _ lt) (at_state c.args.images.now i image here)
 
 pub returns-in_err-write_section-clause-err : goal.returns-in_err-write_section-clause-err

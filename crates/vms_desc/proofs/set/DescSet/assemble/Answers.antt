@@ -1,3 +1,4 @@
+use Rattle.vms_spec.specs.declared.TheConstants.{MOST_ITEMS}
 use Rattle.std.proofs.Common.{◌≡◌, List, [], ap, sym, ◌∙◌, ℕ, length, map, get_or, ◌≤◌, arith, subst}
 use Rattle.std.proofs.lemmas.List.{length-map}
 use Rattle.vms_parts.specs.declared.types.Desc.{Desc}
@@ -14,7 +15,7 @@ use Rattle.vms_desc.proofs.Bounds.{few_devices, small_layout, sizes_are}
 use Rattle.vms_desc.proofs.set.DescSet.assemble.Goals as goal
 
 pub device_spots-requires : goal.device_spots-requires
-device_spots-requires c = λ k. subst (λ (l : List (List CellForm)). length (get_or l k []) ≤ 16384) (sym (c.as_slice-2.ensures ∙ c.in_ok-layout.ensures)) (small_layout (set_of c.args.parts) c.requires k)
+device_spots-requires c = λ k. subst (λ (l : List (List CellForm)). length (get_or l k []) ≤ MOST_ITEMS) (sym (c.as_slice-2.ensures ∙ c.in_ok-layout.ensures)) (small_layout (set_of c.args.parts) c.requires k)
 
 pub invariant_of-result : goal.invariant_of-result
 invariant_of-result c =
@@ -38,5 +39,5 @@ invariant_of-result c =
       devices_tabled = subst (AreDeviceTables (sizes_of set) set.devices) (sym c.new-4.ensures)
           (subst (λ (l : List ℕ). AreDeviceTables l set.devices c.in_ok-devices.devices.items) same-2
           (subst (λ (l : List Device). AreDeviceTables c.deref-3.result.now (map device_of l) c.in_ok-devices.devices.items) c.as_slice-4.ensures c.in_ok-devices.ensures.tables));
-      small = λ k. subst (λ (l : List (List CellForm)). length (get_or l k []) ≤ 16384) (sym c.in_ok-layout.ensures) (small_layout set c.requires k);
+      small = λ k. subst (λ (l : List (List CellForm)). length (get_or l k []) ≤ MOST_ITEMS) (sym c.in_ok-layout.ensures) (small_layout set c.requires k);
     }

@@ -1,4 +1,5 @@
 use Rattle.std.proofs.Common.{◌≡◌, ◌∙◌, sym, ◌<◌, ◌≤◌, length, arith}
+use Rattle.vms_spec.specs.declared.TheConstants.{MOST_ITEMS}
 use Rattle.vms_spec.specs.Sets.{AtLeast}
 use Rattle.vms_spec.specs.Layout.{no_desc}
 use Rattle.vms_spec.specs.Images.{own_cells}
@@ -14,7 +15,7 @@ loop-earlier-init c =
     let set = described c.args.self.now in
     let d = device_at set c.args.device in
     let size : c.cells_of-cell.result ≡ in_u32 (own_cells set d) = c.cells_of-cell.ensures in
-    let few : own_cells set d ≤ 16384 = omega (arith, own_inside_device set c.args.device, few_cells set c.args.self.now.well_formed c.args.device) in
+    let few : own_cells set d ≤ MOST_ITEMS = omega (arith, own_inside_device set c.args.device, few_cells set c.args.self.now.well_formed c.args.device) in
     let same : c.cells_of-cell.result ≡ own_cells set d = omega arith in
     same ∙ sym (sub_first set (own_cells set d) d.subs)
 

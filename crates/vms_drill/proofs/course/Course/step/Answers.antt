@@ -1,5 +1,5 @@
 use Rattle.std.proofs.Common.{◌∙◌, sym}
-use Rattle.dev_drill.specs.Views.{tally_view}
+use Rattle.vms_drill.specs.Tallies.{tally_view}
 use Rattle.vms_drill.specs.Views.{course_view}
 use Rattle.vms_drill.proofs.StepLemmas.{some_saves, goes_saved, goes_unsaved}
 use Rattle.vms_drill.proofs.course.Course.step.Goals as goal

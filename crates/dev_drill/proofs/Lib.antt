@@ -1,3 +1,0 @@
-pub mod EventLaws
-pub mod FoldLaws
-pub mod Rows

@@ -1,4 +1,0 @@
-pub mod Events
-pub mod Fold
-pub mod Laws
-pub mod Views

@@ -1,6 +1,0 @@
--- What contracts see of a tally.
-use Rattle.dev_drill.specs.Fold.{Counts}
-use Rattle.dev_drill.specs.declared.tally.Tally.{Tally}
-
-abbrev pub tally_view : Tally → Counts
-tally_view t = record { sent = t.sent; raised = t.raised }

@@ -1,0 +1,112 @@
+-- From what the playing of lines says to how `play` ends.
+use Rattle.std.proofs.Common.{◌≡◌, ℕ, ◌<◌, ◌≤◌, ◌^◌, List, take, Option, Some, None, Result, Ok, Err, refl, sym, ap, ◌∙◌, subst}
+use Rattle.std.specs.Prelude.{IsSomeAnd}
+use Rattle.dev_board.specs.State.{State, power_on}
+use Rattle.vms_io.specs.Shelves.{Held}
+use Rattle.vms_io.specs.Told.{Intake, Outlet, Stock}
+use Rattle.vms_commands.proofs.EndLemmas.{takes_nothing}
+use Rattle.vms_commands.specs.Endings.{DoneAs, EndsAs}
+use Rattle.vms_commands.specs.Outcomes.{Outcome, Part, ComesTo, held_after}
+use Rattle.vms_session.specs.Parts.{PlaysParts}
+use Rattle.vms_session.specs.Playing.{session_of, LinesEnd}
+use Rattle.vms_session.specs.declared.line.PlayFault.{PlayFault}
+use Rattle.vms_script.specs.Lines.{ScriptLine}
+use Rattle.vms_session.specs.Session.{Session}
+use Rattle.vms_commands.specs.declared.ending.Ending.{Ending}
+use Rattle.vms_commands.specs.declared.ending.Ending.TheVariants.{Done, Refused, BadWords, BadText, NotCompatible, ReadFault, WriteFault, ShelfFault, NotThere, TooLarge, NoMemory}
+use Rattle.vms_session.proofs.CourseLemmas.{holds_since, lines_come, rose_since}
+use Rattle.vms_session.specs.Playing.{HasPlayCause}
+use Rattle.vms_session.specs.declared.line.PlayFault.TheVariants as faults
+use Rattle.vms_board_commands.specs.Causes.{LinesCause}
+use Rattle.vms_board_commands.specs.Play.{PlaysAll, ending_by}
+
+-- what the playing says, of the parts and the session that the lines come to
+abbrev pub Content : List ScriptLine → State → State → (o o' : Outlet) (s s' : Stock) → Result Unit PlayFault → Type 0
+Content lines board board' o o' s s' result =
+    (held : Held) (parts : List Part) (new : Session) → s.held ≡ Some held → PlaysParts lines (session_of board held) parts new → LinesEnd parts new o o' s s' board' result
+
+module _ (level : ℕ) (lines : List ScriptLine) (i : Intake) (o o' : Outlet) (s s' : Stock) (board board' : State) (x : Outcome) (on : board ≡ power_on level) where
+  at-power-on : (result : Result Unit PlayFault) → Content lines board board' o o' s s' result → Content lines (power_on level) board' o o' s s' result
+  at-power-on result content = subst (λ (b : State). Content lines b board' o o' s s' result) on content
+
+  pub all_played : i.given < 2 ^ 64 → Content lines board board' o o' s s' (Ok tt) → IsSomeAnd s.held (λ map. PlaysAll level lines map x) → DoneAs i i o o' s s' x
+  all_played few content has = by s.held refl has
+    where
+      by : (held : Option Held) → s.held ≡ held → IsSomeAnd held (λ map. PlaysAll level lines map x) → DoneAs i i o o' s s' x
+      by None e h = absurd h
+      by (Some map) e h =
+          let ends = at-power-on (Ok tt) content map h.parts h.new e h.plays in
+          subst (DoneAs i i o o' s s') (sym h.outcome) (record {
+            status_is = refl;
+            text = ends.0;
+            note = refl;
+            held = ends.1;
+            taken = takes_nothing i few;
+          })
+
+  pub some_played : (fault : PlayFault) → Content lines board board' o o' s s' (Err fault) → IsSomeAnd s.held (λ map. PlaysAll level lines map x) → ComesTo o o' s s' x.parts
+  some_played fault content has = by s.held refl has
+    where
+      by : (held : Option Held) → s.held ≡ held → IsSomeAnd held (λ map. PlaysAll level lines map x) → ComesTo o o' s s' x.parts
+      by None e h = absurd h
+      by (Some map) e h =
+          let ends = at-power-on (Err fault) content map h.parts h.new e h.plays in
+          subst (λ (y : Outcome). ComesTo o o' s s' y.parts) (sym h.outcome) (lines_come h.parts h.new o o' s s' board' fault ends)
+
+  -- by each fault
+  pub stopped_by : (fault : PlayFault) → Content lines board board' o o' s s' (Err fault) → IsSomeAnd s.held (λ map. PlaysAll level lines map x) → EndsAs i i o o' s s' (ending_by fault) x
+  stopped_by faults.WriteFault content has = some_played faults.WriteFault content has
+  stopped_by faults.ShelfFault content has = some_played faults.ShelfFault content has
+  stopped_by faults.NoMemory content has = some_played faults.NoMemory content has
+
+pub stopped_cause : (o o' : Outlet) (s s' : Stock) (fault : PlayFault) → HasPlayCause o o' s s' (Err fault) → LinesCause o o' s s' (ending_by fault)
+stopped_cause o o' s s' faults.WriteFault h = h
+stopped_cause o o' s s' faults.ShelfFault h = h
+stopped_cause o o' s s' faults.NoMemory h = tt
+
+-- ---- from before the script was fetched
+
+module _ (i i' : Intake) (o o' : Outlet) (a b s' : Stock) (held : b.held ≡ a.held) (le : a.faults ≤ b.faults) (x : Outcome) where
+  done-since : DoneAs i i' o o' b s' x → DoneAs i i' o o' a s' x
+  done-since d = record {
+    status_is = d.status_is;
+    text = d.text;
+    note = d.note;
+    held = d.held ∙ ap (λ (h : Option Held). held_after h x.parts) held;
+    taken = d.taken;
+  }
+
+  comes-since : ComesTo o o' b s' x.parts → ComesTo o o' a s' x.parts
+  comes-since c = record {
+    begun = c.begun;
+    bytes = c.bytes;
+    text = c.text;
+    held = holds_since a.faults b.faults s'.faults (held_after a.held (take c.begun x.parts)) s'.held (held_after b.held (take c.begun x.parts)) le
+        (ap (λ (h : Option Held). held_after h (take c.begun x.parts)) held) c.held;
+  }
+
+  pub ends_since : (e : Ending) → EndsAs i i' o o' b s' e x → EndsAs i i' o o' a s' e x
+  ends_since Done h = done-since h
+  ends_since (Refused line) h = h
+  ends_since BadWords h = h
+  ends_since (BadText line) h = h
+  ends_since (NotCompatible line) h = h
+  ends_since ReadFault h = comes-since h
+  ends_since WriteFault h = comes-since h
+  ends_since ShelfFault h = comes-since h
+  ends_since (NotThere line) h = h
+  ends_since (TooLarge line) h = h
+  ends_since NoMemory h = comes-since h
+
+pub lines_since : (o o' : Outlet) (a b s' : Stock) (e : Ending) → a.faults ≤ b.faults → LinesCause o o' b s' e → LinesCause o o' a s' e
+lines_since o o' a b s' Done le c = tt
+lines_since o o' a b s' WriteFault le c = c
+lines_since o o' a b s' ShelfFault le c = rose_since a.faults b.faults s'.faults le c
+lines_since o o' a b s' NoMemory le c = tt
+lines_since o o' a b s' (Refused line) le c = absurd c
+lines_since o o' a b s' BadWords le c = absurd c
+lines_since o o' a b s' (BadText line) le c = absurd c
+lines_since o o' a b s' (NotCompatible line) le c = absurd c
+lines_since o o' a b s' ReadFault le c = absurd c
+lines_since o o' a b s' (NotThere line) le c = absurd c
+lines_since o o' a b s' (TooLarge line) le c = absurd c

@@ -1,0 +1,28 @@
+-- From what a save of a board says to how `save` ends.
+use Rattle.std.proofs.Common.{◌≡◌, ℕ, List, Result, Ok, Err, refl, subst}
+use Rattle.std.specs.Io.KnownBytes.{Appends}
+use Rattle.dev_board.specs.State.{power_on}
+use Rattle.vms_board.specs.Saving.{Saves}
+use Rattle.vms_board.specs.declared.save.SaveFault.{SaveFault}
+use Rattle.vms_board.specs.declared.save.SaveFault.TheVariants.{WriteFault, NoMemory}
+use Rattle.vms_io.specs.Causes.{AppendsPrefix}
+use Rattle.vms_io.specs.Told.{Outlet}
+use Rattle.vms_commands.proofs.EndLemmas.{same_keeps}
+use Rattle.vms_commands.specs.StepEndings.{TextEnds}
+use Rattle.vms_commands.specs.Steps.{Gives}
+use Rattle.vms_board_commands.specs.Causes.{WriteCause}
+use Rattle.vms_board_commands.specs.Save.{ending_by}
+
+pub saved_ends : (bytes text : List ℕ) (o o' : Outlet) (r : Result Unit SaveFault) → bytes ≡ text → Saves bytes o o' r → TextEnds (Gives text) o o' (ending_by r)
+saved_ends bytes text o o' (Ok u) e h = subst (Appends o.written o'.written) e h
+saved_ends bytes text o o' (Err WriteFault) e h = subst (AppendsPrefix o.written o'.written) e h.0
+saved_ends bytes text o o' (Err NoMemory) e h = tt
+
+pub saved_cause : (bytes : List ℕ) (o o' : Outlet) (r : Result Unit SaveFault) → Saves bytes o o' r → WriteCause o o' (ending_by r)
+saved_cause bytes o o' (Ok u) h = tt
+saved_cause bytes o o' (Err WriteFault) h = h.1
+saved_cause bytes o o' (Err NoMemory) h = same_keeps o o' h
+
+pub at_level : (level : ℕ) → (power_on level).level ≡ level
+unfolding power_on
+at_level level = refl

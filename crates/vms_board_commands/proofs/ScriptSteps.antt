@@ -1,0 +1,34 @@
+-- The step that gives a script: it is told where the shelf is, never ends by the status 0, and gives what is there.
+use Rattle.std.proofs.Common.{◌≡◌, ℕ, ◌≤◌, List, length, Option, Some, None, Ok, Err, ap, ◌∙◌, arith}
+use Rattle.dev_board.specs.State.{power_on}
+use Rattle.dev_board.specs.Step.{after_all}
+use Rattle.vms_board.specs.Saving.{saved_stream}
+use Rattle.vms_io.specs.Shelves.{Held}
+use Rattle.vms_commands.proofs.StepLemmas.{IsSound, fetched_gives, sound_fetch, sound_next}
+use Rattle.vms_commands.specs.Fetching.{fetched}
+use Rattle.vms_commands.specs.Steps.{Step, Gives, next}
+use Rattle.vms_session.specs.Events.{events_of}
+use Rattle.vms_script.specs.Lines.{ScriptLine}
+use Rattle.vms_script.specs.Script.{Reading, script_read}
+use Rattle.vms_board_commands.specs.Save.{saved_after}
+use Rattle.vms_board_commands.specs.Scripts.{longest_script, said_lines, scripted}
+
+sound_said : (held : Option Held) (r : Reading) → IsSound held (said_lines r)
+sound_said held (Ok lines) = tt
+sound_said held (Err fault) = omega arith
+
+pub sound_script : (play : Option ℕ) (held : Option Held) (name : List ℕ) → IsSound held (scripted play held name)
+sound_script play held name =
+    sound_next held (fetched longest_script held name) (λ text. said_lines (script_read play text)) (sound_fetch held longest_script name)
+    (λ text. sound_said held (script_read play text))
+
+pub sound_saved : (level set : ℕ) (held : Option Held) (name : List ℕ) → IsSound held (saved_after level set held name)
+sound_saved level set held name =
+    sound_next held (scripted None held name) (λ lines. Gives (saved_stream set (after_all (events_of lines) (power_on level)))) (sound_script None held name) (λ lines. tt)
+
+-- a script that is there is read
+pub script_gives : (play : Option ℕ) (map : Held) (name text : List ℕ) (lines : List ScriptLine) → map name ≡ Some text → length text ≤ longest_script
+    → script_read play text ≡ Ok lines → scripted play (Some map) name ≡ Gives lines
+script_gives play map name text lines held short reads =
+    ap (λ (s : Step (List ℕ)). next s (λ t. said_lines (script_read play t))) (fetched_gives longest_script map name text held short)
+    ∙ ap said_lines reads

@@ -1,0 +1,23 @@
+use Rattle.std.proofs.Common.{List, ℕ, refl, subst, ◌∙◌}
+use Rattle.vms_io.specs.Told.{outlet}
+use Rattle.vms_commands.proofs.StepLemmas.{text_ends}
+use Rattle.vms_commands.specs.StepEndings.{TextEnds}
+use Rattle.vms_commands.specs.Steps.{Gives}
+use Rattle.vms_commands.proofs.EndLemmas.{quiet_same}
+use Rattle.vms_commands.specs.declared.ending.Ending.TheVariants.{NoMemory}
+use Rattle.vms_board_commands.proofs.CauseLemmas.{written_quiet}
+use Rattle.vms_board_commands.specs.Drill.{drill_line}
+use Rattle.vms_board_commands.proofs.drill.drill_board.Goals as goal
+
+pub returns-in-Ok-clause-content : goal.returns-in-Ok-clause-content
+returns-in-Ok-clause-content g c = λ input shelf o few is.
+    let out = outlet g.O.Sink c.args.out.now in
+    let out' = outlet g.O.Sink c.write_text.new.out in
+    text_ends (Gives (drill_line c.args.level c.args.seed c.args.count)) input out out' shelf shelf c.write_text.result o few refl
+    (written_quiet out out' c.write_text.result c.write_text.ensures.cause)
+    (subst (λ (t : List ℕ). TextEnds (Gives t) out out' c.write_text.result) (c.as_bytes.ensures.value ∙ c.in-Ok.ensures) c.write_text.ensures.ends) is
+
+pub returns-in-Err-clause-content : goal.returns-in-Err-clause-content
+returns-in-Err-clause-content g c = λ input shelf o few is.
+    let out = outlet g.O.Sink c.args.out.now in
+    text_ends (Gives (drill_line c.args.level c.args.seed c.args.count)) input out out shelf shelf NoMemory o few refl (quiet_same out NoMemory) tt is

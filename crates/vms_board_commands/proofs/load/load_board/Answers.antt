@@ -1,0 +1,75 @@
+use Rattle.std.proofs.Common.{List, ℕ, None, refl, sym, inl, inr, subst}
+use Rattle.std.specs.declared.alloc.Global.{Global}
+use Rattle.std.specs.declared.vec.Vec.{Vec}
+use Rattle.dev_board.specs.declared.event.Event.{Event}
+use Rattle.vms_io.specs.Told.{intake, outlet, stock}
+use Rattle.vms_commands.proofs.EndLemmas.{keeps_same, quiet_same}
+use Rattle.vms_commands.specs.Outcomes.{Outcome}
+use Rattle.vms_commands.proofs.StepLemmas.{ended_by, had_by}
+use Rattle.vms_script.specs.Lines.{ScriptLine}
+use Rattle.vms_script.specs.Views.{event_lines}
+use Rattle.vms_board_commands.proofs.HeardLemmas.{given_so, heard_so, other_heard, script_other}
+use Rattle.vms_board_commands.proofs.LoadLemmas.{gives_none, gives_some, loads_under}
+use Rattle.vms_board_commands.specs.Heard.{HearsEnd}
+use Rattle.vms_board_commands.specs.Load.{Loads}
+use Rattle.vms_board_commands.specs.Scripts.{scripted}
+use Rattle.vms_board_commands.proofs.load.load_board.Goals as goal
+
+abbrev view : Vec Event Global → List ScriptLine
+view v = event_lines v.items
+
+pub returns-in-Ok-clause-content : goal.returns-in-Ok-clause-content
+returns-in-Ok-clause-content g c = λ o has.
+    let held = g.H.Shelf.held c.args.shelf.now in
+    let left = g.I.Source.left c.args.input.now in
+    let level = c.args.asked.level in
+    let loads = had_by view (loads_under level left held) (scripted None held c.args.asked.script.now) c.in-Ok.events o c.in-Ok.ensures.read has in
+    c.load_events.ensures.content (stock g.H.Shelf c.args.shelf.now) (stock g.H.Shelf c.events_of.new.shelf) o c.in-Ok.ensures.held
+    (subst (λ (l : List Event). loads_under level left held (event_lines l) o) (sym c.deref.ensures.value) loads)
+
+pub returns-in-Ok-clause-cause : goal.returns-in-Ok-clause-cause
+returns-in-Ok-clause-cause g c = inr c.load_events.ensures.cause
+
+pub returns-in-Ok-clause-given : goal.returns-in-Ok-clause-given
+returns-in-Ok-clause-given g c =
+    gives_some view (scripted None (g.H.Shelf.held c.args.shelf.now) c.args.asked.script.now) c.in-Ok.events
+    (intake g.I.Source c.args.input.now) (intake g.I.Source c.load_events.new.input) c.in-Ok.ensures.read c.load_events.ensures.given
+
+pub returns-in-Err-clause-content : goal.returns-in-Err-clause-content
+returns-in-Err-clause-content g c = λ o has.
+    let held = g.H.Shelf.held c.args.shelf.now in
+    let left = g.I.Source.left c.args.input.now in
+    let out = outlet g.O.Sink c.args.out.now in
+    ended_by view (loads_under c.args.asked.level left held) (scripted None held c.args.asked.script.now)
+    (intake g.I.Source c.args.input.now) out out (stock g.H.Shelf c.args.shelf.now) (stock g.H.Shelf c.events_of.new.shelf)
+    c.in-Err.ending o c.in-Err.ensures.held (quiet_same out c.in-Err.ending) c.in-Err.ensures.read has
+
+pub returns-in-Err-clause-cause : goal.returns-in-Err-clause-cause
+returns-in-Err-clause-cause g c = inl (c.in-Err.ensures.cause, refl, keeps_same (g.O.Sink.written c.args.out.now))
+
+pub returns-in-Err-clause-given : goal.returns-in-Err-clause-given
+returns-in-Err-clause-given g c =
+    gives_none (scripted None (g.H.Shelf.held c.args.shelf.now) c.args.asked.script.now) (intake g.I.Source c.args.input.now)
+
+-- ---- what is heard
+
+pub returns-in-Ok-clause-heard : goal.returns-in-Ok-clause-heard
+returns-in-Ok-clause-heard g c =
+    let held = g.H.Shelf.held c.args.shelf.now in
+    let level = c.args.asked.level in
+    let outcome : List ScriptLine → List ℕ → Outcome → Type 0 = λ lines bytes o. Loads level lines bytes held o in
+    let before = g.I.Source.given c.args.input.now in
+    let now = g.I.Source.given c.load_events.new.input in
+    let out = outlet g.O.Sink c.args.out.now in
+    let out' = outlet g.O.Sink c.load_events.new.out in
+    heard_so (List ScriptLine) (scripted None held c.args.asked.script.now) outcome (view c.in-Ok.events) held before now out out' c.load_events.result
+    (given_so (List ScriptLine) (Vec Event Global) view (scripted None held c.args.asked.script.now) c.in-Ok.events c.in-Ok.ensures.read)
+    (subst (λ (l : List Event). HearsEnd (outcome (event_lines l)) held before now out out' c.load_events.result) c.deref.ensures.value (c.load_events.ensures.heard held))
+
+pub returns-in-Err-clause-heard : goal.returns-in-Err-clause-heard
+returns-in-Err-clause-heard g c =
+    let held = g.H.Shelf.held c.args.shelf.now in
+    let given = g.I.Source.given c.args.input.now in
+    let out = outlet g.O.Sink c.args.out.now in
+    other_heard (List ScriptLine) (scripted None held c.args.asked.script.now) (λ lines bytes o. Loads c.args.asked.level lines bytes held o) held given given out out c.in-Err.ending
+    (script_other (stock g.H.Shelf c.args.shelf.now) (stock g.H.Shelf c.events_of.new.shelf) c.in-Err.ending c.in-Err.ensures.cause)

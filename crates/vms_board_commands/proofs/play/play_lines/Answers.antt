@@ -1,0 +1,36 @@
+use Rattle.std.proofs.Common.{ℕ, Some, sym, ap, ◌∙◌, subst}
+use Rattle.dev_board.specs.State.{State}
+use Rattle.vms_io.specs.Told.{outlet, stock}
+use Rattle.vms_commands.specs.Endings.{EndsAs}
+use Rattle.vms_commands.specs.declared.ending.Ending.{Ending}
+use Rattle.vms_script.specs.Grammar.{AreLines}
+use Rattle.vms_script.specs.Views.{lines_view}
+use Rattle.vms_board_commands.proofs.PlayLemmas.{all_played, stopped_by, stopped_cause}
+use Rattle.vms_board_commands.proofs.SaveLemmas.{at_level}
+use Rattle.vms_board_commands.specs.Causes.{LinesCause}
+use Rattle.vms_board_commands.proofs.play.play_lines.Goals as goal
+
+pub play-requires-clause-lines : goal.play-requires-clause-lines
+play-requires-clause-lines g c =
+    let level = ap (λ (m : State). m.level) c.in-Ok.ensures.state ∙ at_level c.args.level in
+    subst (λ (l : ℕ). AreLines (Some l) (lines_view c.args.lines.now)) (sym level) c.requires.lines
+
+pub returns-in-Ok-play-clause-content : goal.returns-in-Ok-play-clause-content
+returns-in-Ok-play-clause-content g c = λ input o few has.
+    all_played c.args.level (lines_view c.args.lines.now) input (outlet g.O.Sink c.args.out.now) (outlet g.O.Sink c.play.new.out)
+    (stock g.H.Shelf c.args.shelf.now) (stock g.H.Shelf c.play.new.shelf) c.in-Ok.board.state c.play.new.board.state o c.in-Ok.ensures.state
+    few c.in-Ok-play.ensures.content has
+
+pub returns-clause-content : goal.returns-clause-content
+returns-clause-content g c = λ input o few has.
+    subst (λ (e : Ending). EndsAs input input (outlet g.O.Sink c.args.out.now) (outlet g.O.Sink c.play.new.out) (stock g.H.Shelf c.args.shelf.now) (stock g.H.Shelf c.play.new.shelf) e o)
+    (sym c.ending_of.ensures)
+    (stopped_by c.args.level (lines_view c.args.lines.now) input (outlet g.O.Sink c.args.out.now) (outlet g.O.Sink c.play.new.out)
+    (stock g.H.Shelf c.args.shelf.now) (stock g.H.Shelf c.play.new.shelf) c.in-Ok.board.state c.play.new.board.state o c.in-Ok.ensures.state
+    c.in-Err.fault c.in-Err.ensures.content has)
+
+pub returns-clause-cause : goal.returns-clause-cause
+returns-clause-cause g c =
+    subst (λ (e : Ending). LinesCause (outlet g.O.Sink c.args.out.now) (outlet g.O.Sink c.play.new.out) (stock g.H.Shelf c.args.shelf.now) (stock g.H.Shelf c.play.new.shelf) e)
+    (sym c.ending_of.ensures)
+    (stopped_cause (outlet g.O.Sink c.args.out.now) (outlet g.O.Sink c.play.new.out) (stock g.H.Shelf c.args.shelf.now) (stock g.H.Shelf c.play.new.shelf) c.in-Err.fault c.in-Err.ensures.cause)

@@ -1,0 +1,38 @@
+use Rattle.std.proofs.Common.{ℕ, List, None, subst}
+use Rattle.std.specs.declared.alloc.Global.{Global}
+use Rattle.std.specs.declared.vec.Vec.{Vec}
+use Rattle.dev_board.specs.declared.event.Event.{Event}
+use Rattle.vms_io.specs.Told.{stock}
+use Rattle.vms_commands.proofs.StepLemmas.{first_err, then_as}
+use Rattle.vms_commands.specs.Fetching.{fetched}
+use Rattle.vms_commands.specs.StepEndings.{StepAs}
+use Rattle.vms_script.specs.Lines.{ScriptLine}
+use Rattle.vms_script.specs.Script.{script_read}
+use Rattle.vms_script.specs.Views.{event_lines}
+use Rattle.vms_board_commands.proofs.ScriptLemmas.{had_events, no_script, read_caused}
+use Rattle.vms_board_commands.specs.Scripts.{longest_script, said_lines}
+use Rattle.vms_board_commands.proofs.scripts.events_of.Goals as goal
+
+abbrev view : Vec Event Global → List ScriptLine
+view v = event_lines v.items
+
+pub returns-in-Ok-clause-read : goal.returns-in-Ok-clause-read
+returns-in-Ok-clause-read g c =
+    then_as (λ (t : Vec ℕ Global). t.items) view (λ (text : List ℕ). said_lines (script_read None text))
+    (fetched longest_script (g.H.Shelf.held c.args.shelf.now) c.args.name.now) c.in-Ok.text c.had.result c.in-Ok.ensures.fetched
+    (subst (λ (b : List ℕ). StepAs view (said_lines (script_read None b)) c.had.result) c.deref.ensures.value
+    (c.had.ensures.read view (script_read None c.deref.result.now) c.read_events.ensures))
+
+pub returns-in-Ok-clause-good : goal.returns-in-Ok-clause-good
+returns-in-Ok-clause-good g c = had_events c.deref.result.now c.read_events.result c.had.result c.read_events.ensures c.had.ensures.same
+
+pub returns-in-Err-clause-read : goal.returns-in-Err-clause-read
+returns-in-Err-clause-read g c =
+    first_err (λ (t : Vec ℕ Global). t.items) view (λ (text : List ℕ). said_lines (script_read None text))
+    (fetched longest_script (g.H.Shelf.held c.args.shelf.now) c.args.name.now) c.in-Err.ending c.in-Err.ensures.fetched
+
+pub returns-in-Ok-clause-cause : goal.returns-in-Ok-clause-cause
+returns-in-Ok-clause-cause g c = read_caused (Vec Event Global) (stock g.H.Shelf c.args.shelf.now) (stock g.H.Shelf c.fetch.new.shelf) c.had.result c.had.ensures.cause
+
+pub returns-in-Err-clause-cause : goal.returns-in-Err-clause-cause
+returns-in-Err-clause-cause g c = no_script (stock g.H.Shelf c.args.shelf.now) (stock g.H.Shelf c.fetch.new.shelf) c.in-Err.ending c.in-Err.ensures.cause

@@ -1,0 +1,35 @@
+-- The command `play`: its outcome, and what it can answer.
+use Rattle.std.specs.Prelude.{◌≡◌, ℕ, List, [], Option, IsSomeAnd}
+use Rattle.vms_io.specs.Shelves.{Held}
+use Rattle.vms_commands.specs.Outcomes.{Outcome, Part, Outside}
+use Rattle.vms_commands.specs.Steps.{Step, HasBy}
+use Rattle.vms_commands.specs.Texts.{ShelfStatus}
+use Rattle.vms_commands.specs.declared.ending.Ending.{Ending}
+use Rattle.vms_commands.specs.declared.ending.Ending.TheVariants as endings
+use Rattle.vms_session.specs.Parts.{PlaysParts}
+use Rattle.vms_session.specs.declared.line.PlayFault.{PlayFault}
+use Rattle.vms_session.specs.declared.line.PlayFault.TheVariants as faults
+use Rattle.vms_script.specs.Lines.{ScriptLine}
+use Rattle.vms_session.specs.Session.{Session, begun}
+
+-- all lines of a session are played, from power on and what the shelf holds: one part for each
+pub record PlaysAll (level : ℕ) (lines : List ScriptLine) (held : Held) (o : Outcome) : Type 0 where
+  pub parts : List Part
+  pub new : Session
+  pub plays : PlaysParts lines (begun level held) parts new
+  pub outcome : o ≡ record { status = 0; parts = parts; note = []; taken = 0 }
+
+-- by the step that gives the script: the outcome with it, where the shelf is told, or the end of that step
+abbrev pub PlaysBy : ℕ → Step (List ScriptLine) → Option Held → Outcome → Type 0
+PlaysBy level step held o = HasBy (λ lines x. IsSomeAnd held (λ map. PlaysAll level lines map x)) step o
+
+-- what it can answer, told or not
+pub record PlayAnswers (status : ℕ) (old new : Outside) : Type 0 where
+  pub ends : ShelfStatus status old new
+  pub input : new.input ≡ old.input
+
+-- how a session that stopped ends
+abbrev pub ending_by : PlayFault → Ending
+ending_by faults.WriteFault = endings.WriteFault
+ending_by faults.ShelfFault = endings.ShelfFault
+ending_by faults.NoMemory = endings.NoMemory

@@ -1,0 +1,33 @@
+-- The script of a command: fetched from the shelf, and then read.
+use Rattle.std.specs.Prelude.{ℕ, List, [], ◌∷◌, ◌++◌, codes, Option, Ok, Err}
+use Rattle.std.specs.Fmt.{decimal}
+use Rattle.vms_io.specs.Shelves.{Held}
+use Rattle.vms_commands.specs.Fetching.{fetched}
+use Rattle.vms_commands.specs.Steps.{Step, Gives, Ends, next}
+use Rattle.vms_script.specs.Lines.{ScriptLine}
+use Rattle.vms_script.specs.Script.{Reading, script_read}
+use Rattle.vms_script.specs.declared.line.ScriptReason.{ScriptReason}
+use Rattle.vms_script.specs.declared.line.ScriptReason.TheVariants as reasons
+
+-- the greatest script, in bytes
+abbrev pub longest_script : ℕ
+longest_script = 4194304
+
+abbrev pub script_reason_text : ScriptReason → List ℕ
+script_reason_text reasons.Form = codes "Form"
+script_reason_text reasons.Range = codes "Range"
+script_reason_text reasons.NoEnd = codes "NoEnd"
+
+-- the line of a script that is refused
+abbrev pub script_line : ℕ → ScriptReason → List ℕ
+script_line line reason =
+    codes "script line " ++ (decimal line ++ (codes ": " ++ (script_reason_text reason ++ 10 ∷ [])))
+
+-- the lines that a text says, or its first bad one
+abbrev pub said_lines : Reading → Step (List ScriptLine)
+said_lines (Ok lines) = Gives lines
+said_lines (Err fault) = Ends 3 (script_line fault.line fault.reason)
+
+-- the lines of the script under a name, of a session on a board of a level where one is named
+abbrev pub scripted : Option ℕ → Option Held → List ℕ → Step (List ScriptLine)
+scripted play held name = next (fetched longest_script held name) (λ text. said_lines (script_read play text))

@@ -1,0 +1,87 @@
+// The command `drill`: what events that a seed chooses come to, with saves between them.
+ghost use Rattle.std.specs.Prelude.{◌≡◌, ◌^◌, ◌<◌, ◌≤◌, IfOk, string_bytes};
+ghost use Rattle.dev_base.specs.Levels.{IsLevel};
+ghost use Rattle.vms_drill.specs.Views.{summary_view};
+ghost use Rattle.vms_io.specs.Told.{Intake, Stock, outlet};
+ghost use Rattle.vms_commands.specs.Endings.{EndsAs};
+ghost use Rattle.vms_commands.specs.Outcomes.{Outcome, done};
+ghost use Rattle.vms_commands.specs.StepEndings.{TextEnds};
+ghost use Rattle.vms_commands.specs.Steps.{Gives};
+ghost use Rattle.vms_board_commands.specs.Causes.{WriteCause};
+ghost use Rattle.vms_board_commands.specs.Drill.{drill_line, drill_text, events_text, saves_text, summary_line};
+
+use std::alloc::Global;
+use vms_commands::Ending;
+use vms_drill::{Summary, drill};
+use vms_io::{NoMemory, Sink, write_all_of};
+
+/// Writes what so many events that a seed chooses come to, on a board of a level at power on that is saved and
+/// restored after every thousand of them.
+pub fn drill_board<O: Sink>(alloc: Global, level: u8, seed: u64, count: u32, out: &mut O) -> Ending
+    requires { IsLevel level }
+    ensures content { (input : Intake) (shelf : Stock) (o : Outcome) → input.given < 2 ^ 64
+        → o ≡ done (drill_line level seed count) shelf.held 0
+        → EndsAs input input (outlet O.Sink out.old) (outlet O.Sink out.new) shelf shelf result o }
+    ensures cause { WriteCause (outlet O.Sink out.old) (outlet O.Sink out.new) result }
+    ensures count { O.faults out.old ≤ O.faults out.new }
+    ensures promise { O.promise out.new ≡ O.promise out.old }
+{
+    match drilled_line(alloc, level, seed, count) {
+        Ok(line) => write_text(line.as_bytes(), out),
+        Err(_) => Ending::NoMemory,
+    }
+}
+
+fn write_text<O: Sink>(text: &[u8], out: &mut O) -> Ending
+    ensures ends { TextEnds (Gives text.now)
+        (outlet O.Sink out.old) (outlet O.Sink out.new) result }
+    ensures cause { WriteCause (outlet O.Sink out.old) (outlet O.Sink out.new) result }
+    ensures count { O.faults out.old ≤ O.faults out.new }
+    ensures promise { O.promise out.new ≡ O.promise out.old }
+{
+    match write_all_of(out, text) {
+        Ok(()) => Ending::Done,
+        Err(_) => Ending::WriteFault,
+    }
+}
+
+// What a drill comes to, as a line.
+fn drilled_line(alloc: Global, level: u8, seed: u64, count: u32) -> Result<String, NoMemory>
+    requires { IsLevel level }
+    ensures { IfOk result (λ line. string_bytes line ≡ drill_line level seed count) }
+{
+    let drilled = drill(alloc, level, seed, count)?;
+    summary_line(alloc, level, seed, &drilled.summary)
+}
+
+// The line of a drill.
+fn summary_line(alloc: Global, level: u8, seed: u64, summary: &Summary) -> Result<String, NoMemory>
+    ensures { let s = summary_view summary.now in
+        IfOk result (λ line. string_bytes line ≡ summary_line level seed s) }
+{
+    let drill = drill_text(alloc, level, seed)?;
+    let events = events_text(alloc, summary.events, summary.sent, summary.raised)?;
+    let saves = saves_text(alloc, summary.saves, summary.bytes)?;
+    Ok(format!(in alloc; "{drill}{events}{saves}")?)
+}
+
+#[tactic(auto, unfolding(crate::specs::Drill::drill_text))]
+fn drill_text(alloc: Global, level: u8, seed: u64) -> Result<String, NoMemory>
+    ensures { IfOk result (λ text. string_bytes text ≡ drill_text level seed) }
+{
+    Ok(format!(in alloc; "isa-{level} seed {seed}")?)
+}
+
+#[tactic(auto, unfolding(crate::specs::Drill::events_text))]
+fn events_text(alloc: Global, events: u32, sent: u64, raised: u64) -> Result<String, NoMemory>
+    ensures { IfOk result (λ text. string_bytes text ≡ events_text events sent raised) }
+{
+    Ok(format!(in alloc; " events {events} sent {sent} raised {raised}")?)
+}
+
+#[tactic(auto, unfolding(crate::specs::Drill::saves_text))]
+fn saves_text(alloc: Global, saves: u32, bytes: u64) -> Result<String, NoMemory>
+    ensures { IfOk result (λ text. string_bytes text ≡ saves_text saves bytes) }
+{
+    Ok(format!(in alloc; " saves {saves} bytes {bytes}\n")?)
+}

@@ -1,0 +1,144 @@
+// The command `load`: what goes on, by a script, from the board that a stream restores.
+ghost use Rattle.std.specs.Prelude.{◌≡◌, ◌+◌, ◌≤◌, IsSomeAnd, None, Option};
+ghost use Rattle.dev_base.specs.Levels.{IsLevel};
+ghost use Rattle.dev_base.specs.declared.limits.TheConstants.{NEWEST as newest};
+ghost use Rattle.dev_board.specs.Laws.{AreEvents};
+ghost use Rattle.vms_desc.specs.Formed.{shipped_set};
+ghost use Rattle.vms_io.specs.Shelves.{Held};
+ghost use Rattle.vms_io.specs.Told.{Stock, intake, outlet, stock};
+ghost use Rattle.vms_load.specs.Staging.{most_given};
+ghost use Rattle.vms_commands.specs.Endings.{EndsAs, WritesAs};
+ghost use Rattle.vms_commands.specs.Outcomes.{Outcome};
+ghost use Rattle.vms_session.specs.Events.{trace_from};
+ghost use Rattle.vms_script.specs.Views.{event_lines};
+ghost use Rattle.vms_board_commands.specs.Causes.{LoadCause, StreamCause};
+ghost use Rattle.vms_board_commands.specs.Heard.{HearsEnd};
+ghost use Rattle.vms_board_commands.specs.Load.{LoadGives, LoadHears, Loads, LoadsBy};
+ghost use Rattle.vms_board_commands.specs.Scripts.{scripted};
+
+use crate::asked::OnBoard;
+use crate::scripts::events_of;
+use dev_board::Event;
+use std::alloc::Global;
+use vms_board::{Board, RestoreFault};
+use vms_commands::{Ending, refused_line};
+use vms_io::{Shelf, Sink, Source};
+use vms_session::trace;
+
+/// Restores a board from the input's stream, and writes the trace of a script's events on it.
+///
+/// The script is there, and all memory is taken, before anything of the input is.
+pub fn load_board<I: Source, O: Sink, H: Shelf>(
+    alloc: Global,
+    asked: OnBoard,
+    input: &mut I,
+    out: &mut O,
+    shelf: &mut H,
+) -> Ending
+    ensures content { (o : Outcome) → LoadsBy asked.entry.level
+        (scripted None (H.held shelf.old) asked.entry.script.now)
+        (I.left input.old) (H.held shelf.old) o
+        → EndsAs (intake I.Source input.old) (intake I.Source input.new)
+        (outlet O.Sink out.old) (outlet O.Sink out.new)
+        (stock H.Shelf shelf.old) (stock H.Shelf shelf.new) result o }
+    ensures cause { LoadCause (intake I.Source input.old) (intake I.Source input.new)
+        (outlet O.Sink out.old) (outlet O.Sink out.new)
+        (stock H.Shelf shelf.old) (stock H.Shelf shelf.new) result }
+    ensures given { LoadGives (scripted None (H.held shelf.old) asked.entry.script.now)
+        (intake I.Source input.old) (intake I.Source input.new) }
+    ensures heard { LoadHears asked.entry.level
+        (scripted None (H.held shelf.old) asked.entry.script.now) (H.held shelf.old)
+        (I.given input.old) (I.given input.new)
+        (outlet O.Sink out.old) (outlet O.Sink out.new) result }
+    ensures held { H.held shelf.new ≡ H.held shelf.old }
+    ensures input_count { I.faults input.old ≤ I.faults input.new }
+    ensures out_count { O.faults out.old ≤ O.faults out.new }
+    ensures shelf_count { H.faults shelf.old ≤ H.faults shelf.new }
+    ensures input_promise { I.promise input.new ≡ I.promise input.old }
+    ensures out_promise { O.promise out.new ≡ O.promise out.old }
+    ensures shelf_promise { H.promise shelf.new ≡ H.promise shelf.old }
+{
+    match events_of(alloc, asked.script, shelf) {
+        Ok(events) => load_events(alloc, asked.level, &events, input, out),
+        Err(ending) => ending,
+    }
+}
+
+// Once the script is there.
+fn load_events<I: Source, O: Sink>(
+    alloc: Global,
+    level: u8,
+    events: &[Event],
+    input: &mut I,
+    out: &mut O,
+) -> Ending
+    requires level { IsLevel level }
+    requires events { AreEvents events.now }
+    ensures content { (shelf shelf' : Stock) (o : Outcome) → shelf'.held ≡ shelf.held
+        → IsSomeAnd (I.left input.old)
+        (λ bytes. Loads level (event_lines events.now) bytes shelf.held o)
+        → EndsAs (intake I.Source input.old) (intake I.Source input.new)
+        (outlet O.Sink out.old) (outlet O.Sink out.new) shelf shelf' result o }
+    ensures cause { StreamCause (intake I.Source input.old) (intake I.Source input.new)
+        (outlet O.Sink out.old) (outlet O.Sink out.new) result }
+    ensures given { I.given input.new ≤ I.given input.old + most_given (shipped_set newest) }
+    ensures heard { (held : Option Held)
+        → HearsEnd (λ bytes o. Loads level (event_lines events.now) bytes held o) held
+        (I.given input.old) (I.given input.new)
+        (outlet O.Sink out.old) (outlet O.Sink out.new) result }
+    ensures input_count { I.faults input.old ≤ I.faults input.new }
+    ensures out_count { O.faults out.old ≤ O.faults out.new }
+    ensures input_promise { I.promise input.new ≡ I.promise input.old }
+    ensures out_promise { O.promise out.new ≡ O.promise out.old }
+{
+    let Ok(mut board) = Board::new(alloc, level) else {
+        return Ending::NoMemory;
+    };
+    load_on(&mut board, events, input, out)
+}
+
+// Once a board and its set are there.
+fn load_on<I: Source, O: Sink>(
+    board: &mut Board,
+    events: &[Event],
+    input: &mut I,
+    out: &mut O,
+) -> Ending
+    requires { AreEvents events.now }
+    ensures content { (shelf shelf' : Stock) (o : Outcome) → shelf'.held ≡ shelf.held
+        → IsSomeAnd (I.left input.old)
+        (λ bytes. Loads board.old.state.level (event_lines events.now) bytes shelf.held o)
+        → EndsAs (intake I.Source input.old) (intake I.Source input.new)
+        (outlet O.Sink out.old) (outlet O.Sink out.new) shelf shelf' result o }
+    ensures cause { StreamCause (intake I.Source input.old) (intake I.Source input.new)
+        (outlet O.Sink out.old) (outlet O.Sink out.new) result }
+    ensures given { I.given input.new ≤ I.given input.old + most_given (shipped_set newest) }
+    ensures heard { (held : Option Held) → let level = board.old.state.level in
+        HearsEnd (λ bytes o. Loads level (event_lines events.now) bytes held o) held
+        (I.given input.old) (I.given input.new)
+        (outlet O.Sink out.old) (outlet O.Sink out.new) result }
+    ensures input_count { I.faults input.old ≤ I.faults input.new }
+    ensures out_count { O.faults out.old ≤ O.faults out.new }
+    ensures input_promise { I.promise input.new ≡ I.promise input.old }
+    ensures out_promise { O.promise out.new ≡ O.promise out.old }
+{
+    match board.restore(input) {
+        Ok(()) => go_on(board, events, out),
+        Err(RestoreFault::Refused(refusal)) => Ending::Refused(refused_line(board.set(), &refusal)),
+        Err(RestoreFault::ReadFault) => Ending::ReadFault,
+    }
+}
+
+// Once the board is restored.
+fn go_on<O: Sink>(board: &mut Board, events: &[Event], out: &mut O) -> Ending
+    requires { AreEvents events.now }
+    ensures written { let text = trace_from events.now board.old.state in
+        WritesAs text (outlet O.Sink out.old) (outlet O.Sink out.new) result }
+    ensures count { O.faults out.old ≤ O.faults out.new }
+    ensures promise { O.promise out.new ≡ O.promise out.old }
+{
+    match trace(board, events, out) {
+        Ok(()) => Ending::Done,
+        Err(_) => Ending::WriteFault,
+    }
+}

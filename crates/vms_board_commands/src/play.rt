@@ -1,0 +1,87 @@
+// The command `play`: a session.
+ghost use Rattle.std.specs.Prelude.{◌≡◌, ◌^◌, ◌<◌, ◌≤◌, IsSomeAnd, Some};
+ghost use Rattle.dev_base.specs.Levels.{IsLevel};
+ghost use Rattle.vms_io.specs.Told.{Intake, outlet, stock};
+ghost use Rattle.vms_commands.specs.Endings.{EndsAs};
+ghost use Rattle.vms_commands.specs.Outcomes.{Outcome};
+ghost use Rattle.vms_script.specs.Grammar.{AreLines};
+ghost use Rattle.vms_script.specs.Views.{lines_view};
+ghost use Rattle.vms_board_commands.specs.Causes.{LinesCause, PlayCause};
+ghost use Rattle.vms_board_commands.specs.Play.{PlaysAll, PlaysBy, ending_by};
+ghost use Rattle.vms_board_commands.specs.Scripts.{scripted};
+
+use crate::asked::OnBoard;
+use crate::scripts::session_of;
+use std::alloc::Global;
+use vms_board::Board;
+use vms_commands::Ending;
+use vms_io::{Shelf, Sink};
+use vms_script::Line;
+use vms_session::{PlayFault, play};
+
+/// Plays a session on a board at power on and the shelf, and writes its trace.
+pub fn play_board<O: Sink, H: Shelf>(
+    alloc: Global,
+    asked: OnBoard,
+    out: &mut O,
+    shelf: &mut H,
+) -> Ending
+    ensures content { (input : Intake) (o : Outcome) → input.given < 2 ^ 64
+        → PlaysBy asked.entry.level
+        (scripted (Some asked.entry.level) (H.held shelf.old) asked.entry.script.now)
+        (H.held shelf.old) o
+        → EndsAs input input (outlet O.Sink out.old) (outlet O.Sink out.new)
+        (stock H.Shelf shelf.old) (stock H.Shelf shelf.new) result o }
+    ensures cause { PlayCause (outlet O.Sink out.old) (outlet O.Sink out.new)
+        (stock H.Shelf shelf.old) (stock H.Shelf shelf.new) result }
+    ensures out_count { O.faults out.old ≤ O.faults out.new }
+    ensures shelf_count { H.faults shelf.old ≤ H.faults shelf.new }
+    ensures out_promise { O.promise out.new ≡ O.promise out.old }
+    ensures shelf_promise { H.promise shelf.new ≡ H.promise shelf.old }
+{
+    match session_of(alloc, asked.script, asked.level, shelf) {
+        Ok(lines) => play_lines(alloc, asked.level, &lines, out, shelf),
+        Err(ending) => ending,
+    }
+}
+
+// Once the script is there.
+fn play_lines<O: Sink, H: Shelf>(
+    alloc: Global,
+    level: u8,
+    lines: &[Line],
+    out: &mut O,
+    shelf: &mut H,
+) -> Ending
+    requires level { IsLevel level }
+    requires lines { AreLines (Some level) (lines_view lines.now) }
+    ensures content { (input : Intake) (o : Outcome) → input.given < 2 ^ 64
+        → IsSomeAnd (H.held shelf.old) (λ map. PlaysAll level (lines_view lines.now) map o)
+        → EndsAs input input (outlet O.Sink out.old) (outlet O.Sink out.new)
+        (stock H.Shelf shelf.old) (stock H.Shelf shelf.new) result o }
+    ensures cause { LinesCause (outlet O.Sink out.old) (outlet O.Sink out.new)
+        (stock H.Shelf shelf.old) (stock H.Shelf shelf.new) result }
+    ensures out_count { O.faults out.old ≤ O.faults out.new }
+    ensures shelf_count { H.faults shelf.old ≤ H.faults shelf.new }
+    ensures out_promise { O.promise out.new ≡ O.promise out.old }
+    ensures shelf_promise { H.promise shelf.new ≡ H.promise shelf.old }
+{
+    let Ok(mut board) = Board::new(alloc, level) else {
+        return Ending::NoMemory;
+    };
+    match play(alloc, lines, &mut board, out, shelf) {
+        Ok(()) => Ending::Done,
+        Err(fault) => ending_of(fault),
+    }
+}
+
+// How a session that stopped ends.
+fn ending_of(fault: PlayFault) -> Ending
+    ensures { result ≡ ending_by fault }
+{
+    match fault {
+        PlayFault::WriteFault => Ending::WriteFault,
+        PlayFault::ShelfFault => Ending::ShelfFault,
+        PlayFault::NoMemory => Ending::NoMemory,
+    }
+}

@@ -1,0 +1,78 @@
+// The command `save`: the stream of a board after a script.
+ghost use Rattle.std.specs.Prelude.{◌≡◌, ◌≤◌};
+ghost use Rattle.dev_base.specs.Levels.{IsLevel};
+ghost use Rattle.dev_board.specs.Laws.{AreEvents};
+ghost use Rattle.dev_board.specs.Saved.{MaySaveUnder};
+ghost use Rattle.dev_board.specs.State.{power_on};
+ghost use Rattle.dev_board.specs.Step.{after_all};
+ghost use Rattle.vms_board.specs.Saving.{saved_stream};
+ghost use Rattle.vms_io.specs.Told.{outlet, stock};
+ghost use Rattle.vms_commands.specs.StepEndings.{TextEnds};
+ghost use Rattle.vms_commands.specs.Steps.{Gives};
+ghost use Rattle.vms_commands.specs.Texts.{TextCause, TextContent};
+ghost use Rattle.vms_board_commands.specs.Causes.{WriteCause};
+ghost use Rattle.vms_board_commands.specs.Save.{ending_by, saved_after};
+
+use crate::asked::Saving;
+use crate::scripts::events_of;
+use dev_board::Event;
+use std::alloc::Global;
+use vms_board::{Board, SaveFault};
+use vms_commands::Ending;
+use vms_io::{Shelf, Sink};
+use vms_session::run_events;
+
+/// Writes the stream of a board, at power on, after the events of a script.
+pub fn save_board<O: Sink, H: Shelf>(
+    alloc: Global,
+    asked: Saving,
+    out: &mut O,
+    shelf: &mut H,
+) -> Ending
+    ensures content { TextContent
+        (saved_after asked.entry.level asked.entry.set (H.held shelf.old) asked.entry.script.now)
+        (outlet O.Sink out.old) (outlet O.Sink out.new)
+        (stock H.Shelf shelf.old) (stock H.Shelf shelf.new) result }
+    ensures cause { TextCause (outlet O.Sink out.old) (outlet O.Sink out.new)
+        (stock H.Shelf shelf.old) (stock H.Shelf shelf.new) result }
+    ensures held { H.held shelf.new ≡ H.held shelf.old }
+    ensures out_count { O.faults out.old ≤ O.faults out.new }
+    ensures shelf_count { H.faults shelf.old ≤ H.faults shelf.new }
+    ensures out_promise { O.promise out.new ≡ O.promise out.old }
+    ensures shelf_promise { H.promise shelf.new ≡ H.promise shelf.old }
+{
+    match events_of(alloc, asked.script, shelf) {
+        Ok(events) => save_after(alloc, asked.level, asked.set, &events, out),
+        Err(ending) => ending,
+    }
+}
+
+// Once the script is there.
+fn save_after<O: Sink>(alloc: Global, level: u8, set: u8, events: &[Event], out: &mut O) -> Ending
+    requires level { IsLevel level }
+    requires may { MaySaveUnder level set }
+    requires events { AreEvents events.now }
+    ensures ends { let board = after_all events.now (power_on level) in
+        TextEnds (Gives (saved_stream set board)) (outlet O.Sink out.old)
+        (outlet O.Sink out.new) result }
+    ensures cause { WriteCause (outlet O.Sink out.old) (outlet O.Sink out.new) result }
+    ensures count { O.faults out.old ≤ O.faults out.new }
+    ensures promise { O.promise out.new ≡ O.promise out.old }
+{
+    let Ok(mut board) = Board::new(alloc, level) else {
+        return Ending::NoMemory;
+    };
+    run_events(&mut board, events);
+    ending_of(board.save(alloc, set, out))
+}
+
+// How a save ends.
+fn ending_of(saved: Result<(), SaveFault>) -> Ending
+    ensures { result ≡ ending_by saved }
+{
+    match saved {
+        Ok(()) => Ending::Done,
+        Err(SaveFault::WriteFault) => Ending::WriteFault,
+        Err(SaveFault::NoMemory) => Ending::NoMemory,
+    }
+}

@@ -1,0 +1,96 @@
+// Scripts that the words name: fetched from the shelf, and then read.
+ghost use Rattle.std.specs.Prelude.{◌≡◌, ◌≤◌, List, None, Ok, Some, IfOk, string_bytes};
+ghost use Rattle.dev_board.specs.Laws.{AreEvents};
+ghost use Rattle.vms_io.specs.Told.{stock};
+ghost use Rattle.vms_commands.specs.StepEndings.{StepAs};
+ghost use Rattle.vms_script.specs.Grammar.{AreLines};
+ghost use Rattle.vms_script.specs.Lines.{ScriptLine};
+ghost use Rattle.vms_script.specs.Script.{Reading};
+ghost use Rattle.vms_script.specs.Views.{event_lines, lines_view, ReadsLines};
+ghost use Rattle.vms_board_commands.specs.Causes.{ReadCause, ScriptCause};
+ghost use Rattle.vms_board_commands.specs.Scripts.{said_lines, script_line, script_reason_text, scripted};
+
+use dev_board::Event;
+use std::alloc::Global;
+use vms_commands::{Ending, fetch};
+use vms_io::{NoMemory, Shelf};
+use vms_script::{Line, ScriptFault, ScriptReason, read_events, read_script};
+
+/// The greatest script, in bytes.
+pub const LONGEST_SCRIPT: u32 = 4_194_304;
+
+/// The lines of the session's script under a name, on a board of a level; or how the command ends.
+pub(crate) fn session_of<H: Shelf>(
+    alloc: Global,
+    name: &str,
+    level: u8,
+    shelf: &mut H,
+) -> Result<Vec<Line>, Ending>
+    ensures read { StepAs (λ lines. lines_view lines.items)
+        (scripted (Some level) (H.held shelf.old) name.now) result }
+    ensures good { IfOk result (λ lines. AreLines (Some level) (lines_view lines.items)) }
+    ensures cause { ScriptCause (stock H.Shelf shelf.old) (stock H.Shelf shelf.new) result }
+    ensures held { H.held shelf.new ≡ H.held shelf.old }
+    ensures count { H.faults shelf.old ≤ H.faults shelf.new }
+    ensures promise { H.promise shelf.new ≡ H.promise shelf.old }
+{
+    match fetch(alloc, name, LONGEST_SCRIPT, shelf) {
+        Ok(text) => had(alloc, read_script(alloc, &text, Some(level))),
+        Err(ending) => Err(ending),
+    }
+}
+
+/// The events of the script under a name; or how the command ends.
+pub(crate) fn events_of<H: Shelf>(
+    alloc: Global,
+    name: &str,
+    shelf: &mut H,
+) -> Result<Vec<Event>, Ending>
+    ensures read { StepAs (λ events. event_lines events.items)
+        (scripted None (H.held shelf.old) name.now) result }
+    ensures good { IfOk result (λ events. AreEvents events.items) }
+    ensures cause { ScriptCause (stock H.Shelf shelf.old) (stock H.Shelf shelf.new) result }
+    ensures held { H.held shelf.new ≡ H.held shelf.old }
+    ensures count { H.faults shelf.old ≤ H.faults shelf.new }
+    ensures promise { H.promise shelf.new ≡ H.promise shelf.old }
+{
+    match fetch(alloc, name, LONGEST_SCRIPT, shelf) {
+        Ok(text) => had(alloc, read_events(alloc, &text)),
+        Err(ending) => Err(ending),
+    }
+}
+
+// What was read of a script, or how the command ends.
+fn had<T: Drop>(alloc: Global, read: Result<T, ScriptFault>) -> Result<T, Ending>
+    ensures read { (lines : T → List ScriptLine) (reading : Reading) → ReadsLines lines reading read
+        → StepAs lines (said_lines reading) result }
+    ensures same { IfOk result (λ t. read ≡ Ok t) }
+    ensures cause { ReadCause result }
+{
+    match read {
+        Ok(lines) => Ok(lines),
+        Err(ScriptFault::Bad { line, reason }) => match script_line(alloc, line, reason) {
+            Ok(line) => Err(Ending::BadText(line)),
+            Err(_) => Err(Ending::NoMemory),
+        },
+        Err(ScriptFault::NoMemory) => Err(Ending::NoMemory),
+    }
+}
+
+// The line of a script that is refused.
+fn script_line(alloc: Global, line: u32, reason: ScriptReason) -> Result<String, NoMemory>
+    ensures { IfOk result (λ text. string_bytes text ≡ script_line line reason) }
+{
+    let reason = reason_text(reason);
+    Ok(format!(in alloc; "script line {line}: {reason}\n")?)
+}
+
+fn reason_text(reason: ScriptReason) -> &'static str
+    ensures { result.now ≡ script_reason_text reason }
+{
+    match reason {
+        ScriptReason::Form => "Form",
+        ScriptReason::Range => "Range",
+        ScriptReason::NoEnd => "NoEnd",
+    }
+}

@@ -1,0 +1,114 @@
+-- The numbers that stand in the bytes of a description are its cells.
+use Rattle.std.proofs.Common.{◌≡◌, ℕ, zero, suc, ◌+◌, ◌<◌, ◌≤◌, List, [], ◌∷◌, ◌++◌, length, get_or, map, drop, ℤ, refl, sym, ap, ◌∙◌, subst, arith, append_assoc, Bool, true, false, if◌then◌else◌}
+use Rattle.std.proofs.Math.Seq.{drop-append_seam}
+use Rattle.std.proofs.lemmas.List.{drop-drop}
+use Rattle.std.proofs.Math.ListN.{get_or-map}
+use Rattle.vms_kinds.specs.declared.Item.{Item}
+use Rattle.vms_kinds.specs.declared.Item.TheVariants.{Num, Equal, Unused, Struct}
+use Rattle.vms_spec.specs.Sets.{Field, Desc}
+use Rattle.vms_spec.specs.Tests.{is_there}
+use Rattle.vms_spec.specs.Layout.{Slot, Number, Constant, Filler, Rule, Cell, no_cell, Meaning, no_meaning, no_desc, item_cells, item_slots, item_size, times, field_slots, slots_from, desc_slots, desc_cells, cells_from, field_cells, numbers_of, elements_of, capacity_of, counted, all_hold, no_parent, first, meaning, meanings}
+use Rattle.vms_bodies.specs.Cells.{AreCells}
+use Rattle.vms_spec.proofs.Sizes.{size_same, elements_fit}
+use Rattle.vms_spec.proofs.Prefixes.{first_cells}
+use Rattle.vms_spec.proofs.Tables.{one_more}
+
+-- from a place on, these cells stand in a list
+pub record Stands (all : List Cell) (at : ℕ) (cells : List Cell) : Type 0 where
+  pub more : List Cell
+  pub is : drop at all ≡ cells ++ more
+
+drop_on : {A : Type 0} (all : List A) (at : ℕ) (xs ys : List A) → drop at all ≡ xs ++ ys → drop (at + length xs) all ≡ ys
+drop_on all at xs ys e = sym (drop-drop (length xs) at all) ∙ ap (drop (length xs)) e ∙ drop-append_seam xs ys
+
+pub front_stands : (all : List Cell) (at : ℕ) (xs ys : List Cell) → Stands all at (xs ++ ys) → Stands all at xs
+front_stands all at xs ys s = record { more = ys ++ s.more; is = s.is ∙ append_assoc xs ys s.more }
+
+pub rest_stands : (all : List Cell) (at : ℕ) (xs ys : List Cell) → Stands all at (xs ++ ys) → Stands all (at + length xs) ys
+rest_stands all at xs ys s = record { more = s.more; is = drop_on all at xs (ys ++ s.more) (s.is ∙ append_assoc xs ys s.more) }
+
+first_is : (all : List Cell) (at : ℕ) (c : Cell) (more : List Cell) → drop at all ≡ c ∷ more → (at < length all) × (get_or all at no_cell ≡ c)
+first_is [] zero c more e = cc
+first_is [] (suc at) c more e = cc
+first_is (x ∷ all) zero c more e = (omega arith, cc)
+first_is (x ∷ all) (suc at) c more e =
+    let h = first_is all at c more e in
+    let l : at < length all = h.0 in
+    (omega arith, h.1)
+
+pub cells_append : (all : List Cell) (xs ys : List Slot) → AreCells all xs → AreCells all ys → AreCells all (xs ++ ys)
+cells_append all [] ys p q = q
+cells_append all (Number c kind caps ∷ xs) ys p q = (p.0, cells_append all xs ys p.1 q)
+cells_append all (Constant kind z ∷ xs) ys p q = cells_append all xs ys p q
+cells_append all (Filler n ∷ xs) ys p q = cells_append all xs ys p q
+cells_append all (Rule b ∷ xs) ys p q = cells_append all xs ys p q
+
+pub record MeansCells (m : Meaning) : Type 0 where
+  pub means : (all : List Cell) (at : ℕ) (numbers : List ℤ) → Stands all at m.cells → AreCells all (m.slots numbers at)
+
+abbrev pub MeanCells : List Meaning → Type 0
+MeanCells ms = (j : ℕ) → MeansCells (get_or ms j no_meaning)
+
+none_means : MeansCells no_meaning
+none_means = record { means = λ all at numbers s. tt }
+
+abbrev cells_in : List Meaning → List (List Cell)
+cells_in ms = map (λ m. m.cells) ms
+
+pub item_are : (ms : List Meaning) → MeanCells ms → (item : Item) (caps : List ℕ) (z : ℤ) (all : List Cell) (at : ℕ) (numbers : List ℤ)
+    → Stands all at (item_cells (cells_in ms) item caps z) → AreCells all (item_slots ms item caps numbers at)
+item_are ms h (Num kind) caps z all at numbers s =
+    let x = first_is all at (record { kind = kind; capacities = caps; default = z }) s.more s.is in
+    (record { within = x.0; kind = ap (λ (c : Cell). c.kind) x.1; capacities = ap (λ (c : Cell). c.capacities) x.1 }, tt)
+item_are ms h (Equal kind y) caps z all at numbers s = tt
+item_are ms h (Unused n) caps z all at numbers s = tt
+item_are ms h (Struct j) caps z all at numbers s = (h j).means all at numbers (subst (λ (cs : List Cell). Stands all at cs) (get_or-map (λ (m : Meaning). m.cells) ms j no_meaning) s)
+
+pub items_are : (ms : List Meaning) → MeanCells ms → (item : Item) (caps : List ℕ) (z : ℤ) (all : List Cell) (n k at a step : ℕ) (numbers : List ℤ) → k ≤ n
+    → Stands all at (times n (λ _. item_cells (cells_in ms) item caps z) a step) → AreCells all (times k (item_slots ms item caps numbers) at (item_size (cells_in ms) item))
+items_are ms h item caps z all n zero at a step numbers le s = tt
+items_are ms h item caps z all zero (suc k) at a step numbers le s = absurd (omega arith)
+items_are ms h item caps z all (suc n) (suc k) at a step numbers le s =
+    let cells = item_cells (cells_in ms) item caps z in
+    let later = times n (λ _. cells) (a + step) step in
+    cells_append all (item_slots ms item caps numbers at) (times k (item_slots ms item caps numbers) (at + item_size (cells_in ms) item) (item_size (cells_in ms) item))
+    (item_are ms h item caps z all at numbers (front_stands all at cells later s))
+    (items_are ms h item caps z all n k (at + item_size (cells_in ms) item) (a + step) step numbers (omega arith)
+    (subst (λ (i : ℕ). Stands all (at + i) later) (size_same (cells_in ms) item caps z) (rest_stands all at cells later s)))
+
+pub field_are : (ms : List Meaning) → MeanCells ms → (fields : List Field) (v : ℕ) (own : ℕ → ℕ) (numbers : List ℤ) (i at : ℕ) (f : Field) (all : List Cell)
+    → Stands all at (field_cells (cells_in ms) fields i f) → AreCells all (field_slots ms fields v own numbers i at f)
+field_are ms h fields v own numbers i at f all s =
+    either (is_there f.test f.since v own no_parent) _
+    (items_are ms h f.item (counted i fields) f.default all (capacity_of f.count) (elements_of f.count own) at 0 0 numbers (elements_fit f.count own) s)
+  where
+    either : (b : Bool) (xs : List Slot) → AreCells all xs → AreCells all (if b then xs else [])
+    either true xs x = x
+    either false xs x = tt
+
+pub fields_are : (ms : List Meaning) → MeanCells ms → (fields : List Field) (v : ℕ) (own : ℕ → ℕ) (numbers : List ℤ) (i at : ℕ) (fs : List Field) (all : List Cell)
+    → Stands all at (cells_from (cells_in ms) fields i fs) → AreCells all (slots_from ms fields v own numbers i at fs)
+fields_are ms h fields v own numbers i at [] all s = tt
+fields_are ms h fields v own numbers i at (f ∷ fs) all s =
+    let here = field_cells (cells_in ms) fields i f in
+    let later = cells_from (cells_in ms) fields (suc i) fs in
+    cells_append all (field_slots ms fields v own numbers i at f) (slots_from ms fields v own numbers (suc i) (at + length here) fs)
+    (field_are ms h fields v own numbers i at f all (front_stands all at here later s))
+    (fields_are ms h fields v own numbers (suc i) (at + length here) fs all (rest_stands all at here later s))
+
+pub desc_are : (ms : List Meaning) → MeanCells ms → (d : Desc) (v at : ℕ) (numbers : List ℤ) (all : List Cell)
+    → Stands all at (desc_cells (cells_in ms) d) → AreCells all (desc_slots ms d v numbers at)
+desc_are ms h d v at numbers all s =
+    let own = numbers_of (cells_in ms) d numbers at in
+    cells_append all (slots_from ms d.fields v own numbers 0 at d.fields) (Rule (all_hold d.validate v own) ∷ []) (fields_are ms h d.fields v own numbers 0 at d.fields all s) tt
+
+pub meanings_are : (ds : List Desc) (k : ℕ) → MeanCells (meanings ds k)
+unfolding first
+meanings_are ds zero = λ j. none_means
+meanings_are ds (suc k) =
+    one_more MeansCells no_meaning none_means (meanings ds k) (meanings_are ds k) (meaning (meanings ds k) (get_or ds k no_desc))
+    (record { means = λ all at numbers s. desc_are (meanings ds k) (meanings_are ds k) (get_or ds k no_desc) (get_or ds k no_desc).version at numbers all s })
+
+-- the cells of the first k structures, made either way
+pub cells_first : (ds : List Desc) (k : ℕ) → cells_in (meanings ds k) ≡ first desc_cells ds k
+cells_first ds k = first_cells (λ (m : Meaning). m.cells) meaning (λ ms d. refl) ds k

@@ -1,0 +1,50 @@
+-- What was taken as a description is a body of it.
+use Rattle.std.proofs.Common.{◌≡◌, ℕ, ◌+◌, ◌≤◌, List, [], ◌++◌, length, get_or, Ok, ℤ, pos, refl, sym, ap, ◌∙◌, subst, append-nil, false}
+use Rattle.vms_spec.specs.Numbers.{IsBytes}
+use Rattle.vms_spec.specs.Sets.{Desc}
+use Rattle.vms_spec.specs.Layout.{Slot, Cell, meanings, desc_slots, desc_cells}
+use Rattle.vms_spec.specs.Images.{Spells, RulesHold, has_cell}
+use Rattle.vms_spec.specs.Taking.{Taken, Progress, takers, cells_of, take_desc}
+use Rattle.vms_spec.specs.Sound.{IsSound, AreSound}
+use Rattle.vms_bodies.specs.Cells.{AreCells}
+use Rattle.vms_bodies.proofs.Places.{SameBelow}
+use Rattle.vms_bodies.proofs.WalkLaws.{ComesTo, set_desc_comes}
+use Rattle.vms_bodies.proofs.SpellLaws.{Spelled, Anything, FitSlots, spelled_keeps, spelled_first}
+
+-- from p to q the bytes of a body were taken: its slots are those of all numbers that agree with q's below the end
+pub record IsBody (slots : List ℤ → List Slot) (end : ℕ) (p q : Progress) : Type 0 where
+  pub bytes : List ℕ
+  pub front : p.rest ≡ bytes ++ q.rest
+  pub place : q.place ≡ p.place + length bytes
+  pub spells : (m : List ℤ) → SameBelow end q.numbers m → Spells m (slots m) bytes
+  pub fits : (m : List ℤ) → SameBelow end q.numbers m → FitSlots m (slots m)
+  pub rules : (m : List ℤ) → SameBelow end q.numbers m → RulesHold (slots m)
+  pub long : length q.numbers ≡ length p.numbers
+  pub kept : (m : List ℤ) → SameBelow end q.numbers m → (c : ℕ) → has_cell (slots m) c ≡ false → get_or q.numbers c (pos 0) ≡ get_or p.numbers c (pos 0)
+
+body_of : (slots : List ℤ → List Slot) (end : ℕ) (p q : Progress) → ComesTo slots (Spelled p) Anything end (λ m. []) (Ok q) → IsBody slots end p q
+body_of slots end p q c =
+    let done = c.0 in
+    let h = c.1.holds in
+    let is : (m : List ℤ) → SameBelow end q.numbers m → done ≡ slots m = λ m s. sym (c.1.split m s ∙ append-nil done) in
+    record {
+      bytes = h.bytes;
+      front = h.front;
+      place = h.place;
+      spells = λ m s. subst (λ (xs : List Slot). Spells m xs h.bytes) (is m s) (h.spells m s);
+      fits = λ m s. subst (λ (xs : List Slot). FitSlots m xs) (is m s) (h.fits m s);
+      rules = λ m s. subst (λ (xs : List Slot). RulesHold xs) (is m s) h.rules;
+      long = h.long;
+      kept = λ m s k e. h.kept k (ap (λ (xs : List Slot). has_cell xs k) (is m s) ∙ e);
+    }
+
+-- a description of a set that is taken has this body
+pub body_found : (all : List Cell) (ds : List Desc) → AreSound ds → (d : Desc) (v base : ℕ) (p q : Progress) → IsSound d → IsBytes p.rest → length all ≤ length p.numbers
+    → ((m : List ℤ) → AreCells all (desc_slots (meanings ds (length ds)) d v m base))
+    → take_desc (takers ds (length ds)) d v base p ≡ Ok q
+    → IsBody (λ m. desc_slots (meanings ds (length ds)) d v m base) (base + length (desc_cells (cells_of (takers ds (length ds))) d)) p q
+body_found all ds structs d v base p q sound ok room cells e =
+    let slots : List ℤ → List Slot = λ m. desc_slots (meanings ds (length ds)) d v m base in
+    let end = base + length (desc_cells (cells_of (takers ds (length ds))) d) in
+    let c = set_desc_comes slots (Spelled p) Anything (spelled_keeps all slots p ok room cells) ds structs d v base p sound (λ m. refl) (spelled_first all slots p base) in
+    body_of slots end p q (subst (λ (t : Taken). ComesTo slots (Spelled p) Anything end (λ m. []) t) e c.comes)

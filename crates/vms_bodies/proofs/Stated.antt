@@ -1,0 +1,23 @@
+-- The laws as they are stated.
+use Rattle.vms_spec.specs.Good.{GoodLaw, ShippedLaw}
+use Rattle.vms_spec.proofs.WellFormedLaws.{well_good}
+use Rattle.vms_spec.proofs.ShippedSets.{shipped_stands}
+use Rattle.vms_bodies.proofs.PathLaws.{cell_inside}
+use Rattle.vms_bodies.proofs.ReadyLaws.{ready_is, is_ready_all}
+use Rattle.vms_bodies.specs.Laws.{CellLaw, ReadyLaw, ZeroedLaw}
+use Rattle.vms_bodies.proofs.WrittenLaws.{zeroed_spells}
+
+pub good_holds : GoodLaw
+good_holds set well heads = well_good set well heads
+
+pub shipped_holds : ShippedLaw
+shipped_holds = shipped_stands
+
+pub cell_holds : CellLaw
+cell_holds set k part path c e = cell_inside set k part path c e
+
+pub ready_holds : ReadyLaw
+ready_holds set d image = record { holds = ready_is set d image; passes = is_ready_all set d image }
+
+pub zeroed_holds : ZeroedLaw
+zeroed_holds numbers slots = zeroed_spells numbers slots

@@ -1,0 +1,165 @@
+-- The carried numbers fit new's cells: a description, and then structures by induction on new's number.
+use Rattle.std.proofs.Common.{◌≡◌, ◌⊎◌, inl, inr, ℕ, zero, suc, ◌+◌, ◌<◌, ◌≤◌, List, [], ◌∷◌, ◌++◌, length, get_or, Option, Some, None, sym, subst, arith, ℤ}
+use Rattle.std.proofs.Math.Nat.{eq-or-lt_of_le}
+use Rattle.vms_spec.specs.Sets.{Formula, Field, Desc}
+use Rattle.vms_spec.specs.Layout.{no_desc, Cell, Meaning, meanings, field_cells, cells_from, desc_cells, numbers_of}
+use Rattle.vms_spec.specs.declared.Part.{Part}
+use Rattle.vms_spec.specs.declared.Part.TheVariants as parts
+use Rattle.vms_spec.specs.Rules.{is_steady_in}
+use Rattle.vms_check.specs.Reducing.{presence}
+use Rattle.vms_check.specs.Comparing.{Entry, entry_of, present_from, present, position_from, Comparer, no_comparer, comparers, compare_desc, compare_fields, compare_validations}
+use Rattle.vms_check.specs.Carrying.{Carrier, no_carrier, carriers, carry_desc}
+use Rattle.vms_check_laws.specs.Segments.{FitsAt}
+use Rattle.vms_check_laws.proofs.Segments.{fits_at, fits_left, fits_right}
+use Rattle.vms_spec.proofs.Faultless.{or_else_none}
+use Rattle.vms_spec.proofs.Prefixes.{struct_cells_at}
+use Rattle.vms_check_laws.proofs.Pairing.{cells_in, AreKnown, all_known}
+use Rattle.vms_check_laws.proofs.Linking.{zip_of}
+use Rattle.vms_check_laws.proofs.Premises.{OldGood, OldFields, NewGood, NewFields}
+use Rattle.vms_check_laws.proofs.Counts.{old_fields}
+use Rattle.vms_check_laws.proofs.Structures.{OldStructs, NewStructs, new_below, plain_below, plains_further, comparer_last, comparer_earlier, carrier_last, carrier_earlier}
+use Rattle.vms_check_laws.proofs.Bounds.{indexed, present_increasing, OldStand, NewSingle}
+use Rattle.vms_check_laws.proofs.Fitting.{FitCells, GoodCells, good_fields, DefaultsGood, FitTable, OldReady, follow_all, fit_from}
+
+module _ (ks : List Comparer) (cs : List Carrier) (ms : List Meaning) (y : List (List Cell)) (a b : Desc) (v w : ℕ) (part part' : Part) (numbers : List ℤ) (at : ℕ)
+    (below below' : ℕ) (table : FitTable ks cs (cells_in ms) y numbers below below') where
+  abbrev x : List (List Cell)
+  x = cells_in ms
+
+  abbrev own : ℕ → ℕ
+  own k = numbers_of x a numbers at k
+
+  abbrev es : List Entry
+  es = present x a v
+
+  abbrev fs : List Entry
+  fs = present y b w
+
+  abbrev o : ℕ → Option ℕ
+  o k = position_from 0 es k
+
+  abbrev n : ℕ → Option ℕ
+  n k = position_from 0 fs k
+
+  stands : (es : List Entry) → AreKnown ms a.fields v numbers at es → OldStand ks a b v w part part' o n es
+  stands [] h = tt
+  stands (e ∷ es) h = (h.0.field, stands es h.1)
+
+  single_entry : (i p : ℕ) (f : Field) (pr : Option (Option Formula)) (fs : List Entry) → NewGood below' (is_steady_in b) f → NewSingle ks a b v w part part' o n fs → NewSingle ks a b v w part part' o n (entry_of i p f pr ++ fs)
+  single_entry i p f None after h more = more
+  single_entry i p f (Some rest) after h more = (h.single, more)
+
+  singles : (i p : ℕ) (gs : List Field) → NewFields below' (is_steady_in b) gs → NewSingle ks a b v w part part' o n (present_from y b.fields w i p gs)
+  singles i p [] h = tt
+  singles i p (g ∷ gs) h = single_entry i p g (presence w g.test g.since) _ h.0 (singles (suc i) (p + length (field_cells y b.fields i g)) gs h.1)
+
+  abbrev Ready : List Entry → Type 0
+  Ready es = OldReady ks cs x y ms a b v w part part' o n numbers own at below below' table es
+
+  ready_entry : (i p : ℕ) (f : Field) (pr : Option (Option Formula)) (es : List Entry) → OldGood below own f → FitsAt (field_cells x a.fields i f) numbers (at + p) → Ready es → Ready (entry_of i p f pr ++ es)
+  ready_entry i p f None after h fits more = more
+  ready_entry i p f (Some rest) after h fits more = ((h.item, fits), more)
+
+  readies : (i p : ℕ) (gs : List Field) → OldFields below own gs → FitsAt (cells_from x a.fields i gs) numbers (at + p) → Ready (present_from x a.fields v i p gs)
+  readies i p [] h fits = tt
+  readies i p (g ∷ gs) h fits =
+      let first = field_cells x a.fields i g in
+      let more = cells_from x a.fields (suc i) gs in
+      let e : (at + p) + length first ≡ at + (p + length first) = omega arith in
+      ready_entry i p g (presence v g.test g.since) _ h.0 (fits_left first more numbers (at + p) fits)
+      (readies (suc i) (p + length first) gs h.1 (fits_at more numbers _ _ e (fits_right first more numbers (at + p) fits)))
+
+  pub desc_fits : compare_desc ks x y a b v w part part' ≡ None → OldFields below own a.fields → NewFields below' (is_steady_in b) b.fields → DefaultsGood b.fields 0 b.fields
+      → FitsAt (desc_cells x a) numbers at → FitCells (desc_cells y b) (carry_desc cs x y numbers v w a b at)
+  desc_fits none old new defaults_good fits =
+      let parts = or_else_none (compare_fields ks a b v w part part' o n es fs) (compare_validations ks a b v w part part' o n) none in
+      let zipped = zip_of ks a b v w part part' o n es fs parts.0 in
+      let z : at ≡ at + 0 = omega arith in
+      let at_e = indexed o n 0 0 es fs (present_increasing y b.fields w 0 0 b.fields) (λ by j le h. h) in
+      let follow = follow_all ks cs x y ms a b v w part part' o n numbers own at below below' table es es fs zipped
+      (stands es (all_known ms a.fields v numbers at)) (singles 0 0 b.fields new) zipped at_e in
+      fit_from ks cs x y ms a b v w part part' o n numbers own at below below' table 0 0 b.fields es (new_below below' (is_steady_in b) b.fields new) defaults_good zipped follow
+      (readies 0 0 a.fields old (fits_at (desc_cells x a) numbers at (at + 0) z fits))
+
+-- ---- structures
+
+abbrev pub DefaultStructs : List Desc → Type 0
+DefaultStructs news = (j : ℕ) → j < length news → DefaultsGood (get_or news j no_desc).fields 0 (get_or news j no_desc).fields
+
+module _ (olds news : List Desc) (numbers : List ℤ) (old : OldStructs olds) (new : NewStructs news) (defaults_good : DefaultStructs news) where
+  abbrev ms : List Meaning
+  ms = meanings olds (length olds)
+
+  abbrev xs : List (List Cell)
+  xs = cells_in ms
+
+  abbrev ys : List (List Cell)
+  ys = cells_in (meanings news (length news))
+
+  abbrev ks : ℕ → List Comparer
+  ks k = comparers xs ys olds news k
+
+  abbrev cs : ℕ → List Carrier
+  cs k = carriers xs ys olds news k
+
+  abbrev pub KnownFits : ℕ → Type 0
+  KnownFits k = FitTable (ks k) (cs k) xs ys numbers (length olds) k
+
+  abbrev old_at : ℕ → Desc
+  old_at i = get_or olds i no_desc
+
+  abbrev new_at : ℕ → Desc
+  new_at j = get_or news j no_desc
+
+  abbrev Fits : ℕ → ℕ → ℕ → Type 0
+  Fits k i j = get_or (ks k) j no_comparer i ≡ None → (p : ℕ) → FitsAt (get_or xs i []) numbers p → FitCells (get_or ys j []) (get_or (cs k) j no_carrier i numbers p)
+
+  good_last : (k : ℕ) → k < length news → KnownFits k → GoodCells (get_or ys k [])
+  good_last k lt table =
+      let below = new_below k (is_steady_in (new_at k)) (new_at k).fields (new k lt).fields in
+      subst (λ (l : List Cell). GoodCells l) (sym (struct_cells_at news (length news) k lt below))
+      (good_fields ys k (new_at k).fields 0 (new_at k).fields table.good below (defaults_good k lt))
+
+  fits_last : (k : ℕ) → k < length news → KnownFits k → (i : ℕ) → i < length olds → Fits (suc k) i k
+  fits_last k lt table i lt_i none p fits =
+      let a = old_at i in
+      let b = new_at k in
+      let below_a = plain_below i a.fields a.fields (old i lt_i).fields in
+      let below_b = new_below k (is_steady_in b) b.fields (new k lt).fields in
+      let none' : compare_desc (ks k) xs ys a b a.version b.version (parts.Struct i) (parts.Struct k) ≡ None = subst (λ (c : Comparer). c i ≡ None) (comparer_last xs ys olds news k) none in
+      let fits' : FitsAt (desc_cells xs a) numbers p = subst (λ (l : List Cell). FitsAt l numbers p) (struct_cells_at olds (length olds) i lt_i below_a) fits in
+      let plain = plains_further i (length olds) a.fields a.fields (omega arith) (old i lt_i).fields in
+      let done = desc_fits (ks k) (cs k) ms ys a b a.version b.version (parts.Struct i) (parts.Struct k) numbers p (length olds) k table none'
+      (old_fields xs (length olds) a.fields numbers p fits' a.fields (λ by most h. h) plain) (new k lt).fields (defaults_good k lt) fits' in
+      subst (λ (l : List Cell). FitCells l (get_or (cs (suc k)) k no_carrier i numbers p)) (sym (struct_cells_at news (length news) k lt below_b))
+      (subst (λ (c : Carrier). FitCells (desc_cells ys b) (c i numbers p)) (sym (carrier_last xs ys olds news k)) done)
+
+  fits_earlier : (k : ℕ) → KnownFits k → (i j : ℕ) → i < length olds → j < k → Fits (suc k) i j
+  fits_earlier k table i j lt_i lt_j none p fits =
+      subst (λ (c : Carrier). FitCells (get_or ys j []) (c i numbers p)) (sym (carrier_earlier xs ys olds news k j lt_j))
+      (table.fits i j lt_i lt_j (subst (λ (c : Comparer). c i ≡ None) (comparer_earlier xs ys olds news k j lt_j) none) p fits)
+
+  fits_next : (k : ℕ) → k < length news → KnownFits k → (i j : ℕ) → i < length olds → j < suc k → Fits (suc k) i j
+  fits_next k lt table i j lt_i lt_j =
+      let le : j ≤ k = omega arith in
+      let go : (j ≡ k) ⊎ (j < k) → Fits (suc k) i j = elim [
+        | inl same ↦ subst (λ (q : ℕ). Fits (suc k) i q) (sym same) (fits_last k lt table i lt_i)
+        | inr less ↦ fits_earlier k table i j lt_i less
+      ] in
+      go (eq-or-lt_of_le le)
+
+  good_next : (k : ℕ) → k < length news → KnownFits k → (j : ℕ) → j < suc k → GoodCells (get_or ys j [])
+  good_next k lt table j lt_j =
+      let le : j ≤ k = omega arith in
+      let go : (j ≡ k) ⊎ (j < k) → GoodCells (get_or ys j []) = elim [
+        | inl same ↦ subst (λ (q : ℕ). GoodCells (get_or ys q [])) (sym same) (good_last k lt table)
+        | inr less ↦ table.good j less
+      ] in
+      go (eq-or-lt_of_le le)
+
+  pub fit_tables : (k : ℕ) → k ≤ length news → KnownFits k
+  fit_tables zero le = record { good = λ j lt. absurd (omega arith); fits = λ i j lt_i lt_j none p fits. absurd (omega arith) }
+  fit_tables (suc k) le =
+      let lt : k < length news = omega arith in
+      let table = fit_tables k (omega arith) in
+      record { good = good_next k lt table; fits = λ i j lt_i lt_j none p fits. fits_next k lt table i j lt_i lt_j none p fits }

@@ -1,0 +1,224 @@
+-- The carried numbers fit new's cells.
+use Rattle.std.proofs.Common.{◌≡◌, inl, inr, ℕ, zero, suc, ◌+◌, ◌<◌, ◌≤◌, Bool, true, false, List, [], ◌∷◌, ◌++◌, length, get_or, Option, Some, None, refl, ap, subst, arith, ℤ, pos, if◌then◌else◌}
+use Rattle.vms_kinds.specs.declared.Kind.{Kind}
+use Rattle.vms_kinds.specs.declared.Item.{Item}
+use Rattle.vms_kinds.specs.declared.Item.TheVariants.{Num, Equal, Unused, Struct}
+use Rattle.vms_spec.specs.Sets.{Formula, Field, Desc}
+use Rattle.vms_spec.specs.Tests.{is_there}
+use Rattle.vms_spec.specs.Layout.{Cell, no_cell, no_parent, Meaning, times, counted, capacity_of, item_cells, field_cells, cells_from, elements_of}
+use Rattle.vms_spec.specs.declared.Part.{Part}
+use Rattle.vms_check.specs.Reducing.{presence}
+use Rattle.vms_check.specs.Comparing.{Entry, entry_of, present_from, same_kind, Comparer, no_comparer, pair_structs}
+use Rattle.vms_check.specs.Carrying.{Carrier, no_carrier, defaults, carry_item, carry_items, carry_next, carry_from, entries_left}
+use Rattle.vms_check_laws.specs.Segments.{FitsAt}
+use Rattle.vms_check_laws.proofs.Segments.{fits_left, fits_right, fits_at}
+use Rattle.vms_check_laws.proofs.Pairing.{kinds_same}
+use Rattle.vms_spec.proofs.Sizes.{size_same, elements_fit}
+use Rattle.std.specs.List.{AllByRecursion}
+use Rattle.std.specs.Prelude.{◌≤ℤ◌}
+use Rattle.vms_kinds.specs.Codes.{highest, InRange}
+use Rattle.vms_spec.specs.Rules.{is_num}
+use Rattle.vms_spec.specs.Images.{FitsCell, FitCells as AreFit}
+use Rattle.vms_spec.proofs.Prefixes.{ItemBelow, FieldsBelow}
+use Rattle.vms_check_laws.proofs.Linking.{Zip, Matched, decoded}
+use Rattle.vms_check_laws.proofs.Describing.{not_covered}
+use Rattle.vms_check_laws.proofs.Bounds.{Indexed, OldStand, NewSingle, caps_follow}
+
+-- numbers that fit cells, one by one
+abbrev pub FitCells : List Cell → List ℤ → Type 0
+FitCells [] [] = Unit {0}
+FitCells [] (z ∷ zs) = ⊥
+FitCells (x ∷ xs) [] = ⊥
+FitCells (x ∷ xs) (z ∷ zs) = FitsCell x z × FitCells xs zs
+
+pub fit_length : (xs : List Cell) (zs : List ℤ) → FitCells xs zs → length zs ≡ length xs
+fit_length [] [] h = refl
+fit_length [] (z ∷ zs) h = absurd h
+fit_length (x ∷ xs) [] h = absurd h
+fit_length (x ∷ xs) (z ∷ zs) h = ap (λ (n : ℕ). suc n) (fit_length xs zs h.1)
+
+fit_each : (xs : List Cell) (zs : List ℤ) → FitCells xs zs → (c : ℕ) → c < length xs → FitsCell (get_or xs c no_cell) (get_or zs c (pos 0))
+fit_each [] zs h c lt = absurd (omega arith)
+fit_each (x ∷ xs) [] h c lt = absurd h
+fit_each (x ∷ xs) (z ∷ zs) h zero lt = h.0
+fit_each (x ∷ xs) (z ∷ zs) h (suc c) lt = fit_each xs zs h.1 c (omega arith)
+
+pub are_fit : (xs : List Cell) (zs : List ℤ) → FitCells xs zs → AreFit xs zs
+are_fit xs zs h = record { long = fit_length xs zs h; fits = λ c lt. fit_each xs zs h c lt }
+
+pub fit_append : (xs ys : List Cell) (zs us : List ℤ) → FitCells xs zs → FitCells ys us → FitCells (xs ++ ys) (zs ++ us)
+fit_append [] ys [] us h k = k
+fit_append [] ys (z ∷ zs) us h k = absurd h
+fit_append (x ∷ xs) ys [] us h k = absurd h
+fit_append (x ∷ xs) ys (z ∷ zs) us h k = (h.0, fit_append xs ys zs us h.1 k)
+
+-- the default of each cell fits it
+abbrev pub GoodCells : List Cell → Type 0
+GoodCells [] = Unit {0}
+GoodCells (c ∷ cells) = FitsCell c c.default × GoodCells cells
+
+pub fit_defaults : (cells : List Cell) → GoodCells cells → FitCells cells (defaults cells)
+fit_defaults [] h = tt
+fit_defaults (c ∷ cells) h = (h.0, fit_defaults cells h.1)
+
+pub good_append : (xs ys : List Cell) → GoodCells xs → GoodCells ys → GoodCells (xs ++ ys)
+good_append [] ys h k = k
+good_append (x ∷ xs) ys h k = (h.0, good_append xs ys h.1 k)
+
+pub good_times : (n : ℕ) (xs : List Cell) (at step : ℕ) → GoodCells xs → GoodCells (times n (λ _. xs) at step)
+good_times zero xs at step h = tt
+good_times (suc n) xs at step h = good_append xs (times n (λ _. xs) (at + step) step) h (good_times n xs (at + step) step h)
+
+-- defaults are in range, and within what they count
+abbrev pub ItemDefault : Item → List ℕ → ℤ → Type 0
+ItemDefault (Num kind) caps d = FitsCell (record { kind = kind; capacities = caps; default = d }) d
+ItemDefault _ caps d = Unit {0}
+
+abbrev pub DefaultsGood : List Field → ℕ → List Field → Type 0
+DefaultsGood all i [] = Unit {0}
+DefaultsGood all i (f ∷ fs) = ItemDefault f.item (counted i all) f.default × DefaultsGood all (suc i) fs
+
+pub record FitTable (ks : List Comparer) (cs : List Carrier) (x y : List (List Cell)) (numbers : List ℤ) (below below' : ℕ) : Type 0 where
+  pub good : (j : ℕ) → j < below' → GoodCells (get_or y j [])
+  pub fits : (i j : ℕ) → i < below → j < below' → get_or ks j no_comparer i ≡ None → (p : ℕ) → FitsAt (get_or x i []) numbers p → FitCells (get_or y j []) (get_or cs j no_carrier i numbers p)
+
+pub good_item : (y : List (List Cell)) (k : ℕ) (j : Item) (caps : List ℕ) (d : ℤ) → ((i : ℕ) → i < k → GoodCells (get_or y i [])) → ItemBelow k j → ItemDefault j caps d → GoodCells (item_cells y j caps d)
+good_item y k (Num kind) caps d good below h = (h, tt)
+good_item y k (Equal kind z) caps d good below h = tt
+good_item y k (Unused n) caps d good below h = tt
+good_item y k (Struct i) caps d good below h = good i below
+
+pub good_fields : (y : List (List Cell)) (k : ℕ) (all : List Field) (i : ℕ) (gs : List Field) → ((i : ℕ) → i < k → GoodCells (get_or y i [])) → FieldsBelow k gs → DefaultsGood all i gs → GoodCells (cells_from y all i gs)
+good_fields y k all i [] good below h = tt
+good_fields y k all i (g ∷ gs) good below h =
+    good_append (field_cells y all i g) (cells_from y all (suc i) gs)
+    (good_times (capacity_of g.count) (item_cells y g.item (counted i all) g.default) 0 0 (good_item y k g.item (counted i all) g.default good below.0 h.0))
+    (good_fields y k all (suc i) gs good below.1 h.1)
+
+module _ (ks : List Comparer) (cs : List Carrier) (x y : List (List Cell)) (ms : List Meaning) (a b : Desc) (v w : ℕ) (part part' : Part) (o n : ℕ → Option ℕ) (numbers : List ℤ) (own : ℕ → ℕ) (at : ℕ)
+    (below below' : ℕ) (table : FitTable ks cs x y numbers below below') where
+  number_fits : (c : Bool) (k l : Kind) (caps caps' : List ℕ) (d' z : ℤ) → same_kind k l ≡ c → FitsCell (record { kind = l; capacities = caps'; default = d' }) d' → InRange k z
+      → (c ≡ true → AllByRecursion (λ m. z ≤ℤ pos m) caps') → FitCells (record { kind = l; capacities = caps'; default = d' } ∷ []) (if c then z ∷ [] else d' ∷ [])
+  number_fits true k l caps caps' d' z same good range follow = ((subst (λ (i : Kind). InRange i z) (kinds_same k l same) range, follow refl), tt)
+  number_fits false k l caps caps' d' z same good range follow = (good, tt)
+
+  fit_item : (i j : Item) (caps caps' : List ℕ) (d d' : ℤ) (p : ℕ) → ItemBelow below i → ItemBelow below' j → pair_structs ks a b v w part part' o n i j ≡ None → GoodCells (item_cells y j caps' d')
+      → FitsAt (item_cells x i caps d) numbers p
+      → ((k : Kind) → i ≡ Num k → is_num j ≡ true → (z : ℤ) → z ≤ℤ highest k → AllByRecursion (λ m. z ≤ℤ pos m) caps → AllByRecursion (λ m. z ≤ℤ pos m) caps')
+      → FitCells (item_cells y j caps' d') (carry_item cs x y numbers i j (defaults (item_cells y j [] d')) p)
+  fit_item (Num k) (Num l) caps caps' d d' p below_a below_b none good fits follow =
+      let z : p + 0 ≡ p = omega arith in
+      let f : FitsCell (record { kind = k; capacities = caps; default = d }) (get_or numbers p (pos 0)) =
+      subst (λ (q : ℕ). FitsCell (record { kind = k; capacities = caps; default = d }) (get_or numbers q (pos 0))) z (fits.each 0 (omega arith)) in
+      number_fits (same_kind k l) k l caps caps' d' (get_or numbers p (pos 0)) refl good.0 f.0 (λ same. follow k refl refl (get_or numbers p (pos 0)) f.0.1 f.1)
+  fit_item (Struct i) (Struct j) caps caps' d d' p below_a below_b none good fits follow = table.fits i j below_a below_b none p fits
+  fit_item (Num k) (Equal l u) caps caps' d d' p below_a below_b none good fits follow = tt
+  fit_item (Num k) (Unused r) caps caps' d d' p below_a below_b none good fits follow = tt
+  fit_item (Num k) (Struct j) caps caps' d d' p below_a below_b none good fits follow = fit_defaults (get_or y j []) good
+  fit_item (Equal k z) (Num l) caps caps' d d' p below_a below_b none good fits follow = (good.0, tt)
+  fit_item (Equal k z) (Equal l u) caps caps' d d' p below_a below_b none good fits follow = tt
+  fit_item (Equal k z) (Unused r) caps caps' d d' p below_a below_b none good fits follow = tt
+  fit_item (Equal k z) (Struct j) caps caps' d d' p below_a below_b none good fits follow = fit_defaults (get_or y j []) good
+  fit_item (Unused m) (Num l) caps caps' d d' p below_a below_b none good fits follow = (good.0, tt)
+  fit_item (Unused m) (Equal l u) caps caps' d d' p below_a below_b none good fits follow = tt
+  fit_item (Unused m) (Unused r) caps caps' d d' p below_a below_b none good fits follow = tt
+  fit_item (Unused m) (Struct j) caps caps' d d' p below_a below_b none good fits follow = fit_defaults (get_or y j []) good
+  fit_item (Struct i) (Num l) caps caps' d d' p below_a below_b none good fits follow = (good.0, tt)
+  fit_item (Struct i) (Equal l u) caps caps' d d' p below_a below_b none good fits follow = tt
+  fit_item (Struct i) (Unused r) caps caps' d d' p below_a below_b none good fits follow = tt
+
+  fit_items : (i j : Item) (caps caps' : List ℕ) (d d' : ℤ) (m most most' q st q' st' p : ℕ) → m ≤ most → ItemBelow below i → ItemBelow below' j → pair_structs ks a b v w part part' o n i j ≡ None
+      → GoodCells (item_cells y j caps' d') → FitsAt (times most (λ _. item_cells x i caps d) q st) numbers p
+      → ((k : Kind) → i ≡ Num k → is_num j ≡ true → (z : ℤ) → z ≤ℤ highest k → AllByRecursion (λ m. z ≤ℤ pos m) caps → AllByRecursion (λ m. z ≤ℤ pos m) caps')
+      → FitCells (times most' (λ _. item_cells y j caps' d') q' st') (carry_items cs x y numbers i j (defaults (item_cells y j [] d')) (length (item_cells x i [] (pos 0))) m most' p)
+  fit_items i j caps caps' d d' m most zero q st q' st' p le below_a below_b none good fits follow = tt
+  fit_items i j caps caps' d d' zero most (suc most') q st q' st' p le below_a below_b none good fits follow =
+      fit_append (item_cells y j caps' d') (times most' (λ _. item_cells y j caps' d') (q' + st') st') (defaults (item_cells y j [] d')) _
+      (fallback_fits j caps' d' good)
+      (fit_items i j caps caps' d d' zero most most' q st (q' + st') st' p (omega arith) below_a below_b none good fits follow)
+    where
+      fallback_fits : (j : Item) (caps' : List ℕ) (d' : ℤ) → GoodCells (item_cells y j caps' d') → FitCells (item_cells y j caps' d') (defaults (item_cells y j [] d'))
+      fallback_fits (Num l) caps' d' good = (good.0, tt)
+      fallback_fits (Equal l u) caps' d' good = tt
+      fallback_fits (Unused r) caps' d' good = tt
+      fallback_fits (Struct j) caps' d' good = fit_defaults (get_or y j []) good
+  fit_items i j caps caps' d d' (suc m) zero (suc most') q st q' st' p le below_a below_b none good fits follow = absurd (omega arith)
+  fit_items i j caps caps' d d' (suc m) (suc most) (suc most') q st q' st' p le below_a below_b none good fits follow =
+      let cells = item_cells x i caps d in
+      let size = length (item_cells x i [] (pos 0)) in
+      let more_cells = times most (λ _. item_cells x i caps d) (q + st) st in
+      let e : p + length cells ≡ p + size = ap (λ (k : ℕ). p + k) (size_same x i caps d) in
+      fit_append (item_cells y j caps' d') (times most' (λ _. item_cells y j caps' d') (q' + st') st') (carry_item cs x y numbers i j (defaults (item_cells y j [] d')) p) _
+      (fit_item i j caps caps' d d' p below_a below_b none good (fits_left cells more_cells numbers p fits) follow)
+      (fit_items i j caps caps' d d' m most most' (q + st) st (q' + st') st' (p + size) (omega arith) below_a below_b none good
+      (fits_at more_cells numbers _ _ e (fits_right cells more_cells numbers p fits)) follow)
+
+  abbrev pub Follows : Entry → Entry → Type 0
+  Follows e f = (k : Kind) → e.field.item ≡ Num k → is_num f.field.item ≡ true → (z : ℤ) → z ≤ℤ highest k → AllByRecursion (λ m. z ≤ℤ pos m) (counted e.index a.fields) → AllByRecursion (λ m. z ≤ℤ pos m) (counted f.index b.fields)
+
+  abbrev pub FollowAll : List Entry → List Entry → Type 0
+  FollowAll [] fs = Unit {0}
+  FollowAll (e ∷ es) [] = Unit {0}
+  FollowAll (e ∷ es) (f ∷ fs) = Follows e f × FollowAll es fs
+
+  -- what is asked of old's entries
+  abbrev pub OldReady : List Entry → Type 0
+  OldReady [] = Unit {0}
+  OldReady (e ∷ es) = (ItemBelow below e.field.item × FitsAt (field_cells x a.fields e.index e.field) numbers (at + e.place)) × OldReady es
+
+  if_least : (c : Bool) (m most : ℕ) → m ≤ most → (if c then m else 0) ≤ most
+  if_least true m most h = h
+  if_least false m most h = omega arith
+
+  fit_next : (i q : ℕ) (g : Field) (pr : Option (Option Formula)) (es after : List Entry) → ItemBelow below' g.item → GoodCells (item_cells y g.item (counted i b.fields) g.default)
+      → Zip ks a b v w part part' o n es (entry_of i q g pr ++ after) → FollowAll es (entry_of i q g pr ++ after) → OldReady es
+      → FitCells (field_cells y b.fields i g) (carry_next cs x y numbers own v at b.fields i g pr es)
+  fit_next i q g None es after lt good zipped follow ready = fit_defaults (field_cells y b.fields i g) (good_times (capacity_of g.count) (item_cells y g.item (counted i b.fields) g.default) 0 0 good)
+  fit_next i q g (Some rest) [] after lt good zipped follow ready = absurd zipped
+  fit_next i q g (Some rest) (e ∷ es) after lt good zipped follow ready =
+      fit_items e.field.item g.item (counted e.index a.fields) (counted i b.fields) e.field.default g.default (if is_there e.field.test e.field.since v own no_parent then elements_of e.field.count own else 0)
+      (capacity_of e.field.count) (capacity_of g.count) 0 0 0 0 (at + e.place)
+      (if_least (is_there e.field.test e.field.since v own no_parent) (elements_of e.field.count own) (capacity_of e.field.count) (elements_fit e.field.count own))
+      ready.0.0 lt zipped.0.structs good ready.0.1 follow.0
+
+  zip_left : (i q : ℕ) (g : Field) (pr : Option (Option Formula)) (es after : List Entry) → Zip ks a b v w part part' o n es (entry_of i q g pr ++ after) → Zip ks a b v w part part' o n (entries_left cs x y numbers pr es) after
+  zip_left i q g None es after h = h
+  zip_left i q g (Some rest) [] after h = absurd h
+  zip_left i q g (Some rest) (e ∷ es) after h = h.1
+
+  follow_left : (i q : ℕ) (g : Field) (pr : Option (Option Formula)) (es after : List Entry) → FollowAll es (entry_of i q g pr ++ after) → FollowAll (entries_left cs x y numbers pr es) after
+  follow_left i q g None es after h = h
+  follow_left i q g (Some rest) [] after h = tt
+  follow_left i q g (Some rest) (e ∷ es) after h = h.1
+
+  ready_left : (pr : Option (Option Formula)) (es : List Entry) → OldReady es → OldReady (entries_left cs x y numbers pr es)
+  ready_left None es h = h
+  ready_left (Some rest) [] h = tt
+  ready_left (Some rest) (e ∷ es) h = h.1
+
+  pub fit_from : (i q : ℕ) (gs : List Field) (es : List Entry) → FieldsBelow below' gs → DefaultsGood b.fields i gs
+      → Zip ks a b v w part part' o n es (present_from y b.fields w i q gs) → FollowAll es (present_from y b.fields w i q gs) → OldReady es
+      → FitCells (cells_from y b.fields i gs) (carry_from cs x y numbers own v w at b.fields i gs es)
+  fit_from i q [] es lt good zipped follow ready = tt
+  fit_from i q (g ∷ gs) es lt good zipped follow ready =
+      let pr = presence w g.test g.since in
+      let q' = q + length (field_cells y b.fields i g) in
+      let after = present_from y b.fields w (suc i) q' gs in
+      fit_append (field_cells y b.fields i g) (cells_from y b.fields (suc i) gs) _ _
+      (fit_next i q g pr es after lt.0 (good_item y below' g.item (counted i b.fields) g.default table.good lt.0 good.0) zipped follow ready)
+      (fit_from (suc i) q' gs (entries_left cs x y numbers pr es) lt.1 good.1 (zip_left i q g pr es after zipped) (follow_left i q g pr es after follow) (ready_left pr es ready))
+
+  -- each pair's numbers follow
+  pub follow_all : (all_es es fs : List Entry) → Zip ks a b v w part part' o n all_es (present_from y b.fields w 0 0 b.fields) → OldStand ks a b v w part part' o n all_es
+      → NewSingle ks a b v w part part' o n (present_from y b.fields w 0 0 b.fields) → Zip ks a b v w part part' o n es fs → Indexed o n es fs → FollowAll es fs
+  follow_all all_es [] fs zipped stand single here_zip at_e = tt
+  follow_all all_es (e ∷ es) [] zipped stand single here_zip at_e = tt
+  follow_all all_es (e ∷ es) (f ∷ fs) zipped stand single here_zip at_e = (
+    (λ k is num z high caps.
+        let m : Matched ks a b v w part part' o n e f = elim (decoded ks a b v w part part' o n e f here_zip.0) [
+          | inl c ↦ absurd (not_covered e.field.item e.field.count f.field.item c.covers num)
+          | inr m ↦ m
+        ] in
+        caps_follow ks a b v w part part' o n y k all_es e f z is at_e.0 m high caps zipped stand single),
+    follow_all all_es es fs zipped stand single here_zip.1 at_e.1,
+  )

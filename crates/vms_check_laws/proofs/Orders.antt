@@ -1,0 +1,89 @@
+-- An order that names each that is left, and none twice, takes each once.
+use Rattle.std.proofs.Common.{◌≡◌, ◌⊎◌, inl, inr, ℕ, zero, suc, Bool, true, false, ◌==◌, List, [], ◌∷◌, slice_set, Option, Some, None, refl, sym, ap, ◌∙◌}
+use Rattle.std.specs.List.{slice_get}
+use Rattle.std.proofs.lemmas.Bool.{eqb-true, eq-eqb}
+use Rattle.vms_spec.specs.Streams.{AreAll, ComesOnce, AllCame, EachOnce}
+use Rattle.vms_bodies.proofs.PartLaws.{at_other}
+
+abbrev pub Among : ℕ → List ℕ → Type 0
+Among a [] = ⊥
+Among a (b ∷ rest) = (a ≡ b) ⊎ Among a rest
+
+abbrev pub NotIn : ℕ → List ℕ → Type 0
+NotIn a [] = Unit {0}
+NotIn a (b ∷ rest) = (a ≡ b → ⊥) × NotIn a rest
+
+abbrev pub Apart : List ℕ → Type 0
+Apart [] = Unit {0}
+Apart (a ∷ rest) = NotIn a rest × Apart rest
+
+at_set : {A : Type 0} (xs : List A) (k : ℕ) (x y : A) → slice_get xs k ≡ Some y → slice_get (slice_set xs k x) k ≡ Some x
+at_set [] k x y h = cc
+at_set (z ∷ xs) zero x y h = refl
+at_set (z ∷ xs) (suc k) x y h = at_set xs k x y h
+
+-- ---- subsections
+
+abbrev pub Come : List (Option ℕ) → List ℕ → Type 0
+Come left [] = Unit {0}
+Come left (j ∷ order) = ((v : ℕ) × (slice_get left j ≡ Some (Some v))) × Come left order
+
+come_left : (left : List (Option ℕ)) (j : ℕ) (order : List ℕ) → NotIn j order → Come left order → Come (slice_set left j None) order
+come_left left j [] apart h = tt
+come_left left j (k ∷ order) apart h = ((h.0.0, at_other left j k None (λ e. apart.0 (sym e)) ∙ h.0.1), come_left left j order apart.1 h.1)
+
+none_left : (left : List (Option ℕ)) → ((j v : ℕ) → slice_get left j ≡ Some (Some v) → ⊥) → AreAll left
+none_left [] h = tt
+none_left (None ∷ left) h = none_left left (λ j v e. h (suc j) v e)
+none_left (Some u ∷ left) h = h 0 u refl
+
+pub comes_once : (left : List (Option ℕ)) (order : List ℕ) → Apart order → Come left order → ((j v : ℕ) → slice_get left j ≡ Some (Some v) → Among j order) → ComesOnce left order
+comes_once left [] apart come covers = none_left left covers
+comes_once left (j ∷ order) apart come covers =
+    (come.0, comes_once (slice_set left j None) order apart.1 (come_left left j order apart.0 come.1) (λ k v e. still k v e (k == j) refl)) where
+      still : (k v : ℕ) → slice_get (slice_set left j None) k ≡ Some (Some v) → (b : Bool) → (k == j) ≡ b → Among k order
+      still k v e true h =
+          let same : k ≡ j = eqb-true k j h in
+          let gone = at_set left j None (Some come.0.0) come.0.1 in
+          let bad : Some None ≡ Some (Some v) = sym gone ∙ ap (λ (i : ℕ). slice_get (slice_set left j None) i) (sym same) ∙ e in
+          absurd (cc)
+      still k v e false h =
+          let ne : k ≡ j → ⊥ = λ s. let bad : (k == j) ≡ true = eq-eqb k j s in absurd (cc) in
+          let go : (k ≡ j) ⊎ Among k order → Among k order = elim [
+            | inl s ↦ absurd (ne s)
+            | inr more ↦ more
+          ] in
+          go (covers k v (sym (at_other left j k None ne) ∙ e))
+
+-- ---- devices
+
+abbrev pub Wait : List Bool → List ℕ → Type 0
+Wait came [] = Unit {0}
+Wait came (k ∷ order) = (slice_get came k ≡ Some false) × Wait came order
+
+wait_left : (came : List Bool) (j : ℕ) (order : List ℕ) → NotIn j order → Wait came order → Wait (slice_set came j true) order
+wait_left came j [] apart h = tt
+wait_left came j (k ∷ order) apart h = (at_other came j k true (λ e. apart.0 (sym e)) ∙ h.0, wait_left came j order apart.1 h.1)
+
+all_came : (came : List Bool) → ((j : ℕ) → slice_get came j ≡ Some false → ⊥) → AllCame came
+all_came [] h = tt
+all_came (true ∷ came) h = all_came came (λ j e. h (suc j) e)
+all_came (false ∷ came) h = h 0 refl
+
+pub each_comes : (came : List Bool) (order : List ℕ) → Apart order → Wait came order → ((j : ℕ) → slice_get came j ≡ Some false → Among j order) → EachOnce came order
+each_comes came [] apart wait covers = all_came came covers
+each_comes came (j ∷ order) apart wait covers =
+    (wait.0, each_comes (slice_set came j true) order apart.1 (wait_left came j order apart.0 wait.1) (λ k e. still k e (k == j) refl)) where
+      still : (k : ℕ) → slice_get (slice_set came j true) k ≡ Some false → (b : Bool) → (k == j) ≡ b → Among k order
+      still k e true h =
+          let same : k ≡ j = eqb-true k j h in
+          let gone = at_set came j true false wait.0 in
+          let bad : Some true ≡ Some false = sym gone ∙ ap (λ (i : ℕ). slice_get (slice_set came j true) i) (sym same) ∙ e in
+          absurd (cc)
+      still k e false h =
+          let ne : k ≡ j → ⊥ = λ s. let bad : (k == j) ≡ true = eq-eqb k j s in absurd (cc) in
+          let go : (k ≡ j) ⊎ Among k order → Among k order = elim [
+            | inl s ↦ absurd (ne s)
+            | inr more ↦ more
+          ] in
+          go (covers k (sym (at_other came j k true ne) ∙ e))

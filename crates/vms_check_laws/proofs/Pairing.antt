@@ -1,0 +1,147 @@
+-- The present fields of a description: their slots, and what is known of each.
+use Rattle.std.proofs.Common.{◌≡◌, ℕ, zero, suc, ◌+◌, Bool, true, false, ◌==◌, List, [], ◌∷◌, ◌++◌, length, get_or, map, Option, Some, None, refl, sym, ap, ◌∙◌, arith, ℤ, pos, if◌then◌else◌}
+use Rattle.std.specs.List.{slice_get}
+use Rattle.std.proofs.lemmas.Bool.{eqb-true}
+use Rattle.vms_kinds.specs.declared.Kind.{Kind}
+use Rattle.vms_kinds.specs.declared.Kind.TheVariants.{U8, U16, U32, U64, I8, I16, I32, I64, Bool as Truth, Timer}
+use Rattle.vms_kinds.specs.Codes.{width, residue}
+use Rattle.vms_spec.specs.declared.Place.{Place}
+use Rattle.vms_spec.specs.Sets.{Formula, Field}
+use Rattle.vms_spec.specs.Layout.{Cell, Slot, Meaning, no_field, no_parent, counted, field_cells, cells_from, elements_of, times, item_slots, item_size, field_slots, slots_from, place_of, kind_of}
+use Rattle.vms_check.specs.Reducing.{presence}
+use Rattle.vms_check.specs.Comparing.{Entry, entry_of, present_from, same_kind, kind_number, failing_pair}
+use Rattle.vms_check_laws.proofs.Presence.{there, presence_there}
+use Rattle.vms_check_laws.specs.Segments.{FitsAt}
+use Rattle.vms_check_laws.proofs.Segments.{fits_left, fits_right, fits_at}
+
+-- ---- tools
+
+pub first_good : (r : ℕ) (x : Bool) (rules : List (ℕ × Bool)) (p q : Place) → failing_pair ((r, x) ∷ rules) p q ≡ None → (x ≡ true) × (failing_pair rules p q ≡ None)
+first_good r true rules p q h = (refl, h)
+first_good r false rules p q h = cc
+
+unfoldable kind_at : ℕ → Kind
+kind_at k =
+    if k == 0 then U8 else if k == 1 then U16 else if k == 2 then U32 else if k == 3 then U64 else if k == 4 then I8 else if k == 5 then I16
+    else if k == 6 then I32 else if k == 7 then I64 else if k == 8 then Truth else Timer
+
+kind_back : (k : Kind) → kind_at (kind_number k) ≡ k
+unfolding kind_at
+kind_back U8 = refl
+kind_back U16 = refl
+kind_back U32 = refl
+kind_back U64 = refl
+kind_back I8 = refl
+kind_back I16 = refl
+kind_back I32 = refl
+kind_back I64 = refl
+kind_back Truth = refl
+kind_back Timer = refl
+
+pub kinds_same : (k l : Kind) → same_kind k l ≡ true → k ≡ l
+kinds_same k l h = sym (kind_back k) ∙ ap kind_at (eqb-true (kind_number k) (kind_number l) h) ∙ kind_back l
+
+abbrev pub cells_in : List Meaning → List (List Cell)
+cells_in structs = map (λ m. m.cells) structs
+
+-- ---- slots by entries
+
+module _ (structs : List Meaning) (all : List Field) (v : ℕ) (own : ℕ → ℕ) (numbers : List ℤ) (base : ℕ) where
+  -- those of field i, whose cells begin p after the first
+  abbrev pub slots_at : ℕ → ℕ → Field → List Slot
+  slots_at i p f = field_slots structs all v own numbers i (base + p) f
+
+  abbrev pub entries_slots : List Entry → List Slot
+  entries_slots [] = []
+  entries_slots (e ∷ es) = slots_at e.index e.place e.field ++ entries_slots es
+
+  entry_slots : (i p : ℕ) (f : Field) (pr : Option (Option Formula)) (es : List Entry) → presence v f.test f.since ≡ pr
+      → slots_at i p f ++ entries_slots es ≡ entries_slots (entry_of i p f pr ++ es)
+  entry_slots i p f None es h =
+      ap (λ (b : Bool). (if b then times (elements_of f.count own) (item_slots structs f.item (counted i all) numbers) (base + p) (item_size (cells_in structs) f.item) else []) ++ entries_slots es)
+      (presence_there f.test f.since v own no_parent ∙ ap (λ (q : Option (Option Formula)). there q v own no_parent) h)
+  entry_slots i p f (Some rest) es h = refl
+
+  pub slots_entries : (i p : ℕ) (fs : List Field) → slots_from structs all v own numbers i (base + p) fs ≡ entries_slots (present_from (cells_in structs) all v i p fs)
+  slots_entries i p [] = refl
+  slots_entries i p (f ∷ fs) =
+      let len = length (field_cells (cells_in structs) all i f) in
+      let e : (base + p) + len ≡ base + (p + len) = omega arith in
+      ap (λ (l : List Slot). slots_at i p f ++ l) (ap (λ (k : ℕ). slots_from structs all v own numbers (suc i) k fs) e ∙ slots_entries (suc i) (p + len) fs)
+      ∙ entry_slots i p f (presence v f.test f.since) (present_from (cells_in structs) all v (suc i) (p + len) fs) refl
+
+-- ---- what is known of entries
+
+at_get : (fs : List Field) (k : ℕ) (f : Field) → slice_get fs k ≡ Some f → get_or fs k no_field ≡ f
+at_get [] k f h = cc
+at_get (g ∷ fs) zero f h = cc
+at_get (g ∷ fs) (suc k) f h = at_get fs k f h
+
+module _ (structs : List Meaning) (all : List Field) (v : ℕ) (numbers : List ℤ) (base : ℕ) where
+  abbrev place : ℕ → ℕ
+  place k = place_of (cells_in structs) all 0 base all k
+
+  abbrev pub own_of : ℕ → ℕ
+  own_of k = residue (width (kind_of (get_or all k no_field).item)) (get_or numbers (place k) (pos 0))
+
+  pub record IsKnown (e : Entry) : Type 0 where
+    pub field : slice_get all e.index ≡ Some e.field
+    pub number : own_of e.index ≡ residue (width (kind_of e.field.item)) (get_or numbers (base + e.place) (pos 0))
+    pub left : presence v e.field.test e.field.since ≡ Some e.rest
+
+  abbrev pub AreKnown : List Entry → Type 0
+  AreKnown [] = Unit {0}
+  AreKnown (e ∷ es) = IsKnown e × AreKnown es
+
+  own_is : (i p : ℕ) (f : Field) → slice_get all i ≡ Some f → place i ≡ base + p → own_of i ≡ residue (width (kind_of f.item)) (get_or numbers (base + p) (pos 0))
+  own_is i p f h e =
+      ap (λ (g : Field). residue (width (kind_of g.item)) (get_or numbers (place i) (pos 0))) (at_get all i f h)
+      ∙ ap (λ (k : ℕ). residue (width (kind_of f.item)) (get_or numbers k (pos 0))) e
+
+  entry_known : (i p : ℕ) (f : Field) (pr : Option (Option Formula)) (es : List Entry) → presence v f.test f.since ≡ pr → slice_get all i ≡ Some f
+      → place i ≡ base + p → AreKnown es → AreKnown (entry_of i p f pr ++ es)
+  entry_known i p f None es h field here known = known
+  entry_known i p f (Some rest) es h field here known = (record { field = field; number = own_is i p f field here; left = h }, known)
+
+  pub entries_known : (i p : ℕ) (fs : List Field) → ((k : ℕ) → slice_get all (i + k) ≡ slice_get fs k)
+      → ((k : ℕ) → place (i + k) ≡ place_of (cells_in structs) all i (base + p) fs k)
+      → AreKnown (present_from (cells_in structs) all v i p fs)
+  entries_known i p [] items places = tt
+  entries_known i p (f ∷ fs) items places =
+      let len = length (field_cells (cells_in structs) all i f) in
+      let z : i + 0 ≡ i = omega arith in
+      let e : (base + p) + len ≡ base + (p + len) = omega arith in
+      entry_known i p f (presence v f.test f.since) (present_from (cells_in structs) all v (suc i) (p + len) fs) refl
+      (ap (λ (k : ℕ). slice_get all k) (sym z) ∙ items 0)
+      (ap (λ (k : ℕ). place k) (sym z) ∙ places 0)
+      (entries_known (suc i) (p + len) fs
+      (λ k. let s : suc i + k ≡ i + suc k = omega arith in ap (λ (j : ℕ). slice_get all j) s ∙ items (suc k))
+      (λ k. let s : suc i + k ≡ i + suc k = omega arith in
+      ap (λ (j : ℕ). place j) s ∙ places (suc k) ∙ ap (λ (j : ℕ). place_of (cells_in structs) all (suc i) j fs k) e))
+
+  pub all_known : AreKnown (present_from (cells_in structs) all v 0 0 all)
+  all_known =
+      let z : base ≡ base + 0 = omega arith in
+      entries_known 0 0 all
+      (λ k. let s : 0 + k ≡ k = omega arith in ap (λ (j : ℕ). slice_get all j) s)
+      (λ k. let s : 0 + k ≡ k = omega arith in ap (λ (j : ℕ). place j) s ∙ ap (λ (j : ℕ). place_of (cells_in structs) all 0 j all k) z)
+
+  -- the numbers fit the cells of each entry
+  abbrev pub FitEntries : List Entry → Type 0
+  FitEntries [] = Unit {0}
+  FitEntries (e ∷ es) = FitsAt (field_cells (cells_in structs) all e.index e.field) numbers (base + e.place) × FitEntries es
+
+  fit_entry : (i p : ℕ) (f : Field) (pr : Option (Option Formula)) (es : List Entry)
+      → FitsAt (field_cells (cells_in structs) all i f) numbers (base + p) → FitEntries es → FitEntries (entry_of i p f pr ++ es)
+  fit_entry i p f None es fits more = more
+  fit_entry i p f (Some rest) es fits more = (fits, more)
+
+  pub fit_entries : (i p : ℕ) (fs : List Field) → FitsAt (cells_from (cells_in structs) all i fs) numbers (base + p) → FitEntries (present_from (cells_in structs) all v i p fs)
+  fit_entries i p [] fits = tt
+  fit_entries i p (f ∷ fs) fits =
+      let here_cells = field_cells (cells_in structs) all i f in
+      let more_cells = cells_from (cells_in structs) all (suc i) fs in
+      let e : (base + p) + length here_cells ≡ base + (p + length here_cells) = omega arith in
+      fit_entry i p f (presence v f.test f.since) (present_from (cells_in structs) all v (suc i) (p + length here_cells) fs)
+      (fits_left here_cells more_cells numbers (base + p) fits)
+      (fit_entries (suc i) (p + length here_cells) fs (fits_at more_cells numbers _ _ e (fits_right here_cells more_cells numbers (base + p) fits)))

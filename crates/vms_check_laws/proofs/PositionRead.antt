@@ -1,0 +1,92 @@
+-- One position: what the older set writes for a field is read by the newer as carried.
+use Rattle.std.proofs.Common.{◌≡◌, inl, inr, ℕ, zero, suc, ◌+◌, List, [], ◌∷◌, length, Option, Some, subst, arith, ℤ}
+use Rattle.std.specs.List.{slice_get}
+use Rattle.vms_spec.specs.declared.Part.{Part}
+use Rattle.vms_spec.specs.Sets.{Field, Desc, Set}
+use Rattle.vms_spec.specs.Layout.{Meaning, meanings, desc_cells, field_cells, numbers_of}
+use Rattle.vms_spec.specs.WellFormed.{WellFormed}
+use Rattle.vms_check.specs.Comparing.{Comparer, Entry, comparers, present, position_from}
+use Rattle.vms_check.specs.Carrying.{Carrier, carriers}
+use Rattle.vms_check_laws.specs.Segments.{FitsAt}
+use Rattle.vms_check_laws.specs.Positions.{IsPartOf, IsRead, PositionLaw}
+use Rattle.vms_check_laws.proofs.Segments.{fits_at}
+use Rattle.vms_check_laws.proofs.Pairing.{cells_in, IsKnown, AreKnown, all_known, FitEntries, fit_entries}
+use Rattle.vms_check_laws.proofs.Premises.{Table, OldGood}
+use Rattle.vms_check_laws.proofs.FieldsCarry.{pair_carries, EntryGood, OldEntries, NewEntries}
+use Rattle.vms_check_laws.proofs.RulesCarry.{old_entries, new_entries}
+use Rattle.vms_check_laws.proofs.Counts.{old_fields}
+use Rattle.vms_check_laws.proofs.Structures.{tables}
+use Rattle.vms_check_laws.proofs.Good.{DescGood, old_structs, new_structs, device_good, sub_good}
+use Rattle.vms_check_laws.proofs.Parts.{to_cells}
+
+pub part_good : (set : Set) → WellFormed set → (d : Desc) → IsPartOf set d → DescGood (length set.structs) d
+part_good set well d (inl p) = subst (λ (x : Desc). DescGood (length set.structs) x) p.is (device_good set well p.i p.device p.there)
+part_good set well d (inr p) = subst (λ (x : Desc). DescGood (length set.structs) x) p.is (sub_good set well p.i p.j p.device p.sub p.there p.below)
+
+module _ (structs : List Meaning) (all : List Field) (v : ℕ) (numbers : List ℤ) (base : ℕ) where
+  known_at : (es : List Entry) (p : ℕ) (e : Entry) → slice_get es p ≡ Some e → AreKnown structs all v numbers base es → IsKnown structs all v numbers base e
+  known_at [] p e h k = cc
+  known_at (x ∷ es) zero e h k = let same : x ≡ e = cc in subst (λ (u : Entry). IsKnown structs all v numbers base u) same k.0
+  known_at (x ∷ es) (suc p) e h k = known_at es p e h k.1
+
+  fit_at : (es : List Entry) (p : ℕ) (e : Entry) → slice_get es p ≡ Some e → FitEntries structs all v numbers base es → FitsAt (field_cells (cells_in structs) all e.index e.field) numbers (base + e.place)
+  fit_at [] p e h k = cc
+  fit_at (x ∷ es) zero e h k =
+      let same : x ≡ e = cc in subst (λ (u : Entry). FitsAt (field_cells (cells_in structs) all u.index u.field) numbers (base + u.place)) same k.0
+  fit_at (x ∷ es) (suc p) e h k = fit_at es p e h k.1
+
+module _ (ks : List Comparer) (cs : List Carrier) (ms ns : List Meaning) (a b : Desc) (v w : ℕ) (part part' : Part) (o n : ℕ → Option ℕ)
+    (numbers numbers' : List ℤ) (at at' : ℕ) (below below' : ℕ) (table : Table ks cs ms ns numbers numbers' below below') where
+  old_at : (es : List Entry) (p : ℕ) (e : Entry) → slice_get es p ≡ Some e → OldEntries ks cs ms ns a b v w part part' o n numbers numbers' at at' below below' table es
+      → OldGood below (λ k. numbers_of (cells_in ms) a numbers at k) e.field
+  old_at [] p e h k = cc
+  old_at (x ∷ es) zero e h k = let same : x ≡ e = cc in subst (λ (u : Entry). OldGood below (λ k. numbers_of (cells_in ms) a numbers at k) u.field) same k.0
+  old_at (x ∷ es) (suc p) e h k = old_at es p e h k.1
+
+  new_at : (fs : List Entry) (p : ℕ) (f : Entry) → slice_get fs p ≡ Some f → NewEntries ks cs ms ns a b v w part part' o n numbers numbers' at at' below below' table fs
+      → EntryGood ks cs ms ns a b v w part part' o n numbers numbers' at at' below below' table f
+  new_at [] p f h k = cc
+  new_at (x ∷ fs) zero f h k = let same : x ≡ f = cc in subst (λ (u : Entry). EntryGood ks cs ms ns a b v w part part' o n numbers numbers' at at' below below' table u) same k.0
+  new_at (x ∷ fs) (suc p) f h k = new_at fs p f h k.1
+
+module _ (old new : Set) (good_old : WellFormed old) (good_new : WellFormed new) (a b : Desc) (of_old : IsPartOf old a) (of_new : IsPartOf new b) (v : ℕ) (part part' : Part)
+    (numbers numbers' : List ℤ) (at at' : ℕ) where
+  abbrev ms : List Meaning
+  ms = meanings old.structs (length old.structs)
+
+  abbrev ns : List Meaning
+  ns = meanings new.structs (length new.structs)
+
+  abbrev es : List Entry
+  es = present (cells_in ms) a v
+
+  abbrev fs : List Entry
+  fs = present (cells_in ns) b v
+
+  read_in : IsRead old new a b v part part' numbers numbers' at at' (cells_in ms) (cells_in ns)
+  read_in p e f h =
+      let k = length old.structs in
+      let k' = length new.structs in
+      let ks = comparers (cells_in ms) (cells_in ns) old.structs new.structs k' in
+      let cs = carriers (cells_in ms) (cells_in ns) old.structs new.structs k' in
+      let o : ℕ → Option ℕ = λ i. position_from 0 es i in
+      let n : ℕ → Option ℕ = λ j. position_from 0 fs j in
+      let good_a = part_good old good_old a of_old in
+      let good_b = part_good new good_new b of_new in
+      let table = tables old.structs new.structs numbers numbers' (old_structs old good_old) (new_structs new good_new) k' (omega arith) in
+      let z : at ≡ at + 0 = omega arith in
+      let plain = old_fields (cells_in ms) k a.fields numbers at h.fits a.fields (λ by most x. x) good_a.old in
+      pair_carries ks cs ms ns a b v v part part' o n numbers numbers' at at' k k' table e f h.agree
+      (known_at ms a.fields v numbers at es p e h.on_old (all_known ms a.fields v numbers at))
+      (known_at ns b.fields v numbers' at' fs p f h.on_new (all_known ns b.fields v numbers' at'))
+      (record { rules = h.rules; structs = h.structs })
+      h.held
+      (old_at ks cs ms ns a b v v part part' o n numbers numbers' at at' k k' table es p e h.on_old
+      (old_entries ks cs ms ns a b v v part part' o n numbers numbers' at at' k k' table 0 0 a.fields plain))
+      (new_at ks cs ms ns a b v v part part' o n numbers numbers' at at' k k' table fs p f h.on_new
+      (new_entries ks cs ms ns a b v v part part' o n numbers numbers' at at' k k' table 0 0 b.fields good_b.new))
+      (fit_at ms a.fields v numbers at es p e h.on_old (fit_entries ms a.fields v numbers at 0 0 a.fields (fits_at (desc_cells (cells_in ms) a) numbers at (at + 0) z h.fits)))
+
+pub position_stands : PositionLaw
+position_stands old new good_old good_new a b of_old of_new v part part' numbers numbers' at at' =
+    to_cells old new good_old good_new (λ x y. IsRead old new a b v part part' numbers numbers' at at' x y) (read_in old new good_old good_new a b of_old of_new v part part' numbers numbers' at at')

@@ -1,0 +1,105 @@
+-- What is asked of fields and structures on both sides, and positions that differ.
+use Rattle.std.proofs.Common.{◌≡◌, ℕ, suc, ◌<◌, ◌≤◌, Bool, true, false, ◌==◌, List, [], ◌∷◌, length, get_or, Some, None, refl, arith, ℤ, pos, if◌then◌else◌}
+use Rattle.std.proofs.lemmas.Bool.{eqb-true}
+use Rattle.vms_kinds.specs.declared.Item.{Item}
+use Rattle.vms_kinds.specs.declared.Item.TheVariants.{Num, Equal, Unused, Struct}
+use Rattle.vms_spec.specs.declared.Count.{Count}
+use Rattle.vms_spec.specs.declared.Count.TheVariants.{One, Fixed, Counted}
+use Rattle.vms_spec.specs.Sets.{Formula, Field}
+use Rattle.vms_spec.specs.Layout.{Cell, Meaning, no_meaning, item_cells}
+use Rattle.vms_spec.specs.Rules.{names_well, nobody, is_one}
+use Rattle.vms_spec.proofs.Prefixes.{ItemBelow}
+use Rattle.vms_check.specs.Comparing.{Entry, position_from, same_place, is_covered, Comparer, no_comparer}
+use Rattle.vms_check.specs.Carrying.{Carrier, no_carrier}
+use Rattle.vms_check_laws.proofs.SameTests.{NamedRest}
+use Rattle.vms_check_laws.specs.Segments.{Holds, FitsAt, Carries}
+use Rattle.vms_check_laws.proofs.Pairing.{cells_in}
+use Rattle.vms_check_laws.proofs.Settling.{Settled}
+
+pub later_new : (j p q : ℕ) (fs : List Entry) → p < q → same_place (Some p) (position_from q fs j) ≡ true → ⊥
+later_new j p q [] lt h = absurd (cc)
+later_new j p q (f ∷ fs) lt h =
+    let choice : (c : Bool) → same_place (Some p) (if c then Some q else position_from (suc q) fs j) ≡ true → ⊥ = elim [
+      | true ↦ λ k. let e : p ≡ q = eqb-true p q k in absurd (omega arith)
+      | false ↦ λ k. later_new j p (suc q) fs (omega arith) k
+    ] in
+    choice (f.index == j) h
+
+pub later_old : (i p q : ℕ) (es : List Entry) → p < q → same_place (position_from q es i) (Some p) ≡ true → ⊥
+later_old i p q [] lt h = absurd (cc)
+later_old i p q (e ∷ es) lt h =
+    let choice : (c : Bool) → same_place (if c then Some q else position_from (suc q) es i) (Some p) ≡ true → ⊥ = elim [
+      | true ↦ λ k. let e : q ≡ p = eqb-true q p k in absurd (omega arith)
+      | false ↦ λ k. later_old i p (suc q) es (omega arith) k
+    ] in
+    choice (e.index == i) h
+
+pub covered_empty : (y : List (List Cell)) (i : Item) (c : Count) (j : Item) → is_covered i c j ≡ true → length (item_cells y j [] (pos 0)) ≡ 0
+covered_empty y i c (Unused r) is_so = refl
+covered_empty y (Num k) One (Num l) is_so = absurd (cc)
+covered_empty y (Num k) (Fixed p) (Num l) is_so = absurd (cc)
+covered_empty y (Num k) (Counted by most) (Num l) is_so = absurd (cc)
+covered_empty y (Equal k z) c (Num l) is_so = absurd (cc)
+covered_empty y (Unused m) c (Num l) is_so = absurd (cc)
+covered_empty y (Struct i) c (Num l) is_so = absurd (cc)
+covered_empty y (Num k) One (Equal l u) is_so = absurd (cc)
+covered_empty y (Num k) (Fixed p) (Equal l u) is_so = absurd (cc)
+covered_empty y (Num k) (Counted by most) (Equal l u) is_so = absurd (cc)
+covered_empty y (Equal k z) c (Equal l u) is_so = absurd (cc)
+covered_empty y (Unused m) c (Equal l u) is_so = absurd (cc)
+covered_empty y (Struct i) c (Equal l u) is_so = absurd (cc)
+covered_empty y (Num k) One (Struct j) is_so = absurd (cc)
+covered_empty y (Num k) (Fixed p) (Struct j) is_so = absurd (cc)
+covered_empty y (Num k) (Counted by most) (Struct j) is_so = absurd (cc)
+covered_empty y (Equal k z) c (Struct j) is_so = absurd (cc)
+covered_empty y (Unused m) c (Struct j) is_so = absurd (cc)
+covered_empty y (Struct i) c (Struct j) is_so = absurd (cc)
+
+-- what is known of the structures below so many: their cells, slots, comparers and carriers
+pub record Table (ks : List Comparer) (cs : List Carrier) (ms ns : List Meaning) (numbers numbers' : List ℤ) (below below' : ℕ) : Type 0 where
+  pub sized : (j i k : ℕ) → j < below' → length (get_or cs j no_carrier i numbers k) ≡ length (get_or (cells_in ns) j [])
+  pub carried : (i j : ℕ) → i < below → j < below' → get_or ks j no_comparer i ≡ None → (x y : ℕ) → FitsAt (get_or (cells_in ms) i []) numbers x
+      → Holds numbers' y (get_or cs j no_carrier i numbers x) → Carries numbers ((get_or ms i no_meaning).slots numbers x) numbers' ((get_or ns j no_meaning).slots numbers' y)
+
+abbrev pub SettledTable : (ks : List Comparer) (cs : List Carrier) (ms ns : List Meaning) (numbers numbers' : List ℤ) (below below' : ℕ) → Type 0
+SettledTable ks cs ms ns numbers numbers' below below' = (i j : ℕ) → i < below → j < below' → get_or ks j no_comparer i ≡ None → (x y : ℕ) → FitsAt (get_or (cells_in ms) i []) numbers x
+    → Holds numbers' y (get_or cs j no_carrier i numbers x) → Settled ((get_or ns j no_meaning).slots numbers' y) y (get_or (cells_in ns) j []) (get_or cs j no_carrier i numbers x)
+
+-- constants and unused bytes are single
+abbrev pub IsSingle : Item → Count → Type 0
+IsSingle (Equal kind z) count = is_one count ≡ true
+IsSingle (Unused n) count = is_one count ≡ true
+IsSingle _ count = Unit {0}
+
+abbrev pub CountFits : (ℕ → ℕ) → Count → Type 0
+CountFits own (Counted by most) = own by ≤ most
+CountFits own _ = Unit {0}
+
+abbrev pub CountNamed : (ℕ → Bool) → Count → Type 0
+CountNamed ok (Counted by most) = ok by ≡ true
+CountNamed ok _ = Unit {0}
+
+-- what is asked of old's fields
+pub record OldGood (below : ℕ) (own : ℕ → ℕ) (f : Field) : Type 0 where
+  pub item : ItemBelow below f.item
+  pub single : IsSingle f.item f.count
+  pub count : CountFits own f.count
+
+-- what is asked of new's
+pub record NewGood (below : ℕ) (ok : ℕ → Bool) (f : Field) : Type 0 where
+  pub item : ItemBelow below f.item
+  pub single : IsSingle f.item f.count
+  pub count : CountNamed ok f.count
+  pub test : NamedRest ok f.test
+
+abbrev pub RulesNamed : (ℕ → Bool) → List Formula → Type 0
+RulesNamed ok [] = Unit {0}
+RulesNamed ok (t ∷ ts) = (names_well ok nobody t ≡ true) × RulesNamed ok ts
+
+abbrev pub OldFields : ℕ → (ℕ → ℕ) → List Field → Type 0
+OldFields below own [] = Unit {0}
+OldFields below own (f ∷ fs) = OldGood below own f × OldFields below own fs
+
+abbrev pub NewFields : ℕ → (ℕ → Bool) → List Field → Type 0
+NewFields below ok [] = Unit {0}
+NewFields below ok (f ∷ fs) = NewGood below ok f × NewFields below ok fs

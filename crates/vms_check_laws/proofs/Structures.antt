@@ -1,0 +1,233 @@
+-- Structures on both sides, by induction on new's number.
+use Rattle.std.proofs.Common.{◌≡◌, ◌⊎◌, inl, inr, ℕ, zero, suc, ◌+◌, ◌<◌, ◌≤◌, Bool, List, [], ◌∷◌, length, get_or, Option, Some, None, refl, sym, ap, ◌∙◌, subst, arith, ℤ}
+use Rattle.std.proofs.lemmas.List.{length-append}
+use Rattle.std.proofs.Math.Nat.{eq-or-lt_of_le}
+use Rattle.vms_kinds.specs.declared.Item.{Item}
+use Rattle.vms_kinds.specs.declared.Item.TheVariants.{Num, Equal, Unused, Struct}
+use Rattle.vms_spec.specs.Sets.{Formula, Field, Desc}
+use Rattle.vms_spec.specs.Layout.{no_desc, Cell, Slot, Meaning, no_meaning, meanings, field_cells, cells_from, desc_cells, desc_slots, numbers_of}
+use Rattle.vms_spec.specs.declared.Part.TheVariants as parts
+use Rattle.vms_spec.specs.Rules.{is_steady_in}
+use Rattle.vms_spec.proofs.Tables.{first_at, first_long}
+use Rattle.vms_spec.proofs.Prefixes.{ItemBelow, FieldsBelow, struct_slots, struct_cells_at}
+use Rattle.vms_check.specs.Reducing.{presence}
+use Rattle.vms_check.specs.Comparing.{Entry, present, Comparer, no_comparer, comparer_of, comparers, compare_desc}
+use Rattle.vms_check.specs.Carrying.{Carrier, no_carrier, carrier_of, carriers, carry_desc, carry_from, carry_next, entries_left}
+use Rattle.vms_check_laws.proofs.Pairing.{cells_in}
+use Rattle.vms_check_laws.specs.Segments.{Holds, FitsAt, Carries}
+use Rattle.vms_check_laws.proofs.Settling.{Settled}
+use Rattle.vms_check_laws.proofs.Linking.{defaults_size, carry_field_size}
+use Rattle.vms_check_laws.proofs.Premises.{Table, NewFields, RulesNamed, SettledTable}
+use Rattle.vms_check_laws.proofs.Descriptions.{desc_carries, desc_settles}
+use Rattle.vms_check_laws.proofs.Counts.{OldPlains, old_fields}
+
+-- what is asked of old's structures, and of new's: each uses those before it
+pub record OldStruct (j : ℕ) (d : Desc) : Type 0 where
+  pub fields : OldPlains j d.fields d.fields
+
+pub record NewStruct (j : ℕ) (d : Desc) : Type 0 where
+  pub fields : NewFields j (is_steady_in d) d.fields
+  pub rules : RulesNamed (is_steady_in d) d.validate
+
+pub plain_below : (k : ℕ) (all fs : List Field) → OldPlains k all fs → FieldsBelow k fs
+plain_below k all [] h = tt
+plain_below k all (f ∷ fs) h = (h.0.item, plain_below k all fs h.1)
+
+pub new_below : (k : ℕ) (ok : ℕ → Bool) (fs : List Field) → NewFields k ok fs → FieldsBelow k fs
+new_below k ok [] h = tt
+new_below k ok (f ∷ fs) h = (h.0.item, new_below k ok fs h.1)
+
+item_further : (j k : ℕ) (i : Item) → j ≤ k → ItemBelow j i → ItemBelow k i
+item_further j k (Num kind) le h = tt
+item_further j k (Equal kind z) le h = tt
+item_further j k (Unused n) le h = tt
+item_further j k (Struct i) le h = omega (arith, h)
+
+pub plains_further : (j k : ℕ) (all fs : List Field) → j ≤ k → OldPlains j all fs → OldPlains k all fs
+plains_further j k all [] le h = tt
+plains_further j k all (f ∷ fs) le h = (record { item = item_further j k f.item le h.0.item; single = h.0.single; count = h.0.count }, plains_further j k all fs le h.1)
+
+abbrev pub OldStructs : List Desc → Type 0
+OldStructs olds = (i : ℕ) → i < length olds → OldStruct i (get_or olds i no_desc)
+
+abbrev pub NewStructs : List Desc → Type 0
+NewStructs news = (j : ℕ) → j < length news → NewStruct j (get_or news j no_desc)
+
+-- ---- the rows of the tables, one more and the earlier ones
+
+module _ (x y : List (List Cell)) (olds news : List Desc) where
+  pub comparer_last : (k : ℕ) → get_or (comparers x y olds news (suc k)) k no_comparer ≡ comparer_of (comparers x y olds news k) x y olds k (get_or news k no_desc)
+  comparer_last k =
+      let row = λ (earlier : List Comparer) (d : Desc). comparer_of earlier x y olds (length earlier) d in
+      first_at row news no_comparer (suc k) k (omega arith) ∙ ap (λ (q : ℕ). comparer_of (comparers x y olds news k) x y olds q (get_or news k no_desc)) (first_long row news k)
+
+  pub comparer_earlier : (k j : ℕ) → j < k → get_or (comparers x y olds news (suc k)) j no_comparer ≡ get_or (comparers x y olds news k) j no_comparer
+  comparer_earlier k j h =
+      let row = λ (earlier : List Comparer) (d : Desc). comparer_of earlier x y olds (length earlier) d in
+      first_at row news no_comparer (suc k) j (omega arith) ∙ sym (first_at row news no_comparer k j h)
+
+  pub carrier_last : (k : ℕ) → get_or (carriers x y olds news (suc k)) k no_carrier ≡ carrier_of (carriers x y olds news k) x y olds (get_or news k no_desc)
+  carrier_last k = first_at (λ (earlier : List Carrier) (d : Desc). carrier_of earlier x y olds d) news no_carrier (suc k) k (omega arith)
+
+  pub carrier_earlier : (k j : ℕ) → j < k → get_or (carriers x y olds news (suc k)) j no_carrier ≡ get_or (carriers x y olds news k) j no_carrier
+  carrier_earlier k j h =
+      let row = λ (earlier : List Carrier) (d : Desc). carrier_of earlier x y olds d in
+      first_at row news no_carrier (suc k) j (omega arith) ∙ sym (first_at row news no_carrier k j h)
+
+module _ (olds news : List Desc) (numbers numbers' : List ℤ) where
+  abbrev ms : List Meaning
+  ms = meanings olds (length olds)
+
+  abbrev ns : List Meaning
+  ns = meanings news (length news)
+
+  abbrev x : List (List Cell)
+  x = cells_in ms
+
+  abbrev y : List (List Cell)
+  y = cells_in ns
+
+  abbrev ks : ℕ → List Comparer
+  ks k = comparers x y olds news k
+
+  abbrev cs : ℕ → List Carrier
+  cs k = carriers x y olds news k
+
+  abbrev pub KnownTable : ℕ → Type 0
+  KnownTable k = Table (ks k) (cs k) ms ns numbers numbers' (length olds) k
+
+  -- what is carried of a description is as long as its cells
+  module _ (k : ℕ) (table : KnownTable k) (a b : Desc) (v w at : ℕ) where
+    abbrev own : ℕ → ℕ
+    own i = numbers_of x a numbers at i
+
+    next_size : (i : ℕ) (g : Field) (pr : Option (Option Formula)) (es : List Entry) → ItemBelow k g.item
+        → length (carry_next (cs k) x y numbers own v at b.fields i g pr es) ≡ length (field_cells y b.fields i g)
+    next_size i g None es lt = defaults_size (field_cells y b.fields i g)
+    next_size i g (Some rest) [] lt = defaults_size (field_cells y b.fields i g)
+    next_size i g (Some rest) (e ∷ es) lt =
+        carry_field_size (ks k) a b v w (parts.Struct 0) (parts.Struct 0) (λ _. None) (λ _. None) (cs k) x y numbers numbers' own at 0 k table.sized e b.fields i g lt
+
+    from_size : (i : ℕ) (gs : List Field) (es : List Entry) → FieldsBelow k gs
+        → length (carry_from (cs k) x y numbers own v w at b.fields i gs es) ≡ length (cells_from y b.fields i gs)
+    from_size i [] es lt = refl
+    from_size i (g ∷ gs) es lt =
+        let pr = presence w g.test g.since in
+        let first = carry_next (cs k) x y numbers own v at b.fields i g pr es in
+        let more = carry_from (cs k) x y numbers own v w at b.fields (suc i) gs (entries_left (cs k) x y numbers pr es) in
+        length-append first more
+        ∙ ap (λ (n : ℕ). n + length more) (next_size i g pr es lt.0)
+        ∙ ap (λ (n : ℕ). length (field_cells y b.fields i g) + n) (from_size (suc i) gs (entries_left (cs k) x y numbers pr es) lt.1)
+        ∙ sym (length-append (field_cells y b.fields i g) (cells_from y b.fields (suc i) gs))
+
+    pub carry_desc_size : FieldsBelow k b.fields → length (carry_desc (cs k) x y numbers v w a b at) ≡ length (desc_cells y b)
+    carry_desc_size lt = from_size 0 b.fields (present x a v) lt
+
+  module _ (old : OldStructs olds) (new : NewStructs news) where
+    abbrev old_at : ℕ → Desc
+    old_at i = get_or olds i no_desc
+
+    abbrev new_at : ℕ → Desc
+    new_at j = get_or news j no_desc
+
+    sized_next : (k : ℕ) → k < length news → KnownTable k → (j i p : ℕ) → j < suc k → length (get_or (cs (suc k)) j no_carrier i numbers p) ≡ length (get_or y j [])
+    sized_next k lt table j i p h =
+        let le : j ≤ k = omega arith in
+        let below = new_below k (is_steady_in (new_at k)) (new_at k).fields (new k lt).fields in
+        let last : length (get_or (cs (suc k)) k no_carrier i numbers p) ≡ length (get_or y k []) =
+        ap (λ (c : Carrier). length (c i numbers p)) (carrier_last x y olds news k)
+        ∙ carry_desc_size k table (old_at i) (new_at k) (old_at i).version (new_at k).version p below
+        ∙ sym (ap (λ (l : List Cell). length l) (struct_cells_at news (length news) k lt below)) in
+        let go : (j ≡ k) ⊎ (j < k) → length (get_or (cs (suc k)) j no_carrier i numbers p) ≡ length (get_or y j []) = elim [
+          | inl same ↦ subst (λ (q : ℕ). length (get_or (cs (suc k)) q no_carrier i numbers p) ≡ length (get_or y q [])) (sym same) last
+          | inr less ↦ ap (λ (c : Carrier). length (c i numbers p)) (carrier_earlier x y olds news k j less) ∙ table.sized j i p less
+        ] in
+        go (eq-or-lt_of_le le)
+
+    abbrev Carried : ℕ → ℕ → ℕ → Type 0
+    Carried k i j = get_or (ks k) j no_comparer i ≡ None → (p q : ℕ) → FitsAt (get_or x i []) numbers p
+        → Holds numbers' q (get_or (cs k) j no_carrier i numbers p) → Carries numbers ((get_or ms i no_meaning).slots numbers p) numbers' ((get_or ns j no_meaning).slots numbers' q)
+
+    carried_last : (k : ℕ) → k < length news → KnownTable k → (i : ℕ) → i < length olds → Carried (suc k) i k
+    carried_last k lt table i lt_i none p q fits held =
+        let a = old_at i in
+        let b = new_at k in
+        let below_a = plain_below i a.fields a.fields (old i lt_i).fields in
+        let below_b = new_below k (is_steady_in b) b.fields (new k lt).fields in
+        let none' : compare_desc (ks k) x y a b a.version b.version (parts.Struct i) (parts.Struct k) ≡ None =
+        subst (λ (c : Comparer). c i ≡ None) (comparer_last x y olds news k) none in
+        let fits' : FitsAt (desc_cells x a) numbers p = subst (λ (l : List Cell). FitsAt l numbers p) (struct_cells_at olds (length olds) i lt_i below_a) fits in
+        let held' : Holds numbers' q (carry_desc (cs k) x y numbers a.version b.version a b p) = subst (λ (c : Carrier). Holds numbers' q (c i numbers p)) (carrier_last x y olds news k) held in
+        let plain = plains_further i (length olds) a.fields a.fields (omega arith) (old i lt_i).fields in
+        let done = desc_carries (ks k) (cs k) ms ns a b a.version b.version (parts.Struct i) (parts.Struct k) numbers numbers' p q (length olds) k table none'
+        (old_fields x (length olds) a.fields numbers p fits' a.fields (λ by most h. h) plain) (new k lt).fields (new k lt).rules fits' held' in
+        subst (λ (l : List Slot). Carries numbers l numbers' ((get_or ns k no_meaning).slots numbers' q)) (sym (struct_slots olds (length olds) i numbers p lt_i below_a))
+        (subst (λ (l : List Slot). Carries numbers (desc_slots ms a a.version numbers p) numbers' l) (sym (struct_slots news (length news) k numbers' q lt below_b)) done)
+
+    carried_earlier : (k : ℕ) → KnownTable k → (i j : ℕ) → i < length olds → j < k → Carried (suc k) i j
+    carried_earlier k table i j lt_i lt_j none p q fits held =
+        table.carried i j lt_i lt_j (subst (λ (c : Comparer). c i ≡ None) (comparer_earlier x y olds news k j lt_j) none) p q fits
+        (subst (λ (c : Carrier). Holds numbers' q (c i numbers p)) (carrier_earlier x y olds news k j lt_j) held)
+
+    carried_next : (k : ℕ) → k < length news → KnownTable k → (i j : ℕ) → i < length olds → j < suc k → Carried (suc k) i j
+    carried_next k lt table i j lt_i lt_j =
+        let le : j ≤ k = omega arith in
+        let go : (j ≡ k) ⊎ (j < k) → Carried (suc k) i j = elim [
+          | inl same ↦ subst (λ (q : ℕ). Carried (suc k) i q) (sym same) (carried_last k lt table i lt_i)
+          | inr less ↦ carried_earlier k table i j lt_i less
+        ] in
+        go (eq-or-lt_of_le le)
+
+    pub tables : (k : ℕ) → k ≤ length news → KnownTable k
+    tables zero le = record { sized = λ j i p lt. absurd (omega arith); carried = λ i j lt_i lt_j none p q fits held. absurd (omega arith) }
+    tables (suc k) le =
+        let lt : k < length news = omega arith in
+        let table = tables k (omega arith) in
+        record { sized = sized_next k lt table; carried = λ i j lt_i lt_j none p q fits held. carried_next k lt table i j lt_i lt_j none p q fits held }
+
+    -- the same for what doesn't stand in the bytes
+    abbrev Row : ℕ → ℕ → ℕ → Type 0
+    Row k i j = get_or (ks k) j no_comparer i ≡ None → (p q : ℕ) → FitsAt (get_or x i []) numbers p
+        → Holds numbers' q (get_or (cs k) j no_carrier i numbers p) → Settled ((get_or ns j no_meaning).slots numbers' q) q (get_or y j []) (get_or (cs k) j no_carrier i numbers p)
+
+    abbrev pub KnownRows : ℕ → Type 0
+    KnownRows k = SettledTable (ks k) (cs k) ms ns numbers numbers' (length olds) k
+
+    row_last : (k : ℕ) → k < length news → KnownTable k → KnownRows k → (i : ℕ) → i < length olds → Row (suc k) i k
+    row_last k lt table rows i lt_i none p q fits held =
+        let a = old_at i in
+        let b = new_at k in
+        let below_a = plain_below i a.fields a.fields (old i lt_i).fields in
+        let below_b = new_below k (is_steady_in b) b.fields (new k lt).fields in
+        let none' : compare_desc (ks k) x y a b a.version b.version (parts.Struct i) (parts.Struct k) ≡ None =
+        subst (λ (c : Comparer). c i ≡ None) (comparer_last x y olds news k) none in
+        let fits' : FitsAt (desc_cells x a) numbers p = subst (λ (l : List Cell). FitsAt l numbers p) (struct_cells_at olds (length olds) i lt_i below_a) fits in
+        let carried = carry_desc (cs k) x y numbers a.version b.version a b p in
+        let held' : Holds numbers' q carried = subst (λ (c : Carrier). Holds numbers' q (c i numbers p)) (carrier_last x y olds news k) held in
+        let plain = plains_further i (length olds) a.fields a.fields (omega arith) (old i lt_i).fields in
+        let done = desc_settles (ks k) (cs k) ms ns a b a.version b.version (parts.Struct i) (parts.Struct k) numbers numbers' p q (length olds) k table rows none'
+        (old_fields x (length olds) a.fields numbers p fits' a.fields (λ by most h. h) plain) (new k lt).fields fits' held' in
+        subst (λ (c : Carrier). Settled ((get_or ns k no_meaning).slots numbers' q) q (get_or y k []) (c i numbers p)) (sym (carrier_last x y olds news k))
+        (subst (λ (l : List Cell). Settled ((get_or ns k no_meaning).slots numbers' q) q l carried) (sym (struct_cells_at news (length news) k lt below_b))
+        (subst (λ (l : List Slot). Settled l q (desc_cells y b) carried) (sym (struct_slots news (length news) k numbers' q lt below_b)) done))
+
+    row_earlier : (k : ℕ) → KnownRows k → (i j : ℕ) → i < length olds → j < k → Row (suc k) i j
+    row_earlier k rows i j lt_i lt_j none p q fits held =
+        subst (λ (c : Carrier). Settled ((get_or ns j no_meaning).slots numbers' q) q (get_or y j []) (c i numbers p)) (sym (carrier_earlier x y olds news k j lt_j))
+        (rows i j lt_i lt_j (subst (λ (c : Comparer). c i ≡ None) (comparer_earlier x y olds news k j lt_j) none) p q fits
+        (subst (λ (c : Carrier). Holds numbers' q (c i numbers p)) (carrier_earlier x y olds news k j lt_j) held))
+
+    row_next : (k : ℕ) → k < length news → KnownTable k → KnownRows k → (i j : ℕ) → i < length olds → j < suc k → Row (suc k) i j
+    row_next k lt table rows i j lt_i lt_j =
+        let le : j ≤ k = omega arith in
+        let go : (j ≡ k) ⊎ (j < k) → Row (suc k) i j = elim [
+          | inl same ↦ subst (λ (q : ℕ). Row (suc k) i q) (sym same) (row_last k lt table rows i lt_i)
+          | inr less ↦ row_earlier k rows i j lt_i less
+        ] in
+        go (eq-or-lt_of_le le)
+
+    pub settled_tables : (k : ℕ) → k ≤ length news → KnownRows k
+    settled_tables zero le i j lt_i lt_j none p q fits held = absurd (omega arith)
+    settled_tables (suc k) le i j lt_i lt_j none p q fits held =
+        let lt : k < length news = omega arith in
+        row_next k lt (tables k (omega arith)) (settled_tables k (omega arith)) i j lt_i lt_j none p q fits held

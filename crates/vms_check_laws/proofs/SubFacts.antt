@@ -1,0 +1,197 @@
+-- What two well-formed sets without a mismatch give for each subsection of new.
+use Rattle.std.proofs.Common.{◌≡◌, ◌⊎◌, inl, inr, ℕ, zero, suc, ◌+◌, ◌≤◌, Bool, true, false, List, [], ◌∷◌, length, get_or, Option, Some, None, refl, sym, ap, ◌∙◌, subst, arith, ℤ, pos, if◌then◌else◌, nat_le}
+use Rattle.std.specs.Str.{bytes_eq}
+use Rattle.std.specs.List.{flat_map, slice_get}
+use Rattle.std.proofs.lemmas.Slice.Eq.{bytes_eq-Decides}
+use Rattle.std.proofs.lemmas.Bool.{and_parts, leb-true}
+use Rattle.vms_spec.specs.declared.Part.TheVariants as parts
+use Rattle.vms_spec.specs.Lists.{first_answer}
+use Rattle.vms_spec.specs.Sets.{Sub, Device, Set}
+use Rattle.vms_spec.specs.Layout.{Cell, no_cell, struct_cells, desc_cells, device_cells}
+use Rattle.vms_spec.specs.Images.{Image, FitsCell, FitCells, AreVersionsOf, RulesHold, own_slots, own_cells, sub_slots, sub_place, came_slots}
+use Rattle.vms_spec.specs.Streams.{IsReady, ComeAsNeeded}
+use Rattle.vms_spec.specs.Lookup.{find_sub, index}
+use Rattle.vms_spec.specs.Readiness.{is_version_of}
+use Rattle.vms_spec.specs.WellFormed.{WellFormed, here}
+use Rattle.vms_check.specs.Comparing.{failing_pair, comparing, compare_sub, compare_subs}
+use Rattle.vms_check.specs.Carrying.{carried_sub, carry_sub, sub_came, defaults}
+use Rattle.vms_spec.proofs.WellFormedLaws.{sub_found}
+use Rattle.vms_check_laws.specs.Laws.{IsSaved}
+use Rattle.vms_check_laws.specs.Segments.{FitsAt}
+use Rattle.vms_check_laws.proofs.Segments.{fits_left, fits_right, rules_left, rules_right}
+use Rattle.vms_spec.proofs.Faultless.{or_else_none}
+use Rattle.vms_check_laws.proofs.Pairing.{first_good}
+use Rattle.vms_check_laws.proofs.Good.{sub_good}
+use Rattle.vms_check_laws.proofs.Parts.{good_cells}
+use Rattle.vms_check_laws.proofs.Subsections.{Came, Stayed, Facts}
+
+-- where there is no first answer, the one on each has none
+pub none_at : {A B : Type 0} (f : ℕ → A → Option B) (i : ℕ) (xs : List A) (j : ℕ) (x : A) → first_answer f i xs ≡ None → slice_get xs j ≡ Some x → f (i + j) x ≡ None
+none_at f i [] j x h e = absurd (cc)
+none_at f i (y ∷ xs) zero x h e =
+    let same : y ≡ x = cc in
+    let z : i ≡ i + 0 = omega arith in
+    subst (λ u. f (i + 0) u ≡ None) same (subst (λ (n : ℕ). f n y ≡ None) z (or_else_none (f i y) (first_answer f (suc i) xs) h).0)
+none_at f i (y ∷ xs) (suc j) x h e =
+    let z : suc i + j ≡ i + suc j = omega arith in
+    subst (λ (n : ℕ). f n x ≡ None) z (none_at f (suc i) xs j x (or_else_none (f i y) (first_answer f (suc i) xs) h).1 e)
+
+pub record Found (subs : List Sub) (name : List ℕ) (j : ℕ) : Type 0 where
+  pub sub : Sub
+  pub stands : slice_get subs j ≡ Some sub
+  pub is : sub.desc.name ≡ name
+
+pub found_named : (k : ℕ) (subs : List Sub) (name : List ℕ) (r : ℕ) → find_sub k subs name ≡ Some r → (j : ℕ) × (r ≡ k + j) × Found subs name j
+found_named k [] name r h = absurd (cc)
+found_named k (s ∷ subs) name r h =
+    let choice : (c : Bool) → bytes_eq s.desc.name name ≡ c → (if c then Some k else find_sub (suc k) subs name) ≡ Some r → (j : ℕ) × (r ≡ k + j) × Found (s ∷ subs) name j = elim [
+      | true ↦ λ e g. let same : k ≡ r = cc in (0, omega (arith, same), record { sub = s; stands = refl; is = (bytes_eq-Decides s.desc.name name).0 e })
+      | false ↦ λ e g. let f = found_named (suc k) subs name r g in (suc f.0, omega (arith, f.1), record { sub = f.2.sub; stands = f.2.stands; is = f.2.is })
+    ] in
+    choice (bytes_eq s.desc.name name) refl h
+
+pub fits_whole : (cells : List Cell) (numbers : List ℤ) → FitCells cells numbers → FitsAt cells numbers 0
+fits_whole cells numbers h = record {
+  each = λ c lt.
+      let z : c ≡ 0 + c = omega arith in
+      subst (λ (k : ℕ). FitsCell (get_or cells c no_cell) (get_or numbers k (pos 0))) z (h.fits c lt);
+}
+
+pub came_at : (subs : List Sub) (came : List (Option ℕ)) (j : ℕ) (s : Sub) → AreVersionsOf subs came → slice_get subs j ≡ Some s → (o : Option ℕ) × (slice_get came j ≡ Some o)
+came_at [] came j s h e = absurd (cc)
+came_at (x ∷ subs) [] j s h e = absurd h
+came_at (x ∷ subs) (o ∷ came) zero s h e = (o, refl)
+came_at (x ∷ subs) (None ∷ came) (suc j) s h e = came_at subs came j s h e
+came_at (x ∷ subs) (Some v ∷ came) (suc j) s h e = came_at subs came j s h.1 e
+
+pub come_version : (set : Set) (d : Device) (image : Image) (k : ℕ) (subs : List Sub) (came : List (Option ℕ)) (j : ℕ) (s : Sub) (v : ℕ) → ComeAsNeeded set d image k subs came
+    → slice_get subs j ≡ Some s → slice_get came j ≡ Some (Some v) → v ≡ s.desc.version
+come_version set d image k [] came j s v h e e' = absurd (cc)
+come_version set d image k (x ∷ subs) [] j s v h e e' = absurd h
+come_version set d image k (x ∷ subs) (None ∷ came) zero s v h e e' = absurd (cc)
+come_version set d image k (x ∷ subs) (Some u ∷ came) zero s v h e e' =
+    let same : x ≡ s = cc in
+    let same' : u ≡ v = cc in
+    sym same' ∙ h.1 ∙ ap (λ (y : Sub). y.desc.version) same
+come_version set d image k (x ∷ subs) (None ∷ came) (suc j) s v h e e' = come_version set d image (suc k) subs came j s v h.1 e e'
+come_version set d image k (x ∷ subs) (Some u ∷ came) (suc j) s v h e e' = come_version set d image (suc k) subs came j s v h.2 e e'
+
+-- a ready image is a saved one
+pub saved : (set : Set) (d : Device) (image : Image) → IsReady set d image → IsSaved set d image
+saved set d image r = record {
+  normal = r.normal;
+  valid = r.valid;
+  version = r.version;
+  subs = λ j s v at_j at_came. come_version set d image 0 d.subs image.came j s v r.needed at_j at_came;
+}
+
+pub sub_fits : (set : Set) (numbers : List ℤ) (place : ℕ) (subs : List Sub) (j : ℕ) (s : Sub) → FitsAt (flat_map (λ u. desc_cells (struct_cells set) u.desc) subs) numbers place → slice_get subs j ≡ Some s
+    → FitsAt (desc_cells (struct_cells set) s.desc) numbers (sub_place set place subs j)
+sub_fits set numbers place [] j s h e = absurd (cc)
+sub_fits set numbers place (x ∷ subs) zero s h e =
+    let same : x ≡ s = cc in
+    subst (λ (u : Sub). FitsAt (desc_cells (struct_cells set) u.desc) numbers place) same
+    (fits_left (desc_cells (struct_cells set) x.desc) (flat_map (λ u. desc_cells (struct_cells set) u.desc) subs) numbers place h)
+sub_fits set numbers place (x ∷ subs) (suc j) s h e =
+    sub_fits set numbers (place + length (desc_cells (struct_cells set) x.desc)) subs j s
+    (fits_right (desc_cells (struct_cells set) x.desc) (flat_map (λ u. desc_cells (struct_cells set) u.desc) subs) numbers place h) e
+
+pub sub_rules_hold : (set : Set) (d : Device) (numbers : List ℤ) (place : ℕ) (subs : List Sub) (came : List (Option ℕ)) (j : ℕ) (s : Sub) (v : ℕ) → RulesHold (came_slots set d numbers place subs came)
+    → slice_get subs j ≡ Some s → slice_get came j ≡ Some (Some v) → RulesHold (sub_slots set s v numbers (sub_place set place subs j))
+sub_rules_hold set d numbers place [] came j s v h e e' = absurd (cc)
+sub_rules_hold set d numbers place (x ∷ subs) [] j s v h e e' = absurd (cc)
+sub_rules_hold set d numbers place (x ∷ subs) (None ∷ came) zero s v h e e' = absurd (cc)
+sub_rules_hold set d numbers place (x ∷ subs) (Some u ∷ came) zero s v h e e' =
+    let same : x ≡ s = cc in
+    let same' : u ≡ v = cc in
+    let one = rules_left (sub_slots set x u numbers place) (came_slots set d numbers (place + length (desc_cells (struct_cells set) x.desc)) subs came) h in
+    subst (λ (y : Sub). RulesHold (sub_slots set y v numbers place)) same (subst (λ (w : ℕ). RulesHold (sub_slots set x w numbers place)) same' one)
+sub_rules_hold set d numbers place (x ∷ subs) (None ∷ came) (suc j) s v h e e' = sub_rules_hold set d numbers (place + length (desc_cells (struct_cells set) x.desc)) subs came j s v h e e'
+sub_rules_hold set d numbers place (x ∷ subs) (Some u ∷ came) (suc j) s v h e e' =
+    sub_rules_hold set d numbers (place + length (desc_cells (struct_cells set) x.desc)) subs came j s v
+    (rules_right (sub_slots set x u numbers place) (came_slots set d numbers (place + length (desc_cells (struct_cells set) x.desc)) subs came) h) e e'
+
+module _ (old new : Set) (good_old : WellFormed old) (good_new : WellFormed new) (i k : ℕ) (d e : Device) (at_i : slice_get old.devices i ≡ Some d) (at_k : slice_get new.devices k ≡ Some e)
+    (none : first_answer (compare_subs old new i k e) 0 d.subs ≡ None) (image : Image) (ready : IsSaved old d image) (numbers' : List ℤ) where
+  abbrev pub came_of : Sub → Option ℕ
+  came_of t = sub_came old new (find_sub 0 d.subs t.desc.name) (slice_get image.came (index (find_sub 0 d.subs t.desc.name)))
+
+  abbrev FactOf : Sub → Type 0
+  FactOf t = Stayed old new good_old good_new d e image numbers' came_of t ⊎ Came old new good_old good_new d e image numbers' came_of t
+
+  stayed : (l : ℕ) (t : Sub) → slice_get e.subs l ≡ Some t → came_of t ≡ None → carried_sub old new d image t ≡ defaults (desc_cells (struct_cells new) t.desc) → FactOf t
+  stayed l t at_l h is = inl (record { came = h; numbers = is; good = good_cells old new good_old good_new t.desc (sub_good new good_new k l e t at_k at_l) })
+
+  pub compared : (j l : ℕ) (s t : Sub) → slice_get d.subs j ≡ Some s → slice_get e.subs l ≡ Some t → s.desc.name ≡ t.desc.name
+      → (is_version_of t.desc s.desc.version ≡ true) × (comparing old new s.desc t.desc s.desc.version (parts.Sub i j) (parts.Sub k l) ≡ None)
+  compared j l s t at_j at_l names =
+      let z : 0 + j ≡ j = omega arith in
+      let at_s : compare_subs old new i k e j s ≡ None = subst (λ (n : ℕ). compare_subs old new i k e n s ≡ None) z (none_at (compare_subs old new i k e) 0 d.subs j s none at_j) in
+      let found : find_sub 0 e.subs s.desc.name ≡ Some l =
+      ap (λ (n : List ℕ). find_sub 0 e.subs n) names ∙ sub_found new good_new k l e t at_k at_l in
+      let at_l' : compare_sub old new i k j s (Some l) (slice_get e.subs l) ≡ None = subst (λ (r : Option ℕ). compare_sub old new i k j s r (slice_get e.subs (index r)) ≡ None) found at_s in
+      let at_t : compare_sub old new i k j s (Some l) (Some t) ≡ None = subst (λ (r : Option Sub). compare_sub old new i k j s (Some l) r ≡ None) at_l at_l' in
+      let p = or_else_none (failing_pair ((14, is_version_of t.desc s.desc.version) ∷ []) (here (parts.Sub i j)) (here (parts.Sub k l))) _ at_t in
+      ((first_good 14 (is_version_of t.desc s.desc.version) [] (here (parts.Sub i j)) (here (parts.Sub k l)) p.0).0, p.1)
+
+  abbrev pub came_is : (j l : ℕ) (s t : Sub) (v : ℕ) → slice_get d.subs j ≡ Some s → slice_get e.subs l ≡ Some t → s.desc.name ≡ t.desc.name → slice_get image.came j ≡ Some (Some v) → find_sub 0 d.subs t.desc.name ≡ Some j → Came old new good_old good_new d e image numbers' came_of t
+  came_is j l s t v at_j at_l names at_came found =
+      let c = compared j l s t at_j at_l names in
+      let v_is : v ≡ s.desc.version = ready.subs j s v at_j at_came in
+      let versions = and_parts (nat_le t.desc.minimum s.desc.version) (nat_le s.desc.version t.desc.version) c.0 in
+      let low : t.desc.minimum ≤ v = omega (arith, leb-true t.desc.minimum s.desc.version versions.0, v_is) in
+      let high : v ≤ t.desc.version = omega (arith, leb-true s.desc.version t.desc.version versions.1, v_is) in
+      let z : 0 + own_cells old d ≡ own_cells old d = omega arith in
+      let whole : FitsAt (device_cells old d) image.numbers 0 = fits_whole (device_cells old d) image.numbers ready.normal.cells in
+      let subs_fit : FitsAt (flat_map (λ u. desc_cells (struct_cells old) u.desc) d.subs) image.numbers (own_cells old d) =
+      subst (λ (q : ℕ). FitsAt (flat_map (λ u. desc_cells (struct_cells old) u.desc) d.subs) image.numbers q) z
+      (fits_right (desc_cells (struct_cells old) d.desc) (flat_map (λ u. desc_cells (struct_cells old) u.desc) d.subs) image.numbers 0 whole) in
+      let subs_hold = rules_right (own_slots old d image.version image.numbers) (came_slots old d image.numbers (own_cells old d) d.subs image.came) ready.valid in
+      record {
+        sub = s;
+        version = v;
+        place = sub_place old (own_cells old d) d.subs j;
+        part = parts.Sub i j;
+        part' = parts.Sub k l;
+        came = ap (λ (r : Option ℕ). sub_came old new r (slice_get image.came (index r))) found ∙ ap (λ (r : Option (Option ℕ)). sub_came old new (Some j) r) at_came;
+        numbers = ap (λ (r : Option ℕ). carry_sub old new d image t r (slice_get d.subs (index r)) (slice_get image.came (index r))) found
+            ∙ ap (λ (r : Option Sub). carry_sub old new d image t (Some j) r (slice_get image.came j)) at_j
+            ∙ ap (λ (r : Option (Option ℕ)). carry_sub old new d image t (Some j) (Some s) r) at_came;
+        good = sub_good old good_old i j d s at_i at_j;
+        good' = sub_good new good_new k l e t at_k at_l;
+        same = subst (λ (u : ℕ). comparing old new s.desc t.desc u (parts.Sub i j) (parts.Sub k l) ≡ None) (sym v_is) c.1;
+        fits = sub_fits old image.numbers (own_cells old d) d.subs j s subs_fit at_j;
+        rules = sub_rules_hold old d image.numbers (own_cells old d) d.subs image.came j s v subs_hold at_j at_came;
+        within = (low, high);
+      }
+
+  fact : (l : ℕ) (t : Sub) → slice_get e.subs l ≡ Some t → FactOf t
+  fact l t at_l = by_found (find_sub 0 d.subs t.desc.name) refl where
+    by_came : (j : ℕ) (s : Sub) (o : Option ℕ) → slice_get d.subs j ≡ Some s → s.desc.name ≡ t.desc.name → slice_get image.came j ≡ Some o → find_sub 0 d.subs t.desc.name ≡ Some j → FactOf t
+    by_came j s None at_j names at_came found = stayed l t at_l
+        (ap (λ (r : Option ℕ). sub_came old new r (slice_get image.came (index r))) found ∙ ap (λ (r : Option (Option ℕ)). sub_came old new (Some j) r) at_came)
+        (ap (λ (r : Option ℕ). carry_sub old new d image t r (slice_get d.subs (index r)) (slice_get image.came (index r))) found
+        ∙ ap (λ (r : Option Sub). carry_sub old new d image t (Some j) r (slice_get image.came j)) at_j
+        ∙ ap (λ (r : Option (Option ℕ)). carry_sub old new d image t (Some j) (Some s) r) at_came)
+    by_came j s (Some v) at_j names at_came found = inr (came_is j l s t v at_j at_l names at_came found)
+
+    by_found : (r : Option ℕ) → find_sub 0 d.subs t.desc.name ≡ r → FactOf t
+    by_found None h = stayed l t at_l
+        (ap (λ (r : Option ℕ). sub_came old new r (slice_get image.came (index r))) h)
+        (ap (λ (r : Option ℕ). carry_sub old new d image t r (slice_get d.subs (index r)) (slice_get image.came (index r))) h)
+    by_found (Some r) h =
+        let f = found_named 0 d.subs t.desc.name r h in
+        let j_is : f.0 ≡ r = omega (arith, f.1) in
+        let stands : slice_get d.subs r ≡ Some f.2.sub = subst (λ (n : ℕ). slice_get d.subs n ≡ Some f.2.sub) j_is f.2.stands in
+        let c = came_at d.subs image.came r f.2.sub ready.normal.subs stands in
+        by_came r f.2.sub c.0 stands f.2.is c.1 h
+
+  facts_from : (l : ℕ) (ts : List Sub) → ((m : ℕ) → slice_get e.subs (l + m) ≡ slice_get ts m) → Facts old new good_old good_new d e image numbers' came_of ts
+  facts_from l [] h = tt
+  facts_from l (t ∷ ts) h =
+      let z : l + 0 ≡ l = omega arith in
+      (fact l t (ap (λ (n : ℕ). slice_get e.subs n) (sym z) ∙ h 0), facts_from (suc l) ts (λ m. let s : suc l + m ≡ l + suc m = omega arith in ap (λ (n : ℕ). slice_get e.subs n) s ∙ h (suc m)))
+
+  -- all subsections of new
+  pub facts : Facts old new good_old good_new d e image numbers' came_of e.subs
+  facts = facts_from 0 e.subs (λ m. let s : 0 + m ≡ m = omega arith in ap (λ (n : ℕ). slice_get e.subs n) s)

@@ -1,0 +1,289 @@
+-- A device with subsections: what the older set writes is a section of the newer with the carried image.
+use Rattle.std.proofs.Common.{◌≡◌, ◌⊎◌, inl, inr, ℕ, zero, suc, ◌+◌, ◌<◌, true, false, List, [], ◌∷◌, ◌++◌, length, map, get_or, Option, Some, None, refl, sym, ap, ◌∙◌, subst, arith, ℤ, pos}
+use Rattle.std.specs.List.{flat_map, slice_get}
+use Rattle.vms_spec.specs.declared.Part.{Part}
+use Rattle.vms_spec.specs.Lists.{first_answer}
+use Rattle.vms_spec.specs.Sets.{Sub, Device, Set}
+use Rattle.vms_spec.specs.Layout.{Slot, no_cell, struct_cells, desc_cells, device_cells}
+use Rattle.vms_spec.specs.Images.{Image, IsVersionOf, zeroed, own_slots, own_cells, sub_slots, sub_place, came_slots, has_cell}
+use Rattle.vms_stream.specs.Streams.{IsSection}
+use Rattle.vms_spec.specs.Streams.{SubSpells, SubsSpell, ComesOnce, sub_head, section_head, foot, written_subs, written_section}
+use Rattle.vms_spec.specs.Lookup.{find_sub, index}
+use Rattle.vms_spec.specs.Readiness.{is_version_of}
+use Rattle.vms_spec.specs.WellFormed.{WellFormed}
+use Rattle.vms_check.specs.Comparing.{comparing, compare_sub, compare_subs}
+use Rattle.vms_check.specs.Carrying.{carrying, carried_sub, carried_device, defaults, sub_came}
+use Rattle.vms_spec.proofs.WellFormedLaws.{sub_found}
+use Rattle.vms_bodies.proofs.SectionLaws.{defaults_at}
+use Rattle.vms_bodies.proofs.ReadyLaws.{version_is}
+use Rattle.vms_check_laws.specs.Laws.{IsSaved}
+use Rattle.vms_check_laws.specs.Segments.{Holds, FitsAt}
+use Rattle.vms_check_laws.proofs.Segments.{holds_left, holds_right, holds_at, fits_left, rules_left, rules_both}
+use Rattle.vms_check_laws.proofs.Settling.{Settled, settled_append, settled_at}
+use Rattle.vms_check_laws.proofs.Fitting.{fit_append, fit_length, are_fit}
+use Rattle.vms_check_laws.proofs.Good.{device_good}
+use Rattle.vms_check_laws.proofs.Parts.{part_carries, part_fits, part_settles}
+use Rattle.vms_check_laws.proofs.Orders.{Among, NotIn, Apart, Come, comes_once}
+use Rattle.vms_check_laws.proofs.Subsections.{Came, Facts, subs_fit, subs_versions, subs_rules, subs_settle, sub_held, sub_carries}
+use Rattle.vms_check_laws.proofs.SubFacts.{none_at, found_named, fits_whole, came_of, came_is, facts}
+
+at_map : {A B : Type 0} (f : A → B) (xs : List A) (j : ℕ) (x : A) → slice_get xs j ≡ Some x → slice_get (map f xs) j ≡ Some (f x)
+at_map f [] j x e = absurd (cc)
+at_map f (y ∷ xs) zero x e = let same : y ≡ x = cc in ap (λ u. Some (f u)) same
+at_map f (y ∷ xs) (suc j) x e = at_map f xs j x e
+
+holds_whole : (numbers : List ℤ) → Holds numbers 0 numbers
+holds_whole numbers = record { each = λ c lt. let z : 0 + c ≡ c = omega arith in ap (λ (k : ℕ). get_or numbers k (pos 0)) z }
+
+abbrev pub sub_order : Device → List Sub → List (Option ℕ) → List ℕ
+sub_order e [] came = []
+sub_order e (s ∷ subs) [] = []
+sub_order e (s ∷ subs) (None ∷ came) = sub_order e subs came
+sub_order e (s ∷ subs) (Some v ∷ came) = index (find_sub 0 e.subs s.desc.name) ∷ sub_order e subs came
+
+pub record SubPair (e : Device) (s : Sub) : Type 0 where
+  pub number : ℕ
+  pub sub : Sub
+  pub found : find_sub 0 e.subs s.desc.name ≡ Some number
+  pub stands : slice_get e.subs number ≡ Some sub
+  pub name_is : sub.desc.name ≡ s.desc.name
+
+module _ (old new : Set) (good_old : WellFormed old) (good_new : WellFormed new) (i k : ℕ) (d e : Device) (at_i : slice_get old.devices i ≡ Some d) (at_k : slice_get new.devices k ≡ Some e)
+    (none : first_answer (compare_subs old new i k e) 0 d.subs ≡ None) (image : Image) (ready : IsSaved old d image) where
+  sub_pair : (j : ℕ) (s : Sub) → slice_get d.subs j ≡ Some s → SubPair e s
+  sub_pair j s at_j = by_found (find_sub 0 e.subs s.desc.name) refl (none_at (compare_subs old new i k e) 0 d.subs j s none at_j) where
+    by_found : (r : Option ℕ) → find_sub 0 e.subs s.desc.name ≡ r → compare_sub old new i k (0 + j) s (find_sub 0 e.subs s.desc.name) (slice_get e.subs (index (find_sub 0 e.subs s.desc.name))) ≡ None → SubPair e s
+    by_found None h c = let bad : compare_sub old new i k (0 + j) s None (slice_get e.subs 0) ≡ None = subst (λ (r : Option ℕ). compare_sub old new i k (0 + j) s r (slice_get e.subs (index r)) ≡ None) h c in absurd (cc)
+    by_found (Some r) h c =
+        let f = found_named 0 e.subs s.desc.name r h in
+        let l_is : f.0 ≡ r = omega (arith, f.1) in
+        record { number = r; sub = f.2.sub; found = h; stands = subst (λ (n : ℕ). slice_get e.subs n ≡ Some f.2.sub) l_is f.2.stands; name_is = f.2.is }
+
+  abbrev own : List ℤ
+  own = carrying old new image.numbers image.version d.desc e.desc 0
+
+  abbrev rest : List ℤ
+  rest = flat_map (carried_sub old new d image) e.subs
+
+  abbrev numbers' : List ℤ
+  numbers' = own ++ rest
+
+  abbrev image' : Image
+  image' = carried_device old new d e image
+
+  abbrev came : Sub → Option ℕ
+  came t = came_of old new good_old good_new i k d e at_i at_k none image ready numbers' t
+
+  abbrev all_facts : Facts old new good_old good_new d e image numbers' came e.subs
+  all_facts = facts old new good_old good_new i k d e at_i at_k none image ready numbers'
+
+  back : (j : ℕ) (s : Sub) → slice_get d.subs j ≡ Some s → (p : SubPair e s) → find_sub 0 d.subs p.sub.desc.name ≡ Some j
+  back j s at_j p =
+      ap (λ (n : List ℕ). find_sub 0 d.subs n) p.name_is ∙ sub_found old good_old i j d s at_i at_j
+
+  abbrev came_here : (j : ℕ) (s : Sub) (v : ℕ) (at_j : slice_get d.subs j ≡ Some s) → slice_get image.came j ≡ Some (Some v) → (p : SubPair e s) → Came old new good_old good_new d e image numbers' came p.sub
+  came_here j s v at_j at_came p =
+      came_is old new good_old good_new i k d e at_i at_k none image ready numbers' j p.number s p.sub v at_j p.stands (sym p.name_is) at_came (back j s at_j p)
+
+  module _ (held : Holds numbers' (own_cells new e) rest) where
+    one_spell : (j : ℕ) (s : Sub) (v : ℕ) (at_j : slice_get d.subs j ≡ Some s) (at_came : slice_get image.came j ≡ Some (Some v)) (p : SubPair e s)
+        → SubSpells new e image' p.number (slice_get e.subs p.number) (slice_get image'.came p.number) (sub_head s.desc.name v ++ zeroed image.numbers (sub_slots old s v image.numbers (sub_place old (own_cells old d) d.subs j)))
+    one_spell j s v at_j at_came p =
+        let c = came_here j s v at_j at_came p in
+        let place' = sub_place new (own_cells new e) e.subs p.number in
+        let body = zeroed image.numbers (sub_slots old s v image.numbers (sub_place old (own_cells old d) d.subs j)) in
+        let held_t = sub_held old new good_old good_new d e image numbers' came e.subs (own_cells new e) p.number p.sub p.stands all_facts held in
+        let spells = (sub_carries old new good_old good_new d e image numbers' came p.sub c place' held_t).spells in
+        let came_t : slice_get image'.came p.number ≡ Some (Some v) = at_map came e.subs p.number p.sub p.stands ∙ ap Some c.came in
+        let bytes = sub_head s.desc.name v ++ body in
+        subst (λ (r : Option Sub). SubSpells new e image' p.number r (slice_get image'.came p.number) bytes) (sym p.stands)
+        (subst (λ (r : Option (Option ℕ)). SubSpells new e image' p.number (Some p.sub) r bytes) (sym came_t)
+        (body, spells, ap (λ (name : List ℕ). sub_head name v ++ body) (sym p.name_is)))
+
+    spell_subs : (j place : ℕ) (subs : List Sub) (cs : List (Option ℕ)) → ((m : ℕ) → slice_get d.subs (j + m) ≡ slice_get subs m) → ((m : ℕ) → slice_get image.came (j + m) ≡ slice_get cs m)
+        → ((m : ℕ) → sub_place old (own_cells old d) d.subs (j + m) ≡ sub_place old place subs m) → SubsSpell new e image' (sub_order e subs cs) (written_subs old d image place subs cs)
+    spell_subs j place [] cs h h' h'' = refl
+    spell_subs j place (s ∷ subs) [] h h' h'' = refl
+    spell_subs j place (s ∷ subs) (None ∷ cs) h h' h'' =
+        spell_subs (suc j) (place + length (desc_cells (struct_cells old) s.desc)) subs cs
+        (λ m. let z : suc j + m ≡ j + suc m = omega arith in ap (λ (n : ℕ). slice_get d.subs n) z ∙ h (suc m))
+        (λ m. let z : suc j + m ≡ j + suc m = omega arith in ap (λ (n : ℕ). slice_get image.came n) z ∙ h' (suc m))
+        (λ m. let z : suc j + m ≡ j + suc m = omega arith in ap (λ (n : ℕ). sub_place old (own_cells old d) d.subs n) z ∙ h'' (suc m))
+    spell_subs j place (s ∷ subs) (Some v ∷ cs) h h' h'' =
+        let z : j + 0 ≡ j = omega arith in
+        let at_j : slice_get d.subs j ≡ Some s = ap (λ (n : ℕ). slice_get d.subs n) (sym z) ∙ h 0 in
+        let at_came : slice_get image.came j ≡ Some (Some v) = ap (λ (n : ℕ). slice_get image.came n) (sym z) ∙ h' 0 in
+        let place_is : sub_place old (own_cells old d) d.subs j ≡ place = ap (λ (n : ℕ). sub_place old (own_cells old d) d.subs n) (sym z) ∙ h'' 0 in
+        let p = sub_pair j s at_j in
+        let body = zeroed image.numbers (sub_slots old s v image.numbers place) in
+        let front = sub_head s.desc.name v ++ body in
+        let after = written_subs old d image (place + length (desc_cells (struct_cells old) s.desc)) subs cs in
+        let one = subst (λ (q : ℕ). SubSpells new e image' p.number (slice_get e.subs p.number) (slice_get image'.came p.number) (sub_head s.desc.name v ++ zeroed image.numbers (sub_slots old s v image.numbers q))) place_is
+        (one_spell j s v at_j at_came p) in
+        let number_is : p.number ≡ index (find_sub 0 e.subs s.desc.name) = sym (ap index p.found) in (
+          front,
+          after,
+          subst (λ (l : ℕ). SubSpells new e image' l (slice_get e.subs l) (slice_get image'.came l) front) number_is one,
+          spell_subs (suc j) (place + length (desc_cells (struct_cells old) s.desc)) subs cs
+              (λ m. let z : suc j + m ≡ j + suc m = omega arith in ap (λ (n : ℕ). slice_get d.subs n) z ∙ h (suc m))
+              (λ m. let z : suc j + m ≡ j + suc m = omega arith in ap (λ (n : ℕ). slice_get image.came n) z ∙ h' (suc m))
+              (λ m. let z : suc j + m ≡ j + suc m = omega arith in ap (λ (n : ℕ). sub_place old (own_cells old d) d.subs n) z ∙ h'' (suc m)),
+          refl,
+        )
+
+  -- ---- each subsection that came stands once
+
+  order_has : (subs : List Sub) (cs : List (Option ℕ)) (j l v : ℕ) (s : Sub) → slice_get subs j ≡ Some s → slice_get cs j ≡ Some (Some v) → index (find_sub 0 e.subs s.desc.name) ≡ l → Among l (sub_order e subs cs)
+  order_has [] cs j l v s h h' is = absurd (cc)
+  order_has (x ∷ subs) [] j l v s h h' is = absurd (cc)
+  order_has (x ∷ subs) (None ∷ cs) zero l v s h h' is = absurd (cc)
+  order_has (x ∷ subs) (Some u ∷ cs) zero l v s h h' is =
+      let same : x ≡ s = cc in
+      inl (sym (ap (λ (y : Sub). index (find_sub 0 e.subs y.desc.name)) same ∙ is))
+  order_has (x ∷ subs) (None ∷ cs) (suc j) l v s h h' is = order_has subs cs j l v s h h' is
+  order_has (x ∷ subs) (Some u ∷ cs) (suc j) l v s h h' is = inr (order_has subs cs j l v s h h' is)
+
+  from_map : (ts : List Sub) (l v : ℕ) → slice_get (map came ts) l ≡ Some (Some v) → (t : Sub) × (slice_get ts l ≡ Some t) × (came t ≡ Some v)
+  from_map [] l v h = absurd (cc)
+  from_map (t ∷ ts) zero v h = let is : came t ≡ Some v = cc in (t, refl, is)
+  from_map (t ∷ ts) (suc l) v h = from_map ts l v h
+
+  came_from : (o : Option (Option ℕ)) (j v : ℕ) → sub_came old new (Some j) o ≡ Some v → o ≡ Some (Some v)
+  came_from None j v h = absurd (cc)
+  came_from (Some o) j v h = ap Some h
+
+  each_come : (l v : ℕ) → slice_get image'.came l ≡ Some (Some v) → Among l (sub_order e d.subs image.came)
+  each_come l v h =
+      let f = from_map e.subs l v h in
+      let t = f.0 in
+      let go : (r : Option ℕ) → find_sub 0 d.subs t.desc.name ≡ r → Among l (sub_order e d.subs image.came) = elim [
+        | None ↦ λ is.
+            let bad : sub_came old new None (slice_get image.came 0) ≡ Some v = ap (λ (r : Option ℕ). sub_came old new r (slice_get image.came (index r))) (sym is) ∙ f.2 in
+            absurd (cc)
+        | Some r ↦ λ is.
+            let g = found_named 0 d.subs t.desc.name r is in
+            let j_is : g.0 ≡ r = omega (arith, g.1) in
+            let s = g.2.sub in
+            let at_j : slice_get d.subs r ≡ Some s = subst (λ (n : ℕ). slice_get d.subs n ≡ Some s) j_is g.2.stands in
+            let came_j : sub_came old new (Some r) (slice_get image.came r) ≡ Some v = ap (λ (q : Option ℕ). sub_came old new q (slice_get image.came (index q))) (sym is) ∙ f.2 in
+            let at_came = came_from (slice_get image.came r) r v came_j in
+            let found : find_sub 0 e.subs s.desc.name ≡ Some l =
+            ap (λ (n : List ℕ). find_sub 0 e.subs n) g.2.is ∙ sub_found new good_new k l e t at_k f.1 in
+            order_has d.subs image.came r l v s at_j at_came (ap index found)
+      ] in
+      go (find_sub 0 d.subs t.desc.name) refl
+
+  order_within : (j : ℕ) (subs : List Sub) (cs : List (Option ℕ)) → ((m : ℕ) → slice_get d.subs (j + m) ≡ slice_get subs m) → ((m : ℕ) → slice_get image.came (j + m) ≡ slice_get cs m) → Come image'.came (sub_order e subs cs)
+  order_within j [] cs h h' = tt
+  order_within j (s ∷ subs) [] h h' = tt
+  order_within j (s ∷ subs) (None ∷ cs) h h' =
+      order_within (suc j) subs cs (λ m. let z : suc j + m ≡ j + suc m = omega arith in ap (λ (n : ℕ). slice_get d.subs n) z ∙ h (suc m))
+      (λ m. let z : suc j + m ≡ j + suc m = omega arith in ap (λ (n : ℕ). slice_get image.came n) z ∙ h' (suc m))
+  order_within j (s ∷ subs) (Some v ∷ cs) h h' =
+      let z : j + 0 ≡ j = omega arith in
+      let at_j : slice_get d.subs j ≡ Some s = ap (λ (n : ℕ). slice_get d.subs n) (sym z) ∙ h 0 in
+      let at_came : slice_get image.came j ≡ Some (Some v) = ap (λ (n : ℕ). slice_get image.came n) (sym z) ∙ h' 0 in
+      let p = sub_pair j s at_j in
+      let c = came_here j s v at_j at_came p in
+      let came_t : slice_get image'.came p.number ≡ Some (Some v) = at_map came e.subs p.number p.sub p.stands ∙ ap Some c.came in
+      let l_is : p.number ≡ index (find_sub 0 e.subs s.desc.name) = sym (ap index p.found) in (
+        (v, ap (λ (n : ℕ). slice_get image'.came n) (sym l_is) ∙ came_t),
+        order_within (suc j) subs cs (λ m. let z : suc j + m ≡ j + suc m = omega arith in ap (λ (n : ℕ). slice_get d.subs n) z ∙ h (suc m))
+            (λ m. let z : suc j + m ≡ j + suc m = omega arith in ap (λ (n : ℕ). slice_get image.came n) z ∙ h' (suc m)),
+      )
+
+  two_apart : (j j' : ℕ) (s s' : Sub) → j < j' → slice_get d.subs j ≡ Some s → slice_get d.subs j' ≡ Some s' → index (find_sub 0 e.subs s.desc.name) ≡ index (find_sub 0 e.subs s'.desc.name) → ⊥
+  two_apart j j' s s' lt h h' same =
+      let p = sub_pair j s h in
+      let q = sub_pair j' s' h' in
+      let numbers : p.number ≡ q.number = sym (ap index p.found) ∙ same ∙ ap index q.found in
+      let some_same : Some p.sub ≡ Some q.sub = sym p.stands ∙ ap (λ (n : ℕ). slice_get e.subs n) numbers ∙ q.stands in
+      let subs_same : p.sub ≡ q.sub = cc in
+      let founds : Some j ≡ Some j' = sym (back j s h p) ∙ ap (λ (u : Sub). find_sub 0 d.subs u.desc.name) subs_same ∙ back j' s' h' q in
+      let indices : j ≡ j' = cc in
+      absurd (omega arith)
+
+  one_apart : (j j' : ℕ) (s : Sub) (subs : List Sub) (cs : List (Option ℕ)) → j < j' → slice_get d.subs j ≡ Some s → ((m : ℕ) → slice_get d.subs (j' + m) ≡ slice_get subs m) → NotIn (index (find_sub 0 e.subs s.desc.name)) (sub_order e subs cs)
+  one_apart j j' s [] cs lt h h' = tt
+  one_apart j j' s (x ∷ subs) [] lt h h' = tt
+  one_apart j j' s (x ∷ subs) (None ∷ cs) lt h h' =
+      one_apart j (suc j') s subs cs (omega arith) h (λ m. let z : suc j' + m ≡ j' + suc m = omega arith in ap (λ (n : ℕ). slice_get d.subs n) z ∙ h' (suc m))
+  one_apart j j' s (x ∷ subs) (Some u ∷ cs) lt h h' =
+      let z : j' + 0 ≡ j' = omega arith in (
+        λ same. two_apart j j' s x lt h (ap (λ (n : ℕ). slice_get d.subs n) (sym z) ∙ h' 0) same,
+        one_apart j (suc j') s subs cs (omega arith) h (λ m. let z : suc j' + m ≡ j' + suc m = omega arith in ap (λ (n : ℕ). slice_get d.subs n) z ∙ h' (suc m)),
+      )
+
+  order_apart : (j : ℕ) (subs : List Sub) (cs : List (Option ℕ)) → ((m : ℕ) → slice_get d.subs (j + m) ≡ slice_get subs m) → Apart (sub_order e subs cs)
+  order_apart j [] cs h = tt
+  order_apart j (s ∷ subs) [] h = tt
+  order_apart j (s ∷ subs) (None ∷ cs) h = order_apart (suc j) subs cs (λ m. let z : suc j + m ≡ j + suc m = omega arith in ap (λ (n : ℕ). slice_get d.subs n) z ∙ h (suc m))
+  order_apart j (s ∷ subs) (Some u ∷ cs) h =
+      let z : j + 0 ≡ j = omega arith in
+      let more : (m : ℕ) → slice_get d.subs (suc j + m) ≡ slice_get subs m = λ m. let z : suc j + m ≡ j + suc m = omega arith in ap (λ (n : ℕ). slice_get d.subs n) z ∙ h (suc m) in
+      (one_apart j (suc j) s subs cs (omega arith) (ap (λ (n : ℕ). slice_get d.subs n) (sym z) ∙ h 0) more, order_apart (suc j) subs cs more)
+
+  each_once : ComesOnce image'.came (sub_order e d.subs image.came)
+  each_once =
+      let all : (m : ℕ) → slice_get d.subs (0 + m) ≡ slice_get d.subs m = λ m. let z : 0 + m ≡ m = omega arith in ap (λ (n : ℕ). slice_get d.subs n) z in
+      let all' : (m : ℕ) → slice_get image.came (0 + m) ≡ slice_get image.came m = λ m. let z : 0 + m ≡ m = omega arith in ap (λ (n : ℕ). slice_get image.came n) z in
+      comes_once image'.came (sub_order e d.subs image.came) (order_apart 0 d.subs image.came all) (order_within 0 d.subs image.came all all') each_come
+
+  -- ---- the section
+
+  absent_default : (slots : List Slot) (c : ℕ) → (has_cell slots c ≡ true) ⊎ (get_or numbers' c (pos 0) ≡ get_or (defaults (device_cells new e)) c (pos 0)) → has_cell slots c ≡ false
+      → get_or numbers' c (pos 0) ≡ (get_or (device_cells new e) c no_cell).default
+  absent_default slots c (inl has) absent = let bad : true ≡ false = sym has ∙ absent in absurd (cc)
+  absent_default slots c (inr is) absent = is ∙ defaults_at (device_cells new e) c
+
+  pub section_whole : (part part' : Part) → comparing old new d.desc e.desc d.desc.version part part' ≡ None → is_version_of e.desc d.desc.version ≡ true
+      → d.desc.name ≡ e.desc.name → d.instance ≡ e.instance → (id : ℕ) → id < 4294967296 → IsSection new e image' id true (written_section old d image id)
+  section_whole part part' same version names instances id lt =
+      let v = image.version in
+      let numbers = image.numbers in
+      let cells = desc_cells (struct_cells new) e.desc in
+      let good_a = device_good old good_old i d at_i in
+      let good_b = device_good new good_new k e at_k in
+      let sub_cells = flat_map (λ s. desc_cells (struct_cells new) s.desc) e.subs in
+      let same_v : comparing old new d.desc e.desc v part part' ≡ None = subst (λ (u : ℕ). comparing old new d.desc e.desc u part part' ≡ None) (sym ready.version) same in
+      let whole : FitsAt (device_cells old d) numbers 0 = fits_whole (device_cells old d) numbers ready.normal.cells in
+      let fits : FitsAt (desc_cells (struct_cells old) d.desc) numbers 0 = fits_left (desc_cells (struct_cells old) d.desc) (flat_map (λ s. desc_cells (struct_cells old) s.desc) d.subs) numbers 0 whole in
+      let held_own : Holds numbers' 0 own = holds_left numbers' 0 own rest (holds_whole numbers') in
+      let own_fit = part_fits old new good_old good_new d.desc e.desc v part part' good_a good_b same_v numbers 0 fits in
+      let own_size = fit_length cells own own_fit in
+      let place_is : 0 + length own ≡ own_cells new e = omega (arith, own_size) in
+      let held_rest : Holds numbers' (own_cells new e) rest = holds_at numbers' (0 + length own) (own_cells new e) rest place_is (holds_right numbers' 0 own rest (holds_whole numbers')) in
+      let carries = part_carries old new good_old good_new d.desc e.desc v part part' good_a good_b same_v numbers 0 fits numbers' 0 held_own in
+      let settles = part_settles old new good_old good_new d.desc e.desc v part part' good_a good_b same_v numbers 0 fits numbers' 0 held_own in
+      let slots = own_slots new e v numbers' in
+      let more = came_slots new e numbers' (own_cells new e) e.subs image'.came in
+      let more_settled = settled_at more (own_cells new e) (0 + length own) sub_cells rest (sym place_is)
+      (subs_settle old new good_old good_new d e image numbers' came e.subs (own_cells new e) all_facts held_rest) in
+      let settled : Settled (slots ++ more) 0 (device_cells new e) numbers' = settled_append slots more 0 cells sub_cells own rest own_size settles more_settled in
+      let rules_old = rules_left (own_slots old d v numbers) (came_slots old d numbers (own_cells old d) d.subs image.came) ready.valid in
+      let body = zeroed numbers (own_slots old d v numbers) in
+      let tail = written_subs old d image (own_cells old d) d.subs image.came in
+      let fit = are_fit (device_cells new e) numbers' (fit_append cells sub_cells own rest own_fit (subs_fit old new good_old good_new d e image numbers' came e.subs all_facts)) in
+      record {
+        fits = lt;
+        normal = record {
+          version = subst (λ (u : ℕ). IsVersionOf e.desc u) (sym ready.version) (version_is e.desc d.desc.version version);
+          subs = subs_versions old new good_old good_new d e image numbers' came e.subs all_facts;
+          cells = fit;
+          absent = λ c below absent.
+              let z : 0 + c ≡ c = omega arith in
+              absent_default (slots ++ more) c
+              (subst (λ (q : ℕ). (has_cell (slots ++ more) q ≡ true) ⊎ (get_or numbers' c (pos 0) ≡ get_or (defaults (device_cells new e)) c (pos 0))) z (settled.each c below)) absent;
+        };
+        valid = rules_both slots more (carries.rules rules_old) (subs_rules old new good_old good_new d e image numbers' came e.subs (own_cells new e) all_facts held_rest);
+        body = body;
+        own = carries.spells;
+        order = sub_order e d.subs image.came;
+        each_once = each_once;
+        tail = tail;
+        subs = spell_subs held_rest 0 (own_cells old d) d.subs image.came
+            (λ m. let z : 0 + m ≡ m = omega arith in ap (λ (n : ℕ). slice_get d.subs n) z)
+            (λ m. let z : 0 + m ≡ m = omega arith in ap (λ (n : ℕ). slice_get image.came n) z)
+            (λ m. let z : 0 + m ≡ m = omega arith in ap (λ (n : ℕ). sub_place old (own_cells old d) d.subs n) z);
+        whole = ap (λ (name : List ℕ). section_head id name d.instance v ++ body ++ tail ++ foot id) names ∙ ap (λ (i : ℕ). section_head id e.desc.name i v ++ body ++ tail ++ foot id) instances;
+      }

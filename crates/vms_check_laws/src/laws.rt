@@ -1,0 +1,24 @@
+//! Each law is the contract of a function without a body. The statements stand in `specs/Positions.antt` and `specs/Laws.antt`.
+ghost use Rattle.vms_check_laws.specs.Laws.{DeviceLaw, UpgradeLaw};
+ghost use Rattle.vms_check_laws.specs.Positions.{PositionLaw};
+
+/// One position: where two fields are paired and no rule fails at them, what the older set writes for its field is read by the
+/// newer as carried, be it a number, an array, a structure, or what unused bytes of the newer stand over.
+#[tactic(auto)]
+pub fn position_law()
+    ensures { PositionLaw }
+{}
+
+/// One device with its subsections, whichever came: where no rule fails at the device of an older set and the one of its name
+/// and instance in a newer, the section that the older writes is one of the newer, with the carried image.
+#[tactic(auto)]
+pub fn device_law()
+    ensures { DeviceLaw }
+{}
+
+/// For compatible well-formed sets, what the older writes of ready images is a stream of the newer with the carried images,
+/// and all of it is taken: with any machine of the older set or none, and any description text or none.
+#[tactic(auto)]
+pub fn upgrade_law()
+    ensures { UpgradeLaw }
+{}

@@ -1,0 +1,130 @@
+-- From how a command ends and why to what the call does.
+use Rattle.std.proofs.Common.{append-nil, ◌≡◌, ◌⊎◌, ℕ, ◌<◌, ◌^◌, List, [], drop, Option, Some, None, IfSome, refl, sym, ap, ◌∙◌, subst, arith, inl, inr}
+use Rattle.std.specs.Io.KnownBytes.{Appends, Keeps}
+use Rattle.std.specs.Prelude.{string_bytes}
+use Rattle.vms_io.specs.Causes.{AppendsPrefix, Rose}
+use Rattle.vms_io.specs.Told.{Intake, Outlet, Stock}
+use Rattle.vms_commands.specs.declared.ending.Ending.{Ending}
+use Rattle.vms_commands.specs.declared.ending.Ending.TheVariants.{Done, Refused, BadWords, BadText, NotCompatible, ReadFault, WriteFault, ShelfFault, NotThere, TooLarge, NoMemory}
+use Rattle.vms_commands.specs.Endings.{Caused, EndsAs, EndsWith, Quiet, Tells, WritesAs}
+use Rattle.vms_commands.specs.Lines.{bad_words}
+use Rattle.vms_commands.specs.Outcomes.{Part, Outcome, Outside, ComesTo, DoesOrStops, TakesBytes, done, ended, text_of, held_after}
+
+-- what stays grows by nothing
+pub kept_none : (old new : Option (List ℕ)) → Keeps old new → Appends old new []
+kept_none None new h = tt
+kept_none (Some xs) None h = absurd h
+kept_none (Some xs) (Some ys) h = h ∙ sym (append-nil xs)
+
+pub keeps_same : (o : Option (List ℕ)) → Keeps o o
+keeps_same None = tt
+keeps_same (Some bytes) = refl
+
+pub same_keeps : (o o' : Outlet) → o' ≡ o → Keeps o.written o'.written
+same_keeps o o' e = subst (λ (x : Outlet). Keeps o.written x.written) (sym e) (keeps_same o.written)
+
+-- nothing was begun
+pub comes_to_nothing : (o o' : Outlet) (s s' : Stock) (parts : List Part) → Keeps o.written o'.written → s'.held ≡ s.held → ComesTo o o' s s' parts
+comes_to_nothing o o' s s' parts keeps held = record { begun = 0; bytes = 0; text = kept_none o.written o'.written keeps; held = inl held }
+
+-- what is as it was is quiet
+pub quiet_same : (o : Outlet) (e : Ending) → Quiet o o e
+quiet_same o Done = tt
+quiet_same o WriteFault = tt
+quiet_same o (Refused line) = keeps_same o.written
+quiet_same o BadWords = keeps_same o.written
+quiet_same o (BadText line) = keeps_same o.written
+quiet_same o (NotCompatible line) = keeps_same o.written
+quiet_same o ReadFault = keeps_same o.written
+quiet_same o ShelfFault = keeps_same o.written
+quiet_same o (NotThere line) = keeps_same o.written
+quiet_same o (TooLarge line) = keeps_same o.written
+quiet_same o NoMemory = keeps_same o.written
+
+-- nothing is taken of an input
+nothing_left : (left : Option (List ℕ)) → IfSome left (λ bytes. left ≡ Some (drop 0 bytes))
+nothing_left None = tt
+nothing_left (Some bytes) = refl
+
+pub takes_nothing : (i : Intake) → i.given < 2 ^ 64 → TakesBytes i i 0
+takes_nothing i few = record { left = nothing_left i.left; given = omega (arith, few) }
+
+-- an outcome of a status of its own, and nothing taken
+pub ends_with : (k : ℕ) (line : List ℕ) (i : Intake) (x : Outcome) → x ≡ ended k line 0 → EndsWith k line i i x
+ends_with k line i x is = record {
+  status_is = ap (λ (y : Outcome). y.status) is;
+  parts = ap (λ (y : Outcome). y.parts) is;
+  note = ap (λ (y : Outcome). y.note) is;
+  left = subst (λ (n : ℕ). IfSome i.left (λ bytes. i.left ≡ Some (drop n bytes))) (sym (ap (λ (y : Outcome). y.taken) is)) (nothing_left i.left);
+}
+
+-- a text was written, or a prefix of it, while the shelf stayed
+pub text_written : (text : List ℕ) (i i' : Intake) (o o' : Outlet) (s s' : Stock) (taken : ℕ) (ending : Ending)
+    → WritesAs text o o' ending → s'.held ≡ s.held → TakesBytes i i' taken → EndsAs i i' o o' s s' ending (done text s.held taken)
+text_written text i i' o o' s s' taken Done w same t = record {
+  status_is = refl;
+  text = subst (λ (l : List ℕ). Appends o.written o'.written l) (sym (append-nil text)) w;
+  note = refl;
+  held = same;
+  taken = t;
+}
+text_written text i i' o o' s s' taken WriteFault w same t = record { begun = 1; bytes = w.0.0; text = w.0.2; held = inl same }
+text_written text i i' o o' s s' taken NoMemory w same t = absurd w
+text_written text i i' o o' s s' taken (Refused r) w same t = absurd w
+text_written text i i' o o' s s' taken BadWords w same t = absurd w
+text_written text i i' o o' s s' taken ReadFault w same t = absurd w
+text_written text i i' o o' s s' taken (BadText r) w same t = absurd w
+text_written text i i' o o' s s' taken (NotCompatible r) w same t = absurd w
+text_written text i i' o o' s s' taken ShelfFault w same t = absurd w
+text_written text i i' o o' s s' taken (NotThere r) w same t = absurd w
+text_written text i i' o o' s s' taken (TooLarge r) w same t = absurd w
+
+-- the outside of these objects
+abbrev pub around : Intake → Outlet → Outlet → Stock → Outside
+around input out notes shelf = record { input = input; out = out; notes = notes; shelf = shelf }
+
+module _ (i i' : Intake) (o o' n n' : Outlet) (s s' : Stock) where
+  -- ---- the outcome
+
+  -- ended by a status with its line, which was told
+  ended_so : (k status : ℕ) (line : List ℕ) (x : Outcome) → (k ≡ 0 → ⊥) → EndsWith k line i i' x → Keeps o.written o'.written → s'.held ≡ s.held
+      → ((status ≡ k) × Appends n.written n'.written line) ⊎ ((status ≡ 6) × Rose n.faults n'.faults × AppendsPrefix n.written n'.written line)
+      → DoesOrStops status (around i o n s) (around i' o' n' s') x
+  ended_so k status line x never ends keeps held (inl t) = inl record {
+    same = t.0 ∙ sym ends.status_is;
+    text = subst (λ (l : List Part). Appends o.written o'.written (text_of l)) (sym ends.parts) (kept_none o.written o'.written keeps);
+    note = subst (λ (l : List ℕ). Appends n.written n'.written l) (sym ends.note) t.1;
+    shelf = held ∙ ap (λ (l : List Part). held_after s.held l) (sym ends.parts);
+    left = ends.left;
+    given = λ zero. absurd (never (sym ends.status_is ∙ zero));
+  }
+  ended_so k status line x never ends keeps held (inr t) = inr record {
+    why = inr (inr (inl ((t.0, t.1), inl (subst (λ (l : List ℕ). AppendsPrefix n.written n'.written l) (sym ends.note) t.2))));
+    come = comes_to_nothing o o' s s' x.parts keeps held;
+  }
+
+  -- how the call ended, by the outcome and by the cause: it does the outcome, or it stops on the way
+  pub outcome_so : (e : Ending) (status : ℕ) (x : Outcome) → EndsAs i i' o o' s s' e x → Caused i i' o o' s s' e → Tells n n' e status
+      → DoesOrStops status (around i o n s) (around i' o' n' s') x
+  outcome_so Done status x d c t = inl record {
+    same = t.0 ∙ sym d.status_is;
+    text = d.text;
+    note = subst (λ (l : List ℕ). Appends n.written n'.written l) (sym d.note) (kept_none n.written n'.written (same_keeps n n' t.1));
+    shelf = d.held;
+    left = d.taken.left;
+    given = λ zero. d.taken.given;
+  }
+  outcome_so (Refused line) status x d c t = ended_so 1 status line.items x (λ z. omega (arith, z)) d c.0 c.1 t
+  outcome_so BadWords status x d c t = ended_so 2 status bad_words x (λ z. omega (arith, z)) d c.0 c.1 t
+  outcome_so (BadText line) status x d c t = ended_so 3 status (string_bytes line) x (λ z. omega (arith, z)) d c.0 c.1 t
+  outcome_so (NotCompatible line) status x d c t = ended_so 4 status (string_bytes line) x (λ z. omega (arith, z)) d c.0 c.1 t
+  outcome_so (NotThere line) status x d c t = ended_so 8 status (string_bytes line) x (λ z. omega (arith, z)) d c.0 c.1 t
+  outcome_so (TooLarge line) status x d c t = ended_so 9 status (string_bytes line) x (λ z. omega (arith, z)) d c.0 c.1 t
+  outcome_so ReadFault status x d c (inl t) = inr record { why = inl (t.0, c.0, c.1, t.1); come = d }
+  outcome_so ReadFault status x d c (inr t) = inr record { why = inr (inr (inl ((t.0, t.1), inr (inl t.2)))); come = d }
+  outcome_so WriteFault status x d c (inl t) = inr record { why = inr (inl (t.0, c, t.1)); come = d }
+  outcome_so WriteFault status x d c (inr t) = inr record { why = inr (inr (inl ((t.0, t.1), inr (inr (inl t.2))))); come = d }
+  outcome_so ShelfFault status x d c (inl t) = inr record { why = inr (inr (inr (inl (t.0, c, t.1)))); come = d }
+  outcome_so ShelfFault status x d c (inr t) = inr record { why = inr (inr (inl ((t.0, t.1), inr (inr (inr (inl t.2)))))); come = d }
+  outcome_so NoMemory status x d c (inl t) = inr record { why = inr (inr (inr (inr t))); come = d }
+  outcome_so NoMemory status x d c (inr t) = inr record { why = inr (inr (inl ((t.0, t.1), inr (inr (inr (inr t.2)))))); come = d }

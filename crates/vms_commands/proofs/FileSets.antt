@@ -1,0 +1,287 @@
+-- Each set that a word names is well formed, and its numbers fit the heads of a stream.
+use Rattle.std.proofs.Common.{◌≡◌, ℕ, zero, suc, ◌+◌, ◌≤◌, Bool, true, false, nat_le, if◌then◌else◌, List, [], ◌∷◌, Option, Some, None, codes, refl, subst, arith}
+use Rattle.std.specs.List.{slice_get}
+use Rattle.std.proofs.lemmas.Bool.{leb-true}
+use Rattle.serde_json.specs.Data.{Data, Items, no_items, item}
+use Rattle.serde_json.specs.Find.{get, as_array, as_number, as_u64}
+use Rattle.std.specs.Option.{option_and_then}
+use Rattle.vms_spec.specs.Sets.{Formula, Desc, Sub, Device, Set}
+use Rattle.vms_spec.specs.WellFormed.{SetFault, first_fault}
+use Rattle.vms_desc.specs.Formed.{shipped_set}
+use Rattle.vms_io.specs.Shelves.{Held}
+use Rattle.vms_spec.specs.Good.{IsFit}
+use Rattle.vms_spec.proofs.ShippedSets.{shipped_stands}
+use Rattle.vms_commands.specs.SetWords.{SetWord}
+use Rattle.vms_commands.specs.Fetching.{SetText, Number, Text, fetched_set, said_set, set_in, word_set}
+use Rattle.vms_commands.specs.Steps.{Step, Untold, Gives, Ends, next as after}
+use Rattle.vms_json.specs.Answers.{Answer, good, bad, under, next, changed, each_from, each_of, list_of}
+use Rattle.vms_json.specs.Keys.{fits}
+use Rattle.vms_json.specs.Members.{judged, at as member_at, at_or, member_of, member_or, text_of, up_to, u32_of}
+use Rattle.vms_descread.specs.Descs.{Head, Whole, desc_needs, desc_allows, head_of, desc_as, rest_of, struct_of, sub_in, sub_of, whole_in, whole_of, device_in, device_of, set_in as set_said, set_of, parts_of}
+use Rattle.vms_descfile.specs.Files.{Said, Parts, Syntax, Shape, IllFormed, judged_said, parts_said, value_said, value_in, file_said}
+use Rattle.vms_json.specs.Names.{Names, Scope, names_if}
+use Rattle.vms_descread.specs.Tests.{test_of}
+
+-- what a good answer says has this property
+abbrev Says : {A : Type 0} → (A → Type 0) → Answer A → Type 0
+Says P (good a) = P a
+Says P (bad path) = Unit {0}
+
+abbrev Each : {A : Type 0} → (A → Type 0) → List A → Type 0
+Each P xs = (i : ℕ) (x : _) → slice_get xs i ≡ Some x → P x
+
+module _ {A B : Type 0} (P : B → Type 0) where
+  says_next : (x : Answer A) (f : A → Answer B) → ((a : A) → x ≡ good a → Says P (f a)) → Says P (next x f)
+  says_next (good a) f h = h a refl
+  says_next (bad path) f h = tt
+
+  says_changed : (f : A → B) (x : Answer A) → ((a : A) → x ≡ good a → P (f a)) → Says P (changed f x)
+  says_changed f (good a) h = h a refl
+  says_changed f (bad path) h = tt
+
+module _ {A : Type 0} (P : A → Type 0) where
+  says_so : (x : Answer A) (a : A) → Says P x → x ≡ good a → P a
+  says_so x a h e = subst (Says P) e h
+
+  says_judged : (b : Bool) (x : Answer A) → Says P x → Says P (judged b x)
+  says_judged true x h = h
+  says_judged false x h = tt
+
+  says_under : (key : List ℕ) (x : Answer A) → Says P x → Says P (under key x)
+  says_under key (good a) h = h
+  says_under key (bad path) h = tt
+
+  says_member : (says : Data → Answer A) (key : List ℕ) (o : Option Data) → ((e : Data) → Says P (says e)) → Says P (member_of says key o)
+  says_member says key None h = tt
+  says_member says key (Some e) h = says_under key (says e) (h e)
+
+  says_at : (says : Data → Answer A) (key : List ℕ) (d : Data) → ((e : Data) → Says P (says e)) → Says P (member_at says key d)
+  says_at says key d h = says_member says key (get key d) h
+
+  says_or : (default : A) (says : Data → Answer A) (key : List ℕ) (o : Option Data) → P default → ((e : Data) → Says P (says e)) → Says P (member_or default says key o)
+  says_or default says key None p h = p
+  says_or default says key (Some e) p h = says_under key (says e) (h e)
+
+  says_at_or : (default : A) (says : Data → Answer A) (key : List ℕ) (d : Data) → P default → ((e : Data) → Says P (says e)) → Says P (at_or default says key d)
+  says_at_or default says key d p h = says_or default says key (get key d) p h
+
+  each_cons : (x : A) (xs : List A) → P x → Each P xs → Each P (x ∷ xs)
+  each_cons x xs p h zero y e = let same : x ≡ y = cc in subst P same p
+  each_cons x xs p h (suc i) y e = h i y e
+
+  none_each : Each P []
+  none_each i x e = cc
+
+  says_each : (says : Data → Answer A) (i : ℕ) (ds : Items) → ((e : Data) → Says P (says e)) → Says (Each P) (each_from says i ds)
+  says_each says i no_items h = none_each
+  says_each says i (item d ds) h =
+      says_next (Each P) (under _ (says d)) _ (λ a e.
+      says_changed (Each P) (λ list. a ∷ list) (each_from says (i + 1) ds) (λ list f.
+      each_cons a list (says_so (under _ (says d)) a (says_under _ (says d) (h d)) e)
+      (subst (Says (Each P)) f (says_each says (i + 1) ds h))))
+
+  says_items : (says : Data → Answer A) (o : Option Items) → ((e : Data) → Says P (says e)) → Says (Each P) (each_of says o)
+  says_items says None h = tt
+  says_items says (Some ds) h = says_each says 0 ds h
+
+  says_list : (says : Data → Answer A) (d : Data) → ((e : Data) → Says P (says e)) → Says (Each P) (list_of says d)
+  says_list says d h = says_items says (as_array d) h
+
+-- ---- numbers of four bytes
+
+abbrev Small : ℕ → Type 0
+Small n = n ≤ 4294967295
+
+small_if : (n : ℕ) (b : Bool) → nat_le n 4294967295 ≡ b → Says Small (if b then good n else bad [])
+small_if n true e = leb-true n 4294967295 e
+small_if n false e = tt
+
+small_up : (o : Option ℕ) → Says Small (up_to 4294967295 o)
+small_up None = tt
+small_up (Some n) = small_if n (nat_le n 4294967295) refl
+
+small_u32 : (d : Data) → Says Small (u32_of d)
+small_u32 d = small_up (option_and_then as_u64 (as_number d))
+
+-- ---- descriptions
+
+abbrev SmallDesc : Desc → Type 0
+SmallDesc d = Small d.version
+
+abbrev SmallSub : Sub → Type 0
+SmallSub s = SmallDesc s.desc
+
+abbrev SmallWhole : Whole → Type 0
+SmallWhole w = SmallDesc w.desc × Each SmallSub w.subs
+
+abbrev SmallDevice : Device → Type 0
+SmallDevice d = Small d.instance × SmallDesc d.desc × Each SmallSub d.subs
+
+abbrev SmallSet : Set → Type 0
+SmallSet set = Each SmallDevice set.devices
+
+abbrev validate_said : Names → Data → Answer (List Formula)
+validate_said names d = at_or [] (list_of (test_of (record { own = names; parent = None }))) (codes "validate") d
+
+abbrev version_said : Data → Answer ℕ
+version_said d = member_at u32_of (codes "version") d
+
+rest_small : (names : Names) (head : Head) (d : Data) → Says SmallDesc (rest_of names head d)
+rest_small names head d =
+    says_next SmallDesc (validate_said names d) (λ validate. next (version_said d) (λ version. good (desc_as head validate version))) (λ validate e.
+    says_next SmallDesc (version_said d) (λ version. good (desc_as head validate version)) (λ version f.
+    says_so Small (version_said d) version (says_at Small u32_of (codes "version") d small_u32) f))
+
+-- the parts of a subsection
+abbrev sub_with : Scope → Head → Data → Formula → Answer Sub
+sub_with scope head d needed = changed (λ desc. record { desc = desc; needed = needed }) (rest_of scope.own head d)
+
+abbrev needed_said : Scope → Data → Answer Formula
+needed_said scope d = member_at (test_of scope) (codes "needed") d
+
+sub_in_small : (scope : Scope) (d : Data) → Says SmallSub (sub_in scope d)
+sub_in_small scope d =
+    says_next SmallSub (head_of scope.own d) (λ head. next (needed_said scope d) (sub_with scope head d)) (λ head e.
+    says_next SmallSub (needed_said scope d) (sub_with scope head d) (λ needed f.
+    says_changed SmallSub (λ desc. record { desc = desc; needed = needed }) (rest_of scope.own head d) (λ desc g.
+    says_so SmallDesc (rest_of scope.own head d) desc (rest_small scope.own head d) g)))
+
+sub_small : (asks : Bool) (parent : Names) (d : Data) → Says SmallSub (sub_of asks parent d)
+sub_small asks parent d =
+    let scope : Scope = record { own = names_if asks d; parent = Some parent } in
+    says_judged SmallSub (fits (codes "needed" ∷ desc_needs) desc_allows d) (sub_in scope d) (sub_in_small scope d)
+
+-- those of a device
+abbrev whole_with : Names → Head → Data → List Sub → Answer Whole
+whole_with names head d subs = changed (λ desc. record { desc = desc; subs = subs }) (rest_of names head d)
+
+abbrev subs_said : Bool → Names → Data → Answer (List Sub)
+subs_said asks names d = at_or [] (list_of (sub_of asks names)) (codes "subsections") d
+
+subs_small : (asks : Bool) (names : Names) (d : Data) → Says (Each SmallSub) (subs_said asks names d)
+subs_small asks names d =
+    says_at_or (Each SmallSub) [] (list_of (sub_of asks names)) (codes "subsections") d (none_each SmallSub)
+    (λ e. says_list SmallSub (sub_of asks names) e (sub_small asks names))
+
+whole_in_small : (asks : Bool) (names : Names) (d : Data) → Says SmallWhole (whole_in asks names d)
+whole_in_small asks names d =
+    says_next SmallWhole (head_of names d) (λ head. next (subs_said asks names d) (whole_with names head d)) (λ head e.
+    says_next SmallWhole (subs_said asks names d) (whole_with names head d) (λ subs f.
+    says_changed SmallWhole (λ desc. record { desc = desc; subs = subs }) (rest_of names head d) (λ desc g. (
+      says_so SmallDesc (rest_of names head d) desc (rest_small names head d) g,
+      says_so (Each SmallSub) (subs_said asks names d) subs (subs_small asks names d) f,
+    ))))
+
+whole_small : (asks : Bool) (d : Data) → Says SmallWhole (whole_of asks d)
+whole_small asks d =
+    says_judged SmallWhole (fits desc_needs (codes "subsections" ∷ desc_allows) d) (whole_in asks (names_if asks d) d)
+    (whole_in_small asks (names_if asks d) d)
+
+abbrev desc_said : Bool → Data → Answer Whole
+desc_said asks d = member_at (whole_of asks) (codes "desc") d
+
+abbrev instance_said : Data → Answer ℕ
+instance_said d = member_at u32_of (codes "instance") d
+
+abbrev device_with : Data → Whole → Answer Device
+device_with d whole = changed (λ instance. record { instance = instance; desc = whole.desc; subs = whole.subs }) (instance_said d)
+
+device_in_small : (asks : Bool) (d : Data) → Says SmallDevice (device_in asks d)
+device_in_small asks d =
+    says_next SmallDevice (desc_said asks d) (device_with d) (λ whole e.
+    let w : SmallWhole whole = says_so SmallWhole (desc_said asks d) whole (says_at SmallWhole (whole_of asks) (codes "desc") d (whole_small asks)) e in
+    says_changed SmallDevice (λ instance. record { instance = instance; desc = whole.desc; subs = whole.subs }) (instance_said d) (λ instance f.
+    (says_so Small (instance_said d) instance (says_at Small u32_of (codes "instance") d small_u32) f, w.0, w.1)))
+
+device_small : (asks : Bool) (d : Data) → Says SmallDevice (device_of asks d)
+device_small asks d =
+    says_judged SmallDevice (fits (codes "desc" ∷ codes "instance" ∷ []) [] d) (device_in asks d) (device_in_small asks d)
+
+-- ---- sets
+
+abbrev devices_said : Bool → Data → Answer (List Device)
+devices_said asks d = member_at (list_of (device_of asks)) (codes "devices") d
+
+abbrev structs_with : Bool → Data → List Device → List (List ℕ) → Answer Set
+structs_with asks d devices machines =
+    next (member_at (list_of (struct_of asks)) (codes "structs") d) (λ structs. good (record { machines = machines; structs = structs; devices = devices }))
+
+abbrev machines_with : Bool → Data → List Device → Answer Set
+machines_with asks d devices = next (member_at (list_of text_of) (codes "machines") d) (structs_with asks d devices)
+
+set_in_small : (asks : Bool) (d : Data) → Says SmallSet (set_said asks d)
+set_in_small asks d =
+    says_next SmallSet (devices_said asks d) (machines_with asks d) (λ devices e.
+    let small : Each SmallDevice devices = says_so (Each SmallDevice) (devices_said asks d) devices
+    (says_at (Each SmallDevice) (list_of (device_of asks)) (codes "devices") d (λ x. says_list SmallDevice (device_of asks) x (device_small asks))) e in
+    says_next SmallSet (member_at (list_of text_of) (codes "machines") d) (structs_with asks d devices) (λ machines f.
+    says_next SmallSet (member_at (list_of (struct_of asks)) (codes "structs") d)
+    (λ structs. good (record { machines = machines; structs = structs; devices = devices })) (λ structs g. small)))
+
+set_small : (asks : Bool) (d : Data) → Says SmallSet (set_of asks d)
+set_small asks d =
+    says_judged SmallSet (fits (codes "devices" ∷ codes "machines" ∷ codes "structs" ∷ []) [] d) (set_said asks d) (set_in_small asks d)
+
+-- ---- files
+
+parts_small : (d : Data) → Says SmallSet (parts_of d)
+unfolding parts_of
+parts_small d = says_next SmallSet (set_of false d) (λ unasked. set_of true d) (λ unasked e. set_small true d)
+
+abbrev FitSaid : Said → Type 0
+FitSaid (Parts set) = IsFit set
+FitSaid said = Unit {0}
+
+judged_fit : (set : Set) (fault : Option SetFault) → first_fault set ≡ fault → SmallSet set → FitSaid (judged_said set fault)
+judged_fit set None e small = record {
+  well = e;
+  heads = record {
+    instance = λ k d is. let h = small k d is in (omega (arith, h.0), omega (arith, h.1));
+    sub_version = λ k j d s is there. omega (arith, (small k d is).2 j s there);
+  };
+}
+judged_fit set (Some fault) e small = tt
+
+parts_fit : (a : Answer Set) → Says SmallSet a → FitSaid (parts_said a)
+parts_fit (good set) h = judged_fit set (first_fault set) refl h
+parts_fit (bad path) h = tt
+
+value_fit : (o : Option Data) → FitSaid (value_said o)
+value_fit None = tt
+value_fit (Some d) = parts_fit (parts_of d) (parts_small d)
+
+file_fit : (text : List ℕ) → FitSaid (file_said text)
+unfolding file_said
+file_fit text = value_fit (value_in text)
+
+-- ---- words
+
+abbrev pub FitStep : Step Set → Type 0
+FitStep Untold = Unit {0}
+FitStep (Gives set) = IsFit set
+FitStep (Ends status line) = Unit {0}
+
+fit_said : (name : List ℕ) (said : Said) → FitSaid said → FitStep (said_set name said)
+fit_said name (Parts set) h = h
+fit_said name Syntax h = tt
+fit_said name (Shape path) h = tt
+fit_said name (IllFormed fault) h = tt
+
+fit_number : (s : ℕ) → IsFit (shipped_set s)
+fit_number zero = shipped_stands.0
+fit_number (suc zero) = shipped_stands.1
+fit_number (suc (suc zero)) = shipped_stands.2
+fit_number (suc (suc (suc zero))) = shipped_stands.3
+fit_number (suc (suc (suc (suc s)))) = shipped_stands.4
+
+fit_text : (text : SetText) → FitStep (set_in text)
+fit_text (Number s) = fit_number s
+fit_text (Text name text) = fit_said name (file_said text) (file_fit text)
+
+fit_next : {A : Type 0} (s : Step A) (f : A → Step Set) → ((a : A) → FitStep (f a)) → FitStep (after s f)
+fit_next Untold f h = tt
+fit_next (Gives a) f h = h a
+fit_next (Ends status line) f h = tt
+
+pub fit_word : (held : Option Held) (word : SetWord) → FitStep (word_set held word)
+fit_word held word = fit_next (fetched_set held word) set_in fit_text

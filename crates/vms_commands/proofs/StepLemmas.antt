@@ -1,0 +1,278 @@
+-- Steps that a command takes before its work: how they end it, and what it does where they give something.
+use Rattle.std.proofs.Common.{append-nil, ◌≡◌, ℕ, ◌<◌, ◌^◌, Bool, true, false, if◌then◌else◌, nat_le, ◌≤◌, List, length, Option, Some, None, Result, Ok, Err, refl, sym, ap, ◌∙◌, subst, arith, inl}
+use Rattle.std.proofs.lemmas.Bool.{leb-false}
+use Rattle.std.specs.Prelude.{string_bytes}
+use Rattle.std.specs.Io.KnownBytes.{Appends}
+use Rattle.vms_io.specs.Shelves.{Held}
+use Rattle.vms_io.specs.Told.{Intake, Outlet, Stock}
+use Rattle.vms_descfile.specs.Files.{Said, Parts, Syntax, Shape, IllFormed, file_said}
+use Rattle.vms_commands.specs.declared.ending.Ending.{Ending}
+use Rattle.vms_commands.specs.declared.ending.Ending.TheVariants.{Done, Refused, BadWords, BadText, NotCompatible, ReadFault, WriteFault, ShelfFault, NotThere, TooLarge, NoMemory}
+use Rattle.vms_commands.specs.Endings.{EndsAs, Quiet}
+use Rattle.vms_commands.specs.Fetching.{longest_file, text_under, fetched, SetText, Number, Text, fetched_set, said_set, set_in, sets_in, named_sets, word_set}
+use Rattle.vms_commands.specs.Lines.{too_large_line}
+use Rattle.vms_commands.specs.Outcomes.{Outcome, done, ended}
+use Rattle.vms_commands.specs.SetWords.{SetWord, Shipped, OnShelf}
+use Rattle.vms_commands.specs.StepEndings.{IsFree, EndedAs, StepAs, WrittenAs, TextEnds}
+use Rattle.vms_commands.specs.Steps.{Step, Untold, Gives, Ends, next, Both, both, HasBy, HasText}
+use Rattle.vms_commands.proofs.EndLemmas.{comes_to_nothing, ends_with, takes_nothing}
+
+-- ---- one step after another
+
+free_ends : {B U : Type 0} (n : U → B) (s : Step B) (e : Ending) → IsFree e → StepAs {A = B} {T = U} n s (Err e)
+free_ends n Untold e h = tt
+free_ends n (Gives b) e h = h
+free_ends n (Ends status line) ShelfFault h = tt
+free_ends n (Ends status line) NoMemory h = tt
+free_ends n (Ends status line) Done h = absurd h
+free_ends n (Ends status line) (Refused text) h = absurd h
+free_ends n (Ends status line) BadWords h = absurd h
+free_ends n (Ends status line) (BadText text) h = absurd h
+free_ends n (Ends status line) (NotCompatible text) h = absurd h
+free_ends n (Ends status line) ReadFault h = absurd h
+free_ends n (Ends status line) WriteFault h = absurd h
+free_ends n (Ends status line) (NotThere text) h = absurd h
+free_ends n (Ends status line) (TooLarge text) h = absurd h
+
+module _ {A B T U : Type 0} (m : T → A) (n : U → B) (f : A → Step B) where
+  -- the first step ended the command
+  pub first_err : (s : Step A) (e : Ending) → StepAs {A = A} {T = T} m s (Err e) → StepAs {A = B} {T = U} n (next s f) (Err e)
+  first_err Untold e h = tt
+  first_err (Gives a) e h = free_ends n (f a) e h
+  first_err (Ends status line) e h = h
+
+  -- the second was taken
+  pub then_as : (s : Step A) (t : T) (r : Result U Ending) → StepAs m s (Ok t) → StepAs n (f (m t)) r → StepAs n (next s f) r
+  then_as Untold t r h k = tt
+  then_as (Gives a) t r h k = subst (λ (x : A). StepAs n (f x) r) h k
+  then_as (Ends status line) t r h k = absurd h
+
+-- ---- texts for out
+
+shelf_text : (s : Step (List ℕ)) (o o' : Outlet) → TextEnds s o o' ShelfFault
+shelf_text Untold o o' = tt
+shelf_text (Gives text) o o' = tt
+shelf_text (Ends status line) o o' = tt
+
+memory_text : (s : Step (List ℕ)) (o o' : Outlet) → TextEnds s o o' NoMemory
+memory_text Untold o o' = tt
+memory_text (Gives text) o o' = tt
+memory_text (Ends status line) o o' = tt
+
+-- a fault of the shelf and want of memory end any step
+free_text : (s : Step (List ℕ)) (o o' : Outlet) (e : Ending) → IsFree e → TextEnds s o o' e
+free_text s o o' ShelfFault h = shelf_text s o o'
+free_text s o o' NoMemory h = memory_text s o o'
+free_text s o o' Done h = absurd h
+free_text s o o' (Refused line) h = absurd h
+free_text s o o' BadWords h = absurd h
+free_text s o o' (BadText line) h = absurd h
+free_text s o o' (NotCompatible line) h = absurd h
+free_text s o o' ReadFault h = absurd h
+free_text s o o' WriteFault h = absurd h
+free_text s o o' (NotThere line) h = absurd h
+free_text s o o' (TooLarge line) h = absurd h
+
+module _ {A T : Type 0} (m : T → A) (f : A → Step (List ℕ)) (o o' : Outlet) (e : Ending) where
+  -- a step ended the command
+  pub err_text : (s : Step A) → StepAs {A = A} {T = T} m s (Err e) → TextEnds (next s f) o o' e
+  err_text Untold h = tt
+  err_text (Gives a) h = free_text (f a) o o' e h
+  err_text (Ends status line) h = h
+
+  -- it gave something
+  pub then_text : (s : Step A) (t : T) → StepAs m s (Ok t) → TextEnds (f (m t)) o o' e → TextEnds (next s f) o o' e
+  then_text Untold t first h = tt
+  then_text (Gives a) t first h = subst (λ (x : A). TextEnds (f x) o o' e) first h
+  then_text (Ends status line) t first h = absurd first
+
+next_next : {A B C : Type 0} (s : Step A) (f : A → Step B) (g : B → Step C) → next s (λ a. next (f a) g) ≡ next (next s f) g
+next_next Untold f g = refl
+next_next (Gives a) f g = refl
+next_next (Ends status line) f g = refl
+
+module _ {A T : Type 0} (m : T → A) (f : Both A → Step (List ℕ)) (o o' : Outlet) (e : Ending) where
+  -- the first of two steps ended the command
+  pub first_ends : (s r : Step A) → StepAs {A = A} {T = T} m s (Err e) → TextEnds (next (both s r) f) o o' e
+  first_ends Untold r h = tt
+  first_ends (Gives a) r h = free_text (next (both (Gives a) r) f) o o' e h
+  first_ends (Ends status line) r h = h
+
+  -- the second did
+  pub second_ends : (s r : Step A) (t : T) → StepAs m s (Ok t) → StepAs {A = A} {T = T} m r (Err e) → TextEnds (next (both s r) f) o o' e
+  second_ends Untold r t first h = tt
+  second_ends (Gives a) Untold t first h = tt
+  second_ends (Gives a) (Gives b) t first h = free_text (f (record { old = a; new = b })) o o' e h
+  second_ends (Gives a) (Ends status line) t first h = h
+  second_ends (Ends status line) r t first h = absurd first
+
+  -- both gave something
+  pub both_give : (s r : Step A) (t u : T) → StepAs m s (Ok t) → StepAs m r (Ok u) → TextEnds (f (record { old = m t; new = m u })) o o' e
+      → TextEnds (next (both s r) f) o o' e
+  both_give Untold r t u first second h = tt
+  both_give (Gives a) Untold t u first second h = tt
+  both_give (Gives a) (Gives b) t u first second h =
+      subst (λ (x : A). TextEnds (f (record { old = x; new = b })) o o' e) first
+      (subst (λ (y : A). TextEnds (f (record { old = m t; new = y })) o o' e) second h)
+  both_give (Gives a) (Ends status line) t u first second h = absurd second
+  both_give (Ends status line) r t u first second h = absurd first
+
+-- what comes after the second step comes after both
+pub regroup : {A B : Type 0} (s : Step A) (f : A → Step B) (g : B → Step (List ℕ)) (o o' : Outlet) (e : Ending)
+    → TextEnds (next s (λ a. next (f a) g)) o o' e → TextEnds (next (next s f) g) o o' e
+regroup s f g o o' e h = subst (λ (x : Step (List ℕ)). TextEnds x o o' e) (next_next s f g) h
+
+-- ---- the outcome
+
+given_ends : (text : List ℕ) (i : Intake) (o o' : Outlet) (s s' : Stock) (e : Ending) → i.given < 2 ^ 64 → s'.held ≡ s.held → Quiet o o' e → WrittenAs text o o' e
+    → EndsAs i i o o' s s' e (done text s.held 0)
+given_ends text i o o' s s' Done few same quiet h = record {
+  status_is = refl;
+  text = subst (λ (l : List ℕ). Appends o.written o'.written l) (sym (append-nil text)) h;
+  note = refl;
+  held = same;
+  taken = takes_nothing i few;
+}
+given_ends text i o o' s s' WriteFault few same quiet h = record { begun = 1; bytes = h.0; text = h.2; held = inl same }
+given_ends text i o o' s s' ShelfFault few same quiet h = comes_to_nothing o o' s s' _ quiet same
+given_ends text i o o' s s' NoMemory few same quiet h = comes_to_nothing o o' s s' _ quiet same
+given_ends text i o o' s s' (Refused line) few same quiet h = absurd h
+given_ends text i o o' s s' BadWords few same quiet h = absurd h
+given_ends text i o o' s s' (BadText line) few same quiet h = absurd h
+given_ends text i o o' s s' (NotCompatible line) few same quiet h = absurd h
+given_ends text i o o' s s' ReadFault few same quiet h = absurd h
+given_ends text i o o' s s' (NotThere line) few same quiet h = absurd h
+given_ends text i o o' s s' (TooLarge line) few same quiet h = absurd h
+
+same_end : (status k : ℕ) (line text : List ℕ) → status ≡ k → line ≡ text → ended status line 0 ≡ ended k text 0
+same_end status k line text e f = ap (λ (n : ℕ). ended n line 0) e ∙ ap (λ (l : List ℕ). ended k l 0) f
+
+pub ended_ends : (status : ℕ) (line : List ℕ) (i : Intake) (o o' : Outlet) (s s' : Stock) (e : Ending) → s'.held ≡ s.held → Quiet o o' e → EndedAs status line e
+    → EndsAs i i o o' s s' e (ended status line 0)
+ended_ends status line i o o' s s' (BadText text) same quiet h = ends_with 3 (string_bytes text) i _ (same_end status 3 line (string_bytes text) h.0 h.1)
+ended_ends status line i o o' s s' (NotCompatible text) same quiet h = ends_with 4 (string_bytes text) i _ (same_end status 4 line (string_bytes text) h.0 h.1)
+ended_ends status line i o o' s s' (NotThere text) same quiet h = ends_with 8 (string_bytes text) i _ (same_end status 8 line (string_bytes text) h.0 h.1)
+ended_ends status line i o o' s s' (TooLarge text) same quiet h = ends_with 9 (string_bytes text) i _ (same_end status 9 line (string_bytes text) h.0 h.1)
+ended_ends status line i o o' s s' ShelfFault same quiet h = comes_to_nothing o o' s s' _ quiet same
+ended_ends status line i o o' s s' NoMemory same quiet h = comes_to_nothing o o' s s' _ quiet same
+ended_ends status line i o o' s s' Done same quiet h = absurd h
+ended_ends status line i o o' s s' (Refused text) same quiet h = absurd h
+ended_ends status line i o o' s s' BadWords same quiet h = absurd h
+ended_ends status line i o o' s s' ReadFault same quiet h = absurd h
+ended_ends status line i o o' s s' WriteFault same quiet h = absurd h
+
+-- what an ending says beside the outcome of a command whose steps give the text for out
+pub text_ends : (step : Step (List ℕ)) (i : Intake) (o o' : Outlet) (s s' : Stock) (e : Ending) (x : Outcome) → i.given < 2 ^ 64 → s'.held ≡ s.held
+    → Quiet o o' e → TextEnds step o o' e → HasText s.held step x → EndsAs i i o o' s s' e x
+text_ends Untold i o o' s s' e x few same quiet h has = absurd has
+text_ends (Gives text) i o o' s s' e x few same quiet h has =
+    subst (λ (y : Outcome). EndsAs i i o o' s s' e y) (sym has) (given_ends text i o o' s s' e few same quiet h)
+text_ends (Ends status line) i o o' s s' e x few same quiet h has =
+    subst (λ (y : Outcome). EndsAs i i o o' s s' e y) (sym has) (ended_ends status line i o o' s s' e same quiet h)
+
+-- the outcome of a command that goes by what a step gives
+module _ {A T : Type 0} (m : T → A) (P : A → Outcome → Type 0) where
+  free_by : (i : Intake) (o o' : Outlet) (s s' : Stock) (e : Ending) (x : Outcome) → s'.held ≡ s.held → Quiet o o' e → IsFree e
+      → EndsAs i i o o' s s' e x
+  free_by i o o' s s' ShelfFault x same quiet h = comes_to_nothing o o' s s' _ quiet same
+  free_by i o o' s s' NoMemory x same quiet h = comes_to_nothing o o' s s' _ quiet same
+  free_by i o o' s s' Done x same quiet h = absurd h
+  free_by i o o' s s' (Refused text) x same quiet h = absurd h
+  free_by i o o' s s' BadWords x same quiet h = absurd h
+  free_by i o o' s s' (BadText text) x same quiet h = absurd h
+  free_by i o o' s s' (NotCompatible text) x same quiet h = absurd h
+  free_by i o o' s s' ReadFault x same quiet h = absurd h
+  free_by i o o' s s' WriteFault x same quiet h = absurd h
+  free_by i o o' s s' (NotThere text) x same quiet h = absurd h
+  free_by i o o' s s' (TooLarge text) x same quiet h = absurd h
+
+  -- where the step ended it
+  pub ended_by : (step : Step A) (i : Intake) (o o' : Outlet) (s s' : Stock) (e : Ending) (x : Outcome) → s'.held ≡ s.held → Quiet o o' e
+      → StepAs {A = A} {T = T} m step (Err e) → HasBy P step x → EndsAs i i o o' s s' e x
+  ended_by Untold i o o' s s' e x same quiet h has = absurd has
+  ended_by (Gives a) i o o' s s' e x same quiet h has = free_by i o o' s s' e x same quiet h
+  ended_by (Ends status line) i o o' s s' e x same quiet h has =
+      subst (λ (y : Outcome). EndsAs i i o o' s s' e y) (sym has) (ended_ends status line i o o' s s' e same quiet h)
+
+  -- where the step gave something
+  pub had_by : (step : Step A) (t : T) (x : Outcome) → StepAs m step (Ok t) → HasBy P step x → P (m t) x
+  had_by Untold t x h has = absurd has
+  had_by (Gives a) t x h has = subst (λ (y : A). P y x) (sym h) has
+  had_by (Ends status line) t x h has = absurd h
+
+-- ---- steps are told where the shelf is, and never end by the status 0
+
+abbrev pub IsSound : {A : Type 0} → Option Held → Step A → Type 0
+IsSound held Untold = held ≡ None
+IsSound held (Gives a) = Unit {0}
+IsSound held (Ends status line) = 0 < status
+
+pub sound_next : {A B : Type 0} (held : Option Held) (s : Step A) (f : A → Step B) → IsSound held s → ((a : A) → IsSound held (f a)) → IsSound held (next s f)
+sound_next held Untold f h each = h
+sound_next held (Gives a) f h each = each a
+sound_next held (Ends status line) f h each = h
+
+pub sound_both : {A : Type 0} (held : Option Held) (s r : Step A) → IsSound held s → IsSound held r → IsSound held (both s r)
+sound_both held s r h k = sound_next held s _ h (λ a. sound_next held r _ k (λ b. tt))
+
+sound_size : (held : Option Held) (name text : List ℕ) (b : Bool) → IsSound held (if b then Gives text else Ends 9 (too_large_line name))
+sound_size held name text true = tt
+sound_size held name text false = omega arith
+
+sound_under : (held : Option Held) (most : ℕ) (name : List ℕ) (under : Option (List ℕ)) → IsSound held (text_under most name under)
+sound_under held most name None = omega arith
+sound_under held most name (Some text) = sound_size held name text (nat_le (length text) most)
+
+pub sound_fetch : (held : Option Held) (most : ℕ) (name : List ℕ) → IsSound held (fetched most held name)
+sound_fetch None most name = refl
+sound_fetch (Some map) most name = sound_under (Some map) most name (map name)
+
+pub sound_word : (held : Option Held) (word : SetWord) → IsSound held (fetched_set held word)
+sound_word held (Shipped s) = tt
+sound_word held (OnShelf name) = sound_next held (fetched longest_file held name) (λ text. Gives (Text name text)) (sound_fetch held longest_file name) (λ text. tt)
+
+sound_said : (held : Option Held) (name : List ℕ) (said : Said) → IsSound held (said_set name said)
+sound_said held name (Parts set) = tt
+sound_said held name Syntax = omega arith
+sound_said held name (Shape path) = omega arith
+sound_said held name (IllFormed fault) = omega arith
+
+pub sound_set : (held : Option Held) (text : SetText) → IsSound held (set_in text)
+sound_set held (Number s) = tt
+sound_set held (Text name text) = sound_said held name (file_said text)
+
+pub sound_word_set : (held : Option Held) (word : SetWord) → IsSound held (word_set held word)
+sound_word_set held word = sound_next held (fetched_set held word) set_in (sound_word held word) (λ text. sound_set held text)
+
+pub sound_sets : (held : Option Held) (old new : SetWord) → IsSound held (named_sets held old new)
+sound_sets held old new =
+    sound_next held (both (fetched_set held old) (fetched_set held new)) sets_in
+    (sound_both held (fetched_set held old) (fetched_set held new) (sound_word held old) (sound_word held new))
+    (λ texts. sound_both held (set_in texts.old) (set_in texts.new) (sound_set held texts.old) (sound_set held texts.new))
+
+-- ---- where steps give a text for out there is one outcome
+
+pub record OneText (held : Held) (s : Step (List ℕ)) : Type 0 where
+  pub outcome : Outcome
+  pub is : HasText (Some held) s outcome
+  pub only : (other : Outcome) → HasText (Some held) s other → other ≡ outcome
+
+pub one_text : (held : Held) (s : Step (List ℕ)) → IsSound (Some held) s → OneText held s
+one_text held Untold sound = absurd (some_none held sound)
+  where
+    some_none : (map : Held) → Some map ≡ None → ⊥
+    some_none map e = cc
+one_text held (Gives text) sound = record { outcome = done text (Some held) 0; is = refl; only = λ other has. has }
+one_text held (Ends status line) sound = record { outcome = ended status line 0; is = refl; only = λ other has. has }
+
+-- ---- what is held under a name is fetched
+
+under_gives : (most : ℕ) (name text : List ℕ) (b : Bool) → nat_le (length text) most ≡ b → length text ≤ most
+    → (if b then Gives text else Ends 9 (too_large_line name)) ≡ Gives text
+under_gives most name text true e fits = refl
+under_gives most name text false e fits = absurd (omega (arith, leb-false (length text) most e, fits))
+
+pub fetched_gives : (most : ℕ) (map : Held) (name text : List ℕ) → map name ≡ Some text → length text ≤ most
+    → fetched most (Some map) name ≡ Gives text
+fetched_gives most map name text e fits =
+    ap (text_under most name) e ∙ under_gives most name text (nat_le (length text) most) refl fits

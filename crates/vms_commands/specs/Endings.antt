@@ -1,0 +1,108 @@
+-- How a command ends, before it is told on notes.
+use Rattle.std.specs.Prelude.{◌≡◌, ◌⊎◌, ℕ, Bool, true, List, [], Some, drop, IfSome, string_bytes}
+use Rattle.std.specs.Io.KnownBytes.{Appends, Keeps}
+use Rattle.vms_io.specs.Causes.{Rose, AppendsPrefix}
+use Rattle.vms_io.specs.Told.{Intake, Outlet, Stock}
+use Rattle.vms_commands.specs.declared.ending.Ending.{Ending}
+use Rattle.vms_commands.specs.declared.ending.Ending.TheVariants.{Done, Refused, BadWords, BadText, NotCompatible, ReadFault, WriteFault, ShelfFault, NotThere, TooLarge, NoMemory}
+use Rattle.vms_commands.specs.Lines.{bad_words, read_fault, write_fault, shelf_fault, out_of_memory}
+use Rattle.vms_commands.specs.Outcomes.{Outcome, text_of, held_after, TakesBytes, ComesTo}
+
+-- the status of each ending, and its line
+abbrev pub status_of : Ending → ℕ
+status_of Done = 0
+status_of (Refused line) = 1
+status_of BadWords = 2
+status_of (BadText line) = 3
+status_of (NotCompatible line) = 4
+status_of ReadFault = 5
+status_of WriteFault = 6
+status_of ShelfFault = 7
+status_of (NotThere line) = 8
+status_of (TooLarge line) = 9
+status_of NoMemory = 10
+
+abbrev pub line_of : Ending → List ℕ
+line_of Done = []
+line_of (Refused line) = line.items
+line_of BadWords = bad_words
+line_of (BadText line) = string_bytes line
+line_of (NotCompatible line) = string_bytes line
+line_of ReadFault = read_fault
+line_of WriteFault = write_fault
+line_of ShelfFault = shelf_fault
+line_of (NotThere line) = string_bytes line
+line_of (TooLarge line) = string_bytes line
+line_of NoMemory = out_of_memory
+
+-- the line was written and the status answered, or a prefix of it and a write fault answered; nothing is told of what is done
+abbrev pub Tells : Outlet → Outlet → Ending → ℕ → Type 0
+Tells notes notes' Done result = (result ≡ 0) × (notes' ≡ notes)
+Tells notes notes' ending result =
+    ((result ≡ status_of ending) × Appends notes.written notes'.written (line_of ending))
+    ⊎ ((result ≡ 6) × Rose notes.faults notes'.faults × AppendsPrefix notes.written notes'.written (line_of ending))
+
+-- the outcome has this status and this line, and so much of the input is taken
+pub record EndsWith (status : ℕ) (line : List ℕ) (input input' : Intake) (o : Outcome) : Type 0 where
+  pub status_is : o.status ≡ status
+  pub parts : o.parts ≡ []
+  pub note : o.note ≡ line
+  pub left : IfSome input.left (λ bytes. input'.left ≡ Some (drop o.taken bytes))
+
+-- the outcome was done
+pub record DoneAs (input input' : Intake) (out out' : Outlet) (shelf shelf' : Stock) (o : Outcome) : Type 0 where
+  pub status_is : o.status ≡ 0
+  pub text : Appends out.written out'.written (text_of o.parts)
+  pub note : o.note ≡ []
+  pub held : shelf'.held ≡ held_after shelf.held o.parts
+  pub taken : TakesBytes input input' o.taken
+
+-- what an ending says beside the outcome: that it was done or ended so, or how far it came
+abbrev pub EndsAs : (input input' : Intake) (out out' : Outlet) (shelf shelf' : Stock) → Ending → Outcome → Type 0
+EndsAs input input' out out' shelf shelf' Done o = DoneAs input input' out out' shelf shelf' o
+EndsAs input input' out out' shelf shelf' (Refused line) o = EndsWith 1 line.items input input' o
+EndsAs input input' out out' shelf shelf' BadWords o = EndsWith 2 bad_words input input' o
+EndsAs input input' out out' shelf shelf' (BadText line) o = EndsWith 3 (string_bytes line) input input' o
+EndsAs input input' out out' shelf shelf' (NotCompatible line) o = EndsWith 4 (string_bytes line) input input' o
+EndsAs input input' out out' shelf shelf' ReadFault o = ComesTo out out' shelf shelf' o.parts
+EndsAs input input' out out' shelf shelf' WriteFault o = ComesTo out out' shelf shelf' o.parts
+EndsAs input input' out out' shelf shelf' ShelfFault o = ComesTo out out' shelf shelf' o.parts
+EndsAs input input' out out' shelf shelf' (NotThere line) o = EndsWith 8 (string_bytes line) input input' o
+EndsAs input input' out out' shelf shelf' (TooLarge line) o = EndsWith 9 (string_bytes line) input input' o
+EndsAs input input' out out' shelf shelf' NoMemory o = ComesTo out out' shelf shelf' o.parts
+
+-- ---- the cause of an ending, told or not
+
+-- whichever command it is: a fault only where its count rose, and nothing is touched but the input where it ends by a status of
+-- its own
+abbrev pub Caused : (input input' : Intake) (out out' : Outlet) (shelf shelf' : Stock) → Ending → Type 0
+Caused input input' out out' shelf shelf' Done = Unit {0}
+Caused input input' out out' shelf shelf' ReadFault =
+    Rose input.faults input'.faults × Keeps out.written out'.written
+Caused input input' out out' shelf shelf' WriteFault = Rose out.faults out'.faults
+Caused input input' out out' shelf shelf' ShelfFault = Rose shelf.faults shelf'.faults
+Caused input input' out out' shelf shelf' NoMemory = Unit {0}
+Caused input input' out out' shelf shelf' ending =
+    Keeps out.written out'.written × (shelf'.held ≡ shelf.held)
+
+-- of a set that a word names, where `asks` says whether the word is a name
+abbrev pub SetCause : Bool → (shelf shelf' : Stock) → Ending → Type 0
+SetCause asks shelf shelf' (BadText line) = asks ≡ true
+SetCause asks shelf shelf' ShelfFault = (asks ≡ true) × Rose shelf.faults shelf'.faults
+SetCause asks shelf shelf' (NotThere line) = asks ≡ true
+SetCause asks shelf shelf' (TooLarge line) = asks ≡ true
+SetCause asks shelf shelf' NoMemory = Unit {0}
+SetCause asks shelf shelf' ending = ⊥
+
+-- nothing was written, unless all was done or out failed: of commands that write one text once it is known
+abbrev pub Quiet : Outlet → Outlet → Ending → Type 0
+Quiet out out' Done = Unit {0}
+Quiet out out' WriteFault = Unit {0}
+Quiet out out' ending = Keeps out.written out'.written
+
+-- ---- what a write of a text says
+
+abbrev pub WritesAs : List ℕ → Outlet → Outlet → Ending → Type 0
+WritesAs text out out' Done = Appends out.written out'.written text
+WritesAs text out out' WriteFault = AppendsPrefix out.written out'.written text × Rose out.faults out'.faults
+WritesAs text out out' _ = ⊥

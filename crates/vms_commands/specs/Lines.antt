@@ -1,0 +1,82 @@
+-- The lines of notes.
+use Rattle.std.specs.Prelude.{ℕ, List, [], ◌∷◌, ◌++◌, Option, Some, None, codes}
+use Rattle.std.specs.List.{slice_get}
+use Rattle.std.specs.Fmt.{decimal}
+use Rattle.vms_spec.specs.declared.Reason.{Reason}
+use Rattle.vms_spec.specs.declared.Reason.TheVariants as reasons
+use Rattle.vms_spec.specs.Sets.{Device, Set}
+
+abbrev pub device_text : Option Device → List ℕ
+device_text None = codes "-"
+device_text (Some d) = d.desc.name ++ (codes "/" ++ decimal d.instance)
+
+-- a device by its name and instance, or a dash
+abbrev pub section_text : Set → Option ℕ → List ℕ
+section_text set None = codes "-"
+section_text set (Some k) = device_text (slice_get set.devices k)
+
+abbrev pub reason_name : Reason → List ℕ
+reason_name reasons.Truncated = codes "Truncated"
+reason_name reasons.BadMagic = codes "BadMagic"
+reason_name reasons.OldStream = codes "OldStream"
+reason_name reasons.BadVersion = codes "BadVersion"
+reason_name reasons.BadMark = codes "BadMark"
+reason_name reasons.Ram = codes "Ram"
+reason_name reasons.Iterative = codes "Iterative"
+reason_name reasons.Command = codes "Command"
+reason_name reasons.ConfigurationExtra = codes "ConfigurationExtra"
+reason_name reasons.WrongMachine = codes "WrongMachine"
+reason_name reasons.UnknownSection = codes "UnknownSection"
+reason_name reasons.RepeatedSection = codes "RepeatedSection"
+reason_name reasons.TooNew = codes "TooNew"
+reason_name reasons.TooOld = codes "TooOld"
+reason_name reasons.BadBool = codes "BadBool"
+reason_name reasons.NotEqual = codes "NotEqual"
+reason_name reasons.CountTooLarge = codes "CountTooLarge"
+reason_name reasons.UnknownSubsection = codes "UnknownSubsection"
+reason_name reasons.RepeatedSubsection = codes "RepeatedSubsection"
+reason_name reasons.Invalid = codes "Invalid"
+reason_name (reasons.Unsound rule) = codes "Unsound"
+reason_name reasons.BadFooter = codes "BadFooter"
+reason_name reasons.MissingSection = codes "MissingSection"
+reason_name reasons.LinesDisagree = codes "LinesDisagree"
+reason_name reasons.Trailing = codes "Trailing"
+reason_name reasons.DescriptionTooLong = codes "DescriptionTooLong"
+
+-- the number of a device's rule
+abbrev pub rule_of : Reason → Option ℕ
+rule_of (reasons.Unsound rule) = Some rule
+rule_of _ = None
+
+abbrev pub rule_text : Option ℕ → List ℕ
+rule_text None = []
+rule_text (Some rule) = codes " " ++ decimal rule
+
+-- the reason's name, and for a device's rule its number
+abbrev pub reason_text : Reason → List ℕ
+reason_text reason = reason_name reason ++ rule_text (rule_of reason)
+
+abbrev pub refused_line : Set → ℕ → Option ℕ → Reason → List ℕ
+refused_line set slice_get section reason =
+    codes "refused slice_get " ++ (decimal slice_get ++ (codes " in " ++ (section_text set section ++ (codes ": " ++ (reason_text reason ++ 10 ∷ [])))))
+
+abbrev pub bad_words : List ℕ
+bad_words = codes "bad words" ++ 10 ∷ []
+
+abbrev pub read_fault : List ℕ
+read_fault = codes "read fault" ++ 10 ∷ []
+
+abbrev pub write_fault : List ℕ
+write_fault = codes "write fault" ++ 10 ∷ []
+
+abbrev pub out_of_memory : List ℕ
+out_of_memory = codes "out of memory" ++ 10 ∷ []
+
+abbrev pub shelf_fault : List ℕ
+shelf_fault = codes "shelf fault" ++ 10 ∷ []
+
+abbrev pub not_there_line : List ℕ → List ℕ
+not_there_line name = codes "not there: " ++ (name ++ 10 ∷ [])
+
+abbrev pub too_large_line : List ℕ → List ℕ
+too_large_line name = codes "too large: " ++ (name ++ 10 ∷ [])

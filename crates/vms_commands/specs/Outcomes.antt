@@ -1,0 +1,144 @@
+-- What a call is to do, and how far it comes: the frame that all commands share.
+use Rattle.std.specs.Prelude.{◌≡◌, ◌⊎◌, ℕ, zero, suc, ◌+◌, ◌≤◌, Bool, true, List, [], ◌∷◌, ◌++◌, take, drop, Option, Some, IfSome}
+use Rattle.std.specs.Io.KnownBytes.{Appends, Keeps}
+use Rattle.vms_io.specs.Causes.{Rose, AppendsPrefix, capped}
+use Rattle.vms_io.specs.Shelves.{Held, IfToldBoth, KeepsOthers}
+use Rattle.vms_io.specs.Told.{Intake, Outlet, Stock}
+use Rattle.vms_commands.specs.Lines.{read_fault, write_fault, shelf_fault, out_of_memory}
+
+-- One part of what a command does: what the shelf tells once it is done, and then its text for out.
+pub record Part : Type 0 where
+  pub text : List ℕ
+  pub held : Option Held
+
+-- The status; the parts, in order; the line for notes; and how many bytes of the input are taken. A script that is played has
+-- a part for each line that it plays, and each other command has one part, or none where it ends by a status of its own.
+pub record Outcome : Type 0 where
+  pub status : ℕ
+  pub parts : List Part
+  pub note : List ℕ
+  pub taken : ℕ
+
+-- done, with this text, while the shelf holds this, and so many bytes taken
+abbrev pub done : List ℕ → Option Held → ℕ → Outcome
+done text held taken = record { status = 0; parts = record { text = text; held = held } ∷ []; note = []; taken = taken }
+
+-- ended by a status with its line, and so many bytes taken
+abbrev pub ended : ℕ → List ℕ → ℕ → Outcome
+ended status note taken = record { status = status; parts = []; note = note; taken = taken }
+
+-- the text of all parts
+abbrev pub text_of : List Part → List ℕ
+text_of [] = []
+text_of (part ∷ parts) = part.text ++ text_of parts
+
+-- what the shelf tells after all parts
+abbrev pub held_after : Option Held → List Part → Option Held
+held_after held [] = held
+held_after held (part ∷ parts) = held_after part.held parts
+
+-- the text of the first k parts, and of the last of these only so many bytes
+abbrev pub text_begun : List Part → ℕ → ℕ → List ℕ
+text_begun parts zero n = []
+text_begun [] (suc k) n = []
+text_begun (part ∷ parts) (suc zero) n = take n part.text
+text_begun (part ∷ parts) (suc (suc k)) n = part.text ++ text_begun parts (suc k) n
+
+-- what is told of the outside before a call or after it
+pub record Outside : Type 0 where
+  pub input : Intake
+  pub out : Outlet
+  pub notes : Outlet
+  pub shelf : Stock
+
+-- so many bytes of the input were taken
+pub record TakesBytes (old new : Intake) (n : ℕ) : Type 0 where
+  pub left : IfSome old.left (λ bytes. new.left ≡ Some (drop n bytes))
+  pub given : new.given ≡ capped (old.given + n)
+
+-- nothing of the input was taken
+pub record TakesNothing (old new : Intake) : Type 0 where
+  pub left : new.left ≡ old.left
+  pub given : new.given ≡ old.given
+
+-- The call does the outcome. Of a refusal the number of bytes given is bounded elsewhere.
+pub record Does (status : ℕ) (old new : Outside) (o : Outcome) : Type 0 where
+  pub same : status ≡ o.status
+  pub text : Appends old.out.written new.out.written (text_of o.parts)
+  pub note : Appends old.notes.written new.notes.written o.note
+  pub shelf : new.shelf.held ≡ held_after old.shelf.held o.parts
+  pub left : IfSome old.input.left (λ bytes. new.input.left ≡ Some (drop o.taken bytes))
+  pub given : o.status ≡ 0 → new.input.given ≡ capped (old.input.given + o.taken)
+
+-- the shelf tells this, or all of it but for one name where its count of faults rose, as after a store that failed
+abbrev pub HoldsBut : ℕ → ℕ → Option Held → Option Held → Type 0
+HoldsBut before now want held =
+    (held ≡ want) ⊎ (Rose before now × ((name : List ℕ) × IfToldBoth want held (λ a b. KeepsOthers a b name)))
+
+-- The first k parts were begun: the shelf is as after these, and on out stand the texts of all but the last of them and a
+-- prefix of the last's. Where none was begun the shelf is as before and out is untouched.
+pub record ComesTo (out out' : Outlet) (shelf shelf' : Stock) (parts : List Part) : Type 0 where
+  pub begun : ℕ
+  pub bytes : ℕ
+  pub text : Appends out.written out'.written (text_begun parts begun bytes)
+  pub held : HoldsBut shelf.faults shelf'.faults (held_after shelf.held (take begun parts)) shelf'.held
+
+-- a prefix of the outcome's line, or of a fault's line, stands on notes
+abbrev pub HasPart : List ℕ → Option (List ℕ) → Option (List ℕ) → Type 0
+HasPart note old new =
+    AppendsPrefix old new note ⊎ AppendsPrefix old new read_fault ⊎ AppendsPrefix old new write_fault ⊎ AppendsPrefix old new shelf_fault
+    ⊎ AppendsPrefix old new out_of_memory
+
+-- ---- what a call may stop at, told or not: each but want of memory only where its count rose
+
+abbrev pub ReadFault : ℕ → Outside → Outside → Type 0
+ReadFault status old new =
+    (status ≡ 5) × Rose old.input.faults new.input.faults × Keeps old.out.written new.out.written
+    × Appends old.notes.written new.notes.written read_fault
+
+abbrev pub OutFault : ℕ → Outside → Outside → Type 0
+OutFault status old new =
+    (status ≡ 6) × Rose old.out.faults new.out.faults × Appends old.notes.written new.notes.written write_fault
+
+abbrev pub NotesFault : ℕ → Outside → Outside → Type 0
+NotesFault status old new = (status ≡ 6) × Rose old.notes.faults new.notes.faults
+
+abbrev pub ShelfFault : ℕ → Outside → Outside → Type 0
+ShelfFault status old new =
+    (status ≡ 7) × Rose old.shelf.faults new.shelf.faults × Appends old.notes.written new.notes.written shelf_fault
+
+abbrev pub WantsMemory : ℕ → Outside → Outside → Type 0
+WantsMemory status old new = (status ≡ 10) × Appends old.notes.written new.notes.written out_of_memory
+
+-- The call stops on its way to the outcome, or cannot tell how it ended.
+pub record Stops (status : ℕ) (old new : Outside) (o : Outcome) : Type 0 where
+  pub why : ReadFault status old new ⊎ OutFault status old new
+      ⊎ (NotesFault status old new × HasPart o.note old.notes.written new.notes.written)
+      ⊎ ShelfFault status old new ⊎ WantsMemory status old new
+  pub come : ComesTo old.out new.out old.shelf new.shelf o.parts
+
+-- the call does the outcome, or stops on the way
+abbrev pub DoesOrStops : ℕ → Outside → Outside → Outcome → Type 0
+DoesOrStops status old new o = Does status old new o ⊎ Stops status old new o
+
+-- a status of the command's own, for which nothing is written to out
+abbrev pub EndsBy : ℕ → ℕ → Outside → Outside → Type 0
+EndsBy own status old new = (status ≡ own) × Keeps old.out.written new.out.written
+
+-- such a status that comes before the input is read, and only where the words name something on the shelf
+abbrev pub EndsBefore : ℕ → Bool → ℕ → Outside → Outside → Type 0
+EndsBefore own asks status old new = (asks ≡ true) × EndsBy own status old new × (new.input ≡ old.input)
+
+-- counts of faults never fall
+pub record CountsStand (old new : Outside) : Type 0 where
+  pub input : old.input.faults ≤ new.input.faults
+  pub out : old.out.faults ≤ new.out.faults
+  pub notes : old.notes.faults ≤ new.notes.faults
+  pub shelf : old.shelf.faults ≤ new.shelf.faults
+
+-- promises stay
+pub record PromisesStay (old new : Outside) : Type 0 where
+  pub input : new.input.promise ≡ old.input.promise
+  pub out : new.out.promise ≡ old.out.promise
+  pub notes : new.notes.promise ≡ old.notes.promise
+  pub shelf : new.shelf.promise ≡ old.shelf.promise

@@ -1,0 +1,86 @@
+-- How the code's steps end, beside what is meant by them.
+use Rattle.std.specs.Prelude.{◌≡◌, ℕ, Bool, true, List, Result, Ok, Err, string_bytes}
+use Rattle.std.specs.Io.KnownBytes.{Appends}
+use Rattle.std.specs.declared.string.String.{String}
+use Rattle.std.specs.declared.alloc.Global.{Global}
+use Rattle.vms_io.specs.Causes.{Rose, AppendsPrefix}
+use Rattle.vms_io.specs.Told.{Outlet, Stock}
+use Rattle.vms_commands.specs.declared.ending.Ending.{Ending}
+use Rattle.vms_commands.specs.declared.ending.Ending.TheVariants.{Done, BadText, NotCompatible, WriteFault, ShelfFault, NotThere, TooLarge, NoMemory}
+use Rattle.vms_commands.specs.declared.fetching.SetText.{SetText as Fetched}
+use Rattle.vms_commands.specs.declared.fetching.SetText.TheVariants as fetched
+use Rattle.vms_commands.specs.Endings.{SetCause}
+use Rattle.vms_commands.specs.Fetching.{SetText, Number, Text}
+use Rattle.vms_commands.specs.Steps.{Step, Untold, Gives, Ends}
+
+abbrev pub text_of : Fetched → SetText
+text_of (fetched.Shipped set) = Number set.number
+text_of (fetched.Text name text) = Text name.now text.items
+
+-- by a fault of the shelf, or for want of memory
+abbrev pub IsFree : Ending → Type 0
+IsFree ShelfFault = Unit {0}
+IsFree NoMemory = Unit {0}
+IsFree ending = ⊥
+
+-- by a status and a line of its own, or so
+abbrev pub EndedAs : ℕ → List ℕ → Ending → Type 0
+EndedAs status line (BadText text) = (status ≡ 3) × (line ≡ string_bytes text)
+EndedAs status line (NotCompatible text) = (status ≡ 4) × (line ≡ string_bytes text)
+EndedAs status line (NotThere text) = (status ≡ 8) × (line ≡ string_bytes text)
+EndedAs status line (TooLarge text) = (status ≡ 9) × (line ≡ string_bytes text)
+EndedAs status line ending = IsFree ending
+
+-- a step where m says what its result means
+abbrev pub StepAs : {A T : Type 0} → (T → A) → Step A → Result T Ending → Type 0
+StepAs m Untold result = Unit {0}
+StepAs m (Gives a) (Ok t) = m t ≡ a
+StepAs m (Gives a) (Err ending) = IsFree ending
+StepAs m (Ends status line) (Ok t) = ⊥
+StepAs m (Ends status line) (Err ending) = EndedAs status line ending
+
+-- a text for out was written, or a prefix of it, unless it ended before
+abbrev pub WrittenAs : List ℕ → Outlet → Outlet → Ending → Type 0
+WrittenAs text out out' Done = Appends out.written out'.written text
+WrittenAs text out out' WriteFault = AppendsPrefix out.written out'.written text
+WrittenAs text out out' ending = IsFree ending
+
+-- steps that give the text for out, and the writing of it
+abbrev pub TextEnds : Step (List ℕ) → Outlet → Outlet → Ending → Type 0
+TextEnds Untold out out' ending = Unit {0}
+TextEnds (Gives text) out out' ending = WrittenAs text out out' ending
+TextEnds (Ends status line) out out' ending = EndedAs status line ending
+
+-- ---- causes, told or not
+
+-- of a fetch
+abbrev pub FetchCause : {T : Type 0} → Stock → Stock → Result T Ending → Type 0
+FetchCause shelf shelf' (Ok t) = Unit {0}
+FetchCause shelf shelf' (Err ShelfFault) = Rose shelf.faults shelf'.faults
+FetchCause shelf shelf' (Err (NotThere line)) = Unit {0}
+FetchCause shelf shelf' (Err (TooLarge line)) = Unit {0}
+FetchCause shelf shelf' (Err NoMemory) = Unit {0}
+FetchCause shelf shelf' (Err ending) = ⊥
+
+-- the line of a bad text, if there was memory for it
+abbrev pub IsBad : {T : Type 0} → Result (String Global) T → Ending → Type 0
+IsBad (Ok line) (BadText text) = text ≡ line
+IsBad (Err fault) NoMemory = Unit {0}
+IsBad line ending = ⊥
+
+-- of a word's fetch, where `asks` says whether the word is a name
+abbrev pub WordCause : {T : Type 0} → Bool → Stock → Stock → Result T Ending → Type 0
+WordCause asks shelf shelf' (Ok t) = Unit {0}
+WordCause asks shelf shelf' (Err ending) = (asks ≡ true) × FetchCause {T = ℕ} shelf shelf' (Err ending)
+
+-- of reading a set
+abbrev pub ReadCause : {T : Type 0} → Bool → Result T Ending → Type 0
+ReadCause asks (Ok t) = Unit {0}
+ReadCause asks (Err (BadText line)) = asks ≡ true
+ReadCause asks (Err NoMemory) = Unit {0}
+ReadCause asks (Err ending) = ⊥
+
+-- of the set that a word names, where `asks` says whether the word is a name
+abbrev pub HadCause : {T : Type 0} → Bool → Stock → Stock → Result T Ending → Type 0
+HadCause asks shelf shelf' (Ok t) = Unit {0}
+HadCause asks shelf shelf' (Err ending) = SetCause asks shelf shelf' ending

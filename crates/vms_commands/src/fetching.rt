@@ -1,0 +1,145 @@
+// Sets that the words name: fetched from the shelf, and then read.
+ghost use Rattle.std.specs.Prelude.{◌≡◌, ◌≤◌, true, false, IfOk, vec_len};
+ghost use Rattle.vms_io.specs.Told.{stock};
+ghost use Rattle.vms_desc.specs.Described.{described};
+ghost use Rattle.vms_descfile.specs.Files.{file_said};
+ghost use Rattle.vms_commands.specs.Asks.{set_asked};
+ghost use Rattle.vms_load.specs.Kept.{loads};
+ghost use Rattle.vms_commands.specs.Fetching.{fetched, fetched_set, is_on_shelf, is_text, said_set, set_in, word_set};
+ghost use Rattle.vms_commands.specs.StepEndings.{FetchCause, HadCause, IsBad, ReadCause, StepAs, WordCause, text_of};
+
+use crate::ending::Ending;
+use crate::notes::{not_there_line, too_large_line};
+use crate::set_notes::{rule_line, shape_line, syntax_line};
+use crate::set_words::{SetWord, ShippedSet};
+use std::alloc::Global;
+use vms_desc::DescSet;
+use vms_descfile::{FileFault, read_set};
+use vms_io::{FetchFault, NoMemory, Shelf};
+use vms_load::Loader;
+
+/// The greatest file on the shelf but a script, in bytes.
+pub const LONGEST_FILE: u32 = 1_048_576;
+
+/// A set as its word gives it, before a file is read.
+#[derive(Drop)]
+pub enum SetText<'a> {
+    /// A shipped set.
+    Shipped(ShippedSet),
+    /// What the shelf holds under the name.
+    Text { name: &'a str, text: Vec<u8> },
+}
+
+/// What the shelf holds under a name, or how the command ends where that has more than `limit` bytes, isn't there or
+/// can't be had.
+pub fn fetch<H: Shelf>(
+    alloc: Global,
+    name: &str,
+    limit: u32,
+    shelf: &mut H,
+) -> Result<Vec<u8>, Ending>
+    ensures fetched { StepAs (λ text. text.items) (fetched limit (H.held shelf.old) name.now)
+        result }
+    ensures within { IfOk result (λ text. vec_len text ≤ limit) }
+    ensures cause { FetchCause (stock H.Shelf shelf.old) (stock H.Shelf shelf.new) result }
+    ensures held { H.held shelf.new ≡ H.held shelf.old }
+    ensures count { H.faults shelf.old ≤ H.faults shelf.new }
+    ensures promise { H.promise shelf.new ≡ H.promise shelf.old }
+{
+    match shelf.fetch(alloc, name, limit) {
+        Ok(text) => Ok(text),
+        Err(FetchFault::NotThere) => match not_there_line(alloc, name) {
+            Ok(line) => Err(Ending::NotThere(line)),
+            Err(_) => Err(Ending::NoMemory),
+        },
+        Err(FetchFault::TooLarge) => match too_large_line(alloc, name) {
+            Ok(line) => Err(Ending::TooLarge(line)),
+            Err(_) => Err(Ending::NoMemory),
+        },
+        Err(FetchFault::Failed) => Err(Ending::ShelfFault),
+        Err(FetchFault::NoMemory) => Err(Ending::NoMemory),
+    }
+}
+
+/// What a word names, or how the command ends where it can't be had; a shipped set asks nothing of the shelf.
+pub fn fetch_set<'a, H: Shelf>(
+    alloc: Global,
+    word: SetWord<'a>,
+    shelf: &mut H,
+) -> Result<SetText<'a>, Ending>
+    ensures fetched { StepAs text_of (fetched_set (H.held shelf.old) (set_asked word.entry))
+        result }
+    ensures text { IfOk result (λ text. is_text (text_of text)
+        ≡ is_on_shelf (set_asked word.entry)) }
+    ensures cause { WordCause (is_on_shelf (set_asked word.entry)) (stock H.Shelf shelf.old)
+        (stock H.Shelf shelf.new) result }
+    ensures unasked { is_on_shelf (set_asked word.entry) ≡ false → stock H.Shelf shelf.new
+        ≡ stock H.Shelf shelf.old }
+    ensures held { H.held shelf.new ≡ H.held shelf.old }
+    ensures count { H.faults shelf.old ≤ H.faults shelf.new }
+    ensures promise { H.promise shelf.new ≡ H.promise shelf.old }
+{
+    match word {
+        SetWord::Shipped(set) => Ok(SetText::Shipped(set)),
+        SetWord::OnShelf(name) => {
+            let text = fetch(alloc, name, LONGEST_FILE, shelf)?;
+            Ok(SetText::Text { name, text })
+        }
+    }
+}
+
+/// The set that was fetched, or how the command ends where its file is no set.
+pub fn read_fetched(alloc: Global, text: &SetText) -> Result<DescSet, Ending>
+    ensures read { StepAs described (set_in (text_of text.now)) result }
+    ensures cause { ReadCause (is_text (text_of text.now)) result }
+{
+    match text {
+        SetText::Shipped(set) => match DescSet::shipped(alloc, set.number) {
+            Ok(set) => Ok(set),
+            Err(_) => Err(Ending::NoMemory),
+        },
+        SetText::Text { name, text } => read_file(alloc, name, text),
+    }
+}
+
+/// A loader of the set that a word names, or how the command ends where it can't be had.
+pub fn loader_of<H: Shelf>(alloc: Global, word: SetWord, shelf: &mut H) -> Result<Loader, Ending>
+    ensures had { StepAs loads (word_set (H.held shelf.old) (set_asked word.entry)) result }
+    ensures cause { HadCause (is_on_shelf (set_asked word.entry)) (stock H.Shelf shelf.old)
+        (stock H.Shelf shelf.new) result }
+    ensures unasked { is_on_shelf (set_asked word.entry) ≡ false → stock H.Shelf shelf.new
+        ≡ stock H.Shelf shelf.old }
+    ensures held { H.held shelf.new ≡ H.held shelf.old }
+    ensures count { H.faults shelf.old ≤ H.faults shelf.new }
+    ensures promise { H.promise shelf.new ≡ H.promise shelf.old }
+{
+    let text = fetch_set(alloc, word, shelf)?;
+    let set = read_fetched(alloc, &text)?;
+    match Loader::new(alloc, set) {
+        Ok(loader) => Ok(loader),
+        Err(_) => Err(Ending::NoMemory),
+    }
+}
+
+// The set that a description file says.
+fn read_file(alloc: Global, name: &str, text: &[u8]) -> Result<DescSet, Ending>
+    ensures read { StepAs described (said_set name.now (file_said text.now)) result }
+    ensures cause { ReadCause true result }
+{
+    match read_set(alloc, text) {
+        Ok(set) => Ok(set),
+        Err(FileFault::Syntax) => Err(bad(syntax_line(alloc, name))),
+        Err(FileFault::Shape(path)) => Err(bad(shape_line(alloc, name, path.as_str()))),
+        Err(FileFault::IllFormed { rule, place }) => Err(bad(rule_line(alloc, name, rule, place))),
+        Err(FileFault::NoMemory) => Err(Ending::NoMemory),
+    }
+}
+
+fn bad(line: Result<String, NoMemory>) -> Ending
+    ensures { IsBad line result }
+{
+    match line {
+        Ok(line) => Ending::BadText(line),
+        Err(_) => Ending::NoMemory,
+    }
+}

@@ -1,0 +1,23 @@
+//! What all commands of the program share: what a call is to do and how far it comes, how a command ends, the sets that
+//! words name, and the lines of notes.
+//!
+//! A command is a crate's or a module's own: its outcome, what it can answer and its code stand there, on this crate.
+#![tactic(auto)]
+
+mod ending;
+mod fetching;
+mod line_parts;
+mod notes;
+mod refused;
+mod set_notes;
+mod set_words;
+mod words;
+
+pub use ending::Ending;
+pub use fetching::{LONGEST_FILE, SetText, fetch, fetch_set, loader_of, read_fetched};
+pub use line_parts::{append_number, append_reason};
+pub use notes::{not_there_line, too_large_line};
+pub use refused::{NoteLine, append_section, refused_line};
+pub use set_notes::{mismatch_line, rule_line, shape_line, syntax_line};
+pub use set_words::{SetWord, ShippedSet};
+pub use words::{set_word, shipped_set};

@@ -1,0 +1,61 @@
+// The line of a stream that is refused, made without memory: what was read of the input is never lost for want of it.
+ghost use Rattle.std.specs.Prelude.{◌≡◌, ◌+◌, ◌++◌, ◌≤◌, ◌<◌, Some, length};
+ghost use Rattle.vms_desc.specs.Described.{described, device_at};
+ghost use Rattle.vms_commands.specs.Lines.{device_text, refused_line, section_text};
+
+use crate::line_parts::{append_number, append_reason};
+use arrayvec::ArrayVec;
+use vms_desc::DescSet;
+use vms_load::Refusal;
+use vms_words::append;
+
+/// A line of at most 256 bytes, which is made without memory.
+pub type NoteLine = ArrayVec<u8, 256>;
+
+/// The line of a stream that is refused: the place, the device and the reason. It has at most 201 bytes, since the
+/// names of a set's devices have at most 100.
+pub fn refused_line(set: &DescSet, refusal: &Refusal) -> NoteLine
+    ensures { let r = refusal.now in
+        result.items ≡ refused_line (described set.now) r.at r.section r.reason }
+{
+    let mut line = ArrayVec::new();
+    append(&mut line, b"refused at ");
+    append_number(&mut line, refusal.at);
+    append(&mut line, b" in ");
+    append_section(&mut line, set, refusal.section);
+    append(&mut line, b": ");
+    append_reason(&mut line, refusal.reason);
+    append(&mut line, b"\n");
+    line
+}
+
+/// Appends the name and instance of a set's device, or a dash where there is none, to a line that has room for 121 bytes.
+pub fn append_section<const N: usize>(
+    line: &mut ArrayVec<u8, N>,
+    set: &DescSet,
+    section: Option<u32>,
+)
+    requires { length line.old.items + 121 ≤ N }
+    ensures items { line.new.items ≡ line.old.items ++ section_text (described set.now) section }
+    ensures few { length line.new.items ≤ length line.old.items + 121 }
+{
+    match section {
+        Some(device) if (device as usize) < set.parts().devices.as_slice().len() => {
+            append_device(line, set, device)
+        }
+        _ => append(line, b"-"),
+    }
+}
+
+fn append_device<const N: usize>(line: &mut ArrayVec<u8, N>, set: &DescSet, device: u32)
+    requires is_device { device < length (described set.now).devices }
+    requires room { length line.old.items + 121 ≤ N }
+    ensures items { let d = device_at (described set.now) device in
+        line.new.items ≡ line.old.items ++ device_text (Some d) }
+    ensures few { length line.new.items ≤ length line.old.items + 121 }
+{
+    let device = set.device(device);
+    append(line, device.desc.name.as_bytes());
+    append(line, b"/");
+    append_number(line, u64::from(device.instance));
+}

@@ -1,0 +1,29 @@
+// When a drill saves its board, and under which set.
+ghost use Rattle.std.specs.Prelude.{◌≡◌};
+ghost use Rattle.dev_base.specs.Levels.{IsLevel};
+ghost use Rattle.dev_board.specs.Saved.{MaySaveUnder};
+ghost use Rattle.vms_drill.specs.Fold.{is_save_due, set_of};
+
+use dev_base::NEWEST;
+
+/// How many events there are from one save to the next.
+pub const BETWEEN_SAVES: u32 = 1_000;
+
+/// Tells whether the board is saved after so many events.
+#[tactic(auto, unfolding(crate::specs::Fold::is_save_due))]
+pub fn is_save_due(events: u32) -> bool
+    ensures { result ≡ is_save_due events }
+{
+    events % BETWEEN_SAVES == 0
+}
+
+/// The set under which a board of this level is saved after so many saves: each from its level to the newest in turn.
+#[tactic(auto, using(crate::proofs::FoldLaws::save_may), unfolding(crate::specs::Fold::set_of))]
+pub fn set_of(level: u8, saves: u32) -> u8
+    requires { IsLevel level }
+    ensures set { result ≡ set_of level saves }
+    ensures may { MaySaveUnder level result }
+{
+    let sets = u32::from(NEWEST - level) + 1;
+    level + (saves % sets) as u8
+}

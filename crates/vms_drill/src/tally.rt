@@ -1,0 +1,40 @@
+// What the answers of a drill come to.
+ghost use Rattle.std.specs.Prelude.{◌≡◌, ◌+◌, ◌<◌, ◌≤◌, ◌^◌};
+ghost use Rattle.vms_drill.specs.Fold.{Counts, counted};
+ghost use Rattle.vms_drill.specs.Tallies.{tally_view};
+
+use dev_board::Answer;
+
+/// What the answers of a board to its events come to.
+#[derive(Clone, Copy, Debug, PartialEq, Eq)]
+pub struct Tally {
+    /// How many bytes left the serial port.
+    pub sent: u64,
+    /// After how many events the interrupt output was high.
+    pub raised: u64,
+}
+
+impl Tally {
+    /// Nothing so far.
+    pub fn new() -> Tally
+        ensures sent { result.sent ≡ 0 }
+        ensures raised { result.raised ≡ 0 }
+    {
+        Tally { sent: 0, raised: 0 }
+    }
+
+    /// Counts an answer.
+    #[tactic(auto, unfolding(crate::specs::Fold::counted))]
+    pub fn count(&mut self, answer: &Answer)
+        requires sent { self.old.sent + 17 < 2 ^ 64 }
+        requires raised { self.old.raised + 1 < 2 ^ 64 }
+        ensures counts { tally_view self.new ≡ counted answer.now (tally_view self.old) }
+        ensures sent { self.new.sent ≤ self.old.sent + 17 }
+        ensures raised { self.new.raised ≤ self.old.raised + 1 }
+    {
+        self.sent += answer.sent.len() as u64;
+        if answer.int {
+            self.raised += 1;
+        }
+    }
+}

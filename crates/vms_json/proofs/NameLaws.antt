@@ -1,0 +1,103 @@
+-- The number of the first field of each name.
+use Rattle.std.proofs.Common.{◌≡◌, ℕ, suc, ◌+◌, ◌<◌, ◌≤◌, List, [], ◌∷◌, ◌++◌, Bool, true, false, cond, eqb, ltb, if◌then◌else◌, Option, Some, None, is_some, option_and_then, take, get_or, length, refl, ap, sym, ◌∙◌, codes, arith, ⊎_elim}
+use Rattle.std.specs.List.{position, position_or_len}
+use Rattle.std.specs.Str.{bytes_eq}
+use Rattle.std.proofs.lemmas.Bool.{cases_lt, lt-ltb, le-ltb, eq-eqb, ne_eqb, false≢true}
+use Rattle.std.proofs.lemmas.List.{take_more, length-take, length-append}
+use Rattle.std.proofs.lemmas.List.Folds.{position_or_len_push}
+use Rattle.std.proofs.lemmas.List.Sums.{prefix_len-le-length}
+use Rattle.std.proofs.lemmas.Slice.Eq.{bytes_eq-Decides}
+use Rattle.serde_json.specs.Find.{get, as_str}
+use Rattle.vms_json.specs.Nodes.{view, items_view}
+use Rattle.vms_json.specs.declared.node.Node.{Node}
+use Rattle.vms_spec.specs.Lists.{or_else}
+use Rattle.vms_json.specs.Index.{text_or_none, names_of, first_of}
+
+-- ---- one more at the end
+
+-- the first of so many, or one more, where the first q fail
+one_more : (n q : ℕ) (b : Bool) → q ≤ n
+    → cond (ltb (cond (eqb q n) (n + cond b 0 1) q) (n + 1)) (Some (cond (eqb q n) (n + cond b 0 1) q)) None
+    ≡ or_else (cond (ltb q n) (Some q) None) (if b then Some n else None)
+one_more n q b le = ⊎_elim before after (cases_lt q n)
+  where
+    at : Bool → Option ℕ
+    at same = cond (ltb (cond same (n + cond b 0 1) q) (n + 1)) (Some (cond same (n + cond b 0 1) q)) None
+
+    last : (c : Bool) → cond (ltb (n + cond c 0 1) (n + 1)) (Some (n + cond c 0 1)) None ≡ (if c then Some n else None)
+    last true =
+        let same : n + 0 ≡ n = omega arith in
+        ap (λ (k : ℕ). cond (ltb k (n + 1)) (Some k) None) same ∙ ap (λ (t : Bool). cond t (Some n) None) (lt-ltb n (n + 1) (omega arith))
+    last false = ap (λ (t : Bool). cond t (Some (n + 1)) None) (le-ltb (n + 1) (n + 1) (omega arith))
+
+    before : q < n → at (eqb q n) ≡ or_else (cond (ltb q n) (Some q) None) (if b then Some n else None)
+    before lt =
+        ap at (ne_eqb q n (λ e. omega (arith, e))) ∙ ap (λ (t : Bool). cond t (Some q) None) (lt-ltb q (n + 1) (omega arith))
+        ∙ sym (ap (λ (t : Bool). or_else (cond t (Some q) None) (if b then Some n else None)) (lt-ltb q n lt))
+
+    after : n ≤ q → at (eqb q n) ≡ or_else (cond (ltb q n) (Some q) None) (if b then Some n else None)
+    after ge =
+        ap at (eq-eqb q n (omega arith)) ∙ last b
+        ∙ sym (ap (λ (t : Bool). or_else (cond t (Some q) None) (if b then Some n else None)) (le-ltb q n ge))
+
+pub position_push : {X : Type 0} (p : X → Bool) (xs : List X) (y : X)
+    → position p (xs ++ y ∷ []) ≡ or_else (position p xs) (if p y then Some (length xs) else None)
+position_push p xs y =
+    let longer : length (xs ++ y ∷ []) ≡ length xs + 1 = length-append xs (y ∷ []) in
+    ap (λ (n : ℕ). cond (ltb (position_or_len p (xs ++ y ∷ [])) n) (Some (position_or_len p (xs ++ y ∷ []))) None) longer
+    ∙ ap (λ (q : ℕ). cond (ltb q (length xs + 1)) (Some q) None) (position_or_len_push p xs y)
+    ∙ one_more (length xs) (position_or_len p xs) (p y) (prefix_len-le-length _ xs)
+
+-- ---- the names of fields
+
+names_append : (xs ys : List Node) → names_of (items_view (xs ++ ys)) ≡ names_of (items_view xs) ++ names_of (items_view ys)
+names_append [] ys = refl
+names_append (x ∷ xs) ys = ap (λ l. text_or_none (option_and_then as_str (get (codes "name") (view x))) ∷ l) (names_append xs ys)
+
+names_length : (xs : List Node) → length (names_of (items_view xs)) ≡ length xs
+names_length [] = refl
+names_length (x ∷ xs) = ap suc (names_length xs)
+
+pub one_named : (fields : List Node) (i : ℕ) (x : Node) (name q : List ℕ) → i < length fields → x ≡ get_or fields i x
+    → name ≡ text_or_none (option_and_then as_str (get (codes "name") (view x)))
+    → first_of (names_of (items_view (take (i + 1) fields))) q
+    ≡ or_else (first_of (names_of (items_view (take i fields))) q) (if bytes_eq name q then Some i else None)
+one_named fields i x name q lt is named =
+    let before = names_of (items_view (take i fields)) in
+    let long : length before ≡ i = omega (arith, names_length (take i fields), length-take i fields) in
+    let names : names_of (items_view (take (i + 1) fields)) ≡ before ++ name ∷ [] =
+    ap (λ l. names_of (items_view l)) (take_more fields i x lt) ∙ names_append (take i fields) (get_or fields i x ∷ [])
+    ∙ ap (λ v. before ++ text_or_none (option_and_then as_str (get (codes "name") (view v))) ∷ []) (sym is)
+    ∙ ap (λ n. before ++ n ∷ []) (sym named) in
+    ap (λ l. first_of l q) names ∙ position_push (λ n. bytes_eq n q) before name
+    ∙ ap (λ (k : ℕ). or_else (first_of before q) (if bytes_eq name q then Some k else None)) long
+
+-- ---- one more in the index
+
+or_else_none : {A : Type 0} (o : Option A) → or_else o None ≡ o
+or_else_none None = refl
+or_else_none (Some a) = refl
+
+by_name : (same : Bool) (number : ℕ) (old : Option ℕ) → (same ≡ true → old ≡ None) → cond same (Some number) old ≡ or_else old (if same then Some number else None)
+by_name true number old none = ap (λ o. or_else o (Some number)) (sym (none refl))
+by_name false number old none = sym (or_else_none old)
+
+-- a name that wasn't there
+pub put_one : (name q : List ℕ) (number : ℕ) (old : List ℕ → Option ℕ) (new : Option ℕ) → old name ≡ None → new ≡ cond (bytes_eq name q) (Some number) (old q)
+    → new ≡ or_else (old q) (if bytes_eq name q then Some number else None)
+put_one name q number old new none is =
+    is ∙ by_name (bytes_eq name q) number (old q) (λ same. ap old (sym ((bytes_eq-Decides name q).0 same)) ∙ none)
+
+there_already : (same : Bool) (old : Option ℕ) (number : ℕ) → (same ≡ true → is_some old ≡ true) → old ≡ or_else old (if same then Some number else None)
+there_already same (Some k) number there = refl
+there_already true None number there = absurd (false≢true (there refl))
+there_already false None number there = refl
+
+-- a name that was there
+pub keep_one : (name q : List ℕ) (number : ℕ) (old : List ℕ → Option ℕ) → is_some (old name) ≡ true → old q ≡ or_else (old q) (if bytes_eq name q then Some number else None)
+keep_one name q number old there =
+    there_already (bytes_eq name q) (old q) number (λ same. ap (λ n. is_some (old n)) (sym ((bytes_eq-Decides name q).0 same)) ∙ there)
+
+pub is_none_of : (o : Option ℕ) → is_some o ≡ false → o ≡ None
+is_none_of None e = refl
+is_none_of (Some k) e = absurd (false≢true (sym e))

@@ -1,0 +1,7 @@
+pub mod Answers
+pub mod Asked
+pub mod Index
+pub mod Keys
+pub mod Members
+pub mod Names
+pub mod Nodes

@@ -1,0 +1,78 @@
+// The names of a description's fields, which tests and counts give.
+ghost use Rattle.std.specs.Prelude.{◌≡◌, List, ℕ, Some, Option, IfOk, OnOk, codes, option_and_then};
+ghost use Rattle.vms_spec.specs.Lists.{or_else};
+ghost use Rattle.serde_json.specs.Find.{get, as_str};
+ghost use Rattle.vms_json.specs.Nodes.{view, items_view};
+ghost use Rattle.vms_json.specs.Index.{names_in, names_of, text_or_none, first_of, number_of, numbers, IsIndex, at_name};
+
+use crate::node::Node;
+use std::alloc::{AllocError, Global};
+use std::collections::BTreeMap;
+
+/// The number of the first field of each name.
+#[derive(Drop)]
+pub struct FieldNames {
+    first: BTreeMap<String, usize>,
+}
+
+impl FieldNames {
+    /// Of the fields of a description.
+    pub fn of(alloc: Global, value: &Node) -> Result<FieldNames, AllocError>
+        ensures { IfOk result (λ names. numbers names ≡ first_of (names_in (view value.now))) }
+    {
+        let first = index_in(alloc, value)?;
+        Ok(FieldNames { first })
+    }
+
+    /// The number of the first field of this name.
+    pub fn find(&self, name: &str) -> Option<usize>
+        ensures { result ≡ numbers self.now name.now }
+    {
+        self.first.get(name).copied()
+    }
+}
+
+fn index_in(alloc: Global, value: &Node) -> Result<BTreeMap<String, usize>, AllocError>
+    ensures { IfOk result (λ first. IsIndex first (names_in (view value.now))) }
+{
+    match value.get("fields").and_then(Node::as_list) {
+        Some(fields) => index_of(alloc, fields),
+        None => Ok(BTreeMap::new(alloc)),
+    }
+}
+
+fn index_of(alloc: Global, fields: &[Node]) -> Result<BTreeMap<String, usize>, AllocError>
+    ensures { IfOk result (λ first. IsIndex first (names_of (items_view fields.now))) }
+{
+    let mut first = BTreeMap::new(alloc);
+    for (i, field) in fields.iter().enumerate() {
+        put_first(alloc, &mut first, name_of(field), i)?;
+    }
+    Ok(first)
+}
+
+// A name that stands at this number, if it doesn't stand before.
+fn put_first(
+    alloc: Global,
+    first: &mut BTreeMap<String, usize>,
+    name: &str,
+    number: usize,
+) -> Result<(), AllocError>
+    ensures { OnOk result ((q : List ℕ) → number_of first.new q
+        ≡ or_else (number_of first.old q) (at_name name.now number q)) }
+{
+    if !first.contains_key(name) {
+        first.insert(String::from_str(alloc, name)?, number)?;
+    }
+    Ok(())
+}
+
+fn name_of<'a>(field: &Node<'a>) -> &'a str
+    ensures { result.now
+        ≡ text_or_none (option_and_then as_str (get (codes "name") (view field.now))) }
+{
+    match field.get("name").and_then(Node::as_str) {
+        Some(name) => name,
+        None => "",
+    }
+}

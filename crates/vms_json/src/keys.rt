@@ -1,0 +1,69 @@
+// The keys of objects.
+ghost use Rattle.std.specs.Prelude.{◌≡◌, ◌++◌, ◌||◌, map};
+ghost use Rattle.std.specs.List.{list_all, list_any};
+ghost use Rattle.std.specs.Str.{bytes_eq};
+ghost use Rattle.vms_json.specs.Nodes.{view, members_view};
+ghost use Rattle.vms_spec.specs.Streams.{is_one_of};
+ghost use Rattle.vms_json.specs.Keys.{has, has_all, fits, has_no_others};
+
+use crate::node::{Node, is_key};
+
+/// Whether a value is an object with each of the first keys, and no others than those and the
+/// second.
+pub fn fits(value: &Node, needed: &[&str], allowed: &[&str]) -> bool
+    ensures { result
+        ≡ fits (map (λ k. k.now) needed.now) (map (λ k. k.now) allowed.now) (view value.now) }
+{
+    match value.as_members() {
+        Some(members) => has_all(value, needed) && has_no_others(members, needed, allowed),
+        None => false,
+    }
+}
+
+/// Whether a member has this key.
+pub fn has(value: &Node, key: &str) -> bool
+    ensures { result ≡ has key.now (view value.now) }
+{
+    value.get(key).is_some()
+}
+
+fn has_all(value: &Node, keys: &[&str]) -> bool
+    ensures { result ≡ has_all (map (λ k. k.now) keys.now) (view value.now) }
+{
+    has_each(value, keys)
+}
+
+fn has_each(value: &Node, keys: &[&str]) -> bool
+    ensures { result ≡ list_all (λ k. has k.now (view value.now)) keys.now }
+{
+    keys.iter().all(|key| has(value, key))
+}
+
+fn is_among(keys: &[&str], key: &str) -> bool
+    ensures { result ≡ list_any (λ k. bytes_eq k.now key.now) keys.now }
+{
+    keys.iter().any(|other| is_key(other, key))
+}
+
+fn is_one_of(keys: &[&str], key: &str) -> bool
+    ensures { result ≡ is_one_of (map (λ k. k.now) keys.now) key.now }
+{
+    is_among(keys, key)
+}
+
+fn has_keys(members: &[(&str, Node)], needed: &[&str], allowed: &[&str]) -> bool
+    ensures { result
+        ≡ list_all (λ m. is_one_of (map (λ n. n.now) needed.now) m.0.now
+        || is_one_of (map (λ n. n.now) allowed.now) m.0.now) members.now }
+{
+    members.iter().all(|member| is_one_of(needed, member.0) || is_one_of(allowed, member.0))
+}
+
+// Whether the members have no other keys than these.
+fn has_no_others(members: &[(&str, Node)], needed: &[&str], allowed: &[&str]) -> bool
+    ensures { result
+        ≡ has_no_others (map (λ k. k.now) needed.now ++ map (λ k. k.now) allowed.now)
+        (members_view members.now) }
+{
+    has_keys(members, needed, allowed)
+}

@@ -1,0 +1,27 @@
+//! JSON texts, read as trees over their text; what is looked up in them: the keys of objects, what stands
+//! under one, the fields of descriptions by their names; and what values say: numbers, texts, names of
+//! fields, lists and the members of objects, or the path of the first fault.
+#![tactic(auto)]
+
+mod asked;
+mod fault;
+mod field_names;
+mod keys;
+mod lists;
+mod members;
+mod names;
+mod node;
+mod number;
+mod parse;
+mod words;
+
+pub use asked::is_asked;
+pub use fault::Fault;
+pub use field_names::FieldNames;
+pub use keys::{fits, has};
+pub use lists::ListOf;
+pub use members::{at, at_or, maybe_at};
+pub use names::{NameIn, Names, Scope};
+pub use node::Node;
+pub use parse::{NoNode, read_node};
+pub use words::{Integer, Reads, TextOf, U16, U32, U64};

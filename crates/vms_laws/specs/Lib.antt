@@ -1,5 +1,0 @@
-pub mod Cells
-pub mod Good
-pub mod Laws
-pub mod Sound
-pub mod Whole

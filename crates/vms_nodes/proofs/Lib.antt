@@ -1,4 +1,0 @@
-pub mod AskingLaws
-pub mod KeyLaws
-pub mod NameLaws
-pub mod NodeLaws

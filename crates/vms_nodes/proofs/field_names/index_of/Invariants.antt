@@ -1,7 +1,0 @@
-use Rattle.std.proofs.Common.{take}
-use Rattle.vms_nodes.specs.Nodes.{items_view}
-use Rattle.vms_nodes.specs.Index.{names_of, IsIndex}
-use Rattle.vms_nodes.proofs.field_names.index_of.Given as goal
-
-abbrev pub invariant-loop-i : goal.invariant-loop-i
-invariant-loop-i l = IsIndex l.first (names_of (items_view (take l.i l.fields)))

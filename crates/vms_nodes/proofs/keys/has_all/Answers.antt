@@ -1,7 +1,0 @@
-use Rattle.std.proofs.Common.{◌∙◌}
-use Rattle.vms_nodes.specs.Nodes.{view}
-use Rattle.vms_nodes.proofs.KeyLaws.{all_has}
-use Rattle.vms_nodes.proofs.keys.has_all.Goals as goal
-
-pub returns : goal.returns
-returns c = c.has_each.ensures ∙ all_has (view c.args.value.now) c.args.keys.now

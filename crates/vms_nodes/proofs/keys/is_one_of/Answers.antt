@@ -1,6 +1,0 @@
-use Rattle.std.proofs.Common.{◌∙◌}
-use Rattle.vms_nodes.proofs.KeyLaws.{any_is}
-use Rattle.vms_nodes.proofs.keys.is_one_of.Goals as goal
-
-pub returns : goal.returns
-returns c = c.is_among.ensures ∙ any_is c.args.key.now c.args.keys.now

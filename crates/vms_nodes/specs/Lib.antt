@@ -1,4 +1,0 @@
-pub mod Asked
-pub mod Index
-pub mod Keys
-pub mod Nodes

@@ -1,4 +1,0 @@
-pub mod Events
-pub mod Parts
-pub mod Playing
-pub mod Streams

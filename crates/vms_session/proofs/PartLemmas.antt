@@ -1,0 +1,91 @@
+-- Parts of a session, one after the other.
+use Rattle.std.proofs.Common.{◌≡◌, ℕ, zero, suc, ◌≤◌, List, [], ◌∷◌, ◌++◌, length, take, drop, Option, Some, refl, sym, ap, ◌∙◌, append_assoc, append-nil, arith, length-append}
+use Rattle.std.proofs.lemmas.List.{take_all}
+use Rattle.vms_io.specs.Shelves.{Held}
+use Rattle.vms_commands.specs.Outcomes.{Part, text_of, text_begun, held_after}
+use Rattle.vms_script.specs.Lines.{ScriptLine}
+use Rattle.vms_session.specs.Session.{Session, Plays}
+use Rattle.vms_session.specs.Parts.{part_of, PlaysParts}
+
+module _ (part : Part) (rest : List Part) where
+  -- the part that comes next
+  pub text_next : (i : ℕ) (parts : List Part) → drop i parts ≡ part ∷ rest → text_of (take (suc i) parts) ≡ text_of (take i parts) ++ part.text
+  text_next zero [] e = cc
+  text_next zero (x ∷ parts) e =
+      let same : x ≡ part = cc in
+      append-nil x.text ∙ ap (λ (p : Part). p.text) same
+  text_next (suc i) [] e = cc
+  text_next (suc i) (x ∷ parts) e =
+      ap (λ (t : List ℕ). x.text ++ t) (text_next i parts e) ∙ sym (append_assoc x.text (text_of (take i parts)) part.text)
+
+  pub held_next : (i : ℕ) (held : Option Held) (parts : List Part) → drop i parts ≡ part ∷ rest → held_after held (take (suc i) parts) ≡ part.held
+  held_next zero held [] e = cc
+  held_next zero held (x ∷ parts) e =
+      let same : x ≡ part = cc in
+      ap (λ (p : Part). p.held) same
+  held_next (suc i) held [] e = cc
+  held_next (suc i) held (x ∷ parts) e = held_next i x.held parts e
+
+  pub rest_next : (i : ℕ) (parts : List Part) → drop i parts ≡ part ∷ rest → drop (suc i) parts ≡ rest
+  rest_next zero [] e = cc
+  rest_next zero (x ∷ parts) e = cc
+  rest_next (suc i) [] e = cc
+  rest_next (suc i) (x ∷ parts) e = rest_next i parts e
+
+  -- a part of which so many bytes are written
+  pub begun_next : (i n : ℕ) (parts : List Part) → drop i parts ≡ part ∷ rest → text_begun parts (suc i) n ≡ text_of (take i parts) ++ take n part.text
+  begun_next zero n [] e = cc
+  begun_next zero n (x ∷ parts) e =
+      let same : x ≡ part = cc in
+      ap (λ (p : Part). take n p.text) same
+  begun_next (suc i) n [] e = cc
+  begun_next (suc i) n (x ∷ parts) e =
+      ap (λ (t : List ℕ). x.text ++ t) (begun_next i n parts e) ∙ sym (append_assoc x.text (text_of (take i parts)) (take n part.text))
+
+-- so many whole parts
+pub begun_whole : (i n : ℕ) (parts : List Part) → length (text_of parts) ≤ n → text_begun parts i n ≡ text_of (take i parts)
+begun_whole zero n parts le = refl
+begun_whole (suc i) n [] le = refl
+begun_whole (suc zero) n (x ∷ parts) le =
+    take_all n x.text (omega (arith, le, length-append x.text (text_of parts))) ∙ sym (append-nil x.text)
+begun_whole (suc (suc i)) n (x ∷ parts) le =
+    ap (λ (t : List ℕ). x.text ++ t) (begun_whole (suc i) n parts (omega (arith, le, length-append x.text (text_of parts))))
+
+-- nothing is left
+pub text_all : (i : ℕ) (parts : List Part) → drop i parts ≡ [] → text_of (take i parts) ≡ text_of parts
+text_all zero [] e = refl
+text_all zero (x ∷ parts) e = cc
+text_all (suc i) [] e = refl
+text_all (suc i) (x ∷ parts) e = ap (λ (t : List ℕ). x.text ++ t) (text_all i parts e)
+
+pub held_all : (i : ℕ) (held : Option Held) (parts : List Part) → drop i parts ≡ [] → held_after held (take i parts) ≡ held_after held parts
+held_all zero held [] e = refl
+held_all zero held (x ∷ parts) e = cc
+held_all (suc i) held [] e = refl
+held_all (suc i) held (x ∷ parts) e = held_all i x.held parts e
+
+-- ---- parts are a session's trace and its end
+
+pub parts_play : (lines : List ScriptLine) (old : Session) (parts : List Part) (new : Session) → PlaysParts lines old parts new → Plays lines old (text_of parts) new
+parts_play [] old parts new p = (ap text_of p.0, p.1)
+parts_play (line ∷ lines) old parts new p =
+    (p.0, text_of p.1, p.2, p.3, parts_play lines p.2 p.1 new p.4, ap text_of p.5)
+
+pub parts_hold : (lines : List ScriptLine) (old : Session) (parts : List Part) (new : Session) → PlaysParts lines old parts new → held_after (Some old.held) parts ≡ Some new.held
+parts_hold [] old parts new p = ap (held_after (Some old.held)) p.0 ∙ ap (λ (s : Session). Some s.held) (sym p.1)
+parts_hold (line ∷ lines) old parts new p = ap (held_after (Some old.held)) p.5 ∙ parts_hold lines p.2 p.1 new p.4
+
+pub record HasParts (lines : List ScriptLine) (old : Session) (trace : List ℕ) (new : Session) : Type 0 where
+  pub parts : List Part
+  pub plays : PlaysParts lines old parts new
+  pub trace_is : text_of parts ≡ trace
+
+pub plays_parts : (lines : List ScriptLine) (old : Session) (trace : List ℕ) (new : Session) → Plays lines old trace new → HasParts lines old trace new
+plays_parts [] old trace new p = record { parts = []; plays = (refl, p.1); trace_is = sym p.0 }
+plays_parts (line ∷ lines) old trace new p =
+    let rest = plays_parts lines p.2 p.1 new p.4 in
+    record {
+      parts = part_of p.0 p.2 ∷ rest.parts;
+      plays = (p.0, rest.parts, p.2, p.3, rest.plays, refl);
+      trace_is = ap (λ (t : List ℕ). p.0 ++ t) rest.trace_is ∙ sym p.5;
+    }

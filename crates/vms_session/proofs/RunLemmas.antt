@@ -1,0 +1,120 @@
+-- Events, one after the other.
+use Rattle.std.proofs.Common.{◌≡◌, ℕ, suc, ◌+◌, ◌<◌, ◌≤◌, List, [], ◌∷◌, ◌++◌, length, take, drop, get_or, Option, refl, sym, ap, subst, ◌∙◌, append_assoc, append-nil, arith, length-append}
+use Rattle.std.proofs.KnownBytes.{Appends-nil, Appends-trans}
+use Rattle.std.proofs.lemmas.List.{drop_all, drop_more}
+use Rattle.std.specs.Io.KnownBytes.{Appends}
+use lib.Seq.{take-append-le}
+use Rattle.dev_board.proofs.ClockLaws.{clock_goes_on}
+use Rattle.dev_board.specs.Laws.{AreEvents, IsEvent}
+use Rattle.dev_board.specs.State.{State}
+use Rattle.dev_board.specs.Step.{step, observe, after_all}
+use Rattle.dev_board.specs.declared.event.Event.{Event}
+use Rattle.dev_board.specs.declared.event.Event.TheVariants.{Read}
+use Rattle.vms_io.specs.Causes.{AppendsPrefix}
+use Rattle.vms_script.specs.Grammar.{AreLines}
+use Rattle.vms_script.specs.Lines.{ScriptLine, Happens, Saves, Restores}
+use Rattle.vms_script.specs.Trace.{trace_line}
+use Rattle.vms_script.specs.Views.{event_lines}
+use Rattle.vms_session.proofs.SoundLaws.{event_is, line_event}
+use Rattle.vms_session.specs.Events.{events_of, trace_from}
+
+-- ---- events
+
+abbrev pub event_at : List Event → ℕ → Event
+event_at events i = get_or events i (Read 0)
+
+pub left_next : (events : List Event) (i : ℕ) → i < length events → drop i events ≡ event_at events i ∷ drop (i + 1) events
+left_next events i lt = drop_more events i (Read 0) lt
+
+pub none_left : (events : List Event) (i : ℕ) → length events ≤ i → drop i events ≡ []
+none_left events i le = drop_all i events le
+
+pub first_event : (event : Event) (rest events : List Event) → events ≡ event ∷ rest → AreEvents events → IsEvent event
+first_event event rest events e are = let both : AreEvents (event ∷ rest) = subst AreEvents e are in both.0
+
+pub later_events : (event : Event) (rest events : List Event) → events ≡ event ∷ rest → AreEvents events → AreEvents rest
+later_events event rest events e are = let both : AreEvents (event ∷ rest) = subst AreEvents e are in both.1
+
+-- lines that may stand in a script let events happen that there are
+lines_are_events : (play : Option ℕ) (lines : List ScriptLine) → AreLines play lines → AreEvents (events_of lines)
+lines_are_events play [] are = tt
+lines_are_events play (Happens event ∷ lines) are = (event_is event (line_event play event are.0), lines_are_events play lines are.1)
+lines_are_events play (Saves set name ∷ lines) are = lines_are_events play lines are.1
+lines_are_events play (Restores name ∷ lines) are = lines_are_events play lines are.1
+
+-- the events of lines that are events
+pub events_back : (events : List Event) → events_of (event_lines events) ≡ events
+events_back [] = refl
+events_back (event ∷ events) = ap (λ (es : List Event). event ∷ es) (events_back events)
+
+pub are_events : (play : Option ℕ) (events : List Event) → AreLines play (event_lines events) → AreEvents events
+are_events play events are = subst AreEvents (events_back events) (lines_are_events play (event_lines events) are)
+
+-- ---- the board
+
+pub after_level : (events : List Event) (m : State) → (after_all events m).level ≡ m.level
+unfolding after_all
+after_level [] m = refl
+after_level (event ∷ events) m = after_level events (step event m).1 ∙ clock_goes_on.level event m
+
+pub level_next : (event : Event) (m m' : State) → m' ≡ (step event m).1 → m'.level ≡ m.level
+level_next event m m' done = ap (λ (b : State). b.level) done ∙ clock_goes_on.level event m
+
+pub after_next : (event : Event) (rest events : List Event) (m m' : State) → events ≡ event ∷ rest → m' ≡ (step event m).1 → after_all rest m' ≡ after_all events m
+unfolding after_all
+after_next event rest events m m' e done = ap (after_all rest) done ∙ sym (ap (λ (es : List Event). after_all es m) e)
+
+pub after_none : (events : List Event) (m : State) → events ≡ [] → after_all events m ≡ m
+unfolding after_all
+after_none events m e = ap (λ (es : List Event). after_all es m) e
+
+-- ---- the trace
+
+-- What was written, with what is left, is the whole.
+pub record Owes (old new : Option (List ℕ)) (whole left : List ℕ) : Type 0 where
+  pub done : List ℕ
+  pub written : Appends old new done
+  pub split : done ++ left ≡ whole
+
+pub trace_next : (event : Event) (rest events : List Event) (m m' : State) → events ≡ event ∷ rest → m' ≡ (step event m).1
+    → trace_from events m ≡ trace_line (step event m).0 ++ trace_from rest m'
+unfolding observe
+trace_next event rest events m m' e done =
+    ap (λ (es : List Event). trace_from es m) e ∙ sym (ap (λ (b : State). trace_line (step event m).0 ++ trace_from rest b) done)
+
+pub trace_none : (events : List Event) (m : State) → events ≡ [] → trace_from events m ≡ []
+unfolding observe
+trace_none events m e = ap (λ (es : List Event). trace_from es m) e
+
+pub owes_all : (old : Option (List ℕ)) (whole : List ℕ) → Owes old old whole whole
+owes_all old whole = record { done = []; written = Appends-nil old; split = refl }
+
+pub owes_less : (old mid new : Option (List ℕ)) (whole left part rest : List ℕ) → Owes old mid whole left → left ≡ part ++ rest → Appends mid new part → Owes old new whole rest
+owes_less old mid new whole left part rest o e p = record {
+  done = o.done ++ part;
+  written = Appends-trans old mid new o.done part o.written p;
+  split = append_assoc o.done part rest ∙ ap (λ (l : List ℕ). o.done ++ l) (sym e) ∙ o.split;
+}
+
+pub owes_same : (old new : Option (List ℕ)) (whole left rest : List ℕ) → Owes old new whole left → left ≡ rest → Owes old new whole rest
+owes_same old new whole left rest o e = subst (Owes old new whole) e o
+
+pub owes_none : (old new : Option (List ℕ)) (whole left : List ℕ) → Owes old new whole left → left ≡ [] → Appends old new whole
+owes_none old new whole left o e =
+    subst (Appends old new) (sym (append-nil o.done) ∙ ap (λ (l : List ℕ). o.done ++ l) (sym e) ∙ o.split) o.written
+
+take_past : (a b : List ℕ) (n : ℕ) → take (length a + n) (a ++ b) ≡ a ++ take n b
+take_past [] b n = ap (λ (k : ℕ). take k b) (omega arith)
+take_past (x ∷ a) b n =
+    let e : length (x ∷ a) + n ≡ suc (length a + n) = omega arith in
+    ap (λ (k : ℕ). take k (x ∷ (a ++ b))) e ∙ ap (λ (l : List ℕ). x ∷ l) (take_past a b n)
+
+-- the next part is begun
+pub owes_still : (old mid new : Option (List ℕ)) (whole left part rest : List ℕ) → Owes old mid whole left → left ≡ part ++ rest → AppendsPrefix mid new part → AppendsPrefix old new whole
+owes_still old mid new whole left part rest o e p =
+    let split : o.done ++ (part ++ rest) ≡ whole = ap (λ (l : List ℕ). o.done ++ l) (sym e) ∙ o.split in
+    let front : take (length o.done + p.0) (o.done ++ (part ++ rest)) ≡ o.done ++ take p.0 part =
+    take_past o.done (part ++ rest) p.0 ∙ ap (λ (l : List ℕ). o.done ++ l) (take-append-le p.0 part rest p.1) in
+    let le : length o.done + p.0 ≤ length (o.done ++ (part ++ rest)) = omega (arith, p.1, length-append o.done (part ++ rest), length-append part rest) in
+    subst (AppendsPrefix old new) split
+    (length o.done + p.0, le, subst (Appends old new) (sym front) (Appends-trans old mid new o.done (take p.0 part) o.written p.2))

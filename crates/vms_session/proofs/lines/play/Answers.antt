@@ -1,0 +1,77 @@
+use Rattle.std.proofs.Common.{ℕ, Some, Err, ◌+◌, ◌<◌, ◌≤◌, length, drop, refl, sym, subst, ◌∙◌, arith}
+use Rattle.vms_io.specs.Told.{outlet, stock}
+use Rattle.vms_script.specs.Grammar.{IsLine}
+use Rattle.vms_script.specs.Views.{line_view, lines_view}
+use Rattle.vms_session.proofs.CourseLemmas.{lines_next, no_lines, is_line, are_lines, in_course, next_course, stop_course, end_course, cause_since}
+use Rattle.vms_session.proofs.lines.play.Goals as goal
+
+pub loop-line-init : goal.loop-line-init
+loop-line-init g c = record {
+  sound = c.requires.sound;
+  level = refl;
+  lines = c.requires.lines;
+  course = λ held parts new told plays.
+      in_course (lines_view c.args.lines.now) parts new c.args.board.now.state held (outlet g.K.Sink c.args.out.now) (stock g.H.Shelf c.args.shelf.now) told plays;
+  out_count = omega arith;
+  shelf_count = omega arith;
+  out_promise = refl;
+  shelf_promise = refl;
+}
+
+pub play_line-requires-clause-line : goal.play_line-requires-clause-line
+play_line-requires-clause-line g c =
+    let lines = c.args.lines.now in
+    let i = c.loop-line.line-index in
+    let lt : i < length lines = omega (arith, c.loop-line-test.true) in
+    subst (λ (l : ℕ). IsLine (Some l) (line_view c.line-item.result)) (sym c.loop-line.invariant.level)
+    (is_line (Some c.args.board.now.state.level) (lines_view (drop i lines)) (lines_view (drop (i + 1) lines)) (line_view c.line-item.result)
+    (lines_next lines i c.line-item.result lt c.line-item.is) c.loop-line.invariant.lines)
+
+pub loop-line-preserved : goal.loop-line-preserved
+loop-line-preserved g c =
+    let lines = c.args.lines.now in
+    let i = c.loop-line.line-index in
+    let lt : i < length lines = omega (arith, c.loop-line-test.true) in
+    let said = line_view c.line-item.result in
+    let left = lines_view (drop (i + 1) lines) in
+    let split = lines_next lines i c.line-item.result lt c.line-item.is in
+    record {
+      sound = c.in-Ok.ensures.sound;
+      level = c.in-Ok.ensures.level ∙ c.loop-line.invariant.level;
+      lines = are_lines (Some c.args.board.now.state.level) (lines_view (drop i lines)) left said split c.loop-line.invariant.lines;
+      course = λ held parts new told plays.
+          next_course i said left (lines_view (drop i lines)) split parts new c.loop-line.board.state c.play_line.new.board.state
+          (outlet g.K.Sink c.args.out.now) (outlet g.K.Sink c.loop-line.out) (outlet g.K.Sink c.play_line.new.out)
+          (stock g.H.Shelf c.args.shelf.now) (stock g.H.Shelf c.loop-line.shelf) (stock g.H.Shelf c.play_line.new.shelf)
+          (c.loop-line.invariant.course held parts new told plays) c.in-Ok.ensures.content;
+      out_count = omega (arith, c.loop-line.invariant.out_count, c.in-Ok.ensures.out_count);
+      shelf_count = omega (arith, c.loop-line.invariant.shelf_count, c.in-Ok.ensures.shelf_count);
+      out_promise = c.in-Ok.ensures.out_promise ∙ c.loop-line.invariant.out_promise;
+      shelf_promise = c.in-Ok.ensures.shelf_promise ∙ c.loop-line.invariant.shelf_promise;
+    }
+
+pub returns-in-Err-clause-content : goal.returns-in-Err-clause-content
+returns-in-Err-clause-content g c = λ held parts new told plays.
+    let lines = c.args.lines.now in
+    let i = c.loop-line.line-index in
+    let lt : i < length lines = omega (arith, c.loop-line-test.true) in
+    stop_course i (line_view c.line-item.result) (lines_view (drop (i + 1) lines)) (lines_view (drop i lines)) (lines_next lines i c.line-item.result lt c.line-item.is)
+    parts new c.loop-line.board.state c.play_line.new.board.state
+    (outlet g.K.Sink c.args.out.now) (outlet g.K.Sink c.loop-line.out) (outlet g.K.Sink c.play_line.new.out)
+    (stock g.H.Shelf c.args.shelf.now) (stock g.H.Shelf c.loop-line.shelf) (stock g.H.Shelf c.play_line.new.shelf)
+    (c.loop-line.invariant.course held parts new told plays) c.in-Err.fault c.loop-line.invariant.shelf_count c.in-Err.ensures.content
+
+pub returns-in-Err-clause-cause : goal.returns-in-Err-clause-cause
+returns-in-Err-clause-cause g c =
+    cause_since (outlet g.K.Sink c.args.out.now) (outlet g.K.Sink c.loop-line.out) (outlet g.K.Sink c.play_line.new.out)
+    (stock g.H.Shelf c.args.shelf.now) (stock g.H.Shelf c.loop-line.shelf) (stock g.H.Shelf c.play_line.new.shelf) (Err c.in-Err.fault)
+    c.loop-line.invariant.out_count c.loop-line.invariant.shelf_count c.in-Err.ensures.cause
+
+pub returns-clause-content : goal.returns-clause-content
+returns-clause-content g c = λ held parts new told plays.
+    let lines = c.args.lines.now in
+    let i = c.loop-line.line-index in
+    let le : length lines ≤ i = omega (arith, c.loop-line-test.false) in
+    end_course i (lines_view (drop i lines)) parts new c.loop-line.board.state
+    (outlet g.K.Sink c.args.out.now) (outlet g.K.Sink c.loop-line.out) (stock g.H.Shelf c.args.shelf.now) (stock g.H.Shelf c.loop-line.shelf)
+    (no_lines lines i le) (c.loop-line.invariant.course held parts new told plays)

@@ -1,0 +1,27 @@
+use Rattle.std.proofs.Common.{◌≡◌, ◌≤◌, List, Some, drop}
+use Rattle.dev_board.specs.Sound.{IsSound}
+use Rattle.vms_io.specs.Shelves.{Held}
+use Rattle.vms_io.specs.Told.{outlet, stock}
+use Rattle.vms_commands.specs.Outcomes.{Part}
+use Rattle.vms_script.specs.Grammar.{AreLines}
+use Rattle.vms_script.specs.Views.{lines_view}
+use Rattle.vms_session.specs.Session.{Session}
+use Rattle.vms_session.specs.Parts.{PlaysParts}
+use Rattle.vms_session.specs.Playing.{session_of}
+use Rattle.vms_session.proofs.CourseLemmas.{InCourse}
+use Rattle.vms_session.proofs.lines.play.Given as goal
+
+abbrev pub invariant-loop-line : goal.invariant-loop-line
+invariant-loop-line g l = record {
+  sound : IsSound l.board.state;
+  level : l.board.state.level ≡ l.fn.board.state.level;
+  lines : AreLines (Some l.fn.board.state.level) (lines_view (drop l.line-index l.lines));
+  course : (held : Held) (parts : List Part) (new : Session) → g.H.Shelf.held l.fn.shelf ≡ Some held
+      → PlaysParts (lines_view l.lines) (session_of l.fn.board.state held) parts new
+      → InCourse l.line-index (lines_view (drop l.line-index l.lines)) parts new l.board.state (outlet g.K.Sink l.fn.out) (outlet g.K.Sink l.out)
+      (stock g.H.Shelf l.fn.shelf) (stock g.H.Shelf l.shelf);
+  out_count : g.K.Sink.faults l.fn.out ≤ g.K.Sink.faults l.out;
+  shelf_count : g.H.Shelf.faults l.fn.shelf ≤ g.H.Shelf.faults l.shelf;
+  out_promise : g.K.Sink.promise l.out ≡ g.K.Sink.promise l.fn.out;
+  shelf_promise : g.H.Shelf.promise l.shelf ≡ g.H.Shelf.promise l.fn.shelf;
+}

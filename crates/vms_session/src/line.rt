@@ -1,0 +1,89 @@
+// One line of a session.
+ghost use Rattle.std.specs.Prelude.{◌≡◌, ◌≤◌, List, ℕ, Some};
+ghost use Rattle.dev_board.specs.Sound.{IsSound};
+ghost use Rattle.vms_io.specs.Shelves.{Held};
+ghost use Rattle.vms_io.specs.Told.{outlet, stock};
+ghost use Rattle.vms_script.specs.Grammar.{IsLine};
+ghost use Rattle.vms_script.specs.Trace.{trace_line};
+ghost use Rattle.vms_script.specs.Views.{line_view};
+ghost use Rattle.vms_session.specs.Session.{Does, Session};
+ghost use Rattle.vms_session.specs.Playing.{HasPlayCause, LineEnds, WritesText, session_of};
+
+use crate::mark::saved_mark;
+use crate::shelf::{restore, save};
+use dev_board::Answer;
+use std::alloc::Global;
+use vms_board::Board;
+use vms_io::{Shelf, Sink, write_all_of};
+use vms_script::{Line, print_answer};
+
+/// Why a session stopped.
+#[derive(Clone, Copy, Debug, PartialEq, Eq)]
+pub enum PlayFault {
+    /// The sink failed, after some of a line's text; its count of faults has risen.
+    WriteFault,
+    /// The shelf failed; its count of faults has risen. After a store that failed what is held under that name is not
+    /// told.
+    ShelfFault,
+    /// Memory is wanting; the line was not begun.
+    NoMemory,
+}
+
+/// Does a line of a session, and appends its text.
+pub(crate) fn play_line<K: Sink, H: Shelf>(
+    alloc: Global,
+    line: &Line,
+    board: &mut Board,
+    out: &mut K,
+    shelf: &mut H,
+) -> Result<(), PlayFault>
+    requires sound { IsSound board.old.state }
+    requires line { IsLine (Some board.old.state.level) (line_view line.now) }
+    ensures content { (held : Held) (text : List ℕ) (new : Session) → H.held shelf.old ≡ Some held
+        → Does (line_view line.now) (session_of board.old.state held) text new
+        → LineEnds text new (outlet K.Sink out.old) (outlet K.Sink out.new)
+        (stock H.Shelf shelf.old) (stock H.Shelf shelf.new) board.new.state result }
+    ensures cause { HasPlayCause (outlet K.Sink out.old) (outlet K.Sink out.new)
+        (stock H.Shelf shelf.old) (stock H.Shelf shelf.new) result }
+    ensures sound { IsSound board.new.state }
+    ensures level { board.new.state.level ≡ board.old.state.level }
+    ensures out_count { K.faults out.old ≤ K.faults out.new }
+    ensures shelf_count { H.faults shelf.old ≤ H.faults shelf.new }
+    ensures out_promise { K.promise out.new ≡ K.promise out.old }
+    ensures shelf_promise { H.promise shelf.new ≡ H.promise shelf.old }
+{
+    match line {
+        Line::Event(event) => write_answer(&board.event(*event), out),
+        Line::Save { set, name } => {
+            let count = save(alloc, board, *set, name.as_str(), shelf)?;
+            write(&saved_mark(count), out)
+        }
+        Line::Restore { name } => {
+            let mark = restore(alloc, board, name.as_str(), shelf)?;
+            write(&mark, out)
+        }
+    }
+}
+
+fn write_answer<K: Sink>(answer: &Answer, out: &mut K) -> Result<(), PlayFault>
+    ensures written { WritesText (trace_line answer.now) (outlet K.Sink out.old)
+        (outlet K.Sink out.new) result }
+    ensures count { K.faults out.old ≤ K.faults out.new }
+    ensures promise { K.promise out.new ≡ K.promise out.old }
+{
+    match print_answer(answer, out) {
+        Ok(()) => Ok(()),
+        Err(_) => Err(PlayFault::WriteFault),
+    }
+}
+
+fn write<K: Sink>(text: &[u8], out: &mut K) -> Result<(), PlayFault>
+    ensures written { WritesText text.now (outlet K.Sink out.old) (outlet K.Sink out.new) result }
+    ensures count { K.faults out.old ≤ K.faults out.new }
+    ensures promise { K.promise out.new ≡ K.promise out.old }
+{
+    match write_all_of(out, text) {
+        Ok(()) => Ok(()),
+        Err(_) => Err(PlayFault::WriteFault),
+    }
+}

@@ -1,0 +1,53 @@
+// Lines of a session, one after the other.
+ghost use Rattle.std.specs.Prelude.{◌≡◌, ◌≤◌, List, Some};
+ghost use Rattle.dev_board.specs.Sound.{IsSound};
+ghost use Rattle.vms_io.specs.Shelves.{Held};
+ghost use Rattle.vms_io.specs.Told.{outlet, stock};
+ghost use Rattle.vms_commands.specs.Outcomes.{Part};
+ghost use Rattle.vms_script.specs.Grammar.{AreLines};
+ghost use Rattle.vms_script.specs.Views.{lines_view};
+ghost use Rattle.vms_session.specs.Session.{Session};
+ghost use Rattle.vms_session.specs.Parts.{PlaysParts};
+ghost use Rattle.vms_session.specs.Playing.{HasPlayCause, LinesEnd, session_of};
+
+use crate::line::{PlayFault, play_line};
+use std::alloc::Global;
+use vms_board::Board;
+use vms_io::{Shelf, Sink};
+use vms_script::Line;
+
+/// Plays the lines of a session on a board and a shelf, and appends their trace.
+///
+/// After an error the shelf is as after some first lines, and of their trace all stands on the sink but for some bytes
+/// of the last one's text at a write fault. After a shelf fault what is held under one name may not be told.
+pub fn play<K: Sink, H: Shelf>(
+    alloc: Global,
+    lines: &[Line],
+    board: &mut Board,
+    out: &mut K,
+    shelf: &mut H,
+) -> Result<(), PlayFault>
+    requires sound { IsSound board.old.state }
+    requires lines { AreLines (Some board.old.state.level) (lines_view lines.now) }
+    ensures content { (held : Held) (parts : List Part) (new : Session)
+        → H.held shelf.old ≡ Some held
+        → PlaysParts (lines_view lines.now) (session_of board.old.state held) parts new
+        → LinesEnd parts new (outlet K.Sink out.old) (outlet K.Sink out.new)
+        (stock H.Shelf shelf.old) (stock H.Shelf shelf.new) board.new.state result }
+    ensures cause { HasPlayCause (outlet K.Sink out.old) (outlet K.Sink out.new)
+        (stock H.Shelf shelf.old) (stock H.Shelf shelf.new) result }
+    ensures sound { IsSound board.new.state }
+    ensures level { board.new.state.level ≡ board.old.state.level }
+    ensures out_count { K.faults out.old ≤ K.faults out.new }
+    ensures shelf_count { H.faults shelf.old ≤ H.faults shelf.new }
+    ensures out_promise { K.promise out.new ≡ K.promise out.old }
+    ensures shelf_promise { H.promise shelf.new ≡ H.promise shelf.old }
+{
+    for line in lines {
+        match play_line(alloc, line, board, out, shelf) {
+            Ok(()) => {}
+            Err(fault) => return Err(fault),
+        }
+    }
+    Ok(())
+}

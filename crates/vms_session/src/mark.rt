@@ -1,0 +1,58 @@
+// The lines that a session's own lines leave in its trace, each made whole without memory.
+ghost use Rattle.std.specs.Prelude.{◌≡◌, ◌≤◌, length};
+ghost use Rattle.vms_desc.specs.Described.{described};
+ghost use Rattle.vms_session.specs.Lines.{refused_line, restored_line, saved_line};
+
+use arrayvec::ArrayVec;
+use vms_commands::{NoteLine, append_number, append_reason, append_section};
+use vms_desc::DescSet;
+use vms_load::Refusal;
+use vms_words::append;
+
+/// A line that says the same in any case.
+pub(crate) fn mark(text: &[u8]) -> NoteLine
+    requires { length text.now ≤ 256 }
+    ensures { result.items ≡ text.now }
+{
+    let mut line = ArrayVec::new();
+    append(&mut line, text);
+    line
+}
+
+/// The line of a stream of so many bytes that was stored.
+pub(crate) fn saved_mark(count: u64) -> NoteLine
+    ensures { result.items ≡ saved_line count }
+{
+    let mut line = ArrayVec::new();
+    append(&mut line, b"saved ");
+    append_number(&mut line, count);
+    append(&mut line, b"\n");
+    line
+}
+
+/// The line of a stream of so many bytes that was taken.
+pub(crate) fn restored_mark(count: u64) -> NoteLine
+    ensures { result.items ≡ restored_line count }
+{
+    let mut line = ArrayVec::new();
+    append(&mut line, b"restored ");
+    append_number(&mut line, count);
+    append(&mut line, b"\n");
+    line
+}
+
+/// The line of a stream that was refused: where, in which device of the set, and why.
+pub(crate) fn refused_mark(set: &DescSet, refusal: &Refusal) -> NoteLine
+    ensures { let r = refusal.now in
+        result.items ≡ refused_line (described set.now) r.at r.section r.reason }
+{
+    let mut line = ArrayVec::new();
+    append(&mut line, b"refused ");
+    append_number(&mut line, refusal.at);
+    append(&mut line, b" ");
+    append_section(&mut line, set, refusal.section);
+    append(&mut line, b" ");
+    append_reason(&mut line, refusal.reason);
+    append(&mut line, b"\n");
+    line
+}

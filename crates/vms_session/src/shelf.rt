@@ -1,0 +1,91 @@
+// A board's streams on a shelf.
+ghost use Rattle.std.specs.Prelude.{◌≡◌, ◌≤◌, List, ℕ, Some, length};
+ghost use Rattle.dev_board.specs.Saved.{MaySaveUnder};
+ghost use Rattle.dev_board.specs.Sound.{IsSound};
+ghost use Rattle.vms_board.specs.Saving.{saved_stream};
+ghost use Rattle.vms_io.specs.Shelves.{Held};
+ghost use Rattle.vms_io.specs.Told.{stock};
+ghost use Rattle.vms_commands.specs.Fetching.{longest_file};
+ghost use Rattle.vms_session.specs.Session.{LoadsBytes, LoadsHeld, Session};
+ghost use Rattle.vms_session.specs.Playing.{session_of};
+ghost use Rattle.vms_session.specs.Streams.{LoadsAs, ShelfCause, StoresAs};
+
+use crate::line::PlayFault;
+use crate::mark::{mark, refused_mark, restored_mark};
+use crate::{restore_from, stream_of};
+use std::alloc::Global;
+use vms_board::Board;
+use vms_commands::{LONGEST_FILE, NoteLine};
+use vms_io::{FetchFault, Shelf, StoreFault};
+
+/// Stores a board's stream under a set and a name; answers how many bytes it has.
+pub(crate) fn save<H: Shelf>(
+    alloc: Global,
+    board: &Board,
+    set: u8,
+    name: &str,
+    shelf: &mut H,
+) -> Result<u64, PlayFault>
+    requires sound { IsSound board.now.state }
+    requires may { MaySaveUnder board.now.state.level set }
+    ensures stored { (held : Held) → H.held shelf.old ≡ Some held
+        → StoresAs held name.now (saved_stream set board.now.state) (stock H.Shelf shelf.old)
+        (stock H.Shelf shelf.new) result }
+    ensures cause { ShelfCause (stock H.Shelf shelf.old) (stock H.Shelf shelf.new) result }
+    ensures count { H.faults shelf.old ≤ H.faults shelf.new }
+    ensures promise { H.promise shelf.new ≡ H.promise shelf.old }
+{
+    let Ok(stream) = stream_of(alloc, board, set) else {
+        return Err(PlayFault::NoMemory);
+    };
+    match shelf.store(name, &stream) {
+        Ok(()) => Ok(stream.len() as u64),
+        Err(StoreFault::Failed) => Err(PlayFault::ShelfFault),
+        Err(StoreFault::NoMemory) => Err(PlayFault::NoMemory),
+    }
+}
+
+/// Makes a board the one that the stream of a name restores, if it restores one; answers the line of what it came to.
+pub(crate) fn restore<H: Shelf>(
+    alloc: Global,
+    board: &mut Board,
+    name: &str,
+    shelf: &mut H,
+) -> Result<NoteLine, PlayFault>
+    requires { IsSound board.old.state }
+    ensures loaded { (held : Held) (text : List ℕ) (new : Session) → H.held shelf.old ≡ Some held
+        → LoadsHeld (held name.now) (session_of board.old.state held) text new
+        → LoadsAs text new board.new.state result }
+    ensures held { H.held shelf.new ≡ H.held shelf.old }
+    ensures cause { ShelfCause (stock H.Shelf shelf.old) (stock H.Shelf shelf.new) result }
+    ensures sound { IsSound board.new.state }
+    ensures level { board.new.state.level ≡ board.old.state.level }
+    ensures count { H.faults shelf.old ≤ H.faults shelf.new }
+    ensures promise { H.promise shelf.new ≡ H.promise shelf.old }
+{
+    match shelf.fetch(alloc, name, LONGEST_FILE) {
+        Ok(stream) => Ok(load(alloc, board, stream)),
+        Err(FetchFault::NotThere) => Ok(mark(b"missing\n")),
+        Err(FetchFault::TooLarge) => Ok(mark(b"too large\n")),
+        Err(FetchFault::Failed) => Err(PlayFault::ShelfFault),
+        Err(FetchFault::NoMemory) => Err(PlayFault::NoMemory),
+    }
+}
+
+// Makes a board the one that a stream restores, if it restores one; answers the line of what it came to.
+fn load(alloc: Global, board: &mut Board, stream: Vec<u8>) -> NoteLine
+    requires few { length stream.items ≤ longest_file }
+    requires sound { IsSound board.old.state }
+    ensures text { (held : Held) (text : List ℕ) (new : Session)
+        → LoadsBytes stream.items (session_of board.old.state held) text new → result.items ≡ text }
+    ensures board { (held : Held) (text : List ℕ) (new : Session)
+        → LoadsBytes stream.items (session_of board.old.state held) text new
+        → board.new.state ≡ new.board }
+    ensures sound { IsSound board.new.state }
+    ensures level { board.new.state.level ≡ board.old.state.level }
+{
+    match restore_from(alloc, board, stream) {
+        Ok(()) => restored_mark(board.taken()),
+        Err(refusal) => refused_mark(board.set(), &refusal),
+    }
+}

@@ -1,0 +1,372 @@
+-- A set that is well formed is good.
+use Rattle.std.proofs.Common.{◌≡◌, ℕ, zero, suc, ◌+◌, ◌<◌, List, [], ◌∷◌, ◌++◌, length, get_or, map, take, Option, Some, None, ℤ, pos, negsuc, ◌≤ℤ◌, refl, sym, ap, ◌∙◌, subst, arith, Bool, true, false, ◌&&◌, ◌||◌, ◌==◌, nat_lt, nat_le, if◌then◌else◌}
+use Rattle.std.specs.List.{AllByRecursion, flat_map, slice_get, list_any}
+use Rattle.std.specs.Str.{bytes_eq}
+use Rattle.std.proofs.lemmas.Bool.{and_parts, not-true, ltb-true, leb-true, eq-eqb}
+use Rattle.std.proofs.lemmas.Slice.Eq.{bytes_eq-Decides}
+use Rattle.std.proofs.lemmas.Int.{ints}
+use Rattle.std.proofs.lemmas.Option.{slice_get_within}
+use Rattle.vms_kinds.specs.declared.Kind.{Kind}
+use Rattle.vms_kinds.specs.declared.Item.{Item}
+use Rattle.vms_kinds.specs.declared.Item.TheVariants.{Num, Equal, Unused, Struct}
+use Rattle.vms_kinds.specs.Codes.{lowest, highest, InRange}
+use Rattle.vms_spec.specs.declared.Count.{Count}
+use Rattle.vms_spec.specs.declared.Count.TheVariants.{One, Fixed, Counted}
+use Rattle.vms_spec.specs.declared.Whose.TheVariants.{Own, Parent}
+use Rattle.vms_spec.specs.declared.Part.{Part}
+use Rattle.vms_spec.specs.declared.Part.TheVariants as parts
+use Rattle.vms_spec.specs.Lists.{position, or_else, first_answer}
+use Rattle.vms_spec.specs.Sets.{Formula, AtLeast, Below, Cell, Not, And, Or, Field, Desc, Sub, Device, Set}
+use Rattle.vms_spec.specs.Layout.{Cell as OneCell, no_field, no_desc, times, counted, capacity_of, item_cells, field_cells, cells_from, desc_cells, struct_cells, device_cells, first}
+use Rattle.vms_spec.specs.Images.{FitsCell}
+use Rattle.vms_spec.specs.Streams.{is_one_of}
+use Rattle.vms_spec.specs.Lookup.{find_device, find_sub}
+use Rattle.vms_spec.specs.Rules.{is_num, is_one, has_no_test, is_steady, is_steady_in, is_earlier_in, names_well, nobody, test_names_well, count_names_well, is_counting, defaults_well, counts_well, int_le, in_range, field_rules, validation_rules}
+use Rattle.vms_spec.specs.WellFormed.{failing, here, in_field, fields_fault, validations_fault, desc_fault, struct_fault, struct_rules, sub_fault, sub_rules, device_fault, device_rules, is_same_device, set_rules, size_rules, first_fault, WellFormed}
+use Rattle.vms_spec.specs.Sound.{IsNumber, IsOne, IsEarlier, NamesEarlier, IsSoundTest, IsSoundCount, IsSoundField, AreSoundFields, IsSound}
+use Rattle.vms_spec.specs.Good.{DefaultsFit, ConstantFits, ConstantsFit, IsGood}
+use Rattle.vms_spec.specs.Heads.{FitsHeads}
+use Rattle.vms_spec.proofs.Faultless.{or_else_none, answers_none, AllTrue, all_true}
+use Rattle.vms_spec.proofs.Tables.{one_more}
+
+-- ---- no fault anywhere
+
+-- what holds of a description without a fault
+pub record Clean (k : ℕ) (d : Desc) (rules : List Bool) : Type 0 where
+  pub own : AllTrue rules
+  pub fields : (i : ℕ) (f : Field) → slice_get d.fields i ≡ Some f → AllTrue (field_rules k d i f)
+  pub validations : (i : ℕ) (t : Formula) → slice_get d.validate i ≡ Some t → AllTrue (validation_rules d t)
+
+clean : (k : ℕ) (d : Desc) (part : Part) (rules : List Bool) → desc_fault k d part rules ≡ None → Clean k d rules
+clean k d part rules e =
+    let a = or_else_none (failing 1 rules (here part)) (or_else (fields_fault k d part) (validations_fault d part)) e in
+    let b = or_else_none (fields_fault k d part) (validations_fault d part) a.1 in
+    record {
+      own = all_true 1 rules (here part) a.0;
+      fields = λ i f h. all_true 1 (field_rules k d i f) (in_field part i) (field_clean i f h b.0);
+      validations = λ i t h. all_true 1 (validation_rules d t) (here part) (answers_none (λ i t. failing 1 (validation_rules d t) (here part)) 0 d.validate b.1 i t h);
+    }
+  where
+    field_clean : (i : ℕ) (f : Field) → slice_get d.fields i ≡ Some f → fields_fault k d part ≡ None → failing 1 (field_rules k d i f) (in_field part i) ≡ None
+    field_clean i f h e =
+        let plus : 0 + i ≡ i = omega arith in
+        subst (λ (i : ℕ). failing 1 (field_rules k d i f) (in_field part i) ≡ None) plus (answers_none (λ i f. failing 1 (field_rules k d i f) (in_field part i)) 0 d.fields e i f h)
+
+-- ---- tests and counts name earlier single numbers
+
+pub beyond : {X : Type 0} (xs : List X) (i : ℕ) → i < length xs → slice_get xs i ≡ None → ⊥
+beyond [] i lt e = absurd (omega arith)
+beyond (y ∷ xs) zero lt e = cc
+beyond (y ∷ xs) (suc i) lt e = beyond xs i (omega arith) e
+
+pub get_none : {X : Type 0} (xs : List X) (i : ℕ) (d : X) → slice_get xs i ≡ None → get_or xs i d ≡ d
+get_none [] i d e = refl
+get_none (y ∷ xs) zero d e = cc
+get_none (y ∷ xs) (suc i) d e = get_none xs i d e
+
+pub get_at : {X : Type 0} (xs : List X) (i : ℕ) (d x : X) → slice_get xs i ≡ Some x → get_or xs i d ≡ x
+get_at [] i d x e = cc
+get_at (y ∷ xs) zero d x e = cc
+get_at (y ∷ xs) (suc i) d x e = get_at xs i d x e
+
+is_number : (item : Item) → is_num item ≡ true → IsNumber item
+is_number (Num kind) e = tt
+is_number (Equal kind z) e = cc
+is_number (Unused n) e = cc
+is_number (Struct j) e = cc
+
+is_single : (c : Count) → is_one c ≡ true → IsOne c
+is_single One e = tt
+is_single (Fixed n) e = cc
+is_single (Counted by most) e = cc
+
+earlier : (d : Desc) (k j : ℕ) → j < k → is_steady_in d j ≡ true → IsEarlier d.fields k j
+earlier d k j lt e = go (slice_get d.fields j) refl e
+  where
+    go : (o : Option Field) → slice_get d.fields j ≡ o → is_steady d.minimum o ≡ true → IsEarlier d.fields k j
+    go None h e = cc
+    go (Some f) h e =
+        let a = and_parts (is_num f.item && is_one f.count && has_no_test f.test) (nat_le f.since d.minimum) e in
+        let b = and_parts (is_num f.item && is_one f.count) (has_no_test f.test) a.0 in
+        let c = and_parts (is_num f.item) (is_one f.count) b.0 in
+        let g : f ≡ get_or d.fields j no_field = sym (get_at d.fields j no_field f h) in
+        record {
+          earlier = lt;
+          there = slice_get_within d.fields j f h;
+          number = subst (λ (f : Field). IsNumber f.item) g (is_number f.item c.0);
+          one = subst (λ (f : Field). IsOne f.count) g (is_single f.count c.1);
+        }
+
+names_earlier : (fields : List Field) (k : ℕ) (own : ℕ → Bool) → ((j : ℕ) → own j ≡ true → IsEarlier fields k j) → (t : Formula) → names_well own nobody t ≡ true → NamesEarlier fields k t
+names_earlier fields k own h (AtLeast n) e = tt
+names_earlier fields k own h (Below n) e = tt
+names_earlier fields k own h (Cell Own j mask rel value) e = h j e
+names_earlier fields k own h (Cell Parent j mask rel value) e = cc
+names_earlier fields k own h (Not t) e = names_earlier fields k own h t e
+names_earlier fields k own h (And s t) e =
+    let p = and_parts (names_well own nobody s) (names_well own nobody t) e in
+    (names_earlier fields k own h s p.0, names_earlier fields k own h t p.1)
+names_earlier fields k own h (Or s t) e =
+    let p = and_parts (names_well own nobody s) (names_well own nobody t) e in
+    (names_earlier fields k own h s p.0, names_earlier fields k own h t p.1)
+
+earlier_in : (d : Desc) (k j : ℕ) → is_earlier_in d k j ≡ true → IsEarlier d.fields k j
+earlier_in d k j e = let p = and_parts (nat_lt j k) (is_steady_in d j) e in earlier d k j (ltb-true j k p.0) p.1
+
+sound_test : (d : Desc) (k : ℕ) (t : Option Formula) → test_names_well d k t ≡ true → IsSoundTest d.fields k t
+sound_test d k None e = tt
+sound_test d k (Some t) e = names_earlier d.fields k (is_earlier_in d k) (λ j h. earlier_in d k j h) t e
+
+sound_count : (d : Desc) (k : ℕ) (c : Count) → count_names_well d k c ≡ true → IsSoundCount d.fields k c
+sound_count d k One e = tt
+sound_count d k (Fixed n) e = tt
+sound_count d k (Counted by most) e = earlier_in d k by (and_parts (is_earlier_in d k by) (is_counting (slice_get d.fields by)) e).0
+
+sound_fields : (fields : List Field) (i : ℕ) (fs : List Field) → ((j : ℕ) (f : Field) → slice_get fs j ≡ Some f → IsSoundField fields (i + j) f) → AreSoundFields fields i fs
+sound_fields fields i [] h = tt
+sound_fields fields i (f ∷ fs) h =
+    let plus : i + 0 ≡ i = omega arith in
+    (subst (λ (k : ℕ). IsSoundField fields k f) plus (h 0 f refl), sound_fields fields (suc i) fs (λ j g e. next j g (h (suc j) g e)))
+  where
+    next : (j : ℕ) (g : Field) → IsSoundField fields (i + suc j) g → IsSoundField fields (suc i + j) g
+    next j g s = let plus : i + suc j ≡ suc i + j = omega arith in subst (λ (k : ℕ). IsSoundField fields k g) plus s
+
+sound_validations : (fields : List Field) (ts : List Formula) → ((i : ℕ) (t : Formula) → slice_get ts i ≡ Some t → NamesEarlier fields (length fields) t) → AllByRecursion (NamesEarlier fields (length fields)) ts
+sound_validations fields [] h = tt
+sound_validations fields (t ∷ ts) h = (h 0 t refl, sound_validations fields ts (λ i s e. h (suc i) s e))
+
+sound : (k : ℕ) (d : Desc) (rules : List Bool) → Clean k d rules → IsSound d
+sound k d rules c = record {
+  fields = sound_fields d.fields 0 d.fields (λ j f e. at_zero j f (field j f e));
+  validate = sound_validations d.fields d.validate (λ i t e.
+      names_earlier d.fields (length d.fields) (is_steady_in d) (λ j h. earlier d (length d.fields) j (inside j h) h) t (c.validations i t e).1.1.1.0);
+} where
+  field : (j : ℕ) (f : Field) → slice_get d.fields j ≡ Some f → IsSoundField d.fields j f
+  field j f e =
+      let p = and_parts (test_names_well d j f.test) (count_names_well d j f.count) (c.fields j f e).1.1.1.0 in
+      record { test = sound_test d j f.test p.0; count = sound_count d j f.count p.1 }
+
+  at_zero : (j : ℕ) (f : Field) → IsSoundField d.fields j f → IsSoundField d.fields (0 + j) f
+  at_zero j f s = let plus : j ≡ 0 + j = omega arith in subst (λ (k : ℕ). IsSoundField d.fields k f) plus s
+
+  inside : (j : ℕ) → is_steady_in d j ≡ true → j < length d.fields
+  inside j h = by_field (slice_get d.fields j) refl h
+    where
+      by_field : (o : Option Field) → slice_get d.fields j ≡ o → is_steady d.minimum o ≡ true → j < length d.fields
+      by_field None e h = cc
+      by_field (Some f) e h = slice_get_within d.fields j f e
+
+-- ---- defaults and constants
+
+pub int_below : (z u : ℤ) → int_le z u ≡ true → z ≤ℤ u
+int_below (pos a) (pos b) h = omega (arith, ints, leb-true a b h)
+int_below (pos a) (negsuc b) h = cc
+int_below (negsuc a) (pos b) h = omega (arith, ints)
+int_below (negsuc a) (negsuc b) h = omega (arith, ints, leb-true b a h)
+
+pub ranges : (kind : Kind) (z : ℤ) → in_range kind z ≡ true → InRange kind z
+ranges kind z e = let p = and_parts (int_le (lowest kind) z) (int_le z (highest kind)) e in (int_below (lowest kind) z p.0, int_below z (highest kind) p.1)
+
+pub within : (caps : List ℕ) (z : ℤ) → counts_well caps z ≡ true → AllByRecursion (λ most. z ≤ℤ pos most) caps
+within [] z e = tt
+within (m ∷ caps) z e = let p = and_parts (int_le z (pos m)) (counts_well caps z) e in (int_below z (pos m) p.0, within caps z p.1)
+
+constant_fits : (item : Item) (z : ℤ) → defaults_well item z ≡ true → ConstantFits item
+constant_fits (Num kind) z e = tt
+constant_fits (Equal kind y) z e = ranges kind y (and_parts (in_range kind y) _ e).0
+constant_fits (Unused n) z e = tt
+constant_fits (Struct j) z e = tt
+
+constants_fit : (fs : List Field) → ((i : ℕ) (f : Field) → slice_get fs i ≡ Some f → ConstantFits f.item) → ConstantsFit fs
+constants_fit [] h = tt
+constants_fit (f ∷ fs) h = (h 0 f refl, constants_fit fs (λ i g e. h (suc i) g e))
+
+-- the default of each of these cells fits it
+abbrev Fit : List OneCell → Type 0
+Fit [] = Unit {0}
+Fit (c ∷ cells) = FitsCell c c.default × Fit cells
+
+fit_append : (xs ys : List OneCell) → Fit xs → Fit ys → Fit (xs ++ ys)
+fit_append [] ys p q = q
+fit_append (c ∷ xs) ys p q = (p.0, fit_append xs ys p.1 q)
+
+fit_times : (n : ℕ) (xs : List OneCell) (at' step : ℕ) → Fit xs → Fit (times n (λ _. xs) at' step)
+fit_times zero xs at' step p = tt
+fit_times (suc n) xs at' step p = fit_append xs (times n (λ _. xs) (at' + step) step) p (fit_times n xs (at' + step) step p)
+
+abbrev AllFit : List (List OneCell) → Type 0
+AllFit structs = (j : ℕ) → Fit (get_or structs j [])
+
+fit_item : (structs : List (List OneCell)) → AllFit structs → (item : Item) (caps : List ℕ) (z : ℤ) → defaults_well item z ≡ true → counts_well caps z ≡ true → Fit (item_cells structs item caps z)
+fit_item structs all (Num kind) caps z e f = ((ranges kind z e, within caps z f), tt)
+fit_item structs all (Equal kind y) caps z e f = tt
+fit_item structs all (Unused n) caps z e f = tt
+fit_item structs all (Struct j) caps z e f = all j
+
+-- the rule on defaults at each field of a description, from one on
+record FieldsFit (fields : List Field) (i : ℕ) (fs : List Field) : Type 0 where
+  pub fit : (j : ℕ) (f : Field) → slice_get fs j ≡ Some f → (defaults_well f.item f.default ≡ true) × (counts_well (counted (i + j) fields) f.default ≡ true)
+
+fit_fields : (structs : List (List OneCell)) → AllFit structs → (fields : List Field) (i : ℕ) (fs : List Field) → FieldsFit fields i fs → Fit (cells_from structs fields i fs)
+fit_fields structs all fields i [] h = tt
+fit_fields structs all fields i (f ∷ fs) h =
+    let a = h.fit 0 f refl in
+    let plus : i + 0 ≡ i = omega arith in
+    let caps = counted i fields in
+    let counts : counts_well caps f.default ≡ true = subst (λ (k : ℕ). counts_well (counted k fields) f.default ≡ true) plus a.1 in
+    fit_append (field_cells structs fields i f) (cells_from structs fields (suc i) fs)
+    (fit_times (capacity_of f.count) (item_cells structs f.item caps f.default) 0 0 (fit_item structs all f.item caps f.default a.0 counts))
+    (fit_fields structs all fields (suc i) fs (record { fit = λ j g e. next j g (h.fit (suc j) g e) }))
+  where
+    next : (j : ℕ) (g : Field) → (defaults_well g.item g.default ≡ true) × (counts_well (counted (i + suc j) fields) g.default ≡ true)
+        → (defaults_well g.item g.default ≡ true) × (counts_well (counted (suc i + j) fields) g.default ≡ true)
+    next j g p = let plus : i + suc j ≡ suc i + j = omega arith in (p.0, subst (λ (k : ℕ). counts_well (counted k fields) g.default ≡ true) plus p.1)
+
+fields_fit : (k : ℕ) (d : Desc) (rules : List Bool) → Clean k d rules → FieldsFit d.fields 0 d.fields
+fields_fit k d rules c = record {
+  fit = λ j f e.
+      let p = and_parts (defaults_well f.item f.default) (counts_well (counted j d.fields) f.default) (c.fields j f e).1.1.1.1.1.0 in
+      (p.0, at_zero j f p.1);
+} where
+  at_zero : (j : ℕ) (f : Field) → counts_well (counted j d.fields) f.default ≡ true → counts_well (counted (0 + j) d.fields) f.default ≡ true
+  at_zero j f e = let plus : j ≡ 0 + j = omega arith in subst (λ (k : ℕ). counts_well (counted k d.fields) f.default ≡ true) plus e
+
+constants_of : (k : ℕ) (d : Desc) (rules : List Bool) → Clean k d rules → ConstantsFit d.fields
+constants_of k d rules c = constants_fit d.fields (λ i f e. constant_fits f.item f.default (and_parts (defaults_well f.item f.default) (counts_well (counted i d.fields) f.default) (c.fields i f e).1.1.1.1.1.0).0)
+
+-- as DefaultsFit says it
+fit_at : (cells : List OneCell) → Fit cells → DefaultsFit cells
+fit_at [] p = λ c lt. absurd (omega arith)
+fit_at (x ∷ cells) p = by_place x cells p.0 (fit_at cells p.1)
+  where
+    by_place : (x : OneCell) (cells : List OneCell) → FitsCell x x.default → DefaultsFit cells → DefaultsFit (x ∷ cells)
+    by_place x cells a b zero lt = a
+    by_place x cells a b (suc c) lt = b c (omega arith)
+
+-- ---- distinct names
+
+first_of : {X : Type 0} (p : X → Bool) (i : ℕ) (xs : List X) (k : ℕ) (x : X) → slice_get xs k ≡ Some x → p x ≡ true → list_any p (take k xs) ≡ false → position p i xs ≡ Some (i + k)
+first_of p i [] k x e t f = cc
+first_of p i (y ∷ xs) zero x e t f =
+    let same : y ≡ x = cc in
+    let plus : i ≡ i + 0 = omega arith in
+    ap (λ (b : Bool). if b then Some i else position p (suc i) xs) (ap p same ∙ t) ∙ ap (λ (k : ℕ). Some k) plus
+first_of p i (y ∷ xs) (suc k) x e t f =
+    let g = or_false (p y) (list_any p (take k xs)) f in
+    let plus : suc i + k ≡ i + suc k = omega arith in
+    ap (λ (b : Bool). if b then Some i else position p (suc i) xs) g.0 ∙ first_of p (suc i) xs k x e t g.1 ∙ ap (λ (k : ℕ). Some k) plus
+  where
+    or_false : (a b : Bool) → (a || b) ≡ false → (a ≡ false) × (b ≡ false)
+    or_false true b e = cc
+    or_false false b e = (refl, e)
+
+same_bytes : (name : List ℕ) → bytes_eq name name ≡ true
+same_bytes name = (bytes_eq-Decides name name).1 refl
+
+both : (a b : Bool) → a ≡ true → b ≡ true → (a && b) ≡ true
+both a b e f = ap (λ (a : Bool). a && b) e ∙ f
+
+some_names : (name : List ℕ) (subs : List Sub) → list_any (λ (s : Sub). bytes_eq s.desc.name name) subs ≡ is_one_of (map (λ (s : Sub). s.desc.name) subs) name
+some_names name [] = refl
+some_names name (s ∷ subs) = ap (λ (b : Bool). bytes_eq s.desc.name name || b) (some_names name subs)
+
+-- ---- the set
+
+module _ (set : Set) (well : WellFormed set) where
+  parts_clean : (first_answer (struct_fault set.structs) 0 set.structs ≡ None) × (first_answer (device_fault set) 0 set.devices ≡ None)
+  unfolding first_fault
+  parts_clean =
+      let last = failing 1 (size_rules set) (here parts.Set) in
+      let devices = or_else (first_answer (device_fault set) 0 set.devices) last in
+      let a = or_else_none (failing 1 (set_rules set) (here parts.Set)) (or_else (first_answer (struct_fault set.structs) 0 set.structs) devices) well in
+      let b = or_else_none (first_answer (struct_fault set.structs) 0 set.structs) devices a.1 in
+      let c = or_else_none (first_answer (device_fault set) 0 set.devices) last b.1 in
+      (b.0, c.0)
+
+  pub struct_clean : (j : ℕ) (d : Desc) → slice_get set.structs j ≡ Some d → Clean j d (struct_rules set.structs j d)
+  struct_clean j d e =
+      let plus : 0 + j ≡ j = omega arith in
+      clean j d (parts.Struct j) (struct_rules set.structs j d)
+      (subst (λ (i : ℕ). struct_fault set.structs i d ≡ None) plus (answers_none (struct_fault set.structs) 0 set.structs parts_clean.0 j d e))
+
+  -- the device's own part, and its subsections
+  pub device_parts : (k : ℕ) (d : Device) → slice_get set.devices k ≡ Some d
+      → Clean (length set.structs) d.desc (device_rules set k d) × (first_answer (sub_fault (length set.structs) k d) 0 d.subs ≡ None)
+  device_parts k d e =
+      let plus : 0 + k ≡ k = omega arith in
+      let none = subst (λ (i : ℕ). device_fault set i d ≡ None) plus (answers_none (device_fault set) 0 set.devices parts_clean.1 k d e) in
+      let p = or_else_none (desc_fault (length set.structs) d.desc (parts.Device k) (device_rules set k d)) (first_answer (sub_fault (length set.structs) k d) 0 d.subs) none in
+      (clean (length set.structs) d.desc (parts.Device k) (device_rules set k d) p.0, p.1)
+
+  pub sub_clean : (k j : ℕ) (d : Device) (s : Sub) → slice_get set.devices k ≡ Some d → slice_get d.subs j ≡ Some s → Clean (length set.structs) s.desc (sub_rules d j s)
+  sub_clean k j d s e f =
+      let plus : 0 + j ≡ j = omega arith in
+      clean (length set.structs) s.desc (parts.Sub k j) (sub_rules d j s)
+      (subst (λ (i : ℕ). sub_fault (length set.structs) k d i s ≡ None) plus (answers_none (sub_fault (length set.structs) k d) 0 d.subs (device_parts k d e).1 j s f))
+
+  -- structure m, of which there may be none
+  struct_fits : (structs : List (List OneCell)) → AllFit structs → (m : ℕ) (o : Option Desc) → slice_get set.structs m ≡ o → Fit (desc_cells structs (get_or set.structs m no_desc))
+  struct_fits structs all m None e = subst (λ (d : Desc). Fit (desc_cells structs d)) (sym (get_none set.structs m no_desc e)) tt
+  struct_fits structs all m (Some d) e =
+      subst (λ (d : Desc). Fit (desc_cells structs d)) (sym (get_at set.structs m no_desc d e))
+      (fit_fields structs all d.fields 0 d.fields (fields_fit m d (struct_rules set.structs m d) (struct_clean m d e)))
+
+  structs_fit : (m : ℕ) → AllFit (first desc_cells set.structs m)
+  unfolding first
+  structs_fit zero = λ j. tt
+  structs_fit (suc m) =
+      let all = structs_fit m in
+      one_more Fit [] tt (first desc_cells set.structs m) all (desc_cells (first desc_cells set.structs m) (get_or set.structs m no_desc))
+      (struct_fits (first desc_cells set.structs m) all m (slice_get set.structs m) refl)
+
+  part_fits : (d : Desc) (rules : List Bool) → Clean (length set.structs) d rules → Fit (desc_cells (struct_cells set) d)
+  part_fits d rules c = fit_fields (struct_cells set) (structs_fit (length set.structs)) d.fields 0 d.fields (fields_fit (length set.structs) d rules c)
+
+  subs_fit : (subs : List Sub) → ((j : ℕ) (s : Sub) → slice_get subs j ≡ Some s → Fit (desc_cells (struct_cells set) s.desc)) → Fit (flat_map (λ (s : Sub). desc_cells (struct_cells set) s.desc) subs)
+  subs_fit [] h = tt
+  subs_fit (s ∷ subs) h =
+      fit_append (desc_cells (struct_cells set) s.desc) (flat_map (λ (s : Sub). desc_cells (struct_cells set) s.desc) subs) (h 0 s refl) (subs_fit subs (λ j t e. h (suc j) t e))
+
+  device_fits : (k : ℕ) (d : Device) → slice_get set.devices k ≡ Some d → Fit (device_cells set d)
+  device_fits k d e =
+      fit_append (desc_cells (struct_cells set) d.desc) (flat_map (λ (s : Sub). desc_cells (struct_cells set) s.desc) d.subs)
+      (part_fits d.desc (device_rules set k d) (device_parts k d e).0)
+      (subs_fit d.subs (λ j s f. part_fits s.desc (sub_rules d j s) (sub_clean k j d s e f)))
+
+  pub device_found : (k : ℕ) (d : Device) → slice_get set.devices k ≡ Some d → find_device 0 set.devices d.desc.name d.instance ≡ Some k
+  device_found k d e =
+      let new = not-true (list_any (is_same_device d.desc.name d.instance) (take k set.devices)) (device_parts k d e).0.own.1.0 in
+      let plus : 0 + k ≡ k = omega arith in
+      first_of (is_same_device d.desc.name d.instance) 0 set.devices k d e
+      (both (bytes_eq d.desc.name d.desc.name) (d.instance == d.instance) (same_bytes d.desc.name) (eq-eqb d.instance d.instance refl)) new
+      ∙ ap (λ (k : ℕ). Some k) plus
+
+  pub sub_found : (k j : ℕ) (d : Device) (s : Sub) → slice_get set.devices k ≡ Some d → slice_get d.subs j ≡ Some s → find_sub 0 d.subs s.desc.name ≡ Some j
+  sub_found k j d s e f =
+      let name = s.desc.name in
+      let new = not-true (is_one_of (map (λ (e : Sub). e.desc.name) (take j d.subs)) name) (sub_clean k j d s e f).own.1.0 in
+      let plus : 0 + j ≡ j = omega arith in
+      first_of (λ (s : Sub). bytes_eq s.desc.name name) 0 d.subs j s f (same_bytes name) (some_names name (take j d.subs) ∙ new) ∙ ap (λ (k : ℕ). Some k) plus
+
+  struct_sound : (j : ℕ) → j < length set.structs → (o : Option Desc) → slice_get set.structs j ≡ o → IsSound (get_or set.structs j no_desc)
+  struct_sound j lt None e = absurd (beyond set.structs j lt e)
+  struct_sound j lt (Some d) e = subst IsSound (sym (get_at set.structs j no_desc d e)) (sound j d (struct_rules set.structs j d) (struct_clean j d e))
+
+  struct_constants : (j : ℕ) (o : Option Desc) → slice_get set.structs j ≡ o → ConstantsFit (get_or set.structs j no_desc).fields
+  struct_constants j None e = subst (λ (d : Desc). ConstantsFit d.fields) (sym (get_none set.structs j no_desc e)) tt
+  struct_constants j (Some d) e = subst (λ (d : Desc). ConstantsFit d.fields) (sym (get_at set.structs j no_desc d e)) (constants_of j d (struct_rules set.structs j d) (struct_clean j d e))
+
+  pub well_good : FitsHeads set → IsGood set
+  well_good heads = record {
+    structs = λ j lt. struct_sound j lt (slice_get set.structs j) refl;
+    devices = λ k d e. sound (length set.structs) d.desc (device_rules set k d) (device_parts k d e).0;
+    subs = λ k j d s e f. sound (length set.structs) s.desc (sub_rules d j s) (sub_clean k j d s e f);
+    distinct = λ k d e. device_found k d e;
+    distinct_subs = λ k j d s e f. sub_found k j d s e f;
+    defaults = λ k d e. fit_at (device_cells set d) (device_fits k d e);
+    struct_constants = λ j. struct_constants j (slice_get set.structs j) refl;
+    constants = λ k d e. constants_of (length set.structs) d.desc (device_rules set k d) (device_parts k d e).0;
+    sub_constants = λ k j d s e f. constants_of (length set.structs) s.desc (sub_rules d j s) (sub_clean k j d s e f);
+    instance = heads.instance;
+    sub_version = heads.sub_version;
+  }

@@ -1,0 +1,59 @@
+-- What the laws want of a set. It follows from well-formedness and from the types of the parts.
+use Rattle.std.specs.Prelude.{◌≡◌, ℕ, ◌^◌, ◌<◌, List, [], ◌∷◌, length, get_or, Some}
+use Rattle.std.specs.List.{slice_get}
+use Rattle.vms_kinds.specs.declared.Item.{Item}
+use Rattle.vms_kinds.specs.declared.Item.TheVariants.{Equal}
+use Rattle.vms_kinds.specs.Codes.{InRange}
+use Rattle.vms_spec.specs.Sets.{Field, Device, Sub, Set}
+use Rattle.vms_spec.specs.Layout.{Cell, no_cell, no_desc, device_cells}
+use Rattle.vms_spec.specs.Images.{FitsCell}
+use Rattle.vms_spec.specs.Lookup.{find_device, find_sub}
+use Rattle.vms_spec.specs.WellFormed.{WellFormed}
+use Rattle.vms_spec.specs.Heads.{FitsHeads}
+use Rattle.vms_spec.specs.Shipped.{set_0, set_1, set_2, set_3, set_4}
+use Rattle.vms_spec.specs.Sound.{IsSound, AreSound}
+
+-- the default of each cell is in its kind's range and within the capacities that it counts
+abbrev pub DefaultsFit : List Cell → Type 0
+DefaultsFit cells = (c : ℕ) → c < length cells → FitsCell (get_or cells c no_cell) (get_or cells c no_cell).default
+
+-- the constant of each field is in its kind's range
+abbrev pub ConstantFits : Item → Type 0
+ConstantFits (Equal kind z) = InRange kind z
+ConstantFits _ = Unit {0}
+
+abbrev pub ConstantsFit : List Field → Type 0
+ConstantsFit [] = Unit {0}
+ConstantsFit (f ∷ fs) = ConstantFits f.item × ConstantsFit fs
+
+pub record IsGood (set : Set) : Type 0 where
+  -- tests and counts name single numbers that stand before them
+  pub structs : AreSound set.structs
+  pub devices : (k : ℕ) (d : Device) → slice_get set.devices k ≡ Some d → IsSound d.desc
+  pub subs : (k j : ℕ) (d : Device) (s : Sub) → slice_get set.devices k ≡ Some d → slice_get d.subs j ≡ Some s → IsSound s.desc
+  -- devices are distinct by name and instance, and the subsections of a device by name
+  pub distinct : (k : ℕ) (d : Device) → slice_get set.devices k ≡ Some d → find_device 0 set.devices d.desc.name d.instance ≡ Some k
+  pub distinct_subs : (k j : ℕ) (d : Device) (s : Sub) → slice_get set.devices k ≡ Some d → slice_get d.subs j ≡ Some s → find_sub 0 d.subs s.desc.name ≡ Some j
+  -- defaults and constants
+  pub defaults : (k : ℕ) (d : Device) → slice_get set.devices k ≡ Some d → DefaultsFit (device_cells set d)
+  pub struct_constants : (j : ℕ) → ConstantsFit (get_or set.structs j no_desc).fields
+  pub constants : (k : ℕ) (d : Device) → slice_get set.devices k ≡ Some d → ConstantsFit d.desc.fields
+  pub sub_constants : (k j : ℕ) (d : Device) (s : Sub) → slice_get set.devices k ≡ Some d → slice_get d.subs j ≡ Some s → ConstantsFit s.desc.fields
+  -- what stands in four bytes
+  pub instance : (k : ℕ) (d : Device) → slice_get set.devices k ≡ Some d → (d.instance < 2 ^ 32) × (d.desc.version < 2 ^ 32)
+  pub sub_version : (k j : ℕ) (d : Device) (s : Sub) → slice_get set.devices k ≡ Some d → slice_get d.subs j ≡ Some s → s.desc.version < 2 ^ 32
+
+-- ---- laws of sets
+
+-- a set that is well formed and whose numbers fit their four bytes is good
+abbrev pub GoodLaw : Type 0
+GoodLaw = (set : Set) → WellFormed set → FitsHeads set → IsGood set
+
+-- what the laws of streams ask of a set
+pub record IsFit (set : Set) : Type 0 where
+  pub well : WellFormed set
+  pub heads : FitsHeads set
+
+-- each shipped set is so
+abbrev pub ShippedLaw : Type 0
+ShippedLaw = IsFit set_0 × IsFit set_1 × IsFit set_2 × IsFit set_3 × IsFit set_4

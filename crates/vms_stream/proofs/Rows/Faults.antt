@@ -1,0 +1,242 @@
+-- Refusals of worked rows as faults: the units before the place, and why nothing goes on there.
+use Rattle.std.proofs.Common.{◌≡◌, ℕ, ◌<◌, List, [], ◌∷◌, ◌++◌, length, take, drop, Option, Some, None, pos, refl, arith, codes, Bool, true, false}
+use Rattle.std.proofs.lemmas.Int.{ints}
+use Rattle.vms_kinds.specs.declared.Kind.TheVariants.{U8, U64, Bool as Truth}
+use Rattle.vms_kinds.specs.Codes.{code, InRange}
+use Rattle.vms_spec.specs.declared.Reason.{Reason}
+use Rattle.vms_spec.specs.declared.Reason.TheVariants as reasons
+use Rattle.vms_spec.specs.Sets.{Set}
+use Rattle.vms_spec.specs.Layout.{first}
+use Rattle.vms_spec.specs.Streams.{magic}
+use Rattle.vms_spec.specs.Shipped.{set_0}
+use Rattle.vms_spec.specs.Units.{Piece, Magic, Version, Configuration, Long, Head, Number, Constant, SubHead, Foot, End, Start, Mark, spell, spelled}
+use Rattle.vms_spec.specs.SoFar.{opened}
+use Rattle.vms_stream.specs.Dues.{Between, AfterFields, AfterEnd, May, AtMagic, AtVersion, AtConfiguration, AtLongName, AtStart, AtHead, AtEnd, AtMark, AtNumber, AtConstant, AtSubHead, AtFoot, AtNext, AtLongText, AtTrailing, due, holds}
+use Rattle.vms_stream.specs.SoFar.{Unknown}
+use Rattle.vms_stream.specs.Table.{reason_of}
+use Rattle.vms_stream.specs.Faults.{Owes, cut_in, Front, Fails, Cut, Wrong, Fault}
+use Rattle.vms_spec.proofs.Rows.{hex, head, smallest, box_head}
+use Rattle.vms_spec.proofs.Boxes.{counted_set, constant_set, subsection_set, tested_set}
+use Rattle.vms_stream.proofs.Rows.DueSizes.{least, too_few, not_there}
+
+-- a fault of a unit that is whole
+wrong : (set : Set) (u : List Piece) (x : Piece) (more input : List ℕ) (place : ℕ) (section : Option ℕ) (reason : Reason) → Front set set.machines u → holds set u ≡ true → May (due set u) x
+    → reason_of set set.machines u x ≡ Some (section, reason) → input ≡ spelled u ++ (spell x ++ more) → length (spelled u) ≡ place → Fault set set.machines input place section reason (length (spell x))
+wrong set u x more input place section reason front held may taken whole long = record {
+  units = u;
+  rest = spell x ++ more;
+  front = front;
+  whole = whole;
+  long = long;
+  why = Wrong x section reason held (record { may = may; more = more; there = refl }) taken;
+}
+
+refuses_version_4 : Fault set_0 set_0.machines (hex (codes "5145564d00000004")) 4 None reasons.BadVersion 4
+refuses_version_4 = wrong set_0 (Magic magic ∷ []) (Version 4) [] _ 4 None reasons.BadVersion (tt, refl, AtMagic magic refl, refl) refl (AtVersion 4 (omega arith)) refl refl refl
+
+refuses_another_magic : Fault set_0 set_0.machines (hex (codes "5145564e00000003")) 0 None reasons.BadMagic 4
+refuses_another_magic = wrong set_0 [] (Magic (hex (codes "5145564e"))) (0 ∷ 0 ∷ 0 ∷ 3 ∷ []) _ 0 None reasons.BadMagic tt refl (AtMagic _ refl) refl refl refl
+
+abbrev start : List Piece
+start = Version 3 ∷ Magic magic ∷ []
+
+three : 3 < 4294967296
+three = omega arith
+
+in_start : (set : Set) → Front set set.machines start
+in_start set = ((tt, refl, AtMagic magic refl, refl), refl, AtVersion 3 three, refl)
+
+refuses_ram : Fault set_0 set_0.machines (head ++ hex (codes "01000000020372616d")) 8 None reasons.Ram 9
+refuses_ram = wrong set_0 start (Start 2 (codes "ram")) [] _ 8 None reasons.Ram (in_start set_0) refl (AtStart _ _ _ _ (omega arith)) refl refl refl
+
+refuses_a_disk : Fault set_0 set_0.machines (head ++ hex (codes "0100000002046469736b")) 8 None reasons.Iterative 10
+refuses_a_disk = wrong set_0 start (Start 2 (codes "disk")) [] _ 8 None reasons.Iterative (in_start set_0) refl (AtStart _ _ _ _ (omega arith)) refl refl refl
+
+refuses_a_part : Fault set_0 set_0.machines (head ++ hex (codes "02")) 8 None reasons.Iterative 1
+refuses_a_part = wrong set_0 start (Mark 2) [] _ 8 None reasons.Iterative (in_start set_0) refl (AtMark _ _ _ refl) refl refl refl
+
+refuses_a_command : Fault set_0 set_0.machines (head ++ hex (codes "08")) 8 None reasons.Command 1
+refuses_a_command = wrong set_0 start (Mark 8) [] _ 8 None reasons.Command (in_start set_0) refl (AtMark _ _ _ refl) refl refl refl
+
+refuses_a_footer_between_sections : Fault set_0 set_0.machines (head ++ hex (codes "7e")) 8 None reasons.BadMark 1
+refuses_a_footer_between_sections = wrong set_0 start (Mark 0x7e) [] _ 8 None reasons.BadMark (in_start set_0) refl (AtMark _ _ _ refl) refl refl refl
+
+refuses_a_missing_section : Fault set_0 set_0.machines (head ++ hex (codes "00")) 8 (Some 0) reasons.MissingSection 1
+refuses_a_missing_section = wrong set_0 start End [] _ 8 (Some 0) reasons.MissingSection (in_start set_0) refl (AtEnd _ _) refl refl refl
+
+-- ---- where fewer bytes are left than any due unit has
+
+cut : (set : Set) (u : List Piece) (rest input : List ℕ) (place : ℕ) → Front set set.machines u → holds set u ≡ true → Owes (due set u) rest → length rest < least (due set u)
+    → input ≡ spelled u ++ rest → length (spelled u) ≡ place → Fault set set.machines input place (cut_in (due set u) rest (opened set u)) reasons.Truncated (length rest)
+cut set u rest input place front held owes few whole long = record {
+  units = u;
+  rest = rest;
+  front = front;
+  whole = whole;
+  long = long;
+  why = Cut held owes (λ x w. too_few set u rest x few w);
+}
+
+refuses_nothing_at_all : Fault set_0 set_0.machines [] 0 None reasons.Truncated 0
+refuses_nothing_at_all = cut set_0 [] [] [] 0 tt refl tt (omega arith) refl refl
+
+refuses_a_cut_version : Fault set_0 set_0.machines (hex (codes "5145564d000000")) 4 None reasons.Truncated 3
+refuses_a_cut_version = cut set_0 (Magic magic ∷ []) (0 ∷ 0 ∷ 0 ∷ []) _ 4 (tt, refl, AtMagic magic refl, refl) refl tt (omega arith) refl refl
+
+-- ---- a whole section
+
+head_may : (first after : Bool) (name : List ℕ) → May (Between first after) (Head 0 name 0 1)
+head_may first after name = AtHead first after 0 name 0 1 (omega arith) (omega arith) (omega arith)
+
+abbrev headed : List Piece
+headed = Head 0 (codes "timer") 0 1 ∷ start
+
+in_headed : Front set_0 set_0.machines headed
+unfolding first
+in_headed = (in_start set_0, refl, head_may true false (codes "timer"), refl)
+
+refuses_a_cut_number : Fault set_0 set_0.machines (take 30 smallest) 27 (Some 0) reasons.Truncated 3
+unfolding first
+refuses_a_cut_number = cut set_0 headed (0 ∷ 0 ∷ 0 ∷ []) _ 27 in_headed refl tt (omega arith) refl refl
+
+in_64 : InRange U64 (pos 0)
+in_64 = (omega (arith, ints), omega (arith, ints))
+
+abbrev fielded : List Piece
+fielded = Number 0 U64 (pos 0) ∷ headed
+
+in_fielded : Front set_0 set_0.machines fielded
+unfolding first
+in_fielded = (in_headed, refl, AtNumber 0 0 U64 [] (pos 0) in_64, refl)
+
+refuses_a_footer_of_another_id : Fault set_0 set_0.machines (take 35 smallest ++ hex (codes "7e0000000100")) 35 (Some 0) reasons.BadFooter 5
+unfolding code first
+refuses_a_footer_of_another_id = wrong set_0 fielded (Foot 1) (0 ∷ []) _ 35 (Some 0) reasons.BadFooter in_fielded refl (AtFoot 0 Unknown 1 refl (omega arith)) refl refl refl
+
+abbrev ended : List Piece
+ended = End ∷ Foot 0 ∷ fielded
+
+foot_may : May (AfterFields 0 Unknown) (Foot 0)
+foot_may = AtFoot 0 Unknown 0 refl (omega arith)
+
+in_ended : Front set_0 set_0.machines ended
+unfolding first
+in_ended = ((in_fielded, refl, foot_may, refl), refl, AtEnd false false, refl)
+
+refuses_a_trailing_byte : Fault set_0 set_0.machines (smallest ++ hex (codes "00")) 41 None reasons.Trailing 1
+unfolding code first
+refuses_a_trailing_byte = wrong set_0 ended (Mark 0) [] _ 41 None reasons.Trailing in_ended refl (AtTrailing 0 refl) refl refl refl
+
+refuses_a_cut_description : Fault set_0 set_0.machines (smallest ++ hex (codes "0600000001")) 41 None reasons.Truncated 5
+unfolding code first
+refuses_a_cut_description = record {
+  units = ended;
+  rest = 6 ∷ 0 ∷ 0 ∷ 0 ∷ 1 ∷ [];
+  front = in_ended;
+  whole = refl;
+  long = refl;
+  why = Cut refl tt (λ x w. not_there AfterEnd x w.more w.may refl w.there);
+}
+
+-- ---- sets with other fields
+
+abbrev boxed : List Piece
+boxed = Head 0 (codes "box") 0 1 ∷ start
+
+in_boxed : (set : Set) → reason_of set set.machines start (Head 0 (codes "box") 0 1) ≡ None → Front set set.machines boxed
+in_boxed set e = (in_start set, refl, head_may true false (codes "box"), e)
+
+byte : (n : ℕ) → n < 256 → InRange U8 (pos n)
+byte n lt = (omega (arith, ints), omega (arith, ints))
+
+refuses_too_large_a_count : Fault counted_set counted_set.machines (box_head ++ hex (codes "03")) 25 (Some 0) reasons.CountTooLarge 1
+unfolding code first
+refuses_too_large_a_count = wrong counted_set boxed (Number 0 U8 (pos 3)) [] _ 25 (Some 0) reasons.CountTooLarge (in_boxed counted_set refl) refl (AtNumber 0 0 U8 (2 ∷ []) (pos 3) (byte 3 (omega arith))) refl refl refl
+
+refuses_a_bool_of_2 : Fault constant_set constant_set.machines (box_head ++ hex (codes "02")) 25 (Some 0) reasons.BadBool 1
+unfolding code first
+refuses_a_bool_of_2 = wrong constant_set boxed (Number 0 Truth (pos 2)) [] _ 25 (Some 0) reasons.BadBool (in_boxed constant_set refl) refl (AtNumber 0 0 Truth [] (pos 2) (byte 2 (omega arith))) refl refl refl
+
+refuses_another_constant : Fault constant_set constant_set.machines (box_head ++ hex (codes "0108")) 26 (Some 0) reasons.NotEqual 1
+unfolding code first
+refuses_another_constant = wrong constant_set (Number 0 Truth (pos 1) ∷ boxed) (Constant U8 (pos 8)) [] _ 26 (Some 0) reasons.NotEqual (in_boxed constant_set refl, refl, AtNumber 0 0 Truth [] (pos 1) (byte 1 (omega arith)), refl) refl (AtConstant 0 U8 (pos 7) (pos 8) (byte 8 (omega arith))) refl refl refl
+
+refuses_a_failing_validation : Fault tested_set tested_set.machines (box_head ++ hex (codes "0a")) 26 (Some 0) reasons.Invalid 0
+unfolding code first
+refuses_a_failing_validation = record { units = Number 0 U8 (pos 10) ∷ boxed; rest = []; front = (in_boxed tested_set refl, refl, AtNumber 0 0 U8 [] (pos 10) (byte 10 (omega arith)), refl); whole = refl; long = refl; why = Fails refl }
+
+abbrev with_q : List Piece
+with_q = Number 2 U8 (pos 7) ∷ SubHead (codes "box/q") 1 ∷ Number 0 U8 (pos 9) ∷ boxed
+
+sub_may : (k v : ℕ) (name : List ℕ) → v < 4294967296 → May (AfterFields k Unknown) (SubHead name v)
+sub_may k v name lt = AtSubHead k Unknown name v lt
+
+in_nine : Front subsection_set subsection_set.machines (Number 0 U8 (pos 9) ∷ boxed)
+unfolding first
+in_nine = (in_boxed subsection_set refl, refl, AtNumber 0 0 U8 [] (pos 9) (byte 9 (omega arith)), refl)
+
+in_q : Front subsection_set subsection_set.machines with_q
+unfolding first
+in_q = ((in_nine, refl, sub_may 0 1 (codes "box/q") (omega arith), refl), refl, AtNumber 0 2 U8 [] (pos 7) (byte 7 (omega arith)), refl)
+
+refuses_a_subsection_that_came : Fault subsection_set subsection_set.machines (box_head ++ hex (codes "090505626f782f7100000001070505626f782f7100000001077e0000000000")) 38 (Some 0) reasons.RepeatedSubsection 11
+unfolding code first
+refuses_a_subsection_that_came = wrong subsection_set with_q (SubHead (codes "box/q") 1) (7 ∷ 0x7e ∷ 0 ∷ 0 ∷ 0 ∷ 0 ∷ 0 ∷ []) _ 38 (Some 0) reasons.RepeatedSubsection in_q refl (sub_may 0 1 (codes "box/q") (omega arith)) refl refl refl
+
+refuses_an_unknown_subsection : Fault subsection_set subsection_set.machines (box_head ++ hex (codes "090505626f782f7200000001")) 26 (Some 0) reasons.UnknownSubsection 11
+unfolding code first
+refuses_an_unknown_subsection = wrong subsection_set (Number 0 U8 (pos 9) ∷ boxed) (SubHead (codes "box/r") 1) [] _ 26 (Some 0) reasons.UnknownSubsection in_nine refl (sub_may 0 1 (codes "box/r") (omega arith)) refl refl refl
+
+-- a repeated subsection whose version is too new is too new
+refuses_a_subsection_that_came_and_is_too_new : Fault subsection_set subsection_set.machines (spelled with_q ++ (5 ∷ 5 ∷ codes "box/q" ++ (0 ∷ 0 ∷ 0 ∷ 9 ∷ []))) 38 (Some 0) reasons.TooNew 11
+unfolding code first
+refuses_a_subsection_that_came_and_is_too_new = wrong subsection_set with_q (SubHead (codes "box/q") 9) [] _ 38 (Some 0) reasons.TooNew in_q refl (sub_may 0 9 (codes "box/q") (omega arith)) refl refl refl
+
+refuses_a_section_that_came : Fault set_0 set_0.machines (take 40 smallest ++ hex (codes "04000000000574696d6572000000000000000100000000000000007e00000000")) 40 (Some 0) reasons.RepeatedSection 19
+unfolding code first
+refuses_a_section_that_came = wrong set_0 (Foot 0 ∷ fielded) (Head 0 (codes "timer") 0 1) (0 ∷ 0 ∷ 0 ∷ 0 ∷ 0 ∷ 0 ∷ 0 ∷ 0 ∷ 0x7e ∷ 0 ∷ 0 ∷ 0 ∷ 0 ∷ []) _ 40 (Some 0) reasons.RepeatedSection (in_fielded, refl, foot_may, refl) refl (head_may false false (codes "timer")) refl refl refl
+
+-- ---- further reasons
+
+refuses_version_2 : Fault set_0 set_0.machines (hex (codes "5145564d00000002")) 4 None reasons.OldStream 4
+refuses_version_2 = wrong set_0 (Magic magic ∷ []) (Version 2) [] _ 4 None reasons.OldStream (tt, refl, AtMagic magic refl, refl) refl (AtVersion 2 (omega arith)) refl refl refl
+
+refuses_another_machine : Fault set_0 set_0.machines (head ++ hex (codes "07000000056973612d31")) 8 None reasons.WrongMachine 10
+refuses_another_machine = wrong set_0 start (Configuration (codes "isa-1")) [] _ 8 None reasons.WrongMachine (in_start set_0) refl (AtConfiguration _ _ (omega arith)) refl refl refl
+
+refuses_too_long_a_machine : Fault set_0 set_0.machines (head ++ hex (codes "0700000100")) 8 None reasons.WrongMachine 5
+refuses_too_long_a_machine = wrong set_0 start (Long 7 256) [] _ 8 None reasons.WrongMachine (in_start set_0) refl (AtLongName _ 256 (omega arith) (omega arith)) refl refl refl
+
+abbrev named : List Piece
+named = Configuration (codes "isa-0") ∷ start
+
+in_named : Front set_0 set_0.machines named
+in_named = (in_start set_0, refl, AtConfiguration _ _ (omega arith), refl)
+
+refuses_a_subsection_of_the_configuration : Fault set_0 set_0.machines (head ++ hex (codes "07000000056973612d3005")) 18 None reasons.ConfigurationExtra 1
+refuses_a_subsection_of_the_configuration = wrong set_0 named (Mark 5) [] _ 18 None reasons.ConfigurationExtra in_named refl (AtMark _ _ _ refl) refl refl refl
+
+refuses_a_second_configuration : Fault set_0 set_0.machines (head ++ hex (codes "07000000056973612d3007")) 18 None reasons.BadMark 1
+refuses_a_second_configuration = wrong set_0 named (Mark 7) [] _ 18 None reasons.BadMark in_named refl (AtMark _ _ _ refl) refl refl refl
+
+timer_may : (v : ℕ) → v < 4294967296 → May (Between true false) (Head 0 (codes "timer") 0 v)
+timer_may v lt = AtHead true false 0 (codes "timer") 0 v (omega arith) (omega arith) lt
+
+refuses_too_new_a_section : Fault set_0 set_0.machines (take 23 smallest ++ hex (codes "00000002") ++ drop 27 smallest) 8 (Some 0) reasons.TooNew 19
+refuses_too_new_a_section = wrong set_0 start (Head 0 (codes "timer") 0 2) (drop 27 smallest) _ 8 (Some 0) reasons.TooNew (in_start set_0) refl (timer_may 2 (omega arith)) refl refl refl
+
+refuses_too_old_a_section : Fault set_0 set_0.machines (take 23 smallest ++ hex (codes "00000000") ++ drop 27 smallest) 8 (Some 0) reasons.TooOld 19
+refuses_too_old_a_section = wrong set_0 start (Head 0 (codes "timer") 0 0) (drop 27 smallest) _ 8 (Some 0) reasons.TooOld (in_start set_0) refl (timer_may 0 (omega arith)) refl refl refl
+
+refuses_another_instance : Fault set_0 set_0.machines (take 19 smallest ++ hex (codes "00000001") ++ drop 23 smallest) 8 None reasons.UnknownSection 19
+refuses_another_instance = wrong set_0 start (Head 0 (codes "timer") 1 1) (drop 27 smallest) _ 8 None reasons.UnknownSection (in_start set_0) refl
+    (AtHead true false 0 (codes "timer") 1 1 (omega arith) (omega arith) (omega arith)) refl refl refl
+
+-- in a stream without a configuration the mark is one between sections
+refuses_a_mark_for_a_footer : Fault set_0 set_0.machines (take 35 smallest ++ hex (codes "08")) 35 None reasons.Command 1
+unfolding code first
+refuses_a_mark_for_a_footer = wrong set_0 fielded (Mark 8) [] _ 35 None reasons.Command in_fielded refl (AtNext 0 Unknown (Mark 8) refl (AtMark false false 8 refl)) refl refl refl
+
+refuses_too_long_a_description : Fault set_0 set_0.machines (smallest ++ hex (codes "0601000001")) 41 None reasons.DescriptionTooLong 5
+unfolding code first
+refuses_too_long_a_description = wrong set_0 ended (Long 6 16777217) [] _ 41 None reasons.DescriptionTooLong in_ended refl (AtLongText 16777217 (omega arith) (omega arith)) refl refl refl

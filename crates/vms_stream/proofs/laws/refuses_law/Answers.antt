@@ -1,0 +1,5 @@
+use Rattle.vms_stream.proofs.Judging.Verdicts.{units_refuse}
+use Rattle.vms_stream.proofs.laws.refuses_law.Goals as goal
+
+pub returns : goal.returns
+returns c = units_refuse

@@ -1,0 +1,127 @@
+-- The laws of streams and faults, each as a statement: for every well-formed set whose instances and versions fit the four
+-- bytes that heads have for them.
+use Rattle.std.specs.Prelude.{◌≡◌, ℕ, ◌≤◌, List, [], ◌++◌, length, take, true, Option, Some, None, ◌<◌}
+use Rattle.vms_spec.specs.declared.Reason.{Reason}
+use Rattle.vms_spec.specs.Numbers.{IsBytes}
+use Rattle.vms_spec.specs.Sets.{Device, Set}
+use Rattle.vms_spec.specs.Images.{Image}
+use Rattle.vms_spec.specs.Streams.{IsReady, IsConfiguration, IsTrailer, optional, configuration, trailer, written_section, written, AreReady}
+use Rattle.vms_spec.specs.WellFormed.{WellFormed}
+use Rattle.vms_spec.specs.Readings.{Reading, Accepted}
+use Rattle.vms_spec.specs.Units.{Piece, spelled}
+use Rattle.vms_spec.specs.Heads.{FitsHeads}
+use Rattle.vms_stream.specs.SoFar.{images, machine}
+use Rattle.vms_stream.specs.Dues.{Due}
+use Rattle.vms_stream.specs.Faults.{Front, Fault}
+use Rattle.vms_stream.specs.Finding.{Whole, unit_at}
+use Rattle.vms_stream.specs.Judge.{reading}
+use Rattle.vms_stream.specs.Streams.{IsSection, IsStream, Takes}
+use Rattle.vms_stream.specs.State.{State, at_start, by_state}
+use Rattle.vms_stream.specs.Laws.{Ends}
+
+-- ---- the judge
+
+-- the judge accepts or refuses every input
+abbrev pub ToldLaw : Type 0
+ToldLaw = (set : Set) (names : List (List ℕ)) (input : List ℕ) → (told : Reading State) × (reading (by_state set names) (at_start set) input ≡ Some told)
+
+-- what the judge accepts, the input takes
+abbrev pub AcceptedLaw : Type 0
+AcceptedLaw = (set : Set) (names : List (List ℕ)) → WellFormed set → FitsHeads set → (input : List ℕ) (n : ℕ) (end : State) → IsBytes input
+    → reading (by_state set names) (at_start set) input ≡ Some (Accepted n end) → Takes set names input n end.machine end.images
+
+-- what an input takes, the judge accepts, with the same machine and images
+abbrev pub TakenLaw : Type 0
+TakenLaw = (set : Set) (names : List (List ℕ)) → WellFormed set → FitsHeads set → (input : List ℕ) (n : ℕ) (machine : Option (List ℕ)) (images : List Image)
+    → Takes set names input n machine images
+    → (end : State) × (reading (by_state set names) (at_start set) input ≡ Some (Accepted n end)) × (end.machine ≡ machine) × (end.images ≡ images)
+
+-- ---- units
+
+-- a unit that stands at a front is one of its bytes alone
+abbrev pub LocalLaw : Type 0
+LocalLaw = (d : Due) (r t : List ℕ) (x : Piece) (n : ℕ) → IsBytes r → unit_at d r ≡ Whole x n → take n r ≡ take n t → unit_at d t ≡ Whole x n
+
+-- units that end well are a stream, with the machine and the images that they say
+abbrev pub UnitsLaw : Type 0
+UnitsLaw = (set : Set) (names : List (List ℕ)) → WellFormed set → FitsHeads set → (input : List ℕ) (n : ℕ) (u : List Piece) → IsBytes input
+    → Ends set names input n u → Takes set names input n (machine set u) (images set u)
+
+-- a stream is made of such units: a front
+abbrev pub StreamLaw : Type 0
+StreamLaw = (set : Set) (names : List (List ℕ)) → WellFormed set → FitsHeads set → (input : List ℕ) (n : ℕ) (named : Option (List ℕ)) (states : List Image) → IsBytes input
+    → Takes set names input n named states → (u : List Piece) × Ends set names input n u × (machine set u ≡ named) × (images set u ≡ states)
+
+-- these units go on, by more of them, to the units of a stream that the input takes
+pub record GoesOn (set : Set) (names : List (List ℕ)) (input : List ℕ) (u : List Piece) : Type 0 where
+  pub taken : ℕ
+  pub more : List Piece
+  pub ends : Ends set names input taken (more ++ u)
+  pub takes : Takes set names input taken (machine set (more ++ u)) (images set (more ++ u))
+
+-- a front of an input without a fault goes on so
+abbrev pub FrontLaw : Type 0
+FrontLaw = (set : Set) (names : List (List ℕ)) → WellFormed set → FitsHeads set → (u : List Piece) (rest : List ℕ) → IsBytes (spelled u ++ rest) → Front set names u
+    → ((place : ℕ) (section : Option ℕ) (reason : Reason) (size : ℕ) → Fault set names (spelled u ++ rest) place section reason size → ⊥)
+    → GoesOn set names (spelled u ++ rest) u
+
+-- ---- streams and faults
+
+-- two streams that an input takes are of one length, name one machine, if any, and have the same images
+pub record AreSame (n m : ℕ) (machine other : Option (List ℕ)) (images others : List Image) : Type 0 where
+  pub lengths : n ≡ m
+  pub machines : machine ≡ other
+  pub states : images ≡ others
+
+-- an input takes one stream at most
+abbrev pub OneStreamLaw : Type 0
+OneStreamLaw = (set : Set) (names : List (List ℕ)) → WellFormed set → FitsHeads set → (input : List ℕ) (n m : ℕ) (machine other : Option (List ℕ)) (images others : List Image)
+    → Takes set names input n machine images → Takes set names input m other others → AreSame n m machine other images others
+
+-- a stream is taken, or there is a fault
+pub data Answer (set : Set) (names : List (List ℕ)) (input : List ℕ) : Type 0 where
+  Taken : (n : ℕ) (machine : Option (List ℕ)) (images : List Image) → Takes set names input n machine images → Answer set names input
+  Faulty : (place : ℕ) (section : Option ℕ) (reason : Reason) (size : ℕ) → Fault set names input place section reason size → Answer set names input
+
+-- every input has one of the two
+abbrev pub EitherLaw : Type 0
+EitherLaw = (set : Set) (names : List (List ℕ)) → WellFormed set → FitsHeads set → (input : List ℕ) → IsBytes input → Answer set names input
+
+-- and never both
+abbrev pub NeverBothLaw : Type 0
+NeverBothLaw = (set : Set) (names : List (List ℕ)) → WellFormed set → FitsHeads set → (input : List ℕ) → IsBytes input
+    → (n : ℕ) (machine : Option (List ℕ)) (images : List Image) (place : ℕ) (section : Option ℕ) (reason : Reason) (size : ℕ)
+    → Takes set names input n machine images → Fault set names input place section reason size → ⊥
+
+-- two faults of an input are at one place, for one device, of one reason and at a unit of one length
+pub record AreOneFault (place other_place : ℕ) (section other_section : Option ℕ) (reason other_reason : Reason) (size other_size : ℕ) : Type 0 where
+  pub places : place ≡ other_place
+  pub sections : section ≡ other_section
+  pub reasons : reason ≡ other_reason
+  pub sizes : size ≡ other_size
+
+-- an input has one fault at most, for every set
+abbrev pub OneFaultLaw : Type 0
+OneFaultLaw = (set : Set) (names : List (List ℕ)) (input : List ℕ) → IsBytes input
+    → (place other_place : ℕ) (section other_section : Option ℕ) (reason other_reason : Reason) (size other_size : ℕ)
+    → Fault set names input place section reason size → Fault set names input other_place other_section other_reason other_size
+    → AreOneFault place other_place section other_section reason other_reason size other_size
+
+-- ---- what the writer gives
+
+-- of a ready image it is a section of it with a footer, for every set
+abbrev pub SectionLaw : Type 0
+SectionLaw = (set : Set) (d : Device) (image : Image) (id : ℕ) → id < 4294967296 → IsReady set d image → IsSection set d image id true (written_section set d image id)
+
+-- An input that begins with what the writer gives takes that, where the machine is accepted and the text fits. Where there is
+-- no text, nothing may follow.
+abbrev pub WrittenLaw : Type 0
+WrittenLaw = (set : Set) (names : List (List ℕ)) → length set.devices ≤ 4294967296 → (machine text : Option (List ℕ)) (images : List Image)
+    → IsConfiguration names machine (optional configuration machine) → IsTrailer text (optional trailer text) → AreReady set images
+    → (rest : List ℕ) → (text ≡ None → rest ≡ [])
+    → Takes set names (written set machine images text ++ rest) (length (written set machine images text)) machine images
+
+-- The bytes are a stream, and an input that begins with them takes just these. Where there is no text, nothing may follow.
+pub record IsWholeStream (set : Set) (names : List (List ℕ)) (bytes : List ℕ) (machine : Option (List ℕ)) (images : List Image) (text : Option (List ℕ)) : Type 0 where
+  pub stream : IsStream set names bytes machine images text
+  pub taken : (rest : List ℕ) → (text ≡ None → rest ≡ []) → Takes set names (bytes ++ rest) (length bytes) machine images

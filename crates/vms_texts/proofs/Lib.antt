@@ -1,3 +1,0 @@
-pub mod FirstLine
-pub mod Lines
-pub mod Spells

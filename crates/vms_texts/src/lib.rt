@@ -1,4 +1,0 @@
-//! Laws of numbers as texts spell them.
-#![tactic(auto)]
-
-pub mod laws;

@@ -1,5 +1,0 @@
-use Rattle.vms_units.proofs.Stated.{local_holds}
-use Rattle.vms_units.proofs.laws.local_law.Goals as goal
-
-pub returns : goal.returns
-returns c = local_holds

@@ -1,5 +1,0 @@
-use Rattle.vms_units.proofs.Stated.{never_both_holds}
-use Rattle.vms_units.proofs.laws.never_both_law.Goals as goal
-
-pub returns : goal.returns
-returns c = never_both_holds

@@ -1,5 +1,0 @@
-use Rattle.vms_units.proofs.Stated.{one_fault_holds}
-use Rattle.vms_units.proofs.laws.one_fault_law.Goals as goal
-
-pub returns : goal.returns
-returns c = one_fault_holds

@@ -1,5 +1,0 @@
-use Rattle.vms_units.proofs.Stated.{one_stream_holds}
-use Rattle.vms_units.proofs.laws.one_stream_law.Goals as goal
-
-pub returns : goal.returns
-returns c = one_stream_holds

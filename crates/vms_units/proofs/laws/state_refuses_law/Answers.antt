@@ -1,5 +1,0 @@
-use Rattle.vms_units.proofs.Judging.Mirrors.{state_refuses}
-use Rattle.vms_units.proofs.laws.state_refuses_law.Goals as goal
-
-pub returns : goal.returns
-returns c = λ set names. state_refuses set names

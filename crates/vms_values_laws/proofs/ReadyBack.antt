@@ -1,0 +1,324 @@
+-- Ready images are what their text says, and no part of them is bad.
+use Rattle.std.proofs.Common.{◌≡◌, ℕ, suc, ◌+◌, ◌<◌, ◌≤◌, Bool, true, false, ◌||◌, nat_lt, List, [], ◌∷◌, ◌++◌, length, get_or, Option, Some, None, ℤ, pos, refl, sym, ap, ◌∙◌, subst, arith, codes}
+use Rattle.std.proofs.lemmas.Bool.{ltb-true, ltb-false}
+use Rattle.std.proofs.Math.ListN.{get_or-eq_default}
+use Rattle.std.specs.List.{flat_map, slice_get}
+use Rattle.std.specs.Str.{bytes_eq}
+use Rattle.vms_spec.specs.declared.ValuesReason.TheVariants as reasons
+use Rattle.vms_spec.specs.Lists.{or_else}
+use Rattle.vms_spec.specs.Sets.{Desc, Sub, Device, Set}
+use Rattle.vms_spec.specs.Layout.{Cell, no_cell, Slot, desc_cells, struct_cells, device_cells}
+use Rattle.vms_spec.specs.Layout as slots
+use Rattle.vms_spec.specs.Images.{Image, own_cells, own_slots, sub_slots, came_slots, has_cell, RulesHold}
+use Rattle.vms_spec.specs.Readiness.{rules_are_true}
+use Rattle.vms_spec.specs.Streams.{is_needed, ComeAsNeeded, IsReady}
+use Rattle.vms_bodies.proofs.Names.{names_append}
+use Rattle.vms_bodies.proofs.ReadyLaws.{ranged}
+use Rattle.vms_words.specs.Texts.{IsShort}
+use Rattle.vms_elements.specs.Parts.{slots_of, elements_in}
+use Rattle.vms_elements.specs.Lines.{text_of, sub_line, section_line}
+use Rattle.vms_elements.specs.Entries.{Entry, number_entries, subs_entries, device_entries, devices_entries, entries, if_not, have_defaults, sub_holds, came_well}
+use Rattle.vms_elements.specs.Reading.{AreFine, has_line, IsShaped, AreShaped, AreUnsaid, AllUnsaid, AreAtVersions, IsText, Says}
+use Rattle.vms_elements.proofs.CellsOf.{elements_cells}
+use Rattle.vms_elements.proofs.SlotsOf.{elements_slots}
+use Rattle.vms_elements.proofs.CountUp.{elements_laid}
+use Rattle.vms_elements.proofs.EntryLines.{entry_law}
+use Rattle.vms_elements.proofs.LinesOf.{text_is}
+use Rattle.vms_values_laws.proofs.OneLine.{short}
+use Rattle.vms_values_laws.proofs.Unsaid.{lines_both}
+use Rattle.vms_values_laws.proofs.SecondPass.{desc_rules}
+use Rattle.vms_values_laws.proofs.Numbers.{AreShort}
+use Rattle.vms_values_laws.proofs.AllCome.{are_short}
+use Rattle.vms_values_laws.proofs.FirstPass.{same_bytes}
+use Rattle.vms_values_laws.proofs.Rights.{AreRight, AreBare}
+use Rattle.vms_values_laws.proofs.ReadyParts.{AreGood}
+use Rattle.vms_values_laws.proofs.ReadySays.{elements_counted, bare_bytes, below_bytes, above_bytes, right_front, right_back, right_said, bare_have}
+
+-- ---- parts
+
+pub fine_then : (es fs : List Entry) → AreFine es → AreFine fs → AreFine (es ++ fs)
+fine_then [] fs a b = b
+fine_then (e ∷ es) fs a b = (a.0, fine_then es fs a.1 b)
+
+good_then : (set : Set) (es fs : List Entry) → AreGood set es → AreGood set fs → AreGood set (es ++ fs)
+good_then set [] fs a b = b
+good_then set (e ∷ es) fs a b = (a.0, good_then set es fs a.1 b)
+
+numbers_good : (set : Set) (n : List ℤ) (xs : List Rattle.vms_elements.specs.Elements.Element) → AreGood set (Rattle.vms_values_laws.proofs.Numbers.of_numbers n xs)
+numbers_good set n [] = tt
+numbers_good set n (x ∷ xs) = (refl, numbers_good set n xs)
+
+are_rules : (ss : List Slot) → RulesHold ss → rules_are_true ss ≡ true
+are_rules [] h = refl
+are_rules (slots.Rule true ∷ ss) h = are_rules ss h.1
+are_rules (slots.Rule false ∷ ss) h = let e : false ≡ true = h.0 in cc
+are_rules (slots.Number c kind caps ∷ ss) h = are_rules ss h
+are_rules (slots.Constant kind z ∷ ss) h = are_rules ss h
+are_rules (slots.Filler n ∷ ss) h = are_rules ss h
+
+rules_front : (ss ts : List Slot) → RulesHold (ss ++ ts) → RulesHold ss × RulesHold ts
+rules_front [] ts h = (tt, h)
+rules_front (slots.Rule b ∷ ss) ts h = let p = rules_front ss ts h.1 in ((h.0, p.0), p.1)
+rules_front (slots.Number c kind caps ∷ ss) ts h = rules_front ss ts h
+rules_front (slots.Constant kind z ∷ ss) ts h = rules_front ss ts h
+rules_front (slots.Filler n ∷ ss) ts h = rules_front ss ts h
+
+module _ (set : Set) (n : List ℤ) (short_all : AreShort n) where
+  abbrev cells : Desc → List Cell
+  cells d = desc_cells (struct_cells set) d
+
+  abbrev bytes : Desc → ℕ → ℕ → List Slot
+  bytes d v at = slots.desc_slots (slots.meanings set.structs (length set.structs)) d v n at
+
+  desc_fine : (d : Desc) (at : ℕ) → AreRight n at (cells d) (bytes d d.version at) → AreFine (number_entries set d n at)
+  desc_fine d at right =
+      let xs = elements_in set d d.version n at in
+      right_said n short_all at xs (elements_laid set d d.version n at)
+      (subst (λ (l : List Cell). AreRight n at l (slots_of xs)) (sym (elements_cells set d d.version n at)) (subst (λ (ss : List Slot). AreRight n at (cells d) ss) (sym (elements_slots set d d.version n at)) right))
+
+  desc_have : (d : Desc) (at : ℕ) → AreBare n at (cells d) (λ k. false) → have_defaults n (elements_in set d d.version n at) ≡ true
+  desc_have d at bare =
+      bare_have n at (elements_in set d d.version n at) (elements_laid set d d.version n at) (subst (λ (l : List Cell). AreBare n at l (λ k. false)) (sym (elements_cells set d d.version n at)) bare)
+
+  desc_below : (d : Desc) (v at k : ℕ) → k < at → has_cell (bytes d v at) k ≡ false
+  desc_below d v at k lt = subst (λ (ss : List Slot). has_cell ss k ≡ false) (elements_slots set d v n at) (below_bytes at (elements_in set d v n at) (elements_laid set d v n at) k lt)
+
+  desc_above : (d : Desc) (v at k : ℕ) → at + length (cells d) ≤ k → has_cell (bytes d v at) k ≡ false
+  desc_above d v at k le =
+      subst (λ (ss : List Slot). has_cell ss k ≡ false) (elements_slots set d v n at)
+      (above_bytes at (elements_in set d v n at) (elements_laid set d v n at) k (omega (arith, ap (λ (l : List Cell). length l) (elements_cells set d v n at))))
+
+  desc_unsaid : (d : Desc) (slice_get k : ℕ) → has_line (number_entries set d n at) k ≡ false → has_cell (bytes d d.version at) k ≡ false
+  desc_unsaid d at k e =
+      subst (λ (ss : List Slot). has_cell ss k ≡ false) (elements_slots set d d.version n at) (bare_bytes n (elements_in set d d.version n at) (elements_counted set d d.version n at) k e)
+
+-- ---- lines of sections and subsections
+
+bytes_same : (a b : List ℕ) → a ≡ b → if_not (bytes_eq a b) reasons.Form ≡ None
+bytes_same a b e = ap (λ (l : List ℕ). if_not (bytes_eq a l) reasons.Form) (sym e) ∙ ap (λ (t : Bool). if_not t reasons.Form) (same_bytes a)
+
+or_true : (a b : Bool) → b ≡ true → (a || b) ≡ true
+or_true true b e = refl
+or_true false b e = e
+
+true_or : (a b : Bool) → a ≡ true → (a || b) ≡ true
+true_or a b e = ap (λ (a : Bool). a || b) e
+
+both_false : (a b : Bool) → a ≡ false → b ≡ false → (a || b) ≡ false
+both_false a b e f = ap (λ (a : Bool). a || b) e ∙ f
+
+none_or : (a b : Bool) → (a || b) ≡ false → (a ≡ false) × (b ≡ false)
+none_or true b e = cc
+none_or false b e = (refl, e)
+
+-- ---- a device
+
+module _ (set : Set) (d : Device) (image : Image) (short_all : AreShort image.numbers) where
+  abbrev n : List ℤ
+  n = image.numbers
+
+  abbrev sub_cells : List Sub → List Cell
+  sub_cells subs = flat_map (λ s. desc_cells (struct_cells set) s.desc) subs
+
+  came_below : (at : ℕ) (subs : List Sub) (came : List (Option ℕ)) (k : ℕ) → k < at → has_cell (came_slots set d n at subs came) k ≡ false
+  came_below at [] came k lt = refl
+  came_below at (s ∷ subs) [] k lt = refl
+  came_below at (s ∷ subs) (None ∷ came) k lt = came_below (at + length (desc_cells (struct_cells set) s.desc)) subs came k (omega arith)
+  came_below at (s ∷ subs) (Some v ∷ came) k lt =
+      let next = at + length (desc_cells (struct_cells set) s.desc) in
+      names_append (sub_slots set s v n at) (came_slots set d n next subs came) k
+      ∙ both_false (has_cell (sub_slots set s v n at) k) (has_cell (came_slots set d n next subs came) k) (desc_below set n short_all s.desc v at k lt) (came_below next subs came k (omega arith))
+
+  -- what the lines of subsections are
+  record SubsSay (j at : ℕ) (subs : List Sub) (came : List (Option ℕ)) : Type 0 where
+    long : length came ≡ length subs
+    versions : AreAtVersions subs came
+    fine : AreFine (subs_entries set d image j at subs came)
+    good : AreGood set (subs_entries set d image j at subs came)
+    unsaid : (k : ℕ) → has_line (subs_entries set d image j at subs came) k ≡ false → has_cell (came_slots set d n at subs came) k ≡ false
+
+  module _ (s : Sub) (j at : ℕ) (subs : List Sub) (came : List (Option ℕ)) where
+    abbrev own : List Cell
+    own = desc_cells (struct_cells set) s.desc
+
+    abbrev next : ℕ
+    next = at + length own
+
+    abbrev numbers : List Entry
+    numbers = number_entries set s.desc n at
+
+    abbrev others : List Entry
+    others = subs_entries set d image (suc j) next subs came
+
+    it_came : (v : ℕ) → v ≡ s.desc.version → is_needed set d image s j ≡ true → AreRight n at own (sub_slots set s v n at) → RulesHold (sub_slots set s v n at) → SubsSay (suc j) next subs came
+        → SubsSay j at (s ∷ subs) (Some v ∷ came)
+    it_came v same needed right rules later =
+        let mine : AreRight n at own (sub_slots set s s.desc.version n at) = subst (λ (w : ℕ). AreRight n at own (sub_slots set s w n at)) same right in
+        let holds : sub_holds set s (Some v) n at ≡ true = desc_rules set s.desc v n at ∙ are_rules (sub_slots set s v n at) rules in
+        let defaults = have_defaults n (elements_in set s.desc s.desc.version n at) in
+        let well : came_well (is_needed set d image s j) (Some v) defaults ≡ true = ap (λ (b : Bool). came_well b (Some v) defaults) needed in
+        record {
+          long = ap suc later.long;
+          versions = (same, later.versions);
+          fine = (
+            ap (λ (b : Bool). if_not b reasons.Form)
+                (true_or (bytes_eq (sub_line s (Some v)) (sub_line s (Some s.desc.version))) (bytes_eq (sub_line s (Some v)) (sub_line s None))
+                (ap (λ (w : ℕ). bytes_eq (sub_line s (Some v)) (sub_line s (Some w))) (sym same) ∙ same_bytes (sub_line s (Some v)))),
+            fine_then numbers others (desc_fine set n short_all s.desc at mine) later.fine,
+          );
+          good = (
+            ap (λ (a : Bool). or_else (if_not a reasons.Invalid) (if_not (came_well (is_needed set d image s j) (Some v) defaults) reasons.Needed)) holds ∙ ap (λ (b : Bool). if_not b reasons.Needed) well,
+            good_then set numbers others (numbers_good set n _) later.good,
+          );
+          unsaid = λ k e. let p = none_or (has_line numbers k) (has_line others k) (sym (lines_both numbers others k) ∙ e) in
+              names_append (sub_slots set s v n at) (came_slots set d n next subs came) k
+              ∙ both_false (has_cell (sub_slots set s v n at) k) (has_cell (came_slots set d n next subs came) k)
+              (subst (λ (w : ℕ). has_cell (sub_slots set s w n at) k ≡ false) (sym same) (desc_unsaid set n short_all s.desc at k p.0)) (later.unsaid k p.1);
+        }
+
+    it_did_not : is_needed set d image s j ≡ false → AreRight n at own [] → SubsSay (suc j) next subs came → SubsSay j at (s ∷ subs) (None ∷ came)
+    it_did_not needed right later =
+        let mine : AreRight n at own (sub_slots set s s.desc.version n at) =
+        record { right = λ c k lt e. let r = right.right c k lt e in record { fits = r.fits; absent = λ h. r.absent refl } } in
+        let defaults = have_defaults n (elements_in set s.desc s.desc.version n at) in
+        let have : defaults ≡ true = desc_have set n short_all s.desc at (λ c k lt e f. (right.right c k lt e).absent refl) in
+        record {
+          long = ap suc later.long;
+          versions = (tt, later.versions);
+          fine = (
+            ap (λ (b : Bool). if_not b reasons.Form) (or_true (bytes_eq (sub_line s None) (sub_line s (Some s.desc.version))) (bytes_eq (sub_line s None) (sub_line s None)) (same_bytes (sub_line s None))),
+            fine_then numbers others (desc_fine set n short_all s.desc at mine) later.fine,
+          );
+          good = (
+            ap (λ (b : Bool). or_else (if_not true reasons.Invalid) (if_not (came_well b None defaults) reasons.Needed)) needed ∙ ap (λ (b : Bool). if_not b reasons.Needed) have,
+            good_then set numbers others (numbers_good set n _) later.good,
+          );
+          unsaid = λ k e. later.unsaid k (none_or (has_line numbers k) (has_line others k) (sym (lines_both numbers others k) ∙ e)).1;
+        }
+
+  subs_say : (j at : ℕ) (subs : List Sub) (came : List (Option ℕ)) → ComeAsNeeded set d image j subs came → AreRight n at (sub_cells subs) (came_slots set d n at subs came) → RulesHold (came_slots set d n at subs came)
+      → SubsSay j at subs came
+  subs_say j at [] [] needed right rules = record { long = refl; versions = tt; fine = tt; good = tt; unsaid = λ k e. refl }
+  subs_say j at [] (o ∷ came) needed right rules = absurd (cc)
+  subs_say j at (s ∷ subs) [] needed right rules = absurd needed
+  subs_say j at (s ∷ subs) (None ∷ came) needed right rules =
+      let own = desc_cells (struct_cells set) s.desc in
+      let next = at + length own in
+      let later = came_slots set d n next subs came in
+      it_did_not s j at subs came needed.0 (right_front n at own (sub_cells subs) [] later (λ k lt. came_below next subs came k lt) right)
+      (subs_say (suc j) next subs came needed.1 (right_back n at own (sub_cells subs) [] later (λ k le. refl) right) rules)
+  subs_say j at (s ∷ subs) (Some v ∷ came) needed right rules =
+      let own = desc_cells (struct_cells set) s.desc in
+      let next = at + length own in
+      let mine = sub_slots set s v n at in
+      let later = came_slots set d n next subs came in
+      let p = rules_front mine later rules in
+      it_came s j at subs came v needed.1 needed.0 (right_front n at own (sub_cells subs) mine later (λ k lt. came_below next subs came k lt) right) p.0
+      (subs_say (suc j) next subs came needed.2 (right_back n at own (sub_cells subs) mine later (λ k le. desc_above set n short_all s.desc v at k le) right) p.1)
+
+  -- what the lines of a device are
+  pub record DeviceSays : Type 0 where
+    pub shaped : IsShaped set d image
+    pub unsaid : AreUnsaid set d image
+    pub fine : AreFine (device_entries set d image)
+    pub good : AreGood set (device_entries set d image)
+
+  pub device_says : IsReady set d image → DeviceSays
+  device_says ready =
+      let own = desc_cells (struct_cells set) d.desc in
+      let mine = own_slots set d image.version n in
+      let later = came_slots set d n (own_cells set d) d.subs image.came in
+      let numbers = number_entries set d.desc n 0 in
+      let others = subs_entries set d image 0 (own_cells set d) d.subs image.came in
+      let start : 0 + length own ≡ own_cells set d = omega arith in
+      let all : AreRight n 0 (own ++ sub_cells d.subs) (mine ++ later) =
+      record {
+        right = λ c k lt e. let same : k ≡ c = omega arith in
+            record {
+              fits = subst (λ (i : ℕ). Rattle.vms_spec.specs.Images.FitsCell (get_or (device_cells set d) c no_cell) (get_or n i (pos 0))) (sym same) (ready.normal.cells.fits c lt);
+              absent = λ h. ready.normal.absent k (omega (arith, ready.normal.cells.long)) h ∙ ap (λ (i : ℕ). (get_or (device_cells set d) i no_cell).default) same;
+            };
+      } in
+      let rules = rules_front mine later ready.valid in
+      let subs : SubsSay 0 (own_cells set d) d.subs image.came =
+      subs_say 0 (own_cells set d) d.subs image.came ready.needed
+      (subst (λ (i : ℕ). AreRight n i (sub_cells d.subs) later) start (right_back n 0 own (sub_cells d.subs) mine later (λ k le. desc_above set n short_all d.desc image.version 0 k le) all)) rules.1 in
+      let front : AreRight n 0 own mine = right_front n 0 own (sub_cells d.subs) mine later (λ k lt. came_below (own_cells set d) d.subs image.came k (omega arith)) all in
+      let at_version : AreRight n 0 own (own_slots set d d.desc.version n) = subst (λ (v : ℕ). AreRight n 0 own (own_slots set d v n)) ready.version front in
+      record {
+        shaped = record { version = ready.version; subs = subs.long; versions = subs.versions; cells = ready.normal.cells.long; short = are_short n short_all };
+        unsaid = λ c lt e. ready.normal.absent c lt
+            (let p = none_or (has_line numbers c) (has_line others c) (sym (lines_both numbers others c) ∙ e) in
+            names_append mine later c
+            ∙ both_false (has_cell mine c) (has_cell later c) (subst (λ (v : ℕ). has_cell (own_slots set d v n) c ≡ false) (sym ready.version) (desc_unsaid set n short_all d.desc 0 c p.0)) (subs.unsaid c p.1));
+        fine = (
+          bytes_same (section_line d image.version) (section_line d d.desc.version) (ap (λ (v : ℕ). section_line d v) ready.version),
+          fine_then numbers others (desc_fine set n short_all d.desc 0 at_version) subs.fine,
+        );
+        good = (
+          ap (λ (b : Bool). if_not b reasons.Invalid) (desc_rules set d.desc image.version n 0 ∙ are_rules mine rules.0),
+          good_then set numbers others (numbers_good set n _) subs.good,
+        );
+      }
+
+-- ---- all of them
+
+-- numbers that fit their cells have at most 64 bits
+ready_short : (set : Set) (d : Device) (image : Image) → IsReady set d image → AreShort image.numbers
+ready_short set d image ready c = go (nat_lt c (length image.numbers)) refl
+  where
+    go : (b : Bool) → nat_lt c (length image.numbers) ≡ b → IsShort (get_or image.numbers c (pos 0))
+    go true lt =
+        let l : c < length image.numbers = ltb-true c (length image.numbers) lt in
+        let f = ready.normal.cells.fits c (omega (arith, ready.normal.cells.long)) in
+        let cell = get_or (device_cells set d) c no_cell in
+        short cell.kind (get_or image.numbers c (pos 0)) (ranged cell.kind (get_or image.numbers c (pos 0)) f.0)
+    go false ge =
+        let l : length image.numbers ≤ c = ltb-false c (length image.numbers) ge in
+        subst (λ (z : ℤ). IsShort z) (sym (get_or-eq_default image.numbers (pos 0) l)) (omega arith)
+
+record AllSay (set : Set) (devices : List Device) (images : List Image) : Type 0 where
+  shaped : AreShaped set devices images
+  unsaid : AllUnsaid set devices images
+  fine : AreFine (devices_entries set devices images)
+  good : AreGood set (devices_entries set devices images)
+
+all_say : (set : Set) (devices : List Device) (images : List Image) → length images ≡ length devices
+    → ((k : ℕ) (d : Device) (image : Image) → slice_get devices k ≡ Some d → slice_get images k ≡ Some image → IsReady set d image) → AllSay set devices images
+all_say set [] [] long ready = record { shaped = tt; unsaid = tt; fine = tt; good = tt }
+all_say set [] (image ∷ images) long ready = absurd (omega (arith, long))
+all_say set (d ∷ devices) [] long ready = absurd (omega (arith, long))
+all_say set (d ∷ devices) (image ∷ images) long ready =
+    let here = ready 0 d image refl refl in
+    let mine = device_says set d image (ready_short set d image here) here in
+    let others = all_say set devices images (omega (arith, long)) (λ k e i a b. ready (suc k) e i a b) in
+    record {
+      shaped = (mine.shaped, others.shaped);
+      unsaid = (mine.unsaid, others.unsaid);
+      fine = fine_then (device_entries set d image) (devices_entries set devices images) mine.fine others.fine;
+      good = good_then set (device_entries set d image) (devices_entries set devices images) mine.good others.good;
+    }
+
+-- what a text says, and no part of it is bad
+pub record SaysWell (set : Set) (text : List ℕ) (machine : Option (List ℕ)) (images : List Image) : Type 0 where
+  pub says : Says set text machine images
+  pub good : AreGood set (entries set machine images)
+
+with_machine : (set : Set) (machine : Option (List ℕ)) (images : List Image) → AllSay set set.devices images → AreFine (entries set machine images) × AreGood set (entries set machine images)
+with_machine set None images a = (a.fine, a.good)
+with_machine set (Some name) images a = ((bytes_same (codes "machine " ++ name) (codes "machine " ++ name) refl, a.fine), (refl, a.good))
+
+pub text_says : (set : Set) (text : List ℕ) (machine : Option (List ℕ)) (images : List Image) → IsText set text machine images → SaysWell set text machine images
+text_says set text machine images t =
+    let a = all_say set set.devices images t.ready.one_each t.ready.ready in
+    let p = with_machine set machine images a in
+    record {
+      says = record {
+        named = t.named;
+        shaped = a.shaped;
+        unsaid = a.unsaid;
+        fine = p.0;
+        printed = t.printed ∙ sym (text_is set machine images) ∙ ap text_of (sym (entry_law set machine images));
+      };
+      good = p.1;
+    }

@@ -1,0 +1,227 @@
+-- A state of which a text speaks, whose parts are good, is ready.
+use Rattle.std.proofs.Common.{◌≡◌, ℕ, suc, ◌+◌, ◌<◌, ◌≤◌, Bool, true, false, ◌||◌, List, [], ◌∷◌, ◌++◌, length, get_or, Option, Some, None, ℤ, refl, sym, ap, ◌∙◌, subst, arith}
+use Rattle.std.specs.List.{flat_map, slice_get}
+use Rattle.vms_spec.specs.declared.ValuesReason.{ValuesReason}
+use Rattle.vms_spec.specs.declared.ValuesReason.TheVariants as reasons
+use Rattle.vms_spec.specs.Lists.{or_else}
+use Rattle.vms_spec.specs.Sets.{Desc, Sub, Device, Set}
+use Rattle.vms_spec.specs.Layout.{Cell, no_cell, Slot, desc_cells, struct_cells, device_cells}
+use Rattle.vms_spec.specs.Layout as slots
+use Rattle.vms_spec.specs.Images.{Image, own_cells, own_slots, sub_slots, came_slots, image_slots, FitsCell, RulesHold, AreVersionsOf}
+use Rattle.vms_spec.specs.Readiness.{rules_are_true}
+use Rattle.vms_spec.specs.Streams.{is_needed, ComeAsNeeded, IsReady}
+use Rattle.vms_spec.specs.Good.{DefaultsFit}
+use Rattle.vms_bodies.proofs.SpellLaws.{rules_append}
+use Rattle.vms_elements.specs.Parts.{cells_of, elements_in}
+use Rattle.vms_elements.specs.Entries.{Entry, OfSub, number_entries, subs_entries, device_entries, if_not, rules_hold, have_defaults, sub_holds, came_well, part_reason}
+use Rattle.vms_elements.specs.Reading.{AreFine, has_line, IsShaped, AreUnsaid, IsAtVersion, AreAtVersions}
+use Rattle.vms_elements.proofs.CellsOf.{elements_cells}
+use Rattle.vms_elements.proofs.SlotsOf.{elements_slots}
+use Rattle.vms_elements.proofs.CountUp.{elements_laid}
+use Rattle.vms_values_laws.proofs.Unsaid.{lines_both}
+use Rattle.vms_values_laws.proofs.SecondPass.{desc_rules}
+use Rattle.vms_values_laws.proofs.Numbers.{AreShort}
+use Rattle.vms_values_laws.proofs.Rights.{AreRight, right_none, right_both, fit_front, fit_back, AreBare, bare_front, bare_back, below_lines, above_lines, said_right, have_each}
+
+-- ---- entries of a part
+
+pub fine_both : (es fs : List Entry) → AreFine (es ++ fs) → AreFine es × AreFine fs
+fine_both [] fs h = (tt, h)
+fine_both (e ∷ es) fs h = let p = fine_both es fs h.1 in ((h.0, p.0), p.1)
+
+-- no section or subsection is bad
+abbrev pub AreGood : Set → List Entry → Type 0
+AreGood set [] = Unit {0}
+AreGood set (e ∷ es) = (part_reason set e ≡ None) × AreGood set es
+
+pub good_both : (set : Set) (es fs : List Entry) → AreGood set (es ++ fs) → AreGood set es × AreGood set fs
+good_both set [] fs h = (tt, h)
+good_both set (e ∷ es) fs h = let p = good_both set es fs h.1 in ((h.0, p.0), p.1)
+
+if_none : (b : Bool) (reason : ValuesReason) → if_not b reason ≡ None → b ≡ true
+if_none true reason e = refl
+if_none false reason e = cc
+
+two_none : (a b : Bool) → or_else (if_not a reasons.Invalid) (if_not b reasons.Needed) ≡ None → (a ≡ true) × (b ≡ true)
+two_none true true e = (refl, refl)
+two_none true false e = cc
+two_none false b e = cc
+
+pub rules_are : (ss : List Slot) → rules_are_true ss ≡ true → RulesHold ss
+rules_are [] e = tt
+rules_are (slots.Rule true ∷ ss) e = (refl, rules_are ss e)
+rules_are (slots.Rule false ∷ ss) e = cc
+rules_are (slots.Number c kind caps ∷ ss) e = rules_are ss e
+rules_are (slots.Constant kind z ∷ ss) e = rules_are ss e
+rules_are (slots.Filler n ∷ ss) e = rules_are ss e
+
+-- ---- a description
+
+module _ (set : Set) (n : List ℤ) (short : AreShort n) where
+  abbrev cells : Desc → List Cell
+  cells d = desc_cells (struct_cells set) d
+
+  abbrev bytes : Desc → ℕ → List Slot
+  bytes d at = slots.desc_slots (slots.meanings set.structs (length set.structs)) d d.version n at
+
+  pub desc_right : (d : Desc) (at : ℕ) → AreFine (number_entries set d n at) → DefaultsFit (cells d) → AreBare n at (cells d) (λ k. has_line (number_entries set d n at) k) → AreRight n at (cells d) (bytes d at)
+  desc_right d at fine defaults bare =
+      let xs = elements_in set d d.version n at in
+      let same : cells_of xs ≡ cells d = elements_cells set d d.version n at in
+      subst (λ (l : List Cell). AreRight n at l (bytes d at)) same
+      (subst (λ (ss : List Slot). AreRight n at (cells_of xs) ss) (elements_slots set d d.version n at)
+      (said_right n short at xs (elements_laid set d d.version n at) fine (subst (λ (l : List Cell). DefaultsFit l) (sym same) defaults)
+      (subst (λ (l : List Cell). AreBare n at l (λ k. has_line (number_entries set d n at) k)) (sym same) bare)))
+
+  desc_bare : (d : Desc) (at : ℕ) → have_defaults n (elements_in set d d.version n at) ≡ true → AreBare n at (cells d) (λ k. false)
+  desc_bare d at h =
+      subst (λ (l : List Cell). AreBare n at l (λ k. false)) (elements_cells set d d.version n at) (have_each n at (elements_in set d d.version n at) (elements_laid set d d.version n at) h)
+
+  -- what is at its default is right, whatever stands in the bytes
+  pub default_right : (at : ℕ) (cs : List Cell) (ss : List Slot) → DefaultsFit cs → AreBare n at cs (λ k. false) → AreRight n at cs ss
+  default_right at cs ss defaults bare =
+      record { right = λ c k lt e. let is = bare c k lt e refl in record { fits = subst (λ (z : ℤ). FitsCell (get_or cs c no_cell) z) (sym is) (defaults c lt); absent = λ h. is } }
+
+  pub below_desc : (d : Desc) (slice_get k : ℕ) → k < at → has_line (number_entries set d n at) k ≡ false
+  below_desc d at k lt = below_lines n at (elements_in set d d.version n at) (elements_laid set d d.version n at) k lt
+
+  pub above_desc : (d : Desc) (slice_get k : ℕ) → at + length (cells d) ≤ k → has_line (number_entries set d n at) k ≡ false
+  above_desc d at k le =
+      above_lines n at (elements_in set d d.version n at) (elements_laid set d d.version n at) k
+      (omega (arith, ap (λ (l : List Cell). length l) (elements_cells set d d.version n at)))
+
+both_false : (a b : Bool) → a ≡ false → b ≡ false → (a || b) ≡ false
+both_false a b e f = ap (λ (a : Bool). a || b) e ∙ f
+
+-- ---- a device
+
+module _ (set : Set) (d : Device) (image : Image) (short : AreShort image.numbers) where
+  abbrev n : List ℤ
+  n = image.numbers
+
+  abbrev sub_cells : List Sub → List Cell
+  sub_cells subs = flat_map (λ s. desc_cells (struct_cells set) s.desc) subs
+
+  pub below_subs : (j at : ℕ) (subs : List Sub) (came : List (Option ℕ)) (k : ℕ) → k < at → has_line (subs_entries set d image j at subs came) k ≡ false
+  below_subs j at [] came k lt = refl
+  below_subs j at (s ∷ subs) [] k lt = refl
+  below_subs j at (s ∷ subs) (o ∷ came) k lt =
+      let next = at + length (desc_cells (struct_cells set) s.desc) in
+      let others = subs_entries set d image (suc j) next subs came in
+      lines_both (number_entries set s.desc n at) others k
+      ∙ both_false (has_line (number_entries set s.desc n at) k) (has_line others k) (below_desc set n short s.desc at k lt) (below_subs (suc j) next subs came k (omega arith))
+
+  -- what is so of the subsections
+  pub record SubsReady (j at : ℕ) (subs : List Sub) (came : List (Option ℕ)) : Type 0 where
+    pub right : AreRight n at (sub_cells subs) (came_slots set d n at subs came)
+    pub valid : RulesHold (came_slots set d n at subs came)
+    pub needed : ComeAsNeeded set d image j subs came
+
+  module _ (s : Sub) (j at : ℕ) (subs : List Sub) (came : List (Option ℕ)) where
+    abbrev next : ℕ
+    next = at + length (desc_cells (struct_cells set) s.desc)
+
+    it_came : (v : ℕ) → v ≡ s.desc.version → AreRight n at (desc_cells (struct_cells set) s.desc) (sub_slots set s s.desc.version n at)
+        → (b : Bool) → is_needed set d image s j ≡ b → sub_holds set s (Some v) n at ≡ true → came_well b (Some v) (have_defaults n (elements_in set s.desc s.desc.version n at)) ≡ true
+        → SubsReady (suc j) next subs came → SubsReady j at (s ∷ subs) (Some v ∷ came)
+    it_came v same right true needed holds well later =
+        record {
+          right = right_both n at (desc_cells (struct_cells set) s.desc) (sub_cells subs) (sub_slots set s v n at) (came_slots set d n next subs came)
+              (subst (λ (w : ℕ). AreRight n at (desc_cells (struct_cells set) s.desc) (sub_slots set s w n at)) (sym same) right) later.right;
+          valid = rules_append (sub_slots set s v n at) (came_slots set d n next subs came) (rules_are (sub_slots set s v n at) (sym (desc_rules set s.desc v n at) ∙ holds)) later.valid;
+          needed = (needed, same, later.needed);
+        }
+    it_came v same right false needed holds well later = cc
+
+    it_did_not : DefaultsFit (desc_cells (struct_cells set) s.desc) → (b : Bool) → is_needed set d image s j ≡ b
+        → came_well b None (have_defaults n (elements_in set s.desc s.desc.version n at)) ≡ true → SubsReady (suc j) next subs came → SubsReady j at (s ∷ subs) (None ∷ came)
+    it_did_not defaults true needed well later = cc
+    it_did_not defaults false needed well later =
+        record {
+          right = right_both n at (desc_cells (struct_cells set) s.desc) (sub_cells subs) [] (came_slots set d n next subs came)
+              (default_right set n short at (desc_cells (struct_cells set) s.desc) [] defaults (desc_bare set n short s.desc at well)) later.right;
+          valid = later.valid;
+          needed = (needed, later.needed);
+        }
+
+    by_line : (o : Option ℕ) → IsAtVersion s o → AreRight n at (desc_cells (struct_cells set) s.desc) (sub_slots set s s.desc.version n at) → DefaultsFit (desc_cells (struct_cells set) s.desc)
+        → part_reason set (OfSub d image j s at o) ≡ None → SubsReady (suc j) next subs came → SubsReady j at (s ∷ subs) (o ∷ came)
+    by_line (Some v) same right defaults good later =
+        let well = came_well (is_needed set d image s j) (Some v) (have_defaults n (elements_in set s.desc s.desc.version n at)) in
+        let p = two_none (sub_holds set s (Some v) n at) well good in
+        it_came v same right (is_needed set d image s j) refl p.0 p.1 later
+    by_line None same right defaults good later =
+        let well = came_well (is_needed set d image s j) None (have_defaults n (elements_in set s.desc s.desc.version n at)) in
+        it_did_not defaults (is_needed set d image s j) refl (two_none true well good).1 later
+
+  pub subs_ready : (j at : ℕ) (subs : List Sub) (came : List (Option ℕ)) → length came ≡ length subs → AreAtVersions subs came → AreFine (subs_entries set d image j at subs came)
+      → AreGood set (subs_entries set d image j at subs came) → DefaultsFit (sub_cells subs) → AreBare n at (sub_cells subs) (λ k. has_line (subs_entries set d image j at subs came) k)
+      → SubsReady j at subs came
+  subs_ready j at [] [] long versions fine good defaults bare = record { right = right_none n at []; valid = tt; needed = refl }
+  subs_ready j at [] (o ∷ came) long versions fine good defaults bare = absurd (omega (arith, long))
+  subs_ready j at (s ∷ subs) [] long versions fine good defaults bare = absurd (omega (arith, long))
+  subs_ready j at (s ∷ subs) (o ∷ came) long versions fine good defaults bare =
+      let own = desc_cells (struct_cells set) s.desc in
+      let next = at + length own in
+      let numbers = number_entries set s.desc n at in
+      let others = subs_entries set d image (suc j) next subs came in
+      let f = fine_both numbers others fine.1 in
+      let g = good_both set numbers others good.1 in
+      let front : AreBare n at own (λ k. has_line numbers k) =
+      bare_front n at own (sub_cells subs) (λ k. has_line numbers k) (λ k. has_line (subs_entries set d image j at (s ∷ subs) (o ∷ came)) k)
+      (λ k lt e. lines_both numbers others k ∙ both_false (has_line numbers k) (has_line others k) e (below_subs (suc j) next subs came k lt)) bare in
+      let back : AreBare n next (sub_cells subs) (λ k. has_line others k) =
+      bare_back n at own (sub_cells subs) (λ k. has_line others k) (λ k. has_line (subs_entries set d image j at (s ∷ subs) (o ∷ came)) k)
+      (λ k le e. lines_both numbers others k ∙ both_false (has_line numbers k) (has_line others k) (above_desc set n short s.desc at k le) e) bare in
+      by_line s j at subs came o versions.0 (desc_right set n short s.desc at f.0 (fit_front own (sub_cells subs) defaults) front) (fit_front own (sub_cells subs) defaults) good.0
+      (subs_ready (suc j) next subs came (omega (arith, long)) versions.1 f.1 g.1 (fit_back own (sub_cells subs) defaults) back)
+
+  -- ---- the whole
+
+  versions_of : (subs : List Sub) (came : List (Option ℕ)) → length came ≡ length subs → AreAtVersions subs came → ((j : ℕ) (s : Sub) → slice_get subs j ≡ Some s → s.desc.minimum ≤ s.desc.version) → AreVersionsOf subs came
+  versions_of [] [] long h low = tt
+  versions_of [] (o ∷ came) long h low = absurd (omega (arith, long))
+  versions_of (s ∷ subs) [] long h low = absurd (omega (arith, long))
+  versions_of (s ∷ subs) (None ∷ came) long h low = versions_of subs came (omega (arith, long)) h.1 (λ j t e. low (suc j) t e)
+  versions_of (s ∷ subs) (Some v ∷ came) long h low =
+      let l = low 0 s refl in
+      let same : v ≡ s.desc.version = h.0 in
+      ((omega arith, omega arith), versions_of subs came (omega (arith, long)) h.1 (λ j t e. low (suc j) t e))
+
+  pub device_ready : IsShaped set d image → AreUnsaid set d image → AreFine (device_entries set d image) → AreGood set (device_entries set d image) → DefaultsFit (device_cells set d)
+      → d.desc.minimum ≤ d.desc.version → ((j : ℕ) (s : Sub) → slice_get d.subs j ≡ Some s → s.desc.minimum ≤ s.desc.version) → IsReady set d image
+  device_ready shaped unsaid fine good defaults low lows =
+      let own = desc_cells (struct_cells set) d.desc in
+      let numbers = number_entries set d.desc n 0 in
+      let others = subs_entries set d image 0 (own_cells set d) d.subs image.came in
+      let f = fine_both numbers others fine.1 in
+      let g = good_both set numbers others good.1 in
+      let next : own_cells set d ≡ 0 + length own = omega arith in
+      let bare : AreBare n 0 (own ++ sub_cells d.subs) (λ k. has_line (device_entries set d image) k) =
+      λ c k lt e h. let same : k ≡ c = omega arith in
+      unsaid k (omega (arith, shaped.cells)) h ∙ ap (λ (i : ℕ). (get_or (device_cells set d) i no_cell).default) same in
+      let front : AreBare n 0 own (λ k. has_line numbers k) =
+      bare_front n 0 own (sub_cells d.subs) (λ k. has_line numbers k) (λ k. has_line (device_entries set d image) k)
+      (λ k lt e. lines_both numbers others k ∙ both_false (has_line numbers k) (has_line others k) e (below_subs 0 (own_cells set d) d.subs image.came k (omega arith))) bare in
+      let back : AreBare n (0 + length own) (sub_cells d.subs) (λ k. has_line others k) =
+      bare_back n 0 own (sub_cells d.subs) (λ k. has_line others k) (λ k. has_line (device_entries set d image) k)
+      (λ k le e. lines_both numbers others k ∙ both_false (has_line numbers k) (has_line others k) (above_desc set n short d.desc 0 k le) e) bare in
+      let subs = subs_ready 0 (own_cells set d) d.subs image.came shaped.subs shaped.versions f.1 g.1 (fit_back own (sub_cells d.subs) defaults)
+      (subst (λ (i : ℕ). AreBare n i (sub_cells d.subs) (λ k. has_line others k)) (sym next) back) in
+      let mine : AreRight n 0 own (own_slots set d d.desc.version n) = desc_right set n short d.desc 0 f.0 (fit_front own (sub_cells d.subs) defaults) front in
+      let theirs : AreRight n 0 own (own_slots set d image.version n) = subst (λ (v : ℕ). AreRight n 0 own (own_slots set d v n)) (sym shaped.version) mine in
+      let all : AreRight n 0 (device_cells set d) (image_slots set d image) =
+      right_both n 0 own (sub_cells d.subs) (own_slots set d image.version n) (came_slots set d n (own_cells set d) d.subs image.came) theirs
+      (subst (λ (i : ℕ). AreRight n i (sub_cells d.subs) (came_slots set d n (own_cells set d) d.subs image.came)) next subs.right) in
+      record {
+        normal = record {
+          version = (let v = shaped.version in omega arith, let v = shaped.version in omega arith);
+          subs = versions_of d.subs image.came shaped.subs shaped.versions lows;
+          cells = record { long = shaped.cells; fits = λ c lt. (all.right c c lt (omega arith)).fits };
+          absent = λ c lt e. (all.right c c (omega (arith, shaped.cells)) (omega arith)).absent e;
+        };
+        valid = rules_append (own_slots set d image.version n) (came_slots set d n (own_cells set d) d.subs image.came)
+            (rules_are (own_slots set d image.version n) (sym (desc_rules set d.desc image.version n 0) ∙ if_none (rules_hold (elements_in set d.desc image.version n 0)) reasons.Invalid good.0)) subs.valid;
+        version = shaped.version;
+        needed = subs.needed;
+      }

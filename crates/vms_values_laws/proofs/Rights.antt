@@ -1,0 +1,264 @@
+-- When the numbers of a part of a state are right: each fits its cell, and is the default where no byte stands for it.
+use Rattle.std.proofs.Common.{◌≡◌, ◌⊎◌, inl, inr, ℕ, zero, suc, ◌+◌, ◌-◌, ◌<◌, ◌≤◌, Bool, true, false, ◌||◌, ◌&&◌, ◌==◌, nat_lt, List, [], ◌∷◌, ◌++◌, length, get_or, ℤ, pos, None, refl, sym, ap, ◌∙◌, subst, arith, if◌then◌else◌}
+use Rattle.std.proofs.lemmas.Bool.{ltb-true, ltb-false, eq-eqb, ne_eqb, and_parts}
+use Rattle.std.proofs.lemmas.List.{get_or_append_left, get_or-append-add, length-append}
+use Rattle.vms_spec.specs.Numbers.{same_number}
+use Rattle.vms_spec.specs.Layout.{Cell, no_cell, Slot}
+use Rattle.vms_spec.specs.Layout as slots
+use Rattle.vms_spec.specs.Images.{has_cell, FitsCell}
+use Rattle.vms_spec.specs.Good.{DefaultsFit}
+use Rattle.vms_bodies.proofs.Names.{or_false, names_append}
+use Rattle.vms_bodies.proofs.ReadyLaws.{same_is}
+use Rattle.vms_elements.specs.Elements.{What, Number, Constant, Filler, Rule, Element}
+use Rattle.vms_elements.specs.Parts.{is_number, cells_with, cells_of, slot_of, slots_of, numbers_in, CountsUp}
+use Rattle.vms_elements.specs.Lines.{printed}
+use Rattle.vms_elements.specs.Entries.{OfNumber, has_default, have_defaults}
+use Rattle.vms_elements.specs.Reading.{AreFine, has_line}
+use Rattle.vms_values_laws.proofs.FineNumbers.{line_number, reason_fits}
+use Rattle.vms_values_laws.proofs.Numbers.{AreShort, of_numbers}
+
+-- the number of a cell, beside slots
+pub record IsRight (n : List ℤ) (ss : List Slot) (k : ℕ) (cell : Cell) : Type 0 where
+  pub fits : FitsCell cell (get_or n k (pos 0))
+  pub absent : has_cell ss k ≡ false → get_or n k (pos 0) ≡ cell.default
+
+-- those of these cells, the first of which has this place
+pub record AreRight (n : List ℤ) (at : ℕ) (cells : List Cell) (ss : List Slot) : Type 0 where
+  pub right : (c k : ℕ) → c < length cells → k ≡ at + c → IsRight n ss k (get_or cells c no_cell)
+
+pub right_none : (n : List ℤ) (at : ℕ) (ss : List Slot) → AreRight n at [] ss
+right_none n at ss = record { right = λ c k lt e. absurd (omega arith) }
+
+pub right_both : (n : List ℤ) (at : ℕ) (xs ys : List Cell) (ss ts : List Slot) → AreRight n at xs ss → AreRight n (at + length xs) ys ts → AreRight n at (xs ++ ys) (ss ++ ts)
+right_both n at xs ys ss ts a b = record { right = λ c k lt e. by_test c k lt e (nat_lt c (length xs)) refl }
+  where
+    bare : (k : ℕ) → has_cell (ss ++ ts) k ≡ false → (has_cell ss k ≡ false) × (has_cell ts k ≡ false)
+    bare k h = or_false (has_cell ss k) (has_cell ts k) (sym (names_append ss ts k) ∙ h)
+
+    by_test : (c k : ℕ) → c < length (xs ++ ys) → k ≡ at + c → (t : Bool) → nat_lt c (length xs) ≡ t → IsRight n (ss ++ ts) k (get_or (xs ++ ys) c no_cell)
+    by_test c k lt e true t =
+        let inside : c < length xs = ltb-true c (length xs) t in
+        let r = a.right c k inside e in
+        subst (λ (x : Cell). IsRight n (ss ++ ts) k x) (sym (get_or_append_left xs ys no_cell c inside)) (record { fits = r.fits; absent = λ h. r.absent (bare k h).0 })
+    by_test c k lt e false t =
+        let past : length xs ≤ c = ltb-false c (length xs) t in
+        let m : ℕ = c - length xs in
+        let is : length xs + m ≡ c = omega arith in
+        let r = b.right m k (omega (arith, length-append xs ys)) (omega arith) in
+        subst (λ (x : Cell). IsRight n (ss ++ ts) k x) (sym (get_or-append-add xs ys m no_cell) ∙ ap (λ (i : ℕ). get_or (xs ++ ys) i no_cell) is) (record { fits = r.fits; absent = λ h. r.absent (bare k h).1 })
+
+-- ---- defaults that fit
+
+pub fit_front : (xs ys : List Cell) → DefaultsFit (xs ++ ys) → DefaultsFit xs
+fit_front xs ys h c lt =
+    subst (λ (x : Cell). FitsCell x x.default) (get_or_append_left xs ys no_cell c lt) (h c (omega (arith, length-append xs ys)))
+
+pub fit_back : (xs ys : List Cell) → DefaultsFit (xs ++ ys) → DefaultsFit ys
+fit_back xs ys h c lt = subst (λ (x : Cell). FitsCell x x.default) (get_or-append-add xs ys c no_cell) (h (length xs + c) (omega (arith, length-append xs ys)))
+
+-- ---- cells without a line
+
+-- the numbers of cells for which a test is false are defaults
+abbrev pub AreBare : List ℤ → ℕ → List Cell → (ℕ → Bool) → Type 0
+AreBare n at cells test = (c k : ℕ) → c < length cells → k ≡ at + c → test k ≡ false → get_or n k (pos 0) ≡ (get_or cells c no_cell).default
+
+pub bare_front : (n : List ℤ) (at : ℕ) (xs ys : List Cell) (s t : ℕ → Bool) → ((k : ℕ) → k < at + length xs → s k ≡ false → t k ≡ false) → AreBare n at (xs ++ ys) t → AreBare n at xs s
+bare_front n at xs ys s t h b c k lt e f =
+    b c k (omega (arith, length-append xs ys)) e (h k (omega arith) f) ∙ ap (λ (x : Cell). x.default) (get_or_append_left xs ys no_cell c lt)
+
+pub bare_back : (n : List ℤ) (at : ℕ) (xs ys : List Cell) (s t : ℕ → Bool) → ((k : ℕ) → at + length xs ≤ k → s k ≡ false → t k ≡ false) → AreBare n at (xs ++ ys) t → AreBare n (at + length xs) ys s
+bare_back n at xs ys s t h b c k lt e f =
+    b (length xs + c) k (omega (arith, length-append xs ys)) (omega arith) (h k (omega arith) f) ∙ ap (λ (x : Cell). x.default) (get_or-append-add xs ys c no_cell)
+
+-- ---- one element more
+
+-- a number
+pub record IsNumberOf (x : Element) (xs : List Element) : Type 0 where
+  pub cell : Cell
+  pub what : x.what ≡ Number cell
+  pub cells : cells_of (x ∷ xs) ≡ cell ∷ cells_of xs
+  pub numbers : numbers_in (x ∷ xs) ≡ x ∷ numbers_in xs
+  pub lines : printed (x ∷ xs) ≡ (if x.counted then x ∷ printed xs else printed xs)
+  pub bytes : slots_of (x ∷ xs) ≡ (if x.present then slots.Number x.cell cell.kind cell.capacities ∷ slots_of xs else slots_of xs)
+  pub defaults : (n : List ℤ) → have_defaults n (x ∷ xs) ≡ (same_number (get_or n x.cell (pos 0)) cell.default && have_defaults n xs)
+
+-- or none
+pub record IsNoNumber (x : Element) (xs : List Element) : Type 0 where
+  pub cells : cells_of (x ∷ xs) ≡ cells_of xs
+  pub numbers : numbers_in (x ∷ xs) ≡ numbers_in xs
+  pub lines : printed (x ∷ xs) ≡ printed xs
+  pub bytes : (k : ℕ) → has_cell (slots_of (x ∷ xs)) k ≡ has_cell (slots_of xs) k
+  pub defaults : (n : List ℤ) → have_defaults n (x ∷ xs) ≡ have_defaults n xs
+
+counted_number : (b : Bool) (x : Element) (xs : List Element) → (if b && true then x ∷ xs else xs) ≡ (if b then x ∷ xs else xs)
+counted_number true x xs = refl
+counted_number false x xs = refl
+
+not_printed : (b : Bool) (x : Element) (xs : List Element) → (if b && false then x ∷ xs else xs) ≡ xs
+not_printed true x xs = refl
+not_printed false x xs = refl
+
+no_cell_of : (b : Bool) (s : Slot) (ss : List Slot) (k : ℕ) → has_cell (s ∷ ss) k ≡ has_cell ss k → has_cell (if b then s ∷ ss else ss) k ≡ has_cell ss k
+no_cell_of true s ss k h = h
+no_cell_of false s ss k h = refl
+
+pub view : (x : Element) (xs : List Element) → IsNumberOf x xs ⊎ IsNoNumber x xs
+view x xs = by_what x.what refl
+  where
+    none : (w : What) → x.what ≡ w → is_number w ≡ false → ((cells : List Cell) → cells_with w cells ≡ cells) → ((k : ℕ) → has_cell (slot_of x.cell w ∷ slots_of xs) k ≡ has_cell (slots_of xs) k)
+        → ((n : List ℤ) → has_default n x.cell w ≡ true) → IsNoNumber x xs
+    none w e number cells bytes defaults =
+        let other : is_number x.what ≡ false = ap is_number e ∙ number in
+        record {
+          cells = ap (λ (w : What). cells_with w (cells_of xs)) e ∙ cells (cells_of xs);
+          numbers = ap (λ (b : Bool). if b then x ∷ numbers_in xs else numbers_in xs) other;
+          lines = ap (λ (b : Bool). if x.counted && b then x ∷ printed xs else printed xs) other ∙ not_printed x.counted x (printed xs);
+          bytes = λ k. ap (λ (w : What). has_cell (if x.present then slot_of x.cell w ∷ slots_of xs else slots_of xs) k) e ∙ no_cell_of x.present (slot_of x.cell w) (slots_of xs) k (bytes k);
+          defaults = λ n. ap (λ (w : What). has_default n x.cell w && have_defaults n xs) e ∙ ap (λ (b : Bool). b && have_defaults n xs) (defaults n);
+        }
+
+    by_what : (w : What) → x.what ≡ w → IsNumberOf x xs ⊎ IsNoNumber x xs
+    by_what (Number cell) e =
+        let number : is_number x.what ≡ true = ap is_number e in
+        inl (record {
+          cell = cell;
+          what = e;
+          cells = ap (λ (w : What). cells_with w (cells_of xs)) e;
+          numbers = ap (λ (b : Bool). if b then x ∷ numbers_in xs else numbers_in xs) number;
+          lines = ap (λ (b : Bool). if x.counted && b then x ∷ printed xs else printed xs) number ∙ counted_number x.counted x (printed xs);
+          bytes = ap (λ (w : What). if x.present then slot_of x.cell w ∷ slots_of xs else slots_of xs) e;
+          defaults = λ n. ap (λ (w : What). has_default n x.cell w && have_defaults n xs) e;
+        })
+    by_what (Constant kind z) e = inr (none (Constant kind z) e refl (λ cells. refl) (λ k. refl) (λ n. refl))
+    by_what (Filler m) e = inr (none (Filler m) e refl (λ cells. refl) (λ k. refl) (λ n. refl))
+    by_what (Rule holds) e = inr (none (Rule holds) e refl (λ cells. refl) (λ k. refl) (λ n. refl))
+
+-- ---- lines of elements
+
+no_line : (n : List ℤ) (x : Element) (xs : List Element) (k : ℕ) (b : Bool) → (x.cell ≡ k → ⊥) → has_line (of_numbers n xs) k ≡ false → has_line (of_numbers n (if b then x ∷ xs else xs)) k ≡ false
+no_line n x xs k true ne h = ap (λ (b : Bool). b || has_line (of_numbers n xs) k) (ne_eqb x.cell k ne) ∙ h
+no_line n x xs k false ne h = h
+
+-- cells below those of the elements have no line
+pub below_lines : (n : List ℤ) (at : ℕ) (xs : List Element) → CountsUp at (numbers_in xs) → (k : ℕ) → k < at → has_line (of_numbers n (printed xs)) k ≡ false
+below_lines n at [] up k lt = refl
+below_lines n at (x ∷ xs) up k lt = go (view x xs) (λ next h lt. below_lines n next xs h k lt)
+  where
+    go : IsNumberOf x xs ⊎ IsNoNumber x xs → ((next : ℕ) → CountsUp next (numbers_in xs) → k < next → has_line (of_numbers n (printed xs)) k ≡ false) → has_line (of_numbers n (printed (x ∷ xs))) k ≡ false
+    go (inl v) more =
+        let u : CountsUp at (x ∷ numbers_in xs) = subst (λ (l : List Element). CountsUp at l) v.numbers up in
+        ap (λ (l : List Element). has_line (of_numbers n l) k) v.lines ∙ no_line n x (printed xs) k x.counted (λ e. omega (arith, u.0)) (more (at + 1) u.1 (omega arith))
+    go (inr v) more = ap (λ (l : List Element). has_line (of_numbers n l) k) v.lines ∙ more at (subst (λ (l : List Element). CountsUp at l) v.numbers up) lt
+
+-- nor have those above
+pub above_lines : (n : List ℤ) (at : ℕ) (xs : List Element) → CountsUp at (numbers_in xs) → (k : ℕ) → at + length (cells_of xs) ≤ k → has_line (of_numbers n (printed xs)) k ≡ false
+above_lines n at [] up k le = refl
+above_lines n at (x ∷ xs) up k le = go (view x xs) (λ next h le. above_lines n next xs h k le)
+  where
+    go : IsNumberOf x xs ⊎ IsNoNumber x xs → ((next : ℕ) → CountsUp next (numbers_in xs) → next + length (cells_of xs) ≤ k → has_line (of_numbers n (printed xs)) k ≡ false)
+        → has_line (of_numbers n (printed (x ∷ xs))) k ≡ false
+    go (inl v) more =
+        let u : CountsUp at (x ∷ numbers_in xs) = subst (λ (l : List Element). CountsUp at l) v.numbers up in
+        let long : length (cells_of (x ∷ xs)) ≡ suc (length (cells_of xs)) = ap (λ (l : List Cell). length l) v.cells in
+        ap (λ (l : List Element). has_line (of_numbers n l) k) v.lines ∙ no_line n x (printed xs) k x.counted (λ e. omega (arith, u.0, long)) (more (at + 1) u.1 (omega (arith, long)))
+    go (inr v) more =
+        let long : length (cells_of (x ∷ xs)) ≡ length (cells_of xs) = ap (λ (l : List Cell). length l) v.cells in
+        ap (λ (l : List Element). has_line (of_numbers n l) k) v.lines ∙ more at (subst (λ (l : List Element). CountsUp at l) v.numbers up) (omega (arith, long))
+
+-- ---- elements whose lines are fine
+
+module _ (n : List ℤ) (short : AreShort n) where
+  -- one line
+  counted_right : (x : Element) (cell : Cell) (ss : List Slot) (k : ℕ) → x.what ≡ Number cell → x.cell ≡ k
+      → Rattle.vms_elements.specs.Entries.line_reason (OfNumber x n) (Rattle.vms_elements.specs.Lines.number_line n x) ≡ None
+      → IsRight n (if x.present then slots.Number x.cell cell.kind cell.capacities ∷ ss else ss) k cell
+  counted_right x cell ss k what at fine =
+      let f = reason_fits cell x.present (get_or n x.cell (pos 0)) (sym (line_number x n cell what (short x.cell)) ∙ fine) in
+      record {
+        fits = subst (λ (i : ℕ). FitsCell cell (get_or n i (pos 0))) at f.fits;
+        absent = λ h. sym (ap (λ (i : ℕ). get_or n i (pos 0)) at) ∙ f.absent (hidden x.present h);
+      }
+    where
+      hidden : (b : Bool) → has_cell (if b then slots.Number x.cell cell.kind cell.capacities ∷ ss else ss) k ≡ false → b ≡ false
+      hidden true h = no (sym (eq-eqb x.cell k at) ∙ (or_false (x.cell == k) (has_cell ss k) h).0) where
+        no : true ≡ false → true ≡ false
+        no e = e
+      hidden false h = refl
+
+  behind_it : (b : Bool) (s : Slot) (ss : List Slot) (k : ℕ) (cell : Cell) → (has_cell (if b then s ∷ ss else ss) k ≡ false → has_cell ss k ≡ false) → IsRight n ss k cell → IsRight n (if b then s ∷ ss else ss) k cell
+  behind_it b s ss k cell h r = record { fits = r.fits; absent = λ e. r.absent (h e) }
+
+  bare_later : (b : Bool) (at : ℕ) (kind : Rattle.vms_kinds.specs.declared.Kind.Kind) (caps : List ℕ) (ss : List Slot) (k : ℕ) → has_cell (if b then slots.Number at kind caps ∷ ss else ss) k ≡ false → has_cell ss k ≡ false
+  bare_later true at kind caps ss k h = (or_false (at == k) (has_cell ss k) h).1
+  bare_later false at kind caps ss k h = h
+
+  pub said_right : (at : ℕ) (xs : List Element) → CountsUp at (numbers_in xs) → AreFine (of_numbers n (printed xs)) → DefaultsFit (cells_of xs)
+      → AreBare n at (cells_of xs) (λ k. has_line (of_numbers n (printed xs)) k) → AreRight n at (cells_of xs) (slots_of xs)
+  said_right at [] up fine defaults bare = right_none n at []
+  said_right at (x ∷ xs) up fine defaults bare = go (view x xs) (λ next h f d b. said_right next xs h f d b)
+    where
+      go : IsNumberOf x xs ⊎ IsNoNumber x xs
+          → ((next : ℕ) → CountsUp next (numbers_in xs) → AreFine (of_numbers n (printed xs)) → DefaultsFit (cells_of xs) → AreBare n next (cells_of xs) (λ k. has_line (of_numbers n (printed xs)) k)
+          → AreRight n next (cells_of xs) (slots_of xs))
+          → AreRight n at (cells_of (x ∷ xs)) (slots_of (x ∷ xs))
+      go (inl v) more =
+          let cell = v.cell in
+          let u : CountsUp at (x ∷ numbers_in xs) = subst (λ (l : List Element). CountsUp at l) v.numbers up in
+          let d : DefaultsFit (cell ∷ cells_of xs) = subst (λ (l : List Cell). DefaultsFit l) v.cells defaults in
+          let f : AreFine (of_numbers n (if x.counted then x ∷ printed xs else printed xs)) = subst (λ (l : List Element). AreFine (of_numbers n l)) v.lines fine in
+          let b : AreBare n at (cell ∷ cells_of xs) (λ k. has_line (of_numbers n (if x.counted then x ∷ printed xs else printed xs)) k) =
+          subst (λ (l : List Element). AreBare n at (cell ∷ cells_of xs) (λ k. has_line (of_numbers n l) k)) v.lines (subst (λ (l : List Cell). AreBare n at l (λ k. has_line (of_numbers n (printed (x ∷ xs))) k)) v.cells bare) in
+          let later : AreRight n (at + 1) (cells_of xs) (slots_of xs) =
+          more (at + 1) u.1 (rest x.counted f) (λ c lt. d (suc c) (omega arith))
+          (λ c k lt e bare. b (suc c) k (omega arith) (omega arith) (no_line n x (printed xs) k x.counted (λ s. omega (arith, u.0)) bare)) in
+          subst (λ (l : List Cell). AreRight n at l (slots_of (x ∷ xs))) (sym v.cells)
+          (subst (λ (ss : List Slot). AreRight n at (cell ∷ cells_of xs) ss) (sym v.bytes)
+          (record { right = λ c k lt e. place c k lt e (first x.counted f b u.0 u.1 (d 0 (omega arith))) later }))
+        where
+          rest : (t : Bool) → AreFine (of_numbers n (if t then x ∷ printed xs else printed xs)) → AreFine (of_numbers n (printed xs))
+          rest true f = f.1
+          rest false f = f
+
+          first : (t : Bool) → AreFine (of_numbers n (if t then x ∷ printed xs else printed xs)) → AreBare n at (v.cell ∷ cells_of xs) (λ k. has_line (of_numbers n (if t then x ∷ printed xs else printed xs)) k)
+              → x.cell ≡ at → CountsUp (at + 1) (numbers_in xs) → FitsCell v.cell v.cell.default
+              → IsRight n (if x.present then slots.Number x.cell v.cell.kind v.cell.capacities ∷ slots_of xs else slots_of xs) at v.cell
+          first true f b e up d = counted_right x v.cell (slots_of xs) at v.what e f.0
+          first false f b e up d =
+              let is : get_or n at (pos 0) ≡ v.cell.default = b 0 at (omega arith) (omega arith) (below_lines n (at + 1) xs up at (omega arith)) in
+              record { fits = subst (λ (z : ℤ). FitsCell v.cell z) (sym is) d; absent = λ h. is }
+
+          place : (c k : ℕ) → c < suc (length (cells_of xs)) → k ≡ at + c
+              → IsRight n (if x.present then slots.Number x.cell v.cell.kind v.cell.capacities ∷ slots_of xs else slots_of xs) at v.cell → AreRight n (at + 1) (cells_of xs) (slots_of xs)
+              → IsRight n (if x.present then slots.Number x.cell v.cell.kind v.cell.capacities ∷ slots_of xs else slots_of xs) k (get_or (v.cell ∷ cells_of xs) c no_cell)
+          place zero k lt e h later =
+              let is : at ≡ k = omega arith in
+              subst (λ (i : ℕ). IsRight n (if x.present then slots.Number x.cell v.cell.kind v.cell.capacities ∷ slots_of xs else slots_of xs) i v.cell) is h
+          place (suc c) k lt e h later =
+              behind_it x.present (slots.Number x.cell v.cell.kind v.cell.capacities) (slots_of xs) k (get_or (cells_of xs) c no_cell)
+              (bare_later x.present x.cell v.cell.kind v.cell.capacities (slots_of xs) k) (later.right c k (omega arith) (omega arith))
+      go (inr v) more =
+          let later : AreRight n at (cells_of xs) (slots_of xs) =
+          more at (subst (λ (l : List Element). CountsUp at l) v.numbers up) (subst (λ (l : List Element). AreFine (of_numbers n l)) v.lines fine) (subst (λ (l : List Cell). DefaultsFit l) v.cells defaults)
+          (subst (λ (l : List Element). AreBare n at (cells_of xs) (λ k. has_line (of_numbers n l) k)) v.lines (subst (λ (l : List Cell). AreBare n at l (λ k. has_line (of_numbers n (printed (x ∷ xs))) k)) v.cells bare)) in
+          subst (λ (l : List Cell). AreRight n at l (slots_of (x ∷ xs))) (sym v.cells)
+          (record { right = λ c k lt e. let r = later.right c k lt e in record { fits = r.fits; absent = λ h. r.absent (sym (v.bytes k) ∙ h) } })
+
+-- ---- elements at their defaults
+
+pub have_each : (n : List ℤ) (at : ℕ) (xs : List Element) → CountsUp at (numbers_in xs) → have_defaults n xs ≡ true → AreBare n at (cells_of xs) (λ k. false)
+have_each n at [] up h = λ c k lt e f. absurd (omega arith)
+have_each n at (x ∷ xs) up h = go (view x xs) (λ next u d. have_each n next xs u d)
+  where
+    go : IsNumberOf x xs ⊎ IsNoNumber x xs → ((next : ℕ) → CountsUp next (numbers_in xs) → have_defaults n xs ≡ true → AreBare n next (cells_of xs) (λ k. false)) → AreBare n at (cells_of (x ∷ xs)) (λ k. false)
+    go (inl v) more =
+        let u : CountsUp at (x ∷ numbers_in xs) = subst (λ (l : List Element). CountsUp at l) v.numbers up in
+        let p = and_parts (same_number (get_or n x.cell (pos 0)) v.cell.default) (have_defaults n xs) (sym (v.defaults n) ∙ h) in
+        let is : get_or n at (pos 0) ≡ v.cell.default = sym (ap (λ (i : ℕ). get_or n i (pos 0)) u.0) ∙ same_is (get_or n x.cell (pos 0)) v.cell.default p.0 in
+        subst (λ (l : List Cell). AreBare n at l (λ k. false)) (sym v.cells) (λ c k lt e f. place c k lt e is (more (at + 1) u.1 p.1))
+      where
+        place : (c k : ℕ) → c < suc (length (cells_of xs)) → k ≡ at + c → get_or n at (pos 0) ≡ v.cell.default → AreBare n (at + 1) (cells_of xs) (λ k. false)
+            → get_or n k (pos 0) ≡ (get_or (v.cell ∷ cells_of xs) c no_cell).default
+        place zero k lt e is later = let same : k ≡ at = omega arith in ap (λ (i : ℕ). get_or n i (pos 0)) same ∙ is
+        place (suc c) k lt e is later = later c k (omega arith) (omega arith) refl
+    go (inr v) more =
+        subst (λ (l : List Cell). AreBare n at l (λ k. false)) (sym v.cells) (more at (subst (λ (l : List Element). CountsUp at l) v.numbers up) (sym (v.defaults n) ∙ h))

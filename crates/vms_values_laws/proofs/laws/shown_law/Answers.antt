@@ -1,0 +1,5 @@
+use Rattle.vms_values_laws.proofs.Rounds.{shown_holds}
+use Rattle.vms_values_laws.proofs.laws.shown_law.Goals as goal
+
+pub returns : goal.returns
+returns c = shown_holds

@@ -1,0 +1,70 @@
+-- Lines, taken from the front of a text.
+use Rattle.std.proofs.Common.{◌≡◌, ℕ, zero, suc, ◌≤◌, Bool, true, false, ◌==◌, nat_le, List, [], ◌∷◌, ◌++◌, length, take, drop, Option, Some, None, ℤ, pos, negsuc, if◌then◌else◌, refl, sym, ap, ◌∙◌, arith}
+use Rattle.std.specs.List.{list_all}
+use Rattle.std.proofs.lemmas.Bool.{and_parts, leb-true, ne_eqb, eqb-true}
+use Rattle.std.proofs.lemmas.Fmt.{digits_decimal}
+use Rattle.std.specs.Fmt.{decimal, signed_decimal}
+use Rattle.std.specs.Str.{bytes_eq}
+use Rattle.vms_spec.specs.Spelling.{first_line, longer_line, begins_with, is_digit}
+use Rattle.vms_words.specs.Texts.{IsShort}
+use Rattle.vms_words.proofs.Spells.{AreDigits, numerals}
+
+-- ---- the line of a number ends behind it
+
+digits_line : (ds rest : List ℕ) → AreDigits ds → first_line (ds ++ 10 ∷ rest) ≡ Some (ds, rest)
+digits_line [] rest e = refl
+digits_line (c ∷ ds) rest e =
+    let parts = and_parts (is_digit c) (list_all is_digit ds) e in
+    let low : 48 ≤ c = leb-true 48 c (and_parts (nat_le 48 c) (nat_le c 57) parts.0).0 in
+    ap (λ (t : Bool). if t then Some ([], ds ++ 10 ∷ rest) else longer_line c (first_line (ds ++ 10 ∷ rest))) (ne_eqb c 10 (λ h. omega (arith, h)))
+    ∙ ap (longer_line c) (digits_line ds rest parts.1)
+
+pub number_line : (z : ℤ) (rest : List ℕ) → IsShort z → first_line (signed_decimal z ++ 10 ∷ rest) ≡ Some (signed_decimal z, rest)
+number_line (pos n) rest h = digits_line (decimal n) rest (digits_decimal numerals n h)
+number_line (negsuc n) rest h = ap (longer_line 45) (digits_line (decimal (suc n)) rest (digits_decimal numerals (suc n) (omega arith)))
+
+-- ---- what a line leaves
+
+abbrev front_of : Option (List ℕ × List ℕ) → List ℕ
+front_of None = []
+front_of (Some (a, b)) = a
+
+abbrev after_of : Option (List ℕ × List ℕ) → List ℕ
+after_of None = []
+after_of (Some (a, b)) = b
+
+more_line : (b : ℕ) (o : Option (List ℕ × List ℕ)) (line rest : List ℕ) → longer_line b o ≡ Some (line, rest)
+    → (front : List ℕ) × (line ≡ b ∷ front) × (o ≡ Some (front, rest))
+more_line b None line rest e = cc
+more_line b (Some (front, after)) line rest e = (front, sym (ap front_of e), ap (λ (l : List ℕ). Some (front, l)) (ap after_of e))
+
+by_byte : (b : ℕ) (text line rest : List ℕ) (t : Bool) → (b == 10) ≡ t → (if t then Some ([], text) else longer_line b (first_line text)) ≡ Some (line, rest)
+    → ((front : List ℕ) → first_line text ≡ Some (front, rest) → text ≡ front ++ 10 ∷ rest) → b ∷ text ≡ line ++ 10 ∷ rest
+by_byte b text line rest true h i later =
+    ap (λ (x : ℕ). x ∷ text) (eqb-true b 10 h) ∙ ap (λ (l : List ℕ). 10 ∷ l) (ap after_of i) ∙ ap (λ (l : List ℕ). l ++ 10 ∷ rest) (ap front_of i)
+by_byte b text line rest false h i later =
+    let parts = more_line b (first_line text) line rest i in
+    ap (λ (l : List ℕ). b ∷ l) (later parts.0 parts.2) ∙ ap (λ (l : List ℕ). l ++ 10 ∷ rest) (sym parts.1)
+
+pub line_splits : (text line rest : List ℕ) → first_line text ≡ Some (line, rest) → text ≡ line ++ 10 ∷ rest
+line_splits [] line rest e = cc
+line_splits (b ∷ text) line rest e = by_byte b text line rest (b == 10) refl e (λ front f. line_splits text front rest f)
+
+pub same_bytes : (a b : List ℕ) → bytes_eq a b ≡ true → a ≡ b
+same_bytes [] [] e = refl
+same_bytes [] (y ∷ b) e = cc
+same_bytes (x ∷ a) [] e = cc
+same_bytes (x ∷ a) (y ∷ b) e =
+    let parts = and_parts (x == y) (bytes_eq a b) e in
+    let first : x ≡ y = eqb-true x y parts.0 in
+    let rest : a ≡ b = same_bytes a b parts.1 in
+    rw (first, rest) refl
+
+take_drop : (n : ℕ) (l : List ℕ) → take n l ++ drop n l ≡ l
+take_drop zero l = refl
+take_drop (suc n) [] = refl
+take_drop (suc n) (x ∷ l) = ap (λ (m : List ℕ). x ∷ m) (take_drop n l)
+
+pub begun : (front text : List ℕ) → begins_with front text ≡ true → text ≡ front ++ drop (length front) text
+begun front text e =
+    sym (take_drop (length front) text) ∙ ap (λ (l : List ℕ). l ++ drop (length front) text) (same_bytes (take (length front) text) front e)
