@@ -88,7 +88,7 @@ module _ (set : Set) (n : List ℤ) (short_all : AreShort n) where
       subst (λ (ss : List Slot). has_cell ss k ≡ false) (elements_slots set d v n at)
       (above_bytes at (elements_in set d v n at) (elements_laid set d v n at) k (omega (arith, ap (λ (l : List Cell). length l) (elements_cells set d v n at))))
 
-  desc_unsaid : (d : Desc) (slice_get k : ℕ) → has_line (number_entries set d n at) k ≡ false → has_cell (bytes d d.version at) k ≡ false
+  desc_unsaid : (d : Desc) (at k : ℕ) → has_line (number_entries set d n at) k ≡ false → has_cell (bytes d d.version at) k ≡ false
   desc_unsaid d at k e =
       subst (λ (ss : List Slot). has_cell ss k ≡ false) (elements_slots set d d.version n at) (bare_bytes n (elements_in set d d.version n at) (elements_counted set d d.version n at) k e)
 

@@ -82,10 +82,10 @@ module _ (set : Set) (n : List ℤ) (short : AreShort n) where
   default_right at cs ss defaults bare =
       record { right = λ c k lt e. let is = bare c k lt e refl in record { fits = subst (λ (z : ℤ). FitsCell (get_or cs c no_cell) z) (sym is) (defaults c lt); absent = λ h. is } }
 
-  pub below_desc : (d : Desc) (slice_get k : ℕ) → k < at → has_line (number_entries set d n at) k ≡ false
+  pub below_desc : (d : Desc) (at k : ℕ) → k < at → has_line (number_entries set d n at) k ≡ false
   below_desc d at k lt = below_lines n at (elements_in set d d.version n at) (elements_laid set d d.version n at) k lt
 
-  pub above_desc : (d : Desc) (slice_get k : ℕ) → at + length (cells d) ≤ k → has_line (number_entries set d n at) k ≡ false
+  pub above_desc : (d : Desc) (at k : ℕ) → at + length (cells d) ≤ k → has_line (number_entries set d n at) k ≡ false
   above_desc d at k le =
       above_lines n at (elements_in set d d.version n at) (elements_laid set d d.version n at) k
       (omega (arith, ap (λ (l : List Cell). length l) (elements_cells set d d.version n at)))
