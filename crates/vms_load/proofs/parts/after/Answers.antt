@@ -31,17 +31,17 @@ pub returns-in-Ok-Done-clause-reads : goal.returns-in-Ok-Done-clause-reads
 returns-in-Ok-Done-clause-reads g c = λ names state part room.
     let set = described c.args.set.now in
     let section = c.args.section.now in
-    let content = rw c.in-Ok-Done.field-0-is slice_get c.in-Ok-Done.ensures.content in
-    let place = rw c.in-Ok-Done.field-0-is slice_get c.in-Ok-Done.ensures.place in
-    let held = rw c.in-Ok-Done.field-0-is slice_get c.in-Ok-Done.ensures.held in
+    let content = rw c.in-Ok-Done.field-0-is at c.in-Ok-Done.ensures.content in
+    let place = rw c.in-Ok-Done.field-0-is at c.in-Ok-Done.ensures.place in
+    let held = rw c.in-Ok-Done.field-0-is at c.in-Ok-Done.ensures.held in
     after_settled set names state section part (untyped c.args.image.now) c.requires.device room c.args.cursor.now c.after_fields.new.self
     (g.S.Source.left c.args.source.now) (g.S.Source.left c.after_fields.new.source) (Foot section.id) 5 (record section { tail = tails.Footed }) (untyped c.args.image.now) (Ok None)
     c.requires.held held content place (foot_settled set names state section part (untyped c.args.image.now) c.requires.device room c.args.cursor.now.at)
 
 pub returns-in-Ok-Next-clause-reads : goal.returns-in-Ok-Next-clause-reads
 returns-in-Ok-Next-clause-reads g c = λ names state part room.
-    let content = rw c.in-Ok-Next.field-0-is slice_get c.in-Ok-Next.ensures.content in
-    let place = rw c.in-Ok-Next.field-0-is slice_get c.in-Ok-Next.ensures.place in
+    let content = rw c.in-Ok-Next.field-0-is at c.in-Ok-Next.ensures.content in
+    let place = rw c.in-Ok-Next.field-0-is at c.in-Ok-Next.ensures.place in
     after_next (described c.args.set.now) names state c.args.section.now part (untyped c.args.image.now) c.requires.device room c.args.cursor.now c.after_fields.new.self
     (g.S.Source.left c.args.source.now) (g.S.Source.left c.after_fields.new.source) c.requires.held (omega (arith, place)) content
 
@@ -49,9 +49,9 @@ pub returns-in_err-sub-in-Ok-Sub-clause-reads : goal.returns-in_err-sub-in-Ok-Su
 returns-in_err-sub-in-Ok-Sub-clause-reads g c = λ names state part room.
     let set = described c.args.set.now in
     let name = c.in-Ok-Sub.name.items in
-    let content = rw c.in-Ok-Sub.field-0-is slice_get c.in-Ok-Sub.ensures.content in
-    let place = rw c.in-Ok-Sub.field-0-is slice_get c.in-Ok-Sub.ensures.place in
-    let held = rw c.in-Ok-Sub.field-0-is slice_get c.in-Ok-Sub.ensures.held in
+    let content = rw c.in-Ok-Sub.field-0-is at c.in-Ok-Sub.ensures.content in
+    let place = rw c.in-Ok-Sub.field-0-is at c.in-Ok-Sub.ensures.place in
+    let held = rw c.in-Ok-Sub.field-0-is at c.in-Ok-Sub.ensures.held in
     let p = err_from_is_err_and c.from_residual.result c.from_residual.ensures.1 in
     let is = sym (c.in_err-sub-in-Ok-Sub.was) ∙ c.open_sub.ensures.opened
     ∙ ap (λ (n : ℕ). opened_at n (sub_opened c.args.section.now.device (device_of c.device.result.now) c.args.image.now.came name c.in-Ok-Sub.version)) c.at-at.ensures
@@ -77,9 +77,9 @@ returns-in_ok-sub-in-Ok-Sub-clause-reads g c = λ names state part room.
     let name = c.in-Ok-Sub.name.items in
     let j = c.in_ok-sub-in-Ok-Sub.sub in
     let v = c.in-Ok-Sub.version in
-    let content = rw c.in-Ok-Sub.field-0-is slice_get c.in-Ok-Sub.ensures.content in
-    let place = rw c.in-Ok-Sub.field-0-is slice_get c.in-Ok-Sub.ensures.place in
-    let held = rw c.in-Ok-Sub.field-0-is slice_get c.in-Ok-Sub.ensures.held in
+    let content = rw c.in-Ok-Sub.field-0-is at c.in-Ok-Sub.ensures.content in
+    let place = rw c.in-Ok-Sub.field-0-is at c.in-Ok-Sub.ensures.place in
+    let held = rw c.in-Ok-Sub.field-0-is at c.in-Ok-Sub.ensures.held in
     let is = sym (c.in_ok-sub-in-Ok-Sub.was) ∙ c.open_sub.ensures.opened
     ∙ ap (λ (n : ℕ). opened_at n (sub_opened c.args.section.now.device (device_of c.device.result.now) c.args.image.now.came name v)) c.at-at.ensures
     ∙ ap (λ (d : Device). opened_at c.args.cursor.now.at (sub_opened c.args.section.now.device d c.args.image.now.came name v)) c.device.ensures in
@@ -104,14 +104,14 @@ returns-in_ok-sub-in-Ok-Sub-clause-given g c =
     let d = device_at set c.args.section.now.device in
     let j = c.in_ok-sub-in-Ok-Sub.sub in
     let v = c.in-Ok-Sub.version in
-    let place = rw c.in-Ok-Sub.field-0-is slice_get c.in-Ok-Sub.ensures.place in
-    let given = rw c.in-Ok-Sub.field-0-is slice_get c.in-Ok-Sub.ensures.given in
+    let place = rw c.in-Ok-Sub.field-0-is at c.in-Ok-Sub.ensures.place in
+    let given = rw c.in-Ok-Sub.field-0-is at c.in-Ok-Sub.ensures.given in
     let is = sym (c.in_ok-sub-in-Ok-Sub.was) ∙ c.open_sub.ensures.opened
     ∙ ap (λ (d : Device). opened_at c.at-at.result (sub_opened c.args.section.now.device d c.args.image.now.came c.in-Ok-Sub.name.items v)) c.device.ensures in
     let new = sub_new c.args.section.now.device d c.args.image.now.came c.in-Ok-Sub.name.items v j c.at-at.result c.requires.shaped.subs is in
     let due = subs_taken set d.subs c.args.image.now.came j v (record { desc = no_desc; needed = AtLeast 0 }) c.requires.shaped.subs new.1 in
     let same = ap (λ (image : Typed). subs_due set d.subs image.came) c.mark.ensures in
-    let held = rw c.in-Ok-Sub.field-0-is slice_get c.in-Ok-Sub.ensures.held in
+    let held = rw c.in-Ok-Sub.field-0-is at c.in-Ok-Sub.ensures.held in
     let before = ap held_long c.requires.held in
     let now = ap held_long held in
     (omega (arith, place), omega (arith, place, before, now), omega (arith, place, due, same, c.open_sub.ensures.short, before, now), omega (arith, place, given, before, now))
@@ -129,9 +129,9 @@ pub returns-in-Ok-Done-clause-heard : goal.returns-in-Ok-Done-clause-heard
 returns-in-Ok-Done-clause-heard g c = λ names state part room.
     let set = described c.args.set.now in
     let section = c.args.section.now in
-    let heard = rw c.in-Ok-Done.field-0-is slice_get c.in-Ok-Done.ensures.heard in
-    let place = rw c.in-Ok-Done.field-0-is slice_get c.in-Ok-Done.ensures.place in
-    let held = rw c.in-Ok-Done.field-0-is slice_get c.in-Ok-Done.ensures.held in
+    let heard = rw c.in-Ok-Done.field-0-is at c.in-Ok-Done.ensures.heard in
+    let place = rw c.in-Ok-Done.field-0-is at c.in-Ok-Done.ensures.place in
+    let held = rw c.in-Ok-Done.field-0-is at c.in-Ok-Done.ensures.held in
     heard_as (λ more. Unit {0}) (g.S.Source.given c.args.source.now) (g.S.Source.given c.after_fields.new.source)
     (λ old left h. after_settled set names state section part (untyped c.args.image.now) c.requires.device room c.args.cursor.now c.after_fields.new.self
     old left (Foot section.id) 5 (record section { tail = tails.Footed }) (untyped c.args.image.now) (Ok None)
@@ -139,8 +139,8 @@ returns-in-Ok-Done-clause-heard g c = λ names state part room.
 
 pub returns-in-Ok-Next-clause-heard : goal.returns-in-Ok-Next-clause-heard
 returns-in-Ok-Next-clause-heard g c = λ names state part room.
-    let heard = rw c.in-Ok-Next.field-0-is slice_get c.in-Ok-Next.ensures.heard in
-    let place = rw c.in-Ok-Next.field-0-is slice_get c.in-Ok-Next.ensures.place in
+    let heard = rw c.in-Ok-Next.field-0-is at c.in-Ok-Next.ensures.heard in
+    let place = rw c.in-Ok-Next.field-0-is at c.in-Ok-Next.ensures.place in
     heard_as (λ more. Unit {0}) (g.S.Source.given c.args.source.now) (g.S.Source.given c.after_fields.new.source)
     (λ old left h. after_next (described c.args.set.now) names state c.args.section.now part (untyped c.args.image.now) c.requires.device room c.args.cursor.now c.after_fields.new.self
     old left c.requires.held (omega (arith, place)) h) heard
@@ -149,9 +149,9 @@ pub returns-in_err-sub-in-Ok-Sub-clause-heard : goal.returns-in_err-sub-in-Ok-Su
 returns-in_err-sub-in-Ok-Sub-clause-heard g c = λ names state part room.
     let set = described c.args.set.now in
     let name = c.in-Ok-Sub.name.items in
-    let heard = rw c.in-Ok-Sub.field-0-is slice_get c.in-Ok-Sub.ensures.heard in
-    let place = rw c.in-Ok-Sub.field-0-is slice_get c.in-Ok-Sub.ensures.place in
-    let held = rw c.in-Ok-Sub.field-0-is slice_get c.in-Ok-Sub.ensures.held in
+    let heard = rw c.in-Ok-Sub.field-0-is at c.in-Ok-Sub.ensures.heard in
+    let place = rw c.in-Ok-Sub.field-0-is at c.in-Ok-Sub.ensures.place in
+    let held = rw c.in-Ok-Sub.field-0-is at c.in-Ok-Sub.ensures.held in
     let e = c.in_err-sub-in-Ok-Sub.field-0.0 in
     let p = err_from_is_err_and c.from_residual.result c.from_residual.ensures.1 in
     let is = sym (c.in_err-sub-in-Ok-Sub.was) ∙ c.open_sub.ensures.opened
@@ -171,9 +171,9 @@ returns-in_ok-sub-in-Ok-Sub-clause-heard g c = λ names state part room.
     let name = c.in-Ok-Sub.name.items in
     let j = c.in_ok-sub-in-Ok-Sub.sub in
     let v = c.in-Ok-Sub.version in
-    let heard = rw c.in-Ok-Sub.field-0-is slice_get c.in-Ok-Sub.ensures.heard in
-    let place = rw c.in-Ok-Sub.field-0-is slice_get c.in-Ok-Sub.ensures.place in
-    let held = rw c.in-Ok-Sub.field-0-is slice_get c.in-Ok-Sub.ensures.held in
+    let heard = rw c.in-Ok-Sub.field-0-is at c.in-Ok-Sub.ensures.heard in
+    let place = rw c.in-Ok-Sub.field-0-is at c.in-Ok-Sub.ensures.place in
+    let held = rw c.in-Ok-Sub.field-0-is at c.in-Ok-Sub.ensures.held in
     let is = sym (c.in_ok-sub-in-Ok-Sub.was) ∙ c.open_sub.ensures.opened
     ∙ ap (λ (n : ℕ). opened_at n (sub_opened c.args.section.now.device (device_of c.device.result.now) c.args.image.now.came name v)) c.at-at.ensures
     ∙ ap (λ (d : Device). opened_at c.args.cursor.now.at (sub_opened c.args.section.now.device d c.args.image.now.came name v)) c.device.ensures in
