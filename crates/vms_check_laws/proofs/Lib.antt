@@ -1,4 +1,8 @@
 pub mod Agreeing
+pub mod Aligned
+pub mod AlignedFields
+pub mod AlignedDescs
+pub mod AlignedWholes
 pub mod Bounds
 pub mod Counts
 pub mod Describing
@@ -7,12 +11,14 @@ pub mod FieldsCarry
 pub mod FieldsSettle
 pub mod FitStructures
 pub mod Fitting
+pub mod FrontsRead
 pub mod Good
 pub mod Linking
 pub mod Orders
 pub mod Pairing
 pub mod Parts
 pub mod PositionRead
+pub mod Positioned
 pub mod Premises
 pub mod Presence
 pub mod RulesCarry

@@ -32,7 +32,7 @@ pub record FoundDevice (devices : List Device) (name : List ℕ) (instance j : �
   pub name_is : device.desc.name ≡ name
   pub instance_is : device.instance ≡ instance
 
-found_device : (k : ℕ) (devices : List Device) (name : List ℕ) (instance r : ℕ) → find_device k devices name instance ≡ Some r → (j : ℕ) × (r ≡ k + j) × FoundDevice devices name instance j
+pub found_device : (k : ℕ) (devices : List Device) (name : List ℕ) (instance r : ℕ) → find_device k devices name instance ≡ Some r → (j : ℕ) × (r ≡ k + j) × FoundDevice devices name instance j
 found_device k [] name instance r h = absurd (cc)
 found_device k (d ∷ devices) name instance r h =
     let choice : (c : Bool) → (bytes_eq d.desc.name name && d.instance == instance) ≡ c → (if c then Some k else find_device (suc k) devices name instance) ≡ Some r
@@ -57,7 +57,7 @@ from_map f [] j y e = absurd (cc)
 from_map f (x ∷ xs) zero y e = (x, refl)
 from_map f (x ∷ xs) (suc j) y e = from_map f xs j y e
 
-found_some : (r : Option ℕ) → is_found r ≡ true → (k : ℕ) × (r ≡ Some k)
+pub found_some : (r : Option ℕ) → is_found r ≡ true → (k : ℕ) × (r ≡ Some k)
 found_some None h = absurd (cc)
 found_some (Some k) h = (k, refl)
 

@@ -1,3 +1,4 @@
+pub mod Fronts
 pub mod Laws
 pub mod Positions
 pub mod Segments
