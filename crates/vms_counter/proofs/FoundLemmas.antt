@@ -1,0 +1,76 @@
+-- What trying the candidates in turn comes to.
+use Rattle.std.proofs.Common.{◌≡◌, ℕ, zero, suc, true, List, [], ◌∷◌, Option, Some, None, IfSome, refl, sym, subst}
+use Rattle.std.specs.List.{slice_get}
+use Rattle.std.specs.Str.{bytes_eq}
+use Rattle.std.proofs.lemmas.Bool.{or_left, or_right}
+use Rattle.std.proofs.lemmas.Slice.Eq.{bytes_eq-Decides}
+use Rattle.vms_spec.specs.Lists.{at_option}
+use Rattle.vms_spec.specs.Sets.{Set}
+use Rattle.vms_spec.specs.Images.{Image}
+use Rattle.vms_spec.specs.Streams.{is_one_of}
+use Rattle.vms_frames.specs.declared.fault.Refusal.{Refusal as Refused}
+use Rattle.vms_check.specs.declared.mismatch.Mismatch.{Mismatch}
+use Rattle.vms_check.specs.Wholes.{verdict_of}
+use Rattle.vms_check.specs.declared.mismatch.Verdict.TheVariants.{Accepted}
+use Rattle.vms_check.specs.Comparing.{first_mismatch}
+use Rattle.vms_counter_laws.specs.Candidates.{and_raised, default_images, machine_for, raised}
+use Rattle.vms_counter_laws.specs.Counters.{NoState, State, Shows, IsFirst, Here, Later, NoneShows, Counters, Lacks, Finds}
+use Rattle.vms_counter.specs.Found.{refusal_of}
+use Rattle.vms_counter.specs.Trying.{Tries}
+
+-- ---- the machine
+
+one_of : (machines : List (List ℕ)) (k : ℕ) (name : List ℕ) → slice_get machines k ≡ Some name → is_one_of machines name ≡ true
+one_of [] k name e = absurd (cc)
+one_of (m ∷ machines) zero name e = let same : m ≡ name = cc in or_left (bytes_eq m name) (is_one_of machines name) ((bytes_eq-Decides m name).1 same)
+one_of (m ∷ machines) (suc k) name e = or_right (bytes_eq m name) (is_one_of machines name) (one_of machines k name e)
+
+pub named : (machines : List (List ℕ)) (machine : Option ℕ) → IfSome (at_option machines machine) (λ m. is_one_of machines m ≡ true)
+named machines machine = by (at_option machines machine) refl
+  where
+    by : (o : Option (List ℕ)) → at_option machines machine ≡ o → IfSome o (λ m. is_one_of machines m ≡ true)
+    by None e = tt
+    by (Some name) e = of machine e
+      where
+        of : (m : Option ℕ) → at_option machines m ≡ Some name → is_one_of machines name ≡ true
+        of None e = absurd (cc)
+        of (Some k) e = one_of machines k name e
+
+-- ---- candidates
+
+module _ (old new : Set) (m : Mismatch) (first : first_mismatch old new ≡ Some m) where
+  -- a candidate that isn't refused doesn't show the mismatch
+  pub not_shown : (images : List Image) → Tries old new (machine_for old new m) images None → Shows old new m images → ⊥
+  not_shown images t s = let k = t s.ready in s.untaken k.taken k.machine k.states k.takes
+
+  pub shown : (images : List Image) (r : Refused) → Tries old new (machine_for old new m) images (Some r) → Shows old new m images
+  shown images r t = record { ready = t.0; untaken = t.1.untaken }
+
+  with_second : Option (List Image) → List (List Image)
+  with_second o = default_images old ∷ and_raised old new o
+
+  pub first_found : (images : List Image) (r : Refused) → images ≡ default_images old → Tries old new (machine_for old new m) images (Some r)
+      → Counters old new (State m (machine_for old new m) images (refusal_of r))
+  first_found images r e t =
+      Finds m images (refusal_of r) t.1.size first (subst (λ (x : List Image). IsFirst old new m images (x ∷ and_raised old new (raised old new m))) e (Here (and_raised old new (raised old new m)) (shown images r t))) t.1.fault
+
+  pub second_found : (images : List Image) (r : Refused) → Tries old new (machine_for old new m) (default_images old) None → raised old new m ≡ Some images
+      → Tries old new (machine_for old new m) images (Some r) → Counters old new (State m (machine_for old new m) images (refusal_of r))
+  second_found images r none e t =
+      Finds m images (refusal_of r) t.1.size first
+      (subst (λ (o : Option (List Image)). IsFirst old new m images (default_images old ∷ and_raised old new o)) (sym e)
+      (Later (default_images old) (images ∷ []) (not_shown (default_images old) none) (Here [] (shown images r t)))) t.1.fault
+
+  pub none_found : Tries old new (machine_for old new m) (default_images old) None → raised old new m ≡ None → Counters old new (NoState m)
+  none_found none e =
+      Lacks m first (subst (λ (o : Option (List Image)). NoneShows old new m (default_images old ∷ and_raised old new o)) (sym e) (not_shown (default_images old) none, tt))
+
+  pub neither_found : (images : List Image) → Tries old new (machine_for old new m) (default_images old) None → raised old new m ≡ Some images
+      → Tries old new (machine_for old new m) images None → Counters old new (NoState m)
+  neither_found images none e t =
+      Lacks m first (subst (λ (o : Option (List Image)). NoneShows old new m (default_images old ∷ and_raised old new o)) (sym e)
+      (not_shown (default_images old) none, (not_shown images t, tt)))
+
+pub accepted_none : (o : Option Mismatch) → Accepted ≡ verdict_of o → o ≡ None
+accepted_none None e = refl
+accepted_none (Some m) e = cc

@@ -1,0 +1,15 @@
+use Rattle.std.proofs.Common.{sym, ap, ◌∙◌}
+use Rattle.vms_spec.specs.Sets.{Set}
+use Rattle.vms_desc.specs.Described.{described}
+use Rattle.vms_load.specs.Kept.{loads}
+use Rattle.vms_counter_laws.specs.Candidates.{raised}
+use Rattle.vms_counter.specs.Found.{states_of}
+use Rattle.vms_counter.proofs.FoundLemmas.{none_found}
+use Rattle.vms_counter.proofs.finding.show_second.Goals as goal
+
+pub returns-in-None-clause-found : goal.returns-in-None-clause-found
+returns-in-None-clause-found c =
+    let trial = c.args.trial.now in
+    let old = described trial.old.now in
+    none_found old (loads c.args.new.now) trial.mismatch c.requires.trial.first c.requires.tried
+    (ap (λ (s : Set). raised old s trial.mismatch) (sym c.set.ensures) ∙ sym c.in_ok-raised.ensures.states ∙ ap states_of c.in-None.is)

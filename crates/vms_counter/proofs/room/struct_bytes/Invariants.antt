@@ -1,0 +1,8 @@
+use Rattle.std.proofs.Common.{◌≡◌, map}
+use Rattle.vms_parts.specs.Sizes.{in_u32}
+use Rattle.vms_parts.specs.Views.{desc_of}
+use Rattle.vms_load.specs.Bounds.{struct_bytes}
+use Rattle.vms_counter.proofs.room.struct_bytes.Given as goal
+
+abbrev pub invariant-loop-desc : goal.invariant-loop-desc
+invariant-loop-desc l = l.bytes.items ≡ map in_u32 (struct_bytes (map desc_of l.structs) l.desc-index)

@@ -1,0 +1,24 @@
+use Rattle.std.proofs.Common.{List, ℕ, ap, subst}
+use Rattle.vms_stream.specs.Faults.{Fault}
+use Rattle.vms_load.proofs.SetFacts.{well_of}
+use Rattle.vms_io.specs.Memory.{Supply, bytes_left}
+use Rattle.vms_spec.specs.Numbers.{IsBytes}
+use Rattle.vms_stream.proofs.Stated.{never_both_holds}
+use Rattle.vms_load.specs.Kept.{loads}
+use Rattle.vms_counter.proofs.trying.refusal_in.Goals as goal
+
+pub returns-in-Err-Refused-clause-refused : goal.returns-in-Err-Refused-clause-refused
+returns-in-Err-Refused-clause-refused c =
+    let source = c.new-source.result in
+    let ok = subst IsBytes (ap (λ (s : Supply). s.left) c.new-source.ensures) (bytes_left source.bytes.items source.at source.octets) in
+    let set = loads c.args.new.now in
+    let bytes = c.args.bytes.items in
+    let r = c.in-Err-Refused.refusal in
+    let content = rw c.in-Err-Refused.field-0-is at c.in-Err-Refused.ensures.content in
+    let fault = subst (λ (l : List ℕ). Fault set set.machines l r.at r.section r.reason content.0) (ap (λ (s : Supply). s.left) c.new-source.ensures) content.1 in
+    record {
+      size = content.0;
+      fault = fault;
+      untaken = λ n machine states t.
+          never_both_holds set set.machines (well_of set c.args.new.now.set.well_formed) c.args.new.now.set.heads bytes ok n machine states r.at r.section r.reason content.0 t fault;
+    }

@@ -1,0 +1,12 @@
+use Rattle.std.proofs.Common.{map}
+use Rattle.vms_spec.specs.Lists.{at_option}
+use Rattle.vms_desc.specs.Described.{described}
+use Rattle.vms_image.specs.Typed.{state_of}
+use Rattle.vms_counter.proofs.FoundLemmas.{named}
+use Rattle.vms_counter.proofs.trying.tried.Goals as goal
+
+pub stream_of-requires-clause-room : goal.stream_of-requires-clause-room
+stream_of-requires-clause-room c =
+    let trial = c.args.trial.now in
+    let machines = (described trial.old.now).machines in
+    c.requires.room (at_option machines trial.machine) (map state_of c.args.images.now) (named machines trial.machine) c.if-not-are_ready.ensures.ready

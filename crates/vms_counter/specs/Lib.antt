@@ -1,0 +1,4 @@
+pub mod Found
+pub mod Raising
+pub mod Room
+pub mod Trying

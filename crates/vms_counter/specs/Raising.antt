@@ -1,0 +1,32 @@
+-- What the code has of a raised number.
+use Rattle.std.specs.Prelude.{◌≡◌, ℕ, ◌<◌, length, ◌==◌, if◌then◌else◌, List, [], ◌∷◌, Option, Some, None}
+use Rattle.vms_spec.specs.declared.Count.{Count}
+use Rattle.vms_spec.specs.declared.Count.TheVariants.{Counted}
+use Rattle.vms_spec.specs.Sets.{Set}
+use Rattle.vms_spec.specs.Images.{Image}
+use Rattle.vms_parts.specs.Devices.{device_at}
+use Rattle.vms_image.specs.Typed.{Typed, state_of}
+use Rattle.vms_counter_laws.specs.Candidates as candidates
+use Rattle.vms_counter.specs.declared.raising.Excess.{Excess}
+
+abbrev pub map_excess : Option Excess → Option candidates.Excess
+map_excess None = None
+map_excess (Some x) = Some (record { field = x.field; room = x.room })
+
+-- the capacity of a count, where it counts by field i
+abbrev pub counted_here : ℕ → Count → List ℕ
+counted_here i (Counted by most) = if by == i then most ∷ [] else []
+counted_here i _ = []
+
+abbrev pub as_excess : Excess → candidates.Excess
+as_excess x = record { field = x.field; room = x.room }
+
+abbrev pub image_state : Option Typed → Option Image
+image_state None = None
+image_state (Some image) = Some (state_of image)
+
+-- what a number is raised to, if it is, makes these images the candidate of device k
+abbrev pub IsExcess : Set → ℕ → Option (List Image) → Option Excess → Type 0
+IsExcess set k images None = images ≡ None
+IsExcess set k images (Some x) =
+    (k < length set.devices) × (images ≡ candidates.with_image (candidates.default_images set) k (candidates.raised_image set k (device_at set k) (as_excess x)))

@@ -1,0 +1,142 @@
+// A state of an older set that shows why a newer one refuses it.
+ghost use Rattle.std.specs.Prelude.{◌≡◌, map, IfOk, Some, None};
+ghost use Rattle.vms_check.specs.Comparing.{first_mismatch};
+ghost use Rattle.vms_image.specs.Typed.{state_of, AreImagesOf};
+ghost use Rattle.vms_desc.specs.Described.{described};
+ghost use Rattle.vms_load.specs.Kept.{loads};
+ghost use Rattle.vms_counter_laws.specs.Candidates.{default_images, machine_for, raised};
+ghost use Rattle.vms_counter_laws.specs.Counters.{Counters};
+ghost use Rattle.vms_counter.specs.Found.{answer_of, IsFindingOf};
+ghost use Rattle.vms_counter.specs.Trying.{IsTrial, Tries};
+
+use crate::candidates::{default_images, machine_for};
+use crate::room::room;
+use crate::second::raised;
+use crate::trying::{Trial, tried};
+use std::alloc::Global;
+use vms_check::{Mismatch, Verdict, check};
+use vms_desc::DescSet;
+use vms_image::Image;
+use vms_io::NoMemory;
+use vms_load::{Loader, Refusal};
+
+/// What is found of two sets.
+#[derive(Drop)]
+pub enum Finding {
+    /// The newer set reads what the older one writes.
+    Compatible,
+    /// The first rule that fails, which no candidate shows.
+    NoState(Mismatch),
+    /// The first rule that fails, and a state that the older set writes and the newer one refuses: the machine that its
+    /// stream names, by its number in the older set, one image for each of that set's devices, and where and why the
+    /// newer set refuses the stream, the device being one of the newer set.
+    State {
+        mismatch: Mismatch,
+        machine: Option<u32>,
+        images: Vec<Image>,
+        refusal: Refusal,
+    },
+}
+
+/// Whether the set of the loader reads what the older set writes; or else the first candidate that the older set may write
+/// and the loader refuses, if there is one. The loader's set stays.
+pub fn counter(alloc: Global, old: &DescSet, new: &mut Loader) -> Result<Finding, NoMemory>
+    ensures found { IfOk result (λ f.
+        Counters (described old.now) (loads new.old) (answer_of (described old.now) f)) }
+    ensures of { IfOk result (IsFindingOf (described old.now)) }
+    ensures set { loads new.new ≡ loads new.old }
+{
+    match check(old, new.set()) {
+        Verdict::Accepted => Ok(Finding::Compatible),
+        Verdict::Refused(mismatch) => show(alloc, old, mismatch, new),
+    }
+}
+
+// The first candidate that shows the mismatch.
+fn show(
+    alloc: Global,
+    old: &DescSet,
+    mismatch: Mismatch,
+    new: &mut Loader,
+) -> Result<Finding, NoMemory>
+    requires { first_mismatch (described old.now) (loads new.old) ≡ Some mismatch }
+    ensures found { IfOk result (λ f.
+        Counters (described old.now) (loads new.old) (answer_of (described old.now) f)) }
+    ensures of { IfOk result (IsFindingOf (described old.now)) }
+    ensures set { loads new.new ≡ loads new.old }
+{
+    let machine = machine_for(old, new.set(), &mismatch);
+    let room = room(alloc, old)?;
+    let trial = Trial {
+        old,
+        mismatch,
+        machine,
+        room,
+    };
+    show_first(alloc, &trial, new)
+}
+
+fn show_first(alloc: Global, trial: &Trial, new: &mut Loader) -> Result<Finding, NoMemory>
+    requires { IsTrial trial.now (loads new.old) }
+    ensures found { let old = described trial.now.old.now in IfOk result (λ f.
+        Counters old (loads new.old) (answer_of old f)) }
+    ensures of { IfOk result (IsFindingOf (described trial.now.old.now)) }
+    ensures set { loads new.new ≡ loads new.old }
+{
+    let images = default_images(alloc, trial.old)?;
+    match tried(alloc, trial, &images, new)? {
+        Some(refusal) => Ok(Finding::State {
+            mismatch: trial.mismatch,
+            machine: trial.machine,
+            images,
+            refusal,
+        }),
+        None => show_second(alloc, trial, new),
+    }
+}
+
+// The second candidate, where the first doesn't show it.
+fn show_second(alloc: Global, trial: &Trial, new: &mut Loader) -> Result<Finding, NoMemory>
+    requires trial { IsTrial trial.now (loads new.old) }
+    requires tried { let old = described trial.now.old.now in
+        let name = machine_for old (loads new.old) trial.now.mismatch in
+        Tries old (loads new.old) name (default_images old) None }
+    ensures found { let old = described trial.now.old.now in IfOk result (λ f.
+        Counters old (loads new.old) (answer_of old f)) }
+    ensures of { IfOk result (IsFindingOf (described trial.now.old.now)) }
+    ensures set { loads new.new ≡ loads new.old }
+{
+    match raised(alloc, trial.old, new.set(), &trial.mismatch)? {
+        None => Ok(Finding::NoState(trial.mismatch)),
+        Some(images) => show_last(alloc, trial, images, new),
+    }
+}
+
+fn show_last(
+    alloc: Global,
+    trial: &Trial,
+    images: Vec<Image>,
+    new: &mut Loader,
+) -> Result<Finding, NoMemory>
+    requires trial { IsTrial trial.now (loads new.old) }
+    requires tried { let old = described trial.now.old.now in
+        let name = machine_for old (loads new.old) trial.now.mismatch in
+        Tries old (loads new.old) name (default_images old) None }
+    requires second { raised (described trial.now.old.now) (loads new.old) trial.now.mismatch
+        ≡ Some (map state_of images.items) }
+    requires of { AreImagesOf (described trial.now.old.now) images.items }
+    ensures found { let old = described trial.now.old.now in IfOk result (λ f.
+        Counters old (loads new.old) (answer_of old f)) }
+    ensures of { IfOk result (IsFindingOf (described trial.now.old.now)) }
+    ensures set { loads new.new ≡ loads new.old }
+{
+    match tried(alloc, trial, &images, new)? {
+        Some(refusal) => Ok(Finding::State {
+            mismatch: trial.mismatch,
+            machine: trial.machine,
+            images,
+            refusal,
+        }),
+        None => Ok(Finding::NoState(trial.mismatch)),
+    }
+}

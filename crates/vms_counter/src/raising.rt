@@ -1,0 +1,155 @@
+// One number of a device, raised above what a newer set has room for.
+ghost use Rattle.std.specs.Prelude.{◌≡◌, ◌<◌, length, get_or, map, slice_set, IfSome, IfOk, Some};
+ghost use Rattle.std.specs.Bool.{OnTrue};
+ghost use Rattle.vms_kinds.specs.Codes.{InRange};
+ghost use Rattle.vms_kinds.specs.declared.Kind.TheVariants.{U8};
+ghost use Rattle.vms_spec.specs.Layout.{counted};
+ghost use Rattle.vms_spec.specs.Rules.{counts_well};
+ghost use Rattle.vms_parts.specs.Views.{field_of};
+ghost use Rattle.vms_desc.specs.Described.{described, device_at};
+ghost use Rattle.vms_image.specs.Typed.{default_at, IsImageOf};
+ghost use Rattle.vms_counter_laws.specs.Candidates.{admits, excess, raised_cell, raised_image};
+ghost use Rattle.vms_counter.specs.Raising.{as_excess, counted_here, image_state, map_excess};
+
+use std::alloc::Global;
+use vms_check::least_absent;
+use vms_desc::{Count, DescSet, Field};
+use vms_image::Image;
+use vms_io::NoMemory;
+
+/// A field of an older description, and what the newer set has room for where that field counts.
+#[derive(Clone, Copy)]
+pub(crate) struct Excess {
+    pub field: u32,
+    pub room: u32,
+}
+
+/// The number of a field, and its count.
+#[derive(Clone, Copy)]
+pub(crate) struct Counting {
+    pub number: u32,
+    pub count: Count,
+}
+
+/// Of two fields at which capacities differ, the older one's that counts, and what the newer set has room for: `fields` are
+/// those of the newer description, at this version.
+pub(crate) fn find_excess(
+    fields: &[Field],
+    version: u32,
+    older: Counting,
+    newer: Counting,
+) -> Option<Excess>
+    ensures { map_excess result ≡ excess version (map field_of fields.now) older.number older.count
+        newer.number newer.count }
+{
+    match (older.count, newer.count) {
+        (Count::Counted { by, .. }, Count::Counted { capacity, .. }) => Some(Excess {
+            field: by,
+            room: capacity,
+        }),
+        (Count::One, _) => match least_absent(fields, version, newer.number) {
+            None => None,
+            Some(room) => Some(Excess {
+                field: older.number,
+                room,
+            }),
+        },
+        _ => None,
+    }
+}
+
+// Whether a number is at most each capacity that the field counts.
+fn is_within(fields: &[Field], number: u32, value: i128) -> bool
+    ensures { result ≡ counts_well (counted number (map field_of fields.now)) value }
+{
+    for field in fields {
+        if !holds(field.count, number, value) {
+            return false;
+        }
+    }
+    true
+}
+
+fn holds(count: Count, number: u32, value: i128) -> bool
+    ensures { result ≡ counts_well (counted_here number count) value }
+{
+    match count {
+        Count::Counted { by, capacity } if by == number => value <= i128::from(capacity),
+        _ => true,
+    }
+}
+
+// The number of a field of a device, and what it is to be raised to.
+#[derive(Clone, Copy)]
+struct Raise {
+    device: u32,
+    field: u32,
+    value: i128,
+}
+
+// Whether the number, which is in this cell of the device's image, may be this.
+fn admits(set: &DescSet, raise: Raise, image: &Image, cell: u32) -> bool
+    requires device { raise.device < length (described set.now).devices }
+    requires image { image.now ≡ default_at (described set.now) raise.device }
+    ensures admits { result ≡ admits (described set.now)
+        (device_at (described set.now) raise.device) raise.field cell raise.value }
+    ensures inside { OnTrue result (cell < length image.now.numbers) }
+    ensures range { OnTrue result (InRange (get_or image.now.kinds cell U8) raise.value) }
+{
+    if cell >= image.len() {
+        return false;
+    }
+    let fields = set.device(raise.device).desc.fields.as_slice();
+    image.fits(cell, raise.value) && is_within(fields, raise.field, raise.value)
+}
+
+/// The defaults of a device but for the number of one field, where it may be one more than there is room for.
+pub(crate) fn raised_image(
+    alloc: Global,
+    set: &DescSet,
+    device: u32,
+    excess: Excess,
+) -> Result<Option<Image>, NoMemory>
+    requires device { device < length (described set.now).devices }
+    ensures state { IfOk result (λ o. image_state o ≡ raised_image (described set.now) device
+        (device_at (described set.now) device) (as_excess excess)) }
+    ensures of { IfOk result (λ o. IfSome o (IsImageOf (described set.now) device)) }
+{
+    let raise = Raise {
+        device,
+        field: excess.field,
+        value: i128::from(excess.room) + 1,
+    };
+    match set.cell(device, None, &[(excess.field, 0)]) {
+        None => Ok(None),
+        Some(cell) => raised_cell(alloc, set, raise, cell),
+    }
+}
+
+// The same for the cell that the number is in.
+fn raised_cell(
+    alloc: Global,
+    set: &DescSet,
+    raise: Raise,
+    cell: u32,
+) -> Result<Option<Image>, NoMemory>
+    requires device { raise.device < length (described set.now).devices }
+    ensures state { IfOk result (λ o. image_state o ≡ raised_cell (described set.now)
+        (device_at (described set.now) raise.device) raise.field raise.value (Some cell)) }
+    ensures of { IfOk result (λ o. IfSome o (IsImageOf (described set.now) raise.device)) }
+{
+    let mut image = Image::new(alloc, set, raise.device)?;
+    if !admits(set, raise, &image, cell) {
+        return Ok(None);
+    }
+    put(&mut image, cell, raise.value);
+    Ok(Some(image))
+}
+
+fn put(image: &mut Image, cell: u32, value: i128)
+    requires cell { cell < length image.old.numbers }
+    requires range { InRange (get_or image.old.kinds cell U8) value }
+    ensures { image.new ≡ record image.old { numbers = slice_set image.old.numbers cell value } }
+{
+    image.set(cell, value);
+}

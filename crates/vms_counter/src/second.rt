@@ -1,0 +1,133 @@
+// The second candidate.
+ghost use Rattle.std.specs.Prelude.{◌≡◌, ◌<◌, length, IfSome, IfOk, Some};
+ghost use Rattle.std.specs.List.{slice_get};
+ghost use Rattle.vms_desc.specs.Described.{described, device_at};
+ghost use Rattle.vms_image.specs.Typed.{state_of, AreImagesOf, IsImageOf};
+ghost use Rattle.vms_counter_laws.specs.Candidates.{default_images, raised, raised_fields, raised_image, with_image};
+ghost use Rattle.vms_counter.specs.Found.{states_of};
+ghost use Rattle.vms_counter.specs.Raising.{as_excess, IsExcess};
+
+use crate::candidates::default_images;
+use crate::raising::{Counting, Excess, find_excess, raised_image};
+use std::alloc::Global;
+use vms_check::Mismatch;
+use vms_desc::{DescSet, Part};
+use vms_image::Image;
+use vms_io::NoMemory;
+
+// A field of a device, by their numbers.
+#[derive(Clone, Copy)]
+struct DeviceField {
+    device: u32,
+    field: u32,
+}
+
+/// The second candidate, where capacities are the mismatch at two fields of a device.
+pub(crate) fn raised(
+    alloc: Global,
+    old: &DescSet,
+    new: &DescSet,
+    mismatch: &Mismatch,
+) -> Result<Option<Vec<Image>>, NoMemory>
+    ensures states { IfOk result (λ o. states_of o
+        ≡ raised (described old.now) (described new.now) mismatch.now) }
+    ensures of { IfOk result (λ o.
+        IfSome o (λ images. AreImagesOf (described old.now) images.items)) }
+{
+    if mismatch.rule != 11 {
+        return Ok(None);
+    }
+    let (older, newer) = (mismatch.in_old, mismatch.in_new);
+    match (older.part, older.field, newer.part, newer.field) {
+        (Part::Device(i), Some(j), Part::Device(k), Some(l)) => {
+            let older = DeviceField {
+                device: i,
+                field: j,
+            };
+            let newer = DeviceField {
+                device: k,
+                field: l,
+            };
+            raised_fields(alloc, old, new, older, newer)
+        }
+        _ => Ok(None),
+    }
+}
+
+fn raised_fields(
+    alloc: Global,
+    old: &DescSet,
+    new: &DescSet,
+    older: DeviceField,
+    newer: DeviceField,
+) -> Result<Option<Vec<Image>>, NoMemory>
+    ensures states { IfOk result (λ o. states_of o ≡ raised_fields (described old.now) older.device
+        (slice_get (described old.now).devices older.device) older.field
+        (slice_get (described new.now).devices newer.device) newer.field) }
+    ensures of { IfOk result (λ o.
+        IfSome o (λ images. AreImagesOf (described old.now) images.items)) }
+{
+    match excess_at(old, new, older, newer) {
+        None => Ok(None),
+        Some(excess) => with_raised(alloc, old, older.device, excess),
+    }
+}
+
+// What the two fields tell, where there are such.
+fn excess_at(old: &DescSet, new: &DescSet, older: DeviceField, newer: DeviceField) -> Option<Excess>
+    ensures { IsExcess (described old.now) older.device
+        (raised_fields (described old.now) older.device
+        (slice_get (described old.now).devices older.device) older.field
+        (slice_get (described new.now).devices newer.device) newer.field) result }
+{
+    let d = old.parts().devices.as_slice().get(older.device as usize)?;
+    let e = new.parts().devices.as_slice().get(newer.device as usize)?;
+    let f = d.desc.fields.as_slice().get(older.field as usize)?;
+    let g = e.desc.fields.as_slice().get(newer.field as usize)?;
+    let counts = Counting {
+        number: older.field,
+        count: f.count,
+    };
+    let is_counted = Counting {
+        number: newer.field,
+        count: g.count,
+    };
+    find_excess(e.desc.fields.as_slice(), d.desc.version, counts, is_counted)
+}
+
+fn with_raised(
+    alloc: Global,
+    set: &DescSet,
+    device: u32,
+    excess: Excess,
+) -> Result<Option<Vec<Image>>, NoMemory>
+    requires { device < length (described set.now).devices }
+    ensures states { IfOk result (λ o. states_of o ≡ with_image (default_images (described set.now))
+        device (raised_image (described set.now) device
+        (device_at (described set.now) device) (as_excess excess))) }
+    ensures of { IfOk result (λ o.
+        IfSome o (λ images. AreImagesOf (described set.now) images.items)) }
+{
+    match raised_image(alloc, set, device, excess)? {
+        None => Ok(None),
+        Some(image) => put_image(alloc, set, device, image),
+    }
+}
+
+fn put_image(
+    alloc: Global,
+    set: &DescSet,
+    device: u32,
+    image: Image,
+) -> Result<Option<Vec<Image>>, NoMemory>
+    requires device { device < length (described set.now).devices }
+    requires image { IsImageOf (described set.now) device image }
+    ensures states { IfOk result (λ o. states_of o ≡ with_image (default_images (described set.now))
+        device (Some (state_of image))) }
+    ensures of { IfOk result (λ o.
+        IfSome o (λ images. AreImagesOf (described set.now) images.items)) }
+{
+    let mut images = default_images(alloc, set)?;
+    images[device as usize] = image;
+    Ok(Some(images))
+}

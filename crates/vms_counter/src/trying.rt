@@ -1,0 +1,86 @@
+// One state, tried: its stream is made in memory and read by a loader.
+ghost use Rattle.std.specs.Prelude.{◌≡◌, ◌<◌, length, map, None, IfSome, IfOk};
+ghost use Rattle.vms_spec.specs.Lists.{at_option};
+ghost use Rattle.vms_spec.specs.Streams.{written, AreReady};
+ghost use Rattle.vms_desc.specs.Described.{described};
+ghost use Rattle.vms_image.specs.Typed.{state_of, AreImagesOf};
+ghost use Rattle.vms_load.specs.Kept.{loads};
+ghost use Rattle.vms_counter.specs.Found.{HasRoom};
+ghost use Rattle.vms_counter.specs.Trying.{Tries, IsRefused, IsTaken};
+
+use std::alloc::Global;
+use vms_check::Mismatch;
+use vms_desc::DescSet;
+use vms_image::Image;
+use vms_io::{MemSink, MemSource, NoMemory};
+use vms_load::{LoadFault, Loader, Refusal};
+use vms_write::{are_ready, write_stream};
+
+/// What all candidates of two sets share: the older set, the mismatch, the machine that their streams name, by its number in
+/// the older set, and the room for a stream.
+#[derive(Clone, Copy)]
+pub(crate) struct Trial<'a> {
+    pub old: &'a DescSet,
+    pub mismatch: Mismatch,
+    pub machine: Option<u32>,
+    pub room: u32,
+}
+
+// The stream of these images in memory, which the room is more than enough for.
+fn stream_of(alloc: Global, trial: &Trial, images: &[Image]) -> Result<Vec<u8>, NoMemory>
+    requires machine { IfSome trial.now.machine (λ m.
+        m < length (described trial.now.old.now).machines) }
+    requires of { AreImagesOf (described trial.now.old.now) images.now }
+    requires ready { AreReady (described trial.now.old.now) (map state_of images.now) }
+    requires room { let old = described trial.now.old.now in
+        let named = at_option old.machines trial.now.machine in
+        length (written old named (map state_of images.now) None) < trial.now.room }
+    ensures { let old = described trial.now.old.now in
+        let named = at_option old.machines trial.now.machine in IfOk result (λ stream.
+        stream.items ≡ written old named (map state_of images.now) None) }
+{
+    let mut sink = MemSink::new(alloc, trial.room, Vec::new(alloc))?;
+    match write_stream(trial.old, trial.machine, images, None, &mut sink) {
+        Ok(()) => Ok(sink.bytes().to_vec(alloc)?),
+        // No call is to fail, and the room is never filled.
+        Err(_) => unreachable!(),
+    }
+}
+
+// Where a loader refuses these bytes, if it does.
+fn refusal_in(alloc: Global, bytes: Vec<u8>, new: &mut Loader) -> Option<Refusal>
+    ensures refused { IfSome result (IsRefused (loads new.old) bytes.items) }
+    ensures taken { result ≡ None → IsTaken (loads new.old) bytes.items }
+    ensures set { loads new.new ≡ loads new.old }
+{
+    let mut source = MemSource::new(bytes, Vec::new(alloc), Vec::new(alloc));
+    match new.load(&mut source, None) {
+        Ok(_) => None,
+        Err(LoadFault::Refused(refusal)) => Some(refusal),
+        // No call is to fail.
+        Err(LoadFault::ReadFault) => unreachable!(),
+    }
+}
+
+/// Where the loader refuses the stream of these images, if they are ready and it does.
+pub(crate) fn tried(
+    alloc: Global,
+    trial: &Trial,
+    images: &[Image],
+    new: &mut Loader,
+) -> Result<Option<Refusal>, NoMemory>
+    requires machine { IfSome trial.now.machine (λ m.
+        m < length (described trial.now.old.now).machines) }
+    requires of { AreImagesOf (described trial.now.old.now) images.now }
+    requires room { HasRoom (described trial.now.old.now) trial.now.room }
+    ensures tries { let old = described trial.now.old.now in
+        let named = at_option old.machines trial.now.machine in
+        IfOk result (Tries old (loads new.old) named (map state_of images.now)) }
+    ensures set { loads new.new ≡ loads new.old }
+{
+    if !are_ready(trial.old, images) {
+        return Ok(None);
+    }
+    let stream = stream_of(alloc, trial, images)?;
+    Ok(refusal_in(alloc, stream, new))
+}
