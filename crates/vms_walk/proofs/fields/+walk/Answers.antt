@@ -16,13 +16,14 @@ use Rattle.vms_desc.specs.Asks.{field_at}
 use Rattle.vms_desc.specs.Described.{described}
 use Rattle.vms_desc.specs.Parts.{desc_at}
 use Rattle.vms_desc.proofs.AskLaws.{found_field}
+use Rattle.vms_desc.proofs.Bounds.{good_of}
 use Rattle.vms_walk.specs.declared.step.WalkStep.{WalkStep}
 use Rattle.vms_walk.specs.declared.step.WalkStep.TheVariants as steps
 use Rattle.vms_walk.specs.Steps.{steps_of, table, cells_in, spot_numbers, spot_slots, slots_at, size_in, capacities_of, elements_slots, HasSpot, MayCome}
 use Rattle.vms_walk.proofs.Results.{ok_then, err_then, err_is}
 use Rattle.vms_walk.proofs.Walking.{room_at, least_again}
 use Rattle.vms_walk.proofs.Spots.{next_field, field_needs, size_code, width_code, spot_room, struct_spot, struct_size, own_is}
-use Rattle.vms_walk.proofs.Local.{good, keeps_below, keeps_first, next_place, set_settled, part_sound}
+use Rattle.vms_walk.proofs.Local.{keeps_below, keeps_first, next_place, set_settled, part_sound}
 use Rattle.vms_walk.proofs.Going.{Laws, items_next, items_stop, items_may, field_slots_are, fields_next, fields_stop, fields_may, rule_next, rule_stop, rule_may, same_rule}
 use Rattle.vms_walk.proofs.fields.+walk.Given.{Over}
 use Rattle.vms_walk.proofs.fields.+walk.Goals as goal
@@ -43,7 +44,7 @@ walk_items-loop-turn-preserved g t c =
     let size : size_in set item ≡ c.item_cells-size.result = sym (size_code set item c.item_cells-size.result c.item_cells-size.ensures c.requires.small) in
     let one : (i + 1) * size_in set item ≡ i * size_in set item + size_in set item = grind arith in
     record {
-      way = items_next _ _ _ g.W.Walker.may laws set (good set c.args.set.now.well_formed c.args.set.now.heads) item c.args.most c.args.first i c.loop-turn.cell inv.here c.args.walker.now b inv.way c.walk_item.new.walker c.in_ok-walk_item.ensures.ok;
+      way = items_next _ _ _ g.W.Walker.may laws set (good_of set c.args.set.now.well_formed c.args.set.now.heads) item c.args.most c.args.first i c.loop-turn.cell inv.here c.args.walker.now b inv.way c.walk_item.new.walker c.in_ok-walk_item.ensures.ok;
       long = (laws.keeps _ b c.walk_item.new.walker c.in_ok-walk_item.ensures.ok).long ∙ inv.long;
       here = omega (arith, one, size, inv.here);
     }
@@ -60,7 +61,7 @@ walk_items-returns-in_err-walk_item-clause-err g t c =
     let d = c.walk_item.new.walker in
     let fault = c.in_err-walk_item.field-0.0 in
     err_is (λ fault. g.W.Walker.stops (steps_of (elements_slots set item most (N d) c.args.count first)) a fault d) c.from_residual.result fault c.from_residual.ensures.1
-    (items_stop _ _ _ g.W.Walker.may (laws_of g) set (good set c.args.set.now.well_formed c.args.set.now.heads) item most first c.loop-turn._turn c.loop-turn.cell inv.here a c.loop-turn.walker inv.way c.args.count (omega arith) d fault c.in_err-walk_item.ensures.err)
+    (items_stop _ _ _ g.W.Walker.may (laws_of g) set (good_of set c.args.set.now.well_formed c.args.set.now.heads) item most first c.loop-turn._turn c.loop-turn.cell inv.here a c.loop-turn.walker inv.way c.args.count (omega arith) d fault c.in_err-walk_item.ensures.err)
 
 pub walk_items-walk_item-requires : goal.walk_items-walk_item-requires
 walk_items-walk_item-requires g t c =
@@ -82,7 +83,7 @@ walk_items-walk_item-requires g t c =
           (
             c.requires.reaches,
             (
-              items_may _ _ _ g.W.Walker.may (laws_of g) set (good set c.args.set.now.well_formed c.args.set.now.heads) item c.args.most first i cell inv.here a c.loop-turn.walker inv.way c.args.count (omega arith) c.requires.may,
+              items_may _ _ _ g.W.Walker.may (laws_of g) set (good_of set c.args.set.now.well_formed c.args.set.now.heads) item c.args.most first i cell inv.here a c.loop-turn.walker inv.way c.args.count (omega arith) c.requires.may,
               (subst (λ (x : ℕ). cell + size_in set item ≤ x) (sym inv.long) room, subst (λ (x : ℕ). x ≤ MOST_ITEMS) (sym inv.long) c.requires.few),
             ),
           ),
@@ -114,7 +115,7 @@ walk_field-walk_items-requires g t c =
     let fields : map field_of c.as_slice.result.now ≡ (desc_at set spot.part).fields = ap (map field_of) c.as_slice.ensures ∙ ap (λ (d : Desc). d.fields) c.desc.ensures in
     let item : f.item ≡ (field_at set spot.part k).item = ap (λ (x : Field). x.item) (found_field c.as_slice.result.now (desc_at set spot.part).fields k f fields c.requires.field c.index-as_slice-field.is) in
     let well = c.args.set.now.well_formed in
-    let are = λ (m : List ℤ) (long : length m ≡ length n) (s : SameBelow cell n m). field_slots_are _ _ _ g.W.Walker.may laws set (good set c.args.set.now.well_formed c.args.set.now.heads) spot c.requires.spot.part k cell c.requires.here well n m long c.requires.spot count f.item most c.requires.field item c.present-count.ensures c.most-most.ensures c.requires.room s in
+    let are = λ (m : List ℤ) (long : length m ≡ length n) (s : SameBelow cell n m). field_slots_are _ _ _ g.W.Walker.may laws set (good_of set c.args.set.now.well_formed c.args.set.now.heads) spot c.requires.spot.part k cell c.requires.here well n m long c.requires.spot count f.item most c.requires.field item c.present-count.ensures c.most-most.ensures c.requires.room s in
     let needs = field_needs set well spot n c.requires.spot k cell count f.item most c.requires.field item c.present-count.ensures c.most-most.ensures c.requires.room in
     let above = λ (m : List ℤ). items_above (table set) (meanings_above set.structs (length set.structs)) f.item (capacities_of most) m count cell (size_in set f.item) in
     let come : MayCome g.W.Walker.goes N g.W.Walker.may (λ n. elements_slots set f.item most n count cell) c.args.walker.now = λ ys zs x d h e.
@@ -136,7 +137,7 @@ walk_field-returns-clause-ok g t c =
     let most = c.most-most.result in
     let fields : map field_of c.as_slice.result.now ≡ (desc_at set spot.part).fields = ap (map field_of) c.as_slice.ensures ∙ ap (λ (d : Desc). d.fields) c.desc.ensures in
     let item : f.item ≡ (field_at set spot.part k).item = ap (λ (x : Field). x.item) (found_field c.as_slice.result.now (desc_at set spot.part).fields k f fields c.requires.field c.index-as_slice-field.is) in
-    let are = λ (m : List ℤ) (long : length m ≡ length n) (s : SameBelow cell n m). field_slots_are _ _ _ g.W.Walker.may laws set (good set c.args.set.now.well_formed c.args.set.now.heads) spot c.requires.spot.part k cell c.requires.here c.args.set.now.well_formed n m long c.requires.spot count f.item most c.requires.field item c.present-count.ensures c.most-most.ensures c.requires.room s in
+    let are = λ (m : List ℤ) (long : length m ≡ length n) (s : SameBelow cell n m). field_slots_are _ _ _ g.W.Walker.may laws set (good_of set c.args.set.now.well_formed c.args.set.now.heads) spot c.requires.spot.part k cell c.requires.here c.args.set.now.well_formed n m long c.requires.spot count f.item most c.requires.field item c.present-count.ensures c.most-most.ensures c.requires.room s in
     let a = c.args.walker.now in
     let b = c.walk_items.new.walker in
     ok_then c.walk_items.result
@@ -159,7 +160,7 @@ walk_field-returns-clause-err g t c =
     let most = c.most-most.result in
     let fields : map field_of c.as_slice.result.now ≡ (desc_at set spot.part).fields = ap (map field_of) c.as_slice.ensures ∙ ap (λ (d : Desc). d.fields) c.desc.ensures in
     let item : f.item ≡ (field_at set spot.part k).item = ap (λ (x : Field). x.item) (found_field c.as_slice.result.now (desc_at set spot.part).fields k f fields c.requires.field c.index-as_slice-field.is) in
-    let are = λ (m : List ℤ) (long : length m ≡ length n) (s : SameBelow cell n m). field_slots_are _ _ _ g.W.Walker.may laws set (good set c.args.set.now.well_formed c.args.set.now.heads) spot c.requires.spot.part k cell c.requires.here c.args.set.now.well_formed n m long c.requires.spot count f.item most c.requires.field item c.present-count.ensures c.most-most.ensures c.requires.room s in
+    let are = λ (m : List ℤ) (long : length m ≡ length n) (s : SameBelow cell n m). field_slots_are _ _ _ g.W.Walker.may laws set (good_of set c.args.set.now.well_formed c.args.set.now.heads) spot c.requires.spot.part k cell c.requires.here c.args.set.now.well_formed n m long c.requires.spot count f.item most c.requires.field item c.present-count.ensures c.most-most.ensures c.requires.room s in
     let a = c.args.walker.now in
     let b = c.walk_items.new.walker in
     let slots = elements_slots set f.item most (N b) count cell in
@@ -187,7 +188,7 @@ walk-loop-field-preserved g t c =
     let N = g.W.Cells.numbers in
     let laws = laws_of g in
     let set = described c.args.set.now in
-    let fine = good set c.args.set.now.well_formed c.args.set.now.heads in
+    let fine = good_of set c.args.set.now.well_formed c.args.set.now.heads in
     let spot = c.args.spot in
     let all = (desc_at set spot.part).fields in
     let i = c.loop-field.field in
@@ -227,7 +228,7 @@ walk-returns-in_err-walk_field-clause-err g t c =
     let d = c.walk_field.new.walker in
     let fault = c.in_err-walk_field.field-0.0 in
     err_is (λ fault. g.W.Walker.stops (steps_of (spot_slots set spot (N d))) a fault d) c.from_residual.result fault c.from_residual.ensures.1
-    (fields_stop _ _ _ g.W.Walker.may (laws_of g) set (good set c.args.set.now.well_formed c.args.set.now.heads) spot c.requires.spot.part i c.loop-field.cell inv.here a c.loop-field.walker le inv.way lt d fault c.in_err-walk_field.ensures.err)
+    (fields_stop _ _ _ g.W.Walker.may (laws_of g) set (good_of set c.args.set.now.well_formed c.args.set.now.heads) spot c.requires.spot.part i c.loop-field.cell inv.here a c.loop-field.walker le inv.way lt d fault c.in_err-walk_field.ensures.err)
 
 pub walk-walk_field-requires : goal.walk-walk_field-requires
 walk-walk_field-requires g t c =
@@ -244,7 +245,7 @@ walk-walk_field-requires g t c =
     let lt : i < length all = omega (arith, c.field_count-field-end.ensures) in
     let has : HasSpot set spot (N b) =
     record { part = part; few = subst (λ (x : ℕ). x ≤ MOST_ITEMS) (sym inv.long) c.requires.spot.few; room = subst (λ (x : ℕ). spot.base + own_cell_count set (desc_at set spot.part) ≤ x) (sym inv.long) c.requires.spot.room } in
-    λ κs h. (search rules, (search rules, (search rules, (has, (lt, (inv.here, (fields_may _ _ _ g.W.Walker.may (laws_of g) set (good set c.args.set.now.well_formed c.args.set.now.heads) spot part i cell inv.here c.args.walker.now b le inv.way lt c.requires.may, (next_field set c.args.set.now.well_formed spot (N b) has i cell lt inv.room).room)))))))
+    λ κs h. (search rules, (search rules, (search rules, (has, (lt, (inv.here, (fields_may _ _ _ g.W.Walker.may (laws_of g) set (good_of set c.args.set.now.well_formed c.args.set.now.heads) spot part i cell inv.here c.args.walker.now b le inv.way lt c.requires.may, (next_field set c.args.set.now.well_formed spot (N b) has i cell lt inv.room).room)))))))
 
 pub walk-overflow_add-cell : goal.walk-overflow_add-cell
 walk-overflow_add-cell g t c =
@@ -276,7 +277,7 @@ walk-step-requires-clause-may g t c =
     let end : i ≡ length all = omega (arith, c.field_count-field-end.ensures) in
     let d = desc_at set spot.part in
     let holds : c.holds_rules-holds.result ≡ all_hold d.validate spot.version (spot_numbers set spot (N b)) = c.holds_rules-holds.ensures ∙ ap (all_hold d.validate spot.version) (own_is set spot (N b)) in
-    subst (λ (x : Bool). g.W.Walker.may b (steps.Rule x)) (sym holds) (rule_may _ _ _ g.W.Walker.may (laws_of g) set (good set c.args.set.now.well_formed c.args.set.now.heads) spot c.requires.spot.part i c.loop-field.cell inv.here c.args.walker.now b le inv.way end c.requires.may)
+    subst (λ (x : Bool). g.W.Walker.may b (steps.Rule x)) (sym holds) (rule_may _ _ _ g.W.Walker.may (laws_of g) set (good_of set c.args.set.now.well_formed c.args.set.now.heads) spot c.requires.spot.part i c.loop-field.cell inv.here c.args.walker.now b le inv.way end c.requires.may)
 
 pub walk-returns-clause-ok : goal.walk-returns-clause-ok
 walk-returns-clause-ok g t c =
@@ -293,7 +294,7 @@ walk-returns-clause-ok g t c =
     let d = desc_at set spot.part in
     let holds : c.holds_rules-holds.result ≡ all_hold d.validate spot.version (spot_numbers set spot (N b)) = c.holds_rules-holds.ensures ∙ ap (all_hold d.validate spot.version) (own_is set spot (N b)) in
     let e = c.step.new.self in
-    ok_then c.step.result (λ h. rule_next _ _ _ g.W.Walker.may laws set (good set c.args.set.now.well_formed c.args.set.now.heads) spot c.requires.spot.part i c.loop-field.cell inv.here c.args.walker.now b le inv.way end e (same_rule _ (N b) (N e) (laws.keeps _ b e h)) (subst (λ (x : Bool). g.W.Walker.goes (steps.Rule x ∷ []) b e) holds h)) c.step.ensures.ok
+    ok_then c.step.result (λ h. rule_next _ _ _ g.W.Walker.may laws set (good_of set c.args.set.now.well_formed c.args.set.now.heads) spot c.requires.spot.part i c.loop-field.cell inv.here c.args.walker.now b le inv.way end e (same_rule _ (N b) (N e) (laws.keeps _ b e h)) (subst (λ (x : Bool). g.W.Walker.goes (steps.Rule x ∷ []) b e) holds h)) c.step.ensures.ok
 
 pub walk-returns-clause-err : goal.walk-returns-clause-err
 walk-returns-clause-err g t c =
@@ -312,7 +313,7 @@ walk-returns-clause-err g t c =
     let holds : c.holds_rules-holds.result ≡ all_hold d.validate spot.version (spot_numbers set spot (N b)) = c.holds_rules-holds.ensures ∙ ap (all_hold d.validate spot.version) (own_is set spot (N b)) in
     let e = c.step.new.self in
     err_then (λ fault. g.W.Walker.stops (steps.Rule c.holds_rules-holds.result ∷ []) b fault e) (λ fault. g.W.Walker.stops (steps_of (spot_slots set spot (N e))) a fault e) c.step.result
-    (λ fault h. rule_stop _ _ _ g.W.Walker.may laws set (good set c.args.set.now.well_formed c.args.set.now.heads) spot c.requires.spot.part i c.loop-field.cell inv.here a b le inv.way end e fault (same_rule _ (N b) (N e) (laws.stopped _ b e fault h)) (subst (λ (x : Bool). g.W.Walker.stops (steps.Rule x ∷ []) b fault e) holds h)) c.step.ensures.err
+    (λ fault h. rule_stop _ _ _ g.W.Walker.may laws set (good_of set c.args.set.now.well_formed c.args.set.now.heads) spot c.requires.spot.part i c.loop-field.cell inv.here a b le inv.way end e fault (same_rule _ (N b) (N e) (laws.stopped _ b e fault h)) (subst (λ (x : Bool). g.W.Walker.stops (steps.Rule x ∷ []) b fault e) holds h)) c.step.ensures.err
 
 -- ---- one element
 
