@@ -1,5 +1,6 @@
 pub mod Agreeing
 pub mod Bounds
+pub mod CarriedLaws
 pub mod Counts
 pub mod Describing
 pub mod Descriptions
@@ -7,10 +8,19 @@ pub mod FieldsCarry
 pub mod FieldsSettle
 pub mod FitStructures
 pub mod Fitting
+pub mod Goes
+pub mod GoesDevices
+pub mod GoesFields
+pub mod GoesStructs
 pub mod Good
 pub mod Linking
 pub mod Orders
+pub mod PairDevices
+pub mod PairFields
+pub mod PairLists
+pub mod PairStructs
 pub mod Pairing
+pub mod PartOf
 pub mod Parts
 pub mod PositionRead
 pub mod Premises

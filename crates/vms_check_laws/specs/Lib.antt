@@ -1,3 +1,7 @@
+pub mod Carried
+pub mod CellLaws
 pub mod Laws
+pub mod Pairing
 pub mod Positions
 pub mod Segments
+pub mod SubCells
