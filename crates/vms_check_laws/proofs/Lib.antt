@@ -1,4 +1,8 @@
 pub mod Agreeing
+pub mod Aligned
+pub mod AlignedDescs
+pub mod AlignedFields
+pub mod AlignedWholes
 pub mod Bounds
 pub mod CarriedLaws
 pub mod Counts
@@ -8,6 +12,7 @@ pub mod FieldsCarry
 pub mod FieldsSettle
 pub mod FitStructures
 pub mod Fitting
+pub mod FrontsRead
 pub mod Goes
 pub mod GoesDevices
 pub mod GoesFields
@@ -23,6 +28,7 @@ pub mod Pairing
 pub mod PartOf
 pub mod Parts
 pub mod PositionRead
+pub mod Positioned
 pub mod Premises
 pub mod Presence
 pub mod RulesCarry

@@ -1,5 +1,6 @@
 pub mod Carried
 pub mod CellLaws
+pub mod Fronts
 pub mod Laws
 pub mod Pairing
 pub mod Positions
