@@ -4,7 +4,7 @@ use Rattle.std.specs.List.{flat_map, slice_get, list_all}
 use Rattle.std.specs.Option.{option_map}
 use Rattle.std.proofs.lemmas.Option.{slice_get-map}
 use Rattle.vms_spec.specs.declared.Part.TheVariants as parts
-use Rattle.vms_spec.specs.Numbers.{IsBytes}
+use Rattle.vms_kinds.specs.Bytes.{IsBytes}
 use Rattle.vms_spec.specs.Sets.{Field, Device, Set}
 use Rattle.vms_spec.specs.Heads.{FitsHeads}
 use Rattle.vms_spec.specs.Layout.{no_cell, struct_cells, desc_cells, device_cells}

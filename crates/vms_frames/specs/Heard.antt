@@ -1,7 +1,7 @@
 -- What a call hears of its source to the last, whether or not the source tells what is left.
 use Rattle.std.specs.Prelude.{◌≡◌, ℕ, ◌+◌, List, [], ◌++◌, length, Option, Some}
 use Rattle.vms_io.specs.Causes.{capped}
-use Rattle.vms_spec.specs.Numbers.{IsBytes}
+use Rattle.vms_kinds.specs.Bytes.{IsBytes}
 
 -- These bytes were given, as many as the count has risen by. What is said of the bytes that are left before the call and
 -- after it holds where these stand at the front, before anything that may follow them.

@@ -1,5 +1,6 @@
 use Rattle.std.proofs.Common.{rules, arith, refl, sym, ap, ◌∙◌, subst, ◌≡◌, ℕ, ℤ, ◌+◌, ◌*◌, ◌<◌, ◌≤◌, List, [], ◌∷◌, length, get_or, map, drop, Bool, true, OnOk, IfErr, Option}
 use Rattle.std.proofs.lemmas.Bool.{ltb-true}
+use Rattle.std.proofs.lemmas.Result.{IfErr-weaker}
 use Rattle.vms_kinds.specs.declared.Item.{Item}
 use Rattle.vms_spec.specs.declared.TheConstants.{MOST_ITEMS}
 use Rattle.vms_spec.specs.declared.Part.TheVariants as parts
@@ -20,7 +21,7 @@ use Rattle.vms_desc.proofs.Bounds.{good_of}
 use Rattle.vms_walk.specs.declared.step.WalkStep.{WalkStep}
 use Rattle.vms_walk.specs.declared.step.WalkStep.TheVariants as steps
 use Rattle.vms_walk.specs.Steps.{steps_of, table, cells_in, spot_numbers, spot_slots, slots_at, size_in, capacities_of, elements_slots, HasSpot, MayCome}
-use Rattle.vms_walk.proofs.Results.{ok_then, err_then, err_is}
+use Rattle.vms_walk.proofs.Results.{ok_then, err_is}
 use Rattle.vms_walk.proofs.Walking.{room_at, least_again}
 use Rattle.vms_walk.proofs.Spots.{next_field, field_needs, size_code, width_code, spot_room, struct_spot, struct_size, own_is}
 use Rattle.vms_walk.proofs.Local.{keeps_below, keeps_first, next_place, set_settled, part_sound}
@@ -164,7 +165,7 @@ walk_field-returns-clause-err g t c =
     let a = c.args.walker.now in
     let b = c.walk_items.new.walker in
     let slots = elements_slots set f.item most (N b) count cell in
-    err_then (λ fault. g.W.Walker.stops (steps_of slots) a fault b) (λ fault. g.W.Walker.stops (steps_of (slots_at set spot (N b) k cell)) a fault b) c.walk_items.result
+    IfErr-weaker c.walk_items.result (λ fault. g.W.Walker.stops (steps_of slots) a fault b) (λ fault. g.W.Walker.stops (steps_of (slots_at set spot (N b) k cell)) a fault b)
     (λ fault h.
     let kept = laws.stopped _ a b fault h in
     subst (λ (l : List WalkStep). g.W.Walker.stops l a fault b) (sym (are (N b) kept.long (keeps_below cell slots n (N b) (items_above (table set) (meanings_above set.structs (length set.structs)) f.item (capacities_of most) (N b) count cell (size_in set f.item)) kept))) h)
@@ -312,7 +313,7 @@ walk-returns-clause-err g t c =
     let d = desc_at set spot.part in
     let holds : c.holds_rules-holds.result ≡ all_hold d.validate spot.version (spot_numbers set spot (N b)) = c.holds_rules-holds.ensures ∙ ap (all_hold d.validate spot.version) (own_is set spot (N b)) in
     let e = c.step.new.self in
-    err_then (λ fault. g.W.Walker.stops (steps.Rule c.holds_rules-holds.result ∷ []) b fault e) (λ fault. g.W.Walker.stops (steps_of (spot_slots set spot (N e))) a fault e) c.step.result
+    IfErr-weaker c.step.result (λ fault. g.W.Walker.stops (steps.Rule c.holds_rules-holds.result ∷ []) b fault e) (λ fault. g.W.Walker.stops (steps_of (spot_slots set spot (N e))) a fault e)
     (λ fault h. rule_stop _ _ _ g.W.Walker.may laws set (good_of set c.args.set.now.well_formed c.args.set.now.heads) spot c.requires.spot.part i c.loop-field.cell inv.here a b le inv.way end e fault (same_rule _ (N b) (N e) (laws.stopped _ b e fault h)) (subst (λ (x : Bool). g.W.Walker.stops (steps.Rule x ∷ []) b fault e) holds h)) c.step.ensures.err
 
 -- ---- one element
