@@ -28,7 +28,7 @@ use Rattle.vms_commands.specs.declared.ending.Ending.TheVariants.{Done, Refused,
 use Rattle.vms_script.specs.Lines.{ScriptLine}
 use Rattle.vms_session.specs.Events.{events_of, trace_from}
 use Rattle.vms_spec.specs.Images.{Image}
-use Rattle.vms_spec.specs.Numbers.{IsBytes}
+use Rattle.vms_kinds.specs.Bytes.{IsBytes}
 use Rattle.vms_spec.specs.Sets.{Set}
 use Rattle.vms_stream.specs.Streams.{Takes as TakesStream}
 use Rattle.vms_board_commands.specs.Causes.{NoScript}

@@ -66,15 +66,15 @@ module _ (ks : List Comparer) (cs : List Carrier) (ms ns : List Meaning) (a b : 
       let same' : slots_from ns b.fields w own_b numbers' 0 at' b.fields ≡ slots' =
       ap (λ (k : ℕ). slots_from ns b.fields w own_b numbers' 0 k b.fields) z ∙ slots_entries ns b.fields w own_b numbers' at' 0 0 b.fields in
       let body : Carries numbers slots numbers' slots' =
-      fields_carry ks cs ms ns a b v w part part' o n numbers numbers' at at' below below' table es fs agree link known known'
-      (old_entries ks cs ms ns a b v w part part' o n numbers numbers' at at' below below' table 0 0 a.fields old)
-      (new_entries ks cs ms ns a b v w part part' o n numbers numbers' at at' below below' table 0 0 b.fields new)
+      fields_carry ks cs ms ns a b v w part part' o n numbers numbers' at at' below below' table (is_steady_in b) es fs agree link known known'
+      (old_entries ks cs ms ns a b v w part part' o n numbers numbers' at at' below below' table (is_steady_in b) 0 0 a.fields old)
+      (new_entries ks cs ms ns a b v w part part' o n numbers numbers' at at' below below' table (is_steady_in b) 0 0 b.fields new)
       (fit_entries ms a.fields v numbers at 0 0 a.fields (fits_at (desc_cells (cells_in ms) a) numbers at (at + 0) z' fits)) in
       let moved : Carries numbers (slots_from ms a.fields v own_a numbers 0 at a.fields) numbers' (slots_from ns b.fields w own_b numbers' 0 at' b.fields) =
       subst (λ (l : List Slot). Carries numbers l numbers' (slots_from ns b.fields w own_b numbers' 0 at' b.fields)) (sym same)
       (subst (λ (l : List Slot). Carries numbers slots numbers' l) (sym same') body) in
       carries_append numbers numbers' _ _ (Rule (all_hold a.validate v own_a) ∷ []) (Rule (all_hold b.validate w own_b) ∷ []) moved
-      (rule_carries ks cs ms ns a b v w part part' o n numbers numbers' at at' below below' table parts.1 rules agree)
+      (rule_carries ks cs ms ns a b v w part part' o n numbers numbers' at at' below below' table (is_steady_in b) parts.1 rules agree)
 
   -- what doesn't stand in new's bytes is at new's default
   pub desc_settles : SettledTable ks cs ms ns numbers numbers' below below' → compare_desc ks (cells_in ms) (cells_in ns) a b v w part part' ≡ None
@@ -99,8 +99,8 @@ module _ (ks : List Comparer) (cs : List Carrier) (ms ns : List Meaning) (a b : 
       agree_from ks cs ms ns a b v w part part' o n numbers numbers' at at' below below' table i j 0 es fs link known known' named h in
       let rule = Rule (all_hold b.validate w own_b) ∷ [] in
       let settled = fields_settle ks cs ms ns a b v w part part' o n numbers numbers' at at' below below' table 0 0 b.fields es row agree (fields_below b.fields new) link known known'
-      (old_entries ks cs ms ns a b v w part part' o n numbers numbers' at at' below below' table 0 0 a.fields old)
-      (new_entries ks cs ms ns a b v w part part' o n numbers numbers' at at' below below' table 0 0 b.fields new)
+      (old_entries ks cs ms ns a b v w part part' o n numbers numbers' at at' below below' table (is_steady_in b) 0 0 a.fields old)
+      (new_entries ks cs ms ns a b v w part part' o n numbers numbers' at at' below below' table (is_steady_in b) 0 0 b.fields new)
       (fit_entries ms a.fields v numbers at 0 0 a.fields (fits_at (desc_cells (cells_in ms) a) numbers at (at + 0) z' fits)) in
       let moved : Settled (slots_from ns b.fields w own_b numbers' 0 at' b.fields) at' (desc_cells (cells_in ns) b) carried =
       subst (λ (q : ℕ). Settled (slots_from ns b.fields w own_b numbers' 0 q b.fields) q (desc_cells (cells_in ns) b) carried) (sym z) settled in

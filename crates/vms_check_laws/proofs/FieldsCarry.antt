@@ -12,7 +12,6 @@ use Rattle.vms_spec.specs.Sets.{Desc}
 use Rattle.vms_spec.specs.Tests.{is_there}
 use Rattle.vms_spec.specs.Layout.{Slot, Number, Constant, Filler, Meaning, no_parent, times, counted, capacity_of, item_cells, field_cells, elements_of, item_slots, numbers_of}
 use Rattle.vms_spec.specs.declared.Part.{Part}
-use Rattle.vms_spec.specs.Rules.{is_steady_in}
 use Rattle.vms_check.specs.Comparing.{Entry, same_rest, same_count, same_item, same_kind, same_constant, is_covered, holds_as_much, Comparer, pair_structs}
 use Rattle.vms_check.specs.Carrying.{Carrier, defaults, carry_item, carry_items, carry_field}
 use Rattle.vms_check_laws.proofs.SameTests.{Agree, NamedRest, same_there}
@@ -27,15 +26,12 @@ use Rattle.vms_check_laws.proofs.Describing.{numbers_length, constant_length, th
 use Rattle.vms_check_laws.proofs.Premises.{Table, IsSingle, CountFits, CountNamed, OldGood}
 
 module _ (ks : List Comparer) (cs : List Carrier) (ms ns : List Meaning) (a b : Desc) (v w : ℕ) (part part' : Part) (o n : ℕ → Option ℕ)
-    (numbers numbers' : List ℤ) (at at' : ℕ) (below below' : ℕ) (table : Table ks cs ms ns numbers numbers' below below') where
+    (numbers numbers' : List ℤ) (at at' : ℕ) (below below' : ℕ) (table : Table ks cs ms ns numbers numbers' below below') (ok : ℕ → Bool) where
   abbrev own : ℕ → ℕ
   own k = numbers_of (cells_in ms) a numbers at k
 
   abbrev own' : ℕ → ℕ
   own' k = numbers_of (cells_in ns) b numbers' at' k
-
-  abbrev ok : ℕ → Bool
-  ok k = is_steady_in b k
 
   abbrev AllLinked : List Entry → List Entry → Type 0
   AllLinked es fs = Linked ks a b v w part part' o n cs (cells_in ms) (cells_in ns) numbers numbers' own at at' below' table.sized es fs

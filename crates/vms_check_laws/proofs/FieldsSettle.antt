@@ -131,7 +131,7 @@ module _ (ks : List Comparer) (cs : List Carrier) (ms ns : List Meaning) (a b : 
 
   pair_settles : (e f : Entry) → SettledRow → Agree o n ok own own' → IsKnown ms a.fields v numbers at e → IsKnown ns b.fields w numbers' at' f → PairGood ks a b v w part part' o n e f
       → Holds numbers' (at' + f.place) (carry_field cs (cells_in ms) (cells_in ns) numbers own v at e f.field)
-      → OldGood below own e.field → EntryGood ks cs ms ns a b v w part part' o n numbers numbers' at at' below below' table f → FitsAt (field_cells (cells_in ms) a.fields e.index e.field) numbers (at + e.place)
+      → OldGood below own e.field → EntryGood ks cs ms ns a b v w part part' o n numbers numbers' at at' below below' table ok f → FitsAt (field_cells (cells_in ms) a.fields e.index e.field) numbers (at + e.place)
       → Settled (slots_at ns b.fields w own' numbers' at' f.index f.place f.field) (at' + f.place) (field_cells (cells_in ns) b.fields f.index f.field)
       (carry_field cs (cells_in ms) (cells_in ns) numbers own v at e f.field)
   pair_settles e f row agree known known' good held old new fits =
@@ -146,13 +146,13 @@ module _ (ks : List Comparer) (cs : List Carrier) (ms ns : List Meaning) (a b : 
             ∙ sym (there_here w f.field.test f.field.since f.rest own' no_parent known'.left) in
             choice_settles e.field.item f.field.item row (is_there e.field.test e.field.since v own no_parent) (is_there f.field.test f.field.since w own' no_parent)
             (counted e.index a.fields) (counted f.index b.fields) (counted f.index b.fields) e.field.default f.field.default (elements_of e.field.count own) (elements_of f.field.count own')
-            (capacity_of e.field.count) (capacity_of f.field.count) (at + e.place) (at' + f.place) same (same_elements ks cs ms ns a b v w part part' o n numbers numbers' at at' below below' table e.field.count f.field.count agree old.count new.count m.count m.room) m.item good.structs old.item new.item
-            (elements_fit e.field.count own) (elements_room ks cs ms ns a b v w part part' o n numbers numbers' at at' below below' table e.field.count f.field.count m.count m.room) fits held
+            (capacity_of e.field.count) (capacity_of f.field.count) (at + e.place) (at' + f.place) same (same_elements ks cs ms ns a b v w part part' o n numbers numbers' at at' below below' table ok e.field.count f.field.count agree old.count new.count m.count m.room) m.item good.structs old.item new.item
+            (elements_fit e.field.count own) (elements_room ks cs ms ns a b v w part part' o n numbers numbers' at at' below below' table ok e.field.count f.field.count m.count m.room) fits held
       ]
 
   settle_next : (i p : ℕ) (g : Field) (pr : Option (Option Formula)) (es after : List Entry) (slots : List Slot) (rest : List Entry → List ℤ) (cells : List Cell) → SettledRow → Agree o n ok own own' → ItemBelow below' g.item
-      → AllLinked es (entry_of i p g pr ++ after) → KnownOld es → KnownNew (entry_of i p g pr ++ after) → OldEntries ks cs ms ns a b v w part part' o n numbers numbers' at at' below below' table es → NewEntries ks cs ms ns a b v w part part' o n numbers numbers' at at' below below' table (entry_of i p g pr ++ after) → FitEntries ms a.fields v numbers at es
-      → ((es' : List Entry) → AllLinked es' after → KnownOld es' → KnownNew after → OldEntries ks cs ms ns a b v w part part' o n numbers numbers' at at' below below' table es' → NewEntries ks cs ms ns a b v w part part' o n numbers numbers' at at' below below' table after → FitEntries ms a.fields v numbers at es'
+      → AllLinked es (entry_of i p g pr ++ after) → KnownOld es → KnownNew (entry_of i p g pr ++ after) → OldEntries ks cs ms ns a b v w part part' o n numbers numbers' at at' below below' table ok es → NewEntries ks cs ms ns a b v w part part' o n numbers numbers' at at' below below' table ok (entry_of i p g pr ++ after) → FitEntries ms a.fields v numbers at es
+      → ((es' : List Entry) → AllLinked es' after → KnownOld es' → KnownNew after → OldEntries ks cs ms ns a b v w part part' o n numbers numbers' at at' below below' table ok es' → NewEntries ks cs ms ns a b v w part part' o n numbers numbers' at at' below below' table ok after → FitEntries ms a.fields v numbers at es'
       → Settled slots (at' + (p + length (field_cells (cells_in ns) b.fields i g))) cells (rest es'))
       → Settled (slots_at ns b.fields w own' numbers' at' i p g ++ slots) (at' + p) (field_cells (cells_in ns) b.fields i g ++ cells)
       (carry_next cs (cells_in ms) (cells_in ns) numbers own v at b.fields i g pr es ++ rest (entries_left cs (cells_in ms) (cells_in ns) numbers pr es))
@@ -174,7 +174,7 @@ module _ (ks : List Comparer) (cs : List Carrier) (ms ns : List Meaning) (a b : 
       (settled_at slots _ _ cells (rest es) e (go es linked.1 known.1 known'.1 old.1 new.1 fits.1))
 
   pub fields_settle : (i p : ℕ) (gs : List Field) (es : List Entry) → SettledRow → Agree o n ok own own' → FieldsBelow below' gs
-      → AllLinked es (present_from (cells_in ns) b.fields w i p gs) → KnownOld es → KnownNew (present_from (cells_in ns) b.fields w i p gs) → OldEntries ks cs ms ns a b v w part part' o n numbers numbers' at at' below below' table es → NewEntries ks cs ms ns a b v w part part' o n numbers numbers' at at' below below' table (present_from (cells_in ns) b.fields w i p gs)
+      → AllLinked es (present_from (cells_in ns) b.fields w i p gs) → KnownOld es → KnownNew (present_from (cells_in ns) b.fields w i p gs) → OldEntries ks cs ms ns a b v w part part' o n numbers numbers' at at' below below' table ok es → NewEntries ks cs ms ns a b v w part part' o n numbers numbers' at at' below below' table ok (present_from (cells_in ns) b.fields w i p gs)
       → FitEntries ms a.fields v numbers at es
       → Settled (slots_from ns b.fields w own' numbers' i (at' + p) gs) (at' + p) (cells_from (cells_in ns) b.fields i gs) (carry_from cs (cells_in ms) (cells_in ns) numbers own v w at b.fields i gs es)
   fields_settle i p [] es row agree lt linked known known' old new fits = settled_empty [] (at' + p) [] [] refl

@@ -17,7 +17,7 @@ use Rattle.vms_spec.proofs.Prefixes.{item_below}
 use Rattle.vms_spec.proofs.WellFormedLaws.{Clean, ranges, within, struct_clean, device_parts, sub_clean}
 use Rattle.vms_check_laws.proofs.SameTests.{NamedRest}
 use Rattle.vms_check_laws.proofs.Describing.{steady}
-use Rattle.vms_check_laws.proofs.Premises.{IsSingle, CountNamed, NewFields, RulesNamed}
+use Rattle.vms_check_laws.proofs.Premises.{IsSingle, CountNamed, NewGood, NewFields, RulesNamed}
 use Rattle.vms_check_laws.proofs.Counts.{IsCounting, Counter, CountKnown, OldPlains}
 use Rattle.vms_check_laws.proofs.Fitting.{ItemDefault, DefaultsGood}
 use Rattle.vms_check_laws.proofs.Structures.{OldStructs, NewStructs}
@@ -47,6 +47,15 @@ count_named : (d : Desc) (k : ℕ) (c : Count) → count_names_well d k c ≡ tr
 count_named d k One h = tt
 count_named d k (Fixed n) h = tt
 count_named d k (Counted by most) h = earlier_steady d k by (and_parts (is_earlier_in d k by) (is_counting (slice_get d.fields by)) h).0
+
+test_earlier : (d : Desc) (k : ℕ) (t : Option Formula) → test_names_well d k t ≡ true → NamedRest (is_earlier_in d k) t
+test_earlier d k None h = tt
+test_earlier d k (Some t) h = h
+
+count_earlier : (d : Desc) (k : ℕ) (c : Count) → count_names_well d k c ≡ true → CountNamed (is_earlier_in d k) c
+count_earlier d k One h = tt
+count_earlier d k (Fixed n) h = tt
+count_earlier d k (Counted by most) h = (and_parts (is_earlier_in d k by) (is_counting (slice_get d.fields by)) h).0
 
 counting : (g : Field) (i : Item) → is_counting (Some (record g { item = i })) ≡ true → IsCounting i
 counting g (Num U8) h = tt
@@ -126,6 +135,12 @@ module _ (k : ℕ) (d : Desc) where
         new_fields (suc i) fs (hold_next i f fs h),
       )
 
+  -- a field names earlier ones alone
+  earlier_good : (i : ℕ) (f : Field) → AllTrue (field_rules k d i f) → NewGood k (is_earlier_in d i) f
+  earlier_good i f h =
+      let q = field_facts k d i f h in
+      record { item = item_below k f.item q.below; single = single f.item f.count q.good_count; count = count_earlier d i f.count q.count; test = test_earlier d i f.test q.test }
+
   defaults_good : (i : ℕ) (fs : List Field) → HoldFrom i fs → DefaultsGood d.fields i fs
   defaults_good i [] h = tt
   defaults_good i (f ∷ fs) h =
@@ -139,13 +154,14 @@ module _ (k : ℕ) (d : Desc) where
   pub record DescGood : Type 0 where
     pub old : OldPlains k d.fields d.fields
     pub new : NewFields k (is_steady_in d) d.fields
+    pub earlier : (i : ℕ) (f : Field) → slice_get d.fields i ≡ Some f → NewGood k (is_earlier_in d i) f
     pub defaults : DefaultsGood d.fields 0 d.fields
     pub rules : RulesNamed (is_steady_in d) d.validate
 
   desc_good : (rules : List Bool) → Clean k d rules → DescGood
   desc_good rules c =
       let hold : HoldFrom 0 d.fields = λ j f e. let z : j ≡ 0 + j = omega arith in subst (λ (n : ℕ). AllTrue (field_rules k d n f)) z (c.fields j f e) in
-      record { old = old_plains 0 d.fields hold; new = new_fields 0 d.fields hold; defaults = defaults_good 0 d.fields hold; rules = rules_named d.validate c.validations }
+      record { old = old_plains 0 d.fields hold; new = new_fields 0 d.fields hold; earlier = λ i f e. earlier_good i f (c.fields i f e); defaults = defaults_good 0 d.fields hold; rules = rules_named d.validate c.validations }
 
 at_some : (xs : List Desc) (j : ℕ) → j < length xs → slice_get xs j ≡ Some (get_or xs j no_desc)
 at_some [] j lt = absurd (omega arith)
@@ -153,7 +169,7 @@ at_some (x ∷ xs) zero lt = refl
 at_some (x ∷ xs) (suc j) lt = at_some xs j (omega arith)
 
 module _ (set : Set) (well : WellFormed set) where
-  struct_good : (j : ℕ) → j < length set.structs → DescGood j (get_or set.structs j no_desc)
+  pub struct_good : (j : ℕ) → j < length set.structs → DescGood j (get_or set.structs j no_desc)
   struct_good j lt =
       let d = get_or set.structs j no_desc in
       desc_good j d (struct_rules set.structs j d) (struct_clean set well j d (at_some set.structs j lt))

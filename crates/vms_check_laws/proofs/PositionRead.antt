@@ -1,7 +1,8 @@
 -- One position: what the older set writes for a field is read by the newer as carried.
-use Rattle.std.proofs.Common.{◌≡◌, inl, inr, ℕ, zero, suc, ◌+◌, List, [], ◌∷◌, length, Option, Some, subst, arith, ℤ}
+use Rattle.std.proofs.Common.{◌≡◌, inl, inr, ℕ, zero, suc, ◌+◌, Bool, List, [], ◌∷◌, length, Option, Some, subst, arith, ℤ}
 use Rattle.std.specs.List.{slice_get}
 use Rattle.vms_spec.specs.declared.Part.{Part}
+use Rattle.vms_spec.specs.Rules.{is_earlier_in}
 use Rattle.vms_spec.specs.Sets.{Field, Desc, Set}
 use Rattle.vms_spec.specs.Layout.{Meaning, meanings, desc_cells, field_cells, numbers_of}
 use Rattle.vms_spec.specs.WellFormed.{WellFormed}
@@ -12,8 +13,9 @@ use Rattle.vms_check_laws.specs.Positions.{IsPartOf, IsRead, PositionLaw}
 use Rattle.vms_check_laws.proofs.Segments.{fits_at}
 use Rattle.vms_check_laws.proofs.Pairing.{cells_in, IsKnown, AreKnown, all_known, FitEntries, fit_entries}
 use Rattle.vms_check_laws.proofs.Premises.{Table, OldGood}
-use Rattle.vms_check_laws.proofs.FieldsCarry.{pair_carries, EntryGood, OldEntries, NewEntries}
-use Rattle.vms_check_laws.proofs.RulesCarry.{old_entries, new_entries}
+use Rattle.vms_check_laws.proofs.FieldsCarry.{pair_carries, EntryGood, OldEntries}
+use Rattle.vms_check_laws.proofs.RulesCarry.{old_entries}
+use Rattle.vms_check_laws.proofs.SameTests.{presence_named}
 use Rattle.vms_check_laws.proofs.Counts.{old_fields}
 use Rattle.vms_check_laws.proofs.Structures.{tables}
 use Rattle.vms_check_laws.proofs.Good.{DescGood, old_structs, new_structs, device_good, sub_good}
@@ -36,18 +38,18 @@ module _ (structs : List Meaning) (all : List Field) (v : ℕ) (numbers : List �
   fit_at (x ∷ es) (suc p) e h k = fit_at es p e h k.1
 
 module _ (ks : List Comparer) (cs : List Carrier) (ms ns : List Meaning) (a b : Desc) (v w : ℕ) (part part' : Part) (o n : ℕ → Option ℕ)
-    (numbers numbers' : List ℤ) (at at' : ℕ) (below below' : ℕ) (table : Table ks cs ms ns numbers numbers' below below') where
-  old_at : (es : List Entry) (p : ℕ) (e : Entry) → slice_get es p ≡ Some e → OldEntries ks cs ms ns a b v w part part' o n numbers numbers' at at' below below' table es
+    (numbers numbers' : List ℤ) (at at' : ℕ) (below below' : ℕ) (table : Table ks cs ms ns numbers numbers' below below') (ok : ℕ → Bool) where
+  old_at : (es : List Entry) (p : ℕ) (e : Entry) → slice_get es p ≡ Some e → OldEntries ks cs ms ns a b v w part part' o n numbers numbers' at at' below below' table ok es
       → OldGood below (λ k. numbers_of (cells_in ms) a numbers at k) e.field
   old_at [] p e h k = cc
   old_at (x ∷ es) zero e h k = let same : x ≡ e = cc in subst (λ (u : Entry). OldGood below (λ k. numbers_of (cells_in ms) a numbers at k) u.field) same k.0
   old_at (x ∷ es) (suc p) e h k = old_at es p e h k.1
 
-  new_at : (fs : List Entry) (p : ℕ) (f : Entry) → slice_get fs p ≡ Some f → NewEntries ks cs ms ns a b v w part part' o n numbers numbers' at at' below below' table fs
-      → EntryGood ks cs ms ns a b v w part part' o n numbers numbers' at at' below below' table f
-  new_at [] p f h k = cc
-  new_at (x ∷ fs) zero f h k = let same : x ≡ f = cc in subst (λ (u : Entry). EntryGood ks cs ms ns a b v w part part' o n numbers numbers' at at' below below' table u) same k.0
-  new_at (x ∷ fs) (suc p) f h k = new_at fs p f h k.1
+  -- a field of new names earlier ones alone
+  earlier_at : (f : Entry) → IsKnown ns b.fields w numbers' at' f → DescGood below' b → EntryGood ks cs ms ns a b v w part part' o n numbers numbers' at at' below below' table (is_earlier_in b f.index) f
+  earlier_at f known good =
+      let h = good.earlier f.index f.field known.field in
+      record { item = h.item; single = h.single; count = h.count; rest = presence_named (is_earlier_in b f.index) w f.field.test f.field.since f.rest h.test known.left }
 
 module _ (old new : Set) (good_old : WellFormed old) (good_new : WellFormed new) (a b : Desc) (of_old : IsPartOf old a) (of_new : IsPartOf new b) (v : ℕ) (part part' : Part)
     (numbers numbers' : List ℤ) (at at' : ℕ) where
@@ -76,15 +78,16 @@ module _ (old new : Set) (good_old : WellFormed old) (good_new : WellFormed new)
       let table = tables old.structs new.structs numbers numbers' (old_structs old good_old) (new_structs new good_new) k' (omega arith) in
       let z : at ≡ at + 0 = omega arith in
       let plain = old_fields (cells_in ms) k a.fields numbers at h.fits a.fields (λ by most x. x) good_a.old in
-      pair_carries ks cs ms ns a b v v part part' o n numbers numbers' at at' k k' table e f h.agree
+      let ok : ℕ → Bool = λ i. is_earlier_in b f.index i in
+      let known' = known_at ns b.fields v numbers' at' fs p f h.on_new (all_known ns b.fields v numbers' at') in
+      pair_carries ks cs ms ns a b v v part part' o n numbers numbers' at at' k k' table ok e f h.agree
       (known_at ms a.fields v numbers at es p e h.on_old (all_known ms a.fields v numbers at))
-      (known_at ns b.fields v numbers' at' fs p f h.on_new (all_known ns b.fields v numbers' at'))
+      known'
       (record { rules = h.rules; structs = h.structs })
       h.held
-      (old_at ks cs ms ns a b v v part part' o n numbers numbers' at at' k k' table es p e h.on_old
-      (old_entries ks cs ms ns a b v v part part' o n numbers numbers' at at' k k' table 0 0 a.fields plain))
-      (new_at ks cs ms ns a b v v part part' o n numbers numbers' at at' k k' table fs p f h.on_new
-      (new_entries ks cs ms ns a b v v part part' o n numbers numbers' at at' k k' table 0 0 b.fields good_b.new))
+      (old_at ks cs ms ns a b v v part part' o n numbers numbers' at at' k k' table ok es p e h.on_old
+      (old_entries ks cs ms ns a b v v part part' o n numbers numbers' at at' k k' table ok 0 0 a.fields plain))
+      (earlier_at ks cs ms ns a b v v part part' o n numbers numbers' at at' k k' table ok f known' good_b)
       (fit_at ms a.fields v numbers at es p e h.on_old (fit_entries ms a.fields v numbers at 0 0 a.fields (fits_at (desc_cells (cells_in ms) a) numbers at (at + 0) z h.fits)))
 
 pub position_stands : PositionLaw

@@ -7,7 +7,6 @@ use Rattle.vms_spec.specs.Tests.{truth}
 use Rattle.vms_spec.specs.Layout.{Rule, Meaning, no_parent, field_cells, numbers_of, all_hold}
 use Rattle.vms_spec.specs.declared.Part.{Part}
 use Rattle.vms_spec.specs.WellFormed.{here}
-use Rattle.vms_spec.specs.Rules.{is_steady_in}
 use Rattle.vms_check.specs.Reducing.{presence, Reduced, Known, Open, reduced, truth_of}
 use Rattle.vms_check.specs.Comparing.{Entry, entry_of, present_from, Comparer, compare_validations, is_kept, same_reduced}
 use Rattle.vms_check.specs.Carrying.{Carrier}
@@ -22,15 +21,12 @@ use Rattle.vms_check_laws.proofs.Premises.{Table, OldGood, NewGood, RulesNamed, 
 use Rattle.vms_check_laws.proofs.FieldsCarry.{OldEntries, NewEntries}
 
 module _ (ks : List Comparer) (cs : List Carrier) (ms ns : List Meaning) (a b : Desc) (v w : ℕ) (part part' : Part) (o n : ℕ → Option ℕ)
-    (numbers numbers' : List ℤ) (at at' : ℕ) (below below' : ℕ) (table : Table ks cs ms ns numbers numbers' below below') where
+    (numbers numbers' : List ℤ) (at at' : ℕ) (below below' : ℕ) (table : Table ks cs ms ns numbers numbers' below below') (ok : ℕ → Bool) where
   abbrev own : ℕ → ℕ
   own k = numbers_of (cells_in ms) a numbers at k
 
   abbrev own' : ℕ → ℕ
   own' k = numbers_of (cells_in ns) b numbers' at' k
-
-  abbrev ok : ℕ → Bool
-  ok k = is_steady_in b k
 
   abbrev AllLinked : List Entry → List Entry → Type 0
   AllLinked es fs = Linked ks a b v w part part' o n cs (cells_in ms) (cells_in ns) numbers numbers' own at at' below' table.sized es fs
@@ -83,18 +79,18 @@ module _ (ks : List Comparer) (cs : List Carrier) (ms ns : List Meaning) (a b : 
 
   -- ---- premises over whole field lists
 
-  old_entry : (i p : ℕ) (f : Field) (pr : Option (Option Formula)) (es : List Entry) → OldGood below own f → OldEntries ks cs ms ns a b v w part part' o n numbers numbers' at at' below below' table es → OldEntries ks cs ms ns a b v w part part' o n numbers numbers' at at' below below' table (entry_of i p f pr ++ es)
+  old_entry : (i p : ℕ) (f : Field) (pr : Option (Option Formula)) (es : List Entry) → OldGood below own f → OldEntries ks cs ms ns a b v w part part' o n numbers numbers' at at' below below' table ok es → OldEntries ks cs ms ns a b v w part part' o n numbers numbers' at at' below below' table ok (entry_of i p f pr ++ es)
   old_entry i p f None es h more = more
   old_entry i p f (Some rest) es h more = (h, more)
 
-  pub old_entries : (i p : ℕ) (fs : List Field) → OldFields below own fs → OldEntries ks cs ms ns a b v w part part' o n numbers numbers' at at' below below' table (present_from (cells_in ms) a.fields v i p fs)
+  pub old_entries : (i p : ℕ) (fs : List Field) → OldFields below own fs → OldEntries ks cs ms ns a b v w part part' o n numbers numbers' at at' below below' table ok (present_from (cells_in ms) a.fields v i p fs)
   old_entries i p [] h = tt
   old_entries i p (f ∷ fs) h = old_entry i p f (presence v f.test f.since) _ h.0 (old_entries (suc i) (p + length (field_cells (cells_in ms) a.fields i f)) fs h.1)
 
-  new_entry : (i p : ℕ) (f : Field) (pr : Option (Option Formula)) (fs : List Entry) → presence w f.test f.since ≡ pr → NewGood below' ok f → NewEntries ks cs ms ns a b v w part part' o n numbers numbers' at at' below below' table fs → NewEntries ks cs ms ns a b v w part part' o n numbers numbers' at at' below below' table (entry_of i p f pr ++ fs)
+  new_entry : (i p : ℕ) (f : Field) (pr : Option (Option Formula)) (fs : List Entry) → presence w f.test f.since ≡ pr → NewGood below' ok f → NewEntries ks cs ms ns a b v w part part' o n numbers numbers' at at' below below' table ok fs → NewEntries ks cs ms ns a b v w part part' o n numbers numbers' at at' below below' table ok (entry_of i p f pr ++ fs)
   new_entry i p f None fs e h more = more
   new_entry i p f (Some rest) fs e h more = (record { item = h.item; single = h.single; count = h.count; rest = presence_named ok w f.test f.since rest h.test e }, more)
 
-  pub new_entries : (i p : ℕ) (fs : List Field) → NewFields below' ok fs → NewEntries ks cs ms ns a b v w part part' o n numbers numbers' at at' below below' table (present_from (cells_in ns) b.fields w i p fs)
+  pub new_entries : (i p : ℕ) (fs : List Field) → NewFields below' ok fs → NewEntries ks cs ms ns a b v w part part' o n numbers numbers' at at' below below' table ok (present_from (cells_in ns) b.fields w i p fs)
   new_entries i p [] h = tt
   new_entries i p (f ∷ fs) h = new_entry i p f (presence w f.test f.since) _ refl h.0 (new_entries (suc i) (p + length (field_cells (cells_in ns) b.fields i f)) fs h.1)

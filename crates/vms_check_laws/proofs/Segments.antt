@@ -47,7 +47,7 @@ fits_at cells numbers at at' e h = subst (λ (k : ℕ). FitsAt cells numbers k) 
 
 -- ---- slots
 
-zeroed_append : (numbers : List ℤ) (a b : List Slot) → zeroed numbers (a ++ b) ≡ zeroed numbers a ++ zeroed numbers b
+pub zeroed_append : (numbers : List ℤ) (a b : List Slot) → zeroed numbers (a ++ b) ≡ zeroed numbers a ++ zeroed numbers b
 zeroed_append numbers [] b = refl
 zeroed_append numbers (Number c kind capacities ∷ a) b = ap (λ (l : List ℕ). code kind (get_or numbers c (pos 0)) ++ l) (zeroed_append numbers a b) ∙ sym (append_assoc (code kind (get_or numbers c (pos 0))) (zeroed numbers a) (zeroed numbers b))
 zeroed_append numbers (Constant kind z ∷ a) b = ap (λ (l : List ℕ). code kind z ++ l) (zeroed_append numbers a b) ∙ sym (append_assoc (code kind z) (zeroed numbers a) (zeroed numbers b))

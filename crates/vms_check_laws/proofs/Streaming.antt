@@ -32,7 +32,7 @@ pub record FoundDevice (devices : List Device) (name : List ℕ) (instance j : �
   pub name_is : device.desc.name ≡ name
   pub instance_is : device.instance ≡ instance
 
-found_device : (k : ℕ) (devices : List Device) (name : List ℕ) (instance r : ℕ) → find_device k devices name instance ≡ Some r → (j : ℕ) × (r ≡ k + j) × FoundDevice devices name instance j
+pub found_device : (k : ℕ) (devices : List Device) (name : List ℕ) (instance r : ℕ) → find_device k devices name instance ≡ Some r → (j : ℕ) × (r ≡ k + j) × FoundDevice devices name instance j
 found_device k [] name instance r h = absurd (cc)
 found_device k (d ∷ devices) name instance r h =
     let choice : (c : Bool) → (bytes_eq d.desc.name name && d.instance == instance) ≡ c → (if c then Some k else find_device (suc k) devices name instance) ≡ Some r
@@ -52,7 +52,7 @@ from_map f [] j y e = absurd (cc)
 from_map f (x ∷ xs) zero y e = (x, refl)
 from_map f (x ∷ xs) (suc j) y e = from_map f xs j y e
 
-found_some : (r : Option ℕ) → is_found r ≡ true → (k : ℕ) × (r ≡ Some k)
+pub found_some : (r : Option ℕ) → is_found r ≡ true → (k : ℕ) × (r ≡ Some k)
 found_some None h = absurd (cc)
 found_some (Some k) h = (k, refl)
 
@@ -98,7 +98,7 @@ module _ (old new : Set) (good_old : WellFormed old) (good_new : WellFormed new)
     pub instance_is : device.instance ≡ d.instance
     pub same : compare_device old new i d (Some number) (Some device) ≡ None
 
-  pair : (i : ℕ) (d : Device) → slice_get old.devices i ≡ Some d → Pair i d
+  pub pair : (i : ℕ) (d : Device) → slice_get old.devices i ≡ Some d → Pair i d
   pair i d e =
       let z : 0 + i ≡ i = omega arith in
       let h = none_at (λ i d. failing_pair ((2, is_in new d) ∷ []) (here (parts.Device i)) (here parts.Set)) 0 old.devices i d rules.olds e in
@@ -122,7 +122,7 @@ module _ (old new : Set) (good_old : WellFormed old) (good_new : WellFormed new)
         same = subst (λ (n : ℕ). compare_device old new n d (Some some_k.0) (Some f.2.device) ≡ None) z at_e;
       }
 
-  back : (i : ℕ) (d : Device) → slice_get old.devices i ≡ Some d → (p : Pair i d) → find_device 0 old.devices p.device.desc.name p.device.instance ≡ Some i
+  pub back : (i : ℕ) (d : Device) → slice_get old.devices i ≡ Some d → (p : Pair i d) → find_device 0 old.devices p.device.desc.name p.device.instance ≡ Some i
   back i d e p =
       ap (λ (n : List ℕ). find_device 0 old.devices n p.device.instance) p.name_is ∙ ap (λ (n : ℕ). find_device 0 old.devices d.desc.name n) p.instance_is
       ∙ device_found old good_old i d e

@@ -2,7 +2,7 @@
 use Rattle.std.specs.Prelude.{◌≡◌, ◌⊎◌, ℕ, ◌+◌, true, List, length, Option, Some, None, ℤ}
 use Rattle.std.specs.List.{slice_get}
 use Rattle.vms_spec.specs.declared.Part.{Part}
-use Rattle.vms_spec.specs.Rules.{is_steady_in}
+use Rattle.vms_spec.specs.Rules.{is_earlier_in}
 use Rattle.vms_spec.specs.Sets.{Desc, Sub, Device, Set}
 use Rattle.vms_spec.specs.Layout.{Cell, Slot, meanings, struct_cells, desc_cells, field_slots, numbers_of}
 use Rattle.vms_spec.specs.WellFormed.{WellFormed, in_field}
@@ -51,8 +51,8 @@ module _ (old new : Set) (a b : Desc) (v : ℕ) (part part' : Part) (numbers num
     pub rules : failing_pair (pair_rules comparers_on a b v v part part' in_old in_new e f) (in_field part e.index) (in_field part' f.index) ≡ None
     pub structs : pair_structs comparers_on a b v v part part' in_old in_new e.field.item f.field.item ≡ None
     pub fits : FitsAt (desc_cells x a) numbers at
-    -- numbers that tests and counts may name are the same where their positions are
-    pub agree : (i j : ℕ) → is_steady_in b j ≡ true → same_place (in_old i) (in_new j) ≡ true → numbers_of x a numbers at i ≡ numbers_of y b numbers' at' j
+    -- numbers that tests and counts of this field may name, those of earlier fields, are the same where their positions are
+    pub agree : (i j : ℕ) → is_earlier_in b f.index j ≡ true → same_place (in_old i) (in_new j) ≡ true → numbers_of x a numbers at i ≡ numbers_of y b numbers' at' j
     pub held : Holds numbers' (at' + f.place) (carry_field carriers_on x y numbers (numbers_of x a numbers at) v at e f.field)
 
   abbrev pub old_field : Entry → List Slot

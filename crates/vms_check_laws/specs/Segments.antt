@@ -1,5 +1,5 @@
 -- Numbers that stand from a place on, and the bytes of one side read by the other.
-use Rattle.std.specs.Prelude.{◌≡◌, ℕ, ◌+◌, ◌<◌, List, length, get_or, ℤ, pos}
+use Rattle.std.specs.Prelude.{◌≡◌, ℕ, ◌+◌, ◌<◌, List, ◌++◌, length, get_or, ℤ, pos}
 use Rattle.vms_spec.specs.Layout.{Cell, no_cell, Slot}
 use Rattle.vms_spec.specs.Images.{FitsCell, Spells, zeroed, RulesHold}
 
@@ -15,3 +15,7 @@ pub record FitsAt (cells : List Cell) (numbers : List ℤ) (at : ℕ) : Type 0 w
 pub record Carries (numbers : List ℤ) (a : List Slot) (numbers' : List ℤ) (b : List Slot) : Type 0 where
   pub spells : Spells numbers' b (zeroed numbers a)
   pub rules : RulesHold a → RulesHold b
+
+-- where the other side's slots are spelled at the front of what one side wrote for its own, they take just the bytes of these
+pub record Aligns (numbers : List ℤ) (a : List Slot) (numbers' : List ℤ) (b : List Slot) : Type 0 where
+  pub rests : (body r r' : List ℕ) → Spells numbers' b body → body ++ r' ≡ zeroed numbers a ++ r → r' ≡ r

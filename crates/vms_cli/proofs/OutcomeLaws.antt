@@ -5,7 +5,7 @@ use Rattle.std.specs.Io.KnownBytes.{Appends}
 use Rattle.vms_io.specs.Causes.{Rose, AppendsPrefix, KeepsPromise}
 use Rattle.vms_io.specs.Shelves.{Held}
 use Rattle.vms_io.specs.Told.{Outlet}
-use Rattle.vms_spec.specs.Numbers.{IsBytes}
+use Rattle.vms_kinds.specs.Bytes.{IsBytes}
 use Rattle.vms_spec.specs.Values.{values_text}
 use Rattle.vms_spec.specs.Images.{Image}
 use Rattle.vms_spec.specs.Good.{IsFit}

@@ -7,7 +7,7 @@ use Rattle.vms_io.specs.Causes.{capped}
 use Rattle.vms_io.specs.Shelves.{Held}
 use Rattle.vms_io.specs.Told.{Intake, Outlet, Stock}
 use Rattle.vms_spec.specs.declared.Reason.{Reason}
-use Rattle.vms_spec.specs.Numbers.{IsBytes}
+use Rattle.vms_kinds.specs.Bytes.{IsBytes}
 use Rattle.vms_spec.specs.Heads.{FitsHeads}
 use Rattle.vms_spec.specs.Layout.{no_desc}
 use Rattle.vms_spec.specs.Sets.{Device, Set}

@@ -111,7 +111,7 @@ module _ (set : Set) (well : is_well_formed set ≡ true) where
       )
 
   -- so many bytes are no place above 2 ^ 63
-  pub most_small : devices_most set set.devices ≤ 2 ^ 32
+  pub most_small : devices_most set set.devices ≤ 2 ^ 27
   most_small = omega (arith, devices_small set.devices part_of_device, few_items set well, few_devices set well)
 
 -- ---- what is due at the start

@@ -14,7 +14,7 @@ use Rattle.vms_spec.proofs.ShippedSets.{shipped_stands}
 use Rattle.vms_script.specs.Lines.{ScriptLine, Happens, Saves, Restores as Loads}
 use Rattle.vms_script.specs.Trace.{trace_line}
 use Rattle.vms_spec.specs.Images.{Image}
-use Rattle.vms_spec.specs.Numbers.{IsBytes}
+use Rattle.vms_kinds.specs.Bytes.{IsBytes}
 use Rattle.vms_spec.specs.declared.Reason.{Reason}
 use Rattle.vms_stream.proofs.Stated.{one_stream_holds, one_fault_holds, never_both_holds}
 use Rattle.vms_session.proofs.EndLaws.{bytes_come}

@@ -25,7 +25,7 @@ use Rattle.vms_spec.proofs.ShippedSets.{shipped_stands}
 use Rattle.vms_selfdesc.proofs.Bounds.{shipped_holds}
 use Rattle.vms_spec.specs.Images.{Image}
 use Rattle.vms_spec.specs.Layout.{first}
-use Rattle.vms_spec.specs.Numbers.{IsBytes}
+use Rattle.vms_kinds.specs.Bytes.{IsBytes}
 use Rattle.vms_spec.specs.Sets.{Set}
 use Rattle.vms_spec.specs.Streams.{is_one_of}
 use Rattle.vms_spec.specs.declared.Reason.{Reason}

@@ -5,3 +5,4 @@ pub mod Streams
 pub mod Rows
 pub mod Calls
 pub mod Stated
+pub mod Further

@@ -41,6 +41,10 @@ at_start set = record {
   spot = Before;
 }
 
+-- between sections, of which these devices' came
+abbrev pub between : Option (List ℕ) → List Image → List Bool → Tail → Bool → Bool → State
+between machine images came tail first after = record { machine = machine; images = images; came = came; tail = tail; spot = Free first after }
+
 abbrev pub or_none : Option Image → Image
 or_none None = no_image
 or_none (Some image) = image

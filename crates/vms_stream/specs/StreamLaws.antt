@@ -1,8 +1,10 @@
 -- The laws of streams and faults, each as a statement: for every well-formed set whose instances and versions fit the four
 -- bytes that heads have for them.
-use Rattle.std.specs.Prelude.{◌≡◌, ℕ, ◌≤◌, List, [], ◌++◌, length, take, true, Option, Some, None, ◌<◌}
+use Rattle.std.specs.Prelude.{◌≡◌, ℕ, ◌+◌, ◌≤◌, List, [], ◌++◌, length, get_or, take, slice_set, Bool, true, false, Option, Some, None, ◌<◌}
+use Rattle.std.specs.List.{slice_get}
 use Rattle.vms_spec.specs.declared.Reason.{Reason}
 use Rattle.vms_kinds.specs.Bytes.{IsBytes}
+use Rattle.vms_spec.specs.declared.Reason.TheVariants as reasons
 use Rattle.vms_spec.specs.Sets.{Device, Set}
 use Rattle.vms_spec.specs.Images.{Image}
 use Rattle.vms_spec.specs.Streams.{IsReady, IsConfiguration, IsTrailer, optional, configuration, trailer, written_section, written, AreReady}
@@ -10,13 +12,14 @@ use Rattle.vms_spec.specs.WellFormed.{WellFormed}
 use Rattle.vms_spec.specs.Readings.{Reading, Accepted}
 use Rattle.vms_spec.specs.Units.{Piece, spelled}
 use Rattle.vms_spec.specs.Heads.{FitsHeads}
-use Rattle.vms_stream.specs.SoFar.{images, machine}
+use Rattle.vms_stream.specs.SoFar.{Tail, Footed, Bare, images, machine}
 use Rattle.vms_stream.specs.Dues.{Due}
 use Rattle.vms_stream.specs.Faults.{Front, Fault}
 use Rattle.vms_stream.specs.Finding.{Whole, unit_at}
-use Rattle.vms_stream.specs.Judge.{reading}
+use Rattle.vms_stream.specs.Judge.{judge, reading}
+use Rattle.vms_bodies.specs.Whole.{reading_on}
 use Rattle.vms_stream.specs.Streams.{IsSection, IsStream, Takes}
-use Rattle.vms_stream.specs.State.{State, at_start, by_state}
+use Rattle.vms_stream.specs.State.{State, at_start, between, by_state}
 use Rattle.vms_stream.specs.Laws.{Ends}
 
 -- ---- the judge
@@ -35,6 +38,37 @@ abbrev pub TakenLaw : Type 0
 TakenLaw = (set : Set) (names : List (List ℕ)) → WellFormed set → FitsHeads set → (input : List ℕ) (n : ℕ) (machine : Option (List ℕ)) (images : List Image)
     → Takes set names input n machine images
     → (end : State) × (reading (by_state set names) (at_start set) input ≡ Some (Accepted n end)) × (end.machine ≡ machine) × (end.images ≡ images)
+
+-- ---- a section at a front, whatever follows it
+
+-- the section of a device that hasn't come is read, and the reading goes on behind it
+abbrev pub SectionReadLaw : Type 0
+SectionReadLaw = (set : Set) (names : List (List ℕ)) → WellFormed set → FitsHeads set → (k : ℕ) (d : Device) (image : Image) → slice_get set.devices k ≡ Some d
+    → (machine : Option (List ℕ)) (images : List Image) (came : List Bool) (tail : Tail) (first after : Bool) → k < length images → slice_get came k ≡ Some false → (tail ≡ Bare → ⊥)
+    → (id place : ℕ) (bytes rest : List ℕ) → IsSection set d image id true bytes
+    → reading_on (judge (by_state set names)) (between machine images came tail first after) place (bytes ++ rest)
+    ≡ reading_on (judge (by_state set names)) (between machine (slice_set images k image) (slice_set came k true) Footed false false) (place + length bytes) rest
+
+-- a section stands at the front, of a device that hasn't come
+pub record BeginsSection (set : Set) (came : List Bool) (rest : List ℕ) : Type 0 where
+  pub number : ℕ
+  pub device : Device
+  pub there : slice_get set.devices number ≡ Some device
+  pub new : slice_get came number ≡ Some false
+  pub id : ℕ
+  pub image : Image
+  pub footed : Bool
+  pub bytes : List ℕ
+  pub after : List ℕ
+  pub is : IsSection set device image id footed bytes
+  pub spelled : rest ≡ bytes ++ after
+
+-- where a reading between sections ends well and a section's mark stands at the front, a section stands there
+abbrev pub SectionFoundLaw : Type 0
+SectionFoundLaw = (set : Set) (names : List (List ℕ)) → WellFormed set → FitsHeads set
+    → (machine : Option (List ℕ)) (images : List Image) (came : List Bool) (tail : Tail) (first after : Bool) → length images ≡ length set.devices → length came ≡ length set.devices
+    → (place : ℕ) (rest : List ℕ) (n : ℕ) (end : State) → IsBytes rest → reading_on (judge (by_state set names)) (between machine images came tail first after) place rest ≡ Some (Accepted n end)
+    → get_or rest 0 0 ≡ 0x04 → BeginsSection set came rest
 
 -- ---- units
 
@@ -106,6 +140,11 @@ OneFaultLaw = (set : Set) (names : List (List ℕ)) (input : List ℕ) → IsByt
     → (place other_place : ℕ) (section other_section : Option ℕ) (reason other_reason : Reason) (size other_size : ℕ)
     → Fault set names input place section reason size → Fault set names input other_place other_section other_reason other_size
     → AreOneFault place other_place section other_section reason other_reason size other_size
+
+-- a fault stays whatever follows the input, but for one at which the input ends
+abbrev pub FurtherLaw : Type 0
+FurtherLaw = (set : Set) (names : List (List ℕ)) (input more : List ℕ) (place : ℕ) (section : Option ℕ) (reason : Reason) (size : ℕ) → (reason ≡ reasons.Truncated → ⊥)
+    → Fault set names input place section reason size → Fault set names (input ++ more) place section reason size
 
 -- ---- what the writer gives
 

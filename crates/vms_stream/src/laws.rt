@@ -2,7 +2,7 @@
 //! judge over any state), `specs/StreamLaws.antt` (streams and faults) and `specs/Judged.antt` (what the calls of a cursor see).
 ghost use Rattle.vms_stream.specs.Laws.{FoundLaw, RefusesLaw, StateRefusesLaw};
 ghost use Rattle.vms_stream.specs.Judged.{JudgedLaw, NextLaw, SeenLaw};
-ghost use Rattle.vms_stream.specs.StreamLaws.{ToldLaw, AcceptedLaw, TakenLaw, LocalLaw, UnitsLaw, StreamLaw, FrontLaw, OneStreamLaw, EitherLaw, NeverBothLaw, OneFaultLaw, SectionLaw, WrittenLaw};
+ghost use Rattle.vms_stream.specs.StreamLaws.{ToldLaw, AcceptedLaw, TakenLaw, LocalLaw, UnitsLaw, StreamLaw, FrontLaw, OneStreamLaw, EitherLaw, NeverBothLaw, OneFaultLaw, FurtherLaw, SectionLaw, SectionReadLaw, SectionFoundLaw, WrittenLaw};
 
 /// What is found is spelled there and may come, what is spelled there and may come is found, and nothing is found exactly
 /// where none that may come is there.
@@ -35,6 +35,18 @@ pub fn accepted_law()
 /// A stream of the set at the front of an input is accepted by the judge, with its length, its machine and its images.
 pub fn taken_law()
     ensures { TakenLaw }
+{}
+
+/// A footed section of a device that has not come is read at the front of what is left, whatever follows it, and the reading
+/// goes on behind it.
+pub fn section_read_law()
+    ensures { SectionReadLaw }
+{}
+
+/// Where a reading between sections ends well and a section's mark stands at the front, a section of a device that has not
+/// come stands there.
+pub fn section_found_law()
+    ensures { SectionFoundLaw }
 {}
 
 /// Which unit stands at a front is said by the bytes of that unit alone.
@@ -75,6 +87,12 @@ pub fn never_both_law()
 /// An input has one fault at most: place, device, reason and the length of the unit at fault are determined by its bytes.
 pub fn one_fault_law()
     ensures { OneFaultLaw }
+{}
+
+/// A fault of an input stays whatever follows it, but for one at which the input ends.
+#[tactic(auto, using(crate::proofs::Further::further_holds))]
+pub fn further_law()
+    ensures { FurtherLaw }
 {}
 
 /// The section that the writer gives for a ready image is a section of it with a footer, for every set.

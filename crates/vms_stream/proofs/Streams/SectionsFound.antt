@@ -43,7 +43,7 @@ pub record HasRead (set : Set) (names : List (List ℕ)) (machine : Option (List
   pub opens : OpensAt set names machine (slice_set images k image) (slice_set came k true) (tail_of footed) (place + length bytes) after n end
 
 module _ (set : Set) (names : List (List ℕ)) (good : IsGood set) where
-  section_found : (machine : Option (List ℕ)) (images : List Image) (came : List Bool) (t : Tail) (place : ℕ) (rest : List ℕ) (n : ℕ) (end : State) → length came ≡ length set.devices → IsBytes rest
+  pub section_found : (machine : Option (List ℕ)) (images : List Image) (came : List Bool) (t : Tail) (place : ℕ) (rest : List ℕ) (n : ℕ) (end : State) → length came ≡ length set.devices → IsBytes rest
       → (k id v : ℕ) (d : Device) (more : List ℕ) → id < 4294967296 → rest ≡ section_head id d.desc.name d.instance v ++ more → slice_get set.devices k ≡ Some d → k < length images → IsVersionOf d.desc v
       → reading_on (judge (by_state set names)) (opened set machine images came t k id d v) (place + length (section_head id d.desc.name d.instance v)) more ≡ Some (Accepted n end)
       → HasRead set names machine images came t k d place rest n end

@@ -75,6 +75,8 @@ pub record ReadsTo (set : Set) (names : List (List ℕ)) (s : State) (machine : 
   pub images_are : state.images ≡ images
   pub came_is : state.came ≡ came
   pub tail_is : behind set (open_at state.spot) state.tail ≡ t
+  -- behind a footer the next section may begin
+  pub free_spot : t ≡ Footed → state.spot ≡ Free false false
   pub reads : reading_on (judge (by_state set names)) s place (bytes ++ rest) ≡ reading_on (judge (by_state set names)) state (place + length bytes) rest
 
 module _ (set : Set) (names : List (List ℕ)) (good : IsGood set) (machine : Option (List ℕ)) (images : List Image) (came : List Bool) (t : Tail) (k id : ℕ) (d : Device) (here : slice_get set.devices k ≡ Some d) (room : k < length images)
@@ -102,6 +104,7 @@ module _ (set : Set) (names : List (List ℕ)) (good : IsGood set) (machine : Op
         images_are = refl;
         came_is = refl;
         tail_is = refl;
+        free_spot = λ e. refl;
         reads = unit_on set names s (Foot id) place rest (held_is set names machine images came t k id d here room image part i done)
             (subst (λ (x : Due). May x (Foot id)) (sym due) (AtFoot k t id (foot_may t a) id_fits))
             (foot_passes set names ((g set names).due s) (known_at set s) id refl);
@@ -119,6 +122,7 @@ module _ (set : Set) (names : List (List ℕ)) (good : IsGood set) (machine : Op
         images_are = refl;
         came_is = refl;
         tail_is = refl;
+        free_spot = λ e. cc;
         reads = ap (λ (x : ℕ). reading_on (judge (by_state set names)) s x rest) (sym (add-zero place));
       }
 
@@ -176,6 +180,7 @@ module _ (set : Set) (names : List (List ℕ)) (good : IsGood set) (machine : Op
         images_are = r.images_are;
         came_is = r.came_is;
         tail_is = r.tail_is;
+        free_spot = r.free_spot;
         reads = ap (reading_on J start place) is
             ∙ unit_on set names start (SubHead name w) place (s.body ++ more) (held_is set names machine images came t k id d here room (so now) part i done)
             (subst (λ (x : Due). May x (SubHead name w)) (sym due) (AtSubHead k t name w w_fits)) none
@@ -206,6 +211,7 @@ module _ (set : Set) (names : List (List ℕ)) (good : IsGood set) (machine : Op
         images_are = r.images_are;
         came_is = r.came_is;
         tail_is = r.tail_is;
+        free_spot = r.free_spot;
         reads = ap (reading_on J (st fresh None 0) place) (append_assoc body (tail ++ closing footed id) rest)
             ∙ reads.2
             ∙ r.reads
@@ -253,7 +259,7 @@ module _ (set : Set) (names : List (List ℕ)) (good : IsGood set) where
       plus_none place = omega arith
 
   -- a section of a device, and what follows it
-  section_on : (k : ℕ) (d : Device) (image : Image) → slice_get set.devices k ≡ Some d → (s : State) → IsFree set names s → k < length s.images → slice_get s.came k ≡ Some false → (footed : Bool) → Agrees (behind set (open_at s.spot) s.tail) footed
+  pub section_on : (k : ℕ) (d : Device) (image : Image) → slice_get set.devices k ≡ Some d → (s : State) → IsFree set names s → k < length s.images → slice_get s.came k ≡ Some false → (footed : Bool) → Agrees (behind set (open_at s.spot) s.tail) footed
       → (place id : ℕ) (front rest : List ℕ) → IsSection set d image id footed front
       → ReadsTo set names s s.machine (slice_set s.images k image) (slice_set s.came k true) (tail_of footed) place front rest
   section_on k d image there s free room new footed fits place id front rest is =
@@ -275,6 +281,7 @@ module _ (set : Set) (names : List (List ℕ)) (good : IsGood set) where
         images_are = r.images_are;
         came_is = r.came_is;
         tail_is = r.tail_is;
+        free_spot = r.free_spot;
         reads = ap (λ (l : List ℕ). reading_on J s place (l ++ rest)) whole
             ∙ ap (reading_on J s place) (append_assoc head (is.body ++ (is.tail ++ close)) rest)
             ∙ unit_on set names s (Head id d.desc.name d.instance image.version) place ((is.body ++ (is.tail ++ close)) ++ rest) free.held

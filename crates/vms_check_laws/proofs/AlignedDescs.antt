@@ -1,0 +1,202 @@
+-- Descriptions at one front: position by position, then the structures by their numbers; and a position at which two constants
+-- differ, which the newer set can't read.
+use Rattle.std.proofs.Common.{◌≡◌, ◌⊎◌, inl, inr, ℕ, zero, suc, ◌+◌, ◌<◌, ◌≤◌, Bool, true, false, nat_lt, List, [], ◌∷◌, ◌++◌, length, take, Option, Some, None, refl, sym, ap, ◌∙◌, subst, arith, ℤ, if◌then◌else◌}
+use Rattle.std.specs.List.{slice_get}
+use Rattle.std.proofs.lemmas.Bool.{and_parts, ltb-true}
+use Rattle.std.proofs.Math.Nat.{eq-or-lt_of_le}
+use Rattle.std.proofs.lemmas.List.{take_all}
+use Rattle.vms_kinds.specs.declared.Kind.{Kind}
+use Rattle.vms_kinds.specs.declared.Item.{Item}
+use Rattle.vms_kinds.specs.declared.Item.TheVariants.{Equal}
+use Rattle.vms_kinds.specs.Codes.{code}
+use Rattle.vms_spec.specs.declared.Count.{Count}
+use Rattle.vms_spec.specs.declared.Count.TheVariants.{One, Fixed, Counted}
+use Rattle.vms_spec.specs.declared.Part.{Part}
+use Rattle.vms_spec.specs.Rules.{is_steady_in, is_earlier_in, is_one}
+use Rattle.vms_spec.specs.Sets.{Formula, Field, Desc}
+use Rattle.vms_spec.specs.Tests.{is_there}
+use Rattle.vms_spec.specs.Layout.{Slot, Constant, Meaning, no_parent, times, counted, elements_of, item_slots, item_size, numbers_of}
+use Rattle.vms_spec.specs.Images.{Spells, zeroed}
+use Rattle.vms_spec.proofs.KindLaws.{length-code}
+use Rattle.vms_check.specs.Comparing.{Entry, Comparer}
+use Rattle.vms_check.specs.Carrying.{Carrier}
+use Rattle.vms_check_laws.proofs.Presence.{there}
+use Rattle.vms_check_laws.proofs.SameTests.{Agree, presence_named}
+use Rattle.vms_check_laws.proofs.Pairing.{cells_in, entries_slots, IsKnown, AreKnown, FitEntries}
+use Rattle.vms_check_laws.proofs.Linking.{PairGood, Zip}
+use Rattle.vms_check_laws.proofs.Describing.{there_here}
+use Rattle.vms_check_laws.proofs.Premises.{Table, IsSingle, NewGood}
+use Rattle.vms_check_laws.proofs.FieldsCarry.{EntryGood, OldEntries}
+use Rattle.vms_check_laws.specs.Segments.{Aligns}
+use Rattle.vms_check_laws.proofs.Aligned.{apart, same_bytes, spells_split, behind_first, aligns_nil, aligns_constant}
+use Rattle.vms_check_laws.proofs.AlignedFields.{AlignTable, OldSlots, NewSlots, pair_aligns, pair_same}
+use Rattle.vms_check_laws.proofs.Positioned.{same_some, Above, Upto, upto_next, upto_here, upto_earlier}
+
+-- each field names earlier ones alone
+abbrev pub NamesEarlier : ℕ → Desc → Type 0
+NamesEarlier below b = (j : ℕ) (f : Field) → slice_get b.fields j ≡ Some f → NewGood below (is_earlier_in b j) f
+
+-- two constants that have other bytes
+pub record Clash (e f : Entry) : Type 0 where
+  pub kind : Kind
+  pub value : ℤ
+  pub other : ℤ
+  pub item : e.field.item ≡ Equal kind value
+  pub item' : f.field.item ≡ Equal kind other
+  pub differ : code kind value ≡ code kind other → ⊥
+  pub rest : e.rest ≡ None
+  pub rest' : f.rest ≡ None
+
+module _ (ks : List Comparer) (a b : Desc) (v w : ℕ) (part part' : Part) (o n : ℕ → Option ℕ) where
+  -- no rule fails at the first k positions
+  abbrev pub GoodFirst : ℕ → List Entry → List Entry → Type 0
+  GoodFirst zero es fs = Unit {0}
+  GoodFirst (suc k) (e ∷ es) (f ∷ fs) = PairGood ks a b v w part part' o n e f × GoodFirst k es fs
+  GoodFirst (suc k) _ _ = ⊥
+
+  zip_first : (es fs : List Entry) → Zip ks a b v w part part' o n es fs → GoodFirst (length es) es fs × (length fs ≡ length es)
+  zip_first [] [] zip = (tt, refl)
+  zip_first [] (f ∷ fs) zip = absurd zip
+  zip_first (e ∷ es) [] zip = absurd zip
+  zip_first (e ∷ es) (f ∷ fs) zip = let more = zip_first es fs zip.1 in ((zip.0, more.0), ap suc more.1)
+
+  pub good_first : (k : ℕ) (es fs : List Entry) → k ≤ length es → k ≤ length fs
+      → ((q : ℕ) (e f : Entry) → q < k → slice_get es q ≡ Some e → slice_get fs q ≡ Some f → PairGood ks a b v w part part' o n e f) → GoodFirst k es fs
+  good_first zero es fs le le' h = tt
+  good_first (suc k) [] fs le le' h = absurd (omega (arith, le))
+  good_first (suc k) (e ∷ es) [] le le' h = absurd (omega (arith, le'))
+  good_first (suc k) (e ∷ es) (f ∷ fs) le le' h =
+      (h 0 e f (omega arith) refl refl, good_first k es fs (omega (arith, le)) (omega (arith, le')) (λ q x y lt. h (suc q) x y (omega (arith, lt))))
+
+  -- no rule fails before two constants that differ
+  abbrev pub Clashes : List Entry → List Entry → Type 0
+  Clashes (e ∷ es) (f ∷ fs) = Clash e f ⊎ (PairGood ks a b v w part part' o n e f × Clashes es fs)
+  Clashes _ _ = ⊥
+
+module _ (ks : List Comparer) (cs : List Carrier) (ms ns : List Meaning) (a b : Desc) (v w : ℕ) (part part' : Part) (o n : ℕ → Option ℕ)
+    (numbers numbers' : List ℤ) (at at' : ℕ) (below below' : ℕ) (table : Table ks cs ms ns numbers numbers' below below') (rows : AlignTable ks ms ns numbers numbers' below below') where
+  abbrev own : ℕ → ℕ
+  own k = numbers_of (cells_in ms) a numbers at k
+
+  abbrev own' : ℕ → ℕ
+  own' k = numbers_of (cells_in ns) b numbers' at' k
+
+  abbrev old_slots : Entry → List Slot
+  old_slots e = OldSlots ks cs ms ns a b v w part part' o n numbers numbers' at at' below below' table rows e
+
+  abbrev new_slots : Entry → List Slot
+  new_slots f = NewSlots ks cs ms ns a b v w part part' o n numbers numbers' at at' below below' table rows f
+
+  abbrev olds : List Entry → List Slot
+  olds es = entries_slots ms a.fields v own numbers at es
+
+  abbrev news : List Entry → List Slot
+  news fs = entries_slots ns b.fields w own' numbers' at' fs
+
+  -- numbers that tests and counts may name agree, at the positions below p
+  abbrev pub Same : ℕ → Type 0
+  Same p = (i j q : ℕ) → is_steady_in b j ≡ true → o i ≡ Some q → n j ≡ Some q → q < p → own i ≡ own' j
+
+  earlier_agree : (p i : ℕ) (f : Entry) (fs : List Entry) → Upto n p (f ∷ fs) → Above i (f ∷ fs) → Same p → Agree o n (λ j. is_earlier_in b f.index j) own own'
+  earlier_agree p i f fs up above same k j named place =
+      let s = same_some (o k) (n j) place in
+      let e = and_parts (nat_lt j f.index) (is_steady_in b j) named in
+      same k j s.0 e.1 s.1 s.2 (upto_earlier n p i f fs up above j s.0 (ltb-true j f.index e.0) s.2)
+
+  same_next : (p : ℕ) (e f : Entry) (es fs : List Entry) → Upto o p (e ∷ es) → Upto n p (f ∷ fs) → Same p → (is_steady_in b f.index ≡ true → own e.index ≡ own' f.index) → Same (suc p)
+  same_next p e f es fs up up' same here i j q named oi nj lt =
+      let le : q ≤ p = omega arith in
+      elim (eq-or-lt_of_le le) [
+        | inl is ↦
+            let ei : e.index ≡ i = upto_here o p e es up i (oi ∙ ap Some is) in
+            let fj : f.index ≡ j = upto_here n p f fs up' j (nj ∙ ap Some is) in
+            ap (λ (k : ℕ). own k) (sym ei) ∙ here (ap (λ (k : ℕ). is_steady_in b k) fj ∙ named) ∙ ap (λ (k : ℕ). own' k) fj
+        | inr less ↦ same i j q named oi nj less
+      ]
+
+  abbrev GoodAt : Entry → Type 0
+  GoodAt f = EntryGood ks cs ms ns a b v w part part' o n numbers numbers' at at' below below' table (λ j. is_earlier_in b f.index j) f
+
+  abbrev OldGoods : List Entry → Type 0
+  OldGoods es = OldEntries ks cs ms ns a b v w part part' o n numbers numbers' at at' below below' table (λ j. is_steady_in b j) es
+
+  good_at : NamesEarlier below' b → (f : Entry) → IsKnown ns b.fields w numbers' at' f → GoodAt f
+  good_at named f known =
+      let h = named f.index f.field known.field in
+      record { item = h.item; single = h.single; count = h.count; rest = presence_named (λ j. is_earlier_in b f.index j) w f.field.test f.field.since f.rest h.test known.left }
+
+  module _ (named : NamesEarlier below' b) where
+    pub front_aligns : (k : ℕ) (es fs : List Entry) (p i : ℕ) → GoodFirst ks a b v w part part' o n k es fs → AreKnown ms a.fields v numbers at es → AreKnown ns b.fields w numbers' at' fs → OldGoods es
+        → FitEntries ms a.fields v numbers at es → Upto o p es → Upto n p fs → Above i fs → Same p → Aligns numbers (olds (take k es)) numbers' (news (take k fs))
+    front_aligns zero es fs p i good known known' old fits up up' above same = aligns_nil numbers numbers'
+    front_aligns (suc k) [] fs p i good known known' old fits up up' above same = absurd good
+    front_aligns (suc k) (e ∷ es) [] p i good known known' old fits up up' above same = absurd good
+    front_aligns (suc k) (e ∷ es) (f ∷ fs) p i good known known' old fits up up' above same = record {
+      rests = λ body r r' s h.
+          let more_old = olds (take k es) in
+          let more_new = news (take k fs) in
+          let t = spells_split numbers' (new_slots f) more_new body s in
+          let split = behind_first numbers (old_slots e) more_old t.0 t.1 r r' (ap (λ (l : List ℕ). l ++ r') (sym t.2) ∙ h) in
+          let here = pair_aligns ks cs ms ns a b v w part part' o n numbers numbers' at at' below below' table rows (λ j. is_earlier_in b f.index j) e f (earlier_agree p i f fs up' above same)
+          known.0 known'.0 good.0 old.0 (good_at named f known'.0) fits.0 in
+          let equal = λ (steady : is_steady_in b f.index ≡ true).
+          pair_same ks cs ms ns a b v w part part' o n numbers numbers' at at' below below' table rows e f known.0 known'.0 good.0 steady t.0 (zeroed numbers more_old ++ r) (t.1 ++ r') t.3 split in
+          let more = front_aligns k es fs (suc p) (suc f.index) good.1 known.1 known'.1 old.1 fits.1 (upto_next o p e es up) (upto_next n p f fs up') above.1 (same_next p e f es fs up up' same equal) in
+          more.rests t.1 r r' t.4 (here.rests t.0 (zeroed numbers more_old ++ r) (t.1 ++ r') t.3 split);
+    }
+
+    pub entries_align : (es fs : List Entry) (p i : ℕ) → Zip ks a b v w part part' o n es fs → AreKnown ms a.fields v numbers at es → AreKnown ns b.fields w numbers' at' fs → OldGoods es
+        → FitEntries ms a.fields v numbers at es → Upto o p es → Upto n p fs → Above i fs → Same p → Aligns numbers (olds es) numbers' (news fs)
+    entries_align es fs p i zip known known' old fits up up' above same =
+        let whole = zip_first ks a b v w part part' o n es fs zip in
+        subst (λ (l : List Entry). Aligns numbers (olds l) numbers' (news fs)) (take_all (length es) es (omega arith))
+        (subst (λ (l : List Entry). Aligns numbers (olds (take (length es) es)) numbers' (news l)) (take_all (length es) fs (omega (arith, whole.1)))
+        (front_aligns (length es) es fs p i whole.0 known known' old fits up up' above same))
+
+    -- ---- two constants that differ
+
+    constants_same : (k : Kind) (z u : ℤ) (t t' : Bool) (c d : Count) (caps caps' : List ℕ) (x y step step' : ℕ) → is_one c ≡ true → is_one d ≡ true → t ≡ true → t' ≡ true → (body r r' : List ℕ)
+        → Spells numbers' (if t' then times (elements_of d own') (item_slots ns (Equal k u) caps' numbers') y step' else []) body
+        → body ++ r' ≡ zeroed numbers (if t then times (elements_of c own) (item_slots ms (Equal k z) caps numbers) x step else []) ++ r → code k z ≡ code k u
+    constants_same k z u true true One One caps caps' x y step step' one one' is is' body r r' s h =
+        let same = same_bytes numbers (Constant k z ∷ []) numbers' (Constant k u ∷ []) (aligns_constant numbers numbers' k k z u refl) body r r' s h in
+        sym (apart (code k u) (code k z) [] s.0 (length-code k u ∙ sym (length-code k z)) (sym s.1 ∙ same)).0
+    constants_same k z u true true One (Fixed q) caps caps' x y step step' one one' is is' body r r' s h = absurd (cc)
+    constants_same k z u true true One (Counted by most) caps caps' x y step step' one one' is is' body r r' s h = absurd (cc)
+    constants_same k z u true true (Fixed q) d caps caps' x y step step' one one' is is' body r r' s h = absurd (cc)
+    constants_same k z u true true (Counted by most) d caps caps' x y step step' one one' is is' body r r' s h = absurd (cc)
+    constants_same k z u false t' c d caps caps' x y step step' one one' is is' body r r' s h = absurd (cc)
+    constants_same k z u true false c d caps caps' x y step step' one one' is is' body r r' s h = absurd (cc)
+
+    clash_refuses : (e f : Entry) → Clash e f → IsKnown ms a.fields v numbers at e → IsKnown ns b.fields w numbers' at' f → IsSingle e.field.item e.field.count
+        → (body r r' : List ℕ) → Spells numbers' (new_slots f) body → body ++ r' ≡ zeroed numbers (old_slots e) ++ r → ⊥
+    clash_refuses e f clash known known' single body r r' spells h =
+        let t = is_there e.field.test e.field.since v own no_parent in
+        let t' = is_there f.field.test f.field.since w own' no_parent in
+        let there_is : t ≡ true = there_here v e.field.test e.field.since e.rest own no_parent known.left ∙ ap (λ (r : Option Formula). there (Some r) v own no_parent) clash.rest in
+        let there_is' : t' ≡ true = there_here w f.field.test f.field.since f.rest own' no_parent known'.left ∙ ap (λ (r : Option Formula). there (Some r) w own' no_parent) clash.rest' in
+        let one : IsSingle (Equal clash.kind clash.value) e.field.count = subst (λ (i : Item). IsSingle i e.field.count) clash.item single in
+        let one' : IsSingle (Equal clash.kind clash.other) f.field.count = subst (λ (i : Item). IsSingle i f.field.count) clash.item' (good_at named f known').single in
+        let caps = counted e.index a.fields in
+        let caps' = counted f.index b.fields in
+        let spells' = subst (λ (i : Item). Spells numbers' (if t' then times (elements_of f.field.count own') (item_slots ns i caps' numbers') (at' + f.place) (item_size (cells_in ns) i) else []) body) clash.item' spells in
+        let h' = subst (λ (i : Item). body ++ r' ≡ zeroed numbers (if t then times (elements_of e.field.count own) (item_slots ms i caps numbers) (at + e.place) (item_size (cells_in ms) i) else []) ++ r) clash.item h in
+        clash.differ (constants_same clash.kind clash.value clash.other t t' e.field.count f.field.count caps caps' (at + e.place) (at' + f.place) 0 0 one one' there_is there_is' body r r' spells' h')
+
+    pub entries_clash : (es fs : List Entry) (p i : ℕ) → Clashes ks a b v w part part' o n es fs → AreKnown ms a.fields v numbers at es → AreKnown ns b.fields w numbers' at' fs → OldGoods es
+        → FitEntries ms a.fields v numbers at es → Upto o p es → Upto n p fs → Above i fs → Same p → (body r r' : List ℕ) → Spells numbers' (news fs) body → body ++ r' ≡ zeroed numbers (olds es) ++ r → ⊥
+    entries_clash [] fs p i clashes known known' old fits up up' above same body r r' s h = absurd clashes
+    entries_clash (e ∷ es) [] p i clashes known known' old fits up up' above same body r r' s h = absurd clashes
+    entries_clash (e ∷ es) (f ∷ fs) p i clashes known known' old fits up up' above same body r r' s h =
+        let t = spells_split numbers' (new_slots f) (news fs) body s in
+        let split = behind_first numbers (old_slots e) (olds es) t.0 t.1 r r' (ap (λ (l : List ℕ). l ++ r') (sym t.2) ∙ h) in
+        elim clashes [
+          | inl clash ↦ clash_refuses e f clash known.0 known'.0 old.0.single t.0 (zeroed numbers (olds es) ++ r) (t.1 ++ r') t.3 split
+          | inr more ↦
+              let here = pair_aligns ks cs ms ns a b v w part part' o n numbers numbers' at at' below below' table rows (λ j. is_earlier_in b f.index j) e f (earlier_agree p i f fs up' above same)
+              known.0 known'.0 more.0 old.0 (good_at named f known'.0) fits.0 in
+              let equal = λ (steady : is_steady_in b f.index ≡ true).
+              pair_same ks cs ms ns a b v w part part' o n numbers numbers' at at' below below' table rows e f known.0 known'.0 more.0 steady t.0 (zeroed numbers (olds es) ++ r) (t.1 ++ r') t.3 split in
+              entries_clash es fs (suc p) (suc f.index) more.1 known.1 known'.1 old.1 fits.1 (upto_next o p e es up) (upto_next n p f fs up') above.1 (same_next p e f es fs up up' same equal)
+              t.1 r r' t.4 (here.rests t.0 (zeroed numbers (olds es) ++ r) (t.1 ++ r') t.3 split)
+        ]

@@ -1,0 +1,74 @@
+-- A machine that the newer set hasn't: no stream that names it is taken.
+use Rattle.std.proofs.Common.{◌≡◌, ℕ, ◌^◌, ◌<◌, Bool, true, false, ◌&&◌, List, [], ◌∷◌, ◌++◌, length, get_or, Option, Some, None, refl, sym, ap, ◌∙◌, arith, append_assoc, if◌then◌else◌}
+use Rattle.std.specs.List.{slice_get, list_all}
+use Rattle.std.specs.Str.{bytes_eq}
+use Rattle.std.proofs.lemmas.Bool.{or_left, or_right}
+use Rattle.std.proofs.lemmas.Slice.Eq.{bytes_eq-Decides}
+use Rattle.vms_spec.specs.Sets.{Device, Set}
+use Rattle.vms_spec.specs.Images.{Image}
+use Rattle.vms_spec.specs.Streams.{be32, stream_head, configuration, end_mark, is_one_of, IsConfiguration}
+use Rattle.vms_stream.specs.Streams.{HasSection, SectionsSpell, Takes}
+use Rattle.vms_check_laws.proofs.Aligned.{apart}
+use Rattle.vms_counter_laws.specs.Candidates.{lacking}
+use Rattle.vms_counter_laws.proofs.Heads.{same_be32}
+
+-- ---- the machine
+
+pub record Lacks (names machines : List (List ℕ)) : Type 0 where
+  pub name : List ℕ
+  pub is : lacking names machines ≡ Some name
+  pub unknown : is_one_of names name ≡ false
+  pub known : is_one_of machines name ≡ true
+
+pub lacks : (names machines : List (List ℕ)) → list_all (is_one_of names) machines ≡ false → Lacks names machines
+lacks names [] h = absurd (cc)
+lacks names (m ∷ machines) h =
+    let by : (b : Bool) → is_one_of names m ≡ b → (b && list_all (is_one_of names) machines) ≡ false → Lacks names (m ∷ machines) = elim [
+      | true ↦ λ e k.
+          let r = lacks names machines k in
+          record { name = r.name; is = ap (λ (c : Bool). if c then lacking names machines else Some m) e ∙ r.is; unknown = r.unknown; known = or_right (bytes_eq m r.name) (is_one_of machines r.name) r.known }
+      | false ↦ λ e k. record { name = m; is = ap (λ (c : Bool). if c then lacking names machines else Some m) e; unknown = e; known = or_left (bytes_eq m m) (is_one_of machines m) ((bytes_eq-Decides m m).1 refl) }
+    ] in
+    by (is_one_of names m) refl h
+
+-- ---- bytes
+
+-- sections, and then the end mark, begin with no configuration's mark
+first_byte : (set : Set) (footed : Bool) (images : List Image) (order : List ℕ) (sections more : List ℕ) → SectionsSpell set footed images order sections → get_or (sections ++ (0x00 ∷ more)) 0 0 ≡ 0x07 → ⊥
+first_byte set footed images [] sections more spelled h = let f : ◌≡◌ {A = ℕ} 0x00 0x07 = ap (λ (l : List ℕ). get_or (l ++ (0x00 ∷ more)) 0 0) (sym spelled) ∙ h in cc
+first_byte set footed images (k ∷ order) sections more spelled h =
+    by (slice_get set.devices k) (slice_get images k) spelled.2
+  where
+    by : (o : Option Device) (p : Option Image) → HasSection set footed k o p spelled.0 → ⊥
+    by (Some d) (Some image) s =
+        let f : ◌≡◌ {A = ℕ} 0x04 0x07 = ap (λ (l : List ℕ). get_or ((l ++ spelled.1) ++ (0x00 ∷ more)) 0 0) (sym s.1.whole) ∙ ap (λ (l : List ℕ). get_or (l ++ (0x00 ∷ more)) 0 0) (sym spelled.4) ∙ h in
+        cc
+    by None p s = s
+    by (Some d) None s = s
+
+by_machine : (names : List (List ℕ)) (machine : Option (List ℕ)) (name named more more' : List ℕ) → is_one_of names name ≡ false → length name < 2 ^ 32 → IsConfiguration names machine named
+    → (named ≡ [] → get_or more 0 0 ≡ 0x07 → ⊥) → configuration name ++ more' ≡ named ++ more → ⊥
+by_machine names None name named more more' unknown short is no_mark h =
+    no_mark is (sym (ap (λ (l : List ℕ). get_or (l ++ more) 0 0) is) ∙ sym (ap (λ (l : List ℕ). get_or l 0 0) h))
+by_machine names (Some other) name named more more' unknown short is no_mark h =
+    let h' : configuration name ++ more' ≡ configuration other ++ more = h ∙ ap (λ (l : List ℕ). l ++ more) is.2 in
+    let bytes : be32 (length name) ≡ be32 (length other) = cc in
+    let rest : name ++ more' ≡ other ++ more = cc in
+    let long = same_be32 (length name) (length other) short (omega (arith, is.1)) bytes in
+    let same = (apart name other more more' long rest).0 in
+    let f : true ≡ false = sym is.0 ∙ ap (is_one_of names) (sym same) ∙ unknown in
+    cc
+
+pub machine_untaken : (set : Set) (names : List (List ℕ)) (name more : List ℕ) → is_one_of names name ≡ false → length name < 2 ^ 32
+    → (n : ℕ) (machine : Option (List ℕ)) (images : List Image) → Takes set names (stream_head ++ (configuration name ++ more)) n machine images → ⊥
+machine_untaken set names name more unknown short n machine images t =
+    let s = t.stream in
+    let tail = 0x00 ∷ (s.tail ++ t.rest) in
+    let is : stream_head ++ (configuration name ++ more) ≡ stream_head ++ (s.named ++ (s.sections ++ tail)) =
+    t.prefix ∙ ap (λ (l : List ℕ). l ++ t.rest) s.whole
+    ∙ append_assoc (((stream_head ++ s.named) ++ s.sections) ++ end_mark) s.tail t.rest
+    ∙ append_assoc ((stream_head ++ s.named) ++ s.sections) end_mark (s.tail ++ t.rest)
+    ∙ append_assoc (stream_head ++ s.named) s.sections (end_mark ++ (s.tail ++ t.rest)) ∙ append_assoc stream_head s.named (s.sections ++ tail) in
+    by_machine names machine name s.named (s.sections ++ tail) more unknown short s.configured
+    (λ none e. first_byte set s.footed images s.order s.sections (s.tail ++ t.rest) s.spelled e)
+    (apart stream_head stream_head (s.named ++ (s.sections ++ tail)) (configuration name ++ more) refl (sym (sym is))).1

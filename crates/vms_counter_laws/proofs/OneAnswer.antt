@@ -1,0 +1,67 @@
+-- Two sets have one answer.
+use Rattle.std.proofs.Common.{◌≡◌, ℕ, List, Option, Some, refl, sym, ap, ◌∙◌, subst}
+use Rattle.vms_spec.specs.declared.Reason.{Reason}
+use Rattle.vms_kinds.specs.Bytes.{IsBytes}
+use Rattle.vms_spec.specs.Sets.{Set}
+use Rattle.vms_spec.specs.Images.{Image}
+use Rattle.vms_stream.specs.Faults.{Fault}
+use Rattle.vms_stream.proofs.Stated.{one_fault_holds}
+use Rattle.vms_check.specs.declared.mismatch.Mismatch.{Mismatch}
+use Rattle.vms_check.specs.Comparing.{first_mismatch}
+use Rattle.vms_counter_laws.specs.Candidates.{candidates, machine_for}
+use Rattle.vms_counter_laws.specs.Counters.{Refusal, Answer, NoState, State, stream_of, IsFirst, Here, Later, NoneShows, Counters, Agree, Lacks, Finds}
+use Rattle.vms_counter_laws.specs.Laws.{OneAnswerLaw}
+use Rattle.vms_spec.specs.WellFormed.{WellFormed}
+use Rattle.vms_counter_laws.proofs.StreamBytes.{stream_bytes}
+
+module _ (old new : Set) where
+  none_first : (m : Mismatch) (images : List Image) (list : List (List Image)) → NoneShows old new m list → IsFirst old new m images list → ⊥
+  none_first m images _ none (Here more s) = none.0 s
+  none_first m images _ none (Later others more n first) = none_first m images more none.1 first
+
+  one_first : (m : Mismatch) (a b : List Image) (list : List (List Image)) → IsFirst old new m a list → IsFirst old new m b list → a ≡ b
+  one_first m a b _ (Here more s) (Here _ t) = refl
+  one_first m a b _ (Here more s) (Later _ _ n first) = absurd (n s)
+  one_first m a b _ (Later _ more n first) (Here _ t) = absurd (n t)
+  one_first m a b _ (Later others more n first) (Later _ _ k second) = one_first m a b more first second
+
+  one_mismatch : (m n : Mismatch) → first_mismatch old new ≡ Some m → first_mismatch old new ≡ Some n → m ≡ n
+  one_mismatch m n e f = let same : Some m ≡ Some n = sym e ∙ f in cc
+
+  one_refusal : (bytes : List ℕ) (r s : Refusal) (n k : ℕ) → IsBytes bytes → Fault new new.machines bytes r.place r.section r.reason n → Fault new new.machines bytes s.place s.section s.reason k → r ≡ s
+  one_refusal bytes r s n k ok f g =
+      let one = one_fault_holds new new.machines bytes ok r.place s.place r.section s.section r.reason s.reason n k f g in
+      ap (λ (p : ℕ). record r { place = p }) one.places ∙ ap (λ (o : Option ℕ). record r { place = s.place; section = o }) one.sections
+      ∙ ap (λ (x : Reason). record { place = s.place; section = s.section; reason = x }) one.reasons
+
+  both_found : (m : Mismatch) (a b : List Image) (r s : Refusal) (n k : ℕ) → IsBytes (stream_of old new m a) → IsFirst old new m a (candidates old new m) → IsFirst old new m b (candidates old new m)
+      → Fault new new.machines (stream_of old new m a) r.place r.section r.reason n → Fault new new.machines (stream_of old new m b) s.place s.section s.reason k
+      → State m (machine_for old new m) a r ≡ State m (machine_for old new m) b s
+  both_found m a b r s n k ok x y f g =
+      let same = one_first m a b (candidates old new m) x y in
+      let g' = subst (λ (i : List Image). Fault new new.machines (stream_of old new m i) s.place s.section s.reason k) (sym same) g in
+      ap (λ (i : List Image). State m (machine_for old new m) i r) same
+      ∙ ap (λ (q : Refusal). State m (machine_for old new m) b q) (one_refusal (stream_of old new m a) r s n k ok f g')
+
+  module _ (well : WellFormed old) where
+    one_answer : (a b : Answer) → Counters old new a → Counters old new b → a ≡ b
+    one_answer _ _ (Agree h) (Agree k) = refl
+    one_answer _ _ (Agree h) (Lacks m e none) = let f = sym h ∙ e in cc
+    one_answer _ _ (Agree h) (Finds m images r n e first fault) = let f = sym h ∙ e in cc
+    one_answer _ _ (Lacks m e none) (Agree h) = let f = sym h ∙ e in cc
+    one_answer _ _ (Finds m images r n e first fault) (Agree h) = let f = sym h ∙ e in cc
+    one_answer _ _ (Lacks m e none) (Lacks m' e' none') = ap NoState (one_mismatch m m' e e')
+    one_answer _ _ (Lacks m e none) (Finds m' images r n e' first fault) =
+        let same = one_mismatch m m' e e' in
+        absurd (none_first m' images (candidates old new m') (subst (λ (x : Mismatch). NoneShows old new x (candidates old new x)) same none) first)
+    one_answer _ _ (Finds m images r n e first fault) (Lacks m' e' none') =
+        let same = one_mismatch m' m e' e in
+        absurd (none_first m images (candidates old new m) (subst (λ (x : Mismatch). NoneShows old new x (candidates old new x)) same none') first)
+    one_answer _ _ (Finds m a r n e x f) (Finds m' b s k e' y g) =
+        let same = one_mismatch m' m e' e in
+        both_found m a b r s n k (stream_bytes old new well m a) x (subst (λ (z : Mismatch). IsFirst old new z b (candidates old new z)) same y) f
+        (subst (λ (z : Mismatch). Fault new new.machines (stream_of old new z b) s.place s.section s.reason k) same g)
+        ∙ ap (λ (z : Mismatch). State z (machine_for old new z) b s) (sym same)
+
+pub one_answer_holds : OneAnswerLaw
+one_answer_holds old new well a b x y = one_answer old new well a b x y

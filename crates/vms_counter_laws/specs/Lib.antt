@@ -1,0 +1,4 @@
+pub mod Candidates
+pub mod Computed
+pub mod Counters
+pub mod Laws
