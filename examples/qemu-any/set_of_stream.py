@@ -8,9 +8,10 @@ that it has, and that is what is read. So the set describes what this VM sent. A
 in it, one that came is written always, and a field has neither `since` nor a test.
 
 A section that a set can't say, since it has subsections inside of structures or of subsections, or ones that
-aren't named after it, becomes an array of its bytes, right for this length alone. A byte of a name that a set
-can't have becomes `.`: rename it in the stream too, and where two sections are one name and instance the second.
-What was done so is told on standard error.
+aren't named after it, becomes an array of its bytes, right for this length alone. A long array of bytes is taken
+eight at a time, since a set has at most 16,384 numbers; a section of 131,072 bytes or more no set can have. A byte of
+a name that a set can't have becomes `.`: rename it in the stream too, and where two sections are one name and
+instance the second. What was done so is told on standard error.
 """
 import json
 import re
@@ -21,6 +22,7 @@ KINDS = {"uint8": "u8", "uint16": "u16", "uint32": "u32", "uint64": "u64", "int8
          "int32": "i32", "int64": "i64", "bool": "bool", "timer": "timer"}
 LONGEST_NAME = 32
 MOST_UNUSED = 4096
+LONG_BYTES = 4096
 
 
 class NotSaid(Exception):
@@ -122,7 +124,10 @@ class Maker:
             while name in names:
                 name = (name + "x")[-LONGEST_NAME:]
             names.add(name)
-            fields.append({"name": name, **item})
+            if item["kind"] == "u8" and item.get("count", 1) > LONG_BYTES:
+                fields += bytes_alone(item["count"], name + ".")
+            else:
+                fields.append({"name": name, **item})
         return fields
 
     def subsections(self, name, section):
@@ -157,10 +162,11 @@ class Maker:
         self.devices.append({"instance": instance, "desc": desc})
 
 
-def bytes_alone(length):
-    """The fields of a section that is read as so many bytes: eight at a time, since a set has 16,384 numbers."""
+def bytes_alone(length, before=""):
+    """The fields for so many bytes, eight at a time, and what is left over, with names that begin alike."""
     wide, rest = divmod(length, 8)
-    fields = [{"name": "wide", "kind": "u64", "count": wide}, {"name": "bytes", "kind": "u8", "count": rest}]
+    fields = [{"name": (before + "wide")[-LONGEST_NAME:], "kind": "u64", "count": wide},
+              {"name": (before + "bytes")[-LONGEST_NAME:], "kind": "u8", "count": rest}]
     return [field for field in fields if field["count"]]
 
 
