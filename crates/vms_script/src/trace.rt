@@ -16,8 +16,7 @@ use vms_words::append;
 /// interrupt output, where bytes were sent a blank and their digits, and a line feed. After an error a prefix
 /// of it was appended.
 pub fn print_answer<K: Sink>(answer: &Answer, sink: &mut K) -> Result<(), WriteFault>
-    ensures wrote {
-        Wrote (outlet K.Sink sink.old) (outlet K.Sink sink.new) (trace_line answer.now) result }
+    ensures wrote { Wrote (outlet K.Sink sink.old) (outlet K.Sink sink.new) (trace_line answer.now) result }
     ensures ok { let line = trace_line answer.now in
         OnOk result (Appends (K.written sink.old) (K.written sink.new) line) }
     ensures err { let line = trace_line answer.now in
