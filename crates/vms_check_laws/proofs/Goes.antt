@@ -2,9 +2,12 @@
 use Rattle.std.proofs.Common.{◌≡◌, ◌⊎◌, inl, inr, ℕ, zero, suc, ◌+◌, ◌<◌, ◌≤◌, Bool, true, false, ◌||◌, List, [], ◌∷◌, ◌++◌, length, length-append, get_or, replicate, Option, Some, None, ℤ, pos, refl, sym, ap, ◌∙◌, subst, arith}
 use Rattle.std.specs.List.{slice_get}
 use Rattle.std.proofs.lemmas.List.{get_or_append_left, get_or-append-add}
+use Rattle.std.proofs.Math.Bool.{or-false}
 use Rattle.vms_spec.specs.Layout.{Cell, no_cell, Slot}
 use Rattle.vms_spec.specs.Images.{has_cell}
-use Rattle.vms_bodies.proofs.Names.{names_append, or_false}
+use Rattle.vms_spec.proofs.ListLaws.{or_second}
+use Rattle.std.proofs.lemmas.Bool.{or_parts}
+use Rattle.vms_bodies.proofs.Names.{names_append}
 use Rattle.vms_bodies.proofs.SectionLaws.{defaults_at, defaults_long}
 use Rattle.vms_check.specs.Carrying.{defaults}
 use Rattle.vms_check_laws.proofs.PairLists.{AreFrom, IsBehind, at_left, at_right, at_none, before_or_behind, paired_append}
@@ -45,10 +48,6 @@ goes_alone cells others numbers slots at at' n e w h = record {
   other = λ r lt f. defaults_at others r;
 }
 
-or_true : (a b : Bool) → (a || b) ≡ true → a ≡ false → b ≡ true
-or_true true b e f = cc
-or_true false b e f = e
-
 pub false_of : (b : Bool) → (b ≡ true → ⊥) → b ≡ false
 false_of true h = absurd (h refl)
 false_of false h = refl
@@ -58,7 +57,7 @@ within_append at m n xs ys p q = record { in_range = λ c h. go c (has_cell xs c
   go : (c : ℕ) (b : Bool) → has_cell xs c ≡ b → (has_cell xs c || has_cell ys c) ≡ true → (at ≤ c) × (c < at + (m + n))
   go c true e h = let r = p.in_range c e in let high = r.1 in (r.0, omega (arith, high))
   go c false e h =
-      let r = q.in_range c (or_true (has_cell xs c) (has_cell ys c) h e) in
+      let r = q.in_range c (or_second (has_cell xs c) (has_cell ys c) h e) in
       let low = r.0 in
       let high = r.1 in
       (omega (arith, low), omega (arith, high))
@@ -76,10 +75,7 @@ module _ (cells_a cells_b others_a others_b : List Cell) (numbers : List ℤ) (x
   first_none c le = false_of (has_cell xs c) (λ e. let r = (h.within.in_range c e).1 in omega (arith, le, r))
 
   has_first : (c : ℕ) → c < next → has_cell (xs ++ ys) c ≡ has_cell xs c
-  has_first c lt = names_append xs ys c ∙ ap (λ (b : Bool). has_cell xs c || b) (second_none c lt) ∙ off (has_cell xs c) where
-    off : (b : Bool) → (b || false) ≡ b
-    off true = refl
-    off false = refl
+  has_first c lt = names_append xs ys c ∙ ap (λ (b : Bool). has_cell xs c || b) (second_none c lt) ∙ or-false (has_cell xs c)
 
   has_second : (c : ℕ) → next ≤ c → has_cell (xs ++ ys) c ≡ has_cell ys c
   has_second c le = names_append xs ys c ∙ ap (λ (b : Bool). b || has_cell ys c) (first_none c le)
@@ -120,7 +116,7 @@ module _ (cells_a cells_b others_a others_b : List Cell) (numbers : List ℤ) (x
   other_at r lt f (inl less) =
       let size = h.long in
       get_or_append_left s t (pos 0) r (omega (arith, less, size))
-      ∙ h.other r less (λ c e. (or_false (has_cell xs (at + c)) (has_cell ys (at + c)) (sym (names_append xs ys (at + c)) ∙ f c (at_left p q c (in_p c e) ∙ e))).0)
+      ∙ h.other r less (λ c e. (or_parts (has_cell xs (at + c)) (has_cell ys (at + c)) (sym (names_append xs ys (at + c)) ∙ f c (at_left p q c (in_p c e) ∙ e))).0)
       ∙ sym (ap (λ (x : Cell). x.default) (get_or_append_left others_a others_b no_cell r less))
     where
       inside_some : (p : List (Option ℕ)) (c k : ℕ) → slice_get p c ≡ Some (Some k) → c < length p

@@ -2,14 +2,14 @@
 use Rattle.std.proofs.Common.{◌≡◌, ◌⊎◌, inl, inr, ℕ, zero, suc, ◌+◌, ◌-◌, ◌<◌, ◌≤◌, Bool, true, false, ◌||◌, List, [], ◌∷◌, ◌++◌, length, length-append, get_or, Option, Some, None, ℤ, pos, refl, sym, ap, ◌∙◌, subst, arith, nat_lt}
 use Rattle.std.specs.List.{flat_map, slice_get}
 use Rattle.std.proofs.lemmas.List.{get_or_append_left, get_or-append-add}
-use Rattle.std.proofs.lemmas.Bool.{ltb-true, ltb-false}
+use Rattle.std.proofs.lemmas.Bool.{ltb-true, ltb-false, or_parts}
 use Rattle.vms_spec.specs.Lists.{at_option}
 use Rattle.vms_spec.specs.Sets.{Sub, Device, Set}
 use Rattle.vms_spec.specs.Layout.{Cell, no_cell, Slot, desc_cells, device_cells, struct_cells}
 use Rattle.vms_spec.specs.Images.{Image, has_cell, image_slots, own_slots, own_cells, came_slots, sub_slots, sub_place}
 use Rattle.vms_spec.specs.Lookup.{find_sub, index}
 use Rattle.vms_spec.specs.WellFormed.{WellFormed, device_rules, sub_rules}
-use Rattle.vms_bodies.proofs.Names.{names_append, or_false}
+use Rattle.vms_bodies.proofs.Names.{names_append}
 use Rattle.vms_bodies.proofs.AgreeLaws.{its_below, its_in}
 use Rattle.vms_bodies.proofs.PartLaws.{sub_size, sub_place_up, places_apart, parts_together, part_apart}
 use Rattle.vms_bodies.proofs.SectionLaws.{defaults_at, defaults_long}
@@ -324,7 +324,7 @@ module _ (old new : Set) (good_old : WellFormed old) (good_new : WellFormed new)
     NoneHas k = (c : ℕ) → slice_get (ps ++ qs) c ≡ Some (Some k) → has_cell (image_slots old d image) c ≡ false
 
     parts_none : (c : ℕ) → has_cell (image_slots old d image) c ≡ false → (has_cell (own_slots old d image.version numbers) c ≡ false) × (has_cell (came_slots old d numbers (own_cells old d) d.subs image.came) c ≡ false)
-    parts_none c f = or_false _ _ (sym (names_append (own_slots old d image.version numbers) (came_slots old d numbers (own_cells old d) d.subs image.came) c) ∙ f)
+    parts_none c f = or_parts _ _ (sym (names_append (own_slots old d image.version numbers) (came_slots old d numbers (own_cells old d) d.subs image.came) c) ∙ f)
 
     inside_ps : (xs : List (Option ℕ)) (c k : ℕ) → slice_get xs c ≡ Some (Some k) → c < length xs
     inside_ps [] c k f = cc
@@ -351,7 +351,7 @@ module _ (old new : Set) (good_old : WellFormed old) (good_new : WellFormed new)
         ∙ ap (λ (x : Cell). x.default) (get_or-append-add (desc_cells (struct_cells new) e.desc) (flat_map new_cells e.subs) (h.0 + r) no_cell ∙ h.3 r lt)
 
     split : (c : ℕ) (xs ys : List Slot) → has_cell (xs ++ ys) c ≡ false → (has_cell xs c ≡ false) × (has_cell ys c ≡ false)
-    split c xs ys f = or_false (has_cell xs c) (has_cell ys c) (sym (names_append xs ys c) ∙ f)
+    split c xs ys f = or_parts (has_cell xs c) (has_cell ys c) (sym (names_append xs ys c) ∙ f)
 
     other_come : (l : ℕ) (t : Sub) (r : ℕ) → slice_get e.subs l ≡ Some t → r < sub_size new t → NoneHas (place' l + r) → Comes t → get_or (carried_sub old new d image t) r (pos 0) ≡ (get_or (new_cells t) r no_cell).default
     other_come l t r at_l lt none h =

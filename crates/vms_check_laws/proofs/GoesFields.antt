@@ -2,6 +2,7 @@
 use Rattle.std.proofs.Common.{◌≡◌, ◌⊎◌, inl, inr, ℕ, zero, suc, ◌+◌, ◌*◌, ◌<◌, ◌≤◌, Bool, true, false, List, [], ◌∷◌, ◌++◌, length, get_or, drop, replicate, Option, Some, None, ℤ, pos, refl, sym, ap, ◌∙◌, subst, arith, append-nil, if◌then◌else◌, ◌||◌}
 use Rattle.std.specs.List.{slice_get}
 use Rattle.std.proofs.lemmas.Bool.{eq-eqb}
+use Rattle.std.proofs.Math.Bool.{or-false}
 use Rattle.vms_kinds.specs.declared.Kind.{Kind}
 use Rattle.vms_kinds.specs.declared.Item.{Item}
 use Rattle.vms_kinds.specs.declared.Item.TheVariants.{Num, Equal, Unused, Struct}
@@ -365,7 +366,4 @@ module _ (structs : List Pairer) (cs : List Carrier) (ms : List Meaning) (y : Li
           other = λ r l f. h.other r l (λ c e. sym (same slots b' (at + c)) ∙ f c e);
         } where
           same : (slots : List Slot) (b' : Bool) (c : ℕ) → has_cell (slots ++ Rule b' ∷ []) c ≡ has_cell slots c
-          same slots b' c = names_append slots (Rule b' ∷ []) c ∙ off (has_cell slots c) where
-            off : (b : Bool) → (b || false) ≡ b
-            off true = refl
-            off false = refl
+          same slots b' c = names_append slots (Rule b' ∷ []) c ∙ or-false (has_cell slots c)

@@ -1,5 +1,6 @@
 -- The calls of a cursor, by the unit that is found.
 use Rattle.std.proofs.Common.{◌≡◌, ℕ, ◌+◌, List, [], take, drop, Option, Some, None, Result, Ok, Err, ℤ, refl, sym, ap, ◌∙◌, subst, arith}
+use Rattle.std.proofs.lemmas.Option.{same_Some}
 use Rattle.vms_io.specs.Told.{Intake}
 use Rattle.vms_io.specs.Reading.{Reads, Course, On}
 use Rattle.vms_io.proofs.ReadingLemmas.{reads_as, reads_both}
@@ -80,13 +81,10 @@ calls_no_end at behind ReadFault h = reads_as (λ k l. l) (λ rest left p. end_f
 
 -- ---- the stream head: the magic, and the version behind it
 
-some_is : (x y : List ℕ) → Some x ≡ Some y → x ≡ y
-some_is x y e = cc
-
 magic_came : (at : ℕ) (rest more : List ℕ) (left : Option (List ℕ)) (r : Result (Unit {0}) FrameFault) → Answers (λ (x : Unit {0}). 4) (magic_found rest) at rest (Some more) (Ok tt)
     → Answers (λ (x : Unit {0}). 4) (version_found more) (at + 4) more left r → AnswersHead at rest left r
 magic_came at rest more left r m v =
-    let there : more ≡ drop 4 rest = some_is more (drop 4 rest) m.1 in
+    let there : more ≡ drop 4 rest = same_Some more (drop 4 rest) m.1 in
     let good : seen AMagic nothing_known rest ≡ Good (Magic (take 4 rest)) 4 = sym (magic_seen rest) ∙ ap (as_seen (λ (x : Unit {0}). Magic (take 4 rest)) (λ (x : Unit {0}). 4)) m.0 in
     let w : Answers (λ (x : Unit {0}). 4) (version_found (drop 4 rest)) (at + 4) (drop 4 rest) left r = subst (λ (l : List ℕ). Answers (λ (x : Unit {0}). 4) (version_found l) (at + 4) l left r) there v in
     subst (λ (s : Seen). AnswersAfter s at rest left r) (sym good)

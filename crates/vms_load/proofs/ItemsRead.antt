@@ -1,6 +1,6 @@
 -- What is read of a number that is capped, of a constant, and of a rule.
 use Rattle.std.proofs.Common.{◌≡◌, ℕ, ◌<◌, ◌^◌, List, [], Some, Result, Ok, Err, OnOk, IfErr, ℤ, Bool, true, false, refl, sym, subst, arith}
-use Rattle.vms_bodies.proofs.ReadyLaws.{same_is}
+use Rattle.vms_spec.proofs.NumberLaws.{same_number_is}
 use Rattle.vms_io.specs.Told.{Intake}
 use Rattle.vms_io.proofs.ReadingLemmas.{takes_none, reads_as, reads_last}
 use Rattle.vms_kinds.specs.declared.Kind.{Kind}
@@ -19,7 +19,7 @@ pub are_others : (x y : ℤ) → (x ≡ y → ⊥) → same_number x y ≡ false
 are_others x y other = by (same_number x y) refl
   where
     by : (b : Bool) → same_number x y ≡ b → same_number x y ≡ false
-    by true e = absurd (other (same_is x y e))
+    by true e = absurd (other (same_number_is x y e))
     by false e = e
 
 module _ (a b : Intake) (kind : Kind) (at : ℕ) where

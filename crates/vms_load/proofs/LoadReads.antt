@@ -14,7 +14,8 @@ use Rattle.vms_stream.proofs.Judging.Mirrors.{state_refuses}
 use Rattle.vms_frames.specs.declared.fault.Refusal.{Refusal}
 use Rattle.vms_io.specs.Told.{Intake}
 use Rattle.vms_io.specs.Reading.{Last, MayFollow}
-use Rattle.vms_io.proofs.ReadingLemmas.{bytes_both, no_bytes, reads_as}
+use Rattle.vms_kinds.proofs.ByteLemmas.{bytes_both}
+use Rattle.vms_io.proofs.ReadingLemmas.{no_bytes, reads_as}
 use Rattle.vms_image.specs.Typed.{state_of as untyped}
 use Rattle.vms_load.specs.Loads.{Loads}
 use Rattle.vms_load.specs.Going.{GoesThrough, LoadReads}

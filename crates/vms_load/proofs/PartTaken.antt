@@ -1,6 +1,6 @@
 -- What the steps of a part take is what the structural reader takes.
 use Rattle.std.proofs.Common.{◌≡◌, ℕ, ◌+◌, ◌≤◌, List, [], ◌∷◌, ◌++◌, length, append_assoc, append-nil, ℤ, Option, Some, Ok, Err, Bool, true, false, ◌||◌, ◌==◌, nat_lt, refl, sym, ap, ◌∙◌, subst}
-use Rattle.std.proofs.lemmas.Bool.{eq-eqb, ltb-true, ltb-false}
+use Rattle.std.proofs.lemmas.Bool.{eq-eqb, ltb-true, ltb-false, or_parts}
 use Rattle.vms_kinds.specs.declared.Kind.{Kind}
 use Rattle.vms_spec.specs.Sets.{Desc, Set}
 use Rattle.vms_spec.specs.Images.{has_cell}
@@ -15,7 +15,6 @@ use Rattle.vms_frames.specs.declared.fault.FrameFault.TheVariants as faults
 use Rattle.vms_walk.specs.declared.step.WalkStep.{WalkStep}
 use Rattle.vms_walk.specs.Steps.{step_of, steps_of}
 use Rattle.vms_walk.proofs.Walking.{steps_append}
-use Rattle.vms_walk.proofs.Kept.{neither}
 use Rattle.vms_load.specs.Bodies.{TakesAs}
 use Rattle.vms_load.specs.Reading.{take_step, take_steps, last_numbers, numbers_then, take_append, last_taken, Told, from, IsTaken, IsStopped}
 use Rattle.vms_load.proofs.Counting.{number_least}
@@ -40,7 +39,7 @@ first_above cell c kind caps xs above = go (nat_lt c cell) refl
     go false e = ltb-false c cell e
 
 rest_above : (cell : ℕ) (x : Slot) (xs : List Slot) → IsAbove cell (x ∷ xs) → IsAbove cell xs
-rest_above cell (Number c kind caps) xs above = record { below = λ k lt. (neither (c == k) (has_cell xs k) (above.below k lt)).1 }
+rest_above cell (Number c kind caps) xs above = record { below = λ k lt. (or_parts (c == k) (has_cell xs k) (above.below k lt)).1 }
 rest_above cell (Constant kind z) xs above = record { below = λ k lt. above.below k lt }
 rest_above cell (Filler n) xs above = record { below = λ k lt. above.below k lt }
 rest_above cell (Rule b) xs above = record { below = λ k lt. above.below k lt }

@@ -14,10 +14,6 @@ pub on_ok : {X E P Q R : Type 0} (r : Result X E) → (P → Q → R) → OnOk r
 on_ok (Ok x) f p q = f p q
 on_ok (Err e) f p q = tt
 
-pub if_err : {X E : Type 0} {P Q : E → Type 0} (r : Result X E) → ((e : E) → P e → Q e) → IfErr r P → IfErr r Q
-if_err (Ok x) f p = tt
-if_err (Err e) f p = f e p
-
 module _ (x : WalkStep) where
   alone : (t : Taken) (n : List ℤ) (place : ℕ) (left : Option (List ℕ)) (r : Result (Unit {0}) FrameFault) → TakesAs t n place left r → TakesAs (t >>= take_steps []) n place left r
   alone (Ok q) n place left r h = h

@@ -2,6 +2,7 @@ use Rattle.std.proofs.Common.{List, sym, subst, Some, Ok, Err, ap, ◌∙◌, ar
 use Rattle.vms_desc.specs.Described.{described}
 use Rattle.vms_desc.specs.Parts.{desc_at}
 use Rattle.vms_desc.specs.Asks.{first_cell}
+use Rattle.vms_desc.proofs.Bounds.{good_of}
 use Rattle.vms_parts.specs.Devices.{device_at}
 use Rattle.vms_kinds.specs.declared.Kind.{Kind}
 use Rattle.vms_walk.specs.declared.fields.PartAt.{PartAt}
@@ -17,7 +18,7 @@ use Rattle.vms_load.proofs.GoingLemmas.{same_course}
 use Rattle.vms_load.proofs.PartReads.{open_in, fields_answer}
 use Rattle.vms_load.proofs.PartTaken.{part_took, part_failed}
 use Rattle.vms_load.proofs.StepBytes.{part_bound}
-use Rattle.vms_load.proofs.SetFacts.{part_kinds, good_of, desc_is, base_is, part_spot}
+use Rattle.vms_load.proofs.SetFacts.{part_kinds, desc_is, base_is, part_spot}
 use Rattle.vms_image.specs.Typed.{state_of as untyped}
 use Rattle.vms_load.proofs.parts.fields.Goals as goal
 

@@ -13,7 +13,7 @@ use Rattle.vms_desc.proofs.AskLaws.{found_field}
 use Rattle.vms_walk.specs.Steps.{size_in}
 use Rattle.vms_walk.proofs.Spots.{size_code, width_code, struct_size}
 use Rattle.vms_desc.proofs.Ranks.{item_rank, part_rank}
-use Rattle.vms_walk.proofs.Walking.{one_fits}
+use Rattle.vms_spec.proofs.Sizes.{one_fits}
 use Rattle.vms_spec.specs.Rules.{uses_below}
 use Rattle.std.proofs.Math.Nat.{mod-lt}
 use Rattle.vms_values.specs.Paths.{path_text}

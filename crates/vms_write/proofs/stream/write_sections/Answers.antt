@@ -3,8 +3,8 @@ use Rattle.std.specs.List.{slice_get}
 use Rattle.vms_desc.specs.Described.{described, device_at}
 use Rattle.vms_image.specs.Typed.{state_of}
 use Rattle.vms_image.proofs.States.{states_long, state_at, at_state, image_at}
-use Rattle.vms_write.proofs.Formed.{at_get}
 use Rattle.std.proofs.lemmas.Result.{err_from_is_err_and}
+use Rattle.std.proofs.lemmas.Option.{slice_get-get_or}
 use Rattle.vms_io.proofs.WritingLemmas.{leaves_all, leaves_rest, leaves_stop, wrote_fault}
 use Rattle.vms_write.proofs.Sections.{sections_at}
 use Rattle.vms_write.proofs.stream.write_sections.Goals as goal
@@ -36,7 +36,7 @@ write_section-requires-clause-ready g c =
     let image = c.index-images-device.result in
     let lt : i < length set.devices = omega (arith, c.requires.of.one_each) in
     let here : slice_get c.args.images.now i ≡ Some image = image_at c.args.images.now i image c.loop-device-test.true c.index-images-device.is in
-    c.requires.ready.ready i (device_at set i) (state_of image) (at_get set.devices i _ lt) (at_state c.args.images.now i image here)
+    c.requires.ready.ready i (device_at set i) (state_of image) (slice_get-get_or set.devices i _ lt) (at_state c.args.images.now i image here)
 
 pub returns-in_err-write_section : goal.returns-in_err-write_section
 returns-in_err-write_section g c =

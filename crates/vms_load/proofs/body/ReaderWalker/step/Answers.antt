@@ -1,7 +1,8 @@
 use Rattle.std.proofs.Common.{refl}
+use Rattle.std.proofs.lemmas.Result.{IfErr-weaker}
 use Rattle.vms_io.specs.Told.{intake}
 use Rattle.vms_load.specs.Reading.{Told, told}
-use Rattle.vms_load.proofs.StepsTaken.{on_ok, if_err, step_ok, step_err}
+use Rattle.vms_load.proofs.StepsTaken.{on_ok, step_ok, step_err}
 use Rattle.vms_load.proofs.body.ReaderWalker.step.Goals as goal
 
 pub returns-clause-ok : goal.returns-clause-ok
@@ -18,4 +19,4 @@ returns-clause-err g c =
     let a : Told = told self.image.now self.cursor.now.at (intake g.S.Source self.source.now) in
     let b : Told = told c.read_step.new.image c.read_step.new.cursor.at (intake g.S.Source c.read_step.new.source) in
     let e = c.read_step.ensures in
-    if_err c.read_step.result (λ fault failed. (refl, refl, refl, failed)) (step_err c.args.step a b c.read_step.result e.reads e.kept e.keeps e.stopped)
+    IfErr-weaker c.read_step.result _ _ (λ fault failed. (refl, refl, refl, failed)) (step_err c.args.step a b c.read_step.result e.reads e.kept e.keeps e.stopped)
