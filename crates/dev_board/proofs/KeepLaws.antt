@@ -1,7 +1,8 @@
 -- What each event keeps of the devices.
 use Rattle.std.proofs.Common.{◌≡◌, ℕ, ◌-◌, ◌<◌, ◌≤◌, ◌==◌, true, ◌&&◌, arith, ap, sym, subst, List, ◌∙◌}
 use Rattle.std.specs.Prelude.{nat_le}
-use Rattle.dev_base.proofs.Choices.{either, by_test}
+use Rattle.std.proofs.lemmas.Bool.{cond_both}
+use Rattle.dev_base.proofs.Choices.{either}
 use Rattle.dev_base.specs.declared.limits.TheConstants.{LAST_MOMENT}
 use Rattle.dev_pic.proofs.PairLaws.{steps_keep_registers, steps_keep_level as pair_keeps_level}
 use Rattle.dev_pic.specs.Pair.{is_port, read_pair, written_pair, acked}
@@ -88,7 +89,7 @@ module _ (m : State) (h : HasDevices m) where
   unfolding target_of written_at
   write-kept port value v =
       let keeps : Target → Type 0 = λ t. HasDevices (written_at t port value m) in
-      by_test keeps (is_port m.level port) _ _ (λ e. pair-written port value v (ap (λ level. is_port level port) h.pair_level ∙ e)) (λ _.
+      cond_both (is_port m.level port) _ _ keeps (λ e. pair-written port value v (ap (λ level. is_port level port) h.pair_level ∙ e)) (λ _.
       either keeps (nat_le 0x40 port && nat_le port 0x42) _ _ (pit-written port value v)
       (either keeps (port == 0x43) _ _ (pit-written port value v)
       (either keeps (nat_le 0x3f8 port && nat_le port 0x3ff) _ _ (serial-written (port - 0x3f8) value v) h)))

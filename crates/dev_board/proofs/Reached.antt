@@ -2,7 +2,7 @@
 use Rattle.std.proofs.Common.{◌≡◌, ◌⊎◌, ℕ, ◌-◌, ◌<◌, ◌≤◌, ◌==◌, true, ◌&&◌, arith, sym, subst, ap, ◌∙◌, ⊎_elim}
 use Rattle.std.proofs.lemmas.Bool.Decides.{nat_tests}
 use Rattle.std.specs.Prelude.{nat_le}
-use Rattle.dev_base.proofs.Choices.{by_test}
+use Rattle.std.proofs.lemmas.Bool.{cond_both}
 use Rattle.dev_pic.specs.Pair.{is_port}
 use Rattle.dev_pit.specs.Pit.{IsPort}
 use Rattle.dev_board.specs.Ports.{target_of}
@@ -31,10 +31,10 @@ register-port port e = grind (arith, nat_tests)
 reached : (level port : ℕ) → IsReached level port (target_of level port)
 unfolding target_of
 reached level port =
-    by_test (IsReached level port) (is_port level port) _ _ (λ e. e) (λ _.
-    by_test (IsReached level port) (nat_le 0x40 port && nat_le port 0x42) _ _ (counter-port port) (λ _.
-    by_test (IsReached level port) (port == 0x43) _ _ (control-port port) (λ _.
-    by_test (IsReached level port) (nat_le 0x3f8 port && nat_le port 0x3ff) _ _ (register-port port) (λ _. tt))))
+    cond_both (is_port level port) _ _ (IsReached level port) (λ e. e) (λ _.
+    cond_both (nat_le 0x40 port && nat_le port 0x42) _ _ (IsReached level port) (counter-port port) (λ _.
+    cond_both (port == 0x43) _ _ (IsReached level port) (control-port port) (λ _.
+    cond_both (nat_le 0x3f8 port && nat_le port 0x3ff) _ _ (IsReached level port) (register-port port) (λ _. tt))))
 
 -- the same of what a call answered and a match found
 pub reached_as : (level port : ℕ) (target found : Target) → target ≡ target_of level port → target ≡ found → IsReached level port found

@@ -1,6 +1,6 @@
 -- What is saved of a board comes back.
-use Rattle.std.proofs.Common.{◌≡◌, ℕ, ℤ, pos, ◌≤◌, Bool, true, false, ◌&&◌, List, [], ◌∷◌, Result, Ok, refl, sym, ap, subst, ◌∙◌, arith}
-use Rattle.std.proofs.lemmas.Bool.{and_parts, false≢true}
+use Rattle.std.proofs.Common.{◌≡◌, ℕ, ℤ, pos, ◌≤◌, Bool, true, false, List, ◌∷◌, Result, Ok, refl, sym, ap, subst, ◌∙◌, arith, []}
+use Rattle.std.proofs.lemmas.Bool.{and_parts, false≢true, and_from}
 use Rattle.std.proofs.lemmas.Bool.Decides.{nat_tests}
 use Rattle.std.specs.Prelude.{nat_le}
 use Rattle.dev_base.proofs.CellLaws.{of_none, of_more, long}
@@ -48,13 +48,10 @@ same-is true b e = sym e
 same-is false true e = absurd (false≢true e)
 same-is false false e = refl
 
-both : (a b : Bool) → a ≡ true → b ≡ true → (a && b) ≡ true
-both a b p q = rw (p, q)
-
 lines-agree : (m : State) → HasLines m → lines_agree m ≡ true
 unfolding lines_agree
 lines-agree m h =
-    both (same (has (lines_of m.pair) 0) (pit_out 0 m.moment m.pit)) _ (same-refl _ _ h.out) (both (same (has (lines_of m.pair) 2) (slave_int_of m.pair)) _ (same-refl _ _ h.slave) (same-refl _ _ h.serial))
+    and_from (same (has (lines_of m.pair) 0) (pit_out 0 m.moment m.pit)) _ (same-refl _ _ h.out) (and_from (same (has (lines_of m.pair) 2) (slave_int_of m.pair)) _ (same-refl _ _ h.slave) (same-refl _ _ h.serial))
 
 pub has-lines : (m : State) → lines_agree m ≡ true → HasLines m
 unfolding lines_agree
@@ -71,7 +68,7 @@ joined-ok : (level moment : ℕ) (pair : PicPair) (pit : Pit) (port : Port) (of_
 unfolding joined agreed by_chip by_device
 joined-ok level moment pair pit port of_timer of_pair of_pit of_port a b c d e = rw (a, b, c, d, e) refl
 
-ok-same : (first second : State) (outcome : Result State Misfit) → outcome ≡ Ok first → outcome ≡ Ok second → first ≡ second
+pub ok-same : (first second : State) (outcome : Result State Misfit) → outcome ≡ Ok first → outcome ≡ Ok second → first ≡ second
 ok-same first second outcome d e = cc
 
 -- a moment as a cell

@@ -1,10 +1,11 @@
 -- The inputs of the pair, bit by bit.
-use Rattle.std.proofs.Common.{◌≡◌, ◌≢◌, ℕ, ◌-◌, ◌<◌, ◌^◌, Bool, true, false, ◌&&◌, ◌||◌, arith, bit_or, refl, ap, sym, ◌∙◌}
+use Rattle.std.proofs.Common.{◌≡◌, ◌≢◌, ℕ, ◌-◌, ◌<◌, ◌^◌, Bool, true, false, ◌&&◌, arith, bit_or, refl, ap, sym, ◌∙◌, ◌||◌}
 use Rattle.std.proofs.lemmas.Bool.{false≢true}
 use Rattle.std.proofs.lemmas.Bool.Decides.{nat_tests}
 use Rattle.std.proofs.lemmas.Nat.{and_le_l, and_le_r, or_of_16, pow_below}
+use Rattle.std.proofs.Math.Bool.{and-false, or-false}
 use Rattle.dev_base.specs.Bits.{has}
-use Rattle.dev_pic.proofs.BitLaws.{has-and, has-or, has-one_other, or_false}
+use Rattle.dev_pic.proofs.BitLaws.{has-and, has-or, has-one_other}
 use Rattle.dev_pic.specs.Pair.{lines_of}
 use Rattle.dev_pit.specs.Pit.{pit_out}
 use Rattle.dev_serial.specs.Bits.{bits_where}
@@ -17,16 +18,12 @@ use Rattle.dev_board.specs.declared.event.Event.{Event}
 use Rattle.dev_board.specs.declared.event.Event.TheVariants.{Read, Write, Byte, Wait, Wire, Ack}
 use Rattle.dev_board.specs.declared.wires.TheConstants.{WIRES}
 
-pub and_false : (b : Bool) → (b && false) ≡ false
-and_false true = refl
-and_false false = refl
-
 pub wires_of-are : (m : State) → AreWires (wires_of m)
 unfolding wires_of
 wires_of-are m = record {
   bound = omega (arith, and_le_r (lines_of m.pair) WIRES);
-  out = has-and (lines_of m.pair) WIRES 0 ∙ and_false (has (lines_of m.pair) 0);
-  serial = has-and (lines_of m.pair) WIRES 4 ∙ and_false (has (lines_of m.pair) 4);
+  out = has-and (lines_of m.pair) WIRES 0 ∙ and-false (has (lines_of m.pair) 0);
+  serial = has-and (lines_of m.pair) WIRES 4 ∙ and-false (has (lines_of m.pair) 4);
 }
 
 pub wire-bound : (input : ℕ) → is_wire input ≡ true → input < 16
@@ -121,7 +118,7 @@ module _ (wires : ℕ) (m : State) (w : AreWires wires) where
   inputs-out =
       has-or (bit_or wires (bits_where out 0x01)) (bits_where line 0x10) 0
       ∙ ap (λ b. has (bit_or wires (bits_where out 0x01)) 0 || b) (line-0 line)
-      ∙ or_false (has (bit_or wires (bits_where out 0x01)) 0)
+      ∙ or-false (has (bit_or wires (bits_where out 0x01)) 0)
       ∙ has-or wires (bits_where out 0x01) 0
       ∙ ap (λ b. b || has (bits_where out 0x01) 0) w.out
       ∙ out-0 out

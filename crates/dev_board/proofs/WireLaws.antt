@@ -1,13 +1,13 @@
 -- A wire stays as the last event that named it left it.
-use Rattle.std.proofs.Common.{◌≡◌, ◌≢◌, ℕ, ◌+◌, ◌-◌, ◌<◌, ◌≤◌, ◌^◌, ◌==◌, Bool, true, false, not, ◌&&◌, ◌||◌, if◌then◌else◌, zero, suc, arith, bit_and, bit_or, refl, ap, sym, subst, ◌∙◌, ⊎_elim}
-use Rattle.std.proofs.lemmas.Bool.{cases_lt, false≢true}
+use Rattle.std.proofs.Common.{◌≡◌, ◌≢◌, ℕ, ◌+◌, ◌-◌, ◌<◌, ◌≤◌, ◌^◌, ◌==◌, Bool, true, false, not, ◌&&◌, if◌then◌else◌, arith, bit_and, bit_or, refl, ap, sym, subst, ◌∙◌, ⊎_elim, ◌||◌}
+use Rattle.std.proofs.lemmas.Bool.{cases_lt, false≢true, cond_both}
 use Rattle.std.proofs.lemmas.Bool.Decides.{nat_tests}
 use Rattle.std.proofs.lemmas.Nat.Bits.{bit_at_not, bit_at-lt, bit_at-zero}
 use Rattle.std.proofs.lemmas.Nat.{pow_below}
 use Rattle.std.specs.Int.{bit_at, w16}
+use Rattle.std.proofs.Math.Bool.{and-true, and-false, or-true, or-false}
 use Rattle.dev_base.specs.Bits.{has}
-use Rattle.dev_base.proofs.Choices.{by_test}
-use Rattle.dev_pic.proofs.BitLaws.{has-and, has-or, has-one, has-one_other, or_true, or_false}
+use Rattle.dev_pic.proofs.BitLaws.{has-and, has-or, has-one, has-one_other, not_test}
 use Rattle.dev_pic.proofs.LineLaws.{lines_are_taken}
 use Rattle.dev_pic.specs.Pair.{lines_of, settled_pair}
 use Rattle.dev_pit.specs.Pit.{pit_out}
@@ -20,11 +20,7 @@ use Rattle.dev_board.specs.Wires.{AreWires, is_wire, wires_of, with_wire}
 use Rattle.dev_board.specs.declared.event.Event.{Event}
 use Rattle.dev_board.specs.declared.event.Event.TheVariants.{Read, Write, Byte, Wait, Wire, Ack}
 use Rattle.dev_board.specs.declared.wires.TheConstants.{WIRES}
-use Rattle.dev_board.proofs.WireBits.{and_false, names, wires_of-are, wires_after-are, inputs-lt, wire-bound, wire-other}
-
-and_true : (b : Bool) → (b && true) ≡ b
-and_true true = refl
-and_true false = refl
+use Rattle.dev_board.proofs.WireBits.{names, wires_of-are, wires_after-are, inputs-lt, wire-bound, wire-other}
 
 second_true : (a b : Bool) → (a && b) ≡ true → b ≡ true
 second_true true b e = e
@@ -34,12 +30,7 @@ second_true false b e = absurd (false≢true e)
 wires_of-wire : (m : State) (wire : ℕ) → is_wire wire ≡ true → has (wires_of m) wire ≡ has (lines_of m.pair) wire
 unfolding wires_of
 wires_of-wire m wire e =
-    has-and (lines_of m.pair) WIRES wire ∙ ap (λ b. has (lines_of m.pair) wire && b) (second_true _ (has WIRES wire) e) ∙ and_true (has (lines_of m.pair) wire)
-
-not_test : (a : ℕ) → a < 2 → ((1 - a) == 1) ≡ not (a == 1)
-not_test zero h = refl
-not_test (suc zero) h = refl
-not_test (suc (suc a)) h = absurd (omega arith)
+    has-and (lines_of m.pair) WIRES wire ∙ ap (λ b. has (lines_of m.pair) wire && b) (second_true _ (has WIRES wire) e) ∙ and-true (has (lines_of m.pair) wire)
 
 has-rest : (input wire : ℕ) → input < 16 → wire < 16 → has (65535 - 2 ^ input) wire ≡ not (has (2 ^ input) wire)
 has-rest input wire h l =
@@ -49,17 +40,17 @@ has-rest input wire h l =
 named : (input wire wires : ℕ) (up : Bool) → input < 16 → wire < 16 → has (with_wire input up wires) wire ≡ (if input == wire then up else has wires wire)
 unfolding with_wire
 named input wire wires true h l =
-    by_test (λ (b : Bool). has (bit_or wires (2 ^ input)) wire ≡ b) (input == wire) _ _
+    cond_both (input == wire) _ _ (λ (b : Bool). has (bit_or wires (2 ^ input)) wire ≡ b)
     (λ e. let same : wire ≡ input = grind (arith, nat_tests) in
-    has-or wires (2 ^ input) wire ∙ ap (λ b. has wires wire || b) (ap (λ n. has (2 ^ input) n) same ∙ has-one input) ∙ or_true (has wires wire))
+    has-or wires (2 ^ input) wire ∙ ap (λ b. has wires wire || b) (ap (λ n. has (2 ^ input) n) same ∙ has-one input) ∙ or-true (has wires wire))
     (λ e. let other : wire ≢ input = grind (arith, nat_tests) in
-    has-or wires (2 ^ input) wire ∙ ap (λ b. has wires wire || b) (has-one_other input wire other) ∙ or_false (has wires wire))
+    has-or wires (2 ^ input) wire ∙ ap (λ b. has wires wire || b) (has-one_other input wire other) ∙ or-false (has wires wire))
 named input wire wires false h l =
-    by_test (λ (b : Bool). has (bit_and wires (65535 - 2 ^ input)) wire ≡ b) (input == wire) _ _
+    cond_both (input == wire) _ _ (λ (b : Bool). has (bit_and wires (65535 - 2 ^ input)) wire ≡ b)
     (λ e. let same : wire ≡ input = grind (arith, nat_tests) in
-    has-and wires (65535 - 2 ^ input) wire ∙ ap (λ b. has wires wire && b) (has-rest input wire h l ∙ ap not (ap (λ n. has (2 ^ input) n) same ∙ has-one input)) ∙ and_false (has wires wire))
+    has-and wires (65535 - 2 ^ input) wire ∙ ap (λ b. has wires wire && b) (has-rest input wire h l ∙ ap not (ap (λ n. has (2 ^ input) n) same ∙ has-one input)) ∙ and-false (has wires wire))
     (λ e. let other : wire ≢ input = grind (arith, nat_tests) in
-    has-and wires (65535 - 2 ^ input) wire ∙ ap (λ b. has wires wire && b) (has-rest input wire h l ∙ ap not (has-one_other input wire other)) ∙ and_true (has wires wire))
+    has-and wires (65535 - 2 ^ input) wire ∙ ap (λ b. has wires wire && b) (has-rest input wire h l ∙ ap not (has-one_other input wire other)) ∙ and-true (has wires wire))
 
 left : (event : Event) (wire wires : ℕ) → wire < 16 → IsEvent event → has (wires_after event wires) wire ≡ wire_left wire event (has wires wire)
 unfolding wires_after
@@ -80,10 +71,10 @@ unfolding inputs_of
 inputs-wire wires wire m e =
     has-or (bit_or wires (bits_where (pit_out 0 m.moment m.pit) 0x01)) (bits_where (line_of m.moment m.serial) 0x10) wire
     ∙ ap (λ b. has (bit_or wires (bits_where (pit_out 0 m.moment m.pit) 0x01)) wire || b) (driven (line_of m.moment m.serial) 4 wire (λ s. wire-other wire 4 e refl (sym s)))
-    ∙ or_false (has (bit_or wires (bits_where (pit_out 0 m.moment m.pit) 0x01)) wire)
+    ∙ or-false (has (bit_or wires (bits_where (pit_out 0 m.moment m.pit) 0x01)) wire)
     ∙ has-or wires (bits_where (pit_out 0 m.moment m.pit) 0x01) wire
     ∙ ap (λ b. has wires wire || b) (driven (pit_out 0 m.moment m.pit) 0 wire (λ s. wire-other wire 0 e refl (sym s)))
-    ∙ or_false (has wires wire)
+    ∙ or-false (has wires wire)
 
 taken : (inputs edges wire : ℕ) (m : State) → inputs < 2 ^ 16 → is_wire wire ≡ true → has (lines_of (settled_pair inputs edges m.pair)) wire ≡ has inputs wire
 taken inputs edges wire m bound e =

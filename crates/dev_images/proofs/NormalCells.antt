@@ -1,6 +1,6 @@
 -- Normal images of the newest set have the cells that a board may be restored from.
-use Rattle.std.proofs.Common.{◌≡◌, ℕ, zero, suc, ◌+◌, ◌*◌, ◌<◌, ◌≤◌, Bool, true, false, not, ◌&&◌, ◌||◌, ◌==◌, List, [], ◌∷◌, ◌++◌, length, get_or, map, Option, ℤ, pos, negsuc, refl, sym, ap, ◌∙◌, subst, arith}
-use Rattle.std.proofs.lemmas.Bool.{and_parts}
+use Rattle.std.proofs.Common.{◌≡◌, ℕ, zero, suc, ◌+◌, ◌*◌, ◌<◌, ◌≤◌, Bool, true, false, not, ◌&&◌, ◌==◌, List, ◌∷◌, ◌++◌, length, get_or, map, Option, ℤ, pos, negsuc, refl, sym, ap, ◌∙◌, subst, arith, ◌||◌, []}
+use Rattle.std.proofs.lemmas.Bool.{and_parts, not-true}
 use Rattle.std.proofs.lemmas.Int.{ints}
 use Rattle.vms_kinds.specs.Codes.{InRange}
 use Rattle.vms_kinds.specs.declared.Kind.{Kind}
@@ -109,10 +109,6 @@ latch-22 : (numbers : List ℤ) (held : Bool) → needs (get_or numbers 29 (pos 
 unfolding first
 latch-22 numbers true a b = rw (a, b) refl
 latch-22 numbers false a b = rw (a, b) refl
-
-not-true : (b : Bool) → not b ≡ true → b ≡ false
-not-true true e = cc
-not-true false e = refl
 
 pick : (slots : List Slot) (ks : List ℕ) (i : ℕ) → i < length ks → has_none slots ks ≡ true → has_cell slots (get_or ks i 0) ≡ false
 pick slots [] i lt e = absurd (omega arith)

@@ -1,7 +1,6 @@
 -- A normal image of the newest set's serial port has the cells that a port may be restored from.
-use Rattle.std.proofs.Common.{◌≡◌, ◌≢◌, ℕ, zero, suc, ◌+◌, ◌<◌, ◌≤◌, Bool, true, false, ◌&&◌, ◌||◌, ◌==◌, List, [], ◌∷◌, ◌++◌, length, get_or, take, drop, min, map, Option, Some, None, ℤ, pos, negsuc, ◌≤ℤ◌, refl, sym, ◌∙◌, subst, arith}
-use Rattle.std.proofs.lemmas.Bool.{and_parts, leb-true, ltb-true}
-use Rattle.vms_bodies.proofs.ReadyLaws.{same_is}
+use Rattle.std.proofs.Common.{◌≡◌, ◌≢◌, ℕ, zero, suc, ◌+◌, ◌<◌, ◌≤◌, Bool, true, false, ◌&&◌, ◌==◌, List, ◌∷◌, ◌++◌, length, get_or, take, drop, min, map, Option, Some, None, ℤ, pos, negsuc, ◌≤ℤ◌, refl, sym, ◌∙◌, subst, arith, []}
+use Rattle.std.proofs.lemmas.Bool.{and_parts, leb-true, ltb-true, or_from}
 use Rattle.vms_spec.specs.Numbers.{same_number}
 use Rattle.vms_spec.specs.Sets.{Set, Device, Sub}
 use Rattle.dev_images.specs.Laws.{serial_at_4}
@@ -16,6 +15,7 @@ use Rattle.vms_kinds.specs.declared.Kind.TheVariants.{U8}
 use Rattle.vms_spec.specs.Images.{Image, has_cell, image_slots, own_slots, sub_slots, came_slots, IsNormal, IsVersionOf, AreVersionsOf}
 use Rattle.vms_spec.specs.Layout.{Cell, no_cell, first, device_cells, times, Slot, Number, Constant, Filler, Rule}
 use Rattle.vms_spec.specs.Shipped.{set_4, thr_ipending, fifo, timeout, ring}
+use Rattle.vms_spec.proofs.NumberLaws.{same_number_is}
 use Rattle.dev_base.specs.Cells.{AreOf, kind_at, nat_of}
 use Rattle.dev_images.proofs.NormalCells.{of-kinds, has-none}
 use Rattle.dev_serial.specs.Cells.{IsPortCells}
@@ -31,17 +31,13 @@ all_within low high (Constant kind z ∷ slots) = all_within low high slots
 all_within low high (Filler n ∷ slots) = all_within low high slots
 all_within low high (Rule b ∷ slots) = all_within low high slots
 
-both-false : (a b : Bool) → a ≡ false → b ≡ false → (a || b) ≡ false
-both-false true b e f = cc
-both-false false b e f = f
-
 within-none : (low high : ℕ) (slots : List Slot) (c : ℕ) → all_within low high slots ≡ true → high ≤ c → has_cell slots c ≡ false
 within-none low high [] c e h = refl
 within-none low high (Number k kind capacities ∷ slots) c e h =
     let p = and_parts (nat_le low k) (nat_lt k high && all_within low high slots) e in
     let q = and_parts (nat_lt k high) (all_within low high slots) p.1 in
     let below : k < high = ltb-true k high q.0 in
-    both-false (k == c) (has_cell slots c) (neq k c (λ same. absurd (omega (arith, below, same, h)))) (within-none low high slots c q.1 h)
+    or_from (k == c) (has_cell slots c) (neq k c (λ same. absurd (omega (arith, below, same, h)))) (within-none low high slots c q.1 h)
 within-none low high (Constant kind z ∷ slots) c e h = within-none low high slots c e h
 within-none low high (Filler n ∷ slots) c e h = within-none low high slots c e h
 within-none low high (Rule b ∷ slots) c e h = within-none low high slots c e h
@@ -52,7 +48,7 @@ before-none low high (Number k kind capacities ∷ slots) c e h =
     let p = and_parts (nat_le low k) (nat_lt k high && all_within low high slots) e in
     let q = and_parts (nat_lt k high) (all_within low high slots) p.1 in
     let from : low ≤ k = leb-true low k p.0 in
-    both-false (k == c) (has_cell slots c) (neq k c (λ same. absurd (omega (arith, from, same, h)))) (before-none low high slots c q.1 h)
+    or_from (k == c) (has_cell slots c) (neq k c (λ same. absurd (omega (arith, from, same, h)))) (before-none low high slots c q.1 h)
 before-none low high (Constant kind z ∷ slots) c e h = before-none low high slots c e h
 before-none low high (Filler n ∷ slots) c e h = before-none low high slots c e h
 before-none low high (Rule b ∷ slots) c e h = before-none low high slots c e h
@@ -60,27 +56,27 @@ before-none low high (Rule b ∷ slots) c e h = before-none low high slots c e h
 -- elements of an array before and behind a cell
 elements-before : (n at c : ℕ) → at + n ≤ c → has_cell (times n (element byte) at 1) c ≡ false
 elements-before zero at c h = refl
-elements-before (suc n) at c h = both-false (at == c) _ (neq at c (λ same. absurd (omega (arith, same, h)))) (elements-before n (at + 1) c (omega (arith, h)))
+elements-before (suc n) at c h = or_from (at == c) _ (neq at c (λ same. absurd (omega (arith, same, h)))) (elements-before n (at + 1) c (omega (arith, h)))
 
 elements-after : (n at c : ℕ) → c < at → has_cell (times n (element byte) at 1) c ≡ false
 elements-after zero at c h = refl
-elements-after (suc n) at c h = both-false (at == c) _ (neq at c (λ same. absurd (omega (arith, same, h)))) (elements-after n (at + 1) c (omega (arith, h)))
+elements-after (suc n) at c h = or_from (at == c) _ (neq at c (λ same. absurd (omega (arith, same, h)))) (elements-after n (at + 1) c (omega (arith, h)))
 
 -- the FIFOs' slots lack the cells behind the elements of each array
 rx-lack : (n m i : ℕ) → n ≤ i → i < 16 → has_cell (fifo_slots n m) (14 + i) ≡ false
 rx-lack n m i l b =
     has-none (inner_slots n m) (Rule true ∷ []) (14 + i)
-    (has-none (Number 13 U8 (16 ∷ []) ∷ []) (times n (element byte) 14 1 ++ second_slots m) (14 + i) (both-false (13 == 14 + i) false (neq 13 (14 + i) (λ same. absurd (omega (arith, same)))) refl)
+    (has-none (Number 13 U8 (16 ∷ []) ∷ []) (times n (element byte) 14 1 ++ second_slots m) (14 + i) (or_from (13 == 14 + i) false (neq 13 (14 + i) (λ same. absurd (omega (arith, same)))) refl)
     (has-none (times n (element byte) 14 1) (second_slots m) (14 + i) (elements-before n 14 (14 + i) (omega (arith, l)))
-    (has-none (Number 30 U8 (16 ∷ []) ∷ []) (times m (element byte) 31 1 ++ []) (14 + i) (both-false (30 == 14 + i) false (neq 30 (14 + i) (λ same. absurd (omega (arith, same, b)))) refl)
+    (has-none (Number 30 U8 (16 ∷ []) ∷ []) (times m (element byte) 31 1 ++ []) (14 + i) (or_from (30 == 14 + i) false (neq 30 (14 + i) (λ same. absurd (omega (arith, same, b)))) refl)
     (has-none (times m (element byte) 31 1) [] (14 + i) (elements-after m 31 (14 + i) (omega (arith, b))) refl)))) refl
 
 tx-lack : (n m i : ℕ) → n ≤ 16 → m ≤ i → i < 16 → has_cell (fifo_slots n m) (31 + i) ≡ false
 tx-lack n m i most l b =
     has-none (inner_slots n m) (Rule true ∷ []) (31 + i)
-    (has-none (Number 13 U8 (16 ∷ []) ∷ []) (times n (element byte) 14 1 ++ second_slots m) (31 + i) (both-false (13 == 31 + i) false (neq 13 (31 + i) (λ same. absurd (omega (arith, same)))) refl)
+    (has-none (Number 13 U8 (16 ∷ []) ∷ []) (times n (element byte) 14 1 ++ second_slots m) (31 + i) (or_from (13 == 31 + i) false (neq 13 (31 + i) (λ same. absurd (omega (arith, same)))) refl)
     (has-none (times n (element byte) 14 1) (second_slots m) (31 + i) (elements-before n 14 (31 + i) (omega (arith, most)))
-    (has-none (Number 30 U8 (16 ∷ []) ∷ []) (times m (element byte) 31 1 ++ []) (31 + i) (both-false (30 == 31 + i) false (neq 30 (31 + i) (λ same. absurd (omega (arith, same)))) refl)
+    (has-none (Number 30 U8 (16 ∷ []) ∷ []) (times m (element byte) 31 1 ++ []) (31 + i) (or_from (30 == 31 + i) false (neq 30 (31 + i) (λ same. absurd (omega (arith, same)))) refl)
     (has-none (times m (element byte) 31 1) [] (31 + i) (elements-before m 31 (31 + i) (omega (arith, l))) refl)))) refl
 
 -- subsections that came lack a cell that none of them has
@@ -116,7 +112,7 @@ default-in [] at i n place is lt e = refl
 default-in (cell ∷ cells) (suc at) i n zero is lt e = absurd (omega (arith, is))
 default-in (cell ∷ cells) (suc at) i n (suc place) is lt e = default-in cells at i n place (omega (arith, is)) lt e
 default-in (cell ∷ cells) zero i zero place is lt e = absurd (omega (arith, lt))
-default-in (cell ∷ cells) zero i (suc n) zero is lt e = sym (same_is (pos 0) cell.default (and_parts (same_number (pos 0) cell.default) (zero_defaults (take n cells)) e).0)
+default-in (cell ∷ cells) zero i (suc n) zero is lt e = sym (same_number_is (pos 0) cell.default (and_parts (same_number (pos 0) cell.default) (zero_defaults (take n cells)) e).0)
 default-in (cell ∷ cells) zero zero (suc n) (suc place) is lt e = absurd (omega (arith, is))
 default-in (cell ∷ cells) zero (suc i) (suc n) (suc place) is lt e = default-in cells zero i n place (omega (arith, is)) (omega (arith, lt)) (and_parts (same_number (pos 0) cell.default) (zero_defaults (take n cells)) e).1
 

@@ -1,8 +1,9 @@
 -- The image of a device is ready part by part: its own fields, and each subsection by itself.
-use Rattle.std.proofs.Common.{◌≡◌, ℕ, zero, suc, ◌+◌, ◌<◌, ◌≤◌, Bool, true, false, ◌&&◌, ◌||◌, ◌==◌, cond, List, [], ◌∷◌, ◌++◌, length, get_or, take, drop, replicate, map, Option, Some, None, ℤ, pos, refl, sym, ap, ◌∙◌, subst, arith}
+use Rattle.std.proofs.Common.{◌≡◌, ℕ, zero, suc, ◌+◌, ◌<◌, ◌≤◌, Bool, true, false, ◌&&◌, ◌==◌, cond, List, ◌∷◌, ◌++◌, length, get_or, take, drop, replicate, map, Option, Some, None, ℤ, pos, refl, sym, ap, ◌∙◌, subst, arith, ◌||◌, []}
 use Rattle.std.specs.List.{flat_map}
-use Rattle.std.proofs.lemmas.Bool.{and_parts, eq-eqb}
+use Rattle.std.proofs.lemmas.Bool.{and_parts, eq-eqb, and_from, or_right}
 use Rattle.vms_bodies.proofs.ReadyLaws.{is_same}
+use Rattle.vms_bodies.proofs.SpellLaws.{rules_append}
 use Rattle.vms_spec.specs.Images.{has_cell, own_slots, sub_slots, came_slots, own_cells, image_slots, RulesHold}
 use Rattle.vms_spec.specs.Layout.{Cell, Slot, Number, times, desc_cells, struct_cells, device_cells}
 use Rattle.vms_spec.specs.Numbers.{same_number}
@@ -10,7 +11,7 @@ use Rattle.vms_spec.specs.Sets.{Sub, Device, Set}
 use Rattle.vms_spec.specs.Streams.{is_needed, IsReady}
 use Rattle.dev_base.specs.Cells.{AreOf}
 use Rattle.dev_images.specs.Images.{needed_from, bare, image_of}
-use Rattle.dev_images.proofs.ReadyOf.{AreSubs, CountsFit, are_kept, kept-left, kept-right, kept-both, rules-both, ready-of}
+use Rattle.dev_images.proofs.ReadyOf.{AreSubs, CountsFit, are_kept, kept-left, kept-right, kept-both, ready-of}
 
 -- the cells of one subsection
 abbrev pub sub_cells : Set → Sub → List Cell
@@ -57,7 +58,7 @@ subs-kept set d numbers j at (s ∷ subs) h =
 subs-rules : (set : Set) (d : Device) (numbers : List ℤ) (j at : ℕ) (subs : List Sub) → AreFineSubs set d numbers j at subs → RulesHold (needed_slots set d numbers j at subs)
 subs-rules set d numbers j at [] h = tt
 subs-rules set d numbers j at (s ∷ subs) h =
-    rules-both (if_needed set d numbers s j at) (needed_slots set d numbers (suc j) (at + length (sub_cells set s)) subs) h.0.rules (subs-rules set d numbers (suc j) (at + length (sub_cells set s)) subs h.1)
+    rules_append (if_needed set d numbers s j at) (needed_slots set d numbers (suc j) (at + length (sub_cells set s)) subs) h.0.rules (subs-rules set d numbers (suc j) (at + length (sub_cells set s)) subs h.1)
 
 pub ready-parts : (set : Set) (d : Device) (numbers : List ℤ) → d.desc.minimum ≤ d.desc.version → AreSubs d.subs → AreOf (map (λ cell. cell.kind) (device_cells set d)) numbers → CountsFit (device_cells set d) numbers → are_kept (own_slots set d d.desc.version numbers) numbers 0 (desc_cells (struct_cells set) d.desc) ≡ true → RulesHold (own_slots set d d.desc.version numbers) → AreFineSubs set d numbers 0 (own_cells set d) d.subs → IsReady set d (image_of set d numbers)
 ready-parts set d numbers minimum subs are counts own rules fine =
@@ -68,7 +69,7 @@ ready-parts set d numbers minimum subs are counts own rules fine =
     ∙ kept-both (own_slots set d d.desc.version numbers ++ slots) numbers 0 (own_cells set d) (desc_cells (struct_cells set) d.desc) (flat_map (sub_cells set) d.subs) (omega arith)
     (kept-left (own_slots set d d.desc.version numbers) slots numbers 0 (desc_cells (struct_cells set) d.desc) own)
     (kept-right (own_slots set d d.desc.version numbers) slots numbers (own_cells set d) (flat_map (sub_cells set) d.subs) (subs-kept set d numbers 0 (own_cells set d) d.subs fine)))
-    (subst RulesHold (sym same) (rules-both (own_slots set d d.desc.version numbers) slots rules (subs-rules set d numbers 0 (own_cells set d) d.subs fine)))
+    (subst RulesHold (sym same) (rules_append (own_slots set d d.desc.version numbers) slots rules (subs-rules set d numbers 0 (own_cells set d) d.subs fine)))
 
 -- ---- cells at 0, and arrays
 
@@ -90,20 +91,13 @@ abbrev pub zero_defaults : List Cell → Bool
 zero_defaults [] = true
 zero_defaults (cell ∷ cells) = same_number (pos 0) cell.default && zero_defaults cells
 
-or-same : (a b : Bool) → b ≡ true → (a || b) ≡ true
-or-same true b e = refl
-or-same false b e = e
-
-and-two : (a b : Bool) → a ≡ true → b ≡ true → (a && b) ≡ true
-and-two a b e f = ap (λ a. a && b) e ∙ f
-
 pub zeros-kept : (slots : List Slot) (numbers : List ℤ) (at : ℕ) (cells : List Cell) → zero_defaults cells ≡ true → take (length cells) (drop at numbers) ≡ replicate (length cells) (pos 0) → are_kept slots numbers at cells ≡ true
 zeros-kept slots numbers at [] d e = refl
 zeros-kept slots numbers at (cell ∷ cells) d e =
     let p = and_parts (same_number (pos 0) cell.default) (zero_defaults cells) d in
     let s = shape (length cells) (drop at numbers) e in
     let f = front at numbers (pos 0) s.0 s.1 in
-    and-two _ _ (or-same (has_cell slots at) _ (ap (λ z. same_number z cell.default) f.0 ∙ p.0))
+    and_from _ _ (or_right (has_cell slots at) _ (ap (λ z. same_number z cell.default) f.0 ∙ p.0))
     (zeros-kept slots numbers (suc at) cells p.1 (ap (take (length cells)) f.1 ∙ s.2))
 
 -- an array of cells, of which so many stand in the bytes, and 0 behind them
@@ -114,13 +108,13 @@ pub array-kept : (cell : Cell) (numbers : List ℤ) (n m at : ℕ) → cell.defa
 array-kept cell numbers n zero at d zeros = refl
 array-kept cell numbers zero (suc m) at d zeros =
     let here : at + 0 ≡ at = omega arith in
-    and-two _ _ (is_same (get_or numbers at (pos 0)) cell.default (ap (λ (p : ℕ). get_or numbers p (pos 0)) (sym here) ∙ zeros 0 (omega arith) (omega arith) ∙ sym d))
+    and_from _ _ (is_same (get_or numbers at (pos 0)) cell.default (ap (λ (p : ℕ). get_or numbers p (pos 0)) (sym here) ∙ zeros 0 (omega arith) (omega arith) ∙ sym d))
     (array-kept cell numbers zero m (suc at) d (λ i lo hi. let next : suc at + i ≡ at + suc i = omega arith in ap (λ (p : ℕ). get_or numbers p (pos 0)) next ∙ zeros (suc i) (omega arith) (omega (arith, hi))))
 array-kept cell numbers (suc n) (suc m) at d zeros =
     let next : at + 1 ≡ suc at = omega arith in
     let rest : are_kept (times n (element cell) (at + 1) 1) numbers (suc at) (replicate m cell) ≡ true = ap (λ (p : ℕ). are_kept (times n (element cell) p 1) numbers (suc at) (replicate m cell)) next ∙ array-kept cell numbers n m (suc at) d (λ i lo hi. let more : suc at + i ≡ at + suc i = omega arith in ap (λ (p : ℕ). get_or numbers p (pos 0)) more ∙ zeros (suc i) (omega (arith, lo)) (omega (arith, hi))) in
     let here : (at == at) ≡ true = eq-eqb at at refl in
-    and-two _ _ (ap (λ b. (b || has_cell (times n (element cell) (at + 1) 1) at) || same_number (get_or numbers at (pos 0)) cell.default) here)
+    and_from _ _ (ap (λ b. (b || has_cell (times n (element cell) (at + 1) 1) at) || same_number (get_or numbers at (pos 0)) cell.default) here)
     (kept-right (element cell at) (times n (element cell) (at + 1) 1) numbers (suc at) (replicate m cell) rest)
 
 pub rules-times : (cell : Cell) (n at : ℕ) → RulesHold (times n (element cell) at 1)

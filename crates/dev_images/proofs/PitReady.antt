@@ -1,5 +1,5 @@
 -- The image of the timer chip is ready.
-use Rattle.std.proofs.Common.{◌≡◌, ℕ, Bool, true, false, List, [], ◌∷◌, ◌++◌, get_or, ℤ, pos, refl, arith}
+use Rattle.std.proofs.Common.{◌≡◌, ℕ, Bool, true, false, List, ◌∷◌, ◌++◌, get_or, ℤ, pos, refl, arith, []}
 use Rattle.vms_kinds.specs.declared.Kind.TheVariants.{U8, Bool as Truth}
 use Rattle.vms_spec.specs.Images.{RulesHold}
 use Rattle.vms_spec.specs.Layout.{first, struct_cells, meanings, no_meaning, Cell, Slot, Number, Rule}
@@ -9,7 +9,8 @@ use Rattle.dev_pit.specs.Cells.{AreCellsOf}
 use Rattle.dev_images.specs.Laws.{ReadyOf, PitIsReady}
 use Rattle.dev_images.proofs.ChipReady.{needs}
 use Rattle.dev_images.proofs.PitCarried.{absent-kept}
-use Rattle.dev_images.proofs.ReadyOf.{are_kept, ready-plain, kept-left, kept-right, kept-both, rules-both}
+use Rattle.dev_images.proofs.ReadyOf.{are_kept, ready-plain, kept-left, kept-right, kept-both}
+use Rattle.vms_bodies.proofs.SpellLaws.{rules_append}
 
 -- the slots of the channel whose cells begin at a place, and its cells
 abbrev pub slots_in : Set → List ℤ → ℕ → List Slot
@@ -93,7 +94,7 @@ module _ (numbers : List ℤ) (a b c rest : List Slot) where
 
   all-hold : RulesHold a → RulesHold b → RulesHold c → RulesHold rest → RulesHold (chip_slots a b c rest)
   all-hold p q r s =
-      rules-both (((a ++ (b ++ (c ++ []))) ++ rest) ++ Rule true ∷ []) [] (rules-both ((a ++ (b ++ (c ++ []))) ++ rest) (Rule true ∷ []) (rules-both (a ++ (b ++ (c ++ []))) rest (rules-both a (b ++ (c ++ [])) p (rules-both b (c ++ []) q (rules-both c [] r tt))) s) (refl, tt)) tt
+      rules_append (((a ++ (b ++ (c ++ []))) ++ rest) ++ Rule true ∷ []) [] (rules_append ((a ++ (b ++ (c ++ []))) ++ rest) (Rule true ∷ []) (rules_append (a ++ (b ++ (c ++ []))) rest (rules_append a (b ++ (c ++ [])) p (rules_append b (c ++ []) q (rules_append c [] r tt))) s) (refl, tt)) tt
 
 -- the statuses of later sets
 abbrev pub status_slots : List Slot

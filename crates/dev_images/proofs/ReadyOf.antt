@@ -1,19 +1,21 @@
 -- When the image of numbers is ready.
-use Rattle.std.proofs.Common.{◌≡◌, ℕ, zero, suc, ◌+◌, ◌<◌, ◌≤◌, Bool, true, false, ◌&&◌, ◌||◌, ◌==◌, cond, List, [], ◌∷◌, ◌++◌, length, get_or, map, Option, Some, None, ℤ, pos, ◌≤ℤ◌, refl, sym, ap, ◌∙◌, subst, arith}
+use Rattle.std.proofs.Common.{◌≡◌, ℕ, zero, suc, ◌+◌, ◌<◌, ◌≤◌, Bool, true, false, ◌&&◌, ◌==◌, cond, List, ◌∷◌, ◌++◌, length, get_or, map, Option, Some, None, ℤ, pos, ◌≤ℤ◌, refl, sym, ap, ◌∙◌, subst, arith, ◌||◌, []}
 use Rattle.std.specs.List.{AllByRecursion}
 use Rattle.vms_kinds.specs.Codes.{InRange}
 use Rattle.vms_kinds.specs.declared.Kind.{Kind}
-use Rattle.vms_bodies.proofs.ReadyLaws.{same_is}
 use Rattle.vms_spec.proofs.WellFormedLaws.{within}
 use Rattle.vms_spec.specs.Rules.{counts_well}
 use Rattle.vms_spec.specs.Numbers.{same_number}
-use Rattle.std.proofs.lemmas.Bool.{and_parts, eqb-true}
-use Rattle.vms_spec.specs.Images.{Image, has_cell, image_slots, AreVersionsOf, FitCells, IsValid, RulesHold}
-use Rattle.vms_spec.specs.Layout.{Cell, no_cell, device_cells, Slot, Number, Constant, Filler, Rule}
+use Rattle.std.proofs.lemmas.Bool.{and_parts, eqb-true, and_from}
+use Rattle.vms_spec.specs.Images.{Image, has_cell, image_slots, AreVersionsOf, FitCells, IsValid}
+use Rattle.vms_spec.specs.Layout.{Cell, no_cell, device_cells, Slot}
 use Rattle.vms_spec.specs.Sets.{Sub, Device, Set}
 use Rattle.vms_spec.specs.Streams.{is_needed, ComeAsNeeded, IsReady}
+use Rattle.vms_spec.proofs.ListLaws.{or_second}
+use Rattle.vms_spec.proofs.NumberLaws.{same_number_is}
 use Rattle.dev_base.specs.Cells.{AreOf, kind_at}
 use Rattle.dev_images.specs.Images.{needed_from, bare, image_of}
+use Rattle.vms_bodies.proofs.Names.{has_left, has_right}
 
 -- descriptions of subsections can be written at their versions
 abbrev pub AreSubs : List Sub → Type 0
@@ -68,13 +70,9 @@ are_kept slots numbers from [] = true
 are_kept slots numbers from (cell ∷ cells) =
     (has_cell slots from || same_number (get_or numbers from (pos 0)) cell.default) && are_kept slots numbers (suc from) cells
 
-or-right : (a b : Bool) → (a || b) ≡ true → a ≡ false → b ≡ true
-or-right true b e f = cc
-or-right false b e f = e
-
 kept-first : (slots : List Slot) (numbers : List ℤ) (from : ℕ) (cell : Cell) → (has_cell slots from || same_number (get_or numbers from (pos 0)) cell.default) ≡ true → has_cell slots from ≡ false → get_or numbers from (pos 0) ≡ cell.default
 kept-first slots numbers from cell e out =
-    same_is (get_or numbers from (pos 0)) cell.default (or-right (has_cell slots from) _ e out)
+    same_number_is (get_or numbers from (pos 0)) cell.default (or_second (has_cell slots from) _ e out)
 
 kept : (slots : List Slot) (numbers : List ℤ) (from : ℕ) (cells : List Cell) → are_kept slots numbers from cells ≡ true → (c place : ℕ) → place ≡ from + c → c < length cells → has_cell slots place ≡ false → get_or numbers place (pos 0) ≡ (get_or cells c no_cell).default
 kept slots numbers from [] e c place is lt out = absurd (omega arith)
@@ -145,44 +143,22 @@ or-mono : (a b c : Bool) → (b ≡ true → c ≡ true) → (a || b) ≡ true �
 or-mono true b c f e = refl
 or-mono false b c f e = f e
 
-or-from : (a b : Bool) → b ≡ true → (a || b) ≡ true
-or-from true b e = refl
-or-from false b e = e
-
 or-lift : (a b c : Bool) → (a ≡ true → b ≡ true) → (a || c) ≡ true → (b || c) ≡ true
 or-lift true b c f e = ap (λ b. b || c) (f refl)
 or-lift false true c f e = refl
 or-lift false false c f e = e
 
-and-from : (a b : Bool) → a ≡ true → b ≡ true → (a && b) ≡ true
-and-from a b e f = ap (λ a. a && b) e ∙ f
-
--- slots that are joined
-has-left : (first second : List Slot) (c : ℕ) → has_cell first c ≡ true → has_cell (first ++ second) c ≡ true
-has-left [] second c e = cc
-has-left (Number k kind capacities ∷ first) second c e = or-mono (k == c) (has_cell first c) (has_cell (first ++ second) c) (has-left first second c) e
-has-left (Constant kind z ∷ first) second c e = has-left first second c e
-has-left (Filler n ∷ first) second c e = has-left first second c e
-has-left (Rule b ∷ first) second c e = has-left first second c e
-
-has-right : (first second : List Slot) (c : ℕ) → has_cell second c ≡ true → has_cell (first ++ second) c ≡ true
-has-right [] second c e = e
-has-right (Number k kind capacities ∷ first) second c e = or-from (k == c) (has_cell (first ++ second) c) (has-right first second c e)
-has-right (Constant kind z ∷ first) second c e = has-right first second c e
-has-right (Filler n ∷ first) second c e = has-right first second c e
-has-right (Rule b ∷ first) second c e = has-right first second c e
-
 kept-more : (slots more : List Slot) (numbers : List ℤ) (from : ℕ) (cells : List Cell) → ((c : ℕ) → has_cell slots c ≡ true → has_cell more c ≡ true) → are_kept slots numbers from cells ≡ true → are_kept more numbers from cells ≡ true
 kept-more slots more numbers from [] lift e = refl
 kept-more slots more numbers from (cell ∷ cells) lift e =
     let p = and_parts (has_cell slots from || same_number (get_or numbers from (pos 0)) cell.default) (are_kept slots numbers (suc from) cells) e in
-    and-from _ _ (or-lift (has_cell slots from) (has_cell more from) _ (lift from) p.0) (kept-more slots more numbers (suc from) cells lift p.1)
+    and_from _ _ (or-lift (has_cell slots from) (has_cell more from) _ (lift from) p.0) (kept-more slots more numbers (suc from) cells lift p.1)
 
 pub kept-left : (first second : List Slot) (numbers : List ℤ) (from : ℕ) (cells : List Cell) → are_kept first numbers from cells ≡ true → are_kept (first ++ second) numbers from cells ≡ true
-kept-left first second numbers from cells e = kept-more first (first ++ second) numbers from cells (has-left first second) e
+kept-left first second numbers from cells e = kept-more first (first ++ second) numbers from cells (has_left first second) e
 
 pub kept-right : (first second : List Slot) (numbers : List ℤ) (from : ℕ) (cells : List Cell) → are_kept second numbers from cells ≡ true → are_kept (first ++ second) numbers from cells ≡ true
-kept-right first second numbers from cells e = kept-more second (first ++ second) numbers from cells (has-right first second) e
+kept-right first second numbers from cells e = kept-more second (first ++ second) numbers from cells (has_right first second) e
 
 -- cells that are joined
 pub kept-both : (slots : List Slot) (numbers : List ℤ) (from next : ℕ) (first second : List Cell) → next ≡ from + length first → are_kept slots numbers from first ≡ true → are_kept slots numbers next second ≡ true → are_kept slots numbers from (first ++ second) ≡ true
@@ -190,11 +166,4 @@ kept-both slots numbers from next [] second is e f =
     let here : from ≡ next = omega (arith, is) in ap (λ n. are_kept slots numbers n second) here ∙ f
 kept-both slots numbers from next (cell ∷ first) second is e f =
     let p = and_parts (has_cell slots from || same_number (get_or numbers from (pos 0)) cell.default) (are_kept slots numbers (suc from) first) e in
-    and-from _ _ p.0 (kept-both slots numbers (suc from) next first second (omega (arith, is)) p.1 f)
-
-pub rules-both : (first second : List Slot) → RulesHold first → RulesHold second → RulesHold (first ++ second)
-rules-both [] second a b = b
-rules-both (Number k kind capacities ∷ first) second a b = rules-both first second a b
-rules-both (Constant kind z ∷ first) second a b = rules-both first second a b
-rules-both (Filler n ∷ first) second a b = rules-both first second a b
-rules-both (Rule r ∷ first) second a b = (a.0, rules-both first second a.1 b)
+    and_from _ _ p.0 (kept-both slots numbers (suc from) next first second (omega (arith, is)) p.1 f)

@@ -1,6 +1,6 @@
 -- The image of the serial port is ready.
-use Rattle.std.proofs.Common.{◌≡◌, ℕ, ◌+◌, ◌-◌, ◌%◌, ◌^◌, ◌<◌, ◌≤◌, ◌==◌, Bool, true, false, not, ◌||◌, List, [], ◌∷◌, ◌++◌, get_or, take, drop, replicate, ℤ, pos, negsuc, refl, ap, arith, min}
-use Rattle.std.proofs.lemmas.Bool.{eqb-true}
+use Rattle.std.proofs.Common.{◌≡◌, ℕ, ◌+◌, ◌-◌, ◌%◌, ◌^◌, ◌<◌, ◌≤◌, ◌==◌, Bool, true, false, not, List, ◌∷◌, ◌++◌, get_or, take, drop, replicate, ℤ, pos, negsuc, refl, ap, arith, min, ◌||◌, []}
+use Rattle.std.proofs.lemmas.Bool.{eqb-true, not-false, or_parts}
 use Rattle.std.proofs.lemmas.Bool.Decides.{nat_tests}
 use Rattle.std.proofs.lemmas.Int.{ints}
 use Rattle.std.proofs.lemmas.Nat.{and_le_l}
@@ -11,6 +11,7 @@ use Rattle.vms_spec.specs.Layout.{first, device_cells, times, Cell, Slot, Number
 use Rattle.vms_spec.specs.Images.{RulesHold}
 use Rattle.vms_spec.specs.Rules.{counts_well}
 use Rattle.vms_bodies.proofs.ReadyLaws.{counted_well}
+use Rattle.vms_bodies.proofs.SpellLaws.{rules_append}
 use Rattle.std.proofs.lemmas.Grind.{and_numeral}
 use Rattle.dev_serial.specs.Cells.{IsArray}
 use Rattle.vms_spec.specs.Shipped.{set_1, set_2, set_3, set_4, never, thr_ipending, fifo, timeout, ring}
@@ -18,7 +19,7 @@ use Rattle.dev_base.specs.Cells.{nat_of}
 use Rattle.dev_serial.specs.Laws.{AreSaved}
 use Rattle.dev_images.specs.Laws.{ReadyOf, SerialIsReady, serial_at_1, serial_at_2, serial_at_3, serial_at_4}
 use Rattle.dev_images.proofs.Parts.{IsFineSub, ready-parts, zeros-kept, element, array-kept, rules-times}
-use Rattle.dev_images.proofs.ReadyOf.{are_kept, are_counted, counts-none, counts-by, kept-left, kept-right, kept-both, rules-both}
+use Rattle.dev_images.proofs.ReadyOf.{are_kept, are_counted, counts-none, counts-by, kept-left, kept-right, kept-both}
 
 -- whether a signed byte isn't -1, and whether a timer isn't never
 abbrev pub needs_sign : ℤ → Bool
@@ -26,10 +27,6 @@ needs_sign z = not (bit_and (residue 1 z) 255 == 255)
 
 abbrev pub needs_timer : ℤ → Bool
 needs_timer z = not (bit_and (residue 8 z) never == never)
-
-not-false : (b : Bool) → not b ≡ false → b ≡ true
-not-false true e = refl
-not-false false e = cc
 
 pub no-sign : (z : ℤ) → InRange I8 z → needs_sign z ≡ false → z ≡ negsuc 0
 no-sign (pos n) r e =
@@ -99,14 +96,6 @@ no-count (pos n) r e =
     omega (arith, ints, mask, most, low)
 no-count (negsuc n) r e = absurd (let least = r.0 in omega (arith, ints, least))
 
-left-false : (a b : Bool) → (a || b) ≡ false → a ≡ false
-left-false true b e = cc
-left-false false b e = refl
-
-right-false : (a b : Bool) → (a || b) ≡ false → b ≡ false
-right-false true b e = cc
-right-false false b e = e
-
 -- how many elements of an array stand in the bytes
 pub elements : (z : ℤ) → InRange U8 z → nat_of z ≤ 16 → min (residue 1 z) 16 ≡ nat_of z
 elements (pos n) r l = let most = r.1 in omega (arith, ints, most, l)
@@ -154,7 +143,7 @@ module _ (numbers : List ℤ) (n m : ℕ) (rx : (i : ℕ) → n ≤ i → i < 16
 
   fifo-rules : RulesHold (fifo_slots n m)
   fifo-rules =
-      rules-both (inner_slots n m) (Rule true ∷ []) (rules-both (times n (element byte) 14 1) (second_slots m) (rules-times byte n 14) (rules-both (times m (element byte) 31 1) [] (rules-times byte m 31) tt)) (refl, tt)
+      rules_append (inner_slots n m) (Rule true ∷ []) (rules_append (times n (element byte) 14 1) (second_slots m) (rules-times byte n 14) (rules_append (times m (element byte) 31 1) [] (rules-times byte m 31) tt)) (refl, tt)
 
 -- what a set from 2 on has of the FIFOs
 pub record HasFifo (numbers : List ℤ) : Type 0 where
@@ -182,7 +171,7 @@ module _ (numbers : List ℤ) (h : HasFifo numbers) where
 
   pub no-fifo : needs_fifo numbers ≡ false → take 34 (drop 13 numbers) ≡ replicate 34 (pos 0)
   no-fifo e =
-      h.none (no-count _ h.rx_range (left-false (needs_count (get_or numbers 13 (pos 0))) _ e)) (no-count _ h.tx_range (right-false (needs_count (get_or numbers 13 (pos 0))) _ e))
+      h.none (no-count _ h.rx_range ((or_parts (needs_count (get_or numbers 13 (pos 0))) _ e).0)) (no-count _ h.tx_range ((or_parts (needs_count (get_or numbers 13 (pos 0))) _ e).1))
 
   fifo-2 : (needed : Bool) → needs_fifo numbers ≡ needed → (needed ≡ false → take 34 (drop 13 numbers) ≡ replicate 34 (pos 0)) → IsFineSub set_2 serial_at_2 numbers fifo 1 13
   unfolding first
@@ -276,8 +265,8 @@ serial-3 numbers are =
 
 pub no-ring : (numbers : List ℤ) → AreSaved 4 numbers → needs_ring numbers ≡ false → take 36 (drop 48 numbers) ≡ replicate 36 (pos 0)
 no-ring numbers are e =
-    are.no_ring (omega arith) (no-count _ (are.of_kinds.in_range 65 (omega arith)) (left-false (needs_count (get_or numbers 65 (pos 0))) _ e))
-    (no-count _ (are.of_kinds.in_range 83 (omega arith)) (right-false (needs_count (get_or numbers 65 (pos 0))) _ e))
+    are.no_ring (omega arith) (no-count _ (are.of_kinds.in_range 65 (omega arith)) ((or_parts (needs_count (get_or numbers 65 (pos 0))) _ e).0))
+    (no-count _ (are.of_kinds.in_range 83 (omega arith)) ((or_parts (needs_count (get_or numbers 65 (pos 0))) _ e).1))
 
 serial-4 : (numbers : List ℤ) → AreSaved 4 numbers → ReadyOf set_4 serial_at_4 numbers
 unfolding first

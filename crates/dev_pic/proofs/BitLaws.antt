@@ -1,8 +1,9 @@
 -- Sets of inputs, input by input, and their bounds.
-use Rattle.std.proofs.Common.{◌≡◌, ◌≢◌, ℕ, zero, suc, ◌-◌, ◌<◌, ◌^◌, ◌==◌, min, max, Bool, true, false, not, ◌&&◌, ◌||◌, arith, bit_and, bit_or, refl, ◌∙◌, ap, sym}
+use Rattle.std.proofs.Common.{◌≡◌, ◌≢◌, ℕ, zero, suc, ◌-◌, ◌<◌, ◌^◌, ◌==◌, min, max, Bool, true, false, not, ◌&&◌, arith, bit_and, bit_or, refl, ◌∙◌, ap, sym, ◌||◌}
 use Rattle.std.specs.Int.{bit_at, w8}
 use Rattle.std.proofs.lemmas.Nat.{and_le_l, and_le_r, or_of_8, pow_below}
 use Rattle.std.proofs.lemmas.Nat.Bits.{bit_at_and, bit_at_or, bit_at_not, same_from_bits_below, bit_at-lt, bit_at-pow_same, bit_at-pow_other, same_from_bits}
+use Rattle.std.proofs.Math.Bool.{or-true, or-false}
 use Rattle.dev_base.specs.Bits.{has}
 use Rattle.dev_pic.specs.Bits.{but_not, with_input, without_input}
 use Rattle.dev_pic.specs.Chip.{level_inputs}
@@ -31,7 +32,7 @@ max_test (suc zero) (suc zero) h l = refl
 max_test (suc (suc a)) b h l = absurd (omega arith)
 max_test a (suc (suc b)) h l = absurd (omega arith)
 
-not_test : (a : ℕ) → a < 2 → ((1 - a) == 1) ≡ not (a == 1)
+pub not_test : (a : ℕ) → a < 2 → ((1 - a) == 1) ≡ not (a == 1)
 not_test zero h = refl
 not_test (suc zero) h = refl
 not_test (suc (suc a)) h = absurd (omega arith)
@@ -56,17 +57,13 @@ has-one i = ap (λ n. n == 1) (bit_at-pow_same i)
 pub has-one_other : (i other : ℕ) → other ≢ i → has (2 ^ i) other ≡ false
 has-one_other i other h = ap (λ n. n == 1) (bit_at-pow_other i other h)
 
-and_not_true : (b : Bool) → (b && not true) ≡ false
+pub and_not_true : (b : Bool) → (b && not true) ≡ false
 and_not_true true = refl
 and_not_true false = refl
 
 and_not_false : (b : Bool) → (b && not false) ≡ b
 and_not_false true = refl
 and_not_false false = refl
-
-pub or_true : (b : Bool) → (b || true) ≡ true
-or_true true = refl
-or_true false = refl
 
 -- an input that is taken out or put in
 pub has-without_same : (r i : ℕ) → i < 8 → has (without_input r i) i ≡ false
@@ -82,7 +79,7 @@ has-without_other r i other h l n =
 pub has-with_same : (r i : ℕ) → has (with_input r i) i ≡ true
 unfolding with_input
 has-with_same r i =
-    has-or r (2 ^ i) i ∙ ap (λ t. has r i || t) (has-one i) ∙ or_true (has r i)
+    has-or r (2 ^ i) i ∙ ap (λ t. has r i || t) (has-one i) ∙ or-true (has r i)
 
 -- bounds
 pub but_not-lt : (a b : ℕ) → a < 256 → but_not a b < 256
@@ -124,14 +121,10 @@ each_input P a b c d e f g h (suc (suc (suc (suc (suc (suc (suc (suc i)))))))) l
 has-all : (i : ℕ) → i < 8 → has 0xff i ≡ true
 has-all = each_input (λ i. has 0xff i ≡ true) refl refl refl refl refl refl refl refl
 
-pub or_false : (b : Bool) → (b || false) ≡ b
-or_false true = refl
-or_false false = refl
-
 pub level_inputs_are : LevelInputsAre
 unfolding level_inputs
-level_inputs_are true elcr input within = has-all input within ∙ sym (or_true (has elcr input))
-level_inputs_are false elcr input within = sym (or_false (has elcr input))
+level_inputs_are true elcr input within = has-all input within ∙ sym (or-true (has elcr input))
+level_inputs_are false elcr input within = sym (or-false (has elcr input))
 
 pub level_inputs-lt : (ltim : Bool) (elcr : ℕ) → elcr < 256 → level_inputs ltim elcr < 256
 unfolding level_inputs

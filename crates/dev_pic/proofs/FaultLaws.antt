@@ -7,7 +7,7 @@ use Rattle.dev_base.specs.Hooks.{hook_result}
 use Rattle.dev_base.specs.Rules.{first_failing, judged_by, MeansFailing, IsFirstFailing}
 use Rattle.dev_pic.proofs.CellLemmas.{first_part, second_part}
 use Rattle.dev_base.specs.declared.limits.TheConstants.{NEWEST}
-use Rattle.dev_pic.proofs.RestoredLaws.{made_of}
+use Rattle.dev_pic.proofs.RestoredLaws.{made_of, number-ok}
 use Rattle.dev_pic.proofs.SavedLaws.{faults_are_told, chip_of-saved}
 use Rattle.dev_pic.specs.Cells.{cell_count, IsChipCells, saved_cells, rules, chip_of, restored}
 use Rattle.dev_pic.specs.Saved.{pair_of, restored_pair, hook_rule, fault_of, by_number, hook_restored}
@@ -58,11 +58,6 @@ hook-err (Err found) fault within e =
     let rule : hook_rule found ≡ fault.rule = ap (λ (f : HookFault). f.rule) (let same : record { rule = hook_rule found } ≡ fault = cc in same) in
     let most : found.rule ≤ 10 = let m = is.rule.1 in omega (arith, m) in
     ap Err (sym (faults_are_told.fault found is.chip is.rule.0 most) ∙ ap fault_of rule)
-
-number-ok : (outcome : Result PicPair ChipFault) (pair : PicPair) → by_number outcome ≡ Ok pair → outcome ≡ Ok pair
-unfolding by_number
-number-ok (Ok found) pair e = cc
-number-ok (Err fault) pair e = cc
 
 -- of the cells of both chips, one behind the other
 module _ (numbers : Numbers) (master slave : List ℤ) (m : IsChipCells master) where

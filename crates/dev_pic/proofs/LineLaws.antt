@@ -1,7 +1,8 @@
 -- The remembered lines.
-use Rattle.std.proofs.Common.{◌≡◌, ◌≢◌, ℕ, ◌+◌, ◌-◌, ◌*◌, ◌/◌, ◌%◌, ◌<◌, ◌≤◌, ◌^◌, ◌==◌, Bool, true, false, not, ◌&&◌, ◌||◌, cond, Option, Some, None, refl, ap, sym, ◌∙◌, arith, ⊎_elim}
-use Rattle.std.proofs.lemmas.Bool.{cases_lt}
+use Rattle.std.proofs.Common.{◌≡◌, ◌≢◌, ℕ, ◌+◌, ◌-◌, ◌*◌, ◌/◌, ◌%◌, ◌<◌, ◌≤◌, ◌^◌, ◌==◌, Bool, true, false, not, ◌&&◌, cond, Option, Some, None, refl, ap, sym, ◌∙◌, arith, ⊎_elim, ◌||◌}
+use Rattle.std.proofs.lemmas.Bool.{cases_lt, cond_both}
 use Rattle.std.proofs.lemmas.Bool.Decides.{nat_tests}
+use Rattle.std.proofs.Math.Bool.{and-true, and-false, or-false}
 use Rattle.dev_base.specs.Bits.{has}
 use Rattle.dev_pic.specs.Bits.{without_input}
 use Rattle.dev_pic.specs.Chip.{winner_at, taken, settled, ended, ended_lowest, highest_served, commanded, started, selected, written_even, written_odd_in, elcr_written, polled_by, read_of, answered, cascaded}
@@ -17,9 +18,9 @@ use Rattle.dev_pic.specs.declared.chip.Role.TheVariants.{Master, Slave}
 use Rattle.dev_pic.specs.declared.ocw2.Ocw2.{Ocw2}
 use Rattle.dev_pic.specs.declared.ocw2.Ocw2.TheVariants.{NonSpecificEoi, RotateOnNonSpecificEoi, SpecificEoi, RotateOnSpecificEoi, RotateInAutomaticEoi, SetPriority, NoOperation}
 use Rattle.dev_pic.specs.declared.pair.PicPair.{PicPair}
-use Rattle.dev_pic.proofs.BitLaws.{each_input, has-or, has-one_other, has-without_same, has-without_other, or_false, without_input-lt}
+use Rattle.dev_pic.proofs.BitLaws.{each_input, has-or, has-one_other, has-without_same, has-without_other, without_input-lt}
 use Rattle.dev_pic.proofs.PairLaws.{cascade-lt}
-use Rattle.dev_base.proofs.Choices.{either, by_test}
+use Rattle.dev_base.proofs.Choices.{either}
 
 -- the bits of a number of two bytes
 low-bit : (high low i : ℕ) → low < 256 → i < 8 → has (high * 256 + low) i ≡ has low i
@@ -61,7 +62,7 @@ with-other : (b : Bool) (inputs i : ℕ) → i < 8 → i ≢ 2 → has (with_cas
 with-other b inputs i h n =
     has-or (without_input inputs 2) (cond b 4 0) i
     ∙ ap (λ t. has (without_input inputs 2) i || t) (cascade-other b i h n)
-    ∙ or_false (has (without_input inputs 2) i)
+    ∙ or-false (has (without_input inputs 2) i)
     ∙ has-without_other inputs 2 i (omega arith) h n
 
 with-same : (b : Bool) (inputs : ℕ) → has (with_cascade b inputs) 2 ≡ b
@@ -201,7 +202,7 @@ acked_for-kept : (o : Option ℕ) (pair : PicPair) → o ≢ Some 2 → Kept (li
 unfolding acked_for
 acked_for-kept None pair n = record { kept = with-master pair _ (answered-lines None pair.master) }
 acked_for-kept (Some w) pair n =
-    by_test (Kept (lines_of pair)) (w == 2) _ _
+    cond_both (w == 2) _ _ (Kept (lines_of pair))
     (λ e. absurd (n (let same : w ≡ 2 = grind (arith, nat_tests) in ap Some same)))
     (λ e. record { kept = with-master pair _ (answered-lines (Some w) pair.master) })
 
@@ -211,23 +212,15 @@ unfolding acked_for lines_of
 acked-slave pair e =
     rw e (ap (λ n. n * 256 + (cascaded pair.master).lines) (answered-lines (winner_at Slave pair.slave) pair.slave) ∙ ap (λ n. pair.slave.lines * 256 + n) (cascaded-lines pair.master))
 
-and_true : (b : Bool) → (b && true) ≡ b
-and_true true = refl
-and_true false = refl
-
-and_false : (b : Bool) → (b && false) ≡ false
-and_false true = refl
-and_false false = refl
-
 without-bit : (lines i : ℕ) → i < 8 → has (without_input lines 2) i ≡ (has lines i && not (i == 2))
 without-bit lines i h = by_value (i == 2) refl where
   by_value : (b : Bool) → (i == 2) ≡ b → has (without_input lines 2) i ≡ (has lines i && not b)
   by_value true e =
       let same : i ≡ 2 = grind (arith, nat_tests) in
-      ap (λ n. has (without_input lines 2) n) same ∙ has-without_same lines 2 (omega arith) ∙ sym (and_false (has lines i))
+      ap (λ n. has (without_input lines 2) n) same ∙ has-without_same lines 2 (omega arith) ∙ sym (and-false (has lines i))
   by_value false e =
       let other : i ≢ 2 = grind (arith, nat_tests) in
-      has-without_other lines 2 i (omega arith) h other ∙ sym (and_true (has lines i))
+      has-without_other lines 2 i (omega arith) h other ∙ sym (and-true (has lines i))
 
 low-acked : (slave master i : ℕ) → master < 256 → i < 8 → has (slave * 256 + without_input master 2) i ≡ (has (slave * 256 + master) i && not (i == 2))
 low-acked slave master i bound l =
@@ -244,7 +237,7 @@ high-acked slave master i bound least l =
     ∙ high-bit slave (without_input master 2) (i - 8) (without_input-lt master 2 bound) within
     ∙ sym (high-bit slave master (i - 8) bound within)
     ∙ ap (λ n. has (slave * 256 + master) n) (sym place)
-    ∙ sym (ap (λ t. has (slave * 256 + master) i && not t) other ∙ and_true (has (slave * 256 + master) i))
+    ∙ sym (ap (λ t. has (slave * 256 + master) i && not t) other ∙ and-true (has (slave * 256 + master) i))
 
 acked-bit : (pair : PicPair) → PairHasRegisters pair → (i : ℕ) → i < 16 → has (pair.slave.lines * 256 + without_input pair.master.lines 2) i ≡ (has (lines_of pair) i && not (i == 2))
 unfolding lines_of

@@ -1,5 +1,5 @@
 -- Laws of the modes in the data sheet's terms.
-use Rattle.std.proofs.Common.{◌≡◌, ℕ, ◌+◌, ◌<◌, Bool, true, false, not, cond, ◌&&◌, ◌||◌, Option, Some, None, refl, arith, sym, ◌∙◌, ap, subst}
+use Rattle.std.proofs.Common.{◌≡◌, ℕ, ◌+◌, ◌<◌, Bool, true, false, not, cond, ◌&&◌, Option, Some, None, refl, arith, sym, ◌∙◌, ap, subst, ◌||◌}
 use Rattle.std.proofs.lemmas.Bool.{false≢true}
 use Rattle.std.specs.Prelude.{bit_and, bit_or}
 use Rattle.dev_base.specs.Bits.{has}
@@ -14,7 +14,7 @@ use Rattle.dev_pic.specs.declared.chip.Role.{Role}
 use Rattle.dev_pic.specs.declared.chip.Role.TheVariants.{Master, Slave}
 use Rattle.dev_pic.specs.declared.ocw2.Ocw2.TheVariants.{NonSpecificEoi, RotateOnNonSpecificEoi}
 use Rattle.dev_pic.specs.declared.pair.PicPair.{PicPair}
-use Rattle.dev_pic.proofs.BitLaws.{level_inputs-lt, has-and, has-or, has-but_not, has-without_same, has-without_other, has-with_same}
+use Rattle.dev_pic.proofs.BitLaws.{level_inputs-lt, has-and, has-or, has-but_not, has-without_same, has-without_other, has-with_same, and_not_true}
 use Rattle.dev_pic.proofs.WinnerLaws.{winner_of-means, highest_at, highest_none}
 
 -- the winner of a chip meets the relation
@@ -22,10 +22,6 @@ won : (role : Role) (chip : Chip) (input : ℕ) → winner_at role chip ≡ Some
 unfolding winner_at
 won role chip input e =
     subst (MeansWinner chip.lowest (requests_of chip) (served_of role chip)) e (winner_of-means chip.lowest (requests_of chip) (served_of role chip))
-
-and_not_true : (b : Bool) → (b && not true) ≡ false
-and_not_true true = refl
-and_not_true false = refl
 
 pub masked_never_wins : MaskedNeverWins
 masked_never_wins role chip input bound within masked e =

@@ -3,6 +3,8 @@ use Rattle.std.proofs.Common.{◌≡◌, ℕ, ◌%◌, ◌<◌, ◌≤◌, ◌^�
 use Rattle.std.proofs.lemmas.Bool.Decides.{nat_tests}
 use Rattle.std.proofs.lemmas.Nat.{or_of_8, and_le_l}
 use Rattle.std.specs.Prelude.{bit_and, nat_le}
+use Rattle.std.proofs.Math.Bool.{or-true}
+use Rattle.std.proofs.lemmas.Bool.{cond_both}
 use Rattle.dev_pic.specs.Cells.{levels_hold, requests_hold, mode_holds}
 use Rattle.dev_pic.specs.Chip.{elcr_mask, level_inputs, winner_at, elcr_written, cascade_input}
 use Rattle.dev_base.specs.Levels.{IsLevel}
@@ -14,8 +16,8 @@ use Rattle.dev_pic.specs.declared.chip.Role.{Role}
 use Rattle.dev_pic.specs.declared.chip.Role.TheVariants.{Master, Slave}
 use Rattle.dev_pic.specs.declared.levels.TheConstants.{ELCR_SINCE, LTIM_SINCE}
 use Rattle.dev_pic.specs.declared.pair.PicPair.{PicPair}
-use Rattle.dev_base.proofs.Choices.{either, by_test}
-use Rattle.dev_pic.proofs.BitLaws.{without_input-lt, and-twice, or_true}
+use Rattle.dev_base.proofs.Choices.{either}
+use Rattle.dev_pic.proofs.BitLaws.{without_input-lt, and-twice}
 use Rattle.dev_pic.proofs.StepLaws.{winner-lt, settled-sound, written_even-registers, written_odd-registers, read-registers, answered-registers, cascaded-registers}
 
 -- an answer after which the pair has its registers
@@ -38,7 +40,7 @@ levels_written level role value h =
 -- no level mode at power on
 mode_off : (level : ℕ) → mode_holds level false ≡ true
 unfolding mode_holds
-mode_off level = or_true (nat_le LTIM_SINCE level)
+mode_off level = or-true (nat_le LTIM_SINCE level)
 
 has_elcr : (level port : ℕ) → is_port level port ≡ true → (port == 0x20) ≡ false → (port == 0x21) ≡ false → (port == 0xa0) ≡ false → (port == 0xa1) ≡ false → ELCR_SINCE ≤ level
 has_elcr level port h a b c d = grind (arith, nat_tests)
@@ -114,10 +116,10 @@ module _ (pair : PicPair) (h : PairHasRegisters pair) where
   written-kept : (port value : ℕ) → value < 256 → is_port pair.level port ≡ true → PairHasRegisters (written_pair port value pair)
   unfolding written_pair
   written-kept port value v is =
-      by_test PairHasRegisters (port == 0x20) _ _ (λ _. with-master _ (written_even-registers pair.level Master pair.master h.master value)) (λ a.
-      by_test PairHasRegisters (port == 0x21) _ _ (λ _. with-master _ (written_odd-registers pair.level Master pair.master h.master pair.master.init_state value v)) (λ b.
-      by_test PairHasRegisters (port == 0xa0) _ _ (λ _. with-slave _ (written_even-registers pair.level Slave pair.slave h.slave value)) (λ c.
-      by_test PairHasRegisters (port == 0xa1) _ _ (λ _. with-slave _ (written_odd-registers pair.level Slave pair.slave h.slave pair.slave.init_state value v)) (λ d.
+      cond_both (port == 0x20) _ _ PairHasRegisters (λ _. with-master _ (written_even-registers pair.level Master pair.master h.master value)) (λ a.
+      cond_both (port == 0x21) _ _ PairHasRegisters (λ _. with-master _ (written_odd-registers pair.level Master pair.master h.master pair.master.init_state value v)) (λ b.
+      cond_both (port == 0xa0) _ _ PairHasRegisters (λ _. with-slave _ (written_even-registers pair.level Slave pair.slave h.slave value)) (λ c.
+      cond_both (port == 0xa1) _ _ PairHasRegisters (λ _. with-slave _ (written_odd-registers pair.level Slave pair.slave h.slave pair.slave.init_state value v)) (λ d.
       let since = has_elcr pair.level port is a b c d in
       either PairHasRegisters (port == 0x4d0) _ _ (with-master _ (elcr-written pair.level Master pair.master value since v h.master))
       (with-slave _ (elcr-written pair.level Slave pair.slave value since v h.slave))))))

@@ -59,10 +59,10 @@ made_of level (Ok master) (Ok slave) pair e = record { same_level = cc; of_maste
 made_of level (Ok master) (Err rule) pair e = cc
 made_of level (Err rule) slave pair e = cc
 
-numbered : (outcome : Result PicPair ChipFault) (pair : PicPair) → by_number outcome ≡ Ok pair → outcome ≡ Ok pair
+pub number-ok : (outcome : Result PicPair ChipFault) (pair : PicPair) → by_number outcome ≡ Ok pair → outcome ≡ Ok pair
 unfolding by_number
-numbered (Ok found) pair e = cc
-numbered (Err fault) pair e = cc
+number-ok (Ok found) pair e = cc
+number-ok (Err fault) pair e = cc
 
 pub pair-sound : (level : ℕ) (master slave : List ℤ) (pair : PicPair) → IsLevel level → IsChipCells master → IsChipCells slave → restored_pair level master slave ≡ Ok pair → IsSoundPair pair × (pair.level ≡ level)
 pair-sound level master slave pair l m s e =
@@ -74,5 +74,5 @@ pair-sound level master slave pair l m s e =
 
 pub restored_is_sound : RestoredIsSound
 restored_is_sound = record {
-  pair = λ numbers cells pair can e. pair-sound numbers.level (take cell_count cells) (drop cell_count cells) pair can.pass.is_level can.master can.slave (numbered _ pair (hook-ok _ pair e));
+  pair = λ numbers cells pair can e. pair-sound numbers.level (take cell_count cells) (drop cell_count cells) pair can.pass.is_level can.master can.slave (number-ok _ pair (hook-ok _ pair e));
 }

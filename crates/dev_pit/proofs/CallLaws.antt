@@ -2,6 +2,7 @@
 use Rattle.std.proofs.Common.{◌≡◌, ℕ, ◌+◌, ◌-◌, ◌<◌, ◌≤◌, ◌==◌, Bool, true, false, ◌&&◌, Option, Some, None, refl, arith, subst, ⊎_elim}
 use Rattle.std.proofs.lemmas.Bool.Decides.{nat_tests}
 use Rattle.std.specs.Prelude.{nat_le, is_some}
+use Rattle.std.proofs.lemmas.Bool.{cases_Bool}
 use Rattle.dev_pit.specs.Calls.{reads, writes, called, programs, sets_mode_of, loads, completes}
 use Rattle.dev_pit.specs.Control.{control_word}
 use Rattle.dev_pit.specs.Count.{out_at, ticks}
@@ -17,7 +18,7 @@ use Rattle.dev_pit.specs.declared.mode.Access.{Access}
 use Rattle.dev_pit.specs.declared.mode.Access.TheVariants.{LowByte, HighByte, LowThenHigh}
 use Rattle.dev_pit.specs.declared.mode.Mode.TheVariants.{TerminalCount}
 use Rattle.dev_pit.specs.declared.pit.Pit.{Pit}
-use Rattle.dev_base.proofs.Choices.{either, either_way}
+use Rattle.dev_base.proofs.Choices.{either}
 use Rattle.dev_pit.proofs.Chips.{at_counter}
 use Rattle.dev_pit.proofs.CounterSteps.{same, goes-on, latched-goes_on, read_back-goes_on, read-goes_on}
 use Rattle.dev_pit.proofs.Edges.{ticks-mono}
@@ -68,7 +69,7 @@ write-goes_on k now port value pit h c programs loads =
     rw data_port (at_counter (GoesOn (counter_of k pit)) k j _ pit
     (λ here. subst (λ (i : ℕ). GoesOn (counter_of k pit) (written value now (counter_of i pit))) here (written-goes_on value now (counter_of k pit) (completing port k _ c.0 here loads)))
     (same (counter_of k pit))))
-    (either_way (port == 0x43))
+    (cases_Bool (port == 0x43))
 
 pub counting_goes_on : CountingGoesOn
 unfolding called programs loads pit_read

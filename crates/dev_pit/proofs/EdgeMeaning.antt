@@ -1,6 +1,6 @@
 -- An edge is a tick at which OUT turns high.
-use Rattle.std.proofs.Common.{◌≡◌, ℕ, ◌+◌, ◌-◌, ◌*◌, ◌/◌, ◌%◌, ◌<◌, ◌≤◌, ◌==◌, ◌⊎◌, Bool, true, false, not, ◌&&◌, Option, Some, None, refl, inl, inr, arith, subst, sym, ⊎_elim}
-use Rattle.std.proofs.lemmas.Bool.{cases_lt}
+use Rattle.std.proofs.Common.{◌≡◌, ℕ, ◌+◌, ◌-◌, ◌*◌, ◌/◌, ◌%◌, ◌<◌, ◌≤◌, ◌==◌, true, false, not, ◌&&◌, Option, Some, None, refl, arith, subst, sym, ⊎_elim}
+use Rattle.std.proofs.lemmas.Bool.{cases_lt, cases_Bool}
 use Rattle.std.proofs.lemmas.Bool.Decides.{nat_tests}
 use Rattle.std.proofs.Math.Nat.{div-mul-le_self, div-lt_iff_lt-mul}
 use Rattle.std.proofs.lemmas.Nat.{le-div, mod-mul-add, div-add-mod'}
@@ -133,10 +133,6 @@ square-grown count before after one t =
     (cases_lt ((t.tick - 1) % n + 1) n) in
     grown-from_last n before after t.tick h t.above t.within last
 
-either_way : (b : Bool) → (b ≡ true) ⊎ (b ≡ false)
-either_way true = inl refl
-either_way false = inr refl
-
 -- where a count of 1 is asked about, OUT is high at each tick
 no_turns : (mode : Mode) (count before after : ℕ) → ((k : ℕ) → out_at mode count k ≡ true) → Turns mode count before after → ⊥
 no_turns mode count before after high t = let e : out_at mode count (t.tick - 1) ≡ true = high (t.tick - 1) in let l : out_at mode count (t.tick - 1) ≡ false = t.low in cc
@@ -214,11 +210,11 @@ turns-from_rises OneShot count before after e = cc
 turns-from_rises RateGenerator count before after e =
     ⊎_elim (λ one. absurd (periodic-not_one count _ _ one e))
     (λ one. periodic-turns RateGenerator count before after one (λ k h. rate-low count k one h) (λ k h. rate-high count k one h) (grown-periodic count _ _ one e))
-    (either_way (count == 1))
+    (cases_Bool (count == 1))
 turns-from_rises SquareWave count before after e =
     ⊎_elim (λ one. absurd (periodic-not_one count _ _ one e))
     (λ one. periodic-turns SquareWave count before after one (λ k h. square-low count k one h) (λ k h. square-high count k one h) (grown-periodic count _ _ one e))
-    (either_way (count == 1))
+    (cases_Bool (count == 1))
 turns-from_rises SoftwareStrobe count before after e = strobe-turns count before after e
 turns-from_rises HardwareStrobe count before after e = cc
 
@@ -230,11 +226,11 @@ rises-from_turns OneShot count before after t = absurd (no_turns OneShot count b
 rises-from_turns RateGenerator count before after t =
     ⊎_elim (λ one. absurd (no_turns RateGenerator count before after (λ k. rate-one count k one) t))
     (λ one. periodic-grown count _ _ one (rate-grown count before after one t))
-    (either_way (count == 1))
+    (cases_Bool (count == 1))
 rises-from_turns SquareWave count before after t =
     ⊎_elim (λ one. absurd (no_turns SquareWave count before after (λ k. square-one count k one) t))
     (λ one. periodic-grown count _ _ one (square-grown count before after one t))
-    (either_way (count == 1))
+    (cases_Bool (count == 1))
 rises-from_turns SoftwareStrobe count before after t = strobe-rises count before after t
 rises-from_turns HardwareStrobe count before after t = absurd (no_turns HardwareStrobe count before after (λ k. strobe-high count k) t)
 

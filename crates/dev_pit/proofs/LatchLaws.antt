@@ -2,6 +2,7 @@
 use Rattle.std.proofs.Common.{◌≡◌, ℕ, ◌-◌, ◌<◌, ◌≤◌, ◌==◌, Bool, true, false, not, ◌&&◌, Option, Some, None, refl, arith, subst, ⊎_elim}
 use Rattle.std.proofs.lemmas.Bool.Decides.{nat_tests}
 use Rattle.std.specs.Prelude.{nat_le, is_some}
+use Rattle.std.proofs.lemmas.Bool.{cases_Bool}
 use Rattle.dev_pit.specs.Calls.{Call, reads, writes, IsCall, called, programs, sets_mode_of, reads_latch, is_last}
 use Rattle.dev_pit.specs.Control.{control_word}
 use Rattle.dev_pit.specs.Counter.{loaded, written, written_by, written_low_first, read_of, read_by, counted_of, counted_by, latched, status_latched, read_back}
@@ -14,7 +15,7 @@ use Rattle.dev_pit.specs.declared.limits.TheConstants.{READ_BACK_LEVEL}
 use Rattle.dev_pit.specs.declared.mode.Access.{Access}
 use Rattle.dev_pit.specs.declared.mode.Access.TheVariants.{LowByte, HighByte, LowThenHigh}
 use Rattle.dev_pit.specs.declared.pit.Pit.{Pit}
-use Rattle.dev_base.proofs.Choices.{either, either_way}
+use Rattle.dev_base.proofs.Choices.{either}
 use Rattle.dev_pit.proofs.Chips.{at_counter}
 
 -- a counter with this latched count
@@ -97,7 +98,7 @@ write-holds k held now port value pit l c e h =
     rw data_port (at_counter (Holds held) k j _ pit
     (λ here. subst (λ (i : ℕ). Holds held (written value now (counter_of i pit))) here (written-holds value held now (counter_of k pit) h))
     h))
-    (either_way (port == 0x43))
+    (cases_Bool (port == 0x43))
 
 call-holds : (k held now : ℕ) (call : Call) (pit : Pit) → k < 3 → IsCall call → programs k call ≡ false → reads_latch k call pit ≡ false → Holds held (counter_of k pit) → Holds held (counter_of k (called call now pit))
 unfolding called programs reads_latch pit_read

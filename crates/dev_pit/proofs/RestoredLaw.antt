@@ -1,7 +1,8 @@
 -- What is restored is sound.
-use Rattle.std.proofs.Common.{◌≡◌, ℕ, ◌^◌, ◌<◌, ◌≤◌, ◌==◌, Bool, true, false, not, ◌&&◌, ◌||◌, Ok, List, [], ◌∷◌, slice_index_or, ℤ, refl, arith, subst, ⊎_elim}
+use Rattle.std.proofs.Common.{◌≡◌, ℕ, ◌^◌, ◌<◌, ◌≤◌, ◌==◌, Bool, true, false, not, ◌&&◌, Ok, List, ◌∷◌, slice_index_or, ℤ, refl, arith, subst, ⊎_elim, ◌||◌, []}
 use Rattle.std.proofs.lemmas.Bool.Decides.{nat_tests}
 use Rattle.std.specs.Prelude.{nat_le}
+use Rattle.std.proofs.lemmas.Bool.{and_parts, cases_Bool}
 use Rattle.dev_base.specs.Cells.{cell_at}
 use Rattle.dev_base.specs.Levels.{IsLevel}
 use Rattle.dev_base.specs.declared.limits.TheConstants.{LAST_MOMENT}
@@ -19,7 +20,6 @@ use Rattle.dev_pit.specs.declared.limits.TheConstants.{READ_BACK_LEVEL}
 use Rattle.dev_pit.specs.declared.mode.Access.{Access}
 use Rattle.dev_pit.specs.declared.mode.Access.TheVariants.{LowByte, HighByte, LowThenHigh}
 use Rattle.dev_pit.specs.declared.pit.Pit.{Pit}
-use Rattle.dev_base.proofs.Choices.{either_way}
 use Rattle.dev_pit.proofs.Chips.{each_of}
 use Rattle.dev_pit.proofs.PlainSound.{PlainSound, StatusFits, TogglesFit}
 use Rattle.dev_pit.proofs.SoundLaws.{PlainPit, pit-from_plain}
@@ -60,12 +60,7 @@ if-toggles : (rw_number : ℕ) (read_high held : Bool) (n : ℕ) → ((rw_number
 if-toggles rw_number read_high held n h =
     ⊎_elim (λ e. let both : TogglesFit LowThenHigh read_high (held_if held n) = tt in rw (three rw_number e) both)
     (λ e. let rest : (not read_high && not held) ≡ true = rw e at h in halves (access_of rw_number) read_high held n rest)
-    (either_way (rw_number == 3))
-
-both-true : (a b : Bool) → (a && b) ≡ true → (a ≡ true) × (b ≡ true)
-both-true true true e = (refl, refl)
-both-true true false e = cc
-both-true false b e = cc
+    (cases_Bool (rw_number == 3))
 
 counter-sound : (level now : ℕ) (channel : Channel) → HasRanges channel → moment_holds now channel ≡ true → status_holds level channel ≡ true → toggles_hold channel ≡ true → PlainSound level now (counter_from channel)
 unfolding counter_from moment_holds status_holds toggles_hold
@@ -77,8 +72,8 @@ counter-sound level now channel r m s t = record {
     latch = if-below (2 ^ 16) channel.latched channel.latch r.latch;
     status = if-below (2 ^ 8) channel.status_latched channel.status r.status;
   };
-  loaded = let l : nat_le channel.load_time now ≡ true = (both-true _ _ m).0 in if-loaded now channel.loaded channel.load_time (grind (arith, nat_tests));
-  status = if-status level channel.status_latched channel.status (both-true _ _ s).1;
+  loaded = let l : nat_le channel.load_time now ≡ true = (and_parts _ _ m).0 in if-loaded now channel.loaded channel.load_time (grind (arith, nat_tests));
+  status = if-status level channel.status_latched channel.status (and_parts _ _ s).1;
   toggles = if-toggles channel.rw channel.read_high channel.wlow_held channel.wlow t;
 }
 
@@ -111,8 +106,8 @@ channel-ranges cells h = each_of (λ k. HasRanges (channel_at k cells))
 -- a rule of three channels is one of each
 each : (rule : Channel → Bool) (cells : List ℤ) → three_hold rule cells ≡ true → (k : ℕ) → k < 3 → rule (channel_at k cells) ≡ true
 each rule cells e =
-    let a : (rule (channel_at 0 cells) ≡ true) × ((rule (channel_at 1 cells) && rule (channel_at 2 cells)) ≡ true) = both-true _ _ e in
-    let b : (rule (channel_at 1 cells) ≡ true) × (rule (channel_at 2 cells) ≡ true) = both-true _ _ a.1 in
+    let a : (rule (channel_at 0 cells) ≡ true) × ((rule (channel_at 1 cells) && rule (channel_at 2 cells)) ≡ true) = and_parts _ _ e in
+    let b : (rule (channel_at 1 cells) ≡ true) × (rule (channel_at 2 cells) ≡ true) = and_parts _ _ a.1 in
     each_of (λ k. rule (channel_at k cells) ≡ true) a.0 b.0 b.1
 
 pit_of-sound : (level now : ℕ) (cells : List ℤ) → IsLevel level → now ≤ LAST_MOMENT → IsPitCells cells → AllTrue (rules level now cells) → PlainPit now (pit_of level cells)

@@ -1,7 +1,8 @@
 -- A chip is sound at power on, and time and every call keep it so.
-use Rattle.std.proofs.Common.{◌≡◌, ℕ, ◌-◌, ◌<◌, ◌≤◌, ◌==◌, Bool, ◌&&◌, [], ◌∷◌, length, slice_index_or, refl, subst, ◌∙◌, arith, ⊎_elim}
+use Rattle.std.proofs.Common.{◌≡◌, ℕ, ◌-◌, ◌<◌, ◌≤◌, ◌==◌, Bool, ◌&&◌, ◌∷◌, length, slice_index_or, refl, subst, ◌∙◌, arith, ⊎_elim, []}
 use Rattle.std.proofs.lemmas.Bool.Decides.{nat_tests}
 use Rattle.std.specs.Prelude.{nat_le}
+use Rattle.std.proofs.lemmas.Bool.{cases_Bool}
 use Rattle.dev_base.specs.Levels.{IsLevel}
 use Rattle.dev_base.specs.declared.limits.TheConstants.{LAST_MOMENT}
 use Rattle.dev_pit.specs.Control.{control_word}
@@ -13,7 +14,7 @@ use Rattle.dev_pit.specs.declared.control.ControlWord.TheVariants.{LatchCount, S
 use Rattle.dev_pit.specs.declared.counter.Counter.{Counter}
 use Rattle.dev_pit.specs.declared.limits.TheConstants.{READ_BACK_LEVEL}
 use Rattle.dev_pit.specs.declared.pit.Pit.{Pit}
-use Rattle.dev_base.proofs.Choices.{either, either_way}
+use Rattle.dev_base.proofs.Choices.{either}
 use Rattle.dev_pit.proofs.Chips.{at_counter, count-with, each_of}
 use Rattle.dev_pit.specs.Counter.{powered_on, read_of, read_back, latched, programmed, written}
 use Rattle.dev_pit.proofs.Moments.{loaded_by-later}
@@ -104,7 +105,7 @@ controlled-plain (ReadBack count status first second third) now pit s =
     ⊎_elim (λ e. let h : READ_BACK_LEVEL ≤ pit.level = grind (arith, nat_tests) in
     rw e (all-asked count status first second third now pit h s))
     (λ e. rw e s)
-    (either_way (nat_le READ_BACK_LEVEL pit.level))
+    (cases_Bool (nat_le READ_BACK_LEVEL pit.level))
 
 written-plain : (port value now : ℕ) (pit : Pit) → value < 256 → PlainPit now pit → PlainPit now (pit_written port value now pit)
 unfolding pit_written

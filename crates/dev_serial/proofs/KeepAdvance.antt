@@ -1,6 +1,6 @@
 -- The passing of time keeps a port sound.
-use Rattle.std.proofs.Common.{◌≡◌, ℕ, ◌+◌, ◌<◌, ◌≤◌, Bool, true, false, not, ◌&&◌, cond, List, [], ◌∷◌, length, Option, Some, None, refl, sym, arith}
-use Rattle.std.proofs.lemmas.Bool.{false≢true, leb-true, leb-false, cond_both, eqb-true, eq-eqb}
+use Rattle.std.proofs.Common.{◌≡◌, ℕ, ◌+◌, ◌<◌, ◌≤◌, Bool, true, false, not, ◌&&◌, cond, List, ◌∷◌, length, Option, Some, None, refl, sym, arith, []}
+use Rattle.std.proofs.lemmas.Bool.{false≢true, leb-true, leb-false, cond_both}
 use Rattle.std.specs.Prelude.{nat_le, is_some}
 use Rattle.dev_serial.specs.Access.{is_empty}
 use Rattle.dev_serial.specs.Parts.{ReceiverState, TransmitterState, IsShort}
@@ -11,6 +11,7 @@ use Rattle.dev_serial.proofs.SendLemmas.{bytes_of-timetable}
 use Rattle.dev_serial.proofs.Timetables.{fewer}
 use Rattle.dev_serial.proofs.KeepParts.{mode_at, received-sound, later-timeout}
 use Rattle.dev_serial.specs.declared.mode.TheConstants.{LONGEST_CHARACTER}
+use Rattle.dev_serial.proofs.SendingLaws.{stays_empty}
 
 -- what a transmitter holds after a moment
 record HoldsSound (to : ℕ) (transmitter : TransmitterState) : Type 0 where
@@ -38,9 +39,6 @@ run-sound character now to (Some shift) waiting q l s b i =
 
 stays_short : (on : Bool) (few many : List ℕ) → length few ≤ length many → IsShort on many → IsShort on few
 stays_short on few many h s = record { short = let k = s.short in omega arith; one = λ f. let k = s.one f in omega arith }
-
-stays_empty : (few many : List ℕ) → length few ≤ length many → is_empty many ≡ true → is_empty few ≡ true
-stays_empty few many h e = let z = eqb-true (length many) 0 e in eq-eqb (length few) 0 (omega arith)
 
 latched : (end before latch : Bool) → (latch ≡ true → end ≡ true) → cond (end && not before) true latch ≡ true → end ≡ true
 latched true before latch h e = refl

@@ -3,8 +3,10 @@ use Rattle.std.proofs.Common.{◌≡◌, ℕ, ◌+◌, ◌*◌, ◌/◌, ◌%◌
 use Rattle.std.proofs.lemmas.Bool.{false≢true, leb-true, cond_both}
 use Rattle.std.proofs.lemmas.Nat.{and_le_r}
 use Rattle.std.specs.Prelude.{bit_and, nat_le, is_some}
+use Rattle.std.proofs.Math.Bool.{and-false}
 use Rattle.dev_serial.specs.Access.{is_empty, with_taken, read_of, id_read, lsr_read, thr_written, ier_written, switch_of, fcr_cleared, fcr_written, receiver_cleared, transmitter_cleared, written, came_in, advanced}
 use Rattle.dev_base.specs.Bits.{has}
+use Rattle.dev_base.proofs.Choices.{either}
 use Rattle.dev_serial.specs.Laws.{PowerOnIsSound, ReadsKeepSound, WritesKeepSound, BytesInKeepSound, AdvancesKeepSound}
 use Rattle.dev_serial.specs.Line.{character_time}
 use Rattle.dev_serial.specs.Port.{Port, power_on, mode_of, interrupt, is_thr_empty}
@@ -20,16 +22,9 @@ pub power_on_is_sound : PowerOnIsSound
 unfolding power_on
 power_on_is_sound level now is_level = record {
   registers = record { is_level = is_level; divisor_range = omega arith; ier_range = omega arith; lcr_range = omega arith; mcr_range = omega arith; scr_range = omega arith; fifos = λ e. absurd (false≢true e) };
-  receiver = record { short = record { short = omega arith; one = λ _. omega arith }; bytes = tt; timeout = off (nat_le 3 level) };
+  receiver = record { short = record { short = omega arith; one = λ _. omega arith }; bytes = tt; timeout = and-false (nat_le 3 level) };
   transmitter = record { short = record { short = omega arith; one = λ _. omega arith }; bytes = tt; shift = tt; idle = λ _. refl; latched = λ e. absurd (false≢true e) };
-} where
-  off : (has_timeout : Bool) → (has_timeout && false) ≡ false
-  off true = refl
-  off false = refl
-
-pub either : {A : Type 0} (P : A → Type 0) (b : Bool) (x y : A) → P x → P y → P (cond b x y)
-either P true x y p q = p
-either P false x y p q = q
+}
 
 -- an answer whose port is sound
 record Kept (now : ℕ) (answer : ℕ × Port) : Type 0 where

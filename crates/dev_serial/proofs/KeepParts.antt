@@ -1,5 +1,5 @@
 -- Each step of a part keeps it sound.
-use Rattle.std.proofs.Common.{◌≡◌, ℕ, ◌+◌, ◌*◌, ◌<◌, ◌≤◌, ◌==◌, Bool, true, false, not, ◌&&◌, cond, List, [], ◌∷◌, ◌++◌, length, Option, Some, None, refl, sym, ◌∙◌, arith, length-append, ◌⊎◌, ⊎_elim}
+use Rattle.std.proofs.Common.{◌≡◌, ℕ, ◌+◌, ◌*◌, ◌<◌, ◌≤◌, ◌==◌, Bool, true, false, not, ◌&&◌, cond, List, ◌∷◌, ◌++◌, length, Option, Some, None, refl, sym, arith, length-append, ◌⊎◌, ⊎_elim, []}
 use Rattle.std.proofs.Math.Nat.{mul-le-mul}
 use Rattle.std.proofs.lemmas.Bool.{false≢true, ltb-true, ltb-false, ne_eqb, cond_both}
 use Rattle.std.specs.Prelude.{nat_le, nat_lt, max}
@@ -144,10 +144,6 @@ unfolding queued
 queued-bytes true byte waiting b s =
     cond_both (nat_lt (length waiting) 16) _ _ (λ (xs : List ℕ). AreBytes xs) (λ e. AreBytes-push waiting byte s b) (λ e. s)
 queued-bytes false byte waiting b s = (b, tt)
-
-none-waits : (waiting : List ℕ) → is_empty waiting ≡ true → waiting ≡ []
-none-waits [] e = refl
-none-waits (byte ∷ waiting) e = absurd (false≢true (sym (not_empty byte waiting) ∙ e))
 
 loaded-sound : (now due : ℕ) (on : Bool) (shift : Option Shift) (waiting : List ℕ) → now < due → due ≤ now + LONGEST_CHARACTER → IsShort on waiting → AreBytes waiting → IsShift now shift → IsTransmitter now on (loaded due shift waiting) (is_empty (loaded due shift waiting).waiting)
 unfolding loaded

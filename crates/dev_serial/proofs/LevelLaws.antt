@@ -3,10 +3,10 @@ use Rattle.std.proofs.Common.{◌≡◌, ℕ, ◌==◌, Bool, true, false, Optio
 use Rattle.std.specs.Prelude.{nat_le}
 use Rattle.dev_serial.specs.Access.{read_of, thr_written, ier_written, switch_of, fcr_cleared, fcr_written, receiver_cleared, transmitter_cleared, written, came_in, advanced}
 use Rattle.dev_base.specs.Bits.{has}
+use Rattle.dev_base.proofs.Choices.{either}
 use Rattle.dev_serial.specs.Laws.{ReadsKeepLevel, WritesKeepLevel, BytesInKeepLevel, AdvancesKeepLevel}
 use Rattle.dev_serial.specs.Port.{Port}
 use Rattle.dev_serial.specs.declared.trigger.Trigger.{Trigger}
-use Rattle.dev_serial.proofs.KeepLaws.{either}
 
 module _ (port : Port) where
   abbrev Keeps : Port → Type 0

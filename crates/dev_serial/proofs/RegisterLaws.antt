@@ -1,6 +1,6 @@
 -- What is identified, and what the FIFO control register does.
 use Rattle.std.proofs.Common.{◌≡◌, ℕ, ◌<◌, ◌≤◌, Bool, true, false, not, ◌&&◌, cond, Option, Some, None, refl, sym, ap, ◌∙◌, ◌/◌, arith}
-use Rattle.std.proofs.lemmas.Bool.{false≢true}
+use Rattle.std.proofs.lemmas.Bool.{false≢true, cond_both}
 use Rattle.std.specs.Prelude.{is_some}
 use Rattle.dev_serial.specs.Access.{is_empty, switch_of, fcr_cleared, fcr_written, receiver_cleared, transmitter_cleared}
 use Rattle.dev_base.specs.Bits.{has}
@@ -10,11 +10,6 @@ use Rattle.dev_serial.specs.RegisterLaws.{rank, IsFirstAsking, IdentifiesFirst, 
 use Rattle.dev_serial.specs.declared.interrupt.Interrupt.{Interrupt}
 use Rattle.dev_serial.specs.declared.interrupt.Interrupt.TheVariants.{LineStatus, ReceivedData, CharacterTimeout, ThrEmpty, NonePending}
 use Rattle.dev_serial.specs.declared.trigger.Trigger.{Trigger}
-
--- a choice by a test, whose outcome is known
-chosen : {A : Type 0} (P : A → Type 0) (test : Bool) (x y : A) → (test ≡ true → P x) → (test ≡ false → P y) → P (cond test x y)
-chosen P true x y p q = p refl
-chosen P false x y p q = q refl
 
 module _ (now : ℕ) (port : Port) where
   -- none of the first k asks
@@ -28,13 +23,13 @@ module _ (now : ℕ) (port : Port) where
   first : IsFirstAsking now port (interrupt now port)
   unfolding interrupt
   first =
-      chosen (IsFirstAsking now port) (asks now port LineStatus) _ _
+      cond_both (asks now port LineStatus) _ _ (IsFirstAsking now port)
       (λ h. record { itself = h; higher = none 0 (omega arith) (λ l. absurd (omega arith)) (λ l. absurd (omega arith)) (λ l. absurd (omega arith)) (λ l. absurd (omega arith)) }) (λ a.
-      chosen (IsFirstAsking now port) (asks now port ReceivedData) _ _
+      cond_both (asks now port ReceivedData) _ _ (IsFirstAsking now port)
       (λ h. record { itself = h; higher = none 1 (omega arith) (λ l. a) (λ l. absurd (omega arith)) (λ l. absurd (omega arith)) (λ l. absurd (omega arith)) }) (λ b.
-      chosen (IsFirstAsking now port) (asks now port CharacterTimeout) _ _
+      cond_both (asks now port CharacterTimeout) _ _ (IsFirstAsking now port)
       (λ h. record { itself = h; higher = none 2 (omega arith) (λ l. a) (λ l. b) (λ l. absurd (omega arith)) (λ l. absurd (omega arith)) }) (λ c.
-      chosen (IsFirstAsking now port) (asks now port ThrEmpty) _ _
+      cond_both (asks now port ThrEmpty) _ _ (IsFirstAsking now port)
       (λ h. record { itself = h; higher = none 3 (omega arith) (λ l. a) (λ l. b) (λ l. c) (λ l. absurd (omega arith)) }) (λ d.
       record { itself = refl; higher = none 4 (omega arith) (λ l. a) (λ l. b) (λ l. c) (λ l. d) }))))
 

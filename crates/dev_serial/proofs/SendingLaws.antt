@@ -1,6 +1,6 @@
 -- What leaves, and when.
-use Rattle.std.proofs.Common.{◌≡◌, ℕ, ◌+◌, ◌<◌, ◌≤◌, Bool, true, false, not, ◌&&◌, cond, List, [], ◌∷◌, ◌++◌, length, Option, Some, None, refl, sym, ap, ◌∙◌, arith, append_assoc, append-nil}
-use Rattle.std.proofs.lemmas.Bool.{false≢true, le-leb, lt-leb, eqb-true, eq-eqb}
+use Rattle.std.proofs.Common.{◌≡◌, ℕ, ◌+◌, ◌<◌, ◌≤◌, Bool, true, false, not, ◌&&◌, cond, List, ◌∷◌, ◌++◌, length, Option, Some, None, refl, sym, ap, ◌∙◌, arith, append_assoc, append-nil, []}
+use Rattle.std.proofs.lemmas.Bool.{le-leb, lt-leb, eqb-true, eq-eqb, not-false}
 use Rattle.std.proofs.lemmas.List.{map-append}
 use Rattle.std.proofs.Math.Nat.{le-max_right}
 use Rattle.std.proofs.lemmas.Nat.{le-div}
@@ -29,7 +29,7 @@ pending-append : (shift : Option Shift) (xs ys : List ℕ) → pending_of shift 
 pending-append None xs ys = refl
 pending-append (Some shift) xs ys = refl
 
-none_left : (bytes : List ℕ) → is_empty bytes ≡ true → bytes ≡ []
+pub none_left : (bytes : List ℕ) → is_empty bytes ≡ true → bytes ≡ []
 none_left [] e = refl
 none_left (byte ∷ bytes) e = let h = eqb-true (length (byte ∷ bytes)) 0 e in absurd (omega arith)
 
@@ -39,10 +39,7 @@ queued-accepted true byte waiting e = by_room (nat_lt (length waiting) 16) where
   by_room : (room : Bool) → cond room (waiting ++ byte ∷ []) waiting ≡ waiting ++ cond (not room) [] (byte ∷ [])
   by_room true = refl
   by_room false = sym (append-nil waiting)
-queued-accepted false byte waiting e = rw (none_left waiting (back (is_empty waiting) e)) where
-  back : (b : Bool) → not b ≡ false → b ≡ true
-  back true h = refl
-  back false h = absurd (false≢true (sym h))
+queued-accepted false byte waiting e = rw (none_left waiting (not-false (is_empty waiting) e))
 
 one-event : (event : Event) (port : Port) → replaces event port ≡ false → left_in event port ++ pending (after event port) ≡ pending port ++ accepted_in event port
 unfolding thr_written advanced
@@ -91,7 +88,7 @@ latch-twice true between end latch p q = rw (p refl, q (p refl))
 latch-twice false true end latch p q = rw (q refl)
 latch-twice false false end latch p q = refl
 
-stays_empty : (few many : List ℕ) → length few ≤ length many → is_empty many ≡ true → is_empty few ≡ true
+pub stays_empty : (few many : List ℕ) → length few ≤ length many → is_empty many ≡ true → is_empty few ≡ true
 stays_empty few many h e = let z = eqb-true (length many) 0 e in eq-eqb (length few) 0 (omega arith)
 
 -- a port with what a span changes

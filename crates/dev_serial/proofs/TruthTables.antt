@@ -1,5 +1,5 @@
 -- The bits of the line status, and the latch in a stream, as tables of truth.
-use Rattle.std.proofs.Common.{◌≡◌, ℕ, ℤ, Bool, true, false, not, ◌&&◌, ◌||◌, cond, refl, pos, negsuc}
+use Rattle.std.proofs.Common.{◌≡◌, ℕ, ℤ, Bool, true, false, not, ◌&&◌, cond, refl, pos, negsuc, ◌||◌}
 use Rattle.std.proofs.lemmas.Bool.{false≢true}
 use Rattle.std.specs.Ordering.{int_eq}
 use Rattle.std.specs.Prelude.{bit_and, bit_or, is_some}
@@ -64,23 +64,20 @@ pub record IsLatchBack (status ready timeout enabled latch : Bool) : Type 0 wher
   pub was_set : latch_back status ready timeout enabled latch ≡ true → latch ≡ true
   pub known : (int_eq (ipending_at status ready timeout enabled latch) (negsuc 0) || (int_eq (ipending_at status ready timeout enabled latch) (pos 0) || int_eq (ipending_at status ready timeout enabled latch) (pos 1))) ≡ true
 
-never_on : {P : Type 0} → false ≡ true → P
-never_on h = absurd (false≢true h)
-
 pub latch_comes_back : (status ready timeout enabled latch : Bool) → IsLatchBack status ready timeout enabled latch
 latch_comes_back true ready timeout true true = record { same_id = refl; while_enabled = λ _. refl; was_set = λ _. refl; known = refl }
-latch_comes_back true ready timeout true false = record { same_id = refl; while_enabled = λ _. refl; was_set = λ h. never_on h; known = refl }
-latch_comes_back true ready timeout false true = record { same_id = refl; while_enabled = λ h. never_on h; was_set = λ _. refl; known = refl }
-latch_comes_back true ready timeout false false = record { same_id = refl; while_enabled = λ h. never_on h; was_set = λ h. never_on h; known = refl }
+latch_comes_back true ready timeout true false = record { same_id = refl; while_enabled = λ _. refl; was_set = λ h. absurd (false≢true h); known = refl }
+latch_comes_back true ready timeout false true = record { same_id = refl; while_enabled = λ h. absurd (false≢true h); was_set = λ _. refl; known = refl }
+latch_comes_back true ready timeout false false = record { same_id = refl; while_enabled = λ h. absurd (false≢true h); was_set = λ h. absurd (false≢true h); known = refl }
 latch_comes_back false true timeout true true = record { same_id = refl; while_enabled = λ _. refl; was_set = λ _. refl; known = refl }
-latch_comes_back false true timeout true false = record { same_id = refl; while_enabled = λ _. refl; was_set = λ h. never_on h; known = refl }
-latch_comes_back false true timeout false true = record { same_id = refl; while_enabled = λ h. never_on h; was_set = λ _. refl; known = refl }
-latch_comes_back false true timeout false false = record { same_id = refl; while_enabled = λ h. never_on h; was_set = λ h. never_on h; known = refl }
+latch_comes_back false true timeout true false = record { same_id = refl; while_enabled = λ _. refl; was_set = λ h. absurd (false≢true h); known = refl }
+latch_comes_back false true timeout false true = record { same_id = refl; while_enabled = λ h. absurd (false≢true h); was_set = λ _. refl; known = refl }
+latch_comes_back false true timeout false false = record { same_id = refl; while_enabled = λ h. absurd (false≢true h); was_set = λ h. absurd (false≢true h); known = refl }
 latch_comes_back false false true true true = record { same_id = refl; while_enabled = λ _. refl; was_set = λ _. refl; known = refl }
-latch_comes_back false false true true false = record { same_id = refl; while_enabled = λ _. refl; was_set = λ h. never_on h; known = refl }
-latch_comes_back false false true false true = record { same_id = refl; while_enabled = λ h. never_on h; was_set = λ _. refl; known = refl }
-latch_comes_back false false true false false = record { same_id = refl; while_enabled = λ h. never_on h; was_set = λ h. never_on h; known = refl }
+latch_comes_back false false true true false = record { same_id = refl; while_enabled = λ _. refl; was_set = λ h. absurd (false≢true h); known = refl }
+latch_comes_back false false true false true = record { same_id = refl; while_enabled = λ h. absurd (false≢true h); was_set = λ _. refl; known = refl }
+latch_comes_back false false true false false = record { same_id = refl; while_enabled = λ h. absurd (false≢true h); was_set = λ h. absurd (false≢true h); known = refl }
 latch_comes_back false false false true true = record { same_id = refl; while_enabled = λ _. refl; was_set = λ _. refl; known = refl }
-latch_comes_back false false false true false = record { same_id = refl; while_enabled = λ _. refl; was_set = λ h. never_on h; known = refl }
-latch_comes_back false false false false true = record { same_id = refl; while_enabled = λ h. never_on h; was_set = λ _. refl; known = refl }
-latch_comes_back false false false false false = record { same_id = refl; while_enabled = λ h. never_on h; was_set = λ h. never_on h; known = refl }
+latch_comes_back false false false true false = record { same_id = refl; while_enabled = λ _. refl; was_set = λ h. absurd (false≢true h); known = refl }
+latch_comes_back false false false false true = record { same_id = refl; while_enabled = λ h. absurd (false≢true h); was_set = λ _. refl; known = refl }
+latch_comes_back false false false false false = record { same_id = refl; while_enabled = λ h. absurd (false≢true h); was_set = λ h. absurd (false≢true h); known = refl }

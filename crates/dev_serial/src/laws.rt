@@ -1,5 +1,6 @@
 // Laws of the definitions, each in a clause of a function that does nothing.
 ghost use Rattle.dev_serial.specs.Laws.{AlikeItself, AlikeBack, AlikeOn, ReadsKeepLevel, WritesKeepLevel, BytesInKeepLevel, AdvancesKeepLevel, ListsComeBack, HoldsWhatItGives, SavedAreCells, SavedComesBack, SoundMeetsRules, RestoredIsSound, ReadsAlike, WritesAlike, BytesInAlike, AdvancesAlike, SavesAlike, LinesAlike, PowerOnIsSound, ReadsKeepSound, WritesKeepSound, BytesInKeepSound, AdvancesKeepSound};
+ghost use Rattle.dev_serial.specs.Recast.{RecastOnce};
 ghost use Rattle.dev_serial.specs.RegisterLaws.{IdentifiesFirst, LineTellsAsking, SwitchClearsBoth, ResetsByBits, StaysOff, WritesSwitch};
 ghost use Rattle.dev_serial.specs.Sending.{SendsInOrder, ReplacesOne, LeavesForLine, AdvancesInParts, WaitsUntilDue, LoopsAtMoment, LongestCharacter};
 
@@ -103,4 +104,11 @@ pub fn fifo_control_law()
     ensures reset { ResetsByBits }
     ensures stays_off { StaysOff }
     ensures written { WritesSwitch }
+{}
+
+/// The cells of the newest set, where FIFOs that stood in rings alone are in counted arrays, are so already, and
+/// are of its kinds.
+#[tactic(auto, using(crate::proofs::RecastKinds::recast_once))]
+pub fn recast_law()
+    ensures { RecastOnce }
 {}

@@ -13,6 +13,7 @@ mod numbers;
 mod place;
 mod receiver;
 mod registers;
+mod rings;
 mod rules;
 mod saved;
 mod serial;
@@ -22,7 +23,8 @@ mod transmitter;
 mod trigger;
 
 pub use laws::{
-    alike_law, cells_law, fifo_control_law, interrupt_law, level_law, likeness_law, restored_law,
-    ring_law, rules_law, saved_law, sending_law, sound_law, time_law,
+    alike_law, cells_law, fifo_control_law, interrupt_law, level_law, likeness_law, recast_law,
+    restored_law, ring_law, rules_law, saved_law, sending_law, sound_law, time_law,
 };
+pub use rings::recast;
 pub use serial::Serial;

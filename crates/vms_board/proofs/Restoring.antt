@@ -1,7 +1,8 @@
 -- What a load brings to a board.
-use Rattle.std.proofs.Common.{◌≡◌, inl, inr, ℕ, zero, suc, ◌-◌, ◌<◌, ◌≤◌, List, [], ◌∷◌, length, get_or, Option, Some, None, IfSome, Ok, Err, Result, refl, sym, ap, ◌∙◌, subst, arith}
+use Rattle.std.proofs.Common.{◌≡◌, inl, inr, ℕ, zero, suc, ◌-◌, ◌<◌, ◌≤◌, List, ◌∷◌, length, get_or, Option, Some, None, IfSome, Ok, Err, Result, refl, sym, ap, ◌∙◌, subst, arith, []}
 use Rattle.std.specs.List.{slice_get}
 use Rattle.std.proofs.lemmas.Bool.{leb-true}
+use Rattle.std.proofs.lemmas.Option.{slice_get-get_or}
 use Rattle.dev_base.specs.Levels.{IsLevel}
 use Rattle.dev_base.specs.declared.limits.TheConstants.{NEWEST}
 use Rattle.dev_board.specs.Saved.{AreBoardCells, restored}
@@ -12,7 +13,6 @@ use Rattle.vms_desc.specs.Described.{device_at}
 use Rattle.vms_desc.specs.Formed.{shipped_set}
 use Rattle.vms_frames.proofs.HeardLemmas.{heard_as}
 use Rattle.vms_frames.specs.declared.fault.Refusal.{Refusal}
-use Rattle.vms_check.proofs.ListLaws.{at_get}
 use Rattle.vms_image.specs.Typed.{Typed, AreImagesOf}
 use Rattle.vms_load.specs.Good.{AreKept}
 use Rattle.vms_load.specs.Hearing.{HearsLoad}
@@ -164,7 +164,7 @@ five_of images s = s.one_each
 pub room : (images : List Typed) (k : ℕ) (image : Typed) → AreImagesOf (shipped_set NEWEST) images → k < 5 → image ≡ get_or images k image → length image.numbers ≤ 96
 room images k image s lt is =
     let five = five_of images s in
-    let here : slice_get images k ≡ Some image = at_get images k image (omega (arith, five, lt)) ∙ ap (λ (i : Typed). Some i) (sym is) in
+    let here : slice_get images k ≡ Some image = slice_get-get_or images k image (omega (arith, five, lt)) ∙ ap (λ (i : Typed). Some i) (sym is) in
     let n = (s.each k image here).cells in
     let most = few k lt in
     omega (arith, n, most)

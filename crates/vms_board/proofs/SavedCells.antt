@@ -1,5 +1,5 @@
 -- The cells of a board that is saved, and its machine, under the shipped sets.
-use Rattle.std.proofs.Common.{◌≡◌, ℕ, zero, suc, ◌-◌, ◌<◌, ◌≤◌, List, [], ◌∷◌, length, get_or, map, Option, Some, Result, Ok, Err, ℤ, pos, refl, sym, ap, ◌∙◌, subst, arith}
+use Rattle.std.proofs.Common.{◌≡◌, ℕ, zero, suc, ◌-◌, ◌<◌, ◌≤◌, List, ◌∷◌, length, get_or, map, Option, Some, Result, Ok, Err, ℤ, pos, refl, sym, ap, ◌∙◌, subst, arith, []}
 use Rattle.std.specs.List.{slice_get}
 use Rattle.std.specs.Io.KnownBytes.{Appends}
 use Rattle.dev_board.specs.Saved.{saved, MaySaveUnder}
@@ -10,12 +10,12 @@ use Rattle.dev_images.specs.Images.{image_of, images_of, lists_of, saved_images}
 use Rattle.dev_images.proofs.BoardReady.{saved_are_ready}
 use Rattle.vms_desc.specs.Described.{device_at}
 use Rattle.vms_desc.specs.Formed.{shipped_set}
-use Rattle.vms_check.proofs.ListLaws.{at_get}
 use Rattle.vms_desc.specs.Spots.{kinds_at}
 use Rattle.vms_kinds.specs.Codes.{InRange}
 use Rattle.vms_kinds.specs.declared.Kind.{Kind}
 use Rattle.vms_kinds.specs.declared.Kind.TheVariants.{U8}
 use Rattle.std.proofs.lemmas.List.{length-map, get_or-map}
+use Rattle.std.proofs.lemmas.Option.{slice_get-get_or, slice_get_within}
 use Rattle.vms_spec.specs.Images.{Image, FitCells}
 use Rattle.vms_spec.specs.Layout.{Cell, no_cell, device_cells}
 use Rattle.vms_spec.specs.Sets.{Set}
@@ -50,11 +50,11 @@ fit-device set k numbers f =
     }
 
 fit-at : (set : Set) (a b c d e : List ℤ) → length set.devices ≡ 5 → AreReady set (five set a b c d e) → (k : ℕ) → k < 5 → FitDevice set k (get_or (a ∷ b ∷ c ∷ d ∷ e ∷ []) k [])
-fit-at set a b c d e l r zero lt = fit-device set 0 a (r.ready 0 (device_at set 0) (image_of set (device_at set 0) a) (at_get set.devices 0 _ (omega (arith, l))) refl).normal.cells
-fit-at set a b c d e l r (suc zero) lt = fit-device set 1 b (r.ready 1 (device_at set 1) (image_of set (device_at set 1) b) (at_get set.devices 1 _ (omega (arith, l))) refl).normal.cells
-fit-at set a b c d e l r (suc (suc zero)) lt = fit-device set 2 c (r.ready 2 (device_at set 2) (image_of set (device_at set 2) c) (at_get set.devices 2 _ (omega (arith, l))) refl).normal.cells
-fit-at set a b c d e l r (suc (suc (suc zero))) lt = fit-device set 3 d (r.ready 3 (device_at set 3) (image_of set (device_at set 3) d) (at_get set.devices 3 _ (omega (arith, l))) refl).normal.cells
-fit-at set a b c d e l r (suc (suc (suc (suc zero)))) lt = fit-device set 4 e (r.ready 4 (device_at set 4) (image_of set (device_at set 4) e) (at_get set.devices 4 _ (omega (arith, l))) refl).normal.cells
+fit-at set a b c d e l r zero lt = fit-device set 0 a (r.ready 0 (device_at set 0) (image_of set (device_at set 0) a) (slice_get-get_or set.devices 0 _ (omega (arith, l))) refl).normal.cells
+fit-at set a b c d e l r (suc zero) lt = fit-device set 1 b (r.ready 1 (device_at set 1) (image_of set (device_at set 1) b) (slice_get-get_or set.devices 1 _ (omega (arith, l))) refl).normal.cells
+fit-at set a b c d e l r (suc (suc zero)) lt = fit-device set 2 c (r.ready 2 (device_at set 2) (image_of set (device_at set 2) c) (slice_get-get_or set.devices 2 _ (omega (arith, l))) refl).normal.cells
+fit-at set a b c d e l r (suc (suc (suc zero))) lt = fit-device set 3 d (r.ready 3 (device_at set 3) (image_of set (device_at set 3) d) (slice_get-get_or set.devices 3 _ (omega (arith, l))) refl).normal.cells
+fit-at set a b c d e l r (suc (suc (suc (suc zero)))) lt = fit-device set 4 e (r.ready 4 (device_at set 4) (image_of set (device_at set 4) e) (slice_get-get_or set.devices 4 _ (omega (arith, l))) refl).normal.cells
 fit-at set a b c d e l r (suc (suc (suc (suc (suc k))))) lt = absurd (omega (arith, lt))
 
 pub five_devices : (s : ℕ) → 1 ≤ s → length (shipped_set s).devices ≡ 5
@@ -101,13 +101,8 @@ machine_at (suc (suc (suc (suc zero)))) (suc (suc (suc (suc zero)))) l le h = re
 machine_at (suc (suc (suc (suc zero)))) (suc (suc (suc (suc (suc level))))) l le h = absurd (omega (arith, le))
 machine_at (suc (suc (suc (suc (suc s))))) (suc level) l le h = absurd (omega (arith, h))
 
-at_below : {X : Type 0} (xs : List X) (k : ℕ) (x : X) → slice_get xs k ≡ Some x → k < length xs
-at_below [] k x e = cc
-at_below (y ∷ xs) zero x e = omega arith
-at_below (y ∷ xs) (suc k) x e = let below = at_below xs k x e in omega (arith, below)
-
 pub machine_below : (s level : ℕ) → 1 ≤ level → level ≤ s → s ≤ 4 → level - 1 < length (shipped_set s).machines
-machine_below s level l le h = at_below (shipped_set s).machines (level - 1) (machine_of level) (machine_at s level l le h)
+machine_below s level l le h = slice_get_within (shipped_set s).machines (level - 1) (machine_of level) (machine_at s level l le h)
 
 -- ---- bytes
 

@@ -1,5 +1,6 @@
 -- What is heard of a stream or of a refusal, from the step before to the answer of a call.
-use Rattle.std.proofs.Common.{◌≡◌, inl, inr, ℕ, ◌+◌, List, [], ◌∷◌, ◌++◌, length, drop, Option, Some, Ok, Err, arith, refl, sym, ap, ◌∙◌, subst, append-nil, length-append, length-drop}
+use Rattle.std.proofs.Common.{◌≡◌, inl, inr, ℕ, ◌+◌, List, ◌∷◌, ◌++◌, length, drop, Option, Some, Ok, Err, arith, refl, sym, ap, ◌∙◌, subst, append-nil, length-append, length-drop, []}
+use Rattle.std.proofs.lemmas.Option.{same_Some}
 use Rattle.arrayvec.specs.ArrayVec.{ArrayVec}
 use Rattle.dev_base.specs.declared.limits.TheConstants.{NEWEST}
 use Rattle.vms_board.specs.Comes.{HearsBoard, IsRefused}
@@ -28,7 +29,7 @@ use Rattle.vms_commands.specs.declared.ending.Ending.TheVariants.{Done, Refused,
 use Rattle.vms_script.specs.Lines.{ScriptLine}
 use Rattle.vms_session.specs.Events.{events_of, trace_from}
 use Rattle.vms_spec.specs.Images.{Image}
-use Rattle.vms_spec.specs.Numbers.{IsBytes}
+use Rattle.vms_kinds.specs.Bytes.{IsBytes}
 use Rattle.vms_spec.specs.Sets.{Set}
 use Rattle.vms_stream.specs.Streams.{Takes as TakesStream}
 use Rattle.vms_board_commands.specs.Causes.{NoScript}
@@ -142,9 +143,6 @@ all_taken set names bytes taken machine images takes none =
 
 -- ---- what a restore hears
 
-pub some-is : (x y : List ℕ) → Some x ≡ Some y → x ≡ y
-some-is x y e = cc
-
 -- with this line and so many bytes it is the outcome of all of them
 pub all_of : (outcome : List ℕ → Outcome → Type 0) (bytes said line : List ℕ) (n before now : ℕ) → outcome bytes (ended 1 said n) → line ≡ said → length bytes ≡ n
     → now ≡ capped (before + length bytes) → Hears outcome line before now
@@ -173,7 +171,7 @@ module _ (level : ℕ) (lines : List ScriptLine) (held : Option Held) (before no
   by-fault bytes ok given (inr f) =
       let misfit : IsMisfitAt level bytes r.at r.section r.reason = subst (λ (l : List ℕ). IsMisfitAt level l r.at r.section r.reason) (append-nil bytes) f.0 in
       let takes = misfit.taken.1 in
-      let none : [] ≡ drop r.at (bytes ++ []) = some-is [] (drop r.at (bytes ++ [])) f.1 in
+      let none : [] ≡ drop r.at (bytes ++ []) = same_Some [] (drop r.at (bytes ++ [])) f.1 in
       let all : length (bytes ++ []) ≡ length bytes = ap length (append-nil bytes) in
       let ends : length bytes ≡ r.at =
       omega (arith, all, ap length none, length-drop r.at (bytes ++ []), ap length takes.prefix, length-append takes.bytes takes.rest, takes.long) in
@@ -189,7 +187,7 @@ pub trace_heard : (level : ℕ) (lines : List ScriptLine) (held : Option Held) (
     → WritesAs (trace_from (events_of lines) new.state) o o' e → HearsEnd (λ bytes x. Loads level lines bytes held x) held before now o o' e
 trace_heard level lines held before now o o' new e h w =
     let said = h.says [] refl in
-    let none : [] ≡ drop new.taken (h.bytes ++ []) = some-is [] (drop new.taken (h.bytes ++ [])) said.1 in
+    let none : [] ≡ drop new.taken (h.bytes ++ []) = same_Some [] (drop new.taken (h.bytes ++ [])) said.1 in
     let back : Restores level h.bytes (Back new.state new.taken) = subst (λ (l : List ℕ). Restores level l (Back new.state new.taken)) (append-nil h.bytes) said.0 in
     let taken = said.0.1 in
     let ends = all_taken (shipped_set NEWEST) (machine_of level ∷ []) h.bytes new.taken taken.0 said.0.0 taken.1 none in

@@ -26,7 +26,7 @@ use Rattle.vms_script.specs.Lines.{ScriptLine}
 use Rattle.vms_script.specs.Views.{event_lines}
 use Rattle.vms_session.proofs.OneLaws.{one_restore, no_fault}
 use Rattle.vms_session.specs.Laws.{trace_of}
-use Rattle.vms_spec.specs.Numbers.{IsBytes}
+use Rattle.vms_kinds.specs.Bytes.{IsBytes}
 use Rattle.vms_spec.specs.declared.Reason.{Reason}
 use Rattle.vms_stream.proofs.Stated.{one_fault_holds}
 use Rattle.vms_load.specs.Staging.{most_given}

@@ -12,7 +12,7 @@ use Rattle.vms_session.specs.Events.{events_of}
 use Rattle.vms_script.specs.Lines.{ScriptLine}
 use Rattle.vms_session.proofs.OneLaws.{bytes_are_one, no_fault, one_restore}
 use Rattle.vms_session.specs.Laws.{trace_of}
-use Rattle.vms_spec.specs.Numbers.{IsBytes}
+use Rattle.vms_kinds.specs.Bytes.{IsBytes}
 use Rattle.vms_spec.specs.declared.Reason.{Reason}
 use Rattle.vms_stream.proofs.Stated.{one_fault_holds}
 use Rattle.vms_board_commands.proofs.LoadLemmas.{done_is, line_is}

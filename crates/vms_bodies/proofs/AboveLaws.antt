@@ -1,6 +1,6 @@
 -- The numbers of a description's slots are at its place or above.
-use Rattle.std.proofs.Common.{◌≡◌, ℕ, zero, suc, ◌+◌, ◌<◌, ◌≤◌, List, [], ◌∷◌, ◌++◌, length, get_or, map, ℤ, refl, ap, ◌∙◌, arith, Bool, true, false, if◌then◌else◌, ◌==◌, ◌||◌}
-use Rattle.std.proofs.lemmas.Bool.{eqb-true}
+use Rattle.std.proofs.Common.{◌≡◌, ℕ, zero, suc, ◌+◌, ◌<◌, ◌≤◌, List, ◌∷◌, ◌++◌, length, get_or, map, ℤ, refl, ap, ◌∙◌, arith, Bool, true, false, if◌then◌else◌, [], ◌||◌}
+use Rattle.std.proofs.lemmas.Bool.{ne_eqb}
 use Rattle.vms_kinds.specs.declared.Item.{Item}
 use Rattle.vms_kinds.specs.declared.Item.TheVariants.{Num, Equal, Unused, Struct}
 use Rattle.vms_spec.specs.Sets.{Field, Desc}
@@ -23,13 +23,6 @@ above_append cell xs ys p q = record { below = λ c h. let x = p.below c h in le
 pub above_less : (cell further : ℕ) (xs : List Slot) → cell ≤ further → IsAbove further xs → IsAbove cell xs
 above_less cell further xs le p = record { below = λ c h. p.below c (omega arith) }
 
-not_same : (cell c : ℕ) → c < cell → (cell == c) ≡ false
-not_same cell c h = go (cell == c) refl
-  where
-    go : (b : Bool) → (cell == c) ≡ b → (cell == c) ≡ false
-    go true e = let f = eqb-true cell c e in absurd (omega arith)
-    go false e = e
-
 pub record MeansAbove (m : Meaning) : Type 0 where
   pub means : (at : ℕ) (numbers : List ℤ) → IsAbove at (m.slots numbers at)
 
@@ -40,7 +33,7 @@ none_above : MeansAbove no_meaning
 none_above = record { means = λ at numbers. above_none at }
 
 pub item_above : (ms : List Meaning) → MeanAbove ms → (item : Item) (caps : List ℕ) (numbers : List ℤ) (at : ℕ) → IsAbove at (item_slots ms item caps numbers at)
-item_above ms h (Num kind) caps numbers at = record { below = λ c lt. ap (λ (b : Bool). b || false) (not_same at c lt) }
+item_above ms h (Num kind) caps numbers at = record { below = λ c lt. ap (λ (b : Bool). b || false) (ne_eqb at c (λ e. omega (arith, e, lt))) }
 item_above ms h (Equal kind y) caps numbers at = record { below = λ c lt. refl }
 item_above ms h (Unused n) caps numbers at = record { below = λ c lt. refl }
 item_above ms h (Struct j) caps numbers at = (h j).means at numbers

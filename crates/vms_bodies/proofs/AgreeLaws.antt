@@ -1,7 +1,7 @@
 -- What is spelled depends on the cells that are named; a description's slots name cells between its place and its end.
-use Rattle.std.proofs.Common.{◌≡◌, ℕ, zero, suc, ◌+◌, ◌<◌, ◌≤◌, ◌≤ℤ◌, List, [], ◌∷◌, ◌++◌, length, get_or, drop, replicate, ℤ, pos, refl, sym, ap, ◌∙◌, subst, arith, append-nil, Bool, true, false, nat_lt, ◌==◌, ◌||◌}
+use Rattle.std.proofs.Common.{◌≡◌, ℕ, zero, suc, ◌+◌, ◌<◌, ◌≤◌, ◌≤ℤ◌, List, ◌∷◌, ◌++◌, length, get_or, drop, replicate, ℤ, pos, refl, sym, ap, ◌∙◌, subst, arith, append-nil, Bool, true, false, nat_lt, ◌==◌, [], ◌||◌}
 use Rattle.std.specs.List.{AllByRecursion}
-use Rattle.std.proofs.lemmas.Bool.{eq-eqb, eqb-true, ltb-true, ltb-false}
+use Rattle.std.proofs.lemmas.Bool.{eq-eqb, eqb-true, ltb-true, ltb-false, or_left, or_right}
 use Rattle.vms_kinds.specs.Codes.{InRange, code}
 use Rattle.vms_spec.specs.Sets.{Desc, Set}
 use Rattle.vms_spec.specs.Layout.{Slot, Number, Constant, Filler, Rule, Cell, no_cell, meanings, desc_slots, desc_cells, struct_cells}
@@ -13,18 +13,10 @@ use Rattle.vms_bodies.proofs.CellLaws.{desc_are, meanings_are, cells_first}
 use Rattle.vms_bodies.proofs.SpellLaws.{FitSlots}
 use Rattle.vms_bodies.proofs.SettledLaws.{SameIn, slots_within}
 
-or_true : (a b : Bool) → b ≡ true → (a || b) ≡ true
-or_true true b e = refl
-or_true false b e = e
-
-named_here : (a b : Bool) → a ≡ true → (a || b) ≡ true
-named_here true b e = refl
-named_here false b e = cc
-
 pub spells_agree : (n k : List ℤ) (xs : List Slot) (bytes : List ℕ) → ((c : ℕ) → has_cell xs c ≡ true → get_or k c (pos 0) ≡ get_or n c (pos 0)) → Spells n xs bytes → Spells k xs bytes
 spells_agree n k [] bytes h s = s
 spells_agree n k (Number c kind caps ∷ xs) bytes h s =
-    (s.0, s.1 ∙ ap (λ (z : ℤ). code kind z ++ s.0) (sym (h c (named_here (c == c) (has_cell xs c) (eq-eqb c c refl)))), spells_agree n k xs s.0 (λ j e. h j (or_true (c == j) (has_cell xs j) e)) s.2)
+    (s.0, s.1 ∙ ap (λ (z : ℤ). code kind z ++ s.0) (sym (h c (or_left (c == c) (has_cell xs c) (eq-eqb c c refl)))), spells_agree n k xs s.0 (λ j e. h j (or_right (c == j) (has_cell xs j) e)) s.2)
 spells_agree n k (Constant kind z ∷ xs) bytes h s = (s.0, s.1, spells_agree n k xs s.0 h s.2)
 spells_agree n k (Filler m ∷ xs) bytes h s = (s.0, s.1, s.2, s.3, spells_agree n k xs s.1 h s.4)
 spells_agree n k (Rule b ∷ xs) bytes h s = spells_agree n k xs bytes h s
@@ -32,8 +24,8 @@ spells_agree n k (Rule b ∷ xs) bytes h s = spells_agree n k xs bytes h s
 pub fits_agree : (n k : List ℤ) (xs : List Slot) → ((c : ℕ) → has_cell xs c ≡ true → get_or k c (pos 0) ≡ get_or n c (pos 0)) → FitSlots n xs → FitSlots k xs
 fits_agree n k [] h f = tt
 fits_agree n k (Number c kind caps ∷ xs) h f =
-    let e = sym (h c (named_here (c == c) (has_cell xs c) (eq-eqb c c refl))) in
-    (subst (λ (z : ℤ). InRange kind z) e f.0, subst (λ (z : ℤ). AllByRecursion (λ most. z ≤ℤ pos most) caps) e f.1, fits_agree n k xs (λ j e. h j (or_true (c == j) (has_cell xs j) e)) f.2)
+    let e = sym (h c (or_left (c == c) (has_cell xs c) (eq-eqb c c refl))) in
+    (subst (λ (z : ℤ). InRange kind z) e f.0, subst (λ (z : ℤ). AllByRecursion (λ most. z ≤ℤ pos most) caps) e f.1, fits_agree n k xs (λ j e. h j (or_right (c == j) (has_cell xs j) e)) f.2)
 fits_agree n k (Constant kind z ∷ xs) h f = (f.0, fits_agree n k xs h f.1)
 fits_agree n k (Filler m ∷ xs) h f = fits_agree n k xs h f
 fits_agree n k (Rule b ∷ xs) h f = fits_agree n k xs h f

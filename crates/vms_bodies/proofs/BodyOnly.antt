@@ -1,16 +1,16 @@
 -- A body of a description is taken as that description.
-use Rattle.std.proofs.Common.{◌≡◌, ℕ, zero, suc, ◌+◌, ◌<◌, ◌≤◌, ◌≤ℤ◌, List, [], ◌∷◌, ◌++◌, length, get_or, take, drop, slice_set, Ok, Err, ℤ, pos, negsuc, refl, sym, ap, ◌∙◌, subst, arith, append_assoc, length-append, Bool, true, false, if◌then◌else◌, nat_lt, ◌==◌, ◌||◌}
+use Rattle.std.proofs.Common.{◌≡◌, ℕ, zero, suc, ◌+◌, ◌<◌, ◌≤◌, ◌≤ℤ◌, List, ◌∷◌, ◌++◌, length, get_or, take, drop, slice_set, Ok, Err, ℤ, pos, refl, sym, ap, ◌∙◌, subst, arith, append_assoc, length-append, Bool, true, false, if◌then◌else◌, nat_lt, ◌==◌, [], ◌||◌}
 use Rattle.std.specs.List.{AllByRecursion}
 use Rattle.std.proofs.Math.Seq.{drop-append_seam}
 use Rattle.std.proofs.lemmas.List.{take-append-le, append_cancel_left, ext_get_or, get_or-set_same, length-set}
 use Rattle.std.proofs.lemmas.Bool.{le-ltb, eq-eqb, eqb-true}
-use Rattle.std.proofs.lemmas.Int.{ints}
+use Rattle.std.proofs.Math.Nat.{add-zero}
 use Rattle.vms_kinds.specs.declared.Kind.{Kind}
 use Rattle.vms_kinds.specs.Codes.{width, value_of, code, InRange}
 use Rattle.vms_spec.specs.declared.Reason.TheVariants as reasons
 use Rattle.vms_spec.specs.Sets.{Desc}
 use Rattle.vms_spec.specs.Lookup.{is_bad_bool}
-use Rattle.vms_spec.specs.Numbers.{exceeds, is_above, same_number}
+use Rattle.vms_spec.specs.Numbers.{exceeds, same_number}
 use Rattle.vms_spec.specs.Layout.{Slot, Number, Constant, Filler, Rule, Cell, meanings, desc_slots, desc_cells}
 use Rattle.vms_spec.specs.Images.{Spells, RulesHold, has_cell}
 use Rattle.vms_spec.specs.Taking.{Taken, Progress, Refusal, refuse, on, take_number, take_constant, take_filler, take_rule, take_desc, takers, cells_of}
@@ -18,32 +18,18 @@ use Rattle.vms_spec.specs.Sound.{IsSound, AreSound}
 use Rattle.vms_bodies.specs.Cells.{AreCells}
 use Rattle.vms_bodies.proofs.Places.{SameBelow}
 use Rattle.vms_spec.proofs.KindLaws.{length-code, value_code, good_code}
+use Rattle.vms_spec.proofs.NumberLaws.{same_number_itself, not_exceeds}
 use Rattle.vms_bodies.proofs.AboveLaws.{IsAbove, desc_above, meanings_above}
 use Rattle.vms_bodies.proofs.SpellLaws.{FitSlots, cell_in, set_other}
 use Rattle.vms_bodies.proofs.WalkLaws.{take_slot, Left, Gives, IsOther, Keeping, ComesTo, set_desc_comes}
 
 -- ---- tests that come out well
 
-same_is_true : (z : ℤ) → same_number z z ≡ true
-same_is_true (pos n) = eq-eqb n n refl
-same_is_true (negsuc n) = eq-eqb n n refl
-
-not_above : (z : ℤ) (most : ℕ) → z ≤ℤ pos most → is_above z most ≡ false
-not_above (pos n) most h = le-ltb most n (omega (arith, ints))
-not_above (negsuc n) most h = refl
-
-not_exceeds : (caps : List ℕ) (z : ℤ) → AllByRecursion (λ most. z ≤ℤ pos most) caps → exceeds caps z ≡ false
-not_exceeds [] z h = refl
-not_exceeds (most ∷ caps) z h = let a = not_above z most h.0 in let b = not_exceeds caps z h.1 in ap (λ (c : Bool). c || exceeds caps z) a ∙ b
-
 pub if_false : {A : Type 0} (b : Bool) (x y : A) → b ≡ false → (if b then x else y) ≡ y
 if_false b x y e = ap (λ (b : Bool). if b then x else y) e
 
 pub if_true : {A : Type 0} (b : Bool) (x y : A) → b ≡ true → (if b then x else y) ≡ x
 if_true b x y e = ap (λ (b : Bool). if b then x else y) e
-
-zero_more : (n : ℕ) → n ≡ n + 0
-zero_more n = omega arith
 
 -- the front of what is left, of a known length
 pub front_take : (n : ℕ) (xs ys rest : List ℕ) → rest ≡ xs ++ ys → length xs ≡ n → take n rest ≡ xs
@@ -84,12 +70,12 @@ constant_taken kind z p r fits e =
     let value : value_of kind bytes ≡ z = ap (value_of kind) is ∙ value_code kind z fits in
     if_false (nat_lt (length p.rest) w) (refuse p reasons.Truncated (length p.rest)) _ (front_long w (code kind z) r p.rest e (length-code kind z))
     ∙ if_false (is_bad_bool kind bytes) (refuse p reasons.BadBool w) _ (ap (is_bad_bool kind) is ∙ good_code kind z fits)
-    ∙ if_true (same_number (value_of kind bytes) z) (on w p.numbers p) (refuse p reasons.NotEqual w) (ap (λ (y : ℤ). same_number y z) value ∙ same_is_true z)
+    ∙ if_true (same_number (value_of kind bytes) z) (on w p.numbers p) (refuse p reasons.NotEqual w) (ap (λ (y : ℤ). same_number y z) value ∙ same_number_itself z)
     ∙ ap (λ (l : List ℕ). Ok (record { numbers = p.numbers; place = p.place + w; rest = l })) (front_drop w (code kind z) r p.rest e (length-code kind z))
 
 filler_taken : (n : ℕ) (filler r : List ℕ) (p : Progress) → length filler ≡ n → p.rest ≡ filler ++ r → take_filler n p ≡ Ok (record { numbers = p.numbers; place = p.place + n; rest = r })
 filler_taken zero [] r p len e =
-    ap (λ (k : ℕ). Ok (record { numbers = p.numbers; place = k; rest = p.rest })) (zero_more p.place)
+    ap (λ (k : ℕ). Ok (record { numbers = p.numbers; place = k; rest = p.rest })) (sym (add-zero p.place))
     ∙ ap (λ (l : List ℕ). Ok (record { numbers = p.numbers; place = p.place + 0; rest = l })) e
 filler_taken zero (x ∷ xs) r p len e = absurd (omega arith)
 filler_taken (suc n) filler r p len e =
@@ -237,7 +223,7 @@ module _ (all : List Cell) (total : List ℤ → List Slot) (n : List ℤ) (end 
       let rules : RulesHold (Rule b ∷ left n) = subst (λ (xs : List Slot). RulesHold xs) is h.rules in
       passed cell (Rule b) done left p (take_rule b p) 0 h.bytes up l
       (if_true b (Ok p) (refuse p reasons.Invalid 0) rules.0
-      ∙ ap (λ (k : ℕ). Ok (record { numbers = p.numbers; place = k; rest = p.rest })) (zero_more p.place)
+      ∙ ap (λ (k : ℕ). Ok (record { numbers = p.numbers; place = k; rest = p.rest })) (sym (add-zero p.place))
       ∙ ap (λ (l : List ℕ). Ok (record { numbers = p.numbers; place = p.place + 0; rest = l })) h.front)
       (omega arith) spells (subst (λ (xs : List Slot). FitSlots n xs) is h.fits) rules.1 (λ c. refl)
 

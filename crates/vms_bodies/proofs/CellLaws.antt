@@ -1,7 +1,5 @@
 -- The numbers that stand in the bytes of a description are its cells.
-use Rattle.std.proofs.Common.{◌≡◌, ℕ, zero, suc, ◌+◌, ◌<◌, ◌≤◌, List, [], ◌∷◌, ◌++◌, length, get_or, map, drop, ℤ, refl, sym, ap, ◌∙◌, subst, arith, append_assoc, Bool, true, false, if◌then◌else◌}
-use Rattle.std.proofs.Math.Seq.{drop-append_seam}
-use Rattle.std.proofs.lemmas.List.{drop-drop}
+use Rattle.std.proofs.Common.{◌≡◌, ℕ, zero, suc, ◌+◌, ◌<◌, ◌≤◌, List, ◌∷◌, ◌++◌, length, get_or, map, drop, ℤ, refl, ap, ◌∙◌, subst, arith, append_assoc, Bool, true, false, if◌then◌else◌, []}
 use Rattle.std.proofs.Math.ListN.{get_or-map}
 use Rattle.vms_kinds.specs.declared.Item.{Item}
 use Rattle.vms_kinds.specs.declared.Item.TheVariants.{Num, Equal, Unused, Struct}
@@ -12,14 +10,12 @@ use Rattle.vms_bodies.specs.Cells.{AreCells}
 use Rattle.vms_spec.proofs.Sizes.{size_same, elements_fit}
 use Rattle.vms_spec.proofs.Prefixes.{first_cells}
 use Rattle.vms_spec.proofs.Tables.{one_more}
+use Rattle.vms_spec.proofs.ListLaws.{drop_on}
 
 -- from a place on, these cells stand in a list
 pub record Stands (all : List Cell) (at : ℕ) (cells : List Cell) : Type 0 where
   pub more : List Cell
   pub is : drop at all ≡ cells ++ more
-
-drop_on : {A : Type 0} (all : List A) (at : ℕ) (xs ys : List A) → drop at all ≡ xs ++ ys → drop (at + length xs) all ≡ ys
-drop_on all at xs ys e = sym (drop-drop (length xs) at all) ∙ ap (drop (length xs)) e ∙ drop-append_seam xs ys
 
 pub front_stands : (all : List Cell) (at : ℕ) (xs ys : List Cell) → Stands all at (xs ++ ys) → Stands all at xs
 front_stands all at xs ys s = record { more = ys ++ s.more; is = s.is ∙ append_assoc xs ys s.more }

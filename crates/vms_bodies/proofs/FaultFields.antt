@@ -4,7 +4,8 @@ use Rattle.vms_kinds.specs.declared.Kind.{Kind}
 use Rattle.vms_kinds.specs.declared.Kind.TheVariants.{U8, U16, U32, U64, I8, I16, I32, I64, Bool as Truth, Timer}
 use Rattle.vms_kinds.specs.Codes.{width, code, value_of, InRange}
 use Rattle.vms_kinds.proofs.CodeLemmas.{signed_take, plain_take}
-use Rattle.vms_spec.specs.Numbers.{IsBytes, is_truth, is_above}
+use Rattle.vms_spec.specs.Numbers.{is_truth, is_above}
+use Rattle.vms_kinds.specs.Bytes.{IsBytes}
 use Rattle.vms_spec.specs.Lookup.{is_bad_bool, raw}
 
 -- ---- numbers

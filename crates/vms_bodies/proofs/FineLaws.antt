@@ -1,14 +1,14 @@
 -- An image whose parts so far are read is normal and valid so far, and stays so when one part more is read.
 use Rattle.std.proofs.Common.{◌≡◌, ℕ, ◌+◌, ◌<◌, ◌≤◌, List, length, get_or, slice_set, Option, Some, None, ℤ, pos, refl, sym, ap, ◌∙◌, subst, arith, Bool, true, false, nat_lt, ◌==◌, ◌||◌}
 use Rattle.std.specs.List.{slice_get}
-use Rattle.std.proofs.lemmas.Bool.{eqb-true, eq-eqb, ltb-true, ltb-false}
+use Rattle.std.proofs.lemmas.Bool.{eqb-true, eq-eqb, ltb-true, ltb-false, or_parts}
 use Rattle.vms_spec.specs.Sets.{Sub, Device, Set}
 use Rattle.vms_spec.specs.Layout.{Slot, Cell, no_cell, device_cells}
 use Rattle.vms_spec.specs.Images.{Image, sub_place, sub_slots, own_slots, own_cells, came_slots, image_slots, RulesHold, has_cell, AreVersionsOf, IsVersionOf, IsNormal, IsValid, FitsCell}
 use Rattle.vms_spec.specs.Streams
 use Rattle.vms_bodies.specs.Cells.{AreCells}
 use Rattle.vms_spec.specs.Sound.{IsSound, AreSound}
-use Rattle.vms_bodies.proofs.Names.{or_false, names_append}
+use Rattle.vms_bodies.proofs.Names.{names_append}
 use Rattle.vms_bodies.proofs.CellLaws.{cells_append}
 use Rattle.vms_bodies.proofs.SpellLaws.{FitSlots, fit_append, rules_append}
 use Rattle.vms_bodies.proofs.SectionLaws.{own_are}
@@ -116,7 +116,7 @@ pub names_stay : (set : Set) (d : Device) (came : List (Option ℕ)) (n m : List
 names_stay set d came n m c structs sound stays h =
     parts_together set d n (λ xs. has_cell xs c ≡ false) refl (λ xs ys p q. names_append xs ys c ∙ ap (λ (b : Bool). b || has_cell ys c) p ∙ q) (own_cells set d) d.subs came
     (λ i s x e f. ap (λ (xs : List Slot). has_cell xs c) (sym (its_same set s.desc x (part_place set d i) structs (sound i s e) n m (stays.parts i s x e f)))
-    ∙ part_apart set d m (λ xs. has_cell xs c ≡ false) (λ xs ys p. or_false (has_cell xs c) (has_cell ys c) (sym (names_append xs ys c) ∙ p)) (own_cells set d) d.subs came h i s x e f)
+    ∙ part_apart set d m (λ xs. has_cell xs c ≡ false) (λ xs ys p. or_parts (has_cell xs c) (has_cell ys c) (sym (names_append xs ys c) ∙ p)) (own_cells set d) d.subs came h i s x e f)
 
 pub fine_next : (set : Set) (d : Device) (v : ℕ) (came : List (Option ℕ)) (n m : List ℤ) (j w : ℕ) (t : Sub) → AreSound set.structs → IsSound d.desc → ((j : ℕ) (s : Sub) → slice_get d.subs j ≡ Some s → IsSound s.desc)
     → slice_get d.subs j ≡ Some t → slice_get came j ≡ Some None → IsVersionOf t.desc w → length m ≡ length n
@@ -135,7 +135,7 @@ fine_next set d v came n m j w t structs own sound there new version long fits r
       rules = next_parts d.subs came j w t (λ i s x. RulesHold (sub_slots set s x m (part_place set d i))) there new rules
           (λ i s x e g. its_hold set s.desc x (part_place set d i) structs (sound i s e) n m (stays.parts i s x e g) (f.rules i s x e g));
       absent = λ c a b.
-          let both = or_false (has_cell (sub_slots set t w m (part_place set d j)) c) (has_cell (came_slots set d m (own_cells set d) d.subs came) c)
+          let both = or_parts (has_cell (sub_slots set t w m (part_place set d j)) c) (has_cell (came_slots set d m (own_cells set d) d.subs came) c)
           (sym (names_next set d m c (own_cells set d) d.subs came j t w there new) ∙ b) in
           kept c both.0 ∙ f.absent c (ap (λ (xs : List Slot). has_cell xs c) (sym (its_same set d.desc v 0 structs own n m stays.own)) ∙ a) (names_stay set d came n m c structs sound stays both.1);
     }
@@ -158,7 +158,7 @@ fine_normal set d v came n version defaults f =
     let own = own_slots set d v n in
     let fits : FitSlots n slots = fit_append n own parts f.own_fits (parts_together set d n (FitSlots n) tt (λ xs ys p q. fit_append n xs ys p q) (own_cells set d) d.subs came f.fits) in
     let absent : (c : ℕ) → has_cell slots c ≡ false → get_or n c (pos 0) ≡ (get_or all c no_cell).default = λ c e.
-    let both = or_false (has_cell own c) (has_cell parts c) (sym (names_append own parts c) ∙ e) in f.absent c both.0 both.1 in
+    let both = or_parts (has_cell own c) (has_cell parts c) (sym (names_append own parts c) ∙ e) in f.absent c both.0 both.1 in
     record {
       version = version;
       subs = f.versions;

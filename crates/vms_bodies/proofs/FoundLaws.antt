@@ -1,6 +1,6 @@
 -- What was taken as a description is a body of it.
 use Rattle.std.proofs.Common.{◌≡◌, ℕ, ◌+◌, ◌≤◌, List, [], ◌++◌, length, get_or, Ok, ℤ, pos, refl, sym, ap, ◌∙◌, subst, append-nil, false}
-use Rattle.vms_spec.specs.Numbers.{IsBytes}
+use Rattle.vms_kinds.specs.Bytes.{IsBytes}
 use Rattle.vms_spec.specs.Sets.{Desc}
 use Rattle.vms_spec.specs.Layout.{Slot, Cell, meanings, desc_slots, desc_cells}
 use Rattle.vms_spec.specs.Images.{Spells, RulesHold, has_cell}

@@ -1,19 +1,18 @@
 -- A section head that is read is spelled so.
-use Rattle.std.proofs.Common.{◌≡◌, ℕ, zero, suc, ◌+◌, ◌<◌, ◌≤◌, List, [], ◌∷◌, ◌++◌, length, get_or, take, drop, Some, refl, sym, ap, ◌∙◌, arith, append_assoc, length-drop, get_or-drop, Bool, true, false, if◌then◌else◌, ◌==◌, ◌&&◌}
+use Rattle.std.proofs.Common.{◌≡◌, ℕ, zero, suc, ◌+◌, ◌<◌, ◌≤◌, List, ◌∷◌, ◌++◌, length, get_or, take, drop, Some, refl, sym, ap, ◌∙◌, arith, append_assoc, length-drop, get_or-drop, Bool, true, false, if◌then◌else◌, ◌==◌, ◌&&◌, []}
 use Rattle.std.specs.List.{slice_get}
 use Rattle.std.specs.Str.{bytes_eq}
 use Rattle.std.proofs.lemmas.List.{drop-drop, take-append-drop, length-take-le}
-use Rattle.std.proofs.lemmas.Bool.{eqb-true}
-use Rattle.std.proofs.lemmas.Slice.Eq.{bytes_eq-Decides}
+use Rattle.std.proofs.lemmas.Bool.{eqb-true, and_parts}
 use Rattle.byteorder.specs.Endian.{big_number, big_bytes}
 use Rattle.vms_kinds.specs.declared.Kind.TheVariants.{U32}
 use Rattle.vms_kinds.proofs.CodeLemmas.{again}
-use Rattle.vms_spec.specs.Numbers.{IsBytes}
+use Rattle.vms_kinds.proofs.ByteLemmas.{bytes_first}
+use Rattle.vms_kinds.specs.Bytes.{IsBytes}
 use Rattle.vms_spec.specs.Sets.{Device}
 use Rattle.vms_spec.specs.Streams.{be32, section_head}
 use Rattle.vms_spec.specs.Lookup.{number_at, bytes_at, find_device}
 use Rattle.vms_bodies.proofs.UnitLaws.{number_take}
-use Rattle.vms_bodies.proofs.SpellLaws.{is_bytes_take}
 
 -- ---- bytes
 
@@ -32,7 +31,7 @@ split_one (x ∷ xs) h = refl
 pub split_four : (xs : List ℕ) → IsBytes xs → 4 ≤ length xs → xs ≡ be32 (big_number 4 xs) ++ drop 4 xs
 split_four xs ok long =
     sym (take-append-drop 4 xs)
-    ∙ ap (λ (l : List ℕ). l ++ drop 4 xs) (sym (again U32 (take 4 xs) (length-take-le 4 xs long) (is_bytes_take 4 xs ok)) ∙ ap (big_bytes 4) (number_take 4 xs))
+    ∙ ap (λ (l : List ℕ). l ++ drop 4 xs) (sym (again U32 (take 4 xs) (length-take-le 4 xs long) (bytes_first 4 xs ok)) ∙ ap (big_bytes 4) (number_take 4 xs))
 
 pub head_bytes : (rest : List ℕ) (n : ℕ) → IsBytes rest → get_or rest 0 0 ≡ 0x04 → get_or rest 5 0 ≡ n → 14 + n ≤ length rest
     → rest ≡ section_head (number_at 4 1 rest) (bytes_at n 6 rest) (number_at 4 (6 + n) rest) (number_at 4 (10 + n) rest) ++ drop (14 + n) rest
@@ -61,10 +60,6 @@ head_bytes rest n ok mark size long =
 
 -- ---- the device that is found
 
-and_true : (a b : Bool) → (a && b) ≡ true → (a ≡ true) × (b ≡ true)
-and_true true b e = (refl, e)
-and_true false b e = cc
-
 -- a device of this name and instance stands at k
 pub record Found (devices : List Device) (j : ℕ) (name : List ℕ) (instance k : ℕ) : Type 0 where
   pub i : ℕ
@@ -78,7 +73,7 @@ found_here : (d : Device) (devices : List Device) (j : ℕ) (name : List ℕ) (i
     → (b : Bool) → (bytes_eq d.desc.name name && d.instance == instance) ≡ b → (if b then Some j else find_device (suc j) devices name instance) ≡ Some k
     → Found (d ∷ devices) j name instance k
 found_here d devices j name instance k later true t e =
-    let h = and_true (bytes_eq d.desc.name name) (d.instance == instance) t in
+    let h = and_parts (bytes_eq d.desc.name name) (d.instance == instance) t in
     let same : j ≡ k = cc in
     record { i = 0; is = omega arith; device = d; there = refl; name_is = h.0; instance_is = eqb-true d.instance instance h.1 }
 found_here d devices j name instance k later false f e =
@@ -90,6 +85,3 @@ pub found_is : (devices : List Device) (j : ℕ) (name : List ℕ) (instance k :
 found_is [] j name instance k e = cc
 found_is (d ∷ devices) j name instance k e =
     found_here d devices j name instance k (found_is devices (suc j) name instance k) (bytes_eq d.desc.name name && d.instance == instance) refl e
-
-pub same_text : (xs ys : List ℕ) → bytes_eq xs ys ≡ true → xs ≡ ys
-same_text xs ys e = (bytes_eq-Decides xs ys).0 e

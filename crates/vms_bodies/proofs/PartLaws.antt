@@ -1,10 +1,12 @@
 -- The parts of a section: where they begin, and what their slots are together.
-use Rattle.std.proofs.Common.{◌≡◌, ℕ, zero, suc, ◌+◌, ◌<◌, ◌≤◌, List, [], ◌∷◌, ◌++◌, length, map, slice_set, Option, Some, None, ℤ, refl, sym, ap, ◌∙◌, subst, arith, append-nil, Bool, true, false, ◌||◌}
+use Rattle.std.proofs.Common.{◌≡◌, ℕ, zero, suc, ◌+◌, ◌<◌, ◌≤◌, List, ◌∷◌, ◌++◌, length, map, slice_set, Option, Some, None, ℤ, refl, sym, ap, ◌∙◌, subst, arith, append-nil, Bool, [], ◌||◌}
 use Rattle.std.specs.List.{flat_map, slice_get}
+use Rattle.std.proofs.Math.Bool.{or_assoc}
 use Rattle.vms_spec.specs.Sets.{Sub, Device, Set}
 use Rattle.vms_spec.specs.Layout.{Slot, Cell, meanings, desc_cells, device_cells, struct_cells}
 use Rattle.vms_spec.specs.Images.{sub_place, sub_slots, own_cells, came_slots, has_cell, AreVersionsOf, IsVersionOf}
 use Rattle.vms_spec.specs.Streams
+use Rattle.vms_spec.proofs.ListLaws.{or_turned}
 use Rattle.vms_bodies.specs.Cells.{AreCells}
 use Rattle.vms_bodies.proofs.Names.{names_append}
 use Rattle.vms_bodies.proofs.CellLaws.{Stands, front_stands, rest_stands, desc_are, meanings_are, cells_first}
@@ -94,11 +96,6 @@ module _ (set : Set) (d : Device) (n : List ℤ) (P : List Slot → Type 0) wher
       part_apart split (from + length (desc_cells (struct_cells set) t.desc)) subs came
       (split (sub_slots set t w n from) (came_slots set d n (from + length (desc_cells (struct_cells set) t.desc)) subs came) h).1 j s v e f
 
-swap : (a b c : Bool) → (a || (b || c)) ≡ (b || (a || c))
-swap true true c = refl
-swap true false c = refl
-swap false b c = refl
-
 -- what is named when one part more came
 pub names_next : (set : Set) (d : Device) (n : List ℤ) (c from : ℕ) (subs : List Sub) (came : List (Option ℕ)) (j : ℕ) (s : Sub) (v : ℕ) → slice_get subs j ≡ Some s → slice_get came j ≡ Some None
     → has_cell (came_slots set d n from subs (slice_set came j (Some v))) c ≡ (has_cell (sub_slots set s v n (sub_place set from subs j)) c || has_cell (came_slots set d n from subs came) c)
@@ -116,7 +113,7 @@ names_next set d n c from (t ∷ subs) (Some w ∷ came) (suc j) s v e f =
     let part = sub_slots set s v n (sub_place set next subs j) in
     names_append here (came_slots set d n next subs (slice_set came j (Some v))) c
     ∙ ap (λ (b : Bool). has_cell here c || b) (names_next set d n c next subs came j s v e f)
-    ∙ swap (has_cell here c) (has_cell part c) (has_cell (came_slots set d n next subs came) c)
+    ∙ or_turned (has_cell here c) (has_cell part c) (has_cell (came_slots set d n next subs came) c) ∙ or_assoc (has_cell part c) (has_cell here c) (has_cell (came_slots set d n next subs came) c)
     ∙ ap (λ (b : Bool). has_cell part c || b) (sym (names_append here (came_slots set d n next subs came) c))
 
 -- ---- versions

@@ -1,7 +1,8 @@
 -- The cell of a path is one of the device's.
-use Rattle.std.proofs.Common.{◌≡◌, ℕ, zero, suc, ◌+◌, ◌*◌, ◌<◌, ◌≤◌, List, [], ◌∷◌, length, length-append, get_or, Option, Some, None, refl, sym, ap, ◌∙◌, subst, arith, Bool, true, false, nat_lt, if◌then◌else◌}
+use Rattle.std.proofs.Common.{◌≡◌, ℕ, zero, suc, ◌+◌, ◌*◌, ◌<◌, ◌≤◌, List, ◌∷◌, length, length-append, Option, Some, None, refl, sym, ap, ◌∙◌, subst, arith, Bool, true, false, nat_lt, if◌then◌else◌, []}
 use Rattle.std.specs.List.{flat_map, slice_get}
 use Rattle.std.proofs.lemmas.Bool.{ltb-true}
+use Rattle.std.proofs.lemmas.Option.{get_or_from_slice_get}
 use Rattle.vms_kinds.specs.declared.Item.{Item}
 use Rattle.vms_kinds.specs.declared.Item.TheVariants.{Num, Equal, Unused, Struct}
 use Rattle.vms_spec.specs.Sets.{Field, Desc, Sub, Device, Set}
@@ -9,15 +10,10 @@ use Rattle.vms_spec.specs.Layout.{Cell, no_desc, first, item_size, capacity_of, 
 use Rattle.vms_spec.specs.Images.{sub_place, own_cells}
 use Rattle.vms_spec.specs.Places.{item_at, element_at, path_at, desc_of_sub, cell_in, cell_at, size_of_device, cell_count}
 use Rattle.vms_bodies.proofs.Places.{place_up}
-use Rattle.vms_spec.proofs.Sizes.{field_size}
+use Rattle.vms_spec.proofs.Sizes.{field_size, element_room}
 use Rattle.vms_spec.proofs.Tables.{first_at}
 
 -- ---- places
-
-get_at : {X : Type 0} (xs : List X) (i : ℕ) (d x : X) → slice_get xs i ≡ Some x → get_or xs i d ≡ x
-get_at [] i d x e = cc
-get_at (y ∷ xs) zero d x e = cc
-get_at (y ∷ xs) (suc i) d x e = get_at xs i d x e
 
 -- the cells of a field lie among those of the fields
 place_room : (cs : List (List Cell)) (fields : List Field) (i base : ℕ) (fs : List Field) (k : ℕ) (f : Field) → slice_get fs k ≡ Some f
@@ -30,10 +26,6 @@ place_room cs fields i base (g ∷ fs) zero f e =
 place_room cs fields i base (g ∷ fs) (suc k) f e =
     let next = base + length (field_cells cs fields i g) in
     omega (arith, place_room cs fields (suc i) next fs k f e, length-append (field_cells cs fields i g) (cells_from cs fields (suc i) fs))
-
--- an element of an array lies in it
-element_room : (e n size : ℕ) → e < n → e * size + size ≤ n * size
-element_room e n size lt = grind arith
 
 -- ---- paths
 
@@ -58,7 +50,7 @@ module _ (set : Set) where
   in_struct (step ∷ path) inside below j cell c true t (Some d) e h =
       let w = inside j d cell c h in
       let size : item_size (first desc_cells set.structs below) (Struct j) ≡ size_below j d =
-      ap length (first_at desc_cells set.structs [] below j (ltb-true j below t)) ∙ ap (λ (x : Desc). length (desc_cells (first desc_cells set.structs j) x)) (get_at set.structs j no_desc d e) in
+      ap length (first_at desc_cells set.structs [] below j (ltb-true j below t)) ∙ ap (λ (x : Desc). length (desc_cells (first desc_cells set.structs j) x)) (get_or_from_slice_get set.structs j d no_desc e) in
       subst (λ (n : ℕ). Within cell n c) (sym size) w
 
   in_item : (path : List (ℕ × ℕ)) → Inside path → (below : ℕ) (item : Item) (cell c : ℕ)

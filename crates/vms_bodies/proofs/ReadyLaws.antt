@@ -1,7 +1,7 @@
 -- The tests of readiness are the relations.
-use Rattle.std.proofs.Common.{◌≡◌, ℕ, zero, suc, ◌+◌, ◌<◌, List, [], ◌∷◌, length, get_or, Option, Some, None, ℤ, pos, negsuc, ◌≤ℤ◌, refl, sym, ap, ◌∙◌, subst, arith, Bool, true, false, not, ◌&&◌, ◌||◌, ◌==◌, nat_le}
+use Rattle.std.proofs.Common.{◌≡◌, ℕ, zero, suc, ◌+◌, ◌<◌, List, ◌∷◌, length, get_or, Option, Some, None, ℤ, pos, negsuc, ◌≤ℤ◌, refl, sym, ap, ◌∙◌, subst, arith, Bool, true, false, not, ◌&&◌, ◌==◌, nat_le, [], ◌||◌}
 use Rattle.std.specs.List.{AllByRecursion}
-use Rattle.std.proofs.lemmas.Bool.{and_parts, not-true, leb-true, le-leb, eqb-true, eq-eqb}
+use Rattle.std.proofs.lemmas.Bool.{and_parts, not-true, leb-true, le-leb, eqb-true, eq-eqb, and_from, not_from_false}
 use Rattle.std.proofs.lemmas.Int.{ints}
 use Rattle.vms_kinds.specs.declared.Kind.{Kind}
 use Rattle.vms_kinds.specs.Codes.{lowest, highest, InRange}
@@ -13,9 +13,8 @@ use Rattle.vms_spec.specs.Streams.{is_needed, ComeAsNeeded, IsReady}
 use Rattle.vms_spec.specs.Rules.{int_le, in_range, counts_well}
 use Rattle.vms_spec.specs.Readiness.{is_version_of, are_versions_of, fits_cell, fit_cells, are_settled, is_normal, rules_are_true, is_valid, come_as_needed, is_ready}
 use Rattle.vms_spec.proofs.WellFormedLaws.{ranges, within}
-
-both : (a b : Bool) → a ≡ true → b ≡ true → (a && b) ≡ true
-both a b e f = ap (λ (a : Bool). a && b) e ∙ f
+use Rattle.vms_spec.proofs.ListLaws.{or_second}
+use Rattle.vms_spec.proofs.NumberLaws.{same_number_itself, same_number_is}
 
 -- ---- numbers
 
@@ -25,25 +24,15 @@ below_int (pos a) (negsuc b) h = absurd (omega (arith, ints))
 below_int (negsuc a) (pos b) h = refl
 below_int (negsuc a) (negsuc b) h = le-leb b a (omega (arith, ints))
 
-pub same_is : (z u : ℤ) → same_number z u ≡ true → z ≡ u
-same_is (pos a) (pos b) h = ap pos (eqb-true a b h)
-same_is (pos a) (negsuc b) h = cc
-same_is (negsuc a) (pos b) h = cc
-same_is (negsuc a) (negsuc b) h = ap negsuc (eqb-true a b h)
-
 pub is_same : (z u : ℤ) → z ≡ u → same_number z u ≡ true
-is_same z u e = subst (λ (u : ℤ). same_number z u ≡ true) e (itself z)
-  where
-    itself : (z : ℤ) → same_number z z ≡ true
-    itself (pos a) = eq-eqb a a refl
-    itself (negsuc a) = eq-eqb a a refl
+is_same z u e = subst (λ (u : ℤ). same_number z u ≡ true) e (same_number_itself z)
 
 pub ranged : (kind : Kind) (z : ℤ) → InRange kind z → in_range kind z ≡ true
-ranged kind z h = both (int_le (lowest kind) z) (int_le z (highest kind)) (below_int (lowest kind) z h.0) (below_int z (highest kind) h.1)
+ranged kind z h = and_from (int_le (lowest kind) z) (int_le z (highest kind)) (below_int (lowest kind) z h.0) (below_int z (highest kind) h.1)
 
 pub counted_well : (caps : List ℕ) (z : ℤ) → AllByRecursion (λ most. z ≤ℤ pos most) caps → counts_well caps z ≡ true
 counted_well [] z h = refl
-counted_well (m ∷ caps) z h = both (int_le z (pos m)) (counts_well caps z) (below_int z (pos m) h.0) (counted_well caps z h.1)
+counted_well (m ∷ caps) z h = and_from (int_le z (pos m)) (counts_well caps z) (below_int z (pos m) h.0) (counted_well caps z h.1)
 
 -- ---- versions
 
@@ -51,7 +40,7 @@ pub version_is : (d : Desc) (v : ℕ) → is_version_of d v ≡ true → IsVersi
 version_is d v e = let p = and_parts (nat_le d.minimum v) (nat_le v d.version) e in (leb-true d.minimum v p.0, leb-true v d.version p.1)
 
 pub is_version : (d : Desc) (v : ℕ) → IsVersionOf d v → is_version_of d v ≡ true
-is_version d v h = both (nat_le d.minimum v) (nat_le v d.version) (le-leb d.minimum v h.0) (le-leb v d.version h.1)
+is_version d v h = and_from (nat_le d.minimum v) (nat_le v d.version) (le-leb d.minimum v h.0) (le-leb v d.version h.1)
 
 versions_are : (subs : List Sub) (came : List (Option ℕ)) → are_versions_of subs came ≡ true → AreVersionsOf subs came
 versions_are [] [] e = tt
@@ -65,7 +54,7 @@ are_versions [] [] h = refl
 are_versions [] (o ∷ came) h = absurd h
 are_versions (s ∷ subs) [] h = absurd h
 are_versions (s ∷ subs) (None ∷ came) h = are_versions subs came h
-are_versions (s ∷ subs) (Some v ∷ came) h = both (is_version_of s.desc v) (are_versions_of subs came) (is_version s.desc v h.0) (are_versions subs came h.1)
+are_versions (s ∷ subs) (Some v ∷ came) h = and_from (is_version_of s.desc v) (are_versions_of subs came) (is_version s.desc v h.0) (are_versions subs came h.1)
 
 -- ---- cells
 
@@ -91,17 +80,13 @@ fit (cell ∷ cells) [] h = let l = h.long in absurd (omega arith)
 fit (cell ∷ cells) (z ∷ numbers) h =
     let l : suc (length numbers) ≡ suc (length cells) = h.long in
     let a : FitsCell cell z = h.fits 0 (omega arith) in
-    both (fits_cell cell z) (fit_cells cells numbers)
-    (both (in_range cell.kind z) (counts_well cell.capacities z) (ranged cell.kind z a.0) (counted_well cell.capacities z a.1))
+    and_from (fits_cell cell z) (fit_cells cells numbers)
+    (and_from (in_range cell.kind z) (counts_well cell.capacities z) (ranged cell.kind z a.0) (counted_well cell.capacities z a.1))
     (fit cells numbers (record { long = omega arith; fits = λ c lt. h.fits (suc c) (omega arith) }))
 
 -- what is at its default where it has bare byte, from a cell on
 abbrev pub Settled : List Slot → ℕ → List Cell → List ℤ → Type 0
 Settled slots from cells numbers = (c : ℕ) → c < length numbers → has_cell slots (from + c) ≡ false → get_or numbers c (pos 0) ≡ (get_or cells c no_cell).default
-
-or_right : (a b : Bool) → (a || b) ≡ true → a ≡ false → b ≡ true
-or_right true b e f = cc
-or_right false b e f = e
 
 pub settled_are : (slots : List Slot) (from : ℕ) (cells : List Cell) (numbers : List ℤ) → length numbers ≡ length cells → are_settled slots from cells numbers ≡ true → Settled slots from cells numbers
 settled_are slots from [] [] l e = λ c lt bare. absurd (omega arith)
@@ -114,7 +99,7 @@ settled_are slots from (cell ∷ cells) (z ∷ numbers) l e =
     by_place : (has_cell slots from || same_number z cell.default) ≡ true → Settled slots (suc from) cells numbers → Settled slots from (cell ∷ cells) (z ∷ numbers)
     by_place a b zero lt bare =
         let plus : from ≡ from + 0 = omega arith in
-        same_is z cell.default (or_right (has_cell slots from) (same_number z cell.default) a (ap (has_cell slots) plus ∙ bare))
+        same_number_is z cell.default (or_second (has_cell slots from) (same_number z cell.default) a (ap (has_cell slots) plus ∙ bare))
     by_place a b (suc c) lt bare =
         let plus : suc from + c ≡ from + suc c = omega arith in
         b c (omega arith) (ap (has_cell slots) plus ∙ bare)
@@ -123,7 +108,7 @@ are_settled_all : (slots : List Slot) (from : ℕ) (cells : List Cell) (numbers 
 are_settled_all slots from [] numbers h = refl
 are_settled_all slots from (cell ∷ cells) [] h = refl
 are_settled_all slots from (cell ∷ cells) (z ∷ numbers) h =
-    both (has_cell slots from || same_number z cell.default) (are_settled slots (suc from) cells numbers)
+    and_from (has_cell slots from || same_number z cell.default) (are_settled slots (suc from) cells numbers)
     (here (has_cell slots from) refl)
     (are_settled_all slots (suc from) cells numbers (λ c lt bare. later c lt bare))
   where
@@ -166,13 +151,13 @@ is_normal_all set d image h =
     let slots = image_slots set d image in
     let version = is_version_of d.desc image.version in
     let versions = are_versions_of d.subs image.came in
-    both (version && versions && fit_cells cells image.numbers) (are_settled slots 0 cells image.numbers)
-    (both (version && versions) (fit_cells cells image.numbers)
-    (both version versions (is_version d.desc image.version h.version) (are_versions d.subs image.came h.subs))
+    and_from (version && versions && fit_cells cells image.numbers) (are_settled slots 0 cells image.numbers)
+    (and_from (version && versions) (fit_cells cells image.numbers)
+    (and_from version versions (is_version d.desc image.version h.version) (are_versions d.subs image.came h.subs))
     (fit cells image.numbers h.cells))
     (are_settled_all slots 0 cells image.numbers (λ k lt bare. h.absent k lt (ap (has_cell slots) (sym (zero_plus k)) ∙ bare)))
 
-rules_are : (slots : List Slot) → rules_are_true slots ≡ true → RulesHold slots
+pub rules_are : (slots : List Slot) → rules_are_true slots ≡ true → RulesHold slots
 rules_are [] e = tt
 rules_are (Rule true ∷ slots) e = (refl, rules_are slots e)
 rules_are (Rule false ∷ slots) e = cc
@@ -180,7 +165,7 @@ rules_are (Number c kind caps ∷ slots) e = rules_are slots e
 rules_are (Constant kind z ∷ slots) e = rules_are slots e
 rules_are (Filler n ∷ slots) e = rules_are slots e
 
-are_rules : (slots : List Slot) → RulesHold slots → rules_are_true slots ≡ true
+pub are_rules : (slots : List Slot) → RulesHold slots → rules_are_true slots ≡ true
 are_rules [] h = refl
 are_rules (Rule true ∷ slots) h = are_rules slots h.1
 are_rules (Rule false ∷ slots) h = let e : false ≡ true = h.0 in cc
@@ -189,9 +174,6 @@ are_rules (Constant kind z ∷ slots) h = are_rules slots h
 are_rules (Filler n ∷ slots) h = are_rules slots h
 
 -- ---- ready
-
-not_false : (b : Bool) → b ≡ false → not b ≡ true
-not_false b e = ap not e
 
 pub needed_are : (set : Set) (d : Device) (image : Image) (j : ℕ) (subs : List Sub) (came : List (Option ℕ)) → come_as_needed set d image j subs came ≡ true → ComeAsNeeded set d image j subs came
 needed_are set d image j [] [] e = refl
@@ -210,10 +192,10 @@ are_needed set d image j [] [] h = refl
 are_needed set d image j [] (o ∷ came) h = cc
 are_needed set d image j (s ∷ subs) [] h = absurd h
 are_needed set d image j (s ∷ subs) (None ∷ came) h =
-    both (not (is_needed set d image s j)) (come_as_needed set d image (suc j) subs came) (not_false (is_needed set d image s j) h.0) (are_needed set d image (suc j) subs came h.1)
+    and_from (not (is_needed set d image s j)) (come_as_needed set d image (suc j) subs came) (not_from_false (is_needed set d image s j) h.0) (are_needed set d image (suc j) subs came h.1)
 are_needed set d image j (s ∷ subs) (Some v ∷ came) h =
-    both (is_needed set d image s j && v == s.desc.version) (come_as_needed set d image (suc j) subs came)
-    (both (is_needed set d image s j) (v == s.desc.version) h.0 (eq-eqb v s.desc.version h.1))
+    and_from (is_needed set d image s j && v == s.desc.version) (come_as_needed set d image (suc j) subs came)
+    (and_from (is_needed set d image s j) (v == s.desc.version) h.0 (eq-eqb v s.desc.version h.1))
     (are_needed set d image (suc j) subs came h.2)
 
 pub ready_is : (set : Set) (d : Device) (image : Image) → is_ready set d image ≡ true → IsReady set d image
@@ -234,8 +216,8 @@ pub is_ready_all : (set : Set) (d : Device) (image : Image) → IsReady set d im
 is_ready_all set d image h =
     let normal = is_normal set d image in
     let valid = is_valid set d image in
-    both (normal && valid && image.version == d.desc.version) (come_as_needed set d image 0 d.subs image.came)
-    (both (normal && valid) (image.version == d.desc.version)
-    (both normal valid (is_normal_all set d image h.normal) (are_rules (image_slots set d image) h.valid))
+    and_from (normal && valid && image.version == d.desc.version) (come_as_needed set d image 0 d.subs image.came)
+    (and_from (normal && valid) (image.version == d.desc.version)
+    (and_from normal valid (is_normal_all set d image h.normal) (are_rules (image_slots set d image) h.valid))
     (eq-eqb image.version d.desc.version h.version))
     (are_needed set d image 0 d.subs image.came h.needed)

@@ -1,6 +1,7 @@
 -- The slots of a description depend on its own cells alone.
-use Rattle.std.proofs.Common.{◌≡◌, ℕ, zero, suc, ◌+◌, ◌*◌, ◌<◌, ◌≤◌, List, [], ◌∷◌, ◌++◌, length, length-append, get_or, map, drop, ℤ, pos, refl, sym, ap, ◌∙◌, arith, Bool, if◌then◌else◌}
+use Rattle.std.proofs.Common.{◌≡◌, ℕ, zero, suc, ◌+◌, ◌*◌, ◌<◌, ◌≤◌, List, ◌∷◌, ◌++◌, length, length-append, get_or, map, drop, ℤ, pos, refl, sym, ap, ◌∙◌, arith, Bool, if◌then◌else◌, []}
 use Rattle.std.proofs.Math.ListN.{get_or-map}
+use Rattle.std.proofs.Math.Nat.{mul-le-mul_right}
 use Rattle.vms_kinds.specs.Codes.{width, residue}
 use Rattle.vms_kinds.specs.declared.Item.{Item}
 use Rattle.vms_kinds.specs.declared.Item.TheVariants.{Num, Equal, Unused, Struct}
@@ -11,7 +12,7 @@ use Rattle.vms_spec.specs.Sound.{IsSound, AreSound, IsSoundField, AreSoundFields
 use Rattle.vms_bodies.proofs.Places.{there_same, elements_same, hold_same, place_next, place_end, place_up, place_below}
 use Rattle.vms_spec.proofs.Sizes.{field_size, elements_fit}
 use Rattle.vms_spec.proofs.Tables.{one_more}
-use Rattle.vms_bodies.proofs.WalkLaws.{drop_next, mul_less, place_first, zero_plus}
+use Rattle.vms_bodies.proofs.WalkLaws.{drop_next, place_first, zero_plus}
 
 -- the numbers of the cells from low on and below end are the same
 pub record SameIn (low end : ℕ) (before now : List ℤ) : Type 0 where
@@ -66,7 +67,7 @@ field_settled ms h d v base i cell low end f n k sound up here le s =
     let first : base ≤ cell = omega (arith, here, place_up cs d.fields 0 base d.fields i) in
     let below = in_less low base cell end n k up (omega arith) s in
     let same : (j : ℕ) → IsEarlier d.fields i j → now j ≡ own j = λ j x. own_in cs d base i cell j n k here below x in
-    let most : elements_of f.count own * size ≤ capacity_of f.count * size = mul_less (elements_of f.count own) (capacity_of f.count) size (elements_fit f.count own) in
+    let most : elements_of f.count own * size ≤ capacity_of f.count * size = mul-le-mul_right {m = elements_of f.count own} {n = capacity_of f.count} size (elements_fit f.count own) in
     ap (λ (b : Bool). if b then times (elements_of f.count now) (item_slots ms f.item caps k) cell size else []) (there_same d.fields i v f.since own now same f.test sound.test)
     ∙ ap (λ (c : ℕ). if is_there f.test f.since v own no_parent then times c (item_slots ms f.item caps k) cell size else []) (elements_same d.fields i own now same f.count sound.count)
     ∙ ap (λ (xs : List Slot). if is_there f.test f.since v own no_parent then xs else []) (items_settled ms h f.item caps (elements_of f.count own) cell low end n k (omega arith) (omega (arith, field_size cs d.fields i f)) s)

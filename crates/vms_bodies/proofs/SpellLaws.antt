@@ -1,24 +1,25 @@
 -- What was taken of a body is spelled by its slots, as they are at last.
-use Rattle.std.proofs.Common.{◌≡◌, ◌≢◌, ℕ, zero, suc, ◌+◌, ◌<◌, ◌≤◌, ◌≤ℤ◌, List, [], ◌∷◌, ◌++◌, length, get_or, take, drop, slice_set, ℤ, pos, negsuc, refl, sym, ap, ◌∙◌, subst, arith, append_assoc, append-nil, length-append, Bool as Truth, true, false, if◌then◌else◌, nat_lt, ◌==◌, ◌||◌, get_or-set_other, get_or-set_same}
+use Rattle.std.proofs.Common.{◌≡◌, ◌≢◌, ℕ, zero, suc, ◌+◌, ◌<◌, ◌≤◌, ◌≤ℤ◌, List, ◌∷◌, ◌++◌, length, get_or, take, drop, slice_set, ℤ, pos, refl, sym, ap, ◌∙◌, subst, arith, append_assoc, append-nil, length-append, Bool as Truth, true, false, if◌then◌else◌, nat_lt, ◌==◌, get_or-set_other, get_or-set_same, [], ◌||◌}
 use Rattle.std.specs.List.{AllByRecursion}
 use Rattle.std.proofs.lemmas.List.{take-append-drop, length-take-le, length-set}
-use Rattle.std.proofs.lemmas.Bool.{ltb-false, eqb-true, eq-eqb}
-use Rattle.std.proofs.lemmas.Int.{ints}
+use Rattle.std.proofs.lemmas.Bool.{ltb-false, eq-eqb, or_parts}
 use Rattle.byteorder.specs.Endian.{big_number}
 use Rattle.vms_kinds.specs.declared.Kind.{Kind}
 use Rattle.vms_kinds.specs.declared.Kind.TheVariants.{U8, U16, U32, U64, I8, I16, I32, I64, Bool, Timer}
 use Rattle.vms_kinds.specs.Codes.{width, value_of, code, InRange}
 use Rattle.vms_kinds.proofs.CodeLemmas.{signed_take, plain_take}
-use Rattle.vms_spec.specs.Numbers.{IsBytes}
+use Rattle.vms_kinds.proofs.ByteLemmas.{bytes_first, bytes_rest}
+use Rattle.vms_kinds.specs.Bytes.{IsBytes}
 use Rattle.vms_spec.specs.declared.Reason.TheVariants as reasons
 use Rattle.vms_spec.specs.Lookup.{is_bad_bool}
-use Rattle.vms_spec.specs.Numbers.{exceeds, is_above, same_number}
+use Rattle.vms_spec.specs.Numbers.{exceeds, same_number}
 use Rattle.vms_spec.specs.Layout.{Slot, Number, Constant, Filler, Rule, Cell}
 use Rattle.vms_spec.specs.Images.{Spells, RulesHold, has_cell}
 use Rattle.vms_spec.specs.Taking.{Taken, Progress, Refusal, refuse, on, take_number}
+use Rattle.vms_spec.proofs.NumberLaws.{same_number_is, within_all}
 use Rattle.vms_bodies.specs.Cells.{IsCell, AreCells}
 use Rattle.vms_bodies.proofs.Places.{SameBelow, same_refl, same_less}
-use Rattle.vms_bodies.proofs.Names.{or_false, names_append}
+use Rattle.vms_bodies.proofs.Names.{names_append}
 use Rattle.vms_bodies.proofs.WalkLaws.{take_slot, Left, Gives, IsOther, Keeping}
 
 -- ---- a number's bytes
@@ -34,20 +35,6 @@ value_law I32 bs len ok good = signed_take I32 bs refl len ok
 value_law I64 bs len ok good = signed_take I64 bs refl len ok
 value_law Bool bs len ok good = plain_take Bool bs refl len ok (λ x. let h = ltb-false 1 (big_number 1 bs) good in let y = x.1 in omega arith)
 value_law Timer bs len ok good = plain_take Timer bs refl len ok (λ x. cc (x.0))
-
-pub same_number_is : (a b : ℤ) → same_number a b ≡ true → a ≡ b
-same_number_is (pos a) (pos b) e = ap pos (eqb-true a b e)
-same_number_is (negsuc a) (negsuc b) e = ap negsuc (eqb-true a b e)
-same_number_is (pos a) (negsuc b) e = cc
-same_number_is (negsuc a) (pos b) e = cc
-
-not_above : (z : ℤ) (most : ℕ) → is_above z most ≡ false → z ≤ℤ pos most
-not_above (pos n) most e = let h = ltb-false most n e in omega (arith, ints)
-not_above (negsuc n) most e = omega (arith, ints)
-
-within_all : (caps : List ℕ) (z : ℤ) → exceeds caps z ≡ false → AllByRecursion (λ most. z ≤ℤ pos most) caps
-within_all [] z e = tt
-within_all (most ∷ caps) z e = let h = or_false (is_above z most) (exceeds caps z) e in (not_above z most h.0, within_all caps z h.1)
 
 -- ---- lists of slots
 
@@ -104,21 +91,11 @@ pub record Spelled (start : Progress) (cell : ℕ) (done : List Slot) (q : Progr
 abbrev pub Anything : Refusal → Type 0
 Anything e = Unit {0}
 
-pub is_bytes_rest : (xs ys : List ℕ) → IsBytes (xs ++ ys) → IsBytes ys
-is_bytes_rest [] ys h i = h i
-is_bytes_rest (x ∷ xs) ys h i = is_bytes_rest xs ys (λ j. h (suc j)) i
-
-pub is_bytes_take : (n : ℕ) (xs : List ℕ) → IsBytes xs → IsBytes (take n xs)
-is_bytes_take zero xs h i = omega arith
-is_bytes_take (suc n) [] h i = h i
-is_bytes_take (suc n) (x ∷ xs) h zero = h 0
-is_bytes_take (suc n) (x ∷ xs) h (suc i) = is_bytes_take n xs (λ j. h (suc j)) i
-
 pub set_other : (xs : List ℤ) (c cell : ℕ) (z : ℤ) → c ≢ cell → get_or (slice_set xs cell z) c (pos 0) ≡ get_or xs c (pos 0)
 set_other xs c cell z ne = rw get_or-set_other
 
 other_cell : (cell c : ℕ) → ((cell == c) || false) ≡ false → c ≢ cell
-other_cell cell c e same = let f : (cell == c) ≡ true = eq-eqb cell c (sym same) in let g = or_false (cell == c) false e in cc (sym f ∙ g.0)
+other_cell cell c e same = let f : (cell == c) ≡ true = eq-eqb cell c (sym same) in let g = or_parts (cell == c) false e in cc (sym f ∙ g.0)
 
 module _ (all : List Cell) (total : List ℤ → List Slot) (start : Progress) where
   given : (cell : ℕ) (done : List Slot) (b : Truth) (t u : Taken) → (b ≡ true → Gives total (Spelled start) Anything cell done t) → (b ≡ false → Gives total (Spelled start) Anything cell done u)
@@ -155,7 +132,7 @@ module _ (all : List Cell) (total : List ℤ → List Slot) (start : Progress) w
       given (cell + 1) next (exceeds caps z) (refuse p reasons.CountTooLarge w) (on w numbers p) (λ e. tt) (λ e3.
       let long : w ≤ length p.rest = ltb-false (length p.rest) w e1 in
       let len : length bytes ≡ w = length-take-le w p.rest long in
-      let fine : IsBytes bytes = is_bytes_take w p.rest (is_bytes_rest h.bytes p.rest (subst (λ (l : List ℕ). IsBytes l) h.front ok)) in
+      let fine : IsBytes bytes = bytes_first w p.rest (bytes_rest h.bytes p.rest (subst (λ (l : List ℕ). IsBytes l) h.front ok)) in
       let law = value_law kind bytes len fine e2 in
       let is : IsCell all cell kind caps = cell_in all done (left p.numbers) cell kind caps (subst (λ (xs : List Slot). AreCells all xs) (l.split p.numbers (same_refl cell p.numbers)) (cells p.numbers)) in
       let inside : cell < length p.numbers = (let a = is.within in let b = h.long in omega arith) in
@@ -173,7 +150,7 @@ module _ (all : List Cell) (total : List ℤ → List Slot) (start : Progress) w
         rules = rules_append done (Number cell kind caps ∷ []) h.rules tt;
         long = length-set p.numbers cell z ∙ h.long;
         kept = λ c e.
-            let n = or_false (has_cell done c) ((cell == c) || false) (sym (names_append done (Number cell kind caps ∷ []) c) ∙ e) in
+            let n = or_parts (has_cell done c) ((cell == c) || false) (sym (names_append done (Number cell kind caps ∷ []) c) ∙ e) in
             set_other p.numbers c cell z (other_cell cell c n.1) ∙ h.kept c n.0;
       })))
 
@@ -192,7 +169,7 @@ module _ (all : List Cell) (total : List ℤ → List Slot) (start : Progress) w
         fits = λ m s. fit_append m done (slot ∷ []) (h.fits m s) (fits m);
         rules = rules_append done (slot ∷ []) h.rules rules;
         long = h.long;
-        kept = λ c e. h.kept c (or_false (has_cell done c) (has_cell (slot ∷ []) c) (sym (names_append done (slot ∷ []) c) ∙ e)).0;
+        kept = λ c e. h.kept c (or_parts (has_cell done c) (has_cell (slot ∷ []) c) (sym (names_append done (slot ∷ []) c) ∙ e)).0;
       }
 
   -- where no byte is taken
@@ -209,7 +186,7 @@ module _ (all : List Cell) (total : List ℤ → List Slot) (start : Progress) w
         fits = λ m s. fit_append m done (slot ∷ []) (h.fits m s) (fits m);
         rules = rules_append done (slot ∷ []) h.rules rules;
         long = h.long;
-        kept = λ c e. h.kept c (or_false (has_cell done c) (has_cell (slot ∷ []) c) (sym (names_append done (slot ∷ []) c) ∙ e)).0;
+        kept = λ c e. h.kept c (or_parts (has_cell done c) (has_cell (slot ∷ []) c) (sym (names_append done (slot ∷ []) c) ∙ e)).0;
       }
 
   other_spelled : IsBytes start.rest → (cell : ℕ) (slot : Slot) (done : List Slot) (left : List ℤ → List Slot) (p : Progress) → IsOther total (Spelled start) Anything slot
@@ -232,7 +209,7 @@ module _ (all : List Cell) (total : List ℤ → List Slot) (start : Progress) w
       given cell next (same_number (value_of kind bytes) z) (on w p.numbers p) (refuse p reasons.NotEqual w) (λ e3.
       let long : w ≤ length p.rest = ltb-false (length p.rest) w e1 in
       let len : length bytes ≡ w = length-take-le w p.rest long in
-      let fine : IsBytes bytes = is_bytes_take w p.rest (is_bytes_rest h.bytes p.rest (subst (λ (l : List ℕ). IsBytes l) h.front ok)) in
+      let fine : IsBytes bytes = bytes_first w p.rest (bytes_rest h.bytes p.rest (subst (λ (l : List ℕ). IsBytes l) h.front ok)) in
       let law = value_law kind bytes len fine e2 in
       let same : value_of kind bytes ≡ z = same_number_is (value_of kind bytes) z e3 in
       plain cell w (Constant kind z) done left p long (λ m. ([], law.1 ∙ ap (code kind) same ∙ sym (append-nil (code kind z)), refl)) (λ m. (subst (λ (y : ℤ). InRange kind y) same law.0, tt)) tt (λ c. refl) l) (λ e. tt)))

@@ -1,16 +1,16 @@
 -- A section with subsections in any order is read.
-use Rattle.std.proofs.Common.{◌≡◌, ℕ, zero, suc, ◌+◌, ◌<◌, ◌≤◌, List, [], ◌∷◌, ◌++◌, length, get_or, map, slice_set, Option, Some, None, Ok, ℤ, pos, refl, sym, ap, ◌∙◌, subst, arith, Bool, true, false, if◌then◌else◌, nat_lt, ◌||◌}
+use Rattle.std.proofs.Common.{◌≡◌, ℕ, zero, suc, ◌+◌, ◌<◌, ◌≤◌, List, ◌∷◌, ◌++◌, length, get_or, map, slice_set, Option, Some, None, Ok, ℤ, pos, refl, sym, ap, ◌∙◌, subst, arith, Bool, true, false, if◌then◌else◌, nat_lt, [], ◌||◌}
 use Rattle.std.specs.List.{slice_get}
 use Rattle.std.proofs.lemmas.List.{ext_get_or}
 use Rattle.std.proofs.Math.ListN.{get_or-eq_default}
-use Rattle.std.proofs.lemmas.Bool.{ltb-true, ltb-false}
+use Rattle.std.proofs.lemmas.Bool.{ltb-true, ltb-false, or_parts}
 use Rattle.vms_spec.specs.Sets.{Device, Set, Sub}
 use Rattle.vms_spec.specs.Layout.{Slot, Number, Constant, Filler, Rule, Cell, no_cell, device_cells}
 use Rattle.vms_spec.specs.Images.{Image, default_image, own_slots, own_cells, sub_slots, came_slots, image_slots, Spells, RulesHold, has_cell, IsNormal, IsValid, IsVersionOf}
 use Rattle.vms_spec.specs.Streams
 use Rattle.vms_spec.specs.Streams.{sub_head}
 use Rattle.vms_spec.specs.Taking.{take_desc, takers}
-use Rattle.vms_bodies.proofs.Names.{or_false, names_append}
+use Rattle.vms_bodies.proofs.Names.{names_append}
 use Rattle.vms_bodies.proofs.BodyLaws.{at_set}
 use Rattle.vms_bodies.proofs.SpellLaws.{FitSlots}
 use Rattle.vms_bodies.proofs.BodyOnly.{body_only}
@@ -23,7 +23,7 @@ use Rattle.vms_bodies.proofs.FineLaws.{part_place}
 use Rattle.vms_spec.specs.Good.{IsGood}
 use Rattle.vms_bodies.proofs.ConstantLaws.{own_constants, part_constants}
 
-rules_split : (xs ys : List Slot) → RulesHold (xs ++ ys) → RulesHold xs × RulesHold ys
+pub rules_split : (xs ys : List Slot) → RulesHold (xs ++ ys) → RulesHold xs × RulesHold ys
 rules_split [] ys h = (tt, h)
 rules_split (Number c kind caps ∷ xs) ys h = rules_split xs ys h
 rules_split (Constant kind z ∷ xs) ys h = rules_split xs ys h
@@ -127,7 +127,7 @@ module _ (set : Set) (names : List (List ℕ)) (good : IsGood set) (k id : ℕ) 
       let own = own_slots set d image.version image.numbers in
       let parts = came_slots set d image.numbers (own_cells set d) d.subs in
       region came 0 (0 + own_cells set d) (λ c up lt e.
-      let both = or_false (has_cell own c) (has_cell (parts came) c) (sym (names_append own (parts came) c) ∙ e) in
+      let both = or_parts (has_cell own c) (has_cell (parts came) c) (sym (names_append own (parts came) c) ∙ e) in
       names_append own (parts image.came) c ∙ ap (λ (b : Bool). b || has_cell (parts image.came) c) both.0
       ∙ parts_together set d image.numbers (λ xs. has_cell xs c ≡ false) refl (λ xs ys p q. names_append xs ys c ∙ ap (λ (b : Bool). b || has_cell ys c) p ∙ q) (own_cells set d) d.subs image.came
       (λ i s x e f. its_below set s.desc x (part_place set d i) image.numbers c (omega (arith, sub_place_up set (own_cells set d) d.subs i))))
@@ -138,8 +138,8 @@ module _ (set : Set) (names : List (List ℕ)) (good : IsGood set) (k id : ℕ) 
       let own = own_slots set d image.version image.numbers in
       let parts = came_slots set d image.numbers (own_cells set d) d.subs in
       region came (part_place set d j) (part_place set d j + sub_size set s) (λ c up lt e.
-      let both = or_false (has_cell own c) (has_cell (parts came) c) (sym (names_append own (parts came) c) ∙ e) in
-      let mine = part_apart set d image.numbers (λ xs. has_cell xs c ≡ false) (λ xs ys p. or_false (has_cell xs c) (has_cell ys c) (sym (names_append xs ys c) ∙ p)) (own_cells set d) d.subs came both.1 j s w there f in
+      let both = or_parts (has_cell own c) (has_cell (parts came) c) (sym (names_append own (parts came) c) ∙ e) in
+      let mine = part_apart set d image.numbers (λ xs. has_cell xs c ≡ false) (λ xs ys p. or_parts (has_cell xs c) (has_cell ys c) (sym (names_append xs ys c) ∙ p)) (own_cells set d) d.subs came both.1 j s w there f in
       names_append own (parts image.came) c ∙ ap (λ (b : Bool). b || has_cell (parts image.came) c) both.0
       ∙ parts_together set d image.numbers (λ xs. has_cell xs c ≡ false) refl (λ xs ys p q. names_append xs ys c ∙ ap (λ (b : Bool). b || has_cell ys c) p ∙ q) (own_cells set d) d.subs image.came
       (λ i t x e f. other i t x c e f up lt mine (nat_lt i j) (nat_lt j i) refl refl))

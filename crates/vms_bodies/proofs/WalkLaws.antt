@@ -1,5 +1,6 @@
 -- What the structural reader takes, by the slots that it goes through: whatever each slot keeps, the whole keeps.
-use Rattle.std.proofs.Common.{◌≡◌, ◌≢◌, ℕ, zero, suc, ◌+◌, ◌*◌, ◌≤◌, List, [], ◌∷◌, ◌++◌, length, get_or, map, take, drop, Ok, Err, IfOk, ℤ, refl, sym, ap, ◌∙◌, subst, arith, append_assoc, append-nil, length-append, Bool, true, false, if◌then◌else◌, nat_lt, slice_set, get_or-set_other}
+use Rattle.std.proofs.Common.{◌≡◌, ◌≢◌, ℕ, zero, suc, ◌+◌, ◌*◌, ◌≤◌, List, ◌∷◌, ◌++◌, length, get_or, map, take, drop, Ok, Err, IfOk, ℤ, refl, sym, ap, ◌∙◌, subst, arith, append_assoc, append-nil, length-append, Bool, true, false, if◌then◌else◌, nat_lt, slice_set, get_or-set_other, []}
+use Rattle.std.proofs.Math.Nat.{mul-le-mul_right}
 use Rattle.vms_kinds.specs.declared.Kind.{Kind}
 use Rattle.vms_kinds.specs.declared.Item.{Item}
 use Rattle.vms_kinds.specs.declared.Item.TheVariants.{Num, Equal, Unused, Struct}
@@ -75,9 +76,6 @@ rule_keeps false cell p = keeps_err _ _ _
 
 pub zero_plus : (i : ℕ) → 0 + i ≡ i
 zero_plus i = omega arith
-
-pub mul_less : (n m k : ℕ) → n ≤ m → n * k ≤ m * k
-mul_less n m k le = grind arith
 
 pub drop_next : {A : Type 0} (xs : List A) (i : ℕ) (x : A) (more : List A) → drop i xs ≡ x ∷ more → drop (suc i) xs ≡ more
 drop_next [] zero x more e = cc
@@ -265,7 +263,7 @@ module _ (total : List ℤ → List Slot) (Holds : ℕ → List Slot → Progres
       → Comes (cell + length (field_cells cs d.fields i f)) left (if b then take_items ts f.item caps size n cell p else Ok p) = λ b.
       elim b as (λ b. Left cell p done (λ m. slots b m ++ left m) → Comes (cell + length (field_cells cs d.fields i f)) left (if b then take_items ts f.item caps size n cell p else Ok p)) [
         | true ↦ λ l.
-            let le : n * size ≤ capacity_of f.count * size = mul_less n (capacity_of f.count) size (elements_fit f.count own) in
+            let le : n * size ≤ capacity_of f.count * size = mul-le-mul_right {m = n} {n = capacity_of f.count} size (elements_fit f.count own) in
             let more : cell + n * size ≤ cell + length (field_cells cs d.fields i f) = omega (arith, field_size cs d.fields i f) in
             comes_less w (cell + n * size) (cell + length (field_cells cs d.fields i f)) left (take_items ts f.item caps size n cell p) more up
             (items_comes w ts ms pairs ab f.item caps n cell p done left (λ m. above_less (cell + n * size) (cell + length (field_cells cs d.fields i f)) (left m) more (up m)) l)

@@ -1,7 +1,8 @@
 -- The least capacity that a number counts, how large it can be, and for how much there is room.
-use Rattle.std.proofs.Common.{◌≡◌, ℕ, ◌≤◌, List, [], ◌∷◌, ◌++◌, min, nat_le, Bool, true, false, Option, Some, None, refl, sym, ◌∙◌, arith}
+use Rattle.std.proofs.Common.{◌≡◌, ℕ, ◌≤◌, List, ◌∷◌, ◌++◌, min, nat_le, Bool, true, false, Option, Some, None, refl, sym, ◌∙◌, arith, []}
 use Rattle.std.specs.Prelude.{◌==◌, ◌&&◌, if◌then◌else◌}
 use Rattle.std.proofs.lemmas.Bool.Decides.{nat_tests}
+use Rattle.std.proofs.lemmas.Bool.{and_from}
 use Rattle.vms_kinds.specs.declared.Item.{Item}
 use Rattle.vms_spec.specs.declared.Count.{Count}
 use Rattle.vms_spec.specs.declared.Count.TheVariants.{One, Fixed, Counted}
@@ -78,14 +79,11 @@ rest_hold One f fs i n h = h
 rest_hold (Fixed m) f fs i n h = h
 rest_hold (Counted by most) f fs i n h = rest_by n most (counted i fs) (by == i) h
 
-both_true : (a b : Bool) → a ≡ true → b ≡ true → (a && b) ≡ true
-both_true a b e f = cc
-
 all_hold : (fields : List Field) (v i n : ℕ) → Holds n (counted i fields) → absent_hold v i n fields ≡ true
 unfolding of_count
 all_hold [] v i n h = refl
 all_hold (f ∷ fs) v i n h =
-    both_true (has_room v i n f f.count) (absent_hold v i n fs) (room_one f.count f fs v i n h) (all_hold fs v i n (rest_hold f.count f fs i n h))
+    and_from (has_room v i n f f.count) (absent_hold v i n fs) (room_one f.count f fs v i n h) (all_hold fs v i n (rest_hold f.count f fs i n h))
 
 pub room_none : (fields : List Field) (v i n : ℕ) → None ≡ least_of (counted i fields) → true ≡ absent_hold v i n fields
 room_none fields v i n e = sym (all_hold fields v i n (all_none (counted i fields) n (sym e)))

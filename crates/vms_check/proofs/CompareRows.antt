@@ -7,14 +7,14 @@ use Rattle.vms_spec.specs.declared.Place.{Place}
 use Rattle.vms_spec.specs.declared.Count.TheVariants.{Fixed, Counted}
 use Rattle.vms_spec.specs.declared.Rel.TheVariants.{Eq, Lt}
 use Rattle.vms_spec.specs.declared.Whose.TheVariants.{Own}
-use Rattle.vms_spec.specs.Sets.{Set, Desc, Field, Sub, Formula, AtLeast, Below, Cell, And}
+use Rattle.vms_spec.specs.Sets.{Set, Desc, Field, Sub, Formula, Below, Cell, And}
 use Rattle.vms_spec.specs.Layout.{first}
 use Rattle.vms_spec.specs.WellFormed.{here, in_field}
 use Rattle.vms_check.specs.declared.mismatch.Mismatch.{Mismatch}
 use Rattle.vms_check.specs.Comparing.{first_mismatch}
 use Rattle.vms_check.specs.Carrying.{carried}
 use Rattle.vms_spec.specs.Shipped.{set_0, set_1, set_3}
-use Rattle.vms_spec.proofs.Boxes.{number, box, box_set, sub_of, counted_set, constant_set, subsection_set, tested_set, mixed_set, empty_set}
+use Rattle.vms_spec.proofs.Boxes.{number, box, box_set, sub_of, counted_set, subsection_set, tested_set, empty_set}
 
 unfoldable compared : Set → Set → Option Mismatch
 unfolding first_mismatch
@@ -58,10 +58,6 @@ refuses_a_field_that_new_has_not : compared (box_set (n ∷ number U8 (codes "m"
 unfolding compared first
 refuses_a_field_that_new_has_not = refl
 
-refuses_a_field_that_old_has_not : compared (box_set (n ∷ []) [] []) (box_set (n ∷ number U8 (codes "m") ∷ []) [] []) ≡ mismatch 6 (here (parts.Device 0)) (in_field (parts.Device 0) 1)
-unfolding compared first
-refuses_a_field_that_old_has_not = refl
-
 refuses_one_for_an_array_of_one : compared (box_set (n ∷ []) [] []) (box_set (record n { count = Fixed 1 } ∷ []) [] []) ≡ mismatch 7 (in_field (parts.Device 0) 0) (in_field (parts.Device 0) 0)
 unfolding compared first
 refuses_one_for_an_array_of_one = refl
@@ -93,15 +89,6 @@ refuses_an_absent_array_that_is_too_small : compared (box_set (n ∷ []) [] []) 
 unfolding compared first
 refuses_an_absent_array_that_is_too_small = refl
 
-accepts_an_absent_array_that_is_large_enough : compared (box_set (n ∷ []) [] []) (box_at 2 (n ∷ record (v_of 255) { since = 2 } ∷ []) [] []) ≡ None
-unfolding compared first
-accepts_an_absent_array_that_is_large_enough = refl
-
-refuses_a_byte_for_a_bool : compared constant_set
-    (box_set (number U8 (codes "flag") ∷ []) [] []) ≡ mismatch 8 (in_field (parts.Device 0) 0) (in_field (parts.Device 0) 0)
-unfolding compared first
-refuses_a_byte_for_a_bool = refl
-
 abbrev constant : ℕ → Set
 constant z = box_set (record n { item = Equal U8 (pos z) } ∷ []) [] []
 
@@ -129,10 +116,6 @@ refuses_a_new_validation : compared (box_set (n ∷ []) [] []) (box_set (n ∷ [
 unfolding compared first
 refuses_a_new_validation = refl
 
-accepts_a_new_validation_that_is_true : compared (box_set (n ∷ []) [] []) (box_set (n ∷ []) (AtLeast 1 ∷ []) []) ≡ None
-unfolding compared first
-accepts_a_new_validation_that_is_true = refl
-
 -- ---- structures
 
 abbrev point : ℕ → List Field → Desc
@@ -151,10 +134,6 @@ with_point d = record (box_set (record (number U8 (codes "p")) { item = Struct 0
 refuses_a_structure_that_gained_a_field : compared (with_point (point 1 (x ∷ []))) (with_point (point 2 (x ∷ y ∷ []))) ≡ mismatch 6 (here (parts.Struct 0)) (in_field (parts.Struct 0) 1)
 unfolding compared first
 refuses_a_structure_that_gained_a_field = refl
-
-accepts_a_set_for_itself : compared mixed_set mixed_set ≡ None
-unfolding compared first
-accepts_a_set_for_itself = refl
 
 -- ---- carried numbers
 
@@ -179,8 +158,3 @@ carries_into_a_larger_array : carried counted_set (box_set (n ∷ v_of 4 ∷ [])
     ≡ record { version = 1; came = []; numbers = pos 1 ∷ pos 7 ∷ pos 0 ∷ pos 0 ∷ pos 0 ∷ [] } ∷ []
 unfolding carried first
 carries_into_a_larger_array = refl
-
-carries_subsections : carried subsection_set subsection_set (record { version = 1; came = None ∷ Some 1 ∷ []; numbers = pos 9 ∷ pos 5 ∷ pos 7 ∷ [] } ∷ [])
-    ≡ record { version = 1; came = None ∷ Some 1 ∷ []; numbers = pos 9 ∷ pos 5 ∷ pos 7 ∷ [] } ∷ []
-unfolding carried first
-carries_subsections = refl

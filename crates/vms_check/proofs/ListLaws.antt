@@ -1,7 +1,7 @@
 -- Tests over lists and numbered rules, and what they say of each place.
-use Rattle.std.proofs.Common.{◌≡◌, ℕ, zero, suc, ◌+◌, ◌<◌, List, [], ◌∷◌, length, get_or, Bool, true, false, Option, Some, None, refl, sym, ap, ◌∙◌, arith}
-use Rattle.std.specs.Prelude.{◌&&◌, ◌||◌}
-use Rattle.std.specs.List.{slice_get, list_all, list_any}
+use Rattle.std.proofs.Common.{◌≡◌, ℕ, zero, suc, ◌+◌, List, ◌∷◌, Bool, true, false, Option, Some, None, refl, sym, ap, ◌∙◌, arith, []}
+use Rattle.std.specs.Prelude.{◌&&◌}
+use Rattle.std.specs.List.{slice_get, list_all}
 use Rattle.std.proofs.lemmas.Bool.{and_parts}
 use Rattle.vms_spec.specs.declared.Place.{Place}
 use Rattle.vms_spec.specs.Lists.{or_else, first_answer}
@@ -27,15 +27,6 @@ pub at_every : {X : Type 0} (p : X → Bool) (xs : List X) → ((i : ℕ) (x : X
 at_every p [] h = refl
 at_every p (x ∷ xs) h = ap (λ (b : Bool). b && list_all p xs) (h 0 x refl) ∙ at_every p xs (λ i y e. h (suc i) y e)
 
-pub some_at : {X : Type 0} (p : X → Bool) (xs : List X) (i : ℕ) (x : X) → slice_get xs i ≡ Some x → p x ≡ true → list_any p xs ≡ true
-some_at p [] i x h e = absurd (cc)
-some_at p (y ∷ xs) zero x h e = let same : y ≡ x = cc in ap (λ (b : Bool). b || list_any p xs) (ap p same ∙ e)
-some_at p (y ∷ xs) (suc i) x h e = right (p y) (list_any p xs) (some_at p xs i x h e)
-  where
-    right : (a b : Bool) → b ≡ true → (a || b) ≡ true
-    right true b e = refl
-    right false b e = e
-
 pub none_answers : {X Y : Type 0} (f : ℕ → X → Option Y) (i : ℕ) (xs : List X) → ((j : ℕ) (x : X) → slice_get xs j ≡ Some x → f (i + j) x ≡ None) → first_answer f i xs ≡ None
 none_answers f i [] h = refl
 none_answers f i (x ∷ xs) h =
@@ -45,8 +36,3 @@ none_answers f i (x ∷ xs) h =
 
 pub same_at : {X : Type 0} (xs : List X) (i : ℕ) (x y : X) → slice_get xs i ≡ Some x → slice_get xs i ≡ Some y → x ≡ y
 same_at xs i x y e f = let same : Some x ≡ Some y = sym e ∙ f in cc
-
-pub at_get : {X : Type 0} (xs : List X) (k : ℕ) (d : X) → k < length xs → slice_get xs k ≡ Some (get_or xs k d)
-at_get [] k d lt = absurd (omega arith)
-at_get (x ∷ xs) zero d lt = refl
-at_get (x ∷ xs) (suc k) d lt = at_get xs k d (omega arith)

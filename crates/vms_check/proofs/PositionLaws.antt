@@ -1,5 +1,5 @@
 -- The position of a field among the present ones is how many are present before it.
-use Rattle.std.proofs.Common.{◌≡◌, ℕ, zero, suc, ◌+◌, ◌<◌, ◌≤◌, List, [], ◌∷◌, ◌++◌, length, get_or, take, map, replicate, Bool, true, false, Option, Some, None, refl, sym, ap, ◌∙◌, arith}
+use Rattle.std.proofs.Common.{◌≡◌, ℕ, zero, suc, ◌+◌, ◌<◌, ◌≤◌, List, ◌∷◌, ◌++◌, length, get_or, take, map, replicate, Bool, true, false, Option, Some, None, refl, sym, ap, ◌∙◌, arith, []}
 use Rattle.std.specs.Prelude.{not, ◌==◌, if◌then◌else◌}
 use Rattle.std.proofs.lemmas.Bool.{eq-eqb, ne_eqb}
 use Rattle.std.proofs.lemmas.List.{length-map, map-append, take-map, take_more}
@@ -25,9 +25,6 @@ either : {X : Type 0} (b : Bool) (x y z : X) → x ≡ z → y ≡ z → (if b t
 either true x y z left right = left
 either false x y z left right = right
 
-other_number : (i k : ℕ) → k < i → (i == k) ≡ false
-other_number i k lt = ne_eqb i k (λ (e : i ≡ k). omega (arith, e))
-
 later_number : (i k : ℕ) → (i == i + suc k) ≡ false
 later_number i k = ne_eqb i (i + suc k) (λ (e : i ≡ i + suc k). omega (arith, e))
 
@@ -36,7 +33,7 @@ none_before v p i [] k lt = refl
 none_before v p i (f ∷ fs) k lt =
     next_is v p i f fs k
     ∙ either (is_absent v f) _ _ None (none_before v p (suc i) fs k (omega arith))
-    (ap (λ (b : Bool). if b then Some p else position_from (suc p) (fields_from v (suc i) fs) k) (other_number i k lt) ∙ none_before v (suc p) (suc i) fs k (omega arith))
+    (ap (λ (b : Bool). if b then Some p else position_from (suc p) (fields_from v (suc i) fs) k) (ne_eqb i k (λ e. omega (arith, e, lt))) ∙ none_before v (suc p) (suc i) fs k (omega arith))
 
 abbrev next_position : ℕ → ℕ → Field → ℕ
 next_position v p f = (if is_absent v f then 0 else 1) + p
@@ -124,36 +121,37 @@ position_absent : (v : ℕ) (fields : List CodeField) (k : ℕ) (f : CodeField) 
 position_absent v fields k f lt is e =
     there_is v (map field_of fields) k true (omega (arith, length-map fields field_of)) (ap (is_absent v) (get_map_at field_of fields k f no_field lt is) ∙ e)
 
--- the entry of a field that is there or isn't
-pub entry_is : (v : ℕ) (fields : List CodeField) (k : ℕ) (f : CodeField) (is_there : Bool) (count : ℕ) → k < length fields → f ≡ get_or fields k f
-    → is_there ≡ not (is_absent v (field_of f)) → count ≡ count_present v (map field_of (take k fields))
-    → (if is_there then Some count else None) ≡ position_in v (map field_of fields) k
-entry_is v fields k f true count lt is e n =
-    ap Some n ∙ sym (position_there v fields k f lt is (flipped (is_absent v (field_of f)) true (sym e)))
-entry_is v fields k f false count lt is e n = sym (position_absent v fields k f lt is (flipped (is_absent v (field_of f)) false (sym e)))
-
 count-append : (v : ℕ) (fs gs : List Field) → count_present v (fs ++ gs) ≡ count_present v fs + count_present v gs
 count-append v [] gs = let e : count_present v gs ≡ 0 + count_present v gs = omega arith in e
 count-append v (f ∷ fs) gs = let one = if is_absent v f then 0 else 1 in
     let plus : one + (count_present v fs + count_present v gs) ≡ (one + count_present v fs) + count_present v gs = omega arith in
     ap (λ (n : ℕ). one + n) (count-append v fs gs) ∙ plus
 
--- how many are there with one more field
-pub counted_is : (v : ℕ) (fields : List CodeField) (k : ℕ) (f : CodeField) (is_there : Bool) (count : ℕ) → k < length fields → f ≡ get_or fields k f
-    → is_there ≡ not (is_absent v (field_of f)) → count ≡ count_present v (map field_of (take k fields))
-    → (if is_there then suc count else count) ≡ count_present v (map field_of (take (k + 1) fields))
-counted_is v fields k f is_there count lt is e n =
-    by_case is_there e ∙ sym (ap (count_present v) (ap (map field_of) (take_more fields k f lt) ∙ map-append field_of (take k fields) (get_or fields k f ∷ []))
-    ∙ count-append v (map field_of (take k fields)) (field_of (get_or fields k f) ∷ [])
-    ∙ ap (λ (g : CodeField). count_present v (map field_of (take k fields)) + count_present v (field_of g ∷ [])) (sym is))
-  where
-    by_case : (b : Bool) → b ≡ not (is_absent v (field_of f)) → (if b then suc count else count) ≡ count_present v (map field_of (take k fields)) + count_present v (field_of f ∷ [])
-    by_case true h =
-        let one : suc count ≡ count_present v (map field_of (take k fields)) + (1 + 0) = omega (arith, n) in
-        one ∙ ap (λ (b : Bool). count_present v (map field_of (take k fields)) + ((if b then 0 else 1) + 0)) (sym (flipped (is_absent v (field_of f)) true (sym h)))
-    by_case false h =
-        let none : count ≡ count_present v (map field_of (take k fields)) + (0 + 0) = omega (arith, n) in
-        none ∙ ap (λ (b : Bool). count_present v (map field_of (take k fields)) + ((if b then 0 else 1) + 0)) (sym (flipped (is_absent v (field_of f)) false (sym h)))
+-- a field that is there or isn't
+module _ (v : ℕ) (fields : List CodeField) (k : ℕ) (f : CodeField) (is_there : Bool) (count : ℕ) (lt : k < length fields) (is : f ≡ get_or fields k f)
+    (e : is_there ≡ not (is_absent v (field_of f))) (n : count ≡ count_present v (map field_of (take k fields))) where
+  -- its entry
+  pub entry_is : (if is_there then Some count else None) ≡ position_in v (map field_of fields) k
+  entry_is = by is_there e
+    where
+      by : (b : Bool) → b ≡ not (is_absent v (field_of f)) → (if b then Some count else None) ≡ position_in v (map field_of fields) k
+      by true h = ap Some n ∙ sym (position_there v fields k f lt is (flipped (is_absent v (field_of f)) true (sym h)))
+      by false h = sym (position_absent v fields k f lt is (flipped (is_absent v (field_of f)) false (sym h)))
+
+  -- how many are there with it
+  pub counted_is : (if is_there then suc count else count) ≡ count_present v (map field_of (take (k + 1) fields))
+  counted_is =
+      by is_there e ∙ sym (ap (count_present v) (ap (map field_of) (take_more fields k f lt) ∙ map-append field_of (take k fields) (get_or fields k f ∷ []))
+      ∙ count-append v (map field_of (take k fields)) (field_of (get_or fields k f) ∷ [])
+      ∙ ap (λ (g : CodeField). count_present v (map field_of (take k fields)) + count_present v (field_of g ∷ [])) (sym is))
+    where
+      by : (b : Bool) → b ≡ not (is_absent v (field_of f)) → (if b then suc count else count) ≡ count_present v (map field_of (take k fields)) + count_present v (field_of f ∷ [])
+      by true h =
+          let one : suc count ≡ count_present v (map field_of (take k fields)) + (1 + 0) = omega (arith, n) in
+          one ∙ ap (λ (b : Bool). count_present v (map field_of (take k fields)) + ((if b then 0 else 1) + 0)) (sym (flipped (is_absent v (field_of f)) true (sym h)))
+      by false h =
+          let none : count ≡ count_present v (map field_of (take k fields)) + (0 + 0) = omega (arith, n) in
+          none ∙ ap (λ (b : Bool). count_present v (map field_of (take k fields)) + ((if b then 0 else 1) + 0)) (sym (flipped (is_absent v (field_of f)) false (sym h)))
 
 pub counted_small : (b : Bool) (count n : ℕ) → count ≤ n → (if b then suc count else count) ≤ n + 1
 counted_small true count n h = omega arith

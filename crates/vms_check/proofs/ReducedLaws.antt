@@ -1,24 +1,9 @@
 -- Reduction keeps truth.
-use Rattle.std.proofs.Common.{◌≡◌, ℕ, Bool, true, false, not, ◌&&◌, ◌||◌, refl, sym, ap, ◌∙◌}
+use Rattle.std.proofs.Common.{◌≡◌, ℕ, Bool, true, false, not, ◌&&◌, refl, sym, ap, ◌∙◌, ◌||◌}
+use Rattle.std.proofs.Math.Bool.{and-true, and-false, or-true, or-false}
 use Rattle.vms_spec.specs.Sets.{Formula, AtLeast, Below, Cell, Not, And, Or}
 use Rattle.vms_spec.specs.Tests.{truth}
 use Rattle.vms_check.specs.Reducing.{Reduced, Known, Open, not_reduced, and_reduced, or_reduced, reduced, truth_of}
-
-and_right : (b : Bool) → (b && true) ≡ b
-and_right true = refl
-and_right false = refl
-
-and_wrong : (b : Bool) → (b && false) ≡ false
-and_wrong true = refl
-and_wrong false = refl
-
-or_right : (b : Bool) → (b || false) ≡ b
-or_right true = refl
-or_right false = refl
-
-or_wrong : (b : Bool) → (b || true) ≡ true
-or_wrong true = refl
-or_wrong false = refl
 
 module _ (v : ℕ) (own parent : ℕ → ℕ) where
   abbrev holds : Reduced → Bool
@@ -31,15 +16,15 @@ module _ (v : ℕ) (own parent : ℕ → ℕ) where
   and_holds : (r s : Reduced) → holds (and_reduced r s) ≡ (holds r && holds s)
   and_holds (Known true) s = refl
   and_holds (Known false) s = refl
-  and_holds (Open t) (Known true) = sym (and_right (truth t v own parent))
-  and_holds (Open t) (Known false) = sym (and_wrong (truth t v own parent))
+  and_holds (Open t) (Known true) = sym (and-true (truth t v own parent))
+  and_holds (Open t) (Known false) = sym (and-false (truth t v own parent))
   and_holds (Open t) (Open u) = refl
 
   or_holds : (r s : Reduced) → holds (or_reduced r s) ≡ (holds r || holds s)
   or_holds (Known true) s = refl
   or_holds (Known false) s = refl
-  or_holds (Open t) (Known true) = sym (or_wrong (truth t v own parent))
-  or_holds (Open t) (Known false) = sym (or_right (truth t v own parent))
+  or_holds (Open t) (Known true) = sym (or-true (truth t v own parent))
+  or_holds (Open t) (Known false) = sym (or-false (truth t v own parent))
   or_holds (Open t) (Open u) = refl
 
   reduced_holds_at : (t : Formula) → holds (reduced v t) ≡ truth t v own parent

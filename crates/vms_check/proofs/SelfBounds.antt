@@ -1,5 +1,5 @@
 -- What a number can be is at most each capacity that it counts.
-use Rattle.std.proofs.Common.{◌≡◌, ℕ, zero, suc, ◌≤◌, min, List, [], ◌∷◌, ◌++◌, Bool, true, false, Some, refl, sym, ap, ◌∙◌, subst, arith}
+use Rattle.std.proofs.Common.{◌≡◌, ℕ, zero, suc, ◌≤◌, min, List, ◌∷◌, ◌++◌, Bool, true, false, Some, refl, sym, ap, ◌∙◌, subst, arith, []}
 use Rattle.std.specs.Prelude.{◌==◌, if◌then◌else◌}
 use Rattle.std.specs.List.{slice_get}
 use Rattle.std.proofs.lemmas.Bool.{eq-eqb}
@@ -10,7 +10,7 @@ use Rattle.vms_spec.specs.Layout.{counted}
 use Rattle.vms_spec.specs.Sets.{Field}
 use Rattle.vms_check.specs.Comparing.{bound, least_of}
 
-least_below : (n : ℕ) (ms : List ℕ) → least_of n ms ≤ n
+pub least_below : (n : ℕ) (ms : List ℕ) → least_of n ms ≤ n
 least_below n [] = omega arith
 least_below n (m ∷ ms) = let le : least_of (min n m) ms ≤ min n m = least_below (min n m) ms in omega (arith, le)
 

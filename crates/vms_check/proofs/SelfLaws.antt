@@ -1,10 +1,12 @@
 -- A well-formed set is compatible to itself.
-use Rattle.std.proofs.Common.{◌≡◌, inr, ℕ, zero, suc, ◌+◌, ◌<◌, ◌≤◌, List, [], ◌∷◌, ◌++◌, length, get_or, Bool, true, false, Option, Some, None, refl, sym, ap, ◌∙◌, subst, arith}
-use Rattle.std.specs.Prelude.{◌&&◌, ◌||◌, ◌==◌, nat_le, nat_lt}
+use Rattle.std.proofs.Common.{◌≡◌, inr, ℕ, zero, suc, ◌+◌, ◌<◌, ◌≤◌, List, ◌∷◌, ◌++◌, length, get_or, Bool, true, false, Option, Some, None, refl, sym, ap, ◌∙◌, subst, arith, []}
+use Rattle.std.specs.Prelude.{◌&&◌, ◌==◌, nat_le, nat_lt, ◌||◌}
 use Rattle.std.specs.List.{slice_get}
 use Rattle.std.specs.Str.{bytes_eq}
 use Rattle.std.proofs.lemmas.Bool.{and_parts, eq-eqb, eqb-true, le-leb, leb-true}
 use Rattle.std.proofs.lemmas.Slice.Eq.{bytes_eq-Decides}
+use Rattle.std.proofs.lemmas.Option.{get_or_from_slice_get}
+use Rattle.std.proofs.lemmas.Map.Keys.{any_passes_from_place}
 use Rattle.vms_kinds.specs.declared.Item.{Item}
 use Rattle.vms_kinds.specs.declared.Item.TheVariants.{Struct}
 use Rattle.vms_spec.specs.declared.Count.{Count}
@@ -16,14 +18,14 @@ use Rattle.vms_spec.specs.Rules.{count_names_well, is_counting, is_earlier_in, i
 use Rattle.vms_spec.specs.Sets.{Formula, Field, Desc, Sub, Device, Set}
 use Rattle.vms_spec.specs.Streams.{is_one_of}
 use Rattle.vms_spec.specs.WellFormed.{WellFormed, struct_rules, device_rules, sub_rules}
-use Rattle.vms_spec.proofs.WellFormedLaws.{Clean, struct_clean, device_parts, sub_clean, device_found, sub_found}
+use Rattle.vms_spec.proofs.WellFormedLaws.{Clean, struct_clean, device_parts, sub_clean, device_found, sub_found, beyond}
 use Rattle.vms_check.specs.Comparing.{Compatible, Entry, entry_of, is_found, same_reduced}
 use Rattle.vms_check.specs.Fitting.{ArePaired, DescsFit, DevicesFit, IsSubFor, fields_at}
 use Rattle.vms_check.specs.Reducing.{presence, reduced}
 use Rattle.vms_check.specs.Sides.{field_reduced, fields_from, position_in}
-use Rattle.vms_check.proofs.ListLaws.{same_at, some_at}
+use Rattle.vms_check.proofs.ListLaws.{same_at}
 use Rattle.vms_check.proofs.SelfBounds.{bound_counts}
-use Rattle.vms_check.proofs.SelfTests.{HasPosition, IsSelf, get_is, steady_there, reduced_self, same_self, rest_self, count_self, item_self, constant_self, holds_self}
+use Rattle.vms_check.proofs.SelfTests.{HasPosition, IsSelf, steady_there, reduced_self, same_self, rest_self, count_self, item_self, constant_self, holds_self}
 use Rattle.vms_check.proofs.SetsFit.{so_fits}
 
 -- ---- entries
@@ -48,9 +50,6 @@ entry_is v i (f ∷ fs) p e h = by_presence (λ q g. entry_is v (suc i) fs q e g
         let same : record { index = i; place = 0; field = f; rest = rest } ≡ e = cc in
         subst (λ (x : Entry). IsEntry v i (f ∷ fs) x) same (record { number = 0; there = refl; index = omega arith; left = is })
     by_presence rec (Some rest) is (suc p) h = later (rec p h)
-
-same_bytes : (name : List ℕ) → bytes_eq name name ≡ true
-same_bytes name = (bytes_eq-Decides name name).1 refl
 
 -- ---- one description
 
@@ -92,7 +91,7 @@ module _ (d : Desc) (v : ℕ) (low : d.minimum ≤ v) where
           counts = count_self positions e.field.count (counts x.number e.field.count names.1);
           kinds = item_self e.field.item;
           tests = tests;
-          names = ap (λ (b : Bool). b || is_one_of e.field.former e.field.name) (same_bytes e.field.name);
+          names = ap (λ (b : Bool). b || is_one_of e.field.former e.field.name) ((bytes_eq-Decides e.field.name e.field.name).1 refl);
           capacities = holds_self e.field.count;
           room = λ k g most there absent is. bound_counts e.field.item e.index d.fields k g most there is;
           constants = constant_self e.field.item;
@@ -105,7 +104,7 @@ module _ (d : Desc) (v : ℕ) (low : d.minimum ≤ v) where
     as_many = refl;
     pairs = λ p e f left right. subst (λ (x : Entry). ArePaired equal d d v v e x) (same_at (fields_at d v) p e f left right) (pair_self well p e left);
     validations = λ k t there.
-        inr (some_at (λ (s : Formula). same_reduced positions positions (reduced v s) (reduced v t)) d.validate k t there
+        inr (any_passes_from_place (λ (s : Formula). same_reduced positions positions (reduced v s) (reduced v t)) d.validate k t there
         (same_self positions (reduced v t) (reduced_self positions (is_steady_in d) steady v t (well.validations k t there))));
   }
 
@@ -129,15 +128,10 @@ module _ (set : Set) (well : WellFormed set) where
 
   struct_at : (j : ℕ) (o : Option Desc) → slice_get set.structs j ≡ o → j < length set.structs
       → DescsFit same (get_or set.structs j no_desc) (get_or set.structs j no_desc) (get_or set.structs j no_desc).version (get_or set.structs j no_desc).version
-  struct_at j None e lt = absurd (none_inside set.structs j lt e)
-    where
-      none_inside : {X : Type 0} (xs : List X) (k : ℕ) → k < length xs → slice_get xs k ≡ None → ⊥
-      none_inside [] k lt e = omega arith
-      none_inside (x ∷ xs) zero lt e = cc
-      none_inside (x ∷ xs) (suc k) lt e = none_inside xs k (omega arith) e
+  struct_at j None e lt = absurd (beyond set.structs j lt e)
   struct_at j (Some d) e lt =
       let c = struct_clean set well j d e in
-      subst (λ (x : Desc). DescsFit same x x x.version x.version) (sym (get_is set.structs j no_desc d e))
+      subst (λ (x : Desc). DescsFit same x x x.version x.version) (sym (get_or_from_slice_get set.structs j d no_desc e))
       (clean_self j d (struct_rules set.structs j d) c (leb-true d.minimum d.version c.own.1.1.0))
 
   structs_self : (i j : ℕ) → j < length set.structs → same i j ≡ true
@@ -176,7 +170,7 @@ module _ (set : Set) (well : WellFormed set) where
 
   machine_self : (names : List (List ℕ)) (i : ℕ) (m : List ℕ) → slice_get names i ≡ Some m → is_one_of names m ≡ true
   machine_self [] i m e = absurd (cc)
-  machine_self (n ∷ names) zero m e = let is : n ≡ m = cc in ap (λ (b : Bool). b || is_one_of names m) (ap (λ (x : List ℕ). bytes_eq x m) is ∙ same_bytes m)
+  machine_self (n ∷ names) zero m e = let is : n ≡ m = cc in ap (λ (b : Bool). b || is_one_of names m) (ap (λ (x : List ℕ). bytes_eq x m) is ∙ (bytes_eq-Decides m m).1 refl)
   machine_self (n ∷ names) (suc i) m e = right (bytes_eq n m) (machine_self names i m e)
     where
       right : (b : Bool) → is_one_of names m ≡ true → (b || is_one_of names m) ≡ true

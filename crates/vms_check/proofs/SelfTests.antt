@@ -1,17 +1,18 @@
 -- What is left of a test is the same as itself, where each number that it names has a position.
-use Rattle.std.proofs.Common.{◌≡◌, ℕ, zero, suc, ◌<◌, ◌≤◌, List, [], ◌∷◌, length, get_or, Bool, true, false, Option, Some, None, ℤ, pos, negsuc, refl, sym, ap, ◌∙◌, arith}
+use Rattle.std.proofs.Common.{◌≡◌, ℕ, ◌≤◌, Bool, true, false, Option, Some, None, refl, sym, ap, ◌∙◌, arith}
 use Rattle.std.specs.Prelude.{◌&&◌, ◌==◌, nat_le, if◌then◌else◌}
 use Rattle.std.specs.List.{slice_get}
-use Rattle.std.proofs.lemmas.Bool.{and_parts, eq-eqb, le-leb, leb-true}
+use Rattle.std.proofs.lemmas.Bool.{and_parts, eq-eqb, le-leb, leb-true, and_from}
+use Rattle.std.proofs.lemmas.Option.{get_or_from_slice_get, slice_get_within}
 use Rattle.vms_kinds.specs.declared.Item.{Item}
 use Rattle.vms_kinds.specs.declared.Item.TheVariants.{Num, Equal, Unused, Struct}
 use Rattle.vms_spec.specs.declared.Count.{Count}
 use Rattle.vms_spec.specs.declared.Count.TheVariants.{One, Fixed, Counted}
 use Rattle.vms_spec.specs.declared.Whose.TheVariants.{Own, Parent}
 use Rattle.vms_spec.specs.Layout.{no_field}
-use Rattle.vms_spec.specs.Numbers.{same_number}
 use Rattle.vms_spec.specs.Rules.{has_no_test, is_num, is_one, is_steady, is_steady_in, names_well, nobody}
 use Rattle.vms_spec.specs.Sets.{Formula, AtLeast, Below, Cell, Not, And, Or, Field, Desc}
+use Rattle.vms_spec.proofs.NumberLaws.{same_number_itself}
 use Rattle.vms_check.specs.Comparing.{holds_as_much, is_absent, is_nothing, kind_number, rel_number, same_constant, same_count, same_item, same_place, same_reduced, same_rest, same_test}
 use Rattle.vms_check.specs.Reducing.{Reduced, Known, Open, and_reduced, left_of, not_reduced, or_reduced, presence, reduced}
 use Rattle.vms_check.specs.Sides.{field_reduced, position_in}
@@ -29,16 +30,6 @@ HasPosition o k = (p : ℕ) × (o k ≡ Some p)
 same_here : (x : Option ℕ) (p : ℕ) → x ≡ Some p → same_place x x ≡ true
 same_here x p e = ap (λ (y : Option ℕ). same_place y y) e ∙ itself p
 
-inside : {X : Type 0} (xs : List X) (k : ℕ) (x : X) → slice_get xs k ≡ Some x → k < length xs
-inside [] k x e = absurd (cc)
-inside (y ∷ xs) zero x e = omega arith
-inside (y ∷ xs) (suc k) x e = let lt : k < length xs = inside xs k x e in omega (arith, lt)
-
-pub get_is : {X : Type 0} (xs : List X) (k : ℕ) (d x : X) → slice_get xs k ≡ Some x → get_or xs k d ≡ x
-get_is [] k d x e = absurd (cc)
-get_is (y ∷ xs) zero d x e = cc
-get_is (y ∷ xs) (suc k) d x e = get_is xs k d x e
-
 no_test : (t : Option Formula) → has_no_test t ≡ true → t ≡ None
 no_test None e = refl
 no_test (Some t) e = absurd (cc)
@@ -55,7 +46,7 @@ steady_there d v k low e = by_field (slice_get d.fields k) refl e
         let since : f.since ≤ d.minimum = leb-true f.since d.minimum a.1 in
         let there : is_absent v f ≡ false =
         ap (λ (t : Option Formula). is_nothing (presence v t f.since)) (no_test f.test b.1) ∙ ap (λ (x : Bool). is_nothing (if x then Some None else None)) (le-leb f.since v (omega (arith, since, low))) in
-        (_, there_is v d.fields k false (inside d.fields k f is) (ap (is_absent v) (get_is d.fields k no_field f is) ∙ there))
+        (_, there_is v d.fields k false (slice_get_within d.fields k f is) (ap (is_absent v) (get_or_from_slice_get d.fields k f no_field is) ∙ there))
 
 -- ---- tests
 
@@ -68,30 +59,27 @@ module _ (o : ℕ → Option ℕ) where
   not_self (Known b) h = tt
   not_self (Open t) h = h
 
-  two : (a b : Bool) → a ≡ true → b ≡ true → (a && b) ≡ true
-  two a b e f = ap (λ (x : Bool). x && b) e ∙ f
-
   and_self : (r q : Reduced) → IsSelf r → IsSelf q → IsSelf (and_reduced r q)
   and_self (Known true) q h g = g
   and_self (Known false) q h g = tt
   and_self (Open s) (Known true) h g = h
   and_self (Open s) (Known false) h g = tt
-  and_self (Open s) (Open t) h g = two (same_test o o s s) (same_test o o t t) h g
+  and_self (Open s) (Open t) h g = and_from (same_test o o s s) (same_test o o t t) h g
 
   or_self : (r q : Reduced) → IsSelf r → IsSelf q → IsSelf (or_reduced r q)
   or_self (Known false) q h g = g
   or_self (Known true) q h g = tt
   or_self (Open s) (Known false) h g = h
   or_self (Open s) (Known true) h g = tt
-  or_self (Open s) (Open t) h g = two (same_test o o s s) (same_test o o t t) h g
+  or_self (Open s) (Open t) h g = and_from (same_test o o s s) (same_test o o t t) h g
 
   pub reduced_self : (ok : ℕ → Bool) → ((k : ℕ) → ok k ≡ true → HasPosition o k) → (v : ℕ) (t : Formula) → names_well ok nobody t ≡ true → IsSelf (reduced v t)
   reduced_self ok has v (AtLeast n) e = tt
   reduced_self ok has v (Below n) e = tt
   reduced_self ok has v (Cell Own k mask rel value) e =
       let p = has k e in
-      two (same_place (o k) (o k) && mask == mask && rel_number rel == rel_number rel) (value == value)
-      (two (same_place (o k) (o k) && mask == mask) (rel_number rel == rel_number rel) (two (same_place (o k) (o k)) (mask == mask) (same_here (o k) p.0 p.1) (itself mask)) (itself (rel_number rel))) (itself value)
+      and_from (same_place (o k) (o k) && mask == mask && rel_number rel == rel_number rel) (value == value)
+      (and_from (same_place (o k) (o k) && mask == mask) (rel_number rel == rel_number rel) (and_from (same_place (o k) (o k)) (mask == mask) (same_here (o k) p.0 p.1) (itself mask)) (itself (rel_number rel))) (itself value)
   reduced_self ok has v (Cell Parent k mask rel value) e = absurd (cc)
   reduced_self ok has v (Not t) e = not_self (reduced v t) (reduced_self ok has v t e)
   reduced_self ok has v (And s t) e =
@@ -129,13 +117,9 @@ item_self (Equal kind z) = itself (kind_number kind)
 item_self (Unused n) = itself n
 item_self (Struct j) = refl
 
-number_self : (z : ℤ) → same_number z z ≡ true
-number_self (pos n) = itself n
-number_self (negsuc n) = itself n
-
 pub constant_self : (x : Item) → same_constant x x ≡ true
 constant_self (Num kind) = refl
-constant_self (Equal kind z) = number_self z
+constant_self (Equal kind z) = same_number_itself z
 constant_self (Unused n) = refl
 constant_self (Struct j) = refl
 

@@ -1,8 +1,9 @@
 -- Two sets: the walk finds no mismatch exactly where all rules hold.
-use Rattle.std.proofs.Common.{◌≡◌, ℕ, zero, suc, ◌+◌, ◌<◌, List, [], ◌∷◌, length, get_or, Bool, true, Option, Some, None, refl, sym, ap, ◌∙◌, arith}
+use Rattle.std.proofs.Common.{◌≡◌, ℕ, zero, suc, ◌+◌, ◌<◌, List, ◌∷◌, length, get_or, Bool, true, Option, Some, None, refl, sym, ap, ◌∙◌, arith, []}
 use Rattle.std.specs.Prelude.{is_none}
 use Rattle.std.specs.List.{slice_get}
 use Rattle.std.proofs.lemmas.Bool.{ltb-true}
+use Rattle.std.proofs.lemmas.Option.{slice_get-get_or}
 use Rattle.vms_kinds.specs.declared.Item.TheVariants.{Struct}
 use Rattle.vms_spec.specs.declared.Part.TheVariants as parts
 use Rattle.vms_spec.specs.Lookup.{find_device, find_sub, index}
@@ -21,7 +22,7 @@ use Rattle.vms_check.specs.Pairs.{table}
 use Rattle.vms_check.specs.Wholes.{device_mismatch, lost_mismatch, machines_mismatch}
 use Rattle.vms_check.proofs.DescsFit.{all_uses, descs_so, so_descs}
 use Rattle.vms_spec.proofs.Faultless.{or_else_none, answers_none}
-use Rattle.vms_check.proofs.ListLaws.{at_get, both_none, passes, pass, every_at, at_every, none_answers}
+use Rattle.vms_check.proofs.ListLaws.{both_none, passes, pass, every_at, at_every, none_answers}
 use Rattle.vms_check.proofs.StructLaws.{AllBelow, structs_are}
 use Rattle.vms_check.proofs.WholeLaws.{whole_is}
 
@@ -42,7 +43,7 @@ module _ (old new : Set) (well : WellFormed new) where
   compares same = (i j : ℕ) → uses_below count (Struct j) ≡ true → get_or structs j no_comparer i ≡ None → same i j ≡ true
 
   struct_below : (j v : ℕ) → j < count → AllBelow j (fields_at (get_or new.structs j no_desc) v)
-  struct_below j v lt = let d = get_or new.structs j no_desc in clean_below j d (struct_rules new.structs j d) v (struct_clean new well j d (at_get new.structs j no_desc lt))
+  struct_below j v lt = let d = get_or new.structs j no_desc in clean_below j d (struct_rules new.structs j d) v (struct_clean new well j d (slice_get-get_or new.structs j no_desc lt))
 
   device_below : (k v : ℕ) (e : Device) → slice_get new.devices k ≡ Some e → AllBelow count (fields_at e.desc v)
   device_below k v e there = clean_below count e.desc (device_rules new k e) v (device_parts new well k e there).0

@@ -37,14 +37,14 @@ pub record Entry : Type 0 where
   pub rest : Option Formula
 
 abbrev pub entry_of : ℕ → ℕ → Field → Option (Option Formula) → List Entry
-entry_of i slice_get f None = []
-entry_of i slice_get f (Some rest) = record { index = i; place = slice_get; field = f; rest = rest } ∷ []
+entry_of i at f None = []
+entry_of i at f (Some rest) = record { index = i; place = at; field = f; rest = rest } ∷ []
 
 -- those from field i on, whose cells begin at a place, with the cells of the structures at hand
 abbrev pub present_from : List (List CellOf) → List Field → ℕ → ℕ → ℕ → List Field → List Entry
-present_from structs all v i slice_get [] = []
-present_from structs all v i slice_get (f ∷ fs) =
-    entry_of i slice_get f (presence v f.test f.since) ++ present_from structs all v (suc i) (slice_get + length (field_cells structs all i f)) fs
+present_from structs all v i at [] = []
+present_from structs all v i at (f ∷ fs) =
+    entry_of i at f (presence v f.test f.since) ++ present_from structs all v (suc i) (at + length (field_cells structs all i f)) fs
 
 abbrev pub present : List (List CellOf) → Desc → ℕ → List Entry
 present structs d v = present_from structs d.fields v 0 0 d.fields

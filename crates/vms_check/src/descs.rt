@@ -23,8 +23,8 @@ fn is_among(old: Side, new: Side, places: &Places, tests: &[Test], left: Left) -
     requires new { IsSide new }
     requires places { ArePlaces old new places.now }
     requires whole { is_whole_left new.version left ≡ true }
-    ensures { result ≡ list_any (is_left old.entry new.entry (as_reduced new.entry.version left.entry))
-        (map formula tests.now) }
+    ensures { let is = is_left old.entry new.entry (as_reduced new.entry.version left.entry) in
+        result ≡ list_any is (map formula tests.now) }
 {
     for test in tests {
         if same_reduced(old, new, places, reduce(test, old.version), left) {

@@ -1,5 +1,5 @@
 -- A number that fits old's capacities fits new's.
-use Rattle.std.proofs.Common.{◌≡◌, ◌⊎◌, inl, inr, ℕ, zero, suc, ◌+◌, ◌≤◌, min, Bool, true, false, ◌&&◌, ◌==◌, List, [], ◌∷◌, ◌++◌, length, Option, Some, None, refl, sym, ap, ◌∙◌, subst, arith, ℤ, pos, negsuc, ◌≤ℤ◌, if◌then◌else◌, nat_le}
+use Rattle.std.proofs.Common.{◌≡◌, ◌⊎◌, inl, inr, ℕ, zero, suc, ◌+◌, ◌≤◌, min, Bool, true, false, ◌&&◌, ◌==◌, List, ◌∷◌, ◌++◌, length, Option, Some, None, refl, sym, ap, ◌∙◌, subst, arith, ℤ, pos, negsuc, ◌≤ℤ◌, if◌then◌else◌, nat_le, []}
 use Rattle.std.specs.List.{AllByRecursion, slice_get}
 use Rattle.std.proofs.lemmas.Bool.{and_parts, eqb-true, leb-true, eq-eqb}
 use Rattle.std.proofs.lemmas.Int.{ints}
@@ -76,10 +76,6 @@ module _ (o n : ℕ → Option ℕ) where
       (head, indexed (suc p) (suc f.index) es fs rising.1 tail)
 
 -- ---- bounds
-
-least_first : (m : ℕ) (ms : List ℕ) → least_of m ms ≤ m
-least_first m [] = omega arith
-least_first m (k ∷ ms) = let h = least_first (min m k) ms in omega (arith, h)
 
 at_most_least : (z : ℤ) (m : ℕ) (ms : List ℕ) → z ≤ℤ pos m → AllByRecursion (λ k. z ≤ℤ pos k) ms → z ≤ℤ pos (least_of m ms)
 at_most_least z m [] h all = h

@@ -1,9 +1,8 @@
 -- Small facts of two descriptions: what covers, how long numbers are, and fields that may be named.
-use Rattle.std.proofs.Common.{◌≡◌, ℕ, zero, suc, ◌+◌, ◌*◌, Bool, true, false, ◌&&◌, List, [], ◌∷◌, ◌++◌, length, get_or, Option, Some, None, refl, ap, ◌∙◌, subst, arith, ℤ, pos, if◌then◌else◌, nat_le}
+use Rattle.std.proofs.Common.{◌≡◌, ℕ, zero, suc, ◌+◌, ◌*◌, Bool, true, false, ◌&&◌, List, ◌∷◌, ◌++◌, length, get_or, Option, Some, None, refl, ap, ◌∙◌, subst, arith, ℤ, pos, if◌then◌else◌, nat_le, []}
 use Rattle.std.proofs.lemmas.List.{length-append}
 use Rattle.std.proofs.lemmas.Bool.{and_parts}
 use Rattle.vms_kinds.specs.declared.Kind.{Kind}
-use Rattle.vms_kinds.specs.declared.Kind.TheVariants.{U8, U16, U32, U64, I8, I16, I32, I64, Bool as Truth, Timer}
 use Rattle.vms_kinds.specs.declared.Item.{Item}
 use Rattle.vms_kinds.specs.declared.Item.TheVariants.{Num, Equal, Unused, Struct}
 use Rattle.vms_kinds.specs.Codes.{width, code}
@@ -14,6 +13,7 @@ use Rattle.vms_spec.specs.Tests.{is_there}
 use Rattle.vms_spec.specs.Layout.{Number, Constant, times}
 use Rattle.vms_spec.specs.Images.{zeroed}
 use Rattle.vms_spec.specs.Rules.{is_steady, is_num, is_one, has_no_test}
+use Rattle.vms_spec.proofs.KindLaws.{length-code}
 use Rattle.vms_check.specs.Reducing.{presence}
 use Rattle.vms_check.specs.Comparing.{same_rest, is_covered}
 use Rattle.vms_check_laws.proofs.Presence.{there, presence_there}
@@ -30,29 +30,16 @@ not_covered i c (Equal l u) covers number = absurd (cc)
 not_covered i c (Unused r) covers number = absurd (cc)
 not_covered i c (Struct j) covers number = absurd (cc)
 
-code_length : (kind : Kind) (z : ℤ) → length (code kind z) ≡ width kind
-unfolding code
-code_length U8 z = refl
-code_length U16 z = refl
-code_length U32 z = refl
-code_length U64 z = refl
-code_length I8 z = refl
-code_length I16 z = refl
-code_length I32 z = refl
-code_length I64 z = refl
-code_length Truth z = refl
-code_length Timer z = refl
-
 -- the bytes of n numbers
 pub numbers_length : (numbers : List ℤ) (kind : Kind) (caps : List ℕ) (n at step : ℕ) → length (zeroed numbers (times n (λ c. Number c kind caps ∷ []) at step)) ≡ n * width kind
 numbers_length numbers kind caps zero at step = omega arith
 numbers_length numbers kind caps (suc n) at step =
     length-append (code kind (get_or numbers at (pos 0))) _
-    ∙ ap (λ (k : ℕ). k + length (zeroed numbers (times n (λ c. Number c kind caps ∷ []) (at + step) step))) (code_length kind (get_or numbers at (pos 0)))
+    ∙ ap (λ (k : ℕ). k + length (zeroed numbers (times n (λ c. Number c kind caps ∷ []) (at + step) step))) (length-code kind (get_or numbers at (pos 0)))
     ∙ ap (λ (k : ℕ). width kind + k) (numbers_length numbers kind caps n (at + step) step) ∙ grind arith
 
 pub constant_length : (numbers : List ℤ) (kind : Kind) (z : ℤ) → length (zeroed numbers (Constant kind z ∷ [])) ≡ width kind
-constant_length numbers kind z = length-append (code kind z) [] ∙ ap (λ (k : ℕ). k + 0) (code_length kind z) ∙ omega arith
+constant_length numbers kind z = length-append (code kind z) [] ∙ ap (λ (k : ℕ). k + 0) (length-code kind z) ∙ omega arith
 
 -- a field that tests and counts may name
 pub record Steady (f : Field) : Type 0 where

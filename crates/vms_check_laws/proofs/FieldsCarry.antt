@@ -1,5 +1,5 @@
 -- Fields: what the older set writes for a present field is bytes of the paired field with the carried numbers.
-use Rattle.std.proofs.Common.{◌≡◌, inl, inr, ℕ, zero, suc, ◌+◌, ◌*◌, ◌≤◌, Bool, true, false, List, [], ◌∷◌, length, get_or, Option, None, refl, sym, ap, ◌∙◌, subst, arith, replicate, ℤ, pos, if◌then◌else◌}
+use Rattle.std.proofs.Common.{◌≡◌, inl, inr, ℕ, zero, suc, ◌+◌, ◌*◌, ◌≤◌, Bool, true, false, List, ◌∷◌, length, get_or, Option, None, refl, sym, ap, ◌∙◌, subst, arith, replicate, ℤ, pos, if◌then◌else◌, []}
 use Rattle.std.proofs.lemmas.List.{length-append, length-replicate}
 use Rattle.std.proofs.lemmas.Bool.{eqb-true, leb-true}
 use Rattle.vms_kinds.specs.declared.Kind.{Kind}
@@ -19,7 +19,7 @@ use Rattle.vms_check_laws.specs.Segments.{Holds, FitsAt, Carries}
 use Rattle.vms_check_laws.proofs.Segments.{holds_left, holds_right, holds_at, fits_left, fits_right, fits_at, carries_nil, carries_append, carries_number, carries_constant, carries_filler}
 use Rattle.vms_spec.proofs.Sizes.{size_same, elements_fit}
 use Rattle.vms_spec.proofs.Prefixes.{ItemBelow}
-use Rattle.vms_bodies.proofs.ReadyLaws.{same_is}
+use Rattle.vms_spec.proofs.NumberLaws.{same_number_is}
 use Rattle.vms_check_laws.proofs.Pairing.{kinds_same, cells_in, slots_at, entries_slots, IsKnown, AreKnown, FitEntries}
 use Rattle.vms_check_laws.proofs.Linking.{PairGood, decoded, Linked, linked, carry_item_size}
 use Rattle.vms_check_laws.proofs.Describing.{numbers_length, constant_length, there_here}
@@ -56,7 +56,7 @@ module _ (ks : List Comparer) (cs : List Carrier) (ms ns : List Meaning) (a b : 
       → Holds numbers' y (carry_item cs (cells_in ms) (cells_in ns) numbers i j (defaults (item_cells (cells_in ns) j [] d')) x)
       → Carries numbers (item_slots ms i caps numbers x) numbers' (item_slots ns j caps' numbers' y)
   item_carries (Num k) (Num l) caps caps' d d' x y same constant structs below_a below_b fits held = number_item (same_kind k l) k l caps caps' d' x y same same held
-  item_carries (Equal k z) (Equal l u) caps caps' d d' x y same constant structs below_a below_b fits held = carries_constant numbers numbers' k l z u (kinds_same k l same) (same_is z u constant)
+  item_carries (Equal k z) (Equal l u) caps caps' d d' x y same constant structs below_a below_b fits held = carries_constant numbers numbers' k l z u (kinds_same k l same) (same_number_is z u constant)
   item_carries (Unused m) (Unused r) caps caps' d d' x y same constant structs below_a below_b fits held =
       carries_filler numbers numbers' (Filler m ∷ []) r (length-append (replicate m 0) [] ∙ ap (λ (k : ℕ). k + 0) (length-replicate m 0) ∙ omega (arith, eqb-true m r same))
   item_carries (Struct i) (Struct j) caps caps' d d' x y same constant structs below_a below_b fits held = table.carried i j below_a below_b structs x y fits held

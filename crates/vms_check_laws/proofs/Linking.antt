@@ -1,5 +1,5 @@
 -- Present fields paired by position: what is known of each pair, and which numbers agree.
-use Rattle.std.proofs.Common.{◌≡◌, ◌⊎◌, inl, inr, ℕ, zero, suc, ◌+◌, ◌*◌, ◌<◌, Bool, true, false, ◌&&◌, List, [], ◌∷◌, ◌++◌, length, get_or, Option, Some, None, refl, sym, ap, ◌∙◌, arith, ℤ, pos, if◌then◌else◌}
+use Rattle.std.proofs.Common.{◌≡◌, ◌⊎◌, inl, inr, ℕ, zero, suc, ◌+◌, ◌*◌, ◌<◌, Bool, true, false, ◌&&◌, List, ◌∷◌, ◌++◌, length, get_or, Option, Some, None, refl, sym, ap, ◌∙◌, arith, ℤ, pos, if◌then◌else◌, []}
 use Rattle.std.proofs.lemmas.List.{length-append, length-map}
 use Rattle.std.proofs.lemmas.Bool.{and_parts}
 use Rattle.vms_kinds.specs.declared.Item.{Item}
@@ -12,12 +12,12 @@ use Rattle.vms_spec.specs.declared.Place.{Place}
 use Rattle.vms_check.specs.Reducing.{presence}
 use Rattle.vms_check.specs.Comparing.{Entry, entry_of, present_from, same_rest, same_count, same_item, same_kind, same_constant, is_covered, holds_as_much, absent_hold, bound, names_match, Comparer, failing_pair, pair_rules, pair_structs, compare_fields}
 use Rattle.vms_check.specs.Carrying.{Carrier, no_carrier, defaults, carry_item, carry_items, carry_field, carry_next, carry_from, entries_left, default_field}
+use Rattle.vms_check.proofs.ListLaws.{passes}
 use Rattle.vms_check_laws.specs.Segments.{Holds}
 use Rattle.vms_check_laws.proofs.Segments.{holds_left, holds_right, holds_at}
 use Rattle.vms_spec.proofs.Prefixes.{ItemBelow, FieldsBelow}
 use Rattle.vms_spec.proofs.Sizes.{size_same, field_size}
 use Rattle.vms_spec.proofs.Faultless.{or_else_none}
-use Rattle.vms_check_laws.proofs.Pairing.{first_good}
 
 -- ---- pairs
 
@@ -66,14 +66,14 @@ module _ (ks : List Comparer) (a b : Desc) (v w : ℕ) (part part' : Part) (o n 
       ∷ (11, holds_as_much e.field.count f.field.count && absent_hold w f.index (bound e.field.item (counted e.index a.fields)) b.fields)
       ∷ (12, same_constant e.field.item f.field.item)
       ∷ []) p q ≡ None → CoveredBy e f ⊎ Matched e f
-  decode true e f p q is h = inl (record { covers = is; rest = (first_good 9 (same_rest o n e.rest f.rest) [] p q h).0 })
+  decode true e f p q is h = inl (record { covers = is; rest = (passes 9 (same_rest o n e.rest f.rest) [] p q h).0 })
   decode false e f p q is h =
-      let r7 = first_good 7 (same_count o n e.field.count f.field.count) _ p q h in
-      let r8 = first_good 8 (same_item e.field.item f.field.item) _ p q r7.1 in
-      let r9 = first_good 9 (same_rest o n e.rest f.rest) _ p q r8.1 in
-      let r10 = first_good 10 (names_match e.field f.field) _ p q r9.1 in
-      let r11 = first_good 11 (holds_as_much e.field.count f.field.count && absent_hold w f.index (bound e.field.item (counted e.index a.fields)) b.fields) _ p q r10.1 in
-      let r12 = first_good 12 (same_constant e.field.item f.field.item) [] p q r11.1 in
+      let r7 = passes 7 (same_count o n e.field.count f.field.count) _ p q h in
+      let r8 = passes 8 (same_item e.field.item f.field.item) _ p q r7.1 in
+      let r9 = passes 9 (same_rest o n e.rest f.rest) _ p q r8.1 in
+      let r10 = passes 10 (names_match e.field f.field) _ p q r9.1 in
+      let r11 = passes 11 (holds_as_much e.field.count f.field.count && absent_hold w f.index (bound e.field.item (counted e.index a.fields)) b.fields) _ p q r10.1 in
+      let r12 = passes 12 (same_constant e.field.item f.field.item) [] p q r11.1 in
       let both = and_parts (holds_as_much e.field.count f.field.count) (absent_hold w f.index (bound e.field.item (counted e.index a.fields)) b.fields) r11.0 in
       inr (record { count = r7.0; item = r8.0; rest = r9.0; room = both.0; absent = both.1; constant = r12.0 })
 

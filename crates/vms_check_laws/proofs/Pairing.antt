@@ -1,24 +1,19 @@
 -- The present fields of a description: their slots, and what is known of each.
-use Rattle.std.proofs.Common.{◌≡◌, ℕ, zero, suc, ◌+◌, Bool, true, false, ◌==◌, List, [], ◌∷◌, ◌++◌, length, get_or, map, Option, Some, None, refl, sym, ap, ◌∙◌, arith, ℤ, pos, if◌then◌else◌}
+use Rattle.std.proofs.Common.{◌≡◌, ℕ, zero, suc, ◌+◌, Bool, true, ◌==◌, List, ◌∷◌, ◌++◌, length, get_or, map, Option, Some, None, refl, sym, ap, ◌∙◌, arith, ℤ, pos, if◌then◌else◌, []}
 use Rattle.std.specs.List.{slice_get}
 use Rattle.std.proofs.lemmas.Bool.{eqb-true}
 use Rattle.vms_kinds.specs.declared.Kind.{Kind}
 use Rattle.vms_kinds.specs.declared.Kind.TheVariants.{U8, U16, U32, U64, I8, I16, I32, I64, Bool as Truth, Timer}
 use Rattle.vms_kinds.specs.Codes.{width, residue}
-use Rattle.vms_spec.specs.declared.Place.{Place}
 use Rattle.vms_spec.specs.Sets.{Formula, Field}
 use Rattle.vms_spec.specs.Layout.{Cell, Slot, Meaning, no_field, no_parent, counted, field_cells, cells_from, elements_of, times, item_slots, item_size, field_slots, slots_from, place_of, kind_of}
 use Rattle.vms_check.specs.Reducing.{presence}
-use Rattle.vms_check.specs.Comparing.{Entry, entry_of, present_from, same_kind, kind_number, failing_pair}
+use Rattle.vms_check.specs.Comparing.{Entry, entry_of, present_from, same_kind, kind_number}
 use Rattle.vms_check_laws.proofs.Presence.{there, presence_there}
 use Rattle.vms_check_laws.specs.Segments.{FitsAt}
 use Rattle.vms_check_laws.proofs.Segments.{fits_left, fits_right, fits_at}
 
 -- ---- tools
-
-pub first_good : (r : ℕ) (x : Bool) (rules : List (ℕ × Bool)) (p q : Place) → failing_pair ((r, x) ∷ rules) p q ≡ None → (x ≡ true) × (failing_pair rules p q ≡ None)
-first_good r true rules p q h = (refl, h)
-first_good r false rules p q h = cc
 
 unfoldable kind_at : ℕ → Kind
 kind_at k =

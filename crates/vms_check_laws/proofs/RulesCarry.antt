@@ -1,5 +1,5 @@
 -- Validations that hold in the older set hold in the newer, and premises over whole lists of fields.
-use Rattle.std.proofs.Common.{◌≡◌, ℕ, suc, ◌+◌, Bool, true, false, ◌||◌, List, [], ◌∷◌, ◌++◌, length, Option, Some, None, IsTrue, refl, sym, ◌∙◌, ℤ}
+use Rattle.std.proofs.Common.{◌≡◌, ℕ, suc, ◌+◌, Bool, true, false, List, ◌∷◌, ◌++◌, length, Option, Some, None, IsTrue, refl, sym, ◌∙◌, ℤ, ◌||◌, []}
 use Rattle.std.specs.List.{list_all, list_any}
 use Rattle.std.proofs.lemmas.Bool.{and_parts, and_from}
 use Rattle.vms_spec.specs.Sets.{Formula, Field, Desc}
@@ -11,10 +11,11 @@ use Rattle.vms_check.specs.Reducing.{presence, Reduced, Known, Open, reduced, tr
 use Rattle.vms_check.specs.Comparing.{Entry, entry_of, present_from, Comparer, compare_validations, is_kept, same_reduced}
 use Rattle.vms_check.specs.Carrying.{Carrier}
 use Rattle.vms_check.proofs.ReducedLaws.{reduced_holds}
+use Rattle.vms_check.proofs.ListLaws.{passes}
 use Rattle.vms_check_laws.proofs.SameTests.{Agree, presence_named, Named, named_left, same_reduced_truth}
 use Rattle.vms_check_laws.specs.Segments.{Carries}
 use Rattle.vms_check_laws.proofs.Segments.{carries_rule}
-use Rattle.vms_check_laws.proofs.Pairing.{first_good, cells_in, AreKnown}
+use Rattle.vms_check_laws.proofs.Pairing.{cells_in, AreKnown}
 use Rattle.vms_check_laws.proofs.Linking.{Linked}
 use Rattle.vms_check_laws.proofs.Premises.{Table, OldGood, NewGood, RulesNamed, OldFields, NewFields}
 use Rattle.vms_check_laws.proofs.FieldsCarry.{OldEntries, NewEntries}
@@ -72,7 +73,7 @@ module _ (ks : List Comparer) (cs : List Carrier) (ms ns : List Meaning) (a b : 
   pub rule_carries : compare_validations ks a b v w part part' o n ≡ None → RulesNamed ok b.validate → Agree o n ok own own'
       → Carries numbers (Rule (all_hold a.validate v own) ∷ []) numbers' (Rule (all_hold b.validate w own') ∷ [])
   rule_carries h named agree =
-      let every_is = (first_good 15 (list_all (λ t. is_kept ks a b v w part part' o n (reduced w t)) b.validate) [] (here part) (here part') h).0 in
+      let every_is = (passes 15 (list_all (λ t. is_kept ks a b v w part part' o n (reduced w t)) b.validate) [] (here part) (here part') h).0 in
       carries_rule numbers numbers' (all_hold a.validate v own) (all_hold b.validate w own')
       (λ r. is_true (all_hold b.validate w own') (rules_hold b.validate named agree (true_is (all_hold a.validate v own) r) every_is))
 

@@ -1,11 +1,12 @@
 -- Segments of numbers, and slots of one side whose bytes are those of the other's.
-use Rattle.std.proofs.Common.{◌≡◌, ℕ, ◌+◌, ◌<◌, List, [], ◌∷◌, ◌++◌, length, get_or, replicate, Bool, IsTrue, refl, sym, ap, ◌∙◌, subst, arith, append_assoc, ℤ, pos}
+use Rattle.std.proofs.Common.{◌≡◌, ℕ, ◌+◌, ◌<◌, List, ◌∷◌, ◌++◌, length, get_or, replicate, Bool, IsTrue, refl, sym, ap, ◌∙◌, subst, arith, append_assoc, ℤ, pos, []}
 use Rattle.std.proofs.lemmas.List.{length-append, get_or_append_left, get_or-append-add, append-nil}
 use Rattle.vms_kinds.specs.declared.Kind.{Kind}
 use Rattle.vms_kinds.specs.Codes.{code}
 use Rattle.vms_spec.specs.Layout.{Cell, no_cell, Slot, Number, Constant, Filler, Rule}
 use Rattle.vms_spec.specs.Images.{FitsCell, Spells, zeroed, RulesHold}
 use Rattle.vms_check_laws.specs.Segments.{Holds, FitsAt, Carries}
+use Rattle.vms_bodies.proofs.SpellLaws.{rules_append, spells_append}
 
 pub holds_left : (numbers : List ℤ) (at : ℕ) (xs ys : List ℤ) → Holds numbers at (xs ++ ys) → Holds numbers at xs
 holds_left numbers at xs ys h = record {
@@ -53,16 +54,6 @@ zeroed_append numbers (Constant kind z ∷ a) b = ap (λ (l : List ℕ). code ki
 zeroed_append numbers (Filler n ∷ a) b = ap (λ (l : List ℕ). replicate n 0 ++ l) (zeroed_append numbers a b) ∙ sym (append_assoc (replicate n 0) (zeroed numbers a) (zeroed numbers b))
 zeroed_append numbers (Rule r ∷ a) b = zeroed_append numbers a b
 
-spells_append : (numbers : List ℤ) (a b : List Slot) (x y : List ℕ) → Spells numbers a x → Spells numbers b y → Spells numbers (a ++ b) (x ++ y)
-spells_append numbers [] b x y s t = subst (λ (l : List ℕ). Spells numbers b (l ++ y)) (sym s) t
-spells_append numbers (Number c kind capacities ∷ a) b x y s t =
-    (s.0 ++ y, ap (λ (l : List ℕ). l ++ y) s.1 ∙ append_assoc (code kind (get_or numbers c (pos 0))) s.0 y, spells_append numbers a b s.0 y s.2 t)
-spells_append numbers (Constant kind z ∷ a) b x y s t =
-    (s.0 ++ y, ap (λ (l : List ℕ). l ++ y) s.1 ∙ append_assoc (code kind z) s.0 y, spells_append numbers a b s.0 y s.2 t)
-spells_append numbers (Filler n ∷ a) b x y s t =
-    (s.0, s.1 ++ y, s.2, ap (λ (l : List ℕ). l ++ y) s.3 ∙ append_assoc s.0 s.1 y, spells_append numbers a b s.1 y s.4 t)
-spells_append numbers (Rule r ∷ a) b x y s t = spells_append numbers a b x y s t
-
 pub rules_left : (a b : List Slot) → RulesHold (a ++ b) → RulesHold a
 rules_left [] b h = tt
 rules_left (Number c kind capacities ∷ a) b h = rules_left a b h
@@ -77,20 +68,13 @@ rules_right (Constant kind z ∷ a) b h = rules_right a b h
 rules_right (Filler n ∷ a) b h = rules_right a b h
 rules_right (Rule r ∷ a) b h = rules_right a b h.1
 
-pub rules_both : (a b : List Slot) → RulesHold a → RulesHold b → RulesHold (a ++ b)
-rules_both [] b h k = k
-rules_both (Number c kind capacities ∷ a) b h k = rules_both a b h k
-rules_both (Constant kind z ∷ a) b h k = rules_both a b h k
-rules_both (Filler n ∷ a) b h k = rules_both a b h k
-rules_both (Rule r ∷ a) b h k = (h.0, rules_both a b h.1 k)
-
 pub carries_nil : (x y : List ℤ) → Carries x [] y []
 carries_nil x y = record { spells = refl; rules = λ h. h }
 
 pub carries_append : (x y : List ℤ) (a b c d : List Slot) → Carries x a y b → Carries x c y d → Carries x (a ++ c) y (b ++ d)
 carries_append x y a b c d h k = record {
   spells = subst (λ (l : List ℕ). Spells y (b ++ d) l) (sym (zeroed_append x a c)) (spells_append y b d (zeroed x a) (zeroed x c) h.spells k.spells);
-  rules = λ r. rules_both b d (h.rules (rules_left a c r)) (k.rules (rules_right a c r));
+  rules = λ r. rules_append b d (h.rules (rules_left a c r)) (k.rules (rules_right a c r));
 }
 
 pub carries_number : (x y : List ℤ) (c d : ℕ) (k l : Kind) (p q : List ℕ) → k ≡ l → get_or x c (pos 0) ≡ get_or y d (pos 0) → Carries x (Number c k p ∷ []) y (Number d l q ∷ [])

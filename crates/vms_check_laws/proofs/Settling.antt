@@ -1,5 +1,5 @@
 -- Numbers that stand in the bytes, or are at their defaults.
-use Rattle.std.proofs.Common.{◌≡◌, ◌⊎◌, inl, inr, ℕ, ◌+◌, ◌-◌, ◌<◌, ◌≤◌, List, [], ◌∷◌, ◌++◌, length, get_or, refl, sym, ap, ◌∙◌, subst, arith, ℤ, pos, Bool, true, false, ◌||◌}
+use Rattle.std.proofs.Common.{◌≡◌, ◌⊎◌, inl, inr, ℕ, ◌+◌, ◌-◌, ◌<◌, ◌≤◌, List, ◌∷◌, ◌++◌, length, get_or, refl, sym, ap, ◌∙◌, subst, arith, ℤ, pos, Bool, true, false, [], ◌||◌}
 use Rattle.std.proofs.lemmas.List.{length-append, length-map, get_or_append_left, get_or-append-add}
 use Rattle.std.proofs.lemmas.Bool.{cases_lt, eq-eqb}
 use Rattle.vms_kinds.specs.declared.Kind.{Kind}
@@ -7,7 +7,7 @@ use Rattle.vms_kinds.specs.declared.Item.{Item}
 use Rattle.vms_kinds.specs.declared.Item.TheVariants.{Num, Equal, Unused, Struct}
 use Rattle.vms_spec.specs.Layout.{Cell, Slot, Number, item_cells}
 use Rattle.vms_spec.specs.Images.{has_cell}
-use Rattle.vms_bodies.proofs.Names.{names_append}
+use Rattle.vms_bodies.proofs.Names.{has_left, has_right}
 use Rattle.vms_check.specs.Carrying.{defaults}
 
 pub record Settled (slots : List Slot) (at : ℕ) (cells : List Cell) (segment : List ℤ) : Type 0 where
@@ -22,16 +22,6 @@ settled_empty slots at cells segment e = record { each = λ c lt. absurd (omega 
 defaults_append : (xs ys : List Cell) → defaults (xs ++ ys) ≡ defaults xs ++ defaults ys
 defaults_append [] ys = refl
 defaults_append (x ∷ xs) ys = ap (λ (l : List ℤ). x.default ∷ l) (defaults_append xs ys)
-
-or_right : (b c : Bool) → c ≡ true → (b || c) ≡ true
-or_right true c h = refl
-or_right false c h = h
-
-has_left : (s t : List Slot) (c : ℕ) → has_cell s c ≡ true → has_cell (s ++ t) c ≡ true
-has_left s t c h = names_append s t c ∙ ap (λ (b : Bool). b || has_cell t c) h
-
-has_right : (s t : List Slot) (c : ℕ) → has_cell t c ≡ true → has_cell (s ++ t) c ≡ true
-has_right s t c h = names_append s t c ∙ or_right (has_cell s c) (has_cell t c) h
 
 pub has_itself : (y : ℕ) (k : Kind) (caps : List ℕ) → has_cell (Number y k caps ∷ []) y ≡ true
 has_itself y k caps = ap (λ (b : Bool). b || false) (eq-eqb y y refl)

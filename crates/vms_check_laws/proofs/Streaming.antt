@@ -1,5 +1,5 @@
 -- Whole streams: each device's section is one of the newer set's, and the order takes each device once.
-use Rattle.std.proofs.Common.{◌≡◌, inl, inr, ℕ, zero, suc, ◌+◌, ◌<◌, ◌≤◌, Bool, true, false, ◌&&◌, ◌==◌, List, [], ◌∷◌, length, map, get_or, Option, Some, None, refl, sym, ap, ◌∙◌, subst, arith, if◌then◌else◌}
+use Rattle.std.proofs.Common.{◌≡◌, inl, inr, ℕ, zero, suc, ◌+◌, ◌<◌, ◌≤◌, Bool, true, false, ◌&&◌, ◌==◌, List, ◌∷◌, length, map, get_or, Option, Some, None, refl, sym, ap, ◌∙◌, subst, arith, if◌then◌else◌, []}
 use Rattle.std.specs.List.{slice_get, list_all}
 use Rattle.std.specs.Str.{bytes_eq}
 use Rattle.std.proofs.lemmas.Slice.Eq.{bytes_eq-Decides}
@@ -16,13 +16,13 @@ use Rattle.vms_spec.specs.WellFormed.{WellFormed, here}
 use Rattle.vms_check.specs.declared.mismatch.Mismatch.{Mismatch}
 use Rattle.vms_check.specs.Comparing.{Compatible, failing_pair, first_mismatch, comparing, compare_device, compare_subs, paired_device, is_found, is_in}
 use Rattle.vms_check.specs.Carrying.{carried, carried_device, carried_at, no_image}
+use Rattle.vms_check.proofs.ListLaws.{passes}
 use Rattle.vms_spec.proofs.WellFormedLaws.{device_found}
 use Rattle.vms_check_laws.specs.Laws.{ArePaired, DeviceLaw}
 use Rattle.vms_spec.proofs.Faultless.{or_else_none}
-use Rattle.vms_check_laws.proofs.Pairing.{first_good}
 use Rattle.vms_check_laws.proofs.Orders.{Among, NotIn, Apart, Wait, each_comes}
 use Rattle.vms_check_laws.proofs.SubFacts.{none_at, saved}
-use Rattle.vms_check_laws.proofs.Wholes.{section_whole}
+use Rattle.vms_check_laws.proofs.Wholes.{section_whole, at_map}
 
 -- ---- devices by name and instance
 
@@ -47,11 +47,6 @@ found_device k (d ∷ devices) name instance r h =
     ] in
     choice (bytes_eq d.desc.name name && d.instance == instance) refl h
 
-at_map : {A B : Type 0} (f : A → B) (xs : List A) (j : ℕ) (x : A) → slice_get xs j ≡ Some x → slice_get (map f xs) j ≡ Some (f x)
-at_map f [] j x e = absurd (cc)
-at_map f (y ∷ xs) zero x e = let same : y ≡ x = cc in ap (λ u. Some (f u)) same
-at_map f (y ∷ xs) (suc j) x e = at_map f xs j x e
-
 from_map : {A B : Type 0} (f : A → B) (xs : List A) (j : ℕ) (y : B) → slice_get (map f xs) j ≡ Some y → (x : A) × (slice_get xs j ≡ Some x)
 from_map f [] j y e = absurd (cc)
 from_map f (x ∷ xs) zero y e = (x, refl)
@@ -69,7 +64,7 @@ device_order new (d ∷ devices) = index (find_device 0 new.devices d.desc.name 
 pub device_stands : DeviceLaw
 device_stands old new good_old good_new i k d e paired image id saved lt =
     let p = or_else_none (failing_pair ((4, is_version_of e.desc d.desc.version) ∷ []) (here (parts.Device i)) (here (parts.Device k))) _ paired.rules in
-    let version = (first_good 4 (is_version_of e.desc d.desc.version) [] (here (parts.Device i)) (here (parts.Device k)) p.0).0 in
+    let version = (passes 4 (is_version_of e.desc d.desc.version) [] (here (parts.Device i)) (here (parts.Device k)) p.0).0 in
     let q = or_else_none (comparing old new d.desc e.desc d.desc.version (parts.Device i) (parts.Device k)) (first_answer (compare_subs old new i k e) 0 d.subs) p.1 in
     section_whole old new good_old good_new i k d e paired.in_old paired.in_new q.1 image saved (parts.Device i) (parts.Device k) q.0 version paired.names paired.instances id lt
 
@@ -91,7 +86,7 @@ module _ (old new : Set) (good_old : WellFormed old) (good_new : WellFormed new)
       let q = or_else_none (first_answer (λ i d. failing_pair ((2, is_in new d) ∷ []) (here (parts.Device i)) (here parts.Set)) 0 old.devices) _ p.1 in
       let r = or_else_none (first_answer (λ i d. failing_pair ((3, is_in old d) ∷ []) (here parts.Set) (here (parts.Device i))) 0 new.devices)
       (first_answer (λ i d. compared i d) 0 old.devices) q.1 in
-      record { machines = (first_good 1 (list_all (is_one_of new.machines) old.machines) [] (here parts.Set) (here parts.Set) p.0).0; olds = q.0; news = r.0; devices = r.1 }
+      record { machines = (passes 1 (list_all (is_one_of new.machines) old.machines) [] (here parts.Set) (here parts.Set) p.0).0; olds = q.0; news = r.0; devices = r.1 }
 
   -- the device of new that has the name and instance of old's device i
   pub record Pair (i : ℕ) (d : Device) : Type 0 where
@@ -103,11 +98,11 @@ module _ (old new : Set) (good_old : WellFormed old) (good_new : WellFormed new)
     pub instance_is : device.instance ≡ d.instance
     pub same : compare_device old new i d (Some number) (Some device) ≡ None
 
-  pair : (i : ℕ) (d : Device) → slice_get old.devices i ≡ Some d → Pair i d
+  pub pair : (i : ℕ) (d : Device) → slice_get old.devices i ≡ Some d → Pair i d
   pair i d e =
       let z : 0 + i ≡ i = omega arith in
       let h = none_at (λ i d. failing_pair ((2, is_in new d) ∷ []) (here (parts.Device i)) (here parts.Set)) 0 old.devices i d rules.olds e in
-      let is : is_found (find_device 0 new.devices d.desc.name d.instance) ≡ true = (first_good 2 (is_in new d) [] (here (parts.Device (0 + i))) (here parts.Set) h).0 in
+      let is : is_found (find_device 0 new.devices d.desc.name d.instance) ≡ true = (passes 2 (is_in new d) [] (here (parts.Device (0 + i))) (here parts.Set) h).0 in
       let some_k = found_some (find_device 0 new.devices d.desc.name d.instance) is in
       let f = found_device 0 new.devices d.desc.name d.instance some_k.0 some_k.1 in
       let k_is : f.0 ≡ some_k.0 = omega (arith, f.1) in
@@ -127,7 +122,7 @@ module _ (old new : Set) (good_old : WellFormed old) (good_new : WellFormed new)
         same = subst (λ (n : ℕ). compare_device old new n d (Some some_k.0) (Some f.2.device) ≡ None) z at_e;
       }
 
-  back : (i : ℕ) (d : Device) → slice_get old.devices i ≡ Some d → (p : Pair i d) → find_device 0 old.devices p.device.desc.name p.device.instance ≡ Some i
+  pub back : (i : ℕ) (d : Device) → slice_get old.devices i ≡ Some d → (p : Pair i d) → find_device 0 old.devices p.device.desc.name p.device.instance ≡ Some i
   back i d e p =
       ap (λ (n : List ℕ). find_device 0 old.devices n p.device.instance) p.name_is ∙ ap (λ (n : ℕ). find_device 0 old.devices d.desc.name n) p.instance_is
       ∙ device_found old good_old i d e
@@ -146,7 +141,7 @@ module _ (old new : Set) (good_old : WellFormed old) (good_new : WellFormed new)
       let x = from_map (λ (d : Device). false) new.devices k false waits in
       let e = x.0 in
       let h = none_at (λ i d. failing_pair ((3, is_in old d) ∷ []) (here parts.Set) (here (parts.Device i))) 0 new.devices k e rules.news x.1 in
-      let is : is_found (find_device 0 old.devices e.desc.name e.instance) ≡ true = (first_good 3 (is_in old e) [] (here parts.Set) (here (parts.Device (0 + k))) h).0 in
+      let is : is_found (find_device 0 old.devices e.desc.name e.instance) ≡ true = (passes 3 (is_in old e) [] (here parts.Set) (here (parts.Device (0 + k))) h).0 in
       let r = found_some (find_device 0 old.devices e.desc.name e.instance) is in
       let f = found_device 0 old.devices e.desc.name e.instance r.0 r.1 in
       let d = f.2.device in

@@ -1,5 +1,5 @@
 -- What two well-formed sets without a mismatch give for each subsection of new.
-use Rattle.std.proofs.Common.{◌≡◌, ◌⊎◌, inl, inr, ℕ, zero, suc, ◌+◌, ◌≤◌, Bool, true, false, List, [], ◌∷◌, length, get_or, Option, Some, None, refl, sym, ap, ◌∙◌, subst, arith, ℤ, pos, if◌then◌else◌, nat_le}
+use Rattle.std.proofs.Common.{◌≡◌, ◌⊎◌, inl, inr, ℕ, zero, suc, ◌+◌, ◌≤◌, Bool, true, false, List, ◌∷◌, length, get_or, Option, Some, None, refl, sym, ap, ◌∙◌, subst, arith, ℤ, pos, if◌then◌else◌, nat_le, []}
 use Rattle.std.specs.Str.{bytes_eq}
 use Rattle.std.specs.List.{flat_map, slice_get}
 use Rattle.std.proofs.lemmas.Slice.Eq.{bytes_eq-Decides}
@@ -15,12 +15,12 @@ use Rattle.vms_spec.specs.Readiness.{is_version_of}
 use Rattle.vms_spec.specs.WellFormed.{WellFormed, here}
 use Rattle.vms_check.specs.Comparing.{failing_pair, comparing, compare_sub, compare_subs}
 use Rattle.vms_check.specs.Carrying.{carried_sub, carry_sub, sub_came, defaults}
+use Rattle.vms_check.proofs.ListLaws.{passes}
 use Rattle.vms_spec.proofs.WellFormedLaws.{sub_found}
 use Rattle.vms_check_laws.specs.Laws.{IsSaved}
 use Rattle.vms_check_laws.specs.Segments.{FitsAt}
 use Rattle.vms_check_laws.proofs.Segments.{fits_left, fits_right, rules_left, rules_right}
 use Rattle.vms_spec.proofs.Faultless.{or_else_none}
-use Rattle.vms_check_laws.proofs.Pairing.{first_good}
 use Rattle.vms_check_laws.proofs.Good.{sub_good}
 use Rattle.vms_check_laws.proofs.Parts.{good_cells}
 use Rattle.vms_check_laws.proofs.Subsections.{Came, Stayed, Facts}
@@ -132,7 +132,7 @@ module _ (old new : Set) (good_old : WellFormed old) (good_new : WellFormed new)
       let at_l' : compare_sub old new i k j s (Some l) (slice_get e.subs l) ≡ None = subst (λ (r : Option ℕ). compare_sub old new i k j s r (slice_get e.subs (index r)) ≡ None) found at_s in
       let at_t : compare_sub old new i k j s (Some l) (Some t) ≡ None = subst (λ (r : Option Sub). compare_sub old new i k j s (Some l) r ≡ None) at_l at_l' in
       let p = or_else_none (failing_pair ((14, is_version_of t.desc s.desc.version) ∷ []) (here (parts.Sub i j)) (here (parts.Sub k l))) _ at_t in
-      ((first_good 14 (is_version_of t.desc s.desc.version) [] (here (parts.Sub i j)) (here (parts.Sub k l)) p.0).0, p.1)
+      ((passes 14 (is_version_of t.desc s.desc.version) [] (here (parts.Sub i j)) (here (parts.Sub k l)) p.0).0, p.1)
 
   abbrev pub came_is : (j l : ℕ) (s t : Sub) (v : ℕ) → slice_get d.subs j ≡ Some s → slice_get e.subs l ≡ Some t → s.desc.name ≡ t.desc.name → slice_get image.came j ≡ Some (Some v) → find_sub 0 d.subs t.desc.name ≡ Some j → Came old new good_old good_new d e image numbers' came_of t
   came_is j l s t v at_j at_l names at_came found =

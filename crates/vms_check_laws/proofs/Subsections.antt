@@ -1,5 +1,5 @@
 -- Subsections of a device: new's own list, each from old's of its name where it came.
-use Rattle.std.proofs.Common.{◌≡◌, ◌⊎◌, inl, inr, ℕ, zero, suc, ◌+◌, List, [], ◌∷◌, ◌++◌, length, map, Option, Some, None, refl, sym, ap, subst, ℤ}
+use Rattle.std.proofs.Common.{◌≡◌, ◌⊎◌, inl, inr, ℕ, zero, suc, ◌+◌, List, ◌∷◌, ◌++◌, length, map, Option, Some, None, refl, sym, ap, subst, ℤ, []}
 use Rattle.std.specs.List.{flat_map, slice_get}
 use Rattle.vms_spec.specs.declared.Part.{Part}
 use Rattle.vms_spec.specs.Sets.{Sub, Device, Set}
@@ -9,11 +9,12 @@ use Rattle.vms_spec.specs.WellFormed.{WellFormed}
 use Rattle.vms_check.specs.Comparing.{comparing}
 use Rattle.vms_check.specs.Carrying.{carrying, carried_sub, defaults}
 use Rattle.vms_check_laws.specs.Segments.{Holds, FitsAt, Carries}
-use Rattle.vms_check_laws.proofs.Segments.{holds_left, holds_right, holds_at, rules_both}
+use Rattle.vms_check_laws.proofs.Segments.{holds_left, holds_right, holds_at}
 use Rattle.vms_check_laws.proofs.Settling.{Settled, settled_defaults, settled_append, settled_empty, settled_at}
 use Rattle.vms_check_laws.proofs.Fitting.{FitCells, GoodCells, fit_append, fit_defaults, fit_length}
 use Rattle.vms_check_laws.proofs.Good.{DescGood}
 use Rattle.vms_check_laws.proofs.Parts.{part_carries, part_fits, part_settles}
+use Rattle.vms_bodies.proofs.SpellLaws.{rules_append}
 
 module _ (old new : Set) (good_old : WellFormed old) (good_new : WellFormed new) (d e : Device) (image : Image) (numbers' : List ℤ) (came_of : Sub → Option ℕ) where
   abbrev cells_of : Sub → List Cell
@@ -86,7 +87,7 @@ module _ (old new : Set) (good_old : WellFormed old) (good_new : WellFormed new)
       → RulesHold (came_slots new e numbers' place (t ∷ ts) (came_of t ∷ map came_of ts))
   one_rule t ts place (inl s) held h = subst (λ (o : Option ℕ). RulesHold (came_slots new e numbers' place (t ∷ ts) (o ∷ map came_of ts))) (sym s.came) h
   one_rule t ts place (inr c) held h = subst (λ (o : Option ℕ). RulesHold (came_slots new e numbers' place (t ∷ ts) (o ∷ map came_of ts))) (sym c.came)
-      (rules_both (sub_slots new t c.version numbers' place) (came_slots new e numbers' (place + length (cells_of t)) ts (map came_of ts)) ((sub_carries t c place held).rules c.rules) h)
+      (rules_append (sub_slots new t c.version numbers' place) (came_slots new e numbers' (place + length (cells_of t)) ts (map came_of ts)) ((sub_carries t c place held).rules c.rules) h)
 
   next_place : (t : Sub) (ts : List Sub) (place : ℕ) → Stayed t ⊎ Came t → Holds numbers' place (flat_map carried_of (t ∷ ts)) → Holds numbers' (place + length (cells_of t)) (flat_map carried_of ts)
   next_place t ts place f held =

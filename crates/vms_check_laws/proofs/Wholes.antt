@@ -1,5 +1,5 @@
 -- A device with subsections: what the older set writes is a section of the newer with the carried image.
-use Rattle.std.proofs.Common.{◌≡◌, ◌⊎◌, inl, inr, ℕ, zero, suc, ◌+◌, ◌<◌, true, false, List, [], ◌∷◌, ◌++◌, length, map, get_or, Option, Some, None, refl, sym, ap, ◌∙◌, subst, arith, ℤ, pos}
+use Rattle.std.proofs.Common.{◌≡◌, ◌⊎◌, inl, inr, ℕ, zero, suc, ◌+◌, ◌<◌, true, false, List, ◌∷◌, ◌++◌, length, map, get_or, Option, Some, None, refl, sym, ap, ◌∙◌, subst, arith, ℤ, pos, []}
 use Rattle.std.specs.List.{flat_map, slice_get}
 use Rattle.vms_spec.specs.declared.Part.{Part}
 use Rattle.vms_spec.specs.Lists.{first_answer}
@@ -16,9 +16,10 @@ use Rattle.vms_check.specs.Carrying.{carrying, carried_sub, carried_device, defa
 use Rattle.vms_spec.proofs.WellFormedLaws.{sub_found}
 use Rattle.vms_bodies.proofs.SectionLaws.{defaults_at}
 use Rattle.vms_bodies.proofs.ReadyLaws.{version_is}
+use Rattle.vms_bodies.proofs.SpellLaws.{rules_append}
 use Rattle.vms_check_laws.specs.Laws.{IsSaved}
 use Rattle.vms_check_laws.specs.Segments.{Holds, FitsAt}
-use Rattle.vms_check_laws.proofs.Segments.{holds_left, holds_right, holds_at, fits_left, rules_left, rules_both}
+use Rattle.vms_check_laws.proofs.Segments.{holds_left, holds_right, holds_at, fits_left, rules_left}
 use Rattle.vms_check_laws.proofs.Settling.{Settled, settled_append, settled_at}
 use Rattle.vms_check_laws.proofs.Fitting.{fit_append, fit_length, are_fit}
 use Rattle.vms_check_laws.proofs.Good.{device_good}
@@ -27,7 +28,7 @@ use Rattle.vms_check_laws.proofs.Orders.{Among, NotIn, Apart, Come, comes_once}
 use Rattle.vms_check_laws.proofs.Subsections.{Came, Facts, subs_fit, subs_versions, subs_rules, subs_settle, sub_held, sub_carries}
 use Rattle.vms_check_laws.proofs.SubFacts.{none_at, found_named, fits_whole, came_of, came_is, facts}
 
-at_map : {A B : Type 0} (f : A → B) (xs : List A) (j : ℕ) (x : A) → slice_get xs j ≡ Some x → slice_get (map f xs) j ≡ Some (f x)
+pub at_map : {A B : Type 0} (f : A → B) (xs : List A) (j : ℕ) (x : A) → slice_get xs j ≡ Some x → slice_get (map f xs) j ≡ Some (f x)
 at_map f [] j x e = absurd (cc)
 at_map f (y ∷ xs) zero x e = let same : y ≡ x = cc in ap (λ u. Some (f u)) same
 at_map f (y ∷ xs) (suc j) x e = at_map f xs j x e
@@ -275,7 +276,7 @@ module _ (old new : Set) (good_old : WellFormed old) (good_new : WellFormed new)
               absent_default (slots ++ more) c
               (subst (λ (q : ℕ). (has_cell (slots ++ more) q ≡ true) ⊎ (get_or numbers' c (pos 0) ≡ get_or (defaults (device_cells new e)) c (pos 0))) z (settled.each c below)) absent;
         };
-        valid = rules_both slots more (carries.rules rules_old) (subs_rules old new good_old good_new d e image numbers' came e.subs (own_cells new e) all_facts held_rest);
+        valid = rules_append slots more (carries.rules rules_old) (subs_rules old new good_old good_new d e image numbers' came e.subs (own_cells new e) all_facts held_rest);
         body = body;
         own = carries.spells;
         order = sub_order e d.subs image.came;

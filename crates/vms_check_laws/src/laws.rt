@@ -1,5 +1,6 @@
-//! Each law is the contract of a function without a body. The statements stand in `specs/Positions.antt`, `specs/Fronts.antt`
-//! and `specs/Laws.antt`.
+//! Each law is the contract of a function without a body. The statements stand in `specs/Positions.antt`, `specs/Fronts.antt`,
+//! `specs/Laws.antt` and `specs/CellLaws.antt`.
+ghost use Rattle.vms_check_laws.specs.CellLaws.{CarriedLaw, PartnersLaw};
 ghost use Rattle.vms_check_laws.specs.Fronts.{AlignedLaw};
 ghost use Rattle.vms_check_laws.specs.Laws.{DeviceLaw, UpgradeLaw};
 ghost use Rattle.vms_check_laws.specs.Positions.{PositionLaw};
@@ -30,4 +31,18 @@ pub fn device_law()
 #[tactic(auto)]
 pub fn upgrade_law()
     ensures { UpgradeLaw }
+{}
+
+/// For well-formed sets each cell of an older device has at most one partner in a newer device, which is of its kind,
+/// and no two have the same.
+#[tactic(auto)]
+pub fn partners_law()
+    ensures { PartnersLaw }
+{}
+
+/// What is carried is said cell by cell: each newer cell holds the number of its partner where that stands in the
+/// bytes, else its default.
+#[tactic(auto)]
+pub fn carried_law()
+    ensures { CarriedLaw }
 {}

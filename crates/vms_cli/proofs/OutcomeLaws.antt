@@ -1,11 +1,12 @@
 -- Each call has one outcome, and what can be done is done.
-use Rattle.std.proofs.Common.{◌≡◌, ℕ, zero, suc, ◌+◌, ◌<◌, ◌≤◌, ◌⊎◌, List, [], ◌∷◌, length, length-append, take, Option, Some, None, Ok, Err, IsSomeAnd, refl, sym, ap, ◌∙◌, subst, arith, inl, inr}
+use Rattle.std.proofs.Common.{◌≡◌, ℕ, zero, suc, ◌+◌, ◌<◌, ◌≤◌, ◌⊎◌, List, ◌∷◌, length, length-append, take, Option, Some, None, Ok, Err, IsSomeAnd, refl, sym, ap, ◌∙◌, subst, arith, inl, inr, []}
 use Rattle.std.proofs.lemmas.List.{length-take}
 use Rattle.std.specs.Io.KnownBytes.{Appends}
+use Rattle.std.proofs.lemmas.Option.{none-some}
 use Rattle.vms_io.specs.Causes.{Rose, AppendsPrefix, KeepsPromise}
 use Rattle.vms_io.specs.Shelves.{Held}
 use Rattle.vms_io.specs.Told.{Outlet}
-use Rattle.vms_spec.specs.Numbers.{IsBytes}
+use Rattle.vms_kinds.specs.Bytes.{IsBytes}
 use Rattle.vms_spec.specs.Values.{values_text}
 use Rattle.vms_spec.specs.Images.{Image}
 use Rattle.vms_spec.specs.Good.{IsFit}
@@ -78,10 +79,7 @@ one_answered set fit input held ok (Faulty place section reason size fault) = re
 }
 
 one_by : (s : Step Set) (input : List ℕ) (held : Held) → IsBytes input → IsStepSound (Some held) s → FitStep s → OneShown s input held
-one_by Untold input held ok sound fit = absurd (some_none held sound)
-  where
-    some_none : (map : Held) → Some map ≡ None → ⊥
-    some_none map e = cc
+one_by Untold input held ok sound fit = absurd (none-some {A = Held} held (sym sound))
 one_by (Gives set) input held ok sound fit = one_answered set fit input held ok (either_holds set set.machines fit.well fit.heads input ok)
 one_by (Ends status line) input held ok sound fit = record { outcome = ended status line 0; is = refl; only = λ other e. e }
 
@@ -110,10 +108,7 @@ one_saved level set script input held =
 -- ---- the outcome of `load`
 
 one_loads : (level : ℕ) (s : Step (List ScriptLine)) (input : List ℕ) (held : Held) → IsBytes input → IsStepSound (Some held) s → OneLoads level s input held
-one_loads level Untold input held ok sound = absurd (some_none held sound)
-  where
-    some_none : (map : Held) → Some map ≡ None → ⊥
-    some_none map e = cc
+one_loads level Untold input held ok sound = absurd (none-some {A = Held} held (sym sound))
 one_loads level (Ends status line) input held ok sound = record { outcome = ended status line 0; is = refl; only = λ other e. e }
 one_loads level (Gives lines) input held ok sound =
     let one = loads_one level lines input (Some held) ok in
@@ -147,10 +142,7 @@ record OnePlays (level : ℕ) (step : Step (List ScriptLine)) (held : Held) : Ty
   only : (other : Outcome) → PlaysBy level step (Some held) other → other ≡ outcome
 
 one_plays : (level : ℕ) (s : Step (List ScriptLine)) (held : Held) → AreStepLines level s → IsLevel level → HoldsAll held → IsStepSound (Some held) s → OnePlays level s held
-one_plays level Untold held are is holds sound = absurd (some_none held sound)
-  where
-    some_none : (map : Held) → Some map ≡ None → ⊥
-    some_none map e = cc
+one_plays level Untold held are is holds sound = absurd (none-some {A = Held} held (sym sound))
 one_plays level (Ends status line) held are is holds sound = record { outcome = ended status line 0; is = refl; only = λ other e. e }
 one_plays level (Gives lines) held are is holds sound =
     let end = has_end level lines held is are holds in

@@ -1,10 +1,10 @@
 -- From what a reading and a write say to how `pack` ends.
-use Rattle.std.proofs.Common.{◌≡◌, ℕ, zero, suc, ◌<◌, List, [], ◌∷◌, length, get_or, map, Option, Some, None, Ok, Err, refl, sym, ap, ◌∙◌, subst, arith}
+use Rattle.std.proofs.Common.{◌≡◌, ℕ, ◌<◌, List, length, map, Option, Some, None, Ok, Err, refl, sym, ap, ◌∙◌, subst, arith, []}
 use Rattle.std.specs.Option.{ForSome}
 use Rattle.std.specs.Prelude.{string_bytes}
-use Rattle.std.specs.List.{slice_get}
 use Rattle.std.specs.declared.string.String.{String}
 use Rattle.std.specs.declared.alloc.Global.{Global}
+use Rattle.std.proofs.lemmas.Option.{slice_get-get_or}
 use Rattle.vms_io.specs.Shelves.{Held}
 use Rattle.vms_io.specs.Told.{Outlet}
 use Rattle.vms_spec.specs.Lists.{at_option}
@@ -41,15 +41,10 @@ ready_of set fit text (Bad line reason) v e reads = absurd reads
 pub read_ready : (set : Set) → IsFit set → (text : List ℕ) (v : Given) → ReadsAs set (values_read set text) (Ok v) → AreReady set (map state_of v.images.items)
 read_ready set fit text v reads = ready_of set fit text (values_read set text) v refl reads
 
-at_is : {X : Type 0} (xs : List X) (k : ℕ) (d : X) → k < length xs → slice_get xs k ≡ Some (get_or xs k d)
-at_is [] k d l = absurd (omega (arith, l))
-at_is (x ∷ xs) zero d l = refl
-at_is (x ∷ xs) (suc k) d l = at_is xs k d (omega (arith, l))
-
 -- the machine of a number
 named : (set : Set) (machine : Option ℕ) → ForSome machine (λ m. m < length set.machines) → at_option set.machines machine ≡ machine_of set machine
 named set None h = refl
-named set (Some m) h = at_is set.machines m [] (h m refl)
+named set (Some m) h = slice_get-get_or set.machines m [] (h m refl)
 
 -- a text that was read, and a write of its stream
 read_by : (set : Set) (r : ValuesRead) (v : Given) (o o' : Outlet) (e : Ending) → ReadsAs set r (Ok v)

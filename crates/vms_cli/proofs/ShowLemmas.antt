@@ -1,14 +1,14 @@
 -- From what a load and a write say to how `show` ends.
-use Rattle.std.proofs.Common.{◌≡◌, ℕ, suc, ◌+◌, ◌<◌, ◌≤◌, Bool, true, List, [], ◌∷◌, ◌++◌, append-nil, length, get_or, map, drop, Option, Some, None, Ok, Err, IfSome, IsSomeAnd, refl, sym, ap, ◌∙◌, subst, arith}
+use Rattle.std.proofs.Common.{◌≡◌, ℕ, suc, ◌+◌, ◌<◌, ◌≤◌, Bool, true, List, ◌∷◌, ◌++◌, append-nil, length, get_or, map, drop, Option, Some, None, Ok, Err, IfSome, IsSomeAnd, refl, sym, ap, ◌∙◌, subst, arith, []}
 use Rattle.std.proofs.lemmas.List.{length-map, get_or-map}
 use Rattle.std.specs.Option.{ForSome}
+use Rattle.std.proofs.lemmas.Option.{same_Some}
 use Rattle.arrayvec.specs.ArrayVec.{ArrayVec}
 use Rattle.vms_io.specs.Causes.{capped}
 use Rattle.vms_io.specs.Shelves.{Held}
 use Rattle.vms_io.specs.Told.{Intake, Outlet, Stock}
 use Rattle.vms_spec.specs.declared.Reason.{Reason}
-use Rattle.vms_spec.specs.Numbers.{IsBytes}
-use Rattle.vms_spec.specs.Heads.{FitsHeads}
+use Rattle.vms_kinds.specs.Bytes.{IsBytes}
 use Rattle.vms_spec.specs.Layout.{no_desc}
 use Rattle.vms_spec.specs.Sets.{Device, Set}
 use Rattle.vms_spec.specs.Images.{Image}
@@ -21,7 +21,6 @@ use Rattle.vms_frames.specs.declared.fault.Refusal.{Refusal}
 use Rattle.vms_load.specs.Loads.{Loads}
 use Rattle.vms_load.specs.Staging.{IsMachine, AreShaped, no_image, name_of, accepted_of, most_given}
 use Rattle.vms_load.proofs.Bounding.{most_small}
-use Rattle.vms_load.proofs.SetFacts.{well_of}
 use Rattle.vms_load.specs.declared.fault.LoadFault.{LoadFault}
 use Rattle.vms_load.specs.declared.fault.LoadFault.TheVariants as faults
 use Rattle.vms_desc.specs.Described.{device_at}
@@ -39,7 +38,7 @@ use Rattle.vms_commands.specs.Steps.{Step, Untold, Gives, Ends}
 use Rattle.vms_commands.proofs.EndLemmas.{text_written}
 use Rattle.vms_load.proofs.ExactLoads.{heard_holds}
 use Rattle.vms_load.specs.Hearing.{HearsLoad}
-use Rattle.vms_board_commands.proofs.HeardLemmas.{IsOther, all_of, all_taken, some-is, written_end}
+use Rattle.vms_board_commands.proofs.HeardLemmas.{IsOther, all_of, all_taken, written_end}
 use Rattle.vms_board_commands.specs.Heard.{Hears, HearsEnd}
 use Rattle.vms_cli.specs.Show.{GivesWithin, Shows, ShowsWell, Values, Refuses, most_of_all}
 
@@ -53,10 +52,6 @@ same_machine set (Some m) = refl
 -- the outcome under a set, where so much of the input is told
 abbrev pub shows_under : Option (List ℕ) → Option Held → Set → Outcome → Type 0
 shows_under input held set x = IsSomeAnd input (λ bytes. Shows set bytes held x)
-
--- what the laws of streams ask of a set
-pub fit_of : (set : Set) → is_well_formed set ≡ true → FitsHeads set → IsFit set
-fit_of set well heads = record { well = well_of set well; heads = heads }
 
 -- the outcome of an input that takes a stream
 pub shown_is : (set : Set) → IsFit set → (bytes : List ℕ) (held : Option Held) (taken : ℕ) (machine : Option (List ℕ)) (images : List Image) (x : Outcome) → IsBytes bytes
@@ -185,7 +180,7 @@ heard_shown set fit held before now o o' images taken machine e h w =
     let said = h.says [] refl in
     let name = machine_of set machine in
     let takes : Takes set set.machines (h.bytes ++ []) taken name images = subst (λ (m : Option (List ℕ)). Takes set set.machines (h.bytes ++ []) taken m images) (same_machine set machine) said.0 in
-    let none : [] ≡ drop taken (h.bytes ++ []) = some-is [] (drop taken (h.bytes ++ [])) said.1 in
+    let none : [] ≡ drop taken (h.bytes ++ []) = same_Some [] (drop taken (h.bytes ++ [])) said.1 in
     let here : Takes set set.machines h.bytes taken name images = subst (λ (l : List ℕ). Takes set set.machines l taken name images) (append-nil h.bytes) takes in
     written_end (ShowsWell held set) held h.bytes (values_text set name images) taken before now o o' e
     (fit.well, Values taken name images here) (all_taken set set.machines h.bytes taken name images takes none) h.given w

@@ -4,7 +4,7 @@ use Rattle.vms_io.specs.Causes.{KeepsPromise}
 use Rattle.vms_io.specs.Shelves.{Held}
 use Rattle.vms_io.specs.Told.{Outlet}
 use Rattle.vms_spec.specs.Images.{Image}
-use Rattle.vms_spec.specs.Numbers.{IsBytes}
+use Rattle.vms_kinds.specs.Bytes.{IsBytes}
 use Rattle.vms_spec.specs.Streams.{AreReady, is_one_of, written}
 use Rattle.vms_spec.specs.ValuesReading.{Values, values_read}
 use Rattle.vms_stream.specs.Streams.{Takes}

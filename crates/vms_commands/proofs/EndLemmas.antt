@@ -1,7 +1,8 @@
 -- From how a command ends and why to what the call does.
-use Rattle.std.proofs.Common.{append-nil, ◌≡◌, ◌⊎◌, ℕ, ◌<◌, ◌^◌, List, [], drop, Option, Some, None, IfSome, refl, sym, ap, ◌∙◌, subst, arith, inl, inr}
+use Rattle.std.proofs.Common.{append-nil, ◌≡◌, ◌⊎◌, ℕ, ◌<◌, ◌^◌, List, drop, Option, Some, None, IfSome, refl, sym, ap, ◌∙◌, subst, arith, inl, inr, []}
 use Rattle.std.specs.Io.KnownBytes.{Appends, Keeps}
 use Rattle.std.specs.Prelude.{string_bytes}
+use Rattle.std.proofs.KnownBytes.{Keeps-refl}
 use Rattle.vms_io.specs.Causes.{AppendsPrefix, Rose}
 use Rattle.vms_io.specs.Told.{Intake, Outlet, Stock}
 use Rattle.vms_commands.specs.declared.ending.Ending.{Ending}
@@ -16,12 +17,8 @@ kept_none None new h = tt
 kept_none (Some xs) None h = absurd h
 kept_none (Some xs) (Some ys) h = h ∙ sym (append-nil xs)
 
-pub keeps_same : (o : Option (List ℕ)) → Keeps o o
-keeps_same None = tt
-keeps_same (Some bytes) = refl
-
 pub same_keeps : (o o' : Outlet) → o' ≡ o → Keeps o.written o'.written
-same_keeps o o' e = subst (λ (x : Outlet). Keeps o.written x.written) (sym e) (keeps_same o.written)
+same_keeps o o' e = subst (λ (x : Outlet). Keeps o.written x.written) (sym e) (Keeps-refl o.written)
 
 -- nothing was begun
 pub comes_to_nothing : (o o' : Outlet) (s s' : Stock) (parts : List Part) → Keeps o.written o'.written → s'.held ≡ s.held → ComesTo o o' s s' parts
@@ -31,15 +28,15 @@ comes_to_nothing o o' s s' parts keeps held = record { begun = 0; bytes = 0; tex
 pub quiet_same : (o : Outlet) (e : Ending) → Quiet o o e
 quiet_same o Done = tt
 quiet_same o WriteFault = tt
-quiet_same o (Refused line) = keeps_same o.written
-quiet_same o BadWords = keeps_same o.written
-quiet_same o (BadText line) = keeps_same o.written
-quiet_same o (NotCompatible line) = keeps_same o.written
-quiet_same o ReadFault = keeps_same o.written
-quiet_same o ShelfFault = keeps_same o.written
-quiet_same o (NotThere line) = keeps_same o.written
-quiet_same o (TooLarge line) = keeps_same o.written
-quiet_same o NoMemory = keeps_same o.written
+quiet_same o (Refused line) = Keeps-refl o.written
+quiet_same o BadWords = Keeps-refl o.written
+quiet_same o (BadText line) = Keeps-refl o.written
+quiet_same o (NotCompatible line) = Keeps-refl o.written
+quiet_same o ReadFault = Keeps-refl o.written
+quiet_same o ShelfFault = Keeps-refl o.written
+quiet_same o (NotThere line) = Keeps-refl o.written
+quiet_same o (TooLarge line) = Keeps-refl o.written
+quiet_same o NoMemory = Keeps-refl o.written
 
 -- nothing is taken of an input
 nothing_left : (left : Option (List ℕ)) → IfSome left (λ bytes. left ≡ Some (drop 0 bytes))

@@ -1,6 +1,5 @@
 -- How long the parts of a line are.
-use Rattle.std.proofs.Common.{◌≡◌, ℕ, zero, suc, ◌<◌, ◌≤◌, List, [], ◌∷◌, length, None, refl, arith}
-use Rattle.std.specs.List.{slice_get}
+use Rattle.std.proofs.Common.{ℕ, ◌<◌, ◌≤◌, length, arith}
 use Rattle.std.specs.Fmt.{decimal}
 use Rattle.std.proofs.lemmas.Fmt.{length-decimal-le}
 use Rattle.vms_spec.specs.declared.Reason.{Reason}
@@ -37,9 +36,3 @@ reason_short reasons.MissingSection = omega arith
 reason_short reasons.LinesDisagree = omega arith
 reason_short reasons.Trailing = omega arith
 reason_short reasons.DescriptionTooLong = omega arith
-
--- no device has a number past the last
-pub none_past : {X : Type 0} (xs : List X) (k : ℕ) → length xs ≤ k → slice_get xs k ≡ None
-none_past [] k le = refl
-none_past (x ∷ xs) zero le = absurd (omega (arith, le))
-none_past (x ∷ xs) (suc k) le = none_past xs k (omega (arith, le))

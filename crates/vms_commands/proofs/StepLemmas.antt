@@ -3,6 +3,7 @@ use Rattle.std.proofs.Common.{append-nil, ◌≡◌, ℕ, ◌<◌, ◌^◌, Bool
 use Rattle.std.proofs.lemmas.Bool.{leb-false}
 use Rattle.std.specs.Prelude.{string_bytes}
 use Rattle.std.specs.Io.KnownBytes.{Appends}
+use Rattle.std.proofs.lemmas.Option.{none-some}
 use Rattle.vms_io.specs.Shelves.{Held}
 use Rattle.vms_io.specs.Told.{Intake, Outlet, Stock}
 use Rattle.vms_descfile.specs.Files.{Said, Parts, Syntax, Shape, IllFormed, file_said}
@@ -258,10 +259,7 @@ pub record OneText (held : Held) (s : Step (List ℕ)) : Type 0 where
   pub only : (other : Outcome) → HasText (Some held) s other → other ≡ outcome
 
 pub one_text : (held : Held) (s : Step (List ℕ)) → IsSound (Some held) s → OneText held s
-one_text held Untold sound = absurd (some_none held sound)
-  where
-    some_none : (map : Held) → Some map ≡ None → ⊥
-    some_none map e = cc
+one_text held Untold sound = absurd (none-some {A = Held} held (sym sound))
 one_text held (Gives text) sound = record { outcome = done text (Some held) 0; is = refl; only = λ other has. has }
 one_text held (Ends status line) sound = record { outcome = ended status line 0; is = refl; only = λ other has. has }
 

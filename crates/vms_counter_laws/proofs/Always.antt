@@ -1,10 +1,8 @@
 -- The defaults show three kinds of mismatch, where they are ready.
-use Rattle.std.proofs.Common.{◌≡◌, inl, inr, ℕ, zero, suc, ◌+◌, ◌^◌, ◌<◌, ◌≤◌, Bool, true, false, List, [], ◌∷◌, ◌++◌, length, map, get_or, Option, Some, None, refl, sym, ap, ◌∙◌, subst, arith, append_assoc, append-nil, ℤ, pos, ◌==◌, if◌then◌else◌}
+use Rattle.std.proofs.Common.{◌≡◌, inl, inr, ℕ, ◌+◌, ◌^◌, ◌<◌, ◌≤◌, Bool, true, false, List, [], ◌++◌, length, map, get_or, Option, Some, None, refl, sym, ap, ◌∙◌, subst, arith, append_assoc, append-nil, ℤ, pos, ◌==◌, if◌then◌else◌}
 use Rattle.std.specs.List.{flat_map, slice_get, list_all}
-use Rattle.std.specs.Option.{option_map}
-use Rattle.std.proofs.lemmas.Option.{slice_get-map}
 use Rattle.vms_spec.specs.declared.Part.TheVariants as parts
-use Rattle.vms_spec.specs.Numbers.{IsBytes}
+use Rattle.vms_kinds.specs.Bytes.{IsBytes}
 use Rattle.vms_spec.specs.Sets.{Field, Device, Set}
 use Rattle.vms_spec.specs.Heads.{FitsHeads}
 use Rattle.vms_spec.specs.Layout.{no_cell, struct_cells, desc_cells, device_cells}
@@ -17,7 +15,7 @@ use Rattle.vms_spec.proofs.Faultless.{few_devices, machine_short}
 use Rattle.vms_bodies.specs.Whole.{reading_on}
 use Rattle.vms_bodies.proofs.ComeLaws.{falses, defaults_of}
 use Rattle.vms_bodies.proofs.ReadyLaws.{is_version}
-use Rattle.vms_bodies.proofs.SpellLaws.{is_bytes_rest}
+use Rattle.vms_kinds.proofs.ByteLemmas.{bytes_rest}
 use Rattle.vms_spec.proofs.WellFormedLaws.{well_good, device_found}
 use Rattle.vms_stream.specs.SoFar.{Unknown}
 use Rattle.vms_stream.specs.Dues.{AtMagic, AtVersion}
@@ -32,6 +30,7 @@ use Rattle.vms_check.specs.Comparing.{compare_device, compare_fields, comparers,
 use Rattle.vms_check_laws.specs.Segments.{FitsAt}
 use Rattle.vms_check_laws.proofs.Segments.{fits_left}
 use Rattle.vms_check_laws.proofs.AlignedWholes.{devices_clash}
+use Rattle.vms_check_laws.proofs.Wholes.{at_map}
 use Rattle.vms_counter_laws.specs.Candidates.{default_images, lacking, machine_for}
 use Rattle.vms_counter_laws.specs.Counters.{stream_of, Shows}
 use Rattle.vms_counter_laws.specs.Laws.{IsPlain, AlwaysShown, OfMachine, OfVersion, OfConstant}
@@ -40,9 +39,6 @@ use Rattle.vms_counter_laws.proofs.Devices.{Pair, pair, compared, Comes, comes}
 use Rattle.vms_counter_laws.proofs.Heads.{same_head}
 use Rattle.vms_counter_laws.proofs.Clashing.{present_fields, clashes}
 use Rattle.vms_counter_laws.proofs.Machines.{lacks, machine_untaken}
-
-mapped : {A B : Type 0} (f : A → B) (xs : List A) (j : ℕ) (x : A) → slice_get xs j ≡ Some x → slice_get (map f xs) j ≡ Some (f x)
-mapped f xs j x e = slice_get-map f xs j ∙ ap (option_map f) e
 
 module _ (old new : Set) (good_old : WellFormed old) (good_new : WellFormed new) (heads_old : FitsHeads old) (heads : FitsHeads new) (ready : AreReady old (default_images old)) where
   abbrev images : List Image
@@ -83,7 +79,7 @@ module _ (old new : Set) (good_old : WellFormed old) (good_new : WellFormed new)
     image = default_image old d
 
     image_ready : IsReady old d image
-    image_ready = ready.ready i d image fails.answers.stands (mapped (default_image old) old.devices i d fails.answers.stands)
+    image_ready = ready.ready i d image fails.answers.stands (at_map (default_image old) old.devices i d fails.answers.stands)
 
     abbrev compare_at : ℕ → Option Mismatch
     compare_at k = compared old new good_old good_new heads fails.all_in k d
@@ -101,10 +97,10 @@ module _ (old new : Set) (good_old : WellFormed old) (good_new : WellFormed new)
         subst (λ (k : ℕ). Comes old new good_old good_new heads fails.all_in d image k) z
         (comes old new good_old good_new heads fails.all_in new.machines n r.0 (end_mark ++ []) i 0 old.devices images
         (λ j. let s : 0 + j ≡ j = omega arith in ap (λ (k : ℕ). slice_get old.devices k) s) (omega (arith, few_devices old good_old))
-        ready.ready (λ j u lt e. fails.answers.before j u lt e) d image fails.answers.stands (mapped (default_image old) old.devices i d fails.answers.stands)
+        ready.ready (λ j u lt e. fails.answers.before j u lt e) d image fails.answers.stands (at_map (default_image old) old.devices i d fails.answers.stands)
         (map (default_image new) new.devices) (map (λ (d : Device). false) new.devices) Unknown true false (defaults_of new new.devices) (falses new.devices)
-        (λ j u q le e. mapped (λ (d : Device). false) new.devices q.number q.device q.stands) (λ e. cc) 8
-        (is_bytes_rest stream_head behind (subst IsBytes whole ok)) h)
+        (λ j u q le e. at_map (λ (d : Device). false) new.devices q.number q.device q.stands) (λ e. cc) 8
+        (bytes_rest stream_head behind (subst IsBytes whole ok)) h)
 
     -- then the newer set's device is at that version, and its own fields are spelled where the older wrote its own
     record Meets : Type 0 where

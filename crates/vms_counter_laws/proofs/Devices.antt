@@ -4,7 +4,7 @@ use Rattle.std.specs.List.{slice_get}
 use Rattle.std.proofs.lemmas.List.{length-set}
 use Rattle.vms_spec.specs.declared.Part.TheVariants as parts
 use Rattle.vms_spec.specs.Lists.{first_answer}
-use Rattle.vms_spec.specs.Numbers.{IsBytes}
+use Rattle.vms_kinds.specs.Bytes.{IsBytes}
 use Rattle.vms_spec.specs.Sets.{Device, Set}
 use Rattle.vms_spec.specs.Heads.{FitsHeads}
 use Rattle.vms_spec.specs.Images.{Image}
@@ -15,7 +15,7 @@ use Rattle.vms_spec.specs.WellFormed.{WellFormed, here}
 use Rattle.vms_bodies.specs.Whole.{reading_on}
 use Rattle.std.proofs.lemmas.Option.{slice_get_within}
 use Rattle.vms_bodies.proofs.PartLaws.{at_other}
-use Rattle.vms_bodies.proofs.SpellLaws.{is_bytes_rest}
+use Rattle.vms_kinds.proofs.ByteLemmas.{bytes_rest}
 use Rattle.vms_spec.proofs.WellFormedLaws.{device_found}
 use Rattle.vms_stream.specs.SoFar.{Tail, Footed, Bare}
 use Rattle.vms_stream.specs.Judge.{judge}
@@ -26,7 +26,7 @@ use Rattle.vms_check.specs.declared.mismatch.Mismatch.{Mismatch}
 use Rattle.vms_check.specs.Comparing.{compare_device, failing_pair, is_found, is_in, paired_device}
 use Rattle.vms_check.specs.Carrying.{carried_device}
 use Rattle.vms_check_laws.specs.Laws.{ArePaired}
-use Rattle.vms_check_laws.proofs.Pairing.{first_good}
+use Rattle.vms_check.proofs.ListLaws.{passes}
 use Rattle.vms_check_laws.proofs.Streaming.{found_device, found_some, device_stands}
 use Rattle.vms_check_laws.proofs.SubFacts.{none_at, saved}
 
@@ -48,7 +48,7 @@ module _ (old new : Set) (good_old : WellFormed old) (good_new : WellFormed new)
   pub pair : (i : ℕ) (d : Device) → slice_get old.devices i ≡ Some d → Pair i d
   pair i d e =
       let h = none_at (λ i d. failing_pair ((2, is_in new d) ∷ []) (here (parts.Device i)) (here parts.Set)) 0 old.devices i d all_in e in
-      let is : is_found (find_device 0 new.devices d.desc.name d.instance) ≡ true = (first_good 2 (is_in new d) [] (here (parts.Device (0 + i))) (here parts.Set) h).0 in
+      let is : is_found (find_device 0 new.devices d.desc.name d.instance) ≡ true = (passes 2 (is_in new d) [] (here (parts.Device (0 + i))) (here parts.Set) h).0 in
       let some_k = found_some (find_device 0 new.devices d.desc.name d.instance) is in
       let f = found_device 0 new.devices d.desc.name d.instance some_k.0 some_k.1 in
       let k_is : f.0 ≡ some_k.0 = omega (arith, f.1) in
@@ -139,6 +139,6 @@ module _ (old new : Set) (good_old : WellFormed old) (good_new : WellFormed new)
         (λ j u lt f. let t : suc i + j ≡ i + suc j = omega arith in ap (λ (k : ℕ). compared k u) t ∙ none (suc j) u (omega arith) f)
         d image at_c im_c (slice_set images p.number carried) (slice_set came p.number true) Footed false false
         (length-set images p.number carried ∙ images_long) (length-set came p.number true ∙ came_long) (waits_next came i x p at_i waits) (λ f. cc) (place + length front)
-        (is_bytes_rest front rest (subst IsBytes e ok))
+        (bytes_rest front rest (subst IsBytes e ok))
         (sym on ∙ ap (reading_on J (between None images came tail first after) place) (sym e) ∙ h) in
         subst (λ (k : ℕ). Comes d image k) s r

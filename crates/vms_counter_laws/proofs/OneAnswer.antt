@@ -1,7 +1,7 @@
 -- Two sets have one answer.
 use Rattle.std.proofs.Common.{◌≡◌, ℕ, List, Option, Some, refl, sym, ap, ◌∙◌, subst}
 use Rattle.vms_spec.specs.declared.Reason.{Reason}
-use Rattle.vms_spec.specs.Numbers.{IsBytes}
+use Rattle.vms_kinds.specs.Bytes.{IsBytes}
 use Rattle.vms_spec.specs.Sets.{Set}
 use Rattle.vms_spec.specs.Images.{Image}
 use Rattle.vms_stream.specs.Faults.{Fault}

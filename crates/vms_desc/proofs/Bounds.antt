@@ -1,5 +1,5 @@
 -- What well-formed sets have no more of than they may.
-use Rattle.std.proofs.Common.{◌≡◌, ℕ, zero, suc, ◌+◌, ◌*◌, ◌≤◌, List, [], ◌∷◌, ◌++◌, length, length-append, get_or, map, refl, sym, ap, ◌∙◌, arith, true, ◌&&◌, nat_le, Option, Some, None, is_none}
+use Rattle.std.proofs.Common.{◌≡◌, ℕ, zero, suc, ◌+◌, ◌*◌, ◌≤◌, List, ◌∷◌, ◌++◌, length, length-append, get_or, map, refl, sym, ap, ◌∙◌, arith, true, ◌&&◌, nat_le, Option, Some, None, is_none, []}
 use Rattle.std.specs.List.{flat_map}
 use Rattle.std.proofs.lemmas.Bool.{and_parts, leb-true}
 use Rattle.std.proofs.lemmas.List.{length-map}
@@ -11,14 +11,18 @@ use Rattle.vms_spec.specs.declared.Part.TheVariants as parts
 use Rattle.vms_spec.specs.Lists.{or_else, first_answer}
 use Rattle.vms_spec.specs.Sets.{Field, Desc, Sub, Device, Set}
 use Rattle.vms_spec.specs.Layout.{first, no_desc, capacity_of, desc_cells, struct_cells, device_cells}
-use Rattle.vms_spec.specs.WellFormed.{failing, here, struct_fault, device_fault, set_rules, size_rules, first_fault, item_count, items_in, struct_items, subs_items, devices_items}
+use Rattle.vms_spec.specs.WellFormed.{failing, here, struct_fault, device_fault, set_rules, size_rules, first_fault, items_in, struct_items, subs_items, devices_items}
 use Rattle.vms_parts.specs.declared.sizes.Measure.TheVariants.{Cells, Items}
 use Rattle.vms_desc.specs.Formed.{is_well_formed}
 use Rattle.vms_parts.specs.Sizes.{in_u32, size_of, fields_size, sizes_to}
 use Rattle.vms_parts.specs.Views.{form_of, layout_of}
+use Rattle.vms_parts.proofs.ItemLaws.{items_are, items_to}
 use Rattle.vms_desc.proofs.CellSizes.{cells_size, struct_sizes}
 use Rattle.vms_spec.proofs.Faultless.{or_else_none, AllTrue, all_true}
 use Rattle.vms_spec.proofs.Tables.{first_long}
+use Rattle.vms_spec.specs.Good.{IsGood}
+use Rattle.vms_spec.specs.Heads.{FitsHeads}
+use Rattle.vms_spec.proofs.WellFormedLaws.{well_good}
 
 -- ---- no fault at the set
 
@@ -40,6 +44,12 @@ set_clean set h =
     let c = or_else_none (first_answer (device_fault set) 0 set.devices) (failing 1 (size_rules set) (here parts.Set)) b.1 in
     record { first = all_true 1 (set_rules set) (here parts.Set) a.0; last = all_true 1 (size_rules set) (here parts.Set) c.1 }
 
+pub few_machines : (set : Set) → is_well_formed set ≡ true → length set.machines ≤ 16
+few_machines set h =
+    let b = (set_clean set h).first.1.1.1.1.1.1.0 in
+    let p = and_parts (nat_le (length set.machines) 16 && nat_le (length set.structs) 64) (nat_le (length set.devices) 64) b in
+    leb-true (length set.machines) 16 (and_parts (nat_le (length set.machines) 16) (nat_le (length set.structs) 64) p.0).0
+
 pub few_devices : (set : Set) → is_well_formed set ≡ true → length set.devices ≤ 64
 few_devices set h =
     let c = set_clean set h in
@@ -51,24 +61,11 @@ few_items set h =
     let c = set_clean set h in
     leb-true (devices_items (struct_items set.structs) set.devices) MOST_ITEMS c.last.1.1.1.1.1.1.0
 
+-- where instances and versions fit, it is good
+pub good_of : (set : Set) → is_well_formed set ≡ true → FitsHeads set → IsGood set
+good_of set h heads = well_good set (none_is (first_fault set) h) heads
+
 -- ---- there are no more cells than items
-
-items_item : (sizes : List ℕ) (item : Item) → item_count sizes item ≡ size_of Items sizes item
-items_item sizes (Num kind) = refl
-items_item sizes (Equal kind z) = refl
-items_item sizes (Unused n) = refl
-items_item sizes (Struct j) = refl
-
-pub items_fields : (sizes : List ℕ) (fs : List Field) → items_in sizes fs ≡ fields_size Items sizes fs
-items_fields sizes [] = refl
-items_fields sizes (f ∷ fs) = ap (λ (n : ℕ). capacity_of f.count * n + items_in sizes fs) (items_item sizes f.item) ∙ ap (λ (n : ℕ). capacity_of f.count * size_of Items sizes f.item + n) (items_fields sizes fs)
-
-pub items_structs : (ds : List Desc) (k : ℕ) → first (λ sizes d. items_in sizes d.fields) ds k ≡ sizes_to Items ds k
-unfolding first
-items_structs ds zero = refl
-items_structs ds (suc k) =
-    ap (λ (l : List ℕ). l ++ items_in l (get_or ds k no_desc).fields ∷ []) (items_structs ds k)
-    ∙ ap (λ (n : ℕ). sizes_to Items ds k ++ n ∷ []) (items_fields (sizes_to Items ds k) (get_or ds k no_desc).fields)
 
 -- each number of one list is at most that of the other
 abbrev Less : List ℕ → List ℕ → Type 0
@@ -116,7 +113,7 @@ desc_less set d =
     let a : length (desc_cells (struct_cells set) d) ≡ fields_size Cells (sizes_to Cells set.structs n) d.fields =
     cells_size (struct_cells set) d.fields 0 d.fields ∙ ap (λ (l : List ℕ). fields_size Cells l d.fields) (sym (struct_sizes set.structs n)) in
     let b : items_in (struct_items set.structs) d.fields ≡ fields_size Items (sizes_to Items set.structs n) d.fields =
-    items_fields (struct_items set.structs) d.fields ∙ ap (λ (l : List ℕ). fields_size Items l d.fields) (items_structs set.structs n) in
+    items_are (struct_items set.structs) d.fields ∙ ap (λ (l : List ℕ). fields_size Items l d.fields) (items_to set.structs n) in
     omega (arith, a, b, less_fields (sizes_to Cells set.structs n) (sizes_to Items set.structs n) d.fields (less_structs set.structs n))
 
 subs_less : (set : Set) (subs : List Sub) → length (flat_map (λ s. desc_cells (struct_cells set) s.desc) subs) ≤ subs_items (struct_items set.structs) subs

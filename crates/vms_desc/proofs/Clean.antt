@@ -1,7 +1,7 @@
 -- What a well-formed set has, part by part.
-use Rattle.std.proofs.Common.{◌≡◌, ℕ, suc, ◌+◌, ◌<◌, ◌≤◌, List, [], ◌∷◌, length, get_or, None, refl, ap, ◌∙◌, subst, arith, Bool, true, false, ◌&&◌, nat_le}
+use Rattle.std.proofs.Common.{◌≡◌, ℕ, suc, ◌+◌, ◌<◌, ◌≤◌, List, ◌∷◌, length, get_or, None, refl, ap, ◌∙◌, subst, arith, Bool, true, ◌&&◌, nat_le, []}
 use Rattle.std.specs.List.{list_all}
-use Rattle.std.proofs.lemmas.Bool.{leb-true}
+use Rattle.std.proofs.lemmas.Bool.{leb-true, and_parts}
 use Rattle.vms_kinds.specs.declared.Item.{Item}
 use Rattle.vms_kinds.specs.declared.Item.TheVariants.{Num, Equal, Unused, Struct}
 use Rattle.vms_spec.specs.declared.Count.{Count}
@@ -47,20 +47,16 @@ some_elements (Equal kind z) (Counted by most) e = cc
 some_elements (Unused b) (Counted by most) e = cc
 some_elements (Struct j) (Counted by most) e = leb-true 1 most e
 
-both_parts : (test count : Bool) → test && count ≡ true → (test ≡ true) × (count ≡ true)
-both_parts true count e = (refl, e)
-both_parts false count e = cc
-
 short_name : (most : ℕ) (name : List ℕ) (others : Bool) → is_name most name && others ≡ true → length name ≤ most
 short_name most name others e =
-    let rules = (both_parts (is_name most name) others e).0 in
-    let long = (both_parts (nat_le 1 (length name) && nat_le (length name) most) (list_all is_name_byte name) rules).0 in
-    leb-true (length name) most (both_parts (nat_le 1 (length name)) (nat_le (length name) most) long).1
+    let rules = (and_parts (is_name most name) others e).0 in
+    let long = (and_parts (nat_le 1 (length name) && nat_le (length name) most) (list_all is_name_byte name) rules).0 in
+    leb-true (length name) most (and_parts (nat_le 1 (length name)) (nat_le (length name) most) long).1
 
 clean_field : (k : ℕ) (d : Desc) (part : Part) (i : ℕ) (f : Field) → failing 1 (field_rules k d i f) (in_field part i) ≡ None → IsCleanField k d i f
 clean_field k d part i f e =
     let rules = all_true 1 (field_rules k d i f) (in_field part i) e in
-    let names = both_parts (test_names_well d i f.test) (count_names_well d i f.count) rules.1.1.1.0 in
+    let names = and_parts (test_names_well d i f.test) (count_names_well d i f.count) rules.1.1.1.0 in
     record {
       test = names.0;
       count = names.1;
@@ -94,7 +90,7 @@ clean k d part rules e =
 
 few : (d : Desc) (more : Bool) → has_few d && more ≡ true → length d.fields ≤ 256
 few d more e =
-    leb-true (length d.fields) 256 (both_parts (nat_le (length d.fields) 256) (nat_le (length d.validate) 16) (both_parts (has_few d) more e).0).0
+    leb-true (length d.fields) 256 (and_parts (nat_le (length d.fields) 256) (nat_le (length d.validate) 16) (and_parts (has_few d) more e).0).0
 
 -- ---- the parts of a set
 
@@ -168,4 +164,4 @@ module _ (set : Set) (well : is_well_formed set ≡ true) where
   pub few_subs : (i : ℕ) → i < length set.devices → length (device_at set i).subs ≤ 32
   few_subs i h =
       let d = device_at set i in
-      leb-true (length d.subs) 32 (both_parts (has_few d.desc) (nat_le (length d.subs) 32) (device_clean i h).own.1.1.1.1.1.1.0).1
+      leb-true (length d.subs) 32 (and_parts (has_few d.desc) (nat_le (length d.subs) 32) (device_clean i h).own.1.1.1.1.1.1.0).1

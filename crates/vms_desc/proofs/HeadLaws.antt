@@ -1,16 +1,11 @@
 -- Numbers of heads, device by device.
-use Rattle.std.proofs.Common.{◌≡◌, ℕ, zero, suc, ◌<◌, List, [], ◌∷◌, length, get_or, map, Some, sym, ap, ◌∙◌, subst, arith}
+use Rattle.std.proofs.Common.{◌≡◌, ℕ, zero, suc, List, ◌∷◌, get_or, map, Some, sym, ap, ◌∙◌, subst, []}
 use Rattle.std.specs.List.{slice_get}
 use Rattle.vms_spec.specs.Heads.{FitsHeads}
 use Rattle.vms_parts.specs.declared.types.Device.{Device}
 use Rattle.vms_parts.specs.declared.types.Parts.{Parts}
 use Rattle.vms_parts.specs.Views.{set_of, device_of}
 use Rattle.vms_desc.specs.Heads.{HeadsFit}
-
-pub at_within : {X : Type 0} (xs : List X) (i : ℕ) (x : X) → slice_get xs i ≡ Some x → i < length xs
-at_within [] i x e = cc
-at_within (y ∷ xs) zero x e = omega arith
-at_within (y ∷ xs) (suc i) x e = omega (arith, at_within xs i x e)
 
 -- what stands at a number of a mapped list is made of what stood there
 pub at_mapped : {X Y : Type 0} (f : X → Y) (xs : List X) (i : ℕ) (x : X) (y : Y) → x ≡ get_or xs i x → slice_get (map f xs) i ≡ Some y → y ≡ f x

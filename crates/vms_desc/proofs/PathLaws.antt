@@ -1,5 +1,5 @@
 -- The cell of a path by the sizes of structures.
-use Rattle.std.proofs.Common.{◌≡◌, ℕ, zero, suc, ◌+◌, ◌*◌, ◌<◌, ◌≤◌, List, [], ◌∷◌, length, length-take-le, get_or, take, map, refl, sym, ap, subst, ◌∙◌, arith, Bool, true, false, Option, Some, None}
+use Rattle.std.proofs.Common.{◌≡◌, ℕ, zero, suc, ◌+◌, ◌*◌, ◌<◌, ◌≤◌, List, ◌∷◌, length, length-take-le, get_or, take, map, refl, sym, ap, subst, ◌∙◌, arith, Bool, true, false, Option, Some, None, []}
 use Rattle.std.specs.Prelude.{nat_lt, nat_le, if◌then◌else◌}
 use Rattle.std.specs.List.{slice_get}
 use Rattle.std.proofs.lemmas.Bool.{ltb-true, lt-ltb, leb-true, leb-false}
@@ -17,6 +17,7 @@ use Rattle.vms_parts.specs.declared.types.Field.{Field}
 use Rattle.vms_parts.specs.Sizes.{in_u32, size_of, fields_size}
 use Rattle.vms_parts.specs.Views.{field_of, desc_of}
 use Rattle.vms_spec.proofs.Tables.{first_long, first_at}
+use Rattle.vms_spec.proofs.Sizes.{element_room}
 use Rattle.vms_desc.specs.declared.path.Placed.{Placed}
 use Rattle.vms_desc.specs.declared.path.Element.{Element}
 use Rattle.vms_desc.specs.Paths.{element_in, element_of, Enters, IsPlaced}
@@ -38,9 +39,6 @@ field_room sizes (g ∷ fs) zero f e =
     let size : capacity_of g.count * size_of Cells sizes g.item ≡ capacity_of f.count * size_of Cells sizes f.item = ap (λ (x : sets.Field). capacity_of x.count * size_of Cells sizes x.item) same in
     omega (arith, size)
 field_room sizes (g ∷ fs) (suc i) f e = omega (arith, field_room sizes fs i f e)
-
-element_room : (e n size : ℕ) → e < n → e * size + size ≤ n * size
-element_room e n size lt = grind arith
 
 pub element_fits : (sizes : List ℕ) (fs : List sets.Field) (base i e : ℕ) (f : sets.Field) → slice_get fs i ≡ Some f → e < capacity_of f.count → base + fields_size Cells sizes fs ≤ MOST_ITEMS
     → base + fields_size Cells sizes (take i fs) + e * size_of Cells sizes f.item + size_of Cells sizes f.item ≤ MOST_ITEMS
@@ -187,8 +185,3 @@ at_number inside path kind cell e = ap (λ (p : List (ℕ × ℕ)). item_at insi
 pub no_items : {X : Type 0} (xs : List X) → length xs ≡ 0 → xs ≡ []
 no_items [] e = refl
 no_items (x ∷ xs) e = absurd (omega arith)
-
-pub at_known : {X : Type 0} (xs : List X) (i : ℕ) (d : X) → i < length xs → slice_get xs i ≡ Some (get_or xs i d)
-at_known [] i d lt = absurd (omega arith)
-at_known (x ∷ xs) zero d lt = refl
-at_known (x ∷ xs) (suc i) d lt = at_known xs i d (omega arith)

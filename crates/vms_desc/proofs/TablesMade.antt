@@ -1,7 +1,7 @@
 -- Tables, made row by row.
-use Rattle.std.proofs.Common.{◌≡◌, ℕ, zero, suc, ◌+◌, ◌*◌, ◌<◌, ◌≤◌, List, [], ◌∷◌, ◌++◌, length, length-append, get_or, take, map, refl, sym, ap, ◌∙◌, subst, arith, Bool, true, false, nat_lt}
+use Rattle.std.proofs.Common.{◌≡◌, ℕ, zero, suc, ◌+◌, ◌*◌, ◌<◌, ◌≤◌, List, ◌∷◌, ◌++◌, length, length-append, get_or, take, map, refl, sym, ap, ◌∙◌, subst, arith, Bool, true, false, nat_lt, []}
 use Rattle.std.proofs.lemmas.Bool.{ltb-true, ltb-false}
-use Rattle.std.proofs.lemmas.List.{get_or_append_left, length-map}
+use Rattle.std.proofs.lemmas.List.{get_or_append_left, length-map, get_or_default}
 use Rattle.vms_spec.specs.Layout.{capacity_of, no_field, no_desc}
 use Rattle.vms_spec.specs.Sets.{Field, Sub, Device, AtLeast}
 use Rattle.std.proofs.Math.ListN.{get_or-map}
@@ -160,11 +160,6 @@ devices_next sizes devices i x tables t lt is h y =
 
 -- ---- the table of a part
 
-inside_any : {X : Type 0} (xs : List X) (i : ℕ) (d e : X) → i < length xs → get_or xs i d ≡ get_or xs i e
-inside_any [] i d e lt = absurd (omega arith)
-inside_any (x ∷ xs) zero d e lt = refl
-inside_any (x ∷ xs) (suc i) d e lt = inside_any xs i d e (omega arith)
-
 pub sub_table : (sizes : List ℕ) (d : Device) (tables : List Table) (j : ℕ) (t : Table) → AreTables sizes (device_fields d) tables → j < length d.subs → t ≡ get_or tables (j + 1) t → IsTable sizes (sub_at d j).desc.fields t
 sub_table sizes d tables j t h lt is =
     let none : Sub = record { desc = no_desc; needed = AtLeast 0 } in
@@ -172,7 +167,7 @@ sub_table sizes d tables j t h lt is =
     let there : suc j < length (device_fields d) = omega arith in
     let one : j + 1 ≡ suc j = omega arith in
     let inside : suc j < length tables = omega (arith, h.long) in
-    let table : get_or tables (suc j) no_table ≡ t = sym (is ∙ ap (λ (k : ℕ). get_or tables k t) one ∙ inside_any tables (suc j) t no_table inside) in
+    let table : get_or tables (suc j) no_table ≡ t = sym (is ∙ ap (λ (k : ℕ). get_or tables k t) one ∙ get_or_default tables (suc j) t no_table inside) in
     let fields : get_or (map (λ (s : Sub). s.desc.fields) d.subs) j [] ≡ (sub_at d j).desc.fields = get_or-map (λ (s : Sub). s.desc.fields) d.subs j none in
     subst (λ (x : Table). IsTable sizes (sub_at d j).desc.fields x) table
     (subst (λ (fs : List Field). IsTable sizes fs (get_or tables (suc j) no_table)) fields (h.table (suc j) there))

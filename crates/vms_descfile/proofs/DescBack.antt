@@ -1,5 +1,5 @@
 -- The files of descriptions, devices and sets say these again.
-use Rattle.std.proofs.Common.{◌≡◌, ℕ, ◌≤◌, List, [], ◌∷◌, get_or, length, map, Bool, true, false, ◌&&◌, ◌==◌, nat_le, Option, Some, None, refl, sym, ap, ◌∙◌, subst, codes, arith}
+use Rattle.std.proofs.Common.{◌≡◌, ℕ, ◌≤◌, List, ◌∷◌, get_or, length, map, Bool, true, false, ◌&&◌, ◌==◌, nat_le, Option, Some, None, refl, sym, ap, ◌∙◌, subst, codes, arith, []}
 use Rattle.std.specs.List.{slice_get}
 use Rattle.std.specs.Option.{option_and_then}
 use Rattle.std.proofs.lemmas.Bool.{and_parts, eqb-true, leb-true, false≢true}
@@ -27,17 +27,13 @@ use Rattle.vms_descfile.proofs.ObjectLaws.{Table, put_if, members_in, object_of,
 use Rattle.vms_descfile.proofs.AnswerLaws.{next_good, judged_good, at_good, list_good, list_or_good, natural_good}
 use Rattle.vms_descfile.proofs.ShownLaws.{asked, number_shown, test_shown, field_shown, desc_shown}
 use Rattle.vms_descfile.proofs.FirstNames.{Found, all_found, earlier_found}
-use Rattle.vms_descfile.proofs.TestBack.{Scoped, test_back}
+use Rattle.vms_descfile.proofs.TestBack.{test_back}
 use Rattle.vms_descfile.proofs.FieldBack.{field_table, field_tabled, field_back}
 
 abbrev own_scope : Bool → List (List ℕ) → Scope
 own_scope asks names = record { own = asked asks names; parent = None }
 
 -- ---- tests that name fields of their own description alone
-
-own_scoped : (asks : Bool) (names : List (List ℕ)) (may : ℕ → Bool) → ((k : ℕ) → may k ≡ true → number_in (asked asks names) (get_or names k []) ≡ good (number_shown asks k))
-    → Scoped asks names [] may nobody (own_scope asks names)
-own_scoped asks names may found = record { found = found; found_above = λ k e. absurd (false≢true e) }
 
 shallow : (t : Formula) → is_small_test t ≡ true → depth t ≤ 127
 shallow t small = omega (arith, leb-true (depth t) 16 (and_parts (nat_le (nodes t) 64) (nat_le (depth t) 16) small).1)
@@ -46,7 +42,7 @@ own_test_back : (asks : Bool) (names : List (List ℕ)) (may : ℕ → Bool) →
     → (t : Formula) → is_small_test t ≡ true → FitsTest t → names_well may nobody t ≡ true
     → test_of (own_scope asks names) (test_file names [] t) ≡ good (test_shown asks t)
 own_test_back asks names may found t small fits well =
-    test_back asks names [] may nobody (own_scope asks names) (own_scoped asks names may found) 127 t (shallow t small) fits well
+    test_back asks names [] may nobody (own_scope asks names) (record { found = found; found_above = λ k e. absurd (false≢true e) }) 127 t (shallow t small) fits well
 
 -- ---- the fields of a description
 

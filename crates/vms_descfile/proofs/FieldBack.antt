@@ -22,7 +22,7 @@ use Rattle.vms_json.specs.Keys.{fits}
 use Rattle.vms_json.specs.Members.{at, at_or, maybe_at, u16_of, u32_of, integer_of, text_of}
 use Rattle.vms_json.specs.Names.{Names, number_in, name_in}
 use Rattle.vms_descread.specs.Tests.{test_of}
-use Rattle.vms_descread.specs.Fields.{sort_named, sort_of, counts_fit, sort_fits, field_needs, field_allows, field_fits, count_as, count_of, item_as, front_of, field_after, field_in, field_of}
+use Rattle.vms_descread.specs.Fields.{sort_named, sort_of, counts_fit, values_fit, sort_fits, field_needs, field_allows, field_fits, count_as, count_of, item_as, front_of, field_after, field_in, field_of}
 use Rattle.vms_descwrite.specs.Fitting.{FitsField}
 use Rattle.vms_descwrite.specs.Written.{natural_file, integer_file, is_zero, item_word, capacity_in, length_in, counter_in, equal_in, size_in, struct_in, test_file, front_file, field_file}
 use Rattle.vms_descfile.proofs.ObjectLaws.{Table, put_if, members_in, object_of, or_none, got, table_fits, kept, listed, given_if, unless_if, list_if}
@@ -110,7 +110,7 @@ item_named (items.Struct j) = refl
 
 -- size, struct, equal and default
 abbrev sort_by : Sort → Option Data → Option Data → Option Data → Option Data → Bool
-sort_by (sorts.Number kind) size struct equal default = not (is_some size) && not (is_some struct) && not (is_some equal && is_some default)
+sort_by (sorts.Number kind) size struct equal default = not (is_some size) && not (is_some struct)
 sort_by sorts.Unused size struct equal default = is_some size && not (is_some struct) && not (is_some equal) && not (is_some default)
 sort_by sorts.Struct size struct equal default = is_some struct && not (is_some size) && not (is_some equal) && not (is_some default)
 
@@ -131,10 +131,20 @@ item_keys : (item : Item) (z : ℤ) → defaults_well item z ≡ true
     → sort_by (item_sort item) (option_map natural_file (size_in item)) (option_map natural_file (struct_in item)) (option_map integer_file (equal_in item))
     (kept (is_zero z) (integer_file z)) ≡ true
 item_keys (items.Num kind) z well = refl
-item_keys (items.Equal kind y) z well =
-    ap (λ (o : Option Data). not (is_some o)) (no_default z (and_parts (in_range kind y) (same_number z (pos 0)) well).1)
+item_keys (items.Equal kind y) z well = refl
 item_keys (items.Unused n) z well = ap (λ (o : Option Data). not (is_some o)) (no_default z well)
 item_keys (items.Struct j) z well = ap (λ (o : Option Data). not (is_some o)) (no_default z well)
+
+-- equal and default
+abbrev values_by : Option Data → Option Data → Bool
+values_by equal default = not (is_some equal && is_some default)
+
+value_keys : (item : Item) (z : ℤ) → defaults_well item z ≡ true → values_by (option_map integer_file (equal_in item)) (kept (is_zero z) (integer_file z)) ≡ true
+value_keys (items.Num kind) z well = refl
+value_keys (items.Equal kind y) z well =
+    ap (λ (o : Option Data). not (is_some o)) (no_default z (and_parts (in_range kind y) (same_number z (pos 0)) well).1)
+value_keys (items.Unused n) z well = refl
+value_keys (items.Struct j) z well = refl
 
 -- ---- numbers of 64 bits
 
@@ -280,8 +290,12 @@ module _ (asks : Bool) (own : List (List ℕ)) (names : Names) (may : ℕ → Bo
       ∙ ap3 (sort_by (item_sort f.item) (option_map natural_file (size_in f.item))) _ _ _ _ _ _
       (got (codes "struct") table _ (or_none _)) (got (codes "equal") table _ (or_none _)) (got (codes "default") table _ (or_none _))
       ∙ item_keys f.item f.default well in
-      and_from (fits field_needs field_allows d && counts_fit d) _
-      (and_from (fits field_needs field_allows d) (counts_fit d) (table_fits field_needs field_allows table refl refl) counts) sorts
+      let values : values_fit d ≡ true =
+      ap (λ (o : Option Data). values_by o (get (codes "default") d)) (got (codes "equal") table _ (or_none _))
+      ∙ ap (values_by (option_map integer_file (equal_in f.item))) (got (codes "default") table _ (or_none _)) ∙ value_keys f.item f.default well in
+      and_from (fits field_needs field_allows d && counts_fit d && values_fit d) _
+      (and_from (fits field_needs field_allows d && counts_fit d) (values_fit d)
+      (and_from (fits field_needs field_allows d) (counts_fit d) (table_fits field_needs field_allows table refl refl) counts) values) sorts
 
   pub field_back : (f : Field) → FitsField f → defaults_well f.item f.default ≡ true → Named f → field_of names (field_file own f) ≡ good (field_shown asks f)
   field_back f fits well named =

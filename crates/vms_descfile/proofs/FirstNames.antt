@@ -1,5 +1,5 @@
 -- The fields that a test or a count may name are found by their names.
-use Rattle.std.proofs.Common.{◌≡◌, ℕ, zero, suc, ◌+◌, ◌<◌, ◌≤◌, List, [], ◌∷◌, ◌++◌, length, get_or, take, min, Bool, true, false, not, cond, nat_lt, nat_le, Option, Some, None, refl, ap, ◌∙◌, arith}
+use Rattle.std.proofs.Common.{◌≡◌, ℕ, zero, suc, ◌+◌, ◌<◌, ◌≤◌, List, ◌∷◌, ◌++◌, length, get_or, take, min, Bool, true, false, not, cond, nat_lt, nat_le, Option, Some, None, refl, ap, ◌∙◌, arith, []}
 use Rattle.std.specs.List.{position, position_or_len, slice_get}
 use Rattle.std.specs.Str.{bytes_eq}
 use Rattle.std.proofs.lemmas.Bool.{and_parts, or_parts, not-true, leb-true, lt-ltb}
@@ -21,9 +21,6 @@ neither : (ns ms : List (List ℕ)) (n : List ℕ) → is_one_of (ns ++ ms) n �
 neither [] ms n none = none
 neither (x ∷ ns) ms n none = neither ns ms n (or_parts (bytes_eq x n) (is_one_of (ns ++ ms) n) none).1
 
-same_bytes : (n : List ℕ) → bytes_eq n n ≡ true
-same_bytes n = (bytes_eq-Decides n n).1 refl
-
 here : (p : List ℕ → Bool) (n : List ℕ) (names : List (List ℕ)) → p n ≡ true → position_or_len p (n ∷ names) ≡ 0
 here p n names passes = ap (λ (b : Bool). cond (not b) (1 + position_or_len p names) 0) passes
 
@@ -39,7 +36,7 @@ first_place : (fields : List Field) (k : ℕ) (f : Field) → slice_get fields k
 first_place [] k f there none = cc
 first_place (g ∷ fields) zero f there none =
     let same : g ≡ f = cc in
-    here (λ n. bytes_eq n f.name) g.name (own_names fields) (ap (λ (h : Field). bytes_eq h.name f.name) same ∙ same_bytes f.name)
+    here (λ n. bytes_eq n f.name) g.name (own_names fields) (ap (λ (h : Field). bytes_eq h.name f.name) same ∙ (bytes_eq-Decides f.name f.name).1 refl)
 first_place (g ∷ fields) (suc k) f there none =
     let parts = or_parts (bytes_eq g.name f.name) (is_one_of (g.former ++ all_names (take k fields)) f.name) none in
     later (λ n. bytes_eq n f.name) g.name (own_names fields) parts.0

@@ -35,31 +35,13 @@ says_no_json :
 unfolding said
 says_no_json = refl
 
-says_number_too_great_for_a_float :
-    said (codes "1e999")
-    ≡ Syntax
-unfolding said
-says_number_too_great_for_a_float = refl
-
 -- Shapes, at the whole first, then by key and by position.
-
-says_no_object :
-    said (codes "[]")
-    ≡ Shape (codes "file")
-unfolding said
-says_no_object = refl
 
 says_a_key_too_many :
     said (codes "{\"devices\":[],\"machines\":[],\"more\":0,\"structs\":[]}")
     ≡ Shape (codes "file")
 unfolding said
 says_a_key_too_many = refl
-
-says_a_key_missing :
-    said (codes "{\"devices\":[],\"machines\":[]}")
-    ≡ Shape (codes "file")
-unfolding said
-says_a_key_missing = refl
 
 says_machine_of_another_type :
     said (codes "{\"devices\":[],\"machines\":[7],\"structs\":[]}")
@@ -81,43 +63,7 @@ says_float_as_version :
 unfolding said
 says_float_as_version = refl
 
-says_minus_zero :
-    said (codes "{\"devices\":[{\"desc\":{\"fields\":[],\"name\":\"box\",\"version\":1},\"instance\":-0}],\"machines\":[],\"structs\":[]}")
-    ≡ Shape (codes "devices.0.instance")
-unfolding said
-says_minus_zero = refl
-
-says_number_of_65_bits :
-    said (codes "{\"devices\":[{\"desc\":{\"fields\":[{\"kind\":\"u8\",\"name\":\"f\"},{\"default\":18446744073709551616,\"kind\":\"u64\",\"name\":\"g\"}],\"name\":\"box\",\"version\":1},\"instance\":0}],\"machines\":[],\"structs\":[]}")
-    ≡ Shape (codes "devices.0.desc.fields.1.default")
-unfolding said
-says_number_of_65_bits = refl
-
-says_number_beyond_its_type :
-    said (codes "{\"devices\":[{\"desc\":{\"fields\":[],\"name\":\"box\",\"version\":1},\"instance\":4294967296}],\"machines\":[],\"structs\":[]}")
-    ≡ Shape (codes "devices.0.instance")
-unfolding said
-says_number_beyond_its_type = refl
-
 -- Keys that exclude each other, or go by the kind.
-
-says_count_with_counted :
-    said (codes "{\"devices\":[{\"desc\":{\"fields\":[{\"kind\":\"u8\",\"name\":\"f\"},{\"capacity\":1,\"count\":1,\"counted\":\"f\",\"kind\":\"u8\",\"name\":\"g\"}],\"name\":\"box\",\"version\":1},\"instance\":0}],\"machines\":[],\"structs\":[]}")
-    ≡ Shape (codes "devices.0.desc.fields.1")
-unfolding said
-says_count_with_counted = refl
-
-says_counted_without_capacity :
-    said (codes "{\"devices\":[{\"desc\":{\"fields\":[{\"kind\":\"u8\",\"name\":\"f\"},{\"counted\":\"f\",\"kind\":\"u8\",\"name\":\"g\"}],\"name\":\"box\",\"version\":1},\"instance\":0}],\"machines\":[],\"structs\":[]}")
-    ≡ Shape (codes "devices.0.desc.fields.1")
-unfolding said
-says_counted_without_capacity = refl
-
-says_size_of_a_number :
-    said (codes "{\"devices\":[{\"desc\":{\"fields\":[{\"kind\":\"u8\",\"name\":\"f\"},{\"kind\":\"u8\",\"name\":\"g\",\"size\":2}],\"name\":\"box\",\"version\":1},\"instance\":0}],\"machines\":[],\"structs\":[]}")
-    ≡ Shape (codes "devices.0.desc.fields.1")
-unfolding said
-says_size_of_a_number = refl
 
 says_equal_with_default :
     said (codes "{\"devices\":[{\"desc\":{\"fields\":[{\"kind\":\"u8\",\"name\":\"f\"},{\"default\":1,\"equal\":1,\"kind\":\"u8\",\"name\":\"g\"}],\"name\":\"box\",\"version\":1},\"instance\":0}],\"machines\":[],\"structs\":[]}")
@@ -131,24 +77,6 @@ says_unknown_kind :
 unfolding said
 says_unknown_kind = refl
 
-says_subsections_of_a_structure :
-    said (codes "{\"devices\":[],\"machines\":[],\"structs\":[{\"fields\":[],\"name\":\"p\",\"subsections\":[],\"version\":1}]}")
-    ≡ Shape (codes "structs.0")
-unfolding said
-says_subsections_of_a_structure = refl
-
-says_parent_in_a_validation :
-    said (codes "{\"devices\":[{\"desc\":{\"fields\":[{\"kind\":\"u8\",\"name\":\"f\"}],\"name\":\"box\",\"validate\":[{\"is\":\"eq\",\"mask\":1,\"parent\":\"f\",\"value\":0}],\"version\":1},\"instance\":0}],\"machines\":[],\"structs\":[]}")
-    ≡ Shape (codes "devices.0.desc.validate.0")
-unfolding said
-says_parent_in_a_validation = refl
-
-says_three_tests_in_and :
-    said (codes "{\"devices\":[{\"desc\":{\"fields\":[],\"name\":\"box\",\"validate\":[{\"and\":[{\"below\":1},{\"below\":1},{\"below\":1}]}],\"version\":1},\"instance\":0}],\"machines\":[],\"structs\":[]}")
-    ≡ Shape (codes "devices.0.desc.validate.0.and")
-unfolding said
-says_three_tests_in_and = refl
-
 -- Names are looked up when nothing else is at fault, and among names alone.
 
 says_name_that_is_not_there :
@@ -156,12 +84,6 @@ says_name_that_is_not_there :
     ≡ Shape (codes "devices.0.desc.validate.0.not.field")
 unfolding said
 says_name_that_is_not_there = refl
-
-says_a_former_name_is_no_name :
-    said (codes "{\"devices\":[{\"desc\":{\"fields\":[{\"kind\":\"u8\",\"name\":\"f\"},{\"capacity\":1,\"counted\":\"e\",\"former\":[\"e\"],\"kind\":\"u8\",\"name\":\"g\"}],\"name\":\"box\",\"version\":1},\"instance\":0}],\"machines\":[],\"structs\":[]}")
-    ≡ Shape (codes "devices.0.desc.fields.1.counted")
-unfolding said
-says_a_former_name_is_no_name = refl
 
 says_shapes_before_names :
     said (codes "{\"devices\":[{\"desc\":{\"fields\":[],\"name\":\"box\",\"validate\":[{\"field\":\"f\",\"is\":\"eq\",\"mask\":1,\"value\":0}],\"version\":1},\"instance\":0}],\"machines\":[],\"structs\":7}")

@@ -36,10 +36,14 @@ sort_of d = next (text_of d) (λ word. given (sort_named word))
 abbrev pub counts_fit : Data → Bool
 counts_fit d = if has (codes "counted") d then has (codes "capacity") d && not (has (codes "count") d) else not (has (codes "capacity") d)
 
+-- a constant has no default, whatever `kind` says
+abbrev pub values_fit : Data → Bool
+values_fit d = not (has (codes "equal") d && has (codes "default") d)
+
 -- the keys that go by the kind, which aren't judged where that is none of the words
 abbrev pub sort_fits : Option Sort → Data → Bool
 sort_fits None d = true
-sort_fits (Some (sorts.Number kind)) d = not (has (codes "size") d) && not (has (codes "struct") d) && not (has (codes "equal") d && has (codes "default") d)
+sort_fits (Some (sorts.Number kind)) d = not (has (codes "size") d) && not (has (codes "struct") d)
 sort_fits (Some sorts.Unused) d = has (codes "size") d && not (has (codes "struct") d) && not (has (codes "equal") d) && not (has (codes "default") d)
 sort_fits (Some sorts.Struct) d = has (codes "struct") d && not (has (codes "size") d) && not (has (codes "equal") d) && not (has (codes "default") d)
 
@@ -53,7 +57,7 @@ field_allows =
 
 abbrev pub field_fits : Data → Bool
 field_fits d =
-    fits field_needs field_allows d && counts_fit d
+    fits field_needs field_allows d && counts_fit d && values_fit d
     && sort_fits (option_and_then sort_named (option_and_then as_str (get (codes "kind") d))) d
 
 -- ---- members

@@ -8,7 +8,7 @@ ghost use Rattle.vms_parts.specs.Views.{field_of as field_seen, formula};
 ghost use Rattle.vms_descread.specs.declared.sort.Sort.{Sort as TheSort};
 ghost use Rattle.vms_json.specs.Answers.{Answers};
 ghost use Rattle.vms_json.specs.Names.{names_seen};
-ghost use Rattle.vms_descread.specs.Fields.{sort_named, sort_of, counts_fit, sort_fits, field_fits, count_as, count_of, item_as, front_seen, front_of, presence_of, field_after, field_in, field_of};
+ghost use Rattle.vms_descread.specs.Fields.{sort_named, sort_of, counts_fit, values_fit, sort_fits, field_fits, count_as, count_of, item_as, front_seen, front_of, presence_of, field_after, field_in, field_of};
 
 use crate::sort::Sort;
 use crate::tests::TestIn;
@@ -71,17 +71,20 @@ fn counts_fit(value: &Node) -> bool
     }
 }
 
+// A constant has no default.
+fn values_fit(value: &Node) -> bool
+    ensures { result ≡ values_fit (view value.now) }
+{
+    !(has(value, "equal") && has(value, "default"))
+}
+
 // The keys that go by the kind.
 fn sort_fits(sort: Option<Sort>, value: &Node) -> bool
     ensures { result ≡ sort_fits sort (view value.now) }
 {
     match sort {
         None => true,
-        Some(Sort::Number(_)) => {
-            !has(value, "size")
-                && !has(value, "struct")
-                && !(has(value, "equal") && has(value, "default"))
-        }
+        Some(Sort::Number(_)) => !has(value, "size") && !has(value, "struct"),
         Some(Sort::Unused) => {
             has(value, "size")
                 && !has(value, "struct")
@@ -111,7 +114,10 @@ fn sort_in(value: &Node) -> Option<Sort>
 fn field_fits(value: &Node) -> bool
     ensures { result ≡ field_fits (view value.now) }
 {
-    fits(value, &NEEDED, &ALLOWED) && counts_fit(value) && sort_fits(sort_in(value), value)
+    fits(value, &NEEDED, &ALLOWED)
+        && counts_fit(value)
+        && values_fit(value)
+        && sort_fits(sort_in(value), value)
 }
 
 fn count_as(capacity: Option<u32>, count: Option<u32>, counted: Option<u32>) -> Count

@@ -1,7 +1,8 @@
 -- The file of a set has no number with a fraction.
-use Rattle.std.proofs.Common.{◌≡◌, ℕ, Bool, true, false, ◌||◌, List, [], ◌∷◌, map, refl, Option, Some, None, ℤ, pos, negsuc, codes, get_or, Ordering, Less, Equal, Greater, int_le, int_lt, ◌&&◌, ◌==◌, if◌then◌else◌}
+use Rattle.std.proofs.Common.{◌≡◌, ℕ, Bool, true, false, List, ◌∷◌, map, refl, Option, Some, None, ℤ, pos, negsuc, codes, get_or, Ordering, Less, Equal, Greater, int_le, int_lt, ◌&&◌, ◌==◌, if◌then◌else◌, ◌||◌, []}
 use Rattle.std.specs.Ordering.{nat_cmp, match_ordering}
 use Rattle.std.specs.Cmp.Lexicographic.{slice_cmp}
+use Rattle.std.proofs.lemmas.Bool.{or_from, or_parts}
 use Rattle.serde_json.specs.Data.{Data, Members, no_members, member, put, string, number, null}
 use Rattle.serde_json.specs.Find.{of_integer}
 use Rattle.serde_json.specs.View.{items_of}
@@ -11,10 +12,6 @@ use Rattle.vms_spec.specs.declared.Rel.{Rel}
 use Rattle.vms_spec.specs.declared.Rel.TheVariants as rels
 use Rattle.vms_spec.specs.declared.Whose.TheVariants.{Own, Parent}
 use Rattle.vms_descwrite.specs.Written.{list_file, natural_file, given_as, unless, list_as, own_names, is_zero, only, item_word, capacity_in, length_in, counter_in, equal_in, size_in, struct_in, rel_file, pair_file, compared_file, test_file, integer_file, front_file, field_file, desc_members, struct_file, sub_file, whole_file, device_file, set_file}
-
-neither : (a b : Bool) → a ≡ false → b ≡ false → a || b ≡ false
-neither false b p q = q
-neither true b p q = p
 
 -- data, and members, without such a number
 abbrev IsWhole : Data → Type 0
@@ -28,28 +25,19 @@ in_order Less a b c p q r = p
 in_order Equal a b c p q r = q
 in_order Greater a b c p q r = r
 
-first_of : (a b : Bool) → a || b ≡ false → a ≡ false
-first_of false b p = refl
-first_of true b p = p
-
-second_of : (a b : Bool) → a || b ≡ false → b ≡ false
-second_of false b p = p
-second_of true false p = refl
-second_of true true p = p
-
 put_whole : (k : List ℕ) (d : Data) (ms : Members) → IsWhole d → AreWhole ms → AreWhole (put k d ms)
-put_whole k d no_members p q = neither (has_float d) false p refl
+put_whole k d no_members p q = or_from (has_float d) false p refl
 put_whole k d (member l e ms) p q =
-    let here = first_of (has_float e) (members_have_float ms) q in
-    let rest = second_of (has_float e) (members_have_float ms) q in
+    let here = (or_parts (has_float e) (members_have_float ms) q).0 in
+    let rest = (or_parts (has_float e) (members_have_float ms) q).1 in
     in_order (slice_cmp nat_cmp k l) (member k d (member l e ms)) (member l d ms) (member l e (put k d ms))
-    (neither (has_float d) (members_have_float (member l e ms)) p q)
-    (neither (has_float d) (members_have_float ms) p rest)
-    (neither (has_float e) (members_have_float (put k d ms)) here (put_whole k d ms p rest))
+    (or_from (has_float d) (members_have_float (member l e ms)) p q)
+    (or_from (has_float d) (members_have_float ms) p rest)
+    (or_from (has_float e) (members_have_float (put k d ms)) here (put_whole k d ms p rest))
 
 items_whole : {A : Type 0} (f : A → Data) (xs : List A) → ((a : A) → IsWhole (f a)) → items_have_float (items_of (map f xs)) ≡ false
 items_whole f [] all = refl
-items_whole f (x ∷ xs) all = neither (has_float (f x)) (items_have_float (items_of (map f xs))) (all x) (items_whole f xs all)
+items_whole f (x ∷ xs) all = or_from (has_float (f x)) (items_have_float (items_of (map f xs))) (all x) (items_whole f xs all)
 
 given_whole : {A : Type 0} (k : List ℕ) (f : A → Data) (o : Option A) (ms : Members) → ((a : A) → IsWhole (f a)) → AreWhole ms → AreWhole (given_as k f o ms)
 given_whole k f None ms all q = q
@@ -84,7 +72,7 @@ only_whole : (k : List ℕ) (d : Data) → IsWhole d → IsWhole (only k d)
 only_whole k d p = put_whole k d no_members p refl
 
 pair_whole : (d e : Data) → IsWhole d → IsWhole e → IsWhole (pair_file d e)
-pair_whole d e p q = neither (has_float d) (has_float e || false) p (neither (has_float e) false q refl)
+pair_whole d e p q = or_from (has_float d) (has_float e || false) p (or_from (has_float e) false q refl)
 
 compared_whole : (mask : ℕ) (rel : Rel) (value : ℕ) → AreWhole (compared_file mask rel value)
 compared_whole mask rel value =

@@ -65,7 +65,8 @@ fn push(list: &mut Vec<Value>, value: Value) -> Result<(), AllocError>
 
 fn list_value<T, W: Writes<T>>(alloc: Global, writer: &W, items: &[T]) -> Result<Value, AllocError>
     ensures file { IfOk result (λ v. view v ≡ list_file (W.file writer.now) items.now) }
-    ensures fits { OnOk result ((i : ℕ) (x : T) → slice_get items.now i ≡ Some x → W.fits writer.now x) }
+    ensures fits { OnOk result ((i : ℕ) (x : T)
+        → slice_get items.now i ≡ Some x → W.fits writer.now x) }
 {
     Ok(Value::Array(written(alloc, writer, items)?))
 }
@@ -76,7 +77,8 @@ fn written<T, W: Writes<T>>(
     items: &[T],
 ) -> Result<Vec<Value>, AllocError>
     ensures file { IfOk result (λ list. map view list.items ≡ map (W.file writer.now) items.now) }
-    ensures fits { OnOk result ((i : ℕ) (x : T) → slice_get items.now i ≡ Some x → W.fits writer.now x) }
+    ensures fits { OnOk result ((i : ℕ) (x : T)
+        → slice_get items.now i ≡ Some x → W.fits writer.now x) }
 {
     let mut list = Vec::new(alloc);
     for item in items {
@@ -124,7 +126,8 @@ pub(crate) fn put_items<T, W: Writes<T>>(
     ensures file { OnOk result (members_view members.new.entries
         ≡ put key.now (list_file (W.file writer.now) items.now)
         (members_view members.old.entries)) }
-    ensures fits { OnOk result ((i : ℕ) (x : T) → slice_get items.now i ≡ Some x → W.fits writer.now x) }
+    ensures fits { OnOk result ((i : ℕ) (x : T)
+        → slice_get items.now i ≡ Some x → W.fits writer.now x) }
 {
     put(alloc, members, key, list_value(alloc, writer, items)?)
 }
@@ -172,7 +175,8 @@ pub(crate) fn put_list<T, W: Writes<T>>(
 ) -> Result<(), AllocError>
     ensures file { OnOk result (members_view members.new.entries
         ≡ list_as key.now (W.file writer.now) items.now (members_view members.old.entries)) }
-    ensures fits { OnOk result ((i : ℕ) (x : T) → slice_get items.now i ≡ Some x → W.fits writer.now x) }
+    ensures fits { OnOk result ((i : ℕ) (x : T)
+        → slice_get items.now i ≡ Some x → W.fits writer.now x) }
 {
     if items.is_empty() {
         return Ok(());

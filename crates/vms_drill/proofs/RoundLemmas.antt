@@ -7,7 +7,7 @@ use Rattle.vms_drill.specs.Fold.{back_of, came_back}
 use Rattle.vms_board.specs.Restoring.{Back, Refused, Restores}
 use Rattle.vms_board.specs.Saving.{saved_stream}
 use Rattle.vms_session.proofs.StreamLaws.{streams_come_back}
-use Rattle.vms_spec.specs.Numbers.{IsBytes}
+use Rattle.vms_kinds.specs.Bytes.{IsBytes}
 use Rattle.vms_spec.specs.declared.Reason.{Reason}
 
 module _ (set : ℕ) (m : State) (stream : List ℕ) (s : IsSound m) (may : MaySaveUnder m.level set) (is : stream ≡ saved_stream set m) where

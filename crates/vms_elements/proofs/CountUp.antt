@@ -1,5 +1,5 @@
 -- The numbers among the elements have the cells from a place on, one each, in order.
-use Rattle.std.proofs.Common.{◌≡◌, ℕ, zero, suc, ◌+◌, List, [], ◌∷◌, ◌++◌, length, get_or, map, ℤ, refl, sym, ap, ◌∙◌, subst, arith, Bool, true, false, ◌&&◌, nat_lt, if◌then◌else◌, append-nil}
+use Rattle.std.proofs.Common.{◌≡◌, ℕ, zero, suc, ◌+◌, List, ◌∷◌, ◌++◌, length, get_or, map, ℤ, refl, sym, ap, ◌∙◌, subst, arith, Bool, true, false, ◌&&◌, nat_lt, if◌then◌else◌, append-nil, []}
 use Rattle.vms_kinds.specs.declared.Item.{Item}
 use Rattle.vms_kinds.specs.declared.Item.TheVariants.{Num, Equal, Unused, Struct}
 use Rattle.vms_spec.specs.Sets.{Field, Desc, Set}
@@ -8,11 +8,8 @@ use Rattle.vms_spec.proofs.Sizes.{size_same}
 use Rattle.vms_elements.specs.Elements.{What, Element, Shape, no_shape, shape, shapes, cells_in, dotted, behind, single, Number, Constant, Filler, Rule, item_elements, Stand, stand_of, array_elements, field_elements, elements_from, desc_elements, index_text}
 use Rattle.vms_elements.specs.Parts.{cells_with, cells_of, is_number, numbers_in, CountsUp, elements_in}
 use Rattle.vms_spec.proofs.Tables.{one_more}
+use Rattle.vms_spec.proofs.ListLaws.{pick_append}
 use Rattle.vms_elements.proofs.CellsOf.{cells_behind, item_has, field_has, AreShapes, are_shapes}
-
-pick_append : {B : Type 0} (b : Bool) (x : B) (xs ys zs : List B) → xs ≡ ys ++ zs → (if b then x ∷ xs else xs) ≡ (if b then x ∷ ys else ys) ++ zs
-pick_append true x xs ys zs e = ap (λ l. x ∷ l) e
-pick_append false x xs ys zs e = e
 
 pub numbers_append : (xs ys : List Element) → numbers_in (xs ++ ys) ≡ numbers_in xs ++ numbers_in ys
 numbers_append [] ys = refl

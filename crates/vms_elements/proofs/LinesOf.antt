@@ -1,5 +1,5 @@
 -- The lines of the counted numbers are the text of a description.
-use Rattle.std.proofs.Common.{◌≡◌, ℕ, zero, suc, ◌+◌, ◌≤◌, List, [], ◌∷◌, ◌++◌, length, get_or, map, ℤ, pos, refl, sym, ap, ◌∙◌, arith, Bool, true, false, ◌&&◌, nat_lt, if◌then◌else◌, append-nil, append_assoc, Option, Some, None, codes}
+use Rattle.std.proofs.Common.{◌≡◌, ℕ, zero, suc, ◌+◌, ◌≤◌, List, ◌∷◌, ◌++◌, length, get_or, map, ℤ, pos, refl, sym, ap, ◌∙◌, arith, Bool, true, false, ◌&&◌, nat_lt, if◌then◌else◌, append-nil, append_assoc, Option, Some, None, codes, []}
 use Rattle.std.proofs.lemmas.List.{map-append}
 use Rattle.std.specs.Fmt.{decimal, signed_decimal}
 use Rattle.vms_kinds.specs.declared.Item.{Item}
@@ -17,6 +17,7 @@ use Rattle.vms_elements.specs.Parts.{is_number}
 use Rattle.vms_elements.specs.Lines.{text_of, printed, number_line, number_lines, section_line, sub_line, subs_lines, device_lines, devices_lines, machine_lines, values_lines}
 use Rattle.vms_spec.proofs.Tables.{first_long}
 use Rattle.vms_spec.proofs.Prefixes.{first_cells}
+use Rattle.vms_spec.proofs.ListLaws.{pick_append}
 use Rattle.vms_elements.proofs.Tables.{both, two_more, shapes_cells}
 use Rattle.vms_elements.proofs.SlotsOf.{below_true, past_false}
 
@@ -24,11 +25,7 @@ pub text_append : (xs ys : List (List ℕ)) → text_of (xs ++ ys) ≡ text_of x
 text_append [] ys = refl
 text_append (x ∷ xs) ys = ap (λ l. x ++ (10 ∷ l)) (text_append xs ys) ∙ sym (append_assoc x (10 ∷ text_of xs) (text_of ys))
 
-pick_append : {B : Type 0} (b : Bool) (x : B) (xs ys zs : List B) → xs ≡ ys ++ zs → (if b then x ∷ xs else xs) ≡ (if b then x ∷ ys else ys) ++ zs
-pick_append true x xs ys zs e = ap (λ l. x ∷ l) e
-pick_append false x xs ys zs e = e
-
-printed_append : (xs ys : List Element) → printed (xs ++ ys) ≡ printed xs ++ printed ys
+pub printed_append : (xs ys : List Element) → printed (xs ++ ys) ≡ printed xs ++ printed ys
 printed_append [] ys = refl
 printed_append (x ∷ xs) ys = pick_append (x.counted && is_number x.what) x (printed (xs ++ ys)) (printed xs) (printed ys) (printed_append xs ys)
 

@@ -1,8 +1,9 @@
 -- The path of each number has its cell and names a field of its kind and default; and a path that has a cell is a number's.
-use Rattle.std.proofs.Common.{◌≡◌, ℕ, zero, suc, ◌+◌, ◌*◌, ◌<◌, ◌≤◌, List, [], ◌∷◌, ◌++◌, length, get_or, map, ℤ, refl, sym, ap, ◌∙◌, subst, arith, Bool, true, false, ◌&&◌, nat_lt, if◌then◌else◌, Option, Some, None}
+use Rattle.std.proofs.Common.{◌≡◌, ℕ, zero, suc, ◌+◌, ◌*◌, ◌<◌, ◌≤◌, List, ◌∷◌, ◌++◌, length, get_or, map, ℤ, refl, sym, ap, ◌∙◌, subst, arith, Bool, true, false, ◌&&◌, nat_lt, if◌then◌else◌, Option, Some, None, []}
 use Rattle.std.proofs.Common.{inl}
 use Rattle.std.specs.List.{slice_get}
-use Rattle.std.proofs.lemmas.Bool.{ltb-true, ltb-false}
+use Rattle.std.proofs.lemmas.Bool.{ltb-true, ltb-false, lt-ltb}
+use Rattle.std.proofs.lemmas.Option.{slice_get-get_or}
 use Rattle.vms_kinds.specs.declared.Kind.{Kind}
 use Rattle.vms_kinds.specs.declared.Item.{Item}
 use Rattle.vms_kinds.specs.declared.Item.TheVariants.{Num, Equal, Unused, Struct}
@@ -15,16 +16,6 @@ use Rattle.vms_spec.proofs.Tables.{first_at, first_long}
 use Rattle.vms_elements.proofs.Tables.{shapes_cells}
 use Rattle.vms_elements.proofs.Members.{Each, each_append, each_map, Has, has_left, has_right, has_map}
 
-at_get : {X : Type 0} (xs : List X) (i : ℕ) (d : X) → i < length xs → slice_get xs i ≡ Some (get_or xs i d)
-at_get [] i d lt = absurd (omega arith)
-at_get (x ∷ xs) zero d lt = refl
-at_get (x ∷ xs) (suc i) d lt = at_get xs i d (omega arith)
-
-get_at : {X : Type 0} (xs : List X) (i : ℕ) (d x : X) → slice_get xs i ≡ Some x → get_or xs i d ≡ x
-get_at [] i d x e = cc
-get_at (y ∷ xs) zero d x e = cc
-get_at (y ∷ xs) (suc i) d x e = get_at xs i d x e
-
 get_past : {X : Type 0} (xs : List X) (i : ℕ) (d : X) → length xs ≤ i → get_or xs i d ≡ d
 get_past [] i d le = refl
 get_past (x ∷ xs) zero d le = absurd (omega arith)
@@ -33,9 +24,6 @@ get_past (x ∷ xs) (suc i) d le = get_past xs i d (omega arith)
 lt_true : (a b : ℕ) → a < b → (t : Bool) → nat_lt a b ≡ t → t ≡ true
 lt_true a b lt true e = refl
 lt_true a b lt false e = let le : b ≤ a = ltb-false a b e in absurd (omega arith)
-
-pub is_lt : (a b : ℕ) → a < b → nat_lt a b ≡ true
-is_lt a b lt = lt_true a b lt (nat_lt a b) refl
 
 -- an element of a field that there is
 element_is : (cs : List (List Cell)) (d : Desc) (base i e place : ℕ) (f : Field) (go : Item → ℕ → Option ℕ) → slice_get d.fields i ≡ Some f → nat_lt e (capacity_of f.count) ≡ true
@@ -107,7 +95,7 @@ module _ (set : Set) where
           let d = get_or set.structs j no_desc in
           let same : get_or ss j no_shape ≡ shape (first shape set.structs j) d = first_at shape set.structs no_shape below j lt in
           subst (λ (s : Shape). Each (TellsItem below f place) (map dotted (s.elements n place))) (sym same)
-          (each_map (Tells j d place) (TellsItem below f place) dotted (dotted_tells below f j place d is t (at_get set.structs j no_desc (omega arith)))
+          (each_map (Tells j d place) (TellsItem below f place) dotted (dotted_tells below f j place d is t (slice_get-get_or set.structs j no_desc (omega arith)))
           (desc_elements (first shape set.structs j) d d.version n place) (earlier j lt d d.version n place))
       by_test false t =
           let le : below ≤ j = ltb-false j below t in
@@ -140,7 +128,7 @@ module _ (set : Set) where
       each_append (Tells below d base) (map (behind (stand.number, e) text b (stand.there && b)) (part place)) (array_elements f stand part step (suc e) n (place + step))
       (subst (λ (k : ℕ). Each (Tells below d base) (map (behind (k, e) text b (stand.there && b)) (part place))) (sym same)
       (each_map (TellsItem below f place) (Tells below d base) (behind (i, e) text b (stand.there && b))
-      (behind_tells below d base i e place f text b (stand.there && b) there (is_lt e (capacity_of f.count) (omega arith)) here) (part place) (h place)))
+      (behind_tells below d base i e place f text b (stand.there && b) there (lt-ltb e (capacity_of f.count) (omega arith)) here) (part place) (h place)))
       (array_tells below d base i f stand part step same there size h (suc e) n (place + step) (omega arith) (omega (arith, next, is)))
 
   -- the fields from i on are those of the description
@@ -269,7 +257,7 @@ module _ (set : Set) where
       by_test true t h =
           let lt : j < below = ltb-true j below t in
           let same : get_or ss j no_shape ≡ shape (first shape set.structs j) d = first_at shape set.structs no_shape below j lt in
-          let there = at_get set.structs j no_desc (omega arith) in
+          let there = slice_get-get_or set.structs j no_desc (omega arith) in
           subst (λ (q : Shape). Has (IsAt (s ∷ path) c) (map dotted (q.elements n place))) (sym same)
           (has_map (IsAt (s ∷ path) c) (IsAt (s ∷ path) c) dotted (λ x p. p) (desc_elements (first shape set.structs j) d d.version n place)
           (sound j d place c (omega arith) (ap (λ (o : Option Desc). path_at set (s ∷ path) j o place) (sym there) ∙ h) d.version n))

@@ -8,7 +8,7 @@ use Rattle.vms_spec.specs.Sets.{Set, Device}
 use Rattle.vms_spec.specs.Images.{Image}
 use Rattle.vms_spec.specs.Spelling.{first_line}
 use Rattle.vms_spec.specs.ValuesReading.{machine_named}
-use Rattle.vms_spec.proofs.Boxes.{counted_set, subsection_set, tested_set, empty_set, sub_of}
+use Rattle.vms_spec.proofs.Boxes.{counted_set, subsection_set, tested_set, sub_of}
 use Rattle.vms_elements.specs.Lines.{text_of}
 use Rattle.vms_elements.specs.Entries.{Entry, entries, entry_line, front_reason, part_reason, OfSection, OfSub}
 use Rattle.vms_elements.specs.Reading.{AreShaped, AreFine, IsBadLine, IsBadPart, Says, AreUnsaid}
@@ -63,30 +63,10 @@ refuses_an_absent_number =
     bad_after tested_set 2 None (of_box (pos 0 ∷ pos 0 ∷ [])) (text_of (box ∷ codes "f = 0" ∷ codes "g = 7" ∷ [])) (text_of (codes "g = 7" ∷ [])) reasons.Absent
     (record { named = refl; shaped = (record { version = refl; subs = refl; versions = tt; cells = refl; short = refl }, tt); whole = refl; fine = (refl, (refl, tt)); begins = refl; number = refl; bad = refl })
 
--- the least reason of a line
-refuses_an_absent_number_out_of_range : IsBadLine tested_set (text_of (box ∷ codes "f = 0" ∷ codes "g = 256" ∷ [])) 3 reasons.Number
-unfolding first digits
-refuses_an_absent_number_out_of_range =
-    bad_after tested_set 2 None (of_box (pos 0 ∷ pos 0 ∷ [])) (text_of (box ∷ codes "f = 0" ∷ codes "g = 256" ∷ [])) (text_of (codes "g = 256" ∷ [])) reasons.Number
-    (record { named = refl; shaped = (record { version = refl; subs = refl; versions = tt; cells = refl; short = refl }, tt); whole = refl; fine = (refl, (refl, tt)); begins = refl; number = refl; bad = refl })
-
 refuses_a_leading_zero : IsBadLine tested_set (text_of (box ∷ codes "f = 01" ∷ codes "g = 0" ∷ [])) 2 reasons.Number
 unfolding first digits
 refuses_a_leading_zero =
     bad_after tested_set 1 None (of_box (pos 0 ∷ pos 0 ∷ [])) (text_of (box ∷ codes "f = 01" ∷ codes "g = 0" ∷ [])) (text_of (codes "f = 01" ∷ codes "g = 0" ∷ [])) reasons.Number
-    (record { named = refl; shaped = (record { version = refl; subs = refl; versions = tt; cells = refl; short = refl }, tt); whole = refl; fine = (refl, tt); begins = refl; number = refl; bad = refl })
-
-refuses_a_minus_before_zero : IsBadLine tested_set (text_of (box ∷ codes "f = -0" ∷ codes "g = 0" ∷ [])) 2 reasons.Number
-unfolding first digits
-refuses_a_minus_before_zero =
-    bad_after tested_set 1 None (of_box (pos 0 ∷ pos 0 ∷ [])) (text_of (box ∷ codes "f = -0" ∷ codes "g = 0" ∷ [])) (text_of (codes "f = -0" ∷ codes "g = 0" ∷ [])) reasons.Number
-    (record { named = refl; shaped = (record { version = refl; subs = refl; versions = tt; cells = refl; short = refl }, tt); whole = refl; fine = (refl, tt); begins = refl; number = refl; bad = refl })
-
--- what follows the path is judged as a number, whatever it is
-refuses_no_number : IsBadLine tested_set (text_of (box ∷ codes "f = " ∷ codes "g = 0" ∷ [])) 2 reasons.Number
-unfolding first digits
-refuses_no_number =
-    bad_after tested_set 1 None (of_box (pos 0 ∷ pos 0 ∷ [])) (text_of (box ∷ codes "f = " ∷ codes "g = 0" ∷ [])) (text_of (codes "f = " ∷ codes "g = 0" ∷ [])) reasons.Number
     (record { named = refl; shaped = (record { version = refl; subs = refl; versions = tt; cells = refl; short = refl }, tt); whole = refl; fine = (refl, tt); begins = refl; number = refl; bad = refl })
 
 refuses_another_path : IsBadLine tested_set (text_of (box ∷ codes "g = 0" ∷ codes "f = 0" ∷ [])) 2 reasons.Form
@@ -95,63 +75,12 @@ refuses_another_path =
     bad_after tested_set 1 None (of_box (pos 0 ∷ pos 0 ∷ [])) (text_of (box ∷ codes "g = 0" ∷ codes "f = 0" ∷ [])) (text_of (codes "g = 0" ∷ codes "f = 0" ∷ [])) reasons.Form
     (record { named = refl; shaped = (record { version = refl; subs = refl; versions = tt; cells = refl; short = refl }, tt); whole = refl; fine = (refl, tt); begins = refl; number = refl; bad = refl })
 
-refuses_another_version : IsBadLine tested_set (text_of (codes "section box 0 v2" ∷ codes "f = 0" ∷ codes "g = 0" ∷ [])) 1 reasons.Form
-unfolding first digits
-refuses_another_version =
-    bad_after tested_set 0 None (of_box (pos 0 ∷ pos 0 ∷ [])) (text_of (codes "section box 0 v2" ∷ codes "f = 0" ∷ codes "g = 0" ∷ [])) (text_of (codes "section box 0 v2" ∷ codes "f = 0" ∷ codes "g = 0" ∷ [])) reasons.Form
-    (record { named = refl; shaped = (record { version = refl; subs = refl; versions = tt; cells = refl; short = refl }, tt); whole = refl; fine = tt; begins = refl; number = refl; bad = refl })
-
-refuses_another_machine : IsBadLine tested_set (text_of (codes "machine zoo" ∷ codes "section box 0 v1" ∷ codes "f = 0" ∷ codes "g = 0" ∷ [])) 1 reasons.Form
-unfolding first digits
-refuses_another_machine =
-    bad_after tested_set 0 None (of_box (pos 0 ∷ pos 0 ∷ [])) (text_of (codes "machine zoo" ∷ codes "section box 0 v1" ∷ codes "f = 0" ∷ codes "g = 0" ∷ [])) (text_of (codes "machine zoo" ∷ codes "section box 0 v1" ∷ codes "f = 0" ∷ codes "g = 0" ∷ [])) reasons.Form
-    (record { named = refl; shaped = (record { version = refl; subs = refl; versions = tt; cells = refl; short = refl }, tt); whole = refl; fine = tt; begins = refl; number = refl; bad = refl })
-
--- a machine has one line
-refuses_a_second_machine : IsBadLine tested_set (text_of (codes "machine lab" ∷ codes "machine lab" ∷ codes "section box 0 v1" ∷ codes "f = 0" ∷ codes "g = 0" ∷ [])) 2 reasons.Form
-unfolding first digits
-refuses_a_second_machine =
-    bad_after tested_set 1 (Some (codes "lab")) (of_box (pos 0 ∷ pos 0 ∷ [])) (text_of (codes "machine lab" ∷ codes "machine lab" ∷ codes "section box 0 v1" ∷ codes "f = 0" ∷ codes "g = 0" ∷ [])) (text_of (codes "machine lab" ∷ codes "section box 0 v1" ∷ codes "f = 0" ∷ codes "g = 0" ∷ [])) reasons.Form
-    (record { named = refl; shaped = (record { version = refl; subs = refl; versions = tt; cells = refl; short = refl }, tt); whole = refl; fine = (refl, tt); begins = refl; number = refl; bad = refl })
-
-refuses_a_line_too_few : IsBadLine tested_set (text_of (box ∷ codes "f = 0" ∷ [])) 3 reasons.Form
-unfolding first digits
-refuses_a_line_too_few =
-    bad_after tested_set 2 None (of_box (pos 0 ∷ pos 0 ∷ [])) (text_of (box ∷ codes "f = 0" ∷ [])) ([]) reasons.Form
-    (record { named = refl; shaped = (record { version = refl; subs = refl; versions = tt; cells = refl; short = refl }, tt); whole = refl; fine = (refl, (refl, tt)); begins = refl; number = refl; bad = refl })
-
-refuses_a_line_too_many : IsBadLine tested_set (text_of (box ∷ codes "f = 0" ∷ codes "g = 0" ∷ codes "g = 0" ∷ [])) 4 reasons.Form
-unfolding first digits
-refuses_a_line_too_many =
-    bad_after tested_set 3 None (of_box (pos 0 ∷ pos 0 ∷ [])) (text_of (box ∷ codes "f = 0" ∷ codes "g = 0" ∷ codes "g = 0" ∷ [])) (text_of (codes "g = 0" ∷ [])) reasons.Form
-    (record { named = refl; shaped = (record { version = refl; subs = refl; versions = tt; cells = refl; short = refl }, tt); whole = refl; fine = (refl, (refl, (refl, tt))); begins = refl; number = refl; bad = refl })
-
-refuses_a_last_line_without_its_line_feed : IsBadLine tested_set (text_of (box ∷ codes "f = 0" ∷ []) ++ codes "g = 0") 3 reasons.Form
-unfolding first digits
-refuses_a_last_line_without_its_line_feed =
-    bad_after tested_set 2 None (of_box (pos 0 ∷ pos 0 ∷ [])) (text_of (box ∷ codes "f = 0" ∷ []) ++ codes "g = 0") (codes "g = 0") reasons.Form
-    (record { named = refl; shaped = (record { version = refl; subs = refl; versions = tt; cells = refl; short = refl }, tt); whole = refl; fine = (refl, (refl, tt)); begins = refl; number = refl; bad = refl })
-
--- nothing may stand for a set without devices
-refuses_an_empty_line : IsBadLine empty_set (text_of (codes "" ∷ [])) 1 reasons.Form
-unfolding first digits
-refuses_an_empty_line =
-    bad_after empty_set 0 None ([]) (text_of (codes "" ∷ [])) (text_of (codes "" ∷ [])) reasons.Form
-    (record { named = refl; shaped = tt; whole = refl; fine = tt; begins = refl; number = refl; bad = refl })
-
 -- the first pass goes first: the validation fails as well
 refuses_the_absent_number_before_the_validation : IsBadLine tested_set (text_of (box ∷ codes "f = 10" ∷ codes "g = 7" ∷ [])) 3 reasons.Absent
 unfolding first digits
 refuses_the_absent_number_before_the_validation =
     bad_after tested_set 2 None (of_box (pos 10 ∷ pos 0 ∷ [])) (text_of (box ∷ codes "f = 10" ∷ codes "g = 7" ∷ [])) (text_of (codes "g = 7" ∷ [])) reasons.Absent
     (record { named = refl; shaped = (record { version = refl; subs = refl; versions = tt; cells = refl; short = refl }, tt); whole = refl; fine = (refl, (refl, tt)); begins = refl; number = refl; bad = refl })
-
--- no element is wanted past the count
-refuses_an_element_past_the_count : IsBadLine counted_set (text_of (box ∷ codes "n = 1" ∷ codes "v[0] = 4" ∷ codes "v[1] = 0" ∷ [])) 4 reasons.Form
-unfolding first digits
-refuses_an_element_past_the_count =
-    bad_after counted_set 3 None (of_box (pos 1 ∷ pos 4 ∷ pos 0 ∷ [])) (text_of (box ∷ codes "n = 1" ∷ codes "v[0] = 4" ∷ codes "v[1] = 0" ∷ [])) (text_of (codes "v[1] = 0" ∷ [])) reasons.Form
-    (record { named = refl; shaped = (record { version = refl; subs = refl; versions = tt; cells = refl; short = refl }, tt); whole = refl; fine = (refl, (refl, (refl, tt))); begins = refl; number = refl; bad = refl })
 
 -- ---- the second pass
 
@@ -209,25 +138,6 @@ refuses_a_dash =
     })
   where
     unsaid : AreUnsaid subsection_set (get_or subsection_set.devices 0 no_device) (record { version = 1; came = None ∷ None ∷ []; numbers = pos 9 ∷ pos 8 ∷ pos 6 ∷ [] })
-    unsaid zero h e = cc
-    unsaid (suc zero) h e = cc
-    unsaid (suc (suc zero)) h e = cc
-    unsaid (suc (suc (suc c))) h e = absurd (omega (arith, h))
-
--- not needed, and it came
-refuses_a_version : IsBadPart subsection_set (text_of (box ∷ codes "a = 9" ∷ codes "sub box/p v1" ∷ codes "x = 5" ∷ codes "sub box/q -" ∷ codes "y = 6" ∷ [])) 3 reasons.Needed
-unfolding first digits
-refuses_a_version =
-    bad_part subsection_set 2 (record { version = 1; came = Some 1 ∷ None ∷ []; numbers = pos 9 ∷ pos 5 ∷ pos 6 ∷ [] } ∷ []) (text_of (box ∷ codes "a = 9" ∷ codes "sub box/p v1" ∷ codes "x = 5" ∷ codes "sub box/q -" ∷ codes "y = 6" ∷ [])) (OfSub (get_or subsection_set.devices 0 no_device) (record { version = 1; came = Some 1 ∷ None ∷ []; numbers = pos 9 ∷ pos 5 ∷ pos 6 ∷ [] }) 0 (sub_of (codes "box/p") (codes "x") 5) 1 (Some 1)) reasons.Needed
-    (record {
-      says = record { named = tt; shaped = (record { version = refl; subs = refl; versions = (refl, (tt, tt)); cells = refl; short = refl }, tt); unsaid = (unsaid, tt); fine = (refl, (refl, (refl, (refl, (refl, (refl, tt)))))); printed = refl };
-      whole = refl;
-      good = refl;
-      number = refl;
-      bad = refl;
-    })
-  where
-    unsaid : AreUnsaid subsection_set (get_or subsection_set.devices 0 no_device) (record { version = 1; came = Some 1 ∷ None ∷ []; numbers = pos 9 ∷ pos 5 ∷ pos 6 ∷ [] })
     unsaid zero h e = cc
     unsaid (suc zero) h e = cc
     unsaid (suc (suc zero)) h e = cc

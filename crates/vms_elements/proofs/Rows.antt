@@ -5,7 +5,7 @@ use Rattle.vms_spec.specs.Layout.{first}
 use Rattle.vms_spec.specs.Sets.{Set, Device}
 use Rattle.vms_spec.specs.Images.{Image}
 use Rattle.vms_spec.specs.Values.{values_text}
-use Rattle.vms_spec.proofs.Boxes.{counted_set, constant_set, subsection_set, tested_set, empty_set, mixed_set}
+use Rattle.vms_spec.proofs.Boxes.{counted_set, mixed_set}
 use Rattle.vms_elements.specs.Parts.{cell_name}
 use Rattle.vms_elements.specs.Lines.{text_of, values_lines}
 
@@ -19,33 +19,6 @@ text set image = values_lines set None (image ∷ [])
 prints_an_array : text counted_set (of_box (pos 2 ∷ pos 1 ∷ pos 65535 ∷ [])) ≡ codes "section box 0 v1" ∷ codes "n = 2" ∷ codes "v[0] = 1" ∷ codes "v[1] = 65535" ∷ []
 unfolding first digits
 prints_an_array = refl
-
-prints_no_element : text counted_set (of_box (pos 0 ∷ pos 0 ∷ pos 0 ∷ [])) ≡ codes "section box 0 v1" ∷ codes "n = 0" ∷ []
-unfolding first digits
-prints_no_element = refl
-
--- constants and unused bytes are not printed
-prints_a_flag : text constant_set (of_box (pos 1 ∷ [])) ≡ codes "section box 0 v1" ∷ codes "flag = 1" ∷ []
-unfolding first digits
-prints_a_flag = refl
-
-prints_subsections : text subsection_set (record { version = 1; came = Some 1 ∷ Some 1 ∷ []; numbers = pos 9 ∷ pos 8 ∷ pos 7 ∷ [] })
-    ≡ codes "section box 0 v1" ∷ codes "a = 9" ∷ codes "sub box/p v1" ∷ codes "x = 8" ∷ codes "sub box/q v1" ∷ codes "y = 7" ∷ []
-unfolding first digits
-prints_subsections = refl
-
-prints_subsections_that_did_not_come : text subsection_set (record { version = 1; came = None ∷ None ∷ []; numbers = pos 9 ∷ pos 5 ∷ pos 6 ∷ [] })
-    ≡ codes "section box 0 v1" ∷ codes "a = 9" ∷ codes "sub box/p -" ∷ codes "x = 5" ∷ codes "sub box/q -" ∷ codes "y = 6" ∷ []
-unfolding first digits
-prints_subsections_that_did_not_come = refl
-
--- a number that is not there is printed with its default
-prints_an_absent_number : text tested_set (of_box (pos 0 ∷ pos 0 ∷ [])) ≡ codes "section box 0 v1" ∷ codes "f = 0" ∷ codes "g = 0" ∷ []
-unfolding first digits
-prints_an_absent_number = refl
-
-prints_no_device : values_lines empty_set (Some (codes "lab")) [] ≡ codes "machine lab" ∷ []
-prints_no_device = refl
 
 abbrev mixed : Image
 mixed = record {
@@ -71,10 +44,6 @@ none = record { instance = 0; desc = record { name = []; version = 0; minimum = 
 
 abbrev name : Set → ℕ → List ℕ
 name set c = cell_name set (get_or set.devices 0 none) c
-
-names_an_element : name counted_set 2 ≡ codes "v[1]"
-unfolding first digits
-names_an_element = refl
 
 names_a_number_in_a_structure : name mixed_set 9 ≡ codes "ps[2].z"
 unfolding first digits

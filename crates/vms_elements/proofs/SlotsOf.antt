@@ -1,5 +1,5 @@
 -- The elements that stand in the bytes are the slots.
-use Rattle.std.proofs.Common.{◌≡◌, ℕ, zero, suc, ◌+◌, ◌<◌, ◌≤◌, List, [], ◌∷◌, ◌++◌, length, get_or, map, ℤ, refl, sym, ap, ◌∙◌, arith, Bool, true, false, ◌&&◌, nat_lt, if◌then◌else◌}
+use Rattle.std.proofs.Common.{◌≡◌, ℕ, zero, suc, ◌+◌, ◌<◌, ◌≤◌, List, ◌∷◌, ◌++◌, length, get_or, map, ℤ, refl, sym, ap, ◌∙◌, arith, Bool, true, false, ◌&&◌, nat_lt, if◌then◌else◌, []}
 use Rattle.std.proofs.lemmas.Bool.{ltb-true, ltb-false}
 use Rattle.vms_kinds.specs.declared.Item.{Item}
 use Rattle.vms_kinds.specs.declared.Item.TheVariants.{Num, Equal, Unused, Struct}
@@ -12,11 +12,8 @@ use Rattle.vms_elements.specs.Elements.{Element, Shape, no_shape, shape, shapes,
 use Rattle.vms_elements.specs.Parts.{slot_of, slots_of, elements_in}
 use Rattle.vms_spec.proofs.Tables.{first_long}
 use Rattle.vms_spec.proofs.Prefixes.{first_cells}
+use Rattle.vms_spec.proofs.ListLaws.{pick_append}
 use Rattle.vms_elements.proofs.Tables.{both, two_more, shapes_cells}
-
-pick_append : {B : Type 0} (b : Bool) (x : B) (xs ys zs : List B) → xs ≡ ys ++ zs → (if b then x ∷ xs else xs) ≡ (if b then x ∷ ys else ys) ++ zs
-pick_append true x xs ys zs e = ap (λ l. x ∷ l) e
-pick_append false x xs ys zs e = e
 
 pub slots_append : (xs ys : List Element) → slots_of (xs ++ ys) ≡ slots_of xs ++ slots_of ys
 slots_append [] ys = refl

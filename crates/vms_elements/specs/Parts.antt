@@ -35,10 +35,10 @@ cells_of (x ∷ xs) = cells_with x.what (cells_of xs)
 
 -- what stands in the bytes for an element, whose cell is given
 abbrev pub slot_of : ℕ → What → Slot
-slot_of slice_get (Number cell) = slots.Number slice_get cell.kind cell.capacities
-slot_of slice_get (Constant kind z) = slots.Constant kind z
-slot_of slice_get (Filler n) = slots.Filler n
-slot_of slice_get (Rule holds) = slots.Rule holds
+slot_of at (Number cell) = slots.Number at cell.kind cell.capacities
+slot_of at (Constant kind z) = slots.Constant kind z
+slot_of at (Filler n) = slots.Filler n
+slot_of at (Rule holds) = slots.Rule holds
 
 -- the slots are the elements that stand in the bytes
 abbrev pub slots_of : List Element → List Slot
@@ -47,14 +47,14 @@ slots_of (x ∷ xs) = if x.present then slot_of x.cell x.what ∷ slots_of xs el
 
 -- these are the numbers of the cells from a place on, one each, in order
 abbrev pub CountsUp : ℕ → List Element → Type 0
-CountsUp slice_get [] = Unit {0}
-CountsUp slice_get (x ∷ xs) = (x.cell ≡ slice_get) × CountsUp (slice_get + 1) xs
+CountsUp at [] = Unit {0}
+CountsUp at (x ∷ xs) = (x.cell ≡ at) × CountsUp (at + 1) xs
 
 -- ---- a part of a set, and a whole device
 
 -- the elements of a description of a set
 abbrev pub elements_in : Set → Desc → ℕ → List ℤ → ℕ → List Element
-elements_in set d v numbers slice_get = desc_elements (shapes set) d v numbers slice_get
+elements_in set d v numbers at = desc_elements (shapes set) d v numbers at
 
 -- nothing of a subsection that didn't come stands in the bytes
 abbrev pub absent : Element → Element
@@ -62,15 +62,15 @@ absent x = record x { present = false }
 
 -- the elements of a subsection: at the version at which it came, else at the set's
 abbrev pub sub_elements : Set → Sub → Option ℕ → List ℤ → ℕ → List Element
-sub_elements set s (Some v) numbers slice_get = elements_in set s.desc v numbers slice_get
-sub_elements set s None numbers slice_get = map absent (elements_in set s.desc s.desc.version numbers slice_get)
+sub_elements set s (Some v) numbers at = elements_in set s.desc v numbers at
+sub_elements set s None numbers at = map absent (elements_in set s.desc s.desc.version numbers at)
 
 -- those of the subsections, where the cells of the first of these begin at a place
 abbrev pub subs_elements : Set → List Sub → List (Option ℕ) → List ℤ → ℕ → List Element
-subs_elements set [] came numbers slice_get = []
-subs_elements set (s ∷ subs) [] numbers slice_get = []
-subs_elements set (s ∷ subs) (o ∷ came) numbers slice_get =
-    sub_elements set s o numbers slice_get ++ subs_elements set subs came numbers (slice_get + length (desc_cells (struct_cells set) s.desc))
+subs_elements set [] came numbers at = []
+subs_elements set (s ∷ subs) [] numbers at = []
+subs_elements set (s ∷ subs) (o ∷ came) numbers at =
+    sub_elements set s o numbers at ++ subs_elements set subs came numbers (at + length (desc_cells (struct_cells set) s.desc))
 
 -- those of a device in the state of an image: of its own fields, and then of each subsection
 abbrev pub device_elements : Set → Device → Image → List Element

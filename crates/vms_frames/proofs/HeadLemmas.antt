@@ -1,5 +1,5 @@
 -- The heads of sections and of subsections, once all their bytes came.
-use Rattle.std.proofs.Common.{◌≡◌, ℕ, ◌+◌, ◌<◌, ◌≤◌, List, ◌++◌, length, get_or, take, drop, Option, Ok, IfSome, sym, ap, ◌∙◌, arith, length-append, length-drop}
+use Rattle.std.proofs.Common.{◌≡◌, ℕ, ◌+◌, ◌<◌, ◌≤◌, List, ◌++◌, length, get_or, take, drop, sym, ap, ◌∙◌, arith, length-append, length-drop}
 use Rattle.std.proofs.lemmas.List.{get_or-take, length-take-le}
 use Rattle.arrayvec.specs.ArrayVec.{ArrayVec}
 use Rattle.vms_spec.specs.Lookup.{number_at, bytes_at}
@@ -9,8 +9,7 @@ use Rattle.vms_frames.specs.declared.units.Step.TheVariants.{Section}
 use Rattle.vms_frames.specs.declared.units.Behind.{Behind}
 use Rattle.vms_frames.specs.declared.units.Behind.TheVariants.{Sub}
 use Rattle.vms_frames.specs.Found.{Found, Whole, head_found, step_long, sub_found, behind_long}
-use Rattle.vms_frames.specs.Answers.{Answers}
-use Rattle.vms_frames.proofs.UnitLemmas.{whole, byte_of_unit, number_of_unit, bytes_of_unit, needs_whole}
+use Rattle.vms_frames.proofs.UnitLemmas.{byte_of_unit, number_of_unit, bytes_of_unit, needs_whole}
 
 -- a byte that came stays where it is
 pub kept_byte : (i : ℕ) (unit more : List ℕ) → take (length unit) more ≡ unit → i < length unit → get_or more i 0 ≡ get_or unit i 0
@@ -56,13 +55,6 @@ head_long unit long =
     let e : length (bytes_at n 6 unit) ≡ n = length-take-le n (drop 6 unit) (omega arith) in
     long ∙ ap (λ (k : ℕ). 14 + k) (sym e)
 
-pub head_came : (left : Option (List ℕ)) (unit : List ℕ) (at : ℕ) (head : Head) → head ≡ head_in unit → length unit ≡ 14 + get_or unit 5 0
-    → IfSome left (λ rest. Answers step_long (head_found (unit ++ rest)) at (unit ++ rest) left (Ok (Section head)))
-head_came left unit at head is long =
-    whole step_long head_found left unit at (Section head)
-    (head_long unit long ∙ ap (λ (h : Head). step_long (Section h)) (sym is))
-    (λ rest. head_whole unit rest long ∙ ap (λ (h : Head). Whole (Section h)) (sym is))
-
 -- ---- subsections
 
 sub_with : List ℕ → ℕ → Found Behind
@@ -94,15 +86,3 @@ unfolding sub_with
 sub_is unit rest name v long named numbered =
     let n = get_or unit 1 0 in
     sub_whole unit rest long ∙ ap (λ (l : List ℕ). sub_with l (number_at 4 (2 + n) unit)) (sym named) ∙ ap (λ (k : ℕ). sub_with name.items k) (sym numbered)
-
-pub sub_came : (left : Option (List ℕ)) (unit : List ℕ) (at : ℕ) (name : ArrayVec ℕ) (v : ℕ) → length unit ≡ 6 + get_or unit 1 0 → name.items ≡ bytes_at (get_or unit 1 0) 2 unit
-    → v ≡ number_at 4 (2 + get_or unit 1 0) unit
-    → IfSome left (λ rest. Answers behind_long (sub_found (unit ++ rest)) at (unit ++ rest) left (Ok (Sub name v)))
-unfolding sub_with
-sub_came left unit at name v long named numbered =
-    let n = get_or unit 1 0 in
-    let d : length (drop 2 unit) ≡ 4 + n = length-drop 2 unit ∙ omega arith in
-    let e : length name.items ≡ n = ap length named ∙ length-take-le n (drop 2 unit) (omega arith) in
-    whole behind_long sub_found left unit at (Sub name v)
-    (long ∙ ap (λ (k : ℕ). 6 + k) (sym e))
-    (λ rest. sub_whole unit rest long ∙ ap (λ (l : List ℕ). sub_with l (number_at 4 (2 + n) unit)) (sym named) ∙ ap (λ (k : ℕ). sub_with name.items k) (sym numbered))

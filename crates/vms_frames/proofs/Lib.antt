@@ -1,11 +1,10 @@
-pub mod HeardLemmas
-pub mod HeardParts
-pub mod HeardUnits
-pub mod HeardFirst
-pub mod FillLemmas
 pub mod NumberLemmas
 pub mod UnitLemmas
 pub mod HeadLemmas
 pub mod CutLemmas
 pub mod Calls
-pub mod HeardCalls
+pub mod ReadsParts
+pub mod ReadsUnits
+pub mod ReadsFirst
+pub mod ReadsCalls
+pub mod HeardLemmas

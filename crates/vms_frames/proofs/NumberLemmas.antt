@@ -7,7 +7,10 @@ use Rattle.vms_kinds.specs.declared.Kind.TheVariants as kinds
 use Rattle.vms_kinds.specs.Codes.{width, value_of, IsBadBool}
 use Rattle.vms_spec.specs.declared.Reason.TheVariants as reasons
 use Rattle.vms_spec.specs.Lookup.{is_bad_bool, number_at}
-use Rattle.vms_frames.specs.Found.{Found, Whole, Wrong, number_found, version_found}
+use Rattle.vms_frames.specs.Found.{Found, Whole, Wrong, magic_found, number_found, version_found}
+use Rattle.std.specs.Str.{bytes_eq}
+use Rattle.std.proofs.lemmas.Slice.Eq.{bytes_eq-Decides}
+use Rattle.vms_spec.specs.Streams.{magic}
 use Rattle.vms_frames.proofs.UnitLemmas.{needs_whole, number_of_unit}
 
 abbrev found_by : Kind → List ℕ → Bool → Found ℤ
@@ -57,3 +60,14 @@ version_bad unit rest long good old =
     needs_whole 4 (unit ++ rest) _ (omega (arith, long, length-append unit rest)) ∙ ap by_version (number_of_unit 4 0 unit rest (omega (arith, long)))
     ∙ ap (λ (b : Bool). if b then Whole tt else if n == 2 then Wrong 4 reasons.OldStream else Wrong 4 reasons.BadVersion) (ne_eqb n 3 good)
     ∙ ap (λ (b : Bool). if b then Wrong 4 reasons.OldStream else Wrong 4 reasons.BadVersion) (ne_eqb n 2 old)
+
+-- ---- the magic
+
+by_magic : Bool → Found (Unit {0})
+by_magic b = if b then Whole tt else Wrong 4 reasons.BadMagic
+
+pub magic_bad : (unit rest : List ℕ) → length unit ≡ 4 → (unit ≡ magic → ⊥) → magic_found (unit ++ rest) ≡ Wrong 4 reasons.BadMagic
+unfolding by_magic
+magic_bad unit rest long other =
+    needs_whole 4 (unit ++ rest) _ (omega (arith, long, length-append unit rest)) ∙ ap (λ (l : List ℕ). by_magic (bytes_eq l magic)) (take_at unit rest 4 long)
+    ∙ ap by_magic (false_from_ne_true (bytes_eq unit magic) (λ e. other ((bytes_eq-Decides unit magic).0 e)))

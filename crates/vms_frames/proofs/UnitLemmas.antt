@@ -1,59 +1,34 @@
 -- A unit whose bytes came one part after the other.
-use Rattle.std.proofs.Common.{◌≡◌, ℕ, suc, zero, ◌+◌, ◌*◌, ◌^◌, ◌<◌, ◌≤◌, List, [], ◌∷◌, ◌++◌, length, get_or, slice_index, take, drop, Option, Some, None, Result, Ok, Err, IfSome, refl, sym, ap, subst, ◌∙◌, arith, Bool, if◌then◌else◌, append_assoc, take-append-drop, drop_at, length-drop}
-use Rattle.std.proofs.lemmas.List.{take-append-le}
+use Rattle.std.proofs.Common.{◌≡◌, ℕ, suc, zero, ◌+◌, ◌*◌, ◌^◌, ◌<◌, ◌≤◌, List, [], ◌∷◌, ◌++◌, length, get_or, slice_index, take, drop, Some, Ok, Err, refl, sym, ap, subst, ◌∙◌, arith, Bool, if◌then◌else◌, drop_at, length-drop}
+use Rattle.std.proofs.lemmas.List.{take-append-le, append-nil}
 use Rattle.std.proofs.lemmas.Bool.{le-ltb, lt-ltb}
 use Rattle.byteorder.specs.Endian.{big_number, big_from}
 use Rattle.vms_spec.specs.declared.Reason.{Reason}
 use Rattle.vms_spec.specs.declared.Reason.TheVariants as reasons
 use Rattle.vms_spec.specs.Lookup.{number_at, bytes_at}
-use Rattle.vms_frames.specs.declared.fault.FrameFault.{FrameFault}
-use Rattle.vms_frames.specs.declared.fault.FrameFault.TheVariants.{Refused, ReadFault}
+use Rattle.vms_frames.specs.declared.fault.FrameFault.TheVariants.{Refused}
 use Rattle.vms_frames.specs.Found.{Found, Whole, Wrong, Cut, needs}
-use Rattle.vms_frames.specs.Answers.{Answers, RefusesFor, Grows, CutsShort}
-
-some_is : (x y : List ℕ) → Some x ≡ Some y → x ≡ y
-some_is x y e = cc
-
--- what holds of the unit and what is left holds before a part was read
-pub carried : (P : List ℕ → Type 0) (old mid : Option (List ℕ)) (unit more : List ℕ) (n : ℕ) → Grows old mid unit more n → IfSome mid (λ rest. P (more ++ rest)) → IfSome old (λ rest. P (unit ++ rest))
-carried P None mid unit more n g h = tt
-carried P (Some rest) None unit more n g h = cc
-carried P (Some rest) (Some left) unit more n g h =
-    let there : left ≡ drop n rest = some_is left (drop n rest) g.2 in
-    let e : more ++ left ≡ unit ++ rest =
-    ap (λ (l : List ℕ). l ++ left) g.1 ∙ ap (λ (l : List ℕ). (unit ++ take n rest) ++ l) there ∙ append_assoc unit (take n rest) (drop n rest) ∙ ap (λ (l : List ℕ). unit ++ l) (take-append-drop n rest) in
-    subst P e h
+use Rattle.vms_frames.specs.Answers.{Answers, RefusesFor}
 
 module _ {X : Type 0} (long : X → ℕ) (found : List ℕ → Found X) where
-  -- the answer to a unit is the answer to it once a part of it came
-  pub on : (old mid new : Option (List ℕ)) (unit more : List ℕ) (at n : ℕ) (result : Result X FrameFault) → Grows old mid unit more n
-      → IfSome mid (λ rest. Answers long (found (more ++ rest)) at (more ++ rest) new result) → IfSome old (λ rest. Answers long (found (unit ++ rest)) at (unit ++ rest) new result)
-  on old mid new unit more at n result g h = carried (λ rest. Answers long (found rest) at rest new result) old mid unit more n g h
-
   -- a whole unit came
-  pub whole : (left : Option (List ℕ)) (unit : List ℕ) (at : ℕ) (x : X) → length unit ≡ long x → ((rest : List ℕ) → found (unit ++ rest) ≡ Whole x)
-      → IfSome left (λ rest. Answers long (found (unit ++ rest)) at (unit ++ rest) left (Ok x))
-  whole None unit at x e is = tt
-  whole (Some rest) unit at x e is = (is rest, ap Some (sym (drop_at unit rest (long x) e)))
-
-  as_wrong : (f : Found X) (n : ℕ) (rest : List ℕ) (left : Option (List ℕ)) (why : Reason) → f ≡ Wrong n why → left ≡ Some (drop n rest) → RefusesFor f rest left why
-  as_wrong f n rest left why e l = let P : Found X → Type 0 = λ f. RefusesFor f rest left why in subst P (sym e) (refl, l)
-
-  as_cut : (f : Found X) (rest : List ℕ) (left : Option (List ℕ)) (why : Reason) → f ≡ Cut → why ≡ reasons.Truncated → left ≡ Some [] → RefusesFor f rest left why
-  as_cut f rest left why e r l = let P : Found X → Type 0 = λ f. RefusesFor f rest left why in subst P (sym e) (r, l)
+  pub whole : (left unit : List ℕ) (at : ℕ) (x : X) → length unit ≡ long x → ((rest : List ℕ) → found (unit ++ rest) ≡ Whole x)
+      → Answers long (found (unit ++ left)) at (unit ++ left) (Some left) (Ok x)
+  whole left unit at x e is = (is left, ap Some (sym (drop_at unit left (long x) e)))
 
   -- a unit at fault came
-  pub wrong : (left : Option (List ℕ)) (unit : List ℕ) (at n : ℕ) (why : Reason) → length unit ≡ n → ((rest : List ℕ) → found (unit ++ rest) ≡ Wrong n why)
-      → IfSome left (λ rest. Answers long (found (unit ++ rest)) at (unit ++ rest) left (Err (Refused at why)))
-  wrong None unit at n why e is = tt
-  wrong (Some rest) unit at n why e is = (refl, as_wrong _ n (unit ++ rest) (Some rest) why (is rest) (ap Some (sym (drop_at unit rest n e))))
+  pub wrong : (left unit : List ℕ) (at n : ℕ) (why : Reason) → length unit ≡ n → ((rest : List ℕ) → found (unit ++ rest) ≡ Wrong n why)
+      → Answers long (found (unit ++ left)) at (unit ++ left) (Some left) (Err (Refused at why))
+  wrong left unit at n why e is =
+      let P : Found X → Type 0 = λ f. RefusesFor f (unit ++ left) (Some left) why in
+      (refl, subst P (sym (is left)) (refl, ap Some (sym (drop_at unit left n e))))
 
   -- a part of a unit is missing
-  pub short : (old new : Option (List ℕ)) (unit : List ℕ) (at n : ℕ) (fault : FrameFault) → CutsShort old new at n fault → ((rest : List ℕ) → length rest < n → found (unit ++ rest) ≡ Cut)
-      → IfSome old (λ rest. Answers long (found (unit ++ rest)) at (unit ++ rest) new (Err fault))
-  short None new unit at n fault s is = tt
-  short (Some rest) new unit at n (Refused place reason) s is = (s.0, as_cut _ (unit ++ rest) new reason (is rest s.2.0) s.1 s.2.1)
-  short (Some rest) new unit at n ReadFault s is = tt
+  pub short : (unit bytes left : List ℕ) (reason : Reason) → reason ≡ reasons.Truncated → found (unit ++ bytes) ≡ Cut → left ≡ [] → RefusesFor (found (unit ++ (bytes ++ left))) (unit ++ (bytes ++ left)) (Some left) reason
+  short unit bytes left reason r is none =
+      let P : Found X → Type 0 = λ f. RefusesFor f (unit ++ (bytes ++ left)) (Some left) reason in
+      let same : bytes ++ left ≡ bytes = ap (λ (l : List ℕ). bytes ++ l) none ∙ append-nil bytes in
+      subst P (sym (ap (λ (l : List ℕ). found (unit ++ l)) same ∙ is)) (r, ap Some none)
 
 -- ---- what the bytes of a unit are, whatever comes after them
 

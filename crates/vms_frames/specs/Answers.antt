@@ -1,6 +1,5 @@
 -- What a call of a cursor answers, by what stands at the front of what is left of its source.
-use Rattle.std.specs.Prelude.{◌≡◌, ℕ, ◌+◌, ◌-◌, ◌<◌, ◌≤◌, List, [], ◌++◌, length, take, drop, Option, Some, None, Result, Ok, Err, MatchResult}
-use Rattle.vms_io.specs.Causes.{Rose, capped}
+use Rattle.std.specs.Prelude.{◌≡◌, ℕ, ◌+◌, List, [], drop, Option, Some, Result, Ok, Err}
 use Rattle.vms_spec.specs.declared.Reason.{Reason}
 use Rattle.vms_spec.specs.declared.Reason.TheVariants as reasons
 use Rattle.vms_frames.specs.declared.fault.FrameFault.{FrameFault}
@@ -36,37 +35,3 @@ abbrev pub Closes : Found ℕ → ℕ → ℕ → List ℕ → Option (List ℕ)
 Closes (Whole n) at behind rest left (Ok x) = (behind ≡ at + n) × (left ≡ Some (drop n rest))
 Closes found at behind rest left (Ok x) = ⊥
 Closes found at behind rest left (Err fault) = Refuses found at rest left fault
-
--- the count of faults doesn't fall, and a read fault comes only where it rose
-abbrev pub HasCause : {X : Type 0} → ℕ → ℕ → Result X FrameFault → Type 0
-HasCause before now (Err ReadFault) = (before ≤ now) × Rose before now
-HasCause before now _ = before ≤ now
-
--- exactly the unit's bytes were given, or at an error at most so many
-abbrev pub GivesWithin : {X : Type 0} → (X → ℕ) → ℕ → ℕ → ℕ → Result X FrameFault → Type 0
-GivesWithin long most before now result = MatchResult result (λ x. now ≡ capped (before + long x)) (λ _. now ≤ before + most)
-
--- the bytes between two places were given, or at an error at most so many
-abbrev pub GivesPast : {X : Type 0} → ℕ → ℕ → ℕ → ℕ → ℕ → Result X FrameFault → Type 0
-GivesPast at behind most before now result = MatchResult result (λ _. now ≡ capped (before + (behind - at))) (λ _. now ≤ before + most)
-
--- ---- within a call: the bytes of a unit so far, and what is left behind them
-
--- n bytes went from the front of what was left to the end of what came
-abbrev pub Grows : Option (List ℕ) → Option (List ℕ) → List ℕ → List ℕ → ℕ → Type 0
-Grows None left old new n = Unit {0}
-Grows (Some rest) left old new n = (n ≤ length rest) × (new ≡ old ++ take n rest) × (left ≡ Some (drop n rest))
-
--- n bytes more are not there, and all that were are taken
-abbrev pub IsShort : Option (List ℕ) → Option (List ℕ) → ℕ → Type 0
-IsShort None left n = Unit {0}
-IsShort (Some rest) left n = (length rest < n) × (left ≡ Some [])
-
-abbrev pub CutsShort : Option (List ℕ) → Option (List ℕ) → ℕ → ℕ → FrameFault → Type 0
-CutsShort old left at n (Refused place reason) = (place ≡ at) × (reason ≡ reasons.Truncated) × IsShort old left n
-CutsShort old left at n ReadFault = Unit {0}
-
--- n bytes were passed over
-abbrev pub IsPassed : Option (List ℕ) → Option (List ℕ) → ℕ → Type 0
-IsPassed None left n = Unit {0}
-IsPassed (Some rest) left n = (n ≤ length rest) × (left ≡ Some (drop n rest))

@@ -1,5 +1,5 @@
 -- What the calls of a cursor answer, by the unit that stands at the front of what is left and the rows that it alone decides.
-use Rattle.std.specs.Prelude.{◌≡◌, ℕ, ◌+◌, true, false, List, [], ◌∷◌, length, get_or, take, drop, Option, Some, None, Result, Ok, Err, ◌-◌, ℤ, IfSome}
+use Rattle.std.specs.Prelude.{◌≡◌, ℕ, ◌+◌, true, false, List, [], ◌∷◌, length, get_or, take, drop, Option, Some, None, Result, Ok, Err, ℤ, IfSome}
 use Rattle.vms_kinds.specs.declared.Kind.{Kind}
 use Rattle.vms_kinds.specs.Codes.{width}
 use Rattle.vms_spec.specs.Layout.{Number as NumberSlot, Filler as FillerSlot}
@@ -136,7 +136,3 @@ ReadsFiller n at old left result = IfSome old (λ rest. AnswersSeen (λ _. Fille
 
 abbrev pub ReadsEnd : ℕ → ℕ → Option (List ℕ) → Option (List ℕ) → Result (Unit {0}) FrameFault → Type 0
 ReadsEnd at behind old left result = IfSome old (λ rest. AnswersEnd rest (seen AfterEnd nothing_known rest) at behind left result)
-
--- how many bytes of a unit between sections are given, where one may be held
-abbrev pub step_given : Option ℕ → Step → ℕ
-step_given held step = step_long step - held_long held

@@ -1,11 +1,11 @@
 // One unit each, from its first byte.
-ghost use Rattle.std.specs.Prelude.{◌≡◌, true, false, ◌∷◌, [], ◌++◌, ◌-◌, ◌≤◌, None, length, get_or, IfOk, IfSome};
+ghost use Rattle.std.specs.Prelude.{◌≡◌, true, false, ◌∷◌, [], ◌≤◌, length, get_or, IfOk};
 ghost use Rattle.vms_kinds.specs.Codes.{InRange, width};
 ghost use Rattle.vms_marks.specs.Marks.{mark_of};
 ghost use Rattle.vms_frames.specs.Found.{magic_found, version_found, step_long, is_configuration, between_found, mark_found, head_found, start_found, start_reason as start_reason_of, sub_reason as sub_reason_of, configuration_found, number_found, behind_long, behind_found, behind_mark_found, begins as begins_of, sub_found, foot_found, trailer_found, description_found};
-ghost use Rattle.vms_frames.specs.Calls.{IsNext, ahead, held_long};
-ghost use Rattle.vms_frames.specs.Answers.{Answers, HasCause, GivesWithin};
-ghost use Rattle.vms_frames.specs.Heard.{HearsUnit, HearsStep, HearsTrailer};
+ghost use Rattle.vms_frames.specs.Calls.{IsNext};
+ghost use Rattle.vms_io.specs.Told.{intake};
+ghost use Rattle.vms_frames.specs.Reads.{ReadsUnit, ReadsStep, ReadsMarked, ReadsTrailer};
 
 use crate::fault::refused;
 use crate::fill::{Unit, fill, grow, pass};
@@ -22,13 +22,8 @@ const LONGEST_TEXT: u32 = 16_777_216;
 
 /// The first four bytes of a stream, which tell that it is one.
 pub(crate) fn magic<S: Source>(source: &mut S, at: u64) -> Result<(), FrameFault>
-    ensures content { IfSome (S.left source.old) (λ rest.
-        Answers (λ _. 4) (magic_found rest) at rest (S.left source.new) result) }
-    ensures given { GivesWithin (λ _. 4) 4 (S.given source.old) (S.given source.new) result }
-    ensures cause { HasCause (S.faults source.old) (S.faults source.new) result }
-    ensures heard { HearsUnit (λ _. 4) magic_found [] at (S.given source.old)
-        (S.given source.new) result }
-    ensures promise { S.promise source.new ≡ S.promise source.old }
+    ensures reads { ReadsUnit (intake S.Source source.old) (intake S.Source source.new)
+        (λ _. 4) 4 magic_found [] at result }
 {
     let mut unit = Unit::new();
     grow(source, at, &mut unit, 4)?;
@@ -40,13 +35,8 @@ pub(crate) fn magic<S: Source>(source: &mut S, at: u64) -> Result<(), FrameFault
 
 /// The version of the stream's form.
 pub(crate) fn version<S: Source>(source: &mut S, at: u64) -> Result<(), FrameFault>
-    ensures content { IfSome (S.left source.old) (λ rest.
-        Answers (λ _. 4) (version_found rest) at rest (S.left source.new) result) }
-    ensures given { GivesWithin (λ _. 4) 4 (S.given source.old) (S.given source.new) result }
-    ensures cause { HasCause (S.faults source.old) (S.faults source.new) result }
-    ensures heard { HearsUnit (λ _. 4) version_found [] at (S.given source.old)
-        (S.given source.new) result }
-    ensures promise { S.promise source.new ≡ S.promise source.old }
+    ensures reads { ReadsUnit (intake S.Source source.old) (intake S.Source source.new)
+        (λ _. 4) 4 version_found [] at result }
 {
     let mut unit = Unit::new();
     grow(source, at, &mut unit, 4)?;
@@ -60,14 +50,8 @@ pub(crate) fn version<S: Source>(source: &mut S, at: u64) -> Result<(), FrameFau
 /// A number of this kind.
 pub(crate) fn number<S: Source>(source: &mut S, at: u64, kind: Kind) -> Result<i128, FrameFault>
     ensures range { IfOk result (InRange kind) }
-    ensures content { IfSome (S.left source.old) (λ rest.
-        Answers (λ _. width kind) (number_found kind rest) at rest (S.left source.new) result) }
-    ensures given { GivesWithin (λ _. width kind) (width kind) (S.given source.old)
-        (S.given source.new) result }
-    ensures cause { HasCause (S.faults source.old) (S.faults source.new) result }
-    ensures heard { HearsUnit (λ _. width kind) (number_found kind) [] at (S.given source.old)
-        (S.given source.new) result }
-    ensures promise { S.promise source.new ≡ S.promise source.old }
+    ensures reads { ReadsUnit (intake S.Source source.old) (intake S.Source source.new)
+        (λ _. width kind) (width kind) (number_found kind) [] at result }
 {
     let mut room = [0; 8];
     let code = &mut room[..kind.width()];
@@ -85,14 +69,8 @@ pub(crate) fn step<S: Source>(
     between: Between,
     held: Option<u8>,
 ) -> Result<Step, FrameFault>
-    ensures content { IfSome (S.left source.old) (λ left.
-        Answers step_long (between_found between (ahead held left)) at (ahead held left)
-        (S.left source.new) result) }
-    ensures given { GivesWithin (λ step. (step_long step) - (held_long held)) 269
-        (S.given source.old) (S.given source.new) result }
-    ensures cause { HasCause (S.faults source.old) (S.faults source.new) result }
-    ensures heard { HearsStep between held at (S.given source.old) (S.given source.new) result }
-    ensures promise { S.promise source.new ≡ S.promise source.old }
+    ensures reads { ReadsStep (intake S.Source source.old) (intake S.Source source.new)
+        between held at result }
     ensures place { IfOk result (λ step. is_configuration step ≡ true → between ≡ Between.First) }
 {
     let mut unit = Unit::new();
@@ -111,16 +89,8 @@ fn marked<S: Source>(
     unit: Unit,
 ) -> Result<Step, FrameFault>
     requires { length unit.items ≡ 1 }
-    ensures content { IfSome (S.left source.old) (λ more.
-        Answers step_long (mark_found between (unit.items ++ more)
-        (mark_of (get_or unit.items 0 0))) at (unit.items ++ more) (S.left source.new) result) }
-    ensures given { GivesWithin (λ step. (step_long step) - 1) 268 (S.given source.old)
-        (S.given source.new) result }
-    ensures cause { HasCause (S.faults source.old) (S.faults source.new) result }
-    ensures heard { HearsUnit step_long
-        (λ all. mark_found between all (mark_of (get_or unit.items 0 0))) unit.items at
-        (S.given source.old) (S.given source.new) result }
-    ensures promise { S.promise source.new ≡ S.promise source.old }
+    ensures reads { ReadsMarked (intake S.Source source.old) (intake S.Source source.new)
+        between unit.items at result }
     ensures place { IfOk result (λ step. is_configuration step ≡ true → between ≡ Between.First) }
 {
     match Mark::of(unit[0]) {
@@ -149,41 +119,23 @@ fn sub_reason(between: Between) -> Reason
 
 // The head of a section, of which the mark came.
 fn section<S: Source>(source: &mut S, at: u64, unit: Unit) -> Result<Step, FrameFault>
-    requires long { length unit.items ≡ 1 }
-    requires mark { get_or unit.items 0 0 ≡ 0x04 }
-    ensures content { IfSome (S.left source.old) (λ more.
-        Answers step_long (head_found (unit.items ++ more)) at (unit.items ++ more)
-        (S.left source.new) result) }
-    ensures given { GivesWithin (λ step. (step_long step) - 1) 268 (S.given source.old)
-        (S.given source.new) result }
-    ensures cause { HasCause (S.faults source.old) (S.faults source.new) result }
-    ensures heard { HearsUnit step_long head_found unit.items at (S.given source.old)
-        (S.given source.new) result }
-    ensures promise { S.promise source.new ≡ S.promise source.old }
+    requires { length unit.items ≡ 1 }
+    ensures reads { ReadsUnit (intake S.Source source.old) (intake S.Source source.new)
+        step_long 269 head_found unit.items at result }
     ensures section { IfOk result (λ step. is_configuration step ≡ false) }
 {
     let mut unit = unit;
     grow(source, at, &mut unit, 5)?;
     let ahead = 8 + unit[5] as usize;
     grow(source, at, &mut unit, ahead)?;
-    match Head::read(&unit) {
-        Ok(head) => Ok(Step::Section(head)),
-        Err(_) => unreachable!(),
-    }
+    Ok(Step::Section(Head::of(&unit)))
 }
 
 // A configuration, of which the mark came.
 fn configuration<S: Source>(source: &mut S, at: u64, unit: Unit) -> Result<Step, FrameFault>
     requires { length unit.items ≡ 1 }
-    ensures content { IfSome (S.left source.old) (λ more.
-        Answers step_long (configuration_found (unit.items ++ more)) at (unit.items ++ more)
-        (S.left source.new) result) }
-    ensures given { GivesWithin (λ step. (step_long step) - 1) 268 (S.given source.old)
-        (S.given source.new) result }
-    ensures cause { HasCause (S.faults source.old) (S.faults source.new) result }
-    ensures heard { HearsUnit step_long configuration_found unit.items at (S.given source.old)
-        (S.given source.new) result }
-    ensures promise { S.promise source.new ≡ S.promise source.old }
+    ensures reads { ReadsUnit (intake S.Source source.old) (intake S.Source source.new)
+        step_long 269 configuration_found unit.items at result }
 {
     let mut unit = unit;
     grow(source, at, &mut unit, 4)?;
@@ -198,15 +150,8 @@ fn configuration<S: Source>(source: &mut S, at: u64, unit: Unit) -> Result<Step,
 // A section that is sent in parts, of which the mark came.
 fn start<S: Source>(source: &mut S, at: u64, unit: Unit) -> Result<Step, FrameFault>
     requires { length unit.items ≡ 1 }
-    ensures content { IfSome (S.left source.old) (λ more.
-        Answers step_long (start_found (unit.items ++ more)) at (unit.items ++ more)
-        (S.left source.new) result) }
-    ensures given { GivesWithin (λ step. (step_long step) - 1) 268 (S.given source.old)
-        (S.given source.new) result }
-    ensures cause { HasCause (S.faults source.old) (S.faults source.new) result }
-    ensures heard { HearsUnit step_long start_found unit.items at (S.given source.old)
-        (S.given source.new) result }
-    ensures promise { S.promise source.new ≡ S.promise source.old }
+    ensures reads { ReadsUnit (intake S.Source source.old) (intake S.Source source.new)
+        step_long 269 start_found unit.items at result }
     ensures none { IfOk result (λ step. is_configuration step ≡ false) }
 {
     let mut unit = unit;
@@ -244,14 +189,9 @@ pub(crate) fn behind<S: Source>(
     id: u32,
     tail: Tail,
 ) -> Result<Behind, FrameFault>
-    ensures content { IfSome (S.left source.old) (λ rest.
-        Answers behind_long (behind_found tail id rest) at rest (S.left source.new) result) }
+    ensures reads { ReadsUnit (intake S.Source source.old) (intake S.Source source.new)
+        behind_long 261 (behind_found tail id) [] at result }
     ensures next { IfOk result (λ behind. IsNext behind → tail ≡ Tail.Footed → ⊥) }
-    ensures given { GivesWithin behind_long 261 (S.given source.old) (S.given source.new) result }
-    ensures cause { HasCause (S.faults source.old) (S.faults source.new) result }
-    ensures heard { HearsUnit behind_long (behind_found tail id) [] at (S.given source.old)
-        (S.given source.new) result }
-    ensures promise { S.promise source.new ≡ S.promise source.old }
 {
     let mut unit = Unit::new();
     grow(source, at, &mut unit, 1)?;
@@ -267,17 +207,10 @@ fn behind_marked<S: Source>(
     unit: Unit,
 ) -> Result<Behind, FrameFault>
     requires { length unit.items ≡ 1 }
-    ensures content { IfSome (S.left source.old) (λ more.
-        Answers behind_long (behind_mark_found tail id (get_or unit.items 0 0) (unit.items ++ more)
-        (mark_of (get_or unit.items 0 0))) at (unit.items ++ more) (S.left source.new) result) }
+    ensures reads { ReadsUnit (intake S.Source source.old) (intake S.Source source.new)
+        behind_long 261 (λ all. behind_mark_found tail id (get_or unit.items 0 0) all
+        (mark_of (get_or unit.items 0 0))) unit.items at result }
     ensures next { IfOk result (λ behind. IsNext behind → tail ≡ Tail.Footed → ⊥) }
-    ensures given { GivesWithin (λ behind. (behind_long behind) - 1) 260 (S.given source.old)
-        (S.given source.new) result }
-    ensures cause { HasCause (S.faults source.old) (S.faults source.new) result }
-    ensures heard { HearsUnit behind_long (λ all.
-        behind_mark_found tail id (get_or unit.items 0 0) all (mark_of (get_or unit.items 0 0)))
-        unit.items at (S.given source.old) (S.given source.new) result }
-    ensures promise { S.promise source.new ≡ S.promise source.old }
 {
     match begins(tail, Mark::of(unit[0])) {
         Begins::Sub => subsection(source, at, unit),
@@ -304,16 +237,9 @@ fn begins(tail: Tail, mark: Option<Mark>) -> Begins
 // The head of a subsection, of which the mark came.
 fn subsection<S: Source>(source: &mut S, at: u64, unit: Unit) -> Result<Behind, FrameFault>
     requires { length unit.items ≡ 1 }
-    ensures content { IfSome (S.left source.old) (λ more.
-        Answers behind_long (sub_found (unit.items ++ more)) at (unit.items ++ more)
-        (S.left source.new) result) }
+    ensures reads { ReadsUnit (intake S.Source source.old) (intake S.Source source.new)
+        behind_long 261 sub_found unit.items at result }
     ensures next { IfOk result (λ behind. IsNext behind → ⊥) }
-    ensures given { GivesWithin (λ behind. (behind_long behind) - 1) 260 (S.given source.old)
-        (S.given source.new) result }
-    ensures cause { HasCause (S.faults source.old) (S.faults source.new) result }
-    ensures heard { HearsUnit behind_long sub_found unit.items at (S.given source.old)
-        (S.given source.new) result }
-    ensures promise { S.promise source.new ≡ S.promise source.old }
 {
     let mut unit = unit;
     grow(source, at, &mut unit, 1)?;
@@ -328,16 +254,9 @@ fn subsection<S: Source>(source: &mut S, at: u64, unit: Unit) -> Result<Behind, 
 // The footer of the section with this id, of which the mark came.
 fn footer<S: Source>(source: &mut S, at: u64, id: u32, unit: Unit) -> Result<Behind, FrameFault>
     requires { length unit.items ≡ 1 }
-    ensures content { IfSome (S.left source.old) (λ more.
-        Answers behind_long (foot_found id (unit.items ++ more)) at (unit.items ++ more)
-        (S.left source.new) result) }
+    ensures reads { ReadsUnit (intake S.Source source.old) (intake S.Source source.new)
+        behind_long 261 (foot_found id) unit.items at result }
     ensures next { IfOk result (λ behind. IsNext behind → ⊥) }
-    ensures given { GivesWithin (λ behind. (behind_long behind) - 1) 260 (S.given source.old)
-        (S.given source.new) result }
-    ensures cause { HasCause (S.faults source.old) (S.faults source.new) result }
-    ensures heard { HearsUnit behind_long (foot_found id) unit.items at (S.given source.old)
-        (S.given source.new) result }
-    ensures promise { S.promise source.new ≡ S.promise source.old }
 {
     let mut unit = unit;
     grow(source, at, &mut unit, 4)?;
@@ -356,13 +275,9 @@ fn no_footer(at: u64) -> FrameFault
 
 /// What belongs to the stream after its end mark, and how many bytes it has: nothing, or a description section.
 pub(crate) fn trailer<S: Source>(source: &mut S, at: u64) -> Result<u64, FrameFault>
-    ensures content { IfSome (S.left source.old) (λ rest.
-        Answers (λ n. n) (trailer_found rest) at rest (S.left source.new) result) }
+    ensures reads { ReadsTrailer (intake S.Source source.old) (intake S.Source source.new)
+        at result }
     ensures most { IfOk result (λ n. n ≤ 16777221) }
-    ensures given { GivesWithin (λ n. n) 16777221 (S.given source.old) (S.given source.new) result }
-    ensures cause { HasCause (S.faults source.old) (S.faults source.new) result }
-    ensures heard { HearsTrailer at (S.given source.old) (S.given source.new) result }
-    ensures promise { S.promise source.new ≡ S.promise source.old }
 {
     let mut mark = [0; 1];
     match read_exact_of(source, &mut mark) {
@@ -375,17 +290,10 @@ pub(crate) fn trailer<S: Source>(source: &mut S, at: u64) -> Result<u64, FrameFa
 
 // A description section, of which the mark came, and how many bytes it has with its mark.
 fn description<S: Source>(source: &mut S, at: u64) -> Result<u64, FrameFault>
-    ensures content { IfSome (S.left source.old) (λ more.
-        Answers (λ n. n) (description_found (0x06 ∷ more)) at (0x06 ∷ more)
-        (S.left source.new) result) }
+    ensures reads { ReadsUnit (intake S.Source source.old) (intake S.Source source.new)
+        (λ n. n) 16777221 description_found (0x06 ∷ []) at result }
     ensures least { IfOk result (λ n. 5 ≤ n) }
     ensures most { IfOk result (λ n. n ≤ 16777221) }
-    ensures given { GivesWithin (λ n. n - 1) 16777220 (S.given source.old)
-        (S.given source.new) result }
-    ensures cause { HasCause (S.faults source.old) (S.faults source.new) result }
-    ensures heard { HearsUnit (λ n. n) description_found (0x06 ∷ []) at (S.given source.old)
-        (S.given source.new) result }
-    ensures promise { S.promise source.new ≡ S.promise source.old }
 {
     let mut length = [0; 4];
     fill(source, at, &mut length)?;

@@ -1,8 +1,8 @@
 -- The image of a device at the set's version, with no subsection and all defaults.
-use Rattle.std.proofs.Common.{◌≡◌, ℕ, zero, suc, ◌<◌, List, [], ◌∷◌, Option, Some, None, ℤ, pos, length, get_or, map, replicate, true, sym, ap, ◌∙◌, subst, refl, arith}
-use Rattle.std.specs.List.{slice_get}
+use Rattle.std.proofs.Common.{◌≡◌, ℕ, ◌<◌, List, ◌∷◌, Option, None, ℤ, pos, length, get_or, map, replicate, true, sym, ap, ◌∙◌, subst, refl, arith, []}
 use Rattle.std.proofs.lemmas.List.{length-map, get_or-map}
 use Rattle.std.proofs.lemmas.Simd.{map-map}
+use Rattle.std.proofs.lemmas.Option.{slice_get-get_or}
 use Rattle.vms_kinds.specs.declared.Kind.{Kind}
 use Rattle.vms_kinds.specs.declared.Kind.TheVariants.{U8}
 use Rattle.vms_kinds.specs.Codes.{InRange}
@@ -36,11 +36,6 @@ same_image a b v c n k =
     ∙ ap (λ (x : List ℤ). let i : Typed = record { version = b.version; came = b.came; numbers = x; kinds = a.kinds } in i) n
     ∙ ap (λ (x : List Kind). let i : Typed = record { version = b.version; came = b.came; numbers = b.numbers; kinds = x } in i) k
 
-at_get : {X : Type 0} (xs : List X) (k : ℕ) (d : X) → k < length xs → slice_get xs k ≡ Some (get_or xs k d)
-at_get [] k d lt = absurd (omega arith)
-at_get (x ∷ xs) zero d lt = refl
-at_get (x ∷ xs) (suc k) d lt = at_get xs k d (omega arith)
-
 -- the forms of a device's cells
 module _ (set : sets.Set) (k : ℕ) (forms : List CellForm) (laid : forms ≡ map form_of (device_cells set (device_at set k))) where
   pub form_kinds : map (λ form. form.kind) forms ≡ kinds_at set k
@@ -57,7 +52,7 @@ module _ (set : sets.Set) (k : ℕ) (forms : List CellForm) (laid : forms ≡ ma
       → InRange (get_or (map (λ form. form.kind) forms) c U8) (get_or (map (λ form. form.default) forms) c (pos 0))
   defaults_fit well heads lt c inside =
       let cells = device_cells set (device_at set k) in
-      let fit : DefaultsFit cells = (well_good set (none_is (first_fault set) well) heads).defaults k (device_at set k) (at_get set.devices k _ lt) in
+      let fit : DefaultsFit cells = (well_good set (none_is (first_fault set) well) heads).defaults k (device_at set k) (slice_get-get_or set.devices k _ lt) in
       let within : c < length cells = omega (arith, inside, form_count) in
       let kind : get_or (map (λ form. form.kind) forms) c U8 ≡ (get_or cells c no_cell).kind =
       ap (λ (l : List Kind). get_or l c U8) form_kinds ∙ get_or-map (λ x. x.kind) cells c no_cell U8 within in

@@ -1,5 +1,5 @@
 -- What is gathered for a writer, and handed on.
-use Rattle.std.proofs.Common.{◌≡◌, ℕ, ◌+◌, ◌-◌, ◌≤◌, List, [], ◌++◌, length, take, drop, Option, Some, None, Result, Ok, Err, sym, ap, ◌∙◌, subst, arith, append_assoc, take-append-drop, drop-drop, length-take}
+use Rattle.std.proofs.Common.{◌≡◌, refl, append-nil, ℕ, ◌+◌, ◌-◌, ◌≤◌, List, [], ◌++◌, length, take, drop, Option, Some, None, Result, Ok, Err, sym, ap, ◌∙◌, subst, arith, append_assoc, take-append-drop, drop-drop, length-take}
 use Rattle.std.proofs.lemmas.List.{drop-take, drop_all, drop-append-le}
 use Rattle.std.specs.Io.KnownBytes.{Keeps, Appends}
 use Rattle.vms_io.specs.Causes.{HasCause}
@@ -31,6 +31,12 @@ pub emptied : (a x : Option (List ℕ)) (room : List ℕ) (b e : ℕ) → b ≡ 
 emptied a x room b e same k =
     let none : between room b e ≡ [] = drop_all b (take e room) (omega (arith, same, length-take e room)) in
     subst (λ (l : List ℕ). Keeps a (told x l)) none k
+
+-- where nothing is gathered, what is told is what the writer tells
+pub told_empty : (x : Option (List ℕ)) (room : List ℕ) (b e : ℕ) → e ≡ 0 → told x (between room b e) ≡ x
+told_empty None room b e none = refl
+told_empty (Some xs) room b e none =
+    ap (λ (l : List ℕ). Some (xs ++ l)) (drop_all b (take e room) (omega (arith, none, length-take e room))) ∙ ap Some (append-nil xs)
 
 -- more are gathered
 pub gathers : (x : Option (List ℕ)) (room new more : List ℕ) (b e f : ℕ) → b ≤ e → e ≤ length room

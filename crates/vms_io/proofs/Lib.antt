@@ -3,3 +3,4 @@ pub mod Gathering
 pub mod PutLemmas
 pub mod ReadingLemmas
 pub mod WritingLemmas
+pub mod Owing

@@ -1,5 +1,5 @@
 -- Faults of the outside, and the bytes that a source has given.
-use Rattle.std.specs.Prelude.{◌≡◌, ℕ, ◌+◌, ◌-◌, ◌^◌, ◌<◌, ◌≤◌, min, List, length, get_or, take, Result, Option, Some, None, OnErr, MatchResult}
+use Rattle.std.specs.Prelude.{◌≡◌, ℕ, ◌+◌, ◌-◌, ◌^◌, ◌<◌, ◌≤◌, min, List, length, take, Result, Option, Some, None, OnErr, MatchResult}
 use Rattle.std.specs.Io.KnownBytes.{Consumes, Appends}
 
 -- a number that stops at 2 ^ 64 - 1
@@ -36,7 +36,3 @@ KeepsPromise (Some room) (Some bytes) faults = length bytes < room → faults �
 -- some first bytes of `piece` were appended
 abbrev pub AppendsPrefix : Option (List ℕ) → Option (List ℕ) → List ℕ → Type 0
 AppendsPrefix old new piece = (n : ℕ) × (n ≤ length piece) × Appends old new (take n piece)
-
--- each is a byte
-abbrev pub IsBytes : List ℕ → Type 0
-IsBytes bytes = (i : ℕ) → get_or bytes i 0 < 256

@@ -2,7 +2,8 @@
 use Rattle.std.specs.Prelude.{◌≡◌, ℕ, ◌+◌, ◌<◌, ◌⊎◌, min, max, List, [], ◌∷◌, length, drop, slice_get, Bool, true, false, Option, Some, None, unwrap_or, Contains, IsTrue, refl}
 use Rattle.std.proofs.Common.{subst, sym}
 use Rattle.std.proofs.lemmas.List.{get_or-drop}
-use Rattle.vms_io.specs.Causes.{KeepsPromise, IsBytes, capped}
+use Rattle.vms_io.specs.Causes.{KeepsPromise, capped}
+use Rattle.vms_kinds.specs.Bytes.{IsBytes}
 
 -- a source in memory: the bytes left, the greatest piece of each read, the numbers of the reads that fail, the
 -- reads so far, the bytes given and the faults

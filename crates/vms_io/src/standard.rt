@@ -97,6 +97,7 @@ pub struct StdSink<W: Write + Drop> {
 
 impl<W: Write + Drop> StdSink<W> {
     ghost use Rattle.vms_io.specs.Gathered.{told, between};
+    ghost use Rattle.vms_io.specs.Writers.{writer_of};
 
     /// The sink over this writer, without a fault so far.
     pub fn new(writer: W) -> Self
@@ -112,9 +113,21 @@ impl<W: Write + Drop> StdSink<W> {
         }
     }
 
-    /// Hands on what the writer holds back.
+    /// The writer, which has what was handed on.
+    pub fn get_ref(&self) -> &W
+        ensures { result.now ≡ writer_of self.now }
+    {
+        &self.writer
+    }
+
+    /// Hands on what is gathered, so that the writer has all that was written, and what it holds back itself. After a
+    /// failure what it didn't take is still gathered.
     pub fn flush(&mut self) -> Result<(), Failed>
-        ensures { HasCause (⟦<StdSink<W> as Sink>⟧.faults self.old)
+        ensures bytes { Keeps (⟦<StdSink<W> as Sink>⟧.written self.old)
+            (⟦<StdSink<W> as Sink>⟧.written self.new) }
+        ensures handed { OnOk result (⟦<StdSink<W> as Sink>⟧.written self.new
+            ≡ W.contents (writer_of self.new)) }
+        ensures cause { HasCause (⟦<StdSink<W> as Sink>⟧.faults self.old)
             (⟦<StdSink<W> as Sink>⟧.faults self.new) result }
     {
         self.hand_on()?;

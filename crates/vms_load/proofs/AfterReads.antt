@@ -4,6 +4,7 @@ use Rattle.std.specs.List.{slice_get}
 use Rattle.std.proofs.lemmas.List.{drop_all}
 use Rattle.vms_spec.specs.declared.Reason.TheVariants as reasons
 use Rattle.std.specs.Str.{bytes_eq}
+use Rattle.std.proofs.lemmas.Option.{slice_get-get_or}
 use Rattle.vms_spec.specs.Lists.{position}
 use Rattle.vms_spec.specs.Sets.{Sub, Device, Set}
 use Rattle.vms_spec.specs.Layout.{Slot}
@@ -14,7 +15,6 @@ use Rattle.vms_spec.specs.Lookup.{find_sub, did_come}
 use Rattle.vms_spec.specs.Units.{Piece, SubHead, Foot}
 use Rattle.vms_bodies.specs.Whole.{reading_on}
 use Rattle.vms_bodies.proofs.BodyLaws.{at_set, set_twice}
-use Rattle.vms_bodies.proofs.FrameLaws.{one_unit}
 use Rattle.vms_stream.specs.SoFar.{Tail, Bare as IsBare}
 use Rattle.vms_stream.specs.Dues.{AfterFields, Due, begins_next, rules_hold, due_field}
 use Rattle.vms_stream.specs.Judge.{judge, owes}
@@ -22,8 +22,6 @@ use Rattle.vms_stream.specs.Judged.{ask, judge_seen, begins_section}
 use Rattle.vms_stream.specs.Seen.{Good, seen}
 use Rattle.vms_stream.specs.State.{State, Inside, Free, image_at, or_none, slots_at, due_by, known_at, after, by_state}
 use Rattle.vms_stream.proofs.Calls.Judged.{judged_holds, next_holds, seen_holds}
-use Rattle.vms_stream.proofs.Finding.Advancing.{advances}
-use Rattle.vms_stream.proofs.Judging.Mirrors.{solid}
 use Rattle.vms_parts.specs.Devices.{device_at}
 use Rattle.vms_desc.specs.Parts.{sub_at}
 use Rattle.vms_frames.specs.Stands.{Stand}
@@ -32,7 +30,6 @@ use Rattle.vms_frames.specs.declared.units.After.TheVariants as afters
 use Rattle.vms_frames.specs.declared.units.Tail.TheVariants as tails
 use Rattle.vms_frames.specs.declared.fault.FrameFault.{FrameFault}
 use Rattle.vms_frames.specs.declared.fault.FrameFault.TheVariants as frames
-use Rattle.vms_frames.specs.declared.fault.Refusal.{Refusal}
 use Rattle.vms_load.specs.Heads.{Unfit, unfit, opened_at, opened_unless, reason_against_sub, sub_opened}
 use Rattle.vms_load.specs.Reads.{Onward, Reads, ReadsOn, Settles, concerning}
 use Rattle.vms_load.specs.Parts.{bytes_of, subs_due, spot_in, state_in, all_passed, after_fields, after_part}
@@ -40,12 +37,10 @@ use Rattle.vms_load.specs.declared.fault.LoadFault.{LoadFault}
 use Rattle.vms_load.specs.declared.fault.LoadFault.TheVariants as faults
 use Rattle.vms_load.specs.declared.parts.Section.{Section}
 use Rattle.vms_load.specs.declared.parts.Open.{Open}
-use Rattle.vms_load.proofs.HeadLemmas.{unknown_sub, known_sub, sub_below, sub_is, at_get}
+use Rattle.vms_load.proofs.HeadLemmas.{unknown_sub, known_sub, sub_below, sub_is}
 use Rattle.vms_load.proofs.HeadRows.{verdict, sub_judged}
-use Rattle.vms_load.proofs.ReadLemmas.{unit_fails, unit_settled}
-
-refusal_is : (r s : Refusal) → faults.Refused r ≡ faults.Refused s → r ≡ s
-refusal_is r s e = cc
+use Rattle.vms_load.proofs.ReadLemmas.{unit_fails, unit_settled, unit_of}
+use Rattle.vms_load.proofs.OpenedReads.{refusal_is}
 
 module _ (set : Set) (names : List (List ℕ)) (state : State) (section : Section) (part : Option ℕ) (image : Image) (here : section.device < length set.devices) (room : section.device < length state.images) where
   abbrev go : State → Onward
@@ -61,7 +56,7 @@ module _ (set : Set) (names : List (List ℕ)) (state : State) (section : Sectio
   t = tail_of section.tail
 
   there : slice_get set.devices section.device ≡ Some (device_at set section.device)
-  there = at_get set.devices section.device _ here
+  there = slice_get-get_or set.devices section.device _ here
 
   image_is : image_at inner ≡ image
   image_is = ap or_none (at_set state.images section.device image room)
@@ -80,13 +75,10 @@ module _ (set : Set) (names : List (List ℕ)) (state : State) (section : Sectio
   held : rules_hold (slots_at set inner (Inside section.device section.id part done)) ≡ true
   held = ap rules_hold none_left
 
-  unit_of : (s : State) (place : ℕ) (rest : List ℕ) → go s place rest ≡ reading_after go place rest (judge (by_state set names) s rest)
-  unit_of s place rest = one_unit (judge (by_state set names)) (advances (by_state set names) (λ s. solid set s s.spot)) s place rest
-
   after_is : (place : ℕ) (rest : List ℕ) → begins_next t rest ≡ false
       → go inner place rest ≡ reading_after go place rest (judge_seen (Some section.device) (ask set names inner) rest (seen (AfterFields 0 t) (in_section section.id) rest))
   after_is place rest b =
-      unit_of inner place rest
+      unit_of set names inner place rest
       ∙ ap (reading_after go place rest) (
       judged_holds set names inner rest held (ap (λ (d : Due). owes d rest) due_is) (ap (λ (d : Due). begins_section d rest) due_is ∙ b)
       ∙ ap (λ (d : Due). judge_seen (Some section.device) (ask set names inner) rest (seen d (known_at set inner) rest)) due_is
@@ -99,9 +91,9 @@ module _ (set : Set) (names : List (List ℕ)) (state : State) (section : Sectio
 
   next_is : (place : ℕ) (rest : List ℕ) → begins_next t rest ≡ true → go inner place rest ≡ go free place rest
   next_is place rest b =
-      unit_of inner place rest
+      unit_of set names inner place rest
       ∙ ap (reading_after go place rest) (next_holds set names state.machine (slice_set state.images section.device image) state.came section.device section.id part done t rest due_is held b)
-      ∙ sym (unit_of free place rest)
+      ∙ sym (unit_of set names free place rest)
 
   pub after_fault : {Y : Type 0} (from to : Stand) (old left : Option (List ℕ)) (next : Y → Onward) (fault : FrameFault) → from.held ≡ None
       → IfSome old (λ rest. AnswersBehind t section.id from.at rest to.held left (Err fault))
@@ -213,7 +205,7 @@ sub_new k d came name v j place long e = by_found (find_sub 0 d.subs name) refl
     by_found (Some i) f =
         let u = unless_came k i (sub_at d i) (get_or came i None) v j place (e ∙ ap (opened_at place) (known_sub k d came name v i long f)) in
         let lt : i < length d.subs = sub_below d.subs name i f in
-        let new : slice_get came i ≡ Some None = at_get came i None (omega (arith, lt, long)) ∙ ap (λ (o : Option ℕ). Some o) u.1 in
+        let new : slice_get came i ≡ Some None = slice_get-get_or came i None (omega (arith, lt, long)) ∙ ap (λ (o : Option ℕ). Some o) u.1 in
         (omega (arith, u.0, lt), ap (λ (n : ℕ). slice_get came n) u.0 ∙ new)
 
 pub subs_taken : (set : Set) (subs : List Sub) (came : List (Option ℕ)) (j v : ℕ) (none : Sub) → length came ≡ length subs → slice_get came j ≡ Some None

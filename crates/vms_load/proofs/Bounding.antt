@@ -2,11 +2,9 @@
 use Rattle.std.proofs.Common.{◌≡◌, ℕ, zero, suc, ◌+◌, ◌*◌, ◌^◌, ◌<◌, ◌≤◌, List, [], ◌∷◌, ◌++◌, length, get_or, map, None, Some, false, true, nat_le, refl, sym, ap, ◌∙◌, subst, arith}
 use Rattle.std.specs.List.{slice_get}
 use Rattle.std.proofs.lemmas.Bool.{and_parts, leb-true}
-use Rattle.vms_kinds.specs.declared.Kind.{Kind}
 use Rattle.vms_kinds.specs.declared.Kind.TheVariants as kinds
 use Rattle.vms_kinds.specs.declared.Item.{Item}
 use Rattle.vms_kinds.specs.declared.Item.TheVariants.{Num, Equal, Unused, Struct}
-use Rattle.vms_kinds.specs.Codes.{width}
 use Rattle.vms_spec.specs.Sets.{Field, Desc, Sub, Device, Set}
 use Rattle.vms_spec.specs.Layout.{first, no_desc, capacity_of}
 use Rattle.vms_spec.specs.Rules.{is_small_item}
@@ -15,27 +13,15 @@ use Rattle.vms_desc.specs.Formed.{is_well_formed}
 use Rattle.vms_desc.proofs.Bounds.{few_items, few_devices}
 use Rattle.vms_parts.specs.Devices.{device_at}
 use Rattle.vms_spec.proofs.Tables.{first_long}
+use Rattle.vms_spec.proofs.KindLaws.{width_small}
 use Rattle.vms_load.specs.Bounds.{item_bytes, fields_bytes, desc_bytes, struct_bytes}
 use Rattle.vms_load.specs.Parts.{bytes_of, subs_due}
 use Rattle.vms_load.specs.Staging.{section_bytes, sections_due, subs_bytes, devices_most}
 use Rattle.vms_load.proofs.SetFacts.{well_of, few_subs}
-use Rattle.std.proofs.lemmas.Option.{slice_get_within}
-use Rattle.vms_load.proofs.HeadLemmas.{get_at}
+use Rattle.std.proofs.lemmas.Option.{slice_get_within, get_or_from_slice_get}
 use Rattle.vms_load.proofs.SmallItems.{AreSmall, struct_small, part_small}
 
 -- ---- no item has more than 4,096 bytes
-
-width_small : (k : Kind) → width k ≤ 4096
-width_small kinds.U8 = omega arith
-width_small kinds.U16 = omega arith
-width_small kinds.U32 = omega arith
-width_small kinds.U64 = omega arith
-width_small kinds.I8 = omega arith
-width_small kinds.I16 = omega arith
-width_small kinds.I32 = omega arith
-width_small kinds.I64 = omega arith
-width_small kinds.Bool = omega arith
-width_small kinds.Timer = omega arith
 
 abbrev Small : List ℕ → List ℕ → Type 0
 Small bytes items = (j : ℕ) → get_or bytes j 0 ≤ 4096 * get_or items j 0
@@ -102,12 +88,12 @@ module _ (set : Set) (well : is_well_formed set ≡ true) where
   part_of_device : (k : ℕ) (d : Device) → slice_get set.devices k ≡ Some d → AreSmall d.desc.fields × (length d.subs ≤ 32) × ((j : ℕ) (s : Sub) → slice_get d.subs j ≡ Some s → AreSmall s.desc.fields)
   part_of_device k d e =
       let lt : k < length set.devices = slice_get_within set.devices k d e in
-      let same : device_at set k ≡ d = get_at set.devices k d _ e in (
+      let same : device_at set k ≡ d = get_or_from_slice_get set.devices k d _ e in (
         subst (λ (x : Device). AreSmall x.desc.fields) same (part_small set (well_of set well) k None lt tt),
         subst (λ (x : Device). length x.subs ≤ 32) same (few_subs set well k lt),
         λ j s f.
             let g : slice_get (device_at set k).subs j ≡ Some s = ap (λ (x : Device). slice_get x.subs j) same ∙ f in
-            subst (λ (x : Sub). AreSmall x.desc.fields) (get_at (device_at set k).subs j s _ g) (part_small set (well_of set well) k (Some j) lt (slice_get_within (device_at set k).subs j s g)),
+            subst (λ (x : Sub). AreSmall x.desc.fields) (get_or_from_slice_get (device_at set k).subs j s _ g) (part_small set (well_of set well) k (Some j) lt (slice_get_within (device_at set k).subs j s g)),
       )
 
   -- so many bytes are no place above 2 ^ 63

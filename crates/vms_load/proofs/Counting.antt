@@ -8,7 +8,6 @@ use Rattle.vms_spec.specs.Taking.{Progress, refuse, on, if_whole, take_number}
 use Rattle.vms_parts.specs.Capacities.{least_of}
 use Rattle.vms_walk.specs.Steps.{capacities_of}
 use Rattle.vms_walk.proofs.Least.{exceeds_least}
-pub use Rattle.vms_walk.proofs.Least.{or_false}
 
 pub number_least : (kind : Kind) (caps : List ℕ) (cell : ℕ) (p : Progress) → take_number kind (capacities_of (least_of caps)) cell p ≡ take_number kind caps cell p
 number_least kind caps cell p =

@@ -1,12 +1,13 @@
 -- A load answers exactly by what the input is.
-use Rattle.std.proofs.Common.{◌≡◌, ℕ, ◌+◌, ◌≤◌, List, [], ◌++◌, length, drop, Option, Some, Ok, Err, refl, ap, ◌∙◌, subst, arith, length-append, length-drop, append-nil}
+use Rattle.std.proofs.Common.{◌≡◌, ℕ, ◌+◌, ◌≤◌, List, [], ◌++◌, length, drop, Option, Ok, Err, refl, ap, ◌∙◌, subst, arith, length-append, length-drop, append-nil}
 use Rattle.vms_io.specs.Causes.{capped}
 use Rattle.vms_spec.specs.Units.{Piece, spell, spelled}
 use Rattle.std.specs.Prelude.{Result}
+use Rattle.std.proofs.lemmas.Option.{same_Some}
 use Rattle.vms_spec.specs.declared.Reason.{Reason}
 use Rattle.vms_stream.specs.Faults.{Fault, Why, Fails, Cut, Wrong}
 use Rattle.vms_spec.specs.Images.{Image}
-use Rattle.vms_spec.specs.Numbers.{IsBytes}
+use Rattle.vms_kinds.specs.Bytes.{IsBytes}
 use Rattle.vms_spec.specs.Sets.{Set}
 use Rattle.vms_stream.specs.Streams.{Takes}
 use Rattle.vms_spec.specs.WellFormed.{WellFormed}
@@ -55,15 +56,12 @@ fault_within : (set : Set) (names : List (List ℕ)) (input : List ℕ) (place :
 fault_within set names input place section reason size f =
     omega (arith, ap length f.whole, length-append (spelled f.units) f.rest, f.long, unit_within set names f.units f.rest section reason size f.why)
 
-some_is : (x y : List ℕ) → Some x ≡ Some y → x ≡ y
-some_is x y e = cc
-
 pub heard_holds : HeardLaw
 heard_holds set names before now images taken r h =
     let said = h.says [] refl in
     let size = said.0 in
     let fault = said.1 in
-    let none : [] ≡ drop (r.at + size) (h.bytes ++ []) = some_is [] (drop (r.at + size) (h.bytes ++ [])) said.2 in
+    let none : [] ≡ drop (r.at + size) (h.bytes ++ []) = same_Some [] (drop (r.at + size) (h.bytes ++ [])) said.2 in
     let all : length (h.bytes ++ []) ≡ length h.bytes = ap length (append-nil h.bytes) in
     let ends : length h.bytes ≡ r.at + size =
     omega (arith, all, ap length none, length-drop (r.at + size) (h.bytes ++ []), fault_within set names (h.bytes ++ []) r.at r.section r.reason size fault) in

@@ -1,11 +1,13 @@
 -- What heads open, as the judge has it.
-use Rattle.std.proofs.Common.{◌≡◌, ℕ, zero, suc, ◌-◌, ◌<◌, ◌≤◌, List, [], ◌∷◌, length, get_or, Option, Some, None, Bool, true, false, if◌then◌else◌, Ok, refl, sym, ap, ◌∙◌, arith}
+use Rattle.std.proofs.Common.{◌≡◌, ℕ, suc, ◌-◌, ◌<◌, ◌≤◌, List, ◌∷◌, length, get_or, Option, Some, None, Bool, true, false, if◌then◌else◌, Ok, refl, sym, ap, ◌∙◌, arith}
 use Rattle.std.specs.List.{slice_get}
+use Rattle.std.proofs.lemmas.Option.{slice_get-get_or}
 use Rattle.vms_spec.specs.declared.Reason.{Reason}
 use Rattle.vms_spec.specs.declared.Reason.TheVariants as reasons
 use Rattle.vms_spec.specs.Lists.{position}
 use Rattle.vms_spec.specs.Sets.{Device, Sub, Set}
 use Rattle.vms_spec.specs.Lookup.{find_device, find_sub, index}
+use Rattle.vms_spec.proofs.ListLaws.{found_inside}
 use Rattle.vms_parts.specs.Devices.{device_at}
 use Rattle.vms_desc.specs.Parts.{sub_at}
 use Rattle.vms_load.specs.Heads.{section_opened, device_opened, opened_unless, reason_against, reason_against_sub, sub_opened, sub_opened_at, opened_at, unfit}
@@ -16,20 +18,6 @@ inside_by : {X : Type 0} (p : X → Bool) (i : ℕ) (x : X) (xs : List X) (k : �
     → (b : Bool) → (if b then Some i else position p (suc i) xs) ≡ Some k → (i ≤ k) × (k - i < length (x ∷ xs))
 inside_by p i x xs k h true e = let same : i ≡ k = cc in (omega (arith, same), omega (arith, same))
 inside_by p i x xs k h false e = let r = h e in (omega (arith, r.0, r.1), omega (arith, r.0, r.1))
-
-pub found_inside : {X : Type 0} (p : X → Bool) (i : ℕ) (xs : List X) (k : ℕ) → position p i xs ≡ Some k → (i ≤ k) × (k - i < length xs)
-found_inside p i [] k e = cc
-found_inside p i (x ∷ xs) k e = inside_by p i x xs k (λ h. found_inside p (suc i) xs k h) (p x) e
-
-pub at_get : {X : Type 0} (xs : List X) (k : ℕ) (d : X) → k < length xs → slice_get xs k ≡ Some (get_or xs k d)
-at_get [] k d lt = absurd (omega arith)
-at_get (x ∷ xs) zero d lt = refl
-at_get (x ∷ xs) (suc k) d lt = at_get xs k d (omega arith)
-
-pub get_at : {X : Type 0} (xs : List X) (k : ℕ) (x d : X) → slice_get xs k ≡ Some x → get_or xs k d ≡ x
-get_at [] k x d e = cc
-get_at (y ∷ xs) zero x d e = cc
-get_at (y ∷ xs) (suc k) x d e = get_at xs k x d e
 
 pub device_below : (devices : List Device) (name : List ℕ) (instance k : ℕ) → find_device 0 devices name instance ≡ Some k → k < length devices
 device_below devices name instance k e = let r = found_inside _ 0 devices k e in omega (arith, r.0, r.1)
@@ -46,7 +34,7 @@ module _ (set : Set) (came : List Bool) (name : List ℕ) (instance v : ℕ) whe
   pub known : (k : ℕ) → find_device 0 set.devices name instance ≡ Some k → section_opened set came name instance v ≡ opened_unless (Some k) k (reason_against (device_at set k) (get_or came k false) v)
   known k e =
       ap (λ (found : Option ℕ). device_opened v found (slice_get set.devices (index found)) (get_or came (index found) false)) e
-      ∙ ap (λ (o : Option Device). device_opened v (Some k) o (get_or came k false)) (at_get set.devices k _ (device_below set.devices name instance k e))
+      ∙ ap (λ (o : Option Device). device_opened v (Some k) o (get_or came k false)) (slice_get-get_or set.devices k _ (device_below set.devices name instance k e))
 
   pub opens : (place k : ℕ) (reason : Option Reason) → find_device 0 set.devices name instance ≡ Some k → reason ≡ reason_against (device_at set k) (get_or came k false) v
       → opened_at place (opened_unless (Some k) k reason) ≡ opened_at place (section_opened set came name instance v)
@@ -63,8 +51,8 @@ module _ (k : ℕ) (d : Device) (came : List (Option ℕ)) (name : List ℕ) (v 
   known_sub j long e =
       let lt : j < length d.subs = sub_below d.subs name j e in
       ap (λ (found : Option ℕ). sub_opened_at k v found (slice_get d.subs (index found)) (slice_get came (index found))) e
-      ∙ ap (λ (o : Option Sub). sub_opened_at k v (Some j) o (slice_get came j)) (at_get d.subs j _ lt)
-      ∙ ap (λ (o : Option (Option ℕ)). sub_opened_at k v (Some j) (Some (sub_at d j)) o) (at_get came j None (omega (arith, lt, long)))
+      ∙ ap (λ (o : Option Sub). sub_opened_at k v (Some j) o (slice_get came j)) (slice_get-get_or d.subs j _ lt)
+      ∙ ap (λ (o : Option (Option ℕ)). sub_opened_at k v (Some j) (Some (sub_at d j)) o) (slice_get-get_or came j None (omega (arith, lt, long)))
 
   pub opens_sub : (place j : ℕ) (reason : Option Reason) → length came ≡ length d.subs → find_sub 0 d.subs name ≡ Some j → reason ≡ reason_against_sub (sub_at d j) (get_or came j None) v
       → opened_at place (opened_unless (Some k) j reason) ≡ opened_at place (sub_opened k d came name v)

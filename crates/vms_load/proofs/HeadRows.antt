@@ -1,5 +1,5 @@
 -- What the loader opens by a head is what the rows say of the head.
-use Rattle.std.proofs.Common.{◌≡◌, ℕ, zero, suc, ◌<◌, List, [], ◌∷◌, length, get_or, Option, Some, None, Result, Ok, Err, refl, sym, ap, ◌∙◌, arith, Bool, true, false, not, nat_lt, if◌then◌else◌}
+use Rattle.std.proofs.Common.{◌≡◌, ℕ, ◌<◌, List, length, get_or, Option, Some, None, Result, Ok, Err, refl, sym, ap, ◌∙◌, arith, Bool, true, false, not, nat_lt, if◌then◌else◌}
 use Rattle.std.specs.List.{slice_get}
 use Rattle.vms_spec.specs.declared.Reason.{Reason}
 use Rattle.vms_spec.specs.declared.Reason.TheVariants as reasons
@@ -11,7 +11,7 @@ use Rattle.vms_spec.specs.Units.{Piece, Head, SubHead}
 use Rattle.vms_spec.specs.SoFar.{device_named, subs_of}
 use Rattle.vms_bodies.proofs.HeadFound.{found_is}
 use Rattle.vms_bodies.proofs.SubHeads.{sub_is}
-use Rattle.std.proofs.lemmas.Option.{slice_get_within}
+use Rattle.std.proofs.lemmas.Option.{slice_get_within, slice_get-get_or}
 use Rattle.vms_load.specs.Heads.{Unfit, opened_unless, section_opened, device_opened, sub_opened, sub_opened_at}
 use Rattle.vms_stream.specs.Table.{first_row, is_none, test_some, asking}
 use Rattle.vms_stream.specs.SoFar.{Known}
@@ -23,11 +23,6 @@ use Rattle.vms_spec.specs.Readings.{Verdict, Goes, Faulty}
 abbrev pub unfit_for : Result ℕ Unfit → Option (Option ℕ × Reason)
 unfit_for (Ok k) = None
 unfit_for (Err why) = Some (why.section, why.reason)
-
-there : {X : Type 0} (xs : List X) (k : ℕ) (d : X) → k < length xs → slice_get xs k ≡ Some (get_or xs k d)
-there [] k d lt = absurd (omega arith)
-there (x ∷ xs) zero d lt = refl
-there (x ∷ xs) (suc k) d lt = there xs k d (omega arith)
 
 -- the rows of a head, by the device that it names and whether this came
 abbrev head_rows : Option ℕ → Option Device → Option Bool → ℕ → Option (Option ℕ × Reason)
@@ -59,7 +54,7 @@ head_opened set names k id name instance v long = by (device_named set name inst
         let i : f.i ≡ j = (let x = f.is in omega arith) in
         let d : slice_get set.devices j ≡ Some f.device = ap (slice_get set.devices) (sym i) ∙ f.there in
         let inside : j < length k.came = (let x = slice_get_within set.devices j f.device d in omega (arith, long)) in
-        ap (λ (o : Option Device). head_rows (Some j) o (slice_get k.came j) v) d ∙ ap (λ (o : Option Bool). head_rows (Some j) (Some f.device) o v) (there k.came j false inside)
+        ap (λ (o : Option Device). head_rows (Some j) o (slice_get k.came j) v) d ∙ ap (λ (o : Option Bool). head_rows (Some j) (Some f.device) o v) (slice_get-get_or k.came j false inside)
         ∙ known_head j f.device (get_or k.came j false) v ∙ ap (λ (o : Option Device). unfit_for (device_opened v (Some j) o (get_or k.came j false))) (sym d)
 
 -- ---- subsections
@@ -102,7 +97,7 @@ sub_is_opened set names y k d name v section here long =
         let i : f.i ≡ j = (let x = f.is in omega arith) in
         let s : slice_get d.subs j ≡ Some f.sub = ap (slice_get d.subs) (sym i) ∙ f.there in
         let inside : j < length y.image.came = (let x = slice_get_within d.subs j f.sub s in omega (arith, long)) in
-        let c = there y.image.came j None inside in
+        let c = slice_get-get_or y.image.came j None inside in
         ap (λ (o : Option Sub). sub_rows (Some k) (Some j) o (slice_get y.image.came j) v) s ∙ ap (λ (o : Option (Option ℕ)). sub_rows (Some k) (Some j) (Some f.sub) o v) c
         ∙ known_sub k j f.sub (get_or y.image.came j None) v
         ∙ ap (λ (o : Option Sub). unfit_for (sub_opened_at k v (Some j) o (Some (get_or y.image.came j None)))) (sym s) ∙ ap (λ (o : Option (Option ℕ)). unfit_for (sub_opened_at k v (Some j) (slice_get d.subs j) o)) (sym c)

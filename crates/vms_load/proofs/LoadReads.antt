@@ -1,6 +1,6 @@
 -- What a load answers, by what the judge reads.
-use Rattle.std.proofs.Common.{◌≡◌, ℕ, ◌+◌, List, ◌++◌, map, drop, Option, Some, None, Ok, Err, IfSome, refl, sym, ap, ◌∙◌, subst}
-use Rattle.vms_spec.specs.Numbers.{IsBytes}
+use Rattle.std.proofs.Common.{◌≡◌, ℕ, ◌+◌, List, [], ◌++◌, map, drop, Option, Some, None, Result, Ok, Err, IfSome, inl, inr, refl, sym, ap, ◌∙◌, subst}
+use Rattle.vms_kinds.specs.Bytes.{IsBytes}
 use Rattle.vms_spec.specs.Sets.{Set}
 use Rattle.vms_spec.specs.Images.{Image}
 use Rattle.vms_spec.specs.WellFormed.{WellFormed}
@@ -12,10 +12,15 @@ use Rattle.vms_stream.specs.State.{State, by_state, at_start}
 use Rattle.vms_stream.proofs.Stated.{accepted_holds}
 use Rattle.vms_stream.proofs.Judging.Mirrors.{state_refuses}
 use Rattle.vms_frames.specs.declared.fault.Refusal.{Refusal}
-use Rattle.vms_frames.proofs.HeardLemmas.{bytes_both, no_bytes}
+use Rattle.vms_io.specs.Told.{Intake}
+use Rattle.vms_io.specs.Reading.{Last, MayFollow}
+use Rattle.vms_kinds.proofs.ByteLemmas.{bytes_both}
+use Rattle.vms_io.proofs.ReadingLemmas.{no_bytes, reads_as}
 use Rattle.vms_image.specs.Typed.{state_of as untyped}
 use Rattle.vms_load.specs.Loads.{Loads}
-use Rattle.vms_load.specs.Hearing.{HearsAll, HearsLoad}
+use Rattle.vms_load.specs.Going.{GoesThrough, LoadReads}
+use Rattle.vms_load.specs.Good.{AreKept}
+use Rattle.vms_load.proofs.TakenImages.{taken_kept}
 use Rattle.vms_load.specs.Staging.{ReadsAll, name_of}
 use Rattle.vms_load.specs.declared.fault.LoadFault.{LoadFault}
 use Rattle.vms_load.specs.declared.fault.LoadFault.TheVariants as faults
@@ -42,34 +47,39 @@ module _ (set : Set) (names : List (List ℕ)) (well : WellFormed set) (heads : 
   refused_by images taken (faults.Refused r) None e h = absurd h
   refused_by images taken faults.ReadFault x e h = tt
 
-module _ (set : Set) (names : List (List ℕ)) (well : WellFormed set) (heads : FitsHeads set) (staged : Staged) (left : Option (List ℕ)) where
+-- what may follow at the end are bytes
+last_bytes : (left : Option (List ℕ)) (more : List ℕ) → IfSome left IsBytes → MayFollow Last left more → IsBytes more
+last_bytes left more ok (inl none) = subst IsBytes (sym none) no_bytes
+last_bytes None more ok (inr is) = cc
+last_bytes (Some rest) more ok (inr is) = let same : rest ≡ more = cc in subst IsBytes same ok
+
+abbrev Through : Intake → Intake → Set → List (List ℕ) → Staged → Result ℕ LoadFault → Type 0
+Through a b set names staged result = GoesThrough a b set (reading (by_state set names) (at_start set)) staged result
+
+module _ {a b : Intake} (set : Set) (names : List (List ℕ)) (well : WellFormed set) (heads : FitsHeads set) (staged : Staged) (ok : IfSome b.left IsBytes) where
   -- a stream that is read to its end is one of the set
-  pub loads_taken : (old : Option (List ℕ)) (taken : ℕ) → IfSome old IsBytes → IfSome old (λ input. ReadsAll set (reading (by_state set names) (at_start set) input) staged input left (Ok taken))
-      → IfSome old (λ input. Loads set names input left (map untyped staged.images.items) taken (Ok staged.machine))
-  loads_taken None taken ok h = tt
-  loads_taken (Some input) taken ok h = taken_by set names well heads staged input ok left taken (reading (by_state set names) (at_start set) input) refl h
+  pub loads_taken : (taken : ℕ) → Through a b set names staged (Ok taken) → LoadReads a b set names (map untyped staged.images.items) taken (Ok staged.machine)
+  loads_taken taken h = record {
+    bytes = h.bytes;
+    takes = h.takes;
+    long = h.long;
+    says = λ more f. taken_by set names well heads staged (h.bytes ++ more) (bytes_both h.bytes more h.takes.octets (last_bytes b.left more ok f)) (Some more) taken
+        (reading (by_state set names) (at_start set) (h.bytes ++ more)) refl (h.says more f);
+    cause = tt;
+  }
 
   -- one that is refused is at fault
-  pub loads_refused : (old : Option (List ℕ)) (images : List Image) (taken : ℕ) (fault : LoadFault) → IfSome old IsBytes → IfSome old (λ input. ReadsAll set (reading (by_state set names) (at_start set) input) staged input left (Err fault))
-      → IfSome old (λ input. Loads set names input left images taken (Err fault))
-  loads_refused None images taken fault ok h = tt
-  loads_refused (Some input) images taken fault ok h = refused_by set names well heads staged input ok left images taken fault (reading (by_state set names) (at_start set) input) refl h
-
-module _ (set : Set) (names : List (List ℕ)) (well : WellFormed set) (heads : FitsHeads set) (staged : Staged) where
-  -- the same of the bytes that were heard
-  pub heard_taken : (a b taken : ℕ) → HearsAll set (λ input. reading (by_state set names) (at_start set) input) staged a b (Ok taken) → HearsLoad set names a b (map untyped staged.images.items) taken (Ok staged.machine)
-  heard_taken a b taken h = record {
+  pub loads_refused : (images : List Image) (taken : ℕ) (fault : LoadFault) → Through a b set names staged (Err fault) → LoadReads a b set names images taken (Err fault)
+  loads_refused images taken (faults.Refused r) h = record {
     bytes = h.bytes;
-    octets = h.octets;
-    given = h.given;
-    says = λ more e. loads_taken set names well heads staged (Some more) (Some (h.bytes ++ more)) taken (bytes_both h.bytes more h.octets (subst IsBytes (sym e) no_bytes)) (h.says more e);
+    takes = h.takes;
+    long = h.long;
+    says = λ more f. refused_by set names well heads staged (h.bytes ++ more) (bytes_both h.bytes more h.takes.octets (last_bytes b.left more ok f)) (Some more) images taken (faults.Refused r)
+        (reading (by_state set names) (at_start set) (h.bytes ++ more)) refl (h.says more f);
+    cause = tt;
   }
+  loads_refused images taken faults.ReadFault h = reads_as (λ n l. l) (λ rest left p. tt) h
 
-  pub heard_refused : (a b : ℕ) (images : List Image) (taken : ℕ) (fault : LoadFault) → HearsAll set (λ input. reading (by_state set names) (at_start set) input) staged a b (Err fault) → HearsLoad set names a b images taken (Err fault)
-  heard_refused a b images taken (faults.Refused r) h = record {
-    bytes = h.bytes;
-    octets = h.octets;
-    given = h.given;
-    says = λ more e. loads_refused set names well heads staged (Some more) (Some (h.bytes ++ more)) images taken (faults.Refused r) (bytes_both h.bytes more h.octets (subst IsBytes (sym e) no_bytes)) (h.says more e);
-  }
-  heard_refused a b images taken faults.ReadFault h = tt
+-- the images that a load gives are normal and valid
+pub loads_kept : {a b : Intake} (set : Set) (names : List (List ℕ)) (images : List Image) (taken : ℕ) (machine : Option ℕ) → LoadReads a b set names images taken (Ok machine) → AreKept set images
+loads_kept set names images taken machine h = taken_kept set names _ taken _ images (h.says [] (inl refl)).0

@@ -1,6 +1,7 @@
 -- The section of a head, as the judge reads it.
 use Rattle.std.proofs.Common.{◌≡◌, ℕ, ◌+◌, ◌<◌, List, length, map, drop, slice_set, Option, Some, None, Bool, true, false, Result, Ok, Err, refl, sym, ap, ◌∙◌, subst}
 use Rattle.std.proofs.lemmas.List.{map-set}
+use Rattle.std.proofs.lemmas.Option.{slice_get-get_or}
 use Rattle.vms_spec.specs.Sets.{Set, Device}
 use Rattle.vms_spec.specs.Lists.{at_option}
 use Rattle.vms_spec.specs.Images.{Image}
@@ -28,11 +29,11 @@ use Rattle.vms_load.specs.declared.fault.LoadFault.{LoadFault}
 use Rattle.vms_load.specs.declared.fault.LoadFault.TheVariants as faults
 use Rattle.vms_load.specs.declared.parts.Section.{Section}
 use Rattle.vms_load.specs.declared.staged.Staged.{Staged}
-use Rattle.vms_load.proofs.HeadLemmas.{at_get, device_is}
+use Rattle.vms_load.proofs.HeadLemmas.{device_is}
 use Rattle.vms_load.proofs.HeadRows.{verdict, section_judged}
 use Rattle.vms_load.proofs.ReadLemmas.{IsLong, refused_here}
 
-refusal_is : (r s : Refusal) → faults.Refused r ≡ faults.Refused s → r ≡ s
+pub refusal_is : (r s : Refusal) → faults.Refused r ≡ faults.Refused s → r ≡ s
 refusal_is r s e = cc
 
 -- the unit of a head, and how long it is
@@ -65,7 +66,7 @@ module _ (set : Set) (names : List (List ℕ)) (staged : Staged) (first configur
       → after set state (HeadUnit id name instance v) ≡ state_in (begun k) (record { device = k; id = id; tail = tail }) image (Inside k id None 0)
   opened_is id name instance v k image tail found below is same =
       ap (λ (o : Option ℕ). headed o (at_option set.devices o)) found
-      ∙ ap (λ (d : Option Device). headed (Some k) d) (at_get set.devices k _ below)
+      ∙ ap (λ (d : Option Device). headed (Some k) d) (slice_get-get_or set.devices k _ below)
       ∙ ap (λ (i : Image). state_in (begun k) (record { device = k; id = id; tail = staged.tail }) i (Inside k id None 0)) (sym is)
       ∙ ap (λ (t : Tail). state_in (begun k) (record { device = k; id = id; tail = t }) image (Inside k id None 0)) (sym same)
     where

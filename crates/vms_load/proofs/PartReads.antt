@@ -2,6 +2,7 @@
 use Rattle.std.proofs.lemmas.List.{drop-drop, drop_all}
 use Rattle.std.proofs.Common.{◌≡◌, ℕ, ◌+◌, ◌-◌, ◌<◌, ◌≤◌, List, length, drop, Option, Some, None, [], Result, Ok, Err, IfSome, OnOk, ℤ, refl, sym, ap, ◌∙◌, subst, arith}
 use Rattle.std.specs.List.{slice_get}
+use Rattle.std.proofs.lemmas.Option.{slice_get-get_or}
 use Rattle.vms_spec.specs.declared.Reason.{Reason}
 use Rattle.vms_spec.specs.Sets.{Desc, Sub, Device, Set}
 use Rattle.vms_spec.specs.Layout.{meanings, desc_slots, device_cells}
@@ -29,7 +30,6 @@ use Rattle.vms_load.specs.Bodies.{TakesAs}
 use Rattle.vms_load.specs.Reads.{Reads, ReadsOn, concerning}
 use Rattle.vms_load.specs.Parts.{IsIn, IsOpen, part_desc, part_base, state_in, in_fields, after_fields}
 use Rattle.vms_load.specs.declared.parts.Section.{Section}
-use Rattle.vms_load.proofs.HeadLemmas.{at_get}
 
 pub open_in : (d : Device) (image : Image) (sub : Option ℕ) (v : ℕ) → IsOpen d image sub v → IsIn d sub
 open_in d image None v h = tt
@@ -45,10 +45,10 @@ module _ (set : Set) (good : IsGood set) (section : Section) (here : section.dev
   device = device_at set section.device
 
   there : slice_get set.devices section.device ≡ Some device
-  there = at_get set.devices section.device _ here
+  there = slice_get-get_or set.devices section.device _ here
 
   sub_there : (j : ℕ) → j < length device.subs → slice_get device.subs j ≡ Some (sub_at device j)
-  sub_there j lt = at_get device.subs j _ lt
+  sub_there j lt = slice_get-get_or device.subs j _ lt
 
   part_sound : (o : Option ℕ) → IsIn device o → IsSound (part_desc device o)
   part_sound None h = good.devices section.device device there

@@ -1,6 +1,6 @@
 -- What the steps of a part take is what the structural reader takes.
-use Rattle.std.proofs.Common.{◌≡◌, ℕ, ◌+◌, ◌≤◌, List, [], ◌∷◌, ◌++◌, length, append_assoc, append-nil, ℤ, Option, Some, None, Ok, Err, IfSome, Bool, true, false, ◌||◌, ◌==◌, nat_lt, refl, sym, ap, ◌∙◌, subst}
-use Rattle.std.proofs.lemmas.Bool.{eq-eqb, ltb-true, ltb-false}
+use Rattle.std.proofs.Common.{◌≡◌, ℕ, ◌+◌, ◌≤◌, List, [], ◌∷◌, ◌++◌, length, append_assoc, append-nil, ℤ, Option, Some, Ok, Err, Bool, true, false, ◌||◌, ◌==◌, nat_lt, refl, sym, ap, ◌∙◌, subst}
+use Rattle.std.proofs.lemmas.Bool.{eq-eqb, ltb-true, ltb-false, or_parts}
 use Rattle.vms_kinds.specs.declared.Kind.{Kind}
 use Rattle.vms_spec.specs.Sets.{Desc, Set}
 use Rattle.vms_spec.specs.Images.{has_cell}
@@ -15,9 +15,8 @@ use Rattle.vms_frames.specs.declared.fault.FrameFault.TheVariants as faults
 use Rattle.vms_walk.specs.declared.step.WalkStep.{WalkStep}
 use Rattle.vms_walk.specs.Steps.{step_of, steps_of}
 use Rattle.vms_walk.proofs.Walking.{steps_append}
-use Rattle.vms_walk.proofs.Kept.{neither}
 use Rattle.vms_load.specs.Bodies.{TakesAs}
-use Rattle.vms_load.specs.Reading.{take_step, take_steps, last_numbers, numbers_then, take_append, last_taken, Told, from, IfRefused, IsTaken, IsStopped}
+use Rattle.vms_load.specs.Reading.{take_step, take_steps, last_numbers, numbers_then, take_append, last_taken, Told, from, IsTaken, IsStopped}
 use Rattle.vms_load.proofs.Counting.{number_least}
 
 -- a step takes what its slot takes: of the capacities that a number counts, the least decides
@@ -40,7 +39,7 @@ first_above cell c kind caps xs above = go (nat_lt c cell) refl
     go false e = ltb-false c cell e
 
 rest_above : (cell : ℕ) (x : Slot) (xs : List Slot) → IsAbove cell (x ∷ xs) → IsAbove cell xs
-rest_above cell (Number c kind caps) xs above = record { below = λ k lt. (neither (c == k) (has_cell xs k) (above.below k lt)).1 }
+rest_above cell (Number c kind caps) xs above = record { below = λ k lt. (or_parts (c == k) (has_cell xs k) (above.below k lt)).1 }
 rest_above cell (Constant kind z) xs above = record { below = λ k lt. above.below k lt }
 rest_above cell (Filler n) xs above = record { below = λ k lt. above.below k lt }
 rest_above cell (Rule b) xs above = record { below = λ k lt. above.below k lt }
@@ -129,28 +128,17 @@ module _ (set : Set) (structs : AreSound set.structs) (d : Desc) (sound : IsSoun
   ends_ok xs p numbers place left (Ok q) e h = h.0 ∙ ok_numbers xs p q e
   ends_ok xs p numbers place left (Err r) e h = absurd h
 
-  pub part_took : (a b : Told) → IsTaken (steps_of (slots b.image.numbers)) a b (Ok tt) → IfSome a.left (λ rest. TakesAs (part_taken (from a rest)) b.image.numbers b.place b.left (Ok tt))
-  part_took a b h = by_left a.left h
-    where
-      by_left : (o : Option (List ℕ)) → IfSome o (λ rest. TakesAs (take_steps (steps_of (slots b.image.numbers)) (from a rest)) b.image.numbers b.place b.left (Ok tt))
-          → IfSome o (λ rest. TakesAs (part_taken (from a rest)) b.image.numbers b.place b.left (Ok tt))
-      by_left None h = tt
-      by_left (Some rest) h =
-          let n = b.image.numbers in
-          let ends = ends_ok (steps_of (slots n)) (from a rest) n b.place b.left (take_steps (steps_of (slots n)) (from a rest)) refl h in
-          subst (λ (t : Taken). TakesAs t n b.place b.left (Ok tt)) (steps_taken n (from a rest) ends) h
+  pub part_took : (a b : Told) (rest left : List ℕ) → IsTaken (steps_of (slots b.image.numbers)) a b (Ok tt) rest left → TakesAs (part_taken (from a rest)) b.image.numbers b.place (Some left) (Ok tt)
+  part_took a b rest left h =
+      let n = b.image.numbers in
+      let ends = ends_ok (steps_of (slots n)) (from a rest) n b.place (Some left) (take_steps (steps_of (slots n)) (from a rest)) refl h in
+      subst (λ (t : Taken). TakesAs t n b.place (Some left) (Ok tt)) (steps_taken n (from a rest) ends) h
 
-  pub part_failed : (a b : Told) (fault : FrameFault) → IsTaken (steps_of (slots b.image.numbers)) a b (Err fault) → IsStopped (steps_of (slots b.image.numbers)) a fault b → IfSome a.left (λ rest. TakesAs (part_taken (from a rest)) b.image.numbers b.place b.left (Err fault))
-  part_failed a b fault h k = by_left a.left fault h k
+  pub part_failed : (a b : Told) (fault : FrameFault) (rest left : List ℕ) → IsStopped (steps_of (slots b.image.numbers)) a fault b rest left → TakesAs (part_taken (from a rest)) b.image.numbers b.place (Some left) (Err fault)
+  part_failed a b (faults.Refused at reason) rest left h =
+      subst (λ (t : Taken). TakesAs t b.image.numbers b.place (Some left) (Err (faults.Refused at reason))) (steps_taken b.image.numbers (from a rest) h.1) h.0
+  part_failed a b faults.ReadFault rest left h = always (part_taken (from a rest))
     where
-      always : (t : Taken) → TakesAs t b.image.numbers b.place b.left (Err faults.ReadFault)
+      always : (t : Taken) → TakesAs t b.image.numbers b.place (Some left) (Err faults.ReadFault)
       always (Ok q) = tt
       always (Err e) = tt
-
-      by_left : (o : Option (List ℕ)) (fault : FrameFault) → IfSome o (λ rest. TakesAs (take_steps (steps_of (slots b.image.numbers)) (from a rest)) b.image.numbers b.place b.left (Err fault))
-          → IfSome o (λ rest. IfRefused fault (b.image.numbers ≡ last_numbers (steps_of (slots b.image.numbers)) (from a rest)))
-          → IfSome o (λ rest. TakesAs (part_taken (from a rest)) b.image.numbers b.place b.left (Err fault))
-      by_left None fault h k = tt
-      by_left (Some rest) (faults.Refused at reason) h k =
-          subst (λ (t : Taken). TakesAs t b.image.numbers b.place b.left (Err (faults.Refused at reason))) (steps_taken b.image.numbers (from a rest) k) h
-      by_left (Some rest) faults.ReadFault h k = always (part_taken (from a rest))

@@ -5,9 +5,13 @@ use Rattle.vms_spec.specs.declared.Reason.{Reason}
 use Rattle.vms_spec.specs.declared.Reason.TheVariants as reasons
 use Rattle.vms_spec.specs.Readings.{Verdict, Goes, Faulty, Over, Reading, Refused, reading_after}
 use Rattle.vms_spec.specs.Units.{Piece}
-use Rattle.vms_stream.specs.State.{State}
+use Rattle.vms_spec.specs.Sets.{Set}
+use Rattle.vms_stream.specs.State.{State, by_state}
 use Rattle.vms_stream.specs.Seen.{Seen, Good, Bad, Short}
 use Rattle.vms_stream.specs.Judged.{judge_seen}
+use Rattle.vms_stream.specs.Judge.{judge}
+use Rattle.vms_stream.proofs.Finding.Advancing.{advances}
+use Rattle.vms_stream.proofs.Judging.Mirrors.{solid}
 use Rattle.vms_frames.specs.Stands.{Stand}
 use Rattle.vms_frames.specs.Calls.{ahead, Fails, AnswersSeen}
 use Rattle.vms_frames.specs.declared.fault.FrameFault.{FrameFault}
@@ -16,6 +20,13 @@ use Rattle.vms_frames.specs.declared.fault.Refusal.{Refusal}
 use Rattle.vms_load.specs.Reads.{Onward, behind, Leads, LeadsOn, Refuses, Reads, ReadsOn, ReadsBehind, IsBehind, Settles, concerning}
 use Rattle.vms_load.specs.declared.fault.LoadFault.{LoadFault}
 use Rattle.vms_load.specs.declared.fault.LoadFault.TheVariants as faults
+use Rattle.vms_bodies.specs.Whole.{reading_on}
+use Rattle.vms_bodies.proofs.FrameLaws.{one_unit}
+
+-- one unit of a reading
+pub unit_of : (set : Set) (names : List (List ℕ)) (s : State) (place : ℕ) (rest : List ℕ)
+    → reading_on (judge (by_state set names)) s place rest ≡ reading_after (reading_on (judge (by_state set names))) place rest (judge (by_state set names) s rest)
+unit_of set names s place rest = one_unit (judge (by_state set names)) (advances (by_state set names) (λ s. solid set s s.spot)) s place rest
 
 -- a fault is told alike whatever would follow
 pub still : {X Y : Type 0} (reading same : Option (Reading State)) (next : X → Onward) (other : Y → Onward) (at : ℕ) (to end : Stand) (rest : List ℕ) (left : Option (List ℕ)) (e : LoadFault)

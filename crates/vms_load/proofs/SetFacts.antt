@@ -1,10 +1,11 @@
 -- What each description set has.
-use Rattle.std.proofs.Common.{◌≡◌, ℕ, ◌+◌, ◌<◌, ◌≤◌, List, [], ◌∷◌, ◌++◌, length, map, Option, Some, None, ℤ, refl, sym, ap, ◌∙◌, subst, arith, true, ◌&&◌, nat_le}
+use Rattle.std.proofs.Common.{◌≡◌, ℕ, ◌+◌, ◌<◌, ◌≤◌, List, [], ◌∷◌, ◌++◌, length, map, Option, Some, None, ℤ, refl, sym, ap, ◌∙◌, subst, arith, true, nat_le}
 use Rattle.vms_spec.specs.Sets.{Set, Sub, Desc, AtLeast}
 use Rattle.std.proofs.lemmas.Bool.{and_parts, leb-true}
 use Rattle.vms_spec.specs.Layout.{Slot, Number, Constant, Filler, Rule, Cell, no_cell, no_desc, desc_slots, device_cells}
 use Rattle.vms_spec.specs.Images.{own_cells, own_slots, sub_place, sub_slots}
 use Rattle.std.proofs.lemmas.List.{get_or-map}
+use Rattle.std.proofs.lemmas.Option.{slice_get-get_or}
 use Rattle.vms_kinds.specs.declared.Kind.{Kind}
 use Rattle.vms_kinds.specs.declared.Kind.TheVariants.{U8}
 use Rattle.vms_spec.specs.Places.{own_cell_count}
@@ -13,11 +14,9 @@ use Rattle.vms_spec.specs.declared.Part.{Part}
 use Rattle.vms_spec.specs.declared.Part.TheVariants as parts
 use Rattle.vms_spec.specs.Lists.{or_else, first_answer}
 use Rattle.vms_bodies.specs.Cells.{AreCells}
-use Rattle.vms_spec.specs.Good.{IsGood}
 use Rattle.vms_bodies.proofs.PartLaws.{sub_are}
 use Rattle.vms_bodies.proofs.SectionLaws.{own_are}
-use Rattle.vms_spec.specs.Heads.{FitsHeads}
-use Rattle.vms_spec.proofs.WellFormedLaws.{well_good, device_parts}
+use Rattle.vms_spec.proofs.WellFormedLaws.{device_parts}
 use Rattle.vms_parts.specs.Devices.{device_at}
 use Rattle.vms_desc.specs.Formed.{is_well_formed}
 use Rattle.vms_desc.specs.Asks.{first_cell}
@@ -31,13 +30,9 @@ use Rattle.vms_walk.specs.Steps.{HasSpot, table, spot_slots, steps_of}
 use Rattle.vms_walk.specs.declared.step.WalkStep.{WalkStep}
 use Rattle.vms_load.specs.Bodies.{IsOfKind, AreOfKinds}
 use Rattle.vms_walk.specs.declared.fields.PartAt.{PartAt}
-use Rattle.vms_load.proofs.HeadLemmas.{at_get}
 
 pub well_of : (set : Set) → is_well_formed set ≡ true → WellFormed set
 well_of set h = none_is (first_fault set) h
-
-pub good_of : (set : Set) → is_well_formed set ≡ true → FitsHeads set → IsGood set
-good_of set h heads = well_good set (well_of set h) heads
 
 pub desc_is : (set : Set) (k : ℕ) (sub : Option ℕ) → desc_at set (part_of k sub) ≡ part_desc (device_at set k) sub
 desc_is set k None = refl
@@ -82,7 +77,7 @@ desc_kinds set k None h v n = of_kinds (device_cells set (device_at set k)) (own
 desc_kinds set k (Some j) h v n =
     let d = device_at set k in
     let none : Sub = record { desc = no_desc; needed = AtLeast 0 } in
-    of_kinds (device_cells set d) (sub_slots set (sub_at d j) v n (sub_place set (own_cells set d) d.subs j)) (sub_are set d j (sub_at d j) v n (at_get d.subs j none h))
+    of_kinds (device_cells set d) (sub_slots set (sub_at d j) v n (sub_place set (own_cells set d) d.subs j)) (sub_are set d j (sub_at d j) v n (slice_get-get_or d.subs j none h))
 
 pub part_kinds : (set : Set) (k : ℕ) (sub : Option ℕ) → IsIn (device_at set k) sub → (spot : PartAt) → spot.part ≡ part_of k sub → spot.base ≡ first_cell set spot.part → (n : List ℤ)
     → AreOfKinds (kinds_at set k) (spot_slots set spot n)
@@ -116,7 +111,7 @@ step_kind kinds slots xs rest x h e = one_of_kinds kinds xs rest x (subst (AllOf
 pub few_subs : (set : Set) → is_well_formed set ≡ true → (k : ℕ) → k < length set.devices → length (device_at set k).subs ≤ 32
 few_subs set h k lt =
     let d = device_at set k in
-    let c = (device_parts set (well_of set h) k d (at_get set.devices k _ lt)).0 in
+    let c = (device_parts set (well_of set h) k d (slice_get-get_or set.devices k _ lt)).0 in
     leb-true (length d.subs) 32 (and_parts (has_few d.desc) (nat_le (length d.subs) 32) c.own.1.1.1.1.1.1.0).1
 
 first_rules : (set : Set) → is_well_formed set ≡ true → AllTrue (set_rules set)
@@ -126,9 +121,3 @@ first_rules set h =
     (or_else (first_answer (struct_fault set.structs) 0 set.structs) (or_else (first_answer (device_fault set) 0 set.devices) (failing 1 (size_rules set) (here parts.Set))))
     (well_of set h) in
     all_true 1 (set_rules set) (here parts.Set) a.0
-
-pub few_machines : (set : Set) → is_well_formed set ≡ true → length set.machines ≤ 16
-few_machines set h =
-    let b = (first_rules set h).1.1.1.1.1.1.0 in
-    let p = and_parts (nat_le (length set.machines) 16 && nat_le (length set.structs) 64) (nat_le (length set.devices) 64) b in
-    leb-true (length set.machines) 16 (and_parts (nat_le (length set.machines) 16) (nat_le (length set.structs) 64) p.0).0

@@ -2,10 +2,11 @@
 use Rattle.std.proofs.Common.{◌≡◌, ℕ, zero, suc, ◌+◌, ◌<◌, ◌≤◌, List, [], ◌∷◌, ◌++◌, length, length-append, get_or, map, replicate, drop, slice_set, Option, Some, None, Bool, true, false, ◌||◌, nat_lt, if◌then◌else◌, Ok, refl, sym, ap, ◌∙◌, subst, arith}
 use Rattle.std.specs.List.{slice_get}
 use Rattle.std.specs.Str.{bytes_eq}
-use Rattle.std.proofs.lemmas.List.{length-map, length-set, drop_more, ext_get_or, get_or-map, map-set}
+use Rattle.std.proofs.lemmas.List.{length-map, length-set, drop_more, ext_get_or, get_or-map, map-set, get_or_default}
 use Rattle.std.proofs.Math.ListN.{get_or-append}
 use Rattle.std.proofs.Math.Seq.{get_or-append_seam}
 use Rattle.std.proofs.lemmas.Slice.Eq.{bytes_eq-Decides}
+use Rattle.std.proofs.lemmas.Option.{slice_get-get_or}
 use Rattle.vms_spec.specs.Sets.{Device, Set}
 use Rattle.vms_spec.specs.Images.{Image, default_image}
 use Rattle.vms_spec.specs.Streams.{is_one_of}
@@ -17,12 +18,7 @@ use Rattle.vms_parts.specs.Devices.{device_at}
 use Rattle.vms_load.specs.Heads.{unfit, opened_at, opened_unless, reason_against, section_opened}
 use Rattle.vms_image.specs.Typed.{Typed, state_of as untyped, default_at, IsImageOf, AreImagesOf}
 use Rattle.vms_load.specs.Staging.{AreShaped, begun_at, image_at, no_image, IsAccepted, section_bytes, sections_due}
-use Rattle.vms_load.proofs.HeadLemmas.{at_get, unknown, known, device_below}
-
-pub get_same : {X : Type 0} (xs : List X) (k : ℕ) (d e : X) → k < length xs → get_or xs k d ≡ get_or xs k e
-get_same [] k d e lt = absurd (omega arith)
-get_same (x ∷ xs) zero d e lt = refl
-get_same (x ∷ xs) (suc k) d e lt = get_same xs k d e (omega arith)
+use Rattle.vms_load.proofs.HeadLemmas.{unknown, known, device_below}
 
 pub get_set : {X : Type 0} (xs : List X) (k : ℕ) (x d : X) → k < length xs → get_or (slice_set xs k x) k d ≡ x
 get_set [] k x d lt = absurd (omega arith)
@@ -58,7 +54,7 @@ default_shaped set k v = record { subs = length-map (device_at set k).subs (λ s
 -- the image of a device
 pub shape_of : (set : Set) (images : List Typed) (k : ℕ) (image : Typed) → AreShaped set images → k < length set.devices → image ≡ get_or images k image → IsImageOf set k image
 shape_of set images k image s lt is =
-    subst (λ (x : Typed). IsImageOf set k x) (get_same images k no_image image (omega (arith, s.all, lt)) ∙ sym is) (s.each k lt)
+    subst (λ (x : Typed). IsImageOf set k x) (get_or_default images k no_image image (omega (arith, s.all, lt)) ∙ sym is) (s.each k lt)
 
 -- the image whose section has begun
 pub image_begun : (images first : List Typed) (k : ℕ) (image here : Typed) → here ≡ get_or images k here → images ≡ slice_set first k image → k < length first → here ≡ image
@@ -109,7 +105,7 @@ reset_on set images first done image r lt is = record {
 pub reset_shape : (set : Set) (images first : List Typed) (done : ℕ) (image : Typed) → Reset set images first done → AreShaped set first → done < length images → image ≡ get_or images done image
     → IsImageOf set done image
 reset_shape set images first done image r s lt is =
-    subst (λ (x : Typed). IsImageOf set done x) (sym (r.after done (omega arith)) ∙ get_same images done no_image image lt ∙ sym is) (s.each done (omega (arith, lt, r.long, s.all)))
+    subst (λ (x : Typed). IsImageOf set done x) (sym (r.after done (omega arith)) ∙ get_or_default images done no_image image lt ∙ sym is) (s.each done (omega (arith, lt, r.long, s.all)))
 
 pub reset_all : (set : Set) (images first : List Typed) (done : ℕ) → Reset set images first done → AreShaped set first → length images ≤ done → map untyped images ≡ map (default_image set) set.devices
 reset_all set images first done r s all =
@@ -174,7 +170,7 @@ machine_found machines i name machine lt is same inv = (
   sym inv ∙ ap (λ (l : List (List ℕ)). is_one_of l name) (drop_more machines i machine lt)
       ∙ ap (λ (l : List ℕ). bytes_eq l name || is_one_of (drop (i + 1) machines) name) (sym is)
       ∙ ap (λ (t : Bool). t || is_one_of (drop (i + 1) machines) name) same,
-  get_same machines i [] machine lt ∙ sym is ∙ (bytes_eq-Decides machine name).0 same,
+  get_or_default machines i [] machine lt ∙ sym is ∙ (bytes_eq-Decides machine name).0 same,
   lt,
 )
 
@@ -214,7 +210,7 @@ section_new set came name instance v k place long e = by_found (find_device 0 se
     by_found (Some i) f =
         let u = unless_came i (device_at set i) (get_or came i false) v k place (e ∙ ap (opened_at place) (known set came name instance v i f)) in
         let lt : i < length set.devices = device_below set.devices name instance i f in
-        let new : slice_get came i ≡ Some false = at_get came i false (omega (arith, lt, long)) ∙ ap (λ (b : Bool). Some b) u.1 in
+        let new : slice_get came i ≡ Some false = slice_get-get_or came i false (omega (arith, lt, long)) ∙ ap (λ (b : Bool). Some b) u.1 in
         (omega (arith, u.0, lt), ap (λ (n : ℕ). slice_get came n) u.0 ∙ new)
 
 pub sections_taken : (set : Set) (devices : List Device) (came : List Bool) (k : ℕ) (none : Device) → length came ≡ length devices → slice_get came k ≡ Some false

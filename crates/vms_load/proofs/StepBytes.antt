@@ -1,5 +1,6 @@
 -- The steps of a part have no more bytes than its description may have.
 use Rattle.std.proofs.Common.{◌≡◌, ℕ, zero, suc, ◌+◌, ◌*◌, ◌≤◌, List, [], ◌∷◌, ◌++◌, length, get_or, ℤ, sym, ap, ◌∙◌, arith, Bool, true, false, if◌then◌else◌}
+use Rattle.std.proofs.Math.Nat.{mul-le-mul_right}
 use Rattle.vms_kinds.specs.declared.Item.{Item}
 use Rattle.vms_kinds.specs.declared.Item.TheVariants.{Num, Equal, Unused, Struct}
 use Rattle.vms_spec.specs.Sets.{Field, Desc, Set}
@@ -50,14 +51,11 @@ module _ (ms : List Meaning) (bytes : List ℕ) (bounds : Bounds ms bytes) where
       let one : suc k * item_bytes bytes item ≡ item_bytes bytes item + k * item_bytes bytes item = grind arith in
       omega (arith, one, joined (item_slots ms item caps n at) (times k (item_slots ms item caps n) (at + step) step), item_bound item caps n at, items_bound item caps n k (at + step) step)
 
-  fewer : (a b s : ℕ) → a ≤ b → a * s ≤ b * s
-  fewer a b s le = grind arith
-
   field_bound : (fields : List Field) (v : ℕ) (own : ℕ → ℕ) (n : List ℤ) (i at : ℕ) (f : Field) → long (field_slots ms fields v own n i at f) ≤ field_bytes bytes f
   field_bound fields v own n i at f =
       let count = elements_of f.count own in
       by_test (is_there f.test f.since v own no_parent) (times count (item_slots ms f.item (counted i fields) n) at (item_size (cells_in ms) f.item))
-      (omega (arith, items_bound f.item (counted i fields) n count at (item_size (cells_in ms) f.item), fewer count (capacity_of f.count) (item_bytes bytes f.item) (elements_fit f.count own)))
+      (omega (arith, items_bound f.item (counted i fields) n count at (item_size (cells_in ms) f.item), mul-le-mul_right {m = count} {n = capacity_of f.count} (item_bytes bytes f.item) (elements_fit f.count own)))
     where
       by_test : (b : Bool) (xs : List Slot) → long xs ≤ field_bytes bytes f → long (if b then xs else []) ≤ field_bytes bytes f
       by_test true xs h = h

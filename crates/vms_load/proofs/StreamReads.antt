@@ -8,7 +8,6 @@ use Rattle.vms_spec.specs.Streams.{longest_text}
 use Rattle.vms_spec.specs.Units.{Piece, Long, Mark, Description}
 use Rattle.vms_spec.specs.Readings.{Verdict, Goes, Reading, Accepted, Refused, reading_after}
 use Rattle.vms_bodies.specs.Whole.{reading_on}
-use Rattle.vms_bodies.proofs.FrameLaws.{one_unit}
 use Rattle.vms_stream.specs.Dues.{AfterEnd}
 use Rattle.vms_stream.specs.Table.{first_row, alone}
 use Rattle.vms_stream.specs.Finding.{Whole, Cut, needs, text_at, trailer_at}
@@ -18,8 +17,6 @@ use Rattle.vms_stream.specs.Judged.{ask, judge_seen}
 use Rattle.vms_stream.specs.State.{State, Ended, Over, by_state, at_start}
 use Rattle.vms_stream.specs.Taking.{nothing_known}
 use Rattle.vms_stream.proofs.Calls.Judged.{judged_holds}
-use Rattle.vms_stream.proofs.Finding.Advancing.{advances}
-use Rattle.vms_stream.proofs.Judging.Mirrors.{solid}
 use Rattle.vms_frames.specs.Stands.{Stand}
 use Rattle.vms_frames.specs.Calls.{ahead, Fails, AnswersEnd, ReadsEnd}
 use Rattle.vms_frames.specs.declared.fault.FrameFault.{FrameFault}
@@ -29,7 +26,7 @@ use Rattle.vms_load.specs.Staging.{state_of, ReadsAll}
 use Rattle.vms_load.specs.declared.fault.LoadFault.{LoadFault}
 use Rattle.vms_load.specs.declared.fault.LoadFault.TheVariants as faults
 use Rattle.vms_load.specs.declared.staged.Staged.{Staged}
-use Rattle.vms_load.proofs.ReadLemmas.{still_behind, unit_fails}
+use Rattle.vms_load.proofs.ReadLemmas.{still_behind, unit_fails, unit_of}
 
 -- the place behind the stream, or the fault of what follows the end mark
 abbrev pub closes_at : ℕ → Result (Unit {0}) FrameFault → Result ℕ LoadFault
@@ -42,9 +39,6 @@ module _ (set : Set) (names : List (List ℕ)) where
 
   abbrev whole : List ℕ → Option (Reading State)
   whole input = reading (by_state set names) (at_start set) input
-
-  unit_of : (s : State) (place : ℕ) (rest : List ℕ) → go s place rest ≡ reading_after go place rest (judge (by_state set names) s rest)
-  unit_of s place rest = one_unit (judge (by_state set names)) (advances (by_state set names) (λ s. solid set s s.spot)) s place rest
 
   whole_is : (input : List ℕ) → whole input ≡ go (at_start set) 0 input
   unfolding reading
@@ -86,12 +80,12 @@ module _ (set : Set) (names : List (List ℕ)) where
     closed_state = state_of set staged Over
 
     trailer_is : (place b : ℕ) (more : List ℕ) → go ended place (b ∷ more) ≡ reading_after go place (b ∷ more) (judge_seen None (ask set names ended) (b ∷ more) (seen AfterEnd nothing_known (b ∷ more)))
-    trailer_is place b more = unit_of ended place (b ∷ more) ∙ ap (reading_after go place (b ∷ more)) (judged_holds set names ended (b ∷ more) refl refl refl)
+    trailer_is place b more = unit_of set names ended place (b ∷ more) ∙ ap (reading_after go place (b ∷ more)) (judged_holds set names ended (b ∷ more) refl refl refl)
 
     -- at the end of input nothing more is due
     end_is : (place : ℕ) → go ended place [] ≡ Some (Accepted place ended)
     unfolding trailer_at
-    end_is place = unit_of ended place []
+    end_is place = unit_of set names ended place []
 
     -- nothing is asked of a unit behind the end mark
     abbrev IsLast : Seen → Type 0
@@ -148,7 +142,7 @@ module _ (set : Set) (names : List (List ℕ)) where
         → AnswersEnd (b ∷ more) f place end left result → ReadsAll set (by_seen place (b ∷ more) f) staged input left (closes_at end result)
     by_last place end b input more left (Ok x) (Good unit n) is there h =
         let rest = b ∷ more in
-        accepts place n end input rest left closed_state (by_seen place rest (Good unit n)) (ap (λ (v : Verdict State). reading_after go place rest v) is ∙ unit_of closed_state (place + n) (drop n rest)) refl refl h.0 h.1 there
+        accepts place n end input rest left closed_state (by_seen place rest (Good unit n)) (ap (λ (v : Verdict State). reading_after go place rest v) is ∙ unit_of set names closed_state (place + n) (drop n rest)) refl refl h.0 h.1 there
     by_last place end b input more left (Ok x) (Bad n reason) is there h = absurd h
     by_last place end b input more left (Ok x) Short is there h = absurd h
     by_last place end b input more left (Err (frames.Refused at reason)) (Good unit n) is there h = absurd h.1

@@ -4,16 +4,11 @@ use Rattle.std.specs.List.{slice_get}
 use Rattle.std.proofs.lemmas.Bool.{eqb-true, eq-eqb}
 use Rattle.vms_spec.specs.Sets.{Device, Set}
 use Rattle.vms_spec.specs.Images.{Image}
-use Rattle.vms_spec.specs.Streams.{AllCame, EachOnce}
+use Rattle.vms_spec.specs.Streams.{EachOnce}
+use Rattle.vms_spec.proofs.ListLaws.{none_left}
 use Rattle.vms_stream.specs.Streams.{HasSection, SectionsSpell, Takes}
 use Rattle.vms_bodies.proofs.PartLaws.{at_other}
 use Rattle.vms_load.specs.Good.{IsKept, AreKept}
-
-none_left : (came : List Bool) (k : ℕ) → AllCame came → slice_get came k ≡ Some false → ⊥
-none_left [] k all e = cc
-none_left (true ∷ came) zero all e = cc
-none_left (true ∷ came) (suc k) all e = none_left came k all e
-none_left (false ∷ came) k all e = absurd all
 
 none_came : (devices : List Device) (k : ℕ) (d : Device) → slice_get devices k ≡ Some d → slice_get (map (λ d. false) devices) k ≡ Some false
 none_came [] k d e = cc

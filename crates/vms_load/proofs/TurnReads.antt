@@ -6,7 +6,6 @@ use Rattle.vms_spec.specs.Lookup.{number_at}
 use Rattle.vms_spec.specs.Units.{Piece, Magic, Version}
 use Rattle.vms_spec.specs.Readings.{Verdict, Goes, Reading, reading_after}
 use Rattle.vms_bodies.specs.Whole.{reading_on}
-use Rattle.vms_bodies.proofs.FrameLaws.{one_unit}
 use Rattle.vms_stream.specs.Dues.{Due, AMagic, AVersion, Between as IsBetween}
 use Rattle.vms_stream.specs.Table.{first_row, alone}
 use Rattle.vms_stream.specs.Finding.{Whole, Cut}
@@ -16,8 +15,6 @@ use Rattle.vms_stream.specs.Seen.{Seen, Good, Bad, Short, seen, seen_by, seen_in
 use Rattle.vms_stream.specs.State.{State, Spot, Before, Headed, Free, by_state}
 use Rattle.vms_stream.specs.Taking.{nothing_known}
 use Rattle.vms_stream.proofs.Calls.Judged.{judged_holds}
-use Rattle.vms_stream.proofs.Finding.Advancing.{advances}
-use Rattle.vms_stream.proofs.Judging.Mirrors.{solid}
 use Rattle.vms_marks.specs.declared.head.Head.{Head}
 use Rattle.vms_frames.specs.Stands.{Stand}
 use Rattle.vms_frames.specs.Found.{step_long}
@@ -33,7 +30,7 @@ use Rattle.vms_load.specs.declared.fault.LoadFault.{LoadFault}
 use Rattle.vms_load.specs.declared.staged.Staged.{Staged}
 use Rattle.vms_load.proofs.OpenedReads.{head_unit, head_long, section_long}
 use Rattle.vms_load.proofs.PartReads.{concerns}
-use Rattle.vms_load.proofs.ReadLemmas.{unit_fault, unit_settled, unit_behind, reads_on}
+use Rattle.vms_load.proofs.ReadLemmas.{unit_fault, unit_settled, unit_behind, reads_on, unit_of}
 
 due_is : (between : Between) → IsBetween (is_first between) (is_configured between) ≡ due_of between
 due_is First = refl
@@ -44,10 +41,6 @@ module _ (set : Set) (names : List (List ℕ)) where
   abbrev go : State → Onward
   go = reading_on (judge (by_state set names))
 
-  -- one unit of a reading
-  unit_of : (s : State) (place : ℕ) (rest : List ℕ) → go s place rest ≡ reading_after go place rest (judge (by_state set names) s rest)
-  unit_of s place rest = one_unit (judge (by_state set names)) (advances (by_state set names) (λ s. solid set s s.spot)) s place rest
-
   -- ---- between sections
 
   module _ (staged : Staged) (between : Between) where
@@ -56,7 +49,7 @@ module _ (set : Set) (names : List (List ℕ)) where
 
     between_is : (place : ℕ) (rest : List ℕ) → go state place rest ≡ reading_after go place rest (judge_seen None (ask set names state) rest (seen (due_of between) nothing_known rest))
     between_is place rest =
-        unit_of state place rest
+        unit_of set names state place rest
         ∙ ap (reading_after go place rest) (judged_holds set names state rest refl refl refl ∙ ap (λ (d : Due). judge_seen None (ask set names state) rest (seen d nothing_known rest)) (due_is between))
 
     pub turn_fault : {Y : Type 0} (from to : Stand) (old left : Option (List ℕ)) (next : Y → Onward) (fault : FrameFault)

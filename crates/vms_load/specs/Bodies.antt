@@ -1,6 +1,7 @@
 -- What the calls that read fields answer.
-use Rattle.std.specs.Prelude.{◌≡◌, ℕ, ◌+◌, ◌-◌, ◌≤◌, List, [], ◌∷◌, get_or, drop, Option, Some, ℤ, Result, Ok, Err, IfSome}
-use Rattle.vms_io.specs.Causes.{capped}
+use Rattle.std.specs.Prelude.{◌≡◌, ℕ, ◌+◌, ◌≤◌, List, [], ◌∷◌, get_or, drop, Option, Some, ℤ, Result, Ok, Err, IfSome, OnOk}
+use Rattle.vms_io.specs.Told.{Intake}
+use Rattle.vms_io.specs.Reading.{Reads}
 use Rattle.vms_kinds.specs.declared.Kind.{Kind}
 use Rattle.vms_kinds.specs.declared.Kind.TheVariants.{U8}
 use Rattle.vms_walk.specs.declared.step.WalkStep.{WalkStep}
@@ -13,7 +14,7 @@ use Rattle.vms_stream.specs.Dues.{Field}
 use Rattle.vms_stream.specs.Seen.{seen}
 use Rattle.vms_stream.specs.Taking.{nothing_known}
 use Rattle.vms_frames.specs.Calls.{AnswersSeen}
-use Rattle.vms_frames.specs.Heard.{Hears}
+use Rattle.vms_frames.specs.Reads.{course}
 use Rattle.vms_frames.specs.declared.fault.FrameFault.{FrameFault}
 use Rattle.vms_frames.specs.declared.fault.FrameFault.TheVariants as faults
 
@@ -55,19 +56,11 @@ TakesAs taken numbers place left (Err faults.ReadFault) = Unit {0}
 abbrev pub progress : List ℤ → ℕ → List ℕ → Progress
 progress numbers place rest = record { numbers = numbers; place = place; rest = rest }
 
--- How many bytes are given: as many as the place has moved, and never more than `most`.
-abbrev pub Spends : {X : Type 0} → ℕ → ℕ → ℕ → ℕ → ℕ → Result X FrameFault → Type 0
-Spends most before now from to (Ok x) = (from ≤ to) × (to ≤ from + most) × (now ≡ capped (before + (to - from)))
-Spends most before now from to (Err e) = now ≤ before + most
+-- at most so many bytes are taken: as many as the place has moved, where the call doesn't fail
+abbrev pub HasMoved : ℕ → ℕ → ℕ → Result (Unit {0}) FrameFault → ℕ → Type 0
+HasMoved most from to result n = (n ≤ most) × OnOk result (to ≡ from + n)
 
--- ---- what the calls hear of their source
-
-abbrev pub HearsCapped : Kind → List ℕ → ℕ → ℕ → ℕ → Result ℤ FrameFault → Type 0
-HearsCapped kind capacities at before now result = Hears before now (λ old left. ReadsCapped kind capacities at old left result) result
-
-abbrev pub HearsConstant : Kind → ℤ → ℕ → ℕ → ℕ → Result (Unit {0}) FrameFault → Type 0
-HearsConstant kind z at before now result = Hears before now (λ old left. ReadsConstant kind z at old left result) result
-
--- the call takes what the definition takes of the bytes that are left
-abbrev pub HearsTaken : (List ℕ → Taken) → List ℤ → ℕ → ℕ → ℕ → Result (Unit {0}) FrameFault → Type 0
-HearsTaken taken numbers place before now result = Hears before now (λ old left. IfSome old (λ rest. TakesAs (taken rest) numbers place left result)) result
+-- from a place on the call takes what the definition takes of the bytes that are left, and these are the numbers then
+abbrev pub TakesOn : Intake → Intake → ℕ → ℕ → ℕ → (List ℕ → Taken) → List ℤ → Result (Unit {0}) FrameFault → Type 0
+TakesOn old new most from to taken numbers result =
+    Reads (course result) old new (HasMoved most from to result) (λ rest left. TakesAs (taken rest) numbers to (Some left) result)

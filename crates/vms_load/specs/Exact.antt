@@ -4,7 +4,7 @@ use Rattle.vms_io.specs.Causes.{capped}
 use Rattle.vms_spec.specs.declared.Reason.{Reason}
 use Rattle.vms_stream.specs.Faults.{Fault}
 use Rattle.vms_spec.specs.Images.{Image}
-use Rattle.vms_spec.specs.Numbers.{IsBytes}
+use Rattle.vms_kinds.specs.Bytes.{IsBytes}
 use Rattle.vms_spec.specs.Sets.{Set}
 use Rattle.vms_stream.specs.Streams.{Takes}
 use Rattle.vms_spec.specs.WellFormed.{WellFormed}

@@ -1,6 +1,7 @@
 pub mod Bodies
 pub mod Bounds
 pub mod Exact
+pub mod Going
 pub mod Good
 pub mod Heads
 pub mod Hearing

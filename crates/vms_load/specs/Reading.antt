@@ -1,12 +1,13 @@
 -- What the steps of a part take from a source.
-use Rattle.std.specs.Prelude.{◌≡◌, ℕ, ◌+◌, ◌^◌, ◌<◌, ◌≤◌, Bool, List, [], ◌∷◌, ◌++◌, Option, ℤ, Result, Ok, Err, IfSome}
-use Rattle.std.proofs.Common.{refl, sym, ap, ◌∙◌, subst, arith, None, Some}
+use Rattle.std.specs.Prelude.{◌≡◌, ℕ, ◌+◌, ◌^◌, ◌<◌, List, [], ◌∷◌, ◌++◌, Option, ℤ, Result, Ok, Err}
+use Rattle.std.proofs.Common.{refl, sym, ap, ◌∙◌, subst, arith, Some}
 use Rattle.vms_kinds.specs.Codes.{width}
 use Rattle.vms_image.specs.Typed.{Typed}
 use Rattle.vms_spec.specs.Taking.{Taken, Progress, Refusal, ◌>>=◌, take_number, take_constant, take_filler, take_rule}
-use Rattle.vms_frames.specs.Answers.{HasCause}
-use Rattle.vms_frames.specs.Heard.{HeardOn, Hears}
-use Rattle.vms_frames.proofs.HeardLemmas.{heard_none, heard_both, hears_both, hears_as}
+use Rattle.vms_io.specs.Told.{Intake}
+use Rattle.vms_io.specs.Reading.{On, Reads}
+use Rattle.vms_io.proofs.ReadingLemmas.{takes_none, reads_as, reads_both}
+use Rattle.vms_frames.specs.Reads.{fault_course}
 use Rattle.vms_frames.specs.declared.fault.FrameFault.{FrameFault}
 use Rattle.vms_frames.specs.declared.fault.FrameFault.TheVariants as faults
 use Rattle.vms_walk.specs.declared.step.WalkStep.{WalkStep}
@@ -14,7 +15,7 @@ use Rattle.vms_walk.specs.declared.step.WalkStep.TheVariants.{Number, Constant, 
 use Rattle.vms_walk.specs.Inside.{Keeps}
 use Rattle.vms_walk.specs.Steps.{capacities_of}
 use Rattle.vms_walk.proofs.Kept.{keeps_same, keeps_more, keeps_front}
-use Rattle.vms_load.specs.Bodies.{TakesAs, Spends, progress}
+use Rattle.vms_load.specs.Bodies.{TakesAs, HasMoved, progress}
 
 -- what is taken at a step, and at steps one after the other
 abbrev pub take_step : WalkStep → Progress → Taken
@@ -51,39 +52,21 @@ steps_long (x ∷ xs) = step_long x + steps_long xs
 pub record Told : Type 0 where
   pub image : Typed
   pub place : ℕ
-  pub left : Option (List ℕ)
-  pub given : ℕ
-  pub faults : ℕ
-  pub promise : Bool
+  pub source : Intake
 
-abbrev pub told : {S : Type 0} → (S → Option (List ℕ)) → (S → ℕ) → (S → ℕ) → (S → Bool) → Typed → ℕ → S → Told
-told left given faults promise image place source = record {
-  image = image;
-  place = place;
-  left = left source;
-  given = given source;
-  faults = faults source;
-  promise = promise source;
-}
+abbrev pub told : Typed → ℕ → Intake → Told
+told image place source = record { image = image; place = place; source = source }
 
 abbrev pub from : Told → List ℕ → Progress
 from t rest = progress t.image.numbers t.place rest
 
--- where a source tells these bytes in place of what it tells
-abbrev pub with_left : Told → Option (List ℕ) → Told
-with_left t left = record t { left = left }
-
--- these steps take what was taken, or are refused there
-abbrev pub IsTaken : List WalkStep → Told → Told → Result (Unit {0}) FrameFault → Type 0
-IsTaken xs old new result = IfSome old.left (λ rest. TakesAs (take_steps xs (from old rest)) new.image.numbers new.place new.left result)
+-- of the bytes that are left these steps take what was taken, or are refused there
+abbrev pub IsTaken : List WalkStep → Told → Told → Result (Unit {0}) FrameFault → List ℕ → List ℕ → Type 0
+IsTaken xs old new result rest left = TakesAs (take_steps xs (from old rest)) new.image.numbers new.place (Some left) result
 
 -- these steps were taken
 pub record Took (xs : List WalkStep) (old new : Told) : Type 0 where
-  pub taken : IsTaken xs old new (Ok tt)
-  pub heard : HeardOn old.given new.given (λ a b. IsTaken xs (with_left old a) (with_left new b) (Ok tt))
-  pub given : Spends {X = Unit {0}} (steps_long xs) old.given new.given old.place new.place (Ok tt)
-  pub later : old.faults ≤ new.faults
-  pub promise : new.promise ≡ old.promise
+  pub reads : Reads On old.source new.source (HasMoved (steps_long xs) old.place new.place (Ok tt)) (IsTaken xs old new (Ok tt))
   pub kept : new.image ≡ record old.image { numbers = new.image.numbers }
   pub keeps : Keeps xs old.image.numbers new.image.numbers
 
@@ -92,17 +75,12 @@ abbrev pub IfRefused : FrameFault → Type 0 → Type 0
 IfRefused (faults.Refused at reason) P = P
 IfRefused faults.ReadFault P = Unit {0}
 
-abbrev pub IsStopped : List WalkStep → Told → FrameFault → Told → Type 0
-IsStopped xs old fault new = IfSome old.left (λ rest. IfRefused fault (new.image.numbers ≡ last_numbers xs (from old rest)))
+abbrev pub IsStopped : List WalkStep → Told → FrameFault → Told → List ℕ → List ℕ → Type 0
+IsStopped xs old fault new rest left = IsTaken xs old new (Err fault) rest left × IfRefused fault (new.image.numbers ≡ last_numbers xs (from old rest))
 
 -- some first of the steps were, and then a fault came
 pub record Failed (xs : List WalkStep) (old : Told) (fault : FrameFault) (new : Told) : Type 0 where
-  pub taken : IsTaken xs old new (Err fault)
-  pub stopped : IsStopped xs old fault new
-  pub heard : Hears {X = Unit {0}} old.given new.given (λ a b. IsTaken xs (with_left old a) (with_left new b) (Err fault) × IsStopped xs (with_left old a) fault (with_left new b)) (Err fault)
-  pub given : Spends {X = Unit {0}} (steps_long xs) old.given new.given old.place new.place (Err fault)
-  pub cause : HasCause {X = Unit {0}} old.faults new.faults (Err fault)
-  pub promise : new.promise ≡ old.promise
+  pub reads : Reads (fault_course fault) old.source new.source (HasMoved (steps_long xs) old.place new.place (Err fault)) (IsStopped xs old fault new)
   pub kept : new.image ≡ record old.image { numbers = new.image.numbers }
   pub keeps : Keeps xs old.image.numbers new.image.numbers
 
@@ -140,41 +118,22 @@ last_refused (x ∷ xs) ys p r e = go (take_step x p) (λ q. last_refused xs ys 
     go (Ok q) h e = h q e
     go (Err q) h e = refl
 
--- ---- of what is told
-
-on_known : {P Q : List ℕ → Type 0} (o : Option (List ℕ)) → ((rest : List ℕ) → P rest → Q rest) → IfSome o P → IfSome o Q
-on_known None f h = tt
-on_known (Some rest) f h = f rest h
-
-on_two : {P Q R : List ℕ → Type 0} (o : Option (List ℕ)) → ((rest : List ℕ) → P rest → Q rest → R rest) → IfSome o P → IfSome o Q → IfSome o R
-on_two None f h k = tt
-on_two (Some rest) f h k = f rest h k
+-- ---- of what is read
 
 abbrev whole : Progress → Taken
 whole p = Ok p
 
--- steps that were taken lead to what is told then
-pub record LeadsTo (t : Taken) (b : Told) : Type 0 where
-  pub rest : List ℕ
-  pub is : t ≡ Ok (from b rest)
-  pub left : b.left ≡ Some rest
-
-leads : (t : Taken) (b : Told) → TakesAs t b.image.numbers b.place b.left (Ok tt) → LeadsTo t b
-leads (Err e) b h = absurd h
-leads (Ok q) b h =
+-- steps that were taken lead to where these bytes are left
+leads : (t : Taken) (b : Told) (left : List ℕ) → TakesAs t b.image.numbers b.place (Some left) (Ok tt) → t ≡ Ok (from b left)
+leads (Err e) b left h = absurd h
+leads (Ok q) b left h =
+    let rest : q.rest ≡ left = some_is q.rest left (sym h.2) in
     let one : q ≡ record { numbers = b.image.numbers; place = q.place; rest = q.rest } = ap (λ (m : List ℤ). record { numbers = m; place = q.place; rest = q.rest }) (sym h.0) in
-    let two : record { numbers = b.image.numbers; place = q.place; rest = q.rest } ≡ from b q.rest = ap (λ (k : ℕ). record { numbers = b.image.numbers; place = k; rest = q.rest }) (sym h.1) in
-    record { rest = q.rest; is = ap whole (one ∙ two); left = h.2 }
-
-at_rest : (P : List ℕ → Type 0) (o : Option (List ℕ)) (rest : List ℕ) → o ≡ Some rest → IfSome o P → P rest
-at_rest P o rest e h = subst (λ (o : Option (List ℕ)). IfSome o P) e h
-
--- taken up to here, and then further on
-join : (t : Taken) (ys : List WalkStep) (b c : Told) (r : Result (Unit {0}) FrameFault) → TakesAs t b.image.numbers b.place b.left (Ok tt)
-    → IfSome b.left (λ rest. TakesAs (take_steps ys (from b rest)) c.image.numbers c.place c.left r) → TakesAs (t >>= take_steps ys) c.image.numbers c.place c.left r
-join t ys b c r h k =
-    let to = leads t b h in
-    subst (λ (t : Taken). TakesAs (t >>= take_steps ys) c.image.numbers c.place c.left r) (sym to.is) (at_rest _ b.left to.rest to.left k)
+    let two : record { numbers = b.image.numbers; place = q.place; rest = q.rest } ≡ record { numbers = b.image.numbers; place = b.place; rest = q.rest } = ap (λ (k : ℕ). record { numbers = b.image.numbers; place = k; rest = q.rest }) (sym h.1) in
+    ap whole (one ∙ two ∙ ap (λ (l : List ℕ). from b l) rest)
+  where
+    some_is : (x y : List ℕ) → Some x ≡ Some y → x ≡ y
+    some_is x y e = cc
 
 always : (t : Taken) (n : List ℤ) (place : ℕ) (left : Option (List ℕ)) → TakesAs t n place left (Err faults.ReadFault)
 always (Ok p) n place left = tt
@@ -188,61 +147,45 @@ stop_early (Err e) ys fault n place left h = h
 kept_on : (a b c : Typed) → b ≡ record a { numbers = b.numbers } → c ≡ record b { numbers = c.numbers } → c ≡ record a { numbers = c.numbers }
 kept_on a b c e f = f ∙ ap (λ (image : Typed). record image { numbers = c.numbers }) e
 
-pub took_none : (a : Told) → a.given < 2 ^ 64 → Took [] a a
+pub took_none : (a : Told) → a.source.given < 2 ^ 64 → Took [] a a
 took_none a few = record {
-  taken = none a.left refl;
-  heard = heard_none (λ more. Unit {0}) a.given (omega (arith, few)) (λ more. (refl, refl, refl));
-  given = (omega arith, omega arith, omega (arith, few));
-  later = omega arith;
-  promise = refl;
+  reads = record {
+    bytes = [];
+    takes = takes_none a.source few;
+    long = (omega arith, omega arith);
+    says = λ more f. (refl, refl, refl);
+    cause = tt;
+  };
   kept = refl;
   keeps = keeps_same [] a.image.numbers a.image.numbers refl;
 }
-  where
-    none : (o : Option (List ℕ)) → o ≡ a.left → IfSome o (λ rest. TakesAs (Ok (from a rest)) a.image.numbers a.place a.left (Ok tt))
-    none None e = tt
-    none (Some rest) e = (refl, refl, sym e)
 
-taken_more : (xs ys : List WalkStep) (a b c : Told) (r : Result (Unit {0}) FrameFault) → IsTaken xs a b (Ok tt) → IsTaken ys b c r → IsTaken (xs ++ ys) a c r
-taken_more xs ys a b c r h k =
-    on_known a.left (λ rest t. subst (λ (x : Taken). TakesAs x c.image.numbers c.place c.left r) (sym (take_append xs ys (from a rest))) (join (take_steps xs (from a rest)) ys b c r t k)) h
+taken_more : (xs ys : List WalkStep) (a b c : Told) (r : Result (Unit {0}) FrameFault) (all rest left : List ℕ) → IsTaken xs a b (Ok tt) all rest → IsTaken ys b c r rest left → IsTaken (xs ++ ys) a c r all left
+taken_more xs ys a b c r all rest left h k =
+    let P : Taken → Type 0 = λ t. TakesAs t c.image.numbers c.place (Some left) r in
+    subst P (sym (take_append xs ys (from a all) ∙ ap (λ (t : Taken). t >>= take_steps ys) (leads (take_steps xs (from a all)) b rest h))) k
 
 pub took_more : (xs ys : List WalkStep) (a b c : Told) → Took xs a b → Took ys b c → Took (xs ++ ys) a c
 took_more xs ys a b c h k = record {
-  taken = taken_more xs ys a b c (Ok tt) h.taken k.taken;
-  heard = heard_both (λ more. Unit {0}) a.given b.given c.given (λ x y z p q. taken_more xs ys (with_left a x) (with_left b y) (with_left c z) (Ok tt) p q) h.heard k.heard;
-  given = (omega (arith, h.given.0, k.given.0), omega (arith, h.given.1, k.given.1, long_append xs ys), omega (arith, h.given.0, h.given.2, k.given.0, k.given.2));
-  later = omega (arith, h.later, k.later);
-  promise = k.promise ∙ h.promise;
+  reads = reads_both (λ n m p q. (omega (arith, p.0, q.0, long_append xs ys), omega (arith, p.1, q.1)))
+      (λ all rest left p q. taken_more xs ys a b c (Ok tt) all rest left p q) h.reads k.reads;
   kept = kept_on a.image b.image c.image h.kept k.kept;
   keeps = keeps_more xs ys a.image.numbers b.image.numbers c.image.numbers h.keeps k.keeps;
 }
-
-cause_more : (x y z : ℕ) (fault : FrameFault) → x ≤ y → HasCause {X = Unit {0}} y z (Err fault) → HasCause {X = Unit {0}} x z (Err fault)
-cause_more x y z (faults.Refused at reason) le h = omega (arith, le, h)
-cause_more x y z faults.ReadFault le h = (omega (arith, le, h.0), omega (arith, le, h.1))
 
 if_refused : {P Q : Type 0} (fault : FrameFault) → (P → Q) → IfRefused fault P → IfRefused fault Q
 if_refused (faults.Refused at reason) f h = f h
 if_refused faults.ReadFault f h = tt
 
-stopped_more : (xs ys : List WalkStep) (a b c : Told) (fault : FrameFault) → IsTaken xs a b (Ok tt) → IsStopped ys b fault c → IsStopped (xs ++ ys) a fault c
-stopped_more xs ys a b c fault h k = on_known a.left (λ rest t.
-    let to = leads (take_steps xs (from a rest)) b t in
-    if_refused fault (λ e. e ∙ sym (last_taken xs ys (from a rest) (from b to.rest) to.is)) (at_rest _ b.left to.rest to.left k)) h
+stopped_more : (xs ys : List WalkStep) (a b c : Told) (fault : FrameFault) (all rest left : List ℕ) → IsTaken xs a b (Ok tt) all rest → IsStopped ys b fault c rest left → IsStopped (xs ++ ys) a fault c all left
+stopped_more xs ys a b c fault all rest left h k = (
+  taken_more xs ys a b c (Err fault) all rest left h k.0,
+  if_refused fault (λ (e : c.image.numbers ≡ last_numbers ys (from b rest)). e ∙ sym (last_taken xs ys (from a all) (from b rest) (leads (take_steps xs (from a all)) b rest h))) k.1,
+)
 
 pub failed_after : (xs ys : List WalkStep) (a b c : Told) (fault : FrameFault) → Took xs a b → Failed ys b fault c → Failed (xs ++ ys) a fault c
 failed_after xs ys a b c fault h k = record {
-  taken = taken_more xs ys a b c (Err fault) h.taken k.taken;
-  stopped = stopped_more xs ys a b c fault h.taken k.stopped;
-  heard = hears_both {X = Unit {0}} a.given b.given c.given (Err fault)
-      (λ x y z p q. (
-        taken_more xs ys (with_left a x) (with_left b y) (with_left c z) (Err fault) p q.0,
-        stopped_more xs ys (with_left a x) (with_left b y) (with_left c z) fault p q.1,
-      )) h.heard k.heard;
-  given = omega (arith, h.given.0, h.given.1, h.given.2, k.given, long_append xs ys);
-  cause = cause_more a.faults b.faults c.faults fault h.later k.cause;
-  promise = k.promise ∙ h.promise;
+  reads = reads_both (λ n m p q. (omega (arith, p.0, q.0, long_append xs ys), tt)) (λ all rest left p q. stopped_more xs ys a b c fault all rest left p q) h.reads k.reads;
   kept = kept_on a.image b.image c.image h.kept k.kept;
   keeps = keeps_more xs ys a.image.numbers b.image.numbers c.image.numbers h.keeps k.keeps;
 }
@@ -256,23 +199,17 @@ both_refused : {P Q R : Type 0} (fault : FrameFault) → (P → Q → R) → IfR
 both_refused (faults.Refused at reason) f h k = f h k
 both_refused faults.ReadFault f h k = tt
 
-taken_before : (xs ys : List WalkStep) (a b : Told) (fault : FrameFault) → IsTaken xs a b (Err fault) → IsTaken (xs ++ ys) a b (Err fault)
-taken_before xs ys a b fault h = on_known a.left (λ rest t. subst (λ (x : Taken). TakesAs x b.image.numbers b.place b.left (Err fault)) (sym (take_append xs ys (from a rest))) (stop_early (take_steps xs (from a rest)) ys fault b.image.numbers b.place b.left t)) h
-
-stopped_before : (xs ys : List WalkStep) (a b : Told) (fault : FrameFault) → IsTaken xs a b (Err fault) → IsStopped xs a fault b → IsStopped (xs ++ ys) a fault b
-stopped_before xs ys a b fault h k = on_two a.left (λ rest t s.
-    both_refused fault (λ (e : last_numbers (xs ++ ys) (from a rest) ≡ last_numbers xs (from a rest)) f. f ∙ sym e)
-    (refused_is (take_steps xs (from a rest)) b.image.numbers b.place b.left fault t (λ r e. last_refused xs ys (from a rest) r e)) s) h k
+stopped_before : (xs ys : List WalkStep) (a b : Told) (fault : FrameFault) (all left : List ℕ) → IsStopped xs a fault b all left → IsStopped (xs ++ ys) a fault b all left
+stopped_before xs ys a b fault all left h =
+    let P : Taken → Type 0 = λ t. TakesAs t b.image.numbers b.place (Some left) (Err fault) in (
+      subst P (sym (take_append xs ys (from a all))) (stop_early (take_steps xs (from a all)) ys fault b.image.numbers b.place (Some left) h.0),
+      both_refused fault (λ (e : last_numbers (xs ++ ys) (from a all) ≡ last_numbers xs (from a all)) f. f ∙ sym e)
+          (refused_is (take_steps xs (from a all)) b.image.numbers b.place (Some left) fault h.0 (λ r e. last_refused xs ys (from a all) r e)) h.1,
+    )
 
 pub failed_before : (xs ys : List WalkStep) (a b : Told) (fault : FrameFault) → Failed xs a fault b → Failed (xs ++ ys) a fault b
 failed_before xs ys a b fault h = record {
-  taken = taken_before xs ys a b fault h.taken;
-  stopped = stopped_before xs ys a b fault h.taken h.stopped;
-  heard = hears_as {X = Unit {0}} a.given b.given (Err fault)
-      (λ x y p. (taken_before xs ys (with_left a x) (with_left b y) fault p.0, stopped_before xs ys (with_left a x) (with_left b y) fault p.0 p.1)) h.heard;
-  given = omega (arith, h.given, long_append xs ys);
-  cause = h.cause;
-  promise = h.promise;
+  reads = reads_as (λ n p. (omega (arith, p.0, long_append xs ys), tt)) (λ rest left p. stopped_before xs ys a b fault rest left p) h.reads;
   kept = h.kept;
   keeps = keeps_front xs ys a.image.numbers b.image.numbers h.keeps;
 }

@@ -1,6 +1,5 @@
 -- What the calls of the loader read, as the judge of streams has it.
 use Rattle.std.specs.Prelude.{◌≡◌, ℕ, ◌+◌, ◌-◌, ◌≤◌, List, drop, Option, Some, None, Result, Ok, Err, IfSome}
-use Rattle.vms_io.specs.Causes.{capped}
 use Rattle.vms_spec.specs.Readings.{Verdict, Goes, Faulty, Over, Reading, Accepted, Refused}
 use Rattle.vms_stream.specs.State.{State}
 use Rattle.vms_frames.specs.Stands.{Stand}
@@ -75,14 +74,3 @@ IsRefused faults.ReadFault = ⊥
 -- how many bytes a cursor was given where it stands: those before its place, and the one that it holds
 abbrev pub reach : Stand → ℕ
 reach stand = stand.at + held_long stand.held
-
--- How many bytes are given, where so many were due before and are due after: as many as the cursor has come further, and no
--- more than were due. A unit at fault that wasn't due has at most 269.
-abbrev pub Gives : {X : Type 0} → ℕ → ℕ → Stand → Stand → ℕ → (X → ℕ) → Result X LoadFault → Type 0
-Gives before now from to due after (Ok x) = (from.at ≤ to.at) × (reach from ≤ reach to) × (reach to + after x ≤ reach from + due) × (now ≡ capped (before + (reach to - reach from)))
-Gives before now from to due after (Err e) = now ≤ before + due + 269
-
--- the same behind a head, whose bytes are counted among those that were due before it
-abbrev pub GivesBehind : {X : Type 0} → ℕ → ℕ → Stand → Stand → ℕ → (X → ℕ) → Result X LoadFault → Type 0
-GivesBehind before now from to due after (Ok x) = (from.at ≤ to.at) × (reach from ≤ reach to) × (reach to + (269 + after x) ≤ reach from + due) × (now ≡ capped (before + (reach to - reach from)))
-GivesBehind before now from to due after (Err e) = now ≤ before + due

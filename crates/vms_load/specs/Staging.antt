@@ -1,7 +1,6 @@
 -- What is read of a stream so far.
-use Rattle.std.specs.Prelude.{◌≡◌, ℕ, ◌+◌, ◌*◌, ◌<◌, ◌≤◌, Bool, true, false, List, [], ◌∷◌, length, get_or, map, drop, Option, Some, None, Result, Ok, Err}
+use Rattle.std.specs.Prelude.{◌≡◌, ℕ, ◌+◌, ◌*◌, ◌<◌, Bool, true, false, List, [], ◌∷◌, length, get_or, map, drop, Option, Some, None, Result, Ok, Err}
 use Rattle.std.specs.List.{slice_get}
-use Rattle.vms_io.specs.Causes.{capped}
 use Rattle.vms_spec.specs.Sets.{Sub, Device, Set}
 use Rattle.vms_spec.specs.Readings.{Reading, Accepted, Refused}
 use Rattle.vms_spec.specs.Images.{Image, default_image}
@@ -145,8 +144,3 @@ ReadsAll set (Some (Accepted n end)) staged input left (Ok taken) =
 ReadsAll set (Some (Refused at section reason long)) staged input left (Err (faults.Refused r)) = (r ≡ record { section = section; at = at; reason = reason }) × (left ≡ Some (drop (at + long) input))
 ReadsAll set reading staged input left (Err faults.ReadFault) = Unit {0}
 ReadsAll set reading staged input left result = ⊥
-
--- as many bytes are given as were taken, and never more than there may be
-abbrev pub GivesAll : Set → ℕ → ℕ → Result ℕ LoadFault → Type 0
-GivesAll set before now (Ok taken) = (now ≡ capped (before + taken)) × (taken ≤ most_given set)
-GivesAll set before now (Err e) = now ≤ before + most_given set

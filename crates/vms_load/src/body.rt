@@ -1,11 +1,11 @@
 // Reads the fields and the validations of a part, step by step.
-ghost use Rattle.std.specs.Prelude.{◌≡◌, ◌+◌, ◌≤◌, ◌^◌, ◌∷◌, [], List, ℤ, None, OnOk, OnErr, IfErr, IfSome};
+ghost use Rattle.std.specs.Prelude.{◌≡◌, ◌+◌, ◌≤◌, ◌^◌, ◌∷◌, [], List, ℤ, None, OnOk, OnErr, IfErr};
 ghost use Rattle.vms_desc.specs.Described.{described};
 ghost use Rattle.vms_desc.specs.Parts.{desc_at};
-ghost use Rattle.vms_frames.specs.Answers.{HasCause};
+ghost use Rattle.vms_io.specs.Told.{intake};
 ghost use Rattle.vms_walk.specs.Inside.{IsInside, Keeps};
 ghost use Rattle.vms_walk.specs.Steps.{HasSpot, steps_of, spot_slots};
-ghost use Rattle.vms_load.specs.Bodies.{HearsTaken, TakesAs, Spends, progress};
+ghost use Rattle.vms_load.specs.Bodies.{TakesOn, progress};
 ghost use Rattle.vms_load.specs.Bodies.{IsOfKind, AreOfKinds};
 ghost use Rattle.vms_load.specs.Parts.{bytes_of};
 ghost use Rattle.vms_load.specs.Reading.{take_step, step_long, told, Took, Failed};
@@ -32,13 +32,13 @@ pub(crate) fn read_part<S: Source>(
     requires place { cursor.old.at
         + bytes_of (described set.now) (desc_at (described set.now) spot.part) ≤ 2 ^ 63 }
     ensures ok { let steps = steps_of (spot_slots (described set.now) spot image.new.numbers) in
-        let old = told S.left S.given S.faults S.promise image.old cursor.old.at source.old in
-        let new = told S.left S.given S.faults S.promise image.new cursor.new.at source.new in
+        let old = told image.old cursor.old.at (intake S.Source source.old) in
+        let new = told image.new cursor.new.at (intake S.Source source.new) in
         OnOk result (Took steps old new) }
     ensures held { OnOk result (cursor.new.held ≡ None) }
     ensures err { let steps = steps_of (spot_slots (described set.now) spot image.new.numbers) in
-        let old = told S.left S.given S.faults S.promise image.old cursor.old.at source.old in
-        let new = told S.left S.given S.faults S.promise image.new cursor.new.at source.new in
+        let old = told image.old cursor.old.at (intake S.Source source.old) in
+        let new = told image.new cursor.new.at (intake S.Source source.new) in
         IfErr result (λ fault. Failed steps old fault new) }
 {
     let mut reader = Reader {
@@ -71,6 +71,7 @@ impl<S: Source> Cells for Reader<'_, S> {
 impl<S: Source> Walker for Reader<'_, S> {
     ghost use Rattle.std.specs.Prelude.{◌≡◌, ◌≤◌, ◌^◌, None, refl};
     ghost use Rattle.std.proofs.Common.{◌∙◌};
+    ghost use Rattle.vms_io.specs.Told.{intake};
     ghost use Rattle.vms_load.specs.Bodies.{IsOfKind};
     ghost use Rattle.vms_load.specs.Reading.{told, Took, Failed};
     ghost use Rattle.vms_load.specs.Reading.{took_none, took_more, failed_after, failed_before};
@@ -81,16 +82,16 @@ impl<S: Source> Walker for Reader<'_, S> {
         × (b.cursor.ghost_name ≡ a.cursor.ghost_name)
         × (b.source.ghost_name ≡ a.source.ghost_name)
         × Took xs
-        (told S.left S.given S.faults S.promise a.image.now a.cursor.now.at a.source.now)
-        (told S.left S.given S.faults S.promise b.image.now b.cursor.now.at b.source.now)
+        (told a.image.now a.cursor.now.at (intake S.Source a.source.now))
+        (told b.image.now b.cursor.now.at (intake S.Source b.source.now))
         × (a.cursor.now.held ≡ None → b.cursor.now.held ≡ None) };
 
     ghost stops = { λ xs a fault b. (b.image.ghost_name ≡ a.image.ghost_name)
         × (b.cursor.ghost_name ≡ a.cursor.ghost_name)
         × (b.source.ghost_name ≡ a.source.ghost_name)
         × Failed xs
-        (told S.left S.given S.faults S.promise a.image.now a.cursor.now.at a.source.now)
-        fault (told S.left S.given S.faults S.promise b.image.now b.cursor.now.at b.source.now) };
+        (told a.image.now a.cursor.now.at (intake S.Source a.source.now))
+        fault (told b.image.now b.cursor.now.at (intake S.Source b.source.now)) };
 
     ghost may = { λ a step. (a.cursor.now.at ≤ 2 ^ 63) × (a.cursor.now.held ≡ None)
         × IsOfKind a.image.now.kinds step };
@@ -127,18 +128,11 @@ fn read_step<S: Source>(
     requires of_kind { IsOfKind image.old.kinds step }
     requires place { cursor.old.at ≤ 2 ^ 63 }
     requires held { cursor.old.held ≡ None }
-    ensures taken { IfSome (S.left source.old) (λ rest.
-        let start = progress image.old.numbers cursor.old.at rest in
-        let taken = take_step step start in
-        TakesAs taken image.new.numbers cursor.new.at (S.left source.new) result) }
-    ensures given { Spends (step_long step) (S.given source.old) (S.given source.new) cursor.old.at
-        cursor.new.at result }
+    ensures reads { TakesOn (intake S.Source source.old) (intake S.Source source.new)
+        (step_long step) cursor.old.at cursor.new.at
+        (λ rest. take_step step (progress image.old.numbers cursor.old.at rest))
+        image.new.numbers result }
     ensures held { OnOk result (cursor.new.held ≡ None) }
-    ensures heard { HearsTaken
-        (λ rest. take_step step (progress image.old.numbers cursor.old.at rest)) image.new.numbers
-        cursor.new.at (S.given source.old) (S.given source.new) result }
-    ensures cause { HasCause (S.faults source.old) (S.faults source.new) result }
-    ensures promise { S.promise source.new ≡ S.promise source.old }
     ensures kept { image.new ≡ record image.old { numbers = image.new.numbers } }
     ensures keeps { Keeps (step ∷ []) image.old.numbers image.new.numbers }
     ensures stopped { OnErr result (image.new ≡ image.old) }

@@ -1,8 +1,10 @@
 // What the heads of sections and subsections open.
-ghost use Rattle.std.specs.Prelude.{◌≡◌, ◌<◌, ◌≤◌, ◌==◌, ◌^◌, length, map, Some};
+ghost use Rattle.std.specs.List.{slice_get};
+ghost use Rattle.std.specs.Prelude.{◌≡◌, ◌<◌, ◌≤◌, ◌==◌, ◌^◌, length, map, false, Some, IfOk, IfErr};
 ghost use Rattle.vms_spec.specs.Lookup.{find_sub};
 ghost use Rattle.vms_desc.specs.Described.{described};
 ghost use Rattle.vms_parts.specs.Views.{desc_of, device_of, sub_of};
+ghost use Rattle.vms_load.specs.Reads.{IsRefused};
 ghost use Rattle.vms_load.specs.Heads.{section_opened, sub_opened, opened_at, reason_against, reason_against_version, reason_against_sub};
 
 use crate::LoadFault;
@@ -21,6 +23,9 @@ pub(crate) fn open_section(
 ) -> Result<u32, LoadFault>
     requires { length came.now ≡ length (described set.now).devices }
     ensures short { length head.now.name.items ≤ 255 }
+    ensures refused { IfErr result IsRefused }
+    ensures fresh { IfOk result (λ k. (k < length (described set.now).devices)
+        × (slice_get came.now k ≡ Some false)) }
     ensures opened { result ≡ opened_at at (section_opened (described set.now) came.now
         head.now.name.items head.now.instance head.now.version) }
 {
@@ -70,6 +75,7 @@ pub(crate) fn open_sub(
     requires long { length image.now.came ≡ length (device_of device.now).subs }
     requires few { length (device_of device.now).subs < 2 ^ 32 }
     ensures short { length name.now.items ≤ 255 }
+    ensures refused { IfErr result IsRefused }
     ensures opened { result ≡ opened_at at
         (sub_opened number (device_of device.now) image.now.came name.now.items version) }
 {

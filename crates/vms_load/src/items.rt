@@ -1,11 +1,12 @@
 // Numbers that count arrays, constants and unused bytes.
-ghost use Rattle.std.specs.Prelude.{◌≡◌, ◌+◌, ◌≤◌, ◌<◌, ◌^◌, true, false, IfSome, OnOk, OnErr, IfOk, IfErr, ℤ, get_or, slice_set, length, None};
+ghost use Rattle.std.specs.Prelude.{◌≡◌, ◌+◌, ◌≤◌, ◌<◌, ◌^◌, true, false, OnOk, OnErr, IfOk, IfErr, ℤ, get_or, slice_set, length, None};
 ghost use Rattle.vms_kinds.specs.Codes.{InRange, width};
 ghost use Rattle.vms_kinds.specs.declared.Kind.TheVariants.{U8};
 ghost use Rattle.vms_spec.specs.Numbers.{exceeds, is_above};
 ghost use Rattle.vms_spec.specs.Taking.{take_number};
-ghost use Rattle.vms_frames.specs.Answers.{HasCause, GivesWithin};
-ghost use Rattle.vms_load.specs.Bodies.{HearsTaken, HearsCapped, HearsConstant, ReadsCapped, ReadsConstant, progress, TakesAs, Spends};
+ghost use Rattle.vms_io.specs.Told.{intake};
+ghost use Rattle.vms_frames.specs.Reads.{ReadsAs};
+ghost use Rattle.vms_load.specs.Bodies.{ReadsCapped, ReadsConstant, TakesOn, progress};
 ghost use Rattle.vms_walk.specs.Steps.{capacities_of};
 
 use vms_frames::{Cursor, FrameFault};
@@ -28,19 +29,12 @@ pub(crate) fn put_number<S: Source>(
     requires held { cursor.old.held ≡ None }
     requires within { cell < length image.old.numbers }
     requires of_kind { get_or image.old.kinds cell U8 ≡ kind }
-    ensures taken { IfSome (S.left source.old) (λ rest.
-        let start = progress image.old.numbers cursor.old.at rest in
-        let taken = take_number kind (capacities_of most) cell start in
-        TakesAs taken image.new.numbers cursor.new.at (S.left source.new) result) }
-    ensures given { Spends (width kind) (S.given source.old) (S.given source.new) cursor.old.at
-        cursor.new.at result }
-    ensures heard { HearsTaken
+    ensures reads { TakesOn (intake S.Source source.old) (intake S.Source source.new) (width kind)
+        cursor.old.at cursor.new.at
         (λ rest.
         take_number kind (capacities_of most) cell
         (progress image.old.numbers cursor.old.at rest))
-        image.new.numbers cursor.new.at (S.given source.old) (S.given source.new) result }
-    ensures cause { HasCause (S.faults source.old) (S.faults source.new) result }
-    ensures promise { S.promise source.new ≡ S.promise source.old }
+        image.new.numbers result }
     ensures kept { image.new ≡ record image.old { numbers = image.new.numbers } }
     ensures held { OnOk result (cursor.new.held ≡ None) }
     ensures put { OnOk result ((z : ℤ) × (image.new.numbers ≡ slice_set image.old.numbers cell z)) }
@@ -62,16 +56,11 @@ fn number<S: Source>(
     requires place { cursor.old.at ≤ 2 ^ 63 }
     requires held { cursor.old.held ≡ None }
     ensures range { IfOk result (InRange kind) }
-    ensures content { ReadsCapped kind (capacities_of most) cursor.old.at (S.left source.old)
-        (S.left source.new) result }
+    ensures reads { ReadsAs (intake S.Source source.old) (intake S.Source source.new)
+        (λ _. width kind) (width kind) (ReadsCapped kind (capacities_of most) cursor.old.at)
+        result }
     ensures place { OnOk result (cursor.new.at ≡ cursor.old.at + width kind) }
     ensures held { OnOk result (cursor.new.held ≡ None) }
-    ensures given { GivesWithin (λ _. width kind) (width kind) (S.given source.old)
-        (S.given source.new) result }
-    ensures heard { HearsCapped kind (capacities_of most) cursor.old.at (S.given source.old)
-        (S.given source.new) result }
-    ensures cause { HasCause (S.faults source.old) (S.faults source.new) result }
-    ensures promise { S.promise source.new ≡ S.promise source.old }
 {
     let at = cursor.at();
     let value = cursor.number(source, kind)?;
@@ -93,16 +82,10 @@ pub(crate) fn constant<S: Source>(
 ) -> Result<(), FrameFault>
     requires place { cursor.old.at ≤ 2 ^ 63 }
     requires held { cursor.old.held ≡ None }
-    ensures content { ReadsConstant kind value cursor.old.at (S.left source.old)
-        (S.left source.new) result }
+    ensures reads { ReadsAs (intake S.Source source.old) (intake S.Source source.new)
+        (λ _. width kind) (width kind) (ReadsConstant kind value cursor.old.at) result }
     ensures place { OnOk result (cursor.new.at ≡ cursor.old.at + width kind) }
     ensures held { OnOk result (cursor.new.held ≡ None) }
-    ensures given { GivesWithin (λ _. width kind) (width kind) (S.given source.old)
-        (S.given source.new) result }
-    ensures heard { HearsConstant kind value cursor.old.at (S.given source.old)
-        (S.given source.new) result }
-    ensures cause { HasCause (S.faults source.old) (S.faults source.new) result }
-    ensures promise { S.promise source.new ≡ S.promise source.old }
 {
     let at = cursor.at();
     let found = cursor.number(source, kind)?;

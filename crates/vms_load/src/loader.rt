@@ -37,6 +37,8 @@ pub struct Loader {
 impl Loader {
     ghost use Rattle.vms_desc.specs.Described.{described};
     ghost use Rattle.vms_load.specs.Kept.{loads, kept, taken_by};
+    ghost use Rattle.vms_io.specs.Told.{intake};
+    ghost use Rattle.vms_load.specs.Going.{LoadReads};
     ghost use Rattle.vms_load.specs.Hearing.{HearsLoad};
     ghost use Rattle.vms_load.specs.Loads.{HasCause, Loads, GivesWithin};
     ghost use Rattle.vms_load.specs.Staging.{IsMachine, accepted_of};
@@ -70,6 +72,9 @@ impl Loader {
         only: Option<u32>,
     ) -> Result<Option<u32>, LoadFault>
         requires { IsMachine (loads self.old).machines only }
+        ensures reads { LoadReads (intake S.Source source.old) (intake S.Source source.new)
+            (loads self.old) (accepted_of (loads self.old) only) (kept self.new)
+            (taken_by self.new) result }
         ensures content { IfSome (S.left source.old) (λ input.
             Loads (loads self.old) (accepted_of (loads self.old) only) input (S.left source.new)
             (kept self.new) (taken_by self.new) result) }

@@ -4,9 +4,8 @@ ghost use Rattle.vms_stream.specs.State.{State};
 ghost use Rattle.vms_desc.specs.Described.{described};
 ghost use Rattle.vms_parts.specs.Devices.{device_at};
 ghost use Rattle.vms_image.specs.Typed.{IsImageOf, state_of as untyped};
-ghost use Rattle.vms_load.specs.Loads.{HasCause};
-ghost use Rattle.vms_load.specs.Reads.{ReadsOn, Gives};
-ghost use Rattle.vms_load.specs.Hearing.{HearsOn};
+ghost use Rattle.vms_io.specs.Told.{intake};
+ghost use Rattle.vms_load.specs.Going.{GoesOn, Moves};
 ghost use Rattle.vms_load.specs.Parts.{IsOpen, OpensNext, part_of, part_due, bytes_of_part, subs_due, in_fields, after_fields, after_part, IsMoved, IsSame, HoldsNone};
 
 use crate::LoadFault;
@@ -62,19 +61,15 @@ fn fields<S: Source>(
         (device_at (described set.now) section.device) part.sub
         ≤ 2 ^ 63 }
     ensures reads { (names : List (List ℕ)) (state : State) → section.device < length state.images
-        → ReadsOn (in_fields (described set.now) names state section part.sub (untyped image.old))
+        → GoesOn (intake S.Source source.old) (intake S.Source source.new)
+        (bytes_of_part (described set.now) (device_at (described set.now) section.device) part.sub)
+        (in_fields (described set.now) names state section part.sub (untyped image.old))
         (λ _. after_fields (described set.now) names state section part.sub (untyped image.new))
-        cursor.old cursor.new (S.left source.old) (S.left source.new) result }
+        cursor.old cursor.new result }
     ensures held { OnOk result (cursor.new.held ≡ None) }
-    ensures given { Gives (S.given source.old) (S.given source.new) cursor.old cursor.new
+    ensures moves { Moves cursor.old cursor.new
         (bytes_of_part (described set.now) (device_at (described set.now) section.device) part.sub)
         (λ _. 0) result }
-    ensures heard { (names : List (List ℕ)) (state : State) → section.device < length state.images
-        → HearsOn (in_fields (described set.now) names state section part.sub (untyped image.old))
-        (λ _. after_fields (described set.now) names state section part.sub (untyped image.new))
-        cursor.old cursor.new (S.given source.old) (S.given source.new) result }
-    ensures cause { HasCause (S.faults source.old) (S.faults source.new) result }
-    ensures promise { S.promise source.new ≡ S.promise source.old }
     ensures kept { image.new ≡ record image.old { numbers = image.new.numbers } }
     ensures long { length image.new.numbers ≡ length image.old.numbers }
 {
@@ -105,30 +100,22 @@ fn after<S: Source>(
     requires held { cursor.old.held ≡ None }
     ensures reads { (names : List (List ℕ)) (state : State) (part : Option ℕ)
         → section.old.device < length state.images
-        → ReadsOn
+        → GoesOn (intake S.Source source.old) (intake S.Source source.new) 261
         (after_fields (described set.now) names state section.old part (untyped image.old))
         (after_part (described set.now) names state section.new (untyped image.new)) cursor.old
-        cursor.new (S.left source.old) (S.left source.new) result }
+        cursor.new result }
     ensures moved { IfOk result (IsMoved cursor.old cursor.new) }
     ensures section { IsSame section.old section.new }
     ensures held { IfOk result (HoldsNone cursor.new) }
     ensures open { IfOk result
         (OpensNext (device_at (described set.now) section.old.device) (untyped image.new)) }
-    ensures given { Gives (S.given source.old) (S.given source.new) cursor.old cursor.new
+    ensures moves { Moves cursor.old cursor.new
         (subs_due (described set.now)
         (device_at (described set.now) section.old.device).subs image.old.came
         + 5)
         (part_due (described set.now)
         (device_at (described set.now) section.old.device) image.new.came)
         result }
-    ensures heard { (names : List (List ℕ)) (state : State) (part : Option ℕ)
-        → section.old.device < length state.images
-        → HearsOn
-        (after_fields (described set.now) names state section.old part (untyped image.old))
-        (after_part (described set.now) names state section.new (untyped image.new)) cursor.old
-        cursor.new (S.given source.old) (S.given source.new) result }
-    ensures cause { HasCause (S.faults source.old) (S.faults source.new) result }
-    ensures promise { S.promise source.new ≡ S.promise source.old }
     ensures shaped { IsImageOf (described set.now) section.old.device image.new }
 {
     let at = cursor.at();
@@ -177,21 +164,18 @@ pub(crate) fn read_section<S: Source>(
         ≤ 2 ^ 63 }
     ensures reads { (names : List (List ℕ)) (state : State)
         → section.old.device < length state.images
-        → ReadsOn (in_fields (described set.now) names state section.old None (untyped image.old))
+        → GoesOn (intake S.Source source.old) (intake S.Source source.new)
+        (part_due (described set.now) (device_at (described set.now) section.old.device)
+        image.old.came (Some (record { sub = None; version = image.old.version }))
+        + 269)
+        (in_fields (described set.now) names state section.old None (untyped image.old))
         (λ _. after_part (described set.now) names state section.new (untyped image.new) None)
-        cursor.old cursor.new (S.left source.old) (S.left source.new) result }
+        cursor.old cursor.new result }
     ensures section { IsSame section.old section.new }
-    ensures given { Gives (S.given source.old) (S.given source.new) cursor.old cursor.new
+    ensures moves { Moves cursor.old cursor.new
         (part_due (described set.now) (device_at (described set.now) section.old.device)
         image.old.came (Some (record { sub = None; version = image.old.version })))
         (λ _. 0) result }
-    ensures heard { (names : List (List ℕ)) (state : State)
-        → section.old.device < length state.images
-        → HearsOn (in_fields (described set.now) names state section.old None (untyped image.old))
-        (λ _. after_part (described set.now) names state section.new (untyped image.new) None)
-        cursor.old cursor.new (S.given source.old) (S.given source.new) result }
-    ensures cause { HasCause (S.faults source.old) (S.faults source.new) result }
-    ensures promise { S.promise source.new ≡ S.promise source.old }
     ensures shaped { IsImageOf (described set.now) section.old.device image.new }
 {
     let mut next = Some(Open {

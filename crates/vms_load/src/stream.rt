@@ -1,5 +1,5 @@
 // A whole stream, unit by unit and section by section.
-ghost use Rattle.std.specs.Prelude.{◌≡◌, ◌+◌, ◌<◌, ◌≤◌, ◌^◌, Bool, true, false, ℕ, List, Some, None, length, IfSome, IfOk, OnOk};
+ghost use Rattle.std.specs.Prelude.{◌≡◌, ◌+◌, ◌<◌, ◌≤◌, ◌^◌, Bool, true, false, ℕ, List, Some, None, length, IfOk, OnOk};
 ghost use Rattle.vms_spec.specs.Sets.{Set};
 ghost use Rattle.vms_stream.specs.Judge.{judge, reading};
 ghost use Rattle.vms_stream.specs.State.{State, Before, Free, by_state, at_start};
@@ -7,10 +7,9 @@ ghost use Rattle.vms_bodies.specs.Whole.{reading_on};
 ghost use Rattle.vms_desc.specs.Described.{described};
 ghost use Rattle.vms_stream.specs.Judged.{ask};
 ghost use Rattle.vms_spec.specs.Units.{Head as HeadUnit};
-ghost use Rattle.vms_load.specs.Hearing.{HearsOn, HearsBehind, HearsAll};
-ghost use Rattle.vms_load.specs.Loads.{HasCause};
-ghost use Rattle.vms_load.specs.Reads.{ReadsOn, ReadsBehind, IsBehind, Gives, GivesBehind};
-ghost use Rattle.vms_load.specs.Staging.{AreShaped, IsOf, IsMachine, accepted_of, state_of, spot_of, spot_at, read_from, HoldsAt, sections_due, stream_due, ReadsAll, GivesAll};
+ghost use Rattle.vms_io.specs.Told.{intake};
+ghost use Rattle.vms_load.specs.Going.{GoesOn, GoesBehind, GoesThrough, Moves};
+ghost use Rattle.vms_load.specs.Staging.{AreShaped, IsOf, IsMachine, accepted_of, state_of, spot_of, spot_at, read_from, HoldsAt, sections_due, stream_due};
 
 use crate::LoadFault;
 use crate::heads::open_section;
@@ -30,18 +29,11 @@ pub(crate) fn stream<S: Source>(
 ) -> Result<u64, LoadFault>
     requires machine { IsMachine (described set.now).machines only }
     requires shaped { AreShaped (described set.now) staged.old.images.items }
-    ensures reads { IfSome (S.left source.old) (λ input.
-        ReadsAll (described set.now)
-        (reading (by_state (described set.now) (accepted_of (described set.now) only))
-        (at_start (described set.now)) input)
-        staged.new input (S.left source.new) result) }
-    ensures given { GivesAll (described set.now) (S.given source.old) (S.given source.new) result }
-    ensures heard { HearsAll (described set.now)
+    ensures reads { GoesThrough (intake S.Source source.old) (intake S.Source source.new)
+        (described set.now)
         (reading (by_state (described set.now) (accepted_of (described set.now) only))
         (at_start (described set.now)))
-        staged.new (S.given source.old) (S.given source.new) result }
-    ensures cause { HasCause (S.faults source.old) (S.faults source.new) result }
-    ensures promise { S.promise source.new ≡ S.promise source.old }
+        staged.new result }
     ensures shaped { AreShaped (described set.now) staged.new.images.items }
     ensures machine { IsMachine (described set.now).machines staged.new.machine }
 {
@@ -60,18 +52,12 @@ fn head<S: Source>(cursor: &mut Cursor, source: &mut S) -> Result<(), LoadFault>
     requires held { cursor.old.held ≡ None }
     requires place { cursor.old.at ≤ 2 ^ 63 }
     ensures reads { (set : Set) (names : List (List ℕ)) (state : State)
-        → ReadsOn (reading_on (judge (by_state set names)) (record state { spot = Before }))
+        → GoesOn (intake S.Source source.old) (intake S.Source source.new) 8
+        (reading_on (judge (by_state set names)) (record state { spot = Before }))
         (λ _. reading_on (judge (by_state set names)) (record state { spot = Free true false }))
-        cursor.old cursor.new (S.left source.old) (S.left source.new) result }
+        cursor.old cursor.new result }
     ensures held { OnOk result (cursor.new.held ≡ None) }
-    ensures given { Gives (S.given source.old) (S.given source.new) cursor.old cursor.new 8
-        (λ _. 0) result }
-    ensures heard { (set : Set) (names : List (List ℕ)) (state : State)
-        → HearsOn (reading_on (judge (by_state set names)) (record state { spot = Before }))
-        (λ _. reading_on (judge (by_state set names)) (record state { spot = Free true false }))
-        cursor.old cursor.new (S.given source.old) (S.given source.new) result }
-    ensures cause { HasCause (S.faults source.old) (S.faults source.new) result }
-    ensures promise { S.promise source.new ≡ S.promise source.old }
+    ensures moves { Moves cursor.old cursor.new 8 (λ _. 0) result }
 {
     match cursor.stream_head(source) {
         Ok(()) => Ok(()),
@@ -92,18 +78,15 @@ fn sections<S: Source>(
     requires place { cursor.old.at
         + stream_due (described set.now) staged.old.came.items (Some Between.First) ≤ 2 ^ 63 }
     requires held { cursor.old.held ≡ None }
-    ensures reads { ReadsOn (read_from set.now only staged.old (spot_at (Some Between.First)))
+    ensures reads { GoesOn (intake S.Source source.old) (intake S.Source source.new)
+        (stream_due (described set.now) staged.old.came.items (Some Between.First) + 269)
+        (read_from set.now only staged.old (spot_at (Some Between.First)))
         (λ _. read_from set.now only staged.new (spot_at None))
-        cursor.old cursor.new (S.left source.old) (S.left source.new) result }
+        cursor.old cursor.new result }
     ensures held { OnOk result (cursor.new.held ≡ None) }
-    ensures given { Gives (S.given source.old) (S.given source.new) cursor.old cursor.new
+    ensures moves { Moves cursor.old cursor.new
         (stream_due (described set.now) staged.old.came.items (Some Between.First)) (λ _. 0)
         result }
-    ensures heard { HearsOn (read_from set.now only staged.old (spot_at (Some Between.First)))
-        (λ _. read_from set.now only staged.new (spot_at None))
-        cursor.old cursor.new (S.given source.old) (S.given source.new) result }
-    ensures cause { HasCause (S.faults source.old) (S.faults source.new) result }
-    ensures promise { S.promise source.new ≡ S.promise source.old }
     ensures whole { IsOf (described set.now) staged.new }
 {
     let mut place = Some(Between::First);
@@ -127,19 +110,16 @@ fn turn<S: Source>(
     requires whole { IsOf (described set.now) staged.old }
     requires place { cursor.old.at
         + stream_due (described set.now) staged.old.came.items (Some between) ≤ 2 ^ 63 }
-    ensures reads { ReadsOn (read_from set.now only staged.old (spot_of between))
+    ensures reads { GoesOn (intake S.Source source.old) (intake S.Source source.new)
+        (stream_due (described set.now) staged.old.came.items (Some between) + 269)
+        (read_from set.now only staged.old (spot_of between))
         (λ next. read_from set.now only staged.new (spot_at next))
-        cursor.old cursor.new (S.left source.old) (S.left source.new) result }
+        cursor.old cursor.new result }
     ensures held { IfOk result (HoldsAt cursor.new) }
-    ensures given { Gives (S.given source.old) (S.given source.new) cursor.old cursor.new
+    ensures moves { Moves cursor.old cursor.new
         (stream_due (described set.now) staged.old.came.items (Some between))
         (stream_due (described set.now) staged.new.came.items) result }
     ensures moved { OnOk result (cursor.old.at < cursor.new.at) }
-    ensures heard { HearsOn (read_from set.now only staged.old (spot_of between))
-        (λ next. read_from set.now only staged.new (spot_at next))
-        cursor.old cursor.new (S.given source.old) (S.given source.new) result }
-    ensures cause { HasCause (S.faults source.old) (S.faults source.new) result }
-    ensures promise { S.promise source.new ≡ S.promise source.old }
     ensures whole { IsOf (described set.now) staged.new }
 {
     let at = cursor.at();
@@ -168,23 +148,10 @@ fn opened<S: Source>(
     requires place { cursor.old.at
         + sections_due (described set.now) (described set.now).devices staged.old.came.items
         ≤ 2 ^ 63 + 269 }
-    ensures reads { (names : List (List ℕ)) (first after : Bool) (bytes : List ℕ)
-        → IsBehind (14 + length head.now.name.items) at bytes cursor.old (S.left source.old)
-        → ReadsBehind (reading_on (judge (by_state (described set.now) names)))
-        (ask (described set.now) names
-        (state_of (described set.now) staged.old (Free first after))
-        (HeadUnit head.now.id head.now.name.items head.now.instance head.now.version)
-        (14 + length head.now.name.items))
-        (λ _.
-        reading_on (judge (by_state (described set.now) names))
-        (state_of (described set.now) staged.new (Free false false)))
-        at (14 + length head.now.name.items) bytes cursor.new (S.left source.new) result }
-    ensures given { GivesBehind (S.given source.old) (S.given source.new) cursor.old cursor.new
+    ensures reads { (names : List (List ℕ)) (first after : Bool)
+        → GoesBehind (intake S.Source source.old) (intake S.Source source.new)
         (sections_due (described set.now) (described set.now).devices staged.old.came.items)
-        (λ _. sections_due (described set.now) (described set.now).devices staged.new.came.items)
-        result }
-    ensures heard { (names : List (List ℕ)) (first after : Bool)
-        → HearsBehind (reading_on (judge (by_state (described set.now) names)))
+        (reading_on (judge (by_state (described set.now) names)))
         (ask (described set.now) names
         (state_of (described set.now) staged.old (Free first after))
         (HeadUnit head.now.id head.now.name.items head.now.instance head.now.version)
@@ -192,10 +159,12 @@ fn opened<S: Source>(
         (λ _.
         reading_on (judge (by_state (described set.now) names))
         (state_of (described set.now) staged.new (Free false false)))
-        at (14 + length head.now.name.items) cursor.old cursor.new (S.given source.old)
-        (S.given source.new) result }
-    ensures cause { HasCause (S.faults source.old) (S.faults source.new) result }
-    ensures promise { S.promise source.new ≡ S.promise source.old }
+        at (14 + length head.now.name.items) cursor.old cursor.new result }
+    ensures moves { Moves cursor.old cursor.new
+        (sections_due (described set.now) (described set.now).devices staged.old.came.items)
+        (λ _. 269
+        + sections_due (described set.now) (described set.now).devices staged.new.came.items)
+        result }
     ensures whole { IsOf (described set.now) staged.new }
     ensures short { length head.now.name.items ≤ 255 }
 {

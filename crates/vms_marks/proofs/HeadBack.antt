@@ -1,6 +1,7 @@
 -- The bytes of a head say that head.
-use Rattle.std.proofs.Common.{◌≡◌, ℕ, ◌+◌, ◌<◌, ◌^◌, List, [], ◌∷◌, ◌++◌, length, take, drop, refl, sym, ap, ◌∙◌, arith, append_assoc}
+use Rattle.std.proofs.Common.{◌≡◌, ℕ, ◌+◌, ◌<◌, ◌^◌, List, ◌∷◌, ◌++◌, length, take, drop, refl, sym, ap, ◌∙◌, arith, append_assoc, []}
 use Rattle.std.proofs.lemmas.List.{drop-drop}
+use Rattle.std.proofs.Math.Seq.{drop-append_seam}
 use Rattle.byteorder.specs.Endian.{big_number}
 use Rattle.vms_spec.specs.Streams.{be32}
 use Rattle.vms_spec.specs.Lookup.{number_at, bytes_at}
@@ -8,10 +9,6 @@ use Rattle.vms_spec.proofs.KindLaws.{be32_read}
 use Rattle.vms_marks.specs.declared.head.Head.{Head}
 use Rattle.vms_marks.specs.Heads.{head_bytes, head_in}
 use Rattle.vms_marks.specs.Laws.{HeadLaw}
-
-drop_front : (front rest : List ℕ) → drop (length front) (front ++ rest) ≡ rest
-drop_front [] rest = refl
-drop_front (x ∷ front) rest = drop_front front rest
 
 take_front : (front rest : List ℕ) → take (length front) (front ++ rest) ≡ front
 take_front [] rest = refl
@@ -30,9 +27,6 @@ parts head rest =
 abbrev make : ℕ → List ℕ → ℕ → ℕ → Head
 make id name instance version = record { id = id; name = record { items = name }; instance = instance; version = version }
 
-more_than : (n : ℕ) → 10 + n ≡ (6 + n) + 4
-more_than n = omega arith
-
 -- the head that is said by an id, a name with its length, and what follows
 said : (id : ℕ) (name more : List ℕ) (instance version : ℕ) (rest : List ℕ) → id < 2 ^ 32 → instance < 2 ^ 32 → version < 2 ^ 32
     → more ≡ be32 instance ++ (be32 version ++ rest)
@@ -40,8 +34,9 @@ said : (id : ℕ) (name more : List ℕ) (instance version : ℕ) (rest : List �
 said id name more instance version rest i j v is =
     let n = length name in
     let r = 0x04 ∷ (be32 id ++ (n ∷ (name ++ more))) in
-    let six : drop (6 + n) r ≡ more = sym (drop-drop n 6 r) ∙ drop_front name more in
-    let ten : drop (10 + n) r ≡ drop 4 more = ap (λ (k : ℕ). drop k r) (more_than n) ∙ sym (drop-drop 4 (6 + n) r) ∙ ap (drop 4) six in
+    let six : drop (6 + n) r ≡ more = sym (drop-drop n 6 r) ∙ drop-append_seam name more in
+    let plus : 10 + n ≡ (6 + n) + 4 = omega arith in
+    let ten : drop (10 + n) r ≡ drop 4 more = ap (λ (k : ℕ). drop k r) plus ∙ sym (drop-drop 4 (6 + n) r) ∙ ap (drop 4) six in
     let first : number_at 4 1 r ≡ id = be32_read id (n ∷ (name ++ more)) i in
     let named : bytes_at n 6 r ≡ name = take_front name more in
     let second : number_at 4 (6 + n) r ≡ instance = ap (big_number 4) (six ∙ is) ∙ be32_read instance (be32 version ++ rest) j in

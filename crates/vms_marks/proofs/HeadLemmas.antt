@@ -1,11 +1,11 @@
 -- The head that bytes say has these bytes.
-use Rattle.std.proofs.Common.{◌≡◌, ℕ, zero, suc, ◌+◌, ◌<◌, List, [], ◌∷◌, ◌++◌, length, get_or, take, drop, refl, sym, ap, subst, ◌∙◌, arith, length-drop, take-append-drop, append_assoc}
+use Rattle.std.proofs.Common.{◌≡◌, ℕ, zero, suc, ◌+◌, ◌<◌, List, ◌∷◌, ◌++◌, length, get_or, take, drop, refl, sym, ap, subst, ◌∙◌, arith, length-drop, take-append-drop, append_assoc, []}
 use Rattle.std.proofs.lemmas.List.{drop-drop, length-take-le, get_or-drop}
 use Rattle.byteorder.specs.Endian.{big_number}
 use Rattle.vms_kinds.specs.declared.Kind.TheVariants.{U32}
 use Rattle.vms_kinds.proofs.CodeLemmas.{again}
 use Rattle.vms_spec.specs.Streams.{be32}
-use Rattle.vms_spec.specs.Numbers.{IsBytes}
+use Rattle.vms_kinds.specs.Bytes.{IsBytes}
 use Rattle.vms_spec.specs.Lookup.{number_at}
 use Rattle.vms_marks.specs.Heads.{head_bytes, head_in}
 
@@ -28,15 +28,13 @@ eight front (a ∷ b ∷ c ∷ d ∷ e ∷ f ∷ g ∷ h ∷ []) long ok =
     ∙ append_assoc front (a ∷ b ∷ c ∷ d ∷ []) (e ∷ f ∷ g ∷ h ∷ [])
 eight front _ long ok = absurd (omega arith)
 
-more_than : (n : ℕ) → 10 + n ≡ (6 + n) + 4
-more_than n = omega arith
-
 -- bytes of the right mark and length are those of the head that they say
 pub spells : (bytes : List ℕ) → IsBytes bytes → get_or bytes 0 0 ≡ 4 → length bytes ≡ 14 + get_or bytes 5 0 → head_bytes (head_in bytes) ≡ bytes
 spells (m ∷ a ∷ b ∷ c ∷ d ∷ n ∷ more) ok mark long =
     let r = m ∷ a ∷ b ∷ c ∷ d ∷ n ∷ more in
     let six : drop (6 + n) r ≡ drop n more = sym (drop-drop n 6 r) in
-    let ten : drop (10 + n) r ≡ drop 4 (drop n more) = ap (λ (k : ℕ). drop k r) (more_than n) ∙ sym (drop-drop 4 (6 + n) r) ∙ ap (drop 4) six in
+    let plus : 10 + n ≡ (6 + n) + 4 = omega arith in
+    let ten : drop (10 + n) r ≡ drop 4 (drop n more) = ap (λ (k : ℕ). drop k r) plus ∙ sym (drop-drop 4 (6 + n) r) ∙ ap (drop 4) six in
     let named : length (take n more) ≡ n = length-take-le n more (omega arith) in
     let last : length (drop n more) ≡ 8 = simp length-drop (omega arith) in
     let bytes : IsBytes (drop n more) = λ i. subst (λ (k : ℕ). k < 256) (sym (get_or-drop n more i 0 ∙ get_or-drop 6 r (n + i) 0)) (ok (6 + (n + i))) in

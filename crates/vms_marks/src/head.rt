@@ -68,8 +68,8 @@ impl Head {
         Ok(Head::of(bytes))
     }
 
-    // The head that these bytes, of the right mark and length, say.
-    fn of(bytes: &[u8]) -> Head
+    /// The head that these bytes, of the right mark and length, say.
+    pub fn of(bytes: &[u8]) -> Head
         requires { length bytes.now ≡ 14 + slice_index bytes.now 5 }
         ensures { result ≡ head_in bytes.now }
     {

@@ -1,3 +1,4 @@
 pub mod CapacityLaws
 pub mod Items
 pub mod SizeLaws
+pub mod ItemLaws

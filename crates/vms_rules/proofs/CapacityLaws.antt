@@ -1,15 +1,13 @@
 -- The least capacity stands for all that a number counts.
-use Rattle.std.proofs.Common.{◌≡◌, ℕ, ◌<◌, min, List, [], ◌∷◌, length, get_or, Bool, true, false, Option, Some, None, ℤ, pos, negsuc, refl, ap, ◌∙◌, arith}
-use Rattle.std.specs.Prelude.{◌&&◌, nat_le}
-use Rattle.std.proofs.lemmas.Bool.Decides.{nat_tests}
+use Rattle.std.proofs.Common.{◌≡◌, ℕ, ◌<◌, List, ◌∷◌, length, get_or, Bool, true, false, Option, Some, None, ℤ, pos, negsuc, refl, ap, ◌∙◌, []}
+use Rattle.std.specs.Prelude.{◌&&◌}
+use Rattle.std.proofs.Math.Bool.{and_assoc}
 use Rattle.vms_spec.specs.Layout.{counted}
 use Rattle.vms_spec.specs.Rules.{int_le, counts_well}
 use Rattle.vms_spec.specs.Sets.{Field}
+use Rattle.vms_spec.proofs.ListLaws.{both_below}
 use Rattle.vms_parts.specs.Capacities.{lesser, least_from, AreLeast}
 use Rattle.vms_rules.specs.Capacities.{fits}
-
-both_below : (n a b : ℕ) → nat_le n (min a b) ≡ (nat_le n a && nat_le n b)
-both_below n a b = grind (arith, nat_tests)
 
 fits_lesser : (o : Option ℕ) (most : ℕ) (z : ℤ) → fits (lesser o most) z ≡ (fits o z && int_le z (pos most))
 fits_lesser None most z = refl
@@ -20,14 +18,10 @@ and_true : (b : Bool) → b ≡ (b && true)
 and_true true = refl
 and_true false = refl
 
-grouped : (a b c : Bool) → ((a && b) && c) ≡ (a && (b && c))
-grouped true b c = refl
-grouped false b c = refl
-
 fits_all : (o : Option ℕ) (capacities : List ℕ) (z : ℤ) → fits (least_from o capacities) z ≡ (fits o z && counts_well capacities z)
 fits_all o [] z = and_true (fits o z)
 fits_all o (most ∷ capacities) z =
-    fits_all (lesser o most) capacities z ∙ ap (λ (b : Bool). b && counts_well capacities z) (fits_lesser o most z) ∙ grouped (fits o z) (int_le z (pos most)) (counts_well capacities z)
+    fits_all (lesser o most) capacities z ∙ ap (λ (b : Bool). b && counts_well capacities z) (fits_lesser o most z) ∙ and_assoc (fits o z) (int_le z (pos most)) (counts_well capacities z)
 
 -- a number is at most the least capacity exactly where it is at most each
 pub least_fits : (fields : List Field) (table : List (Option ℕ)) (i : ℕ) (z : ℤ) → AreLeast fields table → i < length fields → fits (get_or table i None) z ≡ counts_well (counted i fields) z

@@ -1,9 +1,10 @@
 -- Devices and their subsections.
-use Rattle.std.proofs.Common.{◌≡◌, ℕ, ◌+◌, ◌<◌, List, [], ◌∷◌, ◌++◌, length, get_or, take, map, Bool, true, false, Option, None, refl, sym, ap, ◌∙◌, arith}
-use Rattle.std.specs.Prelude.{◌||◌, ◌&&◌, ◌==◌}
+use Rattle.std.proofs.Common.{◌≡◌, ℕ, ◌+◌, ◌<◌, List, ◌∷◌, ◌++◌, length, get_or, take, map, Bool, Option, None, refl, sym, ap, ◌∙◌, arith, []}
+use Rattle.std.specs.Prelude.{◌&&◌, ◌==◌, ◌||◌}
 use Rattle.std.specs.List.{list_any}
 use Rattle.std.specs.Str.{bytes_eq}
 use Rattle.std.proofs.lemmas.List.{take_more, map-append, take-map, length-map}
+use Rattle.std.proofs.Math.Bool.{or_comm}
 use Rattle.vms_spec.specs.declared.Whose.TheVariants.{Own, Parent}
 use Rattle.vms_spec.specs.Lists.{or_else, first_answer}
 use Rattle.vms_spec.specs.Rules.{names_well}
@@ -66,12 +67,6 @@ needed_names own known parent device (And s t) same alike =
 needed_names own known parent device (Or s t) same alike =
     ap (λ (b : Bool). b && names_well own parent t) (needed_names own known parent device s same alike)
     ∙ ap (λ (b : Bool). names_well known device s && b) (needed_names own known parent device t same alike)
-
-or_comm : (a b : Bool) → (a || b) ≡ (b || a)
-or_comm true true = refl
-or_comm true false = refl
-or_comm false true = refl
-or_comm false false = refl
 
 pub sub_names_more : (subs : List Sub) (i : ℕ) (s : Sub) (had have : List ℕ → Bool) → i < length subs → s ≡ get_or subs i s
     → ((n : List ℕ) → had n ≡ is_one_of (map (λ e. e.desc.name) (take i (map sub_of subs))) n) → ((n : List ℕ) → have n ≡ with_name had s.desc.name n)

@@ -1,6 +1,6 @@
 -- Which earlier fields a field may name.
-use Rattle.std.proofs.Common.{◌≡◌, ℕ, zero, suc, ◌+◌, ◌<◌, List, [], ◌∷◌, ◌++◌, append_assoc, length, get_or, take, map, Bool, true, false, refl, sym, ap, ◌∙◌, arith}
-use Rattle.std.specs.Prelude.{◌&&◌, ◌||◌, not, nat_lt}
+use Rattle.std.proofs.Common.{◌≡◌, ℕ, zero, suc, ◌+◌, ◌<◌, List, ◌∷◌, ◌++◌, append_assoc, length, get_or, take, map, Bool, true, false, refl, sym, ap, ◌∙◌, arith, []}
+use Rattle.std.specs.Prelude.{◌&&◌, not, nat_lt, ◌||◌}
 use Rattle.std.specs.List.{slice_get}
 use Rattle.std.proofs.lemmas.Bool.Decides.{nat_tests}
 use Rattle.vms_spec.specs.declared.Whose.TheVariants.{Own, Parent}
@@ -9,8 +9,10 @@ use Rattle.vms_spec.specs.Sets.{Formula, AtLeast, Below, Cell, Not, And, Or}
 use Rattle.vms_spec.specs.Rules.{is_steady, names_well}
 use Rattle.std.specs.Str.{bytes_eq}
 use Rattle.std.proofs.lemmas.List.{take_more, map-append, take-map}
+use Rattle.std.proofs.Math.Bool.{and-false, or-false, or_comm}
 use Rattle.vms_spec.specs.Names.{all_names, are_new}
 use Rattle.vms_spec.specs.Streams.{is_one_of}
+use Rattle.vms_spec.proofs.ListLaws.{one_of_both}
 use Rattle.vms_rules.specs.NameSets.{are_new_to}
 use Rattle.vms_rules.proofs.NameLaws.{same_new}
 use Rattle.vms_parts.specs.declared.types.Field.{Field}
@@ -25,13 +27,9 @@ none_before i = grind (arith, nat_tests)
 first_before : (k : ℕ) → nat_lt 0 (suc k) ≡ true
 first_before k = grind (arith, nat_tests)
 
-and_false : (b : Bool) → (b && false) ≡ false
-and_false true = refl
-and_false false = refl
-
 pub earlier_is : (fields : List Field) (m k i : ℕ) → is_steady m (slice_get (map field_of (take k fields)) i) ≡ (nat_lt i k && is_steady m (slice_get (map field_of fields) i))
-earlier_is [] m zero i = sym (and_false (nat_lt i 0))
-earlier_is [] m (suc k) i = sym (and_false (nat_lt i (suc k)))
+earlier_is [] m zero i = sym (and-false (nat_lt i 0))
+earlier_is [] m (suc k) i = sym (and-false (nat_lt i (suc k)))
 earlier_is (f ∷ fields) m zero i = ap (λ (b : Bool). b && is_steady m (slice_get (map field_of (f ∷ fields)) i)) (sym (none_before i))
 earlier_is (f ∷ fields) m (suc k) zero = ap (λ (b : Bool). b && is_steady m (slice_get (map field_of (f ∷ fields)) 0)) (sym (first_before k))
 earlier_is (f ∷ fields) m (suc k) (suc i) = earlier_is fields m k i ∙ ap (λ (b : Bool). b && is_steady m (slice_get (map field_of fields) i)) (sym (one_less i k))
@@ -53,26 +51,9 @@ pub new_is : (earlier names : List (List ℕ)) → are_new earlier names ≡ are
 new_is earlier [] = refl
 new_is earlier (n ∷ names) = ap (λ (b : Bool). not (is_one_of earlier n) && b) (new_is (n ∷ earlier) names)
 
-one_of_both : (xs ys : List (List ℕ)) (n : List ℕ) → is_one_of (xs ++ ys) n ≡ (is_one_of xs n || is_one_of ys n)
-one_of_both [] ys n = refl
-one_of_both (x ∷ xs) ys n = ap (λ (b : Bool). bytes_eq x n || b) (one_of_both xs ys n) ∙ or_grouped (bytes_eq x n) (is_one_of xs n) (is_one_of ys n) where
-  or_grouped : (a b c : Bool) → (a || (b || c)) ≡ ((a || b) || c)
-  or_grouped true b c = refl
-  or_grouped false b c = refl
-
 names_of_both : (fs gs : List sets.Field) → all_names (fs ++ gs) ≡ all_names fs ++ all_names gs
 names_of_both [] gs = refl
 names_of_both (f ∷ fs) gs = ap (λ (l : List (List ℕ)). f.name ∷ (f.former ++ l)) (names_of_both fs gs) ∙ ap (λ (l : List (List ℕ)). f.name ∷ l) (sym (append_assoc f.former (all_names fs) (all_names gs)))
-
-or_comm : (a b : Bool) → (a || b) ≡ (b || a)
-or_comm true true = refl
-or_comm true false = refl
-or_comm false true = refl
-or_comm false false = refl
-
-or_false : (b : Bool) → (b || false) ≡ b
-or_false true = refl
-or_false false = refl
 
 -- the names of one more field
 pub names_more : (fields : List Field) (i : ℕ) (f : Field) (had have : List ℕ → Bool) → i < length fields → f ≡ get_or fields i f
@@ -83,7 +64,7 @@ names_more fields i f had have lt is before now n =
     let more : map field_of (take (i + 1) fields) ≡ fs ++ field_of f ∷ [] =
     ap (map field_of) (take_more fields i f lt ∙ ap (λ (x : Field). take i fields ++ x ∷ []) (sym is)) ∙ map-append field_of (take i fields) (f ∷ []) in
     now n ∙ ap (λ (b : Bool). is_one_of (f.name ∷ f.former) n || b) (before n) ∙ or_comm (is_one_of (f.name ∷ f.former) n) (is_one_of (all_names fs) n)
-    ∙ ap (λ (b : Bool). is_one_of (all_names fs) n || (bytes_eq f.name n || b)) (sym (one_of_both f.former [] n ∙ or_false (is_one_of f.former n)))
+    ∙ ap (λ (b : Bool). is_one_of (all_names fs) n || (bytes_eq f.name n || b)) (sym (one_of_both f.former [] n ∙ or-false (is_one_of f.former n)))
     ∙ sym (one_of_both (all_names fs) (all_names (field_of f ∷ [])) n) ∙ ap (λ (l : List (List ℕ)). is_one_of l n) (sym (names_of_both fs (field_of f ∷ [])))
     ∙ ap (λ (l : List sets.Field). is_one_of (all_names l) n) (sym more)
 

@@ -1,6 +1,6 @@
 -- Names and sets of names.
-use Rattle.std.proofs.Common.{◌≡◌, ℕ, ◌+◌, ◌<◌, ◌≤◌, List, [], ◌∷◌, ◌++◌, length, length-take, length-append, get_or, drop, take, Bool, true, false, Ordering, Less, Equal, Greater, refl, sym, ap, subst, ◌∙◌, arith}
-use Rattle.std.specs.Prelude.{◌&&◌, ◌||◌, not, nat_eq}
+use Rattle.std.proofs.Common.{◌≡◌, ℕ, ◌+◌, ◌<◌, ◌≤◌, List, ◌∷◌, ◌++◌, length, length-take, length-append, get_or, drop, take, Bool, true, false, Ordering, Less, Equal, Greater, refl, sym, ap, subst, ◌∙◌, arith, []}
+use Rattle.std.specs.Prelude.{◌&&◌, not, nat_eq, ◌||◌}
 use Rattle.std.specs.BTreeSet.{BTreeSet, UpdatesBy}
 use Rattle.std.specs.Set.{KeepsOthers}
 use Rattle.std.specs.Map.{IsKeyTest, AreApart}
@@ -12,9 +12,11 @@ use Rattle.std.specs.Str.{bytes_eq}
 use Rattle.std.proofs.lemmas.List.{take_more}
 use Rattle.std.proofs.lemmas.Map.Text.{is_eq-slice_cmp}
 use Rattle.std.proofs.lemmas.Slice.Eq.{bytes_eq-Decides}
+use Rattle.std.proofs.Math.Bool.{and-true, or-false, and_assoc, or_assoc}
 use denote.Ref.{Bor}
 use Rattle.vms_spec.specs.Names.{is_name_byte, is_name, is_sub_name}
 use Rattle.vms_spec.specs.Streams.{is_one_of}
+use Rattle.vms_spec.proofs.ListLaws.{or_turned}
 use Rattle.vms_parts.proofs.Items.{drop_is}
 use Rattle.vms_rules.specs.NameSets.{ending, by_ending, has_name, with_name, are_new_to}
 
@@ -77,26 +79,14 @@ same_new had have (n ∷ names) same =
 
 -- one more name of a list
 pub is_one_more : (names : List (List ℕ)) (x n : List ℕ) → is_one_of (names ++ x ∷ []) n ≡ (is_one_of names n || bytes_eq x n)
-is_one_more [] x n = or_false (bytes_eq x n) where
-  or_false : (b : Bool) → (b || false) ≡ b
-  or_false true = refl
-  or_false false = refl
-is_one_more (m ∷ names) x n = ap (λ (b : Bool). bytes_eq m n || b) (is_one_more names x n) ∙ or_grouped (bytes_eq m n) (is_one_of names n) (bytes_eq x n) where
-  or_grouped : (a b c : Bool) → (a || (b || c)) ≡ ((a || b) || c)
-  or_grouped true b c = refl
-  or_grouped false b c = refl
-
-or_swap : (a b c : Bool) → (a || (b || c)) ≡ ((b || a) || c)
-or_swap true true c = refl
-or_swap true false c = refl
-or_swap false true c = refl
-or_swap false false c = refl
+is_one_more [] x n = or-false (bytes_eq x n)
+is_one_more (m ∷ names) x n = ap (λ (b : Bool). bytes_eq m n || b) (is_one_more names x n) ∙ sym (or_assoc (bytes_eq m n) (is_one_of names n) (bytes_eq x n))
 
 pub added_more : (list : List (List ℕ)) (i : ℕ) (x : List ℕ) (first had have : List ℕ → Bool) → i < length list → x ≡ get_or list i x
     → ((n : List ℕ) → had n ≡ (is_one_of (take i list) n || first n)) → ((n : List ℕ) → have n ≡ with_name had x n)
     → (n : List ℕ) → have n ≡ (is_one_of (take (i + 1) list) n || first n)
 added_more list i x first had have lt is before now n =
-    now n ∙ ap (λ (b : Bool). bytes_eq x n || b) (before n) ∙ or_swap (bytes_eq x n) (is_one_of (take i list) n) (first n)
+    now n ∙ ap (λ (b : Bool). bytes_eq x n || b) (before n) ∙ or_turned (bytes_eq x n) (is_one_of (take i list) n) (first n)
     ∙ ap (λ (b : Bool). b || first n) (sym (is_one_more (take i list) x n))
     ∙ ap (λ (l : List (List ℕ)). is_one_of l n || first n) (sym (take_more list i x lt ∙ ap (λ (y : List ℕ). take i list ++ y ∷ []) (sym is)))
 
@@ -105,25 +95,16 @@ pub new_more : (list : List (List ℕ)) (i : ℕ) (x : List ℕ) (had have : Lis
     → ((so_far && not (had x)) && are_new_to have (drop (i + 1) list)) ≡ whole
 new_more list i x had have so_far whole lt is before now =
     ap (λ (b : Bool). (so_far && not (had x)) && b) (same_new have (with_name had x) (drop (i + 1) list) now)
-    ∙ and_grouped so_far (not (had x)) (are_new_to (with_name had x) (drop (i + 1) list))
-    ∙ ap (λ (l : List (List ℕ)). so_far && are_new_to had l) (sym (drop_is list i x lt is)) ∙ before where
-      and_grouped : (a b c : Bool) → ((a && b) && c) ≡ (a && (b && c))
-      and_grouped true b c = refl
-      and_grouped false b c = refl
+    ∙ and_assoc so_far (not (had x)) (are_new_to (with_name had x) (drop (i + 1) list))
+    ∙ ap (λ (l : List (List ℕ)). so_far && are_new_to had l) (sym (drop_is list i x lt is)) ∙ before
 
 -- ---- a subsection's name
 
 equal_push : (xs ys : List ℕ) (x y : ℕ) → length xs ≡ length ys → bytes_eq (xs ++ x ∷ []) (ys ++ y ∷ []) ≡ (bytes_eq xs ys && nat_eq x y)
-equal_push [] [] x y e = and_true (nat_eq x y) where
-  and_true : (b : Bool) → (b && true) ≡ b
-  and_true true = refl
-  and_true false = refl
+equal_push [] [] x y e = and-true (nat_eq x y)
 equal_push [] (b ∷ ys) x y e = absurd (omega arith)
 equal_push (a ∷ xs) [] x y e = absurd (omega arith)
-equal_push (a ∷ xs) (b ∷ ys) x y e = ap (λ (r : Bool). nat_eq a b && r) (equal_push xs ys x y (omega arith)) ∙ grouped (nat_eq a b) (bytes_eq xs ys) (nat_eq x y) where
-  grouped : (a b c : Bool) → (a && (b && c)) ≡ ((a && b) && c)
-  grouped true b c = refl
-  grouped false b c = refl
+equal_push (a ∷ xs) (b ∷ ys) x y e = ap (λ (r : Bool). nat_eq a b && r) (equal_push xs ys x y (omega arith)) ∙ sym (and_assoc (nat_eq a b) (bytes_eq xs ys) (nat_eq x y))
 
 pub sub_name_parts : (device name : List ℕ) → length device < length name
     → is_sub_name device name ≡ ((bytes_eq (take (length device) name) device && nat_eq (get_or name (length device) 0) 47) && is_name 64 (drop (length device + 1) name))

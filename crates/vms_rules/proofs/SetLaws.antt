@@ -1,6 +1,6 @@
 -- The machines of a set, and the whole walk.
-use Rattle.std.proofs.Common.{◌≡◌, ℕ, ◌≤◌, List, [], ◌∷◌, length, Bool, true, false, Option, None, refl, ap, ◌∙◌}
-use Rattle.std.specs.Prelude.{◌||◌, ◌&&◌, not, nat_le}
+use Rattle.std.proofs.Common.{sym, ◌≡◌, ℕ, ◌≤◌, List, ◌∷◌, length, Bool, true, false, Option, None, refl, ap, ◌∙◌, []}
+use Rattle.std.specs.Prelude.{◌&&◌, not, nat_le, ◌||◌}
 use Rattle.std.specs.BTreeMap.{is_at}
 use Rattle.std.specs.BTreeSet.{BTreeSet}
 use Rattle.std.specs.Cmp.Lexicographic.{nat_list_eq_equiv}
@@ -8,6 +8,7 @@ use Rattle.std.specs.List.{list_any}
 use denote.Ref.{Bor}
 use Rattle.std.specs.Str.{bytes_eq}
 use Rattle.std.proofs.lemmas.Bool.{and_parts, leb-true}
+use Rattle.std.proofs.Math.Bool.{and_assoc}
 use Rattle.vms_spec.specs.declared.Part.TheVariants as parts
 use Rattle.vms_spec.specs.declared.Place.{Place}
 use Rattle.vms_spec.specs.Lists.{or_else}
@@ -15,6 +16,7 @@ use Rattle.vms_spec.specs.Sets as sets
 use Rattle.vms_spec.specs.Streams.{is_one_of}
 use Rattle.vms_spec.specs.WellFormed.{SetFault, failing, here, are_distinct, set_rules, size_rules, first_fault}
 use Rattle.vms_spec.proofs.Faultless.{all_true}
+use Rattle.vms_spec.proofs.ListLaws.{and_swap}
 use Rattle.vms_rules.specs.declared.fault.DescFault.{DescFault}
 use Rattle.vms_rules.specs.Judged.{IsFirst}
 use Rattle.vms_rules.specs.Walks.{structs_from, devices_from}
@@ -47,10 +49,7 @@ new_and_distinct had (n ∷ names) =
     ap (λ (b : Bool). not (had n) && b) (new_and_distinct (with_name had n) names ∙ ap (λ (b : Bool). b && are_distinct names) (none_with had n names))
     ∙ regroup (not (had n)) (not (is_one_of names n)) (none had names) (are_distinct names) where
       regroup : (a b c d : Bool) → (a && ((b && c) && d)) ≡ ((a && c) && (b && d))
-      regroup false b c d = refl
-      regroup true true c d = refl
-      regroup true false true d = refl
-      regroup true false false d = refl
+      regroup a b c d = ap (λ (t : Bool). a && t) (and_assoc b c d) ∙ sym (and_assoc a b (c && d)) ∙ and_swap a b c d
 
 none_of_none : (had : List ℕ → Bool) (names : List (List ℕ)) → ((n : List ℕ) → had n ≡ false) → none had names ≡ true
 unfolding none

@@ -1,43 +1,24 @@
 -- How many items a set has, where sums end at 2 ^ 32 - 1.
-use Rattle.std.proofs.Common.{◌≡◌, ℕ, zero, suc, ◌+◌, ◌*◌, ◌^◌, ◌<◌, ◌≤◌, List, [], ◌∷◌, ◌++◌, length, get_or, drop, map, refl, sym, ap, ◌∙◌, arith}
+use Rattle.std.proofs.Common.{◌≡◌, ℕ, ◌+◌, ◌^◌, ◌<◌, ◌≤◌, List, ◌∷◌, length, get_or, drop, map, refl, sym, ap, ◌∙◌, arith, []}
 use Rattle.std.specs.Prelude.{nat_le}
 use Rattle.std.proofs.lemmas.Bool.Decides.{nat_tests}
 use Rattle.std.proofs.lemmas.List.{drop_all}
-use Rattle.vms_kinds.specs.declared.Item.{Item}
-use Rattle.vms_kinds.specs.declared.Item.TheVariants.{Num, Equal, Unused, Struct}
 use Rattle.vms_spec.specs.declared.TheConstants.{MOST_ITEMS}
-use Rattle.vms_spec.specs.Layout.{capacity_of, first, no_desc}
 use Rattle.vms_spec.specs.Sets as sets
-use Rattle.vms_spec.specs.WellFormed.{item_count, items_in, struct_items, subs_items, devices_items}
+use Rattle.vms_spec.specs.WellFormed.{items_in, struct_items, subs_items, devices_items}
 use Rattle.vms_parts.specs.declared.sizes.Measure.TheVariants.{Items}
 use Rattle.vms_parts.specs.declared.types.Device.{Device}
-use Rattle.vms_parts.specs.Sizes.{in_u32, size_of, fields_size, subs_size, sizes_to}
+use Rattle.vms_parts.specs.Sizes.{in_u32, fields_size, subs_size, sizes_to}
 use Rattle.vms_parts.specs.Views.{field_of, sub_of, device_of}
 use Rattle.vms_parts.proofs.Items.{drop_is}
 use Rattle.vms_parts.proofs.SizeLaws.{capped_fields, capped_subs}
+use Rattle.vms_parts.proofs.ItemLaws.{items_are, items_to}
 
 -- ---- items by sizes
-
-item_is : (sizes : List ℕ) (item : Item) → item_count sizes item ≡ size_of Items sizes item
-item_is sizes (Num kind) = refl
-item_is sizes (Equal kind z) = refl
-item_is sizes (Unused n) = refl
-item_is sizes (Struct j) = refl
-
-pub items_are : (sizes : List ℕ) (fs : List sets.Field) → items_in sizes fs ≡ fields_size Items sizes fs
-items_are sizes [] = refl
-items_are sizes (f ∷ fs) = ap (λ (n : ℕ). capacity_of f.count * n + items_in sizes fs) (item_is sizes f.item) ∙ ap (λ (n : ℕ). capacity_of f.count * size_of Items sizes f.item + n) (items_are sizes fs)
 
 pub subs_are : (sizes : List ℕ) (subs : List sets.Sub) → subs_items sizes subs ≡ subs_size Items sizes subs
 subs_are sizes [] = refl
 subs_are sizes (s ∷ subs) = ap (λ (n : ℕ). n + subs_items sizes subs) (items_are sizes s.desc.fields) ∙ ap (λ (n : ℕ). fields_size Items sizes s.desc.fields + n) (subs_are sizes subs)
-
-items_to : (ds : List sets.Desc) (k : ℕ) → first (λ sizes d. items_in sizes d.fields) ds k ≡ sizes_to Items ds k
-unfolding first
-items_to ds zero = refl
-items_to ds (suc k) =
-    ap (λ (l : List ℕ). l ++ items_in l (get_or ds k no_desc).fields ∷ []) (items_to ds k)
-    ∙ ap (λ (n : ℕ). sizes_to Items ds k ++ n ∷ []) (items_are (sizes_to Items ds k) (get_or ds k no_desc).fields)
 
 -- ---- sizes that end serve as well
 

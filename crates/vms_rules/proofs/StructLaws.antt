@@ -1,8 +1,8 @@
 -- Structures: how deep they are, and their names.
-use Rattle.std.proofs.Common.{◌≡◌, ℕ, zero, suc, ◌+◌, ◌<◌, ◌≤◌, max, List, [], ◌∷◌, ◌++◌, length, get_or, drop, take, map, Bool, true, false, refl, sym, ap, subst, ◌∙◌, arith, add-one}
-use Rattle.std.specs.Prelude.{◌||◌}
+use Rattle.std.proofs.Common.{◌≡◌, ℕ, zero, suc, ◌+◌, ◌<◌, ◌≤◌, max, List, [], ◌∷◌, ◌++◌, length, get_or, drop, take, map, Bool, ◌||◌, sym, ap, subst, ◌∙◌, arith, add-one}
 use Rattle.std.specs.Str.{bytes_eq}
 use Rattle.std.proofs.lemmas.List.{drop_all, take_more, map-append, length-map}
+use Rattle.std.proofs.Math.Bool.{or_comm}
 use Rattle.vms_kinds.specs.declared.Item.{Item}
 use Rattle.vms_kinds.specs.declared.Item.TheVariants.{Num, Equal, Unused, Struct}
 use Rattle.vms_spec.specs.Layout.{first, no_desc}
@@ -72,12 +72,6 @@ pub depths_small : (depths : List ℕ) (i depth j : ℕ) → ((k : ℕ) → get_
 depths_small depths i depth j small le = push_small depths depth (i + 1) j (λ k. omega (arith, small k)) le
 
 -- ---- names
-
-or_comm : (a b : Bool) → (a || b) ≡ (b || a)
-or_comm true true = refl
-or_comm true false = refl
-or_comm false true = refl
-or_comm false false = refl
 
 pub struct_names_more : (structs : List Desc) (i : ℕ) (d : Desc) (had have : List ℕ → Bool) → i < length structs → d ≡ get_or structs i d
     → ((n : List ℕ) → had n ≡ is_one_of (map (λ e. e.name) (take i (map desc_of structs))) n) → ((n : List ℕ) → have n ≡ with_name had d.name n)

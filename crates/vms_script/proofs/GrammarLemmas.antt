@@ -1,9 +1,9 @@
 -- Lines as they are spelled, and lines that are read.
-use Rattle.std.proofs.Common.{◌≡◌, ℕ, ◌+◌, ◌^◌, ◌<◌, Bool, true, false, not, ◌&&◌, ◌==◌, nat_le, nat_lt, List, [], ◌∷◌, ◌++◌, length, get_or, Option, Some, None, Ok, Err, ℤ, pos, if◌then◌else◌, refl, sym, ap, ◌∙◌, arith}
+use Rattle.std.proofs.Common.{◌≡◌, ℕ, ◌+◌, ◌^◌, ◌<◌, Bool, true, false, not, ◌&&◌, ◌==◌, nat_le, nat_lt, List, ◌∷◌, ◌++◌, length, get_or, Option, Some, None, Ok, Err, ℤ, pos, if◌then◌else◌, refl, sym, ap, ◌∙◌, arith, []}
 use Rattle.std.specs.Prelude.{codes}
 use Rattle.std.specs.Fmt.{decimal}
 use Rattle.std.specs.List.{list_all}
-use Rattle.std.proofs.lemmas.Bool.{and_parts, ltb-true, ltb-false}
+use Rattle.std.proofs.lemmas.Bool.{and_parts, ltb-true, ltb-false, not-true}
 use Rattle.std.proofs.lemmas.Bool.Decides.{nat_tests}
 use Rattle.std.proofs.lemmas.Fmt.{digits_decimal}
 use Rattle.dev_board.specs.declared.event.Event.{Event}
@@ -21,22 +21,18 @@ use Rattle.vms_script.proofs.NumberLemmas.{EndsEarly, waits_end, wires_end, sets
 
 -- ---- words and lines of a text that is spelled
 
-not_same : (t : Bool) → not t ≡ true → t ≡ false
-not_same true e = cc
-not_same false e = refl
-
 word_front : (word rest : List ℕ) → lacks 32 word ≡ true → first_word (word ++ 32 ∷ rest) ≡ (word, Some rest)
 word_front [] rest h = refl
 word_front (b ∷ word) rest h =
     let parts = and_parts (not (b == 32)) (lacks 32 word) h in
-    ap (λ (t : Bool). if t then ([], Some (word ++ 32 ∷ rest)) else longer_word b (first_word (word ++ 32 ∷ rest))) (not_same (b == 32) parts.0)
+    ap (λ (t : Bool). if t then ([], Some (word ++ 32 ∷ rest)) else longer_word b (first_word (word ++ 32 ∷ rest))) (not-true (b == 32) parts.0)
     ∙ ap (longer_word b) (word_front word rest parts.1)
 
 lines_front : (line text : List ℕ) → lacks 10 line ≡ true → lines_of (line ++ 10 ∷ text) ≡ record { lines = line ∷ (lines_of text).lines; tail = (lines_of text).tail }
 lines_front [] text h = refl
 lines_front (b ∷ line) text h =
     let parts = and_parts (not (b == 10)) (lacks 10 line) h in
-    ap (λ (t : Bool). if t then record { lines = [] ∷ (lines_of (line ++ 10 ∷ text)).lines; tail = (lines_of (line ++ 10 ∷ text)).tail } else begun b (lines_of (line ++ 10 ∷ text)).lines (lines_of (line ++ 10 ∷ text)).tail) (not_same (b == 10) parts.0)
+    ap (λ (t : Bool). if t then record { lines = [] ∷ (lines_of (line ++ 10 ∷ text)).lines; tail = (lines_of (line ++ 10 ∷ text)).tail } else begun b (lines_of (line ++ 10 ∷ text)).lines (lines_of (line ++ 10 ∷ text)).tail) (not-true (b == 10) parts.0)
     ∙ ap (λ (s : Split). begun b s.lines s.tail) (lines_front line text parts.1)
 
 decimal_lacks : (byte n : ℕ) → byte < 48 → n < 2 ^ 64 → lacks byte (decimal n) ≡ true

@@ -1,9 +1,11 @@
 -- What is read is spelled so.
-use Rattle.std.proofs.Common.{◌≡◌, ℕ, ◌+◌, ◌^◌, Bool, true, false, ◌==◌, nat_lt, List, [], ◌∷◌, ◌++◌, Option, Some, None, Ok, Err, ℤ, pos, negsuc, if◌then◌else◌, refl, sym, ap, ◌∙◌, subst}
+use Rattle.std.proofs.Common.{◌≡◌, ℕ, ◌+◌, ◌^◌, Bool, true, false, ◌==◌, nat_lt, List, ◌∷◌, ◌++◌, Option, Some, None, Ok, Err, ℤ, pos, negsuc, if◌then◌else◌, refl, sym, ap, ◌∙◌, subst, []}
 use Rattle.std.specs.Prelude.{codes}
 use Rattle.std.specs.Fmt.{decimal}
 use Rattle.std.specs.Str.{bytes_eq}
 use Rattle.std.proofs.lemmas.Bool.{eqb-true, and_parts, ltb-true, ltb-false}
+use Rattle.std.proofs.lemmas.Option.{same_Some}
+use Rattle.std.proofs.lemmas.Slice.Eq.{bytes_eq-Decides}
 use Rattle.dev_board.specs.declared.event.Event.TheVariants as events
 use Rattle.vms_spec.specs.Spelling.{number_spelled, begins_with}
 use Rattle.vms_words.proofs.Spells.{spelled_holds}
@@ -39,17 +41,6 @@ ok_line line = Ok line
 ok_same : (a b : ScriptLine) → ok_line a ≡ ok_line b → a ≡ b
 ok_same a b e = cc
 
-some_same : {A : Type 0} (a b : A) → Some a ≡ Some b → a ≡ b
-some_same a b e = cc
-
-bytes_same : (xs ys : List ℕ) → bytes_eq xs ys ≡ true → xs ≡ ys
-bytes_same [] [] e = refl
-bytes_same [] (y ∷ ys) e = cc
-bytes_same (x ∷ xs) [] e = cc
-bytes_same (x ∷ xs) (y ∷ ys) e =
-    let parts = and_parts (x == y) (bytes_eq xs ys) e in
-    ap (λ (b : ℕ). b ∷ xs) (eqb-true x y parts.0) ∙ ap (λ (bs : List ℕ). y ∷ bs) (bytes_same xs ys parts.1)
-
 -- ---- numbers
 
 number_is : (holds : ℕ → Bool) (make : ℕ → ScriptLine) (text : List ℕ) (line : ScriptLine) (C : Type 0) → EndsEarly holds → number_in holds make text ≡ Ok line
@@ -71,10 +62,10 @@ level_is (b ∷ c ∷ text) up e = cc
 level_is (b ∷ []) up e = by (b == 48) (b == 49) refl refl where
   by : (s t : Bool) → (b == 48) ≡ s → (b == 49) ≡ t → b ∷ [] ≡ level_text up
   by true t p q =
-      let is : false ≡ up = some_same false up (sym (ap (λ (x : Bool). if x then Some false else (if b == 49 then Some true else None)) p) ∙ e) in
+      let is : false ≡ up = same_Some false up (sym (ap (λ (x : Bool). if x then Some false else (if b == 49 then Some true else None)) p) ∙ e) in
       ap (λ (c : ℕ). c ∷ []) (eqb-true b 48 p) ∙ ap level_text is
   by false true p q =
-      let is : true ≡ up = some_same true up (sym (ap (λ (x : Bool). if x then Some false else (if b == 49 then Some true else None)) p ∙ ap (λ (x : Bool). if x then Some true else None) q) ∙ e) in
+      let is : true ≡ up = same_Some true up (sym (ap (λ (x : Bool). if x then Some false else (if b == 49 then Some true else None)) p ∙ ap (λ (x : Bool). if x then Some true else None) q) ∙ e) in
       ap (λ (c : ℕ). c ∷ []) (eqb-true b 49 q) ∙ ap level_text is
   by false false p q =
       let none : None ≡ Some up = sym (ap (λ (x : Bool). if x then Some false else (if b == 49 then Some true else None)) p ∙ ap (λ (x : Bool). if x then Some true else None) q) ∙ e in cc
@@ -152,7 +143,7 @@ named : (text name : List ℕ) → name_spelled text ≡ Some name → (is_shelf
 named text name e = by (is_shelf_name text) refl where
   by : (t : Bool) → is_shelf_name text ≡ t → (is_shelf_name name ≡ true) × (text ≡ name)
   by true p =
-      let is : text ≡ name = some_same text name (sym (ap (λ (t : Bool). if t then Some text else None) p) ∙ e) in
+      let is : text ≡ name = same_Some text name (sym (ap (λ (t : Bool). if t then Some text else None) p) ∙ e) in
       (sym (ap is_shelf_name is) ∙ p, is)
   by false p = let none : None ≡ Some name = sym (ap (λ (t : Bool). if t then Some text else None) p) ∙ e in cc
 
@@ -161,7 +152,7 @@ set_is [] number e = cc
 set_is (b ∷ word) number e = by (begins_with (codes "@") (b ∷ word)) refl where
   by : (t : Bool) → begins_with (codes "@") (b ∷ word) ≡ t → b ∷ word ≡ 64 ∷ number
   by true p =
-      let is : word ≡ number = some_same word number (sym (ap (λ (t : Bool). if t then Some word else None) p) ∙ e) in
+      let is : word ≡ number = same_Some word number (sym (ap (λ (t : Bool). if t then Some word else None) p) ∙ e) in
       ap (λ (c : ℕ). c ∷ word) (eqb-true b 64 (and_parts (b == 64) true p).0) ∙ ap (λ (w : List ℕ). 64 ∷ w) is
   by false p = let none : None ≡ Some number = sym (ap (λ (t : Bool). if t then Some word else None) p) ∙ e in cc
 
@@ -189,7 +180,7 @@ restore_is level rest line e =
 
 -- a word that is known, before the rest
 with_word : (play : Option ℕ) (word known rest : List ℕ) (line : ScriptLine) → bytes_eq word known ≡ true → Says play (known ++ 32 ∷ rest) line → Says play (word ++ 32 ∷ rest) line
-with_word play word known rest line e h = (h.0, ap (λ (w : List ℕ). w ++ 32 ∷ rest) (bytes_same word known e) ∙ h.1)
+with_word play word known rest line e h = (h.0, ap (λ (w : List ℕ). w ++ 32 ∷ rest) ((bytes_eq-Decides word known).0 e) ∙ h.1)
 
 -- the rest of a line by its own first word
 with_rest : (play : Option ℕ) (front rest : List ℕ) (line : ScriptLine) → Says play (front ++ rejoined (first_word rest)) line → Says play (front ++ rest) line
@@ -236,7 +227,7 @@ words_are play word rest line e =
 split_is : (play : Option ℕ) (split : List ℕ × Option (List ℕ)) (line : ScriptLine) → line_split play split ≡ Ok line → Says play (rejoined split) line
 split_is play (word, None) line e =
     choose (bytes_eq word (codes "ack")) (Ok (Happens events.Ack)) (Err reasons.Form) line (Says play word line) e
-    (λ p is. says_by play word (Happens events.Ack) line (ok_same (Happens events.Ack) line is) (tt, bytes_same word (codes "ack") p))
+    (λ p is. says_by play word (Happens events.Ack) line (ok_same (Happens events.Ack) line is) (tt, (bytes_eq-Decides word (codes "ack")).0 p))
     (λ f. no_form line (Says play word line) f)
 split_is play (word, Some rest) line e = words_are play word rest line e
 

@@ -1,9 +1,10 @@
 -- Numbers as they are spelled, and their ranges.
-use Rattle.std.proofs.Common.{◌≡◌, ℕ, ◌+◌, ◌-◌, ◌*◌, ◌^◌, ◌<◌, ◌≤◌, Bool, true, false, ◌&&◌, nat_le, nat_lt, List, [], ◌∷◌, length, get_or, drop, Option, Some, None, Ok, Err, ℤ, pos, negsuc, if◌then◌else◌, refl, sym, ap, ◌∙◌, arith}
-use Rattle.std.proofs.lemmas.Bool.{ltb-false}
+use Rattle.std.proofs.Common.{◌≡◌, ℕ, ◌+◌, ◌-◌, ◌*◌, ◌^◌, ◌<◌, ◌≤◌, Bool, true, false, nat_le, nat_lt, List, length, get_or, drop, Option, Some, None, Ok, Err, ℤ, pos, negsuc, if◌then◌else◌, refl, sym, ap, ◌∙◌, arith}
+use Rattle.std.proofs.lemmas.Bool.{ltb-false, and_right, lt-ltb, le-ltb}
 use Rattle.std.proofs.lemmas.Bool.Decides.{nat_tests}
 use Rattle.std.proofs.lemmas.List.{drop_more, drop_all}
 use Rattle.vms_spec.specs.Spelling.{natural_from, number_spelled}
+use Rattle.vms_spec.proofs.ListLaws.{natural_up}
 use Rattle.dev_board.specs.declared.event.Event.TheVariants as events
 use Rattle.dev_board.specs.Wires.{is_wire}
 use Rattle.vms_script.specs.Lines.{ScriptLine, Happens, or_form, or_range, number_in, is_wait, is_set_of, wire_line}
@@ -14,16 +15,6 @@ use Rattle.vms_script.specs.declared.line.ScriptReason.TheVariants as reasons
 
 -- ---- digits, one by one
 
-natural_up : (n : ℕ) (bs : List ℕ) → n ≤ natural_from n bs
-natural_up n [] = omega arith
-natural_up n (b ∷ bs) = omega (arith, natural_up (n * 10 + (b - 48)) bs)
-
-not_lt : (a b : ℕ) → b ≤ a → nat_lt a b ≡ false
-not_lt a b h = grind (arith, nat_tests)
-
-is_lt : (a b : ℕ) → a < b → nat_lt a b ≡ true
-is_lt a b h = grind (arith, nat_tests)
-
 pub below_none : (n : ℕ) → below_2_64 n ≡ None → 2 ^ 64 ≤ n
 below_none n e = by (nat_lt n (2 ^ 64)) refl
   where
@@ -33,10 +24,10 @@ below_none n e = by (nat_lt n (2 ^ 64)) refl
     by false q = ltb-false n (2 ^ 64) q
 
 pub none_below : (n : ℕ) → 2 ^ 64 ≤ n → None ≡ below_2_64 n
-none_below n le = sym (ap (λ (t : Bool). if t then Some n else None) (not_lt n (2 ^ 64) le))
+none_below n le = sym (ap (λ (t : Bool). if t then Some n else None) (le-ltb n (2 ^ 64) le))
 
 pub some_below : (n : ℕ) → n < 2 ^ 64 → Some n ≡ below_2_64 n
-some_below n lt = sym (ap (λ (t : Bool). if t then Some n else None) (is_lt n (2 ^ 64) lt))
+some_below n lt = sym (ap (λ (t : Bool). if t then Some n else None) (lt-ltb n (2 ^ 64) lt))
 
 pub natural_stops : (value i d : ℕ) (digits : List ℕ) → i < length digits → below_2_64 (value * 10 + (get_or digits i d - 48)) ≡ None → natural_from value (drop i digits) ≡ natural_from 0 digits → None ≡ below_2_64 (natural_from 0 digits)
 natural_stops value i d digits lt e inv =
@@ -100,31 +91,28 @@ pub wires_end : EndsEarly is_wire
 wires_end n le = grind (arith, nat_tests)
 
 pub sets_end : (level : ℕ) → EndsEarly (is_set_of level)
-sets_end level n le = over (nat_le level n) (nat_le n 4) (grind (arith, nat_tests))
-  where
-    over : (a b : Bool) → b ≡ false → (a && b) ≡ false
-    over true b e = e
-    over false b e = refl
+sets_end level n le = and_right (nat_le level n) (nat_le n 4) (grind (arith, nat_tests))
 
 -- ---- wires and sets, by the words of the line
 
-pub wire_good : (words : List ℕ × Option (List ℕ)) (number level : List ℕ) (up : Bool) (v : ℕ) → number ≡ words.0 → Some level ≡ words.1 → Some up ≡ level_spelled level
-    → Ok v ≡ number_read (number_spelled number) → true ≡ is_wire v → Ok (Happens (events.Wire v up)) ≡ wire_line words
-wire_good (a, b) number level up v w r l n h =
-    in_good is_wire (λ (i : ℕ). Happens (events.Wire i up)) a v (n ∙ ap (λ (t : List ℕ). number_read (number_spelled t)) w) h
-    ∙ ap (λ (o : Option Bool). or_form o (λ up. number_in is_wire (λ input. Happens (events.Wire input up)) a)) l
+-- a line of a wire has the number and the level that its words spell
+wire_spelled : (words : List ℕ × Option (List ℕ)) (number level : List ℕ) (up : Bool) → number ≡ words.0 → Some level ≡ words.1 → Some up ≡ level_spelled level
+    → number_in is_wire (λ input. Happens (events.Wire input up)) words.0 ≡ wire_line words
+wire_spelled (a, b) number level up w r l =
+    ap (λ (o : Option Bool). or_form o (λ up. number_in is_wire (λ input. Happens (events.Wire input up)) a)) l
     ∙ ap (λ (o : Option (List ℕ)). or_form o (λ level. or_form (level_spelled level) (λ up. number_in is_wire (λ input. Happens (events.Wire input up)) a))) r
 
-pub wire_range : (words : List ℕ × Option (List ℕ)) (number level : List ℕ) (up : Bool) (v : ℕ) → number ≡ words.0 → Some level ≡ words.1 → Some up ≡ level_spelled level
-    → Ok v ≡ number_read (number_spelled number) → false ≡ is_wire v → Err reasons.Range ≡ wire_line words
-wire_range (a, b) number level up v w r l n h =
-    in_range is_wire (λ (i : ℕ). Happens (events.Wire i up)) a v (n ∙ ap (λ (t : List ℕ). number_read (number_spelled t)) w) h
-    ∙ ap (λ (o : Option Bool). or_form o (λ up. number_in is_wire (λ input. Happens (events.Wire input up)) a)) l
-    ∙ ap (λ (o : Option (List ℕ)). or_form o (λ level. or_form (level_spelled level) (λ up. number_in is_wire (λ input. Happens (events.Wire input up)) a))) r
+module _ (words : List ℕ × Option (List ℕ)) (number level : List ℕ) (up : Bool) (v : ℕ) (w : number ≡ words.0) (r : Some level ≡ words.1) (l : Some up ≡ level_spelled level)
+    (n : Ok v ≡ number_read (number_spelled number)) where
+  pub wire_good : true ≡ is_wire v → Ok (Happens (events.Wire v up)) ≡ wire_line words
+  wire_good h =
+      in_good is_wire (λ (i : ℕ). Happens (events.Wire i up)) words.0 v (n ∙ ap (λ (t : List ℕ). number_read (number_spelled t)) w) h ∙ wire_spelled words number level up w r l
+
+  pub wire_range : false ≡ is_wire v → Err reasons.Range ≡ wire_line words
+  wire_range h =
+      in_range is_wire (λ (i : ℕ). Happens (events.Wire i up)) words.0 v (n ∙ ap (λ (t : List ℕ). number_read (number_spelled t)) w) h ∙ wire_spelled words number level up w r l
 
 pub wire_fails : (words : List ℕ × Option (List ℕ)) (number level : List ℕ) (up : Bool) (reason : ScriptReason) → number ≡ words.0 → Some level ≡ words.1 → Some up ≡ level_spelled level
     → Err reason ≡ number_read (number_spelled number) → Err reason ≡ wire_line words
-wire_fails (a, b) number level up reason w r l n =
-    in_fails is_wire (λ (i : ℕ). Happens (events.Wire i up)) a reason wires_end (n ∙ ap (λ (t : List ℕ). number_read (number_spelled t)) w)
-    ∙ ap (λ (o : Option Bool). or_form o (λ up. number_in is_wire (λ input. Happens (events.Wire input up)) a)) l
-    ∙ ap (λ (o : Option (List ℕ)). or_form o (λ level. or_form (level_spelled level) (λ up. number_in is_wire (λ input. Happens (events.Wire input up)) a))) r
+wire_fails words number level up reason w r l n =
+    in_fails is_wire (λ (i : ℕ). Happens (events.Wire i up)) words.0 reason wires_end (n ∙ ap (λ (t : List ℕ). number_read (number_spelled t)) w) ∙ wire_spelled words number level up w r l

@@ -1,6 +1,6 @@
 -- A text is refused at its first bad line.
-use Rattle.std.proofs.Common.{◌≡◌, ℕ, ◌+◌, Bool, true, false, not, ◌==◌, List, [], ◌∷◌, ◌++◌, Option, Some, None, Ok, Err, if◌then◌else◌, refl, sym, ap, ◌∙◌, subst, arith, append_assoc}
-use Rattle.std.proofs.lemmas.Bool.{and_parts}
+use Rattle.std.proofs.Common.{◌≡◌, ℕ, ◌+◌, Bool, true, false, not, ◌==◌, List, ◌∷◌, ◌++◌, Option, Some, None, Ok, Err, if◌then◌else◌, refl, sym, ap, ◌∙◌, subst, arith, append_assoc, []}
+use Rattle.std.proofs.lemmas.Bool.{and_parts, not-true}
 use Rattle.vms_spec.specs.Spelling.{first_line, longer_line}
 use Rattle.vms_script.specs.Grammar.{line_text, script_text}
 use Rattle.vms_script.specs.Lines.{Read, line_read}
@@ -9,10 +9,6 @@ use Rattle.vms_script.specs.Script.{Split, Reading, BadLine, lines_of, begun, wi
 use Rattle.vms_script.specs.declared.line.ScriptReason.{ScriptReason}
 use Rattle.vms_script.proofs.DigitLemmas.{lacks}
 use Rattle.vms_script.proofs.GrammarOnly.{unsplit, text_split, line_is}
-
-not_same : (t : Bool) → not t ≡ true → t ≡ false
-not_same true e = cc
-not_same false e = refl
 
 -- ---- the lines of a text have no line feed
 
@@ -40,14 +36,14 @@ line_first : (line after : List ℕ) → lacks 10 line ≡ true → first_line (
 line_first [] after h = refl
 line_first (b ∷ line) after h =
     let parts = and_parts (not (b == 10)) (lacks 10 line) h in
-    ap (λ (t : Bool). if t then Some ([], line ++ 10 ∷ after) else longer_line b (first_line (line ++ 10 ∷ after))) (not_same (b == 10) parts.0)
+    ap (λ (t : Bool). if t then Some ([], line ++ 10 ∷ after) else longer_line b (first_line (line ++ 10 ∷ after))) (not-true (b == 10) parts.0)
     ∙ ap (longer_line b) (line_first line after parts.1)
 
 no_first : (text : List ℕ) → lacks 10 text ≡ true → first_line text ≡ None
 no_first [] h = refl
 no_first (b ∷ text) h =
     let parts = and_parts (not (b == 10)) (lacks 10 text) h in
-    ap (λ (t : Bool). if t then Some ([], text) else longer_line b (first_line text)) (not_same (b == 10) parts.0)
+    ap (λ (t : Bool). if t then Some ([], text) else longer_line b (first_line text)) (not-true (b == 10) parts.0)
     ∙ ap (longer_line b) (no_first text parts.1)
 
 -- ---- refusals

@@ -2,6 +2,8 @@
 ghost use Rattle.std.specs.Prelude.{◌≡◌, ◌+◌, ◌*◌, ◌++◌, ◌≤◌, length, OnOk, OnErr};
 ghost use Rattle.std.specs.Io.KnownBytes.{Appends};
 ghost use Rattle.vms_io.specs.Causes.{AppendsPrefix, HasCause};
+ghost use Rattle.vms_io.specs.Told.{outlet};
+ghost use Rattle.vms_io.specs.Writing.{Wrote};
 ghost use Rattle.vms_script.specs.Trace.{trace_line, value_text, sent_text, bytes_text};
 
 use crate::hex::digits_of;
@@ -14,6 +16,7 @@ use vms_words::append;
 /// interrupt output, where bytes were sent a blank and their digits, and a line feed. After an error a prefix
 /// of it was appended.
 pub fn print_answer<K: Sink>(answer: &Answer, sink: &mut K) -> Result<(), WriteFault>
+    ensures wrote { Wrote (outlet K.Sink sink.old) (outlet K.Sink sink.new) (trace_line answer.now) result }
     ensures ok { let line = trace_line answer.now in
         OnOk result (Appends (K.written sink.old) (K.written sink.new) line) }
     ensures err { let line = trace_line answer.now in

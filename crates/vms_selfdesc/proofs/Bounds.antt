@@ -1,5 +1,6 @@
 -- The text of every well-formed set is shorter than what a description section may have, and that of a shipped set is short.
-use Rattle.std.proofs.Common.{◌≡◌, ℕ, zero, suc, ◌+◌, ◌*◌, ◌<◌, ◌≤◌, List, [], ◌∷◌, length, get_or, ap, arith, true, is_none}
+use Rattle.std.proofs.Common.{◌≡◌, ℕ, zero, suc, ◌+◌, ◌*◌, ◌<◌, ◌≤◌, List, ◌∷◌, length, get_or, ap, arith, true, is_none, []}
+use Rattle.std.proofs.lemmas.Option.{slice_get-get_or}
 use Rattle.vms_spec.specs.declared.Part.TheVariants as parts
 use Rattle.vms_spec.specs.Heads.{FitsHeads}
 use Rattle.vms_spec.specs.Images.{Image}
@@ -18,7 +19,6 @@ use Rattle.vms_selfdesc.specs.Laws.{ShortLaw, ShippedLaw}
 use Rattle.vms_selfdesc.specs.Tree.{described_text}
 use Rattle.vms_selfdesc.proofs.Lengths.{IsShortDesc, AreShortSubs, AreShortDevices, subs_of, text_long}
 use Rattle.vms_selfdesc.proofs.Plain.{name_short, sub_name_short}
-use Rattle.vms_selfdesc.proofs.ReadyDevices.{at_get}
 use Rattle.vms_selfdesc.proofs.Sound.{own_rules, device_whole, sub_whole}
 use Rattle.vms_selfdesc.proofs.Soundness.{part_sound}
 
@@ -56,7 +56,7 @@ module _ (set : Set) (well : is_well_formed set ≡ true) (heads : FitsHeads set
   short_device i lt =
       let k = length set.structs in
       let d = device_at set i in
-      let here = at_get set.devices i no_device lt in
+      let here = slice_get-get_or set.devices i no_device lt in
       let rules = own_rules k d.desc (parts.Device i) (device_rules set i d) (device_whole set well i lt) in
       let name = name_short 100 d.desc.name rules.0 in
       record {
@@ -68,7 +68,7 @@ module _ (set : Set) (well : is_well_formed set ≡ true) (heads : FitsHeads set
             record {
               sound = part_sound set well (parts.Sub i j) (lt, l);
               name = sub_name_short d.desc.name s.desc.name name own.0;
-              version = omega (arith, heads.sub_version i j d s here (at_get d.subs j no_sub l));
+              version = omega (arith, heads.sub_version i j d s here (slice_get-get_or d.subs j no_sub l));
             });
         few = few_subs set well i lt;
       }

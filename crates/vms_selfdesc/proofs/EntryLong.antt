@@ -7,7 +7,6 @@ use Rattle.serde_json.specs.Find.{of_integer}
 use Rattle.serde_json.specs.Written.{compact_text, members_text, number_text, comma_if}
 use Rattle.vms_kinds.specs.declared.Kind.{Kind}
 use Rattle.vms_kinds.specs.declared.Kind.TheVariants as kinds
-use Rattle.vms_kinds.specs.Codes.{width}
 use Rattle.vms_words.specs.Words.{kind_word}
 use Rattle.vms_selfdesc.specs.Entries.{sent_entry, absent_entry}
 use Rattle.vms_selfdesc.specs.Tree.{natural, entry_tree}
@@ -60,18 +59,6 @@ equal_short = omega arith
 pub unused_short : length (quoted (codes "unused")) ≤ 8
 unfolding escape_byte
 unused_short = omega arith
-
-pub width_short : (kind : Kind) → width kind ≤ 4096
-width_short kinds.U8 = omega arith
-width_short kinds.U16 = omega arith
-width_short kinds.U32 = omega arith
-width_short kinds.U64 = omega arith
-width_short kinds.I8 = omega arith
-width_short kinds.I16 = omega arith
-width_short kinds.I32 = omega arith
-width_short kinds.I64 = omega arith
-width_short kinds.Bool = omega arith
-width_short kinds.Timer = omega arith
 
 pub size_short : (n : ℕ) → n ≤ 4096 → length (decimal n) ≤ 4
 size_short n le = length-decimal-le 4 n (omega arith) (omega arith) (omega arith)

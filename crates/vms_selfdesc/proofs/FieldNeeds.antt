@@ -1,5 +1,5 @@
 -- What the calls over the fields of a part need.
-use Rattle.std.proofs.Common.{◌≡◌, ℕ, ◌+◌, ◌*◌, ◌<◌, ◌≤◌, List, [], ◌∷◌, length, get_or, ℤ, refl, sym, ap, ◌∙◌, subst, arith, Bool, true, ◌++◌}
+use Rattle.std.proofs.Common.{◌≡◌, ℕ, ◌+◌, ◌*◌, ◌<◌, ◌≤◌, List, ◌∷◌, length, get_or, ℤ, refl, sym, ap, ◌∙◌, subst, arith, Bool, true, ◌++◌, []}
 use Rattle.std.proofs.lemmas.Bool.{ltb-true}
 use Rattle.vms_kinds.specs.declared.Item.{Item}
 use Rattle.vms_kinds.specs.declared.Item.TheVariants.{Struct}
@@ -20,11 +20,11 @@ use Rattle.vms_desc.proofs.Clean.{reach, field_clean, struct_clean}
 use Rattle.vms_selfdesc.specs.Entries.{Entry, listers, array_entries, element_entries, item_entries}
 use Rattle.vms_selfdesc.specs.Listing.{is_field_sent, item_list, field_list, part_list}
 use Rattle.vms_selfdesc.specs.Needs.{HasPlace, HasElements}
-use Rattle.vms_selfdesc.proofs.Listed.{fewer_room, one_small}
 use Rattle.vms_desc.proofs.Ranks.{item_rank, part_rank, reach_whole, uses_more, rank_below}
 use Rattle.vms_selfdesc.proofs.Sound.{field_sound}
 use Rattle.vms_selfdesc.proofs.Structures.{struct_cells_are, struct_entries_are}
 use Rattle.vms_spec.proofs.Prefixes.{FieldsBelow, all_below}
+use Rattle.vms_spec.proofs.Sizes.{room_for_less, one_fits}
 
 -- ---- elements of a field
 
@@ -45,8 +45,8 @@ field_needs set well part base n h k cell count f lt is fewer room =
       reaches = uses_more (reach set part) (length set.structs) g.item (reach_whole set part h.has) clean.uses;
       default = (and_parts (defaults_well g.item g.default) (counts_well (counted k (desc_at set part).fields) g.default) sound.1.1.1.1.1.0).0;
       few = h.few;
-      small = one_small (capacity_of g.count) size cell (length n) MOST_ITEMS clean.some room h.few;
-      room = fewer_room count (capacity_of g.count) size cell (length n) fewer room;
+      small = one_fits (capacity_of g.count) size cell (length n) MOST_ITEMS clean.some room h.few;
+      room = room_for_less count (capacity_of g.count) size cell (length n) fewer room;
     } in
     subst (λ x. FieldNeeds set part x cell count n) (sym is) (record { elements = elements; lower = lower })
 

@@ -1,8 +1,9 @@
 -- How long the entries of fields are, and how many: of a path that begins with so many bytes, by the depth of structures and the
 -- number of items.
-use Rattle.std.proofs.Common.{◌≡◌, ℕ, zero, suc, ◌+◌, ◌-◌, ◌*◌, ◌<◌, ◌≤◌, List, [], ◌∷◌, ◌++◌, length, length-append, get_or, ℤ, Bool, true, false, ◌&&◌, refl, ap, sym, arith, subst, nat_lt, codes}
+use Rattle.std.proofs.Common.{◌≡◌, ℕ, zero, suc, ◌+◌, ◌*◌, ◌<◌, ◌≤◌, List, ◌∷◌, ◌++◌, length, length-append, get_or, ℤ, Bool, true, false, ◌&&◌, refl, sym, arith, subst, nat_lt, codes, []}
 use Rattle.std.proofs.lemmas.Bool.{ltb-true, ltb-false}
 use Rattle.std.proofs.Math.ListN.{get_or-eq_default}
+use Rattle.std.proofs.Math.Nat.{mul-le-mul_right}
 use Rattle.serde_json.specs.Written.{compact_text, number_text}
 use Rattle.serde_json.specs.Find.{of_integer}
 use Rattle.vms_kinds.specs.declared.Item.{Item}
@@ -17,12 +18,13 @@ use Rattle.vms_spec.specs.Layout.{Cell, no_desc, no_parent, first, item_size, ca
 use Rattle.vms_spec.specs.WellFormed.{item_count, items_in, item_depth, deepest}
 use Rattle.vms_spec.proofs.Sizes.{elements_fit}
 use Rattle.vms_spec.proofs.Tables.{first_at, first_long}
+use Rattle.vms_spec.proofs.KindLaws.{width_small}
 use Rattle.vms_words.specs.Words.{kind_word}
 use Rattle.vms_selfdesc.specs.Entries.{Entry, Lister, no_lister, sent_entry, listed_if, item_entries, element_path, element_entries, array_entries, field_entries, entries_from, desc_entries}
 use Rattle.vms_selfdesc.specs.Tree.{entry_tree}
 use Rattle.vms_selfdesc.specs.Drafts.{IsPlain}
 use Rattle.vms_selfdesc.proofs.Plain.{IsShort, plain_append, element_plain, element_long, dot_plain}
-use Rattle.vms_selfdesc.proofs.EntryLong.{sent_long, absent_long, word_short, width_short, equal_short, unused_short}
+use Rattle.vms_selfdesc.proofs.EntryLong.{sent_long, absent_long, word_short, equal_short, unused_short}
 
 -- the texts of these entries are no longer than this
 abbrev pub AreLong : ℕ → List Entry → Type 0
@@ -87,9 +89,9 @@ module _ (ls : List Lister) (sizes depths : List ℕ) (fit : FitTables ls sizes 
 
   item_long : (item : Item) (z : ℤ) (sent : Bool) (path : List ℕ) (n : List ℤ) (at : ℕ) → IsPlain path → IsSmall item z → item_count sizes item ≤ MOST_ITEMS
       → AreLong (length path + 40 * item_depth depths item + 68) (item_entries ls item z sent path n at)
-  item_long (Num kind) z true path n at p small few = (omega (arith, sent_long path (width kind) (kind_word kind) p (width_short kind) (word_short kind)), tt)
+  item_long (Num kind) z true path n at p small few = (omega (arith, sent_long path (width kind) (kind_word kind) p (width_small kind) (word_short kind)), tt)
   item_long (Num kind) z false path n at p small few = (omega (arith, absent_long path (kind_word kind) z p (word_short kind) small), tt)
-  item_long (Equal kind y) z sent path n at p small few = listed_if_long _ sent _ (omega (arith, sent_long path (width kind) (codes "equal") p (width_short kind) equal_short))
+  item_long (Equal kind y) z sent path n at p small few = listed_if_long _ sent _ (omega (arith, sent_long path (width kind) (codes "equal") p (width_small kind) equal_short))
   item_long (Unused k) z sent path n at p small few = listed_if_long _ sent _ (omega (arith, sent_long path k (codes "unused") p small unused_short))
   item_long (Struct j) z sent path n at p small few =
       let e = (fit j).long sent (path ++ 46 ∷ []) n at (dot_plain path p) few in
@@ -115,18 +117,10 @@ elements_long one w long path at step i (suc n) p le =
     (longer (length element + w) (length path + 7 + w) (one element at) (omega (arith, element_long path i lt)) (long element at (element_plain path i (omega arith) p)))
     (elements_long one w long path (at + step) step (suc i) n p (omega arith))
 
--- there are no more of them than their items, unless they have none
-fewer_items : (n m c : ℕ) → n ≤ m → n * c ≤ m * c
-fewer_items n m c le =
-    let d = m - n in
-    let e : m ≡ n + d = omega arith in
-    let f : (n + d) * c ≡ n * c + d * c = grind arith in
-    omega (arith, ap (λ k. k * c) e, f)
-
 one_fewer : (m c most : ℕ) → 1 ≤ m → m * c ≤ most → c ≤ most
 one_fewer m c most some le =
     let one : 1 * c ≡ c = omega arith in
-    omega (arith, fewer_items 1 m c some, one)
+    omega (arith, mul-le-mul_right {m = 1} {n = m} c some, one)
 
 many_long : (one : List ℕ → ℕ → List Entry) (w c m : ℕ) → ((path : List ℕ) (at : ℕ) → length (one path at) ≤ c)
     → (c ≤ MOST_ITEMS → (path : List ℕ) (at : ℕ) → IsPlain path → AreLong (length path + w) (one path at))
@@ -137,13 +131,13 @@ many_long one w zero m few long path at step n p le items =
 many_long one w (suc c) m few long path at step zero p le items = tt
 many_long one w (suc c) m few long path at step (suc n) p le items =
     let parts : suc n * suc c ≡ suc n + suc n * c = grind arith in
-    elements_long one w (long (one_fewer m (suc c) MOST_ITEMS (omega arith) items)) path at step 0 (suc n) p (omega (arith, fewer_items (suc n) m (suc c) le, parts))
+    elements_long one w (long (one_fewer m (suc c) MOST_ITEMS (omega arith) items)) path at step 0 (suc n) p (omega (arith, mul-le-mul_right {m = suc n} {n = m} (suc c) le, parts))
 
 array_few : (one : List ℕ → ℕ → List Entry) (c : ℕ) → ((path : List ℕ) (at : ℕ) → length (one path at) ≤ c) → (count : Count) (n : ℕ) (path : List ℕ) (at step : ℕ) → n ≤ capacity_of count
     → length (array_entries one count n path at step) ≤ capacity_of count * c
 array_few one c few One n path at step le = omega (arith, few path at)
-array_few one c few (Fixed m) n path at step le = omega (arith, elements_few one c few path at step 0 n, fewer_items n m c le)
-array_few one c few (Counted by m) n path at step le = omega (arith, elements_few one c few path at step 0 n, fewer_items n m c le)
+array_few one c few (Fixed m) n path at step le = omega (arith, elements_few one c few path at step 0 n, mul-le-mul_right {m = n} {n = m} c le)
+array_few one c few (Counted by m) n path at step le = omega (arith, elements_few one c few path at step 0 n, mul-le-mul_right {m = n} {n = m} c le)
 
 array_long : (one : List ℕ → ℕ → List Entry) (w c : ℕ) → ((path : List ℕ) (at : ℕ) → length (one path at) ≤ c)
     → (c ≤ MOST_ITEMS → (path : List ℕ) (at : ℕ) → IsPlain path → AreLong (length path + w) (one path at))

@@ -1,5 +1,5 @@
 -- Entries of elements and fields, written one after the other.
-use Rattle.std.proofs.Common.{◌≡◌, ℕ, suc, ◌+◌, ◌*◌, ◌-◌, ◌<◌, ◌≤◌, List, [], ◌∷◌, ◌++◌, length, String, string_bytes, refl, subst, length-append, append_assoc, get_or, map, drop, ℤ, sym, ap, ◌∙◌, arith, Bool, true}
+use Rattle.std.proofs.Common.{◌≡◌, ℕ, suc, ◌+◌, ◌*◌, ◌-◌, ◌<◌, ◌≤◌, List, ◌∷◌, ◌++◌, length, String, string_bytes, refl, subst, length-append, append_assoc, get_or, map, drop, ℤ, sym, ap, ◌∙◌, arith, Bool, true, []}
 use Rattle.std.proofs.lemmas.List.{drop_more, drop_all, append-nil, map-append}
 use Rattle.std.specs.declared.alloc.Global.{Global}
 use Rattle.serde_json.specs.Data.{Data}
@@ -103,14 +103,6 @@ next_element size first i cell e =
     let one : (i + 1) * size ≡ i * size + size = grind arith in
     omega (arith, one)
 
--- as many elements as stand there have room where all have
-pub fewer_room : (n most size cell end : ℕ) → n ≤ most → cell + most * size ≤ end → cell + n * size ≤ end
-fewer_room n most size cell end le room =
-    let d = most - n in
-    let whole : most ≡ n + d = omega arith in
-    let parts : (n + d) * size ≡ n * size + d * size = grind arith in
-    omega (arith, ap (λ k. k * size) whole, parts)
-
 -- ---- fields
 
 pub fields_next : (cs : List (List Cell)) (ls : List Lister) (v : ℕ) (own : ℕ → ℕ) (sent : Bool) (path : List ℕ) (n : List ℤ) (at k : ℕ) (fs : List Field) → k < length fs
@@ -136,11 +128,3 @@ field_room cs fs k cell most lt room =
     ∙ ap (λ i. length (field_cells cs fs k f) + length (cells_from cs fs i (drop (k + 1) fs))) next in
     let size = field_size cs fs k f in
     record { here = omega (arith, long, size, room); later = omega (arith, long, size, room) }
-
--- one element has no more cells than all
-pub one_small : (a s cell n most : ℕ) → 1 ≤ a → cell + a * s ≤ n → n ≤ most → s ≤ most
-one_small a s cell n most one h le =
-    let d = a - 1 in
-    let e : a ≡ 1 + d = omega arith in
-    let f : (1 + d) * s ≡ s + d * s = grind arith in
-    omega (arith, ap (λ k. k * s) e, f)

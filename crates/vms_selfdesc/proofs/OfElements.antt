@@ -1,7 +1,8 @@
 -- The entries of a part are those of its elements.
-use Rattle.std.proofs.Common.{◌≡◌, ℕ, zero, suc, ◌+◌, ◌*◌, ◌<◌, ◌≤◌, List, [], ◌∷◌, ◌++◌, length, append_assoc, get_or, map, ℤ, pos, Bool, true, false, ◌&&◌, nat_lt, refl, sym, ap, ◌∙◌, arith, Option}
+use Rattle.std.proofs.Common.{◌≡◌, ℕ, zero, suc, ◌+◌, ◌*◌, ◌<◌, ◌≤◌, List, ◌∷◌, ◌++◌, length, append_assoc, get_or, map, ℤ, pos, Bool, true, false, ◌&&◌, nat_lt, refl, sym, ap, ◌∙◌, arith, Option, []}
 use Rattle.std.proofs.lemmas.Bool.{le-ltb, lt-ltb}
 use Rattle.std.proofs.lemmas.List.{append-nil}
+use Rattle.std.proofs.Math.Bool.{and-true, and-false, and_assoc}
 use Rattle.vms_kinds.specs.declared.Item.{Item}
 use Rattle.vms_kinds.specs.declared.Item.TheVariants.{Num, Equal, Unused, Struct}
 use Rattle.vms_spec.specs.declared.Count.{Count}
@@ -27,24 +28,12 @@ of_dotted sent path (x ∷ xs) =
     ap (λ p. entry_of x.what x.counted (sent && x.present) p ++ entries_of sent path (map dotted xs)) (sym (append_assoc path (46 ∷ []) x.name))
     ∙ ap (λ l. entry_of x.what x.counted (sent && x.present) ((path ++ 46 ∷ []) ++ x.name) ++ l) (of_dotted sent path xs)
 
-and_true : (b : Bool) → b && true ≡ b
-and_true true = refl
-and_true false = refl
-
-and_false : (b : Bool) → b && false ≡ false
-and_false true = refl
-and_false false = refl
-
-and_grouped : (a b c : Bool) → a && (b && c) ≡ a && b && c
-and_grouped true b c = refl
-and_grouped false b c = refl
-
 -- behind a step that is counted
 of_step : (sent there p : Bool) (path text : List ℕ) (step : ℕ × ℕ) (xs : List Element) → p ≡ there → entries_of sent path (map (behind step text true p) xs) ≡ entries_of (sent && there) (path ++ text) xs
 of_step sent there p path text step [] e = refl
 of_step sent there p path text step (x ∷ xs) e =
     ap (λ b. entry_of x.what x.counted (sent && (b && x.present)) (path ++ (text ++ x.name)) ++ entries_of sent path (map (behind step text true p) xs)) e
-    ∙ ap (λ b. entry_of x.what x.counted b (path ++ (text ++ x.name)) ++ entries_of sent path (map (behind step text true p) xs)) (and_grouped sent there x.present)
+    ∙ ap (λ b. entry_of x.what x.counted b (path ++ (text ++ x.name)) ++ entries_of sent path (map (behind step text true p) xs)) (sym (and_assoc sent there x.present))
     ∙ ap (λ q. entry_of x.what x.counted (sent && there && x.present) q ++ entries_of sent path (map (behind step text true p) xs)) (sym (append_assoc path text x.name))
     ∙ ap (λ l. entry_of x.what x.counted (sent && there && x.present) ((path ++ text) ++ x.name) ++ l) (of_step sent there p path text step xs e)
 
@@ -59,7 +48,7 @@ of_past : (sent p : Bool) (path text : List ℕ) (step : ℕ × ℕ) (xs : List 
 of_past sent p path text step [] e = refl
 of_past sent p path text step (x ∷ xs) e =
     ap (λ b. entry_of x.what false (sent && (b && x.present)) (path ++ (text ++ x.name)) ++ entries_of sent path (map (behind step text false p) xs)) e
-    ∙ ap (λ b. entry_of x.what false b (path ++ (text ++ x.name)) ++ entries_of sent path (map (behind step text false p) xs)) (and_false sent)
+    ∙ ap (λ b. entry_of x.what false b (path ++ (text ++ x.name)) ++ entries_of sent path (map (behind step text false p) xs)) (and-false sent)
     ∙ ap (λ l. l ++ entries_of sent path (map (behind step text false p) xs)) (none_of x.what (path ++ (text ++ x.name)))
     ∙ of_past sent p path text step xs e
 
@@ -79,7 +68,7 @@ module _ (f : Field) (stand : Stand) (part : ℕ → List Element) (step : ℕ) 
   past e zero at le = refl
   past e (suc n) at le =
       head_is e n at false (le-ltb e stand.count le)
-      ∙ ap (λ l. l ++ entries_of sent path (array_elements f stand part step (suc e) n (at + step))) (of_past sent (stand.there && false) path (f.name ++ index_text f.count e) (stand.number, e) (part at) (and_false stand.there))
+      ∙ ap (λ l. l ++ entries_of sent path (array_elements f stand part step (suc e) n (at + step))) (of_past sent (stand.there && false) path (f.name ++ index_text f.count e) (stand.number, e) (part at) (and-false stand.there))
       ∙ past (suc e) n (at + step) (omega arith)
 
   many : (one : List ℕ → ℕ → List Entry) → ((e at : ℕ) → entries_of (sent && stand.there) (path ++ (f.name ++ index_text f.count e)) (part at) ≡ one (element_path (path ++ f.name) e) at)
@@ -89,7 +78,7 @@ module _ (f : Field) (stand : Stand) (part : ℕ → List Element) (step : ℕ) 
   many one is e (suc n) at (suc m) all le =
       let lt : e < stand.count = omega arith in
       head_is e n at true (lt-ltb e stand.count lt)
-      ∙ ap (λ l. l ++ entries_of sent path (array_elements f stand part step (suc e) n (at + step))) (of_step sent stand.there (stand.there && true) path (f.name ++ index_text f.count e) (stand.number, e) (part at) (and_true stand.there) ∙ is e at)
+      ∙ ap (λ l. l ++ entries_of sent path (array_elements f stand part step (suc e) n (at + step))) (of_step sent stand.there (stand.there && true) path (f.name ++ index_text f.count e) (stand.number, e) (part at) (and-true stand.there) ∙ is e at)
       ∙ ap (λ l. one (element_path (path ++ f.name) e) at ++ l) (many one is (suc e) n (at + step) m (omega arith) (omega arith))
 
 -- ---- items and fields, where a table of shapes and one of listers have the same structures below k
@@ -99,13 +88,13 @@ module _ (cells : List (List Cell)) (ls : List Lister) (shapes : List Shape) (k 
   of_item : (item : Item) (caps : List ℕ) (z : ℤ) (sent : Bool) (path : List ℕ) (n : List ℤ) (at : ℕ) → ItemBelow k item
       → entries_of sent path (item_elements shapes item caps z n at) ≡ item_entries ls item z sent path n at
   of_item (Num kind) caps z sent path n at e =
-      ap (λ p. cell_entry (sent && true) p kind z ∷ []) (append-nil path) ∙ ap (λ b. cell_entry b path kind z ∷ []) (and_true sent)
+      ap (λ p. cell_entry (sent && true) p kind z ∷ []) (append-nil path) ∙ ap (λ b. cell_entry b path kind z ∷ []) (and-true sent)
   of_item (Equal kind y) caps z sent path n at e =
       append-nil (listed_if (sent && true) (sent_entry (path ++ []) _ _))
-      ∙ ap (λ p. listed_if (sent && true) (sent_entry p _ _)) (append-nil path) ∙ ap (λ b. listed_if b (sent_entry path _ _)) (and_true sent)
+      ∙ ap (λ p. listed_if (sent && true) (sent_entry p _ _)) (append-nil path) ∙ ap (λ b. listed_if b (sent_entry path _ _)) (and-true sent)
   of_item (Unused m) caps z sent path n at e =
       append-nil (listed_if (sent && true) (sent_entry (path ++ []) m _))
-      ∙ ap (λ p. listed_if (sent && true) (sent_entry p m _)) (append-nil path) ∙ ap (λ b. listed_if b (sent_entry path m _)) (and_true sent)
+      ∙ ap (λ p. listed_if (sent && true) (sent_entry p m _)) (append-nil path) ∙ ap (λ b. listed_if b (sent_entry path m _)) (and-true sent)
   of_item (Struct j) caps z sent path n at e = of_dotted sent path ((get_or shapes j no_shape).elements n at) ∙ fit j e sent (path ++ 46 ∷ []) n at
 
   -- a field of this count
@@ -118,7 +107,7 @@ module _ (cells : List (List Cell)) (ls : List Lister) (shapes : List Shape) (k 
   of_count name former item since test default One number there own part step sent path one at is =
       of_append sent path (map (behind (number, 0) (name ++ []) true (there && true)) (part at)) []
       ∙ append-nil (entries_of sent path (map (behind (number, 0) (name ++ []) true (there && true)) (part at)))
-      ∙ of_step sent there (there && true) path (name ++ []) (number, 0) (part at) (and_true there)
+      ∙ of_step sent there (there && true) path (name ++ []) (number, 0) (part at) (and-true there)
       ∙ is (path ++ (name ++ [])) at
       ∙ ap (λ t. one (path ++ t) at) (append-nil name)
   of_count name former item since test default (Fixed m) number there own part step sent path one at is =

@@ -1,5 +1,6 @@
 -- The described tree has no number with a fraction, and nests little.
-use Rattle.std.proofs.Common.{◌≡◌, ℕ, suc, ◌+◌, ◌≤◌, length, List, [], ◌∷◌, map, Bool, true, false, ◌||◌, Option, Some, None, ℤ, pos, negsuc, refl, arith, is_some}
+use Rattle.std.proofs.Common.{◌≡◌, ℕ, suc, ◌+◌, ◌≤◌, length, List, ◌∷◌, map, Bool, true, false, Option, Some, None, ℤ, pos, negsuc, refl, arith, is_some, [], ◌||◌}
+use Rattle.std.proofs.lemmas.Bool.{or_from}
 use Rattle.serde_json.specs.Data.{Data, object, array, depth, items_depth}
 use Rattle.serde_json.specs.View.{items_of}
 use Rattle.serde_json.specs.Written.{has_float, items_have_float}
@@ -18,13 +19,9 @@ abbrev pub ArePlain : ℕ → List Data → Type 0
 ArePlain deepest [] = Unit {0}
 ArePlain deepest (d ∷ ds) = IsPlainTree deepest d × ArePlain deepest ds
 
-either : (a b : Bool) → a ≡ false → b ≡ false → a || b ≡ false
-either false b p q = q
-either true b p q = p
-
 items_whole : (deepest : ℕ) (ds : List Data) → ArePlain deepest ds → items_have_float (items_of ds) ≡ false
 items_whole deepest [] p = refl
-items_whole deepest (d ∷ ds) p = either (has_float d) (items_have_float (items_of ds)) p.0.whole (items_whole deepest ds p.1)
+items_whole deepest (d ∷ ds) p = or_from (has_float d) (items_have_float (items_of ds)) p.0.whole (items_whole deepest ds p.1)
 
 items_flat : (deepest : ℕ) (ds : List Data) → ArePlain deepest ds → items_depth (items_of ds) ≤ deepest
 items_flat deepest [] p = omega arith
@@ -49,7 +46,7 @@ sub_plain : (es : List Entry) (name : List ℕ) (sent : Bool) (version : ℕ) �
 sub_plain es name sent version =
     let list = list_plain 1 (map entry_tree es) (entries_plain es) in
     let flat = list.flat in
-    record { whole = either (has_float (list_tree entry_tree es)) false list.whole refl; flat = omega arith }
+    record { whole = or_from (has_float (list_tree entry_tree es)) false list.whole refl; flat = omega arith }
 
 subs_plain : (set : Set) (n : List ℤ) (at : ℕ) (subs : List Sub) (came : List (Option ℕ)) → ArePlain 3 (sub_trees set n at subs came)
 subs_plain set n at [] came = tt
@@ -64,7 +61,7 @@ device_plain es instance name subs version p =
     let flat = list.flat in
     let flat' = inner.flat in
     record {
-      whole = either (has_float (list_tree entry_tree es)) (has_float (array (items_of subs)) || false) list.whole (either (has_float (array (items_of subs))) false inner.whole refl);
+      whole = or_from (has_float (list_tree entry_tree es)) (has_float (array (items_of subs)) || false) list.whole (or_from (has_float (array (items_of subs))) false inner.whole refl);
       flat = omega arith;
     }
 
@@ -81,4 +78,4 @@ pub described_plain : (set : Set) (images : List Image) → IsPlainTree 7 (descr
 described_plain set images =
     let list = list_plain 5 (device_trees set set.devices images) (devices_plain set set.devices images) in
     let flat = list.flat in
-    record { whole = either (has_float (array (items_of (device_trees set set.devices images)))) false list.whole refl; flat = omega arith }
+    record { whole = or_from (has_float (array (items_of (device_trees set set.devices images)))) false list.whole refl; flat = omega arith }

@@ -17,7 +17,7 @@ use Rattle.vms_script.specs.Grammar.{IsLine, AreLines}
 use Rattle.vms_script.specs.Lines.{ScriptLine, Happens, Saves, Restores as Loads, is_set_of}
 use Rattle.vms_script.specs.Trace.{trace_line}
 use Rattle.vms_spec.specs.Images.{Image}
-use Rattle.vms_spec.specs.Numbers.{IsBytes}
+use Rattle.vms_kinds.specs.Bytes.{IsBytes}
 use Rattle.vms_stream.proofs.Stated.{either_holds}
 use Rattle.vms_stream.specs.StreamLaws.{Answer, Taken, Faulty}
 use Rattle.vms_session.proofs.SessionLaws.{line_level}

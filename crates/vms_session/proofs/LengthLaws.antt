@@ -1,5 +1,5 @@
 -- How long the streams of boards are.
-use Rattle.std.proofs.Common.{◌≡◌, ℕ, zero, suc, ◌+◌, ◌*◌, ◌<◌, ◌≤◌, Bool, true, false, if◌then◌else◌, List, [], ◌∷◌, ◌++◌, length, map, get_or, Option, Some, None, ℤ, pos, arith, length-append}
+use Rattle.std.proofs.Common.{◌≡◌, ℕ, zero, suc, ◌+◌, ◌*◌, ◌<◌, ◌≤◌, Bool, true, false, if◌then◌else◌, List, ◌∷◌, ◌++◌, length, map, get_or, Option, Some, None, ℤ, pos, arith, length-append, []}
 use Rattle.std.specs.Prelude.{replicate}
 use Rattle.std.proofs.Math.Nat.{suc-mul}
 use Rattle.std.proofs.lemmas.List.{length-replicate}
@@ -16,14 +16,13 @@ use Rattle.vms_kinds.specs.declared.Kind.{Kind}
 use Rattle.vms_kinds.specs.declared.Kind.TheVariants.{U8, U16, U32, U64, I8, I16, I32, I64, Bool as Truth, Timer}
 use Rattle.vms_selfdesc.proofs.Bounds.{shipped_holds}
 use Rattle.vms_spec.proofs.KindLaws.{length-code}
-use Rattle.vms_spec.specs.declared.Count.{Count}
-use Rattle.vms_spec.specs.declared.Count.TheVariants.{One, Fixed, Counted}
 use Rattle.vms_spec.specs.Images.{Image, zeroed, own_cells, own_slots, sub_slots}
 use Rattle.vms_spec.specs.Layout.{Slot, Number, Constant, Filler, Rule, Meaning, no_meaning, first, times, capacity_of, elements_of, item_slots, item_size, field_cells, counted, no_parent, numbers_of, all_hold, field_slots, slots_from, desc_slots, meanings, desc_cells, struct_cells}
 use Rattle.vms_spec.specs.Sets.{Field, Desc, Sub, Device, Set}
 use Rattle.vms_spec.specs.Shipped.{set_0, set_1, set_2, set_3, set_4, pit_channel}
 use Rattle.vms_spec.specs.Tests.{is_there}
 use Rattle.vms_spec.specs.Streams.{be32, configuration, section_head, sub_head, foot, trailer, end_mark, stream_head, written, written_section, written_sections, written_subs}
+use Rattle.vms_spec.proofs.Sizes.{elements_fit}
 use Rattle.vms_board.specs.Saving.{machine_of, saved_text, saved_stream}
 use Rattle.vms_session.specs.Laws.{StreamsAreShort}
 
@@ -116,16 +115,11 @@ module _ (structs : List Meaning) (ws : List ℕ) (within : Within structs ws) w
   item-le (Unused n) capacities numbers at = omega arith
   item-le (Struct j) capacities numbers at = within.bounded j numbers at
 
-  elements-le : (count : Count) (own : ℕ → ℕ) → elements_of count own ≤ capacity_of count
-  elements-le One own = omega arith
-  elements-le (Fixed n) own = omega arith
-  elements-le (Counted by most) own = omega arith
-
   field-le : (fields : List Field) (v : ℕ) (own : ℕ → ℕ) (numbers : List ℤ) (i at : ℕ) (f : Field) → slots_most (field_slots structs fields v own numbers i at f) ≤ capacity_of f.count * item_most ws f.item
   field-le fields v own numbers i at f =
       let slots : List Slot = times (elements_of f.count own) (item_slots structs f.item (counted i fields) numbers) at (item_size (map (λ m. m.cells) structs) f.item) in
       let le = times-le (elements_of f.count own) (item_slots structs f.item (counted i fields) numbers) at (item_size (map (λ m. m.cells) structs) f.item) (item_most ws f.item) (item-le f.item (counted i fields) numbers) in
-      let few = mul-le (elements_of f.count own) (item_most ws f.item) (capacity_of f.count) (item_most ws f.item) (elements-le f.count own) (omega arith) in
+      let few = mul-le (elements_of f.count own) (item_most ws f.item) (capacity_of f.count) (item_most ws f.item) (elements_fit f.count own) (omega arith) in
       if-le (is_there f.test f.since v own no_parent) slots (capacity_of f.count * item_most ws f.item) (omega (arith, le, few))
 
   fields-le : (fields : List Field) (v : ℕ) (own : ℕ → ℕ) (numbers : List ℤ) (i at : ℕ) (fs : List Field) → slots_most (slots_from structs fields v own numbers i at fs) ≤ fields_most ws fs

@@ -1,5 +1,5 @@
 -- What bytes are to a restore is one thing, and what a line does is one thing.
-use Rattle.std.proofs.Common.{◌≡◌, ◌≢◌, ◌⊎◌, inl, inr, ℕ, Bool, true, false, List, [], ◌∷◌, Option, Some, None, Result, Ok, Err, arith, refl, sym, ap, subst, ◌∙◌}
+use Rattle.std.proofs.Common.{◌≡◌, ◌≢◌, ◌⊎◌, inl, inr, ℕ, Bool, true, false, List, ◌∷◌, Option, Some, None, Result, Ok, Err, arith, refl, sym, ap, subst, ◌∙◌, []}
 use Rattle.std.specs.Str.{bytes_eq}
 use Rattle.std.proofs.lemmas.Slice.Eq.{bytes_eq-Decides}
 use Rattle.dev_base.specs.declared.limits.TheConstants.{NEWEST}
@@ -7,6 +7,7 @@ use Rattle.dev_board.specs.Saved.{restored}
 use Rattle.dev_board.specs.State.{State}
 use Rattle.dev_board.specs.Step.{step}
 use Rattle.dev_board.specs.declared.misfit.Misfit.{Misfit}
+use Rattle.dev_board.proofs.SavedLaws.{ok-same}
 use Rattle.dev_images.specs.Images.{cells_in}
 use Rattle.vms_desc.specs.Formed.{shipped_set}
 use Rattle.vms_io.specs.Shelves.{Held, PutsUnder}
@@ -14,7 +15,7 @@ use Rattle.vms_spec.proofs.ShippedSets.{shipped_stands}
 use Rattle.vms_script.specs.Lines.{ScriptLine, Happens, Saves, Restores as Loads}
 use Rattle.vms_script.specs.Trace.{trace_line}
 use Rattle.vms_spec.specs.Images.{Image}
-use Rattle.vms_spec.specs.Numbers.{IsBytes}
+use Rattle.vms_kinds.specs.Bytes.{IsBytes}
 use Rattle.vms_spec.specs.declared.Reason.{Reason}
 use Rattle.vms_stream.proofs.Stated.{one_stream_holds, one_fault_holds, never_both_holds}
 use Rattle.vms_session.proofs.EndLaws.{bytes_come}
@@ -26,9 +27,6 @@ use Rattle.vms_session.specs.Lines.{restored_line, missing_line, too_large_line,
 use Rattle.vms_session.specs.Session.{Session, Leaves, ComesTo, IsTooLarge, IsLoaded, LoadsBytes, LoadsHeld, Does}
 
 -- ---- what bytes come to
-
-same-ok : (m n : State) (r : Result State Misfit) → r ≡ Ok m → r ≡ Ok n → m ≡ n
-same-ok m n r e f = cc
 
 same-err : (m n : Misfit) (r : Result State Misfit) → r ≡ Err m → r ≡ Err n → m ≡ n
 same-err m n r e f = cc
@@ -74,7 +72,7 @@ module _ (level : ℕ) (bytes : List ℕ) where
     pub one_restore : (a b : Restore) → Restores level bytes a → Restores level bytes b → a ≡ b
     one_restore (Back m n) (Back m' k) r s =
         let stream = one-stream n k r.0 s.0 r.1 s.1 in
-        let boards = same-ok m m' (restored level (cells_in s.0)) (sym (same-cells n k r.0 s.0 r.1 s.1) ∙ r.2) s.2 in
+        let boards = ok-same m m' (restored level (cells_in s.0)) (sym (same-cells n k r.0 s.0 r.1 s.1) ∙ r.2) s.2 in
         ap (λ (x : State). back x n) boards ∙ ap (back m') stream.0
     one_restore (Back m n) (Refused place section reason) r (inl f) = absurd (no_fault n r.0 place section reason r.1 f)
     one_restore (Back m n) (Refused place section reason) r (inr f) =

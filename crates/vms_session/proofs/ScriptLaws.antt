@@ -15,7 +15,7 @@ use Rattle.vms_session.proofs.SoundLaws.{sessions_stay_sound}
 use Rattle.vms_session.proofs.StreamBytes.{streams_are_bytes}
 use Rattle.vms_session.specs.Laws.{HoldsAll, HoldsBytes, IsOneEnd, ReadsBytes, SessionsAreOne}
 use Rattle.vms_session.specs.Session.{Session, Does, IsLoaded, IsTooLarge, LoadsHeld, Plays}
-use Rattle.vms_spec.specs.Numbers.{IsBytes}
+use Rattle.vms_kinds.specs.Bytes.{IsBytes}
 
 -- ---- what is held stays bytes
 

@@ -1,5 +1,5 @@
 -- What is restored is sound, and so a session keeps its board sound.
-use Rattle.std.proofs.Common.{◌≡◌, ◌⊎◌, inl, inr, ℕ, zero, suc, ◌∙◌, Bool, true, false, List, [], ◌∷◌, map, Option, Some, None, refl, sym, ap, subst}
+use Rattle.std.proofs.Common.{◌≡◌, ◌⊎◌, inl, inr, ℕ, zero, suc, ◌∙◌, Bool, true, false, List, ◌∷◌, map, Option, Some, None, refl, sym, ap, subst, []}
 use Rattle.std.specs.Prelude.{slice_set}
 use Rattle.std.specs.List.{slice_get}
 use Rattle.dev_base.specs.Levels.{IsLevel}
@@ -18,19 +18,14 @@ use Rattle.vms_script.specs.Grammar.{IsEvent as IsSpelled, IsLine, AreLines}
 use Rattle.vms_script.specs.Lines.{ScriptLine, Happens, Saves, Restores as Loads}
 use Rattle.vms_spec.specs.Images.{Image, IsNormal}
 use Rattle.vms_spec.specs.Sets.{Device, Set}
-use Rattle.vms_spec.specs.Streams.{AllCame, EachOnce}
+use Rattle.vms_spec.specs.Streams.{EachOnce}
+use Rattle.vms_spec.proofs.ListLaws.{none_left}
 use Rattle.vms_stream.specs.Streams.{HasSection, SectionsSpell}
 use Rattle.vms_board.specs.Restoring.{TakesBoard, Back, Refused, Restores}
 use Rattle.vms_session.specs.Laws.{SessionsStaySound}
 use Rattle.vms_session.specs.Session.{Session, IsTooLarge, IsLoaded, LoadsBytes, LoadsHeld, Does, Plays}
 
 -- ---- each device of a stream that is taken has a normal image
-
-none-left : (came : List Bool) (k : ℕ) → AllCame came → slice_get came k ≡ Some false → ⊥
-none-left [] k all new = cc
-none-left (true ∷ came) zero all new = cc
-none-left (true ∷ came) (suc k) all new = none-left came k all new
-none-left (false ∷ came) k all new = absurd all
 
 set-or-same : (came : List Bool) (j k : ℕ) → (k ≡ j) ⊎ (slice_get (slice_set came j true) k ≡ slice_get came k)
 set-or-same [] j k = inr refl
@@ -56,7 +51,7 @@ of-section set footed k (Some x) (Some y) bytes d image h e f =
 normal-in : (set : Set) (footed : Bool) (images : List Image) (order : List ℕ) (came : List Bool) (bytes : List ℕ)
     → EachOnce came order → SectionsSpell set footed images order bytes → (k : ℕ) (d : Device) (image : Image)
     → slice_get came k ≡ Some false → slice_get set.devices k ≡ Some d → slice_get images k ≡ Some image → IsNormal set d image
-normal-in set footed images [] came bytes once spelled k d image new here there = absurd (none-left came k once new)
+normal-in set footed images [] came bytes once spelled k d image new here there = absurd (none_left came k once new)
 normal-in set footed images (j ∷ order) came bytes once spelled k d image new here there =
     elim (set-or-same came j k) [
       | inl e ↦ of-section set footed j (slice_get set.devices j) (slice_get images j) spelled.0 d image spelled.2

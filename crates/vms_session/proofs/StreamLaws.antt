@@ -1,10 +1,9 @@
 -- The stream that is written of a board restores one that is like it.
-use Rattle.std.proofs.Common.{◌≡◌, inl, inr, ℕ, zero, suc, ◌≤◌, ◌||◌, Bool, true, false, List, [], ◌∷◌, length, Option, Some, Result, Ok, Err, arith, refl, sym, ap, subst, ◌∙◌, append-nil}
-use Rattle.std.specs.Str.{bytes_eq}
+use Rattle.std.proofs.Common.{◌≡◌, inl, inr, ℕ, zero, suc, ◌≤◌, Bool, true, false, List, ◌∷◌, length, Option, Some, Result, Ok, Err, arith, refl, sym, ap, subst, ◌∙◌, append-nil, ◌||◌, []}
 use Rattle.std.proofs.lemmas.Slice.Eq.{bytes_eq-Decides}
 use Rattle.dev_base.specs.declared.limits.TheConstants.{NEWEST}
 use Rattle.dev_board.proofs.AlikeLaws.{alike_stays}
-use Rattle.dev_board.proofs.SavedLaws.{saved_comes_back}
+use Rattle.dev_board.proofs.SavedLaws.{saved_comes_back, ok-same}
 use Rattle.dev_board.specs.Saved.{MaySaveUnder, saved, carried as board_carried, restored}
 use Rattle.dev_board.specs.Sound.{IsSound}
 use Rattle.dev_board.specs.State.{State}
@@ -25,7 +24,7 @@ use Rattle.vms_spec.proofs.ShippedSets.{shipped_stands}
 use Rattle.vms_selfdesc.proofs.Bounds.{shipped_holds}
 use Rattle.vms_spec.specs.Images.{Image}
 use Rattle.vms_spec.specs.Layout.{first}
-use Rattle.vms_spec.specs.Numbers.{IsBytes}
+use Rattle.vms_kinds.specs.Bytes.{IsBytes}
 use Rattle.vms_spec.specs.Sets.{Set}
 use Rattle.vms_spec.specs.Streams.{is_one_of}
 use Rattle.vms_spec.specs.declared.Reason.{Reason}
@@ -40,19 +39,13 @@ use Rattle.vms_session.specs.Laws.{StreamComesBack, StreamsComeBack, trace_of, H
 
 -- ---- answers
 
-ok-same : (m n : State) (r : Result State Misfit) → r ≡ Ok m → r ≡ Ok n → m ≡ n
-ok-same m n r e f = cc
-
 err-not-ok : (misfit : Misfit) (n : State) (r : Result State Misfit) → r ≡ Err misfit → r ≡ Ok n → ⊥
 err-not-ok misfit n r e f = cc
 
 -- ---- one accepted name
 
-same_bytes : (name : List ℕ) → bytes_eq name name ≡ true
-same_bytes name = (bytes_eq-Decides name name).1 refl
-
 named-alone : (name : List ℕ) → is_one_of (name ∷ []) name ≡ true
-named-alone name = ap (λ (b : Bool). b || false) (same_bytes name)
+named-alone name = ap (λ (b : Bool). b || false) ((bytes_eq-Decides name name).1 refl)
 
 alone : (set : Set) (names : List (List ℕ)) (input : List ℕ) (taken : ℕ) (name : List ℕ) (images : List Image) → Takes set names input taken (Some name) images → Takes set (name ∷ []) input taken (Some name) images
 alone set names input taken name images t =

@@ -11,7 +11,7 @@ use Rattle.vms_session.proofs.OneLaws.{one_restore}
 use Rattle.vms_session.specs.Lines.{restored_line, refused_line}
 use Rattle.vms_session.specs.Session.{Session, ComesTo, IsTooLarge, IsLoaded, LoadsBytes}
 use Rattle.vms_commands.specs.Fetching.{longest_file}
-use Rattle.vms_spec.specs.Numbers.{IsBytes}
+use Rattle.vms_kinds.specs.Bytes.{IsBytes}
 use Rattle.vms_spec.specs.declared.Reason.{Reason}
 use Rattle.vms_session.specs.Playing.{LineEnds, WritesText}
 use Rattle.vms_session.specs.declared.line.PlayFault.{PlayFault}

@@ -9,7 +9,7 @@ use Rattle.dev_board.specs.declared.event.Event.{Event}
 use Rattle.dev_images.specs.Images.{saved_images}
 use Rattle.vms_desc.specs.Formed.{shipped_set}
 use Rattle.vms_io.specs.Shelves.{Held}
-use Rattle.vms_spec.specs.Numbers.{IsBytes}
+use Rattle.vms_kinds.specs.Bytes.{IsBytes}
 use Rattle.vms_spec.specs.Streams.{longest_text, written}
 use Rattle.vms_spec.specs.declared.Reason.{Reason}
 use Rattle.vms_script.specs.Grammar.{IsLine, AreLines}

@@ -4,7 +4,7 @@ ghost use Rattle.dev_board.specs.Saved.{MaySaveUnder};
 ghost use Rattle.dev_board.specs.Sound.{IsSound};
 ghost use Rattle.vms_board.specs.Restoring.{Back, Refused, Restores};
 ghost use Rattle.vms_board.specs.Saving.{saved_stream};
-ghost use Rattle.vms_spec.specs.Numbers.{IsBytes};
+ghost use Rattle.vms_kinds.specs.Bytes.{IsBytes};
 
 use std::alloc::Global;
 use vms_board::{Board, RestoreFault, SaveFault};

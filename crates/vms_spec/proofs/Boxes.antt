@@ -44,10 +44,6 @@ subsection_set = box_set (number U8 (codes "a") ∷ []) [] (sub_of (codes "box/p
 abbrev pub tested_set : Set
 tested_set = box_set (number U8 (codes "f") ∷ record (number U8 (codes "g")) { test = Some (Cell Own 0 255 Eq 1) } ∷ []) (Cell Own 0 255 Lt 10 ∷ []) []
 
--- a constant of kind bool
-abbrev pub bool_constant_set : Set
-bool_constant_set = box_set (record (number U8 (codes "c")) { item = Equal Truth (pos 1) } ∷ []) [] []
-
 -- no field, and a validation that fails
 abbrev pub bare_set : Set
 bare_set = box_set [] (AtLeast 2 ∷ []) []

@@ -1,5 +1,5 @@
 -- Numbers are read back from their bytes.
-use Rattle.std.proofs.Common.{◌≡◌, List, ◌++◌, ℕ, ◌%◌, ◌^◌, ◌<◌, [], length, ℤ, pos, negsuc, refl, sym, ap, ◌∙◌, arith, append-nil, false}
+use Rattle.std.proofs.Common.{◌≡◌, List, ◌++◌, ℕ, ◌%◌, ◌^◌, ◌<◌, length, ℤ, pos, negsuc, refl, sym, ap, ◌∙◌, arith, append-nil, false, ◌≤◌, []}
 use Rattle.std.proofs.lemmas.Bool.{le-ltb}
 use Rattle.std.proofs.lemmas.Int.{ints}
 use Rattle.byteorder.specs.Endian.{big_number, big_bytes, big_from, twos_complement}
@@ -25,6 +25,18 @@ length-code I32 z = refl
 length-code I64 z = refl
 length-code Bool z = refl
 length-code Timer z = refl
+
+pub width_small : (kind : Kind) → width kind ≤ 4096
+width_small U8 = omega arith
+width_small U16 = omega arith
+width_small U32 = omega arith
+width_small U64 = omega arith
+width_small I8 = omega arith
+width_small I16 = omega arith
+width_small I32 = omega arith
+width_small I64 = omega arith
+width_small Bool = omega arith
+width_small Timer = omega arith
 
 low_8 : (z : ℤ) → InRange I8 z → residue 1 z < 256 ^ 1
 low_8 (pos n) h = omega (arith, ints)

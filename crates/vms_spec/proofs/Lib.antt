@@ -11,3 +11,5 @@ mod PlaceRows
 mod WellFormedRows
 mod ReadyRows
 mod ValuesRows
+pub mod ListLaws
+pub mod NumberLaws

@@ -9,9 +9,6 @@ counts_cells : cell_count counted_set 0 ≡ 3
 unfolding first
 counts_cells = refl
 
-counts_no_cells_without_a_device : cell_count counted_set 1 ≡ 0
-counts_no_cells_without_a_device = refl
-
 finds_an_element : cell_at counted_set 0 None ((1, 1) ∷ []) ≡ Some 2
 unfolding first
 finds_an_element = refl
@@ -20,49 +17,17 @@ finds_no_element_past_the_capacity : cell_at counted_set 0 None ((1, 2) ∷ []) 
 unfolding first
 finds_no_element_past_the_capacity = refl
 
-finds_a_single_number : cell_at counted_set 0 None ((0, 0) ∷ []) ≡ Some 0
-unfolding first
-finds_a_single_number = refl
-
-finds_no_second_single_number : cell_at counted_set 0 None ((0, 1) ∷ []) ≡ None
-unfolding first
-finds_no_second_single_number = refl
-
-finds_nothing_past_a_number : cell_at counted_set 0 None ((0, 0) ∷ (0, 0) ∷ []) ≡ None
-unfolding first
-finds_nothing_past_a_number = refl
-
-finds_nothing_by_an_empty_path : cell_at counted_set 0 None [] ≡ None
-unfolding first
-finds_nothing_by_an_empty_path = refl
-
-finds_nothing_in_another_device : cell_at counted_set 1 None ((0, 0) ∷ []) ≡ None
-unfolding first
-finds_nothing_in_another_device = refl
-
 finds_no_constant : cell_at constant_set 0 None ((1, 0) ∷ []) ≡ None
 unfolding first
 finds_no_constant = refl
-
-finds_no_unused_bytes : cell_at constant_set 0 None ((2, 0) ∷ []) ≡ None
-unfolding first
-finds_no_unused_bytes = refl
 
 finds_a_number_in_a_structure : cell_at mixed_set 0 None ((1, 2) ∷ (2, 0) ∷ []) ≡ Some 9
 unfolding first
 finds_a_number_in_a_structure = refl
 
-finds_no_structure : cell_at mixed_set 0 None ((1, 2) ∷ []) ≡ None
-unfolding first
-finds_no_structure = refl
-
 finds_a_number_of_a_subsection : cell_at mixed_set 0 (Some 0) ((1, 0) ∷ []) ≡ Some 14
 unfolding first
 finds_a_number_of_a_subsection = refl
-
-finds_no_other_subsection : cell_at mixed_set 0 (Some 1) ((1, 0) ∷ []) ≡ None
-unfolding first
-finds_no_other_subsection = refl
 
 -- the latch of the timer chip's third counter
 finds_a_latch : cell_at set_3 3 None ((0, 2) ∷ (10, 0) ∷ []) ≡ Some 32

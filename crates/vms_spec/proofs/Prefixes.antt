@@ -1,5 +1,5 @@
 -- A structure means the same in each table that reaches it.
-use Rattle.std.proofs.Common.{◌≡◌, ℕ, zero, suc, ◌+◌, ◌<◌, ◌≤◌, List, [], ◌∷◌, ◌++◌, length, get_or, map, ℤ, pos, refl, sym, ap, ◌∙◌, arith, true, if◌then◌else◌}
+use Rattle.std.proofs.Common.{◌≡◌, ℕ, zero, suc, ◌+◌, ◌<◌, ◌≤◌, List, ◌∷◌, ◌++◌, length, get_or, map, ℤ, pos, refl, sym, ap, ◌∙◌, arith, true, if◌then◌else◌, []}
 use Rattle.std.proofs.Math.ListN.{get_or-map}
 use Rattle.std.proofs.Math.Path.{fun_ext}
 use Rattle.std.proofs.lemmas.Bool.{ltb-true}
@@ -12,6 +12,7 @@ use Rattle.vms_spec.specs.Tests.{is_there}
 use Rattle.vms_spec.specs.Rules.{uses_below}
 use Rattle.vms_spec.specs.Layout.{Cell, Slot, Rule, Meaning, no_desc, no_field, no_parent, no_meaning, first, meaning, meanings, times, counted, capacity_of, item_cells, field_cells, cells_from, desc_cells, elements_of, item_slots, slots_from, desc_slots, numbers_of, place_of, kind_of, all_hold}
 use Rattle.vms_spec.proofs.Tables.{first_at}
+use Rattle.vms_spec.specs.ValuesReading.{Reader, reader, cells_of}
 
 -- the item is no structure, or one of a number below k
 abbrev pub ItemBelow : ℕ → Item → Type 0
@@ -80,6 +81,9 @@ first_cells cells f makes ds (suc k) =
     map-append cells (first f ds k) (f (first f ds k) (get_or ds k no_desc) ∷ [])
     ∙ ap (λ (c : List Cell). map cells (first f ds k) ++ c ∷ []) (makes (first f ds k) (get_or ds k no_desc))
     ∙ ap (λ (cs : List (List Cell)). cs ++ desc_cells cs (get_or ds k no_desc) ∷ []) (first_cells cells f makes ds k)
+
+pub readers_cells : (ds : List Desc) (k : ℕ) → cells_of (first reader ds k) ≡ first desc_cells ds k
+readers_cells ds k = first_cells (λ (r : Reader). r.cells) reader (λ rs d. refl) ds k
 
 -- the tables of the first j and of the first k descriptions agree below j
 pub first_same : {B : Type 0} (f : List B → Desc → B) (ds : List Desc) (none : B) (j k i : ℕ) → j ≤ k → i < j

@@ -5,28 +5,12 @@ use Rattle.vms_spec.specs.Layout.{first}
 use Rattle.vms_spec.specs.Sets.{Device, Set}
 use Rattle.vms_spec.specs.Images.{Image, default_image}
 use Rattle.vms_spec.specs.Readiness.{is_normal, is_ready}
-use Rattle.vms_spec.specs.Shipped.{set_0, set_1, set_2, set_3, set_4}
+use Rattle.vms_spec.specs.Shipped.{set_4}
 use Rattle.vms_spec.proofs.Boxes.{counted_set, subsection_set, tested_set, mixed_set}
 
 -- whether each device's default image is ready
 abbrev defaults_are_ready : Set → Bool
 defaults_are_ready set = list_all (λ (d : Device). is_ready set d (default_image set d)) set.devices
-
-writes_the_defaults_of_set_0 : defaults_are_ready set_0 ≡ true
-unfolding first
-writes_the_defaults_of_set_0 = refl
-
-writes_the_defaults_of_set_1 : defaults_are_ready set_1 ≡ true
-unfolding first
-writes_the_defaults_of_set_1 = refl
-
-writes_the_defaults_of_set_2 : defaults_are_ready set_2 ≡ true
-unfolding first
-writes_the_defaults_of_set_2 = refl
-
-writes_the_defaults_of_set_3 : defaults_are_ready set_3 ≡ true
-unfolding first
-writes_the_defaults_of_set_3 = refl
 
 writes_the_defaults_of_set_4 : defaults_are_ready set_4 ≡ true
 unfolding first
@@ -39,17 +23,9 @@ of_box test set image = list_all (λ (d : Device). test set d image) set.devices
 abbrev image_of : List (Option ℕ) → List ℕ → Image
 image_of came numbers = record { version = 1; came = came; numbers = map pos numbers }
 
-writes_a_full_array : of_box is_ready counted_set (image_of [] (2 ∷ 1 ∷ 65535 ∷ [])) ≡ true
-unfolding first
-writes_a_full_array = refl
-
 writes_no_count_above_the_capacity : of_box is_normal counted_set (image_of [] (3 ∷ 0 ∷ 0 ∷ [])) ≡ false
 unfolding first
 writes_no_count_above_the_capacity = refl
-
-writes_no_element_past_the_count : of_box is_normal counted_set (image_of [] (1 ∷ 0 ∷ 7 ∷ [])) ≡ false
-unfolding first
-writes_no_element_past_the_count = refl
 
 writes_no_number_out_of_range : of_box is_normal counted_set (image_of [] (1 ∷ 65536 ∷ 0 ∷ [])) ≡ false
 unfolding first
@@ -62,18 +38,6 @@ writes_no_field_that_is_not_there = refl
 writes_no_failing_validation : of_box is_ready tested_set (image_of [] (10 ∷ 0 ∷ [])) ≡ false
 unfolding first
 writes_no_failing_validation = refl
-
-finds_it_normal_all_the_same : of_box is_normal tested_set (image_of [] (10 ∷ 0 ∷ [])) ≡ true
-unfolding first
-finds_it_normal_all_the_same = refl
-
-writes_needed_subsections : of_box is_ready subsection_set (image_of (Some 1 ∷ None ∷ []) (9 ∷ 8 ∷ 6 ∷ [])) ≡ true
-unfolding first
-writes_needed_subsections = refl
-
-writes_no_cell_of_a_subsection_that_did_not_come : of_box is_ready subsection_set (image_of (None ∷ None ∷ []) (9 ∷ 8 ∷ 6 ∷ [])) ≡ false
-unfolding first
-writes_no_cell_of_a_subsection_that_did_not_come = refl
 
 writes_no_subsection_that_is_not_needed : of_box is_ready subsection_set (image_of (Some 1 ∷ None ∷ []) (9 ∷ 5 ∷ 6 ∷ [])) ≡ false
 unfolding first

@@ -1,5 +1,6 @@
 -- How many cells a field has, and that its elements are no more than it has room for.
 use Rattle.std.proofs.Common.{◌≡◌, ℕ, zero, suc, ◌+◌, ◌*◌, ◌≤◌, List, length, refl, sym, ap, ◌∙◌, arith, length-append, ℤ}
+use Rattle.std.proofs.Math.Nat.{mul-le-mul_right}
 use Rattle.vms_kinds.specs.declared.Item.{Item}
 use Rattle.vms_kinds.specs.declared.Item.TheVariants.{Num, Equal, Unused, Struct}
 use Rattle.vms_spec.specs.declared.Count.{Count}
@@ -28,3 +29,15 @@ pub elements_fit : (c : Count) (own : ℕ → ℕ) → elements_of c own ≤ cap
 elements_fit One own = omega arith
 elements_fit (Fixed n) own = omega arith
 elements_fit (Counted by most) own = omega arith
+
+-- ---- room for elements
+
+-- an element of an array lies in it
+pub element_room : (e n size : ℕ) → suc e ≤ n → e * size + size ≤ n * size
+element_room e n size le = grind arith
+
+pub room_for_less : (a b s x n : ℕ) → a ≤ b → x + b * s ≤ n → x + a * s ≤ n
+room_for_less a b s x n le h = omega (arith, mul-le-mul_right {m = a} {n = b} s le)
+
+pub one_fits : (a s x n most : ℕ) → 1 ≤ a → x + a * s ≤ n → n ≤ most → s ≤ most
+one_fits a s x n most one h le = omega (arith, mul-le-mul_right {m = 1} {n = a} s one)

@@ -1,11 +1,11 @@
 -- A set that is well formed is good.
-use Rattle.std.proofs.Common.{◌≡◌, ℕ, zero, suc, ◌+◌, ◌<◌, List, [], ◌∷◌, ◌++◌, length, get_or, map, take, Option, Some, None, ℤ, pos, negsuc, ◌≤ℤ◌, refl, sym, ap, ◌∙◌, subst, arith, Bool, true, false, ◌&&◌, ◌||◌, ◌==◌, nat_lt, nat_le, if◌then◌else◌}
+use Rattle.std.proofs.Common.{◌≡◌, ℕ, zero, suc, ◌+◌, ◌<◌, List, ◌∷◌, ◌++◌, length, get_or, map, take, Option, Some, None, ℤ, pos, negsuc, ◌≤ℤ◌, refl, sym, ap, ◌∙◌, subst, arith, Bool, true, false, ◌&&◌, ◌==◌, nat_lt, nat_le, if◌then◌else◌, [], ◌||◌}
 use Rattle.std.specs.List.{AllByRecursion, flat_map, slice_get, list_any}
 use Rattle.std.specs.Str.{bytes_eq}
-use Rattle.std.proofs.lemmas.Bool.{and_parts, not-true, ltb-true, leb-true, eq-eqb}
+use Rattle.std.proofs.lemmas.Bool.{and_parts, not-true, ltb-true, leb-true, eq-eqb, and_from, or_parts}
 use Rattle.std.proofs.lemmas.Slice.Eq.{bytes_eq-Decides}
 use Rattle.std.proofs.lemmas.Int.{ints}
-use Rattle.std.proofs.lemmas.Option.{slice_get_within}
+use Rattle.std.proofs.lemmas.Option.{slice_get_within, get_or_from_slice_get}
 use Rattle.vms_kinds.specs.declared.Kind.{Kind}
 use Rattle.vms_kinds.specs.declared.Item.{Item}
 use Rattle.vms_kinds.specs.declared.Item.TheVariants.{Num, Equal, Unused, Struct}
@@ -64,11 +64,6 @@ get_none [] i d e = refl
 get_none (y ∷ xs) zero d e = cc
 get_none (y ∷ xs) (suc i) d e = get_none xs i d e
 
-pub get_at : {X : Type 0} (xs : List X) (i : ℕ) (d x : X) → slice_get xs i ≡ Some x → get_or xs i d ≡ x
-get_at [] i d x e = cc
-get_at (y ∷ xs) zero d x e = cc
-get_at (y ∷ xs) (suc i) d x e = get_at xs i d x e
-
 is_number : (item : Item) → is_num item ≡ true → IsNumber item
 is_number (Num kind) e = tt
 is_number (Equal kind z) e = cc
@@ -89,7 +84,7 @@ earlier d k j lt e = go (slice_get d.fields j) refl e
         let a = and_parts (is_num f.item && is_one f.count && has_no_test f.test) (nat_le f.since d.minimum) e in
         let b = and_parts (is_num f.item && is_one f.count) (has_no_test f.test) a.0 in
         let c = and_parts (is_num f.item) (is_one f.count) b.0 in
-        let g : f ≡ get_or d.fields j no_field = sym (get_at d.fields j no_field f h) in
+        let g : f ≡ get_or d.fields j no_field = sym (get_or_from_slice_get d.fields j f no_field h) in
         record {
           earlier = lt;
           there = slice_get_within d.fields j f h;
@@ -252,19 +247,9 @@ first_of p i (y ∷ xs) zero x e t f =
     let plus : i ≡ i + 0 = omega arith in
     ap (λ (b : Bool). if b then Some i else position p (suc i) xs) (ap p same ∙ t) ∙ ap (λ (k : ℕ). Some k) plus
 first_of p i (y ∷ xs) (suc k) x e t f =
-    let g = or_false (p y) (list_any p (take k xs)) f in
+    let g = or_parts (p y) (list_any p (take k xs)) f in
     let plus : suc i + k ≡ i + suc k = omega arith in
     ap (λ (b : Bool). if b then Some i else position p (suc i) xs) g.0 ∙ first_of p (suc i) xs k x e t g.1 ∙ ap (λ (k : ℕ). Some k) plus
-  where
-    or_false : (a b : Bool) → (a || b) ≡ false → (a ≡ false) × (b ≡ false)
-    or_false true b e = cc
-    or_false false b e = (refl, e)
-
-same_bytes : (name : List ℕ) → bytes_eq name name ≡ true
-same_bytes name = (bytes_eq-Decides name name).1 refl
-
-both : (a b : Bool) → a ≡ true → b ≡ true → (a && b) ≡ true
-both a b e f = ap (λ (a : Bool). a && b) e ∙ f
 
 some_names : (name : List ℕ) (subs : List Sub) → list_any (λ (s : Sub). bytes_eq s.desc.name name) subs ≡ is_one_of (map (λ (s : Sub). s.desc.name) subs) name
 some_names name [] = refl
@@ -308,7 +293,7 @@ module _ (set : Set) (well : WellFormed set) where
   struct_fits : (structs : List (List OneCell)) → AllFit structs → (m : ℕ) (o : Option Desc) → slice_get set.structs m ≡ o → Fit (desc_cells structs (get_or set.structs m no_desc))
   struct_fits structs all m None e = subst (λ (d : Desc). Fit (desc_cells structs d)) (sym (get_none set.structs m no_desc e)) tt
   struct_fits structs all m (Some d) e =
-      subst (λ (d : Desc). Fit (desc_cells structs d)) (sym (get_at set.structs m no_desc d e))
+      subst (λ (d : Desc). Fit (desc_cells structs d)) (sym (get_or_from_slice_get set.structs m d no_desc e))
       (fit_fields structs all d.fields 0 d.fields (fields_fit m d (struct_rules set.structs m d) (struct_clean m d e)))
 
   structs_fit : (m : ℕ) → AllFit (first desc_cells set.structs m)
@@ -338,7 +323,7 @@ module _ (set : Set) (well : WellFormed set) where
       let new = not-true (list_any (is_same_device d.desc.name d.instance) (take k set.devices)) (device_parts k d e).0.own.1.0 in
       let plus : 0 + k ≡ k = omega arith in
       first_of (is_same_device d.desc.name d.instance) 0 set.devices k d e
-      (both (bytes_eq d.desc.name d.desc.name) (d.instance == d.instance) (same_bytes d.desc.name) (eq-eqb d.instance d.instance refl)) new
+      (and_from (bytes_eq d.desc.name d.desc.name) (d.instance == d.instance) ((bytes_eq-Decides d.desc.name d.desc.name).1 refl) (eq-eqb d.instance d.instance refl)) new
       ∙ ap (λ (k : ℕ). Some k) plus
 
   pub sub_found : (k j : ℕ) (d : Device) (s : Sub) → slice_get set.devices k ≡ Some d → slice_get d.subs j ≡ Some s → find_sub 0 d.subs s.desc.name ≡ Some j
@@ -346,15 +331,15 @@ module _ (set : Set) (well : WellFormed set) where
       let name = s.desc.name in
       let new = not-true (is_one_of (map (λ (e : Sub). e.desc.name) (take j d.subs)) name) (sub_clean k j d s e f).own.1.0 in
       let plus : 0 + j ≡ j = omega arith in
-      first_of (λ (s : Sub). bytes_eq s.desc.name name) 0 d.subs j s f (same_bytes name) (some_names name (take j d.subs) ∙ new) ∙ ap (λ (k : ℕ). Some k) plus
+      first_of (λ (s : Sub). bytes_eq s.desc.name name) 0 d.subs j s f ((bytes_eq-Decides name name).1 refl) (some_names name (take j d.subs) ∙ new) ∙ ap (λ (k : ℕ). Some k) plus
 
   struct_sound : (j : ℕ) → j < length set.structs → (o : Option Desc) → slice_get set.structs j ≡ o → IsSound (get_or set.structs j no_desc)
   struct_sound j lt None e = absurd (beyond set.structs j lt e)
-  struct_sound j lt (Some d) e = subst IsSound (sym (get_at set.structs j no_desc d e)) (sound j d (struct_rules set.structs j d) (struct_clean j d e))
+  struct_sound j lt (Some d) e = subst IsSound (sym (get_or_from_slice_get set.structs j d no_desc e)) (sound j d (struct_rules set.structs j d) (struct_clean j d e))
 
   struct_constants : (j : ℕ) (o : Option Desc) → slice_get set.structs j ≡ o → ConstantsFit (get_or set.structs j no_desc).fields
   struct_constants j None e = subst (λ (d : Desc). ConstantsFit d.fields) (sym (get_none set.structs j no_desc e)) tt
-  struct_constants j (Some d) e = subst (λ (d : Desc). ConstantsFit d.fields) (sym (get_at set.structs j no_desc d e)) (constants_of j d (struct_rules set.structs j d) (struct_clean j d e))
+  struct_constants j (Some d) e = subst (λ (d : Desc). ConstantsFit d.fields) (sym (get_or_from_slice_get set.structs j d no_desc e)) (constants_of j d (struct_rules set.structs j d) (struct_clean j d e))
 
   pub well_good : FitsHeads set → IsGood set
   well_good heads = record {

@@ -1,5 +1,5 @@
 -- Tests on numbers, for the reasons to refuse a stream.
-use Rattle.std.specs.Prelude.{ℕ, Bool, true, false, ◌||◌, ◌==◌, ◌<◌, nat_lt, get_or, List, [], ◌∷◌, ℤ, pos, negsuc}
+use Rattle.std.specs.Prelude.{ℕ, Bool, true, false, ◌==◌, nat_lt, List, ◌∷◌, ℤ, pos, negsuc, ◌||◌, []}
 use Rattle.vms_kinds.specs.declared.Kind.{Kind}
 use Rattle.vms_kinds.specs.declared.Kind.TheVariants.{Bool as Truth}
 
@@ -21,7 +21,3 @@ is_above (negsuc n) most = false
 abbrev pub exceeds : List ℕ → ℤ → Bool
 exceeds [] z = false
 exceeds (most ∷ capacities) z = is_above z most || exceeds capacities z
-
--- each number of the list is below 256
-abbrev pub IsBytes : List ℕ → Type 0
-IsBytes bytes = (i : ℕ) → get_or bytes i 0 < 256

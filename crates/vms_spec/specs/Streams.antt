@@ -122,11 +122,11 @@ pub record AreReady (set : Set) (images : List Image) : Type 0 where
 
 -- the subsections that came, in the description's order, where the cells of the first of these begin at a place
 abbrev pub written_subs : Set → Device → Image → ℕ → List Sub → List (Option ℕ) → List ℕ
-written_subs set d image slice_get [] came = []
-written_subs set d image slice_get (s ∷ subs) [] = []
-written_subs set d image slice_get (s ∷ subs) (None ∷ came) = written_subs set d image (slice_get + length (desc_cells (struct_cells set) s.desc)) subs came
-written_subs set d image slice_get (s ∷ subs) (Some v ∷ came) =
-    sub_head s.desc.name v ++ zeroed image.numbers (sub_slots set s v image.numbers slice_get) ++ written_subs set d image (slice_get + length (desc_cells (struct_cells set) s.desc)) subs came
+written_subs set d image at [] came = []
+written_subs set d image at (s ∷ subs) [] = []
+written_subs set d image at (s ∷ subs) (None ∷ came) = written_subs set d image (at + length (desc_cells (struct_cells set) s.desc)) subs came
+written_subs set d image at (s ∷ subs) (Some v ∷ came) =
+    sub_head s.desc.name v ++ zeroed image.numbers (sub_slots set s v image.numbers at) ++ written_subs set d image (at + length (desc_cells (struct_cells set) s.desc)) subs came
 
 abbrev pub written_section : Set → Device → Image → ℕ → List ℕ
 written_section set d image id =

@@ -3,7 +3,7 @@ use Rattle.std.specs.Prelude.{◌≡◌, true, false, ℕ, List, [], ◌∷◌, 
 use Rattle.vms_spec.specs.declared.Reason.{Reason}
 use Rattle.vms_spec.specs.Sets.{Set}
 use Rattle.vms_spec.specs.Readings.{Accepted, Refused}
-use Rattle.vms_spec.specs.Numbers.{IsBytes}
+use Rattle.vms_kinds.specs.Bytes.{IsBytes}
 use Rattle.vms_spec.specs.Units.{Piece, spell, spelled}
 use Rattle.vms_stream.specs.Dues.{Due, May, due, holds}
 use Rattle.vms_spec.specs.SoFar.{opened}

@@ -3,8 +3,8 @@
 use Rattle.std.specs.Prelude.{◌≡◌, ℕ, ◌+◌, ◌≤◌, List, [], ◌++◌, length, get_or, take, slice_set, Bool, true, false, Option, Some, None, ◌<◌}
 use Rattle.std.specs.List.{slice_get}
 use Rattle.vms_spec.specs.declared.Reason.{Reason}
+use Rattle.vms_kinds.specs.Bytes.{IsBytes}
 use Rattle.vms_spec.specs.declared.Reason.TheVariants as reasons
-use Rattle.vms_spec.specs.Numbers.{IsBytes}
 use Rattle.vms_spec.specs.Sets.{Device, Set}
 use Rattle.vms_spec.specs.Images.{Image}
 use Rattle.vms_spec.specs.Streams.{IsReady, IsConfiguration, IsTrailer, optional, configuration, trailer, written_section, written, AreReady}

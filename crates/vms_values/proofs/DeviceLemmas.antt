@@ -1,7 +1,6 @@
 -- Devices that are read one after the other, and what the whole text says.
-use Rattle.std.proofs.Common.{◌≡◌, ℕ, ◌<◌, Bool, true, false, List, ◌++◌, length, Option, Some, None, Result, Ok, Err, refl, sym, ap, ◌∙◌, subst, rules}
+use Rattle.std.proofs.Common.{◌≡◌, ℕ, ◌<◌, List, ◌++◌, length, Option, Some, None, Result, Ok, Err, refl, sym, ap, ◌∙◌, subst, rules}
 use Rattle.std.specs.Option.{ForSome}
-use Rattle.std.specs.Bool.{OnTrue}
 use Rattle.vms_spec.specs.Sets.{Set}
 use Rattle.vms_spec.specs.Spelling.{first_line}
 use Rattle.vms_spec.specs.ValuesReading.{BadLine, ReadDevice, ReadAll, ValuesRead, read_devices, ended, values_read, after_machine, machine_named, rest_of}
@@ -56,7 +55,3 @@ top set machines text start same s =
 
 pub said_so : (set : Set) (text : List ℕ) (v : ValuesRead) (result : Result Given LineFault) → values_read set text ≡ v → ReadsBy set v result → ReadsBy set (values_read set text) result
 said_so set text v result e r = subst (λ (x : ValuesRead). ReadsBy set x result) (sym e) r
-
-pub on_true : (b : Bool) {P : Type 0} → b ≡ true → OnTrue b P → P
-on_true true e h = h
-on_true false e h = cc

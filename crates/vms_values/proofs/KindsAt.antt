@@ -21,7 +21,7 @@ use Rattle.vms_walk.specs.Steps.{table, cells_in}
 use Rattle.vms_spec.proofs.Prefixes.{all_below, struct_cells_at}
 use Rattle.vms_walk.proofs.Spots.{cells_table}
 use Rattle.vms_desc.proofs.Clean.{struct_clean}
-use Rattle.vms_write.proofs.Formed.{at_get}
+use Rattle.std.proofs.lemmas.Option.{slice_get-get_or}
 use Rattle.vms_values.specs.Taken.{AreKinds, ElementKinds, part_cells}
 
 abbrev kinds_in : List Cell → List Kind
@@ -139,6 +139,6 @@ module _ (set : Set) (i : ℕ) (kinds : List Kind) (are : kinds ≡ kinds_at set
       let none : Sub = record { desc = no_desc; needed = AtLeast 0 } in
       let from : 0 + length own ≡ own_cells set d = omega arith in
       let rest : AreKinds kinds (own_cells set d) others = subst (λ (k : ℕ). AreKinds kinds k others) from (rest_kinds kinds 0 own others all_kinds) in
-      let here : slice_get d.subs j ≡ Some (sub_at d j) = at_get d.subs j none lt in
+      let here : slice_get d.subs j ≡ Some (sub_at d j) = slice_get-get_or d.subs j none lt in
       subst (λ (cs : List (List Cell)). AreKinds kinds (first_cell set (parts.Sub i j)) (desc_cells cs (sub_at d j).desc)) (sym (cells_table set))
       (subs_kinds set kinds (own_cells set d) d.subs j (sub_at d j) here rest)

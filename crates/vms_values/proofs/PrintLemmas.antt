@@ -1,26 +1,23 @@
 -- The parts of a printed text.
-use Rattle.std.proofs.Common.{◌≡◌, ℕ, suc, ◌+◌, ◌<◌, List, [], ◌∷◌, ◌++◌, length, get_or, drop, Option, Result, codes, refl, sym, ap, ◌∙◌, subst, arith, append_assoc, length-drop}
+use Rattle.std.proofs.Common.{◌≡◌, ℕ, suc, ◌+◌, ◌<◌, List, [], ◌∷◌, ◌++◌, length, get_or, drop, Result, codes, refl, sym, ap, ◌∙◌, subst, arith, append_assoc, length-drop}
 use Rattle.std.proofs.lemmas.List.{drop_more}
-use Rattle.std.specs.Io.KnownBytes.{Appends}
+use Rattle.vms_io.specs.Told.{Outlet}
+use Rattle.vms_io.specs.Writing.{Puts, Wrote}
+use Rattle.vms_io.proofs.WritingLemmas.{wrote_as, wrote_behind}
 use Rattle.vms_spec.specs.Sets.{Device, Set}
 use Rattle.vms_desc.specs.Described.{device_at}
 use Rattle.vms_spec.specs.Layout.{no_desc}
 use Rattle.vms_spec.specs.Images.{Image}
 use Rattle.vms_spec.specs.Values.{device_lines, devices_lines}
-use Rattle.vms_values.specs.Written.{Writes}
 use Rattle.vms_values.specs.Printing.{IsOf, AreOf}
-use Rattle.vms_values.proofs.Writing.{writes_more}
 
-pub element_text : {T E : Type 0} (old mid new : Option (List ℕ)) (path digits piece : List ℕ) (result : Result T E) → Appends old mid path → piece ≡ digits
-    → Writes mid new (codes "[" ++ (piece ++ (codes "]" ++ []))) result → Writes old new (path ++ codes "[" ++ digits ++ codes "]") result
-element_text old mid new path digits piece result p e w =
+-- an element's path, of three pieces behind that of its array
+pub element_text : {T E : Type 0} {a b : Outlet} (path digits piece : List ℕ) (c : Outlet) (result : Result T E) → Puts a b path → piece ≡ digits
+    → Wrote b c (codes "[" ++ (piece ++ (codes "]" ++ []))) result → Wrote a c (path ++ codes "[" ++ digits ++ codes "]") result
+element_text {a = a} path digits piece c result p e w =
     let s : path ++ (codes "[" ++ (piece ++ (codes "]" ++ []))) ≡ path ++ codes "[" ++ digits ++ codes "]" =
     ap (λ (d : List ℕ). path ++ (codes "[" ++ (d ++ codes "]"))) e ∙ sym (append_assoc path (codes "[") (digits ++ codes "]")) ∙ sym (append_assoc (path ++ codes "[") digits (codes "]")) in
-    subst (λ (t : List ℕ). Writes old new t result) s (writes_more old mid new path _ result p w)
-
--- what is written is that text
-pub same_text : {T E : Type 0} (old new : Option (List ℕ)) (text other : List ℕ) (result : Result T E) → text ≡ other → Writes old new text result → Writes old new other result
-same_text old new text other result e w = subst (λ (t : List ℕ). Writes old new t result) e w
+    wrote_as result a c s (wrote_behind result c (codes "[" ++ (piece ++ (codes "]" ++ []))) p w)
 
 -- ---- what is left of a list
 

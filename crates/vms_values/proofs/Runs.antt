@@ -10,7 +10,7 @@ use Rattle.vms_spec.specs.Sets.{Field, Set}
 use Rattle.vms_spec.specs.Rules.{uses_below}
 use Rattle.vms_spec.specs.Layout.{Cell, item_size, field_cells, cells_from, struct_cells, numbers_of, elements_of, capacity_of}
 use Rattle.vms_spec.specs.Values.{Printer, printers, item_lines, element_lines, array_lines, field_lines}
-use Rattle.vms_spec.proofs.Sizes.{field_size, elements_fit}
+use Rattle.vms_spec.proofs.Sizes.{field_size, elements_fit, one_fits, room_for_less}
 use Rattle.vms_desc.specs.Asks.{field_at, own_numbers}
 use Rattle.vms_desc.specs.Formed.{is_well_formed}
 use Rattle.vms_desc.specs.Parts.{desc_at}
@@ -19,7 +19,7 @@ use Rattle.vms_walk.specs.declared.fields.PartAt.{PartAt}
 use Rattle.vms_walk.specs.Steps.{HasSpot, size_in, table, cells_in}
 use Rattle.vms_desc.proofs.Ranks.{item_rank, part_rank, reach_whole, uses_more, rank_below}
 use Rattle.vms_walk.proofs.Spots.{next_field, cells_table}
-use Rattle.vms_walk.proofs.Walking.{fields_at, one_fits, room_for_less}
+use Rattle.vms_walk.proofs.Walking.{fields_at}
 use Rattle.vms_values.specs.Printing.{IsRun, run_lines}
 use Rattle.vms_values.proofs.Printers.{cells_of, printers_cells}
 

@@ -72,9 +72,7 @@ fn read_images(alloc: Global, set: &DescSet, reading: &mut Reading) -> Result<Ve
     let mut images = Vec::new(alloc);
     for device in 0..set.parts().devices.as_slice().len() as u32 {
         let image = read_image(alloc, set, device, reading)?;
-        if !push_image(&mut images, image) {
-            return Err(LineFault::NoMemory);
-        }
+        push_image(&mut images, image)?;
     }
     Ok(images)
 }

@@ -1,7 +1,8 @@
 // Prints the path of a cell.
 ghost use Rattle.vms_spec.specs.declared.TheConstants.{MOST_ITEMS};
 ghost use Rattle.std.specs.Prelude.{◌≡◌, ◌<◌, ◌≤◌, ◌*◌, ◌++◌, [], true, length, get_or};
-ghost use Rattle.vms_io.specs.Causes.{HasCause};
+ghost use Rattle.vms_io.specs.Told.{outlet};
+ghost use Rattle.vms_io.specs.Writing.{Wrote};
 ghost use Rattle.vms_spec.specs.Layout.{capacity_of, device_cells};
 ghost use Rattle.vms_spec.specs.Places.{own_cell_count};
 ghost use Rattle.vms_spec.specs.Rules.{uses_below};
@@ -10,7 +11,6 @@ ghost use Rattle.vms_desc.specs.Parts.{HasPart, desc_at};
 ghost use Rattle.vms_parts.specs.Views.{field_of};
 ghost use Rattle.vms_walk.specs.Steps.{size_in};
 ghost use Rattle.vms_elements.specs.Parts.{cell_name};
-ghost use Rattle.vms_values.specs.Written.{Writes};
 ghost use Rattle.vms_values.specs.Paths.{path_text};
 ghost use Rattle.vms_values.specs.Naming.{part_names, item_names, field_name, IsInPart};
 
@@ -31,11 +31,9 @@ pub fn print_path<K: Sink>(
     requires is_device { device < length (described set.now).devices }
     requires is_cell { let d = device_at (described set.now) device in
         cell < length (device_cells (described set.now) d) }
-    ensures written { let set = described set.now in
+    ensures { let set = described set.now in
         let text = cell_name set (device_at set device) cell in
-        Writes (K.written sink.old) (K.written sink.new) text result }
-    ensures cause { HasCause (K.faults sink.old) (K.faults sink.new) result }
-    ensures promise { K.promise sink.new ≡ K.promise sink.old }
+        Wrote (outlet K.Sink sink.old) (outlet K.Sink sink.new) text result }
 {
     let own = part_of(set, device, cell);
     match print_name(set, own.part, own.cell, &Path::Top, sink) {
@@ -89,11 +87,9 @@ fn print_name<K: Sink>(
         own_cell_count (described set.now) d ≤ MOST_ITEMS }
     requires cell { let d = desc_at (described set.now) part in
         cell < own_cell_count (described set.now) d }
-    ensures written { let names = part_names (described set.now) part in
+    ensures { let names = part_names (described set.now) part in
         let text = path_text path.now ++ get_or names cell [] in
-        Writes (K.written sink.old) (K.written sink.new) text result }
-    ensures cause { HasCause (K.faults sink.old) (K.faults sink.new) result }
-    ensures promise { K.promise sink.new ≡ K.promise sink.old }
+        Wrote (outlet K.Sink sink.old) (outlet K.Sink sink.new) text result }
 {
     let mut left = cell;
     for field in 0..set.field_count(part) {
@@ -120,11 +116,9 @@ fn print_element<K: Sink>(
     requires small { size_in (described set.now) field.now.item ≤ MOST_ITEMS }
     requires cell { let size = size_in (described set.now) field.now.item in
         cell < capacity_of field.now.count * size }
-    ensures written { let name = field_name (described set.now) (field_of field.now) cell in
+    ensures { let name = field_name (described set.now) (field_of field.now) cell in
         let text = path_text path.now ++ name in
-        Writes (K.written sink.old) (K.written sink.new) text result }
-    ensures cause { HasCause (K.faults sink.old) (K.faults sink.new) result }
-    ensures promise { K.promise sink.new ≡ K.promise sink.old }
+        Wrote (outlet K.Sink sink.old) (outlet K.Sink sink.new) text result }
 {
     let size = set.item_cells(field.item);
     let (index, rest) = (cell / size, cell % size);
@@ -156,11 +150,9 @@ fn print_inside<K: Sink>(
     requires reaches { uses_below (length (described set.now).structs) item.now ≡ true }
     requires small { size_in (described set.now) item.now ≤ MOST_ITEMS }
     requires cell { cell < size_in (described set.now) item.now }
-    ensures written { let names = item_names (described set.now) item.now in
+    ensures { let names = item_names (described set.now) item.now in
         let text = path_text path.now ++ get_or names cell [] in
-        Writes (K.written sink.old) (K.written sink.new) text result }
-    ensures cause { HasCause (K.faults sink.old) (K.faults sink.new) result }
-    ensures promise { K.promise sink.new ≡ K.promise sink.old }
+        Wrote (outlet K.Sink sink.old) (outlet K.Sink sink.new) text result }
 {
     match item {
         Item::Struct(number) => {

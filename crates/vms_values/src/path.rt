@@ -1,7 +1,7 @@
 // Where a cell stands in a device.
 ghost use Rattle.std.specs.Prelude.{◌≡◌};
-ghost use Rattle.vms_io.specs.Causes.{HasCause};
-ghost use Rattle.vms_values.specs.Written.{Writes};
+ghost use Rattle.vms_io.specs.Told.{outlet};
+ghost use Rattle.vms_io.specs.Writing.{Wrote};
 ghost use Rattle.vms_values.specs.Paths.{path_text};
 
 use crate::lines::write_pieces;
@@ -29,9 +29,7 @@ pub(crate) enum Path<'a> {
 
 /// Appends the text of a path.
 pub(crate) fn write_path<K: Sink>(sink: &mut K, path: &Path) -> Result<(), Failed>
-    ensures written { Writes (K.written sink.old) (K.written sink.new) (path_text path.now) result }
-    ensures cause { HasCause (K.faults sink.old) (K.faults sink.new) result }
-    ensures promise { K.promise sink.new ≡ K.promise sink.old }
+    ensures { Wrote (outlet K.Sink sink.old) (outlet K.Sink sink.new) (path_text path.now) result }
 {
     match path {
         Path::Top => Ok(()),

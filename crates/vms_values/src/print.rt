@@ -1,13 +1,13 @@
 // Prints the values text.
 ghost use Rattle.std.specs.Prelude.{◌≡◌, ◌<◌, length, get_or, None, map};
 ghost use Rattle.std.specs.Option.{ForSome};
-ghost use Rattle.vms_io.specs.Causes.{HasCause};
+ghost use Rattle.vms_io.specs.Told.{outlet};
+ghost use Rattle.vms_io.specs.Writing.{Wrote};
 ghost use Rattle.vms_spec.specs.Images.{own_cells};
 ghost use Rattle.vms_spec.specs.Values.{values_text, machine_line, devices_lines, device_lines, sub_lines};
 ghost use Rattle.vms_desc.specs.Described.{described, device_at};
 ghost use Rattle.vms_parts.specs.Views.{set_of, device_of};
 ghost use Rattle.vms_image.specs.Typed.{state_of};
-ghost use Rattle.vms_values.specs.Written.{Writes};
 ghost use Rattle.vms_values.specs.Printing.{AreOf, IsOf, machine_of, section_text, sub_text, whole_sub};
 
 use crate::lines::write_pieces;
@@ -30,11 +30,9 @@ pub fn print_values<K: Sink>(
     requires named { ForSome machine (λ m. m < length (described set.now).machines) }
     requires one_each { AreOf (described set.now) (described set.now).devices
         (map state_of images.now) }
-    ensures written { let name = machine_of (described set.now) machine in
+    ensures { let name = machine_of (described set.now) machine in
         let text = values_text (described set.now) name (map state_of images.now) in
-        Writes (K.written sink.old) (K.written sink.new) text result }
-    ensures cause { HasCause (K.faults sink.old) (K.faults sink.new) result }
-    ensures promise { K.promise sink.new ≡ K.promise sink.old }
+        Wrote (outlet K.Sink sink.old) (outlet K.Sink sink.new) text result }
 {
     match print_all(set, machine, images, sink) {
         Ok(()) => Ok(()),
@@ -51,11 +49,9 @@ fn print_all<K: Sink>(
     requires named { ForSome machine (λ m. m < length (described set.now).machines) }
     requires one_each { AreOf (described set.now) (described set.now).devices
         (map state_of images.now) }
-    ensures written { let name = machine_of (described set.now) machine in
+    ensures { let name = machine_of (described set.now) machine in
         let text = values_text (described set.now) name (map state_of images.now) in
-        Writes (K.written sink.old) (K.written sink.new) text result }
-    ensures cause { HasCause (K.faults sink.old) (K.faults sink.new) result }
-    ensures promise { K.promise sink.new ≡ K.promise sink.old }
+        Wrote (outlet K.Sink sink.old) (outlet K.Sink sink.new) text result }
 {
     print_machine(set.parts(), machine, sink)?;
     print_devices(set, images, sink)
@@ -63,10 +59,8 @@ fn print_all<K: Sink>(
 
 fn print_machine<K: Sink>(parts: &Parts, machine: Option<u32>, sink: &mut K) -> Result<(), Failed>
     requires { ForSome machine (λ m. m < length (set_of parts.now).machines) }
-    ensures written { let text = machine_line (machine_of (set_of parts.now) machine) in
-        Writes (K.written sink.old) (K.written sink.new) text result }
-    ensures cause { HasCause (K.faults sink.old) (K.faults sink.new) result }
-    ensures promise { K.promise sink.new ≡ K.promise sink.old }
+    ensures { let text = machine_line (machine_of (set_of parts.now) machine) in
+        Wrote (outlet K.Sink sink.old) (outlet K.Sink sink.new) text result }
 {
     match machine {
         Some(machine) => {
@@ -80,11 +74,9 @@ fn print_machine<K: Sink>(parts: &Parts, machine: Option<u32>, sink: &mut K) -> 
 fn print_devices<K: Sink>(set: &DescSet, images: &[Image], sink: &mut K) -> Result<(), Failed>
     requires one_each { AreOf (described set.now) (described set.now).devices
         (map state_of images.now) }
-    ensures written { let set = described set.now in
+    ensures { let set = described set.now in
         let text = devices_lines set set.devices (map state_of images.now) in
-        Writes (K.written sink.old) (K.written sink.new) text result }
-    ensures cause { HasCause (K.faults sink.old) (K.faults sink.new) result }
-    ensures promise { K.promise sink.new ≡ K.promise sink.old }
+        Wrote (outlet K.Sink sink.old) (outlet K.Sink sink.new) text result }
 {
     for device in 0..set.parts().devices.as_slice().len() as u32 {
         let image = &images[device as usize];
@@ -97,11 +89,9 @@ fn print_device<K: Sink>(shown: Shown, device: u32, sink: &mut K) -> Result<(), 
     requires is_device { device < length (described shown.set.now).devices }
     requires of { let set = described shown.set.now in
         IsOf set (device_at set device) (state_of shown.image.now) }
-    ensures written { let set = described shown.entry.set.now in
+    ensures { let set = described shown.entry.set.now in
         let text = device_lines set (device_at set device) (state_of shown.entry.image.now) in
-        Writes (K.written sink.old) (K.written sink.new) text result }
-    ensures cause { HasCause (K.faults sink.old) (K.faults sink.new) result }
-    ensures promise { K.promise sink.new ≡ K.promise sink.old }
+        Wrote (outlet K.Sink sink.old) (outlet K.Sink sink.new) text result }
 {
     let version = shown.image.version();
     print_section(shown.set.device(device), version, sink)?;
@@ -117,10 +107,8 @@ fn print_device<K: Sink>(shown: Shown, device: u32, sink: &mut K) -> Result<(), 
 
 // The line of a section.
 fn print_section<K: Sink>(device: &Device, version: u32, sink: &mut K) -> Result<(), Failed>
-    ensures written { let text = section_text (device_of device.now) version in
-        Writes (K.written sink.old) (K.written sink.new) text result }
-    ensures cause { HasCause (K.faults sink.old) (K.faults sink.new) result }
-    ensures promise { K.promise sink.new ≡ K.promise sink.old }
+    ensures { let text = section_text (device_of device.now) version in
+        Wrote (outlet K.Sink sink.old) (outlet K.Sink sink.new) text result }
 {
     let name = device.desc.name.as_bytes();
     let (mut instance, mut number) = (Buffer::new(), Buffer::new());
@@ -137,13 +125,11 @@ fn print_subs<K: Sink>(shown: Shown, device: u32, sink: &mut K) -> Result<(), Fa
     requires is_device { device < length (described shown.set.now).devices }
     requires of { let set = described shown.set.now in
         IsOf set (device_at set device) (state_of shown.image.now) }
-    ensures written { let set = described shown.entry.set.now in
+    ensures { let set = described shown.entry.set.now in
         let d = device_at set device in
         let image = state_of shown.entry.image.now in
         let text = sub_lines set image.numbers (own_cells set d) d.subs image.came in
-        Writes (K.written sink.old) (K.written sink.new) text result }
-    ensures cause { HasCause (K.faults sink.old) (K.faults sink.new) result }
-    ensures promise { K.promise sink.new ≡ K.promise sink.old }
+        Wrote (outlet K.Sink sink.old) (outlet K.Sink sink.new) text result }
 {
     for sub in 0..shown.set.sub_count(device) {
         print_sub(shown, device, sub, sink)?;
@@ -157,12 +143,10 @@ fn print_sub<K: Sink>(shown: Shown, device: u32, sub: u32, sink: &mut K) -> Resu
         sub < length (device_at set device).subs }
     requires of { let set = described shown.set.now in
         IsOf set (device_at set device) (state_of shown.image.now) }
-    ensures written { let set = described shown.entry.set.now in
+    ensures { let set = described shown.entry.set.now in
         let image = state_of shown.entry.image.now in
         let text = whole_sub set device sub image.numbers (get_or image.came sub None) in
-        Writes (K.written sink.old) (K.written sink.new) text result }
-    ensures cause { HasCause (K.faults sink.old) (K.faults sink.new) result }
-    ensures promise { K.promise sink.new ≡ K.promise sink.old }
+        Wrote (outlet K.Sink sink.old) (outlet K.Sink sink.new) text result }
 {
     let part = Part::Sub(device, sub);
     let desc = shown.set.desc(part);
@@ -177,10 +161,8 @@ fn print_sub<K: Sink>(shown: Shown, device: u32, sub: u32, sink: &mut K) -> Resu
 
 // The line of a subsection: the version at which it came, or a dash.
 fn print_sub_line<K: Sink>(name: &[u8], came: Option<u32>, sink: &mut K) -> Result<(), Failed>
-    ensures written { let text = sub_text name.now came in
-        Writes (K.written sink.old) (K.written sink.new) text result }
-    ensures cause { HasCause (K.faults sink.old) (K.faults sink.new) result }
-    ensures promise { K.promise sink.new ≡ K.promise sink.old }
+    ensures { let text = sub_text name.now came in
+        Wrote (outlet K.Sink sink.old) (outlet K.Sink sink.new) text result }
 {
     match came {
         Some(version) => {

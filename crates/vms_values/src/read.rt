@@ -1,6 +1,5 @@
 // Reads the lines of sections, and what all readings share.
-ghost use Rattle.std.specs.Prelude.{◌≡◌, ◌+◌, ◌<◌, ◌++◌, ◌∷◌, [], length, codes};
-ghost use Rattle.std.specs.Bool.{OnTrue};
+ghost use Rattle.std.specs.Prelude.{◌≡◌, ◌+◌, ◌<◌, ◌++◌, ◌∷◌, [], length, codes, OnOk};
 ghost use Rattle.std.specs.Str.{bytes_eq};
 ghost use Rattle.vms_spec.specs.Spelling.{first_line};
 ghost use Rattle.vms_spec.specs.ValuesReading.{section_line, is_line};
@@ -15,6 +14,7 @@ use crate::text::is_joined;
 use itoa::Buffer;
 use vms_desc::Device;
 use vms_image::Image;
+use vms_io::NoMemory;
 use vms_spec::ValuesReason;
 use vms_words::{NextLine, next_line};
 
@@ -28,11 +28,12 @@ pub(crate) fn bad(lines: &Lines, reason: ValuesReason) -> LineFault
     }
 }
 
-/// Appends an image, or tells that memory is wanting.
-pub(crate) fn push_image(images: &mut Vec<Image>, image: Image) -> bool
-    ensures { OnTrue result (images.new.items ≡ images.old.items ++ image ∷ []) }
+/// Appends an image.
+pub(crate) fn push_image(images: &mut Vec<Image>, image: Image) -> Result<(), NoMemory>
+    ensures { OnOk result (images.new.items ≡ images.old.items ++ image ∷ []) }
 {
-    images.push(image).is_ok()
+    images.push(image)?;
+    Ok(())
 }
 
 /// The line of a section.

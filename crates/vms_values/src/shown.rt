@@ -3,7 +3,8 @@ ghost use Rattle.vms_values.specs.declared.line.TheConstants.{LONGEST};
 ghost use Rattle.vms_spec.specs.declared.TheConstants.{MOST_ITEMS};
 ghost use Rattle.std.specs.Prelude.{◌≡◌, ◌+◌, ◌*◌, ◌<◌, ◌≤◌, ◌++◌, [], true, codes, length};
 ghost use Rattle.std.specs.Fmt.{signed_decimal};
-ghost use Rattle.vms_io.specs.Causes.{HasCause};
+ghost use Rattle.vms_io.specs.Told.{outlet};
+ghost use Rattle.vms_io.specs.Writing.{Wrote};
 ghost use Rattle.vms_kinds.specs.declared.Item.TheVariants as items;
 ghost use Rattle.vms_spec.specs.Rules.{uses_below};
 ghost use Rattle.vms_spec.specs.Values.{printers, line_end, desc_lines, element_lines, item_lines};
@@ -11,7 +12,6 @@ ghost use Rattle.vms_desc.specs.Described.{described};
 ghost use Rattle.vms_desc.specs.Parts.{desc_at};
 ghost use Rattle.vms_parts.specs.Views.{field_of};
 ghost use Rattle.vms_walk.specs.Steps.{HasSpot, size_in};
-ghost use Rattle.vms_values.specs.Written.{Writes};
 ghost use Rattle.vms_values.specs.Printing.{IsRun, run_lines, below, below_part, Stays};
 
 use crate::line::Line;
@@ -39,12 +39,10 @@ struct Run {
 /// Appends the lines of a part.
 pub(crate) fn print_lines<K: Sink>(shown: Shown, spot: PartAt, sink: &mut K) -> Result<(), Failed>
     requires spot { HasSpot (described shown.set.now) spot shown.image.now.numbers }
-    ensures written { let set = described shown.entry.set.now in
+    ensures { let set = described shown.entry.set.now in
         let d = desc_at set spot.part in
         let text = desc_lines (printers set) d [] shown.entry.image.now.numbers spot.base in
-        Writes (K.written sink.old) (K.written sink.new) text result }
-    ensures cause { HasCause (K.faults sink.old) (K.faults sink.new) result }
-    ensures promise { K.promise sink.new ≡ K.promise sink.old }
+        Wrote (outlet K.Sink sink.old) (outlet K.Sink sink.new) text result }
 {
     print_part(shown, spot, &mut Line::new(), sink)
 }
@@ -64,10 +62,8 @@ fn print_part<K: Sink>(
         let d = desc_at set spot.part in
         let n = shown.entry.image.now.numbers in
         let text = desc_lines (printers set) d line.old n spot.base in
-        Writes (K.written sink.old) (K.written sink.new) text result }
+        Wrote (outlet K.Sink sink.old) (outlet K.Sink sink.new) text result }
     ensures line { Stays line.old line.new }
-    ensures cause { HasCause (K.faults sink.old) (K.faults sink.new) result }
-    ensures promise { K.promise sink.new ≡ K.promise sink.old }
 {
     let set = shown.set;
     let kept = line.len();
@@ -103,10 +99,8 @@ fn print_field<K: Sink>(
         let n = shown.entry.image.now.numbers in
         let f = field_of field.now in
         let text = run_lines (printers set) f f.count run.count line.old n run.first in
-        Writes (K.written sink.old) (K.written sink.new) text result }
+        Wrote (outlet K.Sink sink.old) (outlet K.Sink sink.new) text result }
     ensures line { Stays line.old line.new }
-    ensures cause { HasCause (K.faults sink.old) (K.faults sink.new) result }
-    ensures promise { K.promise sink.new ≡ K.promise sink.old }
 {
     line.push(field.name.as_bytes());
     match field.count {
@@ -135,10 +129,8 @@ fn print_elements<K: Sink>(
         let n = shown.entry.image.now.numbers in
         let size = size_in (described shown.entry.set.now) item.now in
         let text = element_lines ps item.now line.old n run.first size 0 run.count in
-        Writes (K.written sink.old) (K.written sink.new) text result }
+        Wrote (outlet K.Sink sink.old) (outlet K.Sink sink.new) text result }
     ensures line { Stays line.old line.new }
-    ensures cause { HasCause (K.faults sink.old) (K.faults sink.new) result }
-    ensures promise { K.promise sink.new ≡ K.promise sink.old }
 {
     let size = shown.set.item_cells(*item);
     let kept = line.len();
@@ -170,10 +162,8 @@ fn print_item<K: Sink>(
     ensures written { let ps = printers (described shown.entry.set.now) in
         let n = shown.entry.image.now.numbers in
         let text = item_lines ps item.now line.old n cell in
-        Writes (K.written sink.old) (K.written sink.new) text result }
+        Wrote (outlet K.Sink sink.old) (outlet K.Sink sink.new) text result }
     ensures line { Stays line.old line.new }
-    ensures cause { HasCause (K.faults sink.old) (K.faults sink.new) result }
-    ensures promise { K.promise sink.new ≡ K.promise sink.old }
 {
     match item {
         Item::Num(_) => print_number(shown.image.get(cell), line, sink),
@@ -201,10 +191,8 @@ fn print_struct<K: Sink>(
     ensures written { let ps = printers (described shown.entry.set.now) in
         let n = shown.entry.image.now.numbers in
         let text = item_lines ps (items.Struct number) line.old n cell in
-        Writes (K.written sink.old) (K.written sink.new) text result }
+        Wrote (outlet K.Sink sink.old) (outlet K.Sink sink.new) text result }
     ensures line { Stays line.old line.new }
-    ensures cause { HasCause (K.faults sink.old) (K.faults sink.new) result }
-    ensures promise { K.promise sink.new ≡ K.promise sink.old }
 {
     let part = Part::Struct(number);
     let spot = PartAt {
@@ -220,10 +208,8 @@ fn print_struct<K: Sink>(
 fn print_number<K: Sink>(number: i128, line: &mut Line, sink: &mut K) -> Result<(), Failed>
     requires short { length line.old + 54 ≤ LONGEST }
     ensures written { let tail = codes " = " ++ (signed_decimal number ++ line_end) in
-        Writes (K.written sink.old) (K.written sink.new) (line.old ++ tail) result }
+        Wrote (outlet K.Sink sink.old) (outlet K.Sink sink.new) (line.old ++ tail) result }
     ensures line { Stays line.old line.new }
-    ensures cause { HasCause (K.faults sink.old) (K.faults sink.new) result }
-    ensures promise { K.promise sink.new ≡ K.promise sink.old }
 {
     let mut digits = Buffer::new();
     line.push(b" = ");

@@ -1,6 +1,5 @@
 // Reads the lines of subsections.
 ghost use Rattle.std.specs.Prelude.{◌≡◌, ◌<◌, ◌∷◌, ◌++◌, [], length, OnOk};
-ghost use Rattle.std.specs.Bool.{OnTrue};
 ghost use Rattle.vms_spec.specs.declared.Part.TheVariants as parts;
 ghost use Rattle.vms_spec.specs.Images.{own_cells};
 ghost use Rattle.vms_spec.specs.Spelling.{first_line};
@@ -25,6 +24,7 @@ use crate::taken::{Taken, read_part};
 use crate::text::is_joined;
 use itoa::Buffer;
 use vms_desc::{DescSet, Part, Sub};
+use vms_io::NoMemory;
 use vms_spec::ValuesReason;
 use vms_walk::PartAt;
 use vms_words::next_line;
@@ -46,19 +46,18 @@ pub(crate) fn read_subs(
         OnOk result (length lines.new.items ≡ length d.subs) }
 {
     for sub in 0..set.sub_count(device) {
-        if !push_line(lines, taken.lines.line) {
-            return Err(LineFault::NoMemory);
-        }
+        push_line(lines, taken.lines.line)?;
         read_sub(set, device, sub, taken)?;
     }
     Ok(())
 }
 
-// Appends the number of a line, or tells that memory is wanting.
-fn push_line(lines: &mut Vec<usize>, line: usize) -> bool
-    ensures { OnTrue result (lines.new.items ≡ lines.old.items ++ line ∷ []) }
+// Appends the number of a line.
+fn push_line(lines: &mut Vec<usize>, line: usize) -> Result<(), NoMemory>
+    ensures { OnOk result (lines.new.items ≡ lines.old.items ++ line ∷ []) }
 {
-    lines.push(line).is_ok()
+    lines.push(line)?;
+    Ok(())
 }
 
 // The line and the numbers of a subsection.

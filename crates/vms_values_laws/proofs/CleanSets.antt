@@ -1,8 +1,11 @@
 -- No name of a well-formed set has a line feed.
-use Rattle.std.proofs.Common.{◌≡◌, ℕ, zero, suc, ◌+◌, Bool, true, false, ◌&&◌, ◌||◌, ◌==◌, nat_le, List, [], ◌∷◌, ◌++◌, length, get_or, take, drop, if◌then◌else◌, Option, Some, None, refl, sym, ap, ◌∙◌, subst, codes}
+use Rattle.std.proofs.Common.{◌≡◌, ℕ, suc, ◌+◌, Bool, true, false, ◌&&◌, ◌==◌, nat_le, List, ◌∷◌, ◌++◌, length, get_or, take, drop, if◌then◌else◌, Option, Some, None, refl, sym, ap, ◌∙◌, subst, codes, ◌||◌, []}
 use Rattle.std.specs.List.{slice_get, list_all}
 use Rattle.std.proofs.lemmas.Bool.{and_parts, eqb-true}
 use Rattle.std.specs.Str.{bytes_eq}
+use Rattle.std.proofs.lemmas.Option.{get_or_from_slice_get, same_Some}
+use Rattle.std.proofs.lemmas.List.{take-append-drop}
+use Rattle.std.proofs.lemmas.Slice.Eq.{bytes_eq-Decides}
 use Rattle.vms_spec.specs.declared.Part.TheVariants as parts
 use Rattle.vms_spec.specs.declared.Place.{Place}
 use Rattle.vms_spec.specs.Lists.{or_else, first_answer}
@@ -14,8 +17,7 @@ use Rattle.vms_spec.specs.Spelling.{begins_with}
 use Rattle.vms_spec.specs.ValuesReading.{machine_named}
 use Rattle.vms_spec.specs.WellFormed.{WellFormed, first_fault, failing, here, set_rules, struct_fault, struct_rules, device_fault, device_rules, sub_rules, size_rules}
 use Rattle.vms_spec.proofs.Faultless.{or_else_none}
-use Rattle.vms_spec.proofs.WellFormedLaws.{Clean, struct_clean, device_parts, sub_clean, get_none, get_at}
-use Rattle.vms_words.proofs.Lines.{same_bytes}
+use Rattle.vms_spec.proofs.WellFormedLaws.{Clean, struct_clean, device_parts, sub_clean, get_none}
 use Rattle.vms_values_laws.proofs.Feeds.{NoFeed, feed_append}
 use Rattle.vms_values_laws.proofs.CleanNames.{AreCleanFields, AreCleanSubs, AreCleanDevices}
 
@@ -37,17 +39,12 @@ name_bytes (b ∷ name) e = let p = and_parts (is_name_byte b) (list_all is_name
 clean_name : (most : ℕ) (name : List ℕ) → is_name most name ≡ true → NoFeed name
 clean_name most name e = name_bytes name (and_parts (nat_le 1 (length name) && nat_le (length name) most) (list_all is_name_byte name) e).1
 
-take_drop : (n : ℕ) (l : List ℕ) → take n l ++ drop n l ≡ l
-take_drop zero l = refl
-take_drop (suc n) [] = refl
-take_drop (suc n) (x ∷ l) = ap (λ (m : List ℕ). x ∷ m) (take_drop n l)
-
 clean_sub_name : (device name : List ℕ) → NoFeed device → is_sub_name device name ≡ true → NoFeed name
 clean_sub_name device name h e =
     let n = length device + 1 in
     let p = and_parts (bytes_eq (take n name) (device ++ 47 ∷ [])) (is_name 64 (drop n name)) e in
-    let front : NoFeed (take n name) = subst (λ (l : List ℕ). NoFeed l) (sym (same_bytes (take n name) (device ++ 47 ∷ []) p.0)) (feed_append device (47 ∷ []) h (refl, tt)) in
-    subst (λ (l : List ℕ). NoFeed l) (take_drop n name) (feed_append (take n name) (drop n name) front (clean_name 64 (drop n name) p.1))
+    let front : NoFeed (take n name) = subst (λ (l : List ℕ). NoFeed l) (sym ((bytes_eq-Decides (take n name) (device ++ 47 ∷ [])).0 p.0)) (feed_append device (47 ∷ []) h (refl, tt)) in
+    subst (λ (l : List ℕ). NoFeed l) (take-append-drop n name) (feed_append (take n name) (drop n name) front (clean_name 64 (drop n name) p.1))
 
 -- ---- parts of a set
 
@@ -77,13 +74,11 @@ named_one (m ∷ machines) name e h =
     go (bytes_eq m name) refl (clean_name 64 m p.0) (λ f. named_one machines name p.1 f) h
   where
     go : (b : Bool) → bytes_eq m name ≡ b → NoFeed m → (is_one_of machines name ≡ true → NoFeed name) → (b || is_one_of machines name) ≡ true → NoFeed name
-    go true f c later g = subst (λ (l : List ℕ). NoFeed l) (same_bytes m name f) c
+    go true f c later g = subst (λ (l : List ℕ). NoFeed l) ((bytes_eq-Decides m name).0 f) c
     go false f c later g = later g
 
 by_tests : (machines : List (List ℕ)) (line name : List ℕ) (b c : Bool) → is_one_of machines (drop 8 line) ≡ c → (if b && c then Some (drop 8 line) else None) ≡ Some name → is_one_of machines name ≡ true
-by_tests machines line name true true e h = ap (λ (l : List ℕ). is_one_of machines l) (sym (some_same (drop 8 line) name h)) ∙ e where
-  some_same : (a b : List ℕ) → Some a ≡ Some b → a ≡ b
-  some_same a b e = cc
+by_tests machines line name true true e h = ap (λ (l : List ℕ). is_one_of machines l) (sym (same_Some (drop 8 line) name h)) ∙ e
 by_tests machines line name true false e h = cc
 by_tests machines line name false c e h = cc
 
@@ -98,7 +93,7 @@ module _ (set : Set) (well : WellFormed set) where
     where
       go : (o : Option Desc) → slice_get set.structs j ≡ o → AreCleanFields (get_or set.structs j no_desc).fields
       go None e = subst (λ (d : Desc). AreCleanFields d.fields) (sym (get_none set.structs j no_desc e)) tt
-      go (Some d) e = subst (λ (d : Desc). AreCleanFields d.fields) (sym (get_at set.structs j no_desc d e)) (clean_fields j d (struct_rules set.structs j d) (struct_clean set well j d e))
+      go (Some d) e = subst (λ (d : Desc). AreCleanFields d.fields) (sym (get_or_from_slice_get set.structs j d no_desc e)) (clean_fields j d (struct_rules set.structs j d) (struct_clean set well j d e))
 
   device_clean : (k : ℕ) (d : Device) → slice_get set.devices k ≡ Some d → NoFeed d.desc.name × AreCleanFields d.desc.fields × AreCleanSubs d.subs
   device_clean k d e =

@@ -1,7 +1,8 @@
 -- All devices, read as entries.
-use Rattle.std.proofs.Common.{◌≡◌, ℕ, suc, ◌+◌, List, [], ◌∷◌, ◌++◌, length, map, Bool, true, false, ◌||◌, Option, Some, None, ℤ, Ok, Err, Result, refl, sym, ap, ◌∙◌, subst, arith, append_assoc}
+use Rattle.std.proofs.Common.{◌≡◌, ℕ, suc, ◌+◌, List, ◌∷◌, ◌++◌, length, map, Bool, true, false, Option, Some, None, ℤ, Ok, Err, Result, refl, sym, ap, ◌∙◌, subst, arith, append_assoc, [], ◌||◌}
 use Rattle.std.proofs.lemmas.List.{length-append, length-map}
 use Rattle.std.specs.List.{flat_map}
+use Rattle.std.proofs.lemmas.Slice.Eq.{bytes_eq-Decides}
 use Rattle.vms_spec.specs.declared.ValuesReason.TheVariants as reasons
 use Rattle.vms_spec.specs.Sets.{Device, Set}
 use Rattle.vms_spec.specs.Layout.{desc_cells, struct_cells, device_cells}
@@ -10,7 +11,6 @@ use Rattle.vms_spec.specs.Spelling.{first_line}
 use Rattle.vms_spec.specs.ValuesReading.{Standing, Read, BadLine, ReadSubs, readers, read_desc, read_subs, then_subs, next_line, rest_of, is_line}
 use Rattle.vms_spec.specs.Sound.{IsSound, AreSound}
 use Rattle.vms_bodies.proofs.WalkLaws.{zero_plus}
-use Rattle.vms_words.proofs.Lines.{same_bytes}
 use Rattle.vms_elements.specs.Elements.{Element}
 use Rattle.vms_elements.specs.Parts.{elements_in}
 use Rattle.vms_elements.specs.Lines.{section_line, printed}
@@ -244,7 +244,7 @@ pub section_read : (d : Device) (text : List ℕ) (o : Option (List ℕ × List 
     → (line : ℕ) → Moved line text (record { demand = ForSection d; line = section_line d d.desc.version } ∷ []) (suc line) (rest_of (first_line text))
 section_read d text None e h line = cc
 section_read d text (Some (first, rest)) e h line =
-    let is : first ≡ section_line d d.desc.version = same_bytes first (section_line d d.desc.version) h in
+    let is : first ≡ section_line d d.desc.version = (bytes_eq-Decides first (section_line d d.desc.version)).0 h in
     moved_one line text (record { demand = ForSection d; line = section_line d d.desc.version }) (rest_of (first_line text))
     (line_taken text (section_line d d.desc.version) rest (e ∙ ap (λ (l : List ℕ). Some (l, rest)) is))
     (ap (λ (l : List ℕ). reason_for (ForSection d) (Some (l, []))) (sym is) ∙ (rw h refl))

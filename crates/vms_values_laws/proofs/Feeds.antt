@@ -1,15 +1,16 @@
 -- Lines without a line feed, and which lines are fine where something is demanded.
-use Rattle.std.proofs.Common.{◌≡◌, ℕ, zero, suc, ◌+◌, ◌%◌, ◌/◌, Bool, true, false, ◌||◌, ◌==◌, nat_lt, if◌then◌else◌, List, [], ◌∷◌, ◌++◌, length, drop, Option, Some, None, ℤ, pos, negsuc, refl, sym, ap, ◌∙◌, subst, arith, codes}
+use Rattle.std.proofs.Common.{◌≡◌, ℕ, zero, suc, ◌+◌, ◌%◌, ◌/◌, Bool, true, false, ◌==◌, nat_lt, if◌then◌else◌, List, ◌∷◌, ◌++◌, length, drop, Option, Some, None, ℤ, pos, negsuc, refl, sym, ap, ◌∙◌, subst, arith, codes, ◌||◌, []}
 use Rattle.std.proofs.lemmas.Bool.{ne_eqb}
 use Rattle.std.specs.Fmt.{decimal, signed_decimal, digits, digits_onto, digit_glyph}
 use Rattle.std.specs.Str.{bytes_eq}
+use Rattle.std.proofs.lemmas.Slice.Eq.{bytes_eq-Decides}
 use Rattle.vms_spec.specs.declared.ValuesReason.TheVariants as reasons
 use Rattle.vms_spec.specs.Layout.{Cell}
 use Rattle.vms_spec.specs.Numbers.{same_number, exceeds}
 use Rattle.vms_spec.specs.Rules.{in_range}
 use Rattle.vms_spec.specs.Spelling.{first_line, longer_line, begins_with, number_spelled}
 use Rattle.vms_words.proofs.Spells.{spelled_holds}
-use Rattle.vms_words.proofs.Lines.{begun, same_bytes}
+use Rattle.vms_words.proofs.Lines.{begun}
 use Rattle.vms_elements.specs.Elements.{What, Number, Constant, Filler, Rule, Element}
 use Rattle.vms_elements.specs.Lines.{section_line, sub_line}
 use Rattle.vms_elements.specs.Entries.{if_not, element_reason, spelled_reason}
@@ -64,12 +65,12 @@ IsClean (ForSub s) = NoFeed s.desc.name
 IsClean (ForNumber x) = NoFeed x.name
 
 by_bytes : (a b : List ℕ) (t : Bool) → bytes_eq a b ≡ t → if_not t reasons.Form ≡ None → NoFeed b → NoFeed a
-by_bytes a b true e f h = subst (λ (l : List ℕ). NoFeed l) (sym (same_bytes a b e)) h
+by_bytes a b true e f h = subst (λ (l : List ℕ). NoFeed l) (sym ((bytes_eq-Decides a b).0 e)) h
 by_bytes a b false e f h = cc
 
 by_either : (a b c : List ℕ) (t u : Bool) → bytes_eq a b ≡ t → bytes_eq a c ≡ u → if_not (t || u) reasons.Form ≡ None → NoFeed b → NoFeed c → NoFeed a
-by_either a b c true u e f g p q = subst (λ (l : List ℕ). NoFeed l) (sym (same_bytes a b e)) p
-by_either a b c false true e f g p q = subst (λ (l : List ℕ). NoFeed l) (sym (same_bytes a c f)) q
+by_either a b c true u e f g p q = subst (λ (l : List ℕ). NoFeed l) (sym ((bytes_eq-Decides a b).0 e)) p
+by_either a b c false true e f g p q = subst (λ (l : List ℕ). NoFeed l) (sym ((bytes_eq-Decides a c).0 f)) q
 by_either a b c false false e f g p q = cc
 
 by_spelled : (cell : Cell) (present : Bool) (text : List ℕ) (o : Option ℤ) → number_spelled text ≡ o → spelled_reason cell present o ≡ None → NoFeed text

@@ -1,18 +1,19 @@
 -- What a fine line says of its number, and which numbers have fine lines.
-use Rattle.std.proofs.Common.{◌≡◌, ℕ, Bool, true, false, not, ◌||◌, List, [], ◌∷◌, ◌++◌, length, get_or, drop, Option, Some, None, ℤ, pos, negsuc, ◌≤ℤ◌, refl, sym, ap, ◌∙◌, arith, codes, append_assoc, if◌then◌else◌}
-use Rattle.std.specs.List.{AllByRecursion}
+use Rattle.std.proofs.Common.{◌≡◌, ℕ, Bool, true, false, not, List, ◌∷◌, ◌++◌, length, get_or, drop, Option, Some, None, ℤ, pos, refl, sym, ap, ◌∙◌, codes, append_assoc, if◌then◌else◌, ◌||◌, []}
 use Rattle.std.specs.Fmt.{signed_decimal}
-use Rattle.std.proofs.lemmas.Bool.{eq-eqb, ltb-false, le-ltb}
-use Rattle.std.proofs.lemmas.Int.{ints}
+use Rattle.std.proofs.lemmas.Bool.{eq-eqb}
+use Rattle.std.proofs.Math.Seq.{drop-append_seam}
 use Rattle.vms_spec.specs.declared.ValuesReason.TheVariants as reasons
 use Rattle.vms_spec.specs.Lists.{or_else}
-use Rattle.vms_spec.specs.Numbers.{is_above, exceeds, same_number}
+use Rattle.vms_spec.specs.Numbers.{exceeds, same_number}
 use Rattle.vms_spec.specs.Layout.{Cell}
 use Rattle.vms_spec.specs.Images.{FitsCell}
 use Rattle.vms_spec.specs.Rules.{in_range}
 use Rattle.vms_spec.specs.Spelling.{begins_with}
-use Rattle.vms_bodies.proofs.ReadyLaws.{same_is, is_same, ranged}
+use Rattle.vms_bodies.proofs.ReadyLaws.{is_same, ranged}
 use Rattle.vms_spec.proofs.WellFormedLaws.{ranges}
+use Rattle.vms_spec.proofs.ListLaws.{or_second}
+use Rattle.vms_spec.proofs.NumberLaws.{same_number_is, within_all, not_exceeds}
 use Rattle.vms_words.specs.Texts.{IsShort}
 use Rattle.vms_words.proofs.Spells.{number_holds}
 use Rattle.vms_elements.specs.Elements.{Number, Element, What}
@@ -25,16 +26,12 @@ pub begins_itself : (front text : List ℕ) → begins_with front (front ++ text
 begins_itself [] text = refl
 begins_itself (b ∷ front) text = let e = eq-eqb b b refl in let f = begins_itself front text in rw (e, f) refl
 
-drop_front : (front text : List ℕ) → drop (length front) (front ++ text) ≡ text
-drop_front [] text = refl
-drop_front (b ∷ front) text = drop_front front text
-
 by_front : (front line text : List ℕ) (what : What) (present : Bool) → line ≡ front ++ text
     → (if begins_with front line then element_reason what present (drop (length front) line) else Some reasons.Form) ≡ element_reason what present text
 by_front front line text what present e =
     ap (λ (l : List ℕ). if begins_with front l then element_reason what present (drop (length front) l) else Some reasons.Form) e
     ∙ ap (λ (b : Bool). if b then element_reason what present (drop (length front) (front ++ text)) else Some reasons.Form) (begins_itself front text)
-    ∙ ap (λ (l : List ℕ). element_reason what present l) (drop_front front text)
+    ∙ ap (λ (l : List ℕ). element_reason what present l) (drop-append_seam front text)
 
 -- the line of a number is judged by this number
 pub line_number : (x : Element) (n : List ℤ) (cell : Cell) → x.what ≡ Number cell → IsShort (get_or n x.cell (pos 0))
@@ -47,22 +44,6 @@ line_number x n cell e short =
 
 -- ---- the three reasons
 
-not_above : (z : ℤ) (most : ℕ) → is_above z most ≡ false → z ≤ℤ pos most
-not_above (pos n) most e = let h = ltb-false most n e in omega (arith, ints)
-not_above (negsuc n) most e = omega (arith, ints)
-
-or_none : (a b : Bool) → (a || b) ≡ false → (a ≡ false) × (b ≡ false)
-or_none true b e = cc
-or_none false b e = (refl, e)
-
-or_right : (a b : Bool) → (a || b) ≡ true → a ≡ false → b ≡ true
-or_right true b e f = cc
-or_right false b e f = e
-
-within_all : (caps : List ℕ) (z : ℤ) → exceeds caps z ≡ false → AllByRecursion (λ most. z ≤ℤ pos most) caps
-within_all [] z e = tt
-within_all (most ∷ caps) z e = let h = or_none (is_above z most) (exceeds caps z) e in (not_above z most h.0, within_all caps z h.1)
-
 -- a number that fits its cell, and is the default where it is not there
 pub record IsFitting (cell : Cell) (present : Bool) (z : ℤ) : Type 0 where
   pub fits : FitsCell cell z
@@ -74,18 +55,10 @@ by_tests cell present z false b c e f g h = cc
 by_tests cell present z true true c e f g h = cc
 by_tests cell present z true false false e f g h = cc
 by_tests cell present z true false true e f g h =
-    record { fits = (ranges cell.kind z e, within_all cell.capacities z f); absent = λ p. same_is z cell.default (or_right present (same_number z cell.default) g p) }
+    record { fits = (ranges cell.kind z e, within_all cell.capacities z f); absent = λ p. same_number_is z cell.default (or_second present (same_number z cell.default) g p) }
 
 pub reason_fits : (cell : Cell) (present : Bool) (z : ℤ) → number_reason cell present z ≡ None → IsFitting cell present z
 reason_fits cell present z h = by_tests cell present z (in_range cell.kind z) (exceeds cell.capacities z) (present || same_number z cell.default) refl refl refl h
-
-is_below : (z : ℤ) (most : ℕ) → z ≤ℤ pos most → is_above z most ≡ false
-is_below (pos n) most h = le-ltb most n (omega (arith, ints))
-is_below (negsuc n) most h = refl
-
-not_exceeds : (caps : List ℕ) (z : ℤ) → AllByRecursion (λ most. z ≤ℤ pos most) caps → exceeds caps z ≡ false
-not_exceeds [] z h = refl
-not_exceeds (most ∷ caps) z h = ap (λ (c : Bool). c || exceeds caps z) (is_below z most h.0) ∙ not_exceeds caps z h.1
 
 pub fits_reason : (cell : Cell) (present : Bool) (z : ℤ) → IsFitting cell present z → number_reason cell present z ≡ None
 fits_reason cell present z f =

@@ -1,7 +1,7 @@
 -- The first pass over a text: a bad line, or what its lines say.
-use Rattle.std.proofs.Common.{◌≡◌, ◌⊎◌, inl, inr, ℕ, List, [], ◌∷◌, ◌++◌, Bool, true, false, ◌&&◌, drop, Option, Some, None, Ok, Err, Result, refl, sym, ap, ◌∙◌, codes, if◌then◌else◌}
-use Rattle.std.proofs.lemmas.Bool.{eq-eqb}
-use Rattle.std.specs.Str.{bytes_eq}
+use Rattle.std.proofs.Common.{◌≡◌, ◌⊎◌, inl, inr, ℕ, List, ◌∷◌, ◌++◌, Bool, true, false, ◌&&◌, drop, Option, Some, None, Ok, Err, Result, refl, sym, ap, ◌∙◌, codes, if◌then◌else◌, []}
+use Rattle.std.proofs.lemmas.Option.{same_Some}
+use Rattle.std.proofs.lemmas.Slice.Eq.{bytes_eq-Decides}
 use Rattle.vms_spec.specs.declared.ValuesReason.{ValuesReason}
 use Rattle.vms_spec.specs.declared.ValuesReason.TheVariants as reasons
 use Rattle.vms_spec.specs.Sets.{Set}
@@ -18,18 +18,11 @@ use Rattle.vms_values_laws.proofs.BadLines.{FirstBad, FirstFine, Headed, stopped
 
 -- ---- the line of the machine
 
-pub same_bytes : (name : List ℕ) → bytes_eq name name ≡ true
-same_bytes [] = refl
-same_bytes (b ∷ name) = let e = eq-eqb b b refl in let f = same_bytes name in rw (e, f) refl
-
 machine_line : (machines : List (List ℕ)) (line name : List ℕ) (b : Bool) → begins_with (codes "machine ") line ≡ b → (c : Bool) → is_one_of machines (drop 8 line) ≡ c
     → (if b && c then Some (drop 8 line) else None) ≡ Some name → line ≡ codes "machine " ++ name
 machine_line machines line name true e true f h =
-    let is : drop 8 line ≡ name = some_same (drop 8 line) name h in
+    let is : drop 8 line ≡ name = same_Some (drop 8 line) name h in
     begun (codes "machine ") line e ∙ ap (λ (l : List ℕ). codes "machine " ++ l) is
-  where
-    some_same : (a b : List ℕ) → Some a ≡ Some b → a ≡ b
-    some_same a b e = cc
 machine_line machines line name true e false f h = cc
 machine_line machines line name false e c f h = cc
 
@@ -44,7 +37,7 @@ headed set text name e =
     record {
       named = sym e;
       moved = moved_one 1 text (record { demand = ForMachine name; line = codes "machine " ++ name }) (rest_of (first_line text))
-          (line_taken text (codes "machine " ++ name) line.0 line.1) (let f = same_bytes (codes "machine " ++ name) in rw f refl);
+          (line_taken text (codes "machine " ++ name) line.0 line.1) (let f = (bytes_eq-Decides (codes "machine " ++ name) (codes "machine " ++ name)).1 refl in rw f refl);
     }
 
 -- ---- the pass

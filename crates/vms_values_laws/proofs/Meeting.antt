@@ -1,5 +1,6 @@
 -- A text leads along one list of lines: those that were taken are those of each state that has the text's lines.
-use Rattle.std.proofs.Common.{◌≡◌, ℕ, suc, List, [], ◌∷◌, ◌++◌, length, map, Option, Some, None, refl, sym, ap, ◌∙◌, subst, append_assoc}
+use Rattle.std.proofs.Common.{◌≡◌, ℕ, suc, List, ◌∷◌, ◌++◌, length, map, Option, Some, None, refl, sym, ap, ◌∙◌, subst, append_assoc, []}
+use Rattle.std.proofs.lemmas.Option.{some_pair_parts}
 use Rattle.vms_spec.specs.declared.ValuesReason.{ValuesReason}
 use Rattle.vms_spec.specs.Spelling.{first_line}
 use Rattle.vms_elements.specs.Lines.{text_of}
@@ -44,19 +45,8 @@ not_ended (Some r) e es line rest feed fine h =
       no : None ≡ Some r → ⊥
       no f = cc
 
-line_of_first : Option (List ℕ × List ℕ) → List ℕ
-line_of_first None = []
-line_of_first (Some (a, b)) = a
-
-after_first : Option (List ℕ × List ℕ) → List ℕ
-after_first None = []
-after_first (Some (a, b)) = b
-
 two_lines : (a b r r' : List ℕ) → NoFeed a → NoFeed b → a ++ 10 ∷ r ≡ b ++ 10 ∷ r' → (a ≡ b) × (r ≡ r')
-unfolding line_of_first after_first
-two_lines a b r r' p q e =
-    let same : Some (a, r) ≡ Some (b, r') = sym (line_first a r p) ∙ ap first_line e ∙ line_first b r' q in
-    (ap line_of_first same, ap after_first same)
+two_lines a b r r' p q e = some_pair_parts a b r r' (sym (line_first a r p) ∙ ap first_line e ∙ line_first b r' q)
 
 fine_entry : (e : Entry) → line_reason e (entry_line e) ≡ None → reason_for (demand_of e) (Some (entry_line e, [])) ≡ None
 fine_entry e h = sym (reason_same e (Some (entry_line e, []))) ∙ h

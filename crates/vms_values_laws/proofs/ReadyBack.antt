@@ -1,19 +1,20 @@
 -- Ready images are what their text says, and no part of them is bad.
-use Rattle.std.proofs.Common.{◌≡◌, ℕ, suc, ◌+◌, ◌<◌, ◌≤◌, Bool, true, false, ◌||◌, nat_lt, List, [], ◌∷◌, ◌++◌, length, get_or, Option, Some, None, ℤ, pos, refl, sym, ap, ◌∙◌, subst, arith, codes}
-use Rattle.std.proofs.lemmas.Bool.{ltb-true, ltb-false}
+use Rattle.std.proofs.Common.{◌≡◌, ℕ, suc, ◌+◌, ◌<◌, ◌≤◌, Bool, true, false, nat_lt, List, ◌∷◌, ◌++◌, length, get_or, Option, Some, None, ℤ, pos, refl, sym, ap, ◌∙◌, subst, arith, codes, []}
+use Rattle.std.proofs.lemmas.Bool.{ltb-true, ltb-false, or_from, or_parts, or_left, or_right}
 use Rattle.std.proofs.Math.ListN.{get_or-eq_default}
 use Rattle.std.specs.List.{flat_map, slice_get}
 use Rattle.std.specs.Str.{bytes_eq}
+use Rattle.std.proofs.lemmas.Slice.Eq.{bytes_eq-Decides}
 use Rattle.vms_spec.specs.declared.ValuesReason.TheVariants as reasons
 use Rattle.vms_spec.specs.Lists.{or_else}
 use Rattle.vms_spec.specs.Sets.{Desc, Sub, Device, Set}
 use Rattle.vms_spec.specs.Layout.{Cell, no_cell, Slot, desc_cells, struct_cells, device_cells}
 use Rattle.vms_spec.specs.Layout as slots
 use Rattle.vms_spec.specs.Images.{Image, own_cells, own_slots, sub_slots, came_slots, has_cell, RulesHold}
-use Rattle.vms_spec.specs.Readiness.{rules_are_true}
 use Rattle.vms_spec.specs.Streams.{is_needed, ComeAsNeeded, IsReady}
 use Rattle.vms_bodies.proofs.Names.{names_append}
-use Rattle.vms_bodies.proofs.ReadyLaws.{ranged}
+use Rattle.vms_bodies.proofs.ReadyLaws.{ranged, are_rules}
+use Rattle.vms_bodies.proofs.SubsOnly.{rules_split}
 use Rattle.vms_words.specs.Texts.{IsShort}
 use Rattle.vms_elements.specs.Parts.{slots_of, elements_in}
 use Rattle.vms_elements.specs.Lines.{text_of, sub_line, section_line}
@@ -29,7 +30,6 @@ use Rattle.vms_values_laws.proofs.Unsaid.{lines_both}
 use Rattle.vms_values_laws.proofs.SecondPass.{desc_rules}
 use Rattle.vms_values_laws.proofs.Numbers.{AreShort}
 use Rattle.vms_values_laws.proofs.AllCome.{are_short}
-use Rattle.vms_values_laws.proofs.FirstPass.{same_bytes}
 use Rattle.vms_values_laws.proofs.Rights.{AreRight, AreBare}
 use Rattle.vms_values_laws.proofs.ReadyParts.{AreGood}
 use Rattle.vms_values_laws.proofs.ReadySays.{elements_counted, bare_bytes, below_bytes, above_bytes, right_front, right_back, right_said, bare_have}
@@ -47,21 +47,6 @@ good_then set (e ∷ es) fs a b = (a.0, good_then set es fs a.1 b)
 numbers_good : (set : Set) (n : List ℤ) (xs : List Rattle.vms_elements.specs.Elements.Element) → AreGood set (Rattle.vms_values_laws.proofs.Numbers.of_numbers n xs)
 numbers_good set n [] = tt
 numbers_good set n (x ∷ xs) = (refl, numbers_good set n xs)
-
-are_rules : (ss : List Slot) → RulesHold ss → rules_are_true ss ≡ true
-are_rules [] h = refl
-are_rules (slots.Rule true ∷ ss) h = are_rules ss h.1
-are_rules (slots.Rule false ∷ ss) h = let e : false ≡ true = h.0 in cc
-are_rules (slots.Number c kind caps ∷ ss) h = are_rules ss h
-are_rules (slots.Constant kind z ∷ ss) h = are_rules ss h
-are_rules (slots.Filler n ∷ ss) h = are_rules ss h
-
-rules_front : (ss ts : List Slot) → RulesHold (ss ++ ts) → RulesHold ss × RulesHold ts
-rules_front [] ts h = (tt, h)
-rules_front (slots.Rule b ∷ ss) ts h = let p = rules_front ss ts h.1 in ((h.0, p.0), p.1)
-rules_front (slots.Number c kind caps ∷ ss) ts h = rules_front ss ts h
-rules_front (slots.Constant kind z ∷ ss) ts h = rules_front ss ts h
-rules_front (slots.Filler n ∷ ss) ts h = rules_front ss ts h
 
 module _ (set : Set) (n : List ℤ) (short_all : AreShort n) where
   abbrev cells : Desc → List Cell
@@ -95,21 +80,7 @@ module _ (set : Set) (n : List ℤ) (short_all : AreShort n) where
 -- ---- lines of sections and subsections
 
 bytes_same : (a b : List ℕ) → a ≡ b → if_not (bytes_eq a b) reasons.Form ≡ None
-bytes_same a b e = ap (λ (l : List ℕ). if_not (bytes_eq a l) reasons.Form) (sym e) ∙ ap (λ (t : Bool). if_not t reasons.Form) (same_bytes a)
-
-or_true : (a b : Bool) → b ≡ true → (a || b) ≡ true
-or_true true b e = refl
-or_true false b e = e
-
-true_or : (a b : Bool) → a ≡ true → (a || b) ≡ true
-true_or a b e = ap (λ (a : Bool). a || b) e
-
-both_false : (a b : Bool) → a ≡ false → b ≡ false → (a || b) ≡ false
-both_false a b e f = ap (λ (a : Bool). a || b) e ∙ f
-
-none_or : (a b : Bool) → (a || b) ≡ false → (a ≡ false) × (b ≡ false)
-none_or true b e = cc
-none_or false b e = (refl, e)
+bytes_same a b e = ap (λ (l : List ℕ). if_not (bytes_eq a l) reasons.Form) (sym e) ∙ ap (λ (t : Bool). if_not t reasons.Form) ((bytes_eq-Decides a a).1 refl)
 
 -- ---- a device
 
@@ -127,7 +98,7 @@ module _ (set : Set) (d : Device) (image : Image) (short_all : AreShort image.nu
   came_below at (s ∷ subs) (Some v ∷ came) k lt =
       let next = at + length (desc_cells (struct_cells set) s.desc) in
       names_append (sub_slots set s v n at) (came_slots set d n next subs came) k
-      ∙ both_false (has_cell (sub_slots set s v n at) k) (has_cell (came_slots set d n next subs came) k) (desc_below set n short_all s.desc v at k lt) (came_below next subs came k (omega arith))
+      ∙ or_from (has_cell (sub_slots set s v n at) k) (has_cell (came_slots set d n next subs came) k) (desc_below set n short_all s.desc v at k lt) (came_below next subs came k (omega arith))
 
   -- what the lines of subsections are
   record SubsSay (j at : ℕ) (subs : List Sub) (came : List (Option ℕ)) : Type 0 where
@@ -162,17 +133,17 @@ module _ (set : Set) (d : Device) (image : Image) (short_all : AreShort image.nu
           versions = (same, later.versions);
           fine = (
             ap (λ (b : Bool). if_not b reasons.Form)
-                (true_or (bytes_eq (sub_line s (Some v)) (sub_line s (Some s.desc.version))) (bytes_eq (sub_line s (Some v)) (sub_line s None))
-                (ap (λ (w : ℕ). bytes_eq (sub_line s (Some v)) (sub_line s (Some w))) (sym same) ∙ same_bytes (sub_line s (Some v)))),
+                (or_left (bytes_eq (sub_line s (Some v)) (sub_line s (Some s.desc.version))) (bytes_eq (sub_line s (Some v)) (sub_line s None))
+                (ap (λ (w : ℕ). bytes_eq (sub_line s (Some v)) (sub_line s (Some w))) (sym same) ∙ (bytes_eq-Decides (sub_line s (Some v)) (sub_line s (Some v))).1 refl)),
             fine_then numbers others (desc_fine set n short_all s.desc at mine) later.fine,
           );
           good = (
             ap (λ (a : Bool). or_else (if_not a reasons.Invalid) (if_not (came_well (is_needed set d image s j) (Some v) defaults) reasons.Needed)) holds ∙ ap (λ (b : Bool). if_not b reasons.Needed) well,
             good_then set numbers others (numbers_good set n _) later.good,
           );
-          unsaid = λ k e. let p = none_or (has_line numbers k) (has_line others k) (sym (lines_both numbers others k) ∙ e) in
+          unsaid = λ k e. let p = or_parts (has_line numbers k) (has_line others k) (sym (lines_both numbers others k) ∙ e) in
               names_append (sub_slots set s v n at) (came_slots set d n next subs came) k
-              ∙ both_false (has_cell (sub_slots set s v n at) k) (has_cell (came_slots set d n next subs came) k)
+              ∙ or_from (has_cell (sub_slots set s v n at) k) (has_cell (came_slots set d n next subs came) k)
               (subst (λ (w : ℕ). has_cell (sub_slots set s w n at) k ≡ false) (sym same) (desc_unsaid set n short_all s.desc at k p.0)) (later.unsaid k p.1);
         }
 
@@ -186,14 +157,14 @@ module _ (set : Set) (d : Device) (image : Image) (short_all : AreShort image.nu
           long = ap suc later.long;
           versions = (tt, later.versions);
           fine = (
-            ap (λ (b : Bool). if_not b reasons.Form) (or_true (bytes_eq (sub_line s None) (sub_line s (Some s.desc.version))) (bytes_eq (sub_line s None) (sub_line s None)) (same_bytes (sub_line s None))),
+            ap (λ (b : Bool). if_not b reasons.Form) (or_right (bytes_eq (sub_line s None) (sub_line s (Some s.desc.version))) (bytes_eq (sub_line s None) (sub_line s None)) ((bytes_eq-Decides (sub_line s None) (sub_line s None)).1 refl)),
             fine_then numbers others (desc_fine set n short_all s.desc at mine) later.fine,
           );
           good = (
             ap (λ (b : Bool). or_else (if_not true reasons.Invalid) (if_not (came_well b None defaults) reasons.Needed)) needed ∙ ap (λ (b : Bool). if_not b reasons.Needed) have,
             good_then set numbers others (numbers_good set n _) later.good,
           );
-          unsaid = λ k e. later.unsaid k (none_or (has_line numbers k) (has_line others k) (sym (lines_both numbers others k) ∙ e)).1;
+          unsaid = λ k e. later.unsaid k (or_parts (has_line numbers k) (has_line others k) (sym (lines_both numbers others k) ∙ e)).1;
         }
 
   subs_say : (j at : ℕ) (subs : List Sub) (came : List (Option ℕ)) → ComeAsNeeded set d image j subs came → AreRight n at (sub_cells subs) (came_slots set d n at subs came) → RulesHold (came_slots set d n at subs came)
@@ -212,7 +183,7 @@ module _ (set : Set) (d : Device) (image : Image) (short_all : AreShort image.nu
       let next = at + length own in
       let mine = sub_slots set s v n at in
       let later = came_slots set d n next subs came in
-      let p = rules_front mine later rules in
+      let p = rules_split mine later rules in
       it_came s j at subs came v needed.1 needed.0 (right_front n at own (sub_cells subs) mine later (λ k lt. came_below next subs came k lt) right) p.0
       (subs_say (suc j) next subs came needed.2 (right_back n at own (sub_cells subs) mine later (λ k le. desc_above set n short_all s.desc v at k le) right) p.1)
 
@@ -239,7 +210,7 @@ module _ (set : Set) (d : Device) (image : Image) (short_all : AreShort image.nu
               absent = λ h. ready.normal.absent k (omega (arith, ready.normal.cells.long)) h ∙ ap (λ (i : ℕ). (get_or (device_cells set d) i no_cell).default) same;
             };
       } in
-      let rules = rules_front mine later ready.valid in
+      let rules = rules_split mine later ready.valid in
       let subs : SubsSay 0 (own_cells set d) d.subs image.came =
       subs_say 0 (own_cells set d) d.subs image.came ready.needed
       (subst (λ (i : ℕ). AreRight n i (sub_cells d.subs) later) start (right_back n 0 own (sub_cells d.subs) mine later (λ k le. desc_above set n short_all d.desc image.version 0 k le) all)) rules.1 in
@@ -248,9 +219,9 @@ module _ (set : Set) (d : Device) (image : Image) (short_all : AreShort image.nu
       record {
         shaped = record { version = ready.version; subs = subs.long; versions = subs.versions; cells = ready.normal.cells.long; short = are_short n short_all };
         unsaid = λ c lt e. ready.normal.absent c lt
-            (let p = none_or (has_line numbers c) (has_line others c) (sym (lines_both numbers others c) ∙ e) in
+            (let p = or_parts (has_line numbers c) (has_line others c) (sym (lines_both numbers others c) ∙ e) in
             names_append mine later c
-            ∙ both_false (has_cell mine c) (has_cell later c) (subst (λ (v : ℕ). has_cell (own_slots set d v n) c ≡ false) (sym ready.version) (desc_unsaid set n short_all d.desc 0 c p.0)) (subs.unsaid c p.1));
+            ∙ or_from (has_cell mine c) (has_cell later c) (subst (λ (v : ℕ). has_cell (own_slots set d v n) c ≡ false) (sym ready.version) (desc_unsaid set n short_all d.desc 0 c p.0)) (subs.unsaid c p.1));
         fine = (
           bytes_same (section_line d image.version) (section_line d d.desc.version) (ap (λ (v : ℕ). section_line d v) ready.version),
           fine_then numbers others (desc_fine set n short_all d.desc 0 at_version) subs.fine,

@@ -1,6 +1,7 @@
 -- A state of which a text speaks, whose parts are good, is ready.
-use Rattle.std.proofs.Common.{◌≡◌, ℕ, suc, ◌+◌, ◌<◌, ◌≤◌, Bool, true, false, ◌||◌, List, [], ◌∷◌, ◌++◌, length, get_or, Option, Some, None, ℤ, refl, sym, ap, ◌∙◌, subst, arith}
+use Rattle.std.proofs.Common.{◌≡◌, ℕ, suc, ◌+◌, ◌<◌, ◌≤◌, Bool, true, false, List, ◌∷◌, ◌++◌, length, get_or, Option, Some, None, ℤ, refl, sym, ap, ◌∙◌, subst, arith, []}
 use Rattle.std.specs.List.{flat_map, slice_get}
+use Rattle.std.proofs.lemmas.Bool.{or_from}
 use Rattle.vms_spec.specs.declared.ValuesReason.{ValuesReason}
 use Rattle.vms_spec.specs.declared.ValuesReason.TheVariants as reasons
 use Rattle.vms_spec.specs.Lists.{or_else}
@@ -8,10 +9,10 @@ use Rattle.vms_spec.specs.Sets.{Desc, Sub, Device, Set}
 use Rattle.vms_spec.specs.Layout.{Cell, no_cell, Slot, desc_cells, struct_cells, device_cells}
 use Rattle.vms_spec.specs.Layout as slots
 use Rattle.vms_spec.specs.Images.{Image, own_cells, own_slots, sub_slots, came_slots, image_slots, FitsCell, RulesHold, AreVersionsOf}
-use Rattle.vms_spec.specs.Readiness.{rules_are_true}
 use Rattle.vms_spec.specs.Streams.{is_needed, ComeAsNeeded, IsReady}
 use Rattle.vms_spec.specs.Good.{DefaultsFit}
 use Rattle.vms_bodies.proofs.SpellLaws.{rules_append}
+use Rattle.vms_bodies.proofs.ReadyLaws.{rules_are}
 use Rattle.vms_elements.specs.Parts.{cells_of, elements_in}
 use Rattle.vms_elements.specs.Entries.{Entry, OfSub, number_entries, subs_entries, device_entries, if_not, rules_hold, have_defaults, sub_holds, came_well, part_reason}
 use Rattle.vms_elements.specs.Reading.{AreFine, has_line, IsShaped, AreUnsaid, IsAtVersion, AreAtVersions}
@@ -46,14 +47,6 @@ two_none : (a b : Bool) → or_else (if_not a reasons.Invalid) (if_not b reasons
 two_none true true e = (refl, refl)
 two_none true false e = cc
 two_none false b e = cc
-
-pub rules_are : (ss : List Slot) → rules_are_true ss ≡ true → RulesHold ss
-rules_are [] e = tt
-rules_are (slots.Rule true ∷ ss) e = (refl, rules_are ss e)
-rules_are (slots.Rule false ∷ ss) e = cc
-rules_are (slots.Number c kind caps ∷ ss) e = rules_are ss e
-rules_are (slots.Constant kind z ∷ ss) e = rules_are ss e
-rules_are (slots.Filler n ∷ ss) e = rules_are ss e
 
 -- ---- a description
 
@@ -90,9 +83,6 @@ module _ (set : Set) (n : List ℤ) (short : AreShort n) where
       above_lines n at (elements_in set d d.version n at) (elements_laid set d d.version n at) k
       (omega (arith, ap (λ (l : List Cell). length l) (elements_cells set d d.version n at)))
 
-both_false : (a b : Bool) → a ≡ false → b ≡ false → (a || b) ≡ false
-both_false a b e f = ap (λ (a : Bool). a || b) e ∙ f
-
 -- ---- a device
 
 module _ (set : Set) (d : Device) (image : Image) (short : AreShort image.numbers) where
@@ -109,7 +99,7 @@ module _ (set : Set) (d : Device) (image : Image) (short : AreShort image.number
       let next = at + length (desc_cells (struct_cells set) s.desc) in
       let others = subs_entries set d image (suc j) next subs came in
       lines_both (number_entries set s.desc n at) others k
-      ∙ both_false (has_line (number_entries set s.desc n at) k) (has_line others k) (below_desc set n short s.desc at k lt) (below_subs (suc j) next subs came k (omega arith))
+      ∙ or_from (has_line (number_entries set s.desc n at) k) (has_line others k) (below_desc set n short s.desc at k lt) (below_subs (suc j) next subs came k (omega arith))
 
   -- what is so of the subsections
   pub record SubsReady (j at : ℕ) (subs : List Sub) (came : List (Option ℕ)) : Type 0 where
@@ -169,10 +159,10 @@ module _ (set : Set) (d : Device) (image : Image) (short : AreShort image.number
       let g = good_both set numbers others good.1 in
       let front : AreBare n at own (λ k. has_line numbers k) =
       bare_front n at own (sub_cells subs) (λ k. has_line numbers k) (λ k. has_line (subs_entries set d image j at (s ∷ subs) (o ∷ came)) k)
-      (λ k lt e. lines_both numbers others k ∙ both_false (has_line numbers k) (has_line others k) e (below_subs (suc j) next subs came k lt)) bare in
+      (λ k lt e. lines_both numbers others k ∙ or_from (has_line numbers k) (has_line others k) e (below_subs (suc j) next subs came k lt)) bare in
       let back : AreBare n next (sub_cells subs) (λ k. has_line others k) =
       bare_back n at own (sub_cells subs) (λ k. has_line others k) (λ k. has_line (subs_entries set d image j at (s ∷ subs) (o ∷ came)) k)
-      (λ k le e. lines_both numbers others k ∙ both_false (has_line numbers k) (has_line others k) (above_desc set n short s.desc at k le) e) bare in
+      (λ k le e. lines_both numbers others k ∙ or_from (has_line numbers k) (has_line others k) (above_desc set n short s.desc at k le) e) bare in
       by_line s j at subs came o versions.0 (desc_right set n short s.desc at f.0 (fit_front own (sub_cells subs) defaults) front) (fit_front own (sub_cells subs) defaults) good.0
       (subs_ready (suc j) next subs came (omega (arith, long)) versions.1 f.1 g.1 (fit_back own (sub_cells subs) defaults) back)
 
@@ -202,10 +192,10 @@ module _ (set : Set) (d : Device) (image : Image) (short : AreShort image.number
       unsaid k (omega (arith, shaped.cells)) h ∙ ap (λ (i : ℕ). (get_or (device_cells set d) i no_cell).default) same in
       let front : AreBare n 0 own (λ k. has_line numbers k) =
       bare_front n 0 own (sub_cells d.subs) (λ k. has_line numbers k) (λ k. has_line (device_entries set d image) k)
-      (λ k lt e. lines_both numbers others k ∙ both_false (has_line numbers k) (has_line others k) e (below_subs 0 (own_cells set d) d.subs image.came k (omega arith))) bare in
+      (λ k lt e. lines_both numbers others k ∙ or_from (has_line numbers k) (has_line others k) e (below_subs 0 (own_cells set d) d.subs image.came k (omega arith))) bare in
       let back : AreBare n (0 + length own) (sub_cells d.subs) (λ k. has_line others k) =
       bare_back n 0 own (sub_cells d.subs) (λ k. has_line others k) (λ k. has_line (device_entries set d image) k)
-      (λ k le e. lines_both numbers others k ∙ both_false (has_line numbers k) (has_line others k) (above_desc set n short d.desc 0 k le) e) bare in
+      (λ k le e. lines_both numbers others k ∙ or_from (has_line numbers k) (has_line others k) (above_desc set n short d.desc 0 k le) e) bare in
       let subs = subs_ready 0 (own_cells set d) d.subs image.came shaped.subs shaped.versions f.1 g.1 (fit_back own (sub_cells d.subs) defaults)
       (subst (λ (i : ℕ). AreBare n i (sub_cells d.subs) (λ k. has_line others k)) (sym next) back) in
       let mine : AreRight n 0 own (own_slots set d d.desc.version n) = desc_right set n short d.desc 0 f.0 (fit_front own (sub_cells d.subs) defaults) front in

@@ -1,6 +1,6 @@
 -- A ready image has the lines that a text says: each is fine, what has no line is at its default, and no part is bad.
-use Rattle.std.proofs.Common.{◌≡◌, ◌⊎◌, inl, inr, ℕ, zero, suc, ◌+◌, ◌<◌, ◌≤◌, Bool, true, false, ◌||◌, ◌&&◌, ◌==◌, nat_lt, List, [], ◌∷◌, ◌++◌, length, get_or, map, None, ℤ, pos, refl, sym, ap, ◌∙◌, subst, arith, if◌then◌else◌}
-use Rattle.std.proofs.lemmas.Bool.{ne_eqb}
+use Rattle.std.proofs.Common.{◌≡◌, ◌⊎◌, inl, inr, ℕ, zero, suc, ◌+◌, ◌<◌, ◌≤◌, Bool, true, false, ◌&&◌, ◌==◌, nat_lt, List, ◌∷◌, ◌++◌, length, get_or, map, None, ℤ, pos, refl, sym, ap, ◌∙◌, subst, arith, if◌then◌else◌, []}
+use Rattle.std.proofs.lemmas.Bool.{ne_eqb, or_from, or_parts, and_from}
 use Rattle.std.proofs.lemmas.List.{get_or_append_left, get_or-append-add, length-append}
 use Rattle.vms_kinds.specs.declared.Item.{Item}
 use Rattle.vms_kinds.specs.declared.Item.TheVariants.{Num, Equal, Unused, Struct}
@@ -9,7 +9,7 @@ use Rattle.vms_spec.specs.Sets.{Field, Desc, Set}
 use Rattle.vms_spec.specs.Layout.{Cell, no_cell, no_desc, Slot, first, counted, capacity_of, item_size, field_cells, desc_cells, numbers_of, all_hold}
 use Rattle.vms_spec.specs.Layout as slots
 use Rattle.vms_spec.specs.Images.{has_cell}
-use Rattle.vms_bodies.proofs.Names.{or_false, names_append}
+use Rattle.vms_bodies.proofs.Names.{names_append}
 use Rattle.vms_bodies.proofs.ReadyLaws.{is_same}
 use Rattle.vms_elements.specs.Elements.{Element, Shape, no_shape, shape, shapes, cells_in, dotted, behind, single, Rule, item_elements, Stand, stand_of, array_elements, field_elements, elements_from, desc_elements, index_text}
 use Rattle.vms_elements.specs.Parts.{cells_of, slots_of, numbers_in, CountsUp, elements_in}
@@ -83,9 +83,6 @@ elements_counted set d v n at = desc_counted (shapes set) (shapes_counted set.st
 
 -- ---- cells in the bytes
 
-both_false : (a b : Bool) → a ≡ false → b ≡ false → (a || b) ≡ false
-both_false a b e f = ap (λ (a : Bool). a || b) e ∙ f
-
 -- a cell without a line stands in no byte
 pub bare_bytes : (n : List ℤ) (xs : List Element) → AreCounted xs → (k : ℕ) → has_line (of_numbers n (printed xs)) k ≡ false → has_cell (slots_of xs) k ≡ false
 bare_bytes n [] h k e = refl
@@ -96,16 +93,16 @@ bare_bytes n (x ∷ xs) h k e = go (view x xs) (bare_bytes n xs h.1 k)
       where
         by_both : (p c : Bool) → (p ≡ true → c ≡ true) → has_line (of_numbers n (if c then x ∷ printed xs else printed xs)) k ≡ false
             → has_cell (if p then slots.Number x.cell v.cell.kind v.cell.capacities ∷ slots_of xs else slots_of xs) k ≡ false
-        by_both true true c e = let q = or_false (x.cell == k) (has_line (of_numbers n (printed xs)) k) e in both_false (x.cell == k) (has_cell (slots_of xs) k) q.0 (more q.1)
+        by_both true true c e = let q = or_parts (x.cell == k) (has_line (of_numbers n (printed xs)) k) e in or_from (x.cell == k) (has_cell (slots_of xs) k) q.0 (more q.1)
         by_both true false c e = no (c refl) where
           no : false ≡ true → has_cell (slots.Number x.cell v.cell.kind v.cell.capacities ∷ slots_of xs) k ≡ false
           no f = cc
-        by_both false true c e = more (or_false (x.cell == k) (has_line (of_numbers n (printed xs)) k) e).1
+        by_both false true c e = more (or_parts (x.cell == k) (has_line (of_numbers n (printed xs)) k) e).1
         by_both false false c e = more e
     go (inr v) more = v.bytes k ∙ more (sym (ap (λ (l : List Element). has_line (of_numbers n l) k) v.lines) ∙ e)
 
 no_bytes : (x : Element) (cell : Cell) (ss : List Slot) (k : ℕ) (b : Bool) → (x.cell ≡ k → ⊥) → has_cell ss k ≡ false → has_cell (if b then slots.Number x.cell cell.kind cell.capacities ∷ ss else ss) k ≡ false
-no_bytes x cell ss k true ne h = both_false (x.cell == k) (has_cell ss k) (ne_eqb x.cell k ne) h
+no_bytes x cell ss k true ne h = or_from (x.cell == k) (has_cell ss k) (ne_eqb x.cell k ne) h
 no_bytes x cell ss k false ne h = h
 
 -- the bytes of elements have no cells below theirs, nor above
@@ -141,7 +138,7 @@ right_front n at xs ys ss ts h a = record { right = λ c k lt e. place c k lt e 
     place c k lt e =
         let r = a.right c k (omega (arith, length-append xs ys)) e in
         subst (λ (x : Cell). IsRight n ss k x) (get_or_append_left xs ys no_cell c lt)
-        (record { fits = r.fits; absent = λ bare. r.absent (names_append ss ts k ∙ both_false (has_cell ss k) (has_cell ts k) bare (h k (omega arith))) })
+        (record { fits = r.fits; absent = λ bare. r.absent (names_append ss ts k ∙ or_from (has_cell ss k) (has_cell ts k) bare (h k (omega arith))) })
 
 pub right_back : (n : List ℤ) (at : ℕ) (xs ys : List Cell) (ss ts : List Slot) → ((k : ℕ) → at + length xs ≤ k → has_cell ss k ≡ false) → AreRight n at (xs ++ ys) (ss ++ ts) → AreRight n (at + length xs) ys ts
 right_back n at xs ys ss ts h a = record { right = λ c k lt e. place c k lt e }
@@ -150,7 +147,7 @@ right_back n at xs ys ss ts h a = record { right = λ c k lt e. place c k lt e }
     place c k lt e =
         let r = a.right (length xs + c) k (omega (arith, length-append xs ys)) (omega arith) in
         subst (λ (x : Cell). IsRight n ts k x) (get_or-append-add xs ys c no_cell)
-        (record { fits = r.fits; absent = λ bare. r.absent (names_append ss ts k ∙ both_false (has_cell ss k) (has_cell ts k) (h k (omega arith)) bare) })
+        (record { fits = r.fits; absent = λ bare. r.absent (names_append ss ts k ∙ or_from (has_cell ss k) (has_cell ts k) (h k (omega arith)) bare) })
 
 -- ---- lines of right numbers
 
@@ -196,15 +193,12 @@ pub bare_have : (n : List ℤ) (at : ℕ) (xs : List Element) → CountsUp at (n
 bare_have n at [] up b = refl
 bare_have n at (x ∷ xs) up b = go (view x xs) (λ next u d. bare_have n next xs u d)
   where
-    both : (a b : Bool) → a ≡ true → b ≡ true → (a && b) ≡ true
-    both a b e f = ap (λ (a : Bool). a && b) e ∙ f
-
     go : IsNumberOf x xs ⊎ IsNoNumber x xs → ((next : ℕ) → CountsUp next (numbers_in xs) → AreBare n next (cells_of xs) (λ k. false) → have_defaults n xs ≡ true) → have_defaults n (x ∷ xs) ≡ true
     go (inl v) more =
         let u : CountsUp at (x ∷ numbers_in xs) = subst (λ (l : List Element). CountsUp at l) v.numbers up in
         let c : AreBare n at (v.cell ∷ cells_of xs) (λ k. false) = subst (λ (l : List Cell). AreBare n at l (λ k. false)) v.cells b in
         let here : get_or n x.cell (pos 0) ≡ v.cell.default = ap (λ (i : ℕ). get_or n i (pos 0)) u.0 ∙ c 0 at (omega arith) (omega arith) refl in
         v.defaults n
-        ∙ both (same_number (get_or n x.cell (pos 0)) v.cell.default) (have_defaults n xs) (is_same (get_or n x.cell (pos 0)) v.cell.default here)
+        ∙ and_from (same_number (get_or n x.cell (pos 0)) v.cell.default) (have_defaults n xs) (is_same (get_or n x.cell (pos 0)) v.cell.default here)
         (more (at + 1) u.1 (λ i k lt e f. c (suc i) k (omega arith) (omega arith) refl))
     go (inr v) more = v.defaults n ∙ more at (subst (λ (l : List Element). CountsUp at l) v.numbers up) (subst (λ (l : List Cell). AreBare n at l (λ k. false)) v.cells b)

@@ -1,14 +1,14 @@
 -- When the numbers of a part of a state are right: each fits its cell, and is the default where no byte stands for it.
-use Rattle.std.proofs.Common.{◌≡◌, ◌⊎◌, inl, inr, ℕ, zero, suc, ◌+◌, ◌-◌, ◌<◌, ◌≤◌, Bool, true, false, ◌||◌, ◌&&◌, ◌==◌, nat_lt, List, [], ◌∷◌, ◌++◌, length, get_or, ℤ, pos, None, refl, sym, ap, ◌∙◌, subst, arith, if◌then◌else◌}
-use Rattle.std.proofs.lemmas.Bool.{ltb-true, ltb-false, eq-eqb, ne_eqb, and_parts}
+use Rattle.std.proofs.Common.{◌≡◌, ◌⊎◌, inl, inr, ℕ, zero, suc, ◌+◌, ◌-◌, ◌<◌, ◌≤◌, Bool, true, false, ◌&&◌, ◌==◌, nat_lt, List, ◌∷◌, ◌++◌, length, get_or, ℤ, pos, None, refl, sym, ap, ◌∙◌, subst, arith, if◌then◌else◌, ◌||◌, []}
+use Rattle.std.proofs.lemmas.Bool.{ltb-true, ltb-false, eq-eqb, ne_eqb, and_parts, or_parts}
 use Rattle.std.proofs.lemmas.List.{get_or_append_left, get_or-append-add, length-append}
 use Rattle.vms_spec.specs.Numbers.{same_number}
 use Rattle.vms_spec.specs.Layout.{Cell, no_cell, Slot}
 use Rattle.vms_spec.specs.Layout as slots
 use Rattle.vms_spec.specs.Images.{has_cell, FitsCell}
 use Rattle.vms_spec.specs.Good.{DefaultsFit}
-use Rattle.vms_bodies.proofs.Names.{or_false, names_append}
-use Rattle.vms_bodies.proofs.ReadyLaws.{same_is}
+use Rattle.vms_spec.proofs.NumberLaws.{same_number_is}
+use Rattle.vms_bodies.proofs.Names.{names_append}
 use Rattle.vms_elements.specs.Elements.{What, Number, Constant, Filler, Rule, Element}
 use Rattle.vms_elements.specs.Parts.{is_number, cells_with, cells_of, slot_of, slots_of, numbers_in, CountsUp}
 use Rattle.vms_elements.specs.Lines.{printed}
@@ -33,7 +33,7 @@ pub right_both : (n : List ℤ) (at : ℕ) (xs ys : List Cell) (ss ts : List Slo
 right_both n at xs ys ss ts a b = record { right = λ c k lt e. by_test c k lt e (nat_lt c (length xs)) refl }
   where
     bare : (k : ℕ) → has_cell (ss ++ ts) k ≡ false → (has_cell ss k ≡ false) × (has_cell ts k ≡ false)
-    bare k h = or_false (has_cell ss k) (has_cell ts k) (sym (names_append ss ts k) ∙ h)
+    bare k h = or_parts (has_cell ss k) (has_cell ts k) (sym (names_append ss ts k) ∙ h)
 
     by_test : (c k : ℕ) → c < length (xs ++ ys) → k ≡ at + c → (t : Bool) → nat_lt c (length xs) ≡ t → IsRight n (ss ++ ts) k (get_or (xs ++ ys) c no_cell)
     by_test c k lt e true t =
@@ -180,7 +180,7 @@ module _ (n : List ℤ) (short : AreShort n) where
       }
     where
       hidden : (b : Bool) → has_cell (if b then slots.Number x.cell cell.kind cell.capacities ∷ ss else ss) k ≡ false → b ≡ false
-      hidden true h = no (sym (eq-eqb x.cell k at) ∙ (or_false (x.cell == k) (has_cell ss k) h).0) where
+      hidden true h = no (sym (eq-eqb x.cell k at) ∙ (or_parts (x.cell == k) (has_cell ss k) h).0) where
         no : true ≡ false → true ≡ false
         no e = e
       hidden false h = refl
@@ -189,7 +189,7 @@ module _ (n : List ℤ) (short : AreShort n) where
   behind_it b s ss k cell h r = record { fits = r.fits; absent = λ e. r.absent (h e) }
 
   bare_later : (b : Bool) (at : ℕ) (kind : Rattle.vms_kinds.specs.declared.Kind.Kind) (caps : List ℕ) (ss : List Slot) (k : ℕ) → has_cell (if b then slots.Number at kind caps ∷ ss else ss) k ≡ false → has_cell ss k ≡ false
-  bare_later true at kind caps ss k h = (or_false (at == k) (has_cell ss k) h).1
+  bare_later true at kind caps ss k h = (or_parts (at == k) (has_cell ss k) h).1
   bare_later false at kind caps ss k h = h
 
   pub said_right : (at : ℕ) (xs : List Element) → CountsUp at (numbers_in xs) → AreFine (of_numbers n (printed xs)) → DefaultsFit (cells_of xs)
@@ -253,7 +253,7 @@ have_each n at (x ∷ xs) up h = go (view x xs) (λ next u d. have_each n next x
     go (inl v) more =
         let u : CountsUp at (x ∷ numbers_in xs) = subst (λ (l : List Element). CountsUp at l) v.numbers up in
         let p = and_parts (same_number (get_or n x.cell (pos 0)) v.cell.default) (have_defaults n xs) (sym (v.defaults n) ∙ h) in
-        let is : get_or n at (pos 0) ≡ v.cell.default = sym (ap (λ (i : ℕ). get_or n i (pos 0)) u.0) ∙ same_is (get_or n x.cell (pos 0)) v.cell.default p.0 in
+        let is : get_or n at (pos 0) ≡ v.cell.default = sym (ap (λ (i : ℕ). get_or n i (pos 0)) u.0) ∙ same_number_is (get_or n x.cell (pos 0)) v.cell.default p.0 in
         subst (λ (l : List Cell). AreBare n at l (λ k. false)) (sym v.cells) (λ c k lt e f. place c k lt e is (more (at + 1) u.1 p.1))
       where
         place : (c k : ℕ) → c < suc (length (cells_of xs)) → k ≡ at + c → get_or n at (pos 0) ≡ v.cell.default → AreBare n (at + 1) (cells_of xs) (λ k. false)

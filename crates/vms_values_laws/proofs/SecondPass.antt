@@ -1,5 +1,5 @@
 -- The second pass over a text judges the entries of sections and subsections, in order.
-use Rattle.std.proofs.Common.{◌≡◌, ℕ, suc, ◌+◌, ◌≤◌, Bool, true, false, not, ◌&&◌, ◌||◌, List, [], ◌∷◌, ◌++◌, length, get_or, map, drop, Option, Some, None, ℤ, pos, refl, sym, ap, ◌∙◌, subst, arith, if◌then◌else◌}
+use Rattle.std.proofs.Common.{◌≡◌, ℕ, suc, ◌+◌, ◌≤◌, Bool, true, false, not, ◌&&◌, List, ◌∷◌, ◌++◌, length, get_or, map, drop, Option, Some, None, ℤ, pos, refl, sym, ap, ◌∙◌, subst, arith, if◌then◌else◌, ◌||◌, []}
 use Rattle.std.proofs.Math.Seq.{drop-cons}
 use Rattle.std.proofs.lemmas.List.{length-append}
 use Rattle.std.specs.List.{flat_map}
@@ -50,7 +50,7 @@ parts_past : (set : Set) (line : ℕ) (n : List ℤ) (xs : List Element) (es : L
 parts_past set line n [] es = ap (λ (l : ℕ). parts_from set l es) (omega arith)
 parts_past set line n (x ∷ xs) es = parts_past set (suc line) n xs es ∙ ap (λ (l : ℕ). parts_from set l es) (omega arith)
 
-or_bad_assoc : (a b c : Option BadLine) → or_bad (or_bad a b) c ≡ or_bad a (or_bad b c)
+pub or_bad_assoc : (a b c : Option BadLine) → or_bad (or_bad a b) c ≡ or_bad a (or_bad b c)
 or_bad_assoc (Some a) b c = refl
 or_bad_assoc None b c = refl
 

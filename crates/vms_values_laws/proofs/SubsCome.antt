@@ -1,8 +1,9 @@
 -- The subsections of a device, read as entries.
-use Rattle.std.proofs.Common.{◌≡◌, ℕ, suc, ◌+◌, ◌≤◌, List, [], ◌∷◌, ◌++◌, length, map, Bool, true, false, ◌||◌, if◌then◌else◌, Option, Some, None, ℤ, Ok, Err, Result, refl, sym, ap, ◌∙◌, subst, arith, append_assoc}
+use Rattle.std.proofs.Common.{◌≡◌, ℕ, suc, ◌+◌, ◌≤◌, List, ◌∷◌, ◌++◌, length, map, Bool, true, false, if◌then◌else◌, Option, Some, None, ℤ, Ok, Err, Result, refl, sym, ap, ◌∙◌, subst, arith, append_assoc, [], ◌||◌}
 use Rattle.std.proofs.lemmas.List.{length-append, length-map}
 use Rattle.std.specs.List.{flat_map}
 use Rattle.std.specs.Str.{bytes_eq}
+use Rattle.std.proofs.lemmas.Slice.Eq.{bytes_eq-Decides}
 use Rattle.vms_spec.specs.declared.ValuesReason.TheVariants as reasons
 use Rattle.vms_spec.specs.Sets.{Sub, Device, Set}
 use Rattle.vms_spec.specs.Layout.{desc_cells, struct_cells}
@@ -10,7 +11,7 @@ use Rattle.vms_spec.specs.Images.{Image}
 use Rattle.vms_spec.specs.Spelling.{first_line}
 use Rattle.vms_spec.specs.ValuesReading.{Standing, Read, BadLine, ReadSubs, readers, read_desc, read_subs, read_sub, sub_said, also, then_subs, next_line, rest_of}
 use Rattle.vms_spec.specs.Sound.{IsSound, AreSound}
-use Rattle.vms_words.proofs.Lines.{line_splits, same_bytes}
+use Rattle.vms_words.proofs.Lines.{line_splits}
 use Rattle.vms_elements.specs.Elements.{Element}
 use Rattle.vms_elements.specs.Parts.{elements_in}
 use Rattle.vms_elements.specs.Lines.{sub_line, printed}
@@ -81,7 +82,7 @@ pub record SaidSub (s : Sub) (o : Option (List ℕ × List ℕ)) (came : Option 
 one_way : (s : Sub) (line rest : List ℕ) (came : Option ℕ) (a b : Bool) → bytes_eq line (sub_line s (Some s.desc.version)) ≡ a → bytes_eq line (sub_line s None) ≡ b
     → (if a then Some (Some s.desc.version) else if b then Some None else None) ≡ Some came → SaidSub s (Some (line, rest)) came
 one_way s line rest (Some v) true b e f h =
-    let same : line ≡ sub_line s (Some s.desc.version) = same_bytes line (sub_line s (Some s.desc.version)) e in
+    let same : line ≡ sub_line s (Some s.desc.version) = (bytes_eq-Decides line (sub_line s (Some s.desc.version))).0 e in
     let version : Some s.desc.version ≡ Some v = cc in
     let whole : line ≡ sub_line s (Some v) = same ∙ ap (λ (o : Option ℕ). sub_line s o) version in
     record {
@@ -93,7 +94,7 @@ one_way s line rest (Some v) true b e f h =
 one_way s line rest None true b e f h = cc
 one_way s line rest (Some v) false true e f h = cc
 one_way s line rest None false true e f h =
-    let whole : line ≡ sub_line s None = same_bytes line (sub_line s None) f in
+    let whole : line ≡ sub_line s None = (bytes_eq-Decides line (sub_line s None)).0 f in
     record {
       rest = rest;
       is = ap (λ (l : List ℕ). Some (l, rest)) whole;

@@ -1,5 +1,6 @@
 -- What a text says, if no line is bad, is what is read of it.
-use Rattle.std.proofs.Common.{◌≡◌, inl, inr, ℕ, List, [], ◌∷◌, ◌++◌, map, true, Option, Some, None, refl, sym, ap, ◌∙◌, subst, codes, append-nil}
+use Rattle.std.proofs.Common.{◌≡◌, inl, inr, ℕ, List, ◌∷◌, ◌++◌, map, true, Option, Some, None, refl, sym, ap, ◌∙◌, subst, codes, append-nil, []}
+use Rattle.std.proofs.lemmas.Option.{same_Some}
 use Rattle.vms_spec.specs.declared.ValuesReason.{ValuesReason}
 use Rattle.vms_spec.specs.Sets.{Device, Set}
 use Rattle.vms_spec.specs.Images.{Image}
@@ -55,10 +56,7 @@ clean_says : (set : Set) → WellFormed set → (machine : Option (List ℕ)) (i
 clean_says set well None images named = clean_entries set (clean_structs set well) None images (clean_devices set well) (λ name e. cc)
 clean_says set well (Some name) images named =
     clean_entries set (clean_structs set well) (Some name) images (clean_devices set well)
-    (λ other e. subst (λ (l : List ℕ). NoFeed l) (some_same name other e) (clean_named set well name named))
-  where
-    some_same : (a b : List ℕ) → Some a ≡ Some b → a ≡ b
-    some_same a b e = cc
+    (λ other e. subst (λ (l : List ℕ). NoFeed l) (same_Some name other e) (clean_named set well name named))
 
 -- ---- the state
 

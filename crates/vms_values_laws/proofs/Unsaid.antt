@@ -1,6 +1,7 @@
 -- Which cells have a line, by what was said; a cell of which nothing was said stays as it was.
-use Rattle.std.proofs.Common.{◌≡◌, ℕ, Bool, true, false, ◌||◌, ◌==◌, List, [], ◌∷◌, ◌++◌, get_or, map, slice_set, ℤ, pos, refl, sym, ap, ◌∙◌, get_or-set_other}
-use Rattle.std.proofs.lemmas.Bool.{eq-eqb}
+use Rattle.std.proofs.Common.{◌≡◌, ℕ, Bool, true, false, ◌==◌, List, ◌∷◌, ◌++◌, get_or, map, slice_set, ℤ, pos, refl, sym, ap, ◌∙◌, get_or-set_other, ◌||◌, []}
+use Rattle.std.proofs.lemmas.Bool.{eq-eqb, or_parts}
+use Rattle.std.proofs.Math.Bool.{or_assoc}
 use Rattle.vms_elements.specs.Entries.{Entry, OfNumber}
 use Rattle.vms_elements.specs.Reading.{is_of_cell, has_line}
 use Rattle.vms_values_laws.specs.Said.{Said, put_all}
@@ -9,10 +10,6 @@ use Rattle.vms_values_laws.specs.Said.{Said, put_all}
 abbrev pub has_said : List Said → ℕ → Bool
 has_said [] c = false
 has_said (s ∷ said) c = (s.element.cell == c) || has_said said c
-
-pub or_assoc : (a b c : Bool) → ((a || b) || c) ≡ (a || (b || c))
-or_assoc true b c = refl
-or_assoc false b c = refl
 
 pub said_both : (said more : List Said) (c : ℕ) → has_said (said ++ more) c ≡ (has_said said c || has_said more c)
 said_both [] more c = refl
@@ -27,14 +24,10 @@ pub lines_said : (n : List ℤ) (said : List Said) (c : ℕ) → has_line (map (
 lines_said n [] c = refl
 lines_said n (s ∷ said) c = ap (λ (b : Bool). (s.element.cell == c) || b) (lines_said n said c)
 
-or_none : (a b : Bool) → (a || b) ≡ false → (a ≡ false) × (b ≡ false)
-or_none true b e = cc
-or_none false b e = (refl, e)
-
 pub unsaid_kept : (n : List ℤ) (said : List Said) (c : ℕ) → has_said said c ≡ false → get_or (put_all n said) c (pos 0) ≡ get_or n c (pos 0)
 unsaid_kept n [] c e = refl
 unsaid_kept n (s ∷ said) c e =
-    let p = or_none (s.element.cell == c) (has_said said c) e in
+    let p = or_parts (s.element.cell == c) (has_said said c) e in
     unsaid_kept (slice_set n s.element.cell s.number) said c p.1
     ∙ get_or-set_other n s.element.cell c s.number (pos 0) (λ same. no (sym (eq-eqb s.element.cell c (sym same)) ∙ p.0))
   where

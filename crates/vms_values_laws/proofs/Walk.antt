@@ -1,7 +1,8 @@
 -- Reading the fields of a description, beside its elements.
-use Rattle.std.proofs.Common.{◌≡◌, ℕ, zero, suc, ◌+◌, ◌*◌, ◌<◌, ◌≤◌, List, [], ◌∷◌, ◌++◌, length, get_or, map, drop, ℤ, Bool, true, false, ◌&&◌, nat_lt, refl, sym, ap, ◌∙◌, subst, arith, append_assoc, append-nil, length-append, codes}
+use Rattle.std.proofs.Common.{◌≡◌, ℕ, zero, suc, ◌+◌, ◌*◌, ◌<◌, ◌≤◌, List, ◌∷◌, ◌++◌, length, get_or, map, drop, ℤ, Bool, true, false, ◌&&◌, nat_lt, refl, sym, ap, ◌∙◌, subst, arith, append_assoc, append-nil, length-append, codes, []}
 use Rattle.std.specs.Fmt.{decimal}
 use Rattle.std.proofs.lemmas.Bool.{ltb-true, ltb-false}
+use Rattle.std.proofs.Math.Bool.{and-true}
 use Rattle.vms_kinds.specs.declared.Item.{Item}
 use Rattle.vms_kinds.specs.declared.Item.TheVariants.{Num, Equal, Unused, Struct}
 use Rattle.vms_kinds.specs.Codes.{width, residue}
@@ -16,13 +17,13 @@ use Rattle.vms_bodies.proofs.Places.{there_same, elements_same, place_next}
 use Rattle.vms_bodies.proofs.WalkLaws.{drop_next, zero_plus, place_first}
 use Rattle.vms_elements.specs.Elements.{Element, Number, Shape, no_shape, shape, shapes, cells_in, dotted, behind, single, Rule, item_elements, Stand, stand_of, array_elements, field_elements, elements_from, desc_elements, index_text}
 use Rattle.vms_spec.proofs.Tables.{first_long}
-use Rattle.vms_spec.proofs.Prefixes.{first_cells}
+use Rattle.vms_spec.proofs.Prefixes.{readers_cells}
 use Rattle.vms_elements.proofs.Tables.{both, two_more, shapes_cells}
 use Rattle.vms_elements.proofs.SlotsOf.{below_true, past_false}
 use Rattle.vms_values_laws.specs.Said.{Said, Agrees}
 use Rattle.vms_values_laws.proofs.OneLine.{spot}
 use Rattle.vms_values_laws.proofs.Coming.{Knows, AllKnown, knows_grows, At, Comes, at_left, at_less, stay, forget, then_comes, line_comes}
-use Rattle.vms_values_laws.proofs.Wrapped.{under, wrapped, wrapped_append, wrapped_behind, wrapped_none, wrapped_dotted, and_true}
+use Rattle.vms_values_laws.proofs.Wrapped.{under, wrapped, wrapped_append, wrapped_behind, wrapped_none, wrapped_dotted}
 
 brackets : ℕ → List ℕ
 brackets e = codes "[" ++ (decimal e ++ codes "]")
@@ -58,7 +59,7 @@ first_counted steps path present f stand part step e k m at c =
     ∙ ap (λ (l : List Element). l ++ wrapped steps path present later)
     (ap (λ (b : Bool). wrapped steps path present (map (behind (stand.number, e) text b (stand.there && b)) (part at))) is
     ∙ wrapped_behind steps path present (stand.number, e) text (stand.there && true) (part at)
-    ∙ ap (λ (b : Bool). wrapped (steps ++ (stand.number, e) ∷ []) (path ++ text) (present && b) (part at)) (and_true stand.there))
+    ∙ ap (λ (b : Bool). wrapped (steps ++ (stand.number, e) ∷ []) (path ++ text) (present && b) (part at)) (and-true stand.there))
 
 dropped : (fields : List Field) (i : ℕ) (f : Field) (fs : List Field) → drop i fields ≡ f ∷ fs → get_or fields i no_field ≡ f
 dropped [] zero f fs e = cc
@@ -120,7 +121,7 @@ module _ (total : List ℤ → List Element) (start : Standing) (low : ℕ) wher
         → Comes total start low (at + item_size (cells_of rs) item) (single_cell item at) said left (read_item rs f caps path present at item p)
     item_comes f (Num kind) caps steps path present at p said left room a =
         let c : Cell = record { kind = kind; capacities = caps; default = f.default } in
-        let is : under steps path present (single at (Number c)) ≡ spot steps path present at c = rw (append-nil steps, append-nil path, and_true present) refl in
+        let is : under steps path present (single at (Number c)) ≡ spot steps path present at c = rw (append-nil steps, append-nil path, and-true present) refl in
         line_comes total start low steps path present at c p said left (omega arith)
         (at_left total start low at p said (λ m. under steps path present (single at (Number c)) ∷ left m) (λ m. spot steps path present at c ∷ left m) (λ m g. ap (λ (x : Element). x ∷ left m) is) a)
     item_comes f (Equal kind z) caps steps path present at p said left room a =
@@ -278,9 +279,6 @@ module _ (total : List ℤ → List Element) (start : Standing) (low : ℕ) wher
         ∙ append-nil (wrapped steps path present (elements_from ss d.fields v (own cs m) m 0 base d.fields)))) a)
 
   -- ---- structures
-
-  readers_cells : (ds : List Desc) (k : ℕ) → cells_of (first reader ds k) ≡ first desc_cells ds k
-  readers_cells ds k = first_cells (λ (r : Reader). r.cells) reader (λ rs d. refl) ds k
 
   same_cells : (ds : List Desc) (k : ℕ) → cells_in (first shape ds k) ≡ cells_of (first reader ds k)
   same_cells ds k = shapes_cells ds k ∙ sym (readers_cells ds k)

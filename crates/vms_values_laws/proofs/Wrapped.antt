@@ -1,9 +1,11 @@
 -- The printed elements under a path.
-use Rattle.std.proofs.Common.{◌≡◌, ℕ, List, [], ◌∷◌, ◌++◌, map, refl, sym, ap, ◌∙◌, Bool, true, false, ◌&&◌, if◌then◌else◌, append_assoc, codes}
+use Rattle.std.proofs.Common.{◌≡◌, ℕ, List, ◌∷◌, ◌++◌, map, refl, sym, ap, ◌∙◌, Bool, true, false, ◌&&◌, if◌then◌else◌, append_assoc, codes, []}
 use Rattle.std.proofs.lemmas.List.{map-append}
+use Rattle.std.proofs.Math.Bool.{and_assoc}
 use Rattle.vms_elements.specs.Elements.{Element, dotted, behind}
 use Rattle.vms_elements.specs.Parts.{is_number}
 use Rattle.vms_elements.specs.Lines.{printed}
+use Rattle.vms_elements.proofs.LinesOf.{printed_append}
 
 -- an element behind these steps, of this text
 abbrev pub under : List (ℕ × ℕ) → List ℕ → Bool → Element → Element
@@ -11,22 +13,6 @@ under steps text present x = record x { path = steps ++ x.path; name = text ++ x
 
 abbrev pub wrapped : List (ℕ × ℕ) → List ℕ → Bool → List Element → List Element
 wrapped steps text present xs = map (under steps text present) (printed xs)
-
-pick_append : {B : Type 0} (b : Bool) (x : B) (xs ys zs : List B) → xs ≡ ys ++ zs → (if b then x ∷ xs else xs) ≡ (if b then x ∷ ys else ys) ++ zs
-pick_append true x xs ys zs e = ap (λ l. x ∷ l) e
-pick_append false x xs ys zs e = e
-
-pub printed_append : (xs ys : List Element) → printed (xs ++ ys) ≡ printed xs ++ printed ys
-printed_append [] ys = refl
-printed_append (x ∷ xs) ys = pick_append (x.counted && is_number x.what) x (printed (xs ++ ys)) (printed xs) (printed ys) (printed_append xs ys)
-
-pub and_assoc : (a b c : Bool) → (a && (b && c)) ≡ ((a && b) && c)
-and_assoc true b c = refl
-and_assoc false b c = refl
-
-pub and_true : (a : Bool) → (a && true) ≡ a
-and_true true = refl
-and_true false = refl
 
 -- an element is what it is of
 same_element : (x : Element) (steps steps' : List (ℕ × ℕ)) (name name' : List ℕ) (present present' : Bool) → steps ≡ steps' → name ≡ name' → present ≡ present'
@@ -47,7 +33,7 @@ module _ (steps : List (ℕ × ℕ)) (text : List ℕ) (present : Bool) where
   wrapped_behind step name p (x ∷ xs) =
       let b = x.counted && is_number x.what in
       let one : under steps text present (behind step name true p x) ≡ under (steps ++ step ∷ []) (text ++ name) (present && p) x =
-      same_element x _ _ _ _ _ _ (sym (append_assoc steps (step ∷ []) x.path)) (sym (append_assoc text name x.name)) (and_assoc present p x.present) in
+      same_element x _ _ _ _ _ _ (sym (append_assoc steps (step ∷ []) x.path)) (sym (append_assoc text name x.name)) (sym (and_assoc present p x.present)) in
       map_if (under steps text present) b (behind step name true p x) (printed (map (behind step name true p) xs))
       ∙ ap (λ (y : Element). if b then y ∷ wrapped steps text present (map (behind step name true p) xs) else wrapped steps text present (map (behind step name true p) xs)) one
       ∙ ap (λ (l : List Element). if b then under (steps ++ step ∷ []) (text ++ name) (present && p) x ∷ l else l) (wrapped_behind step name p xs)

@@ -1,7 +1,8 @@
 -- What steps keep of the numbers, one after the other.
-use Rattle.std.proofs.Common.{◌≡◌, ℕ, List, [], ◌∷◌, ◌++◌, length, length-set, get_or, slice_set, Option, ℤ, pos, refl, sym, ap, ◌∙◌, subst, Bool, true, false, ◌||◌, ◌==◌}
+use Rattle.std.proofs.Common.{◌≡◌, ℕ, List, ◌∷◌, ◌++◌, length, length-set, get_or, slice_set, Option, ℤ, pos, refl, sym, ap, ◌∙◌, subst, Bool, false, ◌==◌, [], ◌||◌}
 use Rattle.std.proofs.lemmas.List.{get_or-set_other}
-use Rattle.std.proofs.lemmas.Bool.{eq-eqb}
+use Rattle.std.proofs.lemmas.Bool.{eq-eqb, or_parts}
+use Rattle.std.proofs.Math.Bool.{or_assoc}
 use Rattle.vms_kinds.specs.declared.Kind.{Kind}
 use Rattle.vms_walk.specs.declared.step.WalkStep.{WalkStep}
 use Rattle.vms_walk.specs.declared.step.WalkStep.TheVariants.{Number, Constant, Filler, Rule}
@@ -9,18 +10,10 @@ use Rattle.vms_walk.specs.Inside.{has_step, Keeps}
 
 pub has_append : (xs ys : List WalkStep) (c : ℕ) → has_step (xs ++ ys) c ≡ (has_step xs c || has_step ys c)
 has_append [] ys c = refl
-has_append (Number k kind most ∷ xs) ys c = ap (λ (b : Bool). (k == c) || b) (has_append xs ys c) ∙ or_assoc (k == c) (has_step xs c) (has_step ys c)
-  where
-    or_assoc : (a b d : Bool) → (a || (b || d)) ≡ ((a || b) || d)
-    or_assoc true b d = refl
-    or_assoc false b d = refl
+has_append (Number k kind most ∷ xs) ys c = ap (λ (b : Bool). (k == c) || b) (has_append xs ys c) ∙ sym (or_assoc (k == c) (has_step xs c) (has_step ys c))
 has_append (Constant kind z ∷ xs) ys c = has_append xs ys c
 has_append (Filler k ∷ xs) ys c = has_append xs ys c
 has_append (Rule b ∷ xs) ys c = has_append xs ys c
-
-pub neither : (a b : Bool) → (a || b) ≡ false → (a ≡ false) × (b ≡ false)
-neither true b e = cc
-neither false b e = (refl, e)
 
 -- no number is put
 pub keeps_same : (xs : List WalkStep) (n m : List ℤ) → m ≡ n → Keeps xs n m
@@ -30,14 +23,14 @@ keeps_same xs n m e = record { long = ap length e; same = λ c h. ap (λ (l : Li
 pub keeps_more : (xs ys : List WalkStep) (n m k : List ℤ) → Keeps xs n m → Keeps ys m k → Keeps (xs ++ ys) n k
 keeps_more xs ys n m k p q = record {
   long = q.long ∙ p.long;
-  same = λ c e. let none = neither (has_step xs c) (has_step ys c) (sym (has_append xs ys c) ∙ e) in q.same c none.1 ∙ p.same c none.0;
+  same = λ c e. let none = or_parts (has_step xs c) (has_step ys c) (sym (has_append xs ys c) ∙ e) in q.same c none.1 ∙ p.same c none.0;
 }
 
 -- some first of the steps
 pub keeps_front : (xs ys : List WalkStep) (n m : List ℤ) → Keeps xs n m → Keeps (xs ++ ys) n m
 keeps_front xs ys n m p = record {
   long = p.long;
-  same = λ c e. let none = neither (has_step xs c) (has_step ys c) (sym (has_append xs ys c) ∙ e) in p.same c none.0;
+  same = λ c e. let none = or_parts (has_step xs c) (has_step ys c) (sym (has_append xs ys c) ∙ e) in p.same c none.0;
 }
 
 -- a number is put

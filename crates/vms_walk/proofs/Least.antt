@@ -1,24 +1,13 @@
 -- A number that counts arrays is within the capacities of all where it is within the least of them.
-use Rattle.std.proofs.Common.{◌≡◌, ℕ, ◌<◌, ◌≤◌, min, List, [], ◌∷◌, Option, Some, None, ℤ, pos, negsuc, refl, sym, ap, ◌∙◌, arith, Bool, true, false, ◌||◌, nat_lt}
+use Rattle.std.proofs.Common.{◌≡◌, ℕ, ◌<◌, ◌≤◌, min, List, ◌∷◌, Option, Some, None, ℤ, pos, negsuc, refl, sym, ap, ◌∙◌, arith, Bool, true, false, nat_lt, [], ◌||◌}
 use Rattle.std.proofs.lemmas.Bool.{ltb-true, ltb-false, lt-ltb}
+use Rattle.std.proofs.Math.Bool.{or-false, or_assoc}
 use Rattle.vms_spec.specs.Numbers.{exceeds, is_above}
+use Rattle.vms_spec.proofs.ListLaws.{same_tests}
 use Rattle.vms_parts.specs.Capacities.{lesser, least_from, least_of}
 use Rattle.vms_walk.specs.Steps.{capacities_of}
 
-or_assoc : (a b c : Bool) → ((a || b) || c) ≡ (a || (b || c))
-or_assoc true b c = refl
-or_assoc false b c = refl
-
-pub or_false : (a : Bool) → (a || false) ≡ a
-or_false true = refl
-or_false false = refl
-
 -- ---- the least of capacities
-
-same_tests : (a b : Bool) → (a ≡ true → b ≡ true) → (b ≡ true → a ≡ true) → a ≡ b
-same_tests true b f g = sym (f refl)
-same_tests false true f g = g refl
-same_tests false false f g = refl
 
 above_lesser : (k m n : ℕ) → nat_lt (min k m) n ≡ (nat_lt k n || nat_lt m n)
 above_lesser k m n = same_tests (nat_lt (min k m) n) (nat_lt k n || nat_lt m n) (λ e. forth e (nat_lt k n) refl) (λ e. back (nat_lt k n) refl e)
@@ -39,13 +28,13 @@ above_lesser k m n = same_tests (nat_lt (min k m) n) (nat_lt k n || nat_lt m n) 
         lt-ltb (min k m) n (omega arith)
 
 exceeds_lesser : (o : Option ℕ) (m : ℕ) (z : ℤ) → exceeds (capacities_of (lesser o m)) z ≡ (exceeds (capacities_of o) z || is_above z m)
-exceeds_lesser None m z = or_false (is_above z m)
+exceeds_lesser None m z = or-false (is_above z m)
 exceeds_lesser (Some k) m (pos n) =
-    or_false (nat_lt (min k m) n) ∙ above_lesser k m n ∙ ap (λ (b : Bool). b || nat_lt m n) (sym (or_false (nat_lt k n)))
+    or-false (nat_lt (min k m) n) ∙ above_lesser k m n ∙ ap (λ (b : Bool). b || nat_lt m n) (sym (or-false (nat_lt k n)))
 exceeds_lesser (Some k) m (negsuc n) = refl
 
 exceeds_from : (o : Option ℕ) (caps : List ℕ) (z : ℤ) → exceeds (capacities_of (least_from o caps)) z ≡ (exceeds (capacities_of o) z || exceeds caps z)
-exceeds_from o [] z = sym (or_false (exceeds (capacities_of o) z))
+exceeds_from o [] z = sym (or-false (exceeds (capacities_of o) z))
 exceeds_from o (m ∷ caps) z =
     exceeds_from (lesser o m) caps z ∙ ap (λ (b : Bool). b || exceeds caps z) (exceeds_lesser o m z) ∙ or_assoc (exceeds (capacities_of o) z) (is_above z m) (exceeds caps z)
 

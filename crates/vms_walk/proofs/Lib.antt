@@ -1,5 +1,4 @@
 pub mod Going
-pub mod Growing
 pub mod Kept
 pub mod Local
 pub mod Order

@@ -1,7 +1,8 @@
 -- The slots up to a place depend on the cells below it alone.
-use Rattle.std.proofs.Common.{◌≡◌, ℕ, zero, suc, ◌+◌, ◌*◌, ◌<◌, ◌≤◌, List, [], ◌∷◌, ◌++◌, length, get_or, take, drop, ℤ, refl, sym, ap, ◌∙◌, subst, arith, Bool, true, if◌then◌else◌, ◌||◌, ◌==◌, Some}
-use Rattle.std.specs.List.{slice_get}
+use Rattle.std.proofs.Common.{◌≡◌, ℕ, zero, suc, ◌+◌, ◌*◌, ◌<◌, ◌≤◌, List, ◌∷◌, ◌++◌, length, get_or, take, drop, ℤ, refl, sym, ap, ◌∙◌, subst, arith, Bool, if◌then◌else◌, ◌==◌, [], ◌||◌}
 use Rattle.std.proofs.lemmas.List.{drop_more}
+use Rattle.std.proofs.lemmas.Bool.{or_parts}
+use Rattle.std.proofs.lemmas.Option.{slice_get-get_or}
 use Rattle.vms_kinds.specs.declared.Item.{Item}
 use Rattle.vms_spec.specs.declared.Part.{Part}
 use Rattle.vms_spec.specs.declared.Part.TheVariants as parts
@@ -9,22 +10,17 @@ use Rattle.vms_spec.specs.Sets.{Field, Desc, Set}
 use Rattle.vms_spec.specs.Tests.{is_there}
 use Rattle.vms_spec.specs.Images.{has_cell}
 use Rattle.vms_spec.specs.Layout.{Slot, Number, Constant, Filler, Rule, Meaning, item_slots, item_size, times, field_slots, slots_from, field_cells, place_of, numbers_of, no_field, no_parent, elements_of}
-use Rattle.vms_spec.specs.WellFormed.{first_fault}
 use Rattle.vms_spec.specs.Sound.{IsSound, IsSoundField, AreSoundFields, IsEarlier}
 use Rattle.vms_spec.specs.Good.{IsGood}
-use Rattle.vms_spec.specs.Heads.{FitsHeads}
 use Rattle.vms_bodies.proofs.Places.{SameBelow, same_less, place_next, own_same, there_same, elements_same}
 use Rattle.vms_bodies.proofs.AboveLaws.{IsAbove}
 use Rattle.vms_bodies.proofs.SettledLaws.{SameIn, MeanSettled, item_settled, field_settled, meanings_settled}
-use Rattle.vms_spec.proofs.WellFormedLaws.{well_good}
-use Rattle.vms_desc.specs.Formed.{is_well_formed}
 use Rattle.vms_desc.specs.Described.{device_at}
 use Rattle.vms_desc.specs.Parts.{HasPart, desc_at, sub_at}
-use Rattle.vms_desc.proofs.Bounds.{none_is}
 use Rattle.vms_walk.specs.declared.step.WalkStep.{WalkStep}
 use Rattle.vms_walk.specs.Inside.{has_step, Keeps}
 use Rattle.vms_walk.specs.Steps.{table, cells_in, steps_of, present_of}
-use Rattle.vms_walk.proofs.Kept.{has_append, neither}
+use Rattle.vms_walk.proofs.Kept.{has_append}
 use Rattle.vms_walk.proofs.Parts.{fields_more}
 
 -- ---- what steps keep
@@ -42,7 +38,7 @@ keeps_below cell xs n m above k = record { same = λ c lt. k.same c (has_step_of
 -- the same, after some first of the steps
 pub keeps_first : (cell : ℕ) (xs : List Slot) (ys zs : List WalkStep) (n m : List ℤ) → steps_of xs ≡ ys ++ zs → IsAbove cell xs → Keeps ys n m → SameBelow cell n m
 keeps_first cell xs ys zs n m e above k = record {
-  same = λ c lt. k.same c (neither (has_step ys c) (has_step zs c) (sym (has_append ys zs c) ∙ ap (λ (l : List WalkStep). has_step l c) (sym e) ∙ has_step_of xs c ∙ above.below c lt)).0;
+  same = λ c lt. k.same c (or_parts (has_step ys c) (has_step zs c) (sym (has_append ys zs c) ∙ ap (λ (l : List WalkStep). has_step l c) (sym e) ∙ has_step_of xs c ∙ above.below c lt)).0;
 }
 
 pub in_below : (cell : ℕ) (n m : List ℤ) → SameBelow cell n m → SameIn 0 cell n m
@@ -117,19 +113,11 @@ module _ (ms : List Meaning) (settled : MeanSettled ms) (d : Desc) (sound : IsSo
 
 -- ---- sound parts
 
-at_get : {A : Type 0} (xs : List A) (k : ℕ) (x : A) → k < length xs → slice_get xs k ≡ Some (get_or xs k x)
-at_get [] k x lt = absurd (omega arith)
-at_get (y ∷ ys) zero x lt = refl
-at_get (y ∷ ys) (suc k) x lt = at_get ys k x (omega arith)
-
-pub good : (set : Set) → is_well_formed set ≡ true → FitsHeads set → IsGood set
-good set well heads = well_good set (none_is (first_fault set) well) heads
-
 pub part_sound : (set : Set) → IsGood set → (part : Part) → HasPart set part → IsSound (desc_at set part)
 part_sound set g parts.Set h = absurd h
 part_sound set g (parts.Struct j) h = g.structs j h
-part_sound set g (parts.Device i) h = g.devices i (device_at set i) (at_get set.devices i _ h)
-part_sound set g (parts.Sub i j) h = g.subs i j (device_at set i) (sub_at (device_at set i) j) (at_get set.devices i _ h.0) (at_get (device_at set i).subs j _ h.1)
+part_sound set g (parts.Device i) h = g.devices i (device_at set i) (slice_get-get_or set.devices i _ h)
+part_sound set g (parts.Sub i j) h = g.subs i j (device_at set i) (sub_at (device_at set i) j) (slice_get-get_or set.devices i _ h.0) (slice_get-get_or (device_at set i).subs j _ h.1)
 
 pub set_settled : (set : Set) → IsGood set → MeanSettled (table set)
 set_settled set g = meanings_settled set.structs g.structs (length set.structs) (omega arith)

@@ -1,6 +1,6 @@
 -- The slots of a description have their cells in ascending order, between its first cell and its end.
-use Rattle.std.proofs.Common.{◌≡◌, ℕ, zero, suc, ◌+◌, ◌*◌, ◌<◌, ◌≤◌, List, [], ◌∷◌, ◌++◌, length, length-append, get_or, ℤ, refl, sym, ap, ◌∙◌, subst, arith, Bool, true, false, if◌then◌else◌, ◌==◌, ◌||◌}
-use Rattle.std.proofs.lemmas.Bool.{eqb-true}
+use Rattle.std.proofs.Common.{◌≡◌, ℕ, zero, suc, ◌+◌, ◌*◌, ◌<◌, ◌≤◌, List, ◌∷◌, ◌++◌, length, length-append, get_or, ℤ, refl, sym, ap, ◌∙◌, subst, arith, Bool, true, false, if◌then◌else◌, [], ◌||◌}
+use Rattle.std.proofs.lemmas.Bool.{ne_eqb}
 use Rattle.std.proofs.Math.ListN.{get_or-map}
 use Rattle.vms_kinds.specs.declared.Item.{Item}
 use Rattle.vms_kinds.specs.declared.Item.TheVariants.{Num, Equal, Unused, Struct}
@@ -8,10 +8,9 @@ use Rattle.vms_spec.specs.Sets.{Field, Desc}
 use Rattle.vms_spec.specs.Tests.{is_there}
 use Rattle.vms_spec.specs.Images.{has_cell}
 use Rattle.vms_spec.specs.Layout.{Slot, Number, Constant, Filler, Rule, Cell, Meaning, no_meaning, no_desc, item_slots, item_size, times, field_slots, slots_from, desc_slots, desc_cells, cells_from, field_cells, numbers_of, elements_of, capacity_of, counted, all_hold, no_parent, first, meaning, meanings}
-use Rattle.vms_spec.proofs.Sizes.{field_size, elements_fit}
+use Rattle.vms_spec.proofs.Sizes.{field_size, elements_fit, room_for_less}
 use Rattle.vms_spec.proofs.Tables.{one_more}
 use Rattle.vms_walk.specs.Steps.{cells_in}
-use Rattle.vms_walk.proofs.Walking.{room_for_less}
 
 -- the cells ascend, from one on and below an end
 abbrev pub Ascends : ℕ → ℕ → List Slot → Type 0
@@ -23,16 +22,12 @@ Ascends from end (Rule b ∷ xs) = Ascends from end xs
 
 -- ---- what follows
 
-not_same : (k c : ℕ) → c < k → (b : Bool) → (k == c) ≡ b → (k == c) ≡ false
-not_same k c lt true e = let same = eqb-true k c e in absurd (omega arith)
-not_same k c lt false e = e
-
 pub below_from : (from end : ℕ) (xs : List Slot) → Ascends from end xs → (c : ℕ) → c < from → has_cell xs c ≡ false
 below_from from end [] h c lt = refl
 below_from from end (Number k kind caps ∷ xs) h c lt =
     let up = h.0 in
     let less : c < k = omega arith in
-    ap (λ (b : Bool). b || has_cell xs c) (not_same k c less (k == c) refl) ∙ below_from (k + 1) end xs h.1 c (omega arith)
+    ap (λ (b : Bool). b || has_cell xs c) (ne_eqb k c (λ e. omega (arith, e, less))) ∙ below_from (k + 1) end xs h.1 c (omega arith)
 below_from from end (Constant kind z ∷ xs) h c lt = below_from from end xs h c lt
 below_from from end (Filler n ∷ xs) h c lt = below_from from end xs h c lt
 below_from from end (Rule b ∷ xs) h c lt = below_from from end xs h c lt

@@ -10,6 +10,7 @@ use Rattle.vms_spec.specs.Rules.{uses_below}
 use Rattle.vms_parts.specs.Capacities.{least_of}
 use Rattle.vms_spec.specs.Layout.{Cell, no_desc, no_parent, item_slots, item_size, slots_from, desc_slots, desc_cells, cells_from, struct_cells, numbers_of, elements_of, capacity_of, counted, times}
 use Rattle.vms_spec.proofs.Prefixes.{FieldsBelow, all_below, struct_slots, struct_cells_at}
+use Rattle.vms_spec.proofs.Sizes.{room_for_less, one_fits}
 use Rattle.vms_bodies.proofs.CellLaws.{cells_first}
 use Rattle.vms_parts.specs.Sizes.{in_u32}
 use Rattle.vms_desc.specs.Asks.{field_at, own_numbers}
@@ -19,7 +20,7 @@ use Rattle.vms_desc.proofs.Clean.{reach, field_clean, struct_clean}
 use Rattle.vms_walk.specs.declared.fields.PartAt.{PartAt}
 use Rattle.vms_walk.specs.Steps.{table, cells_in, HasSpot, spot_numbers, spot_slots, slots_at, present_of, size_in, capacities_of, elements_slots, steps_of}
 use Rattle.vms_desc.proofs.Ranks.{item_rank, part_rank, reach_whole, uses_more, rank_below}
-use Rattle.vms_walk.proofs.Walking.{slots_next, room_next, fields_at, one_fits, room_for_less, present_slots, present_fits, steps_bare, steps_append, times_next}
+use Rattle.vms_walk.proofs.Walking.{slots_next, room_next, fields_at, present_slots, present_fits, steps_bare, steps_append, times_next}
 
 pub cells_table : (set : Set) → cells_in (table set) ≡ struct_cells set
 cells_table set = cells_first set.structs (length set.structs)

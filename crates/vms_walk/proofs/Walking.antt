@@ -1,12 +1,12 @@
 -- The slots of fields and elements, one after the other.
-use Rattle.std.proofs.Common.{◌≡◌, ℕ, zero, suc, ◌+◌, ◌*◌, ◌-◌, ◌<◌, ◌≤◌, List, [], ◌∷◌, ◌++◌, length, get_or, drop, ℤ, refl, sym, ap, ◌∙◌, arith, length-append, append_assoc, Bool, true, false, if◌then◌else◌, Option, Some, None}
+use Rattle.std.proofs.Common.{◌≡◌, ℕ, zero, suc, ◌+◌, ◌*◌, ◌<◌, ◌≤◌, List, ◌∷◌, ◌++◌, length, get_or, drop, ℤ, refl, sym, ap, ◌∙◌, arith, length-append, append_assoc, Bool, true, false, if◌then◌else◌, Option, Some, None, []}
 use Rattle.std.proofs.lemmas.List.{drop_more}
 use Rattle.vms_kinds.specs.declared.Item.{Item}
 use Rattle.vms_kinds.specs.declared.Item.TheVariants.{Num, Equal, Unused, Struct}
 use Rattle.vms_spec.specs.Sets.{Field}
 use Rattle.vms_spec.specs.Tests.{is_there}
 use Rattle.vms_spec.specs.Layout.{Slot, Cell, Meaning, item_slots, item_size, times, field_slots, slots_from, field_cells, cells_from, elements_of, capacity_of, counted, no_parent, no_field}
-use Rattle.vms_spec.proofs.Sizes.{field_size, elements_fit}
+use Rattle.vms_spec.proofs.Sizes.{field_size, elements_fit, room_for_less}
 use Rattle.vms_parts.specs.Capacities.{least_of}
 use Rattle.vms_walk.specs.declared.step.WalkStep.{WalkStep}
 use Rattle.vms_walk.specs.declared.step.WalkStep.TheVariants as steps
@@ -82,20 +82,6 @@ present_fits f v own = by_test (is_there f.test f.since v own no_parent)
     by_test : (b : Bool) → (if b then elements_of f.count own else 0) ≤ capacity_of f.count
     by_test true = elements_fit f.count own
     by_test false = omega arith
-
-pub room_for_less : (a b s x n : ℕ) → a ≤ b → x + b * s ≤ n → x + a * s ≤ n
-room_for_less a b s x n le h =
-    let d = b - a in
-    let e : b ≡ a + d = omega arith in
-    let f : (a + d) * s ≡ a * s + d * s = grind arith in
-    omega (arith, ap (λ (k : ℕ). k * s) e, f)
-
-pub one_fits : (a s x n most : ℕ) → 1 ≤ a → x + a * s ≤ n → n ≤ most → s ≤ most
-one_fits a s x n most one h le =
-    let d = a - 1 in
-    let e : a ≡ 1 + d = omega arith in
-    let f : (1 + d) * s ≡ s + d * s = grind arith in
-    omega (arith, ap (λ (k : ℕ). k * s) e, f)
 
 -- what is left of the fields, at a field
 pub fields_at : (all : List Field) (i : ℕ) → i < length all → drop i all ≡ get_or all i no_field ∷ drop (i + 1) all

@@ -1,10 +1,11 @@
 -- Lines, taken from the front of a text.
-use Rattle.std.proofs.Common.{◌≡◌, ℕ, zero, suc, ◌≤◌, Bool, true, false, ◌==◌, nat_le, List, [], ◌∷◌, ◌++◌, length, take, drop, Option, Some, None, ℤ, pos, negsuc, if◌then◌else◌, refl, sym, ap, ◌∙◌, arith}
+use Rattle.std.proofs.Common.{◌≡◌, ℕ, suc, ◌≤◌, Bool, true, false, ◌==◌, nat_le, List, ◌∷◌, ◌++◌, length, take, drop, Option, Some, None, ℤ, pos, negsuc, if◌then◌else◌, refl, sym, ap, ◌∙◌, arith, []}
 use Rattle.std.specs.List.{list_all}
 use Rattle.std.proofs.lemmas.Bool.{and_parts, leb-true, ne_eqb, eqb-true}
 use Rattle.std.proofs.lemmas.Fmt.{digits_decimal}
 use Rattle.std.specs.Fmt.{decimal, signed_decimal}
-use Rattle.std.specs.Str.{bytes_eq}
+use Rattle.std.proofs.lemmas.List.{take-append-drop}
+use Rattle.std.proofs.lemmas.Slice.Eq.{bytes_eq-Decides}
 use Rattle.vms_spec.specs.Spelling.{first_line, longer_line, begins_with, is_digit}
 use Rattle.vms_words.specs.Texts.{IsShort}
 use Rattle.vms_words.proofs.Spells.{AreDigits, numerals}
@@ -50,21 +51,6 @@ pub line_splits : (text line rest : List ℕ) → first_line text ≡ Some (line
 line_splits [] line rest e = cc
 line_splits (b ∷ text) line rest e = by_byte b text line rest (b == 10) refl e (λ front f. line_splits text front rest f)
 
-pub same_bytes : (a b : List ℕ) → bytes_eq a b ≡ true → a ≡ b
-same_bytes [] [] e = refl
-same_bytes [] (y ∷ b) e = cc
-same_bytes (x ∷ a) [] e = cc
-same_bytes (x ∷ a) (y ∷ b) e =
-    let parts = and_parts (x == y) (bytes_eq a b) e in
-    let first : x ≡ y = eqb-true x y parts.0 in
-    let rest : a ≡ b = same_bytes a b parts.1 in
-    rw (first, rest) refl
-
-take_drop : (n : ℕ) (l : List ℕ) → take n l ++ drop n l ≡ l
-take_drop zero l = refl
-take_drop (suc n) [] = refl
-take_drop (suc n) (x ∷ l) = ap (λ (m : List ℕ). x ∷ m) (take_drop n l)
-
 pub begun : (front text : List ℕ) → begins_with front text ≡ true → text ≡ front ++ drop (length front) text
 begun front text e =
-    sym (take_drop (length front) text) ∙ ap (λ (l : List ℕ). l ++ drop (length front) text) (same_bytes (take (length front) text) front e)
+    sym (take-append-drop (length front) text) ∙ ap (λ (l : List ℕ). l ++ drop (length front) text) ((bytes_eq-Decides (take (length front) text) front).0 e)

@@ -1,10 +1,11 @@
 -- Numbers are spelled in one way.
-use Rattle.std.proofs.Common.{◌≡◌, ℕ, zero, suc, ◌-◌, ◌^◌, ◌<◌, Bool, true, false, not, ◌&&◌, ◌||◌, ◌==◌, nat_le, List, [], ◌∷◌, length, get_or, drop, Some, None, pos, negsuc, if◌then◌else◌, refl, sym, ap, ◌∙◌, arith}
+use Rattle.std.proofs.Common.{◌≡◌, ℕ, zero, suc, ◌-◌, ◌^◌, ◌<◌, Bool, true, false, not, ◌&&◌, ◌==◌, nat_le, List, ◌∷◌, length, get_or, drop, Some, None, pos, negsuc, if◌then◌else◌, refl, sym, ap, ◌∙◌, arith, ◌||◌, []}
 use Rattle.std.specs.List.{list_all}
-use Rattle.std.proofs.lemmas.Bool.{and_parts, leb-true, le-leb, ne_eqb, eq-eqb, eqb-true}
+use Rattle.std.proofs.lemmas.Bool.{and_parts, leb-true, le-leb, ne_eqb, eq-eqb, eqb-true, and_from, false≢true}
 use Rattle.std.proofs.lemmas.Str.Parse.{IsDigitsTest, FoldsDigits, IsNumeralModel, numerals_by_fold}
 use Rattle.std.proofs.lemmas.Fmt.{digits_decimal, digits_value-decimal, decimal-digits_value, first_decimal, decimal_nonempty, decimal_digit}
 use Rattle.std.specs.Fmt.{decimal}
+use Rattle.std.proofs.lemmas.Option.{same_Some}
 use Rattle.vms_spec.specs.Spelling.{is_digit, are_digits, natural_from, number_spelled, negative}
 use Rattle.vms_words.specs.Texts.{NumberLaw, SpelledLaw}
 
@@ -45,9 +46,7 @@ unpadded_to (c ∷ d ∷ text) e =
     let one : (length (c ∷ d ∷ text) == 1) ≡ false = ne_eqb (length (c ∷ d ∷ text)) 1 (λ e. omega arith) in
     let rest : (nat_le 2 (length (c ∷ d ∷ text)) && not (c == 48)) ≡ true = sym (ap (λ (t : Bool). t || (nat_le 2 (length (c ∷ d ∷ text)) && not (c == 48))) one) ∙ e in
     let other : not (c == 48) ≡ true = (and_parts (nat_le 2 (length (c ∷ d ∷ text))) (not (c == 48)) rest).1 in
-    (omega arith, λ h. not_true (sym (ap not (eq-eqb c 48 h)) ∙ other)) where
-      not_true : {A : Type 0} → false ≡ true → A
-      not_true e = cc
+    (omega arith, λ h. absurd (false≢true (sym (ap not (eq-eqb c 48 h)) ∙ other)))
 
 unpadded_decimal : (n : ℕ) → n < 2 ^ 64 → unpadded (decimal n) ≡ true
 unpadded_decimal zero h = ap unpadded (decimal_digit 0 (omega arith))
@@ -61,11 +60,8 @@ unpadded_decimal (suc n) h =
 
 -- ---- natural numbers
 
-and_both : (a b : Bool) → a ≡ true → b ≡ true → (a && b) ≡ true
-and_both a b e f = rw (e, f) refl
-
 digits_of_decimal : (n : ℕ) → n < 2 ^ 64 → are_digits (decimal n) ≡ true
-digits_of_decimal n h = and_both (list_all is_digit (decimal n)) (unpadded (decimal n)) (digits_decimal numerals n h) (unpadded_decimal n h)
+digits_of_decimal n h = and_from (list_all is_digit (decimal n)) (unpadded (decimal n)) (digits_decimal numerals n h) (unpadded_decimal n h)
 
 value_of_decimal : (n : ℕ) → n < 2 ^ 64 → natural_from 0 (decimal n) ≡ n
 value_of_decimal n h = digits_value-decimal numerals n h
@@ -99,9 +95,6 @@ number_holds (negsuc n) h =
     if_digits (45 ∷ decimal (suc n)) false (minus_no_digit (decimal (suc n)))
     ∙ (rw (digits, value, some, one) refl)
 
-some_injective : {A : Type 0} (x y : A) → Some x ≡ Some y → x ≡ y
-some_injective x y e = cc
-
 pos_injective : (m n : ℕ) → pos m ≡ pos n → m ≡ n
 pos_injective m n e = cc
 
@@ -116,7 +109,7 @@ spelled_pos : (text : List ℕ) (n : ℕ) → n < 2 ^ 64 → (b : Bool) → are_
     else None) ≡ Some (pos n)
     → text ≡ decimal n
 spelled_pos text n h true e is =
-    let same : natural_from 0 text ≡ n = pos_injective (natural_from 0 text) n (some_injective (pos (natural_from 0 text)) (pos n) is) in
+    let same : natural_from 0 text ≡ n = pos_injective (natural_from 0 text) n (same_Some (pos (natural_from 0 text)) (pos n) is) in
     sym (decimal_of_value text e (omega (arith, same, h))) ∙ ap decimal same
 spelled_pos text n h false e is = other (get_or text 0 0 == 45 && are_digits (drop 1 text) && not (natural_from 0 (drop 1 text) == 0)) is where
   other : (c : Bool) → (if c then Some (negative (natural_from 0 (drop 1 text))) else None) ≡ Some (pos n) → text ≡ decimal n
@@ -133,7 +126,7 @@ minus_number text n h e is =
     let whole = and_parts (get_or text 0 0 == 45 && are_digits (drop 1 text)) (not (natural_from 0 (drop 1 text) == 0)) e in
     let parts = and_parts (get_or text 0 0 == 45) (are_digits (drop 1 text)) whole.0 in
     let front : text ≡ 45 ∷ drop 1 text = negative_first text (eqb-true (get_or text 0 0) 45 parts.0) in
-    let less : natural_from 0 (drop 1 text) - 1 ≡ n = negsuc_injective (natural_from 0 (drop 1 text) - 1) n (some_injective (negsuc (natural_from 0 (drop 1 text) - 1)) (negsuc n) is) in
+    let less : natural_from 0 (drop 1 text) - 1 ≡ n = negsuc_injective (natural_from 0 (drop 1 text) - 1) n (same_Some (negsuc (natural_from 0 (drop 1 text) - 1)) (negsuc n) is) in
     let some : natural_from 0 (drop 1 text) ≡ 0 → ⊥ = λ z. not_true (sym (ap not (eq-eqb (natural_from 0 (drop 1 text)) 0 z)) ∙ whole.1) in
     let same : natural_from 0 (drop 1 text) ≡ suc n = positive (natural_from 0 (drop 1 text)) n less some in
     front ∙ ap (λ (l : List ℕ). 45 ∷ l) (sym (decimal_of_value (drop 1 text) parts.1 (omega (arith, same, h))) ∙ ap decimal same) where

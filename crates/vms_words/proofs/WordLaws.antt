@@ -1,5 +1,5 @@
 -- A kind and its word tell one another.
-use Rattle.std.proofs.Common.{◌≡◌, ℕ, ◌+◌, ◌<◌, ◌≤◌, List, [], ◌∷◌, length, get_or, drop, Bool, true, false, Option, Some, None, if◌then◌else◌, refl, sym, ap, ◌∙◌, subst}
+use Rattle.std.proofs.Common.{◌≡◌, ℕ, ◌+◌, ◌<◌, ◌≤◌, List, ◌∷◌, length, get_or, drop, Bool, true, false, Option, Some, None, if◌then◌else◌, refl, sym, ap, ◌∙◌, subst, []}
 use Rattle.std.proofs.lemmas.List.{drop_more, drop_all}
 use Rattle.std.proofs.lemmas.Slice.Eq.{bytes_eq-Decides}
 use Rattle.std.specs.Str.{bytes_eq}
@@ -51,17 +51,17 @@ named_in word [] = None
 named_in word (kind ∷ kinds) = kind_if word kind (named_in word kinds)
 
 -- a kind is tried: it has the word, or the kinds after it are left
-pub this_kind : (word text : List ℕ) (kinds : List Kind) (i : ℕ) (d : Kind) → i < length kinds → text ≡ kind_word (get_or kinds i d)
-    → bytes_eq word text ≡ true → named_in word (drop i kinds) ≡ Some (get_or kinds i d)
-this_kind word text kinds i d lt e same =
-    ap (named_in word) (drop_more kinds i d lt)
-    ∙ ap (λ (b : Bool). if b then Some (get_or kinds i d) else named_in word (drop (i + 1) kinds)) (ap (bytes_eq word) (sym e) ∙ same)
+module _ (word text : List ℕ) (kinds : List Kind) (i : ℕ) (d : Kind) (lt : i < length kinds) (e : text ≡ kind_word (get_or kinds i d)) where
+  tried_once : (b : Bool) → bytes_eq word text ≡ b → named_in word (drop i kinds) ≡ (if b then Some (get_or kinds i d) else named_in word (drop (i + 1) kinds))
+  tried_once b same =
+      ap (named_in word) (drop_more kinds i d lt)
+      ∙ ap (λ (b : Bool). if b then Some (get_or kinds i d) else named_in word (drop (i + 1) kinds)) (ap (bytes_eq word) (sym e) ∙ same)
 
-pub other_kind : (word text : List ℕ) (kinds : List Kind) (i : ℕ) (d : Kind) → i < length kinds → text ≡ kind_word (get_or kinds i d)
-    → bytes_eq word text ≡ false → named_in word (drop i kinds) ≡ named_in word (drop (i + 1) kinds)
-other_kind word text kinds i d lt e same =
-    ap (named_in word) (drop_more kinds i d lt)
-    ∙ ap (λ (b : Bool). if b then Some (get_or kinds i d) else named_in word (drop (i + 1) kinds)) (ap (bytes_eq word) (sym e) ∙ same)
+  pub this_kind : bytes_eq word text ≡ true → named_in word (drop i kinds) ≡ Some (get_or kinds i d)
+  this_kind same = tried_once true same
+
+  pub other_kind : bytes_eq word text ≡ false → named_in word (drop i kinds) ≡ named_in word (drop (i + 1) kinds)
+  other_kind same = tried_once false same
 
 pub no_kind : (word : List ℕ) (kinds : List Kind) (i : ℕ) → length kinds ≤ i → named_in word (drop i kinds) ≡ None
 no_kind word kinds i h = ap (named_in word) (drop_all i kinds h)

@@ -1,14 +1,13 @@
 -- Images that are ready, one after the other.
-use Rattle.std.proofs.Common.{◌≡◌, ℕ, zero, suc, ◌+◌, ◌<◌, ◌≤◌, Bool, true, false, nat_lt, List, [], ◌∷◌, length, get_or, Some, refl, sym, ap, ◌∙◌, subst, arith}
+use Rattle.std.proofs.Common.{◌≡◌, ℕ, ◌+◌, ◌<◌, ◌≤◌, Bool, true, false, nat_lt, List, length, get_or, Some, refl, sym, ap, ◌∙◌, subst, arith}
 use Rattle.std.specs.List.{slice_get}
 use Rattle.std.proofs.lemmas.Bool.{ltb-true, ltb-false}
 use Rattle.vms_spec.specs.Images.{Image}
 use Rattle.vms_spec.specs.Sets.{Set, Device}
 use Rattle.vms_spec.specs.Streams.{IsReady, AreReady}
-use Rattle.std.proofs.lemmas.Option.{slice_get_within}
+use Rattle.std.proofs.lemmas.Option.{slice_get_within, slice_get-get_or, get_or_from_slice_get}
 use Rattle.vms_desc.specs.Described.{device_at}
 use Rattle.vms_image.specs.Typed.{Typed, IsImageOf, AreImagesOf}
-use Rattle.vms_write.proofs.Formed.{at_get}
 
 -- there is an image for each device, and the first n are ready
 pub record AreSoFar (set : Set) (images : List Image) (n : ℕ) : Type 0 where
@@ -18,23 +17,13 @@ pub record AreSoFar (set : Set) (images : List Image) (n : ℕ) : Type 0 where
 pub none_so_far : (set : Set) (images : List Image) → length images ≡ length set.devices → AreSoFar set images 0
 none_so_far set images long = record { long = long; ready = λ k d image lt. absurd (omega arith) }
 
-get_at : {X : Type 0} (xs : List X) (i : ℕ) (d x : X) → slice_get xs i ≡ Some x → get_or xs i d ≡ x
-get_at [] i d x e = cc
-get_at (y ∷ xs) zero d x e = cc
-get_at (y ∷ xs) (suc i) d x e = get_at xs i d x e
-
-any_default : {X : Type 0} (xs : List X) (n : ℕ) (a b : X) → n < length xs → get_or xs n a ≡ get_or xs n b
-any_default [] n a b lt = absurd (omega arith)
-any_default (x ∷ xs) zero a b lt = refl
-any_default (x ∷ xs) (suc n) a b lt = any_default xs n a b (omega arith)
-
 module _ (set : Set) (images : List Image) (n : ℕ) (image : Image) (sofar : AreSoFar set images n) (lt : n < length images) (is : image ≡ get_or images n image) where
   ready_by : IsReady set (device_at set n) image → (k : ℕ) (d : Device) (other : Image) → k < n + 1 → slice_get set.devices k ≡ Some d → slice_get images k ≡ Some other → (b : Bool) → nat_lt k n ≡ b → IsReady set d other
   ready_by r k d other less e f true g = sofar.ready k d other (ltb-true k n g) e f
   ready_by r k d other less e f false g =
       let same : k ≡ n = omega (arith, ltb-false k n g) in
-      let device : device_at set n ≡ d = get_at set.devices n _ d (ap (slice_get set.devices) (sym same) ∙ e) in
-      let there : image ≡ other = is ∙ get_at images n image other (ap (slice_get images) (sym same) ∙ f) in
+      let device : device_at set n ≡ d = get_or_from_slice_get set.devices n d _ (ap (slice_get set.devices) (sym same) ∙ e) in
+      let there : image ≡ other = is ∙ get_or_from_slice_get images n other image (ap (slice_get images) (sym same) ∙ f) in
       subst (λ (x : Device). IsReady set x other) device (subst (IsReady set (device_at set n)) there r)
 
   pub one_more : IsReady set (device_at set n) image → AreSoFar set images (n + 1)
@@ -43,8 +32,8 @@ module _ (set : Set) (images : List Image) (n : ℕ) (image : Image) (sofar : Ar
   -- one that isn't ready is missing from all
   pub not_all : (IsReady set (device_at set n) image → ⊥) → AreReady set images → ⊥
   not_all r all =
-      let here : slice_get images n ≡ Some image = at_get images n image lt ∙ ap (λ (x : Image). Some x) (sym is) in
-      r (all.ready n (device_at set n) image (at_get set.devices n _ (omega (arith, all.one_each))) here)
+      let here : slice_get images n ≡ Some image = slice_get-get_or images n image lt ∙ ap (λ (x : Image). Some x) (sym is) in
+      r (all.ready n (device_at set n) image (slice_get-get_or set.devices n _ (omega (arith, all.one_each))) here)
 
 pub all_so_far : (set : Set) (images : List Image) (n : ℕ) → AreSoFar set images n → length images ≤ n → AreReady set images
 all_so_far set images n sofar le = record {
@@ -64,7 +53,7 @@ module _ (set : Set) (images : List Typed) (n : ℕ) (image : Typed) (sofar : Ar
   of_by o k other less f true g = sofar.each k other (ltb-true k n g) f
   of_by o k other less f false g =
       let same : k ≡ n = omega (arith, ltb-false k n g) in
-      let there : image ≡ other = is ∙ get_at images n image other (ap (slice_get images) (sym same) ∙ f) in
+      let there : image ≡ other = is ∙ get_or_from_slice_get images n other image (ap (slice_get images) (sym same) ∙ f) in
       subst (λ (m : ℕ). IsImageOf set m other) (sym same) (subst (IsImageOf set n) there o)
 
   pub one_more_of : IsImageOf set n image → AreOfSoFar set images (n + 1)

@@ -1,8 +1,9 @@
 -- What is fine of slots that are joined.
-use Rattle.std.proofs.Common.{◌≡◌, ℕ, zero, suc, ◌+◌, ◌*◌, ◌<◌, ◌≤◌, List, [], ◌∷◌, ◌++◌, length, length-append, get_or, drop, replicate, ℤ, pos, refl, sym, ap, ◌∙◌, subst, arith, append-nil, Bool, true, false, ◌&&◌, ◌||◌, ◌==◌}
+use Rattle.std.proofs.Common.{◌≡◌, ℕ, zero, suc, ◌+◌, ◌*◌, ◌<◌, ◌≤◌, List, [], ◌∷◌, ◌++◌, length, length-append, get_or, drop, replicate, ℤ, pos, refl, sym, ap, ◌∙◌, subst, arith, append-nil, Bool, true, false, ◌&&◌, ◌||◌}
 use Rattle.std.proofs.Math.Seq.{drop-append_seam}
 use Rattle.std.proofs.lemmas.List.{length-replicate}
-use Rattle.std.proofs.lemmas.Bool.{eqb-true}
+use Rattle.std.proofs.lemmas.Bool.{ne_eqb}
+use Rattle.std.proofs.Math.Bool.{and-true, and_assoc}
 use Rattle.vms_kinds.specs.declared.Item.{Item}
 use Rattle.vms_spec.specs.Numbers.{same_number}
 use Rattle.vms_spec.specs.Rules.{in_range, counts_well}
@@ -14,32 +15,16 @@ use Rattle.vms_bodies.proofs.AboveLaws.{IsAbove}
 use Rattle.vms_bodies.proofs.CellLaws.{Stands, MeanCells, item_are, items_are, field_are, desc_are}
 use Rattle.vms_bodies.proofs.Names.{names_append}
 use Rattle.vms_spec.proofs.Sizes.{length-times, size_same, field_size}
+use Rattle.vms_spec.proofs.ListLaws.{and_swap}
 use Rattle.vms_parts.specs.declared.types.CellForm.{CellForm}
 use Rattle.vms_write.specs.Fine.{no_form, are_fit, settle, is_fine}
 use Rattle.vms_walk.specs.Steps.{cells_in}
 
 -- ---- tests
 
-pub and_assoc : (a b c : Bool) → ((a && b) && c) ≡ (a && (b && c))
-and_assoc true b c = refl
-and_assoc false b c = refl
-
-pub and_swap : (a b c d : Bool) → ((a && b) && (c && d)) ≡ ((a && c) && (b && d))
-and_swap false b c d = refl
-and_swap true true c d = true_last c d
-  where
-    true_last : (c d : Bool) → (c && d) ≡ (c && d)
-    true_last c d = refl
-and_swap true false true d = refl
-and_swap true false false d = refl
-
 or_none : (a b : Bool) → b ≡ false → (a || b) ≡ a
 or_none true b e = refl
 or_none false b e = e
-
-pub and_true : (b : Bool) → (b && true) ≡ b
-and_true true = refl
-and_true false = refl
 
 -- ---- parts
 
@@ -95,18 +80,14 @@ fine_parts forms n xs ys at a b below above =
 
 pub fine_rule : (forms : List CellForm) (n : List ℤ) (xs : List Slot) (b : Bool) (at k : ℕ) → is_fine forms n (xs ++ Rule b ∷ []) at k ≡ (is_fine forms n xs at k && b)
 fine_rule forms n xs b at k =
-    ap (λ (x : Bool). x && settle (xs ++ Rule b ∷ []) forms n at k) (fit_append n xs (Rule b ∷ []) ∙ ap (λ (x : Bool). are_fit n xs && x) (and_true b))
+    ap (λ (x : Bool). x && settle (xs ++ Rule b ∷ []) forms n at k) (fit_append n xs (Rule b ∷ []) ∙ ap (λ (x : Bool). are_fit n xs && x) (and-true b))
     ∙ ap (λ (x : Bool). (are_fit n xs && b) && x)
     (settle_same (xs ++ Rule b ∷ []) xs forms n at k (record { same = λ c low lt. names_append xs (Rule b ∷ []) c ∙ or_none (has_cell xs c) false refl }))
-    ∙ ap (λ (x : Bool). (are_fit n xs && b) && x) (sym (and_true (settle xs forms n at k)))
+    ∙ ap (λ (x : Bool). (are_fit n xs && b) && x) (sym (and-true (settle xs forms n at k)))
     ∙ and_swap (are_fit n xs) b (settle xs forms n at k) true
-    ∙ ap (λ (x : Bool). is_fine forms n xs at k && x) (and_true b)
+    ∙ ap (λ (x : Bool). is_fine forms n xs at k && x) (and-true b)
 
 -- ---- where parts end
-
-not_at : (k c : ℕ) → k < c → (b : Bool) → (k == c) ≡ b → (k == c) ≡ false
-not_at k c lt true e = let same = eqb-true k c e in absurd (omega arith)
-not_at k c lt false e = e
 
 are_below : (all : List Cell) (slots : List Slot) → AreCells all slots → IsBelow (length all) slots
 are_below all slots h = record { above = λ c le. none slots h c le }
@@ -116,7 +97,7 @@ are_below all slots h = record { above = λ c le. none slots h c le }
     none (Number k kind caps ∷ slots) h c le =
         let within = h.0.within in
         let lt : k < c = omega arith in
-        ap (λ (b : Bool). b || has_cell slots c) (not_at k c lt (k == c) refl) ∙ none slots h.1 c le
+        ap (λ (b : Bool). b || has_cell slots c) (ne_eqb k c (λ e. omega (arith, e, lt))) ∙ none slots h.1 c le
     none (Constant kind z ∷ slots) h c le = none slots h c le
     none (Filler m ∷ slots) h c le = none slots h c le
     none (Rule b ∷ slots) h c le = none slots h c le

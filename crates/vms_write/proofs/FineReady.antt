@@ -2,7 +2,8 @@
 use Rattle.std.proofs.Common.{◌≡◌, ℕ, zero, suc, ◌+◌, ◌<◌, ◌≤◌, List, [], ◌∷◌, ◌++◌, length, length-append, get_or, map, Option, Some, None, ℤ, pos, refl, sym, ap, ◌∙◌, subst, arith, Bool, true, false, not, ◌&&◌, ◌||◌, ◌==◌}
 use Rattle.std.specs.Bool.{OnTrue, OnFalse}
 use Rattle.std.specs.List.{flat_map, slice_get}
-use Rattle.std.proofs.lemmas.Bool.{and_parts, leb-true, eqb-true, eq-eqb}
+use Rattle.std.proofs.lemmas.Bool.{and_parts, leb-true, eqb-true, eq-eqb, and_from}
+use Rattle.std.proofs.lemmas.Option.{slice_get-get_or}
 use Rattle.vms_spec.specs.Numbers.{same_number}
 use Rattle.vms_spec.specs.Sets.{Set, Device, Sub, Desc, AtLeast}
 use Rattle.vms_spec.specs.Layout.{Cell, no_cell, no_desc, Slot, Number, Constant, Filler, Rule, meanings, desc_cells, desc_slots, struct_cells, device_cells}
@@ -18,10 +19,12 @@ use Rattle.vms_bodies.proofs.ConstantLaws.{constants_append, own_constants, part
 use Rattle.vms_bodies.proofs.FineLaws.{image_are}
 use Rattle.vms_bodies.proofs.NormalFound.{named_fits}
 use Rattle.vms_bodies.proofs.PartLaws.{parts_together}
-use Rattle.vms_bodies.proofs.ReadyLaws.{ranged, counted_well, same_is, is_same, needed_are, are_needed}
+use Rattle.vms_spec.proofs.NumberLaws.{same_number_is}
+use Rattle.vms_bodies.proofs.ReadyLaws.{ranged, counted_well, is_same, needed_are, are_needed}
 use Rattle.vms_bodies.proofs.SectionLaws.{AreConstants, fit_slots}
 use Rattle.vms_bodies.proofs.SpellLaws.{FitSlots}
 use Rattle.vms_spec.proofs.WellFormedLaws.{ranges, within}
+use Rattle.vms_spec.proofs.ListLaws.{or_second, and_swap}
 use Rattle.vms_parts.specs.Views.{form_of}
 use Rattle.vms_parts.specs.declared.types.CellForm.{CellForm}
 use Rattle.vms_desc.specs.Described.{device_at}
@@ -29,11 +32,7 @@ use Rattle.vms_desc.specs.Formed.{is_well_formed}
 use Rattle.vms_desc.specs.Parts.{sub_at}
 use Rattle.vms_desc.proofs.Clean.{device_clean, sub_clean}
 use Rattle.vms_write.specs.Fine.{no_form, are_fit, settle, is_fine, sub_size, subs_fine}
-use Rattle.vms_write.proofs.FineParts.{IsBelow, fine_parts, desc_below, and_swap}
-use Rattle.vms_write.proofs.Formed.{at_get}
-
-both : (a b : Bool) → a ≡ true → b ≡ true → (a && b) ≡ true
-both a b e f = ap (λ (a : Bool). a && b) e ∙ f
+use Rattle.vms_write.proofs.FineParts.{IsBelow, fine_parts, desc_below}
 
 -- ---- slots that fit
 
@@ -54,18 +53,14 @@ fit_true n (Rule b ∷ slots) e k =
 fit_all : (n : List ℤ) (slots : List Slot) → FitSlots n slots → RulesHold slots → are_fit n slots ≡ true
 fit_all n [] f r = refl
 fit_all n (Number c kind caps ∷ slots) f r =
-    both (in_range kind (get_or n c (pos 0)) && counts_well caps (get_or n c (pos 0))) (are_fit n slots)
-    (both (in_range kind (get_or n c (pos 0))) (counts_well caps (get_or n c (pos 0))) (ranged kind (get_or n c (pos 0)) f.0) (counted_well caps (get_or n c (pos 0)) f.1))
+    and_from (in_range kind (get_or n c (pos 0)) && counts_well caps (get_or n c (pos 0))) (are_fit n slots)
+    (and_from (in_range kind (get_or n c (pos 0))) (counts_well caps (get_or n c (pos 0))) (ranged kind (get_or n c (pos 0)) f.0) (counted_well caps (get_or n c (pos 0)) f.1))
     (fit_all n slots f.2 r)
 fit_all n (Constant kind z ∷ slots) f r = fit_all n slots f.1 r
 fit_all n (Filler m ∷ slots) f r = fit_all n slots f r
-fit_all n (Rule b ∷ slots) f r = both b (are_fit n slots) r.0 (fit_all n slots f r.1)
+fit_all n (Rule b ∷ slots) f r = and_from b (are_fit n slots) r.0 (fit_all n slots f r.1)
 
 -- ---- cells that stand in the slots or are at their defaults
-
-or_right : (a b : Bool) → (a || b) ≡ true → a ≡ false → b ≡ true
-or_right true b e f = cc
-or_right false b e f = e
 
 settle_at : (slots : List Slot) (forms : List CellForm) (n : List ℤ) (from k : ℕ) → settle slots forms n from k ≡ true
     → (c : ℕ) → c < k → has_cell slots (from + c) ≡ false → get_or n (from + c) (pos 0) ≡ (get_or forms (from + c) no_form).default
@@ -74,7 +69,7 @@ settle_at slots forms n from (suc k) e zero lt bare =
     let here : from ≡ from + 0 = omega arith in
     let p = and_parts (has_cell slots from || same_number (get_or n from (pos 0)) (get_or forms from no_form).default) (settle slots forms n (from + 1) k) e in
     subst (λ (x : ℕ). get_or n x (pos 0) ≡ (get_or forms x no_form).default) here
-    (same_is (get_or n from (pos 0)) (get_or forms from no_form).default (or_right (has_cell slots from) (same_number (get_or n from (pos 0)) (get_or forms from no_form).default) p.0 (ap (has_cell slots) here ∙ bare)))
+    (same_number_is (get_or n from (pos 0)) (get_or forms from no_form).default (or_second (has_cell slots from) (same_number (get_or n from (pos 0)) (get_or forms from no_form).default) p.0 (ap (has_cell slots) here ∙ bare)))
 settle_at slots forms n from (suc k) e (suc c) lt bare =
     let next : (from + 1) + c ≡ from + suc c = omega arith in
     let p = and_parts (has_cell slots from || same_number (get_or n from (pos 0)) (get_or forms from no_form).default) (settle slots forms n (from + 1) k) e in
@@ -85,7 +80,7 @@ settle_all : (slots : List Slot) (forms : List CellForm) (n : List ℤ) (from k 
     → settle slots forms n from k ≡ true
 settle_all slots forms n from zero h = refl
 settle_all slots forms n from (suc k) h =
-    both (has_cell slots from || same_number (get_or n from (pos 0)) (get_or forms from no_form).default) (settle slots forms n (from + 1) k) (here (has_cell slots from) refl)
+    and_from (has_cell slots from || same_number (get_or n from (pos 0)) (get_or forms from no_form).default) (settle slots forms n (from + 1) k) (here (has_cell slots from) refl)
     (settle_all slots forms n (from + 1) k (λ c lt bare. h c (omega arith) bare))
   where
     here : (b : Bool) → has_cell slots from ≡ b → (b || same_number (get_or n from (pos 0)) (get_or forms from no_form).default) ≡ true
@@ -205,7 +200,7 @@ image_constants set good k d image e =
 module _ (set : Set) (well : is_well_formed set ≡ true) (good : IsGood set) (i : ℕ) (lt : i < length set.devices) (image : Image)
     (cells : length image.numbers ≡ length (device_cells set (device_at set i))) (subs : length image.came ≡ length (device_at set i).subs) (forms : List CellForm) (is : forms ≡ map form_of (device_cells set (device_at set i))) where
   found : slice_get set.devices i ≡ Some (device_at set i)
-  found = at_get set.devices i (record { instance = 0; desc = no_desc; subs = [] }) lt
+  found = slice_get-get_or set.devices i (record { instance = 0; desc = no_desc; subs = [] }) lt
 
   lowest : (k : ℕ) (s : Sub) → slice_get (device_at set i).subs k ≡ Some s → s.desc.minimum ≤ s.desc.version
   lowest k s e =
@@ -273,9 +268,9 @@ module _ (set : Set) (well : is_well_formed set ≡ true) (good : IsGood set) (i
       let come = are_needed set d image 0 d.subs image.came ready.needed in
       let fits = fit_slots all n slots ready.normal.cells (image_are set d image) (image_constants set good i d image found) in
       whole_fine set d forms image subs
-      ∙ both (image.version == d.desc.version && come_as_needed set d image 0 d.subs image.came) (is_fine forms n slots 0 (length all))
-      (both (image.version == d.desc.version) (come_as_needed set d image 0 d.subs image.came) (eq-eqb image.version d.desc.version ready.version) come)
-      (both (are_fit n slots) (settle slots forms n 0 (length all)) (fit_all n slots fits ready.valid)
+      ∙ and_from (image.version == d.desc.version && come_as_needed set d image 0 d.subs image.came) (is_fine forms n slots 0 (length all))
+      (and_from (image.version == d.desc.version) (come_as_needed set d image 0 d.subs image.came) (eq-eqb image.version d.desc.version ready.version) come)
+      (and_from (are_fit n slots) (settle slots forms n 0 (length all)) (fit_all n slots fits ready.valid)
       (settle_all slots forms n 0 (length all) (λ c l bare. ready.normal.absent c (omega arith) bare ∙ sym (default_at c))))
 
   pub ready_by : (b : Bool) → b ≡ device_fine set (device_at set i) forms image → OnTrue b (IsReady set (device_at set i) image)

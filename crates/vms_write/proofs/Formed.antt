@@ -1,6 +1,6 @@
 -- Names of a well-formed set are short.
-use Rattle.std.proofs.Common.{◌≡◌, ℕ, zero, suc, ◌+◌, ◌<◌, ◌≤◌, List, [], ◌∷◌, length, length-drop, get_or, drop, Some, refl, sym, subst, arith, Bool, true, ◌&&◌, nat_le}
-use Rattle.std.specs.List.{slice_get, list_all}
+use Rattle.std.proofs.Common.{◌≡◌, ℕ, zero, suc, ◌+◌, ◌<◌, ◌≤◌, List, [], ◌∷◌, length, length-drop, get_or, drop, sym, subst, arith, Bool, true, ◌&&◌, nat_le}
+use Rattle.std.specs.List.{list_all}
 use Rattle.std.proofs.lemmas.Bool.{and_parts, leb-true}
 use Rattle.vms_spec.specs.declared.Part.TheVariants as parts
 use Rattle.vms_spec.specs.Lists.{or_else, first_answer}
@@ -24,12 +24,6 @@ name_short most name e =
     let p = and_parts (nat_le 1 (length name) && nat_le (length name) most) (list_all is_name_byte name) e in
     let q = and_parts (nat_le 1 (length name)) (nat_le (length name) most) p.0 in
     leb-true (length name) most q.1
-
--- what stands at a number
-pub at_get : {X : Type 0} (xs : List X) (i : ℕ) (d : X) → i < length xs → slice_get xs i ≡ Some (get_or xs i d)
-at_get [] i d lt = absurd (omega arith)
-at_get (x ∷ xs) zero d lt = refl
-at_get (x ∷ xs) (suc i) d lt = at_get xs i d (omega arith)
 
 module _ (set : Set) (well : is_well_formed set ≡ true) where
   set_clean : AllTrue (set_rules set)

@@ -7,3 +7,4 @@ pub mod ReadyImages
 pub mod Sections
 pub mod StepsFine
 pub mod Subs
+pub mod OldClauses

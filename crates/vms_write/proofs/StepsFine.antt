@@ -1,6 +1,7 @@
 -- The steps of a part are fine, and the cells behind them at their defaults, exactly where its slots are fine.
-use Rattle.std.proofs.Common.{◌≡◌, ℕ, suc, ◌+◌, ◌-◌, ◌<◌, ◌≤◌, min, List, [], ◌∷◌, length, get_or, Option, Some, None, ℤ, pos, negsuc, refl, sym, ap, ◌∙◌, subst, arith, Bool, true, false, ◌&&◌, ◌||◌, ◌==◌, nat_le}
-use Rattle.std.proofs.lemmas.Bool.{and_parts, leb-true, le-leb, eq-eqb, eqb-true}
+use Rattle.std.proofs.Common.{◌≡◌, ℕ, suc, ◌+◌, ◌-◌, ◌<◌, ◌≤◌, List, [], ◌∷◌, length, get_or, Option, Some, None, ℤ, pos, negsuc, refl, sym, ap, ◌∙◌, subst, arith, Bool, true, false, ◌&&◌, ◌||◌, ◌==◌}
+use Rattle.std.proofs.lemmas.Bool.{eq-eqb, ne_eqb}
+use Rattle.std.proofs.Math.Bool.{and-true, and_assoc}
 use Rattle.vms_kinds.specs.declared.Kind.{Kind}
 use Rattle.vms_spec.specs.Sets.{Set}
 use Rattle.vms_spec.specs.Numbers.{same_number}
@@ -8,6 +9,7 @@ use Rattle.vms_spec.specs.Rules.{in_range, int_le, counts_well}
 use Rattle.vms_spec.specs.Layout.{Slot, Number, Constant, Filler, Rule, Cell, desc_cells}
 use Rattle.vms_spec.specs.Images.{has_cell}
 use Rattle.vms_spec.specs.Places.{own_cell_count}
+use Rattle.vms_spec.proofs.ListLaws.{both_below, and_swap}
 use Rattle.vms_bodies.proofs.CellLaws.{cells_first}
 use Rattle.vms_parts.specs.Capacities.{lesser, least_from, least_of}
 use Rattle.vms_parts.specs.declared.types.CellForm.{CellForm}
@@ -17,39 +19,17 @@ use Rattle.vms_walk.specs.Steps.{steps_of, table, spot_slots}
 use Rattle.vms_walk.proofs.Order.{Ascends, below_from, from_end, desc_ascends, meanings_ascend}
 use Rattle.vms_write.specs.Fine.{no_form, is_within, are_fit, settle, is_fine}
 use Rattle.vms_write.specs.Steps.{is_number_fine, behind, are_steps_fine}
-use Rattle.vms_write.proofs.FineParts.{SameCells, settle_same, settle_plus, and_assoc, and_swap, and_true}
+use Rattle.vms_write.proofs.FineParts.{SameCells, settle_same, settle_plus}
 
 -- ---- capacities and the least of them
 
-both : (a b : Bool) → a ≡ true → b ≡ true → (a && b) ≡ true
-both a b e f = ap (λ (a : Bool). a && b) e ∙ f
-
-same_tests : (a b : Bool) → (a ≡ true → b ≡ true) → (b ≡ true → a ≡ true) → a ≡ b
-same_tests true b f g = sym (f refl)
-same_tests false true f g = g refl
-same_tests false false f g = refl
-
-least_nat : (a k m : ℕ) → nat_le a (min k m) ≡ (nat_le a k && nat_le a m)
-least_nat a k m =
-    same_tests (nat_le a (min k m)) (nat_le a k && nat_le a m) forth back
-  where
-    forth : nat_le a (min k m) ≡ true → (nat_le a k && nat_le a m) ≡ true
-    forth e = let le : a ≤ min k m = leb-true a (min k m) e in both (nat_le a k) (nat_le a m) (le-leb a k (omega arith)) (le-leb a m (omega arith))
-
-    back : (nat_le a k && nat_le a m) ≡ true → nat_le a (min k m) ≡ true
-    back e =
-        let p = and_parts (nat_le a k) (nat_le a m) e in
-        let k_le : a ≤ k = leb-true a k p.0 in
-        let m_le : a ≤ m = leb-true a m p.1 in
-        le-leb a (min k m) (omega arith)
-
 lesser_within : (o : Option ℕ) (m : ℕ) (z : ℤ) → is_within (lesser o m) z ≡ (is_within o z && int_le z (pos m))
 lesser_within None m z = refl
-lesser_within (Some k) m (pos a) = least_nat a k m
+lesser_within (Some k) m (pos a) = both_below a k m
 lesser_within (Some k) m (negsuc a) = refl
 
 least_within : (o : Option ℕ) (caps : List ℕ) (z : ℤ) → is_within (least_from o caps) z ≡ (is_within o z && counts_well caps z)
-least_within o [] z = sym (and_true (is_within o z))
+least_within o [] z = sym (and-true (is_within o z))
 least_within o (m ∷ caps) z =
     least_within (lesser o m) caps z ∙ ap (λ (b : Bool). b && counts_well caps z) (lesser_within o m z) ∙ and_assoc (is_within o z) (int_le z (pos m)) (counts_well caps z)
 
@@ -57,10 +37,6 @@ number_fine : (kind : Kind) (caps : List ℕ) (z : ℤ) → is_number_fine kind 
 number_fine kind caps z = ap (λ (b : Bool). in_range kind z && b) (least_within None caps z)
 
 -- ---- slots one after the other
-
-not_same : (k c : ℕ) → c < k → (b : Bool) → (k == c) ≡ b → (k == c) ≡ false
-not_same k c lt true e = let same = eqb-true k c e in absurd (omega arith)
-not_same k c lt false e = e
 
 or_right : (a b : Bool) → a ≡ false → (a || b) ≡ b
 or_right a b e = ap (λ (x : Bool). x || b) e
@@ -77,12 +53,12 @@ settle_number forms n at end c kind caps xs le asc =
     let front : SameCells at (at + (c - at)) all [] = record {
       same = λ k low lt.
           let less : k < c = omega arith in
-          or_right (c == k) (has_cell xs k) (not_same c k less (c == k) refl) ∙ below_from (c + 1) end xs asc k (omega arith);
+          or_right (c == k) (has_cell xs k) (ne_eqb c k (λ e. omega (arith, e, less))) ∙ below_from (c + 1) end xs asc k (omega arith);
     } in
     let back : SameCells (c + 1) ((c + 1) + (end - (c + 1))) all xs = record {
       same = λ k low lt.
           let less : c < k = omega arith in
-          or_right (c == k) (has_cell xs k) (other c k less (c == k) refl);
+          or_right (c == k) (has_cell xs k) (ne_eqb c k (λ e. omega (arith, e, less)));
     } in
     ap (settle all forms n at) parts
     ∙ settle_plus all forms n at (c - at) (suc (end - (c + 1)))
@@ -90,10 +66,6 @@ settle_number forms n at end c kind caps xs le asc =
     ∙ ap (λ (k : ℕ). settle [] forms n at (c - at) && settle all forms n k (suc (end - (c + 1)))) here
     ∙ ap (λ (b : Bool). settle [] forms n at (c - at) && (((b || has_cell xs c) || default) && settle all forms n (c + 1) (end - (c + 1)))) (eq-eqb c c refl)
     ∙ ap (λ (b : Bool). settle [] forms n at (c - at) && b) (settle_same all xs forms n (c + 1) (end - (c + 1)) back)
-  where
-    other : (c k : ℕ) → c < k → (b : Bool) → (c == k) ≡ b → (c == k) ≡ false
-    other c k lt true e = let same = eqb-true c k e in absurd (omega arith)
-    other c k lt false e = e
 
 settle_other : (forms : List CellForm) (n : List ℤ) (xs ys : List Slot) (at k : ℕ) → ((c : ℕ) → has_cell xs c ≡ has_cell ys c) → settle xs forms n at k ≡ settle ys forms n at k
 settle_other forms n xs ys at k h = settle_same xs ys forms n at k (record { same = λ c low lt. h c })

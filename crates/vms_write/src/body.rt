@@ -1,7 +1,7 @@
 // The bytes of a part, step by step.
 ghost use Rattle.std.specs.Prelude.{◌≡◌, OnOk, OnErr};
-ghost use Rattle.std.specs.Io.KnownBytes.{Appends};
-ghost use Rattle.vms_io.specs.Causes.{HasCause, AppendsPrefix};
+ghost use Rattle.vms_io.specs.Told.{outlet};
+ghost use Rattle.vms_io.specs.Writing.{Wrote};
 ghost use Rattle.vms_spec.specs.Images.{zeroed};
 ghost use Rattle.vms_desc.specs.Described.{described};
 ghost use Rattle.vms_walk.specs.Inside.{IsInside};
@@ -25,14 +25,9 @@ pub(crate) fn write_fields<K: Sink>(
     requires spot { HasSpot (described set.now) spot image.now.numbers }
     requires can { CanWrite image.now.kinds
         (spot_slots (described set.now) spot image.now.numbers) }
-    ensures ok { let slots = spot_slots (described set.now) spot image.now.numbers in
+    ensures { let slots = spot_slots (described set.now) spot image.now.numbers in
         let bytes = zeroed image.now.numbers slots in
-        OnOk result (Appends (K.written sink.old) (K.written sink.new) bytes) }
-    ensures err { let slots = spot_slots (described set.now) spot image.now.numbers in
-        let bytes = zeroed image.now.numbers slots in
-        OnErr result (AppendsPrefix (K.written sink.old) (K.written sink.new) bytes) }
-    ensures cause { HasCause (K.faults sink.old) (K.faults sink.new) result }
-    ensures promise { K.promise sink.new ≡ K.promise sink.old }
+        Wrote (outlet K.Sink sink.old) (outlet K.Sink sink.new) bytes result }
 {
     let mut writer = Writer { image, sink };
     match walk(set, spot, &mut writer) {
@@ -61,18 +56,21 @@ impl<K: Sink> Walker for Writer<'_, K> {
     ghost use Rattle.std.proofs.Common.{ap, ◌∙◌};
     ghost use Rattle.vms_walk.proofs.Kept.{keeps_same};
     ghost use Rattle.vms_write.specs.Bytes.{CanStep};
-    ghost use Rattle.vms_write.specs.Wrote.{Wrote, Cut, told};
-    ghost use Rattle.vms_write.specs.Wrote.{wrote_none, wrote_then, cut_then, cut_before};
+    ghost use Rattle.vms_io.specs.Told.{outlet};
+    ghost use Rattle.vms_io.specs.Writing.{Puts, Stops};
+    ghost use Rattle.vms_io.proofs.WritingLemmas.{puts_none};
+    ghost use Rattle.vms_write.specs.Bytes.{bytes_of};
+    ghost use Rattle.vms_write.specs.Wrote.{puts_then, stops_then, stops_before};
 
     type Fault = WriteFault;
 
     ghost goes = { λ xs a b. (b.sink.ghost_name ≡ a.sink.ghost_name) × (b.image ≡ a.image)
-        × Wrote a.image.now.numbers xs (told K.written K.faults K.promise a.sink.now)
-        (told K.written K.faults K.promise b.sink.now) };
+        × Puts (outlet K.Sink a.sink.now) (outlet K.Sink b.sink.now)
+        (bytes_of a.image.now.numbers xs) };
 
     ghost stops = { λ xs a fault b. (b.sink.ghost_name ≡ a.sink.ghost_name) × (b.image ≡ a.image)
-        × Cut a.image.now.numbers xs (told K.written K.faults K.promise a.sink.now)
-        (told K.written K.faults K.promise b.sink.now) };
+        × Stops (outlet K.Sink a.sink.now) (outlet K.Sink b.sink.now)
+        (bytes_of a.image.now.numbers xs) };
 
     ghost may = { λ a step. CanStep a.image.now.kinds step };
 
@@ -81,17 +79,17 @@ impl<K: Sink> Walker for Writer<'_, K> {
     ghost keeps_stopped = { λ xs a b fault h.
         keeps_same xs _ _ (ap (λ image. image.now.numbers) h.1) };
 
-    ghost none = { λ a. (refl, refl, wrote_none _ _) };
+    ghost none = { λ a. (refl, refl, puts_none _) };
 
     ghost more = { λ xs ys a b c h k.
         let same = ap (λ image. image.now.numbers) h.1 in
-        (k.0 ∙ h.0, k.1 ∙ h.1, wrote_then _ _ xs ys _ _ _ same h.2 k.2) };
+        (k.0 ∙ h.0, k.1 ∙ h.1, puts_then _ _ xs ys same h.2 k.2) };
 
     ghost stops_after = { λ xs ys a b c fault h k.
         let same = ap (λ image. image.now.numbers) h.1 in
-        (k.0 ∙ h.0, k.1 ∙ h.1, cut_then _ _ xs ys _ _ _ same h.2 k.2) };
+        (k.0 ∙ h.0, k.1 ∙ h.1, stops_then _ _ xs ys same h.2 k.2) };
 
-    ghost stops_before = { λ xs ys a b fault h. (h.0, h.1, cut_before _ xs ys _ _ h.2) };
+    ghost stops_before = { λ xs ys a b fault h. (h.0, h.1, stops_before _ xs ys h.2) };
 
     #[inline(always)]
     fn step(&mut self, step: WalkStep) -> Result<(), WriteFault> {
@@ -103,12 +101,8 @@ impl<K: Sink> Walker for Writer<'_, K> {
 fn write_step<K: Sink>(image: &Image, step: WalkStep, sink: &mut K) -> Result<(), WriteFault>
     requires inside { IsInside image.now.numbers step }
     requires can { CanStep image.now.kinds step }
-    ensures ok { let bytes = step_bytes image.now.numbers step in
-        OnOk result (Appends (K.written sink.old) (K.written sink.new) bytes) }
-    ensures err { let bytes = step_bytes image.now.numbers step in
-        OnErr result (AppendsPrefix (K.written sink.old) (K.written sink.new) bytes) }
-    ensures cause { HasCause (K.faults sink.old) (K.faults sink.new) result }
-    ensures promise { K.promise sink.new ≡ K.promise sink.old }
+    ensures { let bytes = step_bytes image.now.numbers step in
+        Wrote (outlet K.Sink sink.old) (outlet K.Sink sink.new) bytes result }
 {
     match step {
         WalkStep::Number { cell, .. } => append(sink, image.code(cell)),

@@ -1,7 +1,7 @@
 // Sections.
 ghost use Rattle.std.specs.Prelude.{◌≡◌, ◌<◌, None, length, get_or, OnOk, OnErr};
-ghost use Rattle.std.specs.Io.KnownBytes.{Appends};
-ghost use Rattle.vms_io.specs.Causes.{HasCause, AppendsPrefix};
+ghost use Rattle.vms_io.specs.Told.{outlet};
+ghost use Rattle.vms_io.specs.Writing.{Wrote};
 ghost use Rattle.vms_spec.specs.Images.{own_cells};
 ghost use Rattle.vms_spec.specs.Streams.{IsReady, written_section, written_subs};
 ghost use Rattle.vms_desc.specs.Described.{described, device_at};
@@ -31,14 +31,9 @@ pub fn write_section<K: Sink>(
     requires kinds { image.now.kinds ≡ kinds_at (described set.now) device }
     requires ready { let d = device_at (described set.now) device in
         IsReady (described set.now) d (state_of image.now) }
-    ensures ok { let d = device_at (described set.now) device in
+    ensures { let d = device_at (described set.now) device in
         let bytes = written_section (described set.now) d (state_of image.now) device in
-        OnOk result (Appends (K.written sink.old) (K.written sink.new) bytes) }
-    ensures err { let d = device_at (described set.now) device in
-        let bytes = written_section (described set.now) d (state_of image.now) device in
-        OnErr result (AppendsPrefix (K.written sink.old) (K.written sink.new) bytes) }
-    ensures cause { HasCause (K.faults sink.old) (K.faults sink.new) result }
-    ensures promise { K.promise sink.new ≡ K.promise sink.old }
+        Wrote (outlet K.Sink sink.old) (outlet K.Sink sink.new) bytes result }
 {
     let described = set.device(device);
     let head = section_head(
@@ -69,18 +64,11 @@ fn write_subs<K: Sink>(
     requires kinds { image.now.kinds ≡ kinds_at (described set.now) device }
     requires ready { let d = device_at (described set.now) device in
         IsReady (described set.now) d (state_of image.now) }
-    ensures ok { let d = device_at (described set.now) device in
+    ensures { let d = device_at (described set.now) device in
         let first = own_cells (described set.now) d in
         let image = state_of image.now in
         let bytes = written_subs (described set.now) d image first d.subs image.came in
-        OnOk result (Appends (K.written sink.old) (K.written sink.new) bytes) }
-    ensures err { let d = device_at (described set.now) device in
-        let first = own_cells (described set.now) d in
-        let image = state_of image.now in
-        let bytes = written_subs (described set.now) d image first d.subs image.came in
-        OnErr result (AppendsPrefix (K.written sink.old) (K.written sink.new) bytes) }
-    ensures cause { HasCause (K.faults sink.old) (K.faults sink.new) result }
-    ensures promise { K.promise sink.new ≡ K.promise sink.old }
+        Wrote (outlet K.Sink sink.old) (outlet K.Sink sink.new) bytes result }
 {
     for sub in 0..set.sub_count(device) {
         write_sub(set, device, sub, image, sink)?;
@@ -101,14 +89,9 @@ fn write_sub<K: Sink>(
     requires kinds { image.now.kinds ≡ kinds_at (described set.now) device }
     requires ready { let d = device_at (described set.now) device in
         IsReady (described set.now) d (state_of image.now) }
-    ensures ok { let came = get_or image.now.came sub None in
+    ensures { let came = get_or image.now.came sub None in
         let bytes = written_sub (described set.now) device (state_of image.now) sub came in
-        OnOk result (Appends (K.written sink.old) (K.written sink.new) bytes) }
-    ensures err { let came = get_or image.now.came sub None in
-        let bytes = written_sub (described set.now) device (state_of image.now) sub came in
-        OnErr result (AppendsPrefix (K.written sink.old) (K.written sink.new) bytes) }
-    ensures cause { HasCause (K.faults sink.old) (K.faults sink.new) result }
-    ensures promise { K.promise sink.new ≡ K.promise sink.old }
+        Wrote (outlet K.Sink sink.old) (outlet K.Sink sink.new) bytes result }
 {
     match image.came(sub) {
         Some(version) => {

@@ -3,6 +3,8 @@ ghost use Rattle.std.specs.Prelude.{◌≡◌, ◌<◌, ◌≤◌, length, map, 
 ghost use Rattle.std.specs.Option.{option_copied};
 ghost use Rattle.std.specs.Io.KnownBytes.{Appends};
 ghost use Rattle.vms_io.specs.Causes.{HasCause, AppendsPrefix};
+ghost use Rattle.vms_io.specs.Told.{outlet};
+ghost use Rattle.vms_io.specs.Writing.{Wrote};
 ghost use Rattle.vms_spec.specs.Lists.{at_option};
 ghost use Rattle.vms_spec.specs.Streams.{written, written_sections, longest_text, optional, configuration, trailer, AreReady};
 ghost use Rattle.vms_desc.specs.Described.{described};
@@ -31,6 +33,10 @@ pub fn write_stream<K: Sink>(
     requires of { AreImagesOf (described set.now) images.now }
     requires ready { AreReady (described set.now) (map state_of images.now) }
     requires text { IfSome text (λ t. length t.now ≤ longest_text) }
+    ensures wrote { let named = at_option (described set.now).machines machine in
+        let images = map state_of images.now in
+        let bytes = written (described set.now) named images (option_copied text.entry) in
+        Wrote (outlet K.Sink sink.old) (outlet K.Sink sink.new) bytes result }
     ensures ok { let named = at_option (described set.now).machines machine in
         let images = map state_of images.now in
         let bytes = written (described set.now) named images (option_copied text.entry) in
@@ -56,14 +62,9 @@ fn write_configuration<K: Sink>(
     sink: &mut K,
 ) -> Result<(), WriteFault>
     requires { IfSome machine (λ m. m < length (described set.now).machines) }
-    ensures ok { let named = at_option (described set.now).machines machine in
+    ensures { let named = at_option (described set.now).machines machine in
         let bytes = optional configuration named in
-        OnOk result (Appends (K.written sink.old) (K.written sink.new) bytes) }
-    ensures err { let named = at_option (described set.now).machines machine in
-        let bytes = optional configuration named in
-        OnErr result (AppendsPrefix (K.written sink.old) (K.written sink.new) bytes) }
-    ensures cause { HasCause (K.faults sink.old) (K.faults sink.new) result }
-    ensures promise { K.promise sink.new ≡ K.promise sink.old }
+        Wrote (outlet K.Sink sink.old) (outlet K.Sink sink.new) bytes result }
 {
     match machine {
         Some(number) => {
@@ -77,14 +78,9 @@ fn write_configuration<K: Sink>(
 fn write_sections<K: Sink>(set: &DescSet, images: &[Image], sink: &mut K) -> Result<(), WriteFault>
     requires of { AreImagesOf (described set.now) images.now }
     requires ready { AreReady (described set.now) (map state_of images.now) }
-    ensures ok { let all = (described set.now).devices in
+    ensures { let all = (described set.now).devices in
         let bytes = written_sections (described set.now) 0 all (map state_of images.now) in
-        OnOk result (Appends (K.written sink.old) (K.written sink.new) bytes) }
-    ensures err { let all = (described set.now).devices in
-        let bytes = written_sections (described set.now) 0 all (map state_of images.now) in
-        OnErr result (AppendsPrefix (K.written sink.old) (K.written sink.new) bytes) }
-    ensures cause { HasCause (K.faults sink.old) (K.faults sink.new) result }
-    ensures promise { K.promise sink.new ≡ K.promise sink.old }
+        Wrote (outlet K.Sink sink.old) (outlet K.Sink sink.new) bytes result }
 {
     for (device, image) in images.iter().enumerate() {
         write_section(set, device as u32, image, sink)?;
@@ -95,12 +91,8 @@ fn write_sections<K: Sink>(set: &DescSet, images: &[Image], sink: &mut K) -> Res
 // A description section, where there is a text.
 fn write_text<K: Sink>(text: Option<&str>, sink: &mut K) -> Result<(), WriteFault>
     requires { IfSome text (λ t. length t.now ≤ longest_text) }
-    ensures ok { let bytes = optional trailer (option_copied text.entry) in
-        OnOk result (Appends (K.written sink.old) (K.written sink.new) bytes) }
-    ensures err { let bytes = optional trailer (option_copied text.entry) in
-        OnErr result (AppendsPrefix (K.written sink.old) (K.written sink.new) bytes) }
-    ensures cause { HasCause (K.faults sink.old) (K.faults sink.new) result }
-    ensures promise { K.promise sink.new ≡ K.promise sink.old }
+    ensures { let bytes = optional trailer (option_copied text.entry) in
+        Wrote (outlet K.Sink sink.old) (outlet K.Sink sink.new) bytes result }
 {
     match text {
         Some(text) => write_trailer(text, sink),
@@ -110,12 +102,7 @@ fn write_text<K: Sink>(text: Option<&str>, sink: &mut K) -> Result<(), WriteFaul
 
 fn write_trailer<K: Sink>(text: &str, sink: &mut K) -> Result<(), WriteFault>
     requires { length text.now ≤ longest_text }
-    ensures ok { OnOk result
-        (Appends (K.written sink.old) (K.written sink.new) (trailer text.now)) }
-    ensures err { OnErr result
-        (AppendsPrefix (K.written sink.old) (K.written sink.new) (trailer text.now)) }
-    ensures cause { HasCause (K.faults sink.old) (K.faults sink.new) result }
-    ensures promise { K.promise sink.new ≡ K.promise sink.old }
+    ensures { Wrote (outlet K.Sink sink.old) (outlet K.Sink sink.new) (trailer text.now) result }
 {
     append(sink, &marked(Mark::Description, text.len() as u32))?;
     append(sink, text.as_bytes())

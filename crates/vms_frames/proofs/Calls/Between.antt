@@ -1,6 +1,6 @@
 -- What a cursor answers between sections is what is found there.
-use Rattle.std.proofs.Common.{◌≡◌, ℕ, ◌+◌, List, [], ◌∷◌, length, get_or, drop, Option, Some, None, refl, sym, ap, ◌∙◌, subst, arith, length-drop, Bool, true, false, not, nat_lt, ◌==◌, ◌&&◌, ◌||◌, if◌then◌else◌}
-use Rattle.std.proofs.lemmas.Bool.{le-ltb, eqb-true}
+use Rattle.std.proofs.Common.{◌≡◌, ℕ, ◌+◌, List, [], ◌∷◌, length, get_or, drop, Option, Some, None, refl, sym, ap, ◌∙◌, subst, arith, length-drop, Bool, true, false, not, nat_lt, ◌==◌, ◌&&◌, ◌||◌, if◌then◌else◌, ⊎_elim}
+use Rattle.std.proofs.lemmas.Bool.{le-ltb, eqb-true, cases_Bool}
 use Rattle.std.proofs.lemmas.List.{length-take-le}
 use Rattle.vms_spec.specs.declared.Reason.{Reason}
 use Rattle.vms_spec.specs.declared.Reason.TheVariants as reasons
@@ -77,10 +77,6 @@ end_is b more = sym (ap (seen_in (due_of b) nothing_known) (if_false (nat_lt (le
 
 abbrev Goal : Between → ℕ → List ℕ → Type 0
 Goal b c more = Is b (mark_found b (c ∷ more) (mark_of c)) (between_at (is_first b) c (c ∷ more))
-
-dec : (P : Type 0) (t : Bool) → (t ≡ true → P) → (t ≡ false → P) → P
-dec P true f g = f refl
-dec P false f g = g refl
 
 at : (b : Between) (c n : ℕ) (more : List ℕ) → (c == n) ≡ true → Goal b n more → Goal b c more
 at b c n more t g = subst (λ (c : ℕ). Goal b c more) (sym (eqb-true c n t)) g
@@ -175,7 +171,7 @@ other b c more n =
 by_mark : (b : Between) (c : ℕ) (more : List ℕ) → Goal b c more
 unfolding between_at
 by_mark b c more =
-    let d = dec (Goal b c more) in
+    let d : (t : Bool) → (t ≡ true → Goal b c more) → (t ≡ false → Goal b c more) → Goal b c more = λ t p q. ⊎_elim p q (cases_Bool t) in
     d (c == 0x00) (λ t. at b c 0x00 more t (end_is b more)) (λ n0. d (c == 0x01) (λ t. at b c 0x01 more t (start_is b (0x01 ∷ more))) (λ n1. d (c == 0x02) (λ t. at b c 0x02 more t (two b more))
     (λ n2. d (c == 0x03) (λ t. at b c 0x03 more t (three b more)) (λ n3. d (c == 0x04) (λ t. at b c 0x04 more t (head_is b (0x04 ∷ more))) (λ n4. d (c == 0x05) (λ t. at b c 0x05 more t (five b more))
     (λ n5. d (c == 0x06) (λ t. at b c 0x06 more t (six b more)) (λ n6. d (c == 0x07) (λ t. at b c 0x07 more t (seven b more)) (λ n7. d (c == 0x08) (λ t. at b c 0x08 more t (eight b more))

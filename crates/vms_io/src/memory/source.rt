@@ -2,7 +2,8 @@
 ghost use Rattle.std.specs.Prelude.{◌≡◌, ◌+◌, ◌^◌, ◌<◌, ◌≤◌, ◌↔◌, [], length, drop, IfOk, IsErr, Some, Contains};
 ghost use Rattle.std.specs.Io.{ReadsAtMost};
 ghost use Rattle.std.specs.Io.KnownBytes.{ReadConsumes};
-ghost use Rattle.vms_io.specs.Causes.{HasCause, CountsFailures, Gives, IsBytes, capped};
+ghost use Rattle.vms_io.specs.Causes.{HasCause, CountsFailures, Gives, capped};
+ghost use Rattle.vms_kinds.specs.Bytes.{IsBytes};
 ghost use Rattle.vms_io.specs.Memory.{is_empty, empty_is, piece_of, taken_of, bytes_left};
 
 use super::is_listed;

@@ -1,17 +1,17 @@
 -- What is found may come, and is spelled at the front.
-use Rattle.std.proofs.Common.{◌≡◌, ℕ, suc, ◌+◌, ◌<◌, ◌≤◌, List, [], ◌∷◌, ◌++◌, length, get_or, take, drop, refl, sym, ap, ◌∙◌, arith, append_assoc, length-append, length-drop, get_or-drop, Bool, true, false, not, nat_lt, ◌==◌, ◌||◌, ◌&&◌, if◌then◌else◌}
-use Rattle.std.proofs.lemmas.Bool.{ltb-true, ltb-false, eqb-true}
+use Rattle.std.proofs.Common.{◌≡◌, ℕ, suc, ◌+◌, ◌<◌, ◌≤◌, List, ◌∷◌, ◌++◌, length, get_or, take, drop, refl, sym, ap, ◌∙◌, arith, append_assoc, length-append, length-drop, get_or-drop, Bool, true, false, not, nat_lt, ◌==◌, ◌&&◌, if◌then◌else◌, [], ◌||◌}
+use Rattle.std.proofs.lemmas.Bool.{ltb-true, ltb-false, eqb-true, or_from, and_parts}
 use Rattle.std.proofs.lemmas.List.{length-take-le, drop-drop, take-append-drop}
 use Rattle.vms_kinds.specs.Codes.{width, code, value_of, InRange}
 use Rattle.vms_kinds.specs.declared.Kind.{Kind}
+use Rattle.vms_kinds.proofs.ByteLemmas.{bytes_first}
 use Rattle.vms_spec.specs.Layout.{Number as NumberSlot, Constant as ConstantSlot, Filler as FillerSlot, Rule as RuleSlot}
-use Rattle.vms_spec.specs.Numbers.{IsBytes}
+use Rattle.vms_kinds.specs.Bytes.{IsBytes}
 use Rattle.vms_spec.specs.Streams.{be32, longest_text}
 use Rattle.vms_spec.specs.Lookup.{number_at, bytes_at}
 use Rattle.vms_spec.specs.Units.{Piece, Magic, Version, Configuration, Long, Head, Number, Constant, Filler, SubHead, Foot, End, Description, Start, Mark, spell}
 use Rattle.vms_stream.specs.Dues.{Due, AMagic, AVersion, Between, Field, AfterFields, AfterEnd, Nothing, May, AtMagic, AtVersion, AtConfiguration, AtLongName, AtStart, AtHead, AtEnd, AtMark, AtNumber, AtConstant, AtFiller, AtSubHead, AtFoot, AtOther, AtNext, is_foot, is_next, first_byte, AtDescription, AtLongText, AtTrailing, raw, fits_four}
 use Rattle.vms_spec.proofs.KindLaws.{length-code}
-use Rattle.vms_bodies.proofs.SpellLaws.{is_bytes_take}
 use Rattle.vms_bodies.proofs.HeadFound.{is_bytes_drop, four_low, split_one, split_four, head_bytes}
 use Rattle.vms_bodies.proofs.SubHeads.{sub_bytes}
 use Rattle.vms_bodies.proofs.FaultFields.{raw_take}
@@ -30,9 +30,6 @@ by_test d rest false v w f g = g refl
 
 whole : (d : Due) (rest : List ℕ) (n : ℕ) (x : Piece) → (n ≤ length rest → IsThere d rest x n) → Shows d rest (needs n rest x)
 whole d rest n x f = by_test d rest (nat_lt (length rest) n) Cut (Whole x n) (λ t. tt) (λ e. f (ltb-false (length rest) n e))
-
-or_none : (a b : Bool) → a ≡ false → b ≡ false → (a || b) ≡ false
-or_none a b e f = ap (λ (a : Bool). a || b) e ∙ f
 
 one_byte : (rest : List ℕ) (m : ℕ) → get_or rest 0 0 ≡ m → 1 ≤ length rest → rest ≡ m ∷ drop 1 rest
 one_byte rest m e le = split_one rest le ∙ ap (λ (k : ℕ). k ∷ drop 1 rest) e
@@ -63,7 +60,7 @@ six k = omega arith
 number_there : (kind : Kind) (rest : List ℕ) → IsBytes rest → width kind ≤ length rest
     → InRange (raw kind) (value_of (raw kind) (take (width kind) rest)) × (rest ≡ code kind (value_of (raw kind) (take (width kind) rest)) ++ drop (width kind) rest)
 number_there kind rest ok le =
-    let t = raw_take kind (take (width kind) rest) (length-take-le (width kind) rest le) (is_bytes_take (width kind) rest ok) in
+    let t = raw_take kind (take (width kind) rest) (length-take-le (width kind) rest le) (bytes_first (width kind) rest ok) in
     (t.0, sym (take-append-drop (width kind) rest) ∙ ap (λ (l : List ℕ). l ++ drop (width kind) rest) t.1)
 
 -- mark, length and text
@@ -145,14 +142,10 @@ between_shown first after m rest ok e =
     test (m == 0x00) (needs 1 rest End) _ (λ t. mark_shown d rest End 0 (e ∙ eqb-true m 0 t) refl (AtEnd first after))
     (λ f0. test (m == 0x01) (start_at rest (get_or rest 5 0)) _ (λ t. start_shown first after rest (get_or rest 5 0) ok (e ∙ eqb-true m 1 t) refl)
     (λ f1. test (m == 0x04) (head_at rest (get_or rest 5 0)) _ (λ t. head_shown first after rest (get_or rest 5 0) ok (e ∙ eqb-true m 4 t) refl)
-    (λ f4. test (m == 0x07 && first) named last (λ t. let a = and_is (m == 0x07) first t in named_shown first a.1 (e ∙ eqb-true m 7 a.0))
+    (λ f4. test (m == 0x07 && first) named last (λ t. let a = and_parts (m == 0x07) first t in named_shown first a.1 (e ∙ eqb-true m 7 a.0))
     (λ f7. mark_shown d rest (Mark m) m e refl
-    (AtMark first after m (or_none (m == 0x00 || m == 0x01 || m == 0x04) (m == 0x07 && first) (or_none (m == 0x00 || m == 0x01) (m == 0x04) (or_none (m == 0x00) (m == 0x01) f0 f1) f4) f7))))))
+    (AtMark first after m (or_from (m == 0x00 || m == 0x01 || m == 0x04) (m == 0x07 && first) (or_from (m == 0x00 || m == 0x01) (m == 0x04) (or_from (m == 0x00) (m == 0x01) f0 f1) f4) f7))))))
   where
-    and_is : (a b : Bool) → (a && b) ≡ true → (a ≡ true) × (b ≡ true)
-    and_is true b e = (refl, e)
-    and_is false b e = cc
-
     named_shown : (first : Bool) → first ≡ true → get_or rest 0 0 ≡ 0x07 → Shows (Between first after) rest (text_at 0x07 255 Configuration rest (number_at 4 1 rest))
     named_shown true t mark = text_shown (Between true after) rest 0x07 255 Configuration ok mark (λ name. refl) (λ name le. AtConfiguration after name le) (λ n lt f. AtLongName after n lt f)
     named_shown false t mark = cc
@@ -175,7 +168,7 @@ behind_shown k tail m rest ok e =
     (λ f. let at = eqb-true m 0x7e f in
     whole d rest 5 (Foot (number_at 4 1 rest)) (λ le. record { may = AtFoot k tail (number_at 4 1 rest) (ap (is_foot tail) (sym at) ∙ t) (number_low rest 1 ok); long = refl; there = mark_four rest 0x7e ok (e ∙ at) le }))
     (λ f. mark_shown d rest (Mark m) m e refl (AtOther k tail m t f)))
-    (λ t. next_shown k tail rest (between_at false m rest) (ap (is_next tail) e ∙ ap not (or_none (m == 0x05) (is_foot tail m) f5 t)) ok (between_shown false false m rest ok e)))
+    (λ t. next_shown k tail rest (between_at false m rest) (ap (is_next tail) e ∙ ap not (or_from (m == 0x05) (is_foot tail m) f5 t)) ok (between_shown false false m rest ok e)))
 
 trailer_shown : (m : ℕ) (rest : List ℕ) → IsBytes rest → get_or rest 0 0 ≡ m → Shows AfterEnd rest (trailer_at m rest)
 unfolding trailer_at

@@ -1,7 +1,7 @@
 -- A unit that may come and is spelled at the front is the one that is found.
-use Rattle.std.proofs.Common.{◌≡◌, ℕ, suc, ◌+◌, ◌<◌, ◌≤◌, List, ◌∷◌, ◌++◌, length, get_or, take, drop, ℤ, refl, sym, ap, ◌∙◌, arith, append_assoc, length-append, Bool, true, false, not, nat_lt, ◌==◌, ◌||◌, ◌&&◌, if◌then◌else◌}
+use Rattle.std.proofs.Common.{◌≡◌, ℕ, suc, ◌+◌, ◌<◌, ◌≤◌, List, ◌∷◌, ◌++◌, length, get_or, take, drop, ℤ, refl, sym, ap, ◌∙◌, arith, append_assoc, length-append, Bool, true, false, not, nat_lt, ◌==◌, ◌&&◌, if◌then◌else◌, ◌||◌}
 use Rattle.std.proofs.lemmas.List.{drop-drop}
-use Rattle.std.proofs.lemmas.Bool.{lt-ltb, le-ltb, eqb-true}
+use Rattle.std.proofs.lemmas.Bool.{lt-ltb, le-ltb, eqb-true, or_parts, not-true}
 use Rattle.byteorder.specs.Endian.{big_number}
 use Rattle.vms_kinds.specs.declared.Kind.{Kind}
 use Rattle.vms_kinds.specs.declared.Kind.TheVariants.{U8, U16, U32, U64, I8, I16, I32, I64, Bool as Truth, Timer}
@@ -30,13 +30,6 @@ by_kind Timer z r = value_code Timer z r
 
 raw_value : (kind : Kind) (z : ℤ) (more : List ℕ) → InRange (raw kind) z → value_of (raw kind) (take (width kind) (code kind z ++ more)) ≡ z
 raw_value kind z more r = ap (value_of (raw kind)) (front_take (width kind) (code kind z) more (code kind z ++ more) refl (length-code kind z)) ∙ by_kind kind z r
-
-ten : (n : ℕ) → 10 + n ≡ (6 + n) + 4
-ten n = omega arith
-
-or_false : (a b : Bool) → (a || b) ≡ false → (a ≡ false) × (b ≡ false)
-or_false true b e = cc
-or_false false b e = (refl, e)
 
 -- the unit y of n bytes is there, where y is x and n its length
 there : (n : ℕ) (x y : Piece) (more : List ℕ) → y ≡ x → n ≡ length (spell x) → needs n (spell x ++ more) y ≡ Whole x (length (spell x))
@@ -77,15 +70,11 @@ not_sub : (tail : Tail) (b : ℕ) (r : List ℕ) → is_foot tail b ≡ true
     → behind_at tail b r ≡ (if is_foot tail b then (if b == 0x7e then needs 5 r (Foot (number_at 4 1 r)) else needs 1 r (Mark b)) else between_at false b r)
 unfolding behind_at
 not_sub Unknown b r t = ap (λ (b : ℕ). behind_at Unknown b r) (eqb-true b 0x7e t) ∙ sym (ap (λ (b : ℕ). if b == 0x7e then (if b == 0x7e then needs 5 r (Foot (number_at 4 1 r)) else needs 1 r (Mark b)) else between_at false b r) (eqb-true b 0x7e t))
-not_sub Footed b r t = if_false (b == 0x05) (sub_at r (get_or r 1 0)) _ (turned (b == 0x05) t)
-  where
-    turned : (a : Bool) → not a ≡ true → a ≡ false
-    turned true e = cc
-    turned false e = refl
+not_sub Footed b r t = if_false (b == 0x05) (sub_at r (get_or r 1 0)) _ (not-true (b == 0x05) t)
 not_sub Bare b r t = cc
 
 -- a byte that begins a unit between sections
-next_at : (tail : Tail) (b : ℕ) (r : List ℕ) → is_next tail b ≡ true → behind_at tail b r ≡ between_at false b r
+pub next_at : (tail : Tail) (b : ℕ) (r : List ℕ) → is_next tail b ≡ true → behind_at tail b r ≡ between_at false b r
 unfolding behind_at
 next_at tail b r n =
     let a = neither (b == 0x05) (is_foot tail b) n in
@@ -144,7 +133,8 @@ only _ _ more (AtHead directly after id name instance v f g h) =
     let e1 : number_at 4 1 r ≡ id = be32_read id ((n ∷ ((name ++ be32 instance) ++ be32 v)) ++ more) (omega arith) in
     let e2 : bytes_at n 6 r ≡ name = front_take n name (last ++ more) (drop 6 r) after refl in
     let d6 : drop (6 + n) r ≡ last ++ more = sym (drop-drop n 6 r) ∙ front_drop n name (last ++ more) (drop 6 r) after refl in
-    let d10 : drop (10 + n) r ≡ be32 v ++ more = ap (λ (k : ℕ). drop k r) (ten n) ∙ sym (drop-drop 4 (6 + n) r) ∙ ap (drop 4) d6 in
+    let plus : 10 + n ≡ (6 + n) + 4 = omega arith in
+    let d10 : drop (10 + n) r ≡ be32 v ++ more = ap (λ (k : ℕ). drop k r) plus ∙ sym (drop-drop 4 (6 + n) r) ∙ ap (drop 4) d6 in
     let e3 : number_at 4 (6 + n) r ≡ instance = ap (big_number 4) d6 ∙ be32_read instance (be32 v ++ more) (omega arith) in
     let e4 : number_at 4 (10 + n) r ≡ v = ap (big_number 4) d10 ∙ be32_read v more (omega arith) in
     there (14 + n) x _ more
@@ -158,9 +148,9 @@ only _ _ more (AtHead directly after id name instance v f g h) =
 only _ _ more (AtEnd directly after) = there 1 End End more refl refl
 only _ _ more (AtMark directly after b e) =
     let r = b ∷ more in
-    let a2 = or_false (b == 0x00 || b == 0x01 || b == 0x04) (b == 0x07 && directly) e in
-    let a1 = or_false (b == 0x00 || b == 0x01) (b == 0x04) a2.0 in
-    let a = or_false (b == 0x00) (b == 0x01) a1.0 in
+    let a2 = or_parts (b == 0x00 || b == 0x01 || b == 0x04) (b == 0x07 && directly) e in
+    let a1 = or_parts (b == 0x00 || b == 0x01) (b == 0x04) a2.0 in
+    let a = or_parts (b == 0x00) (b == 0x01) a1.0 in
     if_false (b == 0x00) (needs 1 r End) _ a.0 ∙ if_false (b == 0x01) (start_at r (get_or r 5 0)) _ a.1
     ∙ if_false (b == 0x04) (head_at r (get_or r 5 0)) _ a1.1 ∙ if_false (b == 0x07 && directly) (text_at 0x07 255 Configuration r (number_at 4 1 r)) (needs 1 r (Mark b)) a2.1
     ∙ one b more

@@ -1,20 +1,23 @@
 -- Behind the fields of a section without a footer a unit between sections is judged as between sections.
-use Rattle.std.proofs.Common.{◌≡◌, ℕ, ◌+◌, List, [], ◌∷◌, length, get_or, Option, Some, None, refl, ap, ◌∙◌, Bool, true, false, not, nat_lt, ◌==◌, ◌||◌, ◌&&◌, if◌then◌else◌}
+use Rattle.std.proofs.Common.{◌≡◌, ℕ, ◌+◌, List, ◌∷◌, length, get_or, Option, Some, None, refl, ap, ◌∙◌, Bool, true, false, not, nat_lt, ◌==◌, ◌&&◌, if◌then◌else◌, [], ◌||◌}
+use Rattle.std.proofs.lemmas.Bool.{both_ways, not-true}
+use Rattle.std.proofs.Math.Bool.{or-not_self}
 use Rattle.vms_spec.specs.declared.Reason.{Reason}
 use Rattle.vms_spec.specs.declared.Reason.TheVariants as reasons
 use Rattle.vms_spec.specs.Sets.{Set}
 use Rattle.vms_spec.specs.Images.{Image}
 use Rattle.vms_spec.specs.Lookup.{number_at, bytes_at}
 use Rattle.vms_spec.specs.Readings.{Verdict, Faulty, Over}
-use Rattle.vms_spec.specs.Units.{Piece, Configuration, Long, Head, Foot, End, Start, Mark}
+use Rattle.vms_spec.specs.Units.{Piece, Configuration, Long, Head, End, Start, Mark}
 use Rattle.vms_bodies.proofs.BodyOnly.{if_true}
 use Rattle.vms_stream.specs.SoFar.{Tail, Unknown, Footed, Bare}
-use Rattle.vms_stream.specs.Dues.{Due, Between, AfterFields, is_foot, is_next, begins_next, rules_hold}
-use Rattle.vms_stream.specs.Finding.{Found, Whole, Cut, needs, sub_at, between_at, behind_at, unit_at}
+use Rattle.vms_stream.specs.Dues.{Due, Between, AfterFields, begins_next, rules_hold}
+use Rattle.vms_stream.specs.Finding.{Found, Whole, Cut, needs, between_at, unit_at}
 use Rattle.vms_stream.specs.Faults.{cut_in}
 use Rattle.vms_stream.specs.Table.{first_of, is_ram}
 use Rattle.vms_stream.specs.Judge.{judge, judge_found, by_row, owes}
 use Rattle.vms_stream.specs.State.{State, Free, Inside, due_by, known_at, slots_at, after, by_state}
+use Rattle.vms_stream.proofs.Finding.There.{next_at}
 
 module _ (set : Set) (names : List (List ℕ)) (machine : Option (List ℕ)) (images : List Image) (came : List Bool) (k id : ℕ) (part : Option ℕ) (n : ℕ) where
   -- in the section, and between sections of a bare stream
@@ -84,11 +87,7 @@ module _ (set : Set) (names : List (List ℕ)) (machine : Option (List ℕ)) (im
   mark_outer Unknown rest m b e = mark_by (after set (inner Unknown) (Mark b)) (after set outer (Mark b)) m (b == 2) (b == 3) (b == 8) (b == 5)
   mark_outer Bare rest m b e = mark_by (after set (inner Bare) (Mark b)) (after set outer (Mark b)) m (b == 2) (b == 3) (b == 8) (b == 5)
   mark_outer Footed [] m b e = cc
-  mark_outer Footed (c ∷ rest) m b e = absurd (never (c == 0x05) e)
-    where
-      never : (p : Bool) → not (p || not p) ≡ true → ⊥
-      never true e = cc
-      never false e = cc
+  mark_outer Footed (c ∷ rest) m b e = absurd (both_ways _ (not-true _ e) (or-not_self (c == 0x05)))
 
   pick : (t : Tail) (rest : List ℕ) (b : Bool) (v w : Found) → IsOuter t rest v → IsOuter t rest w → IsOuter t rest (if b then v else w)
   pick t rest true v w f g = f
@@ -105,18 +104,9 @@ module _ (set : Set) (names : List (List ℕ)) (machine : Option (List ℕ)) (im
       (pick t rest (nat_lt 255 size) _ _ (needs_outer t rest 5 _ e (long_outer t rest 5 size)) (needs_outer t rest (5 + size) _ e (name_outer t rest (5 + size) (bytes_at size 5 rest))))
       (needs_outer t rest 1 (Mark b) e (mark_outer t rest 1 b e)))))
 
-  behind_is : (t : Tail) (b : ℕ) (rest : List ℕ) → is_next t b ≡ true → behind_at t b rest ≡ between_at false b rest
-  unfolding behind_at
-  behind_is t b rest e = by (b == 0x05) (is_foot t b) e
-    where
-      by : (p q : Bool) → not (p || q) ≡ true → (if p then sub_at rest (get_or rest 1 0) else if q then (if b == 0x7e then needs 5 rest (Foot (number_at 4 1 rest)) else needs 1 rest (Mark b)) else between_at false b rest) ≡ between_at false b rest
-      by true q e = cc
-      by false true e = cc
-      by false false e = refl
-
   unit_is : (t : Tail) (rest : List ℕ) → begins_next t rest ≡ true → unit_at (AfterFields k t) rest ≡ unit_at (Between false false) rest
   unit_is t [] e = cc
-  unit_is t (b ∷ more) e = behind_is t b (b ∷ more) e
+  unit_is t (b ∷ more) e = next_at t b (b ∷ more) e
 
   pub next_judged : (t : Tail) (rest : List ℕ) → due_by set (inner t) (Inside k id part n) ≡ AfterFields k t → rules_hold (slots_at set (inner t) (Inside k id part n)) ≡ true → begins_next t rest ≡ true
       → judge (by_state set names) (inner t) rest ≡ judge (by_state set names) outer rest

@@ -1,6 +1,6 @@
 -- Refused is at fault, and at fault is refused, for each state that stands for the units so far.
-use Rattle.std.proofs.Common.{◌≡◌, ℕ, zero, suc, ◌+◌, List, [], ◌∷◌, ◌++◌, length, drop, Option, Some, None, refl, sym, ap, ◌∙◌, subst, length-append, append_assoc, Bool, true, false, if◌then◌else◌}
-use Rattle.vms_spec.specs.Numbers.{IsBytes}
+use Rattle.std.proofs.Common.{◌≡◌, ℕ, zero, suc, ◌+◌, List, ◌∷◌, ◌++◌, length, drop, Option, Some, None, refl, sym, ap, ◌∙◌, subst, length-append, append_assoc, Bool, true, false, if◌then◌else◌, []}
+use Rattle.vms_kinds.specs.Bytes.{IsBytes}
 use Rattle.vms_spec.specs.declared.Reason.{Reason}
 use Rattle.vms_spec.specs.declared.Reason.TheVariants as reasons
 use Rattle.vms_spec.specs.Sets.{Set}
@@ -20,6 +20,7 @@ use Rattle.vms_stream.specs.Laws.{Mirrored, Refuses, Ends, Accepts, IsThere}
 use Rattle.vms_stream.proofs.Finding.There.{only}
 use Rattle.vms_stream.proofs.Finding.Shown.{Shows, shows}
 use Rattle.vms_stream.proofs.Finding.Advancing.{IsSolid, advances, due_solid}
+use Rattle.vms_kinds.proofs.ByteLemmas.{bytes_rest}
 
 owes_true : (d : Due) (rest : List ℕ) → Owes d rest → owes d rest ≡ true
 owes_true AMagic rest o = refl
@@ -64,11 +65,7 @@ may_owe d x more rest may e = subst (Owes d) (sym e) (owed d x more may)
     owed _ _ more (AtLongText n lt f) = tt
     owed _ _ more (AtTrailing b e) = tt
 
-tail_bytes : (xs ys : List ℕ) → IsBytes (xs ++ ys) → IsBytes ys
-tail_bytes [] ys h = h
-tail_bytes (x ∷ xs) ys h = tail_bytes xs ys (λ j. h (suc j))
-
-cut_is : (d : Due) (rest : List ℕ) (f : Found) → Shows d rest f → ((x : Piece) (more : List ℕ) → May d x → rest ≡ spell x ++ more → ⊥) → f ≡ Cut
+pub cut_is : (d : Due) (rest : List ℕ) (f : Found) → Shows d rest f → ((x : Piece) (more : List ℕ) → May d x → rest ≡ spell x ++ more → ⊥) → f ≡ Cut
 cut_is d rest (Whole x n) s never = absurd (never x _ s.may s.there)
 cut_is d rest Cut s never = refl
 
@@ -222,7 +219,7 @@ module _ {S : Type 0} (set : Set) (names : List (List ℕ)) (g : Grammar S) (sol
     accepted = λ input n end ok h. accepted_from (suc (length input)) [] start 0 input n end ok tt r refl h;
     ends = λ input n u ok f.
         let t = reaches start u f.rest r f.front in
-        let ok2 = tail_bytes (spelled u) f.rest (subst IsBytes f.whole ok) in (
+        let ok2 = bytes_rest (spelled u) f.rest (subst IsBytes f.whole ok) in (
           t.state,
           ap (reading_on (judge g) start 0) f.whole ∙ t.reads
               ∙ ap (reading_after (reading_from (judge g) (length f.rest)) (length (spelled u)) f.rest) (over_is u t.state f.rest ok2 t.mirrors f.held f.over (unit_at (due set u) f.rest) refl (shows (due set u) f.rest ok2))
@@ -237,7 +234,7 @@ module _ {S : Type 0} (set : Set) (names : List (List ℕ)) (g : Grammar S) (sol
     refused = λ input place section reason size ok h. refused_from (suc (length input)) [] start 0 input place section reason size ok tt r refl h;
     faulty = λ input place section reason size ok f.
         let t = reaches start f.units f.rest r f.front in
-        let ok2 = tail_bytes (spelled f.units) f.rest (subst IsBytes f.whole ok) in
+        let ok2 = bytes_rest (spelled f.units) f.rest (subst IsBytes f.whole ok) in
         ap (reading_on (judge g) start 0) f.whole ∙ t.reads
         ∙ ap (reading_after (reading_from (judge g) (length f.rest)) (length (spelled f.units)) f.rest) (told f.units t.state f.rest section reason size ok2 t.mirrors f.why)
         ∙ ap (λ (k : ℕ). Some (Refused k section reason size)) f.long;

@@ -1,14 +1,12 @@
 -- How many bytes a unit that is due has at least, and that a cut description is no unit.
-use Rattle.std.proofs.Common.{◌≡◌, ℕ, ◌+◌, ◌<◌, ◌≤◌, List, [], ◌∷◌, ◌++◌, length, sym, ap, ◌∙◌, arith, length-append, get_or, drop, false}
+use Rattle.std.proofs.Common.{◌≡◌, ℕ, ◌+◌, ◌<◌, ◌≤◌, List, [], ◌∷◌, ◌++◌, length, ap, ◌∙◌, arith, length-append, false}
 use Rattle.vms_kinds.specs.Codes.{width, code}
 use Rattle.vms_spec.specs.Sets.{Set}
 use Rattle.vms_spec.specs.Layout.{Number as NumberSlot, Constant as ConstantSlot, Filler as FillerSlot, Rule as RuleSlot}
-use Rattle.vms_spec.specs.Streams.{be32}
 use Rattle.vms_spec.specs.Units.{Piece, spell}
 use Rattle.vms_stream.specs.Dues.{Due, AMagic, AVersion, Between, Field, AfterFields, AfterEnd, Nothing, due, May, AtMagic, AtVersion, AtConfiguration, AtLongName, AtStart, AtHead, AtEnd, AtMark, AtNumber, AtConstant, AtFiller, AtSubHead, AtFoot, AtOther, AtNext, AtDescription, AtLongText, AtTrailing}
 use Rattle.vms_stream.specs.Faults.{IsWhole}
-use Rattle.byteorder.specs.Endian.{big_number}
-use Rattle.vms_spec.proofs.KindLaws.{length-code, be32_read}
+use Rattle.vms_spec.proofs.KindLaws.{length-code}
 
 abbrev pub least : Due → ℕ
 least AMagic = 4
@@ -22,9 +20,6 @@ least (AfterFields k tail) = 1
 least AfterEnd = 1
 least Nothing = 0
 
-one_le : (b : ℕ) (xs : List ℕ) → 1 ≤ length (b ∷ xs)
-one_le b xs = omega arith
-
 four_le : 4 ≤ 4
 four_le = omega arith
 
@@ -34,22 +29,22 @@ same_le m n e = omega arith
 pub is_least : (d : Due) (x : Piece) → May d x → least d ≤ length (spell x)
 is_least _ _ (AtMagic bytes e) = same_le 4 (length bytes) e
 is_least _ _ (AtVersion v f) = four_le
-is_least _ _ (AtConfiguration after name le) = one_le 7 (be32 (length name) ++ name)
-is_least _ _ (AtLongName after n lt f) = one_le 7 (be32 n)
-is_least _ _ (AtStart directly after id name f) = one_le 1 (be32 id ++ length name ∷ name)
-is_least _ _ (AtHead directly after id name instance v f g h) = one_le 4 (be32 id ++ length name ∷ name ++ be32 instance ++ be32 v)
-is_least _ _ (AtEnd directly after) = one_le 0 []
-is_least _ _ (AtMark directly after b e) = one_le b []
+is_least _ _ (AtConfiguration after name le) = omega arith
+is_least _ _ (AtLongName after n lt f) = omega arith
+is_least _ _ (AtStart directly after id name f) = omega arith
+is_least _ _ (AtHead directly after id name instance v f g h) = omega arith
+is_least _ _ (AtEnd directly after) = omega arith
+is_least _ _ (AtMark directly after b e) = omega arith
 is_least _ _ (AtNumber k c kind capacities z r) = same_le (width kind) (length (code kind z)) (length-code kind z)
 is_least _ _ (AtConstant k kind z y r) = same_le (width kind) (length (code kind y)) (length-code kind y)
 is_least _ _ (AtFiller k n bytes e) = same_le n (length bytes) e
-is_least _ _ (AtSubHead k tail name v f) = one_le 5 (length name ∷ name ++ be32 v)
-is_least _ _ (AtFoot k tail id t f) = one_le 126 (be32 id)
-is_least _ _ (AtOther k tail b t e) = one_le b []
+is_least _ _ (AtSubHead k tail name v f) = omega arith
+is_least _ _ (AtFoot k tail id t f) = omega arith
+is_least _ _ (AtOther k tail b t e) = omega arith
 is_least _ x (AtNext k tail _ t m) = is_least (Between false false) x m
-is_least _ _ (AtDescription text le) = one_le 6 (be32 (length text) ++ text)
-is_least _ _ (AtLongText n lt f) = one_le 6 (be32 n)
-is_least _ _ (AtTrailing b e) = one_le b []
+is_least _ _ (AtDescription text le) = omega arith
+is_least _ _ (AtLongText n lt f) = omega arith
+is_least _ _ (AtTrailing b e) = omega arith
 
 -- where fewer bytes are left, no unit is whole
 pub too_few : (set : Set) (u : List Piece) (rest : List ℕ) (x : Piece) → length rest < least (due set u) → IsWhole set u rest x → ⊥
@@ -57,29 +52,3 @@ too_few set u rest x lt w =
     let a : least (due set u) ≤ length (spell x) = is_least (due set u) x w.may in
     let b : length rest ≡ length (spell x) + length w.more = ap length w.there ∙ length-append (spell x) w.more in
     absurd (omega arith)
-
--- a description of one byte that isn't there
-pub not_there : (d : Due) (x : Piece) (more : List ℕ) → May d x → d ≡ AfterEnd → (6 ∷ 0 ∷ 0 ∷ 0 ∷ 1 ∷ []) ≡ spell x ++ more → ⊥
-not_there _ _ more (AtDescription text le) e h =
-    let n : length text ≡ 1 = sym (ap (big_number 4) (ap (drop 1) h) ∙ be32_read (length text) (text ++ more) (omega arith)) in
-    let k : length {A = ℕ} [] ≡ length (text ++ more) = ap length (ap (drop 5) h) in
-    absurd (omega (arith, length-append text more))
-not_there _ _ more (AtLongText n lt f) e h =
-    let k : n ≡ 1 = sym (ap (big_number 4) (ap (drop 1) h) ∙ be32_read n more (omega arith)) in
-    absurd (omega arith)
-not_there _ _ more (AtTrailing b t) e h = let k : 6 ≡ b = ap (λ (l : List ℕ). get_or l 0 0) h in cc
-not_there _ _ more (AtMagic bytes l) e h = cc
-not_there _ _ more (AtVersion v f) e h = cc
-not_there _ _ more (AtConfiguration after name le) e h = cc
-not_there _ _ more (AtLongName after n lt f) e h = cc
-not_there _ _ more (AtStart directly after id name f) e h = cc
-not_there _ _ more (AtHead directly after id name instance v f g i) e h = cc
-not_there _ _ more (AtEnd directly after) e h = cc
-not_there _ _ more (AtMark directly after b t) e h = cc
-not_there _ _ more (AtNumber k c kind capacities z r) e h = cc
-not_there _ _ more (AtConstant k kind z y r) e h = cc
-not_there _ _ more (AtFiller k n bytes l) e h = cc
-not_there _ _ more (AtSubHead k tail name v f) e h = cc
-not_there _ _ more (AtFoot k tail id t f) e h = cc
-not_there _ _ more (AtOther k tail b t f) e h = cc
-not_there _ x more (AtNext k tail _ t m) e h = cc

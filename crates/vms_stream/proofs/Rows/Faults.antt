@@ -11,13 +11,13 @@ use Rattle.vms_spec.specs.Streams.{magic}
 use Rattle.vms_spec.specs.Shipped.{set_0}
 use Rattle.vms_spec.specs.Units.{Piece, Magic, Version, Configuration, Long, Head, Number, Constant, SubHead, Foot, End, Start, Mark, spell, spelled}
 use Rattle.vms_spec.specs.SoFar.{opened}
-use Rattle.vms_stream.specs.Dues.{Between, AfterFields, AfterEnd, May, AtMagic, AtVersion, AtConfiguration, AtLongName, AtStart, AtHead, AtEnd, AtMark, AtNumber, AtConstant, AtSubHead, AtFoot, AtNext, AtLongText, AtTrailing, due, holds}
+use Rattle.vms_stream.specs.Dues.{Between, AfterFields, May, AtMagic, AtVersion, AtConfiguration, AtStart, AtHead, AtEnd, AtMark, AtNumber, AtConstant, AtSubHead, AtFoot, AtLongText, AtTrailing, due, holds}
 use Rattle.vms_stream.specs.SoFar.{Unknown}
 use Rattle.vms_stream.specs.Table.{reason_of}
 use Rattle.vms_stream.specs.Faults.{Owes, cut_in, Front, Fails, Cut, Wrong, Fault}
 use Rattle.vms_spec.proofs.Rows.{hex, head, smallest, box_head}
 use Rattle.vms_spec.proofs.Boxes.{counted_set, constant_set, subsection_set, tested_set}
-use Rattle.vms_stream.proofs.Rows.DueSizes.{least, too_few, not_there}
+use Rattle.vms_stream.proofs.Rows.DueSizes.{least, too_few}
 
 -- a fault of a unit that is whole
 wrong : (set : Set) (u : List Piece) (x : Piece) (more input : List ℕ) (place : ℕ) (section : Option ℕ) (reason : Reason) → Front set set.machines u → holds set u ≡ true → May (due set u) x
@@ -49,9 +49,6 @@ in_start set = ((tt, refl, AtMagic magic refl, refl), refl, AtVersion 3 three, r
 refuses_ram : Fault set_0 set_0.machines (head ++ hex (codes "01000000020372616d")) 8 None reasons.Ram 9
 refuses_ram = wrong set_0 start (Start 2 (codes "ram")) [] _ 8 None reasons.Ram (in_start set_0) refl (AtStart _ _ _ _ (omega arith)) refl refl refl
 
-refuses_a_disk : Fault set_0 set_0.machines (head ++ hex (codes "0100000002046469736b")) 8 None reasons.Iterative 10
-refuses_a_disk = wrong set_0 start (Start 2 (codes "disk")) [] _ 8 None reasons.Iterative (in_start set_0) refl (AtStart _ _ _ _ (omega arith)) refl refl refl
-
 refuses_a_part : Fault set_0 set_0.machines (head ++ hex (codes "02")) 8 None reasons.Iterative 1
 refuses_a_part = wrong set_0 start (Mark 2) [] _ 8 None reasons.Iterative (in_start set_0) refl (AtMark _ _ _ refl) refl refl refl
 
@@ -76,12 +73,6 @@ cut set u rest input place front held owes few whole long = record {
   long = long;
   why = Cut held owes (λ x w. too_few set u rest x few w);
 }
-
-refuses_nothing_at_all : Fault set_0 set_0.machines [] 0 None reasons.Truncated 0
-refuses_nothing_at_all = cut set_0 [] [] [] 0 tt refl tt (omega arith) refl refl
-
-refuses_a_cut_version : Fault set_0 set_0.machines (hex (codes "5145564d000000")) 4 None reasons.Truncated 3
-refuses_a_cut_version = cut set_0 (Magic magic ∷ []) (0 ∷ 0 ∷ 0 ∷ []) _ 4 (tt, refl, AtMagic magic refl, refl) refl tt (omega arith) refl refl
 
 -- ---- a whole section
 
@@ -126,17 +117,6 @@ in_ended = ((in_fielded, refl, foot_may, refl), refl, AtEnd false false, refl)
 refuses_a_trailing_byte : Fault set_0 set_0.machines (smallest ++ hex (codes "00")) 41 None reasons.Trailing 1
 unfolding code first
 refuses_a_trailing_byte = wrong set_0 ended (Mark 0) [] _ 41 None reasons.Trailing in_ended refl (AtTrailing 0 refl) refl refl refl
-
-refuses_a_cut_description : Fault set_0 set_0.machines (smallest ++ hex (codes "0600000001")) 41 None reasons.Truncated 5
-unfolding code first
-refuses_a_cut_description = record {
-  units = ended;
-  rest = 6 ∷ 0 ∷ 0 ∷ 0 ∷ 1 ∷ [];
-  front = in_ended;
-  whole = refl;
-  long = refl;
-  why = Cut refl tt (λ x w. not_there AfterEnd x w.more w.may refl w.there);
-}
 
 -- ---- sets with other fields
 
@@ -187,11 +167,6 @@ refuses_an_unknown_subsection : Fault subsection_set subsection_set.machines (bo
 unfolding code first
 refuses_an_unknown_subsection = wrong subsection_set (Number 0 U8 (pos 9) ∷ boxed) (SubHead (codes "box/r") 1) [] _ 26 (Some 0) reasons.UnknownSubsection in_nine refl (sub_may 0 1 (codes "box/r") (omega arith)) refl refl refl
 
--- a repeated subsection whose version is too new is too new
-refuses_a_subsection_that_came_and_is_too_new : Fault subsection_set subsection_set.machines (spelled with_q ++ (5 ∷ 5 ∷ codes "box/q" ++ (0 ∷ 0 ∷ 0 ∷ 9 ∷ []))) 38 (Some 0) reasons.TooNew 11
-unfolding code first
-refuses_a_subsection_that_came_and_is_too_new = wrong subsection_set with_q (SubHead (codes "box/q") 9) [] _ 38 (Some 0) reasons.TooNew in_q refl (sub_may 0 9 (codes "box/q") (omega arith)) refl refl refl
-
 refuses_a_section_that_came : Fault set_0 set_0.machines (take 40 smallest ++ hex (codes "04000000000574696d6572000000000000000100000000000000007e00000000")) 40 (Some 0) reasons.RepeatedSection 19
 unfolding code first
 refuses_a_section_that_came = wrong set_0 (Foot 0 ∷ fielded) (Head 0 (codes "timer") 0 1) (0 ∷ 0 ∷ 0 ∷ 0 ∷ 0 ∷ 0 ∷ 0 ∷ 0 ∷ 0x7e ∷ 0 ∷ 0 ∷ 0 ∷ 0 ∷ []) _ 40 (Some 0) reasons.RepeatedSection (in_fielded, refl, foot_may, refl) refl (head_may false false (codes "timer")) refl refl refl
@@ -204,9 +179,6 @@ refuses_version_2 = wrong set_0 (Magic magic ∷ []) (Version 2) [] _ 4 None rea
 refuses_another_machine : Fault set_0 set_0.machines (head ++ hex (codes "07000000056973612d31")) 8 None reasons.WrongMachine 10
 refuses_another_machine = wrong set_0 start (Configuration (codes "isa-1")) [] _ 8 None reasons.WrongMachine (in_start set_0) refl (AtConfiguration _ _ (omega arith)) refl refl refl
 
-refuses_too_long_a_machine : Fault set_0 set_0.machines (head ++ hex (codes "0700000100")) 8 None reasons.WrongMachine 5
-refuses_too_long_a_machine = wrong set_0 start (Long 7 256) [] _ 8 None reasons.WrongMachine (in_start set_0) refl (AtLongName _ 256 (omega arith) (omega arith)) refl refl refl
-
 abbrev named : List Piece
 named = Configuration (codes "isa-0") ∷ start
 
@@ -215,9 +187,6 @@ in_named = (in_start set_0, refl, AtConfiguration _ _ (omega arith), refl)
 
 refuses_a_subsection_of_the_configuration : Fault set_0 set_0.machines (head ++ hex (codes "07000000056973612d3005")) 18 None reasons.ConfigurationExtra 1
 refuses_a_subsection_of_the_configuration = wrong set_0 named (Mark 5) [] _ 18 None reasons.ConfigurationExtra in_named refl (AtMark _ _ _ refl) refl refl refl
-
-refuses_a_second_configuration : Fault set_0 set_0.machines (head ++ hex (codes "07000000056973612d3007")) 18 None reasons.BadMark 1
-refuses_a_second_configuration = wrong set_0 named (Mark 7) [] _ 18 None reasons.BadMark in_named refl (AtMark _ _ _ refl) refl refl refl
 
 timer_may : (v : ℕ) → v < 4294967296 → May (Between true false) (Head 0 (codes "timer") 0 v)
 timer_may v lt = AtHead true false 0 (codes "timer") 0 v (omega arith) (omega arith) lt
@@ -231,11 +200,6 @@ refuses_too_old_a_section = wrong set_0 start (Head 0 (codes "timer") 0 0) (drop
 refuses_another_instance : Fault set_0 set_0.machines (take 19 smallest ++ hex (codes "00000001") ++ drop 23 smallest) 8 None reasons.UnknownSection 19
 refuses_another_instance = wrong set_0 start (Head 0 (codes "timer") 1 1) (drop 27 smallest) _ 8 None reasons.UnknownSection (in_start set_0) refl
     (AtHead true false 0 (codes "timer") 1 1 (omega arith) (omega arith) (omega arith)) refl refl refl
-
--- in a stream without a configuration the mark is one between sections
-refuses_a_mark_for_a_footer : Fault set_0 set_0.machines (take 35 smallest ++ hex (codes "08")) 35 None reasons.Command 1
-unfolding code first
-refuses_a_mark_for_a_footer = wrong set_0 fielded (Mark 8) [] _ 35 None reasons.Command in_fielded refl (AtNext 0 Unknown (Mark 8) refl (AtMark false false 8 refl)) refl refl refl
 
 refuses_too_long_a_description : Fault set_0 set_0.machines (smallest ++ hex (codes "0601000001")) 41 None reasons.DescriptionTooLong 5
 unfolding code first

@@ -1,7 +1,7 @@
 -- Between sections, and behind the fields of a section without a footer: what an accepted reading finds there.
 use Rattle.std.proofs.Common.{◌≡◌, ℕ, ◌+◌, ◌<◌, ◌≤◌, List, ◌∷◌, ◌++◌, length, slice_set, Option, Some, None, refl, sym, ap, ◌∙◌, Bool, true, false, not, arith}
 use Rattle.std.specs.List.{slice_get}
-use Rattle.vms_spec.specs.Numbers.{IsBytes}
+use Rattle.vms_kinds.specs.Bytes.{IsBytes}
 use Rattle.vms_spec.specs.Lists.{at_option, position}
 use Rattle.vms_spec.specs.Sets.{Set, Device}
 use Rattle.vms_spec.specs.Images.{Image, default_image, IsVersionOf}

@@ -1,7 +1,7 @@
 -- In a section, where all slots are passed: what an accepted reading finds behind the fields.
-use Rattle.std.proofs.Common.{◌≡◌, ℕ, ◌+◌, ◌<◌, List, [], ◌++◌, length, drop, slice_set, Option, Some, None, refl, sym, ap, ◌∙◌, subst, arith, Bool, true, false, not, ◌==◌, ◌||◌}
+use Rattle.std.proofs.Common.{◌≡◌, ℕ, ◌+◌, ◌<◌, List, ◌++◌, length, drop, slice_set, Option, Some, None, refl, sym, ap, ◌∙◌, subst, arith, Bool, true, false, ◌==◌, []}
 use Rattle.std.specs.List.{slice_get}
-use Rattle.vms_spec.specs.Numbers.{IsBytes}
+use Rattle.vms_kinds.specs.Bytes.{IsBytes}
 use Rattle.vms_spec.specs.Lists.{at_option}
 use Rattle.vms_spec.specs.Sets.{Set, Device, Sub}
 use Rattle.vms_spec.specs.Images.{Image, IsVersionOf}
@@ -13,6 +13,8 @@ use Rattle.vms_spec.specs.Units.{Piece, spell, SubHead, Mark}
 use Rattle.vms_bodies.specs.Whole.{reading_on}
 use Rattle.vms_bodies.proofs.BodyLaws.{at_set, set_twice}
 use Rattle.std.proofs.lemmas.Option.{slice_get_within}
+use Rattle.std.proofs.lemmas.Bool.{both_ways, not-true}
+use Rattle.std.proofs.Math.Bool.{or-not_self}
 use Rattle.vms_stream.specs.SoFar.{Tail, Unknown, Footed, Bare, Known}
 use Rattle.vms_stream.specs.Dues.{Due, AfterFields, due_field, rules_hold, is_foot, is_next, first_byte, May, AtSubHead, AtFoot, AtOther, AtNext}
 use Rattle.vms_stream.specs.Table.{first_of, is_between}
@@ -96,20 +98,12 @@ module _ (set : Set) (names : List (List ℕ)) (machine : Option (List ℕ)) (im
 
   next_agrees : (t : Tail) (b : ℕ) → is_next t b ≡ true → Agrees t false
   next_agrees Unknown b e = tt
-  next_agrees Footed b e = absurd (by (b == 0x05) e)
-    where
-      by : (p : Bool) → not (p || not p) ≡ true → ⊥
-      by true e = cc
-      by false e = cc
+  next_agrees Footed b e = absurd (both_ways _ (not-true _ e) (or-not_self (b == 0x05)))
   next_agrees Bare b e = refl
 
   next_between : (t : Tail) (b : ℕ) → is_next t b ≡ true → is_between (AfterFields k t) ≡ true
   next_between Unknown b e = refl
-  next_between Footed b e = absurd (by (b == 0x05) e)
-    where
-      by : (p : Bool) → not (p || not p) ≡ true → ⊥
-      by true e = cc
-      by false e = cc
+  next_between Footed b e = absurd (both_ways _ (not-true _ e) (or-not_self (b == 0x05)))
   next_between Bare b e = refl
 
   -- a mark that is neither of a subsection head nor of a footer

@@ -1,8 +1,8 @@
 -- The sections that an accepted reading finds, in any order and each once.
-use Rattle.std.proofs.Common.{◌≡◌, ℕ, zero, suc, ◌+◌, ◌<◌, List, [], ◌∷◌, ◌++◌, length, slice_set, Option, Some, None, Ok, Err, refl, sym, ap, ◌∙◌, subst, arith, append_assoc, length-append, Bool, true, false}
+use Rattle.std.proofs.Common.{◌≡◌, ℕ, zero, suc, ◌+◌, ◌<◌, List, ◌∷◌, ◌++◌, length, slice_set, Option, Some, None, Ok, Err, refl, sym, ap, ◌∙◌, subst, arith, append_assoc, length-append, Bool, true, false, []}
 use Rattle.std.specs.List.{slice_get}
 use Rattle.std.proofs.lemmas.List.{length-set}
-use Rattle.vms_spec.specs.Numbers.{IsBytes}
+use Rattle.vms_kinds.specs.Bytes.{IsBytes}
 use Rattle.vms_spec.specs.Sets.{Device, Set}
 use Rattle.vms_spec.specs.Layout.{device_cells, desc_cells}
 use Rattle.vms_spec.specs.Images.{Image, default_image, IsVersionOf}
@@ -13,7 +13,6 @@ use Rattle.vms_bodies.specs.Whole.{reading_on}
 use Rattle.vms_spec.specs.Good.{IsGood}
 use Rattle.vms_bodies.proofs.Places.{same_refl}
 use Rattle.vms_bodies.proofs.BodyLaws.{at_set}
-use Rattle.vms_bodies.proofs.SpellLaws.{is_bytes_rest}
 use Rattle.vms_bodies.proofs.FoundLaws.{body_found}
 use Rattle.vms_bodies.proofs.SectionLaws.{own_are, defaults_at, defaults_long}
 use Rattle.vms_bodies.proofs.ComeLaws.{none_versions, all_came}
@@ -29,6 +28,7 @@ use Rattle.vms_stream.proofs.Bodies.Body.{Reads, body_read}
 use Rattle.vms_stream.proofs.Streams.Free.{OpensAt, Closed, Opened, opened, ended}
 use Rattle.vms_stream.proofs.Streams.Inside.{Agrees, tail_of}
 use Rattle.vms_stream.proofs.Streams.Subs.{image_so, closing, subs_found}
+use Rattle.vms_kinds.proofs.ByteLemmas.{bytes_rest}
 
 -- device k's section stands at the front, and the reading goes on after it
 pub record HasRead (set : Set) (names : List (List ℕ)) (machine : Option (List ℕ)) (images : List Image) (came : List Bool) (t : Tail) (k : ℕ) (d : Device) (place : ℕ) (rest : List ℕ) (n : ℕ) (end : State) : Type 0 where
@@ -63,10 +63,10 @@ module _ (set : Set) (names : List (List ℕ)) (good : IsGood set) where
           let none = none_of d.subs in
           let head = section_head id d.desc.name d.instance v in
           let p : Progress = record { numbers = (default_image set d).numbers; place = place + length head; rest = more } in
-          let okm : IsBytes more = is_bytes_rest head more (subst (λ (l : List ℕ). IsBytes l) spelled ok) in
+          let okm : IsBytes more = bytes_rest head more (subst (λ (l : List ℕ). IsBytes l) spelled ok) in
           let sound = good.devices k d there in
           let b = body_found all set.structs good.structs d.desc v 0 p q sound okm (omega (arith, defaults_long all)) (own_are set d v) is in
-          let last : IsBytes q.rest = is_bytes_rest b.bytes q.rest (subst (λ (l : List ℕ). IsBytes l) b.front okm) in
+          let last : IsBytes q.rest = bytes_rest b.bytes q.rest (subst (λ (l : List ℕ). IsBytes l) b.front okm) in
           let m = same_refl (0 + length (desc_cells (cells_of (takers set.structs (length set.structs))) d.desc)) q.numbers in
           let so_far : Fine set d v none q.numbers = record {
             versions = none_versions d.subs;
@@ -203,7 +203,7 @@ module _ (set : Set) (names : List (List ℕ)) (good : IsGood set) where
   sections_by most on machine images came t place rest n end came_long images_long less ok (Opened k id v d more f e there new version goes) =
       let inside : k < length set.devices = slice_get_within set.devices k d there in
       let r = section_found machine images came t place rest n end came_long ok k id v d more f e there (omega arith) version goes in
-      let ok2 : IsBytes r.after = is_bytes_rest r.bytes r.after (subst (λ (l : List ℕ). IsBytes l) r.spelled ok) in
+      let ok2 : IsBytes r.after = bytes_rest r.bytes r.after (subst (λ (l : List ℕ). IsBytes l) r.spelled ok) in
       sections_next machine images came t place rest n end came_long images_long k d there new r
       (on machine (slice_set images k r.image) (slice_set came k true) (tail_of r.footed) (place + length r.bytes) r.after n end (length-set came k true ∙ came_long) (length-set images k r.image ∙ images_long)
       (omega (arith, ap length r.spelled, length-append r.bytes r.after, has_bytes r.is)) ok2 r.opens)

@@ -1,5 +1,5 @@
 -- The sections of a stream are read.
-use Rattle.std.proofs.Common.{◌≡◌, ℕ, ◌+◌, ◌^◌, ◌<◌, ◌≤◌, List, [], ◌∷◌, ◌++◌, length, drop, slice_set, Option, Some, None, ℤ, refl, sym, ap, ◌∙◌, subst, arith, append_assoc, length-append, Bool, true, false, ◌==◌}
+use Rattle.std.proofs.Common.{◌≡◌, ℕ, ◌+◌, ◌^◌, ◌<◌, ◌≤◌, List, ◌∷◌, ◌++◌, length, drop, slice_set, Option, Some, None, ℤ, refl, sym, ap, ◌∙◌, subst, arith, append_assoc, length-append, Bool, true, false, ◌==◌, []}
 use Rattle.std.specs.List.{slice_get}
 use Rattle.std.proofs.lemmas.List.{length-set}
 use Rattle.vms_spec.specs.Sets.{Device, Set, Sub}
@@ -12,6 +12,7 @@ use Rattle.vms_bodies.specs.Whole.{reading_on}
 use Rattle.vms_spec.specs.Good.{IsGood}
 use Rattle.vms_bodies.proofs.BodyLaws.{at_set}
 use Rattle.std.proofs.lemmas.Option.{slice_get_within}
+use Rattle.std.proofs.Math.Nat.{add-zero}
 use Rattle.vms_bodies.proofs.PartLaws.{none_of, version_at, Beside, beside_first, beside_next, beside_end}
 use Rattle.vms_bodies.proofs.FineLaws.{part_place}
 use Rattle.vms_bodies.proofs.SubsOnly.{so_far, image_at, so_at_last, own_taken, part_taken, sub_so}
@@ -122,11 +123,8 @@ module _ (set : Set) (names : List (List ℕ)) (good : IsGood set) (machine : Op
         came_is = refl;
         tail_is = refl;
         free_spot = λ e. cc;
-        reads = ap (λ (x : ℕ). reading_on (judge (by_state set names)) s x rest) (plus_none place);
+        reads = ap (λ (x : ℕ). reading_on (judge (by_state set names)) s x rest) (sym (add-zero place));
       }
-    where
-      plus_none : (place : ℕ) → place ≡ place + 0
-      plus_none place = omega arith
 
   -- from a body's end on
   subs_read : (order : List ℕ) (part : Option ℕ) (i : ℕ) (now left : List (Option ℕ)) → drop i (part_slots set (Some d) (so now) part) ≡ [] → Beside now left image.came → ComesOnce left order

@@ -1,6 +1,7 @@
 -- What is accepted is a stream at the front of the input.
-use Rattle.std.proofs.Common.{◌≡◌, inl, inr, ℕ, suc, ◌+◌, List, [], ◌∷◌, ◌++◌, length, map, Option, Some, None, refl, sym, ap, ◌∙◌, subst, arith, append_assoc, length-append, Bool, true, false}
-use Rattle.vms_spec.specs.Numbers.{IsBytes}
+use Rattle.std.proofs.Common.{◌≡◌, inl, inr, ℕ, suc, ◌+◌, List, ◌∷◌, ◌++◌, length, map, Option, Some, None, refl, sym, ap, ◌∙◌, subst, arith, append_assoc, length-append, Bool, true, false, []}
+use Rattle.std.proofs.Math.Nat.{add-zero}
+use Rattle.vms_kinds.specs.Bytes.{IsBytes}
 use Rattle.vms_spec.specs.Sets.{Device, Set}
 use Rattle.vms_spec.specs.Images.{Image, default_image}
 use Rattle.vms_spec.specs.Streams.{be32, magic, stream_head, configuration, end_mark, trailer, EachOnce, IsConfiguration, IsTrailer}
@@ -8,7 +9,6 @@ use Rattle.vms_spec.specs.Units.{Piece, spell}
 use Rattle.vms_spec.specs.Readings.{Accepted}
 use Rattle.vms_bodies.specs.Whole.{reading_on}
 use Rattle.vms_spec.specs.Good.{IsGood}
-use Rattle.vms_bodies.proofs.SpellLaws.{is_bytes_rest}
 use Rattle.vms_bodies.proofs.ComeLaws.{falses, defaults_of}
 use Rattle.vms_stream.specs.SoFar.{Tail, Unknown, Footed}
 use Rattle.vms_stream.specs.Dues.{AMagic, AVersion, AfterEnd, Nothing, May, AtMagic, AtVersion, AtDescription, AtLongText, AtTrailing}
@@ -21,6 +21,7 @@ use Rattle.vms_stream.proofs.Streams.Steps.{next, steps}
 use Rattle.vms_stream.proofs.Streams.Free.{Opening, Closes, Opens, Names, OpensAt, Closed, Opened, opens_at, ended, free_opens}
 use Rattle.vms_stream.proofs.Streams.Inside.{Agrees}
 use Rattle.vms_stream.proofs.Streams.SectionsFound.{sections_found}
+use Rattle.vms_kinds.proofs.ByteLemmas.{bytes_rest}
 
 -- what ends a stream: nothing, or a description
 record Ending (machine : Option (List ℕ)) (images : List Image) (place : ℕ) (rest : List ℕ) (n : ℕ) (end : State) : Type 0 where
@@ -73,7 +74,7 @@ module _ (set : Set) (names : List (List ℕ)) where
   by_text machine images came t place rest more n end ok _ (AtLongText size lt f) none e goes = cc
   by_text machine images came t place rest more n end ok _ (AtTrailing b f) none e goes = absurd (trailing_never set names AfterEnd (known_at set (ended machine images came t)) b refl refl refl refl none)
   by_text machine images came t place rest more n end ok _ (AtDescription text le) none e goes =
-      let okm : IsBytes more = is_bytes_rest (trailer text) more (subst (λ (l : List ℕ). IsBytes l) e ok) in
+      let okm : IsBytes more = bytes_rest (trailer text) more (subst (λ (l : List ℕ). IsBytes l) e ok) in
       let o = over_is (record (ended machine images came t) { spot = Over }) refl (place + length (trailer text)) more n end okm goes in
       record {
         text = Some text;
@@ -98,21 +99,18 @@ module _ (set : Set) (names : List (List ℕ)) where
       spelled = refl;
       described = refl;
       all = λ f. none_left rest u.over;
-      long = sym u.place_is ∙ plus_none place;
+      long = sym u.place_is ∙ sym (add-zero place);
       machine_is = ap (λ (s : State). s.machine) (sym u.end_is);
       images_are = ap (λ (s : State). s.images) (sym u.end_is);
     }
   ]
-    where
-      plus_none : (place : ℕ) → place ≡ place + 0
-      plus_none place = omega arith
 
 module _ (set : Set) (names : List (List ℕ)) (good : IsGood set) where
   rest_found : (machine : Option (List ℕ)) (images : List Image) (came : List Bool) (t : Tail) (place : ℕ) (rest : List ℕ) (n : ℕ) (end : State) → length came ≡ length set.devices → length images ≡ length set.devices
       → IsBytes rest → OpensAt set names machine images came t place rest n end → Rest set images came t machine place rest n end
   rest_found machine images came t place rest n end came_long images_long ok o =
       let s = sections_found set names good (suc (length rest)) machine images came t place rest n end came_long images_long (omega arith) ok o in
-      let fine : IsBytes s.after = is_bytes_rest (0x00 ∷ []) s.after (is_bytes_rest s.sections (0x00 ∷ s.after) (subst (λ (l : List ℕ). IsBytes l) s.spelled ok)) in
+      let fine : IsBytes s.after = bytes_rest (0x00 ∷ []) s.after (bytes_rest s.sections (0x00 ∷ s.after) (subst (λ (l : List ℕ). IsBytes l) s.spelled ok)) in
       let c = ending_found set names machine s.states s.came_last s.tail_last ((place + length s.sections) + 1) s.after n end fine s.goes in
       record {
         order = s.order;
@@ -190,7 +188,7 @@ module _ (set : Set) (names : List (List ℕ)) (good : IsGood set) where
   first_found input rest n end ok e (Closes more f all goes) = without_name input rest n end ok e (Closed more f all goes)
   first_found input rest n end ok e (Opens k id v d more fits f there new version goes) = without_name input rest n end ok e (Opened k id v d more fits f there new version goes)
   first_found input rest n end ok e (Names name more first f one le goes) =
-      let okm : IsBytes more = is_bytes_rest (configuration name) more (subst (λ (l : List ℕ). IsBytes l) f ok) in
+      let okm : IsBytes more = bytes_rest (configuration name) more (subst (λ (l : List ℕ). IsBytes l) f ok) in
       let place = 8 + length (configuration name) in
       let o = opens_at set names (record { machine = Some name; images = images_0; came = came_0; tail = Footed; spot = Free false true }) Footed place more n end
       (free_opens set names false true (Some name) images_0 came_0 Footed place more n end okm (falses set.devices) goes) in
@@ -203,7 +201,7 @@ module _ (set : Set) (names : List (List ℕ)) (good : IsGood set) where
   by_version input rest more n end ok e _ (AtVersion v f) none g goes =
       let is = version_is_3 set names AVersion (known_at set (record (at_start set) { spot = Headed })) v none in
       let g3 : rest ≡ be32 3 ++ more = g ∙ ap (λ (v : ℕ). be32 v ++ more) is in
-      let okm : IsBytes more = is_bytes_rest (be32 3) more (subst (λ (l : List ℕ). IsBytes l) g3 ok) in
+      let okm : IsBytes more = bytes_rest (be32 3) more (subst (λ (l : List ℕ). IsBytes l) g3 ok) in
       first_found input more n end okm (e ∙ ap (λ (l : List ℕ). magic ++ l) g3) (free_opens set names true false None images_0 came_0 Unknown 8 more n end okm (falses set.devices) goes)
 
   by_magic : (input more : List ℕ) (n : ℕ) (end : State) → IsBytes input → (x : Piece) → May AMagic x → first_of set names AMagic (known_at set (at_start set)) x ≡ None → input ≡ spell x ++ more
@@ -211,7 +209,7 @@ module _ (set : Set) (names : List (List ℕ)) (good : IsGood set) where
   by_magic input more n end ok _ (AtMagic bytes four) none e goes =
       let is = magic_is set names AMagic (known_at set (at_start set)) bytes none in
       let e1 : input ≡ magic ++ more = e ∙ ap (λ (l : List ℕ). l ++ more) is in
-      let okm : IsBytes more = is_bytes_rest magic more (subst (λ (l : List ℕ). IsBytes l) e1 ok) in
+      let okm : IsBytes more = bytes_rest magic more (subst (λ (l : List ℕ). IsBytes l) e1 ok) in
       let s1 : State = record (at_start set) { spot = Headed } in
       let u = steps set names s1 4 more n end okm refl (ap (λ (k : ℕ). reading_on (judge (by_state set names)) s1 k more) (sym (omega (arith, four))) ∙ goes) in
       by_version input more u.more n end okm e1 u.unit u.may u.none u.there u.goes

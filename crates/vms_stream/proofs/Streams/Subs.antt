@@ -1,23 +1,24 @@
 -- The subsections that an accepted reading finds behind a body are spelled, in any order and each once; the image stays
 -- normal and valid.
-use Rattle.std.proofs.Common.{◌≡◌, ℕ, zero, suc, ◌+◌, ◌<◌, List, [], ◌∷◌, ◌++◌, length, drop, slice_set, Option, Some, None, Ok, Err, ℤ, refl, sym, ap, ◌∙◌, subst, arith, append_assoc, length-append, Bool, true, false, if◌then◌else◌}
+use Rattle.std.proofs.Common.{◌≡◌, ℕ, zero, suc, ◌+◌, ◌<◌, List, ◌∷◌, ◌++◌, length, drop, slice_set, Option, Some, None, Ok, Err, ℤ, refl, sym, ap, ◌∙◌, subst, arith, append_assoc, length-append, Bool, true, false, if◌then◌else◌, []}
 use Rattle.std.specs.List.{slice_get}
-use Rattle.vms_spec.specs.Numbers.{IsBytes}
+use Rattle.vms_kinds.specs.Bytes.{IsBytes}
 use Rattle.vms_spec.specs.Sets.{Device, Set, Sub}
 use Rattle.vms_spec.specs.Layout.{device_cells, desc_cells}
-use Rattle.vms_spec.specs.Images.{Image, sub_slots, Spells, AreVersionsOf, IsVersionOf}
+use Rattle.vms_spec.specs.Images.{Image, sub_slots, Spells, IsVersionOf}
 use Rattle.vms_spec.specs.Streams.{sub_head, foot, ComesOnce, SubsSpell}
 use Rattle.vms_spec.specs.SoFar.{part_slots, slots_of_sub}
 use Rattle.vms_spec.specs.Readings.{Accepted}
 use Rattle.vms_spec.specs.Taking.{Taken, Progress, take_desc, takers, cells_of}
 use Rattle.vms_bodies.specs.Whole.{reading_on}
 use Rattle.vms_spec.specs.Good.{IsGood}
+use Rattle.vms_spec.proofs.ListLaws.{versions_long}
 use Rattle.vms_bodies.proofs.Places.{same_refl}
 use Rattle.vms_bodies.proofs.BodyLaws.{at_set}
-use Rattle.vms_bodies.proofs.SpellLaws.{is_bytes_rest}
 use Rattle.vms_bodies.proofs.FoundLaws.{body_found}
 use Rattle.vms_bodies.proofs.AgreeLaws.{its_spelled}
 use Rattle.std.proofs.lemmas.Option.{slice_get_within}
+use Rattle.std.proofs.Math.Nat.{add-zero}
 use Rattle.vms_bodies.proofs.PartLaws.{sub_are, Beside, beside_back, beside_done}
 use Rattle.vms_bodies.proofs.FineLaws.{part_place, Fine, Stays, stays_refl, stays_on, stays_next, fine_next}
 use Rattle.vms_bodies.proofs.ComeLaws.{sub_front}
@@ -27,6 +28,7 @@ use Rattle.vms_stream.specs.State.{State, Before, Free, by_state}
 use Rattle.vms_stream.proofs.Bodies.Body.{Reads, body_read}
 use Rattle.vms_stream.proofs.Streams.Free.{OpensAt, opens_at, free_opens}
 use Rattle.vms_stream.proofs.Streams.Inside.{Agrees, tail_of, stands, Behind, ASub, AFoot, ANext, behind_found}
+use Rattle.vms_kinds.proofs.ByteLemmas.{bytes_rest}
 
 abbrev pub image_so : ℕ → List (Option ℕ) → List ℤ → Image
 image_so v came n = record { version = v; came = came; numbers = n }
@@ -34,13 +36,6 @@ image_so v came n = record { version = v; came = came; numbers = n }
 -- what closes a section
 abbrev pub closing : Bool → ℕ → List ℕ
 closing footed id = if footed then foot id else []
-
-pub versions_long : (subs : List Sub) (came : List (Option ℕ)) → AreVersionsOf subs came → length came ≡ length subs
-versions_long [] [] h = refl
-versions_long [] (o ∷ came) h = absurd h
-versions_long (s ∷ subs) [] h = absurd h
-versions_long (s ∷ subs) (None ∷ came) h = ap suc (versions_long subs came h)
-versions_long (s ∷ subs) (Some v ∷ came) h = ap suc (versions_long subs came h.1)
 
 -- the subsections that are read after a body, up to the end of the section
 pub record SubsRead (set : Set) (names : List (List ℕ)) (machine : Option (List ℕ)) (images : List Image) (came : List Bool) (t : Tail) (k id : ℕ) (d : Device) (v : ℕ) (so_far : List (Option ℕ)) (n : List ℤ)
@@ -90,11 +85,8 @@ module _ (set : Set) (names : List (List ℕ)) (good : IsGood set) (machine : Op
         spelled = e;
         fine = fine;
         stays = stays_refl set d so_far n;
-        opens = subst (λ (x : ℕ). OpensAt set names machine (slice_set images k (image_so v so_far n)) came (tail_of footed) (x + length (closing footed id)) after taken end) (none_more place) opens;
+        opens = subst (λ (x : ℕ). OpensAt set names machine (slice_set images k (image_so v so_far n)) came (tail_of footed) (x + length (closing footed id)) after taken end) (sym (add-zero place)) opens;
       }
-    where
-      none_more : (place : ℕ) → place ≡ place + 0
-      none_more place = omega arith
 
   -- one subsection before the others
   sub_before : (so_far : List (Option ℕ)) (n m : List ℤ) (j w : ℕ) (s : Sub) (place : ℕ) (rest body more : List ℕ) → slice_get d.subs j ≡ Some s → slice_get so_far j ≡ Some None → rest ≡ sub_head s.desc.name w ++ (body ++ more)
@@ -140,9 +132,9 @@ module _ (set : Set) (names : List (List ℕ)) (good : IsGood set) (machine : Op
       let base = part_place set d j in
       let head = sub_head s.desc.name w in
       let p : Progress = record { numbers = n; place = place + length head; rest = more } in
-      let okm : IsBytes more = is_bytes_rest head more (subst (λ (l : List ℕ). IsBytes l) spelled ok) in
+      let okm : IsBytes more = bytes_rest head more (subst (λ (l : List ℕ). IsBytes l) spelled ok) in
       let b = body_found (device_cells set d) set.structs good.structs s.desc w base p q (good.subs k j d s here there) okm (omega (arith, fine.long)) (λ m. sub_are set d j s w m there) is in
-      let last : IsBytes q.rest = is_bytes_rest b.bytes q.rest (subst (λ (l : List ℕ). IsBytes l) b.front okm) in
+      let last : IsBytes q.rest = bytes_rest b.bytes q.rest (subst (λ (l : List ℕ). IsBytes l) b.front okm) in
       let same = same_refl (base + length (desc_cells (cells_of (takers set.structs (length set.structs))) s.desc)) q.numbers in
       let kept = b.kept q.numbers same in
       let fine' = fine_next set d v so_far n q.numbers j w s good.structs (good.devices k d here) (λ j s e. good.subs k j d s here e) there new version b.long (b.fits q.numbers same) (b.rules q.numbers same) kept fine in
@@ -162,7 +154,7 @@ module _ (set : Set) (names : List (List ℕ)) (good : IsGood set) (machine : Op
     where
       by : FindsSubs most → Behind set names machine images came t k id d here room (image_so v so_far n) part i place rest taken end → Subs so_far n place rest
       by on (AFoot more agrees e goes) =
-          let okm : IsBytes more = is_bytes_rest (foot id) more (subst (λ (l : List ℕ). IsBytes l) e ok) in
+          let okm : IsBytes more = bytes_rest (foot id) more (subst (λ (l : List ℕ). IsBytes l) e ok) in
           let image = image_so v so_far n in
           ends_here so_far n place rest more true agrees e fine
           (opens_at set names (record { machine = machine; images = slice_set images k image; came = came; tail = Footed; spot = Free false false }) Footed (place + 5) more taken end
@@ -170,10 +162,7 @@ module _ (set : Set) (names : List (List ℕ)) (good : IsGood set) (machine : Op
       by on (ANext agrees o) =
           let at_place = opens_at set names (stands set names machine images came t k id d here room (image_so v so_far n) part i) Bare place rest taken end o in
           ends_here so_far n place rest rest false agrees refl fine
-          (subst (λ (x : ℕ). OpensAt set names machine (slice_set images k (image_so v so_far n)) came Bare x rest taken end) (none_more place) at_place)
-        where
-          none_more : (place : ℕ) → place ≡ place + 0
-          none_more place = omega arith
+          (subst (λ (x : ℕ). OpensAt set names machine (slice_set images k (image_so v so_far n)) came Bare x rest taken end) (sym (add-zero place)) at_place)
       by on (ASub j w s more e there new version goes) =
           let so_far1 = slice_set so_far j (Some w) in
           let image1 = image_so v so_far1 n in

@@ -1,8 +1,9 @@
 -- What it says of a unit that no row of the table takes it.
-use Rattle.std.proofs.Common.{◌≡◌, ℕ, zero, suc, ◌<◌, List, [], ◌∷◌, length, Option, Some, None, refl, sym, ap, ◌∙◌, arith, Bool, true, false, not, ◌==◌, ◌&&◌, ◌||◌, nat_lt, if◌then◌else◌}
+use Rattle.std.proofs.Common.{◌≡◌, ℕ, zero, suc, ◌<◌, List, ◌∷◌, length, Option, Some, None, refl, sym, ap, ◌∙◌, arith, Bool, true, false, not, ◌==◌, ◌&&◌, nat_lt, if◌then◌else◌, [], ◌||◌}
 use Rattle.std.specs.List.{slice_get}
 use Rattle.std.specs.Str.{bytes_eq}
-use Rattle.std.proofs.lemmas.Bool.{ltb-false, le-ltb, eqb-true, eq-eqb}
+use Rattle.std.proofs.lemmas.Bool.{ltb-false, le-ltb, eqb-true, eq-eqb, not-false}
+use Rattle.std.proofs.lemmas.Slice.Eq.{bytes_eq-Decides}
 use Rattle.vms_spec.specs.declared.Reason.{Reason}
 use Rattle.vms_spec.specs.declared.Reason.TheVariants as reasons
 use Rattle.vms_spec.specs.Lists.{at_option, position}
@@ -11,7 +12,7 @@ use Rattle.vms_spec.specs.Images.{IsVersionOf}
 use Rattle.vms_spec.specs.Streams.{magic, is_one_of}
 use Rattle.vms_spec.specs.Units.{Piece, Magic, Version, Configuration, Head, SubHead, Foot, End, Start, Mark}
 use Rattle.vms_spec.specs.SoFar.{subs_of, device_named}
-use Rattle.vms_bodies.proofs.HeadFound.{found_is, same_text}
+use Rattle.vms_bodies.proofs.HeadFound.{found_is}
 use Rattle.vms_bodies.proofs.SubHeads.{sub_is}
 use Rattle.vms_stream.specs.SoFar.{Known}
 use Rattle.vms_stream.specs.Dues.{Due}
@@ -32,10 +33,6 @@ passed_by : (b : Bool) (section : Option ℕ) (reason : Reason) (rest : Line) �
 passed_by true section reason rest e = cc
 passed_by false section reason rest e = refl
 
-not_false : (b : Bool) → not b ≡ false → b ≡ true
-not_false true e = refl
-not_false false e = cc
-
 module _ (set : Set) (names : List (List ℕ)) (d : Due) (so_far : Known) where
   abbrev row_of : Piece → Line
   row_of x = first_of set names d so_far x
@@ -43,20 +40,20 @@ module _ (set : Set) (names : List (List ℕ)) (d : Due) (so_far : Known) where
   pub magic_is : (bytes : List ℕ) → row_of (Magic bytes) ≡ None → bytes ≡ magic
   magic_is bytes e =
       let a = not_taken (not (bytes_eq bytes magic)) None reasons.BadMagic None e in
-      same_text bytes magic (not_false (bytes_eq bytes magic) a.0)
+      (bytes_eq-Decides bytes magic).0 (not-false (bytes_eq bytes magic) a.0)
 
   pub version_is_3 : (v : ℕ) → row_of (Version v) ≡ None → v ≡ 3
   version_is_3 v e =
       let a = not_taken (v == 2) None reasons.OldStream (row_or (not (v == 2 || v == 3)) None reasons.BadVersion None) e in
       let b = not_taken (not (v == 2 || v == 3)) None reasons.BadVersion None a.1 in
-      eqb-true v 3 (by (v == 2) (v == 3) a.0 (not_false (v == 2 || v == 3) b.0))
+      eqb-true v 3 (by (v == 2) (v == 3) a.0 (not-false (v == 2 || v == 3) b.0))
     where
       by : (p q : Bool) → p ≡ false → (p || q) ≡ true → q ≡ true
       by true q e f = cc
       by false q e f = f
 
   pub name_is_one : (name : List ℕ) → row_of (Configuration name) ≡ None → is_one_of names name ≡ true
-  name_is_one name e = not_false (is_one_of names name) (not_taken (not (is_one_of names name)) None reasons.WrongMachine None e).0
+  name_is_one name e = not-false (is_one_of names name) (not_taken (not (is_one_of names name)) None reasons.WrongMachine None e).0
 
   pub name_passes : (name : List ℕ) → is_one_of names name ≡ true → row_of (Configuration name) ≡ None
   name_passes name e = passed_by (not (is_one_of names name)) None reasons.WrongMachine None (ap not e)
@@ -79,7 +76,7 @@ module _ (set : Set) (names : List (List ℕ)) (d : Due) (so_far : Known) where
   end_passes e = ap (λ (o : Option ℕ). row_or (not (is_none o)) o reasons.MissingSection None) e
 
   pub foot_is : (id : ℕ) → row_of (Foot id) ≡ None → id ≡ so_far.id
-  foot_is id e = eqb-true id so_far.id (not_false (id == so_far.id) (not_taken (not (id == so_far.id)) so_far.section reasons.BadFooter None e).0)
+  foot_is id e = eqb-true id so_far.id (not-false (id == so_far.id) (not_taken (not (id == so_far.id)) so_far.section reasons.BadFooter None e).0)
 
   pub foot_passes : (id : ℕ) → id ≡ so_far.id → row_of (Foot id) ≡ None
   foot_passes id e = passed_by (not (id == so_far.id)) so_far.section reasons.BadFooter None (ap not (eq-eqb id so_far.id e))
@@ -201,7 +198,7 @@ module _ (set : Set) (names : List (List ℕ)) (d : Due) (so_far : Known) where
             device = f.device;
             named = n;
             there = there;
-            name_is = same_text f.device.desc.name name f.name_is;
+            name_is = (bytes_eq-Decides f.device.desc.name name).0 f.name_is;
             instance_is = f.instance_is;
             new = a.0;
             version = (ltb-false v f.device.desc.minimum c.0, ltb-false f.device.desc.version v b.0);
@@ -262,7 +259,7 @@ module _ (set : Set) (names : List (List ℕ)) (d : Due) (so_far : Known) where
             sub = f.sub;
             named = n;
             there = there;
-            name_is = same_text f.sub.desc.name name f.name_is;
+            name_is = (bytes_eq-Decides f.sub.desc.name name).0 f.name_is;
             new = c.0;
             version = (ltb-false v f.sub.desc.minimum b.0, ltb-false f.sub.desc.version v a.0);
           }

@@ -1,9 +1,10 @@
 use Rattle.std.proofs.Common.{List, ℕ, None, refl, sym, inl, inr, subst}
 use Rattle.std.specs.declared.alloc.Global.{Global}
 use Rattle.std.specs.declared.vec.Vec.{Vec}
+use Rattle.std.proofs.KnownBytes.{Keeps-refl}
 use Rattle.dev_board.specs.declared.event.Event.{Event}
 use Rattle.vms_io.specs.Told.{intake, outlet, stock}
-use Rattle.vms_commands.proofs.EndLemmas.{keeps_same, quiet_same}
+use Rattle.vms_commands.proofs.EndLemmas.{quiet_same}
 use Rattle.vms_commands.specs.Outcomes.{Outcome}
 use Rattle.vms_commands.proofs.StepLemmas.{ended_by, had_by}
 use Rattle.vms_script.specs.Lines.{ScriptLine}
@@ -45,7 +46,7 @@ returns-in-Err-clause-content g c = λ o has.
     c.in-Err.ending o c.in-Err.ensures.held (quiet_same out c.in-Err.ending) c.in-Err.ensures.read has
 
 pub returns-in-Err-clause-cause : goal.returns-in-Err-clause-cause
-returns-in-Err-clause-cause g c = inl (c.in-Err.ensures.cause, refl, keeps_same (g.O.Sink.written c.args.out.now))
+returns-in-Err-clause-cause g c = inl (c.in-Err.ensures.cause, refl, Keeps-refl (g.O.Sink.written c.args.out.now))
 
 pub returns-in-Err-clause-given : goal.returns-in-Err-clause-given
 returns-in-Err-clause-given g c =

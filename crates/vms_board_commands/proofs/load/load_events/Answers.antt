@@ -1,7 +1,8 @@
 use Rattle.std.proofs.Common.{ℕ, ap, ◌∙◌, sym, subst}
+use Rattle.std.proofs.KnownBytes.{Keeps-refl}
 use Rattle.dev_board.specs.State.{State}
 use Rattle.vms_io.specs.Told.{outlet}
-use Rattle.vms_commands.proofs.EndLemmas.{comes_to_nothing, keeps_same}
+use Rattle.vms_commands.proofs.EndLemmas.{comes_to_nothing}
 use Rattle.vms_script.specs.Views.{event_lines}
 use Rattle.vms_board_commands.proofs.LoadLemmas.{loads_under}
 use Rattle.vms_board_commands.proofs.SaveLemmas.{at_level}
@@ -19,7 +20,7 @@ returns-clause-content g c = λ shelf shelf' o held loads.
 pub returns-in_default-clause-content : goal.returns-in_default-clause-content
 returns-in_default-clause-content g c = λ shelf shelf' o held loads.
     let out = outlet g.O.Sink c.args.out.now in
-    comes_to_nothing out out shelf shelf' o.parts (keeps_same out.written) held
+    comes_to_nothing out out shelf shelf' o.parts (Keeps-refl out.written) held
 
 pub returns-clause-heard : goal.returns-clause-heard
 returns-clause-heard g c = λ held.

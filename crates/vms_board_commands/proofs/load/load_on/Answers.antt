@@ -1,8 +1,9 @@
 use Rattle.std.proofs.Common.{List, ℕ, Err, IfSome, ap, ◌∙◌, subst}
+use Rattle.std.proofs.KnownBytes.{Keeps-refl}
 use Rattle.vms_board.specs.Comes.{ComesTo}
 use Rattle.vms_board.specs.declared.restore.RestoreFault.{RestoreFault}
 use Rattle.vms_io.specs.Told.{intake, outlet}
-use Rattle.vms_commands.proofs.EndLemmas.{comes_to_nothing, keeps_same}
+use Rattle.vms_commands.proofs.EndLemmas.{comes_to_nothing}
 use Rattle.vms_commands.specs.Lines.{refused_line}
 use Rattle.vms_session.specs.Events.{trace_from}
 use Rattle.vms_script.specs.Views.{event_lines}
@@ -38,7 +39,7 @@ returns-in-Err-Refused-clause-content g c = λ shelf shelf' o held loads.
 pub returns-in-Err-ReadFault-clause-content : goal.returns-in-Err-ReadFault-clause-content
 returns-in-Err-ReadFault-clause-content g c = λ shelf shelf' o held loads.
     let out = outlet g.O.Sink c.args.out.now in
-    comes_to_nothing out out shelf shelf' o.parts (keeps_same out.written) held
+    comes_to_nothing out out shelf shelf' o.parts (Keeps-refl out.written) held
 
 -- ---- what is heard
 

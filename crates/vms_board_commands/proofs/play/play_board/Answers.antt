@@ -2,9 +2,10 @@ use Rattle.std.proofs.Common.{List, Option, Some, sym, subst, inl, inr}
 use Rattle.std.specs.Prelude.{IsSomeAnd}
 use Rattle.std.specs.declared.alloc.Global.{Global}
 use Rattle.std.specs.declared.vec.Vec.{Vec}
+use Rattle.std.proofs.KnownBytes.{Keeps-refl}
 use Rattle.vms_io.specs.Shelves.{Held}
 use Rattle.vms_io.specs.Told.{outlet, stock}
-use Rattle.vms_commands.proofs.EndLemmas.{keeps_same, quiet_same}
+use Rattle.vms_commands.proofs.EndLemmas.{quiet_same}
 use Rattle.vms_commands.proofs.StepLemmas.{ended_by, had_by}
 use Rattle.vms_commands.specs.Outcomes.{Outcome}
 use Rattle.vms_script.specs.Lines.{ScriptLine}
@@ -42,4 +43,4 @@ returns-in-Err-clause-content g c = λ input o few has.
     c.in-Err.ending o c.in-Err.ensures.held (quiet_same out c.in-Err.ending) c.in-Err.ensures.read has
 
 pub returns-in-Err-clause-cause : goal.returns-in-Err-clause-cause
-returns-in-Err-clause-cause g c = inl (c.in-Err.ensures.cause, keeps_same (g.O.Sink.written c.args.out.now), c.in-Err.ensures.held)
+returns-in-Err-clause-cause g c = inl (c.in-Err.ensures.cause, Keeps-refl (g.O.Sink.written c.args.out.now), c.in-Err.ensures.held)

@@ -1,12 +1,13 @@
 use Rattle.std.proofs.Common.{None, List, sym, ◌∙◌, subst}
 use Rattle.std.specs.declared.alloc.Global.{Global}
 use Rattle.std.specs.declared.vec.Vec.{Vec}
+use Rattle.std.proofs.KnownBytes.{Keeps-refl}
 use Rattle.dev_board.specs.State.{power_on}
 use Rattle.dev_board.specs.Step.{after_all}
 use Rattle.dev_board.specs.declared.event.Event.{Event}
 use Rattle.vms_board.specs.Saving.{saved_stream}
 use Rattle.vms_io.specs.Told.{outlet, stock}
-use Rattle.vms_commands.proofs.EndLemmas.{keeps_same, quiet_same}
+use Rattle.vms_commands.proofs.EndLemmas.{quiet_same}
 use Rattle.vms_commands.proofs.StepLemmas.{err_text, text_ends, then_text}
 use Rattle.vms_commands.specs.StepEndings.{TextEnds}
 use Rattle.vms_commands.specs.Steps.{Gives}
@@ -55,4 +56,4 @@ returns-in-Err-clause-content g c = λ input o few has.
 pub returns-in-Err-clause-cause : goal.returns-in-Err-clause-cause
 returns-in-Err-clause-cause g c =
     let out = outlet g.O.Sink c.args.out.now in
-    unread_text out out (stock g.H.Shelf c.args.shelf.now) (stock g.H.Shelf c.events_of.new.shelf) c.in-Err.ending c.in-Err.ensures.cause (keeps_same out.written)
+    unread_text out out (stock g.H.Shelf c.args.shelf.now) (stock g.H.Shelf c.events_of.new.shelf) c.in-Err.ending c.in-Err.ensures.cause (Keeps-refl out.written)

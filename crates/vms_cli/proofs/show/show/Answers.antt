@@ -1,9 +1,10 @@
 use Rattle.std.proofs.Common.{refl, inl, inr}
+use Rattle.std.proofs.KnownBytes.{Keeps-refl}
 use Rattle.vms_io.specs.Told.{intake, outlet, stock}
 use Rattle.vms_load.specs.Kept.{loads}
 use Rattle.vms_commands.specs.Asks.{set_asked}
 use Rattle.vms_commands.specs.Fetching.{is_on_shelf, word_set}
-use Rattle.vms_commands.proofs.EndLemmas.{keeps_same, quiet_same}
+use Rattle.vms_commands.proofs.EndLemmas.{quiet_same}
 use Rattle.vms_commands.proofs.StepLemmas.{ended_by, had_by}
 use Rattle.vms_board_commands.proofs.HeardLemmas.{given_so, heard_so, other_heard}
 use Rattle.vms_load.specs.declared.loader.Loader.{Loader}
@@ -37,7 +38,7 @@ returns-in-Err-clause-content g c = λ o has.
 
 pub returns-in-Err-clause-cause : goal.returns-in-Err-clause-cause
 returns-in-Err-clause-cause g c =
-    inl (c.in-Err.ensures.cause, refl, keeps_same (g.O.Sink.written c.args.out.now))
+    inl (c.in-Err.ensures.cause, refl, Keeps-refl (g.O.Sink.written c.args.out.now))
 
 pub returns-in-Err-clause-given : goal.returns-in-Err-clause-given
 returns-in-Err-clause-given g c =

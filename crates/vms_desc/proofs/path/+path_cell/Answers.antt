@@ -1,7 +1,8 @@
-use Rattle.std.proofs.Common.{◌≡◌, ◌+◌, ◌≤◌, [], List, ℕ, Some, None, length, length-take-le, sym, ap, subst, ◌∙◌, arith}
+use Rattle.std.proofs.Common.{◌≡◌, ◌+◌, ◌≤◌, List, ℕ, Some, None, length, length-take-le, sym, ap, subst, ◌∙◌, arith, []}
 use Rattle.std.specs.Prelude.{nat_lt, if◌then◌else◌}
 use Rattle.std.specs.List.{slice_get}
 use Rattle.std.proofs.lemmas.Bool.{eqb-true}
+use Rattle.std.proofs.lemmas.Option.{slice_get-get_or}
 use Rattle.vms_spec.specs.declared.TheConstants.{MOST_ITEMS}
 use Rattle.vms_spec.specs.Layout.{no_desc}
 use Rattle.vms_kinds.specs.declared.Item.{Item}
@@ -11,7 +12,7 @@ use Rattle.vms_parts.specs.declared.sizes.Measure.TheVariants.{Cells}
 use Rattle.vms_parts.specs.Sizes.{size_of}
 use Rattle.vms_parts.specs.Views.{desc_of, set_of}
 use Rattle.vms_desc.specs.Paths.{IsPlaced}
-use Rattle.vms_desc.proofs.PathLaws.{few_by_sizes, inner_placed, element_within, path_is, after, in_struct, at_number, at_known, no_items}
+use Rattle.vms_desc.proofs.PathLaws.{few_by_sizes, inner_placed, element_within, path_is, after, in_struct, at_number, no_items}
 use Rattle.vms_desc.proofs.path.+path_cell.Goals as goal
 
 pub element_at-requires : goal.element_at-requires
@@ -52,7 +53,7 @@ returns-in_ok-inner-in-Struct t c =
     let j = c.in-Struct.number in
     let enters = c.in_ok-inner-in-Struct.ensures in
     let long : length inner.sizes.now ≡ j = ap length enters.sizes_are ∙ length-take-le j p.sizes.now (omega (arith, enters.known)) in
-    let there : slice_get set.structs j ≡ Some (desc_of inner.desc.now) = at_known set.structs j no_desc (omega (arith, enters.known, c.requires.known)) ∙ ap Some (sym enters.desc) in
+    let there : slice_get set.structs j ≡ Some (desc_of inner.desc.now) = slice_get-get_or set.structs j no_desc (omega (arith, enters.known, c.requires.known)) ∙ ap Some (sym enters.desc) in
     let whole : path_at set c.args.path.now (length p.sizes.now) (Some (desc_of p.desc.now)) p.base ≡ path_at set rest j (Some (desc_of inner.desc.now)) el.cell =
     ap (λ (path : List (ℕ × ℕ)). path_at set path (length p.sizes.now) (Some (desc_of p.desc.now)) p.base) c.in_ok-first.ensures.cases.0
     ∙ path_is set p c.requires rest step ∙ ap (after set p c.requires rest) (sym c.in_ok-element.ensures)

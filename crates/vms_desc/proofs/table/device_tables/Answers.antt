@@ -1,12 +1,13 @@
-use Rattle.std.proofs.Common.{◌≡◌, ◌∙◌, ◌+◌, ap, subst, sym, map, take, List, ◌++◌, ◌∷◌, [], ℕ, Some, arith, below_more}
+use Rattle.std.proofs.Common.{◌≡◌, ◌∙◌, ◌+◌, ap, subst, sym, map, take, List, ◌++◌, ◌∷◌, ℕ, Some, arith, below_more, []}
 use Rattle.std.specs.List.{slice_get}
 use Rattle.std.proofs.lemmas.List.{length-map}
+use Rattle.std.proofs.lemmas.Option.{slice_get_within}
 use Rattle.vms_spec.specs.Sets as sets
 use Rattle.vms_parts.specs.Views.{device_of}
 use Rattle.vms_desc.specs.Heads.{FitsHead}
 use Rattle.vms_desc.specs.declared.table.Table.{Table}
 use Rattle.vms_desc.specs.Tables.{AreDeviceTables}
-use Rattle.vms_desc.proofs.HeadLaws.{at_within, at_mapped}
+use Rattle.vms_desc.proofs.HeadLaws.{at_mapped}
 use Rattle.vms_desc.proofs.TablesMade.{devices_next}
 use Rattle.vms_desc.proofs.table.device_tables.Goals as goal
 
@@ -26,5 +27,5 @@ loop-device-preserved c =
 
 pub returns-clause-heads : goal.returns-clause-heads
 returns-clause-heads c = record {
-  each = λ k d e. c.loop-device.invariant.heads k (omega (arith, at_within (map device_of c.args.devices.now) k d e, length-map c.args.devices.now device_of)) d e;
+  each = λ k d e. c.loop-device.invariant.heads k (omega (arith, slice_get_within (map device_of c.args.devices.now) k d e, length-map c.args.devices.now device_of)) d e;
 }

@@ -1,13 +1,14 @@
-use Rattle.std.proofs.Common.{◌≡◌, ◌∙◌, ◌+◌, ap, subst, sym, map, take, List, ◌++◌, ◌∷◌, [], ◌<◌, length, get_or, arith, ℕ, Some, below_more}
+use Rattle.std.proofs.Common.{◌≡◌, ◌∙◌, ◌+◌, ap, subst, sym, map, take, List, ◌++◌, ◌∷◌, ◌<◌, length, get_or, arith, ℕ, Some, below_more, []}
 use Rattle.std.specs.List.{slice_get}
 use Rattle.std.proofs.lemmas.List.{length-map}
+use Rattle.std.proofs.lemmas.Option.{slice_get_within}
 use Rattle.vms_spec.specs.Sets as sets
 use Rattle.vms_parts.specs.declared.types.Field.{Field}
 use Rattle.vms_parts.specs.declared.types.Sub.{Sub}
 use Rattle.vms_parts.specs.Views.{field_of, sub_of, device_of}
 use Rattle.vms_desc.specs.Heads.{FitsSub}
 use Rattle.vms_desc.specs.Tables.{IsTable, AreTables}
-use Rattle.vms_desc.proofs.HeadLaws.{at_within, at_mapped}
+use Rattle.vms_desc.proofs.HeadLaws.{at_mapped}
 use Rattle.vms_desc.proofs.TablesMade.{tables_next}
 use Rattle.vms_desc.proofs.table.part_tables.Goals as goal
 
@@ -32,5 +33,5 @@ pub returns-clause-heads : goal.returns-clause-heads
 returns-clause-heads c = record {
   instance = omega arith;
   version = omega arith;
-  subs = λ j s e. c.loop-sub.invariant.heads j (omega (arith, at_within (map sub_of c.args.device.now.subs) j s e, length-map c.args.device.now.subs sub_of, ap length c.as_slice-sub-items.ensures)) s e;
+  subs = λ j s e. c.loop-sub.invariant.heads j (omega (arith, slice_get_within (map sub_of c.args.device.now.subs) j s e, length-map c.args.device.now.subs sub_of, ap length c.as_slice-sub-items.ensures)) s e;
 }

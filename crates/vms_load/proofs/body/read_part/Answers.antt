@@ -16,4 +16,4 @@ walk-requires-clause-may g c =
     let long = ap steps_long e in
     let kinds : b.image.now.kinds ≡ c.args.image.now.kinds = ap (λ (i : Typed). i.kinds) h.3.kept in
     let kind = step_kind c.args.image.now.kinds (spot_slots (described c.args.set.now) c.args.spot b.image.now.numbers) xs rest x (c.requires.kinds b.image.now.numbers) e in
-    (omega (arith, bound, long, long_append xs (x ∷ rest), h.3.given.1, c.requires.place), h.4 c.requires.held, subst (λ (ks : List Kind). IsOfKind ks x) (sym kinds) kind)
+    (omega (arith, bound, long, long_append xs (x ∷ rest), h.3.reads.long, c.requires.place), h.4 c.requires.held, subst (λ (ks : List Kind). IsOfKind ks x) (sym kinds) kind)

@@ -4,6 +4,7 @@ use Rattle.vms_spec.specs.Lookup.{find_device}
 use Rattle.vms_desc.specs.Described.{described}
 use Rattle.vms_load.specs.Heads.{reason_against}
 use Rattle.vms_load.proofs.HeadLemmas.{opens, device_below}
+use Rattle.vms_load.proofs.StagedLemmas.{section_new}
 use Rattle.vms_load.proofs.heads.open_section.Goals as goal
 
 pub device-requires : goal.device-requires
@@ -28,3 +29,7 @@ returns-in-Some-against_device-clause-opened c =
     let reason = sym c.in-Some-against_device.is ∙ c.against_device.ensures ∙ ap (λ (d : Device). reason_against d (get_or c.args.came.now c.in-Some.number false) c.args.head.now.version) c.device.ensures in
     ap (λ x. Err x) c.refused-in-Some-against_device.ensures
     ∙ opens (described c.args.set.now) c.args.came.now c.args.head.now.name.items c.args.head.now.instance c.args.head.now.version c.args.at c.in-Some.number (Some c.in-Some-against_device.reason) found reason
+
+pub returns-in-None-against_device-clause-fresh : goal.returns-in-None-against_device-clause-fresh
+returns-in-None-against_device-clause-fresh c =
+    section_new (described c.args.set.now) c.args.came.now c.args.head.now.name.items c.args.head.now.instance c.args.head.now.version c.in-Some.number c.args.at c.requires (returns-in-None-against_device-clause-opened c)

@@ -4,23 +4,21 @@ use Rattle.std.proofs.lemmas.Int.{to_z-of_z}
 use Rattle.std.proofs.lemmas.Result.{err_from_is_err_and}
 use Rattle.vms_spec.specs.Numbers.{exceeds}
 use Rattle.vms_walk.specs.Steps.{capacities_of}
-use Rattle.vms_load.proofs.ItemsHeard.{hears_capped, hears_large, hears_no_number}
+use Rattle.vms_load.proofs.ItemsRead.{reads_capped, reads_large, reads_no_number}
 use Rattle.vms_load.proofs.items.number.Goals as goal
 
-pub returns-in_err-value-clause-heard : goal.returns-in_err-value-clause-heard
-returns-in_err-value-clause-heard g c =
+pub returns-in_err-value-clause-reads : goal.returns-in_err-value-clause-reads
+returns-in_err-value-clause-reads g c =
     let p = err_from_is_err_and c.from_residual.result c.from_residual.ensures.1 in
-    rw (p.1, p.2)
-    (hears_no_number c.args.kind c.args.cursor.now.at (g.S.Source.given c.args.source.now) (g.S.Source.given c.number.new.source) (capacities_of c.args.most) c.in_err-value.field-0.0 c.in_err-value.ensures.heard)
+    rw (p.1, p.2) (reads_no_number c.args.kind c.args.cursor.now.at (capacities_of c.args.most) c.in_err-value.field-0.0 c.in_err-value.ensures.reads)
 
-pub returns-then-is_too_large-clause-heard : goal.returns-then-is_too_large-clause-heard
-returns-then-is_too_large-clause-heard g c =
+pub returns-then-is_too_large-clause-reads : goal.returns-then-is_too_large-clause-reads
+returns-then-is_too_large-clause-reads g c =
     let large : exceeds (capacities_of c.args.most) c.in_ok-value.value ≡ true = search rules in
-    hears_large c.args.kind c.args.cursor.now.at (g.S.Source.given c.args.source.now) (g.S.Source.given c.number.new.source) (capacities_of c.args.most) c.in_ok-value.value c.at-at.result c.at-at.ensures large c.in_ok-value.ensures.heard
+    reads_large c.args.kind c.args.cursor.now.at (capacities_of c.args.most) c.in_ok-value.value c.at-at.result c.at-at.ensures large c.in_ok-value.ensures.reads
 
-pub returns-clause-heard : goal.returns-clause-heard
-returns-clause-heard g c =
+pub returns-clause-reads : goal.returns-clause-reads
+returns-clause-reads g c =
     let f : SFits w128 c.in_ok-value.value = search rules in
     let few : exceeds (capacities_of c.args.most) c.in_ok-value.value ≡ false = search rules in
-    rw (to_z-of_z w128 c.in_ok-value.value f)
-    (hears_capped c.args.kind c.args.cursor.now.at (g.S.Source.given c.args.source.now) (g.S.Source.given c.number.new.source) (capacities_of c.args.most) c.in_ok-value.value few c.in_ok-value.ensures.heard)
+    rw (to_z-of_z w128 c.in_ok-value.value f) (reads_capped c.args.kind c.args.cursor.now.at (capacities_of c.args.most) c.in_ok-value.value few c.in_ok-value.ensures.reads)

@@ -1,4 +1,4 @@
-use Rattle.std.proofs.Common.{ℕ, ◌+◌, Option, Some, None, Ok, Err, length, slice_set, sym, subst, ap, ◌∙◌, arith}
+use Rattle.std.proofs.Common.{ℕ, ◌+◌, Some, None, Ok, Err, length, slice_set, sym, subst, ap, ◌∙◌, arith}
 use Rattle.std.specs.List.{slice_get}
 use Rattle.std.proofs.lemmas.Result.{err_from_is_err_and}
 use Rattle.vms_spec.specs.Sets.{Device, AtLeast}
@@ -11,12 +11,12 @@ use Rattle.vms_frames.specs.Calls.{held_long}
 use Rattle.vms_frames.specs.declared.units.Tail.TheVariants as tails
 use Rattle.vms_spec.specs.Units.{SubHead, Foot}
 use Rattle.vms_load.specs.Heads.{opened_at, sub_opened}
-use Rattle.vms_load.specs.Hearing.{HearsOn}
+use Rattle.vms_io.specs.Told.{intake}
+use Rattle.vms_io.proofs.ReadingLemmas.{reads_as}
+use Rattle.vms_load.specs.Going.{GoesOn}
 use Rattle.vms_load.specs.Parts.{subs_due, after_fields, after_part, state_in, spot_in}
-use Rattle.vms_frames.specs.declared.units.After.{After}
-use Rattle.vms_frames.proofs.HeardLemmas.{heard_as}
 use Rattle.vms_load.specs.declared.parts.Open.{Open}
-use Rattle.vms_load.proofs.HearingLemmas.{hears_judged, on_concerning}
+use Rattle.vms_load.proofs.GoingLemmas.{goes_refused, same_course}
 use Rattle.vms_load.proofs.AfterReads.{after_fault, after_settled, after_next, foot_settled, sub_settled, sub_refused, sub_new, subs_taken}
 use Rattle.vms_load.proofs.SetFacts.{few_subs}
 use Rattle.vms_image.specs.Typed.{Typed, state_of as untyped}
@@ -31,37 +31,45 @@ pub returns-in-Ok-Done-clause-reads : goal.returns-in-Ok-Done-clause-reads
 returns-in-Ok-Done-clause-reads g c = λ names state part room.
     let set = described c.args.set.now in
     let section = c.args.section.now in
-    let content = rw c.in-Ok-Done.field-0-is at c.in-Ok-Done.ensures.content in
+    let reads = rw c.in-Ok-Done.field-0-is at c.in-Ok-Done.ensures.reads in
     let place = rw c.in-Ok-Done.field-0-is at c.in-Ok-Done.ensures.place in
     let held = rw c.in-Ok-Done.field-0-is at c.in-Ok-Done.ensures.held in
-    after_settled set names state section part (untyped c.args.image.now) c.requires.device room c.args.cursor.now c.after_fields.new.self
-    (g.S.Source.left c.args.source.now) (g.S.Source.left c.after_fields.new.source) (Foot section.id) 5 (record section { tail = tails.Footed }) (untyped c.args.image.now) (Ok None)
-    c.requires.held held content place (foot_settled set names state section part (untyped c.args.image.now) c.requires.device room c.args.cursor.now.at)
+    let before = ap held_long c.requires.held in
+    let now = ap held_long held in
+    reads_as (λ n l. omega (arith, l, place, before, now))
+    (λ rest left h. after_settled set names state section part (untyped c.args.image.now) c.requires.device room c.args.cursor.now c.after_fields.new.self
+    (Some rest) (Some left) (Foot section.id) 5 (record section { tail = tails.Footed }) (untyped c.args.image.now) (Ok None)
+    c.requires.held held h place (foot_settled set names state section part (untyped c.args.image.now) c.requires.device room c.args.cursor.now.at)) reads
 
 pub returns-in-Ok-Next-clause-reads : goal.returns-in-Ok-Next-clause-reads
 returns-in-Ok-Next-clause-reads g c = λ names state part room.
-    let content = rw c.in-Ok-Next.field-0-is at c.in-Ok-Next.ensures.content in
+    let reads = rw c.in-Ok-Next.field-0-is at c.in-Ok-Next.ensures.reads in
     let place = rw c.in-Ok-Next.field-0-is at c.in-Ok-Next.ensures.place in
-    after_next (described c.args.set.now) names state c.args.section.now part (untyped c.args.image.now) c.requires.device room c.args.cursor.now c.after_fields.new.self
-    (g.S.Source.left c.args.source.now) (g.S.Source.left c.after_fields.new.source) c.requires.held (omega (arith, place)) content
+    let held = rw c.in-Ok-Next.field-0-is at c.in-Ok-Next.ensures.held in
+    let before = ap held_long c.requires.held in
+    let now = ap held_long held.1 in
+    reads_as (λ n l. omega (arith, l, place, before, now))
+    (λ rest left h. after_next (described c.args.set.now) names state c.args.section.now part (untyped c.args.image.now) c.requires.device room c.args.cursor.now c.after_fields.new.self
+    (Some rest) (Some left) c.requires.held (omega (arith, place)) h) reads
 
 pub returns-in_err-sub-in-Ok-Sub-clause-reads : goal.returns-in_err-sub-in-Ok-Sub-clause-reads
 returns-in_err-sub-in-Ok-Sub-clause-reads g c = λ names state part room.
     let set = described c.args.set.now in
     let name = c.in-Ok-Sub.name.items in
-    let content = rw c.in-Ok-Sub.field-0-is at c.in-Ok-Sub.ensures.content in
+    let reads = rw c.in-Ok-Sub.field-0-is at c.in-Ok-Sub.ensures.reads in
     let place = rw c.in-Ok-Sub.field-0-is at c.in-Ok-Sub.ensures.place in
     let held = rw c.in-Ok-Sub.field-0-is at c.in-Ok-Sub.ensures.held in
+    let e = c.in_err-sub-in-Ok-Sub.field-0.0 in
     let p = err_from_is_err_and c.from_residual.result c.from_residual.ensures.1 in
     let is = sym (c.in_err-sub-in-Ok-Sub.was) ∙ c.open_sub.ensures.opened
     ∙ ap (λ (n : ℕ). opened_at n (sub_opened c.args.section.now.device (device_of c.device.result.now) c.args.image.now.came name c.in-Ok-Sub.version)) c.at-at.ensures
     ∙ ap (λ (d : Device). opened_at c.args.cursor.now.at (sub_opened c.args.section.now.device d c.args.image.now.came name c.in-Ok-Sub.version)) c.device.ensures in
     rw (p.1, p.2)
-    (after_settled set names state c.args.section.now part (untyped c.args.image.now) c.requires.device room c.args.cursor.now c.after_fields.new.self
-    (g.S.Source.left c.args.source.now) (g.S.Source.left c.after_fields.new.source) (SubHead name c.in-Ok-Sub.version) (6 + length name) c.args.section.now (untyped c.args.image.now) (Err c.in_err-sub-in-Ok-Sub.field-0.0)
-    c.requires.held held content place
-    (sub_refused set names state c.args.section.now part (untyped c.args.image.now) c.requires.device room c.args.cursor.now.at name c.in-Ok-Sub.version c.requires.shaped.subs c.in_err-sub-in-Ok-Sub.field-0.0
-    (λ next. state_in state c.args.section.now (untyped c.args.image.now) (spot_in c.args.section.now next)) is))
+    (goes_refused e c.in_err-sub-in-Ok-Sub.ensures.refused (reads_as (λ n l. omega (arith, l, c.open_sub.ensures.short))
+    (λ rest left h. after_settled set names state c.args.section.now part (untyped c.args.image.now) c.requires.device room c.args.cursor.now c.after_fields.new.self
+    (Some rest) (Some left) (SubHead name c.in-Ok-Sub.version) (6 + length name) c.args.section.now (untyped c.args.image.now) (Err e) c.requires.held held h place
+    (sub_refused set names state c.args.section.now part (untyped c.args.image.now) c.requires.device room c.args.cursor.now.at name c.in-Ok-Sub.version c.requires.shaped.subs e
+    (λ next. state_in state c.args.section.now (untyped c.args.image.now) (spot_in c.args.section.now next)) is)) reads))
 
 pub mark-requires : goal.mark-requires
 mark-requires g c =
@@ -77,17 +85,24 @@ returns-in_ok-sub-in-Ok-Sub-clause-reads g c = λ names state part room.
     let name = c.in-Ok-Sub.name.items in
     let j = c.in_ok-sub-in-Ok-Sub.sub in
     let v = c.in-Ok-Sub.version in
-    let content = rw c.in-Ok-Sub.field-0-is at c.in-Ok-Sub.ensures.content in
+    let reads = rw c.in-Ok-Sub.field-0-is at c.in-Ok-Sub.ensures.reads in
     let place = rw c.in-Ok-Sub.field-0-is at c.in-Ok-Sub.ensures.place in
     let held = rw c.in-Ok-Sub.field-0-is at c.in-Ok-Sub.ensures.held in
+    let before = ap held_long c.requires.held in
+    let now = ap held_long held in
     let is = sym (c.in_ok-sub-in-Ok-Sub.was) ∙ c.open_sub.ensures.opened
     ∙ ap (λ (n : ℕ). opened_at n (sub_opened c.args.section.now.device (device_of c.device.result.now) c.args.image.now.came name v)) c.at-at.ensures
     ∙ ap (λ (d : Device). opened_at c.args.cursor.now.at (sub_opened c.args.section.now.device d c.args.image.now.came name v)) c.device.ensures in
-    rw c.mark.ensures
-    (after_settled set names state c.args.section.now part (untyped c.args.image.now) c.requires.device room c.args.cursor.now c.after_fields.new.self
-    (g.S.Source.left c.args.source.now) (g.S.Source.left c.after_fields.new.source) (SubHead name v) (6 + length name) c.args.section.now
-    (record (untyped c.args.image.now) { came = slice_set c.args.image.now.came j (Some v) }) (Ok (Some (record { sub = Some j; version = v }))) c.requires.held held content place
-    (sub_settled set names state c.args.section.now part (untyped c.args.image.now) c.requires.device room c.args.cursor.now.at name v c.requires.shaped.subs j is))
+    let from = c.args.cursor.now in
+    let to = c.after_fields.new.self in
+    let begun : Open = record { sub = Some j; version = v } in
+    let P : Typed → Type 0 = λ image. GoesOn (intake g.S.Source c.args.source.now) (intake g.S.Source c.after_fields.new.source) 261 (after_fields set names state c.args.section.now part (untyped c.args.image.now))
+    (after_part set names state c.args.section.now (untyped image)) from to (Ok (Some begun)) in
+    subst P (sym c.mark.ensures)
+    (reads_as (λ n l. omega (arith, l, place, before, now))
+    (λ rest left h. after_settled set names state c.args.section.now part (untyped c.args.image.now) c.requires.device room from to (Some rest) (Some left) (SubHead name v) (6 + length name) c.args.section.now
+    (record (untyped c.args.image.now) { came = slice_set c.args.image.now.came j (Some v) }) (Ok (Some begun)) c.requires.held held h place
+    (sub_settled set names state c.args.section.now part (untyped c.args.image.now) c.requires.device room from.at name v c.requires.shaped.subs j is)) reads)
 
 pub returns-in_ok-sub-in-Ok-Sub-clause-open : goal.returns-in_ok-sub-in-Ok-Sub-clause-open
 returns-in_ok-sub-in-Ok-Sub-clause-open g c =
@@ -98,14 +113,13 @@ returns-in_ok-sub-in-Ok-Sub-clause-open g c =
     let new = sub_new c.args.section.now.device (device_at set c.args.section.now.device) c.args.image.now.came c.in-Ok-Sub.name.items c.in-Ok-Sub.version j c.at-at.result c.requires.shaped.subs is in
     (new.0, ap (λ (image : Typed). slice_get image.came j) c.mark.ensures ∙ at_set c.args.image.now.came j (Some c.in-Ok-Sub.version) (omega (arith, new.0, c.requires.shaped.subs)))
 
-pub returns-in_ok-sub-in-Ok-Sub-clause-given : goal.returns-in_ok-sub-in-Ok-Sub-clause-given
-returns-in_ok-sub-in-Ok-Sub-clause-given g c =
+pub returns-in_ok-sub-in-Ok-Sub-clause-moves : goal.returns-in_ok-sub-in-Ok-Sub-clause-moves
+returns-in_ok-sub-in-Ok-Sub-clause-moves g c =
     let set = described c.args.set.now in
     let d = device_at set c.args.section.now.device in
     let j = c.in_ok-sub-in-Ok-Sub.sub in
     let v = c.in-Ok-Sub.version in
     let place = rw c.in-Ok-Sub.field-0-is at c.in-Ok-Sub.ensures.place in
-    let given = rw c.in-Ok-Sub.field-0-is at c.in-Ok-Sub.ensures.given in
     let is = sym (c.in_ok-sub-in-Ok-Sub.was) ∙ c.open_sub.ensures.opened
     ∙ ap (λ (d : Device). opened_at c.at-at.result (sub_opened c.args.section.now.device d c.args.image.now.came c.in-Ok-Sub.name.items v)) c.device.ensures in
     let new = sub_new c.args.section.now.device d c.args.image.now.came c.in-Ok-Sub.name.items v j c.at-at.result c.requires.shaped.subs is in
@@ -114,84 +128,10 @@ returns-in_ok-sub-in-Ok-Sub-clause-given g c =
     let held = rw c.in-Ok-Sub.field-0-is at c.in-Ok-Sub.ensures.held in
     let before = ap held_long c.requires.held in
     let now = ap held_long held in
-    (omega (arith, place), omega (arith, place, before, now), omega (arith, place, due, same, c.open_sub.ensures.short, before, now), omega (arith, place, given, before, now))
+    (omega (arith, place), omega (arith, place, before, now), omega (arith, place, due, same, c.open_sub.ensures.short, before, now))
 
 pub returns-in-Err-clause-reads : goal.returns-in-Err-clause-reads
 returns-in-Err-clause-reads g c = λ names state part room.
-    rw c.concerning.ensures
-    (after_fault (described c.args.set.now) names state c.args.section.now part (untyped c.args.image.now) c.requires.device room c.args.cursor.now c.after_fields.new.self
-    (g.S.Source.left c.args.source.now) (g.S.Source.left c.after_fields.new.source)
-    (after_part (described c.args.set.now) names state c.args.section.now (untyped c.args.image.now)) c.in-Err.fault c.requires.held c.in-Err.ensures.content)
-
--- ---- what is heard
-
-pub returns-in-Ok-Done-clause-heard : goal.returns-in-Ok-Done-clause-heard
-returns-in-Ok-Done-clause-heard g c = λ names state part room.
-    let set = described c.args.set.now in
-    let section = c.args.section.now in
-    let heard = rw c.in-Ok-Done.field-0-is at c.in-Ok-Done.ensures.heard in
-    let place = rw c.in-Ok-Done.field-0-is at c.in-Ok-Done.ensures.place in
-    let held = rw c.in-Ok-Done.field-0-is at c.in-Ok-Done.ensures.held in
-    heard_as (λ more. Unit {0}) (g.S.Source.given c.args.source.now) (g.S.Source.given c.after_fields.new.source)
-    (λ old left h. after_settled set names state section part (untyped c.args.image.now) c.requires.device room c.args.cursor.now c.after_fields.new.self
-    old left (Foot section.id) 5 (record section { tail = tails.Footed }) (untyped c.args.image.now) (Ok None)
-    c.requires.held held h place (foot_settled set names state section part (untyped c.args.image.now) c.requires.device room c.args.cursor.now.at)) heard
-
-pub returns-in-Ok-Next-clause-heard : goal.returns-in-Ok-Next-clause-heard
-returns-in-Ok-Next-clause-heard g c = λ names state part room.
-    let heard = rw c.in-Ok-Next.field-0-is at c.in-Ok-Next.ensures.heard in
-    let place = rw c.in-Ok-Next.field-0-is at c.in-Ok-Next.ensures.place in
-    heard_as (λ more. Unit {0}) (g.S.Source.given c.args.source.now) (g.S.Source.given c.after_fields.new.source)
-    (λ old left h. after_next (described c.args.set.now) names state c.args.section.now part (untyped c.args.image.now) c.requires.device room c.args.cursor.now c.after_fields.new.self
-    old left c.requires.held (omega (arith, place)) h) heard
-
-pub returns-in_err-sub-in-Ok-Sub-clause-heard : goal.returns-in_err-sub-in-Ok-Sub-clause-heard
-returns-in_err-sub-in-Ok-Sub-clause-heard g c = λ names state part room.
-    let set = described c.args.set.now in
-    let name = c.in-Ok-Sub.name.items in
-    let heard = rw c.in-Ok-Sub.field-0-is at c.in-Ok-Sub.ensures.heard in
-    let place = rw c.in-Ok-Sub.field-0-is at c.in-Ok-Sub.ensures.place in
-    let held = rw c.in-Ok-Sub.field-0-is at c.in-Ok-Sub.ensures.held in
-    let e = c.in_err-sub-in-Ok-Sub.field-0.0 in
-    let p = err_from_is_err_and c.from_residual.result c.from_residual.ensures.1 in
-    let is = sym (c.in_err-sub-in-Ok-Sub.was) ∙ c.open_sub.ensures.opened
-    ∙ ap (λ (n : ℕ). opened_at n (sub_opened c.args.section.now.device (device_of c.device.result.now) c.args.image.now.came name c.in-Ok-Sub.version)) c.at-at.ensures
-    ∙ ap (λ (d : Device). opened_at c.args.cursor.now.at (sub_opened c.args.section.now.device d c.args.image.now.came name c.in-Ok-Sub.version)) c.device.ensures in
-    rw (p.1, p.2)
-    (hears_judged {X = Option Open} (g.S.Source.given c.args.source.now) (g.S.Source.given c.after_fields.new.source) (Err e)
-    (λ old left h. after_settled set names state c.args.section.now part (untyped c.args.image.now) c.requires.device room c.args.cursor.now c.after_fields.new.self
-    old left (SubHead name c.in-Ok-Sub.version) (6 + length name) c.args.section.now (untyped c.args.image.now) (Err e)
-    c.requires.held held h place
-    (sub_refused set names state c.args.section.now part (untyped c.args.image.now) c.requires.device room c.args.cursor.now.at name c.in-Ok-Sub.version c.requires.shaped.subs e
-    (λ next. state_in state c.args.section.now (untyped c.args.image.now) (spot_in c.args.section.now next)) is)) heard)
-
-pub returns-in_ok-sub-in-Ok-Sub-clause-heard : goal.returns-in_ok-sub-in-Ok-Sub-clause-heard
-returns-in_ok-sub-in-Ok-Sub-clause-heard g c = λ names state part room.
-    let set = described c.args.set.now in
-    let name = c.in-Ok-Sub.name.items in
-    let j = c.in_ok-sub-in-Ok-Sub.sub in
-    let v = c.in-Ok-Sub.version in
-    let heard = rw c.in-Ok-Sub.field-0-is at c.in-Ok-Sub.ensures.heard in
-    let place = rw c.in-Ok-Sub.field-0-is at c.in-Ok-Sub.ensures.place in
-    let held = rw c.in-Ok-Sub.field-0-is at c.in-Ok-Sub.ensures.held in
-    let is = sym (c.in_ok-sub-in-Ok-Sub.was) ∙ c.open_sub.ensures.opened
-    ∙ ap (λ (n : ℕ). opened_at n (sub_opened c.args.section.now.device (device_of c.device.result.now) c.args.image.now.came name v)) c.at-at.ensures
-    ∙ ap (λ (d : Device). opened_at c.args.cursor.now.at (sub_opened c.args.section.now.device d c.args.image.now.came name v)) c.device.ensures in
-    let from = c.args.cursor.now in
-    let to = c.after_fields.new.self in
-    let begun : Open = record { sub = Some j; version = v } in
-    let P : Typed → Type 0 = λ image. HearsOn (after_fields set names state c.args.section.now part (untyped c.args.image.now)) (after_part set names state c.args.section.now (untyped image)) from to
-    (g.S.Source.given c.args.source.now) (g.S.Source.given c.after_fields.new.source) (Ok (Some begun)) in
-    subst P (sym c.mark.ensures)
-    (heard_as (λ more. Unit {0}) (g.S.Source.given c.args.source.now) (g.S.Source.given c.after_fields.new.source)
-    (λ old left h. after_settled set names state c.args.section.now part (untyped c.args.image.now) c.requires.device room c.args.cursor.now c.after_fields.new.self
-    old left (SubHead name v) (6 + length name) c.args.section.now
-    (record (untyped c.args.image.now) { came = slice_set c.args.image.now.came j (Some v) }) (Ok (Some (record { sub = Some j; version = v }))) c.requires.held held h place
-    (sub_settled set names state c.args.section.now part (untyped c.args.image.now) c.requires.device room c.args.cursor.now.at name v c.requires.shaped.subs j is)) heard)
-
-pub returns-in-Err-clause-heard : goal.returns-in-Err-clause-heard
-returns-in-Err-clause-heard g c = λ names state part room.
-    on_concerning After (Option Open) (Some c.args.section.now.device) (g.S.Source.given c.args.source.now) (g.S.Source.given c.after_fields.new.source) c.in-Err.fault c.concerning.result
-    (after_fields (described c.args.set.now) names state c.args.section.now part (untyped c.args.image.now)) (after_part (described c.args.set.now) names state c.args.section.now (untyped c.args.image.now)) c.args.cursor.now c.after_fields.new.self c.concerning.ensures
-    (λ old left h. after_fault (described c.args.set.now) names state c.args.section.now part (untyped c.args.image.now) c.requires.device room c.args.cursor.now c.after_fields.new.self
-    old left (after_part (described c.args.set.now) names state c.args.section.now (untyped c.args.image.now)) c.in-Err.fault c.requires.held h) c.in-Err.ensures.heard
+    rw (c.concerning.ensures, ← same_course (Some c.args.section.now.device) c.in-Err.fault)
+    (reads_as (λ n l. l) (λ rest left h. after_fault (described c.args.set.now) names state c.args.section.now part (untyped c.args.image.now) c.requires.device room c.args.cursor.now c.after_fields.new.self
+    (Some rest) (Some left) (after_part (described c.args.set.now) names state c.args.section.now (untyped c.args.image.now)) c.in-Err.fault c.requires.held h) c.in-Err.ensures.reads)

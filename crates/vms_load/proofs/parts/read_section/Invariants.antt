@@ -1,10 +1,10 @@
-use Rattle.std.proofs.Common.{◌≡◌, ◌+◌, ◌-◌, ◌<◌, ◌≤◌, ℕ, List, Some, None, length}
-use Rattle.vms_io.specs.Causes.{capped}
+use Rattle.std.proofs.Common.{◌+◌, ◌<◌, ◌≤◌, ℕ, List, Some, None, length}
+use Rattle.vms_io.specs.Told.{intake}
 use Rattle.vms_stream.specs.State.{State}
 use Rattle.vms_desc.specs.Described.{described}
 use Rattle.vms_parts.specs.Devices.{device_at}
-use Rattle.vms_load.specs.Reads.{LeadsOn, reach}
-use Rattle.vms_load.specs.Hearing.{HearsSoFar}
+use Rattle.vms_load.specs.Reads.{reach}
+use Rattle.vms_load.specs.Going.{GoesSoFar}
 use Rattle.vms_load.specs.Parts.{IsSame, HoldsNone, OpensNext, part_due, in_fields, after_part}
 use Rattle.vms_image.specs.Typed.{IsImageOf, state_of as untyped}
 use Rattle.vms_load.proofs.parts.read_section.Given as goal
@@ -18,17 +18,12 @@ invariant-loop-next g l =
       same : IsSame l.initial.section l.section;
       held : HoldsNone l.cursor l.next;
       reads : (names : List (List ℕ)) (state : State) → l.initial.section.device < length state.images
-          → LeadsOn (in_fields set names state l.initial.section None (untyped l.initial.image)) (after_part set names state l.section (untyped l.image) l.next) l.initial.cursor l.cursor (g.S.Source.left l.initial.source) (g.S.Source.left l.source);
-      heard : (names : List (List ℕ)) (state : State) → l.initial.section.device < length state.images
-          → HearsSoFar (in_fields set names state l.initial.section None (untyped l.initial.image)) (after_part set names state l.section (untyped l.image) l.next) l.initial.cursor l.cursor (g.S.Source.given l.initial.source) (g.S.Source.given l.source);
+          → GoesSoFar (intake g.S.Source l.initial.source) (intake g.S.Source l.source) (in_fields set names state l.initial.section None (untyped l.initial.image)) (after_part set names state l.section (untyped l.image) l.next) l.initial.cursor l.cursor;
       next_is : OpensNext d (untyped l.image) l.next;
       shaped : IsImageOf set l.section.device l.image;
       from : l.initial.cursor.at ≤ l.cursor.at;
       onward : reach l.initial.cursor ≤ reach l.cursor;
       place : reach l.cursor + part_due set d l.image.came l.next ≤ reach l.initial.cursor + part_due set first l.initial.image.came (Some (record { sub = None; version = l.initial.image.version }));
-      given : g.S.Source.given l.source ≡ capped (g.S.Source.given l.initial.source + (reach l.cursor - reach l.initial.cursor));
-      later : g.S.Source.faults l.initial.source ≤ g.S.Source.faults l.source;
-      promise : g.S.Source.promise l.source ≡ g.S.Source.promise l.initial.source;
     }
 
 abbrev pub decreases-loop-next : goal.decreases-loop-next

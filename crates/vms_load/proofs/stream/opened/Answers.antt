@@ -1,4 +1,4 @@
-use Rattle.std.proofs.Common.{rules, ◌<◌, map, List, [], Some, None, Bool, false, Ok, Err, length, slice_set, sym, ap, ◌∙◌, subst, arith}
+use Rattle.std.proofs.Common.{rules, ◌<◌, map, List, [], Some, Bool, false, Ok, Err, length, slice_set, sym, ap, ◌∙◌, subst, arith}
 use Rattle.std.proofs.lemmas.Result.{err_from_is_err_and}
 use Rattle.std.proofs.lemmas.List.{length-set, length-map}
 use Rattle.vms_image.specs.Typed.{Typed, state_of as untyped, IsImageOf}
@@ -10,64 +10,51 @@ use Rattle.vms_bodies.specs.Whole.{reading_on}
 use Rattle.vms_desc.specs.Described.{described}
 use Rattle.vms_parts.specs.Devices.{device_at}
 use Rattle.vms_load.specs.Heads.{opened_at, section_opened}
-use Rattle.vms_load.specs.Parts.{subs_due, part_due}
+use Rattle.vms_load.specs.Parts.{subs_due}
 use Rattle.vms_load.specs.Staging.{AreShaped, begun_at, name_of, state_of, sections_due}
 use Rattle.vms_frames.specs.Calls.{tail_of}
 use Rattle.vms_load.proofs.ReadLemmas.{read_behind}
-use Rattle.vms_frames.proofs.HeardLemmas.{heard_as}
-use Rattle.vms_load.proofs.HearingLemmas.{behind_here, hears_so}
+use Rattle.vms_io.specs.Told.{intake}
+use Rattle.vms_io.proofs.ReadingLemmas.{reads_as}
+use Rattle.vms_load.specs.Reads.{Onward}
+use Rattle.vms_load.proofs.GoingLemmas.{behind_here}
 use Rattle.vms_load.proofs.OpenedReads.{head_unit, head_long, begun, section_refused, section_reads, ended_in, ends_later}
-use Rattle.vms_load.proofs.StagedLemmas.{image_begun, begun_here, shaped_put, still_fresh, default_shaped, section_new, sections_taken}
-use Rattle.vms_load.proofs.Spending.{gives_behind}
+use Rattle.vms_load.proofs.StagedLemmas.{image_begun, begun_here, shaped_put, still_fresh, default_shaped, sections_taken}
 use Rattle.vms_load.proofs.stream.opened.Goals as goal
 
 pub returns-in_err-device-clause-reads : goal.returns-in_err-device-clause-reads
-returns-in_err-device-clause-reads g c = λ names first after bytes behind.
+returns-in_err-device-clause-reads g c = λ names first after.
     let set = described c.args.set.now in
     let head = c.args.head.now in
+    let next : Unit {0} → Onward = λ x. reading_on (judge (by_state set names)) (state_of set c.args.staged.now (Free false false)) in
+    let e = c.in_err-device.field-0.0 in
     let p = err_from_is_err_and c.from_residual.result c.from_residual.ensures.1 in
     let is = sym (c.in_err-device.was) ∙ c.open_section.ensures.opened ∙ ap (λ (came : List Bool). opened_at c.args.at (section_opened set came head.name.items head.instance head.version)) c.deref.ensures.0 in
     rw (p.1, p.2)
-    (section_refused set names c.args.staged.now first after head c.args.at c.args.cursor.now bytes (g.S.Source.left c.args.source.now)
-    (λ (x : Unit {0}). reading_on (judge (by_state set names)) (state_of set c.args.staged.now (Free false false))) c.in_err-device.field-0.0 c.requires.whole.came is behind.taken)
+    (behind_here {X = Unit {0}} (intake g.S.Source c.args.source.now) (sections_due set set.devices c.args.staged.now.came.items) (reading_on (judge (by_state set names))) (ask set names (state_of set c.args.staged.now (Free first after)) (head_unit head) (head_long head))
+    next c.args.at (head_long head) c.args.cursor.now c.args.cursor.now e c.in_err-device.ensures.refused (g.met.S.Source.counted c.args.source.now)
+    (λ more bytes behind. section_refused set names c.args.staged.now first after head c.args.at c.args.cursor.now bytes (Some more) next e c.requires.whole.came is behind.taken))
 
 pub begin-requires-clause-image : goal.begin-requires-clause-image
-begin-requires-clause-image g c =
-    let set = described c.args.set.now in
-    let head = c.args.head.now in
-    let is = sym (c.in_ok-device.was) ∙ c.open_section.ensures.opened ∙ ap (λ (came : List Bool). opened_at c.args.at (section_opened set came head.name.items head.instance head.version)) c.deref.ensures.0 in
-    omega (arith, c.requires.whole.images.all, (section_new set c.args.staged.now.came.items head.name.items head.instance head.version c.in_ok-device.device c.args.at c.requires.whole.came is).0)
+begin-requires-clause-image g c = omega (arith, c.requires.whole.images.all, c.in_ok-device.ensures.fresh.0)
 
 pub begin-requires-clause-device : goal.begin-requires-clause-device
-begin-requires-clause-device g c =
-    let set = described c.args.set.now in
-    let head = c.args.head.now in
-    let is = sym (c.in_ok-device.was) ∙ c.open_section.ensures.opened ∙ ap (λ (came : List Bool). opened_at c.args.at (section_opened set came head.name.items head.instance head.version)) c.deref.ensures.0 in
-    omega (arith, c.requires.whole.came, (section_new set c.args.staged.now.came.items head.name.items head.instance head.version c.in_ok-device.device c.args.at c.requires.whole.came is).0)
+begin-requires-clause-device g c = omega (arith, c.requires.whole.came, c.in_ok-device.ensures.fresh.0)
 
 pub index_mut-image-requires : goal.index_mut-image-requires
 index_mut-image-requires g c =
-    let set = described c.args.set.now in
-    let head = c.args.head.now in
-    let is = sym (c.in_ok-device.was) ∙ c.open_section.ensures.opened ∙ ap (λ (came : List Bool). opened_at c.args.at (section_opened set came head.name.items head.instance head.version)) c.deref.ensures.0 in
-    let new = section_new set c.args.staged.now.came.items head.name.items head.instance head.version c.in_ok-device.device c.args.at c.requires.whole.came is in
     let long = ap length c.begin.ensures.images ∙ length-set c.args.staged.now.images.items c.in_ok-device.device _ in
-    omega (arith, new.0, long, c.requires.whole.images.all)
+    omega (arith, c.in_ok-device.ensures.fresh.0, long, c.requires.whole.images.all)
 
 pub read_section-requires-clause-device : goal.read_section-requires-clause-device
-read_section-requires-clause-device g c =
-    let set = described c.args.set.now in
-    let head = c.args.head.now in
-    let is = sym (c.in_ok-device.was) ∙ c.open_section.ensures.opened ∙ ap (λ (came : List Bool). opened_at c.args.at (section_opened set came head.name.items head.instance head.version)) c.deref.ensures.0 in
-    (section_new set c.args.staged.now.came.items head.name.items head.instance head.version c.in_ok-device.device c.args.at c.requires.whole.came is).0
+read_section-requires-clause-device g c = c.in_ok-device.ensures.fresh.0
 
 pub read_section-requires-clause-shaped : goal.read_section-requires-clause-shaped
 read_section-requires-clause-shaped g c =
     let set = described c.args.set.now in
     let head = c.args.head.now in
     let k = c.in_ok-device.device in
-    let is = sym (c.in_ok-device.was) ∙ c.open_section.ensures.opened ∙ ap (λ (came : List Bool). opened_at c.args.at (section_opened set came head.name.items head.instance head.version)) c.deref.ensures.0 in
-    let new = section_new set c.args.staged.now.came.items head.name.items head.instance head.version k c.args.at c.requires.whole.came is in
+    let new = rw c.deref.ensures.0 at c.in_ok-device.ensures.fresh in
     let began = begun_here set c.begin.new.staged.images.items c.args.staged.now.images.items k head.version c.begin.ensures.images (c.requires.whole.fresh k new.1) in
     let image = image_begun c.begin.new.staged.images.items c.args.staged.now.images.items k (begun_at set k head.version) c.index_mut-image.result.now c.index_mut-image.ensures.value began (omega (arith, new.0, c.requires.whole.images.all)) in
     subst (λ (x : Typed). IsImageOf set k x) (sym image) (default_shaped set k head.version)
@@ -77,8 +64,7 @@ read_section-requires-clause-place g c =
     let set = described c.args.set.now in
     let head = c.args.head.now in
     let k = c.in_ok-device.device in
-    let is = sym (c.in_ok-device.was) ∙ c.open_section.ensures.opened ∙ ap (λ (came : List Bool). opened_at c.args.at (section_opened set came head.name.items head.instance head.version)) c.deref.ensures.0 in
-    let new = section_new set c.args.staged.now.came.items head.name.items head.instance head.version k c.args.at c.requires.whole.came is in
+    let new = rw c.deref.ensures.0 at c.in_ok-device.ensures.fresh in
     let began = begun_here set c.begin.new.staged.images.items c.args.staged.now.images.items k head.version c.begin.ensures.images (c.requires.whole.fresh k new.1) in
     let image = image_begun c.begin.new.staged.images.items c.args.staged.now.images.items k (begun_at set k head.version) c.index_mut-image.result.now c.index_mut-image.ensures.value began (omega (arith, new.0, c.requires.whole.images.all)) in
     let due = sections_taken set set.devices c.args.staged.now.came.items k (record { instance = 0; desc = no_desc; subs = [] }) c.requires.whole.came new.1 in
@@ -86,14 +72,14 @@ read_section-requires-clause-place g c =
     omega (arith, due, same, c.requires.place)
 
 pub returns-in_err-read_section-clause-reads : goal.returns-in_err-read_section-clause-reads
-returns-in_err-read_section-clause-reads g c = λ names first after bytes behind.
+returns-in_err-read_section-clause-reads g c = λ names first after.
     let set = described c.args.set.now in
     let head = c.args.head.now in
     let k = c.in_ok-device.device in
     let old = c.args.staged.now in
     let is = sym (c.in_ok-device.was) ∙ c.open_section.ensures.opened ∙ ap (λ (came : List Bool). opened_at c.args.at (section_opened set came head.name.items head.instance head.version)) c.deref.ensures.0 in
-    let new = section_new set old.came.items head.name.items head.instance head.version k c.args.at c.requires.whole.came is in
-    let began = begun_here set c.begin.new.staged.images.items c.args.staged.now.images.items k head.version c.begin.ensures.images (c.requires.whole.fresh k new.1) in
+    let new = rw c.deref.ensures.0 at c.in_ok-device.ensures.fresh in
+    let began = begun_here set c.begin.new.staged.images.items old.images.items k head.version c.begin.ensures.images (c.requires.whole.fresh k new.1) in
     let room : k < length old.images.items = omega (arith, new.0, c.requires.whole.images.all) in
     let image = image_begun c.begin.new.staged.images.items old.images.items k (begun_at set k head.version) c.index_mut-image.result.now c.index_mut-image.ensures.value began room in
     let now = c.read_section.new.section in
@@ -103,125 +89,26 @@ returns-in_err-read_section-clause-reads g c = λ names first after bytes behind
     c.read_section.new.image (tail_of now.tail) machine began c.begin.ensures.came c.in_err-read_section.ensures.section.0 in
     let go = reading_on (judge (by_state set names)) in
     let v = ask set names (state_of set old (Free first after)) (head_unit head) (head_long head) in
-    let onward = section_reads set names old first after head k c.args.at c.args.cursor.now c.read_section.new.cursor (untyped c.index_mut-image.result.now) (untyped c.read_section.new.image) c.begin.new.staged.tail now final
-    (g.S.Source.left c.args.source.now) (g.S.Source.left c.read_section.new.source) (Err c.in_err-read_section.field-0.0) c.requires.whole.came new.0 is (ap untyped image) c.begin.ensures.tail last
-    (c.in_err-read_section.ensures.reads names (begun set names old first after k) (omega (arith, room, length-map old.images.items untyped))) in
-    let there = read_behind {X = Unit {0}} go v (λ x. go final) (head_long head) c.args.at bytes c.args.cursor.now c.read_section.new.cursor
-    (g.S.Source.left c.args.source.now) (g.S.Source.left c.read_section.new.source) (Err c.in_err-read_section.field-0.0) behind tt onward in
-    let p = err_from_is_err_and c.from_residual-in_err-read_section.result c.from_residual-in_err-read_section.ensures.1 in
-    rw (p.1, p.2) there
-
-pub returns-clause-reads : goal.returns-clause-reads
-returns-clause-reads g c = λ names first after bytes behind.
-    let set = described c.args.set.now in
-    let head = c.args.head.now in
-    let k = c.in_ok-device.device in
-    let old = c.args.staged.now in
-    let is = sym (c.in_ok-device.was) ∙ c.open_section.ensures.opened ∙ ap (λ (came : List Bool). opened_at c.args.at (section_opened set came head.name.items head.instance head.version)) c.deref.ensures.0 in
-    let new = section_new set old.came.items head.name.items head.instance head.version k c.args.at c.requires.whole.came is in
-    let began = begun_here set c.begin.new.staged.images.items c.args.staged.now.images.items k head.version c.begin.ensures.images (c.requires.whole.fresh k new.1) in
-    let room : k < length old.images.items = omega (arith, new.0, c.requires.whole.images.all) in
-    let image = image_begun c.begin.new.staged.images.items old.images.items k (begun_at set k head.version) c.index_mut-image.result.now c.index_mut-image.ensures.value began room in
-    let now = c.read_section.new.section in
-    let final = ended_in (name_of set c.begin.new.staged.machine) (map untyped (slice_set c.begin.new.staged.images.items k c.read_section.new.image)) c.begin.new.staged.came.items (tail_of now.tail) in
-    let machine = ap (name_of set) c.begin.ensures.machine in
-    let last = ends_later (name_of set old.machine) (name_of set c.begin.new.staged.machine) c.begin.new.staged.images.items old.images.items old.came.items c.begin.new.staged.came.items k now.device (begun_at set k head.version)
-    c.read_section.new.image (tail_of now.tail) machine began c.begin.ensures.came c.in_ok-read_section.ensures.section.0 in
-    let go = reading_on (judge (by_state set names)) in
-    let v = ask set names (state_of set old (Free first after)) (head_unit head) (head_long head) in
-    let onward = section_reads set names old first after head k c.args.at c.args.cursor.now c.read_section.new.cursor (untyped c.index_mut-image.result.now) (untyped c.read_section.new.image) c.begin.new.staged.tail now final
-    (g.S.Source.left c.args.source.now) (g.S.Source.left c.read_section.new.source) (Ok c.in_ok-read_section.field-0) c.requires.whole.came new.0 is (ap untyped image) c.begin.ensures.tail last
-    (c.in_ok-read_section.ensures.reads names (begun set names old first after k) (omega (arith, room, length-map old.images.items untyped))) in
-    let there = read_behind {X = Unit {0}} go v (λ x. go final) (head_long head) c.args.at bytes c.args.cursor.now c.read_section.new.cursor
-    (g.S.Source.left c.args.source.now) (g.S.Source.left c.read_section.new.source) (Ok c.in_ok-read_section.field-0) behind c.in_ok-read_section.ensures.given.0 onward in
-    there
-
-pub returns-clause-given : goal.returns-clause-given
-returns-clause-given g c =
-    let set = described c.args.set.now in
-    let head = c.args.head.now in
-    let k = c.in_ok-device.device in
-    let first = c.args.staged.now in
-    let is = sym (c.in_ok-device.was) ∙ c.open_section.ensures.opened ∙ ap (λ (came : List Bool). opened_at c.args.at (section_opened set came head.name.items head.instance head.version)) c.deref.ensures.0 in
-    let new = section_new set first.came.items head.name.items head.instance head.version k c.args.at c.requires.whole.came is in
-    let began = begun_here set c.begin.new.staged.images.items c.args.staged.now.images.items k head.version c.begin.ensures.images (c.requires.whole.fresh k new.1) in
-    let image = image_begun c.begin.new.staged.images.items first.images.items k (begun_at set k head.version) c.index_mut-image.result.now c.index_mut-image.ensures.value began (omega (arith, new.0, c.requires.whole.images.all)) in
-    let due = sections_taken set set.devices first.came.items k (record { instance = 0; desc = no_desc; subs = [] }) c.requires.whole.came new.1 in
+    let due = sections_taken set set.devices c.args.staged.now.came.items k (record { instance = 0; desc = no_desc; subs = [] }) c.requires.whole.came new.1 in
     let same = ap (λ (x : Typed). subs_due set (device_at set k).subs x.came) image in
-    let here = part_due set (device_at set k) c.index_mut-image.result.now.came (Some (record { sub = None; version = c.index_mut-image.result.now.version })) in
-    let most = sections_due set set.devices first.came.items in
-    let came = ap (λ (l : List Bool). sections_due set set.devices l) c.begin.ensures.came in
-    gives_behind _ _ c.args.cursor.now c.read_section.new.cursor here most (sections_due set set.devices c.begin.new.staged.came.items) (Ok c.in_ok-read_section.field-0) (omega (arith, due, same, came)) c.in_ok-read_section.ensures.given
-
-pub returns-in_err-read_section-clause-given : goal.returns-in_err-read_section-clause-given
-returns-in_err-read_section-clause-given g c =
-    let set = described c.args.set.now in
-    let head = c.args.head.now in
-    let k = c.in_ok-device.device in
-    let first = c.args.staged.now in
-    let is = sym (c.in_ok-device.was) ∙ c.open_section.ensures.opened ∙ ap (λ (came : List Bool). opened_at c.args.at (section_opened set came head.name.items head.instance head.version)) c.deref.ensures.0 in
-    let new = section_new set first.came.items head.name.items head.instance head.version k c.args.at c.requires.whole.came is in
-    let began = begun_here set c.begin.new.staged.images.items c.args.staged.now.images.items k head.version c.begin.ensures.images (c.requires.whole.fresh k new.1) in
-    let image = image_begun c.begin.new.staged.images.items first.images.items k (begun_at set k head.version) c.index_mut-image.result.now c.index_mut-image.ensures.value began (omega (arith, new.0, c.requires.whole.images.all)) in
-    let due = sections_taken set set.devices first.came.items k (record { instance = 0; desc = no_desc; subs = [] }) c.requires.whole.came new.1 in
-    let same = ap (λ (x : Typed). subs_due set (device_at set k).subs x.came) image in
-    let here = part_due set (device_at set k) c.index_mut-image.result.now.came (Some (record { sub = None; version = c.index_mut-image.result.now.version })) in
-    let most = sections_due set set.devices first.came.items in
-    let spent = gives_behind _ _ c.args.cursor.now c.read_section.new.cursor here most 0 (Err c.in_err-read_section.field-0.0) (omega (arith, due, same)) c.in_err-read_section.ensures.given in
-    let p = err_from_is_err_and c.from_residual-in_err-read_section.result c.from_residual-in_err-read_section.ensures.1 in
-    rw p.1 spent
-
--- ---- what is heard
-
-pub returns-in_err-device-clause-heard : goal.returns-in_err-device-clause-heard
-returns-in_err-device-clause-heard g c = λ names first after.
-    let set = described c.args.set.now in
-    let head = c.args.head.now in
-    let p = err_from_is_err_and c.from_residual.result c.from_residual.ensures.1 in
-    let is = sym (c.in_err-device.was) ∙ c.open_section.ensures.opened ∙ ap (λ (came : List Bool). opened_at c.args.at (section_opened set came head.name.items head.instance head.version)) c.deref.ensures.0 in
-    rw (p.1, p.2)
-    (behind_here {X = Unit {0}} (reading_on (judge (by_state set names))) (ask set names (state_of set c.args.staged.now (Free first after)) (head_unit head) (head_long head))
-    (λ (x : Unit {0}). reading_on (judge (by_state set names)) (state_of set c.args.staged.now (Free false false))) c.args.at (head_long head) (g.S.Source.given c.args.source.now) c.args.cursor.now c.args.cursor.now
-    (Err c.in_err-device.field-0.0) (g.met.S.Source.counted c.args.source.now)
-    (λ more bytes behind. section_refused set names c.args.staged.now first after head c.args.at c.args.cursor.now bytes (Some more)
-    (λ (x : Unit {0}). reading_on (judge (by_state set names)) (state_of set c.args.staged.now (Free false false))) c.in_err-device.field-0.0 c.requires.whole.came is behind.taken))
-
-pub returns-in_err-read_section-clause-heard : goal.returns-in_err-read_section-clause-heard
-returns-in_err-read_section-clause-heard g c = λ names first after.
-    let set = described c.args.set.now in
-    let head = c.args.head.now in
-    let k = c.in_ok-device.device in
-    let old = c.args.staged.now in
-    let is = sym (c.in_ok-device.was) ∙ c.open_section.ensures.opened ∙ ap (λ (came : List Bool). opened_at c.args.at (section_opened set came head.name.items head.instance head.version)) c.deref.ensures.0 in
-    let new = section_new set old.came.items head.name.items head.instance head.version k c.args.at c.requires.whole.came is in
-    let began = begun_here set c.begin.new.staged.images.items c.args.staged.now.images.items k head.version c.begin.ensures.images (c.requires.whole.fresh k new.1) in
-    let room : k < length old.images.items = omega (arith, new.0, c.requires.whole.images.all) in
-    let image = image_begun c.begin.new.staged.images.items old.images.items k (begun_at set k head.version) c.index_mut-image.result.now c.index_mut-image.ensures.value began room in
-    let now = c.read_section.new.section in
-    let final = ended_in (name_of set c.begin.new.staged.machine) (map untyped (slice_set c.begin.new.staged.images.items k c.read_section.new.image)) c.begin.new.staged.came.items (tail_of now.tail) in
-    let machine = ap (name_of set) c.begin.ensures.machine in
-    let last = ends_later (name_of set old.machine) (name_of set c.begin.new.staged.machine) c.begin.new.staged.images.items old.images.items old.came.items c.begin.new.staged.came.items k now.device (begun_at set k head.version)
-    c.read_section.new.image (tail_of now.tail) machine began c.begin.ensures.came c.in_err-read_section.ensures.section.0 in
-    let go = reading_on (judge (by_state set names)) in
-    let v = ask set names (state_of set old (Free first after)) (head_unit head) (head_long head) in
     let e = c.in_err-read_section.field-0.0 in
     let p = err_from_is_err_and c.from_residual-in_err-read_section.result c.from_residual-in_err-read_section.ensures.1 in
     rw (p.1, p.2)
-    (hears_so {X = Unit {0}} (g.S.Source.given c.args.source.now) (g.S.Source.given c.read_section.new.source) (Err e)
-    (λ before left r bytes behind. read_behind {X = Unit {0}} go v (λ x. go final) (head_long head) c.args.at bytes c.args.cursor.now c.read_section.new.cursor before left (Err e) behind tt
+    (reads_as (λ n l. omega (arith, l, due, same))
+    (λ rest left r bytes behind. read_behind {X = Unit {0}} go v (λ x. go final) (head_long head) c.args.at bytes c.args.cursor.now c.read_section.new.cursor (Some rest) (Some left) (Err e) behind tt
     (section_reads set names old first after head k c.args.at c.args.cursor.now c.read_section.new.cursor (untyped c.index_mut-image.result.now) (untyped c.read_section.new.image) c.begin.new.staged.tail now final
-    before left (Err e) c.requires.whole.came new.0 is (ap untyped image) c.begin.ensures.tail last r))
-    (c.in_err-read_section.ensures.heard names (begun set names old first after k) (omega (arith, room, length-map old.images.items untyped))))
+    (Some rest) (Some left) (Err e) c.requires.whole.came new.0 is (ap untyped image) c.begin.ensures.tail last r))
+    (c.in_err-read_section.ensures.reads names (begun set names old first after k) (omega (arith, room, length-map old.images.items untyped))))
 
-pub returns-clause-heard : goal.returns-clause-heard
-returns-clause-heard g c = λ names first after.
+pub returns-clause-reads : goal.returns-clause-reads
+returns-clause-reads g c = λ names first after.
     let set = described c.args.set.now in
     let head = c.args.head.now in
     let k = c.in_ok-device.device in
     let old = c.args.staged.now in
     let is = sym (c.in_ok-device.was) ∙ c.open_section.ensures.opened ∙ ap (λ (came : List Bool). opened_at c.args.at (section_opened set came head.name.items head.instance head.version)) c.deref.ensures.0 in
-    let new = section_new set old.came.items head.name.items head.instance head.version k c.args.at c.requires.whole.came is in
-    let began = begun_here set c.begin.new.staged.images.items c.args.staged.now.images.items k head.version c.begin.ensures.images (c.requires.whole.fresh k new.1) in
+    let new = rw c.deref.ensures.0 at c.in_ok-device.ensures.fresh in
+    let began = begun_here set c.begin.new.staged.images.items old.images.items k head.version c.begin.ensures.images (c.requires.whole.fresh k new.1) in
     let room : k < length old.images.items = omega (arith, new.0, c.requires.whole.images.all) in
     let image = image_begun c.begin.new.staged.images.items old.images.items k (begun_at set k head.version) c.index_mut-image.result.now c.index_mut-image.ensures.value began room in
     let now = c.read_section.new.section in
@@ -231,11 +118,25 @@ returns-clause-heard g c = λ names first after.
     c.read_section.new.image (tail_of now.tail) machine began c.begin.ensures.came c.in_ok-read_section.ensures.section.0 in
     let go = reading_on (judge (by_state set names)) in
     let v = ask set names (state_of set old (Free first after)) (head_unit head) (head_long head) in
-    heard_as (λ more. Unit {0}) (g.S.Source.given c.args.source.now) (g.S.Source.given c.read_section.new.source)
-    (λ before left r bytes behind. read_behind {X = Unit {0}} go v (λ x. go final) (head_long head) c.args.at bytes c.args.cursor.now c.read_section.new.cursor before left (Ok c.in_ok-read_section.field-0) behind c.in_ok-read_section.ensures.given.0
+    reads_as (λ n l. l)
+    (λ rest left r bytes behind. read_behind {X = Unit {0}} go v (λ x. go final) (head_long head) c.args.at bytes c.args.cursor.now c.read_section.new.cursor (Some rest) (Some left) (Ok c.in_ok-read_section.field-0) behind c.in_ok-read_section.ensures.moves.0
     (section_reads set names old first after head k c.args.at c.args.cursor.now c.read_section.new.cursor (untyped c.index_mut-image.result.now) (untyped c.read_section.new.image) c.begin.new.staged.tail now final
-    before left (Ok c.in_ok-read_section.field-0) c.requires.whole.came new.0 is (ap untyped image) c.begin.ensures.tail last r))
-    (c.in_ok-read_section.ensures.heard names (begun set names old first after k) (omega (arith, room, length-map old.images.items untyped)))
+    (Some rest) (Some left) (Ok c.in_ok-read_section.field-0) c.requires.whole.came new.0 is (ap untyped image) c.begin.ensures.tail last r))
+    (c.in_ok-read_section.ensures.reads names (begun set names old first after k) (omega (arith, room, length-map old.images.items untyped)))
+
+pub returns-clause-moves : goal.returns-clause-moves
+returns-clause-moves g c =
+    let set = described c.args.set.now in
+    let head = c.args.head.now in
+    let k = c.in_ok-device.device in
+    let new = rw c.deref.ensures.0 at c.in_ok-device.ensures.fresh in
+    let began = begun_here set c.begin.new.staged.images.items c.args.staged.now.images.items k head.version c.begin.ensures.images (c.requires.whole.fresh k new.1) in
+    let image = image_begun c.begin.new.staged.images.items c.args.staged.now.images.items k (begun_at set k head.version) c.index_mut-image.result.now c.index_mut-image.ensures.value began (omega (arith, new.0, c.requires.whole.images.all)) in
+    let due = sections_taken set set.devices c.args.staged.now.came.items k (record { instance = 0; desc = no_desc; subs = [] }) c.requires.whole.came new.1 in
+    let same = ap (λ (x : Typed). subs_due set (device_at set k).subs x.came) image in
+    let came = ap (λ (l : List Bool). sections_due set set.devices l) c.begin.ensures.came in
+    let moves = c.in_ok-read_section.ensures.moves in
+    (moves.0, moves.1, omega (arith, due, same, came, moves.2))
 
 pub returns-in_err-read_section-clause-whole : goal.returns-in_err-read_section-clause-whole
 returns-in_err-read_section-clause-whole g c =
@@ -243,8 +144,7 @@ returns-in_err-read_section-clause-whole g c =
     let head = c.args.head.now in
     let k = c.in_ok-device.device in
     let old = c.args.staged.now in
-    let is = sym (c.in_ok-device.was) ∙ c.open_section.ensures.opened ∙ ap (λ (came : List Bool). opened_at c.args.at (section_opened set came head.name.items head.instance head.version)) c.deref.ensures.0 in
-    let new = section_new set old.came.items head.name.items head.instance head.version k c.args.at c.requires.whole.came is in
+    let new = rw c.deref.ensures.0 at c.in_ok-device.ensures.fresh in
     let began = begun_here set c.begin.new.staged.images.items old.images.items k head.version c.begin.ensures.images (c.requires.whole.fresh k new.1) in
     let shaped = subst (AreShaped set) (sym began) (shaped_put set old.images.items k (begun_at set k head.version) c.requires.whole.images new.0 (default_shaped set k head.version)) in
     record {
@@ -261,8 +161,7 @@ returns-clause-whole g c =
     let head = c.args.head.now in
     let k = c.in_ok-device.device in
     let old = c.args.staged.now in
-    let is = sym (c.in_ok-device.was) ∙ c.open_section.ensures.opened ∙ ap (λ (came : List Bool). opened_at c.args.at (section_opened set came head.name.items head.instance head.version)) c.deref.ensures.0 in
-    let new = section_new set old.came.items head.name.items head.instance head.version k c.args.at c.requires.whole.came is in
+    let new = rw c.deref.ensures.0 at c.in_ok-device.ensures.fresh in
     let began = begun_here set c.begin.new.staged.images.items old.images.items k head.version c.begin.ensures.images (c.requires.whole.fresh k new.1) in
     let shaped = subst (AreShaped set) (sym began) (shaped_put set old.images.items k (begun_at set k head.version) c.requires.whole.images new.0 (default_shaped set k head.version)) in
     record {

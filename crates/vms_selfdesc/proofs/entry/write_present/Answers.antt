@@ -6,10 +6,10 @@ use Rattle.vms_words.specs.Words.{kind_word}
 use Rattle.vms_selfdesc.specs.Entries.{sent_entry}
 use Rattle.vms_selfdesc.specs.Tree.{entry_tree}
 use Rattle.vms_selfdesc.specs.declared.draft.Draft.{Draft}
-use Rattle.vms_selfdesc.proofs.EntryLong.{width_short}
 use Rattle.vms_selfdesc.proofs.MemberTexts.{entry_adds, size_members, tail_text}
 use Rattle.vms_selfdesc.proofs.ReadBack.{natural_sound, sent_sound}
 use Rattle.vms_selfdesc.proofs.entry.write_present.Goals as goal
+use Rattle.vms_spec.proofs.KindLaws.{width_small}
 
 pub returns : goal.returns
 returns c =
@@ -23,4 +23,4 @@ returns c =
     entry_adds a b mid end (entry_tree (sent_entry path size type)) size type no_members (members_text true (size_members size type no_members)) c.requires c.in_ok-begin_entry.ensures
     (c.in_ok-push_str.ensures.bytes ∙ ap (λ s. string_bytes b.text ++ s) c.as_str.ensures.value)
     (c.in_ok-push_str-2.ensures.bytes ∙ ap (λ s. string_bytes mid.text ++ s) (c.cell_tail.ensures ∙ tail_text c.args.kind))
-    refl refl (sent_sound path size type (natural_sound size (omega (arith, width_short c.args.kind)))) refl c.in_ok-begin_entry.ensures.keeps.path
+    refl refl (sent_sound path size type (natural_sound size (omega (arith, width_small c.args.kind)))) refl c.in_ok-begin_entry.ensures.keeps.path

@@ -2,8 +2,8 @@ use Rattle.std.proofs.Common.{◌≡◌, ◌≤◌, drop}
 use Rattle.dev_board.specs.Laws.{AreEvents}
 use Rattle.dev_board.specs.Step.{after_all}
 use Rattle.vms_session.specs.Events.{trace_from}
-use Rattle.vms_session.proofs.RunLemmas.{Owes}
 use Rattle.vms_session.proofs.run.trace.Given as goal
+use Rattle.vms_io.proofs.Owing.{Owes}
 
 abbrev pub invariant-loop-event : goal.invariant-loop-event
 invariant-loop-event g l = record {

@@ -5,7 +5,6 @@ use Rattle.vms_spec.specs.Sets.{Set}
 use Rattle.vms_parts.specs.Views.{device_of}
 use Rattle.vms_desc.specs.Described.{described}
 use Rattle.vms_image.specs.Typed.{state_of}
-use Rattle.vms_values.proofs.DeviceLemmas.{on_true}
 use Rattle.vms_values.proofs.Gathering.{gathered_next, gathered_refused, gathered_all}
 use Rattle.vms_values.proofs.ImageRead.{first_more, first_all}
 use Rattle.vms_values.proofs.devices.read_images.Goals as goal
@@ -17,7 +16,7 @@ loop-device-preserved c =
     let image = c.in_ok-image.image in
     let before = c.loop-device.images.items in
     let lt : i < length set.devices = omega (arith, c.loop-device-test.true, ap length c.as_slice.ensures, ap (λ (s : Set). length s.devices) c.parts.ensures, length-map c.parts.result.now.devices device_of) in
-    let pushed : c.push_image.new.images.items ≡ before ++ image ∷ [] = on_true c.push_image.result c.if-not-push_image.false c.push_image.ensures in
+    let pushed : c.push_image.new.images.items ≡ before ++ image ∷ [] = c.in_ok-push_image.ensures in
     let states : map state_of c.push_image.new.images.items ≡ map state_of before ++ state_of image ∷ [] = ap (map state_of) pushed ∙ map-append state_of before (image ∷ []) in
     record {
       gathered = gathered_next set i lt _ _ (map state_of before) (map state_of c.push_image.new.images.items) c.loop-device.reading c.read_image.new.reading (state_of image) c.loop-device.invariant.gathered

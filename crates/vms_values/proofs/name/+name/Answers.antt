@@ -13,12 +13,12 @@ use Rattle.vms_desc.proofs.AskLaws.{found_field}
 use Rattle.vms_walk.specs.Steps.{size_in}
 use Rattle.vms_walk.proofs.Spots.{size_code, width_code, struct_size}
 use Rattle.vms_desc.proofs.Ranks.{item_rank, part_rank}
-use Rattle.vms_walk.proofs.Walking.{one_fits}
+use Rattle.vms_spec.proofs.Sizes.{one_fits}
 use Rattle.vms_spec.specs.Rules.{uses_below}
 use Rattle.std.proofs.Math.Nat.{mod-lt}
 use Rattle.vms_values.specs.Paths.{path_text}
 use Rattle.vms_values.specs.Naming.{part_names, item_names, field_name}
-use Rattle.vms_values.proofs.PrintLemmas.{same_text}
+use Rattle.vms_io.proofs.WritingLemmas.{wrote_as}
 use Rattle.vms_values.proofs.Naming.{next_names, all_names, names_from, part_long, struct_name, positive, single_is, element_is}
 use Rattle.vms_values.proofs.name.+name.Goals as goal
 
@@ -56,23 +56,19 @@ print_element-print_inside-requires-in_default g t c =
     let rest : c.args.cell % c.item_cells-size.result < size_in set item = subst (λ (s : ℕ). c.args.cell % s < size_in set item) (sym size) (mod-lt c.args.cell some) in
     λ κs h. (search rules, (search rules, (c.requires.reaches, (c.requires.small, rest))))
 
-pub print_element-returns-in-One-clause-written : goal.print_element-returns-in-One-clause-written
-print_element-returns-in-One-clause-written g t c =
+pub print_element-returns-in-One : goal.print_element-returns-in-One
+print_element-returns-in-One g t c =
     let set = described c.args.set.now in
     let f = field_of c.args.field.now in
     let size = size_code set f.item c.item_cells-size.result c.item_cells-size.ensures c.requires.small in
-    same_text _ _ _ _ _ (single_is set f c.in-One.is (path_text c.args.path.now) c.as_bytes.result.now c.item_cells-size.result c.args.cell c.as_bytes.ensures size) c.print_inside.ensures.written
+    wrote_as c.print_inside.result _ _ (single_is set f c.in-One.is (path_text c.args.path.now) c.as_bytes.result.now c.item_cells-size.result c.args.cell c.as_bytes.ensures size) c.print_inside.ensures
 
 pub print_element-returns-in_default : goal.print_element-returns-in_default
 print_element-returns-in_default g t c =
     let set = described c.args.set.now in
     let f = field_of c.args.field.now in
     let size = size_code set f.item c.item_cells-size.result c.item_cells-size.ensures c.requires.small in
-    record {
-      written = same_text _ _ _ _ _ (element_is set f c.in_default.not-One (path_text c.args.path.now) c.as_bytes.result.now c.item_cells-size.result c.args.cell c.as_bytes.ensures size) c.print_inside-in_default.ensures.written;
-      cause = c.print_inside-in_default.ensures.cause;
-      promise = c.print_inside-in_default.ensures.promise;
-    }
+    wrote_as c.print_inside-in_default.result _ _ (element_is set f c.in_default.not-One (path_text c.args.path.now) c.as_bytes.result.now c.item_cells-size.result c.args.cell c.as_bytes.ensures size) c.print_inside-in_default.ensures
 
 -- ---- inside of an element
 
@@ -86,18 +82,18 @@ print_inside-print_name-requires g t c =
     let size = struct_size set c.args.set.now.well_formed j lt in
     λ κs h. (search rules, (search rules, (lt, (omega (arith, small, size), omega (arith, cell, size)))))
 
-pub print_inside-returns-in-Struct-clause-written : goal.print_inside-returns-in-Struct-clause-written
-print_inside-returns-in-Struct-clause-written g t c =
+pub print_inside-returns-in-Struct : goal.print_inside-returns-in-Struct
+print_inside-returns-in-Struct g t c =
     let set = described c.args.set.now in
     let j = c.in-Struct.number in
     let lt : j < length set.structs = ltb-true j (length set.structs) (rw c.in-Struct.is at c.requires.reaches) in
     let cell = rw c.in-Struct.is at c.requires.cell in
     let path = path_text c.args.path.now in
-    same_text _ _ _ _ _
+    wrote_as c.print_name.result _ _
     (append_assoc path (codes ".") (get_or (part_names set (parts.Struct j)) c.args.cell [])
     ∙ ap (λ (l : List ℕ). path ++ l) (sym (struct_name set j lt c.args.cell cell))
     ∙ ap (λ (i : Item). path ++ get_or (item_names set i) c.args.cell []) (sym c.in-Struct.is))
-    c.print_name.ensures.written
+    c.print_name.ensures
 
 -- ---- the fields of a part
 
@@ -135,8 +131,8 @@ print_name-print_element-requires g t c =
     let inside = at (λ (x : Field). left < capacity_of x.count * size_in set x.item) here in
     λ κs h. (search rules, (search rules, (uses, (one, inside))))
 
-pub print_name-returns-then-left-size-clause-written : goal.print_name-returns-then-left-size-clause-written
-print_name-returns-then-left-size-clause-written g t c =
+pub print_name-returns-then-left-size : goal.print_name-returns-then-left-size
+print_name-returns-then-left-size g t c =
     let set = described c.args.set.now in
     let part = c.args.part in
     let k = c.loop-field.field in
@@ -151,14 +147,8 @@ print_name-returns-then-left-size-clause-written g t c =
     let found : field_of code ≡ f = found_field c.as_slice.result.now (desc_at set part).fields k code fields lt c.index-as_slice-field.is in
     let here : left < capacity_of f.count * size_in set f.item = omega (arith, width, c.if-left-size.true) in
     let path = path_text c.args.path.now in
-    same_text _ _ _ _ _
-    (ap (λ (x : Field). path ++ field_name set x left) found ∙ ap (λ (l : List ℕ). path ++ l) (sym (c.loop-field.invariant.same ∙ next.here here))) (rw c.loop-field.invariant.untouched at c.print_element.ensures.written)
-
-pub print_name-returns-then-left-size-clause-cause : goal.print_name-returns-then-left-size-clause-cause
-print_name-returns-then-left-size-clause-cause g t c = rw c.loop-field.invariant.untouched at c.print_element.ensures.cause
-
-pub print_name-returns-then-left-size-clause-promise : goal.print_name-returns-then-left-size-clause-promise
-print_name-returns-then-left-size-clause-promise g t c = c.print_element.ensures.promise ∙ ap g.K.Sink.promise c.loop-field.invariant.untouched
+    wrote_as c.print_element.result _ _
+    (ap (λ (x : Field). path ++ field_name set x left) found ∙ ap (λ (l : List ℕ). path ++ l) (sym (c.loop-field.invariant.same ∙ next.here here))) (rw c.loop-field.invariant.untouched at c.print_element.ensures)
 
 pub print_name-loop-field-preserved : goal.print_name-loop-field-preserved
 print_name-loop-field-preserved g t c =

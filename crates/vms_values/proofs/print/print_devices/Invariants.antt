@@ -1,18 +1,17 @@
-use Rattle.std.proofs.Common.{◌≡◌, ◌≤◌, drop, map}
+use Rattle.std.proofs.Common.{drop, map}
 use Rattle.vms_spec.specs.Values.{devices_lines}
 use Rattle.vms_desc.specs.Described.{described}
 use Rattle.vms_image.specs.Typed.{state_of}
 use Rattle.vms_values.specs.Printing.{AreOf}
-use Rattle.vms_values.proofs.Writing.{Owes}
+use Rattle.vms_io.specs.Told.{outlet}
+use Rattle.vms_io.proofs.WritingLemmas.{Leaves}
 use Rattle.vms_values.proofs.print.print_devices.Given as goal
 
 abbrev pub invariant-loop-device : goal.invariant-loop-device
 invariant-loop-device g l =
     let set = described l.set in
     record {
-      owes : Owes (g.K.Sink.written l.initial.sink) (g.K.Sink.written l.sink) (devices_lines set set.devices (map state_of l.images))
+      owes : Leaves (outlet g.K.Sink l.initial.sink) (outlet g.K.Sink l.sink) (devices_lines set set.devices (map state_of l.images))
           (devices_lines set (drop l.device set.devices) (drop l.device (map state_of l.images)));
       of : AreOf set (drop l.device set.devices) (drop l.device (map state_of l.images));
-      later : g.K.Sink.faults l.initial.sink ≤ g.K.Sink.faults l.sink;
-      promise : g.K.Sink.promise l.sink ≡ g.K.Sink.promise l.initial.sink;
     }

@@ -1,11 +1,12 @@
-use Rattle.std.proofs.Common.{◌≡◌, ◌≤◌, drop}
+use Rattle.std.proofs.Common.{drop}
 use Rattle.vms_spec.specs.declared.Part.TheVariants as parts
 use Rattle.vms_spec.specs.Images.{own_cells}
 use Rattle.vms_spec.specs.Values.{sub_lines}
 use Rattle.vms_desc.specs.Asks.{first_cell}
 use Rattle.vms_desc.specs.Described.{described, device_at}
 use Rattle.vms_image.specs.Typed.{state_of}
-use Rattle.vms_values.proofs.Writing.{Owes}
+use Rattle.vms_io.specs.Told.{outlet}
+use Rattle.vms_io.proofs.WritingLemmas.{Leaves}
 use Rattle.vms_values.proofs.print.print_subs.Given as goal
 
 abbrev pub invariant-loop-sub : goal.invariant-loop-sub
@@ -13,9 +14,5 @@ invariant-loop-sub g l =
     let set = described l.shown.set.now in
     let d = device_at set l.device in
     let image = state_of l.shown.image.now in
-    record {
-      owes : Owes (g.K.Sink.written l.initial.sink) (g.K.Sink.written l.sink) (sub_lines set image.numbers (own_cells set d) d.subs image.came)
-          (sub_lines set image.numbers (first_cell set (parts.Sub l.device l.sub)) (drop l.sub d.subs) (drop l.sub image.came));
-      later : g.K.Sink.faults l.initial.sink ≤ g.K.Sink.faults l.sink;
-      promise : g.K.Sink.promise l.sink ≡ g.K.Sink.promise l.initial.sink;
-    }
+    Leaves (outlet g.K.Sink l.initial.sink) (outlet g.K.Sink l.sink) (sub_lines set image.numbers (own_cells set d) d.subs image.came)
+    (sub_lines set image.numbers (first_cell set (parts.Sub l.device l.sub)) (drop l.sub d.subs) (drop l.sub image.came))

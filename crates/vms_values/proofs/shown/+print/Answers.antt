@@ -18,9 +18,8 @@ use Rattle.vms_walk.proofs.Spots.{size_code, width_code, struct_size, spot_room}
 use Rattle.vms_walk.proofs.Walking.{room_at}
 use Rattle.vms_values.specs.Printing.{run_lines, below, Stays}
 use Rattle.vms_values.proofs.Printers.{cells_of, struct_lines}
-use Rattle.vms_values.proofs.PrintLemmas.{same_text}
+use Rattle.vms_io.proofs.WritingLemmas.{wrote_as, leaves_all, leaves_rest, leaves_stop, leaves_none}
 use Rattle.vms_values.proofs.Runs.{array_run, elements_left, no_elements, no_fields, next_run}
-use Rattle.vms_values.proofs.Writing.{owes_all, owes_from, owes_less, owes_still, owes_none}
 use Rattle.vms_values.proofs.Fronts.{stays, stays_is, stays_then, stays_element, cut_is, field_short}
 use Rattle.vms_values.specs.declared.line.TheConstants.{LONGEST}
 use Rattle.vms_values.proofs.shown.+print.Goals as goal
@@ -32,11 +31,9 @@ print_elements-loop-index-init g t c =
     let set = described c.args.shown.set.now in
     let all : c.args.run.count - 0 ≡ c.args.run.count = omega arith in
     record {
-      owes = owes_from _ _ _ (ap (λ (k : ℕ). element_lines (printers set) c.args.item.now c.args.line.now c.args.shown.image.now.numbers c.args.run.first (size_in set c.args.item.now) 0 k) (sym all));
+      owes = leaves_all _ _ _ (ap (λ (k : ℕ). element_lines (printers set) c.args.item.now c.args.line.now c.args.shown.image.now.numbers c.args.run.first (size_in set c.args.item.now) 0 k) (sym all));
       line = stays c.args.line.now;
       here = grind arith;
-      later = omega arith;
-      promise = refl;
     }
 
 pub print_elements-print_item-requires : goal.print_elements-print_item-requires
@@ -59,10 +56,10 @@ print_elements-returns-in_err-print_item-clause-written g t c =
     let path : c.push_index.new.self ≡ c.args.line.now ++ codes "[" ++ decimal i ++ codes "]" = c.push_index.ensures.text ∙ ap (λ (l : List ℕ). l ++ codes "[" ++ decimal i ++ codes "]") kept in
     let rest = element_lines ps item c.args.line.now n (c.loop-index.cell + size_in set item) (size_in set item) (i + 1) (c.args.run.count - (i + 1)) in
     let p = err_from_is_err_and c.from_residual.result c.from_residual.ensures.1 in
-    rw p.1 (owes_still _ _ _ _ _ _ _ c.loop-index.invariant.owes
+    rw p.1 (leaves_stop _
     (elements_left ps item c.args.line.now n c.loop-index.cell (size_in set item) i c.args.run.count c.loop-index-test.true
     ∙ ap (λ (l : List ℕ). item_lines ps item l n c.loop-index.cell ++ rest) (sym path))
-    c.in_err-print_item.ensures.written)
+    c.loop-index.invariant.owes c.in_err-print_item.ensures.written)
 
 pub print_elements-returns-in_err-print_item-clause-line :
     goal.print_elements-returns-in_err-print_item-clause-line
@@ -93,23 +90,21 @@ print_elements-loop-index-preserved g t c =
     let kept = cut_is c.args.line.now c.loop-index.line c.cut.new.self c.len-kept.result c.cut.ensures c.len-kept.ensures c.loop-index.invariant.line in
     let element : c.push_index.new.self ≡ path ++ codes "[" ++ decimal i ++ codes "]" = c.push_index.ensures.text ∙ ap (λ (l : List ℕ). l ++ codes "[" ++ decimal i ++ codes "]") kept in
     record {
-      owes = owes_less _ _ _ _ _ _ _ c.loop-index.invariant.owes
+      owes = leaves_rest _
           (elements_left ps item path n cell (size_in set item) i c.args.run.count c.loop-index-test.true
           ∙ ap (λ (s : ℕ). item_lines ps item (path ++ codes "[" ++ decimal i ++ codes "]") n cell ++ rest s) (sym size)
           ∙ ap (λ (l : List ℕ). item_lines ps item l n cell ++ rest c.item_cells-size.result) (sym element))
-          c.in_ok-print_item.ensures.written;
+          c.loop-index.invariant.owes c.in_ok-print_item.ensures.written;
       line = stays_then _ _ _ (stays_element path (decimal i) c.push_index.new.self element) c.in_ok-print_item.ensures.line;
       here = omega (arith, one, size, c.loop-index.invariant.here);
-      later = omega (arith, c.in_ok-print_item.ensures.cause, c.loop-index.invariant.later);
-      promise = c.in_ok-print_item.ensures.promise ∙ c.loop-index.invariant.promise;
     }
 
 pub print_elements-returns-clause-written : goal.print_elements-returns-clause-written
 print_elements-returns-clause-written g t c =
     let set = described c.args.shown.set.now in
     let none : c.args.run.count - c.loop-index.index ≡ 0 = omega arith in
-    owes_none _ _ _ _ c.loop-index.invariant.owes
-    (no_elements (printers set) c.args.item.now c.args.line.now c.args.shown.image.now.numbers c.loop-index.cell (size_in set c.args.item.now) c.loop-index.index (c.args.run.count - c.loop-index.index) none)
+    leaves_none
+    (no_elements (printers set) c.args.item.now c.args.line.now c.args.shown.image.now.numbers c.loop-index.cell (size_in set c.args.item.now) c.loop-index.index (c.args.run.count - c.loop-index.index) none) c.loop-index.invariant.owes
 
 -- ---- a field
 
@@ -140,12 +135,10 @@ print_field-returns-in_default g t c =
     let named : c.push.new.self ≡ c.args.line.now ++ f.name = c.push.ensures ∙ ap (λ (l : List ℕ). c.args.line.now ++ l) c.as_bytes.ensures in
     record {
       line = stays_then _ _ _ (stays_is c.args.line.now f.name c.push.new.self named) c.print_elements.ensures.line;
-      written = same_text _ _ _ _ _
+      written = wrote_as c.print_elements.result _ _
           (ap (λ (l : List ℕ). element_lines (printers set) f.item l c.args.shown.image.now.numbers c.args.run.first (size_in set f.item) 0 c.args.run.count) named
           ∙ array_run set f c.args.run.count c.args.line.now c.args.shown.image.now.numbers c.args.run.first c.in_default.not-One)
           c.print_elements.ensures.written;
-      cause = c.print_elements.ensures.cause;
-      promise = c.print_elements.ensures.promise;
     }
 
 -- ---- an element
@@ -162,7 +155,7 @@ print_item-print_struct-requires g t c =
 pub print_item-returns-in-Struct-clause-written : goal.print_item-returns-in-Struct-clause-written
 print_item-returns-in-Struct-clause-written g t c =
     let ps = printers (described c.args.shown.set.now) in
-    same_text _ _ _ _ _
+    wrote_as c.print_struct.result _ _
     (ap (λ (i : Item). item_lines ps i c.args.line.now c.args.shown.image.now.numbers c.args.cell) (sym c.in-Struct.is)) c.print_struct.ensures.written
 
 -- ---- an element of a structure
@@ -181,7 +174,7 @@ print_struct-returns-clause-written g t c =
     let set = described c.args.shown.set.now in
     let j = c.args.number in
     let n = c.args.shown.image.now.numbers in
-    same_text _ _ _ _ _
+    wrote_as c.print_part.result _ _
     (ap (λ (l : List ℕ). desc_lines (printers set) (get_or set.structs j no_desc) l n c.args.cell) c.push.ensures
     ∙ sym (struct_lines set c.args.shown.set.now.well_formed j c.requires.reaches c.args.line.now n c.args.cell)) c.print_part.ensures.written
 
@@ -190,11 +183,9 @@ print_struct-returns-clause-written g t c =
 pub print_part-loop-field-init : goal.print_part-loop-field-init
 print_part-loop-field-init g t c =
     record {
-      owes = owes_all _ _;
+      owes = leaves_all _ _ _ refl;
       line = stays c.args.line.now;
       room = spot_room (described c.args.shown.set.now) c.args.spot c.args.shown.image.now.numbers c.requires.spot;
-      later = omega arith;
-      promise = refl;
     }
 
 pub print_part-print_field-requires : goal.print_part-print_field-requires
@@ -235,8 +226,8 @@ print_part-returns-in_err-print_field-clause-written g t c =
     let own = numbers_of (cells_of (printers set)) d n spot.base in
     let rest = field_lines (printers set) d.fields own c.args.line.now n (k + 1) (cell + capacity_of f.count * size_in set f.item) (drop (k + 1) d.fields) in
     let p = err_from_is_err_and c.from_residual.result c.from_residual.ensures.1 in
-    rw p.1 (owes_still _ _ _ _ _ _ _ c.loop-field.invariant.owes
-    (next.lines ∙ ap (λ (l : List ℕ). run_lines (printers set) (field_of f) f.count c.elements.result l n cell ++ rest) (sym kept)) c.in_err-print_field.ensures.written)
+    rw p.1 (leaves_stop _
+    (next.lines ∙ ap (λ (l : List ℕ). run_lines (printers set) (field_of f) f.count c.elements.result l n cell ++ rest) (sym kept)) c.loop-field.invariant.owes c.in_err-print_field.ensures.written)
 
 pub print_part-returns-in_err-print_field-clause-line :
     goal.print_part-returns-in_err-print_field-clause-line
@@ -285,13 +276,11 @@ print_part-loop-field-preserved g t c =
     let rest = λ (w : ℕ). field_lines (printers set) d.fields own path n (k + 1) (cell + w) (drop (k + 1) d.fields) in
     let kept = cut_is path c.loop-field.line c.cut.new.self c.len-kept.result c.cut.ensures c.len-kept.ensures c.loop-field.invariant.line in
     record {
-      owes = owes_less _ _ _ _ _ _ _ c.loop-field.invariant.owes
+      owes = leaves_rest _
           (next.lines ∙ ap (λ (w : ℕ). run_lines (printers set) (field_of f) f.count c.elements.result path n cell ++ rest w) (sym width)
-          ∙ ap (λ (l : List ℕ). run_lines (printers set) (field_of f) f.count c.elements.result l n cell ++ rest c.field_cells-cell.result) (sym kept)) c.in_ok-print_field.ensures.written;
+          ∙ ap (λ (l : List ℕ). run_lines (printers set) (field_of f) f.count c.elements.result l n cell ++ rest c.field_cells-cell.result) (sym kept)) c.loop-field.invariant.owes c.in_ok-print_field.ensures.written;
       line = stays_then _ _ _ (subst (Stays path) (sym kept) (stays path)) c.in_ok-print_field.ensures.line;
       room = subst (λ (w : ℕ). (cell + w) + length (cells_from (cells_in (table set)) d.fields (k + 1) (drop (k + 1) d.fields)) ≤ length n) (sym width) next.later;
-      later = omega (arith, c.in_ok-print_field.ensures.cause, c.loop-field.invariant.later);
-      promise = c.in_ok-print_field.ensures.promise ∙ c.loop-field.invariant.promise;
     }
 
 pub print_part-returns-clause-written : goal.print_part-returns-clause-written
@@ -301,5 +290,5 @@ print_part-returns-clause-written g t c =
     let n = c.args.shown.image.now.numbers in
     let d = desc_at set spot.part in
     let end : c.loop-field.field ≡ length d.fields = omega (arith, c.field_count-field-end.ensures) in
-    owes_none _ _ _ _ c.loop-field.invariant.owes
-    (no_fields set d.fields (numbers_of (cells_of (printers set)) d n spot.base) c.args.line.now n c.loop-field.field c.loop-field.cell end)
+    leaves_none
+    (no_fields set d.fields (numbers_of (cells_of (printers set)) d n spot.base) c.args.line.now n c.loop-field.field c.loop-field.cell end) c.loop-field.invariant.owes

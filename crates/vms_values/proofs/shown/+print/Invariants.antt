@@ -7,7 +7,8 @@ use Rattle.vms_walk.specs.Steps.{size_in, table, cells_in}
 use Rattle.vms_desc.proofs.Ranks.{item_rank, part_rank}
 use Rattle.vms_values.specs.Printing.{Stays}
 use Rattle.vms_values.proofs.Printers.{cells_of}
-use Rattle.vms_values.proofs.Writing.{Owes}
+use Rattle.vms_io.specs.Told.{outlet}
+use Rattle.vms_io.proofs.WritingLemmas.{Leaves}
 use Rattle.vms_values.proofs.shown.+print.Given as goal
 
 abbrev pub decreases-print_elements : goal.decreases-print_elements
@@ -33,13 +34,11 @@ invariant-print_elements-loop-index g l =
     let run = l.fn.run in
     let size = size_in set l.item in
     record {
-      owes : Owes (g.K.Sink.written l.initial.sink) (g.K.Sink.written l.sink)
+      owes : Leaves (outlet g.K.Sink l.initial.sink) (outlet g.K.Sink l.sink)
           (element_lines ps l.item l.initial.line n run.first size 0 run.count)
           (element_lines ps l.item l.initial.line n l.cell size l.index (run.count - l.index));
       line : Stays l.initial.line l.line;
       here : l.cell ≡ run.first + l.index * size;
-      later : g.K.Sink.faults l.initial.sink ≤ g.K.Sink.faults l.sink;
-      promise : g.K.Sink.promise l.sink ≡ g.K.Sink.promise l.initial.sink;
     }
 
 abbrev pub invariant-print_part-loop-field : goal.invariant-print_part-loop-field
@@ -50,10 +49,8 @@ invariant-print_part-loop-field g l =
     let d = desc_at set l.spot.part in
     let own = numbers_of (cells_of ps) d n l.spot.base in
     record {
-      owes : Owes (g.K.Sink.written l.initial.sink) (g.K.Sink.written l.sink)
+      owes : Leaves (outlet g.K.Sink l.initial.sink) (outlet g.K.Sink l.sink)
           (desc_lines ps d l.initial.line n l.spot.base) (field_lines ps d.fields own l.initial.line n l.field l.cell (drop l.field d.fields));
       line : Stays l.initial.line l.line;
       room : l.cell + length (cells_from (cells_in (table set)) d.fields l.field (drop l.field d.fields)) ≤ length n;
-      later : g.K.Sink.faults l.initial.sink ≤ g.K.Sink.faults l.sink;
-      promise : g.K.Sink.promise l.sink ≡ g.K.Sink.promise l.initial.sink;
     }

@@ -1,12 +1,10 @@
-use Rattle.std.proofs.Common.{◌≡◌, ℕ, List, [], ◌++◌, codes, ap, ◌∙◌, append_assoc}
+use Rattle.std.proofs.Common.{◌≡◌, ℕ, List, ◌++◌, codes, ap, ◌∙◌, append_assoc}
 use Rattle.std.specs.Fmt.{signed_decimal}
 use Rattle.std.specs.Int.{w128}
 use Rattle.std.proofs.Math.Facts.{to_z-of_z}
-use Rattle.std.proofs.KnownBytes.{Appends-nil}
+use Rattle.vms_io.proofs.WritingLemmas.{wrote_as}
 use Rattle.vms_spec.specs.Values.{line_end}
 use Rattle.vms_values.proofs.Fronts.{stays_is}
-use Rattle.vms_values.proofs.PrintLemmas.{same_text}
-use Rattle.vms_values.proofs.Writing.{writes_last}
 use Rattle.vms_values.proofs.shown.print_number.Goals as goal
 
 -- the line, of three pieces after the path
@@ -18,7 +16,7 @@ pieced path a b d line e f is g h =
 pub returns-clause-written : goal.returns-clause-written
 returns-clause-written g c =
     let line = pieced c.args.line.now _ _ (signed_decimal c.args.number) c.push-3.new.self _ c.push.ensures (c.as_bytes.ensures.value ∙ c.format.ensures.text ∙ ap signed_decimal (to_z-of_z {w = w128} c.ranges.number)) c.push-2.ensures c.push-3.ensures in
-    same_text _ _ _ _ _ (c.text.ensures ∙ line) (writes_last _ _ _ [] _ _ (Appends-nil _) c.write_all_of.ensures.ok c.write_all_of.ensures.err)
+    wrote_as c.write_all_of.result _ _ (c.text.ensures ∙ line) c.write_all_of.ensures.wrote
 
 pub returns-clause-line : goal.returns-clause-line
 returns-clause-line g c =

@@ -8,7 +8,6 @@ use Rattle.vms_desc.specs.Asks.{first_cell}
 use Rattle.vms_desc.specs.Described.{described, device_at}
 use Rattle.vms_desc.proofs.AskLaws.{sub_first}
 use Rattle.vms_values.specs.Taken.{place_of}
-use Rattle.vms_values.proofs.DeviceLemmas.{on_true}
 use Rattle.vms_values.proofs.SubsReading.{follows_none, follows_next, follows_stop, sub_came, subs_bad, subs_end, alike_none, alike_more, of_alike}
 use Rattle.vms_values.proofs.subsections.read_subs.Goals as goal
 
@@ -36,7 +35,7 @@ returns-in_err-read_sub-clause-read c =
     let i = c.args.device in
     let j = c.loop-sub.sub in
     let lt : j < length (device_at set i).subs = omega (arith, c.sub_count-sub-end.ensures, c.loop-sub-test.true) in
-    let p = err_from_is_err_and c.from_residual.result c.from_residual.ensures.1 in
+    let p = err_from_is_err_and c.from_residual-in_err-read_sub.result c.from_residual-in_err-read_sub.ensures.1 in
     rw (p.1, p.2) (subs_bad _ _ j c.args.taken.now c.read_sub.new.taken c.loop-sub.taken c.push_line.new.lines.items _
     (λ b same. follows_stop set i j lt _ c.loop-sub.taken c.loop-sub.lines.items b c.loop-sub.invariant.follows same) c.in_err-read_sub.ensures.read)
 
@@ -50,7 +49,7 @@ loop-sub-preserved c =
     let new = c.read_sub.new.taken in
     let r = sub_came _ j old new c.in_ok-read_sub.ensures.read in
     let room : j < length old.image.came = omega (arith, lt, c.loop-sub.invariant.alike.subs, c.requires.device.subs) in
-    let pushed : c.push_line.new.lines.items ≡ c.loop-sub.lines.items ++ old.lines.line ∷ [] = on_true c.push_line.result c.if-not-push_line.false c.push_line.ensures in
+    let pushed : c.push_line.new.lines.items ≡ c.loop-sub.lines.items ++ old.lines.line ∷ [] = c.in_ok-push_line.ensures in
     record {
       follows = follows_next set i j lt _ old new c.loop-sub.lines.items c.push_line.new.lines.items r.o r.q c.loop-sub.invariant.follows room r.read r.place r.came pushed;
       count = ap length pushed ∙ length-append c.loop-sub.lines.items (old.lines.line ∷ []) ∙ ap (λ (n : ℕ). n + 1) c.loop-sub.invariant.count;

@@ -1,5 +1,6 @@
 use Rattle.std.proofs.Common.{rules, arith, refl, sym, ap, ◌∙◌, subst, ◌≡◌, ℕ, ℤ, ◌+◌, ◌*◌, ◌<◌, ◌≤◌, List, [], ◌∷◌, length, get_or, map, drop, Bool, true, OnOk, IfErr, Option}
 use Rattle.std.proofs.lemmas.Bool.{ltb-true}
+use Rattle.std.proofs.lemmas.Result.{IfErr-weaker}
 use Rattle.vms_kinds.specs.declared.Item.{Item}
 use Rattle.vms_spec.specs.declared.TheConstants.{MOST_ITEMS}
 use Rattle.vms_spec.specs.declared.Part.TheVariants as parts
@@ -16,13 +17,14 @@ use Rattle.vms_desc.specs.Asks.{field_at}
 use Rattle.vms_desc.specs.Described.{described}
 use Rattle.vms_desc.specs.Parts.{desc_at}
 use Rattle.vms_desc.proofs.AskLaws.{found_field}
+use Rattle.vms_desc.proofs.Bounds.{good_of}
 use Rattle.vms_walk.specs.declared.step.WalkStep.{WalkStep}
 use Rattle.vms_walk.specs.declared.step.WalkStep.TheVariants as steps
 use Rattle.vms_walk.specs.Steps.{steps_of, table, cells_in, spot_numbers, spot_slots, slots_at, size_in, capacities_of, elements_slots, HasSpot, MayCome}
-use Rattle.vms_walk.proofs.Results.{ok_then, err_then, err_is}
+use Rattle.vms_walk.proofs.Results.{ok_then, err_is}
 use Rattle.vms_walk.proofs.Walking.{room_at, least_again}
 use Rattle.vms_walk.proofs.Spots.{next_field, field_needs, size_code, width_code, spot_room, struct_spot, struct_size, own_is}
-use Rattle.vms_walk.proofs.Local.{good, keeps_below, keeps_first, next_place, set_settled, part_sound}
+use Rattle.vms_walk.proofs.Local.{keeps_below, keeps_first, next_place, set_settled, part_sound}
 use Rattle.vms_walk.proofs.Going.{Laws, items_next, items_stop, items_may, field_slots_are, fields_next, fields_stop, fields_may, rule_next, rule_stop, rule_may, same_rule}
 use Rattle.vms_walk.proofs.fields.+walk.Given.{Over}
 use Rattle.vms_walk.proofs.fields.+walk.Goals as goal
@@ -34,22 +36,16 @@ laws_of g = record { more = g.met.W.Walker.more; after = g.met.W.Walker.stops_af
 
 pub walk_items-loop-turn-preserved : goal.walk_items-loop-turn-preserved
 walk_items-loop-turn-preserved g t c =
-    let N = g.W.Cells.numbers in
     let laws = laws_of g in
     let set = described c.args.set.now in
-    let fine = good set c.args.set.now.well_formed c.args.set.now.heads in
     let item = c.args.item.now in
-    let most = c.args.most in
-    let first = c.args.first in
     let i = c.loop-turn._turn in
-    let cell = c.loop-turn.cell in
-    let a = c.args.walker.now in
     let b = c.loop-turn.walker in
     let inv = c.loop-turn.invariant in
     let size : size_in set item ≡ c.item_cells-size.result = sym (size_code set item c.item_cells-size.result c.item_cells-size.ensures c.requires.small) in
     let one : (i + 1) * size_in set item ≡ i * size_in set item + size_in set item = grind arith in
     record {
-      way = items_next N g.W.Walker.goes g.W.Walker.stops g.W.Walker.may laws set fine item most first i cell inv.here a b inv.way c.walk_item.new.walker c.in_ok-walk_item.ensures.ok;
+      way = items_next _ _ _ g.W.Walker.may laws set (good_of set c.args.set.now.well_formed c.args.set.now.heads) item c.args.most c.args.first i c.loop-turn.cell inv.here c.args.walker.now b inv.way c.walk_item.new.walker c.in_ok-walk_item.ensures.ok;
       long = (laws.keeps _ b c.walk_item.new.walker c.in_ok-walk_item.ensures.ok).long ∙ inv.long;
       here = omega (arith, one, size, inv.here);
     }
@@ -57,35 +53,26 @@ walk_items-loop-turn-preserved g t c =
 pub walk_items-returns-in_err-walk_item-clause-err : goal.walk_items-returns-in_err-walk_item-clause-err
 walk_items-returns-in_err-walk_item-clause-err g t c =
     let N = g.W.Cells.numbers in
-    let laws = laws_of g in
     let set = described c.args.set.now in
-    let fine = good set c.args.set.now.well_formed c.args.set.now.heads in
     let item = c.args.item.now in
     let most = c.args.most in
     let first = c.args.first in
-    let i = c.loop-turn._turn in
-    let cell = c.loop-turn.cell in
     let a = c.args.walker.now in
-    let b = c.loop-turn.walker in
     let inv = c.loop-turn.invariant in
     let d = c.walk_item.new.walker in
     let fault = c.in_err-walk_item.field-0.0 in
     err_is (λ fault. g.W.Walker.stops (steps_of (elements_slots set item most (N d) c.args.count first)) a fault d) c.from_residual.result fault c.from_residual.ensures.1
-    (items_stop N g.W.Walker.goes g.W.Walker.stops g.W.Walker.may laws set fine item most first i cell inv.here a b inv.way c.args.count (omega arith) d fault c.in_err-walk_item.ensures.err)
+    (items_stop _ _ _ g.W.Walker.may (laws_of g) set (good_of set c.args.set.now.well_formed c.args.set.now.heads) item most first c.loop-turn._turn c.loop-turn.cell inv.here a c.loop-turn.walker inv.way c.args.count (omega arith) d fault c.in_err-walk_item.ensures.err)
 
 pub walk_items-walk_item-requires : goal.walk_items-walk_item-requires
 walk_items-walk_item-requires g t c =
     let N = g.W.Cells.numbers in
-    let laws = laws_of g in
     let set = described c.args.set.now in
-    let fine = good set c.args.set.now.well_formed c.args.set.now.heads in
     let item = c.args.item.now in
-    let most = c.args.most in
     let first = c.args.first in
     let i = c.loop-turn._turn in
     let cell = c.loop-turn.cell in
     let a = c.args.walker.now in
-    let b = c.loop-turn.walker in
     let inv = c.loop-turn.invariant in
     let room = room_at i c.args.count (size_in set item) first cell (length (N a)) (omega arith) inv.here c.requires.room in
     λ κs h. (
@@ -97,7 +84,7 @@ walk_items-walk_item-requires g t c =
           (
             c.requires.reaches,
             (
-              items_may N g.W.Walker.goes g.W.Walker.stops g.W.Walker.may laws set fine item most first i cell inv.here a b inv.way c.args.count (omega arith) c.requires.may,
+              items_may _ _ _ g.W.Walker.may (laws_of g) set (good_of set c.args.set.now.well_formed c.args.set.now.heads) item c.args.most first i cell inv.here a c.loop-turn.walker inv.way c.args.count (omega arith) c.requires.may,
               (subst (λ (x : ℕ). cell + size_in set item ≤ x) (sym inv.long) room, subst (λ (x : ℕ). x ≤ MOST_ITEMS) (sym inv.long) c.requires.few),
             ),
           ),
@@ -107,19 +94,9 @@ walk_items-walk_item-requires g t c =
 
 pub walk_items-overflow_add-cell : goal.walk_items-overflow_add-cell
 walk_items-overflow_add-cell g t c =
-    let N = g.W.Cells.numbers in
-    let laws = laws_of g in
     let set = described c.args.set.now in
-    let fine = good set c.args.set.now.well_formed c.args.set.now.heads in
     let item = c.args.item.now in
-    let most = c.args.most in
-    let first = c.args.first in
-    let i = c.loop-turn._turn in
-    let cell = c.loop-turn.cell in
-    let a = c.args.walker.now in
-    let b = c.loop-turn.walker in
-    let inv = c.loop-turn.invariant in
-    let room = room_at i c.args.count (size_in set item) first cell (length (N a)) (omega arith) inv.here c.requires.room in
+    let room = room_at c.loop-turn._turn c.args.count (size_in set item) c.args.first c.loop-turn.cell (length (g.W.Cells.numbers c.args.walker.now)) (omega arith) c.loop-turn.invariant.here c.requires.room in
     omega (arith, size_code set item c.item_cells-size.result c.item_cells-size.ensures c.requires.small, room, c.requires.few)
 
 -- ---- one field
@@ -129,7 +106,6 @@ walk_field-walk_items-requires g t c =
     let N = g.W.Cells.numbers in
     let laws = laws_of g in
     let set = described c.args.set.now in
-    let fine = good set c.args.set.now.well_formed c.args.set.now.heads in
     let n = N c.args.walker.now in
     let spot = c.args.spot in
     let k = c.args.field in
@@ -140,9 +116,8 @@ walk_field-walk_items-requires g t c =
     let fields : map field_of c.as_slice.result.now ≡ (desc_at set spot.part).fields = ap (map field_of) c.as_slice.ensures ∙ ap (λ (d : Desc). d.fields) c.desc.ensures in
     let item : f.item ≡ (field_at set spot.part k).item = ap (λ (x : Field). x.item) (found_field c.as_slice.result.now (desc_at set spot.part).fields k f fields c.requires.field c.index-as_slice-field.is) in
     let well = c.args.set.now.well_formed in
-    let are = λ (m : List ℤ) (long : length m ≡ length n) (s : SameBelow cell n m). field_slots_are N g.W.Walker.goes g.W.Walker.stops g.W.Walker.may laws set fine spot c.requires.spot.part k cell c.requires.here well n m long c.requires.spot count f.item most c.requires.field item c.present-count.ensures c.most-most.ensures c.requires.room s in
+    let are = λ (m : List ℤ) (long : length m ≡ length n) (s : SameBelow cell n m). field_slots_are _ _ _ g.W.Walker.may laws set (good_of set c.args.set.now.well_formed c.args.set.now.heads) spot c.requires.spot.part k cell c.requires.here well n m long c.requires.spot count f.item most c.requires.field item c.present-count.ensures c.most-most.ensures c.requires.room s in
     let needs = field_needs set well spot n c.requires.spot k cell count f.item most c.requires.field item c.present-count.ensures c.most-most.ensures c.requires.room in
-    let lower = needs.lower in
     let above = λ (m : List ℤ). items_above (table set) (meanings_above set.structs (length set.structs)) f.item (capacities_of most) m count cell (size_in set f.item) in
     let come : MayCome g.W.Walker.goes N g.W.Walker.may (λ n. elements_slots set f.item most n count cell) c.args.walker.now = λ ys zs x d h e.
     let kept = laws.keeps ys c.args.walker.now d h in
@@ -154,7 +129,6 @@ walk_field-returns-clause-ok g t c =
     let N = g.W.Cells.numbers in
     let laws = laws_of g in
     let set = described c.args.set.now in
-    let fine = good set c.args.set.now.well_formed c.args.set.now.heads in
     let n = N c.args.walker.now in
     let spot = c.args.spot in
     let k = c.args.field in
@@ -164,15 +138,13 @@ walk_field-returns-clause-ok g t c =
     let most = c.most-most.result in
     let fields : map field_of c.as_slice.result.now ≡ (desc_at set spot.part).fields = ap (map field_of) c.as_slice.ensures ∙ ap (λ (d : Desc). d.fields) c.desc.ensures in
     let item : f.item ≡ (field_at set spot.part k).item = ap (λ (x : Field). x.item) (found_field c.as_slice.result.now (desc_at set spot.part).fields k f fields c.requires.field c.index-as_slice-field.is) in
-    let well = c.args.set.now.well_formed in
-    let are = λ (m : List ℤ) (long : length m ≡ length n) (s : SameBelow cell n m). field_slots_are N g.W.Walker.goes g.W.Walker.stops g.W.Walker.may laws set fine spot c.requires.spot.part k cell c.requires.here well n m long c.requires.spot count f.item most c.requires.field item c.present-count.ensures c.most-most.ensures c.requires.room s in
+    let are = λ (m : List ℤ) (long : length m ≡ length n) (s : SameBelow cell n m). field_slots_are _ _ _ g.W.Walker.may laws set (good_of set c.args.set.now.well_formed c.args.set.now.heads) spot c.requires.spot.part k cell c.requires.here c.args.set.now.well_formed n m long c.requires.spot count f.item most c.requires.field item c.present-count.ensures c.most-most.ensures c.requires.room s in
     let a = c.args.walker.now in
     let b = c.walk_items.new.walker in
-    let slots = elements_slots set f.item most (N b) count cell in
     ok_then c.walk_items.result
     (λ h.
     let kept = laws.keeps _ a b h in
-    subst (λ (l : List WalkStep). g.W.Walker.goes l a b) (sym (are (N b) kept.long (keeps_below cell slots n (N b) (items_above (table set) (meanings_above set.structs (length set.structs)) f.item (capacities_of most) (N b) count cell (size_in set f.item)) kept))) h)
+    subst (λ (l : List WalkStep). g.W.Walker.goes l a b) (sym (are (N b) kept.long (keeps_below cell (elements_slots set f.item most (N b) count cell) n (N b) (items_above (table set) (meanings_above set.structs (length set.structs)) f.item (capacities_of most) (N b) count cell (size_in set f.item)) kept))) h)
     c.walk_items.ensures.ok
 
 pub walk_field-returns-clause-err : goal.walk_field-returns-clause-err
@@ -180,7 +152,6 @@ walk_field-returns-clause-err g t c =
     let N = g.W.Cells.numbers in
     let laws = laws_of g in
     let set = described c.args.set.now in
-    let fine = good set c.args.set.now.well_formed c.args.set.now.heads in
     let n = N c.args.walker.now in
     let spot = c.args.spot in
     let k = c.args.field in
@@ -190,12 +161,11 @@ walk_field-returns-clause-err g t c =
     let most = c.most-most.result in
     let fields : map field_of c.as_slice.result.now ≡ (desc_at set spot.part).fields = ap (map field_of) c.as_slice.ensures ∙ ap (λ (d : Desc). d.fields) c.desc.ensures in
     let item : f.item ≡ (field_at set spot.part k).item = ap (λ (x : Field). x.item) (found_field c.as_slice.result.now (desc_at set spot.part).fields k f fields c.requires.field c.index-as_slice-field.is) in
-    let well = c.args.set.now.well_formed in
-    let are = λ (m : List ℤ) (long : length m ≡ length n) (s : SameBelow cell n m). field_slots_are N g.W.Walker.goes g.W.Walker.stops g.W.Walker.may laws set fine spot c.requires.spot.part k cell c.requires.here well n m long c.requires.spot count f.item most c.requires.field item c.present-count.ensures c.most-most.ensures c.requires.room s in
+    let are = λ (m : List ℤ) (long : length m ≡ length n) (s : SameBelow cell n m). field_slots_are _ _ _ g.W.Walker.may laws set (good_of set c.args.set.now.well_formed c.args.set.now.heads) spot c.requires.spot.part k cell c.requires.here c.args.set.now.well_formed n m long c.requires.spot count f.item most c.requires.field item c.present-count.ensures c.most-most.ensures c.requires.room s in
     let a = c.args.walker.now in
     let b = c.walk_items.new.walker in
     let slots = elements_slots set f.item most (N b) count cell in
-    err_then (λ fault. g.W.Walker.stops (steps_of slots) a fault b) (λ fault. g.W.Walker.stops (steps_of (slots_at set spot (N b) k cell)) a fault b) c.walk_items.result
+    IfErr-weaker c.walk_items.result (λ fault. g.W.Walker.stops (steps_of slots) a fault b) (λ fault. g.W.Walker.stops (steps_of (slots_at set spot (N b) k cell)) a fault b)
     (λ fault h.
     let kept = laws.stopped _ a b fault h in
     subst (λ (l : List WalkStep). g.W.Walker.stops l a fault b) (sym (are (N b) kept.long (keeps_below cell slots n (N b) (items_above (table set) (meanings_above set.structs (length set.structs)) f.item (capacities_of most) (N b) count cell (size_in set f.item)) kept))) h)
@@ -219,12 +189,11 @@ walk-loop-field-preserved g t c =
     let N = g.W.Cells.numbers in
     let laws = laws_of g in
     let set = described c.args.set.now in
-    let fine = good set c.args.set.now.well_formed c.args.set.now.heads in
+    let fine = good_of set c.args.set.now.well_formed c.args.set.now.heads in
     let spot = c.args.spot in
     let all = (desc_at set spot.part).fields in
     let i = c.loop-field.field in
     let cell = c.loop-field.cell in
-    let a = c.args.walker.now in
     let b = c.loop-field.walker in
     let inv = c.loop-field.invariant in
     let part = c.requires.spot.part in
@@ -234,13 +203,12 @@ walk-loop-field-preserved g t c =
     record { part = part; few = subst (λ (x : ℕ). x ≤ MOST_ITEMS) (sym inv.long) c.requires.spot.few; room = subst (λ (x : ℕ). spot.base + own_cell_count set (desc_at set spot.part) ≤ x) (sym inv.long) c.requires.spot.room } in
     let next = next_field set c.args.set.now.well_formed spot (N b) has i cell lt inv.room in
     let f = field_at set spot.part i in
-    let w = capacity_of f.count * size_in set f.item in
     let d = c.walk_field.new.walker in
-    let width : w ≡ c.field_cells-cell.result = sym (width_code set f c.field_cells-cell.result c.field_cells-cell.ensures (omega (arith, next.room, has.few))) in
+    let width : (capacity_of f.count * size_in set f.item) ≡ c.field_cells-cell.result = sym (width_code set f c.field_cells-cell.result c.field_cells-cell.ensures (omega (arith, next.room, has.few))) in
     let kept = laws.keeps _ b d c.in_ok-walk_field.ensures.ok in
     let place = next_place (table set) (set_settled set fine) (desc_at set spot.part) (part_sound set fine spot.part part) spot.version spot.base i lt in
     record {
-      way = fields_next N g.W.Walker.goes g.W.Walker.stops g.W.Walker.may laws set fine spot part i cell inv.here a b le inv.way lt d c.in_ok-walk_field.ensures.ok;
+      way = fields_next _ _ _ g.W.Walker.may laws set fine spot part i cell inv.here c.args.walker.now b le inv.way lt d c.in_ok-walk_field.ensures.ok;
       long = kept.long ∙ inv.long;
       here = omega (arith, place, inv.here, width, field_size (cells_in (table set)) all i f);
       room = subst (λ (x : ℕ). (cell + c.field_cells-cell.result) + length (cells_from (cells_in (table set)) all (i + 1) (drop (i + 1) all)) ≤ x) (sym kept.long)
@@ -250,35 +218,27 @@ walk-loop-field-preserved g t c =
 pub walk-returns-in_err-walk_field-clause-err : goal.walk-returns-in_err-walk_field-clause-err
 walk-returns-in_err-walk_field-clause-err g t c =
     let N = g.W.Cells.numbers in
-    let laws = laws_of g in
     let set = described c.args.set.now in
-    let fine = good set c.args.set.now.well_formed c.args.set.now.heads in
     let spot = c.args.spot in
     let all = (desc_at set spot.part).fields in
     let i = c.loop-field.field in
-    let cell = c.loop-field.cell in
     let a = c.args.walker.now in
-    let b = c.loop-field.walker in
     let inv = c.loop-field.invariant in
-    let part = c.requires.spot.part in
     let le : i ≤ length all = omega (arith, c.field_count-field-end.ensures) in
     let lt : i < length all = omega (arith, c.field_count-field-end.ensures) in
     let d = c.walk_field.new.walker in
     let fault = c.in_err-walk_field.field-0.0 in
     err_is (λ fault. g.W.Walker.stops (steps_of (spot_slots set spot (N d))) a fault d) c.from_residual.result fault c.from_residual.ensures.1
-    (fields_stop N g.W.Walker.goes g.W.Walker.stops g.W.Walker.may laws set fine spot part i cell inv.here a b le inv.way lt d fault c.in_err-walk_field.ensures.err)
+    (fields_stop _ _ _ g.W.Walker.may (laws_of g) set (good_of set c.args.set.now.well_formed c.args.set.now.heads) spot c.requires.spot.part i c.loop-field.cell inv.here a c.loop-field.walker le inv.way lt d fault c.in_err-walk_field.ensures.err)
 
 pub walk-walk_field-requires : goal.walk-walk_field-requires
 walk-walk_field-requires g t c =
     let N = g.W.Cells.numbers in
-    let laws = laws_of g in
     let set = described c.args.set.now in
-    let fine = good set c.args.set.now.well_formed c.args.set.now.heads in
     let spot = c.args.spot in
     let all = (desc_at set spot.part).fields in
     let i = c.loop-field.field in
     let cell = c.loop-field.cell in
-    let a = c.args.walker.now in
     let b = c.loop-field.walker in
     let inv = c.loop-field.invariant in
     let part = c.requires.spot.part in
@@ -286,22 +246,15 @@ walk-walk_field-requires g t c =
     let lt : i < length all = omega (arith, c.field_count-field-end.ensures) in
     let has : HasSpot set spot (N b) =
     record { part = part; few = subst (λ (x : ℕ). x ≤ MOST_ITEMS) (sym inv.long) c.requires.spot.few; room = subst (λ (x : ℕ). spot.base + own_cell_count set (desc_at set spot.part) ≤ x) (sym inv.long) c.requires.spot.room } in
-    let next = next_field set c.args.set.now.well_formed spot (N b) has i cell lt inv.room in
-    let f = field_at set spot.part i in
-    let w = capacity_of f.count * size_in set f.item in
-    λ κs h. (search rules, (search rules, (search rules, (has, (lt, (inv.here, (fields_may N g.W.Walker.goes g.W.Walker.stops g.W.Walker.may laws set fine spot part i cell inv.here a b le inv.way lt c.requires.may, next.room)))))))
+    λ κs h. (search rules, (search rules, (search rules, (has, (lt, (inv.here, (fields_may _ _ _ g.W.Walker.may (laws_of g) set (good_of set c.args.set.now.well_formed c.args.set.now.heads) spot part i cell inv.here c.args.walker.now b le inv.way lt c.requires.may, (next_field set c.args.set.now.well_formed spot (N b) has i cell lt inv.room).room)))))))
 
 pub walk-overflow_add-cell : goal.walk-overflow_add-cell
 walk-overflow_add-cell g t c =
     let N = g.W.Cells.numbers in
-    let laws = laws_of g in
     let set = described c.args.set.now in
-    let fine = good set c.args.set.now.well_formed c.args.set.now.heads in
     let spot = c.args.spot in
     let all = (desc_at set spot.part).fields in
     let i = c.loop-field.field in
-    let cell = c.loop-field.cell in
-    let a = c.args.walker.now in
     let b = c.loop-field.walker in
     let inv = c.loop-field.invariant in
     let part = c.requires.spot.part in
@@ -309,119 +262,97 @@ walk-overflow_add-cell g t c =
     let lt : i < length all = omega (arith, c.field_count-field-end.ensures) in
     let has : HasSpot set spot (N b) =
     record { part = part; few = subst (λ (x : ℕ). x ≤ MOST_ITEMS) (sym inv.long) c.requires.spot.few; room = subst (λ (x : ℕ). spot.base + own_cell_count set (desc_at set spot.part) ≤ x) (sym inv.long) c.requires.spot.room } in
-    let next = next_field set c.args.set.now.well_formed spot (N b) has i cell lt inv.room in
-    let f = field_at set spot.part i in
-    let w = capacity_of f.count * size_in set f.item in
-    omega (arith, width_code set f c.field_cells-cell.result c.field_cells-cell.ensures (omega (arith, next.room, has.few)), next.room, has.few)
+    let next = next_field set c.args.set.now.well_formed spot (N b) has i c.loop-field.cell lt inv.room in
+    omega (arith, width_code set (field_at set spot.part i) c.field_cells-cell.result c.field_cells-cell.ensures (omega (arith, next.room, has.few)), next.room, has.few)
 
 pub walk-step-requires-clause-may : goal.walk-step-requires-clause-may
 walk-step-requires-clause-may g t c =
     let N = g.W.Cells.numbers in
-    let laws = laws_of g in
     let set = described c.args.set.now in
-    let fine = good set c.args.set.now.well_formed c.args.set.now.heads in
     let spot = c.args.spot in
     let all = (desc_at set spot.part).fields in
     let i = c.loop-field.field in
-    let cell = c.loop-field.cell in
-    let a = c.args.walker.now in
     let b = c.loop-field.walker in
     let inv = c.loop-field.invariant in
-    let part = c.requires.spot.part in
     let le : i ≤ length all = omega (arith, c.field_count-field-end.ensures) in
     let end : i ≡ length all = omega (arith, c.field_count-field-end.ensures) in
     let d = desc_at set spot.part in
     let holds : c.holds_rules-holds.result ≡ all_hold d.validate spot.version (spot_numbers set spot (N b)) = c.holds_rules-holds.ensures ∙ ap (all_hold d.validate spot.version) (own_is set spot (N b)) in
-    subst (λ (x : Bool). g.W.Walker.may b (steps.Rule x)) (sym holds) (rule_may N g.W.Walker.goes g.W.Walker.stops g.W.Walker.may laws set fine spot part i cell inv.here a b le inv.way end c.requires.may)
+    subst (λ (x : Bool). g.W.Walker.may b (steps.Rule x)) (sym holds) (rule_may _ _ _ g.W.Walker.may (laws_of g) set (good_of set c.args.set.now.well_formed c.args.set.now.heads) spot c.requires.spot.part i c.loop-field.cell inv.here c.args.walker.now b le inv.way end c.requires.may)
 
 pub walk-returns-clause-ok : goal.walk-returns-clause-ok
 walk-returns-clause-ok g t c =
     let N = g.W.Cells.numbers in
     let laws = laws_of g in
     let set = described c.args.set.now in
-    let fine = good set c.args.set.now.well_formed c.args.set.now.heads in
     let spot = c.args.spot in
     let all = (desc_at set spot.part).fields in
     let i = c.loop-field.field in
-    let cell = c.loop-field.cell in
-    let a = c.args.walker.now in
     let b = c.loop-field.walker in
     let inv = c.loop-field.invariant in
-    let part = c.requires.spot.part in
     let le : i ≤ length all = omega (arith, c.field_count-field-end.ensures) in
     let end : i ≡ length all = omega (arith, c.field_count-field-end.ensures) in
     let d = desc_at set spot.part in
     let holds : c.holds_rules-holds.result ≡ all_hold d.validate spot.version (spot_numbers set spot (N b)) = c.holds_rules-holds.ensures ∙ ap (all_hold d.validate spot.version) (own_is set spot (N b)) in
     let e = c.step.new.self in
-    ok_then c.step.result (λ h. rule_next N g.W.Walker.goes g.W.Walker.stops g.W.Walker.may laws set fine spot part i cell inv.here a b le inv.way end e (same_rule _ (N b) (N e) (laws.keeps _ b e h)) (subst (λ (x : Bool). g.W.Walker.goes (steps.Rule x ∷ []) b e) holds h)) c.step.ensures.ok
+    ok_then c.step.result (λ h. rule_next _ _ _ g.W.Walker.may laws set (good_of set c.args.set.now.well_formed c.args.set.now.heads) spot c.requires.spot.part i c.loop-field.cell inv.here c.args.walker.now b le inv.way end e (same_rule _ (N b) (N e) (laws.keeps _ b e h)) (subst (λ (x : Bool). g.W.Walker.goes (steps.Rule x ∷ []) b e) holds h)) c.step.ensures.ok
 
 pub walk-returns-clause-err : goal.walk-returns-clause-err
 walk-returns-clause-err g t c =
     let N = g.W.Cells.numbers in
     let laws = laws_of g in
     let set = described c.args.set.now in
-    let fine = good set c.args.set.now.well_formed c.args.set.now.heads in
     let spot = c.args.spot in
     let all = (desc_at set spot.part).fields in
     let i = c.loop-field.field in
-    let cell = c.loop-field.cell in
     let a = c.args.walker.now in
     let b = c.loop-field.walker in
     let inv = c.loop-field.invariant in
-    let part = c.requires.spot.part in
     let le : i ≤ length all = omega (arith, c.field_count-field-end.ensures) in
     let end : i ≡ length all = omega (arith, c.field_count-field-end.ensures) in
     let d = desc_at set spot.part in
     let holds : c.holds_rules-holds.result ≡ all_hold d.validate spot.version (spot_numbers set spot (N b)) = c.holds_rules-holds.ensures ∙ ap (all_hold d.validate spot.version) (own_is set spot (N b)) in
     let e = c.step.new.self in
-    err_then (λ fault. g.W.Walker.stops (steps.Rule c.holds_rules-holds.result ∷ []) b fault e) (λ fault. g.W.Walker.stops (steps_of (spot_slots set spot (N e))) a fault e) c.step.result
-    (λ fault h. rule_stop N g.W.Walker.goes g.W.Walker.stops g.W.Walker.may laws set fine spot part i cell inv.here a b le inv.way end e fault (same_rule _ (N b) (N e) (laws.stopped _ b e fault h)) (subst (λ (x : Bool). g.W.Walker.stops (steps.Rule x ∷ []) b fault e) holds h)) c.step.ensures.err
+    IfErr-weaker c.step.result (λ fault. g.W.Walker.stops (steps.Rule c.holds_rules-holds.result ∷ []) b fault e) (λ fault. g.W.Walker.stops (steps_of (spot_slots set spot (N e))) a fault e)
+    (λ fault h. rule_stop _ _ _ g.W.Walker.may laws set (good_of set c.args.set.now.well_formed c.args.set.now.heads) spot c.requires.spot.part i c.loop-field.cell inv.here a b le inv.way end e fault (same_rule _ (N b) (N e) (laws.stopped _ b e fault h)) (subst (λ (x : Bool). g.W.Walker.stops (steps.Rule x ∷ []) b fault e) holds h)) c.step.ensures.err
 
 -- ---- one element
 
 pub walk_item-step-requires-clause-may : goal.walk_item-step-requires-clause-may
 walk_item-step-requires-clause-may g t c =
-    let set = described c.args.set.now in
-    let here = λ (x : Item). steps_of (item_slots (table set) x (capacities_of c.args.most) (g.W.Cells.numbers c.args.walker.now) c.args.cell) in
+    let here = λ (x : Item). steps_of (item_slots (table (described c.args.set.now)) x (capacities_of c.args.most) (g.W.Cells.numbers c.args.walker.now) c.args.cell) in
     c.requires.may [] [] _ c.args.walker.now (g.met.W.Walker.none c.args.walker.now) (ap here c.in-Num.is ∙ ap (λ (o : Option ℕ). steps.Number c.args.cell c.in-Num.kind o ∷ []) (least_again c.args.most))
 
 pub walk_item-step-requires-in-Equal-clause-may : goal.walk_item-step-requires-in-Equal-clause-may
 walk_item-step-requires-in-Equal-clause-may g t c =
-    let set = described c.args.set.now in
-    let here = λ (x : Item). steps_of (item_slots (table set) x (capacities_of c.args.most) (g.W.Cells.numbers c.args.walker.now) c.args.cell) in
+    let here = λ (x : Item). steps_of (item_slots (table (described c.args.set.now)) x (capacities_of c.args.most) (g.W.Cells.numbers c.args.walker.now) c.args.cell) in
     let may : g.W.Walker.may c.args.walker.now (steps.Constant c.in-Equal.kind c.in-Equal.value) = c.requires.may [] [] _ c.args.walker.now (g.met.W.Walker.none c.args.walker.now) (ap here c.in-Equal.is) in
     search rules
 
 pub walk_item-step-requires-in-Unused-clause-may : goal.walk_item-step-requires-in-Unused-clause-may
 walk_item-step-requires-in-Unused-clause-may g t c =
-    let set = described c.args.set.now in
-    let here = λ (x : Item). steps_of (item_slots (table set) x (capacities_of c.args.most) (g.W.Cells.numbers c.args.walker.now) c.args.cell) in
+    let here = λ (x : Item). steps_of (item_slots (table (described c.args.set.now)) x (capacities_of c.args.most) (g.W.Cells.numbers c.args.walker.now) c.args.cell) in
     c.requires.may [] [] _ c.args.walker.now (g.met.W.Walker.none c.args.walker.now) (ap here c.in-Unused.is)
 
 pub walk_item-walk_struct-requires : goal.walk_item-walk_struct-requires
 walk_item-walk_struct-requires g t c =
     let set = described c.args.set.now in
     let N = g.W.Cells.numbers in
-    let n = N c.args.walker.now in
     let is = c.in-Struct.is in
     let reaches = subst (λ (x : Item). uses_below (length set.structs) x ≡ true) is c.requires.reaches in
-    let room = subst (λ (x : Item). c.args.cell + size_in set x ≤ length n) is c.requires.room in
+    let room = subst (λ (x : Item). c.args.cell + size_in set x ≤ length (N c.args.walker.now)) is c.requires.room in
     let slots = λ (m : List ℤ). ap (λ (x : Item). item_slots (table set) x (capacities_of c.args.most) m c.args.cell) is in
     λ κs h. (search rules, (search rules, (search rules, (reaches, (λ ys zs x d k e. c.requires.may ys zs x d k (ap steps_of (slots (N d)) ∙ e), (room, c.requires.few))))))
 
 pub walk_item-returns-in-Struct-clause-ok : goal.walk_item-returns-in-Struct-clause-ok
 walk_item-returns-in-Struct-clause-ok g t c =
-    let set = described c.args.set.now in
-    let N = g.W.Cells.numbers in
-    let slots = λ (m : List ℤ). ap (λ (x : Item). item_slots (table set) x (capacities_of c.args.most) m c.args.cell) c.in-Struct.is in
-    subst (λ (l : List Slot). OnOk c.walk_struct.result (g.W.Walker.goes (steps_of l) c.args.walker.now c.walk_struct.new.walker)) (sym (slots (N c.walk_struct.new.walker))) c.walk_struct.ensures.ok
+    let slots = λ (m : List ℤ). ap (λ (x : Item). item_slots (table (described c.args.set.now)) x (capacities_of c.args.most) m c.args.cell) c.in-Struct.is in
+    subst (λ (l : List Slot). OnOk c.walk_struct.result (g.W.Walker.goes (steps_of l) c.args.walker.now c.walk_struct.new.walker)) (sym (slots (g.W.Cells.numbers c.walk_struct.new.walker))) c.walk_struct.ensures.ok
 
 pub walk_item-returns-in-Struct-clause-err : goal.walk_item-returns-in-Struct-clause-err
 walk_item-returns-in-Struct-clause-err g t c =
-    let set = described c.args.set.now in
-    let N = g.W.Cells.numbers in
-    let slots = λ (m : List ℤ). ap (λ (x : Item). item_slots (table set) x (capacities_of c.args.most) m c.args.cell) c.in-Struct.is in
-    subst (λ (l : List Slot). IfErr c.walk_struct.result (λ fault. g.W.Walker.stops (steps_of l) c.args.walker.now fault c.walk_struct.new.walker)) (sym (slots (N c.walk_struct.new.walker))) c.walk_struct.ensures.err
+    let slots = λ (m : List ℤ). ap (λ (x : Item). item_slots (table (described c.args.set.now)) x (capacities_of c.args.most) m c.args.cell) c.in-Struct.is in
+    subst (λ (l : List Slot). IfErr c.walk_struct.result (λ fault. g.W.Walker.stops (steps_of l) c.args.walker.now fault c.walk_struct.new.walker)) (sym (slots (g.W.Cells.numbers c.walk_struct.new.walker))) c.walk_struct.ensures.err
 
 -- ---- an element of a structure
 
@@ -429,33 +360,29 @@ pub walk_struct-walk-requires : goal.walk_struct-walk-requires
 walk_struct-walk-requires g t c =
     let set = described c.args.set.now in
     let N = g.W.Cells.numbers in
-    let n = N c.args.walker.now in
     let j = c.args.number in
     let well = c.args.set.now.well_formed in
     let lt : j < length set.structs = ltb-true j (length set.structs) c.requires.reaches in
     let version : c.desc.result.now.version ≡ (get_or set.structs j no_desc).version = ap (λ (d : Desc). d.version) c.desc.ensures in
     let slots = λ (m : List ℤ). struct_spot set well j lt c.desc.result.now.version c.args.cell m version [] in
-    let size = struct_size set well j lt in
-    let spot : HasSpot set (record { part = parts.Struct j; version = c.desc.result.now.version; base = c.args.cell }) n =
-    record { part = lt; few = c.requires.few; room = omega (arith, size, c.requires.room) } in
+    let spot : HasSpot set (record { part = parts.Struct j; version = c.desc.result.now.version; base = c.args.cell }) (N c.args.walker.now) =
+    record { part = lt; few = c.requires.few; room = omega (arith, (struct_size set well j lt), c.requires.room) } in
     λ κs h. (search rules, (search rules, (search rules, (spot, λ ys zs x d k e. c.requires.may ys zs x d k (ap steps_of (slots (N d)) ∙ e)))))
 
 pub walk_struct-returns-clause-ok : goal.walk_struct-returns-clause-ok
 walk_struct-returns-clause-ok g t c =
     let set = described c.args.set.now in
-    let N = g.W.Cells.numbers in
     let j = c.args.number in
     let lt : j < length set.structs = ltb-true j (length set.structs) c.requires.reaches in
     let version : c.desc.result.now.version ≡ (get_or set.structs j no_desc).version = ap (λ (d : Desc). d.version) c.desc.ensures in
     let slots = λ (m : List ℤ). struct_spot set c.args.set.now.well_formed j lt c.desc.result.now.version c.args.cell m version [] in
-    subst (λ (l : List Slot). OnOk c.walk.result (g.W.Walker.goes (steps_of l) c.args.walker.now c.walk.new.walker)) (sym (slots (N c.walk.new.walker))) c.walk.ensures.ok
+    subst (λ (l : List Slot). OnOk c.walk.result (g.W.Walker.goes (steps_of l) c.args.walker.now c.walk.new.walker)) (sym (slots (g.W.Cells.numbers c.walk.new.walker))) c.walk.ensures.ok
 
 pub walk_struct-returns-clause-err : goal.walk_struct-returns-clause-err
 walk_struct-returns-clause-err g t c =
     let set = described c.args.set.now in
-    let N = g.W.Cells.numbers in
     let j = c.args.number in
     let lt : j < length set.structs = ltb-true j (length set.structs) c.requires.reaches in
     let version : c.desc.result.now.version ≡ (get_or set.structs j no_desc).version = ap (λ (d : Desc). d.version) c.desc.ensures in
     let slots = λ (m : List ℤ). struct_spot set c.args.set.now.well_formed j lt c.desc.result.now.version c.args.cell m version [] in
-    subst (λ (l : List Slot). IfErr c.walk.result (λ fault. g.W.Walker.stops (steps_of l) c.args.walker.now fault c.walk.new.walker)) (sym (slots (N c.walk.new.walker))) c.walk.ensures.err
+    subst (λ (l : List Slot). IfErr c.walk.result (λ fault. g.W.Walker.stops (steps_of l) c.args.walker.now fault c.walk.new.walker)) (sym (slots (g.W.Cells.numbers c.walk.new.walker))) c.walk.ensures.err

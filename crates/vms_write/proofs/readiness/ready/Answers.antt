@@ -2,9 +2,9 @@ use Rattle.std.proofs.Common.{◌&&◌, arith, ap, sym, ◌∙◌, refl, Bool}
 use Rattle.vms_desc.specs.Described.{described, device_at}
 use Rattle.vms_image.specs.Typed.{state_of}
 use Rattle.vms_desc.proofs.AskLaws.{few_cells}
+use Rattle.vms_desc.proofs.Bounds.{good_of}
 use Rattle.vms_write.specs.Judged.{forms_of, all_subs_fine}
 use Rattle.vms_write.proofs.FineReady.{ready_by, other_by}
-use Rattle.vms_write.proofs.ReadyImages.{good_of}
 use Rattle.vms_write.proofs.readiness.ready.Goals as goal
 
 pub is_own_fine-requires : goal.is_own_fine-requires

@@ -1,0 +1,152 @@
+-- What is carried of a run of cells, cell by cell: the older number where it stands in the bytes, else the default.
+use Rattle.std.proofs.Common.{◌≡◌, ◌⊎◌, inl, inr, ℕ, zero, suc, ◌+◌, ◌<◌, ◌≤◌, Bool, true, false, ◌||◌, List, [], ◌∷◌, ◌++◌, length, length-append, get_or, replicate, Option, Some, None, ℤ, pos, refl, sym, ap, ◌∙◌, subst, arith}
+use Rattle.std.specs.List.{slice_get}
+use Rattle.std.proofs.lemmas.List.{get_or_append_left, get_or-append-add}
+use Rattle.std.proofs.Math.Bool.{or-false}
+use Rattle.vms_spec.specs.Layout.{Cell, no_cell, Slot}
+use Rattle.vms_spec.specs.Images.{has_cell}
+use Rattle.vms_spec.proofs.ListLaws.{or_second}
+use Rattle.std.proofs.lemmas.Bool.{or_parts}
+use Rattle.vms_bodies.proofs.Names.{names_append}
+use Rattle.vms_bodies.proofs.SectionLaws.{defaults_at, defaults_long}
+use Rattle.vms_check.specs.Carrying.{defaults}
+use Rattle.vms_check_laws.proofs.PairLists.{AreFrom, IsBehind, at_left, at_right, at_none, before_or_behind, paired_append}
+
+-- slots of cells between a place and its end alone
+pub record IsWithin (at size : ℕ) (slots : List Slot) : Type 0 where
+  pub in_range : (c : ℕ) → has_cell slots c ≡ true → (at ≤ c) × (c < at + size)
+
+pub record Goes (cells others : List Cell) (numbers : List ℤ) (slots : List Slot) (at at' : ℕ) (partners : List (Option ℕ)) (segment : List ℤ) : Type 0 where
+  pub paired : AreFrom cells others at' partners
+  pub within : IsWithin at (length cells) slots
+  pub long : length segment ≡ length others
+  pub taken : (c r : ℕ) → slice_get partners c ≡ Some (Some (at' + r)) → has_cell slots (at + c) ≡ true → get_or segment r (pos 0) ≡ get_or numbers (at + c) (pos 0)
+  pub other : (r : ℕ) → r < length others → ((c : ℕ) → slice_get partners c ≡ Some (Some (at' + r)) → has_cell slots (at + c) ≡ false)
+      → get_or segment r (pos 0) ≡ (get_or others r no_cell).default
+
+pub none_within : (at size : ℕ) → IsWithin at size []
+none_within at size = record { in_range = λ c h. absurd (cc) }
+
+-- where none of the cells stands in the bytes, all is default
+pub goes_absent : (cells others : List Cell) (numbers : List ℤ) (at at' : ℕ) (partners : List (Option ℕ)) → AreFrom cells others at' partners → Goes cells others numbers [] at at' partners (defaults others)
+goes_absent cells others numbers at at' partners h = record {
+  paired = h;
+  within = none_within at (length cells);
+  long = defaults_long others;
+  taken = λ c r e f. absurd (cc);
+  other = λ r lt f. defaults_at others r;
+}
+
+-- and where none has a partner
+pub goes_alone : (cells others : List Cell) (numbers : List ℤ) (slots : List Slot) (at at' n : ℕ) → n ≡ length cells → IsWithin at (length cells) slots → AreFrom cells others at' (replicate n None)
+    → Goes cells others numbers slots at at' (replicate n None) (defaults others)
+goes_alone cells others numbers slots at at' n e w h = record {
+  paired = h;
+  within = w;
+  long = defaults_long others;
+  taken = λ c r f g. absurd (at_none n c (at' + r) f);
+  other = λ r lt f. defaults_at others r;
+}
+
+pub false_of : (b : Bool) → (b ≡ true → ⊥) → b ≡ false
+false_of true h = absurd (h refl)
+false_of false h = refl
+
+within_append : (at m n : ℕ) (xs ys : List Slot) → IsWithin at m xs → IsWithin (at + m) n ys → IsWithin at (m + n) (xs ++ ys)
+within_append at m n xs ys p q = record { in_range = λ c h. go c (has_cell xs c) refl (sym (names_append xs ys c) ∙ h) } where
+  go : (c : ℕ) (b : Bool) → has_cell xs c ≡ b → (has_cell xs c || has_cell ys c) ≡ true → (at ≤ c) × (c < at + (m + n))
+  go c true e h = let r = p.in_range c e in let high = r.1 in (r.0, omega (arith, high))
+  go c false e h =
+      let r = q.in_range c (or_second (has_cell xs c) (has_cell ys c) h e) in
+      let low = r.0 in
+      let high = r.1 in
+      (omega (arith, low), omega (arith, high))
+
+module _ (cells_a cells_b others_a others_b : List Cell) (numbers : List ℤ) (xs ys : List Slot) (at at' : ℕ) (p q : List (Option ℕ)) (s t : List ℤ)
+    (h : Goes cells_a others_a numbers xs at at' p s) (g : Goes cells_b others_b numbers ys (at + length cells_a) (at' + length others_a) q t) where
+  abbrev next : ℕ
+  next = at + length cells_a
+
+  -- before the seam the second slots have none, behind it the first
+  second_none : (c : ℕ) → c < next → has_cell ys c ≡ false
+  second_none c lt = false_of (has_cell ys c) (λ e. let r = (g.within.in_range c e).0 in omega (arith, lt, r))
+
+  first_none : (c : ℕ) → next ≤ c → has_cell xs c ≡ false
+  first_none c le = false_of (has_cell xs c) (λ e. let r = (h.within.in_range c e).1 in omega (arith, le, r))
+
+  has_first : (c : ℕ) → c < next → has_cell (xs ++ ys) c ≡ has_cell xs c
+  has_first c lt = names_append xs ys c ∙ ap (λ (b : Bool). has_cell xs c || b) (second_none c lt) ∙ or-false (has_cell xs c)
+
+  has_second : (c : ℕ) → next ≤ c → has_cell (xs ++ ys) c ≡ has_cell ys c
+  has_second c le = names_append xs ys c ∙ ap (λ (b : Bool). b || has_cell ys c) (first_none c le)
+
+  paired : AreFrom (cells_a ++ cells_b) (others_a ++ others_b) at' (p ++ q)
+  paired = paired_append cells_a cells_b others_a others_b at' p q h.paired g.paired
+
+  abbrev HasIt : ℕ → ℕ → Type 0
+  HasIt c r = slice_get (p ++ q) c ≡ Some (Some (at' + r))
+
+  taken_at : (c r : ℕ) → HasIt c r → has_cell (xs ++ ys) (at + c) ≡ true → (c < length p) ⊎ IsBehind (length p) c → get_or (s ++ t) r (pos 0) ≡ get_or numbers (at + c) (pos 0)
+  taken_at c r e f (inl lt) =
+      let long = h.paired.long in
+      let place : slice_get p c ≡ Some (Some (at' + r)) = sym (at_left p q c lt) ∙ e in
+      let pair = h.paired.pairs c (at' + r) place in
+      let is = pair.is in
+      let inside = pair.inside in
+      let size = h.long in
+      get_or_append_left s t (pos 0) r (omega (arith, is, inside, size))
+      ∙ h.taken c r place (sym (has_first (at + c) (omega (arith, lt, long))) ∙ f)
+  taken_at c r e f (inr b) =
+      let long = h.paired.long in
+      let b_is = b.is in
+      let place : slice_get q b.more ≡ Some (Some (at' + r)) = sym (at_right p q b.more) ∙ ap (slice_get (p ++ q)) (sym b_is) ∙ e in
+      let pair = g.paired.pairs b.more (at' + r) place in
+      let is = pair.is in
+      let size = h.long in
+      let r_is : r ≡ length s + pair.r = omega (arith, is, size) in
+      let k_is : at' + r ≡ (at' + length others_a) + pair.r = omega (arith, is) in
+      let c_is : at + c ≡ next + b.more = omega (arith, b_is, long) in
+      ap (λ (i : ℕ). get_or (s ++ t) i (pos 0)) r_is ∙ get_or-append-add s t pair.r (pos 0)
+      ∙ g.taken b.more pair.r (subst (λ (i : ℕ). slice_get q b.more ≡ Some (Some i)) k_is place)
+      (ap (has_cell ys) (sym c_is) ∙ sym (has_second (at + c) (omega (arith, b_is, long))) ∙ f)
+      ∙ ap (λ (i : ℕ). get_or numbers i (pos 0)) (sym c_is)
+
+  other_at : (r : ℕ) → r < length (others_a ++ others_b) → ((c : ℕ) → HasIt c r → has_cell (xs ++ ys) (at + c) ≡ false) → (r < length others_a) ⊎ IsBehind (length others_a) r
+      → get_or (s ++ t) r (pos 0) ≡ (get_or (others_a ++ others_b) r no_cell).default
+  other_at r lt f (inl less) =
+      let size = h.long in
+      get_or_append_left s t (pos 0) r (omega (arith, less, size))
+      ∙ h.other r less (λ c e. (or_parts (has_cell xs (at + c)) (has_cell ys (at + c)) (sym (names_append xs ys (at + c)) ∙ f c (at_left p q c (in_p c e) ∙ e))).0)
+      ∙ sym (ap (λ (x : Cell). x.default) (get_or_append_left others_a others_b no_cell r less))
+    where
+      inside_some : (p : List (Option ℕ)) (c k : ℕ) → slice_get p c ≡ Some (Some k) → c < length p
+      inside_some [] c k e = cc
+      inside_some (o ∷ p) zero k e = omega arith
+      inside_some (o ∷ p) (suc c) k e = let l = inside_some p c k e in omega (arith, l)
+
+      in_p : (c : ℕ) → slice_get p c ≡ Some (Some (at' + r)) → c < length p
+      in_p c e = inside_some p c (at' + r) e
+  other_at r lt f (inr b) =
+      let size = h.long in
+      let b_is = b.is in
+      let long = h.paired.long in
+      let r_is : r ≡ length s + b.more = omega (arith, b_is, size) in
+      ap (λ (i : ℕ). get_or (s ++ t) i (pos 0)) r_is ∙ get_or-append-add s t b.more (pos 0)
+      ∙ g.other b.more (omega (arith, lt, b_is, length-append others_a others_b)) (λ c e.
+      let k_is : (at' + length others_a) + b.more ≡ at' + r = omega (arith, b_is) in
+      let c_is : at + (length p + c) ≡ next + c = omega (arith, long) in
+      ap (has_cell ys) (sym c_is) ∙ sym (has_second (at + (length p + c)) (omega (arith, long)))
+      ∙ f (length p + c) (at_right p q c ∙ subst (λ (i : ℕ). slice_get q c ≡ Some (Some i)) k_is e))
+      ∙ sym (ap (λ (x : Cell). x.default) (ap (λ (i : ℕ). get_or (others_a ++ others_b) i no_cell) b_is ∙ get_or-append-add others_a others_b b.more no_cell))
+
+  pub goes_append : Goes (cells_a ++ cells_b) (others_a ++ others_b) numbers (xs ++ ys) at at' (p ++ q) (s ++ t)
+  goes_append =
+      let size = h.long in
+      let size' = g.long in
+      record {
+        paired = paired;
+        within = subst (λ (n : ℕ). IsWithin at n (xs ++ ys)) (sym (length-append cells_a cells_b)) (within_append at (length cells_a) (length cells_b) xs ys h.within g.within);
+        long = omega (arith, size, size', length-append s t, length-append others_a others_b);
+        taken = λ c r e f. taken_at c r e f (before_or_behind (length p) c);
+        other = λ r lt f. other_at r lt f (before_or_behind (length others_a) r);
+      }

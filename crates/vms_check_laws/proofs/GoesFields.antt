@@ -1,0 +1,369 @@
+-- What is carried of a description, cell by cell.
+use Rattle.std.proofs.Common.{◌≡◌, ◌⊎◌, inl, inr, ℕ, zero, suc, ◌+◌, ◌*◌, ◌<◌, ◌≤◌, Bool, true, false, List, [], ◌∷◌, ◌++◌, length, get_or, drop, replicate, Option, Some, None, ℤ, pos, refl, sym, ap, ◌∙◌, subst, arith, append-nil, if◌then◌else◌, ◌||◌}
+use Rattle.std.specs.List.{slice_get}
+use Rattle.std.proofs.lemmas.Bool.{eq-eqb}
+use Rattle.std.proofs.Math.Bool.{or-false}
+use Rattle.vms_kinds.specs.declared.Kind.{Kind}
+use Rattle.vms_kinds.specs.declared.Item.{Item}
+use Rattle.vms_kinds.specs.declared.Item.TheVariants.{Num, Equal, Unused, Struct}
+use Rattle.vms_spec.specs.Sets.{Formula, Field, Desc}
+use Rattle.vms_spec.specs.Tests.{is_there}
+use Rattle.vms_spec.specs.Layout.{Cell, no_cell, Slot, Number, Rule, Meaning, no_meaning, no_parent, times, counted, capacity_of, item_cells, item_size, field_cells, cells_from, desc_cells, elements_of, item_slots, field_slots, slots_from, desc_slots, numbers_of, all_hold}
+use Rattle.vms_spec.specs.Images.{has_cell}
+use Rattle.vms_spec.proofs.Sizes.{size_same, field_size, elements_fit}
+use Rattle.vms_spec.proofs.Prefixes.{ItemBelow, FieldsBelow}
+use Rattle.vms_bodies.specs.Cells.{AreCells}
+use Rattle.vms_bodies.proofs.AboveLaws.{MeanAbove, IsAbove, item_above, items_above, field_above}
+use Rattle.vms_bodies.proofs.CellLaws.{MeanCells, Stands, item_are, items_are, field_are}
+use Rattle.vms_bodies.proofs.AgreeLaws.{named_inside}
+use Rattle.vms_bodies.proofs.Names.{names_append}
+use Rattle.vms_bodies.proofs.SettledLaws.{cells_in}
+use Rattle.vms_check.specs.Reducing.{presence}
+use Rattle.vms_check.specs.Comparing.{Entry, entry_of, present_from, same_kind}
+use Rattle.vms_check.specs.Carrying.{Carrier, no_carrier, defaults, carry_item, carry_items, carry_field, carry_next, carry_from, carry_desc, default_field, entries_left}
+use Rattle.vms_check_laws.proofs.Presence.{there, presence_there}
+use Rattle.vms_check_laws.proofs.Settling.{same_defaults}
+use Rattle.vms_check.specs.Partners.{Pairer, no_pairer, unpaired, item_partners, array_partners, field_partners, fields_left, partners_from, desc_partners}
+use Rattle.vms_check_laws.proofs.PairLists.{AreFrom, paired_none}
+use Rattle.vms_check_laws.proofs.PairFields.{Structs, item_paired, array_paired}
+use Rattle.vms_check_laws.proofs.Goes.{Goes, IsWithin, goes_absent, goes_alone, goes_append}
+
+-- ---- slots stand within their cells
+
+skip : (n : ℕ) (cells : List Cell) → drop n (replicate n no_cell ++ cells) ≡ cells
+skip zero cells = refl
+skip (suc n) cells = skip n cells
+
+skip_long : (n : ℕ) (cells : List Cell) → length (replicate n no_cell ++ cells) ≡ n + length cells
+skip_long zero cells = omega arith
+skip_long (suc n) cells = omega (arith, skip_long n cells)
+
+stands_behind : (at : ℕ) (cells : List Cell) → Stands (replicate at no_cell ++ cells) at cells
+stands_behind at cells = record { more = []; is = skip at cells ∙ sym (append-nil cells) }
+
+within_of : (at : ℕ) (cells : List Cell) (slots : List Slot) → IsAbove at slots → AreCells (replicate at no_cell ++ cells) slots → IsWithin at (length cells) slots
+within_of at cells slots above are = record {
+  in_range = λ c e.
+      let high = named_inside (replicate at no_cell ++ cells) slots c are e in
+      (low c e (before c), omega (arith, high, skip_long at cells));
+} where
+  before : (c : ℕ) → (c < at) ⊎ (at ≤ c)
+  before c = cases c at where
+    cases : (a b : ℕ) → (a < b) ⊎ (b ≤ a)
+    cases a zero = inr (omega arith)
+    cases zero (suc b) = inl (omega arith)
+    cases (suc a) (suc b) = up (cases a b) where
+      up : (a < b) ⊎ (b ≤ a) → (suc a < suc b) ⊎ (suc b ≤ suc a)
+      up (inl h) = inl (omega arith)
+      up (inr h) = inr (omega arith)
+
+  low : (c : ℕ) → has_cell slots c ≡ true → (c < at) ⊎ (at ≤ c) → at ≤ c
+  low c e (inl lt) = let f = above.below c lt in let g : true ≡ false = sym e ∙ f in absurd (cc)
+  low c e (inr le) = le
+
+module _ (structs : List Pairer) (cs : List Carrier) (ms : List Meaning) (y : List (List Cell)) (numbers : List ℤ) (k k' : ℕ) (above : MeanAbove ms) (means : MeanCells ms) where
+  abbrev x : List (List Cell)
+  x = cells_in ms
+
+  -- what is known of the structures: the older ones of numbers below k beside the newer ones of numbers below k'
+  abbrev pub StructsGo : Type 0
+  StructsGo = (i j at at' : ℕ) → i < k → j < k' → Goes (get_or x i []) (get_or y j []) numbers ((get_or ms i no_meaning).slots numbers at) at at' (get_or structs i no_pairer j at') (get_or cs j no_carrier i numbers at)
+
+  module _ (table : Structs structs x y k) (go : StructsGo) where
+    item_within : (a : Item) (caps : List ℕ) (d : ℤ) (at : ℕ) → IsWithin at (length (item_cells x a caps d)) (item_slots ms a caps numbers at)
+    item_within a caps d at =
+        within_of at (item_cells x a caps d) (item_slots ms a caps numbers at) (item_above ms above a caps numbers at)
+        (item_are ms means a caps d (replicate at no_cell ++ item_cells x a caps d) at numbers (stands_behind at (item_cells x a caps d)))
+
+    -- ---- one element that stands in the bytes
+
+    -- a pair of numbers
+    one_goes : (l m : Kind) (caps caps' : List ℕ) (d d' : ℤ) (at at' : ℕ) (b : Bool) → same_kind l m ≡ b
+        → AreFrom (record { kind = l; capacities = caps; default = d } ∷ []) (record { kind = m; capacities = caps'; default = d' } ∷ []) at' ((if b then Some at' else None) ∷ [])
+        → IsWithin at 1 (Number at l caps ∷ [])
+        → Goes (record { kind = l; capacities = caps; default = d } ∷ []) (record { kind = m; capacities = caps'; default = d' } ∷ []) numbers (Number at l caps ∷ []) at at'
+        ((if b then Some at' else None) ∷ []) (if b then get_or numbers at (pos 0) ∷ [] else d' ∷ [])
+    one_goes l m caps caps' d d' at at' true same h w = record { paired = h; within = w; long = refl; taken = taken; other = other } where
+      taken : (c r : ℕ) → slice_get (Some at' ∷ []) c ≡ Some (Some (at' + r)) → has_cell (Number at l caps ∷ []) (at + c) ≡ true → get_or (get_or numbers at (pos 0) ∷ []) r (pos 0) ≡ get_or numbers (at + c) (pos 0)
+      taken zero r e f =
+          let is : at' ≡ at' + r = cc in
+          let r_is : 0 ≡ r = omega (arith, is) in
+          let z : at ≡ at + 0 = omega arith in
+          ap (λ (i : ℕ). get_or (get_or numbers at (pos 0) ∷ []) i (pos 0)) (sym r_is) ∙ ap (λ (i : ℕ). get_or numbers i (pos 0)) z
+      taken (suc c) r e f = absurd (cc)
+
+      other : (r : ℕ) → r < 1 → ((c : ℕ) → slice_get (Some at' ∷ []) c ≡ Some (Some (at' + r)) → has_cell (Number at l caps ∷ []) (at + c) ≡ false)
+          → get_or (get_or numbers at (pos 0) ∷ []) r (pos 0) ≡ (get_or (record { kind = m; capacities = caps'; default = d' } ∷ []) r no_cell).default
+      other r lt f =
+          let r_is : 0 ≡ r = omega arith in
+          let k_is : at' ≡ at' + r = omega (arith, r_is) in
+          let z : at + 0 ≡ at = omega arith in
+          let has : has_cell (Number at l caps ∷ []) (at + 0) ≡ true = ap (has_cell (Number at l caps ∷ [])) z ∙ ap (λ (b : Bool). b || false) (eq-eqb at at refl) in
+          let bad : true ≡ false = sym has ∙ f 0 (ap (λ (i : ℕ). Some (Some i)) k_is) in
+          absurd (cc)
+    one_goes l m caps caps' d d' at at' false same h w =
+        goes_alone (record { kind = l; capacities = caps; default = d } ∷ []) (record { kind = m; capacities = caps'; default = d' } ∷ []) numbers (Number at l caps ∷ []) at at' 1 refl w h
+
+    item_goes : (a b : Item) (caps caps' : List ℕ) (d d' : ℤ) (at at' : ℕ) → ItemBelow k a → ItemBelow k' b
+        → Goes (item_cells x a caps d) (item_cells y b caps' d') numbers (item_slots ms a caps numbers at) at at' (item_partners structs x y a b at') (carry_item cs x y numbers a b (defaults (item_cells y b [] d')) at)
+    item_goes (Num l) (Num m) caps caps' d d' at at' lt lt' =
+        one_goes l m caps caps' d d' at at' (same_kind l m) refl (item_paired structs x y k table (Num l) (Num m) caps caps' d d' at' lt) (item_within (Num l) caps d at)
+    item_goes (Struct i) (Struct j) caps caps' d d' at at' lt lt' =
+        subst (λ (l : List Cell). Goes l (get_or y j []) numbers ((get_or ms i no_meaning).slots numbers at) at at' (get_or structs i no_pairer j at') (get_or cs j no_carrier i numbers at)) refl (go i j at at' lt lt')
+    item_goes (Num l) (Equal m z) caps caps' d d' at at' lt lt' = goes_alone _ _ numbers _ at at' 1 refl (item_within (Num l) caps d at) (paired_none _ _ at' 1 refl)
+    item_goes (Num l) (Unused n) caps caps' d d' at at' lt lt' = goes_alone _ _ numbers _ at at' 1 refl (item_within (Num l) caps d at) (paired_none _ _ at' 1 refl)
+    item_goes (Num l) (Struct j) caps caps' d d' at at' lt lt' = goes_alone _ _ numbers _ at at' 1 refl (item_within (Num l) caps d at) (paired_none _ _ at' 1 refl)
+    item_goes (Equal l z) (Num m) caps caps' d d' at at' lt lt' = goes_alone _ _ numbers _ at at' 0 refl (item_within (Equal l z) caps d at) (paired_none _ _ at' 0 refl)
+    item_goes (Equal l z) (Equal m u) caps caps' d d' at at' lt lt' = goes_alone _ _ numbers _ at at' 0 refl (item_within (Equal l z) caps d at) (paired_none _ _ at' 0 refl)
+    item_goes (Equal l z) (Unused n) caps caps' d d' at at' lt lt' = goes_alone _ _ numbers _ at at' 0 refl (item_within (Equal l z) caps d at) (paired_none _ _ at' 0 refl)
+    item_goes (Equal l z) (Struct j) caps caps' d d' at at' lt lt' = goes_alone _ _ numbers _ at at' 0 refl (item_within (Equal l z) caps d at) (paired_none _ _ at' 0 refl)
+    item_goes (Unused n) (Num m) caps caps' d d' at at' lt lt' = goes_alone _ _ numbers _ at at' 0 refl (item_within (Unused n) caps d at) (paired_none _ _ at' 0 refl)
+    item_goes (Unused n) (Equal m u) caps caps' d d' at at' lt lt' = goes_alone _ _ numbers _ at at' 0 refl (item_within (Unused n) caps d at) (paired_none _ _ at' 0 refl)
+    item_goes (Unused n) (Unused o) caps caps' d d' at at' lt lt' = goes_alone _ _ numbers _ at at' 0 refl (item_within (Unused n) caps d at) (paired_none _ _ at' 0 refl)
+    item_goes (Unused n) (Struct j) caps caps' d d' at at' lt lt' = goes_alone _ _ numbers _ at at' 0 refl (item_within (Unused n) caps d at) (paired_none _ _ at' 0 refl)
+    item_goes (Struct i) (Num m) caps caps' d d' at at' lt lt' = goes_alone _ _ numbers _ at at' (length (get_or x i [])) refl (item_within (Struct i) caps d at) (paired_none _ _ at' (length (get_or x i [])) refl)
+    item_goes (Struct i) (Equal m u) caps caps' d d' at at' lt lt' = goes_alone _ _ numbers _ at at' (length (get_or x i [])) refl (item_within (Struct i) caps d at) (paired_none _ _ at' (length (get_or x i [])) refl)
+    item_goes (Struct i) (Unused n) caps caps' d d' at at' lt lt' = goes_alone _ _ numbers _ at at' (length (get_or x i [])) refl (item_within (Struct i) caps d at) (paired_none _ _ at' (length (get_or x i [])) refl)
+
+    -- ---- so many elements, of which the first n stand in the bytes
+
+    defaults_append : (xs ys : List Cell) → defaults (xs ++ ys) ≡ defaults xs ++ defaults ys
+    defaults_append [] ys = refl
+    defaults_append (c ∷ xs) ys = ap (λ (l : List ℤ). c.default ∷ l) (defaults_append xs ys)
+
+    carry_none : (a b : Item) (caps' : List ℕ) (d' : ℤ) (step m at q t : ℕ) → carry_items cs x y numbers a b (defaults (item_cells y b [] d')) step 0 m at ≡ defaults (times m (λ _. item_cells y b caps' d') q t)
+    carry_none a b caps' d' step zero at q t = refl
+    carry_none a b caps' d' step (suc m) at q t =
+        ap (λ (l : List ℤ). l ++ carry_items cs x y numbers a b (defaults (item_cells y b [] d')) step 0 m at) (same_defaults y b [] caps' d')
+        ∙ ap (λ (l : List ℤ). defaults (item_cells y b caps' d') ++ l) (carry_none a b caps' d' step m at (q + t) t)
+        ∙ sym (defaults_append (item_cells y b caps' d') (times m (λ _. item_cells y b caps' d') (q + t) t))
+
+    array_goes : (a b : Item) (caps caps' : List ℕ) (d d' : ℤ) (most n m at at' p s q t : ℕ) → n ≤ most → ItemBelow k a → ItemBelow k' b
+        → Goes (times most (λ _. item_cells x a caps d) p s) (times m (λ _. item_cells y b caps' d') q t) numbers (times n (item_slots ms a caps numbers) at (item_size x a)) at at'
+        (array_partners structs x y a b most m at') (carry_items cs x y numbers a b (defaults (item_cells y b [] d')) (item_size x a) n m at)
+    array_goes a b caps caps' d d' most zero m at at' p s q t le lt lt' =
+        subst (λ (l : List ℤ). Goes (times most (λ _. item_cells x a caps d) p s) (times m (λ _. item_cells y b caps' d') q t) numbers [] at at' (array_partners structs x y a b most m at') l)
+        (sym (carry_none a b caps' d' (item_size x a) m at q t))
+        (goes_absent (times most (λ _. item_cells x a caps d) p s) (times m (λ _. item_cells y b caps' d') q t) numbers at at' (array_partners structs x y a b most m at')
+        (array_paired structs x y k table a b caps caps' d d' most m at' p q s t lt))
+    array_goes a b caps caps' d d' zero (suc n) m at at' p s q t le lt lt' = absurd (omega arith)
+    array_goes a b caps caps' d d' (suc most) (suc n) zero at at' p s q t le lt lt' =
+        let size = item_size x a in
+        let cells = item_cells x a caps d in
+        let e : length cells ≡ size = size_same x a caps d in
+        let z : at' ≡ at' + 0 = omega arith in
+        goes_append cells (times most (λ _. cells) (p + s) s) [] [] numbers (item_slots ms a caps numbers at) (times n (item_slots ms a caps numbers) (at + size) size) at at'
+        (unpaired size) (array_partners structs x y a b most 0 at') [] []
+        (goes_alone cells [] numbers (item_slots ms a caps numbers at) at at' size (sym e) (item_within a caps d at) (paired_none cells [] at' size (sym e)))
+        (subst (λ (i : ℕ). Goes (times most (λ _. cells) (p + s) s) [] numbers (times n (item_slots ms a caps numbers) (at + size) size) (at + i) (at' + 0) (array_partners structs x y a b most 0 at') []) (sym e)
+        (subst (λ (i : ℕ). Goes (times most (λ _. cells) (p + s) s) [] numbers (times n (item_slots ms a caps numbers) (at + size) size) (at + size) i (array_partners structs x y a b most 0 at') []) z
+        (none_left a b caps caps' d d' most n (at + size) at' (p + s) s q t (omega arith) lt lt')))
+      where
+        none_left : (a b : Item) (caps caps' : List ℕ) (d d' : ℤ) (most n at at' p s q t : ℕ) → n ≤ most → ItemBelow k a → ItemBelow k' b
+            → Goes (times most (λ _. item_cells x a caps d) p s) [] numbers (times n (item_slots ms a caps numbers) at (item_size x a)) at at' (array_partners structs x y a b most 0 at') []
+        none_left a b caps caps' d d' most n at at' p s q t le lt lt' = record {
+          paired = array_paired structs x y k table a b caps caps' d d' most 0 at' p q s t lt;
+          within = within_of at (times most (λ _. item_cells x a caps d) p s) (times n (item_slots ms a caps numbers) at (item_size x a)) (items_above ms above a caps numbers n at (item_size x a))
+              (items_are ms means a caps d (replicate at no_cell ++ times most (λ _. item_cells x a caps d) p s) most n at p s numbers le (stands_behind at (times most (λ _. item_cells x a caps d) p s)));
+          long = refl;
+          taken = λ c r e f. (let i = (array_paired structs x y k table a b caps caps' d d' most 0 at' p q s t lt).pairs c (at' + r) e in let l = i.inside in absurd (omega (arith, l)));
+          other = λ r l f. absurd (omega arith);
+        }
+    array_goes a b caps caps' d d' (suc most) (suc n) (suc m) at at' p s q t le lt lt' =
+        let size = item_size x a in
+        let size' = item_size y b in
+        let cells = item_cells x a caps d in
+        let cells' = item_cells y b caps' d' in
+        let fallback = defaults (item_cells y b [] d') in
+        let more = times most (λ _. cells) (p + s) s in
+        let more' = times m (λ _. cells') (q + t) t in
+        let slots = times n (item_slots ms a caps numbers) (at + size) size in
+        let partners = array_partners structs x y a b most m (at' + size') in
+        let segment = carry_items cs x y numbers a b fallback size n m (at + size) in
+        goes_append cells more cells' more' numbers (item_slots ms a caps numbers at) slots at at' (item_partners structs x y a b at') partners (carry_item cs x y numbers a b fallback at) segment
+        (item_goes a b caps caps' d d' at at' lt lt')
+        (subst (λ (i : ℕ). Goes more more' numbers slots (at + i) (at' + length cells') partners segment) (sym (size_same x a caps d))
+        (subst (λ (i : ℕ). Goes more more' numbers slots (at + size) (at' + i) partners segment) (sym (size_same y b caps' d'))
+        (array_goes a b caps caps' d d' most n m (at + size) (at' + size') (p + s) s (q + t) t (omega arith) lt lt')))
+
+    -- ---- fields
+
+    module _ (all all' : List Field) (v w : ℕ) (own : ℕ → ℕ) (at at' : ℕ) where
+      abbrev slots_of : ℕ → ℕ → Field → List Slot
+      slots_of i p f = field_slots ms all v own numbers i (at + p) f
+
+      field_within : (i p : ℕ) (f : Field) → IsWithin (at + p) (length (field_cells x all i f)) (slots_of i p f)
+      field_within i p f =
+          within_of (at + p) (field_cells x all i f) (slots_of i p f) (field_above ms above all v own numbers i (at + p) f)
+          (field_are ms means all v own numbers i (at + p) f (replicate (at + p) no_cell ++ field_cells x all i f) (stands_behind (at + p) (field_cells x all i f)))
+
+      -- a field that the older version hasn't
+      not_there : (i p : ℕ) (f : Field) → presence v f.test f.since ≡ None → slots_of i p f ≡ []
+      not_there i p f e =
+          ap (λ (b : Bool). if b then times (elements_of f.count own) (item_slots ms f.item (counted i all) numbers) (at + p) (item_size x f.item) else [])
+          (presence_there f.test f.since v own no_parent ∙ ap (λ (o : Option (Option Formula)). there o v own no_parent) e)
+
+      -- two present fields of one position
+      pair_goes : (i i' p p' : ℕ) (f g : Field) (rest rest' : Option Formula) → ItemBelow k f.item → ItemBelow k' g.item
+          → Goes (field_cells x all i f) (field_cells y all' i' g) numbers (slots_of i p f) (at + p) (at' + p')
+          (array_partners structs x y f.item g.item (capacity_of f.count) (capacity_of g.count) (at' + p'))
+          (carry_field cs x y numbers own v at (record { index = i; place = p; field = f; rest = rest }) g)
+      pair_goes i i' p p' f g rest rest' lt lt' = by_there (is_there f.test f.since v own no_parent) where
+        by_there : (b : Bool)
+            → Goes (field_cells x all i f) (field_cells y all' i' g) numbers (if b then times (elements_of f.count own) (item_slots ms f.item (counted i all) numbers) (at + p) (item_size x f.item) else []) (at + p) (at' + p')
+            (array_partners structs x y f.item g.item (capacity_of f.count) (capacity_of g.count) (at' + p'))
+            (carry_items cs x y numbers f.item g.item (defaults (item_cells y g.item [] g.default)) (item_size x f.item) (if b then elements_of f.count own else 0) (capacity_of g.count) (at + p))
+        by_there true =
+            array_goes f.item g.item (counted i all) (counted i' all') f.default g.default (capacity_of f.count) (elements_of f.count own) (capacity_of g.count) (at + p) (at' + p') 0 0 0 0 (elements_fit f.count own) lt lt'
+        by_there false =
+            array_goes f.item g.item (counted i all) (counted i' all') f.default g.default (capacity_of f.count) 0 (capacity_of g.count) (at + p) (at' + p') 0 0 0 0 (omega arith) lt lt'
+
+      -- ---- all fields from one on, on each side
+
+      abbrev olds : ℕ → ℕ → List Field → List Entry
+      olds i p fs = present_from x all v i p fs
+
+      abbrev news : ℕ → ℕ → List Field → List Entry
+      news i' p' gs = present_from y all' w i' p' gs
+
+      abbrev size_at : ℕ → Field → ℕ
+      size_at i f = length (field_cells x all i f)
+
+      abbrev size_at' : ℕ → Field → ℕ
+      size_at' i g = length (field_cells y all' i g)
+
+      abbrev slots_on : ℕ → ℕ → List Field → List Slot
+      slots_on i p fs = slots_from ms all v own numbers i (at + p) fs
+
+      abbrev carry_on : ℕ → List Field → List Entry → List ℤ
+      carry_on i' gs es = carry_from cs x y numbers own v w at all' i' gs es
+
+      abbrev partners_on : List Field → List Entry → List (Option ℕ)
+      partners_on fs es = partners_from structs x y v at' fs es
+
+      abbrev GoFrom : (i i' p p' : ℕ) → (fs gs : List Field) → Type 0
+      GoFrom i i' p p' fs gs =
+          Goes (cells_from x all i fs) (cells_from y all' i' gs) numbers (slots_on i p fs) (at + p) (at' + p') (partners_on fs (news i' p' gs)) (carry_on i' gs (olds i p fs))
+
+      abbrev RestGoes : ℕ → ℕ → List Field → Type 0
+      RestGoes i p fs = (i' p' : ℕ) (gs : List Field) → FieldsBelow k' gs → GoFrom i i' p p' fs gs
+
+      -- a field of the newer side alone, before more
+      new_alone : (i' p p' : ℕ) (g : Field) (gs : List Field) (cells : List Cell) (slots : List Slot) (partners : List (Option ℕ)) (segment : List ℤ)
+          → Goes cells (cells_from y all' (suc i') gs) numbers slots (at + p) (at' + (p' + size_at' i' g)) partners segment
+          → Goes cells (cells_from y all' i' (g ∷ gs)) numbers slots (at + p) (at' + p') partners (default_field cs x y numbers all' i' g ++ segment)
+      new_alone i' p p' g gs cells slots partners segment h =
+          let here = field_cells y all' i' g in
+          let z : at + p ≡ (at + p) + 0 = omega arith in
+          let u : at' + (p' + size_at' i' g) ≡ (at' + p') + size_at' i' g = omega arith in
+          goes_append [] cells here (cells_from y all' (suc i') gs) numbers [] slots (at + p) (at' + p') [] partners (defaults here) segment
+          (goes_absent [] here numbers (at + p) (at' + p') [] (paired_none [] here (at' + p') 0 refl))
+          (subst (λ (n : ℕ). Goes cells (cells_from y all' (suc i') gs) numbers slots n ((at' + p') + size_at' i' g) partners segment) z
+          (subst (λ (n : ℕ). Goes cells (cells_from y all' (suc i') gs) numbers slots (at + p) n partners segment) u h))
+
+      no_olds : (i i' p p' : ℕ) (gs : List Field) → GoFrom i i' p p' [] gs
+      no_olds i i' p p' [] = goes_absent [] [] numbers (at + p) (at' + p') [] (paired_none [] [] (at' + p') 0 refl)
+      no_olds i i' p p' (g ∷ gs) = by_new (presence w g.test g.since) (no_olds i (suc i') p (p' + size_at' i' g) gs) where
+        by_new : (o : Option (Option Formula)) → Goes [] (cells_from y all' (suc i') gs) numbers [] (at + p) (at' + (p' + size_at' i' g)) [] (carry_on (suc i') gs [])
+            → Goes [] (cells_from y all' i' (g ∷ gs)) numbers [] (at + p) (at' + p') [] (carry_next cs x y numbers own v at all' i' g o [] ++ carry_on (suc i') gs (entries_left cs x y numbers o []))
+        by_new None h = new_alone i' p p' g gs [] [] [] (carry_on (suc i') gs []) h
+        by_new (Some rest) h = new_alone i' p p' g gs [] [] [] (carry_on (suc i') gs []) h
+
+      -- a field of the older side alone, before more
+      old_alone : (i p p' : ℕ) (f : Field) (fs : List Field) (others : List Cell) (partners : List (Option ℕ)) (segment : List ℤ)
+          → Goes (cells_from x all (suc i) fs) others numbers (slots_on (suc i) (p + size_at i f) fs) (at + (p + size_at i f)) (at' + p') partners segment
+          → Goes (cells_from x all i (f ∷ fs)) others numbers (slots_on i p (f ∷ fs)) (at + p) (at' + p') (unpaired (capacity_of f.count * item_size x f.item) ++ partners) segment
+      old_alone i p p' f fs others partners segment h =
+          let here = field_cells x all i f in
+          let n = capacity_of f.count * item_size x f.item in
+          let e : n ≡ length here = sym (field_size x all i f) in
+          let z : at' + p' ≡ (at' + p') + 0 = omega arith in
+          let u : at + (p + size_at i f) ≡ (at + p) + size_at i f = omega arith in
+          goes_append here (cells_from x all (suc i) fs) [] others numbers (slots_of i p f) (slots_from ms all v own numbers (suc i) ((at + p) + size_at i f) fs) (at + p) (at' + p') (unpaired n) partners [] segment
+          (goes_alone here [] numbers (slots_of i p f) (at + p) (at' + p') n e (field_within i p f) (paired_none here [] (at' + p') n e))
+          (subst (λ (m : ℕ). Goes (cells_from x all (suc i) fs) others numbers (slots_from ms all v own numbers (suc i) m fs) m ((at' + p') + 0) partners segment) u
+          (subst (λ (m : ℕ). Goes (cells_from x all (suc i) fs) others numbers (slots_on (suc i) (p + size_at i f) fs) (at + (p + size_at i f)) m partners segment) z h))
+
+      -- a present field of the older side, before more
+      module _ (i p : ℕ) (f : Field) (fs : List Field) (left : Option Formula) (lt : ItemBelow k f.item) (more : RestGoes (suc i) (p + size_at i f) fs) where
+        abbrev entry : Entry
+        entry = record { index = i; place = p; field = f; rest = left }
+
+        abbrev later : List Entry
+        later = olds (suc i) (p + size_at i f) fs
+
+        abbrev With : ℕ → ℕ → List Field → List Entry → List ℤ → Type 0
+        With i' p' gs es segment =
+            Goes (cells_from x all i (f ∷ fs)) (cells_from y all' i' gs) numbers (slots_on i p (f ∷ fs)) (at + p) (at' + p')
+            (field_partners structs x y f (Some left) es at' ++ partners_on fs (fields_left structs x y (Some left) es)) segment
+
+        both : (i' p' : ℕ) (g : Field) (gs : List Field) (rest : Option Formula) → ItemBelow k' g.item → FieldsBelow k' gs
+            → With i' p' (g ∷ gs) (record { index = i'; place = p'; field = g; rest = rest } ∷ news (suc i') (p' + size_at' i' g) gs) (carry_field cs x y numbers own v at entry g ++ carry_on (suc i') gs later)
+        both i' p' g gs rest lt' below =
+            let here = field_cells x all i f in
+            let there = field_cells y all' i' g in
+            let u : at + (p + size_at i f) ≡ (at + p) + size_at i f = omega arith in
+            let u' : at' + (p' + size_at' i' g) ≡ (at' + p') + size_at' i' g = omega arith in
+            let partners = partners_on fs (news (suc i') (p' + size_at' i' g) gs) in
+            let segment = carry_on (suc i') gs later in
+            goes_append here (cells_from x all (suc i) fs) there (cells_from y all' (suc i') gs) numbers (slots_of i p f) (slots_from ms all v own numbers (suc i) ((at + p) + size_at i f) fs) (at + p) (at' + p')
+            (array_partners structs x y f.item g.item (capacity_of f.count) (capacity_of g.count) (at' + p')) partners (carry_field cs x y numbers own v at entry g) segment
+            (pair_goes i i' p p' f g left rest lt lt')
+            (subst (λ (m : ℕ). Goes (cells_from x all (suc i) fs) (cells_from y all' (suc i') gs) numbers (slots_from ms all v own numbers (suc i) m fs) m ((at' + p') + size_at' i' g) partners segment) u
+            (subst (λ (m : ℕ). Goes (cells_from x all (suc i) fs) (cells_from y all' (suc i') gs) numbers (slots_on (suc i) (p + size_at i f) fs) (at + (p + size_at i f)) m partners segment) u'
+            (more (suc i') (p' + size_at' i' g) gs below)))
+
+        with_present : (i' p' : ℕ) (gs : List Field) → FieldsBelow k' gs → With i' p' gs (news i' p' gs) (carry_on i' gs (entry ∷ later))
+        with_present i' p' [] below = old_alone i p p' f fs [] (partners_on fs []) [] (more i' p' [] tt)
+        with_present i' p' (g ∷ gs) below = by_new (presence w g.test g.since) (with_present (suc i') (p' + size_at' i' g) gs below.1) where
+          by_new : (o : Option (Option Formula)) → With (suc i') (p' + size_at' i' g) gs (news (suc i') (p' + size_at' i' g) gs) (carry_on (suc i') gs (entry ∷ later))
+              → With i' p' (g ∷ gs) (entry_of i' p' g o ++ news (suc i') (p' + size_at' i' g) gs)
+              (carry_next cs x y numbers own v at all' i' g o (entry ∷ later) ++ carry_on (suc i') gs (entries_left cs x y numbers o (entry ∷ later)))
+          by_new None h =
+              new_alone i' p p' g gs (cells_from x all i (f ∷ fs)) (slots_on i p (f ∷ fs))
+              (field_partners structs x y f (Some left) (news (suc i') (p' + size_at' i' g) gs) at' ++ partners_on fs (fields_left structs x y (Some left) (news (suc i') (p' + size_at' i' g) gs)))
+              (carry_on (suc i') gs (entry ∷ later)) h
+          by_new (Some rest) h = both i' p' g gs rest below.0 below.1
+
+      with_field : (i p : ℕ) (f : Field) (fs : List Field) → ItemBelow k f.item → RestGoes (suc i) (p + size_at i f) fs → RestGoes i p (f ∷ fs)
+      with_field i p f fs lt more i' p' gs below = by_old (presence v f.test f.since) where
+        by_old : (o : Option (Option Formula))
+            → Goes (cells_from x all i (f ∷ fs)) (cells_from y all' i' gs) numbers (slots_on i p (f ∷ fs)) (at + p) (at' + p')
+            (field_partners structs x y f o (news i' p' gs) at' ++ partners_on fs (fields_left structs x y o (news i' p' gs)))
+            (carry_on i' gs (entry_of i p f o ++ olds (suc i) (p + size_at i f) fs))
+        by_old None = old_alone i p p' f fs (cells_from y all' i' gs) (partners_on fs (news i' p' gs)) (carry_on i' gs (olds (suc i) (p + size_at i f) fs)) (more i' p' gs below)
+        by_old (Some left) = with_present i p f fs left lt more i' p' gs below
+
+      fields_go : (i p : ℕ) (fs : List Field) → FieldsBelow k fs → RestGoes i p fs
+      fields_go i p [] lt = λ i' p' gs below. no_olds i i' p p' gs
+      fields_go i p (f ∷ fs) lt = with_field i p f fs lt.0 (fields_go (suc i) (p + size_at i f) fs lt.1)
+
+    -- ---- a description: its fields, and its validations, which have no cell
+
+    pub desc_goes : (v w : ℕ) (a b : Desc) (at at' : ℕ) → FieldsBelow k a.fields → FieldsBelow k' b.fields
+        → Goes (desc_cells x a) (desc_cells y b) numbers (desc_slots ms a v numbers at) at at' (desc_partners structs x y v w a b at') (carry_desc cs x y numbers v w a b at)
+    desc_goes v w a b at at' lt lt' =
+        let own = numbers_of x a numbers at in
+        let z : at + 0 ≡ at = omega arith in
+        let z' : at' + 0 ≡ at' = omega arith in
+        let fields = fields_go a.fields b.fields v w own at at' 0 0 a.fields lt 0 0 b.fields lt' in
+        let slots = slots_from ms a.fields v own numbers 0 at a.fields in
+        let partners = desc_partners structs x y v w a b at' in
+        let segment = carry_desc cs x y numbers v w a b at in
+        let h : Goes (desc_cells x a) (desc_cells y b) numbers slots at at' partners segment =
+        subst (λ (n : ℕ). Goes (desc_cells x a) (desc_cells y b) numbers slots at n partners segment) z'
+        (subst (λ (n : ℕ). Goes (desc_cells x a) (desc_cells y b) numbers (slots_from ms a.fields v own numbers 0 n a.fields) n (at' + 0) partners segment) z fields) in
+        let u : at' ≡ at' + 0 = omega arith in
+        more_rules slots (all_hold a.validate v own) h
+      where
+        more_rules : (slots : List Slot) (b' : Bool) → Goes (desc_cells x a) (desc_cells y b) numbers slots at at' (desc_partners structs x y v w a b at') (carry_desc cs x y numbers v w a b at)
+            → Goes (desc_cells x a) (desc_cells y b) numbers (slots ++ Rule b' ∷ []) at at' (desc_partners structs x y v w a b at') (carry_desc cs x y numbers v w a b at)
+        more_rules slots b' h = record {
+          paired = h.paired;
+          within = record { in_range = λ c e. h.within.in_range c (sym (same slots b' c) ∙ e) };
+          long = h.long;
+          taken = λ c r e f. h.taken c r e (sym (same slots b' (at + c)) ∙ f);
+          other = λ r l f. h.other r l (λ c e. sym (same slots b' (at + c)) ∙ f c e);
+        } where
+          same : (slots : List Slot) (b' : Bool) (c : ℕ) → has_cell (slots ++ Rule b' ∷ []) c ≡ has_cell slots c
+          same slots b' c = names_append slots (Rule b' ∷ []) c ∙ or-false (has_cell slots c)

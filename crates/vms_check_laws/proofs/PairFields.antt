@@ -1,0 +1,137 @@
+-- The partners of a description's cells are cells of the other's, one for each.
+use Rattle.std.proofs.Common.{◌≡◌, ℕ, zero, suc, ◌+◌, ◌*◌, ◌<◌, Bool, true, false, List, [], ◌∷◌, ◌++◌, length, length-append, get_or, Option, Some, None, ℤ, refl, sym, ap, ◌∙◌, subst, arith, append_assoc, if◌then◌else◌}
+use Rattle.std.specs.List.{slice_get}
+use Rattle.vms_kinds.specs.declared.Kind.{Kind}
+use Rattle.vms_kinds.specs.declared.Item.{Item}
+use Rattle.vms_kinds.specs.declared.Item.TheVariants.{Num, Equal, Unused, Struct}
+use Rattle.vms_spec.specs.Sets.{Formula, Field, Desc}
+use Rattle.vms_spec.specs.Layout.{Cell, times, counted, capacity_of, item_cells, item_size, field_cells, cells_from, desc_cells}
+use Rattle.vms_spec.proofs.Sizes.{size_same, field_size}
+use Rattle.vms_spec.proofs.Prefixes.{ItemBelow, FieldsBelow}
+use Rattle.vms_check.specs.Reducing.{presence}
+use Rattle.vms_check.specs.Comparing.{Entry, entry_of, present_from, same_kind}
+use Rattle.vms_check_laws.proofs.Pairing.{kinds_same}
+use Rattle.vms_check.specs.Partners.{Pairer, no_pairer, unpaired, item_partners, array_partners, field_partners, fields_left, partners_from, desc_partners}
+use Rattle.vms_check_laws.proofs.PairLists.{AreFrom, IsPair, paired_none, paired_append, paired_behind, paired_skip}
+
+-- ---- the present fields of the other side stand in its cells
+
+module _ (y : List (List Cell)) (all : List Field) where
+  abbrev pub cells_at : Entry → List Cell
+  cells_at e = field_cells y all e.index e.field
+
+  -- cells, the first of which has the number p, begin with others and then those of the first field
+  pub record Front (others : List Cell) (p : ℕ) (e : Entry) : Type 0 where
+    pub gap : List Cell
+    pub rest : List Cell
+    pub is : others ≡ gap ++ (cells_at e ++ rest)
+    pub place : e.place ≡ p + length gap
+
+  abbrev pub Laid : List Cell → ℕ → List Entry → Type 0
+  Laid others p [] = Unit {0}
+  Laid others p (e ∷ es) = (f : Front others p e) × Laid f.rest (e.place + length (cells_at e)) es
+
+  laid_behind : (before others : List Cell) (p q : ℕ) (es : List Entry) → q ≡ p + length before → Laid others q es → Laid (before ++ others) p es
+  laid_behind before others p q [] e h = tt
+  laid_behind before others p q (x ∷ es) e h =
+      let f = h.0 in
+      let is = f.is in
+      let place = f.place in (
+        record {
+          gap = before ++ f.gap;
+          rest = f.rest;
+          is = ap (λ (l : List Cell). before ++ l) is ∙ sym (append_assoc before f.gap (cells_at x ++ f.rest));
+          place = omega (arith, e, place, length-append before f.gap);
+        },
+        h.1,
+      )
+
+  pub laid : (v i p : ℕ) (gs : List Field) → Laid (cells_from y all i gs) p (present_from y all v i p gs)
+  laid v i p [] = tt
+  laid v i p (g ∷ gs) = go (presence v g.test g.since) (laid v (suc i) (p + length (field_cells y all i g)) gs) where
+    go : (o : Option (Option Formula)) → Laid (cells_from y all (suc i) gs) (p + length (field_cells y all i g)) (present_from y all v (suc i) (p + length (field_cells y all i g)) gs)
+        → Laid (cells_from y all i (g ∷ gs)) p (entry_of i p g o ++ present_from y all v (suc i) (p + length (field_cells y all i g)) gs)
+    go None h = laid_behind (field_cells y all i g) (cells_from y all (suc i) gs) p _ (present_from y all v (suc i) (p + length (field_cells y all i g)) gs) refl h
+    go (Some rest) h = (record { gap = []; rest = cells_from y all (suc i) gs; is = refl; place = omega arith }, h)
+
+-- ---- items, arrays, fields
+
+-- what is known of the structures: those of the older set of numbers below k
+abbrev pub Structs : (structs : List Pairer) (x y : List (List Cell)) → ℕ → Type 0
+Structs structs x y k = (i j at : ℕ) → i < k → AreFrom (get_or x i []) (get_or y j []) at (get_or structs i no_pairer j at)
+
+module _ (structs : List Pairer) (x y : List (List Cell)) (k : ℕ) (table : Structs structs x y k) where
+  one_pair : (l m : Kind) (caps caps' : List ℕ) (d d' : ℤ) (at : ℕ) (b : Bool) → same_kind l m ≡ b
+      → AreFrom (record { kind = l; capacities = caps; default = d } ∷ []) (record { kind = m; capacities = caps'; default = d' } ∷ []) at ((if b then Some at else None) ∷ [])
+  one_pair l m caps caps' d d' at true same = record {
+    long = refl;
+    pairs = λ c n e. pair c n e;
+    once = λ b c n e f. both b c n e f;
+  } where
+    pair : (c n : ℕ) → slice_get (Some at ∷ []) c ≡ Some (Some n) → IsPair (record { kind = l; capacities = caps; default = d } ∷ []) (record { kind = m; capacities = caps'; default = d' } ∷ []) at c n
+    pair zero n e = let s : at ≡ n = cc in record { r = 0; is = omega (arith, s); inside = omega arith; kind = kinds_same l m same }
+    pair (suc c) n e = absurd (cc)
+
+    both : (b c n : ℕ) → slice_get (Some at ∷ []) b ≡ Some (Some n) → slice_get (Some at ∷ []) c ≡ Some (Some n) → b ≡ c
+    both zero zero n e f = refl
+    both zero (suc c) n e f = absurd (cc)
+    both (suc b) c n e f = absurd (cc)
+  one_pair l m caps caps' d d' at false same = paired_none _ _ at 1 refl
+
+  pub item_paired : (a b : Item) (caps caps' : List ℕ) (d d' : ℤ) (at : ℕ) → ItemBelow k a → AreFrom (item_cells x a caps d) (item_cells y b caps' d') at (item_partners structs x y a b at)
+  item_paired (Num l) (Num m) caps caps' d d' at lt = one_pair l m caps caps' d d' at (same_kind l m) refl
+  item_paired (Struct i) (Struct j) caps caps' d d' at lt = table i j at lt
+  item_paired (Num l) (Equal m z) caps caps' d d' at lt = paired_none _ _ at 1 refl
+  item_paired (Num l) (Unused n) caps caps' d d' at lt = paired_none _ _ at 1 refl
+  item_paired (Num l) (Struct j) caps caps' d d' at lt = paired_none _ _ at 1 refl
+  item_paired (Equal l z) b caps caps' d d' at lt = paired_none _ _ at 0 refl
+  item_paired (Unused n) b caps caps' d d' at lt = paired_none _ _ at 0 refl
+  item_paired (Struct i) (Num m) caps caps' d d' at lt = paired_none _ _ at (length (get_or x i [])) refl
+  item_paired (Struct i) (Equal m z) caps caps' d d' at lt = paired_none _ _ at (length (get_or x i [])) refl
+  item_paired (Struct i) (Unused n) caps caps' d d' at lt = paired_none _ _ at (length (get_or x i [])) refl
+
+  pub array_paired : (a b : Item) (caps caps' : List ℕ) (d d' : ℤ) (n m at p q s t : ℕ) → ItemBelow k a
+      → AreFrom (times n (λ _. item_cells x a caps d) p s) (times m (λ _. item_cells y b caps' d') q t) at (array_partners structs x y a b n m at)
+  array_paired a b caps caps' d d' zero m at p q s t lt = paired_none [] _ at 0 refl
+  array_paired a b caps caps' d d' (suc n) zero at p q s t lt =
+      paired_skip (item_cells x a caps d) (times n (λ _. item_cells x a caps d) (p + s) s) [] at (item_size x a) (array_partners structs x y a b n zero at) (sym (size_same x a caps d))
+      (array_paired a b caps caps' d d' n zero at (p + s) q s t lt)
+  array_paired a b caps caps' d d' (suc n) (suc m) at p q s t lt =
+      paired_append (item_cells x a caps d) (times n (λ _. item_cells x a caps d) (p + s) s) (item_cells y b caps' d') (times m (λ _. item_cells y b caps' d') (q + t) t) at
+      (item_partners structs x y a b at) (array_partners structs x y a b n m (at + item_size y b))
+      (item_paired a b caps caps' d d' at lt)
+      (subst (λ (i : ℕ). AreFrom (times n (λ _. item_cells x a caps d) (p + s) s) (times m (λ _. item_cells y b caps' d') (q + t) t) (at + i) (array_partners structs x y a b n m (at + item_size y b))) (sym (size_same y b caps' d'))
+      (array_paired a b caps caps' d d' n m (at + item_size y b) (p + s) (q + t) s t lt))
+
+  module _ (all all' : List Field) (v : ℕ) where
+    fields_paired : (i at p : ℕ) (fs : List Field) (es : List Entry) (others : List Cell) → FieldsBelow k fs → Laid y all' others p es
+        → AreFrom (cells_from x all i fs) others (at + p) (partners_from structs x y v at fs es)
+    fields_paired i at p [] es others lt h = paired_none [] others (at + p) 0 refl
+    fields_paired i at p (f ∷ fs) es others lt h = go (presence v f.test f.since) es others h (λ p' es' others' h'. fields_paired (suc i) at p' fs es' others' lt.1 h') where
+      skip : (es' : List Entry) (others' : List Cell) → AreFrom (cells_from x all (suc i) fs) others' (at + p) (partners_from structs x y v at fs es')
+          → AreFrom (cells_from x all i (f ∷ fs)) others' (at + p) (unpaired (capacity_of f.count * item_size x f.item) ++ partners_from structs x y v at fs es')
+      skip es' others' g = paired_skip (field_cells x all i f) (cells_from x all (suc i) fs) others' (at + p) (capacity_of f.count * item_size x f.item) (partners_from structs x y v at fs es') (sym (field_size x all i f)) g
+
+      go : (o : Option (Option Formula)) (es : List Entry) (others : List Cell) → Laid y all' others p es
+          → ((p' : ℕ) (es' : List Entry) (others' : List Cell) → Laid y all' others' p' es' → AreFrom (cells_from x all (suc i) fs) others' (at + p') (partners_from structs x y v at fs es'))
+          → AreFrom (cells_from x all i (f ∷ fs)) others (at + p) (field_partners structs x y f o es at ++ partners_from structs x y v at fs (fields_left structs x y o es))
+      go None es others h more = skip es others (more p es others h)
+      go (Some rest) [] others h more = skip [] others (more p [] others tt)
+      go (Some rest) (e ∷ es) others h more =
+          let front = h.0 in
+          let place = front.place in
+          let here = cells_at y all' e in
+          let z : at + e.place ≡ (at + p) + length front.gap = omega (arith, place) in
+          let u : at + (e.place + length here) ≡ (at + e.place) + length here = omega arith in
+          subst (λ (l : List Cell). AreFrom (cells_from x all i (f ∷ fs)) l (at + p) (field_partners structs x y f (Some rest) (e ∷ es) at ++ partners_from structs x y v at fs es)) (sym front.is)
+          (paired_behind front.gap (cells_from x all i (f ∷ fs)) (here ++ front.rest) (at + p) _
+          (subst (λ (n : ℕ). AreFrom (cells_from x all i (f ∷ fs)) (here ++ front.rest) n (field_partners structs x y f (Some rest) (e ∷ es) at ++ partners_from structs x y v at fs es)) z
+          (paired_append (field_cells x all i f) (cells_from x all (suc i) fs) here front.rest (at + e.place) (field_partners structs x y f (Some rest) (e ∷ es) at) (partners_from structs x y v at fs es)
+          (array_paired f.item e.field.item (counted i all) (counted e.index all') f.default e.field.default (capacity_of f.count) (capacity_of e.field.count) (at + e.place) 0 0 0 0 lt.0)
+          (subst (λ (n : ℕ). AreFrom (cells_from x all (suc i) fs) front.rest n (partners_from structs x y v at fs es)) u (more (e.place + length here) es front.rest h.1)))))
+
+  pub desc_paired : (v w : ℕ) (a b : Desc) (at : ℕ) → FieldsBelow k a.fields → AreFrom (desc_cells x a) (desc_cells y b) at (desc_partners structs x y v w a b at)
+  desc_paired v w a b at lt =
+      let z : at + 0 ≡ at = omega arith in
+      subst (λ (n : ℕ). AreFrom (desc_cells x a) (desc_cells y b) n (desc_partners structs x y v w a b at)) z
+      (fields_paired a.fields b.fields v 0 at 0 a.fields (present_from y b.fields w 0 0 b.fields) (desc_cells y b) lt (laid y b.fields w 0 0 b.fields))

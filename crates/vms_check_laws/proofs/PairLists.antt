@@ -1,0 +1,129 @@
+-- Partners of cells among the cells that stand from a place on.
+use Rattle.std.proofs.Common.{◌≡◌, ◌⊎◌, inl, inr, ℕ, zero, suc, ◌+◌, ◌-◌, ◌<◌, ◌≤◌, List, [], ◌∷◌, ◌++◌, length, length-append, get_or, replicate, Option, Some, None, refl, sym, ap, ◌∙◌, subst, arith}
+use Rattle.std.specs.List.{slice_get}
+use Rattle.std.proofs.lemmas.List.{get_or_append_left, get_or-append-add, length-replicate}
+use Rattle.std.proofs.lemmas.Bool.{cases_lt}
+use Rattle.vms_spec.specs.Layout.{Cell, no_cell}
+
+-- cell c of these and the one of number k, which is one of the others, the first of which has the number `at`
+pub record IsPair (cells others : List Cell) (at c k : ℕ) : Type 0 where
+  pub r : ℕ
+  pub is : k ≡ at + r
+  pub inside : r < length others
+  pub kind : (get_or cells c no_cell).kind ≡ (get_or others r no_cell).kind
+
+pub record AreFrom (cells others : List Cell) (at : ℕ) (partners : List (Option ℕ)) : Type 0 where
+  pub long : length partners ≡ length cells
+  pub pairs : (c k : ℕ) → slice_get partners c ≡ Some (Some k) → IsPair cells others at c k
+  pub once : (b c k : ℕ) → slice_get partners b ≡ Some (Some k) → slice_get partners c ≡ Some (Some k) → b ≡ c
+
+-- ---- lists
+
+pub at_left : {A : Type 0} (xs ys : List A) (c : ℕ) → c < length xs → slice_get (xs ++ ys) c ≡ slice_get xs c
+at_left [] ys c lt = absurd (omega arith)
+at_left (x ∷ xs) ys zero lt = refl
+at_left (x ∷ xs) ys (suc c) lt = at_left xs ys c (omega arith)
+
+pub at_right : {A : Type 0} (xs ys : List A) (c : ℕ) → slice_get (xs ++ ys) (length xs + c) ≡ slice_get ys c
+at_right [] ys c = let z : 0 + c ≡ c = omega arith in ap (slice_get ys) z
+at_right (x ∷ xs) ys c = let z : suc (length xs) + c ≡ suc (length xs + c) = omega arith in ap (slice_get (x ∷ xs ++ ys)) z ∙ at_right xs ys c
+
+pub at_none : (n c k : ℕ) → slice_get (replicate n None) c ≡ Some (Some k) → ⊥
+at_none zero c k e = cc
+at_none (suc n) zero k e = cc
+at_none (suc n) (suc c) k e = at_none n c k e
+
+-- ---- joined
+
+pub paired_none : (cells others : List Cell) (at n : ℕ) → n ≡ length cells → AreFrom cells others at (replicate n None)
+paired_none cells others at n e = record {
+  long = length-replicate n None ∙ e;
+  pairs = λ c k h. absurd (at_none n c k h);
+  once = λ b c k h g. absurd (at_none n b k h);
+}
+
+-- in the first list, or in the second by so much
+pub record IsBehind (n c : ℕ) : Type 0 where
+  pub more : ℕ
+  pub is : c ≡ n + more
+
+pub before_or_behind : (n c : ℕ) → (c < n) ⊎ IsBehind n c
+before_or_behind n c = go (cases_lt c n) where
+  go : (c < n) ⊎ (n ≤ c) → (c < n) ⊎ IsBehind n c
+  go (inl lt) = inl lt
+  go (inr le) = inr (record { more = c - n; is = omega (arith, le) })
+
+module _ (xs ys us vs : List Cell) (at : ℕ) (p q : List (Option ℕ)) (h : AreFrom xs us at p) (g : AreFrom ys vs (at + length us) q) where
+  kind_left : (c : ℕ) → c < length xs → (get_or (xs ++ ys) c no_cell).kind ≡ (get_or xs c no_cell).kind
+  kind_left c lt = ap (λ (x : Cell). x.kind) (get_or_append_left xs ys no_cell c lt)
+
+  pair_left : (c k : ℕ) → c < length p → slice_get (p ++ q) c ≡ Some (Some k) → IsPair xs us at c k
+  pair_left c k lt e = h.pairs c k (sym (at_left p q c lt) ∙ e)
+
+  pair_right : (c k : ℕ) (b : IsBehind (length p) c) → slice_get (p ++ q) c ≡ Some (Some k) → IsPair ys vs (at + length us) b.more k
+  pair_right c k b e = g.pairs b.more k (sym (at_right p q b.more) ∙ ap (slice_get (p ++ q)) (sym b.is) ∙ e)
+
+  pair_either : (c k : ℕ) → slice_get (p ++ q) c ≡ Some (Some k) → (c < length p) ⊎ IsBehind (length p) c → IsPair (xs ++ ys) (us ++ vs) at c k
+  pair_either c k e (inl lt) =
+      let i = pair_left c k lt e in
+      let inside = i.inside in
+      let long = h.long in
+      record {
+        r = i.r;
+        is = i.is;
+        inside = omega (arith, inside, length-append us vs);
+        kind = ap (λ (x : Cell). x.kind) (get_or_append_left xs ys no_cell c (omega (arith, lt, long))) ∙ i.kind
+            ∙ sym (ap (λ (x : Cell). x.kind) (get_or_append_left us vs no_cell i.r inside));
+      }
+  pair_either c k e (inr b) =
+      let i = pair_right c k b e in
+      let inside = i.inside in
+      let is = i.is in
+      let long = h.long in
+      let behind = b.is in
+      let place : c ≡ length xs + b.more = omega (arith, long, behind) in
+      record {
+        r = length us + i.r;
+        is = omega (arith, is);
+        inside = omega (arith, inside, length-append us vs);
+        kind = ap (λ (n : ℕ). (get_or (xs ++ ys) n no_cell).kind) place ∙ ap (λ (x : Cell). x.kind) (get_or-append-add xs ys b.more no_cell) ∙ i.kind
+            ∙ sym (ap (λ (x : Cell). x.kind) (get_or-append-add us vs i.r no_cell));
+      }
+
+  apart : (b c k : ℕ) → c < length p → (d : IsBehind (length p) b) → slice_get (p ++ q) c ≡ Some (Some k) → slice_get (p ++ q) b ≡ Some (Some k) → ⊥
+  apart b c k lt d e f =
+      let i = pair_left c k lt e in
+      let j = pair_right b k d f in
+      let a1 = i.is in
+      let a2 = i.inside in
+      let b1 = j.is in
+      omega (arith, a1, a2, b1)
+
+  once_either : (b c k : ℕ) → slice_get (p ++ q) b ≡ Some (Some k) → slice_get (p ++ q) c ≡ Some (Some k) → (b < length p) ⊎ IsBehind (length p) b → (c < length p) ⊎ IsBehind (length p) c → b ≡ c
+  once_either b c k e f (inl lb) (inl lc) = h.once b c k (sym (at_left p q b lb) ∙ e) (sym (at_left p q c lc) ∙ f)
+  once_either b c k e f (inl lb) (inr dc) = absurd (apart c b k lb dc e f)
+  once_either b c k e f (inr db) (inl lc) = absurd (apart b c k lc db f e)
+  once_either b c k e f (inr db) (inr dc) =
+      let one = g.once db.more dc.more k (sym (at_right p q db.more) ∙ ap (slice_get (p ++ q)) (sym db.is) ∙ e) (sym (at_right p q dc.more) ∙ ap (slice_get (p ++ q)) (sym dc.is) ∙ f) in
+      let x = db.is in
+      let y = dc.is in
+      omega (arith, one, x, y)
+
+  pub paired_append : AreFrom (xs ++ ys) (us ++ vs) at (p ++ q)
+  paired_append =
+      let long = h.long in
+      let long' = g.long in
+      record {
+        long = omega (arith, long, long', length-append p q, length-append xs ys);
+        pairs = λ c k e. pair_either c k e (before_or_behind (length p) c);
+        once = λ b c k e f. once_either b c k e f (before_or_behind (length p) b) (before_or_behind (length p) c);
+      }
+
+-- others that stand before, or that nothing is paired with
+pub paired_behind : (gap cells others : List Cell) (at : ℕ) (p : List (Option ℕ)) → AreFrom cells others (at + length gap) p → AreFrom cells (gap ++ others) at p
+paired_behind gap cells others at p h = paired_append [] cells gap others at [] p (paired_none [] gap at 0 refl) h
+
+pub paired_skip : (xs ys others : List Cell) (at n : ℕ) (p : List (Option ℕ)) → n ≡ length xs → AreFrom ys others at p → AreFrom (xs ++ ys) others at (replicate n None ++ p)
+paired_skip xs ys others at n p e h =
+    let z : at ≡ at + 0 = omega arith in
+    paired_append xs ys [] others at (replicate n None) p (paired_none xs [] at n e) (subst (λ (i : ℕ). AreFrom ys others i p) z h)

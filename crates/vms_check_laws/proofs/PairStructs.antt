@@ -1,0 +1,94 @@
+-- The partners of structures, each by the earlier ones.
+use Rattle.std.proofs.Common.{◌≡◌, ℕ, zero, suc, ◌<◌, ◌≤◌, Bool, true, false, List, [], ◌∷◌, length, get_or, Some, refl, sym, ap, ◌∙◌, subst, arith, nat_lt}
+use Rattle.std.specs.List.{slice_get}
+use Rattle.std.proofs.lemmas.Bool.{ltb-true, ltb-false}
+use Rattle.vms_spec.specs.Sets.{Field, Desc, Set}
+use Rattle.vms_spec.specs.Layout.{Cell, first, no_desc, desc_cells, struct_cells}
+use Rattle.vms_spec.specs.WellFormed.{WellFormed, struct_rules}
+use Rattle.vms_spec.specs.Rules.{uses_below}
+use Rattle.vms_spec.proofs.Tables.{first_at, first_long}
+use Rattle.vms_spec.proofs.Prefixes.{FieldsBelow, item_below, desc_cells_same, first_same}
+use Rattle.vms_spec.proofs.WellFormedLaws.{Clean, struct_clean}
+use Rattle.vms_check.specs.Partners.{Pairer, no_pairer, pairer_of, pairers, part_partners}
+use Rattle.vms_check_laws.proofs.PairLists.{AreFrom}
+use Rattle.vms_check_laws.proofs.PairFields.{Structs, desc_paired}
+
+-- ---- the cells of a structure
+
+pub below_of : (k : ℕ) (d : Desc) (rules : _) → Clean k d rules → FieldsBelow k d.fields
+below_of k d rules c = go d.fields (λ i f e. (c.fields i f e).1.1.1.1.0) where
+  go : (fs : List Field) → ((i : ℕ) (f : Field) → slice_get fs i ≡ Some f → uses_below k f.item ≡ true) → FieldsBelow k fs
+  go [] h = tt
+  go (f ∷ fs) h = (item_below k f.item (h 0 f refl), go fs (λ i g e. h (suc i) g e))
+
+at_get : (xs : List Desc) (j : ℕ) → j < length xs → slice_get xs j ≡ Some (get_or xs j no_desc)
+at_get [] j lt = absurd (omega arith)
+at_get (x ∷ xs) zero lt = refl
+at_get (x ∷ xs) (suc j) lt = at_get xs j (omega arith)
+
+get_beyond : {A : Type 0} (xs : List A) (j : ℕ) (d : A) → length xs ≤ j → get_or xs j d ≡ d
+get_beyond [] j d le = refl
+get_beyond (x ∷ xs) zero d le = absurd (omega arith)
+get_beyond (x ∷ xs) (suc j) d le = get_beyond xs j d (omega arith)
+
+module _ (set : Set) (well : WellFormed set) where
+  pub struct_below : (j : ℕ) → j < length set.structs → FieldsBelow j (get_or set.structs j no_desc).fields
+  struct_below j lt = below_of j (get_or set.structs j no_desc) (struct_rules set.structs j (get_or set.structs j no_desc)) (struct_clean set well j (get_or set.structs j no_desc) (at_get set.structs j lt))
+
+  pub struct_is : (j : ℕ) → get_or (struct_cells set) j [] ≡ desc_cells (struct_cells set) (get_or set.structs j no_desc)
+  struct_is j = go (nat_lt j (length set.structs)) refl where
+    go : (b : Bool) → nat_lt j (length set.structs) ≡ b → get_or (struct_cells set) j [] ≡ desc_cells (struct_cells set) (get_or set.structs j no_desc)
+    go true e =
+        let ds = set.structs in
+        let k = length set.structs in
+        let lt : j < k = ltb-true j k e in
+        first_at desc_cells ds [] k j lt
+        ∙ desc_cells_same j (first desc_cells ds j) (first desc_cells ds k) (λ i l. first_same desc_cells ds [] j k i (omega arith) l) (get_or ds j no_desc) (struct_below j lt)
+    go false e =
+        let ds = set.structs in
+        let k = length set.structs in
+        let le : k ≤ j = ltb-false j k e in
+        let long = first_long desc_cells ds k in
+        get_beyond (struct_cells set) j [] (omega (arith, le, long)) ∙ sym (ap (λ (d : Desc). desc_cells (struct_cells set) d) (get_beyond ds j no_desc le))
+
+-- ---- their partners
+
+module _ (old new : Set) (good_old : WellFormed old) (good_new : WellFormed new) where
+  abbrev x : List (List Cell)
+  x = struct_cells old
+
+  abbrev y : List (List Cell)
+  y = struct_cells new
+
+  abbrev table : ℕ → List Pairer
+  table k = pairers x y old.structs new.structs k
+
+  last : (m j at : ℕ) → m < length old.structs → Structs (table m) x y m → AreFrom (get_or x m []) (get_or y j []) at (pairer_of (table m) x y new.structs (get_or old.structs m no_desc) j at)
+  last m j at lt h =
+      let d = get_or old.structs m no_desc in
+      let e = get_or new.structs j no_desc in
+      subst (λ (l : List Cell). AreFrom l (get_or y j []) at (pairer_of (table m) x y new.structs d j at)) (sym (struct_is old good_old m))
+      (subst (λ (l : List Cell). AreFrom (desc_cells x d) l at (pairer_of (table m) x y new.structs d j at)) (sym (struct_is new good_new j))
+      (desc_paired (table m) x y m h d.version e.version d e at (struct_below old good_old m lt)))
+
+  pub tables : (m : ℕ) → m ≤ length old.structs → Structs (table m) x y m
+  tables zero le = λ i j at lt. absurd (omega arith)
+  tables (suc m) le = λ i j at lt. by_place (tables m (omega arith)) i j at lt (nat_lt i m) refl where
+    f : List Pairer → Desc → Pairer
+    f earlier d = pairer_of earlier x y new.structs d
+
+    by_place : Structs (table m) x y m → (i j at : ℕ) → i < suc m → (b : Bool) → nat_lt i m ≡ b → AreFrom (get_or x i []) (get_or y j []) at (get_or (table (suc m)) i no_pairer j at)
+    by_place h i j at lt true e =
+        let l : i < m = ltb-true i m e in
+        subst (λ (p : Pairer). AreFrom (get_or x i []) (get_or y j []) at (p j at)) (first_same (λ earlier d. pairer_of earlier x y new.structs d) old.structs no_pairer m (suc m) i (omega arith) l) (h i j at l)
+    by_place h i j at lt false e =
+        let ge : m ≤ i = ltb-false i m e in
+        let same : m ≡ i = omega arith in
+        let l : m < suc m = omega arith in
+        subst (λ (n : ℕ). AreFrom (get_or x n []) (get_or y j []) at (get_or (table (suc m)) n no_pairer j at)) same
+        (subst (λ (p : Pairer). AreFrom (get_or x m []) (get_or y j []) at (p j at)) (sym (first_at (λ earlier d. pairer_of earlier x y new.structs d) old.structs no_pairer (suc m) m l))
+        (last m j at (omega (arith, le)) h))
+
+  -- two descriptions
+  pub part_paired : (v : ℕ) (a b : Desc) (at : ℕ) → FieldsBelow (length old.structs) a.fields → AreFrom (desc_cells x a) (desc_cells y b) at (part_partners old new v a b at)
+  part_paired v a b at lt = desc_paired (table (length old.structs)) x y (length old.structs) (tables (length old.structs) (omega arith)) v v a b at lt

@@ -1,0 +1,35 @@
+-- What else a load says of its source, as consequences of what it reads.
+use Rattle.std.proofs.Common.{ℕ, List, Option, Some, None, Result, Ok, Err, IfSome, inl, arith}
+use Rattle.vms_io.specs.Told.{Intake}
+use Rattle.vms_io.proofs.ReadingLemmas.{reads_told}
+use Rattle.vms_spec.specs.Sets.{Set}
+use Rattle.vms_spec.specs.Images.{Image}
+use Rattle.vms_load.specs.Going.{LoadReads}
+use Rattle.vms_load.specs.Hearing.{HearsLoad}
+use Rattle.vms_load.specs.Loads.{Loads, HasCause, GivesWithin}
+use Rattle.vms_load.specs.declared.fault.LoadFault.{LoadFault}
+use Rattle.vms_load.specs.declared.fault.LoadFault.TheVariants as faults
+
+module _ {a b : Intake} (set : Set) (names : List (List ℕ)) (images : List Image) (taken : ℕ) where
+  pub content : (r : Result (Option ℕ) LoadFault) → LoadReads a b set names images taken r → IfSome a.left (λ input. Loads set names input b.left images taken r)
+  content (Ok machine) p = reads_told (λ input left. Loads set names input left images taken (Ok machine)) tt p
+  content (Err (faults.Refused e)) p = reads_told (λ input left. Loads set names input left images taken (Err (faults.Refused e))) tt p
+  content (Err faults.ReadFault) p = none a.left
+    where
+      none : (old : Option (List ℕ)) → IfSome old (λ input. Unit {0})
+      none None = tt
+      none (Some input) = tt
+
+  pub heard : (r : Result (Option ℕ) LoadFault) → LoadReads a b set names images taken r → HearsLoad set names a.given b.given images taken r
+  heard (Ok machine) p = record { bytes = p.bytes; octets = p.takes.octets; given = p.takes.given; says = λ more f. p.says more (inl f) }
+  heard (Err (faults.Refused e)) p = record { bytes = p.bytes; octets = p.takes.octets; given = p.takes.given; says = λ more f. p.says more (inl f) }
+  heard (Err faults.ReadFault) p = tt
+
+  pub given : (r : Result (Option ℕ) LoadFault) → LoadReads a b set names images taken r → GivesWithin set a.given b.given taken r
+  given (Ok machine) p = (omega (arith, p.takes.given, p.long.0), p.long.1)
+  given (Err fault) p = omega (arith, p.takes.given, p.long)
+
+  pub cause : (r : Result (Option ℕ) LoadFault) → LoadReads a b set names images taken r → HasCause a.faults b.faults r
+  cause (Ok machine) p = p.takes.later
+  cause (Err (faults.Refused e)) p = p.takes.later
+  cause (Err faults.ReadFault) p = (p.takes.later, p.cause)

@@ -1,0 +1,26 @@
+-- How many items the fields of a description have, by its structures.
+use Rattle.std.proofs.Common.{◌≡◌, ℕ, zero, suc, ◌+◌, ◌*◌, List, ◌∷◌, ◌++◌, get_or, refl, ap, ◌∙◌, []}
+use Rattle.vms_kinds.specs.declared.Item.{Item}
+use Rattle.vms_kinds.specs.declared.Item.TheVariants.{Num, Equal, Unused, Struct}
+use Rattle.vms_spec.specs.Sets.{Field, Desc}
+use Rattle.vms_spec.specs.Layout.{capacity_of, first, no_desc}
+use Rattle.vms_spec.specs.WellFormed.{item_count, items_in}
+use Rattle.vms_parts.specs.declared.sizes.Measure.TheVariants.{Items}
+use Rattle.vms_parts.specs.Sizes.{size_of, fields_size, sizes_to}
+
+pub item_is : (sizes : List ℕ) (item : Item) → item_count sizes item ≡ size_of Items sizes item
+item_is sizes (Num kind) = refl
+item_is sizes (Equal kind z) = refl
+item_is sizes (Unused n) = refl
+item_is sizes (Struct j) = refl
+
+pub items_are : (sizes : List ℕ) (fs : List Field) → items_in sizes fs ≡ fields_size Items sizes fs
+items_are sizes [] = refl
+items_are sizes (f ∷ fs) = ap (λ (n : ℕ). capacity_of f.count * n + items_in sizes fs) (item_is sizes f.item) ∙ ap (λ (n : ℕ). capacity_of f.count * size_of Items sizes f.item + n) (items_are sizes fs)
+
+pub items_to : (ds : List Desc) (k : ℕ) → first (λ sizes d. items_in sizes d.fields) ds k ≡ sizes_to Items ds k
+unfolding first
+items_to ds zero = refl
+items_to ds (suc k) =
+    ap (λ (l : List ℕ). l ++ items_in l (get_or ds k no_desc).fields ∷ []) (items_to ds k)
+    ∙ ap (λ (n : ℕ). sizes_to Items ds k ++ n ∷ []) (items_are (sizes_to Items ds k) (get_or ds k no_desc).fields)

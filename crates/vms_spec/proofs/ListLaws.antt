@@ -1,0 +1,89 @@
+-- Lists, and tests of them.
+use Rattle.std.proofs.Common.{◌≡◌, ℕ, zero, suc, ◌+◌, ◌*◌, ◌-◌, ◌<◌, ◌≤◌, min, Bool, true, false, ◌&&◌, nat_le, if◌then◌else◌, List, ◌∷◌, ◌++◌, length, drop, Option, Some, None, refl, sym, ap, ◌∙◌, arith, ◌||◌, []}
+use Rattle.std.specs.List.{slice_get}
+use Rattle.std.specs.Str.{bytes_eq}
+use Rattle.std.proofs.Math.Bool.{or_assoc, or_comm}
+use Rattle.std.proofs.Math.Seq.{drop-append_seam}
+use Rattle.std.proofs.lemmas.Bool.{and_from, and_parts, leb-true, le-leb}
+use Rattle.std.proofs.lemmas.List.{drop-drop}
+use Rattle.vms_spec.specs.Lists.{position}
+use Rattle.vms_spec.specs.Sets.{Sub}
+use Rattle.vms_spec.specs.Images.{AreVersionsOf}
+use Rattle.vms_spec.specs.Streams.{AllCame, is_one_of}
+use Rattle.vms_spec.specs.Spelling.{natural_from}
+
+-- ---- tests
+
+pub same_tests : (a b : Bool) → (a ≡ true → b ≡ true) → (b ≡ true → a ≡ true) → a ≡ b
+same_tests true b f g = sym (f refl)
+same_tests false true f g = g refl
+same_tests false false f g = refl
+
+pub or_second : (a b : Bool) → (a || b) ≡ true → a ≡ false → b ≡ true
+or_second true b e f = cc
+or_second false b e f = e
+
+pub or_turned : (a b c : Bool) → (a || (b || c)) ≡ ((b || a) || c)
+or_turned a b c = sym (or_assoc a b c) ∙ ap (λ (t : Bool). t || c) (or_comm a b)
+
+pub and_swap : (a b c d : Bool) → ((a && b) && (c && d)) ≡ ((a && c) && (b && d))
+and_swap false b c d = refl
+and_swap true true c d = refl
+and_swap true false true d = refl
+and_swap true false false d = refl
+
+pub both_below : (n a b : ℕ) → nat_le n (min a b) ≡ (nat_le n a && nat_le n b)
+both_below n a b = same_tests (nat_le n (min a b)) (nat_le n a && nat_le n b) forth back
+  where
+    forth : nat_le n (min a b) ≡ true → (nat_le n a && nat_le n b) ≡ true
+    forth e = let le : n ≤ min a b = leb-true n (min a b) e in and_from (nat_le n a) (nat_le n b) (le-leb n a (omega arith)) (le-leb n b (omega arith))
+
+    back : (nat_le n a && nat_le n b) ≡ true → nat_le n (min a b) ≡ true
+    back e =
+        let p = and_parts (nat_le n a) (nat_le n b) e in
+        let l : n ≤ a = leb-true n a p.0 in
+        let m : n ≤ b = leb-true n b p.1 in
+        le-leb n (min a b) (omega arith)
+
+-- ---- lists
+
+-- the first of a list, if it is taken
+pub pick_append : {B : Type 0} (b : Bool) (x : B) (xs ys zs : List B) → xs ≡ ys ++ zs → (if b then x ∷ xs else xs) ≡ (if b then x ∷ ys else ys) ++ zs
+pick_append true x xs ys zs e = ap (λ l. x ∷ l) e
+pick_append false x xs ys zs e = e
+
+pub drop_on : {A : Type 0} (all : List A) (at : ℕ) (xs ys : List A) → drop at all ≡ xs ++ ys → drop (at + length xs) all ≡ ys
+drop_on all at xs ys e = sym (drop-drop (length xs) at all) ∙ ap (λ l. drop (length xs) l) e ∙ drop-append_seam xs ys
+
+-- where a first is found, there is one
+pub found_inside : {X : Type 0} (p : X → Bool) (i : ℕ) (xs : List X) (k : ℕ) → position p i xs ≡ Some k → (i ≤ k) × (k - i < length xs)
+found_inside p i [] k e = absurd (cc)
+found_inside p i (x ∷ xs) k e = by (λ h. found_inside p (suc i) xs k h) (p x) e
+  where
+    by : (position p (suc i) xs ≡ Some k → (suc i ≤ k) × (k - suc i < length xs)) → (t : Bool) → (if t then Some i else position p (suc i) xs) ≡ Some k → (i ≤ k) × (k - i < suc (length xs))
+    by rest true e = let same : i ≡ k = cc in (omega arith, omega arith)
+    by rest false e = let h = rest e in (omega (arith, h.0), omega (arith, h.0, h.1))
+
+pub one_of_both : (xs ys : List (List ℕ)) (n : List ℕ) → is_one_of (xs ++ ys) n ≡ (is_one_of xs n || is_one_of ys n)
+one_of_both [] ys n = refl
+one_of_both (x ∷ xs) ys n = ap (λ (b : Bool). bytes_eq x n || b) (one_of_both xs ys n) ∙ sym (or_assoc (bytes_eq x n) (is_one_of xs n) (is_one_of ys n))
+
+-- ---- lists of a stream and of an image
+
+pub none_left : (came : List Bool) (k : ℕ) → AllCame came → slice_get came k ≡ Some false → ⊥
+none_left [] k all e = cc
+none_left (true ∷ came) zero all e = cc
+none_left (true ∷ came) (suc k) all e = none_left came k all e
+none_left (false ∷ came) k all e = absurd all
+
+pub versions_long : (subs : List Sub) (came : List (Option ℕ)) → AreVersionsOf subs came → length came ≡ length subs
+versions_long [] [] h = refl
+versions_long [] (o ∷ came) h = absurd h
+versions_long (s ∷ subs) [] h = absurd h
+versions_long (s ∷ subs) (None ∷ came) h = ap suc (versions_long subs came h)
+versions_long (s ∷ subs) (Some v ∷ came) h = ap suc (versions_long subs came h.1)
+
+-- a number grows by its digits
+pub natural_up : (n : ℕ) (bs : List ℕ) → n ≤ natural_from n bs
+natural_up n [] = omega arith
+natural_up n (b ∷ bs) = omega (arith, natural_up (n * 10 + (b - 48)) bs)

@@ -1,0 +1,56 @@
+#!/bin/sh
+# A running QEMU is stopped, the state of its devices is edited as text, and another QEMU goes on with it.
+#
+#     sh commands.sh [FOLDER]
+#
+# Needs sh, qemu-system-x86_64 and vmstate on the path, and takes three seconds. What it makes stands in FOLDER,
+# or in a folder that is gone afterwards. It prints what the guest sent before and after, AAAA and BBBB, and its
+# status is 0 where that is so and where the state that comes out of a third QEMU is the text that went in.
+set -e
+here=$(cd "$(dirname "$0")" && pwd)
+folder=$1
+[ "$folder" ] || { folder=$(mktemp -d); trap 'rm -r "$folder"' EXIT; }
+cd "$folder"
+cp "$here/microvm.json" .
+sh "$here/guest.sh" > guest.rom
+rm -f ram.img
+
+# The VM, with its RAM in a file that outlives it.
+vm() {
+    qemu-system-x86_64 -accel tcg -M microvm,pic=on,pit=on,rtc=on,isa-serial=on,memory-backend=ram -m 16M \
+        -object memory-backend-file,id=ram,mem-path=ram.img,size=16M,share=on \
+        -bios guest.rom -rtc base=2001-02-03T04:05:06,clock=vm -nodefaults -display none "$@"
+}
+
+# The commands of a QMP session, which come after a second.
+qmp() {
+    echo '{"execute": "qmp_capabilities"}'
+    sleep 1
+    printf '%s\n' "$@" '{"execute": "quit"}'
+}
+
+# It runs for a second, is stopped, and saves its devices without its RAM.
+qmp '{"execute": "stop"}' \
+    '{"execute": "xen-save-devices-state", "arguments": {"filename": "before.stream"}}' |
+    vm -qmp stdio -serial file:before.txt > before.log
+
+# Shown, edited, packed. The stream names no machine, but one that comes in must.
+vmstate show microvm.json < before.stream > before.values
+sed '1i\
+machine microvm
+s/^state.scr = 65$/state.scr = 66/' before.values > after.values
+vmstate pack microvm.json after.values > after.stream
+
+# Another QEMU with the same RAM takes it and goes on for a second.
+qmp | vm -qmp stdio -serial file:after.txt -incoming 'exec:cat after.stream' > after.log
+
+# A third takes it, stays stopped, and saves what it took.
+qmp '{"execute": "xen-save-devices-state", "arguments": {"filename": "again.stream"}}' |
+    vm -qmp stdio -serial null -S -incoming 'exec:cat after.stream' > again.log
+vmstate show microvm.json < again.stream > again.values
+
+# What the guest sent, and what came out again: the text but for the line of the machine.
+sent="$(head -c 4 before.txt) $(head -c 4 after.txt)"
+echo "$sent"
+[ "$sent" = 'AAAA BBBB' ]
+tail -n +2 after.values | cmp - again.values
