@@ -1,7 +1,7 @@
 use Rattle.std.proofs.Common.{arith, ap, length}
 use Rattle.vms_spec.specs.Sets.{Set}
 use Rattle.vms_desc.specs.Described.{described}
-use Rattle.vms_load.proofs.SetFacts.{few_machines}
+use Rattle.vms_desc.proofs.Bounds.{few_machines}
 use Rattle.vms_counter.proofs.candidates.machine_for.Goals as goal
 
 pub lacking-requires : goal.lacking-requires

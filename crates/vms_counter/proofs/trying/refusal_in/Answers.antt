@@ -2,7 +2,7 @@ use Rattle.std.proofs.Common.{List, ℕ, ap, subst}
 use Rattle.vms_stream.specs.Faults.{Fault}
 use Rattle.vms_load.proofs.SetFacts.{well_of}
 use Rattle.vms_io.specs.Memory.{Supply, bytes_left}
-use Rattle.vms_spec.specs.Numbers.{IsBytes}
+use Rattle.vms_kinds.specs.Bytes.{IsBytes}
 use Rattle.vms_stream.proofs.Stated.{never_both_holds}
 use Rattle.vms_load.specs.Kept.{loads}
 use Rattle.vms_counter.proofs.trying.refusal_in.Goals as goal
