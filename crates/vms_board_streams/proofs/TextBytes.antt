@@ -1,0 +1,322 @@
+-- The text that describes the devices of a set is bytes: names are, and the rest is written in ASCII.
+use Rattle.std.proofs.Common.{◌≡◌, ℕ, zero, suc, ◌+◌, ◌*◌, ◌/◌, ◌%◌, ◌<◌, ◌==◌, ◌&&◌, ◌||◌, List, [], ◌∷◌, ◌++◌, length, map, get_or, ℤ, pos, negsuc, Bool, true, false, cond, nat_lt, refl, arith, Option, Some, None, is_some, decimal, codes}
+use Rattle.std.proofs.lemmas.Bool.{and_parts, ltb-true}
+use Rattle.std.specs.Fmt.{digits, digits_onto, digit_glyph}
+use Rattle.json.specs.Print.{escape, escape_byte, escape_letter, quoted}
+use Rattle.serde_json.specs.Data.{Data, null, boolean, number, string, array, object, Items, no_items, item, Members, no_members, member}
+use Rattle.serde_json.specs.Find.{of_integer}
+use Rattle.serde_json.specs.View.{items_of}
+use Rattle.serde_json.specs.Written.{compact_text, items_text, members_text, number_text, comma_if}
+use Rattle.vms_kinds.specs.declared.Kind.{Kind}
+use Rattle.vms_kinds.specs.declared.Kind.TheVariants as kinds
+use Rattle.vms_kinds.specs.declared.Item.{Item}
+use Rattle.vms_kinds.specs.declared.Item.TheVariants.{Num as Number, Equal, Unused, Struct}
+use Rattle.vms_kinds.specs.Codes.{width}
+use Rattle.vms_spec.specs.declared.Count.{Count}
+use Rattle.vms_spec.specs.declared.Count.TheVariants.{One, Fixed, Counted}
+use Rattle.vms_spec.specs.Images.{Image, own_cells}
+use Rattle.vms_spec.specs.Layout.{Cell, no_parent, item_size, capacity_of, elements_of, numbers_of, desc_cells, struct_cells}
+use Rattle.vms_spec.specs.Numbers.{IsBytes}
+use Rattle.vms_spec.specs.Sets.{Field, Desc, Sub, Device, Set}
+use Rattle.vms_spec.specs.Tests.{is_there}
+use Rattle.vms_words.specs.Words.{kind_word}
+use Rattle.vms_selfdesc.specs.Entries.{Entry, Lister, no_lister, sent_entry, listed_if, item_entries, element_path, element_entries, array_entries, field_entries, entries_from, desc_entries, listers, part_entries}
+use Rattle.vms_selfdesc.specs.Tree.{entry_tree, sub_tree, sub_trees, device_tree, device_trees, described_tree, described_text}
+
+-- ---- lists of bytes
+
+abbrev pub AreBytes : List ℕ → Type 0
+AreBytes [] = Unit {0}
+AreBytes (x ∷ xs) = (x < 256) × AreBytes xs
+
+pub bytes_append : (xs ys : List ℕ) → AreBytes xs → AreBytes ys → AreBytes (xs ++ ys)
+bytes_append [] ys p q = q
+bytes_append (x ∷ xs) ys p q = (p.0, bytes_append xs ys p.1 q)
+
+pub bytes_at : (xs : List ℕ) → AreBytes xs → IsBytes xs
+bytes_at [] p i = omega arith
+bytes_at (x ∷ xs) p zero = p.0
+bytes_at (x ∷ xs) p (suc i) = bytes_at xs p.1 i
+
+abbrev pub below : List ℕ → Bool
+below [] = true
+below (x ∷ xs) = nat_lt x 256 && below xs
+
+pub spelled : (xs : List ℕ) → below xs ≡ true → AreBytes xs
+spelled [] e = tt
+spelled (x ∷ xs) e = let p = and_parts (nat_lt x 256) (below xs) e in (ltb-true x 256 p.0, spelled xs p.1)
+
+either-bytes : (b : Bool) (xs ys : List ℕ) → AreBytes xs → AreBytes ys → AreBytes (cond b xs ys)
+either-bytes true xs ys p q = p
+either-bytes false xs ys p q = q
+
+either-byte : (b : Bool) (x y : ℕ) → x < 256 → y < 256 → cond b x y < 256
+either-byte true x y p q = p
+either-byte false x y p q = q
+
+-- ---- digits
+
+glyph-byte : (d : ℕ) → d < 10 → digit_glyph false d < 256
+glyph-byte d lt = either-byte (nat_lt d 10) (48 + d) (87 + d) (omega arith) (omega arith)
+
+onto-bytes : (k n : ℕ) (acc : List ℕ) → AreBytes acc → AreBytes (digits_onto k 10 false n acc)
+onto-bytes zero n acc p = p
+onto-bytes (suc k) n acc p =
+    let d = digit_glyph false (n % 10) in
+    let here = glyph-byte (n % 10) (omega arith) in
+    either-bytes (n / 10 == 0) (d ∷ acc) (digits_onto k 10 false (n / 10) (d ∷ acc)) (here, p) (onto-bytes k (n / 10) (d ∷ acc) (here, p))
+
+decimal-bytes : (n : ℕ) → AreBytes (decimal n)
+unfolding digits
+decimal-bytes n = onto-bytes 64 n [] tt
+
+integer-bytes : (z : ℤ) → AreBytes (number_text (of_integer z))
+integer-bytes (pos n) = decimal-bytes n
+integer-bytes (negsuc n) = (omega arith, decimal-bytes (suc n))
+
+-- ---- strings
+
+letter-byte : (x : ℕ) → x < 256 → escape_letter x < 256
+letter-byte x lt =
+    either-byte ((x == 34) || (x == 92)) x _ lt
+    (either-byte (x == 8) 98 _ (omega arith)
+    (either-byte (x == 12) 102 _ (omega arith)
+    (either-byte (x == 10) 110 _ (omega arith)
+    (either-byte (x == 13) 114 _ (omega arith)
+    (either-byte (x == 9) 116 0 (omega arith) (omega arith))))))
+
+digit-byte : (d : ℕ) → d < 16 → cond (nat_lt d 10) (48 + d) (87 + d) < 256
+digit-byte d lt = either-byte (nat_lt d 10) (48 + d) (87 + d) (omega arith) (omega arith)
+
+escaped-byte : (x : ℕ) → x < 256 → AreBytes (escape_byte x)
+unfolding escape_byte
+escaped-byte x lt =
+    either-bytes (nat_lt 0 (escape_letter x)) (92 ∷ escape_letter x ∷ []) _ (omega arith, (letter-byte x lt, tt))
+    (either-bytes (nat_lt x 32) _ (x ∷ []) (omega arith, (omega arith, (omega arith, (omega arith, (digit-byte (x / 16) (omega arith), (digit-byte (x % 16) (omega arith), tt)))))) (lt, tt))
+
+escape-bytes : (xs : List ℕ) → AreBytes xs → AreBytes (escape xs)
+escape-bytes [] p = tt
+escape-bytes (x ∷ xs) p = bytes_append (escape_byte x) (escape xs) (escaped-byte x p.0) (escape-bytes xs p.1)
+
+quoted-bytes : (xs : List ℕ) → AreBytes xs → AreBytes (quoted xs)
+quoted-bytes xs p = (omega arith, bytes_append (escape xs) (34 ∷ []) (escape-bytes xs p) (omega arith, tt))
+
+-- ---- trees
+
+-- strings and keys are bytes, and so are the texts of numbers
+abbrev mutual
+  HasBytes : Data → Type 0
+  HasBytes null = Unit {0}
+  HasBytes (boolean b) = Unit {0}
+  HasBytes (number n) = AreBytes (number_text n)
+  HasBytes (string s) = AreBytes s
+  HasBytes (array ds) = ItemsHave ds
+  HasBytes (object ms) = MembersHave ms
+
+  ItemsHave : Items → Type 0
+  ItemsHave no_items = Unit {0}
+  ItemsHave (item d ds) = HasBytes d × ItemsHave ds
+
+  MembersHave : Members → Type 0
+  MembersHave no_members = Unit {0}
+  MembersHave (member k d ms) = AreBytes k × HasBytes d × MembersHave ms
+
+comma-bytes : (later : Bool) → AreBytes (comma_if later)
+comma-bytes true = (omega arith, tt)
+comma-bytes false = tt
+
+flag-bytes : (b : Bool) → AreBytes (compact_text (boolean b))
+flag-bytes true = spelled (compact_text (boolean true)) refl
+flag-bytes false = spelled (compact_text (boolean false)) refl
+
+mutual
+  text-bytes : (d : Data) → HasBytes d → AreBytes (compact_text d)
+  text-bytes null p = spelled (compact_text null) refl
+  text-bytes (boolean b) p = flag-bytes b
+  text-bytes (number n) p = p
+  text-bytes (string s) p = quoted-bytes s p
+  text-bytes (array ds) p = (omega arith, items-bytes false ds p)
+  text-bytes (object ms) p = (omega arith, members-bytes false ms p)
+
+  items-bytes : (later : Bool) (ds : Items) → ItemsHave ds → AreBytes (items_text later ds)
+  items-bytes later no_items p = (omega arith, tt)
+  items-bytes later (item d ds) p =
+      bytes_append (comma_if later) (compact_text d ++ items_text true ds) (comma-bytes later)
+      (bytes_append (compact_text d) (items_text true ds) (text-bytes d p.0) (items-bytes true ds p.1))
+
+  members-bytes : (later : Bool) (ms : Members) → MembersHave ms → AreBytes (members_text later ms)
+  members-bytes later no_members p = (omega arith, tt)
+  members-bytes later (member k d ms) p =
+      let value = bytes_append (compact_text d) (members_text true ms) (text-bytes d p.1) (members-bytes true ms p.2) in
+      bytes_append (comma_if later) (quoted k ++ 58 ∷ (compact_text d ++ members_text true ms)) (comma-bytes later)
+      (bytes_append (quoted k) (58 ∷ (compact_text d ++ members_text true ms)) (quoted-bytes k p.0) (omega arith, value))
+
+-- ---- entries
+
+pub record IsEntry (e : Entry) : Type 0 where
+  pub path : AreBytes e.path
+  pub type : AreBytes e.type
+
+abbrev pub AreEntries : List Entry → Type 0
+AreEntries [] = Unit {0}
+AreEntries (e ∷ es) = IsEntry e × AreEntries es
+
+entries-append : (xs ys : List Entry) → AreEntries xs → AreEntries ys → AreEntries (xs ++ ys)
+entries-append [] ys p q = q
+entries-append (x ∷ xs) ys p q = (p.0, entries-append xs ys p.1 q)
+
+entry-with : (path type : List ℕ) (size : ℕ) (absent : Option ℤ) → AreBytes path → AreBytes type → HasBytes (entry_tree (record { path = path; size = size; type = type; absent = absent }))
+entry-with path type size None p q =
+    (spelled (codes "name") refl, p, (spelled (codes "size") refl, decimal-bytes size, (spelled (codes "type") refl, q, tt)))
+entry-with path type size (Some z) p q =
+    (spelled (codes "name") refl, p, (spelled (codes "size") refl, decimal-bytes size, (spelled (codes "type") refl, q, (spelled (codes "value") refl, integer-bytes z, tt))))
+
+entries-have : (es : List Entry) → AreEntries es → ItemsHave (items_of (map entry_tree es))
+entries-have [] p = tt
+entries-have (e ∷ es) p = (entry-with e.path e.type e.size e.absent p.0.path p.0.type, entries-have es p.1)
+
+word-bytes : (kind : Kind) → AreBytes (kind_word kind)
+word-bytes kinds.U8 = spelled (kind_word kinds.U8) refl
+word-bytes kinds.U16 = spelled (kind_word kinds.U16) refl
+word-bytes kinds.U32 = spelled (kind_word kinds.U32) refl
+word-bytes kinds.U64 = spelled (kind_word kinds.U64) refl
+word-bytes kinds.I8 = spelled (kind_word kinds.I8) refl
+word-bytes kinds.I16 = spelled (kind_word kinds.I16) refl
+word-bytes kinds.I32 = spelled (kind_word kinds.I32) refl
+word-bytes kinds.I64 = spelled (kind_word kinds.I64) refl
+word-bytes kinds.Bool = spelled (kind_word kinds.Bool) refl
+word-bytes kinds.Timer = spelled (kind_word kinds.Timer) refl
+
+-- ---- fields
+
+abbrev pub AreNamed : List Field → Type 0
+AreNamed [] = Unit {0}
+AreNamed (f ∷ fs) = AreBytes f.name × AreNamed fs
+
+-- what a structure lists under a path of bytes
+pub record ListsBytes (l : Lister) : Type 0 where
+  pub each : (sent : Bool) (path : List ℕ) (n : List ℤ) (at : ℕ) → AreBytes path → AreEntries (l sent path n at)
+
+pub none-lists : ListsBytes no_lister
+none-lists = record { each = λ sent path n at p. tt }
+
+listed-entries : (sent : Bool) (e : Entry) → IsEntry e → AreEntries (listed_if sent e)
+listed-entries true e p = (p, tt)
+listed-entries false e p = tt
+
+element-bytes : (path : List ℕ) (i : ℕ) → AreBytes path → AreBytes (element_path path i)
+element-bytes path i p =
+    bytes_append path (codes "[" ++ (decimal i ++ codes "]")) p
+    (omega arith, bytes_append (decimal i) (codes "]") (decimal-bytes i) (spelled (codes "]") refl))
+
+elements-bytes : (one : List ℕ → ℕ → List Entry) → ((path : List ℕ) (at : ℕ) → AreBytes path → AreEntries (one path at)) → (path : List ℕ) (at step i n : ℕ) → AreBytes path
+    → AreEntries (element_entries one path at step i n)
+elements-bytes one each path at step i zero p = tt
+elements-bytes one each path at step i (suc n) p =
+    entries-append (one (element_path path i) at) (element_entries one path (at + step) step (suc i) n) (each (element_path path i) at (element-bytes path i p))
+    (elements-bytes one each path (at + step) step (suc i) n p)
+
+array-bytes : (one : List ℕ → ℕ → List Entry) → ((path : List ℕ) (at : ℕ) → AreBytes path → AreEntries (one path at)) → (count : Count) (n : ℕ) (path : List ℕ) (at step : ℕ) → AreBytes path
+    → AreEntries (array_entries one count n path at step)
+array-bytes one each One n path at step p = each path at p
+array-bytes one each (Fixed m) n path at step p = elements-bytes one each path at step 0 n p
+array-bytes one each (Counted by m) n path at step p = elements-bytes one each path at step 0 n p
+
+module _ (cells : List (List Cell)) (ls : List Lister) (lists : (j : ℕ) → ListsBytes (get_or ls j no_lister)) where
+  item-bytes : (x : Item) (z : ℤ) (sent : Bool) (path : List ℕ) (n : List ℤ) (at : ℕ) → AreBytes path → AreEntries (item_entries ls x z sent path n at)
+  item-bytes (Number kind) z true path n at p = (record { path = p; type = word-bytes kind }, tt)
+  item-bytes (Number kind) z false path n at p = (record { path = p; type = word-bytes kind }, tt)
+  item-bytes (Equal kind y) z sent path n at p =
+      listed-entries sent (sent_entry path (width kind) (codes "equal")) (record { path = p; type = spelled (codes "equal") refl })
+  item-bytes (Unused k) z sent path n at p =
+      listed-entries sent (sent_entry path k (codes "unused")) (record { path = p; type = spelled (codes "unused") refl })
+  item-bytes (Struct j) z sent path n at p =
+      (lists j).each sent (path ++ codes ".") n at (bytes_append path (codes ".") p (spelled (codes ".") refl))
+
+  fields-bytes : (v : ℕ) (own : ℕ → ℕ) (sent : Bool) (path : List ℕ) (n : List ℤ) (at : ℕ) (fs : List Field) → AreBytes path → AreNamed fs
+      → AreEntries (entries_from cells ls v own sent path n at fs)
+  fields-bytes v own sent path n at [] p named = tt
+  fields-bytes v own sent path n at (f ∷ fs) p named =
+      let there = sent && is_there f.test f.since v own no_parent in
+      let next = at + capacity_of f.count * item_size cells f.item in
+      entries-append (field_entries cells ls v own sent path n at f) (entries_from cells ls v own sent path n next fs)
+      (array-bytes (λ path at. item_entries ls f.item f.default there path n at) (λ path at q. item-bytes f.item f.default there path n at q) f.count (elements_of f.count own)
+      (path ++ f.name) at (item_size cells f.item) (bytes_append path f.name p named.0))
+      (fields-bytes v own sent path n next fs p named.1)
+
+  pub desc-bytes : (d : Desc) → AreNamed d.fields → ListsBytes (desc_entries cells ls d)
+  desc-bytes d named = record { each = λ sent path n at p. fields-bytes d.version (numbers_of cells d n at) sent path n at d.fields p named }
+
+-- ---- sets
+
+-- a description, whose name and whose fields' names are bytes; a name is shorter than 256 bytes
+pub record IsNamed (d : Desc) : Type 0 where
+  pub name : AreBytes d.name
+  pub short : length d.name < 256
+  pub fields : AreNamed d.fields
+
+abbrev pub AreNamedSubs : List Sub → Type 0
+AreNamedSubs [] = Unit {0}
+AreNamedSubs (s ∷ subs) = IsNamed s.desc × AreNamedSubs subs
+
+abbrev pub AreNamedDevices : List Device → Type 0
+AreNamedDevices [] = Unit {0}
+AreNamedDevices (d ∷ devices) = IsNamed d.desc × AreNamedSubs d.subs × AreNamedDevices devices
+
+abbrev pub ListsNames : Set → Type 0
+ListsNames set = (j : ℕ) → ListsBytes (get_or (listers set) j no_lister)
+
+module _ (set : Set) (lists : ListsNames set) where
+  part-bytes : (d : Desc) (sent : Bool) (n : List ℤ) (at : ℕ) → AreNamed d.fields → AreEntries (part_entries set d sent n at)
+  part-bytes d sent n at named = (desc-bytes (struct_cells set) (listers set) lists d named).each sent [] n at tt
+
+  sub-bytes : (n : List ℤ) (at : ℕ) (s : Sub) (came : Option ℕ) → IsNamed s.desc → HasBytes (sub_tree set n at s came)
+  sub-bytes n at s came named =
+      let es = part_entries set s.desc (is_some came) n at in (
+        spelled (codes "fields") refl,
+        entries-have es (part-bytes s.desc (is_some came) n at named.fields),
+        (
+          spelled (codes "name") refl,
+          named.name,
+          (
+            spelled (codes "sent") refl,
+            tt,
+            (spelled (codes "version") refl, decimal-bytes s.desc.version, tt),
+          ),
+        ),
+      )
+
+  subs-bytes : (n : List ℤ) (at : ℕ) (subs : List Sub) (came : List (Option ℕ)) → AreNamedSubs subs → ItemsHave (items_of (sub_trees set n at subs came))
+  subs-bytes n at [] came named = tt
+  subs-bytes n at (s ∷ subs) [] named = tt
+  subs-bytes n at (s ∷ subs) (c ∷ came) named =
+      (sub-bytes n at s c named.0, subs-bytes n (at + length (desc_cells (struct_cells set) s.desc)) subs came named.1)
+
+  device-bytes : (d : Device) (image : Image) → IsNamed d.desc → AreNamedSubs d.subs → HasBytes (device_tree set d image)
+  device-bytes d image named subs =
+      let es = part_entries set d.desc true image.numbers 0 in (
+        spelled (codes "fields") refl,
+        entries-have es (part-bytes d.desc true image.numbers 0 named.fields),
+        (
+          spelled (codes "instance_id") refl,
+          decimal-bytes d.instance,
+          (
+            spelled (codes "name") refl,
+            named.name,
+            (
+              spelled (codes "subsections") refl,
+              subs-bytes image.numbers (own_cells set d) d.subs image.came subs,
+              (spelled (codes "version") refl, decimal-bytes d.desc.version, tt),
+            ),
+          ),
+        ),
+      )
+
+  devices-bytes : (devices : List Device) (images : List Image) → AreNamedDevices devices → ItemsHave (items_of (device_trees set devices images))
+  devices-bytes [] images named = tt
+  devices-bytes (d ∷ devices) [] named = tt
+  devices-bytes (d ∷ devices) (image ∷ images) named = (device-bytes d image named.0 named.1, devices-bytes devices images named.2)
+
+  pub described-bytes : (images : List Image) → AreNamedDevices set.devices → AreBytes (described_text set images)
+  described-bytes images named =
+      text-bytes (described_tree set images) (spelled (codes "devices") refl, devices-bytes set.devices images named, tt)
