@@ -57,8 +57,8 @@ abbrev pub reason_text : Reason → List ℕ
 reason_text reason = reason_name reason ++ rule_text (rule_of reason)
 
 abbrev pub refused_line : Set → ℕ → Option ℕ → Reason → List ℕ
-refused_line set slice_get section reason =
-    codes "refused slice_get " ++ (decimal slice_get ++ (codes " in " ++ (section_text set section ++ (codes ": " ++ (reason_text reason ++ 10 ∷ [])))))
+refused_line set at section reason =
+    codes "refused at " ++ (decimal at ++ (codes " in " ++ (section_text set section ++ (codes ": " ++ (reason_text reason ++ 10 ∷ [])))))
 
 abbrev pub bad_words : List ℕ
 bad_words = codes "bad words" ++ 10 ∷ []
