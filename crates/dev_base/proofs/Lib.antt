@@ -1,4 +1,6 @@
 pub mod CellLaws
 pub mod Choices
+pub mod PlaceLemmas
+pub mod Quotients
 pub mod RuleLaws
 pub mod TableLaws

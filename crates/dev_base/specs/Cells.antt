@@ -1,5 +1,6 @@
 -- Cells of a device: numbers by their places, each of its kind.
-use Rattle.std.specs.Prelude.{◌≡◌, ℕ, ℤ, pos, negsuc, ◌<◌, ◌==◌, Bool, true, false, List, length, slice_index_or}
+use Rattle.std.specs.Prelude.{◌≡◌, ℕ, ℤ, pos, negsuc, ◌<◌, ◌==◌, Bool, true, false, List, length, map, slice_index_or}
+use Rattle.std.specs.List.{range_with_len}
 use Rattle.vms_kinds.specs.Codes.{InRange}
 use Rattle.vms_kinds.specs.declared.Kind.{Kind}
 use Rattle.vms_kinds.specs.declared.Kind.TheVariants.{U8}
@@ -15,6 +16,10 @@ nat_of (negsuc n) = 0
 
 abbrev pub number_at : List ℤ → ℕ → ℕ
 number_at cells place = nat_of (cell_at cells place)
+
+-- the values of a function at the first n numbers
+abbrev pub firsts : {A : Type 0} → ℕ → (ℕ → A) → List A
+firsts n f = map f (range_with_len 0 n)
 
 -- a truth value in a cell, and as a number
 abbrev pub flag_at : List ℤ → ℕ → Bool

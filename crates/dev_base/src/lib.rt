@@ -7,7 +7,7 @@ mod cells;
 mod limits;
 mod rules;
 
-pub use bits::has;
+pub use bits::{bits_where, has};
 pub use cells::{append, are_of, byte_at, flag_at, moment_at, signed_at, word_at};
 pub use limits::{LAST_MOMENT, NEWEST, is_level};
 pub use rules::{first_failing, first_failing_law, hook_result};

@@ -5,14 +5,14 @@ use Rattle.dev_pic.specs.declared.pair.PicPair.{PicPair}
 use Rattle.dev_pit.specs.Pit.{pit_edge}
 use Rattle.dev_serial.proofs.AlikeLaws.{reads_alike, writes_alike, bytes_in_alike, advances_alike, lines_alike, alike_itself, alike_back, alike_on}
 use Rattle.dev_serial.specs.Access.{read_of}
-use Rattle.dev_serial.specs.Bits.{bits_where}
+use Rattle.dev_base.specs.Bits.{bits_where}
 use Rattle.dev_serial.specs.Port.{Port}
 use Rattle.dev_serial.specs.Sound.{Alike as AlikePorts}
 use Rattle.dev_board.specs.Laws.{AnswersAlike, AlikeStays, Likeness}
 use Rattle.dev_board.specs.Ports.{target_of, read_at, written_at}
 use Rattle.dev_board.specs.Sound.{Alike}
 use Rattle.dev_board.specs.State.{State}
-use Rattle.dev_board.specs.Step.{valued, later_by, waited, acted, wires_after, inputs_of, settled, after_act, step, observe, after_all}
+use Rattle.dev_board.specs.Step.{valued, later_by, waited, acted, wires_after, inputs_of, settled, after_act, step, observe, after_all, after_by, answers_by}
 use Rattle.dev_board.specs.Wires.{wires_of}
 use Rattle.dev_board.specs.declared.act.Act.{Act}
 use Rattle.dev_board.specs.declared.event.Answer.{Answer}
@@ -105,7 +105,7 @@ step-alike event m n a =
 
 -- after each event of a list
 answers-alike : (events : List Event) (m n : State) → Alike m n → observe events n ≡ observe events m
-unfolding observe
+unfolding answers_by
 answers-alike [] m n a = refl
 answers-alike (event ∷ events) m n a =
     let now = step-alike event m n a in
@@ -113,7 +113,7 @@ answers-alike (event ∷ events) m n a =
     ∙ ap (λ (answers : List Answer). (step event m).0 ∷ answers) (answers-alike events (step event m).1 (step event n).1 now.alike)
 
 after-alike : (events : List Event) (m n : State) → Alike m n → Alike (after_all events m) (after_all events n)
-unfolding after_all
+unfolding after_by
 after-alike [] m n a = a
 after-alike (event ∷ events) m n a = after-alike events (step event m).1 (step event n).1 (step-alike event m n a).alike
 

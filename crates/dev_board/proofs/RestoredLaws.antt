@@ -23,7 +23,7 @@ use Rattle.dev_board.specs.State.{State}
 use Rattle.dev_board.specs.declared.cells.BoardCells.{BoardCells}
 use Rattle.dev_board.specs.declared.misfit.Misfit.{Misfit}
 use Rattle.dev_board.specs.declared.misfit.Misfit.TheVariants.{Unsound, LinesDisagree}
-use Rattle.dev_board.specs.declared.misfit.TheConstants.{TIMER_DEVICE, PIT_DEVICE, SERIAL_DEVICE}
+use Rattle.dev_board.specs.declared.misfit.TheConstants.{TIMER_DEVICE, MASTER_DEVICE, PIT_DEVICE, SERIAL_DEVICE}
 use Rattle.dev_board.proofs.SavedLaws.{has-lines}
 
 -- a board is made of devices that were restored, and the lines agree
@@ -177,7 +177,7 @@ module _ (level : ℕ) (cells : BoardCells) (found : ℕ) (time : timed (moment_
     unfolding agreed
     lines-taken e = all-agreed ∙ rw e refl
 
-    pub lines-refused : lines_agree board ≡ false → restored level cells ≡ Err LinesDisagree
+    pub lines-refused : lines_agree board ≡ false → restored level cells ≡ Err (LinesDisagree MASTER_DEVICE)
     unfolding agreed
     lines-refused e = all-agreed ∙ rw e refl
 

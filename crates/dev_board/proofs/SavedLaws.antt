@@ -4,7 +4,7 @@ use Rattle.std.proofs.lemmas.Bool.{and_parts, false≢true, and_from}
 use Rattle.std.proofs.lemmas.Bool.Decides.{nat_tests}
 use Rattle.std.specs.Prelude.{nat_le}
 use Rattle.dev_base.proofs.CellLaws.{of_none, of_more, long}
-use Rattle.dev_base.specs.Bits.{has}
+use Rattle.dev_base.specs.Bits.{has, same}
 use Rattle.dev_base.specs.Cells.{AreOf}
 use Rattle.dev_base.specs.Levels.{IsLevel, MaySave, MayRestore}
 use Rattle.dev_base.specs.declared.limits.TheConstants.{NEWEST, LAST_MOMENT}
@@ -26,7 +26,6 @@ use Rattle.dev_serial.proofs.SavedCells.{saved_are_cells as serial-saved}
 use Rattle.dev_serial.specs.Cells.{carried as serial_carried}
 use Rattle.dev_serial.specs.Laws.{ComesBack as PortComesBack}
 use Rattle.dev_serial.specs.Port.{Port}
-use Rattle.dev_serial.specs.Rules.{same}
 use Rattle.dev_serial.specs.Saved.{cells_at, restored_cells}
 use Rattle.dev_serial.specs.Sound.{Alike as AlikePorts}
 use Rattle.dev_board.specs.Saved.{numbers_at, saved, carried, MaySaveUnder, timer_kinds, AreSavedCells, AreBoardCells, timed, by_chip, by_device, lines_agree, agreed, joined, restored}

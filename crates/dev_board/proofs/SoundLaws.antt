@@ -12,12 +12,12 @@ use Rattle.dev_pit.proofs.SoundLaws.{sound_stays, steps_keep_level as pit_keeps_
 use Rattle.dev_pit.specs.Counter.{powered_on, out_of}
 use Rattle.dev_pit.specs.Pit.{new_pit, pit_out}
 use Rattle.dev_serial.proofs.KeepLaws.{power_on_is_sound}
-use Rattle.dev_serial.specs.Bits.{bits_where}
+use Rattle.dev_base.specs.Bits.{bits_where}
 use Rattle.dev_serial.specs.Port.{power_on as serial_on, interrupt, line_of}
 use Rattle.dev_board.specs.Laws.{IsEvent, AreEvents, SoundStays}
 use Rattle.dev_board.specs.Sound.{HasDevices, HasLines, IsSound}
 use Rattle.dev_board.specs.State.{State, power_on}
-use Rattle.dev_board.specs.Step.{inputs_of, settled, after_act, step, acted, wires_after, after_all}
+use Rattle.dev_board.specs.Step.{inputs_of, settled, after_act, step, acted, wires_after, after_all, after_by}
 use Rattle.dev_board.specs.Wires.{AreWires, wires_of}
 use Rattle.dev_board.specs.declared.event.Event.{Event}
 use Rattle.dev_board.proofs.KeepLaws.{acted-kept}
@@ -88,7 +88,7 @@ step-sound event m e h =
     settled-sound (wires_after event (wires_of m)) (acted event m).0.edge (acted event m).1 (wires_after-are event (wires_of m) (names event e) (wires_of-are m)) (acted-kept m h event e).kept
 
 all-sound : (events : List Event) (m : State) → AreEvents events → IsSound m → IsSound (after_all events m)
-unfolding after_all
+unfolding after_by
 all-sound [] m e s = s
 all-sound (event ∷ events) m e s = all-sound events (step event m).1 e.1 (step-sound event m e.0 s.devices)
 

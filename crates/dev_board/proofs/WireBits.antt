@@ -4,11 +4,10 @@ use Rattle.std.proofs.lemmas.Bool.{false≢true}
 use Rattle.std.proofs.lemmas.Bool.Decides.{nat_tests}
 use Rattle.std.proofs.lemmas.Nat.{and_le_l, and_le_r, or_of_16, pow_below}
 use Rattle.std.proofs.Math.Bool.{and-false, or-false}
-use Rattle.dev_base.specs.Bits.{has}
+use Rattle.dev_base.specs.Bits.{has, bits_where}
 use Rattle.dev_pic.proofs.BitLaws.{has-and, has-or, has-one_other}
 use Rattle.dev_pic.specs.Pair.{lines_of}
 use Rattle.dev_pit.specs.Pit.{pit_out}
-use Rattle.dev_serial.specs.Bits.{bits_where}
 use Rattle.dev_serial.specs.Port.{line_of}
 use Rattle.dev_board.specs.Laws.{IsEvent}
 use Rattle.dev_board.specs.State.{State}

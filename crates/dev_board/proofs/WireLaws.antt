@@ -6,12 +6,11 @@ use Rattle.std.proofs.lemmas.Nat.Bits.{bit_at_not, bit_at-lt, bit_at-zero}
 use Rattle.std.proofs.lemmas.Nat.{pow_below}
 use Rattle.std.specs.Int.{bit_at, w16}
 use Rattle.std.proofs.Math.Bool.{and-true, and-false, or-true, or-false}
-use Rattle.dev_base.specs.Bits.{has}
+use Rattle.dev_base.specs.Bits.{has, bits_where}
 use Rattle.dev_pic.proofs.BitLaws.{has-and, has-or, has-one, has-one_other, not_test}
 use Rattle.dev_pic.proofs.LineLaws.{lines_are_taken}
 use Rattle.dev_pic.specs.Pair.{lines_of, settled_pair}
 use Rattle.dev_pit.specs.Pit.{pit_out}
-use Rattle.dev_serial.specs.Bits.{bits_where}
 use Rattle.dev_serial.specs.Port.{line_of}
 use Rattle.dev_board.specs.Laws.{IsEvent, wire_left, WiresStay}
 use Rattle.dev_board.specs.State.{State}

@@ -3,8 +3,9 @@ use Rattle.std.specs.Prelude.{ℕ, ℤ, pos, ◌+◌, ◌≤◌, nat_le, Bool, �
 use Rattle.vms_hooks.specs.Numbers.{Numbers}
 use Rattle.vms_kinds.specs.declared.Kind.{Kind}
 use Rattle.vms_kinds.specs.declared.Kind.TheVariants.{U64}
-use Rattle.dev_base.specs.Bits.{has}
+use Rattle.dev_base.specs.Bits.{has, same}
 use Rattle.dev_base.specs.Cells.{number_at, AreOf}
+use Rattle.dev_base.specs.Levels.{ReachesSet}
 use Rattle.dev_base.specs.declared.limits.TheConstants.{NEWEST, LAST_MOMENT}
 use Rattle.dev_pic.specs.Cells.{kinds as pic_kinds, saved_cells, carried as pic_carried}
 use Rattle.dev_pic.specs.Pair.{lines_of, slave_int_of}
@@ -18,7 +19,6 @@ use Rattle.dev_pit.specs.declared.pit.Pit.{Pit}
 use Rattle.dev_serial.specs.Cells.{IsPortCells, carried as serial_carried}
 use Rattle.dev_serial.specs.Laws.{AreSaved}
 use Rattle.dev_serial.specs.Port.{Port, line_of}
-use Rattle.dev_serial.specs.Rules.{same}
 use Rattle.dev_serial.specs.Saved.{cells_at, restored_cells}
 use Rattle.dev_board.specs.State.{State}
 use Rattle.dev_board.specs.declared.cells.BoardCells.{BoardCells}
@@ -51,9 +51,8 @@ carried set cells = record {
 }
 
 -- a board may be saved under this set: one from its level to the newest
-pub record MaySaveUnder (level set : ℕ) : Type 0 where
-  pub level_le_set : level ≤ set
-  pub set_le_newest : set ≤ NEWEST
+abbrev pub MaySaveUnder : (level set : ℕ) → Type 0
+MaySaveUnder level set = ReachesSet NEWEST level set
 
 abbrev pub timer_kinds : List Kind
 timer_kinds = U64 ∷ []
@@ -100,7 +99,7 @@ lines_agree m =
     && (same (has (lines_of m.pair) 2) (slave_int_of m.pair) && same (has (lines_of m.pair) 4) (line_of m.moment m.serial))
 
 unfoldable pub agreed : State → Result State Misfit
-agreed m = if lines_agree m then Ok m else Err LinesDisagree
+agreed m = if lines_agree m then Ok m else Err (LinesDisagree MASTER_DEVICE)
 
 -- the board of a moment and of devices: the first fault of these, and the lines last
 unfoldable pub joined : ℕ → Result ℕ Misfit → Result PicPair Misfit → Result Pit Misfit → Result Port Misfit → Result State Misfit

@@ -4,7 +4,7 @@ use Rattle.dev_base.specs.declared.limits.TheConstants.{LAST_MOMENT}
 use Rattle.dev_pic.specs.Pair.{acked, int_of, settled_pair}
 use Rattle.dev_pit.specs.Pit.{pit_out, pit_edge}
 use Rattle.dev_serial.specs.Access.{came_in, advanced}
-use Rattle.dev_serial.specs.Bits.{bits_where}
+use Rattle.dev_base.specs.Bits.{bits_where}
 use Rattle.dev_serial.specs.Port.{line_of}
 use Rattle.dev_board.specs.Ports.{read, write}
 use Rattle.dev_board.specs.State.{State}
@@ -86,12 +86,20 @@ names_wire (Wait ns) = true
 names_wire (Wire input up) = is_wire input
 names_wire Ack = true
 
--- the answers to a list of events, each after those before it
-unfoldable pub observe : List Event → State → List Answer
-observe [] m = []
-observe (event ∷ events) m = (step event m).0 ∷ observe events (step event m).1
+-- the answers to a list of events, each after those before it, of what goes on by steps
+unfoldable pub answers_by : {S : Type 0} → (Event → S → Answer × S) → List Event → S → List Answer
+answers_by go [] m = []
+answers_by go (event ∷ events) m = (go event m).0 ∷ answers_by go events (go event m).1
+
+-- what it is after them
+unfoldable pub after_by : {S : Type 0} → (Event → S → Answer × S) → List Event → S → S
+after_by go [] m = m
+after_by go (event ∷ events) m = after_by go events (go event m).1
+
+-- a board's answers to a list of events
+abbrev pub observe : List Event → State → List Answer
+observe events m = answers_by step events m
 
 -- the board after a list of events
-unfoldable pub after_all : List Event → State → State
-after_all [] m = m
-after_all (event ∷ events) m = after_all events (step event m).1
+abbrev pub after_all : List Event → State → State
+after_all events m = after_by step events m

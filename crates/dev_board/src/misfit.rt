@@ -5,8 +5,8 @@ pub enum Misfit {
     /// The first rule that fails, in the order of the set's devices (0 the timer, 1 the master, 2 the slave,
     /// 3 the timer chip, 4 the serial port) and of the rules' numbers.
     Unsound { device: u32, rule: u8 },
-    /// The lines that the master remembers aren't those of the devices.
-    LinesDisagree,
+    /// The lines that the master, which is this device, remembers aren't those of the devices.
+    LinesDisagree { device: u32 },
 }
 
 /// The place of the timer, whose cell is the moment, among the devices of a set.

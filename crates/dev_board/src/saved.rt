@@ -5,7 +5,7 @@ ghost use Rattle.dev_base.specs.declared.limits.TheConstants.{LAST_MOMENT as las
 ghost use Rattle.dev_pic.specs.Cells.{IsChipCells};
 ghost use Rattle.dev_pit.specs.Cells.{IsPitCells};
 ghost use Rattle.dev_serial.specs.Cells.{IsPortCells};
-ghost use Rattle.dev_serial.specs.Rules.{same};
+ghost use Rattle.dev_base.specs.Bits.{same};
 ghost use Rattle.dev_board.specs.Saved.{timed as timed_of, pair_back, pit_back, serial_back, numbers_back};
 
 use crate::cells::BoardCells;
@@ -63,7 +63,9 @@ impl Devices {
         if devices.lines_agree() {
             Ok(devices)
         } else {
-            Err(Misfit::LinesDisagree)
+            Err(Misfit::LinesDisagree {
+                device: MASTER_DEVICE,
+            })
         }
     }
 

@@ -1,7 +1,6 @@
 // The inputs of the pair that no device of the board drives.
 ghost use Rattle.std.specs.Prelude.{◌≡◌, ◌<◌};
-ghost use Rattle.dev_base.specs.Bits.{has};
-ghost use Rattle.dev_serial.specs.Bits.{bits_where as bits_where_of};
+ghost use Rattle.dev_base.specs.Bits.{has, bits_where as bits_where_of};
 ghost use Rattle.dev_board.specs.Wires.{is_wire as is_wire_of, with_wire as with_wire_of};
 
 /// A bit for each wire: inputs 1, 3, 5, 6 and 7 of the master, and the slave's in bits 8 to 15.

@@ -2,6 +2,7 @@
 use Rattle.std.specs.Prelude.{◌≡◌, ℕ, ℤ, Some, Ok, length, List, [], ◌∷◌, ◌++◌}
 use Rattle.std.specs.List.{slice_get}
 use Rattle.dev_base.specs.Cells.{AreOf}
+use Rattle.dev_base.specs.declared.limits.TheConstants.{NEWEST}
 use Rattle.dev_board.specs.Saved.{timer_kinds, MaySaveUnder, AreBoardCells, saved, carried as board_carried, restored}
 use Rattle.dev_board.specs.Step.{observe}
 use Rattle.dev_board.specs.declared.event.Event.{Event}
@@ -66,7 +67,7 @@ pub record SerialIsReady : Type 0 where
 
 -- the numbers of a device of the newest set, from an image of its device in an older one
 abbrev pub carried_numbers : Set → Device → Device → List ℤ → List ℤ
-carried_numbers set d e numbers = (carried_device set set_4 d e (image_of set d numbers)).numbers
+carried_numbers set d e numbers = (carried_device set (shipped_set NEWEST) d e (image_of set d numbers)).numbers
 
 -- a moment is carried as it is
 pub record TimerIsCarried : Type 0 where
@@ -102,14 +103,14 @@ pub record SerialIsCarried : Type 0 where
 
 -- what a comparison of sets carries of saved images to the newest set has the cells that the devices' own tables carry
 pub record SavedIsCarried : Type 0 where
-  pub cells : (set : ℕ) (m : State) → IsSound m → MaySaveUnder m.level set → cells_in (carried (shipped_set set) set_4 (saved_images set m)) ≡ board_carried set (saved set m)
+  pub cells : (set : ℕ) (m : State) → IsSound m → MaySaveUnder m.level set → cells_in (carried (shipped_set set) (shipped_set NEWEST) (saved_images set m)) ≡ board_carried set (saved set m)
 
 -- images saved of a sound board under any set from its level on, carried to the newest, give a board like it
 pub record ImagesComeBack : Type 0 where
-  pub back : (set : ℕ) (m : State) → IsSound m → MaySaveUnder m.level set → ComesBack m.level (cells_in (carried (shipped_set set) set_4 (saved_images set m))) m
+  pub back : (set : ℕ) (m : State) → IsSound m → MaySaveUnder m.level set → ComesBack m.level (cells_in (carried (shipped_set set) (shipped_set NEWEST) (saved_images set m))) m
   -- and the board that comes back answers every list of events as the saved one
-  pub answers : (set : ℕ) (m back : State) (events : List Event) → IsSound m → MaySaveUnder m.level set → restored m.level (cells_in (carried (shipped_set set) set_4 (saved_images set m))) ≡ Ok back → observe events back ≡ observe events m
+  pub answers : (set : ℕ) (m back : State) (events : List Event) → IsSound m → MaySaveUnder m.level set → restored m.level (cells_in (carried (shipped_set set) (shipped_set NEWEST) (saved_images set m))) ≡ Ok back → observe events back ≡ observe events m
 
 -- normal images of the newest set, one for each device, have the cells that a board may be restored from
 pub record NormalMayBeRestored : Type 0 where
-  pub cells : (images : List Image) → length images ≡ length set_4.devices → ((k : ℕ) (d : Device) (image : Image) → slice_get set_4.devices k ≡ Some d → slice_get images k ≡ Some image → IsNormal set_4 d image) → AreBoardCells (cells_in images)
+  pub cells : (images : List Image) → length images ≡ length (shipped_set NEWEST).devices → ((k : ℕ) (d : Device) (image : Image) → slice_get (shipped_set NEWEST).devices k ≡ Some d → slice_get images k ≡ Some image → IsNormal (shipped_set NEWEST) d image) → AreBoardCells (cells_in images)

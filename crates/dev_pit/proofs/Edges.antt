@@ -1,9 +1,8 @@
 -- An edge in a span of time is one in a part of it.
 use Rattle.std.proofs.Common.{◌≡◌, ℕ, ◌+◌, ◌/◌, ◌<◌, ◌≤◌, ◌==◌, Bool, true, false, not, ◌&&◌, ◌||◌, Option, Some, None, refl, arith}
 use Rattle.std.proofs.lemmas.Bool.Decides.{nat_tests}
-use Rattle.std.proofs.Math.Nat.{div-mul-le_self}
-use Rattle.std.proofs.lemmas.Nat.{le-div}
 use Rattle.std.specs.Prelude.{nat_lt, nat_le}
+use Rattle.dev_base.proofs.Quotients.{grown, quotient_mono}
 use Rattle.dev_pit.specs.Count.{rises, ticks, period}
 use Rattle.dev_pit.specs.Counter.{edge_of, edge_since}
 use Rattle.dev_pit.specs.Laws.{TicksGoOn, EdgeInParts}
@@ -25,18 +24,12 @@ period-pos count = grind (arith, nat_tests)
 passed : (n a b c : ℕ) → a ≤ b → b ≤ c → (nat_lt a n && nat_le n c) ≡ ((nat_lt a n && nat_le n b) || (nat_lt b n && nat_le n c))
 passed n a b c h l = grind (arith, nat_tests)
 
-grown : (a b c : ℕ) → a ≤ b → b ≤ c → nat_lt a c ≡ (nat_lt a b || nat_lt b c)
-grown a b c h l = grind (arith, nat_tests)
-
-quotient-mono : (n a b : ℕ) → 0 < n → a ≤ b → a / n ≤ b / n
-quotient-mono n a b p h = le-div (a / n) b n p (omega (arith, div-mul-le_self a n))
-
 both : (x u v w : Bool) → u ≡ (v || w) → (x && u) ≡ ((x && v) || (x && w))
 both true u v w e = e
 both false u v w e = refl
 
 periods : (count a b c : ℕ) → a ≤ b → b ≤ c → (not (count == 1) && nat_lt (a / period count) (c / period count)) ≡ ((not (count == 1) && nat_lt (a / period count) (b / period count)) || (not (count == 1) && nat_lt (b / period count) (c / period count)))
-periods count a b c h l = both (not (count == 1)) _ _ _ (grown (a / period count) (b / period count) (c / period count) (quotient-mono (period count) a b (period-pos count) h) (quotient-mono (period count) b c (period-pos count) l))
+periods count a b c h l = both (not (count == 1)) _ _ _ (grown (a / period count) (b / period count) (c / period count) (quotient_mono (period count) a b (period-pos count) h) (quotient_mono (period count) b c (period-pos count) l))
 
 rises-parts : (mode : Mode) (count a b c : ℕ) → a ≤ b → b ≤ c → rises mode count a c ≡ (rises mode count a b || rises mode count b c)
 unfolding rises

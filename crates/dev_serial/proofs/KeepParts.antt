@@ -4,8 +4,7 @@ use Rattle.std.proofs.Math.Nat.{mul-le-mul}
 use Rattle.std.proofs.lemmas.Bool.{false≢true, ltb-true, ltb-false, ne_eqb, cond_both}
 use Rattle.std.specs.Prelude.{nat_le, nat_lt, max}
 use Rattle.dev_serial.specs.Access.{is_empty}
-use Rattle.dev_base.specs.Bits.{has}
-use Rattle.dev_serial.specs.Bits.{bits_where}
+use Rattle.dev_base.specs.Bits.{has, bits_where}
 use Rattle.dev_serial.specs.Line.{character_time, character_bits}
 use Rattle.dev_serial.specs.Parts.{ReceiverState, TransmitterState, IsShort}
 use Rattle.dev_serial.specs.Receive.{received, taken_at, emptied}

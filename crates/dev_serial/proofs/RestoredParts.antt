@@ -5,7 +5,8 @@ use Rattle.std.specs.Prelude.{nat_le, nat_lt, is_some}
 use Rattle.dev_serial.specs.Access.{is_empty}
 use Rattle.dev_serial.specs.PortNumbers.{moment_of, shift_of, fifos_of}
 use Rattle.dev_serial.specs.Parts.{IsShort}
-use Rattle.dev_serial.specs.Rules.{same, longest_timeout}
+use Rattle.dev_base.specs.Bits.{same}
+use Rattle.dev_serial.specs.Rules.{longest_timeout}
 use Rattle.dev_serial.specs.Sound.{AreBytes, IsShift, IsTimeout}
 use Rattle.dev_serial.specs.declared.trigger.Trigger.{Trigger}
 use Rattle.dev_serial.specs.declared.mode.TheConstants.{LONGEST_CHARACTER}

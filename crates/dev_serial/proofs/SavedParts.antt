@@ -7,7 +7,8 @@ use Rattle.dev_serial.specs.Access.{is_empty}
 use Rattle.dev_base.specs.declared.limits.TheConstants.{LAST_MOMENT}
 use Rattle.dev_serial.specs.PortNumbers.{moment_number, due_number, shift_number, single_byte, fifo_bytes, in_array, in_ring, fcr_number, moment_of, shift_of, fifos_of, stored_bytes, bytes_held}
 use Rattle.dev_serial.specs.Parts.{IsShort}
-use Rattle.dev_serial.specs.Rules.{same, is_unused, is_stored_once, longest_timeout}
+use Rattle.dev_base.specs.Bits.{same}
+use Rattle.dev_serial.specs.Rules.{is_unused, is_stored_once, longest_timeout}
 use Rattle.dev_serial.specs.Sound.{IsShift, IsTimeout}
 use Rattle.dev_serial.specs.Stored.{counted_of, ring_of}
 use Rattle.dev_serial.specs.declared.shift.Shift.{Shift}

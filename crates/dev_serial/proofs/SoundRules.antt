@@ -4,11 +4,11 @@ use Rattle.std.proofs.lemmas.Bool.{false≢true, leb-true, ltb-true, eqb-true, a
 use Rattle.std.specs.Prelude.{nat_le, nat_lt, is_some}
 use Rattle.dev_base.specs.declared.limits.TheConstants.{LAST_MOMENT}
 use Rattle.dev_serial.specs.Access.{is_empty, lsr_of}
-use Rattle.dev_base.specs.Bits.{has}
+use Rattle.dev_base.specs.Bits.{has, same}
 use Rattle.dev_serial.specs.Laws.{SoundMeetsRules}
 use Rattle.dev_serial.specs.Port.{Port}
 use Rattle.dev_serial.specs.PortNumbers.{saved, fcr_number, moment_number, due_number}
-use Rattle.dev_serial.specs.Rules.{registers_hold, fcr_holds, shift_holds, timeout_holds, same, longest_timeout}
+use Rattle.dev_serial.specs.Rules.{registers_hold, fcr_holds, shift_holds, timeout_holds, longest_timeout}
 use Rattle.dev_serial.specs.Sound.{IsSound, IsHeld, IsTold, IsByte, IsShift, IsTimeout, HasRegisters}
 use Rattle.dev_serial.specs.declared.shift.Shift.{Shift}
 use Rattle.dev_serial.specs.declared.trigger.Trigger.{Trigger}

@@ -4,7 +4,7 @@ use Rattle.vms_kinds.specs.Codes.{InRange}
 use Rattle.vms_kinds.specs.declared.Kind.TheVariants.{U8, I8, Timer}
 use Rattle.dev_base.specs.Cells.{cell_at, kind_at, AreOf}
 use Rattle.dev_serial.specs.Cells.{field_kinds, kinds, AreBytesIn}
-use Rattle.dev_serial.proofs.StoredLemmas.{bytes_within}
+use Rattle.dev_base.proofs.PlaceLemmas.{bytes_within}
 
 arrays : (k : ℕ) → 13 ≤ k → k < 47 → kind_at (kinds 4) k ≡ U8
 arrays k low high = bytes_within (field_kinds ++ U8 ∷ I8 ∷ []) (Timer ∷ replicate 36 U8) 34 k low high

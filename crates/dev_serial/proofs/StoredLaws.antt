@@ -11,10 +11,11 @@ use Rattle.dev_serial.specs.Laws.{ListsComeBack, HoldsWhatItGives}
 use Rattle.dev_serial.specs.PortNumbers.{stored_bytes}
 use Rattle.dev_serial.specs.Rules.{is_unused}
 use Rattle.dev_serial.specs.Sound.{AreBytes}
-use Rattle.dev_serial.specs.Stored.{firsts, byte_of, padded, counted_of, counted_bytes, ring_of, ring_bytes, behind_head, is_held_or_zero, ring_holds}
+use Rattle.dev_base.specs.Cells.{firsts}
+use Rattle.dev_serial.specs.Stored.{byte_of, padded, counted_of, counted_bytes, ring_of, ring_bytes, behind_head, is_held_or_zero, ring_holds}
 use Rattle.dev_serial.specs.declared.stored.Counted.{Counted}
 use Rattle.dev_serial.specs.declared.stored.Ring.{Ring}
-use Rattle.dev_serial.proofs.StoredLemmas.{all_set}
+use Rattle.dev_base.proofs.PlaceLemmas.{all_set}
 
 -- the bytes of a list, by their places
 firsts-back : (f : ℕ → ℕ) (bytes : List ℕ) → ((i : ℕ) → i < length bytes → f i ≡ byte_of bytes i) → firsts (length bytes) f ≡ bytes

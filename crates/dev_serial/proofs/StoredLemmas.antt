@@ -1,35 +1,10 @@
--- Lists by their places, as loops make them.
-use Rattle.std.proofs.Common.{◌≡◌, ℕ, ◌+◌, ◌-◌, ◌<◌, ◌≤◌, Bool, true, false, List, [], ◌∷◌, ◌++◌, length, take, replicate, get_or, set, refl, sym, ap, ◌∙◌, subst, arith, ⊎_elim}
-use Rattle.std.proofs.lemmas.Bool.{cases_lt, and_from}
-use Rattle.std.proofs.lemmas.List.{ext_get_or, get_or-set_same, get_or-set_other, get_or-replicate, get_or_append_left, get_or-append_right, length-replicate}
-use Rattle.std.proofs.lemmas.List.FromFn.{map-range_with_len_more, length-map-range_with_len, get_or-map-range_with_len, get_or-range_with_len}
+-- A test of each of the sixteen elements of a ring.
+use Rattle.std.proofs.Common.{◌≡◌, ℕ, ◌+◌, ◌<◌, Bool, true, false, take, ap, ◌∙◌, arith}
+use Rattle.std.proofs.lemmas.Bool.{and_from}
+use Rattle.std.proofs.lemmas.List.FromFn.{get_or-range_with_len}
 use Rattle.std.proofs.lemmas.List.Folds.{list_all_at, list_all_more}
 use Rattle.std.specs.List.{range_with_len, list_all}
-use Rattle.vms_kinds.specs.declared.Kind.{Kind}
-use Rattle.vms_kinds.specs.declared.Kind.TheVariants.{U8}
-use Rattle.dev_base.specs.Cells.{kind_at}
-use Rattle.dev_serial.specs.Stored.{firsts}
 
--- one more value
-pub firsts_more : (f : ℕ → ℕ) (n value : ℕ) (xs ys : List ℕ) → xs ≡ firsts n f → value ≡ f n → ys ≡ xs ++ value ∷ [] → ys ≡ firsts (n + 1) f
-firsts_more f n value xs ys x e y = y ∙ rw (x, e) (sym (map-range_with_len_more f 0 n n (omega arith)))
-
--- an array that is filled place by place
-pub one_set : (f : ℕ → ℕ) (xs : List ℕ) (k value : ℕ) → k < length xs → value ≡ f k → ((i : ℕ) → i < k → get_or xs i 0 ≡ f i) → (i : ℕ) → i < k + 1 → get_or (set xs k value) i 0 ≡ f i
-one_set f xs k value within e before i l =
-    ⊎_elim (λ less. get_or-set_other xs k i value 0 (λ same. omega arith) ∙ before i less)
-    (λ last.
-    let same : i ≡ k = omega arith in
-    subst (λ (n : ℕ). get_or (set xs k value) n 0 ≡ f n) (sym same) (get_or-set_same xs k value 0 within ∙ e))
-    (cases_lt i k)
-
-pub all_set : (f : ℕ → ℕ) (xs : List ℕ) (n : ℕ) → length xs ≡ n → ((i : ℕ) → i < n → get_or xs i 0 ≡ f i) → xs ≡ firsts n f
-all_set f xs n len at =
-    ext_get_or 0 xs (firsts n f) (len ∙ sym (length-map-range_with_len f 0 n)) (λ i l.
-    let within : i < n = omega (arith, len, l) in
-    at i within ∙ sym (get_or-map-range_with_len f 0 n i i 0 within (omega arith)))
-
--- a test of each of the first sixteen numbers
 zero-add : (k : ℕ) → 0 + k ≡ k
 zero-add k = omega arith
 
@@ -38,11 +13,3 @@ all_fails p k l e = list_all_at p (range_with_len 0 16) k 0 l (ap p (get_or-rang
 
 pub all_more : (p : ℕ → Bool) (k : ℕ) → k < 16 → list_all p (take k (range_with_len 0 16)) ≡ true → p k ≡ true → list_all p (take (k + 1) (range_with_len 0 16)) ≡ true
 all_more p k l h e = list_all_more p (range_with_len 0 16) k 0 l ∙ and_from _ _ h (ap p (get_or-range_with_len 0 16 k 0 l ∙ zero-add k) ∙ e)
-
--- the kinds of a run of bytes
-pub bytes_within : (front back : List Kind) (n k : ℕ) → length front ≤ k → k < length front + n → kind_at (front ++ (replicate n U8 ++ back)) k ≡ U8
-bytes_within front back n k low high =
-    let i : k - length front < n = omega arith in
-    get_or-append_right front (replicate n U8 ++ back) (length front) k U8 refl low
-    ∙ get_or_append_left (replicate n U8) back U8 (k - length front) (rw (length-replicate n U8) i)
-    ∙ get_or-replicate n (k - length front) U8 U8 i

@@ -4,8 +4,7 @@ use Rattle.std.proofs.lemmas.Bool.{false≢true}
 use Rattle.std.specs.Ordering.{int_eq}
 use Rattle.std.specs.Prelude.{bit_and, bit_or, is_some}
 use Rattle.dev_serial.specs.Access.{is_empty, lsr_of}
-use Rattle.dev_base.specs.Bits.{has}
-use Rattle.dev_serial.specs.Bits.{bits_where}
+use Rattle.dev_base.specs.Bits.{has, bits_where}
 use Rattle.dev_serial.specs.PortNumbers.{ipending_of, latch_of}
 use Rattle.dev_serial.specs.Port.{Port, id_number, is_thr_empty}
 use Rattle.dev_serial.specs.declared.interrupt.Interrupt.{Interrupt}

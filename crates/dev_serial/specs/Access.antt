@@ -1,7 +1,6 @@
 -- The calls of a port.
 use Rattle.std.specs.Prelude.{ℕ, ◌+◌, ◌*◌, ◌/◌, ◌%◌, ◌==◌, Bool, true, false, nat_le, ◌&&◌, not, if◌then◌else◌, List, [], length, Option, Some, None, is_some, bit_and, bit_or}
-use Rattle.dev_base.specs.Bits.{has}
-use Rattle.dev_serial.specs.Bits.{bits_where}
+use Rattle.dev_base.specs.Bits.{has, bits_where}
 use Rattle.dev_serial.specs.Fifo.{trigger_of}
 use Rattle.dev_serial.specs.Line.{character_time}
 use Rattle.dev_serial.specs.Parts.{ReceiverState, TransmitterState}

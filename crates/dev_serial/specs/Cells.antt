@@ -3,10 +3,9 @@ use Rattle.std.specs.Prelude.{◌≡◌, ℕ, ℤ, pos, ◌+◌, ◌<◌, ◌≤
 use Rattle.vms_kinds.specs.Codes.{InRange}
 use Rattle.vms_kinds.specs.declared.Kind.{Kind}
 use Rattle.vms_kinds.specs.declared.Kind.TheVariants.{U8, U16, I8, Timer}
-use Rattle.dev_base.specs.Cells.{cell_at, number_at, AreOf}
+use Rattle.dev_base.specs.Cells.{cell_at, number_at, AreOf, firsts}
 use Rattle.dev_base.specs.Tables.{Origin, default_of, places, where_had, since, carried_by}
 use Rattle.dev_base.specs.declared.limits.TheConstants.{NEWEST}
-use Rattle.dev_serial.specs.Stored.{firsts}
 use Rattle.dev_serial.specs.declared.levels.TheConstants.{FIFOS_SINCE, TIMEOUT_SINCE, RINGS_SINCE}
 use Rattle.dev_serial.specs.declared.numbers.PortNumbers.{PortNumbers}
 use Rattle.dev_serial.specs.declared.stored.Counted.{Counted}

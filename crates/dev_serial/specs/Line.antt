@@ -1,7 +1,6 @@
 -- Characters on the line.
 use Rattle.std.specs.Prelude.{ℕ, ◌+◌, ◌*◌, ◌/◌, ◌%◌, max}
-use Rattle.dev_base.specs.Bits.{has}
-use Rattle.dev_serial.specs.Bits.{bits_where}
+use Rattle.dev_base.specs.Bits.{has, bits_where}
 
 -- the bits of a character: a start bit, 5 to 8 data bits, parity, one stop bit and a second one
 abbrev pub character_bits : ℕ → ℕ

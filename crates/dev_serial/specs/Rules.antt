@@ -2,7 +2,7 @@
 use Rattle.std.specs.Prelude.{ℕ, pos, negsuc, ◌+◌, ◌*◌, ◌%◌, ◌==◌, Bool, true, false, nat_le, nat_lt, ◌&&◌, ◌||◌, not, if◌then◌else◌, bit_and, List, [], ◌∷◌, Result}
 use Rattle.std.specs.Ordering.{int_eq}
 use Rattle.dev_base.specs.Rules.{judged}
-use Rattle.dev_base.specs.Bits.{has}
+use Rattle.dev_base.specs.Bits.{has, same}
 use Rattle.dev_serial.specs.Port.{Port, interrupt, id_number}
 use Rattle.dev_serial.specs.PortNumbers.{latch_of, port_of}
 use Rattle.dev_serial.specs.Stored.{ring_holds}
@@ -12,11 +12,6 @@ use Rattle.dev_serial.specs.declared.stored.Counted.{Counted}
 use Rattle.dev_serial.specs.declared.stored.Ring.{Ring}
 use Rattle.dev_serial.specs.declared.mode.TheConstants.{LONGEST_CHARACTER}
 use Rattle.dev_serial.specs.declared.numbers.TheConstants.{NEVER}
-
--- both hold, or neither
-abbrev pub same : Bool → Bool → Bool
-same true other = other
-same false other = not other
 
 -- four of the longest characters
 abbrev pub longest_timeout : ℕ

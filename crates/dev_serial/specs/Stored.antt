@@ -1,12 +1,9 @@
 -- The FIFOs in a stream: a count with sixteen bytes, and a ring.
 use Rattle.std.specs.Prelude.{ℕ, ◌+◌, ◌-◌, ◌%◌, ◌==◌, Bool, nat_le, nat_lt, ◌&&◌, ◌||◌, not, List, length, map, min, slice_index_or}
 use Rattle.std.specs.List.{range_with_len, list_all}
+use Rattle.dev_base.specs.Cells.{firsts}
 use Rattle.dev_serial.specs.declared.stored.Counted.{Counted}
 use Rattle.dev_serial.specs.declared.stored.Ring.{Ring}
-
--- the values of a function at the first n numbers
-abbrev pub firsts : {A : Type 0} → ℕ → (ℕ → A) → List A
-firsts n f = map f (range_with_len 0 n)
 
 -- a byte by its place, 0 behind the last
 abbrev pub byte_of : List ℕ → ℕ → ℕ

@@ -1,6 +1,8 @@
 // The registers' offsets, and their bits by number.
 ghost use Rattle.std.specs.Prelude.{◌≡◌, ◌<◌, ◌^◌};
-ghost use Rattle.dev_serial.specs.Bits.{bits_where};
+ghost use Rattle.dev_base.specs.Bits.{bits_where};
+
+use dev_base::bits_where;
 
 /// Offsets from the port's base. RBR and THR stand at offset 0, IIR and FCR at offset 2; while DLAB is
 /// set, offsets 0 and 1 are the two bytes of the divisor latch.
@@ -82,13 +84,6 @@ pub(crate) const MODEM_READY: u8 = 0xb0;
 
 /// Interrupt Identification Register: the two bits that tell that FIFOs are on.
 pub(crate) const FIFOS_ENABLED: u8 = 0xc0;
-
-/// These bits where the condition holds, else none.
-pub(crate) fn bits_where(condition: bool, bits: u8) -> u8
-    ensures { result ≡ bits_where condition bits }
-{
-    if condition { bits } else { 0 }
-}
 
 /// The bit of this number where the condition holds, else none.
 pub(crate) fn bit_where(condition: bool, bit: u8) -> u8

@@ -10,12 +10,12 @@ use crate::receiver::Receiver;
 use crate::registers::{
     CTS, DCD, DLAB, DR, DSR, DTR, ELSI, ERBFI, ETBEI, FIFO_ENABLE, FIFOS_ENABLED, IER, IER_BITS,
     IIR_FCR, LCR, LOOP, LSR, MCR, MCR_BITS, MODEM_READY, MSR, OE, OUT1, OUT2, RBR_THR, RCVR_RESET,
-    RI, RTS, TEMT, THRE, XMIT_RESET, bit_where, bits_where,
+    RI, RTS, TEMT, THRE, XMIT_RESET, bit_where,
 };
 use crate::transmitter::Transmitter;
 use crate::trigger::Trigger;
 use arrayvec::ArrayVec;
-use dev_base::{LAST_MOMENT, has};
+use dev_base::{LAST_MOMENT, bits_where, has};
 use std::marker::Model;
 
 /// A serial port with its registers, its two lists of bytes and its shift register.

@@ -1,16 +1,24 @@
 -- Images of numbers, made cell by cell and subsection by subsection.
-use Rattle.std.proofs.Common.{map, Some, subst, ◌≡◌, ℕ, zero, suc, ◌+◌, ◌<◌, ◌≤◌, List, [], ◌∷◌, ◌++◌, length, get_or, None, ℤ, pos, refl, sym, ap, ◌∙◌, arith}
+use Rattle.std.proofs.Common.{map, Some, subst, Bool, true, false, nat_lt, ◌≡◌, ℕ, zero, suc, ◌+◌, ◌<◌, ◌≤◌, List, [], ◌∷◌, ◌++◌, length, get_or, None, ℤ, pos, refl, sym, ap, ◌∙◌, arith}
 use Rattle.std.specs.List.{slice_get}
-use Rattle.std.proofs.lemmas.List.{ext_get_or}
+use Rattle.std.proofs.lemmas.List.{ext_get_or, length-map, get_or-map, length-append, get_or_append_left}
+use Rattle.std.proofs.Math.Seq.{get_or-append_seam}
+use Rattle.std.proofs.lemmas.Bool.{ltb-true, ltb-false}
+use Rattle.std.proofs.lemmas.Option.{slice_get-get_or}
+use Rattle.vms_check.proofs.ListLaws.{same_at}
+use Rattle.vms_desc.specs.Spots.{kinds_at}
+use Rattle.vms_kinds.specs.Codes.{InRange}
+use Rattle.vms_kinds.specs.declared.Kind.{Kind}
+use Rattle.vms_kinds.specs.declared.Kind.TheVariants.{U8}
 use Rattle.vms_desc.specs.Described.{device_at}
 use Rattle.vms_image.proofs.Made.{same_image}
 use Rattle.vms_image.specs.Typed.{Typed, state_of, IsImageOf, AreImagesOf}
-use Rattle.vms_spec.specs.Images.{Image}
-use Rattle.vms_spec.specs.Layout.{no_desc}
+use Rattle.vms_spec.specs.Images.{Image, FitCells}
+use Rattle.vms_spec.specs.Layout.{no_desc, no_cell, device_cells}
 use Rattle.vms_spec.specs.Sets.{AtLeast, Sub, Device, Set}
-use Rattle.dev_board.specs.declared.cells.BoardCells.{BoardCells}
-use Rattle.dev_images.specs.Images.{bare, image_of, images_of, lists_of, needed_from}
-use Rattle.vms_board.specs.Imaging.{FitDevice, HasCells, typed_of, needed_at, version_needed}
+use Rattle.dev_images.specs.Images.{bare, image_of, images_of, needed_from}
+use Rattle.vms_spec.specs.Streams.{AreReady}
+use Rattle.vms_board.specs.Imaging.{FitDevice, typed_of, needed_at, version_needed}
 
 -- the cells below a place have their numbers
 pub record Put (image old : Typed) (numbers : List ℤ) (cell : ℕ) : Type 0 where
@@ -61,78 +69,140 @@ marked_all set d image old sub m all =
     (λ k lt. m.marked k (omega (arith, lt, m.long, all)) ∙ sym (needed-get set d (state_of old) 0 d.subs k (omega (arith, lt, m.long)) ∙ from-zero set d (state_of old) k)))
     m.numbers m.kinds
 
--- the images of five devices
-abbrev pub five : Set → List ℤ → List ℤ → List ℤ → List ℤ → List ℤ → List Image
-five set a b c d e =
-    image_of set (device_at set 0) a ∷ image_of set (device_at set 1) b ∷ image_of set (device_at set 2) c
-    ∷ image_of set (device_at set 3) d ∷ image_of set (device_at set 4) e ∷ []
+-- ---- an image of each device
 
 no_device : Device
 no_device = record { instance = 0; desc = no_desc; subs = [] }
 
-five-devices : (set : Set) (devices : List Device) (a b c d e : List ℤ) → length devices ≡ 5 → images_of set devices (a ∷ b ∷ c ∷ d ∷ e ∷ [])
-    ≡ image_of set (get_or devices 0 no_device) a ∷ image_of set (get_or devices 1 no_device) b ∷ image_of set (get_or devices 2 no_device) c
-    ∷ image_of set (get_or devices 3 no_device) d ∷ image_of set (get_or devices 4 no_device) e ∷ []
-five-devices set [] a b c d e l = absurd (omega (arith, l))
-five-devices set (v ∷ []) a b c d e l = absurd (omega (arith, l))
-five-devices set (v ∷ w ∷ []) a b c d e l = absurd (omega (arith, l))
-five-devices set (v ∷ w ∷ x ∷ []) a b c d e l = absurd (omega (arith, l))
-five-devices set (v ∷ w ∷ x ∷ y ∷ []) a b c d e l = absurd (omega (arith, l))
-five-devices set (v ∷ w ∷ x ∷ y ∷ z ∷ []) a b c d e l = refl
-five-devices set (v ∷ w ∷ x ∷ y ∷ z ∷ u ∷ rest) a b c d e l = absurd (omega (arith, l))
+no_image : Image
+no_image = record { version = 0; came = []; numbers = [] }
 
-pub five_images : (set : Set) (a b c d e : List ℤ) → length set.devices ≡ 5 → five set a b c d e ≡ images_of set set.devices (a ∷ b ∷ c ∷ d ∷ e ∷ [])
+abbrev pub no_typed : Typed
+no_typed = record { version = 0; came = []; numbers = []; kinds = [] }
+
+-- where there is an image of each device, there are numbers for each
+lists-long : (set : Set) (devices : List Device) (lists : List (List ℤ)) → length (images_of set devices lists) ≡ length devices → length devices ≤ length lists
+lists-long set [] lists l = omega arith
+lists-long set (d ∷ devices) [] l = absurd (omega (arith, l))
+lists-long set (d ∷ devices) (n ∷ lists) l = let rest = lists-long set devices lists (omega (arith, l)) in omega (arith, rest)
+
+images-get : (set : Set) (devices : List Device) (lists : List (List ℤ)) → length (images_of set devices lists) ≡ length devices → (k : ℕ) → k < length devices
+    → get_or (images_of set devices lists) k no_image ≡ image_of set (get_or devices k no_device) (get_or lists k [])
+images-get set [] lists l k lt = absurd (omega (arith, lt))
+images-get set (d ∷ devices) [] l k lt = absurd (omega (arith, l))
+images-get set (d ∷ devices) (n ∷ lists) l zero lt = refl
+images-get set (d ∷ devices) (n ∷ lists) l (suc k) lt = images-get set devices lists (omega (arith, l)) k (omega (arith, lt))
+
+image-get : (set : Set) (lists : List (List ℤ)) → length (images_of set set.devices lists) ≡ length set.devices → (k : ℕ) → k < length set.devices
+    → get_or (images_of set set.devices lists) k no_image ≡ image_of set (device_at set k) (get_or lists k [])
 unfolding no_device
-five_images set a b c d e l = sym (five-devices set set.devices a b c d e l)
+image-get set lists l k lt = images-get set set.devices lists l k lt
 
--- the same with the kinds of their cells
-abbrev pub typed_five : Set → List ℤ → List ℤ → List ℤ → List ℤ → List ℤ → List Typed
-typed_five set a b c d e = typed_of set 0 a ∷ typed_of set 1 b ∷ typed_of set 2 c ∷ typed_of set 3 d ∷ typed_of set 4 e ∷ []
+-- numbers that fit a device's cells are of their kinds
+fit-device : (set : Set) (k : ℕ) (numbers : List ℤ) → FitCells (device_cells set (device_at set k)) numbers → FitDevice set k numbers
+fit-device set k numbers f =
+    let cells = device_cells set (device_at set k) in
+    let same : length (kinds_at set k) ≡ length cells = length-map cells (λ x. x.kind) in
+    record {
+      long = f.long;
+      fits = record {
+        long = f.long ∙ sym same;
+        fits = λ c lt.
+            let within : c < length cells = omega (arith, lt, same) in
+            subst (λ (kind : Kind). InRange kind (get_or numbers c (pos 0))) (sym (get_or-map (λ x. x.kind) cells c no_cell U8 within)) (f.fits c within).0;
+      };
+    }
 
--- five images that were appended one after the other
-pub five_appended : (a b c d e f : List Typed) (v w x y z : Typed) → a ≡ [] → b ≡ a ++ v ∷ [] → c ≡ b ++ w ∷ [] → d ≡ c ++ x ∷ [] → e ≡ d ++ y ∷ []
-    → f ≡ e ++ z ∷ [] → f ≡ v ∷ w ∷ x ∷ y ∷ z ∷ []
-five_appended a b c d e f v w x y z n p q r s t =
-    let then : (more : List Typed) (l m : List Typed) → l ≡ m → l ++ more ≡ m ++ more = λ more l m same. ap (λ (k : List Typed). k ++ more) same in
-    t ∙ then (z ∷ []) e _ (s ∙ then (y ∷ []) d _ (r ∙ then (x ∷ []) c _ (q ∙ then (w ∷ []) b _ (p ∙ then (v ∷ []) a [] n))))
+-- so do those of ready images
+pub fit_each : (set : Set) (lists : List (List ℤ)) → AreReady set (images_of set set.devices lists) → (k : ℕ) → k < length set.devices → FitDevice set k (get_or lists k [])
+unfolding no_device
+fit_each set lists r k lt =
+    let images = images_of set set.devices lists in
+    let all = r.one_each in
+    let here : slice_get images k ≡ Some (image_of set (device_at set k) (get_or lists k [])) =
+    slice_get-get_or images k no_image (omega (arith, lt, all)) ∙ ap (λ (i : Image). Some i) (image-get set lists r.one_each k lt) in
+    fit-device set k (get_or lists k []) (r.ready k (device_at set k) (image_of set (device_at set k) (get_or lists k [])) (slice_get-get_or set.devices k no_device lt) here).normal.cells
 
--- the images that were made of the cells of a board's devices
-pub five_are : (set : Set) (cells : BoardCells) (v w x y z : Typed) (a b c d e : List ℤ)
-    → a ≡ cells.timer.items → b ≡ cells.master.items → c ≡ cells.slave.items → d ≡ cells.pit.items → e ≡ cells.serial.items
-    → v ≡ typed_of set 0 a → w ≡ typed_of set 1 b → x ≡ typed_of set 2 c → y ≡ typed_of set 3 d → z ≡ typed_of set 4 e
-    → v ∷ w ∷ x ∷ y ∷ z ∷ [] ≡ typed_five set cells.timer.items cells.master.items cells.slave.items cells.pit.items cells.serial.items
-five_are set cells v w x y z a b c d e p q r s t h i j k m =
-    ap (λ (n : Typed). n ∷ w ∷ x ∷ y ∷ z ∷ []) (h ∙ ap (λ (n : List ℤ). typed_of set 0 n) p)
-    ∙ ap (λ (n : Typed). typed_of set 0 cells.timer.items ∷ n ∷ x ∷ y ∷ z ∷ []) (i ∙ ap (λ (n : List ℤ). typed_of set 1 n) q)
-    ∙ ap (λ (n : Typed). typed_of set 0 cells.timer.items ∷ typed_of set 1 cells.master.items ∷ n ∷ y ∷ z ∷ []) (j ∙ ap (λ (n : List ℤ). typed_of set 2 n) r)
-    ∙ ap (λ (n : Typed). typed_of set 0 cells.timer.items ∷ typed_of set 1 cells.master.items ∷ typed_of set 2 cells.slave.items ∷ n ∷ z ∷ []) (k ∙ ap (λ (n : List ℤ). typed_of set 3 n) s)
-    ∙ ap (λ (n : Typed). typed_of set 0 cells.timer.items ∷ typed_of set 1 cells.master.items ∷ typed_of set 2 cells.slave.items ∷ typed_of set 3 cells.pit.items ∷ n ∷ []) (m ∙ ap (λ (n : List ℤ). typed_of set 4 n) t)
+-- those below a number are made
+pub record Made (set : Set) (lists : List (List ℤ)) (images : List Typed) (device : ℕ) : Type 0 where
+  pub long : length images ≡ device
+  pub each : (k : ℕ) → k < device → get_or images k no_typed ≡ typed_of set k (get_or lists k [])
 
--- their states
-pub states_are : (set : Set) (cells : BoardCells) (images : List Typed) → length set.devices ≡ 5
-    → images ≡ typed_five set cells.timer.items cells.master.items cells.slave.items cells.pit.items cells.serial.items → map state_of images ≡ images_of set set.devices (lists_of cells)
-states_are set cells images l e =
-    ap (λ (n : List Typed). map state_of n) e ∙ five_images set cells.timer.items cells.master.items cells.slave.items cells.pit.items cells.serial.items l
+-- one more
+pub made_push : (set : Set) (lists : List (List ℤ)) (old new : List Typed) (image : Typed) (device next : ℕ) → Made set lists old device → new ≡ old ++ image ∷ [] → image ≡ typed_of set device (get_or lists device []) → next ≡ suc device
+    → Made set lists new next
+made_push set lists old new image device next m e f n =
+    let long = m.long in
+    let pushed : length (old ++ image ∷ []) ≡ length old + 1 = length-append old (image ∷ []) in
+    let count : length new ≡ length (old ++ image ∷ []) = ap length e in
+    record {
+      long = omega (arith, long, pushed, count, n);
+      each = λ k lt. ap (λ (l : List Typed). get_or l k no_typed) e ∙ each-of set lists old image device m f k (omega (arith, lt, n)) (nat_lt k device) refl;
+    }
+  where
+    last : (set : Set) (lists : List (List ℤ)) (old : List Typed) (image : Typed) (device : ℕ) → length old ≡ device → image ≡ typed_of set device (get_or lists device [])
+        → get_or (old ++ image ∷ []) device no_typed ≡ typed_of set device (get_or lists device [])
+    last set lists old image device l f = ap (λ (n : ℕ). get_or (old ++ image ∷ []) n no_typed) (sym l) ∙ get_or-append_seam old image [] no_typed ∙ f
 
--- each is one of its device
+    each-of : (set : Set) (lists : List (List ℤ)) (old : List Typed) (image : Typed) (device : ℕ) → Made set lists old device → image ≡ typed_of set device (get_or lists device []) → (k : ℕ) → k < suc device
+        → (b : Bool) → nat_lt k device ≡ b → get_or (old ++ image ∷ []) k no_typed ≡ typed_of set k (get_or lists k [])
+    each-of set lists old image device m f k lt true b =
+        let below : k < device = ltb-true k device b in
+        let long = m.long in
+        get_or_append_left old (image ∷ []) no_typed k (omega (arith, below, long)) ∙ m.each k below
+    each-of set lists old image device m f k lt false b =
+        let at-least : device ≤ k = ltb-false k device b in
+        let same : device ≡ k = omega (arith, at-least, lt) in
+        subst (λ (n : ℕ). get_or (old ++ image ∷ []) n no_typed ≡ typed_of set n (get_or lists n [])) same (last set lists old image device m.long f)
+
+pub at_below : {X : Type 0} (xs : List X) (k : ℕ) (x : X) → slice_get xs k ≡ Some x → k < length xs
+at_below [] k x e = cc
+at_below (y ∷ xs) zero x e = omega arith
+at_below (y ∷ xs) (suc k) x e = let below = at_below xs k x e in omega (arith, below)
+
+-- an image with numbers for its device is one of it
 is-of : (set : Set) (k : ℕ) (numbers : List ℤ) → FitDevice set k numbers → IsImageOf set k (typed_of set k numbers)
 is-of set k numbers f = record { subs = needed-long set (device_at set k) (bare (device_at set k) numbers) 0 (device_at set k).subs; cells = f.long; kinds = refl }
 
-is-at : (set : Set) (k : ℕ) (numbers : List ℤ) (image : Typed) → FitDevice set k numbers → Some (typed_of set k numbers) ≡ Some image → IsImageOf set k image
-is-at set k numbers image f e =
-    let same : typed_of set k numbers ≡ image = cc in
-    subst (λ (i : Typed). IsImageOf set k i) same (is-of set k numbers f)
+-- all are made: their states, and each is one of its device
+pub made_states : (set : Set) (lists : List (List ℤ)) (images : List Typed) (device : ℕ) → AreReady set (images_of set set.devices lists) → Made set lists images device → device ≡ length set.devices
+    → map state_of images ≡ images_of set set.devices lists
+made_states set lists images device r m e =
+    let one = r.one_each in
+    let long = m.long in
+    let same : length (map state_of images) ≡ length images = length-map images state_of in
+    ext_get_or no_image (map state_of images) (images_of set set.devices lists) (same ∙ long ∙ e ∙ sym one)
+    (λ k lt.
+    get_or-map state_of images k no_typed no_image (omega (arith, lt, same)) ∙ ap state_of (m.each k (omega (arith, lt, same, long)))
+    ∙ sym (image-get set lists one k (omega (arith, lt, same, long, e))))
 
-each-of : (set : Set) (cells : BoardCells) → HasCells set (lists_of cells) → (k : ℕ) (image : Typed)
-    → slice_get (typed_five set cells.timer.items cells.master.items cells.slave.items cells.pit.items cells.serial.items) k ≡ Some image → IsImageOf set k image
-each-of set cells h zero image e = is-at set 0 cells.timer.items image (h.each 0 (omega arith)) e
-each-of set cells h (suc zero) image e = is-at set 1 cells.master.items image (h.each 1 (omega arith)) e
-each-of set cells h (suc (suc zero)) image e = is-at set 2 cells.slave.items image (h.each 2 (omega arith)) e
-each-of set cells h (suc (suc (suc zero))) image e = is-at set 3 cells.pit.items image (h.each 3 (omega arith)) e
-each-of set cells h (suc (suc (suc (suc zero)))) image e = is-at set 4 cells.serial.items image (h.each 4 (omega arith)) e
-each-of set cells h (suc (suc (suc (suc (suc k))))) image e = cc
+pub made_of : (set : Set) (lists : List (List ℤ)) (images : List Typed) (device : ℕ) → AreReady set (images_of set set.devices lists) → Made set lists images device → device ≡ length set.devices → AreImagesOf set images
+made_of set lists images device r m e =
+    let long = m.long in
+    record {
+      one_each = long ∙ e;
+      each = λ k image here.
+          let below = at_below images k image here in
+          let is : image ≡ typed_of set k (get_or lists k []) = same_at images k _ _ here (slice_get-get_or images k no_typed below) ∙ m.each k (omega (arith, below, long)) in
+          subst (λ (i : Typed). IsImageOf set k i) (sym is) (is-of set k (get_or lists k []) (fit_each set lists r k (omega (arith, below, long, e))));
+    }
 
-pub of_five : (set : Set) (cells : BoardCells) (images : List Typed) → HasCells set (lists_of cells)
-    → images ≡ typed_five set cells.timer.items cells.master.items cells.slave.items cells.pit.items cells.serial.items → AreImagesOf set images
-of_five set cells images h e =
-    subst (λ (l : List Typed). AreImagesOf set l) (sym e) (record { one_each = sym h.devices; each = each-of set cells h })
+-- ---- a board's, under the set of a number
+
+pub listed : (set own : Set) (lists : List (List ℤ)) (k : ℕ) → AreReady own (images_of own own.devices lists) → set ≡ own → k < length set.devices → k < length lists
+listed set own lists k r e lt =
+    let long = lists-long own own.devices lists r.one_each in
+    let same : length set.devices ≡ length own.devices = ap (λ (x : Set). length x.devices) e in
+    omega (arith, lt, long, same)
+
+pub fits_of : (set own : Set) (lists : List (List ℤ)) (k : ℕ) (numbers : List ℤ) → AreReady own (images_of own own.devices lists) → set ≡ own → numbers ≡ get_or lists k [] → k < length set.devices → FitDevice set k numbers
+fits_of set own lists k numbers r e f lt =
+    subst (λ (n : List ℤ). FitDevice set k n) (sym f) (fit_each set lists (subst (λ (x : Set). AreReady x (images_of x x.devices lists)) (sym e) r) k lt)
+
+pub all_states : (set own : Set) (lists : List (List ℤ)) (images : List Typed) (device : ℕ) → AreReady own (images_of own own.devices lists) → set ≡ own → Made set lists images device → device ≡ length set.devices
+    → map state_of images ≡ images_of own own.devices lists
+all_states set own lists images device r e m d =
+    made_states set lists images device (subst (λ (x : Set). AreReady x (images_of x x.devices lists)) (sym e) r) m d ∙ ap (λ (x : Set). images_of x x.devices lists) e
+
+pub all_of : (set own : Set) (lists : List (List ℤ)) (images : List Typed) (device : ℕ) → AreReady own (images_of own own.devices lists) → set ≡ own → Made set lists images device → device ≡ length set.devices → AreImagesOf set images
+all_of set own lists images device r e m d = made_of set lists images device (subst (λ (x : Set). AreReady x (images_of x x.devices lists)) (sym e) r) m d

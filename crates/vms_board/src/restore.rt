@@ -1,18 +1,13 @@
 // Restoring a board.
 ghost use Rattle.std.specs.Prelude.{◌≡◌, IfErr, IfOk, IfSome, OnErr, OnOk};
-ghost use Rattle.dev_base.specs.Levels.{IsLevel};
-ghost use Rattle.dev_base.specs.declared.limits.TheConstants.{NEWEST as newest};
-ghost use Rattle.dev_board.specs.Saved.{AreBoardCells, restored};
-ghost use Rattle.dev_board.specs.Sound.{IsSound};
-ghost use Rattle.dev_images.specs.Images.{cells_in as cells_of};
-ghost use Rattle.vms_desc.specs.Formed.{shipped_set};
 ghost use Rattle.vms_load.specs.Kept.{loads, kept, taken_by};
 ghost use Rattle.vms_board.specs.Comes.{ComesTo, HasCause, GivesWithin, HearsBoard};
+ghost use Rattle.vms_board.specs.Family.{IsNumber, lists_in};
 ghost use Rattle.vms_board.specs.Comes.{Takings, HearsTakings, IsUnfit, refusal_of as refusal_by};
 
-use crate::board::{Board, machine};
-use crate::cells::cells_in;
-use dev_board::{Devices, Misfit};
+use crate::board::MachineBoard;
+use crate::machine::Machine;
+use dev_board::Misfit;
 use thiserror::Error;
 use vms_io::Source;
 use vms_load::{LoadFault, Loader, Reason, Refusal};
@@ -29,10 +24,7 @@ pub enum RestoreFault {
     ReadFault,
 }
 
-/// The master among the devices of a set, which remembers the interrupt lines.
-const MASTER: u32 = 1;
-
-impl Board {
+impl<M: Machine> MachineBoard<M> {
     /// Takes one stream from the source, and makes the board what it saved. The stream is one of the newest
     /// set, and names this board's machine or none.
     ///
@@ -40,60 +32,65 @@ impl Board {
     /// order of the devices and of the rules' numbers (`Unsound`), or lines that the master remembers otherwise
     /// than the devices have them (`LinesDisagree`). After an error the board is as it was. No memory is taken.
     pub fn restore<S: Source>(&mut self, source: &mut S) -> Result<(), RestoreFault>
-        ensures content { let level = self.old.state.level in let left = S.left source.new in
-            IfSome (S.left source.old) (λ input. ComesTo level self.new input left result) }
+        ensures content { let number = M.family.number self.old.state in let left = S.left source.new in
+            IfSome (S.left source.old) (λ input. ComesTo M.family number self.new input left result) }
         ensures same { OnErr result (self.new ≡ self.old) }
-        ensures sound { IsSound self.new.state }
-        ensures level { self.new.state.level ≡ self.old.state.level }
+        ensures sound { M.is_sound self.new.state }
+        ensures number { M.family.number self.new.state ≡ M.family.number self.old.state }
         ensures given { let before = S.given source.old in
-            GivesWithin before (S.given source.new) self.new.taken result }
-        ensures heard { let level = self.old.state.level in
-            HearsBoard level (S.given source.old) (S.given source.new) self.new result }
+            GivesWithin M.family before (S.given source.new) self.new.taken result }
+        ensures heard { let number = M.family.number self.old.state in
+            HearsBoard M.family number (S.given source.old) (S.given source.new) self.new result }
         ensures cause { HasCause (S.faults source.old) (S.faults source.new) result }
         ensures promise { S.promise source.new ≡ S.promise source.old }
     {
-        let level = self.devices.level();
-        take(&mut self.loader, level, source)?;
-        self.devices = devices_of(level, &self.loader)?;
+        let number = self.devices.number();
+        take::<M, S>(&mut self.loader, number, source)?;
+        self.devices = devices_of(number, &self.loader)?;
         self.taken = self.loader.taken();
         Ok(())
     }
 }
 
-// Takes a stream that names the machine of a level or none.
-fn take<S: Source>(loader: &mut Loader, level: u8, source: &mut S) -> Result<(), RestoreFault>
-    requires level { IsLevel level }
-    requires newest { loads loader.old ≡ shipped_set newest }
+// Takes a stream that names the machine of a number or none.
+fn take<M: Machine, S: Source>(
+    loader: &mut Loader,
+    number: u8,
+    source: &mut S,
+) -> Result<(), RestoreFault>
+    requires number { IsNumber M.family number }
+    requires newest { loads loader.old ≡ M.family.set M.family.newest }
     ensures content { let images = kept loader.new in let taken = taken_by loader.new in
         let left = S.left source.new in
-        IfSome (S.left source.old) (λ input. Takings level input left images taken result) }
-    ensures newest { loads loader.new ≡ shipped_set newest }
-    ensures cells { OnOk result (AreBoardCells (cells_of (kept loader.new))) }
+        IfSome (S.left source.old) (λ input. Takings M.family number input left images taken result) }
+    ensures newest { loads loader.new ≡ M.family.set M.family.newest }
+    ensures told { OnOk result (M.are_told (lists_in (kept loader.new))) }
     ensures given { let before = S.given source.old in
-        GivesWithin before (S.given source.new) (taken_by loader.new) result }
+        GivesWithin M.family before (S.given source.new) (taken_by loader.new) result }
     ensures heard { let images = kept loader.new in let taken = taken_by loader.new in
-        HearsTakings level (S.given source.old) (S.given source.new) images taken result }
+        let before = S.given source.old in
+        HearsTakings M.family number before (S.given source.new) images taken result }
     ensures cause { HasCause (S.faults source.old) (S.faults source.new) result }
     ensures promise { S.promise source.new ≡ S.promise source.old }
 {
-    match loader.load(source, Some(machine(level))) {
+    match loader.load(source, Some(u32::from(number - 1))) {
         Ok(_) => Ok(()),
         Err(LoadFault::Refused(refusal)) => Err(RestoreFault::Refused(refusal)),
         Err(LoadFault::ReadFault) => Err(RestoreFault::ReadFault),
     }
 }
 
-// The devices of a level that the images tell which a loader keeps, or the refusal of the stream.
-fn devices_of(level: u8, loader: &Loader) -> Result<Devices, RestoreFault>
-    requires level { IsLevel level }
-    requires newest { loads loader.now ≡ shipped_set newest }
-    requires cells { AreBoardCells (cells_of (kept loader.now)) }
-    ensures restored { let cells = cells_of (kept loader.now) in
-        IfOk result (λ devices. restored level cells ≡ Ok devices) }
-    ensures sound { IfOk result IsSound }
-    ensures unfit { IfErr result (IsUnfit level (taken_by loader.now) (kept loader.now)) }
+// The devices of a number that the images tell which a loader keeps, or the refusal of the stream.
+fn devices_of<M: Machine>(number: u8, loader: &Loader) -> Result<M, RestoreFault>
+    requires number { IsNumber M.family number }
+    requires newest { loads loader.now ≡ M.family.set M.family.newest }
+    requires told { M.are_told (lists_in (kept loader.now)) }
+    ensures restored { let lists = lists_in (kept loader.now) in
+        IfOk result (λ devices. M.family.restored number lists ≡ Ok devices) }
+    ensures sound { IfOk result M.is_sound }
+    ensures unfit { IfErr result (IsUnfit M.family number (taken_by loader.now) (kept loader.now)) }
 {
-    match Devices::of_cells(level, &cells_in(loader.images())) {
+    match M::of_images(number, loader.images()) {
         Ok(devices) => Ok(devices),
         Err(misfit) => Err(RestoreFault::Refused(refusal_of(loader.taken(), misfit))),
     }
@@ -109,8 +106,8 @@ fn refusal_of(taken: u64, misfit: Misfit) -> Refusal
             at: taken,
             reason: Reason::Unsound(rule),
         },
-        Misfit::LinesDisagree => Refusal {
-            section: Some(MASTER),
+        Misfit::LinesDisagree { device } => Refusal {
+            section: Some(device),
             at: taken,
             reason: Reason::LinesDisagree,
         },

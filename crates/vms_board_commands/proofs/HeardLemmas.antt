@@ -2,14 +2,12 @@
 use Rattle.std.proofs.Common.{◌≡◌, inl, inr, ℕ, ◌+◌, List, ◌∷◌, ◌++◌, length, drop, Option, Some, Ok, Err, arith, refl, sym, ap, ◌∙◌, subst, append-nil, length-append, length-drop, []}
 use Rattle.std.proofs.lemmas.Option.{same_Some}
 use Rattle.arrayvec.specs.ArrayVec.{ArrayVec}
-use Rattle.dev_base.specs.declared.limits.TheConstants.{NEWEST}
 use Rattle.vms_board.specs.Comes.{HearsBoard, IsRefused}
+use Rattle.vms_board.specs.Family.{Family}
 use Rattle.vms_board.specs.Restoring.{Back, IsMisfitAt, Restores}
-use Rattle.vms_board.specs.Saving.{machine_of}
 use Rattle.vms_board.specs.Standing.{Standing}
 use Rattle.vms_board.specs.declared.restore.RestoreFault.{RestoreFault}
 use Rattle.vms_board.specs.declared.restore.RestoreFault.TheVariants as restores
-use Rattle.vms_desc.specs.Formed.{shipped_set}
 use Rattle.vms_frames.specs.declared.fault.Refusal.{Refusal}
 use Rattle.vms_io.specs.Causes.{capped}
 use Rattle.vms_io.specs.Shelves.{Held}
@@ -152,16 +150,16 @@ all_of outcome bytes said line n before now o is ends given = record {
   given = given;
 }
 
-module _ (level : ℕ) (lines : List ScriptLine) (held : Option Held) (before now : ℕ) (r : Refusal) (line : ArrayVec ℕ)
-    (said : line.items ≡ refused_line (shipped_set NEWEST) r.at r.section r.reason) where
+module _ {S : Type 0} (kind : Family S) (level : ℕ) (lines : List ScriptLine) (held : Option Held) (before now : ℕ) (r : Refusal) (line : ArrayVec ℕ)
+    (said : line.items ≡ refused_line (kind.set kind.newest) r.at r.section r.reason) where
   abbrev loads : List ℕ → Outcome → Type 0
-  loads bytes x = Loads level lines bytes held x
+  loads bytes x = Loads kind level lines bytes held x
 
   -- at a fault the bytes end with its unit, else with the stream
-  by-fault : (bytes : List ℕ) → IsBytes bytes → now ≡ capped (before + length bytes) → IsRefused level (bytes ++ []) (Some []) r → Hears loads line.items before now
+  by-fault : (bytes : List ℕ) → IsBytes bytes → now ≡ capped (before + length bytes) → IsRefused kind level (bytes ++ []) (Some []) r → Hears loads line.items before now
   by-fault bytes ok given (inl f) =
-      let set = shipped_set NEWEST in
-      let names = machine_of level ∷ [] in
+      let set = kind.set kind.newest in
+      let names = kind.machine level ∷ [] in
       let here : (more : List ℕ) → more ≡ [] → Reads set names (bytes ++ more) (Some more) [] 0 (Err (faults.Refused r)) = λ more none.
       subst (λ (m : List ℕ). Reads set names (bytes ++ m) (Some m) [] 0 (Err (faults.Refused r))) (sym none) (f.0.0, f.0.1, f.1) in
       let heard : HearsLoad set names before now [] 0 (Err (faults.Refused r)) = record { bytes = bytes; octets = ok; given = given; says = here } in
@@ -169,27 +167,27 @@ module _ (level : ℕ) (lines : List ScriptLine) (held : Option Held) (before no
       all_of loads e.bytes (refused_line set r.at r.section r.reason) line.items (r.at + e.size) before now (Faulty r.at r.section r.reason e.size e.fault) said e.ends
       (e.given ∙ ap (λ (n : ℕ). capped (before + n)) (sym e.ends))
   by-fault bytes ok given (inr f) =
-      let misfit : IsMisfitAt level bytes r.at r.section r.reason = subst (λ (l : List ℕ). IsMisfitAt level l r.at r.section r.reason) (append-nil bytes) f.0 in
+      let misfit : IsMisfitAt kind level bytes r.at r.section r.reason = subst (λ (l : List ℕ). IsMisfitAt kind level l r.at r.section r.reason) (append-nil bytes) f.0 in
       let takes = misfit.taken.1 in
       let none : [] ≡ drop r.at (bytes ++ []) = same_Some [] (drop r.at (bytes ++ [])) f.1 in
       let all : length (bytes ++ []) ≡ length bytes = ap length (append-nil bytes) in
       let ends : length bytes ≡ r.at =
       omega (arith, all, ap length none, length-drop r.at (bytes ++ []), ap length takes.prefix, length-append takes.bytes takes.rest, takes.long) in
-      all_of loads bytes (refused_line (shipped_set NEWEST) r.at r.section r.reason) line.items r.at before now (Unfit r.at r.section r.reason misfit) said ends given
+      all_of loads bytes (refused_line (kind.set kind.newest) r.at r.section r.reason) line.items r.at before now (Unfit r.at r.section r.reason misfit) said ends given
 
-  pub restore_heard : (new : Standing) (fault : RestoreFault) → fault ≡ restores.Refused r → HearsBoard level before now new (Err fault) → Hears loads line.items before now
+  pub restore_heard : (new : Standing S) (fault : RestoreFault) → fault ≡ restores.Refused r → HearsBoard kind level before now new (Err fault) → Hears loads line.items before now
   restore_heard new fault same h =
-      let first : HearsBoard level before now new (Err (restores.Refused r)) = subst (λ (f : RestoreFault). HearsBoard level before now new (Err f)) same h in
+      let first : HearsBoard kind level before now new (Err (restores.Refused r)) = subst (λ (f : RestoreFault). HearsBoard kind level before now new (Err f)) same h in
       by-fault first.bytes first.octets first.given (first.says [] refl)
 
 -- a board came back from all of the bytes, and its trace was written, or some of it
-pub trace_heard : (level : ℕ) (lines : List ScriptLine) (held : Option Held) (before now : ℕ) (o o' : Outlet) (new : Standing) (e : Ending) → HearsBoard level before now new (Ok tt)
-    → WritesAs (trace_from (events_of lines) new.state) o o' e → HearsEnd (λ bytes x. Loads level lines bytes held x) held before now o o' e
-trace_heard level lines held before now o o' new e h w =
+pub trace_heard : {S : Type 0} (kind : Family S) (level : ℕ) (lines : List ScriptLine) (held : Option Held) (before now : ℕ) (o o' : Outlet) (new : Standing S) (e : Ending) → HearsBoard kind level before now new (Ok tt)
+    → WritesAs (trace_from kind (events_of lines) new.state) o o' e → HearsEnd (λ bytes x. Loads kind level lines bytes held x) held before now o o' e
+trace_heard kind level lines held before now o o' new e h w =
     let said = h.says [] refl in
     let none : [] ≡ drop new.taken (h.bytes ++ []) = same_Some [] (drop new.taken (h.bytes ++ [])) said.1 in
-    let back : Restores level h.bytes (Back new.state new.taken) = subst (λ (l : List ℕ). Restores level l (Back new.state new.taken)) (append-nil h.bytes) said.0 in
+    let back : Restores kind level h.bytes (Back new.state new.taken) = subst (λ (l : List ℕ). Restores kind level l (Back new.state new.taken)) (append-nil h.bytes) said.0 in
     let taken = said.0.1 in
-    let ends = all_taken (shipped_set NEWEST) (machine_of level ∷ []) h.bytes new.taken taken.0 said.0.0 taken.1 none in
-    written_end (λ bytes x. Loads level lines bytes held x) held h.bytes (trace_from (events_of lines) new.state) new.taken before now o o' e
+    let ends = all_taken (kind.set kind.newest) (kind.machine level ∷ []) h.bytes new.taken taken.0 said.0.0 taken.1 none in
+    written_end (λ bytes x. Loads kind level lines bytes held x) held h.bytes (trace_from kind (events_of lines) new.state) new.taken before now o o' e
     (Traces new.state new.taken back) ends h.given w

@@ -1,73 +1,72 @@
 -- An input and a script have one outcome of `load`.
 use Rattle.std.proofs.Common.{◌≡◌, inl, inr, ℕ, ◌+◌, List, [], ◌∷◌, Option, ap, ◌∙◌}
-use Rattle.dev_base.specs.declared.limits.TheConstants.{NEWEST}
-use Rattle.dev_board.specs.Step.{observe}
 use Rattle.vms_board.specs.Restoring.{IsFaultAt, IsMisfitAt, Restore, Back, Refused, Restores}
-use Rattle.vms_board.specs.Saving.{machine_of}
-use Rattle.vms_desc.specs.Formed.{shipped_set}
+use Rattle.vms_board.specs.Family.{Family}
+use Rattle.vms_board_streams.proofs.BytesLaws.{bytes_come, no_fault, one_restore}
+use Rattle.vms_board_streams.specs.Streams.{answers_to, trace_of}
 use Rattle.vms_io.specs.Shelves.{Held}
 use Rattle.vms_commands.specs.Lines.{refused_line}
 use Rattle.vms_commands.specs.Outcomes.{Outcome, done, ended}
 use Rattle.vms_session.specs.Events.{events_of}
 use Rattle.vms_script.specs.Lines.{ScriptLine}
-use Rattle.vms_session.proofs.OneLaws.{bytes_are_one, no_fault, one_restore}
-use Rattle.vms_session.specs.Laws.{trace_of}
+use Rattle.vms_spec.specs.Heads.{FitsHeads}
 use Rattle.vms_kinds.specs.Bytes.{IsBytes}
+use Rattle.vms_spec.specs.WellFormed.{WellFormed}
 use Rattle.vms_spec.specs.declared.Reason.{Reason}
 use Rattle.vms_stream.proofs.Stated.{one_fault_holds}
 use Rattle.vms_board_commands.proofs.LoadLemmas.{done_is, line_is}
 use Rattle.vms_board_commands.specs.Load.{Loads, Traces, Faulty, Unfit}
 
-pub record OneLoad (level : ℕ) (lines : List ScriptLine) (bytes : List ℕ) (held : Option Held) : Type 0 where
+pub record OneLoad {S : Type 0} (kind : Family S) (level : ℕ) (lines : List ScriptLine) (bytes : List ℕ) (held : Option Held) : Type 0 where
   pub outcome : Outcome
-  pub is : Loads level lines bytes held outcome
-  pub only : (other : Outcome) → Loads level lines bytes held other → other ≡ outcome
+  pub is : Loads kind level lines bytes held outcome
+  pub only : (other : Outcome) → Loads kind level lines bytes held other → other ≡ outcome
 
-module _ (level : ℕ) (lines : List ScriptLine) (bytes : List ℕ) (held : Option Held) (ok : IsBytes bytes) where
+module _ {S : Type 0} (kind : Family S) (well : WellFormed (kind.set kind.newest)) (heads : FitsHeads (kind.set kind.newest)) (level : ℕ) (lines : List ScriptLine) (bytes : List ℕ) (held : Option Held) (ok : IsBytes bytes) where
   -- of an input at fault
-  faulty-is : (place : ℕ) (section : Option ℕ) (reason : Reason) (f : IsFaultAt level bytes place section reason) (x : Outcome) → Loads level lines bytes held x
-      → x ≡ ended 1 (refused_line (shipped_set NEWEST) place section reason) (place + f.0)
+  faulty-is : (place : ℕ) (section : Option ℕ) (reason : Reason) (f : IsFaultAt kind level bytes place section reason) (x : Outcome) → Loads kind level lines bytes held x
+      → x ≡ ended 1 (refused_line (kind.set kind.newest) place section reason) (place + f.0)
   faulty-is place section reason f x (Traces board long s) =
-      let same = one_restore level bytes ok (Refused place section reason) (Back board long) (inl f) s in cc
+      let same = one_restore kind well heads level bytes ok (Refused place section reason) (Back board long) (inl f) s in cc
   faulty-is place section reason f x (Faulty other section' reason' size g) =
-      let one = one_fault_holds (shipped_set 4) (machine_of level ∷ []) bytes ok other place section' section reason' reason size f.0 g f.1 in
-      line_is level lines other place section' section reason' reason (other + size) (place + f.0) one.places one.sections one.reasons
+      let one = one_fault_holds (kind.set kind.newest) (kind.machine level ∷ []) bytes ok other place section' section reason' reason size f.0 g f.1 in
+      line_is kind other place section' section reason' reason (other + size) (place + f.0) one.places one.sections one.reasons
       (ap (λ (n : ℕ). n + size) one.places ∙ ap (λ (n : ℕ). place + n) one.sizes)
   faulty-is place section reason f x (Unfit other section' reason' g) =
-      absurd (no_fault level bytes ok other g.images place section reason g.taken f)
+      absurd (no_fault kind well heads level bytes ok other g.images place section reason g.taken f)
 
   -- of a stream that is no board's
-  unfit-is : (place : ℕ) (section : Option ℕ) (reason : Reason) (f : IsMisfitAt level bytes place section reason) (x : Outcome) → Loads level lines bytes held x
-      → x ≡ ended 1 (refused_line (shipped_set NEWEST) place section reason) place
+  unfit-is : (place : ℕ) (section : Option ℕ) (reason : Reason) (f : IsMisfitAt kind level bytes place section reason) (x : Outcome) → Loads kind level lines bytes held x
+      → x ≡ ended 1 (refused_line (kind.set kind.newest) place section reason) place
   unfit-is place section reason f x (Traces board long s) =
-      let same = one_restore level bytes ok (Refused place section reason) (Back board long) (inr f) s in cc
+      let same = one_restore kind well heads level bytes ok (Refused place section reason) (Back board long) (inr f) s in cc
   unfit-is place section reason f x (Faulty other section' reason' size g) =
-      absurd (no_fault level bytes ok place f.images other section' reason' f.taken (size, g))
+      absurd (no_fault kind well heads level bytes ok place f.images other section' reason' f.taken (size, g))
   unfit-is place section reason f x (Unfit other section' reason' g) =
-      let same = one_restore level bytes ok (Refused other section' reason') (Refused place section reason) (inr g) (inr f) in
+      let same = one_restore kind well heads level bytes ok (Refused other section' reason') (Refused place section reason) (inr g) (inr f) in
       let places : other ≡ place = cc in
       let sections : section' ≡ section = cc in
       let reasons : reason' ≡ reason = cc in
-      line_is level lines other place section' section reason' reason other place places sections reasons places
+      line_is kind other place section' section reason' reason other place places sections reasons places
 
-  by : (r : Restore) → Restores level bytes r → OneLoad level lines bytes held
+  by : (r : Restore S) → Restores kind level bytes r → OneLoad kind level lines bytes held
   by (Back m taken) r = record {
-    outcome = done (trace_of (observe (events_of lines) m)) held taken;
+    outcome = done (trace_of (answers_to kind (events_of lines) m)) held taken;
     is = Traces m taken r;
-    only = λ other l. done_is level lines bytes held m taken other ok r l;
+    only = λ other l. done_is kind well heads level lines bytes held m taken other ok r l;
   }
   by (Refused place section reason) (inl f) = record {
-    outcome = ended 1 (refused_line (shipped_set NEWEST) place section reason) (place + f.0);
+    outcome = ended 1 (refused_line (kind.set kind.newest) place section reason) (place + f.0);
     is = Faulty place section reason f.0 f.1;
     only = faulty-is place section reason f;
   }
   by (Refused place section reason) (inr f) = record {
-    outcome = ended 1 (refused_line (shipped_set NEWEST) place section reason) place;
+    outcome = ended 1 (refused_line (kind.set kind.newest) place section reason) place;
     is = Unfit place section reason f;
     only = unfit-is place section reason f;
   }
 
-  pub loads_one : OneLoad level lines bytes held
+  pub loads_one : OneLoad kind level lines bytes held
   loads_one =
-      let some = bytes_are_one.some level bytes ok in
+      let some = bytes_come kind well heads level bytes ok in
       by some.0 some.1

@@ -1,6 +1,7 @@
 -- From how `load` ends and why to its row.
 use Rattle.std.proofs.Common.{◌≡◌, ℕ, List, inl, inr, refl}
 use Rattle.std.specs.Io.KnownBytes.{Keeps}
+use Rattle.vms_board.specs.Family.{Family}
 use Rattle.vms_io.specs.Told.{Intake, Outlet, Stock}
 use Rattle.vms_commands.proofs.EndLemmas.{around}
 use Rattle.vms_commands.specs.Endings.{Caused, Tells}
@@ -13,8 +14,8 @@ use Rattle.vms_board_commands.specs.Causes.{NoScript, StreamCause, LoadCauses}
 use Rattle.vms_board_commands.proofs.HeardLemmas.{refusal_row, stream_row}
 use Rattle.vms_board_commands.specs.Load.{LoadStatus, LoadAnswers, Loads}
 
-module _ (i i' : Intake) (o o' n n' : Outlet) (s s' : Stock) (level : ℕ) (step : Step (List ScriptLine)) where
-  pub load_caused : (e : Ending) → LoadCauses level step i i' o o' s s' e → Caused i i' o o' s s' e
+module _ (i i' : Intake) (o o' n n' : Outlet) (s s' : Stock) {S : Type 0} (kind : Family S) (level : ℕ) (step : Step (List ScriptLine)) where
+  pub load_caused : (e : Ending) → LoadCauses kind level step i i' o o' s s' e → Caused i i' o o' s s' e
   load_caused e c = elim c.0 [ inl a ↦ unread_caused i i' o o' s s' e a.0 a.2 c.2 | inr b ↦ stream_caused i i' o o' s s' e b c.2 ]
 
   unread : (e : Ending) (status : ℕ) → NoScript s s' e → i' ≡ i → Keeps o.written o'.written → Tells n n' e status → LoadStatus status (around i o n s) (around i' o' n' s')
@@ -52,11 +53,11 @@ module _ (i i' : Intake) (o o' n n' : Outlet) (s s' : Stock) (level : ℕ) (step
   streamed NoMemory status c (inl t) = inr (inr (inr (inr (inr (inr (inr (inr (inr ((t, c.0, c.1))))))))))
   streamed NoMemory status c (inr t) = inr (inr (inr (inr (inr (inl (t.0, t.1))))))
 
-  pub load_row : (e : Ending) (status : ℕ) → LoadCauses level step i i' o o' s s' e → Tells n n' e status → LoadAnswers level step status (around i o n s) (around i' o' n' s')
+  pub load_row : (e : Ending) (status : ℕ) → LoadCauses kind level step i i' o o' s s' e → Tells n n' e status → LoadAnswers kind level step status (around i o n s) (around i' o' n' s')
   load_row e status c t = record {
     ends = elim c.0 [ inl a ↦ unread e status a.0 a.1 a.2 t | inr b ↦ streamed e status b t ];
     given = c.1;
     held = c.2;
-    taken = stream_row (List ScriptLine) step (λ lines bytes x. Loads level lines bytes s.held x) i i' o o' n n' s s' e status c.3 t;
-    refused = refusal_row (List ScriptLine) step (λ lines bytes x. Loads level lines bytes s.held x) i i' o o' n n' s s' e status c.3 t;
+    taken = stream_row (List ScriptLine) step (λ lines bytes x. Loads kind level lines bytes s.held x) i i' o o' n n' s s' e status c.3 t;
+    refused = refusal_row (List ScriptLine) step (λ lines bytes x. Loads kind level lines bytes s.held x) i i' o o' n n' s s' e status c.3 t;
   }

@@ -1,8 +1,8 @@
 -- The step that gives a script: it is told where the shelf is, never ends by the status 0, and gives what is there.
 use Rattle.std.proofs.Common.{◌≡◌, ℕ, ◌≤◌, List, length, Option, Some, None, Ok, Err, ap, ◌∙◌, arith}
-use Rattle.dev_board.specs.State.{power_on}
-use Rattle.dev_board.specs.Step.{after_all}
+use Rattle.vms_board.specs.Family.{Family}
 use Rattle.vms_board.specs.Saving.{saved_stream}
+use Rattle.vms_board_streams.specs.Streams.{after_events}
 use Rattle.vms_io.specs.Shelves.{Held}
 use Rattle.vms_commands.proofs.StepLemmas.{IsSound, fetched_gives, sound_fetch, sound_next}
 use Rattle.vms_commands.specs.Fetching.{fetched}
@@ -22,9 +22,9 @@ sound_script play held name =
     sound_next held (fetched longest_script held name) (λ text. said_lines (script_read play text)) (sound_fetch held longest_script name)
     (λ text. sound_said held (script_read play text))
 
-pub sound_saved : (level set : ℕ) (held : Option Held) (name : List ℕ) → IsSound held (saved_after level set held name)
-sound_saved level set held name =
-    sound_next held (scripted None held name) (λ lines. Gives (saved_stream set (after_all (events_of lines) (power_on level)))) (sound_script None held name) (λ lines. tt)
+pub sound_saved : {S : Type 0} (f : Family S) (number set : ℕ) (held : Option Held) (name : List ℕ) → IsSound held (saved_after f number set held name)
+sound_saved f number set held name =
+    sound_next held (scripted None held name) (λ lines. Gives (saved_stream f set (after_events f (events_of lines) (f.power_on number)))) (sound_script None held name) (λ lines. tt)
 
 -- a script that is there is read
 pub script_gives : (play : Option ℕ) (map : Held) (name text : List ℕ) (lines : List ScriptLine) → map name ≡ Some text → length text ≤ longest_script

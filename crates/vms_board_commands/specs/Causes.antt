@@ -1,6 +1,7 @@
 -- The endings of each command of boards with their causes, told or not.
 use Rattle.std.specs.Prelude.{◌≡◌, ◌⊎◌, ℕ, List, Result, Ok, Err}
 use Rattle.std.specs.Io.KnownBytes.{Keeps}
+use Rattle.vms_board.specs.Family.{Family}
 use Rattle.vms_io.specs.Causes.{Rose}
 use Rattle.vms_io.specs.Told.{Intake, Outlet, Stock}
 use Rattle.vms_commands.specs.Steps.{Step}
@@ -67,10 +68,10 @@ PlayCause out out' shelf shelf' ending =
 abbrev pub DrillCauses : (input input' : Intake) (out out' : Outlet) (shelf shelf' : Stock) → Ending → Type 0
 DrillCauses input input' out out' shelf shelf' ending = WriteCause out out' ending × (input' ≡ input) × (shelf' ≡ shelf)
 
-abbrev pub LoadCauses : ℕ → Step (List ScriptLine) → (input input' : Intake) (out out' : Outlet) (shelf shelf' : Stock) → Ending → Type 0
-LoadCauses level step input input' out out' shelf shelf' ending =
-    LoadCause input input' out out' shelf shelf' ending × LoadGives step input input' × (shelf'.held ≡ shelf.held)
-    × LoadHears level step shelf.held input.given input'.given out out' ending
+abbrev pub LoadCauses : {S : Type 0} → Family S → ℕ → Step (List ScriptLine) → (input input' : Intake) (out out' : Outlet) (shelf shelf' : Stock) → Ending → Type 0
+LoadCauses f number step input input' out out' shelf shelf' ending =
+    LoadCause input input' out out' shelf shelf' ending × LoadGives f step input input' × (shelf'.held ≡ shelf.held)
+    × LoadHears f number step shelf.held input.given input'.given out out' ending
 
 abbrev pub PlayCauses : (input input' : Intake) (out out' : Outlet) (shelf shelf' : Stock) → Ending → Type 0
 PlayCauses input input' out out' shelf shelf' ending = PlayCause out out' shelf shelf' ending × (input' ≡ input)

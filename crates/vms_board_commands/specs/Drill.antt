@@ -2,12 +2,13 @@
 use Rattle.std.specs.Prelude.{◌≡◌, ◌⊎◌, ℕ, List, [], ◌∷◌, ◌++◌, codes}
 use Rattle.std.specs.Fmt.{decimal}
 use Rattle.std.specs.Io.KnownBytes.{Keeps}
+use Rattle.vms_board.specs.Isa.{machine_of}
 use Rattle.vms_drill.specs.Drill.{Summary, drill_begun, drilled_on, summary_of}
 use Rattle.vms_commands.specs.Outcomes.{Outside, OutFault, NotesFault, WantsMemory}
 
 -- the line of a drill: the board and the seed; what the events came to; and what the saves came to
 unfoldable pub drill_text : (level seed : ℕ) → List ℕ
-drill_text level seed = codes "isa-" ++ (decimal level ++ (codes " seed " ++ decimal seed))
+drill_text level seed = machine_of level ++ (codes " seed " ++ decimal seed)
 
 unfoldable pub events_text : (events sent raised : ℕ) → List ℕ
 events_text events sent raised =

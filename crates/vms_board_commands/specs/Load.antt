@@ -1,12 +1,9 @@
 -- The command `load`: its outcome, and what it can answer.
 use Rattle.std.specs.Prelude.{◌≡◌, ◌⊎◌, ℕ, ◌+◌, ◌≤◌, true, List, [], ◌∷◌, Option, IsSomeAnd}
 use Rattle.std.specs.Io.KnownBytes.{Keeps}
-use Rattle.dev_base.specs.declared.limits.TheConstants.{NEWEST}
-use Rattle.dev_board.specs.State.{State}
-use Rattle.dev_board.specs.Step.{observe}
+use Rattle.vms_board.specs.Family.{Family}
 use Rattle.vms_board.specs.Restoring.{Back, IsMisfitAt, Restores}
-use Rattle.vms_board.specs.Saving.{machine_of}
-use Rattle.vms_desc.specs.Formed.{shipped_set}
+use Rattle.vms_board_streams.specs.Streams.{answers_to, trace_of}
 use Rattle.vms_io.specs.Shelves.{Held}
 use Rattle.vms_io.specs.Told.{Intake, Outlet}
 use Rattle.vms_load.specs.Staging.{most_given}
@@ -16,43 +13,43 @@ use Rattle.vms_commands.specs.Steps.{Step, Ends, HasBy}
 use Rattle.vms_commands.specs.declared.ending.Ending.{Ending}
 use Rattle.vms_session.specs.Events.{events_of}
 use Rattle.vms_script.specs.Lines.{ScriptLine}
-use Rattle.vms_session.specs.Laws.{trace_of}
 use Rattle.vms_spec.specs.declared.Reason.{Reason}
 use Rattle.vms_stream.specs.Faults.{Fault}
 use Rattle.vms_board_commands.specs.Heard.{HearsBy, Refuses, Takes}
 
 -- the trace of the script's events on the board that the input restores; or where and why the input is refused, up to the end
 -- of the unit at fault, or because the stream is no board's; the shelf tells the same as before
-pub data Loads (level : ℕ) (lines : List ScriptLine) (input : List ℕ) (held : Option Held) : Outcome → Type 0 where
-  Traces : (board : State) (taken : ℕ) → Restores level input (Back board taken)
-      → Loads level lines input held (done (trace_of (observe (events_of lines) board)) held taken)
+pub data Loads {S : Type 0} (f : Family S) (number : ℕ) (lines : List ScriptLine) (input : List ℕ) (held : Option Held) : Outcome → Type 0 where
+  Traces : (board : S) (taken : ℕ) → Restores f number input (Back board taken)
+      → Loads f number lines input held (done (trace_of (answers_to f (events_of lines) board)) held taken)
   Faulty : (place : ℕ) (section : Option ℕ) (reason : Reason) (size : ℕ)
-      → Fault (shipped_set NEWEST) (machine_of level ∷ []) input place section reason size
-      → Loads level lines input held (ended 1 (refused_line (shipped_set NEWEST) place section reason) (place + size))
-  Unfit : (place : ℕ) (section : Option ℕ) (reason : Reason) → IsMisfitAt level input place section reason
-      → Loads level lines input held (ended 1 (refused_line (shipped_set NEWEST) place section reason) place)
+      → Fault (f.set f.newest) (f.machine number ∷ []) input place section reason size
+      → Loads f number lines input held (ended 1 (refused_line (f.set f.newest) place section reason) (place + size))
+  Unfit : (place : ℕ) (section : Option ℕ) (reason : Reason) → IsMisfitAt f number input place section reason
+      → Loads f number lines input held (ended 1 (refused_line (f.set f.newest) place section reason) place)
 
 -- by the step that gives the script: the outcome with it, or the end of that step, before anything of the input is taken
-abbrev pub LoadsBy : ℕ → Step (List ScriptLine) → Option (List ℕ) → Option Held → Outcome → Type 0
-LoadsBy level step input held o = HasBy (λ lines x. IsSomeAnd input (λ bytes. Loads level lines bytes held x)) step o
+abbrev pub LoadsBy : {S : Type 0} → Family S → ℕ → Step (List ScriptLine) → Option (List ℕ) → Option Held → Outcome → Type 0
+LoadsBy f number step input held o =
+    HasBy (λ lines x. IsSomeAnd input (λ bytes. Loads f number lines bytes held x)) step o
 
 -- how many bytes the input gives at most: as a stream of the newest set may have, and none where there is no script
-abbrev pub LoadGives : {A : Type 0} → Step A → Intake → Intake → Type 0
-LoadGives (Ends status line) input input' = input' ≡ input
-LoadGives step input input' = input'.given ≤ input.given + most_given (shipped_set NEWEST)
+abbrev pub LoadGives : {A S : Type 0} → Family S → Step A → Intake → Intake → Type 0
+LoadGives f (Ends status line) input input' = input' ≡ input
+LoadGives f step input input' = input'.given ≤ input.given + most_given (f.set f.newest)
 
 -- what is heard of a stream or of a refusal: the script that the step gave, and bytes that the outcome takes to the last
-abbrev pub LoadHears : ℕ → Step (List ScriptLine) → Option Held → (before now : ℕ) (out out' : Outlet) → Ending → Type 0
-LoadHears level step held before now out out' ending =
-    HearsBy (List ScriptLine) step (λ lines bytes o. Loads level lines bytes held o) held before now out out' ending
+abbrev pub LoadHears : {S : Type 0} → Family S → ℕ → Step (List ScriptLine) → Option Held → (before now : ℕ) (out out' : Outlet) → Ending → Type 0
+LoadHears f number step held before now out out' ending =
+    HearsBy (List ScriptLine) step (λ lines bytes o. Loads f number lines bytes held o) held before now out out' ending
 
-abbrev pub LoadTakes : ℕ → Step (List ScriptLine) → Outside → Outside → Type 0
-LoadTakes level step old new =
-    Takes (List ScriptLine) step (λ lines bytes o. Loads level lines bytes old.shelf.held o) old new
+abbrev pub LoadTakes : {S : Type 0} → Family S → ℕ → Step (List ScriptLine) → Outside → Outside → Type 0
+LoadTakes f number step old new =
+    Takes (List ScriptLine) step (λ lines bytes o. Loads f number lines bytes old.shelf.held o) old new
 
-abbrev pub LoadRefuses : ℕ → Step (List ScriptLine) → Outside → Outside → Type 0
-LoadRefuses level step old new =
-    Refuses (List ScriptLine) step (λ lines bytes o. Loads level lines bytes old.shelf.held o) old new
+abbrev pub LoadRefuses : {S : Type 0} → Family S → ℕ → Step (List ScriptLine) → Outside → Outside → Type 0
+LoadRefuses f number step old new =
+    Refuses (List ScriptLine) step (λ lines bytes o. Loads f number lines bytes old.shelf.held o) old new
 
 -- what it can answer, told or not
 abbrev pub LoadStatus : ℕ → Outside → Outside → Type 0
@@ -68,10 +65,10 @@ LoadStatus status old new =
     ⊎ EndsBefore 9 true status old new
     ⊎ (WantsMemory status old new × Keeps old.out.written new.out.written × (new.input ≡ old.input))
 
-pub record LoadAnswers (level : ℕ) (step : Step (List ScriptLine)) (status : ℕ) (old new : Outside) : Type 0 where
+pub record LoadAnswers {S : Type 0} (f : Family S) (number : ℕ) (step : Step (List ScriptLine)) (status : ℕ) (old new : Outside) : Type 0 where
   pub ends : LoadStatus status old new
-  pub given : LoadGives step old.input new.input
+  pub given : LoadGives f step old.input new.input
   -- exactly the bytes of the stream are taken, or those of the refusal
-  pub taken : status ≡ 0 → LoadTakes level step old new
-  pub refused : status ≡ 1 → LoadRefuses level step old new
+  pub taken : status ≡ 0 → LoadTakes f number step old new
+  pub refused : status ≡ 1 → LoadRefuses f number step old new
   pub held : new.shelf.held ≡ old.shelf.held

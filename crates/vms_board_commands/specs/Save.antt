@@ -1,10 +1,10 @@
 -- The command `save`: the stream that it writes.
 use Rattle.std.specs.Prelude.{ℕ, List, Option, None, Result, Ok, Err}
-use Rattle.dev_board.specs.State.{power_on}
-use Rattle.dev_board.specs.Step.{after_all}
+use Rattle.vms_board.specs.Family.{Family}
 use Rattle.vms_board.specs.Saving.{saved_stream}
 use Rattle.vms_board.specs.declared.save.SaveFault.{SaveFault}
 use Rattle.vms_board.specs.declared.save.SaveFault.TheVariants as faults
+use Rattle.vms_board_streams.specs.Streams.{after_events}
 use Rattle.vms_io.specs.Shelves.{Held}
 use Rattle.vms_commands.specs.Steps.{Step, Gives, next}
 use Rattle.vms_commands.specs.declared.ending.Ending.{Ending}
@@ -12,10 +12,10 @@ use Rattle.vms_commands.specs.declared.ending.Ending.TheVariants as endings
 use Rattle.vms_session.specs.Events.{events_of}
 use Rattle.vms_board_commands.specs.Scripts.{scripted}
 
--- the stream that is written under a set of a board of a level, at power on, after the events of the script under a name
-abbrev pub saved_after : (level set : ℕ) → Option Held → List ℕ → Step (List ℕ)
-saved_after level set held name =
-    next (scripted None held name) (λ lines. Gives (saved_stream set (after_all (events_of lines) (power_on level))))
+-- the stream that is written under a set of the board of a number, at power on, after the events of the script under a name
+abbrev pub saved_after : {S : Type 0} → Family S → (number set : ℕ) → Option Held → List ℕ → Step (List ℕ)
+saved_after f number set held name =
+    next (scripted None held name) (λ lines. Gives (saved_stream f set (after_events f (events_of lines) (f.power_on number))))
 
 -- how a save of a board ends
 abbrev pub ending_by : Result Unit SaveFault → Ending

@@ -11,6 +11,7 @@ ghost use Rattle.vms_board_commands.specs.Causes.{WriteCause};
 ghost use Rattle.vms_board_commands.specs.Drill.{drill_line, drill_text, events_text, saves_text, summary_line};
 
 use std::alloc::Global;
+use vms_board::machine_name;
 use vms_commands::Ending;
 use vms_drill::{Summary, drill};
 use vms_io::{NoMemory, Sink, write_all_of};
@@ -56,6 +57,7 @@ fn drilled_line(alloc: Global, level: u8, seed: u64, count: u32) -> Result<Strin
 
 // The line of a drill.
 fn summary_line(alloc: Global, level: u8, seed: u64, summary: &Summary) -> Result<String, NoMemory>
+    requires { IsLevel level }
     ensures { let s = summary_view summary.now in
         IfOk result (λ line. string_bytes line ≡ summary_line level seed s) }
 {
@@ -67,9 +69,11 @@ fn summary_line(alloc: Global, level: u8, seed: u64, summary: &Summary) -> Resul
 
 #[tactic(auto, unfolding(crate::specs::Drill::drill_text))]
 fn drill_text(alloc: Global, level: u8, seed: u64) -> Result<String, NoMemory>
+    requires { IsLevel level }
     ensures { IfOk result (λ text. string_bytes text ≡ drill_text level seed) }
 {
-    Ok(format!(in alloc; "isa-{level} seed {seed}")?)
+    let machine = machine_name(level);
+    Ok(format!(in alloc; "{machine} seed {seed}")?)
 }
 
 #[tactic(auto, unfolding(crate::specs::Drill::events_text))]

@@ -1,9 +1,7 @@
 // The command `load`: what goes on, by a script, from the board that a stream restores.
 ghost use Rattle.std.specs.Prelude.{◌≡◌, ◌+◌, ◌≤◌, IsSomeAnd, None, Option};
-ghost use Rattle.dev_base.specs.Levels.{IsLevel};
-ghost use Rattle.dev_base.specs.declared.limits.TheConstants.{NEWEST as newest};
 ghost use Rattle.dev_board.specs.Laws.{AreEvents};
-ghost use Rattle.vms_desc.specs.Formed.{shipped_set};
+ghost use Rattle.vms_board.specs.Family.{IsNumber};
 ghost use Rattle.vms_io.specs.Shelves.{Held};
 ghost use Rattle.vms_io.specs.Told.{Stock, intake, outlet, stock};
 ghost use Rattle.vms_load.specs.Staging.{most_given};
@@ -20,22 +18,23 @@ use crate::asked::OnBoard;
 use crate::scripts::events_of;
 use dev_board::Event;
 use std::alloc::Global;
-use vms_board::{Board, RestoreFault};
+use vms_board::{Machine, MachineBoard, RestoreFault};
 use vms_commands::{Ending, refused_line};
 use vms_io::{Shelf, Sink, Source};
 use vms_session::trace;
 
-/// Restores a board from the input's stream, and writes the trace of a script's events on it.
+/// Restores a board of a kind from the input's stream, and writes the trace of a script's events on it.
 ///
 /// The script is there, and all memory is taken, before anything of the input is.
-pub fn load_board<I: Source, O: Sink, H: Shelf>(
+pub fn load_board<M: Machine, I: Source, O: Sink, H: Shelf>(
     alloc: Global,
     asked: OnBoard,
     input: &mut I,
     out: &mut O,
     shelf: &mut H,
 ) -> Ending
-    ensures content { (o : Outcome) → LoadsBy asked.entry.level
+    requires { IsNumber M.family asked.number }
+    ensures content { (o : Outcome) → LoadsBy M.family asked.entry.number
         (scripted None (H.held shelf.old) asked.entry.script.now)
         (I.left input.old) (H.held shelf.old) o
         → EndsAs (intake I.Source input.old) (intake I.Source input.new)
@@ -44,9 +43,9 @@ pub fn load_board<I: Source, O: Sink, H: Shelf>(
     ensures cause { LoadCause (intake I.Source input.old) (intake I.Source input.new)
         (outlet O.Sink out.old) (outlet O.Sink out.new)
         (stock H.Shelf shelf.old) (stock H.Shelf shelf.new) result }
-    ensures given { LoadGives (scripted None (H.held shelf.old) asked.entry.script.now)
+    ensures given { LoadGives M.family (scripted None (H.held shelf.old) asked.entry.script.now)
         (intake I.Source input.old) (intake I.Source input.new) }
-    ensures heard { LoadHears asked.entry.level
+    ensures heard { LoadHears M.family asked.entry.number
         (scripted None (H.held shelf.old) asked.entry.script.now) (H.held shelf.old)
         (I.given input.old) (I.given input.new)
         (outlet O.Sink out.old) (outlet O.Sink out.new) result }
@@ -59,31 +58,32 @@ pub fn load_board<I: Source, O: Sink, H: Shelf>(
     ensures shelf_promise { H.promise shelf.new ≡ H.promise shelf.old }
 {
     match events_of(alloc, asked.script, shelf) {
-        Ok(events) => load_events(alloc, asked.level, &events, input, out),
+        Ok(events) => load_events::<M, I, O>(alloc, asked.number, &events, input, out),
         Err(ending) => ending,
     }
 }
 
 // Once the script is there.
-fn load_events<I: Source, O: Sink>(
+fn load_events<M: Machine, I: Source, O: Sink>(
     alloc: Global,
-    level: u8,
+    number: u8,
     events: &[Event],
     input: &mut I,
     out: &mut O,
 ) -> Ending
-    requires level { IsLevel level }
+    requires board { IsNumber M.family number }
     requires events { AreEvents events.now }
     ensures content { (shelf shelf' : Stock) (o : Outcome) → shelf'.held ≡ shelf.held
         → IsSomeAnd (I.left input.old)
-        (λ bytes. Loads level (event_lines events.now) bytes shelf.held o)
+        (λ bytes. Loads M.family number (event_lines events.now) bytes shelf.held o)
         → EndsAs (intake I.Source input.old) (intake I.Source input.new)
         (outlet O.Sink out.old) (outlet O.Sink out.new) shelf shelf' result o }
     ensures cause { StreamCause (intake I.Source input.old) (intake I.Source input.new)
         (outlet O.Sink out.old) (outlet O.Sink out.new) result }
-    ensures given { I.given input.new ≤ I.given input.old + most_given (shipped_set newest) }
+    ensures given { let most = most_given (M.family.set M.family.newest) in
+        I.given input.new ≤ I.given input.old + most }
     ensures heard { (held : Option Held)
-        → HearsEnd (λ bytes o. Loads level (event_lines events.now) bytes held o) held
+        → HearsEnd (λ bytes o. Loads M.family number (event_lines events.now) bytes held o) held
         (I.given input.old) (I.given input.new)
         (outlet O.Sink out.old) (outlet O.Sink out.new) result }
     ensures input_count { I.faults input.old ≤ I.faults input.new }
@@ -91,15 +91,15 @@ fn load_events<I: Source, O: Sink>(
     ensures input_promise { I.promise input.new ≡ I.promise input.old }
     ensures out_promise { O.promise out.new ≡ O.promise out.old }
 {
-    let Ok(mut board) = Board::new(alloc, level) else {
+    let Ok(mut board) = MachineBoard::<M>::new(alloc, number) else {
         return Ending::NoMemory;
     };
     load_on(&mut board, events, input, out)
 }
 
 // Once a board and its set are there.
-fn load_on<I: Source, O: Sink>(
-    board: &mut Board,
+fn load_on<M: Machine, I: Source, O: Sink>(
+    board: &mut MachineBoard<M>,
     events: &[Event],
     input: &mut I,
     out: &mut O,
@@ -107,14 +107,16 @@ fn load_on<I: Source, O: Sink>(
     requires { AreEvents events.now }
     ensures content { (shelf shelf' : Stock) (o : Outcome) → shelf'.held ≡ shelf.held
         → IsSomeAnd (I.left input.old)
-        (λ bytes. Loads board.old.state.level (event_lines events.now) bytes shelf.held o)
+        (λ bytes. let number = M.family.number board.old.state in
+        Loads M.family number (event_lines events.now) bytes shelf.held o)
         → EndsAs (intake I.Source input.old) (intake I.Source input.new)
         (outlet O.Sink out.old) (outlet O.Sink out.new) shelf shelf' result o }
     ensures cause { StreamCause (intake I.Source input.old) (intake I.Source input.new)
         (outlet O.Sink out.old) (outlet O.Sink out.new) result }
-    ensures given { I.given input.new ≤ I.given input.old + most_given (shipped_set newest) }
-    ensures heard { (held : Option Held) → let level = board.old.state.level in
-        HearsEnd (λ bytes o. Loads level (event_lines events.now) bytes held o) held
+    ensures given { let most = most_given (M.family.set M.family.newest) in
+        I.given input.new ≤ I.given input.old + most }
+    ensures heard { (held : Option Held) → let number = M.family.number board.old.state in
+        HearsEnd (λ bytes o. Loads M.family number (event_lines events.now) bytes held o) held
         (I.given input.old) (I.given input.new)
         (outlet O.Sink out.old) (outlet O.Sink out.new) result }
     ensures input_count { I.faults input.old ≤ I.faults input.new }
@@ -130,9 +132,9 @@ fn load_on<I: Source, O: Sink>(
 }
 
 // Once the board is restored.
-fn go_on<O: Sink>(board: &mut Board, events: &[Event], out: &mut O) -> Ending
+fn go_on<M: Machine, O: Sink>(board: &mut MachineBoard<M>, events: &[Event], out: &mut O) -> Ending
     requires { AreEvents events.now }
-    ensures written { let text = trace_from events.now board.old.state in
+    ensures written { let text = trace_from M.family events.now board.old.state in
         WritesAs text (outlet O.Sink out.old) (outlet O.Sink out.new) result }
     ensures count { O.faults out.old ≤ O.faults out.new }
     ensures promise { O.promise out.new ≡ O.promise out.old }

@@ -26,9 +26,10 @@ pub fn play_board<O: Sink, H: Shelf>(
     out: &mut O,
     shelf: &mut H,
 ) -> Ending
+    requires { IsLevel asked.number }
     ensures content { (input : Intake) (o : Outcome) → input.given < 2 ^ 64
-        → PlaysBy asked.entry.level
-        (scripted (Some asked.entry.level) (H.held shelf.old) asked.entry.script.now)
+        → PlaysBy asked.entry.number
+        (scripted (Some asked.entry.number) (H.held shelf.old) asked.entry.script.now)
         (H.held shelf.old) o
         → EndsAs input input (outlet O.Sink out.old) (outlet O.Sink out.new)
         (stock H.Shelf shelf.old) (stock H.Shelf shelf.new) result o }
@@ -39,8 +40,8 @@ pub fn play_board<O: Sink, H: Shelf>(
     ensures out_promise { O.promise out.new ≡ O.promise out.old }
     ensures shelf_promise { H.promise shelf.new ≡ H.promise shelf.old }
 {
-    match session_of(alloc, asked.script, asked.level, shelf) {
-        Ok(lines) => play_lines(alloc, asked.level, &lines, out, shelf),
+    match session_of(alloc, asked.script, asked.number, shelf) {
+        Ok(lines) => play_lines(alloc, asked.number, &lines, out, shelf),
         Err(ending) => ending,
     }
 }

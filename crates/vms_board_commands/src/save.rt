@@ -1,11 +1,10 @@
 // The command `save`: the stream of a board after a script.
 ghost use Rattle.std.specs.Prelude.{◌≡◌, ◌≤◌};
-ghost use Rattle.dev_base.specs.Levels.{IsLevel};
+ghost use Rattle.dev_base.specs.Levels.{ReachesSet};
 ghost use Rattle.dev_board.specs.Laws.{AreEvents};
-ghost use Rattle.dev_board.specs.Saved.{MaySaveUnder};
-ghost use Rattle.dev_board.specs.State.{power_on};
-ghost use Rattle.dev_board.specs.Step.{after_all};
+ghost use Rattle.vms_board.specs.Family.{IsNumber};
 ghost use Rattle.vms_board.specs.Saving.{saved_stream};
+ghost use Rattle.vms_board_streams.specs.Streams.{after_events};
 ghost use Rattle.vms_io.specs.Told.{outlet, stock};
 ghost use Rattle.vms_commands.specs.StepEndings.{TextEnds};
 ghost use Rattle.vms_commands.specs.Steps.{Gives};
@@ -17,20 +16,23 @@ use crate::asked::Saving;
 use crate::scripts::events_of;
 use dev_board::Event;
 use std::alloc::Global;
-use vms_board::{Board, SaveFault};
+use vms_board::{Machine, MachineBoard, SaveFault};
 use vms_commands::Ending;
 use vms_io::{Shelf, Sink};
 use vms_session::run_events;
 
-/// Writes the stream of a board, at power on, after the events of a script.
-pub fn save_board<O: Sink, H: Shelf>(
+/// Writes the stream of a board of a kind, at power on, after the events of a script, under a set from the
+/// board's number to the newest.
+pub fn save_board<M: Machine, O: Sink, H: Shelf>(
     alloc: Global,
     asked: Saving,
     out: &mut O,
     shelf: &mut H,
 ) -> Ending
-    ensures content { TextContent
-        (saved_after asked.entry.level asked.entry.set (H.held shelf.old) asked.entry.script.now)
+    requires board { IsNumber M.family asked.number }
+    requires may { ReachesSet M.family.newest asked.number asked.set }
+    ensures content { let said = asked.entry in TextContent
+        (saved_after M.family said.number said.set (H.held shelf.old) said.script.now)
         (outlet O.Sink out.old) (outlet O.Sink out.new)
         (stock H.Shelf shelf.old) (stock H.Shelf shelf.new) result }
     ensures cause { TextCause (outlet O.Sink out.old) (outlet O.Sink out.new)
@@ -42,24 +44,30 @@ pub fn save_board<O: Sink, H: Shelf>(
     ensures shelf_promise { H.promise shelf.new ≡ H.promise shelf.old }
 {
     match events_of(alloc, asked.script, shelf) {
-        Ok(events) => save_after(alloc, asked.level, asked.set, &events, out),
+        Ok(events) => save_after::<M, O>(alloc, asked.number, asked.set, &events, out),
         Err(ending) => ending,
     }
 }
 
 // Once the script is there.
-fn save_after<O: Sink>(alloc: Global, level: u8, set: u8, events: &[Event], out: &mut O) -> Ending
-    requires level { IsLevel level }
-    requires may { MaySaveUnder level set }
+fn save_after<M: Machine, O: Sink>(
+    alloc: Global,
+    number: u8,
+    set: u8,
+    events: &[Event],
+    out: &mut O,
+) -> Ending
+    requires board { IsNumber M.family number }
+    requires may { ReachesSet M.family.newest number set }
     requires events { AreEvents events.now }
-    ensures ends { let board = after_all events.now (power_on level) in
-        TextEnds (Gives (saved_stream set board)) (outlet O.Sink out.old)
+    ensures ends { let board = after_events M.family events.now (M.family.power_on number) in
+        TextEnds (Gives (saved_stream M.family set board)) (outlet O.Sink out.old)
         (outlet O.Sink out.new) result }
     ensures cause { WriteCause (outlet O.Sink out.old) (outlet O.Sink out.new) result }
     ensures count { O.faults out.old ≤ O.faults out.new }
     ensures promise { O.promise out.new ≡ O.promise out.old }
 {
-    let Ok(mut board) = Board::new(alloc, level) else {
+    let Ok(mut board) = MachineBoard::<M>::new(alloc, number) else {
         return Ending::NoMemory;
     };
     run_events(&mut board, events);

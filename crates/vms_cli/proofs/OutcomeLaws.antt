@@ -23,6 +23,8 @@ use Rattle.vms_commands.specs.Steps.{Step, Untold, Gives, Ends, Both, HasText, n
 use Rattle.vms_commands.proofs.FileSets.{FitStep, fit_word}
 use Rattle.vms_commands.proofs.StepLemmas.{IsSound as IsStepSound, fetched_gives, one_text, sound_word_set}
 use Rattle.dev_board.specs.State.{power_on}
+use Rattle.vms_board.specs.Isa.{isa}
+use Rattle.vms_board.specs.IsaStands.{isa_stands}
 use Rattle.vms_board.specs.Saving.{saved_stream}
 use Rattle.vms_board_commands.proofs.ScriptSteps.{script_gives, sound_saved, sound_script}
 use Rattle.vms_board_commands.specs.Drill.{drill_line}
@@ -34,7 +36,8 @@ use Rattle.vms_board_commands.specs.Play.{PlaysBy}
 use Rattle.vms_board_commands.specs.Load.{LoadsBy, Traces}
 use Rattle.vms_board_commands.specs.Save.{saved_after}
 use Rattle.vms_board_commands.specs.Scripts.{longest_script, said_lines, scripted}
-use Rattle.vms_session.specs.Laws.{HoldsAll, trace_of}
+use Rattle.vms_board_streams.specs.Streams.{trace_of}
+use Rattle.vms_session.specs.Laws.{HoldsAll}
 use Rattle.vms_session.specs.Events.{events_of}
 use Rattle.vms_script.proofs.GrammarOnly.{reads_exactly}
 use Rattle.vms_script.specs.Grammar.{AreLines}
@@ -42,7 +45,7 @@ use Rattle.vms_script.specs.Lines.{ScriptLine}
 use Rattle.vms_script.specs.Script.{Reading, script_read}
 use Rattle.vms_cli.specs.Answers.{HasOutcome, Answers}
 use Rattle.vms_cli.specs.Check.{checked, compared, compatible_text, verdict}
-use Rattle.vms_cli.specs.Commands.{Asked, Show, Pack, Check, Save, Load, Drill, Play, asked_of}
+use Rattle.vms_cli.specs.Commands.{Asked, IsaBoard, Show, Pack, Check, Save, Load, Drill, Play, asked_of}
 use Rattle.vms_cli.specs.Laws.{HasOneOutcome, OutcomeLaw, CanBePacked, CanBeDone, HasRoom, IsAmple, PromisesKept, CompleteLaw}
 use Rattle.vms_cli.specs.Pack.{described_stream, packed_by, packs}
 use Rattle.vms_cli.specs.Show.{ShowsBy, Values as Printed, Refuses}
@@ -55,8 +58,8 @@ use Rattle.vms_cli.proofs.VerdictLaws.{StopsAt}
 
 record OneLoads (level : ℕ) (step : Step (List ScriptLine)) (input : List ℕ) (held : Held) : Type 0 where
   outcome : Outcome
-  is : LoadsBy level step (Some input) (Some held) outcome
-  only : (other : Outcome) → LoadsBy level step (Some input) (Some held) other → other ≡ outcome
+  is : LoadsBy isa level step (Some input) (Some held) outcome
+  only : (other : Outcome) → LoadsBy isa level step (Some input) (Some held) other → other ≡ outcome
 
 -- ---- the outcome of `show`
 
@@ -100,9 +103,9 @@ one_checked old new input held =
     let one = one_text held (checked (Some held) old new) (sound_check (Some held) old new) in
     record { outcome = one.outcome; is = one.is; only = one.only }
 
-one_saved : (level set : ℕ) (script input : List ℕ) (held : Held) → HasOneOutcome (Some (Save level set script)) input held
+one_saved : (level set : ℕ) (script input : List ℕ) (held : Held) → HasOneOutcome (Some (Save (IsaBoard level) set script)) input held
 one_saved level set script input held =
-    let one = one_text held (saved_after level set (Some held) script) (sound_saved level set (Some held) script) in
+    let one = one_text held (saved_after isa level set (Some held) script) (sound_saved isa level set (Some held) script) in
     record { outcome = one.outcome; is = one.is; only = one.only }
 
 -- ---- the outcome of `load`
@@ -111,10 +114,10 @@ one_loads : (level : ℕ) (s : Step (List ScriptLine)) (input : List ℕ) (held 
 one_loads level Untold input held ok sound = absurd (none-some {A = Held} held (sym sound))
 one_loads level (Ends status line) input held ok sound = record { outcome = ended status line 0; is = refl; only = λ other e. e }
 one_loads level (Gives lines) input held ok sound =
-    let one = loads_one level lines input (Some held) ok in
+    let one = loads_one isa isa_stands.well isa_stands.heads level lines input (Some held) ok in
     record { outcome = one.outcome; is = one.is; only = one.only }
 
-one_loaded : (level : ℕ) (script input : List ℕ) (held : Held) → IsBytes input → HasOneOutcome (Some (Load level script)) input held
+one_loaded : (level : ℕ) (script input : List ℕ) (held : Held) → IsBytes input → HasOneOutcome (Some (Load (IsaBoard level) script)) input held
 one_loaded level script input held ok =
     let one = one_loads level (scripted None (Some held) script) input held ok (sound_script None (Some held) script) in
     record { outcome = one.outcome; is = one.is; only = one.only }
@@ -160,8 +163,8 @@ outcome_holds None input held ok by = record { outcome = ended 2 bad_words 0; is
 outcome_holds (Some (Show word)) input held ok by = one_shown word input held ok
 outcome_holds (Some (Pack word name)) input held ok by = one_packed word name input held
 outcome_holds (Some (Check old new)) input held ok by = one_checked old new input held
-outcome_holds (Some (Save level set script)) input held ok by = one_saved level set script input held
-outcome_holds (Some (Load level script)) input held ok by = one_loaded level script input held ok
+outcome_holds (Some (Save (IsaBoard level) set script)) input held ok by = one_saved level set script input held
+outcome_holds (Some (Load (IsaBoard level) script)) input held ok by = one_loaded level script input held ok
 outcome_holds (Some (Play level script)) input held ok by = one_played level script input held by.0 by.1
 outcome_holds (Some (Drill level seed count)) input held ok by =
     record { outcome = done (drill_line level seed count) (Some held) 0; is = refl; only = λ other e. e }
@@ -207,24 +210,24 @@ can_be (Some (Pack word name)) input (Some map) can =
       status = refl;
       note = refl;
     }
-can_be (Some (Save level set script)) input None can = absurd can
-can_be (Some (Save level set script)) input (Some map) can =
-    let stream = saved_stream set (after_all (events_of can.lines) (power_on level)) in
+can_be (Some (Save (IsaBoard level) set script)) input None can = absurd can
+can_be (Some (Save (IsaBoard level) set script)) input (Some map) can =
+    let stream = saved_stream isa set (after_all (events_of can.lines) (power_on level)) in
     let outcome = done stream (Some map) 0 in
     record {
       outcome = outcome;
-      is = subst (λ (s : Step (List ScriptLine)). HasText (Some map) (next s (λ lines. Gives (saved_stream set (after_all (events_of lines) (power_on level))))) outcome)
+      is = subst (λ (s : Step (List ScriptLine)). HasText (Some map) (next s (λ lines. Gives (saved_stream isa set (after_all (events_of lines) (power_on level))))) outcome)
           (sym (script_gives None map script can.text can.lines can.held can.short can.reads)) refl;
       status = refl;
       note = refl;
     }
-can_be (Some (Load level script)) input None can = absurd can.0
-can_be (Some (Load level script)) None (Some map) can = absurd can.1
-can_be (Some (Load level script)) (Some bytes) (Some map) can =
+can_be (Some (Load (IsaBoard level) script)) input None can = absurd can.0
+can_be (Some (Load (IsaBoard level) script)) None (Some map) can = absurd can.1
+can_be (Some (Load (IsaBoard level) script)) (Some bytes) (Some map) can =
     let outcome = done (trace_of (observe (events_of can.0.lines) can.1.0)) (Some map) can.1.1 in
     record {
       outcome = outcome;
-      is = subst (λ (s : Step (List ScriptLine)). LoadsBy level s (Some bytes) (Some map) outcome)
+      is = subst (λ (s : Step (List ScriptLine)). LoadsBy isa level s (Some bytes) (Some map) outcome)
           (sym (script_gives None map script can.0.text can.0.lines can.0.held can.0.short can.0.reads)) (Traces can.1.0 can.1.1 can.1.2);
       status = refl;
       note = refl;

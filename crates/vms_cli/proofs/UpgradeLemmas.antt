@@ -47,8 +47,8 @@ upgrade_so (Some (Show word)) status old new all =
     upgrades_by (word_set old.shelf.held word) (fit_word old.shelf.held word) status old new all
 upgrade_so (Some (Pack set name)) status old new all = tt
 upgrade_so (Some (Check older newer)) status old new all = tt
-upgrade_so (Some (Save level set script)) status old new all = tt
-upgrade_so (Some (Load level script)) status old new all = tt
+upgrade_so (Some (Save board set script)) status old new all = tt
+upgrade_so (Some (Load board script)) status old new all = tt
 upgrade_so (Some (Play level script)) status old new all = tt
 upgrade_so (Some (Drill level seed count)) status old new all = tt
 

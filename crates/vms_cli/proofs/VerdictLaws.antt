@@ -49,7 +49,7 @@ verdict_so (Some (Show set)) left held status old new all = tt
 verdict_so (Some (Pack set name)) left held status old new all = tt
 verdict_so (Some (Check a b)) left held status old new all =
     λ zero. are_compatible status old new zero held (named_sets held a b) (sound_sets held a b) all
-verdict_so (Some (Save level set script)) left held status old new all = tt
-verdict_so (Some (Load level script)) left held status old new all = tt
+verdict_so (Some (Save board set script)) left held status old new all = tt
+verdict_so (Some (Load board script)) left held status old new all = tt
 verdict_so (Some (Play level script)) left held status old new all = tt
 verdict_so (Some (Drill level seed count)) left held status old new all = tt

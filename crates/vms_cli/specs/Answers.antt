@@ -7,13 +7,14 @@ use Rattle.vms_commands.specs.Lines.{bad_words}
 use Rattle.vms_commands.specs.Outcomes.{Outcome, done, ended, Outside, DoesOrStops, NotesFault, CountsStand, PromisesStay}
 use Rattle.vms_commands.specs.Steps.{HasText}
 use Rattle.vms_commands.specs.Texts.{TextAnswers}
+use Rattle.vms_board.specs.Isa.{isa}
 use Rattle.vms_board_commands.specs.Drill.{DrillAnswers, drill_line}
 use Rattle.vms_board_commands.specs.Load.{LoadAnswers, LoadsBy}
 use Rattle.vms_board_commands.specs.Play.{PlayAnswers, PlaysBy}
 use Rattle.vms_board_commands.specs.Save.{saved_after}
 use Rattle.vms_board_commands.specs.Scripts.{scripted}
 use Rattle.vms_cli.specs.Check.{checked, asks_shelf, CheckAnswers, Verdict}
-use Rattle.vms_cli.specs.Commands.{Asked, Show, Pack, Check, Save, Load, Drill, Play, asked_of}
+use Rattle.vms_cli.specs.Commands.{Asked, IsaBoard, Show, Pack, Check, Save, Load, Drill, Play, asked_of}
 use Rattle.vms_cli.specs.Continuation.{Continuation}
 use Rattle.vms_cli.specs.Pack.{packs}
 use Rattle.vms_cli.specs.Show.{ShowsBy, ShowAnswers}
@@ -26,8 +27,10 @@ HasOutcome None input held o = o ≡ ended 2 bad_words 0
 HasOutcome (Some (Show set)) input held o = ShowsBy (word_set held set) input held o
 HasOutcome (Some (Pack set name)) input held o = HasText held (packs held set name) o
 HasOutcome (Some (Check old new)) input held o = HasText held (checked held old new) o
-HasOutcome (Some (Save level set script)) input held o = HasText held (saved_after level set held script) o
-HasOutcome (Some (Load level script)) input held o = LoadsBy level (scripted None held script) input held o
+HasOutcome (Some (Save (IsaBoard level) set script)) input held o =
+    HasText held (saved_after isa level set held script) o
+HasOutcome (Some (Load (IsaBoard level) script)) input held o =
+    LoadsBy isa level (scripted None held script) input held o
 HasOutcome (Some (Play level script)) input held o = PlaysBy level (scripted (Some level) held script) held o
 HasOutcome (Some (Drill level seed count)) input held o = o ≡ done (drill_line level seed count) held 0
 
@@ -45,9 +48,9 @@ CanAnswer (Some (Show set)) status old new =
     ShowAnswers (is_on_shelf set) (word_set old.shelf.held set) status old new
 CanAnswer (Some (Pack set name)) status old new = TextAnswers status old new
 CanAnswer (Some (Check one other)) status old new = CheckAnswers (asks_shelf one other) status old new
-CanAnswer (Some (Save level set script)) status old new = TextAnswers status old new
-CanAnswer (Some (Load level script)) status old new =
-    LoadAnswers level (scripted None old.shelf.held script) status old new
+CanAnswer (Some (Save board set script)) status old new = TextAnswers status old new
+CanAnswer (Some (Load (IsaBoard level) script)) status old new =
+    LoadAnswers isa level (scripted None old.shelf.held script) status old new
 CanAnswer (Some (Play level script)) status old new = PlayAnswers status old new
 CanAnswer (Some (Drill level seed count)) status old new = DrillAnswers status old new
 

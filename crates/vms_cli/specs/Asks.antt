@@ -1,14 +1,26 @@
 -- The command of the code, as what is asked.
+use Rattle.std.specs.Prelude.{ℕ}
 use Rattle.vms_commands.specs.Asks.{set_asked}
 use Rattle.vms_cli.specs.Commands as commands
+use Rattle.vms_cli.specs.declared.boards.BoardWord.{BoardWord}
+use Rattle.vms_cli.specs.declared.boards.BoardWord.TheVariants.{Isa}
+use Rattle.vms_cli.specs.declared.boards.SavedBoard.{SavedBoard}
+use Rattle.vms_cli.specs.declared.boards.SavedBoard.TheVariants as saved
 use Rattle.vms_cli.specs.declared.words.Command.{Command}
 use Rattle.vms_cli.specs.declared.words.Command.TheVariants.{Show, Pack, Check, Save, Load, Drill, Play}
+
+abbrev pub board_asked : BoardWord → commands.BoardWord
+board_asked (Isa board) = commands.IsaBoard board.level
+
+-- a board, and the number of a set
+abbrev pub saved_asked : SavedBoard → commands.BoardWord × ℕ
+saved_asked (saved.Isa board) = (commands.IsaBoard board.level, board.set)
 
 abbrev pub asked : Command → commands.Asked
 asked (Show set) = commands.Show (set_asked set)
 asked (Pack set values) = commands.Pack (set_asked set) values.now
 asked (Check old new) = commands.Check (set_asked old) (set_asked new)
-asked (Save saving) = commands.Save saving.level saving.set saving.script.now
-asked (Load loading) = commands.Load loading.level loading.script.now
+asked (Save board script) = commands.Save (saved_asked board).0 (saved_asked board).1 script.now
+asked (Load board script) = commands.Load (board_asked board) script.now
 asked (Drill board seed count) = commands.Drill board.level seed count
-asked (Play playing) = commands.Play playing.level playing.script.now
+asked (Play board script) = commands.Play board.level script.now

@@ -9,10 +9,11 @@ use Rattle.vms_commands.specs.Endings.{SetCause}
 use Rattle.vms_commands.specs.Fetching.{is_on_shelf, word_set}
 use Rattle.vms_commands.specs.SetWords.{SetWord}
 use Rattle.vms_commands.specs.Texts.{TextCauses}
+use Rattle.vms_board.specs.Isa.{isa}
 use Rattle.vms_board_commands.specs.Causes.{DrillCauses, LoadCauses, PlayCauses}
 use Rattle.vms_board_commands.specs.Scripts.{scripted}
 use Rattle.vms_cli.specs.Check.{asks_shelf}
-use Rattle.vms_cli.specs.Commands.{Asked, Show, Pack, Check, Save, Load, Drill, Play}
+use Rattle.vms_cli.specs.Commands.{Asked, IsaBoard, Show, Pack, Check, Save, Load, Drill, Play}
 use Rattle.vms_cli.specs.Show.{GivesWithin, ShowHears}
 
 -- once the set of `show` is there
@@ -87,10 +88,10 @@ EndsCause (Some (Show set)) input input' out out' shelf shelf' ending = ShowCaus
 EndsCause (Some (Pack set name)) input input' out out' shelf shelf' ending = TextCauses input input' out out' shelf shelf' ending
 EndsCause (Some (Check old new)) input input' out out' shelf shelf' ending =
     CheckCauses (asks_shelf old new) input input' out out' shelf shelf' ending
-EndsCause (Some (Save level set script)) input input' out out' shelf shelf' ending =
+EndsCause (Some (Save board set script)) input input' out out' shelf shelf' ending =
     TextCauses input input' out out' shelf shelf' ending
-EndsCause (Some (Load level script)) input input' out out' shelf shelf' ending =
-    LoadCauses level (scripted None shelf.held script) input input' out out' shelf shelf' ending
+EndsCause (Some (Load (IsaBoard level) script)) input input' out out' shelf shelf' ending =
+    LoadCauses isa level (scripted None shelf.held script) input input' out out' shelf shelf' ending
 EndsCause (Some (Drill level seed count)) input input' out out' shelf shelf' ending =
     DrillCauses input input' out out' shelf shelf' ending
 EndsCause (Some (Play level script)) input input' out out' shelf shelf' ending =

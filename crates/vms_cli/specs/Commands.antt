@@ -1,12 +1,16 @@
 -- The commands that the words can name.
 use Rattle.std.specs.Prelude.{ℕ, if◌then◌else◌, nat_le, List, [], ◌∷◌, Option, Some, None, Result, Ok, Err, codes}
 use Rattle.std.specs.Str.{bytes_eq}
-use Rattle.vms_spec.specs.Lists.{position}
 use Rattle.vms_spec.specs.Spelling.{number_spelled}
 use Rattle.vms_script.specs.Names.{is_shelf_name}
 use Rattle.vms_script.specs.Views.{number_read}
 use Rattle.vms_script.specs.declared.line.ScriptReason.{ScriptReason}
-use Rattle.vms_commands.specs.SetWords.{SetWord, set_word, shipped_number}
+use Rattle.vms_board.specs.Isa.{machine_of}
+use Rattle.vms_commands.specs.SetWords.{Isa, ShippedSet, SetWord, named_in, set_word, shipped_word}
+
+-- a board: one of isa-1 to isa-4, by its level
+pub data BoardWord : Type 0 where
+  IsaBoard : ℕ → BoardWord
 
 -- prints the values text of a stream, writes the stream of a values text on the shelf, compares two sets, writes the stream of
 -- a board under a set after a script, lets a script go on from the board that a stream restores, drills a
@@ -15,8 +19,8 @@ pub data Asked : Type 0 where
   Show : SetWord → Asked
   Pack : SetWord → List ℕ → Asked
   Check : (old new : SetWord) → Asked
-  Save : (level set : ℕ) → List ℕ → Asked
-  Load : ℕ → List ℕ → Asked
+  Save : BoardWord → ℕ → List ℕ → Asked
+  Load : BoardWord → List ℕ → Asked
   Drill : (level seed count : ℕ) → Asked
   Play : ℕ → List ℕ → Asked
 
@@ -32,22 +36,28 @@ abbrev pub pack_of : Option SetWord → List ℕ → Option Asked
 pack_of None values = None
 pack_of (Some set) values = if is_shelf_name values then Some (Pack set values) else None
 
--- the words of the boards, by level
-abbrev pub board_words : List (List ℕ)
-board_words = codes "isa-1" ∷ codes "isa-2" ∷ codes "isa-3" ∷ codes "isa-4" ∷ []
+-- the words of the boards
+abbrev pub board_words : List (List ℕ × BoardWord)
+board_words =
+    (machine_of 1, IsaBoard 1) ∷ (machine_of 2, IsaBoard 2) ∷ (machine_of 3, IsaBoard 3) ∷ (machine_of 4, IsaBoard 4) ∷ []
 
--- the level of the board that a word names
-abbrev pub board_level : List ℕ → Option ℕ
-board_level word = position (bytes_eq word) 1 board_words
+-- the board that a word names
+abbrev pub board_word : List ℕ → Option BoardWord
+board_word word = named_in word board_words
 
--- the level of a board, and the name of a script
-abbrev pub on_board : Option ℕ → List ℕ → Option (ℕ × List ℕ)
+-- the level of the board, where it is one of isa-1 to isa-4
+abbrev pub isa_level : Option BoardWord → Option ℕ
+isa_level None = None
+isa_level (Some (IsaBoard level)) = Some level
+
+-- a board, and the name of a script
+abbrev pub on_board : {A : Type 0} → Option A → List ℕ → Option (A × List ℕ)
 on_board None script = None
-on_board (Some level) script = if is_shelf_name script then Some (level, script) else None
+on_board (Some board) script = if is_shelf_name script then Some (board, script) else None
 
-abbrev pub load_of : Option (ℕ × List ℕ) → Option Asked
+abbrev pub load_of : Option (BoardWord × List ℕ) → Option Asked
 load_of None = None
-load_of (Some (level, script)) = Some (Load level script)
+load_of (Some (board, script)) = Some (Load board script)
 
 abbrev pub play_of : Option (ℕ × List ℕ) → Option Asked
 play_of None = None
@@ -58,8 +68,8 @@ unfoldable pub pair_of : List ℕ → List ℕ → List ℕ → Option Asked
 pair_of name one other =
     if bytes_eq name (codes "check") then check_of (set_word one) (set_word other)
     else if bytes_eq name (codes "pack") then pack_of (set_word one) other
-    else if bytes_eq name (codes "load") then load_of (on_board (board_level one) other)
-    else if bytes_eq name (codes "play") then play_of (on_board (board_level one) other) else None
+    else if bytes_eq name (codes "load") then load_of (on_board (board_word one) other)
+    else if bytes_eq name (codes "play") then play_of (on_board (isa_level (board_word one)) other) else None
 
 abbrev pub told : Result ℕ ScriptReason → Option ℕ
 told (Ok n) = Some n
@@ -81,16 +91,23 @@ abbrev pub drill_of : Option ℕ → Option ℕ → Option ℕ → Option Asked
 drill_of (Some level) (Some seed) (Some count) = Some (Drill level seed count)
 drill_of _ _ _ = None
 
--- of a shipped set at or above the board
-abbrev pub save_of : Option (ℕ × List ℕ) → Option ℕ → Option Asked
-save_of (Some (level, script)) (Some set) = if nat_le level set then Some (Save level set script) else None
+-- the number of a set of the board's kind, where it is at or above the board
+abbrev pub saved_set : BoardWord → ShippedSet → Option ℕ
+saved_set (IsaBoard level) (Isa set) = if nat_le level set then Some set else None
+
+abbrev pub save_under : BoardWord → List ℕ → Option ℕ → Option Asked
+save_under board script None = None
+save_under board script (Some set) = Some (Save board set script)
+
+abbrev pub save_of : Option (BoardWord × List ℕ) → Option ShippedSet → Option Asked
+save_of (Some (board, script)) (Some set) = save_under board script (saved_set board set)
 save_of _ _ = None
 
 -- a command with three words behind its name
 unfoldable pub triple_of : List ℕ → List ℕ → List ℕ → List ℕ → Option Asked
 triple_of name one two three =
-    if bytes_eq name (codes "drill") then drill_of (board_level one) (number_word two) (few_events (number_word three))
-    else if bytes_eq name (codes "save") then save_of (on_board (board_level one) three) (shipped_number two) else None
+    if bytes_eq name (codes "drill") then drill_of (isa_level (board_word one)) (number_word two) (few_events (number_word three))
+    else if bytes_eq name (codes "save") then save_of (on_board (board_word one) three) (shipped_word two) else None
 
 abbrev pub asked_of : List (List ℕ) → Option Asked
 asked_of (name ∷ set ∷ []) = if bytes_eq name (codes "show") then show_of (set_word set) else None

@@ -9,13 +9,14 @@ use Rattle.vms_spec.specs.Streams.{AreReady, is_one_of, written}
 use Rattle.vms_spec.specs.ValuesReading.{Values, values_read}
 use Rattle.vms_stream.specs.Streams.{Takes}
 use Rattle.vms_cli.specs.Answers.{HasOutcome, Answers}
-use Rattle.vms_cli.specs.Commands.{Asked, Show, Pack, Check, Save, Load, Drill, Play, asked_of}
+use Rattle.vms_cli.specs.Commands.{Asked, IsaBoard, Show, Pack, Check, Save, Load, Drill, Play, asked_of}
 use Rattle.vms_commands.specs.Outcomes.{Outcome, DoesOrStops, done, text_of, Outside}
 use Rattle.vms_commands.specs.Fetching.{longest_file, named_sets, word_set}
 use Rattle.vms_commands.specs.SetWords.{SetWord}
 use Rattle.vms_commands.specs.Steps.{Gives, Both}
 use Rattle.vms_check.specs.Comparing.{Compatible}
 use Rattle.dev_board.specs.State.{State}
+use Rattle.vms_board.specs.Isa.{isa}
 use Rattle.vms_board.specs.Restoring.{Back, Restores}
 use Rattle.vms_script.specs.Lines.{ScriptLine}
 use Rattle.vms_script.specs.Script.{script_read}
@@ -81,10 +82,10 @@ CanBeDone (Some (Show word)) input held =
 CanBeDone (Some (Pack word name)) input held = IsSomeAnd held (λ map. CanBePacked word name map)
 CanBeDone (Some (Check old new)) input held =
     (sets : Both Set) × (named_sets held old new ≡ Gives sets) × Compatible sets.old sets.new
-CanBeDone (Some (Save level set script)) input held = IsSomeAnd held (λ map. CanBeRead None script map)
-CanBeDone (Some (Load level script)) input held =
+CanBeDone (Some (Save board set script)) input held = IsSomeAnd held (λ map. CanBeRead None script map)
+CanBeDone (Some (Load (IsaBoard level) script)) input held =
     IsSomeAnd held (λ map. CanBeRead None script map) × IsSomeAnd input (λ bytes. (board : State) × (taken : ℕ)
-    × Restores level bytes (Back board taken))
+    × Restores isa level bytes (Back board taken))
 CanBeDone (Some (Play level script)) input held =
     IsSomeAnd held (λ map. GoesBy (Some (Play level script)) map × CanBeRead (Some level) script map)
 CanBeDone (Some (Drill level seed count)) input held = Unit {0}

@@ -1,9 +1,10 @@
 // Words that name a board or a number.
 ghost use Rattle.std.specs.Prelude.{◌≡◌};
 ghost use Rattle.std.specs.Option.{option_map};
-ghost use Rattle.vms_cli.specs.Commands.{board_level, few_events, number_word};
+ghost use Rattle.vms_cli.specs.Asks.{board_asked};
+ghost use Rattle.vms_cli.specs.Commands.{board_word, few_events, isa_level, number_word};
 
-use crate::boards::BoardWord;
+use crate::boards::{BoardWord, IsaBoard};
 use vms_script::number_of;
 
 /// The greatest number of events of a drill.
@@ -11,14 +12,24 @@ const MOST_EVENTS: u64 = 1_000_000;
 
 /// The board that a word names.
 pub(crate) fn board_word(word: &str) -> Option<BoardWord>
-    ensures { option_map (λ board. board.level) result ≡ board_level word.now }
+    ensures { option_map board_asked result ≡ board_word word.now }
 {
     match word {
-        "isa-1" => Some(BoardWord { level: 1 }),
-        "isa-2" => Some(BoardWord { level: 2 }),
-        "isa-3" => Some(BoardWord { level: 3 }),
-        "isa-4" => Some(BoardWord { level: 4 }),
+        "isa-1" => Some(BoardWord::Isa(IsaBoard { level: 1 })),
+        "isa-2" => Some(BoardWord::Isa(IsaBoard { level: 2 })),
+        "isa-3" => Some(BoardWord::Isa(IsaBoard { level: 3 })),
+        "isa-4" => Some(BoardWord::Isa(IsaBoard { level: 4 })),
         _ => None,
+    }
+}
+
+/// The board isa-1 to isa-4 that a word names.
+pub(crate) fn isa_board(word: &str) -> Option<IsaBoard>
+    ensures { option_map (λ board. board.level) result ≡ isa_level (board_word word.now) }
+{
+    match board_word(word) {
+        Some(BoardWord::Isa(board)) => Some(board),
+        None => None,
     }
 }
 

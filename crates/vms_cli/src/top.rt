@@ -7,12 +7,14 @@ ghost use Rattle.vms_commands.specs.Endings.{EndsAs, Tells};
 ghost use Rattle.vms_cli.specs.Causes.{EndsCause};
 ghost use Rattle.vms_commands.specs.Outcomes.{Outcome};
 
+use crate::boards::{BoardWord, SavedBoard};
 use crate::check::check;
 use crate::pack::pack;
 use crate::show::show;
 use crate::{Command, Words};
 use std::alloc::Global;
-use vms_board_commands::{drill_board, load_board, play_board, save_board};
+use vms_board::Devices;
+use vms_board_commands::{OnBoard, Saving, drill_board, load_board, play_board, save_board};
 use vms_commands::Ending;
 use vms_io::{Shelf, Sink, Source, write_all_of};
 
@@ -104,9 +106,38 @@ fn run<I: Source, O: Sink, H: Shelf>(
         Some(Command::Show { set }) => show(alloc, set, input, out, shelf),
         Some(Command::Pack { set, values }) => pack(alloc, set, values, out, shelf),
         Some(Command::Check { old, new }) => check(alloc, old, new, out, shelf),
-        Some(Command::Save(saving)) => save_board(alloc, saving, out, shelf),
-        Some(Command::Load(loading)) => load_board(alloc, loading, input, out, shelf),
-        Some(Command::Play(playing)) => play_board(alloc, playing, out, shelf),
+        Some(
+            Command::Save {
+                board: SavedBoard::Isa(board),
+                script,
+            },
+        ) => {
+            let asked = Saving {
+                number: board.level,
+                set: board.set,
+                script,
+            };
+            save_board::<Devices, O, H>(alloc, asked, out, shelf)
+        }
+        Some(
+            Command::Load {
+                board: BoardWord::Isa(board),
+                script,
+            },
+        ) => {
+            let asked = OnBoard {
+                number: board.level,
+                script,
+            };
+            load_board::<Devices, I, O, H>(alloc, asked, input, out, shelf)
+        }
+        Some(Command::Play { board, script }) => {
+            let asked = OnBoard {
+                number: board.level,
+                script,
+            };
+            play_board(alloc, asked, out, shelf)
+        }
         Some(Command::Drill { board, seed, count }) => drill_board(
             alloc,
             board.level,

@@ -1,17 +1,17 @@
 // The words after the program's name.
-ghost use Rattle.std.specs.Prelude.{◌≡◌, ◌∷◌, ◌++◌, [], OnOk, OnErr, Some, None, codes, if◌then◌else◌};
+ghost use Rattle.std.specs.Prelude.{◌≡◌, ◌∷◌, ◌++◌, [], OnOk, OnErr, Some, None, IfSome, codes, if◌then◌else◌};
 ghost use Rattle.std.specs.Str.{bytes_eq};
 ghost use Rattle.std.specs.Option.{option_map};
-ghost use Rattle.vms_commands.specs.SetWords.{set_word, shipped_number};
-ghost use Rattle.vms_cli.specs.Asks.{asked};
-ghost use Rattle.vms_cli.specs.Commands.{asked_of, board_level, check_of, drill_of, few_events, number_word, on_board, pack_of, pair_of, save_of, show_of, triple_of};
+ghost use Rattle.vms_commands.specs.Asks.{shipped_asked};
+ghost use Rattle.vms_commands.specs.SetWords.{set_word, shipped_word};
+ghost use Rattle.vms_cli.specs.Asks.{asked, board_asked, saved_asked};
+ghost use Rattle.vms_cli.specs.Commands.{asked_of, board_word, check_of, drill_of, few_events, isa_level, load_of, number_word, on_board, pack_of, pair_of, play_of, save_of, saved_set, show_of, triple_of};
 
-use crate::board_words::{board_word, events_word, number_word};
-use crate::boards::BoardWord;
+use crate::board_words::{board_word, events_word, isa_board, number_word};
+use crate::boards::{BoardWord, IsaBoard, IsaSaved, SavedBoard};
 use std::alloc::Global;
 use std::marker::Model;
-use vms_board_commands::{OnBoard, Saving};
-use vms_commands::{SetWord, set_word, shipped_set};
+use vms_commands::{SetWord, ShippedSet, set_word, shipped_set};
 use vms_io::NoMemory;
 use vms_script::is_shelf_name;
 
@@ -33,14 +33,23 @@ pub(crate) enum Command<'a> {
         new: SetWord<'a>,
     },
     /// `save BOARD SET SCRIPT`
-    Save(Saving<'a>),
+    Save {
+        board: SavedBoard,
+        script: &'a str,
+    },
     /// `load BOARD SCRIPT`
-    Load(OnBoard<'a>),
+    Load {
+        board: BoardWord,
+        script: &'a str,
+    },
     /// `play BOARD SCRIPT`
-    Play(OnBoard<'a>),
+    Play {
+        board: IsaBoard,
+        script: &'a str,
+    },
     /// `drill BOARD SEED COUNT`
     Drill {
-        board: BoardWord,
+        board: IsaBoard,
         seed: u64,
         count: u32,
     },
@@ -127,9 +136,9 @@ fn pair_of<'a>(name: &str, one: &'a str, other: &'a str) -> Option<Command<'a>>
     } else if name == "pack" {
         pack_of(one, other)
     } else if name == "load" {
-        on_board(one, other).map(Command::Load)
+        load_of(one, other)
     } else if name == "play" {
-        on_board(one, other).map(Command::Play)
+        play_of(one, other)
     } else {
         None
     }
@@ -153,18 +162,21 @@ fn pack_of<'a>(set: &'a str, values: &'a str) -> Option<Command<'a>>
     }
 }
 
-// A board and a script.
-fn on_board<'a>(board: &str, script: &'a str) -> Option<OnBoard<'a>>
-    ensures { option_map (λ asked. (asked.level, asked.script.now)) result
-        ≡ on_board (board_level board.now) script.now }
+fn load_of<'a>(board: &str, script: &'a str) -> Option<Command<'a>>
+    ensures { option_map asked result ≡ load_of (on_board (board_word board.now) script.now) }
 {
     match board_word(board) {
-        Some(board) if is_shelf_name(script.as_bytes()) => {
-            Some(OnBoard {
-                level: board.level,
-                script,
-            })
-        }
+        Some(board) if is_shelf_name(script.as_bytes()) => Some(Command::Load { board, script }),
+        _ => None,
+    }
+}
+
+fn play_of<'a>(board: &str, script: &'a str) -> Option<Command<'a>>
+    ensures { option_map asked result
+        ≡ play_of (on_board (isa_level (board_word board.now)) script.now) }
+{
+    match isa_board(board) {
+        Some(board) if is_shelf_name(script.as_bytes()) => Some(Command::Play { board, script }),
         _ => None,
     }
 }
@@ -184,26 +196,41 @@ fn triple_of<'a>(name: &str, one: &str, two: &str, three: &'a str) -> Option<Com
 }
 
 fn drill_of<'a>(board: &str, seed: &str, count: &str) -> Option<Command<'a>>
-    ensures { option_map asked result ≡ drill_of (board_level board.now) (number_word seed.now)
+    ensures { option_map asked result ≡ drill_of (isa_level (board_word board.now)) (number_word seed.now)
         (few_events (number_word count.now)) }
 {
-    match (board_word(board), number_word(seed), events_word(count)) {
+    match (isa_board(board), number_word(seed), events_word(count)) {
         (Some(board), Some(seed), Some(count)) => Some(Command::Drill { board, seed, count }),
         _ => None,
     }
 }
 
-// The set is at or above the board.
 fn save_of<'a>(board: &str, set: &str, script: &'a str) -> Option<Command<'a>>
     ensures { option_map asked result
-        ≡ save_of (on_board (board_level board.now) script.now) (shipped_number set.now) }
+        ≡ save_of (on_board (board_word board.now) script.now) (shipped_word set.now) }
 {
-    match (on_board(board, script), shipped_set(set)) {
-        (Some(asked), Some(set)) if asked.level <= set.number => {
-            Some(Command::Save(Saving {
-                level: asked.level,
+    match (board_word(board), shipped_set(set)) {
+        (Some(board), Some(set)) if is_shelf_name(script.as_bytes()) => {
+            match saved_board(board, set) {
+                Some(board) => Some(Command::Save { board, script }),
+                None => None,
+            }
+        }
+        _ => None,
+    }
+}
+
+// A board with a set, where the set is of its kind and at or above it.
+fn saved_board(board: BoardWord, set: ShippedSet) -> Option<SavedBoard>
+    ensures board { IfSome result (λ saved. (saved_asked saved).0 ≡ board_asked board) }
+    ensures set { option_map (λ saved. (saved_asked saved).1) result
+        ≡ saved_set (board_asked board) (shipped_asked set) }
+{
+    match (board, set) {
+        (BoardWord::Isa(board), ShippedSet::Isa(set)) if board.level <= set.number => {
+            Some(SavedBoard::Isa(IsaSaved {
+                level: board.level,
                 set: set.number,
-                script: asked.script,
             }))
         }
         _ => None,

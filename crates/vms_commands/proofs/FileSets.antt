@@ -11,7 +11,7 @@ use Rattle.vms_desc.specs.Formed.{shipped_set}
 use Rattle.vms_io.specs.Shelves.{Held}
 use Rattle.vms_spec.specs.Good.{IsFit}
 use Rattle.vms_spec.proofs.ShippedSets.{shipped_stands}
-use Rattle.vms_commands.specs.SetWords.{SetWord}
+use Rattle.vms_commands.specs.SetWords.{Isa, SetWord}
 use Rattle.vms_commands.specs.Fetching.{SetText, Number, Text, fetched_set, said_set, set_in, word_set}
 use Rattle.vms_commands.specs.Steps.{Step, Untold, Gives, Ends, next as after}
 use Rattle.vms_json.specs.Answers.{Answer, good, bad, under, next, changed, each_from, each_of, list_of}
@@ -275,7 +275,7 @@ fit_number (suc (suc (suc zero))) = shipped_stands.3
 fit_number (suc (suc (suc (suc s)))) = shipped_stands.4
 
 fit_text : (text : SetText) → FitStep (set_in text)
-fit_text (Number s) = fit_number s
+fit_text (Number (Isa number)) = fit_number number
 fit_text (Text name text) = fit_said name (file_said text) (file_fit text)
 
 fit_next : {A : Type 0} (s : Step A) (f : A → Step Set) → ((a : A) → FitStep (f a)) → FitStep (after s f)

@@ -1,8 +1,13 @@
--- The word of the code, as what is meant.
+-- The words of the code, as what is meant.
 use Rattle.vms_commands.specs.SetWords as words
 use Rattle.vms_commands.specs.declared.set_words.SetWord.{SetWord}
 use Rattle.vms_commands.specs.declared.set_words.SetWord.TheVariants.{Shipped, OnShelf}
+use Rattle.vms_commands.specs.declared.set_words.ShippedSet.{ShippedSet}
+use Rattle.vms_commands.specs.declared.set_words.ShippedSet.TheVariants.{Isa}
+
+abbrev pub shipped_asked : ShippedSet → words.ShippedSet
+shipped_asked (Isa set) = words.Isa set.number
 
 abbrev pub set_asked : SetWord → words.SetWord
-set_asked (Shipped set) = words.Shipped set.number
+set_asked (Shipped set) = words.Shipped (shipped_asked set)
 set_asked (OnShelf name) = words.OnShelf name.now

@@ -2,9 +2,8 @@
 use Rattle.std.specs.Prelude.{ℕ, Bool, true, false, nat_le, if◌then◌else◌, List, length, Option, Some, None}
 use Rattle.vms_io.specs.Shelves.{Held}
 use Rattle.vms_spec.specs.Sets.{Set}
-use Rattle.vms_desc.specs.Formed.{shipped_set}
 use Rattle.vms_descfile.specs.Files.{Said, Parts, Syntax, Shape, IllFormed, file_said}
-use Rattle.vms_commands.specs.SetWords.{SetWord, Shipped, OnShelf}
+use Rattle.vms_commands.specs.SetWords.{ShippedSet, shipped, SetWord, Shipped, OnShelf}
 use Rattle.vms_commands.specs.Lines.{not_there_line, too_large_line}
 use Rattle.vms_commands.specs.SetLines.{syntax_line, shape_line, rule_line}
 use Rattle.vms_commands.specs.Steps.{Step, Untold, Gives, Ends, next, Both, both}
@@ -23,9 +22,9 @@ abbrev pub fetched : ℕ → Option Held → List ℕ → Step (List ℕ)
 fetched most None name = Untold
 fetched most (Some map) name = text_under most name (map name)
 
--- a set as its word gives it: a shipped one's number, or a name with its text
+-- a set as its word gives it: a shipped one, or a name with its text
 pub data SetText : Type 0 where
-  Number : ℕ → SetText
+  Number : ShippedSet → SetText
   Text : (name text : List ℕ) → SetText
 
 abbrev pub fetched_set : Option Held → SetWord → Step SetText
@@ -40,7 +39,7 @@ said_set name (Shape path) = Ends 3 (shape_line name path)
 said_set name (IllFormed fault) = Ends 3 (rule_line name fault.rule fault.place)
 
 abbrev pub set_in : SetText → Step Set
-set_in (Number s) = Gives (shipped_set s)
+set_in (Number s) = Gives (shipped s)
 set_in (Text name text) = said_set name (file_said text)
 
 -- one set: it is fetched, and then read

@@ -1,25 +1,39 @@
 -- Words that name a set.
 use Rattle.std.specs.Prelude.{ℕ, if◌then◌else◌, List, [], ◌∷◌, Option, Some, None, codes}
 use Rattle.std.specs.Str.{bytes_eq}
-use Rattle.vms_spec.specs.Lists.{position}
+use Rattle.vms_desc.specs.Formed.{shipped_set}
 use Rattle.vms_script.specs.Names.{is_shelf_name}
+use Rattle.vms_spec.specs.Sets.{Set}
 
--- a set: a shipped one by its number, or what the shelf holds under a name
+-- a shipped set: one of the boards isa-1 to isa-4, by its number
+pub data ShippedSet : Type 0 where
+  Isa : ℕ → ShippedSet
+
+abbrev pub shipped : ShippedSet → Set
+shipped (Isa number) = shipped_set number
+
+-- a set: a shipped one, or what the shelf holds under a name
 pub data SetWord : Type 0 where
-  Shipped : ℕ → SetWord
+  Shipped : ShippedSet → SetWord
   OnShelf : List ℕ → SetWord
 
--- the words of the shipped sets, in order
-abbrev pub shipped_words : List (List ℕ)
-shipped_words = codes "@0" ∷ codes "@1" ∷ codes "@2" ∷ codes "@3" ∷ codes "@4" ∷ []
+-- what a word names in a table of words
+abbrev pub named_in : {A : Type 0} → List ℕ → List (List ℕ × A) → Option A
+named_in word [] = None
+named_in word ((name, it) ∷ table) = if bytes_eq word name then Some it else named_in word table
 
-abbrev pub shipped_number : List ℕ → Option ℕ
-shipped_number word = position (bytes_eq word) 0 shipped_words
+-- the words of the shipped sets
+abbrev pub shipped_words : List (List ℕ × ShippedSet)
+shipped_words =
+    (codes "@0", Isa 0) ∷ (codes "@1", Isa 1) ∷ (codes "@2", Isa 2) ∷ (codes "@3", Isa 3) ∷ (codes "@4", Isa 4) ∷ []
 
-abbrev pub named_set : List ℕ → Option ℕ → Option SetWord
-named_set word (Some s) = Some (Shipped s)
+abbrev pub shipped_word : List ℕ → Option ShippedSet
+shipped_word word = named_in word shipped_words
+
+abbrev pub named_set : List ℕ → Option ShippedSet → Option SetWord
+named_set word (Some set) = Some (Shipped set)
 named_set word None = if is_shelf_name word then Some (OnShelf word) else None
 
 -- the set that a word names
 abbrev pub set_word : List ℕ → Option SetWord
-set_word word = named_set word (shipped_number word)
+set_word word = named_set word (shipped_word word)

@@ -10,11 +10,12 @@ use Rattle.vms_commands.specs.declared.ending.Ending.TheVariants.{Done, BadText,
 use Rattle.vms_commands.specs.declared.fetching.SetText.{SetText as Fetched}
 use Rattle.vms_commands.specs.declared.fetching.SetText.TheVariants as fetched
 use Rattle.vms_commands.specs.Endings.{SetCause}
+use Rattle.vms_commands.specs.Asks.{shipped_asked}
 use Rattle.vms_commands.specs.Fetching.{SetText, Number, Text}
 use Rattle.vms_commands.specs.Steps.{Step, Untold, Gives, Ends}
 
 abbrev pub text_of : Fetched → SetText
-text_of (fetched.Shipped set) = Number set.number
+text_of (fetched.Shipped set) = Number (shipped_asked set)
 text_of (fetched.Text name text) = Text name.now text.items
 
 -- by a fault of the shelf, or for want of memory

@@ -94,7 +94,7 @@ pub fn read_fetched(alloc: Global, text: &SetText) -> Result<DescSet, Ending>
     ensures cause { ReadCause (is_text (text_of text.now)) result }
 {
     match text {
-        SetText::Shipped(set) => match DescSet::shipped(alloc, set.number) {
+        SetText::Shipped(ShippedSet::Isa(set)) => match DescSet::shipped(alloc, set.number) {
             Ok(set) => Ok(set),
             Err(_) => Err(Ending::NoMemory),
         },

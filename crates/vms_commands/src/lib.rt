@@ -19,5 +19,5 @@ pub use line_parts::{append_number, append_reason};
 pub use notes::{not_there_line, too_large_line};
 pub use refused::{NoteLine, append_section, refused_line};
 pub use set_notes::{mismatch_line, rule_line, shape_line, syntax_line};
-pub use set_words::{SetWord, ShippedSet};
+pub use set_words::{IsaSet, SetWord, ShippedSet};
 pub use words::{set_word, shipped_set};

@@ -1,10 +1,10 @@
 // Words that name a set.
 ghost use Rattle.std.specs.Prelude.{◌≡◌};
 ghost use Rattle.std.specs.Option.{option_map};
-ghost use Rattle.vms_commands.specs.Asks.{set_asked};
-ghost use Rattle.vms_commands.specs.SetWords.{set_word, shipped_number};
+ghost use Rattle.vms_commands.specs.Asks.{set_asked, shipped_asked};
+ghost use Rattle.vms_commands.specs.SetWords.{set_word, shipped_word};
 
-use crate::set_words::{SetWord, ShippedSet};
+use crate::set_words::{IsaSet, SetWord, ShippedSet};
 use vms_script::is_shelf_name;
 
 /// The set that a word names, or `None` where it names none: `@0` to `@4` are the shipped ones, and a name of the
@@ -21,14 +21,14 @@ pub fn set_word(word: &str) -> Option<SetWord<'_>>
 
 /// The shipped set of a word, or `None` where it is none of `@0` to `@4`.
 pub fn shipped_set(word: &str) -> Option<ShippedSet>
-    ensures { option_map (λ set. set.number) result ≡ shipped_number word.now }
+    ensures { option_map shipped_asked result ≡ shipped_word word.now }
 {
     match word {
-        "@0" => Some(ShippedSet { number: 0 }),
-        "@1" => Some(ShippedSet { number: 1 }),
-        "@2" => Some(ShippedSet { number: 2 }),
-        "@3" => Some(ShippedSet { number: 3 }),
-        "@4" => Some(ShippedSet { number: 4 }),
+        "@0" => Some(ShippedSet::Isa(IsaSet { number: 0 })),
+        "@1" => Some(ShippedSet::Isa(IsaSet { number: 1 })),
+        "@2" => Some(ShippedSet::Isa(IsaSet { number: 2 })),
+        "@3" => Some(ShippedSet::Isa(IsaSet { number: 3 })),
+        "@4" => Some(ShippedSet::Isa(IsaSet { number: 4 })),
         _ => None,
     }
 }

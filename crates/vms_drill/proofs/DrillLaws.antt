@@ -9,7 +9,7 @@ use Rattle.vms_drill.proofs.EventLaws.{event-is}
 use Rattle.vms_drill.proofs.FoldLaws.{saves_leave_counts, save_may, save-left}
 use Rattle.vms_drill.specs.Events.{next_number, event_of, events_after}
 use Rattle.vms_drill.specs.Fold.{Course, drilled, is_save_due, saves_of}
-use Rattle.vms_session.proofs.LengthLaws.{streams_are_short}
+use Rattle.vms_board_streams.proofs.IsaBytes.{streams_are_short}
 use Rattle.vms_drill.specs.Drill.{Drill, drill_begun, bytes_after, stream_long, with_drill_event, drilled_on}
 use Rattle.vms_drill.specs.Laws.{IsAsUnsaved, CoursesAreSame, SizesAreSmall}
 

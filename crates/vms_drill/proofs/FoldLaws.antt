@@ -10,7 +10,7 @@ use Rattle.dev_board.proofs.SoundLaws.{sound_stays_on}
 use Rattle.dev_board.specs.Saved.{MaySaveUnder, saved, carried, restored}
 use Rattle.dev_board.specs.Sound.{IsSound, Alike}
 use Rattle.dev_board.specs.State.{State, power_on}
-use Rattle.dev_board.specs.Step.{step, observe, after_all}
+use Rattle.dev_board.specs.Step.{step, observe, after_all, after_by, answers_by}
 use Rattle.dev_board.specs.declared.event.Answer.{Answer}
 use Rattle.dev_board.specs.declared.event.Event.{Event}
 use Rattle.dev_board.specs.declared.misfit.Misfit.{Misfit}
@@ -57,7 +57,7 @@ record GoesAs (count : ℕ) (course : Course) (m : State) : Type 0 where
   pub sound : IsSound (drilled count course).board
 
 goes : (count : ℕ) (course : Course) (m : State) → Alike m course.board → IsSound course.board → GoesAs count course m
-unfolding observe after_all
+unfolding answers_by after_by
 goes zero course m a s = record { counts = refl; alike = a; events = omega arith; level = refl; sound = s }
 goes (suc count) course m a s =
     let event : Event = event_of (next_number course.number) in

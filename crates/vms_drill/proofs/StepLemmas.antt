@@ -6,6 +6,7 @@ use Rattle.dev_board.specs.declared.event.Answer.{Answer}
 use Rattle.dev_board.specs.declared.event.Event.{Event}
 use Rattle.vms_drill.specs.Events.{next_number, event_of}
 use Rattle.vms_drill.specs.Fold.{Counts, counted, is_save_due, set_of, saves_of, came_back, after_save}
+use Rattle.vms_board.specs.Isa.{isa}
 use Rattle.vms_board.specs.Saving.{saved_stream}
 use Rattle.vms_drill.specs.Drill.{Drill, bytes_after, taken_after, stream_long, drill_on, drilled_on, with_drill_event}
 
@@ -73,7 +74,7 @@ module _ (old : Drill) (event : Event) (number : ℕ) (answer : Answer) (board :
       ∙ with-event
 
   pub goes_saved : (back : State) (long taken : ℕ) → is_save_due events ≡ true → back ≡ came_back (set_of board.level (saves_of events - 1)) board
-      → long ≡ length (saved_stream (set_of board.level (saves_of events - 1)) board) → taken ≡ long
+      → long ≡ length (saved_stream isa (set_of board.level (saves_of events - 1)) board) → taken ≡ long
       → made events number back counts (old.bytes + long) taken ≡ with_drill_event old
   goes_saved back long taken due is long-is taken-is =
       same-made events number (next_number old.course.number) back (after_save events board) counts (counted answer old.course.counts)

@@ -5,6 +5,7 @@ use Rattle.dev_board.specs.Step.{step}
 use Rattle.dev_board.specs.declared.event.Answer.{Answer}
 use Rattle.vms_drill.specs.Events.{next_number, event_of}
 use Rattle.vms_drill.specs.Fold.{Course, begun, went_on, is_save_due, set_of, saves_of}
+use Rattle.vms_board.specs.Isa.{isa}
 use Rattle.vms_board.specs.Saving.{saved_stream}
 
 -- a drill in its course: events, board and counts; how many bytes the streams so far have together; and how many the last of
@@ -19,7 +20,7 @@ drill_begun level seed = record { course = begun level seed; bytes = 0; taken = 
 
 -- the bytes of the stream that is saved of a board after so many events
 abbrev pub stream_long : ℕ → State → ℕ
-stream_long events m = length (saved_stream (set_of m.level (saves_of events - 1)) m)
+stream_long events m = length (saved_stream isa (set_of m.level (saves_of events - 1)) m)
 
 unfoldable pub bytes_after : ℕ → State → ℕ → ℕ
 bytes_after events m bytes = if is_save_due events then bytes + stream_long events m else bytes

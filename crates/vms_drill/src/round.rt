@@ -2,13 +2,14 @@
 ghost use Rattle.std.specs.Prelude.{◌≡◌, ◌<◌, length, IfOk, OnOk};
 ghost use Rattle.dev_board.specs.Sound.{IsSound};
 ghost use Rattle.vms_drill.specs.Fold.{came_back, set_of};
+ghost use Rattle.vms_board.specs.Isa.{isa};
 ghost use Rattle.vms_board.specs.Saving.{saved_stream};
 
 use crate::set_of;
 use std::alloc::Global;
 use vms_board::Board;
+use vms_board_streams::{restore_from, stream_of};
 use vms_io::NoMemory;
-use vms_session::{restore_from, stream_of};
 
 /// Makes a board, saved so many times before, the one that its stream restores; answers the stream's length.
 pub(crate) fn come_back(alloc: Global, board: &mut Board, saves: u32) -> Result<u64, NoMemory>
@@ -16,7 +17,7 @@ pub(crate) fn come_back(alloc: Global, board: &mut Board, saves: u32) -> Result<
     ensures state { let set = set_of board.old.state.level saves in
         OnOk result (board.new.state ≡ came_back set board.old.state) }
     ensures long { let set = set_of board.old.state.level saves in
-        IfOk result (λ n. n ≡ length (saved_stream set board.old.state)) }
+        IfOk result (λ n. n ≡ length (saved_stream isa set board.old.state)) }
     ensures taken { IfOk result (λ n. board.new.taken ≡ n) }
     ensures short { IfOk result (λ n. n < 65536) }
     ensures sound { IsSound board.new.state }

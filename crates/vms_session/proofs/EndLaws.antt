@@ -1,56 +1,38 @@
 -- Each session has a trace and an end.
-use Rattle.std.proofs.Common.{◌≡◌, inl, inr, ℕ, ◌<◌, ◌≤◌, ◌++◌, Bool, true, false, if◌then◌else◌, List, [], ◌∷◌, length, Option, Some, None, Result, Ok, Err, nat_lt, arith, refl, sym, subst, ◌∙◌}
+use Rattle.std.proofs.Common.{◌≡◌, ℕ, ◌<◌, ◌≤◌, ◌++◌, Bool, true, false, if◌then◌else◌, List, [], ◌∷◌, length, Option, Some, None, nat_lt, arith, refl, sym, subst, ◌∙◌}
 use Rattle.std.specs.Str.{bytes_eq}
 use Rattle.std.proofs.lemmas.Slice.Eq.{bytes_eq-Decides}
 use Rattle.std.proofs.lemmas.Bool.Decides.{nat_tests}
 use Rattle.dev_base.specs.declared.limits.TheConstants.{NEWEST}
-use Rattle.dev_board.specs.Saved.{MaySaveUnder, restored}
 use Rattle.dev_board.specs.Sound.{IsSound}
 use Rattle.dev_board.specs.State.{State}
 use Rattle.dev_board.specs.Step.{step}
-use Rattle.dev_board.specs.declared.misfit.Misfit.{Misfit}
-use Rattle.dev_images.specs.Images.{cells_in}
 use Rattle.vms_desc.specs.Formed.{shipped_set}
 use Rattle.vms_io.specs.Shelves.{Held, PutsUnder}
-use Rattle.vms_spec.proofs.ShippedSets.{shipped_stands}
 use Rattle.vms_script.specs.Grammar.{IsLine, AreLines}
 use Rattle.vms_script.specs.Lines.{ScriptLine, Happens, Saves, Restores as Loads, is_set_of}
 use Rattle.vms_script.specs.Trace.{trace_line}
-use Rattle.vms_spec.specs.Images.{Image}
 use Rattle.vms_kinds.specs.Bytes.{IsBytes}
-use Rattle.vms_stream.proofs.Stated.{either_holds}
-use Rattle.vms_stream.specs.StreamLaws.{Answer, Taken, Faulty}
 use Rattle.vms_session.proofs.SessionLaws.{line_level}
 use Rattle.vms_session.proofs.SoundLaws.{sessions_stay_sound}
-use Rattle.vms_session.proofs.StreamLaws.{streams_come_back, well}
-use Rattle.vms_board.specs.Restoring.{TakesBoard, misfit_section, misfit_reason, Restore, Back, Refused, Restores}
-use Rattle.vms_board.specs.Saving.{machine_of, saved_stream}
+use Rattle.vms_board_streams.proofs.IsaLaws.{streams_come_back, bytes_are_one}
+use Rattle.vms_board.specs.Restoring.{Restore, Back, Refused, Restores}
+use Rattle.vms_board.specs.Saving.{saved_stream}
 use Rattle.vms_session.specs.Laws.{HoldsBytes, HasAnEnd, SessionsEnd}
 use Rattle.vms_session.specs.Lines.{saved_line, restored_line, missing_line, too_large_line, refused_line}
 use Rattle.vms_session.specs.Session.{Session, IsTooLarge, IsLoaded, LoadsHeld, Does}
 use Rattle.vms_commands.specs.Fetching.{longest_file}
+use Rattle.vms_board.specs.Isa.{isa}
+use Rattle.vms_board.specs.Family.{MaySaveIn}
 
 -- ---- what bytes come to
 
 -- bytes on which a restore comes to something
 abbrev pub Comes : ℕ → List ℕ → Type 0
-Comes level bytes = (restore : Restore) × Restores level bytes restore
-
-images-come : (level : ℕ) (bytes : List ℕ) (taken : ℕ) (images : List Image) → TakesBoard level bytes taken images → (r : Result State Misfit) → restored level (cells_in images) ≡ r → Comes level bytes
-images-come level bytes taken images t (Ok m) e = (Back m taken, (images, t, e))
-images-come level bytes taken images t (Err misfit) e = (
-  Refused taken (misfit_section misfit) (misfit_reason misfit),
-  inr (record { images = images; taken = t; misfit = misfit; fails = e; section_is = refl; reason_is = refl }),
-)
-
-answer-comes : (level : ℕ) (bytes : List ℕ) → Answer (shipped_set 4) (machine_of level ∷ []) bytes → Comes level bytes
-answer-comes level bytes (Taken n machine images takes) =
-    images-come level bytes n images (machine, takes) (restored level (cells_in images)) refl
-answer-comes level bytes (Faulty place section reason size fault) = (Refused place section reason, inl (size, fault))
+Comes level bytes = (restore : Restore State) × Restores isa level bytes restore
 
 pub bytes_come : (level : ℕ) (bytes : List ℕ) → IsBytes bytes → Comes level bytes
-bytes_come level bytes ok =
-    answer-comes level bytes (either_holds (shipped_set 4) (machine_of level ∷ []) (well 4) shipped_stands.4.heads bytes ok)
+bytes_come level bytes ok = bytes_are_one.some level bytes ok
 
 -- ---- what a shelf holds
 
@@ -96,8 +78,8 @@ record LineEnds (line : ScriptLine) (old : Session) : Type 0 where
 abbrev still : (level : ℕ) (held : Held) → Type 0
 still level held = (name : List ℕ) → HeldComes level (held name)
 
-restored-ends : (name bytes : List ℕ) (old : Session) (restore : Restore) → old.held name ≡ Some bytes → length bytes ≤ longest_file
-    → Restores old.board.level bytes restore → still old.board.level old.held → LineEnds (Loads name) old
+restored-ends : (name bytes : List ℕ) (old : Session) (restore : Restore State) → old.held name ≡ Some bytes → length bytes ≤ longest_file
+    → Restores isa old.board.level bytes restore → still old.board.level old.held → LineEnds (Loads name) old
 restored-ends name bytes old (Back m taken) there few restores held = record {
   text = restored_line taken;
   new = record old { board = m };
@@ -138,18 +120,18 @@ held-end name old None there comes held = record {
 held-end name old (Some bytes) there comes held =
     bytes-end name bytes old (nat_lt longest_file (length bytes)) refl there comes held
 
-pub may_save : (level set : ℕ) → is_set_of level set ≡ true → MaySaveUnder level set
-may_save level set e = record { level_le_set = grind (arith, nat_tests, e); set_le_newest = grind (arith, nat_tests, e) }
+pub may_save : (m : State) (set : ℕ) → is_set_of m.level set ≡ true → MaySaveIn isa m set
+may_save m set e = record { level_le_set = grind (arith, nat_tests, e); set_le_newest = grind (arith, nat_tests, e) }
 
-saved-ends : (set : ℕ) (name : List ℕ) (old : Session) → MaySaveUnder old.board.level set → IsSound old.board → still old.board.level old.held → LineEnds (Saves set name) old
+saved-ends : (set : ℕ) (name : List ℕ) (old : Session) → MaySaveIn isa old.board set → IsSound old.board → still old.board.level old.held → LineEnds (Saves set name) old
 saved-ends set name old may s held =
     let back = streams_come_back.stream set old.board s may in
     record {
-      text = saved_line (length (saved_stream set old.board));
-      new = record old { held = put old.held name (saved_stream set old.board) };
-      does = record { text_is = refl; board = refl; held = puts-under old.held name (saved_stream set old.board) };
-      held = λ other. either-comes old.board.level (bytes_eq other name) (saved_stream set old.board) (old.held other)
-          (Back back.back (length (saved_stream set old.board)), back.restores) (held other);
+      text = saved_line (length (saved_stream isa set old.board));
+      new = record old { held = put old.held name (saved_stream isa set old.board) };
+      does = record { text_is = refl; board = refl; held = puts-under old.held name (saved_stream isa set old.board) };
+      held = λ other. either-comes old.board.level (bytes_eq other name) (saved_stream isa set old.board) (old.held other)
+          (Back back.back (length (saved_stream isa set old.board)), back.restores) (held other);
     }
 
 line-ends : (line : ScriptLine) (old : Session) → IsLine (Some old.board.level) line → IsSound old.board → still old.board.level old.held → LineEnds line old
@@ -159,7 +141,7 @@ line-ends (Happens event) old good s held = record {
   does = record { text_is = refl; new_is = refl };
   held = held;
 }
-line-ends (Saves set name) old good s held = saved-ends set name old (may_save old.board.level set good.0) s held
+line-ends (Saves set name) old good s held = saved-ends set name old (may_save old.board set good.0) s held
 line-ends (Loads name) old good s held = held-end name old (old.held name) refl (held name) held
 
 -- ---- scripts

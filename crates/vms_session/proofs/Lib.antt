@@ -1,14 +1,9 @@
 pub mod CourseLemmas
 pub mod EndLaws
-pub mod LengthLaws
 pub mod OneLaws
 pub mod PartLemmas
-pub mod RoomLemmas
 pub mod RunLemmas
 pub mod ScriptLaws
 pub mod SessionLaws
 pub mod SoundLaws
-pub mod StreamBytes
-pub mod StreamLaws
 pub mod StreamLemmas
-pub mod TextBytes

@@ -1,13 +1,16 @@
 -- Events, one after the other.
-use Rattle.std.proofs.Common.{◌≡◌, ℕ, ◌+◌, ◌<◌, ◌≤◌, List, ◌∷◌, ◌++◌, length, drop, get_or, Option, refl, sym, ap, subst, ◌∙◌, []}
+use Rattle.std.proofs.Common.{◌≡◌, ℕ, suc, ◌+◌, ◌<◌, ◌≤◌, List, [], ◌∷◌, ◌++◌, length, take, drop, get_or, Option, refl, sym, ap, subst, ◌∙◌, append_assoc, append-nil, arith, length-append}
+use Rattle.std.proofs.KnownBytes.{Appends-nil, Appends-trans}
 use Rattle.std.proofs.lemmas.List.{drop_all, drop_more}
-use Rattle.dev_board.proofs.ClockLaws.{clock_goes_on}
+use Rattle.std.specs.Io.KnownBytes.{Appends}
+use lib.Seq.{take-append-le}
 use Rattle.dev_board.specs.Laws.{AreEvents, IsEvent}
-use Rattle.dev_board.specs.State.{State}
-use Rattle.dev_board.specs.Step.{step, observe, after_all}
+use Rattle.dev_board.specs.Step.{after_by, answers_by}
 use Rattle.dev_board.specs.declared.event.Event.{Event}
 use Rattle.dev_board.specs.declared.event.Event.TheVariants.{Read}
-use Rattle.vms_io.proofs.Owing.{Owes}
+use Rattle.vms_board.specs.Family.{Family}
+use Rattle.vms_board_streams.specs.Streams.{after_events}
+use Rattle.vms_io.specs.Causes.{AppendsPrefix}
 use Rattle.vms_script.specs.Grammar.{AreLines}
 use Rattle.vms_script.specs.Lines.{ScriptLine, Happens, Saves, Restores}
 use Rattle.vms_script.specs.Trace.{trace_line}
@@ -49,33 +52,75 @@ are_events play events are = subst AreEvents (events_back events) (lines_are_eve
 
 -- ---- the board
 
-pub after_level : (events : List Event) (m : State) → (after_all events m).level ≡ m.level
-unfolding after_all
-after_level [] m = refl
-after_level (event ∷ events) m = after_level events (step event m).1 ∙ clock_goes_on.level event m
+module _ {S : Type 0} (f : Family S) where
+  pub after_next : (event : Event) (rest events : List Event) (m m' : S) → events ≡ event ∷ rest → m' ≡ (f.step event m).1 → after_events f rest m' ≡ after_events f events m
+  unfolding after_by
+  after_next event rest events m m' e done = ap (after_events f rest) done ∙ sym (ap (λ (es : List Event). after_events f es m) e)
 
-pub level_next : (event : Event) (m m' : State) → m' ≡ (step event m).1 → m'.level ≡ m.level
-level_next event m m' done = ap (λ (b : State). b.level) done ∙ clock_goes_on.level event m
+  pub after_none : (events : List Event) (m : S) → events ≡ [] → after_events f events m ≡ m
+  unfolding after_by
+  after_none events m e = ap (λ (es : List Event). after_events f es m) e
 
-pub after_next : (event : Event) (rest events : List Event) (m m' : State) → events ≡ event ∷ rest → m' ≡ (step event m).1 → after_all rest m' ≡ after_all events m
-unfolding after_all
-after_next event rest events m m' e done = ap (after_all rest) done ∙ sym (ap (λ (es : List Event). after_all es m) e)
+  -- ---- the trace
 
-pub after_none : (events : List Event) (m : State) → events ≡ [] → after_all events m ≡ m
-unfolding after_all
-after_none events m e = ap (λ (es : List Event). after_all es m) e
+  pub trace_next : (event : Event) (rest events : List Event) (m m' : S) → events ≡ event ∷ rest → m' ≡ (f.step event m).1
+      → trace_from f events m ≡ trace_line (f.step event m).0 ++ trace_from f rest m'
+  unfolding answers_by
+  trace_next event rest events m m' e done =
+      ap (λ (es : List Event). trace_from f es m) e ∙ sym (ap (λ (b : S). trace_line (f.step event m).0 ++ trace_from f rest b) done)
 
--- ---- the trace
+  pub trace_none : (events : List Event) (m : S) → events ≡ [] → trace_from f events m ≡ []
+  unfolding answers_by
+  trace_none events m e = ap (λ (es : List Event). trace_from f es m) e
 
-pub trace_next : (event : Event) (rest events : List Event) (m m' : State) → events ≡ event ∷ rest → m' ≡ (step event m).1
-    → trace_from events m ≡ trace_line (step event m).0 ++ trace_from rest m'
-unfolding observe
-trace_next event rest events m m' e done =
-    ap (λ (es : List Event). trace_from es m) e ∙ sym (ap (λ (b : State). trace_line (step event m).0 ++ trace_from rest b) done)
+  -- ---- the number of a board, which events keep
 
-pub trace_none : (events : List Event) (m : State) → events ≡ [] → trace_from events m ≡ []
-unfolding observe
-trace_none events m e = ap (λ (es : List Event). trace_from es m) e
+  module _ (stays : (event : Event) (m : S) → f.number (f.step event m).1 ≡ f.number m) where
+    pub after_number : (events : List Event) (m : S) → f.number (after_events f events m) ≡ f.number m
+    unfolding after_by
+    after_number [] m = refl
+    after_number (event ∷ events) m = after_number events (f.step event m).1 ∙ stays event m
+
+    pub number_next : (event : Event) (m m' : S) → m' ≡ (f.step event m).1 → f.number m' ≡ f.number m
+    number_next event m m' done = ap f.number done ∙ stays event m
+
+-- ---- what was written
+
+-- What was written, with what is left, is the whole.
+pub record Owes (old new : Option (List ℕ)) (whole left : List ℕ) : Type 0 where
+  pub done : List ℕ
+  pub written : Appends old new done
+  pub split : done ++ left ≡ whole
+
+pub owes_all : (old : Option (List ℕ)) (whole : List ℕ) → Owes old old whole whole
+owes_all old whole = record { done = []; written = Appends-nil old; split = refl }
+
+pub owes_less : (old mid new : Option (List ℕ)) (whole left part rest : List ℕ) → Owes old mid whole left → left ≡ part ++ rest → Appends mid new part → Owes old new whole rest
+owes_less old mid new whole left part rest o e p = record {
+  done = o.done ++ part;
+  written = Appends-trans old mid new o.done part o.written p;
+  split = append_assoc o.done part rest ∙ ap (λ (l : List ℕ). o.done ++ l) (sym e) ∙ o.split;
+}
 
 pub owes_same : (old new : Option (List ℕ)) (whole left rest : List ℕ) → Owes old new whole left → left ≡ rest → Owes old new whole rest
 owes_same old new whole left rest o e = subst (Owes old new whole) e o
+
+pub owes_none : (old new : Option (List ℕ)) (whole left : List ℕ) → Owes old new whole left → left ≡ [] → Appends old new whole
+owes_none old new whole left o e =
+    subst (Appends old new) (sym (append-nil o.done) ∙ ap (λ (l : List ℕ). o.done ++ l) (sym e) ∙ o.split) o.written
+
+take_past : (a b : List ℕ) (n : ℕ) → take (length a + n) (a ++ b) ≡ a ++ take n b
+take_past [] b n = ap (λ (k : ℕ). take k b) (omega arith)
+take_past (x ∷ a) b n =
+    let e : length (x ∷ a) + n ≡ suc (length a + n) = omega arith in
+    ap (λ (k : ℕ). take k (x ∷ (a ++ b))) e ∙ ap (λ (l : List ℕ). x ∷ l) (take_past a b n)
+
+-- the next part is begun
+pub owes_still : (old mid new : Option (List ℕ)) (whole left part rest : List ℕ) → Owes old mid whole left → left ≡ part ++ rest → AppendsPrefix mid new part → AppendsPrefix old new whole
+owes_still old mid new whole left part rest o e p =
+    let split : o.done ++ (part ++ rest) ≡ whole = ap (λ (l : List ℕ). o.done ++ l) (sym e) ∙ o.split in
+    let front : take (length o.done + p.0) (o.done ++ (part ++ rest)) ≡ o.done ++ take p.0 part =
+    take_past o.done (part ++ rest) p.0 ∙ ap (λ (l : List ℕ). o.done ++ l) (take-append-le p.0 part rest p.1) in
+    let le : length o.done + p.0 ≤ length (o.done ++ (part ++ rest)) = omega (arith, p.1, length-append o.done (part ++ rest), length-append part rest) in
+    subst (AppendsPrefix old new) split
+    (length o.done + p.0, le, subst (Appends old new) (sym front) (Appends-trans old mid new o.done (take p.0 part) o.written p.2))

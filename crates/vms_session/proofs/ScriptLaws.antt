@@ -12,10 +12,11 @@ use Rattle.vms_session.proofs.EndLaws.{may_save}
 use Rattle.vms_session.proofs.OneLaws.{one_end}
 use Rattle.vms_session.proofs.SessionLaws.{line_level}
 use Rattle.vms_session.proofs.SoundLaws.{sessions_stay_sound}
-use Rattle.vms_session.proofs.StreamBytes.{streams_are_bytes}
+use Rattle.vms_board_streams.proofs.IsaBytes.{streams_are_bytes}
 use Rattle.vms_session.specs.Laws.{HoldsAll, HoldsBytes, IsOneEnd, ReadsBytes, SessionsAreOne}
 use Rattle.vms_session.specs.Session.{Session, Does, IsLoaded, IsTooLarge, LoadsHeld, Plays}
 use Rattle.vms_kinds.specs.Bytes.{IsBytes}
+use Rattle.vms_board.specs.Isa.{isa}
 
 -- ---- what is held stays bytes
 
@@ -46,7 +47,7 @@ pub line_holds : (line : ScriptLine) (old : Session) (text : List ℕ) (new : Se
     → HoldsAll old.held → HoldsAll new.held
 line_holds (Happens event) old text new good does s holds = subst HoldsAll (sym (ap held-of does.new_is)) holds
 line_holds (Saves set name) old text new good does s holds =
-    puts-bytes old.held new.held name (saved_stream set old.board) does.held (streams_are_bytes.bytes set old.board s (may_save old.board.level set good.0)) holds
+    puts-bytes old.held new.held name (saved_stream isa set old.board) does.held (streams_are_bytes.bytes set old.board s (may_save old.board set good.0)) holds
 line_holds (Loads name) old text new good does s holds = subst HoldsAll (sym (loads-same (old.held name) old text new does)) holds
 
 -- ---- scripts

@@ -24,6 +24,7 @@ use Rattle.vms_stream.specs.Streams.{HasSection, SectionsSpell}
 use Rattle.vms_board.specs.Restoring.{TakesBoard, Back, Refused, Restores}
 use Rattle.vms_session.specs.Laws.{SessionsStaySound}
 use Rattle.vms_session.specs.Session.{Session, IsTooLarge, IsLoaded, LoadsBytes, LoadsHeld, Does, Plays}
+use Rattle.vms_board.specs.Isa.{isa}
 
 -- ---- each device of a stream that is taken has a normal image
 
@@ -59,14 +60,14 @@ normal-in set footed images (j ∷ order) came bytes once spelled k d image new 
       | inr e ↦ normal-in set footed images order (slice_set came j true) spelled.1 once.1 spelled.3 k d image (e ∙ new) here there
     ]
 
-pub taken_may_be_restored : (level : ℕ) (bytes : List ℕ) (taken : ℕ) (images : List Image) → TakesBoard level bytes taken images → AreBoardCells (cells_in images)
+pub taken_may_be_restored : (level : ℕ) (bytes : List ℕ) (taken : ℕ) (images : List Image) → TakesBoard isa level bytes taken images → AreBoardCells (cells_in images)
 taken_may_be_restored level bytes taken images t =
     let stream = t.1.stream in
     normal_may_be_restored.cells images stream.one_each (λ k d image here there.
     normal-in (shipped_set 4) stream.footed images stream.order (map (λ (e : Device). false) (shipped_set 4).devices) stream.sections
     stream.each_once stream.spelled k d image (not-yet (shipped_set 4).devices k d here) here there)
 
-pub back_is_sound : (level : ℕ) (bytes : List ℕ) (m : State) (taken : ℕ) → IsLevel level → Restores level bytes (Back m taken) → IsSound m
+pub back_is_sound : (level : ℕ) (bytes : List ℕ) (m : State) (taken : ℕ) → IsLevel level → Restores isa level bytes (Back m taken) → IsSound m
 back_is_sound level bytes m taken l r =
     restored_is_sound.sound level (cells_in r.0) m l (taken_may_be_restored level bytes taken r.0 r.1) r.2
 

@@ -1,10 +1,9 @@
 -- The events of a script.
 use Rattle.std.specs.Prelude.{ℕ, List, [], ◌∷◌}
-use Rattle.dev_board.specs.State.{State}
-use Rattle.dev_board.specs.Step.{observe}
 use Rattle.dev_board.specs.declared.event.Event.{Event}
 use Rattle.vms_script.specs.Lines.{ScriptLine, Happens, Saves, Restores}
-use Rattle.vms_session.specs.Laws.{trace_of}
+use Rattle.vms_board.specs.Family.{Family}
+use Rattle.vms_board_streams.specs.Streams.{answers_to, trace_of}
 
 -- what a line lets happen, before more events: one that saves or restores lets nothing happen
 abbrev pub events_in : ScriptLine → List Event → List Event
@@ -17,6 +16,6 @@ abbrev pub events_of : List ScriptLine → List Event
 events_of [] = []
 events_of (line ∷ lines) = events_in line (events_of lines)
 
--- the trace that events leave on a board
-abbrev pub trace_from : List Event → State → List ℕ
-trace_from events m = trace_of (observe events m)
+-- the trace that events leave on a board of a kind
+abbrev pub trace_from : {S : Type 0} → Family S → List Event → S → List ℕ
+trace_from f events m = trace_of (answers_to f events m)

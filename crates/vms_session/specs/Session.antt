@@ -12,6 +12,7 @@ use Rattle.vms_board.specs.Restoring.{Restore, Back, Refused, Restores}
 use Rattle.vms_board.specs.Saving.{saved_stream}
 use Rattle.vms_commands.specs.Fetching.{longest_file}
 use Rattle.vms_session.specs.Lines.{saved_line, restored_line, missing_line, too_large_line, refused_line}
+use Rattle.vms_board.specs.Isa.{isa}
 
 -- the board and what the shelf holds
 pub record Session : Type 0 where
@@ -34,7 +35,7 @@ pub record Stores (name stream : List ℕ) (old : Session) (text : List ℕ) (ne
   pub held : PutsUnder old.held new.held name stream
 
 -- what a restore comes to: the board that comes back, or a refusal that leaves the session
-abbrev pub ComesTo : Restore → Session → List ℕ → Session → Type 0
+abbrev pub ComesTo : Restore State → Session → List ℕ → Session → Type 0
 ComesTo (Back m taken) old text new = Leaves (restored_line taken) (record old { board = m }) text new
 ComesTo (Refused place section reason) old text new =
     Leaves (refused_line (shipped_set NEWEST) place section reason) old text new
@@ -42,7 +43,7 @@ ComesTo (Refused place section reason) old text new =
 -- a stream of the shelf is too large, or is what it is to a restore
 pub data LoadsBytes (bytes : List ℕ) (old : Session) (text : List ℕ) (new : Session) : Type 0 where
   IsTooLarge : longest_file < length bytes → Leaves too_large_line old text new → LoadsBytes bytes old text new
-  IsLoaded : (restore : Restore) → length bytes ≤ longest_file → Restores old.board.level bytes restore
+  IsLoaded : (restore : Restore State) → length bytes ≤ longest_file → Restores isa old.board.level bytes restore
       → ComesTo restore old text new → LoadsBytes bytes old text new
 
 abbrev pub LoadsHeld : Option (List ℕ) → Session → List ℕ → Session → Type 0
@@ -52,7 +53,7 @@ LoadsHeld (Some bytes) old text new = LoadsBytes bytes old text new
 -- what a line does
 abbrev pub Does : ScriptLine → Session → List ℕ → Session → Type 0
 Does (Happens event) old text new = Answers (step event old.board) old text new
-Does (Saves set name) old text new = Stores name (saved_stream set old.board) old text new
+Does (Saves set name) old text new = Stores name (saved_stream isa set old.board) old text new
 Does (Loads name) old text new = LoadsHeld (old.held name) old text new
 
 -- what lines do, one after the other, and the trace that they leave

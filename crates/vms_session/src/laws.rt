@@ -1,33 +1,6 @@
-// Laws of streams of boards and of sessions, each in a clause of a function that does nothing.
-ghost use Rattle.vms_session.specs.Laws.{StreamsComeBack, StreamsAreShort, BoardsGoOn, RefusalsLeave};
-ghost use Rattle.vms_session.specs.Laws.{LevelStays, SessionsStaySound, SessionsEnd, BytesAreOne, LinesAreOne};
-ghost use Rattle.vms_session.specs.Laws.{StreamsAreBytes, SessionsAreOne};
-
-/// The stream that is written of a sound board under any set from its level on restores a board that is like it, and the
-/// restore takes all of it: whatever a restore makes of these bytes is that board, and none is a refusal.
-#[tactic(auto, using(crate::proofs::StreamLaws::streams_come_back))]
-pub fn stream_law()
-    ensures { StreamsComeBack }
-{}
-
-/// The stream that is written of a sound board has less than 65,536 bytes.
-#[tactic(auto, using(crate::proofs::LengthLaws::streams_are_short))]
-pub fn short_law()
-    ensures { StreamsAreShort }
-{}
-
-/// The stream that is written of a sound board is bytes: each number of it is below 256.
-#[tactic(auto, using(crate::proofs::StreamBytes::streams_are_bytes))]
-pub fn octets_law()
-    ensures { StreamsAreBytes }
-{}
-
-/// On the stream that is written of a sound board under any set from its level on, with any description text that a stream
-/// may have or none, every list of events leaves the trace of that board itself going on.
-#[tactic(auto, using(crate::proofs::StreamLaws::boards_go_on))]
-pub fn continuation_law()
-    ensures { BoardsGoOn }
-{}
+// Laws of sessions, each in a clause of a function that does nothing.
+ghost use Rattle.vms_session.specs.Laws.{RefusalsLeave, SessionsAreOne};
+ghost use Rattle.vms_session.specs.Laws.{LevelStays, SessionsStaySound, SessionsEnd, LinesAreOne};
 
 /// A stream that isn't there, is too large or is refused leaves the session as it was, so that all later lines do what they
 /// do without it.
@@ -52,12 +25,6 @@ pub fn sound_law()
 #[tactic(auto, using(crate::proofs::EndLaws::sessions_end))]
 pub fn end_law()
     ensures { SessionsEnd }
-{}
-
-/// Bytes are one thing to a restore: the board that their stream restores, or one refusal.
-#[tactic(auto, using(crate::proofs::OneLaws::bytes_are_one))]
-pub fn bytes_law()
-    ensures { BytesAreOne }
 {}
 
 /// A line of a session leaves one text and one session.

@@ -1,6 +1,5 @@
 // One line of a session.
 ghost use Rattle.std.specs.Prelude.{◌≡◌, ◌≤◌, List, ℕ, Some};
-ghost use Rattle.dev_board.specs.Sound.{IsSound};
 ghost use Rattle.vms_io.specs.Shelves.{Held};
 ghost use Rattle.vms_io.specs.Told.{outlet, stock};
 ghost use Rattle.vms_script.specs.Grammar.{IsLine};
@@ -37,15 +36,13 @@ pub(crate) fn play_line<K: Sink, H: Shelf>(
     out: &mut K,
     shelf: &mut H,
 ) -> Result<(), PlayFault>
-    requires sound { IsSound board.old.state }
-    requires line { IsLine (Some board.old.state.level) (line_view line.now) }
+    requires { IsLine (Some board.old.state.level) (line_view line.now) }
     ensures content { (held : Held) (text : List ℕ) (new : Session) → H.held shelf.old ≡ Some held
         → Does (line_view line.now) (session_of board.old.state held) text new
         → LineEnds text new (outlet K.Sink out.old) (outlet K.Sink out.new)
         (stock H.Shelf shelf.old) (stock H.Shelf shelf.new) board.new.state result }
     ensures cause { HasPlayCause (outlet K.Sink out.old) (outlet K.Sink out.new)
         (stock H.Shelf shelf.old) (stock H.Shelf shelf.new) result }
-    ensures sound { IsSound board.new.state }
     ensures level { board.new.state.level ≡ board.old.state.level }
     ensures out_count { K.faults out.old ≤ K.faults out.new }
     ensures shelf_count { H.faults shelf.old ≤ H.faults shelf.new }

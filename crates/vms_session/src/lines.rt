@@ -27,8 +27,7 @@ pub fn play<K: Sink, H: Shelf>(
     out: &mut K,
     shelf: &mut H,
 ) -> Result<(), PlayFault>
-    requires sound { IsSound board.old.state }
-    requires lines { AreLines (Some board.old.state.level) (lines_view lines.now) }
+    requires { AreLines (Some board.old.state.level) (lines_view lines.now) }
     ensures content { (held : Held) (parts : List Part) (new : Session)
         → H.held shelf.old ≡ Some held
         → PlaysParts (lines_view lines.now) (session_of board.old.state held) parts new
@@ -46,8 +45,12 @@ pub fn play<K: Sink, H: Shelf>(
     for line in lines {
         match play_line(alloc, line, board, out, shelf) {
             Ok(()) => {}
-            Err(fault) => return Err(fault),
+            Err(fault) => {
+                board.is_sound();
+                return Err(fault);
+            }
         }
     }
+    board.is_sound();
     Ok(())
 }

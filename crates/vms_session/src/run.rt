@@ -2,21 +2,21 @@
 ghost use Rattle.std.specs.Prelude.{◌≡◌, OnErr, OnOk};
 ghost use Rattle.std.specs.Io.KnownBytes.{Appends};
 ghost use Rattle.dev_board.specs.Laws.{AreEvents, IsEvent};
-ghost use Rattle.dev_board.specs.Step.{after_all, step};
+ghost use Rattle.vms_board_streams.specs.Streams.{after_events};
 ghost use Rattle.vms_io.specs.Causes.{AppendsPrefix, HasCause};
 ghost use Rattle.vms_script.specs.Trace.{trace_line};
 ghost use Rattle.vms_session.specs.Events.{trace_from};
 
 use dev_board::Event;
-use vms_board::Board;
+use vms_board::{Machine, MachineBoard};
 use vms_io::{Sink, WriteFault};
 use vms_script::print_answer;
 
 /// Lets events happen to a board, one after the other.
-pub fn run_events(board: &mut Board, events: &[Event])
+pub fn run_events<M: Machine>(board: &mut MachineBoard<M>, events: &[Event])
     requires { AreEvents events.now }
-    ensures state { board.new.state ≡ after_all events.now board.old.state }
-    ensures level { board.new.state.level ≡ board.old.state.level }
+    ensures state { board.new.state ≡ after_events M.family events.now board.old.state }
+    ensures number { M.family.number board.new.state ≡ M.family.number board.old.state }
     ensures taken { board.new.taken ≡ board.old.taken }
 {
     for event in events {
@@ -26,14 +26,19 @@ pub fn run_events(board: &mut Board, events: &[Event])
 
 /// Lets events happen to a board, one after the other, and appends the line of each answer. After an error some
 /// first bytes of their trace were appended.
-pub fn trace<K: Sink>(board: &mut Board, events: &[Event], out: &mut K) -> Result<(), WriteFault>
+pub fn trace<M: Machine, K: Sink>(
+    board: &mut MachineBoard<M>,
+    events: &[Event],
+    out: &mut K,
+) -> Result<(), WriteFault>
     requires { AreEvents events.now }
-    ensures ok { let text = trace_from events.now board.old.state in
+    ensures ok { let text = trace_from M.family events.now board.old.state in
         OnOk result (Appends (K.written out.old) (K.written out.new) text) }
-    ensures err { let text = trace_from events.now board.old.state in
+    ensures err { let text = trace_from M.family events.now board.old.state in
         OnErr result (AppendsPrefix (K.written out.old) (K.written out.new) text) }
-    ensures state { OnOk result (board.new.state ≡ after_all events.now board.old.state) }
-    ensures level { board.new.state.level ≡ board.old.state.level }
+    ensures state { let after = after_events M.family events.now board.old.state in
+        OnOk result (board.new.state ≡ after) }
+    ensures number { M.family.number board.new.state ≡ M.family.number board.old.state }
     ensures taken { board.new.taken ≡ board.old.taken }
     ensures cause { HasCause (K.faults out.old) (K.faults out.new) result }
     ensures promise { K.promise out.new ≡ K.promise out.old }
@@ -46,13 +51,17 @@ pub fn trace<K: Sink>(board: &mut Board, events: &[Event], out: &mut K) -> Resul
 
 // Lets an event happen to a board, and appends the line of its answer.
 #[tactic(auto, using(dev_board::proofs::WireBits::names))]
-fn trace_event<K: Sink>(board: &mut Board, event: Event, out: &mut K) -> Result<(), WriteFault>
+fn trace_event<M: Machine, K: Sink>(
+    board: &mut MachineBoard<M>,
+    event: Event,
+    out: &mut K,
+) -> Result<(), WriteFault>
     requires { IsEvent event }
-    ensures ok { let text = trace_line (step event board.old.state).0 in
+    ensures ok { let text = trace_line (M.family.step event board.old.state).0 in
         OnOk result (Appends (K.written out.old) (K.written out.new) text) }
-    ensures err { let text = trace_line (step event board.old.state).0 in
+    ensures err { let text = trace_line (M.family.step event board.old.state).0 in
         OnErr result (AppendsPrefix (K.written out.old) (K.written out.new) text) }
-    ensures state { board.new.state ≡ (step event board.old.state).1 }
+    ensures state { board.new.state ≡ (M.family.step event board.old.state).1 }
     ensures taken { board.new.taken ≡ board.old.taken }
     ensures cause { HasCause (K.faults out.old) (K.faults out.new) result }
     ensures promise { K.promise out.new ≡ K.promise out.old }

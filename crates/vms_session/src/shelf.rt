@@ -1,7 +1,7 @@
 // A board's streams on a shelf.
 ghost use Rattle.std.specs.Prelude.{◌≡◌, ◌≤◌, List, ℕ, Some, length};
 ghost use Rattle.dev_board.specs.Saved.{MaySaveUnder};
-ghost use Rattle.dev_board.specs.Sound.{IsSound};
+ghost use Rattle.vms_board.specs.Isa.{isa};
 ghost use Rattle.vms_board.specs.Saving.{saved_stream};
 ghost use Rattle.vms_io.specs.Shelves.{Held};
 ghost use Rattle.vms_io.specs.Told.{stock};
@@ -12,9 +12,9 @@ ghost use Rattle.vms_session.specs.Streams.{LoadsAs, ShelfCause, StoresAs};
 
 use crate::line::PlayFault;
 use crate::mark::{mark, refused_mark, restored_mark};
-use crate::{restore_from, stream_of};
 use std::alloc::Global;
 use vms_board::Board;
+use vms_board_streams::{restore_from, stream_of};
 use vms_commands::{LONGEST_FILE, NoteLine};
 use vms_io::{FetchFault, Shelf, StoreFault};
 
@@ -26,15 +26,15 @@ pub(crate) fn save<H: Shelf>(
     name: &str,
     shelf: &mut H,
 ) -> Result<u64, PlayFault>
-    requires sound { IsSound board.now.state }
-    requires may { MaySaveUnder board.now.state.level set }
+    requires { MaySaveUnder board.now.state.level set }
     ensures stored { (held : Held) → H.held shelf.old ≡ Some held
-        → StoresAs held name.now (saved_stream set board.now.state) (stock H.Shelf shelf.old)
+        → StoresAs held name.now (saved_stream isa set board.now.state) (stock H.Shelf shelf.old)
         (stock H.Shelf shelf.new) result }
     ensures cause { ShelfCause (stock H.Shelf shelf.old) (stock H.Shelf shelf.new) result }
     ensures count { H.faults shelf.old ≤ H.faults shelf.new }
     ensures promise { H.promise shelf.new ≡ H.promise shelf.old }
 {
+    board.is_sound();
     let Ok(stream) = stream_of(alloc, board, set) else {
         return Err(PlayFault::NoMemory);
     };
@@ -52,13 +52,11 @@ pub(crate) fn restore<H: Shelf>(
     name: &str,
     shelf: &mut H,
 ) -> Result<NoteLine, PlayFault>
-    requires { IsSound board.old.state }
     ensures loaded { (held : Held) (text : List ℕ) (new : Session) → H.held shelf.old ≡ Some held
         → LoadsHeld (held name.now) (session_of board.old.state held) text new
         → LoadsAs text new board.new.state result }
     ensures held { H.held shelf.new ≡ H.held shelf.old }
     ensures cause { ShelfCause (stock H.Shelf shelf.old) (stock H.Shelf shelf.new) result }
-    ensures sound { IsSound board.new.state }
     ensures level { board.new.state.level ≡ board.old.state.level }
     ensures count { H.faults shelf.old ≤ H.faults shelf.new }
     ensures promise { H.promise shelf.new ≡ H.promise shelf.old }
@@ -74,14 +72,12 @@ pub(crate) fn restore<H: Shelf>(
 
 // Makes a board the one that a stream restores, if it restores one; answers the line of what it came to.
 fn load(alloc: Global, board: &mut Board, stream: Vec<u8>) -> NoteLine
-    requires few { length stream.items ≤ longest_file }
-    requires sound { IsSound board.old.state }
+    requires { length stream.items ≤ longest_file }
     ensures text { (held : Held) (text : List ℕ) (new : Session)
         → LoadsBytes stream.items (session_of board.old.state held) text new → result.items ≡ text }
     ensures board { (held : Held) (text : List ℕ) (new : Session)
         → LoadsBytes stream.items (session_of board.old.state held) text new
         → board.new.state ≡ new.board }
-    ensures sound { IsSound board.new.state }
     ensures level { board.new.state.level ≡ board.old.state.level }
 {
     match restore_from(alloc, board, stream) {

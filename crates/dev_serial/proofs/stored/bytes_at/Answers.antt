@@ -1,7 +1,7 @@
 use Rattle.std.proofs.Common.{◌≡◌, ◌+◌, arith}
 use Rattle.std.proofs.lemmas.List.{length-set}
 use Rattle.dev_base.specs.Cells.{number_at}
-use Rattle.dev_serial.proofs.StoredLemmas.{one_set, all_set}
+use Rattle.dev_base.proofs.PlaceLemmas.{one_set, all_set}
 use Rattle.dev_serial.proofs.stored.bytes_at.Goals as goal
 
 pub loop-i-preserved : goal.loop-i-preserved

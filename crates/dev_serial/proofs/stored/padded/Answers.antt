@@ -1,7 +1,7 @@
 use Rattle.std.proofs.Common.{◌≡◌, arith}
 use Rattle.std.proofs.lemmas.List.{length-set}
 use Rattle.dev_serial.specs.Stored.{byte_of}
-use Rattle.dev_serial.proofs.StoredLemmas.{one_set, all_set}
+use Rattle.dev_base.proofs.PlaceLemmas.{one_set, all_set}
 use Rattle.dev_serial.proofs.stored.padded.Goals as goal
 
 pub loop-place-preserved : goal.loop-place-preserved

@@ -23,17 +23,17 @@ pub returns-in-Ok-clause-content : goal.returns-in-Ok-clause-content
 returns-in-Ok-clause-content g c = λ o has.
     let held = g.H.Shelf.held c.args.shelf.now in
     let left = g.I.Source.left c.args.input.now in
-    let level = c.args.asked.level in
-    let loads = had_by view (loads_under level left held) (scripted None held c.args.asked.script.now) c.in-Ok.events o c.in-Ok.ensures.read has in
+    let level = c.args.asked.number in
+    let loads = had_by view (loads_under g.M.Machine.family level left held) (scripted None held c.args.asked.script.now) c.in-Ok.events o c.in-Ok.ensures.read has in
     c.load_events.ensures.content (stock g.H.Shelf c.args.shelf.now) (stock g.H.Shelf c.events_of.new.shelf) o c.in-Ok.ensures.held
-    (subst (λ (l : List Event). loads_under level left held (event_lines l) o) (sym c.deref.ensures.value) loads)
+    (subst (λ (l : List Event). loads_under g.M.Machine.family level left held (event_lines l) o) (sym c.deref.ensures.value) loads)
 
 pub returns-in-Ok-clause-cause : goal.returns-in-Ok-clause-cause
 returns-in-Ok-clause-cause g c = inr c.load_events.ensures.cause
 
 pub returns-in-Ok-clause-given : goal.returns-in-Ok-clause-given
 returns-in-Ok-clause-given g c =
-    gives_some view (scripted None (g.H.Shelf.held c.args.shelf.now) c.args.asked.script.now) c.in-Ok.events
+    gives_some g.M.Machine.family view (scripted None (g.H.Shelf.held c.args.shelf.now) c.args.asked.script.now) c.in-Ok.events
     (intake g.I.Source c.args.input.now) (intake g.I.Source c.load_events.new.input) c.in-Ok.ensures.read c.load_events.ensures.given
 
 pub returns-in-Err-clause-content : goal.returns-in-Err-clause-content
@@ -41,7 +41,7 @@ returns-in-Err-clause-content g c = λ o has.
     let held = g.H.Shelf.held c.args.shelf.now in
     let left = g.I.Source.left c.args.input.now in
     let out = outlet g.O.Sink c.args.out.now in
-    ended_by view (loads_under c.args.asked.level left held) (scripted None held c.args.asked.script.now)
+    ended_by view (loads_under g.M.Machine.family c.args.asked.number left held) (scripted None held c.args.asked.script.now)
     (intake g.I.Source c.args.input.now) out out (stock g.H.Shelf c.args.shelf.now) (stock g.H.Shelf c.events_of.new.shelf)
     c.in-Err.ending o c.in-Err.ensures.held (quiet_same out c.in-Err.ending) c.in-Err.ensures.read has
 
@@ -50,15 +50,15 @@ returns-in-Err-clause-cause g c = inl (c.in-Err.ensures.cause, refl, Keeps-refl 
 
 pub returns-in-Err-clause-given : goal.returns-in-Err-clause-given
 returns-in-Err-clause-given g c =
-    gives_none (scripted None (g.H.Shelf.held c.args.shelf.now) c.args.asked.script.now) (intake g.I.Source c.args.input.now)
+    gives_none g.M.Machine.family (scripted None (g.H.Shelf.held c.args.shelf.now) c.args.asked.script.now) (intake g.I.Source c.args.input.now)
 
 -- ---- what is heard
 
 pub returns-in-Ok-clause-heard : goal.returns-in-Ok-clause-heard
 returns-in-Ok-clause-heard g c =
     let held = g.H.Shelf.held c.args.shelf.now in
-    let level = c.args.asked.level in
-    let outcome : List ScriptLine → List ℕ → Outcome → Type 0 = λ lines bytes o. Loads level lines bytes held o in
+    let level = c.args.asked.number in
+    let outcome : List ScriptLine → List ℕ → Outcome → Type 0 = λ lines bytes o. Loads g.M.Machine.family level lines bytes held o in
     let before = g.I.Source.given c.args.input.now in
     let now = g.I.Source.given c.load_events.new.input in
     let out = outlet g.O.Sink c.args.out.now in
@@ -72,5 +72,5 @@ returns-in-Err-clause-heard g c =
     let held = g.H.Shelf.held c.args.shelf.now in
     let given = g.I.Source.given c.args.input.now in
     let out = outlet g.O.Sink c.args.out.now in
-    other_heard (List ScriptLine) (scripted None held c.args.asked.script.now) (λ lines bytes o. Loads c.args.asked.level lines bytes held o) held given given out out c.in-Err.ending
+    other_heard (List ScriptLine) (scripted None held c.args.asked.script.now) (λ lines bytes o. Loads g.M.Machine.family c.args.asked.number lines bytes held o) held given given out out c.in-Err.ending
     (script_other (stock g.H.Shelf c.args.shelf.now) (stock g.H.Shelf c.events_of.new.shelf) c.in-Err.ending c.in-Err.ensures.cause)

@@ -5,16 +5,15 @@ use Rattle.vms_io.specs.Told.{outlet}
 use Rattle.vms_commands.proofs.EndLemmas.{comes_to_nothing}
 use Rattle.vms_script.specs.Views.{event_lines}
 use Rattle.vms_board_commands.proofs.LoadLemmas.{loads_under}
-use Rattle.vms_board_commands.proofs.SaveLemmas.{at_level}
 use Rattle.vms_board_commands.specs.Heard.{HearsEnd}
 use Rattle.vms_board_commands.specs.Load.{Loads}
 use Rattle.vms_board_commands.proofs.load.load_events.Goals as goal
 
 pub returns-clause-content : goal.returns-clause-content
 returns-clause-content g c = λ shelf shelf' o held loads.
-    let level = ap (λ (m : State). m.level) c.in-Ok.ensures.state ∙ at_level c.args.level in
+    let number = ap g.M.Machine.family.number c.in-Ok.ensures.state ∙ g.met.M.Machine.stands.begun c.args.number in
     c.load_on.ensures.content shelf shelf' o held
-    (subst (λ (l : ℕ). loads_under l (g.I.Source.left c.args.input.now) shelf.held (event_lines c.args.events.now) o) (sym level) loads)
+    (subst (λ (l : ℕ). loads_under g.M.Machine.family l (g.I.Source.left c.args.input.now) shelf.held (event_lines c.args.events.now) o) (sym number) loads)
 
 -- without memory nothing was done
 pub returns-in_default-clause-content : goal.returns-in_default-clause-content
@@ -24,7 +23,7 @@ returns-in_default-clause-content g c = λ shelf shelf' o held loads.
 
 pub returns-clause-heard : goal.returns-clause-heard
 returns-clause-heard g c = λ held.
-    let level = ap (λ (m : State). m.level) c.in-Ok.ensures.state ∙ at_level c.args.level in
-    subst (λ (l : ℕ). HearsEnd (λ bytes o. Loads l (event_lines c.args.events.now) bytes held o) held (g.I.Source.given c.args.input.now) (g.I.Source.given c.load_on.new.input)
+    let number = ap g.M.Machine.family.number c.in-Ok.ensures.state ∙ g.met.M.Machine.stands.begun c.args.number in
+    subst (λ (l : ℕ). HearsEnd (λ bytes o. Loads g.M.Machine.family l (event_lines c.args.events.now) bytes held o) held (g.I.Source.given c.args.input.now) (g.I.Source.given c.load_on.new.input)
     (outlet g.O.Sink c.args.out.now) (outlet g.O.Sink c.load_on.new.out) c.load_on.result)
-    level (c.load_on.ensures.heard held)
+    number (c.load_on.ensures.heard held)

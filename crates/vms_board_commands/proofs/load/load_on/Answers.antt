@@ -14,25 +14,25 @@ use Rattle.vms_board_commands.proofs.load.load_on.Goals as goal
 
 pub returns-in-Ok-clause-content : goal.returns-in-Ok-clause-content
 returns-in-Ok-clause-content g c = λ shelf shelf' o held loads.
-    traced c.args.board.now.state.level (event_lines c.args.events.now) (intake g.I.Source c.args.input.now) (intake g.I.Source c.restore.new.source)
+    traced g.M.Machine.family g.met.M.Machine.stands.well g.met.M.Machine.stands.heads (g.M.Machine.family.number c.args.board.now.state) (event_lines c.args.events.now) (intake g.I.Source c.args.input.now) (intake g.I.Source c.restore.new.source)
     (outlet g.O.Sink c.args.out.now) (outlet g.O.Sink c.go_on.new.out) shelf shelf' c.restore.new.self.state c.restore.new.self.taken c.go_on.result o held
     (g.met.I.Source.octets c.args.input.now) c.in-Ok.ensures.content c.in-Ok.ensures.given.0
-    (written_events c.args.events.now c.restore.new.self.state (outlet g.O.Sink c.args.out.now) (outlet g.O.Sink c.go_on.new.out) c.go_on.result c.go_on.ensures.written) loads
+    (written_events g.M.Machine.family c.args.events.now c.restore.new.self.state (outlet g.O.Sink c.args.out.now) (outlet g.O.Sink c.go_on.new.out) c.go_on.result c.go_on.ensures.written) loads
 
 pub returns-in-Ok-clause-cause : goal.returns-in-Ok-clause-cause
 returns-in-Ok-clause-cause g c =
-    trace_cause (trace_from c.args.events.now c.restore.new.self.state) (intake g.I.Source c.args.input.now) (intake g.I.Source c.restore.new.source)
+    trace_cause (trace_from g.M.Machine.family c.args.events.now c.restore.new.self.state) (intake g.I.Source c.args.input.now) (intake g.I.Source c.restore.new.source)
     (outlet g.O.Sink c.args.out.now) (outlet g.O.Sink c.go_on.new.out) c.go_on.result c.go_on.ensures.written
 
 pub returns-in-Err-Refused-clause-content : goal.returns-in-Err-Refused-clause-content
 returns-in-Err-Refused-clause-content g c = λ shelf shelf' o held loads.
-    let level = c.args.board.now.state.level in
+    let level = g.M.Machine.family.number c.args.board.now.state in
     let r = c.in-Err-Refused.refusal in
     let out = outlet g.O.Sink c.args.out.now in
     let left = g.I.Source.left c.restore.new.source in
-    refused level (event_lines c.args.events.now) (intake g.I.Source c.args.input.now) (intake g.I.Source c.restore.new.source)
+    refused g.M.Machine.family g.met.M.Machine.stands.well g.met.M.Machine.stands.heads level (event_lines c.args.events.now) (intake g.I.Source c.args.input.now) (intake g.I.Source c.restore.new.source)
     out out shelf shelf' r c.refused_line.result o (g.met.I.Source.octets c.args.input.now)
-    (subst (λ (e : RestoreFault). IfSome (g.I.Source.left c.args.input.now) (λ (b : List ℕ). ComesTo level c.restore.new.self b left (Err e)))
+    (subst (λ (e : RestoreFault). IfSome (g.I.Source.left c.args.input.now) (λ (b : List ℕ). ComesTo g.M.Machine.family level c.restore.new.self b left (Err e)))
     c.in-Err-Refused.field-0-is c.in-Err-Refused.ensures.content)
     (c.refused_line.ensures ∙ ap (λ (s : Set). refused_line s r.at r.section r.reason) c.set.ensures) loads
 
@@ -45,13 +45,13 @@ returns-in-Err-ReadFault-clause-content g c = λ shelf shelf' o held loads.
 
 pub returns-in-Ok-clause-heard : goal.returns-in-Ok-clause-heard
 returns-in-Ok-clause-heard g c = λ held.
-    trace_heard c.args.board.now.state.level (event_lines c.args.events.now) held (g.I.Source.given c.args.input.now) (g.I.Source.given c.restore.new.source)
+    trace_heard g.M.Machine.family (g.M.Machine.family.number c.args.board.now.state) (event_lines c.args.events.now) held (g.I.Source.given c.args.input.now) (g.I.Source.given c.restore.new.source)
     (outlet g.O.Sink c.args.out.now) (outlet g.O.Sink c.go_on.new.out) c.restore.new.self c.go_on.result c.in-Ok.ensures.heard
-    (written_events c.args.events.now c.restore.new.self.state (outlet g.O.Sink c.args.out.now) (outlet g.O.Sink c.go_on.new.out) c.go_on.result c.go_on.ensures.written)
+    (written_events g.M.Machine.family c.args.events.now c.restore.new.self.state (outlet g.O.Sink c.args.out.now) (outlet g.O.Sink c.go_on.new.out) c.go_on.result c.go_on.ensures.written)
 
 pub returns-in-Err-Refused-clause-heard : goal.returns-in-Err-Refused-clause-heard
 returns-in-Err-Refused-clause-heard g c = λ held.
     let r = c.in-Err-Refused.refusal in
-    restore_heard c.args.board.now.state.level (event_lines c.args.events.now) held (g.I.Source.given c.args.input.now) (g.I.Source.given c.restore.new.source) r c.refused_line.result
+    restore_heard g.M.Machine.family (g.M.Machine.family.number c.args.board.now.state) (event_lines c.args.events.now) held (g.I.Source.given c.args.input.now) (g.I.Source.given c.restore.new.source) r c.refused_line.result
     (c.refused_line.ensures ∙ ap (λ (s : Set). refused_line s r.at r.section r.reason) c.set.ensures)
     c.restore.new.self c.in-Err-Refused.field-0 c.in-Err-Refused.field-0-is c.in-Err-Refused.ensures.heard

@@ -19,7 +19,7 @@ use Rattle.vms_board_commands.proofs.play.play_board.Goals as goal
 pub returns-in-Ok-clause-content : goal.returns-in-Ok-clause-content
 returns-in-Ok-clause-content g c = λ input o few has.
     let held = g.H.Shelf.held c.args.shelf.now in
-    let level = c.args.asked.level in
+    let level = c.args.asked.number in
     let plays = had_by (λ (l : Vec Line Global). lines_view l.items) (λ (lines : List ScriptLine) (x : Outcome). IsSomeAnd held (λ map. PlaysAll level lines map x))
     (scripted (Some level) held c.args.asked.script.now) c.in-Ok.lines o c.in-Ok.ensures.read has in
     ends_since input input (outlet g.O.Sink c.args.out.now) (outlet g.O.Sink c.play_lines.new.out) (stock g.H.Shelf c.args.shelf.now) (stock g.H.Shelf c.session_of.new.shelf)
@@ -36,7 +36,7 @@ returns-in-Ok-clause-cause g c =
 pub returns-in-Err-clause-content : goal.returns-in-Err-clause-content
 returns-in-Err-clause-content g c = λ input o few has.
     let held = g.H.Shelf.held c.args.shelf.now in
-    let level = c.args.asked.level in
+    let level = c.args.asked.number in
     let out = outlet g.O.Sink c.args.out.now in
     ended_by (λ (l : Vec Line Global). lines_view l.items) (λ (lines : List ScriptLine) (x : Outcome). IsSomeAnd held (λ map. PlaysAll level lines map x))
     (scripted (Some level) held c.args.asked.script.now) input out out (stock g.H.Shelf c.args.shelf.now) (stock g.H.Shelf c.session_of.new.shelf)

@@ -10,8 +10,8 @@ use Rattle.vms_board_commands.proofs.SaveLemmas.{at_level}
 use Rattle.vms_board_commands.specs.Causes.{LinesCause}
 use Rattle.vms_board_commands.proofs.play.play_lines.Goals as goal
 
-pub play-requires-clause-lines : goal.play-requires-clause-lines
-play-requires-clause-lines g c =
+pub play-requires : goal.play-requires
+play-requires g c =
     let level = ap (λ (m : State). m.level) c.in-Ok.ensures.state ∙ at_level c.args.level in
     subst (λ (l : ℕ). AreLines (Some l) (lines_view c.args.lines.now)) (sym level) c.requires.lines
 

@@ -1,4 +1,5 @@
 use Rattle.std.proofs.Common.{◌≡◌, ◌+◌, ◌-◌, ◌∙◌, ap, arith}
+use Rattle.dev_board.specs.State.{State}
 use Rattle.vms_board.specs.Standing.{Standing}
 use Rattle.vms_drill.specs.Drill.{Drill, drill_begun, drilled_on, summary_of}
 use Rattle.vms_drill.specs.Views.{course_view}
@@ -25,10 +26,10 @@ pub returns-clause-board : goal.returns-clause-board
 returns-clause-board c =
     let none : c.args.count - c.loop.counter ≡ 0 = omega (arith, c.loop-test.false) in
     let whole = none_more (c.args.count - c.loop.counter) (course_view c.loop.course) (drilled_on c.args.count (drill_begun c.args.level c.args.seed)) none c.loop.invariant.left in
-    ap (λ (b : Standing). b.state) c.end.ensures.board ∙ ap (λ (d : Drill). d.course.board) whole
+    ap (λ (b : Standing State). b.state) c.end.ensures.board ∙ ap (λ (d : Drill). d.course.board) whole
 
 pub returns-clause-taken : goal.returns-clause-taken
 returns-clause-taken c =
     let none : c.args.count - c.loop.counter ≡ 0 = omega (arith, c.loop-test.false) in
     let whole = none_more (c.args.count - c.loop.counter) (course_view c.loop.course) (drilled_on c.args.count (drill_begun c.args.level c.args.seed)) none c.loop.invariant.left in
-    ap (λ (b : Standing). b.taken) c.end.ensures.board ∙ ap (λ (d : Drill). d.taken) whole
+    ap (λ (b : Standing State). b.taken) c.end.ensures.board ∙ ap (λ (d : Drill). d.taken) whole

@@ -1,16 +1,22 @@
 use Rattle.std.proofs.Common.{◌≡◌, ℕ, length, ap, ◌∙◌, subst, arith}
 use Rattle.dev_board.specs.Saved.{MaySaveUnder}
 use Rattle.vms_drill.specs.Fold.{came_back, set_of}
-use Rattle.vms_session.proofs.LengthLaws.{streams_are_short}
+use Rattle.vms_board_streams.proofs.IsaBytes.{streams_are_short}
 use Rattle.vms_drill.proofs.RoundLemmas.{board_back, long_back, never_refused}
 use Rattle.vms_drill.proofs.round.come_back.Goals as goal
+
+pub stream_of-requires-clause-short : goal.stream_of-requires-clause-short
+stream_of-requires-clause-short c =
+    let m = c.args.board.now.state in
+    let may = subst (λ (l : ℕ). MaySaveUnder l c.set_of.result) c.level.ensures c.set_of.ensures.may in
+    streams_are_short.short c.set_of.result m c.requires may
 
 pub unreachable-requires : goal.unreachable-requires
 unreachable-requires c =
     let m = c.args.board.now.state in
     let may = subst (λ (l : ℕ). MaySaveUnder l c.set_of.result) c.level.ensures c.set_of.ensures.may in
     never_refused c.set_of.result m c.in_ok-stream.stream.items c.requires may c.in_ok-stream.ensures
-    c.in-Err.field-0.at c.in-Err.field-0.section c.in-Err.field-0.reason c.in-Err.ensures.octets c.in-Err.ensures.refused
+    c.in-Err.field-0.at c.in-Err.field-0.section c.in-Err.field-0.reason c.in-Err.ensures.refused
 
 pub returns-clause-state : goal.returns-clause-state
 returns-clause-state c =

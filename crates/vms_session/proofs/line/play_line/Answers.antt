@@ -3,6 +3,7 @@ use Rattle.dev_board.proofs.ClockLaws.{clock_goes_on}
 use Rattle.dev_board.proofs.WireBits.{names}
 use Rattle.dev_board.specs.State.{State}
 use Rattle.dev_board.specs.declared.event.Answer.{Answer}
+use Rattle.vms_board.specs.Isa.{isa}
 use Rattle.vms_board.specs.Saving.{saved_stream}
 use Rattle.vms_io.specs.Shelves.{Held, PutsUnder}
 use Rattle.vms_io.specs.Told.{outlet, stock}
@@ -20,7 +21,7 @@ use Rattle.vms_session.proofs.line.play_line.Goals as goal
 pub event-requires : goal.event-requires
 event-requires g c =
     let level = c.args.board.now.state.level in
-    let good = subst (λ (l : Line). IsLine (Some level) (line_view l)) c.in-Event.is c.requires.line in
+    let good = subst (λ (l : Line). IsLine (Some level) (line_view l)) c.in-Event.is c.requires in
     record { wire = names c.in-Event.event (event_is c.in-Event.event (line_event (Some level) c.in-Event.event good)) }
 
 pub returns-in-Event-clause-level : goal.returns-in-Event-clause-level
@@ -30,7 +31,7 @@ returns-in-Event-clause-level g c =
 pub returns-in_ok-count-in-Save-clause-content : goal.returns-in_ok-count-in-Save-clause-content
 returns-in_ok-count-in-Save-clause-content g c = λ held text new told does.
     let board = c.args.board.now.state in
-    let stream = saved_stream c.in-Save.set board in
+    let stream = saved_stream isa c.in-Save.set board in
     let done = subst (λ (l : Line). Does (line_view l) (session_of board held) text new) c.in-Save.is does in
     let stored = c.in_ok-count-in-Save.ensures.stored held told in
     let under = subst (λ name. PutsUnder held stored.1.0 name stream) c.as_str.ensures.value stored.1.2 in

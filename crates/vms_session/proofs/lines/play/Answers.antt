@@ -7,9 +7,8 @@ use Rattle.vms_session.proofs.lines.play.Goals as goal
 
 pub loop-line-init : goal.loop-line-init
 loop-line-init g c = record {
-  sound = c.requires.sound;
   level = refl;
-  lines = c.requires.lines;
+  lines = c.requires;
   course = λ held parts new told plays.
       in_course (lines_view c.args.lines.now) parts new c.args.board.now.state held (outlet g.K.Sink c.args.out.now) (stock g.H.Shelf c.args.shelf.now) told plays;
   out_count = omega arith;
@@ -18,8 +17,8 @@ loop-line-init g c = record {
   shelf_promise = refl;
 }
 
-pub play_line-requires-clause-line : goal.play_line-requires-clause-line
-play_line-requires-clause-line g c =
+pub play_line-requires : goal.play_line-requires
+play_line-requires g c =
     let lines = c.args.lines.now in
     let i = c.loop-line.line-index in
     let lt : i < length lines = omega (arith, c.loop-line-test.true) in
@@ -36,7 +35,6 @@ loop-line-preserved g c =
     let left = lines_view (drop (i + 1) lines) in
     let split = lines_next lines i c.line-item.result lt c.line-item.is in
     record {
-      sound = c.in-Ok.ensures.sound;
       level = c.in-Ok.ensures.level ∙ c.loop-line.invariant.level;
       lines = are_lines (Some c.args.board.now.state.level) (lines_view (drop i lines)) left said split c.loop-line.invariant.lines;
       course = λ held parts new told plays.

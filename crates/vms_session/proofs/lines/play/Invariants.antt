@@ -1,5 +1,4 @@
 use Rattle.std.proofs.Common.{◌≡◌, ◌≤◌, List, Some, drop}
-use Rattle.dev_board.specs.Sound.{IsSound}
 use Rattle.vms_io.specs.Shelves.{Held}
 use Rattle.vms_io.specs.Told.{outlet, stock}
 use Rattle.vms_commands.specs.Outcomes.{Part}
@@ -13,7 +12,6 @@ use Rattle.vms_session.proofs.lines.play.Given as goal
 
 abbrev pub invariant-loop-line : goal.invariant-loop-line
 invariant-loop-line g l = record {
-  sound : IsSound l.board.state;
   level : l.board.state.level ≡ l.fn.board.state.level;
   lines : AreLines (Some l.fn.board.state.level) (lines_view (drop l.line-index l.lines));
   course : (held : Held) (parts : List Part) (new : Session) → g.H.Shelf.held l.fn.shelf ≡ Some held

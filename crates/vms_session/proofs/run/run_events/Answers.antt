@@ -1,20 +1,17 @@
 use Rattle.std.proofs.Common.{◌≡◌, ◌+◌, ◌<◌, ◌≤◌, length, drop, sym, ap, ◌∙◌, arith}
 use Rattle.dev_board.proofs.WireBits.{names}
-use Rattle.dev_board.specs.State.{State}
-use Rattle.dev_board.specs.Step.{step}
-use Rattle.dev_board.specs.declared.event.Answer.{Answer}
-use Rattle.vms_session.proofs.RunLemmas.{event_at, left_next, none_left, first_event, later_events, after_next, after_none, after_level}
+use Rattle.vms_session.proofs.RunLemmas.{event_at, left_next, none_left, first_event, later_events, after_next, after_none, after_number}
 use Rattle.vms_session.proofs.run.run_events.Goals as goal
 
 pub event-requires : goal.event-requires
-event-requires c =
+event-requires g c =
     let events = c.args.events.now in
     let i = c.loop-event.event-index in
     let lt : i < length events = omega (arith, c.loop-event-test.true) in
     record { wire = names (event_at events i) (first_event (event_at events i) (drop (i + 1) events) (drop i events) (left_next events i lt) c.loop-event.invariant.events) }
 
 pub loop-event-preserved : goal.loop-event-preserved
-loop-event-preserved c =
+loop-event-preserved g c =
     let events = c.args.events.now in
     let i = c.loop-event.event-index in
     let event = event_at events i in
@@ -22,24 +19,24 @@ loop-event-preserved c =
     let m' = c.event.new.self.state in
     let lt : i < length events = omega (arith, c.loop-event-test.true) in
     let split = left_next events i lt in
-    let done : m' ≡ (step event m).1 = ap (λ (s : Answer × State). s.1) c.event.ensures.step in
+    let done : m' ≡ (g.M.Machine.family.step event m).1 = ap (λ s. s.1) c.event.ensures.step in
     record {
       events = later_events event (drop (i + 1) events) (drop i events) split c.loop-event.invariant.events;
-      left = after_next event (drop (i + 1) events) (drop i events) m m' split done ∙ c.loop-event.invariant.left;
+      left = after_next g.M.Machine.family event (drop (i + 1) events) (drop i events) m m' split done ∙ c.loop-event.invariant.left;
       taken = c.event.ensures.taken ∙ c.loop-event.invariant.taken;
     }
 
 pub returns-clause-state : goal.returns-clause-state
-returns-clause-state c =
+returns-clause-state g c =
     let events = c.args.events.now in
     let i = c.loop-event.event-index in
     let le : length events ≤ i = omega (arith, c.loop-event-test.false) in
-    sym (after_none (drop i events) c.loop-event.board.state (none_left events i le)) ∙ c.loop-event.invariant.left
+    sym (after_none g.M.Machine.family (drop i events) c.loop-event.board.state (none_left events i le)) ∙ c.loop-event.invariant.left
 
-pub returns-clause-level : goal.returns-clause-level
-returns-clause-level c =
+pub returns-clause-number : goal.returns-clause-number
+returns-clause-number g c =
     let events = c.args.events.now in
     let i = c.loop-event.event-index in
     let le : length events ≤ i = omega (arith, c.loop-event-test.false) in
-    ap (λ (m : State). m.level) (sym (after_none (drop i events) c.loop-event.board.state (none_left events i le)) ∙ c.loop-event.invariant.left)
-    ∙ after_level events c.args.board.now.state
+    ap g.M.Machine.family.number (sym (after_none g.M.Machine.family (drop i events) c.loop-event.board.state (none_left events i le)) ∙ c.loop-event.invariant.left)
+    ∙ after_number g.M.Machine.family g.met.M.Machine.stands.stays events c.args.board.now.state

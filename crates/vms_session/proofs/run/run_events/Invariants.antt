@@ -1,11 +1,11 @@
 use Rattle.std.proofs.Common.{◌≡◌, drop}
 use Rattle.dev_board.specs.Laws.{AreEvents}
-use Rattle.dev_board.specs.Step.{after_all}
+use Rattle.vms_board_streams.specs.Streams.{after_events}
 use Rattle.vms_session.proofs.run.run_events.Given as goal
 
 abbrev pub invariant-loop-event : goal.invariant-loop-event
-invariant-loop-event l = record {
+invariant-loop-event g l = record {
   events : AreEvents (drop l.event-index l.events);
-  left : after_all (drop l.event-index l.events) l.board.state ≡ after_all l.events l.fn.board.state;
+  left : after_events g.M.Machine.family (drop l.event-index l.events) l.board.state ≡ after_events g.M.Machine.family l.events l.fn.board.state;
   taken : l.board.taken ≡ l.fn.board.taken;
 }

@@ -1,5 +1,6 @@
 use Rattle.std.proofs.Common.{ap, ◌∙◌}
 use Rattle.vms_board.specs.Standing.{Standing}
+use Rattle.dev_board.specs.State.{State}
 use Rattle.vms_spec.specs.Sets.{Set}
 use Rattle.vms_session.specs.Lines.{refused_line, restored_line}
 use Rattle.vms_session.specs.Playing.{session_of}
@@ -9,23 +10,23 @@ use Rattle.vms_session.proofs.shelf.load.Goals as goal
 pub returns-in-Ok-clause-text : goal.returns-in-Ok-clause-text
 returns-in-Ok-clause-text c = λ held text new loads.
     c.restored_mark.ensures ∙ ap restored_line c.taken.ensures
-    ∙ back_text c.args.stream.items (session_of c.args.board.now.state held) text new c.in-Ok.ensures.octets c.requires.few loads
+    ∙ back_text c.args.stream.items (session_of c.args.board.now.state held) text new c.in-Ok.ensures.octets c.requires loads
     c.restore_from.new.board.state c.restore_from.new.board.taken c.in-Ok.ensures.back
 
 pub returns-in-Ok-clause-board : goal.returns-in-Ok-clause-board
 returns-in-Ok-clause-board c = λ held text new loads.
-    back_board c.args.stream.items (session_of c.args.board.now.state held) text new c.in-Ok.ensures.octets c.requires.few loads
+    back_board c.args.stream.items (session_of c.args.board.now.state held) text new c.in-Ok.ensures.octets c.requires loads
     c.restore_from.new.board.state c.restore_from.new.board.taken c.in-Ok.ensures.back
 
 pub returns-in-Err-clause-text : goal.returns-in-Err-clause-text
 returns-in-Err-clause-text c = λ held text new loads.
     c.refused_mark.ensures
     ∙ ap (λ (s : Set). refused_line s c.in-Err.refusal.at c.in-Err.refusal.section c.in-Err.refusal.reason) c.set.ensures
-    ∙ refused_text c.args.stream.items (session_of c.args.board.now.state held) text new c.in-Err.ensures.octets c.requires.few loads
+    ∙ refused_text c.args.stream.items (session_of c.args.board.now.state held) text new c.in-Err.ensures.octets c.requires loads
     c.in-Err.refusal.at c.in-Err.refusal.section c.in-Err.refusal.reason c.in-Err.ensures.refused
 
 pub returns-in-Err-clause-board : goal.returns-in-Err-clause-board
 returns-in-Err-clause-board c = λ held text new loads.
-    ap (λ (b : Standing). b.state) c.in-Err.ensures.same
-    ∙ refused_board c.args.stream.items (session_of c.args.board.now.state held) text new c.in-Err.ensures.octets c.requires.few loads
+    ap (λ (b : Standing State). b.state) c.in-Err.ensures.same
+    ∙ refused_board c.args.stream.items (session_of c.args.board.now.state held) text new c.in-Err.ensures.octets c.requires loads
     c.in-Err.refusal.at c.in-Err.refusal.section c.in-Err.refusal.reason c.in-Err.ensures.refused

@@ -1,5 +1,9 @@
 use Rattle.std.proofs.Common.{inr}
+use Rattle.vms_board_streams.proofs.IsaBytes.{streams_are_short}
 use Rattle.vms_session.proofs.shelf.save.Goals as goal
+
+pub stream_of-requires-clause-short : goal.stream_of-requires-clause-short
+stream_of-requires-clause-short g c = streams_are_short.short c.args.set c.args.board.now.state c.is_sound.ensures c.requires
 
 pub returns-in-Err-Failed-clause-stored : goal.returns-in-Err-Failed-clause-stored
 returns-in-Err-Failed-clause-stored g c = λ held told.

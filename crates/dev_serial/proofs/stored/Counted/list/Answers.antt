@@ -1,5 +1,5 @@
 use Rattle.dev_serial.specs.Stored.{byte_of}
-use Rattle.dev_serial.proofs.StoredLemmas.{firsts_more}
+use Rattle.dev_base.proofs.PlaceLemmas.{firsts_more}
 use Rattle.std.proofs.Common.{arith, refl}
 use Rattle.dev_serial.proofs.stored.Counted.list.Goals as goal
 

@@ -1,6 +1,6 @@
 use Rattle.std.proofs.Common.{◌+◌, ◌%◌, arith, refl}
 use Rattle.dev_serial.specs.Stored.{byte_of}
-use Rattle.dev_serial.proofs.StoredLemmas.{firsts_more}
+use Rattle.dev_base.proofs.PlaceLemmas.{firsts_more}
 use Rattle.dev_serial.proofs.stored.Ring.list.Goals as goal
 
 pub loop-i-preserved : goal.loop-i-preserved

@@ -1,14 +1,8 @@
--- The stream that is written of a board is bytes.
+-- The stream that is written under a set is bytes.
 use Rattle.std.proofs.Common.{◌≡◌, ℕ, zero, suc, ◌+◌, ◌<◌, ◌≤◌, ◌&&◌, List, [], ◌∷◌, ◌++◌, length, get_or, ℤ, pos, Bool, true, Option, Some, None, nat_lt, refl, arith}
 use Rattle.std.specs.Int.{byte_at, bytes_high_first}
 use Rattle.std.specs.Prelude.{replicate}
 use Rattle.std.proofs.lemmas.Bool.{and_parts, ltb-true}
-use Rattle.dev_board.specs.Saved.{MaySaveUnder}
-use Rattle.dev_board.specs.Sound.{IsSound}
-use Rattle.dev_board.specs.State.{State}
-use Rattle.dev_images.specs.Images.{saved_images}
-use Rattle.vms_board.specs.Saving.{machine_of, saved_stream}
-use Rattle.vms_desc.specs.Formed.{shipped_set}
 use Rattle.vms_kinds.specs.Codes.{width, residue, code}
 use Rattle.vms_kinds.specs.declared.Kind.{Kind}
 use Rattle.vms_selfdesc.specs.Entries.{no_lister, desc_entries}
@@ -16,10 +10,8 @@ use Rattle.vms_selfdesc.specs.Tree.{described_text}
 use Rattle.vms_spec.specs.Images.{Image, zeroed, own_cells, own_slots, sub_slots}
 use Rattle.vms_spec.specs.Layout.{Slot, Number, Constant, Filler, Rule, first, no_desc, desc_cells, struct_cells}
 use Rattle.vms_spec.specs.Sets.{Field, Desc, Sub, Device, Set}
-use Rattle.vms_spec.specs.Shipped.{set_0, set_1, set_2, set_3, set_4}
 use Rattle.vms_spec.specs.Streams.{be32, configuration, section_head, sub_head, foot, trailer, end_mark, stream_head, written, written_section, written_sections, written_subs}
-use Rattle.vms_session.proofs.TextBytes.{AreBytes, bytes_append, bytes_at, below, spelled, AreNamed, IsNamed, AreNamedSubs, AreNamedDevices, ListsBytes, ListsNames, none-lists, desc-bytes, described-bytes}
-use Rattle.vms_session.specs.Laws.{StreamsAreBytes}
+use Rattle.vms_board_streams.proofs.TextBytes.{AreBytes, bytes_append, below, spelled, AreNamed, IsNamed, AreNamedSubs, AreNamedDevices, ListsBytes, ListsNames, none-lists, desc-bytes, described-bytes}
 
 -- ---- numbers
 
@@ -113,121 +105,59 @@ module _ (set : Set) where
 
 -- ---- names, tested
 
-fields-below : List Field → Bool
-fields-below [] = true
-fields-below (f ∷ fs) = below f.name && fields-below fs
+unfoldable pub fields_below : List Field → Bool
+fields_below [] = true
+fields_below (f ∷ fs) = below f.name && fields_below fs
 
-desc-below : Desc → Bool
-desc-below d = (nat_lt (length d.name) 256 && below d.name) && fields-below d.fields
+unfoldable pub desc_below : Desc → Bool
+desc_below d = (nat_lt (length d.name) 256 && below d.name) && fields_below d.fields
 
-subs-below : List Sub → Bool
-subs-below [] = true
-subs-below (s ∷ subs) = desc-below s.desc && subs-below subs
+unfoldable pub subs_below : List Sub → Bool
+subs_below [] = true
+subs_below (s ∷ subs) = desc_below s.desc && subs_below subs
 
-devices-below : List Device → Bool
-devices-below [] = true
-devices-below (d ∷ devices) = (desc-below d.desc && subs-below d.subs) && devices-below devices
+unfoldable pub devices_below : List Device → Bool
+devices_below [] = true
+devices_below (d ∷ devices) = (desc_below d.desc && subs_below d.subs) && devices_below devices
 
-are-named : (fs : List Field) → fields-below fs ≡ true → AreNamed fs
-unfolding fields-below
-are-named [] e = tt
-are-named (f ∷ fs) e = let p = and_parts (below f.name) (fields-below fs) e in (spelled f.name p.0, are-named fs p.1)
+pub are_named : (fs : List Field) → fields_below fs ≡ true → AreNamed fs
+unfolding fields_below
+are_named [] e = tt
+are_named (f ∷ fs) e = let p = and_parts (below f.name) (fields_below fs) e in (spelled f.name p.0, are_named fs p.1)
 
-is-named : (d : Desc) → desc-below d ≡ true → IsNamed d
-unfolding desc-below
+is-named : (d : Desc) → desc_below d ≡ true → IsNamed d
+unfolding desc_below
 is-named d e =
-    let p = and_parts (nat_lt (length d.name) 256 && below d.name) (fields-below d.fields) e in
+    let p = and_parts (nat_lt (length d.name) 256 && below d.name) (fields_below d.fields) e in
     let q = and_parts (nat_lt (length d.name) 256) (below d.name) p.0 in
-    record { name = spelled d.name q.1; short = ltb-true (length d.name) 256 q.0; fields = are-named d.fields p.1 }
+    record { name = spelled d.name q.1; short = ltb-true (length d.name) 256 q.0; fields = are_named d.fields p.1 }
 
-subs-named : (subs : List Sub) → subs-below subs ≡ true → AreNamedSubs subs
-unfolding subs-below
+subs-named : (subs : List Sub) → subs_below subs ≡ true → AreNamedSubs subs
+unfolding subs_below
 subs-named [] e = tt
-subs-named (s ∷ subs) e = let p = and_parts (desc-below s.desc) (subs-below subs) e in (is-named s.desc p.0, subs-named subs p.1)
+subs-named (s ∷ subs) e = let p = and_parts (desc_below s.desc) (subs_below subs) e in (is-named s.desc p.0, subs-named subs p.1)
 
-devices-named : (devices : List Device) → devices-below devices ≡ true → AreNamedDevices devices
-unfolding devices-below
-devices-named [] e = tt
-devices-named (d ∷ devices) e =
-    let p = and_parts (desc-below d.desc && subs-below d.subs) (devices-below devices) e in
-    let q = and_parts (desc-below d.desc) (subs-below d.subs) p.0 in
-    (is-named d.desc q.0, subs-named d.subs q.1, devices-named devices p.1)
+pub devices_named : (devices : List Device) → devices_below devices ≡ true → AreNamedDevices devices
+unfolding devices_below
+devices_named [] e = tt
+devices_named (d ∷ devices) e =
+    let p = and_parts (desc_below d.desc && subs_below d.subs) (devices_below devices) e in
+    let q = and_parts (desc_below d.desc) (subs_below d.subs) p.0 in
+    (is-named d.desc q.0, subs-named d.subs q.1, devices_named devices p.1)
 
--- ---- the shipped sets
+-- ---- sets with one structure at most
 
--- the one structure that the others have
-abbrev structure : Set → Desc
+-- a set's first structure
+abbrev pub structure : Set → Desc
 structure set = get_or set.structs 0 no_desc
 
-none-told : (j : ℕ) → ListsBytes (get_or [] j no_lister)
-none-told j = none-lists
+pub none_told : (j : ℕ) → ListsBytes (get_or [] j no_lister)
+none_told j = none-lists
 
-one-lists : (set : Set) (d : Desc) → AreNamed d.fields → (j : ℕ) → ListsBytes (get_or (desc_entries (struct_cells set) [] d ∷ []) j no_lister)
-one-lists set d named zero = desc-bytes (struct_cells set) [] none-told d named
-one-lists set d named (suc j) = none-lists
+pub one_lists : (set : Set) (d : Desc) → AreNamed d.fields → (j : ℕ) → ListsBytes (get_or (desc_entries (struct_cells set) [] d ∷ []) j no_lister)
+one_lists set d named zero = desc-bytes (struct_cells set) [] none_told d named
+one_lists set d named (suc j) = none-lists
 
-lists-0 : ListsNames set_0
-unfolding first
-lists-0 = none-told
-
-lists-1 : ListsNames set_1
-unfolding first fields-below
-lists-1 = one-lists set_1 (structure set_1) (are-named (structure set_1).fields refl)
-
-lists-2 : ListsNames set_2
-unfolding first fields-below
-lists-2 = one-lists set_2 (structure set_2) (are-named (structure set_2).fields refl)
-
-lists-3 : ListsNames set_3
-unfolding first fields-below
-lists-3 = one-lists set_3 (structure set_3) (are-named (structure set_3).fields refl)
-
-lists-4 : ListsNames set_4
-unfolding first fields-below
-lists-4 = one-lists set_4 (structure set_4) (are-named (structure set_4).fields refl)
-
-stream-of : (set : Set) → ListsNames set → AreNamedDevices set.devices → (name : List ℕ) (images : List Image) → AreBytes name
+pub stream_bytes : (set : Set) → ListsNames set → AreNamedDevices set.devices → (name : List ℕ) (images : List Image) → AreBytes name
     → AreBytes (written set (Some name) images (Some (described_text set images)))
-stream-of set lists named name images p = written-bytes set name (described_text set images) images named p (described-bytes set lists images named)
-
-named-0 : AreNamedDevices set_0.devices
-unfolding fields-below desc-below subs-below devices-below
-named-0 = devices-named set_0.devices refl
-
-named-1 : AreNamedDevices set_1.devices
-unfolding fields-below desc-below subs-below devices-below
-named-1 = devices-named set_1.devices refl
-
-named-2 : AreNamedDevices set_2.devices
-unfolding fields-below desc-below subs-below devices-below
-named-2 = devices-named set_2.devices refl
-
-named-3 : AreNamedDevices set_3.devices
-unfolding fields-below desc-below subs-below devices-below
-named-3 = devices-named set_3.devices refl
-
-named-4 : AreNamedDevices set_4.devices
-unfolding fields-below desc-below subs-below devices-below
-named-4 = devices-named set_4.devices refl
-
-shipped-bytes : (set : ℕ) → set ≤ 4 → (name : List ℕ) (images : List Image) → AreBytes name
-    → AreBytes (written (shipped_set set) (Some name) images (Some (described_text (shipped_set set) images)))
-shipped-bytes zero le name images p = stream-of set_0 lists-0 named-0 name images p
-shipped-bytes (suc zero) le name images p = stream-of set_1 lists-1 named-1 name images p
-shipped-bytes (suc (suc zero)) le name images p = stream-of set_2 lists-2 named-2 name images p
-shipped-bytes (suc (suc (suc zero))) le name images p = stream-of set_3 lists-3 named-3 name images p
-shipped-bytes (suc (suc (suc (suc zero)))) le name images p = stream-of set_4 lists-4 named-4 name images p
-shipped-bytes (suc (suc (suc (suc (suc set))))) le name images p = absurd (omega (arith, le))
-
-machine-bytes : (level : ℕ) → level ≤ 4 → AreBytes (machine_of level)
-machine-bytes level le = (omega arith, (omega arith, (omega arith, (omega arith, (omega arith, tt)))))
-
-stream-bytes : (set : ℕ) (m : State) → IsSound m → MaySaveUnder m.level set → (i : ℕ) → get_or (saved_stream set m) i 0 < 256
-unfolding saved_stream
-stream-bytes set m s may =
-    let a = may.level_le_set in
-    let b = may.set_le_newest in
-    bytes_at (saved_stream set m) (shipped-bytes set may.set_le_newest (machine_of m.level) (saved_images set m) (machine-bytes m.level (omega (arith, a, b))))
-
-pub streams_are_bytes : StreamsAreBytes
-streams_are_bytes = record { bytes = stream-bytes }
+stream_bytes set lists named name images p = written-bytes set name (described_text set images) images named p (described-bytes set lists images named)

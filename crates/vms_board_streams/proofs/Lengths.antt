@@ -1,34 +1,26 @@
--- How long the streams of boards are.
-use Rattle.std.proofs.Common.{◌≡◌, ℕ, zero, suc, ◌+◌, ◌*◌, ◌<◌, ◌≤◌, Bool, true, false, if◌then◌else◌, List, ◌∷◌, ◌++◌, length, map, get_or, Option, Some, None, ℤ, pos, arith, length-append, []}
+-- How long streams are, by the descriptions of a set.
+use Rattle.std.proofs.Common.{◌≡◌, ℕ, zero, suc, ◌+◌, ◌*◌, ◌<◌, ◌≤◌, Bool, true, false, if◌then◌else◌, List, [], ◌∷◌, ◌++◌, length, map, get_or, Option, Some, None, ℤ, arith, length-append}
 use Rattle.std.specs.Prelude.{replicate}
 use Rattle.std.proofs.Math.Nat.{suc-mul}
 use Rattle.std.proofs.lemmas.List.{length-replicate}
 use Rattle.std.proofs.lemmas.Nat.{mul-le}
-use Rattle.dev_board.specs.Saved.{MaySaveUnder}
-use Rattle.dev_board.specs.Sound.{IsSound}
-use Rattle.dev_board.specs.State.{State}
-use Rattle.dev_images.specs.Images.{saved_images}
-use Rattle.vms_desc.specs.Formed.{shipped_set}
 use Rattle.vms_kinds.specs.Codes.{width, code}
 use Rattle.vms_kinds.specs.declared.Item.{Item}
 use Rattle.vms_kinds.specs.declared.Item.TheVariants.{Num, Equal, Unused, Struct}
 use Rattle.vms_kinds.specs.declared.Kind.{Kind}
 use Rattle.vms_kinds.specs.declared.Kind.TheVariants.{U8, U16, U32, U64, I8, I16, I32, I64, Bool as Truth, Timer}
-use Rattle.vms_selfdesc.proofs.Bounds.{shipped_holds}
 use Rattle.vms_spec.proofs.KindLaws.{length-code}
+use Rattle.vms_spec.specs.declared.Count.{Count}
+use Rattle.vms_spec.specs.declared.Count.TheVariants.{One, Fixed, Counted}
 use Rattle.vms_spec.specs.Images.{Image, zeroed, own_cells, own_slots, sub_slots}
 use Rattle.vms_spec.specs.Layout.{Slot, Number, Constant, Filler, Rule, Meaning, no_meaning, first, times, capacity_of, elements_of, item_slots, item_size, field_cells, counted, no_parent, numbers_of, all_hold, field_slots, slots_from, desc_slots, meanings, desc_cells, struct_cells}
 use Rattle.vms_spec.specs.Sets.{Field, Desc, Sub, Device, Set}
-use Rattle.vms_spec.specs.Shipped.{set_0, set_1, set_2, set_3, set_4, pit_channel}
 use Rattle.vms_spec.specs.Tests.{is_there}
 use Rattle.vms_spec.specs.Streams.{be32, configuration, section_head, sub_head, foot, trailer, end_mark, stream_head, written, written_section, written_sections, written_subs}
-use Rattle.vms_spec.proofs.Sizes.{elements_fit}
-use Rattle.vms_board.specs.Saving.{machine_of, saved_text, saved_stream}
-use Rattle.vms_session.specs.Laws.{StreamsAreShort}
 
 -- ---- slots
 
-slots_most : List Slot → ℕ
+pub slots_most : List Slot → ℕ
 slots_most [] = 0
 slots_most (Number c kind capacities ∷ slots) = 8 + slots_most slots
 slots_most (Constant kind z ∷ slots) = 8 + slots_most slots
@@ -93,18 +85,18 @@ rule-le holds = omega arith
 
 -- ---- fields
 
-abbrev item_most : List ℕ → Item → ℕ
+abbrev pub item_most : List ℕ → Item → ℕ
 item_most ws (Num kind) = 8
 item_most ws (Equal kind z) = 8
 item_most ws (Unused n) = n
 item_most ws (Struct j) = get_or ws j 0
 
-abbrev fields_most : List ℕ → List Field → ℕ
+abbrev pub fields_most : List ℕ → List Field → ℕ
 fields_most ws [] = 0
 fields_most ws (f ∷ fs) = capacity_of f.count * item_most ws f.item + fields_most ws fs
 
 -- each structure has at most so many bytes
-record Within (structs : List Meaning) (ws : List ℕ) : Type 0 where
+pub record Within (structs : List Meaning) (ws : List ℕ) : Type 0 where
   pub bounded : (j : ℕ) (numbers : List ℤ) (at : ℕ) → slots_most ((get_or structs j no_meaning).slots numbers at) ≤ get_or ws j 0
 
 module _ (structs : List Meaning) (ws : List ℕ) (within : Within structs ws) where
@@ -115,11 +107,16 @@ module _ (structs : List Meaning) (ws : List ℕ) (within : Within structs ws) w
   item-le (Unused n) capacities numbers at = omega arith
   item-le (Struct j) capacities numbers at = within.bounded j numbers at
 
+  elements-le : (count : Count) (own : ℕ → ℕ) → elements_of count own ≤ capacity_of count
+  elements-le One own = omega arith
+  elements-le (Fixed n) own = omega arith
+  elements-le (Counted by most) own = omega arith
+
   field-le : (fields : List Field) (v : ℕ) (own : ℕ → ℕ) (numbers : List ℤ) (i at : ℕ) (f : Field) → slots_most (field_slots structs fields v own numbers i at f) ≤ capacity_of f.count * item_most ws f.item
   field-le fields v own numbers i at f =
       let slots : List Slot = times (elements_of f.count own) (item_slots structs f.item (counted i fields) numbers) at (item_size (map (λ m. m.cells) structs) f.item) in
       let le = times-le (elements_of f.count own) (item_slots structs f.item (counted i fields) numbers) at (item_size (map (λ m. m.cells) structs) f.item) (item_most ws f.item) (item-le f.item (counted i fields) numbers) in
-      let few = mul-le (elements_of f.count own) (item_most ws f.item) (capacity_of f.count) (item_most ws f.item) (elements_fit f.count own) (omega arith) in
+      let few = mul-le (elements_of f.count own) (item_most ws f.item) (capacity_of f.count) (item_most ws f.item) (elements-le f.count own) (omega arith) in
       if-le (is_there f.test f.since v own no_parent) slots (capacity_of f.count * item_most ws f.item) (omega (arith, le, few))
 
   fields-le : (fields : List Field) (v : ℕ) (own : ℕ → ℕ) (numbers : List ℤ) (i at : ℕ) (fs : List Field) → slots_most (slots_from structs fields v own numbers i at fs) ≤ fields_most ws fs
@@ -130,7 +127,7 @@ module _ (structs : List Meaning) (ws : List ℕ) (within : Within structs ws) w
       sum-le (field_slots structs fields v own numbers i at f) (slots_from structs fields v own numbers (suc i) next fs) _ _
       (field-le fields v own numbers i at f) (fields-le fields v own numbers (suc i) next fs)
 
-  desc-le : (d : Desc) (v : ℕ) (numbers : List ℤ) (at : ℕ) → slots_most (desc_slots structs d v numbers at) ≤ fields_most ws d.fields
+  pub desc-le : (d : Desc) (v : ℕ) (numbers : List ℤ) (at : ℕ) → slots_most (desc_slots structs d v numbers at) ≤ fields_most ws d.fields
   desc-le d v numbers at =
       let own : ℕ → ℕ = numbers_of (map (λ m. m.cells) structs) d numbers at in
       let e = sum-le (slots_from structs d.fields v own numbers 0 at d.fields) (Rule (all_hold d.validate v own) ∷ []) _ 0 (fields-le d.fields v own numbers 0 at d.fields) (rule-le (all_hold d.validate v own)) in
@@ -138,14 +135,14 @@ module _ (structs : List Meaning) (ws : List ℕ) (within : Within structs ws) w
 
 -- ---- streams
 
-abbrev subs_most : List ℕ → List Sub → ℕ
+abbrev pub subs_most : List ℕ → List Sub → ℕ
 subs_most ws [] = 0
 subs_most ws (s ∷ subs) = (6 + length s.desc.name + fields_most ws s.desc.fields) + subs_most ws subs
 
-abbrev device_most : List ℕ → Device → ℕ
+abbrev pub device_most : List ℕ → Device → ℕ
 device_most ws d = (14 + length d.desc.name) + fields_most ws d.desc.fields + subs_most ws d.subs + 5
 
-abbrev devices_most : List ℕ → List Device → ℕ
+abbrev pub devices_most : List ℕ → List Device → ℕ
 devices_most ws [] = 0
 devices_most ws (d ∷ devices) = device_most ws d + devices_most ws devices
 
@@ -197,8 +194,8 @@ module _ (set : Set) (ws : List ℕ) (within : Within (meanings set.structs (len
       both-le (written_section set d image id) (written_sections set (suc id) devices images) (device_most ws d) (devices_most ws devices)
       (section-long d image id) (sections-long (suc id) devices images)
 
-  stream-long : (name text : List ℕ) (images : List Image) → length (written set (Some name) images (Some text)) ≤ (8 + (5 + length name) + devices_most ws set.devices + 1) + (5 + length text)
-  stream-long name text images =
+  pub stream_long : (name text : List ℕ) (images : List Image) → length (written set (Some name) images (Some text)) ≤ (8 + (5 + length name) + devices_most ws set.devices + 1) + (5 + length text)
+  stream_long name text images =
       let sections : List ℕ = written_sections set 0 set.devices images in
       both-le (stream_head ++ configuration name ++ sections ++ end_mark) (trailer text) (8 + (5 + length name) + devices_most ws set.devices + 1) (5 + length text)
       (both-le (stream_head ++ configuration name ++ sections) end_mark (8 + (5 + length name) + devices_most ws set.devices) 1
@@ -208,38 +205,20 @@ module _ (set : Set) (ws : List ℕ) (within : Within (meanings set.structs (len
       (omega arith))
       (omega arith)
 
--- ---- the shipped sets
+-- ---- sets with one structure at most
 
-none-within : Within [] []
+pub none-within : Within [] []
 unfolding slots_most
 none-within = record { bounded = λ j numbers at. omega arith }
 
-empty-within : Within (meanings [] 0) []
+pub empty_within : Within (meanings [] 0) []
 unfolding first
-empty-within = none-within
+empty_within = none-within
 
--- the one structure that they have is a counter's
-one-within : (d : Desc) → Within (meanings (d ∷ []) 1) (fields_most [] d.fields ∷ [])
+pub one_within : (d : Desc) → Within (meanings (d ∷ []) 1) (fields_most [] d.fields ∷ [])
 unfolding first slots_most
-one-within d = record { bounded = within }
+one_within d = record { bounded = within }
   where
     within : (j : ℕ) (numbers : List ℤ) (at : ℕ) → slots_most ((get_or (meanings (d ∷ []) 1) j no_meaning).slots numbers at) ≤ get_or (fields_most [] d.fields ∷ []) j 0
     within zero numbers at = desc-le [] [] none-within d d.version numbers at
     within (suc j) numbers at = omega arith
-
-shipped-long : (set : ℕ) (name text : List ℕ) (images : List Image) → set ≤ 4 → length name ≤ 5 → length text < 60000 → length (written (shipped_set set) (Some name) images (Some text)) < 65536
-shipped-long zero name text images le n t = let l = stream-long set_0 [] empty-within name text images in omega (arith, l, n, t)
-shipped-long (suc zero) name text images le n t = let l = stream-long set_1 _ (one-within (pit_channel (Equal U8 (pos 1)))) name text images in omega (arith, l, n, t)
-shipped-long (suc (suc zero)) name text images le n t = let l = stream-long set_2 _ (one-within (pit_channel (Unused 1))) name text images in omega (arith, l, n, t)
-shipped-long (suc (suc (suc zero))) name text images le n t = let l = stream-long set_3 _ (one-within (pit_channel (Unused 1))) name text images in omega (arith, l, n, t)
-shipped-long (suc (suc (suc (suc zero)))) name text images le n t = let l = stream-long set_4 _ (one-within (pit_channel (Unused 1))) name text images in omega (arith, l, n, t)
-shipped-long (suc (suc (suc (suc (suc set))))) name text images le n t = absurd (omega (arith, le))
-
-stream-short : (set : ℕ) (m : State) → IsSound m → MaySaveUnder m.level set → length (saved_stream set m) < 65536
-unfolding saved_stream
-stream-short set m s may =
-    shipped-long set (machine_of m.level) (saved_text set m) (saved_images set m) may.set_le_newest
-    (omega arith) (shipped_holds.shipped set may.set_le_newest (saved_images set m))
-
-pub streams_are_short : StreamsAreShort
-streams_are_short = record { short = stream-short }

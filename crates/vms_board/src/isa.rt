@@ -1,0 +1,98 @@
+// The boards of the levels 1 to 4.
+ghost use Rattle.std.specs.Prelude.{◌≡◌};
+ghost use Rattle.dev_base.specs.Levels.{IsLevel};
+ghost use Rattle.vms_board.specs.Isa.{machine_of};
+
+use crate::board::MachineBoard;
+use crate::cells::cells_in;
+use crate::machine::Machine;
+use dev_base::NEWEST;
+use dev_board::{Answer, BoardCells, Devices, Event, Misfit};
+use std::alloc::Global;
+use vms_desc::DescSet;
+use vms_image::Image;
+use vms_io::NoMemory;
+use vms_kinds::DevCells;
+
+impl Machine for Devices {
+    type Cells = BoardCells;
+
+    ghost use Rattle.dev_images.specs.Images.{lists_of};
+    ghost use Rattle.dev_board.specs.Sound.{IsSound};
+    ghost use Rattle.vms_board.specs.Isa.{isa, AreTold};
+    ghost use Rattle.vms_board.specs.IsaStands.{isa_stands};
+
+    ghost family = { isa };
+
+    ghost is_sound = { IsSound };
+
+    ghost are_told = { AreTold };
+
+    ghost held = { lists_of };
+
+    fn newest() -> u8 {
+        NEWEST
+    }
+
+    fn set(alloc: Global, number: u8) -> Result<DescSet, NoMemory> {
+        DescSet::shipped(alloc, number)
+    }
+
+    fn at_power_on(number: u8) -> Devices {
+        Devices::new(number)
+    }
+
+    fn event(&mut self, event: Event) -> Answer {
+        self.event(event)
+    }
+
+    fn number(&self) -> u8 {
+        self.level()
+    }
+
+    fn now(&self) -> u64 {
+        self.now()
+    }
+
+    fn cells(&self, set: u8) -> BoardCells {
+        self.cells(set)
+    }
+
+    fn list<'a>(cells: &'a BoardCells, device: u32) -> &'a DevCells {
+        match device {
+            0 => &cells.timer,
+            1 => &cells.master,
+            2 => &cells.slave,
+            3 => &cells.pit,
+            _ => &cells.serial,
+        }
+    }
+
+    fn of_images(number: u8, images: &[Image]) -> Result<Devices, Misfit> {
+        Devices::of_cells(number, &cells_in(images))
+    }
+
+    ghost stands = { isa_stands };
+}
+
+/// The machine that a board of a level is, `isa-1` to `isa-4`.
+pub fn machine_name(level: u8) -> &'static str
+    requires { IsLevel level }
+    ensures { result.now ≡ machine_of level }
+{
+    match level {
+        1 => "isa-1",
+        2 => "isa-2",
+        3 => "isa-3",
+        _ => "isa-4",
+    }
+}
+
+impl MachineBoard<Devices> {
+    /// The level, 1 to 4.
+    pub fn level(&self) -> u8
+        ensures { result ≡ self.now.state.level }
+    {
+        self.number()
+    }
+}

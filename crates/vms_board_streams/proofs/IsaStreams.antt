@@ -1,0 +1,48 @@
+-- What laws of streams ask of the family of the boards isa-1 to isa-4.
+use Rattle.std.proofs.Common.{◌≡◌, ℕ, ◌<◌, ◌≤◌, Bool, true, false, nat_lt, arith, refl, sym, subst}
+use Rattle.std.proofs.lemmas.Bool.{ltb-true, ltb-false}
+use Rattle.dev_base.specs.declared.limits.TheConstants.{NEWEST}
+use Rattle.dev_board.proofs.AlikeLaws.{alike_stays}
+use Rattle.dev_board.specs.Sound.{IsSound, Alike}
+use Rattle.dev_images.proofs.BoardCarried.{images_come_back}
+use Rattle.vms_check.proofs.ShippedLaws.{shipped_compatible}
+use Rattle.vms_check.specs.Comparing.{Compatible, first_mismatch}
+use Rattle.vms_desc.proofs.Bounds.{none_is}
+use Rattle.vms_desc.proofs.Formed.{formed}
+use Rattle.vms_desc.specs.Formed.{shipped_set}
+use Rattle.vms_selfdesc.proofs.Bounds.{shipped_holds}
+use Rattle.vms_spec.specs.Layout.{first}
+use Rattle.vms_spec.specs.WellFormed.{WellFormed, first_fault}
+use Rattle.dev_images.specs.Images.{saved_images}
+use Rattle.vms_board.specs.Isa.{isa}
+use Rattle.vms_board_streams.proofs.IsaBytes.{streams_are_short, streams_are_bytes}
+use Rattle.vms_board_streams.specs.Streams.{StreamsStand}
+
+pub well : (s : ℕ) → WellFormed (shipped_set s)
+well s = none_is (first_fault (shipped_set s)) (formed s)
+
+newest_itself : Compatible (shipped_set NEWEST) (shipped_set NEWEST)
+unfolding first_mismatch first
+newest_itself = refl
+
+pub compatible : (s : ℕ) → 1 ≤ s → s ≤ NEWEST → Compatible (shipped_set s) (shipped_set NEWEST)
+compatible s l h = at (nat_lt s NEWEST) refl where
+  at : (b : Bool) → nat_lt s NEWEST ≡ b → Compatible (shipped_set s) (shipped_set NEWEST)
+  at true e = shipped_compatible s NEWEST l (ltb-true s NEWEST e) (omega arith)
+  at false e =
+      let least : NEWEST ≤ s = ltb-false s NEWEST e in
+      let same : s ≡ NEWEST = omega (arith, h, least) in
+      subst (λ (n : ℕ). Compatible (shipped_set n) (shipped_set NEWEST)) (sym same) newest_itself
+
+pub isa_streams_stand : StreamsStand isa Alike IsSound
+isa_streams_stand = record {
+  well = λ set last. well set;
+  compatible = compatible;
+  described = λ set m last. let l = shipped_holds.shipped set last (saved_images set m) in omega (arith, l);
+  back = λ set m s may.
+      let back = images_come_back.back set m s may in
+      record { back = back.back; restored = back.restored; alike = back.alike };
+  alike = λ event m n a. let one = alike_stays.event event m n a in record { answer = one.value; alike = one.alike };
+  short = streams_are_short;
+  octets = streams_are_bytes;
+}

@@ -1,0 +1,9 @@
+pub mod BytesLaws
+pub mod FamilyLaws
+pub mod IsaBytes
+pub mod IsaLaws
+pub mod IsaStreams
+pub mod Lengths
+pub mod RoomLemmas
+pub mod TextBytes
+pub mod WrittenBytes

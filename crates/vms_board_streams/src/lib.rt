@@ -1,0 +1,8 @@
+//! Streams of boards of one kind: what is written of them, what restores them, and their laws.
+#![tactic(auto)]
+
+mod laws;
+mod memory;
+
+pub use laws::{bytes_law, continuation_law, octets_law, short_law, stream_law};
+pub use memory::{restore_from, stream_of};
