@@ -41,6 +41,8 @@ use Rattle.vms_load.specs.Hearing.{HearsLoad}
 use Rattle.vms_board_commands.proofs.HeardLemmas.{IsOther, all_of, all_taken, written_end}
 use Rattle.vms_board_commands.specs.Heard.{Hears, HearsEnd}
 use Rattle.vms_cli.specs.Show.{GivesWithin, Shows, ShowsWell, Values, Refuses, most_of_all}
+use Rattle.vms_load.proofs.SetFacts.{well_of}
+use Rattle.vms_spec.specs.Heads.{FitsHeads}
 
 abbrev no_device : Device
 no_device = record { instance = 0; desc = no_desc; subs = [] }
@@ -52,6 +54,10 @@ same_machine set (Some m) = refl
 -- the outcome under a set, where so much of the input is told
 abbrev pub shows_under : Option (List ℕ) → Option Held → Set → Outcome → Type 0
 shows_under input held set x = IsSomeAnd input (λ bytes. Shows set bytes held x)
+
+-- what the laws of streams ask of a set
+pub fit_of : (set : Set) → is_well_formed set ≡ true → FitsHeads set → IsFit set
+fit_of set well heads = record { well = well_of set well; heads = heads }
 
 -- the outcome of an input that takes a stream
 pub shown_is : (set : Set) → IsFit set → (bytes : List ℕ) (held : Option Held) (taken : ℕ) (machine : Option (List ℕ)) (images : List Image) (x : Outcome) → IsBytes bytes
