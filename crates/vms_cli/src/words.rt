@@ -1,11 +1,10 @@
 // The words after the program's name.
-ghost use Rattle.std.specs.Prelude.{◌≡◌, ◌∷◌, ◌++◌, [], OnOk, OnErr, Some, None, IfSome, codes, if◌then◌else◌};
+ghost use Rattle.std.specs.Prelude.{◌≡◌, ◌∷◌, ◌++◌, [], OnOk, OnErr, Some, None, codes, if◌then◌else◌};
 ghost use Rattle.std.specs.Str.{bytes_eq};
 ghost use Rattle.std.specs.Option.{option_map};
-ghost use Rattle.vms_commands.specs.Asks.{shipped_asked};
 ghost use Rattle.vms_commands.specs.SetWords.{set_word, shipped_word};
-ghost use Rattle.vms_cli.specs.Asks.{asked, board_asked, saved_asked};
-ghost use Rattle.vms_cli.specs.Commands.{asked_of, board_word, check_of, drill_of, few_events, isa_level, load_of, number_word, on_board, pack_of, pair_of, play_of, save_of, saved_set, show_of, triple_of};
+ghost use Rattle.vms_cli.specs.Asks.{asked, board_asked};
+ghost use Rattle.vms_cli.specs.Commands.{asked_of, board_word, check_of, drill_of, few_events, isa_level, load_of, number_word, on_board, pack_of, pair_of, play_of, save_of, show_of, triple_of};
 
 use crate::board_words::{board_word, events_word, isa_board, number_word};
 use crate::boards::{BoardWord, IsaBoard, IsaSaved, SavedBoard};
@@ -209,30 +208,25 @@ fn save_of<'a>(board: &str, set: &str, script: &'a str) -> Option<Command<'a>>
     ensures { option_map asked result
         ≡ save_of (on_board (board_word board.now) script.now) (shipped_word set.now) }
 {
-    match (board_word(board), shipped_set(set)) {
-        (Some(board), Some(set)) if is_shelf_name(script.as_bytes()) => {
-            match saved_board(board, set) {
-                Some(board) => Some(Command::Save { board, script }),
-                None => None,
-            }
+    match (on_board(board, script), shipped_set(set)) {
+        (Some(BoardWord::Isa(board)), Some(ShippedSet::Isa(set))) if board.level <= set.number => {
+            let board = SavedBoard::Isa(IsaSaved {
+                level: board.level,
+                set: set.number,
+            });
+            Some(Command::Save { board, script })
         }
         _ => None,
     }
 }
 
-// A board with a set, where the set is of its kind and at or above it.
-fn saved_board(board: BoardWord, set: ShippedSet) -> Option<SavedBoard>
-    ensures board { IfSome result (λ saved. (saved_asked saved).0 ≡ board_asked board) }
-    ensures set { option_map (λ saved. (saved_asked saved).1) result
-        ≡ saved_set (board_asked board) (shipped_asked set) }
+// The board that a word names, where the other names a script.
+fn on_board(board: &str, script: &str) -> Option<BoardWord>
+    ensures { option_map (λ it. (board_asked it, script.now)) result
+        ≡ on_board (board_word board.now) script.now }
 {
-    match (board, set) {
-        (BoardWord::Isa(board), ShippedSet::Isa(set)) if board.level <= set.number => {
-            Some(SavedBoard::Isa(IsaSaved {
-                level: board.level,
-                set: set.number,
-            }))
-        }
+    match board_word(board) {
+        Some(board) if is_shelf_name(script.as_bytes()) => Some(board),
         _ => None,
     }
 }

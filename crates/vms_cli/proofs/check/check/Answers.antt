@@ -6,7 +6,7 @@ use Rattle.vms_cli.specs.Check.{checked, compared}
 use Rattle.vms_commands.specs.Fetching.{fetched_set, sets_in}
 use Rattle.vms_commands.specs.StepEndings.{StepAs, text_of}
 use Rattle.vms_commands.specs.Steps.{both, next}
-use Rattle.vms_commands.proofs.StepLemmas.{both_give, regroup, second_ends, text_ends}
+use Rattle.vms_commands.proofs.StepLemmas.{both_give, first_ends, regroup, second_ends, text_ends}
 use Rattle.vms_commands.proofs.EndLemmas.{quiet_same}
 use Rattle.vms_cli.proofs.CheckLemmas.{compare_quiet}
 use Rattle.vms_cli.proofs.check.check.Goals as goal
@@ -41,3 +41,15 @@ returns-in-Err-fetch_set-clause-content g c = λ input o few has.
     (regroup (both (fetched_set held old) (fetched_set held new)) sets_in compared out out ending
     (second_ends text_of (λ texts. next (sets_in texts) compared) out out ending (fetched_set held old) (fetched_set held new)
     c.in-Ok.text c.in-Ok.ensures.fetched second)) has
+
+pub returns-in-Err-clause-content : goal.returns-in-Err-clause-content
+returns-in-Err-clause-content g c = λ input o few has.
+    let held = g.H.Shelf.held c.args.shelf.now in
+    let old = set_asked c.args.old in
+    let new = set_asked c.args.new in
+    let out = outlet g.O.Sink c.args.out.now in
+    let ending = c.in-Err.ending in
+    text_ends (checked held old new) input out out (stock g.H.Shelf c.args.shelf.now) (stock g.H.Shelf c.fetch_set.new.shelf) ending o few
+    c.in-Err.ensures.held (quiet_same out ending)
+    (regroup (both (fetched_set held old) (fetched_set held new)) sets_in compared out out ending
+    (first_ends text_of (λ texts. next (sets_in texts) compared) out out ending (fetched_set held old) (fetched_set held new) c.in-Err.ensures.fetched)) has
