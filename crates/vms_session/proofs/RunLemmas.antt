@@ -1,16 +1,13 @@
 -- Events, one after the other.
-use Rattle.std.proofs.Common.{◌≡◌, ℕ, suc, ◌+◌, ◌<◌, ◌≤◌, List, [], ◌∷◌, ◌++◌, length, take, drop, get_or, Option, refl, sym, ap, subst, ◌∙◌, append_assoc, append-nil, arith, length-append}
-use Rattle.std.proofs.KnownBytes.{Appends-nil, Appends-trans}
+use Rattle.std.proofs.Common.{◌≡◌, ℕ, ◌+◌, ◌<◌, ◌≤◌, List, [], ◌∷◌, ◌++◌, length, drop, get_or, Option, refl, sym, ap, subst, ◌∙◌}
 use Rattle.std.proofs.lemmas.List.{drop_all, drop_more}
-use Rattle.std.specs.Io.KnownBytes.{Appends}
-use lib.Seq.{take-append-le}
 use Rattle.dev_board.specs.Laws.{AreEvents, IsEvent}
 use Rattle.dev_board.specs.Step.{after_by, answers_by}
 use Rattle.dev_board.specs.declared.event.Event.{Event}
 use Rattle.dev_board.specs.declared.event.Event.TheVariants.{Read}
 use Rattle.vms_board.specs.Family.{Family}
 use Rattle.vms_board_streams.specs.Streams.{after_events}
-use Rattle.vms_io.specs.Causes.{AppendsPrefix}
+use Rattle.vms_io.proofs.Owing.{Owes}
 use Rattle.vms_script.specs.Grammar.{AreLines}
 use Rattle.vms_script.specs.Lines.{ScriptLine, Happens, Saves, Restores}
 use Rattle.vms_script.specs.Trace.{trace_line}
@@ -86,41 +83,5 @@ module _ {S : Type 0} (f : Family S) where
 
 -- ---- what was written
 
--- What was written, with what is left, is the whole.
-pub record Owes (old new : Option (List ℕ)) (whole left : List ℕ) : Type 0 where
-  pub done : List ℕ
-  pub written : Appends old new done
-  pub split : done ++ left ≡ whole
-
-pub owes_all : (old : Option (List ℕ)) (whole : List ℕ) → Owes old old whole whole
-owes_all old whole = record { done = []; written = Appends-nil old; split = refl }
-
-pub owes_less : (old mid new : Option (List ℕ)) (whole left part rest : List ℕ) → Owes old mid whole left → left ≡ part ++ rest → Appends mid new part → Owes old new whole rest
-owes_less old mid new whole left part rest o e p = record {
-  done = o.done ++ part;
-  written = Appends-trans old mid new o.done part o.written p;
-  split = append_assoc o.done part rest ∙ ap (λ (l : List ℕ). o.done ++ l) (sym e) ∙ o.split;
-}
-
 pub owes_same : (old new : Option (List ℕ)) (whole left rest : List ℕ) → Owes old new whole left → left ≡ rest → Owes old new whole rest
 owes_same old new whole left rest o e = subst (Owes old new whole) e o
-
-pub owes_none : (old new : Option (List ℕ)) (whole left : List ℕ) → Owes old new whole left → left ≡ [] → Appends old new whole
-owes_none old new whole left o e =
-    subst (Appends old new) (sym (append-nil o.done) ∙ ap (λ (l : List ℕ). o.done ++ l) (sym e) ∙ o.split) o.written
-
-take_past : (a b : List ℕ) (n : ℕ) → take (length a + n) (a ++ b) ≡ a ++ take n b
-take_past [] b n = ap (λ (k : ℕ). take k b) (omega arith)
-take_past (x ∷ a) b n =
-    let e : length (x ∷ a) + n ≡ suc (length a + n) = omega arith in
-    ap (λ (k : ℕ). take k (x ∷ (a ++ b))) e ∙ ap (λ (l : List ℕ). x ∷ l) (take_past a b n)
-
--- the next part is begun
-pub owes_still : (old mid new : Option (List ℕ)) (whole left part rest : List ℕ) → Owes old mid whole left → left ≡ part ++ rest → AppendsPrefix mid new part → AppendsPrefix old new whole
-owes_still old mid new whole left part rest o e p =
-    let split : o.done ++ (part ++ rest) ≡ whole = ap (λ (l : List ℕ). o.done ++ l) (sym e) ∙ o.split in
-    let front : take (length o.done + p.0) (o.done ++ (part ++ rest)) ≡ o.done ++ take p.0 part =
-    take_past o.done (part ++ rest) p.0 ∙ ap (λ (l : List ℕ). o.done ++ l) (take-append-le p.0 part rest p.1) in
-    let le : length o.done + p.0 ≤ length (o.done ++ (part ++ rest)) = omega (arith, p.1, length-append o.done (part ++ rest), length-append part rest) in
-    subst (AppendsPrefix old new) split
-    (length o.done + p.0, le, subst (Appends old new) (sym front) (Appends-trans old mid new o.done (take p.0 part) o.written p.2))

@@ -2,7 +2,8 @@ use Rattle.std.proofs.Common.{◌+◌, ◌<◌, ◌≤◌, length, drop, Result,
 use Rattle.vms_io.specs.Causes.{AppendsPrefix}
 use Rattle.vms_script.specs.Trace.{trace_line}
 use Rattle.vms_session.specs.Events.{trace_from}
-use Rattle.vms_session.proofs.RunLemmas.{event_at, left_next, none_left, first_event, later_events, after_next, after_none, number_next, trace_next, trace_none, owes_less, owes_none, owes_still}
+use Rattle.vms_session.proofs.RunLemmas.{event_at, left_next, none_left, first_event, later_events, after_next, after_none, number_next, trace_next, trace_none}
+use Rattle.vms_io.proofs.Owing.{owes_less, owes_none, owes_still}
 use Rattle.vms_session.proofs.run.trace.Goals as goal
 
 on-err : {T E : Type 0} (r : Result T E) (P : Type 0) → P → OnErr r P
