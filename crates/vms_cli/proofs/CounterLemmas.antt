@@ -1,29 +1,40 @@
 -- Of `counter`: what is answered is the text that its steps give, and what is untouched where it ends.
-use Rattle.std.proofs.Common.{◌≡◌, ℕ, Bool, true, List, get_or, map, Option, sym, ap, subst, arith}
+use Rattle.std.proofs.Common.{◌≡◌, ℕ, Bool, true, List, ◌++◌, get_or, map, Option, sym, ap, ◌∙◌, subst, arith}
+use Rattle.std.specs.declared.alloc.Global.{Global}
+use Rattle.std.specs.declared.vec.Vec.{Vec}
 use Rattle.std.proofs.lemmas.Option.{slice_get-get_or}
 use Rattle.vms_io.specs.Shelves.{Held}
 use Rattle.vms_io.specs.Told.{Outlet}
 use Rattle.vms_spec.specs.Good.{IsFit}
+use Rattle.vms_spec.specs.Lists.{at_option}
 use Rattle.vms_spec.specs.Sets.{Set}
+use Rattle.vms_spec.specs.Values.{values_text}
 use Rattle.vms_desc.specs.Formed.{is_well_formed}
 use Rattle.vms_image.specs.Typed.{Typed, state_of, AreImagesOf}
+use Rattle.vms_frames.specs.declared.fault.Refusal.{Refusal as RefusedAt}
 use Rattle.vms_load.specs.Staging.{AreShaped, no_image}
 use Rattle.vms_values.specs.Printing.{AreOf}
+use Rattle.vms_check.specs.declared.mismatch.Mismatch.{Mismatch}
 use Rattle.vms_counter_laws.specs.Counters.{Answer, Counters}
 use Rattle.vms_counter_laws.specs.Computed.{computed}
 use Rattle.vms_counter_laws.proofs.OneAnswer.{one_answer_holds}
 use Rattle.vms_counter_laws.proofs.Stated.{computed_holds}
+use Rattle.vms_counter.specs.declared.finding.Finding.{Finding}
+use Rattle.vms_counter.specs.declared.finding.Finding.TheVariants as findings
+use Rattle.vms_counter.specs.Found.{answer_of}
 use Rattle.vms_commands.specs.declared.ending.Ending.{Ending}
 use Rattle.vms_commands.specs.declared.ending.Ending.TheVariants.{Done, Refused, BadWords, BadText, NotCompatible, ReadFault, WriteFault, ShelfFault, NotThere, TooLarge, NoMemory}
 use Rattle.vms_commands.specs.Endings.{Quiet}
 use Rattle.vms_commands.specs.Fetching.{fetched_set, named_sets, SetText, set_in, sets_in}
+use Rattle.vms_commands.specs.Lines.{refused_line}
 use Rattle.vms_commands.specs.Outcomes.{Outcome, done}
+use Rattle.vms_commands.specs.SetLines.{mismatch_line}
 use Rattle.vms_commands.specs.SetWords.{SetWord}
 use Rattle.vms_commands.specs.Steps.{Both, Ends, Gives, HasText, Step, Untold, both, next}
 use Rattle.vms_commands.proofs.FileSets.{FitStep, fit_text}
 use Rattle.vms_commands.proofs.StepLemmas.{IsSound, sound_next, sound_sets}
 use Rattle.vms_cli.specs.Causes.{FindCause}
-use Rattle.vms_cli.specs.Counter.{Tells, Answers, CountersBy, counted, counter_text}
+use Rattle.vms_cli.specs.Counter.{Tells, Answers, CountersBy, counted, counter_text, no_state}
 use Rattle.vms_cli.proofs.ShowLemmas.{are_of}
 
 pub find_quiet : (asks : Bool) (o o' : Outlet) (e : Ending) → FindCause asks o o' e → Quiet o o' e
@@ -97,3 +108,16 @@ are_shaped set images are = record {
 -- one image for each device is what is printed
 pub printed_of : (set : Set) → is_well_formed set ≡ true → (images : List Typed) → AreImagesOf set images → AreOf set set.devices (map state_of images)
 printed_of set well images are = are_of set well images (are_shaped set images are)
+
+-- the text of what is found
+module _ (old new : Set) (f : Finding) (m : Mismatch) where
+  pub no_state_is : (text : List ℕ) → f ≡ findings.NoState m → text ≡ mismatch_line m ++ no_state → text ≡ counter_text old new (answer_of old f)
+  no_state_is text is e = e ∙ ap (λ (x : Finding). counter_text old new (answer_of old x)) (sym is)
+
+  pub state_is : (machine : Option ℕ) (images : Vec Typed Global) (r : RefusedAt) (head : List ℕ) (items : List Typed) → f ≡ findings.State m machine images r
+      → head ≡ mismatch_line m ++ refused_line new r.at r.section r.reason → items ≡ images.items
+      → head ++ values_text old (at_option old.machines machine) (map state_of items) ≡ counter_text old new (answer_of old f)
+  state_is machine images r head items is e e' =
+      ap (λ (h : List ℕ). h ++ values_text old (at_option old.machines machine) (map state_of items)) e
+      ∙ ap (λ (l : List Typed). (mismatch_line m ++ refused_line new r.at r.section r.reason) ++ values_text old (at_option old.machines machine) (map state_of l)) e'
+      ∙ ap (λ (x : Finding). counter_text old new (answer_of old x)) (sym is)

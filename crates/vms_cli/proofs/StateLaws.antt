@@ -1,13 +1,11 @@
 -- What follows where `counter` names a state.
-use Rattle.std.proofs.Common.{◌≡◌, ℕ, List, [], ◌++◌, Option, Some, IfSome, true, refl, sym, ap, ◌∙◌, subst, append-nil}
+use Rattle.std.proofs.Common.{◌≡◌, ℕ, ◌+◌, List, ◌++◌, Option, Some, None, IfSome, true, refl, sym, ap, ◌∙◌, subst, append-nil}
 use Rattle.vms_io.specs.Shelves.{Held}
-use Rattle.vms_spec.specs.declared.Reason.TheVariants as reasons
 use Rattle.vms_spec.specs.Good.{IsFit}
 use Rattle.vms_spec.specs.Images.{Image}
 use Rattle.vms_spec.specs.Sets.{Set}
 use Rattle.vms_spec.specs.Streams.{configuration, end_mark, is_one_of, optional, stream_head, trailer, written, written_sections}
 use Rattle.vms_spec.specs.Values.{values_text}
-use Rattle.vms_spec.specs.ValuesReading.{Values, values_read}
 use Rattle.vms_elements.specs.Reading.{IsMachineOf}
 use Rattle.vms_values_laws.proofs.Stated.{printed_holds}
 use Rattle.vms_stream.specs.Faults.{Fault}
@@ -18,7 +16,7 @@ use Rattle.vms_counter_laws.proofs.Stated.{always_holds, named_holds}
 use Rattle.vms_counter_laws.proofs.StreamBytes.{machine_known}
 use Rattle.vms_commands.specs.Fetching.{longest_file, named_sets, word_set}
 use Rattle.vms_commands.specs.Lines.{refused_line}
-use Rattle.vms_commands.specs.Outcomes.{Outcome, done, ended}
+use Rattle.vms_commands.specs.Outcomes.{done, ended}
 use Rattle.vms_commands.specs.SetWords.{SetWord}
 use Rattle.vms_commands.specs.Steps.{Step, Gives, Both, HasText}
 use Rattle.vms_commands.proofs.FileSets.{FitStep, fit_word}

@@ -14,7 +14,7 @@ use Rattle.vms_counter_laws.specs.Counters.{Refusal, State, Counters}
 use Rattle.vms_counter_laws.specs.Laws.{AlwaysShown}
 use Rattle.vms_commands.specs.Fetching.{longest_file, named_sets}
 use Rattle.vms_commands.specs.Lines.{refused_line}
-use Rattle.vms_commands.specs.Outcomes.{Outcome, done, ended}
+use Rattle.vms_commands.specs.Outcomes.{done, ended}
 use Rattle.vms_commands.specs.SetWords.{SetWord}
 use Rattle.vms_commands.specs.Steps.{Both, Gives}
 use Rattle.vms_cli.specs.Answers.{HasOutcome}

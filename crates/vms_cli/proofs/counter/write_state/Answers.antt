@@ -1,4 +1,4 @@
-use Rattle.std.proofs.Common.{◌≡◌, ℕ, ◌<◌, List, ◌++◌, length, map, Option, IfSome, sym, subst}
+use Rattle.std.proofs.Common.{ℕ, ◌<◌, List, ◌++◌, length, map, Option, IfSome, sym, subst}
 use Rattle.vms_io.specs.Told.{outlet}
 use Rattle.vms_io.specs.Writing.{Wrote}
 use Rattle.vms_io.proofs.WritingLemmas.{wrote_behind}

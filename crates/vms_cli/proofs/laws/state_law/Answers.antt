@@ -1,0 +1,5 @@
+use Rattle.vms_cli.proofs.StateLaws.{state_stands}
+use Rattle.vms_cli.proofs.laws.state_law.Goals as goal
+
+pub returns : goal.returns
+returns c = state_stands
