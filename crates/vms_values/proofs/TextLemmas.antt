@@ -2,10 +2,7 @@
 use Rattle.std.proofs.Common.{◌≡◌, ℕ, Bool, true, false, ◌&&◌, ◌==◌, List, [], ◌∷◌, ◌++◌, length, drop, refl, sym, ap, ◌∙◌}
 use Rattle.std.specs.Str.{bytes_eq}
 use Rattle.vms_spec.specs.Spelling.{begins_with}
-
-pub and_assoc : (a b c : Bool) → (a && (b && c)) ≡ ((a && b) && c)
-and_assoc true b c = refl
-and_assoc false b c = refl
+use Rattle.std.proofs.Math.Bool.{and_assoc}
 
 pub equal-append : (line front more : List ℕ) → bytes_eq line (front ++ more) ≡ (begins_with front line && bytes_eq (drop (length front) line) more)
 equal-append line [] more = refl

@@ -2,7 +2,7 @@
 use Rattle.std.proofs.Common.{◌≡◌, ℕ, zero, suc, ◌+◌, ◌<◌, ◌≤◌, ◌&&◌, ◌||◌, ◌==◌, nat_le, List, [], ◌∷◌, ◌++◌, length, length-append, get_or, take, drop, ℤ, pos, Bool, true, false, Option, Some, None, IfSome, nat_lt, refl, subst, arith}
 use Rattle.std.specs.Int.{byte_at, bytes_high_first}
 use Rattle.std.specs.Prelude.{replicate}
-use Rattle.std.specs.List.{slice_get, list_all}
+use Rattle.std.specs.List.{list_all}
 use Rattle.std.specs.Str.{bytes_eq}
 use Rattle.std.proofs.lemmas.Bool.{and_parts, ltb-true, leb-true, eqb-true}
 use Rattle.std.proofs.lemmas.List.{take-append-drop}
@@ -14,48 +14,48 @@ use Rattle.vms_spec.specs.Names.{is_name, is_name_byte, is_sub_name}
 use Rattle.vms_spec.specs.Images.{Image, zeroed, own_cells, own_slots, sub_slots}
 use Rattle.vms_spec.specs.Layout.{Slot, Number, Constant, Filler, Rule, desc_cells, struct_cells}
 use Rattle.vms_spec.specs.Sets.{Sub, Device, Set}
-use Rattle.vms_spec.specs.Streams.{be32, optional, configuration, section_head, sub_head, foot, end_mark, stream_head, is_one_of, written, written_section, written_sections, written_subs}
+use Rattle.vms_spec.specs.Streams.{be32, optional, configuration, section_head, sub_head, foot, trailer, end_mark, stream_head, is_one_of, written, written_section, written_sections, written_subs}
 use Rattle.vms_spec.specs.WellFormed.{WellFormed, failing, first_fault, here, set_rules}
 use Rattle.vms_spec.proofs.Faultless.{AllTrue, all_true, every_one, or_else_none}
 use Rattle.vms_spec.specs.declared.Part.TheVariants as parts
+use Rattle.vms_stream.proofs.SetParts.{AllSubs, AllParts, EachPart, all_parts}
 use Rattle.vms_spec.proofs.WellFormedLaws.{device_parts, sub_clean}
 
 -- ---- bytes
 
-abbrev AreBytes : List ℕ → Type 0
+abbrev pub AreBytes : List ℕ → Type 0
 AreBytes [] = Unit {0}
 AreBytes (x ∷ xs) = (x < 256) × AreBytes xs
 
-bytes_append : (xs ys : List ℕ) → AreBytes xs → AreBytes ys → AreBytes (xs ++ ys)
+pub bytes_append : (xs ys : List ℕ) → AreBytes xs → AreBytes ys → AreBytes (xs ++ ys)
 bytes_append [] ys p q = q
 bytes_append (x ∷ xs) ys p q = (p.0, bytes_append xs ys p.1 q)
 
-bytes_at : (xs : List ℕ) → AreBytes xs → IsBytes xs
+pub bytes_at : (xs : List ℕ) → AreBytes xs → IsBytes xs
 bytes_at [] p i = omega arith
 bytes_at (x ∷ xs) p zero = p.0
 bytes_at (x ∷ xs) p (suc i) = bytes_at xs p.1 i
 
-abbrev below : List ℕ → Bool
+abbrev pub below : List ℕ → Bool
 below [] = true
 below (x ∷ xs) = nat_lt x 256 && below xs
 
-spelled : (xs : List ℕ) → below xs ≡ true → AreBytes xs
+pub spelled : (xs : List ℕ) → below xs ≡ true → AreBytes xs
 spelled [] e = tt
 spelled (x ∷ xs) e = let p = and_parts (nat_lt x 256) (below xs) e in (ltb-true x 256 p.0, spelled xs p.1)
 
 -- ---- names
 
-record IsNamed (name : List ℕ) : Type 0 where
-  octets : AreBytes name
-  short : length name < 256
+-- a name that fits its byte of length
+pub record IsNamed (name : List ℕ) : Type 0 where
+  pub octets : AreBytes name
+  pub short : length name < 256
+
+abbrev AreNamed : List Device → Type 0
+AreNamed devices = AllParts (λ d. IsNamed d.name) devices
 
 abbrev AreNamedSubs : List Sub → Type 0
-AreNamedSubs [] = Unit {0}
-AreNamedSubs (s ∷ subs) = IsNamed s.desc.name × AreNamedSubs subs
-
-abbrev AreNamedDevices : List Device → Type 0
-AreNamedDevices [] = Unit {0}
-AreNamedDevices (d ∷ devices) = IsNamed d.desc.name × AreNamedSubs d.subs × AreNamedDevices devices
+AreNamedSubs subs = AllSubs (λ d. IsNamed d.name) subs
 
 -- ---- numbers
 
@@ -129,7 +129,7 @@ module _ (set : Set) where
       (subs-bytes d image (own_cells set d) d.subs image.came subs))
       (foot-bytes id)
 
-  sections-bytes : (id : ℕ) (devices : List Device) (images : List Image) → AreNamedDevices devices → AreBytes (written_sections set id devices images)
+  sections-bytes : (id : ℕ) (devices : List Device) (images : List Image) → AreNamed devices → AreBytes (written_sections set id devices images)
   sections-bytes id [] images named = tt
   sections-bytes id (d ∷ devices) [] named = tt
   sections-bytes id (d ∷ devices) (image ∷ images) named =
@@ -140,16 +140,21 @@ module _ (set : Set) where
   config-bytes None p = tt
   config-bytes (Some name) p = (omega arith, bytes_append (be32 (length name)) name (be32-bytes (length name)) p)
 
-  written-bytes : (machine : Option (List ℕ)) (images : List Image) → AreNamedDevices set.devices → IfSome machine AreBytes → AreBytes (written set machine images None)
-  written-bytes machine images named p =
+  text-bytes : (text : Option (List ℕ)) → IfSome text AreBytes → AreBytes (optional trailer text)
+  text-bytes None p = tt
+  text-bytes (Some text) p = (omega arith, bytes_append (be32 (length text)) text (be32-bytes (length text)) p)
+
+  written-bytes : (machine : Option (List ℕ)) (images : List Image) (text : Option (List ℕ)) → AreNamed set.devices → IfSome machine AreBytes → IfSome text AreBytes
+      → AreBytes (written set machine images text)
+  written-bytes machine images text named p q =
       let sections : List ℕ = written_sections set 0 set.devices images in
-      bytes_append (stream_head ++ optional configuration machine ++ sections ++ end_mark) []
+      bytes_append (stream_head ++ optional configuration machine ++ sections ++ end_mark) (optional trailer text)
       (bytes_append (stream_head ++ optional configuration machine ++ sections) end_mark
       (bytes_append (stream_head ++ optional configuration machine) sections
       (bytes_append stream_head (optional configuration machine) (spelled stream_head refl) (config-bytes machine p))
       (sections-bytes 0 set.devices images named))
       (omega arith, tt))
-      tt
+      (text-bytes text q)
 
 -- ---- well-formed sets
 
@@ -176,7 +181,7 @@ every_bytes : (name : List ℕ) → list_all is_name_byte name ≡ true → AreB
 every_bytes [] e = tt
 every_bytes (b ∷ name) e = let p = and_parts (is_name_byte b) (list_all is_name_byte name) e in (name_byte b p.0, every_bytes name p.1)
 
-is_named : (most : ℕ) (name : List ℕ) → most < 256 → is_name most name ≡ true → IsNamed name
+pub is_named : (most : ℕ) (name : List ℕ) → most < 256 → is_name most name ≡ true → IsNamed name
 is_named most name lt e =
     let p = and_parts (nat_le 1 (length name) && nat_le (length name) most) (list_all is_name_byte name) e in
     let top : length name ≤ most = leb-true (length name) most (and_parts (nat_le 1 (length name)) (nat_le (length name) most) p.0).1 in
@@ -198,29 +203,22 @@ sub_named device name d e =
       short = omega (arith, length-append (device ++ 47 ∷ []) rest, length-append device (47 ∷ []));
     })
 
-named_subs : (subs : List Sub) → ((j : ℕ) (s : Sub) → slice_get subs j ≡ Some s → IsNamed s.desc.name) → AreNamedSubs subs
-named_subs [] h = tt
-named_subs (s ∷ subs) h = (h 0 s refl, named_subs subs (λ j. h (suc j)))
-
-named_devices : (devices : List Device) → ((k : ℕ) (d : Device) → slice_get devices k ≡ Some d → IsNamed d.desc.name × AreNamedSubs d.subs) → AreNamedDevices devices
-named_devices [] h = tt
-named_devices (d ∷ devices) h = let r = h 0 d refl in (r.0, r.1, named_devices devices (λ k. h (suc k)))
-
 module _ (set : Set) (well : WellFormed set) where
-  device_named : (k : ℕ) (d : Device) → slice_get set.devices k ≡ Some d → IsNamed d.desc.name × AreNamedSubs d.subs
-  device_named k d e =
+  pub parts_named : EachPart (λ d. IsNamed d.name) set.devices
+  parts_named k d e =
       let own : is_name 100 d.desc.name ≡ true = (device_parts set well k d e).0.own.0 in
-      (is_named 100 d.desc.name (omega arith) own, named_subs d.subs (λ j s f. sub_named d.desc.name s.desc.name own (sub_clean set well k j d s e f).own.0))
+      (is_named 100 d.desc.name (omega arith) own, λ j s f. sub_named d.desc.name s.desc.name own (sub_clean set well k j d s e f).own.0)
 
   set_true : AllTrue (set_rules set)
   unfolding first_fault
   set_true = all_true 1 (set_rules set) (here parts.Set) (or_else_none (failing 1 (set_rules set) (here parts.Set)) _ well).0
 
-  machine_bytes : (machine : Option (List ℕ)) → IfSome machine (λ m. is_one_of set.machines m ≡ true) → IfSome machine AreBytes
+  pub machine_bytes : (machine : Option (List ℕ)) → IfSome machine (λ m. is_one_of set.machines m ≡ true) → IfSome machine AreBytes
   machine_bytes None h = tt
   machine_bytes (Some name) h = (is_named 64 name (omega arith) (every_one (is_name 64) set.machines name set_true.0 h)).octets
 
-  -- with a machine of the set or none
-  pub written_is_bytes : (machine : Option (List ℕ)) (images : List Image) → IfSome machine (λ m. is_one_of set.machines m ≡ true) → IsBytes (written set machine images None)
-  written_is_bytes machine images named =
-      bytes_at (written set machine images None) (written-bytes set machine images (named_devices set.devices device_named) (machine_bytes machine named))
+  -- with a machine's name and a description, where there are any
+  pub written_are_bytes : (machine : Option (List ℕ)) (images : List Image) (text : Option (List ℕ)) → IfSome machine AreBytes → IfSome text AreBytes
+      → AreBytes (written set machine images text)
+  written_are_bytes machine images text named told =
+      written-bytes set machine images text (all_parts (λ d. IsNamed d.name) set.devices parts_named) named told
