@@ -9,7 +9,7 @@ use Rattle.vms_spec.specs.Images.{Spells, RulesHold, has_cell}
 use Rattle.vms_spec.specs.Sound.{IsSound, AreSound}
 use Rattle.vms_bodies.specs.Cells.{AreCells}
 use Rattle.vms_bodies.proofs.AboveLaws.{desc_above, meanings_above}
-use Rattle.vms_bodies.proofs.CellLaws.{desc_are, meanings_are, cells_first}
+use Rattle.vms_bodies.proofs.CellLaws.{Stands, desc_are, meanings_are, cells_first}
 use Rattle.vms_bodies.proofs.SpellLaws.{FitSlots}
 use Rattle.vms_bodies.proofs.SettledLaws.{SameIn, slots_within}
 
