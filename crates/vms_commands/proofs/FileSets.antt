@@ -274,7 +274,7 @@ fit_number (suc (suc zero)) = shipped_stands.2
 fit_number (suc (suc (suc zero))) = shipped_stands.3
 fit_number (suc (suc (suc (suc s)))) = shipped_stands.4
 
-fit_text : (text : SetText) → FitStep (set_in text)
+pub fit_text : (text : SetText) → FitStep (set_in text)
 fit_text (Number (Isa number)) = fit_number number
 fit_text (Text name text) = fit_said name (file_said text) (file_fit text)
 
