@@ -1,12 +1,15 @@
 pub mod CheckLemmas
 pub mod CheckRow
 pub mod ContinuationLemmas
+pub mod CounterLemmas
+pub mod CounterRow
 pub mod EndLemmas
 pub mod OutcomeLaws
 pub mod PackLemmas
 pub mod RoundTrips
 pub mod ShowLemmas
 pub mod ShowRow
+pub mod StateLaws
 pub mod UpgradeLemmas
 pub mod VerdictLaws
 pub mod WordLaws

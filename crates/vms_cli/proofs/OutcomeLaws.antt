@@ -15,7 +15,7 @@ use Rattle.vms_stream.specs.Streams.{Takes}
 use Rattle.vms_stream.proofs.Stated.{either_holds}
 use Rattle.vms_check.specs.declared.mismatch.Mismatch.{Mismatch}
 use Rattle.vms_spec.specs.Sets.{Set}
-use Rattle.vms_commands.specs.Fetching.{fetched, longest_file, word_set}
+use Rattle.vms_commands.specs.Fetching.{fetched, longest_file, named_sets, word_set}
 use Rattle.vms_commands.specs.Lines.{bad_words, read_fault, write_fault, shelf_fault, out_of_memory, refused_line}
 use Rattle.vms_commands.specs.Outcomes.{Part, Outcome, DoesOrStops, done, ended, text_of, text_begun, Outside, HasPart}
 use Rattle.vms_commands.specs.SetWords.{SetWord}
@@ -45,11 +45,14 @@ use Rattle.vms_script.specs.Lines.{ScriptLine}
 use Rattle.vms_script.specs.Script.{Reading, script_read}
 use Rattle.vms_cli.specs.Answers.{HasOutcome, Answers}
 use Rattle.vms_cli.specs.Check.{checked, compared, compatible_text, verdict}
-use Rattle.vms_cli.specs.Commands.{Asked, IsaBoard, Show, Pack, Check, Save, Load, Drill, Play, asked_of}
+use Rattle.vms_cli.specs.Commands.{Asked, IsaBoard, Show, Pack, Check, Counter, Save, Load, Drill, Play, asked_of}
+use Rattle.vms_counter_laws.specs.Computed.{computed}
+use Rattle.vms_cli.specs.Counter.{CountersBy, counted, counter_text}
 use Rattle.vms_cli.specs.Laws.{HasOneOutcome, OutcomeLaw, CanBePacked, CanBeDone, HasRoom, IsAmple, PromisesKept, CompleteLaw}
 use Rattle.vms_cli.specs.Pack.{described_stream, packed_by, packs}
 use Rattle.vms_cli.specs.Show.{ShowsBy, Values as Printed, Refuses}
 use Rattle.vms_cli.proofs.CheckLemmas.{sound_check}
+use Rattle.vms_cli.proofs.CounterLemmas.{AreFit, counters_text, fit_sets, sound_counter, text_counters}
 use Rattle.vms_cli.proofs.PackLemmas.{pack_gives, sound_pack}
 use Rattle.vms_cli.proofs.ShowLemmas.{shown_is, refused_is}
 use Rattle.vms_cli.proofs.VerdictLaws.{StopsAt}
@@ -91,7 +94,7 @@ one_shown word input held ok =
     let one = one_by (word_set (Some held) word) input held ok (sound_word_set (Some held) word) (fit_word (Some held) word) in
     record { outcome = one.outcome; is = one.is; only = one.only }
 
--- ---- those of `pack` and `check`
+-- ---- those of `pack`, `check` and `counter`
 
 one_packed : (word : SetWord) (name : List ℕ) (input : List ℕ) (held : Held) → HasOneOutcome (Some (Pack word name)) input held
 one_packed word name input held =
@@ -102,6 +105,17 @@ one_checked : (old new : SetWord) (input : List ℕ) (held : Held) → HasOneOut
 one_checked old new input held =
     let one = one_text held (checked (Some held) old new) (sound_check (Some held) old new) in
     record { outcome = one.outcome; is = one.is; only = one.only }
+
+one_counted : (old new : SetWord) (input : List ℕ) (held : Held) → HasOneOutcome (Some (Counter old new)) input held
+one_counted old new input held =
+    let step = named_sets (Some held) old new in
+    let fit = fit_sets (Some held) old new in
+    let one = one_text held (next step counted) (sound_counter (Some held) old new) in
+    record {
+      outcome = one.outcome;
+      is = text_counters (Some held) step one.outcome fit one.is;
+      only = λ other has. one.only other (counters_text (Some held) step other fit has);
+    }
 
 one_saved : (level set : ℕ) (script input : List ℕ) (held : Held) → HasOneOutcome (Some (Save (IsaBoard level) set script)) input held
 one_saved level set script input held =
@@ -163,6 +177,7 @@ outcome_holds None input held ok by = record { outcome = ended 2 bad_words 0; is
 outcome_holds (Some (Show word)) input held ok by = one_shown word input held ok
 outcome_holds (Some (Pack word name)) input held ok by = one_packed word name input held
 outcome_holds (Some (Check old new)) input held ok by = one_checked old new input held
+outcome_holds (Some (Counter old new)) input held ok by = one_counted old new input held
 outcome_holds (Some (Save (IsaBoard level) set script)) input held ok by = one_saved level set script input held
 outcome_holds (Some (Load (IsaBoard level) script)) input held ok by = one_loaded level script input held ok
 outcome_holds (Some (Play level script)) input held ok by = one_played level script input held by.0 by.1
@@ -252,6 +267,15 @@ can_be (Some (Check old new)) input held can =
     record {
       outcome = outcome;
       is = subst (λ (s : Step (Both Set)). HasText held (next s compared) outcome) (sym can.1) agrees;
+      status = refl;
+      note = refl;
+    }
+can_be (Some (Counter old new)) input held can =
+    let outcome = done (counter_text can.0.old can.0.new (computed can.0.old can.0.new)) held 0 in
+    let fit : AreFit (Gives can.0) = subst AreFit can.1 (fit_sets held old new) in
+    record {
+      outcome = outcome;
+      is = subst (λ (s : Step (Both Set)). CountersBy s held outcome) (sym can.1) (text_counters held (Gives can.0) outcome fit refl);
       status = refl;
       note = refl;
     }

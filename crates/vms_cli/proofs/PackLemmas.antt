@@ -42,7 +42,7 @@ pub read_ready : (set : Set) → IsFit set → (text : List ℕ) (v : Given) →
 read_ready set fit text v reads = ready_of set fit text (values_read set text) v refl reads
 
 -- the machine of a number
-named : (set : Set) (machine : Option ℕ) → ForSome machine (λ m. m < length set.machines) → at_option set.machines machine ≡ machine_of set machine
+pub named : (set : Set) (machine : Option ℕ) → ForSome machine (λ m. m < length set.machines) → at_option set.machines machine ≡ machine_of set machine
 named set None h = refl
 named set (Some m) h = slice_get-get_or set.machines m [] (h m refl)
 

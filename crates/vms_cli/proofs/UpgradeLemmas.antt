@@ -11,13 +11,14 @@ use Rattle.vms_check.specs.Carrying.{carried}
 use Rattle.vms_stream.specs.Streams.{Takes}
 use Rattle.vms_check_laws.proofs.Upgraded.{upgrade_stands}
 use Rattle.vms_commands.specs.Fetching.{SetText, fetched_set, named_sets, set_in, sets_in, word_set}
+use Rattle.vms_commands.specs.SetWords.{SetWord}
 use Rattle.vms_commands.specs.Outcomes.{Outcome, Outside, DoesOrStops}
 use Rattle.vms_commands.specs.Steps.{Step, Untold, Gives, Ends, Both, both, next}
 use Rattle.vms_commands.proofs.FileSets.{FitStep, fit_word}
 use Rattle.vms_cli.specs.Answers.{HasOutcome}
 use Rattle.vms_cli.specs.Check.{AreCompatible, Verdict}
 use Rattle.vms_cli.specs.Laws.{CheckThenShowLaw}
-use Rattle.vms_cli.specs.Commands.{Asked, Show, Pack, Check, Save, Load, Drill, Play}
+use Rattle.vms_cli.specs.Commands.{Asked, Show, Pack, Check, Counter, Save, Load, Drill, Play}
 use Rattle.vms_cli.specs.Show.{Shows, ShowsBy, Values as Printed}
 use Rattle.vms_cli.specs.Upgrade.{IsWritten, Upgrade, UpgradesTo, shown_newer}
 
@@ -47,6 +48,7 @@ upgrade_so (Some (Show word)) status old new all =
     upgrades_by (word_set old.shelf.held word) (fit_word old.shelf.held word) status old new all
 upgrade_so (Some (Pack set name)) status old new all = tt
 upgrade_so (Some (Check older newer)) status old new all = tt
+upgrade_so (Some (Counter older newer)) status old new all = tt
 upgrade_so (Some (Save board set script)) status old new all = tt
 upgrade_so (Some (Load board script)) status old new all = tt
 upgrade_so (Some (Play level script)) status old new all = tt
@@ -72,6 +74,10 @@ module _ (sets : Both Set) where
   fetched_both (Gives x) (Ends status line) e = cc
   fetched_both (Gives x) (Gives y) e = read_both (set_in x) (set_in y) e
 
+pub named_both : (sets : Both Set) (held : Option Held) (old new : SetWord) → named_sets held old new ≡ Gives sets
+    → (word_set held old ≡ Gives sets.old) × (word_set held new ≡ Gives sets.new)
+named_both sets held old new gives = fetched_both sets (fetched_set held old) (fetched_set held new) gives
+
 are_so : (s : Step (Both Set)) (sets : Both Set) → s ≡ Gives sets → AreCompatible s → Compatible sets.old sets.new
 are_so s sets e h = subst AreCompatible e h
 
@@ -80,7 +86,7 @@ fit_so s set e h = subst FitStep e h
 
 pub check_then_show : CheckThenShowLaw
 check_then_show one other old new sets a b c d status checks shows gives checked held shown machine text images w left =
-    let words = fetched_both sets (fetched_set a.shelf.held old) (fetched_set a.shelf.held new) gives in
+    let words = named_both sets a.shelf.held old new gives in
     let verdict : Verdict (Some (Check old new)) a.shelf.held 0 = subst (λ (x : Option Asked). Verdict x a.shelf.held 0) checks checked.verdict in
     let compatible : Compatible sets.old sets.new = are_so (named_sets a.shelf.held old new) sets gives (verdict refl) in
     let upgrade : Upgrade (Some (Show new)) status c d = subst (λ (x : Option Asked). Upgrade x status c d) shows shown.upgrade in

@@ -6,7 +6,7 @@ use Rattle.vms_io.specs.Shelves.{Held}
 use Rattle.vms_commands.specs.SetWords.{ShippedSet, SetWord, named_in, set_word, shipped_word}
 use Rattle.vms_script.specs.Names.{is_shelf_name}
 use Rattle.vms_session.specs.Laws.{HoldsAll}
-use Rattle.vms_cli.specs.Commands.{Asked, BoardWord, Pack, board_word, board_words, check_of, drill_of, few_events, isa_level, load_of, number_word, on_board, pack_of, pair_of, play_of, save_of, save_under, saved_set, show_of, triple_of}
+use Rattle.vms_cli.specs.Commands.{Asked, BoardWord, Pack, board_word, board_words, check_of, counter_of, drill_of, few_events, isa_level, load_of, number_word, on_board, pack_of, pair_of, play_of, save_of, save_under, saved_set, show_of, triple_of}
 use Rattle.vms_cli.specs.Laws.{GoesBy, WordsLaw}
 
 -- ---- levels
@@ -52,6 +52,12 @@ module _ (held : Held) (holds : HoldsAll held) where
   check-goes (Some old) None = tt
   check-goes (Some old) (Some new) = tt
 
+  counter-goes : (old new : Option SetWord) → GoesBy (counter_of old new) held
+  counter-goes None None = tt
+  counter-goes None (Some new) = tt
+  counter-goes (Some old) None = tt
+  counter-goes (Some old) (Some new) = tt
+
   pack-goes : (set : Option SetWord) (values : List ℕ) → GoesBy (pack_of set values) held
   pack-goes None values = tt
   pack-goes (Some set) values = either-goes (is_shelf_name values) (Some (Pack set values)) None tt tt
@@ -92,9 +98,10 @@ module _ (held : Held) (holds : HoldsAll held) where
   unfolding pair_of
   pair-goes name one other =
       either-goes (bytes_eq name (codes "check")) (check_of (set_word one) (set_word other)) _ (check-goes (set_word one) (set_word other))
+      (either-goes (bytes_eq name (codes "counter")) (counter_of (set_word one) (set_word other)) _ (counter-goes (set_word one) (set_word other))
       (either-goes (bytes_eq name (codes "pack")) (pack_of (set_word one) other) _ (pack-goes (set_word one) other)
       (either-goes (bytes_eq name (codes "load")) (load_of (on_board (board_word one) other)) _ (load-goes (on_board (board_word one) other))
-      (either-goes (bytes_eq name (codes "play")) (play_of (on_board (isa_level (board_word one)) other)) None (play-goes (isa_level (board_word one)) other (board-level one)) tt)))
+      (either-goes (bytes_eq name (codes "play")) (play_of (on_board (isa_level (board_word one)) other)) None (play-goes (isa_level (board_word one)) other (board-level one)) tt))))
 
   triple-goes : (name one two three : List ℕ) → GoesBy (triple_of name one two three) held
   unfolding triple_of

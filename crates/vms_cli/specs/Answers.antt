@@ -2,7 +2,7 @@
 use Rattle.std.specs.Prelude.{◌≡◌, ◌⊎◌, ℕ, List, Option, Some, None}
 use Rattle.std.specs.Io.KnownBytes.{Appends}
 use Rattle.vms_io.specs.Shelves.{Held}
-use Rattle.vms_commands.specs.Fetching.{is_on_shelf, word_set}
+use Rattle.vms_commands.specs.Fetching.{is_on_shelf, named_sets, word_set}
 use Rattle.vms_commands.specs.Lines.{bad_words}
 use Rattle.vms_commands.specs.Outcomes.{Outcome, done, ended, Outside, DoesOrStops, NotesFault, CountsStand, PromisesStay}
 use Rattle.vms_commands.specs.Steps.{HasText}
@@ -14,7 +14,8 @@ use Rattle.vms_board_commands.specs.Play.{PlayAnswers, PlaysBy}
 use Rattle.vms_board_commands.specs.Save.{saved_after}
 use Rattle.vms_board_commands.specs.Scripts.{scripted}
 use Rattle.vms_cli.specs.Check.{checked, asks_shelf, CheckAnswers, Verdict}
-use Rattle.vms_cli.specs.Commands.{Asked, IsaBoard, Show, Pack, Check, Save, Load, Drill, Play, asked_of}
+use Rattle.vms_cli.specs.Commands.{Asked, IsaBoard, Show, Pack, Check, Counter, Save, Load, Drill, Play, asked_of}
+use Rattle.vms_cli.specs.Counter.{CountersBy, CounterAnswers}
 use Rattle.vms_cli.specs.Continuation.{Continuation}
 use Rattle.vms_cli.specs.Pack.{packs}
 use Rattle.vms_cli.specs.Show.{ShowsBy, ShowAnswers}
@@ -27,6 +28,7 @@ HasOutcome None input held o = o ≡ ended 2 bad_words 0
 HasOutcome (Some (Show set)) input held o = ShowsBy (word_set held set) input held o
 HasOutcome (Some (Pack set name)) input held o = HasText held (packs held set name) o
 HasOutcome (Some (Check old new)) input held o = HasText held (checked held old new) o
+HasOutcome (Some (Counter old new)) input held o = CountersBy (named_sets held old new) held o
 HasOutcome (Some (Save (IsaBoard level) set script)) input held o =
     HasText held (saved_after isa level set held script) o
 HasOutcome (Some (Load (IsaBoard level) script)) input held o =
@@ -48,6 +50,7 @@ CanAnswer (Some (Show set)) status old new =
     ShowAnswers (is_on_shelf set) (word_set old.shelf.held set) status old new
 CanAnswer (Some (Pack set name)) status old new = TextAnswers status old new
 CanAnswer (Some (Check one other)) status old new = CheckAnswers (asks_shelf one other) status old new
+CanAnswer (Some (Counter one other)) status old new = CounterAnswers (asks_shelf one other) status old new
 CanAnswer (Some (Save board set script)) status old new = TextAnswers status old new
 CanAnswer (Some (Load (IsaBoard level) script)) status old new =
     LoadAnswers isa level (scripted None old.shelf.held script) status old new

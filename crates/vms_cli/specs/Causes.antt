@@ -13,7 +13,7 @@ use Rattle.vms_board.specs.Isa.{isa}
 use Rattle.vms_board_commands.specs.Causes.{DrillCauses, LoadCauses, PlayCauses}
 use Rattle.vms_board_commands.specs.Scripts.{scripted}
 use Rattle.vms_cli.specs.Check.{asks_shelf}
-use Rattle.vms_cli.specs.Commands.{Asked, IsaBoard, Show, Pack, Check, Save, Load, Drill, Play}
+use Rattle.vms_cli.specs.Commands.{Asked, IsaBoard, Show, Pack, Check, Counter, Save, Load, Drill, Play}
 use Rattle.vms_cli.specs.Show.{GivesWithin, ShowHears}
 
 -- once the set of `show` is there
@@ -61,6 +61,26 @@ CheckCause asks out out' shelf shelf' (TooLarge line) = (asks ≡ true) × Keeps
 CheckCause asks out out' shelf shelf' NoMemory = Keeps out.written out'.written
 CheckCause asks out out' shelf shelf' _ = ⊥
 
+-- once the sets of `counter` are fetched
+abbrev pub FindCause : Bool → Outlet → Outlet → Ending → Type 0
+FindCause asks out out' Done = Unit {0}
+FindCause asks out out' (BadText line) = (asks ≡ true) × Keeps out.written out'.written
+FindCause asks out out' WriteFault = Rose out.faults out'.faults
+FindCause asks out out' NoMemory = Keeps out.written out'.written
+FindCause asks out out' ending = ⊥
+
+-- `asks` says whether the shelf is asked
+abbrev pub CounterCause : Bool → (out out' : Outlet) (shelf shelf' : Stock) → Ending → Type 0
+CounterCause asks out out' shelf shelf' Done = Unit {0}
+CounterCause asks out out' shelf shelf' (BadText line) = (asks ≡ true) × Keeps out.written out'.written
+CounterCause asks out out' shelf shelf' WriteFault = Rose out.faults out'.faults
+CounterCause asks out out' shelf shelf' ShelfFault =
+    (asks ≡ true) × Rose shelf.faults shelf'.faults × Keeps out.written out'.written
+CounterCause asks out out' shelf shelf' (NotThere line) = (asks ≡ true) × Keeps out.written out'.written
+CounterCause asks out out' shelf shelf' (TooLarge line) = (asks ≡ true) × Keeps out.written out'.written
+CounterCause asks out out' shelf shelf' NoMemory = Keeps out.written out'.written
+CounterCause asks out out' shelf shelf' _ = ⊥
+
 abbrev pub IsBadWords : Ending → Type 0
 IsBadWords BadWords = Unit {0}
 IsBadWords _ = ⊥
@@ -82,12 +102,19 @@ CheckCauses asks input input' out out' shelf shelf' ending =
     CheckCause asks out out' shelf shelf' ending × (input' ≡ input) × (shelf'.held ≡ shelf.held)
     × (asks ≡ false → shelf' ≡ shelf)
 
+abbrev pub CounterCauses : Bool → (input input' : Intake) (out out' : Outlet) (shelf shelf' : Stock) → Ending → Type 0
+CounterCauses asks input input' out out' shelf shelf' ending =
+    CounterCause asks out out' shelf shelf' ending × (input' ≡ input) × (shelf'.held ≡ shelf.held)
+    × (asks ≡ false → shelf' ≡ shelf)
+
 abbrev pub EndsCause : Option Asked → (input input' : Intake) (out out' : Outlet) (shelf shelf' : Stock) → Ending → Type 0
 EndsCause None input input' out out' shelf shelf' ending = BadWordsCauses input input' out out' shelf shelf' ending
 EndsCause (Some (Show set)) input input' out out' shelf shelf' ending = ShowCauses set input input' out out' shelf shelf' ending
 EndsCause (Some (Pack set name)) input input' out out' shelf shelf' ending = TextCauses input input' out out' shelf shelf' ending
 EndsCause (Some (Check old new)) input input' out out' shelf shelf' ending =
     CheckCauses (asks_shelf old new) input input' out out' shelf shelf' ending
+EndsCause (Some (Counter old new)) input input' out out' shelf shelf' ending =
+    CounterCauses (asks_shelf old new) input input' out out' shelf shelf' ending
 EndsCause (Some (Save board set script)) input input' out out' shelf shelf' ending =
     TextCauses input input' out out' shelf shelf' ending
 EndsCause (Some (Load (IsaBoard level) script)) input input' out out' shelf shelf' ending =

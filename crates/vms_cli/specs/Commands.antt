@@ -12,13 +12,14 @@ use Rattle.vms_commands.specs.SetWords.{Isa, ShippedSet, SetWord, named_in, set_
 pub data BoardWord : Type 0 where
   IsaBoard : ℕ → BoardWord
 
--- prints the values text of a stream, writes the stream of a values text on the shelf, compares two sets, writes the stream of
--- a board under a set after a script, lets a script go on from the board that a stream restores, drills a
+-- prints the values text of a stream, writes the stream of a values text on the shelf, compares two sets, looks for a state that
+-- shows why they aren't compatible, writes the stream of a board under a set after a script, lets a script go on from the board that a stream restores, drills a
 -- board, or plays a session
 pub data Asked : Type 0 where
   Show : SetWord → Asked
   Pack : SetWord → List ℕ → Asked
   Check : (old new : SetWord) → Asked
+  Counter : (old new : SetWord) → Asked
   Save : BoardWord → ℕ → List ℕ → Asked
   Load : BoardWord → List ℕ → Asked
   Drill : (level seed count : ℕ) → Asked
@@ -31,6 +32,10 @@ show_of (Some set) = Some (Show set)
 abbrev pub check_of : Option SetWord → Option SetWord → Option Asked
 check_of (Some old) (Some new) = Some (Check old new)
 check_of _ _ = None
+
+abbrev pub counter_of : Option SetWord → Option SetWord → Option Asked
+counter_of (Some old) (Some new) = Some (Counter old new)
+counter_of _ _ = None
 
 abbrev pub pack_of : Option SetWord → List ℕ → Option Asked
 pack_of None values = None
@@ -67,6 +72,7 @@ play_of (Some (level, script)) = Some (Play level script)
 unfoldable pub pair_of : List ℕ → List ℕ → List ℕ → Option Asked
 pair_of name one other =
     if bytes_eq name (codes "check") then check_of (set_word one) (set_word other)
+    else if bytes_eq name (codes "counter") then counter_of (set_word one) (set_word other)
     else if bytes_eq name (codes "pack") then pack_of (set_word one) other
     else if bytes_eq name (codes "load") then load_of (on_board (board_word one) other)
     else if bytes_eq name (codes "play") then play_of (on_board (isa_level (board_word one)) other) else None

@@ -4,8 +4,10 @@ pub mod Causes
 pub mod Check
 pub mod Commands
 pub mod Continuation
+pub mod Counter
 pub mod Laws
 pub mod Pack
 pub mod Show
+pub mod States
 pub mod Upgrade
 pub mod ValuesLines

@@ -1,4 +1,5 @@
-//! Each law is the contract of a function without a body. The statements stand in `specs/Laws.antt`.
+//! Each law is the contract of a function without a body. The statements stand in `specs/Laws.antt` and `specs/States.antt`.
+ghost use Rattle.vms_cli.specs.States.{AlwaysNamedLaw, StateLaw};
 ghost use Rattle.vms_cli.specs.Laws.{CheckThenShowLaw, OutcomeLaw, CompleteLaw, PackThenShowLaw, ShowThenPackLaw, WordsLaw};
 
 /// Whatever words, input of bytes and shelf there are, a call has an outcome, and no other; of `play` the shelf is one of
@@ -30,4 +31,19 @@ pub fn pack_then_show_law()
 /// Of the text that `show` gives for a written stream, with a machine or without one, `pack` gives that stream again.
 pub fn show_then_pack_law()
     ensures { ShowThenPackLaw }
+{}
+
+/// Where the answer to the sets that the words of `counter` name is a state, `counter` prints it; the old set packs its text;
+/// and what that set writes of it, without a description, `show` refuses with the new set at the place that was printed, for
+/// that reason, and with a description too, unless the reason is that the stream ends too early.
+#[tactic(auto, using(crate::proofs::StateLaws::state_stands))]
+pub fn state_law()
+    ensures { StateLaw }
+{}
+
+/// Where the first rule that fails is that of machines, of a device's version, or of a constant at a device's field that is
+/// always there, and the old set's defaults are ready, `counter` prints them as a state that the new set refuses.
+#[tactic(auto, using(crate::proofs::StateLaws::always_named))]
+pub fn always_named_law()
+    ensures { AlwaysNamedLaw }
 {}

@@ -4,6 +4,7 @@
 mod board_words;
 mod boards;
 mod check;
+mod counter;
 pub mod laws;
 mod pack;
 mod show;

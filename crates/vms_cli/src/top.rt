@@ -9,6 +9,7 @@ ghost use Rattle.vms_commands.specs.Outcomes.{Outcome};
 
 use crate::boards::{BoardWord, SavedBoard};
 use crate::check::check;
+use crate::counter::counter;
 use crate::pack::pack;
 use crate::show::show;
 use crate::{Command, Words};
@@ -106,6 +107,7 @@ fn run<I: Source, O: Sink, H: Shelf>(
         Some(Command::Show { set }) => show(alloc, set, input, out, shelf),
         Some(Command::Pack { set, values }) => pack(alloc, set, values, out, shelf),
         Some(Command::Check { old, new }) => check(alloc, old, new, out, shelf),
+        Some(Command::Counter { old, new }) => counter(alloc, old, new, out, shelf),
         Some(
             Command::Save {
                 board: SavedBoard::Isa(board),

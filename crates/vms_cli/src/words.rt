@@ -4,7 +4,7 @@ ghost use Rattle.std.specs.Str.{bytes_eq};
 ghost use Rattle.std.specs.Option.{option_map};
 ghost use Rattle.vms_commands.specs.SetWords.{set_word, shipped_word};
 ghost use Rattle.vms_cli.specs.Asks.{asked, board_asked};
-ghost use Rattle.vms_cli.specs.Commands.{asked_of, board_word, check_of, drill_of, few_events, isa_level, load_of, number_word, on_board, pack_of, pair_of, play_of, save_of, show_of, triple_of};
+ghost use Rattle.vms_cli.specs.Commands.{asked_of, board_word, check_of, counter_of, drill_of, few_events, isa_level, load_of, number_word, on_board, pack_of, pair_of, play_of, save_of, show_of, triple_of};
 
 use crate::board_words::{board_word, events_word, isa_board, number_word};
 use crate::boards::{BoardWord, IsaBoard, IsaSaved, SavedBoard};
@@ -28,6 +28,11 @@ pub(crate) enum Command<'a> {
     },
     /// `check OLD NEW`
     Check {
+        old: SetWord<'a>,
+        new: SetWord<'a>,
+    },
+    /// `counter OLD NEW`
+    Counter {
         old: SetWord<'a>,
         new: SetWord<'a>,
     },
@@ -132,6 +137,8 @@ fn pair_of<'a>(name: &str, one: &'a str, other: &'a str) -> Option<Command<'a>>
 {
     if name == "check" {
         check_of(one, other)
+    } else if name == "counter" {
+        counter_of(one, other)
     } else if name == "pack" {
         pack_of(one, other)
     } else if name == "load" {
@@ -148,6 +155,15 @@ fn check_of<'a>(old: &'a str, new: &'a str) -> Option<Command<'a>>
 {
     match (set_word(old), set_word(new)) {
         (Some(old), Some(new)) => Some(Command::Check { old, new }),
+        _ => None,
+    }
+}
+
+fn counter_of<'a>(old: &'a str, new: &'a str) -> Option<Command<'a>>
+    ensures { option_map asked result ≡ counter_of (set_word old.now) (set_word new.now) }
+{
+    match (set_word(old), set_word(new)) {
+        (Some(old), Some(new)) => Some(Command::Counter { old, new }),
         _ => None,
     }
 }

@@ -1,0 +1,221 @@
+// The command `counter`: a state that shows why a newer set refuses what an older one writes.
+ghost use Rattle.std.specs.Prelude.{◌≡◌, ◌≤◌, ◌<◌, ◌^◌, ◌++◌, ◌||◌, false, length, map, IfSome, IfOk, string_bytes};
+ghost use Rattle.vms_io.specs.Told.{Intake, outlet, stock};
+ghost use Rattle.vms_io.specs.Writing.{Wrote};
+ghost use Rattle.vms_spec.specs.Lists.{at_option};
+ghost use Rattle.vms_spec.specs.Values.{values_text};
+ghost use Rattle.vms_desc.specs.Described.{described};
+ghost use Rattle.vms_image.specs.Typed.{state_of, AreImagesOf};
+ghost use Rattle.vms_load.specs.Kept.{loads};
+ghost use Rattle.vms_counter_laws.specs.Computed.{computed};
+ghost use Rattle.vms_counter.specs.Found.{answer_of, IsFindingOf};
+ghost use Rattle.vms_commands.specs.Asks.{set_asked};
+ghost use Rattle.vms_commands.specs.Endings.{EndsAs};
+ghost use Rattle.vms_commands.specs.Fetching.{is_text, named_sets, set_in, sets_in};
+ghost use Rattle.vms_commands.specs.Lines.{refused_line};
+ghost use Rattle.vms_commands.specs.Outcomes.{Outcome};
+ghost use Rattle.vms_commands.specs.SetLines.{mismatch_line};
+ghost use Rattle.vms_commands.specs.StepEndings.{TextEnds, WrittenAs, text_of};
+ghost use Rattle.vms_commands.specs.Steps.{next};
+ghost use Rattle.vms_cli.specs.Causes.{CounterCause, FindCause};
+ghost use Rattle.vms_cli.specs.Check.{asks_shelf};
+ghost use Rattle.vms_cli.specs.Counter.{CountersBy, counted, counter_text, no_state};
+
+use std::alloc::Global;
+use vms_check::Mismatch;
+use vms_commands::{
+    Ending, SetText, SetWord, fetch_set, mismatch_line, read_fetched, refused_line,
+};
+use vms_counter::Finding;
+use vms_desc::DescSet;
+use vms_image::Image;
+use vms_io::{NoMemory, Shelf, Sink, WriteFault, write_all_of};
+use vms_load::{Loader, Refusal};
+use vms_values::print_values;
+
+pub(crate) fn counter<O: Sink, H: Shelf>(
+    alloc: Global,
+    old: SetWord,
+    new: SetWord,
+    out: &mut O,
+    shelf: &mut H,
+) -> Ending
+    ensures content { (input : Intake) (o : Outcome) → input.given < 2 ^ 64
+        → CountersBy (named_sets (H.held shelf.old) (set_asked old.entry) (set_asked new.entry))
+        (H.held shelf.old) o
+        → EndsAs input input (outlet O.Sink out.old) (outlet O.Sink out.new)
+        (stock H.Shelf shelf.old) (stock H.Shelf shelf.new) result o }
+    ensures cause { CounterCause (asks_shelf (set_asked old.entry) (set_asked new.entry))
+        (outlet O.Sink out.old) (outlet O.Sink out.new)
+        (stock H.Shelf shelf.old) (stock H.Shelf shelf.new) result }
+    ensures unasked { asks_shelf (set_asked old.entry) (set_asked new.entry) ≡ false
+        → stock H.Shelf shelf.new ≡ stock H.Shelf shelf.old }
+    ensures held { H.held shelf.new ≡ H.held shelf.old }
+    ensures out_count { O.faults out.old ≤ O.faults out.new }
+    ensures shelf_count { H.faults shelf.old ≤ H.faults shelf.new }
+    ensures out_promise { O.promise out.new ≡ O.promise out.old }
+    ensures shelf_promise { H.promise shelf.new ≡ H.promise shelf.old }
+{
+    let old = match fetch_set(alloc, old, shelf) {
+        Ok(text) => text,
+        Err(ending) => return ending,
+    };
+    let new = match fetch_set(alloc, new, shelf) {
+        Ok(text) => text,
+        Err(ending) => return ending,
+    };
+    counter_texts(alloc, &old, &new, out)
+}
+
+// Once both sets are fetched.
+fn counter_texts<O: Sink>(alloc: Global, old: &SetText, new: &SetText, out: &mut O) -> Ending
+    ensures ends { TextEnds
+        (next (sets_in (record { old = text_of old.now; new = text_of new.now })) counted)
+        (outlet O.Sink out.old) (outlet O.Sink out.new) result }
+    ensures cause { FindCause (is_text (text_of old.now) || is_text (text_of new.now))
+        (outlet O.Sink out.old) (outlet O.Sink out.new) result }
+    ensures count { O.faults out.old ≤ O.faults out.new }
+    ensures promise { O.promise out.new ≡ O.promise out.old }
+{
+    match read_fetched(alloc, old) {
+        Ok(old) => counter_text(alloc, &old, new, out),
+        Err(ending) => ending,
+    }
+}
+
+// Once the old set is read.
+fn counter_text<O: Sink>(alloc: Global, old: &DescSet, new: &SetText, out: &mut O) -> Ending
+    ensures ends { TextEnds
+        (next (set_in (text_of new.now))
+        (λ set. counted (record { old = described old.now; new = set })))
+        (outlet O.Sink out.old) (outlet O.Sink out.new) result }
+    ensures cause { FindCause (is_text (text_of new.now))
+        (outlet O.Sink out.old) (outlet O.Sink out.new) result }
+    ensures count { O.faults out.old ≤ O.faults out.new }
+    ensures promise { O.promise out.new ≡ O.promise out.old }
+{
+    match read_fetched(alloc, new) {
+        Ok(new) => find(alloc, old, new, out),
+        Err(ending) => ending,
+    }
+}
+
+fn find<O: Sink>(alloc: Global, old: &DescSet, new: DescSet, out: &mut O) -> Ending
+    ensures ends { WrittenAs (counter_text (described old.now) (described new)
+        (computed (described old.now) (described new)))
+        (outlet O.Sink out.old) (outlet O.Sink out.new) result }
+    ensures cause { FindCause false (outlet O.Sink out.old) (outlet O.Sink out.new) result }
+    ensures count { O.faults out.old ≤ O.faults out.new }
+    ensures promise { O.promise out.new ≡ O.promise out.old }
+{
+    match Loader::new(alloc, new) {
+        Ok(mut loader) => find_with(alloc, old, &mut loader, out),
+        Err(_) => Ending::NoMemory,
+    }
+}
+
+// Once there is a loader of the new set.
+fn find_with<O: Sink>(alloc: Global, old: &DescSet, new: &mut Loader, out: &mut O) -> Ending
+    ensures ends { WrittenAs (counter_text (described old.now) (loads new.old)
+        (computed (described old.now) (loads new.old)))
+        (outlet O.Sink out.old) (outlet O.Sink out.new) result }
+    ensures cause { FindCause false (outlet O.Sink out.old) (outlet O.Sink out.new) result }
+    ensures count { O.faults out.old ≤ O.faults out.new }
+    ensures promise { O.promise out.new ≡ O.promise out.old }
+{
+    match vms_counter::counter(alloc, old, new) {
+        Ok(finding) => write_finding(alloc, old, new.set(), &finding, out),
+        Err(_) => Ending::NoMemory,
+    }
+}
+
+fn write_finding<O: Sink>(
+    alloc: Global,
+    old: &DescSet,
+    new: &DescSet,
+    finding: &Finding,
+    out: &mut O,
+) -> Ending
+    requires { IsFindingOf (described old.now) finding.now }
+    ensures ends { WrittenAs (counter_text (described old.now) (described new.now)
+        (answer_of (described old.now) finding.now))
+        (outlet O.Sink out.old) (outlet O.Sink out.new) result }
+    ensures cause { FindCause false (outlet O.Sink out.old) (outlet O.Sink out.new) result }
+    ensures count { O.faults out.old ≤ O.faults out.new }
+    ensures promise { O.promise out.new ≡ O.promise out.old }
+{
+    match finding {
+        Finding::Compatible => write_text(b"compatible\n", out),
+        Finding::NoState(mismatch) => match no_state_text(alloc, *mismatch) {
+            Ok(text) => write_text(text.as_bytes(), out),
+            Err(_) => Ending::NoMemory,
+        },
+        Finding::State {
+            mismatch,
+            machine,
+            images,
+            refusal,
+        } => match head_of(alloc, new, *mismatch, refusal) {
+            Ok(head) => match write_state(&head, old, *machine, images, out) {
+                Ok(()) => Ending::Done,
+                Err(_) => Ending::WriteFault,
+            },
+            Err(_) => Ending::NoMemory,
+        },
+    }
+}
+
+fn write_text<O: Sink>(text: &[u8], out: &mut O) -> Ending
+    ensures ends { WrittenAs text.now (outlet O.Sink out.old) (outlet O.Sink out.new) result }
+    ensures cause { FindCause false (outlet O.Sink out.old) (outlet O.Sink out.new) result }
+    ensures count { O.faults out.old ≤ O.faults out.new }
+    ensures promise { O.promise out.new ≡ O.promise out.old }
+{
+    match write_all_of(out, text) {
+        Ok(()) => Ending::Done,
+        Err(_) => Ending::WriteFault,
+    }
+}
+
+fn no_state_text(alloc: Global, mismatch: Mismatch) -> Result<String, NoMemory>
+    ensures { IfOk result (λ text. string_bytes text ≡ mismatch_line mismatch ++ no_state) }
+{
+    let line = mismatch_line(alloc, mismatch)?;
+    Ok(format!(in alloc; "{line}no state\n")?)
+}
+
+// The lines before a state's values: the rule that fails, and where the stream is refused.
+fn head_of(
+    alloc: Global,
+    new: &DescSet,
+    mismatch: Mismatch,
+    refusal: &Refusal,
+) -> Result<Vec<u8>, NoMemory>
+    ensures { let r = refusal.now in IfOk result (λ head. head.items
+        ≡ mismatch_line mismatch ++ refused_line (described new.now) r.at r.section r.reason) }
+{
+    let line = mismatch_line(alloc, mismatch)?;
+    let mut head = Vec::from_slice(alloc, line.as_bytes())?;
+    head.extend_from_slice(refused_line(new, refusal).as_slice())?;
+    Ok(head)
+}
+
+// What stands before a state's values, and the values.
+fn write_state<O: Sink>(
+    head: &[u8],
+    set: &DescSet,
+    machine: Option<u32>,
+    images: &[Image],
+    out: &mut O,
+) -> Result<(), WriteFault>
+    requires machine { IfSome machine (λ m. m < length (described set.now).machines) }
+    requires of { AreImagesOf (described set.now) images.now }
+    ensures { let set = described set.now in let named = at_option set.machines machine in
+        Wrote (outlet O.Sink out.old) (outlet O.Sink out.new)
+        (head.now ++ values_text set named (map state_of images.now)) result }
+{
+    match write_all_of(out, head) {
+        Ok(()) => print_values(set, machine, images, out),
+        Err(_) => Err(WriteFault),
+    }
+}
