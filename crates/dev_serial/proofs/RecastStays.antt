@@ -1,5 +1,5 @@
 -- Cells of the newest set of which no direction's bytes stand in its ring alone are recast already.
-use Rattle.std.proofs.Common.{◌≡◌, ℕ, ℤ, zero, suc, ◌+◌, ◌<◌, Bool, true, false, ◌&&◌, ◌==◌, not, List, [], ◌∷◌, ◌++◌, length, map, replicate, pos, negsuc, ◌≤ℤ◌, refl, sym, ap, ◌∙◌, arith, if◌then◌else◌}
+use Rattle.std.proofs.Common.{◌≡◌, ℕ, ℤ, zero, suc, ◌+◌, ◌<◌, Bool, true, false, ◌&&◌, ◌==◌, not, List, [], ◌∷◌, ◌++◌, length, map, replicate, pos, negsuc, refl, sym, ap, ◌∙◌, arith, if◌then◌else◌}
 use Rattle.std.specs.List.{range_with_len}
 use Rattle.std.proofs.lemmas.Bool.{and_parts, eqb-false}
 use Rattle.std.proofs.lemmas.Int.{ints}
@@ -13,18 +13,18 @@ use Rattle.dev_serial.specs.declared.numbers.PortNumbers.{PortNumbers}
 
 -- ---- all cells but the latch have no sign
 
-are_unsigned : List Kind → Bool
+abbrev are_unsigned : List Kind → Bool
 are_unsigned [] = true
-are_unsigned (kind ∷ kinds) = not (is_signed kind) && are_unsigned kinds
+are_unsigned (kind ∷ rest) = not (is_signed kind) && are_unsigned rest
 
-unsigned_at : (kinds : List Kind) (k : ℕ) → are_unsigned kinds ≡ true → is_signed (kind_at kinds k) ≡ false
+unsigned_at : (list : List Kind) (k : ℕ) → are_unsigned list ≡ true → is_signed (kind_at list k) ≡ false
 unsigned_at [] k e = refl
-unsigned_at (kind ∷ kinds) zero e = no (is_signed kind) (and_parts (not (is_signed kind)) (are_unsigned kinds) e).0
+unsigned_at (kind ∷ rest) zero e = no (is_signed kind) (and_parts (not (is_signed kind)) (are_unsigned rest) e).0
   where
     no : (b : Bool) → not b ≡ true → b ≡ false
     no true e = absurd (cc)
     no false e = refl
-unsigned_at (kind ∷ kinds) (suc k) e = unsigned_at kinds k (and_parts (not (is_signed kind)) (are_unsigned kinds) e).1
+unsigned_at (kind ∷ rest) (suc k) e = unsigned_at rest k (and_parts (not (is_signed kind)) (are_unsigned rest) e).1
 
 unsigned_but : (front back : List Kind) (other : Kind) (k : ℕ) → are_unsigned front ≡ true → are_unsigned back ≡ true → (k ≡ length front → ⊥) → is_signed (kind_at (front ++ other ∷ back) k) ≡ false
 unsigned_but [] back other zero f b e = absurd (e refl)
@@ -51,11 +51,11 @@ not_negative Timer (negsuc n) e h = absurd (omega (arith, ints))
 
 -- ---- the cells of their numbers
 
-kept_at : List ℤ → ℕ → ℤ
+abbrev kept_at : List ℤ → ℕ → ℤ
 kept_at cells k = if k == 12 then cell_at cells k else pos (number_at cells k)
 
 as_run : (cells : List ℤ) → cells_of 4 (numbers_of cells) ≡ map (kept_at cells) (range_with_len 0 84)
-unfolding cells_of numbers_of field_cells array_cells ring_cells kept_at
+unfolding cells_of numbers_of field_cells array_cells ring_cells
 as_run cells = refl
 
 run_is : (f : ℕ → ℤ) (a n : ℕ) (cells : List ℤ) → length cells ≡ n → ((k : ℕ) → k < n → cell_at cells k ≡ f (a + k)) → map f (range_with_len a n) ≡ cells
@@ -70,14 +70,13 @@ run_is f a (suc n) (z ∷ cells) e h =
 
 module _ (cells : List ℤ) (is : AreOf (kinds 4) cells) where
   kept : (k : ℕ) → k < 84 → cell_at cells k ≡ kept_at cells k
-  unfolding kept_at
   kept k lt = go (k == 12) refl where
     go : (b : Bool) → (k == 12) ≡ b → cell_at cells k ≡ (if b then cell_at cells k else pos (number_at cells k))
     go true e = refl
     go false e = sym (not_negative (kind_at (kinds 4) k) (cell_at cells k) (latch_alone k (eqb-false k 12 e)) (is.in_range k lt))
 
   pub cells_back : cells_of 4 (numbers_of cells) ≡ cells
-  cells_back = as_run cells ∙ run_is (kept_at cells) 0 84 cells is.count kept
+  cells_back = as_run cells ∙ run_is (kept_at cells) 0 84 cells is.count (λ k lt. let same : k ≡ 0 + k = omega arith in kept k lt ∙ ap (kept_at cells) same)
 
   stays : (n : PortNumbers) → is_in_ring n.rx n.rx_ring ≡ false → is_in_ring n.tx n.tx_ring ≡ false → recast_port n ≡ n
   stays n rx tx = rw (rx, tx) refl
