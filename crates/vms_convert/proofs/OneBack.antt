@@ -1,6 +1,7 @@
 -- There is one way back.
 use Rattle.std.proofs.Common.{◌≡◌, ◌⊎◌, inl, inr, ℕ, zero, suc, ◌<◌, ◌≤◌, List, length, get_or, map, Option, Some, None, ℤ, pos, refl, sym, ap, ◌∙◌, subst, arith, Bool, true, false, nat_lt}
 use Rattle.std.proofs.lemmas.Bool.{ltb-true, ltb-false}
+use Rattle.std.proofs.lemmas.List.{ext_get_or}
 use Rattle.vms_spec.specs.Sets.{Sub, Device, Set}
 use Rattle.vms_spec.specs.Layout.{no_cell, device_cells}
 use Rattle.vms_spec.specs.Images.{Image, own_cells}
@@ -9,7 +10,6 @@ use Rattle.vms_bodies.proofs.Places.{SameBelow}
 use Rattle.dev_images.specs.Images.{image_of}
 use Rattle.vms_check_laws.specs.SubCells.{IsCellOf}
 use Rattle.vms_convert.specs.Back.{AreTaken, AreSettled, IsBack, taken}
-use Rattle.vms_check_laws.proofs.CarriedLaws.{same_numbers}
 use Rattle.vms_convert.proofs.Known.{AllSound, image_known}
 use Rattle.vms_check_laws.proofs.PartOf.{own_or_sub}
 
@@ -42,13 +42,13 @@ module _ (to : Set) (structs : AreSound to.structs) (d : Device) (own : IsSound 
         let all = below (length (device_cells to d)) (omega arith) in
         let long_a = p.long in
         let long_b = q.long in
-        same_numbers b a (omega (arith, long_a, long_b)) (λ c lt. all.same c (omega (arith, lt, long_b)))
+        ext_get_or (pos 0) b a (omega (arith, long_a, long_b)) (λ c lt. all.same c (omega (arith, lt, long_b)))
 
   pub one_settled : (now a b : List ℤ) → length now ≡ length (device_cells to d) → AreSettled to d now a → AreSettled to d now b → b ≡ a
   one_settled now a b long p q =
       let long_a = p.long in
       let long_b = q.long in
-      same_numbers b a (omega (arith, long_a, long_b)) (λ c lt. by_part c (own_or_sub to d c (omega (arith, lt, long, long_b))))
+      ext_get_or (pos 0) b a (omega (arith, long_a, long_b)) (λ c lt. by_part c (own_or_sub to d c (omega (arith, lt, long, long_b))))
     where
       by_part : (c : ℕ) → (c < own_cells to d) ⊎ ((j : ℕ) × (s : Sub) × IsCellOf to d j s c) → get_or b c (pos 0) ≡ get_or a c (pos 0)
       by_part c (inl lt) = q.own c lt ∙ sym (p.own c lt)
