@@ -19,7 +19,7 @@ use Rattle.dev_serial.specs.Recast.{recast_cells}
 use Rattle.dev_serial.proofs.RecastLaws.{recast_twice}
 use Rattle.vms_convert.specs.Converted.{AreBack, IsConverted, IsPairAt, recast_each}
 use Rattle.vms_convert.specs.Laws.{OneBackLaw, BackLaw, AreRecastOf, Converts, ConvertsLaw}
-use Rattle.vms_convert.specs.Lost.{numbers_in}
+use Rattle.vms_convert.specs.Lost.{KeepsAll, numbers_in}
 use Rattle.vms_check.specs.Partners.{device_partners}
 use Rattle.vms_convert.specs.Recast.{recast, is_port, wants_arrays}
 use Rattle.vms_convert.proofs.BackNormal.{back_normal, back_comes, back_version}
@@ -108,15 +108,21 @@ module _ (to new : Set) (fit : IsFit to) (well : WellFormed new) (compatible : C
     converts =
         let keeps = converted.keeps in
         let text = describe backs in
+        let wanted_is : recast_each to new.devices (numbers_in (carried to new backs)) ≡ wanted =
+        ap (recast_each to new.devices) (sym keeps.cells) ∙ each_twice to new.devices (numbers_in images) in
         let stream = upgrade_stands to new fit.well well compatible machine (Some text) backs keeps.machine_is (short backs) ready in
         record {
           loaded = carried to new backs;
           text = text;
           stream = subst (λ b. IsWholeStream new new.machines b machine (carried to new backs) (Some text)) (sym converted.is) stream;
           cells = sym keeps.cells;
-          again = λ others again.
-              let wanted_is : recast_each to new.devices (numbers_in (carried to new backs)) ≡ wanted =
-              ap (recast_each to new.devices) (sym keeps.cells) ∙ each_twice to new.devices (numbers_in images) in
+          again = record {
+            backs = backs;
+            back = subst (λ (w : List (List ℤ)). AreBack to new w backs) (sym wanted_is) converted.back;
+            keeps = subst (λ (w : List (List ℤ)). KeepsAll to new machine w (numbers_in (carried to new backs)) backs) (sym wanted_is) keeps;
+            is = converted.is;
+          };
+          one = λ others again.
               let one = same_backs wanted backs again.backs converted.back (subst (λ (w : List (List ℤ)). AreBack to new w again.backs) wanted_is again.back) in
               again.is ∙ ap (λ (b : List Image). written to machine b (Some (describe b))) one ∙ sym converted.is;
         }

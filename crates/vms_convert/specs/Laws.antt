@@ -42,13 +42,14 @@ RecastOfLaw = (to : Set) (images : List Image) → length images ≡ length set_
     → ((k : ℕ) (e : Device) (image : Image) → slice_get set_4.devices k ≡ Some e → slice_get images k ≡ Some image → IsNormal set_4 e image) → AreRecastOf to set_4 images
 
 -- What is converted is a stream of the newer set, with the same machine and the recast cells, and converting that again gives the
--- same bytes.
+-- same bytes and no others.
 pub record Converts (to new : Set) (describe : List Image → List ℕ) (machine : Option (List ℕ)) (images : List Image) (bytes : List ℕ) : Type 0 where
   pub loaded : List Image
   pub text : List ℕ
   pub stream : IsWholeStream new new.machines bytes machine loaded (Some text)
   pub cells : numbers_in loaded ≡ recast_each to new.devices (numbers_in images)
-  pub again : (others : List ℕ) → IsConverted to new describe machine loaded others → others ≡ bytes
+  pub again : IsConverted to new describe machine loaded bytes
+  pub one : (others : List ℕ) → IsConverted to new describe machine loaded others → others ≡ bytes
 
 abbrev pub ConvertsLaw : Type 0
 ConvertsLaw = (to new : Set) → IsFit to → WellFormed new → Compatible to new → (describe : List Image → List ℕ) → ((backs : List Image) → length (describe backs) ≤ longest_text)

@@ -26,7 +26,7 @@ pub fn one_lost_law()
 {}
 
 /// A stream that is converted to a set is one of the newer set with the same machine and the recast cells, and
-/// converting that to the set again gives the same bytes.
+/// converting that to the set again gives the same bytes, and no others.
 #[tactic(auto)]
 pub fn converts_law()
     ensures { ConvertsLaw }
