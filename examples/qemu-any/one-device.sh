@@ -4,7 +4,7 @@
 #
 #     sh one-device.sh [FOLDER]
 #
-# Needs sh, perl, qemu-system-x86_64 and vmstate on the path, and takes eight seconds. What it makes stands in FOLDER,
+# Needs sh, perl, qemu-system-x86_64 and vmstate on the path, and takes a second or two. What it makes stands in FOLDER,
 # or in a folder that is gone afterwards. It prints the scratch register of the port as QEMU reads it, before and
 # after, and its status is 0 where that is 00 and a5.
 set -e
@@ -13,24 +13,27 @@ folder=$1
 [ "$folder" ] || { folder=$(mktemp -d); trap 'rm -r "$folder"' EXIT; }
 cd "$folder"
 cp "$here/../qemu-devices/serial.json" .
+rm -f save.log whole.log edited.log
 
 vm() {
     qemu-system-x86_64 -accel tcg -M pc -m 16M -nodefaults -display none -serial null "$@"
 }
 
-# The commands of a QMP session, a second before each.
-qmp() {
-    echo '{"execute": "qmp_capabilities"}'
-    for command; do
-        sleep 1
-        echo "$command"
+# QEMU is asked by QMP how things are until its log, the first word, has a text, the second.
+until_it_says() {
+    until grep -q "$2" "$1" 2> /dev/null; do
+        echo '{"execute": "query-status"} {"execute": "query-migrate"}'
+        sleep 0.1
     done
-    sleep 1
-    echo '{"execute": "quit"}'
 }
 
-qmp '{"execute": "stop"}' '{"execute": "migrate", "arguments": {"uri": "exec:cat > whole.stream"}}' |
-    vm -qmp stdio > save.log
+{
+    echo '{"execute": "qmp_capabilities"}'
+    echo '{"execute": "stop"}'
+    echo '{"execute": "migrate", "arguments": {"uri": "exec:cat > whole.stream"}}'
+    until_it_says save.log '"completed"'
+    echo '{"execute": "quit"}'
+} | vm -qmp stdio > save.log
 
 # A section goes from its mark, id, name and instance to the footer with the same id, before the next mark.
 section='\x04(.{4})\x06serial\0{4}.*?\x7e\1(?=[\0\x04])'
@@ -47,8 +50,14 @@ perl -0777 -e "(\$whole, \$packed) = map { open F, \$_; <F> } @ARGV;
     print \$whole" whole.stream packed.stream > edited.stream
 
 for stream in whole edited; do
-    { sleep 1; echo 'i /1xb 0x3ff'; echo q; } | vm -S -monitor stdio -incoming "exec:cat $stream.stream" |
-        grep -ao 'portb.*0x..' > $stream.port
-done
-cat whole.port edited.port
-[ "$(cat whole.port edited.port | tr '\n\r' '  ' | tr -s ' ')" = 'portb[0x03ff] = 0x00 portb[0x03ff] = 0xa5 ' ]
+    {
+        echo '{"execute": "qmp_capabilities"}'
+        until_it_says $stream.log '"paused"'
+        echo '{"execute": "human-monitor-command", "arguments": {"command-line": "i /1xb 0x3ff"}}'
+        echo '{"execute": "quit"}'
+    } | vm -S -qmp stdio -incoming "exec:cat $stream.stream" > $stream.log
+    grep -o 'portb.*0x..' $stream.log
+done > ports
+cat ports
+[ "$(cat ports)" = 'portb[0x03ff] = 0x00
+portb[0x03ff] = 0xa5' ]

@@ -3,7 +3,7 @@
 #
 #     sh whole-machine.sh [MACHINE [FOLDER]]
 #
-# Needs sh, perl, python3, qemu-system-x86_64 and vmstate on the path, and takes five seconds. What it makes stands in
+# Needs sh, perl, python3, qemu-system-x86_64 and vmstate on the path, and takes some seconds. What it makes stands in
 # FOLDER, or in a folder that is gone afterwards. It prints what the guest sent before and after, AAAA and BBBB, and
 # its status is 0 where that is so.
 set -e
@@ -13,7 +13,7 @@ folder=$2
 [ "$folder" ] || { folder=$(mktemp -d); trap 'rm -r "$folder"' EXIT; }
 cd "$folder"
 sh "$here/../qemu-microvm/guest.sh" > guest.rom
-rm -f ram.img
+rm -f ram.img before.txt before.log after.txt
 
 vm() {
     qemu-system-x86_64 -accel tcg -M "$machine",memory-backend=ram -m 16M \
@@ -21,14 +21,13 @@ vm() {
         -bios guest.rom -rtc base=2001-02-03T04:05:06,clock=vm -nodefaults -display none -qmp stdio "$@"
 }
 
-qmp() {
-    echo '{"execute": "qmp_capabilities"}'
-    sleep 1
-    for command; do
-        echo "$command"
-        sleep 0.3
+# QEMU is asked by QMP how things are until a file, the first word, has a text, the second: what the guest has sent, or
+# what QEMU says in its log.
+until_it_says() {
+    until grep -aq "$2" "$1" 2> /dev/null; do
+        echo '{"execute": "query-status"} {"execute": "query-migrate"}'
+        sleep 0.1
     done
-    echo '{"execute": "quit"}'
 }
 
 # Names that a set can't have, by names of the same length, and back: 0000:00:01.0/PIIX3 is 0000.00.01.0.PIIX3, and
@@ -43,10 +42,15 @@ back() {
 }
 
 # The devices alone, and once the whole VM for what it says of itself: the set is made of that.
-qmp '{"execute": "stop"}' \
-    '{"execute": "xen-save-devices-state", "arguments": {"filename": "devices.stream"}}' \
-    '{"execute": "migrate", "arguments": {"uri": "exec:cat > whole.stream"}}' |
-    vm -serial file:before.txt > before.log
+{
+    echo '{"execute": "qmp_capabilities"}'
+    until_it_says before.txt AAAA
+    echo '{"execute": "stop"}'
+    echo '{"execute": "xen-save-devices-state", "arguments": {"filename": "devices.stream"}}'
+    echo '{"execute": "migrate", "arguments": {"uri": "exec:cat > whole.stream"}}'
+    until_it_says before.log '"completed"'
+    echo '{"execute": "quit"}'
+} | vm -serial file:before.txt > before.log
 python3 "$here/set_of_stream.py" whole.stream > set.json 2> set.log
 
 there < devices.stream > before.stream
@@ -56,8 +60,11 @@ vmstate pack set.json after.values > packed.stream
 back < packed.stream > after.stream
 
 # The stream names no machine, and QEMU is told to expect none.
-qmp '{"execute": "query-migrate"}' |
-    vm -serial file:after.txt -global migration.send-configuration=off -incoming 'exec:cat after.stream' > after.log
+{
+    echo '{"execute": "qmp_capabilities"}'
+    until_it_says after.txt ....
+    echo '{"execute": "quit"}'
+} | vm -serial file:after.txt -global migration.send-configuration=off -incoming 'exec:cat after.stream' > after.log
 
 sent="$(head -c 4 before.txt) $(head -c 4 after.txt)"
 echo "$sent"

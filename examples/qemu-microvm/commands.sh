@@ -3,7 +3,7 @@
 #
 #     sh commands.sh [FOLDER]
 #
-# Needs sh, qemu-system-x86_64 and vmstate on the path, and takes three seconds. What it makes stands in FOLDER,
+# Needs sh, qemu-system-x86_64 and vmstate on the path, and takes a second or two. What it makes stands in FOLDER,
 # or in a folder that is gone afterwards. It prints what the guest sent before and after, AAAA and BBBB, and its
 # status is 0 where that is so and where the state that comes out of a third QEMU is the text that went in.
 set -e
@@ -13,7 +13,7 @@ folder=$1
 cd "$folder"
 cp "$here/microvm.json" .
 sh "$here/guest.sh" > guest.rom
-rm -f ram.img
+rm -f ram.img before.txt after.txt again.log
 
 # The VM, with its RAM in a file that outlives it.
 vm() {
@@ -22,15 +22,20 @@ vm() {
         -bios guest.rom -rtc base=2001-02-03T04:05:06,clock=vm -nodefaults -display none "$@"
 }
 
-# The commands of a QMP session, which come after a second.
+# The commands of a QMP session: qmp FILE TEXT COMMAND... They come once FILE has TEXT; until then QEMU is asked how
+# the VM is, which its log shows.
 qmp() {
     echo '{"execute": "qmp_capabilities"}'
-    sleep 1
+    until grep -aq "$2" "$1" 2> /dev/null; do
+        echo '{"execute": "query-status"}'
+        sleep 0.1
+    done
+    shift 2
     printf '%s\n' "$@" '{"execute": "quit"}'
 }
 
-# It runs for a second, is stopped, and saves its devices without its RAM.
-qmp '{"execute": "stop"}' \
+# It runs until the guest has sent something, is stopped, and saves its devices without its RAM.
+qmp before.txt AAAA '{"execute": "stop"}' \
     '{"execute": "xen-save-devices-state", "arguments": {"filename": "before.stream"}}' |
     vm -qmp stdio -serial file:before.txt > before.log
 
@@ -41,11 +46,11 @@ machine microvm
 s/^state.scr = 65$/state.scr = 66/' before.values > after.values
 vmstate pack microvm.json after.values > after.stream
 
-# Another QEMU with the same RAM takes it and goes on for a second.
-qmp | vm -qmp stdio -serial file:after.txt -incoming 'exec:cat after.stream' > after.log
+# Another QEMU with the same RAM takes it and goes on, until the guest has sent something.
+qmp after.txt .... | vm -qmp stdio -serial file:after.txt -incoming 'exec:cat after.stream' > after.log
 
 # A third takes it, stays stopped, and saves what it took.
-qmp '{"execute": "xen-save-devices-state", "arguments": {"filename": "again.stream"}}' |
+qmp again.log '"paused"' '{"execute": "xen-save-devices-state", "arguments": {"filename": "again.stream"}}' |
     vm -qmp stdio -serial null -S -incoming 'exec:cat after.stream' > again.log
 vmstate show microvm.json < again.stream > again.values
 

@@ -27,7 +27,7 @@ versions-first : (s : Sub) (subs : List Sub) (came : List (Option ℕ)) (needed 
 versions-first s subs came true m h = ((m, omega arith), h)
 versions-first s subs came false m h = h
 
-versions : (set : Set) (d : Device) (image : Image) (j : ℕ) (subs : List Sub) → AreSubs subs → AreVersionsOf subs (needed_from set d image j subs)
+pub versions : (set : Set) (d : Device) (image : Image) (j : ℕ) (subs : List Sub) → AreSubs subs → AreVersionsOf subs (needed_from set d image j subs)
 versions set d image j [] h = tt
 versions set d image j (s ∷ subs) h =
     versions-first s subs (needed_from set d image (suc j) subs) (is_needed set d image s j) h.0 (versions set d image (suc j) subs h.1)
@@ -37,7 +37,7 @@ needed-first set d image j s subs came true e h = (e, refl, h)
 needed-first set d image j s subs came false e h = (e, h)
 
 -- which subsections are needed is said by the numbers alone
-needed : (set : Set) (d : Device) (numbers : List ℤ) (came : List (Option ℕ)) (j : ℕ) (subs : List Sub) → ComeAsNeeded set d (record (bare d numbers) { came = came }) j subs (needed_from set d (bare d numbers) j subs)
+pub needed : (set : Set) (d : Device) (numbers : List ℤ) (came : List (Option ℕ)) (j : ℕ) (subs : List Sub) → ComeAsNeeded set d (record (bare d numbers) { came = came }) j subs (needed_from set d (bare d numbers) j subs)
 needed set d numbers came j [] = refl
 needed set d numbers came j (s ∷ subs) =
     needed-first set d (record (bare d numbers) { came = came }) j s subs (needed_from set d (bare d numbers) (suc j) subs) (is_needed set d (bare d numbers) s j) refl (needed set d numbers came (suc j) subs)

@@ -1,5 +1,5 @@
 -- The rules that restored numbers meet, each by its number.
-use Rattle.std.specs.Prelude.{ℕ, pos, negsuc, ◌+◌, ◌*◌, ◌%◌, ◌==◌, Bool, true, false, nat_le, nat_lt, ◌&&◌, ◌||◌, not, if◌then◌else◌, bit_and, List, [], ◌∷◌, Result}
+use Rattle.std.specs.Prelude.{ℕ, pos, negsuc, ◌+◌, ◌*◌, ◌%◌, ◌==◌, Bool, nat_le, nat_lt, ◌&&◌, ◌||◌, not, if◌then◌else◌, bit_and, List, [], ◌∷◌, Result}
 use Rattle.std.specs.Ordering.{int_eq}
 use Rattle.dev_base.specs.Rules.{judged}
 use Rattle.dev_base.specs.Bits.{has, same}

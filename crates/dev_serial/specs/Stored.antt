@@ -1,5 +1,5 @@
 -- The FIFOs in a stream: a count with sixteen bytes, and a ring.
-use Rattle.std.specs.Prelude.{ℕ, ◌+◌, ◌-◌, ◌%◌, ◌==◌, Bool, nat_le, nat_lt, ◌&&◌, ◌||◌, not, List, length, map, min, slice_index_or}
+use Rattle.std.specs.Prelude.{ℕ, ◌+◌, ◌-◌, ◌%◌, ◌==◌, Bool, nat_le, nat_lt, ◌&&◌, ◌||◌, not, List, length, min, slice_index_or}
 use Rattle.std.specs.List.{range_with_len, list_all}
 use Rattle.dev_base.specs.Cells.{firsts}
 use Rattle.dev_serial.specs.declared.stored.Counted.{Counted}

@@ -107,7 +107,7 @@ pub fn fifo_control_law()
 {}
 
 /// The cells of the newest set, where FIFOs that stood in rings alone are in counted arrays, are so already, and
-/// are of its kinds.
+/// are of its kinds. Where none stood in its ring alone, the cells stay.
 #[tactic(auto, using(crate::proofs::RecastKinds::recast_once))]
 pub fn recast_law()
     ensures { RecastOnce }

@@ -1,20 +1,20 @@
 -- From what the playing of lines says to how `play` ends.
-use Rattle.std.proofs.Common.{◌≡◌, ℕ, ◌<◌, ◌≤◌, ◌^◌, List, take, Option, Some, None, Result, Ok, Err, refl, sym, ap, ◌∙◌, subst}
+use Rattle.std.proofs.Common.{◌≡◌, ℕ, ◌<◌, ◌≤◌, ◌^◌, List, [], take, drop, inl, inr, Option, Some, None, Result, Ok, Err, refl, sym, ap, ◌∙◌, subst}
 use Rattle.std.specs.Prelude.{IsSomeAnd}
 use Rattle.dev_board.specs.State.{State, power_on}
 use Rattle.vms_io.specs.Shelves.{Held}
 use Rattle.vms_io.specs.Told.{Intake, Outlet, Stock}
 use Rattle.vms_commands.proofs.EndLemmas.{takes_nothing}
 use Rattle.vms_commands.specs.Endings.{DoneAs, EndsAs}
-use Rattle.vms_commands.specs.Outcomes.{Outcome, Part, ComesTo, held_after}
-use Rattle.vms_session.specs.Parts.{PlaysParts}
+use Rattle.vms_commands.specs.Outcomes.{Outcome, Part, ComesTo, FailsToStore, HoldsBut, stored_next, held_after}
+use Rattle.vms_session.specs.Parts.{Plays}
 use Rattle.vms_session.specs.Playing.{session_of, LinesEnd}
 use Rattle.vms_session.specs.declared.line.PlayFault.{PlayFault}
 use Rattle.vms_script.specs.Lines.{ScriptLine}
 use Rattle.vms_session.specs.Session.{Session}
 use Rattle.vms_commands.specs.declared.ending.Ending.{Ending}
 use Rattle.vms_commands.specs.declared.ending.Ending.TheVariants.{Done, Refused, BadWords, BadText, NotCompatible, ReadFault, WriteFault, ShelfFault, NotThere, TooLarge, NoMemory}
-use Rattle.vms_session.proofs.CourseLemmas.{holds_since, lines_come, rose_since}
+use Rattle.vms_session.proofs.CourseLemmas.{rose_since}
 use Rattle.vms_session.specs.Playing.{HasPlayCause}
 use Rattle.vms_session.specs.declared.line.PlayFault.TheVariants as faults
 use Rattle.vms_board_commands.specs.Causes.{LinesCause}
@@ -23,7 +23,7 @@ use Rattle.vms_board_commands.specs.Play.{PlaysAll, ending_by}
 -- what the playing says, of the parts and the session that the lines come to
 abbrev pub Content : List ScriptLine → State → State → (o o' : Outlet) (s s' : Stock) → Result Unit PlayFault → Type 0
 Content lines board board' o o' s s' result =
-    (held : Held) (parts : List Part) (new : Session) → s.held ≡ Some held → PlaysParts lines (session_of board held) parts new → LinesEnd parts new o o' s s' board' result
+    (held : Held) (parts : List Part) (new : Session) → s.held ≡ Some held → Plays lines (session_of board held) parts new → LinesEnd parts new o o' s s' board' result
 
 module _ (level : ℕ) (lines : List ScriptLine) (i : Intake) (o o' : Outlet) (s s' : Stock) (board board' : State) (x : Outcome) (on : board ≡ power_on level) where
   at-power-on : (result : Result Unit PlayFault) → Content lines board board' o o' s s' result → Content lines (power_on level) board' o o' s s' result
@@ -44,20 +44,21 @@ module _ (level : ℕ) (lines : List ScriptLine) (i : Intake) (o o' : Outlet) (s
             taken = takes_nothing i few;
           })
 
-  pub some_played : (fault : PlayFault) → Content lines board board' o o' s s' (Err fault) → IsSomeAnd s.held (λ map. PlaysAll level lines map x) → ComesTo o o' s s' x.parts
-  some_played fault content has = by s.held refl has
+  -- by each fault
+  as_ending : (fault : PlayFault) (parts : List Part) (new : Session) → LinesEnd parts new o o' s s' board' (Err fault)
+      → EndsAs i i o o' s s' (ending_by fault) (record { status = 0; parts = parts; note = []; taken = 0 })
+  as_ending faults.WriteFault parts new h = h
+  as_ending faults.ShelfFault parts new h = h
+  as_ending faults.NoMemory parts new h = h
+
+  pub stopped_by : (fault : PlayFault) → Content lines board board' o o' s s' (Err fault) → IsSomeAnd s.held (λ map. PlaysAll level lines map x) → EndsAs i i o o' s s' (ending_by fault) x
+  stopped_by fault content has = by s.held refl has
     where
-      by : (held : Option Held) → s.held ≡ held → IsSomeAnd held (λ map. PlaysAll level lines map x) → ComesTo o o' s s' x.parts
+      by : (held : Option Held) → s.held ≡ held → IsSomeAnd held (λ map. PlaysAll level lines map x) → EndsAs i i o o' s s' (ending_by fault) x
       by None e h = absurd h
       by (Some map) e h =
-          let ends = at-power-on (Err fault) content map h.parts h.new e h.plays in
-          subst (λ (y : Outcome). ComesTo o o' s s' y.parts) (sym h.outcome) (lines_come h.parts h.new o o' s s' board' fault ends)
-
-  -- by each fault
-  pub stopped_by : (fault : PlayFault) → Content lines board board' o o' s s' (Err fault) → IsSomeAnd s.held (λ map. PlaysAll level lines map x) → EndsAs i i o o' s s' (ending_by fault) x
-  stopped_by faults.WriteFault content has = some_played faults.WriteFault content has
-  stopped_by faults.ShelfFault content has = some_played faults.ShelfFault content has
-  stopped_by faults.NoMemory content has = some_played faults.NoMemory content has
+          subst (EndsAs i i o o' s s' (ending_by fault)) (sym h.outcome)
+          (as_ending fault h.parts h.new (at-power-on (Err fault) content map h.parts h.new e h.plays))
 
 pub stopped_cause : (o o' : Outlet) (s s' : Stock) (fault : PlayFault) → HasPlayCause o o' s s' (Err fault) → LinesCause o o' s s' (ending_by fault)
 stopped_cause o o' s s' faults.WriteFault h = h
@@ -81,8 +82,16 @@ module _ (i i' : Intake) (o o' : Outlet) (a b s' : Stock) (held : b.held ≡ a.h
     begun = c.begun;
     bytes = c.bytes;
     text = c.text;
-    held = holds_since a.faults b.faults s'.faults (held_after a.held (take c.begun x.parts)) s'.held (held_after b.held (take c.begun x.parts)) le
-        (ap (λ (h : Option Held). held_after h (take c.begun x.parts)) held) c.held;
+    held = c.held ∙ ap (λ (h : Option Held). held_after h (take c.begun x.parts)) held;
+  }
+
+  fails-since : FailsToStore o o' b s' x.parts → FailsToStore o o' a s' x.parts
+  fails-since c = record {
+    done = c.done;
+    text = c.text;
+    rose = rose_since a.faults b.faults s'.faults le c.rose;
+    held = subst (λ (want : Option Held). HoldsBut (stored_next (drop c.done x.parts)) want s'.held)
+        (ap (λ (h : Option Held). held_after h (take c.done x.parts)) held) c.held;
   }
 
   pub ends_since : (e : Ending) → EndsAs i i' o o' b s' e x → EndsAs i i' o o' a s' e x
@@ -93,7 +102,8 @@ module _ (i i' : Intake) (o o' : Outlet) (a b s' : Stock) (held : b.held ≡ a.h
   ends_since (NotCompatible line) h = h
   ends_since ReadFault h = comes-since h
   ends_since WriteFault h = comes-since h
-  ends_since ShelfFault h = comes-since h
+  ends_since ShelfFault (inl h) = inl (comes-since h)
+  ends_since ShelfFault (inr h) = inr (fails-since h)
   ends_since (NotThere line) h = h
   ends_since (TooLarge line) h = h
   ends_since NoMemory h = comes-since h

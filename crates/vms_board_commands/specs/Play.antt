@@ -6,7 +6,7 @@ use Rattle.vms_commands.specs.Steps.{Step, HasBy}
 use Rattle.vms_commands.specs.Texts.{ShelfStatus}
 use Rattle.vms_commands.specs.declared.ending.Ending.{Ending}
 use Rattle.vms_commands.specs.declared.ending.Ending.TheVariants as endings
-use Rattle.vms_session.specs.Parts.{PlaysParts}
+use Rattle.vms_session.specs.Parts.{Plays}
 use Rattle.vms_session.specs.declared.line.PlayFault.{PlayFault}
 use Rattle.vms_session.specs.declared.line.PlayFault.TheVariants as faults
 use Rattle.vms_script.specs.Lines.{ScriptLine}
@@ -16,7 +16,7 @@ use Rattle.vms_session.specs.Session.{Session, begun}
 pub record PlaysAll (level : ℕ) (lines : List ScriptLine) (held : Held) (o : Outcome) : Type 0 where
   pub parts : List Part
   pub new : Session
-  pub plays : PlaysParts lines (begun level held) parts new
+  pub plays : Plays lines (begun level held) parts new
   pub outcome : o ≡ record { status = 0; parts = parts; note = []; taken = 0 }
 
 -- by the step that gives the script: the outcome with it, where the shelf is told, or the end of that step

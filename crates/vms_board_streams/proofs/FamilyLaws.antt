@@ -20,6 +20,7 @@ use Rattle.vms_board.specs.Restoring.{TakesBoard, Back, Refused, Restores}
 use Rattle.vms_board.specs.Saving.{saved_text, saved_stream}
 use Rattle.vms_board_streams.proofs.BytesLaws.{same_ok, never_each}
 use Rattle.vms_board_streams.specs.Streams.{StreamsStand, StreamComesBack, StreamsComeBack, BoardsGoOn, IsContinued, HasRoomFor, answers_to, trace_of, stream_with, images_carried}
+use Rattle.vms_check.proofs.SelfLaws.{is_among}
 
 -- ---- one accepted name
 
@@ -55,18 +56,6 @@ alone set names input taken name images t =
       all = t.all;
     }
 
-or-true : (b : Bool) → (b || true) ≡ true
-or-true true = refl
-or-true false = refl
-
--- what stands in a list of names is one of them
-one-of-at : (names : List (List ℕ)) (k : ℕ) (name : List ℕ) → slice_get names k ≡ Some name → is_one_of names name ≡ true
-one-of-at [] k name e = cc
-one-of-at (n ∷ names) zero name e =
-    let same : n ≡ name = cc in
-    ap (λ (x : List ℕ). bytes_eq x name || is_one_of names name) same ∙ ap (λ (b : Bool). b || is_one_of names name) (same_bytes name)
-one-of-at (n ∷ names) (suc k) name e = ap (λ (b : Bool). bytes_eq n name || b) (one-of-at names k name e) ∙ or-true (bytes_eq n name)
-
 module _ {S : Type 0} (f : Family S) (Alike : S → S → Type 0) {IsSound : S → Type 0} {AreTold : List (List ℤ) → Type 0} (stands : Stands f IsSound AreTold) (st : StreamsStand f Alike IsSound) where
   -- ---- what is written of a board
 
@@ -87,7 +76,7 @@ module _ {S : Type 0} (f : Family S) (Alike : S → S → Type 0) {IsSound : S �
     newest-well = stands.well
 
     named : is_one_of (f.set set).machines (f.machine (f.number m)) ≡ true
-    named = one-of-at (f.set set).machines (f.number m - 1) (f.machine (f.number m)) (stands.named (f.number m) set least may.level_le_set may.set_le_newest)
+    named = is_among (f.set set).machines (f.number m - 1) (f.machine (f.number m)) (stands.named (f.number m) set least may.level_le_set may.set_le_newest)
 
     whole : IsWholeStream (f.set f.newest) (f.set f.newest).machines stream (Some (f.machine (f.number m))) images-back text
     unfolding stream_with

@@ -3,7 +3,5 @@ pub mod FamilyLaws
 pub mod IsaBytes
 pub mod IsaLaws
 pub mod IsaStreams
-pub mod Lengths
 pub mod RoomLemmas
 pub mod TextBytes
-pub mod WrittenBytes

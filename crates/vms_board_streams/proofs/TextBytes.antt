@@ -1,6 +1,8 @@
 -- The text that describes the devices of a set is bytes: names are, and the rest is written in ASCII.
-use Rattle.std.proofs.Common.{◌≡◌, ℕ, zero, suc, ◌+◌, ◌*◌, ◌/◌, ◌%◌, ◌<◌, ◌==◌, ◌&&◌, ◌||◌, List, [], ◌∷◌, ◌++◌, length, map, get_or, ℤ, pos, negsuc, Bool, true, false, cond, nat_lt, refl, arith, Option, Some, None, is_some, decimal, codes}
-use Rattle.std.proofs.lemmas.Bool.{and_parts, ltb-true}
+use Rattle.std.proofs.Common.{◌≡◌, ℕ, zero, suc, ◌+◌, ◌*◌, ◌/◌, ◌%◌, ◌<◌, ◌==◌, ◌&&◌, ◌||◌, List, [], ◌∷◌, ◌++◌, length, map, get_or, ℤ, pos, negsuc, Bool, true, false, cond, nat_lt, refl, sym, subst, arith, Option, Some, None, is_some, decimal, codes}
+use Rattle.std.proofs.lemmas.Bool.{and_parts}
+use Rattle.std.proofs.lemmas.Option.{get_or_from_slice_get}
+use Rattle.std.specs.List.{slice_get, list_all}
 use Rattle.std.specs.Fmt.{digits, digits_onto, digit_glyph}
 use Rattle.json.specs.Print.{escape, escape_byte, escape_letter, quoted}
 use Rattle.serde_json.specs.Data.{Data, null, boolean, number, string, array, object, Items, no_items, item, Members, no_members, member}
@@ -15,36 +17,20 @@ use Rattle.vms_kinds.specs.Codes.{width}
 use Rattle.vms_spec.specs.declared.Count.{Count}
 use Rattle.vms_spec.specs.declared.Count.TheVariants.{One, Fixed, Counted}
 use Rattle.vms_spec.specs.Images.{Image, own_cells}
-use Rattle.vms_spec.specs.Layout.{Cell, no_parent, item_size, capacity_of, elements_of, numbers_of, desc_cells, struct_cells}
-use Rattle.vms_kinds.specs.Bytes.{IsBytes}
+use Rattle.vms_spec.proofs.Tables.{one_more}
+use Rattle.vms_spec.proofs.WellFormedLaws.{Clean, get_none, struct_clean, device_parts, sub_clean}
+use Rattle.vms_spec.specs.Layout.{Cell, no_desc, no_parent, first, item_size, capacity_of, elements_of, numbers_of, desc_cells, struct_cells}
+use Rattle.vms_spec.specs.Names.{is_name}
 use Rattle.vms_spec.specs.Sets.{Field, Desc, Sub, Device, Set}
 use Rattle.vms_spec.specs.Tests.{is_there}
+use Rattle.vms_spec.specs.WellFormed.{WellFormed, struct_rules, device_rules, sub_rules}
+use Rattle.vms_stream.proofs.SetParts.{AllSubs, AllParts, EachPart, all_parts}
+use Rattle.vms_stream.proofs.WrittenBytes.{AreBytes, bytes_append, spelled, is_named, parts_named}
 use Rattle.vms_words.specs.Words.{kind_word}
 use Rattle.vms_selfdesc.specs.Entries.{Entry, Lister, no_lister, sent_entry, listed_if, item_entries, element_path, element_entries, array_entries, field_entries, entries_from, desc_entries, listers, part_entries}
 use Rattle.vms_selfdesc.specs.Tree.{entry_tree, sub_tree, sub_trees, device_tree, device_trees, described_tree, described_text}
 
 -- ---- lists of bytes
-
-abbrev pub AreBytes : List ℕ → Type 0
-AreBytes [] = Unit {0}
-AreBytes (x ∷ xs) = (x < 256) × AreBytes xs
-
-pub bytes_append : (xs ys : List ℕ) → AreBytes xs → AreBytes ys → AreBytes (xs ++ ys)
-bytes_append [] ys p q = q
-bytes_append (x ∷ xs) ys p q = (p.0, bytes_append xs ys p.1 q)
-
-pub bytes_at : (xs : List ℕ) → AreBytes xs → IsBytes xs
-bytes_at [] p i = omega arith
-bytes_at (x ∷ xs) p zero = p.0
-bytes_at (x ∷ xs) p (suc i) = bytes_at xs p.1 i
-
-abbrev pub below : List ℕ → Bool
-below [] = true
-below (x ∷ xs) = nat_lt x 256 && below xs
-
-pub spelled : (xs : List ℕ) → below xs ≡ true → AreBytes xs
-spelled [] e = tt
-spelled (x ∷ xs) e = let p = and_parts (nat_lt x 256) (below xs) e in (ltb-true x 256 p.0, spelled xs p.1)
 
 either-bytes : (b : Bool) (xs ys : List ℕ) → AreBytes xs → AreBytes ys → AreBytes (cond b xs ys)
 either-bytes true xs ys p q = p
@@ -247,30 +233,29 @@ module _ (cells : List (List Cell)) (ls : List Lister) (lists : (j : ℕ) → Li
   pub desc-bytes : (d : Desc) → AreNamed d.fields → ListsBytes (desc_entries cells ls d)
   desc-bytes d named = record { each = λ sent path n at p. fields-bytes d.version (numbers_of cells d n at) sent path n at d.fields p named }
 
+-- ---- structures
+
+lists_bytes : (cells : List (List Cell)) (structs : List Desc) → ((j : ℕ) → AreNamed (get_or structs j no_desc).fields) → (k j : ℕ) → ListsBytes (get_or (first (desc_entries cells) structs k) j no_lister)
+unfolding first
+lists_bytes cells structs named zero j = none-lists
+lists_bytes cells structs named (suc k) j =
+    let earlier = lists_bytes cells structs named k in
+    let ls = first (desc_entries cells) structs k in
+    let d = get_or structs k no_desc in
+    one_more ListsBytes no_lister none-lists ls earlier (desc_entries cells ls d) (desc-bytes cells ls earlier d (named k)) j
+
 -- ---- sets
 
--- a description, whose name and whose fields' names are bytes; a name is shorter than 256 bytes
-pub record IsNamed (d : Desc) : Type 0 where
-  pub name : AreBytes d.name
-  pub short : length d.name < 256
-  pub fields : AreNamed d.fields
+-- a description, whose name and whose fields' names are bytes
+record IsTold (d : Desc) : Type 0 where
+  name : AreBytes d.name
+  fields : AreNamed d.fields
 
-abbrev pub AreNamedSubs : List Sub → Type 0
-AreNamedSubs [] = Unit {0}
-AreNamedSubs (s ∷ subs) = IsNamed s.desc × AreNamedSubs subs
-
-abbrev pub AreNamedDevices : List Device → Type 0
-AreNamedDevices [] = Unit {0}
-AreNamedDevices (d ∷ devices) = IsNamed d.desc × AreNamedSubs d.subs × AreNamedDevices devices
-
-abbrev pub ListsNames : Set → Type 0
-ListsNames set = (j : ℕ) → ListsBytes (get_or (listers set) j no_lister)
-
-module _ (set : Set) (lists : ListsNames set) where
+module _ (set : Set) (lists : (j : ℕ) → ListsBytes (get_or (listers set) j no_lister)) where
   part-bytes : (d : Desc) (sent : Bool) (n : List ℤ) (at : ℕ) → AreNamed d.fields → AreEntries (part_entries set d sent n at)
   part-bytes d sent n at named = (desc-bytes (struct_cells set) (listers set) lists d named).each sent [] n at tt
 
-  sub-bytes : (n : List ℤ) (at : ℕ) (s : Sub) (came : Option ℕ) → IsNamed s.desc → HasBytes (sub_tree set n at s came)
+  sub-bytes : (n : List ℤ) (at : ℕ) (s : Sub) (came : Option ℕ) → IsTold s.desc → HasBytes (sub_tree set n at s came)
   sub-bytes n at s came named =
       let es = part_entries set s.desc (is_some came) n at in (
         spelled (codes "fields") refl,
@@ -286,13 +271,13 @@ module _ (set : Set) (lists : ListsNames set) where
         ),
       )
 
-  subs-bytes : (n : List ℤ) (at : ℕ) (subs : List Sub) (came : List (Option ℕ)) → AreNamedSubs subs → ItemsHave (items_of (sub_trees set n at subs came))
+  subs-bytes : (n : List ℤ) (at : ℕ) (subs : List Sub) (came : List (Option ℕ)) → AllSubs IsTold subs → ItemsHave (items_of (sub_trees set n at subs came))
   subs-bytes n at [] came named = tt
   subs-bytes n at (s ∷ subs) [] named = tt
   subs-bytes n at (s ∷ subs) (c ∷ came) named =
       (sub-bytes n at s c named.0, subs-bytes n (at + length (desc_cells (struct_cells set) s.desc)) subs came named.1)
 
-  device-bytes : (d : Device) (image : Image) → IsNamed d.desc → AreNamedSubs d.subs → HasBytes (device_tree set d image)
+  device-bytes : (d : Device) (image : Image) → IsTold d.desc → AllSubs IsTold d.subs → HasBytes (device_tree set d image)
   device-bytes d image named subs =
       let es = part_entries set d.desc true image.numbers 0 in (
         spelled (codes "fields") refl,
@@ -312,11 +297,42 @@ module _ (set : Set) (lists : ListsNames set) where
         ),
       )
 
-  devices-bytes : (devices : List Device) (images : List Image) → AreNamedDevices devices → ItemsHave (items_of (device_trees set devices images))
+  devices-bytes : (devices : List Device) (images : List Image) → AllParts IsTold devices → ItemsHave (items_of (device_trees set devices images))
   devices-bytes [] images named = tt
   devices-bytes (d ∷ devices) [] named = tt
   devices-bytes (d ∷ devices) (image ∷ images) named = (device-bytes d image named.0 named.1, devices-bytes devices images named.2)
 
-  pub described-bytes : (images : List Image) → AreNamedDevices set.devices → AreBytes (described_text set images)
+  described-bytes : (images : List Image) → AllParts IsTold set.devices → AreBytes (described_text set images)
   described-bytes images named =
       text-bytes (described_tree set images) (spelled (codes "devices") refl, devices-bytes set.devices images named, tt)
+
+-- ---- well-formed sets
+
+fields_named : (fs : List Field) → ((i : ℕ) (f : Field) → slice_get fs i ≡ Some f → is_name 32 f.name ≡ true) → AreNamed fs
+fields_named [] h = tt
+fields_named (f ∷ fs) h = ((is_named 32 f.name (omega arith) (h 0 f refl)).octets, fields_named fs (λ i. h (suc i)))
+
+clean_named : (k : ℕ) (d : Desc) (rules : List Bool) → Clean k d rules → AreNamed d.fields
+clean_named k d rules c = fields_named d.fields (λ i f e. (and_parts (is_name 32 f.name) (list_all (is_name 32) f.former) (c.fields i f e).0).0)
+
+module _ (set : Set) (well : WellFormed set) where
+  struct_named : (j : ℕ) (o : Option Desc) → slice_get set.structs j ≡ o → AreNamed (get_or set.structs j no_desc).fields
+  struct_named j None e = subst (λ (d : Desc). AreNamed d.fields) (sym (get_none set.structs j no_desc e)) tt
+  struct_named j (Some d) e =
+      subst (λ (d : Desc). AreNamed d.fields) (sym (get_or_from_slice_get set.structs j d no_desc e))
+      (clean_named j d (struct_rules set.structs j d) (struct_clean set well j d e))
+
+  parts_told : EachPart IsTold set.devices
+  parts_told k d e =
+      let named = parts_named set well k d e in (
+        record { name = named.0.octets; fields = clean_named (length set.structs) d.desc (device_rules set k d) (device_parts set well k d e).0 },
+        λ j s f. record {
+          name = (named.1 j s f).octets;
+          fields = clean_named (length set.structs) s.desc (sub_rules d j s) (sub_clean set well k j d s e f);
+        },
+      )
+
+  pub text_is_bytes : (images : List Image) → AreBytes (described_text set images)
+  text_is_bytes images =
+      let lists = lists_bytes (struct_cells set) set.structs (λ j. struct_named j (slice_get set.structs j) refl) (length set.structs) in
+      described-bytes set lists images (all_parts IsTold set.devices parts_told)

@@ -9,7 +9,7 @@ use Rattle.vms_spec.specs.Images.{Spells, RulesHold, has_cell}
 use Rattle.vms_spec.specs.Sound.{IsSound, AreSound}
 use Rattle.vms_bodies.specs.Cells.{AreCells}
 use Rattle.vms_bodies.proofs.AboveLaws.{desc_above, meanings_above}
-use Rattle.vms_bodies.proofs.CellLaws.{desc_are, meanings_are, cells_first}
+use Rattle.vms_bodies.proofs.CellLaws.{Stands, desc_are, meanings_are, cells_first}
 use Rattle.vms_bodies.proofs.SpellLaws.{FitSlots}
 use Rattle.vms_bodies.proofs.SettledLaws.{SameIn, slots_within}
 
@@ -42,13 +42,17 @@ named_inside all (Constant kind z ∷ xs) c a e = named_inside all xs c a e
 named_inside all (Filler m ∷ xs) c a e = named_inside all xs c a e
 named_inside all (Rule b ∷ xs) c a e = named_inside all xs c a e
 
-skip : (n : ℕ) (cells : List Cell) → drop n (replicate n no_cell ++ cells) ≡ cells
+pub skip : (n : ℕ) (cells : List Cell) → drop n (replicate n no_cell ++ cells) ≡ cells
 skip zero cells = refl
 skip (suc n) cells = skip n cells
 
-skip_long : (n : ℕ) (cells : List Cell) → length (replicate n no_cell ++ cells) ≡ n + length cells
+pub skip_long : (n : ℕ) (cells : List Cell) → length (replicate n no_cell ++ cells) ≡ n + length cells
 skip_long zero cells = omega arith
 skip_long (suc n) cells = omega (arith, skip_long n cells)
+
+-- cells that begin at a place, with others before them
+pub stands_behind : (at : ℕ) (cells : List Cell) → Stands (replicate at no_cell ++ cells) at cells
+stands_behind at cells = record { more = []; is = skip at cells ∙ sym (append-nil cells) }
 
 module _ (set : Set) (d : Desc) (v base : ℕ) where
   -- a description's slots, from its place on, and how many cells it has

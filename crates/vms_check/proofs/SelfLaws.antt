@@ -3,7 +3,7 @@ use Rattle.std.proofs.Common.{◌≡◌, inr, ℕ, zero, suc, ◌+◌, ◌<◌, 
 use Rattle.std.specs.Prelude.{◌&&◌, ◌==◌, nat_le, nat_lt, ◌||◌}
 use Rattle.std.specs.List.{slice_get}
 use Rattle.std.specs.Str.{bytes_eq}
-use Rattle.std.proofs.lemmas.Bool.{and_parts, eq-eqb, eqb-true, le-leb, leb-true}
+use Rattle.std.proofs.lemmas.Bool.{and_parts, eq-eqb, eqb-true, le-leb, leb-true, or_left, or_right}
 use Rattle.std.proofs.lemmas.Slice.Eq.{bytes_eq-Decides}
 use Rattle.std.proofs.lemmas.Option.{get_or_from_slice_get}
 use Rattle.std.proofs.lemmas.Map.Keys.{any_passes_from_place}
@@ -122,6 +122,14 @@ own_version d low = ap (λ (b : Bool). b && nat_le d.version d.version) (le-leb 
 
 -- ---- the set
 
+-- ---- names
+
+-- a name that stands in a list of names is one of them
+pub is_among : (names : List (List ℕ)) (i : ℕ) (name : List ℕ) → slice_get names i ≡ Some name → is_one_of names name ≡ true
+is_among [] i name e = absurd (cc)
+is_among (n ∷ names) zero name e = let same : n ≡ name = cc in or_left (bytes_eq n name) (is_one_of names name) ((bytes_eq-Decides n name).1 same)
+is_among (n ∷ names) (suc i) name e = or_right (bytes_eq n name) (is_one_of names name) (is_among names i name e)
+
 module _ (set : Set) (well : WellFormed set) where
   abbrev same : ℕ → ℕ → Bool
   same i j = i == j
@@ -168,20 +176,11 @@ module _ (set : Set) (well : WellFormed set) where
       let same_device : d ≡ e = same_at set.devices i d e inside (ap (slice_get set.devices) number ∙ there) in
       subst (λ (x : Device). DevicesFit same d x) same_device (device_self i d inside)
 
-  machine_self : (names : List (List ℕ)) (i : ℕ) (m : List ℕ) → slice_get names i ≡ Some m → is_one_of names m ≡ true
-  machine_self [] i m e = absurd (cc)
-  machine_self (n ∷ names) zero m e = let is : n ≡ m = cc in ap (λ (b : Bool). b || is_one_of names m) (ap (λ (x : List ℕ). bytes_eq x m) is ∙ (bytes_eq-Decides m m).1 refl)
-  machine_self (n ∷ names) (suc i) m e = right (bytes_eq n m) (machine_self names i m e)
-    where
-      right : (b : Bool) → is_one_of names m ≡ true → (b || is_one_of names m) ≡ true
-      right true h = refl
-      right false h = h
-
   pub reflexive : Compatible set set
   reflexive = so_fits set set well (
     same,
     record {
-      machines = machine_self set.machines;
+      machines = is_among set.machines;
       kept = λ i d e. ap is_found (device_found set well i d e);
       known = λ i d e. ap is_found (device_found set well i d e);
       structs = structs_self;

@@ -7,7 +7,8 @@ ghost use Rattle.vms_check.specs.Comparing.{same_kind, same_item, same_constant,
 use vms_desc::Count;
 use vms_kinds::{Item, Kind};
 
-fn same_kind(one: Kind, other: Kind) -> bool
+/// Whether numbers are of one kind.
+pub fn same_kind(one: Kind, other: Kind) -> bool
     ensures { result ≡ same_kind one other }
 {
     one == other

@@ -55,7 +55,9 @@ pub(crate) fn presence(field: &Field, version: u32) -> Left<'_>
     }
 }
 
-pub(crate) fn is_present(field: &Field, version: u32) -> bool
+/// Whether a field may be there at a version: its test there isn't false, or, where it has none, it has been there
+/// since then.
+pub fn is_present(field: &Field, version: u32) -> bool
     ensures { result ≡ not (is_absent version (field_of field.now)) }
 {
     !matches!(presence(field, version), Left::Known(false))

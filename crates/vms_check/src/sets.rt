@@ -228,8 +228,8 @@ fn compare_sub(
     }
 }
 
-// The number of the first subsection of this name.
-fn find_sub(subs: &[Sub], name: &[u8]) -> Option<u32>
+/// The number of the first subsection of this name.
+pub fn find_sub(subs: &[Sub], name: &[u8]) -> Option<u32>
     requires { length subs.now ≤ 32 }
     ensures { result ≡ find_sub 0 (map sub_of subs.now) name.now }
 {

@@ -8,16 +8,16 @@ ghost use Rattle.vms_check.specs.Sides.{IsSide, desc_on, own_side};
 
 use vms_desc::{Desc, DescSet, Field, Part, Place, Test};
 
-// A part of a set at the version at which it is compared.
+/// A part of a set at the version at which it is compared.
 #[derive(Clone, Copy)]
-pub(crate) struct Side<'a> {
-    pub(crate) set: &'a DescSet,
-    pub(crate) part: Part,
-    pub(crate) version: u32,
+pub struct Side<'a> {
+    pub set: &'a DescSet,
+    pub part: Part,
+    pub version: u32,
 }
 
-// A part at the version that its own set writes.
-pub(crate) fn at_own_version(set: &DescSet, part: Part) -> Side<'_>
+/// A part at the version that its own set writes.
+pub fn at_own_version(set: &DescSet, part: Part) -> Side<'_>
     requires { HasPart (described set.now) part }
     ensures { result ≡ own_side set.entry part }
 {
@@ -32,7 +32,8 @@ pub(crate) fn desc_of(side: Side<'_>) -> &Desc
     side.set.desc(side.part)
 }
 
-pub(crate) fn fields_of(side: Side<'_>) -> &[Field]
+/// The fields of a part.
+pub fn fields_of(side: Side<'_>) -> &[Field]
     requires { IsSide side }
     ensures { map field_of result.now ≡ (desc_on side.entry).fields }
 {

@@ -9,7 +9,7 @@ use Rattle.vms_kinds.specs.declared.Kind.TheVariants.{U8, U16, U32, U64, I8, I16
 use Rattle.vms_kinds.specs.Codes.{width, residue, code}
 use Rattle.vms_spec.specs.Layout.{Slot, Number, Constant, Filler, Rule}
 use Rattle.vms_spec.specs.Images.{Spells, zeroed}
-use Rattle.vms_spec.proofs.KindLaws.{length-code}
+use Rattle.vms_spec.proofs.KindLaws.{length-code, read_back}
 use Rattle.vms_check_laws.specs.Segments.{Aligns}
 use Rattle.vms_check_laws.proofs.Segments.{zeroed_append}
 
@@ -113,9 +113,6 @@ low I32 z = low_4 z
 low I64 z = low_8 z
 low Truth z = low_1 z
 low Timer z = low_8 z
-
-read_back : (w n : ℕ) → n < 256 ^ w → big_number w (big_bytes w n) ≡ n
-read_back w n h = ap (big_from 0 w) (sym (append-nil (big_bytes w n))) ∙ big_number-reads_back w n [] h
 
 -- numbers of the same bytes are the same modulo 2 ^ (8 w)
 pub same_code : (kind : Kind) (z u : ℤ) → code kind z ≡ code kind u → residue (width kind) z ≡ residue (width kind) u

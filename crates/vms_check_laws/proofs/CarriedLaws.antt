@@ -12,15 +12,7 @@ use Rattle.vms_check_laws.specs.CellLaws.{CarriedLaw}
 use Rattle.vms_check.specs.Partners.{device_partners}
 use Rattle.vms_check_laws.proofs.GoesDevices.{carried_by_cell}
 use Rattle.vms_check_laws.proofs.PairDevices.{device_paired, one_sub}
-
-pub same_numbers : (xs ys : List ℤ) → length xs ≡ length ys → ((c : ℕ) → c < length xs → get_or xs c (pos 0) ≡ get_or ys c (pos 0)) → xs ≡ ys
-same_numbers [] [] e h = refl
-same_numbers [] (y ∷ ys) e h = absurd (omega arith)
-same_numbers (x ∷ xs) [] e h = absurd (omega arith)
-same_numbers (x ∷ xs) (y ∷ ys) e h =
-    let a : x ≡ y = h 0 (omega arith) in
-    let b : xs ≡ ys = same_numbers xs ys (omega arith) (λ c lt. h (suc c) (omega arith)) in
-    cc
+use Rattle.std.proofs.lemmas.List.{ext_get_or}
 
 -- where a partner stands, if it is one
 is_some_of : (o : Option ℕ) (k : ℕ) → (o ≡ Some k) ⊎ (o ≡ Some k → ⊥)
@@ -48,7 +40,7 @@ module _ (old new : Set) (good_old : WellFormed old) (good_new : WellFormed new)
   one_carried a b p q =
       let long = p.long in
       let long' = q.long in
-      same_numbers a b (omega (arith, long, long')) (λ k lt. each k (omega (arith, lt, long)) (search_in (device_partners old new d e) k))
+      ext_get_or (pos 0) a b (omega (arith, long, long')) (λ k lt. each k (omega (arith, lt, long)) (search_in (device_partners old new d e) k))
     where
       by_has : (k c : ℕ) → k < length (device_cells new e) → slice_get (device_partners old new d e) c ≡ Some (Some k) → (h : Bool) → has_cell (image_slots old d image) c ≡ h → get_or a k (pos 0) ≡ get_or b k (pos 0)
       by_has k c lt f true h = p.taken c k f h ∙ sym (q.taken c k f h)

@@ -6,11 +6,12 @@ use Rattle.std.proofs.Math.Bool.{or-false}
 use Rattle.vms_spec.specs.Layout.{Cell, no_cell, Slot}
 use Rattle.vms_spec.specs.Images.{has_cell}
 use Rattle.vms_spec.proofs.ListLaws.{or_second}
-use Rattle.std.proofs.lemmas.Bool.{or_parts}
+use Rattle.std.proofs.lemmas.Bool.{or_parts, false_from_ne_true}
 use Rattle.vms_bodies.proofs.Names.{names_append}
 use Rattle.vms_bodies.proofs.SectionLaws.{defaults_at, defaults_long}
 use Rattle.vms_check.specs.Carrying.{defaults}
 use Rattle.vms_check_laws.proofs.PairLists.{AreFrom, IsBehind, at_left, at_right, at_none, before_or_behind, paired_append}
+use Rattle.std.proofs.lemmas.Option.{slice_get_within}
 
 -- slots of cells between a place and its end alone
 pub record IsWithin (at size : ℕ) (slots : List Slot) : Type 0 where
@@ -48,10 +49,6 @@ goes_alone cells others numbers slots at at' n e w h = record {
   other = λ r lt f. defaults_at others r;
 }
 
-pub false_of : (b : Bool) → (b ≡ true → ⊥) → b ≡ false
-false_of true h = absurd (h refl)
-false_of false h = refl
-
 within_append : (at m n : ℕ) (xs ys : List Slot) → IsWithin at m xs → IsWithin (at + m) n ys → IsWithin at (m + n) (xs ++ ys)
 within_append at m n xs ys p q = record { in_range = λ c h. go c (has_cell xs c) refl (sym (names_append xs ys c) ∙ h) } where
   go : (c : ℕ) (b : Bool) → has_cell xs c ≡ b → (has_cell xs c || has_cell ys c) ≡ true → (at ≤ c) × (c < at + (m + n))
@@ -69,10 +66,10 @@ module _ (cells_a cells_b others_a others_b : List Cell) (numbers : List ℤ) (x
 
   -- before the seam the second slots have none, behind it the first
   second_none : (c : ℕ) → c < next → has_cell ys c ≡ false
-  second_none c lt = false_of (has_cell ys c) (λ e. let r = (g.within.in_range c e).0 in omega (arith, lt, r))
+  second_none c lt = false_from_ne_true (has_cell ys c) (λ e. let r = (g.within.in_range c e).0 in omega (arith, lt, r))
 
   first_none : (c : ℕ) → next ≤ c → has_cell xs c ≡ false
-  first_none c le = false_of (has_cell xs c) (λ e. let r = (h.within.in_range c e).1 in omega (arith, le, r))
+  first_none c le = false_from_ne_true (has_cell xs c) (λ e. let r = (h.within.in_range c e).1 in omega (arith, le, r))
 
   has_first : (c : ℕ) → c < next → has_cell (xs ++ ys) c ≡ has_cell xs c
   has_first c lt = names_append xs ys c ∙ ap (λ (b : Bool). has_cell xs c || b) (second_none c lt) ∙ or-false (has_cell xs c)
@@ -119,13 +116,8 @@ module _ (cells_a cells_b others_a others_b : List Cell) (numbers : List ℤ) (x
       ∙ h.other r less (λ c e. (or_parts (has_cell xs (at + c)) (has_cell ys (at + c)) (sym (names_append xs ys (at + c)) ∙ f c (at_left p q c (in_p c e) ∙ e))).0)
       ∙ sym (ap (λ (x : Cell). x.default) (get_or_append_left others_a others_b no_cell r less))
     where
-      inside_some : (p : List (Option ℕ)) (c k : ℕ) → slice_get p c ≡ Some (Some k) → c < length p
-      inside_some [] c k e = cc
-      inside_some (o ∷ p) zero k e = omega arith
-      inside_some (o ∷ p) (suc c) k e = let l = inside_some p c k e in omega (arith, l)
-
       in_p : (c : ℕ) → slice_get p c ≡ Some (Some (at' + r)) → c < length p
-      in_p c e = inside_some p c (at' + r) e
+      in_p c e = slice_get_within p c (Some (at' + r)) e
   other_at r lt f (inr b) =
       let size = h.long in
       let b_is = b.is in

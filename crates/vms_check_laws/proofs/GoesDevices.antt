@@ -24,6 +24,7 @@ use Rattle.vms_check_laws.proofs.PairDevices.{Found, found, cell_of_sub}
 use Rattle.vms_check_laws.proofs.PairLists.{IsBehind, at_left, at_right, at_none, before_or_behind}
 use Rattle.vms_check_laws.proofs.PairStructs.{below_of}
 use Rattle.vms_check_laws.proofs.PartOf.{own_or_sub}
+use Rattle.std.proofs.lemmas.Option.{slice_get_within}
 
 -- ---- lists that have one part for each subsection
 
@@ -326,11 +327,6 @@ module _ (old new : Set) (good_old : WellFormed old) (good_new : WellFormed new)
     parts_none : (c : ℕ) → has_cell (image_slots old d image) c ≡ false → (has_cell (own_slots old d image.version numbers) c ≡ false) × (has_cell (came_slots old d numbers (own_cells old d) d.subs image.came) c ≡ false)
     parts_none c f = or_parts _ _ (sym (names_append (own_slots old d image.version numbers) (came_slots old d numbers (own_cells old d) d.subs image.came) c) ∙ f)
 
-    inside_ps : (xs : List (Option ℕ)) (c k : ℕ) → slice_get xs c ≡ Some (Some k) → c < length xs
-    inside_ps [] c k f = cc
-    inside_ps (o ∷ xs) zero k f = omega arith
-    inside_ps (o ∷ xs) (suc c) k f = let l = inside_ps xs c k f in omega (arith, l)
-
     other_own : (k : ℕ) → k < own_cells new e → NoneHas k → get_or (own_segment ++ rest) k (pos 0) ≡ (get_or (device_cells new e) k no_cell).default
     other_own k lt none =
         let long = own_goes.long in
@@ -339,7 +335,7 @@ module _ (old new : Set) (good_old : WellFormed old) (good_new : WellFormed new)
         ∙ own_goes.other k lt (λ c f.
         let place_is : slice_get ps c ≡ Some (Some k) = f ∙ ap (λ (n : ℕ). Some (Some n)) z in
         let u : 0 + c ≡ c = omega arith in
-        ap (has_cell (own_slots old d image.version numbers)) u ∙ (parts_none c (none c (at_left ps qs c (inside_ps ps c k place_is) ∙ place_is))).0)
+        ap (has_cell (own_slots old d image.version numbers)) u ∙ (parts_none c (none c (at_left ps qs c (slice_get_within ps c (Some k) place_is) ∙ place_is))).0)
         ∙ sym (ap (λ (x : Cell). x.default) (get_or_append_left (desc_cells (struct_cells new) e.desc) (flat_map new_cells e.subs) no_cell k lt))
 
     default_at : (l : ℕ) (t : Sub) (r : ℕ) → slice_get e.subs l ≡ Some t → r < sub_size new t → (get_or (device_cells new e) (place' l + r) no_cell).default ≡ (get_or (new_cells t) r no_cell).default
@@ -362,7 +358,7 @@ module _ (old new : Set) (good_old : WellFormed old) (good_new : WellFormed new)
         ap (λ (z : List ℤ). get_or z r (pos 0)) h.segment
         ∙ goes.other r lt (λ c f.
         let size = goes.paired.long in
-        let inside : c < sub_size old h.s = (let i = inside_ps _ c (place' l + r) f in omega (arith, i, size)) in
+        let inside : c < sub_size old h.s = (let i = slice_get_within _ c (Some (place' l + r)) f in omega (arith, i, size)) in
         let named : slice_get (named_partners old new e h.s) c ≡ Some (Some (place' l + r)) = ap (λ (x : List (Option ℕ)). slice_get x c) (named_is h.s t l at_l h.name_is) ∙ f in
         let at_c : slice_get (ps ++ qs) (length ps + (part.0 + c)) ≡ Some (Some (place' l + r)) = at_right ps qs (part.0 + c) ∙ part.2 c inside ∙ named in
         let c_is : place h.m + c ≡ length ps + (part.0 + c) = omega (arith, q_is, long) in

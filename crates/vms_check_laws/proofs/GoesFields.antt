@@ -15,31 +15,20 @@ use Rattle.vms_spec.proofs.Prefixes.{ItemBelow, FieldsBelow}
 use Rattle.vms_bodies.specs.Cells.{AreCells}
 use Rattle.vms_bodies.proofs.AboveLaws.{MeanAbove, IsAbove, item_above, items_above, field_above}
 use Rattle.vms_bodies.proofs.CellLaws.{MeanCells, Stands, item_are, items_are, field_are}
-use Rattle.vms_bodies.proofs.AgreeLaws.{named_inside}
+use Rattle.vms_bodies.proofs.AgreeLaws.{named_inside, skip, skip_long, stands_behind}
 use Rattle.vms_bodies.proofs.Names.{names_append}
 use Rattle.vms_bodies.proofs.SettledLaws.{cells_in}
 use Rattle.vms_check.specs.Reducing.{presence}
 use Rattle.vms_check.specs.Comparing.{Entry, entry_of, present_from, same_kind}
 use Rattle.vms_check.specs.Carrying.{Carrier, no_carrier, defaults, carry_item, carry_items, carry_field, carry_next, carry_from, carry_desc, default_field, entries_left}
 use Rattle.vms_check_laws.proofs.Presence.{there, presence_there}
-use Rattle.vms_check_laws.proofs.Settling.{same_defaults}
+use Rattle.vms_check_laws.proofs.Settling.{same_defaults, defaults_append}
 use Rattle.vms_check.specs.Partners.{Pairer, no_pairer, unpaired, item_partners, array_partners, field_partners, fields_left, partners_from, desc_partners}
 use Rattle.vms_check_laws.proofs.PairLists.{AreFrom, paired_none}
 use Rattle.vms_check_laws.proofs.PairFields.{Structs, item_paired, array_paired}
 use Rattle.vms_check_laws.proofs.Goes.{Goes, IsWithin, goes_absent, goes_alone, goes_append}
 
 -- ---- slots stand within their cells
-
-skip : (n : ℕ) (cells : List Cell) → drop n (replicate n no_cell ++ cells) ≡ cells
-skip zero cells = refl
-skip (suc n) cells = skip n cells
-
-skip_long : (n : ℕ) (cells : List Cell) → length (replicate n no_cell ++ cells) ≡ n + length cells
-skip_long zero cells = omega arith
-skip_long (suc n) cells = omega (arith, skip_long n cells)
-
-stands_behind : (at : ℕ) (cells : List Cell) → Stands (replicate at no_cell ++ cells) at cells
-stands_behind at cells = record { more = []; is = skip at cells ∙ sym (append-nil cells) }
 
 within_of : (at : ℕ) (cells : List Cell) (slots : List Slot) → IsAbove at slots → AreCells (replicate at no_cell ++ cells) slots → IsWithin at (length cells) slots
 within_of at cells slots above are = record {
@@ -126,10 +115,6 @@ module _ (structs : List Pairer) (cs : List Carrier) (ms : List Meaning) (y : Li
     item_goes (Struct i) (Unused n) caps caps' d d' at at' lt lt' = goes_alone _ _ numbers _ at at' (length (get_or x i [])) refl (item_within (Struct i) caps d at) (paired_none _ _ at' (length (get_or x i [])) refl)
 
     -- ---- so many elements, of which the first n stand in the bytes
-
-    defaults_append : (xs ys : List Cell) → defaults (xs ++ ys) ≡ defaults xs ++ defaults ys
-    defaults_append [] ys = refl
-    defaults_append (c ∷ xs) ys = ap (λ (l : List ℤ). c.default ∷ l) (defaults_append xs ys)
 
     carry_none : (a b : Item) (caps' : List ℕ) (d' : ℤ) (step m at q t : ℕ) → carry_items cs x y numbers a b (defaults (item_cells y b [] d')) step 0 m at ≡ defaults (times m (λ _. item_cells y b caps' d') q t)
     carry_none a b caps' d' step zero at q t = refl

@@ -22,6 +22,7 @@ use Rattle.vms_check_laws.proofs.Counts.{IsCounting, Counter, CountKnown, OldPla
 use Rattle.vms_check_laws.proofs.Fitting.{ItemDefault, DefaultsGood}
 use Rattle.vms_check_laws.proofs.Structures.{OldStructs, NewStructs}
 use Rattle.vms_check_laws.proofs.FitStructures.{DefaultStructs}
+use Rattle.std.proofs.lemmas.Option.{slice_get-get_or}
 
 names_more : (ok ok' : ℕ → Bool) (t : Formula) → ((i : ℕ) → ok i ≡ true → ok' i ≡ true) → names_well ok nobody t ≡ true → names_well ok' nobody t ≡ true
 names_more ok ok' (AtLeast n) more h = refl
@@ -163,16 +164,11 @@ module _ (k : ℕ) (d : Desc) where
       let hold : HoldFrom 0 d.fields = λ j f e. let z : j ≡ 0 + j = omega arith in subst (λ (n : ℕ). AllTrue (field_rules k d n f)) z (c.fields j f e) in
       record { old = old_plains 0 d.fields hold; new = new_fields 0 d.fields hold; earlier = λ i f e. earlier_good i f (c.fields i f e); defaults = defaults_good 0 d.fields hold; rules = rules_named d.validate c.validations }
 
-at_some : (xs : List Desc) (j : ℕ) → j < length xs → slice_get xs j ≡ Some (get_or xs j no_desc)
-at_some [] j lt = absurd (omega arith)
-at_some (x ∷ xs) zero lt = refl
-at_some (x ∷ xs) (suc j) lt = at_some xs j (omega arith)
-
 module _ (set : Set) (well : WellFormed set) where
   pub struct_good : (j : ℕ) → j < length set.structs → DescGood j (get_or set.structs j no_desc)
   struct_good j lt =
       let d = get_or set.structs j no_desc in
-      desc_good j d (struct_rules set.structs j d) (struct_clean set well j d (at_some set.structs j lt))
+      desc_good j d (struct_rules set.structs j d) (struct_clean set well j d (slice_get-get_or set.structs j no_desc lt))
 
   pub old_structs : OldStructs set.structs
   old_structs i lt = record { fields = (struct_good i lt).old }

@@ -16,7 +16,7 @@ use Rattle.vms_spec.proofs.WellFormedLaws.{device_parts, sub_clean, sub_found}
 use Rattle.vms_check_laws.specs.CellLaws.{PartnersLaw}
 use Rattle.vms_check_laws.specs.Pairing.{ArePartners}
 use Rattle.vms_check.specs.Partners.{part_partners, sub_partners, named_partners, device_partners}
-use Rattle.vms_check_laws.proofs.PairLists.{AreFrom, IsPair, IsBehind, at_left, at_right, at_none, before_or_behind}
+use Rattle.vms_check_laws.proofs.PairLists.{AreFrom, IsPair, IsBehind, at_left, at_right, at_none, before_or_behind, IsOnce, Apart, once_append}
 use Rattle.vms_check_laws.proofs.PairStructs.{below_of, part_paired}
 
 -- ---- what stands under a name, and where
@@ -97,7 +97,7 @@ module _ (old new : Set) (good_old : WellFormed old) (good_new : WellFormed new)
   pub record OneSub (s : Sub) (partners : List (Option ℕ)) : Type 0 where
     pub long : length partners ≡ length (old_cells s)
     pub pairs : (c k : ℕ) → slice_get partners c ≡ Some (Some k) → IsSubPair (old_cells s) s.desc.name c k
-    pub once : (b c k : ℕ) → slice_get partners b ≡ Some (Some k) → slice_get partners c ≡ Some (Some k) → b ≡ c
+    pub once : IsOnce partners
 
   no_sub : (s : Sub) → OneSub s (sub_partners old new e s None None)
   no_sub s = record {
@@ -132,7 +132,7 @@ module _ (old new : Set) (good_old : WellFormed old) (good_new : WellFormed new)
   pub record AllSubs (subs : List Sub) (partners : List (Option ℕ)) : Type 0 where
     pub long : length partners ≡ length (flat_map old_cells subs)
     pub pairs : (c k : ℕ) → slice_get partners c ≡ Some (Some k) → SomeSub subs c k
-    pub once : (b c k : ℕ) → slice_get partners b ≡ Some (Some k) → slice_get partners c ≡ Some (Some k) → b ≡ c
+    pub once : IsOnce partners
 
   abbrev AreDistinct : List Sub → Type 0
   AreDistinct subs = (m m' : ℕ) (s s' : Sub) → slice_get subs m ≡ Some s → slice_get subs m' ≡ Some s' → s.desc.name ≡ s'.desc.name → m ≡ m'
@@ -168,7 +168,7 @@ module _ (old new : Set) (good_old : WellFormed old) (good_new : WellFormed new)
     right : (c k : ℕ) (b : IsBehind (length p) c) → slice_get (p ++ q) c ≡ Some (Some k) → SomeSub subs b.more k
     right c k b f = g.pairs b.more k (sym (at_right p q b.more) ∙ ap (slice_get (p ++ q)) (sym b.is) ∙ f)
 
-    apart : (b c k : ℕ) → b < length p → IsBehind (length p) c → slice_get (p ++ q) b ≡ Some (Some k) → slice_get (p ++ q) c ≡ Some (Some k) → ⊥
+    apart : Apart p q
     apart b c k lt behind f f' =
         let x = left b k lt f in
         let z = right c k behind f' in
@@ -217,16 +217,6 @@ module _ (old new : Set) (good_old : WellFormed old) (good_new : WellFormed new)
           };
         }
 
-    once_at : (b c k : ℕ) → slice_get (p ++ q) b ≡ Some (Some k) → slice_get (p ++ q) c ≡ Some (Some k) → (b < length p) ⊎ IsBehind (length p) b → (c < length p) ⊎ IsBehind (length p) c → b ≡ c
-    once_at b c k f f' (inl lb) (inl lc) = h.once b c k (sym (at_left p q b lb) ∙ f) (sym (at_left p q c lc) ∙ f')
-    once_at b c k f f' (inl lb) (inr dc) = absurd (apart b c k lb dc f f')
-    once_at b c k f f' (inr db) (inl lc) = absurd (apart c b k lc db f' f)
-    once_at b c k f f' (inr db) (inr dc) =
-        let one = g.once db.more dc.more k (sym (at_right p q db.more) ∙ ap (slice_get (p ++ q)) (sym db.is) ∙ f) (sym (at_right p q dc.more) ∙ ap (slice_get (p ++ q)) (sym dc.is) ∙ f') in
-        let x = db.is in
-        let z = dc.is in
-        omega (arith, one, x, z)
-
     joined : AllSubs (s ∷ subs) (p ++ q)
     joined =
         let long = h.long in
@@ -234,7 +224,7 @@ module _ (old new : Set) (good_old : WellFormed old) (good_new : WellFormed new)
         record {
           long = omega (arith, long, long', length-append p q, length-append (old_cells s) (flat_map old_cells subs));
           pairs = λ c k f. pair_at c k f (before_or_behind (length p) c);
-          once = λ b c k f f'. once_at b c k f f' (before_or_behind (length p) b) (before_or_behind (length p) c);
+          once = once_append p q h.once g.once apart;
         }
 
   all_subs : (subs : List Sub) → AreDistinct subs → ((m : ℕ) (s : Sub) → slice_get subs m ≡ Some s → OneSub s (named_partners old new e s)) → AllSubs subs (flat_map (named_partners old new e) subs)
@@ -303,7 +293,7 @@ module _ (old new : Set) (good_old : WellFormed old) (good_new : WellFormed new)
             ∙ sym (ap (λ (u : Cell). u.kind) (get_or-append-add us (flat_map new_cells e.subs) (h.0 + p.r) no_cell ∙ h.3 p.r inside)) ∙ ap (λ (n : ℕ). (get_or (device_cells new e) n no_cell).kind) k_is,
       )
 
-  apart_own : (b c k : ℕ) → b < length ps → IsBehind (length ps) c → slice_get (ps ++ qs) b ≡ Some (Some k) → slice_get (ps ++ qs) c ≡ Some (Some k) → ⊥
+  apart_own : Apart ps qs
   apart_own b c k lt behind f g =
       let p = own_pair b k lt f in
       let z = sub_pair c k behind g in
@@ -311,16 +301,6 @@ module _ (old new : Set) (good_old : WellFormed old) (good_new : WellFormed new)
       let a2 = p.inside in
       let b1 = z.pair.is in
       omega (arith, a1, a2, b1, sub_place_up new (own_cells new e) e.subs z.pair.l)
-
-  once_of : (b c k : ℕ) → slice_get (ps ++ qs) b ≡ Some (Some k) → slice_get (ps ++ qs) c ≡ Some (Some k) → (b < length ps) ⊎ IsBehind (length ps) b → (c < length ps) ⊎ IsBehind (length ps) c → b ≡ c
-  once_of b c k f g (inl lb) (inl lc) = own.once b c k (sym (at_left ps qs b lb) ∙ f) (sym (at_left ps qs c lc) ∙ g)
-  once_of b c k f g (inl lb) (inr dc) = absurd (apart_own b c k lb dc f g)
-  once_of b c k f g (inr db) (inl lc) = absurd (apart_own c b k lc db g f)
-  once_of b c k f g (inr db) (inr dc) =
-      let one = rest.once db.more dc.more k (sym (at_right ps qs db.more) ∙ ap (slice_get (ps ++ qs)) (sym db.is) ∙ f) (sym (at_right ps qs dc.more) ∙ ap (slice_get (ps ++ qs)) (sym dc.is) ∙ g) in
-      let x = db.is in
-      let z = dc.is in
-      omega (arith, one, x, z)
 
   pub device_paired : ArePartners (device_cells old d) (device_cells new e) (device_partners old new d e)
   unfolding device_partners
@@ -330,7 +310,7 @@ module _ (old new : Set) (good_old : WellFormed old) (good_new : WellFormed new)
       record {
         long = omega (arith, long, long', length-append ps qs, length-append xs (flat_map old_cells d.subs));
         kinds = λ c k f. kinds c k f (before_or_behind (length ps) c);
-        once = λ b c k f g. once_of b c k f g (before_or_behind (length ps) b) (before_or_behind (length ps) c);
+        once = once_append ps qs own.once rest.once apart_own;
       }
 
 pub partners_stand : PartnersLaw

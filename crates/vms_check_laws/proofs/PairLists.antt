@@ -12,10 +12,14 @@ pub record IsPair (cells others : List Cell) (at c k : ℕ) : Type 0 where
   pub inside : r < length others
   pub kind : (get_or cells c no_cell).kind ≡ (get_or others r no_cell).kind
 
+-- no number is the partner of two
+abbrev pub IsOnce : List (Option ℕ) → Type 0
+IsOnce partners = (b c k : ℕ) → slice_get partners b ≡ Some (Some k) → slice_get partners c ≡ Some (Some k) → b ≡ c
+
 pub record AreFrom (cells others : List Cell) (at : ℕ) (partners : List (Option ℕ)) : Type 0 where
   pub long : length partners ≡ length cells
   pub pairs : (c k : ℕ) → slice_get partners c ≡ Some (Some k) → IsPair cells others at c k
-  pub once : (b c k : ℕ) → slice_get partners b ≡ Some (Some k) → slice_get partners c ≡ Some (Some k) → b ≡ c
+  pub once : IsOnce partners
 
 -- ---- lists
 
@@ -52,6 +56,24 @@ before_or_behind n c = go (cases_lt c n) where
   go : (c < n) ⊎ (n ≤ c) → (c < n) ⊎ IsBehind n c
   go (inl lt) = inl lt
   go (inr le) = inr (record { more = c - n; is = omega (arith, le) })
+
+-- no number is the partner of one before and of one behind
+abbrev pub Apart : List (Option ℕ) → List (Option ℕ) → Type 0
+Apart p q = (b c k : ℕ) → b < length p → IsBehind (length p) c → slice_get (p ++ q) b ≡ Some (Some k) → slice_get (p ++ q) c ≡ Some (Some k) → ⊥
+
+module _ (p q : List (Option ℕ)) (first : IsOnce p) (second : IsOnce q) (apart : Apart p q) where
+  once_either : (b c k : ℕ) → slice_get (p ++ q) b ≡ Some (Some k) → slice_get (p ++ q) c ≡ Some (Some k) → (b < length p) ⊎ IsBehind (length p) b → (c < length p) ⊎ IsBehind (length p) c → b ≡ c
+  once_either b c k e f (inl lb) (inl lc) = first b c k (sym (at_left p q b lb) ∙ e) (sym (at_left p q c lc) ∙ f)
+  once_either b c k e f (inl lb) (inr dc) = absurd (apart b c k lb dc e f)
+  once_either b c k e f (inr db) (inl lc) = absurd (apart c b k lc db f e)
+  once_either b c k e f (inr db) (inr dc) =
+      let one = second db.more dc.more k (sym (at_right p q db.more) ∙ ap (slice_get (p ++ q)) (sym db.is) ∙ e) (sym (at_right p q dc.more) ∙ ap (slice_get (p ++ q)) (sym dc.is) ∙ f) in
+      let x = db.is in
+      let y = dc.is in
+      omega (arith, one, x, y)
+
+  pub once_append : IsOnce (p ++ q)
+  once_append b c k e f = once_either b c k e f (before_or_behind (length p) b) (before_or_behind (length p) c)
 
 module _ (xs ys us vs : List Cell) (at : ℕ) (p q : List (Option ℕ)) (h : AreFrom xs us at p) (g : AreFrom ys vs (at + length us) q) where
   kind_left : (c : ℕ) → c < length xs → (get_or (xs ++ ys) c no_cell).kind ≡ (get_or xs c no_cell).kind
@@ -90,24 +112,14 @@ module _ (xs ys us vs : List Cell) (at : ℕ) (p q : List (Option ℕ)) (h : Are
             ∙ sym (ap (λ (x : Cell). x.kind) (get_or-append-add us vs i.r no_cell));
       }
 
-  apart : (b c k : ℕ) → c < length p → (d : IsBehind (length p) b) → slice_get (p ++ q) c ≡ Some (Some k) → slice_get (p ++ q) b ≡ Some (Some k) → ⊥
+  apart : Apart p q
   apart b c k lt d e f =
-      let i = pair_left c k lt e in
-      let j = pair_right b k d f in
+      let i = pair_left b k lt e in
+      let j = pair_right c k d f in
       let a1 = i.is in
       let a2 = i.inside in
       let b1 = j.is in
       omega (arith, a1, a2, b1)
-
-  once_either : (b c k : ℕ) → slice_get (p ++ q) b ≡ Some (Some k) → slice_get (p ++ q) c ≡ Some (Some k) → (b < length p) ⊎ IsBehind (length p) b → (c < length p) ⊎ IsBehind (length p) c → b ≡ c
-  once_either b c k e f (inl lb) (inl lc) = h.once b c k (sym (at_left p q b lb) ∙ e) (sym (at_left p q c lc) ∙ f)
-  once_either b c k e f (inl lb) (inr dc) = absurd (apart c b k lb dc e f)
-  once_either b c k e f (inr db) (inl lc) = absurd (apart b c k lc db f e)
-  once_either b c k e f (inr db) (inr dc) =
-      let one = g.once db.more dc.more k (sym (at_right p q db.more) ∙ ap (slice_get (p ++ q)) (sym db.is) ∙ e) (sym (at_right p q dc.more) ∙ ap (slice_get (p ++ q)) (sym dc.is) ∙ f) in
-      let x = db.is in
-      let y = dc.is in
-      omega (arith, one, x, y)
 
   pub paired_append : AreFrom (xs ++ ys) (us ++ vs) at (p ++ q)
   paired_append =
@@ -116,7 +128,7 @@ module _ (xs ys us vs : List Cell) (at : ℕ) (p q : List (Option ℕ)) (h : Are
       record {
         long = omega (arith, long, long', length-append p q, length-append xs ys);
         pairs = λ c k e. pair_either c k e (before_or_behind (length p) c);
-        once = λ b c k e f. once_either b c k e f (before_or_behind (length p) b) (before_or_behind (length p) c);
+        once = once_append p q h.once g.once apart;
       }
 
 -- others that stand before, or that nothing is paired with

@@ -12,6 +12,8 @@ use Rattle.vms_spec.proofs.WellFormedLaws.{Clean, struct_clean}
 use Rattle.vms_check.specs.Partners.{Pairer, no_pairer, pairer_of, pairers, part_partners}
 use Rattle.vms_check_laws.proofs.PairLists.{AreFrom}
 use Rattle.vms_check_laws.proofs.PairFields.{Structs, desc_paired}
+use Rattle.std.proofs.lemmas.List.{get_or_past}
+use Rattle.std.proofs.lemmas.Option.{slice_get-get_or}
 
 -- ---- the cells of a structure
 
@@ -21,19 +23,9 @@ below_of k d rules c = go d.fields (λ i f e. (c.fields i f e).1.1.1.1.0) where
   go [] h = tt
   go (f ∷ fs) h = (item_below k f.item (h 0 f refl), go fs (λ i g e. h (suc i) g e))
 
-at_get : (xs : List Desc) (j : ℕ) → j < length xs → slice_get xs j ≡ Some (get_or xs j no_desc)
-at_get [] j lt = absurd (omega arith)
-at_get (x ∷ xs) zero lt = refl
-at_get (x ∷ xs) (suc j) lt = at_get xs j (omega arith)
-
-get_beyond : {A : Type 0} (xs : List A) (j : ℕ) (d : A) → length xs ≤ j → get_or xs j d ≡ d
-get_beyond [] j d le = refl
-get_beyond (x ∷ xs) zero d le = absurd (omega arith)
-get_beyond (x ∷ xs) (suc j) d le = get_beyond xs j d (omega arith)
-
 module _ (set : Set) (well : WellFormed set) where
   pub struct_below : (j : ℕ) → j < length set.structs → FieldsBelow j (get_or set.structs j no_desc).fields
-  struct_below j lt = below_of j (get_or set.structs j no_desc) (struct_rules set.structs j (get_or set.structs j no_desc)) (struct_clean set well j (get_or set.structs j no_desc) (at_get set.structs j lt))
+  struct_below j lt = below_of j (get_or set.structs j no_desc) (struct_rules set.structs j (get_or set.structs j no_desc)) (struct_clean set well j (get_or set.structs j no_desc) (slice_get-get_or set.structs j no_desc lt))
 
   pub struct_is : (j : ℕ) → get_or (struct_cells set) j [] ≡ desc_cells (struct_cells set) (get_or set.structs j no_desc)
   struct_is j = go (nat_lt j (length set.structs)) refl where
@@ -49,7 +41,7 @@ module _ (set : Set) (well : WellFormed set) where
         let k = length set.structs in
         let le : k ≤ j = ltb-false j k e in
         let long = first_long desc_cells ds k in
-        get_beyond (struct_cells set) j [] (omega (arith, le, long)) ∙ sym (ap (λ (d : Desc). desc_cells (struct_cells set) d) (get_beyond ds j no_desc le))
+        get_or_past (struct_cells set) j [] (omega (arith, le, long)) ∙ sym (ap (λ (d : Desc). desc_cells (struct_cells set) d) (get_or_past ds j no_desc le))
 
 -- ---- their partners
 

@@ -19,7 +19,7 @@ settled_defaults slots at cells = record { each = λ c lt. inr refl }
 pub settled_empty : (slots : List Slot) (at : ℕ) (cells : List Cell) (segment : List ℤ) → length segment ≡ 0 → Settled slots at cells segment
 settled_empty slots at cells segment e = record { each = λ c lt. absurd (omega arith) }
 
-defaults_append : (xs ys : List Cell) → defaults (xs ++ ys) ≡ defaults xs ++ defaults ys
+pub defaults_append : (xs ys : List Cell) → defaults (xs ++ ys) ≡ defaults xs ++ defaults ys
 defaults_append [] ys = refl
 defaults_append (x ∷ xs) ys = ap (λ (l : List ℤ). x.default ∷ l) (defaults_append xs ys)
 

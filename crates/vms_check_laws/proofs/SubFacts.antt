@@ -24,6 +24,7 @@ use Rattle.vms_spec.proofs.Faultless.{or_else_none}
 use Rattle.vms_check_laws.proofs.Good.{sub_good}
 use Rattle.vms_check_laws.proofs.Parts.{good_cells}
 use Rattle.vms_check_laws.proofs.Subsections.{Came, Stayed, Facts}
+use Rattle.vms_check_laws.proofs.PairDevices.{found as found_sub}
 
 -- where there is no first answer, the one on each has none
 pub none_at : {A B : Type 0} (f : ℕ → A → Option B) (i : ℕ) (xs : List A) (j : ℕ) (x : A) → first_answer f i xs ≡ None → slice_get xs j ≡ Some x → f (i + j) x ≡ None
@@ -35,20 +36,6 @@ none_at f i (y ∷ xs) zero x h e =
 none_at f i (y ∷ xs) (suc j) x h e =
     let z : suc i + j ≡ i + suc j = omega arith in
     subst (λ (n : ℕ). f n x ≡ None) z (none_at f (suc i) xs j x (or_else_none (f i y) (first_answer f (suc i) xs) h).1 e)
-
-pub record Found (subs : List Sub) (name : List ℕ) (j : ℕ) : Type 0 where
-  pub sub : Sub
-  pub stands : slice_get subs j ≡ Some sub
-  pub is : sub.desc.name ≡ name
-
-pub found_named : (k : ℕ) (subs : List Sub) (name : List ℕ) (r : ℕ) → find_sub k subs name ≡ Some r → (j : ℕ) × (r ≡ k + j) × Found subs name j
-found_named k [] name r h = absurd (cc)
-found_named k (s ∷ subs) name r h =
-    let choice : (c : Bool) → bytes_eq s.desc.name name ≡ c → (if c then Some k else find_sub (suc k) subs name) ≡ Some r → (j : ℕ) × (r ≡ k + j) × Found (s ∷ subs) name j = elim [
-      | true ↦ λ e g. let same : k ≡ r = cc in (0, omega (arith, same), record { sub = s; stands = refl; is = (bytes_eq-Decides s.desc.name name).0 e })
-      | false ↦ λ e g. let f = found_named (suc k) subs name r g in (suc f.0, omega (arith, f.1), record { sub = f.2.sub; stands = f.2.stands; is = f.2.is })
-    ] in
-    choice (bytes_eq s.desc.name name) refl h
 
 pub fits_whole : (cells : List Cell) (numbers : List ℤ) → FitCells cells numbers → FitsAt cells numbers 0
 fits_whole cells numbers h = record {
@@ -180,11 +167,9 @@ module _ (old new : Set) (good_old : WellFormed old) (good_new : WellFormed new)
         (ap (λ (r : Option ℕ). sub_came old new r (slice_get image.came (index r))) h)
         (ap (λ (r : Option ℕ). carry_sub old new d image t r (slice_get d.subs (index r)) (slice_get image.came (index r))) h)
     by_found (Some r) h =
-        let f = found_named 0 d.subs t.desc.name r h in
-        let j_is : f.0 ≡ r = omega (arith, f.1) in
-        let stands : slice_get d.subs r ≡ Some f.2.sub = subst (λ (n : ℕ). slice_get d.subs n ≡ Some f.2.sub) j_is f.2.stands in
-        let c = came_at d.subs image.came r f.2.sub ready.normal.subs stands in
-        by_came r f.2.sub c.0 stands f.2.is c.1 h
+        let f = found_sub d.subs t.desc.name r h in
+        let c = came_at d.subs image.came r f.sub ready.normal.subs f.there in
+        by_came r f.sub c.0 f.there f.name_is c.1 h
 
   facts_from : (l : ℕ) (ts : List Sub) → ((m : ℕ) → slice_get e.subs (l + m) ≡ slice_get ts m) → Facts old new good_old good_new d e image numbers' came_of ts
   facts_from l [] h = tt

@@ -26,7 +26,8 @@ use Rattle.vms_check_laws.proofs.Good.{device_good}
 use Rattle.vms_check_laws.proofs.Parts.{part_carries, part_fits, part_settles}
 use Rattle.vms_check_laws.proofs.Orders.{Among, NotIn, Apart, Come, comes_once}
 use Rattle.vms_check_laws.proofs.Subsections.{Came, Facts, subs_fit, subs_versions, subs_rules, subs_settle, sub_held, sub_carries}
-use Rattle.vms_check_laws.proofs.SubFacts.{none_at, found_named, fits_whole, came_of, came_is, facts}
+use Rattle.vms_check_laws.proofs.SubFacts.{none_at, fits_whole, came_of, came_is, facts}
+use Rattle.vms_check_laws.proofs.PairDevices.{found as found_sub}
 
 pub at_map : {A B : Type 0} (f : A → B) (xs : List A) (j : ℕ) (x : A) → slice_get xs j ≡ Some x → slice_get (map f xs) j ≡ Some (f x)
 at_map f [] j x e = absurd (cc)
@@ -56,9 +57,8 @@ module _ (old new : Set) (good_old : WellFormed old) (good_new : WellFormed new)
     by_found : (r : Option ℕ) → find_sub 0 e.subs s.desc.name ≡ r → compare_sub old new i k (0 + j) s (find_sub 0 e.subs s.desc.name) (slice_get e.subs (index (find_sub 0 e.subs s.desc.name))) ≡ None → SubPair e s
     by_found None h c = let bad : compare_sub old new i k (0 + j) s None (slice_get e.subs 0) ≡ None = subst (λ (r : Option ℕ). compare_sub old new i k (0 + j) s r (slice_get e.subs (index r)) ≡ None) h c in absurd (cc)
     by_found (Some r) h c =
-        let f = found_named 0 e.subs s.desc.name r h in
-        let l_is : f.0 ≡ r = omega (arith, f.1) in
-        record { number = r; sub = f.2.sub; found = h; stands = subst (λ (n : ℕ). slice_get e.subs n ≡ Some f.2.sub) l_is f.2.stands; name_is = f.2.is }
+        let f = found_sub e.subs s.desc.name r h in
+        record { number = r; sub = f.sub; found = h; stands = f.there; name_is = f.name_is }
 
   abbrev own : List ℤ
   own = carrying old new image.numbers image.version d.desc e.desc 0
@@ -162,14 +162,13 @@ module _ (old new : Set) (good_old : WellFormed old) (good_new : WellFormed new)
             let bad : sub_came old new None (slice_get image.came 0) ≡ Some v = ap (λ (r : Option ℕ). sub_came old new r (slice_get image.came (index r))) (sym is) ∙ f.2 in
             absurd (cc)
         | Some r ↦ λ is.
-            let g = found_named 0 d.subs t.desc.name r is in
-            let j_is : g.0 ≡ r = omega (arith, g.1) in
-            let s = g.2.sub in
-            let at_j : slice_get d.subs r ≡ Some s = subst (λ (n : ℕ). slice_get d.subs n ≡ Some s) j_is g.2.stands in
+            let g = found_sub d.subs t.desc.name r is in
+            let s = g.sub in
+            let at_j = g.there in
             let came_j : sub_came old new (Some r) (slice_get image.came r) ≡ Some v = ap (λ (q : Option ℕ). sub_came old new q (slice_get image.came (index q))) (sym is) ∙ f.2 in
             let at_came = came_from (slice_get image.came r) r v came_j in
             let found : find_sub 0 e.subs s.desc.name ≡ Some l =
-            ap (λ (n : List ℕ). find_sub 0 e.subs n) g.2.is ∙ sub_found new good_new k l e t at_k f.1 in
+            ap (λ (n : List ℕ). find_sub 0 e.subs n) g.name_is ∙ sub_found new good_new k l e t at_k f.1 in
             order_has d.subs image.came r l v s at_j at_came (ap index found)
       ] in
       go (find_sub 0 d.subs t.desc.name) refl

@@ -17,7 +17,7 @@ use Rattle.vms_check.specs.declared.mismatch.Mismatch.{Mismatch}
 use Rattle.vms_spec.specs.Sets.{Set}
 use Rattle.vms_commands.specs.Fetching.{fetched, longest_file, named_sets, word_set}
 use Rattle.vms_commands.specs.Lines.{bad_words, read_fault, write_fault, shelf_fault, out_of_memory, refused_line}
-use Rattle.vms_commands.specs.Outcomes.{Part, Outcome, DoesOrStops, done, ended, text_of, text_begun, Outside, HasPart}
+use Rattle.vms_commands.specs.Outcomes.{Part, Outcome, ComesTo, FailsToStore, TellsShelfFault, DoesOrStops, PromisesStay, done, ended, text_of, text_begun, Outside, HasPart}
 use Rattle.vms_commands.specs.SetWords.{SetWord}
 use Rattle.vms_commands.specs.Steps.{Step, Untold, Gives, Ends, Both, HasText, next}
 use Rattle.vms_commands.proofs.FileSets.{FitStep, fit_word}
@@ -48,7 +48,7 @@ use Rattle.vms_cli.specs.Check.{checked, compared, compatible_text, verdict}
 use Rattle.vms_cli.specs.Commands.{Asked, IsaBoard, Show, Pack, Check, Counter, Save, Load, Drill, Play, asked_of}
 use Rattle.vms_counter_laws.specs.Computed.{computed}
 use Rattle.vms_cli.specs.Counter.{CountersBy, counted, counter_text}
-use Rattle.vms_cli.specs.Laws.{HasOneOutcome, OutcomeLaw, CanBePacked, CanBeDone, HasRoom, IsAmple, PromisesKept, CompleteLaw}
+use Rattle.vms_cli.specs.Laws.{HasOneOutcome, OutcomeLaw, CanBePacked, CanBeDone, HasRoom, IsAmple, NoneRises, PromisesKept, CompleteLaw, AmpleLaw}
 use Rattle.vms_cli.specs.Pack.{described_stream, packed_by, packs}
 use Rattle.vms_cli.specs.Show.{ShowsBy, Values as Printed, Refuses}
 use Rattle.vms_cli.proofs.CheckLemmas.{sound_check}
@@ -288,6 +288,12 @@ begun_short (part ∷ parts) (suc zero) n = omega (arith, length-take n part.tex
 begun_short (part ∷ parts) (suc (suc k)) n =
     omega (arith, begun_short parts (suc k) n, length-append part.text (text_begun parts (suc k) n), length-append part.text (text_of parts))
 
+done_short : (parts : List Part) (k : ℕ) → length (text_of (take k parts)) ≤ length (text_of parts)
+done_short parts zero = omega arith
+done_short [] (suc k) = omega arith
+done_short (part ∷ parts) (suc k) =
+    omega (arith, done_short parts k, length-append part.text (text_of (take k parts)), length-append part.text (text_of parts))
+
 -- a sink with room for what was written has no fault
 room_kept : (p p' : Option ℕ) (w w' : Option (List ℕ)) (faults n : ℕ) (text : List ℕ) → IsSomeAnd p (λ room. IsSomeAnd w (λ old. length old + n < room)) → length text ≤ n
     → Appends w w' text → p' ≡ p → KeepsPromise p' w' faults → faults ≡ 0
@@ -317,21 +323,62 @@ part_room note old new none room (inr (inr (inl part))) same keeps = note_room w
 part_room note old new none room (inr (inr (inr (inl part)))) same keeps = note_room shelf_fault old new (omega arith) room part same keeps
 part_room note old new none room (inr (inr (inr (inr part)))) same keeps = note_room out_of_memory old new (omega arith) room part same keeps
 
-comes : (words : List (List ℕ)) (status : ℕ) (old new : Outside) (o : Outcome) → o.status ≡ 0 → o.note ≡ [] → IsAmple old o → PromisesKept new → Answers words status old new
-    → DoesOrStops status old new o → (status ≡ 0) ⊎ (status ≡ 10)
-comes words status old new o done_so none ample kept a (inl does) = inl (does.same ∙ done_so)
-comes words status old new o done_so none ample kept a (inr stops) = by stops.why
+-- what is written on notes of a call that stops is short
+notes_short : (status : ℕ) (old new : Outside) (o : Outcome) → o.note ≡ [] → HasRoom old.notes 14 → new.notes.promise ≡ old.notes.promise
+    → KeepsPromise new.notes.promise new.notes.written new.notes.faults → StopsAt status old new o → new.notes.faults ≡ 0
+notes_short status old new o none room same keeps why = by why
+  where
+    line : (text : List ℕ) → length text ≤ 14 → Appends old.notes.written new.notes.written text → new.notes.faults ≡ 0
+    line text short appends = room_kept old.notes.promise new.notes.promise old.notes.written new.notes.written new.notes.faults 14 text room short appends same keeps
+
+    by : StopsAt status old new o → new.notes.faults ≡ 0
+    by (inl read) = line read_fault (omega arith) read.3
+    by (inr (inl write)) = line write_fault (omega arith) write.2
+    by (inr (inr (inl notes))) = part_room o.note old.notes new.notes none room notes.1 same keeps
+    by (inr (inr (inr (inl shelf)))) = line shelf_fault (omega arith) shelf.2
+    by (inr (inr (inr (inr memory)))) = line out_of_memory (omega arith) memory.1
+
+module _ (status : ℕ) (old new : Outside) (o : Outcome) (none : o.note ≡ []) (ample : IsAmple old o) (kept : PromisesKept new) (stay : PromisesStay old new) where
+  out_short : (text : List ℕ) → length text ≤ length (text_of o.parts) → Appends old.out.written new.out.written text → new.out.faults ≡ 0
+  out_short text short appends =
+      room_kept old.out.promise new.out.promise old.out.written new.out.written new.out.faults (length (text_of o.parts)) text ample.out short appends stay.out kept.out
+
+  come_short : ComesTo old.out new.out old.shelf new.shelf o.parts ⊎ (TellsShelfFault status old new × FailsToStore old.out new.out old.shelf new.shelf o.parts) → new.out.faults ≡ 0
+  come_short (inl comes) = out_short (text_begun o.parts comes.begun comes.bytes) (begun_short o.parts comes.begun comes.bytes) comes.text
+  come_short (inr fails) = out_short (text_of (take fails.1.done o.parts)) (done_short o.parts fails.1.done) fails.1.text
+
+  none-rises : new.out.faults ≡ 0 → new.notes.faults ≡ 0 → NoneRises old new
+  none-rises out notes = record {
+    input = never_rose _ _ (kept.input (stay.input ∙ ample.input));
+    out = never_rose _ _ out;
+    notes = never_rose _ _ notes;
+    shelf = never_rose _ _ (kept.shelf (stay.shelf ∙ ample.shelf));
+  }
+
+  rises_never : DoesOrStops status old new o → NoneRises old new
+  rises_never (inl does) =
+      none-rises (out_short (text_of o.parts) (omega arith) does.text)
+      (room_kept old.notes.promise new.notes.promise old.notes.written new.notes.written new.notes.faults 14 o.note ample.notes (omega (arith, ap length none)) does.note stay.notes kept.notes)
+  rises_never (inr stops) =
+      none-rises (come_short stops.come) (notes_short status old new o none ample.notes stay.notes kept.notes stops.why)
+
+pub ample_holds : AmpleLaw
+ample_holds words status old new can ample kept a =
+    let d = can_be (asked_of words) old.input.left old.shelf.held can in
+    rises_never status old new d.outcome d.note (ample d.outcome d.is) kept a.promises (a.outcome d.outcome d.is)
+
+comes : (status : ℕ) (old new : Outside) (o : Outcome) → o.status ≡ 0 → NoneRises old new → DoesOrStops status old new o → (status ≡ 0) ⊎ (status ≡ 10)
+comes status old new o done_so never (inl does) = inl (does.same ∙ done_so)
+comes status old new o done_so never (inr stops) = by stops.why
   where
     by : StopsAt status old new o → (status ≡ 0) ⊎ (status ≡ 10)
-    by (inl read) = absurd (never_rose _ _ (kept.input (a.promises.input ∙ ample.input)) read.1)
-    by (inr (inl write)) =
-        absurd (never_rose _ _ (room_kept old.out.promise new.out.promise old.out.written new.out.written new.out.faults (length (text_of o.parts)) (text_begun o.parts stops.come.begun stops.come.bytes)
-        ample.out (begun_short o.parts stops.come.begun stops.come.bytes) stops.come.text a.promises.out kept.out) write.1)
-    by (inr (inr (inl notes))) = absurd (never_rose _ _ (part_room o.note old.notes new.notes none ample.notes notes.1 a.promises.notes kept.notes) notes.0.1)
-    by (inr (inr (inr (inl shelf)))) = absurd (never_rose _ _ (kept.shelf (a.promises.shelf ∙ ample.shelf)) shelf.1)
+    by (inl read) = absurd (never.input read.1)
+    by (inr (inl write)) = absurd (never.out write.1)
+    by (inr (inr (inl notes))) = absurd (never.notes notes.0.1)
+    by (inr (inr (inr (inl shelf)))) = absurd (never.shelf shelf.1)
     by (inr (inr (inr (inr memory)))) = inr memory.0
 
 pub complete_holds : CompleteLaw
-complete_holds words status old new can ample kept a =
+complete_holds words status old new can never a =
     let d = can_be (asked_of words) old.input.left old.shelf.held can in
-    comes words status old new d.outcome d.status d.note (ample d.outcome d.is) kept a (a.outcome d.outcome d.is)
+    comes status old new d.outcome d.status never (a.outcome d.outcome d.is)

@@ -55,10 +55,6 @@ same_machine set (Some m) = refl
 abbrev pub shows_under : Option (List ℕ) → Option Held → Set → Outcome → Type 0
 shows_under input held set x = IsSomeAnd input (λ bytes. Shows set bytes held x)
 
--- what the laws of streams ask of a set
-pub fit_of : (set : Set) → is_well_formed set ≡ true → FitsHeads set → IsFit set
-fit_of set well heads = record { well = well_of set well; heads = heads }
-
 -- the outcome of an input that takes a stream
 pub shown_is : (set : Set) → IsFit set → (bytes : List ℕ) (held : Option Held) (taken : ℕ) (machine : Option (List ℕ)) (images : List Image) (x : Outcome) → IsBytes bytes
     → Takes set set.machines bytes taken machine images → Shows set bytes held x → x ≡ done (values_text set machine images) held taken

@@ -1,6 +1,6 @@
 -- What follows of all calls, and of packing and showing one after the other.
 use Rattle.std.specs.Prelude.{◌≡◌, ◌⊎◌, ℕ, ◌+◌, ◌<◌, ◌≤◌, true, List, length, Option, Some, None, Ok, IfSome, IsSomeAnd}
-use Rattle.vms_io.specs.Causes.{KeepsPromise}
+use Rattle.vms_io.specs.Causes.{KeepsPromise, Rose}
 use Rattle.vms_io.specs.Shelves.{Held}
 use Rattle.vms_io.specs.Told.{Outlet}
 use Rattle.vms_spec.specs.Images.{Image}
@@ -91,6 +91,18 @@ CanBeDone (Some (Play level script)) input held =
     IsSomeAnd held (λ map. GoesBy (Some (Play level script)) map × CanBeRead (Some level) script map)
 CanBeDone (Some (Drill level seed count)) input held = Unit {0}
 
+-- the count of no object rises in the call
+pub record NoneRises (old new : Outside) : Type 0 where
+  pub input : Rose old.input.faults new.input.faults → ⊥
+  pub out : Rose old.out.faults new.out.faults → ⊥
+  pub notes : Rose old.notes.faults new.notes.faults → ⊥
+  pub shelf : Rose old.shelf.faults new.shelf.faults → ⊥
+
+-- where all that a command asks for is there and no count rises, it is done, or memory is wanting
+abbrev pub CompleteLaw : Type 0
+CompleteLaw = (words : List (List ℕ)) (status : ℕ) (old new : Outside) → CanBeDone (asked_of words) old.input.left old.shelf.held
+    → NoneRises old new → Answers words status old new → (status ≡ 0) ⊎ (status ≡ 10)
+
 -- a sink that promises no fault while it has room for so many bytes more
 abbrev pub HasRoom : Outlet → ℕ → Type 0
 HasRoom sink bytes = IsSomeAnd sink.promise (λ room. IsSomeAnd sink.written (λ old. length old + bytes < room))
@@ -109,11 +121,11 @@ pub record PromisesKept (now : Outside) : Type 0 where
   pub notes : KeepsPromise now.notes.promise now.notes.written now.notes.faults
   pub shelf : now.shelf.promise ≡ true → now.shelf.faults ≡ 0
 
--- where all that a command asks for is there and nothing can fail, it is done, or memory is wanting
-abbrev pub CompleteLaw : Type 0
-CompleteLaw = (words : List (List ℕ)) (status : ℕ) (old new : Outside) → CanBeDone (asked_of words) old.input.left old.shelf.held
+-- so it is where nothing can fail: then no count rises
+abbrev pub AmpleLaw : Type 0
+AmpleLaw = (words : List (List ℕ)) (status : ℕ) (old new : Outside) → CanBeDone (asked_of words) old.input.left old.shelf.held
     → ((o : Outcome) → HasOutcome (asked_of words) old.input.left old.shelf.held o → IsAmple old o)
-    → PromisesKept new → Answers words status old new → (status ≡ 0) ⊎ (status ≡ 10)
+    → PromisesKept new → Answers words status old new → NoneRises old new
 
 -- ---- check, and then show
 

@@ -1,6 +1,6 @@
 //! Each law is the contract of a function without a body. The statements stand in `specs/Laws.antt` and `specs/States.antt`.
 ghost use Rattle.vms_cli.specs.States.{AlwaysNamedLaw, StateLaw};
-ghost use Rattle.vms_cli.specs.Laws.{CheckThenShowLaw, OutcomeLaw, CompleteLaw, PackThenShowLaw, ShowThenPackLaw, WordsLaw};
+ghost use Rattle.vms_cli.specs.Laws.{CheckThenShowLaw, OutcomeLaw, CompleteLaw, AmpleLaw, PackThenShowLaw, ShowThenPackLaw, WordsLaw};
 
 /// Whatever words, input of bytes and shelf there are, a call has an outcome, and no other; of `play` the shelf is one of
 /// bytes.
@@ -10,11 +10,17 @@ pub fn outcome_law()
     ensures words { WordsLaw }
 {}
 
-/// Where the words name a command, what it goes by is there and in its grammar, no object lists failing calls, and out and
-/// notes have room, the status is 0, or 10 for want of memory.
+/// Where the words name a command, what it goes by is there and in its grammar, and no count of faults rises in the call, the
+/// status is 0, or 10 for want of memory.
 #[tactic(auto, using(crate::proofs::OutcomeLaws::complete_holds))]
 pub fn complete_law()
     ensures { CompleteLaw }
+{}
+
+/// Where no object lists failing calls, and out has room for the outcome's text and notes for a line, no count of faults rises.
+#[tactic(auto, using(crate::proofs::OutcomeLaws::ample_holds))]
+pub fn ample_law()
+    ensures { AmpleLaw }
 {}
 
 /// Where `check OLD NEW` was done, a stream that OLD's set wrote of ready images is shown by `show NEW` as carried, and all of it

@@ -9,7 +9,7 @@ use Rattle.vms_commands.specs.declared.ending.Ending.{Ending}
 use Rattle.vms_commands.specs.declared.ending.Ending.TheVariants.{Done, Refused, BadWords, BadText, NotCompatible, ReadFault, WriteFault, ShelfFault, NotThere, TooLarge, NoMemory}
 use Rattle.vms_commands.specs.Endings.{Caused, EndsAs, EndsWith, Quiet, Tells, WritesAs}
 use Rattle.vms_commands.specs.Lines.{bad_words}
-use Rattle.vms_commands.specs.Outcomes.{Part, Outcome, Outside, ComesTo, DoesOrStops, TakesBytes, done, ended, text_of, held_after}
+use Rattle.vms_commands.specs.Outcomes.{Part, Outcome, Outside, ComesTo, ComesToFault, FailsToStore, TellsShelfFault, DoesOrStops, TakesBytes, done, ended, text_of, held_after}
 
 -- what stays grows by nothing
 pub kept_none : (old new : Option (List ℕ)) → Keeps old new → Appends old new []
@@ -22,7 +22,7 @@ same_keeps o o' e = subst (λ (x : Outlet). Keeps o.written x.written) (sym e) (
 
 -- nothing was begun
 pub comes_to_nothing : (o o' : Outlet) (s s' : Stock) (parts : List Part) → Keeps o.written o'.written → s'.held ≡ s.held → ComesTo o o' s s' parts
-comes_to_nothing o o' s s' parts keeps held = record { begun = 0; bytes = 0; text = kept_none o.written o'.written keeps; held = inl held }
+comes_to_nothing o o' s s' parts keeps held = record { begun = 0; bytes = 0; text = kept_none o.written o'.written keeps; held = held }
 
 -- what is as it was is quiet
 pub quiet_same : (o : Outlet) (e : Ending) → Quiet o o e
@@ -65,7 +65,7 @@ text_written text i i' o o' s s' taken Done w same t = record {
   held = same;
   taken = t;
 }
-text_written text i i' o o' s s' taken WriteFault w same t = record { begun = 1; bytes = w.0.0; text = w.0.2; held = inl same }
+text_written text i i' o o' s s' taken WriteFault w same t = record { begun = 1; bytes = w.0.0; text = w.0.2; held = same }
 text_written text i i' o o' s s' taken NoMemory w same t = absurd w
 text_written text i i' o o' s s' taken (Refused r) w same t = absurd w
 text_written text i i' o o' s s' taken BadWords w same t = absurd w
@@ -97,8 +97,14 @@ module _ (i i' : Intake) (o o' n n' : Outlet) (s s' : Stock) where
   }
   ended_so k status line x never ends keeps held (inr t) = inr record {
     why = inr (inr (inl ((t.0, t.1), inl (subst (λ (l : List ℕ). AppendsPrefix n.written n'.written l) (sym ends.note) t.2))));
-    come = comes_to_nothing o o' s s' x.parts keeps held;
+    come = inl (comes_to_nothing o o' s s' x.parts keeps held);
   }
+
+  -- how far it came, where a fault of the shelf is told
+  at_fault : (status : ℕ) (x : Outcome) → ComesToFault o o' s s' x.parts → TellsShelfFault status (around i o n s) (around i' o' n' s')
+      → ComesTo o o' s s' x.parts ⊎ (TellsShelfFault status (around i o n s) (around i' o' n' s') × FailsToStore o o' s s' x.parts)
+  at_fault status x (inl comes) told = inl comes
+  at_fault status x (inr fails) told = inr (told, fails)
 
   -- how the call ended, by the outcome and by the cause: it does the outcome, or it stops on the way
   pub outcome_so : (e : Ending) (status : ℕ) (x : Outcome) → EndsAs i i' o o' s s' e x → Caused i i' o o' s s' e → Tells n n' e status
@@ -117,11 +123,12 @@ module _ (i i' : Intake) (o o' n n' : Outlet) (s s' : Stock) where
   outcome_so (NotCompatible line) status x d c t = ended_so 4 status (string_bytes line) x (λ z. omega (arith, z)) d c.0 c.1 t
   outcome_so (NotThere line) status x d c t = ended_so 8 status (string_bytes line) x (λ z. omega (arith, z)) d c.0 c.1 t
   outcome_so (TooLarge line) status x d c t = ended_so 9 status (string_bytes line) x (λ z. omega (arith, z)) d c.0 c.1 t
-  outcome_so ReadFault status x d c (inl t) = inr record { why = inl (t.0, c.0, c.1, t.1); come = d }
-  outcome_so ReadFault status x d c (inr t) = inr record { why = inr (inr (inl ((t.0, t.1), inr (inl t.2)))); come = d }
-  outcome_so WriteFault status x d c (inl t) = inr record { why = inr (inl (t.0, c, t.1)); come = d }
-  outcome_so WriteFault status x d c (inr t) = inr record { why = inr (inr (inl ((t.0, t.1), inr (inr (inl t.2))))); come = d }
-  outcome_so ShelfFault status x d c (inl t) = inr record { why = inr (inr (inr (inl (t.0, c, t.1)))); come = d }
-  outcome_so ShelfFault status x d c (inr t) = inr record { why = inr (inr (inl ((t.0, t.1), inr (inr (inr (inl t.2)))))); come = d }
-  outcome_so NoMemory status x d c (inl t) = inr record { why = inr (inr (inr (inr t))); come = d }
-  outcome_so NoMemory status x d c (inr t) = inr record { why = inr (inr (inl ((t.0, t.1), inr (inr (inr (inr t.2)))))); come = d }
+  outcome_so ReadFault status x d c (inl t) = inr record { why = inl (t.0, c.0, c.1, t.1); come = inl d }
+  outcome_so ReadFault status x d c (inr t) = inr record { why = inr (inr (inl ((t.0, t.1), inr (inl t.2)))); come = inl d }
+  outcome_so WriteFault status x d c (inl t) = inr record { why = inr (inl (t.0, c, t.1)); come = inl d }
+  outcome_so WriteFault status x d c (inr t) = inr record { why = inr (inr (inl ((t.0, t.1), inr (inr (inl t.2))))); come = inl d }
+  outcome_so ShelfFault status x d c (inl t) = inr record { why = inr (inr (inr (inl (t.0, c, t.1)))); come = at_fault status x d (inl (t.0, c, t.1)) }
+  outcome_so ShelfFault status x d c (inr t) =
+      inr record { why = inr (inr (inl ((t.0, t.1), inr (inr (inr (inl t.2)))))); come = at_fault status x d (inr ((t.0, t.1), t.2)) }
+  outcome_so NoMemory status x d c (inl t) = inr record { why = inr (inr (inr (inr t))); come = inl d }
+  outcome_so NoMemory status x d c (inr t) = inr record { why = inr (inr (inl ((t.0, t.1), inr (inr (inr (inr t.2)))))); come = inl d }

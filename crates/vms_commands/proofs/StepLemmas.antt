@@ -134,8 +134,8 @@ given_ends text i o o' s s' Done few same quiet h = record {
   held = same;
   taken = takes_nothing i few;
 }
-given_ends text i o o' s s' WriteFault few same quiet h = record { begun = 1; bytes = h.0; text = h.2; held = inl same }
-given_ends text i o o' s s' ShelfFault few same quiet h = comes_to_nothing o o' s s' _ quiet same
+given_ends text i o o' s s' WriteFault few same quiet h = record { begun = 1; bytes = h.0; text = h.2; held = same }
+given_ends text i o o' s s' ShelfFault few same quiet h = inl (comes_to_nothing o o' s s' _ quiet same)
 given_ends text i o o' s s' NoMemory few same quiet h = comes_to_nothing o o' s s' _ quiet same
 given_ends text i o o' s s' (Refused line) few same quiet h = absurd h
 given_ends text i o o' s s' BadWords few same quiet h = absurd h
@@ -154,7 +154,7 @@ ended_ends status line i o o' s s' (BadText text) same quiet h = ends_with 3 (st
 ended_ends status line i o o' s s' (NotCompatible text) same quiet h = ends_with 4 (string_bytes text) i _ (same_end status 4 line (string_bytes text) h.0 h.1)
 ended_ends status line i o o' s s' (NotThere text) same quiet h = ends_with 8 (string_bytes text) i _ (same_end status 8 line (string_bytes text) h.0 h.1)
 ended_ends status line i o o' s s' (TooLarge text) same quiet h = ends_with 9 (string_bytes text) i _ (same_end status 9 line (string_bytes text) h.0 h.1)
-ended_ends status line i o o' s s' ShelfFault same quiet h = comes_to_nothing o o' s s' _ quiet same
+ended_ends status line i o o' s s' ShelfFault same quiet h = inl (comes_to_nothing o o' s s' _ quiet same)
 ended_ends status line i o o' s s' NoMemory same quiet h = comes_to_nothing o o' s s' _ quiet same
 ended_ends status line i o o' s s' Done same quiet h = absurd h
 ended_ends status line i o o' s s' (Refused text) same quiet h = absurd h
@@ -175,7 +175,7 @@ text_ends (Ends status line) i o o' s s' e x few same quiet h has =
 module _ {A T : Type 0} (m : T → A) (P : A → Outcome → Type 0) where
   free_by : (i : Intake) (o o' : Outlet) (s s' : Stock) (e : Ending) (x : Outcome) → s'.held ≡ s.held → Quiet o o' e → IsFree e
       → EndsAs i i o o' s s' e x
-  free_by i o o' s s' ShelfFault x same quiet h = comes_to_nothing o o' s s' _ quiet same
+  free_by i o o' s s' ShelfFault x same quiet h = inl (comes_to_nothing o o' s s' _ quiet same)
   free_by i o o' s s' NoMemory x same quiet h = comes_to_nothing o o' s s' _ quiet same
   free_by i o o' s s' Done x same quiet h = absurd h
   free_by i o o' s s' (Refused text) x same quiet h = absurd h

@@ -6,7 +6,7 @@ use Rattle.vms_io.specs.Told.{Intake, Outlet, Stock}
 use Rattle.vms_commands.specs.declared.ending.Ending.{Ending}
 use Rattle.vms_commands.specs.declared.ending.Ending.TheVariants.{Done, Refused, BadWords, BadText, NotCompatible, ReadFault, WriteFault, ShelfFault, NotThere, TooLarge, NoMemory}
 use Rattle.vms_commands.specs.Lines.{bad_words, read_fault, write_fault, shelf_fault, out_of_memory}
-use Rattle.vms_commands.specs.Outcomes.{Outcome, text_of, held_after, TakesBytes, ComesTo}
+use Rattle.vms_commands.specs.Outcomes.{Outcome, text_of, held_after, TakesBytes, ComesTo, ComesToFault}
 
 -- the status of each ending, and its line
 abbrev pub status_of : Ending → ℕ
@@ -66,7 +66,7 @@ EndsAs input input' out out' shelf shelf' (BadText line) o = EndsWith 3 (string_
 EndsAs input input' out out' shelf shelf' (NotCompatible line) o = EndsWith 4 (string_bytes line) input input' o
 EndsAs input input' out out' shelf shelf' ReadFault o = ComesTo out out' shelf shelf' o.parts
 EndsAs input input' out out' shelf shelf' WriteFault o = ComesTo out out' shelf shelf' o.parts
-EndsAs input input' out out' shelf shelf' ShelfFault o = ComesTo out out' shelf shelf' o.parts
+EndsAs input input' out out' shelf shelf' ShelfFault o = ComesToFault out out' shelf shelf' o.parts
 EndsAs input input' out out' shelf shelf' (NotThere line) o = EndsWith 8 (string_bytes line) input input' o
 EndsAs input input' out out' shelf shelf' (TooLarge line) o = EndsWith 9 (string_bytes line) input input' o
 EndsAs input input' out out' shelf shelf' NoMemory o = ComesTo out out' shelf shelf' o.parts

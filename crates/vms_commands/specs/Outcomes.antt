@@ -1,15 +1,17 @@
 -- What a call is to do, and how far it comes: the frame that all commands share.
-use Rattle.std.specs.Prelude.{◌≡◌, ◌⊎◌, ℕ, zero, suc, ◌+◌, ◌≤◌, Bool, true, List, [], ◌∷◌, ◌++◌, take, drop, Option, Some, IfSome}
+use Rattle.std.specs.Prelude.{◌≡◌, ◌⊎◌, ℕ, zero, suc, ◌+◌, ◌≤◌, Bool, true, List, [], ◌∷◌, ◌++◌, take, drop, Option, Some, None, IfSome}
 use Rattle.std.specs.Io.KnownBytes.{Appends, Keeps}
 use Rattle.vms_io.specs.Causes.{Rose, AppendsPrefix, capped}
 use Rattle.vms_io.specs.Shelves.{Held, IfToldBoth, KeepsOthers}
 use Rattle.vms_io.specs.Told.{Intake, Outlet, Stock}
 use Rattle.vms_commands.specs.Lines.{read_fault, write_fault, shelf_fault, out_of_memory}
 
--- One part of what a command does: what the shelf tells once it is done, and then its text for out.
+-- One part of what a command does: what the shelf tells once it is done, and then its text for out; and the name under which
+-- it stores, if it stores.
 pub record Part : Type 0 where
   pub text : List ℕ
   pub held : Option Held
+  pub stores : Option (List ℕ)
 
 -- The status; the parts, in order; the line for notes; and how many bytes of the input are taken. A script that is played has
 -- a part for each line that it plays, and each other command has one part, or none where it ends by a status of its own.
@@ -21,7 +23,7 @@ pub record Outcome : Type 0 where
 
 -- done, with this text, while the shelf holds this, and so many bytes taken
 abbrev pub done : List ℕ → Option Held → ℕ → Outcome
-done text held taken = record { status = 0; parts = record { text = text; held = held } ∷ []; note = []; taken = taken }
+done text held taken = record { status = 0; parts = record { text = text; held = held; stores = None } ∷ []; note = []; taken = taken }
 
 -- ended by a status with its line, and so many bytes taken
 abbrev pub ended : ℕ → List ℕ → ℕ → Outcome
@@ -70,10 +72,7 @@ pub record Does (status : ℕ) (old new : Outside) (o : Outcome) : Type 0 where
   pub left : IfSome old.input.left (λ bytes. new.input.left ≡ Some (drop o.taken bytes))
   pub given : o.status ≡ 0 → new.input.given ≡ capped (old.input.given + o.taken)
 
--- the shelf tells this, or all of it but for one name where its count of faults rose, as after a store that failed
-abbrev pub HoldsBut : ℕ → ℕ → Option Held → Option Held → Type 0
-HoldsBut before now want held =
-    (held ≡ want) ⊎ (Rose before now × ((name : List ℕ) × IfToldBoth want held (λ a b. KeepsOthers a b name)))
+-- ---- how far a call comes
 
 -- The first k parts were begun: the shelf is as after these, and on out stand the texts of all but the last of them and a
 -- prefix of the last's. Where none was begun the shelf is as before and out is untouched.
@@ -81,7 +80,28 @@ pub record ComesTo (out out' : Outlet) (shelf shelf' : Stock) (parts : List Part
   pub begun : ℕ
   pub bytes : ℕ
   pub text : Appends out.written out'.written (text_begun parts begun bytes)
-  pub held : HoldsBut shelf.faults shelf'.faults (held_after shelf.held (take begun parts)) shelf'.held
+  pub held : shelf'.held ≡ held_after shelf.held (take begun parts)
+
+-- the name under which the first of these parts stores, if it stores
+abbrev pub stored_next : List Part → Option (List ℕ)
+stored_next [] = None
+stored_next (part ∷ parts) = part.stores
+
+-- what is held under this name isn't told any more, and all else stays
+abbrev pub HoldsBut : Option (List ℕ) → Option Held → Option Held → Type 0
+HoldsBut None want held = ⊥
+HoldsBut (Some name) want held = IfToldBoth want held (λ a b. KeepsOthers a b name)
+
+-- The first k parts are done, and the store of the next one failed: its name alone may be untold.
+pub record FailsToStore (out out' : Outlet) (shelf shelf' : Stock) (parts : List Part) : Type 0 where
+  pub done : ℕ
+  pub text : Appends out.written out'.written (text_of (take done parts))
+  pub rose : Rose shelf.faults shelf'.faults
+  pub held : HoldsBut (stored_next (drop done parts)) (held_after shelf.held (take done parts)) shelf'.held
+
+-- where the shelf failed: at a store, or else it is as after the parts that were begun
+abbrev pub ComesToFault : (out out' : Outlet) (shelf shelf' : Stock) (parts : List Part) → Type 0
+ComesToFault out out' shelf shelf' parts = ComesTo out out' shelf shelf' parts ⊎ FailsToStore out out' shelf shelf' parts
 
 -- a prefix of the outcome's line, or of a fault's line, stands on notes
 abbrev pub HasPart : List ℕ → Option (List ℕ) → Option (List ℕ) → Type 0
@@ -110,12 +130,18 @@ ShelfFault status old new =
 abbrev pub WantsMemory : ℕ → Outside → Outside → Type 0
 WantsMemory status old new = (status ≡ 10) × Appends old.notes.written new.notes.written out_of_memory
 
--- The call stops on its way to the outcome, or cannot tell how it ended.
+-- a fault of the shelf, told by its line, or begun to be told where notes failed
+abbrev pub TellsShelfFault : ℕ → Outside → Outside → Type 0
+TellsShelfFault status old new =
+    ShelfFault status old new ⊎ (NotesFault status old new × AppendsPrefix old.notes.written new.notes.written shelf_fault)
+
+-- The call stops on its way to the outcome, or cannot tell how it ended. Only at a fault of the shelf a name may be untold.
 pub record Stops (status : ℕ) (old new : Outside) (o : Outcome) : Type 0 where
   pub why : ReadFault status old new ⊎ OutFault status old new
       ⊎ (NotesFault status old new × HasPart o.note old.notes.written new.notes.written)
       ⊎ ShelfFault status old new ⊎ WantsMemory status old new
   pub come : ComesTo old.out new.out old.shelf new.shelf o.parts
+      ⊎ (TellsShelfFault status old new × FailsToStore old.out new.out old.shelf new.shelf o.parts)
 
 -- the call does the outcome, or stops on the way
 abbrev pub DoesOrStops : ℕ → Outside → Outside → Outcome → Type 0

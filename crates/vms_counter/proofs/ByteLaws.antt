@@ -12,17 +12,12 @@ use Rattle.vms_parts.specs.Sizes.{in_u32}
 use Rattle.vms_desc.specs.Formed.{is_well_formed}
 use Rattle.vms_parts.specs.Views.{desc_of, device_of, field_of}
 use Rattle.vms_parts.proofs.Items.{get_map_at}
-use Rattle.vms_parts.proofs.SizeLaws.{capped_product}
+use Rattle.vms_parts.proofs.SizeLaws.{capped_product, capped_at}
 use Rattle.vms_load.specs.Bounds.{item_bytes, fields_bytes, desc_bytes, struct_bytes}
 use Rattle.vms_load.specs.Parts.{bytes_of}
 use Rattle.vms_load.specs.Staging.{subs_bytes, devices_most}
 use Rattle.vms_load.proofs.Bounding.{most_small}
 use Rattle.vms_counter.specs.Room.{subs_in, device_in, devices_in}
-
-capped_at : (bytes : List ℕ) (j : ℕ) → get_or (map in_u32 bytes) j 0 ≡ in_u32 (get_or bytes j 0)
-capped_at [] j = refl
-capped_at (b ∷ bytes) zero = refl
-capped_at (b ∷ bytes) (suc j) = capped_at bytes j
 
 capped_item : (bytes : List ℕ) (n : ℕ) (item : Item) → in_u32 (n * item_bytes (map in_u32 bytes) item) ≡ in_u32 (n * item_bytes bytes item)
 capped_item bytes n (Num kind) = refl

@@ -17,13 +17,9 @@ use Rattle.vms_counter_laws.specs.Candidates.{and_raised, default_images, machin
 use Rattle.vms_counter_laws.specs.Counters.{NoState, State, Shows, IsFirst, Here, Later, NoneShows, Counters, Lacks, Finds}
 use Rattle.vms_counter.specs.Found.{refusal_of}
 use Rattle.vms_counter.specs.Trying.{Tries}
+use Rattle.vms_check.proofs.SelfLaws.{is_among}
 
 -- ---- the machine
-
-one_of : (machines : List (List ℕ)) (k : ℕ) (name : List ℕ) → slice_get machines k ≡ Some name → is_one_of machines name ≡ true
-one_of [] k name e = absurd (cc)
-one_of (m ∷ machines) zero name e = let same : m ≡ name = cc in or_left (bytes_eq m name) (is_one_of machines name) ((bytes_eq-Decides m name).1 same)
-one_of (m ∷ machines) (suc k) name e = or_right (bytes_eq m name) (is_one_of machines name) (one_of machines k name e)
 
 pub named : (machines : List (List ℕ)) (machine : Option ℕ) → IfSome (at_option machines machine) (λ m. is_one_of machines m ≡ true)
 named machines machine = by (at_option machines machine) refl
@@ -34,7 +30,7 @@ named machines machine = by (at_option machines machine) refl
       where
         of : (m : Option ℕ) → at_option machines m ≡ Some name → is_one_of machines name ≡ true
         of None e = absurd (cc)
-        of (Some k) e = one_of machines k name e
+        of (Some k) e = is_among machines k name e
 
 -- ---- candidates
 

@@ -10,15 +10,6 @@ use Rattle.vms_spec.specs.Sets.{Set}
 use Rattle.vms_image.specs.Typed.{Typed, IsImageOf, AreImagesOf}
 use Rattle.vms_load.specs.Staging.{AreShaped, no_image}
 
-pub are_images : (set : Set) (images : List Typed) → AreShaped set images → AreImagesOf set images
-are_images set images s = record {
-  one_each = s.all;
-  each = λ k image e.
-      let lt = slice_get_within images k image e in
-      let all = s.all in
-      subst (λ (x : Typed). IsImageOf set k x) (get_or_from_slice_get images k image no_image e) (s.each k (omega (arith, lt, all)));
-}
-
 -- an image of one device, put anew
 pub put_are : (set : Set) (images : List Typed) (k : ℕ) (image : Typed) → AreImagesOf set images → k < length set.devices → IsImageOf set k image → AreImagesOf set (slice_set images k image)
 put_are set images k image are lt is = record {

@@ -12,7 +12,8 @@ use Rattle.vms_load.specs.Staging.{devices_most}
 use Rattle.vms_load.proofs.SetFacts.{well_of}
 use Rattle.vms_write.proofs.Formed.{device_short, sub_short}
 use Rattle.vms_counter.specs.Found.{HasRoom}
-use Rattle.vms_counter.proofs.Lengths.{ShortSubs, ShortDevices, stream-short}
+use Rattle.vms_stream.proofs.SetParts.{EachSub, EachPart, all_parts}
+use Rattle.vms_counter.proofs.Lengths.{IsShort, stream-short}
 
 get_same : (set : Set) (k : ℕ) (d : Device) → slice_get set.devices k ≡ Some d → device_at set k ≡ d
 get_same set k d e = get_or_from_slice_get set.devices k d _ e
@@ -20,26 +21,18 @@ get_same set k d e = get_or_from_slice_get set.devices k d _ e
 get_sub : (d : Device) (j : ℕ) (s : Sub) → slice_get d.subs j ≡ Some s → sub_at d j ≡ s
 get_sub d j s e = get_or_from_slice_get d.subs j s _ e
 
-short_subs : (subs : List Sub) → ((j : ℕ) (s : Sub) → slice_get subs j ≡ Some s → length s.desc.name ≤ 255) → ShortSubs subs
-short_subs [] h = tt
-short_subs (s ∷ subs) h = (h 0 s (cc), short_subs subs (λ j. h (suc j)))
-
-short_devices : (devices : List Device) → ((k : ℕ) (d : Device) → slice_get devices k ≡ Some d → (length d.desc.name ≤ 255) × ShortSubs d.subs) → ShortDevices devices
-short_devices [] h = tt
-short_devices (d ∷ devices) h = let r = h 0 d (cc) in (r.0, r.1, short_devices devices (λ k. h (suc k)))
-
 module _ (set : Set) (well : is_well_formed set ≡ true) where
-  short : (k : ℕ) (d : Device) → slice_get set.devices k ≡ Some d → (length d.desc.name ≤ 255) × ShortSubs d.subs
+  short : EachPart IsShort set.devices
   short k d e =
       let r = slice_get_within set.devices k d e in
       let own = device_short set well k r in
       let same : device_at set k ≡ d = get_same set k d e in (
         subst (λ (u : Device). length u.desc.name ≤ 255) same (omega arith),
-        subst (λ (u : Device). ShortSubs u.subs) same (short_subs (device_at set k).subs (λ j s f.
+        subst (λ (u : Device). EachSub IsShort u.subs) same (λ j s f.
             let q = slice_get_within (device_at set k).subs j s f in
             let sub = sub_short set well k j r q in
             let is : sub_at (device_at set k) j ≡ s = get_sub (device_at set k) j s f in
-            subst (λ (u : Sub). length u.desc.name ≤ 255) is (omega arith))),
+            subst (λ (u : Sub). length u.desc.name ≤ 255) is (omega arith)),
       )
 
   named_short : (machine : Option (List ℕ)) → IfSome machine (λ m. is_one_of set.machines m ≡ true) → IfSome machine (λ m. length m ≤ 64)
@@ -47,4 +40,4 @@ module _ (set : Set) (well : is_well_formed set ≡ true) where
   named_short (Some name) h = machine_short set (well_of set well) name h
 
   pub has_room : HasRoom set (269 + devices_most set set.devices)
-  has_room machine images named ready = stream-short set machine images (named_short machine named) (short_devices set.devices short)
+  has_room machine images named ready = stream-short set machine images (named_short machine named) (all_parts IsShort set.devices short)

@@ -3,9 +3,7 @@ use Rattle.std.proofs.Common.{◌≡◌, ℕ, ◌+◌, ◌^◌, ◌<◌, ◌≤�
 use Rattle.std.proofs.lemmas.List.{drop_all}
 use Rattle.vms_parts.specs.Sizes.{in_u32}
 use Rattle.vms_parts.proofs.Items.{drop_is}
-
-capped_sum : (s p r : ℕ) → in_u32 (in_u32 (s + in_u32 p) + r) ≡ in_u32 (s + (p + r))
-capped_sum s p r = omega arith
+use Rattle.vms_parts.proofs.SizeLaws.{capped_sum}
 
 -- `whole` is the sum of what each has, `one`
 module _ {T : Type 0} (whole : List T → ℕ) (one : T → ℕ) (nothing : whole [] ≡ 0) (adds : (x : T) (xs : List T) → whole (x ∷ xs) ≡ one x + whole xs) where

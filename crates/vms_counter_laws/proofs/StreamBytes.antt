@@ -8,10 +8,10 @@ use Rattle.vms_spec.specs.Sets.{Set}
 use Rattle.vms_spec.specs.Images.{Image}
 use Rattle.vms_spec.specs.Streams.{is_one_of}
 use Rattle.vms_spec.specs.WellFormed.{WellFormed}
+use Rattle.vms_stream.proofs.WrittenBytes.{bytes_at, machine_bytes, written_are_bytes}
 use Rattle.vms_check.specs.declared.mismatch.Mismatch.{Mismatch}
 use Rattle.vms_counter_laws.specs.Candidates.{lacking, machine_for}
 use Rattle.vms_counter_laws.specs.Counters.{stream_of}
-use Rattle.vms_counter_laws.proofs.Octets.{written_is_bytes}
 
 -- what is lacking is one of the machines
 more_known : (m : List ℕ) (machines : List (List ℕ)) (o : Option (List ℕ)) → IfSome o (λ x. is_one_of machines x ≡ true) → IfSome o (λ x. is_one_of (m ∷ machines) x ≡ true)
@@ -36,4 +36,6 @@ machine_known old new m =
     choice (m.rule == 1)
 
 pub stream_bytes : (old new : Set) → WellFormed old → (m : Mismatch) (images : List Image) → IsBytes (stream_of old new m images)
-stream_bytes old new well m images = written_is_bytes old well (machine_for old new m) images (machine_known old new m)
+stream_bytes old new well m images =
+    let machine = machine_for old new m in
+    bytes_at (stream_of old new m images) (written_are_bytes old well machine images None (machine_bytes old well machine (machine_known old new m)) tt)

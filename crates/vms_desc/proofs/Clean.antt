@@ -116,7 +116,7 @@ module _ (set : Set) (well : is_well_formed set ≡ true) where
       (few_parts set (here parts.Set)
       (or_else_none (failing 1 (set_rules set) (here parts.Set)) (or_else (first_answer (struct_fault set.structs) 0 set.structs) devices) (none_is (first_fault set) well)).0).0
 
-  device_faults : (i : ℕ) → i < length set.devices
+  pub device_faults : (i : ℕ) → i < length set.devices
       → (desc_fault (length set.structs) (device_at set i).desc (parts.Device i) (device_rules set i (device_at set i)) ≡ None) × (first_answer (sub_fault (length set.structs) i (device_at set i)) 0 (device_at set i).subs ≡ None)
   device_faults i h =
       let d = device_at set i in

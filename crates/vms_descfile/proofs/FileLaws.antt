@@ -1,9 +1,6 @@
 -- What a text says, from what its value says.
-use Rattle.std.proofs.Common.{◌≡◌, ℕ, List, Bool, true, false, if◌then◌else◌, Some, None, IsUtf8, refl, sym, ap, ◌∙◌, Err}
-use Rattle.std.specs.Str.{is_utf8}
-use Rattle.std.proofs.lemmas.Str.{IsUtf8-from_is_utf8, is_utf8-from_IsUtf8}
+use Rattle.std.proofs.Common.{◌≡◌, ℕ, List, Some, sym, ap, ◌∙◌, Err}
 use Rattle.serde_json.specs.Data.{Data}
-use Rattle.serde_json.specs.Read.{read}
 use Rattle.vms_spec.specs.Sets.{Set}
 use Rattle.vms_json.specs.declared.fault.Fault.{Fault}
 use Rattle.vms_json.specs.declared.fault.Fault.TheVariants as faults
@@ -13,20 +10,6 @@ use Rattle.vms_json.specs.Answers.{Answer, Refuses}
 use Rattle.vms_descread.specs.Descs.{parts_of}
 use Rattle.vms_descfile.specs.Files.{Shape, parts_said, value_said, value_in, file_said}
 use Rattle.vms_descfile.specs.Given.{Gives, GivesValue, IsFileFault}
-
--- ---- the value of a text
-
-pub has_value : (text : List ℕ) (d : Data) → IsUtf8 text → read text ≡ Some d → value_in text ≡ Some d
-has_value text d utf8 e = ap (λ (b : Bool). if b then read text else None) (is_utf8-from_IsUtf8 text utf8) ∙ e
-
-no_value_if : (text : List ℕ) (b : Bool) → is_utf8 text ≡ b → (IsUtf8 text → read text ≡ None) → (if b then read text else None) ≡ None
-no_value_if text true e no_read = no_read (IsUtf8-from_is_utf8 text e)
-no_value_if text false e no_read = refl
-
-pub has_none : (text : List ℕ) → (IsUtf8 text → read text ≡ None) → value_in text ≡ None
-has_none text no_read = no_value_if text (is_utf8 text) refl no_read
-
--- ---- what it says
 
 pub no_json : (text : List ℕ) (fault : FileFault) → GivesValue (value_in text) (Err fault) → Gives (file_said text) (Err fault)
 unfolding file_said

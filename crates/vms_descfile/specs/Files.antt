@@ -1,11 +1,10 @@
 -- What a description file says.
-use Rattle.std.specs.Prelude.{ℕ, if◌then◌else◌, List, [], ◌∷◌, Option, Some, None, codes}
-use Rattle.std.specs.Str.{is_utf8}
+use Rattle.std.specs.Prelude.{ℕ, List, [], ◌∷◌, Option, Some, None, codes}
 use Rattle.serde_json.specs.Data.{Data}
-use Rattle.serde_json.specs.Read.{read}
 use Rattle.vms_spec.specs.Sets.{Set}
 use Rattle.vms_spec.specs.WellFormed.{SetFault, first_fault}
 use Rattle.vms_json.specs.Answers.{Answer, good, bad}
+pub use Rattle.vms_json.specs.Texts.{value_in}
 use Rattle.vms_descread.specs.Descs.{parts_of}
 
 pub data Said : Type 0 where
@@ -34,10 +33,6 @@ parts_said (bad path) = Shape (path_said path)
 abbrev pub value_said : Option Data → Said
 value_said None = Syntax
 value_said (Some d) = parts_said (parts_of d)
-
--- the value of a text, which is none where its bytes are no text
-abbrev pub value_in : List ℕ → Option Data
-value_in text = if is_utf8 text then read text else None
 
 unfoldable pub file_said : List ℕ → Said
 file_said text = value_said (value_in text)

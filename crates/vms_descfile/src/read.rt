@@ -7,10 +7,9 @@ ghost use Rattle.vms_descfile.specs.Given.{Gives, GivesValue, SaysParts};
 use crate::FileFault;
 use json::Scratch;
 use std::alloc::Global;
-use std::str;
 use vms_desc::{DescFault, DescSet, Parts};
 use vms_descread::read_parts;
-use vms_json::{NoNode, Node, read_node};
+use vms_json::{NoNode, Node, read_bytes};
 
 /// The set that a description file says. Else the fault is `Syntax` where the bytes are no JSON
 /// value, the first path at which the value isn't of the shape of a file, or the first place at
@@ -59,10 +58,7 @@ fn read_value<'a>(
 ) -> Result<Node<'a>, FileFault>
     ensures { GivesValue (value_in text.now) result }
 {
-    let Ok(text) = str::from_utf8(text) else {
-        return Err(FileFault::Syntax);
-    };
-    match read_node(alloc, text, scratch) {
+    match read_bytes(alloc, text, scratch) {
         Ok(value) => Ok(value),
         Err(NoNode::Syntax) => Err(FileFault::Syntax),
         Err(NoNode::NoMemory) => Err(FileFault::NoMemory),

@@ -205,7 +205,7 @@ numbers_text set d n at =
 four : (a b c d e g : List ℕ) → (a ++ (b ++ (c ++ d))) ++ (e ++ g) ≡ (a ++ (b ++ (c ++ (d ++ e)))) ++ g
 four a b c d e g = simp append_assoc refl
 
-six : (a b c d e g h : List ℕ) → (a ++ (b ++ (c ++ (d ++ (e ++ g))))) ++ h ≡ a ++ (b ++ (c ++ (d ++ (e ++ (g ++ h)))))
+pub six : (a b c d e g h : List ℕ) → (a ++ (b ++ (c ++ (d ++ (e ++ g))))) ++ h ≡ a ++ (b ++ (c ++ (d ++ (e ++ (g ++ h)))))
 six a b c d e g h = simp append_assoc refl
 
 subs_text : (set : Set) (n : List ℤ) (at : ℕ) (subs : List Sub) (came : List (Option ℕ)) → text_of (subs_lines set n at subs came) ≡ texts.sub_lines set n at subs came

@@ -15,11 +15,7 @@ use Rattle.vms_elements.specs.Parts.{is_number, elements_in, inner_field, last_f
 use Rattle.vms_spec.proofs.Tables.{first_at, first_long}
 use Rattle.vms_elements.proofs.Tables.{shapes_cells}
 use Rattle.vms_elements.proofs.Members.{Each, each_append, each_map, Has, has_left, has_right, has_map}
-
-get_past : {X : Type 0} (xs : List X) (i : ℕ) (d : X) → length xs ≤ i → get_or xs i d ≡ d
-get_past [] i d le = refl
-get_past (x ∷ xs) zero d le = absurd (omega arith)
-get_past (x ∷ xs) (suc i) d le = get_past xs i d (omega arith)
+use Rattle.std.proofs.lemmas.List.{get_or_past}
 
 lt_true : (a b : ℕ) → a < b → (t : Bool) → nat_lt a b ≡ t → t ≡ true
 lt_true a b lt true e = refl
@@ -100,7 +96,7 @@ module _ (set : Set) where
       by_test false t =
           let le : below ≤ j = ltb-false j below t in
           let long : length ss ≡ below = first_long shape set.structs below in
-          subst (λ (s : Shape). Each (TellsItem below f place) (map dotted (s.elements n place))) (sym (get_past ss j no_shape (omega (arith, long)))) tt
+          subst (λ (s : Shape). Each (TellsItem below f place) (map dotted (s.elements n place))) (sym (get_or_past ss j no_shape (omega (arith, long)))) tt
 
   -- ---- fields
 

@@ -4,3 +4,4 @@ pub mod ListLaws
 pub mod NameLaws
 pub mod NodeLaws
 pub mod ReadingLaws
+pub mod TextLaws

@@ -5,3 +5,4 @@ pub mod Keys
 pub mod Members
 pub mod Names
 pub mod Nodes
+pub mod Texts

@@ -4,6 +4,7 @@
 #![tactic(auto)]
 
 mod asked;
+mod bytes;
 mod fault;
 mod field_names;
 mod keys;
@@ -16,6 +17,7 @@ mod parse;
 mod words;
 
 pub use asked::is_asked;
+pub use bytes::read_bytes;
 pub use fault::Fault;
 pub use field_names::FieldNames;
 pub use keys::{fits, has};

@@ -21,3 +21,4 @@ pub mod StepsTaken
 pub mod StreamReads
 pub mod TurnReads
 pub mod TakenImages
+pub mod StreamLengths

@@ -13,7 +13,7 @@ use Rattle.vms_parts.specs.Sizes.{in_u32, size_of, fields_size, subs_size, sizes
 use Rattle.vms_parts.specs.Views.{field_of, sub_of, desc_of}
 use Rattle.vms_parts.proofs.Items.{drop_is, get_map_at}
 
-capped_sum : (s p r : ℕ) → in_u32 (in_u32 (s + in_u32 p) + r) ≡ in_u32 (s + (p + r))
+pub capped_sum : (s p r : ℕ) → in_u32 (in_u32 (s + in_u32 p) + r) ≡ in_u32 (s + (p + r))
 capped_sum s p r = omega arith
 
 pub sum_goes : (m : Measure) (sizes : List ℕ) (fields : List Field) (i sum whole : ℕ) (f : Field) → i < length fields → f ≡ get_or fields i f
@@ -52,7 +52,7 @@ capped_product (suc c) s =
     let e : in_u32 (c * in_u32 s) ≡ in_u32 (c * s) = capped_product c s in
     omega (arith, p, q, e)
 
-capped_at : (sizes : List ℕ) (j : ℕ) → get_or (map in_u32 sizes) j 0 ≡ in_u32 (get_or sizes j 0)
+pub capped_at : (sizes : List ℕ) (j : ℕ) → get_or (map in_u32 sizes) j 0 ≡ in_u32 (get_or sizes j 0)
 capped_at [] j = refl
 capped_at (s ∷ sizes) zero = refl
 capped_at (s ∷ sizes) (suc j) = capped_at sizes j

@@ -12,7 +12,7 @@ use Rattle.vms_desc.specs.Formed.{is_well_formed}
 use Rattle.vms_desc.specs.Parts.{HasPart, desc_at, sub_at}
 use Rattle.vms_spec.proofs.Faultless.{AllTrue, all_true, or_else_none, no_answer}
 use Rattle.vms_desc.proofs.Bounds.{none_is}
-use Rattle.vms_desc.proofs.Clean.{reach}
+use Rattle.vms_desc.proofs.Clean.{reach, device_faults}
 
 -- at its number
 pub no_answer_at : {X Y : Type 0} (f : ℕ → X → Option Y) (xs : List X) → first_answer f 0 xs ≡ None → (j : ℕ) (d : X) → j < length xs → f j (get_or xs j d) ≡ None
@@ -45,19 +45,12 @@ module _ (set : Set) (well : is_well_formed set ≡ true) where
   pub struct_whole : (j : ℕ) → j < length set.structs → desc_fault j (get_or set.structs j no_desc) (parts.Struct j) (struct_rules set.structs j (get_or set.structs j no_desc)) ≡ None
   struct_whole j lt = no_answer_at (struct_fault set.structs) set.structs (faultless set well).structs j no_desc lt
 
-  device_faults : (i : ℕ) → i < length set.devices
-      → (desc_fault (length set.structs) (device_at set i).desc (parts.Device i) (device_rules set i (device_at set i)) ≡ None) × (first_answer (sub_fault (length set.structs) i (device_at set i)) 0 (device_at set i).subs ≡ None)
-  device_faults i lt =
-      let d = device_at set i in
-      or_else_none (desc_fault (length set.structs) d.desc (parts.Device i) (device_rules set i d)) (first_answer (sub_fault (length set.structs) i d) 0 d.subs)
-      (no_answer_at (device_fault set) set.devices (faultless set well).devices i (record { instance = 0; desc = no_desc; subs = [] }) lt)
-
   pub device_whole : (i : ℕ) → i < length set.devices → desc_fault (length set.structs) (device_at set i).desc (parts.Device i) (device_rules set i (device_at set i)) ≡ None
-  device_whole i lt = (device_faults i lt).0
+  device_whole i lt = (device_faults set well i lt).0
 
   pub sub_whole : (i j : ℕ) → i < length set.devices → j < length (device_at set i).subs
       → desc_fault (length set.structs) (sub_at (device_at set i) j).desc (parts.Sub i j) (sub_rules (device_at set i) j (sub_at (device_at set i) j)) ≡ None
-  sub_whole i j lt l = no_answer_at (sub_fault (length set.structs) i (device_at set i)) (device_at set i).subs (device_faults i lt).1 j (record { desc = no_desc; needed = AtLeast 0 }) l
+  sub_whole i j lt l = no_answer_at (sub_fault (length set.structs) i (device_at set i)) (device_at set i).subs (device_faults set well i lt).1 j (record { desc = no_desc; needed = AtLeast 0 }) l
 
   pub no_field_fault : (part : Part) → HasPart set part → fields_fault (reach set part) (desc_at set part) part ≡ None
   no_field_fault parts.Set h = absurd h

@@ -5,17 +5,17 @@ use Rattle.std.proofs.KnownBytes.{Appends-nil, Appends-trans}
 use Rattle.std.specs.Io.KnownBytes.{Appends}
 use Rattle.dev_board.specs.State.{State}
 use Rattle.vms_io.specs.Causes.{Rose}
-use Rattle.vms_io.specs.Shelves.{Held, IfToldBoth, KeepsOthers}
+use Rattle.vms_io.specs.Shelves.{Held}
 use Rattle.vms_io.specs.Told.{Outlet, Stock}
-use Rattle.vms_commands.specs.Outcomes.{Part, text_of, held_after, HoldsBut, ComesTo}
+use Rattle.vms_commands.specs.Outcomes.{Part, text_of, held_after, stored_next, HoldsBut, ComesTo, ComesToFault}
 use Rattle.vms_script.specs.Grammar.{IsLine, AreLines}
 use Rattle.vms_script.specs.Lines.{ScriptLine}
 use Rattle.vms_script.specs.Views.{line_view, lines_view}
 use Rattle.vms_script.specs.declared.line.Line.{Line}
 use Rattle.vms_session.specs.Session.{Session, Does}
 use Rattle.vms_session.proofs.PartLemmas.{text_next, held_next, rest_next, begun_next, begun_whole, text_all, held_all}
-use Rattle.vms_session.specs.Parts.{part_of, PlaysParts}
-use Rattle.vms_session.specs.Playing.{session_of, LineEnds, LinesEnd, StopsBehind, HasPlayCause}
+use Rattle.vms_session.specs.Parts.{stored_by, part_of, Plays}
+use Rattle.vms_session.specs.Playing.{session_of, IsAsBefore, LineEnds, LinesEnd, HasPlayCause}
 use Rattle.vms_session.specs.declared.line.PlayFault.{PlayFault}
 use Rattle.vms_session.specs.declared.line.PlayFault.TheVariants.{WriteFault, ShelfFault, NoMemory}
 
@@ -46,23 +46,18 @@ cause_since out out' out'' shelf shelf' shelf'' (Err WriteFault) p q h = rose_si
 cause_since out out' out'' shelf shelf' shelf'' (Err ShelfFault) p q h = rose_since shelf.faults shelf'.faults shelf''.faults q h
 cause_since out out' out'' shelf shelf' shelf'' (Err NoMemory) p q h = h
 
-pub holds_since : (a b c : ℕ) (want held : Option Held) (w : Option Held) → a ≤ b → w ≡ want → HoldsBut b c w held → HoldsBut a c want held
-holds_since a b c want held w le e (inl same) = inl (same ∙ e)
-holds_since a b c want held w le e (inr h) =
-    inr (rose_since a b c le h.0, (h.1.0, subst (λ (o : Option Held). IfToldBoth o held (λ x y. KeepsOthers x y h.1.0)) e h.1.1))
-
 -- ---- a session in its course
 
 -- after the first i lines: what the shelf holds, the parts that are left, and what was written
 pub record InCourse (i : ℕ) (left : List ScriptLine) (parts : List Part) (new : Session) (board : State) (out out' : Outlet) (shelf shelf' : Stock) : Type 0 where
   pub holds : Held
   pub told : shelf'.held ≡ Some holds
-  pub rest : PlaysParts left (session_of board holds) (drop i parts) new
+  pub rest : Plays left (session_of board holds) (drop i parts) new
   pub text : Appends out.written out'.written (text_of (take i parts))
   pub held : shelf'.held ≡ held_after shelf.held (take i parts)
 
 pub in_course : (lines : List ScriptLine) (parts : List Part) (new : Session) (board : State) (held : Held) (out : Outlet) (shelf : Stock)
-    → shelf.held ≡ Some held → PlaysParts lines (session_of board held) parts new → InCourse 0 lines parts new board out out shelf shelf
+    → shelf.held ≡ Some held → Plays lines (session_of board held) parts new → InCourse 0 lines parts new board out out shelf shelf
 in_course lines parts new board held out shelf told plays =
     record { holds = held; told = told; rest = plays; text = Appends-nil out.written; held = refl }
 
@@ -70,7 +65,7 @@ in_course lines parts new board held out shelf told plays =
 abbrev pub Content : ScriptLine → State → State → (out out' : Outlet) (shelf shelf' : Stock) → Result Unit PlayFault → Type 0
 Content line board board' out out' shelf shelf' result =
     (held : Held) (text : List ℕ) (new : Session) → shelf.held ≡ Some held → Does line (session_of board held) text new
-    → LineEnds text new out out' shelf shelf' board' result
+    → LineEnds line text new out out' shelf shelf' board' result
 
 module _ (i : ℕ) (line : ScriptLine) (left : List ScriptLine) (parts : List Part) (new : Session) (board board' : State) (out out' out'' : Outlet) (shelf shelf' shelf'' : Stock)
     (course : InCourse i (line ∷ left) parts new board out out' shelf shelf') where
@@ -80,7 +75,7 @@ module _ (i : ℕ) (line : ScriptLine) (left : List ScriptLine) (parts : List Pa
   abbrev between : Session
   between = course.rest.2
 
-  abbrev next : drop i parts ≡ part_of text between ∷ course.rest.1
+  abbrev next : drop i parts ≡ part_of line text between ∷ course.rest.1
   next = course.rest.5
 
   pub course_goes : Content line board board' out' out'' shelf' shelf'' (Ok tt) → InCourse (suc i) left parts new board' out out'' shelf shelf''
@@ -89,20 +84,36 @@ module _ (i : ℕ) (line : ScriptLine) (left : List ScriptLine) (parts : List Pa
       record {
         holds = between.held;
         told = ends.2;
-        rest = subst (λ (b : State). PlaysParts left (session_of b between.held) (drop (suc i) parts) new) (sym ends.1)
-            (subst (λ (p : List Part). PlaysParts left between p new) (sym (rest_next (part_of text between) course.rest.1 i parts next)) course.rest.4);
-        text = subst (Appends out.written out''.written) (sym (text_next (part_of text between) course.rest.1 i parts next))
+        rest = subst (λ (b : State). Plays left (session_of b between.held) (drop (suc i) parts) new) (sym ends.1)
+            (subst (λ (p : List Part). Plays left between p new) (sym (rest_next (part_of line text between) course.rest.1 i parts next)) course.rest.4);
+        text = subst (Appends out.written out''.written) (sym (text_next (part_of line text between) course.rest.1 i parts next))
             (Appends-trans out.written out'.written out''.written (text_of (take i parts)) text course.text ends.0);
-        held = ends.2 ∙ sym (held_next (part_of text between) course.rest.1 i shelf.held parts next);
+        held = ends.2 ∙ sym (held_next (part_of line text between) course.rest.1 i shelf.held parts next);
       }
 
-  -- all that was begun is whole
-  whole : (ShelfIs : List Part → Type 0) → out''.written ≡ out'.written → ShelfIs (take i parts) → StopsBehind out out'' parts ShelfIs
-  whole ShelfIs same held = record {
-    done = i;
-    text = subst (λ (w : Option (List ℕ)). Appends out.written w (text_of (take i parts))) (sym same) course.text;
-    held = held;
+  -- of the lines before this one all stands on out, where nothing of this one does
+  behind : out'' ≡ out' → Appends out.written out''.written (text_of (take i parts))
+  behind same = subst (λ (o : Outlet). Appends out.written o.written (text_of (take i parts))) (sym same) course.text
+
+  -- the shelf is as these left it
+  as_left : out'' ≡ out' → shelf''.held ≡ shelf'.held → ComesTo out out'' shelf shelf'' parts
+  as_left same held = record {
+    begun = i;
+    bytes = length (text_of parts);
+    text = subst (Appends out.written out''.written) (sym (begun_whole i (length (text_of parts)) parts (omega arith))) (behind same);
+    held = held ∙ course.held;
   }
+
+  -- but for the name under which this one stores
+  not_stored : shelf.faults ≤ shelf'.faults → out'' ≡ out' → IsAsBefore (stored_by line) shelf' shelf'' → ComesToFault out out'' shelf shelf'' parts
+  not_stored le same (inl held) = inl (as_left same held)
+  not_stored le same (inr but) = inr (record {
+    done = i;
+    text = behind same;
+    rose = rose_since shelf.faults shelf'.faults shelf''.faults le but.0;
+    held = subst (λ (name : Option (List ℕ)). HoldsBut name (held_after shelf.held (take i parts)) shelf''.held) (sym (ap stored_next next))
+        (subst (λ (want : Option Held). HoldsBut (stored_by line) want shelf''.held) course.held but.1);
+  })
 
   pub course_stops : (fault : PlayFault) → shelf.faults ≤ shelf'.faults → Content line board board' out' out'' shelf' shelf'' (Err fault) → LinesEnd parts new out out'' shelf shelf'' board' (Err fault)
   course_stops WriteFault le content =
@@ -110,17 +121,16 @@ module _ (i : ℕ) (line : ScriptLine) (left : List ScriptLine) (parts : List Pa
       record {
         begun = suc i;
         bytes = ends.0.0;
-        text = subst (Appends out.written out''.written) (sym (begun_next (part_of text between) course.rest.1 i ends.0.0 parts next))
+        text = subst (Appends out.written out''.written) (sym (begun_next (part_of line text between) course.rest.1 i ends.0.0 parts next))
             (Appends-trans out.written out'.written out''.written (text_of (take i parts)) (take ends.0.0 text) course.text ends.0.2);
-        held = inl (ends.1 ∙ sym (held_next (part_of text between) course.rest.1 i shelf.held parts next));
+        held = ends.1 ∙ sym (held_next (part_of line text between) course.rest.1 i shelf.held parts next);
       }
   course_stops ShelfFault le content =
       let ends = content course.holds text between course.told course.rest.3 in
-      whole (λ (done : List Part). HoldsBut shelf.faults shelf''.faults (held_after shelf.held done) shelf''.held) (ap (λ (o : Outlet). o.written) ends.0)
-      (holds_since shelf.faults shelf'.faults shelf''.faults (held_after shelf.held (take i parts)) shelf''.held shelf'.held le course.held ends.1)
+      not_stored le ends.0 ends.1
   course_stops NoMemory le content =
       let ends = content course.holds text between course.told course.rest.3 in
-      whole (λ (done : List Part). shelf''.held ≡ held_after shelf.held done) (ap (λ (o : Outlet). o.written) ends.0) (ends.1 ∙ course.held)
+      as_left ends.0 ends.1
 
 -- the same of lines that begin with this one
 module _ (i : ℕ) (line : ScriptLine) (left said : List ScriptLine) (split : said ≡ line ∷ left) (parts : List Part) (new : Session) (board board' : State) (out out' out'' : Outlet) (shelf shelf' shelf'' : Stock)
@@ -136,24 +146,6 @@ module _ (i : ℕ) (line : ScriptLine) (left said : List ScriptLine) (split : sa
 
   pub stop_course : (fault : PlayFault) → shelf.faults ≤ shelf'.faults → Content line board board' out' out'' shelf' shelf'' (Err fault) → LinesEnd parts new out out'' shelf shelf'' board' (Err fault)
   stop_course fault le content = course_stops i line left parts new board board' out out' out'' shelf shelf' shelf'' begun fault le content
-
--- parts that are done are parts that were begun, with all of the last one's text
-behind_comes : (out out' : Outlet) (shelf shelf' : Stock) (parts : List Part)
-    → StopsBehind out out' parts (λ (done : List Part). HoldsBut shelf.faults shelf'.faults (held_after shelf.held done) shelf'.held)
-    → ComesTo out out' shelf shelf' parts
-behind_comes out out' shelf shelf' parts h = record {
-  begun = h.done;
-  bytes = length (text_of parts);
-  text = subst (Appends out.written out'.written) (sym (begun_whole h.done (length (text_of parts)) parts (omega arith))) h.text;
-  held = h.held;
-}
-
-pub lines_come : (parts : List Part) (new : Session) (out out' : Outlet) (shelf shelf' : Stock) (board : State) (fault : PlayFault)
-    → LinesEnd parts new out out' shelf shelf' board (Err fault) → ComesTo out out' shelf shelf' parts
-lines_come parts new out out' shelf shelf' board WriteFault h = h
-lines_come parts new out out' shelf shelf' board ShelfFault h = behind_comes out out' shelf shelf' parts h
-lines_come parts new out out' shelf shelf' board NoMemory h =
-    behind_comes out out' shelf shelf' parts (record { done = h.done; text = h.text; held = inl h.held })
 
 pub course_ends : (i : ℕ) (parts : List Part) (new : Session) (board : State) (out out' : Outlet) (shelf shelf' : Stock)
     → InCourse i [] parts new board out out' shelf shelf' → LinesEnd parts new out out' shelf shelf' board (Ok tt)

@@ -18,6 +18,7 @@ use Rattle.vms_session.proofs.SoundLaws.{sessions_stay_sound}
 use Rattle.vms_board_streams.proofs.IsaLaws.{streams_come_back, bytes_are_one}
 use Rattle.vms_board.specs.Restoring.{Restore, Back, Refused, Restores}
 use Rattle.vms_board.specs.Saving.{saved_stream}
+use Rattle.vms_session.specs.Parts.{part_of}
 use Rattle.vms_session.specs.Laws.{HoldsBytes, HasAnEnd, SessionsEnd}
 use Rattle.vms_session.specs.Lines.{saved_line, restored_line, missing_line, too_large_line, refused_line}
 use Rattle.vms_session.specs.Session.{Session, IsTooLarge, IsLoaded, LoadsHeld, Does}
@@ -148,16 +149,16 @@ line-ends (Loads name) old good s held = held-end name old (old.held name) refl 
 
 -- at a level that stays
 lines-end : (level : ℕ) (lines : List ScriptLine) (old : Session) → old.board.level ≡ level → AreLines (Some level) lines → IsSound old.board → still level old.held → HasAnEnd lines old
-lines-end level [] old at good s held = record { trace = []; new = old; plays = (refl, refl) }
+lines-end level [] old at good s held = record { parts = []; new = old; plays = (refl, refl) }
 lines-end level (line ∷ lines) old at good s held =
     let first = line-ends line old (subst (λ (l : ℕ). IsLine (Some l) line) (sym at) good.0) s (subst (λ (l : ℕ). still l old.held) (sym at) held) in
     let same = line_level line old first.text first.new first.does ∙ at in
     let rest = lines-end level lines first.new same good.1 (sessions_stay_sound.line (Some level) line old first.text first.new good.0 first.does s)
     (subst (λ (l : ℕ). still l first.new.held) at first.held) in
     record {
-      trace = first.text ++ rest.trace;
+      parts = part_of line first.text first.new ∷ rest.parts;
       new = rest.new;
-      plays = (first.text, rest.trace, first.new, first.does, rest.plays, refl);
+      plays = (first.text, rest.parts, first.new, first.does, rest.plays, refl);
     }
 
 pub sessions_end : SessionsEnd

@@ -2,6 +2,7 @@ pub mod CourseLemmas
 pub mod EndLaws
 pub mod OneLaws
 pub mod PartLemmas
+pub mod RefusalLaws
 pub mod RunLemmas
 pub mod ScriptLaws
 pub mod SessionLaws

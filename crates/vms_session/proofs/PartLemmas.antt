@@ -3,9 +3,6 @@ use Rattle.std.proofs.Common.{◌≡◌, ℕ, zero, suc, ◌≤◌, List, [], �
 use Rattle.std.proofs.lemmas.List.{take_all}
 use Rattle.vms_io.specs.Shelves.{Held}
 use Rattle.vms_commands.specs.Outcomes.{Part, text_of, text_begun, held_after}
-use Rattle.vms_script.specs.Lines.{ScriptLine}
-use Rattle.vms_session.specs.Session.{Session, Plays}
-use Rattle.vms_session.specs.Parts.{part_of, PlaysParts}
 
 module _ (part : Part) (rest : List Part) where
   -- the part that comes next
@@ -63,29 +60,3 @@ held_all zero held [] e = refl
 held_all zero held (x ∷ parts) e = cc
 held_all (suc i) held [] e = refl
 held_all (suc i) held (x ∷ parts) e = held_all i x.held parts e
-
--- ---- parts are a session's trace and its end
-
-pub parts_play : (lines : List ScriptLine) (old : Session) (parts : List Part) (new : Session) → PlaysParts lines old parts new → Plays lines old (text_of parts) new
-parts_play [] old parts new p = (ap text_of p.0, p.1)
-parts_play (line ∷ lines) old parts new p =
-    (p.0, text_of p.1, p.2, p.3, parts_play lines p.2 p.1 new p.4, ap text_of p.5)
-
-pub parts_hold : (lines : List ScriptLine) (old : Session) (parts : List Part) (new : Session) → PlaysParts lines old parts new → held_after (Some old.held) parts ≡ Some new.held
-parts_hold [] old parts new p = ap (held_after (Some old.held)) p.0 ∙ ap (λ (s : Session). Some s.held) (sym p.1)
-parts_hold (line ∷ lines) old parts new p = ap (held_after (Some old.held)) p.5 ∙ parts_hold lines p.2 p.1 new p.4
-
-pub record HasParts (lines : List ScriptLine) (old : Session) (trace : List ℕ) (new : Session) : Type 0 where
-  pub parts : List Part
-  pub plays : PlaysParts lines old parts new
-  pub trace_is : text_of parts ≡ trace
-
-pub plays_parts : (lines : List ScriptLine) (old : Session) (trace : List ℕ) (new : Session) → Plays lines old trace new → HasParts lines old trace new
-plays_parts [] old trace new p = record { parts = []; plays = (refl, p.1); trace_is = sym p.0 }
-plays_parts (line ∷ lines) old trace new p =
-    let rest = plays_parts lines p.2 p.1 new p.4 in
-    record {
-      parts = part_of p.0 p.2 ∷ rest.parts;
-      plays = (p.0, rest.parts, p.2, p.3, rest.plays, refl);
-      trace_is = ap (λ (t : List ℕ). p.0 ++ t) rest.trace_is ∙ sym p.5;
-    }

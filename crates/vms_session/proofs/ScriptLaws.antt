@@ -1,5 +1,5 @@
 -- A script of a session leaves one trace and one session, and what the shelf holds stays bytes.
-use Rattle.std.proofs.Common.{◌≡◌, ◌≢◌, ℕ, ◌++◌, Bool, true, false, List, [], ◌∷◌, Option, Some, None, refl, sym, ap, ◌∙◌, subst}
+use Rattle.std.proofs.Common.{◌≡◌, ◌≢◌, ℕ, Bool, true, false, List, [], ◌∷◌, Option, Some, None, refl, sym, ap, ◌∙◌, subst}
 use Rattle.std.specs.Str.{bytes_eq}
 use Rattle.std.proofs.lemmas.Slice.Eq.{bytes_eq-Decides}
 use Rattle.dev_board.specs.Sound.{IsSound}
@@ -13,8 +13,10 @@ use Rattle.vms_session.proofs.OneLaws.{one_end}
 use Rattle.vms_session.proofs.SessionLaws.{line_level}
 use Rattle.vms_session.proofs.SoundLaws.{sessions_stay_sound}
 use Rattle.vms_board_streams.proofs.IsaBytes.{streams_are_bytes}
-use Rattle.vms_session.specs.Laws.{HoldsAll, HoldsBytes, IsOneEnd, ReadsBytes, SessionsAreOne}
-use Rattle.vms_session.specs.Session.{Session, Does, IsLoaded, IsTooLarge, LoadsHeld, Plays}
+use Rattle.vms_commands.specs.Outcomes.{Part}
+use Rattle.vms_session.specs.Parts.{Plays, part_of}
+use Rattle.vms_session.specs.Laws.{HoldsAll, HoldsBytes, IsOneCourse, ReadsBytes, SessionsAreOne}
+use Rattle.vms_session.specs.Session.{Session, Does, IsLoaded, IsTooLarge, LoadsHeld}
 use Rattle.vms_kinds.specs.Bytes.{IsBytes}
 use Rattle.vms_board.specs.Isa.{isa}
 
@@ -68,27 +70,28 @@ line_follows level line old text new good does f = record {
   holds = line_holds line old text new (good-at level line old f good) does f.sound f.holds;
 }
 
-lines-one : (level : ℕ) (lines : List ScriptLine) (old : Session) (trace trace' : List ℕ) (new new' : Session) → AreLines (Some level) lines → Follows level old
-    → Plays lines old trace new → Plays lines old trace' new' → IsOneEnd trace trace' new new'
-lines-one level [] old trace trace' new new' are f p q = record { texts = p.0 ∙ sym q.0; ends = p.1 ∙ sym q.1 }
-lines-one level (line ∷ lines) old trace trace' new new' are f p q =
+lines-one : (level : ℕ) (lines : List ScriptLine) (old : Session) (parts parts' : List Part) (new new' : Session) → AreLines (Some level) lines → Follows level old
+    → Plays lines old parts new → Plays lines old parts' new' → IsOneCourse parts parts' new new'
+lines-one level [] old parts parts' new new' are f p q = record { same = p.0 ∙ sym q.0; ends = p.1 ∙ sym q.1 }
+lines-one level (line ∷ lines) old parts parts' new new' are f p q =
     let one = one_end line old p.0 q.0 p.2 q.2 (reads_bytes line old f.holds) p.3 q.3 in
     let rest = lines-one level lines p.2 p.1 q.1 new new' are.1 (line_follows level line old p.0 p.2 are.0 p.3 f) p.4
     (subst (λ (z : Session). Plays lines z q.1 new') (sym one.ends) q.4) in
     record {
-      texts = p.5 ∙ ap (λ (t : List ℕ). t ++ p.1) one.texts ∙ ap (λ (t : List ℕ). q.0 ++ t) rest.texts ∙ sym q.5;
+      same = p.5 ∙ ap (λ (r : List Part). part_of line p.0 p.2 ∷ r) rest.same ∙ ap (λ (t : List ℕ). part_of line t p.2 ∷ q.1) one.texts
+          ∙ ap (λ (z : Session). part_of line q.0 z ∷ q.1) one.ends ∙ sym q.5;
       ends = rest.ends;
     }
 
-lines-follow : (level : ℕ) (lines : List ScriptLine) (old : Session) (trace : List ℕ) (new : Session) → AreLines (Some level) lines → Follows level old → Plays lines old trace new → Follows level new
-lines-follow level [] old trace new are f p = subst (Follows level) (sym p.1) f
-lines-follow level (line ∷ lines) old trace new are f p =
+lines-follow : (level : ℕ) (lines : List ScriptLine) (old : Session) (parts : List Part) (new : Session) → AreLines (Some level) lines → Follows level old → Plays lines old parts new → Follows level new
+lines-follow level [] old parts new are f p = subst (Follows level) (sym p.1) f
+lines-follow level (line ∷ lines) old parts new are f p =
     lines-follow level lines p.2 p.1 new are.1 (line_follows level line old p.0 p.2 are.0 p.3 f) p.4
 
 pub sessions_are_one : SessionsAreOne
 sessions_are_one = record {
-  one = λ lines old trace trace' new new' are sound holds p q.
-      lines-one old.board.level lines old trace trace' new new' are (record { at = refl; sound = sound; holds = holds }) p q;
-  holds = λ lines old trace new are sound holds p.
-      (lines-follow old.board.level lines old trace new are (record { at = refl; sound = sound; holds = holds }) p).holds;
+  one = λ lines old parts parts' new new' are sound holds p q.
+      lines-one old.board.level lines old parts parts' new new' are (record { at = refl; sound = sound; holds = holds }) p q;
+  holds = λ lines old parts new are sound holds p.
+      (lines-follow old.board.level lines old parts new are (record { at = refl; sound = sound; holds = holds }) p).holds;
 }

@@ -1,26 +1,14 @@
--- What refused streams leave of a session, and that its level stays.
-use Rattle.std.proofs.Common.{◌≡◌, ◌⊎◌, inl, inr, ℕ, List, [], ◌∷◌, Option, Some, None, ap, ◌∙◌}
+-- The level of a session stays.
+use Rattle.std.proofs.Common.{◌≡◌, ℕ, List, [], ◌∷◌, Option, Some, None, ap, ◌∙◌}
 use Rattle.dev_board.proofs.ClockLaws.{clock_goes_on}
 use Rattle.dev_board.proofs.RestoredLaws.{restored_is_sound}
 use Rattle.dev_images.specs.Images.{cells_in}
 use Rattle.vms_script.specs.Lines.{ScriptLine, Happens, Saves, Restores as Loads}
 use Rattle.vms_board.specs.Restoring.{Back, Refused}
-use Rattle.vms_session.specs.Laws.{IsTaken, RefusalsLeave, LevelStays}
-use Rattle.vms_session.specs.Session.{Session, IsTooLarge, IsLoaded, LoadsBytes, LoadsHeld, Does, Plays}
-
-bytes-leave : (bytes : List ℕ) (old : Session) (text : List ℕ) (new : Session) → LoadsBytes bytes old text new → IsTaken text ⊎ (new ≡ old)
-bytes-leave bytes old text new (IsTooLarge long left) = inr left.new_is
-bytes-leave bytes old text new (IsLoaded (Back m taken) few restores left) = inl (record { taken = taken; text_is = left.text_is })
-bytes-leave bytes old text new (IsLoaded (Refused place section reason) few restores left) = inr left.new_is
-
-held-leaves : (held : Option (List ℕ)) (old : Session) (text : List ℕ) (new : Session) → LoadsHeld held old text new → IsTaken text ⊎ (new ≡ old)
-held-leaves None old text new left = inr left.new_is
-held-leaves (Some bytes) old text new loads = bytes-leave bytes old text new loads
-
-pub refusals_leave : RefusalsLeave
-refusals_leave = record { leaves = λ name old text new loads. held-leaves (old.held name) old text new loads }
-
--- ---- levels
+use Rattle.vms_commands.specs.Outcomes.{Part}
+use Rattle.vms_session.specs.Parts.{Plays}
+use Rattle.vms_session.specs.Laws.{LevelStays}
+use Rattle.vms_session.specs.Session.{Session, IsTooLarge, IsLoaded, LoadsBytes, LoadsHeld, Does}
 
 abbrev level_of : Session → ℕ
 level_of s = s.board.level
@@ -40,9 +28,9 @@ line_level (Happens event) old text new does = ap level_of does.new_is ∙ clock
 line_level (Saves set name) old text new does = ap (λ b. b.level) does.board
 line_level (Loads name) old text new does = held-level (old.held name) old text new does
 
-lines-level : (lines : List ScriptLine) (old : Session) (trace : List ℕ) (new : Session) → Plays lines old trace new → level_of new ≡ level_of old
-lines-level [] old trace new plays = ap level_of plays.1
-lines-level (line ∷ lines) old trace new plays =
+lines-level : (lines : List ScriptLine) (old : Session) (parts : List Part) (new : Session) → Plays lines old parts new → level_of new ≡ level_of old
+lines-level [] old parts new plays = ap level_of plays.1
+lines-level (line ∷ lines) old parts new plays =
     lines-level lines plays.2 plays.1 new plays.4 ∙ line_level line old plays.0 plays.2 plays.3
 
 pub level_stays : LevelStays

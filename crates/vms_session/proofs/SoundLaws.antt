@@ -22,8 +22,10 @@ use Rattle.vms_spec.specs.Streams.{EachOnce}
 use Rattle.vms_spec.proofs.ListLaws.{none_left}
 use Rattle.vms_stream.specs.Streams.{HasSection, SectionsSpell}
 use Rattle.vms_board.specs.Restoring.{TakesBoard, Back, Refused, Restores}
+use Rattle.vms_commands.specs.Outcomes.{Part}
+use Rattle.vms_session.specs.Parts.{Plays}
 use Rattle.vms_session.specs.Laws.{SessionsStaySound}
-use Rattle.vms_session.specs.Session.{Session, IsTooLarge, IsLoaded, LoadsBytes, LoadsHeld, Does, Plays}
+use Rattle.vms_session.specs.Session.{Session, IsTooLarge, IsLoaded, LoadsBytes, LoadsHeld, Does}
 use Rattle.vms_board.specs.Isa.{isa}
 
 -- ---- each device of a stream that is taken has a normal image
@@ -105,9 +107,9 @@ line_sound play (Happens event) old text new good does s =
 line_sound play (Saves set name) old text new good does s = same-board old new does.board s
 line_sound play (Loads name) old text new good does s = held-sound (old.held name) old text new does s
 
-lines-sound : (play : Option ℕ) (lines : List ScriptLine) (old : Session) (trace : List ℕ) (new : Session) → AreLines play lines → Plays lines old trace new → IsSound old.board → IsSound new.board
-lines-sound play [] old trace new good plays s = same-board old new (ap (λ (z : Session). z.board) plays.1) s
-lines-sound play (line ∷ lines) old trace new good plays s =
+lines-sound : (play : Option ℕ) (lines : List ScriptLine) (old : Session) (parts : List Part) (new : Session) → AreLines play lines → Plays lines old parts new → IsSound old.board → IsSound new.board
+lines-sound play [] old parts new good plays s = same-board old new (ap (λ (z : Session). z.board) plays.1) s
+lines-sound play (line ∷ lines) old parts new good plays s =
     lines-sound play lines plays.2 plays.1 new good.1 plays.4 (line_sound play line old plays.0 plays.2 good.0 plays.3 s)
 
 pub sessions_stay_sound : SessionsStaySound

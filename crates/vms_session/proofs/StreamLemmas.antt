@@ -12,6 +12,7 @@ use Rattle.vms_board_streams.proofs.IsaLaws.{bytes_are_one}
 use Rattle.vms_session.specs.Lines.{restored_line, refused_line}
 use Rattle.vms_session.specs.Session.{Session, ComesTo, IsTooLarge, IsLoaded, LoadsBytes}
 use Rattle.vms_commands.specs.Fetching.{longest_file}
+use Rattle.vms_script.specs.Lines.{ScriptLine}
 use Rattle.vms_kinds.specs.Bytes.{IsBytes}
 use Rattle.vms_spec.specs.declared.Reason.{Reason}
 use Rattle.vms_session.specs.Playing.{LineEnds, WritesText}
@@ -40,9 +41,9 @@ module _ (bytes : List ℕ) (old : Session) (text : List ℕ) (new : Session) (o
   refused_board place section reason r = ap (λ (s : Session). s.board) (sym (comes bytes old text new (Refused place section reason) ok few r loads).new_is)
 
 -- a line's text is written once the line is done
-pub line_ends : (text mark : List ℕ) (new : Session) (o o' : Outlet) (s s' : Stock) (m : State) (r : Result Unit PlayFault) → mark ≡ text → WritesText mark o o' r
-    → s'.held ≡ Some new.held → m ≡ new.board → LineEnds text new o o' s s' m r
-line_ends text mark new o o' s s' m (Ok u) e h held board = (subst (Appends o.written o'.written) e h, board, held)
-line_ends text mark new o o' s s' m (Err WriteFault) e h held board = (subst (AppendsPrefix o.written o'.written) e h.0, held)
-line_ends text mark new o o' s s' m (Err ShelfFault) e h held board = absurd h
-line_ends text mark new o o' s s' m (Err NoMemory) e h held board = absurd h
+pub line_ends : (line : ScriptLine) (text mark : List ℕ) (new : Session) (o o' : Outlet) (s s' : Stock) (m : State) (r : Result Unit PlayFault) → mark ≡ text → WritesText mark o o' r
+    → s'.held ≡ Some new.held → m ≡ new.board → LineEnds line text new o o' s s' m r
+line_ends line text mark new o o' s s' m (Ok u) e h held board = (subst (Appends o.written o'.written) e h, board, held)
+line_ends line text mark new o o' s s' m (Err WriteFault) e h held board = (subst (AppendsPrefix o.written o'.written) e h.0, held)
+line_ends line text mark new o o' s s' m (Err ShelfFault) e h held board = absurd h
+line_ends line text mark new o o' s s' m (Err NoMemory) e h held board = absurd h

@@ -1,43 +1,64 @@
 -- Laws of sessions that contracts name.
-use Rattle.std.specs.Prelude.{◌≡◌, ◌⊎◌, ℕ, List, Option, Some, None}
+use Rattle.std.specs.Prelude.{◌≡◌, ℕ, ◌<◌, ◌≤◌, List, ◌∷◌, length, Option, Some, None}
+use Rattle.dev_base.specs.declared.limits.TheConstants.{NEWEST}
 use Rattle.dev_board.specs.Sound.{IsSound}
+use Rattle.vms_board.specs.Isa.{isa}
+use Rattle.vms_board.specs.Restoring.{Refused, Restores}
+use Rattle.vms_desc.specs.Formed.{shipped_set}
 use Rattle.vms_io.specs.Shelves.{Held}
 use Rattle.vms_kinds.specs.Bytes.{IsBytes}
 use Rattle.vms_script.specs.Grammar.{IsLine, AreLines}
 use Rattle.vms_script.specs.Lines.{ScriptLine, Restores as Loads}
-use Rattle.vms_session.specs.Lines.{restored_line}
-use Rattle.vms_session.specs.Session.{Session, Does, Plays}
+use Rattle.vms_spec.specs.declared.Reason.{Reason}
+use Rattle.vms_commands.specs.Fetching.{longest_file}
+use Rattle.vms_commands.specs.Outcomes.{Part}
+use Rattle.vms_session.specs.Lines.{missing_line, too_large_line, refused_line}
+use Rattle.vms_session.specs.Parts.{part_of, Plays}
+use Rattle.vms_session.specs.Session.{Session, Leaves, Does}
 
--- a line that loads either leaves the count of a stream that was taken, or the session as it was
-pub record IsTaken (text : List ℕ) : Type 0 where
-  pub taken : ℕ
-  pub text_is : text ≡ restored_line taken
+-- a restore that brings no board back, with its text: nothing is held under the name, or too much, or a stream that is refused
+pub data BringsNone (name : List ℕ) (old : Session) (text : List ℕ) : Type 0 where
+  IsMissing : old.held name ≡ None → text ≡ missing_line → BringsNone name old text
+  IsLarge : (bytes : List ℕ) → old.held name ≡ Some bytes → longest_file < length bytes → text ≡ too_large_line
+      → BringsNone name old text
+  IsRefused : (bytes : List ℕ) (place : ℕ) (section : Option ℕ) (reason : Reason) → old.held name ≡ Some bytes → IsBytes bytes
+      → length bytes ≤ longest_file → Restores isa old.board.level bytes (Refused place section reason)
+      → text ≡ refused_line (shipped_set NEWEST) place section reason → BringsNone name old text
 
+-- the lines after a line of this text do what they do without it, on the session as it was
+pub record GoesOnWithout (line : ScriptLine) (lines : List ScriptLine) (old : Session) (text : List ℕ) (parts : List Part) (new : Session) : Type 0 where
+  pub later : List Part
+  pub parts_are : parts ≡ part_of line text old ∷ later
+  pub plays : Plays lines old later new
+
+-- it leaves its text and the session as it was, and so all later lines are those of the session without it
 pub record RefusalsLeave : Type 0 where
-  pub leaves : (name : List ℕ) (old : Session) (text : List ℕ) (new : Session) → Does (Loads name) old text new
-      → IsTaken text ⊎ (new ≡ old)
+  pub leaves : (name : List ℕ) (old : Session) (text said : List ℕ) (new : Session) → BringsNone name old text
+      → Does (Loads name) old said new → Leaves text old said new
+  pub later : (name : List ℕ) (lines : List ScriptLine) (old : Session) (text : List ℕ) (parts : List Part) (new : Session)
+      → BringsNone name old text → Plays (Loads name ∷ lines) old parts new → GoesOnWithout (Loads name) lines old text parts new
 
 pub record LevelStays : Type 0 where
-  pub level : (lines : List ScriptLine) (old : Session) (trace : List ℕ) (new : Session) → Plays lines old trace new
+  pub level : (lines : List ScriptLine) (old : Session) (parts : List Part) (new : Session) → Plays lines old parts new
       → new.board.level ≡ old.board.level
 
 -- each line and each script of a session keep the board sound
 pub record SessionsStaySound : Type 0 where
   pub line : (play : Option ℕ) (line : ScriptLine) (old : Session) (text : List ℕ) (new : Session) → IsLine play line
       → Does line old text new → IsSound old.board → IsSound new.board
-  pub lines : (play : Option ℕ) (lines : List ScriptLine) (old : Session) (trace : List ℕ) (new : Session) → AreLines play lines
-      → Plays lines old trace new → IsSound old.board → IsSound new.board
+  pub lines : (play : Option ℕ) (lines : List ScriptLine) (old : Session) (parts : List Part) (new : Session) → AreLines play lines
+      → Plays lines old parts new → IsSound old.board → IsSound new.board
 
 -- bytes are held under a name, or nothing
 abbrev pub HoldsBytes : Option (List ℕ) → Type 0
 HoldsBytes None = Unit {0}
 HoldsBytes (Some bytes) = IsBytes bytes
 
--- lines leave a trace and a session
+-- lines do something, each its part, and leave a session
 pub record HasAnEnd (lines : List ScriptLine) (old : Session) : Type 0 where
-  pub trace : List ℕ
+  pub parts : List Part
   pub new : Session
-  pub plays : Plays lines old trace new
+  pub plays : Plays lines old parts new
 
 -- whatever the lines are, of a session of the board's level, where the board is sound and bytes are held
 pub record SessionsEnd : Type 0 where
@@ -62,12 +83,17 @@ pub record LinesAreOne : Type 0 where
 abbrev pub HoldsAll : Held → Type 0
 HoldsAll held = (name : List ℕ) → HoldsBytes (held name)
 
--- a script of a session of the board's level leaves one trace and one session, where the board is sound and bytes are held, and
--- bytes are held after it
+-- two courses of a script are one: the parts, and the sessions after them
+pub record IsOneCourse (parts parts' : List Part) (new new' : Session) : Type 0 where
+  pub same : parts ≡ parts'
+  pub ends : new ≡ new'
+
+-- a script of a session of the board's level does one thing and leaves one session, where the board is sound and bytes are held,
+-- and bytes are held after it
 pub record SessionsAreOne : Type 0 where
-  pub one : (lines : List ScriptLine) (old : Session) (trace trace' : List ℕ) (new new' : Session)
+  pub one : (lines : List ScriptLine) (old : Session) (parts parts' : List Part) (new new' : Session)
       → AreLines (Some old.board.level) lines → IsSound old.board → HoldsAll old.held
-      → Plays lines old trace new → Plays lines old trace' new' → IsOneEnd trace trace' new new'
-  pub holds : (lines : List ScriptLine) (old : Session) (trace : List ℕ) (new : Session)
+      → Plays lines old parts new → Plays lines old parts' new' → IsOneCourse parts parts' new new'
+  pub holds : (lines : List ScriptLine) (old : Session) (parts : List Part) (new : Session)
       → AreLines (Some old.board.level) lines → IsSound old.board → HoldsAll old.held
-      → Plays lines old trace new → HoldsAll new.held
+      → Plays lines old parts new → HoldsAll new.held

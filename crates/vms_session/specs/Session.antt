@@ -56,13 +56,6 @@ Does (Happens event) old text new = Answers (step event old.board) old text new
 Does (Saves set name) old text new = Stores name (saved_stream isa set old.board) old text new
 Does (Loads name) old text new = LoadsHeld (old.held name) old text new
 
--- what lines do, one after the other, and the trace that they leave
-abbrev pub Plays : List ScriptLine → Session → List ℕ → Session → Type 0
-Plays [] old trace new = (trace ≡ []) × (new ≡ old)
-Plays (line ∷ lines) old trace new =
-    (text rest : List ℕ) × (between : Session)
-    × Does line old text between × Plays lines between rest new × (trace ≡ text ++ rest)
-
 -- a session begins at power on, with what the shelf holds
 abbrev pub begun : ℕ → Held → Session
 begun level held = record { board = power_on level; held = held }

@@ -15,7 +15,8 @@ abbrev pub StoresAs : Held → (name stream : List ℕ) (shelf shelf' : Stock) �
 StoresAs held name stream shelf shelf' (Ok n) =
     (n ≡ length stream) × ((after : Held) × (shelf'.held ≡ Some after) × PutsUnder held after name stream)
 StoresAs held name stream shelf shelf' (Err faults.WriteFault) = ⊥
-StoresAs held name stream shelf shelf' (Err faults.ShelfFault) = HoldsBut shelf.faults shelf'.faults shelf.held shelf'.held
+StoresAs held name stream shelf shelf' (Err faults.ShelfFault) =
+    Rose shelf.faults shelf'.faults × HoldsBut (Some name) shelf.held shelf'.held
 StoresAs held name stream shelf shelf' (Err faults.NoMemory) = shelf'.held ≡ shelf.held
 
 -- a line of this text, and the board of this session

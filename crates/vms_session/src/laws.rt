@@ -2,9 +2,9 @@
 ghost use Rattle.vms_session.specs.Laws.{RefusalsLeave, SessionsAreOne};
 ghost use Rattle.vms_session.specs.Laws.{LevelStays, SessionsStaySound, SessionsEnd, LinesAreOne};
 
-/// A stream that isn't there, is too large or is refused leaves the session as it was, so that all later lines do what they
-/// do without it.
-#[tactic(auto, using(crate::proofs::SessionLaws::refusals_leave))]
+/// A restore of a stream that isn't there, is too large or is refused leaves its line and the session as it was, and all
+/// later lines do what they do without it.
+#[tactic(auto, using(crate::proofs::RefusalLaws::refusals_leave))]
 pub fn refusal_law()
     ensures { RefusalsLeave }
 {}

@@ -39,7 +39,7 @@ pub(crate) fn play_line<K: Sink, H: Shelf>(
     requires { IsLine (Some board.old.state.level) (line_view line.now) }
     ensures content { (held : Held) (text : List ℕ) (new : Session) → H.held shelf.old ≡ Some held
         → Does (line_view line.now) (session_of board.old.state held) text new
-        → LineEnds text new (outlet K.Sink out.old) (outlet K.Sink out.new)
+        → LineEnds (line_view line.now) text new (outlet K.Sink out.old) (outlet K.Sink out.new)
         (stock H.Shelf shelf.old) (stock H.Shelf shelf.new) board.new.state result }
     ensures cause { HasPlayCause (outlet K.Sink out.old) (outlet K.Sink out.new)
         (stock H.Shelf shelf.old) (stock H.Shelf shelf.new) result }

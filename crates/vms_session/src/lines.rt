@@ -7,7 +7,7 @@ ghost use Rattle.vms_commands.specs.Outcomes.{Part};
 ghost use Rattle.vms_script.specs.Grammar.{AreLines};
 ghost use Rattle.vms_script.specs.Views.{lines_view};
 ghost use Rattle.vms_session.specs.Session.{Session};
-ghost use Rattle.vms_session.specs.Parts.{PlaysParts};
+ghost use Rattle.vms_session.specs.Parts.{Plays};
 ghost use Rattle.vms_session.specs.Playing.{HasPlayCause, LinesEnd, session_of};
 
 use crate::line::{PlayFault, play_line};
@@ -30,7 +30,7 @@ pub fn play<K: Sink, H: Shelf>(
     requires { AreLines (Some board.old.state.level) (lines_view lines.now) }
     ensures content { (held : Held) (parts : List Part) (new : Session)
         → H.held shelf.old ≡ Some held
-        → PlaysParts (lines_view lines.now) (session_of board.old.state held) parts new
+        → Plays (lines_view lines.now) (session_of board.old.state held) parts new
         → LinesEnd parts new (outlet K.Sink out.old) (outlet K.Sink out.new)
         (stock H.Shelf shelf.old) (stock H.Shelf shelf.new) board.new.state result }
     ensures cause { HasPlayCause (outlet K.Sink out.old) (outlet K.Sink out.new)

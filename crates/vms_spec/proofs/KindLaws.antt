@@ -10,7 +10,7 @@ use Rattle.vms_kinds.specs.Codes.{width, residue, code, InRange, value_of}
 use Rattle.vms_spec.specs.Streams.{be32}
 use Rattle.vms_spec.specs.Lookup.{is_bad_bool}
 
-read_back : (w x : ℕ) → x < 256 ^ w → big_number w (big_bytes w x) ≡ x
+pub read_back : (w x : ℕ) → x < 256 ^ w → big_number w (big_bytes w x) ≡ x
 read_back w x h = ap (big_from 0 w) (sym (append-nil (big_bytes w x))) ∙ big_number-reads_back w x [] h
 
 pub length-code : (kind : Kind) (z : ℤ) → length (code kind z) ≡ width kind

@@ -13,6 +13,7 @@ use Rattle.vms_values.specs.DevicesRead.{found, device_read, start_of, DeviceRea
 use Rattle.vms_values.specs.declared.fault.LineFault.{LineFault}
 use Rattle.vms_values.specs.declared.fault.LineFault.TheVariants as faults
 use Rattle.vms_values.proofs.DeviceLemmas.{with_devices}
+use Rattle.vms_values_laws.proofs.SecondPass.{or_bad_assoc}
 
 -- ---- one device
 
@@ -42,10 +43,6 @@ or_none : (o : Option BadLine) → or_bad o None ≡ o
 or_none None = refl
 or_none (Some b) = refl
 
-or_assoc : (a b c : Option BadLine) → or_bad (or_bad a b) c ≡ or_bad a (or_bad b c)
-or_assoc None b c = refl
-or_assoc (Some x) b c = refl
-
 judge_more : (set : Set) (ds : List Device) (rs : List ReadDevice) (d : Device) (r : ReadDevice) → length ds ≡ length rs
     → judge_devices set (ds ++ d ∷ []) (rs ++ r ∷ []) ≡ or_bad (judge_devices set ds rs) (judge_device set d r)
 judge_more set [] [] d r e = or_none (judge_device set d r)
@@ -53,7 +50,7 @@ judge_more set [] (x ∷ rs) d r e = cc
 judge_more set (c ∷ ds) [] d r e = cc
 judge_more set (c ∷ ds) (x ∷ rs) d r e =
     let less : length ds ≡ length rs = omega (arith, e) in
-    ap (or_bad (judge_device set c x)) (judge_more set ds rs d r less) ∙ sym (or_assoc (judge_device set c x) (judge_devices set ds rs) (judge_device set d r))
+    ap (or_bad (judge_device set c x)) (judge_more set ds rs d r less) ∙ sym (or_bad_assoc (judge_device set c x) (judge_devices set ds rs) (judge_device set d r))
 
 long_take : {X : Type 0} (xs : List X) (n : ℕ) → n ≤ length xs → length (take n xs) ≡ n
 long_take [] zero le = refl
@@ -130,7 +127,7 @@ module _ (set : Set) (i : ℕ) (lt : i < length set.devices) where
             ∙ ap (with_devices g.done) (sym (next_device old ∙ ap (after_device rest) k.read))
             ∙ g.whole;
         so_far = k.judged ∙ ap (λ (o : Option BadLine). or_bad o (judge_device set d k.r)) g.so_far
-            ∙ or_assoc first (judge_devices set (take i set.devices) g.done) (judge_device set d k.r)
+            ∙ or_bad_assoc first (judge_devices set (take i set.devices) g.done) (judge_device set d k.r)
             ∙ ap (or_bad first) (sym (judge_more set (take i set.devices) g.done d k.r lengths))
             ∙ ap (λ (l : List Device). or_bad first (judge_devices set l (g.done ++ k.r ∷ []))) (sym (take_more set.devices i _ lt));
       }

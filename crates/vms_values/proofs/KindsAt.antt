@@ -23,12 +23,10 @@ use Rattle.vms_walk.proofs.Spots.{cells_table}
 use Rattle.vms_desc.proofs.Clean.{struct_clean}
 use Rattle.std.proofs.lemmas.Option.{slice_get-get_or}
 use Rattle.vms_values.specs.Taken.{AreKinds, ElementKinds, part_cells}
+use Rattle.vms_spec.proofs.ListLaws.{drop_on}
 
 abbrev kinds_in : List Cell → List Kind
 kinds_in cells = map (λ (c : Cell). c.kind) cells
-
-drop_on : {A : Type 0} (all : List A) (at : ℕ) (xs ys : List A) → drop at all ≡ xs ++ ys → drop (at + length xs) all ≡ ys
-drop_on all at xs ys e = sym (drop-drop (length xs) at all) ∙ ap (drop (length xs)) e ∙ drop-append_seam xs ys
 
 module _ (kinds : List Kind) (at : ℕ) (xs ys : List Cell) (s : AreKinds kinds at (xs ++ ys)) where
   apart : drop at kinds ≡ kinds_in xs ++ (kinds_in ys ++ s.more)

@@ -20,5 +20,5 @@ pub mod ImageRead
 pub mod Gathering
 pub mod WholeText
 pub mod KindsAt
-mod TextRead
+pub mod TextRead
 pub mod Fronts

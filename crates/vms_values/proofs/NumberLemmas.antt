@@ -8,12 +8,10 @@ use Rattle.std.proofs.lemmas.Bool.Decides.{nat_tests}
 use Rattle.std.specs.Option.{option_and_then}
 use Rattle.vms_spec.specs.Spelling.{is_digit, are_digits, natural_from, number_spelled}
 use Rattle.vms_values.specs.Spelled.{with_digit, natural_spelled, read_from}
+use Rattle.std.proofs.Math.Bool.{and-true}
+use Rattle.vms_spec.proofs.ListLaws.{natural_up}
 
 -- ---- digits
-
-natural_up : (n : ℕ) (bs : List ℕ) → n ≤ natural_from n bs
-natural_up n [] = omega arith
-natural_up n (b ∷ bs) = omega (arith, natural_up (n * 10 + (b - 48)) bs)
 
 abbrev bounded : Bool → ℕ → Option ℕ
 bounded good n = if good && nat_lt n (2 ^ 64) then Some n else None
@@ -23,10 +21,6 @@ not_lt a b h = grind (arith, nat_tests)
 
 is_lt : (a b : ℕ) → a < b → nat_lt a b ≡ true
 is_lt a b h = grind (arith, nat_tests)
-
-and_true : (a : Bool) → (a && true) ≡ a
-and_true true = refl
-and_true false = refl
 
 none_if : (a : Bool) (n : ℕ) → (if a && false then Some n else None) ≡ None
 none_if true n = refl
@@ -64,7 +58,7 @@ unpadded text = length text == 1 || (nat_le 2 (length text) && not (get_or text 
 pub read_natural : (text : List ℕ) → unpadded text ≡ true → read_from 0 text ≡ natural_spelled text
 read_natural text e =
     read_is 0 text (omega arith)
-    ∙ ap (λ (t : Bool). bounded t (natural_from 0 text)) (sym (and_true (list_all is_digit text)) ∙ ap (λ (t : Bool). list_all is_digit text && t) (sym e))
+    ∙ ap (λ (t : Bool). bounded t (natural_from 0 text)) (sym (and-true (list_all is_digit text)) ∙ ap (λ (t : Bool). list_all is_digit text && t) (sym e))
 
 pub digit_stops : (value i d : ℕ) (text : List ℕ) → i < length text → with_digit value (get_or text i d) ≡ None → read_from value (drop i text) ≡ None
 digit_stops value i d text lt e =

@@ -20,7 +20,8 @@ use Rattle.vms_walk.proofs.Spots.{cells_table}
 use Rattle.vms_walk.proofs.Walking.{fields_at}
 use Rattle.vms_values.specs.Taken.{run_read}
 use Rattle.vms_walk.proofs.Least.{exceeds_least}
-use Rattle.vms_values.proofs.Readers.{readers_cells, then_same}
+use Rattle.vms_values.proofs.Readers.{then_same}
+use Rattle.vms_spec.proofs.Prefixes.{readers_cells}
 
 -- ---- of the capacities that a number counts, the least is enough
 

@@ -2,22 +2,19 @@
 use Rattle.std.proofs.Common.{◌≡◌, ℕ, Bool, true, false, ◌&&◌, ◌==◌, List, [], ◌∷◌, ◌++◌, length, drop, refl, sym, ap, ◌∙◌}
 use Rattle.std.specs.Str.{bytes_eq}
 use Rattle.vms_spec.specs.Spelling.{begins_with}
-
-pub and_assoc : (a b c : Bool) → (a && (b && c)) ≡ ((a && b) && c)
-and_assoc true b c = refl
-and_assoc false b c = refl
+use Rattle.std.proofs.Math.Bool.{and_assoc}
 
 pub equal-append : (line front more : List ℕ) → bytes_eq line (front ++ more) ≡ (begins_with front line && bytes_eq (drop (length front) line) more)
 equal-append line [] more = refl
 equal-append [] (x ∷ front) more = refl
 equal-append (y ∷ line) (x ∷ front) more =
-    ap (λ (t : Bool). (y == x) && t) (equal-append line front more) ∙ and_assoc (y == x) (begins_with front line) (bytes_eq (drop (length front) line) more)
+    ap (λ (t : Bool). (y == x) && t) (equal-append line front more) ∙ sym (and_assoc (y == x) (begins_with front line) (bytes_eq (drop (length front) line) more))
 
 pub begins-append : (line front more : List ℕ) → begins_with (front ++ more) line ≡ (begins_with front line && begins_with more (drop (length front) line))
 begins-append line [] more = refl
 begins-append [] (x ∷ front) more = refl
 begins-append (y ∷ line) (x ∷ front) more =
-    ap (λ (t : Bool). (y == x) && t) (begins-append line front more) ∙ and_assoc (y == x) (begins_with front line) (begins_with more (drop (length front) line))
+    ap (λ (t : Bool). (y == x) && t) (begins-append line front more) ∙ sym (and_assoc (y == x) (begins_with front line) (begins_with more (drop (length front) line)))
 
 pub joined_on : (rest more piece left after : List ℕ) (whole : Bool) → bytes_eq rest left ≡ whole → left ≡ piece ++ after → begins_with piece rest ≡ true
     → more ≡ drop (length piece) rest → bytes_eq more after ≡ whole

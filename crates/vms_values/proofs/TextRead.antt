@@ -37,7 +37,7 @@ few_lines set well =
     let each = few_each set 16417 set.devices (λ i lt. omega (arith, few_subs set well i lt, few_cells set well i)) in
     omega (arith, each, few_devices set well)
 
-fit_of : (set : Set) → is_well_formed set ≡ true → FitsHeads set → IsFit set
+pub fit_of : (set : Set) → is_well_formed set ≡ true → FitsHeads set → IsFit set
 fit_of set well heads = record { well = none_is (first_fault set) well; heads = heads }
 
 -- such a number is known as the line of the text

@@ -17,6 +17,7 @@ use Rattle.vms_desc.specs.Asks.{own_numbers}
 use Rattle.vms_desc.specs.Parts.{desc_at}
 use Rattle.vms_walk.specs.declared.fields.PartAt.{PartAt}
 use Rattle.vms_walk.specs.Steps.{spot_slots}
+use Rattle.std.proofs.Math.Bool.{and-true}
 
 -- the rules of each structure are true
 abbrev pub AllTrue : List Meaning → Type 0
@@ -33,10 +34,6 @@ true_append (Rule false ∷ xs) ys h = cc
 times_true : (part : ℕ → List Slot) → ((at : ℕ) → rules_are_true (part at) ≡ true) → (n at step : ℕ) → rules_are_true (times n part at step) ≡ true
 times_true part h zero at step = refl
 times_true part h (suc n) at step = true_append (part at) (times n part (at + step) step) (h at) ∙ times_true part h n (at + step) step
-
-and_true : (b : Bool) → (b && true) ≡ b
-and_true true = refl
-and_true false = refl
 
 module _ (ms : List Meaning) (all : AllTrue ms) where
   item_true : (item : Item) (caps : List ℕ) (n : List ℤ) (at : ℕ) → rules_are_true (item_slots ms item caps n at) ≡ true
@@ -66,7 +63,7 @@ module _ (ms : List Meaning) (all : AllTrue ms) where
   desc_true d v n at =
       let own = numbers_of (map (λ m. m.cells) ms) d n at in
       true_append (slots_from ms d.fields v own n 0 at d.fields) (Rule (all_hold d.validate v own) ∷ []) (fields_true d.fields v own n 0 at d.fields)
-      ∙ and_true (all_hold d.validate v own)
+      ∙ and-true (all_hold d.validate v own)
 
 meanings_true : (ds : List Desc) → ((k : ℕ) → (get_or ds k no_desc).validate ≡ []) → (k : ℕ) → AllTrue (meanings ds k)
 unfolding first

@@ -73,13 +73,3 @@ text_told set m r old new v result h none first is known t = by new.judged refl 
     by (Some b) e t = subst (ReadsBy set (ended set m r)) (sym t) (text_judged set m r old new (map state_of v.images.items) b h none first e)
 
 -- ---- a well-formed set has few machines
-
-pub few_machines : (set : Set) → is_well_formed set ≡ true → length set.machines ≤ 16
-unfolding first_fault
-few_machines set well =
-    let devices = or_else (first_answer (device_fault set) 0 set.devices) (failing 1 (size_rules set) (here parts.Set)) in
-    let a = or_else_none (failing 1 (set_rules set) (here parts.Set)) (or_else (first_answer (struct_fault set.structs) 0 set.structs) devices) (none_is (first_fault set) well) in
-    let all = all_true 1 (set_rules set) (here parts.Set) a.0 in
-    let b = all.1.1.1.1.1.1.0 in
-    let c = and_parts (nat_le (length set.machines) 16 && nat_le (length set.structs) 64) (nat_le (length set.devices) 64) b in
-    leb-true (length set.machines) 16 (and_parts (nat_le (length set.machines) 16) (nat_le (length set.structs) 64) c.0).0

@@ -13,6 +13,7 @@ use Rattle.vms_elements.specs.Reading.{is_of_cell, has_line, IsShaped, AreShaped
 use Rattle.vms_values_laws.specs.Taken.{Demand, ForMachine, ForSection, ForSub, ForNumber, demand_of, Taken, lines_of, Follows, Along}
 use Rattle.vms_values_laws.proofs.Numbers.{AreShort, of_numbers, cancel, number_same}
 use Rattle.vms_values_laws.proofs.DevicesCome.{AllShort}
+use Rattle.std.proofs.lemmas.List.{ext_get_or}
 
 -- the same is demanded, and it has the same line, one after the other
 abbrev pub Match : List Entry → List Entry → Type 0
@@ -277,15 +278,6 @@ module _ (set : Set) (d : Device) (image : Image) where
   whole_came : length image.came ≡ length d.subs → came_of inside_of ≡ image.came
   whole_came long = numbers_came image.numbers own_elements (subs_entries set d image 0 (own_cells set d) d.subs image.came) ∙ subs_came 0 (own_cells set d) d.subs image.came long
 
-same_list : (n m : List ℤ) → length n ≡ length m → ((c : ℕ) → c < length n → get_or n c (pos 0) ≡ get_or m c (pos 0)) → n ≡ m
-same_list [] [] long h = refl
-same_list [] (z ∷ m) long h = absurd (omega (arith, long))
-same_list (y ∷ n) [] long h = absurd (omega (arith, long))
-same_list (y ∷ n) (z ∷ m) long h =
-    let first : y ≡ z = h 0 (omega arith) in
-    let rest : n ≡ m = same_list n m (omega (arith, long)) (λ c lt. h (suc c) (omega arith)) in
-    rw (first, rest) refl
-
 three_same : (v w : ℕ) (a b : List (Option ℕ)) (n m : List ℤ) → v ≡ w → a ≡ b → n ≡ m
     → (let i : Image = record { version = v; came = a; numbers = n } in let j : Image = record { version = w; came = b; numbers = m } in i ≡ j)
 three_same v w a b n m e f g = rw (e, f, g) refl
@@ -300,7 +292,7 @@ device_same set d image image' a b short short' u u' m =
     sym (whole_came set d image a.subs) ∙ came_same (inside_of set d image) (inside_of set d image') (whole_at set d image a.versions) (whole_at set d image' b.versions) m ∙ whole_came set d image' b.subs in
     let long : length image.numbers ≡ length image'.numbers = a.cells ∙ sym b.cells in
     same_image image image' (a.version ∙ sym b.version) came
-    (same_list image.numbers image'.numbers long (λ c lt. by_line c lt (omega (arith, long)) (has_line (inside_of set d image) c) refl))
+    (ext_get_or (pos 0) image.numbers image'.numbers long (λ c lt. by_line c lt (omega (arith, long)) (has_line (inside_of set d image) c) refl))
   where
     by_line : (c : ℕ) → c < length image.numbers → c < length image'.numbers → (t : Bool) → has_line (inside_of set d image) c ≡ t → get_or image.numbers c (pos 0) ≡ get_or image'.numbers c (pos 0)
     by_line c lt lt' true t = agree image.numbers image'.numbers short short' (inside_of set d image) (inside_of set d image') (whole_of set d image) (whole_of set d image') m c t

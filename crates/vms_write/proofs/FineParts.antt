@@ -19,6 +19,7 @@ use Rattle.vms_spec.proofs.ListLaws.{and_swap}
 use Rattle.vms_parts.specs.declared.types.CellForm.{CellForm}
 use Rattle.vms_write.specs.Fine.{no_form, are_fit, settle, is_fine}
 use Rattle.vms_walk.specs.Steps.{cells_in}
+use Rattle.vms_bodies.proofs.AgreeLaws.{stands_behind}
 
 -- ---- tests
 
@@ -102,15 +103,6 @@ are_below all slots h = record { above = λ c le. none slots h c le }
     none (Filler m ∷ slots) h c le = none slots h c le
     none (Rule b ∷ slots) h c le = none slots h c le
 
--- cells that begin at a place, with others before them
-standing : (at : ℕ) (cells : List Cell) → Stands (replicate at no_cell ++ cells) at cells
-standing at cells =
-    let long : length (replicate at no_cell) ≡ at = length-replicate at no_cell in
-    record {
-      more = [];
-      is = ap (λ (k : ℕ). drop k (replicate at no_cell ++ cells)) (sym long) ∙ drop-append_seam (replicate at no_cell) cells ∙ sym (append-nil cells);
-    }
-
 below_end : (at size : ℕ) (cells : List Cell) (slots : List Slot) → length cells ≡ size → AreCells (replicate at no_cell ++ cells) slots → IsBelow (at + size) slots
 below_end at size cells slots e h =
     let long : length (replicate at no_cell ++ cells) ≡ at + size = omega (arith, length-append (replicate at no_cell) cells, length-replicate at no_cell) in
@@ -120,7 +112,7 @@ module _ (ms : List Meaning) (known : MeanCells ms) (n : List ℤ) where
   pub item_below : (item : Item) (caps : List ℕ) (at : ℕ) → IsBelow (at + item_size (cells_in ms) item) (item_slots ms item caps n at)
   item_below item caps at =
       let cells = item_cells (cells_in ms) item caps (pos 0) in
-      below_end at (item_size (cells_in ms) item) cells (item_slots ms item caps n at) (size_same (cells_in ms) item caps (pos 0)) (item_are ms known item caps (pos 0) (replicate at no_cell ++ cells) at n (standing at cells))
+      below_end at (item_size (cells_in ms) item) cells (item_slots ms item caps n at) (size_same (cells_in ms) item caps (pos 0)) (item_are ms known item caps (pos 0) (replicate at no_cell ++ cells) at n (stands_behind at cells))
 
   pub items_below : (item : Item) (caps : List ℕ) (k at : ℕ) → IsBelow (at + k * item_size (cells_in ms) item) (times k (item_slots ms item caps n) at (item_size (cells_in ms) item))
   items_below item caps k at =
@@ -128,15 +120,15 @@ module _ (ms : List Meaning) (known : MeanCells ms) (n : List ℤ) where
       let cells = times k (λ _. one) 0 0 in
       below_end at (k * item_size (cells_in ms) item) cells (times k (item_slots ms item caps n) at (item_size (cells_in ms) item))
       (length-times k one 0 0 ∙ ap (λ (x : ℕ). k * x) (size_same (cells_in ms) item caps (pos 0)))
-      (items_are ms known item caps (pos 0) (replicate at no_cell ++ cells) k k at 0 0 n (omega arith) (standing at cells))
+      (items_are ms known item caps (pos 0) (replicate at no_cell ++ cells) k k at 0 0 n (omega arith) (stands_behind at cells))
 
   pub field_below : (fields : List Field) (v : ℕ) (own : ℕ → ℕ) (i at : ℕ) (f : Field) → IsBelow (at + capacity_of f.count * item_size (cells_in ms) f.item) (field_slots ms fields v own n i at f)
   field_below fields v own i at f =
       let cells = field_cells (cells_in ms) fields i f in
       below_end at (capacity_of f.count * item_size (cells_in ms) f.item) cells (field_slots ms fields v own n i at f) (field_size (cells_in ms) fields i f)
-      (field_are ms known fields v own n i at f (replicate at no_cell ++ cells) (standing at cells))
+      (field_are ms known fields v own n i at f (replicate at no_cell ++ cells) (stands_behind at cells))
 
   pub desc_below : (d : Desc) (v at : ℕ) → IsBelow (at + length (desc_cells (cells_in ms) d)) (desc_slots ms d v n at)
   desc_below d v at =
       let cells = desc_cells (cells_in ms) d in
-      below_end at (length cells) cells (desc_slots ms d v n at) refl (desc_are ms known d v at n (replicate at no_cell ++ cells) (standing at cells))
+      below_end at (length cells) cells (desc_slots ms d v n at) refl (desc_are ms known d v at n (replicate at no_cell ++ cells) (stands_behind at cells))

@@ -6,8 +6,8 @@ ghost use Rattle.vms_marks.specs.Marks.{byte_of};
 use arrayvec::ArrayVec;
 use vms_marks::{Head, Mark, Name};
 
-// Room for a mark, three numbers, and a name of at most 255 bytes with its length.
-pub(crate) type Bytes = ArrayVec<u8, 269>;
+/// Room for a mark, three numbers, and a name of at most 255 bytes with its length.
+pub type Bytes = ArrayVec<u8, 269>;
 
 // Appends bytes for which there is room.
 fn put(head: &mut Bytes, bytes: &[u8])
@@ -29,8 +29,8 @@ fn name_of(bytes: &[u8]) -> Name
 /// The magic, and the stream's version.
 pub(crate) const STREAM_HEAD: [u8; 8] = *b"QEVM\0\0\0\x03";
 
-// The mark of a configuration, and the machine's name with its length.
-pub(crate) fn configuration(name: &[u8]) -> Bytes
+/// The bytes of a configuration: its mark, and the machine's name with its length.
+pub fn configuration(name: &[u8]) -> Bytes
     requires { length name.now ≤ 255 }
     ensures { result.items ≡ configuration name.now }
 {
@@ -40,8 +40,8 @@ pub(crate) fn configuration(name: &[u8]) -> Bytes
     head
 }
 
-// A section's mark, id, name, instance id and version.
-pub(crate) fn section_head(id: u32, name: &[u8], instance: u32, version: u32) -> Bytes
+/// The bytes of a section's head: its mark, id, name, instance id and version.
+pub fn section_head(id: u32, name: &[u8], instance: u32, version: u32) -> Bytes
     requires { length name.now ≤ 255 }
     ensures { result.items ≡ section_head id name.now instance version }
 {
@@ -54,8 +54,8 @@ pub(crate) fn section_head(id: u32, name: &[u8], instance: u32, version: u32) ->
     head.bytes()
 }
 
-// A subsection's mark, full name and version.
-pub(crate) fn sub_head(name: &[u8], version: u32) -> Bytes
+/// The bytes of a subsection's head: its mark, full name and version.
+pub fn sub_head(name: &[u8], version: u32) -> Bytes
     requires { length name.now ≤ 255 }
     ensures { result.items ≡ sub_head name.now version }
 {

@@ -9,6 +9,7 @@ mod readiness;
 mod section;
 mod stream;
 
+pub use heads::{configuration, section_head, sub_head};
 pub use readiness::{are_ready, is_bare, ready};
 pub use section::write_section;
 pub use stream::write_stream;

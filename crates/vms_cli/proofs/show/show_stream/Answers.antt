@@ -8,8 +8,9 @@ use Rattle.vms_load.specs.Kept.{loads, kept, taken_by}
 use Rattle.vms_commands.specs.Endings.{WritesAs}
 use Rattle.vms_commands.specs.Lines.{refused_line}
 use Rattle.vms_commands.proofs.EndLemmas.{comes_to_nothing}
-use Rattle.vms_cli.proofs.ShowLemmas.{fit_of, heard_refused, heard_shown, loaded, refused}
+use Rattle.vms_cli.proofs.ShowLemmas.{heard_refused, heard_shown, loaded, refused}
 use Rattle.vms_cli.proofs.show.show_stream.Goals as goal
+use Rattle.vms_values.proofs.TextRead.{fit_of}
 
 pub returns-in-Ok-clause-content : goal.returns-in-Ok-clause-content
 returns-in-Ok-clause-content g c = λ shelf shelf' o held shows.

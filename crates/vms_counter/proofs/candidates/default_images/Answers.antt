@@ -4,7 +4,7 @@ use Rattle.vms_spec.specs.Sets.{Set}
 use Rattle.vms_parts.specs.Views.{device_of}
 use Rattle.vms_desc.specs.Described.{described}
 use Rattle.vms_load.proofs.StagedLemmas.{made_all, made_shaped}
-use Rattle.vms_counter.proofs.ImageLemmas.{are_images}
+use Rattle.vms_load.proofs.StagedLemmas.{are_images}
 use Rattle.vms_counter.proofs.candidates.default_images.Goals as goal
 
 pub returns-clause-states : goal.returns-clause-states

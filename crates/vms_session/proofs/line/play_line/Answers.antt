@@ -36,7 +36,7 @@ returns-in_ok-count-in-Save-clause-content g c = λ held text new told does.
     let stored = c.in_ok-count-in-Save.ensures.stored held told in
     let under = subst (λ name. PutsUnder held stored.1.0 name stream) c.as_str.ensures.value stored.1.2 in
     let same = one_map held stored.1.0 new.held c.in-Save.name.bytes stream under done.held in
-    line_ends text c.deref.result.now new (outlet g.K.Sink c.args.out.now) (outlet g.K.Sink c.write.new.out) (stock g.H.Shelf c.args.shelf.now) (stock g.H.Shelf c.save.new.shelf)
+    line_ends (line_view c.args.line.now) text c.deref.result.now new (outlet g.K.Sink c.args.out.now) (outlet g.K.Sink c.write.new.out) (stock g.H.Shelf c.args.shelf.now) (stock g.H.Shelf c.save.new.shelf)
     board c.write.result
     (c.deref.ensures.0 ∙ c.saved_mark.ensures ∙ ap saved_line stored.0 ∙ sym done.text_is)
     c.write.ensures.written

@@ -5,7 +5,7 @@ use Rattle.vms_commands.specs.Outcomes.{Part}
 use Rattle.vms_script.specs.Grammar.{AreLines}
 use Rattle.vms_script.specs.Views.{lines_view}
 use Rattle.vms_session.specs.Session.{Session}
-use Rattle.vms_session.specs.Parts.{PlaysParts}
+use Rattle.vms_session.specs.Parts.{Plays}
 use Rattle.vms_session.specs.Playing.{session_of}
 use Rattle.vms_session.proofs.CourseLemmas.{InCourse}
 use Rattle.vms_session.proofs.lines.play.Given as goal
@@ -15,7 +15,7 @@ invariant-loop-line g l = record {
   level : l.board.state.level ≡ l.fn.board.state.level;
   lines : AreLines (Some l.fn.board.state.level) (lines_view (drop l.line-index l.lines));
   course : (held : Held) (parts : List Part) (new : Session) → g.H.Shelf.held l.fn.shelf ≡ Some held
-      → PlaysParts (lines_view l.lines) (session_of l.fn.board.state held) parts new
+      → Plays (lines_view l.lines) (session_of l.fn.board.state held) parts new
       → InCourse l.line-index (lines_view (drop l.line-index l.lines)) parts new l.board.state (outlet g.K.Sink l.fn.out) (outlet g.K.Sink l.out)
       (stock g.H.Shelf l.fn.shelf) (stock g.H.Shelf l.shelf);
   out_count : g.K.Sink.faults l.fn.out ≤ g.K.Sink.faults l.out;

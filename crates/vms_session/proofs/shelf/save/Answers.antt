@@ -8,4 +8,4 @@ stream_of-requires-clause-short g c = streams_are_short.short c.args.set c.args.
 pub returns-in-Err-Failed-clause-stored : goal.returns-in-Err-Failed-clause-stored
 returns-in-Err-Failed-clause-stored g c = λ held told.
     let cause = rw c.in-Err-Failed.field-0-is at c.in-Err-Failed.ensures.cause in
-    inr (cause.1, (c.args.name.now, c.in-Err-Failed.ensures.others))
+    (cause.1, c.in-Err-Failed.ensures.others)

@@ -11,8 +11,9 @@ use Rattle.vms_values.specs.declared.fault.Values.{Values as Given}
 use Rattle.vms_values.specs.declared.fault.LineFault.{LineFault}
 use Rattle.vms_values.proofs.DeviceLemmas.{top, said_so}
 use Rattle.vms_values.proofs.ReadLemmas.{nil_of, some_of}
-use Rattle.vms_values.proofs.WholeText.{text_told, text_longer, text_refused, few_machines}
+use Rattle.vms_values.proofs.WholeText.{text_told, text_longer, text_refused}
 use Rattle.vms_values.proofs.devices.read_lines.Goals as goal
+use Rattle.vms_desc.proofs.Bounds.{few_machines}
 
 pub read_machine-start-requires : goal.read_machine-start-requires
 read_machine-start-requires c =

@@ -1,0 +1,47 @@
+-- No event changes the version, and a wait alone moves the moment.
+use Rattle.std.proofs.Common.{◌≡◌, ℕ, ◌==◌, refl, ◌∙◌}
+use Rattle.dev_base.proofs.Choices.{either}
+use Rattle.dev_board.proofs.ClockLaws.{clock_goes_on as board_goes_on}
+use Rattle.dev_board.specs.Laws.{moment_left}
+use Rattle.dev_board.specs.declared.event.Answer.{Answer}
+use Rattle.dev_board.specs.declared.event.Event.{Event}
+use Rattle.dev_board.specs.declared.event.Event.TheVariants.{Read, Write, Byte, Wait, Wire, Ack}
+use Rattle.vms_rtc.proofs.CallLaws.{version_stays}
+use Rattle.vms_rtc.specs.Chip.{is_port, line_of}
+use Rattle.dev_clock.specs.Laws.{ClockGoesOn}
+use Rattle.dev_clock.specs.State.{ClockState}
+use Rattle.dev_clock.specs.Step.{waited, acted, follows_line, step}
+use Rattle.dev_clock.specs.declared.devices.TheConstants.{CLOCK_INPUT}
+
+-- devices at a moment and of a version
+record IsAt (moment version : ℕ) (after : Answer × ClockState) : Type 0 where
+  moment_is : after.1.board.moment ≡ moment
+  version_is : after.1.clock.version ≡ version
+
+module _ (m : ClockState) where
+  acted-clock : (event : Event) → IsAt (moment_left event m.board.moment) m.clock.version (acted event m)
+  unfolding acted waited
+  acted-clock (Read port) =
+      either (IsAt m.board.moment m.clock.version) (is_port port) _ _ (record { moment_is = refl; version_is = version_stays.read port m.clock })
+      (record { moment_is = board_goes_on.moment (Read port) m.board; version_is = refl })
+  acted-clock (Write port value) =
+      either (IsAt m.board.moment m.clock.version) (is_port port) _ _ (record { moment_is = refl; version_is = version_stays.write port value m.clock })
+      (record { moment_is = board_goes_on.moment (Write port value) m.board; version_is = refl })
+  acted-clock (Byte value) = record { moment_is = board_goes_on.moment (Byte value) m.board; version_is = refl }
+  acted-clock (Wait ns) = record { moment_is = board_goes_on.moment (Wait ns) m.board; version_is = version_stays.passed m.board.moment _ m.clock }
+  acted-clock (Wire input up) =
+      either (IsAt m.board.moment m.clock.version) (input == CLOCK_INPUT) _ _ (record { moment_is = refl; version_is = refl })
+      (record { moment_is = board_goes_on.moment (Wire input up) m.board; version_is = refl })
+  acted-clock Ack = record { moment_is = board_goes_on.moment Ack m.board; version_is = refl }
+
+follows-clock : (moment version : ℕ) (done : Answer × ClockState) → IsAt moment version done → IsAt moment version (follows_line done)
+unfolding follows_line
+follows-clock moment version done c =
+    record { moment_is = board_goes_on.moment (Wire CLOCK_INPUT (line_of done.1.clock)) done.1.board ∙ c.moment_is; version_is = c.version_is }
+
+step-clock : (event : Event) (m : ClockState) → IsAt (moment_left event m.board.moment) m.clock.version (step event m)
+unfolding step
+step-clock event m = follows-clock _ _ (acted event m) (acted-clock m event)
+
+pub clock_goes_on : ClockGoesOn
+clock_goes_on = record { moment = λ event m. (step-clock event m).moment_is; version = λ event m. (step-clock event m).version_is }

@@ -1,0 +1,105 @@
+-- What is restored is sound.
+use Rattle.std.proofs.Common.{◌≡◌, ℕ, ℤ, Bool, true, false, cond, List, Result, Ok, Err, refl, sym, ap, ◌∙◌, arith}
+use Rattle.dev_base.proofs.RuleLaws.{judged-ok, ok-hook}
+use Rattle.dev_base.specs.Bits.{has, same}
+use Rattle.dev_base.specs.Cells.{AreOf, number_at}
+use Rattle.dev_base.specs.Levels.{IsLevel, IsUpTo}
+use Rattle.dev_base.specs.declared.limits.TheConstants.{NEWEST}
+use Rattle.dev_board.proofs.RestoredLaws.{restored_is_sound as board-is-sound, made_of as board_made_of, chip-ok, device-ok}
+use Rattle.dev_board.proofs.SavedLaws.{same-is}
+use Rattle.dev_board.specs.Saved.{restored as board_restored, moment_of, timed}
+use Rattle.dev_board.specs.State.{State}
+use Rattle.dev_board.specs.declared.cells.BoardCells.{BoardCells}
+use Rattle.dev_board.specs.declared.misfit.Misfit.{Misfit}
+use Rattle.dev_pic.proofs.RestoredLaws.{made_of as pair_made_of}
+use Rattle.dev_pic.specs.Cells.{chip_of, rules}
+use Rattle.dev_pic.specs.declared.chip.Chip.{Chip}
+use Rattle.vms_rtc.proofs.RestoredLaws.{restored_is_sound as clock-is-sound}
+use Rattle.vms_rtc.specs.Cells.{kinds}
+use Rattle.vms_rtc.specs.Chip.{line_of}
+use Rattle.vms_rtc.specs.Saved.{restored as clock_restored}
+use Rattle.vms_rtc.specs.Sound.{IsSound as IsSoundClock}
+use Rattle.vms_rtc.specs.declared.limits.TheConstants.{NEWEST_CLOCK}
+use Rattle.vms_rtc.specs.declared.rtc.Rtc.{Rtc}
+use Rattle.dev_clock.proofs.SlaveLine.{slave-bit}
+use Rattle.dev_clock.specs.Saved.{AreClockCells, numbers_back, slave_line, with_line, clock_back, joined}
+use Rattle.dev_clock.specs.SavedLaws.{RestoredIsSound}
+use Rattle.dev_clock.specs.Sound.{IsSound}
+use Rattle.dev_clock.specs.State.{ClockState}
+use Rattle.dev_clock.specs.declared.cells.ClockCells.{ClockCells}
+use Rattle.dev_clock.specs.declared.saved.TheConstants.{CLOCK_DEVICE, LINE_RULE, LINES_CELL}
+
+-- devices are made of a chip and of a board's that were restored
+record IsMadeOf (of_clock : Result Rtc Misfit) (of_board : Result State Misfit) (m : ClockState) : Type 0 where
+  clock : of_clock ≡ Ok m.clock
+  board : of_board ≡ Ok m.board
+
+made_of : (of_clock : Result Rtc Misfit) (of_board : Result State Misfit) (m : ClockState) → joined of_clock of_board ≡ Ok m → IsMadeOf of_clock of_board m
+unfolding joined
+made_of (Err misfit) of_board m e = cc
+made_of (Ok clock) (Err misfit) m e = cc
+made_of (Ok clock) (Ok board) m e =
+    let is : record { clock = clock; board = board } ≡ m = cc in
+    record { clock = ap (λ (o : ClockState). Ok o.clock) is; board = ap (λ (o : ClockState). Ok o.board) is }
+
+-- a chip whose line the slave remembers
+pub record IsLined (line : Bool) (outcome : Result Rtc ℕ) (clock : Rtc) : Type 0 where
+  pub found : outcome ≡ Ok clock
+  pub kept : line ≡ line_of clock
+
+lined-by : (b : Bool) (found clock : Rtc) → cond b (Ok found) (Err LINE_RULE) ≡ Ok clock → (b ≡ true) × (found ≡ clock)
+lined-by true found clock e = (refl, cc)
+lined-by false found clock e = cc
+
+lined : (line : Bool) (outcome : Result Rtc ℕ) (clock : Rtc) → with_line line outcome ≡ Ok clock → IsLined line outcome clock
+unfolding with_line
+lined line (Err rule) clock e = cc
+lined line (Ok found) clock e =
+    let is = lined-by (same line (line_of found)) found clock e in
+    record { found = ap (λ (c : Rtc). Ok c) is.1; kept = same-is line (line_of found) is.0 ∙ ap line_of is.1 }
+
+pub clock-lined : (version : ℕ) (line : Bool) (cells : List ℤ) (clock : Rtc) → clock_back version line cells ≡ Ok clock → IsLined line (clock_restored version cells) clock
+clock-lined version line cells clock e = lined line (clock_restored version cells) clock (device-ok CLOCK_DEVICE _ clock e)
+
+pub clock-sound : (version : ℕ) (line : Bool) (cells : List ℤ) (clock : Rtc) → IsUpTo NEWEST_CLOCK version → AreOf (kinds NEWEST_CLOCK) cells → clock_back version line cells ≡ Ok clock → IsSoundClock clock
+clock-sound version line cells clock v are e =
+    clock-is-sound.sound (numbers_back version 0) cells clock (record { pass = record { is_version = v; newest_set = refl }; of_kinds = are })
+    (ok-hook _ clock (clock-lined version line cells clock e).found)
+
+clock-version : (version : ℕ) (line : Bool) (cells : List ℤ) (clock : Rtc) → clock_back version line cells ≡ Ok clock → clock.version ≡ version
+clock-version version line cells clock e =
+    clock-is-sound.version (numbers_back version 0) cells clock (ok-hook _ clock (clock-lined version line cells clock e).found)
+
+-- the slave's lines
+lines-of : (cells : List ℤ) (chip : Chip) → chip_of cells ≡ chip → number_at cells LINES_CELL ≡ chip.lines
+unfolding chip_of
+lines-of cells chip e = ap (λ (c : Chip). c.lines) e
+
+slave-lines : (level : ℕ) (cells : BoardCells) (board : State) → board_restored level cells ≡ Ok board → number_at cells.slave.items LINES_CELL ≡ board.pair.slave.lines
+slave-lines level cells board e =
+    let pair = chip-ok _ board.pair (board_made_of level (timed (moment_of cells)) _ _ _ board e).pair in
+    let slave = (pair_made_of level _ _ board.pair pair).of_slave in
+    lines-of cells.slave.items board.pair.slave (judged-ok (rules level _ cells.slave.items) (chip_of cells.slave.items) board.pair.slave slave).1
+
+newest-is : IsLevel NEWEST
+newest-is = record { first = omega arith; last = omega arith }
+
+pub both-sound : (version : ℕ) (cells : ClockCells) (clock : Rtc) (board : State) → IsUpTo NEWEST_CLOCK version → AreClockCells cells → clock_back version (slave_line cells.board.slave.items) cells.clock.items ≡ Ok clock → board_restored NEWEST cells.board ≡ Ok board → IsSound (record { clock = clock; board = board })
+both-sound version cells clock board v are a b =
+    let sound = board-is-sound.sound NEWEST cells.board board newest-is are.board b in
+    record {
+      devices = record {
+        clock = clock-sound version _ cells.clock.items clock v are.clock a;
+        level = board-is-sound.level NEWEST cells.board board b;
+      };
+      board = sound;
+      line =
+          slave-bit board.pair sound.pair ∙ sym (ap (λ (lines : ℕ). has lines 0) (slave-lines NEWEST cells.board board b))
+          ∙ (clock-lined version _ cells.clock.items clock a).kept;
+    }
+
+pub restored_is_sound : RestoredIsSound
+restored_is_sound = record {
+  sound = λ version cells m v are e. let made = made_of _ _ m e in both-sound version cells m.clock m.board v are made.clock made.board;
+  version = λ version cells m e. let made = made_of _ _ m e in clock-version version _ cells.clock.items m.clock made.clock;
+}

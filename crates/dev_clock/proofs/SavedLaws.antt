@@ -1,0 +1,112 @@
+-- What is saved of a clock board's devices comes back.
+use Rattle.std.proofs.Common.{◌≡◌, ℕ, ℤ, ◌≤◌, Bool, List, Result, Ok, refl, sym, ap, subst, ◌∙◌, arith}
+use Rattle.dev_base.proofs.RuleLaws.{hook-ok}
+use Rattle.dev_base.specs.Bits.{has}
+use Rattle.dev_base.specs.Cells.{number_at}
+use Rattle.dev_base.specs.declared.limits.TheConstants.{NEWEST}
+use Rattle.dev_board.proofs.SavedLaws.{saved_are_cells as board-saved, saved_comes_back as board-comes-back, same-refl}
+use Rattle.dev_board.specs.Saved.{saved as board_saved, carried as board_carried, by_device, MaySaveUnder as MaySaveBoard}
+use Rattle.dev_board.specs.SavedLaws.{ComesBack as BoardComesBack}
+use Rattle.dev_board.specs.State.{State}
+use Rattle.dev_board.specs.declared.misfit.Misfit.{Misfit}
+use Rattle.dev_pic.proofs.SavedLaws.{carried-saved}
+use Rattle.dev_pic.specs.Cells.{saved_cells as chip_cells, first_cells, carried as pic_carried}
+use Rattle.vms_hooks.specs.Numbers.{Numbers}
+use Rattle.vms_rtc.proofs.SavedLaws.{saved_are_cells as clock-saved, saved_is_restored}
+use Rattle.vms_rtc.specs.Cells.{saved_cells, carried as clock_carried}
+use Rattle.vms_rtc.specs.Chip.{line_of}
+use Rattle.vms_rtc.specs.Saved.{CanRestore, hook_restored}
+use Rattle.vms_rtc.specs.declared.rtc.Rtc.{Rtc}
+use Rattle.dev_clock.proofs.AlikeLaws.{alike_stays}
+use Rattle.dev_clock.proofs.SlaveLine.{slave-bit}
+use Rattle.dev_clock.specs.Saved.{MaySaveUnder, saved, carried, AreSavedCells, AreClockCells, numbers_back, slave_line, with_line, joined, restored}
+use Rattle.dev_clock.specs.SavedLaws.{SavedAreCells, ComesBack, SavedComesBack, SavedGoesOn}
+use Rattle.dev_clock.specs.Sound.{IsSound, Alike}
+use Rattle.dev_clock.specs.State.{ClockState}
+use Rattle.dev_clock.specs.declared.saved.TheConstants.{CLOCK_DEVICE, LINES_CELL}
+
+-- the chip where its rules hold, and the devices where no fault is found
+line-kept : (line : Bool) (clock : Rtc) (outcome : Result Rtc ℕ) → outcome ≡ Ok clock → line ≡ line_of clock → with_line line outcome ≡ Ok clock
+unfolding with_line
+line-kept line clock outcome e l = rw (e, same-refl line (line_of clock) l) refl
+
+device-kept : (place : ℕ) (clock : Rtc) (outcome : Result Rtc ℕ) → outcome ≡ Ok clock → by_device place outcome ≡ Ok clock
+unfolding by_device
+device-kept place clock outcome e = rw e refl
+
+both-kept : (clock : Rtc) (board : State) (of_clock : Result Rtc Misfit) (of_board : Result State Misfit) → of_clock ≡ Ok clock → of_board ≡ Ok board → joined of_clock of_board ≡ Ok (record { clock = clock; board = board })
+unfolding joined
+both-kept clock board of_clock of_board a b = rw (a, b) refl
+
+ok-same : (first second : ClockState) (outcome : Result ClockState Misfit) → outcome ≡ Ok first → outcome ≡ Ok second → first ≡ second
+ok-same first second outcome d e = cc
+
+module _ (set : ℕ) (m : ClockState) (s : IsSound m) (may : MaySaveUnder m.clock.version set) where
+  may-board : MaySaveBoard m.board.level NEWEST
+  may-board = record { level_le_set = let e = s.devices.level in omega (arith, e); set_le_newest = omega arith }
+
+  saved-are : AreSavedCells set (saved set m)
+  unfolding saved
+  saved-are = record {
+    clock = clock-saved.of_kinds set m.clock s.devices.clock;
+    board = board-saved.of_set NEWEST m.board s.board may-board;
+  }
+
+  -- the chip
+  abbrev numbers : Numbers
+  numbers = record { level = m.clock.version; set = set; moment = 0 }
+
+  clock-both : CanRestore (numbers_back m.clock.version 0) (clock_carried set (saved_cells set m.clock)) × (hook_restored (numbers_back m.clock.version 0) (clock_carried set (saved_cells set m.clock)) ≡ Ok m.clock)
+  clock-both =
+      saved_is_restored.chip numbers (numbers_back m.clock.version 0) m.clock
+      (record { is_version = s.devices.clock.version; own_version = refl; reaches = may }) s.devices.clock
+      (record { is_version = s.devices.clock.version; newest_set = refl }) refl
+
+  -- the board's devices
+  board-back : BoardComesBack NEWEST (board_carried NEWEST (board_saved NEWEST m.board)) m.board
+  board-back =
+      subst (λ (level : ℕ). BoardComesBack level (board_carried NEWEST (board_saved NEWEST m.board)) m.board) s.devices.level
+      (board-comes-back.back NEWEST m.board s.board may-board)
+
+  -- the slave's line
+  lines-there : number_at (pic_carried NEWEST (chip_cells NEWEST m.board.pair.slave)) LINES_CELL ≡ m.board.pair.slave.lines
+  unfolding chip_cells first_cells
+  lines-there = ap (λ (cells : List ℤ). number_at cells LINES_CELL) (carried-saved m.board.pair.level NEWEST _ m.board.pair.slave le s.board.pair.slave)
+    where
+      le : m.board.pair.level ≤ NEWEST
+      le = let e = s.board.devices.pair_level in let l = s.devices.level in omega (arith, e, l)
+
+  line-there : slave_line (board_carried NEWEST (board_saved NEWEST m.board)).slave.items ≡ line_of m.clock
+  unfolding board_carried board_saved
+  line-there = ap (λ (lines : ℕ). has lines 0) lines-there ∙ sym (slave-bit m.board.pair s.board.pair) ∙ s.line
+
+  carried-are : AreClockCells (carried set (saved set m))
+  unfolding carried saved
+  carried-are = record { clock = clock-both.0.of_kinds; board = board-back.may }
+
+  back : restored m.clock.version (carried set (saved set m)) ≡ Ok (record { clock = m.clock; board = board-back.back })
+  unfolding carried saved
+  back =
+      both-kept m.clock board-back.back _ _
+      (device-kept CLOCK_DEVICE m.clock _ (line-kept _ m.clock _ (hook-ok _ m.clock clock-both.1) line-there)) board-back.restored
+
+  pub comes-back : ComesBack m.clock.version (carried set (saved set m)) m
+  comes-back = record {
+    may = carried-are;
+    back = record { clock = m.clock; board = board-back.back };
+    restored = back;
+    alike = record { clock = refl; board = board-back.alike };
+  }
+
+pub saved_are_cells : SavedAreCells
+saved_are_cells = record { of_set = saved-are }
+
+pub saved_comes_back : SavedComesBack
+saved_comes_back = record { back = comes-back }
+
+pub saved_goes_on : SavedGoesOn
+saved_goes_on = record {
+  answers = λ set m back events s may e. let there = comes-back set m s may in
+      let same : there.back ≡ back = ok-same there.back back _ there.restored e in
+      alike_stays.answers events m back (subst (λ (n : ClockState). Alike m n) same there.alike);
+}

@@ -1,0 +1,6 @@
+use Rattle.dev_clock.proofs.SoundLaws.{written-has}
+use Rattle.dev_clock.specs.View.{clock_view}
+use Rattle.dev_clock.proofs.devices.ClockDevices.write_clock.Goals as goal
+
+pub invariant_of-self : goal.invariant_of-self
+invariant_of-self c = rw c.write.ensures (written-has c.args.port c.args.value (clock_view c.self.inside) c.ranges.value.fits c.self.invariant)

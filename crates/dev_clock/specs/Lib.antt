@@ -1,0 +1,7 @@
+pub mod Laws
+pub mod Saved
+pub mod SavedLaws
+pub mod Sound
+pub mod State
+pub mod Step
+pub mod View

@@ -1,0 +1,154 @@
+// The devices of a clock board on one clock.
+ghost use Rattle.std.specs.Prelude.{◌≡◌, ◌≤◌, IsTrue};
+ghost use Rattle.dev_base.specs.Levels.{IsUpTo};
+ghost use Rattle.dev_base.specs.declared.limits.TheConstants.{LAST_MOMENT};
+ghost use Rattle.dev_board.specs.Step.{names_wire};
+ghost use Rattle.dev_clock.specs.Step.{saying as saying_of};
+ghost use Rattle.vms_rtc.specs.Chip.{is_port};
+ghost use Rattle.vms_rtc.specs.declared.limits.TheConstants.{NEWEST_CLOCK};
+
+use arrayvec::ArrayVec;
+use dev_base::NEWEST;
+use dev_board::{Answer, Devices, Event};
+use std::marker::Model;
+use vms_rtc::Rtc;
+
+/// The input of the board that the chip's interrupt line drives, the slave's first.
+pub(crate) const CLOCK_INPUT: u8 = 8;
+
+/// A clock chip beside the devices of a board of the newest level, at a present moment.
+///
+/// Versions are 1 and 2. Moments are those of the board's devices.
+#[derive(Drop)]
+pub struct ClockDevices {
+    pub(crate) clock: Rtc,
+    pub(crate) board: Devices,
+}
+
+impl Model for ClockDevices {
+    ghost use Rattle.dev_clock.specs.State.{ClockState};
+
+    ghost Value = { ClockState };
+
+    ghost use Rattle.dev_clock.specs.View.{clock_view};
+    ghost use Rattle.dev_clock.specs.Sound.{HasDevices};
+
+    ghost view = { clock_view };
+
+    ghost invariant = { λ d. HasDevices (clock_view d) };
+}
+
+impl ClockDevices {
+    ghost use Rattle.dev_clock.specs.Sound.{IsSound};
+    ghost use Rattle.dev_clock.specs.State.{power_on};
+    ghost use Rattle.dev_clock.specs.Step.{acted, clock_read, clock_written, step, waited};
+
+    /// The devices of a version at power on.
+    #[tactic(auto, unfolding(crate::specs::State::power_on))]
+    pub fn new(version: u8) -> ClockDevices
+        requires { IsUpTo NEWEST_CLOCK version }
+        ensures state { result ≡ power_on version }
+        ensures sound { IsSound result }
+    {
+        ClockDevices {
+            clock: Rtc::new(version),
+            board: Devices::new(NEWEST),
+        }
+    }
+
+    /// The version of the chip, 1 or 2.
+    pub fn version(&self) -> u8
+        ensures { result ≡ self.now.clock.version }
+    {
+        self.clock.version()
+    }
+
+    /// The present moment.
+    pub fn now(&self) -> u64
+        ensures moment { result ≡ self.now.board.moment }
+        ensures last { result ≤ LAST_MOMENT }
+    {
+        self.board.now()
+    }
+
+    /// Lets an event happen, then lets the board's input take the chip's line, and answers. The value and the
+    /// bytes are those of the event, and the output is that after the input. The devices are sound afterwards.
+    ///
+    /// The ports 0x70 and 0x71 are the chip's, and its input is no wire: one that names it changes nothing. Other
+    /// events are the board's, and time passes for the chip too.
+    #[tactic(auto, unfolding(crate::specs::Step::step, crate::specs::Step::follows_line))]
+    pub fn event(&mut self, event: Event) -> Answer
+        requires wire { IsTrue (names_wire event) }
+        ensures step { (result, self.new) ≡ step event self.old }
+        ensures sound { IsSound self.new }
+    {
+        let answer = self.act(event);
+        let taken = self.board.event(Event::Wire {
+            input: CLOCK_INPUT,
+            up: self.clock.line(),
+        });
+        Answer {
+            value: answer.value,
+            int: taken.int,
+            sent: answer.sent,
+        }
+    }
+
+    // What an event does before the chip's line is taken over.
+    #[tactic(auto, unfolding(crate::specs::Step::acted))]
+    fn act(&mut self, event: Event) -> Answer
+        requires { IsTrue (names_wire event) }
+        ensures { (result, self.new) ≡ acted event self.old }
+    {
+        match event {
+            Event::Read { port } if Rtc::is_port(port) => self.read_clock(port),
+            Event::Write { port, value } if Rtc::is_port(port) => self.write_clock(port, value),
+            Event::Wait { ns } => self.wait(ns),
+            Event::Wire {
+                input: CLOCK_INPUT,
+                ..
+            } => saying(None),
+            event => self.board.event(event),
+        }
+    }
+
+    // Reads a port of the chip.
+    fn read_clock(&mut self, port: u16) -> Answer
+        requires { IsTrue (is_port port) }
+        ensures { (result, self.new) ≡ clock_read port self.old }
+    {
+        saying(Some(self.clock.read(port)))
+    }
+
+    // Writes a byte to a port of the chip.
+    fn write_clock(&mut self, port: u16, value: u8) -> Answer
+        requires { IsTrue (is_port port) }
+        ensures { (result, self.new) ≡ clock_written port value self.old }
+    {
+        self.clock.write(port, value);
+        saying(None)
+    }
+
+    // Lets time pass on the board, and on the chip as far as the board's moment goes on.
+    #[tactic(auto, unfolding(crate::specs::Step::waited))]
+    fn wait(&mut self, ns: u64) -> Answer
+        ensures { (result, self.new) ≡ waited ns self.old }
+    {
+        let from = self.board.now();
+        let answer = self.board.event(Event::Wait { ns });
+        self.clock.passed(from, self.board.now());
+        answer
+    }
+}
+
+// An answer of the chip.
+#[tactic(auto, unfolding(crate::specs::Step::saying))]
+fn saying(value: Option<u8>) -> Answer
+    ensures { result ≡ saying_of value }
+{
+    Answer {
+        value,
+        int: false,
+        sent: ArrayVec::new(),
+    }
+}

@@ -1,0 +1,47 @@
+// Laws of the definitions, each stated by a function without a body.
+ghost use Rattle.dev_clock.specs.Laws.{SoundStays, ClockGoesOn, AlikeStays};
+ghost use Rattle.dev_clock.specs.SavedLaws.{SavedAreCells, SavedComesBack, SavedGoesOn, RestoredIsSound};
+
+/// The devices are sound at power on, and each event and each list of events keeps them so.
+#[tactic(auto, using(crate::proofs::SoundLaws::sound_stays_on))]
+pub fn sound_law()
+    ensures { SoundStays }
+{}
+
+/// A wait alone moves the moment, by its nanoseconds and not beyond the last moment, and no event changes the
+/// version.
+#[tactic(auto, using(crate::proofs::ClockLaws::clock_goes_on))]
+pub fn clock_law()
+    ensures { ClockGoesOn }
+{}
+
+/// Devices that are alike answer each event, and each list of events, equally, and are alike afterwards.
+#[tactic(auto, using(crate::proofs::AlikeLaws::alike_stays))]
+pub fn alike_law()
+    ensures { AlikeStays }
+{}
+
+/// What is saved of sound devices under a clock set from their version on are normal cells of that set.
+#[tactic(auto, using(crate::proofs::SavedLaws::saved_are_cells))]
+pub fn cells_law()
+    ensures { SavedAreCells }
+{}
+
+/// What is saved of sound devices under any clock set from their version on, carried to the newest, may be
+/// restored and gives devices like them.
+#[tactic(auto, using(crate::proofs::SavedLaws::saved_comes_back))]
+pub fn saved_law()
+    ensures { SavedComesBack }
+{}
+
+/// The devices that come back answer every list of events as the saved ones.
+#[tactic(auto, using(crate::proofs::SavedLaws::saved_goes_on))]
+pub fn continuation_law()
+    ensures { SavedGoesOn }
+{}
+
+/// What is restored is sound, and has the version of the restore.
+#[tactic(auto, using(crate::proofs::RestoredLaws::restored_is_sound))]
+pub fn restored_law()
+    ensures { RestoredIsSound }
+{}

@@ -1,0 +1,131 @@
+-- Worked listings.
+use Rattle.std.proofs.Common.{◌≡◌, ℕ, zero, suc, true, false, not, ◌==◌, List, [], ◌∷◌, ◌++◌, map, get_or, take, drop, Some, None, pos, refl, sym, ap, ◌∙◌, arith, codes}
+use Rattle.std.specs.List.{list_all}
+use Rattle.std.proofs.lemmas.Bool.{and_parts, eq-eqb}
+use Rattle.std.specs.Fmt.{digits}
+use Rattle.std.specs.Str.{is_utf8, chars}
+use Rattle.serde_json.specs.Data.{Data, string, array, object, Items, no_items, item, Members, no_members, put}
+use Rattle.serde_json.proofs.OnLiterals.{serde_json_on_literals}
+use Rattle.vms_kinds.specs.Codes.{width, code}
+use Rattle.vms_kinds.specs.declared.Kind.TheVariants.{U64}
+use Rattle.vms_spec.specs.Images.{Image}
+use Rattle.vms_spec.specs.Streams.{trailer}
+use Rattle.serde_json.specs.View.{items_of}
+use Rattle.vms_words.specs.Words.{kind_word, kind_named}
+use Rattle.vms_selfdesc.specs.Tree.{natural, entry_tree}
+use Rattle.vms_json.specs.Texts.{value_in}
+use Rattle.vms_analyze.specs.declared.fault.AnalyzeReason.TheVariants as reasons
+use Rattle.vms_analyze.specs.Told.{Told, Sent, Kept, Fixed, Skipped, told_entry, ToldDevice, told_tree, is_good_device}
+use Rattle.vms_analyze.specs.Wanted.{Lines, Differs, wants, found}
+use Rattle.vms_analyze.specs.Listing.{Refused, Lists, HasNone, HasNoShape}
+use Rattle.vms_analyze.proofs.One.{members, same_members, word_same}
+use Rattle.vms_analyze.proofs.Places.{last_place}
+
+abbrev timer : List Image
+timer = record { version = 1; came = []; numbers = pos 0 ∷ [] } ∷ []
+
+-- the smallest stream, with a footer's mark
+abbrev smallest : ℕ → List ℕ
+smallest mark =
+    0x51 ∷ 0x45 ∷ 0x56 ∷ 0x4d ∷ 0 ∷ 0 ∷ 0 ∷ 3 ∷ 4 ∷ 0 ∷ 0 ∷ 0 ∷ 0 ∷ 5 ∷ 0x74 ∷ 0x69 ∷ 0x6d ∷ 0x65 ∷ 0x72 ∷ 0 ∷ 0 ∷ 0 ∷ 0 ∷ 0 ∷ 0 ∷ 0 ∷ 1
+    ∷ 0 ∷ 0 ∷ 0 ∷ 0 ∷ 0 ∷ 0 ∷ 0 ∷ 0 ∷ mark ∷ 0 ∷ 0 ∷ 0 ∷ 0 ∷ 0 ∷ []
+
+abbrev says_timer : List ToldDevice
+says_timer = record { name = codes "timer"; instance = 0; version = 1; elements = Sent (codes "now") U64 ∷ []; subs = [] } ∷ []
+
+-- its description tells of one number
+reads_the_description : value_in (codes "{\"devices\":[{\"fields\":[{\"name\":\"now\",\"size\":8,\"type\":\"u64\"}],\"instance_id\":0,\"name\":\"timer\",\"subsections\":[],\"version\":1}]}")
+    ≡ Some (told_tree says_timer)
+unfolding serde_json_on_literals is_utf8 chars
+reads_the_description = refl
+
+is_of_the_shape : list_all is_good_device says_timer ≡ true
+is_of_the_shape = refl
+
+lists_the_smallest_stream : found (wants says_timer) 0 0 (smallest 0x7e) ≡ Lines (codes "section timer 0 v1" ∷ codes "now = 0" ∷ [])
+unfolding digits code
+lists_the_smallest_stream = refl
+
+refuses_another_footer : found (wants says_timer) 0 0 (smallest 0x7f) ≡ Differs 35
+unfolding digits code
+refuses_another_footer = refl
+
+-- where the end mark isn't the last byte
+refuses_more_bytes : found (wants says_timer) 0 0 (smallest 0x7e ++ 0 ∷ []) ≡ Differs 41
+unfolding digits code
+refuses_more_bytes = refl
+
+refuses_fewer_bytes : found (wants says_timer) 0 0 (take 39 (smallest 0x7e)) ≡ Differs 35
+unfolding digits code
+refuses_fewer_bytes = refl
+
+-- the stream head is two units
+refuses_another_version : found (wants says_timer) 0 0 (0x51 ∷ 0x45 ∷ 0x56 ∷ 0x4d ∷ 0 ∷ 0 ∷ 0 ∷ 2 ∷ []) ≡ Differs 4
+unfolding digits code
+refuses_another_version = refl
+
+no_six : (input : List ℕ) → list_all (λ b. not (b == 6)) input ≡ true → (p : ℕ) → get_or input p 0 ≡ 6 → ⊥
+no_six input e p m = at input e p m
+  where
+    differ : (b : ℕ) → not (b == 6) ≡ true → b ≡ 6 → ⊥
+    differ b e is = absurd_of (ap not (eq-eqb b 6 is)) e
+      where
+        absurd_of : not (b == 6) ≡ false → not (b == 6) ≡ true → ⊥
+        absurd_of f e = cc
+
+    at : (input : List ℕ) → list_all (λ b. not (b == 6)) input ≡ true → (p : ℕ) → get_or input p 0 ≡ 6 → ⊥
+    at [] e p m = absurd (omega (arith, m))
+    at (b ∷ input) e zero m = differ b (and_parts (not (b == 6)) (list_all (λ b. not (b == 6)) input) e).0 m
+    at (b ∷ input) e (suc p) m = at input (and_parts (not (b == 6)) (list_all (λ b. not (b == 6)) input) e).1 p m
+
+finds_no_description : Lists (smallest 0x7e) (Refused 41 reasons.NoDescription)
+finds_no_description = HasNone (omega arith) (λ p h. no_six (smallest 0x7e) refl p h.mark)
+
+-- ---- a number of 64 bits that is said to have 4 bytes
+
+abbrev four_bytes : List ℕ
+four_bytes = codes "{\"devices\":[{\"fields\":[{\"name\":\"now\",\"size\":4,\"type\":\"u64\"}],\"instance_id\":0,\"name\":\"timer\",\"subsections\":[],\"version\":1}]}"
+
+abbrev four_entry : Data
+four_entry = members (codes "now") 4 (codes "u64") no_members
+
+four_tree : Data
+four_tree = object (put (codes "devices") (array (item (object (device_members_of (array (item four_entry no_items)))) no_items)) no_members)
+  where
+    device_members_of : Data → Members
+    device_members_of fields =
+        put (codes "version") (natural 1) (put (codes "subsections") (array no_items) (put (codes "name") (string (codes "timer")) (put (codes "instance_id") (natural 0) (put (codes "fields") fields no_members))))
+
+reads_four_bytes : value_in four_bytes ≡ Some four_tree
+unfolding serde_json_on_literals is_utf8 chars four_tree
+reads_four_bytes = refl
+
+no_element : (t : Told) → entry_tree (told_entry t) ≡ four_entry → ⊥
+no_element (Sent p k) e =
+    let h = same_members p (codes "now") (kind_word k) (codes "u64") (width k) 4 no_members no_members e in
+    let w = ap width (word_same k U64 h.type) in
+    omega (arith, w, h.size)
+no_element (Kept p k z) e = cc
+no_element (Fixed p n) e = let h = same_members p (codes "now") (codes "equal") (codes "u64") n 4 no_members no_members e in other (ap kind_named h.type) where
+  other : None ≡ Some U64 → ⊥
+  other e = cc
+no_element (Skipped p n) e = let h = same_members p (codes "now") (codes "unused") (codes "u64") n 4 no_members no_members e in other (ap kind_named h.type) where
+  other : None ≡ Some U64 → ⊥
+  other e = cc
+
+first_element : (ts : List Told) (rest : Items) → items_of (map entry_tree (map told_entry ts)) ≡ item four_entry rest → ⊥
+first_element [] rest e = cc
+first_element (t ∷ ts) rest e = let h : entry_tree (told_entry t) ≡ four_entry = cc in no_element t h
+
+first_device : (ds : List ToldDevice) → told_tree ds ≡ four_tree → ⊥
+unfolding four_tree
+first_device [] e = cc
+first_device (d ∷ ds) e = let h : items_of (map entry_tree (map told_entry d.elements)) ≡ item four_entry no_items = cc in first_element d.elements no_items h
+
+refuses_four_bytes : Lists (smallest 0x7e ++ trailer four_bytes) (Refused 41 reasons.Shape)
+refuses_four_bytes =
+    HasNoShape 41 (omega arith) (last_place (smallest 0x7e) (drop 4 four_bytes) (record { none = no_six four_bytes refl }) (omega arith))
+    (λ devices h. first_device devices (some_tree (told_tree devices) four_tree (sym h.tree ∙ reads_four_bytes)))
+  where
+    some_tree : (a b : Data) → Some a ≡ Some b → a ≡ b
+    some_tree a b e = cc

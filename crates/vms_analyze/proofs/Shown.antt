@@ -1,0 +1,109 @@
+-- What is written of ready images with their description lists the values text.
+use Rattle.std.proofs.Common.{◌≡◌, ℕ, ◌+◌, ◌<◌, ◌≤◌, true, List, [], ◌∷◌, ◌++◌, length, length-append, append_assoc, take, drop, is_none, Option, Some, refl, sym, ap, ◌∙◌, subst, arith, Bool, if◌then◌else◌, None}
+use Rattle.std.specs.Str.{is_utf8}
+use Rattle.serde_json.specs.Written.{compact_text}
+use Rattle.vms_json.specs.Texts.{value_in}
+use Rattle.vms_analyze.proofs.Ascii.{told_text}
+use Rattle.std.specs.List.{flat_map}
+use Rattle.json.specs.Print.{escape_byte}
+use Rattle.serde_json.specs.Data.{Data}
+use Rattle.serde_json.specs.Read.{read}
+use Rattle.vms_spec.specs.Heads.{FitsHeads}
+use Rattle.vms_spec.specs.Sets.{Set}
+use Rattle.vms_spec.specs.Images.{Image}
+use Rattle.vms_spec.specs.Streams.{AreReady, be32, end_mark, trailer, written}
+use Rattle.vms_spec.specs.WellFormed.{WellFormed}
+use Rattle.vms_spec.proofs.Faultless.{few_devices}
+use Rattle.vms_bodies.proofs.BodyOnly.{front_take, front_drop}
+use Rattle.vms_elements.specs.Reading.{IsMachineOf}
+use Rattle.vms_elements.specs.Lines.{values_lines}
+use Rattle.vms_elements.proofs.Stated.{text_law}
+use Rattle.vms_desc.proofs.Bounds.{few_items}
+use Rattle.vms_selfdesc.specs.Drafts.{IsSound}
+use Rattle.vms_selfdesc.specs.Tree.{described_tree, described_text}
+use Rattle.vms_selfdesc.proofs.Bounds.{short_holds}
+use Rattle.vms_selfdesc.proofs.Shapes.{described_plain}
+use Rattle.vms_selfdesc.proofs.WholeText.{reads_whole}
+use Rattle.vms_analyze.specs.Told.{told_tree}
+use Rattle.vms_analyze.specs.Wanted.{Bytes, Lines, device_wants, wants, found}
+use Rattle.vms_analyze.specs.Listing.{IsLastPlace, Tells, Listing, Text, listing_of, Lists, IsRead}
+use Rattle.vms_analyze.specs.Telling.{told}
+use Rattle.vms_analyze.specs.Laws.{ShownLaw}
+use Rattle.vms_analyze.proofs.Good.{all_good, told_good}
+use Rattle.vms_analyze.proofs.Lengths.{total_append, found_long, devices_long}
+use Rattle.vms_analyze.proofs.Places.{HasNoMark, last_place}
+use Rattle.vms_analyze.proofs.ReadBack.{tree_sound}
+use Rattle.vms_analyze.proofs.Streams.{front, front_found}
+use Rattle.vms_analyze.proofs.Texts.{text_printed, no_mark}
+use Rattle.vms_analyze.proofs.Trees.{tree_same}
+
+-- a description begins with `{"de`
+begins : (set : Set) (images : List Image) → described_text set images ≡ 0x7b ∷ 0x22 ∷ 0x64 ∷ 0x65 ∷ drop 4 (described_text set images)
+unfolding escape_byte
+begins set images = refl
+
+module _ (set : Set) (well : WellFormed set) (heads : FitsHeads set) (images : List Image) where
+  abbrev text : List ℕ
+  text = described_text set images
+
+  short : length text < 16777216
+  short = short_holds.short set well heads images
+
+  -- it is read back, as what it tells
+  pub text_read : read text ≡ Some (told_tree (told set images))
+  text_read =
+      let same = tree_same set well images in
+      let sound : IsSound (described_tree set images) = subst IsSound same (tree_sound (told set images) (told_good set well heads images)) in
+      let flat = (described_plain set images).flat in
+      reads_whole (described_tree set images) text refl sound (omega arith) ∙ ap Some (sym same)
+
+  -- it stands at the last place behind a front
+  placed : (before : List ℕ) → IsLastPlace (before ++ trailer text) (length before)
+  placed before =
+      let e = begins set images in
+      let none : HasNoMark (0x7b ∷ 0x22 ∷ 0x64 ∷ 0x65 ∷ drop 4 text) = subst HasNoMark e (no_mark text (text_printed (described_tree set images))) in
+      let few : length (0x7b ∷ 0x22 ∷ 0x64 ∷ 0x65 ∷ drop 4 text) < 16777216 = subst (λ (l : List ℕ). length l < 16777216) e short in
+      subst (λ (l : List ℕ). IsLastPlace (before ++ trailer l) (length before)) (sym e) (last_place before (drop 4 text) none few)
+
+  -- and it is a text
+  pub text_is : value_in text ≡ Some (told_tree (told set images))
+  text_is =
+      let same = tree_same set well images in
+      let utf8 : is_utf8 text ≡ true = subst (λ (d : Data). is_utf8 (compact_text d) ≡ true) same (told_text (told set images) (told_good set well heads images)) in
+      ap (λ (b : Bool). if b then read text else None) utf8 ∙ text_read
+
+  tells : (before : List ℕ) → Tells (before ++ trailer text) (length before) (told set images)
+  tells before =
+      let mark = 0x06 ∷ be32 (length text) in
+      let all : before ++ trailer text ≡ (before ++ mark) ++ text = sym (append_assoc before mark text) in
+      let long : length (before ++ mark) ≡ length before + 5 = omega (arith, length-append before mark) in
+      record {
+        tree = ap value_in (front_drop (length before + 5) (before ++ mark) text (before ++ trailer text) all long) ∙ text_is;
+        good = told_good set well heads images;
+      }
+
+  -- and all that is written isn't too long
+  within : (machine : Option (List ℕ)) → IsMachineOf set machine → AreReady set images → length (front set machine images ++ trailer text) ≤ 100000000
+  within machine named ready =
+      let before = front set machine images in
+      let ws = wants (told set images) in
+      let long = found_long ws 0 0 before (values_lines set machine images) (front_found set well machine named images ready) in
+      let formed = ap is_none well in
+      let items = few_items set formed in
+      let devices = few_devices set well in
+      let most = devices_long set set.devices images (all_good set well heads) in
+      omega (arith, long, items, devices, most, short, total_append (flat_map device_wants (told set images)) (Bytes end_mark ∷ []), length-append before (trailer text))
+
+  pub shown : (machine : Option (List ℕ)) → IsMachineOf set machine → AreReady set images
+      → Lists (written set machine images (Some text)) (Text (Rattle.vms_spec.specs.Values.values_text set machine images))
+  shown machine named ready =
+      let before = front set machine images in
+      let stream = before ++ trailer text in
+      let there : take (length before) stream ≡ before = front_take (length before) before (trailer text) stream refl refl in
+      let is : found (wants (told set images)) 0 0 (take (length before) stream) ≡ Lines (values_lines set machine images) =
+      ap (found (wants (told set images)) 0 0) there ∙ front_found set well machine named images ready in
+      subst (λ (l : Listing). Lists stream l) (ap listing_of is ∙ ap Text (text_law set machine images))
+      (IsRead (length before) (told set images) (within machine named ready) (placed before) (tells before))
+
+pub shown_holds : ShownLaw
+shown_holds set well heads machine named images ready = shown set well heads images machine named ready

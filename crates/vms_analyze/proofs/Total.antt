@@ -1,0 +1,69 @@
+-- Each input has a listing.
+use Rattle.std.proofs.Common.{◌≡◌, ℕ, zero, suc, ◌+◌, ◌<◌, ◌≤◌, Bool, true, false, ◌&&◌, ◌==◌, nat_le, List, length, get_or, take, drop, Option, Some, None, refl, sym, ap, ◌∙◌, arith}
+use Rattle.std.proofs.lemmas.Bool.{and_parts, eqb-true, eq-eqb, leb-true, leb-false}
+use Rattle.vms_json.specs.Texts.{value_in}
+use Rattle.vms_spec.specs.Lookup.{number_at}
+use Rattle.vms_analyze.specs.Told.{ToldDevice}
+use Rattle.vms_analyze.specs.Wanted.{wants, found}
+use Rattle.vms_analyze.specs.Listing.{longest_input, IsPlace, IsLastPlace, TellsPlace, Listing, Refused, listing_of, Lists, IsTooLong, HasNone, HasNoShape, IsRead}
+use Rattle.vms_analyze.specs.Laws.{HasListing, TotalLaw}
+use Rattle.vms_analyze.specs.Read.{next, devices_in}
+use Rattle.vms_analyze.proofs.Searches.{NoneFrom}
+use Rattle.vms_analyze.proofs.Tells.{tells_if, not_told}
+
+-- ---- the last place
+
+abbrev is_place : List ℕ → ℕ → Bool
+is_place input p = get_or input p 0 == 6 && p + 5 + number_at 4 (p + 1) input == length input
+
+is_there : (input : List ℕ) (p : ℕ) → is_place input p ≡ true → IsPlace input p
+is_there input p e =
+    let q = and_parts (get_or input p 0 == 6) (p + 5 + number_at 4 (p + 1) input == length input) e in
+    record { mark = eqb-true (get_or input p 0) 6 q.0; long = eqb-true (p + 5 + number_at 4 (p + 1) input) (length input) q.1 }
+
+there_is : (input : List ℕ) (p : ℕ) → IsPlace input p → is_place input p ≡ true
+there_is input p h =
+    ap (λ (b : Bool). b && (p + 5 + number_at 4 (p + 1) input == length input)) (eq-eqb (get_or input p 0) 6 h.mark)
+    ∙ eq-eqb (p + 5 + number_at 4 (p + 1) input) (length input) h.long
+
+record HasPlace (input : List ℕ) : Type 0 where
+  place : Option ℕ
+  tells : TellsPlace input place
+
+search_below : (input : List ℕ) (n : ℕ) → NoneFrom input n → HasPlace input
+search_below input zero none = record { place = None; tells = λ p h. none p (omega arith) h }
+search_below input (suc n) none = go (is_place input n) refl (search_below input n)
+  where
+    go : (b : Bool) → is_place input n ≡ b → (NoneFrom input n → HasPlace input) → HasPlace input
+    go true e more = record { place = Some n; tells = record { is = is_there input n e; last = λ q lt h. none q (omega arith) h } }
+    go false e more = more (λ q low h. at_or_above q low h (nat_le (suc n) q) refl)
+      where
+        no : true ≡ false → ⊥
+        no f = cc
+
+        at_or_above : (q : ℕ) → n ≤ q → IsPlace input q → (b : Bool) → nat_le (suc n) q ≡ b → ⊥
+        at_or_above q low h true f = none q (leb-true (suc n) q f) h
+        at_or_above q low h false f =
+            let ge = leb-false (suc n) q f in
+            let same : q ≡ n = omega arith in
+            no (sym (there_is input q h) ∙ ap (is_place input) same ∙ e)
+
+last_place : (input : List ℕ) → HasPlace input
+last_place input = search_below input (length input) (λ q ge h. let long = h.long in omega arith)
+
+-- ---- the listing
+
+by_shape : (input : List ℕ) (p : ℕ) → length input ≤ longest_input → IsLastPlace input p → (o : Option (List ToldDevice)) → next (value_in (drop (p + 5) input)) devices_in ≡ o → HasListing input
+by_shape input p few last None e = record { listing = _; lists = HasNoShape p few last (not_told input p e) }
+by_shape input p few last (Some devices) e = record { listing = _; lists = IsRead p devices few last (tells_if input p devices e) }
+
+by_place : (input : List ℕ) → length input ≤ longest_input → (o : Option ℕ) → TellsPlace input o → HasListing input
+by_place input few None none = record { listing = _; lists = HasNone few none }
+by_place input few (Some p) last = by_shape input p few last (next (value_in (drop (p + 5) input)) devices_in) refl
+
+pub total_holds : TotalLaw
+total_holds input = go (nat_le (length input) longest_input) refl
+  where
+    go : (b : Bool) → nat_le (length input) longest_input ≡ b → HasListing input
+    go true e = let p = last_place input in by_place input (leb-true (length input) longest_input e) p.place p.tells
+    go false e = record { listing = _; lists = IsTooLong (leb-false (length input) longest_input e) }

@@ -1,0 +1,26 @@
+use Rattle.std.proofs.Common.{length, length-take, take, arith}
+use Rattle.std.proofs.lemmas.Bool.{ltb-true, ltb-false}
+use Rattle.vms_analyze.proofs.input.fill_piece.Goals as goal
+
+pub returns-in-Ok-extend_from_slice : goal.returns-in-Ok-extend_from_slice
+returns-in-Ok-extend_from_slice g c =
+    let count = c.in-Ok.count in
+    let piece = c.read_exact_of.new.buf in
+    let bound = c.in-Ok.ensures.bound in
+    let same = c.read_exact_of.auto.buf in
+    record {
+      bytes = take count piece;
+      takes = c.in-Ok.ensures.takes;
+      items = c.in-Ok-extend_from_slice.ensures.items;
+      few = omega (arith, bound, length-take count piece);
+      all = λ e. omega (arith, bound, same, length-take count piece, ltb-false count (length piece) e);
+      short = λ e. omega (arith, bound, same, length-take count piece, ltb-true count (length piece) e);
+      end = λ e. c.in-Ok.ensures.end (omega (arith, same, ltb-true count (length piece) e));
+    }
+
+pub returns-in-Err-extend_from_slice : goal.returns-in-Err-extend_from_slice
+returns-in-Err-extend_from_slice g c =
+    let count = c.in-Ok.count in
+    let piece = c.read_exact_of.new.buf in
+    let bound = c.in-Ok.ensures.bound in
+    record { bytes = take count piece; takes = c.in-Ok.ensures.takes; few = omega (arith, bound, length-take count piece) }

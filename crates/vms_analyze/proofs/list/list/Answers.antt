@@ -1,0 +1,5 @@
+use Rattle.vms_analyze.specs.Listing.{HasNone}
+use Rattle.vms_analyze.proofs.list.list.Goals as goal
+
+pub returns-in-None : goal.returns-in-None
+returns-in-None c = HasNone c.requires c.in-None.ensures

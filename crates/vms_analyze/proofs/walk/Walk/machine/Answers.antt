@@ -1,0 +1,23 @@
+use Rattle.std.proofs.Common.{◌≡◌, ℕ, ◌+◌, List, length, true, refl, sym, ap, ◌∙◌}
+use Rattle.vms_spec.specs.Spelling.{begins_with}
+use Rattle.vms_spec.specs.Streams.{configuration}
+use Rattle.vms_analyze.specs.Walking.{left}
+use Rattle.vms_analyze.specs.declared.walk.Walk.{Walk}
+use Rattle.vms_analyze.proofs.WalkEach.{on_ok}
+use Rattle.vms_analyze.proofs.WalkHeads.{machine_goes, machine_passes}
+use Rattle.vms_analyze.proofs.walk.Walk.machine.Goals as goal
+
+pub returns-then-not-has_configuration-clause-ok : goal.returns-then-not-has_configuration-clause-ok
+returns-then-not-has_configuration-clause-ok c = machine_passes c.args.self.now c.requires (sym c.if-not-has_configuration.ensures)
+
+pub returns-clause-ok : goal.returns-clause-ok
+returns-clause-ok c =
+    let walk = c.args.self.now in
+    let name = c.in-Some.name.now in
+    let mid : Walk = record { input = walk.input; place = walk.place + c.len.result; id = walk.id; text = walk.text } in
+    let items : c.configuration-spelled.result.items ≡ configuration name = c.configuration-spelled.ensures in
+    let begins : begins_with (configuration name) (left walk) ≡ true =
+    ap (λ (l : List ℕ). begins_with l (left walk)) (sym (c.as_slice.ensures.value ∙ items)) ∙ sym c.if-not-begins_with.ensures in
+    on_ok c.print_machine.result
+    (machine_goes walk mid c.print_machine.new.self name c.in-Some.ensures.good begins refl c.requires (ap (λ (k : ℕ). walk.place + k) (c.len.ensures.value ∙ ap length items)) refl refl)
+    c.print_machine.ensures.ok

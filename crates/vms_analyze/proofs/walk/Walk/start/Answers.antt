@@ -1,0 +1,18 @@
+use Rattle.vms_analyze.proofs.WalkEach.{on_ok, if_err}
+use Rattle.vms_analyze.proofs.WalkParts.{start_goes, magic_stops, version_stops, machine_stops}
+use Rattle.vms_analyze.proofs.walk.Walk.start.Goals as goal
+
+pub returns-in-Err-clause-err : goal.returns-in-Err-clause-err
+returns-in-Err-clause-err c = magic_stops c.args.self.now c.bytes.new.self c.in-Err.stop c.in-Err.ensures.err
+
+pub returns-in-Err-bytes-clause-err : goal.returns-in-Err-bytes-clause-err
+returns-in-Err-bytes-clause-err c =
+    version_stops c.args.self.now c.bytes.new.self c.bytes-2.new.self c.in-Err-bytes.stop c.in_default.ensures.ok c.in-Err-bytes.ensures.err
+
+pub returns-clause-ok : goal.returns-clause-ok
+returns-clause-ok c =
+    on_ok c.machine.result (start_goes c.args.self.now c.bytes.new.self c.bytes-2.new.self c.machine.new.self c.in_default.ensures.ok c.in_default-bytes.ensures.ok) c.machine.ensures.ok
+
+pub returns-clause-err : goal.returns-clause-err
+returns-clause-err c =
+    if_err c.machine.result (λ stop why. machine_stops c.args.self.now c.bytes.new.self c.bytes-2.new.self c.machine.new.self stop c.in_default.ensures.ok c.in_default-bytes.ensures.ok why) c.machine.ensures.err

@@ -1,0 +1,50 @@
+-- What is read of a source: all that is left, at most the longest input, and one byte more where there is more.
+use Rattle.std.specs.Prelude.{◌≡◌, ℕ, ◌+◌, ◌<◌, ◌≤◌, Bool, true, false, List, ◌++◌, length, Result, Ok, Err, Vec}
+use Rattle.std.specs.Global.{Global}
+use Rattle.std.specs.Io.KnownBytes.{IsAtEnd}
+use Rattle.vms_io.specs.Reading.{Takes, Breaks}
+use Rattle.vms_io.specs.Told.{Intake}
+use Rattle.vms_analyze.specs.Listing.{longest_input}
+use Rattle.vms_analyze.specs.Calls.{TakesFew}
+use Rattle.vms_analyze.specs.declared.input.NoInput.{NoInput}
+use Rattle.vms_analyze.specs.declared.input.NoInput.TheVariants as none
+
+-- these are all bytes that were left
+pub record IsWhole (old new : Intake) (input : List ℕ) : Type 0 where
+  pub few : length input ≤ longest_input
+  pub takes : Takes old new input
+  pub end : IsAtEnd new.left
+
+-- there are more bytes than that
+pub record HasMore (old new : Intake) : Type 0 where
+  pub front : List ℕ
+  pub long : length front ≡ longest_input + 1
+  pub takes : Takes old new front
+
+-- these bytes were taken and appended to what is there: fewer than there is room for at the end, and else as many
+pub record Appended (old new : Intake) (was now : List ℕ) (room : ℕ) (done : Bool) : Type 0 where
+  pub bytes : List ℕ
+  pub takes : Takes old new bytes
+  pub items : now ≡ was ++ bytes
+  pub few : length bytes ≤ room
+  pub all : done ≡ false → length bytes ≡ room
+  pub short : done ≡ true → length bytes < room
+  pub end : done ≡ true → IsAtEnd new.left
+
+-- some bytes were taken, and no more than that
+pub record TakesSome (old new : Intake) (room : ℕ) : Type 0 where
+  pub bytes : List ℕ
+  pub takes : Takes old new bytes
+  pub few : length bytes ≤ room
+
+abbrev pub TakesPiece : Intake → Intake → List ℕ → List ℕ → ℕ → Result Bool NoInput → Type 0
+TakesPiece old new was now room (Ok done) = Appended old new was now room done
+TakesPiece old new was now room (Err none.TooLong) = ⊥
+TakesPiece old new was now room (Err none.ReadFault) = Breaks old new room
+TakesPiece old new was now room (Err none.NoMemory) = TakesSome old new room
+
+abbrev pub TakesInput : Intake → Intake → Result (Vec ℕ Global) NoInput → Type 0
+TakesInput old new (Ok input) = IsWhole old new input.items
+TakesInput old new (Err none.TooLong) = HasMore old new
+TakesInput old new (Err none.ReadFault) = Breaks old new (longest_input + 1)
+TakesInput old new (Err none.NoMemory) = TakesFew old new

@@ -1,0 +1,28 @@
+-- Laws of listings.
+use Rattle.std.specs.Prelude.{◌≡◌, ℕ, List, Option, Some}
+use Rattle.vms_spec.specs.Sets.{Set}
+use Rattle.vms_spec.specs.Heads.{FitsHeads}
+use Rattle.vms_spec.specs.Images.{Image}
+use Rattle.vms_spec.specs.Streams.{AreReady, written}
+use Rattle.vms_spec.specs.Values.{values_text}
+use Rattle.vms_spec.specs.WellFormed.{WellFormed}
+use Rattle.vms_elements.specs.Reading.{IsMachineOf}
+use Rattle.vms_selfdesc.specs.Tree.{described_text}
+use Rattle.vms_analyze.specs.Listing.{Listing, Text, Lists}
+
+-- an input has one listing at most
+abbrev pub OneLaw : Type 0
+OneLaw = (input : List ℕ) (a b : Listing) → Lists input a → Lists input b → a ≡ b
+
+-- and has one
+pub record HasListing (input : List ℕ) : Type 0 where
+  pub listing : Listing
+  pub lists : Lists input listing
+
+abbrev pub TotalLaw : Type 0
+TotalLaw = (input : List ℕ) → HasListing input
+
+-- what is written of ready images with their description lists the values text
+abbrev pub ShownLaw : Type 0
+ShownLaw = (set : Set) → WellFormed set → FitsHeads set → (machine : Option (List ℕ)) → IsMachineOf set machine → (images : List Image) → AreReady set images
+    → Lists (written set machine images (Some (described_text set images))) (Text (values_text set machine images))

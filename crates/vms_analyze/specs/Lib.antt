@@ -1,0 +1,11 @@
+pub mod Told
+pub mod Wanted
+pub mod Listing
+pub mod Inputs
+pub mod Walking
+pub mod Sorted
+pub mod Read
+pub mod Typed
+pub mod Telling
+pub mod Laws
+pub mod Calls

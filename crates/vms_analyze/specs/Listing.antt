@@ -1,0 +1,51 @@
+-- The listing of a stream by its own description: the values text, or why there is none and where.
+use Rattle.std.specs.Prelude.{◌≡◌, ℕ, ◌+◌, ◌<◌, ◌≤◌, true, List, length, get_or, take, drop, Option, Some, None}
+use Rattle.std.specs.List.{list_all}
+use Rattle.vms_json.specs.Texts.{value_in}
+use Rattle.vms_spec.specs.Lookup.{number_at}
+use Rattle.vms_elements.specs.Lines.{text_of}
+use Rattle.vms_analyze.specs.declared.fault.AnalyzeReason.{AnalyzeReason}
+use Rattle.vms_analyze.specs.declared.fault.AnalyzeReason.TheVariants as reasons
+use Rattle.vms_analyze.specs.Told.{ToldDevice, told_tree, is_good_device}
+use Rattle.vms_analyze.specs.Wanted.{Found, Lines, Differs, wants, found}
+
+-- an input has at most so many bytes
+abbrev pub longest_input : ℕ
+longest_input = 100000000
+
+-- a description may stand here: mark 06, and the length of all that is left
+pub record IsPlace (input : List ℕ) (p : ℕ) : Type 0 where
+  pub mark : get_or input p 0 ≡ 6
+  pub long : p + 5 + number_at 4 (p + 1) input ≡ length input
+
+-- it stands at the greatest such place
+pub record IsLastPlace (input : List ℕ) (p : ℕ) : Type 0 where
+  pub is : IsPlace input p
+  pub last : (q : ℕ) → p < q → IsPlace input q → ⊥
+
+-- the description at a place tells this
+pub record Tells (input : List ℕ) (p : ℕ) (devices : List ToldDevice) : Type 0 where
+  pub tree : value_in (drop (p + 5) input) ≡ Some (told_tree devices)
+  pub good : list_all is_good_device devices ≡ true
+
+pub data Listing : Type 0 where
+  Text : List ℕ → Listing
+  Refused : ℕ → AnalyzeReason → Listing
+
+-- the bytes before a place are as described, or not
+abbrev pub listing_of : Found → Listing
+listing_of (Lines lines) = Text (text_of lines)
+listing_of (Differs place) = Refused place reasons.Mismatch
+
+pub data Lists (input : List ℕ) : Listing → Type 0 where
+  IsTooLong : longest_input < length input → Lists input (Refused longest_input reasons.TooLong)
+  HasNone : length input ≤ longest_input → ((p : ℕ) → IsPlace input p → ⊥) → Lists input (Refused (length input) reasons.NoDescription)
+  HasNoShape : (p : ℕ) → length input ≤ longest_input → IsLastPlace input p → ((devices : List ToldDevice) → Tells input p devices → ⊥)
+      → Lists input (Refused p reasons.Shape)
+  IsRead : (p : ℕ) (devices : List ToldDevice) → length input ≤ longest_input → IsLastPlace input p → Tells input p devices
+      → Lists input (listing_of (found (wants devices) 0 0 (take p input)))
+
+-- the last place of an input, if it has one
+abbrev pub TellsPlace : List ℕ → Option ℕ → Type 0
+TellsPlace input None = (p : ℕ) → IsPlace input p → ⊥
+TellsPlace input (Some p) = IsLastPlace input p

@@ -1,0 +1,42 @@
+// The listing of what a source holds.
+ghost use Rattle.vms_io.specs.Told.{intake, outlet};
+ghost use Rattle.vms_analyze.specs.Calls.{Analyzes, ListsTaken};
+
+use crate::fault::{AnalyzeFault, AnalyzeReason};
+use crate::input::{LONGEST, NoInput, read_input};
+use crate::list::list;
+use std::alloc::Global;
+use vms_io::{Sink, Source, write_all_of};
+
+/// Lists the stream of a source by its own description: appends the values text, or tells why there is none. The source is
+/// taken whole, or 100,000,001 bytes of it where it has more than 100,000,000. Whatever is answered but `Ok` and
+/// `WriteFault`, nothing is written; after `WriteFault` a beginning of the text is.
+pub fn analyze<S: Source, K: Sink>(
+    alloc: Global,
+    source: &mut S,
+    sink: &mut K,
+) -> Result<(), AnalyzeFault>
+    ensures { Analyzes (intake S.Source source.old) (intake S.Source source.new)
+        (outlet K.Sink sink.old) (outlet K.Sink sink.new) result }
+{
+    let text = list_source(alloc, source)?;
+    match write_all_of(sink, &text) {
+        Ok(()) => Ok(()),
+        Err(_) => Err(AnalyzeFault::WriteFault),
+    }
+}
+
+// The text of what a source has left.
+fn list_source<S: Source>(alloc: Global, source: &mut S) -> Result<Vec<u8>, AnalyzeFault>
+    ensures { ListsTaken (intake S.Source source.old) (intake S.Source source.new) result }
+{
+    match read_input(alloc, source) {
+        Ok(input) => list(alloc, &input),
+        Err(NoInput::TooLong) => Err(AnalyzeFault::Refused {
+            at: LONGEST as u64,
+            reason: AnalyzeReason::TooLong,
+        }),
+        Err(NoInput::ReadFault) => Err(AnalyzeFault::ReadFault),
+        Err(NoInput::NoMemory) => Err(AnalyzeFault::NoMemory),
+    }
+}

@@ -1,0 +1,153 @@
+// The machine, and what begins and ends a section.
+ghost use Rattle.std.specs.Prelude.{◌≡◌, ◌≤◌, ◌+◌, ◌<◌, ◌∷◌, [], ◌==◌, length, get_or, OnOk, IfErr, MatchOption};
+ghost use Rattle.std.specs.List.{list_all};
+ghost use Rattle.vms_spec.specs.Lookup.{number_at};
+ghost use Rattle.vms_spec.specs.Names.{is_name_byte};
+ghost use Rattle.vms_spec.specs.Spelling.{begins_with};
+ghost use Rattle.vms_analyze.specs.Wanted.{Foot as TheFoot, Head, Machine, machine_line, section_line};
+ghost use Rattle.vms_analyze.specs.Walking.{Goes, HasNoMachine, IsInside, IsMachineName, Prints, WhyStopped, left};
+ghost use Rattle.vms_analyze.specs.declared.walk.Stop.TheVariants as stops;
+
+use crate::members::is_name_byte;
+use crate::walk::{Stop, Walk};
+use byteorder::{BigEndian, ByteOrder};
+use itoa::Buffer;
+use vms_marks::{Foot, Mark};
+use vms_write::{configuration, section_head};
+
+// The name of a machine has at most so many bytes.
+const LONGEST_NAME: usize = 255;
+
+impl<'a> Walk<'a> {
+    /// A configuration with the name of any machine, or nothing.
+    pub(crate) fn machine(&mut self) -> Result<(), Stop>
+        requires { IsInside self.old }
+        ensures ok { OnOk result (Goes (Machine ∷ []) self.old self.new) }
+        ensures err { IfErr result (WhyStopped (Machine ∷ []) self.old self.new) }
+    {
+        if !self.has_configuration() {
+            return Ok(());
+        }
+        let Some(name) = self.machine_name() else {
+            return Err(Stop::Differs);
+        };
+        let spelled = configuration(name);
+        if !self.begins_with(spelled.as_slice()) {
+            return Err(Stop::Differs);
+        }
+        self.place += spelled.len();
+        self.print_machine(name)
+    }
+
+    /// The head of a section with any id, which is open then.
+    pub(crate) fn head(&mut self, name: &str, instance: u32, version: u32) -> Result<(), Stop>
+        requires inside { IsInside self.old }
+        requires short { length name.now ≤ 255 }
+        ensures ok { OnOk result (Goes (Head name.now instance version ∷ []) self.old self.new) }
+        ensures err { IfErr result
+            (WhyStopped (Head name.now instance version ∷ []) self.old self.new) }
+    {
+        let Some(id) = self.number_behind() else {
+            return Err(Stop::Differs);
+        };
+        let spelled = section_head(id, name.as_bytes(), instance, version);
+        if !self.begins_with(spelled.as_slice()) {
+            return Err(Stop::Differs);
+        }
+        self.place += spelled.len();
+        self.id = id;
+        self.print_section(name, instance, version)
+    }
+
+    /// The footer of the section that is open.
+    pub(crate) fn foot(&mut self) -> Result<(), Stop>
+        requires { IsInside self.old }
+        ensures ok { OnOk result (Goes (TheFoot ∷ []) self.old self.new) }
+        ensures err { IfErr result (WhyStopped (TheFoot ∷ []) self.old self.new) }
+    {
+        let foot = Foot { id: self.id };
+        self.bytes(&foot.bytes())
+    }
+
+    // Whether what is left begins with these bytes.
+    fn begins_with(&self, bytes: &[u8]) -> bool
+        requires { IsInside self.now }
+        ensures { result ≡ begins_with bytes.now (left self.now) }
+    {
+        let rest = &self.input[self.place..];
+        rest.len() >= bytes.len() && &rest[..bytes.len()] == bytes
+    }
+
+    fn has_configuration(&self) -> bool
+        requires { IsInside self.now }
+        ensures { result ≡ (get_or (left self.now) 0 0 == 7) }
+    {
+        let rest = &self.input[self.place..];
+        !rest.is_empty() && rest[0] == Mark::Configuration.byte()
+    }
+
+    // The number of four bytes behind the next byte.
+    fn number_behind(&self) -> Option<u32>
+        requires { IsInside self.now }
+        ensures { MatchOption result (length (left self.now) < 5)
+            (λ n. (5 ≤ length (left self.now)) × (n ≡ number_at 4 1 (left self.now))) }
+    {
+        let rest = &self.input[self.place..];
+        if rest.len() < 5 {
+            return None;
+        }
+        Some(BigEndian::read_u32(&rest[1..5]))
+    }
+
+    // The name in a configuration, where it is that of a machine.
+    fn machine_name(&self) -> Option<&'a [u8]>
+        requires { IsInside self.now }
+        ensures { MatchOption result (HasNoMachine (left self.now))
+            (λ name. IsMachineName (left self.now) name.now) }
+    {
+        let long = self.number_behind()? as usize;
+        let rest = &self.input[self.place + 5..];
+        if long > LONGEST_NAME || rest.len() < long {
+            return None;
+        }
+        let name = &rest[..long];
+        if are_name_bytes(name) {
+            Some(name)
+        } else {
+            None
+        }
+    }
+
+    fn print_machine(&mut self, name: &[u8]) -> Result<(), Stop>
+        ensures ok { OnOk result (Prints self.old self.new (machine_line name.now)) }
+        ensures err { IfErr result (λ e. e ≡ stops.NoMemory) }
+    {
+        self.text.extend_from_slice(b"machine ")?;
+        self.text.extend_from_slice(name)?;
+        self.text.extend_from_slice(b"\n")?;
+        Ok(())
+    }
+
+    fn print_section(&mut self, name: &str, instance: u32, version: u32) -> Result<(), Stop>
+        ensures ok { OnOk result (Prints self.old self.new (section_line name.now instance version)) }
+        ensures err { IfErr result (λ e. e ≡ stops.NoMemory) }
+    {
+        let mut digits = Buffer::new();
+        self.text.extend_from_slice(b"section ")?;
+        self.text.extend_from_slice(name.as_bytes())?;
+        self.text.extend_from_slice(b" ")?;
+        self.text
+            .extend_from_slice(digits.format(instance).as_bytes())?;
+        self.text.extend_from_slice(b" v")?;
+        self.text
+            .extend_from_slice(digits.format(version).as_bytes())?;
+        self.text.extend_from_slice(b"\n")?;
+        Ok(())
+    }
+}
+
+fn are_name_bytes(bytes: &[u8]) -> bool
+    ensures { result ≡ list_all is_name_byte bytes.now }
+{
+    bytes.iter().all(|byte| is_name_byte(*byte))
+}

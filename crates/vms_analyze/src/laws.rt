@@ -1,0 +1,21 @@
+//! Laws of listings, each the contract of a function without a body. The statements stand in `specs/Laws.antt`.
+ghost use Rattle.vms_analyze.specs.Laws.{OneLaw, ShownLaw, TotalLaw};
+
+/// An input has one listing at most.
+#[tactic(auto, using(crate::proofs::One::one_holds))]
+pub fn one_law()
+    ensures { OneLaw }
+{}
+
+/// Each input has a listing.
+#[tactic(auto, using(crate::proofs::Total::total_holds))]
+pub fn total_law()
+    ensures { TotalLaw }
+{}
+
+/// What is written of ready images with their self-description, under any well-formed set and with a
+/// machine of it or none, lists the values text of that machine and these images.
+#[tactic(auto, using(crate::proofs::Shown::shown_holds))]
+pub fn shown_law()
+    ensures { ShownLaw }
+{}

@@ -1,0 +1,166 @@
+// The members of JSON objects.
+ghost use Rattle.std.specs.Prelude.{◌≡◌};
+ghost use Rattle.std.specs.List.{list_all};
+ghost use Rattle.serde_json.specs.Find.{as_bool};
+ghost use Rattle.serde_json.specs.View.{number_view};
+ghost use Rattle.vms_spec.specs.Names.{is_name_byte};
+ghost use Rattle.vms_json.specs.Nodes.{view, items_view};
+ghost use Rattle.vms_analyze.specs.Told.{is_path, is_path_byte};
+ghost use Rattle.vms_analyze.specs.Read.{flag_at, four_at, list_at, natural_at, path_at, text_at, whole_at, whole_of};
+ghost use Rattle.vms_analyze.specs.Typed.{ReadsAs};
+
+use serde_json::Number;
+use std::alloc::{AllocError, AllocFailed};
+use vms_json::Node;
+
+/// Why a value isn't read.
+#[derive(Clone, Copy, Drop)]
+pub(crate) enum Unread {
+    /// It is of another shape.
+    Shape,
+    /// Memory is wanting.
+    NoMemory,
+}
+
+impl From<AllocError> for Unread {
+    ghost use Rattle.vms_analyze.specs.declared.members.Unread.TheVariants.{NoMemory};
+
+    ghost from_gives = { λ _ e. e ≡ NoMemory };
+
+    fn from(_: AllocError) -> Self {
+        Unread::NoMemory
+    }
+}
+
+impl<T: Drop> From<AllocFailed<T>> for Unread {
+    ghost use Rattle.vms_analyze.specs.declared.members.Unread.TheVariants.{NoMemory};
+
+    ghost from_gives = { λ _ e. e ≡ NoMemory };
+
+    fn from(_: AllocFailed<T>) -> Self {
+        Unread::NoMemory
+    }
+}
+
+/// The text under a key.
+pub(crate) fn text_at<'a>(value: &Node<'a>, key: &str) -> Result<&'a str, Unread>
+    ensures { ReadsAs (λ t. t.now) (text_at key.now (view value.now)) result }
+{
+    match value.get(key).and_then(Node::as_str) {
+        Some(text) => Ok(text),
+        None => Err(Unread::Shape),
+    }
+}
+
+/// The path or name under a key, of 1 to so many bytes.
+pub(crate) fn path_at<'a>(value: &Node<'a>, key: &str, most: usize) -> Result<&'a str, Unread>
+    ensures { ReadsAs (λ t. t.now) (path_at most key.now (view value.now)) result }
+{
+    let text = text_at(value, key)?;
+    if is_path(text, most) {
+        Ok(text)
+    } else {
+        Err(Unread::Shape)
+    }
+}
+
+/// The number without a sign under a key.
+pub(crate) fn natural_at(value: &Node, key: &str) -> Result<u64, Unread>
+    ensures { ReadsAs (λ n. n) (natural_at key.now (view value.now)) result }
+{
+    match value.get(key).and_then(Node::as_u64) {
+        Some(number) => Ok(number),
+        None => Err(Unread::Shape),
+    }
+}
+
+/// The number of four bytes under a key.
+pub(crate) fn four_at(value: &Node, key: &str) -> Result<u32, Unread>
+    ensures { ReadsAs (λ n. n) (four_at key.now (view value.now)) result }
+{
+    let number = natural_at(value, key)?;
+    if number <= u32::MAX as u64 {
+        Ok(number as u32)
+    } else {
+        Err(Unread::Shape)
+    }
+}
+
+/// The whole number under a key.
+pub(crate) fn whole_at(value: &Node, key: &str) -> Result<i128, Unread>
+    ensures { ReadsAs (λ z. z) (whole_at key.now (view value.now)) result }
+{
+    match value.get(key).and_then(Node::as_number).and_then(whole_of) {
+        Some(number) => Ok(number),
+        None => Err(Unread::Shape),
+    }
+}
+
+/// Whether the flag under a key is set.
+pub(crate) fn flag_at(value: &Node, key: &str) -> Result<bool, Unread>
+    ensures { ReadsAs (λ b. b) (flag_at key.now (view value.now)) result }
+{
+    match value.get(key).and_then(flag_of) {
+        Some(flag) => Ok(flag),
+        None => Err(Unread::Shape),
+    }
+}
+
+/// The items of the list under a key.
+pub(crate) fn list_at<'v, 'a>(value: &'v Node<'a>, key: &str) -> Result<&'v [Node<'a>], Unread>
+    ensures { ReadsAs (λ v. items_view v.now) (list_at key.now (view value.now)) result }
+{
+    match value.get(key).and_then(Node::as_list) {
+        Some(items) => Ok(items.as_slice()),
+        None => Err(Unread::Shape),
+    }
+}
+
+// A whole number: one without a sign, or one below 0.
+fn whole_of(number: &Number) -> Option<i128>
+    ensures { result ≡ whole_of (number_view number.now) }
+{
+    if let Some(number) = number.as_u64() {
+        return Some(i128::from(number));
+    }
+    match number.as_i128() {
+        Some(number) if number < 0 => Some(number),
+        _ => None,
+    }
+}
+
+fn flag_of(value: &Node) -> Option<bool>
+    ensures { result ≡ as_bool (view value.now) }
+{
+    if let Node::Bool(flag) = value {
+        Some(*flag)
+    } else {
+        None
+    }
+}
+
+// Whether a text is a path or a name of 1 to so many bytes.
+fn is_path(text: &str, most: usize) -> bool
+    ensures { result ≡ is_path most text.now }
+{
+    !text.is_empty() && text.len() <= most && are_path_bytes(text.as_bytes())
+}
+
+fn are_path_bytes(bytes: &[u8]) -> bool
+    ensures { result ≡ list_all is_path_byte bytes.now }
+{
+    bytes.iter().all(|byte| is_path_byte(*byte))
+}
+
+// A letter, a digit, or one of these.
+fn is_path_byte(byte: u8) -> bool
+    ensures { result ≡ is_path_byte byte }
+{
+    is_name_byte(byte) || matches!(byte, b'[' | b']' | b'/')
+}
+
+pub(crate) fn is_name_byte(byte: u8) -> bool
+    ensures { result ≡ is_name_byte byte }
+{
+    matches!(byte, b'0'..=b'9' | b'A'..=b'Z' | b'a'..=b'z' | b'_' | b'-' | b'.')
+}

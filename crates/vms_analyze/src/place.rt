@@ -1,0 +1,41 @@
+// Where the description of a stream stands.
+ghost use Rattle.std.specs.Prelude.{◌↔◌, ◌<◌, length, IsTrue};
+ghost use Rattle.vms_analyze.specs.Listing.{IsPlace, TellsPlace};
+
+use byteorder::{BigEndian, ByteOrder};
+use memchr::memrchr;
+
+// The mark of a description section, and how many bytes stand before its text.
+const MARK: u8 = 0x06;
+
+pub(crate) const BEFORE_TEXT: usize = 5;
+
+// Whether a description may stand here: the mark, and the length of all that is left.
+fn is_place(input: &[u8], at: usize) -> bool
+    requires { at < length input.now }
+    ensures { IsTrue result ↔ IsPlace input.now at }
+{
+    let left = input.len() - at;
+    left >= BEFORE_TEXT
+        && input[at] == MARK
+        && BigEndian::read_u32(&input[at + 1..]) as usize == left - BEFORE_TEXT
+}
+
+/// The last place at which a description may stand.
+pub(crate) fn last_place(input: &[u8]) -> Option<usize>
+    ensures { TellsPlace input.now result }
+{
+    let mut end = input.len();
+    while end > 0 {
+        match memrchr(MARK, &input[..end]) {
+            Some(at) => {
+                if is_place(input, at) {
+                    return Some(at);
+                }
+                end = at;
+            }
+            None => return None,
+        }
+    }
+    None
+}

@@ -1,0 +1,146 @@
+// What is wanted, one after the other, and what stands in the stream.
+ghost use Rattle.std.specs.Prelude.{◌≡◌, ◌∷◌, [], OnOk, IfErr};
+ghost use Rattle.vms_analyze.specs.Wanted.{Bytes, Any, Number, Line, number_line, element_want};
+ghost use Rattle.vms_analyze.specs.Typed.{told_of, element_wants};
+ghost use Rattle.vms_analyze.specs.declared.walk.Stop.TheVariants as stops;
+ghost use Rattle.vms_analyze.specs.Walking.{IsInside, Goes, Prints, WhyStopped};
+
+use crate::told::Element;
+use itoa::Buffer;
+use std::alloc::AllocError;
+use vms_kinds::Kind;
+
+/// A stream, the place up to which it is as wanted, the id of the section that is open, and the
+/// lines that are printed.
+#[derive(Drop)]
+pub(crate) struct Walk<'a> {
+    pub(crate) input: &'a [u8],
+    pub(crate) place: usize,
+    pub(crate) id: u32,
+    pub(crate) text: Vec<u8>,
+}
+
+/// Why a walk goes no further.
+#[derive(Clone, Copy, Drop)]
+pub(crate) enum Stop {
+    /// What stands at the place isn't as wanted.
+    Differs,
+    /// Memory is wanting.
+    NoMemory,
+}
+
+impl From<AllocError> for Stop {
+    ghost use Rattle.vms_analyze.specs.declared.walk.Stop.TheVariants.{NoMemory};
+
+    ghost from_gives = { λ _ e. e ≡ NoMemory };
+
+    fn from(_: AllocError) -> Self {
+        Stop::NoMemory
+    }
+}
+
+impl Walk<'_> {
+    /// Bytes of any content.
+    pub(crate) fn any(&mut self, n: usize) -> Result<(), Stop>
+        requires { IsInside self.old }
+        ensures ok { OnOk result (Goes (Any n ∷ []) self.old self.new) }
+        ensures err { IfErr result (WhyStopped (Any n ∷ []) self.old self.new) }
+    {
+        if self.input.len() - self.place < n {
+            return Err(Stop::Differs);
+        }
+        self.place += n;
+        Ok(())
+    }
+
+    /// These bytes.
+    pub(crate) fn bytes(&mut self, bytes: &[u8]) -> Result<(), Stop>
+        requires { IsInside self.old }
+        ensures ok { OnOk result (Goes (Bytes bytes.now ∷ []) self.old self.new) }
+        ensures err { IfErr result (WhyStopped (Bytes bytes.now ∷ []) self.old self.new) }
+    {
+        if self.input.len() - self.place < bytes.len() {
+            return Err(Stop::Differs);
+        }
+        let end = self.place + bytes.len();
+        if &self.input[self.place..end] != bytes {
+            return Err(Stop::Differs);
+        }
+        self.place = end;
+        Ok(())
+    }
+
+    /// A number, which is printed under its path.
+    pub(crate) fn number(&mut self, path: &str, kind: Kind) -> Result<(), Stop>
+        requires { IsInside self.old }
+        ensures ok { OnOk result (Goes (Number path.now kind ∷ []) self.old self.new) }
+        ensures err { IfErr result (WhyStopped (Number path.now kind ∷ []) self.old self.new) }
+    {
+        let width = kind.width();
+        if self.input.len() - self.place < width {
+            return Err(Stop::Differs);
+        }
+        let end = self.place + width;
+        match kind.take(&self.input[self.place..end]) {
+            Some(value) => {
+                self.place = end;
+                self.print(path, value)?;
+                Ok(())
+            }
+            None => Err(Stop::Differs),
+        }
+    }
+
+    /// An element.
+    pub(crate) fn element(&mut self, element: &Element) -> Result<(), Stop>
+        requires { IsInside self.old }
+        ensures ok { OnOk result (Goes (element_want (told_of element.now) ∷ []) self.old self.new) }
+        ensures err { IfErr result
+            (WhyStopped (element_want (told_of element.now) ∷ []) self.old self.new) }
+    {
+        match *element {
+            Element::Sent { path, kind } => self.number(path, kind),
+            Element::Kept { path, value, .. } => self.kept(path, value),
+            Element::Fixed { bytes, .. } => self.any(bytes),
+            Element::Skipped { bytes, .. } => self.any(bytes),
+        }
+    }
+
+    /// Elements one after the other.
+    pub(crate) fn elements(&mut self, elements: &[Element]) -> Result<(), Stop>
+        requires { IsInside self.old }
+        ensures ok { OnOk result (Goes (element_wants elements.now) self.old self.new) }
+        ensures err { IfErr result (WhyStopped (element_wants elements.now) self.old self.new) }
+    {
+        for element in elements {
+            if let Err(stop) = self.element(element) {
+                return Err(stop);
+            }
+        }
+        Ok(())
+    }
+
+    // A number that is told.
+    fn kept(&mut self, path: &str, value: i128) -> Result<(), Stop>
+        requires { IsInside self.old }
+        ensures ok { OnOk result (Goes (Line (number_line path.now value) ∷ []) self.old self.new) }
+        ensures err { IfErr result (λ e. e ≡ stops.NoMemory) }
+    {
+        self.print(path, value)?;
+        Ok(())
+    }
+
+    // The line of a number.
+    fn print(&mut self, path: &str, value: i128) -> Result<(), Stop>
+        ensures ok { OnOk result (Prints self.old self.new (number_line path.now value)) }
+        ensures err { IfErr result (λ e. e ≡ stops.NoMemory) }
+    {
+        let mut digits = Buffer::new();
+        self.text.extend_from_slice(path.as_bytes())?;
+        self.text.extend_from_slice(b" = ")?;
+        self.text
+            .extend_from_slice(digits.format(value).as_bytes())?;
+        self.text.extend_from_slice(b"\n")?;
+        Ok(())
+    }
+}

@@ -1,0 +1,10 @@
+pub mod BackNormal
+pub mod BackVersions
+pub mod Converts
+pub mod ImageOf
+pub mod Known
+pub mod NeededSame
+pub mod OneBack
+pub mod OneLost
+pub mod RecastOf
+pub mod Rows

@@ -1,0 +1,131 @@
+-- Worked rows: small sets, and the serial port of two shipped sets.
+use Rattle.std.proofs.Common.{◌≡◌, ℕ, suc, List, [], ◌∷◌, ◌++◌, get_or, map, replicate, Option, Some, None, ℤ, pos, negsuc, refl, codes}
+use Rattle.std.specs.List.{range_with_len}
+use Rattle.vms_kinds.specs.declared.Kind.TheVariants.{U8}
+use Rattle.vms_kinds.specs.declared.Item.TheVariants.{Num, Unused}
+use Rattle.vms_spec.specs.declared.Count.TheVariants.{One, Counted}
+use Rattle.vms_spec.specs.Sets.{Field, Sub, Device, Set}
+use Rattle.vms_spec.specs.Shipped.{set_1, set_2, set_4, serial, serial_fields, divider, divisor, fcr, thr_ipending, fifo, timeout, ring, never, i8254_at_1, i8254_at_2}
+use Rattle.vms_spec.specs.Layout.{Cell as OneCell, first, device_cells}
+use Rattle.vms_spec.specs.Images.{has_cell, image_slots}
+use Rattle.vms_check.specs.Carrying.{carried_device}
+use Rattle.dev_images.specs.Images.{image_of}
+use Rattle.vms_convert.specs.Back.{taken, whole}
+use Rattle.vms_check.specs.Partners.{device_partners}
+
+abbrev number : List ℕ → Field
+number name = record { name = name; former = []; item = Num U8; count = One; since = 0; test = None; default = pos 0 }
+
+abbrev box : ℕ → List Field → List Sub → Device
+box version fields subs = record { instance = 0; desc = record { name = codes "box"; version = version; minimum = 1; fields = fields; validate = [] }; subs = subs }
+
+abbrev lab : Device → Set
+lab d = record { machines = codes "lab" ∷ []; structs = []; devices = d ∷ [] }
+
+-- the number that each cell takes, where `now` says which stand in the bytes
+abbrev taken_from : Set → Device → List (Option ℕ) → List ℤ → List ℤ → ℕ → List OneCell → List ℤ
+taken_from to d partners numbers now c [] = []
+taken_from to d partners numbers now c (cell ∷ cells) =
+    taken numbers cell (has_cell (image_slots to d (whole d now)) c) (get_or partners c None) ∷ taken_from to d partners numbers now (suc c) cells
+
+abbrev taken_by : (to new : Set) → (d e : Device) → List ℤ → List ℤ → List ℤ
+taken_by to new d e numbers now = taken_from to d (device_partners to new d e) numbers now 0 (device_cells to d)
+
+-- ---- two fields, the first of which has another name now, before one that came later
+
+abbrev pair : Device
+pair = box 1 (number (codes "a") ∷ number (codes "b") ∷ []) []
+
+abbrev renamed : Device
+renamed = box 2 (record (number (codes "c")) { former = codes "a" ∷ [] } ∷ number (codes "b") ∷ record (number (codes "d")) { since = 2 } ∷ []) []
+
+renamed_partners : device_partners (lab pair) (lab renamed) pair renamed ≡ Some 0 ∷ Some 1 ∷ []
+unfolding device_partners first
+renamed_partners = refl
+
+-- ---- a number that unused bytes stand for now
+
+abbrev covered : Device
+covered = box 1 (number (codes "a") ∷ record (number (codes "gap")) { item = Unused 1 } ∷ []) []
+
+covered_partners : device_partners (lab pair) (lab covered) pair covered ≡ Some 0 ∷ None ∷ []
+unfolding device_partners first
+covered_partners = refl
+
+covered_taken : taken_by (lab pair) (lab covered) pair covered (pos 7 ∷ []) (pos 7 ∷ pos 0 ∷ []) ≡ pos 7 ∷ pos 0 ∷ []
+unfolding device_partners first
+covered_taken = refl
+
+-- ---- a count above the older capacity isn't taken, and so none of its elements stands in the bytes
+
+abbrev counted : ℕ → Device
+counted most = box 1 (number (codes "n") ∷ record (number (codes "v")) { count = Counted 0 most } ∷ []) []
+
+counted_partners : device_partners (lab (counted 2)) (lab (counted 4)) (counted 2) (counted 4) ≡ Some 0 ∷ Some 1 ∷ Some 2 ∷ []
+unfolding device_partners first
+counted_partners = refl
+
+too_many : taken_by (lab (counted 2)) (lab (counted 4)) (counted 2) (counted 4) (pos 3 ∷ pos 10 ∷ pos 11 ∷ pos 12 ∷ pos 0 ∷ []) (pos 0 ∷ pos 0 ∷ pos 0 ∷ []) ≡ pos 0 ∷ pos 0 ∷ pos 0 ∷ []
+unfolding device_partners first
+too_many = refl
+
+few_enough : taken_by (lab (counted 2)) (lab (counted 4)) (counted 2) (counted 4) (pos 1 ∷ pos 10 ∷ pos 0 ∷ pos 0 ∷ pos 0 ∷ []) (pos 1 ∷ pos 10 ∷ pos 0 ∷ []) ≡ pos 1 ∷ pos 10 ∷ pos 0 ∷ []
+unfolding device_partners first
+few_enough = refl
+
+-- the first of them is lost: carried to the newer set again the count is 0
+count_is_lost : (carried_device (lab (counted 2)) (lab (counted 4)) (counted 2) (counted 4) (image_of (lab (counted 2)) (counted 2) (pos 0 ∷ pos 0 ∷ pos 0 ∷ []))).numbers ≡ replicate 5 (pos 0)
+unfolding first
+count_is_lost = refl
+
+-- ---- the serial port
+
+abbrev serial_at_1 : Device
+serial_at_1 = serial 1 (divider ∷ serial_fields) (thr_ipending ∷ [])
+
+abbrev serial_at_2 : Device
+serial_at_2 = serial 2 (divider ∷ serial_fields ++ fcr ∷ []) (thr_ipending ∷ fifo ∷ [])
+
+abbrev serial_at_4 : Device
+serial_at_4 = serial 4 (divisor ∷ serial_fields ++ fcr ∷ []) (thr_ipending ∷ fifo ∷ timeout ∷ ring ∷ [])
+
+abbrev some_from : ℕ → ℕ → List (Option ℕ)
+some_from a n = map (λ (k : ℕ). Some k) (range_with_len a n)
+
+port_1 : device_partners set_1 set_4 serial_at_1 serial_at_4 ≡ some_from 0 11 ++ some_from 12 1
+unfolding device_partners first
+port_1 = refl
+
+port_2 : device_partners set_2 set_4 serial_at_2 serial_at_4 ≡ some_from 0 47
+unfolding device_partners first
+port_2 = refl
+
+-- one byte is held, and its timeout runs
+abbrev held : ℤ → List ℤ
+held timeout_at =
+    pos 12 ∷ pos 0 ∷ pos 1 ∷ pos 0 ∷ pos 0 ∷ pos 97 ∷ pos 0 ∷ pos 0 ∷ pos 0 ∷ pos 0 ∷ pos never ∷ pos 1 ∷ negsuc 0 ∷ []
+    ++ (pos 1 ∷ pos 65 ∷ replicate 32 (pos 0)) ++ timeout_at ∷ replicate 36 (pos 0)
+
+abbrev held_back : List ℤ
+held_back =
+    pos 12 ∷ pos 0 ∷ pos 1 ∷ pos 0 ∷ pos 0 ∷ pos 97 ∷ pos 0 ∷ pos 0 ∷ pos 0 ∷ pos 0 ∷ pos never ∷ pos 1 ∷ negsuc 0 ∷ []
+    ++ (pos 1 ∷ pos 65 ∷ replicate 32 (pos 0))
+
+held_taken : taken_by set_2 set_4 serial_at_2 serial_at_4 (held (pos 5)) held_back ≡ held_back
+unfolding device_partners first
+held_taken = refl
+
+-- the FIFO is needed and the latch is not; carried to the newest set again, all is there but the timeout
+held_image : (image_of set_2 serial_at_2 held_back).came ≡ None ∷ Some 1 ∷ []
+unfolding first
+held_image = refl
+
+timeout_is_lost : (carried_device set_2 set_4 serial_at_2 serial_at_4 (image_of set_2 serial_at_2 held_back)).numbers ≡ held (pos never)
+unfolding first
+timeout_is_lost = refl
+
+-- ---- structures: the timer chip's three counters, cell by cell
+
+chip_1 : device_partners set_1 set_4 i8254_at_1 i8254_at_2 ≡ some_from 0 33
+unfolding device_partners first
+chip_1 = refl

@@ -1,0 +1,5 @@
+pub mod Back
+pub mod Converted
+pub mod Laws
+pub mod Lost
+pub mod Recast

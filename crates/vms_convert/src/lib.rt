@@ -1,0 +1,4 @@
+//! Streams of the newest set, written under an older one.
+#![tactic(auto)]
+
+pub mod laws;

@@ -1,0 +1,9 @@
+-- The JSON value of bytes.
+use Rattle.std.specs.Prelude.{ℕ, if◌then◌else◌, List, Option, None}
+use Rattle.std.specs.Str.{is_utf8}
+use Rattle.serde_json.specs.Data.{Data}
+use Rattle.serde_json.specs.Read.{read}
+
+-- the value of a text, which is none where its bytes are no text
+abbrev pub value_in : List ℕ → Option Data
+value_in text = if is_utf8 text then read text else None

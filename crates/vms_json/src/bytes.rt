@@ -1,0 +1,25 @@
+// Reads bytes as JSON.
+ghost use Rattle.std.specs.Prelude.{◌≡◌, Some, None, Err, IfOk};
+ghost use Rattle.vms_json.specs.Nodes.{view};
+ghost use Rattle.vms_json.specs.Texts.{value_in};
+
+use crate::Node;
+use crate::parse::{NoNode, read_node};
+use json::Scratch;
+use std::alloc::Global;
+use std::str;
+
+/// The value of bytes. Where they are no text, they have none. Texts with escapes are put into `scratch`.
+pub fn read_bytes<'a>(
+    alloc: Global,
+    bytes: &'a [u8],
+    scratch: &'a mut Scratch,
+) -> Result<Node<'a>, NoNode>
+    ensures ok { IfOk result (λ v. value_in bytes.now ≡ Some (view v)) }
+    ensures err { result ≡ Err NoNode.Syntax → value_in bytes.now ≡ None }
+{
+    match str::from_utf8(bytes) {
+        Ok(text) => read_node(alloc, text, scratch),
+        Err(_) => Err(NoNode::Syntax),
+    }
+}

@@ -1,0 +1,78 @@
+-- What is restored is sound.
+use Rattle.std.proofs.Common.{◌≡◌, ℕ, ◌+◌, ◌<◌, ◌≤◌, ◌==◌, ◌&&◌, ◌||◌, not, nat_le, Bool, true, false, List, ℤ, Ok, refl, sym, ap, subst, ◌∙◌, arith}
+use Rattle.std.proofs.lemmas.Bool.{false≢true, and_parts}
+use Rattle.std.proofs.lemmas.Bool.Decides.{nat_tests}
+use Rattle.std.proofs.lemmas.List.FromFn.{get_or-map-range_with_len, length-map-range_with_len}
+use Rattle.vms_hooks.specs.Numbers.{Numbers}
+use Rattle.dev_base.proofs.CellLaws.{byte-lt}
+use Rattle.dev_base.proofs.RuleLaws.{AllTrue, judged-ok, hook-ok}
+use Rattle.dev_base.specs.Cells.{cell_at, number_at, flag_at, AreOf}
+use Rattle.dev_base.specs.Levels.{IsUpTo}
+use Rattle.vms_rtc.proofs.CellPlaces.{is_byte}
+use Rattle.vms_rtc.specs.Cells.{kinds}
+use Rattle.vms_rtc.specs.Chip.{register}
+use Rattle.vms_rtc.specs.Laws.{RestoredIsSound}
+use Rattle.vms_rtc.specs.Saved.{CanRestore, index_holds, registers_hold, rules, chip_of, restored, hook_restored}
+use Rattle.vms_rtc.specs.Sound.{IsSound}
+use Rattle.vms_rtc.specs.declared.limits.TheConstants.{NEWEST_CLOCK, NMI_SINCE, REGISTERS}
+use Rattle.vms_rtc.specs.declared.rtc.Rtc.{Rtc}
+
+-- a register of the chip of cells
+pub register_of : (version : ℕ) (cells : List ℤ) (k : ℕ) → k < REGISTERS → register k (chip_of version cells) ≡ number_at cells (1 + k)
+unfolding chip_of
+register_of version cells k lt = get_or-map-range_with_len (λ i. number_at cells (1 + i)) 0 REGISTERS k k 0 lt (omega arith)
+
+low : (version : ℕ) (cells : List ℤ) → index_holds cells ≡ true → number_at cells 0 ≤ 63
+low version cells h = grind (arith, nat_tests, h)
+
+record Registers (cells : List ℤ) : Type 0 where
+  a : number_at cells 11 ≤ 127
+  c : number_at cells 13 ≡ 0
+  d : number_at cells 14 ≡ 0
+
+registers : (cells : List ℤ) → registers_hold cells ≡ true → Registers cells
+registers cells h =
+    let first = and_parts (nat_le (number_at cells 11) 127) ((number_at cells 13 == 0) && (number_at cells 14 == 0)) h in
+    let second = and_parts (number_at cells 13 == 0) (number_at cells 14 == 0) first.1 in
+    record { a = grind (arith, nat_tests, first.0); c = grind (arith, nat_tests, second.0); d = grind (arith, nat_tests, second.1) }
+
+clear : (b flag : Bool) → (b || not flag) ≡ true → b ≡ false → flag ≡ false
+clear true flag h e = absurd (false≢true (sym e))
+clear false true h e = sym h
+clear false false h e = refl
+
+pub sound : (version : ℕ) (cells : List ℤ) → IsUpTo NEWEST_CLOCK version → AreOf (kinds NEWEST_CLOCK) cells → AllTrue (rules version cells) → IsSound (chip_of version cells)
+unfolding chip_of
+sound version cells v are hold =
+    let n = registers cells hold.1.0 in
+    record {
+      version = v;
+      index = low version cells hold.0;
+      count = length-map-range_with_len (λ i. number_at cells (1 + i)) 0 REGISTERS;
+      bytes = λ k lt.
+          let is : register k (chip_of version cells) ≡ number_at cells (1 + k) = register_of version cells k lt in
+          let small = byte-lt (cell_at cells (1 + k)) (is_byte cells (1 + k) are (omega (arith, lt))) in
+          omega (arith, is, small);
+      a = n.a;
+      c = n.c;
+      d = n.d;
+      mask = λ none. clear (nat_le NMI_SINCE version) (flag_at cells 65) hold.1.1.0 none;
+    }
+
+made : (version : ℕ) (cells : List ℤ) → (chip_of version cells).version ≡ version
+unfolding chip_of
+made version cells = refl
+
+-- the chip that was restored is that of its cells, and all rules hold
+module _ (numbers : Numbers) (cells : List ℤ) (chip : Rtc) (e : hook_restored numbers cells ≡ Ok chip) where
+  accepted : AllTrue (rules numbers.level cells) × (chip_of numbers.level cells ≡ chip)
+  accepted = judged-ok (rules numbers.level cells) (chip_of numbers.level cells) chip (hook-ok (restored numbers.level cells) chip e)
+
+  is-sound : CanRestore numbers cells → IsSound chip
+  is-sound can = subst IsSound accepted.1 (sound numbers.level cells can.pass.is_version can.of_kinds accepted.0)
+
+  has-version : chip.version ≡ numbers.level
+  has-version = ap (λ (c : Rtc). c.version) (sym accepted.1) ∙ made numbers.level cells
+
+pub restored_is_sound : RestoredIsSound
+restored_is_sound = record { sound = λ numbers cells chip can e. is-sound numbers cells chip e can; version = has-version }

@@ -1,0 +1,114 @@
+-- Each call keeps the chip sound.
+use Rattle.std.proofs.Common.{◌≡◌, ◌≢◌, ℕ, ◌<◌, ◌≤◌, ◌==◌, ◌||◌, ◌%◌, Bool, true, false, if◌then◌else◌, List, length, ◌⊎◌, inl, inr, nat_eq, replicate, set, get_or, eqb-true, refl, sym, subst, ◌∙◌, arith}
+use Rattle.std.proofs.lemmas.Bool.{eq-eqb, false≢true, cases_Bool, cond_both}
+use Rattle.std.proofs.lemmas.Bool.Decides.{nat_tests}
+use Rattle.std.proofs.lemmas.List.{get_or-replicate, get_or-set_other, get_or-set_same, length-replicate, length-set}
+use Rattle.dev_base.proofs.Choices.{either}
+use Rattle.dev_base.specs.Levels.{IsUpTo}
+use Rattle.vms_rtc.specs.Chip.{power_on, data_read, read_of, index_written, data_written, written, passed}
+use Rattle.vms_rtc.specs.Laws.{CallsKeepSound}
+use Rattle.vms_rtc.specs.Sound.{IsSound}
+use Rattle.vms_rtc.specs.declared.limits.TheConstants.{NEWEST_CLOCK, INDEX_PORT, REGISTER_A, REGISTER_C, REGISTER_D}
+use Rattle.vms_rtc.specs.declared.rtc.Rtc.{Rtc}
+
+on-sound : (version : ℕ) → IsUpTo NEWEST_CLOCK version → IsSound (power_on version)
+unfolding power_on
+on-sound version v = record {
+  version = v;
+  index = omega arith;
+  count = length-replicate {A = ℕ} 64 0;
+  bytes = λ k lt. let e : get_or (replicate 64 0) k 0 ≡ 0 = get_or-replicate {A = ℕ} 64 k 0 0 lt in omega (arith, e);
+  a = omega arith;
+  c = refl;
+  d = refl;
+  mask = λ none. refl;
+}
+
+-- nothing hangs on the flag of the periodic interrupt
+flagged : (flag : Bool) (chip : Rtc) → IsSound chip → IsSound (record chip { pf = flag })
+flagged flag chip s = record {
+  version = s.version;
+  index = s.index;
+  count = s.count;
+  bytes = s.bytes;
+  a = s.a;
+  c = s.c;
+  d = s.d;
+  mask = s.mask;
+}
+
+read-sound : (port : ℕ) (chip : Rtc) → IsSound chip → IsSound (read_of port chip).1
+unfolding read_of data_read
+read-sound port chip s =
+    let P : ℕ × Rtc → Type 0 = λ r. IsSound r.1 in
+    either P (port == INDEX_PORT) _ _ s (either P (chip.index == REGISTER_C) _ _ (flagged false chip s) (either P (chip.index == REGISTER_D) _ _ s s))
+
+index-sound : (value : ℕ) (chip : Rtc) → IsSound chip → IsSound (index_written value chip)
+unfolding index_written
+index-sound value chip s = record {
+  version = s.version;
+  index = omega arith;
+  count = s.count;
+  bytes = s.bytes;
+  a = s.a;
+  c = s.c;
+  d = s.d;
+  mask = λ none. let kept = s.mask none in rw none kept;
+}
+
+-- a register of a written chip
+byte-kept : (xs : List ℕ) (i v k : ℕ) → i < length xs → v < 256 → get_or xs k 0 < 256 → get_or (set xs i v) k 0 < 256
+byte-kept xs i v k within small old =
+    by (cases_Bool (nat_eq k i))
+  where
+    by : (nat_eq k i ≡ true) ⊎ (nat_eq k i ≡ false) → get_or (set xs i v) k 0 < 256
+    by (inl e) = subst (λ (n : ℕ). get_or (set xs i v) n 0 < 256) (sym (eqb-true k i e)) (rw (get_or-set_same xs i v 0 within) small)
+    by (inr e) = rw (get_or-set_other xs i k v 0 (λ same. false≢true (sym e ∙ eq-eqb k i same))) old
+
+abbrev kept-of : ℕ → ℕ → ℕ
+kept-of index value = if index == REGISTER_A then value % 128 else value
+
+kept-small : (index value : ℕ) → value < 256 → kept-of index value < 256
+kept-small index value small = either (λ (n : ℕ). n < 256) (index == REGISTER_A) (value % 128) value (omega arith) small
+
+register-a : (xs : List ℕ) (index value : ℕ) → index < length xs → get_or xs REGISTER_A 0 ≤ 127 → get_or (set xs index (kept-of index value)) REGISTER_A 0 ≤ 127
+register-a xs index value within old = by (cases_Bool (index == REGISTER_A))
+  where
+    by : ((index == REGISTER_A) ≡ true) ⊎ ((index == REGISTER_A) ≡ false) → get_or (set xs index (kept-of index value)) REGISTER_A 0 ≤ 127
+    by (inl e) =
+        let at : index ≡ REGISTER_A = eqb-true index REGISTER_A e in
+        let here : get_or (set xs index (kept-of index value)) REGISTER_A 0 ≡ kept-of index value =
+        subst (λ (n : ℕ). get_or (set xs index (kept-of index value)) n 0 ≡ kept-of index value) at (get_or-set_same xs index (kept-of index value) 0 within) in
+        let low : kept-of index value ≤ 127 = rw e (omega arith) in
+        omega (arith, here, low)
+    by (inr e) = rw (get_or-set_other xs index REGISTER_A (kept-of index value) 0 (λ same. false≢true (sym e ∙ eq-eqb index REGISTER_A (sym same)))) old
+
+data-sound : (value : ℕ) (chip : Rtc) → value < 256 → IsSound chip → IsSound (data_written value chip)
+unfolding data_written
+data-sound value chip small s =
+    cond_both ((chip.index == REGISTER_C) || (chip.index == REGISTER_D)) _ _ IsSound (λ kept. s)
+    (λ other.
+    let within : chip.index < length chip.cmos = let n = s.count in let i = s.index in omega (arith, n, i) in
+    let not-c : REGISTER_C ≢ chip.index = λ same. false≢true (sym other ∙ grind (arith, nat_tests, same)) in
+    let not-d : REGISTER_D ≢ chip.index = λ same. false≢true (sym other ∙ grind (arith, nat_tests, same)) in
+    record {
+      version = s.version;
+      index = s.index;
+      count = length-set chip.cmos chip.index (kept-of chip.index value) ∙ s.count;
+      bytes = λ k lt. byte-kept chip.cmos chip.index (kept-of chip.index value) k within (kept-small chip.index value small) (s.bytes k lt);
+      a = register-a chip.cmos chip.index value within s.a;
+      c = get_or-set_other chip.cmos chip.index REGISTER_C (kept-of chip.index value) 0 not-c ∙ s.c;
+      d = get_or-set_other chip.cmos chip.index REGISTER_D (kept-of chip.index value) 0 not-d ∙ s.d;
+      mask = s.mask;
+    })
+
+write-sound : (port value : ℕ) (chip : Rtc) → value < 256 → IsSound chip → IsSound (written port value chip)
+unfolding written
+write-sound port value chip small s = either IsSound (port == INDEX_PORT) _ _ (index-sound value chip s) (data-sound value chip small s)
+
+passed-sound : (from to : ℕ) (chip : Rtc) → IsSound chip → IsSound (passed from to chip)
+unfolding passed
+passed-sound from to chip s = flagged _ chip s
+
+pub calls_keep_sound : CallsKeepSound
+calls_keep_sound = record { power_on = on-sound; read = read-sound; write = write-sound; passed = passed-sound }

@@ -1,0 +1,66 @@
+-- Laws of the chip that contracts name.
+use Rattle.std.specs.Prelude.{◌≡◌, ◌≢◌, ℕ, ℤ, ◌*◌, ◌<◌, ◌≤◌, ◌↔◌, ◌⊎◌, true, false, List, Option, Some, None, Ok}
+use Rattle.vms_hooks.specs.Numbers.{Numbers}
+use Rattle.dev_base.specs.Cells.{AreOf}
+use Rattle.dev_base.specs.Levels.{IsUpTo}
+use Rattle.vms_rtc.specs.Cells.{kinds, saved_cells, carried}
+use Rattle.vms_rtc.specs.Chip.{register, power_on, data_read, read_of, data_written, written, ticks, period_of, passed}
+use Rattle.vms_rtc.specs.Saved.{CanSave, CanRestore, MayRestore, hook_restored}
+use Rattle.vms_rtc.specs.Sound.{IsSound}
+use Rattle.vms_rtc.specs.declared.limits.TheConstants.{NEWEST_CLOCK, REGISTER_A, REGISTER_C, REGISTER_D}
+use Rattle.vms_rtc.specs.declared.rtc.Rtc.{Rtc}
+
+-- time in two parts is time at once
+pub record PartsAreWhole : Type 0 where
+  pub passed : (first middle last : ℕ) (chip : Rtc) → first ≤ middle → middle ≤ last
+      → passed middle last (passed first middle chip) ≡ passed first last chip
+
+-- a multiple of the period lies after the ticks at a span's beginning, and not after those at its end
+abbrev pub HasMultiple : Option ℕ → ℕ → ℕ → Type 0
+HasMultiple None from to = ⊥
+HasMultiple (Some period) from to = (k : ℕ) × (ticks from < k * period) × (k * period ≤ ticks to)
+
+-- a span of time sets the flag exactly where it has a multiple of the period that register A chooses, and never clears it
+pub record FlagIsSetAtMultiples : Type 0 where
+  pub flag : (from to : ℕ) (chip : Rtc)
+      → ((passed from to chip).pf ≡ true) ↔ ((chip.pf ≡ true) ⊎ HasMultiple (period_of (register REGISTER_A chip)) from to)
+
+-- a read of register C clears the flag and changes nothing else, and a read of any other register changes nothing
+pub record ReadsClearFlag : Type 0 where
+  pub of_c : (chip : Rtc) → chip.index ≡ REGISTER_C → (data_read chip).1 ≡ record chip { pf = false }
+  pub others : (chip : Rtc) → chip.index ≢ REGISTER_C → (data_read chip).1 ≡ chip
+
+-- what is written to registers C and D is not kept
+pub record FlagsAreKept : Type 0 where
+  pub c : (value : ℕ) (chip : Rtc) → register REGISTER_C (data_written value chip) ≡ register REGISTER_C chip
+  pub d : (value : ℕ) (chip : Rtc) → register REGISTER_D (data_written value chip) ≡ register REGISTER_D chip
+
+-- no call changes the version
+pub record VersionStays : Type 0 where
+  pub power_on : (version : ℕ) → (power_on version).version ≡ version
+  pub read : (port : ℕ) (chip : Rtc) → (read_of port chip).1.version ≡ chip.version
+  pub write : (port value : ℕ) (chip : Rtc) → (written port value chip).version ≡ chip.version
+  pub passed : (from to : ℕ) (chip : Rtc) → (passed from to chip).version ≡ chip.version
+
+-- the chip is sound at power on, and each call keeps it so
+pub record CallsKeepSound : Type 0 where
+  pub power_on : (version : ℕ) → IsUpTo NEWEST_CLOCK version → IsSound (power_on version)
+  pub read : (port : ℕ) (chip : Rtc) → IsSound chip → IsSound (read_of port chip).1
+  pub write : (port value : ℕ) (chip : Rtc) → value < 256 → IsSound chip → IsSound (written port value chip)
+  pub passed : (from to : ℕ) (chip : Rtc) → IsSound chip → IsSound (passed from to chip)
+
+-- what is saved of a sound chip are cells of the set
+pub record SavedAreCells : Type 0 where
+  pub of_kinds : (set : ℕ) (chip : Rtc) → IsSound chip → AreOf (kinds set) (saved_cells set chip)
+
+-- what is saved of a sound chip under any set from its version on, carried to the newest, is restored as it was
+pub record SavedIsRestored : Type 0 where
+  pub chip : (numbers back : Numbers) (chip : Rtc) → CanSave numbers chip → IsSound chip → MayRestore back
+      → back.level ≡ chip.version
+      → CanRestore back (carried numbers.set (saved_cells numbers.set chip))
+      × (hook_restored back (carried numbers.set (saved_cells numbers.set chip)) ≡ Ok chip)
+
+-- what is restored is sound, and has the version of the restore
+pub record RestoredIsSound : Type 0 where
+  pub sound : (numbers : Numbers) (cells : List ℤ) (chip : Rtc) → CanRestore numbers cells → hook_restored numbers cells ≡ Ok chip → IsSound chip
+  pub version : (numbers : Numbers) (cells : List ℤ) (chip : Rtc) → hook_restored numbers cells ≡ Ok chip → chip.version ≡ numbers.level

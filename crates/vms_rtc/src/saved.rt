@@ -1,0 +1,74 @@
+// Saving and restoring the chip.
+ghost use Rattle.std.specs.Prelude.{◌≡◌, ◌≤◌, length, IfErr};
+
+use crate::cells::{byte_cells, has_registers, registers_at};
+use crate::limits::NMI_SINCE;
+use crate::rtc::Rtc;
+use dev_base::{append, byte_at, flag_at};
+use vms_hooks::{Hooked, Pass};
+use vms_kinds::DevCells;
+
+impl Hooked for Rtc {
+    ghost use Rattle.vms_rtc.specs.Cells.{saved_cells};
+    ghost use Rattle.vms_rtc.specs.Saved.{CanSave, CanRestore, hook_restored};
+
+    ghost can_save = { CanSave };
+
+    ghost can_restore = { CanRestore };
+
+    ghost saves_as = { λ numbers chip cells. cells ≡ saved_cells numbers.set chip };
+
+    ghost restores_to = { λ numbers cells outcome. outcome ≡ hook_restored numbers cells };
+}
+
+impl Rtc {
+    ghost use Rattle.vms_rtc.specs.Cells.{saved_cells};
+    ghost use Rattle.vms_rtc.specs.Saved.{CanSave, CanRestore, restored};
+
+    /// The cells of the chip under the pass's clock set, which is at or above its version.
+    #[tactic(auto, unfolding(crate::specs::Cells::saved_cells))]
+    pub fn cells(&self, pass: &Pass) -> DevCells
+        requires { CanSave pass.now self.now }
+        ensures cells { result.items ≡ saved_cells pass.now.set self.now }
+        ensures count { length result.items ≤ 67 }
+    {
+        let mut cells = byte_cells(self.index, &self.cmos);
+        if pass.set() >= NMI_SINCE {
+            append(&mut cells, &[i128::from(self.nmi_mask)]);
+        }
+        append(&mut cells, &[i128::from(self.pf)]);
+        cells
+    }
+
+    /// The chip of cells of the newest clock set, at the pass's version, or the number of the first rule that fails:
+    ///
+    /// 1. The index is at most 63.
+    /// 2. Register A is at most 127, and C and D are 0.
+    /// 3. The mask of NMI is clear on a chip of version 1.
+    #[tactic(auto, unfolding(dev_base::specs::Rules::judged_by, crate::specs::Saved::chip_of))]
+    pub fn of_cells(pass: &Pass, cells: &DevCells) -> Result<Rtc, u8>
+        requires { CanRestore pass.now cells.now.items }
+        ensures restored { result ≡ restored pass.now.level cells.now.items }
+        ensures rule { IfErr result (λ rule. rule ≤ 3) }
+    {
+        let version = pass.level();
+        let index = byte_at(cells, 0);
+        let nmi_mask = flag_at(cells, 65);
+        if index > 63 {
+            return Err(1);
+        }
+        if !has_registers(cells) {
+            return Err(2);
+        }
+        if version < NMI_SINCE && nmi_mask {
+            return Err(3);
+        }
+        Ok(Rtc {
+            version,
+            index,
+            cmos: registers_at(cells),
+            nmi_mask,
+            pf: flag_at(cells, 66),
+        })
+    }
+}

@@ -1,0 +1,52 @@
+// The ticks of the crystal, and the periods of the periodic interrupt.
+ghost use Rattle.std.specs.Prelude.{◌≡◌, ◌<◌, IfSome};
+ghost use Rattle.vms_rtc.specs.Chip.{ends_within as ends_within_of, period_of as period_by, period_of_rate as period_by_rate, ticks as ticks_of};
+
+use crate::limits::{CRYSTAL_HERTZ, NANOSECONDS};
+
+// The whole ticks from power on to a moment in nanoseconds.
+#[tactic(auto, unfolding(crate::specs::Chip::ticks))]
+fn ticks(moment: u64) -> u64
+    ensures { result ≡ ticks_of moment }
+{
+    // Whole seconds and the rest, since 64 bits don't hold the product of the whole.
+    moment / NANOSECONDS * CRYSTAL_HERTZ + moment % NANOSECONDS * CRYSTAL_HERTZ / NANOSECONDS
+}
+
+// The ticks of a period by the rate.
+fn period_of_rate(rate: u8) -> Option<u64>
+    requires { rate < 16 }
+    ensures period { result ≡ period_by_rate rate }
+    ensures some { IfSome result (λ period. 0 < period) }
+{
+    match rate {
+        0 => None,
+        1 => Some(128),
+        2 => Some(256),
+        _ => Some(1 << (rate - 1)),
+    }
+}
+
+/// The ticks of a period by register A, or `None` where nothing is counted.
+#[tactic(auto, unfolding(crate::specs::Chip::period_of))]
+pub(crate) fn period_of(a: u8) -> Option<u64>
+    ensures period { result ≡ period_by a }
+    ensures some { IfSome result (λ period. 0 < period) }
+{
+    if a / 16 % 8 == 0b010 {
+        period_of_rate(a % 16)
+    } else {
+        None
+    }
+}
+
+/// Tells whether a period ends after one moment and not after another.
+pub(crate) fn ends_within(period: Option<u64>, from: u64, to: u64) -> bool
+    requires { IfSome period (λ period. 0 < period) }
+    ensures { result ≡ ends_within_of period from to }
+{
+    match period {
+        None => false,
+        Some(period) => ticks(from) / period < ticks(to) / period,
+    }
+}

@@ -1,0 +1,224 @@
+-- What a well-formed set writes is bytes.
+use Rattle.std.proofs.Common.{◌≡◌, ℕ, zero, suc, ◌+◌, ◌<◌, ◌≤◌, ◌&&◌, ◌||◌, ◌==◌, nat_le, List, [], ◌∷◌, ◌++◌, length, length-append, get_or, take, drop, ℤ, pos, Bool, true, false, Option, Some, None, IfSome, nat_lt, refl, subst, arith}
+use Rattle.std.specs.Int.{byte_at, bytes_high_first}
+use Rattle.std.specs.Prelude.{replicate}
+use Rattle.std.specs.List.{list_all}
+use Rattle.std.specs.Str.{bytes_eq}
+use Rattle.std.proofs.lemmas.Bool.{and_parts, ltb-true, leb-true, eqb-true}
+use Rattle.std.proofs.lemmas.List.{take-append-drop}
+use Rattle.std.proofs.lemmas.Slice.Eq.{bytes_eq-Decides}
+use Rattle.vms_kinds.specs.Codes.{width, residue, code}
+use Rattle.vms_kinds.specs.declared.Kind.{Kind}
+use Rattle.vms_kinds.specs.Bytes.{IsBytes}
+use Rattle.vms_spec.specs.Names.{is_name, is_name_byte, is_sub_name}
+use Rattle.vms_spec.specs.Images.{Image, zeroed, own_cells, own_slots, sub_slots}
+use Rattle.vms_spec.specs.Layout.{Slot, Number, Constant, Filler, Rule, desc_cells, struct_cells}
+use Rattle.vms_spec.specs.Sets.{Sub, Device, Set}
+use Rattle.vms_spec.specs.Streams.{be32, optional, configuration, section_head, sub_head, foot, trailer, end_mark, stream_head, is_one_of, written, written_section, written_sections, written_subs}
+use Rattle.vms_spec.specs.WellFormed.{WellFormed, failing, first_fault, here, set_rules}
+use Rattle.vms_spec.proofs.Faultless.{AllTrue, all_true, every_one, or_else_none}
+use Rattle.vms_spec.specs.declared.Part.TheVariants as parts
+use Rattle.vms_stream.proofs.SetParts.{AllSubs, AllParts, EachPart, all_parts}
+use Rattle.vms_spec.proofs.WellFormedLaws.{device_parts, sub_clean}
+
+-- ---- bytes
+
+abbrev pub AreBytes : List ℕ → Type 0
+AreBytes [] = Unit {0}
+AreBytes (x ∷ xs) = (x < 256) × AreBytes xs
+
+pub bytes_append : (xs ys : List ℕ) → AreBytes xs → AreBytes ys → AreBytes (xs ++ ys)
+bytes_append [] ys p q = q
+bytes_append (x ∷ xs) ys p q = (p.0, bytes_append xs ys p.1 q)
+
+pub bytes_at : (xs : List ℕ) → AreBytes xs → IsBytes xs
+bytes_at [] p i = omega arith
+bytes_at (x ∷ xs) p zero = p.0
+bytes_at (x ∷ xs) p (suc i) = bytes_at xs p.1 i
+
+abbrev pub below : List ℕ → Bool
+below [] = true
+below (x ∷ xs) = nat_lt x 256 && below xs
+
+pub spelled : (xs : List ℕ) → below xs ≡ true → AreBytes xs
+spelled [] e = tt
+spelled (x ∷ xs) e = let p = and_parts (nat_lt x 256) (below xs) e in (ltb-true x 256 p.0, spelled xs p.1)
+
+-- ---- names
+
+-- a name that fits its byte of length
+pub record IsNamed (name : List ℕ) : Type 0 where
+  pub octets : AreBytes name
+  pub short : length name < 256
+
+abbrev AreNamed : List Device → Type 0
+AreNamed devices = AllParts (λ d. IsNamed d.name) devices
+
+abbrev AreNamedSubs : List Sub → Type 0
+AreNamedSubs subs = AllSubs (λ d. IsNamed d.name) subs
+
+-- ---- numbers
+
+byte-small : (k n : ℕ) → byte_at k n < 256
+byte-small zero n = omega arith
+byte-small (suc k) n = omega arith
+
+high-bytes : (k n : ℕ) → AreBytes (bytes_high_first k n)
+high-bytes zero n = tt
+high-bytes (suc k) n = (byte-small k n, high-bytes k n)
+
+be32-bytes : (n : ℕ) → AreBytes (be32 n)
+be32-bytes n = high-bytes 4 n
+
+code-bytes : (kind : Kind) (z : ℤ) → AreBytes (code kind z)
+unfolding code
+code-bytes kind z = high-bytes (width kind) (residue (width kind) z)
+
+zeros-bytes : (n : ℕ) → AreBytes (replicate n 0)
+zeros-bytes zero = tt
+zeros-bytes (suc n) = (omega arith, zeros-bytes n)
+
+zeroed-bytes : (numbers : List ℤ) (slots : List Slot) → AreBytes (zeroed numbers slots)
+zeroed-bytes numbers [] = tt
+zeroed-bytes numbers (Number c kind capacities ∷ slots) =
+    bytes_append (code kind (get_or numbers c (pos 0))) (zeroed numbers slots) (code-bytes kind (get_or numbers c (pos 0))) (zeroed-bytes numbers slots)
+zeroed-bytes numbers (Constant kind z ∷ slots) = bytes_append (code kind z) (zeroed numbers slots) (code-bytes kind z) (zeroed-bytes numbers slots)
+zeroed-bytes numbers (Filler n ∷ slots) = bytes_append (replicate n 0) (zeroed numbers slots) (zeros-bytes n) (zeroed-bytes numbers slots)
+zeroed-bytes numbers (Rule b ∷ slots) = zeroed-bytes numbers slots
+
+-- ---- sections
+
+head-bytes : (id instance version : ℕ) (name : List ℕ) → AreBytes name → length name < 256 → AreBytes (section_head id name instance version)
+head-bytes id instance version name p short =
+    let named : AreBytes (length name ∷ name) = (short, p) in (
+      omega arith,
+      bytes_append (be32 id ++ (length name ∷ name) ++ be32 instance) (be32 version)
+          (bytes_append (be32 id ++ (length name ∷ name)) (be32 instance)
+          (bytes_append (be32 id) (length name ∷ name) (be32-bytes id) named) (be32-bytes instance))
+          (be32-bytes version),
+    )
+
+sub-head-bytes : (name : List ℕ) (v : ℕ) → AreBytes name → length name < 256 → AreBytes (sub_head name v)
+sub-head-bytes name v p short =
+    let named : AreBytes (length name ∷ name) = (short, p) in
+    (omega arith, bytes_append (length name ∷ name) (be32 v) named (be32-bytes v))
+
+foot-bytes : (id : ℕ) → AreBytes (foot id)
+foot-bytes id = (omega arith, be32-bytes id)
+
+module _ (set : Set) where
+  subs-bytes : (d : Device) (image : Image) (at : ℕ) (subs : List Sub) (came : List (Option ℕ)) → AreNamedSubs subs → AreBytes (written_subs set d image at subs came)
+  subs-bytes d image at [] came named = tt
+  subs-bytes d image at (s ∷ subs) [] named = tt
+  subs-bytes d image at (s ∷ subs) (None ∷ came) named = subs-bytes d image (at + length (desc_cells (struct_cells set) s.desc)) subs came named.1
+  subs-bytes d image at (s ∷ subs) (Some v ∷ came) named =
+      let next = at + length (desc_cells (struct_cells set) s.desc) in
+      bytes_append (sub_head s.desc.name v ++ zeroed image.numbers (sub_slots set s v image.numbers at)) (written_subs set d image next subs came)
+      (bytes_append (sub_head s.desc.name v) (zeroed image.numbers (sub_slots set s v image.numbers at)) (sub-head-bytes s.desc.name v named.0.octets named.0.short)
+      (zeroed-bytes image.numbers (sub_slots set s v image.numbers at)))
+      (subs-bytes d image next subs came named.1)
+
+  section-bytes : (d : Device) (image : Image) (id : ℕ) → IsNamed d.desc.name → AreNamedSubs d.subs → AreBytes (written_section set d image id)
+  section-bytes d image id named subs =
+      let head : List ℕ = section_head id d.desc.name d.instance image.version in
+      let body : List ℕ = zeroed image.numbers (own_slots set d image.version image.numbers) in
+      let after : List ℕ = written_subs set d image (own_cells set d) d.subs image.came in
+      bytes_append (head ++ body ++ after) (foot id)
+      (bytes_append (head ++ body) after
+      (bytes_append head body (head-bytes id d.instance image.version d.desc.name named.octets named.short) (zeroed-bytes image.numbers (own_slots set d image.version image.numbers)))
+      (subs-bytes d image (own_cells set d) d.subs image.came subs))
+      (foot-bytes id)
+
+  sections-bytes : (id : ℕ) (devices : List Device) (images : List Image) → AreNamed devices → AreBytes (written_sections set id devices images)
+  sections-bytes id [] images named = tt
+  sections-bytes id (d ∷ devices) [] named = tt
+  sections-bytes id (d ∷ devices) (image ∷ images) named =
+      bytes_append (written_section set d image id) (written_sections set (suc id) devices images)
+      (section-bytes d image id named.0 named.1) (sections-bytes (suc id) devices images named.2)
+
+  config-bytes : (machine : Option (List ℕ)) → IfSome machine AreBytes → AreBytes (optional configuration machine)
+  config-bytes None p = tt
+  config-bytes (Some name) p = (omega arith, bytes_append (be32 (length name)) name (be32-bytes (length name)) p)
+
+  text-bytes : (text : Option (List ℕ)) → IfSome text AreBytes → AreBytes (optional trailer text)
+  text-bytes None p = tt
+  text-bytes (Some text) p = (omega arith, bytes_append (be32 (length text)) text (be32-bytes (length text)) p)
+
+  written-bytes : (machine : Option (List ℕ)) (images : List Image) (text : Option (List ℕ)) → AreNamed set.devices → IfSome machine AreBytes → IfSome text AreBytes
+      → AreBytes (written set machine images text)
+  written-bytes machine images text named p q =
+      let sections : List ℕ = written_sections set 0 set.devices images in
+      bytes_append (stream_head ++ optional configuration machine ++ sections ++ end_mark) (optional trailer text)
+      (bytes_append (stream_head ++ optional configuration machine ++ sections) end_mark
+      (bytes_append (stream_head ++ optional configuration machine) sections
+      (bytes_append stream_head (optional configuration machine) (spelled stream_head refl) (config-bytes machine p))
+      (sections-bytes 0 set.devices images named))
+      (omega arith, tt))
+      (text-bytes text q)
+
+-- ---- well-formed sets
+
+pick : (p q : Bool) (G : Type 0) → (p ≡ true → G) → (q ≡ true → G) → (p || q) ≡ true → G
+pick true q G f g h = f refl
+pick false q G f g h = g h
+
+name_byte : (b : ℕ) → is_name_byte b ≡ true → b < 256
+name_byte b h =
+    let within : (lo hi : ℕ) → hi < 256 → (nat_le lo b && nat_le b hi) ≡ true → b < 256 = λ lo hi lt e.
+    let top : b ≤ hi = leb-true b hi (and_parts (nat_le lo b) (nat_le b hi) e).1 in omega arith in
+    let one : (k : ℕ) → k < 256 → (b == k) ≡ true → b < 256 = λ k lt e. let same : b ≡ k = eqb-true b k e in omega arith in
+    pick _ (b == 46) (b < 256)
+    (pick _ (b == 45) (b < 256)
+    (pick _ (b == 95) (b < 256)
+    (pick _ (nat_le 97 b && nat_le b 122) (b < 256)
+    (pick (nat_le 48 b && nat_le b 57) (nat_le 65 b && nat_le b 90) (b < 256) (within 48 57 (omega arith)) (within 65 90 (omega arith)))
+    (within 97 122 (omega arith)))
+    (one 95 (omega arith)))
+    (one 45 (omega arith)))
+    (one 46 (omega arith)) h
+
+every_bytes : (name : List ℕ) → list_all is_name_byte name ≡ true → AreBytes name
+every_bytes [] e = tt
+every_bytes (b ∷ name) e = let p = and_parts (is_name_byte b) (list_all is_name_byte name) e in (name_byte b p.0, every_bytes name p.1)
+
+pub is_named : (most : ℕ) (name : List ℕ) → most < 256 → is_name most name ≡ true → IsNamed name
+is_named most name lt e =
+    let p = and_parts (nat_le 1 (length name) && nat_le (length name) most) (list_all is_name_byte name) e in
+    let top : length name ≤ most = leb-true (length name) most (and_parts (nat_le 1 (length name)) (nat_le (length name) most) p.0).1 in
+    record { octets = every_bytes name p.1; short = omega arith }
+
+sub_named : (device name : List ℕ) → is_name 100 device ≡ true → is_sub_name device name ≡ true → IsNamed name
+sub_named device name d e =
+    let p = and_parts (bytes_eq (take (length device + 1) name) (device ++ 47 ∷ [])) (is_name 64 (drop (length device + 1) name)) e in
+    let front : take (length device + 1) name ≡ device ++ 47 ∷ [] = (bytes_eq-Decides (take (length device + 1) name) (device ++ 47 ∷ [])).0 p.0 in
+    let rest = drop (length device + 1) name in
+    let own = is_named 100 device (omega arith) d in
+    let q = and_parts (nat_le 1 (length device) && nat_le (length device) 100) (list_all is_name_byte device) d in
+    let most : length device ≤ 100 = leb-true (length device) 100 (and_parts (nat_le 1 (length device)) (nat_le (length device) 100) q.0).1 in
+    let r = and_parts (nat_le 1 (length rest) && nat_le (length rest) 64) (list_all is_name_byte rest) p.1 in
+    let tail : length rest ≤ 64 = leb-true (length rest) 64 (and_parts (nat_le 1 (length rest)) (nat_le (length rest) 64) r.0).1 in
+    let whole : (device ++ 47 ∷ []) ++ rest ≡ name = subst (λ (l : List ℕ). l ++ rest ≡ name) front (take-append-drop (length device + 1) name) in
+    subst IsNamed whole (record {
+      octets = bytes_append (device ++ 47 ∷ []) rest (bytes_append device (47 ∷ []) own.octets (omega arith, tt)) (every_bytes rest r.1);
+      short = omega (arith, length-append (device ++ 47 ∷ []) rest, length-append device (47 ∷ []));
+    })
+
+module _ (set : Set) (well : WellFormed set) where
+  pub parts_named : EachPart (λ d. IsNamed d.name) set.devices
+  parts_named k d e =
+      let own : is_name 100 d.desc.name ≡ true = (device_parts set well k d e).0.own.0 in
+      (is_named 100 d.desc.name (omega arith) own, λ j s f. sub_named d.desc.name s.desc.name own (sub_clean set well k j d s e f).own.0)
+
+  set_true : AllTrue (set_rules set)
+  unfolding first_fault
+  set_true = all_true 1 (set_rules set) (here parts.Set) (or_else_none (failing 1 (set_rules set) (here parts.Set)) _ well).0
+
+  pub machine_bytes : (machine : Option (List ℕ)) → IfSome machine (λ m. is_one_of set.machines m ≡ true) → IfSome machine AreBytes
+  machine_bytes None h = tt
+  machine_bytes (Some name) h = (is_named 64 name (omega arith) (every_one (is_name 64) set.machines name set_true.0 h)).octets
+
+  -- with a machine's name and a description, where there are any
+  pub written_are_bytes : (machine : Option (List ℕ)) (images : List Image) (text : Option (List ℕ)) → IfSome machine AreBytes → IfSome text AreBytes
+      → AreBytes (written set machine images text)
+  written_are_bytes machine images text named told =
+      written-bytes set machine images text (all_parts (λ d. IsNamed d.name) set.devices parts_named) named told
