@@ -2,6 +2,7 @@ pub mod AlikeLaws
 pub mod ClockLaws
 pub mod Halves
 pub mod KeepLaws
+pub mod PortLaws
 pub mod Reached
 pub mod RestoredLaws
 pub mod RuleLaws

@@ -1,15 +1,17 @@
 -- Laws of the board that contracts name.
-use Rattle.std.specs.Prelude.{◌≡◌, ℕ, ◌+◌, ◌<◌, ◌==◌, Bool, true, List, [], ◌∷◌, if◌then◌else◌, min}
+use Rattle.std.specs.Prelude.{◌≡◌, ℕ, ◌+◌, ◌<◌, ◌==◌, ◌⊎◌, Bool, true, false, List, [], ◌∷◌, if◌then◌else◌, min}
 use Rattle.dev_base.specs.declared.limits.TheConstants.{LAST_MOMENT}
 use Rattle.dev_base.specs.Bits.{has}
 use Rattle.dev_base.specs.Levels.{IsLevel}
-use Rattle.dev_pic.specs.Pair.{lines_of}
+use Rattle.dev_pic.specs.Pair.{is_port, lines_of}
+use Rattle.dev_board.specs.Ports.{target_of}
 use Rattle.dev_board.specs.Sound.{IsSound, Alike}
 use Rattle.dev_board.specs.State.{State, power_on}
 use Rattle.dev_board.specs.Step.{step, observe, after_all}
 use Rattle.dev_board.specs.Wires.{is_wire}
 use Rattle.dev_board.specs.declared.event.Event.{Event}
 use Rattle.dev_board.specs.declared.event.Event.TheVariants.{Read, Write, Byte, Wait, Wire, Ack}
+use Rattle.dev_board.specs.declared.ports.Target.TheVariants.{Pair, Counter, Control, Register, Nothing}
 
 -- an event that there is: its byte is one, and its wire is one
 abbrev pub IsEvent : Event → Type 0
@@ -71,3 +73,13 @@ pub record Likeness : Type 0 where
   pub itself : (m : State) → Alike m m
   pub back : (m n : State) → Alike m n → Alike n m
   pub on : (m n o : State) → Alike m n → Alike n o → Alike m o
+
+-- the ports of a board: the pair's own; the counters' from 0x40 and the control port behind them; the serial port's eight
+-- registers from 0x3f8. Behind any other port is nothing
+pub record PortsAre : Type 0 where
+  pub pair : (level port : ℕ) → is_port level port ≡ true → target_of level port ≡ Pair
+  pub counter : (level counter : ℕ) → counter < 3 → target_of level (0x40 + counter) ≡ Counter counter
+  pub control : (level : ℕ) → target_of level 0x43 ≡ Control
+  pub register : (level offset : ℕ) → offset < 8 → target_of level (0x3f8 + offset) ≡ Register offset
+  pub nothing : (level port : ℕ) → is_port level port ≡ false → (port < 0x40) ⊎ (0x43 < port)
+      → (port < 0x3f8) ⊎ (0x3ff < port) → target_of level port ≡ Nothing

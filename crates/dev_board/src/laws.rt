@@ -1,6 +1,13 @@
 // Laws of the definitions, each stated by a function without a body.
-ghost use Rattle.dev_board.specs.Laws.{SoundStays, WiresStay, ClockGoesOn, AlikeStays, Likeness};
+ghost use Rattle.dev_board.specs.Laws.{PortsAre, SoundStays, WiresStay, ClockGoesOn, AlikeStays, Likeness};
 ghost use Rattle.dev_board.specs.SavedLaws.{SavedAreCells, SavedComesBack, SavedGoesOn, RestoredIsSound, SoundMeetsRules};
+
+/// What stands behind each I/O port: the pair behind its own, the three counters behind 0x40 to 0x42 and their control port
+/// at 0x43, the serial port's registers behind 0x3f8 to 0x3ff, and nothing behind any other.
+#[tactic(auto, using(crate::proofs::PortLaws::ports_are))]
+pub fn ports_law()
+    ensures { PortsAre }
+{}
 
 /// A board is sound at power on, and each event and each list of events keeps it so.
 #[tactic(auto, using(crate::proofs::SoundLaws::sound_stays_on))]

@@ -6,6 +6,7 @@ pub mod LineLaws
 pub mod ModeLaws
 pub mod PairLaws
 pub mod PlaceLemmas
+pub mod PollLaws
 pub mod RestoredLaws
 pub mod SavedLaws
 pub mod StepLaws

@@ -7,7 +7,7 @@ use Rattle.dev_base.specs.Levels.{IsLevel, MayRestore}
 use Rattle.dev_base.specs.declared.limits.TheConstants.{NEWEST}
 use Rattle.dev_base.specs.Bits.{has}
 use Rattle.dev_pic.specs.Cells.{kinds, saved_cells, IsChipCells}
-use Rattle.dev_pic.specs.Chip.{cascade_input, level_inputs, level_inputs_of, ltim_after, in_service_of, winner_at, taken, settled, commanded, written_even, written_odd}
+use Rattle.dev_pic.specs.Chip.{cascade_input, level_inputs, level_inputs_of, ltim_after, in_service_of, served_of, winner_at, taken, read_of, settled, commanded, written_even, written_odd}
 use Rattle.dev_pic.specs.Pair.{power_on, is_port, slave_int_of, lines_of, acked, settled_pair, read_pair, written_pair}
 use Rattle.dev_pic.specs.Saved.{chip_at, CanSave, CanRestore, pair_cells, pair_carried, hook_rule, fault_of, hook_restored}
 use Rattle.dev_pic.specs.Sound.{IsSoundChip, MeetsRules, PairHasRegisters, IsSoundPair}
@@ -130,6 +130,34 @@ pub record TakesWinner : Type 0 where
       → (taken winner chip).irr ≡ chip.irr
   pub served : (chip : Chip) (winner : ℕ) → chip.isr < 256 → winner < 8 → chip.auto_eoi ≡ false
       → has (taken winner chip).isr winner ≡ true
+
+-- OCW3 with bit 2 asks for a poll: the next read of either port answers 0x80 plus the winner, which is taken, or 0 where there
+-- is none, and the read after it is no poll
+pub record PollsOnce : Type 0 where
+  pub asked : (level value : ℕ) (chip : Chip) → has value 4 ≡ false → has value 3 ≡ true → has value 2 ≡ true
+      → (written_even level value chip).poll ≡ true
+  pub winner : (role : Role) (is_odd : Bool) (chip : Chip) (input : ℕ) → chip.poll ≡ true → winner_at role chip ≡ Some input
+      → read_of role is_odd chip ≡ (0x80 + input, taken input (record chip { poll = false }))
+  pub none : (role : Role) (is_odd : Bool) (chip : Chip) → chip.poll ≡ true → winner_at role chip ≡ None
+      → read_of role is_odd chip ≡ (0, record chip { poll = false })
+  pub once : (role : Role) (is_odd : Bool) (chip : Chip) → chip.poll ≡ true → (read_of role is_odd chip).1.poll ≡ false
+
+-- in special fully nested mode the master's cascade input blocks no request, so that a later interrupt of the slave comes
+-- through; every other input blocks as ever, and so does each of the slave's
+pub record NestsSpecially : Type 0 where
+  pub cascade : (chip : Chip) → chip.nested ≡ true → has (served_of Master chip) cascade_input ≡ false
+  pub others : (chip : Chip) (input : ℕ) → chip.nested ≡ true → input < 8 → input ≢ cascade_input
+      → has (served_of Master chip) input ≡ has (in_service_of chip) input
+  pub slave : (chip : Chip) → served_of Slave chip ≡ in_service_of chip
+
+-- the words 0x80 and 0x00 switch rotation in automatic end of interrupt on and off; with it the input that is taken has the
+-- lowest priority from then on, and without it priorities stay; in both its service ends at once
+pub record RotatesAtOnce : Type 0 where
+  pub words : (level : ℕ) (chip : Chip)
+      → (written_even level 0x80 chip ≡ record chip { rotate = true }) × (written_even level 0x00 chip ≡ record chip { rotate = false })
+  pub ended : (chip : Chip) (winner : ℕ) → chip.auto_eoi ≡ true → (taken winner chip).isr ≡ chip.isr
+  pub rotated : (chip : Chip) (winner : ℕ) → chip.auto_eoi ≡ true → chip.rotate ≡ true → (taken winner chip).lowest ≡ winner
+  pub kept : (chip : Chip) (winner : ℕ) → chip.auto_eoi ≡ true → chip.rotate ≡ false → (taken winner chip).lowest ≡ chip.lowest
 
 -- whether an input is requested after lines are taken over: a level input by its line; an edge input where it was,
 -- or where its line rises, or where it is in the mask of edges

@@ -1,5 +1,5 @@
 // Laws of the definitions that the contracts of the pair cite. Each function does nothing; its clause is a law.
-ghost use Rattle.dev_pic.specs.Laws.{WinnerIsLeastRequest, MaskedNeverWins, LevelInputsAre, ServedBlocksLower, EoiEndsHighest, InitializesByWords, AckWithoutWinner, TakesWinner, TakesLinesOver, LinesAreTaken, LinesAreKept, StepsKeepRegisters, StepsKeepLevel, SoundMeetsRules, SavedAreCells, SavedIsRestored, FaultsAreTold, RestoredIsSound};
+ghost use Rattle.dev_pic.specs.Laws.{WinnerIsLeastRequest, MaskedNeverWins, LevelInputsAre, ServedBlocksLower, EoiEndsHighest, InitializesByWords, AckWithoutWinner, TakesWinner, PollsOnce, NestsSpecially, RotatesAtOnce, TakesLinesOver, LinesAreTaken, LinesAreKept, StepsKeepRegisters, StepsKeepLevel, SoundMeetsRules, SavedAreCells, SavedIsRestored, FaultsAreTold, RestoredIsSound};
 
 /// The winner is the requested input of highest priority, where it comes strictly before every input in
 /// service, and no other input is one ("Interrupt Request Register (IRR) and In-Service Register (ISR)",
@@ -52,6 +52,25 @@ pub fn default_law()
 #[tactic(auto, using(crate::proofs::ModeLaws::takes_winner))]
 pub fn service_law()
     ensures { TakesWinner }
+{}
+
+/// A poll answers 0x80 plus the winner, which is taken, or 0, at one read of either port ("The Poll Command").
+#[tactic(auto, using(crate::proofs::PollLaws::polls_once))]
+pub fn poll_law()
+    ensures { PollsOnce }
+{}
+
+/// In special fully nested mode the input of the slave blocks no request of the master, and every other input blocks as ever
+/// ("The Special Fully Nested Mode", but that on the chip it still blocks inputs of lower priority).
+#[tactic(auto, using(crate::proofs::PollLaws::nests_specially))]
+pub fn special_nesting_law()
+    ensures { NestsSpecially }
+{}
+
+/// With rotation in automatic EOI the input that is taken has the lowest priority from then on ("Automatic Rotation").
+#[tactic(auto, using(crate::proofs::PollLaws::rotates_at_once))]
+pub fn rotation_law()
+    ensures { RotatesAtOnce }
 {}
 
 /// Which inputs are requested after the lines are taken over ("Edge and Level Triggered Modes").

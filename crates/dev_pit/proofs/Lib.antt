@@ -12,3 +12,4 @@ pub mod RestoredLaw
 pub mod SavedLaw
 pub mod SoundLaws
 pub mod SoundSteps
+pub mod StatusLaw

@@ -1,14 +1,16 @@
 -- Laws of the chip that contracts name.
-use Rattle.std.specs.Prelude.{◌≡◌, ℕ, ◌-◌, ◌<◌, ◌≤◌, true, false, ◌||◌, Some, None, Ok, List, ℤ, length, ◌↔◌}
+use Rattle.std.specs.Prelude.{◌≡◌, ℕ, ◌-◌, ◌/◌, ◌%◌, ◌<◌, ◌≤◌, true, false, ◌||◌, Some, None, Ok, List, ℤ, length, ◌↔◌}
 use Rattle.vms_hooks.specs.Numbers.{Numbers}
+use Rattle.dev_base.specs.Bits.{has}
 use Rattle.dev_base.specs.Levels.{IsLevel, MayRestore}
 use Rattle.dev_base.specs.Rules.{first_failing}
 use Rattle.dev_base.specs.declared.limits.TheConstants.{NEWEST, LAST_MOMENT}
 use Rattle.dev_pit.specs.Calls.{Call, IsCall, called, programs, loads, reads_latch}
 use Rattle.dev_pit.specs.Cells.{pit_cells, carried, AreCellsOf, IsPitCells}
 use Rattle.dev_pit.specs.Count.{ticks, out_at}
-use Rattle.dev_pit.specs.Counter.{edge_of}
+use Rattle.dev_pit.specs.Counter.{edge_of, out_of, status_of}
 use Rattle.dev_pit.specs.GoesOn.{GoesOn}
+use Rattle.dev_pit.specs.Mode.{mode_number, access_number}
 use Rattle.dev_pit.specs.Pit.{IsLoadedBy, counter_of, new_pit, pit_read, pit_written, pit_out}
 use Rattle.dev_pit.specs.Saved.{CanSave, CanRestore, rules, hook_restored}
 use Rattle.dev_pit.specs.Sound.{IsSoundPit}
@@ -54,6 +56,18 @@ pub record TerminalCountStays : Type 0 where
   pub in_calls : (k now later moment : ℕ) (call : Call) (pit : Pit) → k < 3 → IsCall call
       → programs k call ≡ false → loads k call pit ≡ false → (counter_of k pit).mode ≡ TerminalCount
       → now ≤ later → pit_out k now pit ≡ true → pit_out k later (called call moment pit) ≡ true
+
+-- the status byte: OUT in bit 7, bit 6 clear, since a written count is in force at once; RW in bits 5 and 4, the mode in
+-- bits 3 to 1, and BCD in bit 0
+pub record TellsStatus (counter : Counter) (now status : ℕ) : Type 0 where
+  pub out : has status 7 ≡ out_of counter now
+  pub null : has status 6 ≡ false
+  pub access : status / 16 % 4 ≡ access_number counter.access
+  pub mode : status / 2 % 8 ≡ mode_number counter.mode
+  pub bcd : has status 0 ≡ counter.bcd
+
+pub record StatusTells : Type 0 where
+  pub tells : (counter : Counter) (now : ℕ) → TellsStatus counter now (status_of counter now)
 
 -- a latched count stays through every call that neither reads its last byte nor programs the counter, and what is read of it is the same at any moment
 pub record LatchStays : Type 0 where

@@ -1,5 +1,5 @@
 // Laws of the definitions, each stated by a function without a body.
-ghost use Rattle.dev_pit.specs.Laws.{TicksGoOn, EdgeInParts, EdgeTurnsHigh, CountingGoesOn, TerminalCountStays, LatchStays, SoundStays, StepsKeepLevel, SoundMeetsRules, SavedAreCells, SavedIsRestored, RestoredIsSound};
+ghost use Rattle.dev_pit.specs.Laws.{TicksGoOn, EdgeInParts, EdgeTurnsHigh, CountingGoesOn, TerminalCountStays, StatusTells, LatchStays, SoundStays, StepsKeepLevel, SoundMeetsRules, SavedAreCells, SavedIsRestored, RestoredIsSound};
 
 /// Ticks never go back.
 #[tactic(auto, using(crate::proofs::Edges::ticks_go_on))]
@@ -29,6 +29,13 @@ pub fn counting_law()
 #[tactic(auto, using(crate::proofs::CallLaws::terminal_count_stays))]
 pub fn terminal_count_law()
     ensures { TerminalCountStays }
+{}
+
+/// The status byte: OUT in bit 7, bit 6 clear, RW in bits 5 and 4, the mode in bits 3 to 1, BCD in bit 0. The chip's bit 6
+/// is set while a written count isn't in force; here it is in force at once.
+#[tactic(auto, using(crate::proofs::StatusLaw::status_tells))]
+pub fn status_law()
+    ensures { StatusTells }
 {}
 
 /// A latched count stays until its last byte is read or the counter is programmed, and time doesn't change

@@ -26,15 +26,19 @@ module _ (port : Port) where
       (either Answers (offset == 5) _ _ refl
       (either Answers (offset == 6) _ _ refl refl))))))
 
-  cleared : (second first : Bool) → Keeps (transmitter_cleared second (receiver_cleared first port))
-  cleared true true = refl
-  cleared true false = refl
-  cleared false true = refl
-  cleared false false = refl
+  -- what the FIFO control register clears has neither the level nor the divisor
+  abbrev Stays : Port → Type 0
+  Stays after = Keeps after × (after.divisor ≡ port.divisor)
 
-  switched : (value : ℕ) (before after : Option Trigger) → Keeps (fcr_cleared before after value port)
+  cleared : (second first : Bool) → Stays (transmitter_cleared second (receiver_cleared first port))
+  cleared true true = (refl, refl)
+  cleared true false = (refl, refl)
+  cleared false true = (refl, refl)
+  cleared false false = (refl, refl)
+
+  pub switched : (value : ℕ) (before after : Option Trigger) → Stays (fcr_cleared before after value port)
   unfolding fcr_cleared
-  switched value None None = refl
+  switched value None None = (refl, refl)
   switched value None (Some after) = cleared true true
   switched value (Some before) None = cleared true true
   switched value (Some before) (Some after) = cleared (has value 2) (has value 1)
@@ -44,7 +48,7 @@ module _ (port : Port) where
   write offset value now =
       either Keeps (offset == 0) _ _ (either Keeps (has port.lcr 7) _ _ refl refl)
       (either Keeps (offset == 1) _ _ (either Keeps (has port.lcr 7) _ _ refl refl)
-      (either Keeps (offset == 2) _ _ (either Keeps (nat_le 2 port.level) _ _ (switched value port.fifos (switch_of value)) refl)
+      (either Keeps (offset == 2) _ _ (either Keeps (nat_le 2 port.level) _ _ (switched value port.fifos (switch_of value)).0 refl)
       (either Keeps (offset == 3) _ _ refl
       (either Keeps (offset == 4) _ _ refl
       (either Keeps (offset == 5) _ _ refl

@@ -1,6 +1,7 @@
--- Laws of the identification and of the FIFO control register, in the data sheet's words.
-use Rattle.std.specs.Prelude.{◌≡◌, ℕ, ◌<◌, ◌↔◌, true, false, ◌&&◌, not, if◌then◌else◌, [], None, is_some}
-use Rattle.dev_serial.specs.Access.{is_empty, switch_of, fcr_written}
+-- Laws of the identification, of the FIFO control register, of the divisor latch and of the modem status in loop
+-- mode, in the data sheet's words.
+use Rattle.std.specs.Prelude.{◌≡◌, ℕ, ◌+◌, ◌*◌, ◌/◌, ◌%◌, ◌<◌, ◌↔◌, true, false, ◌&&◌, not, if◌then◌else◌, [], None, is_some}
+use Rattle.dev_serial.specs.Access.{is_empty, switch_of, fcr_written, msr_of, read_of, written}
 use Rattle.dev_base.specs.Bits.{has}
 use Rattle.dev_serial.specs.Port.{Port, asks, interrupt, is_pending, line_of}
 use Rattle.dev_serial.specs.declared.interrupt.Interrupt.{Interrupt}
@@ -69,3 +70,29 @@ pub record IsSwitched (value : ℕ) (before after : Port) : Type 0 where
 
 abbrev pub WritesSwitch : Type 0
 WritesSwitch = (value : ℕ) (port : Port) → IsSwitched value port (fcr_written value port)
+
+-- with bit 7 of the line control register, offsets 0 and 1 are the divisor's low and high byte: a read of one
+-- gives it and changes nothing, and a write of both sets the divisor and nothing else. Without the bit no write
+-- changes the divisor
+pub record ReachesDivisor : Type 0 where
+  pub low : (now : ℕ) (port : Port) → has port.lcr 7 ≡ true
+      → read_of 0 now port ≡ (port.divisor % 256, port)
+  pub high : (now : ℕ) (port : Port) → has port.lcr 7 ≡ true
+      → read_of 1 now port ≡ (port.divisor / 256, port)
+  pub both : (low high now later : ℕ) (port : Port) → low < 256 → has port.lcr 7 ≡ true
+      → written 1 high later (written 0 low now port) ≡ record port { divisor = 256 * high + low }
+  pub hidden : (offset value now : ℕ) (port : Port) → has port.lcr 7 ≡ false
+      → (written offset value now port).divisor ≡ port.divisor
+
+-- in loop mode the modem status are the modem control's outputs: clear to send is request to send, data set ready
+-- is data terminal ready, ring indicator is OUT1, and carrier detect is OUT2; and nothing has changed
+pub record IsLooped (mcr msr : ℕ) : Type 0 where
+  pub cts : has msr 4 ≡ has mcr 1
+  pub dsr : has msr 5 ≡ has mcr 0
+  pub ri : has msr 6 ≡ has mcr 2
+  pub dcd : has msr 7 ≡ has mcr 3
+  pub changes : msr % 16 ≡ 0
+
+pub record LoopsModem : Type 0 where
+  pub read : (now : ℕ) (port : Port) → read_of 6 now port ≡ (msr_of port.mcr, port)
+  pub looped : (mcr : ℕ) → has mcr 4 ≡ true → IsLooped mcr (msr_of mcr)

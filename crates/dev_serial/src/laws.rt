@@ -1,7 +1,7 @@
 // Laws of the definitions, each in a clause of a function that does nothing.
 ghost use Rattle.dev_serial.specs.Laws.{AlikeItself, AlikeBack, AlikeOn, ReadsKeepLevel, WritesKeepLevel, BytesInKeepLevel, AdvancesKeepLevel, ListsComeBack, HoldsWhatItGives, SavedAreCells, SavedComesBack, SoundMeetsRules, RestoredIsSound, ReadsAlike, WritesAlike, BytesInAlike, AdvancesAlike, SavesAlike, LinesAlike, PowerOnIsSound, ReadsKeepSound, WritesKeepSound, BytesInKeepSound, AdvancesKeepSound};
 ghost use Rattle.dev_serial.specs.Recast.{RecastOnce};
-ghost use Rattle.dev_serial.specs.RegisterLaws.{IdentifiesFirst, LineTellsAsking, SwitchClearsBoth, ResetsByBits, StaysOff, WritesSwitch};
+ghost use Rattle.dev_serial.specs.RegisterLaws.{IdentifiesFirst, LineTellsAsking, SwitchClearsBoth, ResetsByBits, StaysOff, WritesSwitch, ReachesDivisor, LoopsModem};
 ghost use Rattle.dev_serial.specs.Sending.{SendsInOrder, ReplacesOne, LeavesForLine, AdvancesInParts, WaitsUntilDue, LoopsAtMoment, LongestCharacter};
 
 /// Each port is like itself, a port that is like another is so both ways, and what is like one of two
@@ -104,6 +104,19 @@ pub fn fifo_control_law()
     ensures reset { ResetsByBits }
     ensures stays_off { StaysOff }
     ensures written { WritesSwitch }
+{}
+
+/// With bit 7 of the Line Control Register the offsets 0 and 1 reach the divisor, its low and its high byte; without
+/// it no write changes the divisor.
+#[tactic(auto, using(crate::proofs::LatchLaws::reaches_divisor))]
+pub fn divisor_law()
+    ensures { ReachesDivisor }
+{}
+
+/// In loop mode the Modem Status Register reads the modem control's four outputs, and no change of them.
+#[tactic(auto, using(crate::proofs::LatchLaws::loops_modem))]
+pub fn modem_law()
+    ensures { LoopsModem }
 {}
 
 /// The cells of the newest set, where FIFOs that stood in rings alone are in counted arrays, are so already, and

@@ -14,7 +14,7 @@ use Rattle.vms_elements.proofs.SlotsOf.{elements_slots}
 use Rattle.vms_values_laws.proofs.AllCome.{short_are}
 use Rattle.vms_values_laws.proofs.Numbers.{AreShort}
 use Rattle.vms_values_laws.proofs.ReadyParts.{fine_both, AreGood, good_both}
-use Rattle.vms_values_laws.proofs.ReadySays.{elements_counted}
+use Rattle.vms_elements.proofs.Counting.{elements_counted}
 use Rattle.vms_analyze.specs.Wanted.{Bytes, Head, Foot, Line, element_want, sub_wants, device_wants}
 use Rattle.vms_analyze.specs.Telling.{told_part, told_subs, told_device_of, told_devices}
 use Rattle.vms_analyze.proofs.Following.{Follows, none_follows, one_follows, both_follow, follows_as, takes_bytes, takes_line, takes_foot, takes_head}

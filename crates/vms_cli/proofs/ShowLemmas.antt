@@ -1,5 +1,5 @@
 -- From what a load and a write say to how `show` ends.
-use Rattle.std.proofs.Common.{◌≡◌, ℕ, suc, ◌+◌, ◌<◌, ◌≤◌, Bool, true, List, ◌∷◌, ◌++◌, append-nil, length, get_or, map, drop, Option, Some, None, Ok, Err, IfSome, IsSomeAnd, refl, sym, ap, ◌∙◌, subst, arith, []}
+use Rattle.std.proofs.Common.{◌≡◌, ℕ, suc, ◌+◌, ◌<◌, ◌≤◌, Bool, true, List, ◌∷◌, ◌++◌, append-nil, length, get_or, map, drop, inl, inr, Option, Some, None, Ok, Err, IfSome, IsSomeAnd, refl, sym, ap, ◌∙◌, subst, arith, []}
 use Rattle.std.proofs.lemmas.List.{length-map, get_or-map}
 use Rattle.std.specs.Option.{ForSome}
 use Rattle.std.proofs.lemmas.Option.{same_Some}
@@ -13,6 +13,7 @@ use Rattle.vms_spec.specs.Layout.{no_desc}
 use Rattle.vms_spec.specs.Sets.{Device, Set}
 use Rattle.vms_spec.specs.Images.{Image}
 use Rattle.vms_spec.specs.Values.{values_text}
+use Rattle.vms_spec.specs.WellFormed.{WellFormed}
 use Rattle.vms_spec.specs.Good.{IsFit}
 use Rattle.vms_stream.specs.Faults.{Fault}
 use Rattle.vms_stream.specs.Streams.{Takes}
@@ -20,7 +21,6 @@ use Rattle.vms_stream.proofs.Stated.{one_stream_holds, never_both_holds, one_fau
 use Rattle.vms_frames.specs.declared.fault.Refusal.{Refusal}
 use Rattle.vms_load.specs.Loads.{Loads}
 use Rattle.vms_load.specs.Staging.{IsMachine, AreShaped, no_image, name_of, accepted_of, most_given}
-use Rattle.vms_load.proofs.Bounding.{most_small}
 use Rattle.vms_load.specs.declared.fault.LoadFault.{LoadFault}
 use Rattle.vms_load.specs.declared.fault.LoadFault.TheVariants as faults
 use Rattle.vms_desc.specs.Described.{device_at}
@@ -40,9 +40,7 @@ use Rattle.vms_load.proofs.ExactLoads.{heard_holds}
 use Rattle.vms_load.specs.Hearing.{HearsLoad}
 use Rattle.vms_board_commands.proofs.HeardLemmas.{IsOther, all_of, all_taken, written_end}
 use Rattle.vms_board_commands.specs.Heard.{Hears, HearsEnd}
-use Rattle.vms_cli.specs.Show.{GivesWithin, Shows, ShowsWell, Values, Refuses, most_of_all}
-use Rattle.vms_load.proofs.SetFacts.{well_of}
-use Rattle.vms_spec.specs.Heads.{FitsHeads}
+use Rattle.vms_cli.specs.Show.{GivesWithin, Shows, ShowsWell, Values, Refuses}
 
 abbrev no_device : Device
 no_device = record { instance = 0; desc = no_desc; subs = [] }
@@ -139,23 +137,18 @@ module _ (set : Set) where
       let is : IsOf set (device_at set k) (state_of (get_or images k no_image)) = record { cells = shape.cells; subs = shape.subs; few = omega (arith, shape.cells, few_cells set well k) } in
       subst (λ (x : Image). IsOf set (device_at set k) x) (sym (get_or-map state_of images k no_image (state_of no_image) (omega (arith, lt, h.all)))) is)
 
--- ---- the bytes of any set
-
-pub most_for : (set : Set) → is_well_formed set ≡ true → most_given set ≤ most_of_all
-most_for set well = omega (arith, most_small set well)
-
 -- ---- how many bytes the input gives
 
 pub gives_none : (step : Step Set) (i : Intake) → GivesWithin step i i
-gives_none Untold i = omega arith
+gives_none Untold i = inl refl
 gives_none (Gives set) i = omega arith
 gives_none (Ends status line) i = refl
 
 pub gives_within : {T : Type 0} (m : T → Set) (step : Step Set) (t : T) (i i' : Intake) → StepAs m step (Ok t)
-    → i'.given ≤ i.given + most_given (m t) → most_given (m t) ≤ most_of_all → GivesWithin step i i'
-gives_within m Untold t i i' h within most = omega (arith, within, most)
-gives_within m (Gives set) t i i' h within most = subst (λ (y : Set). i'.given ≤ i.given + most_given y) h within
-gives_within m (Ends status line) t i i' h within most = absurd h
+    → i'.given ≤ i.given + most_given (m t) → WellFormed (m t) → GivesWithin step i i'
+gives_within m Untold t i i' h within well = inr (m t, well, within)
+gives_within m (Gives set) t i i' h within well = subst (λ (y : Set). i'.given ≤ i.given + most_given y) h within
+gives_within m (Ends status line) t i i' h within well = absurd h
 
 -- ---- what is heard of a stream or of a refusal
 

@@ -1,5 +1,5 @@
 -- The command `show`: its outcome, and what it can answer.
-use Rattle.std.specs.Prelude.{◌≡◌, ◌⊎◌, ℕ, ◌+◌, ◌≤◌, ◌^◌, Bool, true, false, List, Option, IsSomeAnd}
+use Rattle.std.specs.Prelude.{◌≡◌, ◌⊎◌, ℕ, ◌+◌, ◌≤◌, Bool, true, false, List, Option, IsSomeAnd}
 use Rattle.std.specs.Io.KnownBytes.{Keeps}
 use Rattle.vms_io.specs.Shelves.{Held}
 use Rattle.vms_io.specs.Told.{Intake, Outlet}
@@ -29,14 +29,11 @@ pub data Shows (set : Set) (input : List ℕ) (held : Option Held) : Outcome →
 abbrev pub ShowsBy : Step Set → Option (List ℕ) → Option Held → Outcome → Type 0
 ShowsBy step input held o = HasBy (λ set x. IsSomeAnd input (λ bytes. Shows set bytes held x)) step o
 
--- as many bytes as a stream of any well-formed set may have, with a unit at fault
-abbrev pub most_of_all : ℕ
-most_of_all = 16777759 + 2 ^ 32
-
--- how many bytes the input gives at most: as a stream of the set may have; of any set, where it isn't told which; and none
--- where there is no set
+-- how many bytes the input gives at most: as a stream of the set may have; of a well-formed set, where it isn't told which, or
+-- none; and none where there is no set
 abbrev pub GivesWithin : Step Set → Intake → Intake → Type 0
-GivesWithin Untold input input' = input'.given ≤ input.given + most_of_all
+GivesWithin Untold input input' =
+    (input' ≡ input) ⊎ ((set : Set) × WellFormed set × (input'.given ≤ input.given + most_given set))
 GivesWithin (Gives set) input input' = input'.given ≤ input.given + most_given set
 GivesWithin (Ends status line) input input' = input' ≡ input
 

@@ -6,5 +6,7 @@ pub mod Known
 pub mod NeededSame
 pub mod OneBack
 pub mod OneLost
+pub mod PartnerLaws
+pub mod PartnerSteps
 pub mod RecastOf
 pub mod Rows

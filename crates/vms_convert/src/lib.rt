@@ -2,3 +2,6 @@
 #![tactic(auto)]
 
 pub mod laws;
+mod pairing;
+
+pub use pairing::partners;

@@ -6,6 +6,7 @@ pub mod SlotsOf
 pub mod CountUp
 pub mod LinesOf
 pub mod Members
+pub mod Counting
 pub mod PathsOf
 pub mod DevicePaths
 pub mod Stated

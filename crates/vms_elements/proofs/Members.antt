@@ -1,6 +1,6 @@
 -- What holds of each element of a list, and of one of them.
-use Rattle.std.proofs.Common.{List, [], ◌∷◌, ◌++◌, map}
-use Rattle.std.proofs.Common.{◌⊎◌, inl, inr}
+use Rattle.std.proofs.Common.{◌≡◌, ◌⊎◌, inl, inr, ℕ, zero, suc, List, [], ◌∷◌, ◌++◌, map, Some, subst}
+use Rattle.std.specs.List.{slice_get}
 use Rattle.vms_elements.specs.Elements.{Element}
 
 abbrev pub Each : (Element → Type 0) → List Element → Type 0
@@ -14,6 +14,11 @@ each_append P (x ∷ xs) ys (p, h) k = (p, each_append P xs ys h k)
 pub each_map : (P Q : Element → Type 0) (f : Element → Element) → ((x : Element) → P x → Q (f x)) → (xs : List Element) → Each P xs → Each Q (map f xs)
 each_map P Q f go [] h = tt
 each_map P Q f go (x ∷ xs) (p, h) = (go x p, each_map P Q f go xs h)
+
+pub each_at : (P : Element → Type 0) (xs : List Element) (i : ℕ) (x : Element) → slice_get xs i ≡ Some x → Each P xs → P x
+each_at P [] i x e h = cc
+each_at P (y ∷ xs) zero x e h = let same : y ≡ x = cc in subst P same h.0
+each_at P (y ∷ xs) (suc i) x e h = each_at P xs i x e h.1
 
 abbrev pub Has : (Element → Type 0) → List Element → Type 0
 Has P [] = ⊥

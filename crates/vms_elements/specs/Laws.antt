@@ -1,11 +1,12 @@
 -- What the list of elements means in the words of the definitions, and which paths cells have.
-use Rattle.std.specs.Prelude.{◌≡◌, ℕ, ◌<◌, List, length, map, get_or, Option, Some, None, ℤ}
+use Rattle.std.specs.Prelude.{◌≡◌, ℕ, ◌<◌, true, List, length, map, get_or, Option, Some, None, ℤ}
 use Rattle.std.specs.List.{slice_get}
 use Rattle.vms_spec.specs.Sets.{Desc, Device, Set}
-use Rattle.vms_spec.specs.Layout.{no_cell, desc_cells, struct_cells, device_cells, desc_slots, meanings}
+use Rattle.vms_spec.specs.Layout.{Cell, no_cell, desc_cells, struct_cells, device_cells, desc_slots, meanings}
 use Rattle.vms_spec.specs.Images.{Image, image_slots}
-use Rattle.vms_spec.specs.Places.{desc_of_sub, cell_at}
+use Rattle.vms_spec.specs.Places.{desc_of_sub, path_at, cell_at}
 use Rattle.vms_spec.specs.Values.{values_text}
+use Rattle.vms_elements.specs.Elements.{Element, Number}
 use Rattle.vms_elements.specs.Parts.{elements_in, device_elements, cells_of, slots_of, numbers_in, CountsUp, field_named, IsFieldOf}
 use Rattle.vms_elements.specs.Lines.{text_of, values_lines}
 use Rattle.vms_elements.specs.Entries.{entries, entry_line}
@@ -28,6 +29,11 @@ pub record IsWholeDevice (set : Set) (d : Device) (image : Image) : Type 0 where
 abbrev pub DeviceLaw : Type 0
 DeviceLaw = (set : Set) (d : Device) (image : Image) → length image.came ≡ length d.subs → IsWholeDevice set d image
 
+-- what stands in the bytes is counted: it has its line in the values text
+abbrev pub CountedLaw : Type 0
+CountedLaw = (set : Set) (d : Desc) (v : ℕ) (numbers : List ℤ) (place i : ℕ) (x : Element) → slice_get (elements_in set d v numbers place) i ≡ Some x
+    → x.present ≡ true → x.counted ≡ true
+
 -- the lines are the values text
 abbrev pub TextLaw : Type 0
 TextLaw = (set : Set) (machine : Option (List ℕ)) (images : List Image) → text_of (values_lines set machine images) ≡ values_text set machine images
@@ -37,6 +43,11 @@ abbrev pub EntryLaw : Type 0
 EntryLaw = (set : Set) (machine : Option (List ℕ)) (images : List Image) → map entry_line (entries set machine images) ≡ values_lines set machine images
 
 -- ---- paths
+
+-- the path of a number among the elements of a description is that of its cell
+abbrev pub CellLaw : Type 0
+CellLaw = (set : Set) (d : Desc) (v : ℕ) (numbers : List ℤ) (place i : ℕ) (x : Element) (cell : Cell) → slice_get (elements_in set d v numbers place) i ≡ Some x
+    → x.what ≡ Number cell → path_at set x.path (length set.structs) (Some d) place ≡ Some x.cell
 
 pub record ArePaths (part part' : Option ℕ) (path path' : List (ℕ × ℕ)) : Type 0 where
   pub same_part : part ≡ part'

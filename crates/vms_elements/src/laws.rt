@@ -1,5 +1,5 @@
 //! Each law is the contract of a function without a body. The statements stand in `specs/Laws.antt`.
-ghost use Rattle.vms_elements.specs.Laws.{ElementsLaw, DeviceLaw, TextLaw, EntryLaw, DistinctLaw, PathLaw};
+ghost use Rattle.vms_elements.specs.Laws.{ElementsLaw, DeviceLaw, CountedLaw, TextLaw, EntryLaw, CellLaw, DistinctLaw, PathLaw};
 
 /// The elements of a description are its cells and its slots: its numbers are its cells, in order, and what stands in the
 /// bytes are its slots.
@@ -12,6 +12,11 @@ pub fn device_law()
     ensures { DeviceLaw }
 {}
 
+/// What stands in the bytes is counted, so it has its line in the values text.
+pub fn counted_law()
+    ensures { CountedLaw }
+{}
+
 /// The lines of the numbers that are counted, with the lines of sections and subsections, are the values text.
 #[tactic(auto, using(crate::proofs::Stated::text_law))]
 pub fn text_law()
@@ -22,6 +27,11 @@ pub fn text_law()
 #[tactic(auto, using(crate::proofs::EntryLines::entry_law))]
 pub fn entry_law()
     ensures { EntryLaw }
+{}
+
+/// The path of a number among the elements of a description is that of its cell.
+pub fn cell_law()
+    ensures { CellLaw }
 {}
 
 /// Distinct paths of a device have distinct cells.

@@ -1,5 +1,5 @@
 -- The laws as they are stated.
-use Rattle.std.proofs.Common.{length, Option, Some, arith, suc, ◌≡◌, ℕ, List, ◌++◌, refl, sym, ap, ◌∙◌, subst}
+use Rattle.std.proofs.Common.{length, Option, Some, None, IfSome, arith, suc, ◌≡◌, ◌≤◌, true, ℕ, List, ◌++◌, refl, sym, ap, ◌∙◌, subst}
 use Rattle.vms_spec.specs.Units.{Piece}
 use Rattle.vms_stream.specs.Dues.{Due}
 use Rattle.vms_stream.specs.Finding.{Found, Whole, unit_at}
@@ -8,7 +8,7 @@ use Rattle.vms_stream.proofs.Finding.There.{only}
 use Rattle.vms_stream.proofs.Finding.Shown.{Shows, shows}
 use Rattle.vms_spec.specs.declared.Reason.{Reason}
 use Rattle.vms_spec.specs.Images.{Image}
-use Rattle.vms_spec.specs.Streams.{written}
+use Rattle.vms_spec.specs.Streams.{is_one_of, longest_text, IsConfiguration, IsTrailer, optional, configuration, trailer, written}
 use Rattle.vms_spec.specs.Units.{spelled}
 use Rattle.vms_spec.specs.Readings.{Reading, Accepted, Refused}
 use Rattle.vms_spec.proofs.WellFormedLaws.{well_good}
@@ -17,7 +17,7 @@ use Rattle.vms_stream.specs.Judge.{judge, reading}
 use Rattle.vms_stream.specs.Laws.{Ends}
 use Rattle.vms_stream.specs.State.{State, by_state, at_start}
 use Rattle.vms_stream.specs.Streams.{Takes}
-use Rattle.vms_stream.specs.StreamLaws.{ToldLaw, AcceptedLaw, TakenLaw, LocalLaw, UnitsLaw, StreamLaw, GoesOn, FrontLaw, OneStreamLaw, Answer, Taken, Faulty, EitherLaw, NeverBothLaw, OneFaultLaw, SectionLaw, WrittenLaw, AreOneFault}
+use Rattle.vms_stream.specs.StreamLaws.{ToldLaw, AcceptedLaw, TakenLaw, LocalLaw, UnitsLaw, StreamLaw, GoesOn, FrontLaw, OneStreamLaw, Answer, Taken, Faulty, EitherLaw, NeverBothLaw, OneFaultLaw, SectionLaw, WrittenLaw, WholeLaw, AreOneFault}
 use Rattle.vms_stream.proofs.Finding.Advancing.{advances}
 use Rattle.vms_stream.proofs.Judging.Mirrors.{solid, state_accepts, state_refuses}
 use Rattle.vms_stream.proofs.Judging.Once.{local, told_from, Answer as Told, either, Well, Ill}
@@ -138,3 +138,20 @@ written_holds set names few machine text images configured described ready rest 
   long = refl;
   all = all;
 }
+
+configured : (names : List (List ℕ)) (machine : Option (List ℕ)) → IfSome machine (λ name. (is_one_of names name ≡ true) × (length name ≤ 255)) → IsConfiguration names machine (optional configuration machine)
+configured names None h = refl
+configured names (Some name) h = (h.0, h.1, refl)
+
+trailed : (text : Option (List ℕ)) → IfSome text (λ t. length t ≤ longest_text) → IsTrailer text (optional trailer text)
+trailed None h = refl
+trailed (Some text) h = (h, refl)
+
+pub whole_holds : WholeLaw
+whole_holds set names few machine text images named fits ready =
+    let c = configured names machine named in
+    let t = trailed text fits in
+    record {
+      stream = written_is_stream set names few machine text images c t ready.one_each ready.ready;
+      taken = λ rest all. written_holds set names few machine text images c t ready rest all;
+    }

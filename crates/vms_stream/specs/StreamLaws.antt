@@ -1,13 +1,13 @@
 -- The laws of streams and faults, each as a statement: for every well-formed set whose instances and versions fit the four
 -- bytes that heads have for them.
-use Rattle.std.specs.Prelude.{◌≡◌, ℕ, ◌+◌, ◌≤◌, List, [], ◌++◌, length, get_or, take, slice_set, Bool, true, false, Option, Some, None, ◌<◌}
+use Rattle.std.specs.Prelude.{◌≡◌, ℕ, ◌+◌, ◌≤◌, List, [], ◌++◌, length, get_or, take, slice_set, Bool, true, false, Option, Some, None, IfSome, ◌<◌}
 use Rattle.std.specs.List.{slice_get}
 use Rattle.vms_spec.specs.declared.Reason.{Reason}
 use Rattle.vms_kinds.specs.Bytes.{IsBytes}
 use Rattle.vms_spec.specs.declared.Reason.TheVariants as reasons
 use Rattle.vms_spec.specs.Sets.{Device, Set}
 use Rattle.vms_spec.specs.Images.{Image}
-use Rattle.vms_spec.specs.Streams.{IsReady, IsConfiguration, IsTrailer, optional, configuration, trailer, written_section, written, AreReady}
+use Rattle.vms_spec.specs.Streams.{is_one_of, longest_text, IsReady, IsConfiguration, IsTrailer, optional, configuration, trailer, written_section, written, AreReady}
 use Rattle.vms_spec.specs.WellFormed.{WellFormed}
 use Rattle.vms_spec.specs.Readings.{Reading, Accepted}
 use Rattle.vms_spec.specs.Units.{Piece, spelled}
@@ -164,3 +164,10 @@ WrittenLaw = (set : Set) (names : List (List ℕ)) → length set.devices ≤ 42
 pub record IsWholeStream (set : Set) (names : List (List ℕ)) (bytes : List ℕ) (machine : Option (List ℕ)) (images : List Image) (text : Option (List ℕ)) : Type 0 where
   pub stream : IsStream set names bytes machine images text
   pub taken : (rest : List ℕ) → (text ≡ None → rest ≡ []) → Takes set names (bytes ++ rest) (length bytes) machine images
+
+-- What the writer gives for ready images is a whole stream of the set, where the machine is one of the names and a stream has
+-- room for machine and text.
+abbrev pub WholeLaw : Type 0
+WholeLaw = (set : Set) (names : List (List ℕ)) → length set.devices ≤ 4294967296 → (machine text : Option (List ℕ)) (images : List Image)
+    → IfSome machine (λ name. (is_one_of names name ≡ true) × (length name ≤ 255)) → IfSome text (λ t. length t ≤ longest_text) → AreReady set images
+    → IsWholeStream set names (written set machine images text) machine images text

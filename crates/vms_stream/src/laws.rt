@@ -2,7 +2,7 @@
 //! judge over any state), `specs/StreamLaws.antt` (streams and faults) and `specs/Judged.antt` (what the calls of a cursor see).
 ghost use Rattle.vms_stream.specs.Laws.{FoundLaw, RefusesLaw, StateRefusesLaw};
 ghost use Rattle.vms_stream.specs.Judged.{JudgedLaw, NextLaw, SeenLaw};
-ghost use Rattle.vms_stream.specs.StreamLaws.{ToldLaw, AcceptedLaw, TakenLaw, LocalLaw, UnitsLaw, StreamLaw, FrontLaw, OneStreamLaw, EitherLaw, NeverBothLaw, OneFaultLaw, FurtherLaw, SectionLaw, SectionReadLaw, SectionFoundLaw, WrittenLaw};
+ghost use Rattle.vms_stream.specs.StreamLaws.{ToldLaw, AcceptedLaw, TakenLaw, LocalLaw, UnitsLaw, StreamLaw, FrontLaw, OneStreamLaw, EitherLaw, NeverBothLaw, OneFaultLaw, FurtherLaw, SectionLaw, SectionReadLaw, SectionFoundLaw, WrittenLaw, WholeLaw};
 
 /// What is found is spelled there and may come, what is spelled there and may come is found, and nothing is found exactly
 /// where none that may come is there.
@@ -104,6 +104,12 @@ pub fn section_law()
 /// with it takes exactly that, for every set.
 pub fn written_law()
     ensures { WrittenLaw }
+{}
+
+/// What the writer gives for ready images is a whole stream of the set, whatever its machine of the names or none, and whatever
+/// text a description section has room for, or none.
+pub fn whole_law()
+    ensures { WholeLaw }
 {}
 
 /// What a call of a cursor sees decides what the judge says: a fault and its length, a cut, and of a good unit all but the

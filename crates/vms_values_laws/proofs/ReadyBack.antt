@@ -32,7 +32,8 @@ use Rattle.vms_values_laws.proofs.Numbers.{AreShort}
 use Rattle.vms_values_laws.proofs.AllCome.{are_short}
 use Rattle.vms_values_laws.proofs.Rights.{AreRight, AreBare}
 use Rattle.vms_values_laws.proofs.ReadyParts.{AreGood}
-use Rattle.vms_values_laws.proofs.ReadySays.{elements_counted, bare_bytes, below_bytes, above_bytes, right_front, right_back, right_said, bare_have}
+use Rattle.vms_elements.proofs.Counting.{elements_counted}
+use Rattle.vms_values_laws.proofs.ReadySays.{bare_bytes, below_bytes, above_bytes, right_front, right_back, right_said, bare_have}
 
 -- ---- parts
 

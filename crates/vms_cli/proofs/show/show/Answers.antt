@@ -7,10 +7,11 @@ use Rattle.vms_commands.specs.Fetching.{is_on_shelf, word_set}
 use Rattle.vms_commands.proofs.EndLemmas.{quiet_same}
 use Rattle.vms_commands.proofs.StepLemmas.{ended_by, had_by}
 use Rattle.vms_board_commands.proofs.HeardLemmas.{given_so, heard_so, other_heard}
+use Rattle.vms_load.proofs.SetFacts.{well_of}
 use Rattle.vms_load.specs.declared.loader.Loader.{Loader}
 use Rattle.vms_spec.specs.Sets.{Set}
 use Rattle.vms_cli.specs.Show.{ShowsWell}
-use Rattle.vms_cli.proofs.ShowLemmas.{set_other, gives_none, gives_within, most_for, shows_under}
+use Rattle.vms_cli.proofs.ShowLemmas.{set_other, gives_none, gives_within, shows_under}
 use Rattle.vms_cli.proofs.show.show.Goals as goal
 
 pub returns-in-Ok-clause-content : goal.returns-in-Ok-clause-content
@@ -26,7 +27,7 @@ pub returns-in-Ok-clause-given : goal.returns-in-Ok-clause-given
 returns-in-Ok-clause-given g c =
     gives_within loads (word_set (g.H.Shelf.held c.args.shelf.now) (set_asked c.args.set)) c.in-Ok.loader
     (intake g.I.Source c.args.input.now) (intake g.I.Source c.show_stream.new.input) c.in-Ok.ensures.had c.show_stream.ensures.given
-    (most_for (loads c.in-Ok.loader) c.in-Ok.loader.set.well_formed)
+    (well_of (loads c.in-Ok.loader) c.in-Ok.loader.set.well_formed)
 
 pub returns-in-Err-clause-content : goal.returns-in-Err-clause-content
 returns-in-Err-clause-content g c = λ o has.

@@ -1,0 +1,85 @@
+-- What stands behind each port.
+use Rattle.std.proofs.Common.{◌≡◌, ◌≢◌, ℕ, ◌+◌, ◌-◌, ◌<◌, ◌≤◌, ◌==◌, ◌⊎◌, inl, inr, Bool, true, false, ◌&&◌, ◌||◌, if◌then◌else◌, refl, ap, ◌∙◌, arith}
+use Rattle.std.proofs.Math.Bool.{and-false}
+use Rattle.std.proofs.lemmas.Bool.{ne_eqb, le-leb, lt-leb}
+use Rattle.std.specs.Prelude.{nat_le}
+use Rattle.dev_pic.specs.Pair.{is_port}
+use Rattle.dev_board.specs.Laws.{PortsAre}
+use Rattle.dev_board.specs.Ports.{target_of}
+use Rattle.dev_board.specs.declared.ports.Target.{Target}
+use Rattle.dev_board.specs.declared.ports.Target.TheVariants.{Pair, Counter, Control, Register, Nothing}
+
+-- what stands behind a port that isn't the pair's
+abbrev other : ℕ → Target
+other port =
+    if nat_le 0x40 port && nat_le port 0x42 then Counter (port - 0x40)
+    else (if port == 0x43 then Control
+    else (if nat_le 0x3f8 port && nat_le port 0x3ff then Register (port - 0x3f8)
+    else Nothing))
+
+by_pair : (level port : ℕ) (own : Bool) → is_port level port ≡ own → target_of level port ≡ (if own then Pair else other port)
+unfolding target_of
+by_pair level port own is = ap (λ (b : Bool). if b then Pair else other port) is
+
+-- none of these ports, at any level
+none_of : (a b c d e f since : Bool) → a ≡ false → b ≡ false → c ≡ false → d ≡ false → e ≡ false → f ≡ false → (a || b || c || d || (since && (e || f))) ≡ false
+none_of a b c d e f since p q r s t u = rw (p, q, r, s, t, u, and-false since) refl
+
+not_pair : (level port : ℕ) → port ≢ 0x20 → port ≢ 0x21 → port ≢ 0xa0 → port ≢ 0xa1 → port ≢ 0x4d0 → port ≢ 0x4d1 → is_port level port ≡ false
+not_pair level port a b c d e f =
+    none_of (port == 0x20) (port == 0x21) (port == 0xa0) (port == 0xa1) (port == 0x4d0) (port == 0x4d1) _
+    (ne_eqb port 0x20 a) (ne_eqb port 0x21 b) (ne_eqb port 0xa0 c) (ne_eqb port 0xa1 d) (ne_eqb port 0x4d0 e) (ne_eqb port 0x4d1 f)
+
+counter_of : (port counter : ℕ) → 0x40 ≤ port → port ≤ 0x42 → port - 0x40 ≡ counter → other port ≡ Counter counter
+counter_of port counter low high back = rw (le-leb 0x40 port low, le-leb port 0x42 high) (ap Counter back)
+
+counter_at : (level counter : ℕ) → counter < 3 → target_of level (0x40 + counter) ≡ Counter counter
+counter_at level counter m =
+    let port = 0x40 + counter in
+    let own : is_port level port ≡ false = not_pair level port (λ e. absurd (omega arith)) (λ e. absurd (omega arith)) (λ e. absurd (omega arith)) (λ e. absurd (omega arith))
+    (λ e. absurd (omega arith)) (λ e. absurd (omega arith)) in
+    by_pair level port false own ∙ counter_of port counter (omega arith) (omega arith) (omega arith)
+
+control_at : (level : ℕ) → target_of level 0x43 ≡ Control
+control_at level =
+    by_pair level 0x43 false (not_pair level 0x43 (λ e. absurd (omega arith)) (λ e. absurd (omega arith)) (λ e. absurd (omega arith)) (λ e. absurd (omega arith))
+    (λ e. absurd (omega arith)) (λ e. absurd (omega arith)))
+
+register_of : (port offset : ℕ) → 0x3f8 ≤ port → port ≤ 0x3ff → port - 0x3f8 ≡ offset → other port ≡ Register offset
+register_of port offset low high back =
+    rw (le-leb 0x40 port (omega (arith, low)), lt-leb port 0x42 (omega (arith, low)), ne_eqb port 0x43 (λ e. absurd (omega (arith, low))), le-leb 0x3f8 port low, le-leb port 0x3ff high)
+    (ap Register back)
+
+register_at : (level offset : ℕ) → offset < 8 → target_of level (0x3f8 + offset) ≡ Register offset
+register_at level offset m =
+    let port = 0x3f8 + offset in
+    let own : is_port level port ≡ false = not_pair level port (λ e. absurd (omega arith)) (λ e. absurd (omega arith)) (λ e. absurd (omega arith)) (λ e. absurd (omega arith))
+    (λ e. absurd (omega arith)) (λ e. absurd (omega arith)) in
+    by_pair level port false own ∙ register_of port offset (omega arith) (omega arith) (omega arith)
+
+-- a port below or above a range isn't in it
+out_of : (low high port : ℕ) → (port < low) ⊎ (high < port) → (nat_le low port && nat_le port high) ≡ false
+out_of low high port (inl below) = rw (lt-leb low port below) refl
+out_of low high port (inr above) = rw (lt-leb port high above, and-false (nat_le low port)) refl
+
+wider : (port : ℕ) → (port < 0x40) ⊎ (0x43 < port) → (port < 0x40) ⊎ (0x42 < port)
+wider port (inl below) = inl below
+wider port (inr above) = inr (omega arith)
+
+not_control : (port : ℕ) → (port < 0x40) ⊎ (0x43 < port) → port ≢ 0x43
+not_control port (inl below) e = omega arith
+not_control port (inr above) e = omega arith
+
+nothing_at : (level port : ℕ) → is_port level port ≡ false → (port < 0x40) ⊎ (0x43 < port) → (port < 0x3f8) ⊎ (0x3ff < port) → target_of level port ≡ Nothing
+nothing_at level port own timer serial =
+    by_pair level port false own
+    ∙ rw (out_of 0x40 0x42 port (wider port timer), ne_eqb port 0x43 (not_control port timer), out_of 0x3f8 0x3ff port serial) refl
+
+pub ports_are : PortsAre
+ports_are = record {
+  pair = λ level port own. by_pair level port true own;
+  counter = counter_at;
+  control = control_at;
+  register = register_at;
+  nothing = nothing_at;
+}

@@ -1,0 +1,74 @@
+-- The status byte tells its four parts.
+use Rattle.std.proofs.Common.{◌≡◌, ℕ, ◌+◌, ◌*◌, ◌/◌, ◌%◌, ◌≤◌, ◌==◌, Bool, true, false, refl, ap, ◌∙◌, arith}
+use Rattle.dev_base.specs.Cells.{flag_number}
+use Rattle.dev_pit.specs.Counter.{out_of, status_of}
+use Rattle.dev_pit.specs.Laws.{TellsStatus, StatusTells}
+use Rattle.dev_pit.specs.Mode.{mode_number, access_number}
+use Rattle.dev_pit.specs.declared.counter.Counter.{Counter}
+use Rattle.dev_pit.specs.declared.mode.Mode.{Mode}
+use Rattle.dev_pit.specs.declared.mode.Mode.TheVariants.{TerminalCount, OneShot, RateGenerator, SquareWave, SoftwareStrobe, HardwareStrobe}
+use Rattle.dev_pit.specs.declared.mode.Access.{Access}
+use Rattle.dev_pit.specs.declared.mode.Access.TheVariants.{LowByte, HighByte, LowThenHigh}
+
+mode_small : (mode : Mode) → mode_number mode ≤ 5
+mode_small TerminalCount = omega arith
+mode_small OneShot = omega arith
+mode_small RateGenerator = omega arith
+mode_small SquareWave = omega arith
+mode_small SoftwareStrobe = omega arith
+mode_small HardwareStrobe = omega arith
+
+access_small : (access : Access) → access_number access ≤ 3
+access_small LowByte = omega arith
+access_small HighByte = omega arith
+access_small LowThenHigh = omega arith
+
+flag_small : (flag : Bool) → flag_number flag ≤ 1
+flag_small true = omega arith
+flag_small false = omega arith
+
+flag_back : (flag : Bool) → (flag_number flag == 1) ≡ flag
+flag_back true = refl
+flag_back false = refl
+
+-- the parts of a byte that is put together of them
+module _ (out access mode bcd : ℕ) (o : out ≤ 1) (a : access ≤ 3) (m : mode ≤ 5) (b : bcd ≤ 1) where
+  abbrev byte : ℕ
+  byte = 128 * out + 16 * access + 2 * mode + bcd
+
+  seventh : byte / 128 % 2 ≡ out
+  seventh = omega arith
+
+  sixth : byte / 64 % 2 ≡ 0
+  sixth = omega arith
+
+  accessed : byte / 16 % 4 ≡ access
+  accessed = omega arith
+
+  moded : byte / 2 % 8 ≡ mode
+  moded = omega arith
+
+  zeroth : byte / 1 % 2 ≡ bcd
+  zeroth = omega arith
+
+tells : (counter : Counter) (now : ℕ) → TellsStatus counter now (status_of counter now)
+unfolding status_of
+tells counter now =
+    let out = flag_number (out_of counter now) in
+    let access = access_number counter.access in
+    let mode = mode_number counter.mode in
+    let bcd = flag_number counter.bcd in
+    let o = flag_small (out_of counter now) in
+    let a = access_small counter.access in
+    let m = mode_small counter.mode in
+    let b = flag_small counter.bcd in
+    record {
+      out = ap (λ (n : ℕ). n == 1) (seventh out access mode bcd o a m b) ∙ flag_back (out_of counter now);
+      null = ap (λ (n : ℕ). n == 1) (sixth out access mode bcd o a m b);
+      access = accessed out access mode bcd o a m b;
+      mode = moded out access mode bcd o a m b;
+      bcd = ap (λ (n : ℕ). n == 1) (zeroth out access mode bcd o a m b) ∙ flag_back counter.bcd;
+    }
+
+pub status_tells : StatusTells
+status_tells = record { tells = tells }

@@ -1,0 +1,16 @@
+use Rattle.std.proofs.Common.{◌+◌, ap, refl, arith}
+use Rattle.vms_desc.specs.Described.{described}
+use Rattle.vms_desc.proofs.Clean.{few_fields}
+use Rattle.vms_convert.proofs.PartnerSteps.{behind_field, sum_small}
+use Rattle.vms_convert.proofs.pairing.behind.Goals as goal
+
+pub overflow_add-result : goal.overflow_add-result
+overflow_add-result c =
+    let side = c.args.side in
+    omega (arith, c.requires.field, few_fields (described side.set.now) side.set.now.well_formed side.part c.requires.side)
+
+pub overflow_add-result-2 : goal.overflow_add-result-2
+overflow_add-result-2 c = omega (arith, c.field_cells.ensures, sum_small c.args.side c.args.start c.requires.field c.requires.start)
+
+pub returns : goal.returns
+returns c = behind_field c.args.side c.args.start _ c.requires.field c.requires.start refl (ap (λ n. c.args.start.cell + n) c.field_cells.ensures)

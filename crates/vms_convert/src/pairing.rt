@@ -1,0 +1,381 @@
+// Which cell of a newer device each cell of an older one is paired with.
+ghost use Rattle.std.specs.Prelude.{◌≡◌, ◌++◌, ◌+◌, ◌*◌, ◌<◌, ◌≤◌, true, false, length, get_or, replicate, IfOk, None, OnOk, [], ◌∷◌, Some, if◌then◌else◌};
+ghost use Rattle.vms_desc.specs.Described.{described, device_at};
+ghost use Rattle.vms_desc.specs.Parts.{HasPart};
+ghost use Rattle.vms_spec.specs.Layout.{desc_cells, item_size, no_field, struct_cells};
+ghost use Rattle.vms_spec.specs.Rules.{uses_below};
+ghost use Rattle.vms_spec.specs.declared.TheConstants.{MOST_ITEMS};
+ghost use Rattle.vms_check.specs.Comparing.{is_absent, same_kind};
+ghost use Rattle.vms_check.specs.Partners.{device_partners};
+ghost use Rattle.vms_convert.specs.Partnering.{IsStart, IsNextStart, IsBehind, PairsField, HasFew};
+ghost use Rattle.vms_convert.specs.Partnering.{AreArrays, HasRoom, PairsElement};
+ghost use Rattle.vms_convert.specs.Partnering.{arrays_on, elements_left, elements_on, item_on, partners_on, struct_on, sub_on};
+ghost use Rattle.vms_check.specs.Sides.{IsSide, desc_on};
+
+use std::alloc::{AllocError, Global};
+use vms_check::{Side, at_own_version, fields_of, find_sub, is_present, same_kind};
+use vms_desc::{DescSet, Part};
+use vms_io::NoMemory;
+use vms_kinds::{Item, Kind};
+use vms_parts::capacity;
+
+// A field of a description, and its first cell.
+#[derive(Clone, Copy)]
+struct Start {
+    field: u32,
+    cell: u32,
+}
+
+// The items of a field, one for each element.
+#[derive(Clone, Copy)]
+struct Elements {
+    item: Item,
+    count: u32,
+}
+
+// The two sets.
+#[derive(Clone, Copy)]
+struct Sets<'a> {
+    old: &'a DescSet,
+    new: &'a DescSet,
+}
+
+// The elements of a field of each set.
+#[derive(Clone, Copy)]
+struct Arrays<'a> {
+    sets: Sets<'a>,
+    one: Elements,
+    other: Elements,
+}
+
+/// For each cell of a device of the older set the cell of a device of the newer that it is paired with, if there is
+/// one of its kind: present fields are paired by position, elements by number, structures field by field, and
+/// subsections by name. All is at the older set's versions, but for structures, which are at each side's own.
+pub fn partners(
+    alloc: Global,
+    old: &DescSet,
+    in_old: u32,
+    new: &DescSet,
+    in_new: u32,
+) -> Result<Vec<Option<u32>>, NoMemory>
+    requires old { in_old < length (described old.now).devices }
+    requires new { in_new < length (described new.now).devices }
+    ensures { let d = device_at (described old.now) in_old in
+        let e = device_at (described new.now) in_new in
+        let all = device_partners (described old.now) (described new.now) d e in
+        IfOk result (λ partners. partners.items ≡ all) }
+{
+    let mut partners = Vec::with_capacity(alloc, old.cells(in_old) as usize)?;
+    let older = at_own_version(old, Part::Device(in_old));
+    let newer = Side {
+        set: new,
+        part: Part::Device(in_new),
+        version: older.version,
+    };
+    pair_descs(older, newer, 0, &mut partners)?;
+    for sub in 0..old.sub_count(in_old) {
+        let older = at_own_version(old, Part::Sub(in_old, sub));
+        pair_sub(older, new, in_new, &mut partners)?;
+    }
+    Ok(partners)
+}
+
+// A subsection, beside the one of its name.
+fn pair_sub(
+    older: Side,
+    new: &DescSet,
+    in_new: u32,
+    partners: &mut Vec<Option<u32>>,
+) -> Result<(), AllocError>
+    requires older { IsSide older }
+    requires version { older.version ≡ (desc_on older).version }
+    requires few { HasFew older 0 }
+    requires new { in_new < length (described new.now).devices }
+    ensures { let e = device_at (described new.now) in_new in
+        let pairs = sub_on older.entry (described new.now) e in
+        OnOk result (partners.new.items ≡ partners.old.items ++ pairs) }
+{
+    let name = older.set.desc(older.part).name.as_bytes();
+    match find_sub(new.device(in_new).subs.as_slice(), name) {
+        None => put_unpaired(older.set.cells_of(older.part), partners),
+        Some(found) => {
+            let newer = Side {
+                set: new,
+                part: Part::Sub(in_new, found),
+                version: older.version,
+            };
+            pair_descs(older, newer, new.first_cell(newer.part), partners)
+        }
+    }
+}
+
+// Two descriptions, where `first` is the newer one's first cell.
+#[cycle(pairing)]
+fn pair_descs(
+    old: Side,
+    new: Side,
+    first: u32,
+    partners: &mut Vec<Option<u32>>,
+) -> Result<(), AllocError>
+    requires old { IsSide old }
+    requires new { IsSide new }
+    requires few { HasFew old 0 }
+    requires room { first + length (desc_cells (struct_cells (described new.set.now)) (desc_on new))
+        ≤ MOST_ITEMS }
+    ensures { let pairs = partners_on old.entry new.entry first in
+        OnOk result (partners.new.items ≡ partners.old.items ++ pairs) }
+{
+    let mut start = Start {
+        field: 0,
+        cell: first,
+    };
+    for number in 0..old.set.field_count(old.part) {
+        start = pair_field(old, number, new, start, partners)?;
+    }
+    Ok(())
+}
+
+// One field, beside the first of the newer side's present fields from a place on, and what is behind that.
+#[cycle(pairing)]
+fn pair_field(
+    old: Side,
+    number: u32,
+    new: Side,
+    start: Start,
+    partners: &mut Vec<Option<u32>>,
+) -> Result<Start, AllocError>
+    requires old { IsSide old }
+    requires new { IsSide new }
+    requires field { number < length (desc_on old).fields }
+    requires few { HasFew old number }
+    requires start { IsStart new start }
+    ensures { let before = partners.old.items in
+        let after = partners.new.items in
+        IfOk result (λ next. PairsField old.entry new.entry number start next before after) }
+{
+    if is_present(&fields_of(old)[number as usize], old.version) {
+        pair_present(old, number, new, next_start(new, start), partners)
+    } else {
+        put_unpaired(old.set.field_cells(old.part, number), partners)?;
+        Ok(start)
+    }
+}
+
+// One field that is there, beside a present one of the newer side, or beside none.
+#[cycle(pairing)]
+fn pair_present(
+    old: Side,
+    number: u32,
+    new: Side,
+    found: Start,
+    partners: &mut Vec<Option<u32>>,
+) -> Result<Start, AllocError>
+    requires old { IsSide old }
+    requires new { IsSide new }
+    requires field { number < length (desc_on old).fields }
+    requires there { is_absent old.version (get_or (desc_on old).fields number no_field) ≡ false }
+    requires few { HasFew old number }
+    requires found { IsNextStart new found found }
+    ensures { let before = partners.old.items in
+        let after = partners.new.items in
+        IfOk result (λ next. PairsField old.entry new.entry number found next before after) }
+{
+    if found.field < new.set.field_count(new.part) {
+        pair_arrays(
+            arrays_of(old, number, new, found.field),
+            found.cell,
+            partners,
+        )?;
+        Ok(behind(new, found))
+    } else {
+        put_unpaired(old.set.field_cells(old.part, number), partners)?;
+        Ok(found)
+    }
+}
+
+// A field of each side.
+fn arrays_of<'a>(old: Side<'a>, number: u32, new: Side<'a>, other: u32) -> Arrays<'a>
+    requires old { IsSide old }
+    requires new { IsSide new }
+    requires number { number < length (desc_on old).fields }
+    requires other { other < length (desc_on new).fields }
+    ensures { result ≡ arrays_on old.entry number new.entry other }
+{
+    Arrays {
+        sets: Sets {
+            old: old.set,
+            new: new.set,
+        },
+        one: elements_of(old, number),
+        other: elements_of(new, other),
+    }
+}
+
+// The elements of a field.
+fn elements_of(side: Side, number: u32) -> Elements
+    requires side { IsSide side }
+    requires field { number < length (desc_on side).fields }
+    ensures { result ≡ elements_on side.entry number }
+{
+    let field = &fields_of(side)[number as usize];
+    Elements {
+        item: field.item,
+        count: capacity(field.count),
+    }
+}
+
+// The first field from a place on that is there, or the end.
+fn next_start(side: Side, start: Start) -> Start
+    requires side { IsSide side }
+    requires start { IsStart side start }
+    ensures { IsNextStart side.entry start result }
+{
+    let mut next = start;
+    while next.field < side.set.field_count(side.part) {
+        if is_present(&fields_of(side)[next.field as usize], side.version) {
+            return next;
+        }
+        next = behind(side, next);
+    }
+    next
+}
+
+// The place behind a field.
+fn behind(side: Side, start: Start) -> Start
+    requires side { IsSide side }
+    requires start { IsStart side start }
+    requires field { start.field < length (desc_on side).fields }
+    ensures { IsBehind side.entry start result }
+{
+    Start {
+        field: start.field + 1,
+        cell: start.cell + side.set.field_cells(side.part, start.field),
+    }
+}
+
+// Elements beside elements, of which the newer one's first cell is `first`.
+#[cycle(pairing)]
+fn pair_arrays(
+    arrays: Arrays,
+    first: u32,
+    partners: &mut Vec<Option<u32>>,
+) -> Result<(), AllocError>
+    requires arrays { AreArrays arrays }
+    requires room { HasRoom arrays 0 first }
+    ensures { let pairs = elements_left arrays.entry 0 first in
+        OnOk result (partners.new.items ≡ partners.old.items ++ pairs) }
+{
+    let mut cell = first;
+    for element in 0..arrays.one.count {
+        cell = pair_element(arrays, element, cell, partners)?;
+    }
+    Ok(())
+}
+
+// One element, beside the newer one of its number or beside none. The answer is the first cell of the one behind that.
+#[cycle(pairing)]
+fn pair_element(
+    arrays: Arrays,
+    element: u32,
+    cell: u32,
+    partners: &mut Vec<Option<u32>>,
+) -> Result<u32, AllocError>
+    requires arrays { AreArrays arrays }
+    requires element { element < arrays.one.count }
+    requires room { HasRoom arrays element cell }
+    ensures { let before = partners.old.items in
+        let after = partners.new.items in
+        IfOk result (λ next. PairsElement arrays.entry element cell next before after) }
+{
+    if element < arrays.other.count {
+        pair_items(
+            arrays.sets,
+            arrays.one.item,
+            arrays.other.item,
+            cell,
+            partners,
+        )?;
+        Ok(cell + arrays.sets.new.item_cells(arrays.other.item))
+    } else {
+        put_unpaired(arrays.sets.old.item_cells(arrays.one.item), partners)?;
+        Ok(cell)
+    }
+}
+
+// One element beside another, whose first cell is `cell`.
+#[cycle(pairing)]
+fn pair_items(
+    sets: Sets,
+    one: Item,
+    other: Item,
+    cell: u32,
+    partners: &mut Vec<Option<u32>>,
+) -> Result<(), AllocError>
+    requires one { uses_below (length (described sets.old.now).structs) one ≡ true }
+    requires other { uses_below (length (described sets.new.now).structs) other ≡ true }
+    requires few { item_size (struct_cells (described sets.old.now)) one ≤ MOST_ITEMS }
+    requires room { cell + item_size (struct_cells (described sets.new.now)) other ≤ MOST_ITEMS }
+    ensures { let pairs = item_on (described sets.entry.old.now) (described sets.entry.new.now) one other cell in
+        OnOk result (partners.new.items ≡ partners.old.items ++ pairs) }
+{
+    match (one, other) {
+        (Item::Num(one), Item::Num(other)) => put_pair(one, other, cell, partners),
+        (Item::Struct(one), Item::Struct(other)) => pair_structs(sets, one, other, cell, partners),
+        _ => put_unpaired(sets.old.item_cells(one), partners),
+    }
+}
+
+// Two numbers.
+fn put_pair(
+    one: Kind,
+    other: Kind,
+    cell: u32,
+    partners: &mut Vec<Option<u32>>,
+) -> Result<(), AllocError>
+    ensures { let partner = if same_kind one other then Some cell else None in
+        OnOk result (partners.new.items ≡ partners.old.items ++ partner ∷ []) }
+{
+    let partner = if same_kind(one, other) {
+        Some(cell)
+    } else {
+        None
+    };
+    partners.push(partner)?;
+    Ok(())
+}
+
+// The structures of these numbers, each at its own version.
+#[cycle(pairing)]
+fn pair_structs(
+    sets: Sets,
+    in_old: u32,
+    in_new: u32,
+    cell: u32,
+    partners: &mut Vec<Option<u32>>,
+) -> Result<(), AllocError>
+    requires old { in_old < length (described sets.old.now).structs }
+    requires new { in_new < length (described sets.new.now).structs }
+    requires few { length (get_or (struct_cells (described sets.old.now)) in_old []) ≤ MOST_ITEMS }
+    requires room { cell + length (get_or (struct_cells (described sets.new.now)) in_new [])
+        ≤ MOST_ITEMS }
+    ensures { let pairs = struct_on (described sets.entry.old.now) (described sets.entry.new.now)
+        in_old in_new cell in
+        OnOk result (partners.new.items ≡ partners.old.items ++ pairs) }
+{
+    pair_descs(
+        at_own_version(sets.old, Part::Struct(in_old)),
+        at_own_version(sets.new, Part::Struct(in_new)),
+        cell,
+        partners,
+    )
+}
+
+// So many cells have no partner.
+fn put_unpaired(cells: u32, partners: &mut Vec<Option<u32>>) -> Result<(), AllocError>
+    ensures { OnOk result (partners.new.items ≡ partners.old.items ++ replicate cells None) }
+{
+    for _cell in 0..cells {
+        partners.push(None)?;
+    }
+    Ok(())
+}
