@@ -114,6 +114,19 @@ module _ (held : Option Held) (word : SetWord) (name : List ℕ) (set : Set) (te
       → packs held word name ≡ Gives stream
   pack_gives there values reads = gives_by (fetched_set held word) there values reads
 
+pub write_quiet : (o o' : Outlet) (e : Ending) → WriteCause o o' e → Quiet o o' e
+write_quiet o o' Done c = tt
+write_quiet o o' (BadText line) c = c
+write_quiet o o' WriteFault c = tt
+write_quiet o o' NoMemory c = c
+write_quiet o o' (Refused line) c = absurd c
+write_quiet o o' BadWords c = absurd c
+write_quiet o o' (NotCompatible line) c = absurd c
+write_quiet o o' ReadFault c = absurd c
+write_quiet o o' ShelfFault c = absurd c
+write_quiet o o' (NotThere line) c = absurd c
+write_quiet o o' (TooLarge line) c = absurd c
+
 sound_read : (held : Option Held) (set : Set) (r : ValuesRead) → IsSound held (packed_by set r)
 sound_read held set (Values machine images) = tt
 sound_read held set (Bad line reason) = omega arith
