@@ -6,7 +6,7 @@ use Rattle.vms_io.specs.Shelves.{Held}
 use Rattle.vms_commands.specs.SetWords.{ShippedSet, SetWord, named_in, set_word, shipped_word}
 use Rattle.vms_script.specs.Names.{is_shelf_name}
 use Rattle.vms_session.specs.Laws.{HoldsAll}
-use Rattle.vms_cli.specs.Commands.{Asked, BoardWord, Pack, board_word, board_words, check_of, counter_of, drill_of, few_events, isa_level, load_of, number_word, on_board, pack_of, pair_of, play_of, save_of, save_under, saved_set, show_of, triple_of}
+use Rattle.vms_cli.specs.Commands.{Asked, BoardWord, Analyze, Pack, board_word, board_words, check_of, counter_of, drill_of, few_events, isa_level, load_of, number_word, on_board, pack_of, pair_of, play_of, save_of, save_under, saved_set, show_of, triple_of}
 use Rattle.vms_cli.specs.Laws.{GoesBy, WordsLaw}
 
 -- ---- levels
@@ -113,7 +113,7 @@ module _ (held : Held) (holds : HoldsAll held) where
 
 pub words_hold : WordsLaw
 words_hold [] held holds = tt
-words_hold (name ∷ []) held holds = tt
+words_hold (name ∷ []) held holds = either-goes held holds (bytes_eq name (codes "analyze")) (Some Analyze) None tt tt
 words_hold (name ∷ set ∷ []) held holds =
     either-goes held holds (bytes_eq name (codes "show")) (show_of (set_word set)) None (show-goes held holds (set_word set)) tt
 words_hold (name ∷ one ∷ other ∷ []) held holds = pair-goes held holds name one other
