@@ -3,7 +3,7 @@ use Rattle.std.proofs.Common.{◌≡◌, ℕ, Bool, true, false, ◌&&◌, ◌||
 use Rattle.std.specs.List.{list_all}
 use Rattle.std.specs.Ordering.{nat_cmp, match_ordering}
 use Rattle.std.specs.Cmp.Lexicographic.{slice_cmp}
-use Rattle.std.proofs.lemmas.Bool.{and_parts}
+use Rattle.std.proofs.lemmas.Bool.{and_parts, and_from}
 use Rattle.serde_json.specs.Data.{Data, null, boolean, number, string, array, object, Items, Members, no_members, member}
 use Rattle.serde_json.specs.Find.{get, get_member, as_array}
 use Rattle.serde_json.specs.View.{items_of}
@@ -15,9 +15,6 @@ use Rattle.vms_analyze.specs.Read.{next, only, path_at, four_at, flag_at, list_a
 use Rattle.vms_analyze.proofs.Ordered.{is_picked}
 use Rattle.vms_analyze.proofs.MembersRead.{After, after, first_then, only_is, only_so, under, path_is, four_is, flag_is, list_is, Says, each_says, each_back}
 use Rattle.vms_analyze.proofs.ElementsRead.{element_tree, element_says, element_back}
-
-both : (a b : Bool) → a ≡ true → b ≡ true → (a && b) ≡ true
-both a b e f = ap (λ (a : Bool). a && b) e ∙ f
 
 -- ---- what a member holds is sorted
 
@@ -102,8 +99,8 @@ sub_from_says d sorted h s e =
           ∙ ap told_sub o.same;
       good_is =
           ap is_good_sub (sym o.same)
-          ∙ both (is_path 255 a.value && fits_four c.value && list_all is_good l.value) (b.value || list_all is_kept l.value)
-          (both (is_path 255 a.value && fits_four c.value) (list_all is_good l.value) (both (is_path 255 a.value) (fits_four c.value) name.good version.good) elements.fine) o.so;
+          ∙ and_from (is_path 255 a.value && fits_four c.value && list_all is_good l.value) (b.value || list_all is_kept l.value)
+          (and_from (is_path 255 a.value && fits_four c.value) (list_all is_good l.value) (and_from (is_path 255 a.value) (fits_four c.value) name.good version.good) elements.fine) o.so;
     }
 
 pub sub_says : (d : Data) → IsSorted d → (s : ToldSub) → sub_in d ≡ Some s → Says told_sub is_good_sub d s
@@ -158,9 +155,9 @@ device_from_says d sorted h t e =
           ∙ ap told_device same;
       good_is =
           ap is_good_device (sym same)
-          ∙ both (is_path 255 a.value && fits_four b.value && fits_four c.value && list_all is_good l.value) (list_all is_good_sub m.value)
-          (both (is_path 255 a.value && fits_four b.value && fits_four c.value) (list_all is_good l.value)
-          (both (is_path 255 a.value && fits_four b.value) (fits_four c.value) (both (is_path 255 a.value) (fits_four b.value) name.good instance.good) version.good) elements.fine) subs.fine;
+          ∙ and_from (is_path 255 a.value && fits_four b.value && fits_four c.value && list_all is_good l.value) (list_all is_good_sub m.value)
+          (and_from (is_path 255 a.value && fits_four b.value && fits_four c.value) (list_all is_good l.value)
+          (and_from (is_path 255 a.value && fits_four b.value) (fits_four c.value) (and_from (is_path 255 a.value) (fits_four b.value) name.good instance.good) version.good) elements.fine) subs.fine;
     }
 
 pub device_says : (d : Data) → IsSorted d → (t : ToldDevice) → device_in d ≡ Some t → Says told_device is_good_device d t

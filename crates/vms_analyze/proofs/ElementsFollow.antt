@@ -21,6 +21,7 @@ use Rattle.vms_analyze.specs.Told.{Told}
 use Rattle.vms_analyze.specs.Wanted.{element_want}
 use Rattle.vms_analyze.specs.Telling.{told_what, tolds}
 use Rattle.vms_analyze.proofs.Following.{Follows, none_follows, one_follows, both_follow, follows_as, takes_line, takes_any, takes_number}
+use Rattle.std.proofs.Math.Bool.{and-false, and-true}
 
 -- ---- what is asked of an element
 
@@ -73,39 +74,23 @@ module _ (n : List ℤ) (id : ℕ) where
       → Follows (map element_want (told_what w counted (sent && present) name)) id (bytes_if n (sent && present) at w) id
       (lines_if (counted && is_number w) (name ++ (codes " = " ++ signed_decimal (get_or n at (pos 0)))))
   one sent (Number cell) counted present at name said =
-      follows_as _ _ id id _ _ _ _ refl refl (ap (λ (b : Bool). lines_if b (name ++ (codes " = " ++ signed_decimal (get_or n at (pos 0))))) (sym (and_true counted)))
+      follows_as _ _ id id _ _ _ _ refl refl (ap (λ (b : Bool). lines_if b (name ++ (codes " = " ++ signed_decimal (get_or n at (pos 0))))) (sym (and-true counted)))
       (number_follows sent counted present cell at name said)
-    where
-      and_true : (b : Bool) → b && true ≡ b
-      and_true true = refl
-      and_true false = refl
   one sent (Constant kind y) counted present at name said =
-      follows_as _ _ id id _ _ _ _ refl refl (ap (λ (b : Bool). lines_if b (name ++ (codes " = " ++ signed_decimal (get_or n at (pos 0))))) (sym (and_false counted))) (by (sent && present))
+      follows_as _ _ id id _ _ _ _ refl refl (ap (λ (b : Bool). lines_if b (name ++ (codes " = " ++ signed_decimal (get_or n at (pos 0))))) (sym (and-false counted))) (by (sent && present))
     where
-      and_false : (b : Bool) → b && false ≡ false
-      and_false true = refl
-      and_false false = refl
-
       by : (p : Bool) → Follows (map element_want (told_what (Constant kind y) counted p name)) id (bytes_if n p at (Constant kind y)) id []
       by true = follows_as _ _ id id _ _ _ _ refl (sym (append-nil (code kind y))) refl (one_follows _ id _ id _ (takes_any (code kind y) (width kind) id (length-code kind y)))
       by false = none_follows id
   one sent (Filler m) counted present at name said =
-      follows_as _ _ id id _ _ _ _ refl refl (ap (λ (b : Bool). lines_if b (name ++ (codes " = " ++ signed_decimal (get_or n at (pos 0))))) (sym (and_false counted))) (by (sent && present))
+      follows_as _ _ id id _ _ _ _ refl refl (ap (λ (b : Bool). lines_if b (name ++ (codes " = " ++ signed_decimal (get_or n at (pos 0))))) (sym (and-false counted))) (by (sent && present))
     where
-      and_false : (b : Bool) → b && false ≡ false
-      and_false true = refl
-      and_false false = refl
-
       by : (p : Bool) → Follows (map element_want (told_what (Filler m) counted p name)) id (bytes_if n p at (Filler m)) id []
       by true = follows_as _ _ id id _ _ _ _ refl (sym (append-nil (replicate m 0))) refl (one_follows _ id _ id _ (takes_any (replicate m 0) m id (length-replicate m 0)))
       by false = none_follows id
   one sent (Rule holds) counted present at name said =
-      follows_as _ _ id id _ _ _ _ refl (bare (sent && present)) (ap (λ (b : Bool). lines_if b (name ++ (codes " = " ++ signed_decimal (get_or n at (pos 0))))) (sym (and_false counted))) (none_follows id)
+      follows_as _ _ id id _ _ _ _ refl (bare (sent && present)) (ap (λ (b : Bool). lines_if b (name ++ (codes " = " ++ signed_decimal (get_or n at (pos 0))))) (sym (and-false counted))) (none_follows id)
     where
-      and_false : (b : Bool) → b && false ≡ false
-      and_false true = refl
-      and_false false = refl
-
       bare : (p : Bool) → [] ≡ bytes_if n p at (Rule holds)
       bare true = refl
       bare false = refl

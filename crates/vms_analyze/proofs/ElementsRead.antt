@@ -2,7 +2,7 @@
 use Rattle.std.proofs.Common.{◌≡◌, ℕ, Bool, true, false, ◌&&◌, ◌||◌, ◌==◌, nat_le, if◌then◌else◌, List, [], ◌∷◌, map, Option, Some, None, ℤ, codes, refl, sym, ap, ap₂, ◌∙◌, subst}
 use Rattle.std.specs.List.{list_all}
 use Rattle.std.specs.Str.{bytes_eq}
-use Rattle.std.proofs.lemmas.Bool.{and_parts, eqb-true}
+use Rattle.std.proofs.lemmas.Bool.{and_parts, eqb-true, and_from}
 use Rattle.std.proofs.lemmas.Slice.Eq.{bytes_eq-Decides}
 use Rattle.serde_json.specs.Data.{Data, number, string, object, no_members, member}
 use Rattle.serde_json.specs.Find.{of_integer}
@@ -57,17 +57,14 @@ unprinted_is path size word t e = go (bytes_eq word (codes "equal")) (bytes_eq w
     same : (w : List ℕ) → bytes_eq word w ≡ true → three (string path) (natural size) (string word) ≡ three (string path) (natural size) (string w)
     same w f = ap (λ (l : List ℕ). three (string path) (natural size) (string l)) ((bytes_eq-Decides word w).0 f)
 
-    both : (a b : Bool) → a ≡ true → b ≡ true → (a && b) ≡ true
-    both a b f g = ap (λ (a : Bool). a && b) f ∙ g
-
     go : (a b : Bool) → bytes_eq word (codes "equal") ≡ a → bytes_eq word (codes "unused") ≡ b
         → (if a then only (is_fixed size) (Fixed path size) else if b then only (is_few size) (Skipped path size) else None) ≡ Some t → IsUnprinted path size word t
     go true b f g e =
         let o = only_is (is_fixed size) (Fixed path size) t e in
-        record { tree = same (codes "equal") f ∙ ap element_tree o.same; good = λ h. ap is_good (sym o.same) ∙ both (is_path 300 path) (is_fixed size) h o.so }
+        record { tree = same (codes "equal") f ∙ ap element_tree o.same; good = λ h. ap is_good (sym o.same) ∙ and_from (is_path 300 path) (is_fixed size) h o.so }
     go false true f g e =
         let o = only_is (is_few size) (Skipped path size) t e in
-        record { tree = same (codes "unused") g ∙ ap element_tree o.same; good = λ h. ap is_good (sym o.same) ∙ both (is_path 300 path) (is_few size) h o.so }
+        record { tree = same (codes "unused") g ∙ ap element_tree o.same; good = λ h. ap is_good (sym o.same) ∙ and_from (is_path 300 path) (is_few size) h o.so }
     go false false f g e = cc
 
 sent_is : (path : List ℕ) (size : ℕ) (word : List ℕ) (named : Option Kind) (t : Told) → kind_named word ≡ named → sent_as path size word named ≡ Some t → IsUnprinted path size word t

@@ -1,6 +1,6 @@
 -- What is wanted, one after the other, is taken where it stands at the front.
 use Rattle.std.proofs.Common.{◌≡◌, ℕ, ◌+◌, ◌<◌, ◌^◌, Bool, true, false, ◌&&◌, nat_le, List, [], ◌∷◌, ◌++◌, length, length-append, append_assoc, take, Some, ℤ, refl, sym, ap, ◌∙◌, arith, codes, decimal}
-use Rattle.std.proofs.lemmas.Bool.{le-leb}
+use Rattle.std.proofs.lemmas.Bool.{le-leb, and_from}
 use Rattle.vms_kinds.specs.declared.Kind.{Kind}
 use Rattle.vms_kinds.specs.Codes.{width, code, value_of, InRange}
 use Rattle.vms_spec.specs.Lookup.{number_at}
@@ -18,7 +18,7 @@ use Rattle.vms_analyze.specs.Wanted.{Want, Bytes, Any, Number, Head, Foot, Line,
 pub record Takes (w : Want) (id : ℕ) (bytes : List ℕ) (next : ℕ) (lines : List (List ℕ)) : Type 0 where
   pub is : (more : List ℕ) → taken w id (bytes ++ more) ≡ Some (took (length bytes) next lines)
 
-if_so : (b : Bool) (t : Took) → b ≡ true → only_if b t ≡ Some t
+pub if_so : (b : Bool) (t : Took) → b ≡ true → only_if b t ≡ Some t
 if_so true t e = refl
 if_so false t e = cc
 
@@ -40,16 +40,13 @@ takes_any bytes n id long = record {
 pub takes_number : (path : List ℕ) (kind : Kind) (z : ℤ) (id : ℕ) → InRange kind z → Takes (Number path kind) id (code kind z) id (number_line path z ∷ [])
 takes_number path kind z id fits = record { is = λ more. whole more }
   where
-    both : (a b : Bool) → a ≡ true → b ≡ true → (a && b) ≡ true
-    both a b e f = ap (λ (a : Bool). a && b) e ∙ f
-
     whole : (more : List ℕ) → taken (Number path kind) id (code kind z ++ more) ≡ Some (took (length (code kind z)) id (number_line path z ∷ []))
     whole more =
         let rest = code kind z ++ more in
         let value : value_of kind (take (width kind) rest) ≡ z = ap (value_of kind) (front_take (width kind) (code kind z) more rest refl (length-code kind z)) ∙ value_code kind z fits in
         ap (λ (y : ℤ). take_number path kind id rest y) value
         ∙ if_so (nat_le (width kind) (length rest) && in_range kind z) (took (width kind) id (number_line path z ∷ []))
-        (both _ _ (le-leb (width kind) (length rest) (omega (arith, length-append (code kind z) more, length-code kind z))) (ranged kind z fits))
+        (and_from _ _ (le-leb (width kind) (length rest) (omega (arith, length-append (code kind z) more, length-code kind z))) (ranged kind z fits))
         ∙ ap (λ (k : ℕ). Some (took k id (number_line path z ∷ []))) (sym (length-code kind z))
 
 pub takes_head : (name : List ℕ) (instance version old id : ℕ) → id < 2 ^ 32

@@ -1,7 +1,7 @@
 -- What the description of a well-formed set tells is of the shape.
 use Rattle.std.proofs.Common.{◌≡◌, ℕ, zero, suc, ◌+◌, ◌<◌, ◌≤◌, Bool, true, ◌&&◌, ◌||◌, List, [], ◌∷◌, length, get_or, is_some, is_none, Option, Some, None, ℤ, refl, ap, ◌∙◌, arith}
 use Rattle.std.specs.List.{slice_get, list_all}
-use Rattle.std.proofs.lemmas.Bool.{lt-ltb}
+use Rattle.std.proofs.lemmas.Bool.{lt-ltb, and_from}
 use Rattle.std.proofs.lemmas.Option.{slice_get-get_or}
 use Rattle.vms_spec.specs.declared.Part.TheVariants as parts
 use Rattle.vms_spec.specs.Heads.{FitsHeads}
@@ -69,9 +69,6 @@ all_devices : (set : Set) (devices : List Device) → ((i : ℕ) → i < length 
 all_devices set [] h = tt
 all_devices set (d ∷ devices) h = (h 0 (omega arith), all_devices set devices (λ i lt. h (suc i) (omega arith)))
 
-both_true : (a b : Bool) → a ≡ true → b ≡ true → (a && b) ≡ true
-both_true a b e f = ap (λ (a : Bool). a && b) e ∙ f
-
 kept_or_sent : (set : Set) (d : Desc) (c : Option ℕ) (n : List ℤ) (at : ℕ) → (is_some c || list_all is_kept (told_part set d (is_some c) n at)) ≡ true
 kept_or_sent set d None n at = all_kept (elements_in set d d.version n at)
 kept_or_sent set d (Some v) n at = refl
@@ -81,10 +78,10 @@ subs_good set n at [] came h = refl
 subs_good set n at (s ∷ subs) [] h = refl
 subs_good set n at (s ∷ subs) (c ∷ came) h =
     let t = told_sub_of set n at s c in
-    both_true (is_good_sub t) _
-    (both_true (is_path 255 s.desc.name && fits_four s.desc.version && list_all is_good t.elements) _
-    (both_true (is_path 255 s.desc.name && fits_four s.desc.version) (list_all is_good t.elements)
-    (both_true (is_path 255 s.desc.name) (fits_four s.desc.version) (named_path 255 s.desc.name (named_within 165 255 s.desc.name (omega arith) h.0.name)) h.0.version) (h.0.elements (is_some c) n at))
+    and_from (is_good_sub t) _
+    (and_from (is_path 255 s.desc.name && fits_four s.desc.version && list_all is_good t.elements) _
+    (and_from (is_path 255 s.desc.name && fits_four s.desc.version) (list_all is_good t.elements)
+    (and_from (is_path 255 s.desc.name) (fits_four s.desc.version) (named_path 255 s.desc.name (named_within 165 255 s.desc.name (omega arith) h.0.name)) h.0.version) (h.0.elements (is_some c) n at))
     (kept_or_sent set s.desc c n at))
     (subs_good set n (at + length (desc_cells (struct_cells set) s.desc)) subs came h.1)
 
@@ -93,11 +90,11 @@ devices_good set [] images h = refl
 devices_good set (d ∷ devices) [] h = refl
 devices_good set (d ∷ devices) (image ∷ images) h =
     let t = told_device_of set d image in
-    both_true (is_good_device t) _
-    (both_true (is_path 255 d.desc.name && fits_four d.instance && fits_four d.desc.version && list_all is_good t.elements) (list_all is_good_sub t.subs)
-    (both_true (is_path 255 d.desc.name && fits_four d.instance && fits_four d.desc.version) (list_all is_good t.elements)
-    (both_true (is_path 255 d.desc.name && fits_four d.instance) (fits_four d.desc.version)
-    (both_true (is_path 255 d.desc.name) (fits_four d.instance) (named_path 255 d.desc.name (named_within 100 255 d.desc.name (omega arith) h.0.own.name)) h.0.instance) h.0.own.version)
+    and_from (is_good_device t) _
+    (and_from (is_path 255 d.desc.name && fits_four d.instance && fits_four d.desc.version && list_all is_good t.elements) (list_all is_good_sub t.subs)
+    (and_from (is_path 255 d.desc.name && fits_four d.instance && fits_four d.desc.version) (list_all is_good t.elements)
+    (and_from (is_path 255 d.desc.name && fits_four d.instance) (fits_four d.desc.version)
+    (and_from (is_path 255 d.desc.name) (fits_four d.instance) (named_path 255 d.desc.name (named_within 100 255 d.desc.name (omega arith) h.0.own.name)) h.0.instance) h.0.own.version)
     (h.0.own.elements true image.numbers 0))
     (subs_good set image.numbers (own_cells set d) d.subs image.came h.0.subs))
     (devices_good set devices images h.1)

@@ -13,29 +13,19 @@ use Rattle.vms_analyze.specs.Told.{Told, Sent, Kept, Fixed, Skipped, told_entry,
 use Rattle.vms_analyze.specs.Wanted.{wants, found}
 use Rattle.vms_analyze.specs.Listing.{IsPlace, IsLastPlace, Tells, Listing, listing_of, Lists, IsTooLong, HasNone, HasNoShape, IsRead}
 use Rattle.vms_analyze.specs.Laws.{OneLaw}
+use Rattle.vms_analyze.proofs.ReadBack.{map_twice}
+use Rattle.vms_words.proofs.WordLaws.{word_named}
 
 -- ---- one tree is told by one list of devices
-
-named : (kind : Kind) → kind_named (kind_word kind) ≡ Some kind
-named kinds.U8 = refl
-named kinds.U16 = refl
-named kinds.U32 = refl
-named kinds.U64 = refl
-named kinds.I8 = refl
-named kinds.I16 = refl
-named kinds.I32 = refl
-named kinds.I64 = refl
-named kinds.Bool = refl
-named kinds.Timer = refl
 
 some_same : {A : Type 0} (x y : A) → Some x ≡ Some y → x ≡ y
 some_same x y e = cc
 
 pub word_same : (k l : Kind) → kind_word k ≡ kind_word l → k ≡ l
-word_same k l e = some_same k l (sym (named k) ∙ ap kind_named e ∙ named l)
+word_same k l e = some_same k l (sym (word_named k) ∙ ap kind_named e ∙ word_named l)
 
 no_word : (k : Kind) (word : List ℕ) → kind_named word ≡ None → kind_word k ≡ word → ⊥
-no_word k word none e = no k (sym (named k) ∙ ap kind_named e ∙ none) where
+no_word k word none e = no k (sym (word_named k) ∙ ap kind_named e ∙ none) where
   no : (k : Kind) → Some k ≡ None → ⊥
   no k e = cc
 
@@ -102,11 +92,7 @@ module _ {A : Type 0} (tree : A → Data) (one : (x y : A) → tree x ≡ tree y
 elements_same : (ts us : List Told) → list_tree entry_tree (map told_entry ts) ≡ list_tree entry_tree (map told_entry us) → ts ≡ us
 elements_same ts us e =
     let f : items_of (map entry_tree (map told_entry ts)) ≡ items_of (map entry_tree (map told_entry us)) = cc in
-    items_same (λ t. entry_tree (told_entry t)) element_same ts us (ap items_of (twice ts) ∙ f ∙ ap items_of (sym (twice us)))
-  where
-    twice : (ts : List Told) → map (λ t. entry_tree (told_entry t)) ts ≡ map entry_tree (map told_entry ts)
-    twice [] = refl
-    twice (t ∷ ts) = ap (λ (l : List Data). entry_tree (told_entry t) ∷ l) (twice ts)
+    items_same (λ t. entry_tree (told_entry t)) element_same ts us (ap items_of (map_twice ts) ∙ f ∙ ap items_of (sym (map_twice us)))
 
 abbrev sub_object : Data → List ℕ → Bool → ℕ → Data
 sub_object fields name sent version =

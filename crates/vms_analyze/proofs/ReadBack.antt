@@ -68,7 +68,7 @@ elements_sound : (ts : List Told) → list_all is_good ts ≡ true → AreSound 
 elements_sound [] e = tt
 elements_sound (t ∷ ts) e = let p = and_parts (is_good t) (list_all is_good ts) e in (element_sound t p.0, elements_sound ts p.1)
 
-map_twice : (ts : List Told) → map (λ t. entry_tree (told_entry t)) ts ≡ map entry_tree (map told_entry ts)
+pub map_twice : (ts : List Told) → map (λ t. entry_tree (told_entry t)) ts ≡ map entry_tree (map told_entry ts)
 map_twice [] = refl
 map_twice (t ∷ ts) = ap (λ (l : List Data). entry_tree (told_entry t) ∷ l) (map_twice ts)
 

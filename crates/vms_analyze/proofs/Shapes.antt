@@ -1,7 +1,7 @@
 -- What the description of a well-formed set tells is of the shape: the elements of one part.
 use Rattle.std.proofs.Common.{◌≡◌, ℕ, zero, suc, ◌+◌, ◌*◌, ◌<◌, ◌≤◌, Bool, true, false, cond, ◌&&◌, ◌||◌, ◌==◌, nat_lt, nat_le, List, [], ◌∷◌, ◌++◌, length, length-append, append_assoc, get_or, map, ℤ, refl, sym, ap, ◌∙◌, subst, arith, codes}
 use Rattle.std.specs.List.{list_all}
-use Rattle.std.proofs.lemmas.Bool.{and_parts, ltb-true, ltb-false}
+use Rattle.std.proofs.lemmas.Bool.{and_parts, ltb-true, ltb-false, and_from}
 use Rattle.std.proofs.Math.ListN.{get_or-eq_default}
 use Rattle.std.proofs.lemmas.List.{length-map}
 use Rattle.json.specs.Print.{escape, escape_byte, escape_letter}
@@ -117,25 +117,22 @@ all_fine sent (x ∷ xs) h =
     fine_append (told_what x.what x.counted (sent && x.present) x.name) (tolds sent xs)
     (what_fine x.what x.counted (sent && x.present) x.name h.0.part.bytes h.0.part.what h.0.path) (all_fine sent xs h.1)
 
-both_true : (a b : Bool) → a ≡ true → b ≡ true → (a && b) ≡ true
-both_true a b e f = ap (λ (a : Bool). a && b) e ∙ f
-
 one_good : (t : Told) → IsFine t → length (path_of t) ≤ 300 → is_good t ≡ true
 one_good (Sent path kind) h le = named_path 300 path (record { some = h.some; few = le; bytes = h.bytes })
-one_good (Kept path kind z) h le = both_true (is_path 300 path) _ (named_path 300 path (record { some = h.some; few = le; bytes = h.bytes })) h.shape
-one_good (Fixed path n) h le = both_true (is_path 300 path) _ (named_path 300 path (record { some = h.some; few = le; bytes = h.bytes })) h.shape
-one_good (Skipped path n) h le = both_true (is_path 300 path) _ (named_path 300 path (record { some = h.some; few = le; bytes = h.bytes })) h.shape
+one_good (Kept path kind z) h le = and_from (is_path 300 path) _ (named_path 300 path (record { some = h.some; few = le; bytes = h.bytes })) h.shape
+one_good (Fixed path n) h le = and_from (is_path 300 path) _ (named_path 300 path (record { some = h.some; few = le; bytes = h.bytes })) h.shape
+one_good (Skipped path n) h le = and_from (is_path 300 path) _ (named_path 300 path (record { some = h.some; few = le; bytes = h.bytes })) h.shape
 
 all_good : (ts : List Told) → AreFine ts → AreLong 299 (map told_entry ts) → list_all is_good ts ≡ true
 all_good [] fine long = refl
-all_good (t ∷ ts) fine long = both_true (is_good t) (list_all is_good ts) (one_good t fine.0 (path_short t long.0)) (all_good ts fine.1 long.1)
+all_good (t ∷ ts) fine long = and_from (is_good t) (list_all is_good ts) (one_good t fine.0 (path_short t long.0)) (all_good ts fine.1 long.1)
 
 -- of a part that isn't sent no element stands in the stream
 kept_append : (xs ys : List Told) → list_all is_kept xs ≡ true → list_all is_kept ys ≡ true → list_all is_kept (xs ++ ys) ≡ true
 kept_append [] ys e f = f
 kept_append (x ∷ xs) ys e f =
     let p = and_parts (is_kept x) (list_all is_kept xs) e in
-    both_true (is_kept x) (list_all is_kept (xs ++ ys)) p.0 (kept_append xs ys p.1 f)
+    and_from (is_kept x) (list_all is_kept (xs ++ ys)) p.0 (kept_append xs ys p.1 f)
 
 what_kept : (w : What) (counted : Bool) (path : List ℕ) → list_all is_kept (told_what w counted false path) ≡ true
 what_kept (Number cell) true path = refl

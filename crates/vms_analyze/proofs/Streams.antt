@@ -1,6 +1,6 @@
 -- What is written of ready images is found as it is told.
 use Rattle.std.proofs.Common.{◌≡◌, ℕ, ◌+◌, ◌<◌, ◌^◌, Bool, true, false, ◌&&◌, ◌==◌, nat_le, if◌then◌else◌, List, [], ◌∷◌, ◌++◌, length, append_assoc, append-nil, get_or, Option, Some, None, refl, ap, ◌∙◌, arith, codes}
-use Rattle.std.proofs.lemmas.Bool.{le-leb, and_parts}
+use Rattle.std.proofs.lemmas.Bool.{le-leb, and_parts, and_from}
 use Rattle.std.specs.List.{flat_map, list_all}
 use Rattle.byteorder.specs.Endian.{big_number}
 use Rattle.vms_spec.specs.Lookup.{number_at, bytes_at}
@@ -22,17 +22,10 @@ use Rattle.vms_values_laws.proofs.ReadyBack.{text_says}
 use Rattle.vms_values_laws.proofs.ReadyParts.{AreGood}
 use Rattle.vms_analyze.specs.Wanted.{Want, Bytes, Machine, device_wants, wants, Took, took, only_if, take_machine, is_machine, taken, Found, Lines, behind, found_after, found}
 use Rattle.vms_analyze.specs.Telling.{told}
-use Rattle.vms_analyze.proofs.Following.{Takes, one_follows, both_follow, takes_bytes}
+use Rattle.vms_analyze.proofs.Following.{Takes, one_follows, both_follow, takes_bytes, if_so}
 use Rattle.vms_analyze.proofs.DevicesFollow.{last, devices_follow}
 
 -- ---- the machine
-
-if_so : (b : Bool) (t : Took) → b ≡ true → only_if b t ≡ Some t
-if_so true t e = refl
-if_so false t e = cc
-
-both_true : (a b : Bool) → a ≡ true → b ≡ true → (a && b) ≡ true
-both_true a b e f = ap (λ (a : Bool). a && b) e ∙ f
 
 pub takes_machine : (name : List ℕ) (id : ℕ) → is_machine name ≡ true → length name < 2 ^ 32 → Takes Machine id (configuration name) id ((codes "machine " ++ name) ∷ [])
 takes_machine name id good small = record { is = λ more. whole more }
@@ -44,7 +37,7 @@ takes_machine name id good small = record { is = λ more. whole more }
         let its : bytes_at (number_at 4 1 rest) 5 rest ≡ name =
         ap (λ (k : ℕ). bytes_at k 5 rest) long ∙ front_take (length name) name more _ (append_assoc [] name more) refl in
         ap (λ (l : List ℕ). take_machine id rest l) its
-        ∙ if_so _ (took (length (configuration name)) id ((codes "machine " ++ name) ∷ [])) (both_true _ _ (begins_itself (configuration name) more) good)
+        ∙ if_so _ (took (length (configuration name)) id ((codes "machine " ++ name) ∷ [])) (and_from _ _ (begins_itself (configuration name) more) good)
 
 -- the bytes of a machine's name
 machine_plain : (set : Set) → WellFormed set → (name : List ℕ) → is_one_of set.machines name ≡ true → list_all is_name_byte name ≡ true
@@ -57,7 +50,7 @@ machine_plain set well name h =
 machine_good : (set : Set) → WellFormed set → (name : List ℕ) → is_one_of set.machines name ≡ true → is_machine name ≡ true
 machine_good set well name h =
     let few = machine_short set well name h in
-    both_true (nat_le (length name) 255) (list_all is_name_byte name) (le-leb (length name) 255 (omega arith)) (machine_plain set well name h)
+    and_from (nat_le (length name) 255) (list_all is_name_byte name) (le-leb (length name) 255 (omega arith)) (machine_plain set well name h)
 
 -- without a machine none is taken, since a section or the end mark stands there
 pub no_machine : (id : ℕ) (rest : List ℕ) → (get_or rest 0 0 == 7) ≡ false → taken Machine id rest ≡ Some (took 0 id [])

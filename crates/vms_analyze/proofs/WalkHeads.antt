@@ -19,19 +19,15 @@ use Rattle.vms_analyze.specs.declared.walk.Stop.TheVariants as stops
 use Rattle.vms_analyze.proofs.Following.{takes_head, behind_none}
 use Rattle.vms_analyze.proofs.Streams.{takes_machine, no_machine}
 use Rattle.vms_analyze.proofs.Walks.{printed_goes}
+use Rattle.vms_words.proofs.Lines.{begun}
 
 -- ---- what stands at the front
 
 no : {C : Type 0} → true ≡ false → C
 no e = cc
 
-begins_split : (front rest : List ℕ) → begins_with front rest ≡ true → rest ≡ front ++ drop (length front) rest
-begins_split front rest e =
-    sym (take-append-drop (length front) rest)
-    ∙ ap (λ (l : List ℕ). l ++ drop (length front) rest) ((bytes_eq-Decides (take (length front) rest) front).0 e)
-
 begins_long : (front rest : List ℕ) → begins_with front rest ≡ true → length front ≤ length rest
-begins_long front rest e = omega (arith, ap length (begins_split front rest e), length-append front (drop (length front) rest))
+begins_long front rest e = omega (arith, ap length (begun front rest e), length-append front (drop (length front) rest))
 
 begins_short : (front rest : List ℕ) → length rest < length front → begins_with front rest ≡ false
 begins_short front rest lt = go (begins_with front rest) refl
@@ -43,7 +39,7 @@ begins_short front rest lt = go (begins_with front rest) refl
 -- what is left behind it
 behind_front : (front : List ℕ) (old mid : Walk) → begins_with front (left old) ≡ true → mid.place ≡ old.place + length front → mid.input.now ≡ old.input.now → left old ≡ front ++ left mid
 behind_front front old mid e place input =
-    begins_split front (left old) e
+    begun front (left old) e
     ∙ ap (λ (l : List ℕ). front ++ l)
     (drop-drop (length front) old.place old.input.now ∙ ap (λ (k : ℕ). drop k old.input.now) (sym place) ∙ ap (drop mid.place) (sym input))
 
@@ -132,7 +128,7 @@ needs rest e =
     let q = and_parts (nat_le (length name) 255) (list_all is_name_byte name) p.1 in
     let short = leb-true (length name) 255 q.0 in
     let more = drop (length (configuration name)) rest in
-    let is = begins_split (configuration name) rest p.0 in
+    let is = begun (configuration name) rest p.0 in
     let n : number_at 4 1 rest ≡ length name =
     ap (number_at 4 1) is ∙ ap (big_number 4) (append_assoc (be32 (length name)) name more) ∙ be32_read (length name) (name ++ more) (omega (arith, short)) in
     let long = begins_long (configuration name) rest p.0 in

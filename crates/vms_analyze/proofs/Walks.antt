@@ -9,6 +9,7 @@ use Rattle.vms_analyze.specs.Wanted.{Want, Number, Line, number_line, behind, fo
 use Rattle.vms_analyze.specs.Walking.{left, IsInside, Goes, Stops, Prints}
 use Rattle.vms_analyze.specs.declared.walk.Walk.{Walk}
 use Rattle.vms_analyze.proofs.Following.{Takes, one_follows, takes_line, takes_number, behind_none, behind_both}
+use Rattle.vms_elements.proofs.LinesOf.{text_append}
 
 -- what a step moves
 pub record Moves (old new : Walk) (bytes : List ℕ) (lines : List (List ℕ)) : Type 0 where
@@ -61,10 +62,6 @@ number_goes path kind z old mid new piece fits is there place text id inside inp
 pub goes_none : (walk : Walk) → IsInside walk → Goes [] walk walk
 goes_none walk inside = record { lines = []; taken = λ more. sym (behind_none (found more walk.id walk.place (left walk))); printed = sym (append-nil _); inside = inside; input = refl }
 
-text_both : (xs ys : List (List ℕ)) → text_of (xs ++ ys) ≡ text_of xs ++ text_of ys
-text_both [] ys = refl
-text_both (x ∷ xs) ys = ap (λ (t : List ℕ). x ++ 10 ∷ t) (text_both xs ys) ∙ sym (append_assoc x (10 ∷ text_of xs) (text_of ys))
-
 pub goes_then : (ws vs : List Want) (a b c : Walk) → Goes ws a b → Goes vs b c → Goes (ws ++ vs) a c
 goes_then ws vs a b c g h = record {
   lines = g.lines ++ h.lines;
@@ -75,7 +72,7 @@ goes_then ws vs a b c g h = record {
       ∙ behind_both g.lines h.lines (found more c.id c.place (left c));
   printed =
       h.printed ∙ ap (λ (t : List ℕ). t ++ text_of h.lines) g.printed ∙ append_assoc (a.text.items) (text_of g.lines) (text_of h.lines)
-      ∙ ap (λ (t : List ℕ). a.text.items ++ t) (sym (text_both g.lines h.lines));
+      ∙ ap (λ (t : List ℕ). a.text.items ++ t) (sym (text_append g.lines h.lines));
   inside = h.inside;
   input = h.input ∙ g.input;
 }

@@ -15,7 +15,7 @@ use Rattle.vms_commands.specs.Steps.{Step, Untold, Gives, Ends}
 use Rattle.vms_script.specs.Lines.{ScriptLine}
 use Rattle.vms_session.specs.Events.{events_of}
 use Rattle.vms_cli.specs.Answers.{HasOutcome}
-use Rattle.vms_cli.specs.Commands.{Asked, IsaBoard, Show, Pack, Check, Counter, Save, Load, Drill, Play}
+use Rattle.vms_cli.specs.Commands.{Asked, IsaBoard, Show, Analyze, Pack, Check, Counter, Save, Load, Drill, Play}
 use Rattle.vms_cli.specs.Continuation.{Continuation, ContinuesBy, goes_on}
 
 module _ {S : Type 0} (f : Family S) (Alike : S → S → Type 0) (IsSound : S → Type 0) (going : BoardsGoOn f Alike IsSound) where
@@ -35,6 +35,7 @@ pub continues_so : (asked : Option Asked) (status : ℕ) (old new : Outside)
     → ((o : Outcome) → HasOutcome asked old.input.left old.shelf.held o → DoesOrStops status old new o) → Continuation asked status old new
 continues_so None status old new all = tt
 continues_so (Some (Show set)) status old new all = tt
+continues_so (Some Analyze) status old new all = tt
 continues_so (Some (Pack set name)) status old new all = tt
 continues_so (Some (Check one other)) status old new all = tt
 continues_so (Some (Counter one other)) status old new all = tt

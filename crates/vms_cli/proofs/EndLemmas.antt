@@ -10,7 +10,8 @@ use Rattle.vms_commands.proofs.TextRow.{text_caused, text_row}
 use Rattle.vms_cli.specs.Answers.{Answers, BadWordsAnswers, CanAnswer, HasOutcome}
 use Rattle.vms_cli.specs.Causes.{BadWordsCauses, EndsCause, IsBadWords}
 use Rattle.vms_cli.specs.Check.{asks_shelf}
-use Rattle.vms_cli.specs.Commands.{Asked, IsaBoard, Show, Pack, Check, Counter, Save, Load, Drill, Play, asked_of}
+use Rattle.vms_cli.specs.Commands.{Asked, IsaBoard, Show, Analyze, Pack, Check, Counter, Save, Load, Drill, Play, asked_of}
+use Rattle.vms_cli.proofs.AnalyzeRow.{analyze_caused, analyze_row}
 use Rattle.vms_cli.proofs.CheckRow.{check_caused, check_row}
 use Rattle.vms_cli.proofs.CounterRow.{counter_caused, counter_row}
 use Rattle.vms_board_commands.proofs.DrillRow.{drill_caused, drill_row}
@@ -39,6 +40,7 @@ bad_words_caused i i' o o' s s' NoMemory c out shelf = absurd c
 caused : (asked : Option Asked) (i i' : Intake) (o o' : Outlet) (s s' : Stock) (e : Ending) → EndsCause asked i i' o o' s s' e → Caused i i' o o' s s' e
 caused None i i' o o' s s' e c = bad_words_caused i i' o o' s s' e c.0 c.2 c.3
 caused (Some (Show set)) i i' o o' s s' e c = show_caused set i i' o o' s s' e c.0 c.1
+caused (Some Analyze) i i' o o' s s' e c = analyze_caused i i' o o' s s' e c
 caused (Some (Pack set name)) i i' o o' s s' e c = text_caused i i' o o' s s' e c.0 c.2
 caused (Some (Check old new)) i i' o o' s s' e c = check_caused (asks_shelf old new) i i' o o' s s' e c.0 c.2
 caused (Some (Counter old new)) i i' o o' s s' e c = counter_caused (asks_shelf old new) i i' o o' s s' e c.0 c.2
@@ -65,6 +67,7 @@ module _ (i i' : Intake) (o o' n n' : Outlet) (s s' : Stock) where
   row_so : (asked : Option Asked) (e : Ending) (status : ℕ) → EndsCause asked i i' o o' s s' e → Tells n n' e status → CanAnswer asked status (around i o n s) (around i' o' n' s')
   row_so None e status c t = bad_words_row e status c t
   row_so (Some (Show set)) e status c t = show_row i i' o o' n n' s s' set e status c t
+  row_so (Some Analyze) e status c t = analyze_row i i' o o' n n' s s' e status c t
   row_so (Some (Pack set name)) e status c t = text_row i i' o o' n n' s s' e status c t
   row_so (Some (Check one other)) e status c t = check_row i i' o o' n n' s s' (asks_shelf one other) e status c t
   row_so (Some (Counter one other)) e status c t = counter_row i i' o o' n n' s s' (asks_shelf one other) e status c t

@@ -1,3 +1,5 @@
+pub mod AnalyzeLemmas
+pub mod AnalyzeRow
 pub mod CheckLemmas
 pub mod CheckRow
 pub mod ContinuationLemmas

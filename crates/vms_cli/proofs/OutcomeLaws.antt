@@ -13,6 +13,7 @@ use Rattle.vms_spec.specs.Good.{IsFit}
 use Rattle.vms_stream.specs.StreamLaws.{Answer, Taken, Faulty}
 use Rattle.vms_stream.specs.Streams.{Takes}
 use Rattle.vms_stream.proofs.Stated.{either_holds}
+use Rattle.vms_analyze.specs.Listing.{Text}
 use Rattle.vms_check.specs.declared.mismatch.Mismatch.{Mismatch}
 use Rattle.vms_spec.specs.Sets.{Set}
 use Rattle.vms_commands.specs.Fetching.{fetched, longest_file, named_sets, word_set}
@@ -45,12 +46,13 @@ use Rattle.vms_script.specs.Lines.{ScriptLine}
 use Rattle.vms_script.specs.Script.{Reading, script_read}
 use Rattle.vms_cli.specs.Answers.{HasOutcome, Answers}
 use Rattle.vms_cli.specs.Check.{checked, compared, compatible_text, verdict}
-use Rattle.vms_cli.specs.Commands.{Asked, IsaBoard, Show, Pack, Check, Counter, Save, Load, Drill, Play, asked_of}
+use Rattle.vms_cli.specs.Commands.{Asked, IsaBoard, Show, Analyze, Pack, Check, Counter, Save, Load, Drill, Play, asked_of}
 use Rattle.vms_counter_laws.specs.Computed.{computed}
 use Rattle.vms_cli.specs.Counter.{CountersBy, counted, counter_text}
 use Rattle.vms_cli.specs.Laws.{HasOneOutcome, OutcomeLaw, CanBePacked, CanBeDone, HasRoom, IsAmple, NoneRises, PromisesKept, CompleteLaw, AmpleLaw}
 use Rattle.vms_cli.specs.Pack.{described_stream, packed_by, packs}
 use Rattle.vms_cli.specs.Show.{ShowsBy, Values as Printed, Refuses}
+use Rattle.vms_cli.proofs.AnalyzeLemmas.{has_listing, only_listing}
 use Rattle.vms_cli.proofs.CheckLemmas.{sound_check}
 use Rattle.vms_cli.proofs.CounterLemmas.{AreFit, counters_text, fit_sets, sound_counter, text_counters}
 use Rattle.vms_cli.proofs.PackLemmas.{pack_gives, sound_pack}
@@ -175,6 +177,9 @@ one_played level script input held is holds =
 pub outcome_holds : OutcomeLaw
 outcome_holds None input held ok by = record { outcome = ended 2 bad_words 0; is = refl; only = λ other e. e }
 outcome_holds (Some (Show word)) input held ok by = one_shown word input held ok
+outcome_holds (Some Analyze) input held ok by =
+    let one = has_listing input (Some held) in
+    record { outcome = one.0; is = one.1; only = λ other p. only_listing input (Some held) other one.0 p one.1 }
 outcome_holds (Some (Pack word name)) input held ok by = one_packed word name input held
 outcome_holds (Some (Check old new)) input held ok by = one_checked old new input held
 outcome_holds (Some (Counter old new)) input held ok by = one_counted old new input held
@@ -215,6 +220,9 @@ can_be (Some (Show word)) input held can = by input can.2
           status = refl;
           note = refl;
         }
+can_be (Some Analyze) None held can = absurd can
+can_be (Some Analyze) (Some bytes) held can =
+    record { outcome = _; is = record { listing = Text can.0; lists = can.1; is = refl }; status = refl; note = refl }
 can_be (Some (Pack word name)) input None can = absurd can
 can_be (Some (Pack word name)) input (Some map) can =
     let stream = described_stream can.set can.machine can.images in

@@ -18,7 +18,7 @@ use Rattle.vms_commands.proofs.FileSets.{FitStep, fit_word}
 use Rattle.vms_cli.specs.Answers.{HasOutcome}
 use Rattle.vms_cli.specs.Check.{AreCompatible, Verdict}
 use Rattle.vms_cli.specs.Laws.{CheckThenShowLaw}
-use Rattle.vms_cli.specs.Commands.{Asked, Show, Pack, Check, Counter, Save, Load, Drill, Play}
+use Rattle.vms_cli.specs.Commands.{Asked, Show, Analyze, Pack, Check, Counter, Save, Load, Drill, Play}
 use Rattle.vms_cli.specs.Show.{Shows, ShowsBy, Values as Printed}
 use Rattle.vms_cli.specs.Upgrade.{IsWritten, Upgrade, UpgradesTo, shown_newer}
 
@@ -46,6 +46,7 @@ pub upgrade_so : (asked : Option Asked) (status : ℕ) (old new : Outside)
 upgrade_so None status old new all = tt
 upgrade_so (Some (Show word)) status old new all =
     upgrades_by (word_set old.shelf.held word) (fit_word old.shelf.held word) status old new all
+upgrade_so (Some Analyze) status old new all = tt
 upgrade_so (Some (Pack set name)) status old new all = tt
 upgrade_so (Some (Check older newer)) status old new all = tt
 upgrade_so (Some (Counter older newer)) status old new all = tt

@@ -1,5 +1,5 @@
 -- What a call answers: the row of each command, and what holds of all calls.
-use Rattle.std.specs.Prelude.{◌≡◌, ◌⊎◌, ℕ, List, Option, Some, None}
+use Rattle.std.specs.Prelude.{◌≡◌, ◌⊎◌, ℕ, List, Option, Some, None, IsSomeAnd}
 use Rattle.std.specs.Io.KnownBytes.{Appends}
 use Rattle.vms_io.specs.Shelves.{Held}
 use Rattle.vms_commands.specs.Fetching.{is_on_shelf, named_sets, word_set}
@@ -13,8 +13,9 @@ use Rattle.vms_board_commands.specs.Load.{LoadAnswers, LoadsBy}
 use Rattle.vms_board_commands.specs.Play.{PlayAnswers, PlaysBy}
 use Rattle.vms_board_commands.specs.Save.{saved_after}
 use Rattle.vms_board_commands.specs.Scripts.{scripted}
+use Rattle.vms_cli.specs.Analyze.{AnalyzeAnswers, IsListing}
 use Rattle.vms_cli.specs.Check.{checked, asks_shelf, CheckAnswers, Verdict}
-use Rattle.vms_cli.specs.Commands.{Asked, IsaBoard, Show, Pack, Check, Counter, Save, Load, Drill, Play, asked_of}
+use Rattle.vms_cli.specs.Commands.{Asked, IsaBoard, Show, Analyze, Pack, Check, Counter, Save, Load, Drill, Play, asked_of}
 use Rattle.vms_cli.specs.Counter.{CountersBy, CounterAnswers}
 use Rattle.vms_cli.specs.Continuation.{Continuation}
 use Rattle.vms_cli.specs.Pack.{packs}
@@ -26,6 +27,7 @@ use Rattle.vms_cli.specs.Upgrade.{Upgrade}
 abbrev pub HasOutcome : Option Asked → Option (List ℕ) → Option Held → Outcome → Type 0
 HasOutcome None input held o = o ≡ ended 2 bad_words 0
 HasOutcome (Some (Show set)) input held o = ShowsBy (word_set held set) input held o
+HasOutcome (Some Analyze) input held o = IsSomeAnd input (λ bytes. IsListing held bytes o)
 HasOutcome (Some (Pack set name)) input held o = HasText held (packs held set name) o
 HasOutcome (Some (Check old new)) input held o = HasText held (checked held old new) o
 HasOutcome (Some (Counter old new)) input held o = CountersBy (named_sets held old new) held o
@@ -48,6 +50,7 @@ abbrev pub CanAnswer : Option Asked → ℕ → Outside → Outside → Type 0
 CanAnswer None status old new = BadWordsAnswers status old new
 CanAnswer (Some (Show set)) status old new =
     ShowAnswers (is_on_shelf set) (word_set old.shelf.held set) status old new
+CanAnswer (Some Analyze) status old new = AnalyzeAnswers status old new
 CanAnswer (Some (Pack set name)) status old new = TextAnswers status old new
 CanAnswer (Some (Check one other)) status old new = CheckAnswers (asks_shelf one other) status old new
 CanAnswer (Some (Counter one other)) status old new = CounterAnswers (asks_shelf one other) status old new

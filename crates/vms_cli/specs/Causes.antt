@@ -12,8 +12,9 @@ use Rattle.vms_commands.specs.Texts.{TextCauses}
 use Rattle.vms_board.specs.Isa.{isa}
 use Rattle.vms_board_commands.specs.Causes.{DrillCauses, LoadCauses, PlayCauses}
 use Rattle.vms_board_commands.specs.Scripts.{scripted}
+use Rattle.vms_cli.specs.Analyze.{AnalyzeCauses}
 use Rattle.vms_cli.specs.Check.{asks_shelf}
-use Rattle.vms_cli.specs.Commands.{Asked, IsaBoard, Show, Pack, Check, Counter, Save, Load, Drill, Play}
+use Rattle.vms_cli.specs.Commands.{Asked, IsaBoard, Show, Analyze, Pack, Check, Counter, Save, Load, Drill, Play}
 use Rattle.vms_cli.specs.Show.{GivesWithin, ShowHears}
 
 -- once the set of `show` is there
@@ -110,6 +111,7 @@ CounterCauses asks input input' out out' shelf shelf' ending =
 abbrev pub EndsCause : Option Asked → (input input' : Intake) (out out' : Outlet) (shelf shelf' : Stock) → Ending → Type 0
 EndsCause None input input' out out' shelf shelf' ending = BadWordsCauses input input' out out' shelf shelf' ending
 EndsCause (Some (Show set)) input input' out out' shelf shelf' ending = ShowCauses set input input' out out' shelf shelf' ending
+EndsCause (Some Analyze) input input' out out' shelf shelf' ending = AnalyzeCauses input input' out out' shelf shelf' ending
 EndsCause (Some (Pack set name)) input input' out out' shelf shelf' ending = TextCauses input input' out out' shelf shelf' ending
 EndsCause (Some (Check old new)) input input' out out' shelf shelf' ending =
     CheckCauses (asks_shelf old new) input input' out out' shelf shelf' ending

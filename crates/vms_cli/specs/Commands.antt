@@ -12,11 +12,13 @@ use Rattle.vms_commands.specs.SetWords.{Isa, ShippedSet, SetWord, named_in, set_
 pub data BoardWord : Type 0 where
   IsaBoard : ℕ → BoardWord
 
--- prints the values text of a stream, writes the stream of a values text on the shelf, compares two sets, looks for a state that
--- shows why they aren't compatible, writes the stream of a board under a set after a script, lets a script go on from the board that a stream restores, drills a
+-- prints the values text of a stream by a set or by the stream's own description, writes the stream of a values text on the shelf,
+-- compares two sets, looks for a state that shows why they aren't compatible, writes the stream of a board under a set after a script, lets a
+-- script go on from the board that a stream restores, drills a
 -- board, or plays a session
 pub data Asked : Type 0 where
   Show : SetWord → Asked
+  Analyze : Asked
   Pack : SetWord → List ℕ → Asked
   Check : (old new : SetWord) → Asked
   Counter : (old new : SetWord) → Asked
@@ -116,6 +118,7 @@ triple_of name one two three =
     else if bytes_eq name (codes "save") then save_of (on_board (board_word one) three) (shipped_word two) else None
 
 abbrev pub asked_of : List (List ℕ) → Option Asked
+asked_of (name ∷ []) = if bytes_eq name (codes "analyze") then Some Analyze else None
 asked_of (name ∷ set ∷ []) = if bytes_eq name (codes "show") then show_of (set_word set) else None
 asked_of (name ∷ one ∷ other ∷ []) = pair_of name one other
 asked_of (name ∷ one ∷ two ∷ three ∷ []) = triple_of name one two three

@@ -8,8 +8,9 @@ use Rattle.vms_kinds.specs.Bytes.{IsBytes}
 use Rattle.vms_spec.specs.Streams.{AreReady, is_one_of, written}
 use Rattle.vms_spec.specs.ValuesReading.{Values, values_read}
 use Rattle.vms_stream.specs.Streams.{Takes}
+use Rattle.vms_analyze.specs.Listing.{Lists, Text}
 use Rattle.vms_cli.specs.Answers.{HasOutcome, Answers}
-use Rattle.vms_cli.specs.Commands.{Asked, IsaBoard, Show, Pack, Check, Counter, Save, Load, Drill, Play, asked_of}
+use Rattle.vms_cli.specs.Commands.{Asked, IsaBoard, Show, Analyze, Pack, Check, Counter, Save, Load, Drill, Play, asked_of}
 use Rattle.vms_commands.specs.Outcomes.{Outcome, DoesOrStops, done, text_of, Outside}
 use Rattle.vms_commands.specs.Fetching.{longest_file, named_sets, word_set}
 use Rattle.vms_commands.specs.SetWords.{SetWord}
@@ -71,7 +72,7 @@ pub record CanBeRead (play : Option ℕ) (name : List ℕ) (map : Held) : Type 0
   pub reads : script_read play text ≡ Ok lines
 
 -- what a command asks for so that it can be done: of `show` a word that names a set, and a stream of it at the front of the
--- input, of `pack` a set and a values text of it, of `check` words that name two compatible sets, of
+-- input, of `analyze` an input that has a listing, of `pack` a set and a values text of it, of `check` words that name two compatible sets, of
 -- `counter` words that name two sets, of `save` a script, of `load` a script and a stream of a board at the front of the input, of `play` a script on a shelf of bytes, of
 -- `drill` nothing
 abbrev pub CanBeDone : Option Asked → Option (List ℕ) → Option Held → Type 0
@@ -79,6 +80,8 @@ CanBeDone None input held = ⊥
 CanBeDone (Some (Show word)) input held =
     (set : Set) × (word_set held word ≡ Gives set) × IsSomeAnd input (λ bytes. (taken : ℕ) × (machine : Option (List ℕ))
     × (images : List Image) × Takes set set.machines bytes taken machine images)
+CanBeDone (Some Analyze) input held =
+    IsSomeAnd input (λ bytes. (text : List ℕ) × Lists bytes (Text text))
 CanBeDone (Some (Pack word name)) input held = IsSomeAnd held (λ map. CanBePacked word name map)
 CanBeDone (Some (Check old new)) input held =
     (sets : Both Set) × (named_sets held old new ≡ Gives sets) × Compatible sets.old sets.new

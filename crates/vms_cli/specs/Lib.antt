@@ -1,3 +1,5 @@
+pub mod Analyze
+pub mod AnalyzeLaws
 pub mod Answers
 pub mod Asks
 pub mod Causes

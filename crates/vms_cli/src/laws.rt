@@ -1,4 +1,5 @@
-//! Each law is the contract of a function without a body. The statements stand in `specs/Laws.antt` and `specs/States.antt`.
+//! Each law is the contract of a function without a body. The statements stand in `specs/Laws.antt`, `specs/AnalyzeLaws.antt` and `specs/States.antt`.
+ghost use Rattle.vms_cli.specs.AnalyzeLaws.{PackThenAnalyzeLaw, ShowThenAnalyzeLaw};
 ghost use Rattle.vms_cli.specs.States.{AlwaysNamedLaw, StateLaw};
 ghost use Rattle.vms_cli.specs.Laws.{CheckThenShowLaw, OutcomeLaw, CompleteLaw, AmpleLaw, PackThenShowLaw, ShowThenPackLaw, WordsLaw};
 
@@ -32,6 +33,17 @@ pub fn check_then_show_law()
 /// What `pack` gives for a text, `show` shows as that text.
 pub fn pack_then_show_law()
     ensures { PackThenShowLaw }
+{}
+
+/// What `pack` gives for a text, `analyze` shows as that text, without the set.
+pub fn pack_then_analyze_law()
+    ensures { PackThenAnalyzeLaw }
+{}
+
+/// The text that `show` gives for a stream that was written under its set with its description, as by `save`, `analyze`
+/// gives too.
+pub fn show_then_analyze_law()
+    ensures { ShowThenAnalyzeLaw }
 {}
 
 /// Of the text that `show` gives for a written stream, with a machine or without one, `pack` gives that stream again.

@@ -1,6 +1,7 @@
 //! The program's top call: it does what the words say over the outside that is handed in.
 #![tactic(auto)]
 
+mod analyze;
 mod board_words;
 mod boards;
 mod check;

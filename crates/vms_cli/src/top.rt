@@ -7,6 +7,7 @@ ghost use Rattle.vms_commands.specs.Endings.{EndsAs, Tells};
 ghost use Rattle.vms_cli.specs.Causes.{EndsCause};
 ghost use Rattle.vms_commands.specs.Outcomes.{Outcome};
 
+use crate::analyze::analyze_input;
 use crate::boards::{BoardWord, SavedBoard};
 use crate::check::check;
 use crate::counter::counter;
@@ -36,8 +37,8 @@ use vms_io::{Shelf, Sink, Source, write_all_of};
 /// | 10 | memory is wanting |
 ///
 /// One line goes to notes for each status but 0. On statuses but 0 and 6 out is untouched, but for `play`: on 7 and 10
-/// the traces of the lines before the one that failed stand on it. Nothing of the input is taken but by `show` and
-/// `load`.
+/// the traces of the lines before the one that failed stand on it. Nothing of the input is taken but by `show`,
+/// `analyze` and `load`.
 pub fn vmstate<I: Source, O: Sink, N: Sink, H: Shelf>(
     alloc: Global,
     words: &Words,
@@ -105,6 +106,7 @@ fn run<I: Source, O: Sink, H: Shelf>(
 {
     match words.command() {
         Some(Command::Show { set }) => show(alloc, set, input, out, shelf),
+        Some(Command::Analyze) => analyze_input(alloc, input, out),
         Some(Command::Pack { set, values }) => pack(alloc, set, values, out, shelf),
         Some(Command::Check { old, new }) => check(alloc, old, new, out, shelf),
         Some(Command::Counter { old, new }) => counter(alloc, old, new, out, shelf),

@@ -4,7 +4,7 @@ ghost use Rattle.std.specs.Str.{bytes_eq};
 ghost use Rattle.std.specs.Option.{option_map};
 ghost use Rattle.vms_commands.specs.SetWords.{set_word, shipped_word};
 ghost use Rattle.vms_cli.specs.Asks.{asked, board_asked};
-ghost use Rattle.vms_cli.specs.Commands.{asked_of, board_word, check_of, counter_of, drill_of, few_events, isa_level, load_of, number_word, on_board, pack_of, pair_of, play_of, save_of, show_of, triple_of};
+ghost use Rattle.vms_cli.specs.Commands.{Analyze, asked_of, board_word, check_of, counter_of, drill_of, few_events, isa_level, load_of, number_word, on_board, pack_of, pair_of, play_of, save_of, show_of, triple_of};
 
 use crate::board_words::{board_word, events_word, isa_board, number_word};
 use crate::boards::{BoardWord, IsaBoard, IsaSaved, SavedBoard};
@@ -21,6 +21,8 @@ pub(crate) enum Command<'a> {
     Show {
         set: SetWord<'a>,
     },
+    /// `analyze`
+    Analyze,
     /// `pack SET VALUES`
     Pack {
         set: SetWord<'a>,
@@ -100,6 +102,7 @@ impl Words {
         ensures { option_map asked result ≡ asked_of self.now }
     {
         match self.words.as_slice() {
+            [name] => bare_of(name.as_str()),
             [name, set] => single_of(name.as_str(), set.as_str()),
             [name, one, other] => pair_of(name.as_str(), one.as_str(), other.as_str()),
             [name, one, two, three] => triple_of(
@@ -110,6 +113,18 @@ impl Words {
             ),
             _ => None,
         }
+    }
+}
+
+// A command without a word behind its name.
+fn bare_of(name: &str) -> Option<Command<'static>>
+    ensures { option_map asked result ≡ (if bytes_eq name.now (codes "analyze")
+        then Some Analyze else None) }
+{
+    if name == "analyze" {
+        Some(Command::Analyze)
+    } else {
+        None
     }
 }
 

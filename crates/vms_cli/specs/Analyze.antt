@@ -1,0 +1,105 @@
+-- The command `analyze`: its outcome, and what it can answer.
+use Rattle.std.specs.Prelude.{◌≡◌, ◌⊎◌, ℕ, ◌+◌, ◌≤◌, min, List, [], ◌∷◌, ◌++◌, length, Option, Result, Ok, Err, codes}
+use Rattle.std.specs.Fmt.{decimal}
+use Rattle.std.specs.Io.KnownBytes.{Appends, Keeps}
+use Rattle.arrayvec.specs.ArrayVec.{ArrayVec}
+use Rattle.vms_io.specs.Causes.{Rose}
+use Rattle.vms_io.specs.Shelves.{Held}
+use Rattle.vms_io.specs.Told.{Intake, Outlet, Stock}
+use Rattle.vms_analyze.specs.Listing.{Listing, Text, Refused, Lists, longest_input}
+use Rattle.vms_analyze.specs.declared.fault.AnalyzeFault.{AnalyzeFault}
+use Rattle.vms_analyze.specs.declared.fault.AnalyzeFault.TheVariants as faults
+use Rattle.vms_analyze.specs.declared.fault.AnalyzeReason.{AnalyzeReason}
+use Rattle.vms_analyze.specs.declared.fault.AnalyzeReason.TheVariants as reasons
+use Rattle.vms_commands.specs.Outcomes.{Outcome, Outside, done, ended, ReadFault, OutFault, NotesFault, WantsMemory, EndsBy}
+use Rattle.vms_commands.specs.declared.ending.Ending.{Ending}
+use Rattle.vms_commands.specs.declared.ending.Ending.TheVariants as endings
+use Rattle.vms_board_commands.specs.Heard.{Hears, HearsDone, HearsEnd}
+
+abbrev pub analyze_reason_name : AnalyzeReason → List ℕ
+analyze_reason_name reasons.TooLong = codes "TooLong"
+analyze_reason_name reasons.NoDescription = codes "NoDescription"
+analyze_reason_name reasons.Shape = codes "Shape"
+analyze_reason_name reasons.Mismatch = codes "Mismatch"
+
+-- the line of an input that isn't listed; no section is named
+abbrev pub unlisted_line : ℕ → AnalyzeReason → List ℕ
+unlisted_line at reason =
+    codes "refused at " ++ (decimal at ++ (codes " in -: " ++ (analyze_reason_name reason ++ 10 ∷ [])))
+
+-- how many bytes of the input are taken: all, or one more than an input may have
+abbrev pub bytes_taken : List ℕ → ℕ
+bytes_taken input = min (length input) (longest_input + 1)
+
+-- the text of a listing, or the line of its refusal
+abbrev pub listing_outcome : Listing → List ℕ → Option Held → Outcome
+listing_outcome (Text text) input held = done text held (bytes_taken input)
+listing_outcome (Refused at reason) input held = ended 1 (unlisted_line at reason) (bytes_taken input)
+
+-- the outcome is that of the listing of the input; the shelf tells the same as before
+pub record IsListing (held : Option Held) (input : List ℕ) (o : Outcome) : Type 0 where
+  pub listing : Listing
+  pub lists : Lists input listing
+  pub is : o ≡ listing_outcome listing input held
+
+-- ---- how it ends, and why, told or not
+
+-- the ending of each answer of the call
+pub data EndsLike : Result (Unit {0}) AnalyzeFault → Ending → Type 0 where
+  IsDone : (u : Unit {0}) → EndsLike (Ok u) endings.Done
+  IsRefused : (at : ℕ) (reason : AnalyzeReason) (line : ArrayVec ℕ) → line.items ≡ unlisted_line at reason
+      → EndsLike (Err (faults.Refused at reason)) (endings.Refused line)
+  FailsReading : EndsLike (Err faults.ReadFault) endings.ReadFault
+  FailsWriting : EndsLike (Err faults.WriteFault) endings.WriteFault
+  LacksMemory : EndsLike (Err faults.NoMemory) endings.NoMemory
+
+abbrev pub ListCause : (input input' : Intake) (out out' : Outlet) → Ending → Type 0
+ListCause input input' out out' endings.Done = Unit {0}
+ListCause input input' out out' (endings.Refused line) = Keeps out.written out'.written
+ListCause input input' out out' endings.ReadFault =
+    Rose input.faults input'.faults × Keeps out.written out'.written
+ListCause input input' out out' endings.WriteFault = Rose out.faults out'.faults
+ListCause input input' out out' endings.NoMemory = Keeps out.written out'.written
+ListCause input input' out out' _ = ⊥
+
+-- what is heard of the input: bytes, as many as were given, of which the outcome is that of their listing
+abbrev pub ListHears : Option Held → (before now : ℕ) (out out' : Outlet) → Ending → Type 0
+ListHears held before now out out' ending = HearsEnd (IsListing held) held before now out out' ending
+
+-- at most so many bytes are given
+abbrev pub GivesListed : (before now : ℕ) → Type 0
+GivesListed before now = now ≤ before + (longest_input + 1)
+
+abbrev pub AnalyzeCauses : (input input' : Intake) (out out' : Outlet) (shelf shelf' : Stock) → Ending → Type 0
+AnalyzeCauses input input' out out' shelf shelf' ending =
+    ListCause input input' out out' ending × (shelf' ≡ shelf) × GivesListed input.given input'.given
+    × ListHears shelf.held input.given input'.given out out' ending
+
+-- ---- what it can answer, told or not
+
+abbrev pub AnalyzeStatus : ℕ → Outside → Outside → Type 0
+AnalyzeStatus status old new =
+    (status ≡ 0)
+    ⊎ EndsBy 1 status old new
+    ⊎ ReadFault status old new
+    ⊎ OutFault status old new
+    ⊎ NotesFault status old new
+    ⊎ (WantsMemory status old new × Keeps old.out.written new.out.written)
+
+-- the text of their listing stands on out
+abbrev pub HasListed : Outside → Outside → Type 0
+HasListed old new = HearsDone (IsListing old.shelf.held) old.shelf.held old.input.given new.input.given old.out new.out
+
+-- the line of their refusal stands on notes
+abbrev pub HasRefused : Outside → Outside → Type 0
+HasRefused old new =
+    (line : List ℕ) × Appends old.notes.written new.notes.written line
+    × Hears (IsListing old.shelf.held) line old.input.given new.input.given
+
+pub record AnalyzeAnswers (status : ℕ) (old new : Outside) : Type 0 where
+  pub ends : AnalyzeStatus status old new
+  pub given : GivesListed old.input.given new.input.given
+  -- the bytes that are taken are listed, or refused
+  pub taken : status ≡ 0 → HasListed old new
+  pub refused : status ≡ 1 → HasRefused old new
+  pub shelf : new.shelf ≡ old.shelf

@@ -1,0 +1,27 @@
+-- What `analyze` prints of streams that are written with their description.
+use Rattle.std.specs.Prelude.{◌≡◌, ℕ, true, List, length, Option, Some, IfSome}
+use Rattle.vms_io.specs.Shelves.{Held}
+use Rattle.vms_spec.specs.Images.{Image}
+use Rattle.vms_spec.specs.Sets.{Set}
+use Rattle.vms_spec.specs.Streams.{AreReady, is_one_of}
+use Rattle.vms_commands.specs.Fetching.{word_set}
+use Rattle.vms_commands.specs.Outcomes.{done}
+use Rattle.vms_commands.specs.SetWords.{SetWord}
+use Rattle.vms_commands.specs.Steps.{Gives}
+use Rattle.vms_cli.specs.Answers.{HasOutcome}
+use Rattle.vms_cli.specs.Commands.{Show, Analyze, Pack}
+use Rattle.vms_cli.specs.Pack.{described_stream}
+
+-- where `pack` gives a stream for the text under a name, `analyze` gives that text for the stream, and takes all of it
+abbrev pub PackThenAnalyzeLaw : Type 0
+PackThenAnalyzeLaw = (word : SetWord) (name text stream : List ℕ) (input : Option (List ℕ)) (map : Held) → map name ≡ Some text
+    → HasOutcome (Some (Pack word name)) input (Some map) (done stream (Some map) 0)
+    → HasOutcome (Some Analyze) (Some stream) (Some map) (done text (Some map) (length stream))
+
+-- where `show` gives a text for a stream that was written under the set of its word, with a machine of the set or none and with
+-- its description, `analyze` gives that text too
+abbrev pub ShowThenAnalyzeLaw : Type 0
+ShowThenAnalyzeLaw = (word : SetWord) (set : Set) (machine : Option (List ℕ)) (images : List Image) (text : List ℕ) (held : Option Held)
+    → word_set held word ≡ Gives set → AreReady set images → IfSome machine (λ m. is_one_of set.machines m ≡ true)
+    → (n : ℕ) → HasOutcome (Some (Show word)) (Some (described_stream set machine images)) held (done text held n)
+    → HasOutcome (Some Analyze) (Some (described_stream set machine images)) held (done text held n)
