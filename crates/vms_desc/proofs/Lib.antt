@@ -9,6 +9,7 @@ pub mod PathBegins
 pub mod PathLaws
 pub mod AskLaws
 pub mod Clean
+pub mod ClockHeads
 pub mod HeadLaws
 pub mod TablesMade
 pub mod SpotTables

@@ -2,6 +2,7 @@
 use Rattle.std.specs.Prelude.{Bool, is_none}
 use Rattle.vms_spec.specs.Sets.{Set}
 use Rattle.vms_spec.specs.WellFormed.{first_fault}
+pub use Rattle.vms_shipped.specs.ClockSets.{clock_set}
 pub use Rattle.vms_shipped.specs.Numbered.{shipped_set}
 
 abbrev pub is_well_formed : Set → Bool

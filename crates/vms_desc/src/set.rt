@@ -7,7 +7,7 @@ ghost use Rattle.vms_spec.specs.Places.{own_cell_count};
 ghost use Rattle.vms_spec.specs.Tests.{truth};
 ghost use Rattle.vms_spec.specs.Lookup.{find_device};
 ghost use Rattle.vms_spec.specs.Heads.{FitsHeads};
-ghost use Rattle.vms_desc.specs.Formed.{is_well_formed, shipped_set};
+ghost use Rattle.vms_desc.specs.Formed.{clock_set, is_well_formed, shipped_set};
 ghost use Rattle.vms_desc.specs.Numbers.{sizes_of};
 ghost use Rattle.vms_desc.specs.Parts.{HasPart, HasParentCells, desc_at, parent_of, is_placed};
 ghost use Rattle.vms_desc.specs.Scopes.{IsParent};
@@ -24,7 +24,7 @@ use crate::{CellForm, Cells, Desc, Device, Listed, Part, Parts, Test};
 use std::alloc::{AllocError, Global};
 use vms_io::NoMemory;
 use vms_parts::{Measure, struct_sizes};
-use vms_shipped::shipped_parts;
+use vms_shipped::{clock_parts, shipped_parts};
 use vms_spots::Spot;
 
 /// A well-formed set, with the cells of each device laid out beside it.
@@ -62,6 +62,14 @@ impl DescSet {
         ensures { IfOk result (λ set. described set ≡ shipped_set s) }
     {
         Ok(Self::assemble(alloc, shipped_parts(alloc, s)?)?)
+    }
+
+    /// The clock set of this number, 1 or 2; number 0 stands for the first too. Fails only where memory is wanting.
+    pub fn clock(alloc: Global, c: u8) -> Result<DescSet, NoMemory>
+        requires { c ≤ 2 }
+        ensures { IfOk result (λ set. described set ≡ clock_set c) }
+    {
+        Ok(Self::assemble(alloc, clock_parts(alloc, c)?)?)
     }
 
     // The set of parts that are well formed, laid out.

@@ -1,2 +1,3 @@
+pub mod ClockSets
 pub mod Numbered
 pub mod Rows

@@ -1,11 +1,12 @@
 //! The shipped sets as plain parts: the machines isa-0 to isa-4 with the sections of a timer, the pair of 8259A,
-//! the 8253 or 8254, and the 16450 or 16550A.
+//! the 8253 or 8254, and the 16450 or 16550A, and clk-1 and clk-2 with an MC146818 beside those of isa-4.
 #![tactic(auto)]
 
 mod chips;
+mod clock;
 mod made;
 mod rows;
 mod serial;
 mod sets;
 
-pub use sets::shipped_parts;
+pub use sets::{clock_parts, shipped_parts};

@@ -1,5 +1,6 @@
 // The shipped sets.
 ghost use Rattle.std.specs.Prelude.{◌≡◌, ◌≤◌, IfOk};
+ghost use Rattle.vms_shipped.specs.ClockSets.{clock_set};
 ghost use Rattle.vms_shipped.specs.Numbered.{shipped_set};
 ghost use Rattle.vms_parts.specs.Views.{set_of};
 
@@ -7,6 +8,7 @@ use crate::chips::{
     CHANNEL_AT_1, CHANNEL_AT_2, FIRST_AT_1, FIRST_AT_2, FIRST_AT_4, I8254_AT_1, I8254_AT_2,
     SECOND_AT_1, SECOND_AT_2, SECOND_AT_4, TIMER,
 };
+use crate::clock::{MC146818_AT_1, MC146818_AT_2};
 use crate::made::parts;
 use crate::rows::SetRow;
 use crate::serial::{SERIAL_AT_1, SERIAL_AT_2, SERIAL_AT_3, SERIAL_AT_4};
@@ -57,5 +59,44 @@ pub fn shipped_parts(alloc: Global, s: u8) -> Result<Parts, NoMemory>
         2 => parts(alloc, &SET_2),
         3 => parts(alloc, &SET_3),
         _ => parts(alloc, &SET_4),
+    }
+}
+
+// The boards with a clock chip, which stands in front of the devices of isa-4.
+const CLOCK_1: SetRow = SetRow {
+    machines: &["clk-1"],
+    structs: &[CHANNEL_AT_2],
+    devices: &[
+        MC146818_AT_1,
+        TIMER,
+        FIRST_AT_4,
+        SECOND_AT_4,
+        I8254_AT_2,
+        SERIAL_AT_4,
+    ],
+};
+
+const CLOCK_2: SetRow = SetRow {
+    machines: &["clk-1", "clk-2"],
+    structs: &[CHANNEL_AT_2],
+    devices: &[
+        MC146818_AT_2,
+        TIMER,
+        FIRST_AT_4,
+        SECOND_AT_4,
+        I8254_AT_2,
+        SERIAL_AT_4,
+    ],
+};
+
+/// The parts of the clock set of this number, 1 or 2; number 0 stands for the first too. The answer is an error only
+/// where memory is wanting.
+pub fn clock_parts(alloc: Global, c: u8) -> Result<Parts, NoMemory>
+    requires { c ≤ 2 }
+    ensures { IfOk result (λ parts. set_of parts ≡ clock_set c) }
+{
+    match c {
+        0 | 1 => parts(alloc, &CLOCK_1),
+        _ => parts(alloc, &CLOCK_2),
     }
 }

@@ -1,0 +1,7 @@
+use Rattle.std.proofs.Common.{ap, ◌∙◌}
+use Rattle.vms_desc.specs.Formed.{is_well_formed}
+use Rattle.vms_desc.proofs.Formed.{clock_formed}
+use Rattle.vms_desc.proofs.set.DescSet.clock.Goals as goal
+
+pub assemble-requires : goal.assemble-requires
+assemble-requires c = ap is_well_formed c.in_ok-clock_parts.ensures ∙ clock_formed c.args.c
