@@ -1,0 +1,38 @@
+-- Images of the devices that stand behind the first of a set: the others, and the structures, are those of the newest shipped set.
+use Rattle.std.proofs.Common.{◌≡◌, ℕ, suc, Some, None, List, [], ◌∷◌, ℤ, if◌then◌else◌, refl, ap, ◌∙◌, Option}
+use Rattle.vms_spec.specs.Images.{Image, IsNormal}
+use Rattle.vms_spec.specs.Sets.{Sub, Device, Set}
+use Rattle.vms_spec.specs.Shipped.{set_4}
+use Rattle.vms_spec.specs.Streams.{IsReady, is_needed}
+use Rattle.dev_images.specs.Images.{needed_from, bare, image_of, images_of}
+
+abbrev pub outer : List (List ℕ) → Device → Set
+outer machines d = record { machines = machines; structs = set_4.structs; devices = d ∷ set_4.devices }
+
+module _ (machines : List (List ℕ)) (d : Device) where
+  pub inner_normal : (e : Device) (image : Image) → IsNormal (outer machines d) e image → IsNormal set_4 e image
+  inner_normal e image n = record { version = n.version; subs = n.subs; cells = n.cells; absent = n.absent }
+
+  pub inner_ready : (e : Device) (image : Image) → IsReady set_4 e image → IsReady (outer machines d) e image
+  inner_ready e image r = record {
+    normal = record { version = r.normal.version; subs = r.normal.subs; cells = r.normal.cells; absent = r.normal.absent };
+    valid = r.valid;
+    version = r.version;
+    needed = r.needed;
+  }
+
+  -- an image needs the same subsections
+  needed-same : (e : Device) (image : Image) (j : ℕ) (subs : List Sub) → needed_from (outer machines d) e image j subs ≡ needed_from set_4 e image j subs
+  needed-same e image j [] = refl
+  needed-same e image j (s ∷ subs) =
+      ap (λ (came : List (Option ℕ)). (if is_needed set_4 e image s j then Some s.desc.version else None) ∷ came) (needed-same e image (suc j) subs)
+
+  image-same : (e : Device) (numbers : List ℤ) → image_of (outer machines d) e numbers ≡ image_of set_4 e numbers
+  image-same e numbers = ap (λ (came : List (Option ℕ)). record (bare e numbers) { came = came }) (needed-same e (bare e numbers) 0 e.subs)
+
+  pub images_same : (devices : List Device) (lists : List (List ℤ)) → images_of (outer machines d) devices lists ≡ images_of set_4 devices lists
+  images_same [] lists = refl
+  images_same (e ∷ devices) [] = refl
+  images_same (e ∷ devices) (numbers ∷ lists) =
+      ap (λ (image : Image). image ∷ images_of (outer machines d) devices lists) (image-same e numbers)
+      ∙ ap (λ (images : List Image). image_of set_4 e numbers ∷ images) (images_same devices lists)

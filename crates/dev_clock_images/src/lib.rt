@@ -1,0 +1,8 @@
+//! The images of a clock board's devices under the clock sets.
+#![tactic(auto)]
+
+mod laws;
+
+pub use laws::{
+    carried_law, chip_law, compatible_law, images_law, kinds_law, normal_law, saved_law,
+};
