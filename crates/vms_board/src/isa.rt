@@ -42,6 +42,7 @@ impl Machine for Devices {
         Devices::new(number)
     }
 
+    #[inline(always)]
     fn event(&mut self, event: Event) -> Answer {
         self.event(event)
     }

@@ -27,6 +27,7 @@ pub(crate) fn put_fields(
 }
 
 #[cycle(forms)]
+#[inline(always)]
 fn put_field(structs: &[Desc], field: &Field, forms: &mut Vec<CellForm>) -> Result<(), AllocError>
     ensures { OnOk result (forms.new.items ≡ forms.old.items
         ++ field_forms (forms_to (map desc_of structs.now) (length structs.now))
@@ -39,6 +40,7 @@ fn put_field(structs: &[Desc], field: &Field, forms: &mut Vec<CellForm>) -> Resu
 }
 
 #[cycle(forms)]
+#[inline(always)]
 fn put_element(structs: &[Desc], field: &Field, forms: &mut Vec<CellForm>) -> Result<(), AllocError>
     ensures { OnOk result (forms.new.items ≡ forms.old.items
         ++ item_forms (forms_to (map desc_of structs.now) (length structs.now))

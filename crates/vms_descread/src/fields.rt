@@ -186,6 +186,7 @@ fn read_front(alloc: Global, names: Names, value: &Node) -> Result<Front, Fault>
 }
 
 // Where a field is there.
+#[inline(always)]
 fn read_presence(alloc: Global, names: Names, value: &Node) -> Result<Option<Test>, Fault>
     ensures { Answers (option_map formula) (presence_of (names_seen names.entry) (view value.now))
         result }

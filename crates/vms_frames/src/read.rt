@@ -48,6 +48,7 @@ pub(crate) fn version<S: Source>(source: &mut S, at: u64) -> Result<(), FrameFau
 }
 
 /// A number of this kind.
+#[inline(always)]
 pub(crate) fn number<S: Source>(source: &mut S, at: u64, kind: Kind) -> Result<i128, FrameFault>
     ensures range { IfOk result (InRange kind) }
     ensures reads { ReadsUnit (intake S.Source source.old) (intake S.Source source.new)

@@ -45,6 +45,7 @@ fn is_among(keys: &[&str], key: &str) -> bool
     keys.iter().any(|other| is_key(other, key))
 }
 
+#[inline(always)]
 fn is_one_of(keys: &[&str], key: &str) -> bool
     ensures { result ≡ is_one_of (map (λ k. k.now) keys.now) key.now }
 {

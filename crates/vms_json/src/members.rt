@@ -10,6 +10,7 @@ use crate::words::Reads;
 use std::alloc::Global;
 
 /// What the member of a key says.
+#[inline(always)]
 pub fn at<R: Reads>(alloc: Global, reader: &R, key: &str, value: &Node) -> Result<R::Out, Fault>
     ensures { Answers R.means (at (R.says reader.now) key.now (view value.now)) result }
 {
@@ -45,6 +46,7 @@ where
 }
 
 /// What the member of a key says, where there is one.
+#[inline(always)]
 pub fn maybe_at<R: Reads>(
     alloc: Global,
     reader: &R,

@@ -75,6 +75,7 @@ impl<'a> Node<'a> {
     }
 
     /// The member of this key, where this is an object that has one.
+    #[inline(always)]
     pub fn get(&self, key: &str) -> Option<&Node<'a>>
         ensures { option_map (λ v. view v.now) result ≡ get key.now (view self.now) }
     {

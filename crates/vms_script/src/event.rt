@@ -13,6 +13,7 @@ use crate::split::split_word;
 use dev_board::{Event, is_wire};
 
 /// The event of a line by its first word and what stands behind it, or `None` where the word is no event's.
+#[inline(always)]
 pub(crate) fn read_event(word: &[u8], rest: &[u8]) -> Option<Result<Event, ScriptReason>>
     ensures { (play : Option ℕ) → line_of_words play word.now rest.now
         ≡ event_or (play_line play word.now rest.now) result }

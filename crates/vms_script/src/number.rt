@@ -11,6 +11,7 @@ pub const LONGEST_WAIT: u64 = 1_000_000_000_000_000;
 
 /// The number that a text spells, in decimal without leading zeros: `Form` exactly where it spells none, and
 /// `Range` where it is negative or 2^64 or more.
+#[inline(always)]
 pub fn number_of(text: &[u8]) -> Result<u64, ScriptReason>
     ensures { result ≡ number_read (number_spelled text.now) }
 {

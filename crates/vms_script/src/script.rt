@@ -58,6 +58,7 @@ fn read_lines<L: Kept>(alloc: Global, text: &[u8], play: Option<u8>) -> Result<V
 }
 
 // Appends what a line without its line feed says, or tells that it says nothing.
+#[inline(always)]
 fn put_line<L: Kept>(
     lines: &mut Vec<L>,
     number: u32,

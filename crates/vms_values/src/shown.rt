@@ -205,6 +205,7 @@ fn print_struct<K: Sink>(
 }
 
 // The line of a cell, of which the path is there.
+#[inline(always)]
 fn print_number<K: Sink>(number: i128, line: &mut Line, sink: &mut K) -> Result<(), Failed>
     requires short { length line.old + 54 ≤ LONGEST }
     ensures written { let tail = codes " = " ++ (signed_decimal number ++ line_end) in

@@ -180,6 +180,7 @@ fn read_elements(
 
 // The lines of one element, the first of the run.
 #[cycle(read)]
+#[inline(always)]
 fn read_item(set: &DescSet, run: Run, path: &mut Line, taken: &mut Taken) -> Result<(), LineFault>
     requires reaches { uses_below (length (described set.now).structs) run.field.now.item ≡ true }
     requires room { let size = size_in (described set.now) run.field.now.item in

@@ -14,6 +14,7 @@ pub struct NextLine<'a> {
 }
 
 /// The first line, or `None` exactly where no line feed ends it.
+#[inline(always)]
 pub fn next_line<'a>(rest: &'a [u8]) -> Option<NextLine<'a>>
     ensures first { IsFirstLine (first_line rest.now) result }
     ensures long { IfSome result (λ line.
