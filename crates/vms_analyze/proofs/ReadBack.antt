@@ -10,33 +10,9 @@ use Rattle.vms_spec.specs.Rules.{in_range}
 use Rattle.vms_selfdesc.specs.Drafts.{IsSound, AreSound}
 use Rattle.vms_selfdesc.specs.Tree.{entry_tree, list_tree}
 use Rattle.vms_spec.proofs.KindLaws.{width_small}
+use Rattle.vms_selfdesc.proofs.Soundness.{natural_fits, negative_fits}
 use Rattle.vms_selfdesc.proofs.ReadBack.{natural_sound, negative_sound, array_sound, sent_sound, absent_sound, sub_sound, device_sound, whole_sound}
 use Rattle.vms_analyze.specs.Told.{Told, Sent, Kept, Fixed, Skipped, told_entry, ToldSub, told_sub, ToldDevice, told_device, told_tree, is_path, fits_four, is_good, is_kept, is_good_sub, is_good_device}
-use Rattle.vms_kinds.specs.declared.Kind.TheVariants as kinds
-
-natural_fits : (kind : Kind) (n : ℕ) → int_le (pos n) (highest kind) ≡ true → n < 2 ^ 64
-natural_fits kinds.U8 n e = omega (arith, leb-true n 0xff e)
-natural_fits kinds.U16 n e = omega (arith, leb-true n 0xffff e)
-natural_fits kinds.U32 n e = omega (arith, leb-true n 0xffff_ffff e)
-natural_fits kinds.U64 n e = omega (arith, leb-true n 0xffff_ffff_ffff_ffff e)
-natural_fits kinds.I8 n e = omega (arith, leb-true n 0x7f e)
-natural_fits kinds.I16 n e = omega (arith, leb-true n 0x7fff e)
-natural_fits kinds.I32 n e = omega (arith, leb-true n 0x7fff_ffff e)
-natural_fits kinds.I64 n e = omega (arith, leb-true n 0x7fff_ffff_ffff_ffff e)
-natural_fits kinds.Bool n e = omega (arith, leb-true n 1 e)
-natural_fits kinds.Timer n e = omega (arith, leb-true n 0xffff_ffff_ffff_ffff e)
-
-negative_fits : (kind : Kind) (n : ℕ) → int_le (lowest kind) (negsuc n) ≡ true → n < 2 ^ 63
-negative_fits kinds.U8 n e = cc
-negative_fits kinds.U16 n e = cc
-negative_fits kinds.U32 n e = cc
-negative_fits kinds.U64 n e = cc
-negative_fits kinds.I8 n e = omega (arith, leb-true n 0x7f e)
-negative_fits kinds.I16 n e = omega (arith, leb-true n 0x7fff e)
-negative_fits kinds.I32 n e = omega (arith, leb-true n 0x7fff_ffff e)
-negative_fits kinds.I64 n e = omega (arith, leb-true n 0x7fff_ffff_ffff_ffff e)
-negative_fits kinds.Bool n e = cc
-negative_fits kinds.Timer n e = cc
 
 value_sound : (kind : Kind) (z : ℤ) → in_range kind z ≡ true → IsSound (number (of_integer z))
 value_sound kind (pos n) e = natural_sound n (natural_fits kind n (and_parts (int_le (lowest kind) (pos n)) (int_le (pos n) (highest kind)) e).1)

@@ -137,10 +137,13 @@ fn read_members<'a>(
         → converted (λ ms. of_members ms no_members)
         (members (value depth) (length reader.old) reader.old) ≡ None }
 {
-    // Most objects have two members, a field's name and its kind.
-    let mut found = Vec::with_capacity(alloc, 2)?;
+    let mut found = Vec::new(alloc);
     'members: while let Some(name) = reader.next_key()? {
         let member = read(alloc, reader, depth)?;
+        if found.is_empty() {
+            // Most objects have two members, a field's name and its kind. `{}` takes no room.
+            found = Vec::with_capacity(alloc, 2)?;
+        }
         found.push((name, member))?;
     }
     Ok(found)

@@ -31,7 +31,7 @@ use Rattle.vms_selfdesc.proofs.Sound.{no_field_fault, own_rules, struct_whole}
 
 -- ---- a number of 64 bits has at most 20 bytes
 
-natural_fits : (kind : Kind) (n : ℕ) → int_le (pos n) (highest kind) ≡ true → n < 2 ^ 64
+pub natural_fits : (kind : Kind) (n : ℕ) → int_le (pos n) (highest kind) ≡ true → n < 2 ^ 64
 natural_fits kinds.U8 n e = omega (arith, leb-true n 0xff e)
 natural_fits kinds.U16 n e = omega (arith, leb-true n 0xffff e)
 natural_fits kinds.U32 n e = omega (arith, leb-true n 0xffff_ffff e)
@@ -43,7 +43,7 @@ natural_fits kinds.I64 n e = omega (arith, leb-true n 0x7fff_ffff_ffff_ffff e)
 natural_fits kinds.Bool n e = omega (arith, leb-true n 1 e)
 natural_fits kinds.Timer n e = omega (arith, leb-true n 0xffff_ffff_ffff_ffff e)
 
-negative_fits : (kind : Kind) (n : ℕ) → int_le (lowest kind) (negsuc n) ≡ true → n < 2 ^ 63
+pub negative_fits : (kind : Kind) (n : ℕ) → int_le (lowest kind) (negsuc n) ≡ true → n < 2 ^ 63
 negative_fits kinds.U8 n e = cc
 negative_fits kinds.U16 n e = cc
 negative_fits kinds.U32 n e = cc
