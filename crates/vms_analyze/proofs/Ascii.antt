@@ -1,8 +1,8 @@
 -- What is told of the shape has a text of ASCII.
-use Rattle.std.proofs.Common.{◌≡◌, ℕ, zero, suc, ◌+◌, ◌<◌, ◌≤◌, ◌%◌, ◌/◌, Bool, true, false, cond, ◌&&◌, ◌||◌, ◌==◌, nat_lt, nat_le, if◌then◌else◌, List, [], ◌∷◌, ◌++◌, get_or, map, ℤ, pos, negsuc, refl, ap, ◌∙◌, subst, arith, codes}
+use Rattle.std.proofs.Common.{◌≡◌, ℕ, zero, suc, ◌+◌, ◌<◌, ◌%◌, ◌/◌, Bool, true, false, cond, ◌&&◌, ◌||◌, ◌==◌, nat_lt, nat_le, if◌then◌else◌, List, [], ◌∷◌, ◌++◌, get_or, map, ℤ, pos, negsuc, refl, ap, ◌∙◌, subst, arith, codes}
 use Rattle.std.specs.List.{list_all}
 use Rattle.std.proofs.Math.Nat.{mod-lt}
-use Rattle.std.proofs.lemmas.Bool.{and_parts, eqb-true, ltb-true, leb-true, lt-ltb}
+use Rattle.std.proofs.lemmas.Bool.{and_parts, eqb-true, ltb-true, lt-ltb}
 use Rattle.std.proofs.lemmas.Str.{IsUtf8-from_ascii, is_utf8-from_IsUtf8}
 use Rattle.std.specs.Char.{digit_char}
 use Rattle.std.specs.Fmt.{decimal, digits, digits_onto, digit_glyph}
@@ -14,7 +14,6 @@ use Rattle.serde_json.specs.Written.{number_text, comma_if, compact_text, items_
 use Rattle.vms_kinds.specs.declared.Kind.{Kind}
 use Rattle.vms_kinds.specs.declared.Kind.TheVariants as kinds
 use Rattle.vms_words.specs.Words.{kind_word}
-use Rattle.vms_spec.specs.Names.{is_name_byte}
 use Rattle.vms_selfdesc.specs.Tree.{entry_tree}
 use Rattle.vms_analyze.specs.Told.{Told, Sent, Kept, Fixed, Skipped, told_entry, ToldSub, told_sub, ToldDevice, told_device, told_tree, is_path_byte, is_path, fits_four, is_good, is_kept, is_good_sub, is_good_device}
 
@@ -155,23 +154,13 @@ either_small : (a b : Bool) (x : ℕ) → (a || b) ≡ true → (a ≡ true → 
 either_small true b x e f g = f refl
 either_small false b x e f g = g e
 
-range_small : (low high x : ℕ) → high < 128 → (nat_le low x && nat_le x high) ≡ true → x < 128
-range_small low high x lt e = let h = leb-true x high (and_parts (nat_le low x) (nat_le x high) e).1 in omega arith
-
 one_small : (b x : ℕ) → b < 128 → (x == b) ≡ true → x < 128
 one_small b x lt e = let h = eqb-true x b e in omega (arith, h)
-
-name_small : (x : ℕ) → is_name_byte x ≡ true → x < 128
-name_small x e =
-    either_small _ (x == 46) x e (λ e. either_small _ (x == 45) x e (λ e. either_small _ (x == 95) x e
-    (λ e. either_small _ (nat_le 97 x && nat_le x 122) x e (λ e. either_small (nat_le 48 x && nat_le x 57) (nat_le 65 x && nat_le x 90) x e
-    (range_small 48 57 x (omega arith)) (range_small 65 90 x (omega arith))) (range_small 97 122 x (omega arith)))
-    (one_small 95 x (omega arith))) (one_small 45 x (omega arith))) (one_small 46 x (omega arith))
 
 path_small : (x : ℕ) → is_path_byte x ≡ true → x < 128
 path_small x e =
     either_small _ (x == 47) x e (λ e. either_small _ (x == 93) x e (λ e. either_small _ (x == 91) x e
-    (name_small x) (one_small 91 x (omega arith))) (one_small 93 x (omega arith))) (one_small 47 x (omega arith))
+    (λ e. let low = name_byte_low x e in omega (arith, low)) (one_small 91 x (omega arith))) (one_small 93 x (omega arith))) (one_small 47 x (omega arith))
 
 bytes_ascii : (xs : List ℕ) → list_all is_path_byte xs ≡ true → is_ascii xs ≡ true
 bytes_ascii [] e = refl

@@ -1,18 +1,16 @@
 // The machine, and what begins and ends a section.
 ghost use Rattle.std.specs.Prelude.{◌≡◌, ◌≤◌, ◌+◌, ◌<◌, ◌∷◌, [], ◌==◌, length, get_or, OnOk, IfErr, MatchOption};
-ghost use Rattle.std.specs.List.{list_all};
 ghost use Rattle.vms_spec.specs.Lookup.{number_at};
-ghost use Rattle.vms_spec.specs.Names.{is_name_byte};
 ghost use Rattle.vms_spec.specs.Spelling.{begins_with};
 ghost use Rattle.vms_analyze.specs.Wanted.{Foot as TheFoot, Head, Machine, machine_line, section_line};
 ghost use Rattle.vms_analyze.specs.Walking.{Goes, HasNoMachine, IsInside, IsMachineName, Prints, WhyStopped, left};
 ghost use Rattle.vms_analyze.specs.declared.walk.Stop.TheVariants as stops;
 
-use crate::members::is_name_byte;
 use crate::walk::{Stop, Walk};
 use byteorder::{BigEndian, ByteOrder};
 use itoa::Buffer;
 use vms_marks::{Foot, Mark};
+use vms_words::are_name_bytes;
 use vms_write::{configuration, section_head};
 
 // The name of a machine has at most so many bytes.
@@ -144,10 +142,4 @@ impl<'a> Walk<'a> {
         self.text.extend_from_slice(b"\n")?;
         Ok(())
     }
-}
-
-fn are_name_bytes(bytes: &[u8]) -> bool
-    ensures { result ≡ list_all is_name_byte bytes.now }
-{
-    bytes.iter().all(|byte| is_name_byte(*byte))
 }

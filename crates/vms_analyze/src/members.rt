@@ -3,7 +3,6 @@ ghost use Rattle.std.specs.Prelude.{◌≡◌};
 ghost use Rattle.std.specs.List.{list_all};
 ghost use Rattle.serde_json.specs.Find.{as_bool};
 ghost use Rattle.serde_json.specs.View.{number_view};
-ghost use Rattle.vms_spec.specs.Names.{is_name_byte};
 ghost use Rattle.vms_json.specs.Nodes.{view, items_view};
 ghost use Rattle.vms_analyze.specs.Told.{is_path, is_path_byte};
 ghost use Rattle.vms_analyze.specs.Read.{flag_at, four_at, list_at, natural_at, path_at, text_at, whole_at, whole_of};
@@ -12,6 +11,7 @@ ghost use Rattle.vms_analyze.specs.Typed.{ReadsAs};
 use serde_json::Number;
 use std::alloc::{AllocError, AllocFailed};
 use vms_json::Node;
+use vms_words::is_name_byte;
 
 /// Why a value isn't read.
 #[derive(Clone, Copy, Drop)]
@@ -157,10 +157,4 @@ fn is_path_byte(byte: u8) -> bool
     ensures { result ≡ is_path_byte byte }
 {
     is_name_byte(byte) || matches!(byte, b'[' | b']' | b'/')
-}
-
-pub(crate) fn is_name_byte(byte: u8) -> bool
-    ensures { result ≡ is_name_byte byte }
-{
-    matches!(byte, b'0'..=b'9' | b'A'..=b'Z' | b'a'..=b'z' | b'_' | b'-' | b'.')
 }

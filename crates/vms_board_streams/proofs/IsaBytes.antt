@@ -47,7 +47,7 @@ streams_are_short = record { short = stream-short }
 
 -- ---- bytes
 
-well : (set : ℕ) → WellFormed (shipped_set set)
+pub well : (set : ℕ) → WellFormed (shipped_set set)
 well set = none_is (first_fault (shipped_set set)) (formed set)
 
 machine-bytes : (level : ℕ) → level ≤ 4 → AreBytes (machine_of level)

@@ -7,19 +7,13 @@ use Rattle.dev_board.specs.Sound.{IsSound, Alike}
 use Rattle.dev_images.proofs.BoardCarried.{images_come_back}
 use Rattle.vms_check.proofs.ShippedLaws.{shipped_compatible}
 use Rattle.vms_check.specs.Comparing.{Compatible, first_mismatch}
-use Rattle.vms_desc.proofs.Bounds.{none_is}
-use Rattle.vms_desc.proofs.Formed.{formed}
 use Rattle.vms_desc.specs.Formed.{shipped_set}
 use Rattle.vms_selfdesc.proofs.Bounds.{shipped_holds}
 use Rattle.vms_spec.specs.Layout.{first}
-use Rattle.vms_spec.specs.WellFormed.{WellFormed, first_fault}
 use Rattle.dev_images.specs.Images.{saved_images}
 use Rattle.vms_board.specs.Isa.{isa}
-use Rattle.vms_board_streams.proofs.IsaBytes.{streams_are_short, streams_are_bytes}
+use Rattle.vms_board_streams.proofs.IsaBytes.{streams_are_short, streams_are_bytes, well}
 use Rattle.vms_board_streams.specs.Streams.{StreamsStand}
-
-pub well : (s : ℕ) → WellFormed (shipped_set s)
-well s = none_is (first_fault (shipped_set s)) (formed s)
 
 newest_itself : Compatible (shipped_set NEWEST) (shipped_set NEWEST)
 unfolding first_mismatch first

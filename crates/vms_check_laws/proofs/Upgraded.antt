@@ -11,6 +11,7 @@ use Rattle.vms_check.specs.Comparing.{Compatible}
 use Rattle.vms_check.specs.Carrying.{carried, no_image}
 use Rattle.vms_spec.proofs.Faultless.{every_one, machine_short, few_devices}
 use Rattle.vms_check_laws.specs.Laws.{UpgradeLaw}
+use Rattle.vms_stream.proofs.Stated.{trailed}
 use Rattle.vms_check_laws.proofs.Streaming.{device_order, rules, spell, each_once}
 
 module _ (old new : Set) (good_old : WellFormed old) (good_new : WellFormed new) (none : Compatible old new) where
@@ -19,10 +20,6 @@ module _ (old new : Set) (good_old : WellFormed old) (good_new : WellFormed new)
   configured (Some name) h =
       let r = rules old new good_old good_new none in
       (every_one (is_one_of new.machines) old.machines name r.machines h, omega (arith, machine_short old good_old name h), refl)
-
-  described : (text : Option (List ℕ)) → IfSome text (λ t. length t ≤ longest_text) → IsTrailer text (optional trailer text)
-  described None h = refl
-  described (Some text) h = (h, refl)
 
   one_each : (images : List Image) → length (carried old new images) ≡ length new.devices
   unfolding carried
@@ -44,7 +41,7 @@ module _ (old new : Set) (good_old : WellFormed old) (good_new : WellFormed new)
         (λ j. let s : 0 + j ≡ j = omega arith in ap (λ (k : ℕ). get_or images k (no_image old new)) s)
         ready.ready (omega (arith, few_devices old good_old));
     tail = optional trailer text;
-    described = described text short;
+    described = trailed text short;
     whole = refl;
   }
 

@@ -124,7 +124,7 @@ pack_then_analyze word name text stream input map under has =
 
 -- ---- showing and then analyzing
 
-machine_of_set : (set : Set) (machine : Option (List ℕ)) → IfSome machine (λ m. is_one_of set.machines m ≡ true) → IsMachineOf set machine
+pub machine_of_set : (set : Set) (machine : Option (List ℕ)) → IfSome machine (λ m. is_one_of set.machines m ≡ true) → IsMachineOf set machine
 machine_of_set set None h = tt
 machine_of_set set (Some name) h = h
 

@@ -1,10 +1,10 @@
 -- What follows where `counter` names a state.
-use Rattle.std.proofs.Common.{◌≡◌, ℕ, ◌+◌, List, ◌++◌, Option, Some, None, IfSome, true, refl, sym, ap, ◌∙◌, subst, append-nil}
+use Rattle.std.proofs.Common.{◌≡◌, ℕ, ◌+◌, List, ◌++◌, Option, Some, None, true, refl, sym, ap, ◌∙◌, subst, append-nil}
 use Rattle.vms_io.specs.Shelves.{Held}
 use Rattle.vms_spec.specs.Good.{IsFit}
 use Rattle.vms_spec.specs.Images.{Image}
 use Rattle.vms_spec.specs.Sets.{Set}
-use Rattle.vms_spec.specs.Streams.{configuration, end_mark, is_one_of, optional, stream_head, trailer, written, written_sections}
+use Rattle.vms_spec.specs.Streams.{configuration, end_mark, optional, stream_head, trailer, written, written_sections}
 use Rattle.vms_spec.specs.Values.{values_text}
 use Rattle.vms_elements.specs.Reading.{IsMachineOf}
 use Rattle.vms_values_laws.proofs.Stated.{printed_holds}
@@ -27,6 +27,7 @@ use Rattle.vms_cli.specs.Pack.{described_stream, packed_by, packs}
 use Rattle.vms_cli.specs.Show.{Refuses, ShowsBy}
 use Rattle.vms_cli.specs.States.{AlwaysNamedLaw, Prints, RefusesSo, StateLaw}
 use Rattle.vms_cli.proofs.PackLemmas.{pack_gives}
+use Rattle.vms_cli.proofs.RoundTrips.{machine_of_set}
 use Rattle.vms_cli.proofs.UpgradeLemmas.{named_both}
 
 -- ---- what words give
@@ -48,13 +49,9 @@ described_behind set machine images =
     ap (λ (l : List ℕ). l ++ trailer (described_text set images))
     (append-nil (stream_head ++ optional configuration machine ++ written_sections set 0 set.devices images ++ end_mark))
 
-machine_is : (set : Set) (machine : Option (List ℕ)) → IfSome machine (λ m. is_one_of set.machines m ≡ true) → IsMachineOf set machine
-machine_is set None h = tt
-machine_is set (Some name) h = h
-
 -- the machine that a state's stream names is one of the older set
 machine_stands : (old new : Set) (m : Mismatch) (machine : Option (List ℕ)) (images : List Image) (r : Refusal) → Counters old new (State m machine images r) → IsMachineOf old machine
-machine_stands old new m _ images r (Finds _ _ _ size first is fault) = machine_is old _ (machine_known old new m)
+machine_stands old new m _ images r (Finds _ _ _ size first is fault) = machine_of_set old _ (machine_known old new m)
 
 pub state_stands : StateLaw
 state_stands old new sets held m machine images r gives c =

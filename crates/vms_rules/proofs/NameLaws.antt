@@ -7,28 +7,18 @@ use Rattle.std.specs.Map.{IsKeyTest, AreApart}
 use Rattle.std.specs.Cmp.{IsTotalOrder, eq_by_cmp_equiv, then_total, on_total, nat_cmp_total}
 use Rattle.std.specs.Cmp.Lexicographic.{unequal, slice_cmp, nat_list_cmp_total}
 use Rattle.std.specs.Ordering.{nat_cmp, is_eq, eq_by_cmp, ordering_then}
-use Rattle.std.specs.List.{list_all, list_any}
+use Rattle.std.specs.List.{list_any}
 use Rattle.std.specs.Str.{bytes_eq}
 use Rattle.std.proofs.lemmas.List.{take_more}
 use Rattle.std.proofs.lemmas.Map.Text.{is_eq-slice_cmp}
 use Rattle.std.proofs.lemmas.Slice.Eq.{bytes_eq-Decides}
 use Rattle.std.proofs.Math.Bool.{and-true, or-false, and_assoc, or_assoc}
 use denote.Ref.{Bor}
-use Rattle.vms_spec.specs.Names.{is_name_byte, is_name, is_sub_name}
+use Rattle.vms_spec.specs.Names.{is_name, is_sub_name}
 use Rattle.vms_spec.specs.Streams.{is_one_of}
 use Rattle.vms_spec.proofs.ListLaws.{or_turned}
 use Rattle.vms_parts.proofs.Items.{drop_is}
 use Rattle.vms_rules.specs.NameSets.{ending, by_ending, has_name, with_name, are_new_to}
-
--- ---- whole lists
-
-pub all_name_bytes : (bytes : List ℕ) → list_all is_name_byte bytes ≡ list_all is_name_byte bytes
-all_name_bytes [] = refl
-all_name_bytes (b ∷ bytes) = ap (λ (r : Bool). is_name_byte b && r) (all_name_bytes bytes)
-
-pub all_names_of : (most : ℕ) (names : List (List ℕ)) → list_all (is_name most) names ≡ list_all (is_name most) names
-all_names_of most [] = refl
-all_names_of most (n ∷ names) = ap (λ (r : Bool). is_name most n && r) (all_names_of most names)
 
 -- ---- sets
 

@@ -14,10 +14,11 @@ use crate::DescFault;
 use crate::descs::{all_fields, check_inside, has_few, here};
 use crate::fault::lowest;
 use crate::formulas::{is_small, names_well};
-use crate::names::{add_name, is_name, is_sub_name};
+use crate::names::{add_name, is_sub_name};
 use std::alloc::Global;
 use std::collections::BTreeSet;
 use vms_parts::{Device, Part, Parts, Sub};
+use vms_words::is_name;
 
 // Judges the devices of a set.
 pub(crate) fn check_devices(alloc: Global, parts: &Parts) -> Result<(), DescFault>

@@ -19,11 +19,12 @@ use crate::DescFault;
 use crate::capacities::fits;
 use crate::fault::lowest;
 use crate::formulas::{Scope, field_at, is_small_if_any, may_name, names_well};
-use crate::names::{Ended, add_name, add_names, are_names, is_name};
+use crate::names::{Ended, add_name, add_names, are_names};
 use std::alloc::{AllocError, Global};
 use std::collections::BTreeSet;
 use vms_kinds::{Item, Kind};
 use vms_parts::{Count, Desc, Field, Part, Place, Test, least_capacities};
+use vms_words::is_name;
 
 // The fields before the one of this number, which its test and its count may name.
 #[tactic(auto, using(crate::proofs::FieldLaws::earlier_is))]
@@ -38,7 +39,6 @@ fn earlier(desc: &Desc, number: usize) -> Scope<'_>
 }
 
 // Whether the names of a field are names.
-#[tactic(auto, using(crate::proofs::NameLaws::all_names_of))]
 fn has_good_names(field: &Field) -> bool
     ensures { result ≡ (is_name 32 field.now.name && list_all (is_name 32) field.now.former) }
 {

@@ -2,35 +2,16 @@
 ghost use Rattle.std.specs.Prelude.{◌≡◌, ◌<◌, ◌==◌, ◌&&◌, ◌||◌, length, take, get_or, not, List, ℕ, IfOk, OnOk};
 ghost use Rattle.std.specs.List.{list_all};
 ghost use Rattle.std.specs.Str.{bytes_eq};
-ghost use Rattle.vms_spec.specs.Names.{is_name_byte, is_name, is_sub_name};
+ghost use Rattle.vms_spec.specs.Names.{is_name, is_sub_name};
 ghost use Rattle.vms_spec.specs.Streams.{is_one_of};
 ghost use Rattle.vms_rules.specs.NameSets.{byte_from_end, ending, has_name, with_name, are_new_to};
 
 use std::alloc::AllocError;
 use std::collections::BTreeSet;
 use vms_parts::Text;
+use vms_words::is_name;
 
-fn is_name_byte(byte: u8) -> bool
-    ensures { result ≡ is_name_byte byte }
-{
-    matches!(byte, b'0'..=b'9' | b'A'..=b'Z' | b'a'..=b'z' | b'_' | b'-' | b'.')
-}
-
-fn are_name_bytes(bytes: &[u8]) -> bool
-    ensures { result ≡ list_all is_name_byte bytes.now }
-{
-    bytes.iter().all(|byte| is_name_byte(*byte))
-}
-
-// Whether it is a name of 1 to so many bytes.
-#[tactic(auto, using(crate::proofs::NameLaws::all_name_bytes))]
-pub(crate) fn is_name(most: usize, name: &[u8]) -> bool
-    ensures { result ≡ is_name most name.now }
-{
-    1 <= name.len() && name.len() <= most && are_name_bytes(name)
-}
-
-// The same of all these.
+// Whether these are names of 1 to so many bytes.
 pub(crate) fn are_names(most: usize, names: &[Text]) -> bool
     ensures { result ≡ list_all (is_name most) names.now }
 {

@@ -9,11 +9,12 @@ ghost use Rattle.vms_rules.specs.Walks.{structs_from, desc_at};
 use crate::DescFault;
 use crate::descs::{check_inside, has_few, here};
 use crate::fault::lowest;
-use crate::names::{add_name, is_name};
+use crate::names::add_name;
 use std::alloc::{AllocError, Global};
 use std::collections::BTreeSet;
 use vms_kinds::Item;
 use vms_parts::{Desc, Field, Part};
+use vms_words::is_name;
 
 // Judges the structures of a set.
 pub(crate) fn check_structs(alloc: Global, structs: &[Desc]) -> Result<(), DescFault>

@@ -4,7 +4,6 @@ use Rattle.std.specs.Prelude.{codes}
 use Rattle.std.specs.Fmt.{decimal}
 use Rattle.std.specs.List.{list_all}
 use Rattle.std.proofs.lemmas.Bool.{and_parts, ltb-true, ltb-false, not-true}
-use Rattle.std.proofs.lemmas.Bool.Decides.{nat_tests}
 use Rattle.std.proofs.lemmas.Fmt.{digits_decimal}
 use Rattle.dev_board.specs.declared.event.Event.{Event}
 use Rattle.dev_board.specs.declared.event.Event.TheVariants as events
@@ -12,7 +11,9 @@ use Rattle.vms_words.proofs.Spells.{numerals, number_holds}
 use Rattle.vms_script.specs.Grammar.{port_text, event_text, line_text, script_text, IsEvent, IsLine, AreLines}
 use Rattle.dev_board.specs.Wires.{is_wire}
 use Rattle.vms_script.specs.Lines.{ScriptLine, Happens, Saves, Restores, Read, or_form, or_range, number_in, is_wait, is_set_of, out_line, wire_line, set_spelled, save_line, line_read}
-use Rattle.vms_script.specs.Names.{is_name_byte, is_shelf_name}
+use Rattle.vms_spec.specs.Names.{is_name_byte, is_name}
+use Rattle.vms_spec.proofs.NameBytes.{name_byte_high}
+use Rattle.vms_script.specs.Names.{is_shelf_name}
 use Rattle.vms_script.specs.Script.{Split, Reading, lines_of, begun, also, with_line, lines_read, text_read, script_read}
 use Rattle.vms_script.specs.Words.{first_word, longer_word, byte_spelled, byte_text}
 use Rattle.vms_script.specs.declared.line.ScriptReason.TheVariants as reasons
@@ -39,7 +40,7 @@ decimal_lacks : (byte n : ℕ) → byte < 48 → n < 2 ^ 64 → lacks byte (deci
 decimal_lacks byte n h i = digits_lack byte (decimal n) h (digits_decimal numerals n i)
 
 name_byte : (b : ℕ) → is_name_byte b ≡ true → not (b == 10) ≡ true
-name_byte b e = grind (arith, nat_tests)
+name_byte b e = let high = name_byte_high b e in ap not (ne_eqb b 10 (λ same. omega (arith, high, same)))
 
 name_lacks : (name : List ℕ) → list_all is_name_byte name ≡ true → lacks 10 name ≡ true
 name_lacks [] e = refl
@@ -50,7 +51,7 @@ name_lacks (b ∷ name) e =
 shelf_lacks : (name : List ℕ) → is_shelf_name name ≡ true → lacks 10 name ≡ true
 shelf_lacks name e =
     name_lacks name (and_parts (nat_le 1 (length name) && nat_le (length name) 64) (list_all is_name_byte name)
-    (and_parts ((nat_le 1 (length name) && nat_le (length name) 64) && list_all is_name_byte name) (not (get_or name 0 46 == 46)) e).0).1
+    (and_parts (is_name 64 name) (not (get_or name 0 46 == 46)) e).0).1
 
 -- ---- numbers within a range
 

@@ -1,20 +1,18 @@
 -- Names are ASCII.
 use Rattle.std.proofs.Common.{◌≡◌, ℕ, suc, zero, ◌<◌, true, ◌&&◌, ◌==◌, nat_le, not, List, ◌∷◌, length, get_or, arith, []}
-use Rattle.std.proofs.lemmas.Bool.Decides.{nat_tests}
 use Rattle.std.specs.List.{list_all}
 use Rattle.std.specs.Prelude.{IsAscii, slice_index}
 use Rattle.std.proofs.lemmas.Bool.{and_parts}
-use Rattle.vms_script.specs.Names.{is_name_byte, is_shelf_name}
-
-byte_ascii : (b : ℕ) → is_name_byte b ≡ true → b < 128
-byte_ascii b e = grind (arith, nat_tests)
+use Rattle.vms_spec.specs.Names.{is_name_byte, is_name}
+use Rattle.vms_spec.proofs.NameBytes.{name_byte_low}
+use Rattle.vms_script.specs.Names.{is_shelf_name}
 
 bytes_ascii : (bytes : List ℕ) → list_all is_name_byte bytes ≡ true → (i : ℕ) → slice_index bytes i < 128
 bytes_ascii [] e i = omega arith
-bytes_ascii (b ∷ bytes) e zero = byte_ascii b (and_parts (is_name_byte b) (list_all is_name_byte bytes) e).0
+bytes_ascii (b ∷ bytes) e zero = let low = name_byte_low b (and_parts (is_name_byte b) (list_all is_name_byte bytes) e).0 in omega (arith, low)
 bytes_ascii (b ∷ bytes) e (suc i) = bytes_ascii bytes (and_parts (is_name_byte b) (list_all is_name_byte bytes) e).1 i
 
 pub name_ascii : (name : List ℕ) → is_shelf_name name ≡ true → IsAscii name
 name_ascii name e =
-    let length_and_bytes = and_parts ((nat_le 1 (length name) && nat_le (length name) 64) && list_all is_name_byte name) (not (get_or name 0 46 == 46)) e in
-    bytes_ascii name (and_parts (nat_le 1 (length name) && nat_le (length name) 64) (list_all is_name_byte name) length_and_bytes.0).1
+    let named = and_parts (is_name 64 name) (not (get_or name 0 46 == 46)) e in
+    bytes_ascii name (and_parts (nat_le 1 (length name) && nat_le (length name) 64) (list_all is_name_byte name) named.0).1

@@ -12,4 +12,5 @@ mod WellFormedRows
 mod ReadyRows
 mod ValuesRows
 pub mod ListLaws
+pub mod NameBytes
 pub mod NumberLaws

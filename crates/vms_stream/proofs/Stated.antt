@@ -143,7 +143,7 @@ configured : (names : List (List ℕ)) (machine : Option (List ℕ)) → IfSome 
 configured names None h = refl
 configured names (Some name) h = (h.0, h.1, refl)
 
-trailed : (text : Option (List ℕ)) → IfSome text (λ t. length t ≤ longest_text) → IsTrailer text (optional trailer text)
+pub trailed : (text : Option (List ℕ)) → IfSome text (λ t. length t ≤ longest_text) → IsTrailer text (optional trailer text)
 trailed None h = refl
 trailed (Some text) h = (h, refl)
 

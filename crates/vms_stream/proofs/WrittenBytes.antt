@@ -1,10 +1,10 @@
 -- What a well-formed set writes is bytes.
-use Rattle.std.proofs.Common.{◌≡◌, ℕ, zero, suc, ◌+◌, ◌<◌, ◌≤◌, ◌&&◌, ◌||◌, ◌==◌, nat_le, List, [], ◌∷◌, ◌++◌, length, length-append, get_or, take, drop, ℤ, pos, Bool, true, false, Option, Some, None, IfSome, nat_lt, refl, subst, arith}
+use Rattle.std.proofs.Common.{◌≡◌, ℕ, zero, suc, ◌+◌, ◌<◌, ◌≤◌, ◌&&◌, nat_le, List, [], ◌∷◌, ◌++◌, length, length-append, get_or, take, drop, ℤ, pos, Bool, true, false, Option, Some, None, IfSome, nat_lt, refl, subst, arith}
 use Rattle.std.specs.Int.{byte_at, bytes_high_first}
 use Rattle.std.specs.Prelude.{replicate}
 use Rattle.std.specs.List.{list_all}
 use Rattle.std.specs.Str.{bytes_eq}
-use Rattle.std.proofs.lemmas.Bool.{and_parts, ltb-true, leb-true, eqb-true}
+use Rattle.std.proofs.lemmas.Bool.{and_parts, ltb-true, leb-true}
 use Rattle.std.proofs.lemmas.List.{take-append-drop}
 use Rattle.std.proofs.lemmas.Slice.Eq.{bytes_eq-Decides}
 use Rattle.vms_kinds.specs.Codes.{width, residue, code}
@@ -19,6 +19,7 @@ use Rattle.vms_spec.specs.WellFormed.{WellFormed, failing, first_fault, here, se
 use Rattle.vms_spec.proofs.Faultless.{AllTrue, all_true, every_one, or_else_none}
 use Rattle.vms_spec.specs.declared.Part.TheVariants as parts
 use Rattle.vms_stream.proofs.SetParts.{AllSubs, AllParts, EachPart, all_parts}
+use Rattle.vms_spec.proofs.NameBytes.{name_byte_low}
 use Rattle.vms_spec.proofs.WellFormedLaws.{device_parts, sub_clean}
 
 -- ---- bytes
@@ -158,28 +159,9 @@ module _ (set : Set) where
 
 -- ---- well-formed sets
 
-pick : (p q : Bool) (G : Type 0) → (p ≡ true → G) → (q ≡ true → G) → (p || q) ≡ true → G
-pick true q G f g h = f refl
-pick false q G f g h = g h
-
-name_byte : (b : ℕ) → is_name_byte b ≡ true → b < 256
-name_byte b h =
-    let within : (lo hi : ℕ) → hi < 256 → (nat_le lo b && nat_le b hi) ≡ true → b < 256 = λ lo hi lt e.
-    let top : b ≤ hi = leb-true b hi (and_parts (nat_le lo b) (nat_le b hi) e).1 in omega arith in
-    let one : (k : ℕ) → k < 256 → (b == k) ≡ true → b < 256 = λ k lt e. let same : b ≡ k = eqb-true b k e in omega arith in
-    pick _ (b == 46) (b < 256)
-    (pick _ (b == 45) (b < 256)
-    (pick _ (b == 95) (b < 256)
-    (pick _ (nat_le 97 b && nat_le b 122) (b < 256)
-    (pick (nat_le 48 b && nat_le b 57) (nat_le 65 b && nat_le b 90) (b < 256) (within 48 57 (omega arith)) (within 65 90 (omega arith)))
-    (within 97 122 (omega arith)))
-    (one 95 (omega arith)))
-    (one 45 (omega arith)))
-    (one 46 (omega arith)) h
-
 every_bytes : (name : List ℕ) → list_all is_name_byte name ≡ true → AreBytes name
 every_bytes [] e = tt
-every_bytes (b ∷ name) e = let p = and_parts (is_name_byte b) (list_all is_name_byte name) e in (name_byte b p.0, every_bytes name p.1)
+every_bytes (b ∷ name) e = let p = and_parts (is_name_byte b) (list_all is_name_byte name) e in let low = name_byte_low b p.0 in (omega (arith, low), every_bytes name p.1)
 
 pub is_named : (most : ℕ) (name : List ℕ) → most < 256 → is_name most name ≡ true → IsNamed name
 is_named most name lt e =

@@ -1,7 +1,7 @@
 -- No name of a well-formed set has a line feed.
 use Rattle.std.proofs.Common.{◌≡◌, ℕ, suc, ◌+◌, Bool, true, false, ◌&&◌, ◌==◌, nat_le, List, ◌∷◌, ◌++◌, length, get_or, take, drop, if◌then◌else◌, Option, Some, None, refl, sym, ap, ◌∙◌, subst, codes, ◌||◌, []}
 use Rattle.std.specs.List.{slice_get, list_all}
-use Rattle.std.proofs.lemmas.Bool.{and_parts, eqb-true}
+use Rattle.std.proofs.lemmas.Bool.{and_parts, ne_eqb}
 use Rattle.std.specs.Str.{bytes_eq}
 use Rattle.std.proofs.lemmas.Option.{get_or_from_slice_get, same_Some}
 use Rattle.std.proofs.lemmas.List.{take-append-drop}
@@ -18,19 +18,14 @@ use Rattle.vms_spec.specs.ValuesReading.{machine_named}
 use Rattle.vms_spec.specs.WellFormed.{WellFormed, first_fault, failing, here, set_rules, struct_fault, struct_rules, device_fault, device_rules, sub_rules, size_rules}
 use Rattle.vms_spec.proofs.Faultless.{or_else_none}
 use Rattle.vms_spec.proofs.WellFormedLaws.{Clean, struct_clean, device_parts, sub_clean, get_none}
+use Rattle.vms_spec.proofs.NameBytes.{name_byte_high}
 use Rattle.vms_values_laws.proofs.Feeds.{NoFeed, feed_append}
 use Rattle.vms_values_laws.proofs.CleanNames.{AreCleanFields, AreCleanSubs, AreCleanDevices}
 
 -- ---- names
 
 name_byte : (b : ℕ) → is_name_byte b ≡ true → (b == 10) ≡ false
-name_byte b e = go (b == 10) refl
-  where
-    go : (t : Bool) → (b == 10) ≡ t → (b == 10) ≡ false
-    go true f = no (sym e ∙ ap is_name_byte (eqb-true b 10 f)) where
-      no : true ≡ false → (b == 10) ≡ false
-      no g = cc
-    go false f = f
+name_byte b e = ne_eqb b 10 (λ same. let h = name_byte_high b e in omega (arith, h, same))
 
 name_bytes : (name : List ℕ) → list_all is_name_byte name ≡ true → NoFeed name
 name_bytes [] e = tt

@@ -1,6 +1,6 @@
 //! Words and lines of texts: the words of the kinds of number, in description files and in
-//! self-descriptions, the first line of a text, what lines are made of, and laws of numbers as texts
-//! spell them.
+//! self-descriptions, the form of names, the first line of a text, what lines are made of, and laws of
+//! numbers as texts spell them.
 #![tactic(auto)]
 
 ghost use Rattle.std.specs.Prelude.{◌≡◌};
@@ -8,8 +8,10 @@ ghost use Rattle.vms_words.specs.Words.{kind_word, kind_named, TellsKind};
 
 pub mod laws;
 mod line;
+mod name;
 
 pub use line::{NextLine, append, next_line};
+pub use name::{are_name_bytes, is_name, is_name_byte};
 use vms_kinds::Kind;
 
 const KINDS: [Kind; 10] = [

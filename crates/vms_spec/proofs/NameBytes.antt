@@ -1,0 +1,10 @@
+-- The bytes of names are among those of ASCII that print.
+use Rattle.std.proofs.Common.{◌≡◌, ℕ, ◌<◌, ◌≤◌, true, arith}
+use Rattle.std.proofs.lemmas.Bool.Decides.{nat_tests}
+use Rattle.vms_spec.specs.Names.{is_name_byte}
+
+pub name_byte_high : (b : ℕ) → is_name_byte b ≡ true → 45 ≤ b
+name_byte_high b e = grind (arith, nat_tests)
+
+pub name_byte_low : (b : ℕ) → is_name_byte b ≡ true → b < 123
+name_byte_low b e = grind (arith, nat_tests)
