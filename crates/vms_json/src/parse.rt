@@ -1,5 +1,5 @@
 // Reads JSON texts as trees.
-ghost use Rattle.std.specs.Prelude.{◌≡◌, ◌<◌, length, Some, None, Err, IfOk, OnOk};
+ghost use Rattle.std.specs.Prelude.{◌≡◌, ◌<◌, ◌++◌, ◌∷◌, [], length, Some, None, Err, IfOk, IfErr, OnOk};
 ghost use Rattle.json.specs.Json.{value, items, members};
 ghost use Rattle.serde_json.specs.Data.{no_members};
 ghost use Rattle.serde_json.specs.Read.{of_json, of_items, of_members, converted, read};
@@ -140,11 +140,23 @@ fn read_members<'a>(
     let mut found = Vec::new(alloc);
     'members: while let Some(name) = reader.next_key()? {
         let member = read(alloc, reader, depth)?;
-        if found.is_empty() {
-            // Most objects have two members, a field's name and its kind. `{}` takes no room.
-            found = Vec::with_capacity(alloc, 2)?;
-        }
-        found.push((name, member))?;
+        put_member(alloc, &mut found, (name, member))?;
     }
     Ok(found)
+}
+
+// Appends a member. The first takes room for two: most objects have a field's name and its kind.
+fn put_member<'a>(
+    alloc: Global,
+    members: &mut Vec<(&'a str, Node<'a>)>,
+    member: (&'a str, Node<'a>),
+) -> Result<(), NoNode>
+    ensures put { OnOk result (members.new.items ≡ members.old.items ++ member.entry ∷ []) }
+    ensures wanting { IfErr result (λ fault. fault ≡ NoNode.NoMemory) }
+{
+    if members.is_empty() {
+        *members = Vec::with_capacity(alloc, 2)?;
+    }
+    members.push(member)?;
+    Ok(())
 }

@@ -139,7 +139,7 @@ read_items-returns-clause-ok t c =
 pub read_members-members-init : goal.read_members-members-init
 read_members-members-init t c =
     let all = members (value c.args.depth) (length c.args.reader.now) c.args.reader.now in
-    (length c.args.reader.now, omega arith, ap (λ es. converted (λ ms. of_members ms (members_view es)) all) (sym c.in_ok-found.ensures.items), omega arith)
+    (length c.args.reader.now, omega arith, ap (λ es. converted (λ ms. of_members ms (members_view es)) all) (sym c.new-found.ensures.items), omega arith)
 
 pub read_members-returns-in_err-name-clause-err : goal.read_members-returns-in_err-name-clause-err
 read_members-returns-in_err-name-clause-err t c refused =
@@ -175,8 +175,8 @@ read_members-members-preserved t c =
     let less = read_key-shorter l.reader (Some k) s named in
     let lesser = done.shorter in
     let m : Member = (c.in-Some.name, v) in
-    let pushed : c.push.new.self.items ≡ l.found.items ++ m ∷ [] = c.in_ok-push.ensures.items in
-    let inserted : members_view c.push.new.self.items ≡ put k (view v) old = ap members_view pushed ∙ one_more_member l.found.items m in (
+    let pushed : c.put_member.new.members.items ≡ l.found.items ++ m ∷ [] = c.in_ok-put_member.ensures.put in
+    let inserted : members_view c.put_member.new.members.items ≡ put k (view v) old = ap members_view pushed ∙ one_more_member l.found.items m in (
       n - 1,
       omega (arith, l.invariant.1),
       l.invariant.2 ∙ member_read p old n k l.reader s r (view v) (omega (arith, l.invariant.1)) named done.ok
