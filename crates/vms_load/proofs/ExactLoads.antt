@@ -52,7 +52,7 @@ unit_within set names u rest section reason size (Fails h) = omega arith
 unit_within set names u rest section reason size (Cut h o n) = omega arith
 unit_within set names u rest section reason size (Wrong x s r h w e) = omega (arith, ap length w.there, length-append (spell x) w.more)
 
-fault_within : (set : Set) (names : List (List ℕ)) (input : List ℕ) (place : ℕ) (section : Option ℕ) (reason : Reason) (size : ℕ) → Fault set names input place section reason size → place + size ≤ length input
+pub fault_within : (set : Set) (names : List (List ℕ)) (input : List ℕ) (place : ℕ) (section : Option ℕ) (reason : Reason) (size : ℕ) → Fault set names input place section reason size → place + size ≤ length input
 fault_within set names input place section reason size f =
     omega (arith, ap length f.whole, length-append (spelled f.units) f.rest, f.long, unit_within set names f.units f.rest section reason size f.why)
 

@@ -1,0 +1,4 @@
+pub mod Eight
+pub mod Fields
+pub mod Names
+pub mod Tests

@@ -1,0 +1,176 @@
+-- The eight rules of description sets, each as it is worded. The walk of a set gives the first rule that fails, and where; a law
+-- says that it finds none exactly where all of this holds.
+use Rattle.std.specs.Prelude.{◌≡◌, ◌⊎◌, ℕ, ◌<◌, ◌≤◌, List, ◌∷◌, ◌++◌, length, get_or, Some, None, ℤ, pos, ◌≤ℤ◌}
+use Rattle.std.specs.List.{slice_get}
+use Rattle.vms_kinds.specs.declared.Item.{Item}
+use Rattle.vms_kinds.specs.declared.Item.TheVariants.{Num, Equal, Unused, Struct}
+use Rattle.vms_kinds.specs.declared.Kind.{Kind}
+use Rattle.vms_kinds.specs.declared.Kind.TheVariants.{U8, U16, U32}
+use Rattle.vms_kinds.specs.Codes.{InRange}
+use Rattle.vms_spec.specs.declared.TheConstants.{MOST_ITEMS}
+use Rattle.vms_spec.specs.declared.Count.{Count}
+use Rattle.vms_spec.specs.declared.Count.TheVariants.{One, Fixed, Counted}
+use Rattle.vms_spec.specs.declared.Whose.{Whose}
+use Rattle.vms_spec.specs.declared.Whose.TheVariants.{Own, Parent}
+use Rattle.vms_spec.specs.Rules.{depth, nodes}
+use Rattle.vms_spec.specs.Sets.{Formula, AtLeast, Below, Cell, Not, And, Or, Field, Desc, Sub, Device, Set}
+use Rattle.vms_spec.specs.WellFormed.{devices_items, struct_depths, struct_items}
+
+-- this stands at this number of a list
+abbrev pub At : {X : Type 0} → List X → ℕ → X → Type 0
+At xs k x = slice_get xs k ≡ Some x
+
+-- ---- 1: names
+
+abbrev pub IsWithin : ℕ → ℕ → ℕ → Type 0
+IsWithin least most n = (least ≤ n) × (n ≤ most)
+
+-- a digit, a letter, or one of `_`, `-` and `.`
+abbrev pub IsNameByte : ℕ → Type 0
+IsNameByte b = IsWithin 48 57 b ⊎ IsWithin 65 90 b ⊎ IsWithin 97 122 b ⊎ (b ≡ 95) ⊎ (b ≡ 45) ⊎ (b ≡ 46)
+
+-- of 1 to so many bytes
+pub record IsName (most : ℕ) (name : List ℕ) : Type 0 where
+  pub some : 1 ≤ length name
+  pub few : length name ≤ most
+  pub each : (k b : ℕ) → At name k b → IsNameByte b
+
+-- the device's name, a slash and a tail
+pub record IsSubName (device name : List ℕ) : Type 0 where
+  pub tail : List ℕ
+  pub is : name ≡ device ++ 47 ∷ tail
+  pub named : IsName 64 tail
+
+-- ---- 2: distinct names
+
+-- none that stands before number i has this name
+abbrev pub IsNew : {X : Type 0} → (X → List ℕ) → List X → ℕ → List ℕ → Type 0
+IsNew {X} name_of xs i name = (j : ℕ) (x : X) → j < i → At xs j x → name_of x ≡ name → ⊥
+
+-- the names of a field: its own and its former ones
+abbrev pub names_of : Field → List (List ℕ)
+names_of f = f.name ∷ f.former
+
+-- no name of field i is a name of an earlier field, nor comes twice
+pub record AreNewNames (fields : List Field) (i : ℕ) (f : Field) : Type 0 where
+  pub new : (j a b : ℕ) (g : Field) (name : List ℕ) → j < i → At fields j g → At (names_of g) a name → At (names_of f) b name → ⊥
+  pub once : (a b : ℕ) (name : List ℕ) → a < b → At (names_of f) a name → At (names_of f) b name → ⊥
+
+-- ---- 4: what tests and counts name
+
+-- a single number of a description, which is there at every version from the minimum on
+pub record IsSteady (d : Desc) (k : ℕ) : Type 0 where
+  pub field : Field
+  pub there : At d.fields k field
+  pub kind : Kind
+  pub number : field.item ≡ Num kind
+  pub one : field.count ≡ One
+  pub untested : field.test ≡ None
+  pub since : field.since ≤ d.minimum
+
+-- the test names this field
+abbrev pub Names : Formula → Whose → ℕ → Type 0
+Names (AtLeast n) whose k = ⊥
+Names (Below n) whose k = ⊥
+Names (Cell w j mask rel value) whose k = (w ≡ whose) × (j ≡ k)
+Names (Not t) whose k = Names t whose k
+Names (And s t) whose k = Names s whose k ⊎ Names t whose k
+Names (Or s t) whose k = Names s whose k ⊎ Names t whose k
+
+-- of a description's own fields, and of those of its parent, a test names such alone
+pub record NamesOnly (IsOwn IsParent : ℕ → Type 0) (t : Formula) : Type 0 where
+  pub own : (k : ℕ) → Names t Own k → IsOwn k
+  pub parent : (k : ℕ) → Names t Parent k → IsParent k
+
+abbrev pub Nobody : ℕ → Type 0
+Nobody k = ⊥
+
+-- a steady field that stands before field i
+abbrev pub IsEarlier : Desc → ℕ → ℕ → Type 0
+IsEarlier d i k = (k < i) × IsSteady d k
+
+-- a count is one of these
+abbrev pub IsCounting : Item → Type 0
+IsCounting item = (item ≡ Num U8) ⊎ (item ≡ Num U16) ⊎ (item ≡ Num U32)
+
+-- ---- 6: defaults
+
+-- a number's default and a constant are in range; what is no number has the default 0
+abbrev pub DefaultFits : Item → ℤ → Type 0
+DefaultFits (Num kind) z = InRange kind z
+DefaultFits (Equal kind y) z = InRange kind y × (z ≡ pos 0)
+DefaultFits (Unused n) z = z ≡ pos 0
+DefaultFits (Struct j) z = z ≡ pos 0
+
+-- ---- 7: limits
+
+abbrev pub IsSmall : Formula → Type 0
+IsSmall t = (nodes t ≤ 64) × (depth t ≤ 16)
+
+-- ---- 8: counts
+
+abbrev pub CountFits : Item → Count → Type 0
+CountFits (Equal kind z) count = count ≡ One
+CountFits (Unused n) count = count ≡ One
+CountFits item One = Unit {0}
+CountFits item (Fixed n) = 1 ≤ n
+CountFits item (Counted by most) = 1 ≤ most
+
+-- ---- the rules at a field, a description, a subsection, a device and a set
+
+-- field i of a description that may use the structures of numbers below k
+pub record IsField (k : ℕ) (d : Desc) (i : ℕ) (f : Field) : Type 0 where
+  pub named : (a : ℕ) (name : List ℕ) → At (names_of f) a name → IsName 32 name
+  pub new : AreNewNames d.fields i f
+  pub test : (t : Formula) → f.test ≡ Some t → NamesOnly (IsEarlier d i) Nobody t
+  pub count : (by most : ℕ) → f.count ≡ Counted by most → (steady : IsEarlier d i by) × IsCounting steady.1.field.item
+  pub uses : (j : ℕ) → f.item ≡ Struct j → j < k
+  pub default : DefaultFits f.item f.default
+  pub counts : (j most : ℕ) (g : Field) → At d.fields j g → g.count ≡ Counted i most → f.default ≤ℤ pos most
+  pub few_former : length f.former ≤ 8
+  pub small : (t : Formula) → f.test ≡ Some t → IsSmall t
+  pub unused : (n : ℕ) → f.item ≡ Unused n → IsWithin 1 4096 n
+  pub good_count : CountFits f.item f.count
+
+pub record IsValidation (d : Desc) (t : Formula) : Type 0 where
+  pub named : NamesOnly (IsSteady d) Nobody t
+  pub small : IsSmall t
+
+pub record IsDesc (k : ℕ) (d : Desc) : Type 0 where
+  pub versions : d.minimum ≤ d.version
+  pub few_fields : length d.fields ≤ 256
+  pub few_validations : length d.validate ≤ 16
+  pub fields : (i : ℕ) (f : Field) → At d.fields i f → IsField k d i f
+  pub validations : (i : ℕ) (t : Formula) → At d.validate i t → IsValidation d t
+
+-- a structure uses those of smaller number alone
+pub record IsStruct (structs : List Desc) (i : ℕ) (d : Desc) : Type 0 where
+  pub named : IsName 100 d.name
+  pub new : IsNew (λ e. e.name) structs i d.name
+  pub is : IsDesc i d
+  pub shallow : get_or (struct_depths structs) i 0 ≤ 4
+  pub some : 1 ≤ length d.fields
+
+pub record IsSub (k : ℕ) (d : Device) (j : ℕ) (s : Sub) : Type 0 where
+  pub named : IsSubName d.desc.name s.desc.name
+  pub new : IsNew (λ t. t.desc.name) d.subs j s.desc.name
+  pub is : IsDesc k s.desc
+  pub needed : NamesOnly (IsSteady s.desc) (IsSteady d.desc) s.needed
+  pub small : IsSmall s.needed
+
+pub record IsDevice (set : Set) (i : ℕ) (d : Device) : Type 0 where
+  pub named : IsName 100 d.desc.name
+  pub new : (j : ℕ) (e : Device) → j < i → At set.devices j e → (e.desc.name ≡ d.desc.name) × (e.instance ≡ d.instance) → ⊥
+  pub is : IsDesc (length set.structs) d.desc
+  pub few_subs : length d.subs ≤ 32
+  pub subs : (j : ℕ) (s : Sub) → At d.subs j s → IsSub (length set.structs) d j s
+
+pub record ObeysRules (set : Set) : Type 0 where
+  pub named : (k : ℕ) (name : List ℕ) → At set.machines k name → IsName 64 name
+  pub new : (j k : ℕ) (name : List ℕ) → j < k → At set.machines j name → At set.machines k name → ⊥
+  pub few_machines : length set.machines ≤ 16
+  pub few_structs : length set.structs ≤ 64
+  pub few_devices : length set.devices ≤ 64
+  pub structs : (i : ℕ) (d : Desc) → At set.structs i d → IsStruct set.structs i d
+  pub devices : (i : ℕ) (d : Device) → At set.devices i d → IsDevice set i d
+  pub items : devices_items (struct_items set.structs) set.devices ≤ MOST_ITEMS
