@@ -1,8 +1,9 @@
 -- The searches through the priority order, one place at a time.
-use Rattle.std.proofs.Common.{◌≡◌, ℕ, zero, suc, ◌+◌, ◌<◌, ◌≤◌, Bool, true, false, cond, List, [], ◌∷◌, Some, None, drop, refl, arith, ◌∙◌, ap, sym, find, get_or, ⊎_elim}
+use Rattle.std.proofs.Common.{◌≡◌, ℕ, zero, suc, ◌+◌, ◌<◌, ◌≤◌, ◌==◌, Bool, true, false, cond, List, [], ◌∷◌, Some, None, drop, refl, arith, ◌∙◌, ap, sym, find, get_or, ⊎_elim}
 use Rattle.std.proofs.lemmas.Bool.{cases_lt}
 use Rattle.std.proofs.lemmas.List.{at_drop_more}
 use Rattle.std.proofs.lemmas.List.FromFn.{get_or-map-range_with_len}
+use Rattle.std.proofs.lemmas.Nat.Bits.{bit_at-zero}
 use Rattle.dev_base.specs.Bits.{has}
 use Rattle.dev_pic.specs.Winner.{input_at, order, before, ready_among, winner_of, highest_of, IsFirstPlace}
 
@@ -69,6 +70,19 @@ module _ (lowest requests served : ℕ) where
     ends : 8 ≤ other → None ≡ winner_of lowest requests served
     ends from =
         no_more ∙ below 8 (omega arith) (λ k h. asked.before k (omega (arith, h, before, from))) (λ k h. serving.before k (omega (arith, h, from)))
+
+-- nothing is found in the empty set
+find-nothing : (inputs : List ℕ) → find (has 0) inputs ≡ None
+find-nothing [] = refl
+find-nothing (input ∷ inputs) =
+    let missing : has 0 input ≡ false = ap (λ (b : ℕ). b == 1) (bit_at-zero input) in
+    rw missing (find-nothing inputs)
+
+-- where nothing is requested, nothing wins
+pub nothing_wins : (lowest requests served : ℕ) → requests ≡ 0 → None ≡ winner_of lowest requests served
+unfolding winner_of ready_among
+nothing_wins lowest requests served none =
+    sym (ap (λ (asked : ℕ). find (has asked) (before (has served) (order lowest))) none ∙ find-nothing (before (has served) (order lowest)))
 
 module _ (lowest inputs : ℕ) where
   find_below : (place : ℕ) → place ≤ 8 → ((other : ℕ) → other < place → has inputs (input_at lowest other) ≡ false) → find (has inputs) (drop place (order lowest)) ≡ highest_of lowest inputs

@@ -123,12 +123,15 @@ impl Chip {
     }
 
     /// The input that is served next, if there is one: then the interrupt output (INT) is high.
-    #[tactic(auto, unfolding(crate::specs::Chip::winner_at))]
+    #[tactic(auto, using(crate::proofs::WinnerLemmas::nothing_wins), unfolding(crate::specs::Chip::winner_at))]
     pub fn winner(&self, role: Role) -> Option<u8>
         ensures winner { result ≡ winner_at role self.now }
         ensures input { IfSome result (λ winner. winner < 8) }
     {
         let requests = but_not(self.irr, self.imr);
+        if requests == 0 {
+            return None;
+        }
         first_ready(self.lowest, requests, self.served(role))
     }
 
