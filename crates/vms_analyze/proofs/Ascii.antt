@@ -14,6 +14,7 @@ use Rattle.serde_json.specs.Written.{number_text, comma_if, compact_text, items_
 use Rattle.vms_kinds.specs.declared.Kind.{Kind}
 use Rattle.vms_kinds.specs.declared.Kind.TheVariants as kinds
 use Rattle.vms_words.specs.Words.{kind_word}
+use Rattle.vms_spec.proofs.NameBytes.{name_byte_low}
 use Rattle.vms_selfdesc.specs.Tree.{entry_tree}
 use Rattle.vms_analyze.specs.Told.{Told, Sent, Kept, Fixed, Skipped, told_entry, ToldSub, told_sub, ToldDevice, told_device, told_tree, is_path_byte, is_path, fits_four, is_good, is_kept, is_good_sub, is_good_device}
 
