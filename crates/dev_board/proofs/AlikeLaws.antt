@@ -12,9 +12,8 @@ use Rattle.dev_board.specs.Laws.{AnswersAlike, AlikeStays, Likeness}
 use Rattle.dev_board.specs.Ports.{target_of, read_at, written_at}
 use Rattle.dev_board.specs.Sound.{Alike}
 use Rattle.dev_board.specs.State.{State}
-use Rattle.dev_board.specs.Step.{valued, later_by, waited, acted, wires_after, inputs_of, settled, after_act, step, observe, after_all, after_by, answers_by}
+use Rattle.dev_board.specs.Step.{Act, valued, later_by, waited, acted, wires_after, inputs_of, settled, after_act, step, observe, after_all, after_by, answers_by}
 use Rattle.dev_board.specs.Wires.{wires_of}
-use Rattle.dev_board.specs.declared.act.Act.{Act}
 use Rattle.dev_board.specs.declared.event.Answer.{Answer}
 use Rattle.dev_board.specs.declared.event.Event.{Event}
 use Rattle.dev_board.specs.declared.event.Event.TheVariants.{Read, Write, Byte, Wait, Wire, Ack}
@@ -51,7 +50,7 @@ module _ (m : State) (port : Port) (a : AlikePorts m.serial port) where
   unfolding waited
   waited-alike to =
       let answers = advances_alike to m.serial port a in
-      let act : List ℕ → Act = (λ bytes. record { value = None; edge = pit_edge 0 m.moment to m.pit; sent = record { items = bytes } }) in
+      let act : List ℕ → Act = (λ bytes. record { value = None; edge = pit_edge 0 m.moment to m.pit; sent = bytes }) in
       record { value = ap act answers.value; alike = record { same = refl; serial = answers.alike } }
 
   acted-alike : (event : Event) → AnswersAlike (acted event m) (acted event other)
@@ -80,7 +79,7 @@ module _ (m : State) (port : Port) (a : AlikePorts m.serial port) where
   after_act-alike : (wires : ℕ) (act : Act) → AnswersAlike (after_act wires (act, m)) (after_act wires (act, other))
   unfolding after_act
   after_act-alike wires act =
-      let answer : PicPair → Answer = (λ pair. record { value = act.value; int = int_of pair; sent = act.sent }) in
+      let answer : PicPair → Answer = (λ pair. record { value = act.value; int = int_of pair; sent = record { items = act.sent } }) in
       record { value = ap answer (pair-alike wires act.edge); alike = settled-alike wires act.edge }
 
 -- the lines are taken over of boards that are alike after equal acts

@@ -3,8 +3,7 @@ use Rattle.std.proofs.Common.{◌≡◌, ℕ, refl}
 use Rattle.dev_board.specs.Laws.{ClockGoesOn, moment_left}
 use Rattle.dev_board.specs.Ports.{target_of, read_at, written_at}
 use Rattle.dev_board.specs.State.{State}
-use Rattle.dev_board.specs.Step.{waited, acted, settled, after_act, step}
-use Rattle.dev_board.specs.declared.act.Act.{Act}
+use Rattle.dev_board.specs.Step.{Act, waited, acted, settled, after_act, step}
 use Rattle.dev_board.specs.declared.event.Event.{Event}
 use Rattle.dev_board.specs.declared.event.Event.TheVariants.{Read, Write, Byte, Wait, Wire, Ack}
 use Rattle.dev_board.specs.declared.ports.Target.{Target}

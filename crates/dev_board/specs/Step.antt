@@ -1,5 +1,5 @@
 -- What an event does to a board.
-use Rattle.std.specs.Prelude.{ℕ, ◌+◌, Bool, true, false, List, [], ◌∷◌, Some, None, bit_or, min}
+use Rattle.std.specs.Prelude.{ℕ, ◌+◌, Bool, true, false, List, [], ◌∷◌, Option, Some, None, bit_or, min}
 use Rattle.dev_base.specs.declared.limits.TheConstants.{LAST_MOMENT}
 use Rattle.dev_pic.specs.Pair.{acked, int_of, settled_pair}
 use Rattle.dev_pit.specs.Pit.{pit_out, pit_edge}
@@ -12,15 +12,28 @@ use Rattle.dev_board.specs.Wires.{is_wire, wires_of, with_wire}
 use Rattle.dev_board.specs.declared.event.Answer.{Answer}
 use Rattle.dev_board.specs.declared.event.Event.{Event}
 use Rattle.dev_board.specs.declared.event.Event.TheVariants.{Read, Write, Byte, Wait, Wire, Ack}
-use Rattle.dev_board.specs.declared.act.Act.{Act}
 use Rattle.dev_board.specs.declared.wires.TheConstants.{TIMER, SERIAL}
 
--- an act that answers a value, and one that answers none
-unfoldable pub valued : ℕ → Act
-valued value = record { value = Some value; edge = false; sent = record { items = [] } }
+-- what an event did before the lines are taken over: the value that it answers, whether counter 0 had a rising edge,
+-- and the bytes that left the serial port
+pub record Act : Type 0 where
+  pub value : Option ℕ
+  pub edge : Bool
+  pub sent : List ℕ
 
-unfoldable pub silent : Act
-silent = record { value = None; edge = false; sent = record { items = [] } }
+-- an act that answers a value, and one that answers none
+abbrev pub valued : ℕ → Act
+valued value = record { value = Some value; edge = false; sent = [] }
+
+abbrev pub silent : Act
+silent = record { value = None; edge = false; sent = [] }
+
+-- an answer that says nothing, and the act that one says with an edge or none, but for the output
+abbrev pub unsaid : Answer
+unsaid = record { value = None; int = false; sent = record { items = [] } }
+
+abbrev pub act_in : Bool → Answer → Act
+act_in edge answer = record { value = answer.value; edge = edge; sent = answer.sent.items }
 
 -- the moment up to which an event's time passes: not beyond the last
 abbrev pub later_by : ℕ → ℕ → ℕ
@@ -31,7 +44,7 @@ later_by ns moment = min (moment + ns) LAST_MOMENT
 unfoldable pub waited : ℕ → State → Act × State
 waited to m =
     let sent = advanced to m.serial in (
-      record { value = None; edge = pit_edge 0 m.moment to m.pit; sent = record { items = sent.0 } },
+      record { value = None; edge = pit_edge 0 m.moment to m.pit; sent = sent.0 },
       record m { moment = to; serial = sent.1 },
     )
 
@@ -71,7 +84,7 @@ settled wires edge m = record m { pair = settled_pair (inputs_of wires m) (bits_
 unfoldable pub after_act : ℕ → Act × State → Answer × State
 after_act wires done =
     let after = settled wires done.0.edge done.1 in
-    (record { value = done.0.value; int = int_of after.pair; sent = done.0.sent }, after)
+    (record { value = done.0.value; int = int_of after.pair; sent = record { items = done.0.sent } }, after)
 
 -- the answer to an event, and the board after it
 unfoldable pub step : Event → State → Answer × State

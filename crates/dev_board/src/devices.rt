@@ -3,10 +3,10 @@ ghost use Rattle.std.specs.Prelude.{◌≡◌, ◌≤◌, IsTrue};
 ghost use Rattle.dev_base.specs.Levels.{IsLevel};
 ghost use Rattle.dev_base.specs.declared.limits.TheConstants.{LAST_MOMENT as last_moment};
 
-use crate::act::Act;
 use crate::event::{Answer, Event};
 use crate::ports::Target;
 use crate::wires::{SERIAL, TIMER, WIRES, bits_where, with_wire};
+use arrayvec::ArrayVec;
 use dev_base::LAST_MOMENT;
 use dev_pic::PicPair;
 use dev_pit::Pit;
@@ -45,7 +45,7 @@ impl Devices {
     ghost use Rattle.dev_board.specs.Ports.{target_of, read as read_of, write as written};
     ghost use Rattle.dev_board.specs.Sound.{IsSound};
     ghost use Rattle.dev_board.specs.State.{power_on};
-    ghost use Rattle.dev_board.specs.Step.{byte_came, waited, acted, wires_after as wires_left, inputs_of, settled, step, names_wire};
+    ghost use Rattle.dev_board.specs.Step.{unsaid, act_in, byte_came, waited, acted, wires_after as wires_left, inputs_of, settled, step, names_wire};
     ghost use Rattle.dev_board.specs.Wires.{AreWires, wires_of};
 
     /// The devices of a level at power on.
@@ -90,14 +90,16 @@ impl Devices {
         ensures step { (result, self.new) ≡ step event self.old }
         ensures sound { IsSound self.new }
     {
-        let wires = self.wires_after(event);
-        let act = self.act(event);
-        self.settle(wires, act.edge);
-        Answer {
-            value: act.value,
-            int: self.pair.int(),
-            sent: act.sent,
-        }
+        let wires = self.wires_after(&event);
+        let mut answer = Answer {
+            value: None,
+            int: false,
+            sent: ArrayVec::new(),
+        };
+        let edge = self.act(&event, &mut answer);
+        self.settle(wires, edge);
+        answer.int = self.pair.int();
+        answer
     }
 
     // The wires as they stand.
@@ -110,36 +112,47 @@ impl Devices {
 
     // The wires that an event leaves.
     #[tactic(auto, unfolding(crate::specs::Step::wires_after))]
-    fn wires_after(&self, event: Event) -> u16
-        requires { IsTrue (names_wire event) }
-        ensures wires { result ≡ wires_left event (wires_of self.now) }
+    fn wires_after(&self, event: &Event) -> u16
+        requires { IsTrue (names_wire event.now) }
+        ensures wires { result ≡ wires_left event.now (wires_of self.now) }
         ensures are { AreWires result }
     {
         let wires = self.wires();
-        match event {
+        match *event {
             Event::Wire { input, up } => with_wire(wires, input, up),
             _ => wires,
         }
     }
 
-    // What an event does before the lines are taken over.
+    // What an event does before the lines are taken over: its value and the bytes sent go into an answer that
+    // says nothing yet, and whether counter 0 had a rising edge is the result.
     #[tactic(auto, unfolding(crate::specs::Step::acted))]
-    fn act(&mut self, event: Event) -> Act
-        ensures { (result, self.new) ≡ acted event self.old }
+    fn act(&mut self, event: &Event, answer: &mut Answer) -> bool
+        requires { answer.old ≡ unsaid }
+        ensures { (act_in result answer.new, self.new) ≡ acted event.now self.old }
     {
-        match event {
-            Event::Read { port } => Act::valued(self.read(port)),
+        match *event {
+            Event::Read { port } => {
+                answer.value = Some(self.read(port));
+                false
+            }
             Event::Write { port, value } => {
                 self.write(port, value);
-                Act::silent()
+                false
             }
             Event::Byte { value } => {
                 self.byte_in(value);
-                Act::silent()
+                false
             }
-            Event::Wait { ns } => self.wait(self.moment.saturating_add(ns).min(LAST_MOMENT)),
-            Event::Wire { .. } => Act::silent(),
-            Event::Ack => Act::valued(self.pair.ack()),
+            Event::Wait { ns } => {
+                let to = self.moment.saturating_add(ns).min(LAST_MOMENT);
+                self.wait(to, answer)
+            }
+            Event::Wire { .. } => false,
+            Event::Ack => {
+                answer.value = Some(self.pair.ack());
+                false
+            }
         }
     }
 
@@ -196,21 +209,19 @@ impl Devices {
         }
     }
 
-    // Lets time pass up to a moment.
+    // Lets time pass up to a moment: the bytes that left go into an answer that says nothing yet, and whether
+    // counter 0 had a rising edge is the result.
     #[tactic(auto, unfolding(crate::specs::Step::waited))]
-    fn wait(&mut self, to: u64) -> Act
+    fn wait(&mut self, to: u64, answer: &mut Answer) -> bool
         requires later { self.old.moment ≤ to }
         requires last { to ≤ last_moment }
-        ensures { (result, self.new) ≡ waited to self.old }
+        requires unsaid { answer.old ≡ unsaid }
+        ensures { (act_in result answer.new, self.new) ≡ waited to self.old }
     {
         let edge = self.pit.edge(0, self.moment, to);
-        let sent = self.serial.advance(to);
+        answer.sent = self.serial.advance(to);
         self.moment = to;
-        Act {
-            value: None,
-            edge,
-            sent,
-        }
+        edge
     }
 
     // The inputs of the pair: the wires, OUT of counter 0 and the serial port's line.

@@ -2,7 +2,6 @@
 //! serial port.
 #![tactic(auto)]
 
-mod act;
 mod cells;
 mod devices;
 mod event;

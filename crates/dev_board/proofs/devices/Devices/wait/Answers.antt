@@ -10,4 +10,4 @@ edge-edge-requires-clause-loaded c = loaded (devices_view c.self.inside) c.self.
 pub invariant_of-self : goal.invariant_of-self
 invariant_of-self c =
     let later : c.self.inside.moment ≤ c.args.to = subst (λ (s : State). s.moment ≤ c.args.to) (sym c.self.view_is) c.requires.later in
-    after-wait (devices_view c.self.inside) c.self.invariant c.args.to c.advance-sent.result.items c.advance-sent.new.self later c.requires.last c.advance-sent.ensures.state
+    after-wait (devices_view c.self.inside) c.self.invariant c.args.to c.advance-answer.result.items c.advance-answer.new.self later c.requires.last c.advance-answer.ensures.state

@@ -5,16 +5,16 @@ use Rattle.dev_board.proofs.WireBits.{named-bound, wires_of-are, wires_after-are
 use Rattle.dev_board.proofs.devices.Devices.wires_after.Goals as goal
 
 pub with_wire-requires : goal.with_wire-requires
-with_wire-requires c = named-bound c.args.event c.in-Wire.input c.in-Wire.up c.requires c.in-Wire.is
+with_wire-requires c = named-bound c.args.event.now c.in-Wire.input c.in-Wire.up c.requires c.in-Wire.is
 
 pub returns-in-Wire : goal.returns-in-Wire
 unfolding wires_after
 returns-in-Wire c =
-    let wires : c.with_wire.result ≡ wires_after c.args.event (wires_of c.args.self.now) = rw (c.in-Wire.is, c.with_wire.ensures, c.wires-wires.ensures) in
-    record { wires = wires; are = rw wires (wires_after-are c.args.event (wires_of c.args.self.now) c.requires (wires_of-are c.args.self.now)) }
+    let wires : c.with_wire.result ≡ wires_after c.args.event.now (wires_of c.args.self.now) = rw (c.in-Wire.is, c.with_wire.ensures, c.wires-wires.ensures) in
+    record { wires = wires; are = rw wires (wires_after-are c.args.event.now (wires_of c.args.self.now) c.requires (wires_of-are c.args.self.now)) }
 
 pub returns-in_default : goal.returns-in_default
 returns-in_default c = record {
-  wires = c.wires-wires.ensures ∙ sym (others_leave c.args.event (wires_of c.args.self.now) c.in_default.not-Wire);
+  wires = c.wires-wires.ensures ∙ sym (others_leave c.args.event.now (wires_of c.args.self.now) c.in_default.not-Wire);
   are = rw c.wires-wires.ensures (wires_of-are c.args.self.now);
 }
