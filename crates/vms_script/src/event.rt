@@ -18,18 +18,13 @@ pub(crate) fn read_event(word: &[u8], rest: &[u8]) -> Option<Result<Event, Scrip
     ensures { (play : Option ℕ) → line_of_words play word.now rest.now
         ≡ event_or (play_line play word.now rest.now) result }
 {
-    if word == b"in".as_slice() {
-        Some(read_in(rest))
-    } else if word == b"out".as_slice() {
-        Some(read_out(rest))
-    } else if word == b"byte".as_slice() {
-        Some(read_byte(rest))
-    } else if word == b"wait".as_slice() {
-        Some(read_wait(rest))
-    } else if word == b"wire".as_slice() {
-        Some(read_wire(rest))
-    } else {
-        None
+    match word {
+        [b'i', b'n'] => Some(read_in(rest)),
+        [b'o', b'u', b't'] => Some(read_out(rest)),
+        [b'b', b'y', b't', b'e'] => Some(read_byte(rest)),
+        [b'w', b'a', b'i', b't'] => Some(read_wait(rest)),
+        [b'w', b'i', b'r', b'e'] => Some(read_wire(rest)),
+        _ => None,
     }
 }
 

@@ -1,14 +1,14 @@
 // Hexadecimal digits, lower-case.
 ghost use Rattle.std.specs.Prelude.{◌≡◌, ◌<◌, IfSome};
 ghost use Rattle.std.specs.Char.{digit_char};
-ghost use Rattle.vms_script.specs.Words.{digit_spelled, byte_spelled, port_spelled, byte_text};
+ghost use Rattle.vms_script.specs.Words.{joined, digit_spelled, byte_spelled, port_spelled, byte_text};
 
 /// The byte of two digits, or `None` exactly where the text is not two digits.
 pub(crate) fn byte_of(text: &[u8]) -> Option<u8>
     ensures { result ≡ byte_spelled text.now }
 {
     match text {
-        [high, low] => Some(digit_of(*high)? * 16 + digit_of(*low)?),
+        [high, low] => byte_by(*high, *low),
         _ => None,
     }
 }
@@ -19,12 +19,19 @@ pub(crate) fn port_of(text: &[u8]) -> Option<u16>
 {
     match text {
         [a, b, c, d] => {
-            let high = byte_of(&[*a, *b])?;
-            let low = byte_of(&[*c, *d])?;
+            let high = byte_by(*a, *b)?;
+            let low = byte_by(*c, *d)?;
             Some(u16::from(high) * 256 + u16::from(low))
         }
         _ => None,
     }
+}
+
+// The byte of two digits, or `None` exactly where they are none.
+fn byte_by(high: u8, low: u8) -> Option<u8>
+    ensures { result ≡ joined 16 (digit_spelled high) (digit_spelled low) }
+{
+    Some(digit_of(high)? * 16 + digit_of(low)?)
 }
 
 // The value of a digit.

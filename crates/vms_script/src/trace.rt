@@ -1,5 +1,5 @@
 // The trace that answers leave.
-ghost use Rattle.std.specs.Prelude.{◌≡◌, ◌+◌, ◌*◌, ◌++◌, ◌≤◌, length, OnOk, OnErr};
+ghost use Rattle.std.specs.Prelude.{◌≡◌, ◌+◌, ◌*◌, ◌++◌, ◌≤◌, [], length, OnOk, OnErr};
 ghost use Rattle.std.specs.Io.KnownBytes.{Appends};
 ghost use Rattle.vms_io.specs.Causes.{AppendsPrefix, HasCause};
 ghost use Rattle.vms_io.specs.Told.{outlet};
@@ -15,6 +15,7 @@ use vms_words::append;
 /// Appends the line of an answer: the value as two hexadecimal digits or `--`, a blank, `1` or `0` for the
 /// interrupt output, where bytes were sent a blank and their digits, and a line feed. After an error a prefix
 /// of it was appended.
+#[inline(always)]
 pub fn print_answer<K: Sink>(answer: &Answer, sink: &mut K) -> Result<(), WriteFault>
     ensures wrote { Wrote (outlet K.Sink sink.old) (outlet K.Sink sink.new) (trace_line answer.now) result }
     ensures ok { let line = trace_line answer.now in
@@ -24,16 +25,32 @@ pub fn print_answer<K: Sink>(answer: &Answer, sink: &mut K) -> Result<(), WriteF
     ensures cause { HasCause (K.faults sink.old) (K.faults sink.new) result }
     ensures promise { K.promise sink.new ≡ K.promise sink.old }
 {
-    let line = line_of(answer);
-    match write_all_of(sink, &line) {
+    let written = if answer.sent.is_empty() {
+        write_all_of(sink, &short_line(answer))
+    } else {
+        write_all_of(sink, &long_line(answer))
+    };
+    match written {
         Ok(()) => Ok(()),
         Err(_) => Err(WriteFault),
     }
 }
 
-// The line of an answer, which has at most 40 bytes.
+// The line of an answer without sent bytes.
 #[tactic(auto, unfolding(crate::specs::Trace::trace_line))]
-fn line_of(answer: &Answer) -> ArrayVec<u8, 40>
+fn short_line(answer: &Answer) -> [u8; 5]
+    requires { answer.now.sent.items ≡ [] }
+    ensures { result ≡ trace_line answer.now }
+{
+    let [high, low] = value_digits(answer.value);
+    let int = if answer.int { b'1' } else { b'0' };
+    [high, low, b' ', int, b'\n']
+}
+
+// The line of an answer, which has at most 40 bytes.
+#[inline(never)]
+#[tactic(auto, unfolding(crate::specs::Trace::trace_line))]
+fn long_line(answer: &Answer) -> ArrayVec<u8, 40>
     ensures { result.items ≡ trace_line answer.now }
 {
     let mut line = ArrayVec::new();
