@@ -14,7 +14,8 @@ use Rattle.vms_spec.specs.Layout.{no_desc, no_field, no_parent, all_hold, desc_c
 use Rattle.vms_spec.specs.Rules.{is_num, is_one, has_no_test, is_steady, is_steady_in, is_earlier_in, is_counting, names_well, nobody, test_names_well, count_names_well}
 use Rattle.std.proofs.lemmas.List.{length-map}
 use Rattle.vms_parts.specs.Devices.{device_at}
-use Rattle.vms_parts.specs.Views.{field_of, sub_of, device_of, form_of, layout_of}
+use Rattle.vms_parts.specs.Views.{field_of, desc_of, sub_of, device_of, form_of, layout_of}
+use Rattle.vms_parts.specs.declared.types.Desc.{Desc as CodeDesc}
 use Rattle.vms_parts.specs.declared.types.Sub.{Sub as CodeSub}
 use Rattle.vms_parts.specs.declared.types.Device.{Device as CodeDevice}
 use Rattle.std.proofs.Math.ListN.{get_or-map}
@@ -114,6 +115,10 @@ found_sub set i j device subs s d e lt is =
     let same : map sub_of subs ≡ (device_at set i).subs = ap (map sub_of) e ∙ ap (λ (x : Device). x.subs) d in
     let long : j < length subs = omega (arith, ap length same, length-map subs sub_of) in
     sym (get_map_at sub_of subs j s none long is) ∙ ap (λ (l : List Sub). get_or l j none) same
+
+-- the fields of a part, as the code has them
+pub here_fields : (set : Set) (part : Part) (d : CodeDesc) (fields : List CodeField) → desc_of d ≡ desc_at set part → fields ≡ d.fields → map field_of fields ≡ (desc_at set part).fields
+here_fields set part d fields is e = ap (map field_of) e ∙ ap (λ (x : Desc). x.fields) is
 
 -- a field that the code found
 pub found_field : (fields : List CodeField) (all : List Field) (k : ℕ) (f : CodeField) → map field_of fields ≡ all → k < length all → f ≡ get_or fields k f → field_of f ≡ get_or all k no_field

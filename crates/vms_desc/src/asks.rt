@@ -88,6 +88,7 @@ impl DescSet {
     }
 
     // The fields of a part, or of one element of a structure, whose first cell is `base`.
+    #[inline(always)]
     pub(crate) fn scope(&self, part: Part, base: u32) -> Scope<'_>
         requires { HasPart (described self.now) part }
         ensures { IsScope (described self.now) (desc_at (described self.now) part) base result }
@@ -100,6 +101,7 @@ impl DescSet {
     }
 
     /// Whether the field of this number is there at a version.
+    #[inline(always)]
     pub fn is_there<C: Cells>(
         &self,
         part: Part,
@@ -116,15 +118,15 @@ impl DescSet {
             (field_at (described self.now) part field).since version
             (own_numbers (described self.now) part (C.numbers cells.now) base) no_parent }
     {
-        let own = self.scope(part, base);
-        let field = &own.fields[field as usize];
+        let field = &self.desc(part).fields.as_slice()[field as usize];
         match &field.test {
             None => version >= field.since,
-            Some(test) => holds(test, version, own, None, cells),
+            Some(test) => holds(test, version, &self.scope(part, base), None, cells),
         }
     }
 
     /// How many elements of the field of this number stand in the bytes, where it is there.
+    #[inline(always)]
     pub fn elements<C: Cells>(&self, part: Part, base: u32, field: u32, cells: &C) -> u32
         requires part { HasPart (described self.now) part }
         requires field { field < length (desc_at (described self.now) part).fields }
@@ -133,13 +135,13 @@ impl DescSet {
         ensures { result ≡ elements_of (field_at (described self.now) part field).count
             (own_numbers (described self.now) part (C.numbers cells.now) base) }
     {
-        let own = self.scope(part, base);
-        let field = &own.fields[field as usize];
+        let field = &self.desc(part).fields.as_slice()[field as usize];
         match field.count {
             Count::One => 1,
             Count::Fixed(length) => length,
             Count::Counted { by, capacity } => {
-                number_at(own, by, cells).min(capacity as u64) as u32
+                let own = self.scope(part, base);
+                number_at(&own, by, cells).min(capacity as u64) as u32
             }
         }
     }
@@ -153,7 +155,7 @@ impl DescSet {
             (own_numbers (described self.now) part (C.numbers cells.now) base) }
     {
         let tests = self.desc(part).validate.as_slice();
-        all_hold(tests, version, self.scope(part, base), cells)
+        all_hold(tests, version, &self.scope(part, base), cells)
     }
 
     /// Whether a subsection of a device is needed, by the numbers of the device's cells.

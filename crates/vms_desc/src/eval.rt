@@ -1,6 +1,7 @@
 // The truth of tests.
 ghost use Rattle.vms_spec.specs.declared.TheConstants.{MOST_ITEMS};
 ghost use Rattle.std.specs.List.{list_all};
+ghost use Rattle.std.specs.Option.{option_copied};
 ghost use Rattle.std.specs.Prelude.{◌≡◌, ◌+◌, ◌≤◌, ◌<◌, ◌*◌, ◌^◌, true, length, get_or, map, pos};
 ghost use Rattle.vms_kinds.specs.Codes.{width, residue};
 ghost use Rattle.vms_spec.specs.Layout.{kind_of, all_hold};
@@ -51,16 +52,17 @@ pub(crate) struct Scope<'a> {
 pub(crate) fn holds<C: Cells>(
     test: &Test,
     version: u32,
-    own: Scope,
-    parent: Option<Scope>,
+    own: &Scope,
+    parent: Option<&Scope>,
     cells: &C,
 ) -> bool
-    requires names { names_well (may_ask own) (may_ask_parent parent) (formula test.now) ≡ true }
-    requires own { IsInside (C.numbers cells.now) own }
-    requires parent { IsInsideParent (C.numbers cells.now) parent }
+    requires names { names_well (may_ask own.now) (may_ask_parent (option_copied parent))
+        (formula test.now) ≡ true }
+    requires own { IsInside (C.numbers cells.now) own.now }
+    requires parent { IsInsideParent (C.numbers cells.now) (option_copied parent) }
     requires few { length (C.numbers cells.now) ≤ MOST_ITEMS }
-    ensures { result ≡ truth (formula test.now) version (number_of (C.numbers cells.now) own.entry)
-        (number_of_parent (C.numbers cells.now) parent.entry) }
+    ensures { result ≡ truth (formula test.now) version (number_of (C.numbers cells.now) own.now)
+        (number_of_parent (C.numbers cells.now) (option_copied parent.entry)) }
 {
     match test {
         Test::AtLeast(least) => version >= *least,
@@ -89,12 +91,13 @@ pub(crate) fn holds<C: Cells>(
 }
 
 // Whether all tests of a description hold at a version.
-pub(crate) fn all_hold<C: Cells>(tests: &[Test], version: u32, own: Scope, cells: &C) -> bool
-    requires names { list_all (names_well (may_ask own) nobody) (map formula tests.now) ≡ true }
-    requires own { IsInside (C.numbers cells.now) own }
+pub(crate) fn all_hold<C: Cells>(tests: &[Test], version: u32, own: &Scope, cells: &C) -> bool
+    requires names { list_all (names_well (may_ask own.now) nobody) (map formula tests.now)
+        ≡ true }
+    requires own { IsInside (C.numbers cells.now) own.now }
     requires few { length (C.numbers cells.now) ≤ MOST_ITEMS }
     ensures { result ≡ all_hold (map formula tests.now) version
-        (number_of (C.numbers cells.now) own.entry) }
+        (number_of (C.numbers cells.now) own.now) }
 {
     for test in tests {
         if !holds(test, version, own, None, cells) {
@@ -105,22 +108,24 @@ pub(crate) fn all_hold<C: Cells>(tests: &[Test], version: u32, own: Scope, cells
 }
 
 // The number of a field, modulo 2^(8w).
-pub(crate) fn number_at<C: Cells>(scope: Scope, field: u32, cells: &C) -> u64
-    requires asked { may_ask scope field ≡ true }
-    requires inside { IsInside (C.numbers cells.now) scope }
+#[inline(always)]
+pub(crate) fn number_at<C: Cells>(scope: &Scope, field: u32, cells: &C) -> u64
+    requires asked { may_ask scope.now field ≡ true }
+    requires inside { IsInside (C.numbers cells.now) scope.now }
     requires few { length (C.numbers cells.now) ≤ MOST_ITEMS }
-    ensures { result ≡ number_of (C.numbers cells.now) scope.entry field }
+    ensures { result ≡ number_of (C.numbers cells.now) scope.now field }
 {
     let field = field as usize;
     let cell = scope.base + scope.starts[field];
     unsigned(kind_of(scope.fields[field].item), cells.number(cell))
 }
 
-fn parent_number<C: Cells>(parent: Option<Scope>, field: u32, cells: &C) -> u64
-    requires asked { may_ask_parent parent field ≡ true }
-    requires inside { IsInsideParent (C.numbers cells.now) parent }
+fn parent_number<C: Cells>(parent: Option<&Scope>, field: u32, cells: &C) -> u64
+    requires asked { may_ask_parent (option_copied parent) field ≡ true }
+    requires inside { IsInsideParent (C.numbers cells.now) (option_copied parent) }
     requires few { length (C.numbers cells.now) ≤ MOST_ITEMS }
-    ensures { result ≡ number_of_parent (C.numbers cells.now) parent.entry field }
+    ensures { result
+        ≡ number_of_parent (C.numbers cells.now) (option_copied parent.entry) field }
 {
     match parent {
         None => 0,

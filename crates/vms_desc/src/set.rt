@@ -134,6 +134,7 @@ impl DescSet {
     }
 
     /// The description of a part.
+    #[inline(always)]
     pub fn desc(&self, part: Part) -> &Desc
         requires { HasPart (described self.now) part }
         ensures { desc_of result.now ≡ desc_at (described self.now) part }
@@ -160,6 +161,7 @@ impl DescSet {
     }
 
     // What walks ask of a part.
+    #[inline(always)]
     pub(crate) fn table(&self, part: Part) -> &Table
         requires { HasPart (described self.now) part }
         ensures { IsTable (sizes_of (described self.now))
@@ -222,13 +224,9 @@ impl DescSet {
             (C.numbers cells.now) base)
             (parent_of (described self.now) desc (C.numbers cells.now)) }
     {
-        holds(
-            test,
-            version,
-            self.scope(desc, base),
-            self.parent(desc),
-            cells,
-        )
+        let own = self.scope(desc, base);
+        let parent = self.parent(desc);
+        holds(test, version, &own, parent.as_ref(), cells)
     }
 }
 

@@ -23,26 +23,26 @@ place_code s k lt =
 
 pub overflow_add-cell : goal.overflow_add-cell
 overflow_add-cell g c =
-    let there = number_there c.args.scope.fields.now c.args.field c.requires.asked in
-    omega (arith, place_code c.args.scope c.args.field there, c.requires.inside.cells c.args.field c.requires.asked, c.requires.few)
+    let there = number_there c.args.scope.now.fields.now c.args.field c.requires.asked in
+    omega (arith, place_code c.args.scope.now c.args.field there, c.requires.inside.cells c.args.field c.requires.asked, c.requires.few)
 
 pub bounds-scope-field : goal.bounds-scope-field
 bounds-scope-field g c =
-    let there = number_there c.args.scope.fields.now c.args.field c.requires.asked in
-    omega (arith, c.requires.inside.starts, length-map c.args.scope.fields.now field_of)
+    let there = number_there c.args.scope.now.fields.now c.args.field c.requires.asked in
+    omega (arith, c.requires.inside.starts, length-map c.args.scope.now.fields.now field_of)
 
 pub bounds-scope-field-2 : goal.bounds-scope-field-2
-bounds-scope-field-2 g c = number_there c.args.scope.fields.now c.args.field c.requires.asked
+bounds-scope-field-2 g c = number_there c.args.scope.now.fields.now c.args.field c.requires.asked
 
 pub number-requires : goal.number-requires
 number-requires g c =
-    let there = number_there c.args.scope.fields.now c.args.field c.requires.asked in
-    omega (arith, place_code c.args.scope c.args.field there, c.requires.inside.cells c.args.field c.requires.asked)
+    let there = number_there c.args.scope.now.fields.now c.args.field c.requires.asked in
+    omega (arith, place_code c.args.scope.now c.args.field there, c.requires.inside.cells c.args.field c.requires.asked)
 
 pub returns : goal.returns
 returns g c =
     let numbers = g.C.Cells.numbers c.args.cells.now in
-    let s = c.args.scope in
+    let s = c.args.scope.now in
     let k = c.args.field in
     let there = number_there s.fields.now k c.requires.asked in
     let fits : SFits w128 c.number.result = search rules in

@@ -3,38 +3,37 @@ use Rattle.std.specs.Option.{option_map}
 use Rattle.vms_spec.specs.Sets.{Field, Formula}
 use Rattle.vms_spec.specs.Tests.{is_there}
 use Rattle.vms_spec.specs.Layout.{no_parent}
-use Rattle.vms_parts.specs.declared.types.Field.{Field as CodeField}
 use Rattle.vms_parts.specs.Views.{field_of, formula}
 use Rattle.vms_desc.specs.Asks.{field_at, own_numbers}
 use Rattle.vms_desc.specs.Described.{described}
 use Rattle.vms_desc.specs.Parts.{desc_at}
 use Rattle.vms_desc.proofs.EvalParts.{own_inside}
-use Rattle.vms_desc.proofs.AskLaws.{found_field, field_names, same_truth}
+use Rattle.vms_desc.proofs.AskLaws.{here_fields, found_field, field_names, same_truth}
 use Rattle.vms_desc.proofs.set.DescSet.is_there.Goals as goal
 
 pub holds-requires-clause-names : goal.holds-requires-clause-names
 holds-requires-clause-names g c =
     let set = described c.args.self.now in
-    let own = c.scope-own.result in
-    let f = c.index-own-field.result in
-    let found = found_field own.fields.now (desc_at set c.args.part).fields c.args.field f c.scope-own.ensures.fields c.requires.field c.index-own-field.is in
-    let test : f.test ≡ Some c.in-Some.test = ap (λ (x : CodeField). x.test) c.index-own-field.is ∙ c.in-Some.is in
+    let own = c.scope.result in
+    let f = c.index-as_slice-field.result in
+    let found = found_field c.as_slice.result.now (desc_at set c.args.part).fields c.args.field f (here_fields set c.args.part c.desc.result.now c.as_slice.result.now c.desc.ensures c.as_slice.ensures) c.requires.field c.index-as_slice-field.is in
+    let test : f.test ≡ Some c.in-Some.test = c.in-Some.is in
     field_names set c.args.self.now.well_formed c.args.part c.requires.part c.args.field c.requires.field (field_of f) found (formula c.in-Some.test)
-    (ap (option_map formula) test) own c.scope-own.ensures.fields
+    (ap (option_map formula) test) own c.scope.ensures.fields
 
 pub holds-requires-clause-own : goal.holds-requires-clause-own
 holds-requires-clause-own g c =
     let set = described c.args.self.now in
-    own_inside set (desc_at set c.args.part) c.args.base c.scope-own.result (g.C.Cells.numbers c.args.cells.now) c.scope-own.ensures c.requires.few c.requires.own
+    own_inside set (desc_at set c.args.part) c.args.base c.scope.result (g.C.Cells.numbers c.args.cells.now) c.scope.ensures c.requires.few c.requires.own
 
 pub returns-in-Some : goal.returns-in-Some
 returns-in-Some g c =
     let set = described c.args.self.now in
     let numbers = g.C.Cells.numbers c.args.cells.now in
-    let own = c.scope-own.result in
-    let f = c.index-own-field.result in
-    let found = found_field own.fields.now (desc_at set c.args.part).fields c.args.field f c.scope-own.ensures.fields c.requires.field c.index-own-field.is in
-    let test : f.test ≡ Some c.in-Some.test = ap (λ (x : CodeField). x.test) c.index-own-field.is ∙ c.in-Some.is in
+    let own = c.scope.result in
+    let f = c.index-as_slice-field.result in
+    let found = found_field c.as_slice.result.now (desc_at set c.args.part).fields c.args.field f (here_fields set c.args.part c.desc.result.now c.as_slice.result.now c.desc.ensures c.as_slice.ensures) c.requires.field c.index-as_slice-field.is in
+    let test : f.test ≡ Some c.in-Some.test = c.in-Some.is in
     let formulas : Some (formula c.in-Some.test) ≡ (field_at set c.args.part c.args.field).test = sym (ap (option_map formula) test) ∙ ap (λ (x : Field). x.test) found in
-    c.holds.ensures ∙ same_truth set c.args.part c.args.base own numbers c.scope-own.ensures c.requires.few c.requires.own (formula c.in-Some.test) c.args.version
+    c.holds.ensures ∙ same_truth set c.args.part c.args.base own numbers c.scope.ensures c.requires.few c.requires.own (formula c.in-Some.test) c.args.version
     ∙ ap (λ (t : Option Formula). is_there t (field_at set c.args.part c.args.field).since c.args.version (own_numbers set c.args.part numbers c.args.base) no_parent) formulas
