@@ -51,7 +51,7 @@ pub new_is : (earlier names : List (List ℕ)) → are_new earlier names ≡ are
 new_is earlier [] = refl
 new_is earlier (n ∷ names) = ap (λ (b : Bool). not (is_one_of earlier n) && b) (new_is (n ∷ earlier) names)
 
-names_of_both : (fs gs : List sets.Field) → all_names (fs ++ gs) ≡ all_names fs ++ all_names gs
+pub names_of_both : (fs gs : List sets.Field) → all_names (fs ++ gs) ≡ all_names fs ++ all_names gs
 names_of_both [] gs = refl
 names_of_both (f ∷ fs) gs = ap (λ (l : List (List ℕ)). f.name ∷ (f.former ++ l)) (names_of_both fs gs) ∙ ap (λ (l : List (List ℕ)). f.name ∷ l) (sym (append_assoc f.former (all_names fs) (all_names gs)))
 

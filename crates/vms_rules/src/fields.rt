@@ -1,6 +1,6 @@
 // The rules at the fields of a description.
 ghost use Rattle.std.specs.List.{list_all, slice_get};
-ghost use Rattle.std.specs.Prelude.{◌≡◌, ◌<◌, ◌≤◌, ◌&&◌, ◌||◌, ◌∷◌, ℕ, List, IfOk, OnOk, length, map, take, nat_le};
+ghost use Rattle.std.specs.Prelude.{◌≡◌, ◌<◌, ◌≤◌, ◌&&◌, ◌||◌, ◌∷◌, ℕ, List, IfOk, OnOk, false, length, map, take, nat_le};
 ghost use Rattle.std.specs.Option.{option_map};
 ghost use Rattle.vms_spec.specs.Names.{all_names, are_new};
 ghost use Rattle.vms_spec.specs.Layout.{counted};
@@ -17,6 +17,7 @@ ghost use Rattle.vms_rules.specs.Naming.{may_name};
 
 use crate::DescFault;
 use crate::capacities::fits;
+use crate::endings::differ_at_ends;
 use crate::fault::lowest;
 use crate::formulas::{Scope, field_at, is_small_if_any, may_name, names_well};
 use crate::names::{Ended, add_name, add_names, are_names};
@@ -201,6 +202,25 @@ fn add_field_names<'a>(
     Ok(is_new && are_new)
 }
 
+// Whether the names of a field are new: they are where all names differ by their ends, and else they are looked up
+// and added.
+fn are_new_names<'a>(
+    differ: bool,
+    names: &mut BTreeSet<Ended<'a>>,
+    field: &'a Field,
+) -> Result<bool, AllocError>
+    ensures new { IfOk result (λ are_new. are_new
+        ≡ (differ || are_new_to (has_name names.old) (field.now.name ∷ field.now.former))) }
+    ensures added { OnOk result (differ ≡ false → (n : List ℕ)
+        → has_name names.new n ≡ (is_one_of (field.now.name ∷ field.now.former) n
+        || has_name names.old n)) }
+{
+    if differ {
+        return Ok(true);
+    }
+    add_field_names(names, field)
+}
+
 // Judges the fields of a description.
 pub(crate) fn check_fields(
     alloc: Global,
@@ -218,9 +238,10 @@ pub(crate) fn check_fields(
         usable,
         capacities: capacities.as_slice(),
     };
+    let differ = differ_at_ends(alloc, fields)?;
     let mut names = BTreeSet::new(alloc);
     for (number, field) in fields.iter().enumerate() {
-        let are_new = add_field_names(&mut names, field)?;
+        let are_new = are_new_names(differ, &mut names, field)?;
         let rules = field_rules(judged, number, field, are_new);
         let place = Place {
             part,

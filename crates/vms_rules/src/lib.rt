@@ -7,6 +7,7 @@
 mod capacities;
 mod descs;
 mod devices;
+mod endings;
 mod fault;
 mod fields;
 mod formulas;

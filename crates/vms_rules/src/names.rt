@@ -53,7 +53,7 @@ fn byte_from_end(name: &[u8], place: usize) -> u8
 
 // The last four bytes of a name as one number.
 #[tactic(auto, unfolding(crate::specs::NameSets::ending))]
-fn ending(name: &[u8]) -> u32
+pub(crate) fn ending(name: &[u8]) -> u32
     ensures { result ≡ ending name.now }
 {
     byte_from_end(name, 0) as u32

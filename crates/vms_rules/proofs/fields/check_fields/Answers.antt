@@ -1,25 +1,36 @@
-use Rattle.std.proofs.Common.{◌≡◌, ◌<◌, ◌∷◌, List, Bool, None, length, get_or, sym, ap, subst, ◌∙◌, arith}
+use Rattle.std.proofs.Common.{◌≡◌, true, map, ◌<◌, ◌∷◌, List, Bool, None, length, get_or, sym, ap, subst, ◌∙◌, arith}
 use Rattle.vms_spec.specs.WellFormed.{failing, in_field, fields_fault}
 use Rattle.vms_parts.specs.declared.types.Field.{Field}
 use Rattle.vms_parts.specs.Views.{field_of, desc_of}
 use Rattle.vms_rules.specs.declared.fault.DescFault.TheVariants.{NoMemory}
 use Rattle.vms_rules.specs.Judged.{IsFirst}
-use Rattle.vms_rules.specs.NameSets.{has_name}
+use Rattle.vms_rules.specs.NameSets.{has_name, ending}
 use Rattle.vms_rules.specs.Walks.{at_field}
-use Rattle.vms_rules.proofs.FieldLaws.{names_more, names_new}
+use Rattle.vms_rules.proofs.FieldLaws.{names_more}
+use Rattle.vms_rules.proofs.EndingLaws.{same, names_known}
+use Rattle.vms_spec.specs.Names.{all_names}
+use Rattle.std.specs.List.{IsDistinct}
 use Rattle.vms_rules.proofs.WalkLaws.{stops_by, place_good, place_stops}
 use Rattle.vms_rules.proofs.fields.check_fields.Goals as goal
 
 pub returns-in_err-capacities : goal.returns-in_err-capacities
 returns-in_err-capacities c = stops_by (fields_fault c.args.usable (desc_of c.args.desc.now) c.args.part) c.from_residual.result NoMemory c.from_residual.ensures.1 tt
 
+pub returns-in_err-differ : goal.returns-in_err-differ
+returns-in_err-differ c = stops_by (fields_fault c.args.usable (desc_of c.args.desc.now) c.args.part) c.from_residual-in_err-differ.result NoMemory c.from_residual-in_err-differ.ensures.1 tt
+
 pub returns-in_err-are_new : goal.returns-in_err-are_new
 returns-in_err-are_new c = stops_by (fields_fault c.args.usable (desc_of c.args.desc.now) c.args.part) c.from_residual-in_err-are_new.result NoMemory c.from_residual-in_err-are_new.ensures.1 tt
 
 pub field_rules-rules-requires-clause-names : goal.field_rules-rules-requires-clause-names
 field_rules-rules-requires-clause-names c =
+    let fields = c.args.desc.now.fields in
     let f = c.index-fields-number.result in
-    names_new c.args.desc.now.fields c.loop-number.number (f.name ∷ f.former) (has_name c.loop-number.names) c.in_ok-are_new.are_new c.loop-number.invariant.names c.in_ok-are_new.ensures.new
+    let i = c.loop-number.number in
+    let lt : i < length fields = omega (arith, ap length c.as_slice-fields.ensures) in
+    let is : f ≡ get_or fields i f = c.index-fields-number.is ∙ ap (λ (l : List Field). get_or l i f) c.as_slice-fields.ensures in
+    let distinct = subst (λ (l : List Field). c.in_ok-differ.differ ≡ true → IsDistinct same (map ending (all_names (map field_of l)))) c.as_slice-fields.ensures c.in_ok-differ.ensures in
+    names_known fields i f (has_name c.loop-number.names) c.in_ok-differ.differ c.in_ok-are_new.are_new lt is distinct c.loop-number.invariant.names c.in_ok-are_new.ensures.new
 
 pub returns-in_err-lowest : goal.returns-in_err-lowest
 returns-in_err-lowest c =
@@ -46,6 +57,6 @@ loop-number-preserved c =
     let good : at_field c.args.usable (desc_of c.args.desc.now) c.args.part i (field_of f) ≡ None =
     ap (λ (r : List Bool). failing 1 r (in_field c.args.part i)) (sym c.field_rules-rules.ensures) ∙ c.in_ok-lowest.ensures in
     record {
-      names = names_more fields i f (has_name c.loop-number.names) (has_name c.add_field_names.new.names) lt is c.loop-number.invariant.names c.in_ok-are_new.ensures.added;
+      names = λ e. names_more fields i f (has_name c.loop-number.names) (has_name c.are_new_names.new.names) lt is (c.loop-number.invariant.names e) (c.in_ok-are_new.ensures.added e);
       good = place_good (at_field c.args.usable (desc_of c.args.desc.now) c.args.part) field_of fields i f whole lt is good c.loop-number.invariant.good;
     }

@@ -1,4 +1,4 @@
-use Rattle.std.proofs.Common.{◌≡◌, List, ℕ, map, take, drop}
+use Rattle.std.proofs.Common.{◌≡◌, false, List, ℕ, map, take, drop}
 use Rattle.vms_spec.specs.Names.{all_names}
 use Rattle.vms_spec.specs.Streams.{is_one_of}
 use Rattle.vms_spec.specs.WellFormed.{fields_fault}
@@ -9,6 +9,6 @@ use Rattle.vms_rules.proofs.fields.check_fields.Given as goal
 
 abbrev pub invariant-loop-number : goal.invariant-loop-number
 invariant-loop-number l = record {
-  names : (n : List ℕ) → has_name l.names n ≡ is_one_of (all_names (map field_of (take l.number l.fn.desc.fields))) n;
+  names : l.differ ≡ false → (n : List ℕ) → has_name l.names n ≡ is_one_of (all_names (map field_of (take l.number l.fn.desc.fields))) n;
   good : fields_from l.fn.usable (desc_of l.fn.desc) l.fn.part l.number (map field_of (drop l.number l.fn.desc.fields)) ≡ fields_fault l.fn.usable (desc_of l.fn.desc) l.fn.part;
 }
