@@ -1,12 +1,15 @@
 // The cells of a board's devices in images of them.
 ghost use Rattle.std.specs.Prelude.{◌≡◌, ◌<◌, ◌≤◌, length, map};
 ghost use Rattle.dev_base.specs.declared.limits.TheConstants.{NEWEST as newest};
+ghost use Rattle.dev_clock_images.specs.Images.{cells_in as clock_cells_of};
 ghost use Rattle.dev_images.specs.Images.{cells_in as cells_of, numbers_at};
-ghost use Rattle.vms_desc.specs.Formed.{shipped_set};
+ghost use Rattle.vms_desc.specs.Formed.{clock_set, shipped_set};
+ghost use Rattle.vms_rtc.specs.declared.limits.TheConstants.{NEWEST_CLOCK as newest_clock};
 ghost use Rattle.vms_image.specs.Typed.{AreImagesOf, state_of};
 
 use arrayvec::ArrayVec;
 use dev_board::BoardCells;
+use dev_clock::ClockCells;
 use vms_image::Image;
 use vms_kinds::DevCells;
 
@@ -21,6 +24,17 @@ pub(crate) fn cells_in(images: &[Image]) -> BoardCells
         slave: cells_at(images, 2),
         pit: cells_at(images, 3),
         serial: cells_at(images, 4),
+    }
+}
+
+/// The cells in images of the devices of the newest clock set, in its order.
+pub(crate) fn clock_cells_in(images: &[Image]) -> ClockCells
+    requires { AreImagesOf (clock_set newest_clock) images.now }
+    ensures { result ≡ clock_cells_of (map state_of images.now) }
+{
+    ClockCells {
+        clock: numbers(&images[0]),
+        board: cells_in(&images[1..]),
     }
 }
 

@@ -3,6 +3,7 @@
 
 mod board;
 mod cells;
+mod clock;
 mod images;
 mod isa;
 mod machine;
@@ -10,7 +11,9 @@ mod restore;
 mod save;
 
 pub use board::MachineBoard;
+pub use clock::{clock_machine_name, clock_set};
 pub use dev_board::{Answer, Devices, Event};
+pub use dev_clock::ClockDevices;
 pub use isa::machine_name;
 pub use machine::Machine;
 pub use restore::RestoreFault;
@@ -20,3 +23,6 @@ pub use vms_load::{Reason, Refusal};
 
 /// A board of a level from 1 to 4, the machine `isa-1` to `isa-4`.
 pub type Board = MachineBoard<Devices>;
+
+/// A board of a version, 1 or 2, of the clock chip, the machine `clk-1` or `clk-2`.
+pub type ClockBoard = MachineBoard<ClockDevices>;

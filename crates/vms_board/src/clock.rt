@@ -1,0 +1,109 @@
+// The boards of the versions 1 and 2 of the clock chip.
+ghost use Rattle.std.specs.Prelude.{◌≡◌, IfOk};
+ghost use Rattle.dev_base.specs.Levels.{IsUpTo};
+ghost use Rattle.vms_board.specs.Clock.{clock_machine};
+ghost use Rattle.vms_desc.specs.Described.{described};
+ghost use Rattle.vms_desc.specs.Formed.{clock_set as clock_set_of};
+ghost use Rattle.vms_rtc.specs.declared.limits.TheConstants.{NEWEST_CLOCK as newest};
+
+use crate::board::MachineBoard;
+use crate::cells::clock_cells_in;
+use crate::machine::Machine;
+use dev_board::{Answer, Event, Misfit};
+use dev_clock::{ClockCells, ClockDevices};
+use std::alloc::Global;
+use vms_desc::DescSet;
+use vms_image::Image;
+use vms_io::NoMemory;
+use vms_kinds::DevCells;
+use vms_rtc::NEWEST_CLOCK;
+
+impl Machine for ClockDevices {
+    type Cells = ClockCells;
+
+    ghost use Rattle.dev_clock_images.specs.Images.{lists_of};
+    ghost use Rattle.dev_clock.specs.Sound.{IsSound};
+    ghost use Rattle.vms_board.specs.Clock.{clock, AreTold};
+    ghost use Rattle.vms_board.specs.ClockStands.{clock_stands};
+
+    ghost family = { clock };
+
+    ghost is_sound = { IsSound };
+
+    ghost are_told = { AreTold };
+
+    ghost held = { lists_of };
+
+    fn newest() -> u8 {
+        NEWEST_CLOCK
+    }
+
+    fn set(alloc: Global, number: u8) -> Result<DescSet, NoMemory> {
+        DescSet::clock(alloc, number)
+    }
+
+    fn at_power_on(number: u8) -> ClockDevices {
+        ClockDevices::new(number)
+    }
+
+    fn event(&mut self, event: Event) -> Answer {
+        self.event(event)
+    }
+
+    fn number(&self) -> u8 {
+        self.version()
+    }
+
+    fn now(&self) -> u64 {
+        self.now()
+    }
+
+    fn cells(&self, set: u8) -> ClockCells {
+        self.cells(set)
+    }
+
+    fn list<'a>(cells: &'a ClockCells, device: u32) -> &'a DevCells {
+        match device {
+            0 => &cells.clock,
+            1 => &cells.board.timer,
+            2 => &cells.board.master,
+            3 => &cells.board.slave,
+            4 => &cells.board.pit,
+            _ => &cells.board.serial,
+        }
+    }
+
+    fn of_images(number: u8, images: &[Image]) -> Result<ClockDevices, Misfit> {
+        ClockDevices::of_cells(number, &clock_cells_in(images))
+    }
+
+    ghost stands = { clock_stands };
+}
+
+/// The clock set of a number, 1 or 2. Fails only where memory is wanting.
+pub fn clock_set(alloc: Global, c: u8) -> Result<DescSet, NoMemory>
+    requires { IsUpTo newest c }
+    ensures { IfOk result (λ set. described set ≡ clock_set_of c) }
+{
+    DescSet::clock(alloc, c)
+}
+
+/// The machine that a board of a version is, `clk-1` or `clk-2`.
+pub fn clock_machine_name(version: u8) -> &'static str
+    requires { IsUpTo newest version }
+    ensures { result.now ≡ clock_machine version }
+{
+    match version {
+        1 => "clk-1",
+        _ => "clk-2",
+    }
+}
+
+impl MachineBoard<ClockDevices> {
+    /// The version of the chip, 1 or 2.
+    pub fn version(&self) -> u8
+        ensures { result ≡ self.now.state.clock.version }
+    {
+        self.number()
+    }
+}
