@@ -1,13 +1,16 @@
--- The step that gives a script: it is told where the shelf is, never ends by the status 0, and gives what is there.
-use Rattle.std.proofs.Common.{◌≡◌, ℕ, ◌≤◌, List, length, Option, Some, None, Ok, Err, ap, ◌∙◌, arith}
+-- The step that gives a script: it is told where the shelf is, never ends by the status 0, and gives what is there, of lines that
+-- may stand in a script.
+use Rattle.std.proofs.Common.{◌≡◌, ℕ, ◌≤◌, List, length, Option, Some, None, Ok, Err, refl, ap, ◌∙◌, arith}
 use Rattle.vms_board.specs.Family.{Family}
 use Rattle.vms_board.specs.Saving.{saved_stream}
 use Rattle.vms_board_streams.specs.Streams.{after_events}
 use Rattle.vms_io.specs.Shelves.{Held}
 use Rattle.vms_commands.proofs.StepLemmas.{IsSound, fetched_gives, sound_fetch, sound_next}
 use Rattle.vms_commands.specs.Fetching.{fetched}
-use Rattle.vms_commands.specs.Steps.{Step, Gives, next}
+use Rattle.vms_commands.specs.Steps.{Step, Untold, Gives, Ends, next}
 use Rattle.vms_session.specs.Events.{events_of}
+use Rattle.vms_script.proofs.GrammarOnly.{reads_exactly}
+use Rattle.vms_script.specs.Grammar.{AreLines}
 use Rattle.vms_script.specs.Lines.{ScriptLine}
 use Rattle.vms_script.specs.Script.{Reading, script_read}
 use Rattle.vms_board_commands.specs.Save.{saved_after}
@@ -25,6 +28,24 @@ sound_script play held name =
 pub sound_saved : {S : Type 0} (f : Family S) (number set : ℕ) (held : Option Held) (name : List ℕ) → IsSound held (saved_after f number set held name)
 sound_saved f number set held name =
     sound_next held (scripted None held name) (λ lines. Gives (saved_stream f set (after_events f (events_of lines) (f.power_on number)))) (sound_script None held name) (λ lines. tt)
+
+-- lines that the step gives may stand in a script, of a session on a board of a level where one is named
+abbrev pub AreStepLines : Option ℕ → Step (List ScriptLine) → Type 0
+AreStepLines play Untold = Unit {0}
+AreStepLines play (Gives lines) = AreLines play lines
+AreStepLines play (Ends status line) = Unit {0}
+
+said-script : (play : Option ℕ) (text : List ℕ) (r : Reading) → script_read play text ≡ r → AreStepLines play (said_lines r)
+said-script play text (Ok lines) e = (reads_exactly.only play text lines e).0
+said-script play text (Err fault) e = tt
+
+step-lines : (play : Option ℕ) (s : Step (List ℕ)) → AreStepLines play (next s (λ text. said_lines (script_read play text)))
+step-lines play Untold = tt
+step-lines play (Gives text) = said-script play text (script_read play text) refl
+step-lines play (Ends status line) = tt
+
+pub scripted_lines : (play : Option ℕ) (held : Option Held) (name : List ℕ) → AreStepLines play (scripted play held name)
+scripted_lines play held name = step-lines play (fetched longest_script held name)
 
 -- a script that is there is read
 pub script_gives : (play : Option ℕ) (map : Held) (name text : List ℕ) (lines : List ScriptLine) → map name ≡ Some text → length text ≤ longest_script

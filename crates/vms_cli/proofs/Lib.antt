@@ -9,6 +9,7 @@ pub mod EndLemmas
 pub mod OutcomeLaws
 pub mod PackLemmas
 pub mod RoundTrips
+pub mod SaveLaws
 pub mod ShowLemmas
 pub mod ShowRow
 pub mod StateLaws

@@ -1,5 +1,5 @@
 -- Each call has one outcome, and what can be done is done.
-use Rattle.std.proofs.Common.{◌≡◌, ℕ, zero, suc, ◌+◌, ◌<◌, ◌≤◌, ◌⊎◌, List, ◌∷◌, length, length-append, take, Option, Some, None, Ok, Err, IsSomeAnd, refl, sym, ap, ◌∙◌, subst, arith, inl, inr, []}
+use Rattle.std.proofs.Common.{◌≡◌, ℕ, zero, suc, ◌+◌, ◌<◌, ◌≤◌, ◌⊎◌, List, ◌∷◌, length, length-append, take, Option, Some, None, IsSomeAnd, refl, sym, ap, ◌∙◌, subst, arith, inl, inr, []}
 use Rattle.std.proofs.lemmas.List.{length-take}
 use Rattle.std.specs.Io.KnownBytes.{Appends}
 use Rattle.std.proofs.lemmas.Option.{none-some}
@@ -16,7 +16,7 @@ use Rattle.vms_stream.proofs.Stated.{either_holds}
 use Rattle.vms_analyze.specs.Listing.{Text}
 use Rattle.vms_check.specs.declared.mismatch.Mismatch.{Mismatch}
 use Rattle.vms_spec.specs.Sets.{Set}
-use Rattle.vms_commands.specs.Fetching.{fetched, longest_file, named_sets, word_set}
+use Rattle.vms_commands.specs.Fetching.{longest_file, named_sets, word_set}
 use Rattle.vms_commands.specs.Lines.{bad_words, read_fault, write_fault, shelf_fault, out_of_memory, refused_line}
 use Rattle.vms_commands.specs.Outcomes.{Part, Outcome, ComesTo, FailsToStore, TellsShelfFault, DoesOrStops, PromisesStay, done, ended, text_of, text_begun, Outside, HasPart}
 use Rattle.vms_commands.specs.SetWords.{SetWord}
@@ -27,7 +27,7 @@ use Rattle.dev_board.specs.State.{power_on}
 use Rattle.vms_board.specs.Isa.{isa}
 use Rattle.vms_board.specs.IsaStands.{isa_stands}
 use Rattle.vms_board.specs.Saving.{saved_stream}
-use Rattle.vms_board_commands.proofs.ScriptSteps.{script_gives, sound_saved, sound_script}
+use Rattle.vms_board_commands.proofs.ScriptSteps.{AreStepLines, script_gives, scripted_lines, sound_saved, sound_script}
 use Rattle.vms_board_commands.specs.Drill.{drill_line}
 use Rattle.dev_board.specs.Step.{after_all, observe}
 use Rattle.dev_base.specs.Levels.{IsLevel}
@@ -36,14 +36,13 @@ use Rattle.vms_board_commands.proofs.PlayOutcome.{has_end, one_outcome}
 use Rattle.vms_board_commands.specs.Play.{PlaysBy}
 use Rattle.vms_board_commands.specs.Load.{LoadsBy, Traces}
 use Rattle.vms_board_commands.specs.Save.{saved_after}
-use Rattle.vms_board_commands.specs.Scripts.{longest_script, said_lines, scripted}
+use Rattle.vms_board_commands.specs.Scripts.{scripted}
 use Rattle.vms_board_streams.specs.Streams.{trace_of}
 use Rattle.vms_session.specs.Laws.{HoldsAll}
 use Rattle.vms_session.specs.Events.{events_of}
 use Rattle.vms_script.proofs.GrammarOnly.{reads_exactly}
 use Rattle.vms_script.specs.Grammar.{AreLines}
 use Rattle.vms_script.specs.Lines.{ScriptLine}
-use Rattle.vms_script.specs.Script.{Reading, script_read}
 use Rattle.vms_cli.specs.Answers.{HasOutcome, Answers}
 use Rattle.vms_cli.specs.Check.{checked, compared, compatible_text, verdict}
 use Rattle.vms_cli.specs.Commands.{Asked, IsaBoard, Show, Analyze, Pack, Check, Counter, Save, Load, Drill, Play, asked_of}
@@ -140,27 +139,12 @@ one_loaded level script input held ok =
 
 -- ---- the outcome of `play`
 
--- a script that the shelf gives is one of sessions
-abbrev AreStepLines : ℕ → Step (List ScriptLine) → Type 0
-AreStepLines level Untold = Unit {0}
-AreStepLines level (Gives lines) = AreLines (Some level) lines
-AreStepLines level (Ends status line) = Unit {0}
-
-said_script : (level : ℕ) (text : List ℕ) (r : Reading) → script_read (Some level) text ≡ r → AreStepLines level (said_lines r)
-said_script level text (Ok lines) e = (reads_exactly.only (Some level) text lines e).0
-said_script level text (Err fault) e = tt
-
-step_lines : (level : ℕ) (s : Step (List ℕ)) → AreStepLines level (next s (λ text. said_lines (script_read (Some level) text)))
-step_lines level Untold = tt
-step_lines level (Gives text) = said_script level text (script_read (Some level) text) refl
-step_lines level (Ends status line) = tt
-
 record OnePlays (level : ℕ) (step : Step (List ScriptLine)) (held : Held) : Type 0 where
   outcome : Outcome
   is : PlaysBy level step (Some held) outcome
   only : (other : Outcome) → PlaysBy level step (Some held) other → other ≡ outcome
 
-one_plays : (level : ℕ) (s : Step (List ScriptLine)) (held : Held) → AreStepLines level s → IsLevel level → HoldsAll held → IsStepSound (Some held) s → OnePlays level s held
+one_plays : (level : ℕ) (s : Step (List ScriptLine)) (held : Held) → AreStepLines (Some level) s → IsLevel level → HoldsAll held → IsStepSound (Some held) s → OnePlays level s held
 one_plays level Untold held are is holds sound = absurd (none-some {A = Held} held (sym sound))
 one_plays level (Ends status line) held are is holds sound = record { outcome = ended status line 0; is = refl; only = λ other e. e }
 one_plays level (Gives lines) held are is holds sound =
@@ -170,7 +154,7 @@ one_plays level (Gives lines) held are is holds sound =
 one_played : (level : ℕ) (script input : List ℕ) (held : Held) → IsLevel level → HoldsAll held → HasOneOutcome (Some (Play level script)) input held
 one_played level script input held is holds =
     let step = scripted (Some level) (Some held) script in
-    let are = step_lines level (fetched longest_script (Some held) script) in
+    let are = scripted_lines (Some level) (Some held) script in
     let one = one_plays level step held are is holds (sound_script (Some level) (Some held) script) in
     record { outcome = one.outcome; is = one.is; only = one.only }
 

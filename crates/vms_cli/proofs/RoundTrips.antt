@@ -29,15 +29,15 @@ use Rattle.vms_cli.specs.Pack.{described_stream, packed, packed_by, packed_texts
 use Rattle.vms_cli.specs.Show.{Shows, ShowsBy, Values as Printed, Refuses}
 use Rattle.vms_cli.proofs.PackLemmas.{pack_gives, with_values}
 
-abbrev first_text : List Part → List ℕ
+abbrev pub first_text : List Part → List ℕ
 first_text [] = []
 first_text (part ∷ parts) = part.text
 
-same_text : (x y : Outcome) → x ≡ y → first_text x.parts ≡ first_text y.parts
+pub same_text : (x y : Outcome) → x ≡ y → first_text x.parts ≡ first_text y.parts
 same_text x y e = ap (λ (o : Outcome). first_text o.parts) e
 
 -- what is done has a part, and what ends by a status of its own has none
-done_apart : (s : ℕ) (note text : List ℕ) (held : Option Held) (k n : ℕ) → done text held n ≡ ended s note k → ⊥
+pub done_apart : (s : ℕ) (note text : List ℕ) (held : Option Held) (k n : ℕ) → done text held n ≡ ended s note k → ⊥
 done_apart s note text held k n e = parts_apart _ _ (ap (λ (o : Outcome). o.parts) e)
   where
     parts_apart : (part : Part) (parts : List Part) → part ∷ parts ≡ [] → ⊥
@@ -52,19 +52,19 @@ lists_few input text _ (HasNone few none) e = few
 lists_few input text _ (HasNoShape p few last none) e = few
 lists_few input text _ (IsRead p devices few last tells) e = few
 
-lists_all : (input text : List ℕ) (held : Option Held) → Lists input (Text text) → IsListing held input (done text held (length input))
+pub lists_all : (input text : List ℕ) (held : Option Held) → Lists input (Text text) → IsListing held input (done text held (length input))
 lists_all input text held lists = record {
   listing = Text text;
   lists = lists;
   is = ap (λ (n : ℕ). done text held n) (omega (arith, lists_few input text (Text text) lists refl));
 }
 
-shown_listed : (set : Set) → IsFit set → (machine : Option (List ℕ)) (images : List Image) → IsMachineOf set machine → AreReady set images
+pub shown_listed : (set : Set) → IsFit set → (machine : Option (List ℕ)) (images : List Image) → IsMachineOf set machine → AreReady set images
     → Lists (described_stream set machine images) (Text (values_text set machine images))
 shown_listed set fit machine images named ready = shown_listing set fit.well fit.heads machine named images ready
 
 -- a description is short enough for a stream
-fits_text : (set : Set) → IsFit set → (images : List Image) → length (described_text set images) ≤ 16777216
+pub fits_text : (set : Set) → IsFit set → (images : List Image) → length (described_text set images) ≤ 16777216
 fits_text set fit images =
     let short : length (described_text set images) < 16777216 = short_holds.short set fit.well fit.heads images in
     omega (arith, short)

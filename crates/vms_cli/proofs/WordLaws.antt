@@ -1,17 +1,19 @@
--- A board that words name has a level.
-use Rattle.std.proofs.Common.{ℕ, Bool, true, false, if◌then◌else◌, List, [], ◌∷◌, Option, Some, None, codes, arith}
+-- Words name boards that there are.
+use Rattle.std.proofs.Common.{◌≡◌, ℕ, ◌≤◌, Bool, true, false, if◌then◌else◌, nat_le, List, [], ◌∷◌, Option, Some, None, codes, arith, refl}
+use Rattle.std.proofs.lemmas.Bool.{leb-true}
 use Rattle.std.specs.Str.{bytes_eq}
 use Rattle.dev_base.specs.Levels.{IsLevel}
+use Rattle.dev_base.specs.declared.limits.TheConstants.{NEWEST}
 use Rattle.vms_io.specs.Shelves.{Held}
-use Rattle.vms_commands.specs.SetWords.{ShippedSet, SetWord, named_in, set_word, shipped_word}
+use Rattle.vms_commands.specs.SetWords.{Isa, ShippedSet, SetWord, named_in, set_word, shipped_word, shipped_words}
 use Rattle.vms_script.specs.Names.{is_shelf_name}
 use Rattle.vms_session.specs.Laws.{HoldsAll}
-use Rattle.vms_cli.specs.Commands.{Asked, BoardWord, Analyze, Pack, board_word, board_words, check_of, counter_of, drill_of, few_events, isa_level, load_of, number_word, on_board, pack_of, pair_of, play_of, save_of, save_under, saved_set, show_of, triple_of}
-use Rattle.vms_cli.specs.Laws.{GoesBy, WordsLaw}
+use Rattle.vms_cli.specs.Commands.{Asked, BoardWord, IsaBoard, Show, Analyze, Pack, Check, Counter, Save, Load, Drill, Play, asked_of, board_word, board_words, check_of, counter_of, drill_of, few_events, isa_level, load_of, number_word, on_board, pack_of, pair_of, play_of, save_of, save_under, show_of, triple_of}
+use Rattle.vms_cli.specs.Laws.{AskedLaw, CanBeAsked, GoesBy, WordsLaw}
 
 -- ---- levels
 
-abbrev HasLevel : Option ℕ → Type 0
+abbrev pub HasLevel : Option ℕ → Type 0
 HasLevel None = Unit {0}
 HasLevel (Some level) = IsLevel level
 
@@ -35,87 +37,137 @@ board-level word =
       (record { first = omega arith; last = omega arith }, (record { first = omega arith; last = omega arith }, (record { first = omega arith; last = omega arith }, tt))),
     )
 
+-- ---- sets
+
+-- there is such a set
+abbrev IsSet : Option ShippedSet → Type 0
+IsSet None = Unit {0}
+IsSet (Some (Isa set)) = set ≤ NEWEST
+
+-- each set of a table is one
+abbrev AreSets : List (List ℕ × ShippedSet) → Type 0
+AreSets [] = Unit {0}
+AreSets ((name, set) ∷ table) = IsSet (Some set) × AreSets table
+
+found-set : (b : Bool) (x y : Option ShippedSet) → IsSet x → IsSet y → IsSet (if b then x else y)
+found-set true x y p q = p
+found-set false x y p q = q
+
+table-set : (word : List ℕ) (table : List (List ℕ × ShippedSet)) → AreSets table → IsSet (named_in word table)
+table-set word [] are = tt
+table-set word ((name, set) ∷ table) are = found-set (bytes_eq word name) (Some set) (named_in word table) are.0 (table-set word table are.1)
+
+word-set : (word : List ℕ) → IsSet (shipped_word word)
+word-set word = table-set word shipped_words (omega arith, (omega arith, (omega arith, (omega arith, (omega arith, tt)))))
+
 -- ---- commands
 
-module _ (held : Held) (holds : HoldsAll held) where
-  either-goes : (b : Bool) (x y : Option Asked) → GoesBy x held → GoesBy y held → GoesBy (if b then x else y) held
-  either-goes true x y p q = p
-  either-goes false x y p q = q
+either-asked : (b : Bool) (x y : Option Asked) → CanBeAsked x → CanBeAsked y → CanBeAsked (if b then x else y)
+either-asked true x y p q = p
+either-asked false x y p q = q
 
-  show-goes : (set : Option SetWord) → GoesBy (show_of set) held
-  show-goes None = tt
-  show-goes (Some set) = tt
+show-asked : (set : Option SetWord) → CanBeAsked (show_of set)
+show-asked None = tt
+show-asked (Some set) = tt
 
-  check-goes : (old new : Option SetWord) → GoesBy (check_of old new) held
-  check-goes None None = tt
-  check-goes None (Some new) = tt
-  check-goes (Some old) None = tt
-  check-goes (Some old) (Some new) = tt
+check-asked : (old new : Option SetWord) → CanBeAsked (check_of old new)
+check-asked None None = tt
+check-asked None (Some new) = tt
+check-asked (Some old) None = tt
+check-asked (Some old) (Some new) = tt
 
-  counter-goes : (old new : Option SetWord) → GoesBy (counter_of old new) held
-  counter-goes None None = tt
-  counter-goes None (Some new) = tt
-  counter-goes (Some old) None = tt
-  counter-goes (Some old) (Some new) = tt
+counter-asked : (old new : Option SetWord) → CanBeAsked (counter_of old new)
+counter-asked None None = tt
+counter-asked None (Some new) = tt
+counter-asked (Some old) None = tt
+counter-asked (Some old) (Some new) = tt
 
-  pack-goes : (set : Option SetWord) (values : List ℕ) → GoesBy (pack_of set values) held
-  pack-goes None values = tt
-  pack-goes (Some set) values = either-goes (is_shelf_name values) (Some (Pack set values)) None tt tt
+pack-asked : (set : Option SetWord) (values : List ℕ) → CanBeAsked (pack_of set values)
+pack-asked None values = tt
+pack-asked (Some set) values = either-asked (is_shelf_name values) (Some (Pack set values)) None tt tt
 
-  load-goes : (board : Option (BoardWord × List ℕ)) → GoesBy (load_of board) held
-  load-goes None = tt
-  load-goes (Some (board, script)) = tt
+load-if : (b : Bool) (board : BoardWord) (script : List ℕ) → HasLevel (isa_level (Some board)) → CanBeAsked (load_of (if b then Some (board, script) else None))
+load-if true (IsaBoard level) script is = is
+load-if false board script is = tt
 
-  play-if : (b : Bool) (level : ℕ) (script : List ℕ) → IsLevel level → GoesBy (play_of (if b then Some (level, script) else None)) held
-  play-if true level script is = (is, holds)
-  play-if false level script is = tt
+load-asked : (board : Option BoardWord) (script : List ℕ) → HasLevel (isa_level board) → CanBeAsked (load_of (on_board board script))
+load-asked None script is = tt
+load-asked (Some board) script is = load-if (is_shelf_name script) board script is
 
-  play-goes : (level : Option ℕ) (script : List ℕ) → HasLevel level → GoesBy (play_of (on_board level script)) held
-  play-goes None script is = tt
-  play-goes (Some level) script is = play-if (is_shelf_name script) level script is
+play-if : (b : Bool) (level : ℕ) (script : List ℕ) → IsLevel level → CanBeAsked (play_of (if b then Some (level, script) else None))
+play-if true level script is = is
+play-if false level script is = tt
 
-  under-goes : (board : BoardWord) (script : List ℕ) (set : Option ℕ) → GoesBy (save_under board script set) held
-  under-goes board script None = tt
-  under-goes board script (Some set) = tt
+play-asked : (level : Option ℕ) (script : List ℕ) → HasLevel level → CanBeAsked (play_of (on_board level script))
+play-asked None script is = tt
+play-asked (Some level) script is = play-if (is_shelf_name script) level script is
 
-  save-goes : (board : Option (BoardWord × List ℕ)) (set : Option ShippedSet) → GoesBy (save_of board set) held
-  save-goes None None = tt
-  save-goes None (Some set) = tt
-  save-goes (Some (board, script)) None = tt
-  save-goes (Some (board, script)) (Some set) = under-goes board script (saved_set board set)
+under-asked : (level set : ℕ) (script : List ℕ) (b : Bool) → nat_le level set ≡ b → IsLevel level → set ≤ NEWEST
+    → CanBeAsked (save_under (IsaBoard level) script (if b then Some set else None))
+under-asked level set script true e is last = (is, record { level_le_set = leb-true level set e; set_le_newest = last })
+under-asked level set script false e is last = tt
 
-  drill-goes : (level seed count : Option ℕ) → GoesBy (drill_of level seed count) held
-  drill-goes None None None = tt
-  drill-goes None None (Some count) = tt
-  drill-goes None (Some seed) None = tt
-  drill-goes None (Some seed) (Some count) = tt
-  drill-goes (Some level) None None = tt
-  drill-goes (Some level) None (Some count) = tt
-  drill-goes (Some level) (Some seed) None = tt
-  drill-goes (Some level) (Some seed) (Some count) = tt
+save-if : (b : Bool) (board : BoardWord) (script : List ℕ) (set : Option ShippedSet) → HasLevel (isa_level (Some board)) → IsSet set
+    → CanBeAsked (save_of (if b then Some (board, script) else None) set)
+save-if true board script None is last = tt
+save-if true (IsaBoard level) script (Some (Isa set)) is last = under-asked level set script (nat_le level set) refl is last
+save-if false board script None is last = tt
+save-if false board script (Some set) is last = tt
 
-  pair-goes : (name one other : List ℕ) → GoesBy (pair_of name one other) held
-  unfolding pair_of
-  pair-goes name one other =
-      either-goes (bytes_eq name (codes "check")) (check_of (set_word one) (set_word other)) _ (check-goes (set_word one) (set_word other))
-      (either-goes (bytes_eq name (codes "counter")) (counter_of (set_word one) (set_word other)) _ (counter-goes (set_word one) (set_word other))
-      (either-goes (bytes_eq name (codes "pack")) (pack_of (set_word one) other) _ (pack-goes (set_word one) other)
-      (either-goes (bytes_eq name (codes "load")) (load_of (on_board (board_word one) other)) _ (load-goes (on_board (board_word one) other))
-      (either-goes (bytes_eq name (codes "play")) (play_of (on_board (isa_level (board_word one)) other)) None (play-goes (isa_level (board_word one)) other (board-level one)) tt))))
+save-asked : (board : Option BoardWord) (script : List ℕ) (set : Option ShippedSet) → HasLevel (isa_level board) → IsSet set
+    → CanBeAsked (save_of (on_board board script) set)
+save-asked None script None is last = tt
+save-asked None script (Some set) is last = tt
+save-asked (Some board) script set is last = save-if (is_shelf_name script) board script set is last
 
-  triple-goes : (name one two three : List ℕ) → GoesBy (triple_of name one two three) held
-  unfolding triple_of
-  triple-goes name one two three =
-      either-goes (bytes_eq name (codes "drill")) (drill_of (isa_level (board_word one)) (number_word two) (few_events (number_word three))) _
-      (drill-goes (isa_level (board_word one)) (number_word two) (few_events (number_word three)))
-      (either-goes (bytes_eq name (codes "save")) (save_of (on_board (board_word one) three) (shipped_word two)) None
-      (save-goes (on_board (board_word one) three) (shipped_word two)) tt)
+drill-asked : (level seed count : Option ℕ) → HasLevel level → CanBeAsked (drill_of level seed count)
+drill-asked None None None is = tt
+drill-asked None None (Some count) is = tt
+drill-asked None (Some seed) None is = tt
+drill-asked None (Some seed) (Some count) is = tt
+drill-asked (Some level) None None is = tt
+drill-asked (Some level) None (Some count) is = tt
+drill-asked (Some level) (Some seed) None is = tt
+drill-asked (Some level) (Some seed) (Some count) is = is
+
+pair-asked : (name one other : List ℕ) → CanBeAsked (pair_of name one other)
+unfolding pair_of
+pair-asked name one other =
+    either-asked (bytes_eq name (codes "check")) (check_of (set_word one) (set_word other)) _ (check-asked (set_word one) (set_word other))
+    (either-asked (bytes_eq name (codes "counter")) (counter_of (set_word one) (set_word other)) _ (counter-asked (set_word one) (set_word other))
+    (either-asked (bytes_eq name (codes "pack")) (pack_of (set_word one) other) _ (pack-asked (set_word one) other)
+    (either-asked (bytes_eq name (codes "load")) (load_of (on_board (board_word one) other)) _ (load-asked (board_word one) other (board-level one))
+    (either-asked (bytes_eq name (codes "play")) (play_of (on_board (isa_level (board_word one)) other)) None (play-asked (isa_level (board_word one)) other (board-level one)) tt))))
+
+triple-asked : (name one two three : List ℕ) → CanBeAsked (triple_of name one two three)
+unfolding triple_of
+triple-asked name one two three =
+    either-asked (bytes_eq name (codes "drill")) (drill_of (isa_level (board_word one)) (number_word two) (few_events (number_word three))) _
+    (drill-asked (isa_level (board_word one)) (number_word two) (few_events (number_word three)) (board-level one))
+    (either-asked (bytes_eq name (codes "save")) (save_of (on_board (board_word one) three) (shipped_word two)) None
+    (save-asked (board_word one) three (shipped_word two) (board-level one) (word-set two)) tt)
+
+pub words_ask : AskedLaw
+words_ask [] = tt
+words_ask (name ∷ []) = either-asked (bytes_eq name (codes "analyze")) (Some Analyze) None tt tt
+words_ask (name ∷ set ∷ []) = either-asked (bytes_eq name (codes "show")) (show_of (set_word set)) None (show-asked (set_word set)) tt
+words_ask (name ∷ one ∷ other ∷ []) = pair-asked name one other
+words_ask (name ∷ one ∷ two ∷ three ∷ []) = triple-asked name one two three
+words_ask (name ∷ one ∷ two ∷ three ∷ four ∷ words) = tt
+
+-- ---- what `play` goes by
+
+goes-by : (asked : Option Asked) (held : Held) → CanBeAsked asked → HoldsAll held → GoesBy asked held
+goes-by None held can holds = tt
+goes-by (Some (Show set)) held can holds = tt
+goes-by (Some Analyze) held can holds = tt
+goes-by (Some (Pack set values)) held can holds = tt
+goes-by (Some (Check old new)) held can holds = tt
+goes-by (Some (Counter old new)) held can holds = tt
+goes-by (Some (Save board set script)) held can holds = tt
+goes-by (Some (Load board script)) held can holds = tt
+goes-by (Some (Drill level seed count)) held can holds = tt
+goes-by (Some (Play level script)) held can holds = (can, holds)
 
 pub words_hold : WordsLaw
-words_hold [] held holds = tt
-words_hold (name ∷ []) held holds = either-goes held holds (bytes_eq name (codes "analyze")) (Some Analyze) None tt tt
-words_hold (name ∷ set ∷ []) held holds =
-    either-goes held holds (bytes_eq name (codes "show")) (show_of (set_word set)) None (show-goes held holds (set_word set)) tt
-words_hold (name ∷ one ∷ other ∷ []) held holds = pair-goes held holds name one other
-words_hold (name ∷ one ∷ two ∷ three ∷ []) held holds = triple-goes held holds name one two three
-words_hold (name ∷ one ∷ two ∷ three ∷ four ∷ words) held holds = tt
+words_hold words held holds = goes-by (asked_of words) held (words_ask words) holds

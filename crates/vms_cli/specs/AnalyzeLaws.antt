@@ -6,10 +6,10 @@ use Rattle.vms_spec.specs.Sets.{Set}
 use Rattle.vms_spec.specs.Streams.{AreReady, is_one_of}
 use Rattle.vms_commands.specs.Fetching.{word_set}
 use Rattle.vms_commands.specs.Outcomes.{done}
-use Rattle.vms_commands.specs.SetWords.{SetWord}
+use Rattle.vms_commands.specs.SetWords.{Isa, SetWord, Shipped}
 use Rattle.vms_commands.specs.Steps.{Gives}
 use Rattle.vms_cli.specs.Answers.{HasOutcome}
-use Rattle.vms_cli.specs.Commands.{Show, Analyze, Pack}
+use Rattle.vms_cli.specs.Commands.{IsaBoard, Show, Analyze, Pack, Save, asked_of}
 use Rattle.vms_cli.specs.Pack.{described_stream}
 
 -- where `pack` gives a stream for the text under a name, `analyze` gives that text for the stream, and takes all of it
@@ -25,3 +25,16 @@ ShowThenAnalyzeLaw = (word : SetWord) (set : Set) (machine : Option (List ℕ)) 
     → word_set held word ≡ Gives set → AreReady set images → IfSome machine (λ m. is_one_of set.machines m ≡ true)
     → (n : ℕ) → HasOutcome (Some (Show word)) (Some (described_stream set machine images)) held (done text held n)
     → HasOutcome (Some Analyze) (Some (described_stream set machine images)) held (done text held n)
+
+-- `show` with a set and `analyze` give one text for a stream, and take all of it
+pub record PrintsAlike (word : SetWord) (stream : List ℕ) (held : Option Held) : Type 0 where
+  pub text : List ℕ
+  pub shown : HasOutcome (Some (Show word)) (Some stream) held (done text held (length stream))
+  pub listed : HasOutcome (Some Analyze) (Some stream) held (done text held (length stream))
+
+-- where `save` writes a stream, `show` with the set of its words and `analyze` print that alike
+abbrev pub SaveThenAnalyzeLaw : Type 0
+SaveThenAnalyzeLaw = (words : List (List ℕ)) (level set : ℕ) (script stream : List ℕ) (input : Option (List ℕ)) (held : Option Held)
+    → asked_of words ≡ Some (Save (IsaBoard level) set script)
+    → HasOutcome (Some (Save (IsaBoard level) set script)) input held (done stream held 0)
+    → PrintsAlike (Shipped (Isa set)) stream held

@@ -16,6 +16,7 @@ use Rattle.vms_commands.specs.Fetching.{longest_file, named_sets, word_set}
 use Rattle.vms_commands.specs.SetWords.{SetWord}
 use Rattle.vms_commands.specs.Steps.{Gives, Both}
 use Rattle.vms_check.specs.Comparing.{Compatible}
+use Rattle.dev_board.specs.Saved.{MaySaveUnder}
 use Rattle.dev_board.specs.State.{State}
 use Rattle.vms_board.specs.Isa.{isa}
 use Rattle.vms_board.specs.Restoring.{Back, Restores}
@@ -35,6 +36,17 @@ pub record HasOneOutcome (asked : Option Asked) (input : List ℕ) (held : Held)
   pub outcome : Outcome
   pub is : HasOutcome asked (Some input) (Some held) outcome
   pub only : (other : Outcome) → HasOutcome asked (Some input) (Some held) other → other ≡ outcome
+
+-- what words can ask for: boards that there are, and sets of their kind at or above them
+abbrev pub CanBeAsked : Option Asked → Type 0
+CanBeAsked (Some (Save (IsaBoard level) set script)) = IsLevel level × MaySaveUnder level set
+CanBeAsked (Some (Load (IsaBoard level) script)) = IsLevel level
+CanBeAsked (Some (Drill level seed count)) = IsLevel level
+CanBeAsked (Some (Play level script)) = IsLevel level
+CanBeAsked asked = Unit {0}
+
+abbrev pub AskedLaw : Type 0
+AskedLaw = (words : List (List ℕ)) → CanBeAsked (asked_of words)
 
 -- what the outcome of `play` goes by: a level that there is, as any board that words name has, and a shelf of bytes
 abbrev pub GoesBy : Option Asked → Held → Type 0

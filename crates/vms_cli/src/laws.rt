@@ -1,7 +1,7 @@
 //! Each law is the contract of a function without a body. The statements stand in `specs/Laws.antt`, `specs/AnalyzeLaws.antt` and `specs/States.antt`.
-ghost use Rattle.vms_cli.specs.AnalyzeLaws.{PackThenAnalyzeLaw, ShowThenAnalyzeLaw};
+ghost use Rattle.vms_cli.specs.AnalyzeLaws.{PackThenAnalyzeLaw, SaveThenAnalyzeLaw, ShowThenAnalyzeLaw};
 ghost use Rattle.vms_cli.specs.States.{AlwaysNamedLaw, StateLaw};
-ghost use Rattle.vms_cli.specs.Laws.{CheckThenShowLaw, OutcomeLaw, CompleteLaw, AmpleLaw, PackThenShowLaw, ShowThenPackLaw, WordsLaw};
+ghost use Rattle.vms_cli.specs.Laws.{AskedLaw, CheckThenShowLaw, OutcomeLaw, CompleteLaw, AmpleLaw, PackThenShowLaw, ShowThenPackLaw, WordsLaw};
 
 /// Whatever words, input of bytes and shelf there are, a call has an outcome, and no other; of `play` the shelf is one of
 /// bytes.
@@ -9,6 +9,12 @@ ghost use Rattle.vms_cli.specs.Laws.{CheckThenShowLaw, OutcomeLaw, CompleteLaw, 
 pub fn outcome_law()
     ensures one { OutcomeLaw }
     ensures words { WordsLaw }
+{}
+
+/// Words name boards that there are, and for `save` a set of the board's kind at or above it.
+#[tactic(auto, using(crate::proofs::WordLaws::words_ask))]
+pub fn asked_law()
+    ensures { AskedLaw }
 {}
 
 /// Where the words name a command, what it goes by is there and in its grammar, and no count of faults rises in the call, the
@@ -40,8 +46,12 @@ pub fn pack_then_analyze_law()
     ensures { PackThenAnalyzeLaw }
 {}
 
-/// The text that `show` gives for a stream that was written under its set with its description, as by `save`, `analyze`
-/// gives too.
+/// What `save` writes, `show` with the set that `save` names and `analyze` print as one text, and take whole.
+pub fn save_then_analyze_law()
+    ensures { SaveThenAnalyzeLaw }
+{}
+
+/// The text that `show` gives for a stream that was written under its set with its description, `analyze` gives too.
 pub fn show_then_analyze_law()
     ensures { ShowThenAnalyzeLaw }
 {}

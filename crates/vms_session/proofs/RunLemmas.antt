@@ -33,7 +33,7 @@ pub later_events : (event : Event) (rest events : List Event) → events ≡ eve
 later_events event rest events e are = let both : AreEvents (event ∷ rest) = subst AreEvents e are in both.1
 
 -- lines that may stand in a script let events happen that there are
-lines_are_events : (play : Option ℕ) (lines : List ScriptLine) → AreLines play lines → AreEvents (events_of lines)
+pub lines_are_events : (play : Option ℕ) (lines : List ScriptLine) → AreLines play lines → AreEvents (events_of lines)
 lines_are_events play [] are = tt
 lines_are_events play (Happens event ∷ lines) are = (event_is event (line_event play event are.0), lines_are_events play lines are.1)
 lines_are_events play (Saves set name ∷ lines) are = lines_are_events play lines are.1
