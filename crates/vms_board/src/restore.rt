@@ -1,7 +1,8 @@
 // Restoring a board.
 ghost use Rattle.std.specs.Prelude.{◌≡◌, IfErr, IfOk, IfSome, OnErr, OnOk};
+ghost use Rattle.vms_io.specs.Told.{intake};
 ghost use Rattle.vms_load.specs.Kept.{loads, kept, taken_by};
-ghost use Rattle.vms_board.specs.Comes.{ComesTo, HasCause, GivesWithin, HearsBoard};
+ghost use Rattle.vms_board.specs.Comes.{ComesTo, HasCause, GivesWithin, HearsBoard, TakesSome};
 ghost use Rattle.vms_board.specs.Family.{IsNumber, lists_in};
 ghost use Rattle.vms_board.specs.Comes.{Takings, HearsTakings, IsUnfit, refusal_of as refusal_by};
 
@@ -34,6 +35,7 @@ impl<M: Machine> MachineBoard<M> {
     pub fn restore<S: Source>(&mut self, source: &mut S) -> Result<(), RestoreFault>
         ensures content { let number = M.family.number self.old.state in let left = S.left source.new in
             IfSome (S.left source.old) (λ input. ComesTo M.family number self.new input left result) }
+        ensures takes { TakesSome (intake S.Source source.old) (intake S.Source source.new) }
         ensures same { OnErr result (self.new ≡ self.old) }
         ensures sound { M.is_sound self.new.state }
         ensures number { M.family.number self.new.state ≡ M.family.number self.old.state }
@@ -63,6 +65,7 @@ fn take<M: Machine, S: Source>(
     ensures content { let images = kept loader.new in let taken = taken_by loader.new in
         let left = S.left source.new in
         IfSome (S.left source.old) (λ input. Takings M.family number input left images taken result) }
+    ensures takes { TakesSome (intake S.Source source.old) (intake S.Source source.new) }
     ensures newest { loads loader.new ≡ M.family.set M.family.newest }
     ensures told { OnOk result (M.are_told (lists_in (kept loader.new))) }
     ensures given { let before = S.given source.old in

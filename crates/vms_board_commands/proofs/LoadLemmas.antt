@@ -1,9 +1,9 @@
 -- From what a restore and a trace say to how `load` ends.
-use Rattle.std.proofs.Common.{◌≡◌, inl, inr, ℕ, ◌+◌, ◌≤◌, List, [], ◌∷◌, drop, Option, Some, None, Ok, IfSome, arith, refl, sym, ap, ◌∙◌, subst}
+use Rattle.std.proofs.Common.{◌≡◌, inl, inr, ℕ, ◌+◌, ◌≤◌, List, [], ◌∷◌, length, length-append, drop, Option, Some, None, Ok, IfSome, arith, refl, sym, ap, ◌∙◌, subst}
 use Rattle.arrayvec.specs.ArrayVec.{ArrayVec}
 use Rattle.std.specs.Prelude.{IsSomeAnd}
 use Rattle.dev_board.specs.declared.event.Event.{Event}
-use Rattle.vms_board.specs.Comes.{IsRefused}
+use Rattle.vms_board.specs.Comes.{IsRefused, TakesSome}
 use Rattle.vms_board.specs.Restoring.{Back, Refused, Restores}
 use Rattle.vms_board.specs.Family.{Family}
 use Rattle.vms_board_streams.proofs.BytesLaws.{one_restore, no_fault}
@@ -12,7 +12,7 @@ use Rattle.vms_frames.specs.declared.fault.Refusal.{Refusal}
 use Rattle.vms_io.specs.Causes.{capped}
 use Rattle.vms_io.specs.Shelves.{Held}
 use Rattle.vms_io.specs.Told.{Intake, Outlet, Stock}
-use Rattle.vms_commands.proofs.EndLemmas.{text_written}
+use Rattle.vms_commands.proofs.EndLemmas.{takes_front, text_written}
 use Rattle.vms_commands.specs.Endings.{EndsAs, EndsWith, WritesAs}
 use Rattle.vms_commands.specs.Lines.{refused_line}
 use Rattle.vms_commands.specs.Outcomes.{Outcome, TakesBytes, done, ended}
@@ -27,6 +27,7 @@ use Rattle.vms_kinds.specs.Bytes.{IsBytes}
 use Rattle.vms_spec.specs.WellFormed.{WellFormed}
 use Rattle.vms_spec.specs.declared.Reason.{Reason}
 use Rattle.vms_stream.proofs.Stated.{one_fault_holds}
+use Rattle.vms_load.proofs.ExactLoads.{fault_within}
 use Rattle.vms_load.specs.Staging.{most_given}
 use Rattle.vms_commands.specs.StepEndings.{StepAs}
 use Rattle.vms_commands.specs.Steps.{Step, Untold, Gives, Ends}
@@ -38,6 +39,7 @@ pub record IsRefusal {S : Type 0} (kind : Family S) (bytes : List ℕ) (left : O
   pub taken : ℕ
   pub outcome : x ≡ ended 1 (refused_line (kind.set kind.newest) r.at r.section r.reason) taken
   pub rest : left ≡ Some (drop taken bytes)
+  pub within : taken ≤ length bytes
 
 pub line_is : {S : Type 0} (kind : Family S) (place other : ℕ) (section section' : Option ℕ) (reason reason' : Reason) (n k : ℕ) → place ≡ other → section ≡ section' → reason ≡ reason' → n ≡ k
     → ended 1 (refused_line (kind.set kind.newest) place section reason) n ≡ ended 1 (refused_line (kind.set kind.newest) other section' reason') k
@@ -76,6 +78,7 @@ module _ {S : Type 0} (kind : Family S) (well : WellFormed (kind.set kind.newest
         outcome = line_is kind place r.at section r.section reason r.reason (place + size) (r.at + f.0.0) one.places one.sections one.reasons
             (ap (λ (n : ℕ). n + size) one.places ∙ ap (λ (n : ℕ). r.at + n) one.sizes);
         rest = f.1;
+        within = fault_within (kind.set kind.newest) (kind.machine level ∷ []) bytes r.at r.section r.reason f.0.0 f.0.1;
       }
   refusal-is bytes held left shelf r x ok (inr f) (Faulty place section reason size g) =
       absurd (no_fault kind well heads level bytes ok r.at f.0.images place section reason f.0.taken (size, g))
@@ -86,7 +89,13 @@ module _ {S : Type 0} (kind : Family S) (well : WellFormed (kind.set kind.newest
       let places : place ≡ r.at = cc in
       let sections : section ≡ r.section = cc in
       let reasons : reason ≡ r.reason = cc in
-      record { taken = r.at; outcome = line_is kind place r.at section r.section reason r.reason place r.at places sections reasons places; rest = f.1 }
+      let takes = f.0.taken.1 in
+      record {
+        taken = r.at;
+        outcome = line_is kind place r.at section r.section reason r.reason place r.at places sections reasons places;
+        rest = f.1;
+        within = omega (arith, ap length takes.prefix, length-append takes.bytes takes.rest, takes.long);
+      }
 
   -- ---- endings
 
@@ -105,17 +114,16 @@ module _ {S : Type 0} (kind : Family S) (well : WellFormed (kind.set kind.newest
           (text_written (trace-from m) i i' o o' s s' taken ending text held t)
 
   pub refused : (i i' : Intake) (o o' : Outlet) (s s' : Stock) (r : Refusal) (line : ArrayVec ℕ) (x : Outcome) → IfSome i.left IsBytes
-      → IfSome i.left (λ input. IsRefused kind level input i'.left r) → line.items ≡ refused_line (kind.set kind.newest) r.at r.section r.reason
+      → TakesSome i i' → IfSome i.left (λ input. IsRefused kind level input i'.left r) → line.items ≡ refused_line (kind.set kind.newest) r.at r.section r.reason
       → IsSomeAnd i.left (λ bytes. Loads kind level lines bytes s.held x) → EndsAs i i' o o' s s' (endings.Refused line) x
-  refused i i' o o' s s' r line x octets comes said loads = by i.left refl octets comes loads
+  refused i i' o o' s s' r line x octets some comes said loads = by i.left refl octets comes loads
     where
       ends : (bytes : List ℕ) → i.left ≡ Some bytes → IsRefusal kind bytes i'.left r x → EndsWith 1 line.items i i' x
       ends bytes e is = record {
         status_is = ap (λ (y : Outcome). y.status) is.outcome;
         parts = ap (λ (y : Outcome). y.parts) is.outcome;
         note = ap (λ (y : Outcome). y.note) is.outcome ∙ sym said;
-        left = subst (λ (l : Option (List ℕ)). IfSome l (λ (b : List ℕ). i'.left ≡ Some (drop x.taken b))) (sym e)
-            (is.rest ∙ ap (λ (n : ℕ). Some (drop n bytes)) (sym (ap (λ (y : Outcome). y.taken) is.outcome)));
+        taken = subst (λ (n : ℕ). TakesBytes i i' n) (sym (ap (λ (y : Outcome). y.taken) is.outcome)) (takes_front i i' some.0 bytes is.taken some.1 e is.rest is.within);
       }
 
       by : (left : Option (List ℕ)) → i.left ≡ left → IfSome left IsBytes → IfSome left (λ input. IsRefused kind level input i'.left r)

@@ -123,7 +123,7 @@ module _ (i i' : Intake) (o o' : Outlet) where
         status_is = ap (λ (y : Outcome). y.status) same;
         parts = ap (λ (y : Outcome). y.parts) same;
         note = ap (λ (y : Outcome). y.note) same ∙ sym said;
-        left = subst (λ (n : ℕ). IfSome i.left (λ bytes. i'.left ≡ Some (drop n bytes))) (sym (ap (λ (y : Outcome). y.taken) same)) (all_taken t).left;
+        taken = subst (λ (n : ℕ). TakesBytes i i' n) (sym (ap (λ (y : Outcome). y.taken) same)) (all_taken t);
       }
 
   shows_as : (s : Stock) (text : List ℕ) (x : Outcome) (e : Ending) (t : Took i i' (Text text)) → WritesAs text o o' e → IsSomeAnd i.left (λ bytes. IsListing s.held bytes x)

@@ -5,6 +5,7 @@ use Rattle.std.specs.Option.{ForSome}
 use Rattle.std.proofs.lemmas.Option.{same_Some}
 use Rattle.arrayvec.specs.ArrayVec.{ArrayVec}
 use Rattle.vms_io.specs.Causes.{capped}
+use Rattle.vms_io.specs.Reading.{Takes as TakesFront}
 use Rattle.vms_io.specs.Shelves.{Held}
 use Rattle.vms_io.specs.Told.{Intake, Outlet, Stock}
 use Rattle.vms_spec.specs.declared.Reason.{Reason}
@@ -35,8 +36,8 @@ use Rattle.vms_commands.specs.Lines.{refused_line}
 use Rattle.vms_commands.specs.Outcomes.{Outcome, done, ended, TakesBytes}
 use Rattle.vms_commands.specs.StepEndings.{StepAs}
 use Rattle.vms_commands.specs.Steps.{Step, Untold, Gives, Ends}
-use Rattle.vms_commands.proofs.EndLemmas.{text_written}
-use Rattle.vms_load.proofs.ExactLoads.{heard_holds}
+use Rattle.vms_commands.proofs.EndLemmas.{takes_front, text_written}
+use Rattle.vms_load.proofs.ExactLoads.{fault_within, heard_holds}
 use Rattle.vms_load.specs.Hearing.{HearsLoad}
 use Rattle.vms_board_commands.proofs.HeardLemmas.{IsOther, all_of, all_taken, written_end}
 use Rattle.vms_board_commands.specs.Heard.{Hears, HearsEnd}
@@ -95,10 +96,10 @@ module _ (set : Set) (fit : IsFit set) (i i' : Intake) (o o' : Outlet) (s s' : S
 
   -- a load that is refused
   pub refused : (images : List Image) (taken : ℕ) (fault : LoadFault) (r : Refusal) → fault ≡ faults.Refused r
-      → (line : ArrayVec ℕ) (x : Outcome) → IfSome i.left IsBytes → IfSome i.left (λ bytes. Loads set (accepted_of set None) bytes i'.left images taken (Err fault))
-      → line.items ≡ refused_line set r.at r.section r.reason
+      → (line : ArrayVec ℕ) (x : Outcome) → IfSome i.left IsBytes → (front : List ℕ) → TakesFront i i' front
+      → IfSome i.left (λ bytes. Loads set (accepted_of set None) bytes i'.left images taken (Err fault)) → line.items ≡ refused_line set r.at r.section r.reason
       → IsSomeAnd i.left (λ bytes. Shows set bytes s.held x) → EndsAs i i' o o' s s' (Refused line) x
-  refused images taken fault r same line x ok l said shows = told i.left refl ok l shows
+  refused images taken fault r same line x ok front t l said shows = told i.left refl ok l shows
     where
       told : (left : Option (List ℕ)) → left ≡ i.left → IfSome left IsBytes → IfSome left (λ bytes. Loads set (accepted_of set None) bytes i'.left images taken (Err fault))
           → IsSomeAnd left (λ bytes. Shows set bytes s.held x) → EndsAs i i' o o' s s' (Refused line) x
@@ -110,8 +111,8 @@ module _ (set : Set) (fit : IsFit set) (i i' : Intake) (o o' : Outlet) (s s' : S
             status_is = ap (λ (y : Outcome). y.status) outcome;
             parts = ap (λ (y : Outcome). y.parts) outcome;
             note = ap (λ (y : Outcome). y.note) outcome ∙ sym said;
-            left = subst (λ (left : Option (List ℕ)). IfSome left (λ bytes. i'.left ≡ Some (drop x.taken bytes))) here
-                (first.2 ∙ ap (λ (y : Outcome). Some (drop y.taken bytes)) (sym outcome));
+            taken = subst (λ (n : ℕ). TakesBytes i i' n) (sym (ap (λ (y : Outcome). y.taken) outcome))
+                (takes_front i i' front bytes (r.at + first.0) t (sym here) first.2 (fault_within set (accepted_of set None) bytes r.at r.section r.reason first.0 first.1));
           }
 
 -- ---- what is printed

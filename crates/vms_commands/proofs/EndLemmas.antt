@@ -1,9 +1,10 @@
 -- From how a command ends and why to what the call does.
-use Rattle.std.proofs.Common.{append-nil, ◌≡◌, ◌⊎◌, ℕ, ◌<◌, ◌^◌, List, drop, Option, Some, None, IfSome, refl, sym, ap, ◌∙◌, subst, arith, inl, inr, []}
-use Rattle.std.specs.Io.KnownBytes.{Appends, Keeps}
+use Rattle.std.proofs.Common.{append-nil, ◌≡◌, ◌⊎◌, ℕ, ◌+◌, ◌<◌, ◌≤◌, ◌^◌, List, length, length-append, length-drop, drop, Option, Some, None, IfSome, refl, sym, ap, ◌∙◌, subst, arith, inl, inr, []}
+use Rattle.std.specs.Io.KnownBytes.{Appends, Consumes, Keeps}
 use Rattle.std.specs.Prelude.{string_bytes}
 use Rattle.std.proofs.KnownBytes.{Keeps-refl}
-use Rattle.vms_io.specs.Causes.{AppendsPrefix, Rose}
+use Rattle.vms_io.specs.Causes.{AppendsPrefix, Rose, capped}
+use Rattle.vms_io.specs.Reading.{Takes}
 use Rattle.vms_io.specs.Told.{Intake, Outlet, Stock}
 use Rattle.vms_commands.specs.declared.ending.Ending.{Ending}
 use Rattle.vms_commands.specs.declared.ending.Ending.TheVariants.{Done, Refused, BadWords, BadText, NotCompatible, ReadFault, WriteFault, ShelfFault, NotThere, TooLarge, NoMemory}
@@ -46,13 +47,24 @@ nothing_left (Some bytes) = refl
 pub takes_nothing : (i : Intake) → i.given < 2 ^ 64 → TakesBytes i i 0
 takes_nothing i few = record { left = nothing_left i.left; given = omega (arith, few) }
 
+-- the front of what is told was taken, and counted
+pub takes_front : (i i' : Intake) (bytes input : List ℕ) (n : ℕ) → Takes i i' bytes → i.left ≡ Some input → i'.left ≡ Some (drop n input) → n ≤ length input → TakesBytes i i' n
+takes_front i i' bytes input n t old new within =
+    let told : Consumes (Some input) (Some (drop n input)) bytes =
+    subst (λ (l : Option (List ℕ)). Consumes l (Some (drop n input)) bytes) old (subst (λ (l : Option (List ℕ)). Consumes i.left l bytes) new t.told) in
+    let same : length bytes ≡ n = omega (arith, within, ap length told, length-append bytes (drop n input), length-drop n input) in
+    record {
+      left = subst (λ (l : Option (List ℕ)). IfSome l (λ b. i'.left ≡ Some (drop n b))) (sym old) new;
+      given = t.given ∙ ap (λ (k : ℕ). capped (i.given + k)) same;
+    }
+
 -- an outcome of a status of its own, and nothing taken
-pub ends_with : (k : ℕ) (line : List ℕ) (i : Intake) (x : Outcome) → x ≡ ended k line 0 → EndsWith k line i i x
-ends_with k line i x is = record {
+pub ends_with : (k : ℕ) (line : List ℕ) (i : Intake) (x : Outcome) → i.given < 2 ^ 64 → x ≡ ended k line 0 → EndsWith k line i i x
+ends_with k line i x few is = record {
   status_is = ap (λ (y : Outcome). y.status) is;
   parts = ap (λ (y : Outcome). y.parts) is;
   note = ap (λ (y : Outcome). y.note) is;
-  left = subst (λ (n : ℕ). IfSome i.left (λ bytes. i.left ≡ Some (drop n bytes))) (sym (ap (λ (y : Outcome). y.taken) is)) (nothing_left i.left);
+  taken = subst (λ (n : ℕ). TakesBytes i i n) (sym (ap (λ (y : Outcome). y.taken) is)) (takes_nothing i few);
 }
 
 -- a text was written, or a prefix of it, while the shelf stayed
@@ -84,18 +96,17 @@ module _ (i i' : Intake) (o o' n n' : Outlet) (s s' : Stock) where
   -- ---- the outcome
 
   -- ended by a status with its line, which was told
-  ended_so : (k status : ℕ) (line : List ℕ) (x : Outcome) → (k ≡ 0 → ⊥) → EndsWith k line i i' x → Keeps o.written o'.written → s'.held ≡ s.held
+  ended_so : (k status : ℕ) (line : List ℕ) (x : Outcome) → EndsWith k line i i' x → Keeps o.written o'.written → s'.held ≡ s.held
       → ((status ≡ k) × Appends n.written n'.written line) ⊎ ((status ≡ 6) × Rose n.faults n'.faults × AppendsPrefix n.written n'.written line)
       → DoesOrStops status (around i o n s) (around i' o' n' s') x
-  ended_so k status line x never ends keeps held (inl t) = inl record {
+  ended_so k status line x ends keeps held (inl t) = inl record {
     same = t.0 ∙ sym ends.status_is;
     text = subst (λ (l : List Part). Appends o.written o'.written (text_of l)) (sym ends.parts) (kept_none o.written o'.written keeps);
     note = subst (λ (l : List ℕ). Appends n.written n'.written l) (sym ends.note) t.1;
     shelf = held ∙ ap (λ (l : List Part). held_after s.held l) (sym ends.parts);
-    left = ends.left;
-    given = λ zero. absurd (never (sym ends.status_is ∙ zero));
+    taken = ends.taken;
   }
-  ended_so k status line x never ends keeps held (inr t) = inr record {
+  ended_so k status line x ends keeps held (inr t) = inr record {
     why = inr (inr (inl ((t.0, t.1), inl (subst (λ (l : List ℕ). AppendsPrefix n.written n'.written l) (sym ends.note) t.2))));
     come = inl (comes_to_nothing o o' s s' x.parts keeps held);
   }
@@ -114,15 +125,14 @@ module _ (i i' : Intake) (o o' n n' : Outlet) (s s' : Stock) where
     text = d.text;
     note = subst (λ (l : List ℕ). Appends n.written n'.written l) (sym d.note) (kept_none n.written n'.written (same_keeps n n' t.1));
     shelf = d.held;
-    left = d.taken.left;
-    given = λ zero. d.taken.given;
+    taken = d.taken;
   }
-  outcome_so (Refused line) status x d c t = ended_so 1 status line.items x (λ z. omega (arith, z)) d c.0 c.1 t
-  outcome_so BadWords status x d c t = ended_so 2 status bad_words x (λ z. omega (arith, z)) d c.0 c.1 t
-  outcome_so (BadText line) status x d c t = ended_so 3 status (string_bytes line) x (λ z. omega (arith, z)) d c.0 c.1 t
-  outcome_so (NotCompatible line) status x d c t = ended_so 4 status (string_bytes line) x (λ z. omega (arith, z)) d c.0 c.1 t
-  outcome_so (NotThere line) status x d c t = ended_so 8 status (string_bytes line) x (λ z. omega (arith, z)) d c.0 c.1 t
-  outcome_so (TooLarge line) status x d c t = ended_so 9 status (string_bytes line) x (λ z. omega (arith, z)) d c.0 c.1 t
+  outcome_so (Refused line) status x d c t = ended_so 1 status line.items x d c.0 c.1 t
+  outcome_so BadWords status x d c t = ended_so 2 status bad_words x d c.0 c.1 t
+  outcome_so (BadText line) status x d c t = ended_so 3 status (string_bytes line) x d c.0 c.1 t
+  outcome_so (NotCompatible line) status x d c t = ended_so 4 status (string_bytes line) x d c.0 c.1 t
+  outcome_so (NotThere line) status x d c t = ended_so 8 status (string_bytes line) x d c.0 c.1 t
+  outcome_so (TooLarge line) status x d c t = ended_so 9 status (string_bytes line) x d c.0 c.1 t
   outcome_so ReadFault status x d c (inl t) = inr record { why = inl (t.0, c.0, c.1, t.1); come = inl d }
   outcome_so ReadFault status x d c (inr t) = inr record { why = inr (inr (inl ((t.0, t.1), inr (inl t.2)))); come = inl d }
   outcome_so WriteFault status x d c (inl t) = inr record { why = inr (inl (t.0, c, t.1)); come = inl d }

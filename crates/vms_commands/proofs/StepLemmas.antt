@@ -148,19 +148,19 @@ given_ends text i o o' s s' (TooLarge line) few same quiet h = absurd h
 same_end : (status k : ℕ) (line text : List ℕ) → status ≡ k → line ≡ text → ended status line 0 ≡ ended k text 0
 same_end status k line text e f = ap (λ (n : ℕ). ended n line 0) e ∙ ap (λ (l : List ℕ). ended k l 0) f
 
-pub ended_ends : (status : ℕ) (line : List ℕ) (i : Intake) (o o' : Outlet) (s s' : Stock) (e : Ending) → s'.held ≡ s.held → Quiet o o' e → EndedAs status line e
+pub ended_ends : (status : ℕ) (line : List ℕ) (i : Intake) (o o' : Outlet) (s s' : Stock) (e : Ending) → i.given < 2 ^ 64 → s'.held ≡ s.held → Quiet o o' e → EndedAs status line e
     → EndsAs i i o o' s s' e (ended status line 0)
-ended_ends status line i o o' s s' (BadText text) same quiet h = ends_with 3 (string_bytes text) i _ (same_end status 3 line (string_bytes text) h.0 h.1)
-ended_ends status line i o o' s s' (NotCompatible text) same quiet h = ends_with 4 (string_bytes text) i _ (same_end status 4 line (string_bytes text) h.0 h.1)
-ended_ends status line i o o' s s' (NotThere text) same quiet h = ends_with 8 (string_bytes text) i _ (same_end status 8 line (string_bytes text) h.0 h.1)
-ended_ends status line i o o' s s' (TooLarge text) same quiet h = ends_with 9 (string_bytes text) i _ (same_end status 9 line (string_bytes text) h.0 h.1)
-ended_ends status line i o o' s s' ShelfFault same quiet h = inl (comes_to_nothing o o' s s' _ quiet same)
-ended_ends status line i o o' s s' NoMemory same quiet h = comes_to_nothing o o' s s' _ quiet same
-ended_ends status line i o o' s s' Done same quiet h = absurd h
-ended_ends status line i o o' s s' (Refused text) same quiet h = absurd h
-ended_ends status line i o o' s s' BadWords same quiet h = absurd h
-ended_ends status line i o o' s s' ReadFault same quiet h = absurd h
-ended_ends status line i o o' s s' WriteFault same quiet h = absurd h
+ended_ends status line i o o' s s' (BadText text) few same quiet h = ends_with 3 (string_bytes text) i _ few (same_end status 3 line (string_bytes text) h.0 h.1)
+ended_ends status line i o o' s s' (NotCompatible text) few same quiet h = ends_with 4 (string_bytes text) i _ few (same_end status 4 line (string_bytes text) h.0 h.1)
+ended_ends status line i o o' s s' (NotThere text) few same quiet h = ends_with 8 (string_bytes text) i _ few (same_end status 8 line (string_bytes text) h.0 h.1)
+ended_ends status line i o o' s s' (TooLarge text) few same quiet h = ends_with 9 (string_bytes text) i _ few (same_end status 9 line (string_bytes text) h.0 h.1)
+ended_ends status line i o o' s s' ShelfFault few same quiet h = inl (comes_to_nothing o o' s s' _ quiet same)
+ended_ends status line i o o' s s' NoMemory few same quiet h = comes_to_nothing o o' s s' _ quiet same
+ended_ends status line i o o' s s' Done few same quiet h = absurd h
+ended_ends status line i o o' s s' (Refused text) few same quiet h = absurd h
+ended_ends status line i o o' s s' BadWords few same quiet h = absurd h
+ended_ends status line i o o' s s' ReadFault few same quiet h = absurd h
+ended_ends status line i o o' s s' WriteFault few same quiet h = absurd h
 
 -- what an ending says beside the outcome of a command whose steps give the text for out
 pub text_ends : (step : Step (List ℕ)) (i : Intake) (o o' : Outlet) (s s' : Stock) (e : Ending) (x : Outcome) → i.given < 2 ^ 64 → s'.held ≡ s.held
@@ -169,7 +169,7 @@ text_ends Untold i o o' s s' e x few same quiet h has = absurd has
 text_ends (Gives text) i o o' s s' e x few same quiet h has =
     subst (λ (y : Outcome). EndsAs i i o o' s s' e y) (sym has) (given_ends text i o o' s s' e few same quiet h)
 text_ends (Ends status line) i o o' s s' e x few same quiet h has =
-    subst (λ (y : Outcome). EndsAs i i o o' s s' e y) (sym has) (ended_ends status line i o o' s s' e same quiet h)
+    subst (λ (y : Outcome). EndsAs i i o o' s s' e y) (sym has) (ended_ends status line i o o' s s' e few same quiet h)
 
 -- the outcome of a command that goes by what a step gives
 module _ {A T : Type 0} (m : T → A) (P : A → Outcome → Type 0) where
@@ -188,12 +188,12 @@ module _ {A T : Type 0} (m : T → A) (P : A → Outcome → Type 0) where
   free_by i o o' s s' (TooLarge text) x same quiet h = absurd h
 
   -- where the step ended it
-  pub ended_by : (step : Step A) (i : Intake) (o o' : Outlet) (s s' : Stock) (e : Ending) (x : Outcome) → s'.held ≡ s.held → Quiet o o' e
+  pub ended_by : (step : Step A) (i : Intake) (o o' : Outlet) (s s' : Stock) (e : Ending) (x : Outcome) → i.given < 2 ^ 64 → s'.held ≡ s.held → Quiet o o' e
       → StepAs {A = A} {T = T} m step (Err e) → HasBy P step x → EndsAs i i o o' s s' e x
-  ended_by Untold i o o' s s' e x same quiet h has = absurd has
-  ended_by (Gives a) i o o' s s' e x same quiet h has = free_by i o o' s s' e x same quiet h
-  ended_by (Ends status line) i o o' s s' e x same quiet h has =
-      subst (λ (y : Outcome). EndsAs i i o o' s s' e y) (sym has) (ended_ends status line i o o' s s' e same quiet h)
+  ended_by Untold i o o' s s' e x few same quiet h has = absurd has
+  ended_by (Gives a) i o o' s s' e x few same quiet h has = free_by i o o' s s' e x same quiet h
+  ended_by (Ends status line) i o o' s s' e x few same quiet h has =
+      subst (λ (y : Outcome). EndsAs i i o o' s s' e y) (sym has) (ended_ends status line i o o' s s' e few same quiet h)
 
   -- where the step gave something
   pub had_by : (step : Step A) (t : T) (x : Outcome) → StepAs m step (Ok t) → HasBy P step x → P (m t) x

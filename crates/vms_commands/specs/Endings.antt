@@ -1,5 +1,5 @@
 -- How a command ends, before it is told on notes.
-use Rattle.std.specs.Prelude.{◌≡◌, ◌⊎◌, ℕ, Bool, true, List, [], Some, drop, IfSome, string_bytes}
+use Rattle.std.specs.Prelude.{◌≡◌, ◌⊎◌, ℕ, Bool, true, List, [], string_bytes}
 use Rattle.std.specs.Io.KnownBytes.{Appends, Keeps}
 use Rattle.vms_io.specs.Causes.{Rose, AppendsPrefix}
 use Rattle.vms_io.specs.Told.{Intake, Outlet, Stock}
@@ -47,7 +47,7 @@ pub record EndsWith (status : ℕ) (line : List ℕ) (input input' : Intake) (o 
   pub status_is : o.status ≡ status
   pub parts : o.parts ≡ []
   pub note : o.note ≡ line
-  pub left : IfSome input.left (λ bytes. input'.left ≡ Some (drop o.taken bytes))
+  pub taken : TakesBytes input input' o.taken
 
 -- the outcome was done
 pub record DoneAs (input input' : Intake) (out out' : Outlet) (shelf shelf' : Stock) (o : Outcome) : Type 0 where

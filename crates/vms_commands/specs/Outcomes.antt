@@ -58,19 +58,13 @@ pub record TakesBytes (old new : Intake) (n : ℕ) : Type 0 where
   pub left : IfSome old.left (λ bytes. new.left ≡ Some (drop n bytes))
   pub given : new.given ≡ capped (old.given + n)
 
--- nothing of the input was taken
-pub record TakesNothing (old new : Intake) : Type 0 where
-  pub left : new.left ≡ old.left
-  pub given : new.given ≡ old.given
-
--- The call does the outcome. Of a refusal the number of bytes given is bounded elsewhere.
+-- the call does the outcome
 pub record Does (status : ℕ) (old new : Outside) (o : Outcome) : Type 0 where
   pub same : status ≡ o.status
   pub text : Appends old.out.written new.out.written (text_of o.parts)
   pub note : Appends old.notes.written new.notes.written o.note
   pub shelf : new.shelf.held ≡ held_after old.shelf.held o.parts
-  pub left : IfSome old.input.left (λ bytes. new.input.left ≡ Some (drop o.taken bytes))
-  pub given : o.status ≡ 0 → new.input.given ≡ capped (old.input.given + o.taken)
+  pub taken : TakesBytes old.input new.input o.taken
 
 -- ---- how far a call comes
 

@@ -43,7 +43,7 @@ returns-in-Err-clause-content g c = λ o has.
     let out = outlet g.O.Sink c.args.out.now in
     ended_by view (loads_under g.M.Machine.family c.args.asked.number left held) (scripted None held c.args.asked.script.now)
     (intake g.I.Source c.args.input.now) out out (stock g.H.Shelf c.args.shelf.now) (stock g.H.Shelf c.events_of.new.shelf)
-    c.in-Err.ending o c.in-Err.ensures.held (quiet_same out c.in-Err.ending) c.in-Err.ensures.read has
+    c.in-Err.ending o (g.met.I.Source.counted c.args.input.now) c.in-Err.ensures.held (quiet_same out c.in-Err.ending) c.in-Err.ensures.read has
 
 pub returns-in-Err-clause-cause : goal.returns-in-Err-clause-cause
 returns-in-Err-clause-cause g c = inl (c.in-Err.ensures.cause, refl, Keeps-refl (g.O.Sink.written c.args.out.now))

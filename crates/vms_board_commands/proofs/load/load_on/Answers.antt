@@ -31,7 +31,7 @@ returns-in-Err-Refused-clause-content g c = λ shelf shelf' o held loads.
     let out = outlet g.O.Sink c.args.out.now in
     let left = g.I.Source.left c.restore.new.source in
     refused g.M.Machine.family g.met.M.Machine.stands.well g.met.M.Machine.stands.heads level (event_lines c.args.events.now) (intake g.I.Source c.args.input.now) (intake g.I.Source c.restore.new.source)
-    out out shelf shelf' r c.refused_line.result o (g.met.I.Source.octets c.args.input.now)
+    out out shelf shelf' r c.refused_line.result o (g.met.I.Source.octets c.args.input.now) c.in-Err-Refused.ensures.takes
     (subst (λ (e : RestoreFault). IfSome (g.I.Source.left c.args.input.now) (λ (b : List ℕ). ComesTo g.M.Machine.family level c.restore.new.self b left (Err e)))
     c.in-Err-Refused.field-0-is c.in-Err-Refused.ensures.content)
     (c.refused_line.ensures ∙ ap (λ (s : Set). refused_line s r.at r.section r.reason) c.set.ensures) loads

@@ -40,7 +40,7 @@ returns-in-Err-clause-content g c = λ input o few has.
     let out = outlet g.O.Sink c.args.out.now in
     ended_by (λ (l : Vec Line Global). lines_view l.items) (λ (lines : List ScriptLine) (x : Outcome). IsSomeAnd held (λ map. PlaysAll level lines map x))
     (scripted (Some level) held c.args.asked.script.now) input out out (stock g.H.Shelf c.args.shelf.now) (stock g.H.Shelf c.session_of.new.shelf)
-    c.in-Err.ending o c.in-Err.ensures.held (quiet_same out c.in-Err.ending) c.in-Err.ensures.read has
+    c.in-Err.ending o few c.in-Err.ensures.held (quiet_same out c.in-Err.ending) c.in-Err.ensures.read has
 
 pub returns-in-Err-clause-cause : goal.returns-in-Err-clause-cause
 returns-in-Err-clause-cause g c = inl (c.in-Err.ensures.cause, Keeps-refl (g.O.Sink.written c.args.out.now), c.in-Err.ensures.held)

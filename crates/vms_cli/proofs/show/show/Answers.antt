@@ -35,7 +35,7 @@ returns-in-Err-clause-content g c = λ o has.
     let out = outlet g.O.Sink c.args.out.now in
     ended_by loads (shows_under (g.I.Source.left c.args.input.now) held) (word_set held (set_asked c.args.set))
     (intake g.I.Source c.args.input.now) out out (stock g.H.Shelf c.args.shelf.now) (stock g.H.Shelf c.loader_of.new.shelf)
-    c.in-Err.ending o c.in-Err.ensures.held (quiet_same out c.in-Err.ending) c.in-Err.ensures.had has
+    c.in-Err.ending o (g.met.I.Source.counted c.args.input.now) c.in-Err.ensures.held (quiet_same out c.in-Err.ending) c.in-Err.ensures.had has
 
 pub returns-in-Err-clause-cause : goal.returns-in-Err-clause-cause
 returns-in-Err-clause-cause g c =

@@ -30,7 +30,7 @@ returns-in-Err-Refused-clause-content g c = λ shelf shelf' o held shows.
     refused set (fit_of set c.args.loader.now.set.well_formed c.args.loader.now.set.heads) (intake g.I.Source c.args.input.now)
     (intake g.I.Source c.load.new.source) (outlet g.O.Sink c.args.out.now) (outlet g.O.Sink c.args.out.now) shelf shelf' held [] 0
     c.in-Err-Refused.field-0 r c.in-Err-Refused.field-0-is c.refused_line.result o (g.met.I.Source.octets c.args.input.now)
-    c.in-Err-Refused.ensures.content
+    c.in-Err-Refused.ensures.reads.bytes c.in-Err-Refused.ensures.reads.takes c.in-Err-Refused.ensures.content
     (c.refused_line.ensures ∙ ap (λ (s : Set). refused_line s r.at r.section r.reason) (c.set.ensures ∙ c.in-Err-Refused.ensures.set)) shows
 
 pub returns-in-Err-ReadFault-clause-content : goal.returns-in-Err-ReadFault-clause-content
