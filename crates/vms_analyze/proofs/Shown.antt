@@ -28,7 +28,7 @@ use Rattle.vms_analyze.specs.Told.{told_tree}
 use Rattle.vms_analyze.specs.Wanted.{Bytes, Lines, device_wants, wants, found}
 use Rattle.vms_analyze.specs.Listing.{IsLastPlace, Tells, Listing, Text, listing_of, Lists, IsRead}
 use Rattle.vms_analyze.specs.Telling.{told}
-use Rattle.vms_analyze.specs.Laws.{ShownLaw}
+use Rattle.vms_analyze.specs.Laws.{ReadBackLaw, ShownLaw}
 use Rattle.vms_analyze.proofs.Good.{all_good, told_good}
 use Rattle.vms_analyze.proofs.Lengths.{total_append, found_long, devices_long}
 use Rattle.vms_analyze.proofs.Places.{HasNoMark, last_place}
@@ -104,6 +104,9 @@ module _ (set : Set) (well : WellFormed set) (heads : FitsHeads set) (images : L
       ap (found (wants (told set images)) 0 0) there ∙ front_found set well machine named images ready in
       subst (λ (l : Listing). Lists stream l) (ap listing_of is ∙ ap Text (text_law set machine images))
       (IsRead (length before) (told set images) (within machine named ready) (placed before) (tells before))
+
+pub read_back : ReadBackLaw
+read_back set well heads images = text_read set well heads images ∙ ap Some (tree_same set well images)
 
 pub shown_holds : ShownLaw
 shown_holds set well heads machine named images ready = shown set well heads images machine named ready

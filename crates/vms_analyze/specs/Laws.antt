@@ -1,5 +1,6 @@
 -- Laws of listings.
 use Rattle.std.specs.Prelude.{◌≡◌, ℕ, List, Option, Some}
+use Rattle.serde_json.specs.Read.{read}
 use Rattle.vms_spec.specs.Sets.{Set}
 use Rattle.vms_spec.specs.Heads.{FitsHeads}
 use Rattle.vms_spec.specs.Images.{Image}
@@ -7,8 +8,13 @@ use Rattle.vms_spec.specs.Streams.{AreReady, written}
 use Rattle.vms_spec.specs.Values.{values_text}
 use Rattle.vms_spec.specs.WellFormed.{WellFormed}
 use Rattle.vms_elements.specs.Reading.{IsMachineOf}
-use Rattle.vms_selfdesc.specs.Tree.{described_text}
+use Rattle.vms_selfdesc.specs.Tree.{described_text, described_tree}
 use Rattle.vms_analyze.specs.Listing.{Listing, Text, Lists}
+
+-- the self-description of any images of a well-formed set is read back as its tree
+abbrev pub ReadBackLaw : Type 0
+ReadBackLaw = (set : Set) → WellFormed set → FitsHeads set → (images : List Image)
+    → read (described_text set images) ≡ Some (described_tree set images)
 
 -- an input has one listing at most
 abbrev pub OneLaw : Type 0

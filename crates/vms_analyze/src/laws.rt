@@ -1,5 +1,5 @@
 //! Laws of listings, each the contract of a function without a body. The statements stand in `specs/Laws.antt`.
-ghost use Rattle.vms_analyze.specs.Laws.{OneLaw, ShownLaw, TotalLaw};
+ghost use Rattle.vms_analyze.specs.Laws.{OneLaw, ReadBackLaw, ShownLaw, TotalLaw};
 
 /// An input has one listing at most.
 #[tactic(auto, using(crate::proofs::One::one_holds))]
@@ -11,6 +11,12 @@ pub fn one_law()
 #[tactic(auto, using(crate::proofs::Total::total_holds))]
 pub fn total_law()
     ensures { TotalLaw }
+{}
+
+/// The self-description of images of a well-formed set, whatever they are, is read back as its tree.
+#[tactic(auto, using(crate::proofs::Shown::read_back))]
+pub fn read_back_law()
+    ensures { ReadBackLaw }
 {}
 
 /// What is written of ready images with their self-description, under any well-formed set and with a
