@@ -11,19 +11,18 @@ use Rattle.vms_board.specs.declared.restore.RestoreFault.TheVariants as restores
 use Rattle.vms_frames.specs.declared.fault.Refusal.{Refusal}
 use Rattle.vms_io.specs.Causes.{capped}
 use Rattle.vms_io.specs.Shelves.{Held}
-use Rattle.vms_io.specs.Told.{Intake, Outlet, Stock}
+use Rattle.vms_io.specs.Told.{Outlet, Stock}
 use Rattle.vms_load.proofs.ExactLoads.{heard_holds}
 use Rattle.vms_load.specs.Hearing.{HearsLoad}
 use Rattle.vms_load.specs.Loads.{Loads as Reads}
 use Rattle.vms_load.specs.declared.fault.LoadFault.TheVariants as faults
-use Rattle.vms_commands.proofs.EndLemmas.{around}
-use Rattle.vms_commands.specs.Endings.{Tells, WritesAs}
+use Rattle.vms_commands.specs.Endings.{WritesAs}
 use Rattle.vms_commands.specs.Lines.{refused_line}
 use Rattle.vms_commands.specs.Outcomes.{Outcome, done, ended}
 use Rattle.vms_commands.specs.StepEndings.{StepAs}
 use Rattle.vms_commands.specs.Steps.{Step, Untold, Gives, Ends}
 use Rattle.vms_commands.specs.declared.ending.Ending.{Ending}
-use Rattle.vms_commands.specs.declared.ending.Ending.TheVariants.{Done, Refused, BadWords, BadText, NotCompatible, ReadFault, WriteFault, ShelfFault, NotThere, TooLarge, NoMemory}
+use Rattle.vms_commands.specs.declared.ending.Ending.TheVariants.{Done, Refused}
 use Rattle.vms_script.specs.Lines.{ScriptLine}
 use Rattle.vms_session.specs.Events.{events_of, trace_from}
 use Rattle.vms_spec.specs.Images.{Image}
@@ -31,7 +30,7 @@ use Rattle.vms_kinds.specs.Bytes.{IsBytes}
 use Rattle.vms_spec.specs.Sets.{Set}
 use Rattle.vms_stream.specs.Streams.{Takes as TakesStream}
 use Rattle.vms_board_commands.specs.Causes.{NoScript}
-use Rattle.vms_board_commands.specs.Heard.{Hears, HearsBy, HearsEnd, IsGiven, Refuses, Takes}
+use Rattle.vms_board_commands.specs.Heard.{Hears, HearsBy, HearsEnd, IsGiven}
 use Rattle.vms_board_commands.specs.Load.{Loads, Traces, Faulty, Unfit}
 
 -- ---- other endings
@@ -65,57 +64,6 @@ pub heard_so : (A : Type 0) (step : Step A) (outcome : A → List ℕ → Outcom
 heard_so A step outcome a held before now o o' Done is h = (a, is, h)
 heard_so A step outcome a held before now o o' (Refused line) is h = (a, is, h)
 heard_so A step outcome a held before now o o' e is h = tt
-
--- ---- the answer of a call
-
-module _ (A : Type 0) (step : Step A) (outcome : A → List ℕ → Outcome → Type 0) (i i' : Intake) (o o' n n' : Outlet) (s s' : Stock) where
-  pub stream_row : (e : Ending) (status : ℕ) → HearsBy A step outcome s.held i.given i'.given o o' e → Tells n n' e status → status ≡ 0
-      → Takes A step outcome (around i o n s) (around i' o' n' s')
-  stream_row Done status h t zero = h
-  stream_row (Refused line) status h (inl t) zero = absurd (omega (arith, t.0, zero))
-  stream_row (Refused line) status h (inr t) zero = absurd (omega (arith, t.0, zero))
-  stream_row BadWords status h (inl t) zero = absurd (omega (arith, t.0, zero))
-  stream_row BadWords status h (inr t) zero = absurd (omega (arith, t.0, zero))
-  stream_row (BadText line) status h (inl t) zero = absurd (omega (arith, t.0, zero))
-  stream_row (BadText line) status h (inr t) zero = absurd (omega (arith, t.0, zero))
-  stream_row (NotCompatible line) status h (inl t) zero = absurd (omega (arith, t.0, zero))
-  stream_row (NotCompatible line) status h (inr t) zero = absurd (omega (arith, t.0, zero))
-  stream_row ReadFault status h (inl t) zero = absurd (omega (arith, t.0, zero))
-  stream_row ReadFault status h (inr t) zero = absurd (omega (arith, t.0, zero))
-  stream_row WriteFault status h (inl t) zero = absurd (omega (arith, t.0, zero))
-  stream_row WriteFault status h (inr t) zero = absurd (omega (arith, t.0, zero))
-  stream_row ShelfFault status h (inl t) zero = absurd (omega (arith, t.0, zero))
-  stream_row ShelfFault status h (inr t) zero = absurd (omega (arith, t.0, zero))
-  stream_row (NotThere line) status h (inl t) zero = absurd (omega (arith, t.0, zero))
-  stream_row (NotThere line) status h (inr t) zero = absurd (omega (arith, t.0, zero))
-  stream_row (TooLarge line) status h (inl t) zero = absurd (omega (arith, t.0, zero))
-  stream_row (TooLarge line) status h (inr t) zero = absurd (omega (arith, t.0, zero))
-  stream_row NoMemory status h (inl t) zero = absurd (omega (arith, t.0, zero))
-  stream_row NoMemory status h (inr t) zero = absurd (omega (arith, t.0, zero))
-
-  pub refusal_row : (e : Ending) (status : ℕ) → HearsBy A step outcome s.held i.given i'.given o o' e → Tells n n' e status → status ≡ 1
-      → Refuses A step outcome (around i o n s) (around i' o' n' s')
-  refusal_row (Refused line) status h (inl t) one = (line.items, t.1, h.0, h.1, h.2)
-  refusal_row (Refused line) status h (inr t) one = absurd (omega (arith, t.0, one))
-  refusal_row Done status h t one = absurd (omega (arith, t.0, one))
-  refusal_row BadWords status h (inl t) one = absurd (omega (arith, t.0, one))
-  refusal_row BadWords status h (inr t) one = absurd (omega (arith, t.0, one))
-  refusal_row (BadText line) status h (inl t) one = absurd (omega (arith, t.0, one))
-  refusal_row (BadText line) status h (inr t) one = absurd (omega (arith, t.0, one))
-  refusal_row (NotCompatible line) status h (inl t) one = absurd (omega (arith, t.0, one))
-  refusal_row (NotCompatible line) status h (inr t) one = absurd (omega (arith, t.0, one))
-  refusal_row ReadFault status h (inl t) one = absurd (omega (arith, t.0, one))
-  refusal_row ReadFault status h (inr t) one = absurd (omega (arith, t.0, one))
-  refusal_row WriteFault status h (inl t) one = absurd (omega (arith, t.0, one))
-  refusal_row WriteFault status h (inr t) one = absurd (omega (arith, t.0, one))
-  refusal_row ShelfFault status h (inl t) one = absurd (omega (arith, t.0, one))
-  refusal_row ShelfFault status h (inr t) one = absurd (omega (arith, t.0, one))
-  refusal_row (NotThere line) status h (inl t) one = absurd (omega (arith, t.0, one))
-  refusal_row (NotThere line) status h (inr t) one = absurd (omega (arith, t.0, one))
-  refusal_row (TooLarge line) status h (inl t) one = absurd (omega (arith, t.0, one))
-  refusal_row (TooLarge line) status h (inr t) one = absurd (omega (arith, t.0, one))
-  refusal_row NoMemory status h (inl t) one = absurd (omega (arith, t.0, one))
-  refusal_row NoMemory status h (inr t) one = absurd (omega (arith, t.0, one))
 
 -- ---- what is done
 

@@ -1,12 +1,9 @@
 pub mod CauseLemmas
-pub mod DrillRow
 pub mod HeardLemmas
 pub mod LoadLemmas
 pub mod LoadOutcome
-pub mod LoadRow
 pub mod PlayLemmas
 pub mod PlayOutcome
-pub mod PlayRow
 pub mod SaveLemmas
 pub mod ScriptLemmas
 pub mod ScriptSteps

@@ -1,10 +1,8 @@
--- The command `drill`: its outcome, and what it can answer.
-use Rattle.std.specs.Prelude.{◌≡◌, ◌⊎◌, ℕ, List, [], ◌∷◌, ◌++◌, codes}
+-- The command `drill`: its outcome.
+use Rattle.std.specs.Prelude.{ℕ, List, [], ◌∷◌, ◌++◌, codes}
 use Rattle.std.specs.Fmt.{decimal}
-use Rattle.std.specs.Io.KnownBytes.{Keeps}
 use Rattle.vms_board.specs.Isa.{machine_of}
 use Rattle.vms_drill.specs.Drill.{Summary, drill_begun, drilled_on, summary_of}
-use Rattle.vms_commands.specs.Outcomes.{Outside, OutFault, NotesFault, WantsMemory}
 
 -- the line of a drill: the board and the seed; what the events came to; and what the saves came to
 unfoldable pub drill_text : (level seed : ℕ) → List ℕ
@@ -23,16 +21,3 @@ summary_line level seed s = drill_text level seed ++ (events_text s.events s.sen
 -- the line of so many events that a seed chooses, on a board of a level
 abbrev pub drill_line : (level seed count : ℕ) → List ℕ
 drill_line level seed count = summary_line level seed (summary_of (drilled_on count (drill_begun level seed)))
-
--- what it can answer, told or not
-abbrev pub DrillStatus : ℕ → Outside → Outside → Type 0
-DrillStatus status old new =
-    (status ≡ 0)
-    ⊎ OutFault status old new
-    ⊎ NotesFault status old new
-    ⊎ (WantsMemory status old new × Keeps old.out.written new.out.written)
-
-pub record DrillAnswers (status : ℕ) (old new : Outside) : Type 0 where
-  pub ends : DrillStatus status old new
-  pub input : new.input ≡ old.input
-  pub shelf : new.shelf ≡ old.shelf

@@ -4,7 +4,7 @@ use Rattle.std.specs.Io.KnownBytes.{Appends}
 use Rattle.vms_io.specs.Causes.{capped}
 use Rattle.vms_io.specs.Shelves.{Held}
 use Rattle.vms_io.specs.Told.{Outlet}
-use Rattle.vms_commands.specs.Outcomes.{Outcome, Outside, done, ended}
+use Rattle.vms_commands.specs.Outcomes.{Outcome, done, ended}
 use Rattle.vms_commands.specs.Steps.{Step, Untold, Gives, Ends}
 use Rattle.vms_commands.specs.declared.ending.Ending.{Ending}
 use Rattle.vms_commands.specs.declared.ending.Ending.TheVariants.{Done, Refused}
@@ -42,15 +42,3 @@ HearsBy A step outcome held before now out out' Done =
 HearsBy A step outcome held before now out out' (Refused line) =
     (a : A) × IsGiven A step a × Hears (outcome a) line.items before now
 HearsBy A step outcome held before now out out' ending = Unit {0}
-
--- as a call answers it: what is done stands on out
-abbrev pub Takes : (A : Type 0) → Step A → (A → List ℕ → Outcome → Type 0) → Outside → Outside → Type 0
-Takes A step outcome old new =
-    (a : A) × IsGiven A step a
-    × HearsDone (outcome a) old.shelf.held old.input.given new.input.given old.out new.out
-
--- and the line of the refusal stands on notes
-abbrev pub Refuses : (A : Type 0) → Step A → (A → List ℕ → Outcome → Type 0) → Outside → Outside → Type 0
-Refuses A step outcome old new =
-    (line : List ℕ) × Appends old.notes.written new.notes.written line
-    × (a : A) × IsGiven A step a × Hears (outcome a) line old.input.given new.input.given

@@ -1,6 +1,5 @@
--- The command `load`: its outcome, and what it can answer.
-use Rattle.std.specs.Prelude.{◌≡◌, ◌⊎◌, ℕ, ◌+◌, ◌≤◌, true, List, [], ◌∷◌, Option, IsSomeAnd}
-use Rattle.std.specs.Io.KnownBytes.{Keeps}
+-- The command `load`: its outcome, and what is heard of its input.
+use Rattle.std.specs.Prelude.{◌≡◌, ℕ, ◌+◌, ◌≤◌, List, [], ◌∷◌, Option, IsSomeAnd}
 use Rattle.vms_board.specs.Family.{Family}
 use Rattle.vms_board.specs.Restoring.{Back, IsMisfitAt, Restores}
 use Rattle.vms_board_streams.specs.Streams.{answers_to, trace_of}
@@ -8,14 +7,14 @@ use Rattle.vms_io.specs.Shelves.{Held}
 use Rattle.vms_io.specs.Told.{Intake, Outlet}
 use Rattle.vms_load.specs.Staging.{most_given}
 use Rattle.vms_commands.specs.Lines.{refused_line}
-use Rattle.vms_commands.specs.Outcomes.{Outcome, done, ended, Outside, ReadFault, OutFault, NotesFault, ShelfFault, WantsMemory, EndsBefore, EndsBy}
+use Rattle.vms_commands.specs.Outcomes.{Outcome, done, ended}
 use Rattle.vms_commands.specs.Steps.{Step, Ends, HasBy}
 use Rattle.vms_commands.specs.declared.ending.Ending.{Ending}
 use Rattle.vms_session.specs.Events.{events_of}
 use Rattle.vms_script.specs.Lines.{ScriptLine}
 use Rattle.vms_spec.specs.declared.Reason.{Reason}
 use Rattle.vms_stream.specs.Faults.{Fault}
-use Rattle.vms_board_commands.specs.Heard.{HearsBy, Refuses, Takes}
+use Rattle.vms_board_commands.specs.Heard.{HearsBy}
 
 -- the trace of the script's events on the board that the input restores; or where and why the input is refused, up to the end
 -- of the unit at fault, or because the stream is no board's; the shelf tells the same as before
@@ -42,33 +41,3 @@ LoadGives f step input input' = input'.given ≤ input.given + most_given (f.set
 abbrev pub LoadHears : {S : Type 0} → Family S → ℕ → Step (List ScriptLine) → Option Held → (before now : ℕ) (out out' : Outlet) → Ending → Type 0
 LoadHears f number step held before now out out' ending =
     HearsBy (List ScriptLine) step (λ lines bytes o. Loads f number lines bytes held o) held before now out out' ending
-
-abbrev pub LoadTakes : {S : Type 0} → Family S → ℕ → Step (List ScriptLine) → Outside → Outside → Type 0
-LoadTakes f number step old new =
-    Takes (List ScriptLine) step (λ lines bytes o. Loads f number lines bytes old.shelf.held o) old new
-
-abbrev pub LoadRefuses : {S : Type 0} → Family S → ℕ → Step (List ScriptLine) → Outside → Outside → Type 0
-LoadRefuses f number step old new =
-    Refuses (List ScriptLine) step (λ lines bytes o. Loads f number lines bytes old.shelf.held o) old new
-
--- what it can answer, told or not
-abbrev pub LoadStatus : ℕ → Outside → Outside → Type 0
-LoadStatus status old new =
-    (status ≡ 0)
-    ⊎ EndsBy 1 status old new
-    ⊎ EndsBefore 3 true status old new
-    ⊎ ReadFault status old new
-    ⊎ OutFault status old new
-    ⊎ NotesFault status old new
-    ⊎ (ShelfFault status old new × Keeps old.out.written new.out.written × (new.input ≡ old.input))
-    ⊎ EndsBefore 8 true status old new
-    ⊎ EndsBefore 9 true status old new
-    ⊎ (WantsMemory status old new × Keeps old.out.written new.out.written × (new.input ≡ old.input))
-
-pub record LoadAnswers {S : Type 0} (f : Family S) (number : ℕ) (step : Step (List ScriptLine)) (status : ℕ) (old new : Outside) : Type 0 where
-  pub ends : LoadStatus status old new
-  pub given : LoadGives f step old.input new.input
-  -- exactly the bytes of the stream are taken, or those of the refusal
-  pub taken : status ≡ 0 → LoadTakes f number step old new
-  pub refused : status ≡ 1 → LoadRefuses f number step old new
-  pub held : new.shelf.held ≡ old.shelf.held

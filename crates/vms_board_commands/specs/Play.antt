@@ -1,9 +1,8 @@
--- The command `play`: its outcome, and what it can answer.
+-- The command `play`: its outcome.
 use Rattle.std.specs.Prelude.{◌≡◌, ℕ, List, [], Option, IsSomeAnd}
 use Rattle.vms_io.specs.Shelves.{Held}
-use Rattle.vms_commands.specs.Outcomes.{Outcome, Part, Outside}
+use Rattle.vms_commands.specs.Outcomes.{Outcome, Part}
 use Rattle.vms_commands.specs.Steps.{Step, HasBy}
-use Rattle.vms_commands.specs.Texts.{ShelfStatus}
 use Rattle.vms_commands.specs.declared.ending.Ending.{Ending}
 use Rattle.vms_commands.specs.declared.ending.Ending.TheVariants as endings
 use Rattle.vms_session.specs.Parts.{Plays}
@@ -22,11 +21,6 @@ pub record PlaysAll (level : ℕ) (lines : List ScriptLine) (held : Held) (o : O
 -- by the step that gives the script: the outcome with it, where the shelf is told, or the end of that step
 abbrev pub PlaysBy : ℕ → Step (List ScriptLine) → Option Held → Outcome → Type 0
 PlaysBy level step held o = HasBy (λ lines x. IsSomeAnd held (λ map. PlaysAll level lines map x)) step o
-
--- what it can answer, told or not
-pub record PlayAnswers (status : ℕ) (old new : Outside) : Type 0 where
-  pub ends : ShelfStatus status old new
-  pub input : new.input ≡ old.input
 
 -- how a session that stopped ends
 abbrev pub ending_by : PlayFault → Ending

@@ -1,7 +1,7 @@
--- The command `analyze`: its outcome, and what it can answer.
-use Rattle.std.specs.Prelude.{◌≡◌, ◌⊎◌, ℕ, ◌+◌, ◌≤◌, min, List, [], ◌∷◌, ◌++◌, length, Option, Result, Ok, Err, codes}
+-- The command `analyze`: its outcome, and how it ends.
+use Rattle.std.specs.Prelude.{◌≡◌, ℕ, ◌+◌, ◌≤◌, min, List, [], ◌∷◌, ◌++◌, length, Option, Result, Ok, Err, codes}
 use Rattle.std.specs.Fmt.{decimal}
-use Rattle.std.specs.Io.KnownBytes.{Appends, Keeps}
+use Rattle.std.specs.Io.KnownBytes.{Keeps}
 use Rattle.arrayvec.specs.ArrayVec.{ArrayVec}
 use Rattle.vms_io.specs.Causes.{Rose}
 use Rattle.vms_io.specs.Shelves.{Held}
@@ -11,10 +11,10 @@ use Rattle.vms_analyze.specs.declared.fault.AnalyzeFault.{AnalyzeFault}
 use Rattle.vms_analyze.specs.declared.fault.AnalyzeFault.TheVariants as faults
 use Rattle.vms_analyze.specs.declared.fault.AnalyzeReason.{AnalyzeReason}
 use Rattle.vms_analyze.specs.declared.fault.AnalyzeReason.TheVariants as reasons
-use Rattle.vms_commands.specs.Outcomes.{Outcome, Outside, done, ended, ReadFault, OutFault, NotesFault, WantsMemory, EndsBy}
+use Rattle.vms_commands.specs.Outcomes.{Outcome, done, ended}
 use Rattle.vms_commands.specs.declared.ending.Ending.{Ending}
 use Rattle.vms_commands.specs.declared.ending.Ending.TheVariants as endings
-use Rattle.vms_board_commands.specs.Heard.{Hears, HearsDone, HearsEnd}
+use Rattle.vms_board_commands.specs.Heard.{HearsEnd}
 
 abbrev pub analyze_reason_name : AnalyzeReason → List ℕ
 analyze_reason_name reasons.TooLong = codes "TooLong"
@@ -74,32 +74,3 @@ abbrev pub AnalyzeCauses : (input input' : Intake) (out out' : Outlet) (shelf sh
 AnalyzeCauses input input' out out' shelf shelf' ending =
     ListCause input input' out out' ending × (shelf' ≡ shelf) × GivesListed input.given input'.given
     × ListHears shelf.held input.given input'.given out out' ending
-
--- ---- what it can answer, told or not
-
-abbrev pub AnalyzeStatus : ℕ → Outside → Outside → Type 0
-AnalyzeStatus status old new =
-    (status ≡ 0)
-    ⊎ EndsBy 1 status old new
-    ⊎ ReadFault status old new
-    ⊎ OutFault status old new
-    ⊎ NotesFault status old new
-    ⊎ (WantsMemory status old new × Keeps old.out.written new.out.written)
-
--- the text of their listing stands on out
-abbrev pub HasListed : Outside → Outside → Type 0
-HasListed old new = HearsDone (IsListing old.shelf.held) old.shelf.held old.input.given new.input.given old.out new.out
-
--- the line of their refusal stands on notes
-abbrev pub HasRefused : Outside → Outside → Type 0
-HasRefused old new =
-    (line : List ℕ) × Appends old.notes.written new.notes.written line
-    × Hears (IsListing old.shelf.held) line old.input.given new.input.given
-
-pub record AnalyzeAnswers (status : ℕ) (old new : Outside) : Type 0 where
-  pub ends : AnalyzeStatus status old new
-  pub given : GivesListed old.input.given new.input.given
-  -- the bytes that are taken are listed, or refused
-  pub taken : status ≡ 0 → HasListed old new
-  pub refused : status ≡ 1 → HasRefused old new
-  pub shelf : new.shelf ≡ old.shelf

@@ -1,25 +1,24 @@
--- What a call answers: the row of each command, and what holds of all calls.
-use Rattle.std.specs.Prelude.{◌≡◌, ◌⊎◌, ℕ, List, Option, Some, None, IsSomeAnd}
-use Rattle.std.specs.Io.KnownBytes.{Appends}
+-- What a call answers.
+use Rattle.std.specs.Prelude.{◌≡◌, ℕ, List, Option, Some, None, IsSomeAnd}
 use Rattle.vms_io.specs.Shelves.{Held}
-use Rattle.vms_commands.specs.Fetching.{is_on_shelf, named_sets, word_set}
+use Rattle.vms_commands.specs.Fetching.{named_sets, word_set}
 use Rattle.vms_commands.specs.Lines.{bad_words}
-use Rattle.vms_commands.specs.Outcomes.{Outcome, done, ended, Outside, DoesOrStops, NotesFault, CountsStand, PromisesStay}
+use Rattle.vms_commands.specs.Outcomes.{Outcome, done, ended, Outside, DoesOrStops, CountsStand, PromisesStay}
 use Rattle.vms_commands.specs.Steps.{HasText}
-use Rattle.vms_commands.specs.Texts.{TextAnswers}
 use Rattle.vms_board.specs.Isa.{isa}
-use Rattle.vms_board_commands.specs.Drill.{DrillAnswers, drill_line}
-use Rattle.vms_board_commands.specs.Load.{LoadAnswers, LoadsBy}
-use Rattle.vms_board_commands.specs.Play.{PlayAnswers, PlaysBy}
+use Rattle.vms_board_commands.specs.Drill.{drill_line}
+use Rattle.vms_board_commands.specs.Load.{LoadsBy}
+use Rattle.vms_board_commands.specs.Play.{PlaysBy}
 use Rattle.vms_board_commands.specs.Save.{saved_after}
 use Rattle.vms_board_commands.specs.Scripts.{scripted}
-use Rattle.vms_cli.specs.Analyze.{AnalyzeAnswers, IsListing}
-use Rattle.vms_cli.specs.Check.{checked, asks_shelf, CheckAnswers, Verdict}
+use Rattle.vms_cli.specs.Analyze.{IsListing}
+use Rattle.vms_cli.specs.Check.{checked, Verdict}
 use Rattle.vms_cli.specs.Commands.{Asked, IsaBoard, Show, Analyze, Pack, Check, Counter, Save, Load, Drill, Play, asked_of}
-use Rattle.vms_cli.specs.Counter.{CountersBy, CounterAnswers}
+use Rattle.vms_cli.specs.Counter.{CountersBy}
 use Rattle.vms_cli.specs.Continuation.{Continuation}
 use Rattle.vms_cli.specs.Pack.{packs}
-use Rattle.vms_cli.specs.Show.{ShowsBy, ShowAnswers}
+use Rattle.vms_cli.specs.Rows.{CanAnswer}
+use Rattle.vms_cli.specs.Show.{ShowsBy}
 use Rattle.vms_cli.specs.Upgrade.{Upgrade}
 
 -- The outcome of a command, by what the input has left and what the shelf holds. A command that goes by what isn't told has
@@ -37,28 +36,6 @@ HasOutcome (Some (Load (IsaBoard level) script)) input held o =
     LoadsBy isa level (scripted None held script) input held o
 HasOutcome (Some (Play level script)) input held o = PlaysBy level (scripted (Some level) held script) held o
 HasOutcome (Some (Drill level seed count)) input held o = o ≡ done (drill_line level seed count) held 0
-
--- what words of no listed form can answer: only the notes are touched
-pub record BadWordsAnswers (status : ℕ) (old new : Outside) : Type 0 where
-  pub ends : ((status ≡ 2) × Appends old.notes.written new.notes.written bad_words) ⊎ NotesFault status old new
-  pub input : new.input ≡ old.input
-  pub out : new.out ≡ old.out
-  pub shelf : new.shelf ≡ old.shelf
-
--- what each command can answer, told or not
-abbrev pub CanAnswer : Option Asked → ℕ → Outside → Outside → Type 0
-CanAnswer None status old new = BadWordsAnswers status old new
-CanAnswer (Some (Show set)) status old new =
-    ShowAnswers (is_on_shelf set) (word_set old.shelf.held set) status old new
-CanAnswer (Some Analyze) status old new = AnalyzeAnswers status old new
-CanAnswer (Some (Pack set name)) status old new = TextAnswers status old new
-CanAnswer (Some (Check one other)) status old new = CheckAnswers (asks_shelf one other) status old new
-CanAnswer (Some (Counter one other)) status old new = CounterAnswers (asks_shelf one other) status old new
-CanAnswer (Some (Save board set script)) status old new = TextAnswers status old new
-CanAnswer (Some (Load (IsaBoard level) script)) status old new =
-    LoadAnswers isa level (scripted None old.shelf.held script) status old new
-CanAnswer (Some (Play level script)) status old new = PlayAnswers status old new
-CanAnswer (Some (Drill level seed count)) status old new = DrillAnswers status old new
 
 pub record Answers (words : List (List ℕ)) (status : ℕ) (old new : Outside) : Type 0 where
   pub outcome : (o : Outcome) → HasOutcome (asked_of words) old.input.left old.shelf.held o → DoesOrStops status old new o

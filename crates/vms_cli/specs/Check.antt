@@ -1,6 +1,5 @@
--- The command `check`: its outcome, and what it can answer.
-use Rattle.std.specs.Prelude.{◌≡◌, ◌⊎◌, ℕ, Bool, true, false, ◌||◌, List, [], ◌∷◌, ◌++◌, Option, Some, None, codes}
-use Rattle.std.specs.Io.KnownBytes.{Keeps}
+-- The command `check`: its outcome.
+use Rattle.std.specs.Prelude.{◌≡◌, ℕ, Bool, ◌||◌, List, [], ◌∷◌, ◌++◌, Option, Some, None, codes}
 use Rattle.vms_io.specs.Shelves.{Held}
 use Rattle.vms_spec.specs.Sets.{Set}
 use Rattle.vms_check.specs.Comparing.{first_mismatch, Compatible}
@@ -8,7 +7,6 @@ use Rattle.vms_check.specs.declared.mismatch.Mismatch.{Mismatch}
 use Rattle.vms_commands.specs.SetWords.{SetWord}
 use Rattle.vms_cli.specs.Commands.{Asked, Check}
 use Rattle.vms_commands.specs.Fetching.{named_sets, is_on_shelf}
-use Rattle.vms_commands.specs.Outcomes.{Outside, OutFault, NotesFault, ShelfFault, WantsMemory, EndsBy}
 use Rattle.vms_commands.specs.SetLines.{mismatch_line}
 use Rattle.vms_commands.specs.Steps.{Step, Untold, Gives, Ends, next, Both}
 
@@ -40,22 +38,3 @@ Verdict asked held status = Unit {0}
 
 abbrev pub asks_shelf : (old new : SetWord) → Bool
 asks_shelf old new = is_on_shelf old || is_on_shelf new
-
--- what it can answer, told or not; the shelf can be at fault only where one of the words is a name
-abbrev pub CheckStatus : Bool → ℕ → Outside → Outside → Type 0
-CheckStatus asks status old new =
-    (status ≡ 0)
-    ⊎ ((asks ≡ true) × EndsBy 3 status old new)
-    ⊎ EndsBy 4 status old new
-    ⊎ OutFault status old new
-    ⊎ NotesFault status old new
-    ⊎ ((asks ≡ true) × ShelfFault status old new × Keeps old.out.written new.out.written)
-    ⊎ ((asks ≡ true) × EndsBy 8 status old new)
-    ⊎ ((asks ≡ true) × EndsBy 9 status old new)
-    ⊎ (WantsMemory status old new × Keeps old.out.written new.out.written)
-
-pub record CheckAnswers (asks : Bool) (status : ℕ) (old new : Outside) : Type 0 where
-  pub ends : CheckStatus asks status old new
-  pub input : new.input ≡ old.input
-  pub held : new.shelf.held ≡ old.shelf.held
-  pub unasked : asks ≡ false → new.shelf ≡ old.shelf

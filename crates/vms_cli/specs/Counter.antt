@@ -1,6 +1,5 @@
--- The command `counter`: its outcome, and what it can answer.
-use Rattle.std.specs.Prelude.{◌≡◌, ◌⊎◌, ℕ, Bool, true, false, List, [], ◌∷◌, ◌++◌, Option, codes}
-use Rattle.std.specs.Io.KnownBytes.{Keeps}
+-- The command `counter`: its outcome.
+use Rattle.std.specs.Prelude.{ℕ, List, [], ◌∷◌, ◌++◌, Option, codes}
 use Rattle.vms_io.specs.Shelves.{Held}
 use Rattle.vms_spec.specs.Sets.{Set}
 use Rattle.vms_spec.specs.Values.{values_text}
@@ -8,7 +7,7 @@ use Rattle.vms_counter_laws.specs.Counters.{Answer, AreCompatible, NoState, Stat
 use Rattle.vms_counter_laws.specs.Computed.{computed}
 use Rattle.vms_commands.specs.Lines.{refused_line}
 use Rattle.vms_commands.specs.SetLines.{mismatch_line}
-use Rattle.vms_commands.specs.Outcomes.{Outcome, done, Outside, OutFault, NotesFault, ShelfFault, WantsMemory, EndsBy}
+use Rattle.vms_commands.specs.Outcomes.{Outcome, done}
 use Rattle.vms_commands.specs.Steps.{Step, Gives, Both, HasBy}
 use Rattle.vms_cli.specs.Check.{compatible_text}
 
@@ -34,21 +33,3 @@ CountersBy step held o = HasBy (Tells held) step o
 -- the same as the steps that the code takes: the text is that of the answer as it is worked out
 abbrev pub counted : Both Set → Step (List ℕ)
 counted sets = Gives (counter_text sets.old sets.new (computed sets.old sets.new))
-
--- what it can answer, told or not; the shelf can be at fault only where one of the words is a name
-abbrev pub CounterStatus : Bool → ℕ → Outside → Outside → Type 0
-CounterStatus asks status old new =
-    (status ≡ 0)
-    ⊎ ((asks ≡ true) × EndsBy 3 status old new)
-    ⊎ OutFault status old new
-    ⊎ NotesFault status old new
-    ⊎ ((asks ≡ true) × ShelfFault status old new × Keeps old.out.written new.out.written)
-    ⊎ ((asks ≡ true) × EndsBy 8 status old new)
-    ⊎ ((asks ≡ true) × EndsBy 9 status old new)
-    ⊎ (WantsMemory status old new × Keeps old.out.written new.out.written)
-
-pub record CounterAnswers (asks : Bool) (status : ℕ) (old new : Outside) : Type 0 where
-  pub ends : CounterStatus asks status old new
-  pub input : new.input ≡ old.input
-  pub held : new.shelf.held ≡ old.shelf.held
-  pub unasked : asks ≡ false → new.shelf ≡ old.shelf

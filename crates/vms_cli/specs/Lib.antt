@@ -9,7 +9,9 @@ pub mod Continuation
 pub mod Counter
 pub mod Laws
 pub mod Pack
+pub mod Rows
 pub mod Show
 pub mod States
+pub mod Statuses
 pub mod Upgrade
 pub mod ValuesLines

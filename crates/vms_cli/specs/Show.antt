@@ -1,6 +1,5 @@
--- The command `show`: its outcome, and what it can answer.
-use Rattle.std.specs.Prelude.{◌≡◌, ◌⊎◌, ℕ, ◌+◌, ◌≤◌, Bool, true, false, List, Option, IsSomeAnd}
-use Rattle.std.specs.Io.KnownBytes.{Keeps}
+-- The command `show`: its outcome, and what is heard of its input.
+use Rattle.std.specs.Prelude.{◌≡◌, ◌⊎◌, ℕ, ◌+◌, ◌≤◌, List, Option, IsSomeAnd}
 use Rattle.vms_io.specs.Shelves.{Held}
 use Rattle.vms_io.specs.Told.{Intake, Outlet}
 use Rattle.vms_spec.specs.declared.Reason.{Reason}
@@ -12,10 +11,10 @@ use Rattle.vms_stream.specs.Faults.{Fault}
 use Rattle.vms_stream.specs.Streams.{Takes}
 use Rattle.vms_load.specs.Staging.{most_given}
 use Rattle.vms_commands.specs.Lines.{refused_line}
-use Rattle.vms_commands.specs.Outcomes.{Outcome, done, ended, Outside, ReadFault, OutFault, NotesFault, ShelfFault, WantsMemory, EndsBefore, EndsBy}
+use Rattle.vms_commands.specs.Outcomes.{Outcome, done, ended}
 use Rattle.vms_commands.specs.Steps.{Step, Untold, Gives, Ends, HasBy}
 use Rattle.vms_commands.specs.declared.ending.Ending.{Ending}
-use Rattle.vms_board_commands.specs.Heard.{HearsBy, Refuses as RefusesBy, Takes as TakesBy}
+use Rattle.vms_board_commands.specs.Heard.{HearsBy}
 
 -- the values text of the stream that the input takes, or where and why the input is refused, up to the end of the unit at
 -- fault; the shelf tells the same as before
@@ -44,27 +43,3 @@ ShowsWell held set bytes o = WellFormed set × Shows set bytes held o
 -- what is heard of a stream or of a refusal: the set that the step gave, and bytes that the outcome takes to the last
 abbrev pub ShowHears : Step Set → Option Held → (before now : ℕ) (out out' : Outlet) → Ending → Type 0
 ShowHears step held before now out out' ending = HearsBy Set step (ShowsWell held) held before now out out' ending
-
--- what it can answer, told or not
-abbrev pub ShowStatus : Bool → ℕ → Outside → Outside → Type 0
-ShowStatus asks status old new =
-    (status ≡ 0)
-    ⊎ EndsBy 1 status old new
-    ⊎ EndsBefore 3 asks status old new
-    ⊎ ReadFault status old new
-    ⊎ OutFault status old new
-    ⊎ NotesFault status old new
-    ⊎ ((asks ≡ true) × ShelfFault status old new × Keeps old.out.written new.out.written × (new.input ≡ old.input))
-    ⊎ EndsBefore 8 asks status old new
-    ⊎ EndsBefore 9 asks status old new
-    ⊎ (WantsMemory status old new × Keeps old.out.written new.out.written × (new.input ≡ old.input))
-
--- `asks` says whether the word is a name, and the step gives its set
-pub record ShowAnswers (asks : Bool) (step : Step Set) (status : ℕ) (old new : Outside) : Type 0 where
-  pub ends : ShowStatus asks status old new
-  pub given : GivesWithin step old.input new.input
-  -- exactly the bytes of the stream are taken, or those of the refusal
-  pub taken : status ≡ 0 → TakesBy Set step (ShowsWell old.shelf.held) old new
-  pub refused : status ≡ 1 → RefusesBy Set step (ShowsWell old.shelf.held) old new
-  pub held : new.shelf.held ≡ old.shelf.held
-  pub unasked : asks ≡ false → new.shelf ≡ old.shelf

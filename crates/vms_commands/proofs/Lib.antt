@@ -2,4 +2,3 @@ pub mod EndLemmas
 pub mod FileSets
 pub mod LineLemmas
 pub mod StepLemmas
-pub mod TextRow

@@ -1,5 +1,5 @@
 -- What a call is to do, and how far it comes: the frame that all commands share.
-use Rattle.std.specs.Prelude.{◌≡◌, ◌⊎◌, ℕ, zero, suc, ◌+◌, ◌≤◌, Bool, true, List, [], ◌∷◌, ◌++◌, take, drop, Option, Some, None, IfSome}
+use Rattle.std.specs.Prelude.{◌≡◌, ◌⊎◌, ℕ, zero, suc, ◌+◌, ◌≤◌, List, [], ◌∷◌, ◌++◌, take, drop, Option, Some, None, IfSome}
 use Rattle.std.specs.Io.KnownBytes.{Appends, Keeps}
 use Rattle.vms_io.specs.Causes.{Rose, AppendsPrefix, capped}
 use Rattle.vms_io.specs.Shelves.{Held, IfToldBoth, KeepsOthers}
@@ -140,14 +140,6 @@ pub record Stops (status : ℕ) (old new : Outside) (o : Outcome) : Type 0 where
 -- the call does the outcome, or stops on the way
 abbrev pub DoesOrStops : ℕ → Outside → Outside → Outcome → Type 0
 DoesOrStops status old new o = Does status old new o ⊎ Stops status old new o
-
--- a status of the command's own, for which nothing is written to out
-abbrev pub EndsBy : ℕ → ℕ → Outside → Outside → Type 0
-EndsBy own status old new = (status ≡ own) × Keeps old.out.written new.out.written
-
--- such a status that comes before the input is read, and only where the words name something on the shelf
-abbrev pub EndsBefore : ℕ → Bool → ℕ → Outside → Outside → Type 0
-EndsBefore own asks status old new = (asks ≡ true) × EndsBy own status old new × (new.input ≡ old.input)
 
 -- counts of faults never fall
 pub record CountsStand (old new : Outside) : Type 0 where
