@@ -2,6 +2,7 @@ pub mod AnalyzeLemmas
 pub mod AnalyzeRow
 pub mod CheckLemmas
 pub mod CheckRow
+pub mod ClockSets
 pub mod ContinuationLemmas
 pub mod CounterLemmas
 pub mod CounterRow

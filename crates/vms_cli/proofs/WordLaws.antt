@@ -34,7 +34,7 @@ board-level : (word : List ℕ) → HasLevel (isa_level (board_word word))
 board-level word =
     table-level word board_words (
       record { first = omega arith; last = omega arith },
-      (record { first = omega arith; last = omega arith }, (record { first = omega arith; last = omega arith }, (record { first = omega arith; last = omega arith }, tt))),
+      (record { first = omega arith; last = omega arith }, (record { first = omega arith; last = omega arith }, (record { first = omega arith; last = omega arith }, (tt, (tt, tt))))),
     )
 
 -- ---- sets

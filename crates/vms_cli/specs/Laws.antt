@@ -10,7 +10,7 @@ use Rattle.vms_spec.specs.ValuesReading.{Values, values_read}
 use Rattle.vms_stream.specs.Streams.{Takes}
 use Rattle.vms_analyze.specs.Listing.{Lists, Text}
 use Rattle.vms_cli.specs.Answers.{HasOutcome, Answers}
-use Rattle.vms_cli.specs.Commands.{Asked, IsaBoard, Show, Analyze, Pack, Check, Counter, Save, Load, Drill, Play, asked_of}
+use Rattle.vms_cli.specs.Commands.{Asked, IsaBoard, Show, Analyze, Pack, Check, Counter, Save, Load, Drill, Play, asked_of, ClockBoard}
 use Rattle.vms_commands.specs.Outcomes.{Outcome, DoesOrStops, done, text_of, Outside}
 use Rattle.vms_commands.specs.Fetching.{longest_file, named_sets, word_set}
 use Rattle.vms_commands.specs.SetWords.{SetWord}
@@ -18,6 +18,8 @@ use Rattle.vms_commands.specs.Steps.{Gives, Both}
 use Rattle.vms_check.specs.Comparing.{Compatible}
 use Rattle.dev_board.specs.Saved.{MaySaveUnder}
 use Rattle.dev_board.specs.State.{State}
+use Rattle.dev_clock.specs.State.{ClockState}
+use Rattle.vms_board.specs.Clock.{clock}
 use Rattle.vms_board.specs.Isa.{isa}
 use Rattle.vms_board.specs.Restoring.{Back, Restores}
 use Rattle.vms_script.specs.Lines.{ScriptLine}
@@ -102,6 +104,9 @@ CanBeDone (Some (Save board set script)) input held = IsSomeAnd held (λ map. Ca
 CanBeDone (Some (Load (IsaBoard level) script)) input held =
     IsSomeAnd held (λ map. CanBeRead None script map) × IsSomeAnd input (λ bytes. (board : State) × (taken : ℕ)
     × Restores isa level bytes (Back board taken))
+CanBeDone (Some (Load (ClockBoard version) script)) input held =
+    IsSomeAnd held (λ map. CanBeRead None script map) × IsSomeAnd input (λ bytes. (board : ClockState) × (taken : ℕ)
+    × Restores clock version bytes (Back board taken))
 CanBeDone (Some (Play level script)) input held =
     IsSomeAnd held (λ map. GoesBy (Some (Play level script)) map × CanBeRead (Some level) script map)
 CanBeDone (Some (Drill level seed count)) input held = Unit {0}

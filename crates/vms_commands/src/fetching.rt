@@ -3,7 +3,9 @@ ghost use Rattle.std.specs.Prelude.{◌≡◌, ◌≤◌, true, false, IfOk, vec
 ghost use Rattle.vms_io.specs.Told.{stock};
 ghost use Rattle.vms_desc.specs.Described.{described};
 ghost use Rattle.vms_descfile.specs.Files.{file_said};
-ghost use Rattle.vms_commands.specs.Asks.{set_asked};
+ghost use Rattle.vms_commands.specs.Asks.{set_asked, shipped_asked};
+ghost use Rattle.vms_commands.specs.SetWords.{shipped};
+ghost use Rattle.vms_commands.specs.Steps.{Gives};
 ghost use Rattle.vms_load.specs.Kept.{loads};
 ghost use Rattle.vms_commands.specs.Fetching.{fetched, fetched_set, is_on_shelf, is_text, said_set, set_in, word_set};
 ghost use Rattle.vms_commands.specs.StepEndings.{FetchCause, HadCause, IsBad, ReadCause, StepAs, WordCause, text_of};
@@ -94,11 +96,23 @@ pub fn read_fetched(alloc: Global, text: &SetText) -> Result<DescSet, Ending>
     ensures cause { ReadCause (is_text (text_of text.now)) result }
 {
     match text {
-        SetText::Shipped(ShippedSet::Isa(set)) => match DescSet::shipped(alloc, set.number) {
-            Ok(set) => Ok(set),
-            Err(_) => Err(Ending::NoMemory),
-        },
+        SetText::Shipped(set) => read_shipped(alloc, *set),
         SetText::Text { name, text } => read_file(alloc, name, text),
+    }
+}
+
+// A shipped set.
+fn read_shipped(alloc: Global, set: ShippedSet) -> Result<DescSet, Ending>
+    ensures read { StepAs described (Gives (shipped (shipped_asked set))) result }
+    ensures cause { ReadCause false result }
+{
+    let made = match set {
+        ShippedSet::Isa(set) => DescSet::shipped(alloc, set.number),
+        ShippedSet::Clock(set) => DescSet::clock(alloc, set.number),
+    };
+    match made {
+        Ok(set) => Ok(set),
+        Err(_) => Err(Ending::NoMemory),
     }
 }
 
