@@ -1,5 +1,6 @@
 pub mod AnalyzeLemmas
 pub mod AnalyzeRow
+pub mod BoardOutcomes
 pub mod CheckLemmas
 pub mod CheckRow
 pub mod ClockSets

@@ -10,8 +10,6 @@ use Rattle.vms_kinds.specs.Bytes.{IsBytes}
 use Rattle.vms_spec.specs.Values.{values_text}
 use Rattle.vms_spec.specs.Images.{Image}
 use Rattle.vms_spec.specs.Good.{IsFit}
-use Rattle.vms_spec.specs.Heads.{FitsHeads}
-use Rattle.vms_spec.specs.WellFormed.{WellFormed}
 use Rattle.vms_stream.specs.StreamLaws.{Answer, Taken, Faulty}
 use Rattle.vms_stream.specs.Streams.{Takes}
 use Rattle.vms_stream.proofs.Stated.{either_holds}
@@ -25,37 +23,24 @@ use Rattle.vms_commands.specs.SetWords.{SetWord}
 use Rattle.vms_commands.specs.Steps.{Step, Untold, Gives, Ends, Both, HasText, next}
 use Rattle.vms_commands.proofs.FileSets.{FitStep, fit_word}
 use Rattle.vms_commands.proofs.StepLemmas.{IsSound as IsStepSound, fetched_gives, one_text, sound_word_set}
-use Rattle.dev_board.specs.State.{power_on}
 use Rattle.vms_board.specs.Clock.{clock}
-use Rattle.vms_board.specs.ClockStands.{clock_stands}
-use Rattle.vms_board.specs.Family.{Family}
 use Rattle.vms_board.specs.Isa.{isa}
-use Rattle.vms_board.specs.IsaStands.{isa_stands}
-use Rattle.vms_board.specs.Restoring.{Back, Restores}
-use Rattle.vms_board.specs.Saving.{saved_stream}
-use Rattle.vms_board_commands.proofs.ScriptSteps.{AreStepLines, script_gives, scripted_lines, sound_saved, sound_script}
+use Rattle.vms_board_commands.proofs.ScriptSteps.{AreStepLines, script_gives, scripted_lines, sound_script}
 use Rattle.vms_board_commands.specs.Drill.{drill_line}
-use Rattle.dev_board.specs.Step.{after_all, observe}
 use Rattle.dev_base.specs.Levels.{IsLevel}
-use Rattle.vms_board_commands.proofs.LoadOutcome.{loads_one}
 use Rattle.vms_board_commands.proofs.PlayOutcome.{has_end, one_outcome}
 use Rattle.vms_board_commands.specs.Play.{PlaysBy}
-use Rattle.vms_board_commands.specs.Load.{LoadsBy, Traces}
-use Rattle.vms_board_commands.specs.Save.{saved_after}
-use Rattle.vms_board_commands.specs.Scripts.{scripted, longest_script, said_lines}
-use Rattle.vms_board_streams.specs.Streams.{trace_of, after_events, answers_to}
+use Rattle.vms_board_commands.specs.Scripts.{scripted}
 use Rattle.vms_session.specs.Laws.{HoldsAll}
-use Rattle.vms_session.specs.Events.{events_of}
 use Rattle.vms_script.proofs.GrammarOnly.{reads_exactly}
 use Rattle.vms_script.specs.Grammar.{AreLines}
 use Rattle.vms_script.specs.Lines.{ScriptLine}
-use Rattle.vms_cli.specs.Answers.{HasOutcome, Answers, saved_on}
-use Rattle.vms_script.specs.Script.{Reading, script_read}
+use Rattle.vms_cli.specs.Answers.{HasOutcome}
 use Rattle.vms_cli.specs.Check.{checked, compared, compatible_text, verdict}
-use Rattle.vms_cli.specs.Commands.{Asked, IsaBoard, Show, Analyze, Pack, Check, Counter, Save, Load, Drill, Play, asked_of, BoardWord, ClockBoard}
+use Rattle.vms_cli.specs.Commands.{Asked, IsaBoard, Show, Analyze, Pack, Check, Counter, Save, Load, Drill, Play, asked_of, ClockBoard}
 use Rattle.vms_counter_laws.specs.Computed.{computed}
 use Rattle.vms_cli.specs.Counter.{CountersBy, counted, counter_text}
-use Rattle.vms_cli.specs.Laws.{HasOneOutcome, OutcomeLaw, CanBePacked, CanBeRead, CanBeDone, HasRoom, IsAmple, NoneRises, PromisesKept, CompleteLaw, AmpleLaw}
+use Rattle.vms_cli.specs.Laws.{HasOneOutcome, OutcomeLaw, CanBePacked, CanBeDone, HasRoom, IsAmple, NoneRises, PromisesKept, CompleteLaw, AmpleLaw}
 use Rattle.vms_cli.specs.Pack.{described_stream, packed_by, packs}
 use Rattle.vms_cli.specs.Show.{ShowsBy, Values as Printed, Refuses}
 use Rattle.vms_cli.proofs.AnalyzeLemmas.{has_listing, only_listing}
@@ -64,13 +49,7 @@ use Rattle.vms_cli.proofs.CounterLemmas.{AreFit, counters_text, fit_sets, sound_
 use Rattle.vms_cli.proofs.PackLemmas.{pack_gives, sound_pack}
 use Rattle.vms_cli.proofs.ShowLemmas.{shown_is, refused_is}
 use Rattle.vms_cli.proofs.VerdictLaws.{StopsAt}
-
--- ---- the outcomes of steps
-
-record OneLoads {S : Type 0} (f : Family S) (number : ℕ) (step : Step (List ScriptLine)) (input : List ℕ) (held : Held) : Type 0 where
-  outcome : Outcome
-  is : LoadsBy f number step (Some input) (Some held) outcome
-  only : (other : Outcome) → LoadsBy f number step (Some input) (Some held) other → other ≡ outcome
+use Rattle.vms_cli.proofs.BoardOutcomes.{loaded_then, one_loaded, one_saved, saved_then}
 
 -- ---- the outcome of `show`
 
@@ -125,36 +104,6 @@ one_counted old new input held =
       only = λ other has. one.only other (counters_text (Some held) step other fit has);
     }
 
-sound_on : (board : BoardWord) (set : ℕ) (held : Option Held) (script : List ℕ) → IsStepSound held (saved_on board set held script)
-sound_on (IsaBoard level) set held script = sound_saved isa level set held script
-sound_on (ClockBoard version) set held script = sound_saved clock version set held script
-
-one_saved : (board : BoardWord) (set : ℕ) (script input : List ℕ) (held : Held) → HasOneOutcome (Some (Save board set script)) input held
-one_saved board set script input held =
-    let one = one_text held (saved_on board set (Some held) script) (sound_on board set (Some held) script) in
-    record { outcome = one.outcome; is = one.is; only = one.only }
-
--- ---- the outcome of `load`
-
-module _ {S : Type 0} (f : Family S) (well : WellFormed (f.set f.newest)) (heads : FitsHeads (f.set f.newest)) where
-  one_loads : (number : ℕ) (s : Step (List ScriptLine)) (input : List ℕ) (held : Held) → IsBytes input → IsStepSound (Some held) s → OneLoads f number s input held
-  one_loads number Untold input held ok sound = absurd (none-some {A = Held} held (sym sound))
-  one_loads number (Ends status line) input held ok sound = record { outcome = ended status line 0; is = refl; only = λ other e. e }
-  one_loads number (Gives lines) input held ok sound =
-      let one = loads_one f well heads number lines input (Some held) ok in
-      record { outcome = one.outcome; is = one.is; only = one.only }
-
-  one_scripted : (number : ℕ) (script input : List ℕ) (held : Held) → IsBytes input → OneLoads f number (scripted None (Some held) script) input held
-  one_scripted number script input held ok = one_loads number (scripted None (Some held) script) input held ok (sound_script None (Some held) script)
-
-one_loaded : (board : BoardWord) (script input : List ℕ) (held : Held) → IsBytes input → HasOneOutcome (Some (Load board script)) input held
-one_loaded (IsaBoard level) script input held ok =
-    let one = one_scripted isa isa_stands.well isa_stands.heads level script input held ok in
-    record { outcome = one.outcome; is = one.is; only = one.only }
-one_loaded (ClockBoard version) script input held ok =
-    let one = one_scripted clock clock_stands.well clock_stands.heads version script input held ok in
-    record { outcome = one.outcome; is = one.is; only = one.only }
-
 -- ---- the outcome of `play`
 
 record OnePlays (level : ℕ) (step : Step (List ScriptLine)) (held : Held) : Type 0 where
@@ -206,21 +155,6 @@ record IsDone (asked : Option Asked) (input : Option (List ℕ)) (held : Option 
   is : HasOutcome asked input held outcome
   status : outcome.status ≡ 0
   note : outcome.note ≡ []
-
--- what a script leaves of a board is saved, and goes on
-module _ {S : Type 0} (f : Family S) (number : ℕ) (script : List ℕ) (map : Held) (can : CanBeRead None script map) where
-  saved_then : (set : ℕ) → HasText (Some map) (saved_after f number set (Some map) script) (done (saved_stream f set (after_events f (events_of can.lines) (f.power_on number))) (Some map) 0)
-  saved_then set =
-      let outcome = done (saved_stream f set (after_events f (events_of can.lines) (f.power_on number))) (Some map) 0 in
-      subst (λ (s : Step (List ScriptLine)). HasText (Some map) (next s (λ lines. Gives (saved_stream f set (after_events f (events_of lines) (f.power_on number))))) outcome)
-      (sym (script_gives None map script can.text can.lines can.held can.short can.reads)) refl
-
-  loaded_then : (bytes : List ℕ) (board : S) (taken : ℕ) → Restores f number bytes (Back board taken)
-      → LoadsBy f number (scripted None (Some map) script) (Some bytes) (Some map) (done (trace_of (answers_to f (events_of can.lines) board)) (Some map) taken)
-  loaded_then bytes board taken restores =
-      let outcome = done (trace_of (answers_to f (events_of can.lines) board)) (Some map) taken in
-      subst (λ (s : Step (List ScriptLine)). LoadsBy f number s (Some bytes) (Some map) outcome)
-      (sym (script_gives None map script can.text can.lines can.held can.short can.reads)) (Traces board taken restores)
 
 can_be : (asked : Option Asked) (input : Option (List ℕ)) (held : Option Held) → CanBeDone asked input held → IsDone asked input held
 can_be None input held can = absurd can
