@@ -42,7 +42,7 @@ stream-short set m s may =
     shipped-long set (machine_of m.level) (saved_text isa set m) (saved_images set m) may.set_le_newest
     (omega arith) (shipped_holds.shipped set may.set_le_newest (saved_images set m))
 
-pub streams_are_short : StreamsAreShort isa IsSound
+pub streams_are_short : StreamsAreShort isa IsSound 65536
 streams_are_short = record { short = stream-short }
 
 -- ---- bytes

@@ -1,5 +1,5 @@
 -- What laws of streams ask of the family of the boards isa-1 to isa-4.
-use Rattle.std.proofs.Common.{◌≡◌, ℕ, ◌<◌, ◌≤◌, Bool, true, false, nat_lt, arith, refl, sym, subst}
+use Rattle.std.proofs.Common.{◌≡◌, ℕ, ◌≤◌, Bool, true, false, nat_lt, arith, refl, sym, subst}
 use Rattle.std.proofs.lemmas.Bool.{ltb-true, ltb-false}
 use Rattle.dev_base.specs.declared.limits.TheConstants.{NEWEST}
 use Rattle.dev_board.proofs.AlikeLaws.{alike_stays}
@@ -12,7 +12,7 @@ use Rattle.vms_selfdesc.proofs.Bounds.{shipped_holds}
 use Rattle.vms_spec.specs.Layout.{first}
 use Rattle.dev_images.specs.Images.{saved_images}
 use Rattle.vms_board.specs.Isa.{isa}
-use Rattle.vms_board_streams.proofs.IsaBytes.{streams_are_short, streams_are_bytes, well}
+use Rattle.vms_board_streams.proofs.IsaBytes.{streams_are_bytes, well}
 use Rattle.vms_board_streams.specs.Streams.{StreamsStand}
 
 newest_itself : Compatible (shipped_set NEWEST) (shipped_set NEWEST)
@@ -37,6 +37,5 @@ isa_streams_stand = record {
       let back = images_come_back.back set m s may in
       record { back = back.back; restored = back.restored; alike = back.alike };
   alike = λ event m n a. let one = alike_stays.event event m n a in record { answer = one.value; alike = one.alike };
-  short = streams_are_short;
   octets = streams_are_bytes;
 }

@@ -1,4 +1,7 @@
 pub mod BytesLaws
+pub mod ClockBytes
+pub mod ClockLaws
+pub mod ClockStreams
 pub mod FamilyLaws
 pub mod IsaBytes
 pub mod IsaLaws

@@ -1,5 +1,7 @@
 // Laws of streams of boards, each in a clause of a function that does nothing.
 ghost use Rattle.dev_board.specs.Sound.{IsSound, Alike};
+ghost use Rattle.dev_clock.specs.Sound.{IsSound as IsSoundClock, Alike as AlikeClocks};
+ghost use Rattle.vms_board.specs.Clock.{clock};
 ghost use Rattle.vms_board.specs.Isa.{isa};
 ghost use Rattle.vms_board_streams.specs.Streams.{StreamsComeBack, BoardsGoOn, BytesAreOne, StreamsAreShort, StreamsAreBytes};
 
@@ -13,7 +15,7 @@ pub fn stream_law()
 /// The stream that is written of a sound board has less than 65,536 bytes.
 #[tactic(auto, using(crate::proofs::IsaBytes::streams_are_short))]
 pub fn short_law()
-    ensures { StreamsAreShort isa IsSound }
+    ensures { StreamsAreShort isa IsSound 65536 }
 {}
 
 /// The stream that is written of a sound board is bytes: each number of it is below 256.
@@ -33,4 +35,36 @@ pub fn continuation_law()
 #[tactic(auto, using(crate::proofs::IsaLaws::bytes_are_one))]
 pub fn bytes_law()
     ensures { BytesAreOne isa }
+{}
+
+/// The stream that is written of a sound clock board under any clock set from its version on restores a board that is like
+/// it, and nothing else.
+#[tactic(auto, using(crate::proofs::ClockLaws::streams_come_back))]
+pub fn clock_stream_law()
+    ensures { StreamsComeBack clock AlikeClocks IsSoundClock }
+{}
+
+/// The stream that is written of a sound clock board has less than 81,920 bytes.
+#[tactic(auto, using(crate::proofs::ClockBytes::streams_are_short))]
+pub fn clock_short_law()
+    ensures { StreamsAreShort clock IsSoundClock 81920 }
+{}
+
+/// The stream that is written of a sound clock board is bytes.
+#[tactic(auto, using(crate::proofs::ClockBytes::streams_are_bytes))]
+pub fn clock_octets_law()
+    ensures { StreamsAreBytes clock IsSoundClock }
+{}
+
+/// On the stream that is written of a sound clock board under any clock set from its version on, with any description text
+/// that a stream may have or none, every list of events leaves the trace of that board itself going on.
+#[tactic(auto, using(crate::proofs::ClockLaws::boards_go_on))]
+pub fn clock_continuation_law()
+    ensures { BoardsGoOn clock AlikeClocks IsSoundClock }
+{}
+
+/// Bytes are one thing to a restore of a clock board.
+#[tactic(auto, using(crate::proofs::ClockLaws::bytes_are_one))]
+pub fn clock_bytes_law()
+    ensures { BytesAreOne clock }
 {}

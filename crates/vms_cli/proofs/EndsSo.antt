@@ -13,7 +13,7 @@ use Rattle.vms_commands.proofs.EndLemmas.{same_keeps}
 use Rattle.vms_cli.specs.Analyze.{ListCause}
 use Rattle.vms_cli.specs.Causes.{CheckCause, CounterCause, EndsCause, IsBadWords, ShowCause, StreamCause}
 use Rattle.vms_cli.specs.Check.{asks_shelf}
-use Rattle.vms_cli.specs.Commands.{Asked, IsaBoard, Show, Analyze, Pack, Check, Counter, Save, Load, Drill, Play}
+use Rattle.vms_cli.specs.Commands.{Asked, IsaBoard, ClockBoard, Show, Analyze, Pack, Check, Counter, Save, Load, Drill, Play}
 use Rattle.vms_cli.specs.Statuses.{asks, is_among, of_shelf, statuses_of, stores_at, takes_at, writes_at}
 use Rattle.vms_cli.proofs.RowTables.{stores_one, writes_one, wrong}
 
@@ -264,6 +264,9 @@ module _ (i i' : Intake) (o o' : Outlet) (s s' : Stock) where
       let r = text_so e c.0 in
       record { can = r.0; risen = r.1; out = r.2; input = λ f. c.1; held = λ f. c.2; shelf = λ f. absurd (wrong f); unnamed = λ f. absurd (cc) }
   ends_so (Some (Load (IsaBoard level) script)) e c =
+      let r = load_so e c.0 in
+      record { can = r.0.0; risen = r.0.1; out = r.0.2; input = r.1; held = λ f. c.2; shelf = λ f. absurd (wrong f); unnamed = λ f. absurd (cc) }
+  ends_so (Some (Load (ClockBoard version) script)) e c =
       let r = load_so e c.0 in
       record { can = r.0.0; risen = r.0.1; out = r.0.2; input = r.1; held = λ f. c.2; shelf = λ f. absurd (wrong f); unnamed = λ f. absurd (cc) }
   ends_so (Some (Drill level seed count)) e c =

@@ -1,5 +1,7 @@
 pub mod AnalyzeLemmas
+pub mod BoardOutcomes
 pub mod CheckLemmas
+pub mod ClockSets
 pub mod ContinuationLemmas
 pub mod CounterLemmas
 pub mod EndLemmas

@@ -4,6 +4,7 @@ use Rattle.std.specs.Io.KnownBytes.{Appends, Keeps}
 use Rattle.vms_io.specs.Causes.{Rose}
 use Rattle.vms_io.specs.Told.{Intake, Outlet, Stock}
 use Rattle.vms_spec.specs.Sets.{Set}
+use Rattle.vms_board.specs.Clock.{clock}
 use Rattle.vms_board.specs.Isa.{isa}
 use Rattle.vms_board_commands.specs.Heard.{HearsBy, HearsEnd, IsGiven}
 use Rattle.vms_board_commands.specs.Load.{Loads}
@@ -18,7 +19,7 @@ use Rattle.vms_commands.proofs.EndLemmas.{around, kept_none, same_keeps}
 use Rattle.vms_script.specs.Lines.{ScriptLine}
 use Rattle.vms_cli.specs.Analyze.{IsListing}
 use Rattle.vms_cli.specs.Causes.{EndsCause}
-use Rattle.vms_cli.specs.Commands.{Asked, IsaBoard, Show, Analyze, Pack, Check, Counter, Save, Load, Drill, Play}
+use Rattle.vms_cli.specs.Commands.{Asked, IsaBoard, ClockBoard, Show, Analyze, Pack, Check, Counter, Save, Load, Drill, Play}
 use Rattle.vms_cli.specs.Rows.{CanAnswer, Gives, HasCause, IsSeen, Seen}
 use Rattle.vms_cli.specs.Show.{ShowsWell}
 use Rattle.vms_cli.specs.Statuses.{is_among, statuses_of, stores_at, takes_at, writes_at}
@@ -229,6 +230,7 @@ module _ (i i' : Intake) (o o' n n' : Outlet) (s s' : Stock) where
   given_so (Some (Counter old' new')) e c = tt
   given_so (Some (Save board set script)) e c = tt
   given_so (Some (Load (IsaBoard level) script)) e c = c.1
+  given_so (Some (Load (ClockBoard version) script)) e c = c.1
   given_so (Some (Drill level seed count)) e c = tt
   given_so (Some (Play level script)) e c = tt
 
@@ -259,6 +261,8 @@ module _ (i i' : Intake) (o o' n n' : Outlet) (s s' : Stock) where
   seen_so (Some (Save board set script)) e status c t keeps which = tt
   seen_so (Some (Load (IsaBoard level) script)) e status c t keeps which =
       seen_by (List ScriptLine) (scripted None s.held script) (λ lines bytes x. Loads isa level lines bytes s.held x) e status c.3 t keeps which
+  seen_so (Some (Load (ClockBoard version) script)) e status c t keeps which =
+      seen_by (List ScriptLine) (scripted None s.held script) (λ lines bytes x. Loads clock version lines bytes s.held x) e status c.3 t keeps which
   seen_so (Some (Drill level seed count)) e status c t keeps which = tt
   seen_so (Some (Play level script)) e status c t keeps which = tt
 

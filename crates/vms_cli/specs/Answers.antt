@@ -4,7 +4,8 @@ use Rattle.vms_io.specs.Shelves.{Held}
 use Rattle.vms_commands.specs.Fetching.{named_sets, word_set}
 use Rattle.vms_commands.specs.Lines.{bad_words}
 use Rattle.vms_commands.specs.Outcomes.{Outcome, done, ended, Outside, DoesOrStops, CountsStand, PromisesStay}
-use Rattle.vms_commands.specs.Steps.{HasText}
+use Rattle.vms_commands.specs.Steps.{Step, HasText}
+use Rattle.vms_board.specs.Clock.{clock}
 use Rattle.vms_board.specs.Isa.{isa}
 use Rattle.vms_board_commands.specs.Drill.{drill_line}
 use Rattle.vms_board_commands.specs.Load.{LoadsBy}
@@ -13,13 +14,18 @@ use Rattle.vms_board_commands.specs.Save.{saved_after}
 use Rattle.vms_board_commands.specs.Scripts.{scripted}
 use Rattle.vms_cli.specs.Analyze.{IsListing}
 use Rattle.vms_cli.specs.Check.{checked, Verdict}
-use Rattle.vms_cli.specs.Commands.{Asked, IsaBoard, Show, Analyze, Pack, Check, Counter, Save, Load, Drill, Play, asked_of}
+use Rattle.vms_cli.specs.Commands.{Asked, BoardWord, IsaBoard, ClockBoard, Show, Analyze, Pack, Check, Counter, Save, Load, Drill, Play, asked_of}
 use Rattle.vms_cli.specs.Counter.{CountersBy}
 use Rattle.vms_cli.specs.Continuation.{Continuation}
 use Rattle.vms_cli.specs.Pack.{packs}
 use Rattle.vms_cli.specs.Rows.{CanAnswer}
 use Rattle.vms_cli.specs.Show.{ShowsBy}
 use Rattle.vms_cli.specs.Upgrade.{Upgrade}
+
+-- the stream that is written of a board under a set of its kind, after a script
+abbrev pub saved_on : BoardWord → ℕ → Option Held → List ℕ → Step (List ℕ)
+saved_on (IsaBoard level) set held script = saved_after isa level set held script
+saved_on (ClockBoard version) set held script = saved_after clock version set held script
 
 -- The outcome of a command, by what the input has left and what the shelf holds. A command that goes by what isn't told has
 -- none.
@@ -30,10 +36,11 @@ HasOutcome (Some Analyze) input held o = IsSomeAnd input (λ bytes. IsListing he
 HasOutcome (Some (Pack set name)) input held o = HasText held (packs held set name) o
 HasOutcome (Some (Check old new)) input held o = HasText held (checked held old new) o
 HasOutcome (Some (Counter old new)) input held o = CountersBy (named_sets held old new) held o
-HasOutcome (Some (Save (IsaBoard level) set script)) input held o =
-    HasText held (saved_after isa level set held script) o
+HasOutcome (Some (Save board set script)) input held o = HasText held (saved_on board set held script) o
 HasOutcome (Some (Load (IsaBoard level) script)) input held o =
     LoadsBy isa level (scripted None held script) input held o
+HasOutcome (Some (Load (ClockBoard version) script)) input held o =
+    LoadsBy clock version (scripted None held script) input held o
 HasOutcome (Some (Play level script)) input held o = PlaysBy level (scripted (Some level) held script) held o
 HasOutcome (Some (Drill level seed count)) input held o = o ≡ done (drill_line level seed count) held 0
 

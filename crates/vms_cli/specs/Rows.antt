@@ -8,13 +8,14 @@ use Rattle.vms_spec.specs.Sets.{Set}
 use Rattle.vms_commands.specs.Fetching.{word_set}
 use Rattle.vms_commands.specs.Lines.{bad_words, out_of_memory, read_fault, shelf_fault, write_fault}
 use Rattle.vms_commands.specs.Outcomes.{Outcome, Outside, text_of}
+use Rattle.vms_board.specs.Clock.{clock}
 use Rattle.vms_board.specs.Isa.{isa}
 use Rattle.vms_board_commands.specs.Heard.{IsGiven}
 use Rattle.vms_board_commands.specs.Load.{LoadGives, Loads}
 use Rattle.vms_board_commands.specs.Scripts.{scripted}
 use Rattle.vms_script.specs.Lines.{ScriptLine}
 use Rattle.vms_cli.specs.Analyze.{GivesListed, IsListing}
-use Rattle.vms_cli.specs.Commands.{Asked, IsaBoard, Show, Analyze, Load}
+use Rattle.vms_cli.specs.Commands.{Asked, IsaBoard, ClockBoard, Show, Analyze, Load}
 use Rattle.vms_cli.specs.Show.{GivesWithin, ShowsWell}
 use Rattle.vms_cli.specs.Statuses.{asks, is_among, statuses_of, stores_at, takes_at, writes_at}
 
@@ -46,6 +47,8 @@ IsSeen (Some (Show word)) status old new =
 IsSeen (Some Analyze) status old new = Seen (IsListing old.shelf.held) status old new
 IsSeen (Some (Load (IsaBoard level) script)) status old new =
     Seen (λ bytes o. (lines : List ScriptLine) × IsGiven (List ScriptLine) (scripted None old.shelf.held script) lines × Loads isa level lines bytes old.shelf.held o) status old new
+IsSeen (Some (Load (ClockBoard version) script)) status old new =
+    Seen (λ bytes o. (lines : List ScriptLine) × IsGiven (List ScriptLine) (scripted None old.shelf.held script) lines × Loads clock version lines bytes old.shelf.held o) status old new
 IsSeen asked status old new = Unit {0}
 
 -- how many bytes the input gives at most
@@ -53,6 +56,7 @@ abbrev pub Gives : Option Asked → Option Held → Intake → Intake → Type 0
 Gives (Some (Show word)) held input input' = GivesWithin (word_set held word) input input'
 Gives (Some Analyze) held input input' = GivesListed input.given input'.given
 Gives (Some (Load (IsaBoard level) script)) held input input' = LoadGives isa (scripted None held script) input input'
+Gives (Some (Load (ClockBoard version) script)) held input input' = LoadGives clock (scripted None held script) input input'
 Gives asked held input input' = Unit {0}
 
 pub record CanAnswer (asked : Option Asked) (status : ℕ) (old new : Outside) : Type 0 where

@@ -1,0 +1,22 @@
+-- What laws of streams ask of the family of the boards clk-1 and clk-2.
+use Rattle.std.proofs.Common.{arith}
+use Rattle.dev_clock.proofs.AlikeLaws.{alike_stays}
+use Rattle.dev_clock.specs.Sound.{IsSound, Alike}
+use Rattle.dev_clock_images.proofs.ClockCarried.{images_come_back}
+use Rattle.dev_clock_images.proofs.ClockSets.{sets_are_compatible}
+use Rattle.dev_clock_images.specs.Images.{saved_images}
+use Rattle.vms_board.specs.Clock.{clock}
+use Rattle.vms_board_streams.proofs.ClockBytes.{text_short, streams_are_bytes, well}
+use Rattle.vms_board_streams.specs.Streams.{StreamsStand}
+
+pub clock_streams_stand : StreamsStand clock Alike IsSound
+clock_streams_stand = record {
+  well = λ set last. well set;
+  compatible = sets_are_compatible.newest;
+  described = λ set m last. let l = text_short set (saved_images set m) in omega (arith, l);
+  back = λ set m s may.
+      let back = images_come_back.back set m s may in
+      record { back = back.back; restored = back.restored; alike = back.alike };
+  alike = λ event m n a. let one = alike_stays.event event m n a in record { answer = one.value; alike = one.alike };
+  octets = streams_are_bytes;
+}
