@@ -3,11 +3,14 @@ use Rattle.std.proofs.Common.{ℕ, List, length, Option, None, Some, sym, subst}
 use Rattle.std.specs.Prelude.{IsSomeAnd}
 use Rattle.dev_base.specs.Levels.{ReachesSet}
 use Rattle.dev_board.specs.Sound.{Alike, IsSound}
+use Rattle.dev_clock.specs.Sound.{Alike as AlikeClocks, IsSound as IsSoundClock}
+use Rattle.vms_board.specs.Clock.{clock}
 use Rattle.vms_board.specs.Family.{Family}
 use Rattle.vms_board.specs.Isa.{isa}
 use Rattle.vms_board.specs.Restoring.{Back, Restores}
 use Rattle.vms_board_commands.specs.Load.{Loads, LoadsBy, Traces}
 use Rattle.vms_board_commands.specs.Scripts.{scripted}
+use Rattle.vms_board_streams.proofs.ClockLaws.{boards_go_on as clocks_go_on}
 use Rattle.vms_board_streams.proofs.IsaLaws.{boards_go_on}
 use Rattle.vms_board_streams.specs.Streams.{BoardsGoOn, stream_with}
 use Rattle.vms_commands.specs.Outcomes.{Outcome, Outside, DoesOrStops, done}
@@ -15,7 +18,7 @@ use Rattle.vms_commands.specs.Steps.{Step, Untold, Gives, Ends}
 use Rattle.vms_script.specs.Lines.{ScriptLine}
 use Rattle.vms_session.specs.Events.{events_of}
 use Rattle.vms_cli.specs.Answers.{HasOutcome}
-use Rattle.vms_cli.specs.Commands.{Asked, IsaBoard, Show, Analyze, Pack, Check, Counter, Save, Load, Drill, Play}
+use Rattle.vms_cli.specs.Commands.{Asked, IsaBoard, Show, Analyze, Pack, Check, Counter, Save, Load, Drill, Play, ClockBoard}
 use Rattle.vms_cli.specs.Continuation.{Continuation, ContinuesBy, goes_on}
 
 module _ {S : Type 0} (f : Family S) (Alike : S → S → Type 0) (IsSound : S → Type 0) (going : BoardsGoOn f Alike IsSound) where
@@ -41,5 +44,6 @@ continues_so (Some (Check one other)) status old new all = tt
 continues_so (Some (Counter one other)) status old new all = tt
 continues_so (Some (Save board set script)) status old new all = tt
 continues_so (Some (Load (IsaBoard level) script)) status old new all = continues_by isa Alike IsSound boards_go_on level (scripted None old.shelf.held script) status old new all
+continues_so (Some (Load (ClockBoard version) script)) status old new all = continues_by clock AlikeClocks IsSoundClock clocks_go_on version (scripted None old.shelf.held script) status old new all
 continues_so (Some (Play level script)) status old new all = tt
 continues_so (Some (Drill level seed count)) status old new all = tt

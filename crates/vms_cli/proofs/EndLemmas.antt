@@ -10,11 +10,12 @@ use Rattle.vms_commands.proofs.TextRow.{text_caused, text_row}
 use Rattle.vms_cli.specs.Answers.{Answers, BadWordsAnswers, CanAnswer, HasOutcome}
 use Rattle.vms_cli.specs.Causes.{BadWordsCauses, EndsCause, IsBadWords}
 use Rattle.vms_cli.specs.Check.{asks_shelf}
-use Rattle.vms_cli.specs.Commands.{Asked, IsaBoard, Show, Analyze, Pack, Check, Counter, Save, Load, Drill, Play, asked_of}
+use Rattle.vms_cli.specs.Commands.{Asked, IsaBoard, Show, Analyze, Pack, Check, Counter, Save, Load, Drill, Play, asked_of, ClockBoard}
 use Rattle.vms_cli.proofs.AnalyzeRow.{analyze_caused, analyze_row}
 use Rattle.vms_cli.proofs.CheckRow.{check_caused, check_row}
 use Rattle.vms_cli.proofs.CounterRow.{counter_caused, counter_row}
 use Rattle.vms_board_commands.proofs.DrillRow.{drill_caused, drill_row}
+use Rattle.vms_board.specs.Clock.{clock}
 use Rattle.vms_board.specs.Isa.{isa}
 use Rattle.vms_board_commands.proofs.LoadRow.{load_caused, load_row}
 use Rattle.vms_board_commands.proofs.PlayRow.{play_caused, play_row}
@@ -46,6 +47,7 @@ caused (Some (Check old new)) i i' o o' s s' e c = check_caused (asks_shelf old 
 caused (Some (Counter old new)) i i' o o' s s' e c = counter_caused (asks_shelf old new) i i' o o' s s' e c.0 c.2
 caused (Some (Save board set script)) i i' o o' s s' e c = text_caused i i' o o' s s' e c.0 c.2
 caused (Some (Load (IsaBoard level) script)) i i' o o' s s' e c = load_caused i i' o o' o o' s s' isa level (scripted None s.held script) e c
+caused (Some (Load (ClockBoard version) script)) i i' o o' s s' e c = load_caused i i' o o' o o' s s' clock version (scripted None s.held script) e c
 caused (Some (Play level script)) i i' o o' s s' e c = play_caused i i' o o' o o' s s' e c
 caused (Some (Drill level seed count)) i i' o o' s s' e c = drill_caused i i' o o' o o' s s' e c
 
@@ -73,6 +75,7 @@ module _ (i i' : Intake) (o o' n n' : Outlet) (s s' : Stock) where
   row_so (Some (Counter one other)) e status c t = counter_row i i' o o' n n' s s' (asks_shelf one other) e status c t
   row_so (Some (Save board set script)) e status c t = text_row i i' o o' n n' s s' e status c t
   row_so (Some (Load (IsaBoard level) script)) e status c t = load_row i i' o o' n n' s s' isa level (scripted None s.held script) e status c t
+  row_so (Some (Load (ClockBoard version) script)) e status c t = load_row i i' o o' n n' s s' clock version (scripted None s.held script) e status c t
   row_so (Some (Play level script)) e status c t = play_row i i' o o' n n' s s' e status c t
   row_so (Some (Drill level seed count)) e status c t = drill_row i i' o o' n n' s s' e status c t
 

@@ -1,7 +1,9 @@
 pub mod AnalyzeLemmas
 pub mod AnalyzeRow
+pub mod BoardOutcomes
 pub mod CheckLemmas
 pub mod CheckRow
+pub mod ClockSets
 pub mod ContinuationLemmas
 pub mod CounterLemmas
 pub mod CounterRow

@@ -23,29 +23,21 @@ use Rattle.vms_commands.specs.SetWords.{SetWord}
 use Rattle.vms_commands.specs.Steps.{Step, Untold, Gives, Ends, Both, HasText, next}
 use Rattle.vms_commands.proofs.FileSets.{FitStep, fit_word}
 use Rattle.vms_commands.proofs.StepLemmas.{IsSound as IsStepSound, fetched_gives, one_text, sound_word_set}
-use Rattle.dev_board.specs.State.{power_on}
+use Rattle.vms_board.specs.Clock.{clock}
 use Rattle.vms_board.specs.Isa.{isa}
-use Rattle.vms_board.specs.IsaStands.{isa_stands}
-use Rattle.vms_board.specs.Saving.{saved_stream}
-use Rattle.vms_board_commands.proofs.ScriptSteps.{AreStepLines, script_gives, scripted_lines, sound_saved, sound_script}
+use Rattle.vms_board_commands.proofs.ScriptSteps.{AreStepLines, script_gives, scripted_lines, sound_script}
 use Rattle.vms_board_commands.specs.Drill.{drill_line}
-use Rattle.dev_board.specs.Step.{after_all, observe}
 use Rattle.dev_base.specs.Levels.{IsLevel}
-use Rattle.vms_board_commands.proofs.LoadOutcome.{loads_one}
 use Rattle.vms_board_commands.proofs.PlayOutcome.{has_end, one_outcome}
 use Rattle.vms_board_commands.specs.Play.{PlaysBy}
-use Rattle.vms_board_commands.specs.Load.{LoadsBy, Traces}
-use Rattle.vms_board_commands.specs.Save.{saved_after}
 use Rattle.vms_board_commands.specs.Scripts.{scripted}
-use Rattle.vms_board_streams.specs.Streams.{trace_of}
 use Rattle.vms_session.specs.Laws.{HoldsAll}
-use Rattle.vms_session.specs.Events.{events_of}
 use Rattle.vms_script.proofs.GrammarOnly.{reads_exactly}
 use Rattle.vms_script.specs.Grammar.{AreLines}
 use Rattle.vms_script.specs.Lines.{ScriptLine}
-use Rattle.vms_cli.specs.Answers.{HasOutcome, Answers}
+use Rattle.vms_cli.specs.Answers.{HasOutcome}
 use Rattle.vms_cli.specs.Check.{checked, compared, compatible_text, verdict}
-use Rattle.vms_cli.specs.Commands.{Asked, IsaBoard, Show, Analyze, Pack, Check, Counter, Save, Load, Drill, Play, asked_of}
+use Rattle.vms_cli.specs.Commands.{Asked, IsaBoard, Show, Analyze, Pack, Check, Counter, Save, Load, Drill, Play, asked_of, ClockBoard}
 use Rattle.vms_counter_laws.specs.Computed.{computed}
 use Rattle.vms_cli.specs.Counter.{CountersBy, counted, counter_text}
 use Rattle.vms_cli.specs.Laws.{HasOneOutcome, OutcomeLaw, CanBePacked, CanBeDone, HasRoom, IsAmple, NoneRises, PromisesKept, CompleteLaw, AmpleLaw}
@@ -57,13 +49,7 @@ use Rattle.vms_cli.proofs.CounterLemmas.{AreFit, counters_text, fit_sets, sound_
 use Rattle.vms_cli.proofs.PackLemmas.{pack_gives, sound_pack}
 use Rattle.vms_cli.proofs.ShowLemmas.{shown_is, refused_is}
 use Rattle.vms_cli.proofs.VerdictLaws.{StopsAt}
-
--- ---- the outcomes of steps
-
-record OneLoads (level : ℕ) (step : Step (List ScriptLine)) (input : List ℕ) (held : Held) : Type 0 where
-  outcome : Outcome
-  is : LoadsBy isa level step (Some input) (Some held) outcome
-  only : (other : Outcome) → LoadsBy isa level step (Some input) (Some held) other → other ≡ outcome
+use Rattle.vms_cli.proofs.BoardOutcomes.{loaded_then, one_loaded, one_saved, saved_then}
 
 -- ---- the outcome of `show`
 
@@ -118,25 +104,6 @@ one_counted old new input held =
       only = λ other has. one.only other (counters_text (Some held) step other fit has);
     }
 
-one_saved : (level set : ℕ) (script input : List ℕ) (held : Held) → HasOneOutcome (Some (Save (IsaBoard level) set script)) input held
-one_saved level set script input held =
-    let one = one_text held (saved_after isa level set (Some held) script) (sound_saved isa level set (Some held) script) in
-    record { outcome = one.outcome; is = one.is; only = one.only }
-
--- ---- the outcome of `load`
-
-one_loads : (level : ℕ) (s : Step (List ScriptLine)) (input : List ℕ) (held : Held) → IsBytes input → IsStepSound (Some held) s → OneLoads level s input held
-one_loads level Untold input held ok sound = absurd (none-some {A = Held} held (sym sound))
-one_loads level (Ends status line) input held ok sound = record { outcome = ended status line 0; is = refl; only = λ other e. e }
-one_loads level (Gives lines) input held ok sound =
-    let one = loads_one isa isa_stands.well isa_stands.heads level lines input (Some held) ok in
-    record { outcome = one.outcome; is = one.is; only = one.only }
-
-one_loaded : (level : ℕ) (script input : List ℕ) (held : Held) → IsBytes input → HasOneOutcome (Some (Load (IsaBoard level) script)) input held
-one_loaded level script input held ok =
-    let one = one_loads level (scripted None (Some held) script) input held ok (sound_script None (Some held) script) in
-    record { outcome = one.outcome; is = one.is; only = one.only }
-
 -- ---- the outcome of `play`
 
 record OnePlays (level : ℕ) (step : Step (List ScriptLine)) (held : Held) : Type 0 where
@@ -167,8 +134,8 @@ outcome_holds (Some Analyze) input held ok by =
 outcome_holds (Some (Pack word name)) input held ok by = one_packed word name input held
 outcome_holds (Some (Check old new)) input held ok by = one_checked old new input held
 outcome_holds (Some (Counter old new)) input held ok by = one_counted old new input held
-outcome_holds (Some (Save (IsaBoard level) set script)) input held ok by = one_saved level set script input held
-outcome_holds (Some (Load (IsaBoard level) script)) input held ok by = one_loaded level script input held ok
+outcome_holds (Some (Save board set script)) input held ok by = one_saved board set script input held
+outcome_holds (Some (Load board script)) input held ok by = one_loaded board script input held ok
 outcome_holds (Some (Play level script)) input held ok by = one_played level script input held by.0 by.1
 outcome_holds (Some (Drill level seed count)) input held ok by =
     record { outcome = done (drill_line level seed count) (Some held) 0; is = refl; only = λ other e. e }
@@ -217,28 +184,19 @@ can_be (Some (Pack word name)) input (Some map) can =
       status = refl;
       note = refl;
     }
-can_be (Some (Save (IsaBoard level) set script)) input None can = absurd can
+can_be (Some (Save board set script)) input None can = absurd can
 can_be (Some (Save (IsaBoard level) set script)) input (Some map) can =
-    let stream = saved_stream isa set (after_all (events_of can.lines) (power_on level)) in
-    let outcome = done stream (Some map) 0 in
-    record {
-      outcome = outcome;
-      is = subst (λ (s : Step (List ScriptLine)). HasText (Some map) (next s (λ lines. Gives (saved_stream isa set (after_all (events_of lines) (power_on level))))) outcome)
-          (sym (script_gives None map script can.text can.lines can.held can.short can.reads)) refl;
-      status = refl;
-      note = refl;
-    }
+    record { outcome = _; is = saved_then isa level script map can set; status = refl; note = refl }
+can_be (Some (Save (ClockBoard version) set script)) input (Some map) can =
+    record { outcome = _; is = saved_then clock version script map can set; status = refl; note = refl }
 can_be (Some (Load (IsaBoard level) script)) input None can = absurd can.0
 can_be (Some (Load (IsaBoard level) script)) None (Some map) can = absurd can.1
 can_be (Some (Load (IsaBoard level) script)) (Some bytes) (Some map) can =
-    let outcome = done (trace_of (observe (events_of can.0.lines) can.1.0)) (Some map) can.1.1 in
-    record {
-      outcome = outcome;
-      is = subst (λ (s : Step (List ScriptLine)). LoadsBy isa level s (Some bytes) (Some map) outcome)
-          (sym (script_gives None map script can.0.text can.0.lines can.0.held can.0.short can.0.reads)) (Traces can.1.0 can.1.1 can.1.2);
-      status = refl;
-      note = refl;
-    }
+    record { outcome = _; is = loaded_then isa level script map can.0 bytes can.1.0 can.1.1 can.1.2; status = refl; note = refl }
+can_be (Some (Load (ClockBoard version) script)) input None can = absurd can.0
+can_be (Some (Load (ClockBoard version) script)) None (Some map) can = absurd can.1
+can_be (Some (Load (ClockBoard version) script)) (Some bytes) (Some map) can =
+    record { outcome = _; is = loaded_then clock version script map can.0 bytes can.1.0 can.1.1 can.1.2; status = refl; note = refl }
 can_be (Some (Play level script)) input None can = absurd can
 can_be (Some (Play level script)) input (Some map) can =
     let read = can.1 in

@@ -1,10 +1,13 @@
 -- What `save` writes, `show` and `analyze` print alike.
-use Rattle.std.proofs.Common.{◌≡◌, ℕ, ◌-◌, true, List, length, Option, None, Some, refl, sym, ap, ◌∙◌, subst, ℤ}
+use Rattle.std.proofs.Common.{◌≡◌, ℕ, ◌-◌, true, List, length, Option, None, Some, refl, sym, ◌∙◌, subst, ℤ}
 use Rattle.dev_base.specs.Levels.{ReachesSet}
 use Rattle.dev_board.proofs.SoundLaws.{sound_stays_on}
 use Rattle.dev_board.specs.Laws.{AreEvents}
+use Rattle.dev_clock.proofs.SoundLaws.{sound_stays_on as clock_stays_sound}
 use Rattle.dev_board.specs.Sound.{IsSound}
 use Rattle.dev_board.specs.declared.event.Event.{Event}
+use Rattle.vms_board.specs.Clock.{clock}
+use Rattle.vms_board.specs.ClockStands.{clock_stands}
 use Rattle.vms_board.specs.Family.{Family, IsNumber, Stands, images_saved}
 use Rattle.vms_board.specs.Isa.{isa}
 use Rattle.vms_board.specs.IsaStands.{isa_stands}
@@ -17,7 +20,7 @@ use Rattle.vms_check.proofs.SelfLaws.{is_among}
 use Rattle.vms_commands.proofs.FileSets.{FitStep, fit_word}
 use Rattle.vms_commands.specs.Fetching.{word_set}
 use Rattle.vms_commands.specs.Outcomes.{done}
-use Rattle.vms_commands.specs.SetWords.{Isa, SetWord, Shipped}
+use Rattle.vms_commands.specs.SetWords.{Isa, Clock, SetWord, Shipped}
 use Rattle.vms_commands.specs.Steps.{Step, Untold, Gives, Ends, HasText, next}
 use Rattle.vms_elements.specs.Reading.{IsMachineOf}
 use Rattle.vms_io.specs.Shelves.{Held}
@@ -34,6 +37,7 @@ use Rattle.vms_values_laws.proofs.Rounds.{written_only}
 use Rattle.vms_cli.proofs.RoundTrips.{done_apart, fits_text, lists_all, same_text, shown_listed}
 use Rattle.vms_cli.proofs.WordLaws.{words_ask}
 use Rattle.vms_cli.specs.AnalyzeLaws.{PrintsAlike, SaveThenAnalyzeLaw}
+use Rattle.vms_cli.specs.Commands.{IsaBoard, ClockBoard}
 use Rattle.vms_cli.specs.Laws.{CanBeAsked}
 use Rattle.vms_cli.specs.Pack.{described_stream}
 use Rattle.vms_cli.specs.Show.{ShowsBy, Values as Printed}
@@ -89,6 +93,9 @@ module _ {S : Type 0} (f : Family S) {IsSound : S → Type 0} {AreTold : List (L
   saved_prints script stream has = by_step (scripted None held script) stream (scripted_lines None held script) has
 
 pub save_then_analyze : SaveThenAnalyzeLaw
-save_then_analyze words level set script stream input held asked has =
+save_then_analyze words (IsaBoard level) set script stream input held asked has =
     let can = subst CanBeAsked asked (words_ask words) in
     saved_prints isa isa_stands sound_stays_on.power_on sound_stays_on.events held (Shipped (Isa set)) level set refl can.0 can.1 script stream has
+save_then_analyze words (ClockBoard version) set script stream input held asked has =
+    let can = subst CanBeAsked asked (words_ask words) in
+    saved_prints clock clock_stands clock_stays_sound.power_on clock_stays_sound.events held (Shipped (Clock set)) version set refl can.0 can.1 script stream has

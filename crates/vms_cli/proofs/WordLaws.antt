@@ -4,38 +4,62 @@ use Rattle.std.proofs.lemmas.Bool.{leb-true}
 use Rattle.std.specs.Str.{bytes_eq}
 use Rattle.dev_base.specs.Levels.{IsLevel}
 use Rattle.dev_base.specs.declared.limits.TheConstants.{NEWEST}
+use Rattle.vms_rtc.specs.declared.limits.TheConstants.{NEWEST_CLOCK}
 use Rattle.vms_io.specs.Shelves.{Held}
-use Rattle.vms_commands.specs.SetWords.{Isa, ShippedSet, SetWord, named_in, set_word, shipped_word, shipped_words}
+use Rattle.vms_commands.specs.SetWords.{Isa, Clock, ShippedSet, SetWord, named_in, set_word, shipped_word, shipped_words}
 use Rattle.vms_script.specs.Names.{is_shelf_name}
 use Rattle.vms_session.specs.Laws.{HoldsAll}
-use Rattle.vms_cli.specs.Commands.{Asked, BoardWord, IsaBoard, Show, Analyze, Pack, Check, Counter, Save, Load, Drill, Play, asked_of, board_word, board_words, check_of, counter_of, drill_of, few_events, isa_level, load_of, number_word, on_board, pack_of, pair_of, play_of, save_of, save_under, show_of, triple_of}
-use Rattle.vms_cli.specs.Laws.{AskedLaw, CanBeAsked, GoesBy, WordsLaw}
+use Rattle.vms_cli.specs.Commands.{Asked, BoardWord, IsaBoard, ClockBoard, Show, Analyze, Pack, Check, Counter, Save, Load, Drill, Play, asked_of, board_word, board_words, check_of, counter_of, drill_of, few_events, isa_level, load_of, number_word, on_board, pack_of, pair_of, play_of, save_of, save_under, show_of, triple_of}
+use Rattle.vms_cli.specs.Laws.{AskedLaw, CanBeAsked, IsBoard, MaySaveOn, GoesBy, WordsLaw}
 
--- ---- levels
+-- ---- boards
 
+-- there is such a board
+abbrev IsThere : Option BoardWord → Type 0
+IsThere None = Unit {0}
+IsThere (Some board) = IsBoard board
+
+-- each board of a table is one
+abbrev AreBoards : List (List ℕ × BoardWord) → Type 0
+AreBoards [] = Unit {0}
+AreBoards ((name, board) ∷ table) = IsBoard board × AreBoards table
+
+found-board : (b : Bool) (x y : Option BoardWord) → IsThere x → IsThere y → IsThere (if b then x else y)
+found-board true x y p q = p
+found-board false x y p q = q
+
+table-board : (word : List ℕ) (table : List (List ℕ × BoardWord)) → AreBoards table → IsThere (named_in word table)
+table-board word [] are = tt
+table-board word ((name, board) ∷ table) are = found-board (bytes_eq word name) (Some board) (named_in word table) are.0 (table-board word table are.1)
+
+word-board : (word : List ℕ) → IsThere (board_word word)
+word-board word =
+    table-board word board_words (
+      record { first = omega arith; last = omega arith },
+      (
+        record { first = omega arith; last = omega arith },
+        (
+          record { first = omega arith; last = omega arith },
+          (
+            record { first = omega arith; last = omega arith },
+            (record { first = omega arith; last = omega arith }, (record { first = omega arith; last = omega arith }, tt)),
+          ),
+        ),
+      ),
+    )
+
+-- one of isa-1 to isa-4 has a level
 abbrev pub HasLevel : Option ℕ → Type 0
 HasLevel None = Unit {0}
 HasLevel (Some level) = IsLevel level
 
--- each board of a table has one
-abbrev AreLevels : List (List ℕ × BoardWord) → Type 0
-AreLevels [] = Unit {0}
-AreLevels ((name, board) ∷ table) = HasLevel (isa_level (Some board)) × AreLevels table
+level-of : (board : Option BoardWord) → IsThere board → HasLevel (isa_level board)
+level-of None is = tt
+level-of (Some (IsaBoard level)) is = is
+level-of (Some (ClockBoard version)) is = tt
 
-found-level : (b : Bool) (x y : Option BoardWord) → HasLevel (isa_level x) → HasLevel (isa_level y) → HasLevel (isa_level (if b then x else y))
-found-level true x y p q = p
-found-level false x y p q = q
-
-table-level : (word : List ℕ) (table : List (List ℕ × BoardWord)) → AreLevels table → HasLevel (isa_level (named_in word table))
-table-level word [] are = tt
-table-level word ((name, board) ∷ table) are = found-level (bytes_eq word name) (Some board) (named_in word table) are.0 (table-level word table are.1)
-
-board-level : (word : List ℕ) → HasLevel (isa_level (board_word word))
-board-level word =
-    table-level word board_words (
-      record { first = omega arith; last = omega arith },
-      (record { first = omega arith; last = omega arith }, (record { first = omega arith; last = omega arith }, (record { first = omega arith; last = omega arith }, tt))),
-    )
+word-level : (word : List ℕ) → HasLevel (isa_level (board_word word))
+word-level word = level-of (board_word word) (word-board word)
 
 -- ---- sets
 
@@ -43,6 +67,7 @@ board-level word =
 abbrev IsSet : Option ShippedSet → Type 0
 IsSet None = Unit {0}
 IsSet (Some (Isa set)) = set ≤ NEWEST
+IsSet (Some (Clock set)) = set ≤ NEWEST_CLOCK
 
 -- each set of a table is one
 abbrev AreSets : List (List ℕ × ShippedSet) → Type 0
@@ -58,7 +83,7 @@ table-set word [] are = tt
 table-set word ((name, set) ∷ table) are = found-set (bytes_eq word name) (Some set) (named_in word table) are.0 (table-set word table are.1)
 
 word-set : (word : List ℕ) → IsSet (shipped_word word)
-word-set word = table-set word shipped_words (omega arith, (omega arith, (omega arith, (omega arith, (omega arith, tt)))))
+word-set word = table-set word shipped_words (omega arith, (omega arith, (omega arith, (omega arith, (omega arith, (omega arith, (omega arith, tt)))))))
 
 -- ---- commands
 
@@ -86,11 +111,11 @@ pack-asked : (set : Option SetWord) (values : List ℕ) → CanBeAsked (pack_of 
 pack-asked None values = tt
 pack-asked (Some set) values = either-asked (is_shelf_name values) (Some (Pack set values)) None tt tt
 
-load-if : (b : Bool) (board : BoardWord) (script : List ℕ) → HasLevel (isa_level (Some board)) → CanBeAsked (load_of (if b then Some (board, script) else None))
-load-if true (IsaBoard level) script is = is
+load-if : (b : Bool) (board : BoardWord) (script : List ℕ) → IsBoard board → CanBeAsked (load_of (if b then Some (board, script) else None))
+load-if true board script is = is
 load-if false board script is = tt
 
-load-asked : (board : Option BoardWord) (script : List ℕ) → HasLevel (isa_level board) → CanBeAsked (load_of (on_board board script))
+load-asked : (board : Option BoardWord) (script : List ℕ) → IsThere board → CanBeAsked (load_of (on_board board script))
 load-asked None script is = tt
 load-asked (Some board) script is = load-if (is_shelf_name script) board script is
 
@@ -102,19 +127,24 @@ play-asked : (level : Option ℕ) (script : List ℕ) → HasLevel level → Can
 play-asked None script is = tt
 play-asked (Some level) script is = play-if (is_shelf_name script) level script is
 
-under-asked : (level set : ℕ) (script : List ℕ) (b : Bool) → nat_le level set ≡ b → IsLevel level → set ≤ NEWEST
-    → CanBeAsked (save_under (IsaBoard level) script (if b then Some set else None))
-under-asked level set script true e is last = (is, record { level_le_set = leb-true level set e; set_le_newest = last })
-under-asked level set script false e is last = tt
+under-asked : (board : BoardWord) (number set : ℕ) (script : List ℕ) (b : Bool) → nat_le number set ≡ b → IsBoard board → (number ≤ set → MaySaveOn board set)
+    → CanBeAsked (save_under board script (if b then Some set else None))
+under-asked board number set script true e is may = (is, may (leb-true number set e))
+under-asked board number set script false e is may = tt
 
-save-if : (b : Bool) (board : BoardWord) (script : List ℕ) (set : Option ShippedSet) → HasLevel (isa_level (Some board)) → IsSet set
+save-if : (b : Bool) (board : BoardWord) (script : List ℕ) (set : Option ShippedSet) → IsBoard board → IsSet set
     → CanBeAsked (save_of (if b then Some (board, script) else None) set)
 save-if true board script None is last = tt
-save-if true (IsaBoard level) script (Some (Isa set)) is last = under-asked level set script (nat_le level set) refl is last
+save-if true (IsaBoard level) script (Some (Isa set)) is last =
+    under-asked (IsaBoard level) level set script (nat_le level set) refl is (λ le. record { level_le_set = le; set_le_newest = last })
+save-if true (IsaBoard level) script (Some (Clock set)) is last = tt
+save-if true (ClockBoard version) script (Some (Isa set)) is last = tt
+save-if true (ClockBoard version) script (Some (Clock set)) is last =
+    under-asked (ClockBoard version) version set script (nat_le version set) refl is (λ le. record { level_le_set = le; set_le_newest = last })
 save-if false board script None is last = tt
 save-if false board script (Some set) is last = tt
 
-save-asked : (board : Option BoardWord) (script : List ℕ) (set : Option ShippedSet) → HasLevel (isa_level board) → IsSet set
+save-asked : (board : Option BoardWord) (script : List ℕ) (set : Option ShippedSet) → IsThere board → IsSet set
     → CanBeAsked (save_of (on_board board script) set)
 save-asked None script None is last = tt
 save-asked None script (Some set) is last = tt
@@ -136,16 +166,16 @@ pair-asked name one other =
     either-asked (bytes_eq name (codes "check")) (check_of (set_word one) (set_word other)) _ (check-asked (set_word one) (set_word other))
     (either-asked (bytes_eq name (codes "counter")) (counter_of (set_word one) (set_word other)) _ (counter-asked (set_word one) (set_word other))
     (either-asked (bytes_eq name (codes "pack")) (pack_of (set_word one) other) _ (pack-asked (set_word one) other)
-    (either-asked (bytes_eq name (codes "load")) (load_of (on_board (board_word one) other)) _ (load-asked (board_word one) other (board-level one))
-    (either-asked (bytes_eq name (codes "play")) (play_of (on_board (isa_level (board_word one)) other)) None (play-asked (isa_level (board_word one)) other (board-level one)) tt))))
+    (either-asked (bytes_eq name (codes "load")) (load_of (on_board (board_word one) other)) _ (load-asked (board_word one) other (word-board one))
+    (either-asked (bytes_eq name (codes "play")) (play_of (on_board (isa_level (board_word one)) other)) None (play-asked (isa_level (board_word one)) other (word-level one)) tt))))
 
 triple-asked : (name one two three : List ℕ) → CanBeAsked (triple_of name one two three)
 unfolding triple_of
 triple-asked name one two three =
     either-asked (bytes_eq name (codes "drill")) (drill_of (isa_level (board_word one)) (number_word two) (few_events (number_word three))) _
-    (drill-asked (isa_level (board_word one)) (number_word two) (few_events (number_word three)) (board-level one))
+    (drill-asked (isa_level (board_word one)) (number_word two) (few_events (number_word three)) (word-level one))
     (either-asked (bytes_eq name (codes "save")) (save_of (on_board (board_word one) three) (shipped_word two)) None
-    (save-asked (board_word one) three (shipped_word two) (board-level one) (word-set two)) tt)
+    (save-asked (board_word one) three (shipped_word two) (word-board one) (word-set two)) tt)
 
 pub words_ask : AskedLaw
 words_ask [] = tt

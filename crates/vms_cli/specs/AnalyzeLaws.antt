@@ -6,10 +6,10 @@ use Rattle.vms_spec.specs.Sets.{Set}
 use Rattle.vms_spec.specs.Streams.{AreReady, is_one_of}
 use Rattle.vms_commands.specs.Fetching.{word_set}
 use Rattle.vms_commands.specs.Outcomes.{done}
-use Rattle.vms_commands.specs.SetWords.{Isa, SetWord, Shipped}
+use Rattle.vms_commands.specs.SetWords.{Isa, Clock, ShippedSet, SetWord, Shipped}
 use Rattle.vms_commands.specs.Steps.{Gives}
 use Rattle.vms_cli.specs.Answers.{HasOutcome}
-use Rattle.vms_cli.specs.Commands.{IsaBoard, Show, Analyze, Pack, Save, asked_of}
+use Rattle.vms_cli.specs.Commands.{BoardWord, IsaBoard, ClockBoard, Show, Analyze, Pack, Save, asked_of}
 use Rattle.vms_cli.specs.Pack.{described_stream}
 
 -- where `pack` gives a stream for the text under a name, `analyze` gives that text for the stream, and takes all of it
@@ -32,9 +32,14 @@ pub record PrintsAlike (word : SetWord) (stream : List ℕ) (held : Option Held)
   pub shown : HasOutcome (Some (Show word)) (Some stream) held (done text held (length stream))
   pub listed : HasOutcome (Some Analyze) (Some stream) held (done text held (length stream))
 
+-- the set of a board's kind that has this number
+abbrev pub set_on : BoardWord → ℕ → ShippedSet
+set_on (IsaBoard level) set = Isa set
+set_on (ClockBoard version) set = Clock set
+
 -- where `save` writes a stream, `show` with the set of its words and `analyze` print that alike
 abbrev pub SaveThenAnalyzeLaw : Type 0
-SaveThenAnalyzeLaw = (words : List (List ℕ)) (level set : ℕ) (script stream : List ℕ) (input : Option (List ℕ)) (held : Option Held)
-    → asked_of words ≡ Some (Save (IsaBoard level) set script)
-    → HasOutcome (Some (Save (IsaBoard level) set script)) input held (done stream held 0)
-    → PrintsAlike (Shipped (Isa set)) stream held
+SaveThenAnalyzeLaw = (words : List (List ℕ)) (board : BoardWord) (set : ℕ) (script stream : List ℕ) (input : Option (List ℕ)) (held : Option Held)
+    → asked_of words ≡ Some (Save board set script)
+    → HasOutcome (Some (Save board set script)) input held (done stream held 0)
+    → PrintsAlike (Shipped (set_on board set)) stream held

@@ -5,8 +5,9 @@ use Rattle.vms_io.specs.Shelves.{Held}
 use Rattle.vms_commands.specs.Fetching.{is_on_shelf, named_sets, word_set}
 use Rattle.vms_commands.specs.Lines.{bad_words}
 use Rattle.vms_commands.specs.Outcomes.{Outcome, done, ended, Outside, DoesOrStops, NotesFault, CountsStand, PromisesStay}
-use Rattle.vms_commands.specs.Steps.{HasText}
+use Rattle.vms_commands.specs.Steps.{Step, HasText}
 use Rattle.vms_commands.specs.Texts.{TextAnswers}
+use Rattle.vms_board.specs.Clock.{clock}
 use Rattle.vms_board.specs.Isa.{isa}
 use Rattle.vms_board_commands.specs.Drill.{DrillAnswers, drill_line}
 use Rattle.vms_board_commands.specs.Load.{LoadAnswers, LoadsBy}
@@ -15,12 +16,17 @@ use Rattle.vms_board_commands.specs.Save.{saved_after}
 use Rattle.vms_board_commands.specs.Scripts.{scripted}
 use Rattle.vms_cli.specs.Analyze.{AnalyzeAnswers, IsListing}
 use Rattle.vms_cli.specs.Check.{checked, asks_shelf, CheckAnswers, Verdict}
-use Rattle.vms_cli.specs.Commands.{Asked, IsaBoard, Show, Analyze, Pack, Check, Counter, Save, Load, Drill, Play, asked_of}
+use Rattle.vms_cli.specs.Commands.{Asked, IsaBoard, Show, Analyze, Pack, Check, Counter, Save, Load, Drill, Play, asked_of, BoardWord, ClockBoard}
 use Rattle.vms_cli.specs.Counter.{CountersBy, CounterAnswers}
 use Rattle.vms_cli.specs.Continuation.{Continuation}
 use Rattle.vms_cli.specs.Pack.{packs}
 use Rattle.vms_cli.specs.Show.{ShowsBy, ShowAnswers}
 use Rattle.vms_cli.specs.Upgrade.{Upgrade}
+
+-- the stream that is written of a board under a set of its kind, after a script
+abbrev pub saved_on : BoardWord → ℕ → Option Held → List ℕ → Step (List ℕ)
+saved_on (IsaBoard level) set held script = saved_after isa level set held script
+saved_on (ClockBoard version) set held script = saved_after clock version set held script
 
 -- The outcome of a command, by what the input has left and what the shelf holds. A command that goes by what isn't told has
 -- none.
@@ -31,10 +37,11 @@ HasOutcome (Some Analyze) input held o = IsSomeAnd input (λ bytes. IsListing he
 HasOutcome (Some (Pack set name)) input held o = HasText held (packs held set name) o
 HasOutcome (Some (Check old new)) input held o = HasText held (checked held old new) o
 HasOutcome (Some (Counter old new)) input held o = CountersBy (named_sets held old new) held o
-HasOutcome (Some (Save (IsaBoard level) set script)) input held o =
-    HasText held (saved_after isa level set held script) o
+HasOutcome (Some (Save board set script)) input held o = HasText held (saved_on board set held script) o
 HasOutcome (Some (Load (IsaBoard level) script)) input held o =
     LoadsBy isa level (scripted None held script) input held o
+HasOutcome (Some (Load (ClockBoard version) script)) input held o =
+    LoadsBy clock version (scripted None held script) input held o
 HasOutcome (Some (Play level script)) input held o = PlaysBy level (scripted (Some level) held script) held o
 HasOutcome (Some (Drill level seed count)) input held o = o ≡ done (drill_line level seed count) held 0
 
@@ -57,6 +64,8 @@ CanAnswer (Some (Counter one other)) status old new = CounterAnswers (asks_shelf
 CanAnswer (Some (Save board set script)) status old new = TextAnswers status old new
 CanAnswer (Some (Load (IsaBoard level) script)) status old new =
     LoadAnswers isa level (scripted None old.shelf.held script) status old new
+CanAnswer (Some (Load (ClockBoard version) script)) status old new =
+    LoadAnswers clock version (scripted None old.shelf.held script) status old new
 CanAnswer (Some (Play level script)) status old new = PlayAnswers status old new
 CanAnswer (Some (Drill level seed count)) status old new = DrillAnswers status old new
 

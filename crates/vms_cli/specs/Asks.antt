@@ -3,7 +3,7 @@ use Rattle.std.specs.Prelude.{ℕ}
 use Rattle.vms_commands.specs.Asks.{set_asked}
 use Rattle.vms_cli.specs.Commands as commands
 use Rattle.vms_cli.specs.declared.boards.BoardWord.{BoardWord}
-use Rattle.vms_cli.specs.declared.boards.BoardWord.TheVariants.{Isa}
+use Rattle.vms_cli.specs.declared.boards.BoardWord.TheVariants.{Isa, Clock}
 use Rattle.vms_cli.specs.declared.boards.SavedBoard.{SavedBoard}
 use Rattle.vms_cli.specs.declared.boards.SavedBoard.TheVariants as saved
 use Rattle.vms_cli.specs.declared.words.Command.{Command}
@@ -11,10 +11,12 @@ use Rattle.vms_cli.specs.declared.words.Command.TheVariants.{Show, Analyze, Pack
 
 abbrev pub board_asked : BoardWord → commands.BoardWord
 board_asked (Isa board) = commands.IsaBoard board.level
+board_asked (Clock board) = commands.ClockBoard board.version
 
 -- a board, and the number of a set
 abbrev pub saved_asked : SavedBoard → commands.BoardWord × ℕ
 saved_asked (saved.Isa board) = (commands.IsaBoard board.level, board.set)
+saved_asked (saved.Clock board) = (commands.ClockBoard board.version, board.set)
 
 abbrev pub asked : Command → commands.Asked
 asked (Show set) = commands.Show (set_asked set)

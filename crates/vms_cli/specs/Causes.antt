@@ -9,12 +9,13 @@ use Rattle.vms_commands.specs.Endings.{SetCause}
 use Rattle.vms_commands.specs.Fetching.{is_on_shelf, word_set}
 use Rattle.vms_commands.specs.SetWords.{SetWord}
 use Rattle.vms_commands.specs.Texts.{TextCauses}
+use Rattle.vms_board.specs.Clock.{clock}
 use Rattle.vms_board.specs.Isa.{isa}
 use Rattle.vms_board_commands.specs.Causes.{DrillCauses, LoadCauses, PlayCauses}
 use Rattle.vms_board_commands.specs.Scripts.{scripted}
 use Rattle.vms_cli.specs.Analyze.{AnalyzeCauses}
 use Rattle.vms_cli.specs.Check.{asks_shelf}
-use Rattle.vms_cli.specs.Commands.{Asked, IsaBoard, Show, Analyze, Pack, Check, Counter, Save, Load, Drill, Play}
+use Rattle.vms_cli.specs.Commands.{Asked, IsaBoard, Show, Analyze, Pack, Check, Counter, Save, Load, Drill, Play, ClockBoard}
 use Rattle.vms_cli.specs.Show.{GivesWithin, ShowHears}
 
 -- once the set of `show` is there
@@ -121,6 +122,8 @@ EndsCause (Some (Save board set script)) input input' out out' shelf shelf' endi
     TextCauses input input' out out' shelf shelf' ending
 EndsCause (Some (Load (IsaBoard level) script)) input input' out out' shelf shelf' ending =
     LoadCauses isa level (scripted None shelf.held script) input input' out out' shelf shelf' ending
+EndsCause (Some (Load (ClockBoard version) script)) input input' out out' shelf shelf' ending =
+    LoadCauses clock version (scripted None shelf.held script) input input' out out' shelf shelf' ending
 EndsCause (Some (Drill level seed count)) input input' out out' shelf shelf' ending =
     DrillCauses input input' out out' shelf shelf' ending
 EndsCause (Some (Play level script)) input input' out out' shelf shelf' ending =

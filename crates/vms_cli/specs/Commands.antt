@@ -5,12 +5,14 @@ use Rattle.vms_spec.specs.Spelling.{number_spelled}
 use Rattle.vms_script.specs.Names.{is_shelf_name}
 use Rattle.vms_script.specs.Views.{number_read}
 use Rattle.vms_script.specs.declared.line.ScriptReason.{ScriptReason}
+use Rattle.vms_board.specs.Clock.{clock_machine}
 use Rattle.vms_board.specs.Isa.{machine_of}
-use Rattle.vms_commands.specs.SetWords.{Isa, ShippedSet, SetWord, named_in, set_word, shipped_word}
+use Rattle.vms_commands.specs.SetWords.{Isa, Clock, ShippedSet, SetWord, named_in, set_word, shipped_word}
 
--- a board: one of isa-1 to isa-4, by its level
+-- a board: one of isa-1 to isa-4, by its level, or clk-1 or clk-2, by its version
 pub data BoardWord : Type 0 where
   IsaBoard : ℕ → BoardWord
+  ClockBoard : ℕ → BoardWord
 
 -- prints the values text of a stream by a set or by the stream's own description, writes the stream of a values text on the shelf,
 -- compares two sets, looks for a state that shows why they aren't compatible, writes the stream of a board under a set after a script, lets a
@@ -46,7 +48,8 @@ pack_of (Some set) values = if is_shelf_name values then Some (Pack set values) 
 -- the words of the boards
 abbrev pub board_words : List (List ℕ × BoardWord)
 board_words =
-    (machine_of 1, IsaBoard 1) ∷ (machine_of 2, IsaBoard 2) ∷ (machine_of 3, IsaBoard 3) ∷ (machine_of 4, IsaBoard 4) ∷ []
+    (machine_of 1, IsaBoard 1) ∷ (machine_of 2, IsaBoard 2) ∷ (machine_of 3, IsaBoard 3) ∷ (machine_of 4, IsaBoard 4)
+    ∷ (clock_machine 1, ClockBoard 1) ∷ (clock_machine 2, ClockBoard 2) ∷ []
 
 -- the board that a word names
 abbrev pub board_word : List ℕ → Option BoardWord
@@ -56,6 +59,7 @@ board_word word = named_in word board_words
 abbrev pub isa_level : Option BoardWord → Option ℕ
 isa_level None = None
 isa_level (Some (IsaBoard level)) = Some level
+isa_level (Some (ClockBoard version)) = None
 
 -- a board, and the name of a script
 abbrev pub on_board : {A : Type 0} → Option A → List ℕ → Option (A × List ℕ)
@@ -102,6 +106,8 @@ drill_of _ _ _ = None
 -- the number of a set of the board's kind, where it is at or above the board
 abbrev pub saved_set : BoardWord → ShippedSet → Option ℕ
 saved_set (IsaBoard level) (Isa set) = if nat_le level set then Some set else None
+saved_set (ClockBoard version) (Clock set) = if nat_le version set then Some set else None
+saved_set _ _ = None
 
 abbrev pub save_under : BoardWord → List ℕ → Option ℕ → Option Asked
 save_under board script None = None

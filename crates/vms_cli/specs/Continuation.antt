@@ -2,6 +2,8 @@
 use Rattle.std.specs.Prelude.{◌≡◌, ℕ, List, length, Option, None, Some}
 use Rattle.dev_base.specs.Levels.{ReachesSet}
 use Rattle.dev_board.specs.Sound.{IsSound}
+use Rattle.dev_clock.specs.Sound.{IsSound as IsSoundClock}
+use Rattle.vms_board.specs.Clock.{clock}
 use Rattle.vms_board.specs.Family.{Family}
 use Rattle.vms_board.specs.Isa.{isa}
 use Rattle.vms_board_commands.specs.Scripts.{scripted}
@@ -10,7 +12,7 @@ use Rattle.vms_commands.specs.Outcomes.{Outcome, Outside, DoesOrStops, done}
 use Rattle.vms_commands.specs.Steps.{Step, Untold, Gives, Ends}
 use Rattle.vms_script.specs.Lines.{ScriptLine}
 use Rattle.vms_session.specs.Events.{events_of, trace_from}
-use Rattle.vms_cli.specs.Commands.{Asked, IsaBoard, Load}
+use Rattle.vms_cli.specs.Commands.{Asked, IsaBoard, ClockBoard, Load}
 
 module _ {S : Type 0} (f : Family S) where
   -- the outcome of `load` on what a board saved under a set, with a description text or without one: the trace of that board
@@ -31,4 +33,6 @@ module _ {S : Type 0} (f : Family S) where
 abbrev pub Continuation : Option Asked → ℕ → Outside → Outside → Type 0
 Continuation (Some (Load (IsaBoard level) script)) status old new =
     ContinuesBy isa IsSound level (scripted None old.shelf.held script) status old new
+Continuation (Some (Load (ClockBoard version) script)) status old new =
+    ContinuesBy clock IsSoundClock version (scripted None old.shelf.held script) status old new
 Continuation asked status old new = Unit {0}

@@ -10,7 +10,7 @@ use Rattle.vms_spec.specs.ValuesReading.{Values, values_read}
 use Rattle.vms_stream.specs.Streams.{Takes}
 use Rattle.vms_analyze.specs.Listing.{Lists, Text}
 use Rattle.vms_cli.specs.Answers.{HasOutcome, Answers}
-use Rattle.vms_cli.specs.Commands.{Asked, IsaBoard, Show, Analyze, Pack, Check, Counter, Save, Load, Drill, Play, asked_of}
+use Rattle.vms_cli.specs.Commands.{Asked, BoardWord, IsaBoard, Show, Analyze, Pack, Check, Counter, Save, Load, Drill, Play, asked_of, ClockBoard}
 use Rattle.vms_commands.specs.Outcomes.{Outcome, DoesOrStops, done, text_of, Outside}
 use Rattle.vms_commands.specs.Fetching.{longest_file, named_sets, word_set}
 use Rattle.vms_commands.specs.SetWords.{SetWord}
@@ -18,11 +18,15 @@ use Rattle.vms_commands.specs.Steps.{Gives, Both}
 use Rattle.vms_check.specs.Comparing.{Compatible}
 use Rattle.dev_board.specs.Saved.{MaySaveUnder}
 use Rattle.dev_board.specs.State.{State}
+use Rattle.dev_clock.specs.Saved.{MaySaveUnder as MaySaveClock}
+use Rattle.dev_clock.specs.State.{ClockState}
+use Rattle.vms_board.specs.Clock.{clock}
 use Rattle.vms_board.specs.Isa.{isa}
 use Rattle.vms_board.specs.Restoring.{Back, Restores}
 use Rattle.vms_script.specs.Lines.{ScriptLine}
 use Rattle.vms_script.specs.Script.{script_read}
-use Rattle.dev_base.specs.Levels.{IsLevel}
+use Rattle.dev_base.specs.Levels.{IsLevel, IsUpTo}
+use Rattle.vms_rtc.specs.declared.limits.TheConstants.{NEWEST_CLOCK}
 use Rattle.vms_session.specs.Laws.{HoldsAll}
 use Rattle.vms_board_commands.specs.Scripts.{longest_script}
 use Rattle.vms_cli.specs.Pack.{described_stream}
@@ -37,10 +41,20 @@ pub record HasOneOutcome (asked : Option Asked) (input : List ℕ) (held : Held)
   pub is : HasOutcome asked (Some input) (Some held) outcome
   pub only : (other : Outcome) → HasOutcome asked (Some input) (Some held) other → other ≡ outcome
 
--- what words can ask for: boards that there are, and sets of their kind at or above them
+-- a board that there is
+abbrev pub IsBoard : BoardWord → Type 0
+IsBoard (IsaBoard level) = IsLevel level
+IsBoard (ClockBoard version) = IsUpTo NEWEST_CLOCK version
+
+-- a set of its kind at or above it
+abbrev pub MaySaveOn : BoardWord → ℕ → Type 0
+MaySaveOn (IsaBoard level) set = MaySaveUnder level set
+MaySaveOn (ClockBoard version) set = MaySaveClock version set
+
+-- what words can ask for: such boards, and for `save` such a set
 abbrev pub CanBeAsked : Option Asked → Type 0
-CanBeAsked (Some (Save (IsaBoard level) set script)) = IsLevel level × MaySaveUnder level set
-CanBeAsked (Some (Load (IsaBoard level) script)) = IsLevel level
+CanBeAsked (Some (Save board set script)) = IsBoard board × MaySaveOn board set
+CanBeAsked (Some (Load board script)) = IsBoard board
 CanBeAsked (Some (Drill level seed count)) = IsLevel level
 CanBeAsked (Some (Play level script)) = IsLevel level
 CanBeAsked asked = Unit {0}
@@ -102,6 +116,9 @@ CanBeDone (Some (Save board set script)) input held = IsSomeAnd held (λ map. Ca
 CanBeDone (Some (Load (IsaBoard level) script)) input held =
     IsSomeAnd held (λ map. CanBeRead None script map) × IsSomeAnd input (λ bytes. (board : State) × (taken : ℕ)
     × Restores isa level bytes (Back board taken))
+CanBeDone (Some (Load (ClockBoard version) script)) input held =
+    IsSomeAnd held (λ map. CanBeRead None script map) × IsSomeAnd input (λ bytes. (board : ClockState) × (taken : ℕ)
+    × Restores clock version bytes (Back board taken))
 CanBeDone (Some (Play level script)) input held =
     IsSomeAnd held (λ map. GoesBy (Some (Play level script)) map × CanBeRead (Some level) script map)
 CanBeDone (Some (Drill level seed count)) input held = Unit {0}

@@ -4,6 +4,7 @@ pub mod Answers
 pub mod Asks
 pub mod Causes
 pub mod Check
+pub mod ClockSets
 pub mod Commands
 pub mod Continuation
 pub mod Counter

@@ -4,7 +4,7 @@ ghost use Rattle.std.specs.Option.{option_map};
 ghost use Rattle.vms_cli.specs.Asks.{board_asked};
 ghost use Rattle.vms_cli.specs.Commands.{board_word, few_events, isa_level, number_word};
 
-use crate::boards::{BoardWord, IsaBoard};
+use crate::boards::{BoardWord, ClockBoard, IsaBoard};
 use vms_script::number_of;
 
 /// The greatest number of events of a drill.
@@ -19,6 +19,8 @@ pub(crate) fn board_word(word: &str) -> Option<BoardWord>
         "isa-2" => Some(BoardWord::Isa(IsaBoard { level: 2 })),
         "isa-3" => Some(BoardWord::Isa(IsaBoard { level: 3 })),
         "isa-4" => Some(BoardWord::Isa(IsaBoard { level: 4 })),
+        "clk-1" => Some(BoardWord::Clock(ClockBoard { version: 1 })),
+        "clk-2" => Some(BoardWord::Clock(ClockBoard { version: 2 })),
         _ => None,
     }
 }
@@ -29,7 +31,7 @@ pub(crate) fn isa_board(word: &str) -> Option<IsaBoard>
 {
     match board_word(word) {
         Some(BoardWord::Isa(board)) => Some(board),
-        None => None,
+        Some(BoardWord::Clock(_)) | None => None,
     }
 }
 

@@ -1,5 +1,6 @@
-//! Each law is the contract of a function without a body. The statements stand in `specs/Laws.antt`, `specs/AnalyzeLaws.antt` and `specs/States.antt`.
+//! Each law is the contract of a function without a body. The statements stand in `specs/Laws.antt`, `specs/AnalyzeLaws.antt`, `specs/ClockSets.antt` and `specs/States.antt`.
 ghost use Rattle.vms_cli.specs.AnalyzeLaws.{PackThenAnalyzeLaw, SaveThenAnalyzeLaw, ShowThenAnalyzeLaw};
+ghost use Rattle.vms_cli.specs.ClockSets.{ClockSetsLaw};
 ghost use Rattle.vms_cli.specs.States.{AlwaysNamedLaw, StateLaw};
 ghost use Rattle.vms_cli.specs.Laws.{AskedLaw, CheckThenShowLaw, OutcomeLaw, CompleteLaw, AmpleLaw, PackThenShowLaw, ShowThenPackLaw, WordsLaw};
 
@@ -72,4 +73,10 @@ pub fn state_law()
 /// always there, and the old set's defaults are ready, `counter` prints them as a state that the new set refuses.
 pub fn always_named_law()
     ensures { AlwaysNamedLaw }
+{}
+
+/// Whatever the input and the shelf are, told or not, the outcome of `check @c1 @c2` is that the sets are compatible.
+#[tactic(auto, using(crate::proofs::ClockSets::clock_sets_hold))]
+pub fn clock_sets_law()
+    ensures { ClockSetsLaw }
 {}

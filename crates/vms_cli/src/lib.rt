@@ -6,6 +6,7 @@ mod board_words;
 mod boards;
 mod check;
 mod counter;
+mod kinds;
 pub mod laws;
 mod pack;
 mod show;

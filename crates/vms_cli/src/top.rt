@@ -8,15 +8,15 @@ ghost use Rattle.vms_cli.specs.Causes.{EndsCause};
 ghost use Rattle.vms_commands.specs.Outcomes.{Outcome};
 
 use crate::analyze::analyze_input;
-use crate::boards::{BoardWord, SavedBoard};
+use crate::boards::Loading;
 use crate::check::check;
 use crate::counter::counter;
+use crate::kinds::{load, save};
 use crate::pack::pack;
 use crate::show::show;
 use crate::{Command, Words};
 use std::alloc::Global;
-use vms_board::Devices;
-use vms_board_commands::{OnBoard, Saving, drill_board, load_board, play_board, save_board};
+use vms_board_commands::{OnBoard, drill_board, play_board};
 use vms_commands::Ending;
 use vms_io::{Shelf, Sink, Source, write_all_of};
 
@@ -110,30 +110,9 @@ fn run<I: Source, O: Sink, H: Shelf>(
         Some(Command::Pack { set, values }) => pack(alloc, set, values, out, shelf),
         Some(Command::Check { old, new }) => check(alloc, old, new, out, shelf),
         Some(Command::Counter { old, new }) => counter(alloc, old, new, out, shelf),
-        Some(
-            Command::Save {
-                board: SavedBoard::Isa(board),
-                script,
-            },
-        ) => {
-            let asked = Saving {
-                number: board.level,
-                set: board.set,
-                script,
-            };
-            save_board::<Devices, O, H>(alloc, asked, out, shelf)
-        }
-        Some(
-            Command::Load {
-                board: BoardWord::Isa(board),
-                script,
-            },
-        ) => {
-            let asked = OnBoard {
-                number: board.level,
-                script,
-            };
-            load_board::<Devices, I, O, H>(alloc, asked, input, out, shelf)
+        Some(Command::Save { board, script }) => save(alloc, board, script, out, shelf),
+        Some(Command::Load { board, script }) => {
+            load(alloc, Loading { board, script }, input, out, shelf)
         }
         Some(Command::Play { board, script }) => {
             let asked = OnBoard {

@@ -4,10 +4,11 @@ ghost use Rattle.std.specs.Str.{bytes_eq};
 ghost use Rattle.std.specs.Option.{option_map};
 ghost use Rattle.vms_commands.specs.SetWords.{set_word, shipped_word};
 ghost use Rattle.vms_cli.specs.Asks.{asked, board_asked};
-ghost use Rattle.vms_cli.specs.Commands.{Analyze, asked_of, board_word, check_of, counter_of, drill_of, few_events, isa_level, load_of, number_word, on_board, pack_of, pair_of, play_of, save_of, show_of, triple_of};
+ghost use Rattle.vms_cli.specs.Commands.{Analyze, asked_of, board_word, check_of, counter_of, drill_of, few_events, isa_level, load_of, number_word, on_board, pack_of, pair_of, play_of, save_of, show_of, triple_of, save_under, saved_set};
+ghost use Rattle.vms_commands.specs.Asks.{shipped_asked};
 
 use crate::board_words::{board_word, events_word, isa_board, number_word};
-use crate::boards::{BoardWord, IsaBoard, IsaSaved, SavedBoard};
+use crate::boards::{BoardWord, ClockSaved, IsaBoard, IsaSaved, SavedBoard};
 use std::alloc::Global;
 use std::marker::Model;
 use vms_commands::{SetWord, ShippedSet, set_word, shipped_set};
@@ -240,9 +241,27 @@ fn save_of<'a>(board: &str, set: &str, script: &'a str) -> Option<Command<'a>>
         ≡ save_of (on_board (board_word board.now) script.now) (shipped_word set.now) }
 {
     match (on_board(board, script), shipped_set(set)) {
-        (Some(BoardWord::Isa(board)), Some(ShippedSet::Isa(set))) if board.level <= set.number => {
+        (Some(board), Some(set)) => save_under(board, set, script),
+        _ => None,
+    }
+}
+
+// Saves a board under a set, where that is of the board's kind and at or above it.
+fn save_under<'a>(board: BoardWord, set: ShippedSet, script: &'a str) -> Option<Command<'a>>
+    ensures { option_map asked result ≡ save_under (board_asked board) script.now
+        (saved_set (board_asked board) (shipped_asked set)) }
+{
+    match (board, set) {
+        (BoardWord::Isa(board), ShippedSet::Isa(set)) if board.level <= set.number => {
             let board = SavedBoard::Isa(IsaSaved {
                 level: board.level,
+                set: set.number,
+            });
+            Some(Command::Save { board, script })
+        }
+        (BoardWord::Clock(board), ShippedSet::Clock(set)) if board.version <= set.number => {
+            let board = SavedBoard::Clock(ClockSaved {
+                version: board.version,
                 set: set.number,
             });
             Some(Command::Save { board, script })

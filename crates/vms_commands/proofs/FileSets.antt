@@ -7,11 +7,14 @@ use Rattle.serde_json.specs.Find.{get, as_array, as_number, as_u64}
 use Rattle.std.specs.Option.{option_and_then}
 use Rattle.vms_spec.specs.Sets.{Formula, Desc, Sub, Device, Set}
 use Rattle.vms_spec.specs.WellFormed.{SetFault, first_fault}
-use Rattle.vms_desc.specs.Formed.{shipped_set}
+use Rattle.vms_desc.proofs.Bounds.{none_is}
+use Rattle.vms_desc.proofs.ClockHeads.{clock_heads}
+use Rattle.vms_desc.proofs.Formed.{clock_formed}
+use Rattle.vms_desc.specs.Formed.{shipped_set, clock_set}
 use Rattle.vms_io.specs.Shelves.{Held}
 use Rattle.vms_spec.specs.Good.{IsFit}
 use Rattle.vms_spec.proofs.ShippedSets.{shipped_stands}
-use Rattle.vms_commands.specs.SetWords.{Isa, SetWord}
+use Rattle.vms_commands.specs.SetWords.{Isa, Clock, SetWord}
 use Rattle.vms_commands.specs.Fetching.{SetText, Number, Text, fetched_set, said_set, set_in, word_set}
 use Rattle.vms_commands.specs.Steps.{Step, Untold, Gives, Ends, next as after}
 use Rattle.vms_json.specs.Answers.{Answer, good, bad, under, next, changed, each_from, each_of, list_of}
@@ -274,8 +277,12 @@ fit_number (suc (suc zero)) = shipped_stands.2
 fit_number (suc (suc (suc zero))) = shipped_stands.3
 fit_number (suc (suc (suc (suc s)))) = shipped_stands.4
 
+fit_clock : (c : ℕ) → IsFit (clock_set c)
+fit_clock c = record { well = none_is (first_fault (clock_set c)) (clock_formed c); heads = clock_heads c }
+
 pub fit_text : (text : SetText) → FitStep (set_in text)
 fit_text (Number (Isa number)) = fit_number number
+fit_text (Number (Clock number)) = fit_clock number
 fit_text (Text name text) = fit_said name (file_said text) (file_fit text)
 
 fit_next : {A : Type 0} (s : Step A) (f : A → Step Set) → ((a : A) → FitStep (f a)) → FitStep (after s f)

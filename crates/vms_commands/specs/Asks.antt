@@ -3,10 +3,11 @@ use Rattle.vms_commands.specs.SetWords as words
 use Rattle.vms_commands.specs.declared.set_words.SetWord.{SetWord}
 use Rattle.vms_commands.specs.declared.set_words.SetWord.TheVariants.{Shipped, OnShelf}
 use Rattle.vms_commands.specs.declared.set_words.ShippedSet.{ShippedSet}
-use Rattle.vms_commands.specs.declared.set_words.ShippedSet.TheVariants.{Isa}
+use Rattle.vms_commands.specs.declared.set_words.ShippedSet.TheVariants.{Isa, Clock}
 
 abbrev pub shipped_asked : ShippedSet → words.ShippedSet
 shipped_asked (Isa set) = words.Isa set.number
+shipped_asked (Clock set) = words.Clock set.number
 
 abbrev pub set_asked : SetWord → words.SetWord
 set_asked (Shipped set) = words.Shipped (shipped_asked set)

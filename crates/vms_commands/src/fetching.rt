@@ -3,7 +3,8 @@ ghost use Rattle.std.specs.Prelude.{◌≡◌, ◌≤◌, true, false, IfOk, vec
 ghost use Rattle.vms_io.specs.Told.{stock};
 ghost use Rattle.vms_desc.specs.Described.{described};
 ghost use Rattle.vms_descfile.specs.Files.{file_said};
-ghost use Rattle.vms_commands.specs.Asks.{set_asked};
+ghost use Rattle.vms_commands.specs.Asks.{set_asked, shipped_asked};
+ghost use Rattle.vms_commands.specs.SetWords.{shipped};
 ghost use Rattle.vms_load.specs.Kept.{loads};
 ghost use Rattle.vms_commands.specs.Fetching.{fetched, fetched_set, is_on_shelf, is_text, said_set, set_in, word_set};
 ghost use Rattle.vms_commands.specs.StepEndings.{FetchCause, HadCause, IsBad, ReadCause, StepAs, WordCause, text_of};
@@ -94,11 +95,21 @@ pub fn read_fetched(alloc: Global, text: &SetText) -> Result<DescSet, Ending>
     ensures cause { ReadCause (is_text (text_of text.now)) result }
 {
     match text {
-        SetText::Shipped(ShippedSet::Isa(set)) => match DescSet::shipped(alloc, set.number) {
+        SetText::Shipped(set) => match make_shipped(alloc, *set) {
             Ok(set) => Ok(set),
             Err(_) => Err(Ending::NoMemory),
         },
         SetText::Text { name, text } => read_file(alloc, name, text),
+    }
+}
+
+// A shipped set. Fails only where memory is wanting.
+fn make_shipped(alloc: Global, set: ShippedSet) -> Result<DescSet, NoMemory>
+    ensures { IfOk result (λ made. described made ≡ shipped (shipped_asked set)) }
+{
+    match set {
+        ShippedSet::Isa(set) => DescSet::shipped(alloc, set.number),
+        ShippedSet::Clock(set) => DescSet::clock(alloc, set.number),
     }
 }
 
