@@ -1,12 +1,13 @@
 -- The texts of members and entries, piece by piece.
 use Rattle.std.proofs.Common.{◌≡◌, ℕ, true, List, [], ◌∷◌, ◌++◌, String, string_bytes, codes, decimal, append_assoc, append-nil, sym, ap, ◌∙◌}
+use Rattle.std.specs.Fmt.{digits}
 use Rattle.std.specs.declared.alloc.Global.{Global}
 use Rattle.json.specs.Print.{escape_byte, quoted}
 use Rattle.serde_json.specs.Data.{Data, string, object, Members, no_members, member}
 use Rattle.serde_json.specs.Written.{compact_text, members_text, comma_if}
 use Rattle.vms_kinds.specs.declared.Kind.{Kind}
 use Rattle.vms_kinds.specs.Codes.{width}
-use Rattle.vms_selfdesc.specs.Drafts.{IsPlain, IsSound, Extends, Puts, Adds, Begins, member_text, cell_tail}
+use Rattle.vms_selfdesc.specs.Drafts.{IsPlain, IsSound, Extends, Puts, Adds, Begins, member_text, cell_tail, absent_tail}
 use Rattle.vms_words.specs.Words.{kind_word}
 use Rattle.vms_selfdesc.specs.Tree.{natural}
 use Rattle.vms_selfdesc.specs.declared.draft.Draft.{Draft}
@@ -89,3 +90,12 @@ tail_text kind =
     let word = kind_word kind in
     ap (λ (s : List ℕ). codes "\",\"size\":" ++ (decimal (width kind) ++ (codes ",\"type\":" ++ s)))
     (sym (append_assoc (34 ∷ word) (34 ∷ []) (125 ∷ [])) ∙ ap (λ (q : List ℕ). q ++ 125 ∷ []) (quoted_plain word (plain_word kind)))
+
+pub absent_text : (kind : Kind) (d : Data) → absent_tail kind ++ (compact_text d ++ codes "}") ≡ 34 ∷ members_text true (size_members 0 (kind_word kind) (member (codes "value") d no_members))
+unfolding escape_byte digits
+absent_text kind d =
+    let word = kind_word kind in
+    let value = compact_text d ++ codes "}" in
+    let after = codes ",\"value\":" ++ value in
+    ap (λ (s : List ℕ). codes "\",\"size\":0,\"type\":\"" ++ s) (append_assoc word (codes "\",\"value\":") value)
+    ∙ ap (λ (s : List ℕ). codes "\",\"size\":0,\"type\":" ++ s) (sym (append_assoc (34 ∷ word) (34 ∷ []) after) ∙ ap (λ (q : List ℕ). q ++ after) (quoted_plain word (plain_word kind)))

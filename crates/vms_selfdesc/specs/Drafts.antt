@@ -46,11 +46,20 @@ after later (d ∷ ds) = true
 abbrev pub cell_tail : Kind → List ℕ
 cell_tail kind = codes "\",\"size\":" ++ (decimal (width kind) ++ (codes ",\"type\":\"" ++ (kind_word kind ++ codes "\"}")))
 
+-- what comes after the path of a cell that doesn't stand there, up to its default
+abbrev pub absent_tail : Kind → List ℕ
+absent_tail kind = codes "\",\"size\":0,\"type\":\"" ++ (kind_word kind ++ codes "\",\"value\":")
+
 -- ---- what a call adds
 
 -- the text has grown by these bytes
 abbrev pub Extends : String Global → String Global → List ℕ → Type 0
 Extends old new bytes = string_bytes new ≡ string_bytes old ++ bytes
+
+-- a tree
+pub record Spells (old new : String Global) (d : Data) : Type 0 where
+  pub text : Extends old new (compact_text d)
+  pub sound : IsSound d
 
 -- a member of an object
 pub record Puts (old new : String Global) (k : List ℕ) (d : Data) : Type 0 where

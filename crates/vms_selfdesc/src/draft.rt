@@ -3,10 +3,11 @@ ghost use Rattle.std.specs.Prelude.{◌≡◌, ◌++◌, true, pos, codes, int_l
 ghost use Rattle.serde_json.specs.Data.{string, boolean, number};
 ghost use Rattle.serde_json.specs.Find.{of_integer};
 ghost use Rattle.serde_json.specs.Written.{compact_text};
-ghost use Rattle.vms_selfdesc.specs.Drafts.{Begins, Extends, IsPlain, Puts};
+ghost use Rattle.vms_selfdesc.specs.Drafts.{Begins, Extends, IsPlain, Puts, Spells};
 ghost use Rattle.vms_selfdesc.specs.Needs.{IsWide};
 ghost use Rattle.vms_selfdesc.specs.Tree.{natural};
 
+use itoa::Buffer;
 use std::alloc::AllocError;
 
 // The text so far, the path of the element that comes next, and whether one stands before it in its
@@ -66,27 +67,32 @@ pub(crate) fn put_natural(text: &mut String, key: &str, number: u64) -> Result<(
     ensures { OnOk result (Puts text.old text.new key.now (natural number)) }
 {
     put_key(text, key)?;
-    write!(text, "{number}")
+    put_digits(text, number)
+}
+
+fn put_digits(text: &mut String, number: u64) -> Result<(), AllocError>
+    ensures { OnOk result (Spells text.old text.new (natural number)) }
+{
+    let mut digits = Buffer::new();
+    text.push_str(digits.format(number))
 }
 
 // A number of 64 bits, with or without a sign.
-pub(crate) fn put_integer(text: &mut String, key: &str, value: i128) -> Result<(), AllocError>
-    requires key { IsPlain key.now }
-    requires wide { IsWide value }
-    ensures { OnOk result (Puts text.old text.new key.now (number (of_integer value))) }
+pub(crate) fn put_integer(text: &mut String, value: i128) -> Result<(), AllocError>
+    requires { IsWide value }
+    ensures { OnOk result (Spells text.old text.new (number (of_integer value))) }
 {
     if value < 0 {
-        put_negative(text, key, value as i64)
+        put_negative(text, value as i64)
     } else {
-        put_natural(text, key, value as u64)
+        put_digits(text, value as u64)
     }
 }
 
-fn put_negative(text: &mut String, key: &str, value: i64) -> Result<(), AllocError>
-    requires key { IsPlain key.now }
-    requires negative { int_lt value (pos 0) ≡ true }
-    ensures { OnOk result (Puts text.old text.new key.now (number (of_integer value))) }
+fn put_negative(text: &mut String, value: i64) -> Result<(), AllocError>
+    requires { int_lt value (pos 0) ≡ true }
+    ensures { OnOk result (Spells text.old text.new (number (of_integer value))) }
 {
-    put_key(text, key)?;
-    write!(text, "{value}")
+    let mut digits = Buffer::new();
+    text.push_str(digits.format(value))
 }

@@ -1,15 +1,14 @@
 // The entries of elements.
-ghost use Rattle.std.specs.Prelude.{◌≡◌, [], ◌∷◌, ◌++◌, true, pos, codes, OnOk, string_bytes};
+ghost use Rattle.std.specs.Prelude.{◌≡◌, [], ◌∷◌, ◌++◌, true, false, pos, codes, OnOk, string_bytes};
 ghost use Rattle.serde_json.specs.Written.{comma_if};
-ghost use Rattle.vms_selfdesc.specs.Drafts.{Begins, IsPlain, PutsSize, cell_tail};
-ghost use Rattle.vms_selfdesc.specs.Entries.{cell_entry, sent_entry, absent_entry};
+ghost use Rattle.vms_selfdesc.specs.Drafts.{Begins, IsPlain, PutsSize, cell_tail, absent_tail};
+ghost use Rattle.vms_selfdesc.specs.Entries.{cell_entry, sent_entry};
 ghost use Rattle.vms_selfdesc.specs.Listing.{Lists};
 ghost use Rattle.vms_selfdesc.specs.Needs.{IsWide};
 
 use crate::draft::{Draft, put_integer, put_natural, put_text};
 use std::alloc::AllocError;
 use vms_kinds::Kind;
-use vms_words::kind_word;
 
 // What comes after the path of a cell that stands in the stream.
 fn cell_tail(kind: Kind) -> &'static str
@@ -26,6 +25,24 @@ fn cell_tail(kind: Kind) -> &'static str
         Kind::I64 => "\",\"size\":8,\"type\":\"i64\"}",
         Kind::Bool => "\",\"size\":1,\"type\":\"bool\"}",
         Kind::Timer => "\",\"size\":8,\"type\":\"timer\"}",
+    }
+}
+
+// What comes after the path of a cell that doesn't stand there, up to its default.
+fn absent_tail(kind: Kind) -> &'static str
+    ensures { result.now ≡ absent_tail kind }
+{
+    match kind {
+        Kind::U8 => "\",\"size\":0,\"type\":\"u8\",\"value\":",
+        Kind::U16 => "\",\"size\":0,\"type\":\"u16\",\"value\":",
+        Kind::U32 => "\",\"size\":0,\"type\":\"u32\",\"value\":",
+        Kind::U64 => "\",\"size\":0,\"type\":\"u64\",\"value\":",
+        Kind::I8 => "\",\"size\":0,\"type\":\"i8\",\"value\":",
+        Kind::I16 => "\",\"size\":0,\"type\":\"i16\",\"value\":",
+        Kind::I32 => "\",\"size\":0,\"type\":\"i32\",\"value\":",
+        Kind::I64 => "\",\"size\":0,\"type\":\"i64\",\"value\":",
+        Kind::Bool => "\",\"size\":0,\"type\":\"bool\",\"value\":",
+        Kind::Timer => "\",\"size\":0,\"type\":\"timer\",\"value\":",
     }
 }
 
@@ -87,18 +104,17 @@ pub(crate) fn write_sent(draft: &mut Draft, size: u64, word: &str) -> Result<(),
     Ok(())
 }
 
-fn write_absent(draft: &mut Draft, word: &str, default: i128) -> Result<(), AllocError>
+// A cell that doesn't stand there, and holds its default.
+fn write_absent(draft: &mut Draft, kind: Kind, default: i128) -> Result<(), AllocError>
     requires path { IsPlain (string_bytes draft.old.path) }
-    requires word { IsPlain word.now }
     requires wide { IsWide default }
-    ensures { let entry = absent_entry (string_bytes draft.old.path) word.now default in
+    ensures { let entry = cell_entry false (string_bytes draft.old.path) kind default in
         OnOk result (Lists draft.old draft.new (entry ∷ [])) }
 {
     begin_entry(draft)?;
     draft.text.push_str(draft.path.as_str())?;
-    draft.text.push_str("\"")?;
-    put_size(&mut draft.text, 0, word)?;
-    put_integer(&mut draft.text, "value", default)?;
+    draft.text.push_str(absent_tail(kind))?;
+    put_integer(&mut draft.text, default)?;
     draft.text.push_str("}")?;
     draft.later = true;
     Ok(())
@@ -119,6 +135,6 @@ pub(crate) fn write_cell(
     if sent {
         write_present(draft, kind)
     } else {
-        write_absent(draft, kind_word(kind), default)
+        write_absent(draft, kind, default)
     }
 }

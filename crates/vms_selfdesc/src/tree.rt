@@ -15,6 +15,9 @@ use vms_desc::DescSet;
 use vms_image::Image;
 use vms_io::NoMemory;
 
+// The room for a text at first, enough for that of a small board.
+const FIRST_ROOM: usize = 8192;
+
 /// The self-description of the stream of these images, one for each device in the set's order: JSON
 /// without blanks, each object's keys in byte order. It says of each device what stands in its
 /// section, element by element with path, size in bytes and type, and the defaults of the cells that
@@ -27,8 +30,9 @@ pub fn describe(alloc: Global, set: &DescSet, images: &[Image]) -> Result<String
         IfOk result (λ s. read (string_bytes s) ≡ Some tree) }
     ensures short { IfOk result (λ s. length (string_bytes s) < longest_text) }
 {
+    let room = String::with_capacity(alloc, FIRST_ROOM)?;
     let mut draft = Draft {
-        text: String::new(alloc),
+        text: room,
         path: String::new(alloc),
         later: false,
     };

@@ -1,37 +1,33 @@
-use Rattle.std.proofs.Common.{ℤ, true, ◌++◌, codes, refl, string_bytes, ap, ◌∙◌, sym, subst}
+use Rattle.std.proofs.Common.{ℤ, true, ◌++◌, codes, refl, string_bytes, ap, ◌∙◌, subst}
 use Rattle.std.specs.Int.{w128}
 use Rattle.std.proofs.Math.Facts.{to_z-of_z}
 use Rattle.serde_json.specs.Data.{number, no_members, member}
 use Rattle.serde_json.specs.Find.{of_integer}
 use Rattle.serde_json.specs.Written.{members_text}
-use Rattle.vms_selfdesc.specs.Drafts.{Puts}
+use Rattle.vms_words.specs.Words.{kind_word}
+use Rattle.vms_selfdesc.specs.Drafts.{Spells}
 use Rattle.vms_selfdesc.specs.Entries.{absent_entry}
 use Rattle.vms_selfdesc.specs.Tree.{entry_tree}
 use Rattle.vms_selfdesc.specs.declared.draft.Draft.{Draft}
 use Rattle.vms_selfdesc.proofs.Following.{further}
-use Rattle.vms_selfdesc.proofs.Keys.{plain_value}
-use Rattle.vms_selfdesc.proofs.MemberTexts.{entry_adds, size_members, size_text, member_last}
+use Rattle.vms_selfdesc.proofs.MemberTexts.{entry_adds, size_members, absent_text}
 use Rattle.vms_selfdesc.proofs.ReadBack.{absent_sound}
 use Rattle.vms_selfdesc.proofs.entry.write_absent.Goals as goal
-
-pub put_integer-requires-clause-key : goal.put_integer-requires-clause-key
-put_integer-requires-clause-key c = plain_value
 
 pub returns : goal.returns
 returns c =
     let a = c.args.draft.now in
     let b = c.begin_entry.new.draft in
     let path = string_bytes a.path in
-    let type = c.args.word.now in
+    let type = kind_word c.args.kind in
     let value = number (of_integer c.args.default) in
     let last = member (codes "value") value no_members in
     let mid : Draft = record { text = c.push_str.new.self; path = b.path; later = b.later } in
     let end : Draft = record { text = c.push_str-3.new.self; path = b.path; later = true } in
-    let put = subst (λ (z : ℤ). Puts c.put_size.new.text c.put_integer.new.text (codes "value") (number (of_integer z))) (to_z-of_z {w = w128} c.ranges.default) c.in_ok-put_integer.ensures in
-    let rest = further c.put_size.new.text c.put_integer.new.text end.text _ _ put.text c.in_ok-push_str-3.ensures.bytes
-    ∙ ap (λ s. string_bytes c.put_size.new.text ++ s) (sym (member_last (codes "value") value no_members (codes "}") refl)) in
-    let tail = further c.push_str-2.new.self c.put_size.new.text end.text _ _ c.in_ok-put_size.ensures.text rest in
+    let put = subst (λ (z : ℤ). Spells c.push_str-2.new.self c.put_integer.new.text (number (of_integer z))) (to_z-of_z {w = w128} c.ranges.default) c.in_ok-put_integer.ensures in
+    let rest = further c.push_str-2.new.self c.put_integer.new.text end.text _ _ put.text c.in_ok-push_str-3.ensures.bytes in
+    let tail = further mid.text c.push_str-2.new.self end.text _ _ (c.in_ok-push_str-2.ensures.bytes ∙ ap (λ s. string_bytes mid.text ++ s) c.absent_tail.ensures) rest in
     entry_adds a b mid end (entry_tree (absent_entry path type c.args.default)) 0 type last (members_text true (size_members 0 type last)) c.requires.path c.in_ok-begin_entry.ensures
     (c.in_ok-push_str.ensures.bytes ∙ ap (λ s. string_bytes b.text ++ s) c.as_str.ensures.value)
-    (further mid.text c.push_str-2.new.self end.text _ _ c.in_ok-push_str-2.ensures.bytes (tail ∙ ap (λ s. string_bytes c.push_str-2.new.self ++ s) (size_text 0 type last (members_text true last) refl)))
+    (tail ∙ ap (λ s. string_bytes mid.text ++ s) (absent_text c.args.kind value))
     refl refl (absent_sound path type c.args.default put.sound) refl c.in_ok-begin_entry.ensures.keeps.path

@@ -15,7 +15,7 @@ use Rattle.vms_selfdesc.proofs.tree.describe.Goals as goal
 pub returns-clause-text : goal.returns-clause-text
 returns-clause-text c =
     let tree = described_tree (described c.args.set.now) (map state_of c.args.images.now) in
-    c.in_ok-write_tree.ensures.text ∙ ap (λ s. s ++ compact_text tree) c.new.ensures.bytes
+    c.in_ok-write_tree.ensures.text ∙ ap (λ s. s ++ compact_text tree) c.in_ok-room.ensures.bytes
 
 pub returns-clause-reads : goal.returns-clause-reads
 returns-clause-reads c =

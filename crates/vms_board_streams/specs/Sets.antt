@@ -1,0 +1,15 @@
+-- Sets that are kept with their numbers.
+use Rattle.std.specs.Prelude.{◌≡◌}
+use Rattle.std.specs.List.{All}
+use Rattle.vms_board.specs.Family.{Family}
+use Rattle.vms_desc.specs.Described.{described}
+use Rattle.vms_board_streams.specs.declared.sets.KeptSet.{KeptSet}
+use Rattle.vms_board_streams.specs.declared.sets.KeptSets.{KeptSets}
+
+-- a set is that of its number in a family
+abbrev pub IsOf : {S : Type 0} → Family S → KeptSet → Type 0
+IsOf f kept = described kept.set ≡ f.set kept.number
+
+-- each is
+abbrev pub AreOf : {S : Type 0} → Family S → KeptSets → Type 0
+AreOf f kept = All (IsOf f) kept.sets.items

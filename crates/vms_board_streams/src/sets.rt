@@ -1,0 +1,84 @@
+// The sets of a family that saves went by, kept for those that follow.
+ghost use Rattle.std.specs.Prelude.{◌≡◌, ◌<◌, ◌≤◌, length, IfOk, IfSome};
+ghost use Rattle.vms_board.specs.Family.{MaySaveIn};
+ghost use Rattle.vms_board.specs.Saving.{saved_stream};
+ghost use Rattle.vms_board_streams.specs.Sets.{AreOf, IsOf};
+ghost use Rattle.vms_desc.specs.Described.{described};
+
+use crate::memory::{stream_of, stream_under};
+use std::alloc::Global;
+use vms_board::{Machine, MachineBoard, NoMemory};
+use vms_desc::DescSet;
+
+/// A set and its number.
+#[derive(Drop)]
+struct KeptSet {
+    number: u8,
+    set: DescSet,
+}
+
+/// The sets that saves went by, each made once. They are those of one family.
+#[derive(Drop)]
+pub struct KeptSets {
+    sets: Vec<KeptSet>,
+}
+
+impl KeptSets {
+    /// No sets.
+    pub fn new<M: Machine>(alloc: Global) -> KeptSets
+        ensures { AreOf M.family result }
+    {
+        KeptSets {
+            sets: Vec::new(alloc),
+        }
+    }
+
+    // The set of a number, if it is kept.
+    fn find<M: Machine>(&self, number: u8) -> Option<&DescSet>
+        requires { AreOf M.family self.now }
+        ensures { IfSome result (λ set. described set.now ≡ M.family.set number) }
+    {
+        for kept in &self.sets {
+            if kept.number == number {
+                return Some(&kept.set);
+            }
+        }
+        None
+    }
+
+    // Keeps the set of a number.
+    fn keep<M: Machine>(&mut self, number: u8, set: DescSet) -> Result<(), NoMemory>
+        requires of { AreOf M.family self.old }
+        requires set { described set ≡ M.family.set number }
+        ensures { AreOf M.family self.new }
+    {
+        self.sets.push(KeptSet { number, set })?;
+        Ok(())
+    }
+}
+
+/// The stream of a board as `stream_of` makes it, by a kept set, or by one that is kept from then on.
+pub fn stream_by<M: Machine>(
+    alloc: Global,
+    board: &MachineBoard<M>,
+    set: u8,
+    sets: &mut KeptSets,
+) -> Result<Vec<u8>, NoMemory>
+    requires may { MaySaveIn M.family board.now.state set }
+    requires short { length (saved_stream M.family set board.now.state) < 65536 }
+    requires sets { AreOf M.family sets.old }
+    ensures stream { let bytes = saved_stream M.family set board.now.state in
+        IfOk result (λ stream. stream.items ≡ bytes) }
+    ensures sets { AreOf M.family sets.new }
+{
+    if set == M::newest() {
+        return stream_of(alloc, board, set);
+    }
+    if let Some(own) = sets.find::<M>(set) {
+        return stream_under(alloc, board, set, own);
+    }
+    let own = M::set(alloc, set)?;
+    let stream = stream_under(alloc, board, set, &own)?;
+    sets.keep::<M>(set, own)?;
+    Ok(stream)
+}
