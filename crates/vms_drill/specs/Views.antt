@@ -1,6 +1,8 @@
 -- What contracts see of a drill in its course and of its summary.
 use Rattle.std.specs.Prelude.{◌*◌, ◌≤◌}
 use Rattle.dev_board.specs.Sound.{IsSound}
+use Rattle.vms_board.specs.Isa.{isa}
+use Rattle.vms_board_streams.specs.Sets.{AreOf}
 use Rattle.vms_drill.specs.Tallies.{tally_view}
 use Rattle.vms_drill.specs.Drill.{Drill, Summary}
 use Rattle.vms_drill.specs.declared.course.Course.{Course}
@@ -13,9 +15,10 @@ course_view c = record {
   taken = c.board.taken;
 }
 
--- its board is sound, and no count is greater than so many events can make it
+-- its board is sound, its sets are a board's, and no count is greater than so many events can make it
 pub record IsInCourse (c : Course) : Type 0 where
   pub sound : IsSound c.board.state
+  pub sets : AreOf isa c.sets
   pub sent : c.tally.sent ≤ 17 * c.done
   pub raised : c.tally.raised ≤ c.done
   pub bytes : c.bytes ≤ 65536 * c.done

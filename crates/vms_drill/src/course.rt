@@ -8,13 +8,16 @@ use crate::fold::{Drilled, Summary};
 use crate::round::come_back;
 use crate::{BETWEEN_SAVES, Events, Tally, is_save_due};
 use std::alloc::Global;
-use vms_board::Board;
+use vms_board::{Board, Devices};
+use vms_board_streams::KeptSets;
 use vms_io::NoMemory;
 
 /// A drill after some of its events.
 #[derive(Drop)]
 pub(crate) struct Course {
     board: Board,
+    /// The sets that its streams went by.
+    sets: KeptSets,
     events: Events,
     tally: Tally,
     /// How many events there were.
@@ -32,6 +35,7 @@ impl Course {
     {
         Ok(Course {
             board: Board::new(alloc, level)?,
+            sets: KeptSets::new::<Devices>(alloc),
             events: Events::new(seed),
             tally: Tally::new(),
             done: 0,
@@ -52,7 +56,8 @@ impl Course {
         self.tally.count(&answer);
         self.done += 1;
         if is_save_due(self.done) {
-            self.bytes += come_back(alloc, &mut self.board, self.done / BETWEEN_SAVES - 1)?;
+            let saves = self.done / BETWEEN_SAVES - 1;
+            self.bytes += come_back(alloc, &mut self.board, &mut self.sets, saves)?;
         }
         Ok(())
     }

@@ -4,16 +4,23 @@ ghost use Rattle.dev_board.specs.Sound.{IsSound};
 ghost use Rattle.vms_drill.specs.Fold.{came_back, set_of};
 ghost use Rattle.vms_board.specs.Isa.{isa};
 ghost use Rattle.vms_board.specs.Saving.{saved_stream};
+ghost use Rattle.vms_board_streams.specs.Sets.{AreOf};
 
 use crate::set_of;
 use std::alloc::Global;
 use vms_board::Board;
-use vms_board_streams::{restore_from, stream_of};
+use vms_board_streams::{KeptSets, restore_from, stream_by};
 use vms_io::NoMemory;
 
 /// Makes a board, saved so many times before, the one that its stream restores; answers the stream's length.
-pub(crate) fn come_back(alloc: Global, board: &mut Board, saves: u32) -> Result<u64, NoMemory>
-    requires { IsSound board.old.state }
+pub(crate) fn come_back(
+    alloc: Global,
+    board: &mut Board,
+    sets: &mut KeptSets,
+    saves: u32,
+) -> Result<u64, NoMemory>
+    requires sound { IsSound board.old.state }
+    requires sets { AreOf isa sets.old }
     ensures state { let set = set_of board.old.state.level saves in
         OnOk result (board.new.state ≡ came_back set board.old.state) }
     ensures long { let set = set_of board.old.state.level saves in
@@ -21,8 +28,9 @@ pub(crate) fn come_back(alloc: Global, board: &mut Board, saves: u32) -> Result<
     ensures taken { IfOk result (λ n. board.new.taken ≡ n) }
     ensures short { IfOk result (λ n. n < 65536) }
     ensures sound { IsSound board.new.state }
+    ensures sets { AreOf isa sets.new }
 {
-    let stream = stream_of(alloc, board, set_of(board.level(), saves))?;
+    let stream = stream_by(alloc, board, set_of(board.level(), saves), sets)?;
     let long = stream.len() as u64;
     match restore_from(alloc, board, stream) {
         Ok(()) => Ok(long),

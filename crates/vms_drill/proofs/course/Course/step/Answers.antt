@@ -4,8 +4,8 @@ use Rattle.vms_drill.specs.Views.{course_view}
 use Rattle.vms_drill.proofs.StepLemmas.{some_saves, goes_saved, goes_unsaved}
 use Rattle.vms_drill.proofs.course.Course.step.Goals as goal
 
-pub overflow_sub-self : goal.overflow_sub-self
-overflow_sub-self c = some_saves c.args.self.now.done (sym c.is_save_due.ensures ∙ c.if-is_save_due.true)
+pub overflow_sub-saves : goal.overflow_sub-saves
+overflow_sub-saves c = some_saves c.args.self.now.done (sym c.is_save_due.ensures ∙ c.if-is_save_due.true)
 
 pub returns-in_ok-self-clause-view : goal.returns-in_ok-self-clause-view
 returns-in_ok-self-clause-view c =
