@@ -3,6 +3,8 @@ pub mod BackVersions
 pub mod Converts
 pub mod ImageOf
 pub mod Known
+pub mod MayGive
+pub mod MayTake
 pub mod NeededSame
 pub mod OneBack
 pub mod OneLost

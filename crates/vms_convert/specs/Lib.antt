@@ -1,6 +1,10 @@
 pub mod Back
+pub mod Changes
 pub mod Converted
+pub mod Giving
 pub mod Laws
 pub mod Lost
 pub mod Partnering
+pub mod Putting
 pub mod Recast
+pub mod Takes

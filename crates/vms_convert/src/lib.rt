@@ -1,7 +1,9 @@
 //! Streams of the newest set, written under an older one.
 #![tactic(auto)]
 
+mod giving;
 pub mod laws;
 mod pairing;
+mod taking;
 
 pub use pairing::partners;
