@@ -1,8 +1,11 @@
 pub mod BackNormal
 pub mod BackVersions
+pub mod BringLaws
 pub mod Converts
+pub mod FirstParts
 pub mod ImageOf
 pub mod Known
+pub mod MarkedAll
 pub mod MayGive
 pub mod MayTake
 pub mod NeededSame
@@ -10,5 +13,9 @@ pub mod OneBack
 pub mod OneLost
 pub mod PartnerLaws
 pub mod PartnerSteps
+pub mod PutAt
+pub mod PutDefaults
 pub mod RecastOf
 pub mod Rows
+pub mod SettledAll
+pub mod TakenAll

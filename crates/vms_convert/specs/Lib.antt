@@ -1,4 +1,5 @@
 pub mod Back
+pub mod Bringing
 pub mod Changes
 pub mod Converted
 pub mod Giving

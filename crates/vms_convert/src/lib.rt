@@ -1,6 +1,7 @@
 //! Streams of the newest set, written under an older one.
 #![tactic(auto)]
 
+mod back;
 mod giving;
 pub mod laws;
 mod pairing;
