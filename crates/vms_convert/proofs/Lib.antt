@@ -3,6 +3,8 @@ pub mod BackVersions
 pub mod BringLaws
 pub mod Converts
 pub mod FirstParts
+pub mod GiveLaws
+pub mod GivenAll
 pub mod ImageOf
 pub mod Known
 pub mod MarkedAll
@@ -16,6 +18,7 @@ pub mod PartnerSteps
 pub mod PutAt
 pub mod PutDefaults
 pub mod RecastOf
+pub mod ReturnedLaws
 pub mod Rows
 pub mod SettledAll
 pub mod TakenAll

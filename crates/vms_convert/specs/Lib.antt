@@ -8,4 +8,5 @@ pub mod Lost
 pub mod Partnering
 pub mod Putting
 pub mod Recast
+pub mod Returning
 pub mod Takes

@@ -2,9 +2,11 @@
 #![tactic(auto)]
 
 mod back;
+mod carrying;
 mod giving;
 pub mod laws;
 mod pairing;
+mod returning;
 mod taking;
 
 pub use pairing::partners;
