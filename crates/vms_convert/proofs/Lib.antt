@@ -17,6 +17,7 @@ pub mod PartnerLaws
 pub mod PartnerSteps
 pub mod PutAt
 pub mod PutDefaults
+pub mod PutFront
 pub mod RecastOf
 pub mod ReturnedLaws
 pub mod Rows

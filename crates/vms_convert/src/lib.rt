@@ -6,6 +6,7 @@ mod carrying;
 mod giving;
 pub mod laws;
 mod pairing;
+mod recasting;
 mod returning;
 mod taking;
 
