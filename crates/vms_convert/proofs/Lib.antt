@@ -5,6 +5,7 @@ pub mod Converts
 pub mod FirstParts
 pub mod GiveLaws
 pub mod GivenAll
+pub mod HasBack
 pub mod ImageOf
 pub mod Known
 pub mod MarkedAll
