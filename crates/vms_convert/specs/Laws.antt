@@ -21,6 +21,14 @@ abbrev pub OneBackLaw : Type 0
 OneBackLaw = (to : Set) → IsFit to → (i : ℕ) (d : Device) → slice_get to.devices i ≡ Some d → (partners : List (Option ℕ)) (numbers : List ℤ) (x y : Image)
     → IsBack to d partners numbers x → IsBack to d partners numbers y → y ≡ x
 
+-- and one does
+pub record ComesBack (to : Set) (d : Device) (partners : List (Option ℕ)) (numbers : List ℤ) : Type 0 where
+  pub image : Image
+  pub is_back : IsBack to d partners numbers image
+
+abbrev pub ComesBackLaw : Type 0
+ComesBackLaw = (to : Set) → IsFit to → (i : ℕ) (d : Device) → slice_get to.devices i ≡ Some d → (partners : List (Option ℕ)) (numbers : List ℤ) → ComesBack to d partners numbers
+
 -- and it may be written, if it is valid
 pub record MayBeWritten (set : Set) (d : Device) (image : Image) : Type 0 where
   pub normal : IsNormal set d image

@@ -1,6 +1,12 @@
 pub mod Back
+pub mod Bringing
+pub mod Changes
 pub mod Converted
+pub mod Giving
 pub mod Laws
 pub mod Lost
 pub mod Partnering
+pub mod Putting
 pub mod Recast
+pub mod Returning
+pub mod Takes

@@ -16,8 +16,11 @@ abbrev pub has_rings : Device → Bool
 has_rings d = list_any is_ring d.subs
 
 -- the set has the port, and no rings for it
+abbrev pub wants : Device → Bool
+wants d = is_port d && not (has_rings d)
+
 abbrev pub wants_arrays : Set → Bool
-wants_arrays to = list_any (λ (d : Device). is_port d && not (has_rings d)) to.devices
+wants_arrays to = list_any wants to.devices
 
 -- the numbers of a device of the newest set
 abbrev pub recast : Set → Device → List ℤ → List ℤ

@@ -1,10 +1,16 @@
 //! Each law is the contract of a function without a body. The statements stand in `specs/Laws.antt`.
-ghost use Rattle.vms_convert.specs.Laws.{BackLaw, ConvertsLaw, OneBackLaw, OneLostLaw, RecastOfLaw};
+ghost use Rattle.vms_convert.specs.Laws.{BackLaw, ComesBackLaw, ConvertsLaw, OneBackLaw, OneLostLaw, RecastOfLaw};
 
 /// At most one image comes back of some numbers.
 #[tactic(auto)]
 pub fn one_back_law()
     ensures { OneBackLaw }
+{}
+
+/// And one does, whatever the numbers are.
+#[tactic(auto)]
+pub fn comes_back_law()
+    ensures { ComesBackLaw }
 {}
 
 /// What comes back is normal, at the set's version and with exactly the subsections that are needed.

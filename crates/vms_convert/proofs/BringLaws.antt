@@ -1,0 +1,157 @@
+-- The parts of a device, as the code goes over them by number.
+use Rattle.std.proofs.Common.{◌≡◌, ℕ, zero, suc, ◌+◌, ◌<◌, ◌≤◌, Bool, true, false, List, [], ◌∷◌, ◌++◌, length, length-append, get_or, map, Option, Some, None, ℤ, pos, refl, sym, ap, ◌∙◌, subst, arith}
+use Rattle.std.proofs.lemmas.List.{append-nil}
+use Rattle.std.proofs.lemmas.Option.{slice_get-get_or, get_or_from_slice_get}
+use Rattle.std.specs.List.{slice_get}
+use Rattle.vms_spec.specs.declared.Part.TheVariants as parts
+use Rattle.vms_spec.specs.Good.{IsGood}
+use Rattle.vms_spec.specs.Sets.{Sub, Device, Set}
+use Rattle.vms_spec.specs.Layout.{Slot, no_cell, device_cells}
+use Rattle.vms_spec.specs.Images.{own_cells, own_slots}
+use Rattle.vms_spec.specs.Streams.{is_needed}
+use Rattle.vms_spec.specs.WellFormed.{WellFormed}
+use Rattle.vms_bodies.proofs.FineLaws.{part_place}
+use Rattle.vms_bodies.proofs.PartLaws.{sub_size}
+use Rattle.vms_desc.specs.Asks.{first_cell, needed_at}
+use Rattle.vms_desc.specs.Described.{device_at}
+use Rattle.vms_desc.specs.Formed.{is_well_formed}
+use Rattle.vms_desc.specs.Parts.{sub_at}
+use Rattle.vms_desc.proofs.AskLaws.{few_cells, own_inside_device, sub_inside}
+use Rattle.vms_image.specs.Typed.{IsImageOf, Typed}
+use Rattle.dev_images.specs.Images.{bare, needed_from}
+use Rattle.vms_check_laws.specs.SubCells.{IsCellOf}
+use Rattle.vms_walk.specs.Steps.{HasSpot, spot_slots, steps_of}
+use Rattle.vms_convert.specs.Back.{AreTaken, AreSettled, whole}
+use Rattle.vms_convert.specs.Bringing.{ArePutAt, SettlesBy, SettlesSub, marked_by, part_of}
+use Rattle.vms_convert.specs.Changes.{changed}
+use Rattle.vms_convert.specs.Putting.{put_step}
+use Rattle.vms_convert.proofs.FirstParts.{all_came, first_slots}
+use Rattle.vms_convert.proofs.MarkedAll.{MarkedTo, all_marked, marked_next, marked_none, marked_skip}
+use Rattle.vms_convert.proofs.SettledAll.{AreBare, SettledTo, all_settled, settled_bare, settled_needed}
+use Rattle.vms_convert.proofs.TakenAll.{all_taken, taken_next}
+
+module _ (set : Set) (i : ℕ) (lt : i < length set.devices) where
+  abbrev d : Device
+  d = device_at set i
+
+  pub there : slice_get set.devices i ≡ Some (device_at set i)
+  there = slice_get-get_or set.devices i _ lt
+
+  abbrev pub sub_of_number : ℕ → Sub
+  sub_of_number j = sub_at (device_at set i) j
+
+  pub sub_there : (j : ℕ) → j < length (device_at set i).subs → slice_get (device_at set i).subs j ≡ Some (sub_at (device_at set i) j)
+  sub_there j less = slice_get-get_or (device_at set i).subs j _ less
+
+  module _ (well : is_well_formed set ≡ true) (n : List ℤ) (long : length n ≡ length (device_cells set (device_at set i))) where
+    pub own_spot : HasSpot set (part_of set (parts.Device i)) n
+    own_spot = record {
+      part = lt;
+      few = omega (arith, long, few_cells set well i);
+      room = omega (arith, long, own_inside_device set i);
+    }
+
+    pub sub_spot : (j : ℕ) → j < length (device_at set i).subs → HasSpot set (part_of set (parts.Sub i j)) n
+    sub_spot j less = record {
+      part = (lt, less);
+      few = omega (arith, long, few_cells set well i);
+      room = omega (arith, long, sub_inside set i j less);
+    }
+
+  -- ---- what is taken, part by part
+
+  module _ (good : IsGood set) (partners : List (Option ℕ)) (source : List ℤ) where
+    abbrev defaults : List ℤ
+    defaults = map (λ c. c.default) (device_cells set d)
+
+    abbrev puts : List Slot → List ℤ → List ℤ
+    puts slots now = changed (put_step partners source) (steps_of slots) now
+
+    abbrev pub TookTo : ℕ → List ℤ → Type 0
+    TookTo j n = n ≡ changed (put_step partners source) (steps_of (first_slots set (device_at set i) (all_came (device_at set i).subs) j n)) (map (λ c. c.default) (device_cells set (device_at set i)))
+
+    pub took_own : (n : List ℤ) → n ≡ puts (spot_slots set (part_of set (parts.Device i)) n) defaults → TookTo 0 n
+    took_own n e = e ∙ sym (ap (λ (l : List Slot). puts l defaults) (append-nil (own_slots set d d.desc.version n)))
+
+    pub took_sub : (n m : List ℤ) (j : ℕ) → j < length d.subs → TookTo j n → m ≡ puts (spot_slots set (part_of set (parts.Sub i j)) m) n → TookTo (j + 1) m
+    took_sub n m j less first more =
+        let s : suc j ≡ j + 1 = omega arith in
+        subst (λ (k : ℕ). TookTo k m) s
+        (taken_next set good.structs d (good.devices i d there) (λ k s e. good.subs i k d s there e) partners source defaults n m j (sub_at d j) (sub_there j less) first more)
+
+    pub took_all : (n : List ℤ) (j : ℕ) → length d.subs ≤ j → j ≤ length d.subs → TookTo j n → length n ≡ length (device_cells set d) → AreTaken set d partners source n
+    took_all n j end within first long =
+        let same : j ≡ length d.subs = omega (arith, end, within) in
+        all_taken set good.structs d (good.devices i d there) (λ k s e. good.subs i k d s there e) partners source n j same first long
+
+  -- ---- what is settled
+
+  module _ (well : WellFormed set) (before : List ℤ) where
+    abbrev pub SettledUp : ℕ → List ℤ → Type 0
+    SettledUp j n = SettledTo set (device_at set i) j before n
+
+    pub settle_needed : (n : List ℤ) (j : ℕ) → j < length d.subs → SettledUp j n → needed_at set i j n ≡ true → SettledUp (j + 1) n
+    settle_needed n j less h needed =
+        let s : suc j ≡ j + 1 = omega arith in
+        subst (λ (k : ℕ). SettledUp k n) s (settled_needed set well i d there before n j (sub_at d j) (sub_there j less) h needed)
+
+    bare_of : (n m : List ℤ) (j : ℕ) → ArePutAt set i j n m → AreBare set d j (sub_at d j) n m
+    bare_of n m j p = record {
+      long = p.long;
+      inside = λ c h. p.inside c h.low h.high;
+      below = p.below;
+      above = p.above;
+    }
+
+    pub settle_bare : (n m : List ℤ) (j : ℕ) → j < length d.subs → SettledUp j n → needed_at set i j n ≡ false → ArePutAt set i j n m → SettledUp (j + 1) m
+    settle_bare n m j less h not p =
+        let s : suc j ≡ j + 1 = omega arith in
+        subst (λ (k : ℕ). SettledUp k m) s (settled_bare set well i d there before n m j (sub_at d j) (sub_there j less) h not (bare_of n m j p))
+
+    pub settle_all : (n : List ℤ) (j : ℕ) → length d.subs ≤ j → j ≤ length d.subs → SettledUp j n → AreSettled set d before n
+    settle_all n j end within h = let same : j ≡ length d.subs = omega (arith, end, within) in all_settled set well i d there before n j same h
+
+    pub settle_one : (a b : Typed) (j : ℕ) → j < length d.subs → SettledUp j a.numbers → SettlesSub set i j a b → SettledUp (j + 1) b.numbers
+    settle_one a b j less h s = go (needed_at set i j a.numbers) refl s where
+      go : (t : Bool) → needed_at set i j a.numbers ≡ t → SettlesBy t set i j a b → SettledUp (j + 1) b.numbers
+      go true e s = subst (λ (x : Typed). SettledUp (j + 1) x.numbers) (sym s) (settle_needed a.numbers j less h e)
+      go false e s = settle_bare a.numbers b.numbers j less h e s.0
+
+  pub settle_rest : (a b : Typed) (j : ℕ) → SettlesSub set i j a b → b ≡ record a { numbers = b.numbers }
+  settle_rest a b j s = go (needed_at set i j a.numbers) s where
+    go : (t : Bool) → SettlesBy t set i j a b → b ≡ record a { numbers = b.numbers }
+    go true s = s ∙ ap (λ (x : Typed). record a { numbers = x.numbers }) (sym s)
+    go false s = s.1
+
+  -- ---- what is marked
+
+  module _ (numbers : List ℤ) where
+    abbrev pub MarkedUp : ℕ → List (Option ℕ) → Type 0
+    MarkedUp j came = MarkedTo set (device_at set i) (bare (device_at set i) numbers) (device_at set i).subs j came
+
+    pub mark_one : (came : List (Option ℕ)) (j : ℕ) → j < length d.subs → MarkedUp j came → MarkedUp (j + 1) (marked_by (needed_at set i j numbers) set i j came)
+    mark_one came j less h =
+        let s : suc j ≡ j + 1 = omega arith in
+        subst (λ (k : ℕ). MarkedUp k (marked_by (needed_at set i j numbers) set i j came)) s (go (needed_at set i j numbers) refl)
+      where
+        go : (t : Bool) → needed_at set i j numbers ≡ t → MarkedUp (suc j) (marked_by t set i j came)
+        go true e = marked_next set d (bare d numbers) d.subs came j (sub_at d j) (sub_there j less) h e
+        go false e = marked_skip set d (bare d numbers) d.subs came j (sub_at d j) (sub_there j less) h e
+
+    pub mark_none : MarkedUp 0 (map (λ s. None) d.subs)
+    mark_none = marked_none set d (bare d numbers) d.subs
+
+    pub mark_all : (came : List (Option ℕ)) (j : ℕ) → length d.subs ≤ j → j ≤ length d.subs → MarkedUp j came → came ≡ needed_from set d (bare d numbers) 0 d.subs
+    mark_all came j end within h = let same : j ≡ length d.subs = omega (arith, end, within) in all_marked set d (bare d numbers) d.subs came j same h
+
+-- ---- images that keep all but their numbers
+
+pub image_kept : (set : Set) (i : ℕ) (a b : Typed) → IsImageOf set i a → b ≡ record a { numbers = b.numbers } → length b.numbers ≡ length a.numbers → IsImageOf set i b
+image_kept set i a b of rest long = record {
+  subs = ap (λ (x : Typed). length x.came) rest ∙ of.subs;
+  cells = long ∙ of.cells;
+  kinds = ap (λ (x : Typed). x.kinds) rest ∙ of.kinds;
+}
+
+pub rest_more : (a b c : Typed) → b ≡ record a { numbers = b.numbers } → c ≡ record b { numbers = c.numbers } → c ≡ record a { numbers = c.numbers }
+rest_more a b c e f = f ∙ ap (λ (x : Typed). record x { numbers = c.numbers }) e

@@ -1,0 +1,13 @@
+use Rattle.std.proofs.Common.{◌≡◌}
+use Rattle.vms_desc.specs.Described.{described, device_at}
+use Rattle.dev_images.specs.Images.{bare}
+use Rattle.vms_convert.proofs.MarkedAll.{MarkedTo}
+use Rattle.vms_convert.proofs.back.mark.Given as goal
+
+abbrev pub invariant-loop-sub : goal.invariant-loop-sub
+invariant-loop-sub l =
+    let d = device_at (described l.set) l.device in
+    record {
+      rest : l.image ≡ record l.fn.image { came = l.image.came };
+      marked : MarkedTo (described l.set) d (bare d l.fn.image.numbers) d.subs l.sub l.image.came;
+    }

@@ -1,0 +1,10 @@
+use Rattle.std.proofs.Common.{◌≡◌}
+use Rattle.vms_desc.specs.Described.{described, device_at}
+use Rattle.vms_convert.proofs.SettledAll.{SettledTo}
+use Rattle.vms_convert.proofs.back.settle.Given as goal
+
+abbrev pub invariant-loop-sub : goal.invariant-loop-sub
+invariant-loop-sub l = record {
+  rest : l.image ≡ record l.fn.image { numbers = l.image.numbers };
+  settled : SettledTo (described l.set) (device_at (described l.set) l.device) l.sub l.fn.image.numbers l.image.numbers;
+}

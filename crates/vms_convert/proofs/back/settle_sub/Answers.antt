@@ -1,0 +1,7 @@
+use Rattle.std.proofs.Common.{arith}
+use Rattle.vms_desc.specs.Described.{described}
+use Rattle.vms_desc.proofs.AskLaws.{few_cells}
+use Rattle.vms_convert.proofs.back.settle_sub.Goals as goal
+
+pub is_needed-requires-clause-few : goal.is_needed-requires-clause-few
+is_needed-requires-clause-few c = omega (arith, c.requires.of.cells, few_cells (described c.args.set.now) c.args.set.now.well_formed c.args.device)

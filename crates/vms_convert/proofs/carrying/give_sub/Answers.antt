@@ -1,0 +1,15 @@
+use Rattle.std.proofs.Common.{sym, subst}
+use Rattle.vms_desc.specs.Described.{described}
+use Rattle.vms_walk.specs.Steps.{HasSpot}
+use Rattle.vms_walk.specs.declared.fields.PartAt.{PartAt}
+use Rattle.vms_convert.specs.Bringing.{sub_part}
+use Rattle.vms_convert.proofs.BringLaws.{sub_spot}
+use Rattle.vms_convert.proofs.carrying.give_sub.Goals as goal
+
+pub give_part-requires-clause-part : goal.give_part-requires-clause-part
+give_part-requires-clause-part c =
+    let set = described c.args.set.now in
+    let numbers = c.args.gift.image.now.numbers in
+    let h = sub_spot set c.args.device c.requires.device c.args.set.now.well_formed numbers c.requires.of.cells c.args.sub c.requires.sub in
+    let spot : HasSpot set (sub_part set c.args.device c.args.sub c.in-Some.version) numbers = record { part = h.part; few = h.few; room = h.room } in
+    subst (λ (p : PartAt). HasSpot set p numbers) (sym c.sub_part.ensures) spot

@@ -1,0 +1,30 @@
+-- What the steps of a walk give to the partners of the cells that stand in the bytes.
+use Rattle.std.specs.Prelude.{◌≡◌, ℕ, ◌<◌, List, length, get_or, slice_set, Option, Some, None, ℤ, pos}
+use Rattle.std.proofs.Common.{ap, ◌∙◌}
+use Rattle.vms_kinds.specs.declared.Kind.{Kind}
+use Rattle.vms_kinds.specs.declared.Kind.TheVariants.{U8}
+use Rattle.vms_kinds.specs.Codes.{InRange}
+use Rattle.vms_walk.specs.declared.step.WalkStep.{WalkStep}
+use Rattle.vms_walk.specs.declared.step.WalkStep.TheVariants.{Number, Constant, Filler, Rule}
+use Rattle.vms_convert.specs.Changes.{Change}
+
+abbrev pub give_partner : ℤ → Option ℕ → List ℤ → List ℤ
+give_partner z (Some k) now = slice_set now k z
+give_partner z None now = now
+
+-- `numbers` are those of the cells
+abbrev pub give_step : List (Option ℕ) → List ℤ → Change
+give_step partners numbers (Number cell kind most) now = give_partner (get_or numbers cell (pos 0)) (get_or partners cell None) now
+give_step partners numbers (Constant kind value) now = now
+give_step partners numbers (Filler bytes) now = now
+give_step partners numbers (Rule holds) now = now
+
+-- each cell's partner is one of the target, of the kind of the cell's number
+pub record AreTargets (kinds : List Kind) (numbers : List ℤ) (partners : List (Option ℕ)) : Type 0 where
+  pub long : length partners ≡ length numbers
+  pub inside : (c k : ℕ) → get_or partners c None ≡ Some k → k < length kinds
+  pub in_range : (c k : ℕ) → get_or partners c None ≡ Some k → InRange (get_or kinds k U8) (get_or numbers c (pos 0))
+
+-- the same steps, where partners and numbers are the same
+pub same_gifts : (p p' : List (Option ℕ)) (n n' : List ℤ) → p' ≡ p → n' ≡ n → give_step p' n' ≡ give_step p n
+same_gifts p p' n n' e f = ap (λ (q : List (Option ℕ)). give_step q n') e ∙ ap (λ (m : List ℤ). give_step p m) f

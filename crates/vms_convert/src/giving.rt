@@ -1,0 +1,127 @@
+// What a newer device is given of the numbers of an older one, over what stands in the bytes of a part.
+ghost use Rattle.std.specs.Prelude.{◌≡◌, ◌<◌, None, IfSome, length, get_or, pos};
+ghost use Rattle.vms_kinds.specs.Codes.{InRange};
+ghost use Rattle.vms_kinds.specs.declared.Kind.TheVariants.{U8};
+ghost use Rattle.vms_walk.specs.Inside.{IsInside};
+ghost use Rattle.vms_walk.specs.Steps.{HasSpot, spot_slots, steps_of};
+ghost use Rattle.vms_desc.specs.Described.{described};
+ghost use Rattle.vms_convert.specs.Changes.{Changes};
+ghost use Rattle.vms_convert.specs.Giving.{give_step, give_partner, AreTargets};
+
+use vms_desc::{Cells, DescSet};
+use vms_image::Image;
+use vms_walk::{PartAt, WalkStep, Walker, walk};
+
+/// An image, and the partners of its cells.
+#[derive(Clone, Copy)]
+pub(crate) struct Gift<'a> {
+    pub(crate) image: &'a Image,
+    pub(crate) partners: &'a [Option<u32>],
+}
+
+/// Puts the number of each cell that stands in the bytes of a part into its partner.
+pub(crate) fn give_part(set: &DescSet, part: PartAt, gift: Gift, target: &mut Image)
+    requires part { HasSpot (described set.now) part gift.image.now.numbers }
+    requires targets { let numbers = gift.image.now.numbers in
+        AreTargets target.old.kinds numbers gift.partners.now }
+    requires kinds { length target.old.kinds ≡ length target.old.numbers }
+    ensures { let numbers = gift.entry.image.now.numbers in
+        let steps = steps_of (spot_slots (described set.now) part numbers) in
+        Changes (give_step gift.entry.partners.now numbers) steps target.old target.new }
+{
+    let mut giver = Giver {
+        image: gift.image,
+        target,
+        partners: gift.partners,
+    };
+    match walk(set, part, &mut giver) {
+        Ok(()) => (),
+        Err(never) => match never {},
+    }
+}
+
+// Nothing stops it.
+#[derive(Clone, Copy, Drop)]
+enum Never {}
+
+// Gives numbers of the image to the target.
+#[derive(Drop)]
+struct Giver<'a> {
+    image: &'a Image,
+    target: &'a mut Image,
+    partners: &'a [Option<u32>],
+}
+
+impl Cells for Giver<'_> {
+    ghost numbers = { λ giver. giver.image.now.numbers };
+
+    fn number(&self, cell: u32) -> i128 {
+        self.image.get(cell)
+    }
+}
+
+impl Walker for Giver<'_> {
+    ghost use Rattle.std.specs.Prelude.{◌≡◌, refl};
+    ghost use Rattle.std.proofs.Common.{ap, ◌∙◌};
+    ghost use Rattle.vms_walk.proofs.Kept.{keeps_same};
+    ghost use Rattle.vms_convert.specs.Changes.{Changes, changes_more};
+    ghost use Rattle.vms_convert.specs.Giving.{give_step, AreTargets, same_gifts};
+
+    type Fault = Never;
+
+    ghost goes = { λ xs a b. (b.target.ghost_name ≡ a.target.ghost_name)
+        × (b.image ≡ a.image) × (b.partners ≡ a.partners)
+        × Changes (give_step a.partners.now a.image.now.numbers) xs a.target.now b.target.now };
+
+    ghost stops = { λ xs a fault b. ⊥ };
+
+    ghost may = { λ a step. AreTargets a.target.now.kinds a.image.now.numbers a.partners.now
+        × (length a.target.now.kinds ≡ length a.target.now.numbers) };
+
+    ghost keeps = { λ xs a b h. keeps_same xs _ _ (ap (λ image. image.now.numbers) h.1) };
+
+    ghost keeps_stopped = { λ xs a b fault h. absurd h };
+
+    ghost none = { λ a. (refl, refl, refl, refl) };
+
+    ghost more = { λ xs ys a b c h k.
+        let partners = ap (λ p. p.now) h.2 in
+        let numbers = ap (λ image. image.now.numbers) h.1 in
+        let steps = same_gifts a.partners.now b.partners.now _ _ partners numbers in
+        let target = changes_more _ _ xs ys a.target.now b.target.now c.target.now steps h.3 k.3 in
+        (k.0 ∙ h.0, k.1 ∙ h.1, k.2 ∙ h.2, target) };
+
+    ghost stops_after = { λ xs ys a b c fault h k. k };
+
+    ghost stops_before = { λ xs ys a b fault h. h };
+
+    fn step(&mut self, step: WalkStep) -> Result<(), Never> {
+        give_step(step, self.image, self.target, self.partners);
+        Ok(())
+    }
+}
+
+// One step.
+fn give_step(step: WalkStep, image: &Image, target: &mut Image, partners: &[Option<u32>])
+    requires inside { IsInside image.now.numbers step }
+    requires targets { AreTargets target.old.kinds image.now.numbers partners.now }
+    requires kinds { length target.old.kinds ≡ length target.old.numbers }
+    ensures { let numbers = give_step partners.now image.now.numbers step target.old.numbers in
+        target.new ≡ record target.old { numbers = numbers } }
+{
+    if let WalkStep::Number { cell, .. } = step {
+        give_number(target, image.get(cell), partners[cell as usize]);
+    }
+}
+
+// A number, to a partner if there is one.
+fn give_number(target: &mut Image, number: i128, partner: Option<u32>)
+    requires inside { IfSome partner (λ k. k < length target.old.numbers) }
+    requires in_range { IfSome partner (λ k. InRange (get_or target.old.kinds k U8) number) }
+    ensures { target.new
+        ≡ record target.old { numbers = give_partner number partner target.old.numbers } }
+{
+    if let Some(k) = partner {
+        target.set(k, number);
+    }
+}

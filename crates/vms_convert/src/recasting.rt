@@ -1,0 +1,121 @@
+// Which devices the target keeps otherwise than the newest set has them, and their numbers then.
+ghost use Rattle.std.specs.List.{list_any};
+ghost use Rattle.std.specs.Prelude.{◌≡◌, ◌&&◌, ◌<◌, ◌≤◌, ℕ, IfOk, get_or, length, map, pos, slice_set};
+ghost use Rattle.dev_base.specs.declared.limits.TheConstants.{NEWEST};
+ghost use Rattle.dev_serial.specs.Cells.{IsPortCells, kinds};
+ghost use Rattle.dev_serial.specs.Recast.{recast_cells};
+ghost use Rattle.vms_parts.specs.Views.{device_of, sub_of};
+ghost use Rattle.vms_desc.specs.Described.{described};
+ghost use Rattle.vms_desc.specs.Spots.{kinds_at};
+ghost use Rattle.vms_kinds.specs.Codes.{InRange};
+ghost use Rattle.vms_kinds.specs.declared.Kind.TheVariants.{U8};
+ghost use Rattle.vms_image.specs.Typed.{IsImageOf};
+ghost use Rattle.vms_convert.specs.Recast.{is_port, is_ring, wants, wants_arrays};
+
+use arrayvec::ArrayVec;
+use dev_serial::recast;
+use std::alloc::Global;
+use vms_desc::{DescSet, Device, Sub};
+use vms_image::Image;
+use vms_io::NoMemory;
+use vms_kinds::DevCells;
+
+/// Whether the target keeps a device of the newest set otherwise than the newest set has it.
+pub(crate) fn is_recast(to: &DescSet, device: &Device) -> bool
+    ensures { result ≡ (is_port (device_of device.now) && wants_arrays (described to.now)) }
+{
+    is_port(device) && wants_arrays(to)
+}
+
+// Whether a device is the serial port.
+fn is_port(device: &Device) -> bool
+    ensures { result ≡ is_port (device_of device.now) }
+{
+    device.desc.name.as_bytes() == b"serial".as_slice() && device.instance == 0
+}
+
+// Whether a set has the serial port, and no rings for its FIFOs.
+fn wants_arrays(to: &DescSet) -> bool
+    ensures { result ≡ wants_arrays (described to.now) }
+{
+    want_arrays(to.parts().devices.as_slice())
+}
+
+fn want_arrays(devices: &[Device]) -> bool
+    ensures { result ≡ list_any wants (map device_of devices.now) }
+{
+    for device in devices {
+        if is_port(device) && !has_rings(device.subs.as_slice()) {
+            return true;
+        }
+    }
+    false
+}
+
+fn has_rings(subs: &[Sub]) -> bool
+    ensures { result ≡ list_any is_ring (map sub_of subs.now) }
+{
+    for sub in subs {
+        if sub.desc.name.as_bytes() == b"serial/ring".as_slice() {
+            return true;
+        }
+    }
+    false
+}
+
+/// The port's image with its FIFOs in counted arrays, where they stood in rings alone.
+pub(crate) fn recast_image(
+    alloc: Global,
+    newest: &DescSet,
+    device: u32,
+    image: &Image,
+) -> Result<Image, NoMemory>
+    requires device { device < length (described newest.now).devices }
+    requires of { IsImageOf (described newest.now) device image.now }
+    requires kinds { kinds_at (described newest.now) device ≡ kinds NEWEST }
+    requires cells { IsPortCells image.now.numbers }
+    ensures of { IfOk result (IsImageOf (described newest.now) device) }
+    ensures numbers { let cells = recast_cells image.now.numbers in
+        IfOk result (λ recast. recast.numbers ≡ cells) }
+{
+    let cells = recast(&cells_of(image));
+    let mut recast = Image::new(alloc, newest, device)?;
+    put_cells(&mut recast, &cells);
+    Ok(recast)
+}
+
+// The numbers of an image, of which there are 96 at most.
+fn cells_of(image: &Image) -> DevCells
+    requires { length image.now.numbers ≤ 96 }
+    ensures { result.items ≡ image.now.numbers }
+{
+    let mut cells = ArrayVec::new();
+    for cell in 0..image.len() {
+        cells.push(image.get(cell));
+    }
+    cells
+}
+
+// Puts cells of its kinds into an image.
+fn put_cells(image: &mut Image, cells: &DevCells)
+    requires long { length cells.now.items ≡ length image.old.numbers }
+    requires in_range { (c : ℕ) → c < length cells.now.items
+        → InRange (get_or image.old.kinds c U8) (get_or cells.now.items c (pos 0)) }
+    ensures { image.new ≡ record image.old { numbers = cells.now.items } }
+{
+    for cell in 0..image.len() {
+        put_cell(image, cell, cells);
+    }
+}
+
+// Puts one of them.
+fn put_cell(image: &mut Image, cell: u32, cells: &DevCells)
+    requires long { length cells.now.items ≡ length image.old.numbers }
+    requires cell { cell < length cells.now.items }
+    requires in_range { InRange (get_or image.old.kinds cell U8)
+        (get_or cells.now.items cell (pos 0)) }
+    ensures { let number = get_or cells.now.items cell (pos 0) in
+        image.new ≡ record image.old { numbers = slice_set image.old.numbers cell number } }
+{
+    image.set(cell, cells[cell as usize]);
+}

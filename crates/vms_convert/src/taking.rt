@@ -1,0 +1,148 @@
+// What an older set takes of the numbers of a newer device, over what stands in the bytes of a part.
+ghost use Rattle.std.specs.Prelude.{◌≡◌, ◌≤◌, ◌<◌, None, IfSome, length, get_or, pos};
+ghost use Rattle.vms_kinds.specs.Codes.{InRange};
+ghost use Rattle.vms_kinds.specs.declared.Kind.TheVariants.{U8};
+ghost use Rattle.vms_spec.specs.Numbers.{exceeds};
+ghost use Rattle.vms_walk.specs.Inside.{IsInside};
+ghost use Rattle.vms_walk.specs.Steps.{HasSpot, capacities_of, spot_slots, steps_of};
+ghost use Rattle.vms_desc.specs.Described.{described};
+ghost use Rattle.vms_convert.specs.Changes.{Changes};
+ghost use Rattle.vms_convert.specs.Putting.{put_step, put_partner, AreSources};
+
+use vms_desc::{Cells, DescSet};
+use vms_image::Image;
+use vms_walk::{PartAt, WalkStep, Walker, walk};
+
+/// Puts into each cell that stands in the bytes of a part its partner's number, unless that counts more than there is
+/// room for. Which cells stand there is said by the numbers that are put.
+pub(crate) fn take_part(
+    set: &DescSet,
+    part: PartAt,
+    image: &mut Image,
+    source: &Image,
+    partners: &[Option<u32>],
+)
+    requires part { HasSpot (described set.now) part image.old.numbers }
+    requires sources { AreSources image.old.kinds source.now.numbers partners.now }
+    requires kinds { length image.old.kinds ≡ length image.old.numbers }
+    ensures { let steps = steps_of (spot_slots (described set.now) part image.new.numbers) in
+        Changes (put_step partners.now source.now.numbers) steps image.old image.new }
+{
+    let mut taker = Taker {
+        image,
+        source,
+        partners,
+    };
+    match walk(set, part, &mut taker) {
+        Ok(()) => (),
+        Err(never) => match never {},
+    }
+}
+
+// Nothing stops it.
+#[derive(Clone, Copy, Drop)]
+enum Never {}
+
+// Takes numbers of `source` into the image.
+#[derive(Drop)]
+struct Taker<'a> {
+    image: &'a mut Image,
+    source: &'a Image,
+    partners: &'a [Option<u32>],
+}
+
+impl Cells for Taker<'_> {
+    ghost numbers = { λ taker. taker.image.now.numbers };
+
+    fn number(&self, cell: u32) -> i128 {
+        self.image.get(cell)
+    }
+}
+
+impl Walker for Taker<'_> {
+    ghost use Rattle.std.specs.Prelude.{◌≡◌, refl};
+    ghost use Rattle.std.proofs.Common.{ap, ◌∙◌};
+    ghost use Rattle.vms_convert.specs.Changes.{Changes, changes_more};
+    ghost use Rattle.vms_convert.specs.Putting.{put_step, AreSources};
+    ghost use Rattle.vms_convert.specs.Takes.{takes_keeps, same_steps};
+
+    type Fault = Never;
+
+    ghost goes = { λ xs a b. (b.image.ghost_name ≡ a.image.ghost_name)
+        × (b.source ≡ a.source) × (b.partners ≡ a.partners)
+        × Changes (put_step a.partners.now a.source.now.numbers) xs a.image.now b.image.now };
+
+    ghost stops = { λ xs a fault b. ⊥ };
+
+    ghost may = { λ a step. AreSources a.image.now.kinds a.source.now.numbers a.partners.now
+        × (length a.image.now.kinds ≡ length a.image.now.numbers) };
+
+    ghost keeps = { λ xs a b h.
+        takes_keeps a.partners.now a.source.now.numbers xs a.image.now b.image.now h.3 };
+
+    ghost keeps_stopped = { λ xs a b fault h. absurd h };
+
+    ghost none = { λ a. (refl, refl, refl, refl) };
+
+    ghost more = { λ xs ys a b c h k.
+        let partners = ap (λ p. p.now) h.2 in
+        let source = ap (λ s. s.now.numbers) h.1 in
+        let steps = same_steps a.partners.now b.partners.now _ _ partners source in
+        let image = changes_more _ _ xs ys a.image.now b.image.now c.image.now steps h.3 k.3 in
+        (k.0 ∙ h.0, k.1 ∙ h.1, k.2 ∙ h.2, image) };
+
+    ghost stops_after = { λ xs ys a b c fault h k. k };
+
+    ghost stops_before = { λ xs ys a b fault h. h };
+
+    fn step(&mut self, step: WalkStep) -> Result<(), Never> {
+        take_step(step, self.image, self.source, self.partners);
+        Ok(())
+    }
+}
+
+// One step.
+fn take_step(step: WalkStep, image: &mut Image, source: &Image, partners: &[Option<u32>])
+    requires inside { IsInside image.old.numbers step }
+    requires sources { AreSources image.old.kinds source.now.numbers partners.now }
+    requires kinds { length image.old.kinds ≡ length image.old.numbers }
+    ensures { let numbers = put_step partners.now source.now.numbers step image.old.numbers in
+        image.new ≡ record image.old { numbers = numbers } }
+{
+    if let WalkStep::Number { cell, most, .. } = step {
+        take_number(image, cell, most, source, partners[cell as usize]);
+    }
+}
+
+// One number, whose cell may have a partner.
+fn take_number(
+    image: &mut Image,
+    cell: u32,
+    most: Option<u32>,
+    source: &Image,
+    partner: Option<u32>,
+)
+    requires cell { cell < length image.old.numbers }
+    requires inside { IfSome partner (λ k. k < length source.now.numbers) }
+    requires in_range { IfSome partner (λ k. InRange (get_or image.old.kinds cell U8)
+        (get_or source.now.numbers k (pos 0))) }
+    ensures { let numbers = put_partner source.now.numbers cell most partner image.old.numbers in
+        image.new ≡ record image.old { numbers = numbers } }
+{
+    if let Some(k) = partner {
+        let number = source.get(k);
+        if !is_above(number, most) {
+            image.set(cell, number);
+        }
+    }
+}
+
+// A number counts more than the most that it may.
+fn is_above(number: i128, most: Option<u32>) -> bool
+    ensures { result ≡ exceeds (capacities_of most) number }
+{
+    match most {
+        Some(most) => number > i128::from(most),
+        None => false,
+    }
+}
