@@ -1,3 +1,4 @@
+pub mod Answered
 pub mod BackNormal
 pub mod BackVersions
 pub mod BringLaws
