@@ -1,3 +1,4 @@
+pub mod Answered
 pub mod BackNormal
 pub mod BackVersions
 pub mod BringLaws
@@ -8,6 +9,7 @@ pub mod GivenAll
 pub mod HasBack
 pub mod ImageOf
 pub mod Known
+pub mod LostLaws
 pub mod MarkedAll
 pub mod MayGive
 pub mod MayTake
@@ -19,8 +21,11 @@ pub mod PartnerSteps
 pub mod PutAt
 pub mod PutDefaults
 pub mod PutFront
+pub mod RecastAt
 pub mod RecastOf
+pub mod ReturnAt
 pub mod ReturnedLaws
+pub mod ReturnsLaws
 pub mod Rows
 pub mod SettledAll
 pub mod TakenAll

@@ -1,5 +1,5 @@
 -- Laws of conversion, each as a statement.
-use Rattle.std.specs.Prelude.{◌≡◌, ℕ, ◌≤◌, List, [], length, get_or, Option, Some, ℤ}
+use Rattle.std.specs.Prelude.{◌≡◌, ◌⊎◌, ℕ, ◌≤◌, List, [], length, get_or, Option, Some, ℤ}
 use Rattle.std.specs.List.{slice_get}
 use Rattle.vms_spec.specs.Sets.{Device, Set}
 use Rattle.vms_spec.specs.Layout.{device_cells}
@@ -8,10 +8,11 @@ use Rattle.vms_spec.specs.Shipped.{set_4}
 use Rattle.vms_spec.specs.Streams.{longest_text, ComeAsNeeded}
 use Rattle.vms_spec.specs.WellFormed.{WellFormed}
 use Rattle.vms_spec.specs.Good.{IsFit}
+use Rattle.vms_check.specs.Carrying.{carried}
 use Rattle.vms_check.specs.Comparing.{Compatible}
 use Rattle.vms_stream.specs.StreamLaws.{IsWholeStream}
 use Rattle.vms_convert.specs.Back.{IsBack}
-use Rattle.vms_convert.specs.Converted.{IsConverted, recast_each}
+use Rattle.vms_convert.specs.Converted.{AreBack, IsConverted, recast_each}
 use Rattle.vms_convert.specs.Lost.{numbers_in, KeepsAll, Loses}
 use Rattle.vms_check_laws.specs.Pairing.{AreOfKinds}
 use Rattle.vms_check.specs.Partners.{device_partners}
@@ -72,3 +73,14 @@ pub record IsOneLost (to new : Set) (machine : Option (List ℕ)) (wanted there 
 
 abbrev pub OneLostLaw : Type 0
 OneLostLaw = (to new : Set) (machine : Option (List ℕ)) (wanted there : List (List ℤ)) (backs : List Image) → IsOneLost to new machine wanted there backs
+
+-- of a machine and images of the newer set: what comes back of them, and what is lost first, unless all is kept
+pub record HasAnswer (to new : Set) (machine : Option (List ℕ)) (images : List Image) : Type 0 where
+  pub backs : List Image
+  pub back : AreBack to new (recast_each to new.devices (numbers_in images)) backs
+  pub answer : KeepsAll to new machine (recast_each to new.devices (numbers_in images)) (numbers_in (carried to new backs)) backs
+      ⊎ ((section : Option ℕ) × (cell : Option ℕ) × Loses to new machine (recast_each to new.devices (numbers_in images)) (numbers_in (carried to new backs)) backs section cell)
+
+abbrev pub AnswerLaw : Type 0
+AnswerLaw = (to new : Set) → IsFit to → WellFormed new → Compatible to new → (machine : Option (List ℕ)) (images : List Image) → length images ≡ length new.devices → AreRecastOf to new images
+    → HasAnswer to new machine images

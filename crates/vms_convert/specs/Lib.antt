@@ -9,4 +9,5 @@ pub mod Partnering
 pub mod Putting
 pub mod Recast
 pub mod Returning
+pub mod Returns
 pub mod Takes

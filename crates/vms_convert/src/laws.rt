@@ -1,5 +1,5 @@
 //! Each law is the contract of a function without a body. The statements stand in `specs/Laws.antt`.
-ghost use Rattle.vms_convert.specs.Laws.{BackLaw, ComesBackLaw, ConvertsLaw, OneBackLaw, OneLostLaw, RecastOfLaw};
+ghost use Rattle.vms_convert.specs.Laws.{AnswerLaw, BackLaw, ComesBackLaw, ConvertsLaw, OneBackLaw, OneLostLaw, RecastOfLaw};
 
 /// At most one image comes back of some numbers.
 #[tactic(auto)]
@@ -29,6 +29,12 @@ pub fn recast_of_law()
 #[tactic(auto)]
 pub fn one_lost_law()
     ensures { OneLostLaw }
+{}
+
+/// Of each state of the newest set something comes back, and either all is kept or something is lost first.
+#[tactic(auto)]
+pub fn answer_law()
+    ensures { AnswerLaw }
 {}
 
 /// A stream that is converted to a set is one of the newer set with the same machine and the recast cells, and

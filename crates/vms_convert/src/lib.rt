@@ -8,6 +8,7 @@ pub mod laws;
 mod pairing;
 mod recasting;
 mod returning;
+mod returns;
 mod taking;
 
 pub use pairing::partners;

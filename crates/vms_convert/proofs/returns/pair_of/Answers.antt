@@ -1,0 +1,30 @@
+use Rattle.std.proofs.Common.{◌≡◌, ℕ, List, refl, sym, ap, ◌∙◌}
+use Rattle.vms_spec.specs.Lookup.{find_device}
+use Rattle.vms_spec.specs.Sets.{Device}
+use Rattle.vms_spec.specs.WellFormed.{first_fault}
+use Rattle.vms_desc.specs.Described.{described, device_at}
+use Rattle.vms_desc.proofs.Bounds.{none_is}
+use Rattle.vms_convert.proofs.ReturnsLaws.{always_found, pair_found}
+use Rattle.vms_convert.proofs.returns.pair_of.Goals as goal
+
+pub returns : goal.returns
+returns c =
+    let to = described c.args.to.now in
+    let new = described c.args.newest.now in
+    let d = device_at to c.args.device in
+    let name : c.as_bytes.result.now ≡ d.desc.name = c.as_bytes.ensures ∙ ap (λ (x : Device). x.desc.name) c.device-described.ensures in
+    let instance : c.device-described.result.now.instance ≡ d.instance = ap (λ (x : Device). x.instance) c.device-described.ensures in
+    let found : find_device 0 new.devices d.desc.name d.instance ≡ c.find.result =
+    ap (λ (n : List ℕ). find_device 0 new.devices n d.instance) (sym name) ∙ ap (λ (m : ℕ). find_device 0 new.devices c.as_bytes.result.now m) (sym instance) ∙ sym c.find.ensures in
+    record { to_is = refl; device_is = refl; newest_is = refl; pair = pair_found to new c.args.device c.in-Some.other c.requires.device (found ∙ c.in-Some.is) }
+
+pub unreachable-requires : goal.unreachable-requires
+unreachable-requires c =
+    let to = described c.args.to.now in
+    let new = described c.args.newest.now in
+    let d = device_at to c.args.device in
+    let name : c.as_bytes.result.now ≡ d.desc.name = c.as_bytes.ensures ∙ ap (λ (x : Device). x.desc.name) c.device-described.ensures in
+    let instance : c.device-described.result.now.instance ≡ d.instance = ap (λ (x : Device). x.instance) c.device-described.ensures in
+    let found : find_device 0 new.devices d.desc.name d.instance ≡ c.find.result =
+    ap (λ (n : List ℕ). find_device 0 new.devices n d.instance) (sym name) ∙ ap (λ (m : ℕ). find_device 0 new.devices c.as_bytes.result.now m) (sym instance) ∙ sym c.find.ensures in
+    always_found to new (none_is (first_fault to) c.args.to.now.well_formed) (none_is (first_fault new) c.args.newest.now.well_formed) c.requires.compatible c.args.device c.requires.device (found ∙ c.in-None.is)

@@ -1,0 +1,47 @@
+use Rattle.std.proofs.Common.{◌≡◌, ◌<◌, [], List, ℤ, Some, IfOk, get_or, length, map, sym, ap, subst, arith}
+use Rattle.std.proofs.lemmas.List.{length-map}
+use Rattle.std.proofs.lemmas.Option.{slice_get_within}
+use Rattle.std.specs.List.{slice_get}
+use Rattle.vms_spec.specs.Sets.{Set}
+use Rattle.vms_spec.specs.Images.{Image}
+use Rattle.vms_desc.specs.Described.{described, device_at}
+use Rattle.vms_image.specs.Typed.{state_of}
+use Rattle.vms_image.proofs.States.{at_state, image_at}
+use Rattle.vms_load.specs.Kept.{kept, loads}
+use Rattle.vms_convert.specs.Converted.{recast_each}
+use Rattle.vms_convert.specs.Lost.{numbers_in}
+use Rattle.vms_convert.specs.Recast.{recast}
+use Rattle.vms_convert.specs.Returning.{IsReturned}
+use Rattle.vms_convert.specs.Returns.{IsRecastFor}
+use Rattle.vms_convert.proofs.ReturnAt.{recast_for, wanted_is}
+use Rattle.vms_convert.proofs.returns.return_at.Goals as goal
+
+pub return_image-requires-clause-recast : goal.return_image-requires-clause-recast
+return_image-requires-clause-recast c =
+    let to = described c.args.pair.to.now in
+    let new = loads c.args.loader.now in
+    let k = c.args.pair.other in
+    let images = c.images.result.now in
+    let image = c.index-images-pair.result in
+    let inside : k < length new.devices = slice_get_within new.devices k _ c.requires.pair.in_new in
+    let within : k < length images = omega (arith, inside, length-map images state_of, ap length c.images.ensures.images, c.requires.kept.one_each) in
+    let at : slice_get (kept c.args.loader.now) k ≡ Some (state_of image) =
+    subst (λ (l : List Image). slice_get l k ≡ Some (state_of image)) c.images.ensures.images (at_state images k image (image_at images k image within c.index-images-pair.is)) in
+    subst (λ (s : Set). IsRecastFor to s k image.numbers) (sym c.requires.same) (recast_for to new c.requires.newest (kept c.args.loader.now) c.requires.kept k inside (state_of image) at)
+
+pub returns : goal.returns
+returns c =
+    let to = described c.args.pair.to.now in
+    let new = loads c.args.loader.now in
+    let i = c.args.pair.device in
+    let k = c.args.pair.other in
+    let images = c.images.result.now in
+    let image = c.index-images-pair.result in
+    let inside : k < length new.devices = slice_get_within new.devices k _ c.requires.pair.in_new in
+    let within : k < length images = omega (arith, inside, length-map images state_of, ap length c.images.ensures.images, c.requires.kept.one_each) in
+    let at : slice_get (kept c.args.loader.now) k ≡ Some (state_of image) =
+    subst (λ (l : List Image). slice_get l k ≡ Some (state_of image)) c.images.ensures.images (at_state images k image (image_at images k image within c.index-images-pair.is)) in
+    let is : get_or (recast_each to new.devices (numbers_in (kept c.args.loader.now))) k [] ≡ recast to (device_at new k) image.numbers =
+    wanted_is to new c.requires.newest (kept c.args.loader.now) c.requires.kept k inside (state_of image) at in
+    subst (λ (l : List ℤ). IfOk c.return_image.result (IsReturned to new i k l)) (sym is)
+    (subst (λ (s : Set). IfOk c.return_image.result (IsReturned to s i k (recast to (device_at s k) image.numbers))) c.requires.same c.return_image.ensures)

@@ -1,0 +1,126 @@
+// Brings the numbers of all devices of the newest set to an older one.
+ghost use Rattle.std.specs.Prelude.{◌≡◌, ◌<◌, ◌∷◌, ◌++◌, [], IfOk, OnOk, get_or, length};
+ghost use Rattle.dev_base.specs.declared.limits.TheConstants.{NEWEST};
+ghost use Rattle.vms_check.specs.Comparing.{Compatible};
+ghost use Rattle.vms_desc.specs.Described.{described, device_at};
+ghost use Rattle.vms_image.specs.Typed.{IsImageOf};
+ghost use Rattle.vms_desc.specs.Formed.{shipped_set};
+ghost use Rattle.vms_load.specs.Good.{AreKept};
+ghost use Rattle.vms_load.specs.Kept.{kept, loads};
+ghost use Rattle.vms_convert.specs.Converted.{recast_each};
+ghost use Rattle.vms_convert.specs.Lost.{numbers_in};
+ghost use Rattle.vms_convert.specs.Returning.{IsReturned};
+ghost use Rattle.vms_convert.specs.Recast.{recast};
+ghost use Rattle.vms_convert.specs.Returns.{ArePaired, AreReturned, IsEarlier, IsPairOf, IsRecastFor};
+
+use crate::recasting::{is_recast, recast_image};
+use crate::returning::{Pair, Returned, return_device};
+use std::alloc::Global;
+use vms_desc::DescSet;
+use vms_image::Image;
+use vms_io::NoMemory;
+use vms_load::Loader;
+
+/// A cell of a device of the newest set that isn't carried back.
+#[derive(Clone, Copy)]
+pub(crate) struct LostCell {
+    pub(crate) device: u32,
+    pub(crate) cell: u32,
+}
+
+/// What comes back of all devices, in the older set's order, and the first cell that isn't carried from there.
+#[derive(Drop)]
+pub(crate) struct Returns {
+    pub(crate) images: Vec<Image>,
+    pub(crate) lost: Option<LostCell>,
+}
+
+/// What comes back of the images that a loader of the newest set keeps.
+pub(crate) fn return_all(alloc: Global, to: &DescSet, loader: &Loader) -> Result<Returns, NoMemory>
+    requires newest { loads loader.now ≡ shipped_set NEWEST }
+    requires compatible { Compatible (described to.now) (loads loader.now) }
+    requires kept { AreKept (loads loader.now) (kept loader.now) }
+    ensures { let new = loads loader.now in
+        let wanted = recast_each (described to.now) new.devices (numbers_in (kept loader.now)) in
+        IfOk result (AreReturned (described to.now) new wanted) }
+{
+    let devices = to.parts().devices.as_slice().len() as u32;
+    let mut images = Vec::new(alloc);
+    let mut lost = None;
+    for device in 0..devices {
+        let pair = pair_of(to, device, loader.set());
+        let Returned { image, lost: cell } = return_at(alloc, pair, loader)?;
+        push_image(&mut images, image)?;
+        lost = earlier(lost, pair.other, cell);
+    }
+    Ok(Returns { images, lost })
+}
+
+// Appends an image.
+fn push_image(images: &mut Vec<Image>, image: Image) -> Result<(), NoMemory>
+    ensures { OnOk result (images.new.items ≡ images.old.items ++ image ∷ []) }
+{
+    images.push(image)?;
+    Ok(())
+}
+
+// A device, and the newest set's device of its name and instance.
+fn pair_of<'a>(to: &'a DescSet, device: u32, newest: &'a DescSet) -> Pair<'a>
+    requires compatible { Compatible (described to.now) (described newest.now) }
+    requires device { device < length (described to.now).devices }
+    ensures { IsPairOf to.entry device newest.entry result }
+{
+    let described = to.device(device);
+    match newest.find(described.desc.name.as_bytes(), described.instance) {
+        Some(other) => Pair {
+            to,
+            device,
+            newest,
+            other,
+        },
+        None => unreachable!(),
+    }
+}
+
+// What comes back of the newest set's device that a loader keeps.
+fn return_at(alloc: Global, pair: Pair, loader: &Loader) -> Result<Returned, NoMemory>
+    requires newest { loads loader.now ≡ shipped_set NEWEST }
+    requires same { described pair.newest.now ≡ loads loader.now }
+    requires kept { AreKept (loads loader.now) (kept loader.now) }
+    requires pair { ArePaired (described pair.to.now) (loads loader.now) pair.device pair.other }
+    ensures { let to = described pair.entry.to.now in let new = loads loader.now in
+        let wanted = recast_each to new.devices (numbers_in (kept loader.now)) in
+        let numbers = get_or wanted pair.entry.other [] in
+        IfOk result (IsReturned to new pair.entry.device pair.entry.other numbers) }
+{
+    return_image(alloc, pair, &loader.images()[pair.other as usize])
+}
+
+// What comes back of an image, whose FIFOs are in counted arrays first where the target keeps them so.
+fn return_image(alloc: Global, pair: Pair, image: &Image) -> Result<Returned, NoMemory>
+    requires device { pair.device < length (described pair.to.now).devices }
+    requires of { IsImageOf (described pair.newest.now) pair.other image.now }
+    requires recast { IsRecastFor (described pair.to.now) (described pair.newest.now) pair.other
+        image.now.numbers }
+    ensures { let to = described pair.entry.to.now in let new = described pair.entry.newest.now in
+        let numbers = recast to (device_at new pair.entry.other) image.now.numbers in
+        IfOk result (IsReturned to new pair.entry.device pair.entry.other numbers) }
+{
+    if is_recast(pair.to, pair.newest.device(pair.other)) {
+        let recast = recast_image(alloc, pair.newest, pair.other, image)?;
+        return_device(alloc, pair, &recast)
+    } else {
+        return_device(alloc, pair, image)
+    }
+}
+
+// The earlier of two cells in the newest set's order: one that is known, and one of this device.
+fn earlier(known: Option<LostCell>, device: u32, cell: Option<u32>) -> Option<LostCell>
+    ensures { IsEarlier known device cell result }
+{
+    match (known, cell) {
+        (known, None) => known,
+        (Some(known), Some(_)) if known.device < device => Some(known),
+        (_, Some(cell)) => Some(LostCell { device, cell }),
+    }
+}
