@@ -13,16 +13,15 @@ use Rattle.vms_spec.specs.Images.{Image, IsValid, RulesHold, image_slots}
 use Rattle.vms_spec.specs.Streams.{is_one_of}
 use Rattle.vms_spec.specs.WellFormed.{WellFormed}
 use Rattle.vms_desc.specs.Described.{device_at}
-use Rattle.vms_check.specs.Carrying.{carried, carried_device, no_image}
+use Rattle.vms_check.specs.Carrying.{carried, no_image}
 use Rattle.vms_check.specs.Comparing.{Compatible}
 use Rattle.vms_check.specs.Partners.{device_partners}
 use Rattle.vms_check_laws.specs.Pairing.{AreOfKinds}
 use Rattle.vms_check_laws.proofs.Streaming.{Pair, pair}
 use Rattle.vms_convert.specs.Back.{IsBack}
-use Rattle.vms_convert.specs.Converted.{AreBack, IsPairAt, recast_each}
-use Rattle.vms_convert.specs.Laws.{AnswerLaw, AreRecastOf, ComesBack, HasAnswer}
+use Rattle.vms_convert.specs.Converted.{IsPairAt, recast_each}
+use Rattle.vms_convert.specs.Laws.{AnswerLaw, ComesBack}
 use Rattle.vms_convert.specs.Lost.{DifferAt, IsValidAt, KeepsAll, Loses, OfCell, OfDevice, OfMachine, first_cell, numbers_in}
-use Rattle.vms_convert.specs.Returns.{carried_of}
 use Rattle.vms_convert.proofs.GivenAll.{gives_long}
 use Rattle.vms_convert.proofs.HasBack.{extend, has_back}
 use Rattle.vms_convert.proofs.LostLaws.{Older, older, older_pair, there_is, there_long}

@@ -1,27 +1,23 @@
 -- The parts of a device, as the code goes over them by number.
-use Rattle.std.proofs.Common.{◌≡◌, ℕ, zero, suc, ◌+◌, ◌<◌, ◌≤◌, Bool, true, false, List, [], ◌∷◌, ◌++◌, length, length-append, get_or, map, Option, Some, None, ℤ, pos, refl, sym, ap, ◌∙◌, subst, arith}
+use Rattle.std.proofs.Common.{◌≡◌, ℕ, suc, ◌+◌, ◌<◌, ◌≤◌, Bool, true, false, List, length, map, Option, Some, None, ℤ, refl, sym, ap, ◌∙◌, subst, arith}
 use Rattle.std.proofs.lemmas.List.{append-nil}
-use Rattle.std.proofs.lemmas.Option.{slice_get-get_or, get_or_from_slice_get}
+use Rattle.std.proofs.lemmas.Option.{slice_get-get_or}
 use Rattle.std.specs.List.{slice_get}
 use Rattle.vms_spec.specs.declared.Part.TheVariants as parts
 use Rattle.vms_spec.specs.Good.{IsGood}
 use Rattle.vms_spec.specs.Sets.{Sub, Device, Set}
-use Rattle.vms_spec.specs.Layout.{Slot, no_cell, device_cells}
-use Rattle.vms_spec.specs.Images.{own_cells, own_slots}
-use Rattle.vms_spec.specs.Streams.{is_needed}
+use Rattle.vms_spec.specs.Layout.{Slot, device_cells}
+use Rattle.vms_spec.specs.Images.{own_slots}
 use Rattle.vms_spec.specs.WellFormed.{WellFormed}
-use Rattle.vms_bodies.proofs.FineLaws.{part_place}
-use Rattle.vms_bodies.proofs.PartLaws.{sub_size}
-use Rattle.vms_desc.specs.Asks.{first_cell, needed_at}
+use Rattle.vms_desc.specs.Asks.{needed_at}
 use Rattle.vms_desc.specs.Described.{device_at}
 use Rattle.vms_desc.specs.Formed.{is_well_formed}
 use Rattle.vms_desc.specs.Parts.{sub_at}
 use Rattle.vms_desc.proofs.AskLaws.{few_cells, own_inside_device, sub_inside}
 use Rattle.vms_image.specs.Typed.{IsImageOf, Typed}
 use Rattle.dev_images.specs.Images.{bare, needed_from}
-use Rattle.vms_check_laws.specs.SubCells.{IsCellOf}
 use Rattle.vms_walk.specs.Steps.{HasSpot, spot_slots, steps_of}
-use Rattle.vms_convert.specs.Back.{AreTaken, AreSettled, whole}
+use Rattle.vms_convert.specs.Back.{AreTaken, AreSettled}
 use Rattle.vms_convert.specs.Bringing.{ArePutAt, SettlesBy, SettlesSub, marked_by, part_of}
 use Rattle.vms_convert.specs.Changes.{changed}
 use Rattle.vms_convert.specs.Putting.{put_step}

@@ -1,5 +1,5 @@
 -- The slots of a device's own fields and of its first subsections, as walks come to them part by part.
-use Rattle.std.proofs.Common.{◌≡◌, ℕ, zero, suc, ◌+◌, ◌<◌, ◌≤◌, List, [], ◌∷◌, ◌++◌, length, get_or, map, take, Option, Some, None, ℤ, pos, refl, sym, ap, ◌∙◌, arith, append_assoc}
+use Rattle.std.proofs.Common.{◌≡◌, ℕ, zero, suc, ◌+◌, List, [], ◌∷◌, ◌++◌, length, map, take, Option, Some, None, ℤ, refl, sym, ap, ◌∙◌, arith, append_assoc}
 use Rattle.std.specs.List.{slice_get}
 use Rattle.vms_spec.specs.Sound.{IsSound, AreSound}
 use Rattle.vms_spec.specs.Sets.{Sub, Device, Set}

@@ -1,19 +1,17 @@
 -- What is given, part by part.
-use Rattle.std.proofs.Common.{◌≡◌, ℕ, zero, suc, ◌+◌, ◌<◌, ◌≤◌, List, [], ◌∷◌, ◌++◌, length, get_or, map, take, Option, Some, None, ℤ, pos, refl, sym, ap, ◌∙◌, subst, arith}
+use Rattle.std.proofs.Common.{◌≡◌, ℕ, suc, ◌+◌, ◌<◌, ◌≤◌, List, ◌++◌, length, get_or, take, Option, Some, None, ℤ, refl, sym, ap, ◌∙◌, arith}
 use Rattle.std.proofs.lemmas.List.{append-nil}
 use Rattle.std.proofs.lemmas.Option.{slice_get-get_or}
 use Rattle.std.specs.List.{slice_get}
-use Rattle.vms_spec.specs.declared.Part.TheVariants as parts
 use Rattle.vms_spec.specs.Sets.{Sub, Device, Set}
-use Rattle.vms_spec.specs.Layout.{Slot, device_cells}
+use Rattle.vms_spec.specs.Layout.{Slot}
 use Rattle.vms_spec.specs.Images.{Image, came_slots, image_slots, own_cells, own_slots}
 use Rattle.vms_bodies.proofs.FineLaws.{part_place}
 use Rattle.vms_desc.specs.Described.{device_at}
 use Rattle.vms_desc.specs.Parts.{sub_at}
-use Rattle.vms_image.specs.Typed.{Typed}
 use Rattle.vms_walk.specs.Steps.{spot_slots, steps_of}
-use Rattle.vms_convert.specs.Bringing.{own_part, part_slots, sub_part, sub_slots_at}
-use Rattle.vms_convert.specs.Changes.{Changes, changed}
+use Rattle.vms_convert.specs.Bringing.{own_part, part_slots, sub_slots_at}
+use Rattle.vms_convert.specs.Changes.{changed}
 use Rattle.vms_convert.specs.Giving.{give_step}
 use Rattle.vms_convert.proofs.FirstParts.{first_next, first_slots, one_slots, take_all}
 use Rattle.vms_convert.proofs.GivenAll.{gives, gives_more}

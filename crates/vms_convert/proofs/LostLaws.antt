@@ -18,7 +18,6 @@ use Rattle.vms_check.proofs.ListLaws.{passes}
 use Rattle.vms_check_laws.proofs.Streaming.{back, found_device, found_some, pair, rules}
 use Rattle.vms_check_laws.proofs.SubFacts.{none_at}
 use Rattle.vms_check_laws.proofs.Wholes.{at_map}
-use Rattle.vms_convert.specs.Converted.{IsPairAt}
 use Rattle.vms_convert.specs.Lost.{DifferAt, Loses, OfCell, numbers_in}
 use Rattle.vms_convert.specs.Returning.{FirstDifference}
 use Rattle.vms_convert.specs.Returns.{ArePaired, IsEarlier, IsFirstLost, IsLostCell, carried_of}

@@ -1,16 +1,15 @@
 -- Subsections that aren't needed are put to their defaults one after the other.
-use Rattle.std.proofs.Common.{◌≡◌, ℕ, zero, suc, ◌+◌, ◌<◌, ◌≤◌, Bool, true, false, nat_lt, List, length, get_or, Some, ℤ, pos, refl, sym, ap, ◌∙◌, arith, if◌then◌else◌}
+use Rattle.std.proofs.Common.{◌≡◌, ℕ, suc, ◌+◌, ◌<◌, ◌≤◌, Bool, true, false, nat_lt, List, length, get_or, Some, ℤ, pos, refl, sym, ap, ◌∙◌, arith, if◌then◌else◌}
 use Rattle.std.proofs.lemmas.Bool.{ltb-true, ltb-false}
 use Rattle.std.proofs.lemmas.Option.{slice_get_within}
 use Rattle.std.specs.List.{slice_get}
 use Rattle.vms_spec.specs.Sets.{Sub, Device, Set}
 use Rattle.vms_spec.specs.Layout.{no_cell, device_cells}
-use Rattle.vms_spec.specs.Images.{Image, own_cells}
+use Rattle.vms_spec.specs.Images.{own_cells}
 use Rattle.vms_spec.specs.Streams.{is_needed}
 use Rattle.vms_spec.specs.WellFormed.{WellFormed}
 use Rattle.vms_bodies.proofs.FineLaws.{part_place}
 use Rattle.vms_bodies.proofs.PartLaws.{sub_size, sub_place_up, places_apart}
-use Rattle.vms_bodies.proofs.SettledLaws.{SameIn}
 use Rattle.dev_images.specs.Images.{bare}
 use Rattle.vms_check_laws.specs.SubCells.{IsCellOf}
 use Rattle.vms_convert.specs.Back.{AreSettled, whole}

@@ -1,5 +1,5 @@
 -- What the cells of a device have taken, part by part.
-use Rattle.std.proofs.Common.{◌≡◌, ℕ, zero, suc, ◌+◌, ◌<◌, ◌≤◌, Bool, List, [], ◌∷◌, ◌++◌, length, get_or, map, take, Option, Some, None, ℤ, pos, refl, sym, ap, ◌∙◌, subst, arith, if◌then◌else◌}
+use Rattle.std.proofs.Common.{◌≡◌, ℕ, zero, suc, ◌<◌, List, [], ◌∷◌, ◌++◌, length, get_or, map, take, Option, Some, None, ℤ, pos, sym, ap, ◌∙◌, subst, if◌then◌else◌}
 use Rattle.std.proofs.Math.ListN.{get_or-map}
 use Rattle.std.proofs.lemmas.List.{map-append, length-map}
 use Rattle.std.specs.List.{slice_get}
@@ -14,7 +14,7 @@ use Rattle.vms_walk.specs.Inside.{Keeps}
 use Rattle.vms_walk.specs.Steps.{steps_of, step_of}
 use Rattle.vms_walk.specs.declared.step.WalkStep.{WalkStep}
 use Rattle.vms_walk.proofs.Local.{has_step_of}
-use Rattle.vms_convert.specs.Back.{AreTaken, taken, whole}
+use Rattle.vms_convert.specs.Back.{AreTaken, whole}
 use Rattle.vms_convert.specs.Changes.{changed, changed_append}
 use Rattle.vms_convert.specs.Putting.{put_step}
 use Rattle.vms_convert.specs.Takes.{put_keeps}

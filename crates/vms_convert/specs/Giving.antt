@@ -4,7 +4,6 @@ use Rattle.std.proofs.Common.{ap, ◌∙◌}
 use Rattle.vms_kinds.specs.declared.Kind.{Kind}
 use Rattle.vms_kinds.specs.declared.Kind.TheVariants.{U8}
 use Rattle.vms_kinds.specs.Codes.{InRange}
-use Rattle.vms_walk.specs.declared.step.WalkStep.{WalkStep}
 use Rattle.vms_walk.specs.declared.step.WalkStep.TheVariants.{Number, Constant, Filler, Rule}
 use Rattle.vms_convert.specs.Changes.{Change}
 

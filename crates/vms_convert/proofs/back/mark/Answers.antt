@@ -1,4 +1,4 @@
-use Rattle.std.proofs.Common.{◌≡◌, ◌≤◌, ℕ, List, Option, length, ap, ◌∙◌, arith}
+use Rattle.std.proofs.Common.{◌≤◌, ℕ, List, Option, length, ap, ◌∙◌, arith}
 use Rattle.vms_desc.specs.Described.{described, device_at}
 use Rattle.vms_convert.proofs.BringLaws.{mark_all}
 use Rattle.vms_convert.proofs.back.mark.Goals as goal

@@ -1,4 +1,4 @@
-use Rattle.std.proofs.Common.{◌≡◌, ◌<◌, ◌≤◌, length, arith}
+use Rattle.std.proofs.Common.{◌<◌, length, arith}
 use Rattle.vms_spec.specs.WellFormed.{WellFormed, first_fault}
 use Rattle.vms_desc.specs.Described.{described, device_at}
 use Rattle.vms_desc.proofs.Bounds.{none_is}

@@ -1,4 +1,4 @@
-use Rattle.std.proofs.Common.{◌≡◌, ◌<◌, List, ℤ, length, refl, sym, ap, ◌∙◌, subst, arith}
+use Rattle.std.proofs.Common.{◌<◌, List, ℤ, length, refl, sym, ap, ◌∙◌, subst, arith}
 use Rattle.vms_kinds.specs.declared.Kind.{Kind}
 use Rattle.vms_desc.specs.Described.{described, device_at}
 use Rattle.vms_image.specs.Typed.{Typed, state_of}

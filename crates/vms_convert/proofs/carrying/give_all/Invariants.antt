@@ -1,4 +1,3 @@
-use Rattle.std.proofs.Common.{◌≡◌}
 use Rattle.vms_desc.specs.Described.{described, device_at}
 use Rattle.vms_walk.specs.Steps.{steps_of}
 use Rattle.vms_convert.specs.Changes.{Changes}
