@@ -1,0 +1,60 @@
+-- What a call over fresh objects in memory comes to.
+use Rattle.std.proofs.Common.{◌≡◌, ◌∙◌, ap, subst, ℕ, true, List, [], Some, None}
+use Rattle.vms_io.specs.Memory.{Supply, is_empty}
+use Rattle.vms_io.specs.Shelves.{Held}
+use Rattle.vms_io.specs.Told.{Intake, Outlet, Stock}
+use Rattle.vms_commands.specs.Outcomes.{Outside}
+use Rattle.vms_cli.specs.Answers.{Answers}
+use Rattle.vmstate_c.specs.Calls.{Comes, before, file_of, words_of}
+use Rattle.vmstate_c.specs.declared.request.Request.{Request}
+
+-- a source of bytes that no read was made of, and of which none fails
+abbrev fresh : List ℕ → Intake
+fresh bytes = record { left = Some bytes; given = 0; faults = 0; promise = true }
+
+abbrev intake_of : Supply → Intake
+intake_of s = record { left = Some s.left; given = s.given; faults = s.faults; promise = is_empty s.failing }
+
+abbrev supplied : List ℕ → List ℕ → List ℕ → Supply
+supplied bytes pieces failing = record { left = bytes; pieces = pieces; failing = failing; calls = 0; given = 0; faults = 0 }
+
+pub input-is : (s : Supply) (bytes pieces failing input : List ℕ) → s ≡ supplied bytes pieces failing → bytes ≡ input → failing ≡ [] → intake_of s ≡ fresh input
+input-is s bytes pieces failing input e f g =
+    ap intake_of e ∙ ap (λ (x : List ℕ). let i : Intake = record { left = Some x; given = 0; faults = 0; promise = is_empty failing } in i) f
+    ∙ ap (λ (x : List ℕ). let i : Intake = record { left = Some input; given = 0; faults = 0; promise = is_empty x } in i) g
+
+abbrev outlet_of : List ℕ → ℕ → Outlet
+outlet_of bytes faults = record { written = Some bytes; faults = faults; promise = None }
+
+pub sink-is : (bytes : List ℕ) (faults : ℕ) → bytes ≡ [] → faults ≡ 0 → outlet_of bytes faults ≡ outlet_of [] 0
+sink-is bytes faults e f = ap (λ (x : List ℕ). outlet_of x faults) e ∙ ap (outlet_of []) f
+
+abbrev stock_of : Held → ℕ → List ℕ → Stock
+stock_of held faults failing = record { held = Some held; faults = faults; promise = is_empty failing }
+
+pub shelf-is : (held : Held) (faults : ℕ) (failing : List ℕ) → faults ≡ 0 → failing ≡ [] → stock_of held faults failing ≡ stock_of held 0 []
+shelf-is held faults failing e f = ap (λ (n : ℕ). stock_of held n failing) e ∙ ap (stock_of held 0) f
+
+abbrev outside : Intake → Outlet → Outlet → Stock → Outside
+outside input out notes shelf = record { input = input; out = out; notes = notes; shelf = shelf }
+
+pub comes : (request : Request) (status : ℕ) (words : List (List ℕ)) (held : Held) (input : Intake) (out notes : Outlet) (shelf : Stock) (after : Outside) (text line : List ℕ)
+    → words ≡ words_of request.words.now
+    → ((name : List ℕ) → held name ≡ file_of name request.files.now)
+    → input ≡ fresh request.input.now → out ≡ outlet_of [] 0 → notes ≡ outlet_of [] 0 → shelf ≡ stock_of held 0 []
+    → Answers words status (outside input out notes shelf) after
+    → after.out.written ≡ Some text → after.notes.written ≡ Some line
+    → Comes request status text line
+comes request status words held input out notes shelf after text line same files i o n s answers wrote told =
+    let began : outside input out notes shelf ≡ before request.input.now held =
+    ap (λ (x : Intake). outside x out notes shelf) i ∙ ap (λ (x : Outlet). outside (fresh request.input.now) x notes shelf) o
+    ∙ ap (λ (x : Outlet). outside (fresh request.input.now) (outlet_of [] 0) x shelf) n
+    ∙ ap (outside (fresh request.input.now) (outlet_of [] 0) (outlet_of [] 0)) s in
+    record {
+      held = held;
+      files = files;
+      after = after;
+      answers = subst (λ (x : Outside). Answers (words_of request.words.now) status x after) began (subst (λ (x : List (List ℕ)). Answers x status (outside input out notes shelf) after) same answers);
+      out_is = wrote;
+      notes_is = told;
+    }

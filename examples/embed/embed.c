@@ -1,0 +1,115 @@
+/* Loads a snapshot, refuses a damaged one with its place, and asks again where a room was too small.
+ *
+ *     embed SET STREAM          a description file and a stream of it
+ *     embed SET STREAM CALLS    makes so many calls and tells the time of one and how far memory grew
+ */
+#include <stdio.h>
+#include <stdlib.h>
+#include <string.h>
+#include <sys/resource.h>
+#include <time.h>
+
+#include "vmstate.h"
+
+#define BYTES(text) {(const uint8_t *)(text), sizeof(text) - 1}
+
+enum { FIRST_ROOM = 16, NOTES_ROOM = 256 };
+
+static struct vmstate_bytes read_file(const char *path)
+{
+    FILE *file = fopen(path, "rb");
+    if (!file || fseek(file, 0, SEEK_END)) {
+        perror(path);
+        exit(2);
+    }
+    long length = ftell(file);
+    uint8_t *at = malloc(length + 1);
+    rewind(file);
+    if (!at || fread(at, 1, length, file) != (size_t)length) {
+        perror(path);
+        exit(2);
+    }
+    fclose(file);
+    return (struct vmstate_bytes){at, length};
+}
+
+/* What the command `show set` prints of a stream. */
+static struct vmstate_answer show(struct vmstate_bytes set, struct vmstate_bytes stream, uint8_t *out, size_t room,
+                                  uint8_t *notes)
+{
+    const struct vmstate_bytes words[] = {BYTES("show"), BYTES("set")};
+    const struct vmstate_file files[] = {{BYTES("set"), set}};
+    const struct vmstate_request request = {words, 2, stream, files, 1};
+    return vmstate_call(&request, out, room, notes, NOTES_ROOM);
+}
+
+/* A stream that has lost its last quarter. */
+static struct vmstate_bytes damaged(struct vmstate_bytes stream)
+{
+    return (struct vmstate_bytes){stream.at, stream.length - stream.length / 4};
+}
+
+/* Prints it, and what notes say. */
+static void tell(const char *what, struct vmstate_bytes set, struct vmstate_bytes stream)
+{
+    size_t room = FIRST_ROOM;
+    uint8_t notes[NOTES_ROOM], *out = malloc(room);
+    struct vmstate_answer answer = show(set, stream, out, room, notes);
+    if (answer.status == VMSTATE_TOO_SMALL) {
+        printf("%s: %zu bytes are too few\n", what, room);
+        room = answer.out;
+        out = realloc(out, room);
+        answer = show(set, stream, out, room, notes);
+    }
+    printf("%s: status %u\n%.*s%.*s", what, answer.status, (int)answer.out, (char *)out, (int)answer.notes,
+           (char *)notes);
+    free(out);
+}
+
+static long most_memory(void)
+{
+    struct rusage usage;
+    getrusage(RUSAGE_SELF, &usage);
+    return usage.ru_maxrss;
+}
+
+static double seconds(void)
+{
+    struct timespec now;
+    clock_gettime(CLOCK_MONOTONIC, &now);
+    return now.tv_sec + now.tv_nsec / 1e9;
+}
+
+/* Makes many calls, of which every second is refused. */
+static void repeat(struct vmstate_bytes set, struct vmstate_bytes stream, long calls)
+{
+    uint8_t out[4096], notes[NOTES_ROOM];
+    struct vmstate_bytes cut = damaged(stream);
+    long done = 0, grown = 0;
+    double begin = seconds();
+    for (long call = 0; call < calls; call++) {
+        done += show(set, call % 2 ? cut : stream, out, sizeof out, notes).status == 0;
+        if (call == calls / 10)
+            grown = most_memory();
+    }
+    printf("%ld calls, %ld done, %.2f us a call, memory grew by %ld KiB after the first tenth\n", calls, done,
+           (seconds() - begin) * 1e6 / calls, most_memory() - grown);
+}
+
+int main(int count, char **words)
+{
+    if (count < 3) {
+        fprintf(stderr, "usage: embed SET STREAM [CALLS]\n");
+        return 2;
+    }
+    struct vmstate_bytes set = read_file(words[1]), stream = read_file(words[2]);
+    if (count > 3) {
+        repeat(set, stream, atol(words[3]));
+    } else {
+        tell("whole", set, stream);
+        tell("damaged", set, damaged(stream));
+    }
+    free((void *)set.at);
+    free((void *)stream.at);
+    return 0;
+}
