@@ -1,8 +1,9 @@
-//! A tour of the library: a set, a stream of it, a refusal, an upgrade, and a device of one's own.
+//! A tour of the library: a set, a stream of it, a refusal, an upgrade, a device of one's own, and a board.
 //!
 //! `docs/library.md` goes through it, and quotes it.
 #![tactic(auto)]
 
+mod board;
 mod lamp;
 mod set;
 mod stream;
@@ -19,7 +20,8 @@ fn main(rt: HostRuntime) -> Result<()> {
     let stream = lamp_stream(rt.alloc())?;
     println!(rt; "a lamp's stream has {} bytes", stream.len())?;
     load_back(&rt, &stream)?;
-    upgrade(&rt)
+    upgrade(&rt)?;
+    board::send_a_line(&rt)
 }
 
 // The stream of a lamp that is saved.

@@ -1,0 +1,64 @@
+// A board: it is saved while it sends a line, and another goes on from there.
+use anyhow::{Context, Result, bail};
+use std::alloc::Global;
+use vms_board::{Board, Event};
+use vms_io::{MemSink, MemSource};
+
+/// The newest level and set.
+const NEWEST: u8 = 4;
+
+/// The serial port at 9600 baud with its FIFOs on, and two bytes to send.
+const WRITES: [(u16, u8); 7] = [
+    (0x3fb, 0x83),
+    (0x3f8, 0x0c),
+    (0x3f9, 0x00),
+    (0x3fb, 0x03),
+    (0x3fa, 0x01),
+    (0x3f8, b'o'),
+    (0x3f8, b'k'),
+];
+
+/// Sends two bytes, and goes on on two boards once one has left.
+pub fn send_a_line(rt: &HostRuntime) -> Result<()> {
+    let mut board = Board::new(rt.alloc(), 2).ok().context("memory")?;
+    send(rt, &mut board)
+}
+
+#[tactic(auto, unfolding(dev_board::specs::Step::names_wire))]
+fn send(rt: &HostRuntime, board: &mut Board) -> Result<()> {
+    for (port, value) in WRITES {
+        board.event(Event::Write { port, value });
+    }
+    println!(rt; "before: {:?}", sent(board))?;
+    let mut other = carried(rt.alloc(), board)?;
+    go_on(rt, board, &mut other)
+}
+
+fn go_on(rt: &HostRuntime, board: &mut Board, other: &mut Board) -> Result<()> {
+    println!(rt; "after: {:?} and {:?}", sent(board), sent(other))?;
+    Ok(())
+}
+
+// The first byte that leaves while time passes.
+#[tactic(auto, unfolding(dev_board::specs::Step::names_wire))]
+fn sent(board: &mut Board) -> Option<u8> {
+    let answer = board.event(Event::Wait { ns: 1_500_000 });
+    answer.sent.first().copied()
+}
+
+// The board that a board's stream restores.
+fn carried(alloc: Global, board: &Board) -> Result<Board> {
+    let level = board.number();
+    if level < 1 || level > NEWEST {
+        bail!("no such level");
+    }
+    let mut sink = MemSink::new(alloc, 65536, Vec::new(alloc))
+        .ok()
+        .context("memory")?;
+    board.save(alloc, NEWEST, &mut sink)?;
+    let stream = sink.bytes().to_vec(alloc)?;
+    let mut source = MemSource::new(stream, Vec::new(alloc), Vec::new(alloc));
+    let mut other = Board::new(alloc, level).ok().context("memory")?;
+    other.restore(&mut source)?;
+    Ok(other)
+}
