@@ -43,11 +43,15 @@ pub fn convert<S: Source, K: Sink>(
         let empty = outlet K.Sink sink.old in let full = outlet K.Sink sink.new in
         Converts (described to.now) (shipped_set NEWEST) before after empty full result }
 {
-    let mut loader = Loader::new(alloc, DescSet::shipped(alloc, NEWEST)?)?;
+    let newest = DescSet::shipped(alloc, NEWEST)?;
+    if let Verdict::Refused(mismatch) = check(to, &newest) {
+        return Err(ConvertFault::NotCompatible(mismatch));
+    }
+    let mut loader = Loader::new(alloc, newest)?;
     convert_by(alloc, source, to, &mut loader, sink)
 }
 
-// The same by a loader of the newest set.
+// The same by a loader of the newest set, where that reads what the target writes.
 fn convert_by<S: Source, K: Sink>(
     alloc: Global,
     source: &mut S,
@@ -55,14 +59,12 @@ fn convert_by<S: Source, K: Sink>(
     loader: &mut Loader,
     sink: &mut K,
 ) -> Result<(), ConvertFault>
-    requires { loads loader.old ≡ shipped_set NEWEST }
+    requires newest { loads loader.old ≡ shipped_set NEWEST }
+    requires compatible { Compatible (described to.now) (shipped_set NEWEST) }
     ensures { let before = intake S.Source source.old in let after = intake S.Source source.new in
         let empty = outlet K.Sink sink.old in let full = outlet K.Sink sink.new in
         Converts (described to.now) (shipped_set NEWEST) before after empty full result }
 {
-    if let Verdict::Refused(mismatch) = check(to, loader.set()) {
-        return Err(ConvertFault::NotCompatible(mismatch));
-    }
     let machine = loader.load(source, None)?;
     convert_kept(alloc, to, loader, machine, sink)
 }
