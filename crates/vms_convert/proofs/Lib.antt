@@ -2,12 +2,14 @@ pub mod Answered
 pub mod BackNormal
 pub mod BackVersions
 pub mod BringLaws
+pub mod ConvertLaws
 pub mod Converts
 pub mod FirstParts
 pub mod GiveLaws
 pub mod GivenAll
 pub mod HasBack
 pub mod ImageOf
+pub mod JudgeLaws
 pub mod Known
 pub mod LostLaws
 pub mod MarkedAll

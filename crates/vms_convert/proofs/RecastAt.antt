@@ -1,5 +1,5 @@
 -- The recast numbers of a device of the newest set, and when its cells are a port's.
-use Rattle.std.proofs.Common.{◌≡◌, ℕ, zero, suc, ◌<◌, Bool, true, false, ◌&&◌, List, [], ◌∷◌, length, get_or, Some, ℤ, refl, sym, ap, ◌∙◌, arith, if◌then◌else◌}
+use Rattle.std.proofs.Common.{◌≡◌, ℕ, zero, suc, ◌<◌, Bool, true, false, ◌&&◌, List, [], ◌∷◌, length, get_or, Some, ℤ, refl, sym, ap, ◌∙◌, subst, arith, if◌then◌else◌}
 use Rattle.std.specs.List.{slice_get}
 use Rattle.vms_spec.specs.Sets.{Device, Set}
 use Rattle.vms_spec.specs.Images.{Image}
@@ -53,3 +53,7 @@ port_cells images kept k image is at =
 
 pub kept_kinds : (to : Set) (images : List Image) → AreKept set_4 images → AreRecastOf to set_4 images
 kept_kinds to images kept = recast_of to images kept.one_each (λ k e image at at'. (kept.each k e image at at').normal)
+
+-- of a set that is the newest
+pub newest_kinds : (to new : Set) → new ≡ set_4 → (images : List Image) → AreKept new images → AreRecastOf to new images
+newest_kinds to new is images = subst (λ (s : Set). AreKept s images → AreRecastOf to s images) (sym is) (kept_kinds to images)

@@ -13,12 +13,11 @@ use Rattle.vms_load.specs.Good.{AreKept}
 use Rattle.dev_base.specs.declared.limits.TheConstants.{NEWEST}
 use Rattle.dev_serial.specs.Cells.{IsPortCells, kinds}
 use Rattle.vms_convert.specs.Converted.{recast_each}
-use Rattle.vms_convert.specs.Laws.{AreRecastOf}
 use Rattle.vms_convert.specs.Lost.{numbers_in}
 use Rattle.vms_convert.specs.Recast.{is_port, recast}
 use Rattle.vms_convert.specs.Returns.{IsRecastFor}
 use Rattle.vms_convert.proofs.BringLaws.{there}
-use Rattle.vms_convert.proofs.RecastAt.{kept_kinds, port_cells, port_is, recast_at}
+use Rattle.vms_convert.proofs.RecastAt.{newest_kinds, port_cells, port_is, recast_at}
 
 four_kinds : kinds_at set_4 4 ≡ kinds 4
 unfolding first
@@ -29,10 +28,7 @@ module _ (to new : Set) (is : new ≡ set_4) (images : List Image) (kept : AreKe
   wanted = recast_each to new.devices (numbers_in images)
 
   wanted_kinds : AreOfKinds (device_cells new (device_at new k)) (get_or (recast_each to new.devices (numbers_in images)) k [])
-  wanted_kinds =
-      let all : (s : Set) → s ≡ set_4 → AreKept s images → AreRecastOf to s images =
-      λ s e. subst (λ (t : Set). AreKept t images → AreRecastOf to t images) (sym e) (kept_kinds to images) in
-      all new is kept k (device_at new k) (there new k lt)
+  wanted_kinds = newest_kinds to new is images kept k (device_at new k) (there new k lt)
 
   pub wanted_is : get_or (recast_each to new.devices (numbers_in images)) k [] ≡ recast to (device_at new k) image.numbers
   wanted_is = recast_at to new.devices (numbers_in images) k (device_at new k) image.numbers (there new k lt) (at_map (λ (x : Image). x.numbers) images k image at)

@@ -1,9 +1,11 @@
 pub mod Back
 pub mod Bringing
+pub mod Calls
 pub mod Changes
 pub mod Converted
 pub mod Giving
 pub mod Laws
+pub mod Losing
 pub mod Lost
 pub mod Partnering
 pub mod Putting

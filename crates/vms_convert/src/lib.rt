@@ -2,13 +2,18 @@
 #![tactic(auto)]
 
 mod back;
+mod call;
 mod carrying;
+mod fault;
 mod giving;
 pub mod laws;
+mod losing;
 mod pairing;
 mod recasting;
 mod returning;
 mod returns;
 mod taking;
 
+pub use call::convert;
+pub use fault::ConvertFault;
 pub use pairing::partners;

@@ -1,0 +1,230 @@
+-- What was found of the devices, as the relations say it.
+use Rattle.std.proofs.Common.{◌≡◌, ℕ, zero, suc, ◌<◌, Bool, true, false, ◌||◌, List, [], ◌∷◌, length, get_or, map, Option, Some, None, Result, Ok, Err, ℤ, refl, sym, ap, ◌∙◌, subst, arith}
+use Rattle.std.proofs.lemmas.List.{length-map}
+use Rattle.std.proofs.lemmas.Option.{get_or_from_slice_get, slice_get-get_or, slice_get_within}
+use Rattle.std.proofs.lemmas.Slice.Eq.{bytes_eq-Decides}
+use Rattle.std.specs.List.{slice_get}
+use Rattle.std.specs.Bool.{OnFalse, OnTrue}
+use Rattle.std.specs.Str.{bytes_eq}
+use Rattle.vms_spec.specs.Good.{IsFit}
+use Rattle.vms_spec.specs.Sets.{Device, Set}
+use Rattle.vms_spec.specs.Images.{Image, IsValid}
+use Rattle.vms_spec.specs.Layout.{Cell, device_cells}
+use Rattle.vms_spec.specs.Lookup.{find_device}
+use Rattle.vms_spec.specs.Shipped.{set_4}
+use Rattle.vms_spec.specs.Streams.{AreReady, IsReady, is_one_of}
+use Rattle.vms_spec.specs.WellFormed.{WellFormed}
+use Rattle.vms_desc.specs.Described.{device_at}
+use Rattle.vms_image.specs.Typed.{Typed, state_of}
+use Rattle.vms_bodies.proofs.Stated.{shipped_holds}
+use Rattle.vms_load.specs.Good.{AreKept}
+use Rattle.vms_load.specs.Staging.{name_of}
+use Rattle.vms_image.proofs.States.{image_at}
+use Rattle.vms_check.specs.Carrying.{carried}
+use Rattle.vms_check.specs.Comparing.{Compatible}
+use Rattle.vms_check.specs.Partners.{device_partners}
+use Rattle.vms_check_laws.specs.Pairing.{AreOfKinds}
+use Rattle.vms_check_laws.proofs.Streaming.{back, found_device, pair}
+use Rattle.vms_convert.specs.Back.{IsBack}
+use Rattle.vms_convert.specs.Converted.{AreBack, IsPairAt, recast_each}
+use Rattle.vms_convert.specs.Laws.{MayBeWritten}
+use Rattle.vms_convert.specs.Losing.{AreWritable, FirstInvalid, IsNameAt, Judges, KeepsMachine, KeepsName, first_cell_at, first_of}
+use Rattle.vms_convert.specs.Lost.{IsValidAt, Loses, OfDevice, OfMachine, first_cell, numbers_in}
+use Rattle.vms_convert.specs.Returns.{AreReturned, AreReturnedTo, IsFirstLost}
+use Rattle.vms_convert.specs.declared.fault.Loss.{Loss}
+use Rattle.vms_convert.specs.declared.returns.LostCell.{LostCell}
+use Rattle.vms_convert.specs.declared.returns.Returns.{Returns}
+use Rattle.vms_convert.proofs.Converts.{back_stands}
+use Rattle.vms_convert.proofs.LostLaws.{all_carried, cell_lost}
+use Rattle.vms_convert.proofs.RecastAt.{newest_kinds, recast_long}
+
+abbrev no_device : Device
+no_device = device_at (record { machines = []; structs = []; devices = [] }) 0
+
+device_is : (set : Set) (k : ℕ) (d : Device) → slice_get set.devices k ≡ Some d → device_at set k ≡ d
+device_is set k d at = get_or_from_slice_get set.devices k d no_device at
+
+module _ (to new : Set) (wanted : List (List ℤ)) (images : List Typed) (lost : Option LostCell) (returned : AreReturnedTo to new wanted (length to.devices) images lost) where
+  abbrev backs : List Image
+  backs = map state_of images
+
+  pub backs_long : length backs ≡ length to.devices
+  backs_long = length-map images state_of ∙ returned.count
+
+  pub are_back : AreBack to new wanted backs
+  are_back = record { one_each = backs_long; each = λ i k d e image p at. one i k d e image p at } where
+    one : (i k : ℕ) (d e : Device) (image : Image) → IsPairAt to new i k d e → slice_get backs i ≡ Some image → IsBack to d (device_partners to new d e) (get_or wanted k []) image
+    one i k d e image p at =
+        let d_is = device_is to i d p.in_old in
+        let e_is = device_is new k e p.in_new in
+        let p' = subst (λ (x : Device). IsPairAt to new i k x (device_at new k)) (sym d_is) (subst (λ (y : Device). IsPairAt to new i k d y) (sym e_is) p) in
+        subst (λ (y : Device). IsBack to d (device_partners to new d y) (get_or wanted k []) image) e_is
+        (subst (λ (x : Device). IsBack to x (device_partners to new x (device_at new k)) (get_or wanted k []) image) d_is (returned.back i k image p' at))
+
+  module _ (fit : IsFit to) (well : WellFormed new) (compatible : Compatible to new) (kinds : (k : ℕ) (e : Device) → slice_get new.devices k ≡ Some e → AreOfKinds (device_cells new e) (get_or wanted k [])) where
+    pub writable : AreWritable to images
+    writable = record { count = returned.count; of = returned.of; may = λ i d image there at. one i d image there at } where
+      one : (i : ℕ) (d : Device) (image : Image) → slice_get to.devices i ≡ Some d → slice_get backs i ≡ Some image → MayBeWritten to d image
+      one i d image there at =
+          let newer = pair to new fit.well well compatible i d there in
+          back_stands to new fit well i d newer.device there (get_or wanted newer.number []) (kinds newer.number newer.device newer.stands) image
+          (are_back.each i newer.number d newer.device image (record { in_old = there; found = newer.found; in_new = newer.stands }) at)
+
+    -- images that are valid, each as the newer set's device of its name, are ready
+    pub are_ready : ((k : ℕ) → k < length new.devices → IsValidAt to new backs k) → AreReady to backs
+    are_ready valid = record { one_each = backs_long; ready = λ i d image there at. one i d image there at } where
+      one : (i : ℕ) (d : Device) (image : Image) → slice_get to.devices i ≡ Some d → slice_get backs i ≡ Some image → IsReady to d image
+      one i d image there at =
+          let newer = pair to new fit.well well compatible i d there in
+          let may = writable.may i d image there at in
+          record {
+            normal = may.normal;
+            valid = valid newer.number (slice_get_within new.devices newer.number newer.device newer.stands) i d newer.device image newer.stands (back to new fit.well well compatible i d there newer) there at;
+            version = may.version;
+            needed = may.needed;
+          }
+
+-- ---- one device
+
+module _ (to new : Set) (images : List Typed) (writable : AreWritable to images) (k : ℕ) where
+  abbrev all : List Image
+  all = map state_of images
+
+  -- the image that the older set has of it is ready, or isn't
+  pub valid_of : (i : ℕ) (image : Typed) → find_device 0 to.devices (device_at new k).desc.name (device_at new k).instance ≡ Some i → slice_get all i ≡ Some (state_of image)
+      → IsReady to (device_at to i) (state_of image) → IsValidAt to new all k
+  valid_of i image found at ready j d e back in_new found' in_old at' =
+      let e_is = device_is new k e in_new in
+      let same : Some i ≡ Some j = sym found ∙ ap (λ (x : Device). find_device 0 to.devices x.desc.name x.instance) e_is ∙ found' in
+      let number : i ≡ j = cc in
+      let image_is : Some (state_of image) ≡ Some back = sym at ∙ ap (λ (n : ℕ). slice_get all n) number ∙ at' in
+      let back_is : state_of image ≡ back = cc in
+      let d_is : device_at to i ≡ d = ap (λ (n : ℕ). device_at to n) number ∙ device_is to j d in_old in
+      subst (λ (x : Device). IsValid to x back) d_is (subst (λ (b : Image). IsValid to (device_at to i) b) back_is ready.valid)
+
+  pub invalid_of : (i : ℕ) (image : Typed) → k < length new.devices → find_device 0 to.devices (device_at new k).desc.name (device_at new k).instance ≡ Some i
+      → i < length to.devices → slice_get all i ≡ Some (state_of image) → (IsReady to (device_at to i) (state_of image) → ⊥) → IsValidAt to new all k → ⊥
+  invalid_of i image lt found inside at not valid =
+      let there : slice_get to.devices i ≡ Some (device_at to i) = slice_get-get_or to.devices i no_device inside in
+      let may = writable.may i (device_at to i) (state_of image) there at in
+      not (record {
+        normal = may.normal;
+        valid = valid i (device_at to i) (device_at new k) (state_of image) (slice_get-get_or new.devices k no_device lt) found there at;
+        version = may.version;
+        needed = may.needed;
+      })
+
+  pub valid_none : find_device 0 to.devices (device_at new k).desc.name (device_at new k).instance ≡ None → IsValidAt to new all k
+  valid_none none j d e back in_new found in_old at =
+      let e_is = device_is new k e in_new in
+      let same : None ≡ Some j = sym none ∙ ap (λ (x : Device). find_device 0 to.devices x.desc.name x.instance) e_is ∙ found in
+      absurd (cc)
+
+-- ---- names
+
+-- a name that is found at a number
+pub name_at : (names : List (List ℕ)) (m : ℕ) (name known : List ℕ) → m < length names → known ≡ get_or names m known → bytes_eq known name ≡ true → slice_get names m ≡ Some name
+name_at names m name known lt is same =
+    slice_get-get_or names m known lt ∙ ap (λ (n : List ℕ). Some n) (sym is ∙ (bytes_eq-Decides known name).0 same)
+
+pub first_name : (names : List (List ℕ)) (name : List ℕ) (m : ℕ) → slice_get names m ≡ Some name → is_one_of names name ≡ true
+first_name [] name m e = absurd (cc)
+first_name (n ∷ names) name zero e = let same : n ≡ name = cc in ap (λ (b : Bool). b || is_one_of names name) ((bytes_eq-Decides n name).1 same)
+first_name (n ∷ names) name (suc m) e = or_true (bytes_eq n name) (is_one_of names name) (first_name names name m e)
+  where
+    or_true : (a b : Bool) → b ≡ true → (a || b) ≡ true
+    or_true true b e = refl
+    or_true false b e = e
+
+-- ---- all together
+
+module _ (to new : Set) (name : Option (List ℕ)) (wanted there : List (List ℤ)) (backs : List Image) (same : wanted ≡ there) where
+  pub device_lost : (k : ℕ) → FirstInvalid to new backs (Some k) → Loses to new name wanted there backs (Some k) (first_cell (get_or wanted k []))
+  device_lost k h = OfDevice k h.0 same h.1 h.2
+
+  pub machine_judged : FirstInvalid to new backs None → (r : Result (Option ℕ) Loss) → KeepsMachine to name r → Judges to new name wanted there backs r
+  machine_judged valid (Ok m) h = (record { cells = same; valid = valid; machine_is = h.one }, h)
+  machine_judged valid (Err loss) h =
+      subst (λ (l : Loss). Loses to new name wanted there backs l.section l.cell) (sym h.loss_is) (OfMachine h.which same valid h.is h.none)
+
+-- a machine that is found by its name
+pub keeps_machine : (to new : Set) (names : List (List ℕ)) (name : List ℕ) (k own : ℕ) → names ≡ to.machines → name ≡ get_or new.machines k [] → IsNameAt names name (Some own)
+    → KeepsName to (name_of new (Some k)) (Some own)
+keeps_machine to new names name k own names_are name_is h =
+    let inside : own < length to.machines = subst (λ (l : List (List ℕ)). own < length l) names_are h.0 in
+    let at : slice_get to.machines own ≡ Some (get_or new.machines k []) = ap (λ (l : List (List ℕ)). slice_get l own) (sym names_are) ∙ h.1 ∙ ap (λ (n : List ℕ). Some n) name_is in
+    record { is = at; inside = inside; one = first_name to.machines (get_or new.machines k []) own at }
+
+-- ---- the answer, of what comes back of the images that a loader of the newest set keeps
+
+pub on_true : (b : Bool) (P Q : Type 0) → (P → Q) → OnTrue b P → OnTrue b Q
+on_true true P Q f h = f h
+on_true false P Q f h = h
+
+pub on_false : (b : Bool) (P Q : Type 0) → (P → Q) → OnFalse b P → OnFalse b Q
+on_false true P Q f h = h
+on_false false P Q f h = f h
+
+pub found_inside : (devices : List Device) (name : List ℕ) (instance k : ℕ) → find_device 0 devices name instance ≡ Some k → k < length devices
+found_inside devices name instance k found =
+    let f = found_device 0 devices name instance k found in
+    omega (arith, f.1, slice_get_within devices f.0 f.2.device f.2.stands)
+
+module _ (to : Set) (images : List Typed) (writable : AreWritable to images) (name : List ℕ) (instance own : ℕ) (found : find_device 0 to.devices name instance ≡ Some own) where
+  pub own_bound : own < length images
+  own_bound = omega (arith, found_inside to.devices name instance own found, writable.count)
+
+  pub own_image : (image : Typed) → image ≡ get_or images own image → slice_get images own ≡ Some image
+  own_image image is = image_at images own image own_bound is
+
+same_first : (numbers : List ℤ) (cells : List Cell) → length numbers ≡ length cells → first_cell numbers ≡ first_of cells
+same_first [] [] e = refl
+same_first [] (c ∷ cells) e = absurd (omega (arith, e))
+same_first (z ∷ numbers) [] e = absurd (omega (arith, e))
+same_first (z ∷ numbers) (c ∷ cells) e = refl
+
+module _ (to new : Set) (fit : IsFit to) (is : new ≡ set_4) (compatible : Compatible to new) (images : List Image) (kept : AreKept new images) (r : Returns)
+    (returned : AreReturned to new (recast_each to new.devices (numbers_in images)) r) where
+  abbrev wants : List (List ℤ)
+  wants = recast_each to new.devices (numbers_in images)
+
+  abbrev states : List Image
+  states = map state_of r.images.items
+
+  abbrev given : List (List ℤ)
+  given = numbers_in (carried to new states)
+
+  well : WellFormed new
+  well = subst (λ (s : Set). WellFormed s) (sym is) shipped_holds.4.well
+
+  long : length wants ≡ length new.devices
+  long = recast_long to new.devices (numbers_in images) (length-map images (λ (image : Image). image.numbers) ∙ kept.one_each)
+
+  pub writable_back : (typed : List Typed) → typed ≡ r.images.items → AreWritable to typed
+  writable_back typed same =
+      subst (λ (l : List Typed). AreWritable to l) (sym same) (writable to new wants r.images.items r.lost returned fit well compatible (newest_kinds to new is images kept))
+
+  pub backs_are : AreBack to new wants states
+  backs_are = are_back to new wants r.images.items r.lost returned
+
+  pub ready_back : ((k : ℕ) → k < length new.devices → IsValidAt to new states k) → AreReady to states
+  ready_back valid = are_ready to new wants r.images.items r.lost returned fit well compatible (newest_kinds to new is images kept) valid
+
+  first_lost : (lost : Option LostCell) → r.lost ≡ lost → IsFirstLost to new wants (length to.devices) states lost
+  first_lost lost same = subst (λ (o : Option LostCell). IsFirstLost to new wants (length to.devices) states o) same returned.first_lost
+
+  pub cell_first : (name : Option (List ℕ)) (l : LostCell) → r.lost ≡ Some l → Loses to new name wants given states (Some l.device) (Some l.cell)
+  cell_first name l same = cell_lost to new fit.well well compatible states wants long name l (first_lost (Some l) same)
+
+  kept_cells : r.lost ≡ None → wants ≡ given
+  kept_cells same = all_carried to new fit.well well compatible states wants long (first_lost None same)
+
+  pub device_first : (name : Option (List ℕ)) → r.lost ≡ None → (k : ℕ) → FirstInvalid to new states (Some k) → Loses to new name wants given states (Some k) (first_cell_at new k)
+  device_first name same k h =
+      let at : slice_get new.devices k ≡ Some (device_at new k) = slice_get-get_or new.devices k no_device h.0 in
+      let cell : first_cell (get_or wants k []) ≡ first_cell_at new k =
+      same_first (get_or wants k []) (device_cells new (device_at new k)) (newest_kinds to new is images kept k (device_at new k) at).long in
+      subst (λ (o : Option ℕ). Loses to new name wants given states (Some k) o) cell (device_lost to new name wants given states (kept_cells same) k h)
+
+  pub machine_last : (name : Option (List ℕ)) → r.lost ≡ None → FirstInvalid to new states None → (m : Result (Option ℕ) Loss) → KeepsMachine to name m → Judges to new name wants given states m
+  machine_last name same valid m h = machine_judged to new name wants given states (kept_cells same) valid m h

@@ -1,0 +1,111 @@
+// The call.
+ghost use Rattle.std.specs.Prelude.{◌≡◌, ◌<◌, IfSome, length, map};
+ghost use Rattle.dev_base.specs.declared.limits.TheConstants.{NEWEST};
+ghost use Rattle.vms_check.specs.Comparing.{Compatible};
+ghost use Rattle.vms_desc.specs.Described.{described};
+ghost use Rattle.vms_desc.specs.Formed.{shipped_set};
+ghost use Rattle.vms_io.specs.Told.{intake, outlet};
+ghost use Rattle.vms_load.specs.Good.{AreKept};
+ghost use Rattle.vms_load.specs.Kept.{kept, loads};
+ghost use Rattle.vms_load.specs.Staging.{IsMachine, name_of};
+ghost use Rattle.vms_image.specs.Typed.{AreImagesOf, state_of};
+ghost use Rattle.vms_spec.specs.Lists.{at_option};
+ghost use Rattle.vms_spec.specs.Streams.{AreReady};
+ghost use Rattle.vms_convert.specs.Losing.{PutsBytes, stream_of};
+ghost use Rattle.vms_convert.specs.Calls.{Converts, ConvertsKept};
+
+use crate::fault::ConvertFault;
+use crate::losing::judge;
+use crate::returns::return_all;
+use dev_base::NEWEST;
+use std::alloc::Global;
+use vms_check::{Verdict, check};
+use vms_desc::DescSet;
+use vms_image::Image;
+use vms_io::{Sink, Source};
+use vms_load::Loader;
+use vms_selfdesc::describe;
+use vms_write::write_stream;
+
+/// Reads a stream with the newest shipped set, and writes the same state under another.
+///
+/// Nothing of the source is taken where the newest set doesn't read what the target writes. A port's FIFOs that stand in
+/// rings are put into counted arrays first, where the target keeps them so. Each cell of the target takes the number of its
+/// partner in the newest set, if it has one; what has no room in the target is lost, and then nothing is written. The stream
+/// that is written names the same machine and describes itself.
+pub fn convert<S: Source, K: Sink>(
+    alloc: Global,
+    source: &mut S,
+    to: &DescSet,
+    sink: &mut K,
+) -> Result<(), ConvertFault>
+    ensures { let before = intake S.Source source.old in let after = intake S.Source source.new in
+        let empty = outlet K.Sink sink.old in let full = outlet K.Sink sink.new in
+        Converts (described to.now) (shipped_set NEWEST) before after empty full result }
+{
+    let newest = DescSet::shipped(alloc, NEWEST)?;
+    if let Verdict::Refused(mismatch) = check(to, &newest) {
+        return Err(ConvertFault::NotCompatible(mismatch));
+    }
+    let mut loader = Loader::new(alloc, newest)?;
+    convert_by(alloc, source, to, &mut loader, sink)
+}
+
+// The same by a loader of the newest set, where that reads what the target writes.
+fn convert_by<S: Source, K: Sink>(
+    alloc: Global,
+    source: &mut S,
+    to: &DescSet,
+    loader: &mut Loader,
+    sink: &mut K,
+) -> Result<(), ConvertFault>
+    requires newest { loads loader.old ≡ shipped_set NEWEST }
+    requires compatible { Compatible (described to.now) (shipped_set NEWEST) }
+    ensures { let before = intake S.Source source.old in let after = intake S.Source source.new in
+        let empty = outlet K.Sink sink.old in let full = outlet K.Sink sink.new in
+        Converts (described to.now) (shipped_set NEWEST) before after empty full result }
+{
+    let machine = loader.load(source, None)?;
+    convert_kept(alloc, to, loader, machine, sink)
+}
+
+// Writes the images that a loader keeps under the target.
+fn convert_kept<K: Sink>(
+    alloc: Global,
+    to: &DescSet,
+    loader: &Loader,
+    machine: Option<u32>,
+    sink: &mut K,
+) -> Result<(), ConvertFault>
+    requires newest { loads loader.now ≡ shipped_set NEWEST }
+    requires compatible { Compatible (described to.now) (shipped_set NEWEST) }
+    requires kept { AreKept (shipped_set NEWEST) (kept loader.now) }
+    requires machine { IsMachine (shipped_set NEWEST).machines machine }
+    ensures { let empty = outlet K.Sink sink.old in let full = outlet K.Sink sink.new in
+        let new = shipped_set NEWEST in let name = name_of new machine in
+        ConvertsKept (described to.now) new name (kept loader.now) empty full result }
+{
+    let returns = return_all(alloc, to, loader)?;
+    let machine = judge(to, loader, machine, &returns)?;
+    write_back(alloc, to, machine, &returns.images, sink)
+}
+
+// Writes images of the target, with the description of themselves.
+fn write_back<K: Sink>(
+    alloc: Global,
+    to: &DescSet,
+    machine: Option<u32>,
+    images: &[Image],
+    sink: &mut K,
+) -> Result<(), ConvertFault>
+    requires machine { IfSome machine (λ m. m < length (described to.now).machines) }
+    requires of { AreImagesOf (described to.now) images.now }
+    requires ready { AreReady (described to.now) (map state_of images.now) }
+    ensures { let name = at_option (described to.now).machines machine in
+        let bytes = stream_of (described to.now) name (map state_of images.now) in
+        PutsBytes bytes (outlet K.Sink sink.old) (outlet K.Sink sink.new) result }
+{
+    let text = describe(alloc, to, images)?;
+    write_stream(to, machine, images, Some(&text), sink)?;
+    Ok(())
+}

@@ -1,0 +1,135 @@
+// What would be lost of a stream: a cell, a device that isn't valid, or the machine.
+ghost use Rattle.std.specs.Prelude.{◌≡◌, ◌<◌, ◌^◌, length, map};
+ghost use Rattle.std.specs.Bool.{OnFalse, OnTrue};
+ghost use Rattle.dev_base.specs.declared.limits.TheConstants.{NEWEST};
+ghost use Rattle.vms_check.specs.Carrying.{carried};
+ghost use Rattle.vms_check.specs.Comparing.{Compatible};
+ghost use Rattle.vms_desc.specs.Described.{described};
+ghost use Rattle.vms_desc.specs.Formed.{shipped_set};
+ghost use Rattle.vms_image.specs.Typed.{state_of};
+ghost use Rattle.vms_load.specs.Good.{AreKept};
+ghost use Rattle.vms_load.specs.Kept.{kept, loads};
+ghost use Rattle.vms_load.specs.Staging.{IsMachine, name_of};
+ghost use Rattle.vms_convert.specs.Converted.{recast_each};
+ghost use Rattle.vms_convert.specs.Losing.{AreWritable, FirstInvalid, IsNameAt, Judges, KeepsMachine, first_cell_at};
+ghost use Rattle.vms_convert.specs.Lost.{IsValidAt, numbers_in};
+ghost use Rattle.vms_convert.specs.Returns.{AreReturned};
+
+use crate::fault::Loss;
+use crate::returns::Returns;
+use vms_desc::{DescSet, Text};
+use vms_image::Image;
+use vms_load::Loader;
+use vms_write::ready;
+
+/// The machine's number in the target, or what is lost first.
+pub(crate) fn judge(
+    to: &DescSet,
+    loader: &Loader,
+    machine: Option<u32>,
+    returns: &Returns,
+) -> Result<Option<u32>, Loss>
+    requires newest { loads loader.now ≡ shipped_set NEWEST }
+    requires compatible { Compatible (described to.now) (loads loader.now) }
+    requires kept { AreKept (loads loader.now) (kept loader.now) }
+    requires machine { IsMachine (loads loader.now).machines machine }
+    requires returned { let new = loads loader.now in
+        let wanted = recast_each (described to.now) new.devices (numbers_in (kept loader.now)) in
+        AreReturned (described to.now) new wanted returns.now }
+    ensures { let new = loads loader.now in let name = name_of new machine in
+        let wanted = recast_each (described to.now) new.devices (numbers_in (kept loader.now)) in
+        let backs = map state_of returns.now.images.items in
+        let there = numbers_in (carried (described to.now) new backs) in
+        Judges (described to.now) new name wanted there backs result }
+{
+    if let Some(lost) = returns.lost {
+        return Err(Loss {
+            section: Some(lost.device),
+            cell: Some(lost.cell),
+        });
+    }
+    if let Some(device) = first_invalid(to, loader.set(), &returns.images) {
+        return Err(Loss {
+            section: Some(device),
+            cell: first_cell(loader.set(), device),
+        });
+    }
+    machine_under(to, loader.set(), machine)
+}
+
+// The first device of the newer set whose image isn't valid in the target.
+fn first_invalid(to: &DescSet, newest: &DescSet, images: &[Image]) -> Option<u32>
+    requires { AreWritable (described to.now) images.now }
+    ensures { let backs = map state_of images.now in
+        FirstInvalid (described to.now) (described newest.now) backs result }
+{
+    let devices = newest.parts().devices.as_slice().len() as u32;
+    for device in 0..devices {
+        if !is_valid(to, newest, device, images) {
+            return Some(device);
+        }
+    }
+    None
+}
+
+// Whether the target's image of a device of the newer set may be written.
+fn is_valid(to: &DescSet, newest: &DescSet, device: u32, images: &[Image]) -> bool
+    requires device { device < length (described newest.now).devices }
+    requires writable { AreWritable (described to.now) images.now }
+    ensures valid { let backs = map state_of images.now in
+        OnTrue result (IsValidAt (described to.now) (described newest.now) backs device) }
+    ensures other { let backs = map state_of images.now in
+        OnFalse result (IsValidAt (described to.now) (described newest.now) backs device → ⊥) }
+{
+    let described = newest.device(device);
+    match to.find(described.desc.name.as_bytes(), described.instance) {
+        Some(own) => ready(to, own, &images[own as usize]),
+        None => true,
+    }
+}
+
+// The first cell of a device, if it has one.
+fn first_cell(set: &DescSet, device: u32) -> Option<u32>
+    requires { device < length (described set.now).devices }
+    ensures { result ≡ first_cell_at (described set.now) device }
+{
+    if set.cells(device) == 0 {
+        None
+    } else {
+        Some(0)
+    }
+}
+
+// The number in the target of a machine of the newer set.
+fn machine_under(to: &DescSet, newest: &DescSet, machine: Option<u32>) -> Result<Option<u32>, Loss>
+    requires { IsMachine (described newest.now).machines machine }
+    ensures { KeepsMachine (described to.now) (name_of (described newest.now) machine) result }
+{
+    let Some(number) = machine else {
+        return Ok(None);
+    };
+    let names = newest.parts().machines.as_slice();
+    match find_name(
+        to.parts().machines.as_slice(),
+        names[number as usize].as_bytes(),
+    ) {
+        Some(own) => Ok(Some(own)),
+        None => Err(Loss {
+            section: None,
+            cell: None,
+        }),
+    }
+}
+
+// The number of the first of these names that is this one.
+fn find_name(names: &[Text], name: &[u8]) -> Option<u32>
+    requires { length names.now < 2 ^ 32 }
+    ensures { IsNameAt names.now name.now result }
+{
+    for (number, known) in names.iter().enumerate() {
+        if known.as_bytes() == name {
+            return Some(number as u32);
+        }
+    }
+    None
+}
