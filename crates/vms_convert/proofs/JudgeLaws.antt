@@ -1,5 +1,6 @@
 -- What was found of the devices, as the relations say it.
 use Rattle.std.proofs.Common.{◌≡◌, ℕ, zero, suc, ◌<◌, Bool, true, false, ◌||◌, List, [], ◌∷◌, length, get_or, map, Option, Some, None, Result, Ok, Err, ℤ, refl, sym, ap, ◌∙◌, subst, arith}
+use Rattle.std.proofs.lemmas.Bool.{or_right}
 use Rattle.std.proofs.lemmas.List.{length-map}
 use Rattle.std.proofs.lemmas.Option.{get_or_from_slice_get, slice_get-get_or, slice_get_within}
 use Rattle.std.proofs.lemmas.Slice.Eq.{bytes_eq-Decides}
@@ -130,11 +131,7 @@ name_at names m name known lt is same =
 pub first_name : (names : List (List ℕ)) (name : List ℕ) (m : ℕ) → slice_get names m ≡ Some name → is_one_of names name ≡ true
 first_name [] name m e = absurd (cc)
 first_name (n ∷ names) name zero e = let same : n ≡ name = cc in ap (λ (b : Bool). b || is_one_of names name) ((bytes_eq-Decides n name).1 same)
-first_name (n ∷ names) name (suc m) e = or_true (bytes_eq n name) (is_one_of names name) (first_name names name m e)
-  where
-    or_true : (a b : Bool) → b ≡ true → (a || b) ≡ true
-    or_true true b e = refl
-    or_true false b e = e
+first_name (n ∷ names) name (suc m) e = or_right (bytes_eq n name) (is_one_of names name) (first_name names name m e)
 
 -- ---- all together
 
