@@ -3,11 +3,17 @@ pub mod BoardOutcomes
 pub mod CheckLemmas
 pub mod ClockSets
 pub mod ContinuationLemmas
+pub mod Conversions
+pub mod ConvertLaws
+pub mod ConvertLemmas
+pub mod ConvertOutcome
+pub mod ConvertSteps
 pub mod CounterLemmas
 pub mod EndLemmas
 pub mod EndsSo
 pub mod OutcomeLaws
 pub mod PackLemmas
+pub mod PathRoom
 pub mod RoundTrips
 pub mod RowLemmas
 pub mod RowTables

@@ -37,7 +37,7 @@ use Rattle.vms_script.specs.Grammar.{AreLines}
 use Rattle.vms_script.specs.Lines.{ScriptLine}
 use Rattle.vms_cli.specs.Answers.{HasOutcome}
 use Rattle.vms_cli.specs.Check.{checked, compared, compatible_text, verdict}
-use Rattle.vms_cli.specs.Commands.{Asked, IsaBoard, Show, Analyze, Pack, Check, Counter, Save, Load, Drill, Play, asked_of, ClockBoard}
+use Rattle.vms_cli.specs.Commands.{Asked, IsaBoard, Show, Convert, Analyze, Pack, Check, Counter, Save, Load, Drill, Play, asked_of, ClockBoard}
 use Rattle.vms_counter_laws.specs.Computed.{computed}
 use Rattle.vms_cli.specs.Counter.{CountersBy, counted, counter_text}
 use Rattle.vms_cli.specs.Laws.{HasOneOutcome, OutcomeLaw, CanBePacked, CanBeDone, HasRoom, IsAmple, NoneRises, PromisesKept, CompleteLaw, AmpleLaw}
@@ -47,6 +47,7 @@ use Rattle.vms_cli.proofs.AnalyzeLemmas.{has_listing, only_listing}
 use Rattle.vms_cli.proofs.CheckLemmas.{sound_check}
 use Rattle.vms_cli.proofs.CounterLemmas.{AreFit, counters_text, fit_sets, sound_counter, text_counters}
 use Rattle.vms_cli.proofs.PackLemmas.{pack_gives, sound_pack}
+use Rattle.vms_cli.proofs.ConvertOutcome.{converted_then, one_converted}
 use Rattle.vms_cli.proofs.ShowLemmas.{shown_is, refused_is}
 use Rattle.vms_cli.proofs.VerdictLaws.{StopsAt}
 use Rattle.vms_cli.proofs.BoardOutcomes.{loaded_then, one_loaded, one_saved, saved_then}
@@ -128,6 +129,7 @@ one_played level script input held is holds =
 pub outcome_holds : OutcomeLaw
 outcome_holds None input held ok by = record { outcome = ended 2 bad_words 0; is = refl; only = λ other e. e }
 outcome_holds (Some (Show word)) input held ok by = one_shown word input held ok
+outcome_holds (Some (Convert word)) input held ok by = one_converted word input held ok
 outcome_holds (Some Analyze) input held ok by =
     let one = has_listing input (Some held) in
     record { outcome = one.0; is = one.1; only = λ other p. only_listing input (Some held) other one.0 p one.1 }
@@ -171,6 +173,9 @@ can_be (Some (Show word)) input held can = by input can.2
           status = refl;
           note = refl;
         }
+can_be (Some (Convert word)) input held can =
+    let one = converted_then word held input can in
+    record { outcome = done one.0 held one.1; is = one.2; status = refl; note = refl }
 can_be (Some Analyze) None held can = absurd can
 can_be (Some Analyze) (Some bytes) held can =
     record { outcome = _; is = record { listing = Text can.0; lists = can.1; is = refl }; status = refl; note = refl }

@@ -47,7 +47,7 @@ module _ (held : Option Held) (word : SetWord) (set : Set) (there : word_set hel
   fit = subst FitStep there (fit_word held word)
 
   -- a stream that is written of images that may be written, with its description
-  written_prints : (machine : Option (List ℕ)) (images : List Image) → IsMachineOf set machine → AreReady set images → PrintsAlike word (described_stream set machine images) held
+  pub written_prints : (machine : Option (List ℕ)) (images : List Image) → IsMachineOf set machine → AreReady set images → PrintsAlike word (described_stream set machine images) held
   written_prints machine images named ready =
       let bytes = described_stream set machine images in
       let text = values_text set machine images in

@@ -18,7 +18,7 @@ use Rattle.vms_commands.proofs.FileSets.{FitStep, fit_word}
 use Rattle.vms_cli.specs.Answers.{HasOutcome}
 use Rattle.vms_cli.specs.Check.{AreCompatible, Verdict}
 use Rattle.vms_cli.specs.Laws.{CheckThenShowLaw}
-use Rattle.vms_cli.specs.Commands.{Asked, Show, Analyze, Pack, Check, Counter, Save, Load, Drill, Play}
+use Rattle.vms_cli.specs.Commands.{Asked, Show, Check}
 use Rattle.vms_cli.specs.Show.{Shows, ShowsBy, Values as Printed}
 use Rattle.vms_cli.specs.Upgrade.{IsWritten, Upgrade, UpgradesTo, shown_newer}
 
@@ -43,17 +43,9 @@ upgrades_by (Gives newer) fit status old new all = λ older machine text images 
 
 pub upgrade_so : (asked : Option Asked) (status : ℕ) (old new : Outside)
     → ((o : Outcome) → HasOutcome asked old.input.left old.shelf.held o → DoesOrStops status old new o) → Upgrade asked status old new
-upgrade_so None status old new all = tt
 upgrade_so (Some (Show word)) status old new all =
     upgrades_by (word_set old.shelf.held word) (fit_word old.shelf.held word) status old new all
-upgrade_so (Some Analyze) status old new all = tt
-upgrade_so (Some (Pack set name)) status old new all = tt
-upgrade_so (Some (Check older newer)) status old new all = tt
-upgrade_so (Some (Counter older newer)) status old new all = tt
-upgrade_so (Some (Save board set script)) status old new all = tt
-upgrade_so (Some (Load board script)) status old new all = tt
-upgrade_so (Some (Play level script)) status old new all = tt
-upgrade_so (Some (Drill level seed count)) status old new all = tt
+upgrade_so asked status old new all = tt
 
 -- ---- check, and then show
 

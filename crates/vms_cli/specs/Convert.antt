@@ -55,9 +55,11 @@ lost_text set (Some k) (Some c) = cell_name set (device_at set k) c
 lost_text set (Some k) None = codes "-"
 lost_text set None cell = codes "machine"
 
+abbrev pub line_of : Set → Option ℕ → List ℕ → List ℕ
+line_of set section what = codes "would lose " ++ (section_text set section ++ (codes " " ++ (what ++ 10 ∷ [])))
+
 abbrev pub lost_line : Set → (section cell : Option ℕ) → List ℕ
-lost_line set section cell =
-    codes "would lose " ++ (section_text set section ++ (codes " " ++ (lost_text set section cell ++ 10 ∷ [])))
+lost_line set section cell = line_of set section (lost_text set section cell)
 
 -- the stream under the set of what the input takes as the newest set's, or what of that would be lost first; or where and why the
 -- input is refused, up to the end of the unit at fault; the shelf tells the same as before

@@ -10,12 +10,13 @@ use Rattle.vms_spec.specs.ValuesReading.{Values, values_read}
 use Rattle.vms_stream.specs.Streams.{Takes}
 use Rattle.vms_analyze.specs.Listing.{Lists, Text}
 use Rattle.vms_cli.specs.Answers.{HasOutcome, Answers}
-use Rattle.vms_cli.specs.Commands.{Asked, BoardWord, IsaBoard, Show, Analyze, Pack, Check, Counter, Save, Load, Drill, Play, asked_of, ClockBoard}
+use Rattle.vms_cli.specs.Commands.{Asked, BoardWord, IsaBoard, Show, Convert, Analyze, Pack, Check, Counter, Save, Load, Drill, Play, asked_of, ClockBoard}
 use Rattle.vms_commands.specs.Outcomes.{Outcome, DoesOrStops, done, text_of, Outside}
 use Rattle.vms_commands.specs.Fetching.{longest_file, named_sets, word_set}
 use Rattle.vms_commands.specs.SetWords.{SetWord}
 use Rattle.vms_commands.specs.Steps.{Gives, Both}
 use Rattle.vms_check.specs.Comparing.{Compatible}
+use Rattle.vms_convert.specs.Calls.{LosesFirst}
 use Rattle.dev_board.specs.Saved.{MaySaveUnder}
 use Rattle.dev_board.specs.State.{State}
 use Rattle.dev_clock.specs.Saved.{MaySaveUnder as MaySaveClock}
@@ -29,6 +30,7 @@ use Rattle.dev_base.specs.Levels.{IsLevel, IsUpTo}
 use Rattle.vms_rtc.specs.declared.limits.TheConstants.{NEWEST_CLOCK}
 use Rattle.vms_session.specs.Laws.{HoldsAll}
 use Rattle.vms_board_commands.specs.Scripts.{longest_script}
+use Rattle.vms_cli.specs.Convert.{newest}
 use Rattle.vms_cli.specs.Pack.{described_stream}
 use Rattle.vms_cli.specs.Upgrade.{IsWritten, shown_newer}
 use Rattle.vms_spec.specs.Sets.{Set}
@@ -89,6 +91,14 @@ pub record CanBePacked (word : SetWord) (name : List ℕ) (map : Held) : Type 0 
   pub images : List Image
   pub reads : values_read set text ≡ Values machine images
 
+-- a set that a word names, whose streams the newest set reads, and a stream of that at the front of the input, of which nothing
+-- would be lost
+abbrev pub CanBeConverted : SetWord → Option (List ℕ) → Option Held → Type 0
+CanBeConverted word input held =
+    (to : Set) × (word_set held word ≡ Gives to) × Compatible to newest × IsSomeAnd input (λ bytes. (taken : ℕ) × (machine : Option (List ℕ))
+    × (images : List Image) × Takes newest newest.machines bytes taken machine images
+    × ((section cell : Option ℕ) → LosesFirst to newest machine images section cell → ⊥))
+
 -- a script under a name, which isn't too long and is in its grammar, of a session on a board of a level where one is named
 pub record CanBeRead (play : Option ℕ) (name : List ℕ) (map : Held) : Type 0 where
   pub text : List ℕ
@@ -98,14 +108,15 @@ pub record CanBeRead (play : Option ℕ) (name : List ℕ) (map : Held) : Type 0
   pub reads : script_read play text ≡ Ok lines
 
 -- what a command asks for so that it can be done: of `show` a word that names a set, and a stream of it at the front of the
--- input, of `analyze` an input that has a listing, of `pack` a set and a values text of it, of `check` words that name two compatible sets, of
--- `counter` words that name two sets, of `save` a script, of `load` a script and a stream of a board at the front of the input, of `play` a script on a shelf of bytes, of
--- `drill` nothing
+-- input, of `convert` a set and a stream that it keeps, of `analyze` an input that has a listing, of `pack` a set and a values text
+-- of it, of `check` words that name two compatible sets, of `counter` words that name two sets, of `save` a script, of `load` a
+-- script and a stream of a board at the front of the input, of `play` a script on a shelf of bytes, of `drill` nothing
 abbrev pub CanBeDone : Option Asked → Option (List ℕ) → Option Held → Type 0
 CanBeDone None input held = ⊥
 CanBeDone (Some (Show word)) input held =
     (set : Set) × (word_set held word ≡ Gives set) × IsSomeAnd input (λ bytes. (taken : ℕ) × (machine : Option (List ℕ))
     × (images : List Image) × Takes set set.machines bytes taken machine images)
+CanBeDone (Some (Convert word)) input held = CanBeConverted word input held
 CanBeDone (Some Analyze) input held =
     IsSomeAnd input (λ bytes. (text : List ℕ) × Lists bytes (Text text))
 CanBeDone (Some (Pack word name)) input held = IsSomeAnd held (λ map. CanBePacked word name map)

@@ -8,6 +8,7 @@ pub mod ClockSets
 pub mod Commands
 pub mod Continuation
 pub mod Convert
+pub mod ConvertLaws
 pub mod Counter
 pub mod Laws
 pub mod Pack

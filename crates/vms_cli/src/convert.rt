@@ -1,5 +1,5 @@
 // The command `convert`: the stream of the same state under another set, or what would be lost.
-ghost use Rattle.std.specs.Prelude.{◌≡◌, ◌≤◌, ◌<◌, ◌++◌, ◌∷◌, [], codes, false, length, IfOk, MatchResult, Option, Err};
+ghost use Rattle.std.specs.Prelude.{◌≡◌, ◌≤◌, ◌<◌, false, length, IfOk, MatchResult, Option, Err};
 ghost use Rattle.vms_io.specs.Shelves.{Held};
 ghost use Rattle.vms_io.specs.Supplies.{store};
 ghost use Rattle.vms_io.specs.Told.{Stock, intake, outlet, stock};
@@ -9,10 +9,9 @@ ghost use Rattle.vms_elements.specs.Parts.{cell_name};
 ghost use Rattle.vms_commands.specs.Asks.{set_asked};
 ghost use Rattle.vms_commands.specs.Endings.{EndsAs};
 ghost use Rattle.vms_commands.specs.Fetching.{is_on_shelf};
-ghost use Rattle.vms_commands.specs.Lines.{section_text};
 ghost use Rattle.vms_commands.specs.Outcomes.{Outcome};
 ghost use Rattle.vms_cli.specs.Causes.{ConvertCause, RewriteCause};
-ghost use Rattle.vms_cli.specs.Convert.{ConvertGives, ConvertHears, ConvertsBy, EndsLike, MayLackMemory, IsInNewest, NamesCell, agrees, lost_line, newest, target};
+ghost use Rattle.vms_cli.specs.Convert.{ConvertGives, ConvertHears, ConvertsBy, EndsLike, MayLackMemory, IsInNewest, NamesCell, agrees, line_of, lost_line, newest, target};
 
 use arrayvec::ArrayVec;
 use dev_base::NEWEST;
@@ -72,12 +71,7 @@ pub(crate) fn convert<I: Source, O: Sink, H: Shelf>(
 }
 
 // Once the set is there.
-fn convert_to<I: Source, O: Sink>(
-    alloc: Global,
-    to: &DescSet,
-    input: &mut I,
-    out: &mut O,
-) -> Ending
+fn convert_to<I: Source, O: Sink>(alloc: Global, to: &DescSet, input: &mut I, out: &mut O) -> Ending
     ensures content { (shelf shelf' : Stock) (o : Outcome) → shelf'.held ≡ shelf.held
         → ConvertsBy (agrees (described to.now)) (I.left input.old) shelf.held o
         → EndsAs (intake I.Source input.old) (intake I.Source input.new)
@@ -137,11 +131,7 @@ fn fault_ending(alloc: Global, fault: ConvertFault) -> Result<Ending, NoMemory>
 }
 
 // The line of what would be lost: a cell of the newest set, a device that has none, or the machine.
-fn lost_line(
-    alloc: Global,
-    section: Option<u32>,
-    cell: Option<u32>,
-) -> Result<NoteLine, NoMemory>
+fn lost_line(alloc: Global, section: Option<u32>, cell: Option<u32>) -> Result<NoteLine, NoMemory>
     requires { IsInNewest section cell }
     ensures { IfOk result (λ line. line.items ≡ lost_line newest section cell) }
 {
@@ -156,13 +146,15 @@ fn lost_line(
     }
 }
 
-// The path of a cell of the newest set, in memory.
+// The path of a cell of a device in memory, which has room for it.
 fn path_of(alloc: Global, set: &DescSet, device: u32, cell: u32) -> Result<MemSink, NoMemory>
-    requires newest { described set.now ≡ newest }
-    requires device { device < length newest.devices }
-    requires cell { cell < length (device_cells newest (device_at newest device)) }
-    ensures { let name = cell_name newest (device_at newest device) cell in
-        IfOk result (λ path. ((store path).bytes ≡ name) × (length name < 64)) }
+    requires is_device { device < length (described set.now).devices }
+    requires is_cell { let d = device_at (described set.now) device in
+        cell < length (device_cells (described set.now) d) }
+    requires short { let d = device_at (described set.now) device in
+        length (cell_name (described set.now) d cell) < 64 }
+    ensures { let d = device_at (described set.now) device in
+        IfOk result (λ path. (store path).bytes ≡ cell_name (described set.now) d cell) }
 {
     let mut path = MemSink::new(alloc, PATH_ROOM, Vec::new(alloc))?;
     match print_path(set, device, cell, &mut path) {
@@ -175,8 +167,7 @@ fn path_of(alloc: Global, set: &DescSet, device: u32, cell: u32) -> Result<MemSi
 // The line that names what would be lost, in a section or in none.
 fn line_of(set: &DescSet, section: Option<u32>, what: &[u8]) -> NoteLine
     requires { length what.now < 64 }
-    ensures { result.items ≡ codes "would lose "
-        ++ (section_text (described set.now) section ++ (codes " " ++ (what.now ++ 10 ∷ []))) }
+    ensures { result.items ≡ line_of (described set.now) section what.now }
 {
     let mut line = ArrayVec::new();
     append(&mut line, b"would lose ");

@@ -66,7 +66,7 @@ at_some xs k le (Some x) e lt = (x, e)
 
 module _ (to new : Set) (fit : IsFit to) (well : WellFormed new) (compatible : Compatible to new) where
   -- the images that come back of the same numbers are the same
-  same_backs : (wanted : List (List ℤ)) (xs ys : List Image) → AreBack to new wanted xs → AreBack to new wanted ys → ys ≡ xs
+  pub same_backs : (wanted : List (List ℤ)) (xs ys : List Image) → AreBack to new wanted xs → AreBack to new wanted ys → ys ≡ xs
   same_backs wanted xs ys p q =
       let long = p.one_each in
       let long' = q.one_each in
@@ -90,7 +90,7 @@ module _ (to new : Set) (fit : IsFit to) (well : WellFormed new) (compatible : C
     abbrev wanted : List (List ℤ)
     wanted = recast_each to new.devices (numbers_in images)
 
-    ready : AreReady to backs
+    pub ready : AreReady to backs
     ready = record { one_each = converted.back.one_each; ready = λ i d image there e. one i d image there e } where
       one : (i : ℕ) (d : Device) (image : Image) → slice_get to.devices i ≡ Some d → slice_get backs i ≡ Some image → IsReady to d image
       one i d image there e =

@@ -1,0 +1,356 @@
+-- From what the call answers to how `convert` ends.
+use Rattle.std.proofs.Common.{◌≡◌, ℕ, ◌+◌, ◌<◌, ◌≤◌, ◌^◌, List, [], ◌++◌, append-nil, length, drop, Option, Some, None, Result, Ok, Err, IfSome, IsSomeAnd, inl, inr, refl, sym, ap, ◌∙◌, subst, arith}
+use Rattle.std.specs.Prelude.{string_bytes}
+use Rattle.arrayvec.specs.ArrayVec.{ArrayVec}
+use Rattle.vms_io.specs.Causes.{capped}
+use Rattle.vms_io.specs.Shelves.{Held}
+use Rattle.vms_io.specs.Told.{Intake, Outlet, Stock}
+use Rattle.vms_io.specs.Writing.{Puts, Stops}
+use Rattle.vms_io.specs.Reading.{Last, Takes as TakesFront}
+use Rattle.vms_io.proofs.ReadingLemmas.{reads_told}
+use Rattle.vms_kinds.specs.Bytes.{IsBytes}
+use Rattle.vms_spec.specs.declared.Reason.{Reason}
+use Rattle.vms_spec.specs.Good.{IsFit}
+use Rattle.vms_spec.specs.Images.{Image}
+use Rattle.vms_spec.specs.Sets.{Set}
+use Rattle.vms_stream.specs.Faults.{Fault}
+use Rattle.vms_stream.specs.Streams.{Takes}
+use Rattle.vms_stream.proofs.Stated.{one_stream_holds, never_both_holds, one_fault_holds}
+use Rattle.vms_frames.specs.declared.fault.Refusal.{Refusal}
+use Rattle.vms_load.specs.Going.{LoadReads}
+use Rattle.vms_load.specs.Hearing.{HearsLoad}
+use Rattle.vms_load.specs.Loads.{Loads}
+use Rattle.vms_load.specs.Staging.{most_given, name_of}
+use Rattle.vms_load.specs.declared.fault.LoadFault.TheVariants as loads
+use Rattle.vms_load.proofs.ExactLoads.{fault_within, heard_holds}
+use Rattle.vms_load.proofs.LoadReads.{loads_kept}
+use Rattle.vms_check.specs.Comparing.{Compatible, first_mismatch}
+use Rattle.vms_check.specs.declared.mismatch.Mismatch.{Mismatch}
+use Rattle.vms_convert.specs.Calls.{AtOnce, Behind, Converts as Calls, IsStreamFor, LosesFirst, RefusesFirst, TakesFirst}
+use Rattle.vms_convert.specs.declared.fault.ConvertFault.{ConvertFault}
+use Rattle.vms_convert.specs.declared.fault.ConvertFault.TheVariants as faults
+use Rattle.vms_commands.specs.declared.ending.Ending.{Ending}
+use Rattle.vms_commands.specs.declared.ending.Ending.TheVariants as endings
+use Rattle.vms_commands.specs.Endings.{EndsAs, EndsWith, WritesAs}
+use Rattle.vms_commands.specs.Lines.{refused_line}
+use Rattle.vms_commands.specs.Outcomes.{Outcome, TakesBytes, done, ended}
+use Rattle.vms_commands.specs.SetLines.{mismatch_line}
+use Rattle.vms_commands.specs.Steps.{Step, Gives, Ends}
+use Rattle.vms_commands.proofs.EndLemmas.{comes_to_nothing, ends_with, same_keeps, takes_front, text_written}
+use Rattle.vms_board_commands.proofs.HeardLemmas.{all_of, heard_so, written_end}
+use Rattle.vms_cli.specs.Causes.{RewriteCause}
+use Rattle.vms_cli.specs.Convert.{Converts, ConvertGives, ConvertHears, ConvertsBy, ConvertsWell, EndsLike, FailsReading, FailsWriting, IsDone, IsLost, IsMismatch, IsRefused, LacksMemory, MayLackMemory, NamesCell, Refuses, Rewrites, WouldLose, agreed, agrees, lost_line, newest}
+use Rattle.vms_cli.proofs.AnalyzeLemmas.{Stands}
+use Rattle.vms_cli.proofs.Conversions.{lost_inside, never_both, newest_fit, one_loss, one_stream}
+
+-- ---- the outcome of an input
+
+module _ (to : Set) (fit : IsFit to) (compatible : Compatible to newest) (bytes : List ℕ) (held : Option Held) (ok : IsBytes bytes) where
+  abbrev TakesIt : ℕ → Option (List ℕ) → List Image → Type 0
+  TakesIt taken machine images = Takes newest newest.machines bytes taken machine images
+
+  abbrev IsFaulty : ℕ → Option ℕ → Reason → ℕ → Type 0
+  IsFaulty place section reason size = Fault newest newest.machines bytes place section reason size
+
+  no_fault : {X : Type 0} (taken : ℕ) (machine : Option (List ℕ)) (images : List Image) (place : ℕ) (section : Option ℕ) (reason : Reason) (size : ℕ) → TakesIt taken machine images
+      → IsFaulty place section reason size → X
+  no_fault taken machine images place section reason size takes fault =
+      absurd (never_both_holds newest newest.machines newest_fit.well newest_fit.heads bytes ok taken machine images place section reason size takes fault)
+
+  -- of one stream
+  module _ (taken taken' : ℕ) (machine machine' : Option (List ℕ)) (images images' : List Image) (takes : TakesIt taken machine images) (takes' : TakesIt taken' machine' images') where
+    lengths : taken' ≡ taken
+    lengths = (one_stream_holds newest newest.machines newest_fit.well newest_fit.heads bytes taken' taken machine' machine images' images takes' takes).lengths
+
+    -- what is said of the one machine and images is said of the others
+    said_of : (P : Option (List ℕ) → List Image → Type 0) → P machine' images' → P machine images
+    said_of P h =
+        let one = one_stream_holds newest newest.machines newest_fit.well newest_fit.heads bytes taken' taken machine' machine images' images takes' takes in
+        subst (λ (m : Option (List ℕ)). P m images) one.machines (subst (λ (l : List Image). P machine' l) one.states h)
+
+  pub rewritten_is : (taken : ℕ) (machine : Option (List ℕ)) (images : List Image) (stream : List ℕ) (x : Outcome) → TakesIt taken machine images
+      → IsStreamFor to newest machine images stream → Converts to bytes held x → x ≡ done stream held taken
+  rewritten_is taken machine images stream x takes p (Rewrites taken' machine' images' stream' takes' q) =
+      let q' = said_of taken taken' machine machine' images images' takes takes' (λ m l. IsStreamFor to newest m l stream') q in
+      ap (λ (n : ℕ). done stream' held n) (lengths taken taken' machine machine' images images' takes takes')
+      ∙ ap (λ (l : List ℕ). done l held taken) (one_stream to fit compatible machine images stream stream' p q')
+  rewritten_is taken machine images stream x takes p (WouldLose taken' machine' images' section cell takes' q) =
+      let q' = said_of taken taken' machine machine' images images' takes takes' (λ m l. LosesFirst to newest m l section cell) q in
+      absurd (never_both to fit compatible machine images stream section cell p q')
+  rewritten_is taken machine images stream x takes p (Refuses place section reason size fault) =
+      no_fault taken machine images place section reason size takes fault
+
+  pub lost_is : (taken : ℕ) (machine : Option (List ℕ)) (images : List Image) (section cell : Option ℕ) (x : Outcome) → TakesIt taken machine images
+      → LosesFirst to newest machine images section cell → Converts to bytes held x → x ≡ ended 11 (lost_line newest section cell) taken
+  lost_is taken machine images section cell x takes p (Rewrites taken' machine' images' stream takes' q) =
+      let q' = said_of taken taken' machine machine' images images' takes takes' (λ m l. IsStreamFor to newest m l stream) q in
+      absurd (never_both to fit compatible machine images stream section cell q' p)
+  lost_is taken machine images section cell x takes p (WouldLose taken' machine' images' section' cell' takes' q) =
+      let q' = said_of taken taken' machine machine' images images' takes takes' (λ m l. LosesFirst to newest m l section' cell') q in
+      let same = one_loss to fit compatible machine images section' cell' section cell q' p in
+      ap (λ (n : ℕ). ended 11 (lost_line newest section' cell') n) (lengths taken taken' machine machine' images images' takes takes')
+      ∙ ap (λ (o : Option ℕ). ended 11 (lost_line newest o cell') taken) same.0
+      ∙ ap (λ (o : Option ℕ). ended 11 (lost_line newest section o) taken) same.1
+  lost_is taken machine images section cell x takes p (Refuses place section' reason size fault) =
+      no_fault taken machine images place section' reason size takes fault
+
+  pub refused_is : (place : ℕ) (section : Option ℕ) (reason : Reason) (size : ℕ) (x : Outcome) → IsFaulty place section reason size → Converts to bytes held x
+      → x ≡ ended 1 (refused_line newest place section reason) (place + size)
+  refused_is place section reason size x fault (Rewrites taken machine images stream takes q) = no_fault taken machine images place section reason size takes fault
+  refused_is place section reason size x fault (WouldLose taken machine images section' cell takes q) = no_fault taken machine images place section reason size takes fault
+  refused_is place section reason size x fault (Refuses place' section' reason' size' fault') =
+      let same = one_fault_holds newest newest.machines bytes ok place' place section' section reason' reason size' size fault' fault in
+      ap (λ (n : ℕ). ended 1 (refused_line newest n section' reason') (n + size')) same.places
+      ∙ ap (λ (o : Option ℕ). ended 1 (refused_line newest place o reason') (place + size')) same.sections
+      ∙ ap (λ (r : Reason). ended 1 (refused_line newest place section r) (place + size')) same.reasons
+      ∙ ap (λ (n : ℕ). ended 1 (refused_line newest place section reason) (place + n)) same.sizes
+
+-- ---- the step that compares
+
+pub agreed_gives : (to : Set) → Compatible to newest → agrees to ≡ Gives to
+agreed_gives to compatible = ap (agreed to) compatible
+
+agreed_ends : (to : Set) (m : Mismatch) → first_mismatch to newest ≡ Some m → agrees to ≡ Ends 4 (mismatch_line m)
+agreed_ends to m first = ap (agreed to) first
+
+-- ---- what is taken
+
+-- a stream was taken, told or not
+record Took (i i' : Intake) (taken : ℕ) (machine : Option (List ℕ)) (images : List Image) : Type 0 where
+  left : IfSome i.left (λ input. Takes newest newest.machines input taken machine images × (i'.left ≡ Some (drop taken input)))
+  takes : TakesBytes i i' taken
+  few : i'.given ≤ i.given + most_given newest
+
+rest_of : (left left' : Option (List ℕ)) (taken : ℕ) (machine : Option (List ℕ)) (images : List Image)
+    → IfSome left (λ input. Takes newest newest.machines input taken machine images × (left' ≡ Some (drop taken input))) → IfSome left (λ input. left' ≡ Some (drop taken input))
+rest_of None left' taken machine images h = tt
+rest_of (Some input) left' taken machine images h = h.1
+
+took : (i i' : Intake) (images : List Image) (taken : ℕ) (machine : Option ℕ) → LoadReads i i' newest newest.machines images taken (Ok machine)
+    → Took i i' taken (name_of newest machine) images
+took i i' images taken machine r =
+    let left = reads_told (λ (input : List ℕ) (left : Option (List ℕ)). Loads newest newest.machines input left images taken (Ok machine)) tt r in
+    let given = r.takes.given in
+    let long = r.long in
+    record {
+      left = left;
+      takes = record { left = rest_of i.left i'.left taken (name_of newest machine) images left; given = given ∙ ap (λ (n : ℕ). capped (i.given + n)) long.0 };
+      few = omega (arith, given, long.0, long.1);
+    }
+
+-- ---- the outcome
+
+module _ (to : Set) (fit : IsFit to) (i i' : Intake) (o o' : Outlet) where
+  -- an outcome of a status of its own, with its line
+  with_line : (k : ℕ) (line said : List ℕ) (n : ℕ) (x : Outcome) → x ≡ ended k said n → line ≡ said → TakesBytes i i' n → EndsWith k line i i' x
+  with_line k line said n x is same t = record {
+    status_is = ap (λ (y : Outcome). y.status) is;
+    parts = ap (λ (y : Outcome). y.parts) is;
+    note = ap (λ (y : Outcome). y.note) is ∙ sym same;
+    taken = subst (λ (m : ℕ). TakesBytes i i' m) (sym (ap (λ (y : Outcome). y.taken) is)) t;
+  }
+
+  module _ (compatible : Compatible to newest) (ok : IfSome i.left IsBytes) (s s' : Stock) (same : s'.held ≡ s.held) (x : Outcome) (has : IsSomeAnd i.left (λ bytes. Converts to bytes s.held x)) where
+    rewrites : (images : List Image) (taken : ℕ) (machine : Option (List ℕ)) (stream : List ℕ) (e : Ending) → Took i i' taken machine images
+        → IsStreamFor to newest machine images stream → WritesAs stream o o' e → EndsAs i i' o o' s s' e x
+    rewrites images taken machine stream e t p w = by i.left ok t.left has
+      where
+        by : (left : Option (List ℕ)) → IfSome left IsBytes → IfSome left (λ input. Takes newest newest.machines input taken machine images × (i'.left ≡ Some (drop taken input)))
+            → IsSomeAnd left (λ bytes. Converts to bytes s.held x) → EndsAs i i' o o' s s' e x
+        by None ok l has = absurd has
+        by (Some bytes) ok l has =
+            subst (λ (y : Outcome). EndsAs i i' o o' s s' e y) (sym (rewritten_is to fit compatible bytes s.held ok taken machine images stream x l.0 p has))
+            (text_written stream i i' o o' s s' taken e w same t.takes)
+
+    loses : (images : List Image) (taken : ℕ) (machine : Option (List ℕ)) (section cell : Option ℕ) (line : List ℕ) → Took i i' taken machine images
+        → LosesFirst to newest machine images section cell → line ≡ lost_line newest section cell → EndsWith 11 line i i' x
+    loses images taken machine section cell line t p said = by i.left ok t.left has
+      where
+        by : (left : Option (List ℕ)) → IfSome left IsBytes → IfSome left (λ input. Takes newest newest.machines input taken machine images × (i'.left ≡ Some (drop taken input)))
+            → IsSomeAnd left (λ bytes. Converts to bytes s.held x) → EndsWith 11 line i i' x
+        by None ok l has = absurd has
+        by (Some bytes) ok l has =
+            with_line 11 line (lost_line newest section cell) taken x (lost_is to fit compatible bytes s.held ok taken machine images section cell x l.0 p has) said t.takes
+
+    refuses : (r : Refusal) (line : List ℕ) → RefusesFirst to newest i i' o o' (loads.Refused r) → line ≡ refused_line newest r.at r.section r.reason → EndsWith 1 line i i' x
+    refuses r line f said = by i.left refl ok (reads_told (λ (input : List ℕ) (left : Option (List ℕ)). Loads newest newest.machines input left f.images f.taken (Err (loads.Refused r))) tt f.reads) has
+      where
+        by : (left : Option (List ℕ)) → left ≡ i.left → IfSome left IsBytes → IfSome left (λ input. Loads newest newest.machines input i'.left f.images f.taken (Err (loads.Refused r)))
+            → IsSomeAnd left (λ bytes. Converts to bytes s.held x) → EndsWith 1 line i i' x
+        by None e ok l has = absurd has
+        by (Some bytes) e ok l has =
+            with_line 1 line (refused_line newest r.at r.section r.reason) (r.at + l.0) x
+            (refused_is to fit compatible bytes s.held ok r.at r.section r.reason l.0 x l.1 has) said
+            (takes_front i i' f.reads.bytes bytes (r.at + l.0) f.reads.takes (sym e) l.2 (fault_within newest newest.machines bytes r.at r.section r.reason l.0 l.1))
+
+  -- by the step that gave the set
+  given_set : (compatible : Compatible to newest) (s : Stock) (x : Outcome) → ConvertsBy (agrees to) i.left s.held x → IsSomeAnd i.left (λ bytes. Converts to bytes s.held x)
+  given_set compatible s x has = subst (λ (step : Step Set). ConvertsBy step i.left s.held x) (agreed_gives to compatible) has
+
+  -- nothing was written before memory was wanting
+  unwritten : (fault : ConvertFault) → MayLackMemory fault → Calls to newest i i' o o' (Err fault) → o' ≡ o
+  unwritten (faults.NotCompatible m) may c = c.2
+  unwritten (faults.Refused r) may c = c.1.none
+  unwritten (faults.WouldLose section cell) may c = c.1.converts.1
+  unwritten faults.NoMemory may (AtOnce input out) = out
+  unwritten faults.NoMemory may (Behind compatible t) = t.converts
+  unwritten faults.ReadFault may c = absurd may
+  unwritten faults.WriteFault may c = absurd may
+
+  pub convert_content : (r : Result (Unit {0}) ConvertFault) (e : Ending) → EndsLike r e → Calls to newest i i' o o' r → IfSome i.left IsBytes → i.given < 2 ^ 64
+      → (s s' : Stock) (x : Outcome) → s'.held ≡ s.held → ConvertsBy (agrees to) i.left s.held x → EndsAs i i' o o' s s' e x
+  convert_content _ _ (IsDone u) c ok few s s' x same has =
+      let t = c.1 in
+      let p = t.converts in
+      rewrites c.0 ok s s' same x (given_set c.0 s x has) t.images t.taken (name_of newest t.machine) p.bytes endings.Done (took i i' t.images t.taken t.machine t.reads) p.is p.puts.told
+  convert_content _ _ (IsMismatch m line said) c ok few s s' x same has =
+      let ends : x ≡ ended 4 (mismatch_line m) 0 = subst (λ (step : Step Set). ConvertsBy step i.left s.held x) (agreed_ends to m c.0) has in
+      subst (λ (now : Intake). EndsWith 4 (string_bytes line) i now x) (sym c.1) (ends_with 4 (string_bytes line) i x few (ends ∙ ap (λ (l : List ℕ). ended 4 l 0) (sym said)))
+  convert_content _ _ (IsRefused r line said) c ok few s s' x same has = refuses c.0 ok s s' same x (given_set c.0 s x has) r line.items c.1 said
+  convert_content _ _ (IsLost section cell line said) c ok few s s' x same has =
+      let t = c.1 in
+      loses c.0 ok s s' same x (given_set c.0 s x has) t.images t.taken (name_of newest t.machine) section cell line.items (took i i' t.images t.taken t.machine t.reads) t.converts.0 said
+  convert_content _ _ FailsReading c ok few s s' x same has = comes_to_nothing o o' s s' x.parts (same_keeps o o' c.1.none) same
+  convert_content _ _ FailsWriting c ok few s s' x same has =
+      let t = c.1 in
+      let p = t.converts in
+      let w = p.puts in
+      rewrites c.0 ok s s' same x (given_set c.0 s x has) t.images t.taken (name_of newest t.machine) p.bytes endings.WriteFault (took i i' t.images t.taken t.machine t.reads) p.is
+      ((w.n, w.within, w.puts.told), w.rose)
+  convert_content _ _ (LacksMemory fault may) c ok few s s' x same has = comes_to_nothing o o' s s' x.parts (same_keeps o o' (unwritten fault may c)) same
+
+  -- why it ends so
+  pub convert_cause : (r : Result (Unit {0}) ConvertFault) (e : Ending) → EndsLike r e → Calls to newest i i' o o' r → RewriteCause i i' o o' e
+  convert_cause _ _ (IsDone u) c = tt
+  convert_cause _ _ (IsMismatch m line said) c = (c.1, same_keeps o o' c.2)
+  convert_cause _ _ (IsRefused r line said) c = same_keeps o o' c.1.none
+  convert_cause _ _ (IsLost section cell line said) c = same_keeps o o' c.1.converts.1
+  convert_cause _ _ FailsReading c = (c.1.reads.cause, same_keeps o o' c.1.none)
+  convert_cause _ _ FailsWriting c = c.1.converts.puts.rose
+  convert_cause _ _ (LacksMemory fault may) c = same_keeps o o' (unwritten fault may c)
+
+  -- ---- told or not
+
+  within : Compatible to newest → i'.given ≤ i.given + most_given newest → ConvertGives (agrees to) i i'
+  within compatible few = subst (λ (step : Step Set). ConvertGives step i i') (sym (agreed_gives to compatible)) few
+
+  few_before : (fault : _) (f : RefusesFirst to newest i i' o o' fault) → length f.reads.bytes ≤ most_given newest → i'.given ≤ i.given + most_given newest
+  few_before fault f long = let given = f.reads.takes.given in omega (arith, given, long)
+
+  taken_few : (r : Result (Unit {0}) ConvertFault) (t : TakesFirst to newest i i' o o' r) → i'.given ≤ i.given + most_given newest
+  taken_few r t = (took i i' t.images t.taken t.machine t.reads).few
+
+  pub convert_given : (r : Result (Unit {0}) ConvertFault) → Calls to newest i i' o o' r → ConvertGives (agrees to) i i'
+  convert_given (Ok u) c = within c.0 (taken_few (Ok u) c.1)
+  convert_given (Err (faults.NotCompatible m)) c = subst (λ (step : Step Set). ConvertGives step i i') (sym (agreed_ends to m c.0)) c.1
+  convert_given (Err (faults.Refused r)) c = within c.0 (few_before (loads.Refused r) c.1 c.1.reads.long)
+  convert_given (Err (faults.WouldLose section cell)) c = within c.0 (taken_few (Err (faults.WouldLose section cell)) c.1)
+  convert_given (Err faults.ReadFault) c = within c.0 (few_before loads.ReadFault c.1 c.1.reads.long)
+  convert_given (Err faults.WriteFault) c = within c.0 (taken_few (Err faults.WriteFault) c.1)
+  convert_given (Err faults.NoMemory) (AtOnce input out) = nothing (agrees to) input
+    where
+      nothing : (step : Step Set) → i' ≡ i → ConvertGives step i i'
+      nothing (Ends status line) e = e
+      nothing step e = omega (arith, ap (λ (x : Intake). x.given) e)
+  convert_given (Err faults.NoMemory) (Behind compatible t) = within compatible (taken_few (Err faults.NoMemory) t)
+
+  -- ---- what is heard
+
+  module _ (held : Option Held) (compatible : Compatible to newest) where
+    abbrev Well : List ℕ → Outcome → Type 0
+    Well = ConvertsWell held to
+
+    -- a stream was taken from all of the bytes
+    record HasHeard (images : List Image) (taken : ℕ) (machine : Option (List ℕ)) : Type 0 where
+      bytes : List ℕ
+      takes : Takes newest newest.machines bytes taken machine images
+      all : length bytes ≡ taken
+      given : i'.given ≡ capped (i.given + length bytes)
+
+    has_heard : (images : List Image) (taken : ℕ) (machine : Option ℕ) → LoadReads i i' newest newest.machines images taken (Ok machine) → HasHeard images taken (name_of newest machine)
+    has_heard images taken machine r = record {
+      bytes = r.bytes;
+      takes = subst (λ (l : List ℕ). Takes newest newest.machines l taken (name_of newest machine) images) (append-nil r.bytes) (r.says [] (inl refl)).0;
+      all = r.long.0;
+      given = r.takes.given;
+    }
+
+    heard_rewritten : (images : List Image) (taken : ℕ) (machine : Option (List ℕ)) (stream : List ℕ) (e : Ending) → HasHeard images taken machine
+        → IsStreamFor to newest machine images stream → WritesAs stream o o' e → ConvertHears (Gives to) held i.given i'.given o o' e
+    heard_rewritten images taken machine stream e h p w =
+        heard_so Set (Gives to) (ConvertsWell held) to held i.given i'.given o o' e refl
+        (written_end Well held h.bytes stream taken i.given i'.given o o' e (fit, compatible, Rewrites taken machine images stream h.takes p) h.all h.given w)
+
+    heard_lost : (images : List Image) (taken : ℕ) (machine : Option (List ℕ)) (section cell : Option ℕ) (line : ArrayVec ℕ) → HasHeard images taken machine
+        → LosesFirst to newest machine images section cell → line.items ≡ lost_line newest section cell → ConvertHears (Gives to) held i.given i'.given o o' (endings.WouldLose line)
+    heard_lost images taken machine section cell line h p said = (
+      to,
+      refl,
+      all_of Well 11 h.bytes (lost_line newest section cell) line.items taken i.given i'.given
+          (fit, compatible, WouldLose taken machine images section cell h.takes p) said h.all h.given,
+    )
+
+    heard_refused : (r : Refusal) (line : ArrayVec ℕ) → RefusesFirst to newest i i' o o' (loads.Refused r) → line.items ≡ refused_line newest r.at r.section r.reason
+        → ConvertHears (Gives to) held i.given i'.given o o' (endings.Refused line)
+    heard_refused r line f said =
+        let reads = f.reads in
+        let h : HearsLoad newest newest.machines i.given i'.given f.images f.taken (Err (loads.Refused r)) =
+        record { bytes = reads.bytes; octets = reads.takes.octets; given = reads.takes.given; says = λ more none. reads.says more (inl none) } in
+        let e = heard_holds newest newest.machines i.given i'.given f.images f.taken r h in (
+          to,
+          refl,
+          all_of Well 1 e.bytes (refused_line newest r.at r.section r.reason) line.items (r.at + e.size) i.given i'.given
+              (fit, compatible, Refuses r.at r.section r.reason e.size e.fault) said e.ends (e.given ∙ ap (λ (n : ℕ). capped (i.given + n)) (sym e.ends)),
+        )
+
+  heard_by : (held : Option Held) (e : Ending) (compatible : Compatible to newest) → ConvertHears (Gives to) held i.given i'.given o o' e → ConvertHears (agrees to) held i.given i'.given o o' e
+  heard_by held e compatible h = subst (λ (step : Step Set). ConvertHears step held i.given i'.given o o' e) (sym (agreed_gives to compatible)) h
+
+  pub convert_hears : (r : Result (Unit {0}) ConvertFault) (e : Ending) → EndsLike r e → Calls to newest i i' o o' r → (held : Option Held)
+      → ConvertHears (agrees to) held i.given i'.given o o' e
+  convert_hears _ _ (IsDone u) c held =
+      let t = c.1 in
+      heard_by held endings.Done c.0 (heard_rewritten held c.0 t.images t.taken (name_of newest t.machine) t.converts.bytes endings.Done
+      (has_heard held c.0 t.images t.taken t.machine t.reads) t.converts.is t.converts.puts.told)
+  convert_hears _ _ (IsRefused r line said) c held = heard_by held (endings.Refused line) c.0 (heard_refused held c.0 r line c.1 said)
+  convert_hears _ _ (IsLost section cell line said) c held =
+      let t = c.1 in
+      heard_by held (endings.WouldLose line) c.0 (heard_lost held c.0 t.images t.taken (name_of newest t.machine) section cell line
+      (has_heard held c.0 t.images t.taken t.machine t.reads) t.converts.0 said)
+  convert_hears _ _ (IsMismatch m line said) c held = tt
+  convert_hears _ _ FailsReading c held = tt
+  convert_hears _ _ FailsWriting c held = tt
+  convert_hears _ _ (LacksMemory fault may) c held = tt
+
+  -- ---- counts and promises
+
+  stands_same : (later : i.faults ≤ i'.faults) (promise : i'.promise ≡ i.promise) → o' ≡ o → Stands i i' o o'
+  stands_same later promise e = record {
+    input_count = later;
+    out_count = omega (arith, ap (λ (x : Outlet). x.faults) e);
+    input_promise = promise;
+    out_promise = ap (λ (x : Outlet). x.promise) e;
+  }
+
+  pub convert_stands : (r : Result (Unit {0}) ConvertFault) → Calls to newest i i' o o' r → Stands i i' o o'
+  convert_stands (Ok u) c =
+      let t = c.1.reads.takes in
+      let p = c.1.converts.puts in
+      record { input_count = t.later; out_count = p.later; input_promise = t.promise; out_promise = p.promise }
+  convert_stands (Err (faults.NotCompatible m)) c = stands_same (omega (arith, ap (λ (x : Intake). x.faults) c.1)) (ap (λ (x : Intake). x.promise) c.1) c.2
+  convert_stands (Err (faults.Refused r)) c = stands_same c.1.reads.takes.later c.1.reads.takes.promise c.1.none
+  convert_stands (Err (faults.WouldLose section cell)) c = stands_same c.1.reads.takes.later c.1.reads.takes.promise c.1.converts.1
+  convert_stands (Err faults.ReadFault) c = stands_same c.1.reads.takes.later c.1.reads.takes.promise c.1.none
+  convert_stands (Err faults.WriteFault) c =
+      let t = c.1.reads.takes in
+      let p = c.1.converts.puts.puts in
+      record { input_count = t.later; out_count = p.later; input_promise = t.promise; out_promise = p.promise }
+  convert_stands (Err faults.NoMemory) (AtOnce input out) = stands_same (omega (arith, ap (λ (x : Intake). x.faults) input)) (ap (λ (x : Intake). x.promise) input) out
+  convert_stands (Err faults.NoMemory) (Behind compatible t) = stands_same t.reads.takes.later t.reads.takes.promise t.converts
+
+-- what would be lost is named in the newest set
+pub names_cell : (to : Set) → IsFit to → (i i' : Intake) (o o' : Outlet) (r : Result (Unit {0}) ConvertFault) → Calls to newest i i' o o' r → NamesCell r
+names_cell to fit i i' o o' (Err (faults.WouldLose section cell)) c =
+    let t = c.1 in
+    lost_inside to fit c.0 (name_of newest t.machine) t.images (loads_kept newest newest.machines t.images t.taken t.machine t.reads) section cell t.converts.0
+names_cell to fit i i' o o' r c = tt

@@ -1,0 +1,61 @@
+use Rattle.std.proofs.Common.{Ok, Err}
+use Rattle.vms_io.specs.Told.{intake, outlet, stock}
+use Rattle.vms_desc.specs.Described.{described}
+use Rattle.vms_commands.specs.Asks.{set_asked}
+use Rattle.vms_commands.specs.Fetching.{fetched_set, set_in, word_set}
+use Rattle.vms_commands.specs.StepEndings.{text_of}
+use Rattle.vms_commands.proofs.EndLemmas.{quiet_same}
+use Rattle.vms_commands.proofs.StepLemmas.{ended_by, first_err, had_by, then_as}
+use Rattle.vms_cli.specs.Convert.{ConvertsWell, agrees}
+use Rattle.vms_cli.proofs.ConvertSteps.{converts_after, converts_next, gives_next, hears_next}
+use Rattle.vms_cli.proofs.convert.convert.Goals as goal
+
+pub returns-in-Ok-read_fetched-clause-content : goal.returns-in-Ok-read_fetched-clause-content
+returns-in-Ok-read_fetched-clause-content g c = λ o has.
+    let held = g.H.Shelf.held c.args.shelf.now in
+    let left = g.I.Source.left c.args.input.now in
+    let word = set_asked c.args.set in
+    let set = c.in-Ok-read_fetched.set in
+    let had = then_as text_of described set_in (fetched_set held word) c.in-Ok.text (Ok set) c.in-Ok.ensures.fetched c.in-Ok-read_fetched.ensures.read in
+    c.convert_to.ensures.content (stock g.H.Shelf c.args.shelf.now) (stock g.H.Shelf c.fetch_set.new.shelf) o c.in-Ok.ensures.held
+    (had_by described (converts_after left held) (word_set held word) set o had (converts_next left held (word_set held word) o has))
+
+pub returns-in-Ok-read_fetched-clause-given : goal.returns-in-Ok-read_fetched-clause-given
+returns-in-Ok-read_fetched-clause-given g c =
+    let held = g.H.Shelf.held c.args.shelf.now in
+    let word = set_asked c.args.set in
+    let set = c.in-Ok-read_fetched.set in
+    let had = then_as text_of described set_in (fetched_set held word) c.in-Ok.text (Ok set) c.in-Ok.ensures.fetched c.in-Ok-read_fetched.ensures.read in
+    gives_next described agrees (word_set held word) set (intake g.I.Source c.args.input.now) (intake g.I.Source c.convert_to.new.input) had c.convert_to.ensures.given
+
+pub returns-in-Ok-read_fetched-clause-heard : goal.returns-in-Ok-read_fetched-clause-heard
+returns-in-Ok-read_fetched-clause-heard g c =
+    let held = g.H.Shelf.held c.args.shelf.now in
+    let word = set_asked c.args.set in
+    let set = c.in-Ok-read_fetched.set in
+    let had = then_as text_of described set_in (fetched_set held word) c.in-Ok.text (Ok set) c.in-Ok.ensures.fetched c.in-Ok-read_fetched.ensures.read in
+    hears_next described agrees (ConvertsWell held) held (g.I.Source.given c.args.input.now) (g.I.Source.given c.convert_to.new.input)
+    (outlet g.O.Sink c.args.out.now) (outlet g.O.Sink c.convert_to.new.out) c.convert_to.result (word_set held word) set had (c.convert_to.ensures.heard held)
+
+pub returns-in-Err-clause-content : goal.returns-in-Err-clause-content
+returns-in-Err-clause-content g c = λ o has.
+    let held = g.H.Shelf.held c.args.shelf.now in
+    let left = g.I.Source.left c.args.input.now in
+    let word = set_asked c.args.set in
+    let out = outlet g.O.Sink c.args.out.now in
+    let ending = c.in-Err.ending in
+    ended_by described (converts_after left held) (word_set held word) (intake g.I.Source c.args.input.now) out out (stock g.H.Shelf c.args.shelf.now)
+    (stock g.H.Shelf c.fetch_set.new.shelf) ending o (g.met.I.Source.counted c.args.input.now) c.in-Err.ensures.held (quiet_same out ending)
+    (first_err text_of described set_in (fetched_set held word) ending c.in-Err.ensures.fetched) (converts_next left held (word_set held word) o has)
+
+pub returns-clause-content : goal.returns-clause-content
+returns-clause-content g c = λ o has.
+    let held = g.H.Shelf.held c.args.shelf.now in
+    let left = g.I.Source.left c.args.input.now in
+    let word = set_asked c.args.set in
+    let out = outlet g.O.Sink c.args.out.now in
+    let ending = c.in-Err-read_fetched.ending in
+    let had = then_as text_of described set_in (fetched_set held word) c.in-Ok.text (Err ending) c.in-Ok.ensures.fetched c.in-Err-read_fetched.ensures.read in
+    ended_by described (converts_after left held) (word_set held word) (intake g.I.Source c.args.input.now) out out (stock g.H.Shelf c.args.shelf.now)
+    (stock g.H.Shelf c.fetch_set.new.shelf) ending o (g.met.I.Source.counted c.args.input.now) c.in-Ok.ensures.held (quiet_same out ending) had
+    (converts_next left held (word_set held word) o has)
