@@ -10,7 +10,7 @@ use Rattle.vms_selfdesc.specs.Tree.{described_text}
 use Rattle.vms_check.specs.Comparing.{Compatible, first_mismatch}
 use Rattle.vms_check.specs.declared.mismatch.Mismatch.{Mismatch}
 use Rattle.vms_convert.specs.Calls.{IsStreamFor}
-use Rattle.vms_convert.specs.Laws.{Converts as StaysSo}
+use Rattle.vms_convert.specs.Laws.{AreRecastOf, Converts as StaysSo}
 use Rattle.vms_convert.proofs.Converts.{converts_stand, ready}
 use Rattle.vms_convert.proofs.RecastAt.{newest_kinds}
 use Rattle.vms_commands.specs.Fetching.{word_set}
@@ -61,6 +61,7 @@ module _ (input stream : List ℕ) (held : Option Held) (n : ℕ) where
   -- ---- the laws of what is converted
 
   module _ (to : Set) (w : Written to) where
+    kinds : AreRecastOf to newest w.images
     kinds = newest_kinds to newest refl w.images (taken_kept newest newest.machines input n w.machine w.images w.takes)
 
     stays : StaysSo to newest (described_text to) w.machine w.images stream

@@ -110,7 +110,9 @@ module _ (word : SetWord) (held : Option Held) where
       let fit = fit_so (word_set held word) to can.1 (fit_word held word) in
       by (is_answered to fit can.2 c.1 c.2 (taken_kept newest newest.machines bytes c.0 c.1 c.2 c.3))
     where
-      by : _ → (stream : List ℕ) × (taken : ℕ) × ConvertsBy (target held word) (Some bytes) held (done stream held taken)
+      by : ((stream : List ℕ) × IsStreamFor can.0 newest can.3.1 can.3.2 stream)
+          ⊎ ((section : Option ℕ) × (cell : Option ℕ) × LosesFirst can.0 newest can.3.1 can.3.2 section cell)
+          → (stream : List ℕ) × (taken : ℕ) × ConvertsBy (target held word) (Some bytes) held (done stream held taken)
       by (inl stream) = (
         stream.0,
         can.3.0,

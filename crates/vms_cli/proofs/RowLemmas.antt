@@ -147,15 +147,15 @@ module _ (i i' : Intake) (o o' n n' : Outlet) (s s' : Stock) where
 
   -- another status
   beyond : {X : Type 0} (k status : ℕ) → status ≡ k → is_among (0 ∷ 1 ∷ 11 ∷ []) k ≡ false → IsHeard status → X
-  beyond k status is no h = absurd (wrong (sym (among h) ∙ ap (is_among (0 ∷ 1 ∷ 11 ∷ [])) is ∙ no)) where
+  beyond k status is other h = absurd (wrong (sym (among h) ∙ ap (is_among (0 ∷ 1 ∷ 11 ∷ [])) is ∙ other)) where
     among : IsHeard status → is_among (0 ∷ 1 ∷ 11 ∷ []) status ≡ true
     among (inl e) = ap (is_among (0 ∷ 1 ∷ 11 ∷ [])) e
     among (inr (inl e)) = ap (is_among (0 ∷ 1 ∷ 11 ∷ [])) e
     among (inr (inr e)) = ap (is_among (0 ∷ 1 ∷ 11 ∷ [])) e
 
   others : {X : Type 0} (e : Ending) (status : ℕ) → is_among (0 ∷ 1 ∷ 11 ∷ []) (status_of e) ≡ false → Told e status → IsHeard status → X
-  others e status no (inl t) h = beyond (status_of e) status t.0 no h
-  others e status no (inr t) h = beyond 6 status t.0 refl h
+  others e status other (inl t) h = beyond (status_of e) status t.0 other h
+  others e status other (inr t) h = beyond 6 status t.0 refl h
 
   module _ (A : Type 0) (step : Step A) (IsOutcome : A → List ℕ → Outcome → Type 0) where
     abbrev Heard : List ℕ → Outcome → Type 0

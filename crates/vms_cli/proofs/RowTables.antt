@@ -22,7 +22,9 @@ stores_one P none play asked = none
 
 -- notes may fail whatever is asked
 pub six_among : (asked : Option Asked) → is_among (statuses_of asked) 6 ≡ true
-six_among asked = refl
+six_among None = refl
+six_among (Some (Show set)) = refl
+six_among (Some asked) = refl
 
 -- 6 is in the list, or the list has none
 abbrev pub HasSix : List ℕ → Type 0

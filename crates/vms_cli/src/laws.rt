@@ -1,6 +1,7 @@
 //! Each law is the contract of a function without a body. The statements stand in `specs/Laws.antt`, `specs/AnalyzeLaws.antt`, `specs/ClockSets.antt`, `specs/ConvertLaws.antt` and `specs/States.antt`.
 ghost use Rattle.vms_cli.specs.AnalyzeLaws.{PackThenAnalyzeLaw, SaveThenAnalyzeLaw, ShowThenAnalyzeLaw};
 ghost use Rattle.vms_cli.specs.ClockSets.{ClockSetsLaw};
+ghost use Rattle.vms_cli.specs.ConvertLaws.{ConvertAgainLaw, ConvertThenAnalyzeLaw};
 ghost use Rattle.vms_cli.specs.States.{AlwaysNamedLaw, StateLaw};
 ghost use Rattle.vms_cli.specs.Laws.{AskedLaw, CheckThenShowLaw, OutcomeLaw, CompleteLaw, AmpleLaw, PackThenShowLaw, ShowThenPackLaw, WordsLaw};
 
@@ -53,14 +54,12 @@ pub fn save_then_analyze_law()
 {}
 
 /// What `convert` writes, `show` with the set that `convert` names and `analyze` print as one text, and take whole.
-#[tactic(auto, using(crate::proofs::ConvertLaws::convert_then_analyze))]
 pub fn convert_then_analyze_law()
     ensures { ConvertThenAnalyzeLaw }
 {}
 
 /// What `convert` writes is a stream of the newest set too, with the machine of its input and with its cells, FIFOs that stand in
 /// rings being in arrays where the set keeps them so; and `convert` with the set gives the same bytes for it.
-#[tactic(auto, using(crate::proofs::ConvertLaws::convert_again))]
 pub fn convert_again_law()
     ensures { ConvertAgainLaw }
 {}
