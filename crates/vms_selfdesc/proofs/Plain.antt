@@ -10,7 +10,7 @@ use Rattle.json.specs.Print.{escape, escape_byte, quoted}
 use Rattle.vms_spec.specs.declared.TheConstants.{MOST_ITEMS}
 use Rattle.vms_spec.specs.Names.{is_name_byte, is_name, is_sub_name}
 use Rattle.vms_selfdesc.specs.Drafts.{IsPlain}
-use Rattle.vms_selfdesc.specs.Entries.{element_path}
+use Rattle.vms_selfdesc.specs.Listing.{element_path}
 
 pub plain_append : (xs ys : List ℕ) → IsPlain xs → IsPlain ys → IsPlain (xs ++ ys)
 plain_append [] ys p q = q
