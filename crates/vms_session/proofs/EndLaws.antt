@@ -19,7 +19,8 @@ use Rattle.vms_board_streams.proofs.IsaLaws.{streams_come_back, bytes_are_one}
 use Rattle.vms_board.specs.Restoring.{Restore, Back, Refused, Restores}
 use Rattle.vms_board.specs.Saving.{saved_stream}
 use Rattle.vms_session.specs.Parts.{part_of}
-use Rattle.vms_session.specs.Laws.{HoldsBytes, HasAnEnd, SessionsEnd}
+use Rattle.vms_io.specs.Shelves.{HoldsAll, HoldsBytes}
+use Rattle.vms_session.specs.Laws.{HasAnEnd, SessionsEnd}
 use Rattle.vms_session.specs.Lines.{saved_line, restored_line, missing_line, too_large_line, refused_line}
 use Rattle.vms_session.specs.Session.{Session, IsTooLarge, IsLoaded, LoadsHeld, Does}
 use Rattle.vms_commands.specs.Fetching.{longest_file}
