@@ -41,9 +41,13 @@ word_of word kind e = (tells_kind word kind).0 e
 
 -- ---- what stands in the stream
 
-record IsUnprinted (path : List ℕ) (size : ℕ) (word : List ℕ) (t : Told) : Type 0 where
-  tree : three (string path) (natural size) (string word) ≡ element_tree t
+-- an element of a path is told, and its tree is this
+record IsToldBy (path : List ℕ) (tree_read : Data) (t : Told) : Type 0 where
+  tree : tree_read ≡ element_tree t
   good : is_path 300 path ≡ true → is_good t ≡ true
+
+abbrev IsUnprinted : List ℕ → ℕ → List ℕ → Told → Type 0
+IsUnprinted path size word t = IsToldBy path (three (string path) (natural size) (string word)) t
 
 abbrev is_fixed : ℕ → Bool
 is_fixed size = size == 1 || size == 2 || size == 4 || size == 8
@@ -94,9 +98,8 @@ sent_says d sorted h t e =
 
 -- ---- what doesn't
 
-record IsKept (path : List ℕ) (size : ℕ) (word : List ℕ) (value : ℤ) (t : Told) : Type 0 where
-  tree : four (string path) (natural size) (string word) (number (of_integer value)) ≡ element_tree t
-  good : is_path 300 path ≡ true → is_good t ≡ true
+abbrev IsKept : List ℕ → ℕ → List ℕ → ℤ → Told → Type 0
+IsKept path size word value t = IsToldBy path (four (string path) (natural size) (string word) (number (of_integer value))) t
 
 kept_is : (path : List ℕ) (size : ℕ) (word : List ℕ) (value : ℤ) (named : Option Kind) (t : Told) → kind_named word ≡ named → kept_as path size value named ≡ Some t → IsKept path size word value t
 kept_is path size word value None t f e = cc

@@ -2,7 +2,7 @@
 use Rattle.std.proofs.Common.{◌≡◌, ℕ, zero, suc, ◌<◌, Bool, true, false, ◌||◌, List, [], ◌∷◌, length, get_or, map, Option, Some, None, Result, Ok, Err, ℤ, refl, sym, ap, ◌∙◌, subst, arith}
 use Rattle.std.proofs.lemmas.Bool.{or_right}
 use Rattle.std.proofs.lemmas.List.{length-map}
-use Rattle.std.proofs.lemmas.Option.{get_or_from_slice_get, slice_get-get_or, slice_get_within}
+use Rattle.std.proofs.lemmas.Option.{slice_get-get_or, slice_get_within}
 use Rattle.std.proofs.lemmas.Slice.Eq.{bytes_eq-Decides}
 use Rattle.std.specs.List.{slice_get}
 use Rattle.std.specs.Bool.{OnFalse, OnTrue}
@@ -16,16 +16,18 @@ use Rattle.vms_spec.specs.Shipped.{set_4}
 use Rattle.vms_spec.specs.Streams.{AreReady, IsReady, is_one_of}
 use Rattle.vms_spec.specs.WellFormed.{WellFormed}
 use Rattle.vms_desc.specs.Described.{device_at}
+use Rattle.vms_desc.proofs.AskLaws.{device_is}
 use Rattle.vms_image.specs.Typed.{Typed, state_of}
 use Rattle.vms_bodies.proofs.Stated.{shipped_holds}
 use Rattle.vms_load.specs.Good.{AreKept}
 use Rattle.vms_load.specs.Staging.{name_of}
+use Rattle.vms_load.proofs.HeadLemmas.{device_below}
 use Rattle.vms_image.proofs.States.{image_at}
 use Rattle.vms_check.specs.Carrying.{carried}
 use Rattle.vms_check.specs.Comparing.{Compatible}
 use Rattle.vms_check.specs.Partners.{device_partners}
 use Rattle.vms_check_laws.specs.Pairing.{AreOfKinds}
-use Rattle.vms_check_laws.proofs.Streaming.{back, found_device, pair}
+use Rattle.vms_check_laws.proofs.Streaming.{back, pair}
 use Rattle.vms_convert.specs.Back.{IsBack}
 use Rattle.vms_convert.specs.Converted.{AreBack, IsPairAt, recast_each}
 use Rattle.vms_convert.specs.Laws.{MayBeWritten}
@@ -41,9 +43,6 @@ use Rattle.vms_convert.proofs.RecastAt.{newest_kinds, recast_long}
 
 abbrev no_device : Device
 no_device = device_at (record { machines = []; structs = []; devices = [] }) 0
-
-device_is : (set : Set) (k : ℕ) (d : Device) → slice_get set.devices k ≡ Some d → device_at set k ≡ d
-device_is set k d at = get_or_from_slice_get set.devices k d no_device at
 
 module _ (to new : Set) (wanted : List (List ℤ)) (images : List Typed) (lost : Option LostCell) (returned : AreReturnedTo to new wanted (length to.devices) images lost) where
   abbrev backs : List Image
@@ -162,14 +161,9 @@ pub on_false : (b : Bool) (P Q : Type 0) → (P → Q) → OnFalse b P → OnFal
 on_false true P Q f h = h
 on_false false P Q f h = f h
 
-pub found_inside : (devices : List Device) (name : List ℕ) (instance k : ℕ) → find_device 0 devices name instance ≡ Some k → k < length devices
-found_inside devices name instance k found =
-    let f = found_device 0 devices name instance k found in
-    omega (arith, f.1, slice_get_within devices f.0 f.2.device f.2.stands)
-
 module _ (to : Set) (images : List Typed) (writable : AreWritable to images) (name : List ℕ) (instance own : ℕ) (found : find_device 0 to.devices name instance ≡ Some own) where
   pub own_bound : own < length images
-  own_bound = omega (arith, found_inside to.devices name instance own found, writable.count)
+  own_bound = omega (arith, device_below to.devices name instance own found, writable.count)
 
   pub own_image : (image : Typed) → image ≡ get_or images own image → slice_get images own ≡ Some image
   own_image image is = image_at images own image own_bound is

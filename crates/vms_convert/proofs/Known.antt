@@ -14,18 +14,12 @@ use Rattle.vms_spec.specs.Sound.{IsSound, AreSound, IsSoundField, AreSoundFields
 use Rattle.vms_bodies.proofs.Names.{names_append}
 use Rattle.vms_bodies.proofs.Places.{SameBelow, there_same, elements_same, place_next, place_up, place_below}
 use Rattle.vms_bodies.proofs.AboveLaws.{MeanAbove, meanings_above, field_above}
-use Rattle.vms_bodies.proofs.SettledLaws.{SameIn, in_less, cells_in}
+use Rattle.vms_bodies.proofs.SettledLaws.{SameIn, in_less, own_in, cells_in}
 use Rattle.vms_bodies.proofs.WalkLaws.{drop_next, place_first, zero_plus}
 
 either_part : (xs ys us vs : List Slot) (c : ℕ) → has_cell xs c ≡ has_cell us c → has_cell ys c ≡ has_cell vs c → has_cell (xs ++ ys) c ≡ has_cell (us ++ vs) c
 either_part xs ys us vs c p q =
     names_append xs ys c ∙ ap (λ (b : Bool). b || has_cell ys c) p ∙ ap (λ (b : Bool). has_cell us c || b) q ∙ sym (names_append us vs c)
-
-own_in : (cs : List (List Cell)) (d : Desc) (base i cell j : ℕ) (n m : List ℤ) → cell ≡ place_of cs d.fields 0 base d.fields i → SameIn base cell n m
-    → IsEarlier d.fields i j → numbers_of cs d m base j ≡ numbers_of cs d n base j
-own_in cs d base i cell j n m e s x =
-    ap (λ (z : ℤ). residue (width (kind_of (get_or d.fields j no_field).item)) z)
-    (s.same (place_of cs d.fields 0 base d.fields j) (place_up cs d.fields 0 base d.fields j) (omega (arith, place_below cs d.fields 0 base d.fields j i x.earlier x.there x.number x.one)))
 
 -- ---- structures
 

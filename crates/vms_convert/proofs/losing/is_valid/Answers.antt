@@ -6,7 +6,8 @@ use Rattle.vms_desc.specs.Described.{described, device_at}
 use Rattle.vms_image.specs.Typed.{state_of}
 use Rattle.vms_image.proofs.States.{at_state}
 use Rattle.vms_convert.specs.Lost.{IsValidAt}
-use Rattle.vms_convert.proofs.JudgeLaws.{found_inside, invalid_of, on_false, on_true, own_bound, own_image, valid_none, valid_of}
+use Rattle.vms_load.proofs.HeadLemmas.{device_below}
+use Rattle.vms_convert.proofs.JudgeLaws.{invalid_of, on_false, on_true, own_bound, own_image, valid_none, valid_of}
 use Rattle.vms_convert.proofs.losing.is_valid.Goals as goal
 
 pub bounds-images-own : goal.bounds-images-own
@@ -33,7 +34,7 @@ ready-requires-clause-is_device c =
     ap (λ (n : List ℕ). find_device 0 to.devices n d.instance) (sym name) ∙ ap (λ (m : ℕ). find_device 0 to.devices c.as_bytes.result.now m) (sym instance) ∙ sym c.find.ensures in
     let own = c.in-Some.own in
     let found : find_device 0 to.devices d.desc.name d.instance ≡ Some own = searched ∙ c.in-Some.is in
-    found_inside to.devices d.desc.name d.instance own found
+    device_below to.devices d.desc.name d.instance own found
 
 pub ready-requires-clause-subs : goal.ready-requires-clause-subs
 ready-requires-clause-subs c =
@@ -95,7 +96,7 @@ returns-in-Some-clause-other c =
     let image = c.index-images-own.result in
     let at = own_image to c.args.images.now c.requires.writable d.desc.name d.instance own found image c.index-images-own.is in
     on_false c.ready.result (IsReady to (device_at to own) (state_of image) → ⊥) (IsValidAt to new (map state_of c.args.images.now) c.args.device → ⊥)
-    (invalid_of to new c.args.images.now c.requires.writable c.args.device own image c.requires.device found (found_inside to.devices d.desc.name d.instance own found)
+    (invalid_of to new c.args.images.now c.requires.writable c.args.device own image c.requires.device found (device_below to.devices d.desc.name d.instance own found)
     (at_state c.args.images.now own image at)) c.ready.ensures.other
 
 pub returns-in-None-clause-valid : goal.returns-in-None-clause-valid
