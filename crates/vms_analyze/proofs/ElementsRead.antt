@@ -1,12 +1,10 @@
 -- What is read of an element is the element whose entry the value is, and of each good element's entry that element is read.
-use Rattle.std.proofs.Common.{◌≡◌, ℕ, Bool, true, false, ◌&&◌, ◌||◌, ◌==◌, nat_le, if◌then◌else◌, List, [], ◌∷◌, map, Option, Some, None, ℤ, codes, refl, sym, ap, ap₂, ◌∙◌, subst}
-use Rattle.std.specs.List.{list_all}
+use Rattle.std.proofs.Common.{◌≡◌, ℕ, Bool, true, false, ◌&&◌, ◌||◌, ◌==◌, nat_le, if◌then◌else◌, List, [], Option, Some, None, ℤ, codes, refl, sym, ap, ap₂, ◌∙◌}
 use Rattle.std.specs.Str.{bytes_eq}
 use Rattle.std.proofs.lemmas.Bool.{and_parts, eqb-true, and_from}
 use Rattle.std.proofs.lemmas.Slice.Eq.{bytes_eq-Decides}
 use Rattle.serde_json.specs.Data.{Data, number, string, object, no_members, member}
 use Rattle.serde_json.specs.Find.{of_integer}
-use Rattle.serde_json.specs.View.{items_of}
 use Rattle.vms_json.specs.Keys.{fits}
 use Rattle.vms_kinds.specs.declared.Kind.{Kind}
 use Rattle.vms_kinds.specs.Codes.{width}
@@ -16,9 +14,9 @@ use Rattle.vms_words.proofs.WordLaws.{word_named, tells_kind}
 use Rattle.vms_selfdesc.specs.Tree.{natural, entry_tree}
 use Rattle.vms_analyze.specs.Told.{Told, Sent, Kept, Fixed, Skipped, told_entry, is_path, is_good}
 use Rattle.vms_analyze.specs.Sorted.{IsSorted}
-use Rattle.vms_analyze.specs.Read.{next, only, text_at, path_at, natural_at, whole_at, sent_keys, kept_keys, unprinted, sent_as, sent_in, kept_as, kept_in, element_in}
+use Rattle.vms_analyze.specs.Read.{only, text_at, path_at, natural_at, whole_at, sent_keys, kept_keys, unprinted, sent_as, sent_in, kept_as, kept_in, element_in}
 use Rattle.vms_analyze.proofs.Ordered.{is_picked}
-use Rattle.vms_analyze.proofs.MembersRead.{After, after, first_then, Only, only_is, only_so, under, text_is, path_is, natural_is, whole_is, whole_back, Says}
+use Rattle.vms_analyze.proofs.MembersRead.{after, first_then, only_is, only_so, text_is, path_is, natural_is, whole_is, whole_back, Says}
 
 abbrev pub element_tree : Told → Data
 element_tree t = entry_tree (told_entry t)

@@ -1,5 +1,5 @@
 -- The family of the boards clk-1 and clk-2.
-use Rattle.std.specs.Prelude.{ℕ, List, ℤ}
+use Rattle.std.specs.Prelude.{List, ℤ}
 use Rattle.dev_clock.specs.Saved.{saved, restored, AreClockCells}
 use Rattle.dev_clock.specs.State.{ClockState, power_on}
 use Rattle.dev_clock.specs.Step.{step}

@@ -5,7 +5,7 @@ use Rattle.std.proofs.lemmas.List.{get_or_append_left, get_or-append-add}
 use Rattle.std.proofs.lemmas.Bool.{ltb-true, ltb-false, or_parts}
 use Rattle.vms_spec.specs.Lists.{at_option}
 use Rattle.vms_spec.specs.Sets.{Sub, Device, Set}
-use Rattle.vms_spec.specs.Layout.{Cell, no_cell, Slot, desc_cells, device_cells, struct_cells}
+use Rattle.vms_spec.specs.Layout.{Cell, no_cell, desc_cells, device_cells, struct_cells}
 use Rattle.vms_spec.specs.Images.{Image, has_cell, image_slots, own_slots, own_cells, came_slots, sub_slots, sub_place}
 use Rattle.vms_spec.specs.Lookup.{find_sub, index}
 use Rattle.vms_spec.specs.WellFormed.{WellFormed, device_rules, sub_rules}

@@ -27,10 +27,10 @@ use Rattle.vms_check.specs.Carrying.{carried}
 use Rattle.vms_check.specs.Comparing.{Compatible}
 use Rattle.vms_check.specs.Partners.{device_partners}
 use Rattle.vms_check_laws.specs.Pairing.{AreOfKinds}
-use Rattle.vms_check_laws.proofs.Streaming.{back, pair}
+use Rattle.vms_check_laws.proofs.Partnered.{back, pair}
+use Rattle.vms_check_laws.proofs.Streaming.{all_in}
 use Rattle.vms_convert.specs.Back.{IsBack}
 use Rattle.vms_convert.specs.Converted.{AreBack, IsPairAt, recast_each}
-use Rattle.vms_convert.specs.Laws.{MayBeWritten}
 use Rattle.vms_convert.specs.Losing.{AreWritable, FirstInvalid, IsNameAt, Judges, KeepsMachine, KeepsName, first_cell_at, first_of}
 use Rattle.vms_convert.specs.Lost.{IsValidAt, Loses, OfDevice, OfMachine, first_cell, numbers_in}
 use Rattle.vms_convert.specs.Returns.{AreReturned, AreReturnedTo, IsFirstLost}
@@ -52,39 +52,48 @@ module _ (to new : Set) (wanted : List (List ℤ)) (images : List Typed) (lost :
   backs_long = length-map images state_of ∙ returned.count
 
   pub are_back : AreBack to new wanted backs
-  are_back = record { one_each = backs_long; each = λ i k d e image p at. one i k d e image p at } where
-    one : (i k : ℕ) (d e : Device) (image : Image) → IsPairAt to new i k d e → slice_get backs i ≡ Some image → IsBack to d (device_partners to new d e) (get_or wanted k []) image
-    one i k d e image p at =
+  are_back = record {
+    one_each = backs_long;
+    each = λ i k d e image p at.
         let d_is = device_is to i d p.in_old in
         let e_is = device_is new k e p.in_new in
         let p' = subst (λ (x : Device). IsPairAt to new i k x (device_at new k)) (sym d_is) (subst (λ (y : Device). IsPairAt to new i k d y) (sym e_is) p) in
         subst (λ (y : Device). IsBack to d (device_partners to new d y) (get_or wanted k []) image) e_is
-        (subst (λ (x : Device). IsBack to x (device_partners to new x (device_at new k)) (get_or wanted k []) image) d_is (returned.back i k image p' at))
+        (subst (λ (x : Device). IsBack to x (device_partners to new x (device_at new k)) (get_or wanted k []) image) d_is (returned.back i k image p' at));
+  }
 
   module _ (fit : IsFit to) (well : WellFormed new) (compatible : Compatible to new) (kinds : (k : ℕ) (e : Device) → slice_get new.devices k ≡ Some e → AreOfKinds (device_cells new e) (get_or wanted k [])) where
     pub writable : AreWritable to images
-    writable = record { count = returned.count; of = returned.of; may = λ i d image there at. one i d image there at } where
-      one : (i : ℕ) (d : Device) (image : Image) → slice_get to.devices i ≡ Some d → slice_get backs i ≡ Some image → MayBeWritten to d image
-      one i d image there at =
-          let newer = pair to new fit.well well compatible i d there in
+    writable = record {
+      count = returned.count;
+      of = returned.of;
+      may = λ i d image there at.
+          let newer = pair to new fit.well (all_in to new fit.well well compatible) i d there in
           back_stands to new fit well i d newer.device there (get_or wanted newer.number []) (kinds newer.number newer.device newer.stands) image
-          (are_back.each i newer.number d newer.device image (record { in_old = there; found = newer.found; in_new = newer.stands }) at)
+          (are_back.each i newer.number d newer.device image (record { in_old = there; found = newer.found; in_new = newer.stands }) at);
+    }
 
     -- images that are valid, each as the newer set's device of its name, are ready
     pub are_ready : ((k : ℕ) → k < length new.devices → IsValidAt to new backs k) → AreReady to backs
     are_ready valid = record { one_each = backs_long; ready = λ i d image there at. one i d image there at } where
       one : (i : ℕ) (d : Device) (image : Image) → slice_get to.devices i ≡ Some d → slice_get backs i ≡ Some image → IsReady to d image
       one i d image there at =
-          let newer = pair to new fit.well well compatible i d there in
+          let newer = pair to new fit.well (all_in to new fit.well well compatible) i d there in
           let may = writable.may i d image there at in
           record {
             normal = may.normal;
-            valid = valid newer.number (slice_get_within new.devices newer.number newer.device newer.stands) i d newer.device image newer.stands (back to new fit.well well compatible i d there newer) there at;
+            valid = valid newer.number (slice_get_within new.devices newer.number newer.device newer.stands) i d newer.device image newer.stands (back to new fit.well (all_in to new fit.well well compatible) i d there newer) there at;
             version = may.version;
             needed = may.needed;
           }
 
 -- ---- one device
+
+-- the search by a name and an instance that are those of a device
+pub searched_by : (devices : List Device) (d here : Device) (name : List ℕ) (found : Option ℕ) → here ≡ d → name ≡ here.desc.name → found ≡ find_device 0 devices name here.instance
+    → find_device 0 devices d.desc.name d.instance ≡ found
+searched_by devices d here name found same named is =
+    sym (is ∙ ap (λ (n : List ℕ). find_device 0 devices n here.instance) named ∙ ap (λ (x : Device). find_device 0 devices x.desc.name x.instance) same)
 
 module _ (to new : Set) (images : List Typed) (writable : AreWritable to images) (k : ℕ) where
   abbrev all : List Image

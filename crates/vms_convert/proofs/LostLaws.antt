@@ -16,7 +16,8 @@ use Rattle.vms_desc.proofs.AskLaws.{device_is}
 use Rattle.vms_check.specs.Carrying.{carried, carried_at, carried_device, no_image}
 use Rattle.vms_check.specs.Comparing.{Compatible, failing_pair, is_found, is_in}
 use Rattle.vms_check.proofs.ListLaws.{passes}
-use Rattle.vms_check_laws.proofs.Streaming.{back, found_device, found_some, pair, rules}
+use Rattle.vms_check_laws.proofs.Partnered.{back, found_device, found_some, pair}
+use Rattle.vms_check_laws.proofs.Streaming.{rules, all_in}
 use Rattle.vms_check_laws.proofs.SubFacts.{none_at}
 use Rattle.vms_check_laws.proofs.Wholes.{at_map}
 use Rattle.vms_convert.specs.Lost.{DifferAt, Loses, OfCell, numbers_in}
@@ -198,12 +199,12 @@ module _ (to new : Set) (well_to : WellFormed to) (well_new : WellFormed new) (c
           where
             one_older : (o : Older l.device (device_at new l.device)) → o.i ≡ h.i
             one_older o =
-                let p = pair to new well_to well_new compatible h.i (device_at to h.i) h.pair.in_old in
+                let p = pair to new well_to (all_in to new well_to well_new compatible) h.i (device_at to h.i) h.pair.in_old in
                 let numbers : Some p.number ≡ Some l.device = sym p.found ∙ h.pair.found in
                 let number : p.number ≡ l.device = cc in
                 let devices : Some p.device ≡ Some (device_at new l.device) = sym p.stands ∙ ap (λ (k : ℕ). slice_get new.devices k) number ∙ h.pair.in_new in
                 let device : p.device ≡ device_at new l.device = cc in
                 let founds : Some o.i ≡ Some h.i =
                 sym o.found ∙ ap (λ (e : Device). find_device 0 to.devices e.desc.name e.instance) (sym device)
-                ∙ back to new well_to well_new compatible h.i (device_at to h.i) h.pair.in_old p in
+                ∙ back to new well_to (all_in to new well_to well_new compatible) h.i (device_at to h.i) h.pair.in_old p in
                 cc

@@ -1,5 +1,5 @@
 -- Whether a subsection is needed goes by its own cells and by those of its device.
-use Rattle.std.proofs.Common.{◌≡◌, ℕ, ◌+◌, List, length, get_or, Option, Some, None, ℤ, refl, sym, ap, ◌∙◌, subst, arith, Bool, true, not, ◌&&◌, ◌||◌, bit_and, nat_le}
+use Rattle.std.proofs.Common.{◌≡◌, ℕ, ◌+◌, List, length, get_or, Option, Some, None, ℤ, refl, ap, ◌∙◌, arith, Bool, true, not, ◌&&◌, ◌||◌, bit_and}
 use Rattle.std.specs.List.{slice_get}
 use Rattle.std.proofs.lemmas.Bool.{and_parts}
 use Rattle.vms_kinds.specs.Codes.{width, residue}
@@ -13,7 +13,7 @@ use Rattle.vms_spec.specs.Rules.{is_steady, is_steady_in, names_well}
 use Rattle.vms_spec.specs.WellFormed.{WellFormed}
 use Rattle.vms_spec.specs.Sound.{IsEarlier}
 use Rattle.vms_bodies.proofs.Places.{place_up, place_below, place_end}
-use Rattle.std.proofs.lemmas.Option.{slice_get_within, get_or_from_slice_get}
+use Rattle.std.proofs.lemmas.Option.{slice_get_within}
 use Rattle.vms_bodies.proofs.PartLaws.{sub_size}
 use Rattle.vms_bodies.proofs.FineLaws.{part_place}
 use Rattle.vms_bodies.proofs.SettledLaws.{SameIn}
@@ -39,10 +39,10 @@ truth_alike ok okp own own' parent parent' h hp (Or s t) v e =
 -- ---- a field that tests may name
 
 plain : (d : Desc) (j : ℕ) → is_steady_in d j ≡ true → IsEarlier d.fields (length d.fields) j
-plain d j e = earlier d (length d.fields) j (inside (slice_get d.fields j) refl e) e where
-  inside : (o : Option Field) → slice_get d.fields j ≡ o → is_steady d.minimum o ≡ true → j < length d.fields
-  inside None h e = cc
-  inside (Some f) h e = slice_get_within d.fields j f h
+plain d j e = go (slice_get d.fields j) refl e where
+  go : (o : Option Field) → slice_get d.fields j ≡ o → is_steady d.minimum o ≡ true → IsEarlier d.fields (length d.fields) j
+  go None h s = cc
+  go (Some f) h s = earlier d (length d.fields) j (slice_get_within d.fields j f h) e
 
 -- its number, where the description's cells are the same
 number_same : (cs : List (List OneCell)) (d : Desc) (base j : ℕ) (n m : List ℤ) → is_steady_in d j ≡ true → SameIn base (base + length (desc_cells cs d)) n m

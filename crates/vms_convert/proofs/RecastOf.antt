@@ -1,12 +1,12 @@
 -- Recast numbers of normal images of the newest set are of its devices' kinds.
-use Rattle.std.proofs.Common.{◌≡◌, ℕ, zero, suc, Bool, true, false, List, [], ◌∷◌, ◌++◌, length, get_or, map, Some, ℤ, pos, refl, sym, ap, subst, arith, if◌then◌else◌}
+use Rattle.std.proofs.Common.{◌≡◌, zero, suc, Bool, true, false, List, [], ◌∷◌, ◌++◌, get_or, map, Some, ℤ, pos, refl, sym, subst, arith, if◌then◌else◌}
 use Rattle.vms_kinds.specs.declared.Kind.{Kind}
 use Rattle.vms_kinds.specs.Codes.{InRange}
 use Rattle.vms_spec.specs.Sets.{Device, Set}
-use Rattle.vms_spec.specs.Layout.{Cell, no_cell, first, device_cells}
+use Rattle.vms_spec.specs.Layout.{Cell, first, device_cells}
 use Rattle.vms_spec.specs.Images.{Image, IsNormal}
 use Rattle.vms_spec.specs.Shipped.{set_4, timer, i8259_at_4, i8254_at_2, serial, serial_fields, divisor, fcr, thr_ipending, fifo, timeout, ring}
-use Rattle.dev_base.specs.Cells.{AreOf, kind_at}
+use Rattle.dev_base.specs.Cells.{AreOf}
 use Rattle.dev_images.proofs.ReadyOf.{kind-of, count-of}
 use Rattle.dev_serial.specs.Cells.{kinds}
 use Rattle.dev_serial.specs.Recast.{recast_cells}
