@@ -4,4 +4,3 @@ pub mod PutLemmas
 pub mod ReadingLemmas
 pub mod ShelvingLemmas
 pub mod WritingLemmas
-pub mod Owing

@@ -16,6 +16,9 @@ looks_none a = record { held = refl; later = omega arith; promise = refl }
 pub looks_both : {a b c : Stock} → Looks a b → Looks b c → Looks a c
 looks_both {a} {b} {c} p q = record { held = q.held ∙ p.held; later = omega (arith, p.later, q.later); promise = q.promise ∙ p.promise }
 
+pub looks_reaches : {a b : Stock} → Looks a b → Reaches a b
+looks_reaches p = record { later = p.later; promise = p.promise }
+
 -- what is told after a store that is told before
 pub record IsStored (was : Held) (now : Option Held) (name bytes : List ℕ) : Type 0 where
   pub after : Held
